@@ -1,0 +1,4 @@
+pub mod Context
+pub mod Point
+pub mod Formula
+pub mod Truth

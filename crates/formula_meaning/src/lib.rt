@@ -1,0 +1,5 @@
+//! What formulas mean.
+#![tactic(auto)]
+
+/// Nothing yet.
+pub fn nothing() {}
