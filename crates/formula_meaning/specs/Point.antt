@@ -12,8 +12,15 @@ Of c p = IsDenominator c p.below
 
 -- The same rational point over a denominator factor times as large, but for one name, which becomes number.
 -- Every change of a point is this one: no division occurs.
-abbrev pub move : {N : Type 0} → (N → N → Bool) → Point N → N → ℤ → ℕ → Point N
+unfoldable pub move : {N : Type 0} → (N → N → Bool) → Point N → N → ℤ → ℕ → Point N
 move same p name number factor = record {
   at = λ other. if same name other then number else pos factor *ℤ p.at other;
+  below = p.below * factor;
+}
+
+-- the same rational point over a denominator factor times as large
+unfoldable pub finer : {N : Type 0} → Point N → ℕ → Point N
+finer p factor = record {
+  at = λ name. pos factor *ℤ p.at name;
   below = p.below * factor;
 }
