@@ -1,6 +1,6 @@
 -- The laws of a ring on ℤ. `simp ring (omega (arith, ints))` proves an equation or a comparison of polynomials.
-use Rattle.std.proofs.Common.{◌≡◌, ℕ, ap, sym, ◌∙◌, refl, subst, arith}
-use Rattle.std.proofs.Math.IntN.{ℤ, pos, negsuc, neg_ℤ, suc_ℤ, pred_ℤ, ◌+ℤ◌, ◌-ℤ◌, ◌*ℤ◌, *ℤ_comm, suc_ℤ-*ℤ, pred_ℤ-*ℤ, suc_ℤ-+ℤ, pred_ℤ-+ℤ, zero-*ℤ, +ℤ_idl, +ℤ_one, -ℤ_one, ℤ_ind}
+use Rattle.std.proofs.Common.{◌≡◌, ap, sym, ◌∙◌, arith}
+use Rattle.std.proofs.Math.IntN.{ℤ, pos, neg_ℤ, ◌+ℤ◌, ◌-ℤ◌, ◌*ℤ◌, *ℤ_comm, suc_ℤ-*ℤ, pred_ℤ-*ℤ, zero-*ℤ, +ℤ_idl, +ℤ_one, -ℤ_one, ℤ_ind}
 use Rattle.std.proofs.lemmas.Int.{ints}
 
 pub mul_comm : (a b : ℤ) → a *ℤ b ≡ b *ℤ a
