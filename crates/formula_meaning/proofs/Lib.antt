@@ -1,1 +1,6 @@
 pub mod Values
+pub mod Relations
+pub mod SamePoint
+pub mod TreeFiner
+pub mod FreeNames
+pub mod PlainTruth
