@@ -4,3 +4,6 @@ pub mod SamePoint
 pub mod TreeFiner
 pub mod FreeNames
 pub mod PlainTruth
+pub mod Replacing
+pub mod EachAtom
+pub mod TreeReplacing

@@ -15,7 +15,7 @@ allowed_mul Fields m n h k = mul-pos h k
 allowed_mul Integers m n h k = ap₂ (λ a b. a * b) h k
 
 -- two records with the same fields
-point_same : {N : Type 0} (f g : N → ℤ) (a b : ℕ) → ((n : N) → f n ≡ g n) → a ≡ b → Path (Point N) (record { at = f; below = a }) (record { at = g; below = b })
+pub point_same : {N : Type 0} (f g : N → ℤ) (a b : ℕ) → ((n : N) → f n ≡ g n) → a ≡ b → Path (Point N) (record { at = f; below = a }) (record { at = g; below = b })
 point_same {N} f g a b e h = ap₂ (λ (u : N → ℤ) (v : ℕ). let r : Point N = record { at = u; below = v } in r) (fun_ext e) h
 
 module _ {N : Type 0} (same : N → N → Bool) where

@@ -3,16 +3,16 @@ use Rattle.std.proofs.Common.{◌≡◌, ℕ, ◌*◌, ap, sym, ◌∙◌, subst
 use Rattle.std.proofs.Math.IntN.{ℤ, pos, ◌*ℤ◌}
 use Rattle.std.specs.Prelude.{◌<ℤ◌}
 use Rattle.std.proofs.lemmas.Int.{ints}
-use Rattle.exact_numbers.proofs.Ring.{ring}
+use Rattle.exact_numbers.proofs.Ring.{ring, mul_comm}
 use Rattle.exact_numbers.proofs.Order.{cancel_positive}
 use Rattle.formula_meaning.specs.Context.{Context, Fields, Integers, Allowed}
-use Rattle.formula_meaning.specs.Point.{Point, finer}
+use Rattle.formula_meaning.specs.Point.{Point, finer, Of, IsSamePoint}
 use Rattle.formula_meaning.specs.Form.{Form, value}
 use Rattle.formula_meaning.specs.Atom.{Atom, Compare, Congruent, Incongruent, Says, Relates, Divides}
 use Rattle.formula_meaning.specs.Tree.{Tree, TrueAt}
 use Rattle.formula_meaning.proofs.Values.{value_finer, pos_mul}
 use Rattle.formula_meaning.proofs.Relations.{relates_zero_mul}
-use Rattle.formula_meaning.proofs.SamePoint.{truth_finer}
+use Rattle.formula_meaning.proofs.SamePoint.{truth_finer, point_same}
 
 pub allowed_positive : (c : Context) (m : ℕ) → Allowed c m → pos 0 <ℤ pos m
 allowed_positive Fields m h = omega (arith, ints)
@@ -50,3 +50,19 @@ atom_finer c (Incongruent m f) p n h = let i = divides_finer m f p n (allowed_po
 
 pub tree_finer : (c : Context) (f : Tree) (p : Point ℕ) (n : ℕ) → Allowed c n → TrueAt c f p ↔ TrueAt c f (finer p n)
 tree_finer c f p n h = truth_finer Says nat_eq c (atom_finer c) f p n h
+
+finer_same : (p q : Point ℕ) → IsSamePoint p q → finer p q.below ≡ finer q p.below
+unfolding finer
+finer_same p q h = point_same _ _ _ _ (λ x. mul_comm (pos q.below) (p.at x) ∙ h.same_value x ∙ mul_comm (q.at x) (pos p.below)) (omega arith)
+
+of_allowed : (c : Context) (p : Point ℕ) → Of c p → Allowed c p.below
+of_allowed Fields p h = h
+of_allowed Integers p h = h
+
+-- one rational point in two representations: the same truth
+pub tree_same_point : (c : Context) (f : Tree) (p q : Point ℕ) → Of c p → Of c q → IsSamePoint p q → TrueAt c f p ↔ TrueAt c f q
+tree_same_point c f p q h k s =
+    let i = tree_finer c f p q.below (of_allowed c q k) in
+    let j = tree_finer c f q p.below (of_allowed c p h) in
+    let e = finer_same p q s in
+    (λ t. j.1 (subst (λ r. TrueAt c f r) e (i.0 t)), λ t. i.1 (subst (λ r. TrueAt c f r) (sym e) (j.0 t)))
