@@ -1,3 +1,4 @@
 pub mod Padding
 pub mod Trees
 pub mod Statements
+pub mod Proper
