@@ -1,7 +1,7 @@
 -- Numbers within the limit as 128 bits, and back.
 use Rattle.std.proofs.Common.{◌≡◌, ◌<◌, ◌^◌, ℕ, ap, sym, ◌∙◌, refl, arith, Option, Some, None, ◌≤◌}
 use Rattle.std.proofs.Math.IntN.{ℤ, pos, negsuc}
-use Rattle.std.specs.Prelude.{unsigned_abs, FitsSigned}
+use Rattle.std.specs.Prelude.{unsigned_abs, FitsSigned, ◌≤ℤ◌, ◌<ℤ◌}
 use Rattle.std.specs.Int.{w128, cast_signed, cast_unsigned}
 use Rattle.std.proofs.lemmas.Int.{ints, to_z-of_z, fits_signed_from_abs}
 use Rattle.exact_numbers.specs.Limit.{InLimit, PastLimit, checked}
@@ -16,3 +16,11 @@ read_back z h = to_z-of_z w128 z (fits z h)
 -- numbers within the limit with the same bits are one
 pub same_bits : (a b : ℤ) → InLimit a → InLimit b → cast_unsigned w128 a ≡ cast_unsigned w128 b → a ≡ b
 same_bits a b h k e = sym (read_back a h) ∙ ap (cast_signed w128) e ∙ read_back b k
+
+pub zero_bits : (z : ℤ) → InLimit z → cast_unsigned w128 z ≡ 0 → z ≡ pos 0
+zero_bits z h e = same_bits z (pos 0) h (omega arith) e
+
+-- bits that are not 0 are those of a number that is not 0
+pub positive_bits : (z : ℤ) → pos 0 ≤ℤ z → ¬ (cast_unsigned w128 z ≡ 0) → pos 0 <ℤ z
+positive_bits (pos n) h k = let f : ¬ (n ≡ 0) = k in omega (arith, ints)
+positive_bits (negsuc n) h k = absurd (omega (arith, ints))

@@ -6,7 +6,7 @@ use Rattle.std.proofs.lemmas.Int.{ints}
 use Rattle.exact_numbers.specs.Divides.{Divides, IsGcd, Combines, Solves}
 use Rattle.exact_numbers.proofs.Ring.{ring, mul_add}
 use Rattle.exact_numbers.proofs.Divisibility.{divides_along, divides_trans, divides_mul, divides_mul_left, divides_add, divides_sub}
-use Rattle.exact_numbers.proofs.Gcd.{bezout}
+use Rattle.exact_numbers.proofs.GreatestDivisor.{bezout}
 
 solution_exact : (a c m g k u v : ℤ) → c ≡ g *ℤ k → a *ℤ u +ℤ m *ℤ v ≡ g → a *ℤ (u *ℤ k) -ℤ c ≡ m *ℤ neg_ℤ (v *ℤ k)
 solution_exact a c m g k u v ec eg =

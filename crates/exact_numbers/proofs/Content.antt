@@ -5,7 +5,7 @@ use Rattle.std.specs.Prelude.{◌≤ℤ◌}
 use Rattle.std.proofs.lemmas.Int.{ints}
 use Rattle.exact_numbers.specs.Divides.{Divides, DividesAll, IsGcd, IsContent, gcd_of, content_of}
 use Rattle.exact_numbers.proofs.Divisibility.{divides_zero, divides_trans, divides_both}
-use Rattle.exact_numbers.proofs.Gcd.{gcd_is, gcd_of_is, gcd_unique}
+use Rattle.exact_numbers.proofs.GreatestDivisor.{gcd_is, gcd_of_is, gcd_unique}
 
 pub divides_all_trans : {d g : ℤ} (xs : List ℤ) → Divides d g → DividesAll g xs → DividesAll d xs
 divides_all_trans [] h k = tt

@@ -2,9 +2,10 @@ pub mod Ring
 pub mod Order
 pub mod Divisibility
 pub mod Floor
-pub mod Gcd
-pub mod Lcm
+pub mod GreatestDivisor
+pub mod LeastMultiple
 pub mod Congruence
 pub mod Content
 pub mod Limits
 pub mod Casts
+pub mod FractionOrder

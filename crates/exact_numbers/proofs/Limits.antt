@@ -28,3 +28,15 @@ checked_none z e = by_limit z (λ h f. let x : Some z ≡ None = sym f ∙ e in 
 
 pub limit_neg : (z : ℤ) → InLimit z → InLimit (neg_ℤ z)
 limit_neg z h = omega (arith, ints)
+
+-- what is refused exactly past the limit is the checked number
+pub checked_by : (o : Option ℤ) (z : ℤ) → MatchOption o (PastLimit z) (λ n. (n ≡ z) × InLimit n) → o ≡ checked z
+checked_by None z h = sym (checked_past z h)
+checked_by (Some n) z h = by_limit z (λ k e. ap Some h.0 ∙ sym e) (λ (k : PastLimit z) e. let f = ap unsigned_abs h.0 in absurd (omega (arith, h.1)))
+
+-- and a checked number is refused exactly past the limit
+pub match_checked : (o : Option ℤ) (z : ℤ) (Q : ℤ → Type 0) → o ≡ checked z → (InLimit z → Q z) → MatchOption o (PastLimit z) Q
+match_checked o z Q e q =
+    by_limit z
+    (λ h f. subst (λ (x : Option ℤ). MatchOption x (PastLimit z) Q) (sym (e ∙ f)) (q h))
+    (λ h f. subst (λ (x : Option ℤ). MatchOption x (PastLimit z) Q) (sym (e ∙ f)) h)

@@ -9,7 +9,7 @@ use Rattle.exact_numbers.specs.Divides.{Divides, IsGcd, IsLcm, Combines, gcd_of,
 use Rattle.exact_numbers.proofs.Ring.{ring, mul_comm, mul_assoc, mul_left_comm}
 use Rattle.exact_numbers.proofs.Order.{by_less, cancel, cancel_positive, mul_positive, factor_positive}
 use Rattle.exact_numbers.proofs.Divisibility.{divides_same, divides_along, divides_both, divides_mul, divides_sub, abs_divides, divides_trans}
-use Rattle.exact_numbers.proofs.Gcd.{gcd_is, gcd_positive, bezout}
+use Rattle.exact_numbers.proofs.GreatestDivisor.{gcd_is, gcd_positive, bezout}
 
 exact_rem : (d a : ℤ) → ¬ (d ≡ pos 0) → Divides d a → int_rem a d ≡ pos 0
 exact_rem d a n h =
