@@ -1,0 +1,108 @@
+ghost use Rattle.std.specs.Prelude.{◌≡◌, ◌↔◌, ◌⊎◌, ℤ, pos, ◌<ℤ◌, ◌≤ℤ◌, IsTrue, IfOk, OnOk, IfErr, MatchOption};
+ghost use Rattle.exact_numbers.specs.Limit.{InLimit, PastLimit};
+ghost use Rattle.exact_numbers.specs.Divides.{Divides};
+ghost use Rattle.formula_meaning.specs.Some.{SomeOf};
+ghost use Rattle.qe_syntax.specs.Proper.{IsProperEntry, AreProperEntries};
+ghost use Rattle.qe_syntax.specs.Point.{Each, NamesTwice, IsZeroBelow, IsPast, IsBroken, lowest, IsLeastDenominator, IsScaled};
+
+use std::alloc::{AllocError, Global};
+use std::collections::{BTreeMap, BTreeSet};
+
+use crate::name::Name;
+use crate::statement::PointEntry;
+use crate::tree::Literal;
+use exact_numbers::{gcd, lcm, product};
+use thiserror::Error;
+
+/// Why entries mean no point. The first of these causes is answered.
+#[derive(Clone, Copy, Debug, PartialEq, Eq, Error)]
+pub enum PointFault {
+    #[error("a name stands twice")]
+    Double,
+    #[error("a denominator is 0")]
+    ZeroBelow,
+    #[error("a value is not whole")]
+    NotWhole,
+    #[error("a number passes 2^127 - 1")]
+    Overflow,
+    #[error("out of memory")]
+    Memory,
+}
+
+/// Whether a name stands twice.
+fn names_twice(alloc: Global, entries: &[PointEntry]) -> Result<bool, AllocError>
+    ensures { IfOk result (λ twice. IsTrue twice ↔ NamesTwice entries.now) }
+{
+    let mut seen = BTreeSet::new(alloc);
+    for entry in entries {
+        if !seen.insert(entry.name)? {
+            return Ok(true);
+        }
+    }
+    Ok(false)
+}
+
+/// Whether the denominator is 0.
+fn is_zero_below(entry: &PointEntry) -> bool
+    ensures { IsTrue result ↔ IsZeroBelow entry.now }
+{
+    matches!(entry.below, Literal::Fits(0))
+}
+
+/// Whether the value is a fraction within the limit and not whole.
+fn is_broken(entry: &PointEntry) -> bool
+    requires proper { IsProperEntry entry.now }
+    requires divided { ¬ (IsZeroBelow entry.now) }
+    ensures { IsTrue result ↔ IsBroken entry.now }
+{
+    match (entry.above, entry.below) {
+        (Literal::Fits(above), Literal::Fits(below)) => above % below != 0,
+        _ => false,
+    }
+}
+
+/// The denominator of the value in lowest terms, or `None` where a literal is above the limit.
+fn lowest_denominator(entry: &PointEntry) -> Option<i128>
+    requires proper { IsProperEntry entry.now }
+    requires divided { ¬ (IsZeroBelow entry.now) }
+    ensures { MatchOption result (IsPast entry.now) (λ d. (d ≡ lowest entry.now) × (pos 0 <ℤ d) × InLimit d × (¬ (IsPast entry.now))) }
+{
+    match (entry.above, entry.below) {
+        (Literal::Fits(above), Literal::Fits(below)) => Some(below / gcd(above, below)),
+        _ => None,
+    }
+}
+
+/// The least common multiple of the denominators in lowest terms, or `None` where it or a literal passes the limit.
+fn common_denominator(entries: &[PointEntry]) -> Option<i128>
+    requires proper { AreProperEntries entries.now }
+    requires divided { ¬ (SomeOf IsZeroBelow entries.now) }
+    ensures { MatchOption result
+        (SomeOf IsPast entries.now ⊎ ((d : ℤ) × IsLeastDenominator entries.now d × PastLimit d))
+        (λ d. IsLeastDenominator entries.now d × InLimit d × (¬ (SomeOf IsPast entries.now))) }
+{
+    let mut common = 1;
+    for entry in entries {
+        common = lcm(common, lowest_denominator(entry)?)?;
+    }
+    Some(common)
+}
+
+/// The value of the entry times a denominator, or `None` where that passes the limit.
+fn number_over(entry: &PointEntry, denominator: i128) -> Option<i128>
+    requires proper { IsProperEntry entry.now }
+    requires divided { ¬ (IsZeroBelow entry.now) }
+    requires fits { ¬ (IsPast entry.now) }
+    requires common { Divides (lowest entry.now) denominator }
+    ensures { MatchOption result
+        ((number : ℤ) × IsScaled denominator entry.now number × PastLimit number)
+        (λ number. IsScaled denominator entry.now number × InLimit number) }
+{
+    match (entry.above, entry.below) {
+        (Literal::Fits(above), Literal::Fits(below)) => {
+            let common = gcd(above, below);
+            product(above / common, denominator / (below / common))
+        }
+        _ => unreachable!(),
+    }
+}
