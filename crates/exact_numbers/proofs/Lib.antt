@@ -9,3 +9,4 @@ pub mod Content
 pub mod Limits
 pub mod Casts
 pub mod FractionOrder
+pub mod FractionRule

@@ -4,5 +4,4 @@
 mod divisors;
 mod limit;
 
-pub use divisors::{compare_fractions, floor_div, gcd, lcm, residue};
 pub use limit::{product, sum};
