@@ -1,1 +1,3 @@
 pub mod TreeEquations
+pub mod NameOrder
+pub mod EntryLists

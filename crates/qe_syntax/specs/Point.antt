@@ -1,5 +1,6 @@
 -- What the entries of a point mean, and when they mean no point.
 use Rattle.std.specs.Prelude.{◌≡◌, ℕ, ◌⊎◌, ℤ, pos, ◌*ℤ◌, ◌<ℤ◌, unsigned_abs, int_div, List, [], ◌∷◌, Bool, true, unwrap_or, Option}
+use Rattle.std.specs.List.{AllByRecursion}
 use Rattle.std.specs.Ordering.{nat_cmp}
 use Rattle.std.specs.Cmp.Lexicographic.{slice_cmp}
 use Rattle.std.specs.BTreeMap.{is_at}
@@ -11,11 +12,6 @@ use Rattle.formula_meaning.specs.Some.{SomeOf}
 use Rattle.qe_syntax.specs.declared.tree.Literal.{Literal}
 use Rattle.qe_syntax.specs.declared.tree.Literal.TheVariants.{Fits, Past}
 use Rattle.qe_syntax.specs.declared.statement.PointEntry.{PointEntry}
-
--- each entry has the property
-abbrev pub Each : (PointEntry → Type 0) → List PointEntry → Type 0
-Each P [] = Unit {0}
-Each P (e ∷ es) = P e × Each P es
 
 -- some entry has this name
 abbrev pub HasEntry : List ℕ → List PointEntry → Type 0
@@ -49,7 +45,7 @@ lowest e = lowest_of e.above e.below
 
 -- the denominator of each entry in lowest terms divides the number
 abbrev pub IsCommonMultiple : List PointEntry → ℤ → Type 0
-IsCommonMultiple es n = Each (λ e. Divides (lowest e) n) es
+IsCommonMultiple es n = AllByRecursion (λ e. Divides (lowest e) n) es
 
 -- the least common multiple of the denominators in lowest terms
 pub record IsLeastDenominator (es : List PointEntry) (d : ℤ) : Type 0 where
@@ -69,7 +65,7 @@ pub record IsScaled (denominator : ℤ) (e : PointEntry) (number : ℤ) : Type 0
 -- each other name has 0.
 pub record IsPointOf (es : List PointEntry) (p : meaning.Point (List ℕ)) : Type 0 where
   pub least : IsLeastDenominator es (pos p.below)
-  pub each : Each (λ e. IsScaled (pos p.below) e (p.at e.name)) es
+  pub each : AllByRecursion (λ e. IsScaled (pos p.below) e (p.at e.name)) es
   pub others : (name : List ℕ) → ¬ (HasEntry name es) → p.at name ≡ pos 0
 
 -- a literal, the least common denominator or a number over it passes the limit

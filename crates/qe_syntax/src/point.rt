@@ -3,7 +3,7 @@ ghost use Rattle.exact_numbers.specs.Limit.{InLimit, PastLimit};
 ghost use Rattle.exact_numbers.specs.Divides.{Divides};
 ghost use Rattle.formula_meaning.specs.Some.{SomeOf};
 ghost use Rattle.qe_syntax.specs.Proper.{IsProperEntry, AreProperEntries};
-ghost use Rattle.qe_syntax.specs.Point.{Each, NamesTwice, IsZeroBelow, IsPast, IsBroken, lowest, IsLeastDenominator, IsScaled};
+ghost use Rattle.qe_syntax.specs.Point.{NamesTwice, IsZeroBelow, IsPast, IsBroken, lowest, IsLeastDenominator, IsScaled};
 
 use std::alloc::{AllocError, Global};
 use std::collections::{BTreeMap, BTreeSet};
