@@ -1,15 +1,15 @@
 -- What the fraction rule gives: the true value in lowest terms, refused exactly where a number formed passes the limit.
 use Rattle.std.proofs.Common.{◌≡◌, ◌<◌, ◌≤◌, ◌*◌, ◌^◌, ◌⊎◌, inl, inr, ap, sym, ◌∙◌, subst, refl, arith, Option, Some, None, MatchOption}
 use Rattle.std.proofs.Math.IntN.{ℤ, pos, neg_ℤ, ◌+ℤ◌, ◌-ℤ◌, ◌*ℤ◌}
-use Rattle.std.specs.Prelude.{◌<ℤ◌, ◌≤ℤ◌, unsigned_abs, int_div}
+use Rattle.std.specs.Prelude.{◌<ℤ◌, ◌≤ℤ◌, unsigned_abs, int_div, int_lt, true, false}
 use Rattle.std.proofs.Math.Nat.{le-mul_of_pos_right}
 use Rattle.std.proofs.lemmas.Int.{ints, unsigned_abs-mul}
 use Rattle.exact_numbers.specs.Limit.{InLimit, PastLimit, checked}
 use Rattle.exact_numbers.specs.Divides.{Divides, IsGcd, gcd_of, lcm_of}
-use Rattle.exact_numbers.specs.Frac.{Frac, IsProper, SameValue, IsLowest, true_sum, true_product, lowest, multiple, scaled, sum_step, SumPasses, IsExactSum, product_step, ProductPasses, IsExactProduct}
+use Rattle.exact_numbers.specs.Frac.{whole_frac, inverted, Frac, IsProper, SameValue, IsLowest, true_sum, true_product, lowest, multiple, scaled, sum_step, SumPasses, IsExactSum, product_step, ProductPasses, IsExactProduct}
 use Rattle.exact_numbers.proofs.Ring.{ring, mul_comm, mul_assoc, mul_left_comm, mul_one, one_mul}
-use Rattle.exact_numbers.proofs.Order.{cancel, cancel_positive, factor_positive, mul_positive}
-use Rattle.exact_numbers.proofs.Divisibility.{divides_along, one_divides, mul_divides_mul, cancel_divides}
+use Rattle.exact_numbers.proofs.Order.{by_less, cancel, cancel_positive, factor_positive, mul_positive}
+use Rattle.exact_numbers.proofs.Divisibility.{divides_neg, divides_along, one_divides, mul_divides_mul, cancel_divides}
 use Rattle.exact_numbers.proofs.GreatestDivisor.{gcd_is, gcd_swap, gcd_positive}
 use Rattle.exact_numbers.proofs.LeastMultiple.{exact_div, lcm_is}
 use Rattle.exact_numbers.proofs.Limits.{by_limit}
@@ -167,3 +167,41 @@ product_step_gives p q hp hq =
 
 pub product_outcome : (p q : Frac) (o : Option Frac) → IsProper p → IsProper q → o ≡ product_step p q → MatchOption o (ProductPasses p q) (IsExactProduct p q)
 product_outcome p q o hp hq e = subst (λ (x : Option Frac). MatchOption x (ProductPasses p q) (IsExactProduct p q)) (sym e) (product_step_gives p q hp hq)
+
+-- ---- whole numbers, signs, and fractions upside down
+
+pub whole_lowest : (n : ℤ) → IsLowest (whole_frac n)
+whole_lowest n = record { not_negative = omega (arith, ints); left = one_divides n; right = one_divides (pos 1); greatest = λ d x y. y }
+
+pub gcd_neg : (a b g : ℤ) → IsGcd a b g → IsGcd (neg_ℤ a) b g
+gcd_neg a b g p =
+    let e : neg_ℤ (neg_ℤ a) ≡ a = omega (arith, ints) in
+    record { not_negative = p.not_negative; left = divides_neg p.left; right = p.right; greatest = λ d x y. p.greatest d (divides_along e (divides_neg x)) y }
+
+pub inverted_negative : (p : Frac) → p.numerator <ℤ pos 0 → inverted p ≡ record { numerator = neg_ℤ p.denominator; denominator = neg_ℤ p.numerator }
+unfolding inverted
+inverted_negative p h = let e : int_lt p.numerator (pos 0) ≡ true = grind (arith, ints) in rw e refl
+
+pub inverted_other : (p : Frac) → pos 0 ≤ℤ p.numerator → inverted p ≡ record { numerator = p.denominator; denominator = p.numerator }
+unfolding inverted
+inverted_other p h = let e : int_lt p.numerator (pos 0) ≡ false = grind (arith, ints) in rw e refl
+
+pub inverted_one : (p : Frac) → SameValue (true_product (inverted p) p) (whole_frac (pos 1))
+inverted_one p =
+    let n = p.numerator in let d = p.denominator in
+    let Q : Frac → Type 0 = λ q. SameValue (true_product q p) (whole_frac (pos 1)) in
+    by_less n (pos 0)
+    (λ h. subst Q (sym (inverted_negative p h)) (negative n d))
+    (λ h. subst Q (sym (inverted_other p h)) (other n d))
+  where
+    negative : (n d : ℤ) → neg_ℤ d *ℤ n *ℤ pos 1 ≡ pos 1 *ℤ (neg_ℤ n *ℤ d)
+    negative n d = simp ring (omega (arith, ints))
+    other : (n d : ℤ) → d *ℤ n *ℤ pos 1 ≡ pos 1 *ℤ (n *ℤ d)
+    other n d = simp ring (omega (arith, ints))
+
+pub inverted_lowest : (p : Frac) → IsLowest p → IsLowest (inverted p)
+inverted_lowest p l =
+    let n = p.numerator in let d = p.denominator in
+    by_less n (pos 0)
+    (λ h. subst IsLowest (sym (inverted_negative p h)) (gcd_neg d (neg_ℤ n) (pos 1) (gcd_swap (gcd_neg n d (pos 1) l))))
+    (λ h. subst IsLowest (sym (inverted_other p h)) (gcd_swap l))

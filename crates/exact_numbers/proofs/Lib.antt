@@ -10,3 +10,4 @@ pub mod Limits
 pub mod Casts
 pub mod FractionOrder
 pub mod FractionRule
+pub mod FractionView

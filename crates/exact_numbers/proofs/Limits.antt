@@ -40,3 +40,15 @@ match_checked o z Q e q =
     by_limit z
     (λ h f. subst (λ (x : Option ℤ). MatchOption x (PastLimit z) Q) (sym (e ∙ f)) (q h))
     (λ h f. subst (λ (x : Option ℤ). MatchOption x (PastLimit z) Q) (sym (e ∙ f)) h)
+
+-- w is the number z, which is within the limit
+pub record IsFormed (z w : ℤ) : Type 0 where
+  pub same : w ≡ z
+  pub formed : checked z ≡ Some z
+  pub within : InLimit w
+
+pub formed_by : (z w : ℤ) → Some w ≡ checked z → IsFormed z w
+formed_by z w e =
+    let c = checked_some z w (sym e) in
+    let s : w ≡ z = sym c.0 in
+    record { same = s; formed = checked_in z c.1; within = subst (λ (x : ℤ). InLimit x) c.0 c.1 }

@@ -2,6 +2,9 @@
 #![tactic(auto)]
 
 mod divisors;
+mod fraction;
 mod limit;
 
+pub use divisors::{compare_fractions, floor_div, gcd, lcm, residue};
+pub use fraction::Fraction;
 pub use limit::{product, sum};
