@@ -1,6 +1,7 @@
 -- What is said of some entry or of each, along a list.
 use Rattle.std.proofs.Common.{◌≡◌, ◌⊎◌, inl, inr, ℕ, ◌+◌, ◌<◌, List, [], ◌∷◌, ◌++◌, length, take, drop, get_or, sym, ◌∙◌, ap, subst, refl, arith, ⊎_elim}
-use Rattle.std.proofs.Common.{suc, IsTrue, ◌↔◌, Bool, true, false, cond, not}
+use Rattle.std.proofs.Common.{suc, add-one, ◌≤◌, IsTrue, ◌↔◌, Bool, true, false, cond, not}
+use Rattle.std.proofs.Math.ListN.{drop_of_length-le}
 use Rattle.std.proofs.Math.Seq.{drop-cons}
 use Rattle.std.proofs.lemmas.List.{take_more, take-append-drop}
 use Rattle.std.proofs.lemmas.Bool.{false≢true}
@@ -82,3 +83,10 @@ was_there a false e f = absurd (false≢true (sym f ∙ e))
 pub was_new : (a b : Bool) → a ≡ not b → a ≡ true → b ≡ false
 was_new a true e f = absurd (false≢true (sym e ∙ f))
 was_new a false e f = refl
+
+-- what is left from i on
+pub rest_at : {X : Type 0} (xs : List X) (i : ℕ) (x : X) → i < length xs → x ≡ get_or xs i x → drop i xs ≡ x ∷ drop (i + 1) xs
+rest_at xs i x h e = rw add-one (drop-cons xs i x h ∙ ap (λ y. y ∷ drop (suc i) xs) (sym e))
+
+pub none_left : {X : Type 0} (xs : List X) (i : ℕ) → length xs ≤ i → drop i xs ≡ []
+none_left xs i h = drop_of_length-le xs h

@@ -1,9 +1,10 @@
 ghost use Rattle.std.specs.Prelude.{◌≡◌, ◌↔◌, ◌⊎◌, ℤ, pos, ◌<ℤ◌, ◌≤ℤ◌, IsTrue, IfOk, OnOk, IfErr, MatchOption};
 ghost use Rattle.exact_numbers.specs.Limit.{InLimit, PastLimit};
-ghost use Rattle.exact_numbers.specs.Divides.{Divides};
+ghost use Rattle.exact_numbers.specs.Divides.{Divides, IsLcm, lcm_of};
+ghost use Rattle.exact_numbers.specs.Fraction.{frac_of};
 ghost use Rattle.formula_meaning.specs.Some.{SomeOf};
 ghost use Rattle.qe_syntax.specs.Proper.{IsProperEntry, AreProperEntries};
-ghost use Rattle.qe_syntax.specs.Point.{NamesTwice, IsZeroBelow, IsPast, IsBroken, lowest, IsLeastDenominator, IsScaled};
+ghost use Rattle.qe_syntax.specs.Point.{NamesTwice, IsZeroBelow, IsPast, IsBroken, lowest_below, IsLowestValue, IsLeastDenominator, DenominatorPasses, IsScaled};
 
 use std::alloc::{AllocError, Global};
 use std::collections::{BTreeMap, BTreeSet};
@@ -11,7 +12,7 @@ use std::collections::{BTreeMap, BTreeSet};
 use crate::name::Name;
 use crate::statement::PointEntry;
 use crate::tree::Literal;
-use exact_numbers::{gcd, lcm, product};
+use exact_numbers::{Fraction, lcm, residue};
 use thiserror::Error;
 
 /// Why entries mean no point. The first of these causes is answered.
@@ -49,60 +50,66 @@ fn is_zero_below(entry: &PointEntry) -> bool
     matches!(entry.below, Literal::Fits(0))
 }
 
-/// Whether the value is a fraction within the limit and not whole.
+/// Whether the value is a fraction of two literals within the limit, and not whole.
 fn is_broken(entry: &PointEntry) -> bool
     requires proper { IsProperEntry entry.now }
     requires divided { ¬ (IsZeroBelow entry.now) }
     ensures { IsTrue result ↔ IsBroken entry.now }
 {
     match (entry.above, entry.below) {
-        (Literal::Fits(above), Literal::Fits(below)) => above % below != 0,
+        (Literal::Fits(above), Literal::Fits(below)) => residue(above, below) != 0,
         _ => false,
     }
 }
 
-/// The denominator of the value in lowest terms, or `None` where a literal is above the limit.
-fn lowest_denominator(entry: &PointEntry) -> Option<i128>
+/// The value in lowest terms, or `None` where a literal is above the limit.
+fn value_of(entry: &PointEntry) -> Option<Fraction>
     requires proper { IsProperEntry entry.now }
     requires divided { ¬ (IsZeroBelow entry.now) }
-    ensures { MatchOption result (IsPast entry.now) (λ d. (d ≡ lowest entry.now) × (pos 0 <ℤ d) × InLimit d × (¬ (IsPast entry.now))) }
+    ensures { MatchOption result (IsPast entry.now) (λ v. IsLowestValue entry.now (frac_of v)) }
 {
     match (entry.above, entry.below) {
-        (Literal::Fits(above), Literal::Fits(below)) => Some(below / gcd(above, below)),
+        (Literal::Fits(above), Literal::Fits(below)) => Some(Fraction::reduced(above, below)),
         _ => None,
     }
+}
+
+/// The least common multiple of a number and the denominator of the value in lowest terms, or `None` where it or a
+/// literal passes the limit.
+fn multiple_with(common: i128, entry: &PointEntry) -> Option<i128>
+    requires positive { pos 0 <ℤ common }
+    requires proper { IsProperEntry entry.now }
+    requires divided { ¬ (IsZeroBelow entry.now) }
+    ensures { MatchOption result (IsPast entry.now ⊎ PastLimit (lcm_of common (lowest_below entry.now)))
+        (λ m. IsLcm common (lowest_below entry.now) m × InLimit m × (¬ (IsPast entry.now))) }
+{
+    lcm(common, value_of(entry)?.denominator)
 }
 
 /// The least common multiple of the denominators in lowest terms, or `None` where it or a literal passes the limit.
 fn common_denominator(entries: &[PointEntry]) -> Option<i128>
     requires proper { AreProperEntries entries.now }
     requires divided { ¬ (SomeOf IsZeroBelow entries.now) }
-    ensures { MatchOption result
-        (SomeOf IsPast entries.now ⊎ ((d : ℤ) × IsLeastDenominator entries.now d × PastLimit d))
+    ensures { MatchOption result (DenominatorPasses entries.now)
         (λ d. IsLeastDenominator entries.now d × InLimit d × (¬ (SomeOf IsPast entries.now))) }
 {
     let mut common = 1;
     for entry in entries {
-        common = lcm(common, lowest_denominator(entry)?)?;
+        common = multiple_with(common, entry)?;
     }
     Some(common)
 }
 
-/// The value of the entry times a denominator, or `None` where that passes the limit.
+/// The number that stands over a common denominator for the entry's value, or `None` where it passes the limit.
 fn number_over(entry: &PointEntry, denominator: i128) -> Option<i128>
     requires proper { IsProperEntry entry.now }
     requires divided { ¬ (IsZeroBelow entry.now) }
     requires fits { ¬ (IsPast entry.now) }
-    requires common { Divides (lowest entry.now) denominator }
+    requires positive { pos 0 <ℤ denominator }
+    requires common { Divides (lowest_below entry.now) denominator }
     ensures { MatchOption result
         ((number : ℤ) × IsScaled denominator entry.now number × PastLimit number)
         (λ number. IsScaled denominator entry.now number × InLimit number) }
 {
-    match (entry.above, entry.below) {
-        (Literal::Fits(above), Literal::Fits(below)) => {
-            let common = gcd(above, below);
-            product(above / common, denominator / (below / common))
-        }
-        _ => unreachable!(),
-    }
+    value_of(entry)?.scaled(denominator)
 }
