@@ -1,5 +1,5 @@
 -- What is said of some entry or of each, along a list.
-use Rattle.std.proofs.Common.{◌≡◌, ◌⊎◌, inl, inr, ℕ, ◌+◌, ◌<◌, List, [], ◌∷◌, ◌++◌, length, take, drop, get_or, sym, ◌∙◌, ap, subst, refl, arith, ⊎_elim}
+use Rattle.std.proofs.Common.{◌≡◌, ◌⊎◌, inl, inr, ℕ, ◌+◌, ◌<◌, List, [], ◌∷◌, ◌++◌, length, take, drop, get_or, sym, ◌∙◌, ap, subst, refl, ⊎_elim}
 use Rattle.std.proofs.Common.{suc, add-one, ◌≤◌, IsTrue, ◌↔◌, Bool, true, false, cond, not}
 use Rattle.std.proofs.Math.ListN.{drop_of_length-le}
 use Rattle.std.proofs.Math.Seq.{drop-cons}
@@ -70,11 +70,12 @@ seen_more old new es e seen updated x =
     by_at (is_at (slice_cmp nat_cmp e.name) x)
     (λ at. (λ _. some_right (λ (y : PointEntry). y.name ≡ x) es (e ∷ []) (inl (at_same e.name x at)), λ _. updated x ∙ ap (λ b. cond b true (old x)) at))
     (λ off.
-        let kept : new x ≡ old x = updated x ∙ ap (λ b. cond b true (old x)) off in
-        (λ t. some_left (λ (y : PointEntry). y.name ≡ x) es (e ∷ []) ((seen x).0 (sym kept ∙ t)),
-         λ h. ⊎_elim (λ p. kept ∙ (seen x).1 p)
-             (λ q. absurd (false≢true (sym off ∙ same_at e.name x (some_one (λ (y : PointEntry). y.name ≡ x) e q))))
-             (some_split (λ (y : PointEntry). y.name ≡ x) es (e ∷ []) h)))
+    let kept : new x ≡ old x = updated x ∙ ap (λ b. cond b true (old x)) off in (
+      λ t. some_left (λ (y : PointEntry). y.name ≡ x) es (e ∷ []) ((seen x).0 (sym kept ∙ t)),
+      λ h. ⊎_elim (λ p. kept ∙ (seen x).1 p)
+          (λ q. absurd (false≢true (sym off ∙ same_at e.name x (some_one (λ (y : PointEntry). y.name ≡ x) e q))))
+          (some_split (λ (y : PointEntry). y.name ≡ x) es (e ∷ []) h),
+    ))
 
 pub was_there : (a b : Bool) → a ≡ not b → a ≡ false → b ≡ true
 was_there a true e f = refl
@@ -90,3 +91,27 @@ rest_at xs i x h e = rw add-one (drop-cons xs i x h ∙ ap (λ y. y ∷ drop (su
 
 pub none_left : {X : Type 0} (xs : List X) (i : ℕ) → length xs ≤ i → drop i xs ≡ []
 none_left xs i h = drop_of_length-le xs h
+
+-- None has been found so far: some of all has the property exactly where some of the rest has.
+pub record Unfound {X : Type 0} (P : X → Type 0) (all rest : List X) : Type 0 where
+  pub found : SomeOf P rest → SomeOf P all
+  pub left : SomeOf P all → SomeOf P rest
+
+pub unfound_start : {X : Type 0} (P : X → Type 0) (all : List X) → Unfound P all all
+unfound_start P all = record { found = λ s. s; left = λ s. s }
+
+pub unfound_more : {X : Type 0} (P : X → Type 0) (all : List X) (i : ℕ) (x : X) → i < length all → x ≡ get_or all i x → ¬ (P x)
+    → Unfound P all (drop i all) → Unfound P all (drop (i + 1) all)
+unfound_more P all i x h is not u =
+    let v = subst (λ rest. Unfound P all rest) (rest_at all i x h is) u in
+    record { found = λ s. v.found (inr s); left = λ s. ⊎_elim (λ p. absurd (not p)) (λ q. q) (v.left s) }
+
+pub unfound_here : {X : Type 0} (P : X → Type 0) (all : List X) (i : ℕ) (x : X) → i < length all → x ≡ get_or all i x → P x → Unfound P all (drop i all) → SomeOf P all
+unfound_here P all i x h is p u = (subst (λ rest. Unfound P all rest) (rest_at all i x h is) u).found (inl p)
+
+pub unfound_end : {X : Type 0} (P : X → Type 0) (all : List X) (i : ℕ) → length all ≤ i → Unfound P all (drop i all) → ¬ (SomeOf P all)
+unfound_end P all i h u = λ s. (subst (λ rest. Unfound P all rest) (none_left all i h) u).left s
+
+pub all_at : {X : Type 0} (P : X → Type 0) (all : List X) (i : ℕ) (x : X) → i < length all → x ≡ get_or all i x
+    → AllByRecursion P (drop i all) → P x × AllByRecursion P (drop (i + 1) all)
+all_at P all i x h is a = subst (AllByRecursion P) (rest_at all i x h is) a

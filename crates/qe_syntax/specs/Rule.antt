@@ -1,6 +1,6 @@
 -- What is calculated: the fraction rule along terms and formulas, from left to right, and where it stops.
 use Rattle.std.specs.Ordering.{int_eq}
-use Rattle.std.specs.Prelude.{◌≡◌, ℕ, ℤ, pos, unsigned_abs, int_lt, Bool, true, false, ◌&&◌, ◌||◌, not, Option, Some, None, Result, Ok, Err, if◌then◌else◌}
+use Rattle.std.specs.Prelude.{ℤ, pos, unsigned_abs, int_lt, Bool, true, false, ◌&&◌, ◌||◌, not, Option, Some, None, Result, Ok, Err, if◌then◌else◌}
 use Rattle.exact_numbers.specs.Frac.{Frac, whole_frac, negated, inverted, lowest, sum_step, product_step, power_steps}
 use Rattle.exact_numbers.specs.Divides.{residue_of}
 use Rattle.formula_meaning.specs.Formula.{Formula, Formulas, Yes, No, One, Not, And, Or, Impl, Repl, Equiv, Ex, All}
@@ -11,7 +11,7 @@ use Rattle.qe_syntax.specs.declared.tree.Relation.{Relation}
 use Rattle.qe_syntax.specs.declared.tree.Relation.TheVariants.{Equal, Differs, Less, AtMost, Greater, AtLeast}
 use Rattle.qe_syntax.specs.declared.value.EvalError.{EvalError}
 use Rattle.qe_syntax.specs.declared.value.EvalError.TheVariants.{ZeroDivisor, Overflow}
-use Rattle.qe_syntax.specs.Trees.{TermTree, TermTrees, Number, Named, Sum, Product, Quotient, Power, Negative, none, also, WrittenAtom, Compare, Cong, Ncong, Bound, FormulaTree, FormulaTrees}
+use Rattle.qe_syntax.specs.Trees.{TermTree, TermTrees, Number, Named, Sum, Product, Quotient, Power, Negative, none, also, Compare, Cong, Ncong, Bound, FormulaTree, FormulaTrees}
 use Rattle.qe_syntax.specs.Value.{NamedPoint}
 
 infixl 10 ◌>>=◌

@@ -10,5 +10,5 @@ mod value;
 pub use name::Name;
 pub use point::PointFault;
 pub use statement::{Action, Command, Entries, PointEntry, Setting, Statement};
-pub use value::EvalError;
 pub use tree::{Formula, Formulas, Literal, Relation, Term, Terms, negation, negative};
+pub use value::EvalError;

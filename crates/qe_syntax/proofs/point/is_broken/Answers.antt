@@ -11,6 +11,7 @@ returns-in-Fits-Fits c =
     let above = c.in-Fits-Fits.above in let below = c.in-Fits-Fits.below in let r = c.residue.result in
     let fa : FitsSigned w128 above = fits above (above_within e above c.requires.proper c.in-Fits-Fits.is-0) in
     let fb : FitsSigned w128 below = fits below (below_within e below c.requires.proper c.in-Fits-Fits.is-1) in
-    let value = simp to_z-of_z at c.residue.ensures.value in
-    (broken_by_bits e above below r c.requires.proper c.requires.divided c.in-Fits-Fits.is-0 c.in-Fits-Fits.is-1 value c.residue.ensures.within,
-     bits_by_broken e above below r c.requires.proper c.requires.divided c.in-Fits-Fits.is-0 c.in-Fits-Fits.is-1 value c.residue.ensures.within)
+    let value = simp to_z-of_z at c.residue.ensures.value in (
+      broken_by_bits e above below r c.requires.proper c.requires.divided c.in-Fits-Fits.is-0 c.in-Fits-Fits.is-1 value c.residue.ensures.within,
+      bits_by_broken e above below r c.requires.proper c.requires.divided c.in-Fits-Fits.is-0 c.in-Fits-Fits.is-1 value c.residue.ensures.within,
+    )

@@ -1,4 +1,4 @@
-use Rattle.std.proofs.Common.{◌≡◌, ℕ, List, Bool, true, false, IsTrue, IsTrue, take, sym, ◌∙◌, ap, subst, ⊎_elim, rules, arith}
+use Rattle.std.proofs.Common.{ℕ, List, IsTrue, IsTrue, sym, ◌∙◌, subst, ⊎_elim, rules}
 use Rattle.std.specs.Ordering.{nat_cmp}
 use Rattle.std.specs.Cmp.Lexicographic.{slice_cmp}
 use Rattle.std.specs.BTreeSet.{contains}
@@ -8,10 +8,11 @@ use Rattle.std.proofs.lemmas.Bool.{false≢true}
 use Rattle.qe_syntax.proofs.point.names_twice.Goals as goal
 
 pub returns-then-not-branch : goal.returns-then-not-branch
-returns-then-not-branch c =
-    (λ _. subst NamesTwice (around c.args.entries.now c.loop-entry.entry-index c.entry-item.result c.loop-entry-test.true c.entry-item.is)
-        (twice_found _ c.entry-item.result _ ((c.loop-entry.invariant.seen c.entry-item.result.name).0 (was_there _ _ c.in_ok-insert.ensures.added c.if-not-branch.true))),
-     λ _. search rules)
+returns-then-not-branch c = (
+  λ _. subst NamesTwice (around c.args.entries.now c.loop-entry.entry-index c.entry-item.result c.loop-entry-test.true c.entry-item.is)
+      (twice_found _ c.entry-item.result _ ((c.loop-entry.invariant.seen c.entry-item.result.name).0 (was_there _ _ c.in_ok-insert.ensures.added c.if-not-branch.true))),
+  λ _. search rules,
+)
 
 pub loop-entry-preserved : goal.loop-entry-preserved
 loop-entry-preserved c =
