@@ -130,7 +130,7 @@ sum_step_gives p q hp hq =
     (λ hm em. by_limit a
         (λ ha ea. by_limit b
             (λ hb eb. by_limit (a +ℤ b)
-                (λ hs es. subst P (sym (formed_sum p q em ea eb es)) (record { multiple_within = hm; first_within = ha; second_within = hb; sum_within = hs; value = sum_value p q hp hq; lowest_terms = lowest_is (a +ℤ b) m (multiple_positive p q hp hq) }))
+                (λ hs es. subst P (sym (formed_sum p q em ea eb es)) (record { multiple_within = hm; first_within = ha; second_within = hb; sum_within = hs; value = sum_value p q hp hq; lowest_terms = lowest_is (a +ℤ b) m (multiple_positive p q hp hq); proper = lowest_proper (a +ℤ b) m (multiple_positive p q hp hq) }))
                 (λ hs es. subst P (sym (refused_sum p q em ea eb es)) (record { cause = inr (inr (inr hs)) })))
             (λ hb eb. subst P (sym (refused_second p q em ea eb)) (record { cause = inr (inr (inl hb)) })))
         (λ ha ea. subst P (sym (refused_first p q em ea)) (record { cause = inr (inl ha) })))
@@ -161,7 +161,7 @@ product_step_gives p q hp hq =
     let P : Option Frac → Type 0 = λ o. MatchOption o (ProductPasses p q) (IsExactProduct p q) in
     by_limit n
     (λ hn en. by_limit d
-        (λ hd ed. subst P (sym (formed_product p q en ed)) (record { numerator_within = hn; denominator_within = hd; value = lowest_value n d dp; lowest_terms = lowest_is n d dp }))
+        (λ hd ed. subst P (sym (formed_product p q en ed)) (record { numerator_within = hn; denominator_within = hd; value = lowest_value n d dp; lowest_terms = lowest_is n d dp; proper = lowest_proper n d dp }))
         (λ hd ed. subst P (sym (refused_below p q en ed)) (record { cause = inr hd })))
     (λ hn en. subst P (sym (refused_above p q en)) (record { cause = inl hn }))
 

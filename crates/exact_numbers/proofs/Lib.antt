@@ -10,4 +10,5 @@ pub mod Limits
 pub mod Casts
 pub mod FractionOrder
 pub mod FractionRule
+pub mod Powers
 pub mod FractionView
