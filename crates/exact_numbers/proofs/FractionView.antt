@@ -1,5 +1,5 @@
 -- The fraction rule on the program's fractions.
-use Rattle.std.proofs.Common.{ℕ, ◌≡◌, Option, Some, None, MatchOption, ℤ, pos, neg_ℤ, ◌*ℤ◌}
+use Rattle.std.proofs.Common.{ℕ, ◌≡◌, Option, Some, None, MatchOption}
 use Rattle.std.specs.Prelude.{option_map}
 use Rattle.exact_numbers.specs.declared.fraction.Fraction.{Fraction}
 use Rattle.exact_numbers.specs.Frac.{Frac, IsProper, sum_step, SumPasses, IsExactSum, product_step, ProductPasses, IsExactProduct, power_steps, PowerPasses, IsExactPower}

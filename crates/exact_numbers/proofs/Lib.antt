@@ -5,7 +5,7 @@ pub mod Floor
 pub mod GreatestDivisor
 pub mod LeastMultiple
 pub mod Congruence
-pub mod Content
+pub mod Contents
 pub mod Limits
 pub mod Casts
 pub mod FractionOrder

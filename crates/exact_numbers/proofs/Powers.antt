@@ -1,14 +1,14 @@
 -- Powers of fractions as repeated products.
-use Rattle.std.proofs.Common.{◌≡◌, ◌<◌, ◌≤◌, ◌+◌, ◌-◌, ◌*◌, ◌%◌, ◌/◌, ◌⊎◌, inl, inr, ℕ, zero, suc, ap, sym, ◌∙◌, subst, refl, arith, Option, Some, None, MatchOption, add-suc, add-one}
-use Rattle.std.proofs.Math.IntN.{ℤ, pos, negsuc, neg_ℤ, ◌+ℤ◌, ◌*ℤ◌}
-use Rattle.std.specs.Prelude.{◌<ℤ◌, ◌≤ℤ◌, option_and_then, unsigned_abs}
+use Rattle.std.proofs.Common.{◌≡◌, ◌<◌, ◌≤◌, ◌+◌, ◌-◌, ◌*◌, ◌%◌, ◌/◌, ℕ, zero, suc, ap, sym, ◌∙◌, subst, refl, arith, Option, Some, None, MatchOption, add-one}
+use Rattle.std.proofs.Math.IntN.{ℤ, pos, negsuc, neg_ℤ, ◌*ℤ◌}
+use Rattle.std.specs.Prelude.{◌≤ℤ◌, option_and_then}
 use Rattle.std.proofs.lemmas.Int.{ints}
 use Rattle.exact_numbers.specs.Limit.{checked}
 use Rattle.exact_numbers.specs.Divides.{euclid, gcd_of}
-use Rattle.exact_numbers.specs.Frac.{Frac, IsProper, IsLowest, IsUnit, SameValue, whole_frac, true_product, true_power, product_step, ProductPasses, IsExactProduct, power_steps, PowerPasses, IsExactPower}
-use Rattle.exact_numbers.proofs.Ring.{ring, one_mul}
+use Rattle.exact_numbers.specs.Frac.{Frac, IsProper, IsUnit, SameValue, whole_frac, true_product, true_power, product_step, ProductPasses, IsExactProduct, power_steps, PowerPasses, IsExactPower}
+use Rattle.exact_numbers.proofs.Ring.{ring}
 use Rattle.exact_numbers.proofs.Order.{mul_positive}
-use Rattle.exact_numbers.proofs.FractionRule.{whole_lowest, product_step_gives, same_value_trans, lowest_proper, formed_product, refused_above, refused_below}
+use Rattle.exact_numbers.proofs.FractionRule.{whole_lowest, product_step_gives, same_value_trans}
 
 -- one product more
 pub power_next : (p q : Frac) (n : ℕ) → power_steps p n ≡ Some q → power_steps p (n + 1) ≡ product_step q p

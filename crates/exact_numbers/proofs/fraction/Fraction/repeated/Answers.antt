@@ -1,6 +1,5 @@
-use Rattle.std.proofs.Common.{◌≡◌, None, Some, ◌+◌, ◌∙◌, ap, sym, arith}
+use Rattle.std.proofs.Common.{Some, ◌+◌, ◌∙◌, ap, sym, arith}
 use Rattle.std.specs.Prelude.{option_map}
-use Rattle.exact_numbers.specs.Frac.{power_steps}
 use Rattle.exact_numbers.specs.Fraction.{frac_of}
 use Rattle.exact_numbers.proofs.Powers.{power_zero, power_next, power_after}
 use Rattle.exact_numbers.proofs.fraction.Fraction.repeated.Goals as goal
@@ -20,6 +19,6 @@ pub loop-done-preserved : goal.loop-done-preserved
 loop-done-preserved c =
     let h = c.loop-done-test.true in
     record {
-        within = omega arith;
-        formed = power_next (frac_of c.args.self) (frac_of c.loop-done.power) c.loop-done.done c.loop-done.invariant.formed ∙ sym c.in_ok-power.ensures.rule
+      within = omega arith;
+      formed = power_next (frac_of c.args.self) (frac_of c.loop-done.power) c.loop-done.done c.loop-done.invariant.formed ∙ sym c.in_ok-power.ensures.rule;
     }

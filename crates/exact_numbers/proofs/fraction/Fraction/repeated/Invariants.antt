@@ -7,8 +7,8 @@ use Rattle.exact_numbers.proofs.fraction.Fraction.repeated.Given as goal
 abbrev pub invariant-loop-done : goal.invariant-loop-done
 invariant-loop-done l =
     record {
-        within : l.done ≤ l.factors;
-        formed : power_steps (frac_of l.self) l.done ≡ Some (frac_of l.power)
+      within : l.done ≤ l.factors;
+      formed : power_steps (frac_of l.self) l.done ≡ Some (frac_of l.power);
     }
 
 abbrev pub decreases-loop-done : goal.decreases-loop-done
