@@ -46,8 +46,8 @@ impl Fraction {
         }
     }
 
-    // The numerator, multiplied up to a multiple of the denominator.
-    fn scaled(self, multiple: i128) -> Option<i128>
+    /// The numerator over a multiple of the denominator, or `None` exactly where it passes the limit.
+    pub fn scaled(self, multiple: i128) -> Option<i128>
         requires { pos 0 <ℤ multiple }
         ensures { result ≡ checked (scaled (frac_of self) multiple) }
     {

@@ -1,0 +1,68 @@
+-- Atoms: a linear form compared with 0, or congruent to 0.
+use Rattle.std.specs.Prelude.{◌≡◌, ℕ, ◌<◌, ℤ, pos, ◌*ℤ◌, ◌<ℤ◌, ◌≤ℤ◌}
+use Rattle.formula_meaning.specs.Context.{Context, Fields, Integers}
+use Rattle.formula_meaning.specs.Point.{Point}
+use Rattle.formula_meaning.specs.Form.{Form, value}
+use Rattle.formula_meaning.specs.Some.{SomeOf}
+
+pub data Relation : Type 0 where
+  Equals Differs Below AtMost Above AtLeast : Relation
+
+pub data Atom : Type 0 where
+  -- form relation 0
+  Compare : Relation → Form → Atom
+  -- some whole number times the modulus is the form's value
+  Congruent : ℕ → Form → Atom
+  -- no whole number times the modulus is the form's value
+  Incongruent : ℕ → Form → Atom
+
+-- the first number has the relation to the second
+abbrev pub Relates : Relation → ℤ → ℤ → Type 0
+Relates Equals a b = a ≡ b
+Relates Differs a b = ¬ (a ≡ b)
+Relates Below a b = a <ℤ b
+Relates AtMost a b = a ≤ℤ b
+Relates Above a b = b <ℤ a
+Relates AtLeast a b = b ≤ℤ a
+
+-- some whole number times n is the value of the form at the point
+abbrev pub Divides : ℕ → Form → Point ℕ → Type 0
+Divides n f p = (q : ℤ) × (value f p ≡ q *ℤ (pos n *ℤ pos p.below))
+
+-- the atom is true at the point
+abbrev pub Says : Atom → Point ℕ → Type 0
+Says (Compare r f) p = Relates r (value f p) (pos 0)
+Says (Congruent n f) p = Divides n f p
+Says (Incongruent n f) p = ¬ (Divides n f p)
+
+-- the atom of the opposite truth
+abbrev pub opposite_relation : Relation → Relation
+opposite_relation Equals = Differs
+opposite_relation Differs = Equals
+opposite_relation Below = AtLeast
+opposite_relation AtMost = Above
+opposite_relation Above = AtMost
+opposite_relation AtLeast = Below
+
+abbrev pub opposite : Atom → Atom
+opposite (Compare r f) = Compare (opposite_relation r) f
+opposite (Congruent n f) = Incongruent n f
+opposite (Incongruent n f) = Congruent n f
+
+-- which atoms a theory has: no congruences over the fields, positive moduli over the integers
+abbrev pub AtomIn : Context → Atom → Type 0
+AtomIn c (Compare r f) = Unit {0}
+AtomIn Fields (Congruent n f) = ⊥
+AtomIn Integers (Congruent n f) = 0 < n
+AtomIn Fields (Incongruent n f) = ⊥
+AtomIn Integers (Incongruent n f) = 0 < n
+
+-- the linear form of an atom
+abbrev pub form_of : Atom → Form
+form_of (Compare r f) = f
+form_of (Congruent n f) = f
+form_of (Incongruent n f) = f
+
+-- the name stands in the atom
+abbrev pub Mentions : Atom → ℕ → Type 0
+Mentions a x = SomeOf (λ t. x ≡ t.name) (form_of a).terms

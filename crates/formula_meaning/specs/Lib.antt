@@ -1,0 +1,14 @@
+pub mod Context
+pub mod Point
+pub mod Formula
+pub mod Truth
+pub mod Form
+pub mod Some
+pub mod Atom
+pub mod Every
+pub mod Replaced
+pub mod Shape
+pub mod NegationNormal
+pub mod Tree
+pub mod Laws
+pub mod Answer

@@ -1,0 +1,106 @@
+-- Shapes of formulas: quantifier-free, built by and and or alone, negation normal, prenex; blocks of quantifiers.
+use Rattle.std.specs.Prelude.{ℕ, suc, max, min}
+use Rattle.formula_meaning.specs.Formula.{Formula, Formulas, Yes, No, One, Not, And, Or, Impl, Repl, Equiv, Ex, All, none, also}
+
+module _ {A N : Type 0} where
+  abbrev mutual
+    -- no quantifier stands in the formula
+    pub IsQuantifierFree : Formula A N → Type 0
+    IsQuantifierFree Yes = Unit {0}
+    IsQuantifierFree No = Unit {0}
+    IsQuantifierFree (One a) = Unit {0}
+    IsQuantifierFree (Not f) = IsQuantifierFree f
+    IsQuantifierFree (And fs) = AreQuantifierFree fs
+    IsQuantifierFree (Or fs) = AreQuantifierFree fs
+    IsQuantifierFree (Impl f g) = IsQuantifierFree f × IsQuantifierFree g
+    IsQuantifierFree (Repl f g) = IsQuantifierFree f × IsQuantifierFree g
+    IsQuantifierFree (Equiv f g) = IsQuantifierFree f × IsQuantifierFree g
+    IsQuantifierFree (Ex x f) = ⊥
+    IsQuantifierFree (All x f) = ⊥
+
+    pub AreQuantifierFree : Formulas A N → Type 0
+    AreQuantifierFree none = Unit {0}
+    AreQuantifierFree (also f fs) = IsQuantifierFree f × AreQuantifierFree fs
+
+  abbrev mutual
+    -- only and, or, atoms and constants stand in the formula
+    pub IsPlain : Formula A N → Type 0
+    IsPlain Yes = Unit {0}
+    IsPlain No = Unit {0}
+    IsPlain (One a) = Unit {0}
+    IsPlain (Not f) = ⊥
+    IsPlain (And fs) = ArePlain fs
+    IsPlain (Or fs) = ArePlain fs
+    IsPlain (Impl f g) = ⊥
+    IsPlain (Repl f g) = ⊥
+    IsPlain (Equiv f g) = ⊥
+    IsPlain (Ex x f) = ⊥
+    IsPlain (All x f) = ⊥
+
+    pub ArePlain : Formulas A N → Type 0
+    ArePlain none = Unit {0}
+    ArePlain (also f fs) = IsPlain f × ArePlain fs
+
+  abbrev mutual
+    -- only and, or, quantifiers, atoms and constants stand in the formula
+    pub IsNegationNormal : Formula A N → Type 0
+    IsNegationNormal Yes = Unit {0}
+    IsNegationNormal No = Unit {0}
+    IsNegationNormal (One a) = Unit {0}
+    IsNegationNormal (Not f) = ⊥
+    IsNegationNormal (And fs) = AreNegationNormal fs
+    IsNegationNormal (Or fs) = AreNegationNormal fs
+    IsNegationNormal (Impl f g) = ⊥
+    IsNegationNormal (Repl f g) = ⊥
+    IsNegationNormal (Equiv f g) = ⊥
+    IsNegationNormal (Ex x f) = IsNegationNormal f
+    IsNegationNormal (All x f) = IsNegationNormal f
+
+    pub AreNegationNormal : Formulas A N → Type 0
+    AreNegationNormal none = Unit {0}
+    AreNegationNormal (also f fs) = IsNegationNormal f × AreNegationNormal fs
+
+  -- quantifiers over a quantifier-free formula
+  abbrev pub IsPrenex : Formula A N → Type 0
+  IsPrenex (Ex x f) = IsPrenex f
+  IsPrenex (All x f) = IsPrenex f
+  IsPrenex Yes = Unit {0}
+  IsPrenex No = Unit {0}
+  IsPrenex (One a) = Unit {0}
+  IsPrenex (Not f) = IsQuantifierFree f
+  IsPrenex (And fs) = AreQuantifierFree fs
+  IsPrenex (Or fs) = AreQuantifierFree fs
+  IsPrenex (Impl f g) = IsQuantifierFree f × IsQuantifierFree g
+  IsPrenex (Repl f g) = IsQuantifierFree f × IsQuantifierFree g
+  IsPrenex (Equiv f g) = IsQuantifierFree f × IsQuantifierFree g
+
+pub data Quantifier : Type 0 where
+  Exists ForAll : Quantifier
+
+module _ {A N : Type 0} where
+  abbrev mutual
+    -- The blocks of the shortest prenex prefix that begins with the quantifier and keeps the nesting of a formula in
+    -- negation normal form. A block is a longest run of equal quantifiers; the first may be empty.
+    pub blocks_from : Formula A N → Quantifier → ℕ
+    blocks_from Yes q = 0
+    blocks_from No q = 0
+    blocks_from (One a) q = 0
+    blocks_from (Not f) q = 0
+    blocks_from (And fs) q = most_blocks fs q
+    blocks_from (Or fs) q = most_blocks fs q
+    blocks_from (Impl f g) q = 0
+    blocks_from (Repl f g) q = 0
+    blocks_from (Equiv f g) q = 0
+    blocks_from (Ex x f) Exists = max 1 (blocks_from f Exists)
+    blocks_from (Ex x f) ForAll = suc (max 1 (blocks_from f Exists))
+    blocks_from (All x f) Exists = suc (max 1 (blocks_from f ForAll))
+    blocks_from (All x f) ForAll = max 1 (blocks_from f ForAll)
+
+    -- the most of any member
+    pub most_blocks : Formulas A N → Quantifier → ℕ
+    most_blocks none q = 0
+    most_blocks (also f fs) q = max (blocks_from f q) (most_blocks fs q)
+
+  -- the fewest blocks of a prenex form that keeps the nesting of quantifiers
+  abbrev pub fewest_blocks : Formula A N → ℕ
+  fewest_blocks f = min (blocks_from f Exists) (blocks_from f ForAll)

@@ -1,0 +1,4 @@
+pub mod TreeEquations
+pub mod NameOrder
+pub mod EntryLists
+pub mod EntryNumbers

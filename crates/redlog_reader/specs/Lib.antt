@@ -1,0 +1,6 @@
+pub mod Terminals
+pub mod Lexing
+pub mod Pieces
+pub mod Levels
+pub mod Grammar
+pub mod Statement
