@@ -1,10 +1,10 @@
 -- Numbers within the limit as 128 bits, and back.
-use Rattle.std.proofs.Common.{◌≡◌, ◌<◌, ◌^◌, ℕ, ap, sym, ◌∙◌, refl, arith, Option, Some, None, ◌≤◌}
+use Rattle.std.proofs.Common.{◌≡◌, ap, sym, ◌∙◌, arith}
 use Rattle.std.proofs.Math.IntN.{ℤ, pos, negsuc}
-use Rattle.std.specs.Prelude.{unsigned_abs, FitsSigned, int_div, ◌≤ℤ◌, ◌<ℤ◌}
+use Rattle.std.specs.Prelude.{FitsSigned, int_div, ◌≤ℤ◌, ◌<ℤ◌}
 use Rattle.std.specs.Int.{w128, cast_signed, cast_unsigned}
 use Rattle.std.proofs.lemmas.Int.{ints, to_z-of_z, fits_signed_from_abs, quot_is, quot_fits}
-use Rattle.exact_numbers.specs.Limit.{InLimit, PastLimit, checked}
+use Rattle.exact_numbers.specs.Limit.{InLimit}
 
 pub fits : (z : ℤ) → InLimit z → FitsSigned w128 z
 fits z h = fits_signed_from_abs w128 z h

@@ -1,12 +1,12 @@
 -- How fractions over positive denominators compare: by their floors, and then by what remains, upside down.
-use Rattle.std.proofs.Common.{◌≡◌, ◌⊎◌, inl, inr, ap, sym, ◌∙◌, subst, arith, Ordering, Less, Equal, Greater, int_cmp}
-use Rattle.std.proofs.Math.IntN.{ℤ, pos, neg_ℤ, ◌+ℤ◌, ◌-ℤ◌, ◌*ℤ◌}
+use Rattle.std.proofs.Common.{◌≡◌, ◌⊎◌, inl, inr, ap, sym, ◌∙◌, subst, arith, Less, Equal, Greater, int_cmp}
+use Rattle.std.proofs.Math.IntN.{ℤ, pos, ◌+ℤ◌, ◌-ℤ◌, ◌*ℤ◌}
 use Rattle.std.specs.Prelude.{◌<ℤ◌, ◌≤ℤ◌}
 use Rattle.std.proofs.lemmas.Int.{ints}
 use Rattle.exact_numbers.specs.Divides.{floor_of, residue_of}
 use Rattle.exact_numbers.proofs.Floor.{floor_and_residue, residue_not_negative, residue_below}
-use Rattle.exact_numbers.proofs.Ring.{ring, mul_comm, mul_left_comm, mul_add, mul_one, zero_mul, mul_zero}
-use Rattle.exact_numbers.proofs.Order.{by_order, by_less, by_compare, mul_less, mul_at_most, mul_positive, compare_less, compare_same, compare_more, compare_sub}
+use Rattle.exact_numbers.proofs.Ring.{ring, mul_comm, mul_left_comm, mul_add, mul_one, zero_mul}
+use Rattle.exact_numbers.proofs.Order.{by_order, by_compare, mul_less, mul_at_most, mul_positive, compare_less, compare_same, compare_more, compare_sub}
 
 -- p ≤ a / b < p + 1, by the floor p and what remains
 pub record IsSplit (a b p r : ℤ) : Type 0 where
@@ -60,13 +60,13 @@ scaled_up r s b d bp sn z =
     let e = ap (λ x. x *ℤ d) z in let f = zero_mul d in
     by_order (pos 0) s
     (λ (h : pos 0 <ℤ s).
-        let m = mul_positive h bp in
-        let l : r <ℤ s = omega (arith, ints) in let k : (r *ℤ d) <ℤ (s *ℤ b) = omega (arith, ints) in
-        compare_less l ∙ sym (compare_less k))
+    let m = mul_positive h bp in
+    let l : r <ℤ s = omega (arith, ints) in let k : (r *ℤ d) <ℤ (s *ℤ b) = omega (arith, ints) in
+    compare_less l ∙ sym (compare_less k))
     (λ (h : pos 0 ≡ s).
-        let g = ap (λ x. x *ℤ b) h in let i = zero_mul b in
-        let l : r ≡ s = omega (arith, ints) in let k : r *ℤ d ≡ s *ℤ b = omega (arith, ints) in
-        compare_same l ∙ sym (compare_same k))
+    let g = ap (λ x. x *ℤ b) h in let i = zero_mul b in
+    let l : r ≡ s = omega (arith, ints) in let k : r *ℤ d ≡ s *ℤ b = omega (arith, ints) in
+    compare_same l ∙ sym (compare_same k))
     (λ (h : s <ℤ pos 0). absurd (omega (arith, ints)))
 
 scaled_down : (r s b d : ℤ) → pos 0 <ℤ d → pos 0 ≤ℤ r → s ≡ pos 0 → int_cmp r s ≡ int_cmp (r *ℤ d) (s *ℤ b)
@@ -74,21 +74,21 @@ scaled_down r s b d dp rn z =
     let e = ap (λ x. x *ℤ b) z in let f = zero_mul b in
     by_order (pos 0) r
     (λ (h : pos 0 <ℤ r).
-        let m = mul_positive h dp in
-        let l : s <ℤ r = omega (arith, ints) in let k : (s *ℤ b) <ℤ (r *ℤ d) = omega (arith, ints) in
-        compare_more l ∙ sym (compare_more k))
+    let m = mul_positive h dp in
+    let l : s <ℤ r = omega (arith, ints) in let k : (s *ℤ b) <ℤ (r *ℤ d) = omega (arith, ints) in
+    compare_more l ∙ sym (compare_more k))
     (λ (h : pos 0 ≡ r).
-        let g = ap (λ x. x *ℤ d) h in let i = zero_mul d in
-        let l : r ≡ s = omega (arith, ints) in let k : r *ℤ d ≡ s *ℤ b = omega (arith, ints) in
-        compare_same l ∙ sym (compare_same k))
+    let g = ap (λ x. x *ℤ d) h in let i = zero_mul d in
+    let l : r ≡ s = omega (arith, ints) in let k : r *ℤ d ≡ s *ℤ b = omega (arith, ints) in
+    compare_same l ∙ sym (compare_same k))
     (λ (h : r <ℤ pos 0). absurd (omega (arith, ints)))
 
 -- where nothing remains on one side, the rests compare as the scaled rests
 pub compare_at_zero : {a b c d p q r s : ℤ} → IsSplit a b p r → IsSplit c d q s → int_cmp p q ≡ Equal → (r ≡ pos 0) ⊎ (s ≡ pos 0) → int_cmp r s ≡ int_cmp (a *ℤ d) (c *ℤ b)
 compare_at_zero {b = b} {d = d} {r = r} {s = s} f g e h =
     elim h [
-        inl z ↦ scaled_up r s b d f.positive g.not_negative z ∙ sym (compare_rests f g e)
-        | inr z ↦ scaled_down r s b d g.positive f.not_negative z ∙ sym (compare_rests f g e)
+      | inl z ↦ scaled_up r s b d f.positive g.not_negative z ∙ sym (compare_rests f g e)
+      | inr z ↦ scaled_down r s b d g.positive f.not_negative z ∙ sym (compare_rests f g e)
     ]
 
 -- else upside down: d / s against b / r

@@ -1,14 +1,14 @@
 -- What the fraction rule gives: the true value in lowest terms, refused exactly where a number formed passes the limit.
-use Rattle.std.proofs.Common.{◌≡◌, ◌<◌, ◌≤◌, ◌*◌, ◌^◌, ◌⊎◌, inl, inr, ap, sym, ◌∙◌, subst, refl, arith, Option, Some, None, MatchOption}
-use Rattle.std.proofs.Math.IntN.{ℤ, pos, neg_ℤ, ◌+ℤ◌, ◌-ℤ◌, ◌*ℤ◌}
+use Rattle.std.proofs.Common.{◌≡◌, ◌<◌, inl, inr, ap, sym, ◌∙◌, subst, refl, arith, Option, Some, None, MatchOption}
+use Rattle.std.proofs.Math.IntN.{ℤ, pos, neg_ℤ, ◌+ℤ◌, ◌*ℤ◌}
 use Rattle.std.specs.Prelude.{◌<ℤ◌, ◌≤ℤ◌, unsigned_abs, int_div, int_lt, true, false}
 use Rattle.std.proofs.Math.Nat.{le-mul_of_pos_right}
 use Rattle.std.proofs.lemmas.Int.{ints, unsigned_abs-mul}
-use Rattle.exact_numbers.specs.Limit.{InLimit, PastLimit, checked}
-use Rattle.exact_numbers.specs.Divides.{Divides, IsGcd, gcd_of, lcm_of}
+use Rattle.exact_numbers.specs.Limit.{InLimit, checked}
+use Rattle.exact_numbers.specs.Divides.{IsGcd, gcd_of}
 use Rattle.exact_numbers.specs.Frac.{whole_frac, inverted, Frac, IsProper, SameValue, IsLowest, true_sum, true_product, lowest, multiple, scaled, sum_step, SumPasses, IsExactSum, product_step, ProductPasses, IsExactProduct}
-use Rattle.exact_numbers.proofs.Ring.{ring, mul_comm, mul_assoc, mul_left_comm, mul_one, one_mul}
-use Rattle.exact_numbers.proofs.Order.{by_less, cancel, cancel_positive, factor_positive, mul_positive}
+use Rattle.exact_numbers.proofs.Ring.{ring, mul_assoc, mul_left_comm, mul_one}
+use Rattle.exact_numbers.proofs.Order.{by_less, cancel_positive, factor_positive, mul_positive}
 use Rattle.exact_numbers.proofs.Divisibility.{divides_neg, divides_along, one_divides, mul_divides_mul, cancel_divides}
 use Rattle.exact_numbers.proofs.GreatestDivisor.{gcd_is, gcd_swap, gcd_positive}
 use Rattle.exact_numbers.proofs.LeastMultiple.{exact_div, lcm_is}
@@ -44,10 +44,10 @@ pub lowest_is : (n d : ℤ) → pos 0 <ℤ d → IsLowest (lowest n d)
 lowest_is n d h =
     let g = gcd_of n d in let i = gcd_is n d in
     record {
-        not_negative = omega (arith, ints);
-        left = one_divides (lowest n d).numerator;
-        right = one_divides (lowest n d).denominator;
-        greatest = λ e x y. cancel_divides g (divisor_not_zero n d h) (divides_along (sym (mul_one g)) (i.greatest (g *ℤ e) (divides_along (lowest_above n d h) (mul_divides_mul g x)) (divides_along (lowest_below n d h) (mul_divides_mul g y))))
+      not_negative = omega (arith, ints);
+      left = one_divides (lowest n d).numerator;
+      right = one_divides (lowest n d).denominator;
+      greatest = λ e x y. cancel_divides g (divisor_not_zero n d h) (divides_along (sym (mul_one g)) (i.greatest (g *ℤ e) (divides_along (lowest_above n d h) (mul_divides_mul g x)) (divides_along (lowest_below n d h) (mul_divides_mul g y))));
     }
 
 -- a factor of a number within the limit is within it
@@ -128,12 +128,12 @@ sum_step_gives p q hp hq =
     let P : Option Frac → Type 0 = λ o. MatchOption o (SumPasses p q) (IsExactSum p q) in
     by_limit m
     (λ hm em. by_limit a
-        (λ ha ea. by_limit b
-            (λ hb eb. by_limit (a +ℤ b)
-                (λ hs es. subst P (sym (formed_sum p q em ea eb es)) (record { multiple_within = hm; first_within = ha; second_within = hb; sum_within = hs; value = sum_value p q hp hq; lowest_terms = lowest_is (a +ℤ b) m (multiple_positive p q hp hq) }))
-                (λ hs es. subst P (sym (refused_sum p q em ea eb es)) (record { cause = inr (inr (inr hs)) })))
-            (λ hb eb. subst P (sym (refused_second p q em ea eb)) (record { cause = inr (inr (inl hb)) })))
-        (λ ha ea. subst P (sym (refused_first p q em ea)) (record { cause = inr (inl ha) })))
+    (λ ha ea. by_limit b
+    (λ hb eb. by_limit (a +ℤ b)
+    (λ hs es. subst P (sym (formed_sum p q em ea eb es)) (record { multiple_within = hm; first_within = ha; second_within = hb; sum_within = hs; value = sum_value p q hp hq; lowest_terms = lowest_is (a +ℤ b) m (multiple_positive p q hp hq); proper = lowest_proper (a +ℤ b) m (multiple_positive p q hp hq) }))
+    (λ hs es. subst P (sym (refused_sum p q em ea eb es)) (record { cause = inr (inr (inr hs)) })))
+    (λ hb eb. subst P (sym (refused_second p q em ea eb)) (record { cause = inr (inr (inl hb)) })))
+    (λ ha ea. subst P (sym (refused_first p q em ea)) (record { cause = inr (inl ha) })))
     (λ hm em. subst P (sym (refused_multiple p q em)) (record { cause = inl hm }))
 
 pub sum_outcome : (p q : Frac) (o : Option Frac) → IsProper p → IsProper q → o ≡ sum_step p q → MatchOption o (SumPasses p q) (IsExactSum p q)
@@ -161,8 +161,8 @@ product_step_gives p q hp hq =
     let P : Option Frac → Type 0 = λ o. MatchOption o (ProductPasses p q) (IsExactProduct p q) in
     by_limit n
     (λ hn en. by_limit d
-        (λ hd ed. subst P (sym (formed_product p q en ed)) (record { numerator_within = hn; denominator_within = hd; value = lowest_value n d dp; lowest_terms = lowest_is n d dp }))
-        (λ hd ed. subst P (sym (refused_below p q en ed)) (record { cause = inr hd })))
+    (λ hd ed. subst P (sym (formed_product p q en ed)) (record { numerator_within = hn; denominator_within = hd; value = lowest_value n d dp; lowest_terms = lowest_is n d dp; proper = lowest_proper n d dp }))
+    (λ hd ed. subst P (sym (refused_below p q en ed)) (record { cause = inr hd })))
     (λ hn en. subst P (sym (refused_above p q en)) (record { cause = inl hn }))
 
 pub product_outcome : (p q : Frac) (o : Option Frac) → IsProper p → IsProper q → o ≡ product_step p q → MatchOption o (ProductPasses p q) (IsExactProduct p q)
@@ -196,6 +196,7 @@ inverted_one p =
   where
     negative : (n d : ℤ) → neg_ℤ d *ℤ n *ℤ pos 1 ≡ pos 1 *ℤ (neg_ℤ n *ℤ d)
     negative n d = simp ring (omega (arith, ints))
+
     other : (n d : ℤ) → d *ℤ n *ℤ pos 1 ≡ pos 1 *ℤ (n *ℤ d)
     other n d = simp ring (omega (arith, ints))
 

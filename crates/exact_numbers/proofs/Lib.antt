@@ -5,9 +5,10 @@ pub mod Floor
 pub mod GreatestDivisor
 pub mod LeastMultiple
 pub mod Congruence
-pub mod Content
+pub mod Contents
 pub mod Limits
 pub mod Casts
 pub mod FractionOrder
 pub mod FractionRule
+pub mod Powers
 pub mod FractionView

@@ -1,7 +1,7 @@
 -- Numbers against the limit.
-use Rattle.std.proofs.Common.{◌≡◌, ◌<◌, ◌≤◌, ◌^◌, ◌*◌, ◌⊎◌, inl, inr, ap, sym, ◌∙◌, refl, arith, Option, Some, None, cond, ltb, true, false, Bool, MatchOption, subst}
-use Rattle.std.proofs.Math.IntN.{ℤ, pos, negsuc, neg_ℤ, ◌*ℤ◌}
-use Rattle.std.specs.Prelude.{unsigned_abs, ◌≤ℤ◌, ◌<ℤ◌}
+use Rattle.std.proofs.Common.{◌≡◌, ◌^◌, inl, inr, ap, sym, ◌∙◌, arith, Option, Some, None, MatchOption, subst}
+use Rattle.std.proofs.Math.IntN.{ℤ, neg_ℤ}
+use Rattle.std.specs.Prelude.{unsigned_abs}
 use Rattle.std.proofs.lemmas.Bool.{cases_lt}
 use Rattle.std.proofs.lemmas.Bool.Decides.{nat_tests}
 use Rattle.std.proofs.lemmas.Int.{ints}

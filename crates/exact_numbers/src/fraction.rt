@@ -1,5 +1,5 @@
 // Fractions within the limit, calculated by the fraction rule.
-ghost use Rattle.std.specs.Prelude.{◌≡◌, ℤ, pos, ◌<ℤ◌, MatchOption, option_map};
+ghost use Rattle.std.specs.Prelude.{IsTrue, ◌↔◌, ◌≡◌, ℤ, pos, ◌<ℤ◌, MatchOption, option_map};
 ghost use Rattle.exact_numbers.specs.Limit.{InLimit, checked};
 
 use crate::divisors::{gcd, lcm};
@@ -16,7 +16,7 @@ pub struct Fraction {
 }
 
 impl Fraction {
-    ghost use Rattle.exact_numbers.specs.Frac.{whole_frac, SameValue, IsLowest, true_product, negated, inverted, lowest, scaled, sum_step, product_step, SumPasses, IsExactSum, ProductPasses, IsExactProduct};
+    ghost use Rattle.exact_numbers.specs.Frac.{whole_frac, SameValue, IsLowest, true_product, negated, inverted, lowest, scaled, sum_step, product_step, power_steps, PowerPasses, IsExactPower, IsUnit, SumPasses, IsExactSum, ProductPasses, IsExactProduct};
     ghost use Rattle.exact_numbers.specs.Fraction.{frac_of};
 
     /// The whole number `number`.
@@ -76,6 +76,40 @@ impl Fraction {
         let numerator = product(self.numerator, other.numerator)?;
         let denominator = product(self.denominator, other.denominator)?;
         Some(Fraction::reduced(numerator, denominator))
+    }
+
+    /// The power in lowest terms, as a repeated product from 1 on; the power 0 is 1, also of 0.
+    /// `None` exactly where a product formed passes the limit. It takes at most 128 steps.
+    pub fn power(self, exponent: u128) -> Option<Fraction>
+        requires { IsLowest (frac_of self) }
+        ensures rule { option_map frac_of result ≡ power_steps (frac_of self) exponent }
+        ensures outcome { MatchOption result (PowerPasses (frac_of self) exponent) (λ r. IsExactPower (frac_of self) exponent (frac_of r)) }
+    {
+        self.repeated(if self.is_unit() && 2 < exponent {
+            2 - exponent % 2
+        } else {
+            exponent
+        })
+    }
+
+    // Whether the fraction is 0, 1 or -1, whose powers from the first on repeat.
+    fn is_unit(self) -> bool
+        ensures { IsTrue result ↔ IsUnit (frac_of self) }
+    {
+        self.denominator == 1 && -1 <= self.numerator && self.numerator <= 1
+    }
+
+    // The product of so many factors, one after another.
+    fn repeated(self, factors: u128) -> Option<Fraction>
+        ensures { option_map frac_of result ≡ power_steps (frac_of self) factors }
+    {
+        let mut power = Fraction::whole(1);
+        let mut done = 0;
+        while done < factors {
+            power = power.multiply(self)?;
+            done += 1;
+        }
+        Some(power)
     }
 
     /// The fraction with the other sign.

@@ -3,8 +3,16 @@
 
 mod divisors;
 mod fraction;
+mod laws;
 mod limit;
 
 pub use divisors::{compare_fractions, floor_div, gcd, lcm, residue};
 pub use fraction::Fraction;
+pub use laws::{
+    bezout, congruence_is_solved, congruence_repeats, content, floor_and_residue, fraction_rule,
+    greatest_common_divisor, least_common_multiple_divides,
+};
 pub use limit::{product, sum};
+
+#[cfg(test)]
+mod tests;

@@ -1,7 +1,7 @@
-use Rattle.std.proofs.Common.{refl, ◌≡◌, ◌<◌, ◌⊎◌, inl, inr, ⊎_elim, pos, FitsSigned, rules, arith, sym, ◌∙◌, ap, Equal, int_cmp, ◌<ℤ◌, ℤ}
-use Rattle.std.specs.Int.{w128, cast_unsigned}
+use Rattle.std.proofs.Common.{refl, ◌≡◌, ◌⊎◌, inl, inr, pos, FitsSigned, rules, arith, sym, ◌∙◌}
+use Rattle.std.specs.Int.{w128}
 use Rattle.std.proofs.lemmas.Int.{ints, to_z-of_z}
-use Rattle.exact_numbers.specs.Divides.{floor_of, residue_of}
+use Rattle.exact_numbers.specs.Divides.{residue_of}
 use Rattle.exact_numbers.proofs.Casts.{positive_bits, zero_bits}
 use Rattle.exact_numbers.proofs.FractionOrder.{split_by, compare_by_floor, compare_at_zero, compare_upside_down}
 use Rattle.exact_numbers.proofs.divisors.+compare_fractions.Goals as goal
@@ -31,10 +31,10 @@ returns-then-right-eq0 t c =
     let left = split_by c.args.a c.args.b _ _ c.requires.first_positive p r in
     let right = split_by c.args.c c.args.d _ _ c.requires.second_positive q s in
     let z : (c.residue-left.result ≡ pos 0) ⊎ (c.residue-right.result ≡ pos 0) =
-        elim c.if-right-eq0.either [
-            inl h ↦ inl (zero_bits c.residue-left.result c.residue-left.ensures.within h)
-            | inr h ↦ inr (zero_bits c.residue-right.result c.residue-right.ensures.within h.1)
-        ]
+    elim c.if-right-eq0.either [
+      | inl h ↦ inl (zero_bits c.residue-left.result c.residue-left.ensures.within h)
+      | inr h ↦ inr (zero_bits c.residue-right.result c.residue-right.ensures.within h.1)
+    ]
     in
     let k = simp to_z-of_z at c.cmp-then-right-eq0.ensures in
     k ∙ compare_at_zero left right (sym e) z

@@ -1,9 +1,9 @@
-use Rattle.std.proofs.Common.{◌≡◌, pos, rules, subst, sym, to_z, of_z, ℤ, ℕ, arith}
+use Rattle.std.proofs.Common.{◌≡◌, pos, subst, sym, to_z, ℤ, arith}
 use Rattle.std.specs.Int.{w128}
 use Rattle.std.proofs.lemmas.Int.{ints, to_z-of_z}
 use Rattle.std.proofs.lemmas.Nat.{mod_below}
 use Rattle.std.proofs.lemmas.Nat.Gcd.{IsGcd-from_mod, IsGcd-from_zero}
-use Rattle.exact_numbers.specs.Divides.{IsGcd, gcd_of}
+use Rattle.exact_numbers.specs.Divides.{IsGcd}
 use Rattle.exact_numbers.proofs.GreatestDivisor.{gcd_from_abs, gcd_of_is}
 use Rattle.exact_numbers.proofs.divisors.gcd.Goals as goal
 
@@ -29,7 +29,7 @@ returns c =
     let k = simp to_z-of_z at (c.loop-right.invariant.keeps n (IsGcd-from_zero n c.loop-right.right z)) in
     let g = gcd_from_abs c.args.a c.args.b n k in
     record {
-        greatest = subst (λ (q : ℤ). IsGcd c.args.a c.args.b q) (sym v) g;
-        value = gcd_of_is (subst (λ (q : ℤ). IsGcd c.args.a c.args.b q) (sym v) g);
-        within = omega (arith, ints)
+      greatest = subst (λ (q : ℤ). IsGcd c.args.a c.args.b q) (sym v) g;
+      value = gcd_of_is (subst (λ (q : ℤ). IsGcd c.args.a c.args.b q) (sym v) g);
+      within = omega (arith, ints);
     }

@@ -7,9 +7,9 @@ use Rattle.exact_numbers.proofs.divisors.gcd.Given as goal
 abbrev pub invariant-loop-right : goal.invariant-loop-right
 invariant-loop-right l =
     record {
-        left_within : l.left < 2 ^ 127;
-        right_within : l.right < 2 ^ 127;
-        keeps : (g : ℕ) → IsNatGcd l.left l.right g → IsNatGcd (unsigned_abs l.a) (unsigned_abs l.b) g
+      left_within : l.left < 2 ^ 127;
+      right_within : l.right < 2 ^ 127;
+      keeps : (g : ℕ) → IsNatGcd l.left l.right g → IsNatGcd (unsigned_abs l.a) (unsigned_abs l.b) g;
     }
 
 abbrev pub decreases-loop-right : goal.decreases-loop-right

@@ -1,9 +1,9 @@
-use Rattle.std.proofs.Common.{refl, ◌≡◌, pos, FitsSigned, rules, arith, ap, ◌∙◌, ℤ, ◌<ℤ◌}
+use Rattle.std.proofs.Common.{refl, ◌≡◌, pos, FitsSigned, rules, arith, ap, ◌∙◌, ◌<ℤ◌}
 use Rattle.std.specs.Prelude.{int_div, ◌*ℤ◌}
 use Rattle.std.specs.Int.{w128}
 use Rattle.std.proofs.lemmas.Int.{ints, to_z-of_z, quot_fits}
 use Rattle.exact_numbers.specs.Limit.{checked}
-use Rattle.exact_numbers.specs.Divides.{IsLcm, gcd_of, lcm_of}
+use Rattle.exact_numbers.specs.Divides.{IsLcm, lcm_of}
 use Rattle.exact_numbers.proofs.GreatestDivisor.{gcd_is, gcd_positive}
 use Rattle.exact_numbers.proofs.LeastMultiple.{lcm_is}
 use Rattle.exact_numbers.proofs.Limits.{match_checked}
@@ -23,6 +23,6 @@ returns c =
     let p = simp to_z-of_z at c.product.ensures.rule in
     let e : c.product.result ≡ checked (lcm_of a b) = p ∙ ap (λ z. checked (int_div a z *ℤ b)) g in
     record {
-        value = match_checked c.product.result (lcm_of a b) (λ m. (m ≡ lcm_of a b) × IsLcm a b m) e (λ _. (refl, lcm_is c.requires.first_positive c.requires.second_positive));
-        rule = e
+      value = match_checked c.product.result (lcm_of a b) (λ m. (m ≡ lcm_of a b) × IsLcm a b m) e (λ _. (refl, lcm_is c.requires.first_positive c.requires.second_positive));
+      rule = e;
     }

@@ -1,9 +1,9 @@
-use Rattle.std.proofs.Common.{◌≡◌, Some, None, MatchOption, ap, ◌∙◌, sym, subst, ℤ}
+use Rattle.std.proofs.Common.{◌≡◌, Some, None, ap, ◌∙◌, sym}
 use Rattle.std.specs.Prelude.{option_map, ◌+ℤ◌}
 use Rattle.std.proofs.lemmas.Int.{to_z-of_z}
 use Rattle.exact_numbers.specs.Limit.{checked}
 use Rattle.exact_numbers.specs.Fraction.{frac_of}
-use Rattle.exact_numbers.specs.Frac.{multiple, scaled, sum_step, lowest}
+use Rattle.exact_numbers.specs.Frac.{multiple, scaled, lowest}
 use Rattle.exact_numbers.proofs.Casts.{fits}
 use Rattle.exact_numbers.proofs.Limits.{formed_by}
 use Rattle.exact_numbers.proofs.FractionRule.{refused_multiple, refused_first, refused_second, refused_sum, formed_sum}

@@ -1,9 +1,8 @@
-use Rattle.std.proofs.Common.{◌≡◌, Some, None, MatchOption, ap, ◌∙◌, sym, subst, ℤ, arith}
+use Rattle.std.proofs.Common.{◌≡◌, Some, ap, ◌∙◌, sym, arith}
 use Rattle.std.specs.Prelude.{option_map, ◌*ℤ◌}
 use Rattle.std.proofs.lemmas.Int.{ints, to_z-of_z}
-use Rattle.exact_numbers.specs.Limit.{checked}
 use Rattle.exact_numbers.specs.Fraction.{frac_of}
-use Rattle.exact_numbers.specs.Frac.{product_step, lowest}
+use Rattle.exact_numbers.specs.Frac.{lowest}
 use Rattle.exact_numbers.proofs.Order.{mul_positive}
 use Rattle.exact_numbers.proofs.Casts.{fits}
 use Rattle.exact_numbers.proofs.Limits.{formed_by}

@@ -1,0 +1,9 @@
+// Linear forms over numbered names, exact at the limit 2^127 - 1.
+#![tactic(auto)]
+
+mod error;
+mod form;
+
+pub use error::LinError;
+pub use exact_numbers::{compare_fractions, floor_div, gcd, lcm};
+pub use form::{Linear, VarId};
