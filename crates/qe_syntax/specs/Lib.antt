@@ -6,3 +6,5 @@ pub mod Point
 pub mod PointFaults
 pub mod Value
 pub mod Rule
+pub mod Simple
+pub mod Evaluates

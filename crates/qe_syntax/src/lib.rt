@@ -5,10 +5,13 @@ mod name;
 mod point;
 mod statement;
 mod tree;
+mod truth;
 mod value;
 
 pub use name::Name;
-pub use point::PointFault;
+pub use point::{Point, PointFault};
 pub use statement::{Action, Command, Entries, PointEntry, Setting, Statement};
 pub use tree::{Formula, Formulas, Literal, Relation, Term, Terms, negation, negative};
-pub use value::EvalError;
+pub use truth::truth_at;
+pub use value::{EvalError, value_at};
+pub use exact_numbers::Fraction;

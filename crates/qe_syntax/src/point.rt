@@ -60,8 +60,8 @@ impl Point {
     /// The denominator, which is positive. It takes no memory.
     pub fn denominator(&self) -> i128
         ensures value { result ≡ self.now.denominator }
-        ensures positive { pos 0 <ℤ result }
-        ensures within { InLimit result }
+        ensures positive { pos 0 <ℤ self.now.denominator }
+        ensures within { InLimit self.now.denominator }
     {
         self.denominator
     }
