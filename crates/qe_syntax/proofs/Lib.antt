@@ -6,3 +6,4 @@ pub mod TermParts
 pub mod FormulaParts
 pub mod ValueLaw
 pub mod TruthLaw
+pub mod NameSearch

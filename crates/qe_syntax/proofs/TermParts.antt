@@ -1,13 +1,11 @@
 -- What is said of a term, said of its parts.
-use Rattle.std.proofs.Common.{◌≡◌, List, map, ap, subst, sym, ◌∙◌}
+use Rattle.std.proofs.Common.{◌≡◌, List, map, ap, sym, ◌∙◌}
 use Rattle.std.specs.declared.boxed.Box.{Box}
 use Rattle.std.specs.declared.alloc.Global.{Global}
 use Rattle.qe_syntax.specs.declared.tree.Term as code
 use Rattle.qe_syntax.specs.declared.tree.Term.TheVariants as term
 use Rattle.qe_syntax.specs.declared.tree.Terms as codes
-use Rattle.qe_syntax.specs.Trees.{TermTree, Sum, Product, Negative, terms_of, term_tree}
-use Rattle.qe_syntax.specs.Proper.{IsProperTerm, AreProperTerms}
-use Rattle.qe_syntax.specs.Simple.{IsSimpleTerm, AreSimpleTerms}
+use Rattle.qe_syntax.specs.Trees.{Sum, Product, Negative, terms_of, term_tree}
 use Rattle.qe_syntax.proofs.TreeEquations.{tree-Sum, tree-Product, tree-Negative, trees-out}
 
 pub sum_is : (t : code.Term) (ts : codes.Terms) (xs : List code.Term) → t ≡ term.Sum ts → xs ≡ (codes.out-Terms ts).list.items → term_tree t ≡ Sum (terms_of (map term_tree xs))

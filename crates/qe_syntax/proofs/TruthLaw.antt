@@ -1,16 +1,16 @@
 -- What is calculated for a formula decides its truth.
-use Rattle.std.proofs.Common.{◌≡◌, ◌⊎◌, ◌↔◌, inl, inr, ⊎_elim, ℕ, ◌<◌, sym, ◌∙◌, ap, subst, refl, arith, rules, Bool, true, false, not, ◌&&◌, ◌||◌, IsTrue}
-use Rattle.std.proofs.Math.IntN.{ℤ, pos, negsuc, neg_ℤ, ◌+ℤ◌, ◌-ℤ◌, ◌*ℤ◌}
-use Rattle.std.specs.Prelude.{◌<ℤ◌, ◌≤ℤ◌, int_lt, Result, Ok, Err, IfOk, List}
+use Rattle.std.proofs.Common.{◌≡◌, ◌⊎◌, ◌↔◌, inl, inr, ⊎_elim, ◌<◌, sym, ◌∙◌, ap, refl, arith, rules, Bool, true, false, not, ◌&&◌, ◌||◌, IsTrue}
+use Rattle.std.proofs.Math.IntN.{ℤ, pos, neg_ℤ, ◌+ℤ◌, ◌-ℤ◌, ◌*ℤ◌}
+use Rattle.std.specs.Prelude.{◌<ℤ◌, ◌≤ℤ◌, int_lt, Result, Ok, Err, IfOk}
 use Rattle.std.proofs.Common.{Ordering}
-use Rattle.std.specs.Ordering.{int_cmp, int_eq, is_eq}
+use Rattle.std.specs.Ordering.{int_cmp, is_eq}
 use Rattle.std.specs.declared.cmp.Ordering.TheVariants.{Less, Equal, Greater}
 use Rattle.std.proofs.lemmas.Int.{ints}
 use Rattle.std.proofs.lemmas.Bool.{false≢true}
-use Rattle.exact_numbers.specs.Frac.{Frac, IsProper, SameValue, true_sum, negated, sum_step}
-use Rattle.exact_numbers.proofs.Ring.{ring, mul_comm}
+use Rattle.exact_numbers.specs.Frac.{Frac, IsProper, true_sum, negated, sum_step}
+use Rattle.exact_numbers.proofs.Ring.{ring}
 use Rattle.exact_numbers.proofs.Order.{mul_positive, by_compare, compare_mul, compare_sub}
-use Rattle.formula_meaning.specs.Context.{Context, Fields}
+use Rattle.formula_meaning.specs.Context.{Fields}
 use Rattle.formula_meaning.specs.Formula.{Formula, Formulas, Yes, No, One, Not, And, Or, Impl, Repl, Equiv, Ex, All}
 use Rattle.formula_meaning.specs.Formula as plain
 use Rattle.formula_meaning.specs.Point.{move}
@@ -19,7 +19,7 @@ use Rattle.formula_meaning.specs.Atom.{Relates}
 use Rattle.qe_syntax.specs.declared.tree.Relation.{Relation}
 use Rattle.qe_syntax.specs.declared.tree.Relation.TheVariants as rel
 use Rattle.qe_syntax.specs.declared.value.EvalError.{EvalError}
-use Rattle.qe_syntax.specs.Trees.{TermTree, WrittenAtom, Compare, Cong, Ncong, Bound, FormulaTree, FormulaTrees}
+use Rattle.qe_syntax.specs.Trees.{TermTree, Compare, Cong, Ncong, Bound, FormulaTree, FormulaTrees}
 use Rattle.qe_syntax.specs.Simple.{IsSimpleTerm, IsSimple, AreSimple}
 use Rattle.qe_syntax.specs.Point.{Numbers, point_of}
 use Rattle.qe_syntax.specs.Value.{NamedPoint, value, Says, TrueAt, NothingNamed, RelatesFractions, relation_of, same_name}
@@ -68,6 +68,7 @@ test_is r n =
     less rel.AtMost h e = ap not (not_lt_test (pos 0) n (omega (arith, ints)))
     less rel.Greater h e = not_lt_test (pos 0) n (omega (arith, ints))
     less rel.AtLeast h e = ap not (lt_test n (pos 0) h)
+
     same : (r : Relation) → n ≡ pos 0 → int_cmp n (pos 0) ≡ Equal → test r n ≡ holds r Equal
     same rel.Equal h e = ap is_eq e
     same rel.Differs h e = ap (λ o. not (is_eq o)) e
@@ -75,6 +76,7 @@ test_is r n =
     same rel.AtMost h e = ap not (not_lt_test (pos 0) n (omega (arith, ints)))
     same rel.Greater h e = not_lt_test (pos 0) n (omega (arith, ints))
     same rel.AtLeast h e = ap not (not_lt_test n (pos 0) (omega (arith, ints)))
+
     more : (r : Relation) → pos 0 <ℤ n → int_cmp n (pos 0) ≡ Greater → test r n ≡ holds r Greater
     more rel.Equal h e = ap is_eq e
     more rel.Differs h e = ap (λ o. not (is_eq o)) e
@@ -104,6 +106,7 @@ relates_is r x y =
     less rel.AtMost h e = yes _ e (omega (arith, ints))
     less rel.Greater h e = no _ e (λ (f : y <ℤ x). omega (arith, ints))
     less rel.AtLeast h e = no _ e (λ (f : y ≤ℤ x). omega (arith, ints))
+
     same : (r : Relation) → x ≡ y → holds r (int_cmp x y) ≡ holds r Equal → IsTrue (holds r (int_cmp x y)) ↔ Relates (relation_of r) x y
     same rel.Equal h e = yes _ e h
     same rel.Differs h e = no _ e (λ f. f h)
@@ -111,6 +114,7 @@ relates_is r x y =
     same rel.AtMost h e = yes _ e (omega (arith, ints))
     same rel.Greater h e = no _ e (λ (f : y <ℤ x). omega (arith, ints))
     same rel.AtLeast h e = yes _ e (omega (arith, ints))
+
     more : (r : Relation) → y <ℤ x → holds r (int_cmp x y) ≡ holds r Greater → IsTrue (holds r (int_cmp x y)) ↔ Relates (relation_of r) x y
     more rel.Equal h e = no _ e (λ (f : x ≡ y). omega (arith, ints))
     more rel.Differs h e = yes _ e (λ (f : x ≡ y). omega (arith, ints))
@@ -130,7 +134,7 @@ sign_is d v w s pv pw =
     let e = crossed_difference n m v.numerator v.denominator w.numerator w.denominator s.same in
     let zero : k *ℤ pos 0 ≡ m *ℤ pos 0 = omega (arith, ints) in
     sym (compare_mul k n (pos 0) (mul_positive pv pw)) ∙ ap (λ z. int_cmp z (k *ℤ pos 0)) e ∙ ap (int_cmp (m *ℤ (x -ℤ y))) zero
-      ∙ compare_mul m (x -ℤ y) (pos 0) s.proper ∙ compare_sub x y
+    ∙ compare_mul m (x -ℤ y) (pos 0) s.proper ∙ compare_sub x y
 
 -- what is calculated for a difference
 difference_stands : (s t : TermTree) (p : NamedPoint) (d : Frac) → 0 < p.below → IsSimpleTerm s → IsSimpleTerm t → difference s t p ≡ Ok d
@@ -139,7 +143,7 @@ difference_stands s t p d h a b e =
     let l = bind_ok (calculated s p) (λ v. calculated t p >>= λ w. stepped (sum_step v (negated w))) d e in
     let r = bind_ok (calculated t p) (λ w. stepped (sum_step l.0 (negated w))) d l.2 in
     stands_sum l.0 (negated r.0) d (value s p) (negated (value t p)) (calculated_stands s p l.0 h a l.1) (stands_negated r.0 (value t p) (calculated_stands t p r.0 h b r.1))
-        (stepped_ok _ _ r.2)
+    (stepped_ok _ _ r.2)
 
 compare_decides : (r : Relation) (s t : TermTree) (p : NamedPoint) (d : Frac) → 0 < p.below → IsSimpleTerm s → IsSimpleTerm t → difference s t p ≡ Ok d
     → IsTrue (test r d.numerator) ↔ RelatesFractions r (value s p) (value t p)
@@ -194,9 +198,10 @@ mutual
   all_decide (plain.also f fs) p sofar b h s e =
       let a = bind_ok (calculated_truth f p) (λ a. calculated_all (sofar && a) fs p) b e in
       let here = calculated_decides f p a.0 h s.0 a.1 in
-      let rest = all_decide fs p (sofar && a.0) b h s.1 a.2 in
-      (λ t. let r = rest.0 t in let q = (and_true sofar a.0).0 r.0 in (q.0, (here.0 q.1, r.1)),
-       λ q. rest.1 ((and_true sofar a.0).1 (q.0, here.1 q.1.0), q.1.1))
+      let rest = all_decide fs p (sofar && a.0) b h s.1 a.2 in (
+        λ t. let r = rest.0 t in let q = (and_true sofar a.0).0 r.0 in (q.0, (here.0 q.1, r.1)),
+        λ q. rest.1 ((and_true sofar a.0).1 (q.0, here.1 q.1.0), q.1.1),
+      )
 
   some_decide : (fs : FormulaTrees) (p : NamedPoint) (sofar b : Bool) → 0 < p.below → AreSimple fs → calculated_some sofar fs p ≡ Ok b
       → IsTrue b ↔ (IsTrue sofar ⊎ SomeTrue (Says NothingNamed) (move same_name) Fields fs p)
@@ -204,9 +209,10 @@ mutual
   some_decide (plain.also f fs) p sofar b h s e =
       let a = bind_ok (calculated_truth f p) (λ a. calculated_some (sofar || a) fs p) b e in
       let here = calculated_decides f p a.0 h s.0 a.1 in
-      let rest = some_decide fs p (sofar || a.0) b h s.1 a.2 in
-      (λ t. ⊎_elim (λ r. ⊎_elim (λ x. inl x) (λ y. inr (inl (here.0 y))) ((or_true sofar a.0).0 r)) (λ q. inr (inr q)) (rest.0 t),
-       λ q. rest.1 (⊎_elim (λ x. inl ((or_true sofar a.0).1 (inl x))) (λ r. ⊎_elim (λ x. inl ((or_true sofar a.0).1 (inr (here.1 x)))) (λ y. inr y) r) q))
+      let rest = some_decide fs p (sofar || a.0) b h s.1 a.2 in (
+        λ t. ⊎_elim (λ r. ⊎_elim (λ x. inl x) (λ y. inr (inl (here.0 y))) ((or_true sofar a.0).0 r)) (λ q. inr (inr q)) (rest.0 t),
+        λ q. rest.1 (⊎_elim (λ x. inl ((or_true sofar a.0).1 (inl x))) (λ r. ⊎_elim (λ x. inl ((or_true sofar a.0).1 (inr (here.1 x)))) (λ y. inr y) r) q),
+      )
 
 -- what the code gives for a formula decides its truth
 pub decides_truth : (f : FormulaTree) (q : Numbers) (r : Result Bool EvalError) → pos 0 <ℤ q.denominator → IsSimple f → Decides r (calculated_truth f (point_of q))

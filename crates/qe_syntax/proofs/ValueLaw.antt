@@ -1,21 +1,19 @@
 -- What is calculated for a term has the value of the term.
-use Rattle.std.proofs.Common.{◌≡◌, ℕ, ◌<◌, sym, ◌∙◌, ap, subst, refl, arith, Option, Some, None, MatchOption}
+use Rattle.std.proofs.Common.{◌≡◌, ◌<◌, ap, subst, refl, arith, Option, Some, None, MatchOption}
 use Rattle.std.proofs.Math.IntN.{ℤ, pos, neg_ℤ, ◌+ℤ◌, ◌*ℤ◌}
-use Rattle.std.specs.Prelude.{◌<ℤ◌, Result, Ok, Err, List}
+use Rattle.std.specs.Prelude.{◌<ℤ◌, Result, Ok, Err}
 use Rattle.std.proofs.lemmas.Int.{ints}
 use Rattle.std.specs.Prelude.{unsigned_abs, IfOk}
 use Rattle.exact_numbers.specs.declared.fraction.Fraction.{Fraction}
 use Rattle.exact_numbers.specs.Fraction.{frac_of}
 use Rattle.qe_syntax.specs.Point.{Numbers, point_of}
 use Rattle.qe_syntax.specs.Evaluates.{Evaluates}
-use Rattle.exact_numbers.specs.Frac.{Frac, IsProper, SameValue, IsLowest, whole_frac, true_sum, true_product, negated, lowest, sum_step, product_step, SumPasses, IsExactSum, ProductPasses, IsExactProduct}
+use Rattle.exact_numbers.specs.Frac.{Frac, IsProper, SameValue, IsLowest, whole_frac, true_sum, true_product, negated, sum_step, product_step, IsExactSum, IsExactProduct}
 use Rattle.exact_numbers.proofs.Ring.{ring}
 use Rattle.exact_numbers.proofs.Order.{mul_positive}
 use Rattle.exact_numbers.proofs.FractionRule.{lowest_value, lowest_is, lowest_proper, whole_lowest, same_value_trans, sum_step_gives, product_step_gives, gcd_neg}
-use Rattle.formula_meaning.specs.Point.{Point}
 use Rattle.qe_syntax.specs.declared.tree.Literal.TheVariants.{Fits, Past}
 use Rattle.qe_syntax.specs.declared.value.EvalError.{EvalError}
-use Rattle.qe_syntax.specs.declared.value.EvalError.TheVariants.{Overflow}
 use Rattle.qe_syntax.specs.Trees.{TermTree, TermTrees, Number, Named, Sum, Product, Quotient, Power, Negative, none, also}
 use Rattle.qe_syntax.specs.Simple.{IsSimpleTerm, AreSimpleTerms}
 use Rattle.qe_syntax.specs.Value.{NamedPoint, value, value_of_sum, value_of_product}
@@ -150,7 +148,7 @@ stands_sum p q r v w a b e =
       proper = x.proper;
       meant = mul_positive a.meant b.meant;
       same = same_value_trans r (true_sum p q) (true_sum v w) (mul_positive a.proper b.proper) x.value (sum_same p q v w a.same b.same);
-      in_lowest = x.lowest_terms
+      in_lowest = x.lowest_terms;
     }
 
 stands_product : (p q r v w : Frac) → Stands p v → Stands q w → product_step p q ≡ Some r → Stands r (true_product v w)
@@ -160,7 +158,7 @@ stands_product p q r v w a b e =
       proper = x.proper;
       meant = mul_positive a.meant b.meant;
       same = same_value_trans r (true_product p q) (true_product v w) (mul_positive a.proper b.proper) x.value (product_same p q v w a.same b.same);
-      in_lowest = x.lowest_terms
+      in_lowest = x.lowest_terms;
     }
 
 pub stands_negated : (p v : Frac) → Stands p v → Stands (negated p) (negated v)
@@ -178,11 +176,11 @@ mutual
   calculated_stands (Sum ts) p v h s e =
       let w = value_of_sum ts p in
       stands_as v (true_sum (whole_frac (pos 0)) w) w (added_stands ts p (whole_frac (pos 0)) (whole_frac (pos 0)) v h s (stands_whole (pos 0)) e) (sums_proper ts p h s)
-          (zero_before w.numerator w.denominator)
+      (zero_before w.numerator w.denominator)
   calculated_stands (Product ts) p v h s e =
       let w = value_of_product ts p in
       stands_as v (true_product (whole_frac (pos 1)) w) w (multiplied_stands ts p (whole_frac (pos 1)) (whole_frac (pos 1)) v h s (stands_whole (pos 1)) e) (products_proper ts p h s)
-          (one_before w.numerator w.denominator)
+      (one_before w.numerator w.denominator)
   calculated_stands (Quotient t u) p v h s e = absurd s
   calculated_stands (Power t n) p v h s e = absurd s
   calculated_stands (Negative t) p v h s e =
@@ -200,7 +198,7 @@ mutual
       let next = stands_sum total b.0 d.0 w (value t p) r here (stepped_ok _ _ d.1) in
       let rest = added_stands ts p d.0 (true_sum w (value t p)) v h s.1 next d.2 in
       stands_as v (true_sum (true_sum w (value t p)) (value_of_sum ts p)) (true_sum w (true_sum (value t p) (value_of_sum ts p))) rest
-          (mul_positive r.meant (mul_positive here.meant (sums_proper ts p h s.1))) (sum_assoc w (value t p) (value_of_sum ts p))
+      (mul_positive r.meant (mul_positive here.meant (sums_proper ts p h s.1))) (sum_assoc w (value t p) (value_of_sum ts p))
 
   multiplied_stands : (ts : TermTrees) (p : NamedPoint) (total w v : Frac) → 0 < p.below → AreSimpleTerms ts → Stands total w → multiplied total ts p ≡ Ok v → Stands v (true_product w (value_of_product ts p))
   multiplied_stands none p total w v h s r e =
@@ -213,7 +211,7 @@ mutual
       let next = stands_product total b.0 d.0 w (value t p) r here (stepped_ok _ _ d.1) in
       let rest = multiplied_stands ts p d.0 (true_product w (value t p)) v h s.1 next d.2 in
       stands_as v (true_product (true_product w (value t p)) (value_of_product ts p)) (true_product w (true_product (value t p) (value_of_product ts p))) rest
-          (mul_positive r.meant (mul_positive here.meant (products_proper ts p h s.1))) (product_assoc w (value t p) (value_of_product ts p))
+      (mul_positive r.meant (mul_positive here.meant (products_proper ts p h s.1))) (product_assoc w (value t p) (value_of_product ts p))
 
 pub below_positive : (d : ℤ) → pos 0 <ℤ d → 0 < unsigned_abs d
 below_positive d h = omega (arith, ints)

@@ -8,3 +8,4 @@ pub mod Value
 pub mod Rule
 pub mod Simple
 pub mod Evaluates
+pub mod Valued

@@ -7,11 +7,13 @@ mod statement;
 mod tree;
 mod truth;
 mod value;
+mod valued;
 
+pub use exact_numbers::Fraction;
 pub use name::Name;
 pub use point::{Point, PointFault};
 pub use statement::{Action, Command, Entries, PointEntry, Setting, Statement};
 pub use tree::{Formula, Formulas, Literal, Relation, Term, Terms, negation, negative};
 pub use truth::truth_at;
 pub use value::{EvalError, value_at};
-pub use exact_numbers::Fraction;
+pub use valued::first_unvalued;
