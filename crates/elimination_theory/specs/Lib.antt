@@ -1,0 +1,6 @@
+pub mod Lists
+pub mod Atoms
+pub mod Side
+pub mod FieldsPoints
+pub mod FieldsSubstitution
+pub mod FieldsTheorems
