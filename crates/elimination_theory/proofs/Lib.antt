@@ -1,0 +1,5 @@
+pub mod Fractions
+pub mod LowestTerms
+pub mod FieldsLine
+pub mod Listed
+pub mod FieldsCut
