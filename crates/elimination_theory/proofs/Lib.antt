@@ -3,3 +3,4 @@ pub mod LowestTerms
 pub mod FieldsLine
 pub mod Listed
 pub mod FieldsCut
+pub mod FieldsBegin
