@@ -4,3 +4,4 @@ pub mod FieldsLine
 pub mod Listed
 pub mod FieldsCut
 pub mod FieldsBegin
+pub mod FieldsMeet
