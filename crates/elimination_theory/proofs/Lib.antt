@@ -5,3 +5,4 @@ pub mod Listed
 pub mod FieldsCut
 pub mod FieldsBegin
 pub mod FieldsMeet
+pub mod FieldsSuffice
