@@ -6,3 +6,4 @@ pub mod FieldsCut
 pub mod FieldsBegin
 pub mod FieldsMeet
 pub mod FieldsSuffice
+pub mod FieldsNear
