@@ -73,7 +73,7 @@ IsJustAbove v z = ((v <ℤ pos 0) × (z <ℤ pos 0)) ⊎ ((pos 0 ≤ℤ v) × (p
 abbrev pub IsJustBelow : ℤ → ℤ → Type 0
 IsJustBelow v z = ((v ≤ℤ pos 0) × (z <ℤ pos 0)) ⊎ ((pos 0 <ℤ v) × (pos 0 <ℤ z))
 
-above_table : (r : Relation) (v : Form) (p : Point ℕ) (z : ℤ) → IsJustAbove (value v p) z → Relates r z (pos 0) ↔ TrueAt Fields (just_above r v) p
+pub above_table : (r : Relation) (v : Form) (p : Point ℕ) (z : ℤ) → IsJustAbove (value v p) z → Relates r z (pos 0) ↔ TrueAt Fields (just_above r v) p
 above_table Equals v p z h = (λ (e : z ≡ pos 0). absurd (omega (arith, ints)), λ e. absurd e)
 above_table Differs v p z h = (λ e. tt, λ u (e : z ≡ pos 0). absurd (omega (arith, ints)))
 above_table Below v p z h = (λ (e : z <ℤ pos 0). omega (arith, ints), λ (e : value v p <ℤ pos 0). omega (arith, ints))
@@ -81,7 +81,7 @@ above_table AtMost v p z h = (λ (e : z ≤ℤ pos 0). omega (arith, ints), λ (
 above_table Above v p z h = (λ (e : pos 0 <ℤ z). omega (arith, ints), λ (e : pos 0 ≤ℤ value v p). omega (arith, ints))
 above_table AtLeast v p z h = (λ (e : pos 0 ≤ℤ z). omega (arith, ints), λ (e : pos 0 ≤ℤ value v p). omega (arith, ints))
 
-below_table : (r : Relation) (v : Form) (p : Point ℕ) (z : ℤ) → IsJustBelow (value v p) z → Relates r z (pos 0) ↔ TrueAt Fields (just_below r v) p
+pub below_table : (r : Relation) (v : Form) (p : Point ℕ) (z : ℤ) → IsJustBelow (value v p) z → Relates r z (pos 0) ↔ TrueAt Fields (just_below r v) p
 below_table Equals v p z h = (λ (e : z ≡ pos 0). absurd (omega (arith, ints)), λ e. absurd e)
 below_table Differs v p z h = (λ e. tt, λ u (e : z ≡ pos 0). absurd (omega (arith, ints)))
 below_table Below v p z h = (λ (e : z <ℤ pos 0). omega (arith, ints), λ (e : value v p ≤ℤ pos 0). omega (arith, ints))
@@ -89,7 +89,7 @@ below_table AtMost v p z h = (λ (e : z ≤ℤ pos 0). omega (arith, ints), λ (
 below_table Above v p z h = (λ (e : pos 0 <ℤ z). omega (arith, ints), λ (e : pos 0 <ℤ value v p). omega (arith, ints))
 below_table AtLeast v p z h = (λ (e : pos 0 ≤ℤ z). omega (arith, ints), λ (e : pos 0 <ℤ value v p). omega (arith, ints))
 
-low_table : (r : Relation) (p : Point ℕ) (z : ℤ) → z <ℤ pos 0 → Relates r z (pos 0) ↔ TrueAt Fields (below_all r) p
+pub low_table : (r : Relation) (p : Point ℕ) (z : ℤ) → z <ℤ pos 0 → Relates r z (pos 0) ↔ TrueAt Fields (below_all r) p
 low_table Equals p z h = (λ (e : z ≡ pos 0). absurd (omega (arith, ints)), λ e. absurd e)
 low_table Differs p z h = (λ e. tt, λ u (e : z ≡ pos 0). absurd (omega (arith, ints)))
 low_table Below p z h = (λ e. tt, λ e. h)
@@ -97,7 +97,7 @@ low_table AtMost p z h = (λ e. tt, λ e. omega (arith, ints))
 low_table Above p z h = (λ (e : pos 0 <ℤ z). absurd (omega (arith, ints)), λ e. absurd e)
 low_table AtLeast p z h = (λ (e : pos 0 ≤ℤ z). absurd (omega (arith, ints)), λ e. absurd e)
 
-high_table : (r : Relation) (p : Point ℕ) (z : ℤ) → pos 0 <ℤ z → Relates r z (pos 0) ↔ TrueAt Fields (below_all (mirrored r)) p
+pub high_table : (r : Relation) (p : Point ℕ) (z : ℤ) → pos 0 <ℤ z → Relates r z (pos 0) ↔ TrueAt Fields (below_all (mirrored r)) p
 high_table Equals p z h = (λ (e : z ≡ pos 0). absurd (omega (arith, ints)), λ e. absurd e)
 high_table Differs p z h = (λ e. tt, λ u (e : z ≡ pos 0). absurd (omega (arith, ints)))
 high_table Below p z h = (λ (e : z <ℤ pos 0). absurd (omega (arith, ints)), λ e. absurd e)
@@ -120,7 +120,7 @@ regroup t n b d =
     ap (λ z. pos t *ℤ z) e ∙ mul_left_comm (pos t) (pos (suc n)) (pos (b * d)) ∙ ap (λ z. pos (suc n) *ℤ z) (sym f)
 
 -- a number that grows from v with slope a, a little above
-near_above : (n b d : ℕ) → 0 < b → 0 < d → (v : ℤ) → Small (λ t s. IsJustAbove v (pos s *ℤ v +ℤ pos (suc n) *ℤ pos (t * (b * d))))
+pub near_above : (n b d : ℕ) → 0 < b → 0 < d → (v : ℤ) → Small (λ t s. IsJustAbove v (pos s *ℤ v +ℤ pos (suc n) *ℤ pos (t * (b * d))))
 near_above n b d pb pd v =
     by_less v (pos 0)
     (λ (l : v <ℤ pos 0). go (magnitude (neg_ℤ v) (omega (arith, ints))) l)
@@ -140,6 +140,22 @@ negated_sum s v c n =
     let b = neg_mul (pos (suc n)) c in
     omega (arith, ints)
 
-near_below : (n b d : ℕ) → 0 < b → 0 < d → (v : ℤ) → Small (λ t s. IsJustBelow v (pos s *ℤ v +ℤ negsuc n *ℤ pos (t * (b * d))))
+pub near_below : (n b d : ℕ) → 0 < b → 0 < d → (v : ℤ) → Small (λ t s. IsJustBelow v (pos s *ℤ v +ℤ negsuc n *ℤ pos (t * (b * d))))
 near_below n b d pb pd v =
     small_map _ _ (λ t s h i. turn_above v (pos s *ℤ v +ℤ negsuc n *ℤ pos (t * (b * d))) _ (negated_sum (pos s) v (pos (t * (b * d))) n) i) (near_above n b d pb pd (neg_ℤ v))
+
+-- ---- signs far out
+
+far_low : (u s c tb w b t : ℤ) → tb ≡ t *ℤ b → w ≡ c *ℤ b → (u *ℤ s) <ℤ (t *ℤ w) → (u *ℤ s -ℤ c *ℤ tb) <ℤ pos 0
+far_low u s c tb w b t e f h = let g = ap (λ z. t *ℤ z) f ∙ mul_left_comm t c b ∙ ap (λ z. c *ℤ z) (sym e) in omega (arith, ints)
+
+pub low_far : (n b : ℕ) → 0 < b → (u : ℤ) → Large (λ t s. (u *ℤ pos s -ℤ pos (suc n) *ℤ (t *ℤ pos b)) <ℤ pos 0)
+low_far n b pb u = (u, suc n * b, mul-pos (omega arith) pb, λ t s h i. far_low u (pos s) (pos (suc n)) (t *ℤ pos b) (pos (suc n * b)) (pos b) t refl (pos_mul (suc n) b) i)
+
+pub high_far : (n b : ℕ) → 0 < b → (u : ℤ) → Large (λ t s. pos 0 <ℤ (u *ℤ pos s -ℤ negsuc n *ℤ (t *ℤ pos b)))
+high_far n b pb u =
+    large_map _ _
+    (λ t s h (i : (neg_ℤ u *ℤ pos s -ℤ pos (suc n) *ℤ (t *ℤ pos b)) <ℤ pos 0).
+     let e = neg_mul u (pos s) in let f = neg_mul (pos (suc n)) (t *ℤ pos b) in
+     omega (arith, ints))
+    (low_far n b pb (neg_ℤ u))

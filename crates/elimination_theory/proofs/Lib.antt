@@ -7,3 +7,4 @@ pub mod FieldsBegin
 pub mod FieldsMeet
 pub mod FieldsSuffice
 pub mod FieldsNear
+pub mod FieldsSubstitute
