@@ -8,3 +8,4 @@ pub mod FieldsMeet
 pub mod FieldsSuffice
 pub mod FieldsNear
 pub mod FieldsSubstitute
+pub mod FieldsAnswers
