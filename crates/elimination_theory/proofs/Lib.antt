@@ -9,3 +9,5 @@ pub mod FieldsSuffice
 pub mod FieldsNear
 pub mod FieldsSubstitute
 pub mod FieldsAnswers
+pub mod AtomsDecided
+pub mod Decided

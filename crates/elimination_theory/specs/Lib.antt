@@ -4,3 +4,5 @@ pub mod Side
 pub mod FieldsPoints
 pub mod FieldsSubstitution
 pub mod FieldsTheorems
+pub mod Elimination
+pub mod Decided
