@@ -11,5 +11,5 @@ pub mod FieldsSubstitute
 pub mod FieldsAnswers
 pub mod AtomsDecided
 pub mod Decided
-pub mod FieldsEliminated
 pub mod NegationNormal
+pub mod FieldsEliminated
