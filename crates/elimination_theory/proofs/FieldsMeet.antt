@@ -1,9 +1,9 @@
 -- From an interval that begins at a place to what holds at that place, and from what holds at a place to a value of the name.
-use Rattle.std.proofs.Common.{◌≡◌, ℕ, suc, zero, ◌+◌, ◌*◌, ◌<◌, ap, ap₂, sym, ◌∙◌, subst, refl, arith, unsigned_abs, ◌⊎◌, inl, inr, ◌↔◌, nat_eq, mul-pos}
+use Rattle.std.proofs.Common.{◌≡◌, ℕ, suc, ◌*◌, ◌<◌, ap, sym, ◌∙◌, subst, refl, arith, nat_eq, mul-pos}
 use Rattle.std.proofs.Math.IntN.{ℤ, pos, negsuc, ◌+ℤ◌, ◌-ℤ◌, ◌*ℤ◌, neg_ℤ}
 use Rattle.std.specs.Prelude.{◌<ℤ◌, ◌≤ℤ◌}
 use Rattle.std.proofs.lemmas.Int.{ints}
-use Rattle.exact_numbers.proofs.Ring.{ring, mul_comm, mul_assoc, mul_left_comm, add_mul, sub_mul, mul_sub, neg_mul}
+use Rattle.exact_numbers.proofs.Ring.{mul_comm, mul_assoc, add_mul, sub_mul, neg_mul}
 use Rattle.exact_numbers.proofs.Order.{mul_positive}
 use Rattle.formula_meaning.specs.Context.{Fields}
 use Rattle.formula_meaning.specs.Point.{Point, move}
@@ -80,35 +80,53 @@ scaled_less t w u s h = let e = pos_mul u s in omega (arith, ints)
 
 module _ (x : ℕ) (p : Point ℕ) (pb : 0 < p.below) (R : Point ℕ → Type 0) (k : ℤ) (m : ℕ) (pm : pos 0 <ℤ pos m) where
   meets_above : (e : Form) (d : ℕ) → pos 0 <ℤ pos d → (value e p *ℤ pos m) <ℤ (k *ℤ pos d) →
-                ((j : ℤ) (n : ℕ) → pos 0 <ℤ pos n → (value e p *ℤ pos n) <ℤ (j *ℤ pos d) → (j *ℤ pos m) ≤ℤ (k *ℤ pos n) → R (move nat_eq p x j n)) → Meets Fields (AboveBy e d) x R p
+      ((j : ℤ) (n : ℕ) → pos 0 <ℤ pos n → (value e p *ℤ pos n) <ℤ (j *ℤ pos d) → (j *ℤ pos m) ≤ℤ (k *ℤ pos n) → R (move nat_eq p x j n)) → Meets Fields (AboveBy e d) x R p
   meets_above e d pd c f = go (magnitude (k *ℤ pos d -ℤ value e p *ℤ pos m) (omega (arith, ints)))
     where
       go : (u : ℕ) × (pos u ≡ k *ℤ pos d -ℤ value e p *ℤ pos m) × 0 < u → Meets Fields (AboveBy e d) x R p
-      go g = (g.0, d * m * p.below, g.2, mul-pos (mul-pos (positive_pos pd) (positive_pos pm)) pb,
-              λ t s h i l. f (value e p *ℤ pos s +ℤ pos (t * (p.below * d))) (d * s) (pos_positive (mul-pos (positive_pos pd) i))
-              (subst (λ z. (value e p *ℤ z) <ℤ ((value e p *ℤ pos s +ℤ pos (t * (p.below * d))) *ℤ pos d)) (sym (pos_mul d s)) (above_covers (value e p) (pos d) (pos s) (pos (t * (p.below * d))) pd (pos_positive (mul-pos h (mul-pos pb (positive_pos pd))))))
-              (subst (λ z. ((value e p *ℤ pos s +ℤ pos (t * (p.below * d))) *ℤ pos m) ≤ℤ (k *ℤ z)) (sym (pos_mul d s)) (above_reach (value e p) (pos s) (pos (t * (p.below * d))) (pos m) k (pos d) (pos g.0) _ (step_below t p.below d m) (scaled_less t (d * m * p.below) g.0 s l) g.1)))
+      go g = (
+        g.0,
+        d * m * p.below,
+        g.2,
+        mul-pos (mul-pos (positive_pos pd) (positive_pos pm)) pb,
+        λ t s h i l. f (value e p *ℤ pos s +ℤ pos (t * (p.below * d))) (d * s) (pos_positive (mul-pos (positive_pos pd) i))
+            (subst (λ z. (value e p *ℤ z) <ℤ ((value e p *ℤ pos s +ℤ pos (t * (p.below * d))) *ℤ pos d)) (sym (pos_mul d s)) (above_covers (value e p) (pos d) (pos s) (pos (t * (p.below * d))) pd (pos_positive (mul-pos h (mul-pos pb (positive_pos pd))))))
+            (subst (λ z. ((value e p *ℤ pos s +ℤ pos (t * (p.below * d))) *ℤ pos m) ≤ℤ (k *ℤ z)) (sym (pos_mul d s)) (above_reach (value e p) (pos s) (pos (t * (p.below * d))) (pos m) k (pos d) (pos g.0) _ (step_below t p.below d m) (scaled_less t (d * m * p.below) g.0 s l) g.1)),
+      )
 
   meets_below : (e : Form) (d : ℕ) → pos 0 <ℤ pos d → (k *ℤ pos d) <ℤ (value e p *ℤ pos m) →
-                ((j : ℤ) (n : ℕ) → pos 0 <ℤ pos n → (j *ℤ pos d) <ℤ (value e p *ℤ pos n) → (k *ℤ pos n) ≤ℤ (j *ℤ pos m) → R (move nat_eq p x j n)) → Meets Fields (BelowBy e d) x R p
+      ((j : ℤ) (n : ℕ) → pos 0 <ℤ pos n → (j *ℤ pos d) <ℤ (value e p *ℤ pos n) → (k *ℤ pos n) ≤ℤ (j *ℤ pos m) → R (move nat_eq p x j n)) → Meets Fields (BelowBy e d) x R p
   meets_below e d pd c f = go (magnitude (value e p *ℤ pos m -ℤ k *ℤ pos d) (omega (arith, ints)))
     where
       go : (u : ℕ) × (pos u ≡ value e p *ℤ pos m -ℤ k *ℤ pos d) × 0 < u → Meets Fields (BelowBy e d) x R p
-      go g = (g.0, d * m * p.below, g.2, mul-pos (mul-pos (positive_pos pd) (positive_pos pm)) pb,
-              λ t s h i l. f (value e p *ℤ pos s -ℤ pos (t * (p.below * d))) (d * s) (pos_positive (mul-pos (positive_pos pd) i))
-              (subst (λ z. ((value e p *ℤ pos s -ℤ pos (t * (p.below * d))) *ℤ pos d) <ℤ (value e p *ℤ z)) (sym (pos_mul d s)) (below_covers (value e p) (pos d) (pos s) (pos (t * (p.below * d))) pd (pos_positive (mul-pos h (mul-pos pb (positive_pos pd))))))
-              (subst (λ z. (k *ℤ z) ≤ℤ ((value e p *ℤ pos s -ℤ pos (t * (p.below * d))) *ℤ pos m)) (sym (pos_mul d s)) (below_reach (value e p) (pos s) (pos (t * (p.below * d))) (pos m) k (pos d) (pos g.0) _ (step_below t p.below d m) (scaled_less t (d * m * p.below) g.0 s l) g.1)))
+      go g = (
+        g.0,
+        d * m * p.below,
+        g.2,
+        mul-pos (mul-pos (positive_pos pd) (positive_pos pm)) pb,
+        λ t s h i l. f (value e p *ℤ pos s -ℤ pos (t * (p.below * d))) (d * s) (pos_positive (mul-pos (positive_pos pd) i))
+            (subst (λ z. ((value e p *ℤ pos s -ℤ pos (t * (p.below * d))) *ℤ pos d) <ℤ (value e p *ℤ z)) (sym (pos_mul d s)) (below_covers (value e p) (pos d) (pos s) (pos (t * (p.below * d))) pd (pos_positive (mul-pos h (mul-pos pb (positive_pos pd))))))
+            (subst (λ z. (k *ℤ z) ≤ℤ ((value e p *ℤ pos s -ℤ pos (t * (p.below * d))) *ℤ pos m)) (sym (pos_mul d s)) (below_reach (value e p) (pos s) (pos (t * (p.below * d))) (pos m) k (pos d) (pos g.0) _ (step_below t p.below d m) (scaled_less t (d * m * p.below) g.0 s l) g.1)),
+      )
 
   meets_minus : ((j : ℤ) (n : ℕ) → pos 0 <ℤ pos n → (j *ℤ pos m) ≤ℤ (k *ℤ pos n) → R (move nat_eq p x j n)) → Meets Fields MinusInfinity x R p
-  meets_minus f = (neg_ℤ k, p.below * m, mul-pos pb (positive_pos pm),
-                   λ t s h l. f (neg_ℤ t *ℤ pos p.below) s (pos_positive h) (minus_reach t (pos p.below) (pos m) k (pos s) (subst (λ z. (neg_ℤ k *ℤ pos s) <ℤ (t *ℤ z)) (pos_mul p.below m) l)))
+  meets_minus f = (
+    neg_ℤ k,
+    p.below * m,
+    mul-pos pb (positive_pos pm),
+    λ t s h l. f (neg_ℤ t *ℤ pos p.below) s (pos_positive h) (minus_reach t (pos p.below) (pos m) k (pos s) (subst (λ z. (neg_ℤ k *ℤ pos s) <ℤ (t *ℤ z)) (pos_mul p.below m) l)),
+  )
 
   meets_plus : ((j : ℤ) (n : ℕ) → pos 0 <ℤ pos n → (k *ℤ pos n) ≤ℤ (j *ℤ pos m) → R (move nat_eq p x j n)) → Meets Fields PlusInfinity x R p
-  meets_plus f = (k, p.below * m, mul-pos pb (positive_pos pm),
-                  λ t s h l. f (t *ℤ pos p.below) s (pos_positive h) (plus_reach t (pos p.below) (pos m) k (pos s) (subst (λ z. (k *ℤ pos s) <ℤ (t *ℤ z)) (pos_mul p.below m) l)))
+  meets_plus f = (
+    k,
+    p.below * m,
+    mul-pos pb (positive_pos pm),
+    λ t s h l. f (t *ℤ pos p.below) s (pos_positive h) (plus_reach t (pos p.below) (pos m) k (pos s) (subst (λ z. (k *ℤ pos s) <ℤ (t *ℤ z)) (pos_mul p.below m) l)),
+  )
 
   place_meets : (side : Side) (s : Place) → IsOfSide side s → Covers side (cut_of p s) k m →
-                ((j : ℤ) (n : ℕ) → pos 0 <ℤ pos n → Covers side (cut_of p s) j n → NotAfter side (j *ℤ pos m) (k *ℤ pos n) → R (move nat_eq p x j n)) → Meets Fields s x R p
+      ((j : ℤ) (n : ℕ) → pos 0 <ℤ pos n → Covers side (cut_of p s) j n → NotAfter side (j *ℤ pos m) (k *ℤ pos n) → R (move nat_eq p x j n)) → Meets Fields s x R p
   place_meets side (Exact e d) o c f = f (value e p) d o (same_not_after side (value e p *ℤ pos d) (value e p *ℤ pos d) refl) c
   place_meets Lower (AboveBy e d) o c f = meets_above e d o c f
   place_meets Upper (AboveBy e d) o c f = absurd o
@@ -123,7 +141,6 @@ module _ (x : ℕ) (p : Point ℕ) (pb : 0 < p.below) (R : Point ℕ → Type 0)
   -- what holds up to a value holds at the place where the interval begins
   pub begins_meets : (side : Side) (L : Place → Type 0) (b : Begins side L p (λ j n. R (move nat_eq p x j n)) k m) → Meets Fields b.place x R p
   begins_meets side L b = place_meets side b.place b.of_side b.covers b.fills
-
   -- ---- back: what holds at a place holds at some value
 
 pub small_some : (Q : ℕ → ℕ → Type 0) → Small Q → (t : ℕ) × (s : ℕ) × 0 < t × 0 < s × Q t s

@@ -13,3 +13,4 @@ pub mod AtomsDecided
 pub mod Decided
 pub mod NegationNormal
 pub mod FieldsEliminated
+pub mod FieldsExample

@@ -1,13 +1,13 @@
 -- A form over a denominator, divided by the greatest common divisor of all its numbers: the same fraction.
-use Rattle.std.proofs.Common.{◌≡◌, ℕ, suc, zero, ◌<◌, ◌/◌, List, [], ◌∷◌, map, ap, ap₂, sym, ◌∙◌, subst, refl, arith, unsigned_abs, int_div}
+use Rattle.std.proofs.Common.{◌≡◌, ℕ, ◌<◌, ◌/◌, List, [], ◌∷◌, map, ap, ap₂, sym, ◌∙◌, subst, refl, arith, unsigned_abs, int_div}
 use Rattle.std.proofs.Math.IntN.{ℤ, pos, negsuc, ◌+ℤ◌, ◌*ℤ◌}
 use Rattle.std.specs.Prelude.{◌<ℤ◌, ◌≤ℤ◌}
 use Rattle.std.proofs.lemmas.Int.{ints}
 use Rattle.exact_numbers.specs.Divides.{Divides, DividesAll, content_of}
 use Rattle.exact_numbers.proofs.Ring.{mul_zero, zero_mul, mul_add, mul_assoc}
 use Rattle.exact_numbers.proofs.Order.{factor_positive}
-use Rattle.exact_numbers.proofs.Lcm.{exact_div}
-use Rattle.exact_numbers.proofs.Content.{content_is}
+use Rattle.exact_numbers.proofs.LeastMultiple.{exact_div}
+use Rattle.exact_numbers.proofs.Contents.{content_is}
 use Rattle.formula_meaning.specs.Point.{Point}
 use Rattle.formula_meaning.specs.Form.{Form, Term, total, value}
 use Rattle.elimination_theory.specs.FieldsPoints.{numbers_of, divisor_of, terms_over, form_over}
@@ -59,4 +59,3 @@ lowest e d h =
       below_times = b;
       value_times = λ p. value_over (divisor_of e d) e p n v.1.0 v.1.1;
     }
-

@@ -6,3 +6,4 @@ pub mod FieldsSubstitution
 pub mod FieldsTheorems
 pub mod Elimination
 pub mod Decided
+pub mod FieldsExample
