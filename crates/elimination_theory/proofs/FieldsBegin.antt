@@ -41,7 +41,7 @@ IsOfSide Lower MinusInfinity = Unit {0}
 IsOfSide Upper MinusInfinity = ⊥
 IsOfSide side (Periodic a q) = ⊥
 
-proper : (side : Side) (p : Point ℕ) (s : Place) → IsOfSide side s → IsProper (cut_of p s)
+pub proper : (side : Side) (p : Point ℕ) (s : Place) → IsOfSide side s → IsProper (cut_of p s)
 proper side p (Exact e d) h = h
 proper Lower p (AboveBy e d) h = h
 proper Upper p (AboveBy e d) h = absurd h

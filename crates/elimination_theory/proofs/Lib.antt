@@ -14,3 +14,4 @@ pub mod Decided
 pub mod NegationNormal
 pub mod FieldsEliminated
 pub mod FieldsExample
+pub mod FieldsSample

@@ -7,3 +7,4 @@ pub mod FieldsTheorems
 pub mod Elimination
 pub mod Decided
 pub mod FieldsExample
+pub mod FieldsSamples
