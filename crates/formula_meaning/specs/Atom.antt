@@ -6,7 +6,7 @@ use Rattle.formula_meaning.specs.Form.{Form, value}
 use Rattle.formula_meaning.specs.Some.{SomeOf}
 
 pub data Relation : Type 0 where
-  Equal Unequal Less AtMost Greater AtLeast : Relation
+  Equals Differs Below AtMost Above AtLeast : Relation
 
 pub data Atom : Type 0 where
   -- form relation 0
@@ -18,11 +18,11 @@ pub data Atom : Type 0 where
 
 -- the first number has the relation to the second
 abbrev pub Relates : Relation → ℤ → ℤ → Type 0
-Relates Equal a b = a ≡ b
-Relates Unequal a b = ¬ (a ≡ b)
-Relates Less a b = a <ℤ b
+Relates Equals a b = a ≡ b
+Relates Differs a b = ¬ (a ≡ b)
+Relates Below a b = a <ℤ b
 Relates AtMost a b = a ≤ℤ b
-Relates Greater a b = b <ℤ a
+Relates Above a b = b <ℤ a
 Relates AtLeast a b = b ≤ℤ a
 
 -- some whole number times n is the value of the form at the point
@@ -37,12 +37,12 @@ Says (Incongruent n f) p = ¬ (Divides n f p)
 
 -- the atom of the opposite truth
 abbrev pub opposite_relation : Relation → Relation
-opposite_relation Equal = Unequal
-opposite_relation Unequal = Equal
-opposite_relation Less = AtLeast
-opposite_relation AtMost = Greater
-opposite_relation Greater = AtMost
-opposite_relation AtLeast = Less
+opposite_relation Equals = Differs
+opposite_relation Differs = Equals
+opposite_relation Below = AtLeast
+opposite_relation AtMost = Above
+opposite_relation Above = AtMost
+opposite_relation AtLeast = Below
 
 abbrev pub opposite : Atom → Atom
 opposite (Compare r f) = Compare (opposite_relation r) f

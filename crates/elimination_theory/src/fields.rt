@@ -1,0 +1,4 @@
+//! Ordered fields: test points with infinitesimals and infinities.
+
+/// Nothing yet.
+pub fn nothing() {}

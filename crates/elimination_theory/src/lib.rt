@@ -1,0 +1,4 @@
+//! Test points suffice: the theorems of quantifier elimination, each the contract of a function that does nothing.
+#![tactic(auto)]
+
+pub mod fields;
