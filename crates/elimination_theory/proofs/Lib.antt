@@ -1,0 +1,3 @@
+pub mod MoreArithmetic
+pub mod IntegerEval
+pub mod IntegerDescent
