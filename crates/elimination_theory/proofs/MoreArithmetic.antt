@@ -15,7 +15,7 @@ at_most_abs : (k : ℤ) → k ≤ℤ pos (unsigned_abs k)
 at_most_abs (pos n) = omega (arith, ints)
 at_most_abs (negsuc n) = omega (arith, ints)
 
-at_least-neg_abs : (k : ℤ) → neg_ℤ (pos (unsigned_abs k)) ≤ℤ k
+pub at_least-neg_abs : (k : ℤ) → neg_ℤ (pos (unsigned_abs k)) ≤ℤ k
 at_least-neg_abs (pos n) = omega (arith, ints)
 at_least-neg_abs (negsuc n) = omega (arith, ints)
 

@@ -1,0 +1,3 @@
+pub mod IntegersRelation
+pub mod IntegersSubstitution
+pub mod IntegersPoints
