@@ -1,3 +1,10 @@
 pub mod Ring
 pub mod Order
 pub mod Divisibility
+pub mod Floor
+pub mod Gcd
+pub mod Lcm
+pub mod Congruence
+pub mod Content
+pub mod Limits
+pub mod Casts

@@ -1,5 +1,6 @@
 -- Divisibility of whole numbers, greatest common divisors and least common multiples, floors and residues.
-use Rattle.std.specs.Prelude.{◌≡◌, ℕ, zero, suc, ◌%◌, ℤ, pos, ◌+ℤ◌, ◌-ℤ◌, ◌*ℤ◌, ◌≤ℤ◌, ◌<ℤ◌, unsigned_abs, int_div}
+use Rattle.std.specs.Prelude.{List, [], ◌∷◌, ◌≡◌, ℕ, zero, suc, ◌%◌, ℤ, pos, ◌+ℤ◌, ◌-ℤ◌, ◌*ℤ◌, ◌≤ℤ◌, ◌<ℤ◌, unsigned_abs, int_div}
+use Rattle.std.specs.Int.{int_div_euclid, int_rem_euclid}
 
 -- n is a multiple of d
 pub record Divides (d n : ℤ) : Type 0 where
@@ -50,3 +51,32 @@ gcd_of a b = pos (euclid (suc (unsigned_abs b)) (unsigned_abs a) (unsigned_abs b
 -- the least common multiple of two positive numbers
 unfoldable pub lcm_of : ℤ → ℤ → ℤ
 lcm_of a b = int_div a (gcd_of a b) *ℤ b
+
+-- a / b rounded down, for a positive b
+abbrev pub floor_of : ℤ → ℤ → ℤ
+floor_of a b = int_div_euclid a b
+
+-- what remains of a modulo a positive m
+abbrev pub residue_of : ℤ → ℤ → ℤ
+residue_of a m = int_rem_euclid a m
+
+-- a number x with a x ≡ c modulo m
+pub record Solves (a c m : ℤ) : Type 0 where
+  pub solution : ℤ
+  pub same : Divides m (a *ℤ solution -ℤ c)
+
+-- every number of the list is a multiple of d
+abbrev pub DividesAll : ℤ → List ℤ → Type 0
+DividesAll d [] = Unit {0}
+DividesAll d (x ∷ xs) = Divides d x × DividesAll d xs
+
+-- g is the greatest common divisor of a list's numbers
+pub record IsContent (xs : List ℤ) (g : ℤ) : Type 0 where
+  pub not_negative : pos 0 ≤ℤ g
+  pub divides : DividesAll g xs
+  pub greatest : (d : ℤ) → DividesAll d xs → Divides d g
+
+-- the greatest common divisor of a list's numbers, 0 of the empty list
+unfoldable pub content_of : List ℤ → ℤ
+content_of [] = pos 0
+content_of (x ∷ xs) = gcd_of x (content_of xs)

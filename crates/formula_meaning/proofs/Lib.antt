@@ -1,1 +1,9 @@
 pub mod Values
+pub mod Relations
+pub mod SamePoint
+pub mod TreeFiner
+pub mod FreeNames
+pub mod PlainTruth
+pub mod Replacing
+pub mod EachAtom
+pub mod TreeReplacing

@@ -26,14 +26,14 @@ total_move [] at x k m = let z = zero_mul k in let w = zero_mul m in omega (arit
 total_move (t ∷ ts) at x k m = go (nat_eq x t.name) (total_move ts at x k m)
   where
     go : (b : Bool) → total ts (λ y. if nat_eq x y then k else m *ℤ at y) ≡ multiple x ts *ℤ k +ℤ total (others x ts) at *ℤ m →
-         t.times *ℤ (if b then k else m *ℤ at t.name) +ℤ total ts (λ y. if nat_eq x y then k else m *ℤ at y) ≡ (if b then t.times +ℤ multiple x ts else multiple x ts) *ℤ k +ℤ total (if b then others x ts else t ∷ others x ts) at *ℤ m
+        t.times *ℤ (if b then k else m *ℤ at t.name) +ℤ total ts (λ y. if nat_eq x y then k else m *ℤ at y) ≡ (if b then t.times +ℤ multiple x ts else multiple x ts) *ℤ k +ℤ total (if b then others x ts else t ∷ others x ts) at *ℤ m
     go true h = one_more t.times k _ m (multiple x ts) (total (others x ts) at) h
     go false h = one_other t.times (at t.name) k _ m (multiple x ts) (total (others x ts) at) h
 
 add_constant : (r a k u m c b mb : ℤ) → r ≡ a *ℤ k +ℤ u *ℤ m → mb ≡ b *ℤ m → r +ℤ c *ℤ mb ≡ a *ℤ k +ℤ (u +ℤ c *ℤ b) *ℤ m
 add_constant r a k u m c b mb e f = let g = simp ring at (ap (λ z. c *ℤ z) f) in simp ring (omega (arith, ints, g))
 
-pos_mul : (a b : ℕ) → pos (a * b) ≡ pos a *ℤ pos b
+pub pos_mul : (a b : ℕ) → pos (a * b) ≡ pos a *ℤ pos b
 pos_mul a b = omega (arith, ints)
 
 -- the value at a moved point: linear in the new number
@@ -55,7 +55,7 @@ total_split [] at x = let z = zero_mul (at x) in omega (arith, ints)
 total_split (t ∷ ts) at x = go (nat_eq x t.name) refl (total_split ts at x)
   where
     go : (b : Bool) → nat_eq x t.name ≡ b → total ts at ≡ multiple x ts *ℤ at x +ℤ total (others x ts) at →
-         t.times *ℤ at t.name +ℤ total ts at ≡ (if b then t.times +ℤ multiple x ts else multiple x ts) *ℤ at x +ℤ total (if b then others x ts else t ∷ others x ts) at
+        t.times *ℤ at t.name +ℤ total ts at ≡ (if b then t.times +ℤ multiple x ts else multiple x ts) *ℤ at x +ℤ total (if b then others x ts else t ∷ others x ts) at
     go true e h = subst (λ (n : ℕ). t.times *ℤ at n +ℤ total ts at ≡ (t.times +ℤ multiple x ts) *ℤ at x +ℤ total (others x ts) at) (eqb_same x t.name e) (split_more t.times (at x) _ (multiple x ts) (total (others x ts) at) h)
     go false e h = split_other t.times (at t.name) _ (multiple x ts) (at x) (total (others x ts) at) h
 
@@ -120,7 +120,7 @@ total_others_move [] at x k m = sym (mul_zero m)
 total_others_move (t ∷ ts) at x k m = go (nat_eq x t.name) refl (total_others_move ts at x k m)
   where
     go : (b : Bool) → nat_eq x t.name ≡ b → total (others x ts) (λ y. if nat_eq x y then k else m *ℤ at y) ≡ m *ℤ total (others x ts) at →
-         total (if b then others x ts else t ∷ others x ts) (λ y. if nat_eq x y then k else m *ℤ at y) ≡ m *ℤ total (if b then others x ts else t ∷ others x ts) at
+        total (if b then others x ts else t ∷ others x ts) (λ y. if nat_eq x y then k else m *ℤ at y) ≡ m *ℤ total (if b then others x ts else t ∷ others x ts) at
     go true e h = h
     go false e h = subst (λ (b : Bool). t.times *ℤ (if b then k else m *ℤ at t.name) +ℤ total (others x ts) (λ y. if nat_eq x y then k else m *ℤ at y) ≡ m *ℤ (t.times *ℤ at t.name +ℤ total (others x ts) at)) (sym e) (finer_step t.times m (at t.name) _ (total (others x ts) at) h)
 

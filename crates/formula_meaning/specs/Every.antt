@@ -43,3 +43,23 @@ module _ {A N : Type 0} (mentions : A → N → Type 0) where
     pub FreeInSome : Formulas A N → N → Type 0
     FreeInSome none x = ⊥
     FreeInSome (also f fs) x = Free f x ⊎ FreeInSome fs x
+
+module _ {A N : Type 0} (K : N → Type 0) where
+  abbrev mutual
+    -- each quantified name has K
+    pub EveryBound : Formula A N → Type 0
+    EveryBound Yes = Unit {0}
+    EveryBound No = Unit {0}
+    EveryBound (One a) = Unit {0}
+    EveryBound (Not f) = EveryBound f
+    EveryBound (And fs) = EveryBoundOf fs
+    EveryBound (Or fs) = EveryBoundOf fs
+    EveryBound (Impl f g) = EveryBound f × EveryBound g
+    EveryBound (Repl f g) = EveryBound f × EveryBound g
+    EveryBound (Equiv f g) = EveryBound f × EveryBound g
+    EveryBound (Ex x f) = K x × EveryBound f
+    EveryBound (All x f) = K x × EveryBound f
+
+    pub EveryBoundOf : Formulas A N → Type 0
+    EveryBoundOf none = Unit {0}
+    EveryBoundOf (also f fs) = EveryBound f × EveryBoundOf fs

@@ -6,7 +6,9 @@ pub mod Form
 pub mod Some
 pub mod Atom
 pub mod Every
+pub mod Replaced
 pub mod Shape
 pub mod NegationNormal
 pub mod Tree
+pub mod Laws
 pub mod Answer

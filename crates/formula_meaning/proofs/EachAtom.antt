@@ -1,0 +1,41 @@
+-- What holds of each atom, and of each quantified name.
+use Rattle.formula_meaning.specs.Formula.{Formula, Formulas, Yes, No, One, Not, And, Or, Impl, Repl, Equiv, Ex, All, none, also}
+use Rattle.formula_meaning.specs.Every.{Every, EveryOf, EveryBound, EveryBoundOf}
+
+module _ {A N : Type 0} (P Q : A → Type 0) (gives : (a : A) → P a → Q a) where
+  mutual
+    pub every_map : (f : Formula A N) → Every P f → Every Q f
+    every_map Yes h = h
+    every_map No h = h
+    every_map (One a) h = gives a h
+    every_map (Not f) h = every_map f h
+    every_map (And fs) h = every_map_of fs h
+    every_map (Or fs) h = every_map_of fs h
+    every_map (Impl f g) h = (every_map f h.0, every_map g h.1)
+    every_map (Repl f g) h = (every_map f h.0, every_map g h.1)
+    every_map (Equiv f g) h = (every_map f h.0, every_map g h.1)
+    every_map (Ex x f) h = every_map f h
+    every_map (All x f) h = every_map f h
+
+    pub every_map_of : (fs : Formulas A N) → EveryOf P fs → EveryOf Q fs
+    every_map_of none h = h
+    every_map_of (also f fs) h = (every_map f h.0, every_map_of fs h.1)
+
+module _ {A N : Type 0} (K : N → Type 0) (all : (x : N) → K x) where
+  mutual
+    pub every_bound : (f : Formula A N) → EveryBound K f
+    every_bound Yes = tt
+    every_bound No = tt
+    every_bound (One a) = tt
+    every_bound (Not f) = every_bound f
+    every_bound (And fs) = every_bound_of fs
+    every_bound (Or fs) = every_bound_of fs
+    every_bound (Impl f g) = (every_bound f, every_bound g)
+    every_bound (Repl f g) = (every_bound f, every_bound g)
+    every_bound (Equiv f g) = (every_bound f, every_bound g)
+    every_bound (Ex x f) = (all x, every_bound f)
+    every_bound (All x f) = (all x, every_bound f)
+
+    pub every_bound_of : (fs : Formulas A N) → EveryBoundOf K fs
+    every_bound_of none = tt
+    every_bound_of (also f fs) = (every_bound f, every_bound_of fs)
