@@ -8,10 +8,11 @@ use Rattle.formula_meaning.specs.Point.{Point, move}
 use Rattle.formula_meaning.specs.Form.{Form, value, coefficient, without}
 use Rattle.formula_meaning.specs.Atom.{Atom, Compare, Congruent, Incongruent, Relation, Equals, Differs, Below, AtMost, Above, AtLeast, Relates, Divides, Says, form_of}
 use Rattle.formula_meaning.specs.Tree.{TrueAt}
-use Rattle.formula_meaning.proofs.Values.{value_move, value_split, value_plus, value_combine, below_move}
+use Rattle.formula_meaning.proofs.Relations.{relates_mul}
+use Rattle.formula_meaning.proofs.Values.{value_move, value_split, value_plus, value_combine, below_move, pos_mul}
 use Rattle.elimination_theory.specs.IntegersRelation.{mirrored, below_all, at_minus_infinity}
 use Rattle.elimination_theory.specs.IntegersSubstitution.{where_zero, put_number, put_form, downward, periodic_atom, exact_atom}
-use Rattle.elimination_theory.proofs.IntegerRelation.{IsTrueBelow, relates-scale, relates-move}
+use Rattle.elimination_theory.proofs.IntegerRelation.{IsTrueBelow, relates-move}
 use Rattle.elimination_theory.proofs.IntegerCompare.{Compares, ComparesLow, IsCongruent, without-name}
 
 -- the value of a form with x set to a whole number
@@ -74,7 +75,7 @@ exact-multiple l a k t = simp ring (omega (arith, ints))
 exact-relates : (r : Relation) (l a k t v : ℤ) → pos 0 <ℤ l → v ≡ a *ℤ (k *ℤ l) +ℤ l *ℤ t → Compares r a t k ↔ Relates r v (pos 0)
 exact-relates r l a k t v positive e =
     let m = exact-multiple l a k t in
-    iff-trans (relates-scale r l _ _ positive)
+    iff-trans (relates_mul r l _ _ positive)
     (iff-trans (relates-move r _ _ _ _ m, relates-move r _ _ _ _ (sym m)) (iff-sym (relates-at r e)))
 
 exact-compare : (a : ℤ) (r : Relation) (f g : Form) (p : Point ℕ) (l k t : ℤ) → pos 0 <ℤ l → (a ≡ pos 0 → value f p ≡ t) →
@@ -91,9 +92,6 @@ quotient-in l n q u positive e = cancel_positive l positive (e ∙ mul_left_comm
 
 exact-value : (l a k t : ℤ) → l *ℤ (a *ℤ k +ℤ t) ≡ a *ℤ (k *ℤ l) +ℤ l *ℤ t
 exact-value l a k t = simp ring (omega (arith, ints))
-
-pos_mul : (a b : ℕ) → pos (a * b) ≡ pos a *ℤ pos b
-pos_mul a b = omega (arith, ints)
 
 exact-divides : (a : ℤ) (n : ℕ) (g : Form) (p : Point ℕ) (l : ℕ) (k t : ℤ) → pos 0 <ℤ pos l → p.below ≡ 1 →
     value g p ≡ a *ℤ (k *ℤ pos l) +ℤ pos l *ℤ t → IsCongruent n a t k ↔ Divides (l * n) g p

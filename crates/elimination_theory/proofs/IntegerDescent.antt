@@ -4,9 +4,10 @@ use Rattle.std.proofs.Common.{◌≡◌, ℕ, suc, zero, ◌+◌, ◌*◌, ◌<�
 use Rattle.std.proofs.lemmas.Int.{ints}
 use Rattle.exact_numbers.proofs.Ring.{ring}
 use Rattle.formula_meaning.specs.Formula.{Formula}
+use Rattle.formula_meaning.proofs.EachAtom.{every_map}
 use Rattle.formula_meaning.specs.Every.{Every}
 use Rattle.elimination_theory.proofs.MoreArithmetic.{down-suc, below-bound, Residue, residue, steps-far, less-or-at_least}
-use Rattle.elimination_theory.proofs.IntegerEval.{Eval, Some, Agree, eval_or, eval_map, each_map, each_below}
+use Rattle.elimination_theory.proofs.IntegerEval.{Eval, Some, Agree, eval_or, eval_map, each_below}
 
 -- a fact that stays one step below unless its number is near: it stays n steps below, or some number of which it holds is near
 descend : (Says Near : ℤ → Type 0) (step n : ℕ) → ((k : ℤ) → Says k → Says (k -ℤ pos step) ⊎ Near k) →
@@ -39,12 +40,12 @@ greater v w = elim (less-or-at_least v w) [
 module _ {A N : Type 0} (P Q Near : ℤ → A → Type 0) (step : ℕ) (positive : 0 < step) (f : Formula A N)
     (low : Every (λ a. (u : ℤ) × Agree P Q u a) f) (stays : Every (Stays Q step) f) where
   eval_stays : (k t : ℤ) → Eval (Q k) f → Eval (Q (k +ℤ pos step *ℤ t)) f
-  eval_stays k t = eval_map (Q k) (Q (k +ℤ pos step *ℤ t)) f (each_map (Stays Q step) _ f (λ a s. s k t) stays)
+  eval_stays k t = eval_map (Q k) (Q (k +ℤ pos step *ℤ t)) f (every_map (Stays Q step) _ (λ a s. s k t) f stays)
 
   eval_low : (u k : ℤ) → k <ℤ u → Every (Agree P Q u) f → Eval (P k) f ↔ Eval (Q k) f
   eval_low u k h agree = (
-    eval_map (P k) (Q k) f (each_map (Agree P Q u) _ f (λ a g. (g k h).0) agree),
-    eval_map (Q k) (P k) f (each_map (Agree P Q u) _ f (λ a g. (g k h).1) agree),
+    eval_map (P k) (Q k) f (every_map (Agree P Q u) _ (λ a g. (g k h).0) f agree),
+    eval_map (Q k) (P k) f (every_map (Agree P Q u) _ (λ a g. (g k h).1) f agree),
   )
 
   -- below all bounds the formula is true at some number of the first step

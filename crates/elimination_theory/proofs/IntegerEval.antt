@@ -3,6 +3,7 @@ use Rattle.std.proofs.Common.{ℤ, pos, ◌⊎◌, inl, inr, ◌<ℤ◌, ◌≤�
 use Rattle.std.proofs.lemmas.Int.{ints}
 use lib.Signed.{≤ℤ_refl}
 use Rattle.elimination_theory.proofs.MoreArithmetic.{less-or-at_least}
+use Rattle.formula_meaning.proofs.EachAtom.{every_map, every_map_of}
 use Rattle.formula_meaning.specs.Every.{Every, EveryOf}
 use Rattle.formula_meaning.specs.Formula.{Formula, Formulas, Yes, No, One, Not, And, Or, Impl, Repl, Equiv, Ex, All, none, also}
 
@@ -106,26 +107,6 @@ module _ {A N : Type 0} (P Q : A → Type 0) where
       | inr rest ↦ inr (eval_some_map fs each.1 rest)
     ]
 
-module _ {A N : Type 0} (P Q : A → Type 0) where
-  mutual
-    -- what follows for each atom
-    pub each_map : (f : Formula A N) → ((a : A) → P a → Q a) → Every P f → Every Q f
-    each_map Yes follows each = tt
-    each_map No follows each = tt
-    each_map (One a) follows each = follows a each
-    each_map (And fs) follows each = each_of_map fs follows each
-    each_map (Or fs) follows each = each_of_map fs follows each
-    each_map (Not f) follows each = each_map f follows each
-    each_map (Impl f g) follows each = (each_map f follows each.0, each_map g follows each.1)
-    each_map (Repl f g) follows each = (each_map f follows each.0, each_map g follows each.1)
-    each_map (Equiv f g) follows each = (each_map f follows each.0, each_map g follows each.1)
-    each_map (Ex x f) follows each = each_map f follows each
-    each_map (All x f) follows each = each_map f follows each
-
-    pub each_of_map : (fs : Formulas A N) → ((a : A) → P a → Q a) → EveryOf P fs → EveryOf Q fs
-    each_of_map none follows each = tt
-    each_of_map (also f fs) follows each = (each_map f follows each.0, each_of_map fs follows each.1)
-
 -- below u, P is what Q is
 abbrev pub Agree : {A : Type 0} → (ℤ → A → Type 0) → (ℤ → A → Type 0) → ℤ → A → Type 0
 Agree P Q u a = (k : ℤ) → k <ℤ u → (P k a → Q k a) × (Q k a → P k a)
@@ -146,12 +127,12 @@ module _ {A N : Type 0} (P Q : ℤ → A → Type 0) where
   both_below : (f g : Formula A N) → ((u : ℤ) × Every (Agree P Q u) f) → ((u : ℤ) × Every (Agree P Q u) g) → (u : ℤ) × (Every (Agree P Q u) f × Every (Agree P Q u) g)
   both_below f g (v, left) (w, right) =
       let u : (u : ℤ) × (u ≤ℤ v) × (u ≤ℤ w) = lesser v w in
-      (u.0, (each_map _ _ f (agree-le P Q u.0 v u.1) left, each_map _ _ g (agree-le P Q u.0 w u.2) right))
+      (u.0, (every_map _ _ (agree-le P Q u.0 v u.1) f left, every_map _ _ (agree-le P Q u.0 w u.2) g right))
 
   of_both_below : (f : Formula A N) (fs : Formulas A N) → ((u : ℤ) × Every (Agree P Q u) f) → ((u : ℤ) × EveryOf (Agree P Q u) fs) → (u : ℤ) × (Every (Agree P Q u) f × EveryOf (Agree P Q u) fs)
   of_both_below f fs (v, left) (w, right) =
       let u : (u : ℤ) × (u ≤ℤ v) × (u ≤ℤ w) = lesser v w in
-      (u.0, (each_map _ _ f (agree-le P Q u.0 v u.1) left, each_of_map _ _ fs (agree-le P Q u.0 w u.2) right))
+      (u.0, (every_map _ _ (agree-le P Q u.0 v u.1) f left, every_map_of _ _ (agree-le P Q u.0 w u.2) fs right))
 
   mutual
     -- one bound for all atoms

@@ -1,21 +1,14 @@
 -- Comparisons of whole numbers: multiplied, moved, mirrored; their steps down and their truth below all bounds.
-use Rattle.std.proofs.Common.{◌≡◌, ℕ, ◌<◌, ℤ, pos, ◌+ℤ◌, ◌-ℤ◌, ◌*ℤ◌, neg_ℤ, ◌≤ℤ◌, ◌<ℤ◌, ◌⊎◌, ◌↔◌, arith, refl, inl, inr, subst, sym, ap}
+use Rattle.std.proofs.Common.{◌≡◌, ℕ, ◌<◌, ℤ, pos, ◌+ℤ◌, ◌-ℤ◌, ◌*ℤ◌, neg_ℤ, ◌≤ℤ◌, ◌<ℤ◌, ◌⊎◌, ◌↔◌, arith, refl, inl, inr, subst, sym}
 use Rattle.std.proofs.lemmas.Int.{ints}
 use Rattle.exact_numbers.proofs.Ring.{ring}
-use Rattle.exact_numbers.proofs.Order.{mul_less, mul_at_most, cancel_less, cancel_at_most, cancel_positive, by_order}
+use Rattle.exact_numbers.proofs.Order.{by_order}
 use Rattle.formula_meaning.specs.Atom.{Relation, Equals, Differs, Below, AtMost, Above, AtLeast, Relates}
+use Rattle.formula_meaning.proofs.Relations.{relates_mul}
 use Rattle.elimination_theory.specs.IntegersRelation.{mirrored}
 
 le_of_lt : (a b : ℤ) → a <ℤ b → a ≤ℤ b
 le_of_lt a b h = omega (arith, ints)
-
-pub relates-scale : (r : Relation) (k a b : ℤ) → pos 0 <ℤ k → Relates r a b ↔ Relates r (k *ℤ a) (k *ℤ b)
-relates-scale Equals k a b h = (λ e. ap (λ z. k *ℤ z) e, λ e. cancel_positive k h e)
-relates-scale Differs k a b h = (λ n e. n (cancel_positive k h e), λ n e. n (ap (λ z. k *ℤ z) e))
-relates-scale Below k a b h = (λ l. mul_less k h l, λ l. cancel_less k h l)
-relates-scale AtMost k a b h = (λ l. mul_at_most k (le_of_lt _ _ h) l, λ l. cancel_at_most k h l)
-relates-scale Above k a b h = (λ l. mul_less k h l, λ l. cancel_less k h l)
-relates-scale AtLeast k a b h = (λ l. mul_at_most k (le_of_lt _ _ h) l, λ l. cancel_at_most k h l)
 
 pub relates-move : (r : Relation) (a b c d : ℤ) → a -ℤ b ≡ c -ℤ d → Relates r a b → Relates r c d
 relates-move Equals a b c d e h = omega (arith, ints)
@@ -93,8 +86,8 @@ relates-below AtLeast v u h = (λ (l : v ≤ℤ u). omega (arith, ints), λ n. a
 -- a * k + t compared with 0 is c * a * k compared with - c * t
 pub line-up : (r : Relation) (c a k t : ℤ) → pos 0 <ℤ c → Relates r (a *ℤ k +ℤ t) (pos 0) ↔ Relates r ((c *ℤ a) *ℤ k) (neg_ℤ c *ℤ t)
 line-up r c a k t h = (
-  λ is. relates-move r _ _ _ _ (line-up-is c a k t) ((relates-scale r c _ _ h).0 is),
-  λ is. (relates-scale r c _ _ h).1 (relates-move r _ _ _ _ (sym (line-up-is c a k t)) is),
+  λ is. relates-move r _ _ _ _ (line-up-is c a k t) ((relates_mul r c _ _ h).0 is),
+  λ is. (relates_mul r c _ _ h).1 (relates-move r _ _ _ _ (sym (line-up-is c a k t)) is),
 )
   where
     line-up-is : (c a k t : ℤ) → c *ℤ (a *ℤ k +ℤ t) -ℤ c *ℤ pos 0 ≡ (c *ℤ a) *ℤ k -ℤ neg_ℤ c *ℤ t
@@ -103,8 +96,8 @@ line-up r c a k t h = (
 -- - a * k + t compared with 0 is c * a * k compared the other way round with c * t
 pub line-down : (r : Relation) (c a k t : ℤ) → pos 0 <ℤ c → Relates r (neg_ℤ a *ℤ k +ℤ t) (pos 0) ↔ Relates (mirrored r) ((c *ℤ a) *ℤ k) (c *ℤ t)
 line-down r c a k t h = (
-  λ is. relates-mirror r _ _ _ _ (line-down-is c a k t) ((relates-scale r c _ _ h).0 is),
-  λ is. (relates-scale r c _ _ h).1 (subst (λ s. Relates s (c *ℤ (neg_ℤ a *ℤ k +ℤ t)) (c *ℤ pos 0)) (mirrored-mirrored r) (relates-mirror (mirrored r) _ _ _ _ (line-back-is c a k t) is)),
+  λ is. relates-mirror r _ _ _ _ (line-down-is c a k t) ((relates_mul r c _ _ h).0 is),
+  λ is. (relates_mul r c _ _ h).1 (subst (λ s. Relates s (c *ℤ (neg_ℤ a *ℤ k +ℤ t)) (c *ℤ pos 0)) (mirrored-mirrored r) (relates-mirror (mirrored r) _ _ _ _ (line-back-is c a k t) is)),
 )
   where
     line-down-is : (c a k t : ℤ) → c *ℤ (neg_ℤ a *ℤ k +ℤ t) -ℤ c *ℤ pos 0 ≡ c *ℤ t -ℤ (c *ℤ a) *ℤ k

@@ -1,4 +1,5 @@
 pub mod MoreArithmetic
+pub mod Listed
 pub mod IntegerEval
 pub mod IntegerDescent
 pub mod IntegerRelation

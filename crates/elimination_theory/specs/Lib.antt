@@ -1,3 +1,4 @@
+pub mod Listed
 pub mod IntegersRelation
 pub mod IntegersSubstitution
 pub mod IntegersPoints
