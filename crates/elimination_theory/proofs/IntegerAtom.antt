@@ -6,12 +6,13 @@ use Rattle.exact_numbers.proofs.Order.{cancel_positive}
 use Rattle.formula_meaning.specs.Context.{Integers}
 use Rattle.formula_meaning.specs.Point.{Point, move}
 use Rattle.formula_meaning.specs.Form.{Form, value, coefficient, without}
-use Rattle.formula_meaning.specs.Atom.{Atom, Compare, Congruent, Incongruent, Relation, Equals, Differs, Below, AtMost, Above, AtLeast, Relates, Divides, Says, form_of}
+use Rattle.formula_meaning.specs.Atom.{mirrored, Atom, Compare, Congruent, Incongruent, Relation, Equals, Differs, Below, AtMost, Above, AtLeast, Relates, Divides, Says, form_of}
+use Rattle.formula_meaning.specs.Answer.{Exact, Periodic}
 use Rattle.formula_meaning.specs.Tree.{TrueAt}
 use Rattle.formula_meaning.proofs.Relations.{relates_mul}
 use Rattle.formula_meaning.proofs.Values.{value_move, value_split, value_plus, value_combine, below_move, pos_mul}
-use Rattle.elimination_theory.specs.IntegersRelation.{mirrored, below_all, at_minus_infinity}
-use Rattle.elimination_theory.specs.IntegersSubstitution.{where_zero, put_number, put_form, downward, periodic_atom, exact_atom}
+use Rattle.elimination_theory.specs.FieldsSubstitution.{put_in, beyond, exactly, below_all}
+use Rattle.elimination_theory.specs.IntegersSubstitution.{where_zero, put_number, along, integer_atom}
 use Rattle.elimination_theory.proofs.IntegerRelation.{IsTrueBelow, relates-move}
 use Rattle.elimination_theory.proofs.IntegerCompare.{Compares, ComparesLow, IsCongruent, without-name}
 
@@ -79,7 +80,7 @@ exact-relates r l a k t v positive e =
     (iff-trans (relates-move r _ _ _ _ m, relates-move r _ _ _ _ (sym m)) (iff-sym (relates-at r e)))
 
 exact-compare : (a : ℤ) (r : Relation) (f g : Form) (p : Point ℕ) (l k t : ℤ) → pos 0 <ℤ l → (a ≡ pos 0 → value f p ≡ t) →
-    value g p ≡ a *ℤ (k *ℤ l) +ℤ l *ℤ t → Compares r a t k ↔ Says (where_zero a (Compare r f) (Compare r g)) p
+    value g p ≡ a *ℤ (k *ℤ l) +ℤ l *ℤ t → Compares r a t k ↔ TrueAt Integers (exactly a r f g) p
 exact-compare (pos zero) r f g p l k t positive rest e = iff-trans (without-name r t k) (iff-sym (relates-at r (rest refl)))
 exact-compare (pos (suc n)) r f g p l k t positive rest e = exact-relates r l (pos (suc n)) k t _ positive e
 exact-compare (negsuc n) r f g p l k t positive rest e = exact-relates r l (negsuc n) k t _ positive e
@@ -124,26 +125,26 @@ exact-incongruent (pos (suc m)) n f g p l k t positive whole rest e = not-iff (e
 exact-incongruent (negsuc m) n f g p l k t positive whole rest e = not-iff (exact-divides (negsuc m) n g p l k t positive whole e)
 
 put-value : (f e : Form) (p : Point ℕ) (x l : ℕ) (k : ℤ) → value e p ≡ k *ℤ pos l →
-    value (put_form x e l f) p ≡ coefficient x f *ℤ (k *ℤ pos l) +ℤ pos l *ℤ value (without x f) p
+    value (put_in x e l f) p ≡ coefficient x f *ℤ (k *ℤ pos l) +ℤ pos l *ℤ value (without x f) p
 put-value f e p x l k is =
     value_combine (coefficient x f) e (pos l) (without x f) p ∙ ap (λ z. coefficient x f *ℤ z +ℤ pos l *ℤ value (without x f) p) is
 
 -- where e over l is the whole number k, the atom with x set to k is the atom with e over l put for x
 pub exact-says : (a : Atom) (p : Point ℕ) (x : ℕ) (e : Form) (l : ℕ) (k : ℤ) → p.below ≡ 1 → 0 < l → value e p ≡ k *ℤ pos l →
-    Says a (move nat_eq p x k 1) ↔ Says (exact_atom x e l a) p
+    Says a (move nat_eq p x k 1) ↔ TrueAt Integers (integer_atom x (Exact e l) a) p
 exact-says (Compare r f) p x e l k whole positive is =
     iff-trans (says-at (Compare r f) p x k whole)
-    (exact-compare (coefficient x f) r f (put_form x e l f) p (pos l) k _ (omega (arith, ints)) (value-rest f p x) (put-value f e p x l k is))
+    (exact-compare (coefficient x f) r f (put_in x e l f) p (pos l) k _ (omega (arith, ints)) (value-rest f p x) (put-value f e p x l k is))
 exact-says (Congruent n f) p x e l k whole positive is =
     iff-trans (says-at (Congruent n f) p x k whole)
-    (exact-congruent (coefficient x f) n f (put_form x e l f) p l k _ (omega (arith, ints)) whole (value-rest f p x) (put-value f e p x l k is))
+    (exact-congruent (coefficient x f) n f (put_in x e l f) p l k _ (omega (arith, ints)) whole (value-rest f p x) (put-value f e p x l k is))
 exact-says (Incongruent n f) p x e l k whole positive is =
     iff-trans (says-at (Incongruent n f) p x k whole)
-    (exact-incongruent (coefficient x f) n f (put_form x e l f) p l k _ (omega (arith, ints)) whole (value-rest f p x) (put-value f e p x l k is))
+    (exact-incongruent (coefficient x f) n f (put_in x e l f) p l k _ (omega (arith, ints)) whole (value-rest f p x) (put-value f e p x l k is))
 
 -- ---- a residue class far out
 
--- what an atom says far out downwards, where the name runs through the class of k
+-- what an atom says far out alongs, where the name runs through the class of k
 abbrev pub LowAt : Atom → ℤ → ℤ → ℤ → ℤ → Type 0
 LowAt (Compare r f) b a t k = ComparesLow r b t
 LowAt (Congruent n f) b a t k = IsCongruent n a t k
@@ -158,7 +159,7 @@ below-all Above p = (λ n. n, λ n. n)
 below-all AtLeast p = (λ n. n, λ n. n)
 
 low-compare : (b : ℤ) (r : Relation) (f : Form) (p : Point ℕ) (t : ℤ) → (b ≡ pos 0 → value f p ≡ t) →
-    ComparesLow r b t ↔ TrueAt Integers (at_minus_infinity b r f) p
+    ComparesLow r b t ↔ TrueAt Integers (beyond b r f) p
 low-compare (pos zero) r f p t rest = iff-sym (relates-at r (rest refl))
 low-compare (pos (suc n)) r f p t rest = below-all r p
 low-compare (negsuc n) r f p t rest = below-all (mirrored r) p
@@ -184,13 +185,13 @@ number-value f p x k whole =
     times-below : (v : ℤ) (b : ℕ) → b ≡ 1 → v *ℤ pos b ≡ v
     times-below v b e = ap (λ m. v *ℤ pos m) e ∙ mul_one v
 
-downward-zero : (q a : ℤ) → downward q a ≡ pos 0 → a ≡ pos 0
-downward-zero (pos n) a e = omega (arith, ints)
-downward-zero (negsuc n) a e = e
+along-zero : (q a : ℤ) → along q a ≡ pos 0 → a ≡ pos 0
+along-zero (pos n) a e = omega (arith, ints)
+along-zero (negsuc n) a e = e
 
 -- the atom far out is the atom with the place put for x
 pub periodic-says : (a : Atom) (p : Point ℕ) (x : ℕ) (k q : ℤ) → p.below ≡ 1 →
-    LowAt a (downward q (coefficient x (form_of a))) (coefficient x (form_of a)) (value (without x (form_of a)) p) k ↔ TrueAt Integers (periodic_atom x k q a) p
-periodic-says (Compare r f) p x k q whole = low-compare (downward q (coefficient x f)) r f p _ (λ e. value-rest f p x (downward-zero q _ e))
+    LowAt a (along q (coefficient x (form_of a))) (coefficient x (form_of a)) (value (without x (form_of a)) p) k ↔ TrueAt Integers (integer_atom x (Periodic k q) a) p
+periodic-says (Compare r f) p x k q whole = low-compare (along q (coefficient x f)) r f p _ (λ e. value-rest f p x (along-zero q _ e))
 periodic-says (Congruent n f) p x k q whole = number-congruent (coefficient x f) n f (put_number x k f) p k _ whole (value-rest f p x) (number-value f p x k whole)
 periodic-says (Incongruent n f) p x k q whole = number-incongruent (coefficient x f) n f (put_number x k f) p k _ whole (value-rest f p x) (number-value f p x k whole)

@@ -3,8 +3,7 @@ use Rattle.std.proofs.Common.{◌≡◌, ℕ, suc, zero, ◌/◌, ◌<◌, ℤ, 
 use Rattle.std.proofs.lemmas.Int.{ints}
 use Rattle.exact_numbers.proofs.Ring.{ring, zero_mul, mul_sub}
 use Rattle.exact_numbers.proofs.Order.{at_most_mul}
-use Rattle.formula_meaning.specs.Atom.{Relation, Relates}
-use Rattle.elimination_theory.specs.IntegersRelation.{mirrored}
+use Rattle.formula_meaning.specs.Atom.{mirrored, Relation, Relates}
 use Rattle.elimination_theory.proofs.MoreArithmetic.{at_least-neg_abs}
 use Rattle.elimination_theory.proofs.IntegerRelation.{IsTrueBelow, Near, relates-move, relates-step, relates-below, line-up, line-down}
 

@@ -5,9 +5,11 @@ use Rattle.std.proofs.lemmas.Int.{ints}
 use Rattle.exact_numbers.proofs.Ring.{ring}
 use Rattle.formula_meaning.specs.Formula.{Formula}
 use Rattle.formula_meaning.proofs.EachAtom.{every_map}
+use Rattle.formula_meaning.specs.Some.{SomeOf}
+use Rattle.elimination_theory.specs.Atoms.{atoms_in}
 use Rattle.formula_meaning.specs.Every.{Every}
 use Rattle.elimination_theory.proofs.MoreArithmetic.{down-suc, below-bound, Residue, residue, steps-far, less-or-at_least}
-use Rattle.elimination_theory.proofs.IntegerEval.{Eval, Some, Agree, eval_or, eval_map, each_below}
+use Rattle.elimination_theory.proofs.IntegerEval.{Eval, Agree, eval_or, eval_map, each_below}
 
 -- a fact that stays one step below unless its number is near: it stays n steps below, or some number of which it holds is near
 descend : (Says Near : ℤ → Type 0) (step n : ℕ) → ((k : ℤ) → Says k → Says (k -ℤ pos step) ⊎ Near k) →
@@ -56,11 +58,11 @@ module _ {A N : Type 0} (P Q Near : ℤ → A → Type 0) (step : ℕ) (positive
 
   -- where the formula is true somewhere, it is true at a number that is near for some atom, or below all bounds
   pub descent : ((k : ℤ) → Every (λ a. P k a → P (k -ℤ pos step) a ⊎ Near k a) f) → (k : ℤ) → Eval (P k) f →
-      ((i : ℤ) × Eval (P i) f × Some (Near i) f) ⊎ ((j : ℕ) × (j < step) × Eval (Q (pos (j + 1))) f)
+      ((i : ℤ) × Eval (P i) f × SomeOf (Near i) (atoms_in f)) ⊎ ((j : ℕ) × (j < step) × Eval (Q (pos (j + 1))) f)
   descent one k here =
       let bound : (u : ℤ) × Every (Agree P Q u) f = each_below P Q f low in
       let n : ℕ = unsigned_abs k + (unsigned_abs bound.0 + 1) in
-      elim (descend (λ i. Eval (P i) f) (λ i. Some (Near i) f) step n (λ i. eval_or (P i) (P (i -ℤ pos step)) (Near i) f (one i)) k here) [
+      elim (descend (λ i. Eval (P i) f) (λ i. SomeOf (Near i) (atoms_in f)) step n (λ i. eval_or (P i) (P (i -ℤ pos step)) (Near i) f (one i)) k here) [
         | inl far ↦ inr (in_first_step _ ((eval_low bound.0 _ (below-bound k bound.0 step positive) bound.1).0 far))
         | inr near ↦ inl near
       ]

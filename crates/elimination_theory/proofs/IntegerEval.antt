@@ -1,9 +1,12 @@
 -- What a formula built by and and or says, where only what its atoms say is known.
-use Rattle.std.proofs.Common.{ℤ, pos, ◌⊎◌, inl, inr, ◌<ℤ◌, ◌≤ℤ◌, arith}
+use Rattle.std.proofs.Common.{⊎_elim, ℤ, pos, ◌⊎◌, inl, inr, ◌<ℤ◌, ◌≤ℤ◌, arith}
 use Rattle.std.proofs.lemmas.Int.{ints}
 use lib.Signed.{≤ℤ_refl}
 use Rattle.elimination_theory.proofs.MoreArithmetic.{less-or-at_least}
 use Rattle.formula_meaning.proofs.EachAtom.{every_map, every_map_of}
+use Rattle.formula_meaning.specs.Some.{SomeOf}
+use Rattle.elimination_theory.specs.Atoms.{atoms_in, atoms_in_all}
+use Rattle.elimination_theory.proofs.Listed.{some_left, some_right}
 use Rattle.formula_meaning.specs.Every.{Every, EveryOf}
 use Rattle.formula_meaning.specs.Formula.{Formula, Formulas, Yes, No, One, Not, And, Or, Impl, Repl, Equiv, Ex, All, none, also}
 
@@ -31,32 +34,13 @@ module _ {A N : Type 0} (P : A → Type 0) where
     EvalSome none = ⊥
     EvalSome (also f fs) = Eval f ⊎ EvalSome fs
 
-  abbrev mutual
-    -- P holds of some atom
-    pub Some : Formula A N → Type 0
-    Some Yes = ⊥
-    Some No = ⊥
-    Some (One a) = P a
-    Some (And fs) = SomeOf fs
-    Some (Or fs) = SomeOf fs
-    Some (Not f) = Some f
-    Some (Impl f g) = Some f ⊎ Some g
-    Some (Repl f g) = Some f ⊎ Some g
-    Some (Equiv f g) = Some f ⊎ Some g
-    Some (Ex x f) = Some f
-    Some (All x f) = Some f
-
-    pub SomeOf : Formulas A N → Type 0
-    SomeOf none = ⊥
-    SomeOf (also f fs) = Some f ⊎ SomeOf fs
-
 -- a formula that holds by P holds by Q, or R holds of some atom
 module _ {A N : Type 0} (P Q R : A → Type 0) where
   mutual
-    pub eval_or : (f : Formula A N) → Every (λ a. P a → Q a ⊎ R a) f → Eval P f → Eval Q f ⊎ Some R f
+    pub eval_or : (f : Formula A N) → Every (λ a. P a → Q a ⊎ R a) f → Eval P f → Eval Q f ⊎ SomeOf R (atoms_in f)
     eval_or Yes each here = inl tt
     eval_or No each here = absurd here
-    eval_or (One a) each here = each here
+    eval_or (One a) each here = ⊎_elim (λ holds. inl holds) (λ near. inr (inl near)) (each here)
     eval_or (And fs) each here = eval_all_or fs each here
     eval_or (Or fs) each here = eval_some_or fs each here
     eval_or (Not f) each here = absurd here
@@ -66,18 +50,18 @@ module _ {A N : Type 0} (P Q R : A → Type 0) where
     eval_or (Ex x f) each here = absurd here
     eval_or (All x f) each here = absurd here
 
-    eval_all_or : (fs : Formulas A N) → EveryOf (λ a. P a → Q a ⊎ R a) fs → EvalAll P fs → EvalAll Q fs ⊎ SomeOf R fs
+    eval_all_or : (fs : Formulas A N) → EveryOf (λ a. P a → Q a ⊎ R a) fs → EvalAll P fs → EvalAll Q fs ⊎ SomeOf R (atoms_in_all fs)
     eval_all_or none each here = inl tt
     eval_all_or (also f fs) each here = elim (eval_or f each.0 here.0) [
-      | inl first ↦ elim (eval_all_or fs each.1 here.1) [ inl rest ↦ inl (first, rest) | inr some ↦ inr (inr some) ]
-      | inr some ↦ inr (inl some)
+      | inl first ↦ elim (eval_all_or fs each.1 here.1) [ inl rest ↦ inl (first, rest) | inr some ↦ inr (some_right R (atoms_in f) (atoms_in_all fs) some) ]
+      | inr some ↦ inr (some_left R (atoms_in f) (atoms_in_all fs) some)
     ]
 
-    eval_some_or : (fs : Formulas A N) → EveryOf (λ a. P a → Q a ⊎ R a) fs → EvalSome P fs → EvalSome Q fs ⊎ SomeOf R fs
+    eval_some_or : (fs : Formulas A N) → EveryOf (λ a. P a → Q a ⊎ R a) fs → EvalSome P fs → EvalSome Q fs ⊎ SomeOf R (atoms_in_all fs)
     eval_some_or none each here = absurd here
     eval_some_or (also f fs) each here = elim here [
-      | inl first ↦ elim (eval_or f each.0 first) [ inl holds ↦ inl (inl holds) | inr some ↦ inr (inl some) ]
-      | inr rest ↦ elim (eval_some_or fs each.1 rest) [ inl holds ↦ inl (inr holds) | inr some ↦ inr (inr some) ]
+      | inl first ↦ elim (eval_or f each.0 first) [ inl holds ↦ inl (inl holds) | inr some ↦ inr (some_left R (atoms_in f) (atoms_in_all fs) some) ]
+      | inr rest ↦ elim (eval_some_or fs each.1 rest) [ inl holds ↦ inl (inr holds) | inr some ↦ inr (some_right R (atoms_in f) (atoms_in_all fs) some) ]
     ]
 
 -- a formula that holds by P holds by Q, where each atom does

@@ -3,9 +3,8 @@ use Rattle.std.proofs.Common.{◌≡◌, ℕ, ◌<◌, ℤ, pos, ◌+ℤ◌, ◌
 use Rattle.std.proofs.lemmas.Int.{ints}
 use Rattle.exact_numbers.proofs.Ring.{ring}
 use Rattle.exact_numbers.proofs.Order.{by_order}
-use Rattle.formula_meaning.specs.Atom.{Relation, Equals, Differs, Below, AtMost, Above, AtLeast, Relates}
+use Rattle.formula_meaning.specs.Atom.{mirrored, Relation, Equals, Differs, Below, AtMost, Above, AtLeast, Relates}
 use Rattle.formula_meaning.proofs.Relations.{relates_mul}
-use Rattle.elimination_theory.specs.IntegersRelation.{mirrored}
 
 le_of_lt : (a b : ℤ) → a <ℤ b → a ≤ℤ b
 le_of_lt a b h = omega (arith, ints)

@@ -1,5 +1,5 @@
 -- Some element of a list with or without repeats; the tests of sameness.
-use Rattle.std.proofs.Common.{◌≡◌, ℤ, Bool, true, false, ◌&&◌, nat_eq, int_eq, if◌then◌else◌, List, [], ◌∷◌, ◌++◌, map, ◌⊎◌, inl, inr, ⊎_elim, ap₂, subst, sym, refl, eqb-true}
+use Rattle.std.proofs.Common.{ap, ℕ, zero, suc, ◌∙◌, ◌≡◌, ℤ, Bool, true, false, ◌&&◌, nat_eq, int_eq, if◌then◌else◌, List, [], ◌∷◌, ◌++◌, map, ◌⊎◌, inl, inr, ⊎_elim, ap₂, subst, sym, refl, eqb-true}
 use Rattle.std.specs.Prelude.{flat_map}
 use Rattle.std.proofs.lemmas.Bool.Decides.{Decides-int_eq}
 use Rattle.formula_meaning.specs.Formula.{Formula, Formulas, Yes, No, One, Not, And, Or, Impl, Repl, Equiv, Ex, All, none, also}
@@ -9,7 +9,8 @@ use Rattle.formula_meaning.specs.Every.{Every, EveryOf}
 use Rattle.formula_meaning.specs.Atom.{Atom, Compare, Congruent, Incongruent, Relation, Equals, Differs, Below, AtMost, Above, AtLeast}
 use Rattle.formula_meaning.specs.Answer.{Place, Exact, AboveBy, BelowBy, PlusInfinity, MinusInfinity, Periodic}
 use Rattle.formula_meaning.specs.Tree.{Tree}
-use Rattle.elimination_theory.specs.Listed.{atoms_in, atoms_in_all, other_than, distinct, same_term, same_terms, same_form, same_relation, same_atom, same_place, atoms_of, each_once}
+use Rattle.elimination_theory.specs.Lists.{distinct, without_same, same_terms, same_form, rank, same_atom, same_place}
+use Rattle.elimination_theory.specs.Atoms.{atoms_in, atoms_in_all, atoms_of}
 
 -- ---- some element
 
@@ -56,21 +57,21 @@ some_of_flat_map P g (x ∷ xs) s = ⊎_elim (λ h. inl h) (λ t. inr (some_of_f
 -- ---- without repeats
 
 module _ {X : Type 0} (same : X → X → Bool) (equal : (x y : X) → same x y ≡ true → x ≡ y) (P : X → Type 0) where
-  some_of_others : (x : X) (ys : List X) → SomeOf P (other_than same x ys) → SomeOf P ys
+  some_of_others : (x : X) (ys : List X) → SomeOf P (without_same same x ys) → SomeOf P ys
   some_of_others x [] s = s
   some_of_others x (y ∷ ys) s = go (same x y) (some_of_others x ys) s
     where
-      go : (b : Bool) → (SomeOf P (other_than same x ys) → SomeOf P ys) → SomeOf P (if b then other_than same x ys else y ∷ other_than same x ys) → SomeOf P (y ∷ ys)
+      go : (b : Bool) → (SomeOf P (without_same same x ys) → SomeOf P ys) → SomeOf P (if b then without_same same x ys else y ∷ without_same same x ys) → SomeOf P (y ∷ ys)
       go true rest t = inr (rest t)
       go false rest (inl here) = inl here
       go false rest (inr there) = inr (rest there)
 
-  some_others : (x : X) (ys : List X) → SomeOf P ys → SomeOf P (x ∷ other_than same x ys)
+  some_others : (x : X) (ys : List X) → SomeOf P ys → SomeOf P (x ∷ without_same same x ys)
   some_others x [] s = elim s [ ]
   some_others x (y ∷ ys) s = go (same x y) refl (some_others x ys) s
     where
-      go : (b : Bool) → same x y ≡ b → (SomeOf P ys → SomeOf P (x ∷ other_than same x ys)) → SomeOf P (y ∷ ys) →
-          SomeOf P (x ∷ (if b then other_than same x ys else y ∷ other_than same x ys))
+      go : (b : Bool) → same x y ≡ b → (SomeOf P ys → SomeOf P (x ∷ without_same same x ys)) → SomeOf P (y ∷ ys) →
+          SomeOf P (x ∷ (if b then without_same same x ys else y ∷ without_same same x ys))
       go true e rest (inl here) = inl (subst P (sym (equal x y e)) here)
       go true e rest (inr there) = rest there
       go false e rest (inl here) = inr (inl here)
@@ -99,46 +100,61 @@ both-true false b e = absurd (false-true e)
 same_int-is : (a b : ℤ) → int_eq a b ≡ true → a ≡ b
 same_int-is a b e = (Decides-int_eq a b).0 e
 
-same_term-is : (s t : Term) → same_term s t ≡ true → s ≡ t
-same_term-is s t e =
-    let b = both-true (int_eq s.times t.times) (nat_eq s.name t.name) e in
-    ap₂ (λ a n. record { times = a; name = n }) (same_int-is s.times t.times b.0) (eqb-true s.name t.name b.1)
-
-same_terms-is : (ss ts : List Term) → same_terms ss ts ≡ true → ss ≡ ts
+same_terms-is : (ts us : List Term) → same_terms ts us ≡ true → ts ≡ us
 same_terms-is [] [] e = refl
-same_terms-is [] (t ∷ ts) e = absurd (cc)
-same_terms-is (s ∷ ss) [] e = absurd (cc)
-same_terms-is (s ∷ ss) (t ∷ ts) e =
-    let b = both-true (same_term s t) (same_terms ss ts) e in
-    ap₂ ◌∷◌ (same_term-is s t b.0) (same_terms-is ss ts b.1)
+same_terms-is [] (u ∷ us) e = absurd (cc)
+same_terms-is (t ∷ ts) [] e = absurd (cc)
+same_terms-is (t ∷ ts) (u ∷ us) e =
+    let b = both-true (int_eq t.times u.times) (nat_eq t.name u.name && same_terms ts us) e in
+    let c = both-true (nat_eq t.name u.name) (same_terms ts us) b.1 in
+    ap₂ ◌∷◌ (ap₂ (λ a n. record { times = a; name = n }) (same_int-is t.times u.times b.0) (eqb-true t.name u.name c.0)) (same_terms-is ts us c.1)
 
 same_form-is : (f g : Form) → same_form f g ≡ true → f ≡ g
 same_form-is f g e =
-    let b = both-true (same_terms f.terms g.terms) (int_eq f.constant g.constant) e in
-    ap₂ (λ ts c. record { terms = ts; constant = c }) (same_terms-is f.terms g.terms b.0) (same_int-is f.constant g.constant b.1)
+    let b = both-true (int_eq f.constant g.constant) (same_terms f.terms g.terms) e in
+    ap₂ (λ ts c. record { terms = ts; constant = c }) (same_terms-is f.terms g.terms b.1) (same_int-is f.constant g.constant b.0)
 
-same_relation-is : (r s : Relation) → same_relation r s ≡ true → r ≡ s
-same_relation-is Equals Equals e = refl
-same_relation-is Differs Differs e = refl
-same_relation-is Below Below e = refl
-same_relation-is AtMost AtMost e = refl
-same_relation-is Above Above e = refl
-same_relation-is AtLeast AtLeast e = refl
-same_relation-is r s e = absurd (cc)
+-- the relation of a rank
+abbrev ranked : ℕ → Relation
+ranked zero = Equals
+ranked (suc zero) = Differs
+ranked (suc (suc zero)) = Below
+ranked (suc (suc (suc zero))) = AtMost
+ranked (suc (suc (suc (suc zero)))) = Above
+ranked (suc (suc (suc (suc (suc n))))) = AtLeast
+
+ranked-rank : (r : Relation) → ranked (rank r) ≡ r
+ranked-rank Equals = refl
+ranked-rank Differs = refl
+ranked-rank Below = refl
+ranked-rank AtMost = refl
+ranked-rank Above = refl
+ranked-rank AtLeast = refl
+
+same_relation-is : (r s : Relation) → rank r ≡ rank s → r ≡ s
+same_relation-is r s e = sym (ranked-rank r) ∙ ap ranked e ∙ ranked-rank s
 
 pub same_atom-is : (a b : Atom) → same_atom a b ≡ true → a ≡ b
-same_atom-is (Compare r f) (Compare s g) e = let b = both-true _ _ e in ap₂ Compare (same_relation-is r s b.0) (same_form-is f g b.1)
-same_atom-is (Congruent m f) (Congruent n g) e = let b = both-true _ _ e in ap₂ Congruent (eqb-true m n b.0) (same_form-is f g b.1)
-same_atom-is (Incongruent m f) (Incongruent n g) e = let b = both-true _ _ e in ap₂ Incongruent (eqb-true m n b.0) (same_form-is f g b.1)
+same_atom-is (Compare r f) (Compare s g) e =
+    let b = both-true (nat_eq (rank r) (rank s)) (same_form f g) e in
+    ap₂ Compare (same_relation-is r s (eqb-true (rank r) (rank s) b.0)) (same_form-is f g b.1)
+same_atom-is (Congruent m f) (Congruent n g) e =
+    let b = both-true (nat_eq m n) (same_form f g) e in ap₂ Congruent (eqb-true m n b.0) (same_form-is f g b.1)
+same_atom-is (Incongruent m f) (Incongruent n g) e =
+    let b = both-true (nat_eq m n) (same_form f g) e in ap₂ Incongruent (eqb-true m n b.0) (same_form-is f g b.1)
 same_atom-is a b e = absurd (cc)
 
 pub same_place-is : (a b : Place) → same_place a b ≡ true → a ≡ b
-same_place-is (Exact e l) (Exact f m) h = let b = both-true _ _ h in ap₂ Exact (same_form-is e f b.0) (eqb-true l m b.1)
-same_place-is (AboveBy e l) (AboveBy f m) h = let b = both-true _ _ h in ap₂ AboveBy (same_form-is e f b.0) (eqb-true l m b.1)
-same_place-is (BelowBy e l) (BelowBy f m) h = let b = both-true _ _ h in ap₂ BelowBy (same_form-is e f b.0) (eqb-true l m b.1)
+same_place-is (Exact e l) (Exact f m) h =
+    let b = both-true (nat_eq l m) (same_form e f) h in ap₂ Exact (same_form-is e f b.1) (eqb-true l m b.0)
+same_place-is (AboveBy e l) (AboveBy f m) h =
+    let b = both-true (nat_eq l m) (same_form e f) h in ap₂ AboveBy (same_form-is e f b.1) (eqb-true l m b.0)
+same_place-is (BelowBy e l) (BelowBy f m) h =
+    let b = both-true (nat_eq l m) (same_form e f) h in ap₂ BelowBy (same_form-is e f b.1) (eqb-true l m b.0)
 same_place-is PlusInfinity PlusInfinity h = refl
 same_place-is MinusInfinity MinusInfinity h = refl
-same_place-is (Periodic a q) (Periodic b r) h = let c = both-true _ _ h in ap₂ Periodic (same_int-is a b c.0) (same_int-is q r c.1)
+same_place-is (Periodic a q) (Periodic b r) h =
+    let c = both-true (int_eq a b) (int_eq q r) h in ap₂ Periodic (same_int-is a b c.0) (same_int-is q r c.1)
 same_place-is a b h = absurd (cc)
 
 -- some atom of the tree
@@ -149,10 +165,10 @@ pub some_of_atoms : (P : Atom → Type 0) (f : Tree) → SomeOf P (atoms_of f) �
 some_of_atoms P f = some_of_distinct same_atom same_atom-is P (atoms_in f)
 
 -- some place of the list
-pub some_place : (P : Place → Type 0) (places : List Place) → SomeOf P places → SomeOf P (each_once places)
+pub some_place : (P : Place → Type 0) (places : List Place) → SomeOf P places → SomeOf P (distinct same_place places)
 some_place P places = some_distinct same_place same_place-is P places
 
-pub some_of_places : (P : Place → Type 0) (places : List Place) → SomeOf P (each_once places) → SomeOf P places
+pub some_of_places : (P : Place → Type 0) (places : List Place) → SomeOf P (distinct same_place places) → SomeOf P places
 some_of_places P places = some_of_distinct same_place same_place-is P places
 
 -- P holds of each element
@@ -169,12 +185,12 @@ each_right P [] ys e = e
 each_right P (x ∷ xs) ys e = each_right P xs ys e.1
 
 module _ {X : Type 0} (same : X → X → Bool) (equal : (x y : X) → same x y ≡ true → x ≡ y) (P : X → Type 0) where
-  each_others : (x : X) (ys : List X) → P x → EachOf P (other_than same x ys) → EachOf P ys
+  each_others : (x : X) (ys : List X) → P x → EachOf P (without_same same x ys) → EachOf P ys
   each_others x [] here e = tt
   each_others x (y ∷ ys) here e = go (same x y) refl (each_others x ys here) e
     where
-      go : (b : Bool) → same x y ≡ b → (EachOf P (other_than same x ys) → EachOf P ys) →
-          EachOf P (if b then other_than same x ys else y ∷ other_than same x ys) → EachOf P (y ∷ ys)
+      go : (b : Bool) → same x y ≡ b → (EachOf P (without_same same x ys) → EachOf P ys) →
+          EachOf P (if b then without_same same x ys else y ∷ without_same same x ys) → EachOf P (y ∷ ys)
       go true e rest each = (subst P (equal x y e) here, rest each)
       go false e rest each = (each.0, rest each.1)
 

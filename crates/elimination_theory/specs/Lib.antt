@@ -1,4 +1,9 @@
-pub mod Listed
-pub mod IntegersRelation
+pub mod Lists
+pub mod Atoms
+pub mod Side
+pub mod FieldsPoints
+pub mod FieldsSubstitution
+pub mod FieldsTheorems
 pub mod IntegersSubstitution
 pub mod IntegersPoints
+pub mod IntegersTheorems
