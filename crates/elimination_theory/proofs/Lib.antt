@@ -5,3 +5,6 @@ pub mod IntegerDescent
 pub mod IntegerRelation
 pub mod IntegerCompare
 pub mod IntegerAtom
+pub mod IntegerSides
+pub mod IntegerPlain
+pub mod IntegerPoints
