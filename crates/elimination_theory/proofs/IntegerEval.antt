@@ -6,7 +6,7 @@ use Rattle.elimination_theory.proofs.MoreArithmetic.{less-or-at_least}
 use Rattle.formula_meaning.proofs.EachAtom.{every_map, every_map_of}
 use Rattle.formula_meaning.specs.Some.{SomeOf}
 use Rattle.elimination_theory.specs.Atoms.{atoms_in, atoms_in_all}
-use Rattle.elimination_theory.proofs.Listed.{some_left, some_right}
+use Rattle.elimination_theory.proofs.SomeListed.{some_left, some_right}
 use Rattle.formula_meaning.specs.Every.{Every, EveryOf}
 use Rattle.formula_meaning.specs.Formula.{Formula, Formulas, Yes, No, One, Not, And, Or, Impl, Repl, Equiv, Ex, All, none, also}
 

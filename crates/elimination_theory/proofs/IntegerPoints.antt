@@ -14,11 +14,13 @@ use Rattle.formula_meaning.specs.Answer.{Exact, Periodic, Holds}
 use Rattle.formula_meaning.specs.Tree.{Tree, TrueAt}
 use Rattle.formula_meaning.proofs.EachAtom.{every_map}
 use Rattle.formula_meaning.proofs.Values.{value_plus}
-use Rattle.elimination_theory.specs.Atoms.{atoms_of}
+use Rattle.elimination_theory.specs.Atoms.{atoms_in, atoms_of}
 use Rattle.elimination_theory.specs.Side.{Side, Lower, Upper}
 use Rattle.elimination_theory.specs.FieldsTheorems.{at_place}
 use Rattle.elimination_theory.specs.IntegersPoints.{signed, atom_starts, counted, class_points, next_points, points_with}
-use Rattle.elimination_theory.proofs.Listed.{some_map, some_left, some_right, some_either, some_mapped, some_of_mapped, some_flat_map, some_of_flat_map, some_atom}
+use Rattle.elimination_theory.specs.Lists.{same_atom}
+use Rattle.elimination_theory.proofs.Listed.{atom_same}
+use Rattle.elimination_theory.proofs.SomeListed.{some_map, some_left, some_right, some_either, some_mapped, some_of_mapped, some_flat_map, some_of_flat_map, some_distinct, some_gives}
 use Rattle.elimination_theory.proofs.IntegerEval.{Eval, Agree}
 use Rattle.elimination_theory.proofs.IntegerPlain.{plain-eval}
 use Rattle.elimination_theory.proofs.IntegerDescent.{Stays, descent, far_down}
@@ -56,12 +58,6 @@ class-value side j s t b whole =
 after-value : (b : Form) (j : ℤ) (p : Point ℕ) (k : ℤ) (l : ℕ) → p.below ≡ 1 → pos l *ℤ k ≡ value b p +ℤ j → value (plus b j) p ≡ k *ℤ pos l
 after-value b j p k l whole is =
     value_plus b j p ∙ ap (λ m. value b p +ℤ j *ℤ pos m) whole ∙ ap (λ z. value b p +ℤ z) (mul_one j) ∙ sym is ∙ mul_comm (pos l) k
-
--- what follows from each follows from some
-some-number : {X C : Type 0} (P : X → Type 0) (xs : List X) → ((x : X) → P x → C) → SomeOf P xs → C
-some-number P [] gives s = absurd s
-some-number P (x ∷ xs) gives (inl first) = gives x first
-some-number P (x ∷ xs) gives (inr rest) = some-number P xs gives rest
 
 module _ (side : Side) (x l d : ℕ) (p : Point ℕ) (whole : p.below ≡ 1) (scale_positive : 0 < l) (span_positive : 0 < d) (step_positive : 0 < d / l)
     (span : pos d ≡ pos l *ℤ pos (d / l)) (f : Tree) (plain : IsPlain f) (fits : Every (Fits l (d / l) x) f) where
@@ -103,24 +99,24 @@ module _ (side : Side) (x l d : ℕ) (p : Point ℕ) (whole : p.below ≡ 1) (sc
             (some_flat_map (λ s. Holds Integers (at_place x s) f p) (next_points side l d) (flat_map (atom_starts side l x) (atoms_of f))
             (some_flat_map (λ b. SomeOf (λ s. Holds Integers (at_place x s) f p) (next_points side l d b)) (atom_starts side l x) (atoms_of f)
             (some_map _ _ (atoms_of f) (λ a starts. some_map _ _ (atom_starts side l x a) (λ b after. next-holds near.0 ((here near.0).1 near.1) b after) starts)
-            (some_atom (IsNear side x l d (d / l) p whole near.0) f near.2))))
+            (some_distinct same_atom atom_same (IsNear side x l d (d / l) p whole near.0) (atoms_in f) near.2))))
         | inr class ↦ some_left (λ s. Holds Integers (at_place x s) f p) (class_points side (d / l)) _ (class-holds class.0 class.1 class.2)
       ]
 
 class-true : (side : Side) (f : Tree) (x : ℕ) (p : Point ℕ) (n : ℕ) → SomeOf (λ s. Holds Integers (at_place x s) f p) (class_points side n) → TrueAt Integers (Ex x f) p
 class-true side f x p n some =
-    some-number (λ j. Holds Integers (at_place x (Periodic (signed side (pos j)) (signed side (neg_ℤ (pos n))))) f p) (counted 1 n) (λ j holds. from-class f x p _ _ holds)
+    some_gives (λ j. Holds Integers (at_place x (Periodic (signed side (pos j)) (signed side (neg_ℤ (pos n))))) f p) (counted 1 n) (λ j holds. from-class f x p _ _ holds)
     (some_of_mapped (λ s. Holds Integers (at_place x s) f p) (λ i. Periodic (signed side (pos i)) (signed side (neg_ℤ (pos n)))) (counted 1 n) some)
 
 next-true : (side : Side) (f : Tree) (x : ℕ) (p : Point ℕ) (l d : ℕ) (b : Form) → SomeOf (λ s. Holds Integers (at_place x s) f p) (next_points side l d b) → TrueAt Integers (Ex x f) p
 next-true side f x p l d b some =
-    some-number (λ j. Holds Integers (at_place x (Exact (plus b (signed side (pos j))) l)) f p) (counted 1 d) (λ j holds. from-exact f x p _ l holds)
+    some_gives (λ j. Holds Integers (at_place x (Exact (plus b (signed side (pos j))) l)) f p) (counted 1 d) (λ j holds. from-exact f x p _ l holds)
     (some_of_mapped (λ s. Holds Integers (at_place x s) f p) (λ i. Exact (plus b (signed side (pos i))) l) (counted 1 d) some)
 
 -- where some test point holds ex(x, f) is true
 pub holds_true : (side : Side) (x l d : ℕ) (f : Tree) (p : Point ℕ) → SomeOf (λ s. Holds Integers (at_place x s) f p) (points_with side l d x (atoms_of f)) → TrueAt Integers (Ex x f) p
 holds_true side x l d f p some =
     ⊎_elim (class-true side f x p (d / l))
-    (λ nexts. some-number (λ b. SomeOf (λ s. Holds Integers (at_place x s) f p) (next_points side l d b)) (flat_map (atom_starts side l x) (atoms_of f)) (next-true side f x p l d)
+    (λ nexts. some_gives (λ b. SomeOf (λ s. Holds Integers (at_place x s) f p) (next_points side l d b)) (flat_map (atom_starts side l x) (atoms_of f)) (next-true side f x p l d)
     (some_of_flat_map (λ s. Holds Integers (at_place x s) f p) (next_points side l d) (flat_map (atom_starts side l x) (atoms_of f)) nexts))
     (some_either (λ s. Holds Integers (at_place x s) f p) (class_points side (d / l)) _ some)

@@ -1,5 +1,11 @@
-pub mod MoreArithmetic
+pub mod Fractions
+pub mod LowestTerms
+pub mod FieldsLine
 pub mod Listed
+pub mod FieldsCut
+pub mod FieldsBegin
+pub mod MoreArithmetic
+pub mod SomeListed
 pub mod IntegerEval
 pub mod IntegerDescent
 pub mod IntegerRelation
