@@ -14,3 +14,5 @@ pub mod IntegerAtom
 pub mod IntegerSides
 pub mod IntegerPlain
 pub mod IntegerPoints
+pub mod IntegerScale
+pub mod IntegerSuffice

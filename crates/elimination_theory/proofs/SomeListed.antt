@@ -106,3 +106,44 @@ module _ {A N : Type 0} (P : A → Type 0) where
 -- what each atom of the list has, each atom of the tree has
 pub every_of_atoms : (P : Atom → Type 0) (f : Tree) → EachOf P (atoms_of f) → Every P f
 every_of_atoms P f e = every_listed P f (each_of_distinct same_atom atom_same P (atoms_in f) e)
+
+pub each_append : {X : Type 0} (P : X → Type 0) (xs ys : List X) → EachOf P xs → EachOf P ys → EachOf P (xs ++ ys)
+each_append P [] ys e f = f
+each_append P (x ∷ xs) ys e f = (e.0, each_append P xs ys e.1 f)
+
+each_without : {X : Type 0} (same : X → X → Bool) (P : X → Type 0) (x : X) (ys : List X) → EachOf P ys → EachOf P (without_same same x ys)
+each_without same P x [] e = tt
+each_without same P x (y ∷ ys) e = go (same x y) e.0 (each_without same P x ys e.1)
+  where
+    go : (b : Bool) → P y → EachOf P (without_same same x ys) → EachOf P (if b then without_same same x ys else y ∷ without_same same x ys)
+    go true here rest = rest
+    go false here rest = (here, rest)
+
+-- what each element has, each has once
+pub each_distinct : {X : Type 0} (same : X → X → Bool) (P : X → Type 0) (xs : List X) → EachOf P xs → EachOf P (distinct same xs)
+each_distinct same P [] e = tt
+each_distinct same P (x ∷ xs) e = (e.0, each_without same P x (distinct same xs) (each_distinct same P xs e.1))
+
+module _ {A N : Type 0} (P : A → Type 0) where
+  mutual
+    -- what each atom of the formula has, each listed atom has
+    pub listed_every : (f : Formula A N) → Every P f → EachOf P (atoms_in f)
+    listed_every Yes e = tt
+    listed_every No e = tt
+    listed_every (One a) e = (e, tt)
+    listed_every (Not f) e = listed_every f e
+    listed_every (And fs) e = listed_every_of fs e
+    listed_every (Or fs) e = listed_every_of fs e
+    listed_every (Impl f g) e = each_append P (atoms_in f) (atoms_in g) (listed_every f e.0) (listed_every g e.1)
+    listed_every (Repl f g) e = each_append P (atoms_in f) (atoms_in g) (listed_every f e.0) (listed_every g e.1)
+    listed_every (Equiv f g) e = each_append P (atoms_in f) (atoms_in g) (listed_every f e.0) (listed_every g e.1)
+    listed_every (Ex x f) e = listed_every f e
+    listed_every (All x f) e = listed_every f e
+
+    listed_every_of : (fs : Formulas A N) → EveryOf P fs → EachOf P (atoms_in_all fs)
+    listed_every_of none e = tt
+    listed_every_of (also f fs) e = each_append P (atoms_in f) (atoms_in_all fs) (listed_every f e.0) (listed_every_of fs e.1)
+
+-- what each atom of the tree has, each of its list has
+pub atoms_of_every : (P : Atom → Type 0) (f : Tree) → Every P f → EachOf P (atoms_of f)
+atoms_of_every P f e = each_distinct same_atom P (atoms_in f) (listed_every P f e)
