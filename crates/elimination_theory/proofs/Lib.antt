@@ -16,3 +16,5 @@ pub mod IntegerPlain
 pub mod IntegerPoints
 pub mod IntegerScale
 pub mod IntegerSuffice
+pub mod FieldsMeet
+pub mod FieldsSuffice
