@@ -27,7 +27,7 @@ times-one : (n b : ℕ) → b ≡ 1 → pos n *ℤ pos b ≡ pos n
 times-one n b e = ap (λ m. pos n *ℤ pos m) e ∙ mul_one (pos n)
 
 -- over the integers the point's denominator is 1, so a congruence is one of the values
-divides-is : (n : ℕ) (f : Form) (p : Point ℕ) (v : ℤ) → p.below ≡ 1 → value f p ≡ v → Divides n f p ↔ ((q : ℤ) × (v ≡ q *ℤ pos n))
+pub divides-is : (n : ℕ) (f : Form) (p : Point ℕ) (v : ℤ) → p.below ≡ 1 → value f p ≡ v → Divides n f p ↔ ((q : ℤ) × (v ≡ q *ℤ pos n))
 divides-is n f p v whole e =
     let t : pos n *ℤ pos p.below ≡ pos n = times-one n p.below whole in
     (λ d. (d.0, sym e ∙ d.1 ∙ ap (λ m. d.0 *ℤ m) t), λ d. (d.0, e ∙ d.1 ∙ ap (λ m. d.0 *ℤ m) (sym t)))

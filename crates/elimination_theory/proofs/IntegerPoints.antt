@@ -46,7 +46,7 @@ from-exact f x p e l (k, is, true) = from-number f x p k true
 from-class : (f : Tree) (x : ℕ) (p : Point ℕ) (j q : ℤ) → Holds Integers (at_place x (Periodic j q)) f p → TrueAt Integers (Ex x f) p
 from-class f x p j q (u, true) = from-number f x p _ (true (u +ℤ pos 1) (omega (arith, ints)))
 
-class-value : (side : Side) (j s t : ℤ) (b : ℕ) → b ≡ 1 → signed side (j +ℤ s *ℤ t) ≡ (signed side j +ℤ signed side s *ℤ t) *ℤ pos b
+pub class-value : (side : Side) (j s t : ℤ) (b : ℕ) → b ≡ 1 → signed side (j +ℤ s *ℤ t) ≡ (signed side j +ℤ signed side s *ℤ t) *ℤ pos b
 class-value side j s t b whole =
     signed-add side j (s *ℤ t) ∙ ap (λ z. signed side j +ℤ z) (sides side s t)
     ∙ sym (mul_one (signed side j +ℤ signed side s *ℤ t)) ∙ ap (λ m. (signed side j +ℤ signed side s *ℤ t) *ℤ pos m) (sym whole)

@@ -86,7 +86,7 @@ scale-reaches x l (a ∷ atoms) d =
     (with_coefficient-reaches (coefficient x (form_of a)) (scale_of x atoms) l (scale-positive x atoms) d,
      scale-reaches x l atoms (with_coefficient-rest (coefficient x (form_of a)) (scale_of x atoms) l (scale-positive x atoms) d))
 
-scales-of : (l : ℕ) (c : ℤ) → 0 < l → Reaches l c → Scales l c
+pub scales-of : (l : ℕ) (c : ℤ) → 0 < l → Reaches l c → Scales l c
 scales-of l (pos zero) h r = tt
 scales-of l (pos (suc n)) h r = factor-of l (suc n) h (omega arith) r
 scales-of l (negsuc n) h r = factor-of l (suc n) h (omega arith) r

@@ -18,3 +18,4 @@ pub mod IntegerScale
 pub mod IntegerSuffice
 pub mod FieldsMeet
 pub mod FieldsSuffice
+pub mod IntegerHolds

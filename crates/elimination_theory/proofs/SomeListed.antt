@@ -147,3 +147,19 @@ module _ {A N : Type 0} (P : A → Type 0) where
 -- what each atom of the tree has, each of its list has
 pub atoms_of_every : (P : Atom → Type 0) (f : Tree) → Every P f → EachOf P (atoms_of f)
 atoms_of_every P f e = each_distinct same_atom P (atoms_in f) (listed_every P f e)
+
+each_both : {X : Type 0} (P Q : X → Type 0) (xs : List X) → EachOf P xs → EachOf Q xs → EachOf (λ x. P x × Q x) xs
+each_both P Q [] e f = tt
+each_both P Q (x ∷ xs) e f = ((e.0, f.0), each_both P Q xs e.1 f.1)
+
+-- each atom has what each has of two kinds
+pub every_both : {A N : Type 0} (P Q : A → Type 0) (f : Formula A N) → Every P f → Every Q f → Every (λ a. P a × Q a) f
+every_both P Q f e g = every_listed (λ a. P a × Q a) f (each_both P Q (atoms_in f) (listed_every P f e) (listed_every Q f g))
+
+each_all : {X : Type 0} (P : X → Type 0) → ((x : X) → P x) → (xs : List X) → EachOf P xs
+each_all P all [] = tt
+each_all P all (x ∷ xs) = (all x, each_all P all xs)
+
+-- what all atoms have, each atom of the formula has
+pub every_all : {A N : Type 0} (P : A → Type 0) → ((a : A) → P a) → (f : Formula A N) → Every P f
+every_all P all f = every_listed P f (each_all P all (atoms_in f))
