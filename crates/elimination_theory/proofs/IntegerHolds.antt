@@ -18,7 +18,7 @@ use Rattle.elimination_theory.specs.Side.{Side, Lower, Upper}
 use Rattle.elimination_theory.specs.FieldsTheorems.{at_place}
 use Rattle.elimination_theory.specs.IntegersSubstitution.{integer_atom, integer_substitution, integer_guard, is_whole}
 use Rattle.elimination_theory.specs.IntegersPoints.{signed, integer_scale}
-use Rattle.elimination_theory.specs.IntegersTheorems.{IsIntegerPlace, IsPeriodOf, IntegerAtomIsExact, IntegerSubstitutionIsExact}
+use Rattle.elimination_theory.specs.IntegersTheorems.{IsIntegerPlace, IsPeriodOf, Suits, IntegerAtomIsExact, IntegerSubstitutionIsExact}
 use Rattle.elimination_theory.specs.Atoms.{atoms_of}
 use Rattle.elimination_theory.proofs.SomeListed.{every_both, every_all, every_of_atoms}
 use Rattle.elimination_theory.proofs.IntegerEval.{Eval, Agree, eval_map}
@@ -120,3 +120,17 @@ module _ (x : ℕ) (f : Tree) where
       let fits = every_map _ _ (λ a both. fits-period side (integer_scale x f) step x a both.0 both.1) f (every_both _ _ f formula-scales period) in
       let holds = class-holds side x (integer_scale x f) step f p whole plain (scale-positive x (atoms_of f)) steps fits j in
       (λ h. (tt, holds.0 h), λ h. holds.1 h.1)
+
+-- at every place of the integers
+pub substitution_holds : IntegerSubstitutionIsExact
+substitution_holds x (Exact e l) f p place suits plain whole = exact-holds x e l f p place plain whole
+substitution_holds x (AboveBy e l) f p place suits plain whole = absurd place
+substitution_holds x (BelowBy e l) f p place suits plain whole = absurd place
+substitution_holds x PlusInfinity f p place suits plain whole = absurd place
+substitution_holds x MinusInfinity f p place suits plain whole = absurd place
+substitution_holds x (Periodic j (pos zero)) f p place suits plain whole = absurd (place refl)
+substitution_holds x (Periodic j (pos (suc n))) f p place suits plain whole = periodic-holds x f Upper (suc n) p j (omega arith) suits plain whole
+substitution_holds x (Periodic j (negsuc n)) f p place suits plain whole = periodic-holds x f Lower (suc n) p j (omega arith) suits plain whole
+
+pub atom_holds : IntegerAtomIsExact
+atom_holds x s a p place suits whole = substitution_holds x s (One a) p place suits tt whole
