@@ -126,13 +126,13 @@ module _ (x : ℕ) (p : Point ℕ) (pb : 0 < p.below) (R : Point ℕ → Type 0)
 
   -- ---- back: what holds at a place holds at some value
 
-small_some : (Q : ℕ → ℕ → Type 0) → Small Q → (t : ℕ) × (s : ℕ) × 0 < t × 0 < s × Q t s
+pub small_some : (Q : ℕ → ℕ → Type 0) → Small Q → (t : ℕ) × (s : ℕ) × 0 < t × 0 < s × Q t s
 small_some Q h = (1, suc h.1, omega arith, omega arith, h.4 1 (suc h.1) (omega arith) (omega arith) (enough h.0 h.1 h.2))
   where
     enough : (u w : ℕ) → 0 < u → 1 * w < u * suc w
     enough u w p = grind arith
 
-large_some : (Q : ℤ → ℕ → Type 0) → Large Q → (t : ℤ) × (s : ℕ) × 0 < s × Q t s
+pub large_some : (Q : ℤ → ℕ → Type 0) → Large Q → (t : ℤ) × (s : ℕ) × 0 < s × Q t s
 large_some Q h = go h.0 h.1 h.2 h.3
   where
     go : (u : ℤ) (w : ℕ) → 0 < w → ((t : ℤ) (s : ℕ) → 0 < s → (u *ℤ pos s) <ℤ (t *ℤ pos w) → Q t s) → (t : ℤ) × (s : ℕ) × 0 < s × Q t s

@@ -19,3 +19,5 @@ pub mod IntegerSuffice
 pub mod FieldsMeet
 pub mod FieldsSuffice
 pub mod IntegerHolds
+pub mod FieldsNear
+pub mod FieldsSubstitute
