@@ -21,3 +21,4 @@ pub mod FieldsSuffice
 pub mod IntegerHolds
 pub mod FieldsNear
 pub mod FieldsSubstitute
+pub mod IntegerEliminate

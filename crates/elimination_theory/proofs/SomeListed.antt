@@ -163,3 +163,17 @@ each_all P all (x ∷ xs) = (all x, each_all P all xs)
 -- what all atoms have, each atom of the formula has
 pub every_all : {A N : Type 0} (P : A → Type 0) → ((a : A) → P a) → (f : Formula A N) → Every P f
 every_all P all f = every_listed P f (each_all P all (atoms_in f))
+
+pub each_mapped : {X Y : Type 0} (P : Y → Type 0) (g : X → Y) (xs : List X) → ((x : X) → P (g x)) → EachOf P (map g xs)
+each_mapped P g [] all = tt
+each_mapped P g (x ∷ xs) all = (all x, each_mapped P g xs all)
+
+pub each_flat_map : {X Y : Type 0} (P : Y → Type 0) (g : X → List Y) (xs : List X) → ((x : X) → EachOf P (g x)) → EachOf P (flat_map g xs)
+each_flat_map P g [] all = tt
+each_flat_map P g (x ∷ xs) all = each_append P (g x) (flat_map g xs) (all x) (each_flat_map P g xs all)
+
+-- what each element has, an element has
+pub each_among : {X : Type 0} (P : X → Type 0) (xs : List X) (s : X) → EachOf P xs → Among xs s → P s
+each_among P [] s e m = absurd m
+each_among P (x ∷ xs) s e (inl is) = subst P is e.0
+each_among P (x ∷ xs) s e (inr m) = each_among P xs s e.1 m
