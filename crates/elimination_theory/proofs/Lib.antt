@@ -22,3 +22,4 @@ pub mod IntegerHolds
 pub mod FieldsNear
 pub mod FieldsSubstitute
 pub mod IntegerEliminate
+pub mod FieldsAnswers

@@ -6,4 +6,5 @@ pub mod FreeNames
 pub mod PlainTruth
 pub mod Replacing
 pub mod EachAtom
+pub mod ReplacedShape
 pub mod TreeReplacing
