@@ -1,20 +1,18 @@
 -- Each listed test point of the integers is one of the integers for each atom; so ex(x, f) is f with the points put in.
-use Rattle.std.proofs.Common.{◌≡◌, ℕ, suc, zero, ◌*◌, ◌/◌, ◌<◌, ℤ, pos, negsuc, ◌*ℤ◌, neg_ℤ, ◌↔◌, ◌⊎◌, inl, inr, ⊎_elim, arith, refl, sym, ap, ◌∙◌, List, [], ◌∷◌, nat_eq, map, mul-pos}
+use Rattle.std.proofs.Common.{◌≡◌, ℕ, suc, zero, ◌*◌, ◌/◌, ◌<◌, ℤ, pos, negsuc, ◌*ℤ◌, neg_ℤ, ◌↔◌, inl, inr, ⊎_elim, arith, List, [], ◌∷◌, nat_eq, mul-pos}
 use Rattle.std.proofs.lemmas.Int.{ints}
 use Rattle.exact_numbers.specs.Divides.{Divides}
-use Rattle.exact_numbers.proofs.Ring.{mul_neg, mul_comm, neg_mul}
-use Rattle.exact_numbers.proofs.Divisibility.{divides_neg, divides_along}
-use Rattle.formula_meaning.specs.Context.{Context, Integers}
+use Rattle.exact_numbers.proofs.Ring.{mul_neg, mul_comm}
+use Rattle.formula_meaning.specs.Context.{Integers}
 use Rattle.formula_meaning.specs.Point.{Point, move}
-use Rattle.formula_meaning.specs.Formula.{Formula, Formulas, Yes, No, One, And, Or, Ex, none, also}
 use Rattle.formula_meaning.specs.Truth.{SomeTrue}
 use Rattle.formula_meaning.specs.Every.{Every, EveryOf}
 use Rattle.formula_meaning.specs.Some.{SomeOf}
 use Rattle.formula_meaning.specs.Shape.{IsPlain, ArePlain}
 use Rattle.formula_meaning.specs.Form.{Form, coefficient, plus}
-use Rattle.formula_meaning.specs.Atom.{Atom, Compare, Congruent, Incongruent, Relation, Equals, Differs, Below, AtMost, Above, AtLeast, mirrored, Says, AtomIn, form_of}
+use Rattle.formula_meaning.specs.Atom.{Atom, Compare, Congruent, Incongruent, Relation, Equals, Differs, Below, AtMost, Above, AtLeast, mirrored, Says, AtomIn}
 use Rattle.formula_meaning.specs.Answer.{Place, Exact, AboveBy, BelowBy, PlusInfinity, MinusInfinity, Periodic, Holds}
-use Rattle.formula_meaning.specs.Tree.{Tree, TrueAt, InContext}
+use Rattle.formula_meaning.specs.Tree.{Tree, InContext}
 use Rattle.formula_meaning.proofs.EachAtom.{every_map}
 use Rattle.formula_meaning.proofs.ReplacedShape.{plain_stays, every_replaced}
 use Rattle.elimination_theory.specs.Side.{Side, Lower, Upper}
@@ -22,10 +20,10 @@ use Rattle.elimination_theory.specs.Lists.{same_place}
 use Rattle.elimination_theory.specs.Atoms.{atoms_of}
 use Rattle.elimination_theory.specs.FieldsTheorems.{at_place}
 use Rattle.elimination_theory.specs.FieldsSubstitution.{beyond, below_all, exactly, put_in}
-use Rattle.elimination_theory.specs.IntegersSubstitution.{integer_atom, integer_substitution, integer_guard, is_whole, where_zero, along, put_number}
-use Rattle.elimination_theory.specs.IntegersPoints.{signed, counted, class_points, next_points, atom_starts, points_with, integer_scale, integer_span, integer_points, at_some, integer_elimination}
+use Rattle.elimination_theory.specs.IntegersSubstitution.{integer_atom, integer_guard, guarded_substitution, where_zero, along, put_number}
+use Rattle.elimination_theory.specs.IntegersPoints.{signed, counted, class_points, next_points, points_with, integer_scale, integer_span, integer_points, at_some}
 use Rattle.elimination_theory.specs.IntegersTheorems.{IsPeriodOf, IsIntegerPlace, Suits, IntegerTestPointsSuit, IntegerEliminationIsExact}
-use Rattle.elimination_theory.proofs.SomeListed.{EachOf, each_append, each_mapped, each_flat_map, each_distinct, each_among, every_all, every_both}
+use Rattle.elimination_theory.proofs.SomeListed.{EachOf, each_append, each_mapped, each_flat_map, each_distinct, each_among, every_all}
 use Rattle.elimination_theory.proofs.IntegerSides.{Fits}
 use Rattle.elimination_theory.proofs.IntegerSuffice.{formula-spanned, formula-fits, integer_points_suffice}
 use Rattle.elimination_theory.proofs.IntegerHolds.{substitution_holds}
@@ -59,9 +57,9 @@ points-are-for : (side : Side) (x l d : ℕ) (f : Tree) (atoms : List Atom) → 
 points-are-for side x l d f atoms scale steps fits =
     each_append (IsFor x f) (class_points side (d / l)) _
     (each_mapped (IsFor x f) (λ j. Periodic (signed side (pos j)) (signed side (neg_ℤ (pos (d / l))))) (counted 1 (d / l))
-      (λ j. (period-not-zero side (d / l) steps, every_map _ _ (λ a fit. atom-period side l (d / l) x a fit) f fits)))
+    (λ j. (period-not-zero side (d / l) steps, every_map _ _ (λ a fit. atom-period side l (d / l) x a fit) f fits)))
     (each_flat_map (IsFor x f) (next_points side l d) _
-      (λ b. each_mapped (IsFor x f) (λ j. Exact (plus b (signed side (pos j))) l) (counted 1 d) (λ j. (scale, every_all _ (λ a. tt) f))))
+    (λ b. each_mapped (IsFor x f) (λ j. Exact (plus b (signed side (pos j))) l) (counted 1 d) (λ j. (scale, every_all _ (λ a. tt) f))))
 
 listed-are-for : (side : Side) (x : ℕ) (f : Tree) → InContext Integers f → EachOf (IsFor x f) (integer_points side x f)
 listed-are-for side x f inside =
@@ -79,9 +77,10 @@ some-put-in : (x : ℕ) (f : Tree) (p : Point ℕ) (places : List Place) → IsP
 some-put-in x f p [] plain whole each = (λ n. n, λ n. n)
 some-put-in x f p (s ∷ places) plain whole each =
     let first = substitution_holds x s f p each.0.0 each.0.1 plain whole in
-    let rest = some-put-in x f p places plain whole each.1 in
-    (⊎_elim (λ h. let t = first.0 h in inl (t.0, (t.1, tt))) (λ r. inr (rest.0 r)),
-     ⊎_elim (λ t. inl (first.1 (t.0, t.1.0))) (λ r. inr (rest.1 r)))
+    let rest = some-put-in x f p places plain whole each.1 in (
+      ⊎_elim (λ h. let t = first.0 h in inl (t.0, (t.1, tt))) (λ r. inr (rest.0 r)),
+      ⊎_elim (λ t. inl (first.1 (t.0, t.1.0))) (λ r. inr (rest.1 r)),
+    )
 
 -- ---- what results is plain, with atoms of the integers
 
@@ -148,22 +147,33 @@ atom-plain x (BelowBy e l) place a inside = absurd place
 atom-plain x PlusInfinity place a inside = absurd place
 atom-plain x MinusInfinity place a inside = absurd place
 
+-- the guard and the substitution together
+pub substitution-plain : (x : ℕ) (s : Place) (f : Tree) → IsIntegerPlace s → IsPlain f → InContext Integers f →
+    IsPlain (guarded_substitution x s f) × InContext Integers (guarded_substitution x s f)
+substitution-plain x s f place plain inside =
+    let atoms = every_map _ _ (atom-plain x s place) f inside in
+    let plains = every_map (λ a. IsPlain (integer_atom x s a) × InContext Integers (integer_atom x s a)) (λ a. IsPlain (integer_atom x s a)) (λ a h. h.0) f atoms in
+    let insides = every_map (λ a. IsPlain (integer_atom x s a) × InContext Integers (integer_atom x s a)) (λ a. InContext Integers (integer_atom x s a)) (λ a h. h.1) f atoms in (
+      (guard-plain s, (plain_stays (integer_atom x s) (λ y. y) f plain plains, tt)),
+      (guard-inside s place, (every_replaced (integer_atom x s) (λ y. y) (AtomIn Integers) f insides, tt)),
+    )
+
 some-plain : (x : ℕ) (f : Tree) (places : List Place) → IsPlain f → InContext Integers f → EachOf (IsFor x f) places →
     ArePlain (at_some x f places) × EveryOf (AtomIn Integers) (at_some x f places)
 some-plain x f [] plain inside each = (tt, tt)
 some-plain x f (s ∷ places) plain inside each =
+    let first = substitution-plain x s f each.0.0 plain inside in
     let rest = some-plain x f places plain inside each.1 in
-    let atoms = every_map _ _ (atom-plain x s each.0.0) f inside in
-    let plains = every_map (λ a. IsPlain (integer_atom x s a) × InContext Integers (integer_atom x s a)) (λ a. IsPlain (integer_atom x s a)) (λ a h. h.0) f atoms in
-    let insides = every_map (λ a. IsPlain (integer_atom x s a) × InContext Integers (integer_atom x s a)) (λ a. InContext Integers (integer_atom x s a)) (λ a h. h.1) f atoms in
-    (((guard-plain s, (plain_stays (integer_atom x s) (λ y. y) f plain plains, tt)), rest.0),
-     ((guard-inside s each.0.0, (every_replaced (integer_atom x s) (λ y. y) (AtomIn Integers) f insides, tt)), rest.1))
+    ((first.0, rest.0), (first.1, rest.1))
 
 pub elimination_is_exact : IntegerEliminationIsExact
 elimination_is_exact side x f plain inside =
     let each = listed-are-for side x f inside in
-    let shape = some-plain x f (integer_points side x f) plain inside each in
-    (shape.0, shape.1, λ p whole.
-        let suffice = integer_points_suffice side x f p plain inside whole in
-        let put = some-put-in x f p (integer_points side x f) plain whole each in
-        (λ t. put.0 (suffice.0 t), λ t. suffice.1 (put.1 t)))
+    let shape = some-plain x f (integer_points side x f) plain inside each in (
+      shape.0,
+      shape.1,
+      λ p whole.
+          let suffice = integer_points_suffice side x f p plain inside whole in
+          let put = some-put-in x f p (integer_points side x f) plain whole each in
+          (λ t. put.0 (suffice.0 t), λ t. suffice.1 (put.1 t)),
+    )

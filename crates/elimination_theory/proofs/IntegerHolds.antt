@@ -1,24 +1,24 @@
 -- The guard and the substitution of a place of the integers are true exactly where the place makes the formula true.
-use Rattle.std.proofs.Common.{◌≡◌, ℕ, suc, zero, ◌+◌, ◌*◌, ◌/◌, ◌<◌, ℤ, pos, negsuc, ◌+ℤ◌, ◌*ℤ◌, neg_ℤ, ◌<ℤ◌, ◌↔◌, arith, refl, subst, sym, ap, ◌∙◌, nat_eq}
+use Rattle.std.proofs.Common.{◌≡◌, ℕ, suc, zero, ◌<◌, ℤ, pos, negsuc, ◌+ℤ◌, ◌*ℤ◌, neg_ℤ, ◌↔◌, arith, refl, subst, sym, ap, ◌∙◌, nat_eq}
 use Rattle.std.proofs.lemmas.Int.{ints}
 use Rattle.exact_numbers.specs.Divides.{Divides}
-use Rattle.exact_numbers.proofs.Ring.{ring, mul_one, mul_comm, mul_neg, neg_mul}
+use Rattle.exact_numbers.proofs.Ring.{mul_one, mul_comm, mul_neg, neg_mul}
 use Rattle.exact_numbers.proofs.Divisibility.{divides_same}
-use Rattle.formula_meaning.specs.Context.{Context, Integers}
-use Rattle.formula_meaning.specs.Point.{Point, Of, move}
-use Rattle.formula_meaning.specs.Formula.{Formula, One}
+use Rattle.formula_meaning.specs.Context.{Integers}
+use Rattle.formula_meaning.specs.Point.{Point, move}
+use Rattle.formula_meaning.specs.Formula.{One}
 use Rattle.formula_meaning.specs.Every.{Every}
 use Rattle.formula_meaning.specs.Shape.{IsPlain}
 use Rattle.formula_meaning.specs.Form.{Form, value, coefficient}
 use Rattle.formula_meaning.specs.Atom.{Atom, Compare, Congruent, Incongruent, Says, form_of}
-use Rattle.formula_meaning.specs.Answer.{Place, Exact, AboveBy, BelowBy, PlusInfinity, MinusInfinity, Periodic, Holds}
+use Rattle.formula_meaning.specs.Answer.{Exact, AboveBy, BelowBy, PlusInfinity, MinusInfinity, Periodic, Holds}
 use Rattle.formula_meaning.specs.Tree.{Tree, TrueAt}
 use Rattle.formula_meaning.proofs.EachAtom.{every_map}
 use Rattle.elimination_theory.specs.Side.{Side, Lower, Upper}
 use Rattle.elimination_theory.specs.FieldsTheorems.{at_place}
 use Rattle.elimination_theory.specs.IntegersSubstitution.{integer_atom, integer_substitution, integer_guard, is_whole}
 use Rattle.elimination_theory.specs.IntegersPoints.{signed, integer_scale}
-use Rattle.elimination_theory.specs.IntegersTheorems.{IsIntegerPlace, IsPeriodOf, Suits, IntegerAtomIsExact, IntegerSubstitutionIsExact}
+use Rattle.elimination_theory.specs.IntegersTheorems.{IsPeriodOf, IntegerAtomIsExact, IntegerSubstitutionIsExact}
 use Rattle.elimination_theory.specs.Atoms.{atoms_of}
 use Rattle.elimination_theory.proofs.SomeListed.{every_both, every_all, every_of_atoms}
 use Rattle.elimination_theory.proofs.IntegerEval.{Eval, Agree, eval_map}
@@ -26,7 +26,7 @@ use Rattle.elimination_theory.proofs.IntegerPlain.{plain-eval, replaced-eval}
 use Rattle.elimination_theory.proofs.IntegerDescent.{Stays, far_down, from_far_down}
 use Rattle.elimination_theory.proofs.IntegerCompare.{Scales}
 use Rattle.elimination_theory.proofs.IntegerAtom.{divides-is, exact-says, iff-trans, iff-sym}
-use Rattle.elimination_theory.proofs.IntegerSides.{Fits, FitsAt, SaysHere, SaysFar, IsNear, atom-low, atom-stays, signed-signed}
+use Rattle.elimination_theory.proofs.IntegerSides.{Fits, SaysHere, SaysFar, IsNear, atom-low, atom-stays, signed-signed}
 use Rattle.elimination_theory.proofs.IntegerScale.{Reaches, scale-positive, scale-reaches, scales-of}
 use Rattle.elimination_theory.proofs.IntegerPoints.{class-value}
 
@@ -43,16 +43,18 @@ pub exact-substitution : (x : ℕ) (e : Form) (l : ℕ) (f : Tree) (p : Point �
     TrueAt Integers f (move nat_eq p x k 1) ↔ TrueAt Integers (integer_substitution x (Exact e l) f) p
 exact-substitution x e l f p k positive whole is plain =
     iff-trans (plain-eval Says (move nat_eq) Integers (move nat_eq p x k 1) f plain)
-    (iff-trans
-      (eval_map _ _ f (every_all _ (λ a. (exact-says a p x e l k whole positive is).0) f),
-       eval_map _ _ f (every_all _ (λ a. (exact-says a p x e l k whole positive is).1) f))
-      (iff-sym (replaced-eval (integer_atom x (Exact e l)) Says (move nat_eq) Integers p f plain)))
+    (iff-trans (
+      eval_map _ _ f (every_all _ (λ a. (exact-says a p x e l k whole positive is).0) f),
+      eval_map _ _ f (every_all _ (λ a. (exact-says a p x e l k whole positive is).1) f),
+    )
+    (iff-sym (replaced-eval (integer_atom x (Exact e l)) Says (move nat_eq) Integers p f plain)))
 
 exact-holds : (x : ℕ) (e : Form) (l : ℕ) (f : Tree) (p : Point ℕ) → 0 < l → IsPlain f → p.below ≡ 1 →
     Holds Integers (at_place x (Exact e l)) f p ↔ TrueAt Integers (is_whole e l) p × TrueAt Integers (integer_substitution x (Exact e l) f) p
 exact-holds x e l f p positive plain whole = (
   λ h. ((guard-is e l p positive whole).1 (h.0, h.1), (exact-substitution x e l f p h.0 positive whole h.1 plain).0 h.2),
-  λ h. let k = (guard-is e l p positive whole).0 h.0 in (k.0, k.1, (exact-substitution x e l f p k.0 positive whole k.1 plain).1 h.1))
+  λ h. let k = (guard-is e l p positive whole).0 h.0 in (k.0, k.1, (exact-substitution x e l f p k.0 positive whole k.1 plain).1 h.1),
+)
 
 -- ---- residue classes
 
@@ -62,9 +64,10 @@ class-back side j s t b whole = sym (class-value side (signed side j) s t b whol
 module _ (side : Side) (x l step : ℕ) (f : Tree) (p : Point ℕ) (whole : p.below ≡ 1) (plain : IsPlain f) (positive : 0 < l) (steps : 0 < step)
     (fits : Every (Fits l step x) f) (j : ℤ) where
   class-far : Eval (SaysFar side x l l step p whole (signed side j)) f ↔ TrueAt Integers (integer_substitution x (Periodic j (signed side (neg_ℤ (pos step)))) f) p
-  class-far = iff-trans
-      (subst (λ i. Eval (λ a. TrueAt Integers (integer_atom x (Periodic i (signed side (neg_ℤ (pos step)))) a) p) f) (signed-signed side j),
-       subst (λ i. Eval (λ a. TrueAt Integers (integer_atom x (Periodic i (signed side (neg_ℤ (pos step)))) a) p) f) (sym (signed-signed side j)))
+  class-far = iff-trans (
+    subst (λ i. Eval (λ a. TrueAt Integers (integer_atom x (Periodic i (signed side (neg_ℤ (pos step)))) a) p) f) (signed-signed side j),
+    subst (λ i. Eval (λ a. TrueAt Integers (integer_atom x (Periodic i (signed side (neg_ℤ (pos step)))) a) p) f) (sym (signed-signed side j)),
+  )
       (iff-sym (replaced-eval (integer_atom x (Periodic j (signed side (neg_ℤ (pos step))))) Says (move nat_eq) Integers p f plain))
 
   low : Every (λ a. (u : ℤ) × Agree (SaysHere side x l l step p whole) (SaysFar side x l l step p whole) u a) f
@@ -75,9 +78,10 @@ module _ (side : Side) (x l step : ℕ) (f : Tree) (p : Point ℕ) (whole : p.be
 
   class-here : (t : ℤ) → TrueAt Integers f (move nat_eq p x ((j +ℤ signed side (neg_ℤ (pos step)) *ℤ t) *ℤ pos p.below) 1) ↔
       Eval (SaysHere side x l l step p whole (signed side j +ℤ neg_ℤ (pos step) *ℤ t)) f
-  class-here t = iff-trans
-      (subst (λ k. TrueAt Integers f (move nat_eq p x k 1)) (class-back side j (neg_ℤ (pos step)) t p.below whole),
-       subst (λ k. TrueAt Integers f (move nat_eq p x k 1)) (sym (class-back side j (neg_ℤ (pos step)) t p.below whole)))
+  class-here t = iff-trans (
+    subst (λ k. TrueAt Integers f (move nat_eq p x k 1)) (class-back side j (neg_ℤ (pos step)) t p.below whole),
+    subst (λ k. TrueAt Integers f (move nat_eq p x k 1)) (sym (class-back side j (neg_ℤ (pos step)) t p.below whole)),
+  )
       (plain-eval Says (move nat_eq) Integers _ f plain)
 
   pub class-holds : Holds Integers (at_place x (Periodic j (signed side (neg_ℤ (pos step))))) f p ↔
@@ -87,7 +91,8 @@ module _ (side : Side) (x l step : ℕ) (f : Tree) (p : Point ℕ) (whole : p.be
         (signed side j) h.0 (λ t far. (class-here t).0 (h.1 t far))),
     λ true. let far = far_down (SaysHere side x l l step p whole) (SaysFar side x l l step p whole) (IsNear side x l l step p whole) step steps f low stays
         (signed side j) (class-far.1 true) in
-        (far.0, λ t h. (class-here t).1 (far.1 t h)))
+        (far.0, λ t h. (class-here t).1 (far.1 t h)),
+  )
 
 -- ---- every place
 

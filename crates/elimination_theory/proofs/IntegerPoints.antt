@@ -1,5 +1,5 @@
 -- The test points of a side suffice, for each scale and span that fit.
-use Rattle.std.proofs.Common.{◌≡◌, ℕ, suc, zero, ◌+◌, ◌/◌, ◌<◌, ℤ, pos, ◌+ℤ◌, ◌-ℤ◌, ◌*ℤ◌, neg_ℤ, ◌⊎◌, ◌↔◌, arith, refl, inl, inr, ⊎_elim, subst, sym, ap, ◌∙◌, nat_eq, List, [], ◌∷◌, flat_map}
+use Rattle.std.proofs.Common.{◌≡◌, ℕ, suc, zero, ◌+◌, ◌/◌, ◌<◌, ℤ, pos, ◌+ℤ◌, ◌-ℤ◌, ◌*ℤ◌, neg_ℤ, ◌⊎◌, ◌↔◌, arith, refl, inl, inr, ⊎_elim, subst, sym, ap, ◌∙◌, nat_eq, flat_map}
 use Rattle.std.proofs.lemmas.Int.{ints}
 use Rattle.exact_numbers.proofs.Ring.{ring, mul_one, mul_comm}
 use Rattle.formula_meaning.specs.Context.{Integers}

@@ -1,19 +1,19 @@
 -- The scale and the span that are computed fit each atom.
-use Rattle.std.proofs.Common.{◌≡◌, ℕ, suc, zero, ◌+◌, ◌*◌, ◌/◌, ◌<◌, ◌≤◌, ℤ, pos, negsuc, ◌+ℤ◌, ◌-ℤ◌, ◌*ℤ◌, neg_ℤ, ◌≤ℤ◌, ◌<ℤ◌, arith, refl, subst, sym, ap, ◌∙◌, List, [], ◌∷◌, unsigned_abs, int_div}
+use Rattle.std.proofs.Common.{◌≡◌, ℕ, suc, zero, ◌*◌, ◌/◌, ◌<◌, ℤ, pos, negsuc, ◌*ℤ◌, neg_ℤ, ◌<ℤ◌, arith, refl, subst, sym, ap, ◌∙◌, List, [], ◌∷◌, unsigned_abs}
 use Rattle.std.proofs.lemmas.Int.{ints}
-use Rattle.exact_numbers.specs.Divides.{Divides, IsLcm, lcm_of}
-use Rattle.exact_numbers.proofs.Ring.{ring, mul_one, mul_comm, neg_mul, mul_assoc}
+use Rattle.exact_numbers.specs.Divides.{Divides, lcm_of}
+use Rattle.exact_numbers.proofs.Ring.{ring, mul_comm, neg_mul}
 use Rattle.exact_numbers.proofs.Order.{cancel_positive, factor_positive, mul_positive}
-use Rattle.exact_numbers.proofs.Divisibility.{divides_same, divides_trans, divides_along}
+use Rattle.exact_numbers.proofs.Divisibility.{divides_trans, divides_along}
 use Rattle.exact_numbers.proofs.Lcm.{lcm_is, exact_div}
-use Rattle.formula_meaning.specs.Context.{Context, Integers}
-use Rattle.formula_meaning.specs.Form.{Form, coefficient}
+use Rattle.formula_meaning.specs.Context.{Integers}
+use Rattle.formula_meaning.specs.Form.{coefficient}
 use Rattle.formula_meaning.specs.Atom.{Atom, Compare, Congruent, Incongruent, form_of, AtomIn}
 use Rattle.formula_meaning.proofs.Values.{pos_mul}
 use Rattle.elimination_theory.specs.IntegersPoints.{common_multiple, with_coefficient, scale_of, with_modulus, span_of}
 use Rattle.elimination_theory.proofs.SomeListed.{EachOf}
 use Rattle.elimination_theory.proofs.IntegerCompare.{Factor, Scales}
-use Rattle.elimination_theory.proofs.IntegerSides.{FitsAt, Fits}
+use Rattle.elimination_theory.proofs.IntegerSides.{Fits}
 
 -- ---- common multiples of natural numbers
 
@@ -82,9 +82,10 @@ scale-positive x (a ∷ atoms) = with_coefficient-positive (coefficient x (form_
 -- each multiple of the scale is one of each coefficient
 pub scale-reaches : (x l : ℕ) (atoms : List Atom) → Divides (pos (scale_of x atoms)) (pos l) → EachOf (λ a. Reaches l (coefficient x (form_of a))) atoms
 scale-reaches x l [] d = tt
-scale-reaches x l (a ∷ atoms) d =
-    (with_coefficient-reaches (coefficient x (form_of a)) (scale_of x atoms) l (scale-positive x atoms) d,
-     scale-reaches x l atoms (with_coefficient-rest (coefficient x (form_of a)) (scale_of x atoms) l (scale-positive x atoms) d))
+scale-reaches x l (a ∷ atoms) d = (
+  with_coefficient-reaches (coefficient x (form_of a)) (scale_of x atoms) l (scale-positive x atoms) d,
+  scale-reaches x l atoms (with_coefficient-rest (coefficient x (form_of a)) (scale_of x atoms) l (scale-positive x atoms) d),
+)
 
 pub scales-of : (l : ℕ) (c : ℤ) → 0 < l → Reaches l c → Scales l c
 scales-of l (pos zero) h r = tt
@@ -166,10 +167,12 @@ fits-each l d step x [] hl span inside reach h = tt
 fits-each l d step x (Compare r f ∷ atoms) hl span inside reach h =
     (scales-of l (coefficient x f) hl reach.0, fits-each l d step x atoms hl span inside.1 reach.1 h)
 fits-each l d step x (Congruent m f ∷ atoms) hl span inside reach h =
-    let p = span-positive l x atoms hl inside.1 reach.1 in
-    (period-of l d step m (coefficient x f) hl span (scales-of l (coefficient x f) hl reach.0) (with_modulus-spans l m hl inside.0 (coefficient x f) (span_of l x atoms) d reach.0 p h),
-     fits-each l d step x atoms hl span inside.1 reach.1 (with_modulus-rest l m hl inside.0 (coefficient x f) (span_of l x atoms) d reach.0 p h))
+    let p = span-positive l x atoms hl inside.1 reach.1 in (
+      period-of l d step m (coefficient x f) hl span (scales-of l (coefficient x f) hl reach.0) (with_modulus-spans l m hl inside.0 (coefficient x f) (span_of l x atoms) d reach.0 p h),
+      fits-each l d step x atoms hl span inside.1 reach.1 (with_modulus-rest l m hl inside.0 (coefficient x f) (span_of l x atoms) d reach.0 p h),
+    )
 fits-each l d step x (Incongruent m f ∷ atoms) hl span inside reach h =
-    let p = span-positive l x atoms hl inside.1 reach.1 in
-    (period-of l d step m (coefficient x f) hl span (scales-of l (coefficient x f) hl reach.0) (with_modulus-spans l m hl inside.0 (coefficient x f) (span_of l x atoms) d reach.0 p h),
-     fits-each l d step x atoms hl span inside.1 reach.1 (with_modulus-rest l m hl inside.0 (coefficient x f) (span_of l x atoms) d reach.0 p h))
+    let p = span-positive l x atoms hl inside.1 reach.1 in (
+      period-of l d step m (coefficient x f) hl span (scales-of l (coefficient x f) hl reach.0) (with_modulus-spans l m hl inside.0 (coefficient x f) (span_of l x atoms) d reach.0 p h),
+      fits-each l d step x atoms hl span inside.1 reach.1 (with_modulus-rest l m hl inside.0 (coefficient x f) (span_of l x atoms) d reach.0 p h),
+    )

@@ -1,26 +1,20 @@
 -- Over the integers the test points of both sides suffice.
-use Rattle.std.proofs.Common.{◌≡◌, ℕ, ◌*◌, ◌/◌, ◌<◌, ℤ, pos, ◌*ℤ◌, ◌<ℤ◌, ◌↔◌, arith, subst, sym, List}
+use Rattle.std.proofs.Common.{◌≡◌, ℕ, ◌/◌, ◌<◌, pos, ◌*ℤ◌, ◌<ℤ◌, arith, sym}
 use Rattle.std.proofs.lemmas.Int.{ints}
 use Rattle.exact_numbers.specs.Divides.{Divides}
-use Rattle.exact_numbers.proofs.Ring.{mul_comm}
 use Rattle.exact_numbers.proofs.Divisibility.{divides_same}
 use Rattle.exact_numbers.proofs.Lcm.{exact_div}
 use Rattle.exact_numbers.proofs.Order.{factor_positive}
 use Rattle.formula_meaning.specs.Context.{Integers}
-use Rattle.formula_meaning.specs.Point.{Point}
-use Rattle.formula_meaning.specs.Formula.{Ex}
-use Rattle.formula_meaning.specs.Some.{SomeOf}
 use Rattle.formula_meaning.specs.Every.{Every}
-use Rattle.formula_meaning.specs.Shape.{IsPlain}
 use Rattle.formula_meaning.specs.Form.{coefficient}
-use Rattle.formula_meaning.specs.Atom.{Atom, AtomIn, form_of}
-use Rattle.formula_meaning.specs.Answer.{Place, Holds}
-use Rattle.formula_meaning.specs.Tree.{Tree, TrueAt, InContext}
+use Rattle.formula_meaning.specs.Atom.{AtomIn, form_of}
+use Rattle.formula_meaning.specs.Answer.{Holds}
+use Rattle.formula_meaning.specs.Tree.{Tree, InContext}
 use Rattle.elimination_theory.specs.Lists.{same_place}
 use Rattle.elimination_theory.specs.Atoms.{atoms_of}
-use Rattle.elimination_theory.specs.Side.{Side}
 use Rattle.elimination_theory.specs.FieldsTheorems.{at_place}
-use Rattle.elimination_theory.specs.IntegersPoints.{points_with, integer_scale, integer_span, integer_points}
+use Rattle.elimination_theory.specs.IntegersPoints.{points_with, integer_scale, integer_span}
 use Rattle.elimination_theory.specs.IntegersTheorems.{IntegerTestPointsSuffice}
 use Rattle.elimination_theory.proofs.Listed.{place_same}
 use Rattle.elimination_theory.proofs.SomeListed.{EachOf, some_distinct, some_of_distinct, atoms_of_every, every_of_atoms}
@@ -66,8 +60,9 @@ module _ (x : ℕ) (f : Tree) (inside : InContext Integers f) where
 
 pub integer_points_suffice : IntegerTestPointsSuffice
 integer_points_suffice side x f p plain inside whole =
-    let s = formula-spanned x f inside in
-    (λ true. some_distinct same_place place_same (λ s. Holds Integers (at_place x s) f p) (points_with side (integer_scale x f) (integer_span x f) x (atoms_of f))
-        (some_holds side x (integer_scale x f) (integer_span x f) p whole s.scale s.span s.period s.is f plain (formula-fits x f inside) true),
-     λ some. holds_true side x (integer_scale x f) (integer_span x f) f p
-        (some_of_distinct same_place (λ s. Holds Integers (at_place x s) f p) (points_with side (integer_scale x f) (integer_span x f) x (atoms_of f)) some))
+    let s = formula-spanned x f inside in (
+      λ true. some_distinct same_place place_same (λ s. Holds Integers (at_place x s) f p) (points_with side (integer_scale x f) (integer_span x f) x (atoms_of f))
+          (some_holds side x (integer_scale x f) (integer_span x f) p whole s.scale s.span s.period s.is f plain (formula-fits x f inside) true),
+      λ some. holds_true side x (integer_scale x f) (integer_span x f) f p
+          (some_of_distinct same_place (λ s. Holds Integers (at_place x s) f p) (points_with side (integer_scale x f) (integer_span x f) x (atoms_of f)) some),
+    )

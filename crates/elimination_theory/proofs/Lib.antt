@@ -23,3 +23,4 @@ pub mod FieldsNear
 pub mod FieldsSubstitute
 pub mod IntegerEliminate
 pub mod FieldsAnswers
+pub mod IntegerAnswers

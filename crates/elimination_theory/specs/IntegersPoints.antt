@@ -5,9 +5,8 @@ use Rattle.formula_meaning.specs.Form.{Form, coefficient, without, scale, plus}
 use Rattle.formula_meaning.specs.Atom.{Atom, Compare, Congruent, Incongruent, Relation, Equals, Differs, Below, AtMost, Above, AtLeast, mirrored, form_of}
 use Rattle.formula_meaning.specs.Answer.{Place, Exact, Periodic}
 use Rattle.formula_meaning.specs.Tree.{Tree}
-use Rattle.formula_meaning.specs.Formula.{Formula, Formulas, And, Or, none, also}
-use Rattle.formula_meaning.specs.NegationNormal.{both}
-use Rattle.elimination_theory.specs.IntegersSubstitution.{integer_guard, integer_substitution}
+use Rattle.formula_meaning.specs.Formula.{Formulas, Or, none, also}
+use Rattle.elimination_theory.specs.IntegersSubstitution.{guarded_substitution}
 use Rattle.elimination_theory.specs.Lists.{distinct, same_place}
 use Rattle.elimination_theory.specs.Atoms.{atoms_of}
 use Rattle.elimination_theory.specs.Side.{Side, Lower, Upper, turned}
@@ -96,7 +95,7 @@ integer_points side x f = distinct same_place (points_with side (integer_scale x
 -- f at some of the places: one of them is a whole number, and f is true there
 abbrev pub at_some : ℕ → Tree → List Place → Formulas Atom ℕ
 at_some x f [] = none
-at_some x f (s ∷ places) = also (And (both (integer_guard s) (integer_substitution x s f))) (at_some x f places)
+at_some x f (s ∷ places) = also (guarded_substitution x s f) (at_some x f places)
 
 -- f with the test points of a side put in for x
 abbrev pub integer_elimination : Side → ℕ → Tree → Tree
