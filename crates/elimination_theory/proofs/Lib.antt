@@ -24,3 +24,4 @@ pub mod FieldsSubstitute
 pub mod IntegerEliminate
 pub mod FieldsAnswers
 pub mod IntegerAnswers
+pub mod IntegerExamples

@@ -7,3 +7,4 @@ pub mod FieldsTheorems
 pub mod IntegersSubstitution
 pub mod IntegersPoints
 pub mod IntegersTheorems
+pub mod IntegersExamples
