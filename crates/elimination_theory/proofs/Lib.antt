@@ -25,3 +25,7 @@ pub mod IntegerEliminate
 pub mod FieldsAnswers
 pub mod IntegerAnswers
 pub mod IntegerExamples
+pub mod AtomsDecided
+pub mod Decided
+pub mod NegationNormal
+pub mod FieldsEliminated

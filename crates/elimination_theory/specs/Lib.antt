@@ -8,3 +8,5 @@ pub mod IntegersSubstitution
 pub mod IntegersPoints
 pub mod IntegersTheorems
 pub mod IntegersExamples
+pub mod Elimination
+pub mod Decided

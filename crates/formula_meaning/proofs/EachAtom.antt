@@ -42,7 +42,7 @@ module _ {A N : Type 0} (K : N → Type 0) (all : (x : N) → K x) where
 
 -- What holds eventually, as of all small enough or all large enough numbers: two such facts hold together.
 module _ {X : Type 0} (Eventually : (X → Type 0) → Type 0) (whole : Eventually (λ x. Unit {0}))
-  (both : (Q R : X → Type 0) → Eventually Q → Eventually R → Eventually (λ x. Q x × R x)) where
+    (both : (Q R : X → Type 0) → Eventually Q → Eventually R → Eventually (λ x. Q x × R x)) where
   mutual
     pub every_eventually : {A N : Type 0} (C : X → A → Type 0) (f : Formula A N) → Every (λ a. Eventually (λ x. C x a)) f → Eventually (λ x. Every (C x) f)
     every_eventually C Yes h = whole

@@ -1,15 +1,14 @@
 -- The least common multiple: it divides exactly the common multiples.
-use Rattle.std.proofs.Common.{◌≡◌, ◌<◌, ◌≤◌, ap, sym, ◌∙◌, subst, arith}
-use Rattle.std.proofs.Math.IntN.{ℤ, pos, negsuc, neg_ℤ, ◌+ℤ◌, ◌-ℤ◌, ◌*ℤ◌}
+use Rattle.std.proofs.Common.{◌≡◌, ◌<◌, ap, sym, ◌∙◌, arith}
+use Rattle.std.proofs.Math.IntN.{ℤ, pos, ◌+ℤ◌, ◌-ℤ◌, ◌*ℤ◌}
 use Rattle.std.specs.Prelude.{◌<ℤ◌, ◌≤ℤ◌, unsigned_abs, int_div, int_rem}
 use Rattle.std.proofs.Math.Nat.{le_of_dvd}
-use Rattle.std.proofs.lemmas.Bool.{cases_lt}
 use Rattle.std.proofs.lemmas.Int.{ints, quot-rem, rem_below}
-use Rattle.exact_numbers.specs.Divides.{Divides, IsGcd, IsLcm, Combines, gcd_of, lcm_of}
+use Rattle.exact_numbers.specs.Divides.{Divides, IsGcd, IsLcm, gcd_of, lcm_of}
 use Rattle.exact_numbers.proofs.Ring.{ring, mul_comm, mul_assoc, mul_left_comm}
-use Rattle.exact_numbers.proofs.Order.{by_less, cancel, cancel_positive, mul_positive, factor_positive}
+use Rattle.exact_numbers.proofs.Order.{by_less, cancel_positive, mul_positive, factor_positive}
 use Rattle.exact_numbers.proofs.Divisibility.{divides_same, divides_along, divides_both, divides_mul, divides_sub, abs_divides, divides_trans}
-use Rattle.exact_numbers.proofs.Gcd.{gcd_is, gcd_positive, bezout}
+use Rattle.exact_numbers.proofs.GreatestDivisor.{gcd_is, gcd_positive, bezout}
 
 exact_rem : (d a : ℤ) → ¬ (d ≡ pos 0) → Divides d a → int_rem a d ≡ pos 0
 exact_rem d a n h =
@@ -21,8 +20,8 @@ exact_rem d a n h =
     let b = rem_below a d z in
     by_less (pos 0) (pos (unsigned_abs (int_rem a d)))
     (λ (p : pos 0 <ℤ pos (unsigned_abs (int_rem a d))).
-        let q : 0 < unsigned_abs (int_rem a d) = omega (arith, ints) in
-        let l = le_of_dvd q (abs_divides d (int_rem a d) r) in absurd (omega arith))
+    let q : 0 < unsigned_abs (int_rem a d) = omega (arith, ints) in
+    let l = le_of_dvd q (abs_divides d (int_rem a d) r) in absurd (omega arith))
     (λ (p : pos (unsigned_abs (int_rem a d)) ≤ℤ pos 0). omega (arith, ints))
 
 -- division without a remainder
@@ -49,10 +48,10 @@ lcm_by_gcd {a} {b} {g} k pa pb p e =
     let kp = factor_positive gp f in
     let c = bezout p in
     record {
-        positive = mul_positive kp pb;
-        left = record { quotient = p.right.quotient; exact = ap (λ z. k *ℤ z) p.right.exact ∙ mul_left_comm k g p.right.quotient ∙ sym (mul_assoc g k p.right.quotient) ∙ ap (λ z. z *ℤ p.right.quotient) e };
-        right = record { quotient = k; exact = mul_comm k b };
-        least = λ m x y. record { quotient = y.quotient *ℤ c.first +ℤ x.quotient *ℤ c.second; exact = cancel_positive g gp (common_multiple a b g k m x.quotient y.quotient c.first c.second e c.sum x.exact y.exact) }
+      positive = mul_positive kp pb;
+      left = record { quotient = p.right.quotient; exact = ap (λ z. k *ℤ z) p.right.exact ∙ mul_left_comm k g p.right.quotient ∙ sym (mul_assoc g k p.right.quotient) ∙ ap (λ z. z *ℤ p.right.quotient) e };
+      right = record { quotient = k; exact = mul_comm k b };
+      least = λ m x y. record { quotient = y.quotient *ℤ c.first +ℤ x.quotient *ℤ c.second; exact = cancel_positive g gp (common_multiple a b g k m x.quotient y.quotient c.first c.second e c.sum x.exact y.exact) };
     }
 
 pub lcm_is : {a b : ℤ} → pos 0 <ℤ a → pos 0 <ℤ b → IsLcm a b (lcm_of a b)

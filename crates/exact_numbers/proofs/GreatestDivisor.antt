@@ -1,13 +1,13 @@
 -- The greatest common divisor, with the factors that combine to it.
-use Rattle.std.proofs.Common.{◌≡◌, ◌<◌, ◌≤◌, ◌+◌, ◌*◌, ◌%◌, ℕ, zero, suc, ap, sym, ◌∙◌, refl, subst, arith, add-one}
-use Rattle.std.proofs.Math.IntN.{ℤ, pos, negsuc, neg_ℤ, ◌+ℤ◌, ◌-ℤ◌, ◌*ℤ◌}
+use Rattle.std.proofs.Common.{◌≡◌, ◌<◌, ◌%◌, ℕ, zero, suc, ap, sym, ◌∙◌, refl, subst, arith}
+use Rattle.std.proofs.Math.IntN.{ℤ, pos, neg_ℤ, ◌+ℤ◌, ◌-ℤ◌, ◌*ℤ◌}
 use Rattle.std.specs.Prelude.{◌<ℤ◌, ◌≤ℤ◌, unsigned_abs}
 use Rattle.std.specs.Int.{IsGcd as IsNatGcd}
 use Rattle.std.proofs.lemmas.Int.{ints}
 use Rattle.std.proofs.lemmas.Nat.{mod_below}
 use Rattle.std.proofs.lemmas.Nat.Gcd.{IsGcd-from_mod, IsGcd-from_zero}
-use Rattle.exact_numbers.specs.Divides.{Divides, IsGcd, Combines, floor_of, residue_of, euclid, gcd_of}
-use Rattle.exact_numbers.proofs.Ring.{ring, mul_comm, mul_add, mul_assoc, mul_sub, mul_one, mul_zero, mul_neg, zero_mul}
+use Rattle.exact_numbers.specs.Divides.{IsGcd, Combines, floor_of, residue_of, euclid, gcd_of}
+use Rattle.exact_numbers.proofs.Ring.{ring, mul_assoc, mul_one, mul_zero, mul_neg, zero_mul}
 use Rattle.exact_numbers.proofs.Order.{by_zero, by_less}
 use Rattle.exact_numbers.proofs.Divisibility.{divides_same, divides_zero, divides_along, divides_add, divides_sub, divides_neg, neg_divides, divides_mul, divides_trans, divides_both, sign_abs, abs_sign, divides_from_abs, abs_divides}
 use Rattle.exact_numbers.proofs.Floor.{floor_and_residue, residue_not_negative, residue_below}
@@ -26,10 +26,10 @@ euclid_is (suc n) a (suc b) h =
 pub gcd_from_abs : (a b : ℤ) (g : ℕ) → IsNatGcd (unsigned_abs a) (unsigned_abs b) g → IsGcd a b (pos g)
 gcd_from_abs a b g h =
     record {
-        not_negative = omega (arith, ints);
-        left = divides_from_abs (pos g) a h.0;
-        right = divides_from_abs (pos g) b h.1;
-        greatest = λ d x y. divides_from_abs d (pos g) (h.2 (unsigned_abs d) (abs_divides d a x) (abs_divides d b y))
+      not_negative = omega (arith, ints);
+      left = divides_from_abs (pos g) a h.0;
+      right = divides_from_abs (pos g) b h.1;
+      greatest = λ d x y. divides_from_abs d (pos g) (h.2 (unsigned_abs d) (abs_divides d a x) (abs_divides d b y));
     }
 
 pub gcd_is : (a b : ℤ) → IsGcd a b (gcd_of a b)
@@ -54,9 +54,9 @@ pub gcd_positive : {a b g : ℤ} → IsGcd a b g → ¬ (b ≡ pos 0) → pos 0 
 gcd_positive {a} {b} {g} p n =
     by_less (pos 0) g (λ h. h)
     (λ (l : g ≤ℤ pos 0).
-        let m = p.not_negative in
-        let z : g ≡ pos 0 = omega (arith, ints) in
-        absurd (n (p.right.exact ∙ ap (λ x. x *ℤ p.right.quotient) z ∙ zero_mul p.right.quotient)))
+    let m = p.not_negative in
+    let z : g ≡ pos 0 = omega (arith, ints) in
+    absurd (n (p.right.exact ∙ ap (λ x. x *ℤ p.right.quotient) z ∙ zero_mul p.right.quotient)))
 
 -- ---- the factors
 
@@ -69,24 +69,24 @@ factors_at_zero : (a b : ℤ) → b ≡ pos 0 → HasFactors a b
 factors_at_zero a b e =
     by_less a (pos 0)
     (λ (l : a <ℤ pos 0).
-        let g : IsGcd a b (neg_ℤ a) = record { not_negative = omega (arith, ints); left = neg_divides (divides_same a); right = divides_along (sym e) (divides_zero (neg_ℤ a)); greatest = λ d x y. divides_neg x } in
-        let m = mul_neg a (pos 1) in let o = mul_one a in let z = mul_zero b in
-        let c : Combines a b (neg_ℤ a) = record { first = neg_ℤ (pos 1); second = pos 0; sum = omega (arith, ints) } in
-        record { gcd = neg_ℤ a; is_gcd = g; factors = c })
+    let g : IsGcd a b (neg_ℤ a) = record { not_negative = omega (arith, ints); left = neg_divides (divides_same a); right = divides_along (sym e) (divides_zero (neg_ℤ a)); greatest = λ d x y. divides_neg x } in
+    let m = mul_neg a (pos 1) in let o = mul_one a in let z = mul_zero b in
+    let c : Combines a b (neg_ℤ a) = record { first = neg_ℤ (pos 1); second = pos 0; sum = omega (arith, ints) } in
+    record { gcd = neg_ℤ a; is_gcd = g; factors = c })
     (λ (l : pos 0 ≤ℤ a).
-        let g : IsGcd a b a = record { not_negative = l; left = divides_same a; right = divides_along (sym e) (divides_zero a); greatest = λ d x y. x } in
-        let o = mul_one a in let z = mul_zero b in
-        let c : Combines a b a = record { first = pos 1; second = pos 0; sum = omega (arith, ints) } in
-        record { gcd = a; is_gcd = g; factors = c })
+    let g : IsGcd a b a = record { not_negative = l; left = divides_same a; right = divides_along (sym e) (divides_zero a); greatest = λ d x y. x } in
+    let o = mul_one a in let z = mul_zero b in
+    let c : Combines a b a = record { first = pos 1; second = pos 0; sum = omega (arith, ints) } in
+    record { gcd = a; is_gcd = g; factors = c })
 
 gcd_step : {a b r g : ℤ} (q : ℤ) → b *ℤ q +ℤ r ≡ a → IsGcd b r g → IsGcd a b g
 gcd_step {a} {b} {r} {g} q e p =
     let f : a -ℤ b *ℤ q ≡ r = omega (arith, ints) in
     record {
-        not_negative = p.not_negative;
-        left = divides_along e (divides_add (divides_mul q p.left) p.right);
-        right = p.left;
-        greatest = λ d x y. p.greatest d y (divides_along f (divides_sub x (divides_mul q y)))
+      not_negative = p.not_negative;
+      left = divides_along e (divides_add (divides_mul q p.left) p.right);
+      right = p.left;
+      greatest = λ d x y. p.greatest d y (divides_along f (divides_sub x (divides_mul q y)));
     }
 
 -- b x + r y with r = a - b q is a y + b (x - q y)
@@ -105,9 +105,9 @@ factors_within zero a b p h = factors_at_zero a b (omega (arith, ints))
 factors_within (suc n) a b p h =
     by_zero b (factors_at_zero a b)
     (λ z.
-        let bp : pos 0 <ℤ b = omega (arith, ints) in
-        let rb = residue_below a b bp in
-        factors_step (floor_of a b) (floor_and_residue a b bp) (factors_within n b (residue_of a b) (residue_not_negative a b) (omega (arith, ints))))
+    let bp : pos 0 <ℤ b = omega (arith, ints) in
+    let rb = residue_below a b bp in
+    factors_step (floor_of a b) (floor_and_residue a b bp) (factors_within n b (residue_of a b) (residue_not_negative a b) (omega (arith, ints))))
 
 factors_of : (a b : ℤ) → HasFactors a b
 factors_of a b =
