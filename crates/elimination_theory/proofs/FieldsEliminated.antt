@@ -32,9 +32,9 @@ some_place c put H p (s ∷ places) h =
     let i = h s (inl refl) in let j = some_place c put H p places (λ q m. h q (inr m)) in
     (⊎_elim (λ t. inl (i.0 t)) (λ t. inr (j.0 t)), ⊎_elim (λ t. inl (i.1 t)) (λ t. inr (j.1 t)))
 
-pub trees_plain : (c : Context) (put : Place → Tree) (places : List Place) → ((s : Place) → IsPlain (put s) × InContext c (put s)) → ArePlain (trees_at put places) × EveryOf (AtomIn c) (trees_at put places)
+pub trees_plain : (c : Context) (put : Place → Tree) (places : List Place) → ((s : Place) → Among places s → IsPlain (put s) × InContext c (put s)) → ArePlain (trees_at put places) × EveryOf (AtomIn c) (trees_at put places)
 trees_plain c put [] h = (tt, tt)
-trees_plain c put (s ∷ places) h = let r = trees_plain c put places h in (((h s).0, r.0), ((h s).1, r.1))
+trees_plain c put (s ∷ places) h = let i = h s (inl refl) in let r = trees_plain c put places (λ q m. h q (inr m)) in ((i.0, r.0), (i.1, r.1))
 
 pub field_elimination_exact : FieldEliminationIsExact
 field_elimination_exact side x f s c p o =
@@ -44,7 +44,7 @@ field_elimination_exact side x f s c p o =
 
 pub field_quantifier_eliminated : QuantifierIsEliminated Fields
 field_quantifier_eliminated x f s c =
-    let t = trees_plain Fields (λ q. field_substitution x q f) (field_points Lower x f) (λ q. substitution_tree x q f (s, c)) in
+    let t = trees_plain Fields (λ q. field_substitution x q f) (field_points Lower x f) (λ q m. substitution_tree x q f (s, c)) in
     (field_elimination Lower x f, t.0, t.1, field_elimination_exact Lower x f s c)
 
 pub field_truth_decided : TruthIsDecided Fields

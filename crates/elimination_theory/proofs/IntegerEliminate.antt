@@ -1,16 +1,13 @@
 -- Each listed test point of the integers is one of the integers for each atom; so ex(x, f) is f with the points put in.
-use Rattle.std.proofs.Common.{◌≡◌, ℕ, suc, zero, ◌*◌, ◌/◌, ◌<◌, ℤ, pos, negsuc, ◌*ℤ◌, neg_ℤ, ◌↔◌, inl, inr, ⊎_elim, arith, List, [], ◌∷◌, nat_eq, mul-pos}
+use Rattle.std.proofs.Common.{◌≡◌, ℕ, suc, zero, ◌*◌, ◌/◌, ◌<◌, ℤ, pos, negsuc, ◌*ℤ◌, neg_ℤ, arith, List, mul-pos}
 use Rattle.std.proofs.lemmas.Int.{ints}
 use Rattle.exact_numbers.specs.Divides.{Divides}
 use Rattle.exact_numbers.proofs.Ring.{mul_neg, mul_comm}
 use Rattle.formula_meaning.specs.Context.{Integers}
-use Rattle.formula_meaning.specs.Point.{Point, move}
-use Rattle.formula_meaning.specs.Truth.{SomeTrue}
-use Rattle.formula_meaning.specs.Every.{Every, EveryOf}
-use Rattle.formula_meaning.specs.Some.{SomeOf}
-use Rattle.formula_meaning.specs.Shape.{IsPlain, ArePlain}
+use Rattle.formula_meaning.specs.Every.{Every}
+use Rattle.formula_meaning.specs.Shape.{IsPlain}
 use Rattle.formula_meaning.specs.Form.{Form, coefficient, plus}
-use Rattle.formula_meaning.specs.Atom.{Atom, Compare, Congruent, Incongruent, Relation, Equals, Differs, Below, AtMost, Above, AtLeast, mirrored, Says, AtomIn}
+use Rattle.formula_meaning.specs.Atom.{Atom, Compare, Congruent, Incongruent, Relation, Equals, Differs, Below, AtMost, Above, AtLeast, mirrored, AtomIn}
 use Rattle.formula_meaning.specs.Answer.{Place, Exact, AboveBy, BelowBy, PlusInfinity, MinusInfinity, Periodic, Holds}
 use Rattle.formula_meaning.specs.Tree.{Tree, InContext}
 use Rattle.formula_meaning.proofs.EachAtom.{every_map}
@@ -21,8 +18,13 @@ use Rattle.elimination_theory.specs.Atoms.{atoms_of}
 use Rattle.elimination_theory.specs.FieldsTheorems.{at_place}
 use Rattle.elimination_theory.specs.FieldsSubstitution.{beyond, below_all, exactly, put_in}
 use Rattle.elimination_theory.specs.IntegersSubstitution.{integer_atom, integer_guard, guarded_substitution, where_zero, along, put_number}
-use Rattle.elimination_theory.specs.IntegersPoints.{signed, counted, class_points, next_points, points_with, integer_scale, integer_span, integer_points, at_some}
+use Rattle.elimination_theory.specs.IntegersPoints.{signed, counted, class_points, next_points, points_with, integer_scale, integer_span, integer_points, integer_elimination}
 use Rattle.elimination_theory.specs.IntegersTheorems.{IsPeriodOf, IsIntegerPlace, Suits, IntegerTestPointsSuit, IntegerEliminationIsExact}
+use Rattle.elimination_theory.specs.Decided.{QuantifierIsEliminated, QuantifiersAreEliminated, TruthIsDecided, NegationNormalFormKeepsTruth, AllIsNotExNot}
+use Rattle.elimination_theory.proofs.Decided.{truth_decided, quantifiers_eliminated}
+use Rattle.elimination_theory.proofs.NegationNormal.{negation_normal_keeps_truth, all_not_ex_not}
+use Rattle.elimination_theory.proofs.FieldsEliminated.{some_place, trees_plain}
+use Rattle.elimination_theory.proofs.IntegerAtom.{iff-trans}
 use Rattle.elimination_theory.proofs.SomeListed.{EachOf, each_append, each_mapped, each_flat_map, each_distinct, each_among, every_all}
 use Rattle.elimination_theory.proofs.IntegerSides.{Fits}
 use Rattle.elimination_theory.proofs.IntegerSuffice.{formula-spanned, formula-fits, integer_points_suffice}
@@ -69,18 +71,6 @@ listed-are-for side x f inside =
 
 pub points_suit : IntegerTestPointsSuit
 points_suit side x f s inside among = each_among (IsFor x f) (integer_points side x f) s (listed-are-for side x f inside) among
-
--- ---- the points put in
-
-some-put-in : (x : ℕ) (f : Tree) (p : Point ℕ) (places : List Place) → IsPlain f → p.below ≡ 1 → EachOf (IsFor x f) places →
-    SomeOf (λ s. Holds Integers (at_place x s) f p) places ↔ SomeTrue Says (move nat_eq) Integers (at_some x f places) p
-some-put-in x f p [] plain whole each = (λ n. n, λ n. n)
-some-put-in x f p (s ∷ places) plain whole each =
-    let first = substitution_holds x s f p each.0.0 each.0.1 plain whole in
-    let rest = some-put-in x f p places plain whole each.1 in (
-      ⊎_elim (λ h. let t = first.0 h in inl (t.0, (t.1, tt))) (λ r. inr (rest.0 r)),
-      ⊎_elim (λ t. inl (first.1 (t.0, t.1.0))) (λ r. inr (rest.1 r)),
-    )
 
 -- ---- what results is plain, with atoms of the integers
 
@@ -158,22 +148,32 @@ substitution-plain x s f place plain inside =
       (guard-inside s place, (every_replaced (integer_atom x s) (λ y. y) (AtomIn Integers) f insides, tt)),
     )
 
-some-plain : (x : ℕ) (f : Tree) (places : List Place) → IsPlain f → InContext Integers f → EachOf (IsFor x f) places →
-    ArePlain (at_some x f places) × EveryOf (AtomIn Integers) (at_some x f places)
-some-plain x f [] plain inside each = (tt, tt)
-some-plain x f (s ∷ places) plain inside each =
-    let first = substitution-plain x s f each.0.0 plain inside in
-    let rest = some-plain x f places plain inside each.1 in
-    ((first.0, rest.0), (first.1, rest.1))
+-- ---- the points put in
 
-pub elimination_is_exact : IntegerEliminationIsExact
-elimination_is_exact side x f plain inside =
-    let each = listed-are-for side x f inside in
-    let shape = some-plain x f (integer_points side x f) plain inside each in (
-      shape.0,
-      shape.1,
-      λ p whole.
-          let suffice = integer_points_suffice side x f p plain inside whole in
-          let put = some-put-in x f p (integer_points side x f) plain whole each in
-          (λ t. put.0 (suffice.0 t), λ t. suffice.1 (put.1 t)),
-    )
+pub integer_elimination_exact : IntegerEliminationIsExact
+integer_elimination_exact side x f plain inside p whole =
+    iff-trans (integer_points_suffice side x f p plain inside whole)
+    (some_place Integers (λ s. guarded_substitution x s f) (λ s. Holds Integers (at_place x s) f p) p (integer_points side x f)
+    (λ s among. let suits = points_suit side x f s inside among in
+    let holds = substitution_holds x s f p suits.0 suits.1 plain whole in
+    (λ h. let t = holds.0 h in (t.0, (t.1, tt)), λ t. holds.1 (t.0, t.1.0))))
+
+pub integer_quantifier_eliminated : QuantifierIsEliminated Integers
+integer_quantifier_eliminated x f plain inside =
+    let t = trees_plain Integers (λ s. guarded_substitution x s f) (integer_points Lower x f)
+    (λ s among. substitution-plain x s f (points_suit Lower x f s inside among).0 plain inside) in
+    (integer_elimination Lower x f, t.0, t.1, integer_elimination_exact Lower x f plain inside)
+
+-- ---- truth
+
+pub integer_truth_decided : TruthIsDecided Integers
+integer_truth_decided = truth_decided Integers integer_quantifier_eliminated
+
+pub integer_quantifiers_eliminated : QuantifiersAreEliminated Integers
+integer_quantifiers_eliminated = quantifiers_eliminated Integers integer_quantifier_eliminated
+
+pub integer_negation_normal : NegationNormalFormKeepsTruth Integers
+integer_negation_normal = negation_normal_keeps_truth Integers integer_truth_decided
+
+pub integer_all_not_ex_not : AllIsNotExNot Integers
+integer_all_not_ex_not = all_not_ex_not Integers integer_truth_decided

@@ -5,7 +5,7 @@ use Rattle.exact_numbers.specs.Divides.{Divides, lcm_of}
 use Rattle.exact_numbers.proofs.Ring.{ring, mul_comm, neg_mul}
 use Rattle.exact_numbers.proofs.Order.{cancel_positive, factor_positive, mul_positive}
 use Rattle.exact_numbers.proofs.Divisibility.{divides_trans, divides_along}
-use Rattle.exact_numbers.proofs.Lcm.{lcm_is, exact_div}
+use Rattle.exact_numbers.proofs.LeastMultiple.{lcm_is, exact_div}
 use Rattle.formula_meaning.specs.Context.{Integers}
 use Rattle.formula_meaning.specs.Form.{coefficient}
 use Rattle.formula_meaning.specs.Atom.{Atom, Compare, Congruent, Incongruent, form_of, AtomIn}

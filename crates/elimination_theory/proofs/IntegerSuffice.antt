@@ -3,7 +3,7 @@ use Rattle.std.proofs.Common.{◌≡◌, ℕ, ◌/◌, ◌<◌, pos, ◌*ℤ◌,
 use Rattle.std.proofs.lemmas.Int.{ints}
 use Rattle.exact_numbers.specs.Divides.{Divides}
 use Rattle.exact_numbers.proofs.Divisibility.{divides_same}
-use Rattle.exact_numbers.proofs.Lcm.{exact_div}
+use Rattle.exact_numbers.proofs.LeastMultiple.{exact_div}
 use Rattle.exact_numbers.proofs.Order.{factor_positive}
 use Rattle.formula_meaning.specs.Context.{Integers}
 use Rattle.formula_meaning.specs.Every.{Every}

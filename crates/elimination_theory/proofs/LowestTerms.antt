@@ -6,8 +6,8 @@ use Rattle.std.proofs.lemmas.Int.{ints}
 use Rattle.exact_numbers.specs.Divides.{Divides, DividesAll, content_of}
 use Rattle.exact_numbers.proofs.Ring.{mul_zero, zero_mul, mul_add, mul_assoc}
 use Rattle.exact_numbers.proofs.Order.{factor_positive}
-use Rattle.exact_numbers.proofs.Lcm.{exact_div}
-use Rattle.exact_numbers.proofs.Content.{content_is}
+use Rattle.exact_numbers.proofs.LeastMultiple.{exact_div}
+use Rattle.exact_numbers.proofs.Contents.{content_is}
 use Rattle.formula_meaning.specs.Point.{Point}
 use Rattle.formula_meaning.specs.Form.{Form, Term, total, value}
 use Rattle.elimination_theory.specs.FieldsPoints.{numbers_of, divisor_of, terms_over, form_over}

@@ -5,8 +5,9 @@ use Rattle.formula_meaning.specs.Form.{Form, coefficient, without, scale, plus}
 use Rattle.formula_meaning.specs.Atom.{Atom, Compare, Congruent, Incongruent, Relation, Equals, Differs, Below, AtMost, Above, AtLeast, mirrored, form_of}
 use Rattle.formula_meaning.specs.Answer.{Place, Exact, Periodic}
 use Rattle.formula_meaning.specs.Tree.{Tree}
-use Rattle.formula_meaning.specs.Formula.{Formulas, Or, none, also}
+use Rattle.formula_meaning.specs.Formula.{Or}
 use Rattle.elimination_theory.specs.IntegersSubstitution.{guarded_substitution}
+use Rattle.elimination_theory.specs.Elimination.{trees_at}
 use Rattle.elimination_theory.specs.Lists.{distinct, same_place}
 use Rattle.elimination_theory.specs.Atoms.{atoms_of}
 use Rattle.elimination_theory.specs.Side.{Side, Lower, Upper, turned}
@@ -92,11 +93,6 @@ integer_span x f = span_of (integer_scale x f) x (atoms_of f)
 abbrev pub integer_points : Side → ℕ → Tree → List Place
 integer_points side x f = distinct same_place (points_with side (integer_scale x f) (integer_span x f) x (atoms_of f))
 
--- f at some of the places: one of them is a whole number, and f is true there
-abbrev pub at_some : ℕ → Tree → List Place → Formulas Atom ℕ
-at_some x f [] = none
-at_some x f (s ∷ places) = also (guarded_substitution x s f) (at_some x f places)
-
--- f with the test points of a side put in for x
+-- f with the test points of a side put in for x, each with its guard
 abbrev pub integer_elimination : Side → ℕ → Tree → Tree
-integer_elimination side x f = Or (at_some x f (integer_points side x f))
+integer_elimination side x f = Or (trees_at (λ s. guarded_substitution x s f) (integer_points side x f))

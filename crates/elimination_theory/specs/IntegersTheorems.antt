@@ -60,10 +60,9 @@ abbrev pub IntegerTestPointsSuffice : Type 0
 IntegerTestPointsSuffice = (side : Side) (x : ℕ) (f : Tree) (p : Point ℕ) → IsPlain f → InContext Integers f → Of Integers p →
     TrueAt Integers (Ex x f) p ↔ SomeOf (λ s. Holds Integers (at_place x s) f p) (integer_points side x f)
 
--- ex(x, f) is true exactly where f with the test points of a side put in is, for f built by and and or; that is such a formula as well.
+-- ex(x, f) is equivalent to the disjunction over its test points with their guards, for f built by and and or
 abbrev pub IntegerEliminationIsExact : Type 0
-IntegerEliminationIsExact = (side : Side) (x : ℕ) (f : Tree) → IsPlain f → InContext Integers f →
-    IsPlain (integer_elimination side x f) × InContext Integers (integer_elimination side x f) × Equivalent Integers (Ex x f) (integer_elimination side x f)
+IntegerEliminationIsExact = (side : Side) (x : ℕ) (f : Tree) → IsPlain f → InContext Integers f → Equivalent Integers (Ex x f) (integer_elimination side x f)
 
 -- each answer is at a place of the integers, for each atom of the formula into which it is put
 abbrev pub AreIntegerAnswers : List Answer → Tree → Type 0
