@@ -4,6 +4,10 @@ pub mod Side
 pub mod FieldsPoints
 pub mod FieldsSubstitution
 pub mod FieldsTheorems
+pub mod IntegersSubstitution
+pub mod IntegersPoints
+pub mod IntegersTheorems
+pub mod IntegersExamples
 pub mod Elimination
 pub mod Decided
 pub mod FieldsExample
