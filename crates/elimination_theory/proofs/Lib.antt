@@ -32,3 +32,5 @@ pub mod FieldsEliminated
 pub mod FieldsExample
 pub mod FieldsSample
 pub mod BothTheories
+pub mod FieldsNext
+pub mod StandOnce

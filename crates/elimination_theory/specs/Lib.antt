@@ -12,3 +12,4 @@ pub mod Elimination
 pub mod Decided
 pub mod FieldsExample
 pub mod FieldsSamples
+pub mod PointsTheorems
