@@ -17,7 +17,7 @@ use Rattle.elimination_theory.proofs.IntegerRelation.{IsTrueBelow, relates-move}
 use Rattle.elimination_theory.proofs.IntegerCompare.{Compares, ComparesLow, IsCongruent, without-name}
 
 -- the value of a form with x set to a whole number
-value_at : (f : Form) (p : Point ℕ) (x : ℕ) (k : ℤ) → value f (move nat_eq p x k 1) ≡ coefficient x f *ℤ k +ℤ value (without x f) p
+pub value_at : (f : Form) (p : Point ℕ) (x : ℕ) (k : ℤ) → value f (move nat_eq p x k 1) ≡ coefficient x f *ℤ k +ℤ value (without x f) p
 value_at f p x k = let e = value_move f p x k 1 in let o = mul_one (value (without x f) p) in omega (arith, ints)
 
 one-below : (p : Point ℕ) → p.below ≡ 1 → p.below * 1 ≡ 1
@@ -52,7 +52,7 @@ iff-trans e f = (λ x. f.0 (e.0 x), λ z. e.1 (f.1 z))
 pub iff-sym : {X Y : Type 0} → X ↔ Y → Y ↔ X
 iff-sym e = (e.1, e.0)
 
-relates-at : (r : Relation) {v w : ℤ} → v ≡ w → Relates r v (pos 0) ↔ Relates r w (pos 0)
+pub relates-at : (r : Relation) {v w : ℤ} → v ≡ w → Relates r v (pos 0) ↔ Relates r w (pos 0)
 relates-at r e = (subst (λ z. Relates r z (pos 0)) e, subst (λ z. Relates r z (pos 0)) (sym e))
 
 pub says-at : (a : Atom) (p : Point ℕ) (x : ℕ) (k : ℤ) → p.below ≡ 1 →
@@ -62,7 +62,7 @@ says-at (Congruent n f) p x k whole = divides-at n f p x k whole
 says-at (Incongruent n f) p x k whole = not-iff (divides-at n f p x k whole)
 
 -- without the name a form is its rest
-value-rest : (f : Form) (p : Point ℕ) (x : ℕ) → coefficient x f ≡ pos 0 → value f p ≡ value (without x f) p
+pub value-rest : (f : Form) (p : Point ℕ) (x : ℕ) → coefficient x f ≡ pos 0 → value f p ≡ value (without x f) p
 value-rest f p x e =
     let s = value_split f p x in
     let m : coefficient x f *ℤ p.at x ≡ pos 0 = ap (λ z. z *ℤ p.at x) e ∙ zero_mul (p.at x) in
@@ -150,7 +150,7 @@ LowAt (Compare r f) b a t k = ComparesLow r b t
 LowAt (Congruent n f) b a t k = IsCongruent n a t k
 LowAt (Incongruent n f) b a t k = ¬ (IsCongruent n a t k)
 
-below-all : (r : Relation) (p : Point ℕ) → IsTrueBelow r ↔ TrueAt Integers (below_all r) p
+pub below-all : (r : Relation) (p : Point ℕ) → IsTrueBelow r ↔ TrueAt Integers (below_all r) p
 below-all Equals p = (λ n. n, λ n. n)
 below-all Differs p = (λ u. u, λ u. u)
 below-all Below p = (λ u. u, λ u. u)
@@ -185,7 +185,7 @@ number-value f p x k whole =
     times-below : (v : ℤ) (b : ℕ) → b ≡ 1 → v *ℤ pos b ≡ v
     times-below v b e = ap (λ m. v *ℤ pos m) e ∙ mul_one v
 
-along-zero : (q a : ℤ) → along q a ≡ pos 0 → a ≡ pos 0
+pub along-zero : (q a : ℤ) → along q a ≡ pos 0 → a ≡ pos 0
 along-zero (pos n) a e = omega (arith, ints)
 along-zero (negsuc n) a e = e
 

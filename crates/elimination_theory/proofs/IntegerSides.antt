@@ -37,7 +37,7 @@ pub signed-add : (side : Side) (a b : ℤ) → signed side (a +ℤ b) ≡ signed
 signed-add Lower a b = refl
 signed-add Upper a b = omega (arith, ints)
 
-along-signed : (side : Side) (step : ℕ) (a : ℤ) → 0 < step → along (signed side (neg_ℤ (pos step))) a ≡ signed side a
+pub along-signed : (side : Side) (step : ℕ) (a : ℤ) → 0 < step → along (signed side (neg_ℤ (pos step))) a ≡ signed side a
 along-signed Lower zero a h = absurd (omega arith)
 along-signed Upper zero a h = absurd (omega arith)
 along-signed Lower (suc n) a h = refl

@@ -29,3 +29,4 @@ pub mod AtomsDecided
 pub mod Decided
 pub mod NegationNormal
 pub mod FieldsEliminated
+pub mod IntegerSample

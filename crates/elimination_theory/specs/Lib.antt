@@ -10,3 +10,4 @@ pub mod IntegersTheorems
 pub mod IntegersExamples
 pub mod Elimination
 pub mod Decided
+pub mod IntegersSample
