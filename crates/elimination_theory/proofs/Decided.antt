@@ -1,19 +1,19 @@
 -- Truth is decided, by elimination: every formula has an equivalent built by and and or, whose truth is decided.
-use Rattle.std.proofs.Common.{◌≡◌, ℕ, ◌*◌, ◌<◌, List, [], ◌∷◌, ap, sym, ◌∙◌, subst, refl, ◌⊎◌, inl, inr, ⊎_elim, ◌↔◌, nat_eq}
-use Rattle.std.proofs.Math.IntN.{ℤ, pos}
+use Rattle.std.proofs.Common.{ℕ, ◌<◌, sym, ◌∙◌, subst, ◌⊎◌, inl, inr, ⊎_elim, ◌↔◌, nat_eq}
+use Rattle.std.proofs.Math.IntN.{ℤ}
 use Rattle.formula_meaning.specs.Context.{Context, Fields, Integers, Allowed}
 use Rattle.formula_meaning.specs.Point.{Point, Of, move}
-use Rattle.formula_meaning.specs.Formula.{Formula, Formulas, Yes, No, One, Not, And, Or, Impl, Repl, Equiv, Ex, All, none, also}
-use Rattle.formula_meaning.specs.Truth.{True, AllTrue, SomeTrue}
-use Rattle.formula_meaning.specs.Every.{Every, EveryOf}
+use Rattle.formula_meaning.specs.Formula.{Yes, No, One, Not, And, Or, Impl, Repl, Equiv, Ex, All, none, also}
+use Rattle.formula_meaning.specs.Truth.{AllTrue, SomeTrue}
+use Rattle.formula_meaning.specs.Every.{EveryOf}
 use Rattle.formula_meaning.specs.Shape.{IsPlain, ArePlain}
-use Rattle.formula_meaning.specs.NegationNormal.{normal_form_of_not, normal_forms_of_not, both}
-use Rattle.formula_meaning.specs.Atom.{Atom, Says, AtomIn, opposite}
+use Rattle.formula_meaning.specs.NegationNormal.{normal_forms_of_not, both}
+use Rattle.formula_meaning.specs.Atom.{Says, AtomIn, opposite}
 use Rattle.formula_meaning.specs.Tree.{Tree, Trees, TrueAt, InContext, Equivalent, negated}
 use Rattle.formula_meaning.proofs.Values.{below_move}
 use Rattle.formula_meaning.proofs.SamePoint.{allowed_mul}
 use Rattle.elimination_theory.specs.Decided.{QuantifierIsEliminated, QuantifiersAreEliminated, TruthIsDecided}
-use Rattle.elimination_theory.proofs.AtomsDecided.{IsDecided, not_decided, atom_decided, atom_opposite, opposite_in}
+use Rattle.elimination_theory.proofs.AtomsDecided.{IsDecided, atom_decided, atom_opposite, opposite_in}
 
 pub both_decided : {P Q : Type 0} → IsDecided P → IsDecided Q → IsDecided (P × Q)
 both_decided (inl p) (inl q) = inl (p, q)
@@ -106,9 +106,10 @@ module _ (c : Context) where
     not_all : (fs : Trees) → ArePlain fs → EveryOf (AtomIn c) fs → (p : Point ℕ) → Of c p → SomeTrue Says (move nat_eq) c (normal_forms_of_not opposite fs) p ↔ ¬ (AllTrue Says (move nat_eq) c fs p)
     not_all none s i p o = (λ t n. t, λ n. n tt)
     not_all (also f fs) s i p o =
-        let a = plain_not f s.0 i.0 p o in let b = not_all fs s.1 i.1 p o in
-        (⊎_elim (λ t n. a.0 t n.0) (λ t n. b.0 t n.1),
-         λ n. ⊎_elim (λ t. inr (b.1 (λ u. n (t, u)))) (λ t. inl (a.1 t)) (plain_decided f s.0 i.0 p o))
+        let a = plain_not f s.0 i.0 p o in let b = not_all fs s.1 i.1 p o in (
+          ⊎_elim (λ t n. a.0 t n.0) (λ t n. b.0 t n.1),
+          λ n. ⊎_elim (λ t. inr (b.1 (λ u. n (t, u)))) (λ t. inl (a.1 t)) (plain_decided f s.0 i.0 p o),
+        )
 
     not_some : (fs : Trees) → ArePlain fs → EveryOf (AtomIn c) fs → (p : Point ℕ) → Of c p → AllTrue Says (move nat_eq) c (normal_forms_of_not opposite fs) p ↔ ¬ (SomeTrue Says (move nat_eq) c fs p)
     not_some none s i p o = (λ t n. n, λ n. tt)
@@ -166,17 +167,19 @@ module _ (c : Context) where
     existence x {f} h =
         let g = eliminated x h.plain h.is_plain h.in_context in
         same_truth (Ex x f) (Ex x h.plain)
-        (λ p o.
-         (λ t. (t.0, t.1, t.2, (h.equivalent (move nat_eq p x t.0 t.1) (moved_of c p x t.0 t.1 o t.2)).0 t.3),
-          λ t. (t.0, t.1, t.2, (h.equivalent (move nat_eq p x t.0 t.1) (moved_of c p x t.0 t.1 o t.2)).1 t.3)))
+        (λ p o. (
+          λ t. (t.0, t.1, t.2, (h.equivalent (move nat_eq p x t.0 t.1) (moved_of c p x t.0 t.1 o t.2)).0 t.3),
+          λ t. (t.0, t.1, t.2, (h.equivalent (move nat_eq p x t.0 t.1) (moved_of c p x t.0 t.1 o t.2)).1 t.3),
+        ))
         (record { plain = g.0; is_plain = g.1; in_context = g.2; equivalent = g.3 })
 
     universality : (x : ℕ) {f : Tree} → HasPlain c f → HasPlain c (All x f)
     universality x {f} h =
         same_truth (All x f) (Not (Ex x (Not f)))
-        (λ p o.
-         (λ t n. n.3 (t n.0 n.1 n.2),
-          λ n k m a. ⊎_elim (λ t. t) (λ u. absurd (n (k, m, a, u))) (decide h (move nat_eq p x k m) (moved_of c p x k m o a))))
+        (λ p o. (
+          λ t n. n.3 (t n.0 n.1 n.2),
+          λ n k m a. ⊎_elim (λ t. t) (λ u. absurd (n (k, m, a, u))) (decide h (move nat_eq p x k m) (moved_of c p x k m o a)),
+        ))
         (negate (existence x (negate h)))
 
     mutual

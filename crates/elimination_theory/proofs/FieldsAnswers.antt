@@ -1,10 +1,9 @@
 -- Over the ordered fields: answers that are put in from the last to the first, one inside the other.
-use Rattle.std.proofs.Common.{◌≡◌, ℕ, suc, zero, ◌*◌, ◌<◌, List, [], ◌∷◌, ap, sym, ◌∙◌, subst, refl, arith, ◌↔◌, nat_eq, mul-pos}
+use Rattle.std.proofs.Common.{ℕ, suc, zero, ◌*◌, ◌<◌, List, [], ◌∷◌, sym, subst, ◌↔◌, nat_eq, mul-pos}
 use Rattle.std.proofs.Math.IntN.{ℤ, pos, negsuc, neg_ℤ}
 use Rattle.formula_meaning.specs.Context.{Fields}
 use Rattle.formula_meaning.specs.Point.{Point, Of, move}
 use Rattle.formula_meaning.specs.Form.{Form, coefficient}
-use Rattle.formula_meaning.specs.Every.{Every}
 use Rattle.formula_meaning.specs.Shape.{IsPlain}
 use Rattle.formula_meaning.specs.Atom.{Atom, Compare, Congruent, Incongruent, Relation, Equals, Differs, Below, AtMost, Above, AtLeast, AtomIn, mirrored}
 use Rattle.formula_meaning.specs.Answer.{Answer, Place, Exact, AboveBy, BelowBy, PlusInfinity, MinusInfinity, Periodic, Meets, MeetsAll, Holds}
@@ -72,9 +71,10 @@ atom_tree x s (Incongruent n f) c = absurd c
 
 -- a substitution stays in the fields
 pub substitution_tree : (x : ℕ) (s : Place) (f : Tree) → IsFieldTree f → IsFieldTree (field_substitution x s f)
-substitution_tree x s f h =
-    (plain_stays (field_atom x s) (λ y. y) f h.0 (every_map _ _ (λ a c. (atom_tree x s a c).0) f h.1),
-     every_replaced (field_atom x s) (λ y. y) (AtomIn Fields) f (every_map _ _ (λ a c. (atom_tree x s a c).1) f h.1))
+substitution_tree x s f h = (
+  plain_stays (field_atom x s) (λ y. y) f h.0 (every_map _ _ (λ a c. (atom_tree x s a c).0) f h.1),
+  every_replaced (field_atom x s) (λ y. y) (AtomIn Fields) f (every_map _ _ (λ a c. (atom_tree x s a c).1) f h.1),
+)
 
 pub substitutions_tree : (answers : List Answer) (f : Tree) → IsFieldTree f → IsFieldTree (field_substitutions answers f)
 substitutions_tree [] f h = h
@@ -93,11 +93,12 @@ meets_map MinusInfinity x R S f p h o t = large_map _ _ (λ u v i r. f _ (moved_
 meets_map (Periodic a q) x R S f p h o t = absurd h
 
 pub answers_exact : (answers : List Answer) (f : Tree) (p : Point ℕ) → AreFieldAnswers answers → IsPlain f → InContext Fields f → Of Fields p →
-                    Holds Fields answers f p ↔ TrueAt Fields (field_substitutions answers f) p
+    Holds Fields answers f p ↔ TrueAt Fields (field_substitutions answers f) p
 answers_exact [] f p h s c o = (λ t. t, λ t. t)
 answers_exact (a ∷ rest) f p h s c o =
     let i = substitutions_tree rest f (s, c) in
-    both_ways
-    (meets_map a.place a.name (λ q. MeetsAll Fields rest (λ z. TrueAt Fields f z) q) (λ q. TrueAt Fields (field_substitutions rest f) q) (λ q k t. (answers_exact rest f q h.1 s c k).0 t) p h.0 o,
-     meets_map a.place a.name (λ q. TrueAt Fields (field_substitutions rest f) q) (λ q. MeetsAll Fields rest (λ z. TrueAt Fields f z) q) (λ q k t. (answers_exact rest f q h.1 s c k).1 t) p h.0 o)
+    both_ways (
+      meets_map a.place a.name (λ q. MeetsAll Fields rest (λ z. TrueAt Fields f z) q) (λ q. TrueAt Fields (field_substitutions rest f) q) (λ q k t. (answers_exact rest f q h.1 s c k).0 t) p h.0 o,
+      meets_map a.place a.name (λ q. TrueAt Fields (field_substitutions rest f) q) (λ q. MeetsAll Fields rest (λ z. TrueAt Fields f z) q) (λ q k t. (answers_exact rest f q h.1 s c k).1 t) p h.0 o,
+    )
     (substitution_exact a.name a.place (field_substitutions rest f) p h.0 i.0 i.1 o)

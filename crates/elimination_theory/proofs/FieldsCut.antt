@@ -1,13 +1,12 @@
 -- Where the interval of a test point begins, seen from its side: everywhere, from a fraction on, or after it.
-use Rattle.std.proofs.Common.{◌≡◌, ℕ, suc, zero, ◌<◌, ap, sym, ◌∙◌, subst, refl, arith, ◌⊎◌, inl, inr, ⊎_elim, ◌↔◌}
-use Rattle.std.proofs.Math.IntN.{ℤ, pos, negsuc, ◌+ℤ◌, ◌-ℤ◌, ◌*ℤ◌, neg_ℤ}
+use Rattle.std.proofs.Common.{◌≡◌, ℕ, arith, ◌⊎◌, inl, inr, ◌↔◌}
+use Rattle.std.proofs.Math.IntN.{ℤ, pos, ◌*ℤ◌}
 use Rattle.std.specs.Prelude.{◌<ℤ◌, ◌≤ℤ◌}
 use Rattle.std.proofs.lemmas.Int.{ints}
 use Rattle.exact_numbers.proofs.Order.{by_less, by_order}
-use Rattle.formula_meaning.specs.Atom.{Relation, Equals, Differs, Below, AtMost, Above, AtLeast, Relates, mirrored}
-use Rattle.formula_meaning.proofs.Relations.{relates_turn}
+use Rattle.formula_meaning.specs.Atom.{Relation, Equals, Differs, Below, AtMost, Above, AtLeast, Relates}
 use Rattle.elimination_theory.specs.Side.{Side, Lower, Upper, turned}
-use Rattle.elimination_theory.proofs.Fractions.{at_most_less, less_at_most, at_most_at_most, less_less}
+use Rattle.elimination_theory.proofs.Fractions.{at_most_less, less_at_most, at_most_at_most}
 
 -- a stands before b for one who comes from the side
 abbrev pub Before : Side → ℤ → ℤ → Type 0
@@ -46,18 +45,21 @@ module _ (side : Side) (a b c d e f : ℤ) (pb : pos 0 <ℤ b) (pd : pos 0 <ℤ 
   -- a/b not after c/d, which is before e/f
   pub not_after_before : NotAfter side (a *ℤ d) (c *ℤ b) → Before side (c *ℤ f) (e *ℤ d) → Before side (a *ℤ f) (e *ℤ b)
   not_after_before = elim side as (λ s. NotAfter s (a *ℤ d) (c *ℤ b) → Before s (c *ℤ f) (e *ℤ d) → Before s (a *ℤ f) (e *ℤ b)) [
-    Lower ↦ λ h k. at_most_less a b c d e f pb pd pf h k
-    | Upper ↦ λ h k. less_at_most e f c d a b pf pd pb k h ]
+    | Lower ↦ λ h k. at_most_less a b c d e f pb pd pf h k
+    | Upper ↦ λ h k. less_at_most e f c d a b pf pd pb k h
+  ]
 
   pub before_not_after_before : Before side (a *ℤ d) (c *ℤ b) → NotAfter side (c *ℤ f) (e *ℤ d) → Before side (a *ℤ f) (e *ℤ b)
   before_not_after_before = elim side as (λ s. Before s (a *ℤ d) (c *ℤ b) → NotAfter s (c *ℤ f) (e *ℤ d) → Before s (a *ℤ f) (e *ℤ b)) [
-    Lower ↦ λ h k. less_at_most a b c d e f pb pd pf h k
-    | Upper ↦ λ h k. at_most_less e f c d a b pf pd pb k h ]
+    | Lower ↦ λ h k. less_at_most a b c d e f pb pd pf h k
+    | Upper ↦ λ h k. at_most_less e f c d a b pf pd pb k h
+  ]
 
   pub not_after_not_after : NotAfter side (a *ℤ d) (c *ℤ b) → NotAfter side (c *ℤ f) (e *ℤ d) → NotAfter side (a *ℤ f) (e *ℤ b)
   not_after_not_after = elim side as (λ s. NotAfter s (a *ℤ d) (c *ℤ b) → NotAfter s (c *ℤ f) (e *ℤ d) → NotAfter s (a *ℤ f) (e *ℤ b)) [
-    Lower ↦ λ h k. at_most_at_most a b c d e f pb pd pf h k
-    | Upper ↦ λ h k. at_most_at_most e f c d a b pf pd pb k h ]
+    | Lower ↦ λ h k. at_most_at_most a b c d e f pb pd pf h k
+    | Upper ↦ λ h k. at_most_at_most e f c d a b pf pd pb k h
+  ]
 
 -- a relation as the side sees it
 abbrev pub Seen : Side → Relation → ℤ → ℤ → Type 0

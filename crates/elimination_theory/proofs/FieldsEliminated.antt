@@ -1,18 +1,17 @@
 -- Over the ordered fields one quantifier is eliminated by the disjunction over its test points.
-use Rattle.std.proofs.Common.{◌≡◌, ℕ, List, [], ◌∷◌, sym, subst, refl, ◌⊎◌, inl, inr, ⊎_elim, ◌↔◌, nat_eq}
+use Rattle.std.proofs.Common.{ℕ, List, [], ◌∷◌, refl, inl, inr, ⊎_elim, ◌↔◌, nat_eq}
 use Rattle.formula_meaning.specs.Context.{Context, Fields}
-use Rattle.formula_meaning.specs.Point.{Point, Of, move}
-use Rattle.formula_meaning.specs.Formula.{Formula, Ex, Or, none, also}
+use Rattle.formula_meaning.specs.Point.{Point, move}
 use Rattle.formula_meaning.specs.Truth.{SomeTrue}
 use Rattle.formula_meaning.specs.Every.{EveryOf}
 use Rattle.formula_meaning.specs.Some.{SomeOf}
 use Rattle.formula_meaning.specs.Shape.{IsPlain, ArePlain}
 use Rattle.formula_meaning.specs.Atom.{Says, AtomIn}
 use Rattle.formula_meaning.specs.Answer.{Place, Holds}
-use Rattle.formula_meaning.specs.Tree.{Tree, TrueAt, InContext, Equivalent}
-use Rattle.elimination_theory.specs.Side.{Side, Lower}
+use Rattle.formula_meaning.specs.Tree.{Tree, TrueAt, InContext}
+use Rattle.elimination_theory.specs.Side.{Lower}
 use Rattle.elimination_theory.specs.FieldsPoints.{field_points}
-use Rattle.elimination_theory.specs.FieldsSubstitution.{field_substitution, IsFieldPlace}
+use Rattle.elimination_theory.specs.FieldsSubstitution.{field_substitution}
 use Rattle.elimination_theory.specs.FieldsTheorems.{at_place}
 use Rattle.elimination_theory.specs.Elimination.{trees_at, field_elimination}
 use Rattle.elimination_theory.specs.Decided.{QuantifierIsEliminated, QuantifiersAreEliminated, TruthIsDecided, NegationNormalFormKeepsTruth, AllIsNotExNot, FieldEliminationIsExact}
@@ -26,7 +25,7 @@ use Rattle.elimination_theory.proofs.NegationNormal.{negation_normal_keeps_truth
 
 -- some place of the list makes the formula true exactly where some tree is true
 pub some_place : (c : Context) (put : Place → Tree) (H : Place → Type 0) (p : Point ℕ) (places : List Place) → ((s : Place) → Among places s → H s ↔ TrueAt c (put s) p) →
-                 SomeOf H places ↔ SomeTrue Says (move nat_eq) c (trees_at put places) p
+    SomeOf H places ↔ SomeTrue Says (move nat_eq) c (trees_at put places) p
 some_place c put H p [] h = (λ t. t, λ t. t)
 some_place c put H p (s ∷ places) h =
     let i = h s (inl refl) in let j = some_place c put H p places (λ q m. h q (inr m)) in

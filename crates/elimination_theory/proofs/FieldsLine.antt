@@ -1,9 +1,9 @@
 -- A comparison as a condition on the value of one name: that value, a fraction k/m, against the comparison's own point n/d.
-use Rattle.std.proofs.Common.{◌≡◌, ℕ, suc, zero, ◌<◌, ◌/◌, ap, ap₂, sym, ◌∙◌, subst, refl, arith, ◌↔◌, nat_eq}
+use Rattle.std.proofs.Common.{◌≡◌, ℕ, suc, ◌/◌, ap, sym, ◌∙◌, subst, arith, ◌↔◌, nat_eq}
 use Rattle.std.proofs.Math.IntN.{ℤ, pos, negsuc, ◌+ℤ◌, ◌-ℤ◌, ◌*ℤ◌, neg_ℤ}
-use Rattle.std.specs.Prelude.{◌<ℤ◌, ◌≤ℤ◌}
+use Rattle.std.specs.Prelude.{◌<ℤ◌}
 use Rattle.std.proofs.lemmas.Int.{ints}
-use Rattle.exact_numbers.proofs.Ring.{ring, mul_zero, zero_mul, mul_sub, mul_comm, mul_assoc, mul_left_comm, neg_mul}
+use Rattle.exact_numbers.proofs.Ring.{zero_mul, mul_sub, mul_comm, mul_assoc, mul_left_comm, neg_mul}
 use Rattle.formula_meaning.specs.Point.{Point, move}
 use Rattle.formula_meaning.specs.Form.{Form, value, coefficient, without, scale}
 use Rattle.formula_meaning.specs.Atom.{Relation, Relates, mirrored}
@@ -35,7 +35,7 @@ value_still f p x k m e =
     ∙ ap (λ z. pos m *ℤ z) (sym (no_name_value (coefficient x f) (p.at x) (value (without x f) p) _ e (value_split f p x)))
 
 pub comparison_still : (r : Relation) (f : Form) (p : Point ℕ) (x : ℕ) (k : ℤ) (m : ℕ) → coefficient x f ≡ pos 0 → pos 0 <ℤ pos m →
-                       Relates r (value f (move nat_eq p x k m)) (pos 0) ↔ Relates r (value f p) (pos 0)
+    Relates r (value f (move nat_eq p x k m)) (pos 0) ↔ Relates r (value f p) (pos 0)
 comparison_still r f p x k m e h = both_ways (relates_along r (pos 0) (value_still f p x k m e)) (turn_round (relates_zero_mul r (pos m) (value f p) h))
 
 -- g (k d - n m) is c k + t m, where g d is c and g n is - t
@@ -67,26 +67,26 @@ negated_value t p = let h = value_scale (negsuc 0) t p in omega (arith, ints)
 
 -- a comparison with a positive coefficient
 pub line_positive : (r : Relation) (f : Form) (p : Point ℕ) (x n : ℕ) → coefficient x f ≡ pos (suc n) → (k : ℤ) (m : ℕ) →
-                    Relates r (value f (move nat_eq p x k m)) (pos 0)
-                    ↔ Relates r (k *ℤ pos (under (scale (negsuc 0) (without x f)) (suc n))) (over (scale (negsuc 0) (without x f)) (suc n) p *ℤ pos m)
+    Relates r (value f (move nat_eq p x k m)) (pos 0)
+    ↔ Relates r (k *ℤ pos (under (scale (negsuc 0) (without x f)) (suc n))) (over (scale (negsuc 0) (without x f)) (suc n) p *ℤ pos m)
 line_positive r f p x n e k m =
     let s : Form = scale (negsuc 0) (without x f) in
     let l : IsLowest s (suc n) = lowest s (suc n) (omega arith) in
     let v = rising (pos (divisor_of s (suc n))) (pos (under s (suc n))) (over s (suc n) p) (coefficient x f) (value (without x f) p) (value s p) k (pos m) _
-            (l.below_times ∙ sym e) (l.value_times p) (negated_value (without x f) p) (value_move f p x k m) in
+    (l.below_times ∙ sym e) (l.value_times p) (negated_value (without x f) p) (value_move f p x k m) in
     both_ways (relates_along r (pos 0) v)
     (both_ways (turn_round (relates_zero_mul r (pos (divisor_of s (suc n))) _ l.divisor_positive))
     (relates_difference r (k *ℤ pos (under s (suc n))) (over s (suc n) p *ℤ pos m)))
 
 -- a comparison with a negative coefficient
 pub line_negative : (r : Relation) (f : Form) (p : Point ℕ) (x n : ℕ) → coefficient x f ≡ negsuc n → (k : ℤ) (m : ℕ) →
-                    Relates r (value f (move nat_eq p x k m)) (pos 0)
-                    ↔ Relates (mirrored r) (k *ℤ pos (under (without x f) (suc n))) (over (without x f) (suc n) p *ℤ pos m)
+    Relates r (value f (move nat_eq p x k m)) (pos 0)
+    ↔ Relates (mirrored r) (k *ℤ pos (under (without x f) (suc n))) (over (without x f) (suc n) p *ℤ pos m)
 line_negative r f p x n e k m =
     let s : Form = without x f in
     let l : IsLowest s (suc n) = lowest s (suc n) (omega arith) in
     let v = falling (pos (divisor_of s (suc n))) (pos (under s (suc n))) (over s (suc n) p) (coefficient x f) (pos (suc n)) (value s p) k (pos m) _
-            l.below_times e (l.value_times p) (value_move f p x k m) in
+    l.below_times e (l.value_times p) (value_move f p x k m) in
     both_ways (relates_along r (pos 0) v)
     (both_ways (relates_neg r (pos (divisor_of s (suc n)) *ℤ (k *ℤ pos (under s (suc n)) -ℤ over s (suc n) p *ℤ pos m)))
     (both_ways (turn_round (relates_zero_mul (mirrored r) (pos (divisor_of s (suc n))) _ l.divisor_positive))

@@ -1,9 +1,9 @@
 -- From an interval that begins at a place to what holds at that place, and from what holds at a place to a value of the name.
-use Rattle.std.proofs.Common.{◌≡◌, ℕ, suc, zero, ◌+◌, ◌*◌, ◌<◌, ap, ap₂, sym, ◌∙◌, subst, refl, arith, unsigned_abs, ◌⊎◌, inl, inr, ◌↔◌, nat_eq, mul-pos}
+use Rattle.std.proofs.Common.{◌≡◌, ℕ, suc, ◌*◌, ◌<◌, ap, sym, ◌∙◌, subst, refl, arith, nat_eq, mul-pos, ◌↔◌}
 use Rattle.std.proofs.Math.IntN.{ℤ, pos, negsuc, ◌+ℤ◌, ◌-ℤ◌, ◌*ℤ◌, neg_ℤ}
 use Rattle.std.specs.Prelude.{◌<ℤ◌, ◌≤ℤ◌}
 use Rattle.std.proofs.lemmas.Int.{ints}
-use Rattle.exact_numbers.proofs.Ring.{ring, mul_comm, mul_assoc, mul_left_comm, add_mul, sub_mul, mul_sub, neg_mul}
+use Rattle.exact_numbers.proofs.Ring.{mul_comm, mul_assoc, add_mul, sub_mul, neg_mul}
 use Rattle.exact_numbers.proofs.Order.{mul_positive}
 use Rattle.formula_meaning.specs.Context.{Fields}
 use Rattle.formula_meaning.specs.Point.{Point, move}
@@ -78,53 +78,99 @@ plus_reach t b m k s h = let f = mul_assoc t b m in omega (arith, ints)
 scaled_less : (t w u s : ℕ) → t * w < u * s → pos (t * w) <ℤ (pos u *ℤ pos s)
 scaled_less t w u s h = let e = pos_mul u s in omega (arith, ints)
 
-module _ (x : ℕ) (p : Point ℕ) (pb : 0 < p.below) (R : Point ℕ → Type 0) (k : ℤ) (m : ℕ) (pm : pos 0 <ℤ pos m) where
-  meets_above : (e : Form) (d : ℕ) → pos 0 <ℤ pos d → (value e p *ℤ pos m) <ℤ (k *ℤ pos d) →
-                ((j : ℤ) (n : ℕ) → pos 0 <ℤ pos n → (value e p *ℤ pos n) <ℤ (j *ℤ pos d) → (j *ℤ pos m) ≤ℤ (k *ℤ pos n) → R (move nat_eq p x j n)) → Meets Fields (AboveBy e d) x R p
-  meets_above e d pd c f = go (magnitude (k *ℤ pos d -ℤ value e p *ℤ pos m) (omega (arith, ints)))
+-- T holds at the place, where T speaks of the fraction that the name's value is over the denominator of p
+abbrev pub Near : Point ℕ → Place → (ℤ → ℕ → Type 0) → Type 0
+Near p (Exact e d) T = T (value e p) d
+Near p (AboveBy e d) T = Small (λ t s. T (value e p *ℤ pos s +ℤ pos (t * (p.below * d))) (d * s))
+Near p (BelowBy e d) T = Small (λ t s. T (value e p *ℤ pos s -ℤ pos (t * (p.below * d))) (d * s))
+Near p PlusInfinity T = Large (λ t s. T (t *ℤ pos p.below) s)
+Near p MinusInfinity T = Large (λ t s. T (neg_ℤ t *ℤ pos p.below) s)
+Near p (Periodic a q) T = ⊥
+
+pub near_meets : (s : Place) (x : ℕ) (R : Point ℕ → Type 0) (p : Point ℕ) → IsFieldPlace s → Near p s (λ k m. R (move nat_eq p x k m)) ↔ Meets Fields s x R p
+near_meets (Exact e d) x R p h = (λ t. t, λ t. t)
+near_meets (AboveBy e d) x R p h = (λ t. t, λ t. t)
+near_meets (BelowBy e d) x R p h = (λ t. t, λ t. t)
+near_meets PlusInfinity x R p h = (λ t. t, λ t. t)
+near_meets MinusInfinity x R p h = (λ t. t, λ t. t)
+near_meets (Periodic a q) x R p h = absurd h
+
+pub field_place : (side : Side) (s : Place) → IsOfSide side s → IsFieldPlace s
+field_place side (Exact e d) h = positive_pos h
+field_place Lower (AboveBy e d) h = positive_pos h
+field_place Upper (AboveBy e d) h = absurd h
+field_place Lower (BelowBy e d) h = absurd h
+field_place Upper (BelowBy e d) h = positive_pos h
+field_place side PlusInfinity h = tt
+field_place side MinusInfinity h = tt
+field_place side (Periodic a q) h = absurd h
+
+module _ (p : Point ℕ) (pb : 0 < p.below) (T : ℤ → ℕ → Type 0) (k : ℤ) (m : ℕ) (pm : pos 0 <ℤ pos m) where
+  near_above_end : (e : Form) (d : ℕ) → pos 0 <ℤ pos d → (value e p *ℤ pos m) <ℤ (k *ℤ pos d) →
+      ((j : ℤ) (n : ℕ) → pos 0 <ℤ pos n → (value e p *ℤ pos n) <ℤ (j *ℤ pos d) → (j *ℤ pos m) ≤ℤ (k *ℤ pos n) → T j n) → Near p (AboveBy e d) T
+  near_above_end e d pd c f = go (magnitude (k *ℤ pos d -ℤ value e p *ℤ pos m) (omega (arith, ints)))
     where
-      go : (u : ℕ) × (pos u ≡ k *ℤ pos d -ℤ value e p *ℤ pos m) × 0 < u → Meets Fields (AboveBy e d) x R p
-      go g = (g.0, d * m * p.below, g.2, mul-pos (mul-pos (positive_pos pd) (positive_pos pm)) pb,
-              λ t s h i l. f (value e p *ℤ pos s +ℤ pos (t * (p.below * d))) (d * s) (pos_positive (mul-pos (positive_pos pd) i))
-              (subst (λ z. (value e p *ℤ z) <ℤ ((value e p *ℤ pos s +ℤ pos (t * (p.below * d))) *ℤ pos d)) (sym (pos_mul d s)) (above_covers (value e p) (pos d) (pos s) (pos (t * (p.below * d))) pd (pos_positive (mul-pos h (mul-pos pb (positive_pos pd))))))
-              (subst (λ z. ((value e p *ℤ pos s +ℤ pos (t * (p.below * d))) *ℤ pos m) ≤ℤ (k *ℤ z)) (sym (pos_mul d s)) (above_reach (value e p) (pos s) (pos (t * (p.below * d))) (pos m) k (pos d) (pos g.0) _ (step_below t p.below d m) (scaled_less t (d * m * p.below) g.0 s l) g.1)))
+      go : (u : ℕ) × (pos u ≡ k *ℤ pos d -ℤ value e p *ℤ pos m) × 0 < u → Near p (AboveBy e d) T
+      go g = (
+        g.0,
+        d * m * p.below,
+        g.2,
+        mul-pos (mul-pos (positive_pos pd) (positive_pos pm)) pb,
+        λ t s h i l. f (value e p *ℤ pos s +ℤ pos (t * (p.below * d))) (d * s) (pos_positive (mul-pos (positive_pos pd) i))
+            (subst (λ z. (value e p *ℤ z) <ℤ ((value e p *ℤ pos s +ℤ pos (t * (p.below * d))) *ℤ pos d)) (sym (pos_mul d s)) (above_covers (value e p) (pos d) (pos s) (pos (t * (p.below * d))) pd (pos_positive (mul-pos h (mul-pos pb (positive_pos pd))))))
+            (subst (λ z. ((value e p *ℤ pos s +ℤ pos (t * (p.below * d))) *ℤ pos m) ≤ℤ (k *ℤ z)) (sym (pos_mul d s)) (above_reach (value e p) (pos s) (pos (t * (p.below * d))) (pos m) k (pos d) (pos g.0) _ (step_below t p.below d m) (scaled_less t (d * m * p.below) g.0 s l) g.1)),
+      )
 
-  meets_below : (e : Form) (d : ℕ) → pos 0 <ℤ pos d → (k *ℤ pos d) <ℤ (value e p *ℤ pos m) →
-                ((j : ℤ) (n : ℕ) → pos 0 <ℤ pos n → (j *ℤ pos d) <ℤ (value e p *ℤ pos n) → (k *ℤ pos n) ≤ℤ (j *ℤ pos m) → R (move nat_eq p x j n)) → Meets Fields (BelowBy e d) x R p
-  meets_below e d pd c f = go (magnitude (value e p *ℤ pos m -ℤ k *ℤ pos d) (omega (arith, ints)))
+  near_below_end : (e : Form) (d : ℕ) → pos 0 <ℤ pos d → (k *ℤ pos d) <ℤ (value e p *ℤ pos m) →
+      ((j : ℤ) (n : ℕ) → pos 0 <ℤ pos n → (j *ℤ pos d) <ℤ (value e p *ℤ pos n) → (k *ℤ pos n) ≤ℤ (j *ℤ pos m) → T j n) → Near p (BelowBy e d) T
+  near_below_end e d pd c f = go (magnitude (value e p *ℤ pos m -ℤ k *ℤ pos d) (omega (arith, ints)))
     where
-      go : (u : ℕ) × (pos u ≡ value e p *ℤ pos m -ℤ k *ℤ pos d) × 0 < u → Meets Fields (BelowBy e d) x R p
-      go g = (g.0, d * m * p.below, g.2, mul-pos (mul-pos (positive_pos pd) (positive_pos pm)) pb,
-              λ t s h i l. f (value e p *ℤ pos s -ℤ pos (t * (p.below * d))) (d * s) (pos_positive (mul-pos (positive_pos pd) i))
-              (subst (λ z. ((value e p *ℤ pos s -ℤ pos (t * (p.below * d))) *ℤ pos d) <ℤ (value e p *ℤ z)) (sym (pos_mul d s)) (below_covers (value e p) (pos d) (pos s) (pos (t * (p.below * d))) pd (pos_positive (mul-pos h (mul-pos pb (positive_pos pd))))))
-              (subst (λ z. (k *ℤ z) ≤ℤ ((value e p *ℤ pos s -ℤ pos (t * (p.below * d))) *ℤ pos m)) (sym (pos_mul d s)) (below_reach (value e p) (pos s) (pos (t * (p.below * d))) (pos m) k (pos d) (pos g.0) _ (step_below t p.below d m) (scaled_less t (d * m * p.below) g.0 s l) g.1)))
+      go : (u : ℕ) × (pos u ≡ value e p *ℤ pos m -ℤ k *ℤ pos d) × 0 < u → Near p (BelowBy e d) T
+      go g = (
+        g.0,
+        d * m * p.below,
+        g.2,
+        mul-pos (mul-pos (positive_pos pd) (positive_pos pm)) pb,
+        λ t s h i l. f (value e p *ℤ pos s -ℤ pos (t * (p.below * d))) (d * s) (pos_positive (mul-pos (positive_pos pd) i))
+            (subst (λ z. ((value e p *ℤ pos s -ℤ pos (t * (p.below * d))) *ℤ pos d) <ℤ (value e p *ℤ z)) (sym (pos_mul d s)) (below_covers (value e p) (pos d) (pos s) (pos (t * (p.below * d))) pd (pos_positive (mul-pos h (mul-pos pb (positive_pos pd))))))
+            (subst (λ z. (k *ℤ z) ≤ℤ ((value e p *ℤ pos s -ℤ pos (t * (p.below * d))) *ℤ pos m)) (sym (pos_mul d s)) (below_reach (value e p) (pos s) (pos (t * (p.below * d))) (pos m) k (pos d) (pos g.0) _ (step_below t p.below d m) (scaled_less t (d * m * p.below) g.0 s l) g.1)),
+      )
 
-  meets_minus : ((j : ℤ) (n : ℕ) → pos 0 <ℤ pos n → (j *ℤ pos m) ≤ℤ (k *ℤ pos n) → R (move nat_eq p x j n)) → Meets Fields MinusInfinity x R p
-  meets_minus f = (neg_ℤ k, p.below * m, mul-pos pb (positive_pos pm),
-                   λ t s h l. f (neg_ℤ t *ℤ pos p.below) s (pos_positive h) (minus_reach t (pos p.below) (pos m) k (pos s) (subst (λ z. (neg_ℤ k *ℤ pos s) <ℤ (t *ℤ z)) (pos_mul p.below m) l)))
+  near_minus : ((j : ℤ) (n : ℕ) → pos 0 <ℤ pos n → (j *ℤ pos m) ≤ℤ (k *ℤ pos n) → T j n) → Near p MinusInfinity T
+  near_minus f = (
+    neg_ℤ k,
+    p.below * m,
+    mul-pos pb (positive_pos pm),
+    λ t s h l. f (neg_ℤ t *ℤ pos p.below) s (pos_positive h) (minus_reach t (pos p.below) (pos m) k (pos s) (subst (λ z. (neg_ℤ k *ℤ pos s) <ℤ (t *ℤ z)) (pos_mul p.below m) l)),
+  )
 
-  meets_plus : ((j : ℤ) (n : ℕ) → pos 0 <ℤ pos n → (k *ℤ pos n) ≤ℤ (j *ℤ pos m) → R (move nat_eq p x j n)) → Meets Fields PlusInfinity x R p
-  meets_plus f = (k, p.below * m, mul-pos pb (positive_pos pm),
-                  λ t s h l. f (t *ℤ pos p.below) s (pos_positive h) (plus_reach t (pos p.below) (pos m) k (pos s) (subst (λ z. (k *ℤ pos s) <ℤ (t *ℤ z)) (pos_mul p.below m) l)))
+  near_plus : ((j : ℤ) (n : ℕ) → pos 0 <ℤ pos n → (k *ℤ pos n) ≤ℤ (j *ℤ pos m) → T j n) → Near p PlusInfinity T
+  near_plus f = (
+    k,
+    p.below * m,
+    mul-pos pb (positive_pos pm),
+    λ t s h l. f (t *ℤ pos p.below) s (pos_positive h) (plus_reach t (pos p.below) (pos m) k (pos s) (subst (λ z. (k *ℤ pos s) <ℤ (t *ℤ z)) (pos_mul p.below m) l)),
+  )
 
-  place_meets : (side : Side) (s : Place) → IsOfSide side s → Covers side (cut_of p s) k m →
-                ((j : ℤ) (n : ℕ) → pos 0 <ℤ pos n → Covers side (cut_of p s) j n → NotAfter side (j *ℤ pos m) (k *ℤ pos n) → R (move nat_eq p x j n)) → Meets Fields s x R p
-  place_meets side (Exact e d) o c f = f (value e p) d o (same_not_after side (value e p *ℤ pos d) (value e p *ℤ pos d) refl) c
-  place_meets Lower (AboveBy e d) o c f = meets_above e d o c f
-  place_meets Upper (AboveBy e d) o c f = absurd o
-  place_meets Lower (BelowBy e d) o c f = absurd o
-  place_meets Upper (BelowBy e d) o c f = meets_below e d o c f
-  place_meets Lower PlusInfinity o c f = absurd o
-  place_meets Upper PlusInfinity o c f = meets_plus (λ j n q h. f j n q tt h)
-  place_meets Lower MinusInfinity o c f = meets_minus (λ j n q h. f j n q tt h)
-  place_meets Upper MinusInfinity o c f = absurd o
-  place_meets side (Periodic a q) o c f = absurd o
+  pub place_near : (side : Side) (s : Place) → IsOfSide side s → Covers side (cut_of p s) k m →
+      ((j : ℤ) (n : ℕ) → pos 0 <ℤ pos n → Covers side (cut_of p s) j n → NotAfter side (j *ℤ pos m) (k *ℤ pos n) → T j n) → Near p s T
+  place_near side (Exact e d) o c f = f (value e p) d o (same_not_after side (value e p *ℤ pos d) (value e p *ℤ pos d) refl) c
+  place_near Lower (AboveBy e d) o c f = near_above_end e d o c f
+  place_near Upper (AboveBy e d) o c f = absurd o
+  place_near Lower (BelowBy e d) o c f = absurd o
+  place_near Upper (BelowBy e d) o c f = near_below_end e d o c f
+  place_near Lower PlusInfinity o c f = absurd o
+  place_near Upper PlusInfinity o c f = near_plus (λ j n q h. f j n q tt h)
+  place_near Lower MinusInfinity o c f = near_minus (λ j n q h. f j n q tt h)
+  place_near Upper MinusInfinity o c f = absurd o
+  place_near side (Periodic a q) o c f = absurd o
 
-  -- what holds up to a value holds at the place where the interval begins
-  pub begins_meets : (side : Side) (L : Place → Type 0) (b : Begins side L p (λ j n. R (move nat_eq p x j n)) k m) → Meets Fields b.place x R p
-  begins_meets side L b = place_meets side b.place b.of_side b.covers b.fills
+-- what holds up to a value holds at the place where the interval begins
+pub begins_meets : (x : ℕ) (p : Point ℕ) → 0 < p.below → (R : Point ℕ → Type 0) (k : ℤ) (m : ℕ) → pos 0 <ℤ pos m → (side : Side) (L : Place → Type 0) (b : Begins side L p (λ j n. R (move nat_eq p x j n)) k m) → Meets Fields b.place x R p
+begins_meets x p pb R k m pm side L b =
+    (near_meets b.place x R p (field_place side b.place b.of_side)).0 (place_near p pb (λ j n. R (move nat_eq p x j n)) k m pm side b.place b.of_side b.covers b.fills)
 
-  -- ---- back: what holds at a place holds at some value
+-- ---- back: what holds at a place holds at some value
 
 pub small_some : (Q : ℕ → ℕ → Type 0) → Small Q → (t : ℕ) × (s : ℕ) × 0 < t × 0 < s × Q t s
 small_some Q h = (1, suc h.1, omega arith, omega arith, h.4 1 (suc h.1) (omega arith) (omega arith) (enough h.0 h.1 h.2))
@@ -138,10 +184,14 @@ large_some Q h = go h.0 h.1 h.2 h.3
     go : (u : ℤ) (w : ℕ) → 0 < w → ((t : ℤ) (s : ℕ) → 0 < s → (u *ℤ pos s) <ℤ (t *ℤ pos w) → Q t s) → (t : ℤ) × (s : ℕ) × 0 < s × Q t s
     go u w h f = (u +ℤ pos 1, w, h, f (u +ℤ pos 1) w h (let e = add_mul u (pos 1) (pos w) in let i = pos_positive h in omega (arith, ints)))
 
+pub near_some : (s : Place) (T : ℤ → ℕ → Type 0) (p : Point ℕ) → IsFieldPlace s → Near p s T → (k : ℤ) × (m : ℕ) × 0 < m × T k m
+near_some (Exact e d) T p h r = (value e p, d, h, r)
+near_some (AboveBy e d) T p h r = let g = small_some (λ t s. T (value e p *ℤ pos s +ℤ pos (t * (p.below * d))) (d * s)) r in (_, d * g.1, mul-pos h g.3, g.4)
+near_some (BelowBy e d) T p h r = let g = small_some (λ t s. T (value e p *ℤ pos s -ℤ pos (t * (p.below * d))) (d * s)) r in (_, d * g.1, mul-pos h g.3, g.4)
+near_some PlusInfinity T p h r = let g = large_some (λ t s. T (t *ℤ pos p.below) s) r in (_, g.1, g.2, g.3)
+near_some MinusInfinity T p h r = let g = large_some (λ t s. T (neg_ℤ t *ℤ pos p.below) s) r in (_, g.1, g.2, g.3)
+near_some (Periodic a q) T p h r = absurd h
+
+-- what holds at a place holds at some value
 pub meets_some : (s : Place) (x : ℕ) (R : Point ℕ → Type 0) (p : Point ℕ) → IsFieldPlace s → Meets Fields s x R p → (k : ℤ) × (m : ℕ) × 0 < m × R (move nat_eq p x k m)
-meets_some (Exact e d) x R p h r = (value e p, d, h, r)
-meets_some (AboveBy e d) x R p h r = let g = small_some (λ t s. R (move nat_eq p x (value e p *ℤ pos s +ℤ pos (t * (p.below * d))) (d * s))) r in (_, d * g.1, mul-pos h g.3, g.4)
-meets_some (BelowBy e d) x R p h r = let g = small_some (λ t s. R (move nat_eq p x (value e p *ℤ pos s -ℤ pos (t * (p.below * d))) (d * s))) r in (_, d * g.1, mul-pos h g.3, g.4)
-meets_some PlusInfinity x R p h r = let g = large_some (λ t s. R (move nat_eq p x (t *ℤ pos p.below) s)) r in (_, g.1, g.2, g.3)
-meets_some MinusInfinity x R p h r = let g = large_some (λ t s. R (move nat_eq p x (neg_ℤ t *ℤ pos p.below) s)) r in (_, g.1, g.2, g.3)
-meets_some (Periodic a q) x R p h r = absurd h
+meets_some s x R p h r = near_some s (λ k m. R (move nat_eq p x k m)) p h ((near_meets s x R p h).1 r)

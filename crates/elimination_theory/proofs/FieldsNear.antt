@@ -1,19 +1,18 @@
 -- Comparisons near a place of the ordered fields have the truth of their substitution.
-use Rattle.std.proofs.Common.{◌≡◌, ℕ, suc, zero, ◌+◌, ◌*◌, ◌<◌, ap, ap₂, sym, ◌∙◌, subst, refl, arith, ◌⊎◌, inl, inr, ⊎_elim, ◌↔◌, nat_eq, mul-pos}
+use Rattle.std.proofs.Common.{◌≡◌, ℕ, suc, ◌*◌, ◌<◌, ap, sym, ◌∙◌, refl, arith, ◌⊎◌, inl, inr, ◌↔◌, mul-pos}
 use Rattle.std.proofs.Math.IntN.{ℤ, pos, negsuc, ◌+ℤ◌, ◌-ℤ◌, ◌*ℤ◌, neg_ℤ}
 use Rattle.std.specs.Prelude.{◌≤◌, ◌<ℤ◌, ◌≤ℤ◌}
 use Rattle.std.proofs.lemmas.Int.{ints}
-use Rattle.exact_numbers.proofs.Ring.{ring, mul_comm, mul_assoc, mul_left_comm, add_mul, sub_mul, mul_add, mul_sub, neg_mul, mul_neg}
+use Rattle.exact_numbers.proofs.Ring.{mul_comm, mul_left_comm, neg_mul, mul_neg}
 use Rattle.exact_numbers.proofs.Order.{mul_positive, mul_not_negative, by_less}
 use Rattle.formula_meaning.specs.Context.{Fields}
-use Rattle.formula_meaning.specs.Point.{Point, move}
-use Rattle.formula_meaning.specs.Form.{Form, value, coefficient, without}
+use Rattle.formula_meaning.specs.Point.{Point}
+use Rattle.formula_meaning.specs.Form.{Form, value}
 use Rattle.formula_meaning.specs.Atom.{Relation, Equals, Differs, Below, AtMost, Above, AtLeast, Relates, mirrored}
 use Rattle.formula_meaning.specs.Answer.{Small, Large}
 use Rattle.formula_meaning.specs.Tree.{TrueAt}
-use Rattle.formula_meaning.proofs.Values.{value_move, value_combine, pos_mul}
-use Rattle.elimination_theory.specs.FieldsSubstitution.{put_in, just_above, just_below, beside, below_all, beyond, exactly}
-use Rattle.elimination_theory.proofs.FieldsLine.{comparison_still, both_ways, relates_along}
+use Rattle.formula_meaning.proofs.Values.{pos_mul}
+use Rattle.elimination_theory.specs.FieldsSubstitution.{just_above, just_below, below_all}
 use Rattle.elimination_theory.proofs.Fractions.{less_at_most, at_most_less, less_less}
 use Rattle.elimination_theory.proofs.FieldsMeet.{pos_positive, magnitude}
 
@@ -36,7 +35,7 @@ pub small_both : (Q R : ℕ → ℕ → Type 0) → Small Q → Small R → Smal
 small_both Q R a b = go a.0 a.1 a.2 a.3 a.4 b.0 b.1 b.2 b.3 b.4
   where
     go : (u w : ℕ) → 0 < u → 0 < w → ((t s : ℕ) → 0 < t → 0 < s → t * w < u * s → Q t s) →
-         (v z : ℕ) → 0 < v → 0 < z → ((t s : ℕ) → 0 < t → 0 < s → t * z < v * s → R t s) → Small (λ t s. Q t s × R t s)
+        (v z : ℕ) → 0 < v → 0 < z → ((t s : ℕ) → 0 < t → 0 < s → t * z < v * s → R t s) → Small (λ t s. Q t s × R t s)
     go u w pu pw f v z pv pz g =
         by_less (pos (v * w)) (pos (u * z))
         (λ (l : pos (v * w) <ℤ pos (u * z)). let k : v * w ≤ u * z = omega (arith, ints) in (v, z, pv, pz, λ t s h i j. (f t s h i (lesser t s v z u w i pz pw k j), g t s h i j)))
@@ -46,7 +45,7 @@ pub large_both : (Q R : ℤ → ℕ → Type 0) → Large Q → Large R → Larg
 large_both Q R a b = go a.0 a.1 a.2 a.3 b.0 b.1 b.2 b.3
   where
     go : (u : ℤ) (w : ℕ) → 0 < w → ((t : ℤ) (s : ℕ) → 0 < s → (u *ℤ pos s) <ℤ (t *ℤ pos w) → Q t s) →
-         (v : ℤ) (z : ℕ) → 0 < z → ((t : ℤ) (s : ℕ) → 0 < s → (v *ℤ pos s) <ℤ (t *ℤ pos z) → R t s) → Large (λ t s. Q t s × R t s)
+        (v : ℤ) (z : ℕ) → 0 < z → ((t : ℤ) (s : ℕ) → 0 < s → (v *ℤ pos s) <ℤ (t *ℤ pos z) → R t s) → Large (λ t s. Q t s × R t s)
     go u w pw f v z pz g =
         by_less (v *ℤ pos w) (u *ℤ pos z)
         (λ (l : (v *ℤ pos w) <ℤ (u *ℤ pos z)). (u, w, pw, λ t s i j. (f t s i j, g t s i (less_less v (pos z) u (pos w) t (pos s) (pos_positive pz) (pos_positive pw) (pos_positive i) l j))))
@@ -127,8 +126,13 @@ near_above n b d pb pd v =
     (λ (l : pos 0 ≤ℤ v). small_all _ (λ t s h k. inr (l, sign_above (pos (suc n)) v (pos (t * (b * d))) (pos s) (omega (arith, ints)) (pos_positive (mul-pos h (mul-pos pb pd))) (pos_positive k) l)))
   where
     go : (u : ℕ) × (pos u ≡ neg_ℤ v) × 0 < u → v <ℤ pos 0 → Small (λ t s. IsJustAbove v (pos s *ℤ v +ℤ pos (suc n) *ℤ pos (t * (b * d))))
-    go g l = (g.0, suc n * (b * d), g.2, mul-pos (omega arith) (mul-pos pb pd),
-              λ t s h k i. inl (l, sign_below (pos (suc n)) v (pos (t * (b * d))) (pos s) (pos g.0) (pos (suc n * (b * d))) (pos t) g.1 (regroup t n b d) (to_z_less t (suc n * (b * d)) g.0 s i)))
+    go g l = (
+      g.0,
+      suc n * (b * d),
+      g.2,
+      mul-pos (omega arith) (mul-pos pb pd),
+      λ t s h k i. inl (l, sign_below (pos (suc n)) v (pos (t * (b * d))) (pos s) (pos g.0) (pos (suc n * (b * d))) (pos t) g.1 (regroup t n b d) (to_z_less t (suc n * (b * d)) g.0 s i)),
+    )
 
 turn_above : (v z y : ℤ) → y ≡ neg_ℤ z → IsJustAbove (neg_ℤ v) y → IsJustBelow v z
 turn_above v z y e (inl h) = inr (let a = h.0 in let b = h.1 in omega (arith, ints), let a = h.0 in let b = h.1 in omega (arith, ints))
@@ -156,6 +160,6 @@ pub high_far : (n b : ℕ) → 0 < b → (u : ℤ) → Large (λ t s. pos 0 <ℤ
 high_far n b pb u =
     large_map _ _
     (λ t s h (i : (neg_ℤ u *ℤ pos s -ℤ pos (suc n) *ℤ (t *ℤ pos b)) <ℤ pos 0).
-     let e = neg_mul u (pos s) in let f = neg_mul (pos (suc n)) (t *ℤ pos b) in
-     omega (arith, ints))
+    let e = neg_mul u (pos s) in let f = neg_mul (pos (suc n)) (t *ℤ pos b) in
+    omega (arith, ints))
     (low_far n b pb (neg_ℤ u))

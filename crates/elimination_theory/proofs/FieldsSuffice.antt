@@ -1,7 +1,6 @@
 -- Over the ordered fields test points suffice, on both sides.
-use Rattle.std.proofs.Common.{◌≡◌, ℕ, suc, zero, ◌<◌, List, [], ◌∷◌, ◌++◌, ap, sym, ◌∙◌, subst, refl, arith, ◌⊎◌, inl, inr, ⊎_elim, ◌↔◌, nat_eq, flat_map}
+use Rattle.std.proofs.Common.{◌≡◌, ℕ, suc, zero, ◌<◌, ◌∷◌, subst, refl, arith, inl, inr, ◌↔◌, nat_eq, flat_map}
 use Rattle.std.proofs.Math.IntN.{ℤ, pos, negsuc}
-use Rattle.std.specs.Prelude.{◌<ℤ◌}
 use Rattle.formula_meaning.specs.Context.{Fields}
 use Rattle.formula_meaning.specs.Point.{Point, Of, move}
 use Rattle.formula_meaning.specs.Form.{Form, coefficient, without, scale}
@@ -10,10 +9,10 @@ use Rattle.formula_meaning.specs.Some.{SomeOf}
 use Rattle.formula_meaning.specs.Every.{Every, EveryOf}
 use Rattle.formula_meaning.specs.Shape.{IsPlain}
 use Rattle.formula_meaning.specs.Atom.{Atom, Compare, Congruent, Incongruent, Relation, Equals, Differs, Below, AtMost, Above, AtLeast, mirrored}
-use Rattle.formula_meaning.specs.Answer.{Place, Exact, AboveBy, BelowBy, PlusInfinity, MinusInfinity, Meets, Holds}
+use Rattle.formula_meaning.specs.Answer.{Place, Holds}
 use Rattle.formula_meaning.specs.Tree.{Tree, TrueAt, InContext}
 use Rattle.elimination_theory.specs.Side.{Side, Lower, Upper, turned}
-use Rattle.elimination_theory.specs.Lists.{distinct, same_atom, same_place}
+use Rattle.elimination_theory.specs.Lists.{same_atom, same_place}
 use Rattle.elimination_theory.specs.Atoms.{atoms_in, atoms_in_all, atoms_of}
 use Rattle.elimination_theory.specs.FieldsPoints.{beside_point, ends_of, comparison_points, atom_points, infinity_of, field_points}
 use Rattle.elimination_theory.specs.FieldsSubstitution.{IsFieldPlace}
@@ -99,13 +98,14 @@ points_listed side x f =
     every_atom _ f (λ a m q h. among_distinct same_place place_same (infinity_of side ∷ flat_map (atom_points side x) (atoms_of f)) q (inr (among_flat_map (atom_points side x) (atoms_of f) a q m h)))
 
 pub field_points_suffice : (side : Side) (x : ℕ) (f : Tree) (p : Point ℕ) → IsPlain f → InContext Fields f → Of Fields p →
-                           TrueAt Fields (Ex x f) p ↔ SomeOf (λ s. Holds Fields (at_place x s) f p) (field_points side x f)
-field_points_suffice side x f p s c o =
-    (λ t.
-     let b : Begins side (Among (field_points side x f)) p (λ j n. TrueAt Fields f (move nat_eq p x j n)) t.0 t.1 =
-         formula_begins side (Among (field_points side x f)) p x (inl refl) t.0 t.1 (pos_positive t.2) f s c (points_listed side x f) t.3 in
-     among_some (λ q. Holds Fields (at_place x q) f p) (field_points side x f) b.place b.listed
-     (begins_meets x p o (λ q. TrueAt Fields f q) t.0 t.1 (pos_positive t.2) side (Among (field_points side x f)) b),
-     λ h.
-     let m = some_among (λ q. Holds Fields (at_place x q) f p) (field_points side x f) h in
-     meets_some m.0 x (λ q. TrueAt Fields f q) p (field_point_place side x f m.0 m.1) m.2)
+    TrueAt Fields (Ex x f) p ↔ SomeOf (λ s. Holds Fields (at_place x s) f p) (field_points side x f)
+field_points_suffice side x f p s c o = (
+  λ t.
+      let b : Begins side (Among (field_points side x f)) p (λ j n. TrueAt Fields f (move nat_eq p x j n)) t.0 t.1 =
+      formula_begins side (Among (field_points side x f)) p x (inl refl) t.0 t.1 (pos_positive t.2) f s c (points_listed side x f) t.3 in
+      among_some (λ q. Holds Fields (at_place x q) f p) (field_points side x f) b.place b.listed
+      (begins_meets x p o (λ q. TrueAt Fields f q) t.0 t.1 (pos_positive t.2) side (Among (field_points side x f)) b),
+  λ h.
+      let m = some_among (λ q. Holds Fields (at_place x q) f p) (field_points side x f) h in
+      meets_some m.0 x (λ q. TrueAt Fields f q) p (field_point_place side x f m.0 m.1) m.2,
+)

@@ -1,9 +1,9 @@
 -- Fractions compared by cross products: n/d is before m/c where n c < m d.
-use Rattle.std.proofs.Common.{◌≡◌, ℕ, ap, sym, ◌∙◌, subst, refl, arith}
-use Rattle.std.proofs.Math.IntN.{ℤ, pos, ◌+ℤ◌, ◌-ℤ◌, ◌*ℤ◌, neg_ℤ}
+use Rattle.std.proofs.Common.{◌≡◌, ap, ◌∙◌, arith}
+use Rattle.std.proofs.Math.IntN.{ℤ, pos, ◌*ℤ◌}
 use Rattle.std.specs.Prelude.{◌<ℤ◌, ◌≤ℤ◌}
 use Rattle.std.proofs.lemmas.Int.{ints}
-use Rattle.exact_numbers.proofs.Ring.{ring, mul_left_comm, mul_comm}
+use Rattle.exact_numbers.proofs.Ring.{mul_left_comm, mul_comm}
 use Rattle.exact_numbers.proofs.Order.{mul_less, mul_at_most, cancel_less, cancel_at_most}
 use Rattle.formula_meaning.proofs.Relations.{weaken}
 

@@ -30,3 +30,5 @@ pub mod Decided
 pub mod NegationNormal
 pub mod FieldsEliminated
 pub mod IntegerSample
+pub mod FieldsExample
+pub mod FieldsSample

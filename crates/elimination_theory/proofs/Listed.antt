@@ -1,6 +1,6 @@
 -- Elements of lists: of joined lists, and of lists without repeats.
 use Rattle.std.proofs.Common.{◌≡◌, ℕ, zero, suc, Bool, true, false, ◌&&◌, List, [], ◌∷◌, ◌++◌, ap, ap₂, sym, ◌∙◌, subst, refl, ◌⊎◌, inl, inr, ⊎_elim, nat_eq, if◌then◌else◌, flat_map, eqb-true}
-use Rattle.std.proofs.Math.IntN.{ℤ, pos}
+use Rattle.std.proofs.Math.IntN.{ℤ}
 use Rattle.std.specs.Ordering.{int_eq}
 use Rattle.std.proofs.lemmas.Bool.Decides.{Decides-int_eq}
 use Rattle.formula_meaning.specs.Some.{SomeOf}

@@ -1,5 +1,5 @@
 -- A form over a denominator, divided by the greatest common divisor of all its numbers: the same fraction.
-use Rattle.std.proofs.Common.{◌≡◌, ℕ, suc, zero, ◌<◌, ◌/◌, List, [], ◌∷◌, map, ap, ap₂, sym, ◌∙◌, subst, refl, arith, unsigned_abs, int_div}
+use Rattle.std.proofs.Common.{◌≡◌, ℕ, ◌<◌, ◌/◌, List, [], ◌∷◌, map, ap, ap₂, sym, ◌∙◌, subst, refl, arith, unsigned_abs, int_div}
 use Rattle.std.proofs.Math.IntN.{ℤ, pos, negsuc, ◌+ℤ◌, ◌*ℤ◌}
 use Rattle.std.specs.Prelude.{◌<ℤ◌, ◌≤ℤ◌}
 use Rattle.std.proofs.lemmas.Int.{ints}
@@ -59,4 +59,3 @@ lowest e d h =
       below_times = b;
       value_times = λ p. value_over (divisor_of e d) e p n v.1.0 v.1.1;
     }
-

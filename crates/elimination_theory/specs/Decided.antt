@@ -23,7 +23,7 @@ QuantifiersAreEliminated c = (f : Tree) → InContext c f → (g : Tree) × IsPl
 -- the negation normal form is true where the formula is, and that of the negation where the formula is not
 abbrev pub NegationNormalFormKeepsTruth : Context → Type 0
 NegationNormalFormKeepsTruth c = (f : Tree) (p : Point ℕ) → InContext c f → Of c p →
-                                 (TrueAt c f p ↔ TrueAt c (negation_normal f) p) × (¬ (TrueAt c f p) ↔ TrueAt c (negated f) p)
+    (TrueAt c f p ↔ TrueAt c (negation_normal f) p) × (¬ (TrueAt c f p) ↔ TrueAt c (negated f) p)
 
 -- all is the negation of ex of the negation
 abbrev pub AllIsNotExNot : Context → Type 0

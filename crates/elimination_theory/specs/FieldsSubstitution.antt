@@ -1,6 +1,6 @@
 -- A name put at a place of the ordered fields (Loos and Weispfenning): the formula that results says nothing of infinitesimals.
 use Rattle.std.specs.Prelude.{ℕ, suc, zero, ◌<◌, ℤ, pos, negsuc, neg_ℤ, List, [], ◌∷◌}
-use Rattle.formula_meaning.specs.Formula.{Formula, Yes, No, One}
+use Rattle.formula_meaning.specs.Formula.{Yes, No, One}
 use Rattle.formula_meaning.specs.Form.{Form, coefficient, without, combine}
 use Rattle.formula_meaning.specs.Atom.{Atom, Compare, Congruent, Incongruent, Relation, Equals, Differs, Below, AtMost, Above, AtLeast, mirrored}
 use Rattle.formula_meaning.specs.Answer.{Answer, Place, Exact, AboveBy, BelowBy, PlusInfinity, MinusInfinity, Periodic}

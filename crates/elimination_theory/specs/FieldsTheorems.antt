@@ -1,8 +1,8 @@
 -- The theorems of elimination over the ordered fields, as statements.
 use Rattle.std.specs.Prelude.{ℕ, ◌↔◌, List, [], ◌∷◌}
-use Rattle.formula_meaning.specs.Context.{Context, Fields}
+use Rattle.formula_meaning.specs.Context.{Fields}
 use Rattle.formula_meaning.specs.Point.{Point, Of}
-use Rattle.formula_meaning.specs.Formula.{Formula, Ex, One}
+use Rattle.formula_meaning.specs.Formula.{Ex, One}
 use Rattle.formula_meaning.specs.Some.{SomeOf}
 use Rattle.formula_meaning.specs.Shape.{IsPlain}
 use Rattle.formula_meaning.specs.Atom.{Atom, AtomIn}

@@ -11,3 +11,5 @@ pub mod IntegersExamples
 pub mod Elimination
 pub mod Decided
 pub mod IntegersSample
+pub mod FieldsExample
+pub mod FieldsSamples

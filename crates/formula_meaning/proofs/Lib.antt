@@ -7,4 +7,6 @@ pub mod PlainTruth
 pub mod Replacing
 pub mod EachAtom
 pub mod ReplacedShape
+pub mod NormalShape
+pub mod TreeNormal
 pub mod TreeReplacing
