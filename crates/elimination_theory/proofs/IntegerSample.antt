@@ -2,7 +2,7 @@
 use Rattle.std.proofs.Common.{◌≡◌, ℕ, suc, zero, ◌<◌, ◌≤◌, ℤ, pos, negsuc, ◌+ℤ◌, ◌-ℤ◌, ◌*ℤ◌, neg_ℤ, ◌≤ℤ◌, ◌<ℤ◌, ◌⊎◌, ◌↔◌, arith, refl, inl, inr, subst, sym, ap, ◌∙◌, ⊎_elim, unsigned_abs, nat_eq, List, [], ◌∷◌}
 use Rattle.std.proofs.lemmas.Int.{ints}
 use Rattle.exact_numbers.specs.Divides.{Divides}
-use Rattle.exact_numbers.proofs.Ring.{ring, zero_mul, mul_zero, mul_comm, mul_neg, neg_mul}
+use Rattle.exact_numbers.proofs.Ring.{one_mul, ring, mul_zero, mul_comm, mul_neg, neg_mul}
 use Rattle.exact_numbers.proofs.Order.{cancel_positive, at_most_mul, mul_at_most, by_less, by_zero}
 use Rattle.exact_numbers.proofs.Divisibility.{divides_zero, divides_along}
 use Rattle.formula_meaning.specs.Context.{Integers}
@@ -16,6 +16,7 @@ use Rattle.formula_meaning.specs.Answer.{Exact, AboveBy, BelowBy, PlusInfinity, 
 use Rattle.formula_meaning.specs.Tree.{Tree, TrueAt}
 use Rattle.formula_meaning.proofs.EachAtom.{every_map}
 use Rattle.formula_meaning.proofs.Relations.{relates_turn}
+use Rattle.elimination_theory.proofs.FieldsLine.{both_ways, turn_round, value_still, relates_along}
 use Rattle.elimination_theory.specs.Atoms.{atoms_of}
 use Rattle.elimination_theory.specs.Side.{Side, Lower, Upper}
 use Rattle.elimination_theory.specs.FieldsTheorems.{at_place}
@@ -26,11 +27,11 @@ use Rattle.elimination_theory.specs.IntegersTheorems.{IsPeriodOf, Suits}
 use Rattle.elimination_theory.specs.IntegersSample.{IsPast, LiesBeyond, IsCritical, ComesFirst, IsFarMember, IsClassSample, IntegerSampleIsTrue, IntegerSampleExists, IntegerSampleIsUnique}
 use Rattle.elimination_theory.proofs.SomeListed.{EachOf, each_among, every_all, every_both, every_of_atoms, atoms_of_every}
 use Rattle.elimination_theory.proofs.MoreArithmetic.{steps-far, at_most_abs, at_least-neg_abs}
-use Rattle.elimination_theory.proofs.IntegerEval.{Agree, eval_map, each_below}
+use Rattle.elimination_theory.proofs.IntegerEval.{Downwards, eval_map, every_downwards}
 use Rattle.elimination_theory.proofs.IntegerPlain.{plain-eval, replaced-eval}
 use Rattle.elimination_theory.proofs.IntegerRelation.{relates-below}
 use Rattle.elimination_theory.proofs.IntegerCompare.{IsCongruent}
-use Rattle.elimination_theory.proofs.IntegerAtom.{says-at, value_at, value-rest, along-zero, relates-at, below-all, periodic-says, iff-trans, iff-sym, not-iff}
+use Rattle.elimination_theory.proofs.IntegerAtom.{says-at, value_at, along-zero, below-all, periodic-says, not-iff}
 use Rattle.elimination_theory.proofs.Listed.{some_among}
 use Rattle.elimination_theory.proofs.IntegerSides.{signed-mul, signed-signed, along-signed}
 use Rattle.elimination_theory.proofs.IntegerHolds.{substitution_holds}
@@ -38,17 +39,13 @@ use Rattle.elimination_theory.proofs.IntegerHolds.{substitution_holds}
 -- ---- beyond the critical values a formula says what it says far out
 
 past-says : (c : ℤ) (r : Relation) (f : Form) (p : Point ℕ) (v : ℤ) → (c ≡ pos 0 → value f p ≡ v) → IsPast c v → Relates r v (pos 0) ↔ TrueAt Integers (beyond c r f) p
-past-says (pos zero) r f p v rest past = iff-sym (relates-at r (rest refl))
-past-says (pos (suc n)) r f p v rest past = iff-trans (relates-below r (pos 0) v past) (below-all r p)
-past-says (negsuc n) r f p v rest past = iff-trans (relates_turn r v (pos 0)) (iff-trans (relates-below (mirrored r) v (pos 0) past) (below-all (mirrored r) p))
+past-says (pos zero) r f p v rest past = turn_round (relates_along r (pos 0) (rest refl))
+past-says (pos (suc n)) r f p v rest past = both_ways (relates-below r (pos 0) v past) (below-all r p)
+past-says (negsuc n) r f p v rest past = both_ways (relates_turn r v (pos 0)) (both_ways (relates-below (mirrored r) v (pos 0) past) (below-all (mirrored r) p))
 
 -- without the name its number does not matter
 value-stays : (f : Form) (p : Point ℕ) (x : ℕ) (k : ℤ) → coefficient x f ≡ pos 0 → value f p ≡ value f (move nat_eq p x k 1)
-value-stays f p x k e =
-    let at = value_at f p x k in
-    let rest = value-rest f p x e in
-    let m : coefficient x f *ℤ k ≡ pos 0 = ap (λ z. z *ℤ k) e ∙ zero_mul k in
-    omega (arith, ints)
+value-stays f p x k e = sym (value_still f p x k 1 e ∙ one_mul (value f p))
 
 -- a step by multiples of a period keeps a congruence
 class-congruent : (n : ℕ) (a t j k q : ℤ) → Divides q (k -ℤ j) → Divides (pos n) (a *ℤ q) → IsCongruent n a t j → IsCongruent n a t k
@@ -74,9 +71,9 @@ beyond-says : (a : Atom) (x : ℕ) (j q k : ℤ) (p : Point ℕ) → p.below ≡
 beyond-says (Compare r f) x j q k p whole class period past =
     past-says (along q (coefficient x f)) r f p (value f (move nat_eq p x k 1)) (λ e. value-stays f p x k (along-zero q (coefficient x f) e)) past
 beyond-says (Congruent n f) x j q k p whole class period past =
-    iff-trans (says-at (Congruent n f) p x k whole) (iff-trans (class-iff n (coefficient x f) _ j k q class period) (periodic-says (Congruent n f) p x j q whole))
+    both_ways (says-at (Congruent n f) p x k whole) (both_ways (class-iff n (coefficient x f) _ j k q class period) (periodic-says (Congruent n f) p x j q whole))
 beyond-says (Incongruent n f) x j q k p whole class period past =
-    iff-trans (says-at (Incongruent n f) p x k whole) (iff-trans (not-iff (class-iff n (coefficient x f) _ j k q class period)) (periodic-says (Incongruent n f) p x j q whole))
+    both_ways (says-at (Incongruent n f) p x k whole) (both_ways (not-iff (class-iff n (coefficient x f) _ j k q class period)) (periodic-says (Incongruent n f) p x j q whole))
 
 far-true : (x : ℕ) (j q : ℤ) (f : Tree) (p : Point ℕ) (k : ℤ) → ¬ (q ≡ pos 0) → Every (Suits x (Periodic j q)) f → IsPlain f → p.below ≡ 1 →
     IsFarMember x j q f p k → Holds Integers (at_place x (Periodic j q)) f p → TrueAt Integers f (move nat_eq p x k 1)
@@ -307,13 +304,13 @@ module _ (side : Side) (x step : ℕ) (p : Point ℕ) (positive : 0 < step) wher
       value_at f p x (signed side k)
       ∙ ap (λ z. z +ℤ value (without x f) p) (signed-mul side (coefficient x f) k ∙ ap (λ b. b *ℤ k) (sym (along-signed side step (coefficient x f) positive)))
 
-  lies-far : (a : Atom) → (u : ℤ) × Agree Lies (λ k b. Unit {0}) u a
+  lies-far : (a : Atom) → Downwards (λ k. Lies k a)
   lies-far (Compare r f) = (
     neg_ℤ (pos (unsigned_abs (value (without x f) p))),
-    λ k h. (λ past. tt, λ t. subst (IsPast (along way (coefficient x f))) (sym (side-value f k)) (past-far (along way (coefficient x f)) (value (without x f) p) k h)),
+    λ k h. subst (IsPast (along way (coefficient x f))) (sym (side-value f k)) (past-far (along way (coefficient x f)) (value (without x f) p) k h),
   )
-  lies-far (Congruent n f) = (pos 0, λ k h. (λ past. tt, λ t. t))
-  lies-far (Incongruent n f) = (pos 0, λ k h. (λ past. tt, λ t. t))
+  lies-far (Congruent n f) = (pos 0, λ k h. tt)
+  lies-far (Incongruent n f) = (pos 0, λ k h. tt)
 
   lies-not : (a : Atom) → IsCritical x a → (b : ℤ) × ((k : ℤ) → b ≤ℤ k → ¬ (Lies k a))
   lies-not (Compare r f) critical = (
@@ -331,11 +328,11 @@ module _ (side : Side) (x step : ℕ) (p : Point ℕ) (positive : 0 < step) wher
 
   start : (j : ℤ) (f : Tree) → Start j f
   start j f =
-      let bound : (u : ℤ) × Every (Agree Lies (λ k b. Unit {0}) u) f = each_below Lies (λ k b. Unit {0}) f (every_all _ lies-far f) in
+      let bound : Downwards (λ k. Every (Lies k) f) = every_downwards Lies f (every_all _ lies-far f) in
       let far : (v : ℤ) × ((t : ℤ) → v <ℤ t → (signed side j +ℤ neg_ℤ (pos step) *ℤ t) <ℤ bound.0) = steps-far (signed side j) bound.0 step positive in
       record {
         steps = far.0 +ℤ pos 1;
-        lies = every_map (Agree Lies (λ k b. Unit {0}) bound.0) _ (λ a agree. (agree _ (far.1 (far.0 +ℤ pos 1) (omega (arith, ints)))).1 tt) f bound.1;
+        lies = bound.1 _ (far.1 (far.0 +ℤ pos 1) (omega (arith, ints)));
       }
 
   module _ (j : ℤ) (f : Tree) (s : Start j f) where
