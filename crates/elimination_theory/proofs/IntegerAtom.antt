@@ -1,5 +1,5 @@
 -- Atoms with a name put at a whole number, at a residue class far out, and at a form over the scale.
-use Rattle.std.proofs.Common.{◌≡◌, ℕ, suc, zero, ◌*◌, ◌<◌, ℤ, pos, negsuc, ◌+ℤ◌, ◌-ℤ◌, ◌*ℤ◌, ◌<ℤ◌, ◌↔◌, arith, refl, subst, sym, ap, ◌∙◌, nat_eq}
+use Rattle.std.proofs.Common.{◌≡◌, ℕ, suc, zero, ◌*◌, ◌<◌, ℤ, pos, negsuc, ◌+ℤ◌, ◌-ℤ◌, ◌*ℤ◌, ◌<ℤ◌, ◌↔◌, arith, refl, sym, ap, ◌∙◌, nat_eq}
 use Rattle.std.proofs.lemmas.Int.{ints}
 use Rattle.exact_numbers.proofs.Ring.{ring, zero_mul, mul_one, mul_left_comm}
 use Rattle.exact_numbers.proofs.Order.{cancel_positive}
@@ -11,13 +11,14 @@ use Rattle.formula_meaning.specs.Answer.{Exact, Periodic}
 use Rattle.formula_meaning.specs.Tree.{TrueAt}
 use Rattle.formula_meaning.proofs.Relations.{relates_mul}
 use Rattle.formula_meaning.proofs.Values.{value_move, value_split, value_plus, value_combine, below_move, pos_mul}
+use Rattle.elimination_theory.proofs.FieldsLine.{both_ways, turn_round, relates_along}
 use Rattle.elimination_theory.specs.FieldsSubstitution.{put_in, beyond, exactly, below_all}
 use Rattle.elimination_theory.specs.IntegersSubstitution.{where_zero, put_number, along, integer_atom}
 use Rattle.elimination_theory.proofs.IntegerRelation.{IsTrueBelow, relates-move}
 use Rattle.elimination_theory.proofs.IntegerCompare.{Compares, ComparesLow, IsCongruent, without-name}
 
 -- the value of a form with x set to a whole number
-value_at : (f : Form) (p : Point ℕ) (x : ℕ) (k : ℤ) → value f (move nat_eq p x k 1) ≡ coefficient x f *ℤ k +ℤ value (without x f) p
+pub value_at : (f : Form) (p : Point ℕ) (x : ℕ) (k : ℤ) → value f (move nat_eq p x k 1) ≡ coefficient x f *ℤ k +ℤ value (without x f) p
 value_at f p x k = let e = value_move f p x k 1 in let o = mul_one (value (without x f) p) in omega (arith, ints)
 
 one-below : (p : Point ℕ) → p.below ≡ 1 → p.below * 1 ≡ 1
@@ -46,23 +47,14 @@ SaysAt (Incongruent n f) a t k = ¬ (IsCongruent n a t k)
 pub not-iff : {X Y : Type 0} → X ↔ Y → ¬ X ↔ ¬ Y
 not-iff e = (λ n y. n (e.1 y), λ n x. n (e.0 x))
 
-pub iff-trans : {X Y Z : Type 0} → X ↔ Y → Y ↔ Z → X ↔ Z
-iff-trans e f = (λ x. f.0 (e.0 x), λ z. e.1 (f.1 z))
-
-pub iff-sym : {X Y : Type 0} → X ↔ Y → Y ↔ X
-iff-sym e = (e.1, e.0)
-
-relates-at : (r : Relation) {v w : ℤ} → v ≡ w → Relates r v (pos 0) ↔ Relates r w (pos 0)
-relates-at r e = (subst (λ z. Relates r z (pos 0)) e, subst (λ z. Relates r z (pos 0)) (sym e))
-
 pub says-at : (a : Atom) (p : Point ℕ) (x : ℕ) (k : ℤ) → p.below ≡ 1 →
     Says a (move nat_eq p x k 1) ↔ SaysAt a (coefficient x (form_of a)) (value (without x (form_of a)) p) k
-says-at (Compare r f) p x k whole = relates-at r (value_at f p x k)
+says-at (Compare r f) p x k whole = relates_along r (pos 0) (value_at f p x k)
 says-at (Congruent n f) p x k whole = divides-at n f p x k whole
 says-at (Incongruent n f) p x k whole = not-iff (divides-at n f p x k whole)
 
 -- without the name a form is its rest
-value-rest : (f : Form) (p : Point ℕ) (x : ℕ) → coefficient x f ≡ pos 0 → value f p ≡ value (without x f) p
+pub value-rest : (f : Form) (p : Point ℕ) (x : ℕ) → coefficient x f ≡ pos 0 → value f p ≡ value (without x f) p
 value-rest f p x e =
     let s = value_split f p x in
     let m : coefficient x f *ℤ p.at x ≡ pos 0 = ap (λ z. z *ℤ p.at x) e ∙ zero_mul (p.at x) in
@@ -76,12 +68,12 @@ exact-multiple l a k t = simp ring (omega (arith, ints))
 exact-relates : (r : Relation) (l a k t v : ℤ) → pos 0 <ℤ l → v ≡ a *ℤ (k *ℤ l) +ℤ l *ℤ t → Compares r a t k ↔ Relates r v (pos 0)
 exact-relates r l a k t v positive e =
     let m = exact-multiple l a k t in
-    iff-trans (relates_mul r l _ _ positive)
-    (iff-trans (relates-move r _ _ _ _ m, relates-move r _ _ _ _ (sym m)) (iff-sym (relates-at r e)))
+    both_ways (relates_mul r l _ _ positive)
+    (both_ways (relates-move r _ _ _ _ m, relates-move r _ _ _ _ (sym m)) (turn_round (relates_along r (pos 0) e)))
 
 exact-compare : (a : ℤ) (r : Relation) (f g : Form) (p : Point ℕ) (l k t : ℤ) → pos 0 <ℤ l → (a ≡ pos 0 → value f p ≡ t) →
     value g p ≡ a *ℤ (k *ℤ l) +ℤ l *ℤ t → Compares r a t k ↔ TrueAt Integers (exactly a r f g) p
-exact-compare (pos zero) r f g p l k t positive rest e = iff-trans (without-name r t k) (iff-sym (relates-at r (rest refl)))
+exact-compare (pos zero) r f g p l k t positive rest e = both_ways (without-name r t k) (turn_round (relates_along r (pos 0) (rest refl)))
 exact-compare (pos (suc n)) r f g p l k t positive rest e = exact-relates r l (pos (suc n)) k t _ positive e
 exact-compare (negsuc n) r f g p l k t positive rest e = exact-relates r l (negsuc n) k t _ positive e
 
@@ -98,16 +90,16 @@ exact-divides : (a : ℤ) (n : ℕ) (g : Form) (p : Point ℕ) (l : ℕ) (k t : 
     value g p ≡ a *ℤ (k *ℤ pos l) +ℤ pos l *ℤ t → IsCongruent n a t k ↔ Divides (l * n) g p
 exact-divides a n g p l k t positive whole e =
     let m : pos (l * n) ≡ pos l *ℤ pos n = pos_mul l n in
-    iff-trans (
+    both_ways (
       λ c. (c.0, quotient-out (pos l) (pos n) c.0 _ c.1 ∙ ap (λ z. c.0 *ℤ z) (sym m)),
       λ c. (c.0, quotient-in (pos l) (pos n) c.0 _ positive (c.1 ∙ ap (λ z. c.0 *ℤ z) m)),
     )
-    (iff-sym (divides-is (l * n) g p (pos l *ℤ (a *ℤ k +ℤ t)) whole (e ∙ sym (exact-value (pos l) a k t))))
+    (turn_round (divides-is (l * n) g p (pos l *ℤ (a *ℤ k +ℤ t)) whole (e ∙ sym (exact-value (pos l) a k t))))
 
 without-name-divides : (n : ℕ) (f : Form) (p : Point ℕ) (k t : ℤ) → p.below ≡ 1 → value f p ≡ t → IsCongruent n (pos 0) t k ↔ Divides n f p
 without-name-divides n f p k t whole e =
     let z : pos 0 *ℤ k +ℤ t ≡ t = nothing-times k t in
-    iff-trans (λ c. (c.0, sym z ∙ c.1), λ c. (c.0, z ∙ c.1)) (iff-sym (divides-is n f p t whole e))
+    both_ways (λ c. (c.0, sym z ∙ c.1), λ c. (c.0, z ∙ c.1)) (turn_round (divides-is n f p t whole e))
   where
     nothing-times : (k t : ℤ) → pos 0 *ℤ k +ℤ t ≡ t
     nothing-times k t = let z = zero_mul k in omega (arith, ints)
@@ -133,13 +125,13 @@ put-value f e p x l k is =
 pub exact-says : (a : Atom) (p : Point ℕ) (x : ℕ) (e : Form) (l : ℕ) (k : ℤ) → p.below ≡ 1 → 0 < l → value e p ≡ k *ℤ pos l →
     Says a (move nat_eq p x k 1) ↔ TrueAt Integers (integer_atom x (Exact e l) a) p
 exact-says (Compare r f) p x e l k whole positive is =
-    iff-trans (says-at (Compare r f) p x k whole)
+    both_ways (says-at (Compare r f) p x k whole)
     (exact-compare (coefficient x f) r f (put_in x e l f) p (pos l) k _ (omega (arith, ints)) (value-rest f p x) (put-value f e p x l k is))
 exact-says (Congruent n f) p x e l k whole positive is =
-    iff-trans (says-at (Congruent n f) p x k whole)
+    both_ways (says-at (Congruent n f) p x k whole)
     (exact-congruent (coefficient x f) n f (put_in x e l f) p l k _ (omega (arith, ints)) whole (value-rest f p x) (put-value f e p x l k is))
 exact-says (Incongruent n f) p x e l k whole positive is =
-    iff-trans (says-at (Incongruent n f) p x k whole)
+    both_ways (says-at (Incongruent n f) p x k whole)
     (exact-incongruent (coefficient x f) n f (put_in x e l f) p l k _ (omega (arith, ints)) whole (value-rest f p x) (put-value f e p x l k is))
 
 -- ---- a residue class far out
@@ -150,7 +142,7 @@ LowAt (Compare r f) b a t k = ComparesLow r b t
 LowAt (Congruent n f) b a t k = IsCongruent n a t k
 LowAt (Incongruent n f) b a t k = ¬ (IsCongruent n a t k)
 
-below-all : (r : Relation) (p : Point ℕ) → IsTrueBelow r ↔ TrueAt Integers (below_all r) p
+pub below-all : (r : Relation) (p : Point ℕ) → IsTrueBelow r ↔ TrueAt Integers (below_all r) p
 below-all Equals p = (λ n. n, λ n. n)
 below-all Differs p = (λ u. u, λ u. u)
 below-all Below p = (λ u. u, λ u. u)
@@ -160,21 +152,21 @@ below-all AtLeast p = (λ n. n, λ n. n)
 
 low-compare : (b : ℤ) (r : Relation) (f : Form) (p : Point ℕ) (t : ℤ) → (b ≡ pos 0 → value f p ≡ t) →
     ComparesLow r b t ↔ TrueAt Integers (beyond b r f) p
-low-compare (pos zero) r f p t rest = iff-sym (relates-at r (rest refl))
+low-compare (pos zero) r f p t rest = turn_round (relates_along r (pos 0) (rest refl))
 low-compare (pos (suc n)) r f p t rest = below-all r p
 low-compare (negsuc n) r f p t rest = below-all (mirrored r) p
 
 number-congruent : (a : ℤ) (n : ℕ) (f g : Form) (p : Point ℕ) (k t : ℤ) → p.below ≡ 1 → (a ≡ pos 0 → value f p ≡ t) →
     value g p ≡ a *ℤ k +ℤ t → IsCongruent n a t k ↔ Says (where_zero a (Congruent n f) (Congruent n g)) p
 number-congruent (pos zero) n f g p k t whole rest e = without-name-divides n f p k t whole (rest refl)
-number-congruent (pos (suc m)) n f g p k t whole rest e = iff-sym (divides-is n g p _ whole e)
-number-congruent (negsuc m) n f g p k t whole rest e = iff-sym (divides-is n g p _ whole e)
+number-congruent (pos (suc m)) n f g p k t whole rest e = turn_round (divides-is n g p _ whole e)
+number-congruent (negsuc m) n f g p k t whole rest e = turn_round (divides-is n g p _ whole e)
 
 number-incongruent : (a : ℤ) (n : ℕ) (f g : Form) (p : Point ℕ) (k t : ℤ) → p.below ≡ 1 → (a ≡ pos 0 → value f p ≡ t) →
     value g p ≡ a *ℤ k +ℤ t → ¬ (IsCongruent n a t k) ↔ Says (where_zero a (Incongruent n f) (Incongruent n g)) p
 number-incongruent (pos zero) n f g p k t whole rest e = not-iff (without-name-divides n f p k t whole (rest refl))
-number-incongruent (pos (suc m)) n f g p k t whole rest e = not-iff (iff-sym (divides-is n g p _ whole e))
-number-incongruent (negsuc m) n f g p k t whole rest e = not-iff (iff-sym (divides-is n g p _ whole e))
+number-incongruent (pos (suc m)) n f g p k t whole rest e = not-iff (turn_round (divides-is n g p _ whole e))
+number-incongruent (negsuc m) n f g p k t whole rest e = not-iff (turn_round (divides-is n g p _ whole e))
 
 number-value : (f : Form) (p : Point ℕ) (x : ℕ) (k : ℤ) → p.below ≡ 1 → value (put_number x k f) p ≡ coefficient x f *ℤ k +ℤ value (without x f) p
 number-value f p x k whole =
@@ -185,7 +177,7 @@ number-value f p x k whole =
     times-below : (v : ℤ) (b : ℕ) → b ≡ 1 → v *ℤ pos b ≡ v
     times-below v b e = ap (λ m. v *ℤ pos m) e ∙ mul_one v
 
-along-zero : (q a : ℤ) → along q a ≡ pos 0 → a ≡ pos 0
+pub along-zero : (q a : ℤ) → along q a ≡ pos 0 → a ≡ pos 0
 along-zero (pos n) a e = omega (arith, ints)
 along-zero (negsuc n) a e = e
 

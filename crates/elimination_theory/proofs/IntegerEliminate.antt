@@ -12,6 +12,7 @@ use Rattle.formula_meaning.specs.Answer.{Place, Exact, AboveBy, BelowBy, PlusInf
 use Rattle.formula_meaning.specs.Tree.{Tree, InContext}
 use Rattle.formula_meaning.proofs.EachAtom.{every_map}
 use Rattle.formula_meaning.proofs.ReplacedShape.{plain_stays, every_replaced}
+use Rattle.elimination_theory.proofs.FieldsLine.{both_ways}
 use Rattle.elimination_theory.specs.Side.{Side, Lower, Upper}
 use Rattle.elimination_theory.specs.Lists.{same_place}
 use Rattle.elimination_theory.specs.Atoms.{atoms_of}
@@ -22,7 +23,7 @@ use Rattle.elimination_theory.specs.IntegersPoints.{signed, counted, class_point
 use Rattle.elimination_theory.specs.IntegersTheorems.{IsPeriodOf, IsIntegerPlace, Suits, IntegerTestPointsSuit, IntegerEliminationIsExact}
 use Rattle.elimination_theory.specs.Decided.{QuantifierIsEliminated}
 use Rattle.elimination_theory.proofs.FieldsEliminated.{some_place, trees_plain}
-use Rattle.elimination_theory.proofs.IntegerAtom.{iff-trans}
+use Rattle.elimination_theory.proofs.IntegerAtom.{}
 use Rattle.elimination_theory.proofs.SomeListed.{EachOf, each_append, each_mapped, each_flat_map, each_distinct, each_among, every_all}
 use Rattle.elimination_theory.proofs.IntegerSides.{Fits}
 use Rattle.elimination_theory.proofs.IntegerSuffice.{formula-spanned, formula-fits, integer_points_suffice}
@@ -150,7 +151,7 @@ substitution-plain x s f place plain inside =
 
 pub integer_elimination_exact : IntegerEliminationIsExact
 integer_elimination_exact side x f plain inside p whole =
-    iff-trans (integer_points_suffice side x f p plain inside whole)
+    both_ways (integer_points_suffice side x f p plain inside whole)
     (some_place Integers (λ s. guarded_substitution x s f) (λ s. Holds Integers (at_place x s) f p) p (integer_points side x f)
     (λ s among. let suits = points_suit side x f s inside among in
     let holds = substitution_holds x s f p suits.0 suits.1 plain whole in

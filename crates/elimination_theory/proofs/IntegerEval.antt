@@ -1,9 +1,8 @@
 -- What a formula built by and and or says, where only what its atoms say is known.
 use Rattle.std.proofs.Common.{⊎_elim, ℤ, pos, ◌⊎◌, inl, inr, ◌<ℤ◌, ◌≤ℤ◌, arith}
 use Rattle.std.proofs.lemmas.Int.{ints}
-use lib.Signed.{≤ℤ_refl}
-use Rattle.elimination_theory.proofs.MoreArithmetic.{less-or-at_least}
-use Rattle.formula_meaning.proofs.EachAtom.{every_map, every_map_of}
+use Rattle.elimination_theory.proofs.MoreArithmetic.{less-or-at_least, le_of_lt}
+use Rattle.formula_meaning.proofs.EachAtom.{every_eventually}
 use Rattle.formula_meaning.specs.Some.{SomeOf}
 use Rattle.elimination_theory.specs.Atoms.{atoms_in, atoms_in_all}
 use Rattle.elimination_theory.proofs.SomeListed.{some_left, some_right}
@@ -91,48 +90,22 @@ module _ {A N : Type 0} (P Q : A → Type 0) where
       | inr rest ↦ inr (eval_some_map fs each.1 rest)
     ]
 
--- below u, P is what Q is
-abbrev pub Agree : {A : Type 0} → (ℤ → A → Type 0) → (ℤ → A → Type 0) → ℤ → A → Type 0
-Agree P Q u a = (k : ℤ) → k <ℤ u → (P k a → Q k a) × (Q k a → P k a)
+-- what holds of all numbers below some number
+abbrev pub Downwards : (ℤ → Type 0) → Type 0
+Downwards Q = (u : ℤ) × ((k : ℤ) → k <ℤ u → Q k)
 
-lesser : (v w : ℤ) → (u : ℤ) × (u ≤ℤ v) × (u ≤ℤ w)
-lesser v w = elim (less-or-at_least v w) [
-  | inl less ↦ (v, ≤ℤ_refl v, omega (arith, ints))
-  | inr more ↦ (w, more, ≤ℤ_refl w)
-]
+downwards-whole : Downwards (λ k. Unit {0})
+downwards-whole = (pos 0, λ k h. tt)
 
 below-le : (k u v : ℤ) → k <ℤ u → u ≤ℤ v → k <ℤ v
 below-le k u v h g = omega (arith, ints)
 
-agree-le : {A : Type 0} (P Q : ℤ → A → Type 0) (u v : ℤ) → u ≤ℤ v → (a : A) → Agree P Q v a → Agree P Q u a
-agree-le P Q u v less a agree k h = agree k (below-le k u v h less)
+downwards-both : (Q R : ℤ → Type 0) → Downwards Q → Downwards R → Downwards (λ k. Q k × R k)
+downwards-both Q R (v, first) (w, second) = elim (less-or-at_least v w) [
+  | inl less ↦ (v, λ k h. (first k h, second k (below-le k v w h (le_of_lt v w less))))
+  | inr more ↦ (w, λ k h. (first k (below-le k w v h more), second k h))
+]
 
-module _ {A N : Type 0} (P Q : ℤ → A → Type 0) where
-  both_below : (f g : Formula A N) → ((u : ℤ) × Every (Agree P Q u) f) → ((u : ℤ) × Every (Agree P Q u) g) → (u : ℤ) × (Every (Agree P Q u) f × Every (Agree P Q u) g)
-  both_below f g (v, left) (w, right) =
-      let u : (u : ℤ) × (u ≤ℤ v) × (u ≤ℤ w) = lesser v w in
-      (u.0, (every_map _ _ (agree-le P Q u.0 v u.1) f left, every_map _ _ (agree-le P Q u.0 w u.2) g right))
-
-  of_both_below : (f : Formula A N) (fs : Formulas A N) → ((u : ℤ) × Every (Agree P Q u) f) → ((u : ℤ) × EveryOf (Agree P Q u) fs) → (u : ℤ) × (Every (Agree P Q u) f × EveryOf (Agree P Q u) fs)
-  of_both_below f fs (v, left) (w, right) =
-      let u : (u : ℤ) × (u ≤ℤ v) × (u ≤ℤ w) = lesser v w in
-      (u.0, (every_map _ _ (agree-le P Q u.0 v u.1) f left, every_map_of _ _ (agree-le P Q u.0 w u.2) fs right))
-
-  mutual
-    -- one bound for all atoms
-    pub each_below : (f : Formula A N) → Every (λ a. (u : ℤ) × Agree P Q u a) f → (u : ℤ) × Every (Agree P Q u) f
-    each_below Yes each = (pos 0, tt)
-    each_below No each = (pos 0, tt)
-    each_below (One a) each = each
-    each_below (And fs) each = each_of_below fs each
-    each_below (Or fs) each = each_of_below fs each
-    each_below (Not f) each = each_below f each
-    each_below (Impl f g) each = both_below f g (each_below f each.0) (each_below g each.1)
-    each_below (Repl f g) each = both_below f g (each_below f each.0) (each_below g each.1)
-    each_below (Equiv f g) each = both_below f g (each_below f each.0) (each_below g each.1)
-    each_below (Ex x f) each = each_below f each
-    each_below (All x f) each = each_below f each
-
-    each_of_below : (fs : Formulas A N) → EveryOf (λ a. (u : ℤ) × Agree P Q u a) fs → (u : ℤ) × EveryOf (Agree P Q u) fs
-    each_of_below none each = (pos 0, tt)
-    each_of_below (also f fs) each = of_both_below f fs (each_below f each.0) (each_of_below fs each.1)
+-- one bound for all atoms
+pub every_downwards : {A N : Type 0} (C : ℤ → A → Type 0) (f : Formula A N) → Every (λ a. Downwards (λ k. C k a)) f → Downwards (λ k. Every (C k) f)
+every_downwards C f each = every_eventually Downwards downwards-whole downwards-both C f each

@@ -14,6 +14,7 @@ use Rattle.formula_meaning.specs.Atom.{Atom, Compare, Congruent, Incongruent, Sa
 use Rattle.formula_meaning.specs.Answer.{Exact, AboveBy, BelowBy, PlusInfinity, MinusInfinity, Periodic, Holds}
 use Rattle.formula_meaning.specs.Tree.{Tree, TrueAt}
 use Rattle.formula_meaning.proofs.EachAtom.{every_map}
+use Rattle.elimination_theory.proofs.FieldsLine.{both_ways, turn_round}
 use Rattle.elimination_theory.specs.Side.{Side, Lower, Upper}
 use Rattle.elimination_theory.specs.FieldsTheorems.{at_place}
 use Rattle.elimination_theory.specs.IntegersSubstitution.{integer_atom, integer_substitution, integer_guard, is_whole}
@@ -21,11 +22,11 @@ use Rattle.elimination_theory.specs.IntegersPoints.{signed, integer_scale}
 use Rattle.elimination_theory.specs.IntegersTheorems.{IsPeriodOf, IntegerAtomIsExact, IntegerSubstitutionIsExact}
 use Rattle.elimination_theory.specs.Atoms.{atoms_of}
 use Rattle.elimination_theory.proofs.SomeListed.{every_both, every_all, every_of_atoms}
-use Rattle.elimination_theory.proofs.IntegerEval.{Eval, Agree, eval_map}
+use Rattle.elimination_theory.proofs.IntegerEval.{Eval, Downwards, eval_map}
 use Rattle.elimination_theory.proofs.IntegerPlain.{plain-eval, replaced-eval}
 use Rattle.elimination_theory.proofs.IntegerDescent.{Stays, far_down, from_far_down}
 use Rattle.elimination_theory.proofs.IntegerCompare.{Scales}
-use Rattle.elimination_theory.proofs.IntegerAtom.{divides-is, exact-says, iff-trans, iff-sym}
+use Rattle.elimination_theory.proofs.IntegerAtom.{divides-is, exact-says}
 use Rattle.elimination_theory.proofs.IntegerSides.{Fits, SaysHere, SaysFar, IsNear, atom-low, atom-stays, signed-signed}
 use Rattle.elimination_theory.proofs.IntegerScale.{Reaches, scale-positive, scale-reaches, scales-of}
 use Rattle.elimination_theory.proofs.IntegerPoints.{class-value}
@@ -42,12 +43,12 @@ guard-is e (suc (suc n)) p h whole = divides-is (suc (suc n)) e p (value e p) wh
 pub exact-substitution : (x : ℕ) (e : Form) (l : ℕ) (f : Tree) (p : Point ℕ) (k : ℤ) → 0 < l → p.below ≡ 1 → value e p ≡ k *ℤ pos l → IsPlain f →
     TrueAt Integers f (move nat_eq p x k 1) ↔ TrueAt Integers (integer_substitution x (Exact e l) f) p
 exact-substitution x e l f p k positive whole is plain =
-    iff-trans (plain-eval Says (move nat_eq) Integers (move nat_eq p x k 1) f plain)
-    (iff-trans (
+    both_ways (plain-eval Says (move nat_eq) Integers (move nat_eq p x k 1) f plain)
+    (both_ways (
       eval_map _ _ f (every_all _ (λ a. (exact-says a p x e l k whole positive is).0) f),
       eval_map _ _ f (every_all _ (λ a. (exact-says a p x e l k whole positive is).1) f),
     )
-    (iff-sym (replaced-eval (integer_atom x (Exact e l)) Says (move nat_eq) Integers p f plain)))
+    (turn_round (replaced-eval (integer_atom x (Exact e l)) Says (move nat_eq) Integers p f plain)))
 
 exact-holds : (x : ℕ) (e : Form) (l : ℕ) (f : Tree) (p : Point ℕ) → 0 < l → IsPlain f → p.below ≡ 1 →
     Holds Integers (at_place x (Exact e l)) f p ↔ TrueAt Integers (is_whole e l) p × TrueAt Integers (integer_substitution x (Exact e l) f) p
@@ -64,13 +65,13 @@ class-back side j s t b whole = sym (class-value side (signed side j) s t b whol
 module _ (side : Side) (x l step : ℕ) (f : Tree) (p : Point ℕ) (whole : p.below ≡ 1) (plain : IsPlain f) (positive : 0 < l) (steps : 0 < step)
     (fits : Every (Fits l step x) f) (j : ℤ) where
   class-far : Eval (SaysFar side x l l step p whole (signed side j)) f ↔ TrueAt Integers (integer_substitution x (Periodic j (signed side (neg_ℤ (pos step)))) f) p
-  class-far = iff-trans (
+  class-far = both_ways (
     subst (λ i. Eval (λ a. TrueAt Integers (integer_atom x (Periodic i (signed side (neg_ℤ (pos step)))) a) p) f) (signed-signed side j),
     subst (λ i. Eval (λ a. TrueAt Integers (integer_atom x (Periodic i (signed side (neg_ℤ (pos step)))) a) p) f) (sym (signed-signed side j)),
   )
-      (iff-sym (replaced-eval (integer_atom x (Periodic j (signed side (neg_ℤ (pos step))))) Says (move nat_eq) Integers p f plain))
+      (turn_round (replaced-eval (integer_atom x (Periodic j (signed side (neg_ℤ (pos step))))) Says (move nat_eq) Integers p f plain))
 
-  low : Every (λ a. (u : ℤ) × Agree (SaysHere side x l l step p whole) (SaysFar side x l l step p whole) u a) f
+  low : Every (λ a. Downwards (λ k. SaysHere side x l l step p whole k a ↔ SaysFar side x l l step p whole k a)) f
   low = every_map _ _ (λ a fit. atom-low side x l l step p whole positive steps a fit) f fits
 
   stays : Every (Stays (SaysFar side x l l step p whole) step) f
@@ -78,7 +79,7 @@ module _ (side : Side) (x l step : ℕ) (f : Tree) (p : Point ℕ) (whole : p.be
 
   class-here : (t : ℤ) → TrueAt Integers f (move nat_eq p x ((j +ℤ signed side (neg_ℤ (pos step)) *ℤ t) *ℤ pos p.below) 1) ↔
       Eval (SaysHere side x l l step p whole (signed side j +ℤ neg_ℤ (pos step) *ℤ t)) f
-  class-here t = iff-trans (
+  class-here t = both_ways (
     subst (λ k. TrueAt Integers f (move nat_eq p x k 1)) (class-back side j (neg_ℤ (pos step)) t p.below whole),
     subst (λ k. TrueAt Integers f (move nat_eq p x k 1)) (sym (class-back side j (neg_ℤ (pos step)) t p.below whole)),
   )

@@ -21,7 +21,7 @@ use Rattle.elimination_theory.specs.IntegersPoints.{signed, atom_starts, counted
 use Rattle.elimination_theory.specs.Lists.{same_atom}
 use Rattle.elimination_theory.proofs.Listed.{atom_same}
 use Rattle.elimination_theory.proofs.SomeListed.{some_map, some_left, some_right, some_either, some_mapped, some_of_mapped, some_flat_map, some_of_flat_map, some_distinct, some_gives}
-use Rattle.elimination_theory.proofs.IntegerEval.{Eval, Agree}
+use Rattle.elimination_theory.proofs.IntegerEval.{Eval, Downwards}
 use Rattle.elimination_theory.proofs.IntegerPlain.{plain-eval}
 use Rattle.elimination_theory.proofs.IntegerDescent.{Stays, descent, far_down}
 use Rattle.elimination_theory.proofs.IntegerSides.{Fits, After, SaysHere, SaysFar, IsNear, atom-step, atom-low, atom-stays, signed-signed, signed-add}
@@ -64,7 +64,7 @@ module _ (side : Side) (x l d : ℕ) (p : Point ℕ) (whole : p.below ≡ 1) (sc
   here : (k : ℤ) → TrueAt Integers f (move nat_eq p x (signed side k) 1) ↔ Eval (SaysHere side x l d (d / l) p whole k) f
   here k = plain-eval Says (move nat_eq) Integers (move nat_eq p x (signed side k) 1) f plain
 
-  low : Every (λ a. (u : ℤ) × Agree (SaysHere side x l d (d / l) p whole) (SaysFar side x l d (d / l) p whole) u a) f
+  low : Every (λ a. Downwards (λ k. SaysHere side x l d (d / l) p whole k a ↔ SaysFar side x l d (d / l) p whole k a)) f
   low = every_map _ _ (λ a fit. atom-low side x l d (d / l) p whole scale_positive step_positive a fit) f fits
 
   stays : Every (Stays (SaysFar side x l d (d / l) p whole) (d / l)) f

@@ -4,10 +4,8 @@ use Rattle.std.proofs.lemmas.Int.{ints}
 use Rattle.exact_numbers.proofs.Ring.{ring}
 use Rattle.exact_numbers.proofs.Order.{by_order}
 use Rattle.formula_meaning.specs.Atom.{mirrored, Relation, Equals, Differs, Below, AtMost, Above, AtLeast, Relates}
+use Rattle.elimination_theory.proofs.MoreArithmetic.{less-or-at_least, le_of_lt}
 use Rattle.formula_meaning.proofs.Relations.{relates_mul}
-
-le_of_lt : (a b : ℤ) → a <ℤ b → a ≤ℤ b
-le_of_lt a b h = omega (arith, ints)
 
 pub relates-move : (r : Relation) (a b c d : ℤ) → a -ℤ b ≡ c -ℤ d → Relates r a b → Relates r c d
 relates-move Equals a b c d e h = omega (arith, ints)
@@ -51,9 +49,6 @@ Near AtMost v d u = ⊥
 Near Above v d u = (v <ℤ u) × (u ≤ℤ (v +ℤ pos d))
 Near AtLeast v d u = ((v -ℤ pos 1) <ℤ u) × (u ≤ℤ ((v -ℤ pos 1) +ℤ pos d))
 
-split-le : (a b : ℤ) → (a <ℤ b) ⊎ (b ≤ℤ a)
-split-le a b = search (arith, ints)
-
 -- true d below, or near
 pub relates-step : (r : Relation) (v u : ℤ) (d : ℕ) → 0 < d → Relates r u v → Relates r (u -ℤ pos d) v ⊎ Near r v d u
 relates-step Equals v u d h is = inr (omega (arith, ints), omega (arith, ints))
@@ -64,11 +59,11 @@ relates-step Differs v u d h is =
     (λ (m : (v +ℤ pos d) <ℤ u). inl (λ (e : u -ℤ pos d ≡ v). omega (arith, ints)))
 relates-step Below v u d h is = inl (omega (arith, ints))
 relates-step AtMost v u d h is = inl (omega (arith, ints))
-relates-step Above v u d h is = elim (split-le v (u -ℤ pos d)) [
+relates-step Above v u d h is = elim (less-or-at_least v (u -ℤ pos d)) [
   | inl more ↦ inl more
   | inr less ↦ inr (is, omega (arith, ints))
 ]
-relates-step AtLeast v u d h is = elim (split-le (u -ℤ pos d) v) [
+relates-step AtLeast v u d h is = elim (less-or-at_least (u -ℤ pos d) v) [
   | inl less ↦ inr (omega (arith, ints), omega (arith, ints))
   | inr more ↦ inl more
 ]

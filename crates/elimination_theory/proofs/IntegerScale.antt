@@ -10,6 +10,7 @@ use Rattle.formula_meaning.specs.Context.{Integers}
 use Rattle.formula_meaning.specs.Form.{coefficient}
 use Rattle.formula_meaning.specs.Atom.{Atom, Compare, Congruent, Incongruent, form_of, AtomIn}
 use Rattle.formula_meaning.proofs.Values.{pos_mul}
+use Rattle.elimination_theory.proofs.FieldsMeet.{pos_positive, positive_pos}
 use Rattle.elimination_theory.specs.IntegersPoints.{common_multiple, with_coefficient, scale_of, with_modulus, span_of}
 use Rattle.elimination_theory.proofs.SomeListed.{EachOf}
 use Rattle.elimination_theory.proofs.IntegerCompare.{Factor, Scales}
@@ -21,31 +22,25 @@ abs-pos : (z : ℤ) → pos 0 <ℤ z → pos (unsigned_abs z) ≡ z
 abs-pos (pos n) h = refl
 abs-pos (negsuc n) h = absurd h.lt
 
-positive : (n : ℕ) → 0 < n → pos 0 <ℤ pos n
-positive n h = omega (arith, ints)
-
-natural : (n : ℕ) → pos 0 <ℤ pos n → 0 < n
-natural n h = omega (arith, ints)
-
 module _ (m n : ℕ) (hm : 0 < m) (hn : 0 < n) where
   common-is : pos (common_multiple m n) ≡ lcm_of (pos m) (pos n)
-  common-is = abs-pos (lcm_of (pos m) (pos n)) (lcm_is (positive m hm) (positive n hn)).positive
+  common-is = abs-pos (lcm_of (pos m) (pos n)) (lcm_is (pos_positive hm) (pos_positive hn)).positive
 
   pub common-positive : 0 < common_multiple m n
-  common-positive = natural _ (subst (λ (z : ℤ). pos 0 <ℤ z) (sym common-is) (lcm_is (positive m hm) (positive n hn)).positive)
+  common-positive = positive_pos (subst (λ (z : ℤ). pos 0 <ℤ z) (sym common-is) (lcm_is (pos_positive hm) (pos_positive hn)).positive)
 
   pub common-left : Divides (pos m) (pos (common_multiple m n))
-  common-left = divides_along (sym common-is) (lcm_is (positive m hm) (positive n hn)).left
+  common-left = divides_along (sym common-is) (lcm_is (pos_positive hm) (pos_positive hn)).left
 
   pub common-right : Divides (pos n) (pos (common_multiple m n))
-  common-right = divides_along (sym common-is) (lcm_is (positive m hm) (positive n hn)).right
+  common-right = divides_along (sym common-is) (lcm_is (pos_positive hm) (pos_positive hn)).right
 
 -- a divisor n of l, and the number l / n
 pub factor-of : (l n : ℕ) → 0 < l → 0 < n → Divides (pos n) (pos l) → Factor l n (l / n)
 factor-of l n hl hn h =
     let e : pos n *ℤ pos (l / n) ≡ pos l = exact_div (pos n) (pos l) (not-zero n hn) h in
     record {
-      positive = factor_positive (positive n hn) (subst (λ (z : ℤ). pos 0 <ℤ z) (sym e) (positive l hl));
+      positive = factor_positive (pos_positive hn) (subst (λ (z : ℤ). pos 0 <ℤ z) (sym e) (pos_positive hl));
       is = mul_comm (pos (l / n)) (pos n) ∙ e;
     }
   where
@@ -103,7 +98,7 @@ Spans l d m (negsuc n) = Divides (pos (m * (l / suc n))) (pos d)
 multiplied-positive : (l m n : ℕ) → 0 < l → 0 < m → Divides (pos (suc n)) (pos l) → 0 < m * (l / suc n)
 multiplied-positive l m n hl hm r =
     let f = factor-of l (suc n) hl (omega arith) r in
-    natural _ (subst (λ (z : ℤ). pos 0 <ℤ z) (sym (pos_mul m (l / suc n))) (mul_positive (positive m hm) f.positive))
+    positive_pos (subst (λ (z : ℤ). pos 0 <ℤ z) (sym (pos_mul m (l / suc n))) (mul_positive (pos_positive hm) f.positive))
 
 module _ (l m : ℕ) (hl : 0 < l) (hm : 0 < m) where
   with_modulus-positive : (c : ℤ) (n : ℕ) → Reaches l c → 0 < n → 0 < with_modulus l m c n

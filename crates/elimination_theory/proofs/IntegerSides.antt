@@ -10,13 +10,14 @@ use Rattle.formula_meaning.specs.Atom.{Atom, Compare, Congruent, Incongruent, Re
 use Rattle.formula_meaning.specs.Answer.{Periodic}
 use Rattle.formula_meaning.specs.Tree.{TrueAt}
 use Rattle.formula_meaning.proofs.Values.{value_plus, value_scale}
+use Rattle.elimination_theory.proofs.FieldsLine.{both_ways, turn_round}
 use Rattle.elimination_theory.specs.Side.{Side, Lower, Upper}
 use Rattle.elimination_theory.specs.IntegersSubstitution.{along, integer_atom}
 use Rattle.elimination_theory.specs.IntegersPoints.{signed, starts_of, comparison_starts, atom_starts}
 use Rattle.elimination_theory.proofs.IntegerRelation.{Near, mirrored-mirrored}
 use Rattle.elimination_theory.proofs.IntegerCompare.{ComparesLow, ComparesNear, IsCongruent, Scales, compares-step, compares-low, congruent-stays, congruent-back}
-use Rattle.elimination_theory.proofs.IntegerAtom.{SaysAt, LowAt, says-at, periodic-says, iff-trans, iff-sym}
-use Rattle.elimination_theory.proofs.IntegerEval.{Agree}
+use Rattle.elimination_theory.proofs.IntegerAtom.{SaysAt, LowAt, says-at, periodic-says}
+use Rattle.elimination_theory.proofs.IntegerEval.{Downwards}
 use Rattle.elimination_theory.proofs.IntegerDescent.{Stays}
 
 -- ---- signs
@@ -37,7 +38,7 @@ pub signed-add : (side : Side) (a b : ℤ) → signed side (a +ℤ b) ≡ signed
 signed-add Lower a b = refl
 signed-add Upper a b = omega (arith, ints)
 
-along-signed : (side : Side) (step : ℕ) (a : ℤ) → 0 < step → along (signed side (neg_ℤ (pos step))) a ≡ signed side a
+pub along-signed : (side : Side) (step : ℕ) (a : ℤ) → 0 < step → along (signed side (neg_ℤ (pos step))) a ≡ signed side a
 along-signed Lower zero a h = absurd (omega arith)
 along-signed Upper zero a h = absurd (omega arith)
 along-signed Lower (suc n) a h = refl
@@ -185,12 +186,12 @@ module _ (side : Side) (x l d step : ℕ) (p : Point ℕ) (whole : p.below ≡ 1
   IsNear k a = SomeOf (After side d p (pos l *ℤ signed side k)) (atom_starts side l x a)
 
   here-is : (a : Atom) (k : ℤ) → SaysHere k a ↔ SaysAt a (signed side (coefficient x (form_of a))) (value (without x (form_of a)) p) k
-  here-is a k = iff-trans (says-at a p x (signed side k) whole) (says-signed side a (coefficient x (form_of a)) _ k)
+  here-is a k = both_ways (says-at a p x (signed side k) whole) (says-signed side a (coefficient x (form_of a)) _ k)
 
   far-is : 0 < step → (a : Atom) (k : ℤ) →
       SaysFar k a ↔ LowAt a (signed side (coefficient x (form_of a))) (signed side (coefficient x (form_of a))) (value (without x (form_of a)) p) k
   far-is positive a k =
-      iff-trans (iff-sym (periodic-says a p x (signed side k) (signed side (neg_ℤ (pos step))) whole))
+      both_ways (turn_round (periodic-says a p x (signed side k) (signed side (neg_ℤ (pos step))) whole))
       (low-signed side a _ (coefficient x (form_of a)) _ k (along-signed side step _ positive))
 
   pub atom-step : 0 < d → pos d ≡ pos l *ℤ pos step → (a : Atom) → Fits l step x a → (k : ℤ) → SaysHere k a → SaysHere (k -ℤ pos step) a ⊎ IsNear k a
@@ -200,10 +201,10 @@ module _ (side : Side) (x l d step : ℕ) (p : Point ℕ) (whole : p.below ≡ 1
         | inr near ↦ inr (near-atom side a x l d p k whole near)
       ]
 
-  pub atom-low : 0 < l → 0 < step → (a : Atom) → Fits l step x a → (u : ℤ) × Agree SaysHere SaysFar u a
+  pub atom-low : 0 < l → 0 < step → (a : Atom) → Fits l step x a → Downwards (λ k. SaysHere k a ↔ SaysFar k a)
   atom-low positive steps a fits =
       let low = low-at a (signed side (coefficient x (form_of a))) (value (without x (form_of a)) p) l step (fits-signed side l step a _ fits) positive in
-      (low.0, λ k far. iff-trans (here-is a k) (iff-trans (low.1 k far) (iff-sym (far-is steps a k))))
+      (low.0, λ k far. both_ways (here-is a k) (both_ways (low.1 k far) (turn_round (far-is steps a k))))
 
   pub atom-stays : 0 < step → (a : Atom) → Fits l step x a → Stays SaysFar step a
   atom-stays steps a fits k z is =

@@ -29,6 +29,7 @@ pub mod AtomsDecided
 pub mod Decided
 pub mod NegationNormal
 pub mod FieldsEliminated
+pub mod IntegerSample
 pub mod FieldsExample
 pub mod FieldsSample
 pub mod BothTheories

@@ -11,7 +11,10 @@ down-suc k step n = omega (arith, ints)
 pub less-or-at_least : (a b : ℤ) → (a <ℤ b) ⊎ (b ≤ℤ a)
 less-or-at_least a b = search (arith, ints)
 
-at_most_abs : (k : ℤ) → k ≤ℤ pos (unsigned_abs k)
+pub le_of_lt : (a b : ℤ) → a <ℤ b → a ≤ℤ b
+le_of_lt a b h = omega (arith, ints)
+
+pub at_most_abs : (k : ℤ) → k ≤ℤ pos (unsigned_abs k)
 at_most_abs (pos n) = omega (arith, ints)
 at_most_abs (negsuc n) = omega (arith, ints)
 

@@ -10,6 +10,7 @@ pub mod IntegersTheorems
 pub mod IntegersExamples
 pub mod Elimination
 pub mod Decided
+pub mod IntegersSample
 pub mod FieldsExample
 pub mod FieldsSamples
 pub mod PointsTheorems

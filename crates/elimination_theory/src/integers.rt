@@ -1,6 +1,7 @@
 //! The integers: test points over a common scale, and residue classes far out.
 
 ghost use Rattle.elimination_theory.specs.IntegersExamples.{PointsOfTwoXIsA, SubstitutionOfTwoXIsA, PointsOfEvenAboveA, SpanIsNeeded, GuardIsNeeded};
+ghost use Rattle.elimination_theory.specs.IntegersSample.{IntegerSampleIsTrue, IntegerSampleExists, IntegerSampleIsUnique};
 ghost use Rattle.elimination_theory.specs.IntegersTheorems.{IntegerTestPointsSuffice, IntegerTestPointsSuit, IntegerAtomIsExact, IntegerSubstitutionIsExact, IntegerAnswersHold, IntegerEliminationIsExact};
 
 /// For a formula built by `and` and `or`, `ex(x, f)` is true exactly where some test point of the side makes `f` true.
@@ -31,6 +32,22 @@ pub fn nested_integer_answers_hold()
 /// `ex(x, f)` is equivalent to `f` with the test points of a side put in, each with its guard.
 pub fn integer_elimination_is_exact()
     ensures { IntegerEliminationIsExact }
+{}
+
+/// Where a place makes a formula true, the formula is true at the sample of the place.
+pub fn integer_sample_is_true()
+    ensures { IntegerSampleIsTrue }
+{}
+
+/// Where a place makes a formula true it has a sample: the number that it is, or the member of its residue class nearest
+/// to the critical values among those beyond all of them.
+pub fn integer_sample_exists()
+    ensures { IntegerSampleExists }
+{}
+
+/// A place has at most one sample.
+pub fn integer_sample_is_unique()
+    ensures { IntegerSampleIsUnique }
 {}
 
 /// The points of `2*x = a` on both sides: a residue class, and two numbers over the scale 2.
