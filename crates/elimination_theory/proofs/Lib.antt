@@ -32,3 +32,4 @@ pub mod FieldsEliminated
 pub mod IntegerSample
 pub mod FieldsExample
 pub mod FieldsSample
+pub mod IntegerLeast
