@@ -126,3 +126,9 @@ one_within side (After a b) (After c d) p q =
     by_before side (a *ℤ pos d) (c *ℤ pos b)
     (λ l. inr (λ k m h u. not_after_before side a (pos b) c (pos d) k (pos m) p q h (before_not_after side _ _ l) u))
     (λ l. inl (λ k m h u. not_after_before side c (pos d) a (pos b) k (pos m) q p h l u))
+
+-- what begins after a cut stays after it
+pub covers_on : (side : Side) (s : Cut) (j : ℤ) (n : ℕ) (i : ℤ) (l : ℕ) → IsProper s → pos 0 <ℤ pos n → pos 0 <ℤ pos l → Covers side s j n → NotAfter side (j *ℤ pos l) (i *ℤ pos n) → Covers side s i l
+covers_on side Everywhere j n i l h pn pl c f = tt
+covers_on side (From v d) j n i l h pn pl c f = not_after_not_after side v (pos d) j (pos n) i (pos l) h pn pl c f
+covers_on side (After v d) j n i l h pn pl c f = before_not_after_before side v (pos d) j (pos n) i (pos l) h pn pl c f

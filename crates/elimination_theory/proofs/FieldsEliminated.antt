@@ -14,14 +14,12 @@ use Rattle.elimination_theory.specs.FieldsPoints.{field_points}
 use Rattle.elimination_theory.specs.FieldsSubstitution.{field_substitution}
 use Rattle.elimination_theory.specs.FieldsTheorems.{at_place}
 use Rattle.elimination_theory.specs.Elimination.{trees_at, field_elimination}
-use Rattle.elimination_theory.specs.Decided.{QuantifierIsEliminated, QuantifiersAreEliminated, TruthIsDecided, NegationNormalFormKeepsTruth, AllIsNotExNot, FieldEliminationIsExact}
+use Rattle.elimination_theory.specs.Decided.{QuantifierIsEliminated, FieldEliminationIsExact}
 use Rattle.elimination_theory.proofs.Listed.{Among}
 use Rattle.elimination_theory.proofs.FieldsLine.{both_ways}
 use Rattle.elimination_theory.proofs.FieldsSuffice.{field_points_suffice, field_point_place}
 use Rattle.elimination_theory.proofs.FieldsSubstitute.{substitution_exact}
 use Rattle.elimination_theory.proofs.FieldsAnswers.{substitution_tree}
-use Rattle.elimination_theory.proofs.Decided.{truth_decided, quantifiers_eliminated}
-use Rattle.elimination_theory.proofs.NegationNormal.{negation_normal_keeps_truth, all_not_ex_not}
 
 -- some place of the list makes the formula true exactly where some tree is true
 pub some_place : (c : Context) (put : Place → Tree) (H : Place → Type 0) (p : Point ℕ) (places : List Place) → ((s : Place) → Among places s → H s ↔ TrueAt c (put s) p) →
@@ -45,15 +43,3 @@ pub field_quantifier_eliminated : QuantifierIsEliminated Fields
 field_quantifier_eliminated x f s c =
     let t = trees_plain Fields (λ q. field_substitution x q f) (field_points Lower x f) (λ q m. substitution_tree x q f (s, c)) in
     (field_elimination Lower x f, t.0, t.1, field_elimination_exact Lower x f s c)
-
-pub field_truth_decided : TruthIsDecided Fields
-field_truth_decided = truth_decided Fields field_quantifier_eliminated
-
-pub field_quantifiers_eliminated : QuantifiersAreEliminated Fields
-field_quantifiers_eliminated = quantifiers_eliminated Fields field_quantifier_eliminated
-
-pub field_negation_normal : NegationNormalFormKeepsTruth Fields
-field_negation_normal = negation_normal_keeps_truth Fields field_truth_decided
-
-pub field_all_not_ex_not : AllIsNotExNot Fields
-field_all_not_ex_not = all_not_ex_not Fields field_truth_decided

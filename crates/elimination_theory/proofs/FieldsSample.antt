@@ -24,7 +24,7 @@ use Rattle.elimination_theory.specs.FieldsTheorems.{at_place}
 use Rattle.elimination_theory.specs.FieldsSamples.{NoCritical, IsJustPast, IsJustShort, IsBelowAll, IsAboveAll, IsFieldSample}
 use Rattle.elimination_theory.proofs.Listed.{among_some}
 use Rattle.elimination_theory.proofs.Fractions.{less_at_most, at_most_less}
-use Rattle.elimination_theory.proofs.FieldsCut.{Before, NotAfter, Cut, Everywhere, From, After, IsProper, Covers, by_before, not_after_before, before_not_after_before, not_after_not_after}
+use Rattle.elimination_theory.proofs.FieldsCut.{Before, NotAfter, Covers, by_before, not_after_before, before_not_after_before, covers_on}
 use Rattle.elimination_theory.proofs.FieldsLine.{over, under, line_positive, line_negative, comparison_still}
 use Rattle.elimination_theory.proofs.LowestTerms.{lowest}
 use Rattle.elimination_theory.proofs.FieldsBegin.{IsOfSide, cut_of, proper}
@@ -108,12 +108,6 @@ module _ (side : Side) (p : Point ℕ) (x : ℕ) (j : ℤ) (n : ℕ) (k : ℤ) (
   atom_stays (Compare r f) c clear t = comparison_stays r f clear t
   atom_stays (Congruent l f) c clear t = absurd c
   atom_stays (Incongruent l f) c clear t = absurd c
-
--- what begins after a cut stays after it
-covers_on : (side : Side) (s : Cut) (j : ℤ) (n : ℕ) (i : ℤ) (l : ℕ) → IsProper s → pos 0 <ℤ pos n → pos 0 <ℤ pos l → Covers side s j n → NotAfter side (j *ℤ pos l) (i *ℤ pos n) → Covers side s i l
-covers_on side Everywhere j n i l h pn pl c f = tt
-covers_on side (From v d) j n i l h pn pl c f = not_after_not_after side v (pos d) j (pos n) i (pos l) h pn pl c f
-covers_on side (After v d) j n i l h pn pl c f = before_not_after_before side v (pos d) j (pos n) i (pos l) h pn pl c f
 
 -- a formula that holds at a place is true at a value with no critical value on the way
 way_is_clear : (side : Side) (x : ℕ) (s : Place) (f : Tree) (p : Point ℕ) (k : ℤ) (m : ℕ) → IsOfSide side s → IsPlain f → InContext Fields f → Of Fields p → pos 0 <ℤ pos m →

@@ -21,9 +21,7 @@ use Rattle.elimination_theory.specs.FieldsSubstitution.{beyond, below_all, exact
 use Rattle.elimination_theory.specs.IntegersSubstitution.{integer_atom, integer_guard, guarded_substitution, where_zero, along, put_number}
 use Rattle.elimination_theory.specs.IntegersPoints.{signed, counted, class_points, next_points, points_with, integer_scale, integer_span, integer_points, integer_elimination}
 use Rattle.elimination_theory.specs.IntegersTheorems.{IsPeriodOf, IsIntegerPlace, Suits, IntegerTestPointsSuit, IntegerEliminationIsExact}
-use Rattle.elimination_theory.specs.Decided.{QuantifierIsEliminated, QuantifiersAreEliminated, TruthIsDecided, NegationNormalFormKeepsTruth, AllIsNotExNot}
-use Rattle.elimination_theory.proofs.Decided.{truth_decided, quantifiers_eliminated}
-use Rattle.elimination_theory.proofs.NegationNormal.{negation_normal_keeps_truth, all_not_ex_not}
+use Rattle.elimination_theory.specs.Decided.{QuantifierIsEliminated}
 use Rattle.elimination_theory.proofs.FieldsEliminated.{some_place, trees_plain}
 use Rattle.elimination_theory.proofs.IntegerAtom.{}
 use Rattle.elimination_theory.proofs.SomeListed.{EachOf, each_append, each_mapped, each_flat_map, each_distinct, each_among, every_all}
@@ -164,17 +162,3 @@ integer_quantifier_eliminated x f plain inside =
     let t = trees_plain Integers (λ s. guarded_substitution x s f) (integer_points Lower x f)
     (λ s among. substitution-plain x s f (points_suit Lower x f s inside among).0 plain inside) in
     (integer_elimination Lower x f, t.0, t.1, integer_elimination_exact Lower x f plain inside)
-
--- ---- truth
-
-pub integer_truth_decided : TruthIsDecided Integers
-integer_truth_decided = truth_decided Integers integer_quantifier_eliminated
-
-pub integer_quantifiers_eliminated : QuantifiersAreEliminated Integers
-integer_quantifiers_eliminated = quantifiers_eliminated Integers integer_quantifier_eliminated
-
-pub integer_negation_normal : NegationNormalFormKeepsTruth Integers
-integer_negation_normal = negation_normal_keeps_truth Integers integer_truth_decided
-
-pub integer_all_not_ex_not : AllIsNotExNot Integers
-integer_all_not_ex_not = all_not_ex_not Integers integer_truth_decided

@@ -33,3 +33,6 @@ pub mod IntegerSample
 pub mod FieldsExample
 pub mod FieldsSample
 pub mod IntegerLeast
+pub mod BothTheories
+pub mod FieldsNext
+pub mod StandOnce

@@ -66,3 +66,7 @@ IsFieldSample x f p (Periodic a q) k m = ⊥
 abbrev pub FieldSampleIsTrue : Type 0
 FieldSampleIsTrue = (x : ℕ) (s : Place) (f : Tree) (p : Point ℕ) (k : ℤ) (m : ℕ) → IsFieldPlace s → IsPlain f → InContext Fields f → Of Fields p → 0 < m →
     IsFieldSample x f p s k m → Holds Fields (at_place x s) f p → TrueAt Fields f (move nat_eq p x k m)
+
+-- Each place has a sample, for each formula and at each point.
+abbrev pub FieldSampleExists : Type 0
+FieldSampleExists = (x : ℕ) (s : Place) (f : Tree) (p : Point ℕ) → IsFieldPlace s → Of Fields p → (k : ℤ) × (m : ℕ) × 0 < m × IsFieldSample x f p s k m

@@ -13,3 +13,4 @@ pub mod Decided
 pub mod IntegersSample
 pub mod FieldsExample
 pub mod FieldsSamples
+pub mod PointsTheorems

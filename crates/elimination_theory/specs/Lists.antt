@@ -1,6 +1,7 @@
 -- Lists without repeats, and equality tests of forms, atoms and places.
-use Rattle.std.specs.Prelude.{ℕ, Bool, true, false, ◌&&◌, List, [], ◌∷◌, nat_eq, if◌then◌else◌}
+use Rattle.std.specs.Prelude.{◌≡◌, ℕ, Bool, true, false, ◌&&◌, List, [], ◌∷◌, nat_eq, if◌then◌else◌}
 use Rattle.std.specs.Ordering.{int_eq}
+use Rattle.formula_meaning.specs.Some.{SomeOf}
 use Rattle.formula_meaning.specs.Form.{Form, Term}
 use Rattle.formula_meaning.specs.Atom.{Atom, Compare, Congruent, Incongruent, Relation, Equals, Differs, Below, AtMost, Above, AtLeast}
 use Rattle.formula_meaning.specs.Answer.{Place, Exact, AboveBy, BelowBy, PlusInfinity, MinusInfinity, Periodic}
@@ -53,3 +54,8 @@ same_place PlusInfinity PlusInfinity = true
 same_place MinusInfinity MinusInfinity = true
 same_place (Periodic a p) (Periodic b q) = int_eq a b && int_eq p q
 same_place _ _ = false
+
+-- no element stands twice
+abbrev pub StandsOnce : {X : Type 0} → List X → Type 0
+StandsOnce [] = Unit {0}
+StandsOnce (x ∷ xs) = ¬ (SomeOf (λ y. x ≡ y) xs) × StandsOnce xs

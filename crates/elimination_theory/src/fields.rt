@@ -2,7 +2,7 @@
 
 ghost use Rattle.elimination_theory.specs.FieldsTheorems.{FieldTestPointsSuffice, FieldAtomIsExact, FieldSubstitutionIsExact, FieldAnswersHold};
 ghost use Rattle.elimination_theory.specs.Decided.{FieldEliminationIsExact};
-ghost use Rattle.elimination_theory.specs.FieldsSamples.{FieldSampleIsTrue};
+ghost use Rattle.elimination_theory.specs.FieldsSamples.{FieldSampleIsTrue, FieldSampleExists};
 ghost use Rattle.elimination_theory.specs.FieldsExample.{OpenIntervalPoints, OpenIntervalSubstitutions, EpsilonIsNeeded};
 
 /// For a formula built by `and` and `or`, `ex(x, f)` is true exactly where some test point of the side makes `f` true.
@@ -48,4 +48,9 @@ pub fn epsilon_is_needed()
 /// A formula that holds at a place is true at the place's sample: half way to the next critical value, or one beyond all.
 pub fn field_sample_is_true()
     ensures { FieldSampleIsTrue }
+{}
+
+/// Each place has a sample.
+pub fn field_sample_exists()
+    ensures { FieldSampleExists }
 {}

@@ -3,4 +3,5 @@
 
 pub mod fields;
 pub mod integers;
+pub mod points;
 pub mod truth;
