@@ -36,3 +36,4 @@ pub mod IntegerLeast
 pub mod BothTheories
 pub mod FieldsNext
 pub mod StandOnce
+pub mod IntegerCount

@@ -1,5 +1,5 @@
 -- The theorems of elimination over the integers, as statements.
-use Rattle.std.specs.Prelude.{◌*◌, ◌/◌, unsigned_abs, ◌≡◌, ℕ, ℤ, pos, ◌*ℤ◌, ◌<◌, ◌↔◌, List, [], ◌∷◌}
+use Rattle.std.specs.Prelude.{◌+◌, length, flat_map, ◌*◌, ◌/◌, unsigned_abs, ◌≡◌, ℕ, ℤ, pos, ◌*ℤ◌, ◌<◌, ◌↔◌, List, [], ◌∷◌}
 use Rattle.exact_numbers.specs.Divides.{Divides}
 use Rattle.formula_meaning.specs.Context.{Integers}
 use Rattle.formula_meaning.specs.Point.{Point, Of}
@@ -12,9 +12,10 @@ use Rattle.formula_meaning.specs.Atom.{form_of, Atom, Compare, Congruent, Incong
 use Rattle.formula_meaning.specs.Answer.{Answer, Place, Exact, AboveBy, BelowBy, PlusInfinity, MinusInfinity, Periodic, Holds}
 use Rattle.formula_meaning.specs.Tree.{Tree, TrueAt, InContext, Equivalent}
 use Rattle.elimination_theory.specs.FieldsTheorems.{at_place}
+use Rattle.elimination_theory.specs.Atoms.{atoms_of}
 use Rattle.elimination_theory.specs.Side.{Side}
 use Rattle.elimination_theory.specs.IntegersSubstitution.{integer_atom, integer_substitution, integer_substitutions, integer_guard}
-use Rattle.elimination_theory.specs.IntegersPoints.{integer_scale, integer_span, integer_points, integer_elimination}
+use Rattle.elimination_theory.specs.IntegersPoints.{integer_count, atom_starts, integer_scale, integer_span, integer_points, integer_elimination}
 
 -- a step by the period takes the atom's form to a number of the same remainder
 abbrev pub IsPeriodOf : ℕ → ℤ → Atom → Type 0
@@ -93,3 +94,8 @@ IntegerScaleIsLeast = (x : ℕ) (f : Tree) → 0 < integer_scale x f
 abbrev pub IntegerSpanIsLeast : Type 0
 IntegerSpanIsLeast = (x : ℕ) (f : Tree) → InContext Integers f → 0 < integer_span x f
     × ((n : ℕ) → (Divides (pos (integer_scale x f)) (pos n) × Every (SpansAtom x (integer_scale x f) n) f) ↔ Divides (pos (integer_span x f)) (pos n))
+
+-- There are as many test points as the period, and as many as the span for each atom at which a comparison starts.
+abbrev pub IntegerPointsAreCounted : Type 0
+IntegerPointsAreCounted = (side : Side) (x : ℕ) (f : Tree) → integer_count side x f ≡ integer_span x f / integer_scale x f
+    + integer_span x f * length (flat_map (atom_starts side (integer_scale x f) x) (atoms_of f))
