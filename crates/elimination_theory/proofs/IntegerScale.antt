@@ -35,6 +35,9 @@ module _ (m n : ℕ) (hm : 0 < m) (hn : 0 < n) where
   pub common-right : Divides (pos n) (pos (common_multiple m n))
   common-right = divides_along (sym common-is) (lcm_is (pos_positive hm) (pos_positive hn)).right
 
+  pub common-least : (k : ℤ) → Divides (pos m) k → Divides (pos n) k → Divides (pos (common_multiple m n)) k
+  common-least k left right = subst (λ z. Divides z k) (sym common-is) ((lcm_is (pos_positive hm) (pos_positive hn)).least k left right)
+
 -- a divisor n of l, and the number l / n
 pub factor-of : (l n : ℕ) → 0 < l → 0 < n → Divides (pos n) (pos l) → Factor l n (l / n)
 factor-of l n hl hn h =
@@ -95,7 +98,7 @@ Spans l d m (pos zero) = Unit {0}
 Spans l d m (pos (suc n)) = Divides (pos (m * (l / suc n))) (pos d)
 Spans l d m (negsuc n) = Divides (pos (m * (l / suc n))) (pos d)
 
-multiplied-positive : (l m n : ℕ) → 0 < l → 0 < m → Divides (pos (suc n)) (pos l) → 0 < m * (l / suc n)
+pub multiplied-positive : (l m n : ℕ) → 0 < l → 0 < m → Divides (pos (suc n)) (pos l) → 0 < m * (l / suc n)
 multiplied-positive l m n hl hm r =
     let f = factor-of l (suc n) hl (omega arith) r in
     positive_pos (subst (λ (z : ℤ). pos 0 <ℤ z) (sym (pos_mul m (l / suc n))) (mul_positive (pos_positive hm) f.positive))
@@ -106,12 +109,12 @@ module _ (l m : ℕ) (hl : 0 < l) (hm : 0 < m) where
   with_modulus-positive (pos (suc a)) n r h = common-positive (m * (l / suc a)) n (multiplied-positive l m a hl hm r) h
   with_modulus-positive (negsuc a) n r h = common-positive (m * (l / suc a)) n (multiplied-positive l m a hl hm r) h
 
-  with_modulus-spans : (c : ℤ) (n d : ℕ) → Reaches l c → 0 < n → Divides (pos (with_modulus l m c n)) (pos d) → Spans l d m c
+  pub with_modulus-spans : (c : ℤ) (n d : ℕ) → Reaches l c → 0 < n → Divides (pos (with_modulus l m c n)) (pos d) → Spans l d m c
   with_modulus-spans (pos zero) n d r h e = tt
   with_modulus-spans (pos (suc a)) n d r h e = divides_trans (common-left (m * (l / suc a)) n (multiplied-positive l m a hl hm r) h) e
   with_modulus-spans (negsuc a) n d r h e = divides_trans (common-left (m * (l / suc a)) n (multiplied-positive l m a hl hm r) h) e
 
-  with_modulus-rest : (c : ℤ) (n d : ℕ) → Reaches l c → 0 < n → Divides (pos (with_modulus l m c n)) (pos d) → Divides (pos n) (pos d)
+  pub with_modulus-rest : (c : ℤ) (n d : ℕ) → Reaches l c → 0 < n → Divides (pos (with_modulus l m c n)) (pos d) → Divides (pos n) (pos d)
   with_modulus-rest (pos zero) n d r h e = e
   with_modulus-rest (pos (suc a)) n d r h e = divides_trans (common-right (m * (l / suc a)) n (multiplied-positive l m a hl hm r) h) e
   with_modulus-rest (negsuc a) n d r h e = divides_trans (common-right (m * (l / suc a)) n (multiplied-positive l m a hl hm r) h) e

@@ -32,6 +32,8 @@ pub mod FieldsEliminated
 pub mod IntegerSample
 pub mod FieldsExample
 pub mod FieldsSample
+pub mod IntegerLeast
 pub mod BothTheories
 pub mod FieldsNext
 pub mod StandOnce
+pub mod IntegerCount

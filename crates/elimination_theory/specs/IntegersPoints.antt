@@ -1,5 +1,5 @@
 -- Test points of the integers (Cooper): residue classes far out, and the numbers next to the ends of intervals, over a common scale.
-use Rattle.std.specs.Prelude.{ℕ, ℤ, pos, negsuc, zero, suc, ◌*◌, ◌/◌, neg_ℤ, unsigned_abs, List, [], ◌∷◌, ◌++◌, map, flat_map}
+use Rattle.std.specs.Prelude.{ℕ, ℤ, pos, negsuc, zero, suc, ◌*◌, ◌/◌, neg_ℤ, unsigned_abs, List, [], ◌∷◌, ◌++◌, map, flat_map, length}
 use Rattle.exact_numbers.specs.Divides.{lcm_of}
 use Rattle.formula_meaning.specs.Form.{Form, coefficient, without, scale, plus}
 use Rattle.formula_meaning.specs.Atom.{Atom, Compare, Congruent, Incongruent, Relation, Equals, Differs, Below, AtMost, Above, AtLeast, mirrored, form_of}
@@ -88,6 +88,10 @@ integer_scale x f = scale_of x (atoms_of f)
 
 abbrev pub integer_span : ℕ → Tree → ℕ
 integer_span x f = span_of (integer_scale x f) x (atoms_of f)
+
+-- how many test points there are, equal points counted as often as they are formed
+abbrev pub integer_count : Side → ℕ → Tree → ℕ
+integer_count side x f = length (points_with side (integer_scale x f) (integer_span x f) x (atoms_of f))
 
 -- the test points of a name in a formula; an equal point stands once
 abbrev pub integer_points : Side → ℕ → Tree → List Place

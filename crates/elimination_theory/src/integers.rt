@@ -2,11 +2,26 @@
 
 ghost use Rattle.elimination_theory.specs.IntegersExamples.{PointsOfTwoXIsA, SubstitutionOfTwoXIsA, PointsOfEvenAboveA, SpanIsNeeded, GuardIsNeeded};
 ghost use Rattle.elimination_theory.specs.IntegersSample.{IntegerSampleIsTrue, IntegerSampleExists, IntegerSampleIsUnique};
-ghost use Rattle.elimination_theory.specs.IntegersTheorems.{IntegerTestPointsSuffice, IntegerTestPointsSuit, IntegerAtomIsExact, IntegerSubstitutionIsExact, IntegerAnswersHold, IntegerEliminationIsExact};
+ghost use Rattle.elimination_theory.specs.IntegersTheorems.{IntegerPointsAreCounted, IntegerScaleIsLeast, IntegerSpanIsLeast, IntegerTestPointsSuffice, IntegerTestPointsSuit, IntegerAtomIsExact, IntegerSubstitutionIsExact, IntegerAnswersHold, IntegerEliminationIsExact};
 
 /// For a formula built by `and` and `or`, `ex(x, f)` is true exactly where some test point of the side makes `f` true.
 pub fn integer_test_points_suffice()
     ensures { IntegerTestPointsSuffice }
+{}
+
+/// The scale is the least common multiple of all coefficients of `x`.
+pub fn integer_scale_is_least()
+    ensures { IntegerScaleIsLeast }
+{}
+
+/// The span is the least common multiple of the scale and of the moduli of all congruences, multiplied as `x` is to the scale.
+pub fn integer_span_is_least()
+    ensures { IntegerSpanIsLeast }
+{}
+
+/// There are as many test points as the period, and as many as the span for each atom at which a comparison starts.
+pub fn integer_points_are_counted()
+    ensures { IntegerPointsAreCounted }
 {}
 
 /// Each test point of a formula is a place of the integers for each atom of it, so that its substitution is exact.
