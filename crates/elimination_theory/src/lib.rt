@@ -2,3 +2,6 @@
 #![tactic(auto)]
 
 pub mod fields;
+pub mod integers;
+pub mod points;
+pub mod truth;

@@ -6,4 +6,7 @@ pub mod FreeNames
 pub mod PlainTruth
 pub mod Replacing
 pub mod EachAtom
+pub mod ReplacedShape
+pub mod NormalShape
+pub mod TreeNormal
 pub mod TreeReplacing

@@ -66,3 +66,12 @@ form_of (Incongruent n f) = f
 -- the name stands in the atom
 abbrev pub Mentions : Atom → ℕ → Type 0
 Mentions a x = SomeOf (λ t. x ≡ t.name) (form_of a).terms
+
+-- the relation of two numbers whose signs are changed, or that change places
+abbrev pub mirrored : Relation → Relation
+mirrored Equals = Equals
+mirrored Differs = Differs
+mirrored Below = Above
+mirrored AtMost = AtLeast
+mirrored Above = Below
+mirrored AtLeast = AtMost
