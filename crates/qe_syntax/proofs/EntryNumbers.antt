@@ -298,14 +298,14 @@ entries_ready (e ∷ es) d proper divided fits common = (
 positive_at_least_0 : {a : ℤ} → pos 0 <ℤ a → pos 0 ≤ℤ a
 positive_at_least_0 h = omega (arith, ints)
 
-scaled_unique : (e : PointEntry) (d j k : ℤ) → ¬ (IsZeroBelow e) → IsScaled d e j → IsScaled d e k → j ≡ k
+pub scaled_unique : (e : PointEntry) (d j k : ℤ) → ¬ (IsZeroBelow e) → IsScaled d e j → IsScaled d e k → j ≡ k
 scaled_unique e d j k divided s t =
     let a : s.above ≡ t.above = fits_same s.above t.above (sym s.fits_above ∙ t.fits_above) in
     let b : s.below ≡ t.below = fits_same s.below t.below (sym s.fits_below ∙ t.fits_below) in
     let same : j *ℤ s.below ≡ k *ℤ s.below = s.same ∙ ap (λ x. x *ℤ d) a ∙ sym t.same ∙ ap (λ x. k *ℤ x) (sym b) in
     cancel s.below {a = j} {b = k} (λ z. divided (s.fits_below ∙ ap Fits z)) (mul_comm s.below j ∙ same ∙ mul_comm k s.below)
 
-least_unique : {es : List PointEntry} {d e : ℤ} → IsLeastDenominator es d → IsLeastDenominator es e → d ≡ e
+pub least_unique : {es : List PointEntry} {d e : ℤ} → IsLeastDenominator es d → IsLeastDenominator es e → d ≡ e
 least_unique {es} {d} {e} l m =
     divides_both (positive_at_least_0 l.positive) (positive_at_least_0 m.positive) (l.least e m.common) (m.least d l.common)
 

@@ -7,3 +7,5 @@ pub mod FormulaParts
 pub mod ValueLaw
 pub mod TruthLaw
 pub mod NameSearch
+pub mod OnePoint
+pub mod OnlyOverflow

@@ -1,6 +1,7 @@
 //! What a script says: names, terms, formulas, points and statements as plain trees, and what they mean.
 #![tactic(auto)]
 
+mod laws;
 mod name;
 mod point;
 mod statement;
@@ -10,6 +11,7 @@ mod value;
 mod valued;
 
 pub use exact_numbers::Fraction;
+pub use laws::one_point;
 pub use name::Name;
 pub use point::{Point, PointFault};
 pub use statement::{Action, Command, Entries, PointEntry, Setting, Statement};

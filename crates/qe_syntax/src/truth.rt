@@ -1,4 +1,4 @@
-ghost use Rattle.std.specs.Prelude.{◌≡◌, ◌↔◌, map, true, false, IsTrue, IfOk};
+ghost use Rattle.std.specs.Prelude.{◌≡◌, ◌↔◌, map, true, false, IsTrue, IfOk, IfErr};
 ghost use Rattle.formula_meaning.specs.Context.{Fields};
 ghost use Rattle.qe_syntax.specs.Trees.{term_tree, formula_tree, formulas_of};
 ghost use Rattle.qe_syntax.specs.Proper.{IsProperTerm, IsProperFormula, AreProperFormulas};
@@ -22,6 +22,7 @@ pub fn truth_at(formula: &Formula, point: &Point) -> Result<bool, EvalError>
     requires simple { IsSimple (formula_tree formula.now) }
     ensures truth { IfOk result (λ b. IsTrue b ↔ TrueAt NothingNamed Fields (formula_tree formula.now) (point_of point.now)) }
     ensures rule { Decides result (calculated_truth (formula_tree formula.now) (point_of point.now)) }
+    ensures overflow { IfErr result (λ e. e ≡ EvalError.Overflow) }
 {
     // The law of truth wants a positive denominator.
     let _positive = point.denominator();
