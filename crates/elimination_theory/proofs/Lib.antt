@@ -37,3 +37,5 @@ pub mod BothTheories
 pub mod FieldsNext
 pub mod StandOnce
 pub mod IntegerCount
+pub mod FieldsNames
+pub mod IntegersNames
