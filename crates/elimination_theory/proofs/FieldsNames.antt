@@ -1,12 +1,11 @@
 -- The names that stand in a formula after a substitution over the ordered fields, and in the test points.
-use Rattle.std.proofs.Common.{◌≡◌, ℕ, suc, zero, ◌<◌, List, [], ◌∷◌, map, ap, ap₂, sym, ◌∙◌, subst, refl, arith, ◌⊎◌, inl, inr, ⊎_elim, nat_eq, Bool, true, false, flat_map, eqb-true, eq-eqb, int_div}
+use Rattle.std.proofs.Common.{◌≡◌, ℕ, suc, zero, List, [], ◌∷◌, ap, ap₂, sym, ◌∙◌, subst, refl, arith, ◌⊎◌, inl, inr, ⊎_elim, nat_eq, Bool, true, false, flat_map, eqb-true, eq-eqb}
 use Rattle.std.proofs.Math.IntN.{ℤ, pos, negsuc, ◌+ℤ◌, ◌*ℤ◌, neg_ℤ}
 use Rattle.std.proofs.lemmas.Int.{ints}
-use Rattle.exact_numbers.specs.Divides.{DividesAll}
-use Rattle.exact_numbers.proofs.Ring.{mul_zero, mul_add}
+use Rattle.exact_numbers.proofs.Ring.{mul_zero}
 use Rattle.exact_numbers.proofs.Order.{by_zero, cancel_positive}
 use Rattle.formula_meaning.specs.Context.{Fields}
-use Rattle.formula_meaning.specs.Form.{Form, coefficient, without, scale, combine}
+use Rattle.formula_meaning.specs.Form.{Form, coefficient, without, scale}
 use Rattle.formula_meaning.specs.Formula.{Formula, Formulas, Yes, No, One, Not, And, Or, Impl, Repl, Equiv, Ex, All, none, also}
 use Rattle.formula_meaning.specs.Every.{Every, Free, FreeInSome}
 use Rattle.formula_meaning.specs.Replaced.{replaced}
@@ -20,8 +19,8 @@ use Rattle.formula_meaning.proofs.EachAtom.{every_map, every_both}
 use Rattle.elimination_theory.specs.Side.{Side, Lower, Upper, turned}
 use Rattle.elimination_theory.specs.Lists.{same_atom, same_place}
 use Rattle.elimination_theory.specs.Atoms.{atoms_in, atoms_in_all, atoms_of}
-use Rattle.elimination_theory.specs.FieldsPoints.{exact_point, beside_point, ends_of, comparison_points, atom_points, infinity_of, field_points, form_over, divisor_of}
-use Rattle.elimination_theory.specs.FieldsSubstitution.{put_in, just_above, just_below, beside, below_all, beyond, exactly, field_comparison, field_atom, field_substitution, IsFieldPlace}
+use Rattle.elimination_theory.specs.FieldsPoints.{beside_point, ends_of, comparison_points, atom_points, infinity_of, field_points, form_over, divisor_of}
+use Rattle.elimination_theory.specs.FieldsSubstitution.{put_in, just_above, just_below, beside, below_all, beyond, exactly, field_atom, field_substitution, IsFieldPlace}
 use Rattle.elimination_theory.specs.Elimination.{trees_at, field_elimination}
 use Rattle.elimination_theory.specs.NamesTheorems.{IsNameOf}
 use Rattle.elimination_theory.proofs.Listed.{Among, among_append, flat_map_among, distinct_among}

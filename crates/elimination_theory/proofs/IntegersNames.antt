@@ -1,10 +1,9 @@
 -- The names that stand in a formula after a substitution over the integers, and in the test points.
-use Rattle.std.proofs.Common.{◌≡◌, ℕ, suc, zero, ◌/◌, List, [], ◌∷◌, map, flat_map, ap, sym, ◌∙◌, subst, refl, arith, ◌⊎◌, inl, inr, ⊎_elim}
+use Rattle.std.proofs.Common.{◌≡◌, ℕ, suc, zero, ◌/◌, List, [], ◌∷◌, map, flat_map, sym, ◌∙◌, subst, refl, ◌⊎◌, inl, inr, ⊎_elim}
 use Rattle.std.proofs.Math.IntN.{ℤ, pos, negsuc, ◌*ℤ◌, neg_ℤ}
-use Rattle.std.proofs.lemmas.Int.{ints}
 use Rattle.formula_meaning.specs.Context.{Integers}
 use Rattle.formula_meaning.specs.Form.{Form, coefficient, without, scale, plus}
-use Rattle.formula_meaning.specs.Formula.{Ex, One}
+use Rattle.formula_meaning.specs.Formula.{Ex}
 use Rattle.formula_meaning.specs.Every.{Every}
 use Rattle.formula_meaning.specs.Shape.{IsPlain}
 use Rattle.formula_meaning.specs.Atom.{Atom, Compare, Congruent, Incongruent, Relation, Equals, Differs, Below, AtMost, Above, AtLeast, Mentions, mirrored}
@@ -14,15 +13,15 @@ use Rattle.formula_meaning.proofs.Coefficients.{coefficient_plus}
 use Rattle.elimination_theory.specs.Side.{Side, turned}
 use Rattle.elimination_theory.specs.Lists.{same_place}
 use Rattle.elimination_theory.specs.Atoms.{atoms_of}
-use Rattle.elimination_theory.specs.FieldsSubstitution.{put_in, beyond, exactly}
+use Rattle.elimination_theory.specs.FieldsSubstitution.{put_in}
 use Rattle.elimination_theory.specs.IntegersPoints.{counted, signed, starts_of, comparison_starts, atom_starts, class_points, next_points, points_with, integer_scale, integer_span, integer_points, integer_elimination}
-use Rattle.elimination_theory.specs.IntegersSubstitution.{where_zero, put_number, along, integer_atom, integer_substitution, is_whole, integer_guard, guarded_substitution}
+use Rattle.elimination_theory.specs.IntegersSubstitution.{where_zero, put_number, along, integer_atom, is_whole, integer_guard, guarded_substitution}
 use Rattle.elimination_theory.specs.IntegersTheorems.{IsIntegerPlace}
 use Rattle.elimination_theory.specs.NamesTheorems.{IsNameOf, SubstitutionKeepsNames, PointsHaveNamesOfFormula, EliminationKeepsNames}
 use Rattle.elimination_theory.proofs.Listed.{Among, among_append, flat_map_among, distinct_among}
 use Rattle.elimination_theory.proofs.FieldsSuffice.{every_atom}
 use Rattle.elimination_theory.proofs.IntegerEliminate.{points_suit}
-use Rattle.elimination_theory.proofs.FieldsNames.{Has, HasOther, without_has, still_has, scale_has, put_in_has, put_or_still, exactly_has, beyond_has, neg_zero, AtomNames, names_of_replaced, atom_free, trees_free, field_substitution_names, field_point_names, field_elimination_names}
+use Rattle.elimination_theory.proofs.FieldsNames.{Has, HasOther, without_has, still_has, scale_has, put_or_still, exactly_has, beyond_has, neg_zero, AtomNames, names_of_replaced, atom_free, trees_free, field_substitution_names, field_point_names, field_elimination_names}
 
 map_among : {X Y : Type 0} (f : X → Y) (xs : List X) (y : Y) → Among (map f xs) y → (x : X) × Among xs x × (f x ≡ y)
 map_among f [] y h = absurd h

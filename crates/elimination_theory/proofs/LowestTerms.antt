@@ -39,7 +39,7 @@ multiple_over x g [] n h = mul_zero (pos g)
 multiple_over x g (t ∷ ts) n h = go (nat_eq x t.name) (multiple_over x g ts n h.1)
   where
     go : (b : Bool) → pos g *ℤ multiple x (terms_over g ts) ≡ multiple x ts →
-         pos g *ℤ (if b then int_div t.times (pos g) +ℤ multiple x (terms_over g ts) else multiple x (terms_over g ts)) ≡ (if b then t.times +ℤ multiple x ts else multiple x ts)
+        pos g *ℤ (if b then int_div t.times (pos g) +ℤ multiple x (terms_over g ts) else multiple x (terms_over g ts)) ≡ (if b then t.times +ℤ multiple x ts else multiple x ts)
     go true i = mul_add (pos g) (int_div t.times (pos g)) (multiple x (terms_over g ts)) ∙ ap₂ (λ a b. a +ℤ b) (exact_div (pos g) t.times n h.0) i
     go false i = i
 

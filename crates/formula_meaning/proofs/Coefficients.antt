@@ -1,10 +1,10 @@
 -- The coefficients of combined forms.
-use Rattle.std.proofs.Common.{◌≡◌, ℕ, Bool, true, false, List, [], ◌∷◌, ◌++◌, ap, sym, ◌∙◌, subst, refl, arith, nat_eq, if◌then◌else◌}
+use Rattle.std.proofs.Common.{◌≡◌, ℕ, Bool, true, false, List, [], ◌∷◌, ◌++◌, sym, refl, arith, nat_eq, if◌then◌else◌}
 use Rattle.std.proofs.Math.IntN.{ℤ, pos, ◌+ℤ◌, ◌*ℤ◌}
 use Rattle.std.proofs.lemmas.Bool.{eq-eqb}
 use Rattle.std.proofs.lemmas.Int.{ints}
 use Rattle.exact_numbers.proofs.Ring.{mul_zero, mul_add}
-use Rattle.formula_meaning.specs.Form.{Form, Term, multiple, others, scaled, coefficient, without, scale, combine, plus}
+use Rattle.formula_meaning.specs.Form.{Form, Term, multiple, scaled, coefficient, without, scale, combine, plus}
 use Rattle.formula_meaning.proofs.FreeNames.{multiple_others}
 
 multiple_append : (x : ℕ) (ts us : List Term) → multiple x (ts ++ us) ≡ multiple x ts +ℤ multiple x us
@@ -12,7 +12,7 @@ multiple_append x [] us = omega (arith, ints)
 multiple_append x (t ∷ ts) us = go (nat_eq x t.name) (multiple_append x ts us)
   where
     go : (b : Bool) → multiple x (ts ++ us) ≡ multiple x ts +ℤ multiple x us →
-         (if b then t.times +ℤ multiple x (ts ++ us) else multiple x (ts ++ us)) ≡ (if b then t.times +ℤ multiple x ts else multiple x ts) +ℤ multiple x us
+        (if b then t.times +ℤ multiple x (ts ++ us) else multiple x (ts ++ us)) ≡ (if b then t.times +ℤ multiple x ts else multiple x ts) +ℤ multiple x us
     go true h = omega (arith, ints)
     go false h = h
 
@@ -21,7 +21,7 @@ multiple_scaled x a [] = sym (mul_zero a)
 multiple_scaled x a (t ∷ ts) = go (nat_eq x t.name) (multiple_scaled x a ts)
   where
     go : (b : Bool) → multiple x (scaled a ts) ≡ a *ℤ multiple x ts →
-         (if b then a *ℤ t.times +ℤ multiple x (scaled a ts) else multiple x (scaled a ts)) ≡ a *ℤ (if b then t.times +ℤ multiple x ts else multiple x ts)
+        (if b then a *ℤ t.times +ℤ multiple x (scaled a ts) else multiple x (scaled a ts)) ≡ a *ℤ (if b then t.times +ℤ multiple x ts else multiple x ts)
     go true h = let e = mul_add a t.times (multiple x ts) in omega (arith, ints)
     go false h = h
 

@@ -1,5 +1,5 @@
 -- Truth depends on the free names alone.
-use Rattle.std.proofs.Common.{◌≡◌, ℕ, zero, suc, ◌+◌, ◌*◌, ◌≤◌, length, Bool, true, false, List, [], ◌∷◌, ap, ap₂, sym, ◌∙◌, subst, refl, arith, ◌⊎◌, inl, inr, ⊎_elim, ◌↔◌, nat_eq, if◌then◌else◌}
+use Rattle.std.proofs.Common.{◌≡◌, ℕ, zero, suc, ◌*◌, ◌≤◌, length, Bool, true, false, List, [], ◌∷◌, ap, ap₂, sym, ◌∙◌, subst, refl, arith, inl, inr, ⊎_elim, ◌↔◌, nat_eq, if◌then◌else◌}
 use Rattle.std.proofs.Math.IntN.{ℤ, pos, ◌+ℤ◌, ◌*ℤ◌}
 use Rattle.std.proofs.lemmas.Bool.{eq-eqb, eqb-true}
 use Rattle.formula_meaning.specs.Context.{Context}
@@ -78,9 +78,9 @@ multiple_others x y [] = (λ e. refl, λ e. refl)
 multiple_others x y (t ∷ ts) = go (nat_eq x t.name) refl (nat_eq y t.name) refl (multiple_others x y ts)
   where
     go : (b : Bool) → nat_eq x t.name ≡ b → (c : Bool) → nat_eq y t.name ≡ c →
-         (nat_eq x y ≡ true → multiple y (others x ts) ≡ pos 0) × (nat_eq x y ≡ false → multiple y (others x ts) ≡ multiple y ts) →
-         (nat_eq x y ≡ true → multiple y (if b then others x ts else t ∷ others x ts) ≡ pos 0)
-         × (nat_eq x y ≡ false → multiple y (if b then others x ts else t ∷ others x ts) ≡ (if c then t.times +ℤ multiple y ts else multiple y ts))
+        (nat_eq x y ≡ true → multiple y (others x ts) ≡ pos 0) × (nat_eq x y ≡ false → multiple y (others x ts) ≡ multiple y ts) →
+        (nat_eq x y ≡ true → multiple y (if b then others x ts else t ∷ others x ts) ≡ pos 0)
+        × (nat_eq x y ≡ false → multiple y (if b then others x ts else t ∷ others x ts) ≡ (if c then t.times +ℤ multiple y ts else multiple y ts))
     go true e true f h = (h.0, λ n. absurd (cc (eq-eqb x y (eqb-true x t.name e ∙ sym (eqb-true y t.name f)), n)))
     go true e false f h = h
     go false e true f h = (λ s. absurd (cc (eq-eqb x t.name (eqb-true x y s ∙ eqb-true y t.name f), e)), λ n. subst (λ c. (if c then t.times +ℤ multiple y (others x ts) else multiple y (others x ts)) ≡ t.times +ℤ multiple y ts) (sym f) (ap (λ z. t.times +ℤ z) (h.1 n)))

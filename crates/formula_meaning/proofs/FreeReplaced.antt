@@ -1,5 +1,5 @@
 -- The free names of a plain formula whose atoms are replaced.
-use Rattle.std.proofs.Common.{◌⊎◌, inl, inr, ⊎_elim}
+use Rattle.std.proofs.Common.{inl, inr, ⊎_elim}
 use Rattle.formula_meaning.specs.Formula.{Formula, Formulas, Yes, No, One, Not, And, Or, Impl, Repl, Equiv, Ex, All, none, also}
 use Rattle.formula_meaning.specs.Every.{Every, EveryOf, Free, FreeInSome}
 use Rattle.formula_meaning.specs.Shape.{IsPlain, ArePlain}
