@@ -12,7 +12,7 @@ use Rattle.formula_meaning.specs.Formula.{Ex}
 use Rattle.elimination_theory.specs.Side.{Lower}
 use Rattle.elimination_theory.specs.FieldsTheorems.{at_place}
 use Rattle.elimination_theory.specs.IntegersSubstitution.{integer_substitution}
-use Rattle.elimination_theory.specs.IntegersExamples.{a_plus, two_x_is_a, even_above_a, PointsOfTwoXIsA, SubstitutionOfTwoXIsA, PointsOfEvenAboveA, SpanIsNeeded, GuardIsNeeded}
+use Rattle.elimination_theory.specs.IntegersExamples.{a_plus, two_x_is_a, even_above_a, at_most_a, ClassesAreNeeded, PointsOfTwoXIsA, SubstitutionOfTwoXIsA, PointsOfEvenAboveA, SpanIsNeeded, GuardIsNeeded}
 
 pub points_of_two_x_is_a : PointsOfTwoXIsA
 unfolding lcm_of gcd_of euclid coefficient without scale plus
@@ -96,3 +96,11 @@ span_is_needed wrong =
       | inl class ↦ class-fails class
       | inr rest ↦ elim rest [ inl next ↦ next-fails next | inr none ↦ absurd none ]
     ]
+
+none-true : TrueAt Integers (Ex 0 at_most_a) origin
+unfolding value move origin
+none-true = (pos 0, 1, refl, omega (arith, ints))
+
+pub classes_are_needed : ClassesAreNeeded
+unfolding origin coefficient without scale plus
+classes_are_needed wrong = wrong Lower 0 at_most_a origin tt tt refl none-true

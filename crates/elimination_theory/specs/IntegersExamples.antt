@@ -1,5 +1,5 @@
 -- Examples over the integers that compute, and definitions that would be wrong. The names x and a are the numbers 0 and 1.
-use Rattle.std.specs.Prelude.{◌≡◌, ℕ, ℤ, pos, negsuc, [], ◌∷◌}
+use Rattle.std.specs.Prelude.{◌≡◌, ℕ, ℤ, pos, negsuc, [], ◌∷◌, flat_map}
 use Rattle.formula_meaning.specs.Context.{Integers}
 use Rattle.formula_meaning.specs.Point.{Point, Of}
 use Rattle.formula_meaning.specs.Formula.{Ex, One, And, also, none}
@@ -7,14 +7,14 @@ use Rattle.formula_meaning.specs.Every.{Every}
 use Rattle.formula_meaning.specs.Some.{SomeOf}
 use Rattle.formula_meaning.specs.Shape.{IsPlain}
 use Rattle.formula_meaning.specs.Form.{Form, Term}
-use Rattle.formula_meaning.specs.Atom.{Compare, Congruent, Equals, Above}
+use Rattle.formula_meaning.specs.Atom.{Compare, Congruent, Equals, Above, AtMost}
 use Rattle.formula_meaning.specs.Answer.{Place, Exact, Periodic, Holds}
 use Rattle.formula_meaning.specs.Tree.{Tree, TrueAt, InContext}
 use Rattle.elimination_theory.specs.Atoms.{atoms_of}
 use Rattle.elimination_theory.specs.Side.{Side, Lower, Upper}
 use Rattle.elimination_theory.specs.FieldsTheorems.{at_place}
 use Rattle.elimination_theory.specs.IntegersSubstitution.{integer_substitution, integer_guard}
-use Rattle.elimination_theory.specs.IntegersPoints.{points_with, integer_scale, integer_span, integer_points}
+use Rattle.elimination_theory.specs.IntegersPoints.{next_points, atom_starts, points_with, integer_scale, integer_span, integer_points}
 use Rattle.elimination_theory.specs.IntegersTheorems.{IsIntegerPlace, Suits}
 
 -- n * x
@@ -37,6 +37,10 @@ two_x_is_a = One (Compare Equals (record { terms = x_term (pos 2) ∷ a_term (ne
 abbrev pub even_above_a : Tree
 even_above_a = And (also (One (Compare Above (record { terms = x_term (pos 1) ∷ a_term (negsuc 0) ∷ []; constant = pos 0 })))
     (also (One (Congruent 2 (record { terms = x_term (pos 1) ∷ []; constant = pos 0 }))) none))
+
+-- x <= a
+abbrev pub at_most_a : Tree
+at_most_a = One (Compare AtMost (record { terms = x_term (pos 1) ∷ a_term (negsuc 0) ∷ []; constant = pos 0 }))
 
 -- 2 * x = a has the scale 2 and the span 2, on the lower side the points of the class of 1, a/2 and (a + 1)/2, on the upper the mirror image
 abbrev pub PointsOfTwoXIsA : Type 0
@@ -66,3 +70,9 @@ SpanIsNeeded = ¬ ((side : Side) (x : ℕ) (f : Tree) (p : Point ℕ) → IsPlai
 abbrev pub GuardIsNeeded : Type 0
 GuardIsNeeded = ¬ ((x : ℕ) (s : Place) (f : Tree) (p : Point ℕ) → IsIntegerPlace s → Every (Suits x s) f → IsPlain f → Of Integers p →
     TrueAt Integers (integer_substitution x s f) p → Holds Integers (at_place x s) f p)
+
+-- Without the residue classes far out a formula that is true of all small numbers would be missed.
+abbrev pub ClassesAreNeeded : Type 0
+ClassesAreNeeded = ¬ ((side : Side) (x : ℕ) (f : Tree) (p : Point ℕ) → IsPlain f → InContext Integers f → Of Integers p → TrueAt Integers (Ex x f) p →
+    SomeOf (λ s. Holds Integers (at_place x s) f p)
+    (flat_map (next_points side (integer_scale x f) (integer_span x f)) (flat_map (atom_starts side (integer_scale x f) x) (atoms_of f))))

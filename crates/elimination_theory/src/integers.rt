@@ -1,6 +1,6 @@
 //! The integers: test points over a common scale, and residue classes far out.
 
-ghost use Rattle.elimination_theory.specs.IntegersExamples.{PointsOfTwoXIsA, SubstitutionOfTwoXIsA, PointsOfEvenAboveA, SpanIsNeeded, GuardIsNeeded};
+ghost use Rattle.elimination_theory.specs.IntegersExamples.{ClassesAreNeeded, PointsOfTwoXIsA, SubstitutionOfTwoXIsA, PointsOfEvenAboveA, SpanIsNeeded, GuardIsNeeded};
 ghost use Rattle.elimination_theory.specs.IntegersSample.{IntegerSampleIsTrue, IntegerSampleExists, IntegerSampleIsUnique};
 ghost use Rattle.elimination_theory.specs.IntegersTheorems.{IntegerPointsAreCounted, IntegerScaleIsLeast, IntegerSpanIsLeast, IntegerTestPointsSuffice, IntegerTestPointsSuit, IntegerAtomIsExact, IntegerSubstitutionIsExact, IntegerAnswersHold, IntegerEliminationIsExact};
 
@@ -83,6 +83,11 @@ pub fn integer_points_of_even_above_a()
 /// With the scale in place of the span a number that meets a congruence would be missed.
 pub fn span_is_needed()
     ensures { SpanIsNeeded }
+{}
+
+/// Without the residue classes `ex(x, x <= a)` would be false.
+pub fn residue_classes_are_needed()
+    ensures { ClassesAreNeeded }
 {}
 
 /// Without the guard `2*x = a` would be true at `a = 1`.
