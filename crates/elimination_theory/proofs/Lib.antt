@@ -39,3 +39,4 @@ pub mod StandOnce
 pub mod IntegerCount
 pub mod FieldsNames
 pub mod IntegersNames
+pub mod FieldsUnique
