@@ -40,3 +40,4 @@ pub mod IntegerCount
 pub mod FieldsNames
 pub mod IntegersNames
 pub mod FieldsUnique
+pub mod Reduced

@@ -47,7 +47,7 @@ coefficient_over : (x g : ℕ) (e : Form) → ¬ (pos g ≡ pos 0) → DividesAl
 unfolding coefficient form_over
 coefficient_over x g e n h = multiple_over x g e.terms n h
 
-natural : (a : ℤ) → pos 0 ≤ℤ a → a ≡ pos (unsigned_abs a)
+pub natural : (a : ℤ) → pos 0 ≤ℤ a → a ≡ pos (unsigned_abs a)
 natural (pos a) h = refl
 natural (negsuc a) h = absurd (omega (arith, ints))
 
