@@ -68,10 +68,3 @@ atom_opposite c (Incongruent n f) p h o = (λ d m. m d, λ m. ⊎_elim (λ d. d)
     congruent_in : (c : Context) (n : ℕ) (f : Form) → AtomIn c (Incongruent n f) → AtomIn c (Congruent n f)
     congruent_in Fields n f h = h
     congruent_in Integers n f h = h
-
-pub opposite_in : (c : Context) (a : Atom) → AtomIn c a → AtomIn c (opposite a)
-opposite_in c (Compare r f) h = tt
-opposite_in Fields (Congruent n f) h = h
-opposite_in Integers (Congruent n f) h = h
-opposite_in Fields (Incongruent n f) h = h
-opposite_in Integers (Incongruent n f) h = h

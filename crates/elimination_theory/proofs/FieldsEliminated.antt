@@ -9,12 +9,12 @@ use Rattle.formula_meaning.specs.Shape.{IsPlain, ArePlain}
 use Rattle.formula_meaning.specs.Atom.{Says, AtomIn}
 use Rattle.formula_meaning.specs.Answer.{Place, Holds}
 use Rattle.formula_meaning.specs.Tree.{Tree, TrueAt, InContext}
-use Rattle.elimination_theory.specs.Side.{Lower}
+use Rattle.elimination_theory.specs.Side.{Side}
 use Rattle.elimination_theory.specs.FieldsPoints.{field_points}
 use Rattle.elimination_theory.specs.FieldsSubstitution.{field_substitution}
 use Rattle.elimination_theory.specs.FieldsTheorems.{at_place}
 use Rattle.elimination_theory.specs.Elimination.{trees_at, field_elimination}
-use Rattle.elimination_theory.specs.Decided.{QuantifierIsEliminated, FieldEliminationIsExact}
+use Rattle.elimination_theory.specs.Decided.{FieldEliminationIsExact}
 use Rattle.elimination_theory.proofs.Listed.{Among}
 use Rattle.elimination_theory.proofs.FieldsLine.{both_ways}
 use Rattle.elimination_theory.proofs.FieldsSuffice.{field_points_suffice, field_point_place}
@@ -39,7 +39,6 @@ field_elimination_exact side x f s c p o =
     (some_place Fields (λ q. field_substitution x q f) (λ q. Holds Fields (at_place x q) f p) p (field_points side x f)
     (λ q m. substitution_exact x q f p (field_point_place side x f q m) s c o))
 
-pub field_quantifier_eliminated : QuantifierIsEliminated Fields
-field_quantifier_eliminated x f s c =
-    let t = trees_plain Fields (λ q. field_substitution x q f) (field_points Lower x f) (λ q m. substitution_tree x q f (s, c)) in
-    (field_elimination Lower x f, t.0, t.1, field_elimination_exact Lower x f s c)
+-- the disjunction is built by and and or, from atoms of the fields
+pub field_elimination_tree : (side : Side) (x : ℕ) (f : Tree) → IsPlain f → InContext Fields f → IsPlain (field_elimination side x f) × InContext Fields (field_elimination side x f)
+field_elimination_tree side x f s c = trees_plain Fields (λ q. field_substitution x q f) (field_points side x f) (λ q m. substitution_tree x q f (s, c))

@@ -150,7 +150,7 @@ half_below j i k n l m c pn pm h e f =
     let u : (n *ℤ (k *ℤ l)) <ℤ (n *ℤ (i *ℤ m)) = omega (arith, ints) in
     cancel_less n pn u
 
-twice : (n l : ℕ) → pos (2 * (n * l)) ≡ pos 2 *ℤ (pos n *ℤ pos l)
+pub twice : (n l : ℕ) → pos (2 * (n * l)) ≡ pos 2 *ℤ (pos n *ℤ pos l)
 twice n l = pos_mul 2 (n * l) ∙ ap (λ z. pos 2 *ℤ z) (pos_mul n l)
 
 -- the same with the two ends written the other way round

@@ -21,7 +21,6 @@ use Rattle.elimination_theory.specs.FieldsSubstitution.{beyond, below_all, exact
 use Rattle.elimination_theory.specs.IntegersSubstitution.{integer_atom, integer_guard, guarded_substitution, where_zero, along, put_number}
 use Rattle.elimination_theory.specs.IntegersPoints.{signed, counted, class_points, next_points, points_with, integer_scale, integer_span, integer_points, integer_elimination}
 use Rattle.elimination_theory.specs.IntegersTheorems.{IsPeriodOf, IsIntegerPlace, Suits, IntegerTestPointsSuit, IntegerEliminationIsExact}
-use Rattle.elimination_theory.specs.Decided.{QuantifierIsEliminated}
 use Rattle.elimination_theory.proofs.FieldsEliminated.{some_place, trees_plain}
 use Rattle.elimination_theory.proofs.IntegerAtom.{}
 use Rattle.elimination_theory.proofs.SomeListed.{EachOf, each_append, each_mapped, each_flat_map, each_distinct, each_among, every_all}
@@ -157,8 +156,8 @@ integer_elimination_exact side x f plain inside p whole =
     let holds = substitution_holds x s f p suits.0 suits.1 plain whole in
     (λ h. let t = holds.0 h in (t.0, (t.1, tt)), λ t. holds.1 (t.0, t.1.0))))
 
-pub integer_quantifier_eliminated : QuantifierIsEliminated Integers
-integer_quantifier_eliminated x f plain inside =
-    let t = trees_plain Integers (λ s. guarded_substitution x s f) (integer_points Lower x f)
-    (λ s among. substitution-plain x s f (points_suit Lower x f s inside among).0 plain inside) in
-    (integer_elimination Lower x f, t.0, t.1, integer_elimination_exact Lower x f plain inside)
+-- the disjunction is built by and and or, from atoms of the integers
+pub integer_elimination_tree : (side : Side) (x : ℕ) (f : Tree) → IsPlain f → InContext Integers f → IsPlain (integer_elimination side x f) × InContext Integers (integer_elimination side x f)
+integer_elimination_tree side x f plain inside =
+    trees_plain Integers (λ s. guarded_substitution x s f) (integer_points side x f)
+    (λ s among. substitution-plain x s f (points_suit side x f s inside among).0 plain inside)

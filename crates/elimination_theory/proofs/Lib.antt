@@ -37,3 +37,7 @@ pub mod BothTheories
 pub mod FieldsNext
 pub mod StandOnce
 pub mod IntegerCount
+pub mod FieldsNames
+pub mod IntegersNames
+pub mod FieldsUnique
+pub mod Reduced

@@ -4,21 +4,28 @@ use Rattle.formula_meaning.specs.Context.{Context, Fields}
 use Rattle.formula_meaning.specs.Point.{Point, Of}
 use Rattle.formula_meaning.specs.Formula.{Ex, All, Not}
 use Rattle.formula_meaning.specs.Shape.{IsPlain}
-use Rattle.formula_meaning.specs.Tree.{Tree, TrueAt, InContext, Equivalent, negation_normal, negated}
+use Rattle.formula_meaning.specs.Tree.{Tree, TrueAt, InContext, IsFree, Equivalent, negation_normal, negated}
 use Rattle.elimination_theory.specs.Side.{Side}
 use Rattle.elimination_theory.specs.Elimination.{field_elimination}
 
--- one quantifier over a formula built by and and or has an equivalent built by and and or
+-- g is equivalent to f, is built by and and or alone, and has no other free names
+pub record IsEliminated (c : Context) (f g : Tree) : Type 0 where
+  pub is_plain : IsPlain g
+  pub in_context : InContext c g
+  pub equivalent : Equivalent c f g
+  pub names : (y : ℕ) → IsFree g y → IsFree f y
+
+-- one quantifier over a formula built by and and or can be eliminated
 abbrev pub QuantifierIsEliminated : Context → Type 0
-QuantifierIsEliminated c = (x : ℕ) (f : Tree) → IsPlain f → InContext c f → (g : Tree) × IsPlain g × InContext c g × Equivalent c (Ex x f) g
+QuantifierIsEliminated c = (x : ℕ) (f : Tree) → IsPlain f → InContext c f → (g : Tree) × IsEliminated c (Ex x f) g
 
 -- every formula is true or not, at every point of the theory
 abbrev pub TruthIsDecided : Context → Type 0
 TruthIsDecided c = (f : Tree) (p : Point ℕ) → InContext c f → Of c p → TrueAt c f p ⊎ ¬ (TrueAt c f p)
 
--- every formula has an equivalent without quantifiers
+-- every formula has an equivalent without quantifiers, over its own free names
 abbrev pub QuantifiersAreEliminated : Context → Type 0
-QuantifiersAreEliminated c = (f : Tree) → InContext c f → (g : Tree) × IsPlain g × InContext c g × Equivalent c f g
+QuantifiersAreEliminated c = (f : Tree) → InContext c f → (g : Tree) × IsEliminated c f g
 
 -- the negation normal form is true where the formula is, and that of the negation where the formula is not
 abbrev pub NegationNormalFormKeepsTruth : Context → Type 0

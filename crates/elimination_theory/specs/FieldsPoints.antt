@@ -1,9 +1,10 @@
 -- Test points of the ordered fields (Loos and Weispfenning): ends of intervals, infinitesimals beside them, and an infinity.
-use Rattle.std.specs.Prelude.{ℕ, suc, zero, ◌/◌, ℤ, pos, negsuc, List, [], ◌∷◌, map, flat_map, unsigned_abs, int_div}
+use Rattle.std.specs.Prelude.{◌≡◌, ℕ, suc, zero, ◌/◌, ℤ, pos, negsuc, List, [], ◌∷◌, map, flat_map, unsigned_abs, int_div}
 use Rattle.exact_numbers.specs.Divides.{content_of}
+use Rattle.formula_meaning.specs.Some.{SomeOf}
 use Rattle.formula_meaning.specs.Form.{Form, Term, coefficient, without, scale}
 use Rattle.formula_meaning.specs.Atom.{Atom, Compare, Congruent, Incongruent, Relation, Equals, Differs, Below, AtMost, Above, AtLeast, mirrored}
-use Rattle.formula_meaning.specs.Answer.{Place, Exact, AboveBy, BelowBy, PlusInfinity, MinusInfinity}
+use Rattle.formula_meaning.specs.Answer.{Place, Exact, AboveBy, BelowBy, PlusInfinity, MinusInfinity, Periodic}
 use Rattle.formula_meaning.specs.Tree.{Tree}
 use Rattle.elimination_theory.specs.Lists.{distinct, same_place}
 use Rattle.elimination_theory.specs.Atoms.{atoms_of}
@@ -62,3 +63,16 @@ infinity_of Upper = PlusInfinity
 -- the test points of a name in a formula: the infinity, then those of each atom; an equal point stands once
 abbrev pub field_points : Side → ℕ → Tree → List Place
 field_points side x f = distinct same_place (infinity_of side ∷ flat_map (atom_points side x) (atoms_of f))
+
+-- no number above 1 divides all numbers of the place
+abbrev pub IsReduced : Place → Type 0
+IsReduced (Exact e d) = divisor_of e d ≡ 1
+IsReduced (AboveBy e d) = divisor_of e d ≡ 1
+IsReduced (BelowBy e d) = divisor_of e d ≡ 1
+IsReduced PlusInfinity = Unit {0}
+IsReduced MinusInfinity = Unit {0}
+IsReduced (Periodic a q) = Unit {0}
+
+-- Each test point of the fields is in lowest terms.
+abbrev pub FieldPointsAreReduced : Type 0
+FieldPointsAreReduced = (side : Side) (x : ℕ) (f : Tree) (s : Place) → SomeOf (λ t. t ≡ s) (field_points side x f) → IsReduced s

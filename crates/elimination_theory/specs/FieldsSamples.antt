@@ -70,3 +70,8 @@ FieldSampleIsTrue = (x : ℕ) (s : Place) (f : Tree) (p : Point ℕ) (k : ℤ) (
 -- Each place has a sample, for each formula and at each point.
 abbrev pub FieldSampleExists : Type 0
 FieldSampleExists = (x : ℕ) (s : Place) (f : Tree) (p : Point ℕ) → IsFieldPlace s → Of Fields p → (k : ℤ) × (m : ℕ) × 0 < m × IsFieldSample x f p s k m
+
+-- A place has one sample alone: two samples are the same fraction.
+abbrev pub FieldSampleIsUnique : Type 0
+FieldSampleIsUnique = (x : ℕ) (s : Place) (f : Tree) (p : Point ℕ) (k : ℤ) (m : ℕ) (j : ℤ) (n : ℕ) → IsFieldPlace s → 0 < m → 0 < n →
+    IsFieldSample x f p s k m → IsFieldSample x f p s j n → k *ℤ pos n ≡ j *ℤ pos m

@@ -14,3 +14,4 @@ pub mod IntegersSample
 pub mod FieldsExample
 pub mod FieldsSamples
 pub mod PointsTheorems
+pub mod NamesTheorems

@@ -2,7 +2,7 @@
 
 ghost use Rattle.elimination_theory.specs.FieldsTheorems.{FieldTestPointsSuffice, FieldAtomIsExact, FieldSubstitutionIsExact, FieldAnswersHold};
 ghost use Rattle.elimination_theory.specs.Decided.{FieldEliminationIsExact};
-ghost use Rattle.elimination_theory.specs.FieldsSamples.{FieldSampleIsTrue, FieldSampleExists};
+ghost use Rattle.elimination_theory.specs.FieldsSamples.{FieldSampleIsTrue, FieldSampleExists, FieldSampleIsUnique};
 ghost use Rattle.elimination_theory.specs.FieldsExample.{OpenIntervalPoints, OpenIntervalSubstitutions, EpsilonIsNeeded};
 
 /// For a formula built by `and` and `or`, `ex(x, f)` is true exactly where some test point of the side makes `f` true.
@@ -53,4 +53,9 @@ pub fn field_sample_is_true()
 /// Each place has a sample.
 pub fn field_sample_exists()
     ensures { FieldSampleExists }
+{}
+
+/// A place has one sample alone, as a fraction.
+pub fn field_sample_is_unique()
+    ensures { FieldSampleIsUnique }
 {}

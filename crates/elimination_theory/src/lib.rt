@@ -3,5 +3,6 @@
 
 pub mod fields;
 pub mod integers;
+pub mod names;
 pub mod points;
 pub mod truth;

@@ -8,7 +8,7 @@ pub fn truth_is_decided()
     ensures { (c : Context) → TruthIsDecided c }
 {}
 
-/// Every formula has an equivalent without quantifiers.
+/// Every formula has an equivalent without quantifiers, over its own free names.
 pub fn quantifiers_are_eliminated()
     ensures { (c : Context) → QuantifiersAreEliminated c }
 {}
