@@ -1,7 +1,21 @@
 //! Reads one statement of a script: from bytes to tokens, and from tokens to a tree.
 #![tactic(auto)]
 
+mod formula;
+mod level;
+mod lexer;
+mod piece;
+mod point;
+mod statement;
+mod sum;
 mod terminal;
 mod token;
+mod tokens;
 
+#[cfg(test)]
+mod tests;
+
+pub use lexer::tokens;
+pub use piece::{Piece, next_piece};
+pub use statement::read_statement;
 pub use token::{ReadError, Token, TokenKind, Tokens};

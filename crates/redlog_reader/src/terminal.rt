@@ -5,7 +5,7 @@ use crate::token::TokenKind;
 use qe_syntax::{Literal, Name, Relation};
 
 /// A token as the grammar names it.
-#[derive(Clone, Copy)]
+#[derive(Clone, Copy, PartialEq, Eq)]
 pub enum Terminal {
     Number(Literal),
     Name(Name),
