@@ -4,3 +4,4 @@ pub mod Pieces
 pub mod Levels
 pub mod Grammar
 pub mod Statement
+pub mod Reading

@@ -1,7 +1,7 @@
 use crate::sum::sum;
-use crate::terminal::Terminal;
+use crate::terminal::{Mark, Terminal};
 use crate::token::{ReadError, Token};
-use crate::tokens::{after, next};
+use crate::peek::{after, next};
 use qe_syntax::{Formula, Formulas};
 use std::alloc::{AllocError, Global};
 
@@ -13,7 +13,7 @@ use std::alloc::{AllocError, Global};
 pub fn formula(alloc: Global, tokens: &[Token]) -> Result<(Box<Formula>, &[Token]), ReadError> {
     let (first, mut rest) = conjunction(alloc, tokens)?;
     let mut members = members_of(alloc, first)?;
-    while let Some(start) = after(rest, &Terminal::Or) {
+    while let Some(start) = after(rest, Mark::Or) {
         let (member, left) = conjunction(alloc, start)?;
         put(&mut members, member)?;
         rest = left;
@@ -27,7 +27,7 @@ pub fn formula(alloc: Global, tokens: &[Token]) -> Result<(Box<Formula>, &[Token
 fn conjunction(alloc: Global, tokens: &[Token]) -> Result<(Box<Formula>, &[Token]), ReadError> {
     let (first, mut rest) = negated(alloc, tokens)?;
     let mut members = members_of(alloc, first)?;
-    while let Some(start) = after(rest, &Terminal::And) {
+    while let Some(start) = after(rest, Mark::And) {
         let (member, left) = negated(alloc, start)?;
         put(&mut members, member)?;
         rest = left;
@@ -40,11 +40,11 @@ fn conjunction(alloc: Global, tokens: &[Token]) -> Result<(Box<Formula>, &[Token
 #[cycle(formula)]
 fn negated(alloc: Global, tokens: &[Token]) -> Result<(Box<Formula>, &[Token]), ReadError> {
     let (nots, start) = nots(tokens);
-    let Some(inside) = after(start, &Terminal::Open) else {
+    let Some(inside) = after(start, Mark::Open) else {
         return negated_operand(alloc, nots, start);
     };
     let (inner, end) = formula(alloc, inside)?;
-    let Some(rest) = after(end, &Terminal::Close) else {
+    let Some(rest) = after(end, Mark::Close) else {
         return Err(ReadError::Syntax);
     };
     let whole = negations(alloc, nots, inner)?;
@@ -63,7 +63,7 @@ fn negated_operand(alloc: Global, nots: usize, tokens: &[Token]) -> Result<(Box<
 fn nots(tokens: &[Token]) -> (usize, &[Token]) {
     let mut count = 0;
     let mut rest = tokens;
-    while let Some(left) = after(rest, &Terminal::Not) {
+    while let Some(left) = after(rest, Mark::Not) {
         count += 1;
         rest = left;
     }
@@ -81,10 +81,10 @@ fn negations(alloc: Global, nots: usize, formula: Box<Formula>) -> Result<Box<Fo
 
 /// A constant or a comparison.
 fn operand(alloc: Global, tokens: &[Token]) -> Result<(Formula, &[Token]), ReadError> {
-    if let Some(rest) = after(tokens, &Terminal::True) {
+    if let Some(rest) = after(tokens, Mark::True) {
         return Ok((Formula::True, rest));
     }
-    if let Some(rest) = after(tokens, &Terminal::False) {
+    if let Some(rest) = after(tokens, Mark::False) {
         return Ok((Formula::False, rest));
     }
     comparison(alloc, tokens)

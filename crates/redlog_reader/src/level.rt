@@ -1,4 +1,4 @@
-use crate::terminal::{Terminal, terminal_of};
+use crate::terminal::{Mark, Terminal, terminal_of};
 use crate::token::{ReadError, Token};
 use std::alloc::{AllocError, Global};
 
@@ -57,12 +57,12 @@ impl Levels {
 
     fn take(&mut self, terminal: Terminal) -> Result<(), ReadError> {
         match terminal {
-            Terminal::Open | Terminal::OpenBrace => self.open()?,
-            Terminal::Close | Terminal::CloseBrace => self.close(),
+            Terminal::Mark(Mark::Open) | Terminal::Mark(Mark::OpenBrace) => self.open()?,
+            Terminal::Mark(Mark::Close) | Terminal::Mark(Mark::CloseBrace) => self.close(),
             other => self.inmost = after(other, self.inmost),
         }
-        self.held = if matches!(terminal, Terminal::Binder) { self.run } else { 0 };
-        self.run = if matches!(terminal, Terminal::Not) { self.run + 1 } else { 0 };
+        self.held = if matches!(terminal, Terminal::Mark(Mark::Binder)) { self.run } else { 0 };
+        self.run = if matches!(terminal, Terminal::Mark(Mark::Not)) { self.run + 1 } else { 0 };
         Ok(())
     }
 
@@ -91,13 +91,13 @@ fn weight(group: &Group) -> usize {
 fn after(terminal: Terminal, group: Group) -> Group {
     let mut group = group;
     match terminal {
-        Terminal::Number(_) | Terminal::Name(_) | Terminal::Times | Terminal::Power => {}
-        Terminal::Slash => group.slashes += 1,
-        Terminal::Comma => {
+        Terminal::Number(_) | Terminal::Name(_) | Terminal::Mark(Mark::Times) | Terminal::Mark(Mark::Power) => {}
+        Terminal::Mark(Mark::Slash) => group.slashes += 1,
+        Terminal::Mark(Mark::Comma) => {
             group.arrows = 0;
             group.slashes = 0;
         }
-        Terminal::Arrow => {
+        Terminal::Mark(Mark::Arrow) => {
             group.arrows += 1;
             group.slashes = 0;
         }

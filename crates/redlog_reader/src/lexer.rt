@@ -33,11 +33,10 @@ pub fn tokens(alloc: Global, bytes: &[u8]) -> Result<Tokens, ReadError> {
     let mut list = Vec::new(alloc);
     let mut start = skip(bytes, 0);
     while start < bytes.len() {
-        let lexeme = lexeme(bytes, start);
-        let Some(kind) = lexeme.kind else {
+        let Found { kind, end } = lexeme(bytes, start);
+        let Some(kind) = kind else {
             return Err(ReadError::Lexical);
         };
-        let end = lexeme.end;
         list.push(Token { kind, start, end }).map_err(|_| ReadError::Memory(AllocError))?;
         start = skip(bytes, end);
     }

@@ -10,7 +10,7 @@ mod statement;
 mod sum;
 mod terminal;
 mod token;
-mod tokens;
+mod peek;
 
 #[cfg(test)]
 mod tests;

@@ -2,9 +2,9 @@ use crate::formula::formula;
 use crate::level::is_deep;
 use crate::lexer::tokens;
 use crate::point::point;
-use crate::terminal::Terminal;
+use crate::terminal::{Mark, Terminal};
 use crate::token::{ReadError, Token};
-use crate::tokens::{after, next};
+use crate::peek::{after, next};
 use qe_syntax::{Action, Command, Statement};
 use std::alloc::Global;
 
@@ -33,14 +33,14 @@ fn as_syntax(error: ReadError) -> ReadError {
 
 /// A statement, with no token after it.
 fn statement(alloc: Global, tokens: &[Token]) -> Result<Statement, ReadError> {
-    let Some(rest) = after(tokens, &Terminal::Holds) else {
+    let Some(rest) = after(tokens, Mark::Holds) else {
         return Err(ReadError::Syntax);
     };
-    let Some(rest) = after(rest, &Terminal::Open) else {
+    let Some(rest) = after(rest, Mark::Open) else {
         return Err(ReadError::Syntax);
     };
     let (formula, rest) = formula(alloc, rest)?;
-    let Some(rest) = after(rest, &Terminal::Comma) else {
+    let Some(rest) = after(rest, Mark::Comma) else {
         return Err(ReadError::Syntax);
     };
     let (entries, rest) = point(alloc, rest)?;
@@ -51,11 +51,12 @@ fn statement(alloc: Global, tokens: &[Token]) -> Result<Statement, ReadError> {
 
 /// Whether the end of a statement prints it.
 fn end(tokens: &[Token]) -> Result<bool, ReadError> {
-    let Some(rest) = after(tokens, &Terminal::Close) else {
+    let Some(rest) = after(tokens, Mark::Close) else {
         return Err(ReadError::Syntax);
     };
     match next(rest) {
-        Some((Terminal::End(printed), [])) => Ok(printed),
+        Some((Terminal::Mark(Mark::Semicolon), [])) => Ok(true),
+        Some((Terminal::Mark(Mark::Dollar), [])) => Ok(false),
         _ => Err(ReadError::Syntax),
     }
 }
