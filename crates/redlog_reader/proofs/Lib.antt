@@ -1,3 +1,5 @@
 pub mod Unique
 pub mod Lists
 pub mod Sums
+pub mod Shorter
+pub mod Formulas

@@ -1,5 +1,5 @@
 -- Reading the parts of a sum.
-use Rattle.std.proofs.Common.{◌≡◌, ℕ, ◌<◌, Bool, true, false, List, [], ◌∷◌, ◌++◌, length, sym, refl, ap, ◌∙◌, subst, arith}
+use Rattle.std.proofs.Common.{◌≡◌, ℕ, ◌<◌, Bool, true, false, List, [], ◌∷◌, ◌++◌, map, length, sym, refl, ap, ◌∙◌, subst, arith}
 use Rattle.qe_syntax.specs.Trees.{TermTree, terms_of, Number, Named, Sum, Product}
 use Rattle.qe_syntax.specs.declared.tree.Literal.{Literal}
 use Rattle.redlog_reader.specs.declared.terminal.Terminal.{Terminal}
@@ -116,9 +116,10 @@ pub refused_product : {n : Literal} {us vs : List Terminal} → us ≡ terminal.
     → ((x : List ℕ) (r : List Terminal) → vs ≡ terminal.Name x ∷ r → Ends 1 r → ⊥) → NotFound Part (Ends 1) (terminal.Number n ∷ us)
 refused_product at none = record { none = λ t r p e. let f = no_part p e at in none f.0 r f.1 e }
 
-pub sum_many : (ts : List TermTree) → (length ts ≡ 1 → ⊥) → sum_of ts ≡ Sum (terms_of ts)
-sum_many [] h = refl
-sum_many (t ∷ []) h = absurd (h refl)
-sum_many (t ∷ u ∷ ts) h = refl
+-- of more than one member it is the sum
+pub sum_many : {A : Type 0} (f : A → TermTree) (xs : List A) → (length xs ≡ 1 → ⊥) → sum_of (map f xs) ≡ Sum (terms_of (map f xs))
+sum_many f [] h = refl
+sum_many f (t ∷ []) h = absurd (h refl)
+sum_many f (t ∷ u ∷ ts) h = refl
 
 pub ruleset sums = (found_bare, found_signed, refused_bare, refused_signed)

@@ -1,5 +1,8 @@
 -- What the readers of the parts of a statement promise each other.
-use Rattle.std.specs.Prelude.{◌≡◌, ℕ, ◌<◌, List, [], ◌∷◌}
+use Rattle.std.specs.Prelude.{◌≡◌, ℕ, zero, suc, ◌<◌, List, [], ◌∷◌}
+use Rattle.formula_meaning.specs.Formula.{Yes, No, Not}
+use Rattle.qe_syntax.specs.Trees.{FormulaTree}
+use Rattle.redlog_reader.specs.Grammar.{SpellsComparison}
 use Rattle.redlog_reader.specs.declared.terminal.Terminal.{Terminal}
 use Rattle.redlog_reader.specs.declared.terminal.Terminal.TheVariants as terminal
 use Rattle.redlog_reader.specs.declared.terminal.Mark.TheVariants as mark
@@ -45,3 +48,19 @@ Refuses (cause.Memory e) P = Unit {0}
 Refuses cause.Long P = ⊥
 Refuses cause.Lexical P = ⊥
 Refuses cause.Nesting P = ⊥
+
+-- the terminals with so many not before them
+abbrev pub nots_before : ℕ → List Terminal → List Terminal
+nots_before zero ts = ts
+nots_before (suc n) ts = terminal.Mark mark.Not ∷ nots_before n ts
+
+-- the formula with so many not before it
+abbrev pub negated_by : ℕ → FormulaTree → FormulaTree
+negated_by zero f = f
+negated_by (suc n) f = Not (negated_by n f)
+
+-- a comparison, true or false
+pub data SpellsOperand : List Terminal → FormulaTree → List Terminal → Type 0 where
+  compared : {ts rest : List Terminal} {f : FormulaTree} → SpellsComparison ts f rest → SpellsOperand ts f rest
+  truth : {rest : List Terminal} → SpellsOperand (terminal.Mark mark.True ∷ rest) Yes rest
+  falsity : {rest : List Terminal} → SpellsOperand (terminal.Mark mark.False ∷ rest) No rest

@@ -113,6 +113,14 @@ fn factors_end(tokens: &[Token]) -> bool
     after(tokens, Mark::Times).is_none()
 }
 
+/// Whether no `*`, `+` or `-` follows.
+#[tactic(auto, using(crate::proofs::Sums::ends_parts))]
+pub fn sums_end(tokens: &[Token]) -> bool
+    ensures { MatchBool result (Ends 2 (terminals tokens.now)) (Ends 2 (terminals tokens.now) → ⊥) }
+{
+    factors_end(tokens) && sign(tokens).is_none()
+}
+
 /// The number, times the name that a `*` may put after it. No `*` follows it.
 fn multiple(
     alloc: Global,

@@ -11,11 +11,11 @@ returns-then-factors_end-clause-found c = found_number (tree-Number _) c.if-fact
 
 pub returns-in_ok-product-in-Name-clause-found : goal.returns-in_ok-product-in-Name-clause-found
 returns-in_ok-product-in-Name-clause-found c =
-    found_product c.in-Some.ensures (front_is c.in-Some-next.ensures c.in-Name.is) (rw (tree-Number, tree-Name) at c.in_ok-product-in-Name.ensures.product) c.if-factors_end-2.ensures
+    found_product c.in-Some.ensures.value (front_is c.in-Some-next.ensures.value c.in-Name.is) (rw (tree-Number, tree-Name) at c.in_ok-product-in-Name.ensures.product) c.if-factors_end-2.ensures
 
 -- no name follows the *, or another * follows the name
 pub returns-in_default-first-clause-refused : goal.returns-in_default-first-clause-refused
-returns-in_default-first-clause-refused c = refused_product c.in-Some.ensures (λ x r at e. elim c.in_default-first.branch [
-  in_default-first-via-in-Name+else-factors_end-2 w ↦ w.if-factors_end-2.ensures (subst (Ends 1) (same_rest c.in-Some-next.ensures at) e)
-  | in_default-first-via-in_default-first w ↦ w.in_default-first.not-Name x (same_front c.in-Some-next.ensures at)
+returns-in_default-first-clause-refused c = refused_product c.in-Some.ensures.value (λ x r at e. elim c.in_default-first.branch [
+  in_default-first-via-in-Name+else-factors_end-2 w ↦ w.if-factors_end-2.ensures (subst (Ends 1) (same_rest c.in-Some-next.ensures.value at) e)
+  | in_default-first-via-in_default-first w ↦ w.in_default-first.not-Name x (same_front c.in-Some-next.ensures.value at)
   ])

@@ -4,4 +4,4 @@ use Rattle.redlog_reader.proofs.Sums.{found_name}
 use Rattle.redlog_reader.proofs.sum.part.Goals as goal
 
 pub returns-in-Name-clause-found : goal.returns-in-Name-clause-found
-returns-in-Name-clause-found c = found_name (front_is c.in-Some.ensures c.in-Name.is) (tree-Name _) c.if-factors_end.ensures
+returns-in-Name-clause-found c = found_name (front_is c.in-Some.ensures.value c.in-Name.is) (tree-Name _) c.if-factors_end.ensures
