@@ -12,7 +12,7 @@ use Rattle.redlog_reader.specs.Grammar.{SpellsSum, SpellsComparison, comparison,
 use Rattle.redlog_reader.specs.Grammar.{SpellsFormula, disjunction, Disjuncts, last_disjunct, more_disjuncts, SpellsConjunction, conjunction, Conjuncts, last_conjunct, more_conjuncts, SpellsNegation, negated, compared, truth, falsity, inner}
 use Rattle.redlog_reader.proofs.Unique.{moved, same_sum, same_formula, same_conjunction, same_negation, comparison_starts}
 use Rattle.redlog_reader.proofs.Lists.{Progress, one_more, ends_conjuncts, ends_disjuncts, same_rest}
-use Rattle.redlog_reader.proofs.Shorter.{shorter_conjunction, shorter_negation}
+use Rattle.redlog_reader.proofs.Shorter.{shorter_conjunction, shorter_negation, nots_length}
 
 -- Conjuncts
 
@@ -227,3 +227,7 @@ module _ {ts middle : List Terminal} {s : TermTree} (left : Found SpellsSum (End
       spelled = subst (λ g. SpellsComparison ts g rest) (sym is) (comparison (subst (λ v. SpellsSum ts s v) at left.spelled) right.spelled);
       ended = right.ended;
     }
+
+-- what stands in the parentheses is shorter
+pub inner_shorter : (n : ℕ) {ts start inside : List Terminal} → ts ≡ nots_before n start → start ≡ terminal.Mark mark.Open ∷ inside → length inside < length ts
+inner_shorter n {start = start} e f = omega (arith, ap length e, nots_length n start, ap length f)

@@ -15,14 +15,14 @@ decreases-conjunction l = 4 * length (terminals l.tokens.now) + 1
 abbrev pub decreases-negated : goal.decreases-negated
 decreases-negated l = 4 * length (terminals l.tokens.now)
 
-abbrev pub invariant-disjuncts : goal.invariant-disjuncts
-invariant-disjuncts l = Progress Disjuncts (Ends 4) (terminals l.fn.tokens) (map formula_tree l.members.items) (terminals l.start) × (length (terminals l.start) ≤ length (terminals l.fn.tokens))
+abbrev pub invariant-formula-disjuncts : goal.invariant-formula-disjuncts
+invariant-formula-disjuncts l = Progress Disjuncts (Ends 4) (terminals l.fn.tokens) (map formula_tree l.members.items) (terminals l.start) × (length (terminals l.start) ≤ length (terminals l.fn.tokens))
 
-abbrev pub decreases-disjuncts : goal.decreases-disjuncts
-decreases-disjuncts l = length (terminals l.start)
+abbrev pub decreases-formula-disjuncts : goal.decreases-formula-disjuncts
+decreases-formula-disjuncts l = length (terminals l.start)
 
-abbrev pub invariant-conjuncts : goal.invariant-conjuncts
-invariant-conjuncts l = Progress Conjuncts (Ends 3) (terminals l.fn.tokens) (map formula_tree l.members.items) (terminals l.start) × (length (terminals l.start) ≤ length (terminals l.fn.tokens))
+abbrev pub invariant-conjunction-conjuncts : goal.invariant-conjunction-conjuncts
+invariant-conjunction-conjuncts l = Progress Conjuncts (Ends 3) (terminals l.fn.tokens) (map formula_tree l.members.items) (terminals l.start) × (length (terminals l.start) ≤ length (terminals l.fn.tokens))
 
-abbrev pub decreases-conjuncts : goal.decreases-conjuncts
-decreases-conjuncts l = length (terminals l.start)
+abbrev pub decreases-conjunction-conjuncts : goal.decreases-conjunction-conjuncts
+decreases-conjunction-conjuncts l = length (terminals l.start)
