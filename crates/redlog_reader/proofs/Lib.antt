@@ -3,3 +3,4 @@ pub mod Lists
 pub mod Sums
 pub mod Shorter
 pub mod Formulas
+pub mod LexerLemmas

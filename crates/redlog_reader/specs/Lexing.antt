@@ -13,6 +13,10 @@ is_blank b = (b == 9) || (b == 10) || (b == 13) || (b == 32)
 abbrev pub is_digit : ℕ → Bool
 is_digit b = nat_le 48 b && nat_le b 57
 
+-- what begins no token: a blank, or the % of a comment
+abbrev pub is_space : ℕ → Bool
+is_space b = is_blank b || (b == 37)
+
 -- an ASCII letter
 abbrev pub is_letter : ℕ → Bool
 is_letter b = (nat_le 65 b && nat_le b 90) || (nat_le 97 b && nat_le b 122)
@@ -35,7 +39,7 @@ unfoldable pub literal_of : List ℕ → Literal
 literal_of digits = if nat_lt (value_after 0 digits) (2 ^ 127) then Fits (pos (value_after 0 digits)) else Past
 
 -- the words, but for those with numbers
-abbrev pub keywords : List (List ℕ)
+unfoldable pub keywords : List (List ℕ)
 keywords =
     codes "true" ∷ codes "false" ∷ codes "not" ∷ codes "and" ∷ codes "or" ∷ codes "impl" ∷ codes "repl" ∷ codes "equiv"
     ∷ codes "ex" ∷ codes "all" ∷ codes "cong" ∷ codes "ncong" ∷ codes "neq"
@@ -70,7 +74,7 @@ pub data Front : Type 0 where
   -- a blank or a comment
   Space : ℕ → Front
   -- a token, or a bad one
-  Token : Option TokenKind → ℕ → Front
+  Lexeme : Option TokenKind → ℕ → Front
 
 -- a name or a word, which is bad where it has more than 64 bytes
 unfoldable pub worded : List ℕ → Option TokenKind
@@ -81,17 +85,17 @@ worded text =
 -- a sign, the longer one first; any other byte is bad
 unfoldable pub signed : List ℕ → Front
 signed bytes =
-    if is_one_of (take 2 bytes) long_signs then Token (Some (token.Sign (take 2 bytes))) 1
-    else (if is_one_of (take 1 bytes) short_signs then Token (Some (token.Sign (take 1 bytes))) 0
-    else Token None 0)
+    if is_one_of (take 2 bytes) long_signs then Lexeme (Some (token.Sign (take 2 bytes))) 1
+    else (if is_one_of (take 1 bytes) short_signs then Lexeme (Some (token.Sign (take 1 bytes))) 0
+    else Lexeme None 0)
 
 -- what stands at the front of the bytes b ∷ bs
 unfoldable pub front : ℕ → List ℕ → Front
 front b bs =
     if is_blank b then Space 0
     else (if b == 37 then Space (prefix_len is_in_line bs)
-    else (if is_digit b then Token (Some (token.Number (literal_of (b ∷ take (prefix_len is_digit bs) bs)))) (prefix_len is_digit bs)
-    else (if is_letter b then Token (worded (b ∷ take (prefix_len is_name_part bs) bs)) (prefix_len is_name_part bs)
+    else (if is_digit b then Lexeme (Some (token.Number (literal_of (b ∷ take (prefix_len is_digit bs) bs)))) (prefix_len is_digit bs)
+    else (if is_letter b then Lexeme (worded (b ∷ take (prefix_len is_name_part bs) bs)) (prefix_len is_name_part bs)
     else signed (b ∷ bs))))
 
 -- a token with its place, from start up to end; a bad one has no kind
@@ -104,5 +108,9 @@ pub record Raw : Type 0 where
 pub data Lexes : List ℕ → ℕ → List Raw → Type 0 where
   over : {at : ℕ} → Lexes [] at []
   spaced : {b : ℕ} {bs : List ℕ} {at n : ℕ} {ts : List Raw} → front b bs ≡ Space n → Lexes (drop n bs) (at + (1 + n)) ts → Lexes (b ∷ bs) at ts
-  taken : {b : ℕ} {bs : List ℕ} {at n : ℕ} {t : Raw} {ts : List Raw} → front b bs ≡ Token t.kind n → t.start ≡ at → t.end ≡ at + (1 + n)
+  taken : {b : ℕ} {bs : List ℕ} {at n : ℕ} {t : Raw} {ts : List Raw} → front b bs ≡ Lexeme t.kind n → t.start ≡ at → t.end ≡ at + (1 + n)
       → Lexes (drop n bs) (at + (1 + n)) ts → Lexes (b ∷ bs) at (t ∷ ts)
+
+-- the bytes from this place on spell these tokens
+abbrev pub LexesFrom : List ℕ → ℕ → List Raw → Type 0
+LexesFrom script from = Lexes (drop from script) from

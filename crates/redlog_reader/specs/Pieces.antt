@@ -2,7 +2,7 @@
 use Rattle.std.specs.Prelude.{◌≡◌, ℕ, ◌+◌, ◌-◌, Bool, true, false, ◌||◌, List, [], ◌∷◌, length, take, drop, codes, bytes_eq, IsTrue, Option, Some, None}
 use Rattle.redlog_reader.specs.declared.token.TokenKind.{TokenKind}
 use Rattle.redlog_reader.specs.declared.token.TokenKind.TheVariants as token
-use Rattle.redlog_reader.specs.Lexing.{Raw, Lexes}
+use Rattle.redlog_reader.specs.Lexing.{Raw, LexesFrom}
 
 -- the token ends a piece
 abbrev pub is_end : Option TokenKind → Bool
@@ -12,15 +12,18 @@ is_end (Some (token.Name x)) = false
 is_end (Some (token.Word w)) = false
 is_end None = false
 
--- the bytes from this place on spell these tokens
-abbrev pub LexesFrom : List ℕ → ℕ → List Raw → Type 0
-LexesFrom script from = Lexes (drop from script) from
-
 -- a piece of these tokens ends at this place, and these tokens come after it; the script has this length
 pub data Cuts : ℕ → List Raw → ℕ → List Raw → Type 0 where
   last : {total : ℕ} → Cuts total [] total []
   marked : {total : ℕ} {t : Raw} {ts : List Raw} → is_end t.kind ≡ true → Cuts total (t ∷ ts) t.end ts
   inside : {total end : ℕ} {t : Raw} {ts rest : List Raw} → is_end t.kind ≡ false → Cuts total ts end rest → Cuts total (t ∷ ts) end rest
+
+-- a piece that begins at this place or goes on there ends at end
+pub record EndsFrom (script : List ℕ) (at end : ℕ) : Type 0 where
+  pub tokens : List Raw
+  pub rest : List Raw
+  pub lexes : LexesFrom script at tokens
+  pub cut : Cuts (length script) tokens end rest
 
 -- no token stands from this place on
 abbrev pub HasNoTokenFrom : List ℕ → ℕ → Type 0
