@@ -1,8 +1,11 @@
 -- What the lexer's parts say of the bytes.
-use Rattle.std.proofs.Common.{◌≡◌, ℕ, suc, ◌+◌, ◌-◌, ◌*◌, ◌^◌, ◌<◌, ◌≤◌, Bool, true, false, List, [], ◌∷◌, length, take, drop, get_or, nat_lt, cond, sym, refl, ap, ◌∙◌, arith, pos, to_z, ◌==◌, Some, one-add, add-one, subst, Option}
+use Rattle.std.proofs.Common.{◌≡◌, ℕ, suc, ◌+◌, ◌-◌, ◌*◌, ◌^◌, ◌<◌, ◌≤◌, Bool, true, false, List, [], ◌∷◌, length, take, drop, get_or, nat_lt, cond, sym, refl, ap, ◌∙◌, arith, pos, to_z, ◌==◌, Some, one-add, add-one, subst, Option, None, ◌++◌, map, zero, append_assoc}
 use Rattle.std.specs.List.{prefix_len, AllPass, list_all}
 use Rattle.std.proofs.Math.Seq.{drop-cons}
-use Rattle.std.proofs.lemmas.List.{drop-drop, length-drop}
+use Rattle.std.proofs.Math.ListN.{drop_of_length-le}
+use Rattle.std.proofs.lemmas.List.{drop-drop, length-drop, append-nil, map-append, get_or-drop}
+use Rattle.std.specs.List.{Contains}
+use Rattle.redlog_reader.specs.declared.token.Token.{Token}
 use Rattle.std.proofs.lemmas.Bool.Decides.{nat_tests}
 use Rattle.std.proofs.lemmas.Int.{to_z_pos}
 use Rattle.std.proofs.lemmas.List.Sums.{AllPass-from_list_all}
@@ -12,7 +15,7 @@ use Rattle.qe_syntax.specs.declared.tree.Literal.TheVariants.{Fits, Past}
 use Rattle.std.proofs.lemmas.Grind.{common_steps}
 use Rattle.redlog_reader.specs.declared.token.TokenKind.{TokenKind}
 use Rattle.redlog_reader.specs.declared.token.TokenKind.TheVariants as token
-use Rattle.redlog_reader.specs.Lexing.{is_blank, is_digit, is_letter, is_name_part, is_space, value_after, literal_of, worded, signed, front, Lexeme, Space, Raw, Lexes, over, spaced, taken, LexesFrom, is_in_line}
+use Rattle.redlog_reader.specs.Lexing.{is_blank, is_digit, is_letter, is_name_part, is_space, value_after, literal_of, worded, signed, front, Lexeme, Space, Raw, Lexes, over, spaced, taken, LexesFrom, is_in_line, Front, raw_of, SpellsTokens, HasBadToken, HasBadTokenFrom}
 
 -- further digits make no lesser number
 value_grows : (n : ℕ) (ds : List ℕ) → n ≤ value_after n ds
@@ -148,3 +151,83 @@ pub skips_comment : (script rest : List ℕ) (at n : ℕ) → at < length script
 skips_comment script rest at n inside percent is run =
     let long : n ≡ prefix_len is_in_line (drop (suc at) script) = run ∙ ap (prefix_len is_in_line) (is ∙ ap (λ k. drop k script) (add-one at)) in
     lexes_space script (get_or script at 0 ∷ drop (suc at) script) at (at + (1 + n)) n (sym (drop-cons script at 0 inside)) inside (front_comment _ _ percent ∙ ap Space (sym long)) refl
+
+lexes_then : (b : ℕ) (bs : List ℕ) (at : ℕ) (f : Front) → front b bs ≡ f → ((n : ℕ) → (ts : List Raw) × Lexes (drop n bs) (at + (1 + n)) ts) → (ts : List Raw) × Lexes (b ∷ bs) at ts
+lexes_then b bs at (Space n) is rest = ((rest n).0, spaced is ((rest n).1))
+lexes_then b bs at (Lexeme kind n) is rest = (record { kind = kind; start = at; end = at + (1 + n) } ∷ (rest n).0, taken is refl refl ((rest n).1))
+
+lexes_within : (limit : ℕ) (bs : List ℕ) (at : ℕ) → length bs ≤ limit → (ts : List Raw) × Lexes bs at ts
+lexes_within limit [] at few = ([], over)
+lexes_within zero (b ∷ bs) at few = absurd (omega arith)
+lexes_within (suc limit) (b ∷ bs) at few = lexes_then b bs at (front b bs) refl (λ n. lexes_within limit (drop n bs) (at + (1 + n)) (omega (arith, length-drop n bs)))
+
+-- all bytes spell some tokens, of which some may be bad
+pub lexes_all : (bs : List ℕ) (at : ℕ) → (ts : List Raw) × Lexes bs at ts
+lexes_all bs at = lexes_within (length bs) bs at (omega arith)
+
+same_raw : (t u : Raw) → t.kind ≡ u.kind → t.start ≡ u.start → t.end ≡ u.end → t ≡ u
+same_raw t u a b c =
+    let r : ℕ → ℕ → Option TokenKind → Raw = λ start end kind. record { kind = kind; start = start; end = end } in
+    ap (r t.start t.end) a ∙ ap (λ start. r start t.end u.kind) b ∙ ap (λ end. r u.start end u.kind) c
+
+same_space : (n m : ℕ) → Space n ≡ Space m → n ≡ m
+same_space n m h = cc
+
+same_length : (k l : Option TokenKind) (n m : ℕ) → Lexeme k n ≡ Lexeme l m → n ≡ m
+same_length k l n m h = cc
+
+same_kind : (k l : Option TokenKind) (n m : ℕ) → Lexeme k n ≡ Lexeme l m → k ≡ l
+same_kind k l n m h = cc
+
+not_both : (k : Option TokenKind) (n m : ℕ) → Space n ≡ Lexeme k m → ⊥
+not_both k n m h = cc
+
+-- bytes spell one list of tokens
+pub one_lexing : {bs : List ℕ} {at : ℕ} {ts us : List Raw} → Lexes bs at ts → Lexes bs at us → ts ≡ us
+one_lexing over over = refl
+one_lexing {at = at} {us = us} (spaced {bs = bs} {n = n} e p) (spaced {n = m} f q) =
+    one_lexing p (subst (λ k. Lexes (drop k bs) (at + (1 + k)) us) (sym (same_space n m (sym e ∙ f))) q)
+one_lexing (spaced {n = n} e p) (taken {n = m} {t = t} f start end q) = absurd (not_both t.kind n m (sym e ∙ f))
+one_lexing (taken {n = m} {t = t} f start end q) (spaced {n = n} e p) = absurd (not_both t.kind n m (sym e ∙ f))
+one_lexing {at = at} (taken {bs = bs} {n = n} {t = t} {ts = ts} e start end p) (taken {n = m} {t = u} {ts = us} f start' end' q) =
+    let same = same_length t.kind u.kind n m (sym e ∙ f) in
+    let rest = one_lexing p (subst (λ k. Lexes (drop k bs) (at + (1 + k)) us) (sym same) q) in
+    let first : t ≡ u = same_raw t u (same_kind t.kind u.kind n m (sym e ∙ f)) (start ∙ sym start') (end ∙ ap (λ k. at + (1 + k)) same ∙ sym end') in
+    ap (λ x. x ∷ ts) first ∙ ap (λ xs. u ∷ xs) rest
+
+none_bad : (kinds : List TokenKind) → Contains (map Some kinds) None → ⊥
+none_bad [] h = absurd (omega (arith, h.1))
+none_bad (k ∷ kinds) (zero, inside, is) = let e : Some k ≡ None = is in cc
+none_bad (k ∷ kinds) (suc i, inside, is) = none_bad kinds (i, omega arith, is)
+
+bad_first : (t : Raw) (rest : List Raw) → t.kind ≡ None → Contains (map (λ u. u.kind) (t ∷ rest)) None
+bad_first t rest bad = (0, omega arith, bad)
+
+bad_later : (done : List Token) (rest : List Raw) → Contains (map (λ u. u.kind) rest) None → Contains (map (λ u. u.kind) (map raw_of done ++ rest)) None
+bad_later [] rest bad = bad
+bad_later (d ∷ done) rest bad = let more = bad_later done rest bad in (suc (more.0), omega (arith, more.1), more.2)
+
+-- a bad token stands here
+pub bad_at : (script text : List ℕ) (at n : ℕ) (kind : Option TokenKind) → text ≡ drop at script → at < length script → front (get_or text 0 0) (drop 1 text) ≡ Lexeme kind n → kind ≡ None → HasBadTokenFrom script at
+bad_at script text at n kind is inside f bad =
+    let rest = lexes_all (drop (at + (1 + n)) script) (at + (1 + n)) in
+    let t : Raw = record { kind = kind; start = at; end = at + (1 + n) } in
+    record { tokens = t ∷ rest.0; lexes = lexes_token script text at (at + (1 + n)) n kind is inside f refl (rest.0) (rest.1); bad = bad_first t (rest.0) bad }
+
+-- the tokens done stand before the place at, in each list of tokens
+abbrev pub TokensBefore : List ℕ → List Token → ℕ → Type 0
+TokensBefore bytes done at = (ts : List Raw) → LexesFrom bytes at ts → Lexes bytes 0 (map raw_of done ++ ts)
+
+pub bad_after : (bytes : List ℕ) (done : List Token) (at : ℕ) → TokensBefore bytes done at → HasBadTokenFrom bytes at → HasBadToken bytes
+bad_after bytes done at before bad = record { tokens = map raw_of done ++ bad.tokens; lexes = before bad.tokens bad.lexes; bad = bad_later done bad.tokens bad.bad }
+
+pub all_done : (bytes : List ℕ) (done : List Token) (at : ℕ) → TokensBefore bytes done at → length bytes ≤ at → SpellsTokens bytes done
+all_done bytes done at before past =
+    let none : LexesFrom bytes at [] = subst (λ (bs : List ℕ). Lexes bs at []) (sym (drop_of_length-le bytes past)) over in
+    subst (Lexes bytes 0) (append-nil (map raw_of done)) (before [] none)
+
+pub one_more_token : (bytes : List ℕ) (done now : List Token) (t : Token) (at next : ℕ) → TokensBefore bytes done at
+    → ((ts : List Raw) → LexesFrom bytes t.end ts → LexesFrom bytes at (raw_of t ∷ ts)) → ((ts : List Raw) → LexesFrom bytes next ts → LexesFrom bytes t.end ts) → now ≡ done ++ t ∷ [] → TokensBefore bytes now next
+one_more_token bytes done now t at next before here skipped is ts rest =
+    let shift : map raw_of now ++ ts ≡ map raw_of done ++ (raw_of t ∷ ts) = ap (λ xs. map raw_of xs ++ ts) is ∙ ap (λ xs. xs ++ ts) (map-append raw_of done (t ∷ [])) ∙ append_assoc (map raw_of done) (raw_of t ∷ []) ts in
+    subst (Lexes bytes 0) (sym shift) (before (raw_of t ∷ ts) (here ts (skipped ts rest)))

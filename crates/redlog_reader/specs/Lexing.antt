@@ -1,10 +1,13 @@
 -- What bytes spell as tokens: the longest token each time, with blanks and comments between tokens dropped.
-use Rattle.std.specs.Prelude.{◌≡◌, ℕ, ◌+◌, ◌-◌, ◌*◌, ◌^◌, Bool, not, ◌&&◌, ◌||◌, List, [], ◌∷◌, length, take, drop, codes, bytes_eq, nat_lt, nat_le, ◌==◌, if◌then◌else◌, Option, Some, None, pos}
+use Rattle.std.specs.Prelude.{◌≡◌, ℕ, ◌+◌, ◌-◌, ◌*◌, ◌^◌, Bool, not, ◌&&◌, ◌||◌, List, [], ◌∷◌, length, take, drop, codes, bytes_eq, nat_lt, nat_le, ◌==◌, if◌then◌else◌, Option, Some, None, pos, map, Contains}
 use Rattle.std.specs.List.{list_any, list_all, prefix_len}
 use Rattle.qe_syntax.specs.declared.tree.Literal.{Literal}
 use Rattle.qe_syntax.specs.declared.tree.Literal.TheVariants.{Fits, Past}
+use Rattle.redlog_reader.specs.declared.token.Token.{Token}
 use Rattle.redlog_reader.specs.declared.token.TokenKind.{TokenKind}
 use Rattle.redlog_reader.specs.declared.token.TokenKind.TheVariants as token
+use Rattle.redlog_reader.specs.declared.token.ReadError.{ReadError}
+use Rattle.redlog_reader.specs.declared.token.ReadError.TheVariants as cause
 
 -- tab, line feed, carriage return and space
 abbrev pub is_blank : ℕ → Bool
@@ -114,3 +117,29 @@ pub data Lexes : List ℕ → ℕ → List Raw → Type 0 where
 -- the bytes from this place on spell these tokens
 abbrev pub LexesFrom : List ℕ → ℕ → List Raw → Type 0
 LexesFrom script from = Lexes (drop from script) from
+
+-- a token that is not bad, with its place
+abbrev pub raw_of : Token → Raw
+raw_of t = record { kind = Some t.kind; start = t.start; end = t.end }
+
+-- the bytes spell these tokens, of which none is bad
+abbrev pub SpellsTokens : List ℕ → List Token → Type 0
+SpellsTokens bytes tokens = Lexes bytes 0 (map raw_of tokens)
+
+-- some token that the bytes spell from this place on is bad
+pub record HasBadTokenFrom (bytes : List ℕ) (from : ℕ) : Type 0 where
+  pub tokens : List Raw
+  pub lexes : LexesFrom bytes from tokens
+  pub bad : Contains (map (λ t. t.kind) tokens) None
+
+-- some token that the bytes spell is bad
+abbrev pub HasBadToken : List ℕ → Type 0
+HasBadToken bytes = HasBadTokenFrom bytes 0
+
+-- the lexer ends in Lexical where this holds, or for want of memory
+abbrev pub RefusesTokens : ReadError → Type 0 → Type 0
+RefusesTokens cause.Lexical P = P
+RefusesTokens (cause.Memory e) P = Unit {0}
+RefusesTokens cause.Long P = ⊥
+RefusesTokens cause.Nesting P = ⊥
+RefusesTokens cause.Syntax P = ⊥

@@ -1,6 +1,6 @@
-ghost use Rattle.std.specs.Prelude.{◌≡◌, ℕ, ◌+◌, ◌-◌, ◌<◌, ◌≤◌, Bool, false, List, [], ◌∷◌, length, map, take, drop, bytes_eq, slice_index, IfOk, IfErr};
+ghost use Rattle.std.specs.Prelude.{◌≡◌, ℕ, ◌+◌, ◌-◌, ◌<◌, ◌≤◌, Bool, false, List, [], ◌∷◌, length, map, take, drop, bytes_eq, slice_index, IfOk, OnOk, IfErr, IfSome, IfNone, ◌++◌};
 ghost use Rattle.std.specs.List.{prefix_len, AllPass, list_any, list_all};
-ghost use Rattle.redlog_reader.specs.Lexing.{is_blank, is_digit, is_letter, is_name_part, is_in_line, is_space, literal_of, keywords, is_one_of, is_numbered, is_word, worded, signed, front, Lexeme, Raw, LexesFrom};
+ghost use Rattle.redlog_reader.specs.Lexing.{is_blank, is_digit, is_letter, is_name_part, is_in_line, is_space, literal_of, keywords, is_one_of, is_numbered, is_word, worded, signed, front, Lexeme, Raw, LexesFrom, SpellsTokens, HasBadToken, HasBadTokenFrom, raw_of, RefusesTokens};
 
 use crate::token::{ReadError, Token, TokenKind, Tokens};
 use qe_syntax::{Literal, Name};
@@ -33,19 +33,50 @@ pub struct Found {
 }
 
 /// The tokens of the bytes, in order. `Lexical` says that a token is bad.
-pub fn tokens(alloc: Global, bytes: &[u8]) -> Result<Tokens, ReadError> {
+pub fn tokens(alloc: Global, bytes: &[u8]) -> Result<Tokens, ReadError>
+    ensures spelled { IfOk result (λ tokens. SpellsTokens bytes.now tokens) }
+    ensures refused { IfErr result (λ e. RefusesTokens e (HasBadToken bytes.now)) }
+{
     let mut list = Vec::new(alloc);
     let mut start = skip(bytes, 0);
     while start < bytes.len() {
-        let Found { kind, more } = lexeme(&bytes[start..]);
-        let end = start + 1 + more;
-        let Some(kind) = kind else {
+        let Some(token) = token_at(bytes, start) else {
             return Err(ReadError::Lexical);
         };
-        list.push(Token { kind, start, end }).map_err(|_| ReadError::Memory(AllocError))?;
-        start = skip(bytes, end);
+        put(&mut list, token.kind, token.start, token.end)?;
+        start = skip(bytes, token.end);
     }
     Ok(Tokens::of(list))
+}
+
+/// The token that begins at `start`, or none where it is bad.
+fn token_at(bytes: &[u8], start: usize) -> Option<Token>
+    requires inside { start < length bytes.now }
+    requires solid { is_space (slice_index bytes.now start) ≡ false }
+    ensures start { IfSome result (λ t. t.start ≡ start) }
+    ensures later { IfSome result (λ t. start < t.end) }
+    ensures within { IfSome result (λ t. t.end ≤ length bytes.now) }
+    ensures good { IfSome result (λ t. (ts : List Raw) → LexesFrom bytes.now t.end ts → LexesFrom bytes.now start (raw_of t ∷ ts)) }
+    ensures bad { IfNone result (HasBadTokenFrom bytes.now start) }
+{
+    let lexeme = lexeme(&bytes[start..]);
+    let end = start + 1 + lexeme.more;
+    let kind = lexeme.kind;
+    match kind {
+        Some(kind) => Some(Token { kind, start, end }),
+        None => None,
+    }
+}
+
+/// Puts a token of this kind and place at the end of a list.
+fn put(list: &mut Vec<Token>, kind: TokenKind, start: usize, end: usize) -> Result<(), ReadError>
+    ensures put { OnOk result (list.new.items ≡ list.old.items ++ record { kind = kind; start = start; end = end } ∷ []) }
+    ensures refused { IfErr result (λ e. RefusesTokens e ⊥) }
+{
+    match list.push(Token { kind, start, end }) {
+        Ok(()) => Ok(()),
+        Err(_) => Err(ReadError::Memory(AllocError)),
+    }
 }
 
 /// The place of the first byte from `from` on that is in no blank and no comment.
