@@ -3,3 +3,5 @@ pub mod Lists
 pub mod Sums
 pub mod Shorter
 pub mod Formulas
+pub mod Proper
+pub mod Points
