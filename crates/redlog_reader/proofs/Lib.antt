@@ -5,3 +5,4 @@ pub mod Shorter
 pub mod Formulas
 pub mod Proper
 pub mod Points
+pub mod Statements

@@ -171,11 +171,16 @@ module _ {start now : List Terminal} {done : List PointEntry} (before : Progress
 
 -- points
 
+-- a list of entries begins with a name
+pub no_entries : {r s : List Terminal} {es : List PointEntry} → Listed (terminal.Mark mark.CloseBrace ∷ r) es s → ⊥
+no_entries (last_entry p) = elim p [ ]
+no_entries (more_entries p m) = elim p [ ]
+
 pub found_empty : {ts us rest : List Terminal} {es : List PointEntry} → ts ≡ terminal.Mark mark.OpenBrace ∷ us → us ≡ terminal.Mark mark.CloseBrace ∷ rest → es ≡ [] → SpellsPoint ts es rest
 found_empty {rest = rest} {es = es} at closed is = moved (λ v. SpellsPoint v es rest) (at ∙ ap (λ v. terminal.Mark mark.OpenBrace ∷ v) closed)
     (subst (λ fs. SpellsPoint (terminal.Mark mark.OpenBrace ∷ terminal.Mark mark.CloseBrace ∷ rest) fs rest) (sym is) empty)
 
-inside : {us r : List Terminal} {es : List PointEntry} → SpellsPoint (terminal.Mark mark.OpenBrace ∷ us) es r
+pub inside : {us r : List Terminal} {es : List PointEntry} → SpellsPoint (terminal.Mark mark.OpenBrace ∷ us) es r
     → ((rest : List Terminal) → us ≡ terminal.Mark mark.CloseBrace ∷ rest → ⊥) → Listed us es (terminal.Mark mark.CloseBrace ∷ r)
 inside {r = r} empty open_end = absurd (open_end r refl)
 inside (listed p) open_end = p

@@ -3,7 +3,8 @@ use Rattle.std.specs.Prelude.{◌≡◌, ℕ, zero, suc, ◌<◌, List, [], ◌�
 use Rattle.formula_meaning.specs.Formula.{Yes, No, Not}
 use Rattle.qe_syntax.specs.Proper.{IsNumeral}
 use Rattle.qe_syntax.specs.Trees.{FormulaTree}
-use Rattle.redlog_reader.specs.Grammar.{SpellsComparison}
+use Rattle.qe_syntax.specs.Statements.{StatementTree}
+use Rattle.redlog_reader.specs.Grammar.{SpellsComparison, SpellsStatement}
 use Rattle.redlog_reader.specs.declared.terminal.Terminal.{Terminal}
 use Rattle.redlog_reader.specs.declared.terminal.Terminal.TheVariants as terminal
 use Rattle.redlog_reader.specs.declared.terminal.Mark.TheVariants as mark
@@ -77,3 +78,7 @@ AreNumerals (terminal.Number n ∷ ts) = IsNumeral n × AreNumerals ts
 AreNumerals (terminal.Name x ∷ ts) = AreNumerals ts
 AreNumerals (terminal.Relation r ∷ ts) = AreNumerals ts
 AreNumerals (terminal.Mark m ∷ ts) = AreNumerals ts
+
+-- no statement is spelled
+pub record NoStatement (ts : List Terminal) : Type 0 where
+  pub none : (s : StatementTree) → SpellsStatement ts s → ⊥
