@@ -6,3 +6,4 @@ pub mod Formulas
 pub mod Proper
 pub mod Points
 pub mod Statements
+pub mod Lexemes

@@ -16,7 +16,7 @@ mod peek;
 #[cfg(test)]
 mod tests;
 
-pub use lexer::tokens;
+
 pub use piece::{Piece, next_piece};
-pub use read::read_statement;
+pub use read::{read_statement, tokens};
 pub use token::{ReadError, Token, TokenKind, Tokens};
