@@ -3,4 +3,8 @@ pub mod Lists
 pub mod Sums
 pub mod Shorter
 pub mod Formulas
-pub mod LexerLemmas
+pub mod Proper
+pub mod Points
+pub mod Statements
+pub mod Lexemes
+pub mod PieceLemmas

@@ -1,13 +1,13 @@
 -- What bytes spell as tokens: the longest token each time, with blanks and comments between tokens dropped.
-use Rattle.std.specs.Prelude.{◌≡◌, ℕ, ◌+◌, ◌-◌, ◌*◌, ◌^◌, Bool, not, ◌&&◌, ◌||◌, List, [], ◌∷◌, length, take, drop, codes, bytes_eq, nat_lt, nat_le, ◌==◌, if◌then◌else◌, Option, Some, None, pos, map, Contains}
+use Rattle.std.specs.Prelude.{◌≡◌, ℕ, ◌+◌, ◌-◌, ◌*◌, ◌^◌, Bool, not, ◌&&◌, ◌||◌, List, [], ◌∷◌, length, take, drop, codes, bytes_eq, nat_lt, nat_le, ◌==◌, if◌then◌else◌, Option, Some, None, pos}
 use Rattle.std.specs.List.{list_any, list_all, prefix_len}
 use Rattle.qe_syntax.specs.declared.tree.Literal.{Literal}
 use Rattle.qe_syntax.specs.declared.tree.Literal.TheVariants.{Fits, Past}
-use Rattle.redlog_reader.specs.declared.token.Token.{Token}
+use Rattle.redlog_reader.specs.declared.lexer.Front.{Front}
+use Rattle.redlog_reader.specs.declared.lexer.Front.TheVariants as found
+use Rattle.redlog_reader.specs.declared.lexer.Lexeme.{Lexeme}
 use Rattle.redlog_reader.specs.declared.token.TokenKind.{TokenKind}
 use Rattle.redlog_reader.specs.declared.token.TokenKind.TheVariants as token
-use Rattle.redlog_reader.specs.declared.token.ReadError.{ReadError}
-use Rattle.redlog_reader.specs.declared.token.ReadError.TheVariants as cause
 
 -- tab, line feed, carriage return and space
 abbrev pub is_blank : ℕ → Bool
@@ -15,10 +15,6 @@ is_blank b = (b == 9) || (b == 10) || (b == 13) || (b == 32)
 
 abbrev pub is_digit : ℕ → Bool
 is_digit b = nat_le 48 b && nat_le b 57
-
--- what begins no token: a blank, or the % of a comment
-abbrev pub is_space : ℕ → Bool
-is_space b = is_blank b || (b == 37)
 
 -- an ASCII letter
 abbrev pub is_letter : ℕ → Bool
@@ -42,7 +38,7 @@ unfoldable pub literal_of : List ℕ → Literal
 literal_of digits = if nat_lt (value_after 0 digits) (2 ^ 127) then Fits (pos (value_after 0 digits)) else Past
 
 -- the words, but for those with numbers
-unfoldable pub keywords : List (List ℕ)
+abbrev pub keywords : List (List ℕ)
 keywords =
     codes "true" ∷ codes "false" ∷ codes "not" ∷ codes "and" ∷ codes "or" ∷ codes "impl" ∷ codes "repl" ∷ codes "equiv"
     ∷ codes "ex" ∷ codes "all" ∷ codes "cong" ∷ codes "ncong" ∷ codes "neq"
@@ -72,13 +68,6 @@ is_numbered text beginning =
 unfoldable pub is_word : List ℕ → Bool
 is_word text = is_one_of text keywords || is_numbered text (codes "infinity") || is_numbered text (codes "epsilon")
 
--- what stands at the front of bytes, with how many bytes it has after the first
-pub data Front : Type 0 where
-  -- a blank or a comment
-  Space : ℕ → Front
-  -- a token, or a bad one
-  Lexeme : Option TokenKind → ℕ → Front
-
 -- a name or a word, which is bad where it has more than 64 bytes
 unfoldable pub worded : List ℕ → Option TokenKind
 worded text =
@@ -88,58 +77,36 @@ worded text =
 -- a sign, the longer one first; any other byte is bad
 unfoldable pub signed : List ℕ → Front
 signed bytes =
-    if is_one_of (take 2 bytes) long_signs then Lexeme (Some (token.Sign (take 2 bytes))) 1
-    else (if is_one_of (take 1 bytes) short_signs then Lexeme (Some (token.Sign (take 1 bytes))) 0
-    else Lexeme None 0)
+    if is_one_of (take 2 bytes) long_signs then found.Token (Some (token.Sign (take 2 bytes))) 2
+    else (if is_one_of (take 1 bytes) short_signs then found.Token (Some (token.Sign (take 1 bytes))) 1
+    else found.Token None 1)
 
--- what stands at the front of the bytes b ∷ bs
+-- what stands at the front of the bytes b ∷ bs, with the number of its bytes
 unfoldable pub front : ℕ → List ℕ → Front
 front b bs =
-    if is_blank b then Space 0
-    else (if b == 37 then Space (prefix_len is_in_line bs)
-    else (if is_digit b then Lexeme (Some (token.Number (literal_of (b ∷ take (prefix_len is_digit bs) bs)))) (prefix_len is_digit bs)
-    else (if is_letter b then Lexeme (worded (b ∷ take (prefix_len is_name_part bs) bs)) (prefix_len is_name_part bs)
+    if is_blank b then found.Space 1
+    else (if b == 37 then found.Space (1 + prefix_len is_in_line bs)
+    else (if is_digit b then found.Token (Some (token.Number (literal_of (take (1 + prefix_len is_digit bs) (b ∷ bs))))) (1 + prefix_len is_digit bs)
+    else (if is_letter b then found.Token (worded (take (1 + prefix_len is_name_part bs) (b ∷ bs))) (1 + prefix_len is_name_part bs)
     else signed (b ∷ bs))))
 
--- a token with its place, from start up to end; a bad one has no kind
-pub record Raw : Type 0 where
-  pub kind : Option TokenKind
-  pub start : ℕ
-  pub end : ℕ
+-- the number of bytes of what stands at the front
+abbrev pub size : Front → ℕ
+size (found.Space n) = n
+size (found.Token kind n) = n
 
--- the bytes, of which the first stands at this place, spell these tokens
-pub data Lexes : List ℕ → ℕ → List Raw → Type 0 where
+-- what stands at the front of the bytes, of which there is one
+abbrev pub IsFront : List ℕ → Front → Type 0
+IsFront [] f = ⊥
+IsFront (b ∷ bs) f = front b bs ≡ f
+
+-- the bytes, of which the first stands at this place, spell these tokens; a bad one has no kind
+pub data Lexes : List ℕ → ℕ → List Lexeme → Type 0 where
   over : {at : ℕ} → Lexes [] at []
-  spaced : {b : ℕ} {bs : List ℕ} {at n : ℕ} {ts : List Raw} → front b bs ≡ Space n → Lexes (drop n bs) (at + (1 + n)) ts → Lexes (b ∷ bs) at ts
-  taken : {b : ℕ} {bs : List ℕ} {at n : ℕ} {t : Raw} {ts : List Raw} → front b bs ≡ Lexeme t.kind n → t.start ≡ at → t.end ≡ at + (1 + n)
-      → Lexes (drop n bs) (at + (1 + n)) ts → Lexes (b ∷ bs) at (t ∷ ts)
+  spaced : {b : ℕ} {bs : List ℕ} {at n : ℕ} {ts : List Lexeme} → front b bs ≡ found.Space n → Lexes (drop n (b ∷ bs)) (at + n) ts → Lexes (b ∷ bs) at ts
+  taken : {b : ℕ} {bs : List ℕ} {at n : ℕ} {t : Lexeme} {ts : List Lexeme} → front b bs ≡ found.Token t.kind n → t.start ≡ at → t.end ≡ at + n
+      → Lexes (drop n (b ∷ bs)) (at + n) ts → Lexes (b ∷ bs) at (t ∷ ts)
 
 -- the bytes from this place on spell these tokens
-abbrev pub LexesFrom : List ℕ → ℕ → List Raw → Type 0
+abbrev pub LexesFrom : List ℕ → ℕ → List Lexeme → Type 0
 LexesFrom script from = Lexes (drop from script) from
-
--- a token that is not bad, with its place
-abbrev pub raw_of : Token → Raw
-raw_of t = record { kind = Some t.kind; start = t.start; end = t.end }
-
--- the bytes spell these tokens, of which none is bad
-abbrev pub SpellsTokens : List ℕ → List Token → Type 0
-SpellsTokens bytes tokens = Lexes bytes 0 (map raw_of tokens)
-
--- some token that the bytes spell from this place on is bad
-pub record HasBadTokenFrom (bytes : List ℕ) (from : ℕ) : Type 0 where
-  pub tokens : List Raw
-  pub lexes : LexesFrom bytes from tokens
-  pub bad : Contains (map (λ t. t.kind) tokens) None
-
--- some token that the bytes spell is bad
-abbrev pub HasBadToken : List ℕ → Type 0
-HasBadToken bytes = HasBadTokenFrom bytes 0
-
--- the lexer ends in Lexical where this holds, or for want of memory
-abbrev pub RefusesTokens : ReadError → Type 0 → Type 0
-RefusesTokens cause.Lexical P = P
-RefusesTokens (cause.Memory e) P = Unit {0}
-RefusesTokens cause.Long P = ⊥
-RefusesTokens cause.Nesting P = ⊥
-RefusesTokens cause.Syntax P = ⊥

@@ -1,8 +1,10 @@
 -- What the readers of the parts of a statement promise each other.
 use Rattle.std.specs.Prelude.{◌≡◌, ℕ, zero, suc, ◌<◌, List, [], ◌∷◌}
 use Rattle.formula_meaning.specs.Formula.{Yes, No, Not}
+use Rattle.qe_syntax.specs.Proper.{IsNumeral}
 use Rattle.qe_syntax.specs.Trees.{FormulaTree}
-use Rattle.redlog_reader.specs.Grammar.{SpellsComparison}
+use Rattle.qe_syntax.specs.Statements.{StatementTree}
+use Rattle.redlog_reader.specs.Grammar.{SpellsComparison, SpellsStatement}
 use Rattle.redlog_reader.specs.declared.terminal.Terminal.{Terminal}
 use Rattle.redlog_reader.specs.declared.terminal.Terminal.TheVariants as terminal
 use Rattle.redlog_reader.specs.declared.terminal.Mark.TheVariants as mark
@@ -64,3 +66,19 @@ pub data SpellsOperand : List Terminal → FormulaTree → List Terminal → Typ
   compared : {ts rest : List Terminal} {f : FormulaTree} → SpellsComparison ts f rest → SpellsOperand ts f rest
   truth : {rest : List Terminal} → SpellsOperand (terminal.Mark mark.True ∷ rest) Yes rest
   falsity : {rest : List Terminal} → SpellsOperand (terminal.Mark mark.False ∷ rest) No rest
+
+-- anything may follow
+abbrev pub Anything : List Terminal → Type 0
+Anything ts = Unit {0}
+
+-- each number is a numeral
+abbrev pub AreNumerals : List Terminal → Type 0
+AreNumerals [] = Unit {0}
+AreNumerals (terminal.Number n ∷ ts) = IsNumeral n × AreNumerals ts
+AreNumerals (terminal.Name x ∷ ts) = AreNumerals ts
+AreNumerals (terminal.Relation r ∷ ts) = AreNumerals ts
+AreNumerals (terminal.Mark m ∷ ts) = AreNumerals ts
+
+-- no statement is spelled
+pub record NoStatement (ts : List Terminal) : Type 0 where
+  pub none : (s : StatementTree) → SpellsStatement ts s → ⊥

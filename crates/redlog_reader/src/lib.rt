@@ -6,6 +6,7 @@ mod level;
 mod lexer;
 mod piece;
 mod point;
+mod read;
 mod statement;
 mod sum;
 mod terminal;
@@ -15,7 +16,7 @@ mod peek;
 #[cfg(test)]
 mod tests;
 
-pub use lexer::tokens;
+
 pub use piece::{Piece, next_piece};
-pub use statement::read_statement;
+pub use read::{read_statement, tokens};
 pub use token::{ReadError, Token, TokenKind, Tokens};

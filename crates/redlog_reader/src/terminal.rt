@@ -134,7 +134,7 @@ fn sign_terminal(sign: &[u8]) -> Terminal
 }
 
 /// Whether the text is this word or sign.
-fn is(text: &[u8], word: &str) -> bool
+pub fn is(text: &[u8], word: &str) -> bool
     ensures { result ≡ bytes_eq text.now word.now }
 {
     text == word.as_bytes()
