@@ -7,3 +7,4 @@ pub mod Proper
 pub mod Points
 pub mod Statements
 pub mod Lexemes
+pub mod Counts
