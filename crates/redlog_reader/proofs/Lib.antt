@@ -8,3 +8,4 @@ pub mod Points
 pub mod Statements
 pub mod Lexemes
 pub mod PieceLemmas
+pub mod Counts

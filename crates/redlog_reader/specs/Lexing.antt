@@ -1,11 +1,14 @@
 -- What bytes spell as tokens: the longest token each time, with blanks and comments between tokens dropped.
-use Rattle.std.specs.Prelude.{◌≡◌, ℕ, ◌+◌, ◌-◌, ◌*◌, ◌^◌, Bool, not, ◌&&◌, ◌||◌, List, [], ◌∷◌, length, take, drop, codes, bytes_eq, nat_lt, nat_le, ◌==◌, if◌then◌else◌, Option, Some, None, pos}
+use Rattle.std.specs.Prelude.{◌≡◌, ℕ, ◌+◌, ◌-◌, ◌*◌, ◌^◌, Bool, not, ◌&&◌, ◌||◌, List, [], ◌∷◌, length, map, ◌⊎◌, take, drop, codes, bytes_eq, nat_lt, nat_le, ◌==◌, if◌then◌else◌, Option, Some, None, pos}
 use Rattle.std.specs.List.{list_any, list_all, prefix_len}
 use Rattle.qe_syntax.specs.declared.tree.Literal.{Literal}
 use Rattle.qe_syntax.specs.declared.tree.Literal.TheVariants.{Fits, Past}
 use Rattle.redlog_reader.specs.declared.lexer.Front.{Front}
 use Rattle.redlog_reader.specs.declared.lexer.Front.TheVariants as found
 use Rattle.redlog_reader.specs.declared.lexer.Lexeme.{Lexeme}
+use Rattle.redlog_reader.specs.declared.token.Token.{Token}
+use Rattle.redlog_reader.specs.declared.token.ReadError.{ReadError}
+use Rattle.redlog_reader.specs.declared.token.ReadError.TheVariants as cause
 use Rattle.redlog_reader.specs.declared.token.TokenKind.{TokenKind}
 use Rattle.redlog_reader.specs.declared.token.TokenKind.TheVariants as token
 
@@ -110,3 +113,30 @@ pub data Lexes : List ℕ → ℕ → List Lexeme → Type 0 where
 -- the bytes from this place on spell these tokens
 abbrev pub LexesFrom : List ℕ → ℕ → List Lexeme → Type 0
 LexesFrom script from = Lexes (drop from script) from
+
+-- a good token with its place
+abbrev pub lexeme_of : Token → Lexeme
+lexeme_of t = record { kind = Some t.kind; start = t.start; end = t.end }
+
+-- the bytes spell these tokens, and none is bad
+abbrev pub AreTokens : List ℕ → List Token → Type 0
+AreTokens bytes ts = Lexes bytes 0 (map lexeme_of ts)
+
+-- some token is bad
+abbrev pub SomeBad : List Lexeme → Type 0
+SomeBad [] = ⊥
+SomeBad (t ∷ ts) = (t.kind ≡ None) ⊎ SomeBad ts
+
+-- among the tokens that the bytes spell, some are bad
+pub record IsLexical (bytes : List ℕ) : Type 0 where
+  pub lexemes : List Lexeme
+  pub lexes : Lexes bytes 0 lexemes
+  pub bad : SomeBad lexemes
+
+-- the reading of tokens ends in Lexical where this holds, or for want of memory
+abbrev pub LexicalWhere : ReadError → Type 0 → Type 0
+LexicalWhere cause.Lexical P = P
+LexicalWhere (cause.Memory e) P = Unit {0}
+LexicalWhere cause.Long P = ⊥
+LexicalWhere cause.Nesting P = ⊥
+LexicalWhere cause.Syntax P = ⊥

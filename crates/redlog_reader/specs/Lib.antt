@@ -5,3 +5,4 @@ pub mod Levels
 pub mod Grammar
 pub mod Statement
 pub mod Reading
+pub mod Counting
