@@ -62,3 +62,11 @@ one_piece {script} {offset = offset} p q =
 
 pub one_offset_of_more : {script : List ℕ} {offset offset' : ℕ} → HasMorePieces script offset → HasMorePieces script offset' → offset ≡ offset'
 one_offset_of_more p q = one_start p.first q.first
+
+-- a first piece with no token after it
+pub only_piece : {script : List ℕ} {start end : ℕ} → IsPiece script 0 start end → HasNoTokenFrom script end → IsOnlyPiece script start (take (end - start) (drop start script))
+only_piece {end = end} p none = record { end = end; first = p; bytes = refl; no_more = none }
+
+-- a first piece with another after it
+pub more_pieces : {script : List ℕ} {start end next_start next_end : ℕ} → IsPiece script 0 start end → IsPiece script end next_start next_end → HasMorePieces script start
+more_pieces {end = end} {next_start = s} {next_end = e} p q = record { end = end; first = p; next_start = s; next_end = e; more = q }
