@@ -10,7 +10,7 @@ pub tokens-preserved : goal.tokens-preserved
 tokens-preserved c = record {
   later = omega (arith, c.in-Some.ensures.0, c.in-Some.ensures.1);
   within = c.in-Some.ensures.2;
-  on = λ end later. c.tokens.invariant.on end (ends_from _ _ _ _ (piece_later c.args.bytes.now c.tokens.at c.in-Some.lexeme c.in-Some.ensures.3 end (sym c.is_end.ensures ∙ c.if-is_end.false) later))
+  on = λ end later. c.tokens.invariant.on end (ends_from _ _ _ _ (piece_later c.args.bytes.now c.tokens.at c.in-Some.lexeme c.in-Some.ensures.3 end (sym c.is_end.ensures ∙ c.if-is_end.false) later));
 }
 
 pub returns-clause-end : goal.returns-clause-end

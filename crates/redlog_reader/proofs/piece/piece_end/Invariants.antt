@@ -6,7 +6,7 @@ abbrev pub invariant-tokens : goal.invariant-tokens
 invariant-tokens l = record {
   later : l.fn.from ≤ l.at;
   within : l.at ≤ length l.bytes;
-  on : (end : ℕ) → EndsFrom l.bytes l.at end → EndsFrom l.bytes l.fn.from end
+  on : (end : ℕ) → EndsFrom l.bytes l.at end → EndsFrom l.bytes l.fn.from end;
 }
 
 abbrev pub decreases-tokens : goal.decreases-tokens
