@@ -8,3 +8,5 @@ pub mod Points
 pub mod Statements
 pub mod Lexemes
 pub mod Counts
+pub mod Lexed
+pub mod Whole
