@@ -9,3 +9,5 @@ pub mod Statements
 pub mod Lexemes
 pub mod PieceLemmas
 pub mod Counts
+pub mod Lexed
+pub mod Whole

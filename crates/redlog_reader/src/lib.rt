@@ -18,5 +18,5 @@ mod tests;
 
 
 pub use piece::{Piece, next_piece};
-pub use read::{read_statement, tokens};
+pub use read::{one_statement, read_statement, tokens};
 pub use token::{ReadError, Token, TokenKind, Tokens};
