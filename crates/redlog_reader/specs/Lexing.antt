@@ -1,8 +1,14 @@
 -- What bytes spell as tokens: the longest token each time, with blanks and comments between tokens dropped.
-use Rattle.std.specs.Prelude.{◌≡◌, ℕ, ◌+◌, ◌-◌, ◌*◌, ◌^◌, Bool, not, ◌&&◌, ◌||◌, List, [], ◌∷◌, length, take, drop, codes, bytes_eq, nat_lt, nat_le, ◌==◌, if◌then◌else◌, Option, Some, None, pos}
+use Rattle.std.specs.Prelude.{◌≡◌, ℕ, ◌+◌, ◌-◌, ◌*◌, ◌^◌, Bool, not, ◌&&◌, ◌||◌, List, [], ◌∷◌, length, map, ◌⊎◌, take, drop, codes, bytes_eq, nat_lt, nat_le, ◌==◌, if◌then◌else◌, Option, Some, None, pos}
 use Rattle.std.specs.List.{list_any, list_all, prefix_len}
 use Rattle.qe_syntax.specs.declared.tree.Literal.{Literal}
 use Rattle.qe_syntax.specs.declared.tree.Literal.TheVariants.{Fits, Past}
+use Rattle.redlog_reader.specs.declared.lexer.Front.{Front}
+use Rattle.redlog_reader.specs.declared.lexer.Front.TheVariants as found
+use Rattle.redlog_reader.specs.declared.lexer.Lexeme.{Lexeme}
+use Rattle.redlog_reader.specs.declared.token.Token.{Token}
+use Rattle.redlog_reader.specs.declared.token.ReadError.{ReadError}
+use Rattle.redlog_reader.specs.declared.token.ReadError.TheVariants as cause
 use Rattle.redlog_reader.specs.declared.token.TokenKind.{TokenKind}
 use Rattle.redlog_reader.specs.declared.token.TokenKind.TheVariants as token
 
@@ -65,13 +71,6 @@ is_numbered text beginning =
 unfoldable pub is_word : List ℕ → Bool
 is_word text = is_one_of text keywords || is_numbered text (codes "infinity") || is_numbered text (codes "epsilon")
 
--- what stands at the front of bytes, with how many bytes it has after the first
-pub data Front : Type 0 where
-  -- a blank or a comment
-  Space : ℕ → Front
-  -- a token, or a bad one
-  Token : Option TokenKind → ℕ → Front
-
 -- a name or a word, which is bad where it has more than 64 bytes
 unfoldable pub worded : List ℕ → Option TokenKind
 worded text =
@@ -81,28 +80,63 @@ worded text =
 -- a sign, the longer one first; any other byte is bad
 unfoldable pub signed : List ℕ → Front
 signed bytes =
-    if is_one_of (take 2 bytes) long_signs then Token (Some (token.Sign (take 2 bytes))) 1
-    else (if is_one_of (take 1 bytes) short_signs then Token (Some (token.Sign (take 1 bytes))) 0
-    else Token None 0)
+    if is_one_of (take 2 bytes) long_signs then found.Token (Some (token.Sign (take 2 bytes))) 2
+    else (if is_one_of (take 1 bytes) short_signs then found.Token (Some (token.Sign (take 1 bytes))) 1
+    else found.Token None 1)
 
--- what stands at the front of the bytes b ∷ bs
+-- what stands at the front of the bytes b ∷ bs, with the number of its bytes
 unfoldable pub front : ℕ → List ℕ → Front
 front b bs =
-    if is_blank b then Space 0
-    else (if b == 37 then Space (prefix_len is_in_line bs)
-    else (if is_digit b then Token (Some (token.Number (literal_of (b ∷ take (prefix_len is_digit bs) bs)))) (prefix_len is_digit bs)
-    else (if is_letter b then Token (worded (b ∷ take (prefix_len is_name_part bs) bs)) (prefix_len is_name_part bs)
+    if is_blank b then found.Space 1
+    else (if b == 37 then found.Space (1 + prefix_len is_in_line bs)
+    else (if is_digit b then found.Token (Some (token.Number (literal_of (take (1 + prefix_len is_digit bs) (b ∷ bs))))) (1 + prefix_len is_digit bs)
+    else (if is_letter b then found.Token (worded (take (1 + prefix_len is_name_part bs) (b ∷ bs))) (1 + prefix_len is_name_part bs)
     else signed (b ∷ bs))))
 
--- a token with its place, from start up to end; a bad one has no kind
-pub record Raw : Type 0 where
-  pub kind : Option TokenKind
-  pub start : ℕ
-  pub end : ℕ
+-- the number of bytes of what stands at the front
+abbrev pub size : Front → ℕ
+size (found.Space n) = n
+size (found.Token kind n) = n
 
--- the bytes, of which the first stands at this place, spell these tokens
-pub data Lexes : List ℕ → ℕ → List Raw → Type 0 where
+-- what stands at the front of the bytes, of which there is one
+abbrev pub IsFront : List ℕ → Front → Type 0
+IsFront [] f = ⊥
+IsFront (b ∷ bs) f = front b bs ≡ f
+
+-- the bytes, of which the first stands at this place, spell these tokens; a bad one has no kind
+pub data Lexes : List ℕ → ℕ → List Lexeme → Type 0 where
   over : {at : ℕ} → Lexes [] at []
-  spaced : {b : ℕ} {bs : List ℕ} {at n : ℕ} {ts : List Raw} → front b bs ≡ Space n → Lexes (drop n bs) (at + (1 + n)) ts → Lexes (b ∷ bs) at ts
-  taken : {b : ℕ} {bs : List ℕ} {at n : ℕ} {t : Raw} {ts : List Raw} → front b bs ≡ Token t.kind n → t.start ≡ at → t.end ≡ at + (1 + n)
-      → Lexes (drop n bs) (at + (1 + n)) ts → Lexes (b ∷ bs) at (t ∷ ts)
+  spaced : {b : ℕ} {bs : List ℕ} {at n : ℕ} {ts : List Lexeme} → front b bs ≡ found.Space n → Lexes (drop n (b ∷ bs)) (at + n) ts → Lexes (b ∷ bs) at ts
+  taken : {b : ℕ} {bs : List ℕ} {at n : ℕ} {t : Lexeme} {ts : List Lexeme} → front b bs ≡ found.Token t.kind n → t.start ≡ at → t.end ≡ at + n
+      → Lexes (drop n (b ∷ bs)) (at + n) ts → Lexes (b ∷ bs) at (t ∷ ts)
+
+-- the bytes from this place on spell these tokens
+abbrev pub LexesFrom : List ℕ → ℕ → List Lexeme → Type 0
+LexesFrom script from = Lexes (drop from script) from
+
+-- a good token with its place
+abbrev pub lexeme_of : Token → Lexeme
+lexeme_of t = record { kind = Some t.kind; start = t.start; end = t.end }
+
+-- the bytes spell these tokens, and none is bad
+abbrev pub AreTokens : List ℕ → List Token → Type 0
+AreTokens bytes ts = Lexes bytes 0 (map lexeme_of ts)
+
+-- some token is bad
+abbrev pub SomeBad : List Lexeme → Type 0
+SomeBad [] = ⊥
+SomeBad (t ∷ ts) = (t.kind ≡ None) ⊎ SomeBad ts
+
+-- among the tokens that the bytes spell, some are bad
+pub record IsLexical (bytes : List ℕ) : Type 0 where
+  pub lexemes : List Lexeme
+  pub lexes : Lexes bytes 0 lexemes
+  pub bad : SomeBad lexemes
+
+-- the reading of tokens ends in Lexical where this holds, or for want of memory
+abbrev pub LexicalWhere : ReadError → Type 0 → Type 0
+LexicalWhere cause.Lexical P = P
+LexicalWhere (cause.Memory e) P = Unit {0}
+LexicalWhere cause.Long P = ⊥
+LexicalWhere cause.Nesting P = ⊥
+LexicalWhere cause.Syntax P = ⊥

@@ -4,3 +4,5 @@ pub mod Pieces
 pub mod Levels
 pub mod Grammar
 pub mod Statement
+pub mod Reading
+pub mod Counting

@@ -1,8 +1,9 @@
 -- How a script is cut into pieces: after each token ; or $.
 use Rattle.std.specs.Prelude.{◌≡◌, ℕ, ◌+◌, ◌-◌, Bool, true, false, ◌||◌, List, [], ◌∷◌, length, take, drop, codes, bytes_eq, IsTrue, Option, Some, None}
+use Rattle.redlog_reader.specs.declared.lexer.Lexeme.{Lexeme}
 use Rattle.redlog_reader.specs.declared.token.TokenKind.{TokenKind}
 use Rattle.redlog_reader.specs.declared.token.TokenKind.TheVariants as token
-use Rattle.redlog_reader.specs.Lexing.{Raw, Lexes}
+use Rattle.redlog_reader.specs.Lexing.{LexesFrom}
 
 -- the token ends a piece
 abbrev pub is_end : Option TokenKind → Bool
@@ -12,15 +13,18 @@ is_end (Some (token.Name x)) = false
 is_end (Some (token.Word w)) = false
 is_end None = false
 
--- the bytes from this place on spell these tokens
-abbrev pub LexesFrom : List ℕ → ℕ → List Raw → Type 0
-LexesFrom script from = Lexes (drop from script) from
-
 -- a piece of these tokens ends at this place, and these tokens come after it; the script has this length
-pub data Cuts : ℕ → List Raw → ℕ → List Raw → Type 0 where
+pub data Cuts : ℕ → List Lexeme → ℕ → List Lexeme → Type 0 where
   last : {total : ℕ} → Cuts total [] total []
-  marked : {total : ℕ} {t : Raw} {ts : List Raw} → is_end t.kind ≡ true → Cuts total (t ∷ ts) t.end ts
-  inside : {total end : ℕ} {t : Raw} {ts rest : List Raw} → is_end t.kind ≡ false → Cuts total ts end rest → Cuts total (t ∷ ts) end rest
+  marked : {total : ℕ} {t : Lexeme} {ts : List Lexeme} → is_end t.kind ≡ true → Cuts total (t ∷ ts) t.end ts
+  inside : {total end : ℕ} {t : Lexeme} {ts rest : List Lexeme} → is_end t.kind ≡ false → Cuts total ts end rest → Cuts total (t ∷ ts) end rest
+
+-- a piece that goes on at this place, or begins there or later, ends at end
+pub record EndsFrom (script : List ℕ) (from end : ℕ) : Type 0 where
+  pub tokens : List Lexeme
+  pub rest : List Lexeme
+  pub lexes : LexesFrom script from tokens
+  pub cut : Cuts (length script) tokens end rest
 
 -- no token stands from this place on
 abbrev pub HasNoTokenFrom : List ℕ → ℕ → Type 0
@@ -28,9 +32,9 @@ HasNoTokenFrom script from = LexesFrom script from []
 
 -- the first token from this place on stands at start, and its piece ends at end
 pub record IsPiece (script : List ℕ) (from start end : ℕ) : Type 0 where
-  pub first : Raw
-  pub others : List Raw
-  pub rest : List Raw
+  pub first : Lexeme
+  pub others : List Lexeme
+  pub rest : List Lexeme
   pub tokens : LexesFrom script from (first ∷ others)
   pub begins : first.start ≡ start
   pub cut : Cuts (length script) (first ∷ others) end rest

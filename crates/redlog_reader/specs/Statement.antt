@@ -1,9 +1,10 @@
 -- What the bytes of a piece spell.
 use Rattle.std.specs.Prelude.{◌≡◌, ℕ, ◌≤◌, List, [], map, length, Some}
 use Rattle.qe_syntax.specs.Statements.{StatementTree}
+use Rattle.redlog_reader.specs.declared.lexer.Lexeme.{Lexeme}
 use Rattle.redlog_reader.specs.declared.token.TokenKind.{TokenKind}
 use Rattle.redlog_reader.specs.Terminals.{terminal_of}
-use Rattle.redlog_reader.specs.Lexing.{Raw, Lexes}
+use Rattle.redlog_reader.specs.Lexing.{Lexes}
 use Rattle.redlog_reader.specs.Levels.{Passes}
 use Rattle.redlog_reader.specs.Grammar.{SpellsStatement}
 
@@ -17,10 +18,10 @@ level_limit = 512
 
 -- the bytes are within the limit, no token is bad, no level passes 512, and the tokens spell the statement
 pub record Spells (bytes : List ℕ) (tree : StatementTree) : Type 0 where
-  pub raws : List Raw
+  pub lexemes : List Lexeme
   pub kinds : List TokenKind
   pub short : length bytes ≤ byte_limit
-  pub lexes : Lexes bytes 0 raws
-  pub good : map (λ t. t.kind) raws ≡ map Some kinds
+  pub lexes : Lexes bytes 0 lexemes
+  pub good : map (λ t. t.kind) lexemes ≡ map Some kinds
   pub shallow : ¬ Passes level_limit [] (map terminal_of kinds)
   pub spelled : SpellsStatement (map terminal_of kinds) tree

@@ -10,26 +10,30 @@ pub enum Terminal {
     Number(Literal),
     Name(Name),
     Relation(Relation),
+    Mark(Mark),
+}
+
+/// A sign or a word that stands for itself. `Arrow` is `impl`, `repl` or `equiv`, and `Binder` is `ex` or `all`.
+#[derive(Clone, Copy, Debug, PartialEq, Eq)]
+pub enum Mark {
     Plus,
     Minus,
     Times,
     Slash,
-    // `^` or `**`.
     Power,
     Open,
     Close,
     OpenBrace,
     CloseBrace,
     Comma,
-    End(bool),
+    Semicolon,
+    Dollar,
     True,
     False,
     Not,
     And,
     Or,
-    // `impl`, `repl` or `equiv`.
     Arrow,
-    // `ex` or `all`.
     Binder,
     Holds,
     Other,
@@ -53,31 +57,31 @@ fn word_terminal(word: &[u8]) -> Terminal
     ensures { result ≡ word_of word.now }
 {
     if is(word, "true") {
-        Terminal::True
+        Terminal::Mark(Mark::True)
     } else if is(word, "false") {
-        Terminal::False
+        Terminal::Mark(Mark::False)
     } else if is(word, "not") {
-        Terminal::Not
+        Terminal::Mark(Mark::Not)
     } else if is(word, "and") {
-        Terminal::And
+        Terminal::Mark(Mark::And)
     } else if is(word, "or") {
-        Terminal::Or
+        Terminal::Mark(Mark::Or)
     } else if is(word, "impl") {
-        Terminal::Arrow
+        Terminal::Mark(Mark::Arrow)
     } else if is(word, "repl") {
-        Terminal::Arrow
+        Terminal::Mark(Mark::Arrow)
     } else if is(word, "equiv") {
-        Terminal::Arrow
+        Terminal::Mark(Mark::Arrow)
     } else if is(word, "ex") {
-        Terminal::Binder
+        Terminal::Mark(Mark::Binder)
     } else if is(word, "all") {
-        Terminal::Binder
+        Terminal::Mark(Mark::Binder)
     } else if is(word, "neq") {
         Terminal::Relation(Relation::Differs)
     } else if is(word, "rlholds") {
-        Terminal::Holds
+        Terminal::Mark(Mark::Holds)
     } else {
-        Terminal::Other
+        Terminal::Mark(Mark::Other)
     }
 }
 
@@ -87,31 +91,31 @@ fn sign_terminal(sign: &[u8]) -> Terminal
     ensures { result ≡ sign_of sign.now }
 {
     if is(sign, "+") {
-        Terminal::Plus
+        Terminal::Mark(Mark::Plus)
     } else if is(sign, "-") {
-        Terminal::Minus
+        Terminal::Mark(Mark::Minus)
     } else if is(sign, "*") {
-        Terminal::Times
+        Terminal::Mark(Mark::Times)
     } else if is(sign, "/") {
-        Terminal::Slash
+        Terminal::Mark(Mark::Slash)
     } else if is(sign, "^") {
-        Terminal::Power
+        Terminal::Mark(Mark::Power)
     } else if is(sign, "**") {
-        Terminal::Power
+        Terminal::Mark(Mark::Power)
     } else if is(sign, "(") {
-        Terminal::Open
+        Terminal::Mark(Mark::Open)
     } else if is(sign, ")") {
-        Terminal::Close
+        Terminal::Mark(Mark::Close)
     } else if is(sign, "{") {
-        Terminal::OpenBrace
+        Terminal::Mark(Mark::OpenBrace)
     } else if is(sign, "}") {
-        Terminal::CloseBrace
+        Terminal::Mark(Mark::CloseBrace)
     } else if is(sign, ",") {
-        Terminal::Comma
+        Terminal::Mark(Mark::Comma)
     } else if is(sign, ";") {
-        Terminal::End(true)
+        Terminal::Mark(Mark::Semicolon)
     } else if is(sign, "$") {
-        Terminal::End(false)
+        Terminal::Mark(Mark::Dollar)
     } else if is(sign, "=") {
         Terminal::Relation(Relation::Equal)
     } else if is(sign, "<>") {
@@ -125,12 +129,12 @@ fn sign_terminal(sign: &[u8]) -> Terminal
     } else if is(sign, ">=") {
         Terminal::Relation(Relation::AtLeast)
     } else {
-        Terminal::Other
+        Terminal::Mark(Mark::Other)
     }
 }
 
 /// Whether the text is this word or sign.
-fn is(text: &[u8], word: &str) -> bool
+pub fn is(text: &[u8], word: &str) -> bool
     ensures { result ≡ bytes_eq text.now word.now }
 {
     text == word.as_bytes()

@@ -1,4 +1,5 @@
-ghost use Rattle.std.specs.Prelude.{◌≡◌};
+ghost use Rattle.std.specs.Prelude.{◌≡◌, [], ◌∷◌, ◌++◌, OnOk, IfErr};
+ghost use Rattle.redlog_reader.specs.Reading.{Refuses};
 
 use qe_syntax::{Literal, Name};
 use std::alloc::AllocError;
@@ -66,4 +67,12 @@ impl Tokens {
     {
         &self.list
     }
+}
+
+/// Puts an item at the end of a list.
+pub fn put<T: Drop>(list: &mut Vec<T>, item: T) -> Result<(), ReadError>
+    ensures put { OnOk result (list.new.items ≡ list.old.items ++ item ∷ []) }
+    ensures refused { IfErr result (λ e. Refuses e ⊥) }
+{
+    list.push(item).map_err(|_| ReadError::Memory(AllocError))
 }

@@ -1,0 +1,7 @@
+use Rattle.std.proofs.Common.{◌≡◌, ℕ, List, map, drop}
+use Rattle.std.specs.Prelude.{bytes_eq}
+use Rattle.redlog_reader.specs.Lexing.{is_one_of}
+use Rattle.redlog_reader.proofs.lexer.is_one_of.Given as goal
+
+abbrev pub invariant-words : goal.invariant-words
+invariant-words l = is_one_of l.text (map (λ w. w.now) l.words) ≡ is_one_of l.text (map (λ w. w.now) (drop l.word-index l.words))

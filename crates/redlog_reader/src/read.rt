@@ -1,0 +1,64 @@
+ghost use Rattle.std.specs.Prelude.{◌≡◌, ℕ, List, [], ◌∷◌, IfOk, IfErr};
+ghost use Rattle.qe_syntax.specs.Proper.{IsProper};
+ghost use Rattle.qe_syntax.specs.Statements.{StatementTree, statement_tree};
+ghost use Rattle.redlog_reader.specs.Lexing.{AreTokens, IsLexical, LexicalWhere};
+ghost use Rattle.redlog_reader.specs.Reading.{Refuses};
+ghost use Rattle.redlog_reader.specs.Statement.{Spells};
+
+use crate::level::is_deep;
+use crate::lexer::next_lexeme;
+use crate::statement::statement;
+use crate::token::{ReadError, Token, Tokens, put};
+use qe_syntax::Statement;
+use std::alloc::Global;
+
+/// A piece is at most so long, in bytes.
+const BYTE_LIMIT: usize = 1_048_576;
+
+/// The tokens of the bytes, in order. `Lexical` says that a token is bad.
+pub fn tokens(alloc: Global, bytes: &[u8]) -> Result<Tokens, ReadError>
+    ensures tokens { IfOk result (λ ts. AreTokens bytes.now ts) }
+    ensures lexical { IfErr result (λ e. LexicalWhere e (IsLexical bytes.now)) }
+{
+    let mut list = Vec::new(alloc);
+    let mut from = 0;
+    'tokens: while let Some(lexeme) = next_lexeme(bytes, from) {
+        let start = lexeme.start;
+        let end = lexeme.end;
+        let Some(kind) = lexeme.kind else {
+            return Err(ReadError::Lexical);
+        };
+        put(&mut list, Token { kind, start, end })?;
+        from = end;
+    }
+    Ok(Tokens::of(list))
+}
+
+/// The statement that the bytes of one piece spell, with its end mark. What is past 1 MiB, has a bad token or a token
+/// whose level passes 512, or spells no statement is answered `Syntax`.
+pub fn read_statement(alloc: Global, bytes: &[u8]) -> Result<Statement, ReadError>
+    ensures spelled { IfOk result (λ s. Spells bytes.now (statement_tree s)) }
+    ensures proper { IfOk result (λ s. IsProper (statement_tree s)) }
+    ensures refused { IfErr result (λ e. Refuses e ((tree : StatementTree) → Spells bytes.now tree → ⊥)) }
+{
+    if bytes.len() > BYTE_LIMIT {
+        return Err(ReadError::Syntax);
+    }
+    let tokens = match tokens(alloc, bytes) {
+        Ok(tokens) => tokens,
+        Err(ReadError::Lexical) => return Err(ReadError::Syntax),
+        Err(error) => return Err(error),
+    };
+    let deep = is_deep(alloc, tokens.items())?;
+    if deep {
+        return Err(ReadError::Syntax);
+    }
+    let statement = statement(alloc, tokens.items())?;
+    Ok(statement)
+}
+
+/// No bytes spell two statements.
+pub fn one_statement()
+    ensures { (bytes : List ℕ) (s t : StatementTree) → Spells bytes s → Spells bytes t → s ≡ t }
+{
+}
