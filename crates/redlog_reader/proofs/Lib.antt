@@ -10,3 +10,4 @@ pub mod Lexemes
 pub mod Counts
 pub mod Lexed
 pub mod Whole
+pub mod Cutting
