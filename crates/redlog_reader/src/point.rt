@@ -1,4 +1,4 @@
-ghost use Rattle.std.specs.Prelude.{◌≡◌, List, [], ◌∷◌, ◌++◌, IfOk, OnOk, IfErr, MatchOption};
+ghost use Rattle.std.specs.Prelude.{◌≡◌, List, ◌∷◌, IfOk, IfErr, MatchOption};
 ghost use Rattle.std.specs.Bool.{MatchBool};
 ghost use Rattle.qe_syntax.specs.Proper.{IsNumeral};
 ghost use Rattle.qe_syntax.specs.declared.tree.Literal.{Literal};
@@ -9,9 +9,9 @@ ghost use Rattle.redlog_reader.specs.Reading.{Anything, AreNumerals, EndsNumber,
 
 use crate::peek::{after, next};
 use crate::terminal::{Mark, Terminal};
-use crate::token::{ReadError, Token};
+use crate::token::{ReadError, Token, put};
 use qe_syntax::{Entries, Literal, PointEntry, Relation};
-use std::alloc::{AllocError, Global};
+use std::alloc::Global;
 
 /// The entries of a point, in braces.
 pub fn point(alloc: Global, tokens: &[Token]) -> Result<(Entries, &[Token]), ReadError>
@@ -50,14 +50,6 @@ fn entries(alloc: Global, tokens: &[Token]) -> Result<(Vec<PointEntry>, &[Token]
         };
         start = next;
     }
-}
-
-/// Puts an entry at the end of a list.
-fn put(list: &mut Vec<PointEntry>, entry: PointEntry) -> Result<(), ReadError>
-    ensures put { OnOk result (list.new.items ≡ list.old.items ++ entry ∷ []) }
-    ensures refused { IfErr result (λ e. Refuses e ⊥) }
-{
-    list.push(entry).map_err(|_| ReadError::Memory(AllocError))
 }
 
 /// A name, `=`, and a fraction. No `/` follows it.
