@@ -3,6 +3,7 @@
 
 mod error;
 mod form;
+mod merge;
 
 pub use error::LinError;
 pub use exact_numbers::{compare_fractions, floor_div, gcd, lcm};

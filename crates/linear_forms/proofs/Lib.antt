@@ -1,0 +1,5 @@
+pub mod Totals
+pub mod Rising
+pub mod MergeSteps
+pub mod Peeling
+pub mod Places
