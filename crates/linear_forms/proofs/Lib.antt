@@ -3,3 +3,5 @@ pub mod Rising
 pub mod MergeSteps
 pub mod Peeling
 pub mod Places
+pub mod Search
+pub mod Division

@@ -4,6 +4,7 @@
 mod error;
 mod form;
 mod merge;
+mod terms;
 
 pub use error::LinError;
 pub use exact_numbers::{compare_fractions, floor_div, gcd, lcm};
