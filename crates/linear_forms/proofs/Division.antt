@@ -10,6 +10,7 @@ use Rattle.std.proofs.lemmas.Int.{ints, unsigned_abs-mul, quot_is}
 use Rattle.exact_numbers.specs.Limit.{InLimit}
 use Rattle.exact_numbers.specs.Divides.{Divides, DividesAll, IsContent, IsGcd}
 use Rattle.exact_numbers.proofs.Ring.{ring, mul_zero, mul_comm, mul_assoc}
+use Rattle.exact_numbers.proofs.Divisibility.{divides_zero}
 use Rattle.exact_numbers.proofs.LeastMultiple.{exact_div}
 use Rattle.exact_numbers.proofs.Contents.{content_push}
 use Rattle.exact_numbers.proofs.Casts.{fits}
@@ -36,6 +37,9 @@ divides_at by (p ∷ ps) (suc i) d a h = divides_at by ps i d a.1 (omega arith)
 coefficients-push : (ts : List Term) (t : Term) → coefficients (ts ++ t ∷ []) ≡ coefficients ts ++ t.times ∷ []
 coefficients-push [] t = refl
 coefficients-push (s ∷ ts) t = ap (λ xs. s.times ∷ xs) (coefficients-push ts t)
+
+pub content_nothing : IsContent [] (pos 0)
+content_nothing = record { not_negative = omega (arith, ints); divides = tt; greatest = λ d _. divides_zero d }
 
 -- one coefficient more in a greatest common divisor
 pub content_more : (xs : List (VarId × ℤ)) (i : ℕ) (d : VarId × ℤ) (g h : ℤ) → i < length xs → IsContent (coefficients (terms_of (take i xs))) g → IsGcd g (get_or xs i d).1 h → IsContent (coefficients (terms_of (take (i + 1) xs))) h

@@ -5,3 +5,4 @@ pub mod Peeling
 pub mod Places
 pub mod Search
 pub mod Division
+pub mod TermAt

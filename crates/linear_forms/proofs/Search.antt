@@ -5,13 +5,14 @@ use Rattle.std.specs.Ordering.{ordering_index}
 use Rattle.std.specs.Cmp.{ranked}
 use Rattle.std.specs.List.{HoldsAt}
 use Rattle.std.specs.List.Sorted.{IsNonDecreasingBy, IsBinarySearchResult, IsPartitionPoint}
-use Rattle.std.proofs.lemmas.Bool.{cases_lt}
+use Rattle.std.proofs.lemmas.Bool.{cases_lt, cases_eq}
 use Rattle.std.proofs.lemmas.Bool.Decides.{nat_tests}
 use Rattle.std.proofs.lemmas.Int.{ints}
+use Rattle.exact_numbers.specs.Limit.{InLimit}
 use Rattle.formula_meaning.specs.Form.{Term, multiple}
 use Rattle.linear_forms.specs.declared.form.VarId.{VarId}
 use Rattle.linear_forms.specs.Linear.{term_of, terms_of}
-use Rattle.linear_forms.specs.Terms.{AllAbove, IsRising}
+use Rattle.linear_forms.specs.Terms.{AllAbove, IsRising, AllInLimit}
 use Rattle.linear_forms.proofs.Totals.{multiple_above}
 
 above_at : (x : ℕ) (xs : List (VarId × ℤ)) (i : ℕ) (d : VarId × ℤ) → AllAbove x (terms_of xs) → i < length xs → x < (get_or xs i d).0.number
@@ -83,3 +84,12 @@ not_found xs v i p =
         inl l ↦ compared_less (get_or xs k d).0.number v (p.0 k d (omega arith) l)
         | inr l ↦ compared_more (get_or xs k d).0.number v (p.1 k d l h)
     ]))
+
+-- the multiple of a name in a sorted list within the limit is within it
+pub multiple_within : (x : ℕ) (ts : List Term) → IsRising ts → AllInLimit ts → InLimit (multiple x ts)
+multiple_within x [] r w = omega arith
+multiple_within x (t ∷ ts) r w =
+    elim (cases_eq t.name x) [
+        inl e ↦ subst (λ (z : ℤ). InLimit z) (sym (here x t ts e (subst (λ (k : ℕ). AllAbove k ts) e r.0))) w.0
+        | inr n ↦ subst (λ (z : ℤ). InLimit z) (sym (elsewhere x t ts n)) (multiple_within x ts r.1 w.1)
+    ]

@@ -84,11 +84,13 @@ impl Linear {
         ensures divided { IfOk result (IsQuotient self.now by) }
         ensures memory { IfErr result (λ e. e ≡ LinError.Memory) }
     {
-        let terms = terms::divided(alloc, &self.terms, by).map_err(|_| LinError::Memory)?;
-        Ok(Linear {
-            terms,
-            constant: self.constant / by,
-        })
+        match terms::divided(alloc, &self.terms, by) {
+            Ok(terms) => Ok(Linear {
+                terms,
+                constant: self.constant / by,
+            }),
+            Err(_) => Err(LinError::Memory),
+        }
     }
 
     /// The coefficient of `v`, 0 where `v` does not stand in the form: a binary search.

@@ -7,8 +7,11 @@ use Rattle.exact_numbers.proofs.Casts.{fits}
 use Rattle.linear_forms.specs.declared.form.VarId.{VarId}
 use Rattle.linear_forms.specs.Terms.{coefficients}
 use Rattle.linear_forms.specs.Linear.{terms_of}
-use Rattle.linear_forms.proofs.Division.{within_at, content_more}
+use Rattle.linear_forms.proofs.Division.{within_at, content_nothing, content_more}
 use Rattle.linear_forms.proofs.terms.content.Goals as goal
+
+pub loop-term-init : goal.loop-term-init
+loop-term-init c = record { within = omega arith; divisor = content_nothing }
 
 pub gcd-divisor-requires : goal.gcd-divisor-requires
 gcd-divisor-requires c =
