@@ -6,3 +6,5 @@ pub mod Places
 pub mod Search
 pub mod Division
 pub mod TermAt
+pub mod Lookups
+pub mod Steps

@@ -1,3 +1,4 @@
 pub mod Terms
 pub mod Linear
 pub mod Merging
+pub mod Values

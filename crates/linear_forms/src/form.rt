@@ -1,16 +1,20 @@
 // A linear form: a sorted list of names with their coefficients, and a constant.
-ghost use Rattle.std.specs.Prelude.{◌≡◌, ℕ, pos, [], ◌∷◌, IfOk, IfErr, IsErrOf, option_map, slice_get};
+ghost use Rattle.std.specs.Prelude.{◌≡◌, ℕ, pos, [], ◌∷◌, IfOk, IfErr, IsErrOf, MatchOption, option_map, slice_get};
 ghost use Rattle.exact_numbers.specs.Limit.{InLimit};
 ghost use Rattle.exact_numbers.specs.Divides.{DividesAll, IsContent, content_of};
-ghost use Rattle.formula_meaning.specs.Form.{coefficient};
-ghost use Rattle.linear_forms.specs.Terms.{IsLinear, IsCombination, CombinePasses, IsQuotient, coefficients};
+ghost use Rattle.formula_meaning.specs.Form.{coefficient, value};
+ghost use Rattle.linear_forms.specs.Terms.{IsLinear, IsCombination, CombinePasses, IsQuotient, coefficients, value_steps, ValuePasses};
+ghost use Rattle.linear_forms.specs.Values.{number_at, point_of};
 
 use std::alloc::Global;
 use std::marker::Model;
 
+use exact_numbers::{product, sum};
+
 use crate::error::LinError;
 use crate::merge::{merge, place};
 use crate::terms;
+use crate::values::{Values, total};
 
 /// The number of a name.
 #[derive(Clone, Copy, Debug, PartialEq, Eq, PartialOrd, Ord)]
@@ -123,5 +127,15 @@ impl Linear {
         ensures linear { IsLinear self.now }
     {
         self.terms.get(place).copied()
+    }
+
+    /// The value at the numbers times their denominator: the products in rising order of the names, and the constant's last.
+    /// `None` exactly where a product or a partial sum passes 2^127 - 1.
+    pub fn value(&self, at: &Values) -> Option<i128>
+        ensures rule { result ≡ value_steps self.now (number_at at.now) at.now.denominator }
+        ensures outcome { MatchOption result (ValuePasses self.now (number_at at.now) at.now.denominator) (λ n. n ≡ value self.now (point_of at.now)) }
+    {
+        let total = total(&self.terms, at)?;
+        sum(total, product(self.constant, at.denominator())?)
     }
 }

@@ -5,7 +5,9 @@ mod error;
 mod form;
 mod merge;
 mod terms;
+mod values;
 
 pub use error::LinError;
 pub use exact_numbers::{compare_fractions, floor_div, gcd, lcm};
 pub use form::{Linear, VarId};
+pub use values::Values;
