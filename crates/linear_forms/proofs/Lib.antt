@@ -8,3 +8,4 @@ pub mod Division
 pub mod TermAt
 pub mod Lookups
 pub mod Steps
+pub mod Determined

@@ -21,7 +21,7 @@ above_at x (p ∷ ps) zero d a h = a.0
 above_at x (p ∷ ps) (suc i) d a h = above_at x ps i d a.1 (omega arith)
 
 -- the multiple of a name whose term is the next
-here : (x : ℕ) (t : Term) (ts : List Term) → t.name ≡ x → AllAbove x ts → multiple x (t ∷ ts) ≡ t.times
+pub here : (x : ℕ) (t : Term) (ts : List Term) → t.name ≡ x → AllAbove x ts → multiple x (t ∷ ts) ≡ t.times
 here x t ts e a = go (nat_eq x t.name) refl (multiple_above x ts a)
   where
     go : (b : Bool) → nat_eq x t.name ≡ b → multiple x ts ≡ pos 0 → (if b then t.times +ℤ multiple x ts else multiple x ts) ≡ t.times
@@ -29,7 +29,7 @@ here x t ts e a = go (nat_eq x t.name) refl (multiple_above x ts a)
     go false f z = let g : nat_eq x t.name ≡ true = eq-eqb x t.name (sym e) in let k : true ≡ false = sym g ∙ f in absurd (cc)
 
 -- and of a name that stands elsewhere
-elsewhere : (x : ℕ) (t : Term) (ts : List Term) → ¬ (t.name ≡ x) → multiple x (t ∷ ts) ≡ multiple x ts
+pub elsewhere : (x : ℕ) (t : Term) (ts : List Term) → ¬ (t.name ≡ x) → multiple x (t ∷ ts) ≡ multiple x ts
 elsewhere x t ts n = go (nat_eq x t.name) refl
   where
     go : (b : Bool) → nat_eq x t.name ≡ b → (if b then t.times +ℤ multiple x ts else multiple x ts) ≡ multiple x ts
