@@ -1,13 +1,11 @@
 -- A form is its coefficients and its constant; and a form without one name.
-use Rattle.std.proofs.Common.{◌≡◌, ◌<◌, ◌≤◌, ◌⊎◌, inl, inr, ℕ, zero, suc, Bool, true, false, List, [], ◌∷◌, length, Option, Some, None, ap, sym, ◌∙◌, subst, refl, arith, nat_eq, if◌then◌else◌, eqb-true, eq-eqb}
-use Rattle.std.proofs.Math.IntN.{ℤ, pos, ◌+ℤ◌, ◌*ℤ◌}
+use Rattle.std.proofs.Common.{◌≡◌, ◌<◌, inl, inr, ℕ, zero, suc, Bool, true, false, List, [], ◌∷◌, Some, ap, sym, ◌∙◌, subst, refl, arith, nat_eq, if◌then◌else◌, eq-eqb}
+use Rattle.std.proofs.Math.IntN.{ℤ, pos}
 use Rattle.std.specs.Prelude.{slice_get}
 use Rattle.std.proofs.lemmas.Bool.{cases_lt, cases_eq}
-use Rattle.std.proofs.lemmas.Int.{ints}
-use Rattle.exact_numbers.specs.Limit.{InLimit}
-use Rattle.formula_meaning.specs.Form.{Form, Term, total, multiple, others, coefficient, without}
+use Rattle.formula_meaning.specs.Form.{Form, Term, multiple, others, coefficient, without}
 use Rattle.linear_forms.specs.Terms.{AllAbove, IsRising, AllNonzero, AllInLimit, IsLinear, IsCombination, IsQuotient}
-use Rattle.linear_forms.proofs.Rising.{above_from_first, above_lower}
+use Rattle.linear_forms.proofs.Rising.{above_from_first}
 use Rattle.linear_forms.proofs.Search.{here, elsewhere}
 use Rattle.linear_forms.proofs.Totals.{multiple_above}
 use Rattle.exact_numbers.proofs.Order.{cancel}
@@ -21,8 +19,8 @@ apart t ts us r n a e = n (sym (here t.name t ts refl r.0) ∙ e ∙ multiple_ab
 tails_agree : (s t : Term) (ss ts : List Term) → IsRising (s ∷ ss) → IsRising (t ∷ ts) → s.name ≡ t.name → ((x : ℕ) → multiple x (s ∷ ss) ≡ multiple x (t ∷ ts)) → (x : ℕ) → multiple x ss ≡ multiple x ts
 tails_agree s t ss ts r q n e x =
     elim (cases_eq s.name x) [
-        inl m ↦ multiple_above x ss (subst (λ (k : ℕ). AllAbove k ss) m r.0) ∙ sym (multiple_above x ts (subst (λ (k : ℕ). AllAbove k ts) (sym n ∙ m) q.0))
-        | inr m ↦ sym (elsewhere x s ss m) ∙ e x ∙ elsewhere x t ts (λ k. m (n ∙ k))
+      | inl m ↦ multiple_above x ss (subst (λ (k : ℕ). AllAbove k ss) m r.0) ∙ sym (multiple_above x ts (subst (λ (k : ℕ). AllAbove k ts) (sym n ∙ m) q.0))
+      | inr m ↦ sym (elsewhere x s ss m) ∙ e x ∙ elsewhere x t ts (λ k. m (n ∙ k))
     ]
 
 pub same_terms : (xs ys : List Term) → IsRising xs → IsRising ys → AllNonzero xs → AllNonzero ys → ((x : ℕ) → multiple x xs ≡ multiple x ys) → xs ≡ ys
@@ -31,15 +29,15 @@ same_terms [] (t ∷ ts) r q n m e = absurd (apart t ts [] q m.0 tt (sym (e t.na
 same_terms (s ∷ ss) [] r q n m e = absurd (apart s ss [] r n.0 tt (e s.name))
 same_terms (s ∷ ss) (t ∷ ts) r q n m e =
     elim (cases_lt s.name t.name) [
-        inl l ↦ absurd (apart s ss (t ∷ ts) r n.0 (above_from_first s.name t ts q l) (e s.name))
-        | inr g ↦ elim (cases_eq s.name t.name) [
-            inr d ↦ absurd (apart t ts (s ∷ ss) q m.0 (above_from_first t.name s ss r (omega arith)) (sym (e t.name)))
-            | inl k ↦
-                let times : s.times ≡ t.times = sym (here s.name s ss refl r.0) ∙ e s.name ∙ ap (λ x. multiple x (t ∷ ts)) k ∙ here t.name t ts refl q.0 in
-                let term : s ≡ t = λ i. record { times = times i; name = k i } in
-                let rest = same_terms ss ts r.1 q.1 n.1 m.1 (tails_agree s t ss ts r q k e) in
-                λ i. term i ∷ rest i
-        ]
+      | inl l ↦ absurd (apart s ss (t ∷ ts) r n.0 (above_from_first s.name t ts q l) (e s.name))
+      | inr g ↦ elim (cases_eq s.name t.name) [
+        | inr d ↦ absurd (apart t ts (s ∷ ss) q m.0 (above_from_first t.name s ss r (omega arith)) (sym (e t.name)))
+        | inl k ↦
+            let times : s.times ≡ t.times = sym (here s.name s ss refl r.0) ∙ e s.name ∙ ap (λ x. multiple x (t ∷ ts)) k ∙ here t.name t ts refl q.0 in
+            let term : s ≡ t = λ i. record { times = times i; name = k i } in
+            let rest = same_terms ss ts r.1 q.1 n.1 m.1 (tails_agree s t ss ts r q k e) in
+            λ i. term i ∷ rest i
+      ]
     ]
 
 pub same_form : (f g : Form) → IsLinear f → IsLinear g → ((x : ℕ) → coefficient x f ≡ coefficient x g) → f.constant ≡ g.constant → f ≡ g

@@ -1,21 +1,20 @@
 -- The terms at a place, and terms divided.
-use Rattle.std.proofs.Common.{◌≡◌, ◌<◌, ◌≤◌, ◌+◌, ◌*◌, ℕ, zero, suc, List, [], ◌∷◌, ◌++◌, length, get_or, take, ap, sym, ◌∙◌, subst, refl, arith}
+use Rattle.std.proofs.Common.{◌≡◌, ◌<◌, ◌+◌, ℕ, zero, suc, List, [], ◌∷◌, ◌++◌, length, get_or, take, ap, sym, ◌∙◌, subst, refl, arith}
 use Rattle.std.proofs.Math.IntN.{ℤ, pos, ◌+ℤ◌, ◌*ℤ◌}
 use Rattle.std.specs.Prelude.{unsigned_abs, int_div, FitsSigned}
 use Rattle.std.specs.Int.{w128}
 use Rattle.std.specs.List.{AllZip}
 use Rattle.std.proofs.Math.Nat.{le-mul_of_pos_right}
 use Rattle.std.proofs.lemmas.List.{take_more}
-use Rattle.std.proofs.lemmas.Int.{ints, unsigned_abs-mul, quot_is}
+use Rattle.std.proofs.lemmas.Int.{ints, unsigned_abs-mul}
 use Rattle.exact_numbers.specs.Limit.{InLimit}
 use Rattle.exact_numbers.specs.Divides.{Divides, DividesAll, IsContent, IsGcd}
-use Rattle.exact_numbers.proofs.Ring.{ring, mul_zero, mul_comm, mul_assoc}
+use Rattle.exact_numbers.proofs.Ring.{ring, mul_zero}
 use Rattle.exact_numbers.proofs.Divisibility.{divides_zero}
 use Rattle.exact_numbers.proofs.LeastMultiple.{exact_div}
 use Rattle.exact_numbers.proofs.Contents.{content_push}
 use Rattle.exact_numbers.proofs.Casts.{fits}
-use Rattle.formula_meaning.specs.Point.{Point}
-use Rattle.formula_meaning.specs.Form.{Form, Term, total, value, multiple, coefficient}
+use Rattle.formula_meaning.specs.Form.{Term, total, value, coefficient}
 use Rattle.linear_forms.specs.declared.form.VarId.{VarId}
 use Rattle.linear_forms.specs.Linear.{term_of, terms_of, IsDivided}
 use Rattle.linear_forms.specs.Terms.{AllAbove, IsRising, AllNonzero, AllInLimit, IsLinear, IsQuotient, coefficients}
@@ -109,5 +108,5 @@ module _ (d : ℤ) (z : ¬ (d ≡ pos 0)) where
         linear = record { rising = rising_divided xs ys r l.rising; nonzero = nonzero_divided xs ys r l.nonzero; within = within_divided xs ys r l.within; constant_within = quotient_within d k c z e l.constant_within };
         coefficients_scale = λ x. ap (λ m. d *ℤ m) (multiple_total x (terms_of ys)) ∙ total_divided xs ys (one_at x) r ∙ sym (multiple_total x (terms_of xs));
         constant_scales = e;
-        values_scale = λ p. value_divided k c (total (terms_of ys) p.at) (total (terms_of xs) p.at) (pos p.below) e (total_divided xs ys p.at r)
+        values_scale = λ p. value_divided k c (total (terms_of ys) p.at) (total (terms_of xs) p.at) (pos p.below) e (total_divided xs ys p.at r);
       }

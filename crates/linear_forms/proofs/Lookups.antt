@@ -1,10 +1,9 @@
 -- Numbers looked up in a list of entries.
-use Rattle.std.proofs.Common.{◌≡◌, ◌<◌, ℕ, Bool, true, false, cond, List, [], ◌∷◌, Option, Some, None, Result, Ok, Err, ap, sym, ◌∙◌, subst, refl, arith, nat_eq, nat_cmp, is_eq, if◌then◌else◌}
+use Rattle.std.proofs.Common.{◌≡◌, ℕ, Bool, true, false, cond, List, [], ◌∷◌, Option, Some, Result, Ok, Err, ap, sym, ◌∙◌, refl, arith, nat_eq, nat_cmp, is_eq, if◌then◌else◌}
 use Rattle.std.proofs.Math.IntN.{ℤ, pos}
 use Rattle.std.specs.Prelude.{unwrap_or, OnOk}
 use Rattle.std.specs.Map.{lookup}
 use Rattle.std.proofs.lemmas.Bool.Decides.{nat_tests}
-use Rattle.linear_forms.specs.Values.{Numbers, number_at}
 
 same_test : (x k : ℕ) → is_eq (nat_cmp x k) ≡ nat_eq x k
 same_test x k = grind (arith, nat_tests)

@@ -1,15 +1,15 @@
 -- One step of the merge of two lists of terms.
-use Rattle.std.proofs.Common.{◌≡◌, ◌<◌, ◌≤◌, ◌⊎◌, inl, inr, ℕ, List, [], ◌∷◌, ◌++◌, ap, sym, ◌∙◌, subst, refl, arith, nat_eq}
+use Rattle.std.proofs.Common.{◌≡◌, inl, inr, ℕ, List, [], ◌∷◌, ◌++◌, ap, sym, ◌∙◌, subst, refl, arith}
 use Rattle.std.proofs.Math.IntN.{ℤ, pos, ◌+ℤ◌, ◌*ℤ◌}
 use Rattle.std.proofs.lemmas.Int.{ints}
 use Rattle.std.proofs.lemmas.Bool.{cases_eq}
-use Rattle.exact_numbers.specs.Limit.{InLimit, PastLimit}
+use Rattle.exact_numbers.specs.Limit.{InLimit}
 use Rattle.exact_numbers.proofs.Ring.{ring, mul_zero, zero_mul, mul_one}
 use Rattle.formula_meaning.specs.Form.{Form, Term, total, multiple, coefficient, value}
-use Rattle.linear_forms.specs.Terms.{AllAbove, IsRising, AllNonzero, AllInLimit, PlaceWithin, PlacePasses, IsLinear, CombinesWithin, IsCombination}
-use Rattle.linear_forms.specs.Merging.{IsNext, Precede, IsPeeled, IsHandled, IsMerged}
+use Rattle.linear_forms.specs.Terms.{IsRising, PlaceWithin, PlacePasses, IsCombination}
+use Rattle.linear_forms.specs.Merging.{IsNext, IsPeeled, IsHandled, IsMerged}
 use Rattle.linear_forms.proofs.Totals.{one_at, multiple_total, one_at_same, one_at_other, total_push, multiple_above}
-use Rattle.linear_forms.proofs.Rising.{rising_push, nonzero_push, within_push, precede_push, precede_next, precede_nothing}
+use Rattle.linear_forms.proofs.Rising.{rising_push, nonzero_push, within_push, precede_push, precede_next}
 
 -- ---- the multiples of a list peeled at x
 
@@ -33,15 +33,15 @@ handled_start a left b right x = inl (refl, refl)
 pub merged_start : (a : ℤ) (left : List Term) (b : ℤ) (right : List Term) → IsRising left → IsRising right → IsMerged a left b right [] left right
 merged_start a left b right r s =
     record {
-        sums = λ at. omega (arith, ints);
-        rising = tt;
-        nonzero = tt;
-        within = tt;
-        before_left = tt;
-        before_right = tt;
-        left_rising = r;
-        right_rising = s;
-        places = handled_start a left b right
+      sums = λ at. omega (arith, ints);
+      rising = tt;
+      nonzero = tt;
+      within = tt;
+      before_left = tt;
+      before_right = tt;
+      left_rising = r;
+      right_rising = s;
+      places = handled_start a left b right;
     }
 
 -- ---- one name more
@@ -65,9 +65,9 @@ module _ {a : ℤ} {left : List Term} {b : ℤ} {right merged xs ys : List Term}
   place_passes h =
       let s = peeled_same xs n x xr p in let t = peeled_same ys n y yr q in
       elim (i.places n) [
-        inl e ↦
-          let u = e.0 ∙ s in let v = e.1 ∙ t in
-          subst (λ (k : ℤ). PlacePasses (a *ℤ k) (b *ℤ multiple n right)) (sym u) (subst (λ (k : ℤ). PlacePasses (a *ℤ x) (b *ℤ k)) (sym v) h)
+        | inl e ↦
+            let u = e.0 ∙ s in let v = e.1 ∙ t in
+            subst (λ (k : ℤ). PlacePasses (a *ℤ k) (b *ℤ multiple n right)) (sym u) (subst (λ (k : ℤ). PlacePasses (a *ℤ x) (b *ℤ k)) (sym v) h)
         | inr e ↦ absurd (nothing_passes a b x y (sym s ∙ e.1) (sym t ∙ e.2) h)
       ]
 
@@ -75,19 +75,19 @@ module _ {a : ℤ} {left : List Term} {b : ℤ} {right merged xs ys : List Term}
   place_within h =
       let s = peeled_same xs n x xr p in let t = peeled_same ys n y yr q in
       elim (i.places n) [
-        inl e ↦
-          let u = e.0 ∙ s in let v = e.1 ∙ t in
-          subst (λ (k : ℤ). PlaceWithin (a *ℤ k) (b *ℤ multiple n right)) (sym u) (subst (λ (k : ℤ). PlaceWithin (a *ℤ x) (b *ℤ k)) (sym v) h)
+        | inl e ↦
+            let u = e.0 ∙ s in let v = e.1 ∙ t in
+            subst (λ (k : ℤ). PlaceWithin (a *ℤ k) (b *ℤ multiple n right)) (sym u) (subst (λ (k : ℤ). PlaceWithin (a *ℤ x) (b *ℤ k)) (sym v) h)
         | inr e ↦ e.0
       ]
 
   handled_next : PlaceWithin (a *ℤ x) (b *ℤ y) → (v : ℕ) → IsHandled a left b right xr yr v
   handled_next w v =
       elim (cases_eq v n) [
-        inl e ↦ subst (λ (k : ℕ). IsHandled a left b right xr yr k) (sym e) (inr (place_within w, multiple_above n xr p.above, multiple_above n yr q.above))
+        | inl e ↦ subst (λ (k : ℕ). IsHandled a left b right xr yr k) (sym e) (inr (place_within w, multiple_above n xr p.above, multiple_above n yr q.above))
         | inr d ↦
-          let s = peeled_other xs n x xr v p d in let t = peeled_other ys n y yr v q d in
-          elim (i.places v) [ inl e ↦ inl (e.0 ∙ s, e.1 ∙ t) | inr e ↦ inr (e.0, sym s ∙ e.1, sym t ∙ e.2) ]
+            let s = peeled_other xs n x xr v p d in let t = peeled_other ys n y yr v q d in
+            elim (i.places v) [ inl e ↦ inl (e.0 ∙ s, e.1 ∙ t) | inr e ↦ inr (e.0, sym s ∙ e.1, sym t ∙ e.2) ]
       ]
 
   -- a name whose multiples add up to 0 is left out
@@ -102,7 +102,7 @@ module _ {a : ℤ} {left : List Term} {b : ℤ} {right merged xs ys : List Term}
         before_right = q.kept merged i.before_right;
         left_rising = p.rising;
         right_rising = q.rising;
-        places = handled_next w
+        places = handled_next w;
       }
 
   -- and one whose multiples add up to another number is put at the end
@@ -118,7 +118,7 @@ module _ {a : ℤ} {left : List Term} {b : ℤ} {right merged xs ys : List Term}
         before_right = precede_push merged t yr (q.kept merged i.before_right) q.above;
         left_rising = p.rising;
         right_rising = q.rising;
-        places = handled_next w
+        places = handled_next w;
       }
 
 -- ---- the end
@@ -143,9 +143,9 @@ unfolding coefficient value
 combination a f b g merged c i w e =
     let sums = merged_sums a f.terms b g.terms merged i in
     record {
-        linear = record { rising = i.rising; nonzero = i.nonzero; within = i.within; constant_within = subst (λ (k : ℤ). InLimit k) (sym e) w.sum };
-        coefficients_add = λ x. multiple_total x merged ∙ sums (one_at x) ∙ sym (ap (λ k. a *ℤ k +ℤ b *ℤ multiple x g.terms) (multiple_total x f.terms) ∙ ap (λ k. a *ℤ total f.terms (one_at x) +ℤ b *ℤ k) (multiple_total x g.terms));
-        constants_add = e;
-        values_add = λ p. value_sums a b (total merged p.at) (total f.terms p.at) (total g.terms p.at) c f.constant g.constant (pos p.below) (sums p.at) e;
-        within = record { places = merged_places a f.terms b g.terms merged i; constants = w }
+      linear = record { rising = i.rising; nonzero = i.nonzero; within = i.within; constant_within = subst (λ (k : ℤ). InLimit k) (sym e) w.sum };
+      coefficients_add = λ x. multiple_total x merged ∙ sums (one_at x) ∙ sym (ap (λ k. a *ℤ k +ℤ b *ℤ multiple x g.terms) (multiple_total x f.terms) ∙ ap (λ k. a *ℤ total f.terms (one_at x) +ℤ b *ℤ k) (multiple_total x g.terms));
+      constants_add = e;
+      values_add = λ p. value_sums a b (total merged p.at) (total f.terms p.at) (total g.terms p.at) c f.constant g.constant (pos p.below) (sums p.at) e;
+      within = record { places = merged_places a f.terms b g.terms merged i; constants = w };
     }

@@ -1,7 +1,6 @@
 -- A name peeled off the front of a sorted list of pairs.
-use Rattle.std.proofs.Common.{◌≡◌, ◌<◌, ◌≤◌, ℕ, List, [], ◌∷◌, ◌++◌, length, ap, refl, sym, ◌∙◌, subst, arith}
+use Rattle.std.proofs.Common.{◌≡◌, ◌≤◌, ℕ, List, [], ◌∷◌, ◌++◌, length, ap, refl, sym, subst, arith}
 use Rattle.std.proofs.Math.IntN.{ℤ, pos}
-use Rattle.formula_meaning.specs.Form.{Term}
 use Rattle.linear_forms.specs.declared.form.VarId.{VarId}
 use Rattle.linear_forms.specs.Linear.{term_of, terms_of}
 use Rattle.linear_forms.specs.Terms.{AllAbove, IsRising}

@@ -1,8 +1,8 @@
 -- The sum of two products, refused exactly where one of the three numbers passes the limit.
-use Rattle.std.proofs.Common.{◌≡◌, Result, Ok, Err, inl, inr, Option, Some, None, MatchOption, sym, subst, refl, ap, ◌∙◌}
+use Rattle.std.proofs.Common.{◌≡◌, Result, Ok, Err, inr, Option, Some, None, MatchOption, subst, refl}
 use Rattle.std.proofs.Math.IntN.{ℤ, ◌+ℤ◌}
 use Rattle.std.specs.Result.{IsErr, IfOk}
-use Rattle.exact_numbers.specs.Limit.{InLimit, PastLimit, checked}
+use Rattle.exact_numbers.specs.Limit.{InLimit, checked}
 use Rattle.exact_numbers.proofs.Limits.{match_checked}
 use Rattle.linear_forms.specs.Terms.{PlaceWithin, PlacePasses}
 

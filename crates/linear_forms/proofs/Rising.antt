@@ -1,12 +1,12 @@
 -- Rising lists of terms.
-use Rattle.std.proofs.Common.{◌≡◌, ◌<◌, ◌≤◌, ◌⊎◌, inl, inr, ℕ, List, [], ◌∷◌, ◌++◌, ap, sym, ◌∙◌, subst, refl, arith}
-use Rattle.std.proofs.Math.IntN.{ℤ, pos, ◌+ℤ◌, ◌*ℤ◌}
+use Rattle.std.proofs.Common.{◌≡◌, ◌<◌, ◌≤◌, inl, inr, ℕ, List, [], ◌∷◌, ◌++◌, refl, arith}
+use Rattle.std.proofs.Math.IntN.{pos}
 use Rattle.std.proofs.lemmas.Int.{ints}
 use Rattle.exact_numbers.specs.Limit.{InLimit}
 use Rattle.exact_numbers.proofs.Ring.{zero_mul}
-use Rattle.formula_meaning.specs.Form.{Term, total}
+use Rattle.formula_meaning.specs.Form.{Term}
 use Rattle.linear_forms.specs.Terms.{AllAbove, IsRising, AllNonzero, AllInLimit}
-use Rattle.linear_forms.specs.Merging.{FirstAtLeast, FirstIs, IsNext, Precede, IsPeeled}
+use Rattle.linear_forms.specs.Merging.{FirstIs, IsNext, Precede, IsPeeled}
 
 pub above_lower : (x y : ℕ) (ts : List Term) → x ≤ y → AllAbove y ts → AllAbove x ts
 above_lower x y [] h a = tt

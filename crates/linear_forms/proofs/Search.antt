@@ -1,10 +1,10 @@
 -- Look-up in a sorted list of pairs.
-use Rattle.std.proofs.Common.{◌≡◌, ◌<◌, ◌≤◌, ◌+◌, ◌⊎◌, inl, inr, ℕ, zero, suc, Bool, true, false, List, [], ◌∷◌, length, get_or, ap, sym, ◌∙◌, subst, refl, arith, nat_eq, if◌then◌else◌, eqb-true, eq-eqb, Ordering, Less, Equal, Greater, nat_cmp, Result, Ok, Err}
-use Rattle.std.proofs.Math.IntN.{ℤ, pos, ◌+ℤ◌, ◌*ℤ◌}
+use Rattle.std.proofs.Common.{◌≡◌, ◌<◌, ◌≤◌, inl, inr, ℕ, zero, suc, Bool, true, false, List, [], ◌∷◌, length, get_or, ap, sym, ◌∙◌, subst, refl, arith, nat_eq, if◌then◌else◌, eqb-true, eq-eqb, Less, Equal, Greater, nat_cmp}
+use Rattle.std.proofs.Math.IntN.{ℤ, pos, ◌+ℤ◌}
 use Rattle.std.specs.Ordering.{ordering_index}
 use Rattle.std.specs.Cmp.{ranked}
 use Rattle.std.specs.List.{HoldsAt}
-use Rattle.std.specs.List.Sorted.{IsNonDecreasingBy, IsBinarySearchResult, IsPartitionPoint}
+use Rattle.std.specs.List.Sorted.{IsNonDecreasingBy, IsPartitionPoint}
 use Rattle.std.proofs.lemmas.Bool.{cases_lt, cases_eq}
 use Rattle.std.proofs.lemmas.Bool.Decides.{nat_tests}
 use Rattle.std.proofs.lemmas.Int.{ints}
@@ -81,8 +81,8 @@ found xs v i d r h e =
 pub not_found : (xs : List (VarId × ℤ)) (v i : ℕ) → IsPartitionPoint (λ p. nat_cmp p.0.number v ≡ Less) (λ p. nat_cmp p.0.number v ≡ Greater) xs i → pos 0 ≡ multiple v (terms_of xs)
 not_found xs v i p =
     sym (multiple_nowhere v xs (λ k d h. elim (cases_lt k i) [
-        inl l ↦ compared_less (get_or xs k d).0.number v (p.0 k d (omega arith) l)
-        | inr l ↦ compared_more (get_or xs k d).0.number v (p.1 k d l h)
+      | inl l ↦ compared_less (get_or xs k d).0.number v (p.0 k d (omega arith) l)
+      | inr l ↦ compared_more (get_or xs k d).0.number v (p.1 k d l h)
     ]))
 
 -- the multiple of a name in a sorted list within the limit is within it
@@ -90,6 +90,6 @@ pub multiple_within : (x : ℕ) (ts : List Term) → IsRising ts → AllInLimit 
 multiple_within x [] r w = omega arith
 multiple_within x (t ∷ ts) r w =
     elim (cases_eq t.name x) [
-        inl e ↦ subst (λ (z : ℤ). InLimit z) (sym (here x t ts e (subst (λ (k : ℕ). AllAbove k ts) e r.0))) w.0
-        | inr n ↦ subst (λ (z : ℤ). InLimit z) (sym (elsewhere x t ts n)) (multiple_within x ts r.1 w.1)
+      | inl e ↦ subst (λ (z : ℤ). InLimit z) (sym (here x t ts e (subst (λ (k : ℕ). AllAbove k ts) e r.0))) w.0
+      | inr n ↦ subst (λ (z : ℤ). InLimit z) (sym (elsewhere x t ts n)) (multiple_within x ts r.1 w.1)
     ]

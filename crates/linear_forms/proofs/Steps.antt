@@ -1,9 +1,9 @@
 -- The value of a form, product by product and sum by sum.
-use Rattle.std.proofs.Common.{◌≡◌, ◌<◌, ◌≤◌, ◌⊎◌, inl, inr, ℕ, List, [], ◌∷◌, length, get_or, drop, drop-cons, add-one, ◌+◌, Option, Some, None, MatchOption, ap, sym, ◌∙◌, subst, refl, arith}
+use Rattle.std.proofs.Common.{◌≡◌, ◌<◌, ◌⊎◌, inl, inr, ℕ, List, [], ◌∷◌, length, get_or, drop, drop-cons, add-one, ◌+◌, Option, Some, None, MatchOption, ap, sym, ◌∙◌, subst, refl, arith}
 use Rattle.std.proofs.Math.IntN.{ℤ, pos, ◌+ℤ◌, ◌*ℤ◌}
-use Rattle.std.specs.Prelude.{◌<ℤ◌, unsigned_abs, option_and_then}
+use Rattle.std.specs.Prelude.{◌<ℤ◌, unsigned_abs}
 use Rattle.std.proofs.lemmas.Int.{ints}
-use Rattle.exact_numbers.specs.Limit.{InLimit, PastLimit, checked}
+use Rattle.exact_numbers.specs.Limit.{PastLimit, checked}
 use Rattle.exact_numbers.proofs.Limits.{by_limit}
 use Rattle.formula_meaning.specs.Form.{Form, Term, total, value}
 use Rattle.linear_forms.specs.Terms.{total_steps, value_steps, TotalPasses, ValuePasses}
@@ -44,8 +44,8 @@ total_given s (t ∷ ts) at =
     let Q : Option ℤ → Type 0 = λ o. MatchOption o (TotalPasses s (t ∷ ts) at) (λ n. n ≡ s +ℤ (p +ℤ total ts at)) in
     by_limit p
     (λ hp ep. by_limit (s +ℤ p)
-        (λ hs es. subst Q (sym (step_on s t ts at ep es)) (later (PastLimit p) (PastLimit (s +ℤ p)) (TotalPasses (s +ℤ p) ts at) (total_steps (s +ℤ p) ts at) s p (total ts at) (total_given (s +ℤ p) ts at)))
-        (λ hs es. subst Q (sym (step_sum_none s t ts at ep es)) (inr (inl hs))))
+    (λ hs es. subst Q (sym (step_on s t ts at ep es)) (later (PastLimit p) (PastLimit (s +ℤ p)) (TotalPasses (s +ℤ p) ts at) (total_steps (s +ℤ p) ts at) s p (total ts at) (total_given (s +ℤ p) ts at)))
+    (λ hs es. subst Q (sym (step_sum_none s t ts at ep es)) (inr (inl hs))))
     (λ hp ep. subst Q (sym (step_product_none s t ts at ep)) (inl hp))
   where
     later : (A B R : Type 0) (o : Option ℤ) (s p r : ℤ) → MatchOption o R (λ n. n ≡ (s +ℤ p) +ℤ r) → MatchOption o (A ⊎ (B ⊎ R)) (λ n. n ≡ s +ℤ (p +ℤ r))
@@ -73,8 +73,8 @@ value_parts f at d (Some n) e h =
     let same : n ≡ total f.terms at = omega (arith, ints, h) in
     by_limit (f.constant *ℤ d)
     (λ hp ep. by_limit (n +ℤ f.constant *ℤ d)
-        (λ hs es. subst Q (sym (value_last f at d n e ep ∙ es)) (ap (λ m. m +ℤ f.constant *ℤ d) same))
-        (λ hs es. subst Q (sym (value_last f at d n e ep ∙ es)) (record { cause = inr (inr (subst (λ (m : ℤ). PastLimit (m +ℤ f.constant *ℤ d)) same hs)) })))
+    (λ hs es. subst Q (sym (value_last f at d n e ep ∙ es)) (ap (λ m. m +ℤ f.constant *ℤ d) same))
+    (λ hs es. subst Q (sym (value_last f at d n e ep ∙ es)) (record { cause = inr (inr (subst (λ (m : ℤ). PastLimit (m +ℤ f.constant *ℤ d)) same hs)) })))
     (λ hp ep. subst Q (sym (value_product_none f at d n e ep)) (record { cause = inr (inl hp) }))
 
 -- the steps give the value times the denominator, or a number formed passes the limit

@@ -3,7 +3,7 @@ use Rattle.std.specs.Prelude.{◌≡◌, ◌⊎◌, ℕ, ◌<◌, ℤ, pos, ◌+
 use Rattle.exact_numbers.specs.Limit.{InLimit, PastLimit, checked}
 use Rattle.exact_numbers.specs.Frac.{◌>>=◌}
 use Rattle.formula_meaning.specs.Point.{Point}
-use Rattle.formula_meaning.specs.Form.{Form, Term, total, value, coefficient, combine}
+use Rattle.formula_meaning.specs.Form.{Form, Term, total, value, coefficient}
 
 -- the names of all terms are above x
 abbrev pub AllAbove : ℕ → List Term → Type 0

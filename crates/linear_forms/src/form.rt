@@ -6,15 +6,13 @@ ghost use Rattle.formula_meaning.specs.Form.{coefficient, value};
 ghost use Rattle.linear_forms.specs.Terms.{IsLinear, IsCombination, CombinePasses, IsQuotient, coefficients, value_steps, ValuePasses};
 ghost use Rattle.linear_forms.specs.Values.{number_at, point_of};
 
-use std::alloc::Global;
-use std::marker::Model;
-
-use exact_numbers::{product, sum};
-
 use crate::error::LinError;
 use crate::merge::{merge, place};
 use crate::terms;
 use crate::values::{Values, total};
+use exact_numbers::{product, sum};
+use std::alloc::Global;
+use std::marker::Model;
 
 /// The number of a name.
 #[derive(Clone, Copy, Debug, PartialEq, Eq, PartialOrd, Ord)]
@@ -72,7 +70,13 @@ impl Linear {
 
     /// The form `a * self + b * other`: one merge of the two lists, linear in their lengths.
     /// `Overflow` comes exactly where a product or a sum of one place passes 2^127 - 1, else `Memory`.
-    pub fn combine(&self, alloc: Global, a: i128, other: &Linear, b: i128) -> Result<Linear, LinError>
+    pub fn combine(
+        &self,
+        alloc: Global,
+        a: i128,
+        other: &Linear,
+        b: i128,
+    ) -> Result<Linear, LinError>
         ensures combined { IfOk result (IsCombination a self.now b other.now) }
         ensures overflow { IsErrOf result LinError.Overflow → CombinePasses a self.now b other.now }
     {

@@ -9,19 +9,16 @@ pub fn form_is_determined()
     ensures form { (f g : Form) → IsLinear f → IsLinear g → ((x : ℕ) → coefficient x f ≡ coefficient x g) → f.constant ≡ g.constant → f ≡ g }
     ensures combination { (a : ℤ) (f : Form) (b : ℤ) (g r s : Form) → IsCombination a f b g r → IsCombination a f b g s → r ≡ s }
     ensures quotient { (f : Form) (d : ℤ) (r s : Form) → ¬ (d ≡ pos 0) → IsQuotient f d r → IsQuotient f d s → r ≡ s }
-{
-}
+{}
 
 /// A form is the multiple of a name and the form without the name, in which the name has the coefficient 0.
 pub fn form_splits()
     ensures value { (x : ℕ) (f : Form) (p : Point ℕ) → value f p ≡ coefficient x f *ℤ p.at x +ℤ value (without x f) p }
     ensures linear { (x : ℕ) (f : Form) → IsLinear f → IsLinear (without x f) }
     ensures coefficient { (x : ℕ) (f : Form) → coefficient x (without x f) ≡ pos 0 }
-{
-}
+{}
 
 /// The number beside a name in the list is the coefficient of the name.
 pub fn terms_have_coefficients()
     ensures { (f : Form) (i : ℕ) (t : Term) → IsLinear f → slice_get f.terms i ≡ Some t → coefficient t.name f ≡ t.times }
-{
-}
+{}

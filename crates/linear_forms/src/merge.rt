@@ -5,12 +5,10 @@ ghost use Rattle.linear_forms.specs.Terms.{IsRising, PlaceWithin, PlacePasses};
 ghost use Rattle.linear_forms.specs.Merging.{FirstAtLeast, FirstIs, IsNext, IsPeeled, IsMerged};
 ghost use Rattle.linear_forms.specs.Linear.{terms_of};
 
-use std::alloc::Global;
-
-use exact_numbers::{product, sum};
-
 use crate::error::LinError;
 use crate::form::VarId;
+use exact_numbers::{product, sum};
+use std::alloc::Global;
 
 // The sum a * x + b * y, or `None` exactly where a product or the sum passes the limit.
 pub(crate) fn place(a: i128, x: i128, b: i128, y: i128) -> Option<i128>

@@ -7,11 +7,9 @@ ghost use Rattle.exact_numbers.specs.Divides.{DividesAll, IsContent, content_of}
 ghost use Rattle.linear_forms.specs.Terms.{IsRising, AllInLimit, coefficients};
 ghost use Rattle.linear_forms.specs.Linear.{terms_of, IsDivided};
 
-use std::alloc::{AllocError, Global};
-
-use exact_numbers::gcd;
-
 use crate::form::VarId;
+use exact_numbers::gcd;
+use std::alloc::{AllocError, Global};
 
 // The coefficient of a name, 0 where it does not stand in the list: a binary search.
 pub(crate) fn coefficient(terms: &[(VarId, i128)], name: VarId) -> i128
@@ -38,7 +36,11 @@ pub(crate) fn content(terms: &[(VarId, i128)]) -> i128
 }
 
 // The terms with each coefficient divided by a number that divides all.
-pub(crate) fn divided(alloc: Global, terms: &[(VarId, i128)], by: i128) -> Result<Vec<(VarId, i128)>, AllocError>
+pub(crate) fn divided(
+    alloc: Global,
+    terms: &[(VarId, i128)],
+    by: i128,
+) -> Result<Vec<(VarId, i128)>, AllocError>
     requires nonzero { ¬ (by ≡ pos 0) }
     requires within { AllInLimit (terms_of terms.now) }
     requires divides { DividesAll by (coefficients (terms_of terms.now)) }

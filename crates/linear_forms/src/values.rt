@@ -5,14 +5,12 @@ ghost use Rattle.linear_forms.specs.Terms.{total_steps};
 ghost use Rattle.linear_forms.specs.Linear.{terms_of};
 ghost use Rattle.linear_forms.specs.Values.{number_at};
 
+use crate::error::LinError;
+use crate::form::VarId;
+use exact_numbers::{product, sum};
 use std::alloc::Global;
 use std::collections::BTreeMap;
 use std::marker::Model;
-
-use exact_numbers::{product, sum};
-
-use crate::error::LinError;
-use crate::form::VarId;
 
 /// Whole numbers for names over one positive denominator; a name that is not put in has the number 0.
 #[derive(Drop)]

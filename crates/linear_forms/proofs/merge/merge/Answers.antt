@@ -1,13 +1,10 @@
-use Rattle.std.proofs.Common.{◌≡◌, ◌+◌, ◌<◌, Option, Some, None, MatchOption, subst, sym, ap, ◌∙◌, rules, arith, FitsSigned, pos, ℤ, inl, inr, length, ◌⊎◌, ◌≤◌, List}
-use Rattle.std.specs.Prelude.{◌+ℤ◌, ◌*ℤ◌}
+use Rattle.std.proofs.Common.{◌≡◌, ◌+◌, ◌<◌, subst, sym, ap, ◌∙◌, rules, arith, FitsSigned, pos, ℤ, inl, inr, length, ◌⊎◌, ◌≤◌, List}
 use Rattle.std.specs.Int.{w128, cast_unsigned}
-use Rattle.std.proofs.lemmas.Int.{ints, to_z-of_z}
+use Rattle.std.proofs.lemmas.Int.{to_z-of_z}
 use Rattle.exact_numbers.specs.Limit.{InLimit}
 use Rattle.exact_numbers.proofs.Casts.{fits, zero_bits}
 use Rattle.linear_forms.specs.declared.form.VarId.{VarId}
 use Rattle.linear_forms.specs.Linear.{terms_of}
-use Rattle.linear_forms.specs.Terms.{PlaceWithin, PlacePasses}
-use Rattle.linear_forms.specs.Merging.{IsMerged, IsPeeled}
 use Rattle.linear_forms.proofs.MergeSteps.{merged_start, merged_nothing, merged_term, place_passes}
 use Rattle.linear_forms.proofs.Peeling.{terms_of-push}
 use Rattle.linear_forms.proofs.Places.{at_some, at_none, ok_unless}
@@ -67,8 +64,8 @@ returns-in_err-number c =
     let p = at_none c.place.result _ _ c.in_err-number.ensures.ok_part (simp to_z-of_z at c.place.ensures) in
     let i = simp to_z-of_z at c.loop-name.invariant in
     record {
-        merged = ok_unless c.from_residual.result _ c.from_residual.ensures.0;
-        overflow = λ _. (c.in-Some.name.number, place_passes c.in-Some.name.number x y (terms_of c.peel-x.result.1.now) (terms_of c.peel-y.result.1.now) i c.peel-x.ensures.peeled c.peel-y.ensures.peeled p)
+      merged = ok_unless c.from_residual.result _ c.from_residual.ensures.0;
+      overflow = λ _. (c.in-Some.name.number, place_passes c.in-Some.name.number x y (terms_of c.peel-x.result.1.now) (terms_of c.peel-y.result.1.now) i c.peel-x.ensures.peeled c.peel-y.ensures.peeled p);
     }
 
 pub returns : goal.returns

@@ -1,4 +1,4 @@
-use Rattle.std.proofs.Common.{◌+◌, length, ◌≤◌}
+use Rattle.std.proofs.Common.{◌+◌, length}
 use Rattle.linear_forms.specs.Merging.{IsMerged}
 use Rattle.linear_forms.specs.Linear.{terms_of}
 use Rattle.linear_forms.proofs.merge.merge.Given as goal

@@ -14,6 +14,6 @@ returns-in-Some-clause-peeled c =
 pub returns-in_default-clause-peeled : goal.returns-in_default-clause-peeled
 returns-in_default-clause-peeled c =
     elim c.in_default.branch [
-        in_default-via-in-Some+else-first-name w ↦ peel_later c.args.terms.now w.in-Some.first.now w.in-Some.rest.now c.args.name.number w.in-Some.ensures.cases.0 w.if-first-name.false c.requires.first c.requires.rising
-        | in_default-via-in_default w ↦ peel_empty c.args.terms.now c.args.name.number w.in_default.ensures.cases
+      | in_default-via-in-Some+else-first-name w ↦ peel_later c.args.terms.now w.in-Some.first.now w.in-Some.rest.now c.args.name.number w.in-Some.ensures.cases.0 w.if-first-name.false c.requires.first c.requires.rising
+      | in_default-via-in_default w ↦ peel_empty c.args.terms.now c.args.name.number w.in_default.ensures.cases
     ]

@@ -1,7 +1,5 @@
-use Rattle.std.proofs.Common.{take_all, ◌≡◌, pos, ℤ, ℕ, FitsSigned, rules, arith, get_or, take, length, subst, sym, List}
-use Rattle.std.specs.Int.{w128}
+use Rattle.std.proofs.Common.{take_all, ◌≡◌, pos, ℤ, rules, arith, get_or, take}
 use Rattle.std.proofs.lemmas.Int.{ints, to_z-of_z}
-use Rattle.exact_numbers.specs.Divides.{IsContent}
 use Rattle.exact_numbers.proofs.Contents.{content_unique, content_is}
 use Rattle.exact_numbers.proofs.Casts.{fits}
 use Rattle.linear_forms.specs.declared.form.VarId.{VarId}

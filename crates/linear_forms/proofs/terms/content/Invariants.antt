@@ -9,6 +9,6 @@ use Rattle.linear_forms.proofs.terms.content.Given as goal
 abbrev pub invariant-loop-term : goal.invariant-loop-term
 invariant-loop-term l =
     record {
-        within : InLimit l.divisor;
-        divisor : IsContent (coefficients (terms_of (take l.term-index l.terms))) l.divisor
+      within : InLimit l.divisor;
+      divisor : IsContent (coefficients (terms_of (take l.term-index l.terms))) l.divisor;
     }

@@ -1,10 +1,10 @@
-use Rattle.std.proofs.Common.{◌≡◌, ◌<◌, pos, ℤ, ℕ, FitsSigned, rules, arith, get_or, take, length, subst, sym, ap, ◌∙◌, ◌+◌, refl, List}
+use Rattle.std.proofs.Common.{◌≡◌, pos, ℤ, arith, get_or, take, sym, ap, ◌∙◌, ◌+◌, refl}
 use Rattle.std.specs.Prelude.{int_div}
 use Rattle.std.specs.Int.{w128, cast_unsigned, cast_signed}
 use Rattle.std.specs.List.{AllZip}
 use Rattle.std.proofs.lemmas.List.{get_or_default}
 use Rattle.std.proofs.lemmas.List.Elements.{all_zip_more}
-use Rattle.std.proofs.lemmas.Int.{ints, to_z-of_z}
+use Rattle.std.proofs.lemmas.Int.{to_z-of_z}
 use Rattle.exact_numbers.proofs.Casts.{fits}
 use Rattle.exact_numbers.proofs.LeastMultiple.{exact_div}
 use Rattle.linear_forms.specs.declared.form.VarId.{VarId}
@@ -38,6 +38,6 @@ loop-term-preserved c =
     let inv : AllZip (IsDivided c.args.by) (take i c.args.terms.now) c.loop-term.quotients.items = simp to_z-of_z at c.loop-term.invariant in
     let r : IsDivided c.args.by p (p.0, int_div p.1 c.args.by) = record { same_name = refl; times = exact_div c.args.by p.1 c.requires.nonzero h } in
     let z : AllZip (IsDivided c.args.by) (take (i + 1) c.args.terms.now) c.push.new.self.items =
-        rw items (all_zip_more (IsDivided c.args.by) c.args.terms.now c.loop-term.quotients.items i p (p.0, int_div p.1 c.args.by) c.loop-term-test.true (get_or_default c.args.terms.now i d p c.loop-term-test.true) inv r)
+    rw items (all_zip_more (IsDivided c.args.by) c.args.terms.now c.loop-term.quotients.items i p (p.0, int_div p.1 c.args.by) c.loop-term-test.true (get_or_default c.args.terms.now i d p c.loop-term-test.true) inv r)
     in
     simp to_z-of_z z

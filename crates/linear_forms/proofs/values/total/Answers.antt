@@ -1,8 +1,8 @@
-use Rattle.std.proofs.Common.{◌≡◌, ◌<◌, ◌+◌, None, Some, pos, ℤ, ℕ, FitsSigned, rules, arith, get_or, drop, ap, sym, ◌∙◌, to_z, [], ◌∷◌}
+use Rattle.std.proofs.Common.{◌≡◌, ◌+◌, None, Some, pos, ℤ, FitsSigned, rules, get_or, drop, ap, sym, ◌∙◌, to_z, [], ◌∷◌}
 use Rattle.std.specs.Prelude.{◌*ℤ◌, ◌+ℤ◌}
 use Rattle.std.specs.Int.{w128}
 use Rattle.std.proofs.lemmas.List.{drop_all}
-use Rattle.std.proofs.lemmas.Int.{ints, to_z-of_z}
+use Rattle.std.proofs.lemmas.Int.{to_z-of_z}
 use Rattle.exact_numbers.specs.Limit.{checked}
 use Rattle.exact_numbers.proofs.Casts.{fits}
 use Rattle.exact_numbers.proofs.Limits.{formed_by}

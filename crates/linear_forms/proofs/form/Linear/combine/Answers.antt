@@ -1,13 +1,10 @@
-use Rattle.std.proofs.Common.{◌≡◌, Some, Ok, Err, FitsSigned, rules, ap, sym, ◌∙◌, subst, ℤ, List, [], inl}
-use Rattle.std.specs.Prelude.{◌*ℤ◌, ◌+ℤ◌}
-use Rattle.std.specs.Int.{w128}
+use Rattle.std.proofs.Common.{◌≡◌, Err, rules, ap, sym, ◌∙◌, subst, ℤ, inl}
 use Rattle.std.proofs.lemmas.Int.{to_z-of_z}
 use Rattle.exact_numbers.proofs.Casts.{fits}
-use Rattle.formula_meaning.specs.Form.{Form, multiple, coefficient}
+use Rattle.formula_meaning.specs.Form.{Form, coefficient}
 use Rattle.linear_forms.specs.declared.error.LinError.TheVariants.{Overflow}
 use Rattle.linear_forms.specs.Linear.{terms_of}
-use Rattle.linear_forms.specs.Terms.{PlacePasses, CombinePasses, IsCombination}
-use Rattle.linear_forms.specs.Merging.{IsMerged}
+use Rattle.linear_forms.specs.Terms.{CombinePasses, IsCombination}
 use Rattle.linear_forms.proofs.MergeSteps.{combination}
 use Rattle.linear_forms.proofs.Places.{at_some}
 use Rattle.linear_forms.proofs.form.Linear.combine.Goals as goal
@@ -24,10 +21,10 @@ returns-in_err-terms-clause-overflow c =
     let fa = c.ranges.a in let fb = c.ranges.b in
     let e : c.from_residual-in_err-terms.result ≡ Err c.in_err-terms.field-0.0 = search rules in
     λ h.
-        let m = sym e ∙ h in
-        let n : c.in_err-terms.field-0.0 ≡ Overflow = cc in
-        let x = rw (c.deref.ensures.value, c.deref-2.ensures.value) at (simp to_z-of_z at (c.merge.ensures.overflow (c.in_err-terms.was ∙ ap Err n))) in
-        passes_by c.self.view_is c.other.view_is (record { cause = inl (x.0, x.1) })
+    let m = sym e ∙ h in
+    let n : c.in_err-terms.field-0.0 ≡ Overflow = cc in
+    let x = rw (c.deref.ensures.value, c.deref-2.ensures.value) at (simp to_z-of_z at (c.merge.ensures.overflow (c.in_err-terms.was ∙ ap Err n))) in
+    passes_by c.self.view_is c.other.view_is (record { cause = inl (x.0, x.1) })
 
 pub returns-clause-combined : goal.returns-clause-combined
 returns-clause-combined c =
