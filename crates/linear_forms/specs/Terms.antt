@@ -3,7 +3,7 @@ use Rattle.std.specs.Prelude.{◌≡◌, ◌⊎◌, ℕ, ◌<◌, ℤ, pos, ◌+
 use Rattle.exact_numbers.specs.Limit.{InLimit, PastLimit, checked}
 use Rattle.exact_numbers.specs.Frac.{◌>>=◌}
 use Rattle.formula_meaning.specs.Point.{Point}
-use Rattle.formula_meaning.specs.Form.{Form, Term, value, coefficient, combine}
+use Rattle.formula_meaning.specs.Form.{Form, Term, total, value, coefficient}
 
 -- the names of all terms are above x
 abbrev pub AllAbove : ℕ → List Term → Type 0
@@ -85,3 +85,13 @@ value_steps f at denominator = do
   total ← total_steps (pos 0) f.terms at
   product ← checked (f.constant *ℤ denominator)
   checked (total +ℤ product)
+
+-- a product or a partial sum of the steps passes the limit
+abbrev pub TotalPasses : ℤ → List Term → (ℕ → ℤ) → Type 0
+TotalPasses sum [] at = ⊥
+TotalPasses sum (t ∷ ts) at =
+    PastLimit (t.times *ℤ at t.name) ⊎ (PastLimit (sum +ℤ t.times *ℤ at t.name) ⊎ TotalPasses (sum +ℤ t.times *ℤ at t.name) ts at)
+
+-- a product or a partial sum of the value passes the limit
+pub record ValuePasses (f : Form) (at : ℕ → ℤ) (denominator : ℤ) : Type 0 where
+  pub cause : TotalPasses (pos 0) f.terms at ⊎ (PastLimit (f.constant *ℤ denominator) ⊎ PastLimit (total f.terms at +ℤ f.constant *ℤ denominator))
