@@ -7,6 +7,8 @@ use Rattle.redlog_reader.specs.Terminals.{terminal_of}
 use Rattle.redlog_reader.specs.Lexing.{Lexes}
 use Rattle.redlog_reader.specs.Levels.{Passes}
 use Rattle.redlog_reader.specs.Grammar.{SpellsStatement}
+use Rattle.redlog_reader.specs.Reading.{Refuses}
+use Rattle.redlog_reader.specs.declared.token.ReadError.{ReadError}
 
 -- a piece is at most so long, in bytes
 abbrev pub byte_limit : ℕ
@@ -25,3 +27,7 @@ pub record Spells (bytes : List ℕ) (tree : StatementTree) : Type 0 where
   pub good : map (λ t. t.kind) lexemes ≡ map Some kinds
   pub shallow : ¬ Passes level_limit [] (map terminal_of kinds)
   pub spelled : SpellsStatement (map terminal_of kinds) tree
+
+-- why a piece is not read: its bytes spell no statement, or memory ran out
+abbrev pub Unread : List ℕ → ReadError → Type 0
+Unread bytes e = Refuses e ((tree : StatementTree) → ¬ (Spells bytes tree))

@@ -12,7 +12,7 @@ use crate::terminal::{Mark, Terminal};
 use crate::token::{ReadError, Token};
 use crate::peek::{after, next};
 use qe_syntax::{Formula, Formulas, Relation};
-use std::alloc::{AllocError, Global};
+use std::alloc::Global;
 
 // Three calls nest for each parenthesis, so these three keep their values small: formulas stand in boxes, and all
 // else is done by the functions below them.
@@ -161,7 +161,7 @@ fn put(members: &mut Vec<Formula>, member: Box<Formula>) -> Result<(), ReadError
     ensures put { OnOk result (map formula_tree members.new.items ≡ map formula_tree members.old.items ++ formula_tree member.value ∷ []) }
     ensures refused { IfErr result (λ e. Refuses e ⊥) }
 {
-    members.push(Box::into_inner(member)).map_err(|_| ReadError::Memory(AllocError))
+    members.push(Box::into_inner(member)).map_err(|_| ReadError::Memory)
 }
 
 /// The conjunction of the members, or the member where there is one alone, in a box.
@@ -213,5 +213,5 @@ fn boxed(alloc: Global, formula: Formula) -> Result<Box<Formula>, ReadError>
     ensures whole { IfOk result (λ f. f.value ≡ formula) }
     ensures refused { IfErr result (λ e. Refuses e ⊥) }
 {
-    Box::new(alloc, formula).map_err(|_| ReadError::Memory(AllocError))
+    Box::new(alloc, formula).map_err(|_| ReadError::Memory)
 }

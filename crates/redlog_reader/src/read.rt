@@ -2,8 +2,7 @@ ghost use Rattle.std.specs.Prelude.{◌≡◌, ℕ, List, [], ◌∷◌, IfOk, I
 ghost use Rattle.qe_syntax.specs.Proper.{IsProper};
 ghost use Rattle.qe_syntax.specs.Statements.{StatementTree, statement_tree};
 ghost use Rattle.redlog_reader.specs.Lexing.{AreTokens, IsLexical, LexicalWhere};
-ghost use Rattle.redlog_reader.specs.Reading.{Refuses};
-ghost use Rattle.redlog_reader.specs.Statement.{Spells};
+ghost use Rattle.redlog_reader.specs.Statement.{Spells, Unread};
 
 use crate::level::is_deep;
 use crate::lexer::next_lexeme;
@@ -39,7 +38,7 @@ pub fn tokens(alloc: Global, bytes: &[u8]) -> Result<Tokens, ReadError>
 pub fn read_statement(alloc: Global, bytes: &[u8]) -> Result<Statement, ReadError>
     ensures spelled { IfOk result (λ s. Spells bytes.now (statement_tree s)) }
     ensures proper { IfOk result (λ s. IsProper (statement_tree s)) }
-    ensures refused { IfErr result (λ e. Refuses e ((tree : StatementTree) → Spells bytes.now tree → ⊥)) }
+    ensures refused { IfErr result (Unread bytes.now) }
 {
     if bytes.len() > BYTE_LIMIT {
         return Err(ReadError::Syntax);

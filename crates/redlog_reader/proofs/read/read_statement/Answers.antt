@@ -3,6 +3,7 @@ use Rattle.qe_syntax.specs.Proper.{IsProper}
 use Rattle.redlog_reader.specs.declared.token.Token.{Token}
 use Rattle.redlog_reader.specs.Levels.{Passes}
 use Rattle.redlog_reader.specs.Terminals.{terminals}
+use Rattle.redlog_reader.specs.Statement.{Unread}
 use Rattle.redlog_reader.specs.Lexing.{AreTokens, IsLexical, LexicalWhere}
 use Rattle.redlog_reader.proofs.Lists.{refuses}
 use Rattle.redlog_reader.proofs.Proper.{proper_statement}
@@ -29,7 +30,7 @@ statement-requires c =
 pub returns-in_err-statement-clause-refused : goal.returns-in_err-statement-clause-refused
 returns-in_err-statement-clause-refused c =
     let are : AreTokens c.args.bytes.now c.items-2.result.now = subst (λ (ts : List Token). AreTokens c.args.bytes.now ts) (sym c.items-2.ensures) c.in-Ok.ensures.tokens in
-    let none = refuses c.in_err-statement.field-0.0 (no_statement c.args.bytes.now c.items-2.result.now are) c.in_err-statement.ensures.refused in
+    let none : Unread c.args.bytes.now c.in_err-statement.field-0.0 = refuses c.in_err-statement.field-0.0 (no_statement c.args.bytes.now c.items-2.result.now are) c.in_err-statement.ensures.refused in
     search (rules, none)
 
 pub returns-clause-spelled : goal.returns-clause-spelled
