@@ -4,5 +4,8 @@
 mod line;
 mod session;
 
+#[cfg(test)]
+mod tests;
+
 pub use line::{Line, StatementError};
 pub use session::{Limits, Session};

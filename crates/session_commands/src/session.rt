@@ -32,19 +32,23 @@ impl Session {
     /// A session under these limits.
     pub fn new(limits: Limits) -> Session
         requires { 1 ≤ limits.workers }
+        ensures { result.limits ≡ limits }
     {
         Session { limits }
     }
 
     /// The limits of the session.
-    pub fn limits(&self) -> Limits {
+    pub fn limits(&self) -> Limits
+        ensures { result ≡ self.now.limits }
+    {
         self.limits
     }
 
-    /// Answers the statement that these bytes spell.
+    /// Answers the statement that these bytes spell, or says the first cause of its refusal.
     pub fn statement(&mut self, alloc: Global, bytes: &[u8]) -> Result<Line, StatementError>
         ensures answer { IfOk result (IsAnswer bytes.now) }
         ensures refusal { IfErr result (IsRefused bytes.now) }
+        ensures kept { self.new ≡ self.old }
     {
         match read_statement(alloc, bytes) {
             Ok(statement) => answer(alloc, &statement),
