@@ -1,5 +1,5 @@
 ghost use Rattle.std.specs.Prelude.{◌≡◌, ◌≤◌, ◌<◌, Some, None, Ok, length, take, min, IfOk};
-ghost use Rattle.qe_io.specs.Streams.{Gave, IsAtEnd, Took};
+ghost use Rattle.qe_io.specs.Streams.{Gave, IsAtEnd};
 
 use crate::copy::copy_front;
 use crate::{ReadFailed, Sink, Source, WriteFailed};
