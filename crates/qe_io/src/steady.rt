@@ -1,4 +1,5 @@
-ghost use Rattle.std.specs.Prelude.{◌≡◌, Some, None};
+ghost use Rattle.std.specs.Prelude.{◌≡◌, ◌≤◌, ◌<◌, Some, None, Ok, length, take, min, IfOk};
+ghost use Rattle.qe_io.specs.Streams.{Gave, IsAtEnd};
 
 use crate::copy::copy_front;
 use crate::{ReadFailed, Sink, Source, WriteFailed};
@@ -35,7 +36,15 @@ impl Source for SteadySource {
 
     ghost faults = { λ _. 0 };
 
-    fn read(&mut self, into: &mut [u8]) -> Result<usize, ReadFailed> {
+    fn read(&mut self, into: &mut [u8]) -> Result<usize, ReadFailed>
+        requires { 0 < length into.old }
+        ensures count { IfOk result (λ n. n ≤ length into.new) }
+        ensures bytes { IfOk result (λ n. Gave (Some self.old) (Some self.new) (take n into.new)) }
+        ensures end { IfOk result (λ n. n ≡ 0 → IsAtEnd (Some self.old)) }
+
+        // It gives as many bytes as it may, and never fails.
+        ensures gives { result ≡ Ok (min (length into.old) (length self.old)) }
+    {
         let count = into.len().min(self.bytes.len() - self.next);
         copy_front(&self.bytes[self.next..], into, count);
         self.next += count;
@@ -59,7 +68,10 @@ impl Sink for SteadySink {
 
     ghost faults = { λ _. 0 };
 
-    fn write(&mut self, piece: &[u8]) -> Result<usize, WriteFailed> {
+    fn write(&mut self, piece: &[u8]) -> Result<usize, WriteFailed>
+        requires { 0 < length piece.now }
+        ensures takes { result ≡ Ok (length piece.now) }
+    {
         Ok(piece.len())
     }
 }

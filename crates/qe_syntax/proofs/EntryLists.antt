@@ -1,6 +1,6 @@
 -- What is said of some entry or of each, along a list.
-use Rattle.std.proofs.Common.{◌≡◌, ◌⊎◌, inl, inr, ℕ, ◌+◌, ◌<◌, List, [], ◌∷◌, ◌++◌, length, take, drop, get_or, sym, ◌∙◌, ap, subst, refl, ⊎_elim}
-use Rattle.std.proofs.Common.{suc, add-one, ◌≤◌, IsTrue, ◌↔◌, Bool, true, false, cond, not}
+use Rattle.std.proofs.Common.{◌≡◌, ◌⊎◌, inl, inr, ℕ, ◌+◌, ◌<◌, List, [], ◌∷◌, ◌++◌, length, take, drop, get_or, sym, ◌∙◌, ap, subst, ⊎_elim}
+use Rattle.std.proofs.Common.{suc, add-one, ◌≤◌, IsTrue, ◌↔◌, Bool, true, cond, not}
 use Rattle.std.proofs.Math.ListN.{drop_of_length-le}
 use Rattle.std.proofs.Math.Seq.{drop-cons}
 use Rattle.std.proofs.lemmas.List.{take_more, take-append-drop}
@@ -9,7 +9,7 @@ use Rattle.std.specs.List.{AllByRecursion}
 use Rattle.std.specs.Ordering.{nat_cmp}
 use Rattle.std.specs.Cmp.Lexicographic.{slice_cmp}
 use Rattle.std.specs.BTreeMap.{is_at}
-use Rattle.qe_syntax.proofs.NameOrder.{at_same, same_at}
+use Rattle.qe_syntax.proofs.NameOrder.{by_at, at_same, same_at}
 use Rattle.formula_meaning.specs.Some.{SomeOf}
 use Rattle.qe_syntax.specs.declared.statement.PointEntry.{PointEntry}
 use Rattle.qe_syntax.specs.Point.{HasEntry, NamesTwice}
@@ -59,10 +59,6 @@ pub around : {X : Type 0} (xs : List X) (i : ℕ) (x : X) → i < length xs → 
 around xs i x h e =
     ap (λ y. take i xs ++ y ∷ drop (suc i) xs) e ∙ ap (λ ys. take i xs ++ ys) (sym (drop-cons xs i x h)) ∙ take-append-drop i xs
 
-by_at : {P : Type 0} (b : Bool) → (b ≡ true → P) → (b ≡ false → P) → P
-by_at true f g = f refl
-by_at false f g = g refl
-
 -- the names seen so far, with one more
 pub seen_more : (old new : List ℕ → Bool) (es : List PointEntry) (e : PointEntry) → ((x : List ℕ) → IsTrue (old x) ↔ HasEntry x es)
     → ((x : List ℕ) → new x ≡ cond (is_at (slice_cmp nat_cmp e.name) x) true (old x)) → (x : List ℕ) → IsTrue (new x) ↔ HasEntry x (es ++ e ∷ [])
@@ -76,14 +72,6 @@ seen_more old new es e seen updated x =
           (λ q. absurd (false≢true (sym off ∙ same_at e.name x (some_one (λ (y : PointEntry). y.name ≡ x) e q))))
           (some_split (λ (y : PointEntry). y.name ≡ x) es (e ∷ []) h),
     ))
-
-pub was_there : (a b : Bool) → a ≡ not b → a ≡ false → b ≡ true
-was_there a true e f = refl
-was_there a false e f = absurd (false≢true (sym f ∙ e))
-
-pub was_new : (a b : Bool) → a ≡ not b → a ≡ true → b ≡ false
-was_new a true e f = absurd (false≢true (sym e ∙ f))
-was_new a false e f = refl
 
 -- what is left from i on
 pub rest_at : {X : Type 0} (xs : List X) (i : ℕ) (x : X) → i < length xs → x ≡ get_or xs i x → drop i xs ≡ x ∷ drop (i + 1) xs

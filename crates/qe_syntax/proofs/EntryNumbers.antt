@@ -1,5 +1,5 @@
 -- The numbers of entries: their values in lowest terms, over common denominators.
-use Rattle.std.proofs.Common.{◌≡◌, ◌⊎◌, inl, inr, ℕ, ◌<◌, List, [], ◌∷◌, ⊎_elim, sym, ◌∙◌, ap, subst, refl, arith, Bool, true, false, IsTrue, nat_eq, not, MatchOption, Option, Some}
+use Rattle.std.proofs.Common.{◌≡◌, ◌⊎◌, inl, inr, ℕ, ◌<◌, List, [], ◌∷◌, ⊎_elim, sym, ◌∙◌, ap, subst, refl, arith, Bool, true, IsTrue, nat_eq, not, MatchOption, Option, Some}
 use Rattle.std.proofs.Math.IntN.{ℤ, pos, negsuc, ◌*ℤ◌}
 use Rattle.std.specs.Prelude.{◌<ℤ◌, ◌≤ℤ◌}
 use Rattle.std.specs.Int.{w128, cast_unsigned}
@@ -29,7 +29,7 @@ use Rattle.std.specs.Prelude.{IfSome}
 use Rattle.std.specs.Ordering.{nat_cmp}
 use Rattle.std.specs.Cmp.Lexicographic.{slice_cmp}
 use Rattle.std.specs.BTreeMap.{is_at}
-use Rattle.qe_syntax.proofs.NameOrder.{at_same, same_at}
+use Rattle.qe_syntax.proofs.NameOrder.{by_at, at_same, same_at}
 use Rattle.qe_syntax.proofs.EntryLists.{each_map, each_push, some_left, some_right, twice_found, rest_at, none_left}
 use Rattle.std.specs.Prelude.{unwrap_or, unsigned_abs}
 use Rattle.exact_numbers.proofs.Ring.{mul_comm}
@@ -213,10 +213,6 @@ pub record NumbersSoFar (es rest : List PointEntry) (d : ℤ) (numbers : List (L
   pub split : front ++ rest ≡ es
   pub are : AreNumbers front d numbers
   pub ready : AllByRecursion (IsReady d) rest
-
-by_at : {P : Type 0} (b : Bool) → (b ≡ true → P) → (b ≡ false → P) → P
-by_at true f g = f refl
-by_at false f g = g refl
 
 each_kept : (d : ℤ) (old new : List (List ℕ × ℤ)) (name : List ℕ) (k : ℤ) → SetsNumber old new name k → (front : List PointEntry) → ¬ (HasEntry name front)
     → AllByRecursion (λ e. (number : ℤ) × IsScaled d e number × (number_of e.name old ≡ Some number)) front

@@ -1,5 +1,5 @@
 -- Entries mean one point at most.
-use Rattle.std.proofs.Common.{◌≡◌, ◌⊎◌, inl, inr, ⊎_elim, ℕ, List, [], ◌∷◌, sym, ◌∙◌, subst, refl, true, false, Bool}
+use Rattle.std.proofs.Common.{◌≡◌, ◌⊎◌, inl, inr, ⊎_elim, ℕ, List, [], ◌∷◌, sym, ◌∙◌, subst}
 use Rattle.std.proofs.Math.IntN.{ℤ, pos}
 use Rattle.std.specs.List.{AllByRecursion}
 use Rattle.std.specs.Ordering.{nat_cmp}
@@ -10,21 +10,17 @@ use Rattle.formula_meaning.specs.Some.{SomeOf}
 use Rattle.qe_syntax.specs.declared.statement.PointEntry.{PointEntry}
 use Rattle.qe_syntax.specs.Value.{NamedPoint}
 use Rattle.qe_syntax.specs.Point.{IsZeroBelow, IsPointOf, IsScaled, HasEntry}
-use Rattle.qe_syntax.proofs.NameOrder.{at_same, same_at}
+use Rattle.qe_syntax.proofs.NameOrder.{by_at, at_same, same_at}
 use Rattle.qe_syntax.proofs.EntryNumbers.{scaled_unique, least_unique}
 
 pos_same : (m n : ℕ) → pos m ≡ pos n → m ≡ n
 pos_same m n e = cc
 
-by_bool : {P : Type 0} (b : Bool) → (b ≡ true → P) → (b ≡ false → P) → P
-by_bool true f g = f refl
-by_bool false f g = g refl
-
 -- a name has an entry or not
 pub named_or_not : (x : List ℕ) (es : List PointEntry) → HasEntry x es ⊎ (¬ (HasEntry x es))
 named_or_not x [] = inr (λ h. h)
 named_or_not x (e ∷ es) =
-    by_bool (is_at (slice_cmp nat_cmp e.name) x)
+    by_at (is_at (slice_cmp nat_cmp e.name) x)
     (λ at. inl (inl (at_same e.name x at)))
     (λ off. ⊎_elim (λ h. inl (inr h)) (λ n. inr (λ h. ⊎_elim (λ same. false≢true (sym off ∙ same_at e.name x same)) n h)) (named_or_not x es))
 

@@ -20,9 +20,11 @@ abbrev pub IsSigned : Literal → Type 0
 IsSigned (Fits n) = InLimit n
 IsSigned Past = Unit {0}
 
+-- an entry whose literals are within the limit, with no sign below
 abbrev pub IsProperEntry : PointEntry → Type 0
 IsProperEntry e = IsSigned e.above × IsNumeral e.below
 
+-- each entry is proper
 abbrev pub AreProperEntries : List PointEntry → Type 0
 AreProperEntries = AllByRecursion IsProperEntry
 
@@ -32,12 +34,14 @@ AreTerms none = ⊥
 AreTerms (also t none) = ⊥
 AreTerms (also t (also u ts)) = Unit {0}
 
+-- the list has two members at least
 abbrev pub AreFormulas : FormulaTrees → Type 0
 AreFormulas plain.none = ⊥
 AreFormulas (plain.also f plain.none) = ⊥
 AreFormulas (plain.also f (plain.also g fs)) = Unit {0}
 
 abbrev mutual
+  -- each number of the term is within the limit, and each list has two members at least
   pub IsProperTerm : TermTree → Type 0
   IsProperTerm (Number n) = IsNumeral n
   IsProperTerm (Named x) = Unit {0}
@@ -47,10 +51,12 @@ abbrev mutual
   IsProperTerm (Power t n) = IsProperTerm t × IsNumeral n
   IsProperTerm (Negative t) = IsProperTerm t
 
+  -- each of the terms is proper
   pub AreProperTerms : TermTrees → Type 0
   AreProperTerms none = Unit {0}
   AreProperTerms (also t ts) = IsProperTerm t × AreProperTerms ts
 
+-- each term of the atom is proper
 abbrev pub IsProperAtom : WrittenAtom → Type 0
 IsProperAtom (Compare rel s t) = IsProperTerm s × IsProperTerm t
 IsProperAtom (Cong s t m) = IsProperTerm s × IsProperTerm t × IsProperTerm m
@@ -58,6 +64,7 @@ IsProperAtom (Ncong s t m) = IsProperTerm s × IsProperTerm t × IsProperTerm m
 IsProperAtom (Bound x) = Unit {0}
 
 abbrev mutual
+  -- each atom of the formula is proper, and each list has two members at least
   pub IsProperFormula : FormulaTree → Type 0
   IsProperFormula Yes = Unit {0}
   IsProperFormula No = Unit {0}
@@ -71,10 +78,12 @@ abbrev mutual
   IsProperFormula (Ex x f) = IsProperFormula f
   IsProperFormula (All x f) = IsProperFormula f
 
+  -- each of the formulas is proper
   pub AreProperFormulas : FormulaTrees → Type 0
   AreProperFormulas plain.none = Unit {0}
   AreProperFormulas (plain.also f fs) = IsProperFormula f × AreProperFormulas fs
 
+-- each formula and each entry of the command is proper
 abbrev pub IsProperCommand : CommandTree → Type 0
 IsProperCommand (Echo f) = IsProperFormula f
 IsProperCommand (Nnf f) = IsProperFormula f
@@ -87,6 +96,7 @@ IsProperCommand (Qea f given) = IsProperFormula f × AreProperFormulas given
 IsProperCommand (Holds f entries) = IsProperFormula f × AreProperEntries entries
 IsProperCommand (Sample f entries) = IsProperFormula f × AreProperEntries entries
 
+-- the command of the action is proper, if it has one
 abbrev pub IsProperAction : ActionTree → Type 0
 IsProperAction Empty = Unit {0}
 IsProperAction Ignored = Unit {0}
@@ -95,5 +105,6 @@ IsProperAction (Choose setting) = Unit {0}
 IsProperAction (Say c) = IsProperCommand c
 IsProperAction (Assign x c) = IsProperCommand c
 
+-- the action of the statement is proper
 abbrev pub IsProper : StatementTree → Type 0
 IsProper s = IsProperAction s.action

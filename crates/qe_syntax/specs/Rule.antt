@@ -14,6 +14,7 @@ use Rattle.qe_syntax.specs.declared.value.EvalError.TheVariants.{ZeroDivisor, Ov
 use Rattle.qe_syntax.specs.Trees.{TermTree, TermTrees, Number, Named, Sum, Product, Quotient, Power, Negative, none, also, Compare, Cong, Ncong, Bound, FormulaTree, FormulaTrees}
 use Rattle.qe_syntax.specs.Value.{NamedPoint}
 
+-- the second calculation on the result of the first, which stops both where it stops
 infixl 10 ◌>>=◌
 abbrev pub ◌>>=◌ : {A B : Type 0} → Result A EvalError → (A → Result B EvalError) → Result B EvalError
 (Ok x) >>= f = f x
@@ -24,13 +25,16 @@ abbrev pub stepped : Option Frac → Result Frac EvalError
 stepped None = Err Overflow
 stepped (Some v) = Ok v
 
+-- the value of a literal, which stops the calculation above the limit
 abbrev pub literal_fraction : Literal → Result Frac EvalError
 literal_fraction (Fits n) = Ok (whole_frac n)
 literal_fraction Past = Err Overflow
 
+-- the product with the inverse, which stops at the divisor 0
 abbrev pub quotient_step : Frac → Frac → Result Frac EvalError
 quotient_step v w = if int_eq w.numerator (pos 0) then Err ZeroDivisor else stepped (product_step v (inverted w))
 
+-- the repeated product
 abbrev pub power_step : Frac → Literal → Result Frac EvalError
 power_step v (Fits n) = stepped (power_steps v (unsigned_abs n))
 power_step v Past = Err Overflow
@@ -51,6 +55,7 @@ abbrev mutual
   added total none p = Ok total
   added total (also t ts) p = calculated t p >>= λ v. stepped (sum_step total v) >>= λ sum. added sum ts p
 
+  -- the members multiplied with what came before them, one after another
   pub multiplied : Frac → TermTrees → NamedPoint → Result Frac EvalError
   multiplied total none p = Ok total
   multiplied total (also t ts) p = calculated t p >>= λ v. stepped (product_step total v) >>= λ product. multiplied product ts p
@@ -72,6 +77,7 @@ difference s t p = calculated s p >>= λ v. calculated t p >>= λ w. stepped (su
 abbrev pub is_multiple : Frac → Frac → Bool
 is_multiple v m = int_eq v.denominator (pos 1) && int_eq (residue_of v.numerator (pos (unsigned_abs m.numerator))) (pos 0)
 
+-- whether the difference is a multiple of the modulus
 abbrev pub congruence : TermTree → TermTree → TermTree → NamedPoint → Result Bool EvalError
 congruence s t m p = difference s t p >>= λ d. calculated m p >>= λ modulus. Ok (is_multiple d modulus)
 
@@ -99,6 +105,7 @@ abbrev mutual
   calculated_all sofar plain.none p = Ok sofar
   calculated_all sofar (plain.also f fs) p = calculated_truth f p >>= λ a. calculated_all (sofar && a) fs p
 
+  -- whether some member is true, or what came before them
   pub calculated_some : Bool → FormulaTrees → NamedPoint → Result Bool EvalError
   calculated_some sofar plain.none p = Ok sofar
   calculated_some sofar (plain.also f fs) p = calculated_truth f p >>= λ a. calculated_some (sofar || a) fs p

@@ -5,6 +5,7 @@ use Rattle.formula_meaning.specs.Formula as plain
 use Rattle.qe_syntax.specs.Trees.{TermTree, TermTrees, Number, Named, Sum, Product, Quotient, Power, Negative, none, also, WrittenAtom, Compare, Cong, Ncong, Bound, FormulaTree, FormulaTrees}
 
 abbrev mutual
+  -- the term has no quotient and no power
   pub IsSimpleTerm : TermTree → Type 0
   IsSimpleTerm (Number n) = Unit {0}
   IsSimpleTerm (Named x) = Unit {0}
@@ -14,10 +15,12 @@ abbrev mutual
   IsSimpleTerm (Power t n) = ⊥
   IsSimpleTerm (Negative t) = IsSimpleTerm t
 
+  -- each of the terms is simple
   pub AreSimpleTerms : TermTrees → Type 0
   AreSimpleTerms none = Unit {0}
   AreSimpleTerms (also t ts) = IsSimpleTerm t × AreSimpleTerms ts
 
+-- the atom is a comparison of simple terms
 abbrev pub IsSimpleAtom : WrittenAtom → Type 0
 IsSimpleAtom (Compare rel s t) = IsSimpleTerm s × IsSimpleTerm t
 IsSimpleAtom (Cong s t m) = ⊥
@@ -25,6 +28,7 @@ IsSimpleAtom (Ncong s t m) = ⊥
 IsSimpleAtom (Bound x) = ⊥
 
 abbrev mutual
+  -- the formula has no connectives but not, and, or, no quantifiers, and only simple atoms
   pub IsSimple : FormulaTree → Type 0
   IsSimple Yes = Unit {0}
   IsSimple No = Unit {0}
@@ -38,6 +42,7 @@ abbrev mutual
   IsSimple (Ex x f) = ⊥
   IsSimple (All x f) = ⊥
 
+  -- each of the formulas is simple
   pub AreSimple : FormulaTrees → Type 0
   AreSimple plain.none = Unit {0}
   AreSimple (plain.also f fs) = IsSimple f × AreSimple fs

@@ -9,6 +9,7 @@ use Rattle.qe_syntax.specs.declared.statement.Action as acts
 use Rattle.qe_syntax.specs.declared.statement.Action.TheVariants as action
 use Rattle.qe_syntax.specs.declared.statement.Statement as whole
 
+-- what a statement asks for
 pub data CommandTree : Type 0 where
   Echo : FormulaTree → CommandTree
   Nnf : FormulaTree → CommandTree
@@ -21,6 +22,7 @@ pub data CommandTree : Type 0 where
   Holds : FormulaTree → List PointEntry → CommandTree
   Sample : FormulaTree → List PointEntry → CommandTree
 
+-- what a statement does
 pub data ActionTree : Type 0 where
   Empty : ActionTree
   Ignored : ActionTree
@@ -29,10 +31,12 @@ pub data ActionTree : Type 0 where
   Say : CommandTree → ActionTree
   Assign : List ℕ → CommandTree → ActionTree
 
+-- a statement: what it does, and whether its line is printed
 pub record StatementTree : Type 0 where
   pub action : ActionTree
   pub printed : Bool
 
+-- the tree of a command
 abbrev pub command_tree : code.Command → CommandTree
 command_tree (command.Echo f) = Echo (formula_tree f)
 command_tree (command.Nnf f) = Nnf (formula_tree f)
@@ -45,6 +49,7 @@ command_tree (command.Qea f given) = Qea (formula_tree f) (formula_trees given)
 command_tree (command.Holds f entries) = Holds (formula_tree f) entries
 command_tree (command.Sample f entries) = Sample (formula_tree f) entries
 
+-- the tree of an action
 abbrev pub action_tree : acts.Action → ActionTree
 action_tree action.Empty = Empty
 action_tree action.Ignored = Ignored
@@ -53,5 +58,6 @@ action_tree (action.Choose setting) = Choose setting
 action_tree (action.Say c) = Say (command_tree c)
 action_tree (action.Assign x c) = Assign x (command_tree c)
 
+-- the tree of a statement
 abbrev pub statement_tree : whole.Statement → StatementTree
 statement_tree s = record { action = action_tree s.action; printed = s.printed }

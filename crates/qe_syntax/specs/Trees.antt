@@ -33,9 +33,11 @@ pub data WrittenAtom : Type 0 where
   Ncong : TermTree → TermTree → TermTree → WrittenAtom
   Bound : List ℕ → WrittenAtom
 
+-- a formula as it is written; a name is its list of bytes
 abbrev pub FormulaTree : Type 0
 FormulaTree = Formula WrittenAtom (List ℕ)
 
+-- a list of formulas
 abbrev pub FormulaTrees : Type 0
 FormulaTrees = Formulas WrittenAtom (List ℕ)
 
@@ -59,6 +61,7 @@ term_step (layer.Quotient s t) = Quotient s.value t.value
 term_step (layer.Power t n) = Power t.value n
 term_step (layer.Negative t) = Negative t.value
 
+-- the trees of a list whose members have theirs in their places
 abbrev pub terms_step : layer.Terms-F TermTree TermTrees → TermTrees
 terms_step ts = terms_of ts.list.items
 
@@ -87,6 +90,7 @@ formula_step (open_formula.Ex x f) = plain.Ex x f.value
 formula_step (open_formula.All x f) = plain.All x f.value
 formula_step (open_formula.Named x) = plain.One (Bound x)
 
+-- the trees of a list whose members have theirs in their places
 abbrev pub formulas_step : open_formula.Formulas-F FormulaTree FormulaTrees → FormulaTrees
 formulas_step fs = formulas_of fs.list.items
 

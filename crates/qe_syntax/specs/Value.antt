@@ -43,14 +43,17 @@ abbrev mutual
   value (Power t n) p = true_power (value t p) (unsigned_abs (literal_number n))
   value (Negative t) p = negated (value t p)
 
+  -- the sum of the values, 0 for none
   pub value_of_sum : TermTrees → NamedPoint → Frac
   value_of_sum none p = whole_frac (pos 0)
   value_of_sum (also t ts) p = true_sum (value t p) (value_of_sum ts p)
 
+  -- the product of the values, 1 for none
   pub value_of_product : TermTrees → NamedPoint → Frac
   value_of_product none p = whole_frac (pos 1)
   value_of_product (also t ts) p = true_product (value t p) (value_of_product ts p)
 
+-- the relation that a comparison stands for
 abbrev pub relation_of : Relation → meaning.Relation
 relation_of Equal = meaning.Equals
 relation_of Differs = meaning.Differs
@@ -74,6 +77,7 @@ Says named (Cong s t m) p = IsCongruent (value s p) (value t p) (value m p)
 Says named (Ncong s t m) p = ¬ (IsCongruent (value s p) (value t p) (value m p))
 Says named (Bound x) p = named x p
 
+-- the names have the same bytes
 abbrev pub same_name : List ℕ → List ℕ → Bool
 same_name = pointwise nat_eq
 
@@ -96,10 +100,12 @@ abbrev mutual
   HasName (Power t n) x = HasName t x
   HasName (Negative t) x = HasName t x
 
+  -- the name stands in some of the terms
   pub HaveName : TermTrees → List ℕ → Type 0
   HaveName none x = ⊥
   HaveName (also t ts) x = HasName t x ⊎ HaveName ts x
 
+-- the name stands in a term of the atom
 abbrev pub Mentions : WrittenAtom → List ℕ → Type 0
 Mentions (Compare rel s t) x = HasName s x ⊎ HasName t x
 Mentions (Cong s t m) x = HasName s x ⊎ (HasName t x ⊎ HasName m x)

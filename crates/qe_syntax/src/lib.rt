@@ -5,6 +5,8 @@ mod laws;
 mod name;
 mod point;
 mod statement;
+#[cfg(test)]
+mod tests;
 mod tree;
 mod truth;
 mod value;

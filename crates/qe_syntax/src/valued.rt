@@ -14,7 +14,8 @@ use crate::tree::{Formula, Term};
 use std::alloc::{AllocError, Global};
 use std::collections::BTreeSet;
 
-/// The first name of a formula, from left to right, that no entry has. The formula has no quantifiers.
+/// A name of a formula that no entry has, or `None` where each has an entry. Which of several it is, no clause says. The
+/// formula has no quantifiers. An `Err` is want of memory.
 pub fn first_unvalued(
     alloc: Global,
     formula: &Formula,
