@@ -129,7 +129,9 @@ impl Levels {
         ensures refused { IfErr result (λ e. Refuses e ⊥) }
     {
         let group = self.inmost;
-        self.around.push(group).map_err(|_| ReadError::Memory(AllocError))?;
+        self.around
+            .push(group)
+            .map_err(|_| ReadError::Memory(AllocError))?;
         self.total += weight(&group);
         let opened = self.run + self.held + 1;
         self.inmost = Group {

@@ -1,4 +1,4 @@
-ghost use Rattle.std.specs.Prelude.{◌≡◌, ◌<◌, ◌≤◌, length, IfSome, MatchOption};
+ghost use Rattle.std.specs.Prelude.{◌≡◌, ℕ, List, ◌⊎◌, ◌<◌, ◌≤◌, length, IfSome, MatchOption};
 ghost use Rattle.redlog_reader.specs.Pieces.{is_end, is_end_mark, IsPiece, EndsPiece, HasNoTokenFrom};
 
 use crate::lexer::next_lexeme;
@@ -32,6 +32,13 @@ pub fn next_piece(bytes: &[u8], from: usize) -> Option<Piece>
     let end = piece_end(bytes, end);
     Some(Piece { start, end })
 }
+
+/// From each place on a script has no token or a next piece, never both, and its next piece is one.
+pub fn one_piece()
+    ensures some { (script : List ℕ) (from : ℕ) → HasNoTokenFrom script from ⊎ ((start : ℕ) × (end : ℕ) × IsPiece script from start end) }
+    ensures not_both { (script : List ℕ) (from start end : ℕ) → HasNoTokenFrom script from → IsPiece script from start end → ⊥ }
+    ensures one { (script : List ℕ) (from start end start2 end2 : ℕ) → IsPiece script from start end → IsPiece script from start2 end2 → (start ≡ start2) × (end ≡ end2) }
+{}
 
 /// The end of the piece that goes on at `from`.
 fn piece_end(bytes: &[u8], from: usize) -> usize

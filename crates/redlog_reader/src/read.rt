@@ -60,5 +60,4 @@ pub fn read_statement(alloc: Global, bytes: &[u8]) -> Result<Statement, ReadErro
 /// No bytes spell two statements.
 pub fn one_statement()
     ensures { (bytes : List ℕ) (s t : StatementTree) → Spells bytes s → Spells bytes t → s ≡ t }
-{
-}
+{}

@@ -51,7 +51,9 @@ fn put(members: &mut Vec<Term>, member: Term) -> Result<(), ReadError>
     ensures put { OnOk result (map term_tree members.new.items ≡ map term_tree members.old.items ++ term_tree member ∷ []) }
     ensures refused { IfErr result (λ e. Refuses e ⊥) }
 {
-    members.push(member).map_err(|_| ReadError::Memory(AllocError))
+    members
+        .push(member)
+        .map_err(|_| ReadError::Memory(AllocError))
 }
 
 /// The term, which may get the sign `-`.
@@ -122,11 +124,7 @@ pub fn sums_end(tokens: &[Token]) -> bool
 }
 
 /// The number, times the name that a `*` may put after it. No `*` follows it.
-fn multiple(
-    alloc: Global,
-    number: Literal,
-    tokens: &[Token],
-) -> Result<(Term, &[Token]), ReadError>
+fn multiple(alloc: Global, number: Literal, tokens: &[Token]) -> Result<(Term, &[Token]), ReadError>
     ensures found { IfOk result (λ r. Found Part (Ends 1) (Terminal.Number number ∷ terminals tokens.now) (term_tree r.0) (terminals r.1.now)) }
     ensures refused { IfErr result (λ e. Refuses e (NotFound Part (Ends 1) (Terminal.Number number ∷ terminals tokens.now))) }
 {
@@ -155,7 +153,11 @@ fn product_of(alloc: Global, left: Term, right: Term) -> Result<Term, ReadError>
     ensures refused { IfErr result (λ e. Refuses e ⊥) }
 {
     let mut factors = Vec::new(alloc);
-    factors.push(left).map_err(|_| ReadError::Memory(AllocError))?;
-    factors.push(right).map_err(|_| ReadError::Memory(AllocError))?;
+    factors
+        .push(left)
+        .map_err(|_| ReadError::Memory(AllocError))?;
+    factors
+        .push(right)
+        .map_err(|_| ReadError::Memory(AllocError))?;
     Ok(Term::Product(Terms::of(factors)))
 }
