@@ -76,14 +76,17 @@ fn nests(rt: HostRuntime) -> Result<(), AllocError> {
 
 #[test]
 fn cuts(rt: HostRuntime) -> Result<(), AllocError> {
-    let script = b" a ; b:$ %c;\n d";
-    let mut from = 0;
-    for (start, end) in [(1, 4), (5, 8), (14, 15)] {
-        let found = next_piece(script, from).map(|p| (p.start, p.end));
-        assert_eq!(rt; found, Some((start, end)));
-        from = end;
+    let script = b" a ; b:$ %c;\n d".as_slice();
+    for (from, found) in [
+        (0, Some((1, 4))),
+        (4, Some((5, 8))),
+        (8, Some((14, 15))),
+        (15, None),
+    ] {
+        assert!(rt; from <= script.len());
+        let piece = next_piece(script, from).map(|p| (p.start, p.end));
+        assert_eq!(rt; piece, found);
     }
-    assert!(rt; next_piece(script, 15).is_none());
     let list = tokens(rt.alloc(), b"x2<=3% 4").map_err(|_| AllocError)?;
     assert_eq!(rt; list.items().len(), 3);
     Ok(())
