@@ -1,0 +1,17 @@
+pub mod Lists
+pub mod Atoms
+pub mod Side
+pub mod FieldsPoints
+pub mod FieldsSubstitution
+pub mod FieldsTheorems
+pub mod IntegersSubstitution
+pub mod IntegersPoints
+pub mod IntegersTheorems
+pub mod IntegersExamples
+pub mod Elimination
+pub mod Decided
+pub mod IntegersSample
+pub mod FieldsExample
+pub mod FieldsSamples
+pub mod PointsTheorems
+pub mod NamesTheorems

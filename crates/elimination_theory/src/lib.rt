@@ -2,3 +2,7 @@
 #![tactic(auto)]
 
 pub mod fields;
+pub mod integers;
+pub mod names;
+pub mod points;
+pub mod truth;

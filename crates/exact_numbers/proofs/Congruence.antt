@@ -1,12 +1,12 @@
 -- Linear congruences: when one is solved, and how its solutions repeat.
-use Rattle.std.proofs.Common.{◌≡◌, ap, sym, ◌∙◌, arith}
-use Rattle.std.proofs.Math.IntN.{ℤ, pos, neg_ℤ, ◌+ℤ◌, ◌-ℤ◌, ◌*ℤ◌}
+use Rattle.std.proofs.Common.{◌≡◌, ap, arith}
+use Rattle.std.proofs.Math.IntN.{ℤ, neg_ℤ, ◌+ℤ◌, ◌-ℤ◌, ◌*ℤ◌}
 use Rattle.std.specs.Prelude.{◌↔◌}
 use Rattle.std.proofs.lemmas.Int.{ints}
-use Rattle.exact_numbers.specs.Divides.{Divides, IsGcd, Combines, Solves}
+use Rattle.exact_numbers.specs.Divides.{Divides, IsGcd, Solves}
 use Rattle.exact_numbers.proofs.Ring.{ring, mul_add}
 use Rattle.exact_numbers.proofs.Divisibility.{divides_along, divides_trans, divides_mul, divides_mul_left, divides_add, divides_sub}
-use Rattle.exact_numbers.proofs.Gcd.{bezout}
+use Rattle.exact_numbers.proofs.GreatestDivisor.{bezout}
 
 solution_exact : (a c m g k u v : ℤ) → c ≡ g *ℤ k → a *ℤ u +ℤ m *ℤ v ≡ g → a *ℤ (u *ℤ k) -ℤ c ≡ m *ℤ neg_ℤ (v *ℤ k)
 solution_exact a c m g k u v ec eg =

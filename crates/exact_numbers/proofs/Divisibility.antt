@@ -1,13 +1,13 @@
 -- Divisibility on ℤ.
-use Rattle.std.proofs.Common.{◌≡◌, ◌<◌, ◌+◌, ◌*◌, ◌/◌, ℕ, zero, suc, ap, sym, ◌∙◌, refl, subst, arith, inl, inr, ⊎_elim}
+use Rattle.std.proofs.Common.{◌≡◌, ◌*◌, ◌/◌, ℕ, ap, sym, ◌∙◌, subst, arith}
 use Rattle.std.proofs.Math.IntN.{ℤ, pos, negsuc, neg_ℤ, ◌+ℤ◌, ◌-ℤ◌, ◌*ℤ◌}
-use Rattle.std.specs.Prelude.{◌<ℤ◌, ◌≤ℤ◌, unsigned_abs, int_div}
+use Rattle.std.specs.Prelude.{◌<ℤ◌, ◌≤ℤ◌, unsigned_abs}
 use Rattle.std.specs.Int.{◌∣◌}
 use Rattle.std.proofs.Math.Nat.{mul-div_cancel', dvd-mul_right}
 use Rattle.std.proofs.lemmas.Int.{ints, unsigned_abs-mul}
 use Rattle.exact_numbers.specs.Divides.{Divides}
-use Rattle.exact_numbers.proofs.Ring.{ring, mul_comm, mul_assoc, mul_left_comm, mul_add, mul_sub, mul_neg, neg_mul, mul_zero, zero_mul, mul_one, one_mul}
-use Rattle.exact_numbers.proofs.Order.{by_order, by_zero, by_less, mul_positive, cancel, at_most_mul, factor_positive, cancel_positive}
+use Rattle.exact_numbers.proofs.Ring.{mul_comm, mul_assoc, mul_add, mul_neg, neg_mul, mul_zero, zero_mul, mul_one, one_mul}
+use Rattle.exact_numbers.proofs.Order.{by_zero, by_less, cancel, at_most_mul, factor_positive}
 
 pub divides_same : (a : ℤ) → Divides a a
 divides_same a = record { quotient = pos 1; exact = sym (mul_one a) }
@@ -65,10 +65,10 @@ pub divisor_at_most : {d a : ℤ} → pos 0 <ℤ a → Divides d a → d ≤ℤ 
 divisor_at_most {d} {a} p h =
     by_less (pos 0) d
     (λ (dp : pos 0 <ℤ d).
-        let e : pos 0 <ℤ (d *ℤ h.quotient) = subst (λ (z : ℤ). pos 0 <ℤ z) h.exact p in
-        let qp = factor_positive dp e in
-        let q : pos 0 ≤ℤ d = omega (arith, ints) in
-        let m = at_most_mul qp q in let c = mul_comm d h.quotient in let x = h.exact in omega (arith, ints))
+    let e : pos 0 <ℤ (d *ℤ h.quotient) = subst (λ (z : ℤ). pos 0 <ℤ z) h.exact p in
+    let qp = factor_positive dp e in
+    let q : pos 0 ≤ℤ d = omega (arith, ints) in
+    let m = at_most_mul qp q in let c = mul_comm d h.quotient in let x = h.exact in omega (arith, ints))
     (λ (dn : d ≤ℤ pos 0). omega (arith, ints))
 
 -- two numbers that are not negative and divide each other are one
@@ -77,10 +77,10 @@ divides_both {a} {b} pa pb h k =
     by_zero a
     (λ z. z ∙ sym (zero_divides (subst (λ (x : ℤ). Divides x b) z h)))
     (λ n. by_zero b
-        (λ z. zero_divides (subst (λ (x : ℤ). Divides x a) z k) ∙ sym z)
-        (λ m.
-            let ap' : pos 0 <ℤ a = omega (arith, ints) in let bp : pos 0 <ℤ b = omega (arith, ints) in
-            let x = divisor_at_most bp h in let y = divisor_at_most ap' k in omega (arith, ints)))
+    (λ z. zero_divides (subst (λ (x : ℤ). Divides x a) z k) ∙ sym z)
+    (λ m.
+    let ap' : pos 0 <ℤ a = omega (arith, ints) in let bp : pos 0 <ℤ b = omega (arith, ints) in
+    let x = divisor_at_most bp h in let y = divisor_at_most ap' k in omega (arith, ints)))
 
 -- ---- against ℕ
 

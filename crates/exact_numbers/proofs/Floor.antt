@@ -1,14 +1,14 @@
 -- Quotients rounded down, and residues.
-use Rattle.std.proofs.Common.{◌≡◌, ◌<◌, ◌≤◌, ◌+◌, ◌*◌, ◌-◌, ◌/◌, ◌%◌, ℕ, zero, suc, ap, sym, ◌∙◌, refl, subst, arith}
+use Rattle.std.proofs.Common.{◌≡◌, ◌<◌, ap, sym, arith}
 use Rattle.std.proofs.Math.IntN.{ℤ, pos, negsuc, neg_ℤ, ◌+ℤ◌, ◌-ℤ◌, ◌*ℤ◌}
-use Rattle.std.specs.Prelude.{◌<ℤ◌, ◌≤ℤ◌, unsigned_abs}
+use Rattle.std.specs.Prelude.{◌<ℤ◌, ◌≤ℤ◌}
 use Rattle.std.proofs.lemmas.Int.{ints}
 use Rattle.std.proofs.lemmas.Nat.{mod_below}
 use Rattle.std.proofs.Math.Nat.{div-add-mod}
 use Rattle.exact_numbers.specs.Divides.{Divides, IsFloor, IsResidue, floor_of, residue_of}
-use Rattle.exact_numbers.proofs.Ring.{ring, mul_comm, mul_add, mul_sub, mul_one, mul_zero}
-use Rattle.exact_numbers.proofs.Order.{by_order, by_less, cancel_less, cancel_at_most, at_most_mul, mul_positive, mul_at_most}
-use Rattle.exact_numbers.proofs.Divisibility.{divides_along, divides_sub, divides_add, divides_neg, divisor_at_most, divides_same, divides_mul}
+use Rattle.exact_numbers.proofs.Ring.{mul_add, mul_one}
+use Rattle.exact_numbers.proofs.Order.{by_less, cancel_less, mul_at_most}
+use Rattle.exact_numbers.proofs.Divisibility.{divides_along, divides_sub, divides_neg, divisor_at_most}
 
 -- the floor times the divisor, and the residue, make up the number
 pub floor_and_residue : (a b : ℤ) → pos 0 <ℤ b → b *ℤ floor_of a b +ℤ residue_of a b ≡ a
@@ -42,9 +42,9 @@ pub residue_is : (a b : ℤ) → pos 0 <ℤ b → IsResidue a b (residue_of a b)
 residue_is a b h =
     let e = floor_and_residue a b h in
     record {
-        not_negative = residue_not_negative a b;
-        below = residue_below a b h;
-        same = record { quotient = floor_of a b; exact = omega (arith, ints) }
+      not_negative = residue_not_negative a b;
+      below = residue_below a b h;
+      same = record { quotient = floor_of a b; exact = omega (arith, ints) };
     }
 
 -- a quotient rounded down is one number
@@ -66,12 +66,12 @@ pub residues_same : {m r s : ℤ} → pos 0 ≤ℤ r → r <ℤ m → pos 0 ≤�
 residues_same {m} {r} {s} rn rb sn sb d =
     by_less r s
     (λ (l : r <ℤ s).
-        let e : neg_ℤ (r -ℤ s) ≡ s -ℤ r = omega (arith, ints) in
-        let b : (s -ℤ r) <ℤ m = omega (arith, ints) in let p : pos 0 ≤ℤ (s -ℤ r) = omega (arith, ints) in
-        let z = multiple_below b p (divides_along e (divides_neg d)) in omega (arith, ints))
+    let e : neg_ℤ (r -ℤ s) ≡ s -ℤ r = omega (arith, ints) in
+    let b : (s -ℤ r) <ℤ m = omega (arith, ints) in let p : pos 0 ≤ℤ (s -ℤ r) = omega (arith, ints) in
+    let z = multiple_below b p (divides_along e (divides_neg d)) in omega (arith, ints))
     (λ (l : s ≤ℤ r).
-        let b : (r -ℤ s) <ℤ m = omega (arith, ints) in let p : pos 0 ≤ℤ (r -ℤ s) = omega (arith, ints) in
-        let z = multiple_below b p d in omega (arith, ints))
+    let b : (r -ℤ s) <ℤ m = omega (arith, ints) in let p : pos 0 ≤ℤ (r -ℤ s) = omega (arith, ints) in
+    let z = multiple_below b p d in omega (arith, ints))
 
 pub residue_unique : {a m r s : ℤ} → IsResidue a m r → IsResidue a m s → r ≡ s
 residue_unique {a} {m} {r} {s} f g =

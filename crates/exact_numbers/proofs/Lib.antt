@@ -2,9 +2,13 @@ pub mod Ring
 pub mod Order
 pub mod Divisibility
 pub mod Floor
-pub mod Gcd
-pub mod Lcm
+pub mod GreatestDivisor
+pub mod LeastMultiple
 pub mod Congruence
-pub mod Content
+pub mod Contents
 pub mod Limits
 pub mod Casts
+pub mod FractionOrder
+pub mod FractionRule
+pub mod Powers
+pub mod FractionView

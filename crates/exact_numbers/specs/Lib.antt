@@ -1,2 +1,4 @@
 pub mod Limit
 pub mod Divides
+pub mod Frac
+pub mod Fraction

@@ -1,13 +1,18 @@
-// Whole numbers of 128 bits that answer exactly where the limit 2^127 - 1 is passed, with the laws of whole numbers.
+// Whole numbers of 128 bits that answer exactly where the limit 2^127 - 1 is passed, and the laws of whole numbers.
 #![tactic(auto)]
 
-ghost use Rattle.exact_numbers.specs.Limit.{InLimit, PastLimit};
-ghost use Rattle.std.specs.Prelude.{◌≡◌, ◌+ℤ◌, ◌*ℤ◌, MatchOption};
-ghost use Rattle.std.specs.Option.{SomeIff};
+mod divisors;
+mod fraction;
+mod laws;
+mod limit;
 
-/// The product, or `None` exactly where its absolute value passes 2^127 - 1.
-pub fn product(a: i128, b: i128) -> Option<i128>
-    ensures { SomeIff result (InLimit (a *ℤ b)) (a *ℤ b) }
-{
-    a.checked_mul(b).filter(|n| *n != i128::MIN)
-}
+pub use divisors::{compare_fractions, floor_div, gcd, lcm, residue};
+pub use fraction::Fraction;
+pub use laws::{
+    bezout, congruence_is_solved, congruence_repeats, content, floor_and_residue, fraction_rule,
+    greatest_common_divisor, least_common_multiple_divides,
+};
+pub use limit::{product, sum};
+
+#[cfg(test)]
+mod tests;

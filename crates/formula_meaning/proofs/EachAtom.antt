@@ -39,3 +39,44 @@ module _ {A N : Type 0} (K : N → Type 0) (all : (x : N) → K x) where
     pub every_bound_of : (fs : Formulas A N) → EveryBoundOf K fs
     every_bound_of none = tt
     every_bound_of (also f fs) = (every_bound f, every_bound_of fs)
+
+-- What holds eventually, as of all small enough or all large enough numbers: two such facts hold together.
+module _ {X : Type 0} (Eventually : (X → Type 0) → Type 0) (whole : Eventually (λ x. Unit {0}))
+    (both : (Q R : X → Type 0) → Eventually Q → Eventually R → Eventually (λ x. Q x × R x)) where
+  mutual
+    pub every_eventually : {A N : Type 0} (C : X → A → Type 0) (f : Formula A N) → Every (λ a. Eventually (λ x. C x a)) f → Eventually (λ x. Every (C x) f)
+    every_eventually C Yes h = whole
+    every_eventually C No h = whole
+    every_eventually C (One a) h = h
+    every_eventually C (Not f) h = every_eventually C f h
+    every_eventually C (And fs) h = every_of_eventually C fs h
+    every_eventually C (Or fs) h = every_of_eventually C fs h
+    every_eventually C (Impl f g) h = both (λ x. Every (C x) f) (λ x. Every (C x) g) (every_eventually C f h.0) (every_eventually C g h.1)
+    every_eventually C (Repl f g) h = both (λ x. Every (C x) f) (λ x. Every (C x) g) (every_eventually C f h.0) (every_eventually C g h.1)
+    every_eventually C (Equiv f g) h = both (λ x. Every (C x) f) (λ x. Every (C x) g) (every_eventually C f h.0) (every_eventually C g h.1)
+    every_eventually C (Ex y f) h = every_eventually C f h
+    every_eventually C (All y f) h = every_eventually C f h
+
+    every_of_eventually : {A N : Type 0} (C : X → A → Type 0) (fs : Formulas A N) → EveryOf (λ a. Eventually (λ x. C x a)) fs → Eventually (λ x. EveryOf (C x) fs)
+    every_of_eventually C none h = whole
+    every_of_eventually C (also f fs) h = both (λ x. Every (C x) f) (λ x. EveryOf (C x) fs) (every_eventually C f h.0) (every_of_eventually C fs h.1)
+
+module _ {A N : Type 0} (P Q R : A → Type 0) (gives : (a : A) → P a → Q a → R a) where
+  mutual
+    -- two facts on each atom give a third
+    pub every_both : (f : Formula A N) → Every P f → Every Q f → Every R f
+    every_both Yes h k = h
+    every_both No h k = h
+    every_both (One a) h k = gives a h k
+    every_both (Not f) h k = every_both f h k
+    every_both (And fs) h k = every_both_of fs h k
+    every_both (Or fs) h k = every_both_of fs h k
+    every_both (Impl f g) h k = (every_both f h.0 k.0, every_both g h.1 k.1)
+    every_both (Repl f g) h k = (every_both f h.0 k.0, every_both g h.1 k.1)
+    every_both (Equiv f g) h k = (every_both f h.0 k.0, every_both g h.1 k.1)
+    every_both (Ex x f) h k = every_both f h k
+    every_both (All x f) h k = every_both f h k
+
+    pub every_both_of : (fs : Formulas A N) → EveryOf P fs → EveryOf Q fs → EveryOf R fs
+    every_both_of none h k = h
+    every_both_of (also f fs) h k = (every_both f h.0 k.0, every_both_of fs h.1 k.1)

@@ -1,14 +1,16 @@
 -- Truth depends on the free names alone.
-use Rattle.std.proofs.Common.{◌≡◌, ℕ, ◌*◌, Bool, true, false, List, [], ◌∷◌, ap, ap₂, sym, ◌∙◌, subst, refl, inl, inr, ⊎_elim, ◌↔◌, nat_eq, if◌then◌else◌}
+use Rattle.std.proofs.Common.{◌≡◌, ℕ, zero, suc, ◌*◌, ◌≤◌, length, Bool, true, false, List, [], ◌∷◌, ap, ap₂, sym, ◌∙◌, subst, refl, arith, inl, inr, ⊎_elim, ◌↔◌, nat_eq, if◌then◌else◌}
 use Rattle.std.proofs.Math.IntN.{ℤ, pos, ◌+ℤ◌, ◌*ℤ◌}
-use Rattle.std.proofs.lemmas.Bool.{eq-eqb}
+use Rattle.std.proofs.lemmas.Bool.{eq-eqb, eqb-true}
 use Rattle.formula_meaning.specs.Context.{Context}
 use Rattle.formula_meaning.specs.Point.{Point, move, AgreeOn}
 use Rattle.formula_meaning.specs.Formula.{Formula, Formulas, Yes, No, One, Not, And, Or, Impl, Repl, Equiv, Ex, All, none, also}
 use Rattle.formula_meaning.specs.Truth.{True, AllTrue, SomeTrue}
 use Rattle.formula_meaning.specs.Every.{Free, FreeInSome}
-use Rattle.formula_meaning.specs.Form.{Form, Term, total, value}
-use Rattle.formula_meaning.specs.Some.{SomeOf}
+use Rattle.formula_meaning.specs.Form.{Form, Term, total, value, multiple, others, coefficient}
+use Rattle.exact_numbers.proofs.Ring.{zero_mul}
+use Rattle.exact_numbers.proofs.Order.{by_zero}
+use Rattle.formula_meaning.proofs.Values.{total_split}
 use Rattle.formula_meaning.specs.Atom.{Atom, Compare, Congruent, Incongruent, Says, Relates, Divides, Mentions}
 use Rattle.formula_meaning.specs.Tree.{Tree, TrueAt, IsFree}
 
@@ -70,16 +72,60 @@ module _ {A N : Type 0} (says : A → Point N → Type 0) (same : N → N → Bo
         let i = free_names_decide f p q (agree_fewer (λ x u. inl u) h) in let j = some_decided fs p q (agree_fewer (λ x u. inr u) h) in
         (⊎_elim (λ t. inl (i.0 t)) (λ t. inr (j.0 t)), ⊎_elim (λ t. inl (i.1 t)) (λ t. inr (j.1 t)))
 
-total_agrees : (ts : List Term) (at by : ℕ → ℤ) → ((x : ℕ) → SomeOf (λ (t : Term). x ≡ t.name) ts → at x ≡ by x) → total ts at ≡ total ts by
-total_agrees [] at by h = refl
-total_agrees (t ∷ ts) at by h = ap₂ (λ a b. t.times *ℤ a +ℤ b) (h t.name (inl refl)) (total_agrees ts at by (λ x u. h x (inr u)))
+-- without a name's terms the other names keep their multiples
+pub multiple_others : (x y : ℕ) (ts : List Term) → (nat_eq x y ≡ true → multiple y (others x ts) ≡ pos 0) × (nat_eq x y ≡ false → multiple y (others x ts) ≡ multiple y ts)
+multiple_others x y [] = (λ e. refl, λ e. refl)
+multiple_others x y (t ∷ ts) = go (nat_eq x t.name) refl (nat_eq y t.name) refl (multiple_others x y ts)
+  where
+    go : (b : Bool) → nat_eq x t.name ≡ b → (c : Bool) → nat_eq y t.name ≡ c →
+        (nat_eq x y ≡ true → multiple y (others x ts) ≡ pos 0) × (nat_eq x y ≡ false → multiple y (others x ts) ≡ multiple y ts) →
+        (nat_eq x y ≡ true → multiple y (if b then others x ts else t ∷ others x ts) ≡ pos 0)
+        × (nat_eq x y ≡ false → multiple y (if b then others x ts else t ∷ others x ts) ≡ (if c then t.times +ℤ multiple y ts else multiple y ts))
+    go true e true f h = (h.0, λ n. absurd (cc (eq-eqb x y (eqb-true x t.name e ∙ sym (eqb-true y t.name f)), n)))
+    go true e false f h = h
+    go false e true f h = (λ s. absurd (cc (eq-eqb x t.name (eqb-true x y s ∙ eqb-true y t.name f), e)), λ n. subst (λ c. (if c then t.times +ℤ multiple y (others x ts) else multiple y (others x ts)) ≡ t.times +ℤ multiple y ts) (sym f) (ap (λ z. t.times +ℤ z) (h.1 n)))
+    go false e false f h = (λ s. subst (λ c. (if c then t.times +ℤ multiple y (others x ts) else multiple y (others x ts)) ≡ pos 0) (sym f) (h.0 s), λ n. subst (λ c. (if c then t.times +ℤ multiple y (others x ts) else multiple y (others x ts)) ≡ multiple y ts) (sym f) (h.1 n))
 
--- the value of a form depends on its names alone
-pub value_agrees : (f : Form) (p q : Point ℕ) → AgreeOn (λ x. SomeOf (λ (t : Term). x ≡ t.name) f.terms) p q → value f p ≡ value f q
-unfolding value
-value_agrees f p q h = ap₂ (λ a (b : ℕ). a +ℤ f.constant *ℤ pos b) (total_agrees f.terms p.at q.at h.same_at) h.same_below
+others_shorter : (x : ℕ) (ts : List Term) → length (others x ts) ≤ length ts
+others_shorter x [] = omega arith
+others_shorter x (t ∷ ts) = go (nat_eq x t.name) (others_shorter x ts)
+  where
+    go : (b : Bool) → length (others x ts) ≤ length ts → length (if b then others x ts else t ∷ others x ts) ≤ suc (length ts)
+    go true h = omega arith
+    go false h = omega arith
 
-divides_agrees : (m : ℕ) (f : Form) (p q : Point ℕ) → AgreeOn (λ x. SomeOf (λ (t : Term). x ≡ t.name) f.terms) p q → Divides m f p → Divides m f q
+-- the terms of the first name, and the rest
+first_others : (t : Term) (ts : List Term) → others t.name (t ∷ ts) ≡ others t.name ts
+first_others t ts = ap (λ (b : Bool). if b then others t.name ts else t ∷ others t.name ts) (eq-eqb t.name t.name refl)
+
+product_agrees : (m a b : ℤ) → (¬ (m ≡ pos 0) → a ≡ b) → m *ℤ a ≡ m *ℤ b
+product_agrees m a b h =
+    by_zero m (λ e. ap (λ z. z *ℤ a) e ∙ zero_mul a ∙ sym (zero_mul b) ∙ sym (ap (λ z. z *ℤ b) e)) (λ n. ap (λ z. m *ℤ z) (h n))
+
+total_agrees : (steps : ℕ) (ts : List Term) (at by : ℕ → ℤ) → length ts ≤ steps → ((x : ℕ) → ¬ (multiple x ts ≡ pos 0) → at x ≡ by x) → total ts at ≡ total ts by
+total_agrees steps [] at by l h = refl
+total_agrees zero (t ∷ ts) at by l h = absurd (omega arith)
+total_agrees (suc steps) (t ∷ ts) at by l h =
+    let x = t.name in
+    let us = others t.name (t ∷ ts) in
+    let shorter : length (others t.name (t ∷ ts)) ≤ steps = let e = ap (λ (vs : List Term). length vs) (first_others t ts) in let s = others_shorter t.name ts in omega arith in
+    let rest : total us at ≡ total us by = total_agrees steps us at by shorter (λ y n. h y (λ z. n (gone y z))) in
+    let head : multiple x (t ∷ ts) *ℤ at x ≡ multiple x (t ∷ ts) *ℤ by x = product_agrees (multiple x (t ∷ ts)) (at x) (by x) (h x) in
+    total_split (t ∷ ts) at x ∙ ap₂ (λ a b. a +ℤ b) head rest ∙ sym (total_split (t ∷ ts) by x)
+  where
+    gone : (y : ℕ) → multiple y (t ∷ ts) ≡ pos 0 → multiple y (others t.name (t ∷ ts)) ≡ pos 0
+    gone y z = go (nat_eq t.name y) refl
+      where
+        go : (b : Bool) → nat_eq t.name y ≡ b → multiple y (others t.name (t ∷ ts)) ≡ pos 0
+        go true e = (multiple_others t.name y (t ∷ ts)).0 e
+        go false e = (multiple_others t.name y (t ∷ ts)).1 e ∙ z
+
+-- the value of a form depends alone on the names whose coefficient is not 0
+pub value_agrees : (f : Form) (p q : Point ℕ) → AgreeOn (λ x. ¬ (coefficient x f ≡ pos 0)) p q → value f p ≡ value f q
+unfolding value coefficient
+value_agrees f p q h = ap₂ (λ a (b : ℕ). a +ℤ f.constant *ℤ pos b) (total_agrees (length f.terms) f.terms p.at q.at (omega arith) h.same_at) h.same_below
+
+divides_agrees : (m : ℕ) (f : Form) (p q : Point ℕ) → AgreeOn (λ x. ¬ (coefficient x f ≡ pos 0)) p q → Divides m f p → Divides m f q
 divides_agrees m f p q h d = (d.0, sym (value_agrees f p q h) ∙ d.1 ∙ ap (λ (b : ℕ). d.0 *ℤ (pos m *ℤ pos b)) h.same_below)
 
 pub atom_agrees : (a : Atom) (p q : Point ℕ) → AgreeOn (Mentions a) p q → Says a p → Says a q

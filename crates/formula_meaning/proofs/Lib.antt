@@ -3,7 +3,12 @@ pub mod Relations
 pub mod SamePoint
 pub mod TreeFiner
 pub mod FreeNames
+pub mod Coefficients
 pub mod PlainTruth
 pub mod Replacing
 pub mod EachAtom
+pub mod ReplacedShape
+pub mod FreeReplaced
+pub mod NormalShape
+pub mod TreeNormal
 pub mod TreeReplacing

@@ -1,10 +1,11 @@
 -- The truth of a plain formula grows with the truth of its atoms.
-use Rattle.std.proofs.Common.{ℕ, inl, inr}
+use Rattle.std.proofs.Common.{ℕ, inl, inr, ⊎_elim, ◌↔◌}
 use Rattle.std.proofs.Math.IntN.{ℤ}
 use Rattle.formula_meaning.specs.Context.{Context}
 use Rattle.formula_meaning.specs.Formula.{Formula, Formulas, Yes, No, One, Not, And, Or, Impl, Repl, Equiv, Ex, All, none, also}
 use Rattle.formula_meaning.specs.Truth.{True, AllTrue, SomeTrue}
 use Rattle.formula_meaning.specs.Every.{Every, EveryOf}
+use Rattle.formula_meaning.specs.Replaced.{replaced, all_replaced}
 use Rattle.formula_meaning.specs.Shape.{IsPlain, ArePlain}
 
 module _ {A N P Q : Type 0} (says : A → P → Type 0) (move : P → N → ℤ → ℕ → P) (c : Context) (claims : A → Q → Type 0) (shift : Q → N → ℤ → ℕ → Q) (d : Context) (p : P) (q : Q) where
@@ -31,3 +32,31 @@ module _ {A N P Q : Type 0} (says : A → P → Type 0) (move : P → N → ℤ 
     some_plain none s e t = t
     some_plain (also f fs) s e (inl t) = inl (plain_truth f s.0 e.0 t)
     some_plain (also f fs) s e (inr t) = inr (some_plain fs s.1 e.1 t)
+
+module _ {A B N M P Q : Type 0} (says : A → P → Type 0) (move : P → N → ℤ → ℕ → P) (c : Context) (claims : B → Q → Type 0) (shift : Q → M → ℤ → ℕ → Q) (d : Context) (by : A → Formula B M) (rename : N → M) (p : P) (q : Q) where
+  mutual
+    -- where each atom is true at p exactly where its replacement is true at q, so is the formula
+    pub plain_replaced : (f : Formula A N) → IsPlain f → Every (λ a. says a p ↔ True claims shift d (by a) q) f → True says move c f p ↔ True claims shift d (replaced by rename f) q
+    plain_replaced Yes s e = (λ t. t, λ t. t)
+    plain_replaced No s e = (λ t. t, λ t. t)
+    plain_replaced (One a) s e = e
+    plain_replaced (Not f) s e = absurd s
+    plain_replaced (And fs) s e = all_plain_replaced fs s e
+    plain_replaced (Or fs) s e = some_plain_replaced fs s e
+    plain_replaced (Impl f g) s e = absurd s
+    plain_replaced (Repl f g) s e = absurd s
+    plain_replaced (Equiv f g) s e = absurd s
+    plain_replaced (Ex x f) s e = absurd s
+    plain_replaced (All x f) s e = absurd s
+
+    all_plain_replaced : (fs : Formulas A N) → ArePlain fs → EveryOf (λ a. says a p ↔ True claims shift d (by a) q) fs → AllTrue says move c fs p ↔ AllTrue claims shift d (all_replaced by rename fs) q
+    all_plain_replaced none s e = (λ t. t, λ t. t)
+    all_plain_replaced (also f fs) s e =
+        let i = plain_replaced f s.0 e.0 in let j = all_plain_replaced fs s.1 e.1 in
+        (λ t. (i.0 t.0, j.0 t.1), λ t. (i.1 t.0, j.1 t.1))
+
+    some_plain_replaced : (fs : Formulas A N) → ArePlain fs → EveryOf (λ a. says a p ↔ True claims shift d (by a) q) fs → SomeTrue says move c fs p ↔ SomeTrue claims shift d (all_replaced by rename fs) q
+    some_plain_replaced none s e = (λ t. t, λ t. t)
+    some_plain_replaced (also f fs) s e =
+        let i = plain_replaced f s.0 e.0 in let j = some_plain_replaced fs s.1 e.1 in
+        (⊎_elim (λ t. inl (i.0 t)) (λ t. inr (j.0 t)), ⊎_elim (λ t. inl (i.1 t)) (λ t. inr (j.1 t)))

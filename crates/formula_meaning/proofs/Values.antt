@@ -50,7 +50,7 @@ split_other t b r s a u e = omega (arith, ints)
 eqb_same : (x y : ℕ) → nat_eq x y ≡ true → x ≡ y
 eqb_same = eqb-true
 
-total_split : (ts : List Term) (at : ℕ → ℤ) (x : ℕ) → total ts at ≡ multiple x ts *ℤ at x +ℤ total (others x ts) at
+pub total_split : (ts : List Term) (at : ℕ → ℤ) (x : ℕ) → total ts at ≡ multiple x ts *ℤ at x +ℤ total (others x ts) at
 total_split [] at x = let z = zero_mul (at x) in omega (arith, ints)
 total_split (t ∷ ts) at x = go (nat_eq x t.name) refl (total_split ts at x)
   where

@@ -2,7 +2,7 @@
 use Rattle.std.specs.Prelude.{◌≡◌, ℕ, ◌*◌, ◌<◌, ℤ, pos, ◌+ℤ◌, ◌-ℤ◌, ◌*ℤ◌, ◌<ℤ◌, neg_ℤ, List, [], ◌∷◌, nat_eq}
 use Rattle.formula_meaning.specs.Context.{Context, Fields, Integers}
 use Rattle.formula_meaning.specs.Point.{Point, move}
-use Rattle.formula_meaning.specs.Form.{Form, value}
+use Rattle.formula_meaning.specs.Form.{Form, value, coefficient}
 use Rattle.formula_meaning.specs.Tree.{Tree, TrueAt}
 
 pub data Place : Type 0 where
@@ -52,3 +52,12 @@ MeetsAll c (a ∷ rest) R p = Meets c a.place a.name (λ q. MeetsAll c rest R q)
 -- the answers make the tree true at the point
 abbrev pub Holds : Context → List Answer → Tree → Point ℕ → Type 0
 Holds c answers f p = MeetsAll c answers (λ q. TrueAt c f q) p
+
+-- the name stands in the place's form
+abbrev pub PlaceMentions : Place → ℕ → Type 0
+PlaceMentions (Exact e d) x = ¬ (coefficient x e ≡ pos 0)
+PlaceMentions (AboveBy e d) x = ¬ (coefficient x e ≡ pos 0)
+PlaceMentions (BelowBy e d) x = ¬ (coefficient x e ≡ pos 0)
+PlaceMentions PlusInfinity x = ⊥
+PlaceMentions MinusInfinity x = ⊥
+PlaceMentions (Periodic a q) x = ⊥

@@ -2,8 +2,7 @@
 use Rattle.std.specs.Prelude.{◌≡◌, ℕ, ◌<◌, ℤ, pos, ◌*ℤ◌, ◌<ℤ◌, ◌≤ℤ◌}
 use Rattle.formula_meaning.specs.Context.{Context, Fields, Integers}
 use Rattle.formula_meaning.specs.Point.{Point}
-use Rattle.formula_meaning.specs.Form.{Form, value}
-use Rattle.formula_meaning.specs.Some.{SomeOf}
+use Rattle.formula_meaning.specs.Form.{Form, value, coefficient}
 
 pub data Relation : Type 0 where
   Equals Differs Below AtMost Above AtLeast : Relation
@@ -63,6 +62,15 @@ form_of (Compare r f) = f
 form_of (Congruent n f) = f
 form_of (Incongruent n f) = f
 
--- the name stands in the atom
+-- the name stands in the atom: its coefficient is not 0
 abbrev pub Mentions : Atom → ℕ → Type 0
-Mentions a x = SomeOf (λ t. x ≡ t.name) (form_of a).terms
+Mentions a x = ¬ (coefficient x (form_of a) ≡ pos 0)
+
+-- the relation of two numbers whose signs are changed, or that change places
+abbrev pub mirrored : Relation → Relation
+mirrored Equals = Equals
+mirrored Differs = Differs
+mirrored Below = Above
+mirrored AtMost = AtLeast
+mirrored Above = Below
+mirrored AtLeast = AtMost

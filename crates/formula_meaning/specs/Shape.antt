@@ -1,5 +1,5 @@
 -- Shapes of formulas: quantifier-free, built by and and or alone, negation normal, prenex; blocks of quantifiers.
-use Rattle.std.specs.Prelude.{ℕ, suc, max, min}
+use Rattle.std.specs.Prelude.{ℕ, suc, max, min, Bool, true, false, List, [], ◌∷◌, if◌then◌else◌}
 use Rattle.formula_meaning.specs.Formula.{Formula, Formulas, Yes, No, One, Not, And, Or, Impl, Repl, Equiv, Ex, All, none, also}
 
 module _ {A N : Type 0} where
@@ -104,3 +104,27 @@ module _ {A N : Type 0} where
   -- the fewest blocks of a prenex form that keeps the nesting of quantifiers
   abbrev pub fewest_blocks : Formula A N → ℕ
   fewest_blocks f = min (blocks_from f Exists) (blocks_from f ForAll)
+
+-- the name is in the list
+abbrev pub is_in : {N : Type 0} → (N → N → Bool) → N → List N → Bool
+is_in same x [] = false
+is_in same x (y ∷ ys) = if same x y then true else is_in same x ys
+
+module _ {A N : Type 0} (same : N → N → Bool) where
+  -- The names of the leading block of a formula in negation normal form: the longest chain of one quantifier from the
+  -- outside, which stops before a name that already stands in it.
+  abbrev pub block_of : Formula A N → Quantifier → List N → List N
+  block_of (Ex x f) Exists chain = if is_in same x chain then [] else x ∷ block_of f Exists (x ∷ chain)
+  block_of (All x f) ForAll chain = if is_in same x chain then [] else x ∷ block_of f ForAll (x ∷ chain)
+  block_of _ _ chain = []
+
+  -- what is left of the formula without that block
+  abbrev pub matrix_of : Formula A N → Quantifier → List N → Formula A N
+  matrix_of (Ex x f) Exists chain = if is_in same x chain then Ex x f else matrix_of f Exists (x ∷ chain)
+  matrix_of (All x f) ForAll chain = if is_in same x chain then All x f else matrix_of f ForAll (x ∷ chain)
+  matrix_of f _ chain = f
+
+-- the quantifier of the leading block, which is empty where the formula begins with none
+abbrev pub leading : {A N : Type 0} → Formula A N → Quantifier
+leading (All x f) = ForAll
+leading _ = Exists

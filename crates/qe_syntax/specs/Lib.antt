@@ -2,3 +2,10 @@ pub mod Padding
 pub mod Trees
 pub mod Statements
 pub mod Proper
+pub mod Point
+pub mod PointFaults
+pub mod Value
+pub mod Rule
+pub mod Simple
+pub mod Evaluates
+pub mod Valued

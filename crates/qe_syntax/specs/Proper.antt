@@ -1,5 +1,6 @@
 -- What the reader gives: numbers within the limit, and lists of two members at least.
-use Rattle.std.specs.Prelude.{◌≡◌, ◌≢◌, ℕ, ◌≤◌, ℤ, pos, ◌≤ℤ◌, List, [], ◌∷◌}
+use Rattle.std.specs.Prelude.{pos, ◌≤ℤ◌, List}
+use Rattle.std.specs.List.{AllByRecursion}
 use Rattle.exact_numbers.specs.Limit.{InLimit}
 use Rattle.formula_meaning.specs.Formula.{Formula, Formulas, Yes, No, One, Not, And, Or, Impl, Repl, Equiv, Ex, All}
 use Rattle.formula_meaning.specs.Formula as plain
@@ -23,8 +24,7 @@ abbrev pub IsProperEntry : PointEntry → Type 0
 IsProperEntry e = IsSigned e.above × IsNumeral e.below
 
 abbrev pub AreProperEntries : List PointEntry → Type 0
-AreProperEntries [] = Unit {0}
-AreProperEntries (e ∷ es) = IsProperEntry e × AreProperEntries es
+AreProperEntries = AllByRecursion IsProperEntry
 
 -- the list has two members at least
 abbrev pub AreTerms : TermTrees → Type 0

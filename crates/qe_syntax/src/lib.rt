@@ -1,10 +1,21 @@
 //! What a script says: names, terms, formulas, points and statements as plain trees, and what they mean.
 #![tactic(auto)]
 
+mod laws;
 mod name;
+mod point;
 mod statement;
 mod tree;
+mod truth;
+mod value;
+mod valued;
 
+pub use exact_numbers::Fraction;
+pub use laws::one_point;
 pub use name::Name;
+pub use point::{Point, PointFault};
 pub use statement::{Action, Command, Entries, PointEntry, Setting, Statement};
 pub use tree::{Formula, Formulas, Literal, Relation, Term, Terms, negation, negative};
+pub use truth::truth_at;
+pub use value::{EvalError, value_at};
+pub use valued::first_unvalued;

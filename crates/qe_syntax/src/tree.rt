@@ -40,7 +40,7 @@ pub enum Term {
 #[derive(Drop)]
 #[cycle(term)]
 pub struct Terms {
-    list: Vec<Term>,
+    pub(crate) list: Vec<Term>,
 }
 
 impl Terms {
@@ -93,7 +93,7 @@ pub enum Formula {
 #[derive(Drop)]
 #[cycle(formula)]
 pub struct Formulas {
-    list: Vec<Formula>,
+    pub(crate) list: Vec<Formula>,
 }
 
 impl Formulas {

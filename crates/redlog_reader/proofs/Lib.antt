@@ -7,6 +7,7 @@ pub mod Proper
 pub mod Points
 pub mod Statements
 pub mod Lexemes
+pub mod PieceLemmas
 pub mod Counts
 pub mod Lexed
 pub mod Whole

@@ -51,7 +51,7 @@ ends_disjuncts (t ∷ ts) e h = record { stronger = omega arith }
 -- a refusal of one reader is one of another, where it says as much
 pub refuses : {P Q : Type 0} (e : ReadError) → (P → Q) → Refuses e P → Refuses e Q
 refuses cause.Syntax f h = f h
-refuses (cause.Memory e) f h = tt
+refuses cause.Memory f h = tt
 refuses cause.Long f h = h
 refuses cause.Lexical f h = h
 refuses cause.Nesting f h = h

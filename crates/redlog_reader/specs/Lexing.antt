@@ -136,7 +136,7 @@ pub record IsLexical (bytes : List ℕ) : Type 0 where
 -- the reading of tokens ends in Lexical where this holds, or for want of memory
 abbrev pub LexicalWhere : ReadError → Type 0 → Type 0
 LexicalWhere cause.Lexical P = P
-LexicalWhere (cause.Memory e) P = Unit {0}
+LexicalWhere cause.Memory P = Unit {0}
 LexicalWhere cause.Long P = ⊥
 LexicalWhere cause.Nesting P = ⊥
 LexicalWhere cause.Syntax P = ⊥

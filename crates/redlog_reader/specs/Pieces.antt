@@ -5,16 +5,13 @@ use Rattle.redlog_reader.specs.declared.token.TokenKind.{TokenKind}
 use Rattle.redlog_reader.specs.declared.token.TokenKind.TheVariants as token
 use Rattle.redlog_reader.specs.Lexing.{LexesFrom}
 
-abbrev pub is_end_mark : List ℕ → Bool
-is_end_mark text = bytes_eq text (codes ";") || bytes_eq text (codes "$")
-
 -- the token ends a piece
 abbrev pub is_end : Option TokenKind → Bool
-is_end None = false
+is_end (Some (token.Sign text)) = bytes_eq text (codes ";") || bytes_eq text (codes "$")
 is_end (Some (token.Number n)) = false
 is_end (Some (token.Name x)) = false
 is_end (Some (token.Word w)) = false
-is_end (Some (token.Sign text)) = is_end_mark text
+is_end None = false
 
 -- a piece of these tokens ends at this place, and these tokens come after it; the script has this length
 pub data Cuts : ℕ → List Lexeme → ℕ → List Lexeme → Type 0 where
@@ -22,8 +19,8 @@ pub data Cuts : ℕ → List Lexeme → ℕ → List Lexeme → Type 0 where
   marked : {total : ℕ} {t : Lexeme} {ts : List Lexeme} → is_end t.kind ≡ true → Cuts total (t ∷ ts) t.end ts
   inside : {total end : ℕ} {t : Lexeme} {ts rest : List Lexeme} → is_end t.kind ≡ false → Cuts total ts end rest → Cuts total (t ∷ ts) end rest
 
--- a piece that goes on at this place ends at that one
-pub record EndsPiece (script : List ℕ) (from end : ℕ) : Type 0 where
+-- a piece that goes on at this place, or begins there or later, ends at end
+pub record EndsFrom (script : List ℕ) (from end : ℕ) : Type 0 where
   pub tokens : List Lexeme
   pub rest : List Lexeme
   pub lexes : LexesFrom script from tokens

@@ -46,7 +46,7 @@ pub record NotFound {X Y : Type 0} (S : X → Y → List Terminal → Type 0) (E
 -- a reader ends in Syntax where this holds, or for want of memory
 abbrev pub Refuses : ReadError → Type 0 → Type 0
 Refuses cause.Syntax P = P
-Refuses (cause.Memory e) P = Unit {0}
+Refuses cause.Memory P = Unit {0}
 Refuses cause.Long P = ⊥
 Refuses cause.Lexical P = ⊥
 Refuses cause.Nesting P = ⊥

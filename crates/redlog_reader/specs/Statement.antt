@@ -2,6 +2,8 @@
 use Rattle.std.specs.Prelude.{◌≡◌, ℕ, ◌≤◌, List, [], map, length, Some}
 use Rattle.qe_syntax.specs.Statements.{StatementTree}
 use Rattle.redlog_reader.specs.declared.lexer.Lexeme.{Lexeme}
+use Rattle.redlog_reader.specs.declared.token.ReadError.{ReadError}
+use Rattle.redlog_reader.specs.declared.token.ReadError.TheVariants.{Long, Lexical, Nesting, Syntax, Memory}
 use Rattle.redlog_reader.specs.declared.token.TokenKind.{TokenKind}
 use Rattle.redlog_reader.specs.Terminals.{terminal_of}
 use Rattle.redlog_reader.specs.Lexing.{Lexes}
@@ -25,3 +27,11 @@ pub record Spells (bytes : List ℕ) (tree : StatementTree) : Type 0 where
   pub good : map (λ t. t.kind) lexemes ≡ map Some kinds
   pub shallow : ¬ Passes level_limit [] (map terminal_of kinds)
   pub spelled : SpellsStatement (map terminal_of kinds) tree
+
+-- why the bytes are not read, in this step of the language: they spell no statement, or memory ran out
+abbrev pub Unread : List ℕ → ReadError → Type 0
+Unread bytes Long = ⊥
+Unread bytes Lexical = ⊥
+Unread bytes Nesting = ⊥
+Unread bytes Syntax = (tree : StatementTree) → ¬ (Spells bytes tree)
+Unread bytes Memory = Unit {0}

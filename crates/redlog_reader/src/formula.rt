@@ -12,7 +12,7 @@ use crate::sum::{sum, sums_end};
 use crate::terminal::{Mark, Terminal};
 use crate::token::{ReadError, Token};
 use qe_syntax::{Formula, Formulas, Relation};
-use std::alloc::{AllocError, Global};
+use std::alloc::Global;
 
 // Three calls nest for each parenthesis, so these three keep their values small: formulas stand in boxes, and all
 // else is done by the functions below them.
@@ -163,7 +163,7 @@ fn put(members: &mut Vec<Formula>, member: Box<Formula>) -> Result<(), ReadError
 {
     members
         .push(Box::into_inner(member))
-        .map_err(|_| ReadError::Memory(AllocError))
+        .map_err(|_| ReadError::Memory)
 }
 
 /// The conjunction of the members, or the member where there is one alone, in a box.
@@ -215,5 +215,5 @@ fn boxed(alloc: Global, formula: Formula) -> Result<Box<Formula>, ReadError>
     ensures whole { IfOk result (λ f. f.value ≡ formula) }
     ensures refused { IfErr result (λ e. Refuses e ⊥) }
 {
-    Box::new(alloc, formula).map_err(|_| ReadError::Memory(AllocError))
+    Box::new(alloc, formula).map_err(|_| ReadError::Memory)
 }

@@ -8,7 +8,7 @@ ghost use Rattle.redlog_reader.specs.Reading.{Refuses};
 
 use crate::terminal::{Mark, Terminal, terminal_of};
 use crate::token::{ReadError, Token};
-use std::alloc::{AllocError, Global};
+use std::alloc::Global;
 
 /// No level of a token passes this.
 const LEVEL_LIMIT: usize = 512;
@@ -129,9 +129,7 @@ impl Levels {
         ensures refused { IfErr result (λ e. Refuses e ⊥) }
     {
         let group = self.inmost;
-        self.around
-            .push(group)
-            .map_err(|_| ReadError::Memory(AllocError))?;
+        self.around.push(group).map_err(|_| ReadError::Memory)?;
         self.total += weight(&group);
         let opened = self.run + self.held + 1;
         self.inmost = Group {

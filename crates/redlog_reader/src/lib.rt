@@ -15,6 +15,6 @@ mod terminal;
 mod tests;
 mod token;
 
-pub use piece::{Piece, next_piece, one_piece};
-pub use read::{one_statement, read_statement, tokens};
+pub use piece::{Piece, next_piece};
+pub use read::{one_piece, one_statement, read_statement, tokens};
 pub use token::{ReadError, Token, TokenKind, Tokens};

@@ -1,9 +1,9 @@
-ghost use Rattle.std.specs.Prelude.{◌≡◌, ℕ, List, [], ◌∷◌, IfOk, IfErr};
+ghost use Rattle.std.specs.Prelude.{◌≡◌, ℕ, ◌⊎◌, List, IfOk, IfErr};
 ghost use Rattle.qe_syntax.specs.Proper.{IsProper};
 ghost use Rattle.qe_syntax.specs.Statements.{StatementTree, statement_tree};
 ghost use Rattle.redlog_reader.specs.Lexing.{AreTokens, IsLexical, LexicalWhere};
-ghost use Rattle.redlog_reader.specs.Reading.{Refuses};
-ghost use Rattle.redlog_reader.specs.Statement.{Spells};
+ghost use Rattle.redlog_reader.specs.Pieces.{HasNoTokenFrom, IsPiece};
+ghost use Rattle.redlog_reader.specs.Statement.{Spells, Unread};
 
 use crate::level::is_deep;
 use crate::lexer::next_lexeme;
@@ -37,9 +37,9 @@ pub fn tokens(alloc: Global, bytes: &[u8]) -> Result<Tokens, ReadError>
 /// The statement that the bytes of one piece spell, with its end mark. What is past 1 MiB, has a bad token or a token
 /// whose level passes 512, or spells no statement is answered `Syntax`.
 pub fn read_statement(alloc: Global, bytes: &[u8]) -> Result<Statement, ReadError>
-    ensures spelled { IfOk result (λ s. Spells bytes.now (statement_tree s)) }
+    ensures ok { IfOk result (λ s. Spells bytes.now (statement_tree s)) }
     ensures proper { IfOk result (λ s. IsProper (statement_tree s)) }
-    ensures refused { IfErr result (λ e. Refuses e ((tree : StatementTree) → Spells bytes.now tree → ⊥)) }
+    ensures err { IfErr result (Unread bytes.now) }
 {
     if bytes.len() > BYTE_LIMIT {
         return Err(ReadError::Syntax);
@@ -56,6 +56,13 @@ pub fn read_statement(alloc: Global, bytes: &[u8]) -> Result<Statement, ReadErro
     let statement = statement(alloc, tokens.items())?;
     Ok(statement)
 }
+
+/// From each place on a script has no token or a next piece, never both, and the next piece is one.
+pub fn one_piece()
+    ensures some { (script : List ℕ) (from : ℕ) → HasNoTokenFrom script from ⊎ ((start : ℕ) × (end : ℕ) × IsPiece script from start end) }
+    ensures not_both { (script : List ℕ) (from start end : ℕ) → HasNoTokenFrom script from → IsPiece script from start end → ⊥ }
+    ensures one { (script : List ℕ) (from start end start2 end2 : ℕ) → IsPiece script from start end → IsPiece script from start2 end2 → (start ≡ start2) × (end ≡ end2) }
+{}
 
 /// No bytes spell two statements.
 pub fn one_statement()

@@ -10,7 +10,7 @@ use crate::peek::{after, next};
 use crate::terminal::{Mark, Terminal};
 use crate::token::{ReadError, Token};
 use qe_syntax::{Literal, Term, Terms, negative};
-use std::alloc::{AllocError, Global};
+use std::alloc::Global;
 
 /// A sum of parts with signs between them.
 #[tactic(auto, using(crate::proofs::Sums::sums))]
@@ -51,9 +51,7 @@ fn put(members: &mut Vec<Term>, member: Term) -> Result<(), ReadError>
     ensures put { OnOk result (map term_tree members.new.items ≡ map term_tree members.old.items ++ term_tree member ∷ []) }
     ensures refused { IfErr result (λ e. Refuses e ⊥) }
 {
-    members
-        .push(member)
-        .map_err(|_| ReadError::Memory(AllocError))
+    members.push(member).map_err(|_| ReadError::Memory)
 }
 
 /// The term, which may get the sign `-`.
@@ -64,7 +62,7 @@ fn signed(alloc: Global, minus: bool, term: Term) -> Result<Term, ReadError>
     if !minus {
         return Ok(term);
     }
-    negative(alloc, term).map_err(|_| ReadError::Memory(AllocError))
+    negative(alloc, term).map_err(|_| ReadError::Memory)
 }
 
 /// The sum of the members, or the member where there is one alone.
@@ -153,11 +151,7 @@ fn product_of(alloc: Global, left: Term, right: Term) -> Result<Term, ReadError>
     ensures refused { IfErr result (λ e. Refuses e ⊥) }
 {
     let mut factors = Vec::new(alloc);
-    factors
-        .push(left)
-        .map_err(|_| ReadError::Memory(AllocError))?;
-    factors
-        .push(right)
-        .map_err(|_| ReadError::Memory(AllocError))?;
+    factors.push(left).map_err(|_| ReadError::Memory)?;
+    factors.push(right).map_err(|_| ReadError::Memory)?;
     Ok(Term::Product(Terms::of(factors)))
 }

@@ -5,7 +5,7 @@ use std::alloc::{AllocError, Global};
 fn is_read(alloc: Global, text: &str) -> Result<bool, AllocError> {
     match read_statement(alloc, text.as_bytes()) {
         Ok(_) => Ok(true),
-        Err(ReadError::Memory(error)) => Err(error),
+        Err(ReadError::Memory) => Err(AllocError),
         Err(_) => Ok(false),
     }
 }

@@ -2,12 +2,11 @@ ghost use Rattle.std.specs.Prelude.{◌≡◌, [], ◌∷◌, ◌++◌, OnOk, If
 ghost use Rattle.redlog_reader.specs.Reading.{Refuses};
 
 use qe_syntax::{Literal, Name};
-use std::alloc::AllocError;
 use std::marker::Model;
 use thiserror::Error;
 
 /// Why bytes are read as no statement.
-#[derive(Debug, Drop, Error)]
+#[derive(Clone, Copy, Debug, PartialEq, Eq, Error)]
 pub enum ReadError {
     #[error("long")]
     Long,
@@ -17,8 +16,8 @@ pub enum ReadError {
     Nesting,
     #[error("syntax")]
     Syntax,
-    #[error(transparent)]
-    Memory(#[from(alloc)] AllocError),
+    #[error("out of memory")]
+    Memory,
 }
 
 /// What a token is. A word or a sign is kept by its bytes.
@@ -74,5 +73,5 @@ pub fn put<T: Drop>(list: &mut Vec<T>, item: T) -> Result<(), ReadError>
     ensures put { OnOk result (list.new.items ≡ list.old.items ++ item ∷ []) }
     ensures refused { IfErr result (λ e. Refuses e ⊥) }
 {
-    list.push(item).map_err(|_| ReadError::Memory(AllocError))
+    list.push(item).map_err(|_| ReadError::Memory)
 }

@@ -1,9 +1,10 @@
-use Rattle.std.proofs.Common.{sym}
-use Rattle.redlog_reader.proofs.Cutting.{is_this, is_longer}
+use Rattle.std.proofs.Common.{sym, ◌∙◌}
+use Rattle.redlog_reader.proofs.PieceLemmas.{piece_marked, piece_later}
 use Rattle.redlog_reader.proofs.piece.next_piece.Goals as goal
 
-pub returns-then-is_end-clause-piece : goal.returns-then-is_end-clause-piece
-returns-then-is_end-clause-piece c = is_this c.args.bytes.now c.args.from c.in-Some.first c.in-Some.ensures.3 (sym c.if-is_end.ensures)
+pub returns-then-is_end-clause-found : goal.returns-then-is_end-clause-found
+returns-then-is_end-clause-found c = piece_marked c.args.bytes.now c.args.from c.in_ok-first.first c.in_ok-first.ensures.3 (sym c.is_end.ensures ∙ c.if-is_end.true)
 
-pub returns-clause-piece : goal.returns-clause-piece
-returns-clause-piece c = is_longer c.args.bytes.now c.args.from c.in-Some.first c.in-Some.ensures.3 c.piece_end-end.result (sym c.if-is_end.ensures) c.piece_end-end.ensures.ends
+pub returns-else-is_end-clause-found : goal.returns-else-is_end-clause-found
+returns-else-is_end-clause-found c =
+    piece_later c.args.bytes.now c.args.from c.in_ok-first.first c.in_ok-first.ensures.3 c.piece_end-end.result (sym c.is_end.ensures ∙ c.if-is_end.false) c.piece_end-end.ensures.end

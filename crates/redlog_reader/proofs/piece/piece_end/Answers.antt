@@ -1,17 +1,17 @@
-use Rattle.std.proofs.Common.{sym, arith}
-use Rattle.redlog_reader.proofs.Cutting.{ends_script, ends_here, ends_later}
+use Rattle.std.proofs.Common.{arith, sym, ◌∙◌}
+use Rattle.redlog_reader.proofs.PieceLemmas.{piece_marked, piece_later, ends_from, ends_last}
 use Rattle.redlog_reader.proofs.piece.piece_end.Goals as goal
 
-pub returns-then-is_end-clause-ends : goal.returns-then-is_end-clause-ends
-returns-then-is_end-clause-ends c =
-    c.tokens.invariant.2 _ (ends_here c.args.bytes.now c.tokens.from c.in-Some.lexeme c.in-Some.ensures.3 (sym c.if-is_end.ensures))
+pub returns-then-is_end-clause-end : goal.returns-then-is_end-clause-end
+returns-then-is_end-clause-end c =
+    c.tokens.invariant.on _ (ends_from _ _ _ _ (piece_marked c.args.bytes.now c.tokens.at c.in-Some.lexeme c.in-Some.ensures.3 (sym c.is_end.ensures ∙ c.if-is_end.true)))
 
 pub tokens-preserved : goal.tokens-preserved
-tokens-preserved c = (
-  c.in-Some.ensures.2,
-  omega (arith, c.tokens.invariant.1, c.in-Some.ensures.0, c.in-Some.ensures.1),
-  λ end later. c.tokens.invariant.2 end (ends_later c.args.bytes.now c.tokens.from c.in-Some.lexeme c.in-Some.ensures.3 end (sym c.if-is_end.ensures) later),
-)
+tokens-preserved c = record {
+  later = omega (arith, c.in-Some.ensures.0, c.in-Some.ensures.1);
+  within = c.in-Some.ensures.2;
+  on = λ end later. c.tokens.invariant.on end (ends_from _ _ _ _ (piece_later c.args.bytes.now c.tokens.at c.in-Some.lexeme c.in-Some.ensures.3 end (sym c.is_end.ensures ∙ c.if-is_end.false) later));
+}
 
-pub returns-clause-ends : goal.returns-clause-ends
-returns-clause-ends c = c.tokens.invariant.2 _ (ends_script c.args.bytes.now c.tokens.from c.in_default.ensures)
+pub returns-clause-end : goal.returns-clause-end
+returns-clause-end c = c.tokens.invariant.on _ (ends_last c.args.bytes.now c.tokens.at c.in_default.ensures)

@@ -1,9 +1,13 @@
-use Rattle.std.proofs.Common.{ℕ, ◌-◌, ◌≤◌, length}
-use Rattle.redlog_reader.specs.Pieces.{EndsPiece}
+use Rattle.std.proofs.Common.{ℕ, ◌≤◌, ◌-◌, length}
+use Rattle.redlog_reader.specs.Pieces.{EndsFrom}
 use Rattle.redlog_reader.proofs.piece.piece_end.Given as goal
 
 abbrev pub invariant-tokens : goal.invariant-tokens
-invariant-tokens l = (l.from ≤ length l.bytes) × (l.fn.from ≤ l.from) × ((end : ℕ) → EndsPiece l.bytes l.from end → EndsPiece l.bytes l.fn.from end)
+invariant-tokens l = record {
+  later : l.fn.from ≤ l.at;
+  within : l.at ≤ length l.bytes;
+  on : (end : ℕ) → EndsFrom l.bytes l.at end → EndsFrom l.bytes l.fn.from end;
+}
 
 abbrev pub decreases-tokens : goal.decreases-tokens
-decreases-tokens l = length l.bytes - l.from
+decreases-tokens l = length l.bytes - l.at

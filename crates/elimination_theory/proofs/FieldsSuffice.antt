@@ -1,0 +1,111 @@
+-- Over the ordered fields test points suffice, on both sides.
+use Rattle.std.proofs.Common.{◌≡◌, ℕ, suc, zero, ◌<◌, ◌∷◌, subst, refl, arith, inl, inr, ◌↔◌, nat_eq, flat_map}
+use Rattle.std.proofs.Math.IntN.{ℤ, pos, negsuc}
+use Rattle.formula_meaning.specs.Context.{Fields}
+use Rattle.formula_meaning.specs.Point.{Point, Of, move}
+use Rattle.formula_meaning.specs.Form.{Form, coefficient, without, scale}
+use Rattle.formula_meaning.specs.Formula.{Formula, Formulas, Yes, No, One, Not, And, Or, Impl, Repl, Equiv, Ex, All, none, also}
+use Rattle.formula_meaning.specs.Some.{SomeOf}
+use Rattle.formula_meaning.specs.Every.{Every, EveryOf}
+use Rattle.formula_meaning.specs.Shape.{IsPlain}
+use Rattle.formula_meaning.specs.Atom.{Atom, Compare, Congruent, Incongruent, Relation, Equals, Differs, Below, AtMost, Above, AtLeast, mirrored}
+use Rattle.formula_meaning.specs.Answer.{Place, Holds}
+use Rattle.formula_meaning.specs.Tree.{Tree, TrueAt, InContext}
+use Rattle.elimination_theory.specs.Side.{Side, Lower, Upper, turned}
+use Rattle.elimination_theory.specs.Lists.{same_atom, same_place}
+use Rattle.elimination_theory.specs.Atoms.{atoms_in, atoms_in_all, atoms_of}
+use Rattle.elimination_theory.specs.FieldsPoints.{beside_point, ends_of, comparison_points, atom_points, infinity_of, field_points}
+use Rattle.elimination_theory.specs.FieldsSubstitution.{IsFieldPlace}
+use Rattle.elimination_theory.specs.FieldsTheorems.{at_place}
+use Rattle.elimination_theory.proofs.Listed.{Among, some_among, among_some, among_left, among_right, among_flat_map, flat_map_among, distinct_among, among_distinct, atom_same, place_same}
+use Rattle.elimination_theory.proofs.FieldsLine.{under}
+use Rattle.elimination_theory.proofs.LowestTerms.{lowest}
+use Rattle.elimination_theory.proofs.FieldsBegin.{Begins, formula_begins}
+use Rattle.elimination_theory.proofs.FieldsMeet.{begins_meets, meets_some, pos_positive, positive_pos}
+
+module _ {A N : Type 0} (P : A → Type 0) where
+  mutual
+    -- what each atom of the list has, each atom of the formula has
+    pub every_listed : (f : Formula A N) → ((a : A) → Among (atoms_in f) a → P a) → Every P f
+    every_listed Yes h = tt
+    every_listed No h = tt
+    every_listed (One a) h = h a (inl refl)
+    every_listed (Not f) h = every_listed f h
+    every_listed (And fs) h = every_listed_of fs h
+    every_listed (Or fs) h = every_listed_of fs h
+    every_listed (Impl f g) h = (every_listed f (λ a m. h a (among_left (atoms_in f) (atoms_in g) a m)), every_listed g (λ a m. h a (among_right (atoms_in f) (atoms_in g) a m)))
+    every_listed (Repl f g) h = (every_listed f (λ a m. h a (among_left (atoms_in f) (atoms_in g) a m)), every_listed g (λ a m. h a (among_right (atoms_in f) (atoms_in g) a m)))
+    every_listed (Equiv f g) h = (every_listed f (λ a m. h a (among_left (atoms_in f) (atoms_in g) a m)), every_listed g (λ a m. h a (among_right (atoms_in f) (atoms_in g) a m)))
+    every_listed (Ex x f) h = every_listed f h
+    every_listed (All x f) h = every_listed f h
+
+    pub every_listed_of : (fs : Formulas A N) → ((a : A) → Among (atoms_in_all fs) a → P a) → EveryOf P fs
+    every_listed_of none h = tt
+    every_listed_of (also f fs) h = (every_listed f (λ a m. h a (among_left (atoms_in f) (atoms_in_all fs) a m)), every_listed_of fs (λ a m. h a (among_right (atoms_in f) (atoms_in_all fs) a m)))
+
+-- each atom of a tree is among its atoms without repeats
+pub every_atom : (P : Atom → Type 0) (f : Tree) → ((a : Atom) → Among (atoms_of f) a → P a) → Every P f
+every_atom P f h = every_listed P f (λ a m. h a (among_distinct same_atom atom_same (atoms_in f) a m))
+
+-- ---- each test point is a place of the fields
+
+beside_place : (side : Side) (e : Form) (d : ℕ) → 0 < under e d → IsFieldPlace (beside_point side e d)
+beside_place Lower e d h = h
+beside_place Upper e d h = h
+
+along_place : {s t : Place} → s ≡ t → IsFieldPlace s → IsFieldPlace t
+along_place e h = subst IsFieldPlace e h
+
+end_place : (side : Side) (r : Relation) (e : Form) (d : ℕ) → 0 < under e d → (s : Place) → Among (ends_of side r e d) s → IsFieldPlace s
+end_place side Equals e d h s (inl i) = along_place i h
+end_place side Equals e d h s (inr i) = absurd i
+end_place side Differs e d h s (inl i) = along_place i (beside_place side e d h)
+end_place side Differs e d h s (inr i) = absurd i
+end_place side Below e d h s i = absurd i
+end_place side AtMost e d h s i = absurd i
+end_place side Above e d h s (inl i) = along_place i (beside_place side e d h)
+end_place side Above e d h s (inr i) = absurd i
+end_place side AtLeast e d h s (inl i) = along_place i h
+end_place side AtLeast e d h s (inr i) = absurd i
+
+below_lowest : (e : Form) (n : ℕ) → 0 < under e (suc n)
+below_lowest e n = positive_pos ((lowest e (suc n) (omega arith)).below_positive)
+
+comparison_place : (side : Side) (c : ℤ) (r : Relation) (t : Form) (s : Place) → Among (comparison_points side c r t) s → IsFieldPlace s
+comparison_place side (pos zero) r t s h = absurd h
+comparison_place side (pos (suc n)) r t s h = end_place side (turned side r) (scale (negsuc 0) t) (suc n) (below_lowest (scale (negsuc 0) t) n) s h
+comparison_place side (negsuc n) r t s h = end_place side (turned side (mirrored r)) t (suc n) (below_lowest t n) s h
+
+atom_place : (side : Side) (x : ℕ) (a : Atom) (s : Place) → Among (atom_points side x a) s → IsFieldPlace s
+atom_place side x (Compare r f) s h = comparison_place side (coefficient x f) r (without x f) s h
+atom_place side x (Congruent n f) s h = absurd h
+atom_place side x (Incongruent n f) s h = absurd h
+
+infinity_place : (side : Side) → IsFieldPlace (infinity_of side)
+infinity_place Lower = tt
+infinity_place Upper = tt
+
+pub field_point_place : (side : Side) (x : ℕ) (f : Tree) (s : Place) → Among (field_points side x f) s → IsFieldPlace s
+field_point_place side x f s h = go (distinct_among same_place (infinity_of side ∷ flat_map (atom_points side x) (atoms_of f)) s h)
+  where
+    go : Among (infinity_of side ∷ flat_map (atom_points side x) (atoms_of f)) s → IsFieldPlace s
+    go (inl e) = along_place e (infinity_place side)
+    go (inr m) = let r = flat_map_among (atom_points side x) (atoms_of f) s m in atom_place side x r.0 s r.2
+
+-- the points of each atom are listed
+points_listed : (side : Side) (x : ℕ) (f : Tree) → Every (λ a. (q : Place) → Among (atom_points side x a) q → Among (field_points side x f) q) f
+points_listed side x f =
+    every_atom _ f (λ a m q h. among_distinct same_place place_same (infinity_of side ∷ flat_map (atom_points side x) (atoms_of f)) q (inr (among_flat_map (atom_points side x) (atoms_of f) a q m h)))
+
+pub field_points_suffice : (side : Side) (x : ℕ) (f : Tree) (p : Point ℕ) → IsPlain f → InContext Fields f → Of Fields p →
+    TrueAt Fields (Ex x f) p ↔ SomeOf (λ s. Holds Fields (at_place x s) f p) (field_points side x f)
+field_points_suffice side x f p s c o = (
+  λ t.
+      let b : Begins side (Among (field_points side x f)) p (λ j n. TrueAt Fields f (move nat_eq p x j n)) t.0 t.1 =
+      formula_begins side (Among (field_points side x f)) p x (inl refl) t.0 t.1 (pos_positive t.2) f s c (points_listed side x f) t.3 in
+      among_some (λ q. Holds Fields (at_place x q) f p) (field_points side x f) b.place b.listed
+      (begins_meets x p o (λ q. TrueAt Fields f q) t.0 t.1 (pos_positive t.2) side (Among (field_points side x f)) b),
+  λ h.
+      let m = some_among (λ q. Holds Fields (at_place x q) f p) (field_points side x f) h in
+      meets_some m.0 x (λ q. TrueAt Fields f q) p (field_point_place side x f m.0 m.1) m.2,
+)

@@ -1,0 +1,5 @@
+use Rattle.elimination_theory.proofs.IntegerSample.{sample_is_unique}
+use Rattle.elimination_theory.proofs.integers.integer_sample_is_unique.Goals as goal
+
+pub returns : goal.returns
+returns c = sample_is_unique

@@ -1,0 +1,5 @@
+use Rattle.elimination_theory.proofs.IntegerLeast.{span_is_least}
+use Rattle.elimination_theory.proofs.integers.integer_span_is_least.Goals as goal
+
+pub returns : goal.returns
+returns c = span_is_least

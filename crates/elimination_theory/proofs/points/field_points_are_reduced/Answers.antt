@@ -1,0 +1,5 @@
+use Rattle.elimination_theory.proofs.Reduced.{points_reduced}
+use Rattle.elimination_theory.proofs.points.field_points_are_reduced.Goals as goal
+
+pub returns : goal.returns
+returns c = points_reduced

@@ -1,0 +1,41 @@
+-- What elimination says of truth itself.
+use Rattle.std.specs.Prelude.{ℕ, ◌⊎◌, ◌↔◌}
+use Rattle.formula_meaning.specs.Context.{Context, Fields}
+use Rattle.formula_meaning.specs.Point.{Point, Of}
+use Rattle.formula_meaning.specs.Formula.{Ex, All, Not}
+use Rattle.formula_meaning.specs.Shape.{IsPlain}
+use Rattle.formula_meaning.specs.Tree.{Tree, TrueAt, InContext, IsFree, Equivalent, negation_normal, negated}
+use Rattle.elimination_theory.specs.Side.{Side}
+use Rattle.elimination_theory.specs.Elimination.{field_elimination}
+
+-- g is equivalent to f, is built by and and or alone, and has no other free names
+pub record IsEliminated (c : Context) (f g : Tree) : Type 0 where
+  pub is_plain : IsPlain g
+  pub in_context : InContext c g
+  pub equivalent : Equivalent c f g
+  pub names : (y : ℕ) → IsFree g y → IsFree f y
+
+-- one quantifier over a formula built by and and or can be eliminated
+abbrev pub QuantifierIsEliminated : Context → Type 0
+QuantifierIsEliminated c = (x : ℕ) (f : Tree) → IsPlain f → InContext c f → (g : Tree) × IsEliminated c (Ex x f) g
+
+-- every formula is true or not, at every point of the theory
+abbrev pub TruthIsDecided : Context → Type 0
+TruthIsDecided c = (f : Tree) (p : Point ℕ) → InContext c f → Of c p → TrueAt c f p ⊎ ¬ (TrueAt c f p)
+
+-- every formula has an equivalent without quantifiers, over its own free names
+abbrev pub QuantifiersAreEliminated : Context → Type 0
+QuantifiersAreEliminated c = (f : Tree) → InContext c f → (g : Tree) × IsEliminated c f g
+
+-- the negation normal form is true where the formula is, and that of the negation where the formula is not
+abbrev pub NegationNormalFormKeepsTruth : Context → Type 0
+NegationNormalFormKeepsTruth c = (f : Tree) (p : Point ℕ) → InContext c f → Of c p →
+    (TrueAt c f p ↔ TrueAt c (negation_normal f) p) × (¬ (TrueAt c f p) ↔ TrueAt c (negated f) p)
+
+-- all is the negation of ex of the negation
+abbrev pub AllIsNotExNot : Context → Type 0
+AllIsNotExNot c = (x : ℕ) (f : Tree) (p : Point ℕ) → InContext c f → Of c p → TrueAt c (All x f) p ↔ TrueAt c (Not (Ex x (Not f))) p
+
+-- ex(x, f) is equivalent to the disjunction over its test points
+abbrev pub FieldEliminationIsExact : Type 0
+FieldEliminationIsExact = (side : Side) (x : ℕ) (f : Tree) → IsPlain f → InContext Fields f → Equivalent Fields (Ex x f) (field_elimination side x f)

@@ -1,0 +1,17 @@
+-- The disjunction over all test points: a formula without the quantifier.
+use Rattle.std.specs.Prelude.{ℕ, List, [], ◌∷◌}
+use Rattle.formula_meaning.specs.Formula.{Or, none, also}
+use Rattle.formula_meaning.specs.Answer.{Place}
+use Rattle.formula_meaning.specs.Tree.{Tree, Trees}
+use Rattle.elimination_theory.specs.Side.{Side}
+use Rattle.elimination_theory.specs.FieldsPoints.{field_points}
+use Rattle.elimination_theory.specs.FieldsSubstitution.{field_substitution}
+
+-- put s for each place s, in order
+abbrev pub trees_at : (Place → Tree) → List Place → Trees
+trees_at put [] = none
+trees_at put (s ∷ places) = also (put s) (trees_at put places)
+
+-- the formula with the name put at each test point of the side, joined by or
+abbrev pub field_elimination : Side → ℕ → Tree → Tree
+field_elimination side x f = Or (trees_at (λ s. field_substitution x s f) (field_points side x f))

@@ -1,0 +1,78 @@
+-- Test points of the ordered fields (Loos and Weispfenning): ends of intervals, infinitesimals beside them, and an infinity.
+use Rattle.std.specs.Prelude.{◌≡◌, ℕ, suc, zero, ◌/◌, ℤ, pos, negsuc, List, [], ◌∷◌, map, flat_map, unsigned_abs, int_div}
+use Rattle.exact_numbers.specs.Divides.{content_of}
+use Rattle.formula_meaning.specs.Some.{SomeOf}
+use Rattle.formula_meaning.specs.Form.{Form, Term, coefficient, without, scale}
+use Rattle.formula_meaning.specs.Atom.{Atom, Compare, Congruent, Incongruent, Relation, Equals, Differs, Below, AtMost, Above, AtLeast, mirrored}
+use Rattle.formula_meaning.specs.Answer.{Place, Exact, AboveBy, BelowBy, PlusInfinity, MinusInfinity, Periodic}
+use Rattle.formula_meaning.specs.Tree.{Tree}
+use Rattle.elimination_theory.specs.Lists.{distinct, same_place}
+use Rattle.elimination_theory.specs.Atoms.{atoms_of}
+use Rattle.elimination_theory.specs.Side.{Side, Lower, Upper, turned}
+
+-- all numbers of a form over a denominator
+abbrev pub numbers_of : Form → ℕ → List ℤ
+numbers_of e d = pos d ∷ e.constant ∷ map (λ (t : Term). t.times) e.terms
+
+-- the greatest common divisor of these numbers
+abbrev pub divisor_of : Form → ℕ → ℕ
+divisor_of e d = unsigned_abs (content_of (numbers_of e d))
+
+abbrev pub terms_over : ℕ → List Term → List Term
+terms_over g [] = []
+terms_over g (t ∷ ts) = record { times = int_div t.times (pos g); name = t.name } ∷ terms_over g ts
+
+-- each number of the form divided by g
+unfoldable pub form_over : ℕ → Form → Form
+form_over g e = record { terms = terms_over g e.terms; constant = int_div e.constant (pos g) }
+
+-- e over d in lowest terms, as an exact place
+abbrev pub exact_point : Form → ℕ → Place
+exact_point e d = Exact (form_over (divisor_of e d) e) (d / divisor_of e d)
+
+-- the place an infinitesimal further than e over d, away from the side
+abbrev pub beside_point : Side → Form → ℕ → Place
+beside_point Lower e d = AboveBy (form_over (divisor_of e d) e) (d / divisor_of e d)
+beside_point Upper e d = BelowBy (form_over (divisor_of e d) e) (d / divisor_of e d)
+
+-- The end of x relation e/d that lies to the side, for the relation as the side sees it.
+abbrev pub ends_of : Side → Relation → Form → ℕ → List Place
+ends_of side Equals e d = exact_point e d ∷ []
+ends_of side Differs e d = beside_point side e d ∷ []
+ends_of side Below e d = []
+ends_of side AtMost e d = []
+ends_of side Above e d = beside_point side e d ∷ []
+ends_of side AtLeast e d = exact_point e d ∷ []
+
+-- The test points of a * x + t relation 0, at -t/a; a negative a mirrors the relation.
+abbrev pub comparison_points : Side → ℤ → Relation → Form → List Place
+comparison_points side (pos zero) r t = []
+comparison_points side (pos (suc n)) r t = ends_of side (turned side r) (scale (negsuc 0) t) (suc n)
+comparison_points side (negsuc n) r t = ends_of side (turned side (mirrored r)) t (suc n)
+
+abbrev pub atom_points : Side → ℕ → Atom → List Place
+atom_points side x (Compare r f) = comparison_points side (coefficient x f) r (without x f)
+atom_points side x (Congruent n f) = []
+atom_points side x (Incongruent n f) = []
+
+-- the infinity of the side
+abbrev pub infinity_of : Side → Place
+infinity_of Lower = MinusInfinity
+infinity_of Upper = PlusInfinity
+
+-- the test points of a name in a formula: the infinity, then those of each atom; an equal point stands once
+abbrev pub field_points : Side → ℕ → Tree → List Place
+field_points side x f = distinct same_place (infinity_of side ∷ flat_map (atom_points side x) (atoms_of f))
+
+-- no number above 1 divides all numbers of the place
+abbrev pub IsReduced : Place → Type 0
+IsReduced (Exact e d) = divisor_of e d ≡ 1
+IsReduced (AboveBy e d) = divisor_of e d ≡ 1
+IsReduced (BelowBy e d) = divisor_of e d ≡ 1
+IsReduced PlusInfinity = Unit {0}
+IsReduced MinusInfinity = Unit {0}
+IsReduced (Periodic a q) = Unit {0}
+
+-- Each test point of the fields is in lowest terms.
+abbrev pub FieldPointsAreReduced : Type 0
+FieldPointsAreReduced = (side : Side) (x : ℕ) (f : Tree) (s : Place) → SomeOf (λ t. t ≡ s) (field_points side x f) → IsReduced s

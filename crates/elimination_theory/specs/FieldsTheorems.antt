@@ -1,0 +1,37 @@
+-- The theorems of elimination over the ordered fields, as statements.
+use Rattle.std.specs.Prelude.{ℕ, ◌↔◌, List, [], ◌∷◌}
+use Rattle.formula_meaning.specs.Context.{Fields}
+use Rattle.formula_meaning.specs.Point.{Point, Of}
+use Rattle.formula_meaning.specs.Formula.{Ex, One}
+use Rattle.formula_meaning.specs.Some.{SomeOf}
+use Rattle.formula_meaning.specs.Shape.{IsPlain}
+use Rattle.formula_meaning.specs.Atom.{Atom, AtomIn}
+use Rattle.formula_meaning.specs.Answer.{Answer, Place, Holds}
+use Rattle.formula_meaning.specs.Tree.{Tree, TrueAt, InContext}
+use Rattle.elimination_theory.specs.Side.{Side}
+use Rattle.elimination_theory.specs.FieldsPoints.{field_points}
+use Rattle.elimination_theory.specs.FieldsSubstitution.{field_atom, field_substitution, field_substitutions, IsFieldPlace, AreFieldAnswers}
+
+-- the one answer that puts x at the place
+abbrev pub at_place : ℕ → Place → List Answer
+at_place x s = record { name = x; place = s } ∷ []
+
+-- An atom's substitution is true exactly where the place makes the atom true.
+abbrev pub FieldAtomIsExact : Type 0
+FieldAtomIsExact = (x : ℕ) (s : Place) (a : Atom) (p : Point ℕ) → IsFieldPlace s → AtomIn Fields a → Of Fields p →
+    Holds Fields (at_place x s) (One a) p ↔ TrueAt Fields (field_atom x s a) p
+
+-- The substitution into a formula built by and and or is true exactly where the place makes the formula true.
+abbrev pub FieldSubstitutionIsExact : Type 0
+FieldSubstitutionIsExact = (x : ℕ) (s : Place) (f : Tree) (p : Point ℕ) → IsFieldPlace s → IsPlain f → InContext Fields f → Of Fields p →
+    Holds Fields (at_place x s) f p ↔ TrueAt Fields (field_substitution x s f) p
+
+-- ex(x, f) is true exactly where some test point of the side makes f true, for f built by and and or.
+abbrev pub FieldTestPointsSuffice : Type 0
+FieldTestPointsSuffice = (side : Side) (x : ℕ) (f : Tree) (p : Point ℕ) → IsPlain f → InContext Fields f → Of Fields p →
+    TrueAt Fields (Ex x f) p ↔ SomeOf (λ s. Holds Fields (at_place x s) f p) (field_points side x f)
+
+-- Answers put in, the last one first, give a formula that is true exactly where the answers make the formula true.
+abbrev pub FieldAnswersHold : Type 0
+FieldAnswersHold = (answers : List Answer) (f : Tree) (p : Point ℕ) → AreFieldAnswers answers → IsPlain f → InContext Fields f → Of Fields p →
+    Holds Fields answers f p ↔ TrueAt Fields (field_substitutions answers f) p

@@ -1,0 +1,67 @@
+-- A name put at a place of the integers (Cooper): the atom that results, and the guard of the place.
+use Rattle.std.specs.Prelude.{ℕ, ℤ, pos, negsuc, zero, suc, ◌*◌, ◌*ℤ◌, neg_ℤ, List, [], ◌∷◌}
+use Rattle.formula_meaning.specs.Formula.{Yes, One, And}
+use Rattle.formula_meaning.specs.NegationNormal.{both}
+use Rattle.formula_meaning.specs.Form.{Form, coefficient, without, plus}
+use Rattle.formula_meaning.specs.Atom.{Atom, Compare, Congruent, Incongruent}
+use Rattle.formula_meaning.specs.Answer.{Answer, Place, Exact, AboveBy, BelowBy, PlusInfinity, MinusInfinity, Periodic}
+use Rattle.formula_meaning.specs.Replaced.{replaced}
+use Rattle.formula_meaning.specs.Tree.{Tree}
+use Rattle.elimination_theory.specs.FieldsSubstitution.{put_in, beyond, exactly}
+
+-- the first where the number is 0, else the second
+abbrev pub where_zero : {X : Type 0} → ℤ → X → X → X
+where_zero (pos zero) first second = first
+where_zero (pos (suc n)) first second = second
+where_zero (negsuc n) first second = second
+
+-- a * j + t: the form a * x + t with the number j for x
+abbrev pub put_number : ℕ → ℤ → Form → Form
+put_number x j f = plus (without x f) (coefficient x f *ℤ j)
+
+-- how x with the coefficient a changes the form on the way of a period: a positive period leads upwards, where x is turned round
+abbrev pub along : ℤ → ℤ → ℤ
+along (negsuc q) a = a
+along (pos q) a = neg_ℤ a
+
+-- An atom with x at the place; an atom without x stays. With e over l for x the form and the modulus are multiplied by l.
+-- Far out in a residue class comparisons are as at an infinity, and congruences take the number of the class.
+abbrev pub integer_atom : ℕ → Place → Atom → Tree
+integer_atom x (Exact e l) (Compare r f) = exactly (coefficient x f) r f (put_in x e l f)
+integer_atom x (Exact e l) (Congruent n f) = One (where_zero (coefficient x f) (Congruent n f) (Congruent (l * n) (put_in x e l f)))
+integer_atom x (Exact e l) (Incongruent n f) = One (where_zero (coefficient x f) (Incongruent n f) (Incongruent (l * n) (put_in x e l f)))
+integer_atom x (Periodic j q) (Compare r f) = beyond (along q (coefficient x f)) r f
+integer_atom x (Periodic j q) (Congruent n f) = One (where_zero (coefficient x f) (Congruent n f) (Congruent n (put_number x j f)))
+integer_atom x (Periodic j q) (Incongruent n f) = One (where_zero (coefficient x f) (Incongruent n f) (Incongruent n (put_number x j f)))
+integer_atom x (AboveBy e l) a = One a
+integer_atom x (BelowBy e l) a = One a
+integer_atom x PlusInfinity a = One a
+integer_atom x MinusInfinity a = One a
+
+-- a formula with x at the place
+abbrev pub integer_substitution : ℕ → Place → Tree → Tree
+integer_substitution x s f = replaced (integer_atom x s) (λ y. y) f
+
+-- true where e over l is a whole number
+abbrev pub is_whole : Form → ℕ → Tree
+is_whole e zero = One (Congruent zero e)
+is_whole e (suc zero) = Yes
+is_whole e (suc (suc n)) = One (Congruent (suc (suc n)) e)
+
+-- the condition under which the place is a whole number
+abbrev pub integer_guard : Place → Tree
+integer_guard (Exact e l) = is_whole e l
+integer_guard (AboveBy e l) = Yes
+integer_guard (BelowBy e l) = Yes
+integer_guard PlusInfinity = Yes
+integer_guard MinusInfinity = Yes
+integer_guard (Periodic j q) = Yes
+
+-- the place is a whole number, and the formula is true with x at it
+abbrev pub guarded_substitution : ℕ → Place → Tree → Tree
+guarded_substitution x s f = And (both (integer_guard s) (integer_substitution x s f))
+
+-- a formula with the answers put in, the last one first, each with its guard
+abbrev pub integer_substitutions : List Answer → Tree → Tree
+integer_substitutions [] f = f
+integer_substitutions (a ∷ rest) f = guarded_substitution a.name a.place (integer_substitutions rest f)

@@ -1,0 +1,61 @@
+-- Lists without repeats, and equality tests of forms, atoms and places.
+use Rattle.std.specs.Prelude.{◌≡◌, ℕ, Bool, true, false, ◌&&◌, List, [], ◌∷◌, nat_eq, if◌then◌else◌}
+use Rattle.std.specs.Ordering.{int_eq}
+use Rattle.formula_meaning.specs.Some.{SomeOf}
+use Rattle.formula_meaning.specs.Form.{Form, Term}
+use Rattle.formula_meaning.specs.Atom.{Atom, Compare, Congruent, Incongruent, Relation, Equals, Differs, Below, AtMost, Above, AtLeast}
+use Rattle.formula_meaning.specs.Answer.{Place, Exact, AboveBy, BelowBy, PlusInfinity, MinusInfinity, Periodic}
+
+-- the list without what is the same as x
+abbrev pub without_same : {X : Type 0} → (X → X → Bool) → X → List X → List X
+without_same same x [] = []
+without_same same x (y ∷ ys) = if same x y then without_same same x ys else y ∷ without_same same x ys
+
+-- the list with each element once, at its first place
+abbrev pub distinct : {X : Type 0} → (X → X → Bool) → List X → List X
+distinct same [] = []
+distinct same (x ∷ xs) = x ∷ without_same same x (distinct same xs)
+
+-- the same terms in the same order
+abbrev pub same_terms : List Term → List Term → Bool
+same_terms [] [] = true
+same_terms [] (u ∷ us) = false
+same_terms (t ∷ ts) [] = false
+same_terms (t ∷ ts) (u ∷ us) = int_eq t.times u.times && (nat_eq t.name u.name && same_terms ts us)
+
+abbrev pub same_form : Form → Form → Bool
+same_form f g = int_eq f.constant g.constant && same_terms f.terms g.terms
+
+-- a number for each relation
+abbrev pub rank : Relation → ℕ
+rank Equals = 0
+rank Differs = 1
+rank Below = 2
+rank AtMost = 3
+rank Above = 4
+rank AtLeast = 5
+
+abbrev pub same_atom : Atom → Atom → Bool
+same_atom (Compare r f) (Compare s g) = nat_eq (rank r) (rank s) && same_form f g
+same_atom (Compare r f) (Congruent n g) = false
+same_atom (Compare r f) (Incongruent n g) = false
+same_atom (Congruent m f) (Compare s g) = false
+same_atom (Congruent m f) (Congruent n g) = nat_eq m n && same_form f g
+same_atom (Congruent m f) (Incongruent n g) = false
+same_atom (Incongruent m f) (Compare s g) = false
+same_atom (Incongruent m f) (Congruent n g) = false
+same_atom (Incongruent m f) (Incongruent n g) = nat_eq m n && same_form f g
+
+abbrev pub same_place : Place → Place → Bool
+same_place (Exact e c) (Exact f d) = nat_eq c d && same_form e f
+same_place (AboveBy e c) (AboveBy f d) = nat_eq c d && same_form e f
+same_place (BelowBy e c) (BelowBy f d) = nat_eq c d && same_form e f
+same_place PlusInfinity PlusInfinity = true
+same_place MinusInfinity MinusInfinity = true
+same_place (Periodic a p) (Periodic b q) = int_eq a b && int_eq p q
+same_place _ _ = false
+
+-- no element stands twice
+abbrev pub StandsOnce : {X : Type 0} → List X → Type 0
+StandsOnce [] = Unit {0}
+StandsOnce (x ∷ xs) = ¬ (SomeOf (λ y. x ≡ y) xs) × StandsOnce xs

@@ -1,0 +1,37 @@
+-- Which names stand in a formula after elimination.
+use Rattle.std.specs.Prelude.{ℕ, ◌≡◌, ◌⊎◌}
+use Rattle.formula_meaning.specs.Context.{Fields, Integers}
+use Rattle.formula_meaning.specs.Formula.{Ex}
+use Rattle.formula_meaning.specs.Some.{SomeOf}
+use Rattle.formula_meaning.specs.Shape.{IsPlain}
+use Rattle.formula_meaning.specs.Answer.{Place, PlaceMentions}
+use Rattle.formula_meaning.specs.Tree.{Tree, InContext, IsFree}
+use Rattle.elimination_theory.specs.Side.{Side}
+use Rattle.elimination_theory.specs.FieldsPoints.{field_points}
+use Rattle.elimination_theory.specs.FieldsSubstitution.{field_substitution, IsFieldPlace}
+use Rattle.elimination_theory.specs.Elimination.{field_elimination}
+use Rattle.elimination_theory.specs.IntegersPoints.{integer_points, integer_elimination}
+use Rattle.elimination_theory.specs.IntegersSubstitution.{guarded_substitution}
+use Rattle.elimination_theory.specs.IntegersTheorems.{IsIntegerPlace}
+
+-- a name of f other than x, or a name of the place
+abbrev pub IsNameOf : ℕ → Place → Tree → ℕ → Type 0
+IsNameOf x s f y = (¬ (x ≡ y) × IsFree f y) ⊎ PlaceMentions s y
+
+-- With x at a place a formula has its own other names and those of the place alone, in both theories.
+abbrev pub SubstitutionKeepsNames : Type 0
+SubstitutionKeepsNames = (x : ℕ) (s : Place) (f : Tree) (y : ℕ) → IsPlain f →
+    (IsFieldPlace s → InContext Fields f → IsFree (field_substitution x s f) y → IsNameOf x s f y)
+    × (IsIntegerPlace s → IsFree (guarded_substitution x s f) y → IsNameOf x s f y)
+
+-- The test points of x have names of the formula other than x alone, in both theories.
+abbrev pub PointsHaveNamesOfFormula : Type 0
+PointsHaveNamesOfFormula = (side : Side) (x : ℕ) (f : Tree) (s : Place) (y : ℕ) → IsPlain f → PlaceMentions s y →
+    (SomeOf (λ t. t ≡ s) (field_points side x f) → IsFree (Ex x f) y)
+    × (SomeOf (λ t. t ≡ s) (integer_points side x f) → IsFree (Ex x f) y)
+
+-- What elimination makes of ex(x, f) has free names of ex(x, f) alone, in both theories.
+abbrev pub EliminationKeepsNames : Type 0
+EliminationKeepsNames = (side : Side) (x : ℕ) (f : Tree) (y : ℕ) → IsPlain f →
+    (InContext Fields f → IsFree (field_elimination side x f) y → IsFree (Ex x f) y)
+    × (InContext Integers f → IsFree (integer_elimination side x f) y → IsFree (Ex x f) y)

@@ -1,0 +1,12 @@
+-- What is said of the lists of test points in both theories.
+use Rattle.std.specs.Prelude.{ℕ}
+use Rattle.formula_meaning.specs.Tree.{Tree}
+use Rattle.elimination_theory.specs.Side.{Side}
+use Rattle.elimination_theory.specs.Lists.{StandsOnce}
+use Rattle.elimination_theory.specs.FieldsPoints.{field_points}
+use Rattle.elimination_theory.specs.IntegersPoints.{integer_points}
+use Rattle.elimination_theory.specs.Atoms.{atoms_of}
+
+-- each atom and each test point stands once in its list
+abbrev pub PointsStandOnce : Type 0
+PointsStandOnce = (side : Side) (x : ℕ) (f : Tree) → StandsOnce (atoms_of f) × StandsOnce (field_points side x f) × StandsOnce (integer_points side x f)

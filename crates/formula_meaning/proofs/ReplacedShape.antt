@@ -1,0 +1,42 @@
+-- The shape and the atoms of a formula whose atoms are replaced.
+use Rattle.formula_meaning.specs.Formula.{Formula, Formulas, Yes, No, One, Not, And, Or, Impl, Repl, Equiv, Ex, All, none, also}
+use Rattle.formula_meaning.specs.Every.{Every, EveryOf}
+use Rattle.formula_meaning.specs.Shape.{IsPlain, ArePlain}
+use Rattle.formula_meaning.specs.Replaced.{replaced, all_replaced}
+
+module _ {A B N M : Type 0} (by : A → Formula B M) (rename : N → M) where
+  mutual
+    pub plain_stays : (f : Formula A N) → IsPlain f → Every (λ a. IsPlain (by a)) f → IsPlain (replaced by rename f)
+    plain_stays Yes s h = s
+    plain_stays No s h = s
+    plain_stays (One a) s h = h
+    plain_stays (Not f) s h = absurd s
+    plain_stays (And fs) s h = all_plain_stay fs s h
+    plain_stays (Or fs) s h = all_plain_stay fs s h
+    plain_stays (Impl f g) s h = absurd s
+    plain_stays (Repl f g) s h = absurd s
+    plain_stays (Equiv f g) s h = absurd s
+    plain_stays (Ex x f) s h = absurd s
+    plain_stays (All x f) s h = absurd s
+
+    all_plain_stay : (fs : Formulas A N) → ArePlain fs → EveryOf (λ a. IsPlain (by a)) fs → ArePlain (all_replaced by rename fs)
+    all_plain_stay none s h = s
+    all_plain_stay (also f fs) s h = (plain_stays f s.0 h.0, all_plain_stay fs s.1 h.1)
+
+  mutual
+    pub every_replaced : (P : B → Type 0) (f : Formula A N) → Every (λ a. Every P (by a)) f → Every P (replaced by rename f)
+    every_replaced P Yes h = h
+    every_replaced P No h = h
+    every_replaced P (One a) h = h
+    every_replaced P (Not f) h = every_replaced P f h
+    every_replaced P (And fs) h = every_replaced_of P fs h
+    every_replaced P (Or fs) h = every_replaced_of P fs h
+    every_replaced P (Impl f g) h = (every_replaced P f h.0, every_replaced P g h.1)
+    every_replaced P (Repl f g) h = (every_replaced P f h.0, every_replaced P g h.1)
+    every_replaced P (Equiv f g) h = (every_replaced P f h.0, every_replaced P g h.1)
+    every_replaced P (Ex x f) h = every_replaced P f h
+    every_replaced P (All x f) h = every_replaced P f h
+
+    every_replaced_of : (P : B → Type 0) (fs : Formulas A N) → EveryOf (λ a. Every P (by a)) fs → EveryOf P (all_replaced by rename fs)
+    every_replaced_of P none h = h
+    every_replaced_of P (also f fs) h = (every_replaced P f h.0, every_replaced_of P fs h.1)

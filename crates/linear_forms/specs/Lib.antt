@@ -1,0 +1,4 @@
+pub mod Terms
+pub mod Linear
+pub mod Merging
+pub mod Values

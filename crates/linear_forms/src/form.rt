@@ -1,0 +1,145 @@
+// A linear form: a sorted list of names with their coefficients, and a constant.
+ghost use Rattle.std.specs.Prelude.{◌≡◌, ℕ, pos, [], ◌∷◌, IfOk, IfErr, IsErrOf, MatchOption, option_map, slice_get};
+ghost use Rattle.exact_numbers.specs.Limit.{InLimit};
+ghost use Rattle.exact_numbers.specs.Divides.{DividesAll, IsContent, content_of};
+ghost use Rattle.formula_meaning.specs.Form.{coefficient, value};
+ghost use Rattle.linear_forms.specs.Terms.{IsLinear, IsCombination, CombinePasses, IsQuotient, coefficients, value_steps, ValuePasses};
+ghost use Rattle.linear_forms.specs.Values.{number_at, point_of};
+
+use crate::error::LinError;
+use crate::merge::{merge, place};
+use crate::terms;
+use crate::values::{Values, total};
+use exact_numbers::{product, sum};
+use std::alloc::Global;
+use std::marker::Model;
+
+/// The number of a name.
+#[derive(Clone, Copy, Debug, PartialEq, Eq, PartialOrd, Ord)]
+pub struct VarId {
+    pub number: usize,
+}
+
+/// A sum of whole multiples of names, and a constant.
+#[derive(Debug, Drop)]
+pub struct Linear {
+    terms: Vec<(VarId, i128)>,
+    constant: i128,
+}
+
+impl Model for Linear {
+    ghost use Rattle.formula_meaning.specs.Form.{Form};
+    ghost use Rattle.linear_forms.specs.Terms.{IsLinear};
+
+    ghost Value = { Form };
+
+    ghost use Rattle.linear_forms.specs.Linear.{terms_of};
+
+    ghost view = { λ l. record { terms = terms_of l.terms.items; constant = l.constant } };
+
+    ghost invariant = { λ l. IsLinear (record { terms = terms_of l.terms.items; constant = l.constant }) };
+}
+
+impl Linear {
+    ghost use Rattle.linear_forms.specs.Linear.{term_of};
+
+    /// The constant form `c`.
+    pub fn constant(alloc: Global, c: i128) -> Linear
+        requires { InLimit c }
+        ensures form { result ≡ record { terms = []; constant = c } }
+        ensures linear { IsLinear result }
+    {
+        Linear {
+            terms: Vec::new(alloc),
+            constant: c,
+        }
+    }
+
+    /// The form that is the name `v`. Its only error is `Memory`.
+    pub fn variable(alloc: Global, v: VarId) -> Result<Linear, LinError>
+        ensures form { IfOk result (λ r. r ≡ record { terms = record { times = pos 1; name = v.number } ∷ []; constant = pos 0 }) }
+        ensures linear { IfOk result IsLinear }
+        ensures memory { IfErr result (λ e. e ≡ LinError.Memory) }
+    {
+        let mut terms = Vec::new(alloc);
+        match terms.push((v, 1)) {
+            Ok(()) => Ok(Linear { terms, constant: 0 }),
+            Err(_) => Err(LinError::Memory),
+        }
+    }
+
+    /// The form `a * self + b * other`: one merge of the two lists, linear in their lengths.
+    /// `Overflow` comes exactly where a product or a sum of one place passes 2^127 - 1, else `Memory`.
+    pub fn combine(
+        &self,
+        alloc: Global,
+        a: i128,
+        other: &Linear,
+        b: i128,
+    ) -> Result<Linear, LinError>
+        ensures combined { IfOk result (IsCombination a self.now b other.now) }
+        ensures overflow { IsErrOf result LinError.Overflow → CombinePasses a self.now b other.now }
+    {
+        let constant = place(a, self.constant, b, other.constant).ok_or(LinError::Overflow)?;
+        let terms = merge(alloc, &self.terms, a, &other.terms, b)?;
+        Ok(Linear { terms, constant })
+    }
+
+    /// The form with each number divided by `by`, which is not 0 and divides them all. Its only error is `Memory`.
+    pub fn divide_exact(&self, alloc: Global, by: i128) -> Result<Linear, LinError>
+        requires nonzero { ¬ (by ≡ pos 0) }
+        requires divides { DividesAll by (self.now.constant ∷ coefficients self.now.terms) }
+        ensures divided { IfOk result (IsQuotient self.now by) }
+        ensures memory { IfErr result (λ e. e ≡ LinError.Memory) }
+    {
+        match terms::divided(alloc, &self.terms, by) {
+            Ok(terms) => Ok(Linear {
+                terms,
+                constant: self.constant / by,
+            }),
+            Err(_) => Err(LinError::Memory),
+        }
+    }
+
+    /// The coefficient of `v`, 0 where `v` does not stand in the form: a binary search.
+    pub fn coefficient(&self, v: VarId) -> i128
+        ensures value { result ≡ coefficient v.number self.now }
+        ensures within { InLimit result }
+    {
+        terms::coefficient(&self.terms, v)
+    }
+
+    /// The constant.
+    pub fn constant_part(&self) -> i128
+        ensures value { result ≡ self.now.constant }
+        ensures linear { IsLinear self.now }
+    {
+        self.constant
+    }
+
+    /// The greatest common divisor of the coefficients without the constant; 0 where there is none.
+    pub fn content(&self) -> i128
+        ensures greatest { IsContent (coefficients self.now.terms) result }
+        ensures value { result ≡ content_of (coefficients self.now.terms) }
+    {
+        terms::content(&self.terms)
+    }
+
+    /// The name and the coefficient at a place of the list, from 0 on; `None` exactly where the list has no such place.
+    pub fn term(&self, place: usize) -> Option<(VarId, i128)>
+        ensures value { option_map term_of result ≡ slice_get self.now.terms place }
+        ensures linear { IsLinear self.now }
+    {
+        self.terms.get(place).copied()
+    }
+
+    /// The value at the numbers times their denominator: the products in rising order of the names, and the constant's last.
+    /// `None` exactly where a product or a partial sum passes 2^127 - 1.
+    pub fn value(&self, at: &Values) -> Option<i128>
+        ensures rule { result ≡ value_steps self.now (number_at at.now) at.now.denominator }
+        ensures outcome { MatchOption result (ValuePasses self.now (number_at at.now) at.now.denominator) (λ n. n ≡ value self.now (point_of at.now)) }
+    {
+        let total = total(&self.terms, at)?;
+        sum(total, product(self.constant, at.denominator())?)
+    }
+}

@@ -1,0 +1,18 @@
+// Linear forms over numbered names, exact at the limit 2^127 - 1.
+#![tactic(auto)]
+
+mod error;
+mod form;
+mod laws;
+mod merge;
+mod terms;
+mod values;
+
+pub use error::LinError;
+pub use exact_numbers::{compare_fractions, floor_div, gcd, lcm};
+pub use form::{Linear, VarId};
+pub use laws::{form_is_determined, form_splits, terms_have_coefficients};
+pub use values::Values;
+
+#[cfg(test)]
+mod tests;

@@ -1,0 +1,19 @@
+-- What is said of a formula, said of its parts.
+use Rattle.std.proofs.Common.{◌≡◌, List, map, ap, sym, ◌∙◌}
+use Rattle.std.specs.declared.boxed.Box.{Box}
+use Rattle.std.specs.declared.alloc.Global.{Global}
+use Rattle.formula_meaning.specs.Formula as plain
+use Rattle.qe_syntax.specs.declared.tree.Formula as written
+use Rattle.qe_syntax.specs.declared.tree.Formula.TheVariants as formula
+use Rattle.qe_syntax.specs.declared.tree.Formulas as writtens
+use Rattle.qe_syntax.specs.Trees.{formulas_of, formula_tree}
+use Rattle.qe_syntax.proofs.TreeEquations.{formula-Not, formula-And, formula-Or, formulas-out}
+
+pub not_is : (f : written.Formula) (b : Box written.Formula Global) (x : written.Formula) → f ≡ formula.Not b → x ≡ b.value → formula_tree f ≡ plain.Not (formula_tree x)
+not_is f b x is inner = ap formula_tree is ∙ formula-Not b ∙ ap (λ y. plain.Not (formula_tree y)) (sym inner)
+
+pub and_is : (f : written.Formula) (fs : writtens.Formulas) (xs : List written.Formula) → f ≡ formula.And fs → xs ≡ (writtens.out-Formulas fs).list.items → formula_tree f ≡ plain.And (formulas_of (map formula_tree xs))
+and_is f fs xs is items = ap formula_tree is ∙ formula-And fs ∙ ap plain.And (formulas-out fs ∙ ap (λ ys. formulas_of (map formula_tree ys)) (sym items))
+
+pub or_is : (f : written.Formula) (fs : writtens.Formulas) (xs : List written.Formula) → f ≡ formula.Or fs → xs ≡ (writtens.out-Formulas fs).list.items → formula_tree f ≡ plain.Or (formulas_of (map formula_tree xs))
+or_is f fs xs is items = ap formula_tree is ∙ formula-Or fs ∙ ap plain.Or (formulas-out fs ∙ ap (λ ys. formulas_of (map formula_tree ys)) (sym items))

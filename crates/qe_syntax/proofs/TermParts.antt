@@ -1,0 +1,18 @@
+-- What is said of a term, said of its parts.
+use Rattle.std.proofs.Common.{◌≡◌, List, map, ap, sym, ◌∙◌}
+use Rattle.std.specs.declared.boxed.Box.{Box}
+use Rattle.std.specs.declared.alloc.Global.{Global}
+use Rattle.qe_syntax.specs.declared.tree.Term as code
+use Rattle.qe_syntax.specs.declared.tree.Term.TheVariants as term
+use Rattle.qe_syntax.specs.declared.tree.Terms as codes
+use Rattle.qe_syntax.specs.Trees.{Sum, Product, Negative, terms_of, term_tree}
+use Rattle.qe_syntax.proofs.TreeEquations.{tree-Sum, tree-Product, tree-Negative, trees-out}
+
+pub sum_is : (t : code.Term) (ts : codes.Terms) (xs : List code.Term) → t ≡ term.Sum ts → xs ≡ (codes.out-Terms ts).list.items → term_tree t ≡ Sum (terms_of (map term_tree xs))
+sum_is t ts xs is items = ap term_tree is ∙ tree-Sum ts ∙ ap Sum (trees-out ts ∙ ap (λ ys. terms_of (map term_tree ys)) (sym items))
+
+pub product_is : (t : code.Term) (ts : codes.Terms) (xs : List code.Term) → t ≡ term.Product ts → xs ≡ (codes.out-Terms ts).list.items → term_tree t ≡ Product (terms_of (map term_tree xs))
+product_is t ts xs is items = ap term_tree is ∙ tree-Product ts ∙ ap Product (trees-out ts ∙ ap (λ ys. terms_of (map term_tree ys)) (sym items))
+
+pub negative_is : (t : code.Term) (b : Box code.Term Global) (x : code.Term) → t ≡ term.Negative b → x ≡ b.value → term_tree t ≡ Negative (term_tree x)
+negative_is t b x is inner = ap term_tree is ∙ tree-Negative b ∙ ap (λ y. Negative (term_tree y)) (sym inner)

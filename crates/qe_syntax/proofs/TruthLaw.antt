@@ -1,0 +1,221 @@
+-- What is calculated for a formula decides its truth.
+use Rattle.std.proofs.Common.{◌≡◌, ◌⊎◌, ◌↔◌, inl, inr, ⊎_elim, ◌<◌, sym, ◌∙◌, ap, refl, arith, rules, Bool, true, false, not, ◌&&◌, ◌||◌, IsTrue}
+use Rattle.std.proofs.Math.IntN.{ℤ, pos, neg_ℤ, ◌+ℤ◌, ◌-ℤ◌, ◌*ℤ◌}
+use Rattle.std.specs.Prelude.{◌<ℤ◌, ◌≤ℤ◌, int_lt, Result, Ok, Err, IfOk}
+use Rattle.std.proofs.Common.{Ordering}
+use Rattle.std.specs.Ordering.{int_cmp, is_eq}
+use Rattle.std.specs.declared.cmp.Ordering.TheVariants.{Less, Equal, Greater}
+use Rattle.std.proofs.lemmas.Int.{ints}
+use Rattle.std.proofs.lemmas.Bool.{false≢true}
+use Rattle.exact_numbers.specs.Frac.{Frac, IsProper, true_sum, negated, sum_step}
+use Rattle.exact_numbers.proofs.Ring.{ring}
+use Rattle.exact_numbers.proofs.Order.{mul_positive, by_compare, compare_mul, compare_sub}
+use Rattle.formula_meaning.specs.Context.{Fields}
+use Rattle.formula_meaning.specs.Formula.{Formula, Formulas, Yes, No, One, Not, And, Or, Impl, Repl, Equiv, Ex, All}
+use Rattle.formula_meaning.specs.Formula as plain
+use Rattle.formula_meaning.specs.Point.{move}
+use Rattle.formula_meaning.specs.Truth.{AllTrue, SomeTrue}
+use Rattle.formula_meaning.specs.Atom.{Relates}
+use Rattle.qe_syntax.specs.declared.tree.Relation.{Relation}
+use Rattle.qe_syntax.specs.declared.tree.Relation.TheVariants as rel
+use Rattle.qe_syntax.specs.declared.value.EvalError.{EvalError}
+use Rattle.qe_syntax.specs.Trees.{TermTree, Compare, Cong, Ncong, Bound, FormulaTree, FormulaTrees}
+use Rattle.qe_syntax.specs.Simple.{IsSimpleTerm, IsSimple, AreSimple}
+use Rattle.qe_syntax.specs.Point.{Numbers, point_of}
+use Rattle.qe_syntax.specs.Value.{NamedPoint, value, Says, TrueAt, NothingNamed, RelatesFractions, relation_of, same_name}
+use Rattle.qe_syntax.specs.Rule.{calculated, stepped, difference, test, calculated_truth, calculated_all, calculated_some, ◌>>=◌}
+use Rattle.qe_syntax.specs.Evaluates.{Decides}
+use Rattle.qe_syntax.proofs.ValueLaw.{Stands, bind_ok, stepped_ok, ok_same, stands_negated, stands_sum, calculated_stands, value_proper, below_positive}
+
+-- the relation by how two numbers compare
+abbrev holds : Relation → Ordering → Bool
+holds rel.Equal Equal = true
+holds rel.Equal Less = false
+holds rel.Equal Greater = false
+holds rel.Differs Equal = false
+holds rel.Differs Less = true
+holds rel.Differs Greater = true
+holds rel.Less Less = true
+holds rel.Less Equal = false
+holds rel.Less Greater = false
+holds rel.AtMost Less = true
+holds rel.AtMost Equal = true
+holds rel.AtMost Greater = false
+holds rel.Greater Less = false
+holds rel.Greater Equal = false
+holds rel.Greater Greater = true
+holds rel.AtLeast Less = false
+holds rel.AtLeast Equal = true
+holds rel.AtLeast Greater = true
+
+lt_test : (a b : ℤ) → a <ℤ b → int_lt a b ≡ true
+lt_test a b h = search (rules, ints)
+
+not_lt_test : (a b : ℤ) → b ≤ℤ a → int_lt a b ≡ false
+not_lt_test a b h = search (rules, ints)
+
+test_is : (r : Relation) (n : ℤ) → test r n ≡ holds r (int_cmp n (pos 0))
+test_is r n =
+    by_compare n (pos 0)
+    (λ h e. rw e (less r h e))
+    (λ h e. rw e (same r h e))
+    (λ h e. rw e (more r h e))
+  where
+    less : (r : Relation) → n <ℤ pos 0 → int_cmp n (pos 0) ≡ Less → test r n ≡ holds r Less
+    less rel.Equal h e = ap is_eq e
+    less rel.Differs h e = ap (λ o. not (is_eq o)) e
+    less rel.Less h e = lt_test n (pos 0) h
+    less rel.AtMost h e = ap not (not_lt_test (pos 0) n (omega (arith, ints)))
+    less rel.Greater h e = not_lt_test (pos 0) n (omega (arith, ints))
+    less rel.AtLeast h e = ap not (lt_test n (pos 0) h)
+
+    same : (r : Relation) → n ≡ pos 0 → int_cmp n (pos 0) ≡ Equal → test r n ≡ holds r Equal
+    same rel.Equal h e = ap is_eq e
+    same rel.Differs h e = ap (λ o. not (is_eq o)) e
+    same rel.Less h e = not_lt_test n (pos 0) (omega (arith, ints))
+    same rel.AtMost h e = ap not (not_lt_test (pos 0) n (omega (arith, ints)))
+    same rel.Greater h e = not_lt_test (pos 0) n (omega (arith, ints))
+    same rel.AtLeast h e = ap not (not_lt_test n (pos 0) (omega (arith, ints)))
+
+    more : (r : Relation) → pos 0 <ℤ n → int_cmp n (pos 0) ≡ Greater → test r n ≡ holds r Greater
+    more rel.Equal h e = ap is_eq e
+    more rel.Differs h e = ap (λ o. not (is_eq o)) e
+    more rel.Less h e = not_lt_test n (pos 0) (omega (arith, ints))
+    more rel.AtMost h e = ap not (lt_test (pos 0) n h)
+    more rel.Greater h e = lt_test (pos 0) n h
+    more rel.AtLeast h e = ap not (not_lt_test n (pos 0) (omega (arith, ints)))
+
+no : (b : Bool) → b ≡ false → {P : Type 0} → ¬ P → IsTrue b ↔ P
+no b e h = (λ t. absurd (false≢true (sym e ∙ t)), λ p. absurd (h p))
+
+yes : (b : Bool) → b ≡ true → {P : Type 0} → P → IsTrue b ↔ P
+yes b e p = (λ _. p, λ _. e)
+
+-- the relation of two numbers is the one that their order has
+relates_is : (r : Relation) (x y : ℤ) → IsTrue (holds r (int_cmp x y)) ↔ Relates (relation_of r) x y
+relates_is r x y =
+    by_compare x y
+    (λ h e. less r h (ap (holds r) e))
+    (λ h e. same r h (ap (holds r) e))
+    (λ h e. more r h (ap (holds r) e))
+  where
+    less : (r : Relation) → x <ℤ y → holds r (int_cmp x y) ≡ holds r Less → IsTrue (holds r (int_cmp x y)) ↔ Relates (relation_of r) x y
+    less rel.Equal h e = no _ e (λ (f : x ≡ y). omega (arith, ints))
+    less rel.Differs h e = yes _ e (λ (f : x ≡ y). omega (arith, ints))
+    less rel.Less h e = yes _ e h
+    less rel.AtMost h e = yes _ e (omega (arith, ints))
+    less rel.Greater h e = no _ e (λ (f : y <ℤ x). omega (arith, ints))
+    less rel.AtLeast h e = no _ e (λ (f : y ≤ℤ x). omega (arith, ints))
+
+    same : (r : Relation) → x ≡ y → holds r (int_cmp x y) ≡ holds r Equal → IsTrue (holds r (int_cmp x y)) ↔ Relates (relation_of r) x y
+    same rel.Equal h e = yes _ e h
+    same rel.Differs h e = no _ e (λ f. f h)
+    same rel.Less h e = no _ e (λ (f : x <ℤ y). omega (arith, ints))
+    same rel.AtMost h e = yes _ e (omega (arith, ints))
+    same rel.Greater h e = no _ e (λ (f : y <ℤ x). omega (arith, ints))
+    same rel.AtLeast h e = yes _ e (omega (arith, ints))
+
+    more : (r : Relation) → y <ℤ x → holds r (int_cmp x y) ≡ holds r Greater → IsTrue (holds r (int_cmp x y)) ↔ Relates (relation_of r) x y
+    more rel.Equal h e = no _ e (λ (f : x ≡ y). omega (arith, ints))
+    more rel.Differs h e = yes _ e (λ (f : x ≡ y). omega (arith, ints))
+    more rel.Less h e = no _ e (λ (f : x <ℤ y). omega (arith, ints))
+    more rel.AtMost h e = no _ e (λ (f : x ≤ℤ y). omega (arith, ints))
+    more rel.Greater h e = yes _ e h
+    more rel.AtLeast h e = yes _ e (omega (arith, ints))
+
+crossed_difference : (n m a b c d : ℤ) → n *ℤ (b *ℤ d) ≡ (a *ℤ d +ℤ neg_ℤ c *ℤ b) *ℤ m → (b *ℤ d) *ℤ n ≡ m *ℤ (a *ℤ d -ℤ c *ℤ b)
+crossed_difference n m a b c d e = simp ring (omega (arith, ints, simp ring at e))
+
+-- the sign of the difference is how the two values compare
+sign_is : (d v w : Frac) → Stands d (true_sum v (negated w)) → IsProper v → IsProper w → int_cmp d.numerator (pos 0) ≡ int_cmp (v.numerator *ℤ w.denominator) (w.numerator *ℤ v.denominator)
+sign_is d v w s pv pw =
+    let n = d.numerator in let m = d.denominator in let k = v.denominator *ℤ w.denominator in
+    let x = v.numerator *ℤ w.denominator in let y = w.numerator *ℤ v.denominator in
+    let e = crossed_difference n m v.numerator v.denominator w.numerator w.denominator s.same in
+    let zero : k *ℤ pos 0 ≡ m *ℤ pos 0 = omega (arith, ints) in
+    sym (compare_mul k n (pos 0) (mul_positive pv pw)) ∙ ap (λ z. int_cmp z (k *ℤ pos 0)) e ∙ ap (int_cmp (m *ℤ (x -ℤ y))) zero
+    ∙ compare_mul m (x -ℤ y) (pos 0) s.proper ∙ compare_sub x y
+
+-- what is calculated for a difference
+difference_stands : (s t : TermTree) (p : NamedPoint) (d : Frac) → 0 < p.below → IsSimpleTerm s → IsSimpleTerm t → difference s t p ≡ Ok d
+    → Stands d (true_sum (value s p) (negated (value t p)))
+difference_stands s t p d h a b e =
+    let l = bind_ok (calculated s p) (λ v. calculated t p >>= λ w. stepped (sum_step v (negated w))) d e in
+    let r = bind_ok (calculated t p) (λ w. stepped (sum_step l.0 (negated w))) d l.2 in
+    stands_sum l.0 (negated r.0) d (value s p) (negated (value t p)) (calculated_stands s p l.0 h a l.1) (stands_negated r.0 (value t p) (calculated_stands t p r.0 h b r.1))
+    (stepped_ok _ _ r.2)
+
+compare_decides : (r : Relation) (s t : TermTree) (p : NamedPoint) (d : Frac) → 0 < p.below → IsSimpleTerm s → IsSimpleTerm t → difference s t p ≡ Ok d
+    → IsTrue (test r d.numerator) ↔ RelatesFractions r (value s p) (value t p)
+compare_decides r s t p d h a b e =
+    let g = sign_is d (value s p) (value t p) (difference_stands s t p d h a b e) (value_proper s p h a) (value_proper t p h b) in
+    let q = test_is r d.numerator ∙ ap (holds r) g in
+    let f = relates_is r ((value s p).numerator *ℤ (value t p).denominator) ((value t p).numerator *ℤ (value s p).denominator) in
+    (λ x. f.0 (sym q ∙ x), λ y. q ∙ f.1 y)
+
+decided_as : (a b : Bool) {P : Type 0} → a ≡ b → IsTrue a ↔ P → IsTrue b ↔ P
+decided_as a b e h = (λ t. h.0 (e ∙ t), λ p. sym e ∙ h.1 p)
+
+not_decides : (a : Bool) {P : Type 0} → IsTrue a ↔ P → IsTrue (not a) ↔ (¬ P)
+not_decides true h = (λ t. absurd (false≢true t), λ n. absurd (n (h.0 refl)))
+not_decides false h = (λ t p. false≢true (h.1 p), λ n. refl)
+
+and_true : (a b : Bool) → IsTrue (a && b) ↔ (IsTrue a × IsTrue b)
+and_true true b = (λ t. (refl, t), λ p. p.1)
+and_true false b = (λ t. absurd (false≢true t), λ p. absurd (false≢true p.0))
+
+or_true : (a b : Bool) → IsTrue (a || b) ↔ (IsTrue a ⊎ IsTrue b)
+or_true true b = (λ t. inl refl, λ p. refl)
+or_true false b = (λ t. inr t, λ p. ⊎_elim (λ x. absurd (false≢true x)) (λ y. y) p)
+
+mutual
+  -- what is calculated for a formula decides its truth
+  pub calculated_decides : (f : FormulaTree) (p : NamedPoint) (b : Bool) → 0 < p.below → IsSimple f → calculated_truth f p ≡ Ok b → IsTrue b ↔ TrueAt NothingNamed Fields f p
+  calculated_decides Yes p b h s e = yes b (sym (ok_same _ _ e)) tt
+  calculated_decides No p b h s e = no b (sym (ok_same _ _ e)) (λ x. x)
+  calculated_decides (One (Compare r t u)) p b h s e =
+      let d = bind_ok (difference t u p) (λ d. Ok (test r d.numerator)) b e in
+      decided_as _ b (ok_same _ _ d.2) (compare_decides r t u p d.0 h s.0 s.1 d.1)
+  calculated_decides (One (Cong t u m)) p b h s e = absurd s
+  calculated_decides (One (Ncong t u m)) p b h s e = absurd s
+  calculated_decides (One (Bound x)) p b h s e = absurd s
+  calculated_decides (Not f) p b h s e =
+      let a = bind_ok (calculated_truth f p) (λ a. Ok (not a)) b e in
+      decided_as _ b (ok_same _ _ a.2) (not_decides a.0 (calculated_decides f p a.0 h s a.1))
+  calculated_decides (And fs) p b h s e =
+      let r = all_decide fs p true b h s e in (λ t. (r.0 t).1, λ a. r.1 (refl, a))
+  calculated_decides (Or fs) p b h s e =
+      let r = some_decide fs p false b h s e in (λ t. ⊎_elim (λ x. absurd (false≢true x)) (λ y. y) (r.0 t), λ a. r.1 (inr a))
+  calculated_decides (Impl f g) p b h s e = absurd s
+  calculated_decides (Repl f g) p b h s e = absurd s
+  calculated_decides (Equiv f g) p b h s e = absurd s
+  calculated_decides (Ex x f) p b h s e = absurd s
+  calculated_decides (All x f) p b h s e = absurd s
+
+  all_decide : (fs : FormulaTrees) (p : NamedPoint) (sofar b : Bool) → 0 < p.below → AreSimple fs → calculated_all sofar fs p ≡ Ok b
+      → IsTrue b ↔ (IsTrue sofar × AllTrue (Says NothingNamed) (move same_name) Fields fs p)
+  all_decide plain.none p sofar b h s e = (λ t. (ok_same _ _ e ∙ t, tt), λ q. sym (ok_same _ _ e) ∙ q.0)
+  all_decide (plain.also f fs) p sofar b h s e =
+      let a = bind_ok (calculated_truth f p) (λ a. calculated_all (sofar && a) fs p) b e in
+      let here = calculated_decides f p a.0 h s.0 a.1 in
+      let rest = all_decide fs p (sofar && a.0) b h s.1 a.2 in (
+        λ t. let r = rest.0 t in let q = (and_true sofar a.0).0 r.0 in (q.0, (here.0 q.1, r.1)),
+        λ q. rest.1 ((and_true sofar a.0).1 (q.0, here.1 q.1.0), q.1.1),
+      )
+
+  some_decide : (fs : FormulaTrees) (p : NamedPoint) (sofar b : Bool) → 0 < p.below → AreSimple fs → calculated_some sofar fs p ≡ Ok b
+      → IsTrue b ↔ (IsTrue sofar ⊎ SomeTrue (Says NothingNamed) (move same_name) Fields fs p)
+  some_decide plain.none p sofar b h s e = (λ t. inl (ok_same _ _ e ∙ t), λ q. ⊎_elim (λ x. sym (ok_same _ _ e) ∙ x) (λ y. absurd y) q)
+  some_decide (plain.also f fs) p sofar b h s e =
+      let a = bind_ok (calculated_truth f p) (λ a. calculated_some (sofar || a) fs p) b e in
+      let here = calculated_decides f p a.0 h s.0 a.1 in
+      let rest = some_decide fs p (sofar || a.0) b h s.1 a.2 in (
+        λ t. ⊎_elim (λ r. ⊎_elim (λ x. inl x) (λ y. inr (inl (here.0 y))) ((or_true sofar a.0).0 r)) (λ q. inr (inr q)) (rest.0 t),
+        λ q. rest.1 (⊎_elim (λ x. inl ((or_true sofar a.0).1 (inl x))) (λ r. ⊎_elim (λ x. inl ((or_true sofar a.0).1 (inr (here.1 x)))) (λ y. inr y) r) q),
+      )
+
+-- what the code gives for a formula decides its truth
+pub decides_truth : (f : FormulaTree) (q : Numbers) (r : Result Bool EvalError) → pos 0 <ℤ q.denominator → IsSimple f → Decides r (calculated_truth f (point_of q))
+    → IfOk r (λ b. IsTrue b ↔ TrueAt NothingNamed Fields f (point_of q))
+decides_truth f q (Ok b) h s e = calculated_decides f (point_of q) b (below_positive q.denominator h) s e
+decides_truth f q (Err d) h s e = tt
