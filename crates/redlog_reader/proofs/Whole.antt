@@ -3,16 +3,14 @@ use Rattle.std.proofs.Common.{◌≡◌, ℕ, ◌<◌, ◌≤◌, List, [], ◌�
 use Rattle.std.specs.Prelude.{Some, None}
 use Rattle.qe_syntax.specs.Statements.{StatementTree}
 use Rattle.redlog_reader.specs.declared.lexer.Lexeme.{Lexeme}
-use Rattle.redlog_reader.specs.declared.token.ReadError.{ReadError}
-use Rattle.redlog_reader.specs.declared.token.ReadError.TheVariants as cause
 use Rattle.redlog_reader.specs.declared.token.Token.{Token}
 use Rattle.redlog_reader.specs.declared.token.TokenKind.{TokenKind}
 use Rattle.redlog_reader.specs.Terminals.{terminals, terminal_of}
 use Rattle.redlog_reader.specs.Lexing.{Lexes, LexesFrom, lexeme_of, AreTokens, SomeBad, IsLexical}
 use Rattle.redlog_reader.specs.Levels.{Passes}
 use Rattle.redlog_reader.specs.Grammar.{SpellsStatement}
-use Rattle.redlog_reader.specs.Reading.{NoStatement, Refuses}
-use Rattle.redlog_reader.specs.Statement.{Spells, Unread}
+use Rattle.redlog_reader.specs.Reading.{NoStatement}
+use Rattle.redlog_reader.specs.Statement.{Spells}
 use Rattle.redlog_reader.proofs.Statements.{same_statement}
 use Rattle.redlog_reader.proofs.Lexed.{same_lexemes, lexed, no_bad, same_goods, goods_of, terminals_of}
 
@@ -43,14 +41,6 @@ module _ (bytes : List ℕ) (ts : List Token) (are : AreTokens bytes ts) where
 
   pub no_statement : NoStatement (terminals ts) → (s : StatementTree) → Spells bytes s → ⊥
   no_statement none s h = none.none s (subst (λ us. SpellsStatement us s) (sym (kinds_are s h)) h.spelled)
-
-  -- why the statement is not read
-  pub unread : (e : ReadError) → Refuses e (NoStatement (terminals ts)) → Unread bytes e
-  unread cause.Syntax none = no_statement none
-  unread cause.Memory none = tt
-  unread cause.Long none = none
-  unread cause.Lexical none = none
-  unread cause.Nesting none = none
 
   pub spells : {s : StatementTree} → length bytes ≤ 1048576 → (Passes 512 [] (terminals ts) → ⊥) → SpellsStatement (terminals ts) s → Spells bytes s
   spells {s} short shallow spelled = record {

@@ -2,13 +2,13 @@
 use Rattle.std.specs.Prelude.{◌≡◌, ℕ, ◌≤◌, List, [], map, length, Some}
 use Rattle.qe_syntax.specs.Statements.{StatementTree}
 use Rattle.redlog_reader.specs.declared.lexer.Lexeme.{Lexeme}
-use Rattle.redlog_reader.specs.declared.token.ReadError.{ReadError}
-use Rattle.redlog_reader.specs.declared.token.ReadError.TheVariants.{Long, Lexical, Nesting, Syntax, Memory}
 use Rattle.redlog_reader.specs.declared.token.TokenKind.{TokenKind}
 use Rattle.redlog_reader.specs.Terminals.{terminal_of}
 use Rattle.redlog_reader.specs.Lexing.{Lexes}
 use Rattle.redlog_reader.specs.Levels.{Passes}
 use Rattle.redlog_reader.specs.Grammar.{SpellsStatement}
+use Rattle.redlog_reader.specs.Reading.{Refuses}
+use Rattle.redlog_reader.specs.declared.token.ReadError.{ReadError}
 
 -- a piece is at most so long, in bytes
 abbrev pub byte_limit : ℕ
@@ -28,10 +28,6 @@ pub record Spells (bytes : List ℕ) (tree : StatementTree) : Type 0 where
   pub shallow : ¬ Passes level_limit [] (map terminal_of kinds)
   pub spelled : SpellsStatement (map terminal_of kinds) tree
 
--- why the bytes are not read, in this step of the language: they spell no statement, or memory ran out
+-- why a piece is not read: its bytes spell no statement, or memory ran out
 abbrev pub Unread : List ℕ → ReadError → Type 0
-Unread bytes Long = ⊥
-Unread bytes Lexical = ⊥
-Unread bytes Nesting = ⊥
-Unread bytes Syntax = (tree : StatementTree) → ¬ (Spells bytes tree)
-Unread bytes Memory = Unit {0}
+Unread bytes e = Refuses e ((tree : StatementTree) → ¬ (Spells bytes tree))

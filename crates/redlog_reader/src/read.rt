@@ -37,9 +37,9 @@ pub fn tokens(alloc: Global, bytes: &[u8]) -> Result<Tokens, ReadError>
 /// The statement that the bytes of one piece spell, with its end mark. What is past 1 MiB, has a bad token or a token
 /// whose level passes 512, or spells no statement is answered `Syntax`.
 pub fn read_statement(alloc: Global, bytes: &[u8]) -> Result<Statement, ReadError>
-    ensures ok { IfOk result (λ s. Spells bytes.now (statement_tree s)) }
+    ensures spelled { IfOk result (λ s. Spells bytes.now (statement_tree s)) }
     ensures proper { IfOk result (λ s. IsProper (statement_tree s)) }
-    ensures err { IfErr result (Unread bytes.now) }
+    ensures refused { IfErr result (Unread bytes.now) }
 {
     if bytes.len() > BYTE_LIMIT {
         return Err(ReadError::Syntax);

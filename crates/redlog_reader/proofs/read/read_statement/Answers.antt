@@ -2,19 +2,21 @@ use Rattle.std.proofs.Common.{◌≤◌, sym, subst, rules, arith, length, List,
 use Rattle.redlog_reader.specs.declared.token.Token.{Token}
 use Rattle.redlog_reader.specs.Levels.{Passes}
 use Rattle.redlog_reader.specs.Terminals.{terminals}
+use Rattle.redlog_reader.specs.Statement.{Unread}
 use Rattle.redlog_reader.specs.Lexing.{AreTokens, IsLexical, LexicalWhere}
+use Rattle.redlog_reader.proofs.Lists.{refuses}
 use Rattle.redlog_reader.proofs.Proper.{proper_statement}
 use Rattle.redlog_reader.proofs.Lexed.{tokens_numerals}
-use Rattle.redlog_reader.proofs.Whole.{lexical, too_deep, unread, spells}
+use Rattle.redlog_reader.proofs.Whole.{lexical, too_deep, no_statement, spells}
 use Rattle.redlog_reader.proofs.read.read_statement.Goals as goal
 
-pub returns-in-Err-Lexical-clause-err : goal.returns-in-Err-Lexical-clause-err
-returns-in-Err-Lexical-clause-err c =
+pub returns-in-Err-Lexical-clause-refused : goal.returns-in-Err-Lexical-clause-refused
+returns-in-Err-Lexical-clause-refused c =
     let bad : IsLexical c.args.bytes.now = subst (λ e. LexicalWhere e (IsLexical c.args.bytes.now)) c.in-Err-Lexical.field-0-is c.in-Err-Lexical.ensures.lexical in
     lexical c.args.bytes.now bad
 
-pub returns-then-deep-clause-err : goal.returns-then-deep-clause-err
-returns-then-deep-clause-err c =
+pub returns-then-deep-clause-refused : goal.returns-then-deep-clause-refused
+returns-then-deep-clause-refused c =
     let are : AreTokens c.args.bytes.now c.items.result.now = subst (λ (ts : List Token). AreTokens c.args.bytes.now ts) (sym c.items.ensures) c.in-Ok.ensures.tokens in
     let deep : Passes 512 [] (terminals c.items.result.now) = rw c.if-deep.true at c.in_ok-deep.ensures.deep in
     too_deep c.args.bytes.now c.items.result.now are deep
@@ -24,14 +26,14 @@ statement-requires c =
     let are : AreTokens c.args.bytes.now c.items-2.result.now = subst (λ (ts : List Token). AreTokens c.args.bytes.now ts) (sym c.items-2.ensures) c.in-Ok.ensures.tokens in
     tokens_numerals c.args.bytes.now c.items-2.result.now are
 
-pub returns-in_err-statement-clause-err : goal.returns-in_err-statement-clause-err
-returns-in_err-statement-clause-err c =
+pub returns-in_err-statement-clause-refused : goal.returns-in_err-statement-clause-refused
+returns-in_err-statement-clause-refused c =
     let are : AreTokens c.args.bytes.now c.items-2.result.now = subst (λ (ts : List Token). AreTokens c.args.bytes.now ts) (sym c.items-2.ensures) c.in-Ok.ensures.tokens in
-    let none = unread c.args.bytes.now c.items-2.result.now are c.in_err-statement.field-0.0 c.in_err-statement.ensures.refused in
+    let none : Unread c.args.bytes.now c.in_err-statement.field-0.0 = refuses c.in_err-statement.field-0.0 (no_statement c.args.bytes.now c.items-2.result.now are) c.in_err-statement.ensures.refused in
     search (rules, none)
 
-pub returns-clause-ok : goal.returns-clause-ok
-returns-clause-ok c =
+pub returns-clause-spelled : goal.returns-clause-spelled
+returns-clause-spelled c =
     let are : AreTokens c.args.bytes.now c.items-2.result.now = subst (λ (ts : List Token). AreTokens c.args.bytes.now ts) (sym c.items-2.ensures) c.in-Ok.ensures.tokens in
     let deep : Passes 512 [] (terminals c.items.result.now) → ⊥ = rw c.if-deep.false at c.in_ok-deep.ensures.deep in
     let shallow : Passes 512 [] (terminals c.items-2.result.now) → ⊥ = subst (λ (ts : List Token). Passes 512 [] (terminals ts) → ⊥) (c.items.ensures ∙ sym c.items-2.ensures) deep in

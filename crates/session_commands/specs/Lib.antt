@@ -1,0 +1,4 @@
+pub mod Words
+pub mod Holds
+pub mod Answer
+pub mod Steps
