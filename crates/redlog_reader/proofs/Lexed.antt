@@ -1,8 +1,7 @@
 -- Each list of bytes spells exactly one list of tokens, bad ones among them.
-use Rattle.std.proofs.Common.{◌≡◌, ℕ, zero, suc, ◌+◌, ◌-◌, ◌^◌, ◌<◌, ◌≤◌, Bool, true, false, cond, List, [], ◌∷◌, ◌++◌, map, length, take, drop, sym, refl, ap, ◌∙◌, subst, inl, inr, arith, rules, length-drop, append_assoc}
-use Rattle.std.specs.Prelude.{nat_lt, pos, Option, Some, None, ◌⊎◌, ◌==◌, if◌then◌else◌}
+use Rattle.std.proofs.Common.{◌≡◌, ℕ, zero, suc, ◌+◌, ◌^◌, ◌<◌, ◌≤◌, Bool, true, false, List, [], ◌∷◌, map, length, take, drop, sym, refl, ap, ◌∙◌, subst, inl, inr, arith, rules, length-drop}
+use Rattle.std.specs.Prelude.{nat_lt, pos, Option, Some, None, ◌==◌, if◌then◌else◌}
 use Rattle.std.specs.List.{prefix_len}
-use Rattle.qe_syntax.specs.declared.tree.Literal.{Literal}
 use Rattle.qe_syntax.specs.declared.tree.Literal.TheVariants.{Fits, Past}
 use Rattle.qe_syntax.specs.Proper.{IsNumeral}
 use Rattle.redlog_reader.specs.declared.lexer.Front.{Front}
@@ -16,7 +15,7 @@ use Rattle.redlog_reader.specs.Reading.{AreNumerals}
 use Rattle.redlog_reader.specs.declared.token.Token.{Token}
 use Rattle.redlog_reader.specs.declared.token.TokenKind.{TokenKind}
 use Rattle.redlog_reader.specs.declared.token.TokenKind.TheVariants as token
-use Rattle.redlog_reader.specs.Lexing.{is_blank, is_digit, is_letter, is_name_part, is_in_line, is_one_of, long_signs, short_signs, worded, signed, value_after, literal_of, front, size, Lexes, over, spaced, taken, LexesFrom, lexeme_of, AreTokens, SomeBad, IsLexical}
+use Rattle.redlog_reader.specs.Lexing.{is_blank, is_digit, is_letter, is_name_part, is_in_line, is_one_of, long_signs, short_signs, worded, signed, value_after, literal_of, front, size, Lexes, over, spaced, taken, lexeme_of, AreTokens, SomeBad}
 
 space_apart : {f : Front} {kind : Option TokenKind} {m n : ℕ} → f ≡ found.Space n → f ≡ found.Token kind m → ⊥
 space_apart e g = cc

@@ -1,16 +1,13 @@
 -- Reading tokens.
-use Rattle.std.proofs.Common.{◌≡◌, ℕ, zero, suc, ◌+◌, ◌-◌, ◌*◌, ◌/◌, ◌^◌, ◌<◌, ◌≤◌, Bool, true, false, cond, List, [], ◌∷◌, ◌++◌, map, length, take, drop, get_or, sym, refl, ap, ◌∙◌, subst, arith, rules, drop-cons, drop-drop, length-drop}
+use Rattle.std.proofs.Common.{◌≡◌, ℕ, suc, ◌+◌, ◌-◌, ◌*◌, ◌/◌, ◌^◌, ◌<◌, ◌≤◌, false, List, [], ◌∷◌, length, take, drop, get_or, sym, refl, ap, ◌∙◌, subst, arith, rules, drop-cons, drop-drop, length-drop}
 use Rattle.std.proofs.Math.Seq.{take-length}
-use Rattle.std.specs.Prelude.{bytes_eq, nat_lt, pos, Option, Some, None}
-use Rattle.std.specs.List.{list_any, list_all, prefix_len}
-use Rattle.qe_syntax.specs.declared.tree.Literal.{Literal}
-use Rattle.qe_syntax.specs.declared.tree.Literal.TheVariants.{Fits, Past}
-use Rattle.qe_syntax.specs.Proper.{IsNumeral}
+use Rattle.std.specs.Prelude.{nat_lt, Option}
+use Rattle.qe_syntax.specs.declared.tree.Literal.TheVariants.{Past}
 use Rattle.redlog_reader.specs.declared.lexer.Front.{Front}
 use Rattle.redlog_reader.specs.declared.lexer.Front.TheVariants as found
 use Rattle.redlog_reader.specs.declared.lexer.Lexeme.{Lexeme}
 use Rattle.redlog_reader.specs.declared.token.TokenKind.{TokenKind}
-use Rattle.redlog_reader.specs.Lexing.{is_digit, value_after, literal_of, front, IsFront, size, Lexes, over, spaced, taken, LexesFrom}
+use Rattle.redlog_reader.specs.Lexing.{value_after, literal_of, IsFront, size, Lexes, over, spaced, taken, LexesFrom}
 
 -- the digits so far and those to come say at least what those so far say
 pub value_grows : (n : ℕ) (ds : List ℕ) → n ≤ value_after n ds
@@ -47,7 +44,6 @@ pub past_token : (script : List ℕ) (at n : ℕ) (kind : Option TokenKind) (ts 
     → LexesFrom script at (record { kind = kind; start = at; end = at + n } ∷ ts)
 past_token script at n kind ts h l = lexes_token (drop at script) at n kind h (subst (λ rest. Lexes rest (at + n) ts) (sym (drop-drop n at script)) l)
 
-
 -- the bytes from a place on, as a slice to the end has them
 to_end : (script : List ℕ) (at : ℕ) → take (length script - at) (drop at script) ≡ drop at script
 to_end script at = ap (λ n. take n (drop at script)) (sym (length-drop at script)) ∙ take-length (drop at script)
@@ -74,7 +70,7 @@ module _ (script : List ℕ) (from at n : ℕ) (f : Front) (seen : IsFront (take
   -- a token
   pub token_step : {kind : Option TokenKind} → f ≡ found.Token kind n → 0 < size f
       → (from ≤ at) × (at < at + n) × (at + n ≤ length script)
-        × ((ts : List Lexeme) → LexesFrom script (at + n) ts → LexesFrom script from (record { kind = kind; start = at; end = at + n } ∷ ts))
+      × ((ts : List Lexeme) → LexesFrom script (at + n) ts → LexesFrom script from (record { kind = kind; start = at; end = at + n } ∷ ts))
   token_step {kind} is some = (
     later,
     omega (arith, some, ap size is),

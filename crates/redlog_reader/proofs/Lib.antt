@@ -11,3 +11,4 @@ pub mod PieceLemmas
 pub mod Counts
 pub mod Lexed
 pub mod Whole
+pub mod Cutting

@@ -1,11 +1,11 @@
 -- Reading a list member by member.
-use Rattle.std.proofs.Common.{◌≡◌, ℕ, ◌<◌, List, [], ◌∷◌, ◌++◌, sym, refl, ap, subst, append_assoc, arith}
+use Rattle.std.proofs.Common.{◌≡◌, List, [], ◌∷◌, ◌++◌, sym, refl, subst, append_assoc, arith}
 use Rattle.redlog_reader.specs.declared.terminal.Terminal.{Terminal}
 use Rattle.redlog_reader.specs.declared.terminal.Terminal.TheVariants as terminal
 use Rattle.redlog_reader.specs.declared.terminal.Mark.TheVariants as mark
 use Rattle.redlog_reader.specs.declared.token.ReadError.{ReadError}
 use Rattle.redlog_reader.specs.declared.token.ReadError.TheVariants as cause
-use Rattle.redlog_reader.specs.Reading.{strength, Ends, Refuses}
+use Rattle.redlog_reader.specs.Reading.{Ends, Refuses}
 
 -- the members done stand from the place start up to the place now, in each spelling of the list that begins at start
 pub record Progress {X Y : Type 0} (More : X → List Y → List Terminal → Type 0) (Ended : List Terminal → Type 0) (start : X) (done : List Y) (now : X) : Type 0 where

@@ -1,7 +1,7 @@
 -- How the pieces of a script follow from its tokens.
-use Rattle.std.proofs.Common.{◌≡◌, ℕ, ◌-◌, Bool, true, false, List, [], ◌∷◌, length, take, drop, sym, refl, ap, ◌∙◌, subst, arith, Option}
+use Rattle.std.proofs.Common.{◌≡◌, ℕ, ◌-◌, true, false, List, [], ◌∷◌, length, take, drop, sym, refl, ap, ◌∙◌, subst}
 use Rattle.redlog_reader.specs.declared.lexer.Lexeme.{Lexeme}
-use Rattle.redlog_reader.specs.Lexing.{Lexes, LexesFrom}
+use Rattle.redlog_reader.specs.Lexing.{LexesFrom}
 use Rattle.redlog_reader.specs.Pieces.{is_end, Cuts, last, marked, inside, EndsFrom, HasNoTokenFrom, IsPiece, HasNoToken, IsOnlyPiece, HasMorePieces}
 use Rattle.redlog_reader.proofs.Lexed.{lexed, same_lexemes}
 

@@ -1,10 +1,7 @@
 -- What numerals spell is proper, and leaves numerals.
-use Rattle.std.proofs.Common.{◌≡◌, ℕ, ◌<◌, Bool, true, false, List, [], ◌∷◌, sym, refl, subst, length, arith, lit<, ◌^◌}
+use Rattle.std.proofs.Common.{◌≡◌, ◌<◌, Bool, true, false, List, [], ◌∷◌, sym, refl, subst, arith, lit<, ◌^◌}
 use Rattle.std.specs.Prelude.{ℤ, pos, negsuc, neg_ℤ, unsigned_abs, zero, suc}
 use Rattle.std.proofs.lemmas.Int.{ints}
-use Rattle.exact_numbers.specs.Limit.{InLimit}
-use Rattle.formula_meaning.specs.Formula.{And, Or}
-use Rattle.formula_meaning.specs.Formula as plain
 use Rattle.qe_syntax.specs.declared.tree.Literal.{Literal}
 use Rattle.qe_syntax.specs.declared.tree.Literal.TheVariants.{Fits, Past}
 use Rattle.qe_syntax.specs.declared.statement.PointEntry.{PointEntry}
@@ -12,9 +9,7 @@ use Rattle.qe_syntax.specs.Trees.{TermTree, terms_of, FormulaTree, formulas_of}
 use Rattle.qe_syntax.specs.Statements.{StatementTree}
 use Rattle.qe_syntax.specs.Proper.{IsNumeral, IsSigned, IsProperEntry, AreProperEntries, IsProperTerm, AreProperTerms, IsProperFormula, AreProperFormulas, IsProper}
 use Rattle.redlog_reader.specs.declared.terminal.Terminal.{Terminal}
-use Rattle.redlog_reader.specs.declared.terminal.Terminal.TheVariants as terminal
-use Rattle.redlog_reader.specs.declared.terminal.Mark.TheVariants as mark
-use Rattle.redlog_reader.specs.Reading.{AreNumerals, Found, EndsNumber}
+use Rattle.redlog_reader.specs.Reading.{AreNumerals}
 use Rattle.redlog_reader.specs.Grammar.{Part, number, name, product, signed_term, Parts, last_part, more_parts, sum_of, SpellsSum, bare, plus, minus}
 use Rattle.redlog_reader.specs.Grammar.{SpellsComparison, comparison, conjunction_of, disjunction_of}
 use Rattle.redlog_reader.specs.Grammar.{SpellsFormula, disjunction, Disjuncts, last_disjunct, more_disjuncts, SpellsConjunction, conjunction, Conjuncts, last_conjunct, more_conjuncts, SpellsNegation, negated, compared, truth, falsity, inner}

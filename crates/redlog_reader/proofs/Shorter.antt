@@ -1,5 +1,5 @@
 -- What is read leaves fewer terminals.
-use Rattle.std.proofs.Common.{ℕ, Bool, ◌+◌, ◌<◌, List, ◌∷◌, length, arith, zero, suc, ◌≡◌}
+use Rattle.std.proofs.Common.{ℕ, Bool, ◌+◌, ◌<◌, List, length, arith, zero, suc, ◌≡◌}
 use Rattle.qe_syntax.specs.Trees.{TermTree, FormulaTree}
 use Rattle.redlog_reader.specs.declared.terminal.Terminal.{Terminal}
 use Rattle.redlog_reader.specs.Grammar.{Part, number, name, product, Parts, last_part, more_parts, SpellsSum, bare, plus, minus}

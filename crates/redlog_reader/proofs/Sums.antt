@@ -1,5 +1,5 @@
 -- Reading the parts of a sum.
-use Rattle.std.proofs.Common.{◌≡◌, ℕ, ◌<◌, Bool, true, false, List, [], ◌∷◌, ◌++◌, map, length, sym, refl, ap, ◌∙◌, subst, arith}
+use Rattle.std.proofs.Common.{◌≡◌, ℕ, Bool, true, false, List, [], ◌∷◌, ◌++◌, map, length, sym, refl, ap, ◌∙◌, subst, arith}
 use Rattle.qe_syntax.specs.Trees.{TermTree, terms_of, Number, Named, Sum, Product}
 use Rattle.qe_syntax.specs.declared.tree.Literal.{Literal}
 use Rattle.redlog_reader.specs.declared.terminal.Terminal.{Terminal}

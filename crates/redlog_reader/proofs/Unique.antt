@@ -1,7 +1,7 @@
 -- No terminals spell two things, where no list goes on after them.
-use Rattle.std.proofs.Common.{◌≡◌, ℕ, ◌<◌, Bool, true, false, List, [], ◌∷◌, sym, refl, ap, subst, arith}
+use Rattle.std.proofs.Common.{◌≡◌, ◌<◌, Bool, true, false, List, [], ◌∷◌, sym, refl, ap, subst, arith}
 use Rattle.formula_meaning.specs.Formula.{Not}
-use Rattle.qe_syntax.specs.Trees.{TermTree, Negative, FormulaTree}
+use Rattle.qe_syntax.specs.Trees.{TermTree, FormulaTree}
 use Rattle.redlog_reader.specs.declared.terminal.Terminal.{Terminal}
 use Rattle.redlog_reader.specs.declared.terminal.Terminal.TheVariants as terminal
 use Rattle.redlog_reader.specs.declared.terminal.Mark.TheVariants as mark

@@ -1,6 +1,6 @@
 -- Reading a statement.
-use Rattle.std.proofs.Common.{◌≡◌, ℕ, ◌+◌, ◌<◌, ◌≤◌, List, [], ◌∷◌, ◌++◌, map, length, drop, sym, refl, ap, ◌∙◌, subst, inl, inr, arith, append_assoc}
-use Rattle.std.specs.Prelude.{Option, Some, None}
+use Rattle.std.proofs.Common.{◌≡◌, ℕ, ◌<◌, ◌≤◌, List, [], ◌∷◌, ◌++◌, map, length, drop, sym, refl, ap, ◌∙◌, subst, inl, inr, arith}
+use Rattle.std.specs.Prelude.{Some, None}
 use Rattle.qe_syntax.specs.Statements.{StatementTree}
 use Rattle.redlog_reader.specs.declared.lexer.Lexeme.{Lexeme}
 use Rattle.redlog_reader.specs.declared.token.Token.{Token}
@@ -10,7 +10,7 @@ use Rattle.redlog_reader.specs.Lexing.{Lexes, LexesFrom, lexeme_of, AreTokens, S
 use Rattle.redlog_reader.specs.Levels.{Passes}
 use Rattle.redlog_reader.specs.Grammar.{SpellsStatement}
 use Rattle.redlog_reader.specs.Reading.{NoStatement}
-use Rattle.redlog_reader.specs.Statement.{byte_limit, level_limit, Spells}
+use Rattle.redlog_reader.specs.Statement.{Spells}
 use Rattle.redlog_reader.proofs.Statements.{same_statement}
 use Rattle.redlog_reader.proofs.Lexed.{same_lexemes, lexed, no_bad, same_goods, goods_of, terminals_of}
 

@@ -1,5 +1,5 @@
 -- Tokens as the grammar names them.
-use Rattle.std.specs.Prelude.{ℕ, List, [], ◌∷◌, true, false, codes, bytes_eq, map, if◌then◌else◌}
+use Rattle.std.specs.Prelude.{ℕ, List, codes, bytes_eq, map, if◌then◌else◌}
 use Rattle.qe_syntax.specs.declared.tree.Relation.TheVariants.{Equal, Differs, Less, AtMost, Greater, AtLeast}
 use Rattle.redlog_reader.specs.declared.terminal.Terminal.{Terminal}
 use Rattle.redlog_reader.specs.declared.terminal.Terminal.TheVariants as terminal

@@ -7,10 +7,10 @@ ghost use Rattle.redlog_reader.specs.Terminals.{terminals};
 ghost use Rattle.redlog_reader.specs.Grammar.{SpellsFormula, Disjuncts, SpellsConjunction, Conjuncts, SpellsNegation, SpellsComparison, conjunction_of, disjunction_of};
 ghost use Rattle.redlog_reader.specs.Reading.{Ends, Found, NotFound, Refuses, nots_before, negated_by, SpellsOperand};
 
+use crate::peek::{after, next};
 use crate::sum::{sum, sums_end};
 use crate::terminal::{Mark, Terminal};
 use crate::token::{ReadError, Token};
-use crate::peek::{after, next};
 use qe_syntax::{Formula, Formulas, Relation};
 use std::alloc::Global;
 
@@ -161,7 +161,9 @@ fn put(members: &mut Vec<Formula>, member: Box<Formula>) -> Result<(), ReadError
     ensures put { OnOk result (map formula_tree members.new.items ≡ map formula_tree members.old.items ++ formula_tree member.value ∷ []) }
     ensures refused { IfErr result (λ e. Refuses e ⊥) }
 {
-    members.push(Box::into_inner(member)).map_err(|_| ReadError::Memory)
+    members
+        .push(Box::into_inner(member))
+        .map_err(|_| ReadError::Memory)
 }
 
 /// The conjunction of the members, or the member where there is one alone, in a box.

@@ -4,19 +4,17 @@
 mod formula;
 mod level;
 mod lexer;
+mod peek;
 mod piece;
 mod point;
 mod read;
 mod statement;
 mod sum;
 mod terminal;
-mod token;
-mod peek;
-
 #[cfg(test)]
 mod tests;
-
+mod token;
 
 pub use piece::{Piece, next_piece};
-pub use read::{one_statement, read_statement, tokens};
+pub use read::{one_piece, one_statement, read_statement, tokens};
 pub use token::{ReadError, Token, TokenKind, Tokens};

@@ -110,7 +110,11 @@ fn denominator(tokens: &[Token]) -> Option<(Literal, &[Token])>
         return Some((Literal::Fits(1), tokens));
     };
     let (number, rest) = number(start)?;
-    if numbers_end(rest) { Some((number, rest)) } else { None }
+    if numbers_end(rest) {
+        Some((number, rest))
+    } else {
+        None
+    }
 }
 
 /// Whether no `/` follows.

@@ -1,7 +1,8 @@
-ghost use Rattle.std.specs.Prelude.{◌≡◌, ℕ, List, [], ◌∷◌, IfOk, IfErr};
+ghost use Rattle.std.specs.Prelude.{◌≡◌, ℕ, ◌⊎◌, List, IfOk, IfErr};
 ghost use Rattle.qe_syntax.specs.Proper.{IsProper};
 ghost use Rattle.qe_syntax.specs.Statements.{StatementTree, statement_tree};
 ghost use Rattle.redlog_reader.specs.Lexing.{AreTokens, IsLexical, LexicalWhere};
+ghost use Rattle.redlog_reader.specs.Pieces.{HasNoTokenFrom, IsPiece};
 ghost use Rattle.redlog_reader.specs.Statement.{Spells, Unread};
 
 use crate::level::is_deep;
@@ -56,8 +57,14 @@ pub fn read_statement(alloc: Global, bytes: &[u8]) -> Result<Statement, ReadErro
     Ok(statement)
 }
 
+/// From each place on a script has no token or a next piece, never both, and the next piece is one.
+pub fn one_piece()
+    ensures some { (script : List ℕ) (from : ℕ) → HasNoTokenFrom script from ⊎ ((start : ℕ) × (end : ℕ) × IsPiece script from start end) }
+    ensures not_both { (script : List ℕ) (from start end : ℕ) → HasNoTokenFrom script from → IsPiece script from start end → ⊥ }
+    ensures one { (script : List ℕ) (from start end start2 end2 : ℕ) → IsPiece script from start end → IsPiece script from start2 end2 → (start ≡ start2) × (end ≡ end2) }
+{}
+
 /// No bytes spell two statements.
 pub fn one_statement()
     ensures { (bytes : List ℕ) (s t : StatementTree) → Spells bytes s → Spells bytes t → s ≡ t }
-{
-}
+{}

@@ -122,11 +122,7 @@ pub fn sums_end(tokens: &[Token]) -> bool
 }
 
 /// The number, times the name that a `*` may put after it. No `*` follows it.
-fn multiple(
-    alloc: Global,
-    number: Literal,
-    tokens: &[Token],
-) -> Result<(Term, &[Token]), ReadError>
+fn multiple(alloc: Global, number: Literal, tokens: &[Token]) -> Result<(Term, &[Token]), ReadError>
     ensures found { IfOk result (λ r. Found Part (Ends 1) (Terminal.Number number ∷ terminals tokens.now) (term_tree r.0) (terminals r.1.now)) }
     ensures refused { IfErr result (λ e. Refuses e (NotFound Part (Ends 1) (Terminal.Number number ∷ terminals tokens.now))) }
 {

@@ -1,4 +1,4 @@
-use Rattle.std.proofs.Common.{◌≡◌, ◌+◌, ◌*◌, ◌<◌, ◌≤◌, ℕ, length, ap, ◌∙◌, arith, rules}
+use Rattle.std.proofs.Common.{◌≡◌, ◌+◌, ◌*◌, ◌<◌, length, arith, rules}
 use Rattle.redlog_reader.specs.Terminals.{terminals}
 use Rattle.redlog_reader.proofs.Lists.{refuses}
 use Rattle.redlog_reader.proofs.Formulas.{conjuncts_refused, conjuncts_done, conjuncts_again, conjuncts_shorter, disjuncts_refused, disjuncts_done, disjuncts_again, disjuncts_shorter}

@@ -1,4 +1,4 @@
-use Rattle.std.proofs.Common.{◌≡◌, ℕ, length, sym, ap, ◌∙◌}
+use Rattle.std.proofs.Common.{◌≡◌, length, sym, ap, ◌∙◌}
 use Rattle.formula_meaning.specs.Formula.{And}
 use Rattle.qe_syntax.specs.Trees.{formula_tree}
 use Rattle.qe_syntax.proofs.TreeEquations.{formula-And}

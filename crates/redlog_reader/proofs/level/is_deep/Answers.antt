@@ -1,4 +1,4 @@
-use Rattle.std.proofs.Common.{◌≡◌, ◌<◌, ◌≤◌, ◌∷◌, ◌+◌, drop, ap, ◌∙◌, sym, arith}
+use Rattle.std.proofs.Common.{◌<◌, ◌≤◌, ◌∷◌, ◌+◌, drop, ap, ◌∙◌, sym, arith}
 use Rattle.redlog_reader.specs.Terminals.{terminals}
 use Rattle.redlog_reader.specs.Counting.{count}
 use Rattle.redlog_reader.proofs.Counts.{shallow_start, deep, shallow_more, shallow_end, next_terminal, no_terminal}

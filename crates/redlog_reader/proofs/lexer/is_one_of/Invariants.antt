@@ -1,5 +1,4 @@
-use Rattle.std.proofs.Common.{◌≡◌, ℕ, List, map, drop}
-use Rattle.std.specs.Prelude.{bytes_eq}
+use Rattle.std.proofs.Common.{◌≡◌, map, drop}
 use Rattle.redlog_reader.specs.Lexing.{is_one_of}
 use Rattle.redlog_reader.proofs.lexer.is_one_of.Given as goal
 

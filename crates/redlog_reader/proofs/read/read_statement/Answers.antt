@@ -1,5 +1,4 @@
-use Rattle.std.proofs.Common.{◌≡◌, ◌≤◌, sym, subst, rules, arith, length, List, [], ◌∙◌}
-use Rattle.qe_syntax.specs.Proper.{IsProper}
+use Rattle.std.proofs.Common.{◌≤◌, sym, subst, rules, arith, length, List, [], ◌∙◌}
 use Rattle.redlog_reader.specs.declared.token.Token.{Token}
 use Rattle.redlog_reader.specs.Levels.{Passes}
 use Rattle.redlog_reader.specs.Terminals.{terminals}

@@ -1,4 +1,4 @@
-use Rattle.std.proofs.Common.{ℕ, ◌-◌, ◌≤◌, List, ◌++◌, map, length}
+use Rattle.std.proofs.Common.{◌-◌, ◌≤◌, List, ◌++◌, map, length}
 use Rattle.redlog_reader.specs.declared.lexer.Lexeme.{Lexeme}
 use Rattle.redlog_reader.specs.Lexing.{Lexes, LexesFrom, lexeme_of}
 use Rattle.redlog_reader.proofs.read.tokens.Given as goal

@@ -1,6 +1,6 @@
-use Rattle.std.proofs.Common.{rules, ap, ◌≡◌}
+use Rattle.std.proofs.Common.{rules, ap}
 use Rattle.qe_syntax.specs.Trees.{FormulaTree, formula_tree}
-use Rattle.qe_syntax.specs.Statements.{StatementTree, Say, Holds}
+use Rattle.qe_syntax.specs.Statements.{Say, Holds}
 use Rattle.redlog_reader.proofs.Lists.{refuses}
 use Rattle.redlog_reader.proofs.Statements.{refused_comma, refused_point, refused_end, point_numerals, found_statement}
 use Rattle.redlog_reader.proofs.statement.statement.Goals as goal

@@ -16,6 +16,6 @@ returns-in_ok-product-in-Name-clause-found c =
 -- no name follows the *, or another * follows the name
 pub returns-in_default-first-clause-refused : goal.returns-in_default-first-clause-refused
 returns-in_default-first-clause-refused c = refused_product c.in-Some.ensures.value (λ x r at e. elim c.in_default-first.branch [
-  in_default-first-via-in-Name+else-factors_end-2 w ↦ w.if-factors_end-2.ensures (subst (Ends 1) (same_rest c.in-Some-next.ensures.value at) e)
+  | in_default-first-via-in-Name+else-factors_end-2 w ↦ w.if-factors_end-2.ensures (subst (Ends 1) (same_rest c.in-Some-next.ensures.value at) e)
   | in_default-first-via-in_default-first w ↦ w.in_default-first.not-Name x (same_front c.in-Some-next.ensures.value at)
-  ])
+])

@@ -1,4 +1,4 @@
-use Rattle.std.proofs.Common.{◌≡◌, ℕ, length, sym, ap, ◌∙◌}
+use Rattle.std.proofs.Common.{◌≡◌, length, sym, ap, ◌∙◌}
 use Rattle.qe_syntax.specs.Trees.{Sum, term_tree}
 use Rattle.qe_syntax.proofs.TreeEquations.{tree-Sum}
 use Rattle.redlog_reader.proofs.Sums.{sum_many}
