@@ -1,5 +1,5 @@
 -- A reply is one of the piece, and one of the script.
-use Rattle.std.proofs.Common.{◌≡◌, ◌≢◌, sym, subst, refl, ℕ, ◌-◌, List, Bool, true, false, take, drop, Result, Ok, Err, Option, Some, None}
+use Rattle.std.proofs.Common.{◌≡◌, ◌≢◌, sym, subst, refl, ℕ, ◌-◌, List, true, false, take, drop, Result, Ok, Err, Option, Some, None}
 use Rattle.std.proofs.lemmas.Bool.{true≢false}
 use Rattle.std.specs.Prelude.{IfOk, OnOk, IfSome, IfNone, is_some}
 use Rattle.redlog_reader.specs.declared.piece.Piece.{Piece}
@@ -44,6 +44,6 @@ pub several_reply : {E : Type 0} (r : Result Reply E) (script : List ℕ) (start
     → IfOk r (λ reply. Run script reply.lines.items reply.refused)
 several_reply (Ok reply) script start end (Some next) first some more lines told =
     subst (Run script reply.lines.items) (sym told)
-        (several start (record { end = end; first = first; next_start = next.start; next_end = next.end; more = more }) lines)
+    (several start (record { end = end; first = first; next_start = next.start; next_end = next.end; more = more }) lines)
 several_reply (Ok reply) script start end None first some more lines told = absurd (true≢false (sym some))
 several_reply (Err e) script start end next first some more lines told = tt

@@ -1,5 +1,5 @@
 -- What was read and written, by the status that the program ends with.
-use Rattle.std.specs.Prelude.{◌≡◌, ◌⊎◌, ℕ, ◌≤◌, List, [], ◌++◌, length, Option, Bool, true, false}
+use Rattle.std.specs.Prelude.{◌≡◌, ◌⊎◌, ℕ, ◌≤◌, List, [], length, Option, Bool, true, false}
 use Rattle.qe_io.specs.Streams.{Gave, IsAtEnd, Took, Rose}
 use Rattle.redlog.specs.declared.status.Status.{Status}
 use Rattle.redlog.specs.declared.status.Status.TheVariants as status

@@ -5,18 +5,16 @@ mod answer;
 mod read;
 mod run;
 mod status;
-mod write;
-
 #[cfg(test)]
 mod tests;
+mod write;
 
 use qe_io::{StdSink, StdSource};
 use run::run;
 use status::Status;
 use std::alloc::Global;
-use std::env;
-use std::io;
 use std::process::ExitCode;
+use std::{env, io};
 
 fn main(rt: HostRuntime) -> ExitCode {
     let mut source = StdSource::new(rt.stdin());

@@ -44,21 +44,48 @@ fn scripts(rt: HostRuntime) -> Result<(), Fail> {
             b"rlholds(x+1>0,{x=170141183460469231731687303715884105727});".as_slice(),
             refused("***** overflow at 0\n"),
         ),
-        (b"rlholds(x>0,{x=1/0});".as_slice(), refused("***** point at 0\n")),
-        (b"rlholds(x>0,{x=1,x=2});".as_slice(), refused("***** point at 0\n")),
-        (b"rlholds(y>0,{x=1/0});".as_slice(), refused("***** point at 0\n")),
-        (b"rlholds(x>y,{x=1});".as_slice(), refused("***** unvalued at 0\n")),
+        (
+            b"rlholds(x>0,{x=1/0});".as_slice(),
+            refused("***** point at 0\n"),
+        ),
+        (
+            b"rlholds(x>0,{x=1,x=2});".as_slice(),
+            refused("***** point at 0\n"),
+        ),
+        (
+            b"rlholds(y>0,{x=1/0});".as_slice(),
+            refused("***** point at 0\n"),
+        ),
+        (
+            b"rlholds(x>y,{x=1});".as_slice(),
+            refused("***** unvalued at 0\n"),
+        ),
         (
             b"rlholds(x+1>y,{x=170141183460469231731687303715884105727});".as_slice(),
             refused("***** unvalued at 0\n"),
         ),
-        (b"rlholds(x<0 or x=1 and true,{x=1});".as_slice(), done("true\n")),
-        (b"rlholds(not (x<0 or false),{x=-1/2});".as_slice(), done("false\n")),
-        (b"rlholds(- x + 3*y <= +2, {x = 1, y = 1}) $".as_slice(), done("")),
-        (b"  rlholds(x>0,{x=1}); x".as_slice(), refused("***** syntax at 2\n")),
+        (
+            b"rlholds(x<0 or x=1 and true,{x=1});".as_slice(),
+            done("true\n"),
+        ),
+        (
+            b"rlholds(not (x<0 or false),{x=-1/2});".as_slice(),
+            done("false\n"),
+        ),
+        (
+            b"rlholds(- x + 3*y <= +2, {x = 1, y = 1}) $".as_slice(),
+            done(""),
+        ),
+        (
+            b"  rlholds(x>0,{x=1}); x".as_slice(),
+            refused("***** syntax at 2\n"),
+        ),
         (b"\n\xff;".as_slice(), refused("***** syntax at 1\n")),
     ] {
-        assert_eq!(rt; answer(rt.alloc(), script, 100)?, (status, line.as_bytes().to_vec(rt.alloc())?));
+        assert_eq!(rt;
+            answer(rt.alloc(), script, 100)?,
+            (status, line.as_bytes().to_vec(rt.alloc())?)
+        );
     }
     Ok(())
 }
@@ -67,10 +94,12 @@ fn scripts(rt: HostRuntime) -> Result<(), Fail> {
 fn pieces_of_any_size(rt: HostRuntime) -> Result<(), Fail> {
     let same = |script: &[u8]| -> Result<bool, Fail> {
         let whole = answer(rt.alloc(), script, 100)?;
-        Ok(answer(rt.alloc(), script, 1)? == whole
-            && answer(rt.alloc(), script, 2)? == whole
-            && answer(rt.alloc(), script, 3)? == whole
-            && answer(rt.alloc(), script, 7)? == whole)
+        Ok(
+            answer(rt.alloc(), script, 1)? == whole
+                && answer(rt.alloc(), script, 2)? == whole
+                && answer(rt.alloc(), script, 3)? == whole
+                && answer(rt.alloc(), script, 7)? == whole,
+        )
     };
     for end in 0..FIRST.len() {
         assert!(rt; same(&FIRST[..end])?, "the first {end} bytes");
@@ -103,7 +132,10 @@ fn calls_that_fail(rt: HostRuntime) -> Result<(), Fail> {
     let mut source = SteadySource::new(FIRST.to_vec(alloc)?);
     let mut sink = MemorySink::new(alloc, 3, none())?;
     let status = run(alloc, &Vec::new(alloc), &mut source, &mut sink);
-    assert_eq!(rt; (status, sink.written()), (Status::WriteFault, b"tru".as_slice()));
+    assert_eq!(rt;
+        (status, sink.written()),
+        (Status::WriteFault, b"tru".as_slice())
+    );
     Ok(())
 }
 
@@ -120,7 +152,10 @@ fn words_and_limits(rt: HostRuntime) -> Result<(), Fail> {
         let mut blanks = Vec::with_capacity(alloc, length)?;
         blanks.resize(length, b' ')?;
         let mut source = SteadySource::new(blanks);
-        assert_eq!(rt; run(alloc, &Vec::new(alloc), &mut source, &mut sink), status);
+        assert_eq!(rt;
+            run(alloc, &Vec::new(alloc), &mut source, &mut sink),
+            status
+        );
     }
     Ok(())
 }

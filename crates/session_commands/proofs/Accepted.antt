@@ -1,19 +1,19 @@
 -- A formula that was tested is accepted.
-use Rattle.std.proofs.Common.{◌≡◌, ◌⊎◌, inl, inr, ⊎_elim, sym, ◌∙◌, ap, subst, refl, Bool, true, false}
+use Rattle.std.proofs.Common.{◌≡◌, ⊎_elim, sym, ◌∙◌, ap, Bool, false}
 use Rattle.std.specs.Prelude.{List, Result, Ok, Err, OnOk, is_ok}
 use Rattle.std.proofs.lemmas.Bool.{false≢true}
 use Rattle.qe_syntax.specs.declared.statement.PointEntry.{PointEntry}
 use Rattle.qe_syntax.specs.declared.value.EvalError.{EvalError}
 use Rattle.qe_syntax.specs.declared.value.EvalError.TheVariants as eval
 use Rattle.qe_syntax.specs.Trees.{FormulaTree}
-use Rattle.qe_syntax.specs.Point.{IsPointOf, Numbers, point_of}
+use Rattle.qe_syntax.specs.Point.{IsPointOf}
 use Rattle.qe_syntax.specs.PointFaults.{IsFaultless}
 use Rattle.qe_syntax.specs.Value.{NamedPoint}
 use Rattle.qe_syntax.specs.Rule.{calculated_truth}
 use Rattle.qe_syntax.specs.Evaluates.{Decides}
 use Rattle.qe_syntax.proofs.OnePoint.{one_point}
 use Rattle.session_commands.specs.declared.line.StatementError.{StatementError}
-use Rattle.session_commands.specs.Holds.{IsValued, IsAccepted, Overflows}
+use Rattle.session_commands.specs.Holds.{IsValued, IsAccepted}
 
 accepted : (f : FormulaTree) (es : List PointEntry) (q : NamedPoint) (answer : Bool) → IsFaultless es false → IsPointOf es q → IsValued f es
     → calculated_truth f q ≡ Ok answer → IsAccepted f es
@@ -22,11 +22,11 @@ accepted f es q answer faultless meant valued decided = record {
   valued = valued;
   within = λ over. ⊎_elim faultless.within
       (λ (o : (p : NamedPoint) × IsPointOf es p × (calculated_truth f p ≡ Err eval.Overflow)).
-          let same : o.0 ≡ q = one_point es o.0 q faultless.checked.divided o.1 meant in
-          let stops : calculated_truth f q ≡ Err eval.Overflow = ap (calculated_truth f) (sym same) ∙ o.2 in
-          let both : (let r : Result Bool EvalError = Ok answer in r) ≡ Err eval.Overflow = sym decided ∙ stops in
-          cc)
-      over
+      let same : o.0 ≡ q = one_point es o.0 q faultless.checked.divided o.1 meant in
+      let stops : calculated_truth f q ≡ Err eval.Overflow = ap (calculated_truth f) (sym same) ∙ o.2 in
+      let both : (let r : Result Bool EvalError = Ok answer in r) ≡ Err eval.Overflow = sym decided ∙ stops in
+      cc)
+      over;
 }
 
 pub accepted_on_ok : (f : FormulaTree) (es : List PointEntry) (q : NamedPoint) (r : Result Bool EvalError) (s : Result Bool StatementError) → is_ok s ≡ is_ok r

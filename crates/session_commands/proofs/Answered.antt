@@ -1,6 +1,6 @@
 -- From the answer of a formula to the answer of its statement.
-use Rattle.std.proofs.Common.{◌≡◌, sym, ◌∙◌, ap, subst, refl, Bool, true, false}
-use Rattle.std.specs.Prelude.{List, ℕ, Result, Ok, Err, IfOk, IfErr}
+use Rattle.std.proofs.Common.{◌≡◌, ◌∙◌, ap, Bool}
+use Rattle.std.specs.Prelude.{List, ℕ, Result, Ok, Err, IfOk}
 use Rattle.qe_syntax.specs.declared.statement.PointEntry.{PointEntry}
 use Rattle.qe_syntax.specs.declared.statement.Command.{Command}
 use Rattle.qe_syntax.specs.declared.statement.Command.TheVariants as command
@@ -14,8 +14,8 @@ use Rattle.session_commands.specs.declared.line.Line.{Line}
 use Rattle.session_commands.specs.declared.line.Line.TheVariants as line
 use Rattle.session_commands.specs.declared.line.StatementError.{StatementError}
 use Rattle.session_commands.specs.declared.line.StatementError.TheVariants as error
-use Rattle.session_commands.specs.Holds.{IsAccepted, Refuses, Says}
-use Rattle.session_commands.specs.Answer.{holds_statement, AnswersTo, RefusesStatement, IsAnswer, IsRefused, SpellsNothing}
+use Rattle.session_commands.specs.Holds.{IsAccepted, Says}
+use Rattle.session_commands.specs.Answer.{holds_statement, AnswersTo, IsRefused}
 use Rattle.session_commands.specs.Steps.{said, IsTruthLine, RefusesOrStops, read_refusal}
 
 pub truth_answers : (s : StatementTree) (f : FormulaTree) (es : List PointEntry) (truth printed : Bool) (r : Result Line StatementError) → s ≡ holds_statement f es printed

@@ -1,10 +1,7 @@
 -- What a piece spells is a statement that can be answered.
-use Rattle.std.proofs.Common.{◌≡◌, sym, ◌∙◌, subst, refl, Bool, true, false}
+use Rattle.std.proofs.Common.{sym, subst, Bool, true, false}
 use Rattle.std.specs.Prelude.{List, [], ◌∷◌}
-use Rattle.std.specs.List.{AllByRecursion}
-use Rattle.formula_meaning.specs.Formula as plain
-use Rattle.qe_syntax.specs.declared.statement.PointEntry.{PointEntry}
-use Rattle.qe_syntax.specs.Trees.{TermTree, TermTrees, terms_of, FormulaTree, FormulaTrees, formulas_of}
+use Rattle.qe_syntax.specs.Trees.{TermTree, terms_of, FormulaTree, formulas_of}
 use Rattle.qe_syntax.specs.Statements.{StatementTree}
 use Rattle.qe_syntax.specs.Proper.{IsProper}
 use Rattle.qe_syntax.specs.Simple.{IsSimpleTerm, AreSimpleTerms, IsSimple, AreSimple}

@@ -1,5 +1,5 @@
 -- What the steps of an answer give one another.
-use Rattle.std.specs.Prelude.{◌≡◌, ℕ, List, Bool, true, false}
+use Rattle.std.specs.Prelude.{◌≡◌, List, Bool, true, false}
 use Rattle.qe_syntax.specs.declared.statement.PointEntry.{PointEntry}
 use Rattle.qe_syntax.specs.Trees.{FormulaTree}
 use Rattle.qe_syntax.specs.Statements.{CommandTree, Say, StatementTree}

@@ -3,7 +3,6 @@
 
 mod line;
 mod session;
-
 #[cfg(test)]
 mod tests;
 

@@ -7,13 +7,12 @@ ghost use Rattle.session_commands.specs.Holds.{IsValued, IsAccepted, Refuses, Sa
 ghost use Rattle.session_commands.specs.Answer.{AnswersTo, IsAnswer, IsRefused};
 ghost use Rattle.session_commands.specs.Steps.{read_refusal, said, IsAsked, RefusesOrStops, IsTruthLine, ValueFault};
 
-use std::alloc::Global;
-
 use crate::line::{Line, StatementError};
 use qe_syntax::{
     Action, Command, Entries, Formula, Point, PointFault, Statement, first_unvalued, truth_at,
 };
 use redlog_reader::{ReadError, read_statement};
+use std::alloc::Global;
 
 /// The limits that a session keeps: nodes of an elimination, and workers of its parallel phase.
 #[derive(Clone, Copy, Debug)]
@@ -78,11 +77,8 @@ fn answer(alloc: Global, statement: &Statement) -> Result<Line, StatementError>
 {
     match &statement.action {
         Action::Say(command) => say(alloc, command, statement.printed),
-        Action::Empty
-        | Action::Ignored
-        | Action::Finish
-        | Action::Choose(_)
-        | Action::Assign(..) => unreachable!(),
+        Action::Empty | Action::Ignored | Action::Finish | Action::Choose(_) | Action::Assign(..) =>
+            unreachable!(),
     }
 }
 
@@ -117,7 +113,11 @@ fn truth_line(alloc: Global, truth: bool, printed: bool) -> Result<Line, Stateme
     if !printed {
         return Ok(Line::Nothing);
     }
-    let text = if truth { b"true".as_slice() } else { b"false".as_slice() };
+    let text = if truth {
+        b"true".as_slice()
+    } else {
+        b"false".as_slice()
+    };
     let line = Vec::from_slice(alloc, text).map_err(|_| StatementError::Memory)?;
     Ok(Line::Printed(line))
 }

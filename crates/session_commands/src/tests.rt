@@ -12,9 +12,18 @@ fn statements(rt: HostRuntime) -> Result<(), Fail> {
     for (statement, want) in [
         (b"rlholds(x<=y,{x=1/3,y=2/6});".as_slice(), Ok("true")),
         (b"rlholds(not x<=y,{x=1/3,y=2/6});".as_slice(), Ok("false")),
-        (b"rlholds(x<=y,{x=1/3,y=2/6});;".as_slice(), Err(StatementError::Syntax)),
-        (b"rlholds(x<=y,{x=1/3,x=2/6});".as_slice(), Err(StatementError::Point)),
-        (b"rlholds(x<=y,{x=1/3});".as_slice(), Err(StatementError::Unvalued)),
+        (
+            b"rlholds(x<=y,{x=1/3,y=2/6});;".as_slice(),
+            Err(StatementError::Syntax),
+        ),
+        (
+            b"rlholds(x<=y,{x=1/3,x=2/6});".as_slice(),
+            Err(StatementError::Point),
+        ),
+        (
+            b"rlholds(x<=y,{x=1/3});".as_slice(),
+            Err(StatementError::Unvalued),
+        ),
         (
             b"rlholds(false and x<=1,{x=170141183460469231731687303715884105728});".as_slice(),
             Err(StatementError::Overflow),
@@ -30,8 +39,16 @@ fn statements(rt: HostRuntime) -> Result<(), Fail> {
         };
         assert_eq!(rt; found, want);
     }
-    assert!(rt; matches!(session.statement(rt.alloc(), b"rlholds(true,{})$"), Ok(Line::Nothing)));
+    assert!(rt;
+        matches!(
+            session.statement(rt.alloc(), b"rlholds(true,{})$"),
+            Ok(Line::Nothing)
+        )
+    );
     assert_eq!(rt; session.limits().nodes, 100);
-    assert_eq!(rt; StatementError::CongruenceContext.word(), "congruence-context");
+    assert_eq!(rt;
+        StatementError::CongruenceContext.word(),
+        "congruence-context"
+    );
     Ok(())
 }

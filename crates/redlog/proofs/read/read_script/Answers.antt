@@ -4,10 +4,9 @@ use Rattle.redlog.proofs.read.read_script.Goals as goal
 
 pub returns-then-len-gt-SCRIPT_LIMIT-clause-stop : goal.returns-then-len-gt-SCRIPT_LIMIT-clause-stop
 returns-then-len-gt-SCRIPT_LIMIT-clause-stop g c =
-    let piece = c.in_ok-count.ensures.piece in
-    (
-        (c.read_piece.new.script.items, read_joined _ _ _ c.loop-turn.script.items c.read_piece.new.script.items _ c.loop-turn.invariant.gave piece, search rules),
-        search rules
+    let piece = c.in_ok-count.ensures.piece in (
+      (c.read_piece.new.script.items, read_joined _ _ _ c.loop-turn.script.items c.read_piece.new.script.items _ c.loop-turn.invariant.gave piece, search rules),
+      search rules,
     )
 
 pub loop-turn-preserved : goal.loop-turn-preserved

@@ -4,4 +4,4 @@ use Rattle.session_commands.proofs.session.say.Goals as goal
 pub returns-clause-answer : goal.returns-clause-answer
 returns-clause-answer c =
     truth_answers _ _ _ c.in_ok-holds-in-Holds.holds c.args.printed c.truth_line.result (holds_is c.args.command.now c.in-Holds.formula c.in-Holds.entries c.args.printed c.in-Holds.is)
-        c.in_ok-holds-in-Holds.ensures.accepted c.in_ok-holds-in-Holds.ensures.says c.truth_line.ensures.line
+    c.in_ok-holds-in-Holds.ensures.accepted c.in_ok-holds-in-Holds.ensures.says c.truth_line.ensures.line
