@@ -9,3 +9,4 @@ pub mod TruthLaw
 pub mod NameSearch
 pub mod OnePoint
 pub mod OnlyOverflow
+pub mod Examples

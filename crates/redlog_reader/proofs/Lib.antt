@@ -12,3 +12,4 @@ pub mod Counts
 pub mod Lexed
 pub mod Whole
 pub mod Cutting
+pub mod Examples
