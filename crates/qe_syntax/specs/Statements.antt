@@ -55,8 +55,8 @@ action_tree action.Empty = Empty
 action_tree action.Ignored = Ignored
 action_tree action.Finish = Finish
 action_tree (action.Choose setting) = Choose setting
-action_tree (action.Say c) = Say (command_tree c)
-action_tree (action.Assign x c) = Assign x (command_tree c)
+action_tree (action.Say c) = Say (command_tree c.value)
+action_tree (action.Assign x c) = Assign x (command_tree c.value)
 
 -- the tree of a statement
 abbrev pub statement_tree : whole.Statement → StatementTree

@@ -67,15 +67,15 @@ pub enum Command {
     Sample(Formula, Entries),
 }
 
-/// What a statement does.
+/// What a statement does. A command is kept in a box, since a formula is large.
 #[derive(Drop)]
 pub enum Action {
     Empty,
     Ignored,
     Finish,
     Choose(Setting),
-    Say(Command),
-    Assign(Name, Command),
+    Say(Box<Command>),
+    Assign(Name, Box<Command>),
 }
 
 /// One statement of a script. Its line is printed where it ends with `;`.

@@ -1,6 +1,6 @@
 ghost use Rattle.std.specs.Prelude.{◌≡◌, List, [], ◌∷◌, Bool, IfOk, IfErr, MatchOption};
 ghost use Rattle.std.specs.Bool.{MatchBool};
-ghost use Rattle.qe_syntax.specs.Statements.{statement_tree};
+ghost use Rattle.qe_syntax.specs.Statements.{statement_tree, command_tree, Say};
 ghost use Rattle.redlog_reader.specs.declared.terminal.Terminal.{Terminal};
 ghost use Rattle.redlog_reader.specs.declared.terminal.Mark.{Mark};
 ghost use Rattle.redlog_reader.specs.Terminals.{terminals};
@@ -35,8 +35,19 @@ pub fn statement(alloc: Global, tokens: &[Token]) -> Result<Statement, ReadError
     let Some(printed) = end(rest) else {
         return Err(ReadError::Syntax);
     };
-    let action = Action::Say(Command::Holds(Box::into_inner(formula), entries));
-    Ok(Statement { action, printed })
+    said(alloc, Command::Holds(Box::into_inner(formula), entries), printed)
+}
+
+/// The statement that is this command.
+fn said(alloc: Global, command: Command, printed: bool) -> Result<Statement, ReadError>
+    ensures said { IfOk result (λ s. statement_tree s ≡ record { action = Say (command_tree command); printed = printed }) }
+    ensures refused { IfErr result (λ e. Refuses e ⊥) }
+{
+    let command = Box::new(alloc, command).map_err(|_| ReadError::Memory)?;
+    Ok(Statement {
+        action: Action::Say(command),
+        printed,
+    })
 }
 
 /// Whether the statement is printed, where the tokens are its end.
