@@ -20,4 +20,4 @@ pub use statement::{Action, Command, Entries, PointEntry, Setting, Statement};
 pub use tree::{Formula, Formulas, Literal, Relation, Term, Terms, negation, negative};
 pub use truth::truth_at;
 pub use value::{EvalError, value_at};
-pub use valued::first_unvalued;
+pub use valued::is_valued;

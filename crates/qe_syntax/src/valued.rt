@@ -1,4 +1,5 @@
-ghost use Rattle.std.specs.Prelude.{◌≡◌, ◌↔◌, ◌⊎◌, ℕ, List, map, IsTrue, IfOk, MatchOption};
+ghost use Rattle.std.specs.Prelude.{◌≡◌, ◌↔◌, ◌⊎◌, ℕ, List, map, IsTrue, IfOk};
+ghost use Rattle.std.specs.Bool.{MatchBool};
 ghost use Rattle.std.specs.Ordering.{nat_cmp};
 ghost use Rattle.std.specs.Cmp.Lexicographic.{slice_cmp};
 ghost use Rattle.std.specs.BTreeSet.{contains};
@@ -6,7 +7,7 @@ ghost use Rattle.qe_syntax.specs.Trees.{term_tree, terms_of, formula_tree, formu
 ghost use Rattle.qe_syntax.specs.Simple.{IsSimpleTerm, AreSimpleTerms, IsSimple, AreSimple};
 ghost use Rattle.qe_syntax.specs.Point.{HasEntry};
 ghost use Rattle.qe_syntax.specs.Value.{HasName, HaveName, IsFree};
-ghost use Rattle.qe_syntax.specs.Valued.{Unvalued, AreFree};
+ghost use Rattle.qe_syntax.specs.Valued.{AreAmong, AreFree};
 
 use crate::name::Name;
 use crate::statement::PointEntry;
@@ -14,17 +15,16 @@ use crate::tree::{Formula, Term};
 use std::alloc::{AllocError, Global};
 use std::collections::BTreeSet;
 
-/// A name of a formula that no entry has, or `None` where each has an entry. Which of several it is, no clause says. The
-/// formula has no quantifiers. An `Err` is want of memory.
-pub fn first_unvalued(
+/// Whether each free name of the formula has an entry. The formula has no quantifiers. An `Err` is want of memory.
+pub fn is_valued(
     alloc: Global,
     formula: &Formula,
     entries: &[PointEntry],
-) -> Result<Option<Name>, AllocError>
+) -> Result<bool, AllocError>
     requires { IsSimple (formula_tree formula.now) }
-    ensures { IfOk result (λ found. MatchOption found
+    ensures { IfOk result (λ valued. MatchBool valued
         ((x : List ℕ) → IsFree (formula_tree formula.now) x → HasEntry x entries.now)
-        (λ x. IsFree (formula_tree formula.now) x × (¬ (HasEntry x entries.now)))) }
+        ((x : List ℕ) × IsFree (formula_tree formula.now) x × (¬ (HasEntry x entries.now)))) }
 {
     let names = names_of(alloc, entries)?;
     Ok(in_formula(formula, &names))
@@ -41,16 +41,16 @@ fn names_of(alloc: Global, entries: &[PointEntry]) -> Result<BTreeSet<Name>, All
     Ok(names)
 }
 
-/// The first name of a term that is not among these.
+/// Whether the names of a term are among these.
 #[tactic(auto, using(crate::proofs::TreeEquations::trees))]
 #[cycle(terms)]
-fn in_term(term: &Term, names: &BTreeSet<Name>) -> Option<Name>
+fn in_term(term: &Term, names: &BTreeSet<Name>) -> bool
     requires { IsSimpleTerm (term_tree term.now) }
-    ensures { Unvalued (HasName (term_tree term.now)) (contains (slice_cmp nat_cmp) names.now) result }
+    ensures { AreAmong (HasName (term_tree term.now)) (contains (slice_cmp nat_cmp) names.now) result }
 {
     match term {
-        Term::Number(_) => None,
-        Term::Name(name) => unless_among(name, names),
+        Term::Number(_) => true,
+        Term::Name(name) => names.contains(name),
         Term::Sum(terms) => in_terms(&terms.list, names),
         Term::Product(terms) => in_terms(&terms.list, names),
         Term::Negative(inner) => in_term(inner, names),
@@ -58,52 +58,38 @@ fn in_term(term: &Term, names: &BTreeSet<Name>) -> Option<Name>
     }
 }
 
-/// The name, if it is not among these.
-fn unless_among(name: &Name, names: &BTreeSet<Name>) -> Option<Name>
-    ensures { Unvalued (λ x. name.now ≡ x) (contains (slice_cmp nat_cmp) names.now) result }
-{
-    if names.contains(name) {
-        None
-    } else {
-        Some(*name)
-    }
-}
-
-/// The first name of the terms that is not among these.
+/// Whether the names of the terms are among these.
 #[cycle(terms)]
-fn in_terms(terms: &[Term], names: &BTreeSet<Name>) -> Option<Name>
+fn in_terms(terms: &[Term], names: &BTreeSet<Name>) -> bool
     requires { AreSimpleTerms (terms_of (map term_tree terms.now)) }
-    ensures { Unvalued (HaveName (terms_of (map term_tree terms.now))) (contains (slice_cmp nat_cmp) names.now) result }
+    ensures { AreAmong (HaveName (terms_of (map term_tree terms.now))) (contains (slice_cmp nat_cmp) names.now) result }
 {
     for term in terms {
-        if let Some(name) = in_term(term, names) {
-            return Some(name);
+        if !in_term(term, names) {
+            return false;
         }
     }
-    None
+    true
 }
 
-/// The first name of a comparison that is not among these.
-fn in_comparison(left: &Term, right: &Term, names: &BTreeSet<Name>) -> Option<Name>
+/// Whether the names of a comparison are among these.
+fn in_comparison(left: &Term, right: &Term, names: &BTreeSet<Name>) -> bool
     requires simple_left { IsSimpleTerm (term_tree left.now) }
     requires simple_right { IsSimpleTerm (term_tree right.now) }
-    ensures { Unvalued (λ x. HasName (term_tree left.now) x ⊎ HasName (term_tree right.now) x) (contains (slice_cmp nat_cmp) names.now) result }
+    ensures { AreAmong (λ x. HasName (term_tree left.now) x ⊎ HasName (term_tree right.now) x) (contains (slice_cmp nat_cmp) names.now) result }
 {
-    match in_term(left, names) {
-        Some(name) => Some(name),
-        None => in_term(right, names),
-    }
+    in_term(left, names) && in_term(right, names)
 }
 
-/// The first name of a formula that is not among these.
+/// Whether the free names of a formula are among these.
 #[tactic(auto, using(crate::proofs::TreeEquations::trees))]
 #[cycle(formulas)]
-fn in_formula(formula: &Formula, names: &BTreeSet<Name>) -> Option<Name>
+fn in_formula(formula: &Formula, names: &BTreeSet<Name>) -> bool
     requires { IsSimple (formula_tree formula.now) }
-    ensures { Unvalued (IsFree (formula_tree formula.now)) (contains (slice_cmp nat_cmp) names.now) result }
+    ensures { AreAmong (IsFree (formula_tree formula.now)) (contains (slice_cmp nat_cmp) names.now) result }
 {
     match formula {
-        Formula::True | Formula::False => None,
+        Formula::True | Formula::False => true,
         Formula::Compare(_, left, right) => in_comparison(left, right, names),
         Formula::Not(inner) => in_formula(inner, names),
         Formula::And(formulas) => in_formulas(&formulas.list, names),
@@ -119,16 +105,16 @@ fn in_formula(formula: &Formula, names: &BTreeSet<Name>) -> Option<Name>
     }
 }
 
-/// The first name of the formulas that is not among these.
+/// Whether the free names of the formulas are among these.
 #[cycle(formulas)]
-fn in_formulas(formulas: &[Formula], names: &BTreeSet<Name>) -> Option<Name>
+fn in_formulas(formulas: &[Formula], names: &BTreeSet<Name>) -> bool
     requires { AreSimple (formulas_of (map formula_tree formulas.now)) }
-    ensures { Unvalued (AreFree (formulas_of (map formula_tree formulas.now))) (contains (slice_cmp nat_cmp) names.now) result }
+    ensures { AreAmong (AreFree (formulas_of (map formula_tree formulas.now))) (contains (slice_cmp nat_cmp) names.now) result }
 {
     for formula in formulas {
-        if let Some(name) = in_formula(formula, names) {
-            return Some(name);
+        if !in_formula(formula, names) {
+            return false;
         }
     }
-    None
+    true
 }

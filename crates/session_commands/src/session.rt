@@ -9,7 +9,7 @@ ghost use Rattle.session_commands.specs.Steps.{read_refusal, said, IsAsked, Refu
 
 use crate::line::{Line, StatementError};
 use qe_syntax::{
-    Action, Command, Entries, Formula, Point, PointFault, Statement, first_unvalued, truth_at,
+    Action, Command, Entries, Formula, Point, PointFault, Statement, is_valued, truth_at,
 };
 use redlog_reader::{ReadError, read_statement};
 use std::alloc::Global;
@@ -153,9 +153,9 @@ fn check_valued(alloc: Global, formula: &Formula, entries: &Entries) -> Result<(
     ensures valued { OnOk result (IsValued (formula_tree formula.now) entries.now) }
     ensures refusal { IfErr result (ValueFault (formula_tree formula.now) entries.now) }
 {
-    match first_unvalued(alloc, formula, entries.items()) {
-        Ok(None) => Ok(()),
-        Ok(Some(_)) => Err(StatementError::Unvalued),
+    match is_valued(alloc, formula, entries.items()) {
+        Ok(true) => Ok(()),
+        Ok(false) => Err(StatementError::Unvalued),
         Err(_) => Err(StatementError::Memory),
     }
 }

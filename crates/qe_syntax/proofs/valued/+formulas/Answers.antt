@@ -4,7 +4,7 @@ use Rattle.std.specs.Cmp.Lexicographic.{slice_cmp}
 use Rattle.std.specs.BTreeSet.{contains}
 use Rattle.qe_syntax.specs.Trees.{formula_tree, formulas_of}
 use Rattle.qe_syntax.specs.Value.{IsFree}
-use Rattle.qe_syntax.specs.Valued.{AreFree}
+use Rattle.qe_syntax.specs.Valued.{AreAmong, AreFree}
 use Rattle.qe_syntax.proofs.NameSearch.{SearchedTo, search_more}
 use Rattle.qe_syntax.proofs.EntryLists.{rest_at}
 use Rattle.qe_syntax.specs.declared.tree.Formula.TheFolds.{the_lemmas}
@@ -32,6 +32,6 @@ in_formulas-loop-formula-preserved t c =
     record {
       searched = search_more (AreFree (formulas_of (map formula_tree all))) (IsFree (formula_tree c.formula-item.result)) _ has
           (subst (λ r. SearchedTo (AreFree (formulas_of (map formula_tree all))) (AreFree (formulas_of (map formula_tree r))) has) rest c.loop-formula.invariant.searched)
-          c.in_default.ensures;
+          (subst (AreAmong (IsFree (formula_tree c.formula-item.result)) has) c.if-not-in_formula.false c.in_formula.ensures);
       simple = (subst (λ r. AreSimple (formulas_of (map formula_tree r))) rest c.loop-formula.invariant.simple).1;
     }
