@@ -85,6 +85,15 @@ fn both(alloc: Global, left: Formula, right: Formula) -> Result<Formula, AllocEr
     Ok(Formula::And(formulas))
 }
 
+#[tactic(auto, using(crate::proofs::TreeEquations::trees))]
+fn negated(alloc: Global, formula: Formula) -> Result<Formula, AllocError>
+    requires { IsProperFormula (formula_tree formula) × IsSimple (formula_tree formula) }
+    ensures proper { IfOk result (λ f. IsProperFormula (formula_tree f)) }
+    ensures simple { IfOk result (λ f. IsSimple (formula_tree f)) }
+{
+    negation(alloc, formula)
+}
+
 #[test]
 fn names_and_points(rt: HostRuntime) -> Result<(), Fail> {
     assert_eq!(rt; y().bytes(), b"y".as_slice());
@@ -165,25 +174,46 @@ fn values(rt: HostRuntime) -> Result<(), Fail> {
     Ok(())
 }
 
-#[test]
-fn truths(rt: HostRuntime) -> Result<(), Fail> {
-    let half = entry(x(), Literal::Fits(1), Literal::Fits(2));
-    let point = Point::of(rt.alloc(), &[half], false)?;
-
-    // 2*x + 1 >= 2 and not x = 1, where x is 1/2.
-    let twice = product(rt.alloc(), number(Literal::Fits(2)), named(x()))?;
-    let term = sum(rt.alloc(), twice, number(Literal::Fits(1)))?;
+/// 2*x + 1 >= 2 and not x = 1.
+fn answered(alloc: Global) -> Result<Formula, AllocError>
+    ensures proper { IfOk result (λ f. IsProperFormula (formula_tree f)) }
+    ensures simple { IfOk result (λ f. IsSimple (formula_tree f)) }
+{
+    let twice = product(alloc, number(Literal::Fits(2)), named(x()))?;
+    let term = sum(alloc, twice, number(Literal::Fits(1)))?;
     let left = compare(Relation::AtLeast, term, number(Literal::Fits(2)));
     let right = compare(Relation::Equal, named(x()), number(Literal::Fits(1)));
-    let formula = both(rt.alloc(), left, negation(rt.alloc(), right)?)?;
-    assert_eq!(rt; truth_at(&formula, &point), Ok(true));
+    both(alloc, left, negated(alloc, right)?)
+}
 
-    // What stands after a false comparison is calculated too, and y has no value here.
+/// x < 0 and y <> M + 1.
+fn overflowing(alloc: Global) -> Result<Formula, AllocError>
+    ensures proper { IfOk result (λ f. IsProperFormula (formula_tree f)) }
+    ensures simple { IfOk result (λ f. IsSimple (formula_tree f)) }
+{
     let left = compare(Relation::Less, named(x()), number(Literal::Fits(0)));
     let right = compare(Relation::Differs, named(y()), number(Literal::Past));
-    let formula = both(rt.alloc(), left, right)?;
+    both(alloc, left, right)
+}
+
+#[test]
+fn truths(rt: HostRuntime) -> Result<(), Fail> {
+    let point = Point::of(rt.alloc(), &[half()], false)?;
+    let formula = answered(rt.alloc())?;
+    assert_eq!(rt; truth_at(&formula, &point), Ok(true));
+
+    // What stands after a false comparison is calculated too.
+    let formula = overflowing(rt.alloc())?;
     assert_eq!(rt; truth_at(&formula, &point), Err(EvalError::Overflow));
-    assert!(rt; !is_valued(rt.alloc(), &formula, &[half])?);
+    Ok(())
+}
+
+#[test]
+fn names_with_values(rt: HostRuntime) -> Result<(), Fail> {
+    let formula = answered(rt.alloc())?;
+    assert!(rt; is_valued(rt.alloc(), &formula, &[half()])?);
+    let formula = overflowing(rt.alloc())?;
+    assert!(rt; !is_valued(rt.alloc(), &formula, &[half()])?);
     Ok(())
 }
 

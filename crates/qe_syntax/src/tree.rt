@@ -70,7 +70,6 @@ pub fn negative(alloc: Global, term: Term) -> Result<Term, AllocError>
 }
 
 /// A formula as it is written. A conjunction or a disjunction has at least two members.
-#[derive(Drop)]
 #[cycle(formula)]
 pub enum Formula {
     True,
@@ -87,6 +86,22 @@ pub enum Formula {
     Ex(Name, Box<Formula>),
     All(Name, Box<Formula>),
     Named(Name),
+}
+
+// As the derived one, in fewer arms: each may have its own room on the stack, at each level of a deep formula.
+impl Drop for Formula {
+    fn drop(self) {
+        match self {
+            Formula::True | Formula::False | Formula::Named(_) => (),
+            Formula::Compare(_, _left, _right) => (),
+            Formula::Cong(_left, _right, _modulus) | Formula::Ncong(_left, _right, _modulus) => (),
+            Formula::And(_members) | Formula::Or(_members) => (),
+            Formula::Not(_inner) | Formula::Ex(_, _inner) | Formula::All(_, _inner) => (),
+            Formula::Impl(_left, _right)
+            | Formula::Repl(_left, _right)
+            | Formula::Equiv(_left, _right) => (),
+        }
+    }
 }
 
 /// A list of formulas.

@@ -35,7 +35,11 @@ pub fn statement(alloc: Global, tokens: &[Token]) -> Result<Statement, ReadError
     let Some(printed) = end(rest) else {
         return Err(ReadError::Syntax);
     };
-    said(alloc, Command::Holds(Box::into_inner(formula), entries), printed)
+    said(
+        alloc,
+        Command::Holds(Box::into_inner(formula), entries),
+        printed,
+    )
 }
 
 /// The statement that is this command.

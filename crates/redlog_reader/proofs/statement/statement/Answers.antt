@@ -24,6 +24,6 @@ returns-in_default-end-clause-refused c =
 pub returns-clause-found : goal.returns-clause-found
 returns-clause-found c =
     IfOk-weaker c.said.result _ _ (λ s is.
-        found_statement c.in-Some.ensures.value c.in-Some-after.ensures.value c.in_ok-formula.ensures.found c.in-Some-after-2.ensures.value c.in_ok-entries.ensures.found c.in-Some-end.printed c.in-Some-end.ensures
-        (is ∙ ap (λ (f : FormulaTree). record { action = Say (Holds f c.in_ok-entries.entries); printed = c.in-Some-end.printed }) (ap formula_tree c.into_inner.ensures)))
+    found_statement c.in-Some.ensures.value c.in-Some-after.ensures.value c.in_ok-formula.ensures.found c.in-Some-after-2.ensures.value c.in_ok-entries.ensures.found c.in-Some-end.printed c.in-Some-end.ensures
+    (is ∙ ap (λ (f : FormulaTree). record { action = Say (Holds f c.in_ok-entries.entries); printed = c.in-Some-end.printed }) (ap formula_tree c.into_inner.ensures)))
     c.said.ensures.said
