@@ -1,6 +1,8 @@
 //! Reads a script of Redlog's language from standard input and answers its statements on standard output.
 #![tactic(auto)]
 
+ghost use Rattle.std.specs.Prelude.{◌≡◌, ◌⊎◌, IfErr};
+
 mod answer;
 mod read;
 mod run;
@@ -26,14 +28,18 @@ fn main(rt: HostRuntime) -> ExitCode {
     ExitCode::from(status.number())
 }
 
-/// The words after the program's name.
-fn words(rt: &HostRuntime) -> Result<Vec<String>, Status> {
+/// The words after the program's name, or the status that the process ends with.
+fn words(rt: &HostRuntime) -> Result<Vec<String>, Status>
+    ensures { IfErr result (λ status. (status ≡ Status.Memory) ⊎ (status ≡ Status.Usage)) }
+{
     let args = env::args(rt).map_err(status_of_words)?;
     args.skip(1).collect(rt.alloc()).map_err(|_| Status::Memory)
 }
 
 /// Words that are no text are not of the form that the program takes.
-fn status_of_words(error: io::Error) -> Status {
+fn status_of_words(error: io::Error) -> Status
+    ensures { (result ≡ Status.Memory) ⊎ (result ≡ Status.Usage) }
+{
     match error.kind() {
         io::ErrorKind::OutOfMemory => Status::Memory,
         _ => Status::Usage,
