@@ -1,7 +1,8 @@
 //! Reads a script of Redlog's language from standard input and answers its statements on standard output.
 #![tactic(auto)]
 
-ghost use Rattle.std.specs.Prelude.{◌≡◌, ◌⊎◌, IfErr};
+ghost use Rattle.std.specs.Prelude.{◌≡◌, ◌≢◌, ◌⊎◌, IfErr};
+ghost use Rattle.std.specs.IoError.{error_kind};
 
 mod answer;
 mod read;
@@ -15,8 +16,9 @@ use qe_io::{StdSink, StdSource};
 use run::run;
 use status::Status;
 use std::alloc::Global;
+use std::env;
+use std::io::{self, ErrorKind};
 use std::process::ExitCode;
-use std::{env, io};
 
 fn main(rt: HostRuntime) -> ExitCode {
     let mut source = StdSource::new(rt.stdin());
@@ -38,10 +40,11 @@ fn words(rt: &HostRuntime) -> Result<Vec<String>, Status>
 
 /// Words that are no text are not of the form that the program takes.
 fn status_of_words(error: io::Error) -> Status
-    ensures { (result ≡ Status.Memory) ⊎ (result ≡ Status.Usage) }
+    ensures memory { error_kind error ≡ ErrorKind.OutOfMemory → result ≡ Status.Memory }
+    ensures usage { error_kind error ≢ ErrorKind.OutOfMemory → result ≡ Status.Usage }
 {
     match error.kind() {
-        io::ErrorKind::OutOfMemory => Status::Memory,
+        ErrorKind::OutOfMemory => Status::Memory,
         _ => Status::Usage,
     }
 }
