@@ -12,3 +12,4 @@ pub mod NegationNormal
 pub mod Tree
 pub mod Laws
 pub mod Answer
+pub mod Sizes

@@ -1,2 +1,5 @@
 pub mod Names
 pub mod Bindings
+pub mod Trees
+pub mod Shapes
+pub mod Makers

@@ -2,7 +2,13 @@
 #![tactic(auto)]
 
 mod bindings;
+mod maker;
 mod names;
+mod shape;
+mod tree;
 
 pub use bindings::{BindError, Bindings};
+pub use maker::{MakeError, Maker};
 pub use names::{Names, NamesError};
+pub use shape::{Ids, Shape};
+pub use tree::{Tree, Trees};

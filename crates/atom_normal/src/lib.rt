@@ -1,0 +1,6 @@
+//! Stub.
+#![tactic(auto)]
+
+mod atom;
+
+pub use atom::{Atom, Context, Rel};

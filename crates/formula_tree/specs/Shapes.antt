@@ -1,0 +1,44 @@
+-- The top of a resolved formula over the ids of its members, and the tree that it stands for.
+use Rattle.std.specs.Prelude.{ℕ, ◌<◌, ℤ, pos, ◌<ℤ◌, List, [], ◌∷◌, map, Bool}
+use Rattle.std.specs.List.{AllByRecursion}
+use Rattle.formula_meaning.specs.Formula.{Formula, Formulas, Yes, No, One, Not, And, Or, Impl, Repl, Equiv, Ex, All, none, also}
+use Rattle.formula_meaning.specs.Tree.{Tree}
+use Rattle.atom_normal.specs.declared.atom.Atom.{Atom}
+use Rattle.atom_normal.specs.declared.atom.Atom.TheVariants as atom
+use Rattle.atom_normal.specs.Atoms.{atom_of, IsProperAtom}
+use Rattle.formula_tree.specs.declared.shape.Shape.{Shape}
+use Rattle.formula_tree.specs.declared.shape.Shape.TheVariants as shape
+use Rattle.formula_tree.specs.Trees.{members}
+
+-- the tree of the shape, where each id stands for its tree
+abbrev pub tree_over : {Id : Type 0} → (Id → Tree) → Shape Id → Tree
+tree_over tree shape.True = Yes
+tree_over tree shape.False = No
+tree_over tree (shape.One a) = One (atom_of a)
+tree_over tree (shape.And ids) = And (members (map tree ids))
+tree_over tree (shape.Or ids) = Or (members (map tree ids))
+tree_over tree (shape.Not f) = Not (tree f)
+tree_over tree (shape.Impl f g) = Impl (tree f) (tree g)
+tree_over tree (shape.Repl f g) = Repl (tree f) (tree g)
+tree_over tree (shape.Equiv f g) = Equiv (tree f) (tree g)
+tree_over tree (shape.Ex x f) = Ex x.number (tree f)
+tree_over tree (shape.All x f) = All x.number (tree f)
+
+-- each id of the shape has P
+abbrev pub AllIds : {Id : Type 0} → (Id → Type 0) → Shape Id → Type 0
+AllIds P shape.True = Unit {0}
+AllIds P shape.False = Unit {0}
+AllIds P (shape.One a) = Unit {0}
+AllIds P (shape.And ids) = AllByRecursion P ids
+AllIds P (shape.Or ids) = AllByRecursion P ids
+AllIds P (shape.Not f) = P f
+AllIds P (shape.Impl f g) = P f × P g
+AllIds P (shape.Repl f g) = P f × P g
+AllIds P (shape.Equiv f g) = P f × P g
+AllIds P (shape.Ex x f) = P f
+AllIds P (shape.All x f) = P f
+
+-- the atom of the shape, if it is one, is proper
+abbrev pub IsProperShape : {Id : Type 0} → Shape Id → Type 0
+IsProperShape (shape.One a) = IsProperAtom a
+IsProperShape _ = Unit {0}
