@@ -9,3 +9,4 @@ pub mod TermAt
 pub mod Lookups
 pub mod Steps
 pub mod Determined
+pub mod Equal

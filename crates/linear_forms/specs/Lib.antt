@@ -2,3 +2,4 @@ pub mod Terms
 pub mod Linear
 pub mod Merging
 pub mod Values
+pub mod Equality
