@@ -19,7 +19,7 @@ pub enum Rel {
 }
 
 /// An atom.
-#[derive(Debug, Drop)]
+#[derive(Debug, PartialEq, Eq, Hash, Drop)]
 pub enum Atom {
     Compare(Rel, Linear),
     Congruent {

@@ -1,5 +1,9 @@
+ghost use Rattle.std.specs.Cmp.Lexicographic.{pointwise, lists_per, lists_equiv};
+ghost use Rattle.std.specs.Hash as fed;
+
 use atom_normal::Atom;
 use linear_forms::VarId;
+use std::hash::{Hash, Hasher};
 use std::marker::Model;
 
 /// A list of ids of formulas.
@@ -9,11 +13,38 @@ pub struct Ids<Id> {
 }
 
 impl<Id> Model for Ids<Id> {
+    ghost use Rattle.std.specs.Coded.{coded_list};
     ghost use Rattle.std.specs.Prelude.{List};
 
     ghost Value = { List Id };
 
+    ghost coded = { coded_list Id.code };
+
     ghost view = { λ a. a.list.items };
+}
+
+impl<Id: PartialEq> PartialEq for Ids<Id> {
+    ghost eq = { pointwise Id.eq };
+
+    ghost laws = { lists_per Id.laws };
+
+    fn eq(&self, other: &Ids<Id>) -> bool {
+        self.list == other.list
+    }
+}
+
+impl<Id: Eq> Eq for Ids<Id> {
+    ghost laws = { lists_equiv Id.Eq.laws };
+}
+
+impl<Id: Hash> Hash for Ids<Id> {
+    ghost hash_input = { fed.slice Id.hash_input };
+
+    ghost respects_eq = { (fed.items_Alike (record { fed = Id.respects_eq })).fed };
+
+    fn hash<H: Hasher>(&self, state: &mut H) {
+        self.list.hash(state);
+    }
 }
 
 impl<Id> Ids<Id> {
@@ -35,7 +66,7 @@ impl<Id> Ids<Id> {
 }
 
 /// The top of a resolved formula, over the ids of its members.
-#[derive(Drop)]
+#[derive(PartialEq, Eq, Hash, Drop)]
 pub enum Shape<Id> {
     True,
     False,
