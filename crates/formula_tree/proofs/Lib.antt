@@ -1,1 +1,3 @@
 pub mod TreeEquations
+pub mod Shapes
+pub mod Tells

@@ -1,0 +1,48 @@
+-- The tree of a shape rests on the trees of its ids alone, and tells the shape where they tell the ids.
+use Rattle.std.proofs.Common.{◌≡◌, ℕ, List, [], ◌∷◌, refl, ap, sym, ◌∙◌}
+use Rattle.std.specs.Prelude.{map, pos, ◌<ℤ◌, ℤ, unsigned_abs, Bool}
+use Rattle.std.specs.List.{AllByRecursion}
+use Rattle.formula_meaning.specs.Formula.{Formulas, Yes, No, One, Not, And, Or, Impl, Repl, Equiv, Ex, All, none, also}
+use Rattle.formula_meaning.specs.Tree.{Tree}
+use Rattle.formula_tree.specs.declared.shape.Shape.{Shape}
+use Rattle.formula_tree.specs.declared.shape.Shape.TheVariants as shape
+use Rattle.formula_tree.specs.Trees.{members}
+use Rattle.formula_tree.specs.Shapes.{tree_over, AllIds, IsProperShape}
+
+module _ {Id : Type 0} where
+  -- ids with the same trees, one after another
+  pub same_members : (t u : Id → Tree) (ids : List Id) → AllByRecursion (λ id. t id ≡ u id) ids → members (map t ids) ≡ members (map u ids)
+  same_members t u [] h = refl
+  same_members t u (id ∷ ids) h = λ i. also (h.0 i) (same_members t u ids h.1 i)
+
+  -- a shape whose ids have the same trees has the same tree
+  pub over_same : (t u : Id → Tree) (s : Shape Id) → AllIds (λ id. t id ≡ u id) s → tree_over t s ≡ tree_over u s
+  over_same t u shape.True h = refl
+  over_same t u shape.False h = refl
+  over_same t u (shape.One a) h = refl
+  over_same t u (shape.And ids) h = ap And (same_members t u ids h)
+  over_same t u (shape.Or ids) h = ap Or (same_members t u ids h)
+  over_same t u (shape.Not f) h = ap Not h
+  over_same t u (shape.Impl f g) h = λ i. Impl (h.0 i) (h.1 i)
+  over_same t u (shape.Repl f g) h = λ i. Repl (h.0 i) (h.1 i)
+  over_same t u (shape.Equiv f g) h = λ i. Equiv (h.0 i) (h.1 i)
+  over_same t u (shape.Ex x f) h = ap (Ex x.number) h
+  over_same t u (shape.All x f) h = ap (All x.number) h
+
+  -- what each id has, each id of a list has
+  pub all_map : (P Q : Id → Type 0) → ((id : Id) → P id → Q id) → (ids : List Id) → AllByRecursion P ids → AllByRecursion Q ids
+  all_map P Q k [] h = tt
+  all_map P Q k (id ∷ ids) h = (k id h.0, all_map P Q k ids h.1)
+
+  pub all_ids_map : (P Q : Id → Type 0) → ((id : Id) → P id → Q id) → (s : Shape Id) → AllIds P s → AllIds Q s
+  all_ids_map P Q k shape.True h = tt
+  all_ids_map P Q k shape.False h = tt
+  all_ids_map P Q k (shape.One a) h = tt
+  all_ids_map P Q k (shape.And ids) h = all_map P Q k ids h
+  all_ids_map P Q k (shape.Or ids) h = all_map P Q k ids h
+  all_ids_map P Q k (shape.Not f) h = k f h
+  all_ids_map P Q k (shape.Impl f g) h = (k f h.0, k g h.1)
+  all_ids_map P Q k (shape.Repl f g) h = (k f h.0, k g h.1)
+  all_ids_map P Q k (shape.Equiv f g) h = (k f h.0, k g h.1)
+  all_ids_map P Q k (shape.Ex x f) h = k f h
+  all_ids_map P Q k (shape.All x f) h = k f h

@@ -1,0 +1,43 @@
+-- Two shapes with one tree are one shape, where the trees of their ids tell the ids apart.
+use Rattle.std.proofs.Common.{◌≡◌, ℕ, List, [], ◌∷◌, refl, ap, sym, ◌∙◌}
+use Rattle.std.specs.Prelude.{map, pos, negsuc, zero, suc, ◌<ℤ◌, ℤ, unsigned_abs, Bool, true, false}
+use Rattle.std.specs.List.{AllByRecursion}
+use Rattle.linear_forms.specs.declared.form.VarId.{VarId}
+use Rattle.formula_meaning.specs.Form.{Form}
+use Rattle.formula_meaning.specs.Atom as meaning
+use Rattle.formula_meaning.specs.Formula.{Formulas, Yes, No, One, Not, And, Or, Impl, Repl, Equiv, Ex, All, none, also}
+use Rattle.formula_meaning.specs.Tree.{Tree}
+use Rattle.atom_normal.specs.declared.atom.Rel.{Rel}
+use Rattle.atom_normal.specs.declared.atom.Rel.TheVariants as rel
+use Rattle.atom_normal.specs.declared.atom.Atom.{Atom}
+use Rattle.atom_normal.specs.declared.atom.Atom.TheVariants as atom
+use Rattle.atom_normal.specs.Atoms.{atom_of, relation_of, IsProperAtom}
+use Rattle.formula_tree.specs.declared.shape.Shape.{Shape}
+use Rattle.formula_tree.specs.declared.shape.Shape.TheVariants as shape
+use Rattle.formula_tree.specs.Trees.{members}
+use Rattle.formula_tree.specs.Shapes.{tree_over, AllIds, IsProperShape}
+
+module _ {Id : Type 0} (t : Id → Tree) where
+  pub members_tell : (ids more : List Id) → AllByRecursion (λ a. (b : Id) → t a ≡ t b → a ≡ b) ids → members (map t ids) ≡ members (map t more) → ids ≡ more
+  members_tell [] [] h e = refl
+  members_tell [] (b ∷ bs) h e = cc
+  members_tell (a ∷ rest) [] h e = cc
+  members_tell (a ∷ rest) (b ∷ bs) h e =
+      let first : t a ≡ t b = cc in
+      let others : members (map t rest) ≡ members (map t bs) = cc in
+      λ i. (h.0 b first i) ∷ (members_tell rest bs h.1 others i)
+
+  pub over_tells : (atoms : (a b : Atom) → IsProperAtom a → IsProperAtom b → atom_of a ≡ atom_of b → a ≡ b)
+      (s r : Shape Id) → IsProperShape s → IsProperShape r → AllIds (λ a. (b : Id) → t a ≡ t b → a ≡ b) s → tree_over t s ≡ tree_over t r → s ≡ r
+  over_tells atoms shape.True shape.True p q h e = refl
+  over_tells atoms shape.False shape.False p q h e = refl
+  over_tells atoms (shape.One a) (shape.One b) p q h e = ap shape.One (atoms a b p q cc)
+  over_tells atoms (shape.And fs) (shape.And gs) p q h e = ap shape.And (members_tell fs gs h cc)
+  over_tells atoms (shape.Or fs) (shape.Or gs) p q h e = ap shape.Or (members_tell fs gs h cc)
+  over_tells atoms (shape.Not f) (shape.Not g) p q h e = ap shape.Not (h g cc)
+  over_tells atoms (shape.Impl f g) (shape.Impl f2 g2) p q h e = let d : t f ≡ t f2 = cc in let k : t g ≡ t g2 = cc in λ i. shape.Impl (h.0 f2 d i) (h.1 g2 k i)
+  over_tells atoms (shape.Repl f g) (shape.Repl f2 g2) p q h e = let d : t f ≡ t f2 = cc in let k : t g ≡ t g2 = cc in λ i. shape.Repl (h.0 f2 d i) (h.1 g2 k i)
+  over_tells atoms (shape.Equiv f g) (shape.Equiv f2 g2) p q h e = let d : t f ≡ t f2 = cc in let k : t g ≡ t g2 = cc in λ i. shape.Equiv (h.0 f2 d i) (h.1 g2 k i)
+  over_tells atoms (shape.Ex x f) (shape.Ex y g) p q h e = let d : t f ≡ t g = cc in let k : x.number ≡ y.number = cc in λ i. shape.Ex (record { number = k i }) (h g d i)
+  over_tells atoms (shape.All x f) (shape.All y g) p q h e = let d : t f ≡ t g = cc in let k : x.number ≡ y.number = cc in λ i. shape.All (record { number = k i }) (h g d i)
+  over_tells atoms s r p q h e = cc
