@@ -1,3 +1,4 @@
 pub mod TreeEquations
 pub mod Shapes
 pub mod Tells
+pub mod AtomsTell

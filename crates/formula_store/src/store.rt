@@ -1,0 +1,4 @@
+/// Formulas, each kept once.
+pub struct Store {
+    last: usize,
+}
