@@ -1,16 +1,16 @@
 -- Atoms are true or not, and the opposite atom has the opposite truth.
-use Rattle.std.proofs.Common.{◌≡◌, ℕ, ◌<◌, ◌∙◌, arith, ◌⊎◌, inl, inr, ⊎_elim, ◌↔◌}
+use Rattle.std.proofs.Common.{◌≡◌, ℕ, ◌<◌, ◌∙◌, arith, ◌⊎◌, inl, inr, ⊎_elim, ◌↔◌, true, false}
 use Rattle.std.proofs.Math.IntN.{ℤ, pos, ◌*ℤ◌}
 use Rattle.std.specs.Prelude.{◌<ℤ◌, ◌≤ℤ◌}
 use Rattle.std.proofs.lemmas.Int.{ints}
-use Rattle.exact_numbers.specs.Divides.{Divides as Multiple, residue_of}
+use Rattle.exact_numbers.specs.Divides.{Divides, residue_of}
 use Rattle.exact_numbers.proofs.Ring.{mul_comm}
 use Rattle.exact_numbers.proofs.Order.{by_order, by_less, by_zero, mul_positive}
 use Rattle.exact_numbers.proofs.Floor.{divides_from_residue, residue_of_multiple}
 use Rattle.formula_meaning.specs.Context.{Context, Fields, Integers}
 use Rattle.formula_meaning.specs.Point.{Point, Of}
 use Rattle.formula_meaning.specs.Form.{Form, value}
-use Rattle.formula_meaning.specs.Atom.{Atom, Compare, Congruent, Incongruent, Relation, Equals, Differs, Below, AtMost, Above, AtLeast, Relates, Says, AtomIn, Divides, opposite, opposite_relation}
+use Rattle.formula_meaning.specs.Atom.{Atom, Compare, Congruent, Relation, Equals, Differs, Below, AtMost, Above, AtLeast, Relates, Says, AtomIn, IsMultiple, opposite, opposite_relation}
 
 abbrev pub IsDecided : Type 0 → Type 0
 IsDecided P = P ⊎ ¬ P
@@ -36,21 +36,20 @@ relation_decided AtMost a b = at_most_decided a b
 relation_decided Above a b = less_decided b a
 relation_decided AtLeast a b = at_most_decided b a
 
-divides_decided : (n : ℕ) (f : Form) (p : Point ℕ) → 0 < n → p.below ≡ 1 → IsDecided (Divides n f p)
-divides_decided n f p h k =
+multiple_decided : (n : ℕ) (f : Form) (p : Point ℕ) → 0 < n → p.below ≡ 1 → IsDecided (IsMultiple n f p)
+multiple_decided n f p h k =
     let a : pos 0 <ℤ pos n = omega (arith, ints) in
     let b : pos 0 <ℤ pos p.below = omega (arith, ints) in
     let m : pos 0 <ℤ (pos n *ℤ pos p.below) = mul_positive a b in
     by_zero (residue_of (value f p) (pos n *ℤ pos p.below))
-    (λ z. let d : Multiple (pos n *ℤ pos p.below) (value f p) = divides_from_residue m z in inl (d.quotient, d.exact ∙ mul_comm (pos n *ℤ pos p.below) d.quotient))
+    (λ z. let d : Divides (pos n *ℤ pos p.below) (value f p) = divides_from_residue m z in inl (d.quotient, d.exact ∙ mul_comm (pos n *ℤ pos p.below) d.quotient))
     (λ z. inr (λ d. z (residue_of_multiple m (record { quotient = d.0; exact = d.1 ∙ mul_comm d.0 (pos n *ℤ pos p.below) }))))
 
 pub atom_decided : (c : Context) (a : Atom) (p : Point ℕ) → AtomIn c a → Of c p → IsDecided (Says a p)
 atom_decided c (Compare r f) p h o = relation_decided r (value f p) (pos 0)
-atom_decided Fields (Congruent n f) p h o = absurd h
-atom_decided Integers (Congruent n f) p h o = divides_decided n f p h o
-atom_decided Fields (Incongruent n f) p h o = absurd h
-atom_decided Integers (Incongruent n f) p h o = not_decided (divides_decided n f p h o)
+atom_decided Fields (Congruent holds n f) p h o = absurd h
+atom_decided Integers (Congruent true n f) p h o = multiple_decided n f p h o
+atom_decided Integers (Congruent false n f) p h o = not_decided (multiple_decided n f p h o)
 
 relation_opposite : (r : Relation) (a b : ℤ) → Relates (opposite_relation r) a b ↔ ¬ (Relates r a b)
 relation_opposite Equals a b = (λ h. h, λ h. h)
@@ -62,9 +61,9 @@ relation_opposite AtLeast a b = (λ (h : a <ℤ b) (k : b ≤ℤ a). omega (arit
 
 pub atom_opposite : (c : Context) (a : Atom) (p : Point ℕ) → AtomIn c a → Of c p → Says (opposite a) p ↔ ¬ (Says a p)
 atom_opposite c (Compare r f) p h o = relation_opposite r (value f p) (pos 0)
-atom_opposite c (Congruent n f) p h o = (λ t. t, λ t. t)
-atom_opposite c (Incongruent n f) p h o = (λ d m. m d, λ m. ⊎_elim (λ d. d) (λ n. absurd (m n)) (atom_decided c (Congruent n f) p (congruent_in c n f h) o))
+atom_opposite c (Congruent true n f) p h o = (λ t. t, λ t. t)
+atom_opposite c (Congruent false n f) p h o = (λ d m. m d, λ m. ⊎_elim (λ d. d) (λ n. absurd (m n)) (atom_decided c (Congruent true n f) p (congruent_in c n f h) o))
   where
-    congruent_in : (c : Context) (n : ℕ) (f : Form) → AtomIn c (Incongruent n f) → AtomIn c (Congruent n f)
+    congruent_in : (c : Context) (n : ℕ) (f : Form) → AtomIn c (Congruent false n f) → AtomIn c (Congruent true n f)
     congruent_in Fields n f h = h
     congruent_in Integers n f h = h

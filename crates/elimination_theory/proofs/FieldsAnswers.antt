@@ -5,13 +5,14 @@ use Rattle.formula_meaning.specs.Context.{Fields}
 use Rattle.formula_meaning.specs.Point.{Point, Of, move}
 use Rattle.formula_meaning.specs.Form.{Form, coefficient}
 use Rattle.formula_meaning.specs.Shape.{IsPlain}
-use Rattle.formula_meaning.specs.Atom.{Atom, Compare, Congruent, Incongruent, Relation, Equals, Differs, Below, AtMost, Above, AtLeast, AtomIn, mirrored}
+use Rattle.formula_meaning.specs.Atom.{Atom, Compare, Congruent, Relation, Equals, Differs, Below, AtMost, Above, AtLeast, AtomIn, mirrored}
 use Rattle.formula_meaning.specs.Answer.{Answer, Place, Exact, AboveBy, BelowBy, PlusInfinity, MinusInfinity, Periodic, Meets, MeetsAll, Holds}
 use Rattle.formula_meaning.specs.Tree.{Tree, TrueAt, InContext}
 use Rattle.formula_meaning.proofs.Values.{below_move}
 use Rattle.formula_meaning.proofs.EachAtom.{every_map}
 use Rattle.formula_meaning.proofs.ReplacedShape.{plain_stays, every_replaced}
-use Rattle.elimination_theory.specs.FieldsSubstitution.{put_in, just_above, just_below, beside, below_all, beyond, exactly, field_atom, field_substitution, field_substitutions, IsFieldPlace, AreFieldAnswers}
+use Rattle.elimination_theory.specs.Substitution.{form_at, below_all, beyond, exactly}
+use Rattle.elimination_theory.specs.FieldsSubstitution.{just_above, just_below, beside, field_atom, field_substitution, field_substitutions, IsFieldPlace, AreFieldAnswers}
 use Rattle.elimination_theory.proofs.FieldsLine.{both_ways}
 use Rattle.elimination_theory.proofs.FieldsNear.{small_map, large_map}
 use Rattle.elimination_theory.proofs.FieldsSubstitute.{substitution_exact}
@@ -60,14 +61,13 @@ exactly_tree (pos (suc n)) r f v = (tt, tt)
 exactly_tree (negsuc n) r f v = (tt, tt)
 
 atom_tree : (x : ℕ) (s : Place) (a : Atom) → AtomIn Fields a → IsFieldTree (field_atom x s a)
-atom_tree x (Exact e d) (Compare r f) c = exactly_tree (coefficient x f) r f (put_in x e d f)
-atom_tree x (AboveBy e d) (Compare r f) c = beside_tree (coefficient x f) r f (put_in x e d f)
-atom_tree x (BelowBy e d) (Compare r f) c = beside_tree (neg_ℤ (coefficient x f)) r f (put_in x e d f)
+atom_tree x (Exact e d) (Compare r f) c = exactly_tree (coefficient x f) r f (form_at x e d f)
+atom_tree x (AboveBy e d) (Compare r f) c = beside_tree (coefficient x f) r f (form_at x e d f)
+atom_tree x (BelowBy e d) (Compare r f) c = beside_tree (neg_ℤ (coefficient x f)) r f (form_at x e d f)
 atom_tree x PlusInfinity (Compare r f) c = beyond_tree (neg_ℤ (coefficient x f)) r f
 atom_tree x MinusInfinity (Compare r f) c = beyond_tree (coefficient x f) r f
 atom_tree x (Periodic a q) (Compare r f) c = (tt, tt)
-atom_tree x s (Congruent n f) c = absurd c
-atom_tree x s (Incongruent n f) c = absurd c
+atom_tree x s (Congruent holds n f) c = absurd c
 
 -- a substitution stays in the fields
 pub substitution_tree : (x : ℕ) (s : Place) (f : Tree) → IsFieldTree f → IsFieldTree (field_substitution x s f)

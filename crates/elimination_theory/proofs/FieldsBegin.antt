@@ -9,7 +9,7 @@ use Rattle.formula_meaning.specs.Formula.{Yes, No, One, Not, And, Or, Impl, Repl
 use Rattle.formula_meaning.specs.Truth.{AllTrue, SomeTrue}
 use Rattle.formula_meaning.specs.Every.{Every, EveryOf}
 use Rattle.formula_meaning.specs.Shape.{IsPlain, ArePlain}
-use Rattle.formula_meaning.specs.Atom.{Compare, Congruent, Incongruent, Relation, Equals, Differs, Below, AtMost, Above, AtLeast, Relates, Says, AtomIn, mirrored}
+use Rattle.formula_meaning.specs.Atom.{Compare, Congruent, Relation, Equals, Differs, Below, AtMost, Above, AtLeast, Relates, Says, AtomIn, mirrored}
 use Rattle.formula_meaning.specs.Answer.{Place, Exact, AboveBy, BelowBy, PlusInfinity, MinusInfinity, Periodic}
 use Rattle.formula_meaning.specs.Tree.{Tree, Trees, TrueAt, InContext}
 use Rattle.elimination_theory.specs.Side.{Side, Lower, Upper, turned}
@@ -150,8 +150,7 @@ module _ (side : Side) (L : Place → Type 0) (p : Point ℕ) (x : ℕ) (infinit
     formula_begins Yes s c l t = everywhere side L p _ k m infinite (λ j n q b. tt)
     formula_begins No s c l t = absurd t
     formula_begins (One (Compare r f)) s c l t = comparison_begins r f l t
-    formula_begins (One (Congruent n f)) s c l t = absurd c
-    formula_begins (One (Incongruent n f)) s c l t = absurd c
+    formula_begins (One (Congruent holds n f)) s c l t = absurd c
     formula_begins (Not f) s c l t = absurd s
     formula_begins (And fs) s c l t = all_begins fs s c l t
     formula_begins (Or fs) s c l t = some_begins fs s c l t

@@ -12,7 +12,7 @@ use Rattle.formula_meaning.specs.Tree.{Tree, TrueAt, InContext}
 use Rattle.elimination_theory.specs.Side.{Side}
 use Rattle.elimination_theory.specs.FieldsPoints.{field_points}
 use Rattle.elimination_theory.specs.FieldsSubstitution.{field_substitution}
-use Rattle.elimination_theory.specs.FieldsTheorems.{at_place}
+use Rattle.elimination_theory.specs.Substitution.{at_place}
 use Rattle.elimination_theory.specs.Elimination.{trees_at, field_elimination}
 use Rattle.elimination_theory.specs.Decided.{FieldEliminationIsExact}
 use Rattle.elimination_theory.proofs.Listed.{Among}

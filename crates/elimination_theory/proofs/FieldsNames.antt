@@ -10,7 +10,7 @@ use Rattle.formula_meaning.specs.Formula.{Formula, Formulas, Yes, No, One, Not, 
 use Rattle.formula_meaning.specs.Every.{Every, Free, FreeInSome}
 use Rattle.formula_meaning.specs.Replaced.{replaced}
 use Rattle.formula_meaning.specs.Shape.{IsPlain, ArePlain}
-use Rattle.formula_meaning.specs.Atom.{Atom, Compare, Congruent, Incongruent, Relation, Equals, Differs, Below, AtMost, Above, AtLeast, AtomIn, Mentions, mirrored}
+use Rattle.formula_meaning.specs.Atom.{Atom, Compare, Congruent, Relation, Equals, Differs, Below, AtMost, Above, AtLeast, AtomIn, Mentions, mirrored}
 use Rattle.formula_meaning.specs.Answer.{Place, Exact, AboveBy, BelowBy, PlusInfinity, MinusInfinity, Periodic, PlaceMentions}
 use Rattle.formula_meaning.specs.Tree.{Tree, InContext, IsFree}
 use Rattle.formula_meaning.proofs.Coefficients.{coefficient_combine, coefficient_scale, coefficient_without_same, coefficient_without_other}
@@ -20,7 +20,8 @@ use Rattle.elimination_theory.specs.Side.{Side, Lower, Upper, turned}
 use Rattle.elimination_theory.specs.Lists.{same_atom, same_place}
 use Rattle.elimination_theory.specs.Atoms.{atoms_in, atoms_in_all, atoms_of}
 use Rattle.elimination_theory.specs.FieldsPoints.{beside_point, ends_of, comparison_points, atom_points, infinity_of, field_points, form_over, divisor_of}
-use Rattle.elimination_theory.specs.FieldsSubstitution.{put_in, just_above, just_below, beside, below_all, beyond, exactly, field_atom, field_substitution, IsFieldPlace}
+use Rattle.elimination_theory.specs.Substitution.{form_at, below_all, beyond, exactly}
+use Rattle.elimination_theory.specs.FieldsSubstitution.{just_above, just_below, beside, field_atom, field_substitution, IsFieldPlace}
 use Rattle.elimination_theory.specs.Elimination.{trees_at, field_elimination}
 use Rattle.elimination_theory.specs.NamesTheorems.{IsNameOf}
 use Rattle.elimination_theory.proofs.Listed.{Among, among_append, flat_map_among, distinct_among}
@@ -50,8 +51,8 @@ still_has x f y z h = (λ i. h (subst (λ w. coefficient w f ≡ pos 0) i z), h)
 pub scale_has : (a : ℤ) (f : Form) (y : ℕ) → Has (scale a f) y → Has f y
 scale_has a f y h z = h (coefficient_scale y a f ∙ ap (λ w. a *ℤ w) z ∙ mul_zero a)
 
-pub put_in_has : (x : ℕ) (e : Form) (d : ℕ) (f : Form) (y : ℕ) → Has (put_in x e d f) y → HasOther x f y ⊎ Has e y
-put_in_has x e d f y h =
+pub form_at_has : (x : ℕ) (e : Form) (d : ℕ) (f : Form) (y : ℕ) → Has (form_at x e d f) y → HasOther x f y ⊎ Has e y
+form_at_has x e d f y h =
     by_zero (coefficient y e)
     (λ z. inl (without_has x f y (λ w. h (coefficient_combine y (coefficient x f) e (pos d) (without x f) ∙ vanish z w))))
     (λ n. inr n)
@@ -107,23 +108,22 @@ neg_zero a e = omega (arith, ints)
 abbrev pub AtomNames : ℕ → Place → Atom → ℕ → Type 0
 AtomNames x s a y = (¬ (x ≡ y) × Mentions a y) ⊎ PlaceMentions s y
 
-pub put_or_still : (x : ℕ) (e : Form) (d : ℕ) (f : Form) (y : ℕ) → ((coefficient x f ≡ pos 0) × Has f y) ⊎ Has (put_in x e d f) y → HasOther x f y ⊎ Has e y
+pub put_or_still : (x : ℕ) (e : Form) (d : ℕ) (f : Form) (y : ℕ) → ((coefficient x f ≡ pos 0) × Has f y) ⊎ Has (form_at x e d f) y → HasOther x f y ⊎ Has e y
 put_or_still x e d f y (inl t) = inl (still_has x f y t.0 t.1)
-put_or_still x e d f y (inr t) = put_in_has x e d f y t
+put_or_still x e d f y (inr t) = form_at_has x e d f y t
 
-turned_still : (x : ℕ) (e : Form) (d : ℕ) (f : Form) (y : ℕ) → ((neg_ℤ (coefficient x f) ≡ pos 0) × Has f y) ⊎ Has (put_in x e d f) y → HasOther x f y ⊎ Has e y
+turned_still : (x : ℕ) (e : Form) (d : ℕ) (f : Form) (y : ℕ) → ((neg_ℤ (coefficient x f) ≡ pos 0) × Has f y) ⊎ Has (form_at x e d f) y → HasOther x f y ⊎ Has e y
 turned_still x e d f y (inl t) = inl (still_has x f y (neg_zero (coefficient x f) t.0) t.1)
-turned_still x e d f y (inr t) = put_in_has x e d f y t
+turned_still x e d f y (inr t) = form_at_has x e d f y t
 
 field_atom_names : (x : ℕ) (s : Place) (a : Atom) (y : ℕ) → AtomIn Fields a → IsFree (field_atom x s a) y → IsFieldPlace s → AtomNames x s a y
-field_atom_names x (Exact e d) (Compare r f) y c t p = put_or_still x e d f y (exactly_has (coefficient x f) r f (put_in x e d f) y t)
-field_atom_names x (AboveBy e d) (Compare r f) y c t p = put_or_still x e d f y (beside_has (coefficient x f) r f (put_in x e d f) y t)
-field_atom_names x (BelowBy e d) (Compare r f) y c t p = turned_still x e d f y (beside_has (neg_ℤ (coefficient x f)) r f (put_in x e d f) y t)
+field_atom_names x (Exact e d) (Compare r f) y c t p = put_or_still x e d f y (exactly_has (coefficient x f) r f (form_at x e d f) y t)
+field_atom_names x (AboveBy e d) (Compare r f) y c t p = put_or_still x e d f y (beside_has (coefficient x f) r f (form_at x e d f) y t)
+field_atom_names x (BelowBy e d) (Compare r f) y c t p = turned_still x e d f y (beside_has (neg_ℤ (coefficient x f)) r f (form_at x e d f) y t)
 field_atom_names x PlusInfinity (Compare r f) y c t p = let h = beyond_has (neg_ℤ (coefficient x f)) r f y t in inl (still_has x f y (neg_zero (coefficient x f) h.0) h.1)
 field_atom_names x MinusInfinity (Compare r f) y c t p = let h = beyond_has (coefficient x f) r f y t in inl (still_has x f y h.0 h.1)
 field_atom_names x (Periodic a q) (Compare r f) y c t p = absurd p
-field_atom_names x s (Congruent n f) y c t p = absurd c
-field_atom_names x s (Incongruent n f) y c t p = absurd c
+field_atom_names x s (Congruent holds n f) y c t p = absurd c
 
 -- ---- formulas
 
@@ -169,8 +169,7 @@ comparison_point_has side (negsuc n) r t s y h m = end_has side (turned side (mi
 
 atom_point_has : (side : Side) (x : ℕ) (a : Atom) (s : Place) (y : ℕ) → Among (atom_points side x a) s → PlaceMentions s y → ¬ (x ≡ y) × Mentions a y
 atom_point_has side x (Compare r f) s y h m = without_has x f y (comparison_point_has side (coefficient x f) r (without x f) s y h m)
-atom_point_has side x (Congruent n f) s y h m = absurd h
-atom_point_has side x (Incongruent n f) s y h m = absurd h
+atom_point_has side x (Congruent holds n f) s y h m = absurd h
 
 infinity_has : (side : Side) (y : ℕ) → ¬ (PlaceMentions (infinity_of side) y)
 infinity_has Lower y m = m

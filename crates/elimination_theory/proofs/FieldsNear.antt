@@ -12,7 +12,8 @@ use Rattle.formula_meaning.specs.Atom.{Relation, Equals, Differs, Below, AtMost,
 use Rattle.formula_meaning.specs.Answer.{Small, Large}
 use Rattle.formula_meaning.specs.Tree.{TrueAt}
 use Rattle.formula_meaning.proofs.Values.{pos_mul}
-use Rattle.elimination_theory.specs.FieldsSubstitution.{just_above, just_below, below_all}
+use Rattle.elimination_theory.specs.Substitution.{below_all}
+use Rattle.elimination_theory.specs.FieldsSubstitution.{just_above, just_below}
 use Rattle.elimination_theory.proofs.Fractions.{less_at_most, at_most_less, less_less}
 use Rattle.elimination_theory.proofs.FieldsMeet.{pos_positive, magnitude}
 

@@ -10,7 +10,7 @@ use Rattle.formula_meaning.specs.Point.{Point, Of, move, IsSamePoint}
 use Rattle.formula_meaning.specs.Form.{Form, value, coefficient, without, scale}
 use Rattle.formula_meaning.specs.Every.{Every}
 use Rattle.formula_meaning.specs.Shape.{IsPlain}
-use Rattle.formula_meaning.specs.Atom.{Atom, Compare, Congruent, Incongruent, Relation, Equals, Differs, Below, AtMost, Above, AtLeast, Relates, Says, AtomIn, mirrored, form_of}
+use Rattle.formula_meaning.specs.Atom.{Atom, Compare, Congruent, Relation, Equals, Differs, Below, AtMost, Above, AtLeast, Relates, Says, AtomIn, mirrored, form_of}
 use Rattle.formula_meaning.specs.Answer.{Place, Exact, AboveBy, BelowBy, PlusInfinity, MinusInfinity, Periodic, Holds}
 use Rattle.formula_meaning.specs.Tree.{Tree, TrueAt, InContext}
 use Rattle.formula_meaning.proofs.Values.{pos_mul}
@@ -20,7 +20,7 @@ use Rattle.formula_meaning.proofs.PlainTruth.{plain_truth}
 use Rattle.elimination_theory.specs.Side.{Side, Lower, Upper}
 use Rattle.elimination_theory.specs.Atoms.{atoms_of}
 use Rattle.elimination_theory.specs.FieldsSubstitution.{IsFieldPlace}
-use Rattle.elimination_theory.specs.FieldsTheorems.{at_place}
+use Rattle.elimination_theory.specs.Substitution.{at_place}
 use Rattle.elimination_theory.specs.FieldsSamples.{NoCritical, IsJustPast, IsJustShort, IsBelowAll, IsAboveAll, IsFieldSample}
 use Rattle.elimination_theory.proofs.Listed.{among_some}
 use Rattle.elimination_theory.proofs.Fractions.{less_at_most, at_most_less}
@@ -106,8 +106,7 @@ module _ (side : Side) (p : Point ℕ) (x : ℕ) (j : ℤ) (n : ℕ) (k : ℤ) (
       ((i : ℤ) (l : ℕ) → 0 < l → NotAfter side (j *ℤ pos l) (i *ℤ pos n) → NotAfter side (i *ℤ pos m) (k *ℤ pos l) → ¬ (¬ (coefficient x (form_of a) ≡ pos 0) × (value (form_of a) (move nat_eq p x i l) ≡ pos 0))) →
       Says a (move nat_eq p x j n) → Says a (move nat_eq p x k m)
   atom_stays (Compare r f) c clear t = comparison_stays r f clear t
-  atom_stays (Congruent l f) c clear t = absurd c
-  atom_stays (Incongruent l f) c clear t = absurd c
+  atom_stays (Congruent holds l f) c clear t = absurd c
 
 -- a formula that holds at a place is true at a value with no critical value on the way
 way_is_clear : (side : Side) (x : ℕ) (s : Place) (f : Tree) (p : Point ℕ) (k : ℤ) (m : ℕ) → IsOfSide side s → IsPlain f → InContext Fields f → Of Fields p → pos 0 <ℤ pos m →

@@ -10,14 +10,14 @@ use Rattle.formula_meaning.specs.Formula.{One}
 use Rattle.formula_meaning.specs.Every.{Every}
 use Rattle.formula_meaning.specs.Replaced.{replaced}
 use Rattle.formula_meaning.specs.Shape.{IsPlain}
-use Rattle.formula_meaning.specs.Atom.{Atom, Compare, Congruent, Incongruent, Relation, Relates, Says, AtomIn}
+use Rattle.formula_meaning.specs.Atom.{Atom, Compare, Congruent, Relation, Relates, Says, AtomIn}
 use Rattle.formula_meaning.specs.Answer.{Place, Exact, AboveBy, BelowBy, PlusInfinity, MinusInfinity, Periodic, Small, Large, Holds}
 use Rattle.formula_meaning.specs.Tree.{Tree, TrueAt, InContext}
 use Rattle.formula_meaning.proofs.Values.{value_move, value_combine, pos_mul}
 use Rattle.formula_meaning.proofs.EachAtom.{every_map, every_eventually}
 use Rattle.formula_meaning.proofs.PlainTruth.{plain_replaced}
-use Rattle.elimination_theory.specs.FieldsSubstitution.{put_in, beside, beyond, exactly, field_atom, field_substitution, IsFieldPlace}
-use Rattle.elimination_theory.specs.FieldsTheorems.{at_place}
+use Rattle.elimination_theory.specs.Substitution.{form_at, beyond, exactly, at_place}
+use Rattle.elimination_theory.specs.FieldsSubstitution.{beside, field_atom, field_substitution, IsFieldPlace}
 use Rattle.elimination_theory.proofs.FieldsLine.{comparison_still, both_ways, relates_along}
 use Rattle.elimination_theory.proofs.FieldsMeet.{pos_positive, small_some, large_some}
 use Rattle.elimination_theory.proofs.FieldsNear.{small_both, large_both, small_all, large_all, small_map, large_map, above_table, below_table, low_table, high_table, near_above, near_below, low_far, high_far}
@@ -41,12 +41,12 @@ below_value a e t d s c ds v w i j k =
     let q = neg_mul a c in
     omega (arith, ints)
 
-put_in_value : (x : ℕ) (e : Form) (d : ℕ) (f : Form) (p : Point ℕ) → value (put_in x e d f) p ≡ coefficient x f *ℤ value e p +ℤ pos d *ℤ value (without x f) p
-put_in_value x e d f p = value_combine (coefficient x f) e (pos d) (without x f) p
+form_at_value : (x : ℕ) (e : Form) (d : ℕ) (f : Form) (p : Point ℕ) → value (form_at x e d f) p ≡ coefficient x f *ℤ value e p +ℤ pos d *ℤ value (without x f) p
+form_at_value x e d f p = value_combine (coefficient x f) e (pos d) (without x f) p
 
-exact_value : (x : ℕ) (e : Form) (d : ℕ) (f : Form) (p : Point ℕ) → value f (move nat_eq p x (value e p) d) ≡ value (put_in x e d f) p
+exact_value : (x : ℕ) (e : Form) (d : ℕ) (f : Form) (p : Point ℕ) → value f (move nat_eq p x (value e p) d) ≡ value (form_at x e d f) p
 exact_value x e d f p =
-    let a = value_move f p x (value e p) d in let b = put_in_value x e d f p in let c = mul_comm (value (without x f) p) (pos d) in
+    let a = value_move f p x (value e p) d in let b = form_at_value x e d f p in let c = mul_comm (value (without x f) p) (pos d) in
     omega (arith, ints)
 
 -- a comparison at a number near a place
@@ -64,17 +64,17 @@ neg_zero : (a : ℤ) → neg_ℤ a ≡ pos 0 → a ≡ pos 0
 neg_zero a e = omega (arith, ints)
 
 comparison_above : (r : Relation) (x : ℕ) (e : Form) (d : ℕ) (f : Form) (p : Point ℕ) → 0 < p.below → 0 < d →
-    Small (λ t s. Relates r (value f (move nat_eq p x (value e p *ℤ pos s +ℤ pos (t * (p.below * d))) (d * s))) (pos 0) ↔ TrueAt Fields (beside (coefficient x f) r f (put_in x e d f)) p)
+    Small (λ t s. Relates r (value f (move nat_eq p x (value e p *ℤ pos s +ℤ pos (t * (p.below * d))) (d * s))) (pos 0) ↔ TrueAt Fields (beside (coefficient x f) r f (form_at x e d f)) p)
 comparison_above r x e d f p pb pd =
-    beside_small r f (put_in x e d f) p d pb pd (λ t s. value f (move nat_eq p x (value e p *ℤ pos s +ℤ pos (t * (p.below * d))) (d * s))) (coefficient x f)
-    (λ t s. above_value (coefficient x f) (value e p) (value (without x f) p) (pos d) (pos s) (pos (t * (p.below * d))) (pos (d * s)) (value (put_in x e d f) p) _ (pos_mul d s) (put_in_value x e d f p) (value_move f p x _ (d * s)))
+    beside_small r f (form_at x e d f) p d pb pd (λ t s. value f (move nat_eq p x (value e p *ℤ pos s +ℤ pos (t * (p.below * d))) (d * s))) (coefficient x f)
+    (λ t s. above_value (coefficient x f) (value e p) (value (without x f) p) (pos d) (pos s) (pos (t * (p.below * d))) (pos (d * s)) (value (form_at x e d f) p) _ (pos_mul d s) (form_at_value x e d f p) (value_move f p x _ (d * s)))
     (λ z t s h. comparison_still r f p x _ (d * s) z (pos_positive (mul-pos pd h)))
 
 comparison_below : (r : Relation) (x : ℕ) (e : Form) (d : ℕ) (f : Form) (p : Point ℕ) → 0 < p.below → 0 < d →
-    Small (λ t s. Relates r (value f (move nat_eq p x (value e p *ℤ pos s -ℤ pos (t * (p.below * d))) (d * s))) (pos 0) ↔ TrueAt Fields (beside (neg_ℤ (coefficient x f)) r f (put_in x e d f)) p)
+    Small (λ t s. Relates r (value f (move nat_eq p x (value e p *ℤ pos s -ℤ pos (t * (p.below * d))) (d * s))) (pos 0) ↔ TrueAt Fields (beside (neg_ℤ (coefficient x f)) r f (form_at x e d f)) p)
 comparison_below r x e d f p pb pd =
-    beside_small r f (put_in x e d f) p d pb pd (λ t s. value f (move nat_eq p x (value e p *ℤ pos s -ℤ pos (t * (p.below * d))) (d * s))) (neg_ℤ (coefficient x f))
-    (λ t s. below_value (coefficient x f) (value e p) (value (without x f) p) (pos d) (pos s) (pos (t * (p.below * d))) (pos (d * s)) (value (put_in x e d f) p) _ (pos_mul d s) (put_in_value x e d f p) (value_move f p x _ (d * s)))
+    beside_small r f (form_at x e d f) p d pb pd (λ t s. value f (move nat_eq p x (value e p *ℤ pos s -ℤ pos (t * (p.below * d))) (d * s))) (neg_ℤ (coefficient x f))
+    (λ t s. below_value (coefficient x f) (value e p) (value (without x f) p) (pos d) (pos s) (pos (t * (p.below * d))) (pos (d * s)) (value (form_at x e d f) p) _ (pos_mul d s) (form_at_value x e d f p) (value_move f p x _ (d * s)))
     (λ z t s h. comparison_still r f p x _ (d * s) (neg_zero (coefficient x f) z) (pos_positive (mul-pos pd h)))
 
 -- a comparison at a number far below, for a slope c against the way out
@@ -106,10 +106,10 @@ comparison_plus r x f p pb =
     (λ t s. plus_value (coefficient x f) t (pos p.below) (value (without x f) p) (pos s) _ (value_move f p x _ s))
     (λ z t s h. comparison_still r f p x _ s (neg_zero (coefficient x f) z) (pos_positive h))
 
-comparison_exact : (r : Relation) (x : ℕ) (e : Form) (d : ℕ) (f : Form) (p : Point ℕ) → 0 < d → Relates r (value f (move nat_eq p x (value e p) d)) (pos 0) ↔ TrueAt Fields (exactly (coefficient x f) r f (put_in x e d f)) p
+comparison_exact : (r : Relation) (x : ℕ) (e : Form) (d : ℕ) (f : Form) (p : Point ℕ) → 0 < d → Relates r (value f (move nat_eq p x (value e p) d)) (pos 0) ↔ TrueAt Fields (exactly (coefficient x f) r f (form_at x e d f)) p
 comparison_exact r x e d f p pd = go (coefficient x f) refl
   where
-    go : (c : ℤ) → coefficient x f ≡ c → Relates r (value f (move nat_eq p x (value e p) d)) (pos 0) ↔ TrueAt Fields (exactly c r f (put_in x e d f)) p
+    go : (c : ℤ) → coefficient x f ≡ c → Relates r (value f (move nat_eq p x (value e p) d)) (pos 0) ↔ TrueAt Fields (exactly c r f (form_at x e d f)) p
     go (pos zero) z = comparison_still r f p x (value e p) d z (pos_positive pd)
     go (pos (suc n)) z = relates_along r (pos 0) (exact_value x e d f p)
     go (negsuc n) z = relates_along r (pos 0) (exact_value x e d f p)
@@ -118,32 +118,27 @@ comparison_exact r x e d f p pd = go (coefficient x f) refl
 
 atom_exact : (x : ℕ) (e : Form) (d : ℕ) (p : Point ℕ) → 0 < d → (a : Atom) → AtomIn Fields a → Says a (move nat_eq p x (value e p) d) ↔ TrueAt Fields (field_atom x (Exact e d) a) p
 atom_exact x e d p pd (Compare r f) c = comparison_exact r x e d f p pd
-atom_exact x e d p pd (Congruent n f) c = absurd c
-atom_exact x e d p pd (Incongruent n f) c = absurd c
+atom_exact x e d p pd (Congruent holds n f) c = absurd c
 
 atom_above : (x : ℕ) (e : Form) (d : ℕ) (p : Point ℕ) → 0 < p.below → 0 < d → (a : Atom) → AtomIn Fields a →
     Small (λ t s. Says a (move nat_eq p x (value e p *ℤ pos s +ℤ pos (t * (p.below * d))) (d * s)) ↔ TrueAt Fields (field_atom x (AboveBy e d) a) p)
 atom_above x e d p pb pd (Compare r f) c = comparison_above r x e d f p pb pd
-atom_above x e d p pb pd (Congruent n f) c = absurd c
-atom_above x e d p pb pd (Incongruent n f) c = absurd c
+atom_above x e d p pb pd (Congruent holds n f) c = absurd c
 
 atom_below : (x : ℕ) (e : Form) (d : ℕ) (p : Point ℕ) → 0 < p.below → 0 < d → (a : Atom) → AtomIn Fields a →
     Small (λ t s. Says a (move nat_eq p x (value e p *ℤ pos s -ℤ pos (t * (p.below * d))) (d * s)) ↔ TrueAt Fields (field_atom x (BelowBy e d) a) p)
 atom_below x e d p pb pd (Compare r f) c = comparison_below r x e d f p pb pd
-atom_below x e d p pb pd (Congruent n f) c = absurd c
-atom_below x e d p pb pd (Incongruent n f) c = absurd c
+atom_below x e d p pb pd (Congruent holds n f) c = absurd c
 
 atom_minus : (x : ℕ) (p : Point ℕ) → 0 < p.below → (a : Atom) → AtomIn Fields a →
     Large (λ t s. Says a (move nat_eq p x (neg_ℤ t *ℤ pos p.below) s) ↔ TrueAt Fields (field_atom x MinusInfinity a) p)
 atom_minus x p pb (Compare r f) c = comparison_minus r x f p pb
-atom_minus x p pb (Congruent n f) c = absurd c
-atom_minus x p pb (Incongruent n f) c = absurd c
+atom_minus x p pb (Congruent holds n f) c = absurd c
 
 atom_plus : (x : ℕ) (p : Point ℕ) → 0 < p.below → (a : Atom) → AtomIn Fields a →
     Large (λ t s. Says a (move nat_eq p x (t *ℤ pos p.below) s) ↔ TrueAt Fields (field_atom x PlusInfinity a) p)
 atom_plus x p pb (Compare r f) c = comparison_plus r x f p pb
-atom_plus x p pb (Congruent n f) c = absurd c
-atom_plus x p pb (Incongruent n f) c = absurd c
+atom_plus x p pb (Congruent holds n f) c = absurd c
 
 -- the truth of a plain formula where each atom says at q what its replacement says at p
 replaced_truth : (by : Atom → Tree) (f : Tree) (p q : Point ℕ) → IsPlain f → Every (λ a. Says a q ↔ TrueAt Fields (by a) p) f → TrueAt Fields f q ↔ TrueAt Fields (replaced by (λ y. y) f) p

@@ -8,7 +8,7 @@ use Rattle.formula_meaning.specs.Formula.{Formula, Formulas, Yes, No, One, Not, 
 use Rattle.formula_meaning.specs.Some.{SomeOf}
 use Rattle.formula_meaning.specs.Every.{Every, EveryOf}
 use Rattle.formula_meaning.specs.Shape.{IsPlain}
-use Rattle.formula_meaning.specs.Atom.{Atom, Compare, Congruent, Incongruent, Relation, Equals, Differs, Below, AtMost, Above, AtLeast, mirrored}
+use Rattle.formula_meaning.specs.Atom.{Atom, Compare, Congruent, Relation, Equals, Differs, Below, AtMost, Above, AtLeast, mirrored}
 use Rattle.formula_meaning.specs.Answer.{Place, Holds}
 use Rattle.formula_meaning.specs.Tree.{Tree, TrueAt, InContext}
 use Rattle.elimination_theory.specs.Side.{Side, Lower, Upper, turned}
@@ -16,7 +16,7 @@ use Rattle.elimination_theory.specs.Lists.{same_atom, same_place}
 use Rattle.elimination_theory.specs.Atoms.{atoms_in, atoms_in_all, atoms_of}
 use Rattle.elimination_theory.specs.FieldsPoints.{beside_point, ends_of, comparison_points, atom_points, infinity_of, field_points}
 use Rattle.elimination_theory.specs.FieldsSubstitution.{IsFieldPlace}
-use Rattle.elimination_theory.specs.FieldsTheorems.{at_place}
+use Rattle.elimination_theory.specs.Substitution.{at_place}
 use Rattle.elimination_theory.proofs.Listed.{Among, some_among, among_some, among_left, among_right, among_flat_map, flat_map_among, distinct_among, among_distinct, atom_same, place_same}
 use Rattle.elimination_theory.proofs.FieldsLine.{under}
 use Rattle.elimination_theory.proofs.LowestTerms.{lowest}
@@ -78,8 +78,7 @@ comparison_place side (negsuc n) r t s h = end_place side (turned side (mirrored
 
 atom_place : (side : Side) (x : ℕ) (a : Atom) (s : Place) → Among (atom_points side x a) s → IsFieldPlace s
 atom_place side x (Compare r f) s h = comparison_place side (coefficient x f) r (without x f) s h
-atom_place side x (Congruent n f) s h = absurd h
-atom_place side x (Incongruent n f) s h = absurd h
+atom_place side x (Congruent holds n f) s h = absurd h
 
 infinity_place : (side : Side) → IsFieldPlace (infinity_of side)
 infinity_place Lower = tt

@@ -8,25 +8,25 @@ use Rattle.elimination_theory.specs.Atoms.{atoms_of}
 use Rattle.elimination_theory.specs.IntegersPoints.{signed, counted, class_points, next_points, atom_starts, integer_scale, integer_span}
 use Rattle.elimination_theory.specs.IntegersTheorems.{IntegerPointsAreCounted}
 
-length-counted : (first n : ℕ) → length (counted first n) ≡ n
-length-counted first zero = refl
-length-counted first (suc n) = let e = length-counted (suc first) n in omega arith
+length_counted : (first n : ℕ) → length (counted first n) ≡ n
+length_counted first zero = refl
+length_counted first (suc n) = let e = length_counted (suc first) n in omega arith
 
-length-next : (side : Side) (l d : ℕ) (starts : List Form) → length (flat_map (next_points side l d) starts) ≡ d * length starts
-length-next side l d [] = omega arith
-length-next side l d (b ∷ starts) =
-    let rest = length-next side l d starts in
+length_next : (side : Side) (l d : ℕ) (starts : List Form) → length (flat_map (next_points side l d) starts) ≡ d * length starts
+length_next side l d [] = omega arith
+length_next side l d (b ∷ starts) =
+    let rest = length_next side l d starts in
     let here = length-append (next_points side l d b) (flat_map (next_points side l d) starts) in
-    let one = length-map (counted 1 d) (λ j. Exact (plus b (signed side (pos j))) l) ∙ length-counted 1 d in
+    let one = length-map (counted 1 d) (λ j. Exact (plus b (signed side (pos j))) l) ∙ length_counted 1 d in
     omega arith
 
-length-points : (side : Side) (l d period : ℕ) (starts : List Form) → length (class_points side period ++ flat_map (next_points side l d) starts) ≡ period + d * length starts
-length-points side l d period starts =
+length_points : (side : Side) (l d period : ℕ) (starts : List Form) → length (class_points side period ++ flat_map (next_points side l d) starts) ≡ period + d * length starts
+length_points side l d period starts =
     let both = length-append (class_points side period) (flat_map (next_points side l d) starts) in
-    let classes = length-map (counted 1 period) (λ j. Periodic (signed side (pos j)) (signed side (neg_ℤ (pos period)))) ∙ length-counted 1 period in
-    let next = length-next side l d starts in
+    let classes = length-map (counted 1 period) (λ j. Periodic (signed side (pos j)) (signed side (neg_ℤ (pos period)))) ∙ length_counted 1 period in
+    let next = length_next side l d starts in
     omega arith
 
 pub points_are_counted : IntegerPointsAreCounted
 points_are_counted side x f =
-    length-points side (integer_scale x f) (integer_span x f) (integer_span x f / integer_scale x f) (flat_map (atom_starts side (integer_scale x f) x) (atoms_of f))
+    length_points side (integer_scale x f) (integer_span x f) (integer_span x f / integer_scale x f) (flat_map (atom_starts side (integer_scale x f) x) (atoms_of f))

@@ -8,7 +8,7 @@ use Rattle.formula_meaning.proofs.EachAtom.{every_map}
 use Rattle.formula_meaning.specs.Some.{SomeOf}
 use Rattle.elimination_theory.specs.Atoms.{atoms_in}
 use Rattle.formula_meaning.specs.Every.{Every}
-use Rattle.elimination_theory.proofs.MoreArithmetic.{down-suc, below-bound, Residue, residue, steps-far, less-or-at_least}
+use Rattle.elimination_theory.proofs.MoreArithmetic.{down_suc, below_bound, Residue, residue, steps_far, less_or_at_least}
 use Rattle.elimination_theory.proofs.IntegerEval.{Eval, Downwards, eval_or, eval_map, every_downwards}
 
 -- a fact that stays one step below unless its number is near: it stays n steps below, or some number of which it holds is near
@@ -17,7 +17,7 @@ descend : (Says Near : ℤ → Type 0) (step n : ℕ) → ((k : ℤ) → Says k 
 descend Says Near step zero one k here = inl (subst Says (omega (arith, ints)) here)
 descend Says Near step (suc n) one k here = elim (one k here) [
   | inl lower ↦ elim (descend Says Near step n one (k -ℤ pos step) lower) [
-    | inl low ↦ inl (subst Says (down-suc k step n) low)
+    | inl low ↦ inl (subst Says (down_suc k step n) low)
     | inr near ↦ inr near
   ]
   | inr near ↦ inr (k, here, near)
@@ -27,14 +27,14 @@ descend Says Near step (suc n) one k here = elim (one k here) [
 abbrev pub Stays : {A : Type 0} → (ℤ → A → Type 0) → ℕ → A → Type 0
 Stays Q step a = (k t : ℤ) → Q k a → Q (k +ℤ pos step *ℤ t) a
 
-steps-down : (k n t : ℤ) → k +ℤ n *ℤ neg_ℤ t ≡ k +ℤ neg_ℤ n *ℤ t
-steps-down k n t = simp ring (omega (arith, ints))
+steps_down : (k n t : ℤ) → k +ℤ n *ℤ neg_ℤ t ≡ k +ℤ neg_ℤ n *ℤ t
+steps_down k n t = simp ring (omega (arith, ints))
 
-steps-back : (k n t : ℤ) → (k +ℤ neg_ℤ n *ℤ t) +ℤ n *ℤ t ≡ k
-steps-back k n t = simp ring (omega (arith, ints))
+steps_back : (k n t : ℤ) → (k +ℤ neg_ℤ n *ℤ t) +ℤ n *ℤ t ≡ k
+steps_back k n t = simp ring (omega (arith, ints))
 
 greater : (v w : ℤ) → (t : ℤ) × (v <ℤ t) × (w <ℤ t)
-greater v w = elim (less-or-at_least v w) [
+greater v w = elim (less_or_at_least v w) [
   | inl less ↦ (w +ℤ pos 1, omega (arith, ints), omega (arith, ints))
   | inr more ↦ (v +ℤ pos 1, omega (arith, ints), omega (arith, ints))
 ]
@@ -67,19 +67,19 @@ module _ {A N : Type 0} (P Q Near : ℤ → A → Type 0) (step : ℕ) (positive
   descent one k here =
       let n : ℕ = unsigned_abs k + (unsigned_abs eval_low.0 + 1) in
       elim (descend (λ i. Eval (P i) f) (λ i. SomeOf (Near i) (atoms_in f)) step n (λ i. eval_or (P i) (P (i -ℤ pos step)) (Near i) f (one i)) k here) [
-        | inl far ↦ inr (in_first_step _ ((eval_low.1 _ (below-bound k eval_low.0 step positive)).0 far))
+        | inl far ↦ inr (in_first_step _ ((eval_low.1 _ (below_bound k eval_low.0 step positive)).0 far))
         | inr near ↦ inl near
       ]
 
   -- what is true below all bounds at k is true far enough down in the residue class of k
   pub far_down : (k : ℤ) → Eval (Q k) f → (u : ℤ) × ((t : ℤ) → u <ℤ t → Eval (P (k +ℤ neg_ℤ (pos step) *ℤ t)) f)
   far_down k here =
-      let far : (v : ℤ) × ((t : ℤ) → v <ℤ t → (k +ℤ neg_ℤ (pos step) *ℤ t) <ℤ eval_low.0) = steps-far k eval_low.0 step positive in
-      (far.0, λ t h. (eval_low.1 _ (far.1 t h)).1 (subst (λ i. Eval (Q i) f) (steps-down k (pos step) t) (eval_stays k (neg_ℤ t) here)))
+      let far : (v : ℤ) × ((t : ℤ) → v <ℤ t → (k +ℤ neg_ℤ (pos step) *ℤ t) <ℤ eval_low.0) = steps_far k eval_low.0 step positive in
+      (far.0, λ t h. (eval_low.1 _ (far.1 t h)).1 (subst (λ i. Eval (Q i) f) (steps_down k (pos step) t) (eval_stays k (neg_ℤ t) here)))
 
   pub from_far_down : (k u : ℤ) → ((t : ℤ) → u <ℤ t → Eval (P (k +ℤ neg_ℤ (pos step) *ℤ t)) f) → Eval (Q k) f
   from_far_down k u true =
-      let far : (v : ℤ) × ((t : ℤ) → v <ℤ t → (k +ℤ neg_ℤ (pos step) *ℤ t) <ℤ eval_low.0) = steps-far k eval_low.0 step positive in
+      let far : (v : ℤ) × ((t : ℤ) → v <ℤ t → (k +ℤ neg_ℤ (pos step) *ℤ t) <ℤ eval_low.0) = steps_far k eval_low.0 step positive in
       let t : (t : ℤ) × (u <ℤ t) × (far.0 <ℤ t) = greater u far.0 in
-      subst (λ i. Eval (Q i) f) (steps-back k (pos step) t.0)
+      subst (λ i. Eval (Q i) f) (steps_back k (pos step) t.0)
       (eval_stays (k +ℤ neg_ℤ (pos step) *ℤ t.0) t.0 ((eval_low.1 _ (far.1 t.0 t.2)).0 (true t.0 t.1)))

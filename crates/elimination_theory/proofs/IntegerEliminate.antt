@@ -7,7 +7,7 @@ use Rattle.formula_meaning.specs.Context.{Integers}
 use Rattle.formula_meaning.specs.Every.{Every}
 use Rattle.formula_meaning.specs.Shape.{IsPlain}
 use Rattle.formula_meaning.specs.Form.{Form, coefficient, plus}
-use Rattle.formula_meaning.specs.Atom.{Atom, Compare, Congruent, Incongruent, Relation, Equals, Differs, Below, AtMost, Above, AtLeast, mirrored, AtomIn}
+use Rattle.formula_meaning.specs.Atom.{Atom, Compare, Congruent, Relation, Equals, Differs, Below, AtMost, Above, AtLeast, mirrored, AtomIn}
 use Rattle.formula_meaning.specs.Answer.{Place, Exact, AboveBy, BelowBy, PlusInfinity, MinusInfinity, Periodic, Holds}
 use Rattle.formula_meaning.specs.Tree.{Tree, InContext}
 use Rattle.formula_meaning.proofs.EachAtom.{every_map}
@@ -16,8 +16,7 @@ use Rattle.elimination_theory.proofs.FieldsLine.{both_ways}
 use Rattle.elimination_theory.specs.Side.{Side, Lower, Upper}
 use Rattle.elimination_theory.specs.Lists.{same_place}
 use Rattle.elimination_theory.specs.Atoms.{atoms_of}
-use Rattle.elimination_theory.specs.FieldsTheorems.{at_place}
-use Rattle.elimination_theory.specs.FieldsSubstitution.{beyond, below_all, exactly, put_in}
+use Rattle.elimination_theory.specs.Substitution.{at_place, beyond, below_all, exactly, form_at}
 use Rattle.elimination_theory.specs.IntegersSubstitution.{integer_atom, integer_guard, guarded_substitution, where_zero, along, put_number}
 use Rattle.elimination_theory.specs.IntegersPoints.{signed, counted, class_points, next_points, points_with, integer_scale, integer_span, integer_points, integer_elimination}
 use Rattle.elimination_theory.specs.IntegersTheorems.{IsPeriodOf, IsIntegerPlace, Suits, IntegerTestPointsSuit, IntegerEliminationIsExact}
@@ -25,125 +24,122 @@ use Rattle.elimination_theory.proofs.FieldsEliminated.{some_place, trees_plain}
 use Rattle.elimination_theory.proofs.IntegerAtom.{}
 use Rattle.elimination_theory.proofs.SomeListed.{EachOf, each_append, each_mapped, each_flat_map, each_distinct, each_among, every_all}
 use Rattle.elimination_theory.proofs.IntegerSides.{Fits}
-use Rattle.elimination_theory.proofs.IntegerSuffice.{formula-spanned, formula-fits, integer_points_suffice}
+use Rattle.elimination_theory.proofs.IntegerSuffice.{formula_spanned, formula_fits, integer_points_suffice}
 use Rattle.elimination_theory.proofs.IntegerHolds.{substitution_holds}
 
 -- ---- the points suit
 
-divides-period : (side : Side) (c : ℤ) (step n : ℕ) → (w : ℤ) × (c *ℤ pos step ≡ w *ℤ pos n) → Divides (pos n) (c *ℤ signed side (neg_ℤ (pos step)))
-divides-period Lower c step n (w, e) = record { quotient = neg_ℤ w; exact = down c (pos step) w (pos n) e }
+divides_period : (side : Side) (c : ℤ) (step n : ℕ) → (w : ℤ) × (c *ℤ pos step ≡ w *ℤ pos n) → Divides (pos n) (c *ℤ signed side (neg_ℤ (pos step)))
+divides_period Lower c step n (w, e) = record { quotient = neg_ℤ w; exact = down c (pos step) w (pos n) e }
   where
     down : (c s w n : ℤ) → c *ℤ s ≡ w *ℤ n → c *ℤ neg_ℤ s ≡ n *ℤ neg_ℤ w
     down c s w n e = let a = mul_neg c s in let b = mul_neg n w in let m = mul_comm n w in omega (arith, ints)
-divides-period Upper c step n (w, e) = record { quotient = w; exact = up c (pos step) w (pos n) e }
+divides_period Upper c step n (w, e) = record { quotient = w; exact = up c (pos step) w (pos n) e }
   where
     up : (c s w n : ℤ) → c *ℤ s ≡ w *ℤ n → c *ℤ neg_ℤ (neg_ℤ s) ≡ n *ℤ w
     up c s w n e = let a = mul_neg c (neg_ℤ s) in let b = mul_neg c s in let m = mul_comm n w in omega (arith, ints)
 
-atom-period : (side : Side) (l step x : ℕ) (a : Atom) → Fits l step x a → IsPeriodOf x (signed side (neg_ℤ (pos step))) a
-atom-period side l step x (Compare r f) fits = tt
-atom-period side l step x (Congruent n f) fits = divides-period side (coefficient x f) step n fits
-atom-period side l step x (Incongruent n f) fits = divides-period side (coefficient x f) step n fits
+atom_period : (side : Side) (l step x : ℕ) (a : Atom) → Fits l step x a → IsPeriodOf x (signed side (neg_ℤ (pos step))) a
+atom_period side l step x (Compare r f) fits = tt
+atom_period side l step x (Congruent holds n f) fits = divides_period side (coefficient x f) step n fits
 
-period-not-zero : (side : Side) (step : ℕ) → 0 < step → ¬ (signed side (neg_ℤ (pos step)) ≡ pos 0)
-period-not-zero Lower step h = λ (e : neg_ℤ (pos step) ≡ pos 0). omega (arith, ints)
-period-not-zero Upper step h = λ (e : neg_ℤ (neg_ℤ (pos step)) ≡ pos 0). omega (arith, ints)
+period_not_zero : (side : Side) (step : ℕ) → 0 < step → ¬ (signed side (neg_ℤ (pos step)) ≡ pos 0)
+period_not_zero Lower step h = λ (e : neg_ℤ (pos step) ≡ pos 0). omega (arith, ints)
+period_not_zero Upper step h = λ (e : neg_ℤ (neg_ℤ (pos step)) ≡ pos 0). omega (arith, ints)
 
 -- the place is one of the integers, for each atom of f
 abbrev IsFor : ℕ → Tree → Place → Type 0
 IsFor x f s = IsIntegerPlace s × Every (Suits x s) f
 
-points-are-for : (side : Side) (x l d : ℕ) (f : Tree) (atoms : List Atom) → 0 < l → 0 < d / l → Every (Fits l (d / l) x) f → EachOf (IsFor x f) (points_with side l d x atoms)
-points-are-for side x l d f atoms scale steps fits =
+points_are_for : (side : Side) (x l d : ℕ) (f : Tree) (atoms : List Atom) → 0 < l → 0 < d / l → Every (Fits l (d / l) x) f → EachOf (IsFor x f) (points_with side l d x atoms)
+points_are_for side x l d f atoms scale steps fits =
     each_append (IsFor x f) (class_points side (d / l)) _
     (each_mapped (IsFor x f) (λ j. Periodic (signed side (pos j)) (signed side (neg_ℤ (pos (d / l))))) (counted 1 (d / l))
-    (λ j. (period-not-zero side (d / l) steps, every_map _ _ (λ a fit. atom-period side l (d / l) x a fit) f fits)))
+    (λ j. (period_not_zero side (d / l) steps, every_map _ _ (λ a fit. atom_period side l (d / l) x a fit) f fits)))
     (each_flat_map (IsFor x f) (next_points side l d) _
     (λ b. each_mapped (IsFor x f) (λ j. Exact (plus b (signed side (pos j))) l) (counted 1 d) (λ j. (scale, every_all _ (λ a. tt) f))))
 
-listed-are-for : (side : Side) (x : ℕ) (f : Tree) → InContext Integers f → EachOf (IsFor x f) (integer_points side x f)
-listed-are-for side x f inside =
-    let s = formula-spanned x f inside in
+listed_are_for : (side : Side) (x : ℕ) (f : Tree) → InContext Integers f → EachOf (IsFor x f) (integer_points side x f)
+listed_are_for side x f inside =
+    let s = formula_spanned x f inside in
     each_distinct same_place (IsFor x f) (points_with side (integer_scale x f) (integer_span x f) x (atoms_of f))
-    (points-are-for side x (integer_scale x f) (integer_span x f) f (atoms_of f) s.scale s.period (formula-fits x f inside))
+    (points_are_for side x (integer_scale x f) (integer_span x f) f (atoms_of f) s.scale s.period (formula_fits x f inside))
 
 pub points_suit : IntegerTestPointsSuit
-points_suit side x f s inside among = each_among (IsFor x f) (integer_points side x f) s (listed-are-for side x f inside) among
+points_suit side x f s inside among = each_among (IsFor x f) (integer_points side x f) s (listed_are_for side x f inside) among
 
 -- ---- what results is plain, with atoms of the integers
 
-guard-plain : (s : Place) → IsPlain (integer_guard s)
-guard-plain (Exact e zero) = tt
-guard-plain (Exact e (suc zero)) = tt
-guard-plain (Exact e (suc (suc n))) = tt
-guard-plain (AboveBy e l) = tt
-guard-plain (BelowBy e l) = tt
-guard-plain PlusInfinity = tt
-guard-plain MinusInfinity = tt
-guard-plain (Periodic j q) = tt
+guard_plain : (s : Place) → IsPlain (integer_guard s)
+guard_plain (Exact e zero) = tt
+guard_plain (Exact e (suc zero)) = tt
+guard_plain (Exact e (suc (suc n))) = tt
+guard_plain (AboveBy e l) = tt
+guard_plain (BelowBy e l) = tt
+guard_plain PlusInfinity = tt
+guard_plain MinusInfinity = tt
+guard_plain (Periodic j q) = tt
 
-guard-inside : (s : Place) → IsIntegerPlace s → InContext Integers (integer_guard s)
-guard-inside (Exact e zero) place = place
-guard-inside (Exact e (suc zero)) place = tt
-guard-inside (Exact e (suc (suc n))) place = place
-guard-inside (AboveBy e l) place = tt
-guard-inside (BelowBy e l) place = tt
-guard-inside PlusInfinity place = tt
-guard-inside MinusInfinity place = tt
-guard-inside (Periodic j q) place = tt
+guard_inside : (s : Place) → IsIntegerPlace s → InContext Integers (integer_guard s)
+guard_inside (Exact e zero) place = place
+guard_inside (Exact e (suc zero)) place = tt
+guard_inside (Exact e (suc (suc n))) place = place
+guard_inside (AboveBy e l) place = tt
+guard_inside (BelowBy e l) place = tt
+guard_inside PlusInfinity place = tt
+guard_inside MinusInfinity place = tt
+guard_inside (Periodic j q) place = tt
 
-below-all-plain : (r : Relation) → IsPlain (below_all r)
-below-all-plain Equals = tt
-below-all-plain Differs = tt
-below-all-plain Below = tt
-below-all-plain AtMost = tt
-below-all-plain Above = tt
-below-all-plain AtLeast = tt
+below_all_plain : (r : Relation) → IsPlain (below_all r)
+below_all_plain Equals = tt
+below_all_plain Differs = tt
+below_all_plain Below = tt
+below_all_plain AtMost = tt
+below_all_plain Above = tt
+below_all_plain AtLeast = tt
 
-below-all-inside : (r : Relation) → InContext Integers (below_all r)
-below-all-inside Equals = tt
-below-all-inside Differs = tt
-below-all-inside Below = tt
-below-all-inside AtMost = tt
-below-all-inside Above = tt
-below-all-inside AtLeast = tt
+below_all_inside : (r : Relation) → InContext Integers (below_all r)
+below_all_inside Equals = tt
+below_all_inside Differs = tt
+below_all_inside Below = tt
+below_all_inside AtMost = tt
+below_all_inside Above = tt
+below_all_inside AtLeast = tt
 
-beyond-plain : (c : ℤ) (r : Relation) (f : Form) → IsPlain (beyond c r f) × InContext Integers (beyond c r f)
-beyond-plain (pos zero) r f = (tt, tt)
-beyond-plain (pos (suc n)) r f = (below-all-plain r, below-all-inside r)
-beyond-plain (negsuc n) r f = (below-all-plain (mirrored r), below-all-inside (mirrored r))
+beyond_plain : (c : ℤ) (r : Relation) (f : Form) → IsPlain (beyond c r f) × InContext Integers (beyond c r f)
+beyond_plain (pos zero) r f = (tt, tt)
+beyond_plain (pos (suc n)) r f = (below_all_plain r, below_all_inside r)
+beyond_plain (negsuc n) r f = (below_all_plain (mirrored r), below_all_inside (mirrored r))
 
-exactly-plain : (c : ℤ) (r : Relation) (f v : Form) → IsPlain (exactly c r f v) × InContext Integers (exactly c r f v)
-exactly-plain (pos zero) r f v = (tt, tt)
-exactly-plain (pos (suc n)) r f v = (tt, tt)
-exactly-plain (negsuc n) r f v = (tt, tt)
+exactly_plain : (c : ℤ) (r : Relation) (f v : Form) → IsPlain (exactly c r f v) × InContext Integers (exactly c r f v)
+exactly_plain (pos zero) r f v = (tt, tt)
+exactly_plain (pos (suc n)) r f v = (tt, tt)
+exactly_plain (negsuc n) r f v = (tt, tt)
 
-where-zero-inside : (P : Atom → Type 0) (c : ℤ) (a b : Atom) → P a → P b → P (where_zero c a b)
-where-zero-inside P (pos zero) a b h k = h
-where-zero-inside P (pos (suc n)) a b h k = k
-where-zero-inside P (negsuc n) a b h k = k
+where_zero_inside : (P : Atom → Type 0) (c : ℤ) (a b : Atom) → P a → P b → P (where_zero c a b)
+where_zero_inside P (pos zero) a b h k = h
+where_zero_inside P (pos (suc n)) a b h k = k
+where_zero_inside P (negsuc n) a b h k = k
 
-atom-plain : (x : ℕ) (s : Place) → IsIntegerPlace s → (a : Atom) → AtomIn Integers a → IsPlain (integer_atom x s a) × InContext Integers (integer_atom x s a)
-atom-plain x (Exact e l) place (Compare r f) inside = exactly-plain (coefficient x f) r f (put_in x e l f)
-atom-plain x (Exact e l) place (Congruent n f) inside = (tt, where-zero-inside (AtomIn Integers) (coefficient x f) (Congruent n f) (Congruent (l * n) (put_in x e l f)) inside (mul-pos place inside))
-atom-plain x (Exact e l) place (Incongruent n f) inside = (tt, where-zero-inside (AtomIn Integers) (coefficient x f) (Incongruent n f) (Incongruent (l * n) (put_in x e l f)) inside (mul-pos place inside))
-atom-plain x (Periodic j q) place (Compare r f) inside = beyond-plain (along q (coefficient x f)) r f
-atom-plain x (Periodic j q) place (Congruent n f) inside = (tt, where-zero-inside (AtomIn Integers) (coefficient x f) (Congruent n f) (Congruent n (put_number x j f)) inside inside)
-atom-plain x (Periodic j q) place (Incongruent n f) inside = (tt, where-zero-inside (AtomIn Integers) (coefficient x f) (Incongruent n f) (Incongruent n (put_number x j f)) inside inside)
-atom-plain x (AboveBy e l) place a inside = absurd place
-atom-plain x (BelowBy e l) place a inside = absurd place
-atom-plain x PlusInfinity place a inside = absurd place
-atom-plain x MinusInfinity place a inside = absurd place
+atom_plain : (x : ℕ) (s : Place) → IsIntegerPlace s → (a : Atom) → AtomIn Integers a → IsPlain (integer_atom x s a) × InContext Integers (integer_atom x s a)
+atom_plain x (Exact e l) place (Compare r f) inside = exactly_plain (coefficient x f) r f (form_at x e l f)
+atom_plain x (Exact e l) place (Congruent holds n f) inside = (tt, where_zero_inside (AtomIn Integers) (coefficient x f) (Congruent holds n f) (Congruent holds (l * n) (form_at x e l f)) inside (mul-pos place inside))
+atom_plain x (Periodic j q) place (Compare r f) inside = beyond_plain (along q (coefficient x f)) r f
+atom_plain x (Periodic j q) place (Congruent holds n f) inside = (tt, where_zero_inside (AtomIn Integers) (coefficient x f) (Congruent holds n f) (Congruent holds n (put_number x j f)) inside inside)
+atom_plain x (AboveBy e l) place a inside = absurd place
+atom_plain x (BelowBy e l) place a inside = absurd place
+atom_plain x PlusInfinity place a inside = absurd place
+atom_plain x MinusInfinity place a inside = absurd place
 
 -- the guard and the substitution together
-pub substitution-plain : (x : ℕ) (s : Place) (f : Tree) → IsIntegerPlace s → IsPlain f → InContext Integers f →
+pub substitution_plain : (x : ℕ) (s : Place) (f : Tree) → IsIntegerPlace s → IsPlain f → InContext Integers f →
     IsPlain (guarded_substitution x s f) × InContext Integers (guarded_substitution x s f)
-substitution-plain x s f place plain inside =
-    let atoms = every_map _ _ (atom-plain x s place) f inside in
+substitution_plain x s f place plain inside =
+    let atoms = every_map _ _ (atom_plain x s place) f inside in
     let plains = every_map (λ a. IsPlain (integer_atom x s a) × InContext Integers (integer_atom x s a)) (λ a. IsPlain (integer_atom x s a)) (λ a h. h.0) f atoms in
     let insides = every_map (λ a. IsPlain (integer_atom x s a) × InContext Integers (integer_atom x s a)) (λ a. InContext Integers (integer_atom x s a)) (λ a h. h.1) f atoms in (
-      (guard-plain s, (plain_stays (integer_atom x s) (λ y. y) f plain plains, tt)),
-      (guard-inside s place, (every_replaced (integer_atom x s) (λ y. y) (AtomIn Integers) f insides, tt)),
+      (guard_plain s, (plain_stays (integer_atom x s) (λ y. y) f plain plains, tt)),
+      (guard_inside s place, (every_replaced (integer_atom x s) (λ y. y) (AtomIn Integers) f insides, tt)),
     )
 
 -- ---- the points put in
@@ -160,4 +156,4 @@ integer_elimination_exact side x f plain inside p whole =
 pub integer_elimination_tree : (side : Side) (x : ℕ) (f : Tree) → IsPlain f → InContext Integers f → IsPlain (integer_elimination side x f) × InContext Integers (integer_elimination side x f)
 integer_elimination_tree side x f plain inside =
     trees_plain Integers (λ s. guarded_substitution x s f) (integer_points side x f)
-    (λ s among. substitution-plain x s f (points_suit side x f s inside among).0 plain inside)
+    (λ s among. substitution_plain x s f (points_suit side x f s inside among).0 plain inside)

@@ -1,7 +1,7 @@
 -- What a formula built by and and or says, where only what its atoms say is known.
 use Rattle.std.proofs.Common.{⊎_elim, ℤ, pos, ◌⊎◌, inl, inr, ◌<ℤ◌, ◌≤ℤ◌, arith}
 use Rattle.std.proofs.lemmas.Int.{ints}
-use Rattle.elimination_theory.proofs.MoreArithmetic.{less-or-at_least, le_of_lt}
+use Rattle.elimination_theory.proofs.MoreArithmetic.{less_or_at_least, le_of_lt}
 use Rattle.formula_meaning.proofs.EachAtom.{every_eventually}
 use Rattle.formula_meaning.specs.Some.{SomeOf}
 use Rattle.elimination_theory.specs.Atoms.{atoms_in, atoms_in_all}
@@ -94,18 +94,18 @@ module _ {A N : Type 0} (P Q : A → Type 0) where
 abbrev pub Downwards : (ℤ → Type 0) → Type 0
 Downwards Q = (u : ℤ) × ((k : ℤ) → k <ℤ u → Q k)
 
-downwards-whole : Downwards (λ k. Unit {0})
-downwards-whole = (pos 0, λ k h. tt)
+downwards_whole : Downwards (λ k. Unit {0})
+downwards_whole = (pos 0, λ k h. tt)
 
-below-le : (k u v : ℤ) → k <ℤ u → u ≤ℤ v → k <ℤ v
-below-le k u v h g = omega (arith, ints)
+below_le : (k u v : ℤ) → k <ℤ u → u ≤ℤ v → k <ℤ v
+below_le k u v h g = omega (arith, ints)
 
-downwards-both : (Q R : ℤ → Type 0) → Downwards Q → Downwards R → Downwards (λ k. Q k × R k)
-downwards-both Q R (v, first) (w, second) = elim (less-or-at_least v w) [
-  | inl less ↦ (v, λ k h. (first k h, second k (below-le k v w h (le_of_lt v w less))))
-  | inr more ↦ (w, λ k h. (first k (below-le k w v h more), second k h))
+downwards_both : (Q R : ℤ → Type 0) → Downwards Q → Downwards R → Downwards (λ k. Q k × R k)
+downwards_both Q R (v, first) (w, second) = elim (less_or_at_least v w) [
+  | inl less ↦ (v, λ k h. (first k h, second k (below_le k v w h (le_of_lt v w less))))
+  | inr more ↦ (w, λ k h. (first k (below_le k w v h more), second k h))
 ]
 
 -- one bound for all atoms
 pub every_downwards : {A N : Type 0} (C : ℤ → A → Type 0) (f : Formula A N) → Every (λ a. Downwards (λ k. C k a)) f → Downwards (λ k. Every (C k) f)
-every_downwards C f each = every_eventually Downwards downwards-whole downwards-both C f each
+every_downwards C f each = every_eventually Downwards downwards_whole downwards_both C f each

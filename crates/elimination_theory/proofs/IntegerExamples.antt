@@ -10,7 +10,7 @@ use Rattle.formula_meaning.specs.Answer.{Exact, Periodic, Holds}
 use Rattle.formula_meaning.specs.Tree.{TrueAt}
 use Rattle.formula_meaning.specs.Formula.{Ex}
 use Rattle.elimination_theory.specs.Side.{Lower}
-use Rattle.elimination_theory.specs.FieldsTheorems.{at_place}
+use Rattle.elimination_theory.specs.Substitution.{at_place}
 use Rattle.elimination_theory.specs.IntegersSubstitution.{integer_substitution}
 use Rattle.elimination_theory.specs.IntegersExamples.{a_plus, two_x_is_a, even_above_a, at_most_a, ClassesAreNeeded, PointsOfTwoXIsA, SubstitutionOfTwoXIsA, PointsOfEvenAboveA, SpanIsNeeded, GuardIsNeeded}
 
@@ -34,73 +34,73 @@ odd : (q : ℤ) → pos 1 ≡ q *ℤ pos 2 → ⊥
 odd q e = omega (arith, ints)
 
 -- at a = 1 the substitution at a/2 is true, and a/2 is no whole number
-half-holds : Holds Integers (at_place 0 (Exact (a_plus (pos 0)) 2)) two_x_is_a (at_number (pos 1)) → ⊥
+half_holds : Holds Integers (at_place 0 (Exact (a_plus (pos 0)) 2)) two_x_is_a (at_number (pos 1)) → ⊥
 unfolding value at_number
-half-holds (k, is, true) = odd k is
+half_holds (k, is, true) = odd k is
 
-half-true : TrueAt Integers (integer_substitution 0 (Exact (a_plus (pos 0)) 2) two_x_is_a) (at_number (pos 1))
+half_true : TrueAt Integers (integer_substitution 0 (Exact (a_plus (pos 0)) 2) two_x_is_a) (at_number (pos 1))
 unfolding value at_number coefficient without combine
-half-true = refl
+half_true = refl
 
-whole-at : (n : ℤ) → (at_number n).below ≡ 1
+whole_at : (n : ℤ) → (at_number n).below ≡ 1
 unfolding at_number
-whole-at n = refl
+whole_at n = refl
 
 pub guard_is_needed : GuardIsNeeded
-guard_is_needed wrong = half-holds (wrong 0 (Exact (a_plus (pos 0)) 2) two_x_is_a (at_number (pos 1)) (omega arith) tt tt (whole-at (pos 1)) half-true)
+guard_is_needed wrong = half_holds (wrong 0 (Exact (a_plus (pos 0)) 2) two_x_is_a (at_number (pos 1)) (omega arith) tt tt (whole_at (pos 1)) half_true)
 
 -- at a = 0 the only numbers that are looked at are those of the class of 1, far out, and a + 1
 origin : Point ℕ
 origin = record { at = λ name. pos 0; below = 1 }
 
-two-true : TrueAt Integers (Ex 0 even_above_a) origin
+two_true : TrueAt Integers (Ex 0 even_above_a) origin
 unfolding value move origin
-two-true = (pos 2, 1, refl, (omega (arith, ints), ((pos 1, refl), tt)))
+two_true = (pos 2, 1, refl, (omega (arith, ints), ((pos 1, refl), tt)))
 
-above-origin : (k : ℤ) → TrueAt Integers even_above_a (move nat_eq origin 0 k 1) → pos 0 <ℤ k
+above_origin : (k : ℤ) → TrueAt Integers even_above_a (move nat_eq origin 0 k 1) → pos 0 <ℤ k
 unfolding value move origin
-above-origin k true = let h = true.0 in omega (arith, ints)
+above_origin k true = let h = true.0 in omega (arith, ints)
 
-even-there : (k : ℤ) → TrueAt Integers even_above_a (move nat_eq origin 0 k 1) → (q : ℤ) × (k ≡ q *ℤ pos 2)
+even_there : (k : ℤ) → TrueAt Integers even_above_a (move nat_eq origin 0 k 1) → (q : ℤ) × (k ≡ q *ℤ pos 2)
 unfolding value move origin
-even-there k true = let h = true.1.0.1 in (true.1.0.0, omega (arith, ints))
+even_there k true = let h = true.1.0.1 in (true.1.0.0, omega (arith, ints))
 
-whole-origin : origin.below ≡ 1
+whole_origin : origin.below ≡ 1
 unfolding origin
-whole-origin = refl
+whole_origin = refl
 
-not-below : (k b : ℤ) → k ≤ℤ pos 0 → b ≡ pos 1 → (pos 0 <ℤ (k *ℤ b)) → ⊥
-not-below k b low e h = let m : k *ℤ b ≡ k = ap (λ z. k *ℤ z) e ∙ mul_one k in omega (arith, ints)
+not_below : (k b : ℤ) → k ≤ℤ pos 0 → b ≡ pos 1 → (pos 0 <ℤ (k *ℤ b)) → ⊥
+not_below k b low e h = let m : k *ℤ b ≡ k = ap (λ z. k *ℤ z) e ∙ mul_one k in omega (arith, ints)
 
-class-fails : Holds Integers (at_place 0 (Periodic (pos 1) (negsuc 0))) even_above_a origin → ⊥
-class-fails (pos n, true) =
-    not-below (pos 1 +ℤ negsuc 0 *ℤ pos (suc n)) (pos origin.below) (omega (arith, ints)) (ap pos whole-origin) (above-origin _ (true (pos (suc n)) (omega (arith, ints))))
-class-fails (negsuc n, true) =
-    not-below (pos 1 +ℤ negsuc 0 *ℤ pos 1) (pos origin.below) (omega (arith, ints)) (ap pos whole-origin) (above-origin _ (true (pos 1) (omega (arith, ints))))
+class_fails : Holds Integers (at_place 0 (Periodic (pos 1) (negsuc 0))) even_above_a origin → ⊥
+class_fails (pos n, true) =
+    not_below (pos 1 +ℤ negsuc 0 *ℤ pos (suc n)) (pos origin.below) (omega (arith, ints)) (ap pos whole_origin) (above_origin _ (true (pos (suc n)) (omega (arith, ints))))
+class_fails (negsuc n, true) =
+    not_below (pos 1 +ℤ negsuc 0 *ℤ pos 1) (pos origin.below) (omega (arith, ints)) (ap pos whole_origin) (above_origin _ (true (pos 1) (omega (arith, ints))))
 
-next-value : value (a_plus (pos 1)) origin ≡ pos 1
+next_value : value (a_plus (pos 1)) origin ≡ pos 1
 unfolding value origin
-next-value = refl
+next_value = refl
 
-next-fails : Holds Integers (at_place 0 (Exact (a_plus (pos 1)) 1)) even_above_a origin → ⊥
-next-fails (k, is, true) =
-    let e = next-value in
+next_fails : Holds Integers (at_place 0 (Exact (a_plus (pos 1)) 1)) even_above_a origin → ⊥
+next_fails (k, is, true) =
+    let e = next_value in
     let o = mul_one k in
-    let even : (q : ℤ) × (k ≡ q *ℤ pos 2) = even-there k true in
+    let even : (q : ℤ) × (k ≡ q *ℤ pos 2) = even_there k true in
     odd even.0 (omega (arith, ints))
 
 pub span_is_needed : SpanIsNeeded
 unfolding origin lcm_of gcd_of euclid coefficient without scale plus
 span_is_needed wrong =
-    elim (wrong Lower 0 even_above_a origin (tt, (tt, tt)) (tt, (omega arith, tt)) refl two-true) [
-      | inl class ↦ class-fails class
-      | inr rest ↦ elim rest [ inl next ↦ next-fails next | inr none ↦ absurd none ]
+    elim (wrong Lower 0 even_above_a origin (tt, (tt, tt)) (tt, (omega arith, tt)) refl two_true) [
+      | inl class ↦ class_fails class
+      | inr rest ↦ elim rest [ inl next ↦ next_fails next | inr none ↦ absurd none ]
     ]
 
-none-true : TrueAt Integers (Ex 0 at_most_a) origin
+none_true : TrueAt Integers (Ex 0 at_most_a) origin
 unfolding value move origin
-none-true = (pos 0, 1, refl, omega (arith, ints))
+none_true = (pos 0, 1, refl, omega (arith, ints))
 
 pub classes_are_needed : ClassesAreNeeded
 unfolding origin coefficient without scale plus
-classes_are_needed wrong = wrong Lower 0 at_most_a origin tt tt refl none-true
+classes_are_needed wrong = wrong Lower 0 at_most_a origin tt tt refl none_true

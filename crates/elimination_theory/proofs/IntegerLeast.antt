@@ -5,102 +5,94 @@ use Rattle.exact_numbers.specs.Divides.{Divides}
 use Rattle.exact_numbers.proofs.Divisibility.{divides_same, one_divides, neg_divides}
 use Rattle.formula_meaning.specs.Context.{Integers}
 use Rattle.formula_meaning.specs.Form.{coefficient}
-use Rattle.formula_meaning.specs.Atom.{Atom, Compare, Congruent, Incongruent, form_of, AtomIn}
+use Rattle.formula_meaning.specs.Atom.{Atom, Compare, Congruent, form_of, AtomIn}
 use Rattle.formula_meaning.proofs.EachAtom.{every_map}
 use Rattle.elimination_theory.specs.Atoms.{atoms_of}
 use Rattle.elimination_theory.specs.IntegersPoints.{with_coefficient, scale_of, with_modulus, span_of, integer_scale}
 use Rattle.elimination_theory.specs.IntegersTheorems.{IsMultipleOf, SpansAtom, IntegerScaleIsLeast, IntegerSpanIsLeast}
 use Rattle.elimination_theory.proofs.SomeListed.{EachOf, atoms_of_every, every_of_atoms}
-use Rattle.elimination_theory.proofs.IntegerScale.{Reaches, Spans, common-least, scale-positive, scale-reaches, span-positive, span-scale, multiplied-positive, with_modulus-spans, with_modulus-rest}
+use Rattle.elimination_theory.proofs.IntegerScale.{Reaches, Spans, common_least, scale_positive, scale_reaches, span_positive, span_scale, multiplied_positive, with_modulus_spans, with_modulus_rest}
 
 -- ---- the scale
 
-reaches-multiple : (k : ℕ) (c : ℤ) → Reaches k c → IsMultipleOf c k
-reaches-multiple k (pos zero) r other = absurd (other refl)
-reaches-multiple k (pos (suc n)) r other = r
-reaches-multiple k (negsuc n) r other = neg_divides r
+reaches_multiple : (k : ℕ) (c : ℤ) → Reaches k c → IsMultipleOf c k
+reaches_multiple k (pos zero) r other = absurd (other refl)
+reaches_multiple k (pos (suc n)) r other = r
+reaches_multiple k (negsuc n) r other = neg_divides r
 
-multiple-reaches : (k : ℕ) (c : ℤ) → IsMultipleOf c k → Reaches k c
-multiple-reaches k (pos zero) m = tt
-multiple-reaches k (pos (suc n)) m = m (λ (e : pos (suc n) ≡ pos 0). omega (arith, ints))
-multiple-reaches k (negsuc n) m = neg_divides (m (λ (e : negsuc n ≡ pos 0). omega (arith, ints)))
+multiple_reaches : (k : ℕ) (c : ℤ) → IsMultipleOf c k → Reaches k c
+multiple_reaches k (pos zero) m = tt
+multiple_reaches k (pos (suc n)) m = m (λ (e : pos (suc n) ≡ pos 0). omega (arith, ints))
+multiple_reaches k (negsuc n) m = neg_divides (m (λ (e : negsuc n ≡ pos 0). omega (arith, ints)))
 
-with_coefficient-least : (c : ℤ) (n k : ℕ) → 0 < n → Reaches k c → Divides (pos n) (pos k) → Divides (pos (with_coefficient c n)) (pos k)
-with_coefficient-least (pos zero) n k h r d = d
-with_coefficient-least (pos (suc a)) n k h r d = common-least (suc a) n (omega arith) h (pos k) r d
-with_coefficient-least (negsuc a) n k h r d = common-least (suc a) n (omega arith) h (pos k) r d
+with_coefficient_least : (c : ℤ) (n k : ℕ) → 0 < n → Reaches k c → Divides (pos n) (pos k) → Divides (pos (with_coefficient c n)) (pos k)
+with_coefficient_least (pos zero) n k h r d = d
+with_coefficient_least (pos (suc a)) n k h r d = common_least (suc a) n (omega arith) h (pos k) r d
+with_coefficient_least (negsuc a) n k h r d = common_least (suc a) n (omega arith) h (pos k) r d
 
-scale-least : (x k : ℕ) (atoms : List Atom) → EachOf (λ a. Reaches k (coefficient x (form_of a))) atoms → Divides (pos (scale_of x atoms)) (pos k)
-scale-least x k [] reach = one_divides (pos k)
-scale-least x k (a ∷ atoms) reach =
-    with_coefficient-least (coefficient x (form_of a)) (scale_of x atoms) k (scale-positive x atoms) reach.0 (scale-least x k atoms reach.1)
+scale_least : (x k : ℕ) (atoms : List Atom) → EachOf (λ a. Reaches k (coefficient x (form_of a))) atoms → Divides (pos (scale_of x atoms)) (pos k)
+scale_least x k [] reach = one_divides (pos k)
+scale_least x k (a ∷ atoms) reach =
+    with_coefficient_least (coefficient x (form_of a)) (scale_of x atoms) k (scale_positive x atoms) reach.0 (scale_least x k atoms reach.1)
 
 pub scale_is_least : IntegerScaleIsLeast
 scale_is_least x f = (
-  scale-positive x (atoms_of f),
+  scale_positive x (atoms_of f),
   λ n. (
-    λ multiple. scale-least x n (atoms_of f) (atoms_of_every (λ a. Reaches n (coefficient x (form_of a))) f
-        (every_map (λ a. IsMultipleOf (coefficient x (form_of a)) n) _ (λ a m. multiple-reaches n (coefficient x (form_of a)) m) f multiple)),
-    λ divides. every_map (λ a. Reaches n (coefficient x (form_of a))) _ (λ a r. reaches-multiple n (coefficient x (form_of a)) r) f
-        (every_of_atoms (λ a. Reaches n (coefficient x (form_of a))) f (scale-reaches x n (atoms_of f) divides)),
+    λ multiple. scale_least x n (atoms_of f) (atoms_of_every (λ a. Reaches n (coefficient x (form_of a))) f
+        (every_map (λ a. IsMultipleOf (coefficient x (form_of a)) n) _ (λ a m. multiple_reaches n (coefficient x (form_of a)) m) f multiple)),
+    λ divides. every_map (λ a. Reaches n (coefficient x (form_of a))) _ (λ a r. reaches_multiple n (coefficient x (form_of a)) r) f
+        (every_of_atoms (λ a. Reaches n (coefficient x (form_of a))) f (scale_reaches x n (atoms_of f) divides)),
   ),
 )
 
 -- ---- the span
 
-spans-multiplied : (l k m : ℕ) (c : ℤ) → Spans l k m c → ¬ (c ≡ pos 0) → Divides (pos (m * (l / unsigned_abs c))) (pos k)
-spans-multiplied l k m (pos zero) s other = absurd (other refl)
-spans-multiplied l k m (pos (suc n)) s other = s
-spans-multiplied l k m (negsuc n) s other = s
+spans_multiplied : (l k m : ℕ) (c : ℤ) → Spans l k m c → ¬ (c ≡ pos 0) → Divides (pos (m * (l / unsigned_abs c))) (pos k)
+spans_multiplied l k m (pos zero) s other = absurd (other refl)
+spans_multiplied l k m (pos (suc n)) s other = s
+spans_multiplied l k m (negsuc n) s other = s
 
-multiplied-spans : (l k m : ℕ) (c : ℤ) → (¬ (c ≡ pos 0) → Divides (pos (m * (l / unsigned_abs c))) (pos k)) → Spans l k m c
-multiplied-spans l k m (pos zero) d = tt
-multiplied-spans l k m (pos (suc n)) d = d (λ (e : pos (suc n) ≡ pos 0). omega (arith, ints))
-multiplied-spans l k m (negsuc n) d = d (λ (e : negsuc n ≡ pos 0). omega (arith, ints))
+multiplied_spans : (l k m : ℕ) (c : ℤ) → (¬ (c ≡ pos 0) → Divides (pos (m * (l / unsigned_abs c))) (pos k)) → Spans l k m c
+multiplied_spans l k m (pos zero) d = tt
+multiplied_spans l k m (pos (suc n)) d = d (λ (e : pos (suc n) ≡ pos 0). omega (arith, ints))
+multiplied_spans l k m (negsuc n) d = d (λ (e : negsuc n ≡ pos 0). omega (arith, ints))
 
-with_modulus-least : (l m : ℕ) → 0 < l → 0 < m → (c : ℤ) (n k : ℕ) → Reaches l c → 0 < n → Spans l k m c → Divides (pos n) (pos k) → Divides (pos (with_modulus l m c n)) (pos k)
-with_modulus-least l m hl hm (pos zero) n k r h s d = d
-with_modulus-least l m hl hm (pos (suc a)) n k r h s d = common-least (m * (l / suc a)) n (multiplied-positive l m a hl hm r) h (pos k) s d
-with_modulus-least l m hl hm (negsuc a) n k r h s d = common-least (m * (l / suc a)) n (multiplied-positive l m a hl hm r) h (pos k) s d
+with_modulus_least : (l m : ℕ) → 0 < l → 0 < m → (c : ℤ) (n k : ℕ) → Reaches l c → 0 < n → Spans l k m c → Divides (pos n) (pos k) → Divides (pos (with_modulus l m c n)) (pos k)
+with_modulus_least l m hl hm (pos zero) n k r h s d = d
+with_modulus_least l m hl hm (pos (suc a)) n k r h s d = common_least (m * (l / suc a)) n (multiplied_positive l m a hl hm r) h (pos k) s d
+with_modulus_least l m hl hm (negsuc a) n k r h s d = common_least (m * (l / suc a)) n (multiplied_positive l m a hl hm r) h (pos k) s d
 
 module _ (l x k : ℕ) (hl : 0 < l) where
-  span-least : (atoms : List Atom) → EachOf (AtomIn Integers) atoms → EachOf (λ a. Reaches l (coefficient x (form_of a))) atoms →
+  span_least : (atoms : List Atom) → EachOf (AtomIn Integers) atoms → EachOf (λ a. Reaches l (coefficient x (form_of a))) atoms →
       Divides (pos l) (pos k) → EachOf (SpansAtom x l k) atoms → Divides (pos (span_of l x atoms)) (pos k)
-  span-least [] inside reach d spans = d
-  span-least (Compare r f ∷ atoms) inside reach d spans = span-least atoms inside.1 reach.1 d spans.1
-  span-least (Congruent m f ∷ atoms) inside reach d spans =
-      with_modulus-least l m hl inside.0 (coefficient x f) (span_of l x atoms) k reach.0 (span-positive l x atoms hl inside.1 reach.1)
-      (multiplied-spans l k m (coefficient x f) spans.0) (span-least atoms inside.1 reach.1 d spans.1)
-  span-least (Incongruent m f ∷ atoms) inside reach d spans =
-      with_modulus-least l m hl inside.0 (coefficient x f) (span_of l x atoms) k reach.0 (span-positive l x atoms hl inside.1 reach.1)
-      (multiplied-spans l k m (coefficient x f) spans.0) (span-least atoms inside.1 reach.1 d spans.1)
+  span_least [] inside reach d spans = d
+  span_least (Compare r f ∷ atoms) inside reach d spans = span_least atoms inside.1 reach.1 d spans.1
+  span_least (Congruent holds m f ∷ atoms) inside reach d spans =
+      with_modulus_least l m hl inside.0 (coefficient x f) (span_of l x atoms) k reach.0 (span_positive l x atoms hl inside.1 reach.1)
+      (multiplied_spans l k m (coefficient x f) spans.0) (span_least atoms inside.1 reach.1 d spans.1)
 
-  span-each : (atoms : List Atom) → EachOf (AtomIn Integers) atoms → EachOf (λ a. Reaches l (coefficient x (form_of a))) atoms →
+  span_each : (atoms : List Atom) → EachOf (AtomIn Integers) atoms → EachOf (λ a. Reaches l (coefficient x (form_of a))) atoms →
       Divides (pos (span_of l x atoms)) (pos k) → EachOf (SpansAtom x l k) atoms
-  span-each [] inside reach d = tt
-  span-each (Compare r f ∷ atoms) inside reach d = (tt, span-each atoms inside.1 reach.1 d)
-  span-each (Congruent m f ∷ atoms) inside reach d =
-      let p = span-positive l x atoms hl inside.1 reach.1 in (
-        spans-multiplied l k m (coefficient x f) (with_modulus-spans l m hl inside.0 (coefficient x f) (span_of l x atoms) k reach.0 p d),
-        span-each atoms inside.1 reach.1 (with_modulus-rest l m hl inside.0 (coefficient x f) (span_of l x atoms) k reach.0 p d),
-      )
-  span-each (Incongruent m f ∷ atoms) inside reach d =
-      let p = span-positive l x atoms hl inside.1 reach.1 in (
-        spans-multiplied l k m (coefficient x f) (with_modulus-spans l m hl inside.0 (coefficient x f) (span_of l x atoms) k reach.0 p d),
-        span-each atoms inside.1 reach.1 (with_modulus-rest l m hl inside.0 (coefficient x f) (span_of l x atoms) k reach.0 p d),
+  span_each [] inside reach d = tt
+  span_each (Compare r f ∷ atoms) inside reach d = (tt, span_each atoms inside.1 reach.1 d)
+  span_each (Congruent holds m f ∷ atoms) inside reach d =
+      let p = span_positive l x atoms hl inside.1 reach.1 in (
+        spans_multiplied l k m (coefficient x f) (with_modulus_spans l m hl inside.0 (coefficient x f) (span_of l x atoms) k reach.0 p d),
+        span_each atoms inside.1 reach.1 (with_modulus_rest l m hl inside.0 (coefficient x f) (span_of l x atoms) k reach.0 p d),
       )
 
 pub span_is_least : IntegerSpanIsLeast
 span_is_least x f inside =
-    let positive = scale-positive x (atoms_of f) in
+    let positive = scale_positive x (atoms_of f) in
     let atoms = atoms_of_every (AtomIn Integers) f inside in
-    let reach = scale-reaches x (integer_scale x f) (atoms_of f) (divides_same (pos (integer_scale x f))) in (
-      span-positive (integer_scale x f) x (atoms_of f) positive atoms reach,
+    let reach = scale_reaches x (integer_scale x f) (atoms_of f) (divides_same (pos (integer_scale x f))) in (
+      span_positive (integer_scale x f) x (atoms_of f) positive atoms reach,
       λ n. (
-        λ both. span-least (integer_scale x f) x n positive (atoms_of f) atoms reach both.0 (atoms_of_every (SpansAtom x (integer_scale x f) n) f both.1),
+        λ both. span_least (integer_scale x f) x n positive (atoms_of f) atoms reach both.0 (atoms_of_every (SpansAtom x (integer_scale x f) n) f both.1),
         λ divides. (
-          span-scale (integer_scale x f) x n (atoms_of f) positive atoms reach divides,
-          every_of_atoms (SpansAtom x (integer_scale x f) n) f (span-each (integer_scale x f) x n positive (atoms_of f) atoms reach divides),
+          span_scale (integer_scale x f) x n (atoms_of f) positive atoms reach divides,
+          every_of_atoms (SpansAtom x (integer_scale x f) n) f (span_each (integer_scale x f) x n positive (atoms_of f) atoms reach divides),
         ),
       ),
     )

@@ -4,32 +4,32 @@ use Rattle.std.proofs.lemmas.Int.{ints}
 use Rattle.exact_numbers.proofs.Ring.{ring}
 use Rattle.exact_numbers.proofs.Order.{by_order}
 use Rattle.formula_meaning.specs.Atom.{mirrored, Relation, Equals, Differs, Below, AtMost, Above, AtLeast, Relates}
-use Rattle.elimination_theory.proofs.MoreArithmetic.{less-or-at_least, le_of_lt}
+use Rattle.elimination_theory.proofs.MoreArithmetic.{less_or_at_least, le_of_lt}
 use Rattle.formula_meaning.proofs.Relations.{relates_mul}
 
-pub relates-move : (r : Relation) (a b c d : ℤ) → a -ℤ b ≡ c -ℤ d → Relates r a b → Relates r c d
-relates-move Equals a b c d e h = omega (arith, ints)
-relates-move Differs a b c d e h = λ (s : c ≡ d). h (omega (arith, ints))
-relates-move Below a b c d e h = omega (arith, ints)
-relates-move AtMost a b c d e h = omega (arith, ints)
-relates-move Above a b c d e h = omega (arith, ints)
-relates-move AtLeast a b c d e h = omega (arith, ints)
+pub relates_move : (r : Relation) (a b c d : ℤ) → a -ℤ b ≡ c -ℤ d → Relates r a b → Relates r c d
+relates_move Equals a b c d e h = omega (arith, ints)
+relates_move Differs a b c d e h = λ (s : c ≡ d). h (omega (arith, ints))
+relates_move Below a b c d e h = omega (arith, ints)
+relates_move AtMost a b c d e h = omega (arith, ints)
+relates_move Above a b c d e h = omega (arith, ints)
+relates_move AtLeast a b c d e h = omega (arith, ints)
 
-pub relates-mirror : (r : Relation) (a b c d : ℤ) → a -ℤ b ≡ d -ℤ c → Relates r a b → Relates (mirrored r) c d
-relates-mirror Equals a b c d e h = omega (arith, ints)
-relates-mirror Differs a b c d e h = λ (s : c ≡ d). h (omega (arith, ints))
-relates-mirror Below a b c d e h = omega (arith, ints)
-relates-mirror AtMost a b c d e h = omega (arith, ints)
-relates-mirror Above a b c d e h = omega (arith, ints)
-relates-mirror AtLeast a b c d e h = omega (arith, ints)
+pub relates_mirror : (r : Relation) (a b c d : ℤ) → a -ℤ b ≡ d -ℤ c → Relates r a b → Relates (mirrored r) c d
+relates_mirror Equals a b c d e h = omega (arith, ints)
+relates_mirror Differs a b c d e h = λ (s : c ≡ d). h (omega (arith, ints))
+relates_mirror Below a b c d e h = omega (arith, ints)
+relates_mirror AtMost a b c d e h = omega (arith, ints)
+relates_mirror Above a b c d e h = omega (arith, ints)
+relates_mirror AtLeast a b c d e h = omega (arith, ints)
 
-pub mirrored-mirrored : (r : Relation) → mirrored (mirrored r) ≡ r
-mirrored-mirrored Equals = refl
-mirrored-mirrored Differs = refl
-mirrored-mirrored Below = refl
-mirrored-mirrored AtMost = refl
-mirrored-mirrored Above = refl
-mirrored-mirrored AtLeast = refl
+pub mirrored_mirrored : (r : Relation) → mirrored (mirrored r) ≡ r
+mirrored_mirrored Equals = refl
+mirrored_mirrored Differs = refl
+mirrored_mirrored Below = refl
+mirrored_mirrored AtMost = refl
+mirrored_mirrored Above = refl
+mirrored_mirrored AtLeast = refl
 
 -- a comparison with v that is true of all numbers below a bound
 abbrev pub IsTrueBelow : Relation → Type 0
@@ -50,52 +50,52 @@ Near Above v d u = (v <ℤ u) × (u ≤ℤ (v +ℤ pos d))
 Near AtLeast v d u = ((v -ℤ pos 1) <ℤ u) × (u ≤ℤ ((v -ℤ pos 1) +ℤ pos d))
 
 -- true d below, or near
-pub relates-step : (r : Relation) (v u : ℤ) (d : ℕ) → 0 < d → Relates r u v → Relates r (u -ℤ pos d) v ⊎ Near r v d u
-relates-step Equals v u d h is = inr (omega (arith, ints), omega (arith, ints))
-relates-step Differs v u d h is =
+pub relates_step : (r : Relation) (v u : ℤ) (d : ℕ) → 0 < d → Relates r u v → Relates r (u -ℤ pos d) v ⊎ Near r v d u
+relates_step Equals v u d h is = inr (omega (arith, ints), omega (arith, ints))
+relates_step Differs v u d h is =
     by_order u (v +ℤ pos d)
     (λ (l : u <ℤ (v +ℤ pos d)). inl (λ (e : u -ℤ pos d ≡ v). omega (arith, ints)))
     (λ (e : u ≡ v +ℤ pos d). inr (omega (arith, ints), omega (arith, ints)))
     (λ (m : (v +ℤ pos d) <ℤ u). inl (λ (e : u -ℤ pos d ≡ v). omega (arith, ints)))
-relates-step Below v u d h is = inl (omega (arith, ints))
-relates-step AtMost v u d h is = inl (omega (arith, ints))
-relates-step Above v u d h is = elim (less-or-at_least v (u -ℤ pos d)) [
+relates_step Below v u d h is = inl (omega (arith, ints))
+relates_step AtMost v u d h is = inl (omega (arith, ints))
+relates_step Above v u d h is = elim (less_or_at_least v (u -ℤ pos d)) [
   | inl more ↦ inl more
   | inr less ↦ inr (is, omega (arith, ints))
 ]
-relates-step AtLeast v u d h is = elim (less-or-at_least (u -ℤ pos d) v) [
+relates_step AtLeast v u d h is = elim (less_or_at_least (u -ℤ pos d) v) [
   | inl less ↦ inr (omega (arith, ints), omega (arith, ints))
   | inr more ↦ inl more
 ]
 
 -- below v the comparison says what it says below all bounds
-pub relates-below : (r : Relation) (v u : ℤ) → u <ℤ v → Relates r u v ↔ IsTrueBelow r
-relates-below Equals v u h = (λ (e : u ≡ v). omega (arith, ints), λ n. absurd n)
-relates-below Differs v u h = (λ n. tt, λ t (e : u ≡ v). omega (arith, ints))
-relates-below Below v u h = (λ l. tt, λ t. h)
-relates-below AtMost v u h = (λ l. tt, λ t. le_of_lt _ _ h)
-relates-below Above v u h = (λ (l : v <ℤ u). omega (arith, ints), λ n. absurd n)
-relates-below AtLeast v u h = (λ (l : v ≤ℤ u). omega (arith, ints), λ n. absurd n)
+pub relates_below : (r : Relation) (v u : ℤ) → u <ℤ v → Relates r u v ↔ IsTrueBelow r
+relates_below Equals v u h = (λ (e : u ≡ v). omega (arith, ints), λ n. absurd n)
+relates_below Differs v u h = (λ n. tt, λ t (e : u ≡ v). omega (arith, ints))
+relates_below Below v u h = (λ l. tt, λ t. h)
+relates_below AtMost v u h = (λ l. tt, λ t. le_of_lt _ _ h)
+relates_below Above v u h = (λ (l : v <ℤ u). omega (arith, ints), λ n. absurd n)
+relates_below AtLeast v u h = (λ (l : v ≤ℤ u). omega (arith, ints), λ n. absurd n)
 
 -- a * k + t compared with 0 is c * a * k compared with - c * t
-pub line-up : (r : Relation) (c a k t : ℤ) → pos 0 <ℤ c → Relates r (a *ℤ k +ℤ t) (pos 0) ↔ Relates r ((c *ℤ a) *ℤ k) (neg_ℤ c *ℤ t)
-line-up r c a k t h = (
-  λ is. relates-move r _ _ _ _ (line-up-is c a k t) ((relates_mul r c _ _ h).0 is),
-  λ is. (relates_mul r c _ _ h).1 (relates-move r _ _ _ _ (sym (line-up-is c a k t)) is),
+pub line_up : (r : Relation) (c a k t : ℤ) → pos 0 <ℤ c → Relates r (a *ℤ k +ℤ t) (pos 0) ↔ Relates r ((c *ℤ a) *ℤ k) (neg_ℤ c *ℤ t)
+line_up r c a k t h = (
+  λ is. relates_move r _ _ _ _ (line_up_is c a k t) ((relates_mul r c _ _ h).0 is),
+  λ is. (relates_mul r c _ _ h).1 (relates_move r _ _ _ _ (sym (line_up_is c a k t)) is),
 )
   where
-    line-up-is : (c a k t : ℤ) → c *ℤ (a *ℤ k +ℤ t) -ℤ c *ℤ pos 0 ≡ (c *ℤ a) *ℤ k -ℤ neg_ℤ c *ℤ t
-    line-up-is c a k t = simp ring (omega (arith, ints))
+    line_up_is : (c a k t : ℤ) → c *ℤ (a *ℤ k +ℤ t) -ℤ c *ℤ pos 0 ≡ (c *ℤ a) *ℤ k -ℤ neg_ℤ c *ℤ t
+    line_up_is c a k t = simp ring (omega (arith, ints))
 
 -- - a * k + t compared with 0 is c * a * k compared the other way round with c * t
-pub line-down : (r : Relation) (c a k t : ℤ) → pos 0 <ℤ c → Relates r (neg_ℤ a *ℤ k +ℤ t) (pos 0) ↔ Relates (mirrored r) ((c *ℤ a) *ℤ k) (c *ℤ t)
-line-down r c a k t h = (
-  λ is. relates-mirror r _ _ _ _ (line-down-is c a k t) ((relates_mul r c _ _ h).0 is),
-  λ is. (relates_mul r c _ _ h).1 (subst (λ s. Relates s (c *ℤ (neg_ℤ a *ℤ k +ℤ t)) (c *ℤ pos 0)) (mirrored-mirrored r) (relates-mirror (mirrored r) _ _ _ _ (line-back-is c a k t) is)),
+pub line_down : (r : Relation) (c a k t : ℤ) → pos 0 <ℤ c → Relates r (neg_ℤ a *ℤ k +ℤ t) (pos 0) ↔ Relates (mirrored r) ((c *ℤ a) *ℤ k) (c *ℤ t)
+line_down r c a k t h = (
+  λ is. relates_mirror r _ _ _ _ (line_down_is c a k t) ((relates_mul r c _ _ h).0 is),
+  λ is. (relates_mul r c _ _ h).1 (subst (λ s. Relates s (c *ℤ (neg_ℤ a *ℤ k +ℤ t)) (c *ℤ pos 0)) (mirrored_mirrored r) (relates_mirror (mirrored r) _ _ _ _ (line_back_is c a k t) is)),
 )
   where
-    line-down-is : (c a k t : ℤ) → c *ℤ (neg_ℤ a *ℤ k +ℤ t) -ℤ c *ℤ pos 0 ≡ c *ℤ t -ℤ (c *ℤ a) *ℤ k
-    line-down-is c a k t = simp ring (omega (arith, ints))
+    line_down_is : (c a k t : ℤ) → c *ℤ (neg_ℤ a *ℤ k +ℤ t) -ℤ c *ℤ pos 0 ≡ c *ℤ t -ℤ (c *ℤ a) *ℤ k
+    line_down_is c a k t = simp ring (omega (arith, ints))
 
-    line-back-is : (c a k t : ℤ) → (c *ℤ a) *ℤ k -ℤ c *ℤ t ≡ c *ℤ pos 0 -ℤ c *ℤ (neg_ℤ a *ℤ k +ℤ t)
-    line-back-is c a k t = simp ring (omega (arith, ints))
+    line_back_is : (c a k t : ℤ) → (c *ℤ a) *ℤ k -ℤ c *ℤ t ≡ c *ℤ pos 0 -ℤ c *ℤ (neg_ℤ a *ℤ k +ℤ t)
+    line_back_is c a k t = simp ring (omega (arith, ints))

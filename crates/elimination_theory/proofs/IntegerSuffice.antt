@@ -13,13 +13,13 @@ use Rattle.formula_meaning.specs.Answer.{Holds}
 use Rattle.formula_meaning.specs.Tree.{Tree, InContext}
 use Rattle.elimination_theory.specs.Lists.{same_place}
 use Rattle.elimination_theory.specs.Atoms.{atoms_of}
-use Rattle.elimination_theory.specs.FieldsTheorems.{at_place}
+use Rattle.elimination_theory.specs.Substitution.{at_place}
 use Rattle.elimination_theory.specs.IntegersPoints.{points_with, integer_scale, integer_span}
 use Rattle.elimination_theory.specs.IntegersTheorems.{IntegerTestPointsSuffice}
 use Rattle.elimination_theory.proofs.Listed.{place_same}
 use Rattle.elimination_theory.proofs.SomeListed.{EachOf, some_distinct, some_of_distinct, atoms_of_every, every_of_atoms}
 use Rattle.elimination_theory.proofs.IntegerSides.{Fits}
-use Rattle.elimination_theory.proofs.IntegerScale.{Reaches, scale-positive, scale-reaches, span-positive, span-scale, fits-each}
+use Rattle.elimination_theory.proofs.IntegerScale.{Reaches, scale_positive, scale_reaches, span_positive, span_scale, fits_each}
 use Rattle.elimination_theory.proofs.IntegerPoints.{some_holds, holds_true}
 
 -- the span is the scale times the period
@@ -38,31 +38,31 @@ spanned l d hl hd h =
     record { scale = hl; span = hd; period = omega (arith, ints); is = sym e }
 
 module _ (x : ℕ) (f : Tree) (inside : InContext Integers f) where
-  inside-list : EachOf (AtomIn Integers) (atoms_of f)
-  inside-list = atoms_of_every (AtomIn Integers) f inside
+  inside_list : EachOf (AtomIn Integers) (atoms_of f)
+  inside_list = atoms_of_every (AtomIn Integers) f inside
 
   reached : EachOf (λ a. Reaches (integer_scale x f) (coefficient x (form_of a))) (atoms_of f)
-  reached = scale-reaches x (integer_scale x f) (atoms_of f) (divides_same (pos (integer_scale x f)))
+  reached = scale_reaches x (integer_scale x f) (atoms_of f) (divides_same (pos (integer_scale x f)))
 
   -- the scale and the span of a formula
-  pub formula-spanned : Spanned (integer_scale x f) (integer_span x f)
-  formula-spanned =
-      let positive = scale-positive x (atoms_of f) in
-      spanned (integer_scale x f) (integer_span x f) positive (span-positive (integer_scale x f) x (atoms_of f) positive inside-list reached)
-      (span-scale (integer_scale x f) x (integer_span x f) (atoms_of f) positive inside-list reached (divides_same (pos (integer_span x f))))
+  pub formula_spanned : Spanned (integer_scale x f) (integer_span x f)
+  formula_spanned =
+      let positive = scale_positive x (atoms_of f) in
+      spanned (integer_scale x f) (integer_span x f) positive (span_positive (integer_scale x f) x (atoms_of f) positive inside_list reached)
+      (span_scale (integer_scale x f) x (integer_span x f) (atoms_of f) positive inside_list reached (divides_same (pos (integer_span x f))))
 
   -- they fit each atom
-  pub formula-fits : Every (Fits (integer_scale x f) (integer_span x f / integer_scale x f) x) f
-  formula-fits =
+  pub formula_fits : Every (Fits (integer_scale x f) (integer_span x f / integer_scale x f) x) f
+  formula_fits =
       every_of_atoms (Fits (integer_scale x f) (integer_span x f / integer_scale x f) x) f
-      (fits-each (integer_scale x f) (integer_span x f) (integer_span x f / integer_scale x f) x (atoms_of f) (scale-positive x (atoms_of f)) formula-spanned.is
-      inside-list reached (divides_same (pos (integer_span x f))))
+      (fits_each (integer_scale x f) (integer_span x f) (integer_span x f / integer_scale x f) x (atoms_of f) (scale_positive x (atoms_of f)) formula_spanned.is
+      inside_list reached (divides_same (pos (integer_span x f))))
 
 pub integer_points_suffice : IntegerTestPointsSuffice
 integer_points_suffice side x f p plain inside whole =
-    let s = formula-spanned x f inside in (
+    let s = formula_spanned x f inside in (
       λ true. some_distinct same_place place_same (λ s. Holds Integers (at_place x s) f p) (points_with side (integer_scale x f) (integer_span x f) x (atoms_of f))
-          (some_holds side x (integer_scale x f) (integer_span x f) p whole s.scale s.span s.period s.is f plain (formula-fits x f inside) true),
+          (some_holds side x (integer_scale x f) (integer_span x f) p whole s.scale s.span s.period s.is f plain (formula_fits x f inside) true),
       λ some. holds_true side x (integer_scale x f) (integer_span x f) f p
           (some_of_distinct same_place (λ s. Holds Integers (at_place x s) f p) (points_with side (integer_scale x f) (integer_span x f) x (atoms_of f)) some),
     )

@@ -6,14 +6,14 @@ use Rattle.formula_meaning.specs.Form.{Form, coefficient, without, scale, plus}
 use Rattle.formula_meaning.specs.Formula.{Ex}
 use Rattle.formula_meaning.specs.Every.{Every}
 use Rattle.formula_meaning.specs.Shape.{IsPlain}
-use Rattle.formula_meaning.specs.Atom.{Atom, Compare, Congruent, Incongruent, Relation, Equals, Differs, Below, AtMost, Above, AtLeast, Mentions, mirrored}
+use Rattle.formula_meaning.specs.Atom.{Atom, Compare, Congruent, Relation, Equals, Differs, Below, AtMost, Above, AtLeast, Mentions, mirrored}
 use Rattle.formula_meaning.specs.Answer.{Place, Exact, AboveBy, BelowBy, PlusInfinity, MinusInfinity, Periodic, PlaceMentions}
 use Rattle.formula_meaning.specs.Tree.{Tree, InContext, IsFree}
 use Rattle.formula_meaning.proofs.Coefficients.{coefficient_plus}
 use Rattle.elimination_theory.specs.Side.{Side, turned}
 use Rattle.elimination_theory.specs.Lists.{same_place}
 use Rattle.elimination_theory.specs.Atoms.{atoms_of}
-use Rattle.elimination_theory.specs.FieldsSubstitution.{put_in}
+use Rattle.elimination_theory.specs.Substitution.{form_at}
 use Rattle.elimination_theory.specs.IntegersPoints.{counted, signed, starts_of, comparison_starts, atom_starts, class_points, next_points, points_with, integer_scale, integer_span, integer_points, integer_elimination}
 use Rattle.elimination_theory.specs.IntegersSubstitution.{where_zero, put_number, along, integer_atom, is_whole, integer_guard, guarded_substitution}
 use Rattle.elimination_theory.specs.IntegersTheorems.{IsIntegerPlace}
@@ -48,12 +48,10 @@ along_zero (negsuc q) c e = e
 along_zero (pos q) c e = neg_zero c e
 
 integer_atom_names : (x : ℕ) (s : Place) (a : Atom) (y : ℕ) → IsIntegerPlace s → IsFree (integer_atom x s a) y → AtomNames x s a y
-integer_atom_names x (Exact e l) (Compare r f) y p t = put_or_still x e l f y (exactly_has (coefficient x f) r f (put_in x e l f) y t)
-integer_atom_names x (Exact e l) (Congruent n f) y p t = put_or_still x e l f y (chosen_has (coefficient x f) (Congruent n f) _ y t)
-integer_atom_names x (Exact e l) (Incongruent n f) y p t = put_or_still x e l f y (chosen_has (coefficient x f) (Incongruent n f) _ y t)
+integer_atom_names x (Exact e l) (Compare r f) y p t = put_or_still x e l f y (exactly_has (coefficient x f) r f (form_at x e l f) y t)
+integer_atom_names x (Exact e l) (Congruent holds n f) y p t = put_or_still x e l f y (chosen_has (coefficient x f) (Congruent holds n f) _ y t)
 integer_atom_names x (Periodic j q) (Compare r f) y p t = let h = beyond_has (along q (coefficient x f)) r f y t in inl (still_has x f y (along_zero q (coefficient x f) h.0) h.1)
-integer_atom_names x (Periodic j q) (Congruent n f) y p t = inl (number_has x j f y (chosen_has (coefficient x f) (Congruent n f) _ y t))
-integer_atom_names x (Periodic j q) (Incongruent n f) y p t = inl (number_has x j f y (chosen_has (coefficient x f) (Incongruent n f) _ y t))
+integer_atom_names x (Periodic j q) (Congruent holds n f) y p t = inl (number_has x j f y (chosen_has (coefficient x f) (Congruent holds n f) _ y t))
 integer_atom_names x (AboveBy e l) a y p t = absurd p
 integer_atom_names x (BelowBy e l) a y p t = absurd p
 integer_atom_names x PlusInfinity a y p t = absurd p
@@ -102,8 +100,7 @@ comparison_start_has side l (negsuc n) r t b y i h = scale_has (pos (l / suc n))
 
 atom_start_has : (side : Side) (l x : ℕ) (a : Atom) (b : Form) (y : ℕ) → Among (atom_starts side l x a) b → Has b y → (¬ (x ≡ y)) × Mentions a y
 atom_start_has side l x (Compare r f) b y i h = without_has x f y (comparison_start_has side l (coefficient x f) r (without x f) b y i h)
-atom_start_has side l x (Congruent n f) b y i h = absurd i
-atom_start_has side l x (Incongruent n f) b y i h = absurd i
+atom_start_has side l x (Congruent holds n f) b y i h = absurd i
 
 class_has : (side : Side) (period : ℕ) (s : Place) (y : ℕ) → Among (class_points side period) s → ¬ (PlaceMentions s y)
 class_has side period s y i h =

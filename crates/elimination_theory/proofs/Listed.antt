@@ -5,7 +5,7 @@ use Rattle.std.specs.Ordering.{int_eq}
 use Rattle.std.proofs.lemmas.Bool.Decides.{Decides-int_eq}
 use Rattle.formula_meaning.specs.Some.{SomeOf}
 use Rattle.formula_meaning.specs.Form.{Form, Term}
-use Rattle.formula_meaning.specs.Atom.{Atom, Compare, Congruent, Incongruent, Relation, Equals, Differs, Below, AtMost, Above, AtLeast}
+use Rattle.formula_meaning.specs.Atom.{Atom, Compare, Congruent, Relation, Equals, Differs, Below, AtMost, Above, AtLeast}
 use Rattle.formula_meaning.specs.Answer.{Place, Exact, AboveBy, BelowBy, PlusInfinity, MinusInfinity, Periodic}
 use Rattle.elimination_theory.specs.Lists.{without_same, distinct, same_terms, same_form, rank, same_atom, same_place}
 
@@ -124,31 +124,26 @@ unranked (suc (suc (suc zero))) = AtMost
 unranked (suc (suc (suc (suc zero)))) = Above
 unranked (suc (suc (suc (suc (suc n))))) = AtLeast
 
-unranked-rank : (r : Relation) → unranked (rank r) ≡ r
+unranked_rank : (r : Relation) → unranked (rank r) ≡ r
 unfolding unranked
-unranked-rank Equals = refl
-unranked-rank Differs = refl
-unranked-rank Below = refl
-unranked-rank AtMost = refl
-unranked-rank Above = refl
-unranked-rank AtLeast = refl
+unranked_rank Equals = refl
+unranked_rank Differs = refl
+unranked_rank Below = refl
+unranked_rank AtMost = refl
+unranked_rank Above = refl
+unranked_rank AtLeast = refl
 
 relation_same : (r s : Relation) → nat_eq (rank r) (rank s) ≡ true → r ≡ s
-relation_same r s e = sym (unranked-rank r) ∙ ap unranked (eqb-true _ _ e) ∙ unranked-rank s
+relation_same r s e = sym (unranked_rank r) ∙ ap unranked (eqb-true _ _ e) ∙ unranked_rank s
 
 numbered : {T : Type 0} (make : ℕ → Form → T) (m n : ℕ) (f g : Form) → (nat_eq m n && same_form f g) ≡ true → make m f ≡ make n g
 numbered make m n f g e = ap₂ make (eqb-true _ _ (and_left (nat_eq m n) _ e)) (form_same f g (and_right (nat_eq m n) _ e))
 
 pub atom_same : (a b : Atom) → same_atom a b ≡ true → a ≡ b
 atom_same (Compare r f) (Compare s g) e = ap₂ Compare (relation_same r s (and_left (nat_eq (rank r) (rank s)) _ e)) (form_same f g (and_right (nat_eq (rank r) (rank s)) _ e))
-atom_same (Compare r f) (Congruent n g) e = absurd (cc (e))
-atom_same (Compare r f) (Incongruent n g) e = absurd (cc (e))
-atom_same (Congruent m f) (Compare s g) e = absurd (cc (e))
-atom_same (Congruent m f) (Congruent n g) e = numbered Congruent m n f g e
-atom_same (Congruent m f) (Incongruent n g) e = absurd (cc (e))
-atom_same (Incongruent m f) (Compare s g) e = absurd (cc (e))
-atom_same (Incongruent m f) (Congruent n g) e = absurd (cc (e))
-atom_same (Incongruent m f) (Incongruent n g) e = numbered Incongruent m n f g e
+atom_same (Congruent true m f) (Congruent true n g) e = numbered (Congruent true) m n f g e
+atom_same (Congruent false m f) (Congruent false n g) e = numbered (Congruent false) m n f g e
+atom_same _ _ e = absurd (cc (e))
 
 placed : (make : Form → ℕ → Place) (c d : ℕ) (e f : Form) → (nat_eq c d && same_form e f) ≡ true → make e c ≡ make f d
 placed make c d e f h = ap₂ make (form_same e f (and_right (nat_eq c d) _ h)) (eqb-true _ _ (and_left (nat_eq c d) _ h))

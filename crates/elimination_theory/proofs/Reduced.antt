@@ -10,12 +10,12 @@ use Rattle.exact_numbers.proofs.Divisibility.{mul_divides_mul, divides_along, di
 use Rattle.exact_numbers.proofs.LeastMultiple.{exact_div}
 use Rattle.exact_numbers.proofs.Contents.{content_is}
 use Rattle.formula_meaning.specs.Form.{Form, Term, scale, coefficient, without}
-use Rattle.formula_meaning.specs.Atom.{Atom, Compare, Congruent, Incongruent, Relation, Equals, Differs, Below, AtMost, Above, AtLeast, mirrored}
+use Rattle.formula_meaning.specs.Atom.{Atom, Compare, Congruent, Relation, Equals, Differs, Below, AtMost, Above, AtLeast, mirrored}
 use Rattle.formula_meaning.specs.Answer.{Place}
 use Rattle.elimination_theory.specs.Side.{Side, Lower, Upper, turned}
 use Rattle.elimination_theory.specs.Lists.{same_place}
 use Rattle.elimination_theory.specs.Atoms.{atoms_of}
-use Rattle.elimination_theory.specs.FieldsPoints.{numbers_of, divisor_of, terms_over, form_over, beside_point, ends_of, comparison_points, atom_points, infinity_of, IsReduced, FieldPointsAreReduced}
+use Rattle.elimination_theory.specs.FieldsPoints.{numbers_of, divisor_of, terms_over, form_over, beside_point, ends_of, comparison_points, atom_points, infinity_of, IsInLowestTerms, FieldPointsAreInLowestTerms}
 use Rattle.elimination_theory.proofs.Listed.{Among, flat_map_among, distinct_among}
 use Rattle.elimination_theory.proofs.LowestTerms.{lowest, natural}
 
@@ -58,14 +58,14 @@ reduced e d pd = ap unsigned_abs (reduced_content e d pd)
 
 -- ---- the points of the lists
 
-along : {s t : Place} → s ≡ t → IsReduced s → IsReduced t
-along e h = subst IsReduced e h
+along : {s t : Place} → s ≡ t → IsInLowestTerms s → IsInLowestTerms t
+along e h = subst IsInLowestTerms e h
 
-beside_reduced : (side : Side) (e : Form) (d : ℕ) → 0 < d → IsReduced (beside_point side e d)
+beside_reduced : (side : Side) (e : Form) (d : ℕ) → 0 < d → IsInLowestTerms (beside_point side e d)
 beside_reduced Lower e d h = reduced e d h
 beside_reduced Upper e d h = reduced e d h
 
-end_reduced : (side : Side) (r : Relation) (e : Form) (d : ℕ) → 0 < d → (s : Place) → Among (ends_of side r e d) s → IsReduced s
+end_reduced : (side : Side) (r : Relation) (e : Form) (d : ℕ) → 0 < d → (s : Place) → Among (ends_of side r e d) s → IsInLowestTerms s
 end_reduced side Equals e d h s (inl i) = along i (reduced e d h)
 end_reduced side Equals e d h s (inr i) = absurd i
 end_reduced side Differs e d h s (inl i) = along i (beside_reduced side e d h)
@@ -77,23 +77,22 @@ end_reduced side Above e d h s (inr i) = absurd i
 end_reduced side AtLeast e d h s (inl i) = along i (reduced e d h)
 end_reduced side AtLeast e d h s (inr i) = absurd i
 
-comparison_reduced : (side : Side) (c : ℤ) (r : Relation) (t : Form) (s : Place) → Among (comparison_points side c r t) s → IsReduced s
+comparison_reduced : (side : Side) (c : ℤ) (r : Relation) (t : Form) (s : Place) → Among (comparison_points side c r t) s → IsInLowestTerms s
 comparison_reduced side (pos zero) r t s h = absurd h
 comparison_reduced side (pos (suc n)) r t s h = end_reduced side (turned side r) (scale (negsuc 0) t) (suc n) (omega arith) s h
 comparison_reduced side (negsuc n) r t s h = end_reduced side (turned side (mirrored r)) t (suc n) (omega arith) s h
 
-atom_reduced : (side : Side) (x : ℕ) (a : Atom) (s : Place) → Among (atom_points side x a) s → IsReduced s
+atom_reduced : (side : Side) (x : ℕ) (a : Atom) (s : Place) → Among (atom_points side x a) s → IsInLowestTerms s
 atom_reduced side x (Compare r f) s h = comparison_reduced side (coefficient x f) r (without x f) s h
-atom_reduced side x (Congruent n f) s h = absurd h
-atom_reduced side x (Incongruent n f) s h = absurd h
+atom_reduced side x (Congruent holds n f) s h = absurd h
 
-infinity_reduced : (side : Side) → IsReduced (infinity_of side)
+infinity_reduced : (side : Side) → IsInLowestTerms (infinity_of side)
 infinity_reduced Lower = tt
 infinity_reduced Upper = tt
 
-pub points_reduced : FieldPointsAreReduced
+pub points_reduced : FieldPointsAreInLowestTerms
 points_reduced side x f s h = go (distinct_among same_place (infinity_of side ∷ flat_map (atom_points side x) (atoms_of f)) s h)
   where
-    go : Among (infinity_of side ∷ flat_map (atom_points side x) (atoms_of f)) s → IsReduced s
+    go : Among (infinity_of side ∷ flat_map (atom_points side x) (atoms_of f)) s → IsInLowestTerms s
     go (inl e) = along e (infinity_reduced side)
     go (inr m) = let r = flat_map_among (atom_points side x) (atoms_of f) s m in atom_reduced side x r.0 s r.2

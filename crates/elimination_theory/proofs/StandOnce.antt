@@ -6,7 +6,7 @@ use Rattle.std.proofs.lemmas.Bool.{eq-eqb}
 use Rattle.std.proofs.lemmas.Bool.Decides.{Decides-int_eq}
 use Rattle.formula_meaning.specs.Some.{SomeOf}
 use Rattle.formula_meaning.specs.Form.{Form, Term}
-use Rattle.formula_meaning.specs.Atom.{Atom, Compare, Congruent, Incongruent}
+use Rattle.formula_meaning.specs.Atom.{Atom, Compare, Congruent}
 use Rattle.formula_meaning.specs.Answer.{Place, Exact, AboveBy, BelowBy, PlusInfinity, MinusInfinity, Periodic}
 use Rattle.elimination_theory.specs.Lists.{without_same, distinct, same_terms, same_form, rank, same_atom, same_place, StandsOnce}
 use Rattle.elimination_theory.specs.Atoms.{atoms_in, atoms_of}
@@ -33,8 +33,8 @@ form_alike f = both_true _ _ (same_whole f.constant) (terms_alike f.terms)
 
 atom_alike : (a : Atom) → same_atom a a ≡ true
 atom_alike (Compare r f) = both_true _ _ (same_number (rank r)) (form_alike f)
-atom_alike (Congruent n f) = both_true _ _ (same_number n) (form_alike f)
-atom_alike (Incongruent n f) = both_true _ _ (same_number n) (form_alike f)
+atom_alike (Congruent true n f) = both_true _ _ (same_number n) (form_alike f)
+atom_alike (Congruent false n f) = both_true _ _ (same_number n) (form_alike f)
 
 place_alike : (s : Place) → same_place s s ≡ true
 place_alike (Exact e d) = both_true _ _ (same_number d) (form_alike e)

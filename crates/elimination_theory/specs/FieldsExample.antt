@@ -11,7 +11,7 @@ use Rattle.formula_meaning.specs.Tree.{Tree, TrueAt}
 use Rattle.elimination_theory.specs.Side.{Lower, Upper}
 use Rattle.elimination_theory.specs.FieldsPoints.{field_points}
 use Rattle.elimination_theory.specs.FieldsSubstitution.{field_substitution}
-use Rattle.elimination_theory.specs.FieldsTheorems.{at_place}
+use Rattle.elimination_theory.specs.Substitution.{at_place}
 
 -- times * name
 abbrev pub multiple_of : ℤ → ℕ → Term

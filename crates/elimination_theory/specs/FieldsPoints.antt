@@ -3,7 +3,7 @@ use Rattle.std.specs.Prelude.{◌≡◌, ℕ, suc, zero, ◌/◌, ℤ, pos, negs
 use Rattle.exact_numbers.specs.Divides.{content_of}
 use Rattle.formula_meaning.specs.Some.{SomeOf}
 use Rattle.formula_meaning.specs.Form.{Form, Term, coefficient, without, scale}
-use Rattle.formula_meaning.specs.Atom.{Atom, Compare, Congruent, Incongruent, Relation, Equals, Differs, Below, AtMost, Above, AtLeast, mirrored}
+use Rattle.formula_meaning.specs.Atom.{Atom, Compare, Congruent, Relation, Equals, Differs, Below, AtMost, Above, AtLeast, mirrored}
 use Rattle.formula_meaning.specs.Answer.{Place, Exact, AboveBy, BelowBy, PlusInfinity, MinusInfinity, Periodic}
 use Rattle.formula_meaning.specs.Tree.{Tree}
 use Rattle.elimination_theory.specs.Lists.{distinct, same_place}
@@ -52,8 +52,7 @@ comparison_points side (negsuc n) r t = ends_of side (turned side (mirrored r)) 
 
 abbrev pub atom_points : Side → ℕ → Atom → List Place
 atom_points side x (Compare r f) = comparison_points side (coefficient x f) r (without x f)
-atom_points side x (Congruent n f) = []
-atom_points side x (Incongruent n f) = []
+atom_points side x (Congruent holds n f) = []
 
 -- the infinity of the side
 abbrev pub infinity_of : Side → Place
@@ -65,14 +64,14 @@ abbrev pub field_points : Side → ℕ → Tree → List Place
 field_points side x f = distinct same_place (infinity_of side ∷ flat_map (atom_points side x) (atoms_of f))
 
 -- no number above 1 divides all numbers of the place
-abbrev pub IsReduced : Place → Type 0
-IsReduced (Exact e d) = divisor_of e d ≡ 1
-IsReduced (AboveBy e d) = divisor_of e d ≡ 1
-IsReduced (BelowBy e d) = divisor_of e d ≡ 1
-IsReduced PlusInfinity = Unit {0}
-IsReduced MinusInfinity = Unit {0}
-IsReduced (Periodic a q) = Unit {0}
+abbrev pub IsInLowestTerms : Place → Type 0
+IsInLowestTerms (Exact e d) = divisor_of e d ≡ 1
+IsInLowestTerms (AboveBy e d) = divisor_of e d ≡ 1
+IsInLowestTerms (BelowBy e d) = divisor_of e d ≡ 1
+IsInLowestTerms PlusInfinity = Unit {0}
+IsInLowestTerms MinusInfinity = Unit {0}
+IsInLowestTerms (Periodic a q) = Unit {0}
 
 -- Each test point of the fields is in lowest terms.
-abbrev pub FieldPointsAreReduced : Type 0
-FieldPointsAreReduced = (side : Side) (x : ℕ) (f : Tree) (s : Place) → SomeOf (λ t. t ≡ s) (field_points side x f) → IsReduced s
+abbrev pub FieldPointsAreInLowestTerms : Type 0
+FieldPointsAreInLowestTerms = (side : Side) (x : ℕ) (f : Tree) (s : Place) → SomeOf (λ t. t ≡ s) (field_points side x f) → IsInLowestTerms s

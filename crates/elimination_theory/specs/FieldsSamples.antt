@@ -11,7 +11,7 @@ use Rattle.formula_meaning.specs.Answer.{Place, Exact, AboveBy, BelowBy, PlusInf
 use Rattle.formula_meaning.specs.Tree.{Tree, TrueAt, InContext}
 use Rattle.elimination_theory.specs.Atoms.{atoms_of}
 use Rattle.elimination_theory.specs.FieldsSubstitution.{IsFieldPlace}
-use Rattle.elimination_theory.specs.FieldsTheorems.{at_place}
+use Rattle.elimination_theory.specs.Substitution.{at_place}
 
 -- k/m is a critical value: some comparison with the name has the value 0 there
 abbrev pub IsCritical : ℕ → Tree → Point ℕ → ℤ → ℕ → Type 0

@@ -1,15 +1,12 @@
 -- A name put at a place of the ordered fields (Loos and Weispfenning): the formula that results says nothing of infinitesimals.
 use Rattle.std.specs.Prelude.{ℕ, suc, zero, ◌<◌, ℤ, pos, negsuc, neg_ℤ, List, [], ◌∷◌}
 use Rattle.formula_meaning.specs.Formula.{Yes, No, One}
-use Rattle.formula_meaning.specs.Form.{Form, coefficient, without, combine}
-use Rattle.formula_meaning.specs.Atom.{Atom, Compare, Congruent, Incongruent, Relation, Equals, Differs, Below, AtMost, Above, AtLeast, mirrored}
+use Rattle.formula_meaning.specs.Form.{Form, coefficient}
+use Rattle.formula_meaning.specs.Atom.{Atom, Compare, Congruent, Relation, Equals, Differs, Below, AtMost, Above, AtLeast}
 use Rattle.formula_meaning.specs.Answer.{Answer, Place, Exact, AboveBy, BelowBy, PlusInfinity, MinusInfinity, Periodic}
 use Rattle.formula_meaning.specs.Replaced.{replaced}
 use Rattle.formula_meaning.specs.Tree.{Tree}
-
--- a * e + d * t: the form a * x + t with e/d for x, times d
-abbrev pub put_in : ℕ → Form → ℕ → Form → Form
-put_in x e d f = combine (coefficient x f) e (pos d) (without x f)
+use Rattle.elimination_theory.specs.Substitution.{form_at, beyond, exactly}
 
 -- what z relation 0 says where z is infinitesimally greater than the value of v
 abbrev pub just_above : Relation → Form → Tree
@@ -35,32 +32,11 @@ beside (pos zero) r f v = One (Compare r f)
 beside (pos (suc n)) r f v = just_above r v
 beside (negsuc n) r f v = just_below r v
 
--- what z relation 0 says of a z below all numbers
-abbrev pub below_all : Relation → Tree
-below_all Equals = No
-below_all Differs = Yes
-below_all Below = Yes
-below_all AtMost = Yes
-below_all Above = No
-below_all AtLeast = No
-
--- f relation 0, where f grows by a with x, and x is below all numbers
-abbrev pub beyond : ℤ → Relation → Form → Tree
-beyond (pos zero) r f = One (Compare r f)
-beyond (pos (suc n)) r f = below_all r
-beyond (negsuc n) r f = below_all (mirrored r)
-
--- f relation 0 with e/d for x; without x it stays
-abbrev pub exactly : ℤ → Relation → Form → Form → Tree
-exactly (pos zero) r f v = One (Compare r f)
-exactly (pos (suc n)) r f v = One (Compare r v)
-exactly (negsuc n) r f v = One (Compare r v)
-
 -- a comparison with x at the place; an atom without x stays
 abbrev pub field_comparison : ℕ → Place → Relation → Form → Tree
-field_comparison x (Exact e d) r f = exactly (coefficient x f) r f (put_in x e d f)
-field_comparison x (AboveBy e d) r f = beside (coefficient x f) r f (put_in x e d f)
-field_comparison x (BelowBy e d) r f = beside (neg_ℤ (coefficient x f)) r f (put_in x e d f)
+field_comparison x (Exact e d) r f = exactly (coefficient x f) r f (form_at x e d f)
+field_comparison x (AboveBy e d) r f = beside (coefficient x f) r f (form_at x e d f)
+field_comparison x (BelowBy e d) r f = beside (neg_ℤ (coefficient x f)) r f (form_at x e d f)
 field_comparison x MinusInfinity r f = beyond (coefficient x f) r f
 field_comparison x PlusInfinity r f = beyond (neg_ℤ (coefficient x f)) r f
 field_comparison x (Periodic a q) r f = One (Compare r f)
@@ -68,8 +44,7 @@ field_comparison x (Periodic a q) r f = One (Compare r f)
 -- an atom with x at the place
 abbrev pub field_atom : ℕ → Place → Atom → Tree
 field_atom x s (Compare r f) = field_comparison x s r f
-field_atom x s (Congruent n f) = One (Congruent n f)
-field_atom x s (Incongruent n f) = One (Incongruent n f)
+field_atom x s (Congruent holds n f) = One (Congruent holds n f)
 
 -- a formula with x at the place
 abbrev pub field_substitution : ℕ → Place → Tree → Tree

@@ -1,5 +1,5 @@
 -- The theorems of elimination over the ordered fields, as statements.
-use Rattle.std.specs.Prelude.{ℕ, ◌↔◌, List, [], ◌∷◌}
+use Rattle.std.specs.Prelude.{ℕ, ◌↔◌, List}
 use Rattle.formula_meaning.specs.Context.{Fields}
 use Rattle.formula_meaning.specs.Point.{Point, Of}
 use Rattle.formula_meaning.specs.Formula.{Ex, One}
@@ -9,12 +9,9 @@ use Rattle.formula_meaning.specs.Atom.{Atom, AtomIn}
 use Rattle.formula_meaning.specs.Answer.{Answer, Place, Holds}
 use Rattle.formula_meaning.specs.Tree.{Tree, TrueAt, InContext}
 use Rattle.elimination_theory.specs.Side.{Side}
+use Rattle.elimination_theory.specs.Substitution.{at_place}
 use Rattle.elimination_theory.specs.FieldsPoints.{field_points}
 use Rattle.elimination_theory.specs.FieldsSubstitution.{field_atom, field_substitution, field_substitutions, IsFieldPlace, AreFieldAnswers}
-
--- the one answer that puts x at the place
-abbrev pub at_place : ℕ → Place → List Answer
-at_place x s = record { name = x; place = s } ∷ []
 
 -- An atom's substitution is true exactly where the place makes the atom true.
 abbrev pub FieldAtomIsExact : Type 0

@@ -1,5 +1,5 @@
 -- Examples over the integers that compute, and definitions that would be wrong. The names x and a are the numbers 0 and 1.
-use Rattle.std.specs.Prelude.{◌≡◌, ℕ, ℤ, pos, negsuc, [], ◌∷◌, flat_map}
+use Rattle.std.specs.Prelude.{◌≡◌, ℕ, ℤ, pos, negsuc, [], ◌∷◌, flat_map, true}
 use Rattle.formula_meaning.specs.Context.{Integers}
 use Rattle.formula_meaning.specs.Point.{Point, Of}
 use Rattle.formula_meaning.specs.Formula.{Ex, One, And, also, none}
@@ -12,7 +12,7 @@ use Rattle.formula_meaning.specs.Answer.{Place, Exact, Periodic, Holds}
 use Rattle.formula_meaning.specs.Tree.{Tree, TrueAt, InContext}
 use Rattle.elimination_theory.specs.Atoms.{atoms_of}
 use Rattle.elimination_theory.specs.Side.{Side, Lower, Upper}
-use Rattle.elimination_theory.specs.FieldsTheorems.{at_place}
+use Rattle.elimination_theory.specs.Substitution.{at_place}
 use Rattle.elimination_theory.specs.IntegersSubstitution.{integer_substitution, integer_guard}
 use Rattle.elimination_theory.specs.IntegersPoints.{next_points, atom_starts, points_with, integer_scale, integer_span, integer_points}
 use Rattle.elimination_theory.specs.IntegersTheorems.{IsIntegerPlace, Suits}
@@ -36,7 +36,7 @@ two_x_is_a = One (Compare Equals (record { terms = x_term (pos 2) ∷ a_term (ne
 -- x > a and 2 divides x
 abbrev pub even_above_a : Tree
 even_above_a = And (also (One (Compare Above (record { terms = x_term (pos 1) ∷ a_term (negsuc 0) ∷ []; constant = pos 0 })))
-    (also (One (Congruent 2 (record { terms = x_term (pos 1) ∷ []; constant = pos 0 }))) none))
+    (also (One (Congruent true 2 (record { terms = x_term (pos 1) ∷ []; constant = pos 0 }))) none))
 
 -- x <= a
 abbrev pub at_most_a : Tree
@@ -51,7 +51,7 @@ PointsOfTwoXIsA = (integer_scale 0 two_x_is_a ≡ 2) × (integer_span 0 two_x_is
 -- at a/2 the equation becomes 2 * a - 2 * a = 0, and the guard is that 2 divides a
 abbrev pub SubstitutionOfTwoXIsA : Type 0
 SubstitutionOfTwoXIsA =
-    (integer_guard (Exact (a_plus (pos 0)) 2) ≡ One (Congruent 2 (a_plus (pos 0))))
+    (integer_guard (Exact (a_plus (pos 0)) 2) ≡ One (Congruent true 2 (a_plus (pos 0))))
     × (integer_substitution 0 (Exact (a_plus (pos 0)) 2) two_x_is_a
     ≡ One (Compare Equals (record { terms = a_term (pos 2) ∷ a_term (negsuc 1) ∷ []; constant = pos 0 })))
 

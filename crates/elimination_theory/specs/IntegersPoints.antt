@@ -2,7 +2,7 @@
 use Rattle.std.specs.Prelude.{ℕ, ℤ, pos, negsuc, zero, suc, ◌*◌, ◌/◌, neg_ℤ, unsigned_abs, List, [], ◌∷◌, ◌++◌, map, flat_map, length}
 use Rattle.exact_numbers.specs.Divides.{lcm_of}
 use Rattle.formula_meaning.specs.Form.{Form, coefficient, without, scale, plus}
-use Rattle.formula_meaning.specs.Atom.{Atom, Compare, Congruent, Incongruent, Relation, Equals, Differs, Below, AtMost, Above, AtLeast, mirrored, form_of}
+use Rattle.formula_meaning.specs.Atom.{Atom, Compare, Congruent, Relation, Equals, Differs, Below, AtMost, Above, AtLeast, mirrored, form_of}
 use Rattle.formula_meaning.specs.Answer.{Place, Exact, Periodic}
 use Rattle.formula_meaning.specs.Tree.{Tree}
 use Rattle.formula_meaning.specs.Formula.{Or}
@@ -37,8 +37,7 @@ with_modulus l m (negsuc a) n = common_multiple (m * (l / suc a)) n
 abbrev pub span_of : ℕ → ℕ → List Atom → ℕ
 span_of l x [] = l
 span_of l x (Compare r f ∷ atoms) = span_of l x atoms
-span_of l x (Congruent m f ∷ atoms) = with_modulus l m (coefficient x f) (span_of l x atoms)
-span_of l x (Incongruent m f ∷ atoms) = with_modulus l m (coefficient x f) (span_of l x atoms)
+span_of l x (Congruent holds m f ∷ atoms) = with_modulus l m (coefficient x f) (span_of l x atoms)
 
 -- first, first + 1, .., so many
 abbrev pub counted : ℕ → ℕ → List ℕ
@@ -67,8 +66,7 @@ comparison_starts side l (negsuc n) r t = starts_of side (turned side (mirrored 
 
 abbrev pub atom_starts : Side → ℕ → ℕ → Atom → List Form
 atom_starts side l x (Compare r f) = comparison_starts side l (coefficient x f) r (without x f)
-atom_starts side l x (Congruent m f) = []
-atom_starts side l x (Incongruent m f) = []
+atom_starts side l x (Congruent holds m f) = []
 
 -- the residue classes of a period towards the infinity of the side
 abbrev pub class_points : Side → ℕ → List Place

@@ -7,11 +7,11 @@ use Rattle.formula_meaning.specs.Every.{Every}
 use Rattle.formula_meaning.specs.Some.{SomeOf}
 use Rattle.formula_meaning.specs.Shape.{IsPlain}
 use Rattle.formula_meaning.specs.Form.{value, coefficient}
-use Rattle.formula_meaning.specs.Atom.{Atom, Compare, Congruent, Incongruent}
+use Rattle.formula_meaning.specs.Atom.{Atom, Compare, Congruent}
 use Rattle.formula_meaning.specs.Answer.{Place, Exact, AboveBy, BelowBy, PlusInfinity, MinusInfinity, Periodic, Holds}
 use Rattle.formula_meaning.specs.Tree.{Tree, TrueAt}
 use Rattle.elimination_theory.specs.Atoms.{atoms_of}
-use Rattle.elimination_theory.specs.FieldsTheorems.{at_place}
+use Rattle.elimination_theory.specs.Substitution.{at_place}
 use Rattle.elimination_theory.specs.IntegersSubstitution.{along}
 use Rattle.elimination_theory.specs.IntegersTheorems.{IsIntegerPlace, Suits}
 
@@ -24,14 +24,12 @@ IsPast (negsuc n) v = pos 0 <ℤ v
 -- the number k for x lies beyond the critical value of the comparison, -t/a of a * x + t, on the way of the period q
 abbrev pub LiesBeyond : ℕ → ℤ → Point ℕ → ℤ → Atom → Type 0
 LiesBeyond x q p k (Compare r f) = IsPast (along q (coefficient x f)) (value f (move nat_eq p x k 1))
-LiesBeyond x q p k (Congruent n f) = Unit {0}
-LiesBeyond x q p k (Incongruent n f) = Unit {0}
+LiesBeyond x q p k (Congruent holds n f) = Unit {0}
 
 -- the atom has a critical value
-abbrev pub IsCritical : ℕ → Atom → Type 0
-IsCritical x (Compare r f) = ¬ (coefficient x f ≡ pos 0)
-IsCritical x (Congruent n f) = ⊥
-IsCritical x (Incongruent n f) = ⊥
+abbrev pub HasCriticalValue : ℕ → Atom → Type 0
+HasCriticalValue x (Compare r f) = ¬ (coefficient x f ≡ pos 0)
+HasCriticalValue x (Congruent holds n f) = ⊥
 
 -- on the way of the period q the number k does not come after w
 abbrev pub ComesFirst : ℤ → ℤ → ℤ → Type 0
@@ -45,8 +43,8 @@ IsFarMember x j q f p k = Divides q (k -ℤ j) × Every (LiesBeyond x q p k) f
 -- the first number of the residue class of j beyond all critical values; j itself where there is none
 abbrev pub IsClassSample : ℕ → ℤ → ℤ → Tree → Point ℕ → ℤ → Type 0
 IsClassSample x j q f p k =
-    (¬ (SomeOf (IsCritical x) (atoms_of f)) × k ≡ j)
-    ⊎ (SomeOf (IsCritical x) (atoms_of f) × IsFarMember x j q f p k × ((w : ℤ) → IsFarMember x j q f p w → ComesFirst q k w))
+    (¬ (SomeOf (HasCriticalValue x) (atoms_of f)) × k ≡ j)
+    ⊎ (SomeOf (HasCriticalValue x) (atoms_of f) × IsFarMember x j q f p k × ((w : ℤ) → IsFarMember x j q f p w → ComesFirst q k w))
 
 -- the sample of a place: the number that it is, or the first member of its class beyond all critical values
 abbrev pub IsIntegerSample : ℕ → Place → Tree → Point ℕ → ℤ → Type 0

@@ -1,13 +1,13 @@
 -- A name put at a place of the integers (Cooper): the atom that results, and the guard of the place.
-use Rattle.std.specs.Prelude.{ℕ, ℤ, pos, negsuc, zero, suc, ◌*◌, ◌*ℤ◌, neg_ℤ, List, [], ◌∷◌}
+use Rattle.std.specs.Prelude.{ℕ, ℤ, pos, negsuc, zero, suc, ◌*◌, ◌*ℤ◌, neg_ℤ, List, [], ◌∷◌, true}
 use Rattle.formula_meaning.specs.Formula.{Yes, One, And}
 use Rattle.formula_meaning.specs.NegationNormal.{both}
 use Rattle.formula_meaning.specs.Form.{Form, coefficient, without, plus}
-use Rattle.formula_meaning.specs.Atom.{Atom, Compare, Congruent, Incongruent}
+use Rattle.formula_meaning.specs.Atom.{Atom, Compare, Congruent}
 use Rattle.formula_meaning.specs.Answer.{Answer, Place, Exact, AboveBy, BelowBy, PlusInfinity, MinusInfinity, Periodic}
 use Rattle.formula_meaning.specs.Replaced.{replaced}
 use Rattle.formula_meaning.specs.Tree.{Tree}
-use Rattle.elimination_theory.specs.FieldsSubstitution.{put_in, beyond, exactly}
+use Rattle.elimination_theory.specs.Substitution.{form_at, beyond, exactly}
 
 -- the first where the number is 0, else the second
 abbrev pub where_zero : {X : Type 0} → ℤ → X → X → X
@@ -27,12 +27,10 @@ along (pos q) a = neg_ℤ a
 -- An atom with x at the place; an atom without x stays. With e over l for x the form and the modulus are multiplied by l.
 -- Far out in a residue class comparisons are as at an infinity, and congruences take the number of the class.
 abbrev pub integer_atom : ℕ → Place → Atom → Tree
-integer_atom x (Exact e l) (Compare r f) = exactly (coefficient x f) r f (put_in x e l f)
-integer_atom x (Exact e l) (Congruent n f) = One (where_zero (coefficient x f) (Congruent n f) (Congruent (l * n) (put_in x e l f)))
-integer_atom x (Exact e l) (Incongruent n f) = One (where_zero (coefficient x f) (Incongruent n f) (Incongruent (l * n) (put_in x e l f)))
+integer_atom x (Exact e l) (Compare r f) = exactly (coefficient x f) r f (form_at x e l f)
+integer_atom x (Exact e l) (Congruent holds n f) = One (where_zero (coefficient x f) (Congruent holds n f) (Congruent holds (l * n) (form_at x e l f)))
 integer_atom x (Periodic j q) (Compare r f) = beyond (along q (coefficient x f)) r f
-integer_atom x (Periodic j q) (Congruent n f) = One (where_zero (coefficient x f) (Congruent n f) (Congruent n (put_number x j f)))
-integer_atom x (Periodic j q) (Incongruent n f) = One (where_zero (coefficient x f) (Incongruent n f) (Incongruent n (put_number x j f)))
+integer_atom x (Periodic j q) (Congruent holds n f) = One (where_zero (coefficient x f) (Congruent holds n f) (Congruent holds n (put_number x j f)))
 integer_atom x (AboveBy e l) a = One a
 integer_atom x (BelowBy e l) a = One a
 integer_atom x PlusInfinity a = One a
@@ -44,9 +42,9 @@ integer_substitution x s f = replaced (integer_atom x s) (λ y. y) f
 
 -- true where e over l is a whole number
 abbrev pub is_whole : Form → ℕ → Tree
-is_whole e zero = One (Congruent zero e)
+is_whole e zero = One (Congruent true zero e)
 is_whole e (suc zero) = Yes
-is_whole e (suc (suc n)) = One (Congruent (suc (suc n)) e)
+is_whole e (suc (suc n)) = One (Congruent true (suc (suc n)) e)
 
 -- the condition under which the place is a whole number
 abbrev pub integer_guard : Place → Tree

@@ -8,10 +8,10 @@ use Rattle.formula_meaning.specs.Every.{Every}
 use Rattle.formula_meaning.specs.Some.{SomeOf}
 use Rattle.formula_meaning.specs.Shape.{IsPlain}
 use Rattle.formula_meaning.specs.Form.{coefficient}
-use Rattle.formula_meaning.specs.Atom.{form_of, Atom, Compare, Congruent, Incongruent}
+use Rattle.formula_meaning.specs.Atom.{form_of, Atom, Compare, Congruent}
 use Rattle.formula_meaning.specs.Answer.{Answer, Place, Exact, AboveBy, BelowBy, PlusInfinity, MinusInfinity, Periodic, Holds}
 use Rattle.formula_meaning.specs.Tree.{Tree, TrueAt, InContext, Equivalent}
-use Rattle.elimination_theory.specs.FieldsTheorems.{at_place}
+use Rattle.elimination_theory.specs.Substitution.{at_place}
 use Rattle.elimination_theory.specs.Atoms.{atoms_of}
 use Rattle.elimination_theory.specs.Side.{Side}
 use Rattle.elimination_theory.specs.IntegersSubstitution.{integer_atom, integer_substitution, integer_substitutions, integer_guard}
@@ -20,8 +20,7 @@ use Rattle.elimination_theory.specs.IntegersPoints.{integer_count, atom_starts, 
 -- a step by the period takes the atom's form to a number of the same remainder
 abbrev pub IsPeriodOf : ℕ → ℤ → Atom → Type 0
 IsPeriodOf x q (Compare r f) = Unit {0}
-IsPeriodOf x q (Congruent n f) = Divides (pos n) (coefficient x f *ℤ q)
-IsPeriodOf x q (Incongruent n f) = Divides (pos n) (coefficient x f *ℤ q)
+IsPeriodOf x q (Congruent holds n f) = Divides (pos n) (coefficient x f *ℤ q)
 
 -- the places of the integers: over a positive scale, or in the residue classes of a period
 abbrev pub IsIntegerPlace : Place → Type 0
@@ -82,8 +81,7 @@ IsMultipleOf c n = ¬ (c ≡ pos 0) → Divides c (pos n)
 -- n is a multiple of the modulus of the atom, if it is a congruence in x, multiplied as x is to the scale l
 abbrev pub SpansAtom : ℕ → ℕ → ℕ → Atom → Type 0
 SpansAtom x l n (Compare r f) = Unit {0}
-SpansAtom x l n (Congruent m f) = ¬ (coefficient x f ≡ pos 0) → Divides (pos (m * (l / unsigned_abs (coefficient x f)))) (pos n)
-SpansAtom x l n (Incongruent m f) = ¬ (coefficient x f ≡ pos 0) → Divides (pos (m * (l / unsigned_abs (coefficient x f)))) (pos n)
+SpansAtom x l n (Congruent holds m f) = ¬ (coefficient x f ≡ pos 0) → Divides (pos (m * (l / unsigned_abs (coefficient x f)))) (pos n)
 
 -- The scale is positive, and the common multiples of all coefficients of x are its multiples.
 abbrev pub IntegerScaleIsLeast : Type 0

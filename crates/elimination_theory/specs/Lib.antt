@@ -1,6 +1,7 @@
 pub mod Lists
 pub mod Atoms
 pub mod Side
+pub mod Substitution
 pub mod FieldsPoints
 pub mod FieldsSubstitution
 pub mod FieldsTheorems

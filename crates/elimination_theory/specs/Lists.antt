@@ -3,7 +3,7 @@ use Rattle.std.specs.Prelude.{◌≡◌, ℕ, Bool, true, false, ◌&&◌, List,
 use Rattle.std.specs.Ordering.{int_eq}
 use Rattle.formula_meaning.specs.Some.{SomeOf}
 use Rattle.formula_meaning.specs.Form.{Form, Term}
-use Rattle.formula_meaning.specs.Atom.{Atom, Compare, Congruent, Incongruent, Relation, Equals, Differs, Below, AtMost, Above, AtLeast}
+use Rattle.formula_meaning.specs.Atom.{Atom, Compare, Congruent, Relation, Equals, Differs, Below, AtMost, Above, AtLeast}
 use Rattle.formula_meaning.specs.Answer.{Place, Exact, AboveBy, BelowBy, PlusInfinity, MinusInfinity, Periodic}
 
 -- the list without what is the same as x
@@ -37,14 +37,9 @@ rank AtLeast = 5
 
 abbrev pub same_atom : Atom → Atom → Bool
 same_atom (Compare r f) (Compare s g) = nat_eq (rank r) (rank s) && same_form f g
-same_atom (Compare r f) (Congruent n g) = false
-same_atom (Compare r f) (Incongruent n g) = false
-same_atom (Congruent m f) (Compare s g) = false
-same_atom (Congruent m f) (Congruent n g) = nat_eq m n && same_form f g
-same_atom (Congruent m f) (Incongruent n g) = false
-same_atom (Incongruent m f) (Compare s g) = false
-same_atom (Incongruent m f) (Congruent n g) = false
-same_atom (Incongruent m f) (Incongruent n g) = nat_eq m n && same_form f g
+same_atom (Congruent true m f) (Congruent true n g) = nat_eq m n && same_form f g
+same_atom (Congruent false m f) (Congruent false n g) = nat_eq m n && same_form f g
+same_atom _ _ = false
 
 abbrev pub same_place : Place → Place → Bool
 same_place (Exact e c) (Exact f d) = nat_eq c d && same_form e f

@@ -11,7 +11,7 @@ use Rattle.formula_meaning.specs.Form.{Form, Term, total, value, multiple, other
 use Rattle.exact_numbers.proofs.Ring.{zero_mul}
 use Rattle.exact_numbers.proofs.Order.{by_zero}
 use Rattle.formula_meaning.proofs.Values.{total_split}
-use Rattle.formula_meaning.specs.Atom.{Atom, Compare, Congruent, Incongruent, Says, Relates, Divides, Mentions}
+use Rattle.formula_meaning.specs.Atom.{Atom, Compare, Congruent, Says, Relates, IsMultiple, Mentions}
 use Rattle.formula_meaning.specs.Tree.{Tree, TrueAt, IsFree}
 
 pub agree_sym : {N : Type 0} {P : N → Type 0} {p q : Point N} → AgreeOn P p q → AgreeOn P q p
@@ -125,13 +125,13 @@ pub value_agrees : (f : Form) (p q : Point ℕ) → AgreeOn (λ x. ¬ (coefficie
 unfolding value coefficient
 value_agrees f p q h = ap₂ (λ a (b : ℕ). a +ℤ f.constant *ℤ pos b) (total_agrees (length f.terms) f.terms p.at q.at (omega arith) h.same_at) h.same_below
 
-divides_agrees : (m : ℕ) (f : Form) (p q : Point ℕ) → AgreeOn (λ x. ¬ (coefficient x f ≡ pos 0)) p q → Divides m f p → Divides m f q
+divides_agrees : (m : ℕ) (f : Form) (p q : Point ℕ) → AgreeOn (λ x. ¬ (coefficient x f ≡ pos 0)) p q → IsMultiple m f p → IsMultiple m f q
 divides_agrees m f p q h d = (d.0, sym (value_agrees f p q h) ∙ d.1 ∙ ap (λ (b : ℕ). d.0 *ℤ (pos m *ℤ pos b)) h.same_below)
 
 pub atom_agrees : (a : Atom) (p q : Point ℕ) → AgreeOn (Mentions a) p q → Says a p → Says a q
 atom_agrees (Compare r f) p q h t = subst (λ z. Relates r z (pos 0)) (value_agrees f p q h) t
-atom_agrees (Congruent m f) p q h t = divides_agrees m f p q h t
-atom_agrees (Incongruent m f) p q h t = λ d. t (divides_agrees m f q p (agree_sym h) d)
+atom_agrees (Congruent true m f) p q h t = divides_agrees m f p q h t
+atom_agrees (Congruent false m f) p q h t = λ d. t (divides_agrees m f q p (agree_sym h) d)
 
 pub differ_names : (x y : ℕ) → nat_eq x y ≡ false → ¬ (x ≡ y)
 differ_names x y e h = absurd (cc (eq-eqb x y h, e))

@@ -4,6 +4,8 @@ pub mod SamePoint
 pub mod TreeFiner
 pub mod FreeNames
 pub mod Coefficients
+pub mod Sorted
+pub mod Gathered
 pub mod PlainTruth
 pub mod Replacing
 pub mod EachAtom

@@ -1,5 +1,5 @@
 -- The truth of trees is the same at every representation of a rational point.
-use Rattle.std.proofs.Common.{◌≡◌, ℕ, ◌*◌, ap, sym, ◌∙◌, subst, refl, arith, ◌↔◌, nat_eq}
+use Rattle.std.proofs.Common.{◌≡◌, ℕ, ◌*◌, ap, sym, ◌∙◌, subst, refl, arith, ◌↔◌, nat_eq, true, false}
 use Rattle.std.proofs.Math.IntN.{ℤ, pos, ◌*ℤ◌}
 use Rattle.std.specs.Prelude.{◌<ℤ◌}
 use Rattle.std.proofs.lemmas.Int.{ints}
@@ -8,7 +8,7 @@ use Rattle.exact_numbers.proofs.Order.{cancel_positive}
 use Rattle.formula_meaning.specs.Context.{Context, Fields, Integers, Allowed}
 use Rattle.formula_meaning.specs.Point.{Point, finer, Of, IsSamePoint}
 use Rattle.formula_meaning.specs.Form.{Form, value}
-use Rattle.formula_meaning.specs.Atom.{Atom, Compare, Congruent, Incongruent, Says, Relates, Divides}
+use Rattle.formula_meaning.specs.Atom.{Atom, Compare, Congruent, Says, Relates, IsMultiple}
 use Rattle.formula_meaning.specs.Tree.{Tree, TrueAt}
 use Rattle.formula_meaning.proofs.Values.{value_finer, pos_mul}
 use Rattle.formula_meaning.proofs.Relations.{relates_zero_mul}
@@ -37,7 +37,7 @@ shrink n v q m b bn p e f =
 below_mul : (p : Point ℕ) (n : ℕ) → pos (finer p n).below ≡ pos p.below *ℤ pos n
 below_mul p n = ap pos (below_finer p n) ∙ pos_mul p.below n
 
-divides_finer : (m : ℕ) (f : Form) (p : Point ℕ) (n : ℕ) → pos 0 <ℤ pos n → Divides m f p ↔ Divides m f (finer p n)
+divides_finer : (m : ℕ) (f : Form) (p : Point ℕ) (n : ℕ) → pos 0 <ℤ pos n → IsMultiple m f p ↔ IsMultiple m f (finer p n)
 divides_finer m f p n h = (
   λ d. (d.0, value_finer f p n ∙ stretch (pos n) (value f p) d.0 (pos m) (pos p.below) (pos (finer p n).below) d.1 (below_mul p n)),
   λ d. (d.0, shrink (pos n) (value f p) d.0 (pos m) (pos p.below) (pos (finer p n).below) h (sym (value_finer f p n) ∙ d.1) (below_mul p n)),
@@ -45,8 +45,8 @@ divides_finer m f p n h = (
 
 pub atom_finer : (c : Context) (a : Atom) (p : Point ℕ) (n : ℕ) → Allowed c n → Says a p ↔ Says a (finer p n)
 atom_finer c (Compare r f) p n h = subst (λ z. Relates r (value f p) (pos 0) ↔ Relates r z (pos 0)) (sym (value_finer f p n)) (relates_zero_mul r (pos n) (value f p) (allowed_positive c n h))
-atom_finer c (Congruent m f) p n h = divides_finer m f p n (allowed_positive c n h)
-atom_finer c (Incongruent m f) p n h = let i = divides_finer m f p n (allowed_positive c n h) in (λ t u. t (i.1 u), λ t u. t (i.0 u))
+atom_finer c (Congruent true m f) p n h = divides_finer m f p n (allowed_positive c n h)
+atom_finer c (Congruent false m f) p n h = let i = divides_finer m f p n (allowed_positive c n h) in (λ t u. t (i.1 u), λ t u. t (i.0 u))
 
 pub tree_finer : (c : Context) (f : Tree) (p : Point ℕ) (n : ℕ) → Allowed c n → TrueAt c f p ↔ TrueAt c f (finer p n)
 tree_finer c f p n h = truth_finer Says nat_eq c (atom_finer c) f p n h

@@ -1,5 +1,5 @@
--- Atoms: a linear form compared with 0, or congruent to 0.
-use Rattle.std.specs.Prelude.{◌≡◌, ℕ, ◌<◌, ℤ, pos, ◌*ℤ◌, ◌<ℤ◌, ◌≤ℤ◌}
+-- Atoms: a linear form compared with 0, or congruent to 0 or not.
+use Rattle.std.specs.Prelude.{◌≡◌, ℕ, ◌<◌, ℤ, pos, ◌*ℤ◌, ◌<ℤ◌, ◌≤ℤ◌, Bool, true, false, not}
 use Rattle.formula_meaning.specs.Context.{Context, Fields, Integers}
 use Rattle.formula_meaning.specs.Point.{Point}
 use Rattle.formula_meaning.specs.Form.{Form, value, coefficient}
@@ -10,10 +10,8 @@ pub data Relation : Type 0 where
 pub data Atom : Type 0 where
   -- form relation 0
   Compare : Relation → Form → Atom
-  -- some whole number times the modulus is the form's value
-  Congruent : ℕ → Form → Atom
-  -- no whole number times the modulus is the form's value
-  Incongruent : ℕ → Form → Atom
+  -- the form is congruent to 0 by the modulus: for true that it is, for false that it is not
+  Congruent : Bool → ℕ → Form → Atom
 
 -- the first number has the relation to the second
 abbrev pub Relates : Relation → ℤ → ℤ → Type 0
@@ -25,14 +23,14 @@ Relates Above a b = b <ℤ a
 Relates AtLeast a b = b ≤ℤ a
 
 -- some whole number times n is the value of the form at the point
-abbrev pub Divides : ℕ → Form → Point ℕ → Type 0
-Divides n f p = (q : ℤ) × (value f p ≡ q *ℤ (pos n *ℤ pos p.below))
+abbrev pub IsMultiple : ℕ → Form → Point ℕ → Type 0
+IsMultiple n f p = (q : ℤ) × (value f p ≡ q *ℤ (pos n *ℤ pos p.below))
 
 -- the atom is true at the point
 abbrev pub Says : Atom → Point ℕ → Type 0
 Says (Compare r f) p = Relates r (value f p) (pos 0)
-Says (Congruent n f) p = Divides n f p
-Says (Incongruent n f) p = ¬ (Divides n f p)
+Says (Congruent true n f) p = IsMultiple n f p
+Says (Congruent false n f) p = ¬ (IsMultiple n f p)
 
 -- the atom of the opposite truth
 abbrev pub opposite_relation : Relation → Relation
@@ -45,22 +43,18 @@ opposite_relation AtLeast = Below
 
 abbrev pub opposite : Atom → Atom
 opposite (Compare r f) = Compare (opposite_relation r) f
-opposite (Congruent n f) = Incongruent n f
-opposite (Incongruent n f) = Congruent n f
+opposite (Congruent holds n f) = Congruent (not holds) n f
 
 -- which atoms a theory has: no congruences over the fields, positive moduli over the integers
 abbrev pub AtomIn : Context → Atom → Type 0
 AtomIn c (Compare r f) = Unit {0}
-AtomIn Fields (Congruent n f) = ⊥
-AtomIn Integers (Congruent n f) = 0 < n
-AtomIn Fields (Incongruent n f) = ⊥
-AtomIn Integers (Incongruent n f) = 0 < n
+AtomIn Fields (Congruent holds n f) = ⊥
+AtomIn Integers (Congruent holds n f) = 0 < n
 
 -- the linear form of an atom
 abbrev pub form_of : Atom → Form
 form_of (Compare r f) = f
-form_of (Congruent n f) = f
-form_of (Incongruent n f) = f
+form_of (Congruent holds n f) = f
 
 -- the name stands in the atom: its coefficient is not 0
 abbrev pub Mentions : Atom → ℕ → Type 0

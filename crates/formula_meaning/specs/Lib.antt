@@ -3,6 +3,7 @@ pub mod Point
 pub mod Formula
 pub mod Truth
 pub mod Form
+pub mod Sorted
 pub mod Some
 pub mod Atom
 pub mod Every

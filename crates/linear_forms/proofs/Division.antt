@@ -17,7 +17,8 @@ use Rattle.exact_numbers.proofs.Casts.{fits}
 use Rattle.formula_meaning.specs.Form.{Term, total, value, coefficient}
 use Rattle.linear_forms.specs.declared.form.VarId.{VarId}
 use Rattle.linear_forms.specs.Linear.{term_of, terms_of, IsDivided}
-use Rattle.linear_forms.specs.Terms.{AllAbove, IsRising, AllNonzero, AllInLimit, IsLinear, IsQuotient, coefficients}
+use Rattle.formula_meaning.specs.Sorted.{AllAbove, IsRising, AllNonzero}
+use Rattle.linear_forms.specs.Terms.{AllInLimit, IsLinear, IsQuotient, coefficients}
 use Rattle.linear_forms.proofs.Peeling.{terms_of-push}
 use Rattle.linear_forms.proofs.Totals.{one_at, multiple_total}
 
@@ -105,7 +106,7 @@ module _ (d : ℤ) (z : ¬ (d ≡ pos 0)) where
   unfolding coefficient value
   quotient_form xs ys c k r e l =
       record {
-        linear = record { rising = rising_divided xs ys r l.rising; nonzero = nonzero_divided xs ys r l.nonzero; within = within_divided xs ys r l.within; constant_within = quotient_within d k c z e l.constant_within };
+        linear = record { sorted = record { rising = rising_divided xs ys r l.sorted.rising; nonzero = nonzero_divided xs ys r l.sorted.nonzero }; within = within_divided xs ys r l.within; constant_within = quotient_within d k c z e l.constant_within };
         coefficients_scale = λ x. ap (λ m. d *ℤ m) (multiple_total x (terms_of ys)) ∙ total_divided xs ys (one_at x) r ∙ sym (multiple_total x (terms_of xs));
         constant_scales = e;
         values_scale = λ p. value_divided k c (total (terms_of ys) p.at) (total (terms_of xs) p.at) (pos p.below) e (total_divided xs ys p.at r);

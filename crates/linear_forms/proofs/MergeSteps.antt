@@ -6,9 +6,11 @@ use Rattle.std.proofs.lemmas.Bool.{cases_eq}
 use Rattle.exact_numbers.specs.Limit.{InLimit}
 use Rattle.exact_numbers.proofs.Ring.{ring, mul_zero, zero_mul, mul_one}
 use Rattle.formula_meaning.specs.Form.{Form, Term, total, multiple, coefficient, value}
-use Rattle.linear_forms.specs.Terms.{IsRising, PlaceWithin, PlacePasses, IsCombination}
+use Rattle.formula_meaning.specs.Sorted.{IsRising}
+use Rattle.linear_forms.specs.Terms.{PlaceWithin, PlacePasses, IsCombination}
 use Rattle.linear_forms.specs.Merging.{IsNext, IsPeeled, IsHandled, IsMerged}
-use Rattle.linear_forms.proofs.Totals.{one_at, multiple_total, one_at_same, one_at_other, total_push, multiple_above}
+use Rattle.formula_meaning.proofs.Sorted.{multiple_above}
+use Rattle.linear_forms.proofs.Totals.{one_at, multiple_total, one_at_same, one_at_other, total_push}
 use Rattle.linear_forms.proofs.Rising.{rising_push, nonzero_push, within_push, precede_push, precede_next}
 
 -- ---- the multiples of a list peeled at x
@@ -143,7 +145,7 @@ unfolding coefficient value
 combination a f b g merged c i w e =
     let sums = merged_sums a f.terms b g.terms merged i in
     record {
-      linear = record { rising = i.rising; nonzero = i.nonzero; within = i.within; constant_within = subst (λ (k : ℤ). InLimit k) (sym e) w.sum };
+      linear = record { sorted = record { rising = i.rising; nonzero = i.nonzero }; within = i.within; constant_within = subst (λ (k : ℤ). InLimit k) (sym e) w.sum };
       coefficients_add = λ x. multiple_total x merged ∙ sums (one_at x) ∙ sym (ap (λ k. a *ℤ k +ℤ b *ℤ multiple x g.terms) (multiple_total x f.terms) ∙ ap (λ k. a *ℤ total f.terms (one_at x) +ℤ b *ℤ k) (multiple_total x g.terms));
       constants_add = e;
       values_add = λ p. value_sums a b (total merged p.at) (total f.terms p.at) (total g.terms p.at) c f.constant g.constant (pos p.below) (sums p.at) e;

@@ -5,12 +5,9 @@ use Rattle.std.proofs.lemmas.Int.{ints}
 use Rattle.exact_numbers.specs.Limit.{InLimit}
 use Rattle.exact_numbers.proofs.Ring.{zero_mul}
 use Rattle.formula_meaning.specs.Form.{Term}
-use Rattle.linear_forms.specs.Terms.{AllAbove, IsRising, AllNonzero, AllInLimit}
+use Rattle.formula_meaning.specs.Sorted.{AllAbove, IsRising, AllNonzero}
+use Rattle.linear_forms.specs.Terms.{AllInLimit}
 use Rattle.linear_forms.specs.Merging.{FirstIs, IsNext, Precede, IsPeeled}
-
-pub above_lower : (x y : ℕ) (ts : List Term) → x ≤ y → AllAbove y ts → AllAbove x ts
-above_lower x y [] h a = tt
-above_lower x y (t ∷ ts) h a = let b = a.0 in (omega arith, above_lower x y ts h a.1)
 
 pub above_push : (x : ℕ) (ts : List Term) (t : Term) → AllAbove x ts → x < t.name → AllAbove x (ts ++ t ∷ [])
 above_push x [] t a h = (h, tt)
@@ -59,6 +56,3 @@ peel_first t ts r = record { sums = λ at. refl; above = r.0; rising = r.1; kept
 -- a list that begins above x has no multiple of x
 pub peel_none : (x : ℕ) (ts : List Term) → AllAbove x ts → IsRising ts → IsPeeled ts x (pos 0) ts
 peel_none x ts a r = record { sums = λ at. let z = zero_mul (at x) in omega (arith, ints); above = a; rising = r; kept = λ ms p. p }
-
-pub above_from_first : (x : ℕ) (t : Term) (ts : List Term) → IsRising (t ∷ ts) → x < t.name → AllAbove x (t ∷ ts)
-above_from_first x t ts r h = (h, above_lower x t.name ts (omega arith) r.0)

@@ -12,29 +12,14 @@ use Rattle.exact_numbers.specs.Limit.{InLimit}
 use Rattle.formula_meaning.specs.Form.{Term, multiple}
 use Rattle.linear_forms.specs.declared.form.VarId.{VarId}
 use Rattle.linear_forms.specs.Linear.{term_of, terms_of}
-use Rattle.linear_forms.specs.Terms.{AllAbove, IsRising, AllInLimit}
-use Rattle.linear_forms.proofs.Totals.{multiple_above}
+use Rattle.formula_meaning.specs.Sorted.{AllAbove, IsRising}
+use Rattle.linear_forms.specs.Terms.{AllInLimit}
+use Rattle.formula_meaning.proofs.Sorted.{multiple_above, here, elsewhere}
 
 above_at : (x : ℕ) (xs : List (VarId × ℤ)) (i : ℕ) (d : VarId × ℤ) → AllAbove x (terms_of xs) → i < length xs → x < (get_or xs i d).0.number
 above_at x [] i d a h = absurd (omega arith)
 above_at x (p ∷ ps) zero d a h = a.0
 above_at x (p ∷ ps) (suc i) d a h = above_at x ps i d a.1 (omega arith)
-
--- the multiple of a name whose term is the next
-pub here : (x : ℕ) (t : Term) (ts : List Term) → t.name ≡ x → AllAbove x ts → multiple x (t ∷ ts) ≡ t.times
-here x t ts e a = go (nat_eq x t.name) refl (multiple_above x ts a)
-  where
-    go : (b : Bool) → nat_eq x t.name ≡ b → multiple x ts ≡ pos 0 → (if b then t.times +ℤ multiple x ts else multiple x ts) ≡ t.times
-    go true f z = omega (arith, ints)
-    go false f z = let g : nat_eq x t.name ≡ true = eq-eqb x t.name (sym e) in let k : true ≡ false = sym g ∙ f in absurd (cc)
-
--- and of a name that stands elsewhere
-pub elsewhere : (x : ℕ) (t : Term) (ts : List Term) → ¬ (t.name ≡ x) → multiple x (t ∷ ts) ≡ multiple x ts
-elsewhere x t ts n = go (nat_eq x t.name) refl
-  where
-    go : (b : Bool) → nat_eq x t.name ≡ b → (if b then t.times +ℤ multiple x ts else multiple x ts) ≡ multiple x ts
-    go true f = let e = eqb-true x t.name f in absurd (n (sym e))
-    go false f = refl
 
 -- the number beside a name is the multiple of the name
 pub multiple_at : (xs : List (VarId × ℤ)) (i : ℕ) (d : VarId × ℤ) → IsRising (terms_of xs) → i < length xs → multiple (get_or xs i d).0.number (terms_of xs) ≡ (get_or xs i d).1

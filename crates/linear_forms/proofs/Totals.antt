@@ -5,7 +5,7 @@ use Rattle.std.proofs.lemmas.Int.{ints}
 use Rattle.std.proofs.lemmas.Bool.Decides.{nat_tests}
 use Rattle.exact_numbers.proofs.Ring.{mul_zero, mul_one}
 use Rattle.formula_meaning.specs.Form.{Term, total, multiple}
-use Rattle.linear_forms.specs.Terms.{AllAbove}
+use Rattle.formula_meaning.specs.Sorted.{AllAbove}
 
 -- 1 at x, and 0 elsewhere
 abbrev pub one_at : ℕ → ℕ → ℤ
@@ -29,12 +29,3 @@ one_at_other x y n = grind (arith, nat_tests)
 pub total_push : (ts : List Term) (t : Term) (at : ℕ → ℤ) → total (ts ++ t ∷ []) at ≡ total ts at +ℤ t.times *ℤ at t.name
 total_push [] t at = omega (arith, ints)
 total_push (s ∷ ts) t at = let h = total_push ts t at in omega (arith, ints)
-
--- no multiple of a name below all the terms' names
-pub multiple_above : (x : ℕ) (ts : List Term) → AllAbove x ts → multiple x ts ≡ pos 0
-multiple_above x [] h = refl
-multiple_above x (t ∷ ts) h = go (nat_eq x t.name) refl (multiple_above x ts h.1)
-  where
-    go : (b : Bool) → nat_eq x t.name ≡ b → multiple x ts ≡ pos 0 → (if b then t.times +ℤ multiple x ts else multiple x ts) ≡ pos 0
-    go true e z = let s = eqb-true x t.name e in let l = h.0 in absurd (omega arith)
-    go false e z = z

@@ -1,34 +1,19 @@
 -- What makes a list of terms the terms of a linear form of the program, and which numbers a combination forms.
-use Rattle.std.specs.Prelude.{◌≡◌, ◌⊎◌, ℕ, ◌<◌, ℤ, pos, ◌+ℤ◌, ◌*ℤ◌, List, [], ◌∷◌, Option, Some}
+use Rattle.std.specs.Prelude.{◌≡◌, ◌⊎◌, ℕ, ℤ, pos, ◌+ℤ◌, ◌*ℤ◌, List, [], ◌∷◌, Option, Some}
 use Rattle.exact_numbers.specs.Limit.{InLimit, PastLimit, checked}
 use Rattle.exact_numbers.specs.Frac.{◌>>=◌}
 use Rattle.formula_meaning.specs.Point.{Point}
+use Rattle.formula_meaning.specs.Sorted.{IsSorted}
 use Rattle.formula_meaning.specs.Form.{Form, Term, total, value, coefficient}
-
--- the names of all terms are above x
-abbrev pub AllAbove : ℕ → List Term → Type 0
-AllAbove x [] = Unit {0}
-AllAbove x (t ∷ ts) = (x < t.name) × AllAbove x ts
-
--- the names rise, so each stands once
-abbrev pub IsRising : List Term → Type 0
-IsRising [] = Unit {0}
-IsRising (t ∷ ts) = AllAbove t.name ts × IsRising ts
-
--- no coefficient is 0
-abbrev pub AllNonzero : List Term → Type 0
-AllNonzero [] = Unit {0}
-AllNonzero (t ∷ ts) = (¬ (t.times ≡ pos 0)) × AllNonzero ts
 
 -- each coefficient is within the limit
 abbrev pub AllInLimit : List Term → Type 0
 AllInLimit [] = Unit {0}
 AllInLimit (t ∷ ts) = InLimit t.times × AllInLimit ts
 
--- a form as the program holds it
+-- a form as the program holds it: sorted, and each number within the limit
 pub record IsLinear (f : Form) : Type 0 where
-  pub rising : IsRising f.terms
-  pub nonzero : AllNonzero f.terms
+  pub sorted : IsSorted f
   pub within : AllInLimit f.terms
   pub constant_within : InLimit f.constant
 

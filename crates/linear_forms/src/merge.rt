@@ -1,7 +1,8 @@
 // The merge of two sorted lists of names with coefficients.
 ghost use Rattle.std.specs.Prelude.{◌≡◌, ◌<◌, ◌≤◌, ℕ, ◌+ℤ◌, ◌*ℤ◌, [], length, IfOk, IsErrOf, MatchOption};
 ghost use Rattle.formula_meaning.specs.Form.{multiple};
-ghost use Rattle.linear_forms.specs.Terms.{IsRising, PlaceWithin, PlacePasses};
+ghost use Rattle.formula_meaning.specs.Sorted.{IsRising};
+ghost use Rattle.linear_forms.specs.Terms.{PlaceWithin, PlacePasses};
 ghost use Rattle.linear_forms.specs.Merging.{FirstAtLeast, FirstIs, IsNext, IsPeeled, IsMerged};
 ghost use Rattle.linear_forms.specs.Linear.{terms_of};
 

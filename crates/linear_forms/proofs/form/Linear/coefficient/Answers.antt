@@ -17,5 +17,5 @@ returns c =
     let e : r ≡ multiple v (terms_of xs) = c.coefficient.ensures ∙ ap (λ ys. multiple v (terms_of ys)) c.deref.ensures.value in
     record {
       value = to_z-of_z w128 r f ∙ e ∙ ap (coefficient v) c.self.view_is;
-      within = subst (λ (z : ℤ). InLimit z) (sym (to_z-of_z w128 r f ∙ e)) (multiple_within v (terms_of xs) c.self.invariant.rising c.self.invariant.within);
+      within = subst (λ (z : ℤ). InLimit z) (sym (to_z-of_z w128 r f ∙ e)) (multiple_within v (terms_of xs) c.self.invariant.sorted.rising c.self.invariant.within);
     }
