@@ -16,7 +16,8 @@ use Rattle.exact_numbers.proofs.Floor.{residue_not_negative, residue_below}
 use Rattle.formula_meaning.specs.Form.{Form, Term}
 use Rattle.linear_forms.specs.declared.form.VarId.{VarId}
 use Rattle.linear_forms.specs.Linear.{term_of, terms_of, IsDivided}
-use Rattle.linear_forms.specs.Terms.{AllAbove, IsRising, AllNonzero, AllInLimit, IsLinear}
+use Rattle.formula_meaning.specs.Sorted.{AllAbove, IsRising, AllNonzero, IsSorted}
+use Rattle.linear_forms.specs.Terms.{AllInLimit, IsLinear}
 use Rattle.linear_forms.specs.Reduction.{quotients, quotient, residues, residue_form}
 use Rattle.linear_forms.proofs.Peeling.{terms_of-push}
 use Rattle.linear_forms.proofs.Steps.{terms_from}
@@ -89,9 +90,14 @@ module _ (m : ℤ) where
   within_residues [] p f = tt
   within_residues (t ∷ ts) p f = let r = within_residues ts p f in by_residue AllInLimit t ts (λ _. r) (λ _. (residue_within t.times p f, r))
 
+  -- a sorted form stays sorted
+  pub residue_sorted : (f : Form) → IsSorted f → IsSorted (residue_form f m)
+  unfolding residue_form
+  residue_sorted f s = record { rising = rising_residues f.terms s.rising; nonzero = nonzero_residues f.terms }
+
   pub residue_linear : (f : Form) → pos 0 <ℤ m → FitsSigned w128 m → IsLinear f → IsLinear (residue_form f m)
   unfolding residue_form
-  residue_linear f p w l = record { rising = rising_residues f.terms l.rising; nonzero = nonzero_residues f.terms; within = within_residues f.terms p w; constant_within = residue_within f.constant p w }
+  residue_linear f p w l = record { sorted = residue_sorted f l.sorted; within = within_residues f.terms p w; constant_within = residue_within f.constant p w }
 
 -- ---- one pair more
 
