@@ -1,5 +1,5 @@
 -- The guard and the substitution of a place of the integers are true exactly where the place makes the formula true.
-use Rattle.std.proofs.Common.{◌≡◌, ℕ, suc, zero, ◌<◌, ℤ, pos, negsuc, ◌+ℤ◌, ◌*ℤ◌, neg_ℤ, ◌↔◌, arith, refl, subst, sym, ap, ◌∙◌, nat_eq, true}
+use Rattle.std.proofs.Common.{◌≡◌, ℕ, suc, zero, ◌<◌, ℤ, pos, negsuc, ◌+ℤ◌, ◌*ℤ◌, neg_ℤ, ◌↔◌, arith, refl, subst, sym, ap, ◌∙◌, nat_eq}
 use Rattle.std.proofs.lemmas.Int.{ints}
 use Rattle.exact_numbers.specs.Divides.{Divides}
 use Rattle.exact_numbers.proofs.Ring.{mul_one, mul_comm, mul_neg, neg_mul}

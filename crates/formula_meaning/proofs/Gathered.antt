@@ -8,8 +8,8 @@ use Rattle.exact_numbers.proofs.Ring.{ring, zero_mul}
 use Rattle.formula_meaning.specs.Point.{Point}
 use Rattle.formula_meaning.specs.Form.{Form, Term, total, value, multiple, coefficient, without, scale, combine, plus}
 use Rattle.formula_meaning.specs.Sorted.{AllAbove, IsRising, AllNonzero, IsSorted, with_term, put_term, gathered_terms, gathered}
-use Rattle.formula_meaning.proofs.Coefficients.{coefficient_combine, coefficient_scale, coefficient_plus, coefficient_without_same, coefficient_without_other}
-use Rattle.formula_meaning.proofs.Sorted.{sorted_determined, without_sorted, scale_sorted, above_lower, above_from_first}
+use Rattle.formula_meaning.proofs.Coefficients.{coefficient_combine, coefficient_scale, coefficient_without_same, coefficient_without_other}
+use Rattle.formula_meaning.proofs.Sorted.{sorted_determined, without_sorted, scale_sorted, above_from_first}
 
 -- the term a * x
 abbrev term : ℤ → ℕ → Term
@@ -33,6 +33,7 @@ put_term_total a x (t ∷ ts) at =
     cond_both (nat_eq x t.name) _ _ P (λ f.
     with_term_total (a +ℤ t.times) x ts at ∙ subst (λ (y : ℕ). (a +ℤ t.times) *ℤ at x +ℤ total ts at ≡ a *ℤ at x +ℤ (t.times *ℤ at y +ℤ total ts at)) (eqb-true x t.name f) (added_total a t.times (at x) (total ts at)))
     (λ f. let h = put_term_total a x ts at in omega (arith, ints)))
+
 gathered_terms_total : (ts : List Term) (at : ℕ → ℤ) → total (gathered_terms ts) at ≡ total ts at
 gathered_terms_total [] at = refl
 gathered_terms_total (t ∷ ts) at = put_term_total t.times t.name (gathered_terms ts) at ∙ ap (λ s. t.times *ℤ at t.name +ℤ s) (gathered_terms_total ts at)

@@ -1,10 +1,9 @@
 -- A form is its coefficients and its constant; and a form without one name.
-use Rattle.std.proofs.Common.{◌≡◌, ◌<◌, inl, inr, ℕ, zero, suc, Bool, true, false, List, [], ◌∷◌, Some, ap, sym, ◌∙◌, subst, refl, arith, nat_eq, if◌then◌else◌, eq-eqb}
+use Rattle.std.proofs.Common.{◌≡◌, ◌<◌, ℕ, zero, suc, Bool, true, false, List, [], ◌∷◌, Some, sym, ◌∙◌, subst, refl, arith, nat_eq, if◌then◌else◌}
 use Rattle.std.proofs.Math.IntN.{ℤ, pos}
 use Rattle.std.specs.Prelude.{slice_get}
-use Rattle.std.proofs.lemmas.Bool.{cases_lt, cases_eq}
 use Rattle.formula_meaning.specs.Form.{Form, Term, multiple, others, coefficient, without}
-use Rattle.formula_meaning.specs.Sorted.{AllAbove, IsRising, AllNonzero}
+use Rattle.formula_meaning.specs.Sorted.{AllAbove, IsRising}
 use Rattle.linear_forms.specs.Terms.{AllInLimit, IsLinear, IsCombination, IsQuotient}
 use Rattle.formula_meaning.proofs.Sorted.{here, elsewhere, sorted_determined, without_sorted}
 use Rattle.exact_numbers.proofs.Order.{cancel}

@@ -1,20 +1,19 @@
 -- Look-up in a sorted list of pairs.
-use Rattle.std.proofs.Common.{◌≡◌, ◌<◌, ◌≤◌, inl, inr, ℕ, zero, suc, Bool, true, false, List, [], ◌∷◌, length, get_or, ap, sym, ◌∙◌, subst, refl, arith, nat_eq, if◌then◌else◌, eqb-true, eq-eqb, Less, Equal, Greater, nat_cmp}
-use Rattle.std.proofs.Math.IntN.{ℤ, pos, ◌+ℤ◌}
+use Rattle.std.proofs.Common.{◌≡◌, ◌<◌, ◌≤◌, inl, inr, ℕ, zero, suc, List, [], ◌∷◌, length, get_or, ap, sym, ◌∙◌, subst, refl, arith, Less, Equal, Greater, nat_cmp}
+use Rattle.std.proofs.Math.IntN.{ℤ, pos}
 use Rattle.std.specs.Ordering.{ordering_index}
 use Rattle.std.specs.Cmp.{ranked}
 use Rattle.std.specs.List.{HoldsAt}
 use Rattle.std.specs.List.Sorted.{IsNonDecreasingBy, IsPartitionPoint}
 use Rattle.std.proofs.lemmas.Bool.{cases_lt, cases_eq}
 use Rattle.std.proofs.lemmas.Bool.Decides.{nat_tests}
-use Rattle.std.proofs.lemmas.Int.{ints}
 use Rattle.exact_numbers.specs.Limit.{InLimit}
 use Rattle.formula_meaning.specs.Form.{Term, multiple}
 use Rattle.linear_forms.specs.declared.form.VarId.{VarId}
 use Rattle.linear_forms.specs.Linear.{term_of, terms_of}
 use Rattle.formula_meaning.specs.Sorted.{AllAbove, IsRising}
 use Rattle.linear_forms.specs.Terms.{AllInLimit}
-use Rattle.formula_meaning.proofs.Sorted.{multiple_above, here, elsewhere}
+use Rattle.formula_meaning.proofs.Sorted.{here, elsewhere}
 
 above_at : (x : ℕ) (xs : List (VarId × ℤ)) (i : ℕ) (d : VarId × ℤ) → AllAbove x (terms_of xs) → i < length xs → x < (get_or xs i d).0.number
 above_at x [] i d a h = absurd (omega arith)

@@ -1,11 +1,10 @@
 -- Sums of terms, and the multiples of one name.
-use Rattle.std.proofs.Common.{◌≡◌, ℕ, Bool, true, false, List, [], ◌∷◌, ◌++◌, refl, arith, nat_eq, if◌then◌else◌, eqb-true, eq-eqb}
+use Rattle.std.proofs.Common.{◌≡◌, ℕ, Bool, true, false, List, [], ◌∷◌, ◌++◌, refl, arith, nat_eq, if◌then◌else◌, eq-eqb}
 use Rattle.std.proofs.Math.IntN.{ℤ, pos, ◌+ℤ◌, ◌*ℤ◌}
 use Rattle.std.proofs.lemmas.Int.{ints}
 use Rattle.std.proofs.lemmas.Bool.Decides.{nat_tests}
 use Rattle.exact_numbers.proofs.Ring.{mul_zero, mul_one}
 use Rattle.formula_meaning.specs.Form.{Term, total, multiple}
-use Rattle.formula_meaning.specs.Sorted.{AllAbove}
 
 -- 1 at x, and 0 elsewhere
 abbrev pub one_at : ℕ → ℕ → ℤ
