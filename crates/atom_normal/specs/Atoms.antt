@@ -1,29 +1,37 @@
--- Stub.
+-- What the program's atoms mean.
+use Rattle.std.specs.Prelude.{ℤ, pos, ◌<ℤ◌, unsigned_abs}
 use Rattle.exact_numbers.specs.Limit.{InLimit}
-use Rattle.std.specs.Prelude.{pos, ◌<ℤ◌, unsigned_abs, Bool, true, false}
-use Rattle.formula_meaning.specs.Context as meaning_context
-use Rattle.formula_meaning.specs.Atom as meaning
-use Rattle.atom_normal.specs.declared.atom.Context as code_context
-use Rattle.atom_normal.specs.declared.atom.Context.TheVariants as context
-use Rattle.atom_normal.specs.declared.atom.Rel as code_rel
-use Rattle.atom_normal.specs.declared.atom.Rel.TheVariants as rel
-use Rattle.atom_normal.specs.declared.atom.Atom as code
-use Rattle.atom_normal.specs.declared.atom.Atom.TheVariants as atom
+use Rattle.formula_meaning.specs.Context as meaning
+use Rattle.formula_meaning.specs.Formula.{Yes, No, One as Single}
+use Rattle.formula_meaning.specs.Atom as meant
+use Rattle.formula_meaning.specs.Tree.{Tree}
+use Rattle.atom_normal.specs.declared.atoms.Context.{Context}
+use Rattle.atom_normal.specs.declared.atoms.Context.TheVariants.{Fields, Integers}
+use Rattle.atom_normal.specs.declared.atoms.Rel.{Rel}
+use Rattle.atom_normal.specs.declared.atoms.Rel.TheVariants.{Equal, Differs, Less, AtMost, Greater, AtLeast}
+use Rattle.atom_normal.specs.declared.atoms.Atom.{Atom}
+use Rattle.atom_normal.specs.declared.atoms.Atom.TheVariants.{Compare, Congruent}
 
-abbrev pub relation_of : code_rel.Rel → meaning.Relation
-relation_of rel.Equal = meaning.Equals
-relation_of rel.Differs = meaning.Differs
-relation_of rel.Less = meaning.Below
-relation_of rel.AtMost = meaning.AtMost
-relation_of rel.Greater = meaning.Above
-relation_of rel.AtLeast = meaning.AtLeast
+-- the theory
+abbrev pub context_of : Context → meaning.Context
+context_of Fields = meaning.Fields
+context_of Integers = meaning.Integers
 
-abbrev pub atom_of : code.Atom → meaning.Atom
-atom_of (atom.Compare r f) = meaning.Compare (relation_of r) f
-atom_of (atom.Congruent true m f) = meaning.Congruent (unsigned_abs m) f
-atom_of (atom.Congruent false m f) = meaning.Incongruent (unsigned_abs m) f
+-- the relation
+abbrev pub relation_of : Rel → meant.Relation
+relation_of Equal = meant.Equals
+relation_of Differs = meant.Differs
+relation_of Less = meant.Below
+relation_of AtMost = meant.AtMost
+relation_of Greater = meant.Above
+relation_of AtLeast = meant.AtLeast
 
--- a positive modulus within the limit, where the atom has one
-abbrev pub IsProperAtom : code.Atom → Type 0
-IsProperAtom (atom.Compare r f) = Unit {0}
-IsProperAtom (atom.Congruent holds m f) = (pos 0 <ℤ m) × InLimit m
+-- the atom
+abbrev pub atom_of : Atom → meant.Atom
+atom_of (Compare r f) = meant.Compare (relation_of r) f
+atom_of (Congruent holds modulus form) = meant.Congruent holds (unsigned_abs modulus) form
+
+-- the modulus is positive and within the limit
+abbrev pub IsWellFormed : Atom → Type 0
+IsWellFormed (Compare r f) = Unit {0}
+IsWellFormed (Congruent holds modulus form) = (pos 0 <ℤ modulus) × InLimit modulus

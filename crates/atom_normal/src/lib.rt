@@ -1,6 +1,8 @@
-//! Stub.
+// Normal forms of atoms over both theories: what an atom becomes, its negation, its truth, and how two are merged.
 #![tactic(auto)]
 
-mod atom;
+mod atoms;
+mod error;
 
-pub use atom::{Atom, Context, Rel};
+pub use atoms::{Atom, Context, Merged, Normal, Rel};
+pub use error::AtomError;

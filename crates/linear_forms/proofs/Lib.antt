@@ -10,3 +10,4 @@ pub mod Lookups
 pub mod Steps
 pub mod Determined
 pub mod Equal
+pub mod Reduced

@@ -3,3 +3,4 @@ pub mod Linear
 pub mod Merging
 pub mod Values
 pub mod Equality
+pub mod Reduction

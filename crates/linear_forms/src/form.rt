@@ -1,10 +1,11 @@
 // A linear form: a sorted list of names with their coefficients, and a constant.
-ghost use Rattle.std.specs.Prelude.{◌≡◌, ℕ, pos, [], ◌∷◌, IfOk, IfErr, IsErrOf, MatchOption, option_map, slice_get};
+ghost use Rattle.std.specs.Prelude.{◌≡◌, ℕ, pos, ◌<ℤ◌, [], ◌∷◌, IfOk, IfErr, IsErrOf, MatchOption, option_map, slice_get};
 ghost use Rattle.exact_numbers.specs.Limit.{InLimit};
 ghost use Rattle.exact_numbers.specs.Divides.{DividesAll, IsContent, content_of};
 ghost use Rattle.formula_meaning.specs.Form.{coefficient, value};
 ghost use Rattle.linear_forms.specs.Terms.{IsLinear, IsCombination, CombinePasses, IsQuotient, coefficients, value_steps, ValuePasses};
 ghost use Rattle.linear_forms.specs.Values.{number_at, point_of};
+ghost use Rattle.linear_forms.specs.Reduction.{quotient, residue_form};
 ghost use Rattle.linear_forms.specs.Equality.{form_eq, form_decides, form_writes};
 ghost use Rattle.std.proofs.Common.{ap};
 ghost use Rattle.std.specs.Cmp.{decided, partial_equiv_from_equiv};
@@ -13,7 +14,7 @@ use crate::error::LinError;
 use crate::merge::{merge, place};
 use crate::terms;
 use crate::values::{Values, total};
-use exact_numbers::{product, sum};
+use exact_numbers::{product, residue, sum};
 use std::alloc::Global;
 use std::hash::{Hash, Hasher};
 use std::marker::Model;
@@ -156,12 +157,30 @@ impl Linear {
         requires nonzero { ¬ (by ≡ pos 0) }
         requires divides { DividesAll by (self.now.constant ∷ coefficients self.now.terms) }
         ensures divided { IfOk result (IsQuotient self.now by) }
+        ensures value { IfOk result (λ r. r ≡ quotient self.now by) }
         ensures memory { IfErr result (λ e. e ≡ LinError.Memory) }
     {
         match terms::divided(alloc, &self.terms, by) {
             Ok(terms) => Ok(Linear {
                 terms,
                 constant: self.constant / by,
+            }),
+            Err(_) => Err(LinError::Memory),
+        }
+    }
+
+    /// The form with each number modulo `modulus`, which is positive, and without the names whose coefficient becomes 0.
+    /// Its only error is `Memory`.
+    pub fn residues(&self, alloc: Global, modulus: i128) -> Result<Linear, LinError>
+        requires { pos 0 <ℤ modulus }
+        ensures value { IfOk result (λ r. r ≡ residue_form self.now modulus) }
+        ensures linear { IfOk result IsLinear }
+        ensures memory { IfErr result (λ e. e ≡ LinError.Memory) }
+    {
+        match terms::residues(alloc, &self.terms, modulus) {
+            Ok(terms) => Ok(Linear {
+                terms,
+                constant: residue(self.constant, modulus),
             }),
             Err(_) => Err(LinError::Memory),
         }
