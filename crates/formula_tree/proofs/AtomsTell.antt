@@ -1,13 +1,13 @@
--- Two proper atoms of one meaning are one.
+-- Two well-formed atoms of one meaning are one.
 use Rattle.std.proofs.Common.{◌≡◌, ℕ, refl, ap, arith}
 use Rattle.std.proofs.lemmas.Int.{ints}
 use Rattle.std.specs.Prelude.{pos, negsuc, ◌<ℤ◌, ℤ, unsigned_abs, Bool, true, false}
 use Rattle.formula_meaning.specs.Atom as meaning
-use Rattle.atom_normal.specs.declared.atom.Rel.{Rel}
-use Rattle.atom_normal.specs.declared.atom.Rel.TheVariants as rel
-use Rattle.atom_normal.specs.declared.atom.Atom.{Atom}
-use Rattle.atom_normal.specs.declared.atom.Atom.TheVariants as atom
-use Rattle.atom_normal.specs.Atoms.{atom_of, relation_of, IsProperAtom}
+use Rattle.atom_normal.specs.declared.atoms.Rel.{Rel}
+use Rattle.atom_normal.specs.declared.atoms.Rel.TheVariants as rel
+use Rattle.atom_normal.specs.declared.atoms.Atom.{Atom}
+use Rattle.atom_normal.specs.declared.atoms.Atom.TheVariants as atom
+use Rattle.atom_normal.specs.Atoms.{atom_of, relation_of, IsWellFormed}
 
 pub relations_tell : (r s : Rel) → relation_of r ≡ relation_of s → r ≡ s
 relations_tell rel.Equal rel.Equal e = refl
@@ -22,16 +22,9 @@ positive_tell : (m n : ℤ) → pos 0 <ℤ m → pos 0 <ℤ n → unsigned_abs m
 positive_tell (pos a) (pos b) h k e = ap pos e
 positive_tell m n h k e = absurd (omega (arith, ints))
 
-pub atoms_tell : (a b : Atom) → IsProperAtom a → IsProperAtom b → atom_of a ≡ atom_of b → a ≡ b
+pub atoms_tell : (a b : Atom) → IsWellFormed a → IsWellFormed b → atom_of a ≡ atom_of b → a ≡ b
 atoms_tell (atom.Compare r f) (atom.Compare s g) p q e =
     let n : relation_of r ≡ relation_of s = cc in let d : f ≡ g = cc in λ i. atom.Compare (relations_tell r s n i) (d i)
-atoms_tell (atom.Congruent true m f) (atom.Congruent true n g) p q e =
-    let k : unsigned_abs m ≡ unsigned_abs n = cc in let d : f ≡ g = cc in λ i. atom.Congruent true (positive_tell m n p.0 q.0 k i) (d i)
-atoms_tell (atom.Congruent false m f) (atom.Congruent false n g) p q e =
-    let k : unsigned_abs m ≡ unsigned_abs n = cc in let d : f ≡ g = cc in λ i. atom.Congruent false (positive_tell m n p.0 q.0 k i) (d i)
-atoms_tell (atom.Compare r f) (atom.Congruent true n g) p q e = cc
-atoms_tell (atom.Compare r f) (atom.Congruent false n g) p q e = cc
-atoms_tell (atom.Congruent true m f) (atom.Compare s g) p q e = cc
-atoms_tell (atom.Congruent false m f) (atom.Compare s g) p q e = cc
-atoms_tell (atom.Congruent true m f) (atom.Congruent false n g) p q e = cc
-atoms_tell (atom.Congruent false m f) (atom.Congruent true n g) p q e = cc
+atoms_tell (atom.Congruent holds m f) (atom.Congruent others n g) p q e =
+    let h : holds ≡ others = cc in let k : unsigned_abs m ≡ unsigned_abs n = cc in let d : f ≡ g = cc in λ i. atom.Congruent (h i) (positive_tell m n p.0 q.0 k i) (d i)
+atoms_tell a b p q e = cc

@@ -7,11 +7,11 @@ use Rattle.formula_meaning.specs.Form.{Form}
 use Rattle.formula_meaning.specs.Atom as meaning
 use Rattle.formula_meaning.specs.Formula.{Formulas, Yes, No, One, Not, And, Or, Impl, Repl, Equiv, Ex, All, none, also}
 use Rattle.formula_meaning.specs.Tree.{Tree}
-use Rattle.atom_normal.specs.declared.atom.Rel.{Rel}
-use Rattle.atom_normal.specs.declared.atom.Rel.TheVariants as rel
-use Rattle.atom_normal.specs.declared.atom.Atom.{Atom}
-use Rattle.atom_normal.specs.declared.atom.Atom.TheVariants as atom
-use Rattle.atom_normal.specs.Atoms.{atom_of, relation_of, IsProperAtom}
+use Rattle.atom_normal.specs.declared.atoms.Rel.{Rel}
+use Rattle.atom_normal.specs.declared.atoms.Rel.TheVariants as rel
+use Rattle.atom_normal.specs.declared.atoms.Atom.{Atom}
+use Rattle.atom_normal.specs.declared.atoms.Atom.TheVariants as atom
+use Rattle.atom_normal.specs.Atoms.{atom_of, relation_of, IsWellFormed}
 use Rattle.formula_tree.specs.declared.shape.Shape.{Shape}
 use Rattle.formula_tree.specs.declared.shape.Shape.TheVariants as shape
 use Rattle.formula_tree.specs.Trees.{members}
@@ -29,7 +29,7 @@ module _ {Id : Type 0} (t : Id → Tree) (R : Id → Type 0) where
       λ i. (h.0 b k.0 first i) ∷ (members_tell rest bs h.1 k.1 others i)
 
   -- two shapes with one tree are one shape, where their ids with one tree are one id
-  pub over_tells : (atoms : (a b : Atom) → IsProperAtom a → IsProperAtom b → atom_of a ≡ atom_of b → a ≡ b)
+  pub over_tells : (atoms : (a b : Atom) → IsWellFormed a → IsWellFormed b → atom_of a ≡ atom_of b → a ≡ b)
       (s r : Shape Id) → IsProperShape s → IsProperShape r → AllIds (λ a. (b : Id) → R b → t a ≡ t b → a ≡ b) s → AllIds R r → tree_over t s ≡ tree_over t r → s ≡ r
   over_tells atoms shape.True shape.True p q h k e = refl
   over_tells atoms shape.False shape.False p q h k e = refl

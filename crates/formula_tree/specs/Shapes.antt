@@ -3,9 +3,9 @@ use Rattle.std.specs.Prelude.{ℕ, ◌<◌, ℤ, pos, ◌<ℤ◌, List, [], ◌�
 use Rattle.std.specs.List.{AllByRecursion}
 use Rattle.formula_meaning.specs.Formula.{Formula, Formulas, Yes, No, One, Not, And, Or, Impl, Repl, Equiv, Ex, All, none, also}
 use Rattle.formula_meaning.specs.Tree.{Tree}
-use Rattle.atom_normal.specs.declared.atom.Atom.{Atom}
-use Rattle.atom_normal.specs.declared.atom.Atom.TheVariants as atom
-use Rattle.atom_normal.specs.Atoms.{atom_of, IsProperAtom}
+use Rattle.atom_normal.specs.declared.atoms.Atom.{Atom}
+use Rattle.atom_normal.specs.declared.atoms.Atom.TheVariants as atom
+use Rattle.atom_normal.specs.Atoms.{atom_of, IsWellFormed}
 use Rattle.formula_tree.specs.declared.shape.Shape.{Shape}
 use Rattle.formula_tree.specs.declared.shape.Shape.TheVariants as shape
 use Rattle.formula_tree.specs.Trees.{members}
@@ -38,7 +38,7 @@ AllIds P (shape.Equiv f g) = P f × P g
 AllIds P (shape.Ex x f) = P f
 AllIds P (shape.All x f) = P f
 
--- the atom of the shape, if it is one, is proper
+-- the atom of the shape, if it is one, is well formed
 abbrev pub IsProperShape : {Id : Type 0} → Shape Id → Type 0
-IsProperShape (shape.One a) = IsProperAtom a
+IsProperShape (shape.One a) = IsWellFormed a
 IsProperShape _ = Unit {0}
