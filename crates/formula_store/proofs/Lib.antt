@@ -1,2 +1,5 @@
 pub mod Trees
 pub mod Same
+pub mod Heights
+pub mod Keys
+pub mod Joined

@@ -1,4 +1,107 @@
-/// Formulas, each kept once.
+ghost use Rattle.std.specs.Prelude.{◌≡◌, ◌≤◌, ◌<◌, ◌^◌, [], Some, IfOk, IfErr, length, map, slice_get};
+ghost use Rattle.std.specs.List.{AllByRecursion};
+ghost use Rattle.formula_meaning.specs.Sizes.{height};
+ghost use Rattle.formula_tree.specs.Shapes.{AllIds, IsProperShape, tree_over};
+ghost use Rattle.formula_store.specs.Nodes.{tree, IsId, Makes};
+ghost use Rattle.formula_store.specs.Facts.{IsFactsOf, AreFactsOf};
+ghost use Rattle.formula_tree.specs.Trees.{members};
+
+use crate::facts::Facts;
+use crate::id::FormulaId;
+use formula_tree::{MakeError, Shape};
+use indexmap::IndexMap;
+use std::alloc::Global;
+use std::marker::Model;
+
+/// Formulas, each kept once under one id. A member has a smaller number than the formulas that it stands in.
+#[derive(Drop)]
 pub struct Store {
-    last: usize,
+    nodes: IndexMap<Shape<FormulaId>, Facts>,
+}
+
+impl Model for Store {
+    ghost use Rattle.std.specs.Prelude.{List};
+    ghost use Rattle.std.specs.Map.{keys_of};
+    ghost use Rattle.formula_tree.specs.declared.shape.Shape.{Shape as Node};
+    ghost use Rattle.formula_store.specs.declared.id.FormulaId.{FormulaId as Id};
+    ghost use Rattle.formula_store.specs.Stored.{IsStore};
+
+    ghost Value = { List (Node Id) };
+
+    ghost view = { λ s. keys_of s.nodes.entries };
+
+    ghost invariant = { λ s. IsStore s.nodes.entries };
+}
+
+impl Store {
+    /// No formulas.
+    pub fn new(alloc: Global) -> Store
+        ensures { result ≡ [] }
+    {
+        Store {
+            nodes: IndexMap::new(alloc),
+        }
+    }
+
+    /// The top of the formula: its shape over the ids of its members, whose numbers are smaller. It takes no memory.
+    pub fn shape(&self, id: FormulaId) -> &Shape<FormulaId>
+        requires { IsId self.now id }
+        ensures node { slice_get self.now id.number ≡ Some result.now }
+        ensures tree { tree self.now id ≡ tree_over (tree self.now) result.now }
+        ensures ids { AllIds (λ member. member.number < id.number) result.now }
+        ensures proper { IsProperShape result.now }
+    {
+        let (shape, _) = self.nodes.get_index(id.number).unwrap();
+        shape
+    }
+
+    /// What is known of the formula. It takes no memory.
+    pub fn facts(&self, id: FormulaId) -> Facts
+        requires { IsId self.now id }
+        ensures facts { IsFactsOf (tree self.now id) result }
+        ensures height { result.height ≤ length self.now }
+    {
+        let (_, facts) = self.nodes.get_index(id.number).unwrap();
+        *facts
+    }
+
+    /// How many formulas there are.
+    pub fn len(&self) -> usize
+        ensures len { result ≡ length self.now }
+        ensures small { result < 2 ^ 63 }
+    {
+        self.nodes.len()
+    }
+
+    // What is known of the formulas together.
+    fn facts_together(&self, ids: &[FormulaId]) -> Facts
+        requires { AllByRecursion (IsId self.now) ids.now }
+        ensures facts { AreFactsOf (members (map (tree self.now) ids.now)) result }
+        ensures height { result.height ≤ length self.now }
+    {
+        let mut facts = Facts::NONE;
+        for id in ids {
+            facts = facts.joined(self.facts(*id));
+        }
+        facts
+    }
+
+    // What is known of the formula of this shape.
+    fn facts_of(&self, shape: &Shape<FormulaId>) -> Facts
+        requires { AllIds (IsId self.now) shape.now }
+        ensures { IsFactsOf (tree_over (tree self.now) shape.now) result }
+    {
+        let _room = self.len();
+        match shape {
+            Shape::True | Shape::False | Shape::One(_) => Facts::NONE.above(),
+            Shape::And(ids) | Shape::Or(ids) => self.facts_together(ids.items()).above(),
+            Shape::Not(member) => self.facts(*member).above(),
+            Shape::Impl(left, right) | Shape::Repl(left, right) | Shape::Equiv(left, right) => {
+                self.facts(*left).joined(self.facts(*right)).above()
+            }
+            Shape::Ex(_, member) | Shape::All(_, member) => {
+                self.facts(*member).above().quantified()
+            }
+        }
+    }
 }

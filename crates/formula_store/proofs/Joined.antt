@@ -1,0 +1,21 @@
+-- Facts joined one after another.
+use Rattle.std.proofs.Common.{◌≡◌, ℕ, ◌+◌, ◌<◌, ◌≤◌, max, min, ◌||◌, Bool, true, false, List, [], ◌∷◌, length, map, drop, refl, ap, sym, ◌∙◌, subst, arith}
+use Rattle.formula_meaning.specs.Tree.{Tree, Trees}
+use Rattle.formula_meaning.specs.Formula.{none, also}
+use Rattle.formula_meaning.specs.Sizes.{all_nodes, highest, some_quantifier}
+use Rattle.formula_tree.specs.Trees.{members}
+use Rattle.formula_store.specs.declared.facts.Facts.{Facts}
+use Rattle.formula_store.specs.Facts.{most_nodes, AreFactsOf}
+use Rattle.formula_store.specs.Together.{Join}
+
+or_false : (b : Bool) → (b || false) ≡ b
+or_false true = refl
+or_false false = refl
+
+-- nothing is left
+pub join_none : (facts : Facts) (all : Trees) → facts.nodes ≤ most_nodes → Join facts none all → AreFactsOf all facts
+join_none facts all small j = record {
+  height_is = let h = j.height_is in omega arith;
+  nodes_are = let h = j.nodes_are in omega arith;
+  quantified_is = sym (or_false facts.quantified) ∙ j.quantified_is;
+}
