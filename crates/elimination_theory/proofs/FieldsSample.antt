@@ -22,7 +22,7 @@ use Rattle.elimination_theory.specs.Atoms.{atoms_of}
 use Rattle.elimination_theory.specs.FieldsSubstitution.{IsFieldPlace}
 use Rattle.elimination_theory.specs.Substitution.{at_place}
 use Rattle.elimination_theory.specs.FieldsSamples.{NoCritical, IsJustPast, IsJustShort, IsBelowAll, IsAboveAll, IsFieldSample}
-use Rattle.elimination_theory.proofs.Listed.{among_some}
+use Rattle.formula_meaning.proofs.Listed.{among_some}
 use Rattle.elimination_theory.proofs.Fractions.{less_at_most, at_most_less}
 use Rattle.elimination_theory.proofs.FieldsCut.{Before, NotAfter, Covers, by_before, not_after_before, before_not_after_before, covers_on}
 use Rattle.elimination_theory.proofs.FieldsLine.{over, under, line_positive, line_negative, comparison_still}
