@@ -31,7 +31,7 @@ use Rattle.elimination_theory.proofs.FieldsBegin.{IsOfSide, cut_of, proper}
 use Rattle.elimination_theory.proofs.FieldsMeet.{Near, near_meets, near_some, place_near, field_place, pos_positive, positive_pos}
 use Rattle.elimination_theory.proofs.FieldsNear.{small_both, large_both}
 use Rattle.elimination_theory.proofs.FieldsSuffice.{every_atom}
-use Rattle.elimination_theory.proofs.Decided.{moved_of}
+use Rattle.formula_meaning.proofs.TreeReplacing.{moved_of}
 
 near_both : (s : Place) (T U : ℤ → ℕ → Type 0) (p : Point ℕ) → Near p s T → Near p s U → Near p s (λ k m. T k m × U k m)
 near_both (Exact e d) T U p t u = (t, u)
