@@ -8,7 +8,7 @@ use Rattle.formula_meaning.specs.Shape.{IsPlain}
 use Rattle.formula_meaning.specs.Atom.{Atom, Compare, Congruent, Relation, Equals, Differs, Below, AtMost, Above, AtLeast, AtomIn, mirrored}
 use Rattle.formula_meaning.specs.Answer.{Answer, Place, Exact, AboveBy, BelowBy, PlusInfinity, MinusInfinity, Periodic, Meets, MeetsAll, Holds}
 use Rattle.formula_meaning.specs.Tree.{Tree, TrueAt, InContext}
-use Rattle.formula_meaning.proofs.Values.{below_move}
+use Rattle.formula_meaning.proofs.TreeReplacing.{moved_of}
 use Rattle.formula_meaning.proofs.EachAtom.{every_map}
 use Rattle.formula_meaning.proofs.ReplacedShape.{plain_stays, every_replaced}
 use Rattle.elimination_theory.specs.Substitution.{form_at, below_all, beyond, exactly}
@@ -80,16 +80,13 @@ pub substitutions_tree : (answers : List Answer) (f : Tree) → IsFieldTree f �
 substitutions_tree [] f h = h
 substitutions_tree (a ∷ rest) f h = substitution_tree a.name a.place (field_substitutions rest f) (substitutions_tree rest f h)
 
-moved_of : (p : Point ℕ) (x : ℕ) (k : ℤ) (m : ℕ) → Of Fields p → 0 < m → Of Fields (move nat_eq p x k m)
-moved_of p x k m o h = subst (λ b. 0 < b) (sym (below_move nat_eq p x k m)) (mul-pos o h)
-
 -- what holds at a place grows with what is to hold there
 pub meets_map : (s : Place) (x : ℕ) (R S : Point ℕ → Type 0) → ((q : Point ℕ) → Of Fields q → R q → S q) → (p : Point ℕ) → IsFieldPlace s → Of Fields p → Meets Fields s x R p → Meets Fields s x S p
-meets_map (Exact e d) x R S f p h o t = f _ (moved_of p x _ d o h) t
-meets_map (AboveBy e d) x R S f p h o t = small_map _ _ (λ u v i r. f _ (moved_of p x _ (d * v) o (mul-pos h i)) r) t
-meets_map (BelowBy e d) x R S f p h o t = small_map _ _ (λ u v i r. f _ (moved_of p x _ (d * v) o (mul-pos h i)) r) t
-meets_map PlusInfinity x R S f p h o t = large_map _ _ (λ u v i r. f _ (moved_of p x _ v o i) r) t
-meets_map MinusInfinity x R S f p h o t = large_map _ _ (λ u v i r. f _ (moved_of p x _ v o i) r) t
+meets_map (Exact e d) x R S f p h o t = f _ (moved_of Fields p x _ d o h) t
+meets_map (AboveBy e d) x R S f p h o t = small_map _ _ (λ u v i r. f _ (moved_of Fields p x _ (d * v) o (mul-pos h i)) r) t
+meets_map (BelowBy e d) x R S f p h o t = small_map _ _ (λ u v i r. f _ (moved_of Fields p x _ (d * v) o (mul-pos h i)) r) t
+meets_map PlusInfinity x R S f p h o t = large_map _ _ (λ u v i r. f _ (moved_of Fields p x _ v o i) r) t
+meets_map MinusInfinity x R S f p h o t = large_map _ _ (λ u v i r. f _ (moved_of Fields p x _ v o i) r) t
 meets_map (Periodic a q) x R S f p h o t = absurd h
 
 pub answers_exact : (answers : List Answer) (f : Tree) (p : Point ℕ) → AreFieldAnswers answers → IsPlain f → InContext Fields f → Of Fields p →

@@ -15,7 +15,7 @@ use Rattle.elimination_theory.specs.FieldsSubstitution.{field_substitution}
 use Rattle.elimination_theory.specs.Substitution.{at_place}
 use Rattle.elimination_theory.specs.Elimination.{trees_at, field_elimination}
 use Rattle.elimination_theory.specs.Decided.{FieldEliminationIsExact}
-use Rattle.elimination_theory.proofs.Listed.{Among}
+use Rattle.formula_meaning.specs.Some.{Among}
 use Rattle.elimination_theory.proofs.FieldsLine.{both_ways}
 use Rattle.elimination_theory.proofs.FieldsSuffice.{field_points_suffice, field_point_place}
 use Rattle.elimination_theory.proofs.FieldsSubstitute.{substitution_exact}

@@ -31,7 +31,7 @@ use Rattle.elimination_theory.proofs.IntegerPlain.{plain_eval, replaced_eval}
 use Rattle.elimination_theory.proofs.IntegerRelation.{relates_below}
 use Rattle.elimination_theory.proofs.IntegerCompare.{IsCongruent}
 use Rattle.elimination_theory.proofs.IntegerAtom.{says_at, value_at, along_zero, below_all_says, periodic_says, not_iff}
-use Rattle.elimination_theory.proofs.Listed.{some_among}
+use Rattle.formula_meaning.proofs.Listed.{some_among}
 use Rattle.elimination_theory.proofs.IntegerSides.{signed_mul, signed_signed, along_signed}
 use Rattle.elimination_theory.proofs.IntegerHolds.{substitution_holds}
 

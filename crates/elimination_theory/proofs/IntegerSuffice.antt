@@ -11,12 +11,12 @@ use Rattle.formula_meaning.specs.Form.{coefficient}
 use Rattle.formula_meaning.specs.Atom.{AtomIn, form_of}
 use Rattle.formula_meaning.specs.Answer.{Holds}
 use Rattle.formula_meaning.specs.Tree.{Tree, InContext}
-use Rattle.elimination_theory.specs.Lists.{same_place}
+use Rattle.formula_meaning.specs.Same.{same_place}
 use Rattle.elimination_theory.specs.Atoms.{atoms_of}
 use Rattle.elimination_theory.specs.Substitution.{at_place}
 use Rattle.elimination_theory.specs.IntegersPoints.{points_with, integer_scale, integer_span}
 use Rattle.elimination_theory.specs.IntegersTheorems.{IntegerTestPointsSuffice}
-use Rattle.elimination_theory.proofs.Listed.{place_same}
+use Rattle.formula_meaning.proofs.Same.{place_same}
 use Rattle.elimination_theory.proofs.SomeListed.{EachOf, some_distinct, some_of_distinct, atoms_of_every, every_of_atoms}
 use Rattle.elimination_theory.proofs.IntegerSides.{Fits}
 use Rattle.elimination_theory.proofs.IntegerScale.{Reaches, scale_positive, scale_reaches, span_positive, span_scale, fits_each}

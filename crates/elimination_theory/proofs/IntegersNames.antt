@@ -11,14 +11,15 @@ use Rattle.formula_meaning.specs.Answer.{Place, Exact, AboveBy, BelowBy, PlusInf
 use Rattle.formula_meaning.specs.Tree.{Tree, InContext, IsFree}
 use Rattle.formula_meaning.proofs.Coefficients.{coefficient_plus}
 use Rattle.elimination_theory.specs.Side.{Side, turned}
-use Rattle.elimination_theory.specs.Lists.{same_place}
+use Rattle.formula_meaning.specs.Same.{same_place}
 use Rattle.elimination_theory.specs.Atoms.{atoms_of}
 use Rattle.elimination_theory.specs.Substitution.{form_at}
 use Rattle.elimination_theory.specs.IntegersPoints.{counted, signed, starts_of, comparison_starts, atom_starts, class_points, next_points, points_with, integer_scale, integer_span, integer_points, integer_elimination}
 use Rattle.elimination_theory.specs.IntegersSubstitution.{where_zero, put_number, along, integer_atom, is_whole, integer_guard, guarded_substitution}
 use Rattle.elimination_theory.specs.IntegersTheorems.{IsIntegerPlace}
 use Rattle.elimination_theory.specs.NamesTheorems.{IsNameOf, SubstitutionKeepsNames, PointsHaveNamesOfFormula, EliminationKeepsNames}
-use Rattle.elimination_theory.proofs.Listed.{Among, among_append, flat_map_among, distinct_among}
+use Rattle.formula_meaning.specs.Some.{Among}
+use Rattle.formula_meaning.proofs.Listed.{among_append, flat_map_among, distinct_among}
 use Rattle.elimination_theory.proofs.FieldsSuffice.{every_atom}
 use Rattle.elimination_theory.proofs.IntegerEliminate.{points_suit}
 use Rattle.elimination_theory.proofs.FieldsNames.{Has, HasOther, without_has, still_has, scale_has, put_or_still, exactly_has, beyond_has, neg_zero, AtomNames, names_of_replaced, atom_free, trees_free, field_substitution_names, field_point_names, field_elimination_names}

@@ -13,10 +13,11 @@ use Rattle.formula_meaning.specs.Form.{Form, Term, scale, coefficient, without}
 use Rattle.formula_meaning.specs.Atom.{Atom, Compare, Congruent, Relation, Equals, Differs, Below, AtMost, Above, AtLeast, mirrored}
 use Rattle.formula_meaning.specs.Answer.{Place}
 use Rattle.elimination_theory.specs.Side.{Side, Lower, Upper, turned}
-use Rattle.elimination_theory.specs.Lists.{same_place}
+use Rattle.formula_meaning.specs.Same.{same_place}
 use Rattle.elimination_theory.specs.Atoms.{atoms_of}
 use Rattle.elimination_theory.specs.FieldsPoints.{numbers_of, divisor_of, terms_over, form_over, beside_point, ends_of, comparison_points, atom_points, infinity_of, IsInLowestTerms, FieldPointsAreInLowestTerms}
-use Rattle.elimination_theory.proofs.Listed.{Among, flat_map_among, distinct_among}
+use Rattle.formula_meaning.specs.Some.{Among}
+use Rattle.formula_meaning.proofs.Listed.{flat_map_among, distinct_among}
 use Rattle.elimination_theory.proofs.LowestTerms.{lowest, natural}
 
 -- what divides the quotient by g divides, g times as large, the number

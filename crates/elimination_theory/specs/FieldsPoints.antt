@@ -6,7 +6,8 @@ use Rattle.formula_meaning.specs.Form.{Form, Term, coefficient, without, scale}
 use Rattle.formula_meaning.specs.Atom.{Atom, Compare, Congruent, Relation, Equals, Differs, Below, AtMost, Above, AtLeast, mirrored}
 use Rattle.formula_meaning.specs.Answer.{Place, Exact, AboveBy, BelowBy, PlusInfinity, MinusInfinity, Periodic}
 use Rattle.formula_meaning.specs.Tree.{Tree}
-use Rattle.elimination_theory.specs.Lists.{distinct, same_place}
+use Rattle.formula_meaning.specs.Distinct.{distinct}
+use Rattle.formula_meaning.specs.Same.{same_place}
 use Rattle.elimination_theory.specs.Atoms.{atoms_of}
 use Rattle.elimination_theory.specs.Side.{Side, Lower, Upper, turned}
 

@@ -8,7 +8,8 @@ use Rattle.formula_meaning.specs.Tree.{Tree}
 use Rattle.formula_meaning.specs.Formula.{Or}
 use Rattle.elimination_theory.specs.IntegersSubstitution.{guarded_substitution}
 use Rattle.elimination_theory.specs.Elimination.{trees_at}
-use Rattle.elimination_theory.specs.Lists.{distinct, same_place}
+use Rattle.formula_meaning.specs.Distinct.{distinct}
+use Rattle.formula_meaning.specs.Same.{same_place}
 use Rattle.elimination_theory.specs.Atoms.{atoms_of}
 use Rattle.elimination_theory.specs.Side.{Side, Lower, Upper, turned}
 

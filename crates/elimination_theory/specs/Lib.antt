@@ -1,4 +1,3 @@
-pub mod Lists
 pub mod Atoms
 pub mod Side
 pub mod Substitution

@@ -2,7 +2,7 @@
 use Rattle.std.specs.Prelude.{ℕ}
 use Rattle.formula_meaning.specs.Tree.{Tree}
 use Rattle.elimination_theory.specs.Side.{Side}
-use Rattle.elimination_theory.specs.Lists.{StandsOnce}
+use Rattle.formula_meaning.specs.Distinct.{StandsOnce}
 use Rattle.elimination_theory.specs.FieldsPoints.{field_points}
 use Rattle.elimination_theory.specs.IntegersPoints.{integer_points}
 use Rattle.elimination_theory.specs.Atoms.{atoms_of}

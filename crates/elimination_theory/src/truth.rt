@@ -1,6 +1,6 @@
 //! What elimination says of truth itself, in both theories: it is decided, and negation normal form keeps it.
 
-ghost use Rattle.elimination_theory.specs.Decided.{TruthIsDecided, QuantifiersAreEliminated, NegationNormalFormKeepsTruth, AllIsNotExNot};
+ghost use Rattle.elimination_theory.specs.Decided.{TruthIsDecided, QuantifiersAreEliminated, NegationNormalFormKeepsTruth, OppositeIsNegation, AllIsNotExNot};
 ghost use Rattle.formula_meaning.specs.Context.{Context};
 
 /// Every formula is true or not, at every point of the theory.
@@ -13,7 +13,13 @@ pub fn quantifiers_are_eliminated()
     ensures { (c : Context) → QuantifiersAreEliminated c }
 {}
 
-/// The negation normal form is true exactly where the formula is, and that of the negation exactly where it is not.
+/// The opposite of an atom is true exactly where the atom is not.
+pub fn opposite_is_negation()
+    ensures { (c : Context) → OppositeIsNegation c }
+{}
+
+/// The negation normal form is true exactly where the formula is, and that of the negation exactly where it is not,
+/// whatever atom of the opposite truth is taken as the opposite of an atom.
 pub fn negation_normal_form_keeps_truth()
     ensures { (c : Context) → NegationNormalFormKeepsTruth c }
 {}

@@ -1,4 +1,7 @@
 pub mod Values
+pub mod Listed
+pub mod Same
+pub mod Sizes
 pub mod Relations
 pub mod SamePoint
 pub mod TreeFiner

@@ -5,6 +5,7 @@ pub mod Truth
 pub mod Form
 pub mod Sorted
 pub mod Some
+pub mod Distinct
 pub mod Atom
 pub mod Every
 pub mod Replaced
@@ -13,4 +14,6 @@ pub mod NegationNormal
 pub mod Tree
 pub mod Laws
 pub mod Answer
+pub mod Same
 pub mod Sizes
+pub mod Quantified

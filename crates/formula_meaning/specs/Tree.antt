@@ -30,6 +30,10 @@ IsFree f x = Free Mentions f x
 abbrev pub Equivalent : Context → Tree → Tree → Type 0
 Equivalent c f g = (p : Point ℕ) → Of c p → TrueAt c f p ↔ TrueAt c g p
 
+-- the second atom is true at the points of the theory where the first is not
+abbrev pub IsNegation : Context → Atom → Atom → Type 0
+IsNegation c a b = (p : Point ℕ) → Of c p → Says b p ↔ ¬ (Says a p)
+
 -- the negation normal form of a tree, and of its negation
 abbrev pub negation_normal : Tree → Tree
 negation_normal f = normal_form opposite f

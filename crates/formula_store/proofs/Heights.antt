@@ -3,7 +3,7 @@ use Rattle.std.proofs.Common.{◌≡◌, ℕ, zero, suc, ◌+◌, ◌<◌, ◌�
 use Rattle.std.specs.List.{AllByRecursion}
 use Rattle.std.proofs.lemmas.Option.{slice_get-get_or}
 use Rattle.formula_meaning.specs.Tree.{Tree}
-use Rattle.formula_meaning.specs.Sizes.{height, highest}
+use Rattle.formula_meaning.specs.Sizes.{height, greatest_height}
 use Rattle.formula_tree.specs.declared.shape.Shape.{Shape}
 use Rattle.formula_tree.specs.declared.shape.Shape.TheVariants as shape
 use Rattle.formula_tree.specs.Trees.{members}
@@ -14,7 +14,7 @@ use Rattle.formula_store.specs.Nodes.{tree, AreNodes}
 use Rattle.formula_store.proofs.Trees.{node_tree}
 
 module _ {Id : Type 0} (t : Id → Tree) (most : ℕ) where
-  pub members_height : (ids : List Id) → AllByRecursion (λ id. height (t id) ≤ most) ids → highest (members (map t ids)) ≤ most
+  pub members_height : (ids : List Id) → AllByRecursion (λ id. height (t id) ≤ most) ids → greatest_height (members (map t ids)) ≤ most
   members_height [] h = omega arith
   members_height (id ∷ ids) h = let k = members_height ids h.1 in omega arith
 

@@ -1,7 +1,8 @@
 -- What a store knows of each formula.
 use Rattle.std.specs.Prelude.{◌≡◌, ℕ, ◌+◌, max, min, ◌||◌}
 use Rattle.formula_meaning.specs.Tree.{Tree, Trees}
-use Rattle.formula_meaning.specs.Sizes.{nodes, all_nodes, height, highest, has_quantifier, some_quantifier}
+use Rattle.formula_meaning.specs.Sizes.{nodes, all_nodes, height, greatest_height}
+use Rattle.formula_meaning.specs.Quantified.{has_quantifier, some_quantifier}
 use Rattle.formula_store.specs.declared.facts.Facts.{Facts}
 
 -- more nodes than these count as so many
@@ -16,6 +17,6 @@ pub record IsFactsOf (f : Tree) (facts : Facts) : Type 0 where
 
 -- the facts of the formulas together
 pub record AreFactsOf (fs : Trees) (facts : Facts) : Type 0 where
-  pub height_is : facts.height ≡ highest fs
+  pub height_is : facts.height ≡ greatest_height fs
   pub nodes_are : facts.nodes ≡ min (all_nodes fs) most_nodes
   pub quantified_is : facts.quantified ≡ some_quantifier fs

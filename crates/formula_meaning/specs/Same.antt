@@ -1,20 +1,9 @@
--- Lists without repeats, and equality tests of forms, atoms and places.
-use Rattle.std.specs.Prelude.{◌≡◌, ℕ, Bool, true, false, ◌&&◌, List, [], ◌∷◌, nat_eq, if◌then◌else◌}
+-- Equality tests of forms, atoms and places.
+use Rattle.std.specs.Prelude.{ℕ, Bool, true, false, ◌&&◌, List, [], ◌∷◌, nat_eq}
 use Rattle.std.specs.Ordering.{int_eq}
-use Rattle.formula_meaning.specs.Some.{SomeOf}
 use Rattle.formula_meaning.specs.Form.{Form, Term}
 use Rattle.formula_meaning.specs.Atom.{Atom, Compare, Congruent, Relation, Equals, Differs, Below, AtMost, Above, AtLeast}
 use Rattle.formula_meaning.specs.Answer.{Place, Exact, AboveBy, BelowBy, PlusInfinity, MinusInfinity, Periodic}
-
--- the list without what is the same as x
-abbrev pub without_same : {X : Type 0} → (X → X → Bool) → X → List X → List X
-without_same same x [] = []
-without_same same x (y ∷ ys) = if same x y then without_same same x ys else y ∷ without_same same x ys
-
--- the list with each element once, at its first place
-abbrev pub distinct : {X : Type 0} → (X → X → Bool) → List X → List X
-distinct same [] = []
-distinct same (x ∷ xs) = x ∷ without_same same x (distinct same xs)
 
 -- the same terms in the same order
 abbrev pub same_terms : List Term → List Term → Bool
@@ -49,8 +38,3 @@ same_place PlusInfinity PlusInfinity = true
 same_place MinusInfinity MinusInfinity = true
 same_place (Periodic a p) (Periodic b q) = int_eq a b && int_eq p q
 same_place _ _ = false
-
--- no element stands twice
-abbrev pub StandsOnce : {X : Type 0} → List X → Type 0
-StandsOnce [] = Unit {0}
-StandsOnce (x ∷ xs) = ¬ (SomeOf (λ y. x ≡ y) xs) × StandsOnce xs
