@@ -3,3 +3,6 @@ pub mod Same
 pub mod Heights
 pub mod Keys
 pub mod Joined
+pub mod Inserted
+pub mod Makes
+pub mod Adds

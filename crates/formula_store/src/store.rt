@@ -8,7 +8,7 @@ ghost use Rattle.formula_tree.specs.Trees.{members};
 
 use crate::facts::Facts;
 use crate::id::FormulaId;
-use formula_tree::{MakeError, Shape};
+use formula_tree::{MakeError, Maker, Shape};
 use indexmap::IndexMap;
 use std::alloc::Global;
 use std::marker::Model;
@@ -103,5 +103,41 @@ impl Store {
                 self.facts(*member).above().quantified()
             }
         }
+    }
+}
+
+impl Maker for Store {
+    ghost use Rattle.std.specs.Prelude.{IfOk, IfErr, OnErr, ◌+◌};
+    ghost use Rattle.formula_tree.specs.Makers.{IsMade, Keeps};
+    ghost use Rattle.formula_store.specs.Nodes.{Front};
+
+    type Id = FormulaId;
+
+    ghost is_id = { IsId };
+
+    ghost tree = { tree };
+
+    /// The id of the formula of this shape, an old one where the formula is there. Its only error is `Memory`.
+    fn make(&mut self, shape: Shape<FormulaId>) -> Result<FormulaId, MakeError>
+        requires ids { AllIds (IsId self.old) shape }
+        requires proper { IsProperShape shape }
+        ensures made { IfOk result (λ id. IsMade (IsId self.new) (tree self.new) id (tree_over (tree self.old) shape)) }
+        ensures kept { Keeps (IsId self.old) (tree self.old) (IsId self.new) (tree self.new) }
+        ensures memory { IfErr result (λ e. e ≡ MakeError.Memory) }
+        ensures node { IfOk result (λ id. Makes self.old shape id self.new) }
+        ensures front { Front self.old self.new }
+        ensures few { length self.new ≤ length self.old + 1 }
+        ensures unchanged { OnErr result (self.new ≡ self.old) }
+    {
+        let facts = self.facts_of(&shape);
+        let Ok((number, _)) = self.nodes.insert_full(shape, facts) else {
+            return Err(MakeError::Memory);
+        };
+        Ok(FormulaId { number })
+    }
+
+    /// The height of the formula. It takes no memory.
+    fn height(&self, id: FormulaId) -> u64 {
+        self.facts(id).height
     }
 }

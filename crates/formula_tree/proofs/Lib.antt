@@ -2,3 +2,4 @@ pub mod TreeEquations
 pub mod Shapes
 pub mod Tells
 pub mod AtomsTell
+pub mod Decided

@@ -1,0 +1,47 @@
+use Rattle.std.proofs.Common.{◌≡◌, ℕ, nat_eq, Bool, true, List, refl, sym, ap, ◌∙◌, subst}
+use Rattle.std.specs.Cmp.{unsigned_Decides}
+use Rattle.std.specs.Map.{keys_of}
+use Rattle.formula_tree.specs.declared.shape.Shape.{Shape}
+use Rattle.formula_tree.specs.Shapes.{AllIds, tree_over}
+use Rattle.formula_tree.proofs.Decided.{same_shape, itself_shape}
+use Rattle.formula_store.specs.declared.id.FormulaId.{FormulaId}
+use Rattle.formula_store.specs.Nodes.{tree, IsId, Makes, AreNodes}
+use Rattle.formula_store.specs.Facts.{IsFactsOf}
+use Rattle.formula_store.specs.Stored.{IsStore}
+use Rattle.formula_store.proofs.Adds.{adds, stores}
+use Rattle.formula_store.proofs.Makes.{makes_front, makes_keeps, makes_made}
+use Rattle.formula_store.proofs.store.StoreMaker.make.Goals as goal
+use Rattle.formula_store.proofs.store.StoreMaker.make.Lts as parts
+use Rattle.formula_store.specs.contracts.id.FormulaIdPartialEq.TheImpl as ids
+
+same_id : (a b : FormulaId) → nat_eq a.number b.number ≡ true → a ≡ b
+same_id a b h = let n : a.number ≡ b.number = (unsigned_Decides a.number b.number).0 h in λ i. record { number = n i }
+
+itself_id : (a : FormulaId) → nat_eq a.number a.number ≡ true
+itself_id a = (unsigned_Decides a.number a.number).1 refl
+
+pub invariant_of-self-2 : goal.invariant_of-self-2
+invariant_of-self-2 c =
+    subst IsStore (sym c.in-Ok.ensures.entries)
+      (stores _ (same_shape (parts.impl_arg-1-1 c.insert_full.lifetimes) ids.ghosts ids.dict same_id) (itself_shape (parts.impl_arg-1-1 c.insert_full.lifetimes) ids.ghosts ids.dict itself_id) c.self.inside.nodes.entries c.args.shape c.facts_of-facts.result c.self.invariant
+        (subst (λ s. AllIds (IsId s) c.args.shape) (sym c.self.view_is) c.requires.ids) c.requires.proper
+        (subst (λ s. IsFactsOf (tree_over (tree s) c.args.shape) c.facts_of-facts.result) (sym c.self.view_is) c.facts_of-facts.ensures))
+
+pub returns-clause-node : goal.returns-clause-node
+returns-clause-node c =
+    let added = adds _ (same_shape (parts.impl_arg-1-1 c.insert_full.lifetimes) ids.ghosts ids.dict same_id) (itself_shape (parts.impl_arg-1-1 c.insert_full.lifetimes) ids.ghosts ids.dict itself_id)
+          c.self.inside.nodes.entries c.args.shape c.facts_of-facts.result c.self.invariant
+          (subst (λ s. AllIds (IsId s) c.args.shape) (sym c.self.view_is) c.requires.ids) c.requires.proper
+          (subst (λ s. IsFactsOf (tree_over (tree s) c.args.shape) c.facts_of-facts.result) (sym c.self.view_is) c.facts_of-facts.ensures)
+          c.insert_full.new.self.entries c.in-Ok.number c.in-Ok.ensures.index c.in-Ok.ensures.entries in
+    subst (λ s. Makes s c.args.shape (record { number = c.in-Ok.number }) (keys_of c.insert_full.new.self.entries)) c.self.view_is added
+
+pub returns-clause-made : goal.returns-clause-made
+returns-clause-made c =
+    makes_made c.args.self.now c.args.shape (record { number = c.in-Ok.number }) (keys_of c.insert_full.new.self.entries) (subst AreNodes c.self.view_is c.self.invariant.nodes) (returns-clause-node c)
+
+pub returns-clause-kept : goal.returns-clause-kept
+returns-clause-kept c = makes_keeps c.args.self.now c.args.shape (record { number = c.in-Ok.number }) (keys_of c.insert_full.new.self.entries) (returns-clause-node c)
+
+pub returns-clause-front : goal.returns-clause-front
+returns-clause-front c = makes_front c.args.self.now c.args.shape (record { number = c.in-Ok.number }) (keys_of c.insert_full.new.self.entries) (returns-clause-node c)
