@@ -6,3 +6,6 @@ pub mod Joined
 pub mod Inserted
 pub mod Makes
 pub mod Adds
+pub mod Marked
+pub mod Ordered
+pub mod Collected

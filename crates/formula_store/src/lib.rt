@@ -1,10 +1,14 @@
 //! Shared formulas: each distinct formula is kept once, under one id.
 #![tactic(auto)]
 
+mod error;
 mod facts;
 mod id;
+mod order;
 mod store;
 
+pub use error::StoreError;
 pub use facts::Facts;
 pub use id::FormulaId;
+pub use order::subformulas;
 pub use store::Store;

@@ -2,7 +2,7 @@ ghost use Rattle.std.specs.Prelude.{◌≡◌, ◌≤◌, ◌<◌, ◌^◌, [], 
 ghost use Rattle.std.specs.List.{AllByRecursion};
 ghost use Rattle.formula_meaning.specs.Sizes.{height};
 ghost use Rattle.formula_tree.specs.Shapes.{AllIds, IsProperShape, tree_over};
-ghost use Rattle.formula_store.specs.Nodes.{tree, IsId, Makes};
+ghost use Rattle.formula_store.specs.Nodes.{tree, IsId, Makes, AreNodes};
 ghost use Rattle.formula_store.specs.Facts.{IsFactsOf, AreFactsOf};
 ghost use Rattle.formula_tree.specs.Trees.{members};
 
@@ -50,6 +50,7 @@ impl Store {
         ensures tree { tree self.now id ≡ tree_over (tree self.now) result.now }
         ensures ids { AllIds (λ member. member.number < id.number) result.now }
         ensures proper { IsProperShape result.now }
+        ensures nodes { AreNodes self.now }
     {
         let (shape, _) = self.nodes.get_index(id.number).unwrap();
         shape

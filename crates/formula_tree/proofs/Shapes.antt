@@ -7,7 +7,7 @@ use Rattle.formula_meaning.specs.Tree.{Tree}
 use Rattle.formula_tree.specs.declared.shape.Shape.{Shape}
 use Rattle.formula_tree.specs.declared.shape.Shape.TheVariants as shape
 use Rattle.formula_tree.specs.Trees.{members}
-use Rattle.formula_tree.specs.Shapes.{tree_over, AllIds, IsProperShape}
+use Rattle.formula_tree.specs.Shapes.{tree_over, AllIds, ids_of}
 
 module _ {Id : Type 0} where
   -- ids with the same trees, one after another
@@ -46,3 +46,18 @@ module _ {Id : Type 0} where
   all_ids_map P Q k (shape.Equiv f g) h = (k f h.0, k g h.1)
   all_ids_map P Q k (shape.Ex x f) h = k f h
   all_ids_map P Q k (shape.All x f) h = k f h
+
+module _ {Id : Type 0} (P : Id → Type 0) where
+  -- what each id of a shape has, the list of its ids has
+  pub all_listed : (s : Shape Id) → AllIds P s → AllByRecursion P (ids_of s)
+  all_listed shape.True h = tt
+  all_listed shape.False h = tt
+  all_listed (shape.One a) h = tt
+  all_listed (shape.And ids) h = h
+  all_listed (shape.Or ids) h = h
+  all_listed (shape.Not f) h = (h, tt)
+  all_listed (shape.Impl f g) h = (h.0, (h.1, tt))
+  all_listed (shape.Repl f g) h = (h.0, (h.1, tt))
+  all_listed (shape.Equiv f g) h = (h.0, (h.1, tt))
+  all_listed (shape.Ex x f) h = (h, tt)
+  all_listed (shape.All x f) h = (h, tt)

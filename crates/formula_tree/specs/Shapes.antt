@@ -38,6 +38,20 @@ AllIds P (shape.Equiv f g) = P f × P g
 AllIds P (shape.Ex x f) = P f
 AllIds P (shape.All x f) = P f
 
+-- the ids of the shape's members, in order
+abbrev pub ids_of : {Id : Type 0} → Shape Id → List Id
+ids_of shape.True = []
+ids_of shape.False = []
+ids_of (shape.One a) = []
+ids_of (shape.And ids) = ids
+ids_of (shape.Or ids) = ids
+ids_of (shape.Not f) = f ∷ []
+ids_of (shape.Impl f g) = f ∷ g ∷ []
+ids_of (shape.Repl f g) = f ∷ g ∷ []
+ids_of (shape.Equiv f g) = f ∷ g ∷ []
+ids_of (shape.Ex x f) = f ∷ []
+ids_of (shape.All x f) = f ∷ []
+
 -- the atom of the shape, if it is one, is well formed
 abbrev pub IsProperShape : {Id : Type 0} → Shape Id → Type 0
 IsProperShape (shape.One a) = IsWellFormed a

@@ -23,3 +23,6 @@ pub returns-clause-proper : goal.returns-clause-proper
 returns-clause-proper c =
     let nodes : AreNodes c.args.self.now = subst AreNodes c.self.view_is c.self.invariant.nodes in
     nodes.proper c.args.id.number c.unwrap.result.0.now (returns-clause-node c)
+
+pub returns-clause-nodes : goal.returns-clause-nodes
+returns-clause-nodes c = subst AreNodes c.self.view_is c.self.invariant.nodes

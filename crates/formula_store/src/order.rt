@@ -1,0 +1,94 @@
+//! The distinct subformulas of a formula, in a flat list.
+
+ghost use Rattle.std.specs.Prelude.{◌≡◌, ◌≤◌, ◌<◌, ℕ, ◌⊎◌, ◌++◌, ◌∷◌, [], true, false, replicate, IfOk, OnOk, ◌+◌, length};
+ghost use Rattle.std.specs.List.{AllByRecursion};
+ghost use Rattle.formula_meaning.specs.Some.{SomeOf};
+ghost use Rattle.formula_tree.specs.Shapes.{AllIds, ids_of};
+ghost use Rattle.formula_store.specs.Nodes.{IsId};
+ghost use Rattle.formula_store.specs.Order.{IsOrder, IsMarked, Marks, AreMarked, Collects};
+
+use crate::error::StoreError;
+use crate::id::FormulaId;
+use crate::store::Store;
+use formula_tree::Shape;
+use std::alloc::Global;
+
+/// The distinct subformulas of a formula: each once, its members before it, the formula itself last. It takes time
+/// linear in the formula's number. Its only error is `Memory`.
+pub fn subformulas(alloc: Global, store: &Store, root: FormulaId) -> Result<Vec<FormulaId>, StoreError>
+    requires { IsId store.now root }
+    ensures { IfOk result (λ ids. IsOrder store.now root ids.items) }
+{
+    let marks = marked(alloc, store, root)?;
+    let mut ids = Vec::new(alloc);
+    for number in 0..marks.len() {
+        collect(&marks, number, &mut ids)?;
+    }
+    Ok(ids)
+}
+
+// Adds the number to the marked ones below it, if it is marked.
+fn collect(marks: &Vec<bool>, number: usize, ids: &mut Vec<FormulaId>) -> Result<(), StoreError>
+    requires within { number < length marks.now.items }
+    requires below { Collects marks.now.items number ids.old.items }
+    ensures { OnOk result (Collects marks.now.items (number + 1) ids.new.items) }
+{
+    if !marks[number] {
+        return Ok(());
+    }
+    ids.push(FormulaId { number })
+        .map_err(|_| StoreError::Memory)?;
+    Ok(())
+}
+
+// A mark at the number of each subformula, downwards from the formula itself.
+fn marked(alloc: Global, store: &Store, root: FormulaId) -> Result<Vec<bool>, StoreError>
+    requires { IsId store.now root }
+    ensures { IfOk result (λ marks. AreMarked store.now root marks.items) }
+{
+    let mut marks = last_marked(alloc, root.number)?;
+    for number in (0..marks.len()).rev() {
+        if marks[number] {
+            mark_members(store.shape(FormulaId { number }), &mut marks);
+        }
+    }
+    Ok(marks)
+}
+
+// A mark at the last place, after so many without.
+fn last_marked(alloc: Global, unmarked: usize) -> Result<Vec<bool>, StoreError>
+    ensures { IfOk result (λ marks. marks.items ≡ replicate unmarked false ++ true ∷ []) }
+{
+    let mut marks = Vec::new(alloc);
+    marks.resize(unmarked, false).map_err(|_| StoreError::Memory)?;
+    marks.push(true).map_err(|_| StoreError::Memory)?;
+    Ok(marks)
+}
+
+// Marks the members of a formula.
+fn mark_members(shape: &Shape<FormulaId>, marks: &mut Vec<bool>)
+    requires { AllIds (λ member. member.number < length marks.old.items) shape.now }
+    ensures { Marks (ids_of shape.now) marks.old.items marks.new.items }
+{
+    match shape {
+        Shape::True | Shape::False | Shape::One(_) => (),
+        Shape::And(ids) | Shape::Or(ids) => mark_all(ids.items(), marks),
+        Shape::Not(member) | Shape::Ex(_, member) | Shape::All(_, member) => {
+            marks[member.number] = true;
+        }
+        Shape::Impl(left, right) | Shape::Repl(left, right) | Shape::Equiv(left, right) => {
+            marks[left.number] = true;
+            marks[right.number] = true;
+        }
+    }
+}
+
+// Marks each of the ids.
+fn mark_all(ids: &[FormulaId], marks: &mut Vec<bool>)
+    requires { AllByRecursion (λ id. id.number < length marks.old.items) ids.now }
+    ensures { Marks ids.now marks.old.items marks.new.items }
+{
+    for id in ids {
+        marks[id.number] = true;
+    }
+}
