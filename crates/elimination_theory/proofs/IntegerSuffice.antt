@@ -9,9 +9,8 @@ use Rattle.formula_meaning.specs.Context.{Integers}
 use Rattle.formula_meaning.specs.Every.{Every}
 use Rattle.formula_meaning.specs.Form.{coefficient}
 use Rattle.formula_meaning.specs.Atom.{AtomIn, form_of}
-use Rattle.formula_meaning.specs.Answer.{Holds}
+use Rattle.formula_meaning.specs.Answer.{Holds, same_place}
 use Rattle.formula_meaning.specs.Tree.{Tree, InContext}
-use Rattle.formula_meaning.specs.Same.{same_place}
 use Rattle.elimination_theory.specs.Atoms.{atoms_of}
 use Rattle.elimination_theory.specs.Substitution.{at_place}
 use Rattle.elimination_theory.specs.IntegersPoints.{points_with, integer_scale, integer_span}

@@ -3,13 +3,12 @@ use Rattle.std.specs.Prelude.{ℕ, ℤ, pos, negsuc, zero, suc, ◌*◌, ◌/◌
 use Rattle.exact_numbers.specs.Divides.{lcm_of}
 use Rattle.formula_meaning.specs.Form.{Form, coefficient, without, scale, plus}
 use Rattle.formula_meaning.specs.Atom.{Atom, Compare, Congruent, Relation, Equals, Differs, Below, AtMost, Above, AtLeast, mirrored, form_of}
-use Rattle.formula_meaning.specs.Answer.{Place, Exact, Periodic}
+use Rattle.formula_meaning.specs.Answer.{Place, Exact, Periodic, same_place}
 use Rattle.formula_meaning.specs.Tree.{Tree}
 use Rattle.formula_meaning.specs.Formula.{Or}
 use Rattle.elimination_theory.specs.IntegersSubstitution.{guarded_substitution}
 use Rattle.elimination_theory.specs.Elimination.{trees_at}
 use Rattle.formula_meaning.specs.Distinct.{distinct}
-use Rattle.formula_meaning.specs.Same.{same_place}
 use Rattle.elimination_theory.specs.Atoms.{atoms_of}
 use Rattle.elimination_theory.specs.Side.{Side, Lower, Upper, turned}
 
