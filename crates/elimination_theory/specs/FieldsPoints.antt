@@ -59,9 +59,13 @@ abbrev pub infinity_of : Side → Place
 infinity_of Lower = MinusInfinity
 infinity_of Upper = PlusInfinity
 
--- the test points of a name in a formula: the infinity, then those of each atom; an equal point stands once
+-- the test points of a name in a list of atoms: the infinity, then those of each atom; an equal point stands once
+abbrev pub field_points_of : Side → ℕ → List Atom → List Place
+field_points_of side x atoms = distinct same_place (infinity_of side ∷ flat_map (atom_points side x) atoms)
+
+-- the test points of a name in a formula
 abbrev pub field_points : Side → ℕ → Tree → List Place
-field_points side x f = distinct same_place (infinity_of side ∷ flat_map (atom_points side x) (atoms_of f))
+field_points side x f = field_points_of side x (atoms_of f)
 
 -- no number above 1 divides all numbers of the place
 abbrev pub IsInLowestTerms : Place → Type 0

@@ -9,12 +9,12 @@ use Rattle.formula_meaning.specs.Some.{SomeOf}
 use Rattle.formula_meaning.specs.Shape.{IsPlain}
 use Rattle.formula_meaning.specs.Form.{coefficient}
 use Rattle.formula_meaning.specs.Atom.{form_of, Atom, Compare, Congruent}
-use Rattle.formula_meaning.specs.Answer.{Answer, Place, Exact, AboveBy, BelowBy, PlusInfinity, MinusInfinity, Periodic, Holds}
+use Rattle.formula_meaning.specs.Answer.{Place, Exact, AboveBy, BelowBy, PlusInfinity, MinusInfinity, Periodic, Holds}
 use Rattle.formula_meaning.specs.Tree.{Tree, TrueAt, InContext, Equivalent}
 use Rattle.elimination_theory.specs.Substitution.{at_place}
 use Rattle.elimination_theory.specs.Atoms.{atoms_of}
 use Rattle.elimination_theory.specs.Side.{Side}
-use Rattle.elimination_theory.specs.IntegersSubstitution.{integer_atom, integer_substitution, integer_substitutions, integer_guard}
+use Rattle.elimination_theory.specs.IntegersSubstitution.{integer_atom, integer_substitution, integer_guard}
 use Rattle.elimination_theory.specs.IntegersPoints.{integer_count, atom_starts, integer_scale, integer_span, integer_points, integer_elimination}
 
 -- a step by the period takes the atom's form to a number of the same remainder
@@ -63,16 +63,6 @@ IntegerTestPointsSuffice = (side : Side) (x : ℕ) (f : Tree) (p : Point ℕ) �
 -- ex(x, f) is equivalent to the disjunction over its test points with their guards, for f built by and and or
 abbrev pub IntegerEliminationIsExact : Type 0
 IntegerEliminationIsExact = (side : Side) (x : ℕ) (f : Tree) → IsPlain f → InContext Integers f → Equivalent Integers (Ex x f) (integer_elimination side x f)
-
--- each answer is at a place of the integers, for each atom of the formula into which it is put
-abbrev pub AreIntegerAnswers : List Answer → Tree → Type 0
-AreIntegerAnswers [] f = Unit {0}
-AreIntegerAnswers (a ∷ rest) f = IsIntegerPlace a.place × Every (Suits a.name a.place) (integer_substitutions rest f) × AreIntegerAnswers rest f
-
--- Answers put in, the last one first, give a formula that is true exactly where the answers make the formula true.
-abbrev pub IntegerAnswersHold : Type 0
-IntegerAnswersHold = (answers : List Answer) (f : Tree) (p : Point ℕ) → AreIntegerAnswers answers f → IsPlain f → InContext Integers f → Of Integers p →
-    Holds Integers answers f p ↔ TrueAt Integers (integer_substitutions answers f) p
 
 -- n is a multiple of c, where c is not 0
 abbrev pub IsMultipleOf : ℤ → ℕ → Type 0

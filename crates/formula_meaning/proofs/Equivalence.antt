@@ -3,9 +3,11 @@ use Rattle.std.proofs.Common.{◌≡◌, ℕ, ◌*◌, ◌<◌, Bool, true, fals
 use Rattle.std.proofs.Math.IntN.{ℤ, pos, ◌*ℤ◌}
 use Rattle.formula_meaning.specs.Context.{Context, Fields, Integers, Allowed}
 use Rattle.formula_meaning.specs.Point.{Point, Of, move, finer, AgreeOn}
-use Rattle.formula_meaning.specs.Formula.{And, Or, Ex, All, none, also}
+use Rattle.formula_meaning.specs.Formula.{Yes, No, One, Not, And, Or, Impl, Repl, Equiv, Ex, All, none, also}
 use Rattle.formula_meaning.specs.Truth.{AllTrue, SomeTrue}
-use Rattle.formula_meaning.specs.Atom.{Says}
+use Rattle.formula_meaning.specs.Atom.{Atom, Says}
+use Rattle.formula_meaning.specs.Every.{Every, EveryOf}
+use Rattle.formula_meaning.specs.Replaced.{replaced, all_replaced}
 use Rattle.formula_meaning.specs.Tree.{Tree, Trees, TrueAt, IsFree, Equivalent, AreEquivalent, each_ex, each_all}
 use Rattle.formula_meaning.specs.Laws.{EquivalenceIsCongruence, QuantifiersDistribute, AbsentNameIsDropped}
 use Rattle.formula_meaning.proofs.FreeNames.{tree_agrees}
@@ -61,6 +63,26 @@ module _ (c : Context) where
     );
   }
 
+  -- replacements that are equivalent atom by atom
+  module _ (by with_other : Atom → Tree) where
+    mutual
+      pub replaced_equivalent : (f : Tree) → Every (λ a. Equivalent c (by a) (with_other a)) f → Equivalent c (replaced by (λ y. y) f) (replaced with_other (λ y. y) f)
+      replaced_equivalent Yes e = equivalent_self c Yes
+      replaced_equivalent No e = equivalent_self c No
+      replaced_equivalent (One a) e = e
+      replaced_equivalent (Not f) e = congruence.of_not _ _ (replaced_equivalent f e)
+      replaced_equivalent (And fs) e = all_equivalent _ _ (all_replaced_equivalent fs e)
+      replaced_equivalent (Or fs) e = some_equivalent _ _ (all_replaced_equivalent fs e)
+      replaced_equivalent (Impl f g) e = congruence.of_impl _ _ _ _ (replaced_equivalent f e.0) (replaced_equivalent g e.1)
+      replaced_equivalent (Repl f g) e = congruence.of_repl _ _ _ _ (replaced_equivalent f e.0) (replaced_equivalent g e.1)
+      replaced_equivalent (Equiv f g) e = congruence.of_equiv _ _ _ _ (replaced_equivalent f e.0) (replaced_equivalent g e.1)
+      replaced_equivalent (Ex x f) e = ex_equivalent x _ _ (replaced_equivalent f e)
+      replaced_equivalent (All x f) e = congruence.of_all x _ _ (replaced_equivalent f e)
+
+      all_replaced_equivalent : (fs : Trees) → EveryOf (λ a. Equivalent c (by a) (with_other a)) fs → AreEquivalent c (all_replaced by (λ y. y) fs) (all_replaced with_other (λ y. y) fs)
+      all_replaced_equivalent none e = tt
+      all_replaced_equivalent (also f fs) e = (replaced_equivalent f e.0, all_replaced_equivalent fs e.1)
+
   ex_over : (x : ℕ) (fs : Trees) (p : Point ℕ) → TrueAt c (Ex x (Or fs)) p ↔ TrueAt c (Or (each_ex x fs)) p
   ex_over x none p = (λ t. t.3, λ t. absurd t)
   ex_over x (also f fs) p =
@@ -78,7 +100,7 @@ module _ (c : Context) where
   pub distributed : QuantifiersDistribute c
   distributed = record { ex_over_or = λ x fs p o. ex_over x fs p; all_over_and = λ x fs p o. all_over x fs p }
 
-one_allowed : (c : Context) → Allowed c 1
+pub one_allowed : (c : Context) → Allowed c 1
 one_allowed Fields = omega arith
 one_allowed Integers = refl
 
