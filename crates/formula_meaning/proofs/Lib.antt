@@ -20,3 +20,4 @@ pub mod TreeReplacing
 pub mod Fold
 pub mod Equivalence
 pub mod TreeNames
+mod Examples
