@@ -44,3 +44,5 @@ pub mod BothSubstitutions
 pub mod OneStep
 pub mod Answers
 pub mod Samples
+mod Examples
+pub mod SentenceExample

@@ -19,3 +19,4 @@ pub mod BothTheories
 pub mod Steps
 pub mod Answers
 pub mod Samples
+pub mod SentenceExample
