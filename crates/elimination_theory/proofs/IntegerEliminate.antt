@@ -3,6 +3,7 @@ use Rattle.std.proofs.Common.{◌≡◌, ℕ, suc, zero, ◌*◌, ◌/◌, ◌<�
 use Rattle.std.proofs.lemmas.Int.{ints}
 use Rattle.exact_numbers.specs.Divides.{Divides}
 use Rattle.exact_numbers.proofs.Ring.{mul_neg, mul_comm}
+use Rattle.formula_meaning.specs.Some.{EachOf}
 use Rattle.formula_meaning.specs.Context.{Integers}
 use Rattle.formula_meaning.specs.Every.{Every}
 use Rattle.formula_meaning.specs.Shape.{IsPlain}
@@ -10,7 +11,7 @@ use Rattle.formula_meaning.specs.Form.{Form, coefficient, plus}
 use Rattle.formula_meaning.specs.Atom.{Atom, Compare, Congruent, Relation, Equals, Differs, Below, AtMost, Above, AtLeast, mirrored, AtomIn}
 use Rattle.formula_meaning.specs.Answer.{Place, Exact, AboveBy, BelowBy, PlusInfinity, MinusInfinity, Periodic, Holds, same_place}
 use Rattle.formula_meaning.specs.Tree.{Tree, InContext}
-use Rattle.formula_meaning.proofs.EachAtom.{every_map}
+use Rattle.formula_meaning.proofs.EachAtom.{every_map, every_all}
 use Rattle.formula_meaning.proofs.ReplacedShape.{plain_stays, every_replaced}
 use Rattle.elimination_theory.proofs.Simple.{substitution_plain}
 use Rattle.elimination_theory.proofs.FieldsLine.{both_ways}
@@ -22,7 +23,7 @@ use Rattle.elimination_theory.specs.IntegersPoints.{signed, counted, class_point
 use Rattle.elimination_theory.specs.IntegersTheorems.{IsPeriodOf, IsIntegerPlace, Suits, IntegerTestPointsSuit, IntegerEliminationIsExact}
 use Rattle.elimination_theory.proofs.FieldsEliminated.{some_place, trees_plain}
 use Rattle.elimination_theory.proofs.IntegerAtom.{}
-use Rattle.elimination_theory.proofs.SomeListed.{EachOf, each_append, each_mapped, each_flat_map, each_distinct, each_among, every_all}
+use Rattle.elimination_theory.proofs.SomeListed.{each_append, each_mapped, each_flat_map, each_distinct, each_among}
 use Rattle.elimination_theory.proofs.IntegerSides.{Fits}
 use Rattle.elimination_theory.proofs.IntegerSuffice.{formula_spanned, formula_fits, integer_points_suffice}
 use Rattle.elimination_theory.proofs.IntegerHolds.{substitution_holds}

@@ -2,21 +2,24 @@
 
 ghost use Rattle.elimination_theory.specs.IntegersExamples.{ClassesAreNeeded, PointsOfTwoXIsA, SubstitutionOfTwoXIsA, PointsOfEvenAboveA, SpanIsNeeded, GuardIsNeeded};
 ghost use Rattle.elimination_theory.specs.IntegersSample.{IntegerSampleIsTrue, IntegerSampleExists, IntegerSampleIsUnique};
-ghost use Rattle.elimination_theory.specs.IntegersTheorems.{IntegerPointsAreCounted, IntegerScaleIsLeast, IntegerSpanIsLeast, IntegerTestPointsSuffice, IntegerTestPointsSuit, IntegerAtomIsExact, IntegerSubstitutionIsExact, IntegerEliminationIsExact};
+ghost use Rattle.elimination_theory.specs.IntegersTheorems.{IntegerPointsAreCounted, ScaleIsLeast, SpanIsLeast, IntegerScaleIsLeast, IntegerSpanIsLeast, IntegerTestPointsSuffice, IntegerTestPointsSuit, IntegerAtomIsExact, IntegerSubstitutionIsExact, IntegerEliminationIsExact};
 
 /// For a formula built by `and` and `or`, `ex(x, f)` is true exactly where some test point of the side makes `f` true.
 pub fn integer_test_points_suffice()
     ensures { IntegerTestPointsSuffice }
 {}
 
-/// The scale is the least common multiple of all coefficients of `x`.
+/// The scale is the least common multiple of all coefficients of `x`, in a list of atoms and in a formula.
 pub fn integer_scale_is_least()
-    ensures { IntegerScaleIsLeast }
+    ensures atoms { ScaleIsLeast }
+    ensures formula { IntegerScaleIsLeast }
 {}
 
-/// The span is the least common multiple of the scale and of the moduli of all congruences, multiplied as `x` is to the scale.
+/// The span is the least common multiple of the scale and of the moduli of all congruences, multiplied as `x` is to the scale,
+/// in a list of atoms and in a formula.
 pub fn integer_span_is_least()
-    ensures { IntegerSpanIsLeast }
+    ensures atoms { SpanIsLeast }
+    ensures formula { IntegerSpanIsLeast }
 {}
 
 /// There are as many test points as the period, and as many as the span for each atom at which a comparison starts.
