@@ -30,6 +30,11 @@ TruthIsDecided c = (f : Tree) (p : Point ℕ) → InContext c f → Of c p → T
 abbrev pub QuantifiersAreEliminated : Context → Type 0
 QuantifiersAreEliminated c = (f : Tree) → InContext c f → (g : Tree) × IsEliminated c f g
 
+-- The lifting from one quantifier to all: where one over a formula built by and and or can be eliminated, so can all, and truth
+-- is decided.
+abbrev pub OneQuantifierSuffices : Context → Type 0
+OneQuantifierSuffices c = QuantifierIsEliminated c → QuantifiersAreEliminated c × TruthIsDecided c
+
 -- The negation normal form is true where the formula is, and that of the negation where the formula is not, whatever atom
 -- is taken as the negation of an atom.
 abbrev pub NegationNormalFormKeepsTruth : Context → Type 0

@@ -4,7 +4,7 @@ use Rattle.formula_meaning.specs.Formula.{Yes, One, And}
 use Rattle.formula_meaning.specs.NegationNormal.{both}
 use Rattle.formula_meaning.specs.Form.{Form, coefficient, without, plus}
 use Rattle.formula_meaning.specs.Atom.{Atom, Compare, Congruent}
-use Rattle.formula_meaning.specs.Answer.{Answer, Place, Exact, AboveBy, BelowBy, PlusInfinity, MinusInfinity, Periodic}
+use Rattle.formula_meaning.specs.Answer.{Place, Exact, AboveBy, BelowBy, PlusInfinity, MinusInfinity, Periodic}
 use Rattle.formula_meaning.specs.Replaced.{replaced}
 use Rattle.formula_meaning.specs.Tree.{Tree}
 use Rattle.elimination_theory.specs.Substitution.{form_at, beyond, exactly}
@@ -58,8 +58,3 @@ integer_guard (Periodic j q) = Yes
 -- the place is a whole number, and the formula is true with x at it
 abbrev pub guarded_substitution : ℕ → Place → Tree → Tree
 guarded_substitution x s f = And (both (integer_guard s) (integer_substitution x s f))
-
--- a formula with the answers put in, the last one first, each with its guard
-abbrev pub integer_substitutions : List Answer → Tree → Tree
-integer_substitutions [] f = f
-integer_substitutions (a ∷ rest) f = guarded_substitution a.name a.place (integer_substitutions rest f)

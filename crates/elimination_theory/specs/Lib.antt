@@ -15,3 +15,8 @@ pub mod FieldsExample
 pub mod FieldsSamples
 pub mod PointsTheorems
 pub mod NamesTheorems
+pub mod BothTheories
+pub mod Steps
+pub mod Answers
+pub mod Samples
+pub mod SentenceExample

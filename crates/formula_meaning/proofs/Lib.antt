@@ -17,3 +17,7 @@ pub mod FreeReplaced
 pub mod NormalShape
 pub mod TreeNormal
 pub mod TreeReplacing
+pub mod Fold
+pub mod Equivalence
+pub mod TreeNames
+mod Examples

@@ -7,13 +7,14 @@ pub mod Sorted
 pub mod Some
 pub mod Distinct
 pub mod Atom
+pub mod Same
 pub mod Every
+pub mod Sizes
 pub mod Replaced
 pub mod Shape
 pub mod NegationNormal
+pub mod Fold
 pub mod Tree
 pub mod Laws
 pub mod Answer
-pub mod Same
-pub mod Sizes
 pub mod Quantified

@@ -1,7 +1,9 @@
 //! What formulas mean: points, truth, linear forms, atoms, answers. Each function does nothing; its contract is a law.
 #![tactic(auto)]
 
-ghost use Rattle.formula_meaning.specs.Laws.{SamePointKeepsTruth, FreeNamesDecideTruth, ReplacingKeepsTruth, NegationNormalFormIsNormal, NegationNormalFormBringsNoName, NegationNormalFormLosesNoName};
+ghost use Rattle.formula_meaning.specs.Context.{Context};
+ghost use Rattle.formula_meaning.specs.Tree.{Tree};
+ghost use Rattle.formula_meaning.specs.Laws.{SamePointKeepsTruth, FreeNamesDecideTruth, ReplacingKeepsTruth, NegationNormalFormIsNormal, NegationNormalFormBringsNoName, NegationNormalFormLosesNoName, EquivalenceIsCongruence, QuantifiersDistribute, AbsentNameIsDropped, FoldingKeepsTruth, FoldingBringsNothing, FreeNamesAreListed};
 
 /// A tree has the same truth at every representation of a rational point.
 pub fn same_point_keeps_truth()
@@ -32,4 +34,34 @@ pub fn negation_normal_form_brings_no_name()
 /// They lose no name where no opposite atom does.
 pub fn negation_normal_form_loses_no_name()
     ensures { NegationNormalFormLosesNoName }
+{}
+
+/// Equivalence goes through every connective and quantifier.
+pub fn equivalence_is_congruence()
+    ensures { (c : Context) → EquivalenceIsCongruence c }
+{}
+
+/// `ex` goes over `or`, and `all` over `and`.
+pub fn quantifiers_distribute()
+    ensures { (c : Context) → QuantifiersDistribute c }
+{}
+
+/// A quantifier of a name that is not free says nothing.
+pub fn absent_name_is_dropped()
+    ensures { (c : Context) → AbsentNameIsDropped c }
+{}
+
+/// Folding constants and nested lists keeps truth.
+pub fn folding_keeps_truth()
+    ensures { FoldingKeepsTruth }
+{}
+
+/// Folding keeps the shape and the theory, and brings no names and no nodes.
+pub fn folding_brings_nothing()
+    ensures { (f : Tree) → FoldingBringsNothing f }
+{}
+
+/// The list of free names that is computed has the free names.
+pub fn free_names_are_listed()
+    ensures { FreeNamesAreListed }
 {}
