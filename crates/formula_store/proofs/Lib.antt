@@ -9,3 +9,4 @@ pub mod Adds
 pub mod Marked
 pub mod Ordered
 pub mod Collected
+pub mod Counted

@@ -15,7 +15,7 @@ pub same_id : (x y : FormulaId) → x.number ≡ y.number → x ≡ y
 same_id x y e = λ i. record { number = e i }
 
 -- what has P is among them, and so has what all of them have
-some_has : (P Q : FormulaId → Type 0) (xs : List FormulaId) → SomeOf P xs → AllByRecursion Q xs → (x : FormulaId) × P x × Q x × SomeOf (λ i. i ≡ x) xs
+pub some_has : (P Q : FormulaId → Type 0) (xs : List FormulaId) → SomeOf P xs → AllByRecursion Q xs → (x : FormulaId) × P x × Q x × SomeOf (λ i. i ≡ x) xs
 some_has P Q [] h k = absurd h
 some_has P Q (x ∷ xs) (inl h) k = (x, h, k.0, inl refl)
 some_has P Q (x ∷ xs) (inr h) k = let r = some_has P Q xs h k.1 in (r.0, r.1, r.2, inr r.3)
