@@ -204,7 +204,7 @@ module _ (nodes : List (Shape FormulaId)) (are : AreNodes nodes) where
   trees_once [] r all = tt
   trees_once (i ∷ ids) r all = (not_again i ids (all i (inl refl)) (λ x m. all x (inr m)) r, trees_once_from i.number ids r (λ x m. all x (inr m)))
 
-  within_id : (a b : FormulaId) → IsId nodes a → Within nodes a b → IsId nodes b
+  pub within_id : (a b : FormulaId) → IsId nodes a → Within nodes a b → IsId nodes b
   within_id a b h itself = h
   within_id a b h (inside {m = m} n e s w) =
       let r = some_has (λ i. i ≡ m) (λ (id : FormulaId). id.number < a.number) (ids_of n) s (all_listed (λ (id : FormulaId). id.number < a.number) n (are.below a.number n e)) in

@@ -10,3 +10,4 @@ pub mod Marked
 pub mod Ordered
 pub mod Collected
 pub mod Counted
+pub mod Before

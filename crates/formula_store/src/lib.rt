@@ -10,5 +10,4 @@ mod store;
 pub use error::StoreError;
 pub use facts::Facts;
 pub use id::FormulaId;
-pub use order::subformulas;
 pub use store::Store;

@@ -13,9 +13,8 @@ use crate::store::Store;
 use formula_tree::Shape;
 use std::alloc::Global;
 
-/// The distinct subformulas of a formula: each once, its members before it, the formula itself last. It takes time
-/// linear in the formula's number. Its only error is `Memory`.
-pub fn subformulas(alloc: Global, store: &Store, root: FormulaId) -> Result<Vec<FormulaId>, StoreError>
+// The distinct subformulas of a formula: each once, its members before it.
+pub(crate) fn subformulas(alloc: Global, store: &Store, root: FormulaId) -> Result<Vec<FormulaId>, StoreError>
     requires { IsId store.now root }
     ensures { IfOk result (λ ids. IsOrder store.now root ids.items) }
 {

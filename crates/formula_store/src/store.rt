@@ -1,13 +1,17 @@
-ghost use Rattle.std.specs.Prelude.{◌≡◌, ◌≤◌, ◌<◌, ◌^◌, [], Some, IfOk, IfErr, length, map, slice_get};
+ghost use Rattle.std.specs.Prelude.{◌≡◌, ◌≤◌, ◌<◌, ◌^◌, [], Some, IfOk, IfErr, length, map, nat_eq, slice_get};
 ghost use Rattle.std.specs.List.{AllByRecursion};
-ghost use Rattle.formula_meaning.specs.Sizes.{height};
+ghost use Rattle.formula_meaning.specs.Same.{same_atom};
+ghost use Rattle.formula_meaning.specs.Sizes.{height, distinct_count};
 ghost use Rattle.formula_tree.specs.Shapes.{AllIds, IsProperShape, tree_over};
 ghost use Rattle.formula_store.specs.Nodes.{tree, IsId, Makes, AreNodes};
 ghost use Rattle.formula_store.specs.Facts.{IsFactsOf, AreFactsOf};
+ghost use Rattle.formula_store.specs.Order.{IsOrder};
 ghost use Rattle.formula_tree.specs.Trees.{members};
 
+use crate::error::StoreError;
 use crate::facts::Facts;
 use crate::id::FormulaId;
+use crate::order::subformulas;
 use formula_tree::{MakeError, Maker, Shape};
 use indexmap::IndexMap;
 use std::alloc::Global;
@@ -17,6 +21,7 @@ use std::marker::Model;
 #[derive(Drop)]
 pub struct Store {
     nodes: IndexMap<Shape<FormulaId>, Facts>,
+    alloc: Global,
 }
 
 impl Model for Store {
@@ -40,6 +45,7 @@ impl Store {
     {
         Store {
             nodes: IndexMap::new(alloc),
+            alloc,
         }
     }
 
@@ -72,6 +78,25 @@ impl Store {
         ensures small { result < 2 ^ 63 }
     {
         self.nodes.len()
+    }
+
+    /// The distinct subformulas of a formula: each once, its members before it, the formula itself last. It takes time
+    /// linear in the formula's number. Its only error is `Memory`.
+    pub fn subformulas(&self, id: FormulaId) -> Result<Vec<FormulaId>, StoreError>
+        requires { IsId self.now id }
+        ensures order { IfOk result (λ ids. IsOrder self.now id ids.items) }
+        ensures nodes { AreNodes self.now }
+    {
+        subformulas(self.alloc, self, id)
+    }
+
+    /// How many distinct subformulas a formula has. Its only error is `Memory`.
+    pub fn distinct(&self, id: FormulaId) -> Result<u64, StoreError>
+        requires { IsId self.now id }
+        ensures { IfOk result (λ n. n ≡ distinct_count same_atom nat_eq (tree self.now id)) }
+    {
+        let ids = self.subformulas(id)?;
+        Ok(ids.len() as u64)
     }
 
     // What is known of the formulas together.

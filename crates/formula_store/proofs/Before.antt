@@ -1,0 +1,55 @@
+-- In the list of the nodes of a formula the members of each stand before it.
+use Rattle.std.proofs.Common.{◌≡◌, ℕ, zero, suc, ◌+◌, ◌<◌, ◌≤◌, ◌⊎◌, inl, inr, ⊎_elim, List, [], ◌∷◌, ◌++◌, Some, slice_get, length, get_or, take, refl, ap, sym, ◌∙◌, subst, arith}
+use Rattle.std.specs.List.{AllByRecursion}
+use Rattle.formula_meaning.specs.Some.{SomeOf, Among}
+use Rattle.formula_tree.specs.declared.shape.Shape.{Shape}
+use Rattle.formula_tree.specs.Shapes.{ids_of}
+use Rattle.formula_tree.proofs.Shapes.{all_listed}
+use Rattle.formula_store.specs.declared.id.FormulaId.{FormulaId}
+use Rattle.formula_store.specs.Nodes.{AreNodes, IsId}
+use Rattle.formula_store.specs.Order.{Within, itself, inside, Rises, RisesFrom, IsOrder}
+use Rattle.formula_store.proofs.Ordered.{within_then}
+use Rattle.formula_store.proofs.Marked.{all_at}
+use Rattle.formula_store.proofs.Counted.{within_id}
+
+-- numbers from the one at a place on are at least it
+at_least_from : (a : ℕ) (ids : List FormulaId) (x : FormulaId) → RisesFrom a ids → Among ids x → a < x.number
+at_least_from a [] x r m = absurd m
+at_least_from a (i ∷ ids) x r (inl e) = subst (λ (y : FormulaId). a < y.number) e r.0
+at_least_from a (i ∷ ids) x r (inr m) = let k = at_least_from i.number ids x r.1 m in let l = r.0 in omega arith
+
+earlier_from : (a : ℕ) (ids : List FormulaId) (i : ℕ) (d x : FormulaId) → RisesFrom a ids → i < length ids → Among ids x → x.number < (get_or ids i d).number → Among (take i ids) x
+earlier_from a [] i d x r h m l = absurd m
+earlier_from a (b ∷ ids) zero d x r h (inl e) l = absurd (let k : x.number ≡ b.number = ap (λ (y : FormulaId). y.number) (sym e) in omega arith)
+earlier_from a (b ∷ ids) zero d x r h (inr m) l = absurd (let k = at_least_from b.number ids x r.1 m in omega arith)
+earlier_from a (b ∷ ids) (suc i) d x r h (inl e) l = inl e
+earlier_from a (b ∷ ids) (suc i) d x r h (inr m) l = inr (earlier_from b.number ids i d x r.1 (omega arith) m l)
+
+-- an id with a smaller number stands before
+pub earlier : (ids : List FormulaId) (i : ℕ) (d x : FormulaId) → Rises ids → i < length ids → Among ids x → x.number < (get_or ids i d).number → Among (take i ids) x
+earlier [] i d x r h m l = absurd m
+earlier (b ∷ ids) zero d x r h (inl e) l = absurd (let k : x.number ≡ b.number = ap (λ (y : FormulaId). y.number) (sym e) in omega arith)
+earlier (b ∷ ids) zero d x r h (inr m) l = absurd (let k = at_least_from b.number ids x r m in omega arith)
+earlier (b ∷ ids) (suc i) d x r h (inl e) l = inl e
+earlier (b ∷ ids) (suc i) d x r h (inr m) l = inr (earlier_from b.number ids i d x r (omega arith) m l)
+
+pub among_all : (P : FormulaId → Type 0) (ids : List FormulaId) (x : FormulaId) → AllByRecursion P ids → Among ids x → P x
+among_all P [] x h m = absurd m
+among_all P (i ∷ ids) x h (inl e) = subst P e h.0
+among_all P (i ∷ ids) x h (inr m) = among_all P ids x h.1 m
+
+module _ (nodes : List (Shape FormulaId)) (are : AreNodes nodes) (root : FormulaId) (ids : List FormulaId) (o : IsOrder nodes root ids) where
+  -- each id of the list is one of the nodes
+  pub each_id : IsId nodes root → (i : ℕ) (d : FormulaId) → i < length ids → IsId nodes (get_or ids i d)
+  each_id r i d h = within_id nodes are root (get_or ids i d) r (all_at (Within nodes root) ids i d h o.only)
+
+  module _ (i : ℕ) (d : FormulaId) (h : i < length ids) (n : Shape FormulaId) (here : slice_get nodes (get_or ids i d).number ≡ Some n) (P : FormulaId → Type 0) (done : AllByRecursion P (take i ids)) where
+    members_done : (ms : List FormulaId) → ((m : FormulaId) → Among ms m → Among (ids_of n) m) → AllByRecursion (λ (m : FormulaId). m.number < (get_or ids i d).number) ms → AllByRecursion P ms
+    members_done [] t b = tt
+    members_done (m ∷ ms) t b =
+        let stands = within_then nodes root (get_or ids i d) m n (all_at (Within nodes root) ids i d h o.only) here (t m (inl refl)) in
+        (among_all P (take i ids) m done (earlier ids i d m o.rises h (o.all m stands) b.0), members_done ms (λ k a. t k (inr a)) b.1)
+
+    -- what holds of the ids before holds of the members
+    pub members_before : AllByRecursion P (ids_of n)
+    members_before = members_done (ids_of n) (λ m a. a) (all_listed (λ (m : FormulaId). m.number < (get_or ids i d).number) n (are.below (get_or ids i d).number n here))
