@@ -7,8 +7,8 @@ use Rattle.formula_tree.specs.Shapes.{ids_of}
 use Rattle.formula_tree.proofs.Shapes.{all_listed}
 use Rattle.formula_store.specs.declared.id.FormulaId.{FormulaId}
 use Rattle.formula_store.specs.Nodes.{AreNodes, IsId}
-use Rattle.formula_store.specs.Order.{Within, itself, inside, Rises, RisesFrom, IsOrder}
-use Rattle.formula_store.proofs.Ordered.{within_then}
+use Rattle.formula_store.specs.Order.{Within, WithinSome, itself, inside, Rises, RisesFrom, IsOrder}
+use Rattle.formula_store.proofs.Ordered.{some_then}
 use Rattle.formula_store.proofs.Marked.{all_at}
 use Rattle.formula_store.proofs.Counted.{within_id}
 
@@ -38,16 +38,21 @@ among_all P [] x h m = absurd m
 among_all P (i ∷ ids) x h (inl e) = subst P e h.0
 among_all P (i ∷ ids) x h (inr m) = among_all P ids x h.1 m
 
-module _ (nodes : List (Shape FormulaId)) (are : AreNodes nodes) (root : FormulaId) (ids : List FormulaId) (o : IsOrder nodes root ids) where
+module _ (nodes : List (Shape FormulaId)) (are : AreNodes nodes) (roots ids : List FormulaId) (o : IsOrder nodes roots ids) where
   -- each id of the list is one of the nodes
-  pub each_id : IsId nodes root → (i : ℕ) (d : FormulaId) → i < length ids → IsId nodes (get_or ids i d)
-  each_id r i d h = within_id nodes are root (get_or ids i d) r (all_at (Within nodes root) ids i d h o.only)
+  pub each_id : AllByRecursion (IsId nodes) roots → (i : ℕ) (d : FormulaId) → i < length ids → IsId nodes (get_or ids i d)
+  each_id r i d h = some_id roots (get_or ids i d) r (all_at (WithinSome nodes roots) ids i d h o.only)
+    where
+      some_id : (rs : List FormulaId) (x : FormulaId) → AllByRecursion (IsId nodes) rs → WithinSome nodes rs x → IsId nodes x
+      some_id [] x h w = absurd w
+      some_id (r ∷ rs) x h (inl w) = within_id nodes are r x h.0 w
+      some_id (r ∷ rs) x h (inr w) = some_id rs x h.1 w
 
   module _ (i : ℕ) (d : FormulaId) (h : i < length ids) (n : Shape FormulaId) (here : slice_get nodes (get_or ids i d).number ≡ Some n) (P : FormulaId → Type 0) (done : AllByRecursion P (take i ids)) where
     members_done : (ms : List FormulaId) → ((m : FormulaId) → Among ms m → Among (ids_of n) m) → AllByRecursion (λ (m : FormulaId). m.number < (get_or ids i d).number) ms → AllByRecursion P ms
     members_done [] t b = tt
     members_done (m ∷ ms) t b =
-        let stands = within_then nodes root (get_or ids i d) m n (all_at (Within nodes root) ids i d h o.only) here (t m (inl refl)) in
+        let stands = some_then nodes roots (get_or ids i d) m n (all_at (WithinSome nodes roots) ids i d h o.only) here (t m (inl refl)) in
         (among_all P (take i ids) m done (earlier ids i d m o.rises h (o.all m stands) b.0), members_done ms (λ k a. t k (inr a)) b.1)
 
     -- what holds of the ids before holds of the members

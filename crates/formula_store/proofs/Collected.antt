@@ -4,7 +4,7 @@ use Rattle.std.specs.List.{AllByRecursion}
 use Rattle.formula_meaning.specs.Some.{SomeOf}
 use Rattle.formula_tree.specs.declared.shape.Shape.{Shape}
 use Rattle.formula_store.specs.declared.id.FormulaId.{FormulaId}
-use Rattle.formula_store.specs.Order.{Within, IsMarked, AreMarked, Rises, RisesFrom, Collects, IsOrder}
+use Rattle.formula_store.specs.Order.{WithinSome, IsMarked, AreMarked, Rises, RisesFrom, Collects, IsOrder}
 use Rattle.formula_store.proofs.Marked.{all_on, all_joined, some_left, some_right, equal_or_not}
 use Rattle.formula_store.proofs.Ordered.{same_id}
 
@@ -56,9 +56,9 @@ unmarked_read (m ∷ marks) zero b h e f = λ k. true≢false (sym k ∙ sym e �
 unmarked_read (m ∷ marks) (suc i) b h e f = unmarked_read marks i b (omega arith) e f
 
 -- all are collected
-pub collected : (nodes : List (Shape FormulaId)) (root : FormulaId) (marks : List Bool) (n : ℕ) (ids : List FormulaId) → AreMarked nodes root marks → length marks ≤ n → Collects marks n ids → IsOrder nodes root ids
-collected nodes root marks n ids m l c = record {
+pub collected : (nodes : List (Shape FormulaId)) (roots : List FormulaId) (marks : List Bool) (n : ℕ) (ids : List FormulaId) → AreMarked nodes roots marks → length marks ≤ n → Collects marks n ids → IsOrder nodes roots ids
+collected nodes roots marks n ids m l c = record {
   rises = c.rises;
   all = λ x w. let k = marked_within marks x.number (m.all x w) in c.all x (omega arith) (m.all x w);
-  only = all_on (λ (id : FormulaId). IsMarked marks id.number) (Within nodes root) (λ id k. m.only id k) ids c.only;
+  only = all_on (λ (id : FormulaId). IsMarked marks id.number) (WithinSome nodes roots) (λ id k. m.only id k) ids c.only;
 }

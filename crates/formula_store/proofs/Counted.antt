@@ -20,7 +20,7 @@ use Rattle.formula_tree.specs.Shapes.{tree_over, AllIds, ids_of}
 use Rattle.formula_tree.proofs.Shapes.{all_listed}
 use Rattle.formula_store.specs.declared.id.FormulaId.{FormulaId}
 use Rattle.formula_store.specs.Nodes.{tree, IsId, AreNodes}
-use Rattle.formula_store.specs.Order.{Within, itself, inside, Rises, RisesFrom, IsOrder}
+use Rattle.formula_store.specs.Order.{Within, WithinSome, itself, inside, Rises, RisesFrom, IsOrder}
 use Rattle.formula_store.proofs.Trees.{node_tree}
 use Rattle.formula_store.proofs.Same.{same_tree}
 use Rattle.formula_store.proofs.Ordered.{some_has}
@@ -210,13 +210,13 @@ module _ (nodes : List (Shape FormulaId)) (are : AreNodes nodes) where
       let r = some_has (λ i. i ≡ m) (λ (id : FormulaId). id.number < a.number) (ids_of n) s (all_listed (λ (id : FormulaId). id.number < a.number) n (are.below a.number n e)) in
       within_id m b (let k : m.number < a.number = subst (λ (y : FormulaId). y.number < a.number) r.1 r.2 in omega arith) w
 
-  each_within : (root : FormulaId) (ids : List FormulaId) → AllByRecursion (Within nodes root) ids → (x : FormulaId) → Among ids x → Within nodes root x
+  each_within : (root : FormulaId) (ids : List FormulaId) → AllByRecursion (WithinSome nodes (root ∷ [])) ids → (x : FormulaId) → Among ids x → Within nodes root x
   each_within root [] h x m = absurd m
-  each_within root (i ∷ ids) h x (inl e) = subst (λ y. Within nodes root y) e h.0
+  each_within root (i ∷ ids) h x (inl e) = subst (λ y. Within nodes root y) e (⊎_elim (λ w. w) (λ w. absurd w) h.0)
   each_within root (i ∷ ids) h x (inr m) = each_within root ids h.1 x m
 
   -- as many ids as distinct subformulas
-  pub counted : (root : FormulaId) (ids : List FormulaId) → IsId nodes root → IsOrder nodes root ids → distinct_count same_atom nat_eq (tree nodes root) ≡ length ids
+  pub counted : (root : FormulaId) (ids : List FormulaId) → IsId nodes root → IsOrder nodes (root ∷ []) ids → distinct_count same_atom nat_eq (tree nodes root) ≡ length ids
   counted root ids h o =
       let same = same_formula same_atom nat_eq in
       let numbers_are : (x y : ℕ) → nat_eq x y ≡ true → x ≡ y = λ x y. (unsigned_Decides x y).0 in
@@ -231,6 +231,6 @@ module _ (nodes : List (Shape FormulaId)) (are : AreNodes nodes) where
                 among_distinct same sound (subtrees f) s (subst (λ g. Among (subtrees f) g) r.2 (within_subtree root r.0 (each_within root ids o.only r.0 r.1)))) in
       let down : length (distinct_subtrees same_atom nat_eq f) ≤ length (map (tree nodes) ids) =
             fits (distinct_subtrees same_atom nat_eq f) (map (tree nodes) ids) (distinct_once same alike (subtrees f))
-              (λ s m. let r = subtree_found root h s (distinct_among same (subtrees f) s m) in subst (λ g. Among (map (tree nodes) ids) g) r.same (among_map ids r.id (o.all r.id r.stands))) in
+              (λ s m. let r = subtree_found root h s (distinct_among same (subtrees f) s m) in subst (λ g. Among (map (tree nodes) ids) g) r.same (among_map ids r.id (o.all r.id (inl r.stands)))) in
       let n = length-map ids (tree nodes) in
       omega arith

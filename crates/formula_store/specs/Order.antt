@@ -11,6 +11,10 @@ pub data Within (nodes : List (Shape FormulaId)) : FormulaId → FormulaId → T
   itself : {a : FormulaId} → Within nodes a a
   inside : {a m b : FormulaId} (n : Shape FormulaId) → slice_get nodes a.number ≡ Some n → SomeOf (λ i. i ≡ m) (ids_of n) → Within nodes m b → Within nodes a b
 
+-- it stands in some of the formulas
+abbrev pub WithinSome : List (Shape FormulaId) → List FormulaId → FormulaId → Type 0
+WithinSome nodes roots x = SomeOf (λ r. Within nodes r x) roots
+
 -- the numbers of the ids are above x and rise
 abbrev pub RisesFrom : ℕ → List FormulaId → Type 0
 RisesFrom x [] = Unit {0}
@@ -21,11 +25,11 @@ abbrev pub Rises : List FormulaId → Type 0
 Rises [] = Unit {0}
 Rises (a ∷ ids) = RisesFrom a.number ids
 
--- the nodes of a formula, each once, each after its members
-pub record IsOrder (nodes : List (Shape FormulaId)) (root : FormulaId) (ids : List FormulaId) : Type 0 where
+-- the nodes of some formulas, each once, each after its members
+pub record IsOrder (nodes : List (Shape FormulaId)) (roots ids : List FormulaId) : Type 0 where
   pub rises : Rises ids
-  pub all : (x : FormulaId) → Within nodes root x → SomeOf (λ i. i ≡ x) ids
-  pub only : AllByRecursion (Within nodes root) ids
+  pub all : (x : FormulaId) → WithinSome nodes roots x → SomeOf (λ i. i ≡ x) ids
+  pub only : AllByRecursion (WithinSome nodes roots) ids
 
 -- the mark of a place
 abbrev pub IsMarked : List Bool → ℕ → Type 0
@@ -38,18 +42,18 @@ pub record Marks (ids : List FormulaId) (old new : List Bool) : Type 0 where
   pub added : AllByRecursion (λ id. IsMarked new id.number) ids
   pub none_else : (i : ℕ) → IsMarked new i → IsMarked old i ⊎ SomeOf (λ id. id.number ≡ i) ids
 
--- the nodes of a formula are marked, and no others
-pub record AreMarked (nodes : List (Shape FormulaId)) (root : FormulaId) (marks : List Bool) : Type 0 where
-  pub all : (x : FormulaId) → Within nodes root x → IsMarked marks x.number
-  pub only : (x : FormulaId) → IsMarked marks x.number → Within nodes root x
+-- the nodes of some formulas are marked, and no others
+pub record AreMarked (nodes : List (Shape FormulaId)) (roots : List FormulaId) (marks : List Bool) : Type 0 where
+  pub all : (x : FormulaId) → WithinSome nodes roots x → IsMarked marks x.number
+  pub only : (x : FormulaId) → IsMarked marks x.number → WithinSome nodes roots x
 
--- the nodes from this number on have marked their members: what is marked stands in the formula, and so do the members of
--- what is marked from here on
-pub record MarksFrom (nodes : List (Shape FormulaId)) (root : FormulaId) (from : ℕ) (marks : List Bool) : Type 0 where
-  pub size : length marks ≡ root.number + 1
-  pub root_marked : IsMarked marks root.number
-  pub sound : (x : FormulaId) → IsMarked marks x.number → Within nodes root x
-  pub closed : (x : FormulaId) (n : Shape FormulaId) → from ≤ x.number → slice_get nodes x.number ≡ Some n → IsMarked marks x.number → AllByRecursion (λ m. IsMarked marks m.number) (ids_of n)
+-- The nodes from this number on have marked their members: what is marked stands in one of the formulas, and the members
+-- of what is marked from here on are marked.
+pub record MarksFrom (nodes : List (Shape FormulaId)) (roots : List FormulaId) (from : ℕ) (marks : List Bool) : Type 0 where
+  pub size : length marks ≡ length nodes
+  pub roots_marked : AllByRecursion (λ (r : FormulaId). IsMarked marks r.number) roots
+  pub sound : (x : FormulaId) → IsMarked marks x.number → WithinSome nodes roots x
+  pub closed : (x : FormulaId) (n : Shape FormulaId) → from ≤ x.number → slice_get nodes x.number ≡ Some n → IsMarked marks x.number → AllByRecursion (λ (m : FormulaId). IsMarked marks m.number) (ids_of n)
 
 -- the ids are the marked places below a number, in order
 pub record Collects (marks : List Bool) (upto : ℕ) (ids : List FormulaId) : Type 0 where

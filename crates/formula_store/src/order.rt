@@ -13,12 +13,16 @@ use crate::store::Store;
 use formula_tree::Shape;
 use std::alloc::Global;
 
-// The distinct subformulas of a formula: each once, its members before it.
-pub(crate) fn subformulas(alloc: Global, store: &Store, root: FormulaId) -> Result<Vec<FormulaId>, StoreError>
-    requires { IsId store.now root }
-    ensures { IfOk result (λ ids. IsOrder store.now root ids.items) }
+// The distinct subformulas of some formulas: each once, its members before it.
+pub(crate) fn subformulas(
+    alloc: Global,
+    store: &Store,
+    roots: &[FormulaId],
+) -> Result<Vec<FormulaId>, StoreError>
+    requires { AllByRecursion (IsId store.now) roots.now }
+    ensures { IfOk result (λ ids. IsOrder store.now roots.now ids.items) }
 {
-    let marks = marked(alloc, store, root)?;
+    let marks = marked(alloc, store, roots)?;
     let mut ids = Vec::new(alloc);
     for number in 0..marks.len() {
         collect(&marks, number, &mut ids)?;
@@ -40,12 +44,13 @@ fn collect(marks: &Vec<bool>, number: usize, ids: &mut Vec<FormulaId>) -> Result
     Ok(())
 }
 
-// A mark at the number of each subformula, downwards from the formula itself.
-fn marked(alloc: Global, store: &Store, root: FormulaId) -> Result<Vec<bool>, StoreError>
-    requires { IsId store.now root }
-    ensures { IfOk result (λ marks. AreMarked store.now root marks.items) }
+// A mark at the number of each subformula, downwards from the formulas themselves.
+fn marked(alloc: Global, store: &Store, roots: &[FormulaId]) -> Result<Vec<bool>, StoreError>
+    requires { AllByRecursion (IsId store.now) roots.now }
+    ensures { IfOk result (λ marks. AreMarked store.now roots.now marks.items) }
 {
-    let mut marks = last_marked(alloc, root.number)?;
+    let mut marks = unmarked(alloc, store.len())?;
+    mark_all(roots, &mut marks);
     for number in (0..marks.len()).rev() {
         if marks[number] {
             mark_members(store.shape(FormulaId { number }), &mut marks);
@@ -54,13 +59,12 @@ fn marked(alloc: Global, store: &Store, root: FormulaId) -> Result<Vec<bool>, St
     Ok(marks)
 }
 
-// A mark at the last place, after so many without.
-fn last_marked(alloc: Global, unmarked: usize) -> Result<Vec<bool>, StoreError>
-    ensures { IfOk result (λ marks. marks.items ≡ replicate unmarked false ++ true ∷ []) }
+// So many places without a mark.
+fn unmarked(alloc: Global, places: usize) -> Result<Vec<bool>, StoreError>
+    ensures { IfOk result (λ marks. marks.items ≡ replicate places false) }
 {
     let mut marks = Vec::new(alloc);
-    marks.resize(unmarked, false).map_err(|_| StoreError::Memory)?;
-    marks.push(true).map_err(|_| StoreError::Memory)?;
+    marks.resize(places, false).map_err(|_| StoreError::Memory)?;
     Ok(marks)
 }
 

@@ -1,4 +1,4 @@
-ghost use Rattle.std.specs.Prelude.{◌≡◌, ◌≤◌, ◌<◌, ◌^◌, [], Some, IfOk, IfErr, length, map, nat_eq, slice_get};
+ghost use Rattle.std.specs.Prelude.{◌≡◌, ◌≤◌, ◌<◌, ◌^◌, [], ◌∷◌, Some, IfOk, IfErr, length, map, nat_eq, slice_get};
 ghost use Rattle.std.specs.List.{AllByRecursion};
 ghost use Rattle.formula_meaning.specs.Same.{same_atom};
 ghost use Rattle.formula_meaning.specs.Sizes.{height, distinct_count};
@@ -81,13 +81,13 @@ impl Store {
     }
 
     /// The distinct subformulas of a formula: each once, its members before it, the formula itself last. It takes time
-    /// linear in the formula's number. Its only error is `Memory`.
+    /// linear in the number of formulas of the store. Its only error is `Memory`.
     pub fn subformulas(&self, id: FormulaId) -> Result<Vec<FormulaId>, StoreError>
         requires { IsId self.now id }
-        ensures order { IfOk result (λ ids. IsOrder self.now id ids.items) }
+        ensures order { IfOk result (λ ids. IsOrder self.now (id ∷ []) ids.items) }
         ensures nodes { AreNodes self.now }
     {
-        subformulas(self.alloc, self, id)
+        subformulas(self.alloc, self, &[id])
     }
 
     /// How many distinct subformulas a formula has. Its only error is `Memory`.
