@@ -13,7 +13,7 @@ use Rattle.formula_store.proofs.Marked.{all_at}
 use Rattle.formula_store.proofs.Counted.{within_id}
 
 -- numbers from the one at a place on are at least it
-at_least_from : (a : ℕ) (ids : List FormulaId) (x : FormulaId) → RisesFrom a ids → Among ids x → a < x.number
+pub at_least_from : (a : ℕ) (ids : List FormulaId) (x : FormulaId) → RisesFrom a ids → Among ids x → a < x.number
 at_least_from a [] x r m = absurd m
 at_least_from a (i ∷ ids) x r (inl e) = subst (λ (y : FormulaId). a < y.number) e r.0
 at_least_from a (i ∷ ids) x r (inr m) = let k = at_least_from i.number ids x r.1 m in let l = r.0 in omega arith

@@ -11,3 +11,4 @@ pub mod Ordered
 pub mod Collected
 pub mod Counted
 pub mod Before
+pub mod Tables

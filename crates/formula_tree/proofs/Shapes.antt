@@ -7,7 +7,7 @@ use Rattle.formula_meaning.specs.Tree.{Tree}
 use Rattle.formula_tree.specs.declared.shape.Shape.{Shape}
 use Rattle.formula_tree.specs.declared.shape.Shape.TheVariants as shape
 use Rattle.formula_tree.specs.Trees.{members}
-use Rattle.formula_tree.specs.Shapes.{tree_over, AllIds, ids_of}
+use Rattle.formula_tree.specs.Shapes.{tree_over, AllIds, ids_of, moved, IsProperShape}
 
 module _ {Id : Type 0} where
   -- ids with the same trees, one after another
@@ -61,3 +61,68 @@ module _ {Id : Type 0} (P : Id → Type 0) where
   all_listed (shape.Equiv f g) h = (h.0, (h.1, tt))
   all_listed (shape.Ex x f) h = (h, tt)
   all_listed (shape.All x f) h = (h, tt)
+
+  -- and the other way round
+  pub listed_all : (s : Shape Id) → AllByRecursion P (ids_of s) → AllIds P s
+  listed_all shape.True h = tt
+  listed_all shape.False h = tt
+  listed_all (shape.One a) h = tt
+  listed_all (shape.And ids) h = h
+  listed_all (shape.Or ids) h = h
+  listed_all (shape.Not f) h = h.0
+  listed_all (shape.Impl f g) h = (h.0, h.1.0)
+  listed_all (shape.Repl f g) h = (h.0, h.1.0)
+  listed_all (shape.Equiv f g) h = (h.0, h.1.0)
+  listed_all (shape.Ex x f) h = h.0
+  listed_all (shape.All x f) h = h.0
+
+module _ {Id Id2 : Type 0} (to : Id → Id2) where
+  members_moved : (t : Id2 → Tree) (ids : List Id) → members (map t (map to ids)) ≡ members (map (λ id. t (to id)) ids)
+  members_moved t [] = refl
+  members_moved t (id ∷ ids) = ap (also (t (to id))) (members_moved t ids)
+
+  -- the tree of a moved shape
+  pub over_moved : (t : Id2 → Tree) (s : Shape Id) → tree_over t (moved to s) ≡ tree_over (λ id. t (to id)) s
+  over_moved t shape.True = refl
+  over_moved t shape.False = refl
+  over_moved t (shape.One a) = refl
+  over_moved t (shape.And ids) = ap And (members_moved t ids)
+  over_moved t (shape.Or ids) = ap Or (members_moved t ids)
+  over_moved t (shape.Not f) = refl
+  over_moved t (shape.Impl f g) = refl
+  over_moved t (shape.Repl f g) = refl
+  over_moved t (shape.Equiv f g) = refl
+  over_moved t (shape.Ex x f) = refl
+  over_moved t (shape.All x f) = refl
+
+  all_moved : (P : Id2 → Type 0) (ids : List Id) → AllByRecursion (λ id. P (to id)) ids → AllByRecursion P (map to ids)
+  all_moved P [] h = tt
+  all_moved P (id ∷ ids) h = (h.0, all_moved P ids h.1)
+
+  -- the ids of a moved shape
+  pub ids_moved : (P : Id2 → Type 0) (s : Shape Id) → AllIds (λ id. P (to id)) s → AllIds P (moved to s)
+  ids_moved P shape.True h = tt
+  ids_moved P shape.False h = tt
+  ids_moved P (shape.One a) h = tt
+  ids_moved P (shape.And ids) h = all_moved P ids h
+  ids_moved P (shape.Or ids) h = all_moved P ids h
+  ids_moved P (shape.Not f) h = h
+  ids_moved P (shape.Impl f g) h = h
+  ids_moved P (shape.Repl f g) h = h
+  ids_moved P (shape.Equiv f g) h = h
+  ids_moved P (shape.Ex x f) h = h
+  ids_moved P (shape.All x f) h = h
+
+  -- its atom is that of the shape
+  pub proper_moved : (s : Shape Id) → IsProperShape s → IsProperShape (moved to s)
+  proper_moved shape.True h = tt
+  proper_moved shape.False h = tt
+  proper_moved (shape.One a) h = h
+  proper_moved (shape.And ids) h = tt
+  proper_moved (shape.Or ids) h = tt
+  proper_moved (shape.Not f) h = tt
+  proper_moved (shape.Impl f g) h = tt
+  proper_moved (shape.Repl f g) h = tt
+  proper_moved (shape.Equiv f g) h = tt
+  proper_moved (shape.Ex x f) h = tt
+  proper_moved (shape.All x f) h = tt

@@ -38,6 +38,20 @@ AllIds P (shape.Equiv f g) = P f × P g
 AllIds P (shape.Ex x f) = P f
 AllIds P (shape.All x f) = P f
 
+-- the shape with each id replaced
+abbrev pub moved : {Id Id2 : Type 0} → (Id → Id2) → Shape Id → Shape Id2
+moved to shape.True = shape.True
+moved to shape.False = shape.False
+moved to (shape.One a) = shape.One a
+moved to (shape.And ids) = shape.And (map to ids)
+moved to (shape.Or ids) = shape.Or (map to ids)
+moved to (shape.Not f) = shape.Not (to f)
+moved to (shape.Impl f g) = shape.Impl (to f) (to g)
+moved to (shape.Repl f g) = shape.Repl (to f) (to g)
+moved to (shape.Equiv f g) = shape.Equiv (to f) (to g)
+moved to (shape.Ex x f) = shape.Ex x (to f)
+moved to (shape.All x f) = shape.All x (to f)
+
 -- the ids of the shape's members, in order
 abbrev pub ids_of : {Id : Type 0} → Shape Id → List Id
 ids_of shape.True = []
