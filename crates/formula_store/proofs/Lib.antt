@@ -12,3 +12,4 @@ pub mod Collected
 pub mod Counted
 pub mod Before
 pub mod Tables
+pub mod Copying

@@ -4,6 +4,7 @@
 mod error;
 mod facts;
 mod id;
+mod keep;
 mod order;
 mod store;
 

@@ -1,7 +1,8 @@
-ghost use Rattle.std.specs.Prelude.{◌≡◌, ◌≤◌, ◌<◌, ◌^◌, [], ◌∷◌, Some, IfOk, IfErr, length, map, nat_eq, slice_get};
+ghost use Rattle.std.specs.Prelude.{◌≡◌, ◌≤◌, ◌<◌, ◌^◌, [], ◌∷◌, Some, IfOk, IfErr, OnErr, length, map, nat_eq, slice_get};
 ghost use Rattle.std.specs.List.{AllByRecursion};
 ghost use Rattle.formula_meaning.specs.Same.{same_atom};
 ghost use Rattle.formula_meaning.specs.Sizes.{height, distinct_count};
+ghost use Rattle.formula_tree.specs.Makers.{AreMade};
 ghost use Rattle.formula_tree.specs.Shapes.{AllIds, IsProperShape, tree_over};
 ghost use Rattle.formula_store.specs.Nodes.{tree, IsId, Makes, AreNodes};
 ghost use Rattle.formula_store.specs.Facts.{IsFactsOf, AreFactsOf};
@@ -11,6 +12,7 @@ ghost use Rattle.formula_tree.specs.Trees.{members};
 use crate::error::StoreError;
 use crate::facts::Facts;
 use crate::id::FormulaId;
+use crate::keep::copied;
 use crate::order::subformulas;
 use formula_tree::{MakeError, Maker, Shape};
 use indexmap::IndexMap;
@@ -76,6 +78,7 @@ impl Store {
     pub fn len(&self) -> usize
         ensures len { result ≡ length self.now }
         ensures small { result < 2 ^ 63 }
+        ensures nodes { AreNodes self.now }
     {
         self.nodes.len()
     }
@@ -97,6 +100,19 @@ impl Store {
     {
         let ids = self.subformulas(id)?;
         Ok(ids.len() as u64)
+    }
+
+    /// Keeps the formulas with these ids and what stands in them, gives up all others, and gives the new ids in order. Old
+    /// ids name nothing afterwards. Its only error is `Memory`, which leaves the store as it was.
+    pub fn keep_only(&mut self, roots: &[FormulaId]) -> Result<Vec<FormulaId>, StoreError>
+        requires { AllByRecursion (IsId self.old) roots.now }
+        ensures kept { IfOk result (λ ids. AreMade (IsId self.new) (tree self.new) ids.items (map (tree self.old) roots.now)) }
+        ensures unchanged { OnErr result (self.new ≡ self.old) }
+    {
+        let mut kept = Store::new(self.alloc);
+        let ids = copied(self.alloc, self, roots, &mut kept)?;
+        *self = kept;
+        Ok(ids)
     }
 
     // What is known of the formulas together.

@@ -1,0 +1,46 @@
+-- Copying a formula over the copies of its members.
+use Rattle.std.proofs.Common.{◌≡◌, ℕ, ◌+◌, ◌<◌, ◌≤◌, ◌⊎◌, inl, inr, List, [], ◌∷◌, Some, slice_get, length, map, get_or, set, take, refl, ap, sym, ◌∙◌, subst, arith}
+use Rattle.std.specs.List.{AllByRecursion}
+use Rattle.formula_meaning.specs.Tree.{Tree}
+use Rattle.formula_meaning.specs.Some.{SomeOf, Among}
+use Rattle.formula_tree.specs.declared.shape.Shape.{Shape}
+use Rattle.formula_tree.specs.Makers.{IsMade, AreMade, Keeps}
+use Rattle.formula_tree.specs.Shapes.{tree_over, AllIds, moved, ids_of}
+use Rattle.formula_tree.proofs.Shapes.{over_same, all_ids_map, over_moved, ids_moved, listed_all}
+use Rattle.formula_store.specs.declared.id.FormulaId.{FormulaId}
+use Rattle.formula_store.specs.Nodes.{tree, IsId, AreNodes}
+use Rattle.formula_store.specs.Order.{Within, WithinSome, itself, IsOrder}
+use Rattle.formula_store.specs.Copies.{first_id, Copied}
+use Rattle.formula_store.proofs.Before.{among_all, members_before}
+use Rattle.formula_store.proofs.Tables.{filled}
+
+module _ (nodes old new : List (Shape FormulaId)) where
+  -- copies stay copies
+  pub still_copied : Keeps (IsId old) (tree old) (IsId new) (tree new) → (id copy : FormulaId) → Copied nodes old id copy → Copied nodes new id copy
+  still_copied k id copy c = record { is = k.is copy c.is; same = k.same copy c.is ∙ c.same }
+
+module _ (nodes : List (Shape FormulaId)) (table : List FormulaId) (old : List (Shape FormulaId)) (n : Shape FormulaId)
+    (h : AllIds (λ m. Copied nodes old m (get_or table m.number first_id)) n) where
+  pub copies_are : AllIds (IsId old) (moved (λ (m : FormulaId). get_or table m.number first_id) n)
+  copies_are = ids_moved (λ (m : FormulaId). get_or table m.number first_id) (IsId old) n (all_ids_map (λ m. Copied nodes old m (get_or table m.number first_id)) (λ m. IsId old (get_or table m.number first_id)) (λ m c. c.is) n h)
+
+  -- the tree over the copies is the tree over the members
+  pub copies_same : tree_over (tree old) (moved (λ (m : FormulaId). get_or table m.number first_id) n) ≡ tree_over (tree nodes) n
+  copies_same = over_moved (λ (m : FormulaId). get_or table m.number first_id) (tree old) n ∙ over_same (λ m. tree old (get_or table m.number first_id)) (tree nodes) n (all_ids_map (λ m. Copied nodes old m (get_or table m.number first_id)) (λ m. tree old (get_or table m.number first_id) ≡ tree nodes m) (λ m c. c.same) n h)
+
+-- the copies of the formulas, looked up in a table that has one for each node
+module _ (nodes copies : List (Shape FormulaId)) (table : List FormulaId) where
+  pub roots_copied : (roots : List FormulaId) → AllByRecursion (λ (r : FormulaId). Copied nodes copies r (get_or table r.number first_id)) roots
+      → AreMade (IsId copies) (tree copies) (map (λ (r : FormulaId). get_or table r.number first_id) roots) (map (tree nodes) roots)
+  roots_copied [] h = record { are = tt; same = refl }
+  roots_copied (r ∷ roots) h = let k = roots_copied roots h.1 in record { are = (h.0.is, k.are); same = λ i. h.0.same i ∷ k.same i }
+
+  -- each formula is in the list of the nodes of all
+  pub all_roots : (all ids roots : List FormulaId) → ((r : FormulaId) → Among roots r → Among all r) → IsOrder nodes all ids → (P : FormulaId → Type 0) → AllByRecursion P ids → AllByRecursion P roots
+  all_roots all ids [] t o P h = tt
+  all_roots all ids (r ∷ roots) t o P h = (among_all P ids r h (o.all r (own all r (t r (inl refl)))), all_roots all ids roots (λ s m. t s (inr m)) o P h)
+    where
+      own : (rs : List FormulaId) (x : FormulaId) → Among rs x → WithinSome nodes rs x
+      own [] x m = absurd m
+      own (y ∷ rs) x (inl e) = inl (subst (λ z. Within nodes z x) (sym e) itself)
+      own (y ∷ rs) x (inr m) = inr (own rs x m)
