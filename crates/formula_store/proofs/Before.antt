@@ -2,6 +2,7 @@
 use Rattle.std.proofs.Common.{◌≡◌, ℕ, zero, suc, ◌+◌, ◌<◌, ◌≤◌, ◌⊎◌, inl, inr, ⊎_elim, List, [], ◌∷◌, ◌++◌, Some, slice_get, length, get_or, take, refl, ap, sym, ◌∙◌, subst, arith}
 use Rattle.std.specs.List.{AllByRecursion}
 use Rattle.formula_meaning.specs.Some.{SomeOf, Among}
+use Rattle.formula_meaning.specs.Distinct.{StandsOnce}
 use Rattle.formula_tree.specs.declared.shape.Shape.{Shape}
 use Rattle.formula_tree.specs.Shapes.{ids_of}
 use Rattle.formula_tree.proofs.Shapes.{all_listed}
@@ -10,7 +11,7 @@ use Rattle.formula_store.specs.Nodes.{AreNodes, IsId}
 use Rattle.formula_store.specs.Order.{Within, WithinSome, itself, inside, Rises, RisesFrom, IsOrder}
 use Rattle.formula_store.proofs.Ordered.{some_then}
 use Rattle.formula_store.proofs.Marked.{all_at}
-use Rattle.formula_store.proofs.Counted.{within_id}
+use Rattle.formula_store.proofs.Counted.{within_id, fits}
 
 -- numbers from the one at a place on are at least it
 pub at_least_from : (a : ℕ) (ids : List FormulaId) (x : FormulaId) → RisesFrom a ids → Among ids x → a < x.number
@@ -58,3 +59,24 @@ module _ (nodes : List (Shape FormulaId)) (are : AreNodes nodes) (roots ids : Li
     -- what holds of the ids before holds of the members
     pub members_before : AllByRecursion P (ids_of n)
     members_before = members_done (ids_of n) (λ m a. a) (all_listed (λ (m : FormulaId). m.number < (get_or ids i d).number) n (are.below (get_or ids i d).number n here))
+
+turned : (zs : List FormulaId) (z : FormulaId) → SomeOf (λ y. z ≡ y) zs → Among zs z
+turned [] z h = absurd h
+turned (a ∷ zs) z (inl e) = inl (sym e)
+turned (a ∷ zs) z (inr h) = inr (turned zs z h)
+
+not_later : (b : FormulaId) (ids : List FormulaId) → RisesFrom b.number ids → ¬ (SomeOf (λ y. b ≡ y) ids)
+not_later b ids r m = let k = at_least_from b.number ids b r (turned ids b m) in omega arith
+
+-- ids whose numbers rise stand once
+once_from : (a : ℕ) (ids : List FormulaId) → RisesFrom a ids → StandsOnce ids
+once_from a [] r = tt
+once_from a (b ∷ ids) r = (not_later b ids r.1, once_from b.number ids r.1)
+
+once : (ids : List FormulaId) → Rises ids → StandsOnce ids
+once [] r = tt
+once (b ∷ ids) r = (not_later b ids r, once_from b.number ids r)
+
+-- two lists of the nodes of the same formulas are equally long
+pub orders_alike : (nodes : List (Shape FormulaId)) (roots xs ys : List FormulaId) → IsOrder nodes roots xs → IsOrder nodes roots ys → length xs ≤ length ys
+orders_alike nodes roots xs ys o p = fits xs ys (once xs o.rises) (λ s m. p.all s (among_all (WithinSome nodes roots) xs s o.only m))

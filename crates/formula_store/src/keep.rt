@@ -1,12 +1,13 @@
 //! What is needed of a store, copied into a fresh one.
 
-ghost use Rattle.std.specs.Prelude.{◌≡◌, ◌<◌, [], Some, IfOk, length, map, get_or, slice_get};
+ghost use Rattle.std.specs.Prelude.{◌≡◌, ◌<◌, ◌≤◌, ◌+◌, List, [], Some, IfOk, OnOk, length, map, get_or, slice_get};
 ghost use Rattle.formula_tree.specs.declared.shape.Shape.{Shape};
 ghost use Rattle.formula_store.specs.declared.id.FormulaId.{FormulaId};
 ghost use Rattle.std.specs.List.{AllByRecursion};
 ghost use Rattle.formula_tree.specs.Makers.{AreMade, IsMade, Keeps};
 ghost use Rattle.formula_tree.specs.Shapes.{AllIds, moved};
 ghost use Rattle.formula_store.specs.Nodes.{tree, IsId, AreNodes};
+ghost use Rattle.formula_store.specs.Order.{IsOrder};
 ghost use Rattle.formula_store.specs.Copies.{first_id, Copied};
 
 use crate::error::StoreError;
@@ -27,7 +28,8 @@ pub(crate) fn copied(
     into: &mut Store,
 ) -> Result<Vec<FormulaId>, StoreError>
     requires { AllByRecursion (IsId store.now) roots.now }
-    ensures { IfOk result (λ ids. AreMade (IsId into.new) (tree into.new) ids.items (map (tree store.now) roots.now)) }
+    ensures made { IfOk result (λ ids. AreMade (IsId into.new) (tree into.new) ids.items (map (tree store.now) roots.now)) }
+    ensures few { OnOk result ((needed : List FormulaId) → IsOrder store.now roots.now needed → length into.new ≤ length into.old + length needed) }
 {
     let ids = subformulas(alloc, store, roots)?;
     let mut table = Vec::new(alloc);
@@ -53,6 +55,7 @@ fn copied_node(
     requires members { (n : Shape FormulaId) → slice_get store.now id.number ≡ Some n → AllIds (λ m. Copied store.now into.old m (get_or table.now.items m.number first_id)) n }
     ensures copied { IfOk result (Copied store.now into.new id) }
     ensures kept { Keeps (IsId into.old) (tree into.old) (IsId into.new) (tree into.new) }
+    ensures few { length into.new ≤ length into.old + 1 }
 {
     let shape = with_ids(alloc, store.shape(id), table)?;
     let copy = into.make(shape).map_err(|_| StoreError::Memory)?;

@@ -1,4 +1,4 @@
-ghost use Rattle.std.specs.Prelude.{◌≡◌, ◌≤◌, ◌<◌, ◌^◌, [], ◌∷◌, Some, IfOk, IfErr, OnErr, length, map, nat_eq, slice_get};
+ghost use Rattle.std.specs.Prelude.{◌≡◌, ◌≤◌, ◌<◌, ◌^◌, [], ◌∷◌, List, Some, IfOk, IfErr, OnOk, OnErr, length, map, nat_eq, slice_get};
 ghost use Rattle.std.specs.List.{AllByRecursion};
 ghost use Rattle.formula_meaning.specs.Same.{same_atom};
 ghost use Rattle.formula_meaning.specs.Sizes.{height, distinct_count};
@@ -41,6 +41,8 @@ impl Model for Store {
 }
 
 impl Store {
+    ghost use Rattle.formula_store.specs.declared.id.FormulaId.{FormulaId};
+
     /// No formulas.
     pub fn new(alloc: Global) -> Store
         ensures { result ≡ [] }
@@ -107,6 +109,7 @@ impl Store {
     pub fn keep_only(&mut self, roots: &[FormulaId]) -> Result<Vec<FormulaId>, StoreError>
         requires { AllByRecursion (IsId self.old) roots.now }
         ensures kept { IfOk result (λ ids. AreMade (IsId self.new) (tree self.new) ids.items (map (tree self.old) roots.now)) }
+        ensures few { OnOk result ((needed : List FormulaId) → IsOrder self.old roots.now needed → length self.new ≤ length needed) }
         ensures unchanged { OnErr result (self.new ≡ self.old) }
     {
         let mut kept = Store::new(self.alloc);

@@ -7,7 +7,7 @@ use Rattle.formula_store.specs.declared.id.FormulaId.{FormulaId}
 use Rattle.formula_store.specs.Nodes.{IsId, tree}
 use Rattle.formula_store.specs.Order.{IsOrder}
 use Rattle.formula_store.specs.Copies.{first_id, Copied}
-use Rattle.formula_store.proofs.Before.{each_id, members_before}
+use Rattle.formula_store.proofs.Before.{each_id, members_before, orders_alike}
 use Rattle.formula_store.proofs.Copying.{still_copied, roots_copied, all_roots}
 use Rattle.formula_store.proofs.Marked.{all_on}
 use Rattle.formula_store.proofs.Tables.{filled}
@@ -51,10 +51,11 @@ loop-id-preserved c =
         c.in_ok-copy.copy o.rises c.loop-id-test.true (omega (arith, c.loop-id.invariant.1)) (λ x w h. still_copied c.args.store.now c.loop-id.into c.copied_node.new.into c.in_ok-copy.ensures.kept x w h)
         c.in_ok-copy.ensures.copied c.loop-id.invariant.0,
       length-set c.loop-id.table.items (get_or ids c.loop-id.id-index (record { number = 0 })).number c.in_ok-copy.copy ∙ c.loop-id.invariant.1,
+      (let few = c.in_ok-copy.ensures.few in let before = c.loop-id.invariant.2 in omega arith),
     )
 
-pub returns : goal.returns
-returns c =
+pub returns-clause-made : goal.returns-clause-made
+returns-clause-made c =
     let ids : List FormulaId = c.deref-id-items.result.now in
     let o : IsOrder c.args.store.now c.args.roots.now ids = subst (λ (l : List FormulaId). IsOrder c.args.store.now c.args.roots.now l) (sym c.deref-id-items.ensures.value) c.in_ok-ids.ensures in
     let P : FormulaId → Type 0 = λ id. Copied c.args.store.now c.loop-id.into id (get_or c.loop-id.table.items id.number first_id) in
@@ -62,3 +63,12 @@ returns c =
     let done : AllByRecursion P ids = subst (λ (l : List FormulaId). AllByRecursion P l) whole c.loop-id.invariant.0 in
     subst (λ (l : List FormulaId). AreMade (IsId c.loop-id.into) (tree c.loop-id.into) l (map (tree c.args.store.now) c.args.roots.now)) (sym c.in_ok-copies.ensures)
       (roots_copied c.args.store.now c.loop-id.into c.loop-id.table.items c.args.roots.now (all_roots c.args.store.now c.loop-id.into c.loop-id.table.items c.args.roots.now ids c.args.roots.now (λ r m. m) o P done))
+
+pub returns-clause-few : goal.returns-clause-few
+returns-clause-few c needed n =
+    let ids : List FormulaId = c.deref-id-items.result.now in
+    let o : IsOrder c.args.store.now c.args.roots.now ids = subst (λ (l : List FormulaId). IsOrder c.args.store.now c.args.roots.now l) (sym c.deref-id-items.ensures.value) c.in_ok-ids.ensures in
+    let l : length ids ≤ length needed = orders_alike c.args.store.now c.args.roots.now ids needed o n in
+    let k = c.loop-id.invariant.2 in
+    let i : c.loop-id.id-index ≤ length ids = search rules in
+    omega arith
