@@ -17,4 +17,3 @@ pub mod Fold
 pub mod Tree
 pub mod Laws
 pub mod Answer
-pub mod Quantified

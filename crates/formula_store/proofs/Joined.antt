@@ -3,7 +3,7 @@ use Rattle.std.proofs.Common.{◌≡◌, ℕ, ◌+◌, ◌<◌, ◌≤◌, max, 
 use Rattle.formula_meaning.specs.Tree.{Tree, Trees}
 use Rattle.formula_meaning.specs.Formula.{none, also}
 use Rattle.formula_meaning.specs.Sizes.{all_nodes, greatest_height}
-use Rattle.formula_meaning.specs.Quantified.{some_quantifier}
+use Rattle.formula_tree.specs.Quantified.{some_quantifier}
 use Rattle.formula_tree.specs.Trees.{members}
 use Rattle.formula_store.specs.declared.facts.Facts.{Facts}
 use Rattle.formula_store.specs.Facts.{most_nodes, AreFactsOf}

@@ -2,7 +2,7 @@
 use Rattle.std.specs.Prelude.{◌≡◌, ℕ, ◌+◌, max, min, ◌||◌}
 use Rattle.formula_meaning.specs.Tree.{Tree, Trees}
 use Rattle.formula_meaning.specs.Sizes.{nodes, all_nodes, height, greatest_height}
-use Rattle.formula_meaning.specs.Quantified.{has_quantifier, some_quantifier}
+use Rattle.formula_tree.specs.Quantified.{has_quantifier, some_quantifier}
 use Rattle.formula_store.specs.declared.facts.Facts.{Facts}
 
 -- more nodes than these count as so many

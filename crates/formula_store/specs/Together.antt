@@ -2,7 +2,7 @@
 use Rattle.std.specs.Prelude.{◌≡◌, ℕ, ◌+◌, max, min, ◌||◌}
 use Rattle.formula_meaning.specs.Tree.{Trees}
 use Rattle.formula_meaning.specs.Sizes.{all_nodes, greatest_height}
-use Rattle.formula_meaning.specs.Quantified.{some_quantifier}
+use Rattle.formula_tree.specs.Quantified.{some_quantifier}
 use Rattle.formula_store.specs.declared.facts.Facts.{Facts}
 use Rattle.formula_store.specs.Facts.{most_nodes}
 

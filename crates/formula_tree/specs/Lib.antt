@@ -3,3 +3,4 @@ pub mod Bindings
 pub mod Trees
 pub mod Shapes
 pub mod Makers
+pub mod Quantified
