@@ -32,11 +32,11 @@ abbrev pub form : List Term → ℤ → Form
 form ts c = record { terms = ts; constant = c }
 
 -- a fact of a constant tree
-constant_every : (P : Atom → Type 0) (b : Bool) → Every P (constant_tree b)
+pub constant_every : (P : Atom → Type 0) (b : Bool) → Every P (constant_tree b)
 constant_every P true = tt
 constant_every P false = tt
 
-constant_free : (b : Bool) (x : ℕ) → ¬ (IsFree (constant_tree b) x)
+pub constant_free : (b : Bool) (x : ℕ) → ¬ (IsFree (constant_tree b) x)
 constant_free true x h = h
 constant_free false x h = h
 
