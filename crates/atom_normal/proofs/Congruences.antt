@@ -10,7 +10,7 @@ use Rattle.exact_numbers.specs.Divides.{Divides, DividesAll, IsContent, content_
 use Rattle.exact_numbers.proofs.Ring.{ring, neg_mul, mul_zero, mul_one, one_mul, mul_comm, mul_add, mul_assoc}
 use Rattle.exact_numbers.proofs.Order.{by_less, by_compare, cancel, cancel_less, cancel_at_most, cancel_positive, factor_positive}
 use Rattle.exact_numbers.proofs.Divisibility.{one_divides, divides_along, divides_neg, divides_add, divides_sub, divides_trans, divides_same, divides_mul, divides_other, mul_divides_mul, cancel_divides, divisor_at_most}
-use Rattle.exact_numbers.proofs.Floor.{floor_and_residue, residue_not_negative, residue_below, residue_of_multiple, divides_from_residue}
+use Rattle.exact_numbers.proofs.Floor.{floor_and_residue, residue_not_negative, residue_below, residue_is, residue_unique, residue_of_multiple, divides_from_residue}
 use Rattle.exact_numbers.proofs.LeastMultiple.{exact_div}
 use Rattle.exact_numbers.proofs.Contents.{content_is, content_unique}
 use Rattle.formula_meaning.specs.Context.{Context, Fields, Integers}
@@ -232,3 +232,165 @@ module _ (b : Bool) (m g : ℤ) (f : Form) (h : pos 0 <ℤ m) (c : IsCommonDivis
 
   reduced_within : Every (AtomIn Integers) (reduced_congruence b m g f)
   reduced_within = by_constant (Every (AtomIn Integers)) (λ z. coprime_within b n (quotient f g) n_positive) (λ _. constant_every (AtomIn Integers) (not b))
+
+-- ---- the shape
+
+-- a congruence's form in lowest terms: the numbers are residues, and no number above 1 divides the modulus and all coefficients
+pub record IsLowest (m : ℤ) (f : Form) : Type 0 where
+  pub positive : pos 0 <ℤ m
+  pub sorted : IsSorted f
+  pub reduced : AllReduced m (f.constant ∷ coefficients f.terms)
+  pub coprime : content_of (m ∷ coefficients f.terms) ≡ pos 1
+
+-- the parts of the normal form without the rule of modulus 2
+record IsSmall (n : ℕ) (f : Form) : Type 0 where
+  above_one : 1 < n
+  lowest : IsLowest (pos n) f
+  small : first f.terms ≤ℤ (pos n -ℤ first f.terms)
+
+congruence_normal : (b : Bool) (n : ℕ) (f : Form) → IsSmall n f → IsNormal Integers (congruence b n f)
+congruence_normal b n f s =
+    let l = s.lowest in
+    congruence_fact (IsNormal Integers) b n f
+    (λ _. record { above_one = s.above_one; sorted = l.sorted; reduced = l.reduced; coprime = l.coprime; small = s.small; told = λ _. refl })
+    (λ _ e. subst (λ (k : ℕ). IsNormalCongruence true k (shifted f)) e (record {
+      above_one = s.above_one;
+      sorted = record { rising = l.sorted.rising; nonzero = l.sorted.nonzero };
+      reduced = (other_reduced e, l.reduced.1);
+      coprime = l.coprime;
+      small = s.small;
+      told = λ _. refl;
+    }))
+    (λ _ k. record { above_one = s.above_one; sorted = l.sorted; reduced = l.reduced; coprime = l.coprime; small = s.small; told = λ e. absurd (k e) })
+  where
+    other_reduced : n ≡ 2 → (pos 0 ≤ℤ (pos 1 -ℤ residue_of f.constant (pos 2))) × ((pos 1 -ℤ residue_of f.constant (pos 2)) <ℤ pos n)
+    other_reduced e =
+        let a = residue_not_negative f.constant (pos 2) in
+        let b = residue_below f.constant (pos 2) (omega (arith, ints)) in
+        (omega (arith, ints), omega (arith, ints))
+
+divides_scaled : (e : ℤ) (ts : List Term) → DividesAll e (coefficients (scaled (negsuc 0) ts)) → DividesAll e (coefficients ts)
+divides_scaled e [] h = tt
+divides_scaled e (t ∷ ts) h = (divides_negative.1 h.0, divides_scaled e ts h.1)
+
+-- the negative modulo m, in lowest terms
+negative_lowest : (m : ℤ) (f : Form) → IsLowest m f → IsLowest m (residue_form (scale (negsuc 0) f) m)
+unfolding residue_form scale
+negative_lowest m f l =
+    let h = l.positive in
+    let c = content_is (m ∷ coefficients f.terms) in
+    let ts = residues m (scaled (negsuc 0) f.terms) in
+    record {
+      positive = h;
+      sorted = residue_sorted m (scale (negsuc 0) f) (negative_sorted f l.sorted);
+      reduced = ((residue_not_negative (negsuc 0 *ℤ f.constant) m, residue_below (negsuc 0 *ℤ f.constant) m h), reduced_residues m h (scaled (negsuc 0) f.terms));
+      coprime = content_unique (content_is (m ∷ coefficients ts)) (record {
+        not_negative = omega (arith, ints);
+        divides = (one_divides m, ones ts);
+        greatest = λ e d. subst (λ (z : ℤ). Divides e z) l.coprime (c.greatest e (d.0, divides_scaled e f.terms (divides_before m h e (scaled (negsuc 0) f.terms) d.0 d.1)));
+      });
+    }
+  where
+    ones : (us : List Term) → DividesAll (pos 1) (coefficients us)
+    ones [] = tt
+    ones (u ∷ us) = (one_divides u.times, ones us)
+
+-- its first coefficient
+negative_first : (m : ℤ) (f : Form) → pos 0 <ℤ m → AllReduced m (coefficients f.terms) → (m -ℤ first f.terms) <ℤ first f.terms → first (residue_form (scale (negsuc 0) f) m).terms ≡ m -ℤ first f.terms
+unfolding residue_form scale
+negative_first m f h r l = go f.terms r l
+  where
+    go : (ts : List Term) → AllReduced m (coefficients ts) → (m -ℤ first ts) <ℤ first ts → first (residues m (scaled (negsuc 0) ts)) ≡ m -ℤ first ts
+    go [] r l = absurd (omega (arith, ints))
+    go (t ∷ ts) r l =
+        let a = r.0.0 in let b = r.0.1 in
+        let k : m -ℤ t.times ≡ negsuc 0 *ℤ t.times +ℤ m = omega (arith, ints) in
+        let d : Divides m ((negsuc 0 *ℤ t.times) -ℤ (m -ℤ t.times)) = record { quotient = negsuc 0; exact = omega (arith, ints) } in
+        let p : residue_of (negsuc 0 *ℤ t.times) m ≡ m -ℤ t.times = residue_unique (residue_is (negsuc 0 *ℤ t.times) m h) (record { not_negative = omega (arith, ints); below = omega (arith, ints); same = d }) in
+        let n : ¬ (residue_of (negsuc 0 *ℤ t.times) m ≡ pos 0) = λ (e : residue_of (negsuc 0 *ℤ t.times) m ≡ pos 0). omega (arith, ints, p) in
+        ap first (residues_other m (record { times = negsuc 0 *ℤ t.times; name = t.name }) (scaled (negsuc 0) ts) n) ∙ p
+
+smaller_small : (m : ℤ) (f : Form) → ¬ (m ≡ pos 1) → IsLowest m f → IsSmall (unsigned_abs m) (smaller m f)
+smaller_small m f n l =
+    let h = l.positive in
+    let e = positive_modulus m h in
+    by_smaller (IsSmall (unsigned_abs m)) m f
+    (λ t.
+      let k = negative_first m f h l.reduced.1 t in
+      record { above_one = omega (arith, ints); lowest = subst (λ (z : ℤ). IsLowest z (residue_form (scale (negsuc 0) f) m)) (sym e) (negative_lowest m f l); small = omega (arith, ints) })
+    (λ t. record { above_one = omega (arith, ints); lowest = subst (λ (z : ℤ). IsLowest z f) (sym e) l; small = omega (arith, ints) })
+
+coprime_normal : (b : Bool) (m : ℤ) (f : Form) → IsLowest m f → Every (IsNormal Integers) (coprime_congruence b m f)
+coprime_normal b m f l =
+    by_equal (λ t. Every (IsNormal Integers) (if t then constant_tree b else One (congruence b (unsigned_abs m) (smaller m f)))) m (pos 1)
+    (λ z. constant_every (IsNormal Integers) b)
+    (λ n. congruence_normal b (unsigned_abs m) (smaller m f) (smaller_small m f n l))
+
+-- quotients of residues are residues
+divided_reduced : (g n m : ℤ) (xs : List ℤ) → pos 0 <ℤ g → g *ℤ n ≡ m → DividesAll g xs → AllReduced m xs → AllReduced n (all_divided g xs)
+divided_reduced g n m [] h e d r = tt
+divided_reduced g n m (x ∷ xs) h e d r =
+    let q = exact_div g x (λ (z : g ≡ pos 0). omega (arith, ints)) d.0 in
+    let z = mul_zero g in let a = r.0.0 in let b = r.0.1 in
+    let lo : (g *ℤ pos 0) ≤ℤ (g *ℤ int_div x g) = omega (arith, ints) in
+    let hi : (g *ℤ int_div x g) <ℤ (g *ℤ n) = omega (arith, ints) in
+    ((cancel_at_most g h lo, cancel_less g h hi), divided_reduced g n m xs h e d.1 r.1)
+
+pub modulus_divisor : (m : ℤ) (f : Form) → pos 0 <ℤ m → IsCommonDivisor (content_of (m ∷ coefficients f.terms)) m f
+modulus_divisor m f h =
+    let c = content_is (m ∷ coefficients f.terms) in
+    record { positive = content_positive (m ∷ coefficients f.terms) m c.divides.0 (λ (e : m ≡ pos 0). omega (arith, ints)); modulus = c.divides.0; terms = c.divides.1 }
+
+residue_form_reduced : (m : ℤ) (g : Form) → pos 0 <ℤ m → AllReduced m ((residue_form g m).constant ∷ coefficients (residue_form g m).terms)
+unfolding residue_form
+residue_form_reduced m g h = ((residue_not_negative g.constant m, residue_below g.constant m h), reduced_residues m h g.terms)
+
+pub reduced_normal : (b : Bool) (m : ℤ) (f : Form) → pos 0 <ℤ m → IsSorted f → AllReduced m (f.constant ∷ coefficients f.terms) → Every (IsNormal Integers) (reduced_congruence b m (content_of (m ∷ coefficients f.terms)) f)
+unfolding quotient
+reduced_normal b m f h s r =
+    let g = content_of (m ∷ coefficients f.terms) in
+    let c = modulus_divisor m f h in
+    by_constant b m g f h c (Every (IsNormal Integers))
+    (λ z. coprime_normal b (int_div m g) (quotient f g) (record {
+      positive = n_positive b m g f h c;
+      sorted = sorted_quotient g (g_nonzero b m g f h c) f c.terms s;
+      reduced = subst (λ (xs : List ℤ). AllReduced (int_div m g) (int_div f.constant g ∷ xs)) (sym (coefficients_quotients g f.terms)) (divided_reduced g (int_div m g) m (f.constant ∷ coefficients f.terms) c.positive (n_exact b m g f h c) (all_divide b m g f h c z) r);
+      coprime = ap (λ xs. content_of (int_div m g ∷ xs)) (coefficients_quotients g f.terms) ∙ content_divided g (g_nonzero b m g f h c) (m ∷ coefficients f.terms) (c.modulus, c.terms) (divides_same g);
+    }))
+    (λ _. constant_every (IsNormal Integers) (not b))
+
+-- ---- the whole
+
+module _ (b : Bool) (m : ℤ) (f : Form) (h : pos 0 <ℤ m) where
+  abbrev r : Form
+  r = residue_form f m
+
+  pub congruent_truth : (p : Point ℕ) → p.below ≡ 1 → Told b (Divides m (value f p)) ↔ TrueAt Integers (congruent b m f) p
+  congruent_truth p e = chain (told_same b (divides_together (value_residue m h f p))) (reduced_truth b m (content_of (m ∷ coefficients r.terms)) r h (modulus_divisor m r h) p e)
+
+  pub congruent_names : (x : ℕ) → IsSorted f → IsFree (congruent b m f) x → ¬ (coefficient x f ≡ pos 0)
+  congruent_names x s k e =
+      reduced_names b m (content_of (m ∷ coefficients r.terms)) r h (modulus_divisor m r h) x (residue_sorted m f s) k
+      (coefficient_residue m f x h s ∙ ap (λ z. residue_of z m) e ∙ residue_stays m h (pos 0) (omega (arith, ints)) h)
+
+  pub congruent_within : Every (AtomIn Integers) (congruent b m f)
+  congruent_within = reduced_within b m (content_of (m ∷ coefficients r.terms)) r h (modulus_divisor m r h)
+
+  pub congruent_normal : IsSorted f → Every (IsNormal Integers) (congruent b m f)
+  congruent_normal s = reduced_normal b m r h (residue_sorted m f s) (residue_form_reduced m f h)
+
+-- a normal congruence stays
+pub congruent_stays : (b : Bool) (m : ℕ) (f : Form) → IsNormalCongruence b m f → congruent b (pos m) f ≡ One (Congruent b m f)
+congruent_stays b m f n =
+    let h : pos 0 <ℤ pos m = let a = n.above_one in omega (arith, ints) in
+    let r = residue_form_stays (pos m) h f n.sorted n.reduced in
+    let k : int_div (pos m) (pos 1) ≡ pos m = one_quotient (pos m) in
+    let q : quotient f (pos 1) ≡ f = quotient_one f in
+    ap (λ g. reduced_congruence b (pos m) (content_of (pos m ∷ coefficients g.terms)) g) r
+    ∙ ap (λ z. reduced_congruence b (pos m) z f) n.coprime
+    ∙ by_equal (λ t. (if t then coprime_congruence b (int_div (pos m) (pos 1)) (quotient f (pos 1)) else constant_tree (not b)) ≡ coprime_congruence b (pos m) f) (residue_of f.constant (pos 1)) (pos 0)
+      (λ _ i. coprime_congruence b (k i) (q i)) (λ z. absurd (z (residue_one f.constant)))
+    ∙ by_equal (λ t. (if t then constant_tree b else One (congruence b m (smaller (pos m) f))) ≡ One (congruence b m f)) (pos m) (pos 1)
+      (λ (z : pos m ≡ pos 1). let a = n.above_one in absurd (omega (arith, ints)))
+      (λ _. ap (λ g. One (congruence b m g)) (by_smaller (λ g. g ≡ f) (pos m) f (λ t. let s = n.small in absurd (omega (arith, ints))) (λ _. refl)))
+    ∙ ap One (congruence_fact (λ a. a ≡ Congruent b m f) b m f (λ e. ap (λ t. Congruent t m f) (sym e)) (λ e t. let k : true ≡ false = sym (n.told t) ∙ e in absurd (cc)) (λ e _. ap (λ t. Congruent t m f) (sym e)))
