@@ -29,7 +29,7 @@ use Rattle.linear_forms.specs.Reduction.{quotients, quotient, residues, residue_
 use Rattle.linear_forms.proofs.Reduced.{by_equal, residue_sorted, residues_other}
 use Rattle.linear_forms.proofs.Quotients.{all_divided, coefficients_quotients, quotient_one, one_quotient, total_quotients, value_quotient, multiple_quotients, sorted_quotient, content_divided}
 use Rattle.linear_forms.proofs.Residues.{residue_apart, residue_stays, value_residue, multiple_residues, reduced_residues, residue_form_stays, divides_before}
-use Rattle.atom_normal.specs.NormalForm.{constant_tree, first, smaller, congruence, coprime_congruence, reduced_congruence, congruent, IsNormalCongruence, IsNormal}
+use Rattle.atom_normal.specs.NormalForm.{constant_tree, first, smaller, congruence, coprime_congruence, reduced_congruence, congruent, negated_normal, IsNormalCongruence, IsNormal}
 use Rattle.atom_normal.proofs.Tests.{chain, back, never, along, constant_truth, content_positive}
 use Rattle.atom_normal.proofs.Comparisons.{value_whole, residue_one, constant_every, constant_free}
 
@@ -394,3 +394,34 @@ congruent_stays b m f n =
       (λ (z : pos m ≡ pos 1). let a = n.above_one in absurd (omega (arith, ints)))
       (λ _. ap (λ g. One (congruence b m g)) (by_smaller (λ g. g ≡ f) (pos m) f (λ t. let s = n.small in absurd (omega (arith, ints))) (λ _. refl)))
     ∙ ap One (congruence_fact (λ a. a ≡ Congruent b m f) b m f (λ e. ap (λ t. Congruent t m f) (sym e)) (λ e t. let k : true ≡ false = sym (n.told t) ∙ e in absurd (cc)) (λ e _. ap (λ t. Congruent t m f) (sym e)))
+
+-- ---- the negation
+
+small_of : (b : Bool) (m : ℕ) (f : Form) → IsNormalCongruence b m f → IsSmall m f
+small_of b m f n = record { above_one = n.above_one; lowest = record { positive = let a = n.above_one in omega (arith, ints); sorted = n.sorted; reduced = n.reduced; coprime = n.coprime }; small = n.small }
+
+pub normal_negated : (b : Bool) (m : ℕ) (f : Form) → IsNormalCongruence b m f → IsNormal Integers (congruence (not b) m f)
+normal_negated b m f n = congruence_normal (not b) m f (small_of b m f n)
+
+-- the other constant twice
+shifted_twice : (f : Form) → (pos 0 ≤ℤ f.constant) × (f.constant <ℤ pos 2) → shifted (shifted f) ≡ f
+shifted_twice f r =
+    let a = r.0 in let b = r.1 in
+    let h : pos 0 <ℤ pos 2 = omega (arith, ints) in
+    let e = residue_stays (pos 2) h f.constant a b in
+    let k : pos 1 -ℤ residue_of f.constant (pos 2) ≡ pos 1 -ℤ f.constant = ap (λ z. pos 1 -ℤ z) e in
+    let s = residue_stays (pos 2) h (pos 1 -ℤ f.constant) (omega (arith, ints)) (omega (arith, ints)) in
+    let c : pos 1 -ℤ residue_of (pos 1 -ℤ residue_of f.constant (pos 2)) (pos 2) ≡ f.constant = ap (λ z. pos 1 -ℤ residue_of z (pos 2)) k ∙ ap (λ z. pos 1 -ℤ z) s ∙ twice f.constant in
+    λ i. record { terms = f.terms; constant = c i }
+  where
+    twice : (c : ℤ) → pos 1 -ℤ (pos 1 -ℤ c) ≡ c
+    twice c = omega (arith, ints)
+
+pub negated_again : (b : Bool) (m : ℕ) (f : Form) → IsNormalCongruence b m f → negated_normal (congruence (not b) m f) ≡ Congruent b m f
+negated_again true m f n =
+    congruence_fact (λ a. negated_normal a ≡ Congruent true m f) false m f
+    (λ e. absurd (cc))
+    (λ _ e. (λ i. Congruent true 2 (shifted_twice f (subst (λ (k : ℕ). (pos 0 ≤ℤ f.constant) × (f.constant <ℤ pos k)) e n.reduced.0) i)) ∙ ap (λ k. Congruent true k f) (sym e))
+    (λ _ _. refl)
+negated_again false m f n =
+    congruence_fact (λ a. a ≡ Congruent false m f) false m f (λ e. absurd (cc)) (λ _ e. let k = n.told e in absurd (cc)) (λ _ _. refl)

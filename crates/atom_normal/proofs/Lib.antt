@@ -1,3 +1,4 @@
 pub mod Tests
 pub mod Comparisons
 pub mod Congruences
+pub mod NormalLaws
