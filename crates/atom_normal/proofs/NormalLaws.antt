@@ -1,22 +1,25 @@
 -- The laws of normal forms and of their negation.
-use Rattle.std.proofs.Common.{◌≡◌, ◌<◌, ◌⊎◌, inl, inr, ℕ, Bool, true, false, not, List, [], ◌∷◌, ap, sym, ◌∙◌, subst, refl, arith, ◌↔◌}
+use Rattle.std.proofs.Common.{◌≡◌, ◌<◌, ◌⊎◌, inl, inr, ℕ, Bool, true, false, not, List, [], ◌∷◌, ap, sym, ◌∙◌, subst, refl, arith, ◌↔◌, if◌then◌else◌}
 use Rattle.std.proofs.Math.IntN.{ℤ, pos, ◌-ℤ◌}
-use Rattle.std.specs.Prelude.{◌<ℤ◌, ◌≤ℤ◌}
+use Rattle.std.specs.Prelude.{◌<ℤ◌, ◌≤ℤ◌, int_div, unsigned_abs}
 use Rattle.std.specs.Ordering.{int_cmp}
 use Rattle.std.proofs.lemmas.Int.{ints}
-use Rattle.exact_numbers.specs.Divides.{Divides, residue_of}
+use Rattle.exact_numbers.specs.Divides.{Divides, content_of, floor_of, residue_of}
 use Rattle.exact_numbers.proofs.Order.{by_less, by_order, by_zero}
 use Rattle.exact_numbers.proofs.Floor.{residue_of_multiple, divides_from_residue}
 use Rattle.formula_meaning.specs.Context.{Context, Fields, Integers}
 use Rattle.formula_meaning.specs.Formula.{Yes, No, One}
 use Rattle.formula_meaning.specs.Point.{Point, Of}
-use Rattle.formula_meaning.specs.Form.{Form, value, coefficient}
+use Rattle.formula_meaning.specs.Form.{Form, Term, value, coefficient}
 use Rattle.formula_meaning.specs.Sorted.{IsSorted, gathered}
 use Rattle.formula_meaning.specs.Atom.{Atom, Compare, Congruent, Relation, Equals, Differs, Below, AtMost, Above, AtLeast, Relates, Says, AtomIn, Mentions, opposite_relation, form_of}
 use Rattle.formula_meaning.specs.Every.{Every}
 use Rattle.formula_meaning.specs.Tree.{Tree, TrueAt, InContext, IsFree}
 use Rattle.formula_meaning.proofs.Gathered.{value_gathered, coefficient_gathered, gathered_sorted, sorted_stays}
-use Rattle.atom_normal.specs.NormalForm.{constant_tree, holds, facing, compared_in_fields, rounded, compared_over_integers, coprime_congruence, reduced_congruence, congruent, congruence, normal_atom, negated_normal, IsIntegerRelation, IsNormal, IsNormalCongruence}
+use Rattle.linear_forms.specs.Reduction.{quotient, residue_form}
+use Rattle.linear_forms.specs.Terms.{coefficients}
+use Rattle.linear_forms.proofs.Reduced.{by_equal}
+use Rattle.atom_normal.specs.NormalForm.{constant_tree, holds, facing, compared_in_fields, bound, rounded, smaller, compared_over_integers, coprime_congruence, reduced_congruence, congruent, congruence, normal_atom, negated_normal, IsIntegerRelation, IsNormal, IsNormalCongruence}
 use Rattle.atom_normal.specs.Laws.{IsAtomic}
 use Rattle.atom_normal.proofs.Tests.{chain, back, never, along}
 use Rattle.atom_normal.proofs.Comparisons.{fields_truth, fields_names, fields_normal, fields_within, fields_stay, integers_truth, integers_names, integers_normal, integers_within, integers_stay, constant_every}
@@ -160,3 +163,37 @@ negated_twice Integers (Congruent b m f) n = negated_again b m f n
 atomic_test : (b : Bool) → IsAtomic (constant_tree b)
 atomic_test true = tt
 atomic_test false = tt
+
+fields_atomic : (r : Relation) (ts : List Term) (c : ℤ) → IsAtomic (compared_in_fields r ts c)
+fields_atomic r [] c = atomic_test (holds r (int_cmp c (pos 0)))
+fields_atomic r (t ∷ ts) c = tt
+
+rounded_atomic : (r : Relation) (g : ℤ) (v : List Term) (c : ℤ) → IsAtomic (rounded r g v c)
+rounded_atomic Equals g v c = by_equal (λ t. IsAtomic (if t then bound Equals v (floor_of c g) else No)) (residue_of c g) (pos 0) (λ z. tt) (λ z. tt)
+rounded_atomic Differs g v c = by_equal (λ t. IsAtomic (if t then bound Differs v (floor_of c g) else Yes)) (residue_of c g) (pos 0) (λ z. tt) (λ z. tt)
+rounded_atomic Below g v c = tt
+rounded_atomic AtMost g v c = tt
+rounded_atomic Above g v c = tt
+rounded_atomic AtLeast g v c = tt
+
+integers_atomic : (r : Relation) (ts : List Term) (c : ℤ) → IsAtomic (compared_over_integers r ts c)
+integers_atomic r [] c = atomic_test (holds r (int_cmp c (pos 0)))
+integers_atomic r (t ∷ ts) c = rounded_atomic (facing t.times r) _ _ _
+
+coprime_atomic : (b : Bool) (m : ℤ) (f : Form) → IsAtomic (coprime_congruence b m f)
+coprime_atomic b m f = by_equal (λ t. IsAtomic (if t then constant_tree b else One (congruence b (unsigned_abs m) (smaller m f)))) m (pos 1) (λ z. atomic_test b) (λ z. tt)
+
+divided_atomic : (b : Bool) (m g : ℤ) (f : Form) → IsAtomic (reduced_congruence b m g f)
+divided_atomic b m g f =
+    by_equal (λ t. IsAtomic (if t then coprime_congruence b (int_div m g) (quotient f g) else constant_tree (not b))) (residue_of f.constant g) (pos 0)
+    (λ z. coprime_atomic b (int_div m g) (quotient f g)) (λ z. atomic_test (not b))
+
+congruent_atomic : (b : Bool) (m : ℤ) (f : Form) → IsAtomic (congruent b m f)
+congruent_atomic b m f = divided_atomic b m (content_of (m ∷ coefficients (residue_form f m).terms)) (residue_form f m)
+
+pub normal_atomic : (c : Context) (a : Atom) → IsAtomic (normal_atom c a)
+unfolding normal_atom
+normal_atomic Fields (Compare r f) = fields_atomic r (gathered f).terms (gathered f).constant
+normal_atomic Integers (Compare r f) = integers_atomic r (gathered f).terms (gathered f).constant
+normal_atomic Fields (Congruent b m f) = congruent_atomic b (pos m) (gathered f)
+normal_atomic Integers (Congruent b m f) = congruent_atomic b (pos m) (gathered f)

@@ -3,6 +3,10 @@
 
 mod atoms;
 mod error;
+mod laws;
 
 pub use atoms::{Atom, Context, Merged, Normal, Rel};
 pub use error::AtomError;
+pub use laws::{
+    atoms_are_decided, negation_is_opposite, normal_atom_stays, normal_form_keeps_truth,
+};
