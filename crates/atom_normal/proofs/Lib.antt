@@ -1,4 +1,6 @@
 pub mod Tests
+pub mod Ranges
 pub mod Comparisons
 pub mod Congruences
 pub mod NormalLaws
+pub mod Stepped

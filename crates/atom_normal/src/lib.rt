@@ -2,8 +2,10 @@
 #![tactic(auto)]
 
 mod atoms;
+mod comparison;
 mod error;
 mod laws;
+mod parts;
 
 pub use atoms::{Atom, Context, Merged, Normal, Rel};
 pub use error::AtomError;
