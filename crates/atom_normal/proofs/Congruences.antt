@@ -341,7 +341,7 @@ modulus_divisor m f h =
     let c = content_is (m ∷ coefficients f.terms) in
     record { positive = content_positive (m ∷ coefficients f.terms) m c.divides.0 (λ (e : m ≡ pos 0). omega (arith, ints)); modulus = c.divides.0; terms = c.divides.1 }
 
-residue_form_reduced : (m : ℤ) (g : Form) → pos 0 <ℤ m → AllReduced m ((residue_form g m).constant ∷ coefficients (residue_form g m).terms)
+pub residue_form_reduced : (m : ℤ) (g : Form) → pos 0 <ℤ m → AllReduced m ((residue_form g m).constant ∷ coefficients (residue_form g m).terms)
 unfolding residue_form
 residue_form_reduced m g h = ((residue_not_negative g.constant m, residue_below g.constant m h), reduced_residues m h g.terms)
 

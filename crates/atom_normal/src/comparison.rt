@@ -4,6 +4,9 @@ ghost use Rattle.exact_numbers.specs.Limit.{InLimit, PastLimit};
 ghost use Rattle.std.specs.Ordering.{int_eq};
 ghost use Rattle.exact_numbers.specs.Divides.{floor_of, residue_of};
 ghost use Rattle.formula_meaning.specs.Form.{Term};
+ghost use Rattle.formula_meaning.specs.Atom.{form_of};
+ghost use Rattle.formula_meaning.specs.Every.{Every};
+ghost use Rattle.linear_forms.specs.Terms.{IsLinear};
 ghost use Rattle.atom_normal.specs.NormalForm.{bound, compared_in_fields, rounded, compared_over_integers, ConstantPasses};
 ghost use Rattle.atom_normal.specs.Atoms.{relation_of, tree_of, IsWellFormedNormal};
 ghost use Rattle.atom_normal.specs.Bounds.{bounded, IsWithin};
@@ -23,6 +26,8 @@ pub(crate) fn in_fields(
 ) -> Result<Normal, AtomError>
     ensures normal { IfOk result (λ n. tree_of n ≡ compared_in_fields (relation_of relation) form.terms form.constant) }
     ensures well_formed { IfOk result IsWellFormedNormal }
+    ensures linear { IfOk result (λ n. Every (λ a. IsLinear (form_of a)) (tree_of n)) }
+    ensures given { IsLinear form }
     ensures memory { IfErr result (λ e. e ≡ AtomError.Memory) }
 {
     let first = first_coefficient(&form);
@@ -104,6 +109,8 @@ pub(crate) fn over_integers(
 ) -> Result<Normal, AtomError>
     ensures normal { IfOk result (λ n. tree_of n ≡ compared_over_integers (relation_of relation) form.terms form.constant) }
     ensures well_formed { IfOk result IsWellFormedNormal }
+    ensures linear { IfOk result (λ n. Every (λ a. IsLinear (form_of a)) (tree_of n)) }
+    ensures given { IsLinear form }
     ensures overflow { IsErrOf result AtomError.Overflow → ConstantPasses (compared_over_integers (relation_of relation) form.terms form.constant) }
 {
     let first = first_coefficient(&form);

@@ -3,6 +3,7 @@
 
 mod atoms;
 mod comparison;
+mod congruence;
 mod error;
 mod laws;
 mod parts;

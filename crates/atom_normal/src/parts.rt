@@ -7,7 +7,7 @@ ghost use Rattle.formula_meaning.specs.Atom.{mirrored, opposite_relation};
 ghost use Rattle.linear_forms.specs.Terms.{IsLinear, coefficients};
 ghost use Rattle.linear_forms.specs.Reduction.{quotient};
 ghost use Rattle.atom_normal.specs.NormalForm.{constant_tree, holds, first, turned, facing};
-ghost use Rattle.atom_normal.specs.Atoms.{relation_of, tree_of};
+ghost use Rattle.atom_normal.specs.Atoms.{relation_of, tree_of, IsWellFormedNormal};
 
 use crate::atoms::{Normal, Rel};
 use crate::error::AtomError;
@@ -58,7 +58,8 @@ pub(crate) fn opposite(relation: Rel) -> Rel
 
 // Always true, or always false.
 pub(crate) fn constant(holds: bool) -> Normal
-    ensures { tree_of result ≡ constant_tree holds }
+    ensures value { tree_of result ≡ constant_tree holds }
+    ensures well_formed { IsWellFormedNormal result }
 {
     if holds { Normal::True } else { Normal::False }
 }
@@ -100,8 +101,10 @@ pub(crate) fn divided(alloc: Global, form: Linear, by: i128) -> Result<Linear, A
     requires nonzero { ¬ (by ≡ pos 0) }
     requires divides { DividesAll by (form.constant ∷ coefficients form.terms) }
     ensures value { IfOk result (λ r. r ≡ quotient form by) }
+    ensures linear { IfOk result IsLinear }
     ensures memory { IfErr result (λ e. e ≡ AtomError.Memory) }
 {
+    let _number = form.constant_part();
     if by == 1 {
         return Ok(form);
     }
