@@ -3,4 +3,5 @@ pub mod Ranges
 pub mod Comparisons
 pub mod Congruences
 pub mod NormalLaws
+pub mod Sorted
 pub mod Stepped

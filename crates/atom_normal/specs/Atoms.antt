@@ -1,5 +1,5 @@
 -- What the program's atoms mean.
-use Rattle.std.specs.Prelude.{ℤ, pos, ◌<ℤ◌, unsigned_abs}
+use Rattle.std.specs.Prelude.{◌≡◌, ℤ, pos, ◌<ℤ◌, unsigned_abs}
 use Rattle.exact_numbers.specs.Limit.{InLimit}
 use Rattle.formula_meaning.specs.Context as meaning
 use Rattle.formula_meaning.specs.Formula.{Yes, No, One as Single}
@@ -49,3 +49,8 @@ abbrev pub IsWellFormedNormal : Normal → Type 0
 IsWellFormedNormal True = Unit {0}
 IsWellFormedNormal False = Unit {0}
 IsWellFormedNormal (One a) = IsWellFormed a
+
+-- a congruence is asked at whole numbers alone
+abbrev pub IsAskedWhole : Atom → ℤ → Type 0
+IsAskedWhole (Compare r f) denominator = Unit {0}
+IsAskedWhole (Congruent holds modulus form) denominator = denominator ≡ pos 1

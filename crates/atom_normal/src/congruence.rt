@@ -109,7 +109,7 @@ fn common_divisor(modulus: i128, form: &Linear) -> i128
 }
 
 // Whether a positive number divides another.
-fn divides(divisor: i128, number: i128) -> bool
+pub(crate) fn divides(divisor: i128, number: i128) -> bool
     requires { pos 0 <ℤ divisor }
     ensures { result ≡ int_eq (residue_of number divisor) (pos 0) }
 {
