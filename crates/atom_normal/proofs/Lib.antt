@@ -5,3 +5,4 @@ pub mod Congruences
 pub mod NormalLaws
 pub mod Sorted
 pub mod Stepped
+pub mod Told

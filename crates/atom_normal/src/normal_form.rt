@@ -83,7 +83,10 @@ pub fn truth(atom: &Atom, at: &Values) -> Option<bool>
     requires well_formed { IsWellFormed atom.now }
     requires whole { IsAskedWhole atom.now at.now.denominator }
     ensures rule { result ≡ option_map (is_true_at (atom_of atom.now)) (value_steps (form_of (atom_of atom.now)) (number_at at.now) at.now.denominator) }
+    ensures outcome { MatchOption result (ValuePasses (form_of (atom_of atom.now)) (number_at at.now) at.now.denominator)
+        (λ b. MatchBool b (Says (atom_of atom.now) (point_of at.now)) (¬ (Says (atom_of atom.now) (point_of at.now)))) }
 {
+    let _denominator = at.denominator();
     match atom {
         Atom::Compare(relation, form) => {
             let value = form.value(at)?;
