@@ -1,4 +1,5 @@
 pub mod Tests
+mod Examples
 pub mod Ranges
 pub mod Comparisons
 pub mod Congruences
