@@ -25,7 +25,7 @@ use Rattle.linear_forms.specs.Reduction.{quotients, quotient}
 use Rattle.linear_forms.proofs.Reduced.{by_equal}
 use Rattle.linear_forms.proofs.Quotients.{all_divided, coefficients_quotients, quotients_one, quotient_one, total_quotients, value_quotient, multiple_quotients, sorted_quotient, rising_quotients, nonzero_quotients, content_divided}
 use Rattle.atom_normal.specs.NormalForm.{constant_tree, holds, first, turned, facing, compared_in_fields, bound, rounded, compared_over_integers, IsOriented, IsIntegerRelation, IsFieldComparison, IsIntegerComparison, IsNormal}
-use Rattle.atom_normal.proofs.Tests.{chain, back, never, along, constant_truth, holds_so, turned_relates, turned_nonzero, turned_divides_all, divides_turned, turned_positive, content_positive}
+use Rattle.atom_normal.proofs.Relations.{chain, back, never, along, constant_truth, holds_so, turned_relates, turned_nonzero, turned_divides_all, divides_turned, turned_positive, content_positive}
 
 -- a form of the given terms and constant
 abbrev pub form : List Term → ℤ → Form
@@ -145,9 +145,10 @@ module _ (g : ℤ) (h : pos 0 <ℤ g) (a w : ℤ) where
   at_most_rounds = (λ l. let m = below_floor l in omega (arith, ints), λ (l : (w +ℤ neg_ℤ (floor_of a g)) ≤ℤ pos 0). from_below_floor (omega (arith, ints)))
 
   pub above_rounds : a <ℤ (g *ℤ w) ↔ pos 0 <ℤ (w +ℤ neg_ℤ (floor_of a g))
-  above_rounds =
-      (λ (l : a <ℤ (g *ℤ w)). by_less (floor_of a g) w (λ (m : floor_of a g <ℤ w). omega (arith, ints)) (λ m. let k = from_below_floor m in absurd (omega (arith, ints))),
-      λ (l : pos 0 <ℤ (w +ℤ neg_ℤ (floor_of a g))). by_less a (g *ℤ w) (λ m. m) (λ m. let k = below_floor m in absurd (omega (arith, ints))))
+  above_rounds = (
+    λ (l : a <ℤ (g *ℤ w)). by_less (floor_of a g) w (λ (m : floor_of a g <ℤ w). omega (arith, ints)) (λ m. let k = from_below_floor m in absurd (omega (arith, ints))),
+    λ (l : pos 0 <ℤ (w +ℤ neg_ℤ (floor_of a g))). by_less a (g *ℤ w) (λ m. m) (λ m. let k = below_floor m in absurd (omega (arith, ints))),
+  )
 
 module _ (g : ℤ) (h : pos 0 <ℤ g) (c w : ℤ) where
   at_most_so : (g *ℤ w +ℤ c) ≤ℤ pos 0 ↔ (w +ℤ neg_ℤ (floor_of (neg_ℤ c) g)) ≤ℤ pos 0

@@ -30,7 +30,7 @@ use Rattle.linear_forms.proofs.Reduced.{by_equal, residue_sorted, residues_other
 use Rattle.linear_forms.proofs.Quotients.{all_divided, coefficients_quotients, quotient_one, one_quotient, total_quotients, value_quotient, multiple_quotients, sorted_quotient, content_divided}
 use Rattle.linear_forms.proofs.Residues.{residue_apart, residue_stays, value_residue, multiple_residues, reduced_residues, residue_form_stays, divides_before}
 use Rattle.atom_normal.specs.NormalForm.{constant_tree, first, smaller, congruence, coprime_congruence, reduced_congruence, congruent, negated_normal, IsNormalCongruence, IsNormal}
-use Rattle.atom_normal.proofs.Tests.{chain, back, never, along, constant_truth, content_positive}
+use Rattle.atom_normal.proofs.Relations.{chain, back, never, along, constant_truth, content_positive}
 use Rattle.atom_normal.proofs.Comparisons.{value_whole, residue_one, constant_every, constant_free}
 
 -- ---- a fact or its opposite
@@ -55,9 +55,10 @@ told_refused false n = (λ _. refl, λ _. n)
 
 multiple_divides : (n : ℕ) (f : Form) (p : Point ℕ) → p.below ≡ 1 → IsMultiple n f p ↔ Divides (pos n) (value f p)
 multiple_divides n f p e =
-    let one : pos n *ℤ pos p.below ≡ pos n = ap (λ k. pos n *ℤ pos k) e ∙ mul_one (pos n) in
-    (λ h. record { quotient = h.0; exact = h.1 ∙ ap (λ z. h.0 *ℤ z) one ∙ mul_comm h.0 (pos n) },
-    λ h. (h.quotient, h.exact ∙ mul_comm (pos n) h.quotient ∙ ap (λ z. h.quotient *ℤ z) (sym one)))
+    let one : pos n *ℤ pos p.below ≡ pos n = ap (λ k. pos n *ℤ pos k) e ∙ mul_one (pos n) in (
+      λ h. record { quotient = h.0; exact = h.1 ∙ ap (λ z. h.0 *ℤ z) one ∙ mul_comm h.0 (pos n) },
+      λ h. (h.quotient, h.exact ∙ mul_comm (pos n) h.quotient ∙ ap (λ z. h.quotient *ℤ z) (sym one)),
+    )
 
 pub congruent_says : (b : Bool) (n : ℕ) (f : Form) (p : Point ℕ) → p.below ≡ 1 → Says (Congruent b n f) p ↔ Told b (Divides (pos n) (value f p))
 congruent_says true n f p e = multiple_divides n f p e
@@ -81,11 +82,12 @@ other_even q r j e =
     let h : pos 0 <ℤ pos 2 = omega (arith, ints) in
     let s = floor_and_residue q (pos 2) h in
     let a = residue_not_negative q (pos 2) in
-    let b = residue_below q (pos 2) h in
-    (λ n. by_equal (λ t. Divides (pos 2) r) (residue_of q (pos 2)) (pos 0)
-      (λ z. absurd (n (divides_from_residue h z)))
-      (λ z. let one : residue_of q (pos 2) ≡ pos 1 = one_left (residue_of q (pos 2)) a b z in record { quotient = j -ℤ floor_of q (pos 2); exact = omega (arith, ints) }),
-    λ d k. let x = d.exact in let y = k.exact in absurd (odd_sum k.quotient d.quotient j (omega (arith, ints))))
+    let b = residue_below q (pos 2) h in (
+      λ n. by_equal (λ t. Divides (pos 2) r) (residue_of q (pos 2)) (pos 0)
+          (λ z. absurd (n (divides_from_residue h z)))
+          (λ z. let one : residue_of q (pos 2) ≡ pos 1 = one_left (residue_of q (pos 2)) a b z in record { quotient = j -ℤ floor_of q (pos 2); exact = omega (arith, ints) }),
+      λ d k. let x = d.exact in let y = k.exact in absurd (odd_sum k.quotient d.quotient j (omega (arith, ints))),
+    )
   where
     one_left : (z : ℤ) → pos 0 ≤ℤ z → z <ℤ pos 2 → ¬ (z ≡ pos 0) → z ≡ pos 1
     one_left z a b n = by_less z (pos 1) (λ (l : z <ℤ pos 1). absurd (n (omega (arith, ints)))) (λ (l : pos 1 ≤ℤ z). omega (arith, ints))
@@ -213,9 +215,10 @@ module _ (b : Bool) (m g : ℤ) (f : Form) (h : pos 0 <ℤ m) (c : IsCommonDivis
   divided_says : (p : Point ℕ) → residue_of f.constant g ≡ pos 0 → Divides m (value f p) ↔ Divides n (value (quotient f g) p)
   divided_says p z =
       let q = value (quotient f g) p in
-      let v = value_quotient g g_nonzero f p (all_divide z) in
-      (λ d. cancel_divides g g_nonzero (divides_along (sym v) (subst (λ (k : ℤ). Divides k (value f p)) (sym n_exact) d)),
-      λ d. subst (λ (k : ℤ). Divides k (value f p)) n_exact (divides_along v (mul_divides_mul g d)))
+      let v = value_quotient g g_nonzero f p (all_divide z) in (
+        λ d. cancel_divides g g_nonzero (divides_along (sym v) (subst (λ (k : ℤ). Divides k (value f p)) (sym n_exact) d)),
+        λ d. subst (λ (k : ℤ). Divides k (value f p)) n_exact (divides_along v (mul_divides_mul g d)),
+      )
 
   reduced_truth : (p : Point ℕ) → p.below ≡ 1 → Told b (Divides m (value f p)) ↔ TrueAt Integers (reduced_congruence b m g f) p
   reduced_truth p e =
@@ -316,8 +319,8 @@ smaller_small m f n l =
     let e = positive_modulus m h in
     by_smaller (IsSmall (unsigned_abs m)) m f
     (λ t.
-      let k = negative_first m f h l.reduced.1 t in
-      record { above_one = omega (arith, ints); lowest = subst (λ (z : ℤ). IsLowest z (residue_form (scale (negsuc 0) f) m)) (sym e) (negative_lowest m f l); small = omega (arith, ints) })
+    let k = negative_first m f h l.reduced.1 t in
+    record { above_one = omega (arith, ints); lowest = subst (λ (z : ℤ). IsLowest z (residue_form (scale (negsuc 0) f) m)) (sym e) (negative_lowest m f l); small = omega (arith, ints) })
     (λ t. record { above_one = omega (arith, ints); lowest = subst (λ (z : ℤ). IsLowest z f) (sym e) l; small = omega (arith, ints) })
 
 coprime_normal : (b : Bool) (m : ℤ) (f : Form) → IsLowest m f → Every (IsNormal Integers) (coprime_congruence b m f)
@@ -389,10 +392,10 @@ congruent_stays b m f n =
     ap (λ g. reduced_congruence b (pos m) (content_of (pos m ∷ coefficients g.terms)) g) r
     ∙ ap (λ z. reduced_congruence b (pos m) z f) n.coprime
     ∙ by_equal (λ t. (if t then coprime_congruence b (int_div (pos m) (pos 1)) (quotient f (pos 1)) else constant_tree (not b)) ≡ coprime_congruence b (pos m) f) (residue_of f.constant (pos 1)) (pos 0)
-      (λ _ i. coprime_congruence b (k i) (q i)) (λ z. absurd (z (residue_one f.constant)))
+    (λ _ i. coprime_congruence b (k i) (q i)) (λ z. absurd (z (residue_one f.constant)))
     ∙ by_equal (λ t. (if t then constant_tree b else One (congruence b m (smaller (pos m) f))) ≡ One (congruence b m f)) (pos m) (pos 1)
-      (λ (z : pos m ≡ pos 1). let a = n.above_one in absurd (omega (arith, ints)))
-      (λ _. ap (λ g. One (congruence b m g)) (by_smaller (λ g. g ≡ f) (pos m) f (λ t. let s = n.small in absurd (omega (arith, ints))) (λ _. refl)))
+    (λ (z : pos m ≡ pos 1). let a = n.above_one in absurd (omega (arith, ints)))
+    (λ _. ap (λ g. One (congruence b m g)) (by_smaller (λ g. g ≡ f) (pos m) f (λ t. let s = n.small in absurd (omega (arith, ints))) (λ _. refl)))
     ∙ ap One (congruence_fact (λ a. a ≡ Congruent b m f) b m f (λ e. ap (λ t. Congruent t m f) (sym e)) (λ e t. let k : true ≡ false = sym (n.told t) ∙ e in absurd (cc)) (λ e _. ap (λ t. Congruent t m f) (sym e)))
 
 -- ---- the negation

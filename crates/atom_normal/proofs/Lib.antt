@@ -1,4 +1,4 @@
-pub mod Tests
+pub mod Relations
 mod Examples
 pub mod Ranges
 pub mod Comparisons

@@ -19,7 +19,7 @@ use Rattle.linear_forms.specs.Terms.{coefficients}
 use Rattle.linear_forms.specs.Reduction.{quotient, quotients, residue_form, AllReduced}
 use Rattle.atom_normal.specs.NormalForm.{first, turned, facing, compared_in_fields, rounded, compared_over_integers, constant_tree, coprime_congruence, reduced_congruence, congruent}
 use Rattle.atom_normal.proofs.Congruences.{residue_form_reduced}
-use Rattle.atom_normal.proofs.Tests.{turned_nonzero, turned_divides_all, content_positive}
+use Rattle.atom_normal.proofs.Relations.{turned_nonzero, turned_divides_all, content_positive}
 
 -- a number by which a list is divided
 pub record IsDivisor (d : ℤ) (xs : List ℤ) : Type 0 where

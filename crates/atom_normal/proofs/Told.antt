@@ -13,7 +13,7 @@ use Rattle.formula_meaning.specs.Point.{Point}
 use Rattle.formula_meaning.specs.Form.{Form, value}
 use Rattle.formula_meaning.specs.Atom.{Atom, Compare, Congruent, Says, form_of}
 use Rattle.atom_normal.specs.NormalForm.{holds, is_true_at}
-use Rattle.atom_normal.proofs.Tests.{holds_so, chain, back}
+use Rattle.atom_normal.proofs.Relations.{holds_so, chain, back}
 use Rattle.atom_normal.proofs.Congruences.{congruent_says}
 
 -- the atom may be asked at the point

@@ -19,11 +19,7 @@ use linear_forms::Linear;
 use std::alloc::Global;
 
 // Over the fields all numbers are divided by their greatest common divisor, and the first coefficient becomes positive.
-pub(crate) fn in_fields(
-    alloc: Global,
-    relation: Rel,
-    form: Linear,
-) -> Result<Normal, AtomError>
+pub(crate) fn in_fields(alloc: Global, relation: Rel, form: Linear) -> Result<Normal, AtomError>
     ensures normal { IfOk result (λ n. tree_of n ≡ compared_in_fields (relation_of relation) form.terms form.constant) }
     ensures well_formed { IfOk result IsWellFormedNormal }
     ensures linear { IfOk result (λ n. Every (λ a. IsLinear (form_of a)) (tree_of n)) }
@@ -102,11 +98,7 @@ fn rounded(relation: Rel, content: i128, number: i128) -> Option<Bound>
 }
 
 // Over the integers the coefficients are divided by their greatest common divisor, and the first becomes positive.
-pub(crate) fn over_integers(
-    alloc: Global,
-    relation: Rel,
-    form: Linear,
-) -> Result<Normal, AtomError>
+pub(crate) fn over_integers(alloc: Global, relation: Rel, form: Linear) -> Result<Normal, AtomError>
     ensures normal { IfOk result (λ n. tree_of n ≡ compared_over_integers (relation_of relation) form.terms form.constant) }
     ensures well_formed { IfOk result IsWellFormedNormal }
     ensures linear { IfOk result (λ n. Every (λ a. IsLinear (form_of a)) (tree_of n)) }
@@ -125,10 +117,7 @@ pub(crate) fn over_integers(
         Some(Bound::Never) => Ok(Normal::False),
         Some(Bound::At(relation, number)) => {
             match divided(alloc, form.with_constant(0), turned(first, content)) {
-                Ok(form) => Ok(Normal::One(Atom::Compare(
-                    relation,
-                    form.with_constant(number),
-                ))),
+                Ok(form) => Ok(Normal::One(Atom::Compare(relation, form.with_constant(number)))),
                 Err(error) => Err(error),
             }
         }
