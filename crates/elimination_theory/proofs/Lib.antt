@@ -46,3 +46,4 @@ pub mod Answers
 pub mod Samples
 mod Examples
 pub mod SentenceExample
+pub mod Overflow

@@ -20,3 +20,4 @@ pub mod Steps
 pub mod Answers
 pub mod Samples
 pub mod SentenceExample
+pub mod Overflow
