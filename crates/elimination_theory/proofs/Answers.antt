@@ -17,7 +17,7 @@ use Rattle.elimination_theory.specs.Substitution.{at_place}
 use Rattle.elimination_theory.specs.IntegersTheorems.{Suits}
 use Rattle.elimination_theory.specs.BothTheories.{IsPlaceFor, substitution}
 use Rattle.elimination_theory.specs.Answers.{Step, answers_of, Makes, Lead, AnswersHold, zero_place, AbsentNameIsZero}
-use Rattle.elimination_theory.proofs.FieldsLine.{both_ways}
+use Rattle.formula_meaning.proofs.Iff.{both_ways}
 use Rattle.elimination_theory.proofs.Meets.{meets_map}
 use Rattle.elimination_theory.proofs.BothSubstitutions.{place_in, place_holds}
 

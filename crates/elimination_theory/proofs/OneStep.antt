@@ -16,6 +16,7 @@ use Rattle.formula_meaning.specs.Fold.{folded}
 use Rattle.formula_meaning.specs.Atom.{Atom, AtomIn, Says, Mentions, form_of}
 use Rattle.formula_meaning.specs.Answer.{Place}
 use Rattle.formula_meaning.specs.Tree.{Tree, TrueAt, InContext, IsFree, Equivalent}
+use Rattle.formula_meaning.proofs.Iff.{either_iff, both_ways}
 use Rattle.formula_meaning.proofs.EachAtom.{every_map, every_both}
 use Rattle.formula_meaning.proofs.ReplacedShape.{nodes_replaced}
 use Rattle.formula_meaning.proofs.FreeReplaced.{every_free, free_replaced, fewer_replaced}
@@ -25,10 +26,10 @@ use Rattle.formula_meaning.proofs.Fold.{folded_true, folded_plain, folded_every,
 use Rattle.elimination_theory.specs.Side.{Side}
 use Rattle.elimination_theory.specs.Atoms.{atoms_of}
 use Rattle.elimination_theory.specs.Elimination.{trees_at}
-use Rattle.elimination_theory.specs.IntegersSubstitution.{where_zero, integer_guard}
+use Rattle.elimination_theory.specs.Substitution.{where_zero}
+use Rattle.elimination_theory.specs.IntegersSubstitution.{integer_guard}
 use Rattle.elimination_theory.specs.BothTheories.{IsPlaceIn, IsPlaceFor, raw_atom, substitution, test_points}
 use Rattle.elimination_theory.specs.Steps.{IsSimple, IsNormaliser, normalised, atom_at, result_at, Result, kept, results, step, trees_left, IsResult, StepIsExact, StepsAreExact}
-use Rattle.elimination_theory.proofs.FieldsLine.{both_ways}
 use Rattle.elimination_theory.proofs.Simple.{simple_plain, simple_in, simple_nodes, simple_normalised, where_zero_has, raw_simple, raw_still, guard_simple, replaced_plain}
 use Rattle.elimination_theory.proofs.BothSubstitutions.{place_in, point_suits, eliminated, substituted_names}
 
@@ -136,9 +137,6 @@ kept_true c s _ rest p = (λ t. t, λ t. t)
 kept_among : (s : Place) (g : Tree) (rest : List Result) (r : Result) → Among (kept s g rest) r → Among (record { place = s; tree = g } ∷ rest) r
 kept_among s No rest r m = inr m
 kept_among s _ rest r m = m
-
-either_iff : {P Q R S : Type 0} → P ↔ Q → R ↔ S → (P ⊎ R) ↔ (Q ⊎ S)
-either_iff i j = (⊎_elim (λ t. inl (i.0 t)) (λ t. inr (j.0 t)), ⊎_elim (λ t. inl (i.1 t)) (λ t. inr (j.1 t)))
 
 module _ (c : Context) (by : Atom → Tree) (x : ℕ) (f : Tree) where
   results_true : (places : List Place) (p : Point ℕ) → ((s : Place) → Among places s → TrueAt c (substitution c x s f) p ↔ TrueAt c (result_at c by x s f) p) →

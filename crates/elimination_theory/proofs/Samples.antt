@@ -28,7 +28,7 @@ use Rattle.elimination_theory.specs.BothTheories.{IsPlaceFor}
 use Rattle.elimination_theory.specs.Steps.{IsNormaliser}
 use Rattle.elimination_theory.specs.Answers.{Step, Makes, Lead}
 use Rattle.elimination_theory.specs.Samples.{form_with, atom_with, tree_with, IsSample, AreSamples, KeepsPeriods, SamplesAreTrue, SamplesExist}
-use Rattle.elimination_theory.proofs.FieldsLine.{both_ways}
+use Rattle.formula_meaning.proofs.Iff.{both_ways}
 use Rattle.elimination_theory.proofs.Meets.{meets_map}
 use Rattle.elimination_theory.proofs.Simple.{replaced_plain}
 use Rattle.elimination_theory.proofs.BothSubstitutions.{place_in}

@@ -12,9 +12,9 @@ use Rattle.formula_meaning.specs.Answer.{Place, Exact, AboveBy, BelowBy, PlusInf
 use Rattle.formula_meaning.specs.Tree.{Tree, InContext}
 use Rattle.formula_meaning.proofs.EachAtom.{every_map}
 use Rattle.formula_meaning.proofs.ReplacedShape.{plain_stays, every_replaced}
-use Rattle.elimination_theory.specs.Substitution.{form_at, below_all, beyond, exactly}
+use Rattle.elimination_theory.specs.Substitution.{form_at, below_all, beyond, exactly, where_zero}
 use Rattle.elimination_theory.specs.FieldsSubstitution.{just_above, just_below, beside}
-use Rattle.elimination_theory.specs.IntegersSubstitution.{where_zero, put_number, along, integer_guard}
+use Rattle.elimination_theory.specs.IntegersSubstitution.{put_number, along, integer_guard}
 use Rattle.elimination_theory.specs.BothTheories.{IsPlaceIn, raw_atom, substitution}
 use Rattle.elimination_theory.specs.Steps.{IsSimple, IsNormaliser, normalised}
 

@@ -1,3 +1,4 @@
+pub mod Iff
 pub mod Values
 pub mod Listed
 pub mod Same
