@@ -1,5 +1,5 @@
 -- A comparison as a condition on the value of one name: that value, a fraction k/m, against the comparison's own point n/d.
-use Rattle.std.proofs.Common.{◌≡◌, ℕ, suc, ◌/◌, ap, sym, ◌∙◌, subst, arith, ◌↔◌, nat_eq}
+use Rattle.std.proofs.Common.{◌≡◌, ℕ, suc, ◌/◌, ap, sym, ◌∙◌, arith, ◌↔◌, nat_eq}
 use Rattle.std.proofs.Math.IntN.{ℤ, pos, negsuc, ◌+ℤ◌, ◌-ℤ◌, ◌*ℤ◌, neg_ℤ}
 use Rattle.std.specs.Prelude.{◌<ℤ◌}
 use Rattle.std.proofs.lemmas.Int.{ints}

@@ -14,7 +14,7 @@ use Rattle.formula_meaning.specs.Form.{Form, value, coefficient, without}
 use Rattle.formula_meaning.specs.Atom.{Atom, Compare, Congruent, Relation, Relates, mirrored, Says}
 use Rattle.formula_meaning.specs.Answer.{Exact, AboveBy, BelowBy, PlusInfinity, MinusInfinity, Periodic, Holds}
 use Rattle.formula_meaning.specs.Tree.{Tree, TrueAt}
-use Rattle.formula_meaning.proofs.EachAtom.{every_map, every_all, every_both}
+use Rattle.formula_meaning.proofs.EachAtom.{every_all, every_both}
 use Rattle.formula_meaning.proofs.Relations.{relates_turn, relates_along}
 use Rattle.formula_meaning.proofs.Iff.{both_ways, turn_round, not_iff}
 use Rattle.elimination_theory.proofs.FieldsLine.{value_still}

@@ -1,11 +1,10 @@
 -- One step of elimination, with atoms in normal form and the formula folded.
-use Rattle.std.proofs.Common.{◌≡◌, ℕ, suc, zero, ◌+◌, ◌≤◌, List, [], ◌∷◌, sym, ◌∙◌, subst, refl, arith, inl, inr, ⊎_elim, ◌⊎◌, ◌↔◌, nat_eq}
+use Rattle.std.proofs.Common.{◌≡◌, ℕ, suc, zero, ◌+◌, ◌≤◌, List, [], ◌∷◌, sym, subst, refl, arith, inl, inr, ⊎_elim, ◌⊎◌, ◌↔◌, nat_eq}
 use Rattle.std.proofs.Math.IntN.{ℤ, pos, negsuc}
 use Rattle.formula_meaning.specs.Context.{Context, Fields, Integers}
-use Rattle.formula_meaning.specs.Point.{Point, Of, move}
-use Rattle.formula_meaning.specs.Formula.{Yes, No, One, Not, And, Or, Impl, Repl, Equiv, Ex, All}
+use Rattle.formula_meaning.specs.Point.{Point, move}
+use Rattle.formula_meaning.specs.Formula.{No, One, And}
 use Rattle.formula_meaning.specs.Truth.{SomeTrue}
-use Rattle.formula_meaning.specs.Every.{Every}
 use Rattle.formula_meaning.specs.Form.{coefficient}
 use Rattle.formula_meaning.specs.Some.{Among}
 use Rattle.formula_meaning.specs.Shape.{IsPlain}
@@ -23,13 +22,12 @@ use Rattle.formula_meaning.proofs.FreeReplaced.{every_free, free_replaced, fewer
 use Rattle.formula_meaning.proofs.TreeReplacing.{tree_replacing}
 use Rattle.formula_meaning.proofs.Equivalence.{equivalent_self, equivalent_then, all_equivalent, replaced_equivalent}
 use Rattle.formula_meaning.proofs.Fold.{folded_true, folded_plain, folded_every, folded_free, folded_nodes}
-use Rattle.elimination_theory.specs.Side.{Side}
 use Rattle.elimination_theory.specs.Atoms.{atoms_of}
 use Rattle.elimination_theory.specs.Elimination.{trees_at}
 use Rattle.elimination_theory.specs.Substitution.{where_zero}
 use Rattle.elimination_theory.specs.IntegersSubstitution.{integer_guard}
-use Rattle.elimination_theory.specs.BothTheories.{IsPlaceIn, IsPlaceFor, raw_atom, substitution, test_points}
-use Rattle.elimination_theory.specs.Steps.{IsSimple, IsNormaliser, normalised, atom_at, result_at, Result, kept, results, step, trees_left, IsResult, StepIsExact, StepsAreExact}
+use Rattle.elimination_theory.specs.BothTheories.{IsPlaceIn, raw_atom, substitution, test_points}
+use Rattle.elimination_theory.specs.Steps.{IsSimple, IsNormaliser, normalised, atom_at, result_at, Result, kept, results, trees_left, StepsAreExact}
 use Rattle.elimination_theory.proofs.Simple.{simple_plain, simple_in, simple_nodes, simple_normalised, where_zero_has, raw_simple, raw_still, guard_simple, replaced_plain}
 use Rattle.elimination_theory.proofs.BothSubstitutions.{place_in, point_suits, eliminated, substituted_names}
 
@@ -123,8 +121,8 @@ result_becomes Integers by norm x s f place plain inside =
     (simple_plain Integers (normalised by (integer_guard s)) h, (t.0, tt))
     (simple_in Integers (normalised by (integer_guard s)) h, (t.1, tt))
     (λ y. ⊎_elim
-        (λ u. inl (normalised_names Integers by norm (integer_guard s) y (simple_plain Integers (integer_guard s) g) gi u))
-        (⊎_elim (λ u. inr (inl (atoms_names Integers by norm x s place f plain inside y u))) (λ u. absurd u)))
+    (λ u. inl (normalised_names Integers by norm (integer_guard s) y (simple_plain Integers (integer_guard s) g) gi u))
+    (⊎_elim (λ u. inr (inl (atoms_names Integers by norm x s place f plain inside y u))) (λ u. absurd u)))
     (let n = atoms_nodes Integers by norm x s place f plain inside in let m = simple_nodes Integers (normalised by (integer_guard s)) h in omega arith)
 
 -- ---- the list of results

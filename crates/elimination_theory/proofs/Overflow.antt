@@ -1,13 +1,11 @@
 -- The scale and the multiplied moduli divide the span, so they are within the limit where it is.
-use Rattle.std.proofs.Common.{◌≡◌, ℕ, ◌*◌, ◌/◌, ◌<◌, ◌^◌, ℤ, pos, ◌<ℤ◌, ◌≤ℤ◌, arith, List, [], ◌∷◌, unsigned_abs}
+use Rattle.std.proofs.Common.{ℕ, ◌*◌, ◌/◌, ◌<◌, ◌^◌, pos, ◌<ℤ◌, ◌≤ℤ◌, arith, unsigned_abs}
 use Rattle.std.proofs.lemmas.Int.{ints}
 use Rattle.exact_numbers.specs.Divides.{Divides}
 use Rattle.exact_numbers.specs.Limit.{InLimit}
 use Rattle.exact_numbers.proofs.Divisibility.{divides_same, divisor_at_most}
-use Rattle.formula_meaning.specs.Context.{Integers}
-use Rattle.formula_meaning.specs.Some.{EachOf}
 use Rattle.formula_meaning.specs.Form.{coefficient}
-use Rattle.formula_meaning.specs.Atom.{Atom, AtomIn, Compare, Congruent}
+use Rattle.formula_meaning.specs.Atom.{Atom, Compare, Congruent}
 use Rattle.elimination_theory.specs.IntegersPoints.{scale_of, own_span}
 use Rattle.elimination_theory.specs.IntegersTheorems.{SpansAtom}
 use Rattle.elimination_theory.specs.Overflow.{MultipliedWithin, SpanLimits}

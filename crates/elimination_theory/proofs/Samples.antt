@@ -1,33 +1,31 @@
 -- Samples of answers found one after the other: with the values found so far put in, a branch says what it said.
-use Rattle.std.proofs.Common.{◌≡◌, ℕ, ◌*◌, ◌<◌, List, [], ◌∷◌, true, false, ap, refl, sym, ◌∙◌, subst, arith, inl, inr, ◌↔◌, nat_eq}
+use Rattle.std.proofs.Common.{◌≡◌, ℕ, ◌*◌, [], ◌∷◌, true, false, ap, refl, sym, ◌∙◌, subst, arith, ◌↔◌, nat_eq}
 use Rattle.std.proofs.Math.IntN.{ℤ, pos, ◌+ℤ◌, ◌*ℤ◌}
 use Rattle.std.specs.Prelude.{◌<ℤ◌}
 use Rattle.std.proofs.lemmas.Int.{ints}
 use Rattle.std.proofs.lemmas.Bool.{eq-eqb}
 use Rattle.exact_numbers.specs.Divides.{Divides}
-use Rattle.exact_numbers.proofs.Ring.{ring, zero_mul, mul_one, mul_comm}
+use Rattle.exact_numbers.proofs.Ring.{ring, mul_one, mul_comm}
 use Rattle.formula_meaning.specs.Context.{Context, Fields, Integers, Allowed}
 use Rattle.formula_meaning.specs.Point.{Point, Of, move}
 use Rattle.formula_meaning.specs.Form.{Form, value, coefficient, without}
 use Rattle.formula_meaning.specs.Shape.{IsPlain}
 use Rattle.formula_meaning.specs.Every.{Every}
-use Rattle.formula_meaning.specs.Replaced.{replaced}
 use Rattle.formula_meaning.specs.Atom.{Atom, Compare, Congruent, AtomIn, Says, Relates, IsMultiple}
 use Rattle.formula_meaning.specs.Answer.{Place, Exact, AboveBy, BelowBy, PlusInfinity, MinusInfinity, Periodic, Holds}
 use Rattle.formula_meaning.specs.Tree.{Tree, TrueAt, InContext}
-use Rattle.formula_meaning.proofs.Values.{value_move, at_move, below_move, pos_mul}
+use Rattle.formula_meaning.proofs.Values.{value_move, pos_mul}
 use Rattle.formula_meaning.proofs.Relations.{relates_zero_mul}
 use Rattle.formula_meaning.proofs.EachAtom.{every_map, every_both, every_all}
 use Rattle.formula_meaning.proofs.PlainTruth.{plain_replaced}
 use Rattle.formula_meaning.proofs.ReplacedShape.{every_replaced}
 use Rattle.formula_meaning.proofs.TreeReplacing.{moved_of}
 use Rattle.elimination_theory.specs.Substitution.{at_place}
-use Rattle.elimination_theory.specs.FieldsSubstitution.{IsFieldPlace}
 use Rattle.elimination_theory.specs.IntegersTheorems.{IsIntegerPlace, IsPeriodOf, Suits}
 use Rattle.elimination_theory.specs.BothTheories.{IsPlaceFor}
 use Rattle.elimination_theory.specs.Steps.{IsNormaliser}
-use Rattle.elimination_theory.specs.Answers.{Step, Makes, Lead}
-use Rattle.elimination_theory.specs.Samples.{form_with, atom_with, tree_with, IsSample, AreSamples, KeepsPeriods, SamplesAreTrue, SamplesExist}
+use Rattle.elimination_theory.specs.Answers.{Step, Makes}
+use Rattle.elimination_theory.specs.Samples.{form_with, atom_with, tree_with, IsSample, KeepsPeriods, SamplesAreTrue, SamplesExist}
 use Rattle.formula_meaning.proofs.Iff.{both_ways}
 use Rattle.elimination_theory.proofs.Meets.{meets_map}
 use Rattle.elimination_theory.proofs.Simple.{replaced_plain}

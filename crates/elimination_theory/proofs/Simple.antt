@@ -1,5 +1,5 @@
 -- With a name at a place an atom becomes a constant or an atom of the theory; formulas built by and and or stay so.
-use Rattle.std.proofs.Common.{◌≡◌, ℕ, suc, zero, ◌*◌, ◌<◌, ap, refl, ◌∙◌, mul-pos}
+use Rattle.std.proofs.Common.{◌≡◌, ℕ, suc, zero, ◌*◌, ap, refl, ◌∙◌, mul-pos}
 use Rattle.std.proofs.Math.IntN.{ℤ, pos, negsuc, neg_ℤ}
 use Rattle.formula_meaning.specs.Context.{Context, Fields, Integers}
 use Rattle.formula_meaning.specs.Formula.{Yes, No, One}

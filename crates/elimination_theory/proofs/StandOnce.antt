@@ -1,15 +1,7 @@
 -- A list without repeats has each element once.
-use Rattle.std.proofs.Common.{◌≡◌, ℕ, Bool, true, false, ◌&&◌, List, [], ◌∷◌, subst, refl, inl, inr, nat_eq, flat_map, if◌then◌else◌}
-use Rattle.std.proofs.Math.IntN.{ℤ}
-use Rattle.std.specs.Ordering.{int_eq}
-use Rattle.std.proofs.lemmas.Bool.{eq-eqb}
-use Rattle.std.proofs.lemmas.Bool.Decides.{Decides-int_eq}
-use Rattle.formula_meaning.specs.Some.{SomeOf}
-use Rattle.formula_meaning.specs.Form.{Form, Term}
-use Rattle.formula_meaning.specs.Atom.{Atom, Compare, Congruent}
-use Rattle.formula_meaning.specs.Answer.{Place, Exact, AboveBy, BelowBy, PlusInfinity, MinusInfinity, Periodic, same_place}
-use Rattle.formula_meaning.specs.Distinct.{without_same, distinct, StandsOnce}
-use Rattle.formula_meaning.specs.Same.{same_terms, same_form, rank, same_atom}
+use Rattle.std.proofs.Common.{◌∷◌, flat_map}
+use Rattle.formula_meaning.specs.Answer.{same_place}
+use Rattle.formula_meaning.specs.Same.{same_atom}
 use Rattle.elimination_theory.specs.Atoms.{atoms_in, atoms_of}
 use Rattle.elimination_theory.specs.FieldsPoints.{infinity_of, atom_points}
 use Rattle.elimination_theory.specs.IntegersPoints.{points_with, integer_scale, integer_span}

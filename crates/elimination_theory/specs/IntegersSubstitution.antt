@@ -1,5 +1,5 @@
 -- A name put at a place of the integers (Cooper): the atom that results, and the guard of the place.
-use Rattle.std.specs.Prelude.{ℕ, ℤ, pos, negsuc, zero, suc, ◌*◌, ◌*ℤ◌, neg_ℤ, List, [], ◌∷◌, true}
+use Rattle.std.specs.Prelude.{ℕ, ℤ, pos, negsuc, zero, suc, ◌*◌, ◌*ℤ◌, neg_ℤ, true}
 use Rattle.formula_meaning.specs.Formula.{Yes, One, And}
 use Rattle.formula_meaning.specs.NegationNormal.{both}
 use Rattle.formula_meaning.specs.Form.{Form, coefficient, without, plus}

@@ -1,5 +1,5 @@
 -- The theorems of elimination over the integers, as statements.
-use Rattle.std.specs.Prelude.{◌+◌, length, flat_map, ◌*◌, ◌/◌, unsigned_abs, ◌≡◌, ℕ, ℤ, pos, ◌*ℤ◌, ◌<◌, ◌↔◌, List, [], ◌∷◌}
+use Rattle.std.specs.Prelude.{◌+◌, length, flat_map, ◌*◌, ◌/◌, unsigned_abs, ◌≡◌, ℕ, ℤ, pos, ◌*ℤ◌, ◌<◌, ◌↔◌, List}
 use Rattle.exact_numbers.specs.Divides.{Divides}
 use Rattle.formula_meaning.specs.Context.{Integers}
 use Rattle.formula_meaning.specs.Point.{Point, Of}

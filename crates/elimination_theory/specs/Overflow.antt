@@ -1,6 +1,6 @@
 -- Which numbers a step of elimination forms, against the limit of exact_numbers: the span, those of the test points, and those
 -- of their substitution into each atom. What bringing an atom to normal form forms is not meant here.
-use Rattle.std.specs.Prelude.{◌≡◌, ℕ, ℤ, pos, ◌*◌, ◌/◌, ◌*ℤ◌, unsigned_abs, List}
+use Rattle.std.specs.Prelude.{◌≡◌, ℕ, pos, ◌*◌, ◌/◌, ◌*ℤ◌, unsigned_abs, List}
 use Rattle.exact_numbers.specs.Limit.{InLimit}
 use Rattle.formula_meaning.specs.Context.{Context, Fields, Integers}
 use Rattle.formula_meaning.specs.Some.{EachOf}

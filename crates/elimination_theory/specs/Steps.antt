@@ -1,6 +1,6 @@
 -- One step of elimination as a program takes it: atoms are brought to normal form, the formula is folded, and what is false
 -- is dropped. It is exact for every normal form of atoms that keeps truth at the points of the theory.
-use Rattle.std.specs.Prelude.{◌≡◌, ℕ, ◌+◌, ◌≤◌, List, [], ◌∷◌}
+use Rattle.std.specs.Prelude.{ℕ, ◌+◌, ◌≤◌, List, [], ◌∷◌}
 use Rattle.formula_meaning.specs.Context.{Context, Fields, Integers}
 use Rattle.formula_meaning.specs.Formula.{Yes, No, One, And, Or, Ex, none, also}
 use Rattle.formula_meaning.specs.Form.{coefficient}
@@ -11,12 +11,11 @@ use Rattle.formula_meaning.specs.Shape.{IsPlain}
 use Rattle.formula_meaning.specs.NegationNormal.{both}
 use Rattle.formula_meaning.specs.Replaced.{replaced}
 use Rattle.formula_meaning.specs.Fold.{folded}
-use Rattle.formula_meaning.specs.Answer.{Place, Exact}
+use Rattle.formula_meaning.specs.Answer.{Place}
 use Rattle.formula_meaning.specs.Tree.{Tree, Trees, InContext, IsFree, Equivalent}
 use Rattle.elimination_theory.specs.Side.{Side}
 use Rattle.elimination_theory.specs.Atoms.{atoms_of}
 use Rattle.elimination_theory.specs.Substitution.{where_zero}
-use Rattle.elimination_theory.specs.Decided.{IsEliminated}
 use Rattle.elimination_theory.specs.BothTheories.{IsPlaceFor, raw_atom, guard_of, substitution, test_points}
 
 -- a constant, or one atom of the theory

@@ -1,7 +1,7 @@
 -- Folding keeps truth, atoms and shape, and brings no names and no nodes.
-use Rattle.std.proofs.Common.{◌≡◌, ℕ, suc, ◌+◌, ◌≤◌, ap, refl, arith, ◌⊎◌, inl, inr, ⊎_elim, ◌↔◌, Option, None, Some}
+use Rattle.std.proofs.Common.{◌≡◌, ℕ, suc, ◌+◌, ◌≤◌, refl, arith, ◌⊎◌, inl, inr, ⊎_elim, ◌↔◌, Option, None, Some}
 use Rattle.std.proofs.Math.IntN.{ℤ}
-use Rattle.formula_meaning.specs.Context.{Context, Allowed}
+use Rattle.formula_meaning.specs.Context.{Context}
 use Rattle.formula_meaning.specs.Formula.{Formula, Formulas, Yes, No, One, Not, And, Or, Impl, Repl, Equiv, Ex, All, none, also}
 use Rattle.formula_meaning.specs.Truth.{True, AllTrue, SomeTrue}
 use Rattle.formula_meaning.specs.Every.{Every, EveryOf, Free, FreeInSome}
@@ -9,7 +9,6 @@ use Rattle.formula_meaning.specs.Shape.{IsPlain, ArePlain}
 use Rattle.formula_meaning.specs.Sizes.{nodes, all_nodes}
 use Rattle.formula_meaning.specs.Fold.{Junction, Conjunction, Disjunction, joined, neutral, absorbing, append, pieces_of, put_together, all_pieces, from_pieces, fold_list, folded, all_folded}
 use Rattle.formula_meaning.proofs.Iff.{both_ways, pair_iff, either_iff}
-use Rattle.formula_meaning.proofs.Sizes.{nodes_positive}
 
 module _ {A N : Type 0} where
   -- the pieces joined, where a piece that decides the whole stands for it
@@ -190,6 +189,7 @@ module _ {A N : Type 0} where
       split : (j : Junction) (fs : Formulas A N) → IsPlain (joined j fs) → ArePlain fs
       split Conjunction fs h = h
       split Disjunction fs h = h
+
       join : (j : Junction) (fs : Formulas A N) → ArePlain fs → IsPlain (joined j fs)
       join Conjunction fs h = h
       join Disjunction fs h = h
@@ -207,6 +207,7 @@ module _ {A N : Type 0} where
       split : (j : Junction) (fs : Formulas A N) → Every P (joined j fs) → EveryOf P fs
       split Conjunction fs h = h
       split Disjunction fs h = h
+
       join : (j : Junction) (fs : Formulas A N) → EveryOf P fs → Every P (joined j fs)
       join Conjunction fs h = h
       join Disjunction fs h = h
@@ -225,6 +226,7 @@ module _ {A N : Type 0} where
       split : (j : Junction) (fs : Formulas A N) → (Free mentions (joined j fs) x → C) → FreeInSome mentions fs x → C
       split Conjunction fs h = h
       split Disjunction fs h = h
+
       join : (j : Junction) (fs : Formulas A N) → (FreeInSome mentions fs x → C) → Free mentions (joined j fs) x → C
       join Conjunction fs h = h
       join Disjunction fs h = h

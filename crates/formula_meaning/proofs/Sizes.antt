@@ -1,10 +1,10 @@
 -- Sizes, the equality test and the free names of formulas.
-use Rattle.std.proofs.Common.{◌≡◌, ℕ, suc, ◌+◌, ◌≤◌, ◌<◌, max, Bool, true, false, ◌&&◌, List, [], ◌∷◌, ◌++◌, length, ap, ap₂, sym, ◌∙◌, subst, refl, arith, ◌⊎◌, inl, inr, ⊎_elim, ◌↔◌, if◌then◌else◌}
+use Rattle.std.proofs.Common.{◌≡◌, ℕ, suc, ◌+◌, ◌≤◌, ◌<◌, Bool, true, false, List, [], ◌∷◌, ◌++◌, length, ap, ap₂, sym, ◌∙◌, subst, refl, arith, ◌⊎◌, inl, inr, ⊎_elim, ◌↔◌, if◌then◌else◌}
 use Rattle.formula_meaning.specs.Formula.{Formula, Formulas, Yes, No, One, Not, And, Or, Impl, Repl, Equiv, Ex, All, none, also}
-use Rattle.formula_meaning.specs.Some.{SomeOf, Among}
+use Rattle.formula_meaning.specs.Some.{Among}
 use Rattle.formula_meaning.specs.Every.{Free, FreeInSome}
 use Rattle.formula_meaning.specs.Distinct.{without_same, distinct}
-use Rattle.formula_meaning.specs.Sizes.{nodes, all_nodes, height, greatest_height, subtrees, all_subtrees, same_formula, same_formulas, distinct_subtrees, distinct_count, free_places, all_free_places, free_names}
+use Rattle.formula_meaning.specs.Sizes.{nodes, all_nodes, height, greatest_height, subtrees, all_subtrees, same_formula, same_formulas, distinct_count, free_places, all_free_places, free_names}
 use Rattle.formula_meaning.proofs.Iff.{both_ways, either_iff}
 use Rattle.formula_meaning.proofs.Listed.{among_left, among_right, among_append, distinct_among, among_distinct}
 use Rattle.formula_meaning.proofs.Same.{and_left, and_right, both_true}
