@@ -47,3 +47,4 @@ pub mod Samples
 mod Examples
 pub mod SentenceExample
 pub mod Overflow
+pub mod AnswersExample

@@ -21,3 +21,4 @@ pub mod Answers
 pub mod Samples
 pub mod SentenceExample
 pub mod Overflow
+pub mod AnswersExample
