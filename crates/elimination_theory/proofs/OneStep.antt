@@ -1,5 +1,5 @@
 -- One step of elimination, with atoms in normal form and the formula folded.
-use Rattle.std.proofs.Common.{◌≡◌, ℕ, suc, zero, ◌+◌, ◌≤◌, List, [], ◌∷◌, sym, subst, refl, arith, inl, inr, ⊎_elim, ◌⊎◌, ◌↔◌, nat_eq}
+use Rattle.std.proofs.Common.{◌≡◌, ℕ, suc, zero, ◌+◌, ◌*◌, ◌≤◌, length, List, [], ◌∷◌, sym, subst, refl, arith, inl, inr, ⊎_elim, ◌⊎◌, ◌↔◌, nat_eq}
 use Rattle.std.proofs.Math.IntN.{ℤ, pos, negsuc}
 use Rattle.formula_meaning.specs.Context.{Context, Fields, Integers}
 use Rattle.formula_meaning.specs.Point.{Point, move}
@@ -8,7 +8,7 @@ use Rattle.formula_meaning.specs.Truth.{SomeTrue}
 use Rattle.formula_meaning.specs.Form.{coefficient}
 use Rattle.formula_meaning.specs.Some.{Among}
 use Rattle.formula_meaning.specs.Shape.{IsPlain}
-use Rattle.formula_meaning.specs.Sizes.{nodes}
+use Rattle.formula_meaning.specs.Sizes.{nodes, all_nodes}
 use Rattle.formula_meaning.specs.NegationNormal.{both}
 use Rattle.formula_meaning.specs.Replaced.{replaced}
 use Rattle.formula_meaning.specs.Fold.{folded}
@@ -27,8 +27,8 @@ use Rattle.elimination_theory.specs.Elimination.{trees_at}
 use Rattle.elimination_theory.specs.Substitution.{where_zero}
 use Rattle.elimination_theory.specs.IntegersSubstitution.{integer_guard}
 use Rattle.elimination_theory.specs.BothTheories.{IsPlaceIn, raw_atom, substitution, test_points}
-use Rattle.elimination_theory.specs.Steps.{IsSimple, IsNormaliser, normalised, atom_at, result_at, Result, kept, results, trees_left, StepsAreExact}
-use Rattle.elimination_theory.proofs.Simple.{simple_plain, simple_in, simple_nodes, simple_normalised, where_zero_has, raw_simple, raw_still, guard_simple, replaced_plain}
+use Rattle.elimination_theory.specs.Steps.{IsNormaliser, normalised, atom_at, result_at, Result, kept, results, trees_left, StepsAreExact}
+use Rattle.elimination_theory.proofs.Simple.{IsSimple, simple_plain, simple_in, simple_nodes, simple_normalised, where_zero_has, raw_simple, raw_still, guard_simple, replaced_plain}
 use Rattle.elimination_theory.proofs.BothSubstitutions.{place_in, point_suits, eliminated, substituted_names}
 
 pub folded_equivalent : (c : Context) (f : Tree) → Equivalent c f (folded f)
@@ -152,6 +152,23 @@ module _ (c : Context) (by : Atom → Tree) (x : ℕ) (f : Tree) where
       (λ n. let h = results_among places r n in (inr h.0, h.1))
       (kept_among s (result_at c by x s f) (results c by x f places) r m)
 
+kept_nodes : (s : Place) (g : Tree) (rest : List Result) → all_nodes (trees_left (kept s g rest)) ≤ nodes g + all_nodes (trees_left rest)
+kept_nodes s No rest = omega arith
+kept_nodes s _ rest = omega arith
+
+results_nodes : (c : Context) (by : Atom → Tree) (x : ℕ) (f : Tree) (n : ℕ) (places : List Place) → ((s : Place) → Among places s → nodes (result_at c by x s f) ≤ n) →
+    all_nodes (trees_left (results c by x f places)) ≤ length places * n
+results_nodes c by x f n [] h = omega arith
+results_nodes c by x f n (s ∷ places) h =
+    let k = kept_nodes s (result_at c by x s f) (results c by x f places) in
+    let here = h s (inl refl) in
+    let rest = results_nodes c by x f n places (λ q m. h q (inr m)) in
+    let e = suc_times (length places) n in
+    omega arith
+  where
+    suc_times : (m n : ℕ) → suc m * n ≡ n + m * n
+    suc_times m n = omega arith
+
 pub steps_exact : (c : Context) → StepsAreExact c
 steps_exact c by side x f norm plain inside =
     let at : (s : Place) → Among (test_points c side x (atoms_of f)) s → Becomes c f (substitution c x s f) (result_at c by x s f) = λ s m. result_becomes c by norm x s f (place_in c x s f (point_suits c side x f s inside m)) plain inside in
@@ -169,4 +186,5 @@ steps_exact c by side x f norm plain inside =
             names = λ y t. substituted_names c side x f r.place y plain inside h.0 (b.names y t);
             few_nodes = b.few_nodes;
           };
+      few_nodes = results_nodes c by x f (nodes f + 2) (test_points c side x (atoms_of f)) (λ s m. (at s m).few_nodes);
     }

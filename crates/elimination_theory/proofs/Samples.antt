@@ -28,7 +28,7 @@ use Rattle.elimination_theory.specs.Answers.{Step, Makes}
 use Rattle.elimination_theory.specs.Samples.{form_with, atom_with, tree_with, IsSample, KeepsPeriods, SamplesAreTrue, SamplesExist}
 use Rattle.formula_meaning.proofs.Iff.{both_ways}
 use Rattle.elimination_theory.proofs.Meets.{meets_map}
-use Rattle.elimination_theory.proofs.Simple.{replaced_plain}
+use Rattle.elimination_theory.proofs.Simple.{simple_from, replaced_plain}
 use Rattle.elimination_theory.proofs.BothSubstitutions.{place_in}
 use Rattle.elimination_theory.proofs.Answers.{step_holds}
 use Rattle.elimination_theory.proofs.FieldsSample.{sample_is_true as field_sample_is_true}
@@ -91,7 +91,7 @@ module _ (c : Context) (by : Atom → Tree) (norm : IsNormaliser c by) (x : ℕ)
       (every_map _ _ (λ b i. both_ways (atom_with_says c x p k m b o i) (norm.equivalent (atom_with x p b) (atom_with_in c x p b i) (move nat_eq p x k m) (moved_of c p x k m o a))) f inside)
 
   pub tree_with_plain : IsPlain (tree_with by x p f) × InContext c (tree_with by x p f)
-  tree_with_plain = replaced_plain c (λ b. by (atom_with x p b)) f (λ b i. norm.simple (atom_with x p b) (atom_with_in c x p b i)) plain inside
+  tree_with_plain = replaced_plain c (λ b. by (atom_with x p b)) f (λ b i. simple_from c (by (atom_with x p b)) (norm.atomic (atom_with x p b) (atom_with_in c x p b i)) (norm.in_context (atom_with x p b) (atom_with_in c x p b i))) plain inside
 
 -- ---- periods
 
