@@ -1,5 +1,5 @@
 -- The answers y = 3 - 3 * infinity and x = y.
-use Rattle.std.proofs.Common.{◌≡◌, ℕ, ◌*◌, ℤ, pos, negsuc, ◌+ℤ◌, ◌*ℤ◌, arith, refl, ap, sym, subst, inl, inr, ⊎_elim, ◌↔◌}
+use Rattle.std.proofs.Common.{◌≡◌, ℕ, ℤ, pos, negsuc, ◌+ℤ◌, ◌*ℤ◌, arith, refl, subst, inl, inr, ⊎_elim, ◌↔◌}
 use Rattle.std.proofs.lemmas.Int.{ints}
 use Rattle.exact_numbers.specs.Divides.{Divides}
 use Rattle.formula_meaning.specs.Context.{Integers}

@@ -2,7 +2,7 @@
 -- is dropped. It is exact for every normal form of atoms that keeps truth at the points of the theory.
 use Rattle.std.specs.Prelude.{ℕ, ◌+◌, ◌*◌, ◌≤◌, List, [], ◌∷◌, length}
 use Rattle.formula_meaning.specs.Context.{Context, Fields, Integers}
-use Rattle.formula_meaning.specs.Formula.{Yes, No, One, And, Or, Ex, none, also}
+use Rattle.formula_meaning.specs.Formula.{No, One, And, Or, Ex, none, also}
 use Rattle.formula_meaning.specs.Form.{coefficient}
 use Rattle.formula_meaning.specs.Atom.{Atom, AtomIn, form_of}
 use Rattle.formula_meaning.specs.Some.{Among}
