@@ -4,6 +4,7 @@ use Rattle.exact_numbers.specs.Limit.{InLimit, PastLimit, checked}
 use Rattle.exact_numbers.specs.Frac.{◌>>=◌}
 use Rattle.formula_meaning.specs.Point.{Point}
 use Rattle.formula_meaning.specs.Sorted.{IsSorted}
+pub use Rattle.formula_meaning.specs.Form.{coefficients}
 pub use Rattle.formula_meaning.specs.Combining.{AddWithin as PlaceWithin, AddPasses as PlacePasses, CombinesWithin, CombinePasses}
 use Rattle.formula_meaning.specs.Form.{Form, Term, total, value, coefficient}
 
@@ -17,11 +18,6 @@ pub record IsLinear (f : Form) : Type 0 where
   pub sorted : IsSorted f
   pub within : AllInLimit f.terms
   pub constant_within : InLimit f.constant
-
--- the coefficients in the order of the names
-abbrev pub coefficients : List Term → List ℤ
-coefficients [] = []
-coefficients (t ∷ ts) = t.times ∷ coefficients ts
 
 -- r is a * f + b * g, as the program holds it
 pub record IsCombination (a : ℤ) (f : Form) (b : ℤ) (g r : Form) : Type 0 where
