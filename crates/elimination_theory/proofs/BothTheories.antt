@@ -1,9 +1,8 @@
 -- What elimination says of truth itself, in both theories.
 use Rattle.formula_meaning.specs.Context.{Context, Fields, Integers}
 use Rattle.elimination_theory.specs.Side.{Lower}
-use Rattle.elimination_theory.specs.Elimination.{field_elimination}
-use Rattle.elimination_theory.specs.IntegersPoints.{integer_elimination}
-use Rattle.elimination_theory.specs.Decided.{QuantifierIsEliminated, QuantifiersAreEliminated, TruthIsDecided, NegationNormalFormKeepsTruth, AllIsNotExNot}
+use Rattle.elimination_theory.specs.Elimination.{field_elimination, integer_elimination}
+use Rattle.elimination_theory.specs.Decided.{QuantifierIsEliminated, QuantifiersAreEliminated, OneQuantifierSuffices, TruthIsDecided, NegationNormalFormKeepsTruth, AllIsNotExNot}
 use Rattle.elimination_theory.proofs.Decided.{truth_decided, quantifiers_eliminated}
 use Rattle.elimination_theory.proofs.NegationNormal.{negation_normal_keeps_truth, all_not_ex_not}
 use Rattle.elimination_theory.proofs.FieldsEliminated.{field_elimination_exact, field_elimination_tree}
@@ -35,3 +34,6 @@ normal_form_true c = negation_normal_keeps_truth c (decided c)
 
 pub all_not_ex : (c : Context) → AllIsNotExNot c
 all_not_ex c = all_not_ex_not c (decided c)
+
+pub one_suffices : (c : Context) → OneQuantifierSuffices c
+one_suffices c one = (quantifiers_eliminated c one, truth_decided c one)

@@ -1,7 +1,6 @@
 -- Truth is decided, by elimination: every formula has an equivalent built by and and or, whose truth is decided.
-use Rattle.std.proofs.Common.{ℕ, ◌<◌, sym, ◌∙◌, subst, ◌⊎◌, inl, inr, ⊎_elim, ◌↔◌, nat_eq}
-use Rattle.std.proofs.Math.IntN.{ℤ}
-use Rattle.formula_meaning.specs.Context.{Context, Fields, Integers, Allowed}
+use Rattle.std.proofs.Common.{ℕ, ◌⊎◌, inl, inr, ⊎_elim, ◌↔◌, nat_eq}
+use Rattle.formula_meaning.specs.Context.{Context}
 use Rattle.formula_meaning.specs.Point.{Point, Of, move}
 use Rattle.formula_meaning.specs.Formula.{Yes, No, One, Not, And, Or, Impl, Repl, Equiv, Ex, All, none, also}
 use Rattle.formula_meaning.specs.Truth.{AllTrue, SomeTrue}
@@ -11,8 +10,7 @@ use Rattle.formula_meaning.specs.NegationNormal.{normal_forms_of_not, both}
 use Rattle.formula_meaning.specs.Atom.{Says, AtomIn, Mentions, opposite}
 use Rattle.formula_meaning.specs.Tree.{Tree, Trees, TrueAt, InContext, IsFree, Equivalent, negated}
 use Rattle.formula_meaning.proofs.TreeNormal.{tree_normal_free, opposite_in}
-use Rattle.formula_meaning.proofs.Values.{below_move}
-use Rattle.formula_meaning.proofs.SamePoint.{allowed_mul}
+use Rattle.formula_meaning.proofs.TreeReplacing.{moved_of}
 use Rattle.elimination_theory.specs.Decided.{QuantifierIsEliminated, QuantifiersAreEliminated, TruthIsDecided}
 use Rattle.elimination_theory.proofs.AtomsDecided.{IsDecided, atom_decided, atom_opposite}
 
@@ -25,10 +23,6 @@ pub either_decided : {P Q : Type 0} → IsDecided P → IsDecided Q → IsDecide
 either_decided (inl p) q = inl (inl p)
 either_decided (inr p) (inl q) = inl (inr q)
 either_decided (inr p) (inr q) = inr (⊎_elim p q)
-
-pub moved_of : (c : Context) (p : Point ℕ) (x : ℕ) (k : ℤ) (m : ℕ) → Of c p → Allowed c m → Of c (move nat_eq p x k m)
-moved_of Fields p x k m o a = subst (λ b. 0 < b) (sym (below_move nat_eq p x k m)) (allowed_mul Fields p.below m o a)
-moved_of Integers p x k m o a = below_move nat_eq p x k m ∙ allowed_mul Integers p.below m o a
 
 -- an equivalent of the formula that is built by and and or
 record HasPlain (c : Context) (f : Tree) : Type 0 where
@@ -128,7 +122,7 @@ module _ (c : Context) where
         is_plain = n.0;
         in_context = n.1;
         equivalent = λ p o. let e = h.equivalent p o in let k = plain_not h.plain h.is_plain h.in_context p o in (λ t. k.1 (λ u. t (e.1 u)), λ t u. k.0 t (e.0 u));
-        names = λ y t. h.names y ((tree_normal_free h.plain y).1.1 t);
+        names = λ y t. h.names y ((tree_normal_free h.plain y).1 t);
       }
 
   decide : {f : Tree} → HasPlain c f → (p : Point ℕ) → Of c p → IsDecided (TrueAt c f p)

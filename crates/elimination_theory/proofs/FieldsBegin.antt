@@ -17,7 +17,7 @@ use Rattle.elimination_theory.specs.FieldsPoints.{exact_point, beside_point, end
 use Rattle.elimination_theory.proofs.FieldsCut.{Before, NotAfter, Cut, Everywhere, From, After, IsProper, Covers, Within, one_within, Seen, seen, same_not_after, before_differs, both_not_after, by_sides, not_after_before, not_after_not_after}
 use Rattle.elimination_theory.proofs.FieldsLine.{over, under, line_positive, line_negative, comparison_still}
 use Rattle.elimination_theory.proofs.LowestTerms.{lowest}
-use Rattle.elimination_theory.proofs.Listed.{Among}
+use Rattle.formula_meaning.specs.Some.{Among}
 
 -- where the interval of a place begins, at the point
 abbrev pub cut_of : Point ℕ → Place → Cut

@@ -15,11 +15,11 @@ use Rattle.elimination_theory.specs.FieldsSubstitution.{field_substitution}
 use Rattle.elimination_theory.specs.Substitution.{at_place}
 use Rattle.elimination_theory.specs.Elimination.{trees_at, field_elimination}
 use Rattle.elimination_theory.specs.Decided.{FieldEliminationIsExact}
-use Rattle.elimination_theory.proofs.Listed.{Among}
-use Rattle.elimination_theory.proofs.FieldsLine.{both_ways}
+use Rattle.formula_meaning.specs.Some.{Among}
+use Rattle.formula_meaning.proofs.Iff.{both_ways}
 use Rattle.elimination_theory.proofs.FieldsSuffice.{field_points_suffice, field_point_place}
 use Rattle.elimination_theory.proofs.FieldsSubstitute.{substitution_exact}
-use Rattle.elimination_theory.proofs.FieldsAnswers.{substitution_tree}
+use Rattle.elimination_theory.proofs.Simple.{substitution_plain}
 
 -- some place of the list makes the formula true exactly where some tree is true
 pub some_place : (c : Context) (put : Place → Tree) (H : Place → Type 0) (p : Point ℕ) (places : List Place) → ((s : Place) → Among places s → H s ↔ TrueAt c (put s) p) →
@@ -41,4 +41,4 @@ field_elimination_exact side x f s c p o =
 
 -- the disjunction is built by and and or, from atoms of the fields
 pub field_elimination_tree : (side : Side) (x : ℕ) (f : Tree) → IsPlain f → InContext Fields f → IsPlain (field_elimination side x f) × InContext Fields (field_elimination side x f)
-field_elimination_tree side x f s c = trees_plain Fields (λ q. field_substitution x q f) (field_points side x f) (λ q m. substitution_tree x q f (s, c))
+field_elimination_tree side x f s c = trees_plain Fields (λ q. field_substitution x q f) (field_points side x f) (λ q m. substitution_plain Fields x q f (field_point_place side x f q m) s c)

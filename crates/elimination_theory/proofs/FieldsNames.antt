@@ -11,20 +11,21 @@ use Rattle.formula_meaning.specs.Every.{Every, Free, FreeInSome}
 use Rattle.formula_meaning.specs.Replaced.{replaced}
 use Rattle.formula_meaning.specs.Shape.{IsPlain, ArePlain}
 use Rattle.formula_meaning.specs.Atom.{Atom, Compare, Congruent, Relation, Equals, Differs, Below, AtMost, Above, AtLeast, AtomIn, Mentions, mirrored}
-use Rattle.formula_meaning.specs.Answer.{Place, Exact, AboveBy, BelowBy, PlusInfinity, MinusInfinity, Periodic, PlaceMentions}
+use Rattle.formula_meaning.specs.Answer.{Place, Exact, AboveBy, BelowBy, PlusInfinity, MinusInfinity, Periodic, PlaceMentions, same_place}
 use Rattle.formula_meaning.specs.Tree.{Tree, InContext, IsFree}
 use Rattle.formula_meaning.proofs.Coefficients.{coefficient_combine, coefficient_scale, coefficient_without_same, coefficient_without_other}
 use Rattle.formula_meaning.proofs.FreeReplaced.{every_free, free_replaced}
 use Rattle.formula_meaning.proofs.EachAtom.{every_map, every_both}
 use Rattle.elimination_theory.specs.Side.{Side, Lower, Upper, turned}
-use Rattle.elimination_theory.specs.Lists.{same_atom, same_place}
+use Rattle.formula_meaning.specs.Same.{same_atom}
 use Rattle.elimination_theory.specs.Atoms.{atoms_in, atoms_in_all, atoms_of}
 use Rattle.elimination_theory.specs.FieldsPoints.{beside_point, ends_of, comparison_points, atom_points, infinity_of, field_points, form_over, divisor_of}
 use Rattle.elimination_theory.specs.Substitution.{form_at, below_all, beyond, exactly}
 use Rattle.elimination_theory.specs.FieldsSubstitution.{just_above, just_below, beside, field_atom, field_substitution, IsFieldPlace}
 use Rattle.elimination_theory.specs.Elimination.{trees_at, field_elimination}
 use Rattle.elimination_theory.specs.NamesTheorems.{IsNameOf}
-use Rattle.elimination_theory.proofs.Listed.{Among, among_append, flat_map_among, distinct_among}
+use Rattle.formula_meaning.specs.Some.{Among}
+use Rattle.formula_meaning.proofs.Listed.{among_append, flat_map_among, distinct_among}
 use Rattle.elimination_theory.proofs.LowestTerms.{lowest}
 use Rattle.elimination_theory.proofs.FieldsSuffice.{field_point_place}
 

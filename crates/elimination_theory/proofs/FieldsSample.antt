@@ -22,7 +22,7 @@ use Rattle.elimination_theory.specs.Atoms.{atoms_of}
 use Rattle.elimination_theory.specs.FieldsSubstitution.{IsFieldPlace}
 use Rattle.elimination_theory.specs.Substitution.{at_place}
 use Rattle.elimination_theory.specs.FieldsSamples.{NoCritical, IsJustPast, IsJustShort, IsBelowAll, IsAboveAll, IsFieldSample}
-use Rattle.elimination_theory.proofs.Listed.{among_some}
+use Rattle.formula_meaning.proofs.Listed.{among_some}
 use Rattle.elimination_theory.proofs.Fractions.{less_at_most, at_most_less}
 use Rattle.elimination_theory.proofs.FieldsCut.{Before, NotAfter, Covers, by_before, not_after_before, before_not_after_before, covers_on}
 use Rattle.elimination_theory.proofs.FieldsLine.{over, under, line_positive, line_negative, comparison_still}
@@ -31,7 +31,7 @@ use Rattle.elimination_theory.proofs.FieldsBegin.{IsOfSide, cut_of, proper}
 use Rattle.elimination_theory.proofs.FieldsMeet.{Near, near_meets, near_some, place_near, field_place, pos_positive, positive_pos}
 use Rattle.elimination_theory.proofs.FieldsNear.{small_both, large_both}
 use Rattle.elimination_theory.proofs.FieldsSuffice.{every_atom}
-use Rattle.elimination_theory.proofs.Decided.{moved_of}
+use Rattle.formula_meaning.proofs.TreeReplacing.{moved_of}
 
 near_both : (s : Place) (T U : ℤ → ℕ → Type 0) (p : Point ℕ) → Near p s T → Near p s U → Near p s (λ k m. T k m × U k m)
 near_both (Exact e d) T U p t u = (t, u)

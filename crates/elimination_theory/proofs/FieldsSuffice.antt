@@ -9,15 +9,17 @@ use Rattle.formula_meaning.specs.Some.{SomeOf}
 use Rattle.formula_meaning.specs.Every.{Every, EveryOf}
 use Rattle.formula_meaning.specs.Shape.{IsPlain}
 use Rattle.formula_meaning.specs.Atom.{Atom, Compare, Congruent, Relation, Equals, Differs, Below, AtMost, Above, AtLeast, mirrored}
-use Rattle.formula_meaning.specs.Answer.{Place, Holds}
+use Rattle.formula_meaning.specs.Answer.{Place, Holds, same_place}
 use Rattle.formula_meaning.specs.Tree.{Tree, TrueAt, InContext}
 use Rattle.elimination_theory.specs.Side.{Side, Lower, Upper, turned}
-use Rattle.elimination_theory.specs.Lists.{same_atom, same_place}
+use Rattle.formula_meaning.specs.Same.{same_atom}
 use Rattle.elimination_theory.specs.Atoms.{atoms_in, atoms_in_all, atoms_of}
 use Rattle.elimination_theory.specs.FieldsPoints.{beside_point, ends_of, comparison_points, atom_points, infinity_of, field_points}
 use Rattle.elimination_theory.specs.FieldsSubstitution.{IsFieldPlace}
 use Rattle.elimination_theory.specs.Substitution.{at_place}
-use Rattle.elimination_theory.proofs.Listed.{Among, some_among, among_some, among_left, among_right, among_flat_map, flat_map_among, distinct_among, among_distinct, atom_same, place_same}
+use Rattle.formula_meaning.specs.Some.{Among}
+use Rattle.formula_meaning.proofs.Listed.{some_among, among_some, among_left, among_right, among_flat_map, flat_map_among, distinct_among, among_distinct}
+use Rattle.formula_meaning.proofs.Same.{atom_same, place_same}
 use Rattle.elimination_theory.proofs.FieldsLine.{under}
 use Rattle.elimination_theory.proofs.LowestTerms.{lowest}
 use Rattle.elimination_theory.proofs.FieldsBegin.{Begins, formula_begins}

@@ -4,8 +4,7 @@ use Rattle.std.proofs.lemmas.List.{length-map}
 use Rattle.formula_meaning.specs.Form.{Form, plus}
 use Rattle.formula_meaning.specs.Answer.{Exact, Periodic}
 use Rattle.elimination_theory.specs.Side.{Side}
-use Rattle.elimination_theory.specs.Atoms.{atoms_of}
-use Rattle.elimination_theory.specs.IntegersPoints.{signed, counted, class_points, next_points, atom_starts, integer_scale, integer_span}
+use Rattle.elimination_theory.specs.IntegersPoints.{signed, counted, class_points, next_points, atom_starts, scale_of, own_span}
 use Rattle.elimination_theory.specs.IntegersTheorems.{IntegerPointsAreCounted}
 
 length_counted : (first n : ℕ) → length (counted first n) ≡ n
@@ -28,5 +27,5 @@ length_points side l d period starts =
     omega arith
 
 pub points_are_counted : IntegerPointsAreCounted
-points_are_counted side x f =
-    length_points side (integer_scale x f) (integer_span x f) (integer_span x f / integer_scale x f) (flat_map (atom_starts side (integer_scale x f) x) (atoms_of f))
+points_are_counted side x atoms =
+    length_points side (scale_of x atoms) (own_span x atoms) (own_span x atoms / scale_of x atoms) (flat_map (atom_starts side (scale_of x atoms) x) atoms)

@@ -1,28 +1,29 @@
 -- Each listed test point of the integers is one of the integers for each atom; so ex(x, f) is f with the points put in.
-use Rattle.std.proofs.Common.{◌≡◌, ℕ, suc, zero, ◌*◌, ◌/◌, ◌<◌, ℤ, pos, negsuc, ◌*ℤ◌, neg_ℤ, arith, List, mul-pos}
+use Rattle.std.proofs.Common.{◌≡◌, ℕ, ◌/◌, ◌<◌, ℤ, pos, ◌*ℤ◌, neg_ℤ, arith, List}
 use Rattle.std.proofs.lemmas.Int.{ints}
 use Rattle.exact_numbers.specs.Divides.{Divides}
 use Rattle.exact_numbers.proofs.Ring.{mul_neg, mul_comm}
+use Rattle.formula_meaning.specs.Some.{EachOf}
 use Rattle.formula_meaning.specs.Context.{Integers}
 use Rattle.formula_meaning.specs.Every.{Every}
 use Rattle.formula_meaning.specs.Shape.{IsPlain}
-use Rattle.formula_meaning.specs.Form.{Form, coefficient, plus}
-use Rattle.formula_meaning.specs.Atom.{Atom, Compare, Congruent, Relation, Equals, Differs, Below, AtMost, Above, AtLeast, mirrored, AtomIn}
-use Rattle.formula_meaning.specs.Answer.{Place, Exact, AboveBy, BelowBy, PlusInfinity, MinusInfinity, Periodic, Holds}
+use Rattle.formula_meaning.specs.Form.{coefficient, plus}
+use Rattle.formula_meaning.specs.Atom.{Atom, Compare, Congruent}
+use Rattle.formula_meaning.specs.Answer.{Place, Exact, Periodic, Holds, same_place}
 use Rattle.formula_meaning.specs.Tree.{Tree, InContext}
-use Rattle.formula_meaning.proofs.EachAtom.{every_map}
-use Rattle.formula_meaning.proofs.ReplacedShape.{plain_stays, every_replaced}
-use Rattle.elimination_theory.proofs.FieldsLine.{both_ways}
+use Rattle.formula_meaning.proofs.EachAtom.{every_map, every_all}
+use Rattle.elimination_theory.proofs.Simple.{substitution_plain}
+use Rattle.formula_meaning.proofs.Iff.{both_ways}
 use Rattle.elimination_theory.specs.Side.{Side, Lower, Upper}
-use Rattle.elimination_theory.specs.Lists.{same_place}
 use Rattle.elimination_theory.specs.Atoms.{atoms_of}
-use Rattle.elimination_theory.specs.Substitution.{at_place, beyond, below_all, exactly, form_at}
-use Rattle.elimination_theory.specs.IntegersSubstitution.{integer_atom, integer_guard, guarded_substitution, where_zero, along, put_number}
-use Rattle.elimination_theory.specs.IntegersPoints.{signed, counted, class_points, next_points, points_with, integer_scale, integer_span, integer_points, integer_elimination}
+use Rattle.elimination_theory.specs.Substitution.{at_place}
+use Rattle.elimination_theory.specs.IntegersSubstitution.{guarded_substitution}
+use Rattle.elimination_theory.specs.Elimination.{integer_elimination}
+use Rattle.elimination_theory.specs.IntegersPoints.{signed, counted, class_points, next_points, points_with, integer_scale, integer_span, integer_points}
 use Rattle.elimination_theory.specs.IntegersTheorems.{IsPeriodOf, IsIntegerPlace, Suits, IntegerTestPointsSuit, IntegerEliminationIsExact}
 use Rattle.elimination_theory.proofs.FieldsEliminated.{some_place, trees_plain}
 use Rattle.elimination_theory.proofs.IntegerAtom.{}
-use Rattle.elimination_theory.proofs.SomeListed.{EachOf, each_append, each_mapped, each_flat_map, each_distinct, each_among, every_all}
+use Rattle.elimination_theory.proofs.SomeListed.{each_append, each_mapped, each_flat_map, each_distinct, each_among}
 use Rattle.elimination_theory.proofs.IntegerSides.{Fits}
 use Rattle.elimination_theory.proofs.IntegerSuffice.{formula_spanned, formula_fits, integer_points_suffice}
 use Rattle.elimination_theory.proofs.IntegerHolds.{substitution_holds}
@@ -68,82 +69,6 @@ listed_are_for side x f inside =
 pub points_suit : IntegerTestPointsSuit
 points_suit side x f s inside among = each_among (IsFor x f) (integer_points side x f) s (listed_are_for side x f inside) among
 
--- ---- what results is plain, with atoms of the integers
-
-guard_plain : (s : Place) → IsPlain (integer_guard s)
-guard_plain (Exact e zero) = tt
-guard_plain (Exact e (suc zero)) = tt
-guard_plain (Exact e (suc (suc n))) = tt
-guard_plain (AboveBy e l) = tt
-guard_plain (BelowBy e l) = tt
-guard_plain PlusInfinity = tt
-guard_plain MinusInfinity = tt
-guard_plain (Periodic j q) = tt
-
-guard_inside : (s : Place) → IsIntegerPlace s → InContext Integers (integer_guard s)
-guard_inside (Exact e zero) place = place
-guard_inside (Exact e (suc zero)) place = tt
-guard_inside (Exact e (suc (suc n))) place = place
-guard_inside (AboveBy e l) place = tt
-guard_inside (BelowBy e l) place = tt
-guard_inside PlusInfinity place = tt
-guard_inside MinusInfinity place = tt
-guard_inside (Periodic j q) place = tt
-
-below_all_plain : (r : Relation) → IsPlain (below_all r)
-below_all_plain Equals = tt
-below_all_plain Differs = tt
-below_all_plain Below = tt
-below_all_plain AtMost = tt
-below_all_plain Above = tt
-below_all_plain AtLeast = tt
-
-below_all_inside : (r : Relation) → InContext Integers (below_all r)
-below_all_inside Equals = tt
-below_all_inside Differs = tt
-below_all_inside Below = tt
-below_all_inside AtMost = tt
-below_all_inside Above = tt
-below_all_inside AtLeast = tt
-
-beyond_plain : (c : ℤ) (r : Relation) (f : Form) → IsPlain (beyond c r f) × InContext Integers (beyond c r f)
-beyond_plain (pos zero) r f = (tt, tt)
-beyond_plain (pos (suc n)) r f = (below_all_plain r, below_all_inside r)
-beyond_plain (negsuc n) r f = (below_all_plain (mirrored r), below_all_inside (mirrored r))
-
-exactly_plain : (c : ℤ) (r : Relation) (f v : Form) → IsPlain (exactly c r f v) × InContext Integers (exactly c r f v)
-exactly_plain (pos zero) r f v = (tt, tt)
-exactly_plain (pos (suc n)) r f v = (tt, tt)
-exactly_plain (negsuc n) r f v = (tt, tt)
-
-where_zero_inside : (P : Atom → Type 0) (c : ℤ) (a b : Atom) → P a → P b → P (where_zero c a b)
-where_zero_inside P (pos zero) a b h k = h
-where_zero_inside P (pos (suc n)) a b h k = k
-where_zero_inside P (negsuc n) a b h k = k
-
-atom_plain : (x : ℕ) (s : Place) → IsIntegerPlace s → (a : Atom) → AtomIn Integers a → IsPlain (integer_atom x s a) × InContext Integers (integer_atom x s a)
-atom_plain x (Exact e l) place (Compare r f) inside = exactly_plain (coefficient x f) r f (form_at x e l f)
-atom_plain x (Exact e l) place (Congruent holds n f) inside = (tt, where_zero_inside (AtomIn Integers) (coefficient x f) (Congruent holds n f) (Congruent holds (l * n) (form_at x e l f)) inside (mul-pos place inside))
-atom_plain x (Periodic j q) place (Compare r f) inside = beyond_plain (along q (coefficient x f)) r f
-atom_plain x (Periodic j q) place (Congruent holds n f) inside = (tt, where_zero_inside (AtomIn Integers) (coefficient x f) (Congruent holds n f) (Congruent holds n (put_number x j f)) inside inside)
-atom_plain x (AboveBy e l) place a inside = absurd place
-atom_plain x (BelowBy e l) place a inside = absurd place
-atom_plain x PlusInfinity place a inside = absurd place
-atom_plain x MinusInfinity place a inside = absurd place
-
--- the guard and the substitution together
-pub substitution_plain : (x : ℕ) (s : Place) (f : Tree) → IsIntegerPlace s → IsPlain f → InContext Integers f →
-    IsPlain (guarded_substitution x s f) × InContext Integers (guarded_substitution x s f)
-substitution_plain x s f place plain inside =
-    let atoms = every_map _ _ (atom_plain x s place) f inside in
-    let plains = every_map (λ a. IsPlain (integer_atom x s a) × InContext Integers (integer_atom x s a)) (λ a. IsPlain (integer_atom x s a)) (λ a h. h.0) f atoms in
-    let insides = every_map (λ a. IsPlain (integer_atom x s a) × InContext Integers (integer_atom x s a)) (λ a. InContext Integers (integer_atom x s a)) (λ a h. h.1) f atoms in (
-      (guard_plain s, (plain_stays (integer_atom x s) (λ y. y) f plain plains, tt)),
-      (guard_inside s place, (every_replaced (integer_atom x s) (λ y. y) (AtomIn Integers) f insides, tt)),
-    )
-
--- ---- the points put in
-
 pub integer_elimination_exact : IntegerEliminationIsExact
 integer_elimination_exact side x f plain inside p whole =
     both_ways (integer_points_suffice side x f p plain inside whole)
@@ -156,4 +81,4 @@ integer_elimination_exact side x f plain inside p whole =
 pub integer_elimination_tree : (side : Side) (x : ℕ) (f : Tree) → IsPlain f → InContext Integers f → IsPlain (integer_elimination side x f) × InContext Integers (integer_elimination side x f)
 integer_elimination_tree side x f plain inside =
     trees_plain Integers (λ s. guarded_substitution x s f) (integer_points side x f)
-    (λ s among. substitution_plain x s f (points_suit side x f s inside among).0 plain inside)
+    (λ s among. substitution_plain Integers x s f (points_suit side x f s inside among).0 plain inside)

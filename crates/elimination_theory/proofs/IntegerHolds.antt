@@ -13,15 +13,15 @@ use Rattle.formula_meaning.specs.Form.{Form, value, coefficient}
 use Rattle.formula_meaning.specs.Atom.{Atom, Compare, Congruent, Says, form_of}
 use Rattle.formula_meaning.specs.Answer.{Exact, AboveBy, BelowBy, PlusInfinity, MinusInfinity, Periodic, Holds}
 use Rattle.formula_meaning.specs.Tree.{Tree, TrueAt}
-use Rattle.formula_meaning.proofs.EachAtom.{every_map}
-use Rattle.elimination_theory.proofs.FieldsLine.{both_ways, turn_round}
+use Rattle.formula_meaning.proofs.EachAtom.{every_map, every_all, every_both}
+use Rattle.formula_meaning.proofs.Iff.{both_ways, turn_round}
 use Rattle.elimination_theory.specs.Side.{Side, Lower, Upper}
 use Rattle.elimination_theory.specs.Substitution.{at_place}
 use Rattle.elimination_theory.specs.IntegersSubstitution.{integer_atom, integer_substitution, integer_guard, is_whole}
 use Rattle.elimination_theory.specs.IntegersPoints.{signed, integer_scale}
 use Rattle.elimination_theory.specs.IntegersTheorems.{IsPeriodOf, IntegerAtomIsExact, IntegerSubstitutionIsExact}
 use Rattle.elimination_theory.specs.Atoms.{atoms_of}
-use Rattle.elimination_theory.proofs.SomeListed.{every_both, every_all, every_of_atoms}
+use Rattle.elimination_theory.proofs.SomeListed.{every_of_atoms}
 use Rattle.elimination_theory.proofs.IntegerEval.{Eval, Downwards, eval_map}
 use Rattle.elimination_theory.proofs.IntegerPlain.{plain_eval, replaced_eval}
 use Rattle.elimination_theory.proofs.IntegerDescent.{Stays, far_down, from_far_down}
@@ -122,7 +122,7 @@ module _ (x : ℕ) (f : Tree) where
       Holds Integers (at_place x (Periodic j (signed side (neg_ℤ (pos step))))) f p ↔
       TrueAt Integers (integer_guard (Periodic j (signed side (neg_ℤ (pos step))))) p × TrueAt Integers (integer_substitution x (Periodic j (signed side (neg_ℤ (pos step)))) f) p
   periodic_holds side step p j steps period plain whole =
-      let fits = every_map _ _ (λ a both. fits_period side (integer_scale x f) step x a both.0 both.1) f (every_both _ _ f formula_scales period) in
+      let fits = every_both _ _ _ (λ a scales fits. fits_period side (integer_scale x f) step x a scales fits) f formula_scales period in
       let holds = class_holds side x (integer_scale x f) step f p whole plain (scale_positive x (atoms_of f)) steps fits j in
       (λ h. (tt, holds.0 h), λ h. holds.1 h.1)
 

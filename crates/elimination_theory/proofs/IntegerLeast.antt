@@ -3,14 +3,14 @@ use Rattle.std.proofs.Common.{refl, unsigned_abs, ◌≡◌, ℕ, suc, zero, ◌
 use Rattle.std.proofs.lemmas.Int.{ints}
 use Rattle.exact_numbers.specs.Divides.{Divides}
 use Rattle.exact_numbers.proofs.Divisibility.{divides_same, one_divides, neg_divides}
+use Rattle.formula_meaning.specs.Some.{EachOf}
 use Rattle.formula_meaning.specs.Context.{Integers}
 use Rattle.formula_meaning.specs.Form.{coefficient}
 use Rattle.formula_meaning.specs.Atom.{Atom, Compare, Congruent, form_of, AtomIn}
-use Rattle.formula_meaning.proofs.EachAtom.{every_map}
 use Rattle.elimination_theory.specs.Atoms.{atoms_of}
 use Rattle.elimination_theory.specs.IntegersPoints.{with_coefficient, scale_of, with_modulus, span_of, integer_scale}
-use Rattle.elimination_theory.specs.IntegersTheorems.{IsMultipleOf, SpansAtom, IntegerScaleIsLeast, IntegerSpanIsLeast}
-use Rattle.elimination_theory.proofs.SomeListed.{EachOf, atoms_of_every, every_of_atoms}
+use Rattle.elimination_theory.specs.IntegersTheorems.{IsMultipleOf, SpansAtom, ScaleIsLeast, SpanIsLeast, IntegerScaleIsLeast, IntegerSpanIsLeast}
+use Rattle.elimination_theory.proofs.SomeListed.{each_map, atoms_of_every, every_of_atoms}
 use Rattle.elimination_theory.proofs.IntegerScale.{Reaches, Spans, common_least, scale_positive, scale_reaches, span_positive, span_scale, multiplied_positive, with_modulus_spans, with_modulus_rest}
 
 -- ---- the scale
@@ -35,16 +35,24 @@ scale_least x k [] reach = one_divides (pos k)
 scale_least x k (a ∷ atoms) reach =
     with_coefficient_least (coefficient x (form_of a)) (scale_of x atoms) k (scale_positive x atoms) reach.0 (scale_least x k atoms reach.1)
 
-pub scale_is_least : IntegerScaleIsLeast
-scale_is_least x f = (
-  scale_positive x (atoms_of f),
+pub scale_is_least : ScaleIsLeast
+scale_is_least x atoms = (
+  scale_positive x atoms,
   λ n. (
-    λ multiple. scale_least x n (atoms_of f) (atoms_of_every (λ a. Reaches n (coefficient x (form_of a))) f
-        (every_map (λ a. IsMultipleOf (coefficient x (form_of a)) n) _ (λ a m. multiple_reaches n (coefficient x (form_of a)) m) f multiple)),
-    λ divides. every_map (λ a. Reaches n (coefficient x (form_of a))) _ (λ a r. reaches_multiple n (coefficient x (form_of a)) r) f
-        (every_of_atoms (λ a. Reaches n (coefficient x (form_of a))) f (scale_reaches x n (atoms_of f) divides)),
+    λ multiple. scale_least x n atoms (each_map (λ a. IsMultipleOf (coefficient x (form_of a)) n) _ (λ a m. multiple_reaches n (coefficient x (form_of a)) m) atoms multiple),
+    λ divides. each_map (λ a. Reaches n (coefficient x (form_of a))) _ (λ a r. reaches_multiple n (coefficient x (form_of a)) r) atoms (scale_reaches x n atoms divides),
   ),
 )
+
+pub formula_scale_is_least : IntegerScaleIsLeast
+formula_scale_is_least x f =
+    let s = scale_is_least x (atoms_of f) in (
+      s.0,
+      λ n. (
+        λ m. (s.1 n).0 (atoms_of_every (λ a. IsMultipleOf (coefficient x (form_of a)) n) f m),
+        λ d. every_of_atoms (λ a. IsMultipleOf (coefficient x (form_of a)) n) f ((s.1 n).1 d),
+      ),
+    )
 
 -- ---- the span
 
@@ -82,17 +90,24 @@ module _ (l x k : ℕ) (hl : 0 < l) where
         span_each atoms inside.1 reach.1 (with_modulus_rest l m hl inside.0 (coefficient x f) (span_of l x atoms) k reach.0 p d),
       )
 
-pub span_is_least : IntegerSpanIsLeast
-span_is_least x f inside =
-    let positive = scale_positive x (atoms_of f) in
-    let atoms = atoms_of_every (AtomIn Integers) f inside in
-    let reach = scale_reaches x (integer_scale x f) (atoms_of f) (divides_same (pos (integer_scale x f))) in (
-      span_positive (integer_scale x f) x (atoms_of f) positive atoms reach,
+pub span_is_least : SpanIsLeast
+span_is_least x atoms inside =
+    let l = scale_of x atoms in
+    let positive = scale_positive x atoms in
+    let reach = scale_reaches x l atoms (divides_same (pos l)) in (
+      span_positive l x atoms positive inside reach,
       λ n. (
-        λ both. span_least (integer_scale x f) x n positive (atoms_of f) atoms reach both.0 (atoms_of_every (SpansAtom x (integer_scale x f) n) f both.1),
-        λ divides. (
-          span_scale (integer_scale x f) x n (atoms_of f) positive atoms reach divides,
-          every_of_atoms (SpansAtom x (integer_scale x f) n) f (span_each (integer_scale x f) x n positive (atoms_of f) atoms reach divides),
-        ),
+        λ both. span_least l x n positive atoms inside reach both.0 both.1,
+        λ divides. (span_scale l x n atoms positive inside reach divides, span_each l x n positive atoms inside reach divides),
+      ),
+    )
+
+pub formula_span_is_least : IntegerSpanIsLeast
+formula_span_is_least x f inside =
+    let s = span_is_least x (atoms_of f) (atoms_of_every (AtomIn Integers) f inside) in (
+      s.0,
+      λ n. (
+        λ both. (s.1 n).0 (both.0, atoms_of_every (SpansAtom x (integer_scale x f) n) f both.1),
+        λ divides. let t = (s.1 n).1 divides in (t.0, every_of_atoms (SpansAtom x (integer_scale x f) n) f t.1),
       ),
     )

@@ -18,8 +18,8 @@ use Rattle.elimination_theory.specs.Atoms.{atoms_in, atoms_of}
 use Rattle.elimination_theory.specs.Side.{Side, Lower, Upper}
 use Rattle.elimination_theory.specs.Substitution.{at_place}
 use Rattle.elimination_theory.specs.IntegersPoints.{signed, atom_starts, counted, class_points, next_points, points_with}
-use Rattle.elimination_theory.specs.Lists.{same_atom}
-use Rattle.elimination_theory.proofs.Listed.{atom_same}
+use Rattle.formula_meaning.specs.Same.{same_atom}
+use Rattle.formula_meaning.proofs.Same.{atom_same}
 use Rattle.elimination_theory.proofs.SomeListed.{some_map, some_left, some_right, some_either, some_mapped, some_of_mapped, some_flat_map, some_of_flat_map, some_distinct, some_gives}
 use Rattle.elimination_theory.proofs.IntegerEval.{Eval, Downwards}
 use Rattle.elimination_theory.proofs.IntegerPlain.{plain_eval}

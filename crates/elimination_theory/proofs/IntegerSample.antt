@@ -8,15 +8,16 @@ use Rattle.exact_numbers.proofs.Divisibility.{divides_zero, divides_along}
 use Rattle.formula_meaning.specs.Context.{Integers}
 use Rattle.formula_meaning.specs.Point.{Point, move}
 use Rattle.formula_meaning.specs.Every.{Every}
-use Rattle.formula_meaning.specs.Some.{SomeOf}
+use Rattle.formula_meaning.specs.Some.{SomeOf, EachOf}
 use Rattle.formula_meaning.specs.Shape.{IsPlain}
 use Rattle.formula_meaning.specs.Form.{Form, value, coefficient, without}
 use Rattle.formula_meaning.specs.Atom.{Atom, Compare, Congruent, Relation, Relates, mirrored, Says}
 use Rattle.formula_meaning.specs.Answer.{Exact, AboveBy, BelowBy, PlusInfinity, MinusInfinity, Periodic, Holds}
 use Rattle.formula_meaning.specs.Tree.{Tree, TrueAt}
-use Rattle.formula_meaning.proofs.EachAtom.{every_map}
-use Rattle.formula_meaning.proofs.Relations.{relates_turn}
-use Rattle.elimination_theory.proofs.FieldsLine.{both_ways, turn_round, value_still, relates_along}
+use Rattle.formula_meaning.proofs.EachAtom.{every_all, every_both}
+use Rattle.formula_meaning.proofs.Relations.{relates_turn, relates_along}
+use Rattle.formula_meaning.proofs.Iff.{both_ways, turn_round, not_iff}
+use Rattle.elimination_theory.proofs.FieldsLine.{value_still}
 use Rattle.elimination_theory.specs.Atoms.{atoms_of}
 use Rattle.elimination_theory.specs.Side.{Side, Lower, Upper}
 use Rattle.elimination_theory.specs.Substitution.{at_place, beyond}
@@ -24,14 +25,14 @@ use Rattle.elimination_theory.specs.IntegersSubstitution.{along, integer_atom}
 use Rattle.elimination_theory.specs.IntegersPoints.{signed}
 use Rattle.elimination_theory.specs.IntegersTheorems.{IsPeriodOf, Suits}
 use Rattle.elimination_theory.specs.IntegersSample.{IsPast, LiesBeyond, HasCriticalValue, ComesFirst, IsFarMember, IsClassSample, IntegerSampleIsTrue, IntegerSampleExists, IntegerSampleIsUnique}
-use Rattle.elimination_theory.proofs.SomeListed.{EachOf, each_among, every_all, every_both, every_of_atoms, atoms_of_every}
+use Rattle.elimination_theory.proofs.SomeListed.{each_among, every_of_atoms, atoms_of_every}
 use Rattle.elimination_theory.proofs.MoreArithmetic.{steps_far, at_most_abs, at_least_neg_abs}
 use Rattle.elimination_theory.proofs.IntegerEval.{Downwards, eval_map, every_downwards}
 use Rattle.elimination_theory.proofs.IntegerPlain.{plain_eval, replaced_eval}
 use Rattle.elimination_theory.proofs.IntegerRelation.{relates_below}
 use Rattle.elimination_theory.proofs.IntegerCompare.{IsCongruent}
-use Rattle.elimination_theory.proofs.IntegerAtom.{says_at, value_at, along_zero, below_all_says, periodic_says, not_iff}
-use Rattle.elimination_theory.proofs.Listed.{some_among}
+use Rattle.elimination_theory.proofs.IntegerAtom.{says_at, value_at, along_zero, below_all_says, periodic_says}
+use Rattle.formula_meaning.proofs.Listed.{some_among}
 use Rattle.elimination_theory.proofs.IntegerSides.{signed_mul, signed_signed, along_signed}
 use Rattle.elimination_theory.proofs.IntegerHolds.{substitution_holds}
 
@@ -79,7 +80,7 @@ far_true : (x : ℕ) (j q : ℤ) (f : Tree) (p : Point ℕ) (k : ℤ) → ¬ (q 
 far_true x j q f p k place suits plain whole member holds =
     let substituted = ((substitution_holds x (Periodic j q) f p place suits plain whole).0 holds).1 in
     (plain_eval Says (move nat_eq) Integers (move nat_eq p x k 1) f plain).1
-    (eval_map _ _ f (every_map _ _ (λ a both. (beyond_says a x j q k p whole member.0 both.0 both.1).1) f (every_both _ _ f suits member.1))
+    (eval_map _ _ f (every_both _ _ _ (λ a suit past. (beyond_says a x j q k p whole member.0 suit past).1) f suits member.1)
     ((replaced_eval (integer_atom x (Periodic j q)) Says (move nat_eq) Integers p f plain).0 substituted))
 
 -- ---- without critical values

@@ -5,19 +5,19 @@ use Rattle.exact_numbers.specs.Divides.{Divides}
 use Rattle.exact_numbers.proofs.Divisibility.{divides_same}
 use Rattle.exact_numbers.proofs.LeastMultiple.{exact_div}
 use Rattle.exact_numbers.proofs.Order.{factor_positive}
+use Rattle.formula_meaning.specs.Some.{EachOf}
 use Rattle.formula_meaning.specs.Context.{Integers}
 use Rattle.formula_meaning.specs.Every.{Every}
 use Rattle.formula_meaning.specs.Form.{coefficient}
 use Rattle.formula_meaning.specs.Atom.{AtomIn, form_of}
-use Rattle.formula_meaning.specs.Answer.{Holds}
+use Rattle.formula_meaning.specs.Answer.{Holds, same_place}
 use Rattle.formula_meaning.specs.Tree.{Tree, InContext}
-use Rattle.elimination_theory.specs.Lists.{same_place}
 use Rattle.elimination_theory.specs.Atoms.{atoms_of}
 use Rattle.elimination_theory.specs.Substitution.{at_place}
 use Rattle.elimination_theory.specs.IntegersPoints.{points_with, integer_scale, integer_span}
 use Rattle.elimination_theory.specs.IntegersTheorems.{IntegerTestPointsSuffice}
-use Rattle.elimination_theory.proofs.Listed.{place_same}
-use Rattle.elimination_theory.proofs.SomeListed.{EachOf, some_distinct, some_of_distinct, atoms_of_every, every_of_atoms}
+use Rattle.formula_meaning.proofs.Same.{place_same}
+use Rattle.elimination_theory.proofs.SomeListed.{some_distinct, some_of_distinct, atoms_of_every, every_of_atoms}
 use Rattle.elimination_theory.proofs.IntegerSides.{Fits}
 use Rattle.elimination_theory.proofs.IntegerScale.{Reaches, scale_positive, scale_reaches, span_positive, span_scale, fits_each}
 use Rattle.elimination_theory.proofs.IntegerPoints.{some_holds, holds_true}

@@ -4,22 +4,22 @@ use Rattle.std.proofs.Math.IntN.{ℤ, pos, negsuc, ◌*ℤ◌, neg_ℤ}
 use Rattle.formula_meaning.specs.Context.{Integers}
 use Rattle.formula_meaning.specs.Form.{Form, coefficient, without, scale, plus}
 use Rattle.formula_meaning.specs.Formula.{Ex}
-use Rattle.formula_meaning.specs.Every.{Every}
 use Rattle.formula_meaning.specs.Shape.{IsPlain}
 use Rattle.formula_meaning.specs.Atom.{Atom, Compare, Congruent, Relation, Equals, Differs, Below, AtMost, Above, AtLeast, Mentions, mirrored}
-use Rattle.formula_meaning.specs.Answer.{Place, Exact, AboveBy, BelowBy, PlusInfinity, MinusInfinity, Periodic, PlaceMentions}
+use Rattle.formula_meaning.specs.Answer.{Place, Exact, AboveBy, BelowBy, PlusInfinity, MinusInfinity, Periodic, PlaceMentions, same_place}
 use Rattle.formula_meaning.specs.Tree.{Tree, InContext, IsFree}
 use Rattle.formula_meaning.proofs.Coefficients.{coefficient_plus}
 use Rattle.elimination_theory.specs.Side.{Side, turned}
-use Rattle.elimination_theory.specs.Lists.{same_place}
 use Rattle.elimination_theory.specs.Atoms.{atoms_of}
-use Rattle.elimination_theory.specs.Substitution.{form_at}
-use Rattle.elimination_theory.specs.IntegersPoints.{counted, signed, starts_of, comparison_starts, atom_starts, class_points, next_points, points_with, integer_scale, integer_span, integer_points, integer_elimination}
-use Rattle.elimination_theory.specs.IntegersSubstitution.{where_zero, put_number, along, integer_atom, is_whole, integer_guard, guarded_substitution}
+use Rattle.elimination_theory.specs.Substitution.{form_at, where_zero}
+use Rattle.elimination_theory.specs.Elimination.{integer_elimination}
+use Rattle.elimination_theory.specs.IntegersPoints.{counted, signed, starts_of, comparison_starts, atom_starts, class_points, next_points, points_with, integer_scale, integer_span, integer_points}
+use Rattle.elimination_theory.specs.IntegersSubstitution.{put_number, along, integer_atom, is_whole, integer_guard, guarded_substitution}
 use Rattle.elimination_theory.specs.IntegersTheorems.{IsIntegerPlace}
 use Rattle.elimination_theory.specs.NamesTheorems.{IsNameOf, SubstitutionKeepsNames, PointsHaveNamesOfFormula, EliminationKeepsNames}
-use Rattle.elimination_theory.proofs.Listed.{Among, among_append, flat_map_among, distinct_among}
-use Rattle.elimination_theory.proofs.FieldsSuffice.{every_atom}
+use Rattle.formula_meaning.specs.Some.{Among}
+use Rattle.formula_meaning.proofs.Listed.{among_append, flat_map_among, distinct_among}
+use Rattle.formula_meaning.proofs.EachAtom.{every_all}
 use Rattle.elimination_theory.proofs.IntegerEliminate.{points_suit}
 use Rattle.elimination_theory.proofs.FieldsNames.{Has, HasOther, without_has, still_has, scale_has, put_or_still, exactly_has, beyond_has, neg_zero, AtomNames, names_of_replaced, atom_free, trees_free, field_substitution_names, field_point_names, field_elimination_names}
 
@@ -70,14 +70,10 @@ guard_names PlusInfinity y t = absurd t
 guard_names MinusInfinity y t = absurd t
 guard_names (Periodic j q) y t = absurd t
 
-module _ {P : Atom → Type 0} (all : (a : Atom) → P a) where
-  every_any : (f : Tree) → Every P f
-  every_any f = every_atom P f (λ a m. all a)
-
 pub integer_substitution_names : (x : ℕ) (s : Place) (f : Tree) (y : ℕ) → IsIntegerPlace s → IsPlain f → IsFree (guarded_substitution x s f) y → IsNameOf x s f y
 integer_substitution_names x s f y p plain t =
     ⊎_elim (λ g. inr (guard_names s y g))
-    (⊎_elim (λ u. names_of_replaced (integer_atom x s) x s f y plain (every_any (λ a. integer_atom_names x s a y p) f) u) absurd) t
+    (⊎_elim (λ u. names_of_replaced (integer_atom x s) x s f y plain (every_all _ (λ a. integer_atom_names x s a y p) f) u) absurd) t
 
 -- ---- the test points
 

@@ -1,7 +1,6 @@
 pub mod Fractions
 pub mod LowestTerms
 pub mod FieldsLine
-pub mod Listed
 pub mod FieldsCut
 pub mod FieldsBegin
 pub mod MoreArithmetic
@@ -22,8 +21,6 @@ pub mod IntegerHolds
 pub mod FieldsNear
 pub mod FieldsSubstitute
 pub mod IntegerEliminate
-pub mod FieldsAnswers
-pub mod IntegerAnswers
 pub mod IntegerExamples
 pub mod AtomsDecided
 pub mod Decided
@@ -41,3 +38,13 @@ pub mod FieldsNames
 pub mod IntegersNames
 pub mod FieldsUnique
 pub mod Reduced
+pub mod Simple
+pub mod Meets
+pub mod BothSubstitutions
+pub mod OneStep
+pub mod Answers
+pub mod Samples
+mod Examples
+pub mod SentenceExample
+pub mod Overflow
+pub mod AnswersExample

@@ -1,13 +1,16 @@
 -- Some element and each element of a list: of joined lists, of images, and of lists without repeats.
 use Rattle.std.proofs.Common.{◌≡◌, Bool, true, false, if◌then◌else◌, List, [], ◌∷◌, ◌++◌, map, flat_map, ◌⊎◌, inl, inr, ⊎_elim, subst, refl}
 use Rattle.formula_meaning.specs.Formula.{Formula, Formulas, Yes, No, One, Not, And, Or, Impl, Repl, Equiv, Ex, All, none, also}
-use Rattle.formula_meaning.specs.Some.{SomeOf}
+use Rattle.formula_meaning.specs.Some.{SomeOf, EachOf}
 use Rattle.formula_meaning.specs.Every.{Every, EveryOf}
 use Rattle.formula_meaning.specs.Atom.{Atom}
 use Rattle.formula_meaning.specs.Tree.{Tree}
-use Rattle.elimination_theory.specs.Lists.{without_same, distinct, same_atom}
+use Rattle.formula_meaning.specs.Distinct.{without_same, distinct}
+use Rattle.formula_meaning.specs.Same.{same_atom}
 use Rattle.elimination_theory.specs.Atoms.{atoms_in, atoms_in_all, atoms_of}
-use Rattle.elimination_theory.proofs.Listed.{Among, some_among, among_some, among_left, among_right, among_append, among_flat_map, flat_map_among, among_distinct, distinct_among, atom_same}
+use Rattle.formula_meaning.specs.Some.{Among}
+use Rattle.formula_meaning.proofs.Listed.{some_among, among_some, among_left, among_right, among_append, among_flat_map, flat_map_among, among_distinct, distinct_among}
+use Rattle.formula_meaning.proofs.Same.{atom_same}
 
 pub some_map : {X : Type 0} (P Q : X → Type 0) (xs : List X) → ((x : X) → P x → Q x) → SomeOf P xs → SomeOf Q xs
 some_map P Q xs gives s = let r = some_among P xs s in among_some Q xs r.0 r.1 (gives r.0 r.2)
@@ -54,11 +57,6 @@ some_distinct same sound P xs s = let r = some_among P xs s in among_some P (dis
 
 pub some_of_distinct : {X : Type 0} (same : X → X → Bool) (P : X → Type 0) (xs : List X) → SomeOf P (distinct same xs) → SomeOf P xs
 some_of_distinct same P xs s = let r = some_among P (distinct same xs) s in among_some P xs r.0 (distinct_among same xs r.0 r.1) r.2
-
--- P holds of each element
-abbrev pub EachOf : {X : Type 0} → (X → Type 0) → List X → Type 0
-EachOf P [] = Unit {0}
-EachOf P (x ∷ xs) = P x × EachOf P xs
 
 pub each_left : {X : Type 0} (P : X → Type 0) (xs ys : List X) → EachOf P (xs ++ ys) → EachOf P xs
 each_left P [] ys e = tt
@@ -148,21 +146,9 @@ module _ {A N : Type 0} (P : A → Type 0) where
 pub atoms_of_every : (P : Atom → Type 0) (f : Tree) → Every P f → EachOf P (atoms_of f)
 atoms_of_every P f e = each_distinct same_atom P (atoms_in f) (listed_every P f e)
 
-each_both : {X : Type 0} (P Q : X → Type 0) (xs : List X) → EachOf P xs → EachOf Q xs → EachOf (λ x. P x × Q x) xs
-each_both P Q [] e f = tt
-each_both P Q (x ∷ xs) e f = ((e.0, f.0), each_both P Q xs e.1 f.1)
-
--- each atom has what each has of two kinds
-pub every_both : {A N : Type 0} (P Q : A → Type 0) (f : Formula A N) → Every P f → Every Q f → Every (λ a. P a × Q a) f
-every_both P Q f e g = every_listed (λ a. P a × Q a) f (each_both P Q (atoms_in f) (listed_every P f e) (listed_every Q f g))
-
-each_all : {X : Type 0} (P : X → Type 0) → ((x : X) → P x) → (xs : List X) → EachOf P xs
-each_all P all [] = tt
-each_all P all (x ∷ xs) = (all x, each_all P all xs)
-
--- what all atoms have, each atom of the formula has
-pub every_all : {A N : Type 0} (P : A → Type 0) → ((a : A) → P a) → (f : Formula A N) → Every P f
-every_all P all f = every_listed P f (each_all P all (atoms_in f))
+pub each_map : {X : Type 0} (P Q : X → Type 0) → ((x : X) → P x → Q x) → (xs : List X) → EachOf P xs → EachOf Q xs
+each_map P Q gives [] e = tt
+each_map P Q gives (x ∷ xs) e = (gives x e.0, each_map P Q gives xs e.1)
 
 pub each_mapped : {X Y : Type 0} (P : Y → Type 0) (g : X → Y) (xs : List X) → ((x : X) → P (g x)) → EachOf P (map g xs)
 each_mapped P g [] all = tt

@@ -3,7 +3,8 @@ use Rattle.std.specs.Prelude.{List, [], ◌∷◌, ◌++◌}
 use Rattle.formula_meaning.specs.Formula.{Formula, Formulas, Yes, No, One, Not, And, Or, Impl, Repl, Equiv, Ex, All, none, also}
 use Rattle.formula_meaning.specs.Atom.{Atom}
 use Rattle.formula_meaning.specs.Tree.{Tree}
-use Rattle.elimination_theory.specs.Lists.{distinct, same_atom}
+use Rattle.formula_meaning.specs.Distinct.{distinct}
+use Rattle.formula_meaning.specs.Same.{same_atom}
 
 module _ {A N : Type 0} where
   abbrev mutual

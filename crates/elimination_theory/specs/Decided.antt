@@ -4,7 +4,10 @@ use Rattle.formula_meaning.specs.Context.{Context, Fields}
 use Rattle.formula_meaning.specs.Point.{Point, Of}
 use Rattle.formula_meaning.specs.Formula.{Ex, All, Not}
 use Rattle.formula_meaning.specs.Shape.{IsPlain}
-use Rattle.formula_meaning.specs.Tree.{Tree, TrueAt, InContext, IsFree, Equivalent, negation_normal, negated}
+use Rattle.formula_meaning.specs.Every.{Every}
+use Rattle.formula_meaning.specs.Atom.{Atom, AtomIn, opposite}
+use Rattle.formula_meaning.specs.NegationNormal.{normal_form, normal_form_of_not}
+use Rattle.formula_meaning.specs.Tree.{Tree, TrueAt, InContext, IsFree, Equivalent, IsNegation}
 use Rattle.elimination_theory.specs.Side.{Side}
 use Rattle.elimination_theory.specs.Elimination.{field_elimination}
 
@@ -27,10 +30,20 @@ TruthIsDecided c = (f : Tree) (p : Point ℕ) → InContext c f → Of c p → T
 abbrev pub QuantifiersAreEliminated : Context → Type 0
 QuantifiersAreEliminated c = (f : Tree) → InContext c f → (g : Tree) × IsEliminated c f g
 
--- the negation normal form is true where the formula is, and that of the negation where the formula is not
+-- The lifting from one quantifier to all: where one over a formula built by and and or can be eliminated, so can all, and truth
+-- is decided.
+abbrev pub OneQuantifierSuffices : Context → Type 0
+OneQuantifierSuffices c = QuantifierIsEliminated c → QuantifiersAreEliminated c × TruthIsDecided c
+
+-- The negation normal form is true where the formula is, and that of the negation where the formula is not, whatever atom
+-- is taken as the negation of an atom.
 abbrev pub NegationNormalFormKeepsTruth : Context → Type 0
-NegationNormalFormKeepsTruth c = (f : Tree) (p : Point ℕ) → InContext c f → Of c p →
-    (TrueAt c f p ↔ TrueAt c (negation_normal f) p) × (¬ (TrueAt c f p) ↔ TrueAt c (negated f) p)
+NegationNormalFormKeepsTruth c = (opposite : Atom → Atom) (f : Tree) (p : Point ℕ) → InContext c f → Every (λ a. IsNegation c a (opposite a)) f → Of c p →
+    (TrueAt c f p ↔ TrueAt c (normal_form opposite f) p) × (¬ (TrueAt c f p) ↔ TrueAt c (normal_form_of_not opposite f) p)
+
+-- the opposite of an atom is a negation of it
+abbrev pub OppositeIsNegation : Context → Type 0
+OppositeIsNegation c = (a : Atom) → AtomIn c a → IsNegation c a (opposite a)
 
 -- all is the negation of ex of the negation
 abbrev pub AllIsNotExNot : Context → Type 0

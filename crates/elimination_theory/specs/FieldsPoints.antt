@@ -2,17 +2,17 @@
 use Rattle.std.specs.Prelude.{◌≡◌, ℕ, suc, zero, ◌/◌, ℤ, pos, negsuc, List, [], ◌∷◌, map, flat_map, unsigned_abs, int_div}
 use Rattle.exact_numbers.specs.Divides.{content_of}
 use Rattle.formula_meaning.specs.Some.{SomeOf}
-use Rattle.formula_meaning.specs.Form.{Form, Term, coefficient, without, scale}
+use Rattle.formula_meaning.specs.Form.{Form, Term, coefficient, without, scale, coefficients}
 use Rattle.formula_meaning.specs.Atom.{Atom, Compare, Congruent, Relation, Equals, Differs, Below, AtMost, Above, AtLeast, mirrored}
-use Rattle.formula_meaning.specs.Answer.{Place, Exact, AboveBy, BelowBy, PlusInfinity, MinusInfinity, Periodic}
+use Rattle.formula_meaning.specs.Answer.{Place, Exact, AboveBy, BelowBy, PlusInfinity, MinusInfinity, Periodic, same_place}
 use Rattle.formula_meaning.specs.Tree.{Tree}
-use Rattle.elimination_theory.specs.Lists.{distinct, same_place}
+use Rattle.formula_meaning.specs.Distinct.{distinct}
 use Rattle.elimination_theory.specs.Atoms.{atoms_of}
 use Rattle.elimination_theory.specs.Side.{Side, Lower, Upper, turned}
 
 -- all numbers of a form over a denominator
 abbrev pub numbers_of : Form → ℕ → List ℤ
-numbers_of e d = pos d ∷ e.constant ∷ map (λ (t : Term). t.times) e.terms
+numbers_of e d = pos d ∷ e.constant ∷ coefficients e.terms
 
 -- the greatest common divisor of these numbers
 abbrev pub divisor_of : Form → ℕ → ℕ
@@ -59,9 +59,13 @@ abbrev pub infinity_of : Side → Place
 infinity_of Lower = MinusInfinity
 infinity_of Upper = PlusInfinity
 
--- the test points of a name in a formula: the infinity, then those of each atom; an equal point stands once
+-- the test points of a name in a list of atoms: the infinity, then those of each atom; an equal point stands once
+abbrev pub field_points_of : Side → ℕ → List Atom → List Place
+field_points_of side x atoms = distinct same_place (infinity_of side ∷ flat_map (atom_points side x) atoms)
+
+-- the test points of a name in a formula
 abbrev pub field_points : Side → ℕ → Tree → List Place
-field_points side x f = distinct same_place (infinity_of side ∷ flat_map (atom_points side x) (atoms_of f))
+field_points side x f = field_points_of side x (atoms_of f)
 
 -- no number above 1 divides all numbers of the place
 abbrev pub IsInLowestTerms : Place → Type 0

@@ -1,9 +1,9 @@
 -- A name put at a place of the ordered fields (Loos and Weispfenning): the formula that results says nothing of infinitesimals.
-use Rattle.std.specs.Prelude.{ℕ, suc, zero, ◌<◌, ℤ, pos, negsuc, neg_ℤ, List, [], ◌∷◌}
+use Rattle.std.specs.Prelude.{ℕ, suc, zero, ◌<◌, ℤ, pos, negsuc, neg_ℤ}
 use Rattle.formula_meaning.specs.Formula.{Yes, No, One}
 use Rattle.formula_meaning.specs.Form.{Form, coefficient}
 use Rattle.formula_meaning.specs.Atom.{Atom, Compare, Congruent, Relation, Equals, Differs, Below, AtMost, Above, AtLeast}
-use Rattle.formula_meaning.specs.Answer.{Answer, Place, Exact, AboveBy, BelowBy, PlusInfinity, MinusInfinity, Periodic}
+use Rattle.formula_meaning.specs.Answer.{Place, Exact, AboveBy, BelowBy, PlusInfinity, MinusInfinity, Periodic}
 use Rattle.formula_meaning.specs.Replaced.{replaced}
 use Rattle.formula_meaning.specs.Tree.{Tree}
 use Rattle.elimination_theory.specs.Substitution.{form_at, beyond, exactly}
@@ -50,11 +50,6 @@ field_atom x s (Congruent holds n f) = One (Congruent holds n f)
 abbrev pub field_substitution : ℕ → Place → Tree → Tree
 field_substitution x s f = replaced (field_atom x s) (λ y. y) f
 
--- a formula with the answers put in, the last one first
-abbrev pub field_substitutions : List Answer → Tree → Tree
-field_substitutions [] f = f
-field_substitutions (a ∷ rest) f = field_substitution a.name a.place (field_substitutions rest f)
-
 -- the places of the ordered fields: those over a positive denominator, and the infinities
 abbrev pub IsFieldPlace : Place → Type 0
 IsFieldPlace (Exact e d) = 0 < d
@@ -63,8 +58,3 @@ IsFieldPlace (BelowBy e d) = 0 < d
 IsFieldPlace PlusInfinity = Unit {0}
 IsFieldPlace MinusInfinity = Unit {0}
 IsFieldPlace (Periodic a q) = ⊥
-
--- each answer is at a place of the ordered fields
-abbrev pub AreFieldAnswers : List Answer → Type 0
-AreFieldAnswers [] = Unit {0}
-AreFieldAnswers (a ∷ rest) = IsFieldPlace a.place × AreFieldAnswers rest

@@ -1,17 +1,17 @@
 -- The theorems of elimination over the ordered fields, as statements.
-use Rattle.std.specs.Prelude.{ℕ, ◌↔◌, List}
+use Rattle.std.specs.Prelude.{ℕ, ◌↔◌}
 use Rattle.formula_meaning.specs.Context.{Fields}
 use Rattle.formula_meaning.specs.Point.{Point, Of}
 use Rattle.formula_meaning.specs.Formula.{Ex, One}
 use Rattle.formula_meaning.specs.Some.{SomeOf}
 use Rattle.formula_meaning.specs.Shape.{IsPlain}
 use Rattle.formula_meaning.specs.Atom.{Atom, AtomIn}
-use Rattle.formula_meaning.specs.Answer.{Answer, Place, Holds}
+use Rattle.formula_meaning.specs.Answer.{Place, Holds}
 use Rattle.formula_meaning.specs.Tree.{Tree, TrueAt, InContext}
 use Rattle.elimination_theory.specs.Side.{Side}
 use Rattle.elimination_theory.specs.Substitution.{at_place}
 use Rattle.elimination_theory.specs.FieldsPoints.{field_points}
-use Rattle.elimination_theory.specs.FieldsSubstitution.{field_atom, field_substitution, field_substitutions, IsFieldPlace, AreFieldAnswers}
+use Rattle.elimination_theory.specs.FieldsSubstitution.{field_atom, field_substitution, IsFieldPlace}
 
 -- An atom's substitution is true exactly where the place makes the atom true.
 abbrev pub FieldAtomIsExact : Type 0
@@ -27,8 +27,3 @@ FieldSubstitutionIsExact = (x : ℕ) (s : Place) (f : Tree) (p : Point ℕ) → 
 abbrev pub FieldTestPointsSuffice : Type 0
 FieldTestPointsSuffice = (side : Side) (x : ℕ) (f : Tree) (p : Point ℕ) → IsPlain f → InContext Fields f → Of Fields p →
     TrueAt Fields (Ex x f) p ↔ SomeOf (λ s. Holds Fields (at_place x s) f p) (field_points side x f)
-
--- Answers put in, the last one first, give a formula that is true exactly where the answers make the formula true.
-abbrev pub FieldAnswersHold : Type 0
-FieldAnswersHold = (answers : List Answer) (f : Tree) (p : Point ℕ) → AreFieldAnswers answers → IsPlain f → InContext Fields f → Of Fields p →
-    Holds Fields answers f p ↔ TrueAt Fields (field_substitutions answers f) p

@@ -3,12 +3,9 @@ use Rattle.std.specs.Prelude.{ℕ, ℤ, pos, negsuc, zero, suc, ◌*◌, ◌/◌
 use Rattle.exact_numbers.specs.Divides.{lcm_of}
 use Rattle.formula_meaning.specs.Form.{Form, coefficient, without, scale, plus}
 use Rattle.formula_meaning.specs.Atom.{Atom, Compare, Congruent, Relation, Equals, Differs, Below, AtMost, Above, AtLeast, mirrored, form_of}
-use Rattle.formula_meaning.specs.Answer.{Place, Exact, Periodic}
+use Rattle.formula_meaning.specs.Answer.{Place, Exact, Periodic, same_place}
 use Rattle.formula_meaning.specs.Tree.{Tree}
-use Rattle.formula_meaning.specs.Formula.{Or}
-use Rattle.elimination_theory.specs.IntegersSubstitution.{guarded_substitution}
-use Rattle.elimination_theory.specs.Elimination.{trees_at}
-use Rattle.elimination_theory.specs.Lists.{distinct, same_place}
+use Rattle.formula_meaning.specs.Distinct.{distinct}
 use Rattle.elimination_theory.specs.Atoms.{atoms_of}
 use Rattle.elimination_theory.specs.Side.{Side, Lower, Upper, turned}
 
@@ -80,21 +77,27 @@ next_points side l d b = map (λ j. Exact (plus b (signed side (pos j))) l) (cou
 abbrev pub points_with : Side → ℕ → ℕ → ℕ → List Atom → List Place
 points_with side l d x atoms = class_points side (d / l) ++ flat_map (next_points side l d) (flat_map (atom_starts side l x) atoms)
 
--- the scale and the span of a name in a formula
+-- the span of a name in a list of atoms, over their scale
+abbrev pub own_span : ℕ → List Atom → ℕ
+own_span x atoms = span_of (scale_of x atoms) x atoms
+
+-- how many test points a list of atoms gives, equal points counted as often as they are formed
+abbrev pub integer_count_of : Side → ℕ → List Atom → ℕ
+integer_count_of side x atoms = length (points_with side (scale_of x atoms) (own_span x atoms) x atoms)
+
+-- the test points of a name in a list of atoms; an equal point stands once
+abbrev pub integer_points_of : Side → ℕ → List Atom → List Place
+integer_points_of side x atoms = distinct same_place (points_with side (scale_of x atoms) (own_span x atoms) x atoms)
+
+-- the same of a name in a formula
 abbrev pub integer_scale : ℕ → Tree → ℕ
 integer_scale x f = scale_of x (atoms_of f)
 
 abbrev pub integer_span : ℕ → Tree → ℕ
-integer_span x f = span_of (integer_scale x f) x (atoms_of f)
+integer_span x f = own_span x (atoms_of f)
 
--- how many test points there are, equal points counted as often as they are formed
 abbrev pub integer_count : Side → ℕ → Tree → ℕ
-integer_count side x f = length (points_with side (integer_scale x f) (integer_span x f) x (atoms_of f))
+integer_count side x f = integer_count_of side x (atoms_of f)
 
--- the test points of a name in a formula; an equal point stands once
 abbrev pub integer_points : Side → ℕ → Tree → List Place
-integer_points side x f = distinct same_place (points_with side (integer_scale x f) (integer_span x f) x (atoms_of f))
-
--- f with the test points of a side put in for x, each with its guard
-abbrev pub integer_elimination : Side → ℕ → Tree → Tree
-integer_elimination side x f = Or (trees_at (λ s. guarded_substitution x s f) (integer_points side x f))
+integer_points side x f = integer_points_of side x (atoms_of f)

@@ -1,21 +1,21 @@
 -- The theorems of elimination over the integers, as statements.
-use Rattle.std.specs.Prelude.{◌+◌, length, flat_map, ◌*◌, ◌/◌, unsigned_abs, ◌≡◌, ℕ, ℤ, pos, ◌*ℤ◌, ◌<◌, ◌↔◌, List, [], ◌∷◌}
+use Rattle.std.specs.Prelude.{◌+◌, length, flat_map, ◌*◌, ◌/◌, unsigned_abs, ◌≡◌, ℕ, ℤ, pos, ◌*ℤ◌, ◌<◌, ◌↔◌, List}
 use Rattle.exact_numbers.specs.Divides.{Divides}
 use Rattle.formula_meaning.specs.Context.{Integers}
 use Rattle.formula_meaning.specs.Point.{Point, Of}
 use Rattle.formula_meaning.specs.Formula.{Ex, One}
 use Rattle.formula_meaning.specs.Every.{Every}
-use Rattle.formula_meaning.specs.Some.{SomeOf}
+use Rattle.formula_meaning.specs.Some.{SomeOf, EachOf}
 use Rattle.formula_meaning.specs.Shape.{IsPlain}
 use Rattle.formula_meaning.specs.Form.{coefficient}
-use Rattle.formula_meaning.specs.Atom.{form_of, Atom, Compare, Congruent}
-use Rattle.formula_meaning.specs.Answer.{Answer, Place, Exact, AboveBy, BelowBy, PlusInfinity, MinusInfinity, Periodic, Holds}
+use Rattle.formula_meaning.specs.Atom.{form_of, Atom, AtomIn, Compare, Congruent}
+use Rattle.formula_meaning.specs.Answer.{Place, Exact, AboveBy, BelowBy, PlusInfinity, MinusInfinity, Periodic, Holds}
 use Rattle.formula_meaning.specs.Tree.{Tree, TrueAt, InContext, Equivalent}
 use Rattle.elimination_theory.specs.Substitution.{at_place}
-use Rattle.elimination_theory.specs.Atoms.{atoms_of}
 use Rattle.elimination_theory.specs.Side.{Side}
-use Rattle.elimination_theory.specs.IntegersSubstitution.{integer_atom, integer_substitution, integer_substitutions, integer_guard}
-use Rattle.elimination_theory.specs.IntegersPoints.{integer_count, atom_starts, integer_scale, integer_span, integer_points, integer_elimination}
+use Rattle.elimination_theory.specs.IntegersSubstitution.{integer_atom, integer_substitution, integer_guard}
+use Rattle.elimination_theory.specs.Elimination.{integer_elimination}
+use Rattle.elimination_theory.specs.IntegersPoints.{scale_of, own_span, integer_count_of, atom_starts, integer_scale, integer_span, integer_points}
 
 -- a step by the period takes the atom's form to a number of the same remainder
 abbrev pub IsPeriodOf : ℕ → ℤ → Atom → Type 0
@@ -64,16 +64,6 @@ IntegerTestPointsSuffice = (side : Side) (x : ℕ) (f : Tree) (p : Point ℕ) �
 abbrev pub IntegerEliminationIsExact : Type 0
 IntegerEliminationIsExact = (side : Side) (x : ℕ) (f : Tree) → IsPlain f → InContext Integers f → Equivalent Integers (Ex x f) (integer_elimination side x f)
 
--- each answer is at a place of the integers, for each atom of the formula into which it is put
-abbrev pub AreIntegerAnswers : List Answer → Tree → Type 0
-AreIntegerAnswers [] f = Unit {0}
-AreIntegerAnswers (a ∷ rest) f = IsIntegerPlace a.place × Every (Suits a.name a.place) (integer_substitutions rest f) × AreIntegerAnswers rest f
-
--- Answers put in, the last one first, give a formula that is true exactly where the answers make the formula true.
-abbrev pub IntegerAnswersHold : Type 0
-IntegerAnswersHold = (answers : List Answer) (f : Tree) (p : Point ℕ) → AreIntegerAnswers answers f → IsPlain f → InContext Integers f → Of Integers p →
-    Holds Integers answers f p ↔ TrueAt Integers (integer_substitutions answers f) p
-
 -- n is a multiple of c, where c is not 0
 abbrev pub IsMultipleOf : ℤ → ℕ → Type 0
 IsMultipleOf c n = ¬ (c ≡ pos 0) → Divides c (pos n)
@@ -83,17 +73,28 @@ abbrev pub SpansAtom : ℕ → ℕ → ℕ → Atom → Type 0
 SpansAtom x l n (Compare r f) = Unit {0}
 SpansAtom x l n (Congruent holds m f) = ¬ (coefficient x f ≡ pos 0) → Divides (pos (m * (l / unsigned_abs (coefficient x f)))) (pos n)
 
--- The scale is positive, and the common multiples of all coefficients of x are its multiples.
+-- The scale is positive, and the common multiples of all coefficients of x are its multiples: in a list of atoms,
+abbrev pub ScaleIsLeast : Type 0
+ScaleIsLeast = (x : ℕ) (atoms : List Atom) → 0 < scale_of x atoms
+    × ((n : ℕ) → EachOf (λ a. IsMultipleOf (coefficient x (form_of a)) n) atoms ↔ Divides (pos (scale_of x atoms)) (pos n))
+
+-- and in a formula.
 abbrev pub IntegerScaleIsLeast : Type 0
 IntegerScaleIsLeast = (x : ℕ) (f : Tree) → 0 < integer_scale x f
     × ((n : ℕ) → Every (λ a. IsMultipleOf (coefficient x (form_of a)) n) f ↔ Divides (pos (integer_scale x f)) (pos n))
 
--- The span is positive, and the common multiples of the scale and of all moduli as they are multiplied are its multiples.
+-- The span is positive, and the common multiples of the scale and of all moduli as they are multiplied are its multiples:
+-- in a list of atoms,
+abbrev pub SpanIsLeast : Type 0
+SpanIsLeast = (x : ℕ) (atoms : List Atom) → EachOf (AtomIn Integers) atoms → 0 < own_span x atoms
+    × ((n : ℕ) → (Divides (pos (scale_of x atoms)) (pos n) × EachOf (SpansAtom x (scale_of x atoms) n) atoms) ↔ Divides (pos (own_span x atoms)) (pos n))
+
+-- and in a formula.
 abbrev pub IntegerSpanIsLeast : Type 0
 IntegerSpanIsLeast = (x : ℕ) (f : Tree) → InContext Integers f → 0 < integer_span x f
     × ((n : ℕ) → (Divides (pos (integer_scale x f)) (pos n) × Every (SpansAtom x (integer_scale x f) n) f) ↔ Divides (pos (integer_span x f)) (pos n))
 
 -- There are as many test points as the period, and as many as the span for each atom at which a comparison starts.
 abbrev pub IntegerPointsAreCounted : Type 0
-IntegerPointsAreCounted = (side : Side) (x : ℕ) (f : Tree) → integer_count side x f ≡ integer_span x f / integer_scale x f
-    + integer_span x f * length (flat_map (atom_starts side (integer_scale x f) x) (atoms_of f))
+IntegerPointsAreCounted = (side : Side) (x : ℕ) (atoms : List Atom) → integer_count_of side x atoms ≡ own_span x atoms / scale_of x atoms
+    + own_span x atoms * length (flat_map (atom_starts side (scale_of x atoms) x) atoms)

@@ -1,4 +1,3 @@
-pub mod Lists
 pub mod Atoms
 pub mod Side
 pub mod Substitution
@@ -16,3 +15,10 @@ pub mod FieldsExample
 pub mod FieldsSamples
 pub mod PointsTheorems
 pub mod NamesTheorems
+pub mod BothTheories
+pub mod Steps
+pub mod Answers
+pub mod Samples
+pub mod SentenceExample
+pub mod Overflow
+pub mod AnswersExample

@@ -2,21 +2,25 @@
 
 ghost use Rattle.elimination_theory.specs.IntegersExamples.{ClassesAreNeeded, PointsOfTwoXIsA, SubstitutionOfTwoXIsA, PointsOfEvenAboveA, SpanIsNeeded, GuardIsNeeded};
 ghost use Rattle.elimination_theory.specs.IntegersSample.{IntegerSampleIsTrue, IntegerSampleExists, IntegerSampleIsUnique};
-ghost use Rattle.elimination_theory.specs.IntegersTheorems.{IntegerPointsAreCounted, IntegerScaleIsLeast, IntegerSpanIsLeast, IntegerTestPointsSuffice, IntegerTestPointsSuit, IntegerAtomIsExact, IntegerSubstitutionIsExact, IntegerAnswersHold, IntegerEliminationIsExact};
+ghost use Rattle.elimination_theory.specs.Overflow.{SpanLimits};
+ghost use Rattle.elimination_theory.specs.IntegersTheorems.{IntegerPointsAreCounted, ScaleIsLeast, SpanIsLeast, IntegerScaleIsLeast, IntegerSpanIsLeast, IntegerTestPointsSuffice, IntegerTestPointsSuit, IntegerAtomIsExact, IntegerSubstitutionIsExact, IntegerEliminationIsExact};
 
 /// For a formula built by `and` and `or`, `ex(x, f)` is true exactly where some test point of the side makes `f` true.
 pub fn integer_test_points_suffice()
     ensures { IntegerTestPointsSuffice }
 {}
 
-/// The scale is the least common multiple of all coefficients of `x`.
+/// The scale is the least common multiple of all coefficients of `x`, in a list of atoms and in a formula.
 pub fn integer_scale_is_least()
-    ensures { IntegerScaleIsLeast }
+    ensures atoms { ScaleIsLeast }
+    ensures formula { IntegerScaleIsLeast }
 {}
 
-/// The span is the least common multiple of the scale and of the moduli of all congruences, multiplied as `x` is to the scale.
+/// The span is the least common multiple of the scale and of the moduli of all congruences, multiplied as `x` is to the scale,
+/// in a list of atoms and in a formula.
 pub fn integer_span_is_least()
-    ensures { IntegerSpanIsLeast }
+    ensures atoms { SpanIsLeast }
+    ensures formula { IntegerSpanIsLeast }
 {}
 
 /// There are as many test points as the period, and as many as the span for each atom at which a comparison starts.
@@ -37,11 +41,6 @@ pub fn integer_atom_is_exact()
 /// The guard and a formula built by `and` and `or`, with `x` at a place, are true exactly where the place makes the formula true.
 pub fn integer_substitution_is_exact()
     ensures { IntegerSubstitutionIsExact }
-{}
-
-/// Answers put in from the last to the first, with their guards, give a formula that is true exactly where the nested answers hold.
-pub fn nested_integer_answers_hold()
-    ensures { IntegerAnswersHold }
 {}
 
 /// `ex(x, f)` is equivalent to `f` with the test points of a side put in, each with its guard.
@@ -93,4 +92,9 @@ pub fn residue_classes_are_needed()
 /// Without the guard `2*x = a` would be true at `a = 1`.
 pub fn guard_is_needed()
     ensures { GuardIsNeeded }
+{}
+
+/// Where the span is within the limit on numbers, so are the scale and each multiplied modulus.
+pub fn span_limits_all()
+    ensures { SpanLimits }
 {}

@@ -5,4 +5,5 @@ pub mod fields;
 pub mod integers;
 pub mod names;
 pub mod points;
+pub mod steps;
 pub mod truth;

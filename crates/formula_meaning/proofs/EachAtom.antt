@@ -21,6 +21,25 @@ module _ {A N : Type 0} (P Q : A → Type 0) (gives : (a : A) → P a → Q a) w
     every_map_of none h = h
     every_map_of (also f fs) h = (every_map f h.0, every_map_of fs h.1)
 
+module _ {A N : Type 0} (P : A → Type 0) (all : (a : A) → P a) where
+  mutual
+    pub every_all : (f : Formula A N) → Every P f
+    every_all Yes = tt
+    every_all No = tt
+    every_all (One a) = all a
+    every_all (Not f) = every_all f
+    every_all (And fs) = every_all_of fs
+    every_all (Or fs) = every_all_of fs
+    every_all (Impl f g) = (every_all f, every_all g)
+    every_all (Repl f g) = (every_all f, every_all g)
+    every_all (Equiv f g) = (every_all f, every_all g)
+    every_all (Ex x f) = every_all f
+    every_all (All x f) = every_all f
+
+    every_all_of : (fs : Formulas A N) → EveryOf P fs
+    every_all_of none = tt
+    every_all_of (also f fs) = (every_all f, every_all_of fs)
+
 module _ {A N : Type 0} (K : N → Type 0) (all : (x : N) → K x) where
   mutual
     pub every_bound : (f : Formula A N) → EveryBound K f

@@ -44,3 +44,23 @@ module _ {A B N M : Type 0} (mentions : B → M → Type 0) (by : A → Formula 
     free_in_replaced : (fs : Formulas A N) → ArePlain fs → EveryOf (λ a. Free mentions (by a) x → P) fs → FreeInSome mentions (all_replaced by rename fs) x → P
     free_in_replaced none s h t = absurd t
     free_in_replaced (also f fs) s h t = ⊎_elim (free_replaced f s.0 h.0) (free_in_replaced fs s.1 h.1) t
+
+module _ {A B N M : Type 0} (mentions : B → M → Type 0) (by with_other : A → Formula B M) (rename : N → M) (x : M) where
+  mutual
+    -- where each second replacement has no other names than the first, neither has the formula
+    pub fewer_replaced : (f : Formula A N) → Every (λ a. Free mentions (with_other a) x → Free mentions (by a) x) f → Free mentions (replaced with_other rename f) x → Free mentions (replaced by rename f) x
+    fewer_replaced Yes h t = t
+    fewer_replaced No h t = t
+    fewer_replaced (One a) h t = h t
+    fewer_replaced (Not f) h t = fewer_replaced f h t
+    fewer_replaced (And fs) h t = fewer_in_replaced fs h t
+    fewer_replaced (Or fs) h t = fewer_in_replaced fs h t
+    fewer_replaced (Impl f g) h t = ⊎_elim (λ u. inl (fewer_replaced f h.0 u)) (λ u. inr (fewer_replaced g h.1 u)) t
+    fewer_replaced (Repl f g) h t = ⊎_elim (λ u. inl (fewer_replaced f h.0 u)) (λ u. inr (fewer_replaced g h.1 u)) t
+    fewer_replaced (Equiv f g) h t = ⊎_elim (λ u. inl (fewer_replaced f h.0 u)) (λ u. inr (fewer_replaced g h.1 u)) t
+    fewer_replaced (Ex y f) h t = (t.0, fewer_replaced f h t.1)
+    fewer_replaced (All y f) h t = (t.0, fewer_replaced f h t.1)
+
+    fewer_in_replaced : (fs : Formulas A N) → EveryOf (λ a. Free mentions (with_other a) x → Free mentions (by a) x) fs → FreeInSome mentions (all_replaced with_other rename fs) x → FreeInSome mentions (all_replaced by rename fs) x
+    fewer_in_replaced none h t = t
+    fewer_in_replaced (also f fs) h t = ⊎_elim (λ u. inl (fewer_replaced f h.0 u)) (λ u. inr (fewer_in_replaced fs h.1 u)) t

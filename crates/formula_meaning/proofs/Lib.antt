@@ -1,4 +1,9 @@
+pub mod Iff
 pub mod Values
+pub mod Listed
+pub mod Once
+pub mod Same
+pub mod Sizes
 pub mod Relations
 pub mod SamePoint
 pub mod TreeFiner
@@ -14,3 +19,7 @@ pub mod FreeReplaced
 pub mod NormalShape
 pub mod TreeNormal
 pub mod TreeReplacing
+pub mod Fold
+pub mod Equivalence
+pub mod TreeNames
+mod Examples

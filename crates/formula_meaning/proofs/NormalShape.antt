@@ -1,5 +1,5 @@
 -- The negation normal form: its shape, its atoms and its free names.
-use Rattle.std.proofs.Common.{◌⊎◌, inl, inr, ⊎_elim, ◌↔◌}
+use Rattle.std.proofs.Common.{◌⊎◌, inl, inr, ⊎_elim}
 use Rattle.formula_meaning.specs.Formula.{Formula, Formulas, Yes, No, One, Not, And, Or, Impl, Repl, Equiv, Ex, All, none, also}
 use Rattle.formula_meaning.specs.Every.{Every, EveryOf, Free, FreeInSome}
 use Rattle.formula_meaning.specs.Shape.{IsNegationNormal, AreNegationNormal, IsQuantifierFree, AreQuantifierFree}
@@ -49,13 +49,13 @@ module _ {A N : Type 0} (opposite : A → A) where
     normal_forms_quantifier_free none h = (tt, tt)
     normal_forms_quantifier_free (also f fs) h = let i = normal_form_quantifier_free f h.0 in let j = normal_forms_quantifier_free fs h.1 in ((i.0, j.0), (i.1, j.1))
 
-  -- what each atom has, and its opposite then has, each atom of the normal form has
-  module _ (P : A → Type 0) (kept : (a : A) → P a → P (opposite a)) where
+  -- what each atom and its opposite have, each atom of the normal form has
+  module _ (P : A → Type 0) where
     mutual
-      pub normal_form_every : (f : Formula A N) → Every P f → Every P (normal_form opposite f) × Every P (normal_form_of_not opposite f)
+      pub normal_form_every : (f : Formula A N) → Every (λ a. P a × P (opposite a)) f → Every P (normal_form opposite f) × Every P (normal_form_of_not opposite f)
       normal_form_every Yes h = (tt, tt)
       normal_form_every No h = (tt, tt)
-      normal_form_every (One a) h = (h, kept a h)
+      normal_form_every (One a) h = h
       normal_form_every (Not f) h = let i = normal_form_every f h in (i.1, i.0)
       normal_form_every (And fs) h = normal_forms_every fs h
       normal_form_every (Or fs) h = normal_forms_every fs h
@@ -67,40 +67,64 @@ module _ {A N : Type 0} (opposite : A → A) where
       normal_form_every (Ex x f) h = normal_form_every f h
       normal_form_every (All x f) h = normal_form_every f h
 
-      normal_forms_every : (fs : Formulas A N) → EveryOf P fs → EveryOf P (normal_forms opposite fs) × EveryOf P (normal_forms_of_not opposite fs)
+      normal_forms_every : (fs : Formulas A N) → EveryOf (λ a. P a × P (opposite a)) fs → EveryOf P (normal_forms opposite fs) × EveryOf P (normal_forms_of_not opposite fs)
       normal_forms_every none h = (tt, tt)
       normal_forms_every (also f fs) h = let i = normal_form_every f h.0 in let j = normal_forms_every fs h.1 in ((i.0, j.0), (i.1, j.1))
 
-  -- the free names stay where an atom and its opposite have the same names
-  module _ (mentions : A → N → Type 0) (kept : (a : A) (x : N) → mentions a x ↔ mentions (opposite a) x) where
-    either : {P Q R S : Type 0} → P ↔ Q → R ↔ S → (P ⊎ R) ↔ (Q ⊎ (S ⊎ ⊥))
-    either i j = (⊎_elim (λ t. inl (i.0 t)) (λ t. inr (inl (j.0 t))), ⊎_elim (λ t. inl (i.1 t)) (⊎_elim (λ t. inr (j.1 t)) absurd))
+  -- a name that is free in the normal form is free in the formula, and the other way, where it is so for each atom and its opposite
+  module _ (mentions : A → N → Type 0) (x : N) where
+    pair : {P Q R S : Type 0} → (P → R) → (Q → S) → P ⊎ (Q ⊎ ⊥) → R ⊎ S
+    pair f g = ⊎_elim (λ t. inl (f t)) (⊎_elim (λ t. inr (g t)) absurd)
 
-    -- four times: each of two formulas in both polarities
-    four : {P Q R S T U : Type 0} → P ↔ Q → R ↔ S → P ↔ T → R ↔ U → (P ⊎ R) ↔ ((Q ⊎ (S ⊎ ⊥)) ⊎ ((T ⊎ (U ⊎ ⊥)) ⊎ ⊥))
-    four i j k l = (
-      λ t. inl ((either i j).0 t),
-      ⊎_elim (λ t. (either i j).1 t) (⊎_elim (λ t. (either k l).1 t) absurd),
-    )
+    -- each of two formulas in both polarities
+    pairs : {P Q S T R U : Type 0} → (P → R) → (Q → U) → (S → R) → (T → U) → (P ⊎ (Q ⊎ ⊥)) ⊎ ((S ⊎ (T ⊎ ⊥)) ⊎ ⊥) → R ⊎ U
+    pairs f g h i = ⊎_elim (pair f g) (⊎_elim (pair h i) absurd)
+
+    unpaired : {P Q R S : Type 0} → (R → P) → (S → Q) → R ⊎ S → P ⊎ (Q ⊎ ⊥)
+    unpaired f g = ⊎_elim (λ t. inl (f t)) (λ t. inr (inl (g t)))
 
     mutual
-      pub normal_form_free : (f : Formula A N) (x : N) → (Free mentions f x ↔ Free mentions (normal_form opposite f) x) × (Free mentions f x ↔ Free mentions (normal_form_of_not opposite f) x)
-      normal_form_free Yes x = ((λ t. t, λ t. t), (λ t. t, λ t. t))
-      normal_form_free No x = ((λ t. t, λ t. t), (λ t. t, λ t. t))
-      normal_form_free (One a) x = ((λ t. t, λ t. t), kept a x)
-      normal_form_free (Not f) x = let i = normal_form_free f x in (i.1, i.0)
-      normal_form_free (And fs) x = normal_forms_free fs x
-      normal_form_free (Or fs) x = normal_forms_free fs x
-      normal_form_free (Impl f g) x = let i = normal_form_free f x in let j = normal_form_free g x in (either i.1 j.0, either i.0 j.1)
-      normal_form_free (Repl f g) x = let i = normal_form_free f x in let j = normal_form_free g x in (either i.0 j.1, either i.1 j.0)
-      normal_form_free (Equiv f g) x = let i = normal_form_free f x in let j = normal_form_free g x in (four i.0 j.0 i.1 j.1, four i.0 j.1 i.1 j.0)
-      normal_form_free (Ex y f) x = let i = normal_form_free f x in ((λ t. (t.0, i.0.0 t.1), λ t. (t.0, i.0.1 t.1)), (λ t. (t.0, i.1.0 t.1), λ t. (t.0, i.1.1 t.1)))
-      normal_form_free (All y f) x = let i = normal_form_free f x in ((λ t. (t.0, i.0.0 t.1), λ t. (t.0, i.0.1 t.1)), (λ t. (t.0, i.1.0 t.1), λ t. (t.0, i.1.1 t.1)))
+      pub normal_form_brings : (f : Formula A N) → Every (λ a. mentions (opposite a) x → mentions a x) f →
+          (Free mentions (normal_form opposite f) x → Free mentions f x) × (Free mentions (normal_form_of_not opposite f) x → Free mentions f x)
+      normal_form_brings Yes h = (λ t. t, λ t. t)
+      normal_form_brings No h = (λ t. t, λ t. t)
+      normal_form_brings (One a) h = (λ t. t, h)
+      normal_form_brings (Not f) h = let i = normal_form_brings f h in (i.1, i.0)
+      normal_form_brings (And fs) h = normal_forms_bring fs h
+      normal_form_brings (Or fs) h = normal_forms_bring fs h
+      normal_form_brings (Impl f g) h = let i = normal_form_brings f h.0 in let j = normal_form_brings g h.1 in (pair i.1 j.0, pair i.0 j.1)
+      normal_form_brings (Repl f g) h = let i = normal_form_brings f h.0 in let j = normal_form_brings g h.1 in (pair i.0 j.1, pair i.1 j.0)
+      normal_form_brings (Equiv f g) h = let i = normal_form_brings f h.0 in let j = normal_form_brings g h.1 in (pairs i.0 j.0 i.1 j.1, pairs i.0 j.1 i.1 j.0)
+      normal_form_brings (Ex y f) h = let i = normal_form_brings f h in (λ t. (t.0, i.0 t.1), λ t. (t.0, i.1 t.1))
+      normal_form_brings (All y f) h = let i = normal_form_brings f h in (λ t. (t.0, i.0 t.1), λ t. (t.0, i.1 t.1))
 
-      normal_forms_free : (fs : Formulas A N) (x : N) → (FreeInSome mentions fs x ↔ FreeInSome mentions (normal_forms opposite fs) x) × (FreeInSome mentions fs x ↔ FreeInSome mentions (normal_forms_of_not opposite fs) x)
-      normal_forms_free none x = ((λ t. t, λ t. t), (λ t. t, λ t. t))
-      normal_forms_free (also f fs) x =
-          let i = normal_form_free f x in let j = normal_forms_free fs x in (
-            (⊎_elim (λ t. inl (i.0.0 t)) (λ t. inr (j.0.0 t)), ⊎_elim (λ t. inl (i.0.1 t)) (λ t. inr (j.0.1 t))),
-            (⊎_elim (λ t. inl (i.1.0 t)) (λ t. inr (j.1.0 t)), ⊎_elim (λ t. inl (i.1.1 t)) (λ t. inr (j.1.1 t))),
-          )
+      normal_forms_bring : (fs : Formulas A N) → EveryOf (λ a. mentions (opposite a) x → mentions a x) fs →
+          (FreeInSome mentions (normal_forms opposite fs) x → FreeInSome mentions fs x) × (FreeInSome mentions (normal_forms_of_not opposite fs) x → FreeInSome mentions fs x)
+      normal_forms_bring none h = (λ t. t, λ t. t)
+      normal_forms_bring (also f fs) h =
+          let i = normal_form_brings f h.0 in let j = normal_forms_bring fs h.1 in
+          (⊎_elim (λ t. inl (i.0 t)) (λ t. inr (j.0 t)), ⊎_elim (λ t. inl (i.1 t)) (λ t. inr (j.1 t)))
+
+    mutual
+      pub normal_form_keeps : (f : Formula A N) → Every (λ a. mentions a x → mentions (opposite a) x) f →
+          (Free mentions f x → Free mentions (normal_form opposite f) x) × (Free mentions f x → Free mentions (normal_form_of_not opposite f) x)
+      normal_form_keeps Yes h = (λ t. t, λ t. t)
+      normal_form_keeps No h = (λ t. t, λ t. t)
+      normal_form_keeps (One a) h = (λ t. t, h)
+      normal_form_keeps (Not f) h = let i = normal_form_keeps f h in (i.1, i.0)
+      normal_form_keeps (And fs) h = normal_forms_keep fs h
+      normal_form_keeps (Or fs) h = normal_forms_keep fs h
+      normal_form_keeps (Impl f g) h = let i = normal_form_keeps f h.0 in let j = normal_form_keeps g h.1 in (unpaired i.1 j.0, unpaired i.0 j.1)
+      normal_form_keeps (Repl f g) h = let i = normal_form_keeps f h.0 in let j = normal_form_keeps g h.1 in (unpaired i.0 j.1, unpaired i.1 j.0)
+      normal_form_keeps (Equiv f g) h =
+          let i = normal_form_keeps f h.0 in let j = normal_form_keeps g h.1 in
+          (λ t. inl (unpaired i.0 j.0 t), λ t. inl (unpaired i.0 j.1 t))
+      normal_form_keeps (Ex y f) h = let i = normal_form_keeps f h in (λ t. (t.0, i.0 t.1), λ t. (t.0, i.1 t.1))
+      normal_form_keeps (All y f) h = let i = normal_form_keeps f h in (λ t. (t.0, i.0 t.1), λ t. (t.0, i.1 t.1))
+
+      normal_forms_keep : (fs : Formulas A N) → EveryOf (λ a. mentions a x → mentions (opposite a) x) fs →
+          (FreeInSome mentions fs x → FreeInSome mentions (normal_forms opposite fs) x) × (FreeInSome mentions fs x → FreeInSome mentions (normal_forms_of_not opposite fs) x)
+      normal_forms_keep none h = (λ t. t, λ t. t)
+      normal_forms_keep (also f fs) h =
+          let i = normal_form_keeps f h.0 in let j = normal_forms_keep fs h.1 in
+          (⊎_elim (λ t. inl (i.0 t)) (λ t. inr (j.0 t)), ⊎_elim (λ t. inl (i.1 t)) (λ t. inr (j.1 t)))

@@ -1,4 +1,6 @@
 -- The shape and the atoms of a formula whose atoms are replaced.
+use Rattle.std.proofs.Common.{◌≡◌, suc, ◌+◌, ap, ap₂, refl}
+use Rattle.formula_meaning.specs.Sizes.{nodes, all_nodes}
 use Rattle.formula_meaning.specs.Formula.{Formula, Formulas, Yes, No, One, Not, And, Or, Impl, Repl, Equiv, Ex, All, none, also}
 use Rattle.formula_meaning.specs.Every.{Every, EveryOf}
 use Rattle.formula_meaning.specs.Shape.{IsPlain, ArePlain}
@@ -40,3 +42,22 @@ module _ {A B N M : Type 0} (by : A → Formula B M) (rename : N → M) where
     every_replaced_of : (P : B → Type 0) (fs : Formulas A N) → EveryOf (λ a. Every P (by a)) fs → EveryOf P (all_replaced by rename fs)
     every_replaced_of P none h = h
     every_replaced_of P (also f fs) h = (every_replaced P f h.0, every_replaced_of P fs h.1)
+
+  mutual
+    -- a node for each atom keeps the number of nodes
+    pub nodes_replaced : (f : Formula A N) → Every (λ a. nodes (by a) ≡ 1) f → nodes (replaced by rename f) ≡ nodes f
+    nodes_replaced Yes h = refl
+    nodes_replaced No h = refl
+    nodes_replaced (One a) h = h
+    nodes_replaced (Not f) h = ap suc (nodes_replaced f h)
+    nodes_replaced (And fs) h = ap suc (all_nodes_replaced fs h)
+    nodes_replaced (Or fs) h = ap suc (all_nodes_replaced fs h)
+    nodes_replaced (Impl f g) h = ap₂ (λ m n. suc (m + n)) (nodes_replaced f h.0) (nodes_replaced g h.1)
+    nodes_replaced (Repl f g) h = ap₂ (λ m n. suc (m + n)) (nodes_replaced f h.0) (nodes_replaced g h.1)
+    nodes_replaced (Equiv f g) h = ap₂ (λ m n. suc (m + n)) (nodes_replaced f h.0) (nodes_replaced g h.1)
+    nodes_replaced (Ex x f) h = ap suc (nodes_replaced f h)
+    nodes_replaced (All x f) h = ap suc (nodes_replaced f h)
+
+    all_nodes_replaced : (fs : Formulas A N) → EveryOf (λ a. nodes (by a) ≡ 1) fs → all_nodes (all_replaced by rename fs) ≡ all_nodes fs
+    all_nodes_replaced none h = refl
+    all_nodes_replaced (also f fs) h = ap₂ (λ m n. m + n) (nodes_replaced f h.0) (all_nodes_replaced fs h.1)

@@ -1,17 +1,17 @@
 -- A formula whose atoms are replaced by formulas of equal truth has the same truth.
 use Rattle.std.proofs.Common.{ℕ, inl, inr, ⊎_elim, ◌↔◌}
 use Rattle.std.proofs.Math.IntN.{ℤ}
-use Rattle.formula_meaning.specs.Context.{Context}
+use Rattle.formula_meaning.specs.Context.{Context, Allowed}
 use Rattle.formula_meaning.specs.Formula.{Formula, Formulas, Yes, No, One, Not, And, Or, Impl, Repl, Equiv, Ex, All, none, also}
 use Rattle.formula_meaning.specs.Truth.{True, AllTrue, SomeTrue}
 use Rattle.formula_meaning.specs.Every.{Every, EveryOf, EveryBound, EveryBoundOf}
 use Rattle.formula_meaning.specs.Replaced.{replaced, all_replaced}
 
--- Linked p q: the points p and q say the same of what both formulas speak of. A move by a quantified name, of which K
--- holds, keeps it.
+-- Linked p q: the points p and q say the same of what both formulas speak of. An allowed move by a quantified name, of
+-- which K holds, keeps it.
 module _ {A B N M P Q : Type 0} (says : A → P → Type 0) (move : P → N → ℤ → ℕ → P) (claims : B → Q → Type 0) (shift : Q → M → ℤ → ℕ → Q)
     (c : Context) (by : A → Formula B M) (rename : N → M) (K : N → Type 0) (Linked : P → Q → Type 0)
-    (moved : (p : P) (q : Q) (x : N) (k : ℤ) (m : ℕ) → K x → Linked p q → Linked (move p x k m) (shift q (rename x) k m)) where
+    (moved : (p : P) (q : Q) (x : N) (k : ℤ) (m : ℕ) → Allowed c m → K x → Linked p q → Linked (move p x k m) (shift q (rename x) k m)) where
   mutual
     pub replacing_keeps_truth : (f : Formula A N) → Every (λ a. (p : P) (q : Q) → Linked p q → says a p ↔ True claims shift c (by a) q) f → EveryBound K f →
         (p : P) (q : Q) → Linked p q → True says move c f p ↔ True claims shift c (replaced by rename f) q
@@ -31,12 +31,12 @@ module _ {A B N M P Q : Type 0} (says : A → P → Type 0) (move : P → N → 
         let i = replacing_keeps_truth f e.0 b.0 p q h in let j = replacing_keeps_truth g e.1 b.1 p q h in
         (λ t. (λ u. j.0 (t.0 (i.1 u)), λ u. i.0 (t.1 (j.1 u))), λ t. (λ u. j.1 (t.0 (i.0 u)), λ u. i.1 (t.1 (j.0 u))))
     replacing_keeps_truth (Ex x f) e b p q h = (
-      λ t. (t.0, t.1, t.2, (replacing_keeps_truth f e b.1 (move p x t.0 t.1) (shift q (rename x) t.0 t.1) (moved p q x t.0 t.1 b.0 h)).0 t.3),
-      λ t. (t.0, t.1, t.2, (replacing_keeps_truth f e b.1 (move p x t.0 t.1) (shift q (rename x) t.0 t.1) (moved p q x t.0 t.1 b.0 h)).1 t.3),
+      λ t. (t.0, t.1, t.2, (replacing_keeps_truth f e b.1 (move p x t.0 t.1) (shift q (rename x) t.0 t.1) (moved p q x t.0 t.1 t.2 b.0 h)).0 t.3),
+      λ t. (t.0, t.1, t.2, (replacing_keeps_truth f e b.1 (move p x t.0 t.1) (shift q (rename x) t.0 t.1) (moved p q x t.0 t.1 t.2 b.0 h)).1 t.3),
     )
     replacing_keeps_truth (All x f) e b p q h = (
-      λ t k m a. (replacing_keeps_truth f e b.1 (move p x k m) (shift q (rename x) k m) (moved p q x k m b.0 h)).0 (t k m a),
-      λ t k m a. (replacing_keeps_truth f e b.1 (move p x k m) (shift q (rename x) k m) (moved p q x k m b.0 h)).1 (t k m a),
+      λ t k m a. (replacing_keeps_truth f e b.1 (move p x k m) (shift q (rename x) k m) (moved p q x k m a b.0 h)).0 (t k m a),
+      λ t k m a. (replacing_keeps_truth f e b.1 (move p x k m) (shift q (rename x) k m) (moved p q x k m a b.0 h)).1 (t k m a),
     )
 
     all_replacing : (fs : Formulas A N) → EveryOf (λ a. (p : P) (q : Q) → Linked p q → says a p ↔ True claims shift c (by a) q) fs → EveryBoundOf K fs →

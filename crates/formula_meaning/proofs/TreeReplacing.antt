@@ -1,17 +1,29 @@
 -- Trees whose atoms are replaced by trees of the same truth.
-use Rattle.std.proofs.Common.{◌≡◌, ℕ, ap, subst, refl, ◌↔◌, nat_eq}
-use Rattle.formula_meaning.specs.Context.{Context}
-use Rattle.formula_meaning.specs.Point.{Point, move}
-use Rattle.formula_meaning.specs.Every.{Every}
-use Rattle.formula_meaning.specs.Atom.{Atom, Says}
-use Rattle.formula_meaning.specs.Replaced.{replaced}
-use Rattle.formula_meaning.specs.Tree.{Tree, TrueAt}
+use Rattle.std.proofs.Common.{◌≡◌, ℕ, ap, sym, subst, refl, ◌<◌, ◌∙◌, ◌↔◌, nat_eq}
+use Rattle.std.proofs.Math.IntN.{ℤ}
+use Rattle.formula_meaning.specs.Context.{Context, Fields, Integers, Allowed}
+use Rattle.formula_meaning.specs.Point.{Point, Of, move}
+use Rattle.formula_meaning.specs.Atom.{Says}
+use Rattle.formula_meaning.specs.Tree.{TrueAt}
+use Rattle.formula_meaning.specs.Laws.{ReplacingKeepsTruth}
 use Rattle.formula_meaning.proofs.EachAtom.{every_map, every_bound}
 use Rattle.formula_meaning.proofs.Replacing.{replacing_keeps_truth}
+use Rattle.formula_meaning.proofs.SamePoint.{allowed_mul}
+use Rattle.formula_meaning.proofs.Values.{below_move}
 
-pub tree_replacing : (c : Context) (by : Atom → Tree) (f : Tree) → Every (λ a. (p : Point ℕ) → Says a p ↔ TrueAt c (by a) p) f → (p : Point ℕ) → TrueAt c f p ↔ TrueAt c (replaced by (λ x. x) f) p
-tree_replacing c by f h p =
-    replacing_keeps_truth Says (move nat_eq) Says (move nat_eq) c by (λ x. x) (λ x. Unit {0}) (λ q r. q ≡ r)
-    (λ q r x k m u e. ap (λ s. move nat_eq s x k m) e) f
-    (every_map _ _ (λ a g q r (e : q ≡ r). subst (λ (s : Point ℕ). Says a q ↔ TrueAt c (by a) s) e (g q)) f h)
-    (every_bound (λ x. Unit {0}) (λ x. tt) f) p p refl
+-- an allowed move of a point of the theory is one
+pub moved_of : (c : Context) (p : Point ℕ) (x : ℕ) (k : ℤ) (m : ℕ) → Of c p → Allowed c m → Of c (move nat_eq p x k m)
+moved_of Fields p x k m o a = subst (λ b. 0 < b) (sym (below_move nat_eq p x k m)) (allowed_mul Fields p.below m o a)
+moved_of Integers p x k m o a = below_move nat_eq p x k m ∙ allowed_mul Integers p.below m o a
+
+-- one point of the theory, and the same again
+record IsOne (c : Context) (p q : Point ℕ) : Type 0 where
+  same : p ≡ q
+  of : Of c p
+
+pub tree_replacing : ReplacingKeepsTruth
+tree_replacing c by f h p o =
+    replacing_keeps_truth Says (move nat_eq) Says (move nat_eq) c by (λ x. x) (λ x. Unit {0}) (IsOne c)
+    (λ q r x k m a u i. record { same = ap (λ s. move nat_eq s x k m) i.same; of = moved_of c q x k m i.of a }) f
+    (every_map _ _ (λ a g q r i. subst (λ (s : Point ℕ). Says a q ↔ TrueAt c (by a) s) i.same (g q i.of)) f h)
+    (every_bound (λ x. Unit {0}) (λ x. tt) f) p p (record { same = refl; of = o })

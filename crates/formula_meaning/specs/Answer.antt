@@ -1,8 +1,10 @@
 -- Answers: where a name of an eliminated quantifier is put, and when the answers make a formula true.
-use Rattle.std.specs.Prelude.{◌≡◌, ℕ, ◌*◌, ◌<◌, ℤ, pos, ◌+ℤ◌, ◌-ℤ◌, ◌*ℤ◌, ◌<ℤ◌, neg_ℤ, List, [], ◌∷◌, nat_eq}
+use Rattle.std.specs.Prelude.{◌≡◌, ℕ, ◌*◌, ◌<◌, Bool, true, false, ◌&&◌, ℤ, pos, ◌+ℤ◌, ◌-ℤ◌, ◌*ℤ◌, ◌<ℤ◌, neg_ℤ, List, [], ◌∷◌, nat_eq}
+use Rattle.std.specs.Ordering.{int_eq}
 use Rattle.formula_meaning.specs.Context.{Context, Fields, Integers}
 use Rattle.formula_meaning.specs.Point.{Point, move}
 use Rattle.formula_meaning.specs.Form.{Form, value, coefficient}
+use Rattle.formula_meaning.specs.Same.{same_form}
 use Rattle.formula_meaning.specs.Tree.{Tree, TrueAt}
 
 pub data Place : Type 0 where
@@ -61,3 +63,13 @@ PlaceMentions (BelowBy e d) x = ¬ (coefficient x e ≡ pos 0)
 PlaceMentions PlusInfinity x = ⊥
 PlaceMentions MinusInfinity x = ⊥
 PlaceMentions (Periodic a q) x = ⊥
+
+-- the same place
+abbrev pub same_place : Place → Place → Bool
+same_place (Exact e c) (Exact f d) = nat_eq c d && same_form e f
+same_place (AboveBy e c) (AboveBy f d) = nat_eq c d && same_form e f
+same_place (BelowBy e c) (BelowBy f d) = nat_eq c d && same_form e f
+same_place PlusInfinity PlusInfinity = true
+same_place MinusInfinity MinusInfinity = true
+same_place (Periodic a p) (Periodic b q) = int_eq a b && int_eq p q
+same_place _ _ = false

@@ -1,12 +1,17 @@
 -- What is proved of truth, as statements that the functions of this crate promise.
-use Rattle.std.specs.Prelude.{ℕ, ◌↔◌}
+use Rattle.std.specs.Prelude.{ℕ, ◌≤◌, ◌↔◌}
 use Rattle.formula_meaning.specs.Context.{Context}
 use Rattle.formula_meaning.specs.Point.{Point, Of, AgreeOn, IsSamePoint}
+use Rattle.formula_meaning.specs.Formula.{One, Not, And, Or, Impl, Repl, Equiv, Ex, All}
 use Rattle.formula_meaning.specs.Every.{Every}
-use Rattle.formula_meaning.specs.Atom.{Atom, Says}
+use Rattle.formula_meaning.specs.Atom.{Atom, Mentions}
+use Rattle.formula_meaning.specs.Some.{Among}
+use Rattle.formula_meaning.specs.Sizes.{nodes}
+use Rattle.formula_meaning.specs.Fold.{folded}
 use Rattle.formula_meaning.specs.Replaced.{replaced}
-use Rattle.formula_meaning.specs.Shape.{IsNegationNormal}
-use Rattle.formula_meaning.specs.Tree.{Tree, TrueAt, IsFree, negation_normal, negated}
+use Rattle.formula_meaning.specs.Shape.{IsNegationNormal, IsPlain}
+use Rattle.formula_meaning.specs.NegationNormal.{normal_form, normal_form_of_not}
+use Rattle.formula_meaning.specs.Tree.{Tree, Trees, TrueAt, InContext, IsFree, Equivalent, AreEquivalent, each_ex, each_all, tree_names}
 
 -- a tree has the same truth at every representation of a rational point
 abbrev pub SamePointKeepsTruth : Type 0
@@ -16,16 +21,56 @@ SamePointKeepsTruth = (c : Context) (f : Tree) (p q : Point ℕ) → Of c p → 
 abbrev pub FreeNamesDecideTruth : Type 0
 FreeNamesDecideTruth = (c : Context) (f : Tree) (p q : Point ℕ) → AgreeOn (IsFree f) p q → TrueAt c f p ↔ TrueAt c f q
 
--- a tree whose atoms are replaced by trees that have their truth at every point has the same truth
+-- a tree whose atoms are replaced by trees that have their truth at every point of the theory has the same truth there
 abbrev pub ReplacingKeepsTruth : Type 0
-ReplacingKeepsTruth = (c : Context) (by : Atom → Tree) (f : Tree) →
-    Every (λ a. (p : Point ℕ) → Says a p ↔ TrueAt c (by a) p) f →
-    (p : Point ℕ) → TrueAt c f p ↔ TrueAt c (replaced by (λ x. x) f) p
+ReplacingKeepsTruth = (c : Context) (by : Atom → Tree) (f : Tree) → Every (λ a. Equivalent c (One a) (by a)) f → Equivalent c f (replaced by (λ x. x) f)
 
 -- the negation normal form of a tree, and that of its negation, are in negation normal form
 abbrev pub NegationNormalFormIsNormal : Type 0
-NegationNormalFormIsNormal = (f : Tree) → IsNegationNormal (negation_normal f) × IsNegationNormal (negated f)
+NegationNormalFormIsNormal = (opposite : Atom → Atom) (f : Tree) → IsNegationNormal (normal_form opposite f) × IsNegationNormal (normal_form_of_not opposite f)
 
--- a tree, its negation normal form and that of its negation have the same free names
-abbrev pub NegationNormalFormKeepsNames : Type 0
-NegationNormalFormKeepsNames = (f : Tree) (x : ℕ) → (IsFree f x ↔ IsFree (negation_normal f) x) × (IsFree f x ↔ IsFree (negated f) x)
+-- they bring no name where no opposite atom does,
+abbrev pub NegationNormalFormBringsNoName : Type 0
+NegationNormalFormBringsNoName = (opposite : Atom → Atom) (f : Tree) (x : ℕ) → Every (λ a. Mentions (opposite a) x → Mentions a x) f →
+    (IsFree (normal_form opposite f) x → IsFree f x) × (IsFree (normal_form_of_not opposite f) x → IsFree f x)
+
+-- and lose none where no opposite atom does
+abbrev pub NegationNormalFormLosesNoName : Type 0
+NegationNormalFormLosesNoName = (opposite : Atom → Atom) (f : Tree) (x : ℕ) → Every (λ a. Mentions a x → Mentions (opposite a) x) f →
+    (IsFree f x → IsFree (normal_form opposite f) x) × (IsFree f x → IsFree (normal_form_of_not opposite f) x)
+
+-- equivalence goes through every connective and quantifier
+pub record EquivalenceIsCongruence (c : Context) : Type 0 where
+  pub of_not : (f g : Tree) → Equivalent c f g → Equivalent c (Not f) (Not g)
+  pub of_and : (fs gs : Trees) → AreEquivalent c fs gs → Equivalent c (And fs) (And gs)
+  pub of_or : (fs gs : Trees) → AreEquivalent c fs gs → Equivalent c (Or fs) (Or gs)
+  pub of_impl : (f g h i : Tree) → Equivalent c f h → Equivalent c g i → Equivalent c (Impl f g) (Impl h i)
+  pub of_repl : (f g h i : Tree) → Equivalent c f h → Equivalent c g i → Equivalent c (Repl f g) (Repl h i)
+  pub of_equiv : (f g h i : Tree) → Equivalent c f h → Equivalent c g i → Equivalent c (Equiv f g) (Equiv h i)
+  pub of_ex : (x : ℕ) (f g : Tree) → Equivalent c f g → Equivalent c (Ex x f) (Ex x g)
+  pub of_all : (x : ℕ) (f g : Tree) → Equivalent c f g → Equivalent c (All x f) (All x g)
+
+-- ex goes over or, and all over and
+pub record QuantifiersDistribute (c : Context) : Type 0 where
+  pub ex_over_or : (x : ℕ) (fs : Trees) → Equivalent c (Ex x (Or fs)) (Or (each_ex x fs))
+  pub all_over_and : (x : ℕ) (fs : Trees) → Equivalent c (All x (And fs)) (And (each_all x fs))
+
+-- a quantifier of a name that is not free says nothing
+pub record AbsentNameIsDropped (c : Context) : Type 0 where
+  pub of_ex : (x : ℕ) (f : Tree) → ¬ (IsFree f x) → Equivalent c (Ex x f) f
+  pub of_all : (x : ℕ) (f : Tree) → ¬ (IsFree f x) → Equivalent c (All x f) f
+
+-- folding keeps truth at every point
+abbrev pub FoldingKeepsTruth : Type 0
+FoldingKeepsTruth = (c : Context) (f : Tree) (p : Point ℕ) → TrueAt c f p ↔ TrueAt c (folded f) p
+
+-- folding keeps the shape and the theory, and brings no names and no nodes
+pub record FoldingBringsNothing (f : Tree) : Type 0 where
+  pub plain : IsPlain f → IsPlain (folded f)
+  pub in_context : (c : Context) → InContext c f → InContext c (folded f)
+  pub names : (x : ℕ) → IsFree (folded f) x → IsFree f x
+  pub nodes_within : nodes (folded f) ≤ nodes f
+
+-- the names of the list of free names are the free ones
+abbrev pub FreeNamesAreListed : Type 0
+FreeNamesAreListed = (f : Tree) (x : ℕ) → Among (tree_names f) x ↔ IsFree f x

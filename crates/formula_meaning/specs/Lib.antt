@@ -4,12 +4,17 @@ pub mod Formula
 pub mod Truth
 pub mod Form
 pub mod Sorted
+pub mod Combining
 pub mod Some
+pub mod Distinct
 pub mod Atom
+pub mod Same
 pub mod Every
+pub mod Sizes
 pub mod Replaced
 pub mod Shape
 pub mod NegationNormal
+pub mod Fold
 pub mod Tree
 pub mod Laws
 pub mod Answer

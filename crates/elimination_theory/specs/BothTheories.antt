@@ -1,0 +1,44 @@
+-- Substitution and test points, with the theory as an argument.
+use Rattle.std.specs.Prelude.{ℕ, List}
+use Rattle.formula_meaning.specs.Context.{Context, Fields, Integers}
+use Rattle.formula_meaning.specs.Formula.{Yes}
+use Rattle.formula_meaning.specs.Every.{Every}
+use Rattle.formula_meaning.specs.Atom.{Atom}
+use Rattle.formula_meaning.specs.Answer.{Place}
+use Rattle.formula_meaning.specs.Tree.{Tree}
+use Rattle.elimination_theory.specs.Side.{Side}
+use Rattle.elimination_theory.specs.FieldsSubstitution.{field_atom, field_substitution, IsFieldPlace}
+use Rattle.elimination_theory.specs.FieldsPoints.{field_points_of}
+use Rattle.elimination_theory.specs.IntegersSubstitution.{integer_atom, integer_guard, guarded_substitution}
+use Rattle.elimination_theory.specs.IntegersPoints.{integer_points_of}
+use Rattle.elimination_theory.specs.IntegersTheorems.{IsIntegerPlace, Suits}
+
+-- the places of a theory
+abbrev pub IsPlaceIn : Context → Place → Type 0
+IsPlaceIn Fields s = IsFieldPlace s
+IsPlaceIn Integers s = IsIntegerPlace s
+
+-- the places at which substitution into the formula is exact: over the integers the period is one of each congruence
+abbrev pub IsPlaceFor : Context → ℕ → Place → Tree → Type 0
+IsPlaceFor Fields x s f = IsFieldPlace s
+IsPlaceFor Integers x s f = IsIntegerPlace s × Every (Suits x s) f
+
+-- an atom with x at the place
+abbrev pub raw_atom : Context → ℕ → Place → Atom → Tree
+raw_atom Fields x s a = field_atom x s a
+raw_atom Integers x s a = integer_atom x s a
+
+-- the condition under which the place is a number of the theory
+abbrev pub guard_of : Context → Place → Tree
+guard_of Fields s = Yes
+guard_of Integers s = integer_guard s
+
+-- a formula with x at the place, over the integers with its guard
+abbrev pub substitution : Context → ℕ → Place → Tree → Tree
+substitution Fields x s f = field_substitution x s f
+substitution Integers x s f = guarded_substitution x s f
+
+-- the test points of x in a list of atoms
+abbrev pub test_points : Context → Side → ℕ → List Atom → List Place
+test_points Fields side x atoms = field_points_of side x atoms
+test_points Integers side x atoms = integer_points_of side x atoms
