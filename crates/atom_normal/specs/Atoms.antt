@@ -1,5 +1,5 @@
 -- What the program's atoms mean.
-use Rattle.std.specs.Prelude.{ℤ, pos, ◌<ℤ◌, unsigned_abs}
+use Rattle.std.specs.Prelude.{◌≡◌, ℤ, pos, ◌<ℤ◌, unsigned_abs}
 use Rattle.exact_numbers.specs.Limit.{InLimit}
 use Rattle.formula_meaning.specs.Context as meaning
 use Rattle.formula_meaning.specs.Formula.{Yes, No, One as Single}
@@ -11,6 +11,8 @@ use Rattle.atom_normal.specs.declared.atoms.Rel.{Rel}
 use Rattle.atom_normal.specs.declared.atoms.Rel.TheVariants.{Equal, Differs, Less, AtMost, Greater, AtLeast}
 use Rattle.atom_normal.specs.declared.atoms.Atom.{Atom}
 use Rattle.atom_normal.specs.declared.atoms.Atom.TheVariants.{Compare, Congruent}
+use Rattle.atom_normal.specs.declared.atoms.Normal.{Normal}
+use Rattle.atom_normal.specs.declared.atoms.Normal.TheVariants.{True, False, One}
 
 -- the theory
 abbrev pub context_of : Context → meaning.Context
@@ -35,3 +37,20 @@ atom_of (Congruent holds modulus form) = meant.Congruent holds (unsigned_abs mod
 abbrev pub IsWellFormed : Atom → Type 0
 IsWellFormed (Compare r f) = Unit {0}
 IsWellFormed (Congruent holds modulus form) = (pos 0 <ℤ modulus) × InLimit modulus
+
+-- always true, always false, or one atom
+abbrev pub tree_of : Normal → Tree
+tree_of True = Yes
+tree_of False = No
+tree_of (One a) = Single (atom_of a)
+
+-- its modulus is positive and within the limit
+abbrev pub IsWellFormedNormal : Normal → Type 0
+IsWellFormedNormal True = Unit {0}
+IsWellFormedNormal False = Unit {0}
+IsWellFormedNormal (One a) = IsWellFormed a
+
+-- a congruence is asked at whole numbers alone
+abbrev pub IsAskedWhole : Atom → ℤ → Type 0
+IsAskedWhole (Compare r f) denominator = Unit {0}
+IsAskedWhole (Congruent holds modulus form) denominator = denominator ≡ pos 1

@@ -42,15 +42,6 @@ pub enum Normal {
     One(Atom),
 }
 
-/// What two atoms become together: always true, always false, one atom, or both stay.
-#[derive(Debug, PartialEq, Eq, Drop)]
-pub enum Merged {
-    True,
-    False,
-    One(Atom),
-    Keep,
-}
-
 impl Atom {
     /// An equal atom. Its only error is `Memory`.
     pub fn copy(&self, alloc: Global) -> Result<Atom, AtomError>

@@ -1,23 +1,21 @@
 -- Answers found one after the other make a formula true exactly where the last branch is true.
-use Rattle.std.proofs.Common.{◌≡◌, ℕ, ◌<◌, List, [], ◌∷◌, ap, refl, sym, ◌∙◌, arith, ◌↔◌, nat_eq}
-use Rattle.std.proofs.Math.IntN.{ℤ, pos, ◌*ℤ◌}
+use Rattle.std.proofs.Common.{◌≡◌, ℕ, [], ◌∷◌, refl, ◌∙◌, arith, ◌↔◌, nat_eq}
+use Rattle.std.proofs.Math.IntN.{pos}
 use Rattle.std.proofs.lemmas.Int.{ints}
 use Rattle.exact_numbers.proofs.Ring.{zero_mul}
-use Rattle.formula_meaning.specs.Context.{Context, Fields, Integers, Allowed}
+use Rattle.formula_meaning.specs.Context.{Context, Fields, Integers}
 use Rattle.formula_meaning.specs.Point.{Point, Of, move}
-use Rattle.formula_meaning.specs.Form.{Form, value}
-use Rattle.formula_meaning.specs.Answer.{Exact, MeetsAll, Holds}
-use Rattle.formula_meaning.specs.Shape.{IsPlain}
-use Rattle.formula_meaning.specs.Every.{Every}
-use Rattle.formula_meaning.specs.Tree.{Tree, TrueAt, InContext, IsFree}
+use Rattle.formula_meaning.specs.Form.{value}
+use Rattle.formula_meaning.specs.Answer.{MeetsAll, Holds}
+use Rattle.formula_meaning.specs.Tree.{Tree, TrueAt, IsFree}
 use Rattle.formula_meaning.proofs.EachAtom.{every_all}
 use Rattle.formula_meaning.proofs.Equivalence.{absent_moved, one_allowed}
 use Rattle.formula_meaning.proofs.TreeReplacing.{moved_of}
 use Rattle.elimination_theory.specs.Substitution.{at_place}
 use Rattle.elimination_theory.specs.IntegersTheorems.{Suits}
-use Rattle.elimination_theory.specs.BothTheories.{IsPlaceFor, substitution}
-use Rattle.elimination_theory.specs.Answers.{Step, answers_of, Makes, Lead, AnswersHold, zero_place, AbsentNameIsZero}
-use Rattle.elimination_theory.proofs.FieldsLine.{both_ways}
+use Rattle.elimination_theory.specs.BothTheories.{IsPlaceFor}
+use Rattle.elimination_theory.specs.Answers.{Step, answers_of, Makes, AnswersHold, zero_place, AbsentNameIsZero}
+use Rattle.formula_meaning.proofs.Iff.{both_ways}
 use Rattle.elimination_theory.proofs.Meets.{meets_map}
 use Rattle.elimination_theory.proofs.BothSubstitutions.{place_in, place_holds}
 

@@ -1,7 +1,6 @@
 -- Truth is decided, by elimination: every formula has an equivalent built by and and or, whose truth is decided.
-use Rattle.std.proofs.Common.{ℕ, ◌<◌, sym, ◌∙◌, subst, ◌⊎◌, inl, inr, ⊎_elim, ◌↔◌, nat_eq}
-use Rattle.std.proofs.Math.IntN.{ℤ}
-use Rattle.formula_meaning.specs.Context.{Context, Fields, Integers, Allowed}
+use Rattle.std.proofs.Common.{ℕ, ◌⊎◌, inl, inr, ⊎_elim, ◌↔◌, nat_eq}
+use Rattle.formula_meaning.specs.Context.{Context}
 use Rattle.formula_meaning.specs.Point.{Point, Of, move}
 use Rattle.formula_meaning.specs.Formula.{Yes, No, One, Not, And, Or, Impl, Repl, Equiv, Ex, All, none, also}
 use Rattle.formula_meaning.specs.Truth.{AllTrue, SomeTrue}

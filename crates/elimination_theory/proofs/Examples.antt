@@ -1,22 +1,21 @@
 -- Worked examples of the definitions, by hand. Each side is computed. The names x, a and b are 0, 1 and 2.
-use Rattle.std.proofs.Common.{◌≡◌, ℕ, true, false, List, [], ◌∷◌, map, refl}
+use Rattle.std.proofs.Common.{◌≡◌, true, false, List, [], ◌∷◌, map, refl}
 use Rattle.std.proofs.Math.IntN.{ℤ, pos, negsuc}
 use Rattle.exact_numbers.specs.Divides.{content_of, gcd_of, lcm_of, euclid}
 use Rattle.formula_meaning.specs.Context.{Fields, Integers}
-use Rattle.formula_meaning.specs.Formula.{Yes, No, One, And, none, also}
+use Rattle.formula_meaning.specs.Formula.{Yes, No, One, And}
 use Rattle.formula_meaning.specs.NegationNormal.{both}
-use Rattle.formula_meaning.specs.Form.{Form, Term, coefficient, without, scale, combine, plus, value}
+use Rattle.formula_meaning.specs.Form.{Form, coefficient, without, scale, combine, plus}
 use Rattle.formula_meaning.specs.Atom.{Relation, Equals, Differs, Below, AtMost, Above, AtLeast, Atom, Compare, Congruent}
-use Rattle.formula_meaning.specs.Answer.{Place, Exact, AboveBy, BelowBy, MinusInfinity, PlusInfinity, Periodic}
-use Rattle.formula_meaning.specs.Tree.{Tree}
+use Rattle.formula_meaning.specs.Answer.{Exact, AboveBy, BelowBy, MinusInfinity, Periodic}
 use Rattle.elimination_theory.specs.Side.{Lower, Upper}
 use Rattle.elimination_theory.specs.FieldsExample.{open_interval, named, difference, multiple_of}
-use Rattle.elimination_theory.specs.Substitution.{below_all, beyond, form_at}
+use Rattle.elimination_theory.specs.Substitution.{beyond, form_at}
 use Rattle.elimination_theory.specs.FieldsPoints.{form_over, comparison_points, field_points_of}
 use Rattle.elimination_theory.specs.FieldsSubstitution.{beside}
-use Rattle.elimination_theory.specs.IntegersSubstitution.{integer_atom, along}
+use Rattle.elimination_theory.specs.IntegersSubstitution.{integer_atom}
 use Rattle.elimination_theory.specs.IntegersPoints.{scale_of, own_span, comparison_starts, integer_count_of}
-use Rattle.elimination_theory.specs.Steps.{Result, step}
+use Rattle.elimination_theory.specs.Steps.{step}
 
 abbrev relations : List Relation
 relations = Equals ∷ Differs ∷ Below ∷ AtMost ∷ Above ∷ AtLeast ∷ []

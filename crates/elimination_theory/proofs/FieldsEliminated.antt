@@ -16,7 +16,7 @@ use Rattle.elimination_theory.specs.Substitution.{at_place}
 use Rattle.elimination_theory.specs.Elimination.{trees_at, field_elimination}
 use Rattle.elimination_theory.specs.Decided.{FieldEliminationIsExact}
 use Rattle.formula_meaning.specs.Some.{Among}
-use Rattle.elimination_theory.proofs.FieldsLine.{both_ways}
+use Rattle.formula_meaning.proofs.Iff.{both_ways}
 use Rattle.elimination_theory.proofs.FieldsSuffice.{field_points_suffice, field_point_place}
 use Rattle.elimination_theory.proofs.FieldsSubstitute.{substitution_exact}
 use Rattle.elimination_theory.proofs.Simple.{substitution_plain}

@@ -1,5 +1,5 @@
 -- A comparison as a condition on the value of one name: that value, a fraction k/m, against the comparison's own point n/d.
-use Rattle.std.proofs.Common.{◌≡◌, ℕ, suc, ◌/◌, ap, sym, ◌∙◌, subst, arith, ◌↔◌, nat_eq}
+use Rattle.std.proofs.Common.{◌≡◌, ℕ, suc, ◌/◌, ap, sym, ◌∙◌, arith, ◌↔◌, nat_eq}
 use Rattle.std.proofs.Math.IntN.{ℤ, pos, negsuc, ◌+ℤ◌, ◌-ℤ◌, ◌*ℤ◌, neg_ℤ}
 use Rattle.std.specs.Prelude.{◌<ℤ◌}
 use Rattle.std.proofs.lemmas.Int.{ints}
@@ -8,19 +8,10 @@ use Rattle.formula_meaning.specs.Point.{Point, move}
 use Rattle.formula_meaning.specs.Form.{Form, value, coefficient, without, scale}
 use Rattle.formula_meaning.specs.Atom.{Relation, Relates, mirrored}
 use Rattle.formula_meaning.proofs.Values.{value_move, value_split, value_scale}
-use Rattle.formula_meaning.proofs.Relations.{relates_zero_mul, relates_difference, relates_neg}
+use Rattle.formula_meaning.proofs.Iff.{both_ways, turn_round}
+use Rattle.formula_meaning.proofs.Relations.{relates_along, relates_zero_mul, relates_difference, relates_neg}
 use Rattle.elimination_theory.specs.FieldsPoints.{divisor_of, form_over}
 use Rattle.elimination_theory.proofs.LowestTerms.{IsLowest, lowest}
-
-pub both_ways : {P Q R : Type 0} → P ↔ Q → Q ↔ R → P ↔ R
-both_ways f g = (λ p. g.0 (f.0 p), λ r. f.1 (g.1 r))
-
-pub turn_round : {P Q : Type 0} → P ↔ Q → Q ↔ P
-turn_round f = (f.1, f.0)
-
--- a relation of equal numbers
-pub relates_along : (r : Relation) {a b : ℤ} (c : ℤ) → a ≡ b → Relates r a c ↔ Relates r b c
-relates_along r {a} {b} c e = subst (λ z. Relates r a c ↔ Relates r z c) e (λ h. h, λ h. h)
 
 no_name_value : (c at t : ℤ) (v : ℤ) → c ≡ pos 0 → v ≡ c *ℤ at +ℤ t → v ≡ t
 no_name_value c at t v e f = let z = ap (λ y. y *ℤ at) e in let w = zero_mul at in omega (arith, ints)

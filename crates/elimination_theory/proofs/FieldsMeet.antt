@@ -21,9 +21,6 @@ pos_positive {n} h = omega (arith, ints)
 pub positive_pos : {n : ℕ} → pos 0 <ℤ pos n → 0 < n
 positive_pos {n} h = omega (arith, ints)
 
-pub pos_less : {m n : ℕ} → m < n → pos m <ℤ pos n
-pos_less {m} {n} h = omega (arith, ints)
-
 -- the absolute value of a positive number
 pub magnitude : (a : ℤ) → pos 0 <ℤ a → (u : ℕ) × (pos u ≡ a) × 0 < u
 magnitude (pos a) h = (a, refl, positive_pos h)

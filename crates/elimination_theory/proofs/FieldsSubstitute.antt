@@ -18,7 +18,9 @@ use Rattle.formula_meaning.proofs.EachAtom.{every_map, every_eventually}
 use Rattle.formula_meaning.proofs.PlainTruth.{plain_replaced}
 use Rattle.elimination_theory.specs.Substitution.{form_at, beyond, exactly, at_place}
 use Rattle.elimination_theory.specs.FieldsSubstitution.{beside, field_atom, field_substitution, IsFieldPlace}
-use Rattle.elimination_theory.proofs.FieldsLine.{comparison_still, both_ways, relates_along}
+use Rattle.formula_meaning.proofs.Iff.{both_ways}
+use Rattle.formula_meaning.proofs.Relations.{relates_along}
+use Rattle.elimination_theory.proofs.FieldsLine.{comparison_still}
 use Rattle.elimination_theory.proofs.FieldsMeet.{pos_positive, small_some, large_some}
 use Rattle.elimination_theory.proofs.FieldsNear.{small_both, large_both, small_all, large_all, small_map, large_map, above_table, below_table, low_table, high_table, near_above, near_below, low_far, high_far}
 

@@ -9,11 +9,11 @@ use Rattle.formula_meaning.specs.Form.{Form, value, coefficient, without}
 use Rattle.formula_meaning.specs.Atom.{mirrored, Atom, Compare, Congruent, Relation, Equals, Differs, Below, AtMost, Above, AtLeast, Relates, IsMultiple, Says, form_of}
 use Rattle.formula_meaning.specs.Answer.{Exact, Periodic}
 use Rattle.formula_meaning.specs.Tree.{TrueAt}
-use Rattle.formula_meaning.proofs.Relations.{relates_mul}
+use Rattle.formula_meaning.proofs.Relations.{relates_mul, relates_along}
 use Rattle.formula_meaning.proofs.Values.{value_move, value_split, value_plus, value_combine, below_move, pos_mul}
-use Rattle.elimination_theory.proofs.FieldsLine.{both_ways, turn_round, relates_along}
-use Rattle.elimination_theory.specs.Substitution.{form_at, beyond, exactly, below_all}
-use Rattle.elimination_theory.specs.IntegersSubstitution.{where_zero, put_number, along, integer_atom}
+use Rattle.formula_meaning.proofs.Iff.{both_ways, turn_round, not_iff}
+use Rattle.elimination_theory.specs.Substitution.{form_at, beyond, exactly, below_all, where_zero}
+use Rattle.elimination_theory.specs.IntegersSubstitution.{put_number, along, integer_atom}
 use Rattle.elimination_theory.proofs.IntegerRelation.{IsTrueBelow, relates_move}
 use Rattle.elimination_theory.proofs.IntegerCompare.{Compares, ComparesLow, IsCongruent, without_name}
 
@@ -43,9 +43,6 @@ abbrev pub SaysAt : Atom → ℤ → ℤ → ℤ → Type 0
 SaysAt (Compare r f) a t k = Compares r a t k
 SaysAt (Congruent true n f) a t k = IsCongruent n a t k
 SaysAt (Congruent false n f) a t k = ¬ (IsCongruent n a t k)
-
-pub not_iff : {X Y : Type 0} → X ↔ Y → ¬ X ↔ ¬ Y
-not_iff e = (λ n y. n (e.1 y), λ n x. n (e.0 x))
 
 pub says_at : (a : Atom) (p : Point ℕ) (x : ℕ) (k : ℤ) → p.below ≡ 1 →
     Says a (move nat_eq p x k 1) ↔ SaysAt a (coefficient x (form_of a)) (value (without x (form_of a)) p) k

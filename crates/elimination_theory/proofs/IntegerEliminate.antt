@@ -1,5 +1,5 @@
 -- Each listed test point of the integers is one of the integers for each atom; so ex(x, f) is f with the points put in.
-use Rattle.std.proofs.Common.{◌≡◌, ℕ, suc, zero, ◌*◌, ◌/◌, ◌<◌, ℤ, pos, negsuc, ◌*ℤ◌, neg_ℤ, arith, List, mul-pos}
+use Rattle.std.proofs.Common.{◌≡◌, ℕ, ◌/◌, ◌<◌, ℤ, pos, ◌*ℤ◌, neg_ℤ, arith, List}
 use Rattle.std.proofs.lemmas.Int.{ints}
 use Rattle.exact_numbers.specs.Divides.{Divides}
 use Rattle.exact_numbers.proofs.Ring.{mul_neg, mul_comm}
@@ -7,19 +7,19 @@ use Rattle.formula_meaning.specs.Some.{EachOf}
 use Rattle.formula_meaning.specs.Context.{Integers}
 use Rattle.formula_meaning.specs.Every.{Every}
 use Rattle.formula_meaning.specs.Shape.{IsPlain}
-use Rattle.formula_meaning.specs.Form.{Form, coefficient, plus}
-use Rattle.formula_meaning.specs.Atom.{Atom, Compare, Congruent, Relation, Equals, Differs, Below, AtMost, Above, AtLeast, mirrored, AtomIn}
-use Rattle.formula_meaning.specs.Answer.{Place, Exact, AboveBy, BelowBy, PlusInfinity, MinusInfinity, Periodic, Holds, same_place}
+use Rattle.formula_meaning.specs.Form.{coefficient, plus}
+use Rattle.formula_meaning.specs.Atom.{Atom, Compare, Congruent}
+use Rattle.formula_meaning.specs.Answer.{Place, Exact, Periodic, Holds, same_place}
 use Rattle.formula_meaning.specs.Tree.{Tree, InContext}
 use Rattle.formula_meaning.proofs.EachAtom.{every_map, every_all}
-use Rattle.formula_meaning.proofs.ReplacedShape.{plain_stays, every_replaced}
 use Rattle.elimination_theory.proofs.Simple.{substitution_plain}
-use Rattle.elimination_theory.proofs.FieldsLine.{both_ways}
+use Rattle.formula_meaning.proofs.Iff.{both_ways}
 use Rattle.elimination_theory.specs.Side.{Side, Lower, Upper}
 use Rattle.elimination_theory.specs.Atoms.{atoms_of}
-use Rattle.elimination_theory.specs.Substitution.{at_place, beyond, below_all, exactly, form_at}
-use Rattle.elimination_theory.specs.IntegersSubstitution.{integer_atom, integer_guard, guarded_substitution, where_zero, along, put_number}
-use Rattle.elimination_theory.specs.IntegersPoints.{signed, counted, class_points, next_points, points_with, integer_scale, integer_span, integer_points, integer_elimination}
+use Rattle.elimination_theory.specs.Substitution.{at_place}
+use Rattle.elimination_theory.specs.IntegersSubstitution.{guarded_substitution}
+use Rattle.elimination_theory.specs.Elimination.{integer_elimination}
+use Rattle.elimination_theory.specs.IntegersPoints.{signed, counted, class_points, next_points, points_with, integer_scale, integer_span, integer_points}
 use Rattle.elimination_theory.specs.IntegersTheorems.{IsPeriodOf, IsIntegerPlace, Suits, IntegerTestPointsSuit, IntegerEliminationIsExact}
 use Rattle.elimination_theory.proofs.FieldsEliminated.{some_place, trees_plain}
 use Rattle.elimination_theory.proofs.IntegerAtom.{}
@@ -68,7 +68,6 @@ listed_are_for side x f inside =
 
 pub points_suit : IntegerTestPointsSuit
 points_suit side x f s inside among = each_among (IsFor x f) (integer_points side x f) s (listed_are_for side x f inside) among
-
 
 pub integer_elimination_exact : IntegerEliminationIsExact
 integer_elimination_exact side x f plain inside p whole =

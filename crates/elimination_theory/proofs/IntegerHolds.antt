@@ -14,7 +14,7 @@ use Rattle.formula_meaning.specs.Atom.{Atom, Compare, Congruent, Says, form_of}
 use Rattle.formula_meaning.specs.Answer.{Exact, AboveBy, BelowBy, PlusInfinity, MinusInfinity, Periodic, Holds}
 use Rattle.formula_meaning.specs.Tree.{Tree, TrueAt}
 use Rattle.formula_meaning.proofs.EachAtom.{every_map, every_all, every_both}
-use Rattle.elimination_theory.proofs.FieldsLine.{both_ways, turn_round}
+use Rattle.formula_meaning.proofs.Iff.{both_ways, turn_round}
 use Rattle.elimination_theory.specs.Side.{Side, Lower, Upper}
 use Rattle.elimination_theory.specs.Substitution.{at_place}
 use Rattle.elimination_theory.specs.IntegersSubstitution.{integer_atom, integer_substitution, integer_guard, is_whole}

@@ -7,7 +7,6 @@ use Rattle.formula_meaning.specs.Some.{EachOf}
 use Rattle.formula_meaning.specs.Context.{Integers}
 use Rattle.formula_meaning.specs.Form.{coefficient}
 use Rattle.formula_meaning.specs.Atom.{Atom, Compare, Congruent, form_of, AtomIn}
-use Rattle.formula_meaning.proofs.EachAtom.{every_map}
 use Rattle.elimination_theory.specs.Atoms.{atoms_of}
 use Rattle.elimination_theory.specs.IntegersPoints.{with_coefficient, scale_of, with_modulus, span_of, integer_scale}
 use Rattle.elimination_theory.specs.IntegersTheorems.{IsMultipleOf, SpansAtom, ScaleIsLeast, SpanIsLeast, IntegerScaleIsLeast, IntegerSpanIsLeast}

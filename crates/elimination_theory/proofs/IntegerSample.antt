@@ -14,9 +14,10 @@ use Rattle.formula_meaning.specs.Form.{Form, value, coefficient, without}
 use Rattle.formula_meaning.specs.Atom.{Atom, Compare, Congruent, Relation, Relates, mirrored, Says}
 use Rattle.formula_meaning.specs.Answer.{Exact, AboveBy, BelowBy, PlusInfinity, MinusInfinity, Periodic, Holds}
 use Rattle.formula_meaning.specs.Tree.{Tree, TrueAt}
-use Rattle.formula_meaning.proofs.EachAtom.{every_map, every_all, every_both}
-use Rattle.formula_meaning.proofs.Relations.{relates_turn}
-use Rattle.elimination_theory.proofs.FieldsLine.{both_ways, turn_round, value_still, relates_along}
+use Rattle.formula_meaning.proofs.EachAtom.{every_all, every_both}
+use Rattle.formula_meaning.proofs.Relations.{relates_turn, relates_along}
+use Rattle.formula_meaning.proofs.Iff.{both_ways, turn_round, not_iff}
+use Rattle.elimination_theory.proofs.FieldsLine.{value_still}
 use Rattle.elimination_theory.specs.Atoms.{atoms_of}
 use Rattle.elimination_theory.specs.Side.{Side, Lower, Upper}
 use Rattle.elimination_theory.specs.Substitution.{at_place, beyond}
@@ -30,7 +31,7 @@ use Rattle.elimination_theory.proofs.IntegerEval.{Downwards, eval_map, every_dow
 use Rattle.elimination_theory.proofs.IntegerPlain.{plain_eval, replaced_eval}
 use Rattle.elimination_theory.proofs.IntegerRelation.{relates_below}
 use Rattle.elimination_theory.proofs.IntegerCompare.{IsCongruent}
-use Rattle.elimination_theory.proofs.IntegerAtom.{says_at, value_at, along_zero, below_all_says, periodic_says, not_iff}
+use Rattle.elimination_theory.proofs.IntegerAtom.{says_at, value_at, along_zero, below_all_says, periodic_says}
 use Rattle.formula_meaning.proofs.Listed.{some_among}
 use Rattle.elimination_theory.proofs.IntegerSides.{signed_mul, signed_signed, along_signed}
 use Rattle.elimination_theory.proofs.IntegerHolds.{substitution_holds}

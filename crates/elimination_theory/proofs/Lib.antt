@@ -46,3 +46,5 @@ pub mod Answers
 pub mod Samples
 mod Examples
 pub mod SentenceExample
+pub mod Overflow
+pub mod AnswersExample

@@ -1,35 +1,34 @@
 -- One step of elimination, with atoms in normal form and the formula folded.
-use Rattle.std.proofs.Common.{◌≡◌, ℕ, suc, zero, ◌+◌, ◌≤◌, List, [], ◌∷◌, sym, ◌∙◌, subst, refl, arith, inl, inr, ⊎_elim, ◌⊎◌, ◌↔◌, nat_eq}
+use Rattle.std.proofs.Common.{◌≡◌, ℕ, suc, zero, ◌+◌, ◌*◌, ◌≤◌, length, List, [], ◌∷◌, sym, subst, refl, arith, inl, inr, ⊎_elim, ◌⊎◌, ◌↔◌, nat_eq}
 use Rattle.std.proofs.Math.IntN.{ℤ, pos, negsuc}
 use Rattle.formula_meaning.specs.Context.{Context, Fields, Integers}
-use Rattle.formula_meaning.specs.Point.{Point, Of, move}
-use Rattle.formula_meaning.specs.Formula.{Yes, No, One, Not, And, Or, Impl, Repl, Equiv, Ex, All}
+use Rattle.formula_meaning.specs.Point.{Point, move}
+use Rattle.formula_meaning.specs.Formula.{No, One, And}
 use Rattle.formula_meaning.specs.Truth.{SomeTrue}
-use Rattle.formula_meaning.specs.Every.{Every}
 use Rattle.formula_meaning.specs.Form.{coefficient}
 use Rattle.formula_meaning.specs.Some.{Among}
 use Rattle.formula_meaning.specs.Shape.{IsPlain}
-use Rattle.formula_meaning.specs.Sizes.{nodes}
+use Rattle.formula_meaning.specs.Sizes.{nodes, all_nodes}
 use Rattle.formula_meaning.specs.NegationNormal.{both}
 use Rattle.formula_meaning.specs.Replaced.{replaced}
 use Rattle.formula_meaning.specs.Fold.{folded}
 use Rattle.formula_meaning.specs.Atom.{Atom, AtomIn, Says, Mentions, form_of}
 use Rattle.formula_meaning.specs.Answer.{Place}
 use Rattle.formula_meaning.specs.Tree.{Tree, TrueAt, InContext, IsFree, Equivalent}
+use Rattle.formula_meaning.proofs.Iff.{either_iff, both_ways}
 use Rattle.formula_meaning.proofs.EachAtom.{every_map, every_both}
 use Rattle.formula_meaning.proofs.ReplacedShape.{nodes_replaced}
 use Rattle.formula_meaning.proofs.FreeReplaced.{every_free, free_replaced, fewer_replaced}
 use Rattle.formula_meaning.proofs.TreeReplacing.{tree_replacing}
 use Rattle.formula_meaning.proofs.Equivalence.{equivalent_self, equivalent_then, all_equivalent, replaced_equivalent}
 use Rattle.formula_meaning.proofs.Fold.{folded_true, folded_plain, folded_every, folded_free, folded_nodes}
-use Rattle.elimination_theory.specs.Side.{Side}
 use Rattle.elimination_theory.specs.Atoms.{atoms_of}
 use Rattle.elimination_theory.specs.Elimination.{trees_at}
-use Rattle.elimination_theory.specs.IntegersSubstitution.{where_zero, integer_guard}
-use Rattle.elimination_theory.specs.BothTheories.{IsPlaceIn, IsPlaceFor, raw_atom, substitution, test_points}
-use Rattle.elimination_theory.specs.Steps.{IsSimple, IsNormaliser, normalised, atom_at, result_at, Result, kept, results, step, trees_left, IsResult, StepIsExact, StepsAreExact}
-use Rattle.elimination_theory.proofs.FieldsLine.{both_ways}
-use Rattle.elimination_theory.proofs.Simple.{simple_plain, simple_in, simple_nodes, simple_normalised, where_zero_has, raw_simple, raw_still, guard_simple, replaced_plain}
+use Rattle.elimination_theory.specs.Substitution.{where_zero}
+use Rattle.elimination_theory.specs.IntegersSubstitution.{integer_guard}
+use Rattle.elimination_theory.specs.BothTheories.{IsPlaceIn, raw_atom, substitution, test_points}
+use Rattle.elimination_theory.specs.Steps.{IsNormaliser, normalised, atom_at, result_at, Result, kept, results, trees_left, StepsAreExact}
+use Rattle.elimination_theory.proofs.Simple.{IsSimple, simple_plain, simple_in, simple_nodes, simple_normalised, where_zero_has, raw_simple, raw_still, guard_simple, replaced_plain}
 use Rattle.elimination_theory.proofs.BothSubstitutions.{place_in, point_suits, eliminated, substituted_names}
 
 pub folded_equivalent : (c : Context) (f : Tree) → Equivalent c f (folded f)
@@ -122,8 +121,8 @@ result_becomes Integers by norm x s f place plain inside =
     (simple_plain Integers (normalised by (integer_guard s)) h, (t.0, tt))
     (simple_in Integers (normalised by (integer_guard s)) h, (t.1, tt))
     (λ y. ⊎_elim
-        (λ u. inl (normalised_names Integers by norm (integer_guard s) y (simple_plain Integers (integer_guard s) g) gi u))
-        (⊎_elim (λ u. inr (inl (atoms_names Integers by norm x s place f plain inside y u))) (λ u. absurd u)))
+    (λ u. inl (normalised_names Integers by norm (integer_guard s) y (simple_plain Integers (integer_guard s) g) gi u))
+    (⊎_elim (λ u. inr (inl (atoms_names Integers by norm x s place f plain inside y u))) (λ u. absurd u)))
     (let n = atoms_nodes Integers by norm x s place f plain inside in let m = simple_nodes Integers (normalised by (integer_guard s)) h in omega arith)
 
 -- ---- the list of results
@@ -136,9 +135,6 @@ kept_true c s _ rest p = (λ t. t, λ t. t)
 kept_among : (s : Place) (g : Tree) (rest : List Result) (r : Result) → Among (kept s g rest) r → Among (record { place = s; tree = g } ∷ rest) r
 kept_among s No rest r m = inr m
 kept_among s _ rest r m = m
-
-either_iff : {P Q R S : Type 0} → P ↔ Q → R ↔ S → (P ⊎ R) ↔ (Q ⊎ S)
-either_iff i j = (⊎_elim (λ t. inl (i.0 t)) (λ t. inr (j.0 t)), ⊎_elim (λ t. inl (i.1 t)) (λ t. inr (j.1 t)))
 
 module _ (c : Context) (by : Atom → Tree) (x : ℕ) (f : Tree) where
   results_true : (places : List Place) (p : Point ℕ) → ((s : Place) → Among places s → TrueAt c (substitution c x s f) p ↔ TrueAt c (result_at c by x s f) p) →
@@ -155,6 +151,23 @@ module _ (c : Context) (by : Atom → Tree) (x : ℕ) (f : Tree) where
       (λ (e : Path Result (record { place = s; tree = result_at c by x s f }) r). subst (λ (q : Result). Among (s ∷ places) q.place × (result_at c by x q.place f ≡ q.tree)) e (inl refl, refl))
       (λ n. let h = results_among places r n in (inr h.0, h.1))
       (kept_among s (result_at c by x s f) (results c by x f places) r m)
+
+kept_nodes : (s : Place) (g : Tree) (rest : List Result) → all_nodes (trees_left (kept s g rest)) ≤ nodes g + all_nodes (trees_left rest)
+kept_nodes s No rest = omega arith
+kept_nodes s _ rest = omega arith
+
+results_nodes : (c : Context) (by : Atom → Tree) (x : ℕ) (f : Tree) (n : ℕ) (places : List Place) → ((s : Place) → Among places s → nodes (result_at c by x s f) ≤ n) →
+    all_nodes (trees_left (results c by x f places)) ≤ length places * n
+results_nodes c by x f n [] h = omega arith
+results_nodes c by x f n (s ∷ places) h =
+    let k = kept_nodes s (result_at c by x s f) (results c by x f places) in
+    let here = h s (inl refl) in
+    let rest = results_nodes c by x f n places (λ q m. h q (inr m)) in
+    let e = suc_times (length places) n in
+    omega arith
+  where
+    suc_times : (m n : ℕ) → suc m * n ≡ n + m * n
+    suc_times m n = omega arith
 
 pub steps_exact : (c : Context) → StepsAreExact c
 steps_exact c by side x f norm plain inside =
@@ -173,4 +186,5 @@ steps_exact c by side x f norm plain inside =
             names = λ y t. substituted_names c side x f r.place y plain inside h.0 (b.names y t);
             few_nodes = b.few_nodes;
           };
+      few_nodes = results_nodes c by x f (nodes f + 2) (test_points c side x (atoms_of f)) (λ s m. (at s m).few_nodes);
     }

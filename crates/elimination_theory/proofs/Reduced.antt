@@ -9,7 +9,7 @@ use Rattle.exact_numbers.proofs.Order.{cancel_at_most, by_order}
 use Rattle.exact_numbers.proofs.Divisibility.{mul_divides_mul, divides_along, divisor_at_most, zero_divides}
 use Rattle.exact_numbers.proofs.LeastMultiple.{exact_div}
 use Rattle.exact_numbers.proofs.Contents.{content_is}
-use Rattle.formula_meaning.specs.Form.{Form, Term, scale, coefficient, without}
+use Rattle.formula_meaning.specs.Form.{Form, Term, scale, coefficient, without, coefficients}
 use Rattle.formula_meaning.specs.Atom.{Atom, Compare, Congruent, Relation, Equals, Differs, Below, AtMost, Above, AtLeast, mirrored}
 use Rattle.formula_meaning.specs.Answer.{Place, same_place}
 use Rattle.elimination_theory.specs.Side.{Side, Lower, Upper, turned}
@@ -23,7 +23,7 @@ use Rattle.elimination_theory.proofs.LowestTerms.{lowest, natural}
 quotient_divides : (g h x : ℤ) → ¬ (g ≡ pos 0) → Divides g x → Divides h (int_div x g) → Divides (g *ℤ h) x
 quotient_divides g h x n d e = divides_along (exact_div g x n d) (mul_divides_mul g e)
 
-terms_divide : (g : ℕ) (h : ℤ) (ts : List Term) → ¬ (pos g ≡ pos 0) → DividesAll (pos g) (map (λ (t : Term). t.times) ts) → DividesAll h (map (λ (t : Term). t.times) (terms_over g ts)) → DividesAll (pos g *ℤ h) (map (λ (t : Term). t.times) ts)
+terms_divide : (g : ℕ) (h : ℤ) (ts : List Term) → ¬ (pos g ≡ pos 0) → DividesAll (pos g) (coefficients ts) → DividesAll h (coefficients (terms_over g ts)) → DividesAll (pos g *ℤ h) (coefficients ts)
 terms_divide g h [] n d e = tt
 terms_divide g h (t ∷ ts) n d e = (quotient_divides (pos g) h t.times n d.0 e.0, terms_divide g h ts n d.1 e.1)
 

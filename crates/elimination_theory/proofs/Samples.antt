@@ -1,36 +1,34 @@
 -- Samples of answers found one after the other: with the values found so far put in, a branch says what it said.
-use Rattle.std.proofs.Common.{◌≡◌, ℕ, ◌*◌, ◌<◌, List, [], ◌∷◌, true, false, ap, refl, sym, ◌∙◌, subst, arith, inl, inr, ◌↔◌, nat_eq}
+use Rattle.std.proofs.Common.{◌≡◌, ℕ, ◌*◌, [], ◌∷◌, true, false, ap, refl, sym, ◌∙◌, subst, arith, ◌↔◌, nat_eq}
 use Rattle.std.proofs.Math.IntN.{ℤ, pos, ◌+ℤ◌, ◌*ℤ◌}
 use Rattle.std.specs.Prelude.{◌<ℤ◌}
 use Rattle.std.proofs.lemmas.Int.{ints}
 use Rattle.std.proofs.lemmas.Bool.{eq-eqb}
 use Rattle.exact_numbers.specs.Divides.{Divides}
-use Rattle.exact_numbers.proofs.Ring.{ring, zero_mul, mul_one, mul_comm}
+use Rattle.exact_numbers.proofs.Ring.{ring, mul_one, mul_comm}
 use Rattle.formula_meaning.specs.Context.{Context, Fields, Integers, Allowed}
 use Rattle.formula_meaning.specs.Point.{Point, Of, move}
 use Rattle.formula_meaning.specs.Form.{Form, value, coefficient, without}
 use Rattle.formula_meaning.specs.Shape.{IsPlain}
 use Rattle.formula_meaning.specs.Every.{Every}
-use Rattle.formula_meaning.specs.Replaced.{replaced}
 use Rattle.formula_meaning.specs.Atom.{Atom, Compare, Congruent, AtomIn, Says, Relates, IsMultiple}
 use Rattle.formula_meaning.specs.Answer.{Place, Exact, AboveBy, BelowBy, PlusInfinity, MinusInfinity, Periodic, Holds}
 use Rattle.formula_meaning.specs.Tree.{Tree, TrueAt, InContext}
-use Rattle.formula_meaning.proofs.Values.{value_move, at_move, below_move, pos_mul}
+use Rattle.formula_meaning.proofs.Values.{value_move, pos_mul}
 use Rattle.formula_meaning.proofs.Relations.{relates_zero_mul}
 use Rattle.formula_meaning.proofs.EachAtom.{every_map, every_both, every_all}
 use Rattle.formula_meaning.proofs.PlainTruth.{plain_replaced}
 use Rattle.formula_meaning.proofs.ReplacedShape.{every_replaced}
 use Rattle.formula_meaning.proofs.TreeReplacing.{moved_of}
 use Rattle.elimination_theory.specs.Substitution.{at_place}
-use Rattle.elimination_theory.specs.FieldsSubstitution.{IsFieldPlace}
 use Rattle.elimination_theory.specs.IntegersTheorems.{IsIntegerPlace, IsPeriodOf, Suits}
 use Rattle.elimination_theory.specs.BothTheories.{IsPlaceFor}
 use Rattle.elimination_theory.specs.Steps.{IsNormaliser}
-use Rattle.elimination_theory.specs.Answers.{Step, Makes, Lead}
-use Rattle.elimination_theory.specs.Samples.{form_with, atom_with, tree_with, IsSample, AreSamples, KeepsPeriods, SamplesAreTrue, SamplesExist}
-use Rattle.elimination_theory.proofs.FieldsLine.{both_ways}
+use Rattle.elimination_theory.specs.Answers.{Step, Makes}
+use Rattle.elimination_theory.specs.Samples.{form_with, atom_with, tree_with, IsSample, KeepsPeriods, SamplesAreTrue, SamplesExist}
+use Rattle.formula_meaning.proofs.Iff.{both_ways}
 use Rattle.elimination_theory.proofs.Meets.{meets_map}
-use Rattle.elimination_theory.proofs.Simple.{replaced_plain}
+use Rattle.elimination_theory.proofs.Simple.{simple_from, replaced_plain}
 use Rattle.elimination_theory.proofs.BothSubstitutions.{place_in}
 use Rattle.elimination_theory.proofs.Answers.{step_holds}
 use Rattle.elimination_theory.proofs.FieldsSample.{sample_is_true as field_sample_is_true}
@@ -93,7 +91,7 @@ module _ (c : Context) (by : Atom → Tree) (norm : IsNormaliser c by) (x : ℕ)
       (every_map _ _ (λ b i. both_ways (atom_with_says c x p k m b o i) (norm.equivalent (atom_with x p b) (atom_with_in c x p b i) (move nat_eq p x k m) (moved_of c p x k m o a))) f inside)
 
   pub tree_with_plain : IsPlain (tree_with by x p f) × InContext c (tree_with by x p f)
-  tree_with_plain = replaced_plain c (λ b. by (atom_with x p b)) f (λ b i. norm.simple (atom_with x p b) (atom_with_in c x p b i)) plain inside
+  tree_with_plain = replaced_plain c (λ b. by (atom_with x p b)) f (λ b i. simple_from c (by (atom_with x p b)) (norm.atomic (atom_with x p b) (atom_with_in c x p b i)) (norm.in_context (atom_with x p b) (atom_with_in c x p b i))) plain inside
 
 -- ---- periods
 

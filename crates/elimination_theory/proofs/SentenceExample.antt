@@ -1,10 +1,9 @@
 -- Two sentences decided.
-use Rattle.std.proofs.Common.{◌≡◌, ℕ, ◌*◌, ◌<◌, ap, refl, arith, nat_eq}
+use Rattle.std.proofs.Common.{◌≡◌, ℕ, ◌*◌, ap, arith, nat_eq}
 use Rattle.std.proofs.Math.IntN.{ℤ, pos, negsuc, ◌+ℤ◌, ◌*ℤ◌}
 use Rattle.std.specs.Prelude.{◌<ℤ◌}
 use Rattle.std.proofs.lemmas.Int.{ints}
-use Rattle.exact_numbers.proofs.Ring.{mul_one, mul_comm}
-use Rattle.formula_meaning.specs.Context.{Context, Fields, Integers, Allowed}
+use Rattle.formula_meaning.specs.Context.{Context, Fields, Integers}
 use Rattle.formula_meaning.specs.Point.{Point, Of, move}
 use Rattle.formula_meaning.specs.Form.{value}
 use Rattle.formula_meaning.specs.Formula.{One, Ex}
@@ -13,7 +12,7 @@ use Rattle.formula_meaning.specs.Tree.{TrueAt}
 use Rattle.elimination_theory.specs.FieldsExample.{difference}
 use Rattle.formula_meaning.proofs.Equivalence.{one_allowed}
 use Rattle.formula_meaning.proofs.TreeReplacing.{moved_of}
-use Rattle.elimination_theory.specs.SentenceExample.{some_half, none_greatest, SomeHalfIsDecided, NoneGreatestIsTrue}
+use Rattle.elimination_theory.specs.SentenceExample.{SomeHalfIsDecided, NoneGreatestIsTrue}
 
 half_of : (b : ℕ) → (pos 2 *ℤ pos b +ℤ pos 0) +ℤ negsuc 0 *ℤ pos (b * 2) ≡ pos 0
 half_of b = omega (arith, ints)

@@ -1,10 +1,10 @@
 -- With a name at a place an atom becomes a constant or an atom of the theory; formulas built by and and or stay so.
-use Rattle.std.proofs.Common.{◌≡◌, ℕ, suc, zero, ◌*◌, ◌<◌, ap, refl, ◌∙◌, mul-pos}
+use Rattle.std.proofs.Common.{◌≡◌, ℕ, suc, zero, ◌*◌, ap, refl, ◌∙◌, mul-pos}
 use Rattle.std.proofs.Math.IntN.{ℤ, pos, negsuc, neg_ℤ}
 use Rattle.formula_meaning.specs.Context.{Context, Fields, Integers}
 use Rattle.formula_meaning.specs.Formula.{Yes, No, One}
 use Rattle.formula_meaning.specs.Form.{Form, coefficient}
-use Rattle.formula_meaning.specs.Shape.{IsPlain}
+use Rattle.formula_meaning.specs.Shape.{IsAtomic, IsPlain}
 use Rattle.formula_meaning.specs.Sizes.{nodes}
 use Rattle.formula_meaning.specs.Atom.{Atom, Compare, Congruent, Relation, Equals, Differs, Below, AtMost, Above, AtLeast, AtomIn, form_of, mirrored}
 use Rattle.formula_meaning.specs.Replaced.{replaced}
@@ -12,11 +12,24 @@ use Rattle.formula_meaning.specs.Answer.{Place, Exact, AboveBy, BelowBy, PlusInf
 use Rattle.formula_meaning.specs.Tree.{Tree, InContext}
 use Rattle.formula_meaning.proofs.EachAtom.{every_map}
 use Rattle.formula_meaning.proofs.ReplacedShape.{plain_stays, every_replaced}
-use Rattle.elimination_theory.specs.Substitution.{form_at, below_all, beyond, exactly}
+use Rattle.elimination_theory.specs.Substitution.{form_at, below_all, beyond, exactly, where_zero}
 use Rattle.elimination_theory.specs.FieldsSubstitution.{just_above, just_below, beside}
-use Rattle.elimination_theory.specs.IntegersSubstitution.{where_zero, put_number, along, integer_guard}
+use Rattle.elimination_theory.specs.IntegersSubstitution.{put_number, along, integer_guard}
 use Rattle.elimination_theory.specs.BothTheories.{IsPlaceIn, raw_atom, substitution}
-use Rattle.elimination_theory.specs.Steps.{IsSimple, IsNormaliser, normalised}
+use Rattle.elimination_theory.specs.Steps.{IsNormaliser, normalised}
+
+-- a constant, or one atom of the theory
+abbrev pub IsSimple : Context → Tree → Type 0
+IsSimple c Yes = Unit {0}
+IsSimple c No = Unit {0}
+IsSimple c (One a) = AtomIn c a
+IsSimple c f = ⊥
+
+pub simple_from : (c : Context) (t : Tree) → IsAtomic t → InContext c t → IsSimple c t
+simple_from c Yes h i = tt
+simple_from c No h i = tt
+simple_from c (One a) h i = i
+simple_from c _ h i = absurd h
 
 pub simple_plain : (c : Context) (t : Tree) → IsSimple c t → IsPlain t
 simple_plain c Yes h = tt
@@ -39,7 +52,7 @@ simple_nodes c _ h = absurd h
 pub simple_normalised : (c : Context) (by : Atom → Tree) → IsNormaliser c by → (t : Tree) → IsSimple c t → IsSimple c (normalised by t)
 simple_normalised c by n Yes h = tt
 simple_normalised c by n No h = tt
-simple_normalised c by n (One a) h = n.simple a h
+simple_normalised c by n (One a) h = simple_from c (by a) (n.atomic a h) (n.in_context a h)
 simple_normalised c by n _ h = absurd h
 
 -- what both have, the chosen one has

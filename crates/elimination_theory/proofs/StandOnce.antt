@@ -1,21 +1,15 @@
 -- A list without repeats has each element once.
-use Rattle.std.proofs.Common.{◌≡◌, ℕ, Bool, true, false, ◌&&◌, List, [], ◌∷◌, subst, refl, inl, inr, nat_eq, flat_map, if◌then◌else◌}
-use Rattle.std.proofs.Math.IntN.{ℤ}
-use Rattle.std.specs.Ordering.{int_eq}
-use Rattle.std.proofs.lemmas.Bool.{eq-eqb}
-use Rattle.std.proofs.lemmas.Bool.Decides.{Decides-int_eq}
-use Rattle.formula_meaning.specs.Some.{SomeOf}
-use Rattle.formula_meaning.specs.Form.{Form, Term}
-use Rattle.formula_meaning.specs.Atom.{Atom, Compare, Congruent}
-use Rattle.formula_meaning.specs.Answer.{Place, Exact, AboveBy, BelowBy, PlusInfinity, MinusInfinity, Periodic, same_place}
-use Rattle.formula_meaning.specs.Distinct.{without_same, distinct, StandsOnce}
-use Rattle.formula_meaning.specs.Same.{same_terms, same_form, rank, same_atom}
+use Rattle.std.proofs.Common.{ap, sym, ◌∷◌, flat_map}
+use Rattle.formula_meaning.specs.Answer.{same_place}
+use Rattle.formula_meaning.specs.Same.{same_atom}
 use Rattle.elimination_theory.specs.Atoms.{atoms_in, atoms_of}
 use Rattle.elimination_theory.specs.FieldsPoints.{infinity_of, atom_points}
 use Rattle.elimination_theory.specs.IntegersPoints.{points_with, integer_scale, integer_span}
-use Rattle.elimination_theory.specs.PointsTheorems.{PointsStandOnce}
+use Rattle.elimination_theory.specs.PointsTheorems.{PointsStandOnce, AtomsMayRepeat}
 use Rattle.formula_meaning.proofs.Listed.{distinct_once}
-use Rattle.formula_meaning.proofs.Same.{atom_alike, place_alike}
+use Rattle.formula_meaning.specs.Distinct.{without_same}
+use Rattle.formula_meaning.proofs.Once.{once_is_enough}
+use Rattle.formula_meaning.proofs.Same.{atom_same, place_same, atom_alike, place_alike}
 
 pub points_once : PointsStandOnce
 points_once side x f = (
@@ -23,3 +17,7 @@ points_once side x f = (
   distinct_once same_place place_alike (infinity_of side ∷ flat_map (atom_points side x) (atoms_of f)),
   distinct_once same_place place_alike (points_with side (integer_scale x f) (integer_span x f) x (atoms_of f)),
 )
+
+pub atoms_repeat : AtomsMayRepeat
+atoms_repeat side x f =
+    ap (λ places. infinity_of side ∷ without_same same_place (infinity_of side) places) (sym (once_is_enough same_place place_same place_alike same_atom atom_same (atom_points side x) (atoms_in f)))

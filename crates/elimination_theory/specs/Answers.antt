@@ -2,7 +2,6 @@
 use Rattle.std.specs.Prelude.{ℕ, ◌↔◌, pos, List, [], ◌∷◌}
 use Rattle.formula_meaning.specs.Context.{Context}
 use Rattle.formula_meaning.specs.Point.{Point, Of}
-use Rattle.formula_meaning.specs.Form.{Form}
 use Rattle.formula_meaning.specs.Shape.{IsPlain}
 use Rattle.formula_meaning.specs.Answer.{Answer, Place, Exact, Holds}
 use Rattle.formula_meaning.specs.Tree.{Tree, TrueAt, InContext, IsFree, Equivalent}

@@ -6,6 +6,8 @@ use Rattle.formula_meaning.specs.Tree.{Tree, Trees}
 use Rattle.elimination_theory.specs.Side.{Side}
 use Rattle.elimination_theory.specs.FieldsPoints.{field_points}
 use Rattle.elimination_theory.specs.FieldsSubstitution.{field_substitution}
+use Rattle.elimination_theory.specs.IntegersSubstitution.{guarded_substitution}
+use Rattle.elimination_theory.specs.IntegersPoints.{integer_points}
 
 -- put s for each place s, in order
 abbrev pub trees_at : (Place → Tree) → List Place → Trees
@@ -15,3 +17,7 @@ trees_at put (s ∷ places) = also (put s) (trees_at put places)
 -- the formula with the name put at each test point of the side, joined by or
 abbrev pub field_elimination : Side → ℕ → Tree → Tree
 field_elimination side x f = Or (trees_at (λ s. field_substitution x s f) (field_points side x f))
+
+-- over the integers each with its guard
+abbrev pub integer_elimination : Side → ℕ → Tree → Tree
+integer_elimination side x f = Or (trees_at (λ s. guarded_substitution x s f) (integer_points side x f))

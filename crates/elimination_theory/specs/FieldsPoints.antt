@@ -2,7 +2,7 @@
 use Rattle.std.specs.Prelude.{◌≡◌, ℕ, suc, zero, ◌/◌, ℤ, pos, negsuc, List, [], ◌∷◌, map, flat_map, unsigned_abs, int_div}
 use Rattle.exact_numbers.specs.Divides.{content_of}
 use Rattle.formula_meaning.specs.Some.{SomeOf}
-use Rattle.formula_meaning.specs.Form.{Form, Term, coefficient, without, scale}
+use Rattle.formula_meaning.specs.Form.{Form, Term, coefficient, without, scale, coefficients}
 use Rattle.formula_meaning.specs.Atom.{Atom, Compare, Congruent, Relation, Equals, Differs, Below, AtMost, Above, AtLeast, mirrored}
 use Rattle.formula_meaning.specs.Answer.{Place, Exact, AboveBy, BelowBy, PlusInfinity, MinusInfinity, Periodic, same_place}
 use Rattle.formula_meaning.specs.Tree.{Tree}
@@ -12,7 +12,7 @@ use Rattle.elimination_theory.specs.Side.{Side, Lower, Upper, turned}
 
 -- all numbers of a form over a denominator
 abbrev pub numbers_of : Form → ℕ → List ℤ
-numbers_of e d = pos d ∷ e.constant ∷ map (λ (t : Term). t.times) e.terms
+numbers_of e d = pos d ∷ e.constant ∷ coefficients e.terms
 
 -- the greatest common divisor of these numbers
 abbrev pub divisor_of : Form → ℕ → ℕ

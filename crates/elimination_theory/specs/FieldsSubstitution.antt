@@ -1,5 +1,5 @@
 -- A name put at a place of the ordered fields (Loos and Weispfenning): the formula that results says nothing of infinitesimals.
-use Rattle.std.specs.Prelude.{ℕ, suc, zero, ◌<◌, ℤ, pos, negsuc, neg_ℤ, List, [], ◌∷◌}
+use Rattle.std.specs.Prelude.{ℕ, suc, zero, ◌<◌, ℤ, pos, negsuc, neg_ℤ}
 use Rattle.formula_meaning.specs.Formula.{Yes, No, One}
 use Rattle.formula_meaning.specs.Form.{Form, coefficient}
 use Rattle.formula_meaning.specs.Atom.{Atom, Compare, Congruent, Relation, Equals, Differs, Below, AtMost, Above, AtLeast}

@@ -5,9 +5,6 @@ use Rattle.formula_meaning.specs.Form.{Form, coefficient, without, scale, plus}
 use Rattle.formula_meaning.specs.Atom.{Atom, Compare, Congruent, Relation, Equals, Differs, Below, AtMost, Above, AtLeast, mirrored, form_of}
 use Rattle.formula_meaning.specs.Answer.{Place, Exact, Periodic, same_place}
 use Rattle.formula_meaning.specs.Tree.{Tree}
-use Rattle.formula_meaning.specs.Formula.{Or}
-use Rattle.elimination_theory.specs.IntegersSubstitution.{guarded_substitution}
-use Rattle.elimination_theory.specs.Elimination.{trees_at}
 use Rattle.formula_meaning.specs.Distinct.{distinct}
 use Rattle.elimination_theory.specs.Atoms.{atoms_of}
 use Rattle.elimination_theory.specs.Side.{Side, Lower, Upper, turned}
@@ -104,7 +101,3 @@ integer_count side x f = integer_count_of side x (atoms_of f)
 
 abbrev pub integer_points : Side → ℕ → Tree → List Place
 integer_points side x f = integer_points_of side x (atoms_of f)
-
--- f with the test points of a side put in for x, each with its guard
-abbrev pub integer_elimination : Side → ℕ → Tree → Tree
-integer_elimination side x f = Or (trees_at (λ s. guarded_substitution x s f) (integer_points side x f))

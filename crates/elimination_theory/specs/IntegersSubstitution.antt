@@ -1,5 +1,5 @@
 -- A name put at a place of the integers (Cooper): the atom that results, and the guard of the place.
-use Rattle.std.specs.Prelude.{ℕ, ℤ, pos, negsuc, zero, suc, ◌*◌, ◌*ℤ◌, neg_ℤ, List, [], ◌∷◌, true}
+use Rattle.std.specs.Prelude.{ℕ, ℤ, pos, negsuc, zero, suc, ◌*◌, ◌*ℤ◌, neg_ℤ, true}
 use Rattle.formula_meaning.specs.Formula.{Yes, One, And}
 use Rattle.formula_meaning.specs.NegationNormal.{both}
 use Rattle.formula_meaning.specs.Form.{Form, coefficient, without, plus}
@@ -7,13 +7,7 @@ use Rattle.formula_meaning.specs.Atom.{Atom, Compare, Congruent}
 use Rattle.formula_meaning.specs.Answer.{Place, Exact, AboveBy, BelowBy, PlusInfinity, MinusInfinity, Periodic}
 use Rattle.formula_meaning.specs.Replaced.{replaced}
 use Rattle.formula_meaning.specs.Tree.{Tree}
-use Rattle.elimination_theory.specs.Substitution.{form_at, beyond, exactly}
-
--- the first where the number is 0, else the second
-abbrev pub where_zero : {X : Type 0} → ℤ → X → X → X
-where_zero (pos zero) first second = first
-where_zero (pos (suc n)) first second = second
-where_zero (negsuc n) first second = second
+use Rattle.elimination_theory.specs.Substitution.{form_at, beyond, exactly, where_zero}
 
 -- a * j + t: the form a * x + t with the number j for x
 abbrev pub put_number : ℕ → ℤ → Form → Form

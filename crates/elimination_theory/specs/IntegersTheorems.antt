@@ -1,5 +1,5 @@
 -- The theorems of elimination over the integers, as statements.
-use Rattle.std.specs.Prelude.{◌+◌, length, flat_map, ◌*◌, ◌/◌, unsigned_abs, ◌≡◌, ℕ, ℤ, pos, ◌*ℤ◌, ◌<◌, ◌↔◌, List, [], ◌∷◌}
+use Rattle.std.specs.Prelude.{◌+◌, length, flat_map, ◌*◌, ◌/◌, unsigned_abs, ◌≡◌, ℕ, ℤ, pos, ◌*ℤ◌, ◌<◌, ◌↔◌, List}
 use Rattle.exact_numbers.specs.Divides.{Divides}
 use Rattle.formula_meaning.specs.Context.{Integers}
 use Rattle.formula_meaning.specs.Point.{Point, Of}
@@ -14,7 +14,8 @@ use Rattle.formula_meaning.specs.Tree.{Tree, TrueAt, InContext, Equivalent}
 use Rattle.elimination_theory.specs.Substitution.{at_place}
 use Rattle.elimination_theory.specs.Side.{Side}
 use Rattle.elimination_theory.specs.IntegersSubstitution.{integer_atom, integer_substitution, integer_guard}
-use Rattle.elimination_theory.specs.IntegersPoints.{scale_of, own_span, integer_count_of, atom_starts, integer_scale, integer_span, integer_points, integer_elimination}
+use Rattle.elimination_theory.specs.Elimination.{integer_elimination}
+use Rattle.elimination_theory.specs.IntegersPoints.{scale_of, own_span, integer_count_of, atom_starts, integer_scale, integer_span, integer_points}
 
 -- a step by the period takes the atom's form to a number of the same remainder
 abbrev pub IsPeriodOf : ℕ → ℤ → Atom → Type 0

@@ -20,3 +20,5 @@ pub mod Steps
 pub mod Answers
 pub mod Samples
 pub mod SentenceExample
+pub mod Overflow
+pub mod AnswersExample

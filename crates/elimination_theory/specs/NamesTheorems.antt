@@ -9,8 +9,8 @@ use Rattle.formula_meaning.specs.Tree.{Tree, InContext, IsFree}
 use Rattle.elimination_theory.specs.Side.{Side}
 use Rattle.elimination_theory.specs.FieldsPoints.{field_points}
 use Rattle.elimination_theory.specs.FieldsSubstitution.{field_substitution, IsFieldPlace}
-use Rattle.elimination_theory.specs.Elimination.{field_elimination}
-use Rattle.elimination_theory.specs.IntegersPoints.{integer_points, integer_elimination}
+use Rattle.elimination_theory.specs.Elimination.{field_elimination, integer_elimination}
+use Rattle.elimination_theory.specs.IntegersPoints.{integer_points}
 use Rattle.elimination_theory.specs.IntegersSubstitution.{guarded_substitution}
 use Rattle.elimination_theory.specs.IntegersTheorems.{IsIntegerPlace}
 

@@ -1,12 +1,16 @@
 -- What is said of the lists of test points in both theories.
-use Rattle.std.specs.Prelude.{ℕ}
+use Rattle.std.specs.Prelude.{◌≡◌, ℕ}
 use Rattle.formula_meaning.specs.Tree.{Tree}
 use Rattle.elimination_theory.specs.Side.{Side}
 use Rattle.formula_meaning.specs.Distinct.{StandsOnce}
-use Rattle.elimination_theory.specs.FieldsPoints.{field_points}
+use Rattle.elimination_theory.specs.FieldsPoints.{field_points, field_points_of}
 use Rattle.elimination_theory.specs.IntegersPoints.{integer_points}
-use Rattle.elimination_theory.specs.Atoms.{atoms_of}
+use Rattle.elimination_theory.specs.Atoms.{atoms_in, atoms_of}
 
 -- each atom and each test point stands once in its list
 abbrev pub PointsStandOnce : Type 0
 PointsStandOnce = (side : Side) (x : ℕ) (f : Tree) → StandsOnce (atoms_of f) × StandsOnce (field_points side x f) × StandsOnce (integer_points side x f)
+
+-- over the fields the atoms may be taken with repeats, as they stand in the text: the points are the same
+abbrev pub AtomsMayRepeat : Type 0
+AtomsMayRepeat = (side : Side) (x : ℕ) (f : Tree) → field_points_of side x (atoms_in f) ≡ field_points side x f

@@ -1,34 +1,27 @@
 -- One step of elimination as a program takes it: atoms are brought to normal form, the formula is folded, and what is false
 -- is dropped. It is exact for every normal form of atoms that keeps truth at the points of the theory.
-use Rattle.std.specs.Prelude.{◌≡◌, ℕ, ◌+◌, ◌≤◌, List, [], ◌∷◌}
+use Rattle.std.specs.Prelude.{ℕ, ◌+◌, ◌*◌, ◌≤◌, List, [], ◌∷◌, length}
 use Rattle.formula_meaning.specs.Context.{Context, Fields, Integers}
-use Rattle.formula_meaning.specs.Formula.{Yes, No, One, And, Or, Ex, none, also}
+use Rattle.formula_meaning.specs.Formula.{No, One, And, Or, Ex, none, also}
 use Rattle.formula_meaning.specs.Form.{coefficient}
 use Rattle.formula_meaning.specs.Atom.{Atom, AtomIn, form_of}
 use Rattle.formula_meaning.specs.Some.{Among}
-use Rattle.formula_meaning.specs.Sizes.{nodes}
-use Rattle.formula_meaning.specs.Shape.{IsPlain}
+use Rattle.formula_meaning.specs.Sizes.{nodes, all_nodes}
+use Rattle.formula_meaning.specs.Shape.{IsAtomic, IsPlain}
 use Rattle.formula_meaning.specs.NegationNormal.{both}
 use Rattle.formula_meaning.specs.Replaced.{replaced}
 use Rattle.formula_meaning.specs.Fold.{folded}
-use Rattle.formula_meaning.specs.Answer.{Place, Exact}
+use Rattle.formula_meaning.specs.Answer.{Place}
 use Rattle.formula_meaning.specs.Tree.{Tree, Trees, InContext, IsFree, Equivalent}
 use Rattle.elimination_theory.specs.Side.{Side}
 use Rattle.elimination_theory.specs.Atoms.{atoms_of}
-use Rattle.elimination_theory.specs.IntegersSubstitution.{where_zero}
-use Rattle.elimination_theory.specs.Decided.{IsEliminated}
+use Rattle.elimination_theory.specs.Substitution.{where_zero}
 use Rattle.elimination_theory.specs.BothTheories.{IsPlaceFor, raw_atom, guard_of, substitution, test_points}
 
--- a constant, or one atom of the theory
-abbrev pub IsSimple : Context → Tree → Type 0
-IsSimple c Yes = Unit {0}
-IsSimple c No = Unit {0}
-IsSimple c (One a) = AtomIn c a
-IsSimple c f = ⊥
-
--- by makes of each atom of the theory a constant or an atom of the same truth, without new names
+-- by makes of each atom of the theory a constant or an atom of the theory, of the same truth and without new names
 pub record IsNormaliser (c : Context) (by : Atom → Tree) : Type 0 where
-  pub simple : (a : Atom) → AtomIn c a → IsSimple c (by a)
+  pub atomic : (a : Atom) → AtomIn c a → IsAtomic (by a)
+  pub in_context : (a : Atom) → AtomIn c a → InContext c (by a)
   pub equivalent : (a : Atom) → AtomIn c a → Equivalent c (One a) (by a)
   pub names : (a : Atom) (y : ℕ) → AtomIn c a → IsFree (by a) y → IsFree (One a) y
 
@@ -78,10 +71,12 @@ pub record IsResult (c : Context) (x : ℕ) (f : Tree) (r : Result) : Type 0 whe
   pub names : (y : ℕ) → IsFree r.tree y → IsFree (Ex x f) y
   pub few_nodes : nodes r.tree ≤ nodes f + 2
 
--- One step is exact: ex(x, f) is equivalent to the disjunction of what is left, and each result is the substitution.
+-- One step is exact: ex(x, f) is equivalent to the disjunction of what is left, each result is the substitution, and for each
+-- test point there are at most two nodes more than f has.
 pub record StepIsExact (c : Context) (by : Atom → Tree) (side : Side) (x : ℕ) (f : Tree) : Type 0 where
   pub equivalent : Equivalent c (Ex x f) (Or (trees_left (step c by side x f)))
   pub each : (r : Result) → Among (step c by side x f) r → IsResult c x f r
+  pub few_nodes : all_nodes (trees_left (step c by side x f)) ≤ length (test_points c side x (atoms_of f)) * (nodes f + 2)
 
 abbrev pub StepsAreExact : Context → Type 0
 StepsAreExact c = (by : Atom → Tree) (side : Side) (x : ℕ) (f : Tree) → IsNormaliser c by → IsPlain f → InContext c f → StepIsExact c by side x f

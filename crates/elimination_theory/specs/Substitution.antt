@@ -34,3 +34,9 @@ abbrev pub exactly : ℤ → Relation → Form → Form → Tree
 exactly (pos zero) r f v = One (Compare r f)
 exactly (pos (suc n)) r f v = One (Compare r v)
 exactly (negsuc n) r f v = One (Compare r v)
+
+-- the first where the number is 0, else the second
+abbrev pub where_zero : {X : Type 0} → ℤ → X → X → X
+where_zero (pos zero) first second = first
+where_zero (pos (suc n)) first second = second
+where_zero (negsuc n) first second = second

@@ -2,6 +2,7 @@
 
 ghost use Rattle.elimination_theory.specs.IntegersExamples.{ClassesAreNeeded, PointsOfTwoXIsA, SubstitutionOfTwoXIsA, PointsOfEvenAboveA, SpanIsNeeded, GuardIsNeeded};
 ghost use Rattle.elimination_theory.specs.IntegersSample.{IntegerSampleIsTrue, IntegerSampleExists, IntegerSampleIsUnique};
+ghost use Rattle.elimination_theory.specs.Overflow.{SpanLimits};
 ghost use Rattle.elimination_theory.specs.IntegersTheorems.{IntegerPointsAreCounted, ScaleIsLeast, SpanIsLeast, IntegerScaleIsLeast, IntegerSpanIsLeast, IntegerTestPointsSuffice, IntegerTestPointsSuit, IntegerAtomIsExact, IntegerSubstitutionIsExact, IntegerEliminationIsExact};
 
 /// For a formula built by `and` and `or`, `ex(x, f)` is true exactly where some test point of the side makes `f` true.
@@ -91,4 +92,9 @@ pub fn residue_classes_are_needed()
 /// Without the guard `2*x = a` would be true at `a = 1`.
 pub fn guard_is_needed()
     ensures { GuardIsNeeded }
+{}
+
+/// Where the span is within the limit on numbers, so are the scale and each multiplied modulus.
+pub fn span_limits_all()
+    ensures { SpanLimits }
 {}

@@ -1,6 +1,6 @@
 //! The lists of test points.
 
-ghost use Rattle.elimination_theory.specs.PointsTheorems.{PointsStandOnce};
+ghost use Rattle.elimination_theory.specs.PointsTheorems.{PointsStandOnce, AtomsMayRepeat};
 ghost use Rattle.elimination_theory.specs.FieldsPoints.{FieldPointsAreInLowestTerms};
 
 /// Each atom of a formula and each of its test points stands once in its list, in both theories.
@@ -11,4 +11,9 @@ pub fn points_stand_once()
 /// Each test point of the ordered fields is in lowest terms.
 pub fn field_points_are_in_lowest_terms()
     ensures { FieldPointsAreInLowestTerms }
+{}
+
+/// Over the ordered fields the test points are those of the atoms as they stand in the text: repeats of atoms need not be dropped.
+pub fn atoms_may_repeat()
+    ensures { AtomsMayRepeat }
 {}

@@ -3,6 +3,7 @@
 ghost use Rattle.formula_meaning.specs.Context.{Context};
 ghost use Rattle.elimination_theory.specs.Steps.{StepsAreExact};
 ghost use Rattle.elimination_theory.specs.Answers.{AnswersHold, AbsentNameIsZero};
+ghost use Rattle.elimination_theory.specs.AnswersExample.{PeriodOfTheBranch};
 ghost use Rattle.elimination_theory.specs.Samples.{SamplesAreTrue, SamplesExist};
 
 /// One step is exact for every normal form of atoms that keeps truth: `ex(x, f)` is equivalent to the disjunction of what the
@@ -30,4 +31,10 @@ pub fn samples_are_true()
 /// Where the last branch is true there are samples.
 pub fn samples_exist()
     ensures { (c : Context) → SamplesExist c }
+{}
+
+/// `y = 3 - 3*infinity, x = y` are answers of `x = y and (cong(x+y+1,0,4) or cong(y,0,3))`: the period is one of the branch
+/// that is left when `y` is put in for `x`.
+pub fn period_of_the_branch()
+    ensures { PeriodOfTheBranch }
 {}

@@ -1,11 +1,10 @@
 -- Equivalence goes through connectives and quantifiers; quantifiers go over lists, and those of absent names go.
-use Rattle.std.proofs.Common.{◌≡◌, ℕ, ◌*◌, ◌<◌, Bool, true, false, refl, sym, subst, ◌∙◌, arith, inl, inr, ⊎_elim, ◌↔◌, nat_eq, eqb-true, if◌then◌else◌}
+use Rattle.std.proofs.Common.{◌≡◌, ℕ, Bool, true, false, refl, sym, subst, arith, inl, inr, ⊎_elim, ◌↔◌, nat_eq, eqb-true, if◌then◌else◌}
 use Rattle.std.proofs.Math.IntN.{ℤ, pos, ◌*ℤ◌}
 use Rattle.formula_meaning.specs.Context.{Context, Fields, Integers, Allowed}
-use Rattle.formula_meaning.specs.Point.{Point, Of, move, finer, AgreeOn}
+use Rattle.formula_meaning.specs.Point.{Point, move, finer, AgreeOn}
 use Rattle.formula_meaning.specs.Formula.{Yes, No, One, Not, And, Or, Impl, Repl, Equiv, Ex, All, none, also}
-use Rattle.formula_meaning.specs.Truth.{AllTrue, SomeTrue}
-use Rattle.formula_meaning.specs.Atom.{Atom, Says}
+use Rattle.formula_meaning.specs.Atom.{Atom}
 use Rattle.formula_meaning.specs.Every.{Every, EveryOf}
 use Rattle.formula_meaning.specs.Replaced.{replaced, all_replaced}
 use Rattle.formula_meaning.specs.Tree.{Tree, Trees, TrueAt, IsFree, Equivalent, AreEquivalent, each_ex, each_all}

@@ -1,17 +1,14 @@
 -- Worked examples of the definitions, by hand. Each side is computed. The atoms of the formulas are numbers, and the names too.
 use Rattle.std.proofs.Common.{◌≡◌, ℕ, ◌+◌, true, false, List, [], ◌∷◌, refl, nat_eq}
 use Rattle.std.proofs.Math.IntN.{ℤ, pos, negsuc}
-use Rattle.formula_meaning.specs.Context.{Integers}
-use Rattle.formula_meaning.specs.Point.{Point}
-use Rattle.formula_meaning.specs.Form.{Form, Term, value, coefficient, without, scale, combine, plus}
+use Rattle.formula_meaning.specs.Form.{Form, Term, value, coefficient, combine}
 use Rattle.formula_meaning.specs.Sorted.{gathered}
-use Rattle.formula_meaning.specs.Formula.{Formula, Formulas, Yes, No, One, Not, And, Or, Impl, Repl, Equiv, Ex, All, none, also}
-use Rattle.formula_meaning.specs.Shape.{IsPrenex, IsPlain, IsNegationNormal, Exists, ForAll, blocks_from, fewest_blocks, block_of, matrix_of, leading}
+use Rattle.formula_meaning.specs.Formula.{Formula, Yes, No, One, Not, And, Or, Impl, Repl, Equiv, Ex, All, none, also}
+use Rattle.formula_meaning.specs.Shape.{IsPrenex, Exists, ForAll, blocks_from, fewest_blocks, block_of, matrix_of, leading}
 use Rattle.formula_meaning.specs.NegationNormal.{both, normal_form, normal_form_of_not}
 use Rattle.formula_meaning.specs.Fold.{folded}
 use Rattle.formula_meaning.specs.Sizes.{nodes, height, distinct_count, free_names}
-use Rattle.formula_meaning.specs.Atom.{Atom, Compare, Congruent, Below, AtLeast, Says, opposite}
-use Rattle.formula_meaning.specs.Answer.{Answer, Exact, AboveBy, Periodic, PlaceMentions, Holds}
+use Rattle.formula_meaning.specs.Atom.{Compare, Congruent, Below, AtLeast, Says, opposite}
 use Rattle.formula_meaning.specs.Tree.{tree_names}
 
 abbrev F : Type 0

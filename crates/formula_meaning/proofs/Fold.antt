@@ -1,23 +1,14 @@
 -- Folding keeps truth, atoms and shape, and brings no names and no nodes.
-use Rattle.std.proofs.Common.{◌≡◌, ℕ, suc, ◌+◌, ◌≤◌, ap, refl, arith, ◌⊎◌, inl, inr, ⊎_elim, ◌↔◌, Option, None, Some}
+use Rattle.std.proofs.Common.{◌≡◌, ℕ, suc, ◌+◌, ◌≤◌, refl, arith, ◌⊎◌, inl, inr, ⊎_elim, ◌↔◌, Option, None, Some}
 use Rattle.std.proofs.Math.IntN.{ℤ}
-use Rattle.formula_meaning.specs.Context.{Context, Allowed}
+use Rattle.formula_meaning.specs.Context.{Context}
 use Rattle.formula_meaning.specs.Formula.{Formula, Formulas, Yes, No, One, Not, And, Or, Impl, Repl, Equiv, Ex, All, none, also}
 use Rattle.formula_meaning.specs.Truth.{True, AllTrue, SomeTrue}
 use Rattle.formula_meaning.specs.Every.{Every, EveryOf, Free, FreeInSome}
 use Rattle.formula_meaning.specs.Shape.{IsPlain, ArePlain}
 use Rattle.formula_meaning.specs.Sizes.{nodes, all_nodes}
 use Rattle.formula_meaning.specs.Fold.{Junction, Conjunction, Disjunction, joined, neutral, absorbing, append, pieces_of, put_together, all_pieces, from_pieces, fold_list, folded, all_folded}
-use Rattle.formula_meaning.proofs.Sizes.{nodes_positive}
-
-through : {P Q R : Type 0} → P ↔ Q → Q ↔ R → P ↔ R
-through i j = (λ t. j.0 (i.0 t), λ t. i.1 (j.1 t))
-
-pair_iff : {P Q R S : Type 0} → P ↔ Q → R ↔ S → (P × R) ↔ (Q × S)
-pair_iff i j = (λ t. (i.0 t.0, j.0 t.1), λ t. (i.1 t.0, j.1 t.1))
-
-either_iff : {P Q R S : Type 0} → P ↔ Q → R ↔ S → (P ⊎ R) ↔ (Q ⊎ S)
-either_iff i j = (⊎_elim (λ t. inl (i.0 t)) (λ t. inr (j.0 t)), ⊎_elim (λ t. inl (i.1 t)) (λ t. inr (j.1 t)))
+use Rattle.formula_meaning.proofs.Iff.{both_ways, pair_iff, either_iff}
 
 module _ {A N : Type 0} where
   -- the pieces joined, where a piece that decides the whole stands for it
@@ -93,7 +84,7 @@ module _ {A N P : Type 0} (says : A → P → Type 0) (move : P → N → ℤ �
   pieces_true j none p = start_true j p
   pieces_true j (also f fs) p =
       let i = piece_true j f p in
-      through (also_true j f fs p) (through (joins_iff j (i.1, i.0) (pieces_true j fs p)) (let k = together_true j (pieces_of j f) (all_pieces j fs) p in (k.1, k.0)))
+      both_ways (also_true j f fs p) (both_ways (joins_iff j (i.1, i.0) (pieces_true j fs p)) (let k = together_true j (pieces_of j f) (all_pieces j fs) p in (k.1, k.0)))
 
   joined_true : (j : Junction) (o : Option (Formulas A N)) (p : P) → True says move c (whole j o) p ↔ True says move c (from_pieces j o) p
   joined_true j None p = (λ t. t, λ t. t)
@@ -102,7 +93,7 @@ module _ {A N P : Type 0} (says : A → P → Type 0) (move : P → N → ℤ �
   joined_true j (Some (also f (also g gs))) p = (λ t. t, λ t. t)
 
   pub fold_list_true : (j : Junction) (fs : Formulas A N) (p : P) → True says move c (joined j fs) p ↔ True says move c (fold_list j fs) p
-  fold_list_true j fs p = through (pieces_true j fs p) (joined_true j (all_pieces j fs) p)
+  fold_list_true j fs p = both_ways (pieces_true j fs p) (joined_true j (all_pieces j fs) p)
 
   mutual
     pub folded_true : (f : Formula A N) (p : P) → True says move c f p ↔ True says move c (folded f) p
@@ -110,8 +101,8 @@ module _ {A N P : Type 0} (says : A → P → Type 0) (move : P → N → ℤ �
     folded_true No p = (λ t. t, λ t. t)
     folded_true (One a) p = (λ t. t, λ t. t)
     folded_true (Not f) p = let i = folded_true f p in (λ n t. n (i.1 t), λ n t. n (i.0 t))
-    folded_true (And fs) p = through (all_folded_true fs p) (fold_list_true Conjunction (all_folded fs) p)
-    folded_true (Or fs) p = through (some_folded_true fs p) (fold_list_true Disjunction (all_folded fs) p)
+    folded_true (And fs) p = both_ways (all_folded_true fs p) (fold_list_true Conjunction (all_folded fs) p)
+    folded_true (Or fs) p = both_ways (some_folded_true fs p) (fold_list_true Disjunction (all_folded fs) p)
     folded_true (Impl f g) p = let i = folded_true f p in let j = folded_true g p in (λ t u. j.0 (t (i.1 u)), λ t u. j.1 (t (i.0 u)))
     folded_true (Repl f g) p = let i = folded_true f p in let j = folded_true g p in (λ t u. i.0 (t (j.1 u)), λ t u. i.1 (t (j.0 u)))
     folded_true (Equiv f g) p =
@@ -198,6 +189,7 @@ module _ {A N : Type 0} where
       split : (j : Junction) (fs : Formulas A N) → IsPlain (joined j fs) → ArePlain fs
       split Conjunction fs h = h
       split Disjunction fs h = h
+
       join : (j : Junction) (fs : Formulas A N) → ArePlain fs → IsPlain (joined j fs)
       join Conjunction fs h = h
       join Disjunction fs h = h
@@ -215,6 +207,7 @@ module _ {A N : Type 0} where
       split : (j : Junction) (fs : Formulas A N) → Every P (joined j fs) → EveryOf P fs
       split Conjunction fs h = h
       split Disjunction fs h = h
+
       join : (j : Junction) (fs : Formulas A N) → EveryOf P fs → Every P (joined j fs)
       join Conjunction fs h = h
       join Disjunction fs h = h
@@ -233,6 +226,7 @@ module _ {A N : Type 0} where
       split : (j : Junction) (fs : Formulas A N) → (Free mentions (joined j fs) x → C) → FreeInSome mentions fs x → C
       split Conjunction fs h = h
       split Disjunction fs h = h
+
       join : (j : Junction) (fs : Formulas A N) → (FreeInSome mentions fs x → C) → Free mentions (joined j fs) x → C
       join Conjunction fs h = h
       join Disjunction fs h = h

@@ -175,6 +175,11 @@ gathered_combine a f b g =
     (λ x. coefficient_combine x a f b g ∙ sym (coefficient_combine x a (gathered f) b (gathered g) ∙ ap₂ (λ u v. a *ℤ u +ℤ b *ℤ v) (coefficient_gathered x f) (coefficient_gathered x g)))
     (constant_combine a f b g ∙ sym (constant_combine a (gathered f) b (gathered g) ∙ ap₂ (λ u v. a *ℤ u +ℤ b *ℤ v) (constant_gathered f) (constant_gathered g)))
 
+-- a sorted form with the numbers of a combination is its sorted form
+pub gathered_combination : (a : ℤ) (f : Form) (b : ℤ) (g r : Form) → IsSorted r → ((x : ℕ) → coefficient x r ≡ a *ℤ coefficient x f +ℤ b *ℤ coefficient x g) →
+    r.constant ≡ a *ℤ f.constant +ℤ b *ℤ g.constant → gathered (combine a f b g) ≡ r
+gathered_combination a f b g r s e c = gathered_is (combine a f b g) r s (λ x. e x ∙ sym (coefficient_combine x a f b g)) (c ∙ sym (constant_combine a f b g))
+
 -- a factor other than 0 keeps a form sorted
 pub gathered_scale : (a : ℤ) (f : Form) → ¬ (a ≡ pos 0) → gathered (scale a f) ≡ scale a (gathered f)
 gathered_scale a f n =

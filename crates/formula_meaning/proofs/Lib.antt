@@ -1,5 +1,7 @@
+pub mod Iff
 pub mod Values
 pub mod Listed
+pub mod Once
 pub mod Same
 pub mod Sizes
 pub mod Relations

@@ -10,6 +10,10 @@ use Rattle.formula_meaning.specs.Atom.{Relation, Equals, Differs, Below, AtMost,
 pub weaken : {k : ℤ} → pos 0 <ℤ k → pos 0 ≤ℤ k
 weaken {k} h = omega (arith, ints)
 
+-- a relation of equal numbers
+pub relates_along : (r : Relation) {a b : ℤ} (c : ℤ) → a ≡ b → Relates r a c ↔ Relates r b c
+relates_along r {a} {b} c e = subst (λ z. Relates r a c ↔ Relates r z c) e (λ h. h, λ h. h)
+
 -- a positive factor keeps each relation
 pub relates_mul : (r : Relation) (k a b : ℤ) → pos 0 <ℤ k → Relates r a b ↔ Relates r (k *ℤ a) (k *ℤ b)
 relates_mul Equals k a b h = (λ e. ap (λ z. k *ℤ z) e, λ e. cancel_positive k h e)

@@ -1,10 +1,11 @@
 -- Sizes, the equality test and the free names of formulas.
-use Rattle.std.proofs.Common.{◌≡◌, ℕ, suc, ◌+◌, ◌≤◌, ◌<◌, max, Bool, true, false, ◌&&◌, List, [], ◌∷◌, ◌++◌, length, ap, ap₂, sym, ◌∙◌, subst, refl, arith, ◌⊎◌, inl, inr, ⊎_elim, ◌↔◌, if◌then◌else◌}
+use Rattle.std.proofs.Common.{◌≡◌, ℕ, suc, ◌+◌, ◌≤◌, ◌<◌, Bool, true, false, List, [], ◌∷◌, ◌++◌, length, ap, ap₂, sym, ◌∙◌, subst, refl, arith, ◌⊎◌, inl, inr, ⊎_elim, ◌↔◌, if◌then◌else◌}
 use Rattle.formula_meaning.specs.Formula.{Formula, Formulas, Yes, No, One, Not, And, Or, Impl, Repl, Equiv, Ex, All, none, also}
-use Rattle.formula_meaning.specs.Some.{SomeOf, Among}
+use Rattle.formula_meaning.specs.Some.{Among}
 use Rattle.formula_meaning.specs.Every.{Free, FreeInSome}
 use Rattle.formula_meaning.specs.Distinct.{without_same, distinct}
-use Rattle.formula_meaning.specs.Sizes.{nodes, all_nodes, height, greatest_height, subtrees, all_subtrees, same_formula, same_formulas, distinct_subtrees, distinct_count, free_places, all_free_places, free_names}
+use Rattle.formula_meaning.specs.Sizes.{nodes, all_nodes, height, greatest_height, subtrees, all_subtrees, same_formula, same_formulas, distinct_count, free_places, all_free_places, free_names}
+use Rattle.formula_meaning.proofs.Iff.{both_ways, either_iff}
 use Rattle.formula_meaning.proofs.Listed.{among_left, among_right, among_append, distinct_among, among_distinct}
 use Rattle.formula_meaning.proofs.Same.{and_left, and_right, both_true}
 
@@ -128,14 +129,8 @@ module _ {A N : Type 0} (alike : A → A → Bool) (same : N → N → Bool) whe
 
 -- ---- free names
 
-either : {P Q R S : Type 0} → P ↔ Q → R ↔ S → (P ⊎ R) ↔ (Q ⊎ S)
-either i j = (⊎_elim (λ t. inl (i.0 t)) (λ t. inr (j.0 t)), ⊎_elim (λ t. inl (i.1 t)) (λ t. inr (j.1 t)))
-
 among_either : {X : Type 0} (xs ys : List X) (x : X) → Among (xs ++ ys) x ↔ (Among xs x ⊎ Among ys x)
 among_either xs ys x = (among_append xs ys x, ⊎_elim (among_left xs ys x) (among_right xs ys x))
-
-through : {P Q R : Type 0} → P ↔ Q → Q ↔ R → P ↔ R
-through i j = (λ t. j.0 (i.0 t), λ t. i.1 (j.1 t))
 
 module _ {N : Type 0} (same : N → N → Bool) (sound : (x y : N) → same x y ≡ true → x ≡ y) (alike : (x : N) → same x x ≡ true) where
   -- without a name: the other elements
@@ -163,9 +158,9 @@ module _ {N : Type 0} (same : N → N → Bool) (sound : (x y : N) → same x y 
       free_place_is (Not f) x = free_place_is f x
       free_place_is (And fs) x = all_free_place_is fs x
       free_place_is (Or fs) x = all_free_place_is fs x
-      free_place_is (Impl f g) x = through (among_either (free_places names_of same f) (free_places names_of same g) x) (either (free_place_is f x) (free_place_is g x))
-      free_place_is (Repl f g) x = through (among_either (free_places names_of same f) (free_places names_of same g) x) (either (free_place_is f x) (free_place_is g x))
-      free_place_is (Equiv f g) x = through (among_either (free_places names_of same f) (free_places names_of same g) x) (either (free_place_is f x) (free_place_is g x))
+      free_place_is (Impl f g) x = both_ways (among_either (free_places names_of same f) (free_places names_of same g) x) (either_iff (free_place_is f x) (free_place_is g x))
+      free_place_is (Repl f g) x = both_ways (among_either (free_places names_of same f) (free_places names_of same g) x) (either_iff (free_place_is f x) (free_place_is g x))
+      free_place_is (Equiv f g) x = both_ways (among_either (free_places names_of same f) (free_places names_of same g) x) (either_iff (free_place_is f x) (free_place_is g x))
       free_place_is (Ex y f) x =
           let i = without_is y (free_places names_of same f) x in let j = free_place_is f x in
           (λ t. let u = i.0 t in (u.0, j.0 u.1), λ t. i.1 (t.0, j.1 t.1))
@@ -175,7 +170,7 @@ module _ {N : Type 0} (same : N → N → Bool) (sound : (x y : N) → same x y 
 
       all_free_place_is : (fs : Formulas A N) (x : N) → Among (all_free_places names_of same fs) x ↔ FreeInSome mentions fs x
       all_free_place_is none x = (λ t. t, λ t. t)
-      all_free_place_is (also f fs) x = through (among_either (free_places names_of same f) (all_free_places names_of same fs) x) (either (free_place_is f x) (all_free_place_is fs x))
+      all_free_place_is (also f fs) x = both_ways (among_either (free_places names_of same f) (all_free_places names_of same fs) x) (either_iff (free_place_is f x) (all_free_place_is fs x))
 
     -- the listed names are the free ones
     pub free_name_is : (f : Formula A N) (x : N) → Among (free_names names_of same f) x ↔ Free mentions f x

@@ -1,12 +1,12 @@
 -- The free names of a tree, as a list.
-use Rattle.std.proofs.Common.{◌≡◌, ◌<◌, ℕ, Bool, true, false, List, [], ◌∷◌, map, sym, ◌∙◌, subst, refl, arith, ◌⊎◌, inl, inr, ⊎_elim, ◌↔◌, nat_eq, if◌then◌else◌, eqb-true}
-use Rattle.std.proofs.Math.IntN.{ℤ, pos}
+use Rattle.std.proofs.Common.{◌≡◌, ◌<◌, ℕ, true, List, [], ◌∷◌, map, sym, ◌∙◌, subst, refl, arith, inl, inr, ◌↔◌, nat_eq, eqb-true}
+use Rattle.std.proofs.Math.IntN.{pos}
 use Rattle.std.proofs.lemmas.Bool.{eq-eqb, cases_eq}
 use Rattle.formula_meaning.specs.Some.{Among}
 use Rattle.formula_meaning.specs.Form.{Form, Term, multiple, coefficient}
 use Rattle.formula_meaning.specs.Sorted.{AllAbove, IsRising, AllNonzero, IsSorted, gathered}
 use Rattle.formula_meaning.specs.Atom.{Atom, Mentions, form_of}
-use Rattle.formula_meaning.specs.Tree.{Tree, IsFree, atom_names, tree_names}
+use Rattle.formula_meaning.specs.Tree.{atom_names}
 use Rattle.formula_meaning.specs.Laws.{FreeNamesAreListed}
 use Rattle.formula_meaning.proofs.Sorted.{here, elsewhere}
 use Rattle.formula_meaning.proofs.Gathered.{gathered_sorted, coefficient_gathered}

@@ -2,23 +2,19 @@
 use Rattle.std.proofs.Common.{ℕ}
 use Rattle.formula_meaning.specs.Context.{Context, Fields, Integers}
 use Rattle.formula_meaning.specs.Atom.{Atom, Compare, Congruent, AtomIn, Mentions, opposite}
-use Rattle.formula_meaning.specs.Tree.{Tree, InContext, IsFree, negation_normal, negated}
-use Rattle.formula_meaning.proofs.EachAtom.{every_map, every_all}
-use Rattle.formula_meaning.proofs.NormalShape.{normal_form_every, normal_form_brings}
+use Rattle.formula_meaning.specs.Tree.{Tree, IsFree, negation_normal, negated}
+use Rattle.formula_meaning.proofs.EachAtom.{every_all}
+use Rattle.formula_meaning.proofs.NormalShape.{normal_form_brings}
 
 pub opposite_in : (c : Context) (a : Atom) → AtomIn c a → AtomIn c (opposite a)
 opposite_in c (Compare r f) h = tt
 opposite_in Fields (Congruent holds n f) h = h
 opposite_in Integers (Congruent holds n f) h = h
 
--- the negation normal form stays in the theory
-pub tree_normal_in : (c : Context) (f : Tree) → InContext c f → InContext c (negation_normal f) × InContext c (negated f)
-tree_normal_in c f h = normal_form_every opposite (AtomIn c) f (every_map _ _ (λ a i. (i, opposite_in c a i)) f h)
-
 opposite_mentions : (a : Atom) (x : ℕ) → Mentions (opposite a) x → Mentions a x
 opposite_mentions (Compare r f) x t = t
 opposite_mentions (Congruent holds n f) x t = t
 
--- and brings no name
+-- the negation normal form brings no name
 pub tree_normal_free : (f : Tree) (x : ℕ) → (IsFree (negation_normal f) x → IsFree f x) × (IsFree (negated f) x → IsFree f x)
 tree_normal_free f x = normal_form_brings opposite Mentions x f (every_all _ (λ a. opposite_mentions a x) f)

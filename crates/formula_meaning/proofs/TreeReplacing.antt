@@ -3,10 +3,8 @@ use Rattle.std.proofs.Common.{◌≡◌, ℕ, ap, sym, subst, refl, ◌<◌, ◌
 use Rattle.std.proofs.Math.IntN.{ℤ}
 use Rattle.formula_meaning.specs.Context.{Context, Fields, Integers, Allowed}
 use Rattle.formula_meaning.specs.Point.{Point, Of, move}
-use Rattle.formula_meaning.specs.Formula.{One}
-use Rattle.formula_meaning.specs.Every.{Every}
-use Rattle.formula_meaning.specs.Atom.{Atom, Says}
-use Rattle.formula_meaning.specs.Tree.{Tree, TrueAt, Equivalent}
+use Rattle.formula_meaning.specs.Atom.{Says}
+use Rattle.formula_meaning.specs.Tree.{TrueAt}
 use Rattle.formula_meaning.specs.Laws.{ReplacingKeepsTruth}
 use Rattle.formula_meaning.proofs.EachAtom.{every_map, every_bound}
 use Rattle.formula_meaning.proofs.Replacing.{replacing_keeps_truth}

@@ -114,17 +114,3 @@ finer_constant m c b bm r s e f = let g = simp ring at (ap (λ z. c *ℤ z) f) i
 pub value_finer : (f : Form) (p : Point ℕ) (m : ℕ) → value f (finer p m) ≡ pos m *ℤ value f p
 unfolding value finer
 value_finer f p m = finer_constant (pos m) f.constant (pos p.below) _ _ (total f.terms p.at) (total_finer f.terms p.at (pos m)) (pos_mul p.below m)
-
-total_others_move : (ts : List Term) (at : ℕ → ℤ) (x : ℕ) (k : ℤ) (m : ℤ) → total (others x ts) (λ y. if nat_eq x y then k else m *ℤ at y) ≡ m *ℤ total (others x ts) at
-total_others_move [] at x k m = sym (mul_zero m)
-total_others_move (t ∷ ts) at x k m = go (nat_eq x t.name) refl (total_others_move ts at x k m)
-  where
-    go : (b : Bool) → nat_eq x t.name ≡ b → total (others x ts) (λ y. if nat_eq x y then k else m *ℤ at y) ≡ m *ℤ total (others x ts) at →
-        total (if b then others x ts else t ∷ others x ts) (λ y. if nat_eq x y then k else m *ℤ at y) ≡ m *ℤ total (if b then others x ts else t ∷ others x ts) at
-    go true e h = h
-    go false e h = subst (λ (b : Bool). t.times *ℤ (if b then k else m *ℤ at t.name) +ℤ total (others x ts) (λ y. if nat_eq x y then k else m *ℤ at y) ≡ m *ℤ (t.times *ℤ at t.name +ℤ total (others x ts) at)) (sym e) (finer_step t.times m (at t.name) _ (total (others x ts) at) h)
-
--- what does not contain the name does not see its number
-pub value_without_move : (f : Form) (p : Point ℕ) (x : ℕ) (k : ℤ) (m : ℕ) → value (without x f) (move nat_eq p x k m) ≡ pos m *ℤ value (without x f) p
-unfolding value move without
-value_without_move f p x k m = finer_constant (pos m) f.constant (pos p.below) _ _ (total (others x f.terms) p.at) (total_others_move f.terms p.at x k (pos m)) (pos_mul p.below m)

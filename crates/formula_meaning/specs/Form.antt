@@ -26,6 +26,11 @@ abbrev pub multiple : ℕ → List Term → ℤ
 multiple x [] = pos 0
 multiple x (t ∷ ts) = if nat_eq x t.name then t.times +ℤ multiple x ts else multiple x ts
 
+-- the multiples, in the order of the terms
+abbrev pub coefficients : List Term → List ℤ
+coefficients [] = []
+coefficients (t ∷ ts) = t.times ∷ coefficients ts
+
 -- the terms of all other names
 abbrev pub others : ℕ → List Term → List Term
 others x [] = []

@@ -4,6 +4,7 @@ pub mod Formula
 pub mod Truth
 pub mod Form
 pub mod Sorted
+pub mod Combining
 pub mod Some
 pub mod Distinct
 pub mod Atom

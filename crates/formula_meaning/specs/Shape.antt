@@ -3,6 +3,13 @@ use Rattle.std.specs.Prelude.{ℕ, suc, max, min, Bool, true, false, List, [], �
 use Rattle.formula_meaning.specs.Formula.{Formula, Formulas, Yes, No, One, Not, And, Or, Impl, Repl, Equiv, Ex, All, none, also}
 
 module _ {A N : Type 0} where
+  -- a constant, or one atom
+  abbrev pub IsAtomic : Formula A N → Type 0
+  IsAtomic Yes = Unit {0}
+  IsAtomic No = Unit {0}
+  IsAtomic (One a) = Unit {0}
+  IsAtomic f = ⊥
+
   abbrev mutual
     -- no quantifier stands in the formula
     pub IsQuantifierFree : Formula A N → Type 0

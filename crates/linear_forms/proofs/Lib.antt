@@ -11,3 +11,5 @@ pub mod Steps
 pub mod Determined
 pub mod Equal
 pub mod Reduced
+pub mod Quotients
+pub mod Residues

@@ -47,12 +47,12 @@ divided_form d xs ys c k f z r e v =
 
 -- ---- modulo a number
 
--- a split on the test of a residue
-by_test : (P : Bool → Type 0) (n : ℤ) → ((n ≡ pos 0) → P true) → (¬ (n ≡ pos 0) → P false) → P (int_eq n (pos 0))
-by_test P n zero other = go (int_eq n (pos 0)) (signed_Decides n (pos 0))
+-- a split on the test whether two numbers are one
+pub by_equal : (P : Bool → Type 0) (a b : ℤ) → (a ≡ b → P true) → (¬ (a ≡ b) → P false) → P (int_eq a b)
+by_equal P a b same other = go (int_eq a b) (signed_Decides a b)
   where
-    go : (b : Bool) → Decides b (n ≡ pos 0) → P b
-    go true d = zero (d.0 refl)
+    go : (t : Bool) → Decides t (a ≡ b) → P t
+    go true d = same (d.0 refl)
     go false d = other (λ e. let x : false ≡ true = d.1 e in absurd (cc))
 
 module _ (m : ℤ) where
@@ -62,14 +62,14 @@ module _ (m : ℤ) where
   pub residues_other : (t : Term) (ts : List Term) → ¬ (residue_of t.times m ≡ pos 0) → residues m (t ∷ ts) ≡ record { times = residue_of t.times m; name = t.name } ∷ residues m ts
   residues_other t ts n =
       let P : Bool → Type 0 = λ b. (if b then residues m ts else record { times = residue_of t.times m; name = t.name } ∷ residues m ts) ≡ record { times = residue_of t.times m; name = t.name } ∷ residues m ts in
-      by_test P (residue_of t.times m) (λ e. absurd (n e)) (λ _. refl)
+      by_equal P (residue_of t.times m) (pos 0) (λ e. absurd (n e)) (λ _. refl)
 
   -- what each step of the list keeps
   module _ (Q : List Term → Type 0) (t : Term) (ts : List Term) where
     pub by_residue : (residue_of t.times m ≡ pos 0 → Q (residues m ts)) → (¬ (residue_of t.times m ≡ pos 0) → Q (record { times = residue_of t.times m; name = t.name } ∷ residues m ts)) → Q (residues m (t ∷ ts))
     by_residue zero other =
         let P : Bool → Type 0 = λ b. Q (if b then residues m ts else record { times = residue_of t.times m; name = t.name } ∷ residues m ts) in
-        by_test P (residue_of t.times m) zero other
+        by_equal P (residue_of t.times m) (pos 0) zero other
 
   pub above_residues : (x : ℕ) (ts : List Term) → AllAbove x ts → AllAbove x (residues m ts)
   above_residues x [] a = tt

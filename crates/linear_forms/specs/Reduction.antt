@@ -1,5 +1,5 @@
 -- A form divided by a number, and a form modulo a number. Both are of all whole numbers, however large.
-use Rattle.std.specs.Prelude.{ℤ, pos, List, [], ◌∷◌, int_div, if◌then◌else◌}
+use Rattle.std.specs.Prelude.{ℤ, pos, ◌≤ℤ◌, ◌<ℤ◌, List, [], ◌∷◌, int_div, if◌then◌else◌}
 use Rattle.std.specs.Ordering.{int_eq}
 use Rattle.exact_numbers.specs.Divides.{residue_of}
 use Rattle.formula_meaning.specs.Form.{Form, Term}
@@ -21,3 +21,8 @@ residues m (t ∷ ts) = if int_eq (residue_of t.times m) (pos 0) then residues m
 -- each number modulo m, without the names whose coefficient becomes 0
 unfoldable pub residue_form : Form → ℤ → Form
 residue_form f m = record { terms = residues m f.terms; constant = residue_of f.constant m }
+
+-- each number is from 0 up to m - 1
+abbrev pub AllReduced : ℤ → List ℤ → Type 0
+AllReduced m [] = Unit {0}
+AllReduced m (x ∷ xs) = ((pos 0 ≤ℤ x) × (x <ℤ m)) × AllReduced m xs

@@ -4,6 +4,8 @@ use Rattle.exact_numbers.specs.Limit.{InLimit, PastLimit, checked}
 use Rattle.exact_numbers.specs.Frac.{◌>>=◌}
 use Rattle.formula_meaning.specs.Point.{Point}
 use Rattle.formula_meaning.specs.Sorted.{IsSorted}
+pub use Rattle.formula_meaning.specs.Form.{coefficients}
+pub use Rattle.formula_meaning.specs.Combining.{AddWithin as PlaceWithin, AddPasses as PlacePasses, CombinesWithin, CombinePasses}
 use Rattle.formula_meaning.specs.Form.{Form, Term, total, value, coefficient}
 
 -- each coefficient is within the limit
@@ -16,30 +18,6 @@ pub record IsLinear (f : Form) : Type 0 where
   pub sorted : IsSorted f
   pub within : AllInLimit f.terms
   pub constant_within : InLimit f.constant
-
--- the coefficients in the order of the names
-abbrev pub coefficients : List Term → List ℤ
-coefficients [] = []
-coefficients (t ∷ ts) = t.times ∷ coefficients ts
-
--- two products and their sum are within the limit
-pub record PlaceWithin (p q : ℤ) : Type 0 where
-  pub first : InLimit p
-  pub second : InLimit q
-  pub sum : InLimit (p +ℤ q)
-
--- one of two products, or their sum, passes the limit
-pub record PlacePasses (p q : ℤ) : Type 0 where
-  pub cause : PastLimit p ⊎ (PastLimit q ⊎ PastLimit (p +ℤ q))
-
--- no product and no sum of a * f + b * g passes the limit, at any name and at the constants
-pub record CombinesWithin (a : ℤ) (f : Form) (b : ℤ) (g : Form) : Type 0 where
-  pub places : (x : ℕ) → PlaceWithin (a *ℤ coefficient x f) (b *ℤ coefficient x g)
-  pub constants : PlaceWithin (a *ℤ f.constant) (b *ℤ g.constant)
-
--- a product or sum of a * f + b * g passes the limit, at some name or at the constants
-pub record CombinePasses (a : ℤ) (f : Form) (b : ℤ) (g : Form) : Type 0 where
-  pub cause : ((x : ℕ) × PlacePasses (a *ℤ coefficient x f) (b *ℤ coefficient x g)) ⊎ PlacePasses (a *ℤ f.constant) (b *ℤ g.constant)
 
 -- r is a * f + b * g, as the program holds it
 pub record IsCombination (a : ℤ) (f : Form) (b : ℤ) (g r : Form) : Type 0 where

@@ -206,6 +206,7 @@ impl Linear {
     pub fn content(&self) -> i128
         ensures greatest { IsContent (coefficients self.now.terms) result }
         ensures value { result ≡ content_of (coefficients self.now.terms) }
+        ensures within { InLimit result }
     {
         terms::content(&self.terms)
     }

@@ -29,6 +29,7 @@ pub(crate) fn content(terms: &[(VarId, i128)]) -> i128
     requires { AllInLimit (terms_of terms.now) }
     ensures greatest { IsContent (coefficients (terms_of terms.now)) result }
     ensures value { result ≡ content_of (coefficients (terms_of terms.now)) }
+    ensures within { InLimit result }
 {
     let mut divisor = 0;
     for term in terms {
