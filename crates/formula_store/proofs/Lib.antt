@@ -13,3 +13,5 @@ pub mod Counted
 pub mod Before
 pub mod Tables
 pub mod Copying
+pub mod Told
+pub mod Evaluated

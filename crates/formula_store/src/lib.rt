@@ -6,9 +6,12 @@ mod facts;
 mod id;
 mod keep;
 mod order;
+mod steps;
 mod store;
+mod truth;
 
 pub use error::StoreError;
 pub use facts::Facts;
 pub use id::FormulaId;
+pub use steps::Steps;
 pub use store::Store;
