@@ -107,7 +107,7 @@ module _ {Id : Type 0} (t : Id → Tree) where
   subtrees_pair a b f (inr p) = among_right (subtrees (t a)) (subtrees (t b)) f (⊎_elim (λ q. q) (λ q. absurd q) p)
 
   -- what stands in a member's tree is a subtree
-  subtrees_over : (s : Shape Id) (f : Tree) → SomeOf (λ id. Among (subtrees (t id)) f) (ids_of s) → Among (subtrees (tree_over t s)) f
+  pub subtrees_over : (s : Shape Id) (f : Tree) → SomeOf (λ id. Among (subtrees (t id)) f) (ids_of s) → Among (subtrees (tree_over t s)) f
   subtrees_over shape.True f h = absurd h
   subtrees_over shape.False f h = absurd h
   subtrees_over (shape.One a) f h = absurd h

@@ -15,3 +15,4 @@ pub mod Tables
 pub mod Copying
 pub mod Told
 pub mod Evaluated
+pub mod Inner

@@ -7,3 +7,14 @@ pub enum StoreError {
     #[error("out of memory")]
     Memory,
 }
+
+/// Why the truth of a formula was not told.
+#[derive(Clone, Copy, Debug, PartialEq, Eq, Drop, Error)]
+pub enum EvalStop {
+    /// A number formed for the value of an atom passes 2^127 - 1.
+    #[error("a number passes the limit")]
+    Overflow,
+    /// There is no memory left.
+    #[error("out of memory")]
+    Memory,
+}

@@ -10,7 +10,7 @@ mod steps;
 mod store;
 mod truth;
 
-pub use error::StoreError;
+pub use error::{EvalStop, StoreError};
 pub use facts::Facts;
 pub use id::FormulaId;
 pub use steps::Steps;

@@ -60,7 +60,7 @@ fn marked(alloc: Global, store: &Store, roots: &[FormulaId]) -> Result<Vec<bool>
 }
 
 // So many places without a mark.
-fn unmarked(alloc: Global, places: usize) -> Result<Vec<bool>, StoreError>
+pub(crate) fn unmarked(alloc: Global, places: usize) -> Result<Vec<bool>, StoreError>
     ensures { IfOk result (λ marks. marks.items ≡ replicate places false) }
 {
     let mut marks = Vec::new(alloc);

@@ -1,8 +1,10 @@
 //! The truth of a formula without quantifiers, each of its distinct subformulas evaluated once.
 
-ghost use Rattle.std.specs.Prelude.{◌≡◌, ◌≤◌, ◌<◌, ◌+◌, Bool, not, ◌||◌, true, false, pos, IfOk, IfErr, IsTrue, ◌↔◌, Some, MatchOption, length, get_or, slice_get};
+ghost use Rattle.std.specs.Prelude.{◌≡◌, ◌≤◌, ◌<◌, ◌+◌, Bool, not, ◌||◌, true, false, pos, IfOk, IsErrOf, IsTrue, nat_eq, ◌↔◌, Some, MatchOption, length, get_or, slice_get};
 ghost use Rattle.std.specs.List.{AllByRecursion};
 ghost use Rattle.formula_meaning.specs.Some.{SomeOf};
+ghost use Rattle.formula_meaning.specs.Same.{same_atom};
+ghost use Rattle.formula_meaning.specs.Sizes.{distinct_count};
 ghost use Rattle.formula_meaning.specs.Shape.{IsQuantifierFree};
 ghost use Rattle.formula_tree.specs.declared.shape.Shape.{Shape};
 ghost use Rattle.formula_tree.specs.Shapes.{AllIds};
@@ -11,11 +13,47 @@ ghost use Rattle.formula_store.specs.declared.id.FormulaId.{FormulaId};
 ghost use Rattle.formula_store.specs.Nodes.{tree, IsId};
 ghost use Rattle.formula_store.specs.Truths.{Tells, SomeAtomPasses, IsWholeWhereAsked};
 
+use crate::error::EvalStop;
 use crate::id::FormulaId;
+use crate::order::{subformulas, unmarked};
+use crate::steps::Steps;
 use crate::store::Store;
 use atom_normal::truth;
 use formula_tree::Shape;
 use linear_forms::Values;
+use std::alloc::Global;
+use std::sync::ledger::Ledger;
+
+// The truth of a formula at the numbers, each distinct subformula evaluated once, its members before it.
+pub(crate) fn truth_shared<L: Ledger>(
+    alloc: Global,
+    store: &Store,
+    root: FormulaId,
+    at: &Values,
+    steps: &mut Steps<L>,
+) -> Result<bool, EvalStop>
+    requires id { IsId store.now root }
+    requires free { IsQuantifierFree (tree store.now root) }
+    requires whole { IsWholeWhereAsked (tree store.now root) at.now.denominator }
+    ensures truth { IfOk result (λ b. Tells b (tree store.now root) (point_of at.now)) }
+    ensures steps { steps.new ≤ steps.old + distinct_count same_atom nat_eq (tree store.now root) }
+    ensures overflow { IsErrOf result EvalStop.Overflow → SomeAtomPasses (tree store.now root) at.now }
+{
+    let Ok(ids) = subformulas(alloc, store, &[root]) else {
+        return Err(EvalStop::Memory);
+    };
+    let Ok(mut table) = unmarked(alloc, store.len()) else {
+        return Err(EvalStop::Memory);
+    };
+    for id in &ids {
+        steps.tick();
+        let Some(truth) = node_truth(store, *id, &table, at) else {
+            return Err(EvalStop::Overflow);
+        };
+        table[id.number] = truth;
+    }
+    Ok(mark(&table, root))
+}
 
 // The truth of one formula, whose members have theirs in a table; `None` where the value of its atom is not there.
 fn node_truth(store: &Store, id: FormulaId, table: &Vec<bool>, at: &Values) -> Option<bool>
