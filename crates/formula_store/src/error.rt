@@ -18,3 +18,14 @@ pub enum EvalStop {
     #[error("out of memory")]
     Memory,
 }
+
+/// Why a formula was not unfolded.
+#[derive(Clone, Copy, Debug, PartialEq, Eq, Drop, Error)]
+pub enum Unfold {
+    /// The tree has more nodes than the limit.
+    #[error("the formula is too large")]
+    Large,
+    /// There is no memory left.
+    #[error("out of memory")]
+    Memory,
+}

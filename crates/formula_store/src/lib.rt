@@ -9,8 +9,9 @@ mod order;
 mod steps;
 mod store;
 mod truth;
+mod unfold;
 
-pub use error::{EvalStop, StoreError};
+pub use error::{EvalStop, StoreError, Unfold};
 pub use facts::Facts;
 pub use id::FormulaId;
 pub use steps::Steps;

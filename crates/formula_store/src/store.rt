@@ -1,23 +1,31 @@
-ghost use Rattle.std.specs.Prelude.{◌≡◌, ◌≤◌, ◌<◌, ◌^◌, [], ◌∷◌, List, Some, IfOk, IfErr, OnOk, OnErr, length, map, nat_eq, slice_get};
+ghost use Rattle.std.specs.Prelude.{◌≡◌, ◌≤◌, ◌<◌, ◌+◌, ◌^◌, [], ◌∷◌, List, Some, IfOk, IfErr, OnOk, OnErr, IsErrOf, length, map, nat_eq, slice_get};
 ghost use Rattle.std.specs.List.{AllByRecursion};
 ghost use Rattle.formula_meaning.specs.Same.{same_atom};
-ghost use Rattle.formula_meaning.specs.Sizes.{height, distinct_count};
+ghost use Rattle.formula_meaning.specs.Sizes.{nodes, height, distinct_count};
+ghost use Rattle.formula_meaning.specs.Shape.{IsQuantifierFree};
+ghost use Rattle.linear_forms.specs.Values.{point_of};
+ghost use Rattle.formula_store.specs.Truths.{Tells, SomeAtomPasses, IsWholeWhereAsked};
 ghost use Rattle.formula_tree.specs.Makers.{AreMade};
 ghost use Rattle.formula_tree.specs.Shapes.{AllIds, IsProperShape, tree_over};
 ghost use Rattle.formula_store.specs.Nodes.{tree, IsId, Makes, AreNodes};
 ghost use Rattle.formula_store.specs.Facts.{IsFactsOf, AreFactsOf};
 ghost use Rattle.formula_store.specs.Order.{IsOrder};
-ghost use Rattle.formula_tree.specs.Trees.{members};
+ghost use Rattle.formula_tree.specs.Trees.{members, tree_of};
 
-use crate::error::StoreError;
+use crate::error::{EvalStop, StoreError, Unfold};
 use crate::facts::Facts;
 use crate::id::FormulaId;
 use crate::keep::copied;
 use crate::order::subformulas;
-use formula_tree::{MakeError, Maker, Shape};
+use crate::steps::Steps;
+use crate::truth::truth_shared;
+use crate::unfold::unfolded;
+use formula_tree::{MakeError, Maker, Shape, Tree};
 use indexmap::IndexMap;
+use linear_forms::Values;
 use std::alloc::Global;
 use std::marker::Model;
+use std::sync::ledger::Ledger;
 
 /// Formulas, each kept once under one id. A member has a smaller number than the formulas that it stands in.
 #[derive(Drop)]
@@ -104,6 +112,44 @@ impl Store {
         Ok(ids.len() as u64)
     }
 
+    /// The truth of a formula without quantifiers at the numbers, each distinct subformula evaluated once. `Overflow`
+    /// comes only where a number formed for the value of an atom passes 2^127 - 1, else `Memory`.
+    pub fn truth_shared<L: Ledger>(
+        &self,
+        id: FormulaId,
+        at: &Values,
+        steps: &mut Steps<L>,
+    ) -> Result<bool, EvalStop>
+        requires id { IsId self.now id }
+        requires free { IsQuantifierFree (tree self.now id) }
+        requires whole { IsWholeWhereAsked (tree self.now id) at.now.denominator }
+        ensures truth { IfOk result (λ b. Tells b (tree self.now id) (point_of at.now)) }
+        ensures steps { steps.new ≤ steps.old + distinct_count same_atom nat_eq (tree self.now id) }
+        ensures overflow { IsErrOf result EvalStop.Overflow → SomeAtomPasses (tree self.now id) at.now }
+    {
+        truth_shared(self.alloc, self, id, at, steps)
+    }
+
+    /// The formula as a tree. `Large` comes exactly where the tree has more than `limit` nodes, else `Memory`.
+    pub fn unfold(&self, id: FormulaId, limit: u64) -> Result<Tree, Unfold>
+        requires { IsId self.now id }
+        ensures tree { IfOk result (λ t. tree_of t ≡ tree self.now id) }
+        ensures small { OnOk result (nodes (tree self.now id) ≤ limit) }
+        ensures large { IsErrOf result Unfold.Large → limit < nodes (tree self.now id) }
+    {
+        let facts = self.facts(id);
+        if limit < facts.nodes {
+            return Err(Unfold::Large);
+        }
+        if facts.nodes == u64::MAX {
+            return Err(Unfold::Memory);
+        }
+        match unfolded(self.alloc, self, id) {
+            Ok(tree) => Ok(tree),
+            Err(_) => Err(Unfold::Memory),
+        }
+    }
+
     /// Keeps the formulas with these ids and what stands in them, gives up all others, and gives the new ids in order. Old
     /// ids name nothing afterwards. Its only error is `Memory`, which leaves the store as it was.
     pub fn keep_only(&mut self, roots: &[FormulaId]) -> Result<Vec<FormulaId>, StoreError>
@@ -152,7 +198,6 @@ impl Store {
 }
 
 impl Maker for Store {
-    ghost use Rattle.std.specs.Prelude.{IfOk, IfErr, OnErr, ◌+◌};
     ghost use Rattle.formula_tree.specs.Makers.{IsMade, Keeps};
     ghost use Rattle.formula_store.specs.Nodes.{Front};
 

@@ -57,6 +57,14 @@ impl<Id> Ids<Id> {
         Ids { list }
     }
 
+    /// The ids of the list, as a Vec. It takes no memory.
+    pub fn into_items(self) -> Vec<Id>
+        ensures { result.items ≡ self }
+    {
+        let Ids { list } = self;
+        list
+    }
+
     /// The ids of the list, in their order. It takes no memory.
     pub fn items(&self) -> &[Id]
         ensures { result.now ≡ self.now }
