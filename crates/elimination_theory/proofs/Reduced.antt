@@ -1,5 +1,5 @@
 -- A test point of the fields is in lowest terms: 1 is the greatest common divisor of all its numbers.
-use Rattle.std.proofs.Common.{◌≡◌, ℕ, zero, suc, ◌<◌, ◌/◌, List, [], ◌∷◌, map, flat_map, ap, sym, subst, arith, unsigned_abs, int_div, inl, inr}
+use Rattle.std.proofs.Common.{◌≡◌, ℕ, zero, suc, ◌<◌, ◌/◌, List, [], ◌∷◌, flat_map, ap, sym, subst, arith, unsigned_abs, int_div, inl, inr}
 use Rattle.std.proofs.Math.IntN.{ℤ, pos, negsuc, ◌*ℤ◌}
 use Rattle.std.specs.Prelude.{◌<ℤ◌, ◌≤ℤ◌}
 use Rattle.std.proofs.lemmas.Int.{ints}
