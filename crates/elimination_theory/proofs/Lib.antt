@@ -48,3 +48,4 @@ mod Examples
 pub mod SentenceExample
 pub mod Overflow
 pub mod AnswersExample
+pub mod Becoming
