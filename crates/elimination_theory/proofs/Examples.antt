@@ -3,7 +3,7 @@ use Rattle.std.proofs.Common.{◌≡◌, ℕ, true, false, List, [], ◌∷◌, 
 use Rattle.std.proofs.Math.IntN.{ℤ, pos, negsuc, neg_ℤ}
 use Rattle.std.proofs.lemmas.Int.{ints}
 use Rattle.exact_numbers.specs.Divides.{Divides, content_of, gcd_of, lcm_of, euclid}
-use Rattle.formula_meaning.specs.Context.{Fields, Integers}
+use Rattle.formula_meaning.specs.Context.{Context, Fields, Integers}
 use Rattle.formula_meaning.specs.Point.{Point, move}
 use Rattle.formula_meaning.specs.Formula.{Yes, No, One, And}
 use Rattle.formula_meaning.specs.NegationNormal.{both}
@@ -19,8 +19,8 @@ use Rattle.elimination_theory.specs.FieldsSubstitution.{beside}
 use Rattle.elimination_theory.specs.IntegersSubstitution.{integer_atom}
 use Rattle.elimination_theory.specs.IntegersPoints.{scale_of, own_span, comparison_starts, integer_count_of}
 use Rattle.elimination_theory.specs.IntegersSample.{IsIntegerSample}
-use Rattle.elimination_theory.specs.Samples.{form_with, tree_with}
-use Rattle.elimination_theory.specs.Steps.{step}
+use Rattle.elimination_theory.specs.Samples.{form_with, tree_with, KeepsPeriods}
+use Rattle.elimination_theory.specs.Steps.{IsNormaliser, step}
 
 abbrev relations : List Relation
 relations = Equals ∷ Differs ∷ Below ∷ AtMost ∷ Above ∷ AtLeast ∷ []
@@ -189,3 +189,11 @@ first_below_one = inr (inl (λ (e : pos 1 ≡ pos 0). omega (arith, ints)), (min
 first_below_three_halves : IsIntegerSample 0 (Periodic (pos 1) (negsuc 0)) (One (Compare AtMost (x_form (pos 2) (negsuc 2)))) at_three (pos 1)
 unfolding coefficient value move
 first_below_three_halves = inr (inl (λ (e : pos 2 ≡ pos 0). omega (arith, ints)), (minus_one_divides _, omega (arith, ints)), λ w h. let l = h.1 in omega (arith, ints, l))
+
+-- ---- leaving atoms as they are is a normal form that the theorems allow
+
+as_it_is : (c : Context) → IsNormaliser c (λ a. One a)
+as_it_is c = record { atomic = λ a i. tt; in_context = λ a i. i; equivalent = λ a i p o. (λ t. t, λ t. t); names = λ a y i t. t }
+
+periods_as_they_are : KeepsPeriods Integers (λ a. One a)
+periods_as_they_are a x q i h = h
