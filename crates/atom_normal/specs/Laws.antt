@@ -1,7 +1,7 @@
 -- What is proved of normal forms and of their negation, as statements that the functions of this crate promise.
 use Rattle.std.specs.Prelude.{◌≡◌, ◌⊎◌, ℕ, ◌↔◌}
 use Rattle.formula_meaning.specs.Context.{Context}
-use Rattle.formula_meaning.specs.Formula.{Yes, No, One, Not, And, Or, Impl, Repl, Equiv, Ex, All}
+use Rattle.formula_meaning.specs.Formula.{Yes, No, One}
 use Rattle.formula_meaning.specs.Point.{Point, Of}
 use Rattle.formula_meaning.specs.Atom.{Atom, Says, AtomIn, Mentions}
 use Rattle.formula_meaning.specs.Every.{Every}
