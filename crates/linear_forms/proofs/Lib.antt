@@ -9,3 +9,7 @@ pub mod TermAt
 pub mod Lookups
 pub mod Steps
 pub mod Determined
+pub mod Equal
+pub mod Reduced
+pub mod Quotients
+pub mod Residues

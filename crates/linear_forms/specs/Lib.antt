@@ -2,3 +2,5 @@ pub mod Terms
 pub mod Linear
 pub mod Merging
 pub mod Values
+pub mod Equality
+pub mod Reduction

@@ -1,21 +1,26 @@
 // A linear form: a sorted list of names with their coefficients, and a constant.
-ghost use Rattle.std.specs.Prelude.{◌≡◌, ℕ, pos, [], ◌∷◌, IfOk, IfErr, IsErrOf, MatchOption, option_map, slice_get};
+ghost use Rattle.std.specs.Prelude.{◌≡◌, ℕ, pos, ◌<ℤ◌, [], ◌∷◌, IfOk, IfErr, IsErrOf, MatchOption, option_map, slice_get};
 ghost use Rattle.exact_numbers.specs.Limit.{InLimit};
 ghost use Rattle.exact_numbers.specs.Divides.{DividesAll, IsContent, content_of};
 ghost use Rattle.formula_meaning.specs.Form.{coefficient, value};
 ghost use Rattle.linear_forms.specs.Terms.{IsLinear, IsCombination, CombinePasses, IsQuotient, coefficients, value_steps, ValuePasses};
 ghost use Rattle.linear_forms.specs.Values.{number_at, point_of};
+ghost use Rattle.linear_forms.specs.Reduction.{quotient, residue_form};
+ghost use Rattle.linear_forms.specs.Equality.{form_eq, form_decides, form_writes};
+ghost use Rattle.std.proofs.Common.{ap};
+ghost use Rattle.std.specs.Cmp.{decided, partial_equiv_from_equiv};
 
 use crate::error::LinError;
 use crate::merge::{merge, place};
 use crate::terms;
 use crate::values::{Values, total};
-use exact_numbers::{product, sum};
+use exact_numbers::{product, residue, sum};
 use std::alloc::Global;
+use std::hash::{Hash, Hasher};
 use std::marker::Model;
 
 /// The number of a name.
-#[derive(Clone, Copy, Debug, PartialEq, Eq, PartialOrd, Ord)]
+#[derive(Clone, Copy, Debug, PartialEq, Eq, PartialOrd, Ord, Hash)]
 pub struct VarId {
     pub number: usize,
 }
@@ -40,8 +45,70 @@ impl Model for Linear {
     ghost invariant = { λ l. IsLinear (record { terms = terms_of l.terms.items; constant = l.constant }) };
 }
 
+/// Two forms are equal exactly where they have the same terms and the same constant.
+impl PartialEq for Linear {
+    ghost eq = { form_eq };
+
+    ghost laws = { partial_equiv_from_equiv (decided form_eq form_decides) };
+
+    fn eq(&self, other: &Linear) -> bool {
+        self.terms == other.terms && self.constant.cmp(&other.constant).is_eq()
+    }
+}
+
+impl Eq for Linear {
+    ghost laws = { decided form_eq form_decides };
+}
+
+impl Hash for Linear {
+    ghost hash_input = { form_writes };
+
+    ghost respects_eq = { λ f g e. ap form_writes ((form_decides f g).0 e) };
+
+    fn hash<H: Hasher>(&self, state: &mut H) {
+        self.terms.hash(state);
+        self.constant.hash(state);
+    }
+}
+
 impl Linear {
-    ghost use Rattle.linear_forms.specs.Linear.{term_of};
+    ghost use Rattle.linear_forms.specs.Linear.{term_of, terms_of};
+
+    /// The form with these terms, whose names rise and whose coefficients are not 0, and this constant. It takes no memory.
+    pub fn of(terms: Vec<(VarId, i128)>, constant: i128) -> Linear
+        requires { IsLinear (record { terms = terms_of terms.items; constant = constant }) }
+        ensures form { result ≡ record { terms = terms_of terms.items; constant = constant } }
+        ensures linear { IsLinear result }
+    {
+        Linear { terms, constant }
+    }
+
+    /// An equal form. Its only error is `Memory`.
+    pub fn copy(&self, alloc: Global) -> Result<Linear, LinError>
+        ensures same { IfOk result (λ r. r ≡ self.now) }
+        ensures memory { IfErr result (λ e. e ≡ LinError.Memory) }
+    {
+        let mut terms = Vec::new(alloc);
+        match terms.extend_from_slice(&self.terms) {
+            Ok(()) => Ok(Linear {
+                terms,
+                constant: self.constant,
+            }),
+            Err(_) => Err(LinError::Memory),
+        }
+    }
+
+    /// The same terms with another constant. It takes no memory.
+    pub fn with_constant(self, constant: i128) -> Linear
+        requires { InLimit constant }
+        ensures form { result ≡ record { terms = self.terms; constant = constant } }
+        ensures linear { IsLinear result }
+    {
+        Linear {
+            terms: self.terms,
+            constant,
+        }
+    }
 
     /// The constant form `c`.
     pub fn constant(alloc: Global, c: i128) -> Linear
@@ -90,12 +157,30 @@ impl Linear {
         requires nonzero { ¬ (by ≡ pos 0) }
         requires divides { DividesAll by (self.now.constant ∷ coefficients self.now.terms) }
         ensures divided { IfOk result (IsQuotient self.now by) }
+        ensures value { IfOk result (λ r. r ≡ quotient self.now by) }
         ensures memory { IfErr result (λ e. e ≡ LinError.Memory) }
     {
         match terms::divided(alloc, &self.terms, by) {
             Ok(terms) => Ok(Linear {
                 terms,
                 constant: self.constant / by,
+            }),
+            Err(_) => Err(LinError::Memory),
+        }
+    }
+
+    /// The form with each number modulo `modulus`, which is positive, and without the names whose coefficient becomes 0.
+    /// Its only error is `Memory`.
+    pub fn residues(&self, alloc: Global, modulus: i128) -> Result<Linear, LinError>
+        requires { pos 0 <ℤ modulus }
+        ensures value { IfOk result (λ r. r ≡ residue_form self.now modulus) }
+        ensures linear { IfOk result IsLinear }
+        ensures memory { IfErr result (λ e. e ≡ LinError.Memory) }
+    {
+        match terms::residues(alloc, &self.terms, modulus) {
+            Ok(terms) => Ok(Linear {
+                terms,
+                constant: residue(self.constant, modulus),
             }),
             Err(_) => Err(LinError::Memory),
         }
@@ -121,6 +206,7 @@ impl Linear {
     pub fn content(&self) -> i128
         ensures greatest { IsContent (coefficients self.now.terms) result }
         ensures value { result ≡ content_of (coefficients self.now.terms) }
+        ensures within { InLimit result }
     {
         terms::content(&self.terms)
     }

@@ -1,5 +1,5 @@
 // Sorted lists of names with coefficients: look-up, greatest common divisor, division.
-ghost use Rattle.std.specs.Prelude.{◌≡◌, ℤ, pos, ◌*ℤ◌, IfOk};
+ghost use Rattle.std.specs.Prelude.{◌≡◌, ℤ, pos, ◌*ℤ◌, ◌<ℤ◌, IfOk};
 ghost use Rattle.std.specs.List.{AllZip};
 ghost use Rattle.formula_meaning.specs.Form.{multiple};
 ghost use Rattle.exact_numbers.specs.Limit.{InLimit};
@@ -7,9 +7,10 @@ ghost use Rattle.exact_numbers.specs.Divides.{DividesAll, IsContent, content_of}
 ghost use Rattle.formula_meaning.specs.Sorted.{IsRising};
 ghost use Rattle.linear_forms.specs.Terms.{AllInLimit, coefficients};
 ghost use Rattle.linear_forms.specs.Linear.{terms_of, IsDivided};
+ghost use Rattle.linear_forms.specs.Reduction.{residues};
 
 use crate::form::VarId;
-use exact_numbers::gcd;
+use exact_numbers::{gcd, residue};
 use std::alloc::{AllocError, Global};
 
 // The coefficient of a name, 0 where it does not stand in the list: a binary search.
@@ -28,6 +29,7 @@ pub(crate) fn content(terms: &[(VarId, i128)]) -> i128
     requires { AllInLimit (terms_of terms.now) }
     ensures greatest { IsContent (coefficients (terms_of terms.now)) result }
     ensures value { result ≡ content_of (coefficients (terms_of terms.now)) }
+    ensures within { InLimit result }
 {
     let mut divisor = 0;
     for term in terms {
@@ -52,4 +54,23 @@ pub(crate) fn divided(
         quotients.push((term.0, term.1 / by))?;
     }
     Ok(quotients)
+}
+
+// The terms with each coefficient modulo a positive number, without the names whose coefficient becomes 0.
+pub(crate) fn residues(
+    alloc: Global,
+    terms: &[(VarId, i128)],
+    modulus: i128,
+) -> Result<Vec<(VarId, i128)>, AllocError>
+    requires { pos 0 <ℤ modulus }
+    ensures { IfOk result (λ v. terms_of v.items ≡ residues modulus (terms_of terms.now)) }
+{
+    let mut kept = Vec::new(alloc);
+    for term in terms {
+        let rest = residue(term.1, modulus);
+        if rest != 0 {
+            kept.push((term.0, rest))?;
+        }
+    }
+    Ok(kept)
 }

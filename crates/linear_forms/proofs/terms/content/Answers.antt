@@ -32,4 +32,4 @@ pub returns : goal.returns
 returns c =
     let e : take c.loop-term.term-index c.args.terms.now ≡ c.args.terms.now = search (rules, take_all, c.loop-term-test.false) in
     let g = rw e at c.loop-term.invariant.divisor in
-    record { greatest = g; value = content_unique g (content_is (coefficients (terms_of c.args.terms.now))) }
+    record { greatest = g; value = content_unique g (content_is (coefficients (terms_of c.args.terms.now))); within = c.loop-term.invariant.within }

@@ -1,0 +1,10 @@
+pub mod Relations
+mod Examples
+pub mod Ranges
+pub mod Comparisons
+pub mod Congruences
+pub mod NormalLaws
+pub mod Sorted
+pub mod Stepped
+pub mod Told
+pub mod Meaning

@@ -1,0 +1,4 @@
+pub mod Atoms
+pub mod NormalForm
+pub mod Laws
+pub mod Bounds
