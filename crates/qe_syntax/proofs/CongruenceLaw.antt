@@ -61,19 +61,21 @@ multiple_decides d v e m sd sv is =
     let w = modulus_whole v m n sv is.2 in
     let positive : pos 0 <ℤ pos (unsigned_abs v.numerator) = abs_positive v.numerator (modulus_not_zero v m sv is) in
     let found : (d.denominator ≡ pos 1) × (residue_of d.numerator (pos (unsigned_abs v.numerator)) ≡ pos 0) → (q : ℤ) × SameValue e (true_product (whole_frac q) m) = λ both.
-      let divided : Divides v.numerator d.numerator = divides_trans (sign_abs v.numerator) (divides_from_residue positive both.1) in
-      let q = divided.quotient in
-      let whole : SameValue d (whole_frac (q *ℤ n)) =
-        let exact : d.numerator ≡ n *ℤ q = divided.exact ∙ ap (λ t. t *ℤ q) w.numerator in
-        ap (λ t. t *ℤ pos 1) (exact ∙ mul_comm n q) ∙ ap (λ t. (q *ℤ n) *ℤ t) (sym both.0) in
-      (q, same_value_trans e d (true_product (whole_frac q) m) sd.proper (same_back d e sd.same)
-        (same_value_trans d (whole_frac (q *ℤ n)) (true_product (whole_frac q) m) (omega (arith, ints)) whole (multiple_same q n m is.2))) in
+    let divided : Divides v.numerator d.numerator = divides_trans (sign_abs v.numerator) (divides_from_residue positive both.1) in
+    let q = divided.quotient in
+    let whole : SameValue d (whole_frac (q *ℤ n)) =
+    let exact : d.numerator ≡ n *ℤ q = divided.exact ∙ ap (λ t. t *ℤ q) w.numerator in
+    ap (λ t. t *ℤ pos 1) (exact ∙ mul_comm n q) ∙ ap (λ t. (q *ℤ n) *ℤ t) (sym both.0) in (
+      q,
+      same_value_trans e d (true_product (whole_frac q) m) sd.proper (same_back d e sd.same)
+          (same_value_trans d (whole_frac (q *ℤ n)) (true_product (whole_frac q) m) (omega (arith, ints)) whole (multiple_same q n m is.2)),
+    ) in
     let back : (q : ℤ) × SameValue e (true_product (whole_frac q) m) → (d.denominator ≡ pos 1) × (residue_of d.numerator (pos (unsigned_abs v.numerator)) ≡ pos 0) = λ given.
-      let q = given.0 in
-      let there = same_value_trans d e (true_product (whole_frac q) m) sd.meant sd.same given.1 in
-      let whole = whole_in_lowest d (q *ℤ n) sd.proper sd.in_lowest
-        (same_value_trans d (true_product (whole_frac q) m) (whole_frac (q *ℤ n)) (one_times_positive m.denominator sv.meant) there (same_back (whole_frac (q *ℤ n)) (true_product (whole_frac q) m) (multiple_same q n m is.2))) in
-      let divided : Divides v.numerator d.numerator = record { quotient = q; exact = whole.numerator ∙ ap (λ t. q *ℤ t) (sym w.numerator) ∙ mul_comm q v.numerator } in
-      (whole.denominator, residue_of_multiple positive (divides_trans (abs_sign v.numerator) divided)) in
+    let q = given.0 in
+    let there = same_value_trans d e (true_product (whole_frac q) m) sd.meant sd.same given.1 in
+    let whole = whole_in_lowest d (q *ℤ n) sd.proper sd.in_lowest
+    (same_value_trans d (true_product (whole_frac q) m) (whole_frac (q *ℤ n)) (one_times_positive m.denominator sv.meant) there (same_back (whole_frac (q *ℤ n)) (true_product (whole_frac q) m) (multiple_same q n m is.2))) in
+    let divided : Divides v.numerator d.numerator = record { quotient = q; exact = whole.numerator ∙ ap (λ t. q *ℤ t) (sym w.numerator) ∙ mul_comm q v.numerator } in
+    (whole.denominator, residue_of_multiple positive (divides_trans (abs_sign v.numerator) divided)) in
     Decides-like (is_multiple d v) found back
     (Decides-and _ _ (Decides-int_eq d.denominator (pos 1)) (Decides-int_eq (residue_of d.numerator (pos (unsigned_abs v.numerator))) (pos 0)))

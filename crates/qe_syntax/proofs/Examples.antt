@@ -1,10 +1,11 @@
 -- Worked examples of the definitions. Each side is computed.
-use Rattle.std.proofs.Common.{◌≡◌, [], ◌∷◌, refl, true, codes, bytes_eq, if◌then◌else◌}
+use Rattle.std.proofs.Common.{◌≡◌, [], ◌∷◌, refl, true, false, codes, bytes_eq, if◌then◌else◌, lit≤}
 use Rattle.std.specs.Prelude.{pos, neg_ℤ, Ok, Err}
 use Rattle.exact_numbers.specs.Limit.{checked}
 use Rattle.exact_numbers.specs.Divides.{gcd_of, lcm_of, euclid}
 use Rattle.exact_numbers.specs.Frac.{product_step, sum_step}
 use Rattle.formula_meaning.specs.Formula.{One, Not, And, No}
+use Rattle.qe_syntax.specs.Names.{is_word, IsVariable}
 use Rattle.qe_syntax.specs.declared.tree.Literal.TheVariants.{Fits, Past}
 use Rattle.qe_syntax.specs.declared.tree.Relation.TheVariants.{Equal, AtLeast}
 use Rattle.qe_syntax.specs.declared.value.EvalError.TheVariants.{Overflow}
@@ -43,3 +44,32 @@ past_the_limit = refl
 -- - x is -1/2
 opposite : value (Negative (Named (codes "x"))) half ≡ record { numerator = neg_ℤ (pos 1); denominator = pos 2 }
 opposite = refl
+
+-- x is a variable, and so is infinity; infinity1 and rlqe are words
+pub variable_x : IsVariable (codes "x")
+unfolding is_word
+variable_x = record { begins = refl; parts = refl; few = lit≤ tt; free = refl }
+
+pub variable_y : IsVariable (codes "y")
+unfolding is_word
+variable_y = record { begins = refl; parts = refl; few = lit≤ tt; free = refl }
+
+bare_infinity : IsVariable (codes "infinity")
+unfolding is_word
+bare_infinity = record { begins = refl; parts = refl; few = lit≤ tt; free = refl }
+
+numbered_infinity : is_word (codes "infinity1") ≡ true
+unfolding is_word
+numbered_infinity = refl
+
+numbered_and_more : is_word (codes "infinity1x") ≡ false
+unfolding is_word
+numbered_and_more = refl
+
+numbered_epsilon : is_word (codes "epsilon23") ≡ true
+unfolding is_word
+numbered_epsilon = refl
+
+a_command : is_word (codes "rlqe") ≡ true
+unfolding is_word
+a_command = refl

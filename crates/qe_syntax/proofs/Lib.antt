@@ -8,6 +8,7 @@ pub mod ValueLaw
 pub mod CongruenceLaw
 pub mod TruthLaw
 pub mod Quantified
+pub mod LinearSearch
 pub mod NameSearch
 pub mod OnePoint
 pub mod Examples

@@ -79,14 +79,14 @@ opening_new bound left old now new opened name s absent puts = record {
   within = λ x h. s.within x (inr h);
   kept = λ x h. put_keeps now new name puts x (s.kept x h);
   no_more = λ x h.
-  ⊎_elim (λ t. ⊎_elim (λ o. inl o) (λ i. inr (some_left (λ (y : List ℕ). y ≡ x) opened (name ∷ []) i)) (s.no_more x t))
-    (λ e. inr (some_right (λ (y : List ℕ). y ≡ x) opened (name ∷ []) (inl e))) (put_only now new name puts x h);
+      ⊎_elim (λ t. ⊎_elim (λ o. inl o) (λ i. inr (some_left (λ (y : List ℕ). y ≡ x) opened (name ∷ []) i)) (s.no_more x t))
+      (λ e. inr (some_right (λ (y : List ℕ). y ≡ x) opened (name ∷ []) (inl e))) (put_only now new name puts x h);
   only = λ x h.
-  ⊎_elim (λ i. s.only x i)
-    (λ i.
-    let e : name ≡ x = some_one (λ (y : List ℕ). y ≡ x) name i in
-    (subst (λ (y : List ℕ). old y ≡ false) e (by_at (old name) (λ t. absurd (false≢true (sym absent ∙ s.kept name t))) (λ f. f)), s.within x (inl e)))
-    (some_split (λ (y : List ℕ). y ≡ x) opened (name ∷ []) h);
+      ⊎_elim (λ i. s.only x i)
+      (λ i.
+      let e : name ≡ x = some_one (λ (y : List ℕ). y ≡ x) name i in
+      (subst (λ (y : List ℕ). old y ≡ false) e (by_at (old name) (λ t. absurd (false≢true (sym absent ∙ s.kept name t))) (λ f. f)), s.within x (inl e)))
+      (some_split (λ (y : List ℕ). y ≡ x) opened (name ∷ []) h);
 }
 
 -- what a set answers for a name that is put in
@@ -103,18 +103,18 @@ pub closed_more : (old now new : List ℕ → Bool) (out : List (List ℕ)) (nam
     → ((x : List ℕ) → new x ≡ cond (is_at (slice_cmp nat_cmp name) x) false (now x)) → IsClosed old new (out ++ name ∷ [])
 closed_more old now new out name s takes = record {
   out = λ x h.
-  by_at (is_at (slice_cmp nat_cmp name) x)
-    (λ at. absurd (false≢true (sym (takes x ∙ ap (λ b. cond b false (now x)) at) ∙ h)))
-    (λ off.
-    let r = s.out x (sym (ap (λ b. cond b false (now x)) off) ∙ sym (takes x) ∙ h) in
-    (r.0, λ i. ⊎_elim r.1 (λ j. false≢true (sym off ∙ same_at name x (some_one (λ (y : List ℕ). y ≡ x) name j))) (some_split (λ (y : List ℕ). y ≡ x) out (name ∷ []) i)));
+      by_at (is_at (slice_cmp nat_cmp name) x)
+      (λ at. absurd (false≢true (sym (takes x ∙ ap (λ b. cond b false (now x)) at) ∙ h)))
+      (λ off.
+      let r = s.out x (sym (ap (λ b. cond b false (now x)) off) ∙ sym (takes x) ∙ h) in
+      (r.0, λ i. ⊎_elim r.1 (λ j. false≢true (sym off ∙ same_at name x (some_one (λ (y : List ℕ). y ≡ x) name j))) (some_split (λ (y : List ℕ). y ≡ x) out (name ∷ []) i)));
   kept = λ x h.
-  ⊎_elim
-    (λ t.
-    by_at (is_at (slice_cmp nat_cmp name) x)
+      ⊎_elim
+      (λ t.
+      by_at (is_at (slice_cmp nat_cmp name) x)
       (λ at. inr (some_right (λ (y : List ℕ). y ≡ x) out (name ∷ []) (inl (at_same name x at))))
       (λ off. inl (takes x ∙ ap (λ b. cond b false (now x)) off ∙ t)))
-    (λ i. inr (some_left (λ (y : List ℕ). y ≡ x) out (name ∷ []) i)) (s.kept x h);
+      (λ i. inr (some_left (λ (y : List ℕ). y ≡ x) out (name ∷ []) i)) (s.kept x h);
 }
 
 same_tests : (a b : Bool) → (a ≡ true → b ≡ true) → (b ≡ true → a ≡ true) → a ≡ b

@@ -224,12 +224,12 @@ inverted_same q w hq hw e nonzero =
     let a = q.numerator in let b = q.denominator in let x = w.numerator in let y = w.denominator in
     by_order a (pos 0)
     (λ l. subst (λ (p : Frac). SameValue p (inverted w)) (sym (inverted_negative q l))
-      (subst (λ (p : Frac). SameValue (record { numerator = neg_ℤ b; denominator = neg_ℤ a }) p) (sym (inverted_negative w (same_negative a b x y hq hw e l))) (inverted_crossed_negative a b x y e)))
+    (subst (λ (p : Frac). SameValue (record { numerator = neg_ℤ b; denominator = neg_ℤ a }) p) (sym (inverted_negative w (same_negative a b x y hq hw e l))) (inverted_crossed_negative a b x y e)))
     (λ z. absurd (nonzero z))
     (λ l.
-      let more : pos 0 ≤ℤ x = by_less x (pos 0) (λ (k : x <ℤ pos 0). let back : a <ℤ pos 0 = same_negative x y a b hw hq (sym e) k in absurd (omega (arith, ints))) (λ k. k) in
-      subst (λ (p : Frac). SameValue p (inverted w)) (sym (inverted_other q (omega (arith, ints))))
-      (subst (λ (p : Frac). SameValue (record { numerator = b; denominator = a }) p) (sym (inverted_other w more)) (inverted_crossed a b x y e)))
+    let more : pos 0 ≤ℤ x = by_less x (pos 0) (λ (k : x <ℤ pos 0). let back : a <ℤ pos 0 = same_negative x y a b hw hq (sym e) k in absurd (omega (arith, ints))) (λ k. k) in
+    subst (λ (p : Frac). SameValue p (inverted w)) (sym (inverted_other q (omega (arith, ints))))
+    (subst (λ (p : Frac). SameValue (record { numerator = b; denominator = a }) p) (sym (inverted_other w more)) (inverted_crossed a b x y e)))
 
 stands_inverted : (q w : Frac) → Stands q w → ¬ (q.numerator ≡ pos 0) → Stands (inverted q) (inverted w)
 stands_inverted q w s nonzero =

@@ -8,5 +8,5 @@ use Rattle.qe_syntax.proofs.NameSearch.{SearchedTo}
 use Rattle.qe_syntax.proofs.valued.+terms.Given as goal
 
 abbrev pub invariant-in_terms-loop-term : goal.invariant-in_terms-loop-term
-invariant-in_terms-loop-term l = 
+invariant-in_terms-loop-term l =
     SearchedTo (HaveName (terms_of (map term_tree l.terms))) (HaveName (terms_of (map term_tree (drop l.term-index l.terms)))) (contains (slice_cmp nat_cmp) l.names)

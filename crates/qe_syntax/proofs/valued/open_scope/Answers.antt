@@ -19,14 +19,14 @@ prefix-preserved c =
     let name = c.in-Ex.name in
     let so_far = subst (λ (l : List (List ℕ)). IsOpening bound l old now c.prefix.opened.items) (after_name _ name c.in-Ex.body _ c.in-Ex.is c.deref-inner.ensures) c.prefix.invariant in
     elim c.if-branch.branch [
-      then-branch+in_ok-push w ↦
-        let more : c.if-branch.opened.items ≡ c.prefix.opened.items ++ name ∷ [] = cc (w.opened-is, w.in_ok-push.ensures.items) in
-        subst (λ (o : List (List ℕ)). IsOpening bound left old new o) (sym more)
-        (opening_new bound left old now new c.prefix.opened.items name so_far (was_absent _ _ c.in_ok-insert.ensures.added w.if-branch.true) (λ x. c.in_ok-insert.ensures.updates.0 x))
+      | then-branch+in_ok-push w ↦
+          let more : c.if-branch.opened.items ≡ c.prefix.opened.items ++ name ∷ [] = cc (w.opened-is, w.in_ok-push.ensures.items) in
+          subst (λ (o : List (List ℕ)). IsOpening bound left old new o) (sym more)
+          (opening_new bound left old now new c.prefix.opened.items name so_far (was_absent _ _ c.in_ok-insert.ensures.added w.if-branch.true) (λ x. c.in_ok-insert.ensures.updates.0 x))
       | else-branch w ↦
-        let same : c.if-branch.opened.items ≡ c.prefix.opened.items = cc (w.opened-is) in
-        subst (λ (o : List (List ℕ)). IsOpening bound left old new o) (sym same)
-        (opening_known bound left old now new c.prefix.opened.items name so_far (was_known _ _ c.in_ok-insert.ensures.added w.if-branch.false) (λ x. c.in_ok-insert.ensures.updates.0 x))
+          let same : c.if-branch.opened.items ≡ c.prefix.opened.items = cc (w.opened-is) in
+          subst (λ (o : List (List ℕ)). IsOpening bound left old new o) (sym same)
+          (opening_known bound left old now new c.prefix.opened.items name so_far (was_known _ _ c.in_ok-insert.ensures.added w.if-branch.false) (λ x. c.in_ok-insert.ensures.updates.0 x))
     ]
 
 pub returns : goal.returns
