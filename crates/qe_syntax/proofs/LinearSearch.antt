@@ -1,5 +1,5 @@
 -- The factors of a product looked at one after another.
-use Rattle.std.proofs.Common.{◌≡◌, ◌⊎◌, ◌↔◌, inl, inr, ⊎_elim, Bool, true, false, IsTrue, sym, ◌∙◌}
+use Rattle.std.proofs.Common.{◌≡◌, ◌↔◌, inl, inr, ⊎_elim, Bool, true, false, IsTrue, sym, ◌∙◌}
 use Rattle.std.proofs.lemmas.Bool.{false≢true}
 use Rattle.qe_syntax.specs.Trees.{TermTree, TermTrees, none, also}
 use Rattle.qe_syntax.specs.Linear.{IsNumber, AreNumbers, IsLinearTerm, AreLinearFactors}

@@ -1,5 +1,5 @@
 -- What is calculated for a term has the value of the term.
-use Rattle.std.proofs.Common.{◌≡◌, ◌<◌, ℕ, zero, suc, ap, sym, ◌∙◌, subst, refl, arith, Bool, true, false, if◌then◌else◌, ⊎_elim, Option, Some, None, MatchOption}
+use Rattle.std.proofs.Common.{◌≡◌, ◌<◌, ℕ, zero, suc, ap, sym, ◌∙◌, subst, refl, arith, true, false, if◌then◌else◌, ⊎_elim, Option, Some, None, MatchOption}
 use Rattle.std.proofs.Math.IntN.{ℤ, pos, neg_ℤ, ◌+ℤ◌, ◌*ℤ◌}
 use Rattle.std.specs.Prelude.{◌<ℤ◌, ◌≤ℤ◌, Result, Ok, Err}
 use Rattle.std.specs.Ordering.{int_eq, is_eq}

@@ -1,4 +1,4 @@
-use Rattle.std.proofs.Common.{◌∙◌, ap, sym, arith, rules}
+use Rattle.std.proofs.Common.{◌∙◌, ap, sym, rules}
 use Rattle.qe_syntax.specs.declared.tree.Formula.TheFolds.{the_lemmas}
 use Rattle.qe_syntax.specs.Trees.{formula_tree}
 use Rattle.qe_syntax.specs.Valued.{matrix_of}
