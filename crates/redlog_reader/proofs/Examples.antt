@@ -7,6 +7,7 @@ use Rattle.redlog_reader.specs.declared.token.TokenKind.TheVariants as token
 use Rattle.redlog_reader.specs.declared.terminal.Terminal.{Terminal}
 use Rattle.redlog_reader.specs.declared.terminal.Terminal.TheVariants as terminal
 use Rattle.redlog_reader.specs.declared.terminal.Mark.TheVariants as mark
+use Rattle.redlog_reader.specs.declared.terminal.Word.TheVariants as word
 use Rattle.redlog_reader.specs.Lexing.{front, literal_of, signed, worded, is_word}
 use Rattle.redlog_reader.specs.Levels.{level, groups}
 
@@ -48,7 +49,7 @@ abbrev opening : Terminal
 opening = terminal.Mark mark.Open
 
 abbrev negation : Terminal
-negation = terminal.Mark mark.Not
+negation = terminal.Word word.Not
 
 second_not : level (negation ∷ negation ∷ []) ≡ 2
 unfolding groups

@@ -1,15 +1,1 @@
-pub mod Unique
-pub mod Lists
-pub mod Sums
-pub mod Shorter
-pub mod Formulas
-pub mod Proper
-pub mod Points
-pub mod Statements
-pub mod Lexemes
-pub mod PieceLemmas
-pub mod Counts
-pub mod Lexed
-pub mod Whole
-pub mod Cutting
-pub mod Examples
+pub mod CompleteTerms

@@ -4,5 +4,6 @@ pub mod Pieces
 pub mod Levels
 pub mod Grammar
 pub mod Statement
+pub mod Machine
 pub mod Reading
 pub mod Counting

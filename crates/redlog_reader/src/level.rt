@@ -6,7 +6,7 @@ ghost use Rattle.redlog_reader.specs.Levels.{weight, after, change_of, changed, 
 ghost use Rattle.redlog_reader.specs.Counting.{AreLevels, IsSmall, IsTotal, stack, count, is_binder, is_not};
 ghost use Rattle.redlog_reader.specs.Reading.{Refuses};
 
-use crate::terminal::{Mark, Terminal, terminal_of};
+use crate::terminal::{Mark, Terminal, Word, terminal_of};
 use crate::token::{ReadError, Token};
 use std::alloc::Global;
 
@@ -183,7 +183,7 @@ fn held_after(terminal: &Terminal, run: usize) -> usize
     ensures { result ≡ (if is_binder terminal.now then run else 0) }
 {
     match terminal {
-        Terminal::Mark(Mark::Binder) => run,
+        Terminal::Word(Word::Ex | Word::All) => run,
         _ => 0,
     }
 }
@@ -194,7 +194,7 @@ fn run_after(terminal: &Terminal, run: usize) -> usize
     ensures { result ≡ (if is_not terminal.now then run + 1 else 0) }
 {
     match terminal {
-        Terminal::Mark(Mark::Not) => run + 1,
+        Terminal::Word(Word::Not) => run + 1,
         _ => 0,
     }
 }
@@ -225,9 +225,10 @@ fn after(terminal: &Terminal, group: Group) -> Group
             Mark::Times | Mark::Power => (arrows, slashes),
             Mark::Slash => (arrows, slashes + 1),
             Mark::Comma => (0, 0),
-            Mark::Arrow => (arrows + 1, 0),
             _ => (arrows, 0),
         },
+        Terminal::Word(Word::Impl | Word::Repl | Word::Equiv) => (arrows + 1, 0),
+        Terminal::Word(_) => (arrows, 0),
     };
     Group {
         opened,
