@@ -1,4 +1,5 @@
 pub mod Padding
+pub mod Names
 pub mod Trees
 pub mod Statements
 pub mod Proper

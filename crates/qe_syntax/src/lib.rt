@@ -17,7 +17,11 @@ pub use laws::one_point;
 pub use name::Name;
 pub use point::{Point, PointFault};
 pub use statement::{Action, Command, Entries, PointEntry, Setting, Statement};
-pub use tree::{Formula, Formulas, Literal, Relation, Term, Terms, negation, negative};
+pub use tree::{
+    Formula, Formulas, Literal, Relation, Term, Terms, comparison, congruence, equivalence,
+    existential, implication, incongruence, negation, negative, power, quotient, replication,
+    universal,
+};
 pub use truth::truth_at;
 pub use value::{EvalError, value_at};
 pub use valued::is_valued;

@@ -7,7 +7,7 @@ use Rattle.qe_syntax.proofs.truth.+truth.Goals as goal
 
 pub formula_truth-formula_truth-requires : goal.formula_truth-formula_truth-requires
 formula_truth-formula_truth-requires t c =
-    let e = not_is _ _ _ c.in-Not.is c.deref.ensures in
+    let e = not_is _ _ _ c.in-Not.is c.deref-in-Not.ensures in
     (search (rules, the_lemmas), (subst IsProperFormula e c.requires.proper, subst IsSimple e c.requires.simple))
 
 pub formula_truth-all_true-requires : goal.formula_truth-all_true-requires

@@ -14,7 +14,7 @@ use Rattle.qe_syntax.proofs.valued.+formulas.Goals as goal
 
 pub in_formula-in_formula-requires : goal.in_formula-in_formula-requires
 in_formula-in_formula-requires t c =
-    (search (rules, the_lemmas), subst IsSimple (not_is _ _ _ c.in-Not.is c.deref.ensures) c.requires)
+    (search (rules, the_lemmas), subst IsSimple (not_is _ _ _ c.in-Not.is c.deref-in-Not.ensures) c.requires)
 
 pub in_formula-in_formulas-requires : goal.in_formula-in_formulas-requires
 in_formula-in_formulas-requires t c =
