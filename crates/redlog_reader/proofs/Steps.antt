@@ -106,3 +106,11 @@ no_power goal (t ∷ ts) fs h less = refl
 pub level_kept : (s : ℕ) (frame : Frame) (fs : List Frame) (h : Reading) → s ≤ level frame → folded s (frame ∷ fs) h ≡ Some (frame ∷ fs, h)
 level_kept s frame fs h le = ap (λ b. if b then (elim (ended frame h) [ None ↦ None | Some g ↦ folded s fs g ]) else Some (frame ∷ fs, h)) (le-ltb (level frame) s le)
 
+pub no_term : {X : Type 0} (h : Reading) (f : TermTree → X) (other : X) → term_of h ≡ None → on_term (term_of h) f other ≡ other
+no_term h f other e = ap (λ o. on_term o f other) e
+
+pub no_formula : {X : Type 0} (h : Reading) (f : FormulaTree → X) (other : X) → formula_of h ≡ None → on_formula (formula_of h) f other ≡ other
+no_formula h f other e = ap (λ o. on_formula o f other) e
+
+-- the term or the formula that was read, or that there is none
+pub ruleset choices = (is_term, is_formula, no_term, no_formula)
