@@ -271,21 +271,55 @@ wanted goal (terminal.Word word.Cong) fs = Moves fs (Congruent true)
 wanted goal (terminal.Word word.Ncong) fs = Moves fs (Congruent false)
 wanted goal _ fs = Fails
 
+-- the exponent of a power
+abbrev pub raised_to : TermTree → Terminal → List Frame → Outcome
+raised_to s (terminal.Number n) fs = Moves fs (Held (Term (Power s n)))
+raised_to s _ fs = Fails
+
+-- the bracket of a quantifier
+abbrev pub binds : Bool → Terminal → List Frame → Outcome
+binds universal (terminal.Mark mark.Open) fs = Moves fs (Binding universal)
+binds universal _ fs = Fails
+
+-- the first terminal of the names of a quantifier
+abbrev pub first_bound : Bool → Terminal → List Frame → Outcome
+first_bound universal (terminal.Name x) fs = Moves fs (Scoped universal (x ∷ []))
+first_bound universal (terminal.Mark mark.OpenBrace) fs = Moves fs (NameWanted universal [])
+first_bound universal _ fs = Fails
+
+-- one more name
+abbrev pub next_bound : Bool → List (List ℕ) → Terminal → List Frame → Outcome
+next_bound universal xs (terminal.Name x) fs = Moves fs (NameRead universal (xs ++ x ∷ []))
+next_bound universal xs _ fs = Fails
+
+-- what stands after a name
+abbrev pub after_bound : Bool → List (List ℕ) → Terminal → List Frame → Outcome
+after_bound universal xs (terminal.Mark mark.Comma) fs = Moves fs (NameWanted universal xs)
+after_bound universal xs (terminal.Mark mark.CloseBrace) fs = Moves fs (Scoped universal xs)
+after_bound universal xs _ fs = Fails
+
+-- the comma before the formula of a quantifier
+abbrev pub scoped : Bool → List (List ℕ) → Terminal → List Frame → Outcome
+scoped universal xs (terminal.Mark mark.Comma) fs = Moves (Quantifier universal xs ∷ fs) Wants
+scoped universal xs _ fs = Fails
+
+-- the bracket of a congruence
+abbrev pub opens : Bool → Terminal → List Frame → Outcome
+opens positive (terminal.Mark mark.Open) fs = Moves (Congruence positive [] ∷ fs) Wants
+opens positive _ fs = Fails
+
 -- one more terminal
 abbrev pub step : ℕ → List Frame → Mode → Terminal → Outcome
 step goal fs Wants t = wanted goal t fs
 step goal fs (Fresh h) t = fresh goal t fs h
 step goal fs (Held h) t = held goal t fs h
-step goal fs (Raised s) (terminal.Number n) = Moves fs (Held (Term (Power s n)))
-step goal fs (Binder universal) (terminal.Mark mark.Open) = Moves fs (Binding universal)
-step goal fs (Binding universal) (terminal.Name x) = Moves fs (Scoped universal (x ∷ []))
-step goal fs (Binding universal) (terminal.Mark mark.OpenBrace) = Moves fs (NameWanted universal [])
-step goal fs (NameWanted universal xs) (terminal.Name x) = Moves fs (NameRead universal (xs ++ x ∷ []))
-step goal fs (NameRead universal xs) (terminal.Mark mark.Comma) = Moves fs (NameWanted universal xs)
-step goal fs (NameRead universal xs) (terminal.Mark mark.CloseBrace) = Moves fs (Scoped universal xs)
-step goal fs (Scoped universal xs) (terminal.Mark mark.Comma) = Moves (Quantifier universal xs ∷ fs) Wants
-step goal fs (Congruent positive) (terminal.Mark mark.Open) = Moves (Congruence positive [] ∷ fs) Wants
-step goal fs _ t = Fails
+step goal fs (Raised s) t = raised_to s t fs
+step goal fs (Binder universal) t = binds universal t fs
+step goal fs (Binding universal) t = first_bound universal t fs
+step goal fs (NameWanted universal xs) t = next_bound universal xs t fs
+step goal fs (NameRead universal xs) t = after_bound universal xs t fs
+step goal fs (Scoped universal xs) t = scoped universal xs t fs
+step goal fs (Congruent positive) t = opens positive t fs
 
 -- what is read of these terminals, with what is left
 abbrev pub run : ℕ → List Terminal → List Frame → Mode → Option (Reading × List Terminal)

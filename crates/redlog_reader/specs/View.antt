@@ -1,10 +1,12 @@
 -- What the values of the code stand for, while terms and formulas are read.
-use Rattle.std.specs.Prelude.{ℕ, List, map, reverse}
-use Rattle.qe_syntax.specs.Trees.{term_tree, formula_tree}
+use Rattle.std.specs.Prelude.{ℕ, List, [], ◌∷◌, map, reverse}
+use Rattle.qe_syntax.specs.Trees.{TermTree, term_tree, formula_tree}
 use Rattle.redlog_reader.specs.declared.operand.Operand as operands
 use Rattle.redlog_reader.specs.declared.operand.Operand.TheVariants as operand
 use Rattle.redlog_reader.specs.declared.pending.Pending as begins
 use Rattle.redlog_reader.specs.declared.pending.Pending.TheVariants as pending
+use Rattle.redlog_reader.specs.declared.pending.Arguments as arguments
+use Rattle.redlog_reader.specs.declared.pending.Arguments.TheVariants as argument
 use Rattle.redlog_reader.specs.declared.pending.Expects as expected
 use Rattle.redlog_reader.specs.declared.pending.Expects.TheVariants as expects
 use Rattle.redlog_reader.specs.declared.pending.Step as steps
@@ -16,10 +18,15 @@ reading_of (operand.Term t) = Term (term_tree t)
 reading_of (operand.Formula f) = Formula (formula_tree f)
 reading_of (operand.Name x) = Bare x
 
+abbrev pub arguments_of : arguments.Arguments → List TermTree
+arguments_of argument.First = []
+arguments_of (argument.Second s) = term_tree s ∷ []
+arguments_of (argument.Third s t) = term_tree s ∷ term_tree t ∷ []
+
 abbrev pub frame_of : begins.Pending → Frame
 frame_of pending.Group = Group
 frame_of (pending.Quantifier universal names) = Quantifier universal names.items
-frame_of (pending.Congruence positive terms) = Congruence positive (map term_tree terms.items)
+frame_of (pending.Congruence positive terms) = Congruence positive (arguments_of terms)
 frame_of pending.Negation = Negation
 frame_of (pending.Compares r t) = Compares r (term_tree t)
 frame_of (pending.Added minus terms) = Added minus (map term_tree terms.items)

@@ -1,8 +1,8 @@
-ghost use Rattle.std.specs.Prelude.{◌≡◌, ℕ, ◌≤◌, List, [], ◌∷◌, ◌++◌, map, reverse, IfOk, IfErr, OnOk, Some, None};
+ghost use Rattle.std.specs.Prelude.{◌≡◌, [], ◌∷◌, ◌++◌, map, IfOk, IfErr, OnOk};
 ghost use Rattle.qe_syntax.specs.Trees.{term_tree, formula_tree};
 ghost use Rattle.redlog_reader.specs.declared.terminal.Terminal.{Terminal};
 ghost use Rattle.redlog_reader.specs.Terminals.{terminals};
-ghost use Rattle.redlog_reader.specs.Machine.{Frame, Wants, Fresh, Held, Raised, Binder, Binding, NameWanted, NameRead, Scoped, Congruent, Fails, Moves, strength, Congruence, Added, takes, folded, factors, members, listed, grouped, pushed, multiplies, adds, compares, joins, implies, congruence_of, closed, separated, operated, joined, held, fresh, wanted, step, run};
+ghost use Rattle.redlog_reader.specs.Machine.{Wants, Fails, raised_to, binds, first_bound, next_bound, after_bound, scoped, opens, strength, Added, takes, folded, factors, members, listed, grouped, pushed, multiplies, adds, compares, joins, implies, congruence_of, closed, separated, operated, joined, held, fresh, wanted, step, run};
 ghost use Rattle.redlog_reader.specs.Grammar.{quantified, quantifier};
 ghost use Rattle.redlog_reader.specs.Reading.{Refuses};
 ghost use Rattle.redlog_reader.specs.View.{reading_of, frame_of, frames, mode_of, outcome_of};
@@ -10,7 +10,7 @@ ghost use Rattle.redlog_reader.specs.View.{reading_of, frame_of, frames, mode_of
 use crate::ending::{added, ended, multiplied, put};
 use crate::operand::{Operand, formula_of, term_of};
 use crate::peek::next;
-use crate::pending::{Arrow, Connective, Expects, Pending, Step, level, takes_last};
+use crate::pending::{Arguments, Arrow, Connective, Expects, Pending, Step, level, takes_last};
 use crate::terminal::{Mark, Terminal, Word};
 use crate::token::{ReadError, Token};
 use qe_syntax::{
@@ -59,7 +59,7 @@ fn step(
         Expects::Name(universal, names) => name(pending, terminal, universal, names),
         Expects::NameEnd(universal, names) => name_end(pending, terminal, universal, names),
         Expects::Scope(universal, names) => scope(pending, terminal, universal, names),
-        Expects::Terms(positive) => terms(alloc, pending, terminal, positive),
+        Expects::Terms(positive) => terms(pending, terminal, positive),
     }
 }
 
@@ -158,8 +158,8 @@ fn exponent(
     terminal: &Terminal,
     base: Term,
 ) -> Result<Step, ReadError>
-    ensures taken { IfOk result (λ s. (goal : ℕ) → step goal (frames pending.old.items) (Raised (term_tree base)) terminal.now ≡ outcome_of s (frames pending.new.items)) }
-    ensures refused { IfErr result (λ e. Refuses e ((goal : ℕ) → step goal (frames pending.old.items) (Raised (term_tree base)) terminal.now ≡ Fails)) }
+    ensures taken { IfOk result (λ s. raised_to (term_tree base) terminal.now (frames pending.old.items) ≡ outcome_of s (frames pending.new.items)) }
+    ensures refused { IfErr result (λ e. Refuses e (raised_to (term_tree base) terminal.now (frames pending.old.items) ≡ Fails)) }
 {
     match terminal {
         Terminal::Number(number) => {
@@ -177,8 +177,8 @@ fn binder(
     terminal: &Terminal,
     universal: bool,
 ) -> Result<Step, ReadError>
-    ensures taken { IfOk result (λ s. (goal : ℕ) → step goal (frames pending.old.items) (Binder universal) terminal.now ≡ outcome_of s (frames pending.new.items)) }
-    ensures refused { IfErr result (λ e. Refuses e ((goal : ℕ) → step goal (frames pending.old.items) (Binder universal) terminal.now ≡ Fails)) }
+    ensures taken { IfOk result (λ s. binds universal terminal.now (frames pending.old.items) ≡ outcome_of s (frames pending.new.items)) }
+    ensures refused { IfErr result (λ e. Refuses e (binds universal terminal.now (frames pending.old.items) ≡ Fails)) }
 {
     match terminal {
         Terminal::Mark(Mark::Open) => Ok(Step::Moves(Expects::Binding(universal))),
@@ -194,8 +194,8 @@ fn binding(
     terminal: &Terminal,
     universal: bool,
 ) -> Result<Step, ReadError>
-    ensures taken { IfOk result (λ s. (goal : ℕ) → step goal (frames pending.old.items) (Binding universal) terminal.now ≡ outcome_of s (frames pending.new.items)) }
-    ensures refused { IfErr result (λ e. Refuses e ((goal : ℕ) → step goal (frames pending.old.items) (Binding universal) terminal.now ≡ Fails)) }
+    ensures taken { IfOk result (λ s. first_bound universal terminal.now (frames pending.old.items) ≡ outcome_of s (frames pending.new.items)) }
+    ensures refused { IfErr result (λ e. Refuses e (first_bound universal terminal.now (frames pending.old.items) ≡ Fails)) }
 {
     match terminal {
         Terminal::Name(name) => {
@@ -218,8 +218,8 @@ fn name(
     universal: bool,
     mut names: Vec<Name>,
 ) -> Result<Step, ReadError>
-    ensures taken { IfOk result (λ s. (goal : ℕ) → step goal (frames pending.old.items) (NameWanted universal names.items) terminal.now ≡ outcome_of s (frames pending.new.items)) }
-    ensures refused { IfErr result (λ e. Refuses e ((goal : ℕ) → step goal (frames pending.old.items) (NameWanted universal names.items) terminal.now ≡ Fails)) }
+    ensures taken { IfOk result (λ s. next_bound universal names.items terminal.now (frames pending.old.items) ≡ outcome_of s (frames pending.new.items)) }
+    ensures refused { IfErr result (λ e. Refuses e (next_bound universal names.items terminal.now (frames pending.old.items) ≡ Fails)) }
 {
     match terminal {
         Terminal::Name(name) => {
@@ -238,8 +238,8 @@ fn name_end(
     universal: bool,
     names: Vec<Name>,
 ) -> Result<Step, ReadError>
-    ensures taken { IfOk result (λ s. (goal : ℕ) → step goal (frames pending.old.items) (NameRead universal names.items) terminal.now ≡ outcome_of s (frames pending.new.items)) }
-    ensures refused { IfErr result (λ e. Refuses e ((goal : ℕ) → step goal (frames pending.old.items) (NameRead universal names.items) terminal.now ≡ Fails)) }
+    ensures taken { IfOk result (λ s. after_bound universal names.items terminal.now (frames pending.old.items) ≡ outcome_of s (frames pending.new.items)) }
+    ensures refused { IfErr result (λ e. Refuses e (after_bound universal names.items terminal.now (frames pending.old.items) ≡ Fails)) }
 {
     match terminal {
         Terminal::Mark(Mark::Comma) => Ok(Step::Moves(Expects::Name(universal, names))),
@@ -256,8 +256,8 @@ fn scope(
     universal: bool,
     names: Vec<Name>,
 ) -> Result<Step, ReadError>
-    ensures taken { IfOk result (λ s. (goal : ℕ) → step goal (frames pending.old.items) (Scoped universal names.items) terminal.now ≡ outcome_of s (frames pending.new.items)) }
-    ensures refused { IfErr result (λ e. Refuses e ((goal : ℕ) → step goal (frames pending.old.items) (Scoped universal names.items) terminal.now ≡ Fails)) }
+    ensures taken { IfOk result (λ s. scoped universal names.items terminal.now (frames pending.old.items) ≡ outcome_of s (frames pending.new.items)) }
+    ensures refused { IfErr result (λ e. Refuses e (scoped universal names.items terminal.now (frames pending.old.items) ≡ Fails)) }
 {
     match terminal {
         Terminal::Mark(Mark::Comma) => {
@@ -271,17 +271,16 @@ fn scope(
 /// The bracket of a congruence.
 #[tactic(auto, using(crate::proofs::Frames::steps))]
 fn terms(
-    alloc: Global,
     pending: &mut Vec<Pending>,
     terminal: &Terminal,
     positive: bool,
 ) -> Result<Step, ReadError>
-    ensures taken { IfOk result (λ s. (goal : ℕ) → step goal (frames pending.old.items) (Congruent positive) terminal.now ≡ outcome_of s (frames pending.new.items)) }
-    ensures refused { IfErr result (λ e. Refuses e ((goal : ℕ) → step goal (frames pending.old.items) (Congruent positive) terminal.now ≡ Fails)) }
+    ensures taken { IfOk result (λ s. opens positive terminal.now (frames pending.old.items) ≡ outcome_of s (frames pending.new.items)) }
+    ensures refused { IfErr result (λ e. Refuses e (opens positive terminal.now (frames pending.old.items) ≡ Fails)) }
 {
     match terminal {
         Terminal::Mark(Mark::Open) => {
-            pending.push(Pending::Congruence(positive, Vec::new(alloc)))?;
+            pending.push(Pending::Congruence(positive, Arguments::First))?;
             Ok(Step::Moves(Expects::Operand))
         }
         _ => Err(ReadError::Syntax),
@@ -323,7 +322,7 @@ fn strength(terminal: &Terminal) -> usize
 }
 
 /// Ends what binds tighter, with the operand as its last part.
-#[tactic(auto, using(crate::proofs::Frames::steps))]
+#[tactic(auto, using(crate::proofs::Frames::folds))]
 fn fold(
     alloc: Global,
     pending: &mut Vec<Pending>,
@@ -561,13 +560,16 @@ fn listed(
 ) -> Result<Vec<Formula>, AllocError>
     ensures { IfOk result (λ fs. listed connective (frames pending.old.items) (formula_tree formula) ≡ (map formula_tree fs.items, frames pending.new.items)) }
 {
-    match pending.pop() {
-        Some(Pending::Listed(same, members)) if same == connective => with(members, formula),
-        Some(other) => {
+    match (connective, pending.pop()) {
+        (Connective::And, Some(Pending::Listed(Connective::And, members))) => {
+            with(members, formula)
+        }
+        (Connective::Or, Some(Pending::Listed(Connective::Or, members))) => with(members, formula),
+        (_, Some(other)) => {
             pending.push(other)?;
             with(Vec::new(alloc), formula)
         }
-        None => with(Vec::new(alloc), formula),
+        (_, None) => with(Vec::new(alloc), formula),
     }
 }
 
@@ -641,8 +643,11 @@ fn close(
             let quantified = quantified(alloc, universal, names, formula)?;
             Ok(Step::Moves(Expects::Power(Operand::Formula(quantified))))
         }
-        Some(Pending::Congruence(positive, terms)) => {
-            let formula = congruent(alloc, positive, terms, operand)?;
+        Some(Pending::Congruence(positive, Arguments::Third(left, right))) => {
+            let Some(modulus) = term_of(operand) else {
+                return Err(ReadError::Syntax);
+            };
+            let formula = congruence_of(alloc, positive, left, right, modulus)?;
             Ok(Step::Moves(Expects::Power(Operand::Formula(formula))))
         }
         _ => Err(ReadError::Syntax),
@@ -650,6 +655,7 @@ fn close(
 }
 
 /// A quantifier for each name, the first one outermost.
+#[tactic(auto, using(crate::proofs::Frames::quantified_more))]
 fn quantified(
     alloc: Global,
     universal: bool,
@@ -680,27 +686,20 @@ fn quantifier(
     }
 }
 
-/// The congruence of two terms with the operand as its modulus.
-#[tactic(auto, using(crate::proofs::Frames::steps))]
-fn congruent(
+/// The congruence of two terms modulo a third, or its negation.
+fn congruence_of(
     alloc: Global,
     positive: bool,
-    mut terms: Vec<Term>,
-    operand: Operand,
-) -> Result<Formula, ReadError>
-    ensures congruent { IfOk result (λ f. (fs : List Frame) → closed (Congruence positive (map term_tree terms.items) ∷ fs) (reading_of operand) ≡ Moves fs (Fresh (Formula (formula_tree f)))) }
-    ensures refused { IfErr result (λ e. Refuses e ((fs : List Frame) → closed (Congruence positive (map term_tree terms.items) ∷ fs) (reading_of operand) ≡ Fails)) }
+    left: Term,
+    right: Term,
+    modulus: Term,
+) -> Result<Formula, AllocError>
+    ensures { IfOk result (λ f. formula_tree f ≡ congruence_of positive (term_tree left) (term_tree right) (term_tree modulus)) }
 {
-    let Some(modulus) = term_of(operand) else {
-        return Err(ReadError::Syntax);
-    };
-    let (Some(right), Some(left), None) = (terms.pop(), terms.pop(), terms.pop()) else {
-        return Err(ReadError::Syntax);
-    };
     if positive {
-        Ok(congruence(alloc, left, right, modulus)?)
+        congruence(alloc, left, right, modulus)
     } else {
-        Ok(incongruence(alloc, left, right, modulus)?)
+        incongruence(alloc, left, right, modulus)
     }
 }
 
@@ -711,12 +710,18 @@ fn separate(pending: &mut Vec<Pending>, operand: Operand) -> Result<Step, ReadEr
     ensures refused { IfErr result (λ e. Refuses e (separated (frames pending.old.items) (reading_of operand) ≡ Fails)) }
 {
     match pending.pop() {
-        Some(Pending::Congruence(positive, mut terms)) if terms.len() < 2 => {
-            let Some(term) = term_of(operand) else {
+        Some(Pending::Congruence(positive, Arguments::First)) => {
+            let Some(first) = term_of(operand) else {
                 return Err(ReadError::Syntax);
             };
-            terms.push(term)?;
-            pending.push(Pending::Congruence(positive, terms))?;
+            pending.push(Pending::Congruence(positive, Arguments::Second(first)))?;
+            Ok(Step::Moves(Expects::Operand))
+        }
+        Some(Pending::Congruence(positive, Arguments::Second(first))) => {
+            let Some(second) = term_of(operand) else {
+                return Err(ReadError::Syntax);
+            };
+            pending.push(Pending::Congruence(positive, Arguments::Third(first, second)))?;
             Ok(Step::Moves(Expects::Operand))
         }
         _ => Err(ReadError::Syntax),

@@ -20,13 +20,21 @@ pub enum Arrow {
     Equiv,
 }
 
+/// The terms of a congruence so far.
+#[derive(Drop)]
+pub enum Arguments {
+    First,
+    Second(Term),
+    Third(Term, Term),
+}
+
 /// What has begun and waits for its last part. A quantifier is `all` where the test is true, and a congruence `cong`.
 /// The last sign of a sum is `-`, and that of a product `/`, where the test is true.
 #[derive(Drop)]
 pub enum Pending {
     Group,
     Quantifier(bool, Vec<Name>),
-    Congruence(bool, Vec<Term>),
+    Congruence(bool, Arguments),
     Negation,
     Compares(Relation, Term),
     Added(bool, Vec<Term>),
