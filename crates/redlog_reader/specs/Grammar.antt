@@ -1,7 +1,8 @@
 -- What terminals spell, line by line. Each relation is between terminals, what they spell, and the terminals that
 -- are left after it. A list may end at any of its members: nothing looks ahead. A list that groups to the left is
 -- given by what stands before it.
-use Rattle.std.specs.Prelude.{◌≡◌, ℕ, Bool, true, false, List, [], ◌∷◌, ◌++◌, map, codes, bytes_eq, nat_le, ◌+◌, ◌&&◌, ◌||◌, if◌then◌else◌, Option, Some, None, pos, neg_ℤ}
+use Rattle.std.specs.Prelude.{◌≡◌, ℕ, Bool, true, false, List, [], ◌∷◌, ◌++◌, map, codes, bytes_eq, ◌||◌, if◌then◌else◌, Option, Some, None, pos, neg_ℤ}
+use Rattle.std.specs.Char.{to_ascii_lowercase}
 use Rattle.formula_meaning.specs.Formula.{Yes, No, One, Not, And, Or, Impl, Repl, Equiv, Ex, All}
 use Rattle.qe_syntax.specs.declared.tree.Literal.{Literal}
 use Rattle.qe_syntax.specs.declared.tree.Literal.TheVariants.{Fits, Past}
@@ -188,13 +189,13 @@ mutual
     equiv : {before : FormulaTree} {us vs rest : List Terminal} {f g : FormulaTree} → SpellsReplication us f vs → Equivs (Equiv before f) vs g rest → Equivs before (terminal.Word word.Equiv ∷ us) g rest
 
 -- the letter in lower case
-abbrev pub lower : ℕ → ℕ
-lower b = if nat_le 65 b && nat_le b 90 then b + 32 else b
+
+
 
 -- the context that a name names, in any letter case
 unfoldable pub setting_of : List ℕ → Option Setting
 setting_of x =
-    let name = map lower x in
+    let name = map to_ascii_lowercase x in
     if bytes_eq name (codes "ofsf") || bytes_eq name (codes "r") || bytes_eq name (codes "reals") then Some Ofsf
     else (if bytes_eq name (codes "pasf") || bytes_eq name (codes "z") || bytes_eq name (codes "integers") then Some Pasf else None)
 
