@@ -8,7 +8,8 @@ use Rattle.redlog_reader.specs.declared.terminal.Terminal.{Terminal}
 use Rattle.redlog_reader.specs.declared.terminal.Terminal.TheVariants as terminal
 use Rattle.redlog_reader.specs.declared.terminal.Mark.TheVariants as mark
 use Rattle.redlog_reader.specs.declared.terminal.Word.TheVariants as word
-use Rattle.redlog_reader.specs.Lexing.{front, literal_of, signed, worded, is_word}
+use Rattle.redlog_reader.specs.Lexing.{front, literal_of, signed, worded}
+use Rattle.qe_syntax.specs.Names.{is_word}
 use Rattle.redlog_reader.specs.Levels.{level, groups}
 
 -- 12x begins with the number 12

@@ -5,5 +5,7 @@ pub mod Levels
 pub mod Grammar
 pub mod Statement
 pub mod Machine
+pub mod Reader
+pub mod View
 pub mod Reading
 pub mod Counting

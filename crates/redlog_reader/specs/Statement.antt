@@ -9,7 +9,8 @@ use Rattle.redlog_reader.specs.Levels.{Passes}
 use Rattle.redlog_reader.specs.Grammar.{SpellsStatement}
 use Rattle.redlog_reader.specs.declared.token.ReadError.{ReadError}
 use Rattle.redlog_reader.specs.declared.token.ReadError.TheVariants as cause
-use Rattle.redlog_reader.specs.declared.TheConstants.{BYTE_LIMIT, LEVEL_LIMIT}
+use Rattle.redlog_reader.specs.declared.read.TheConstants.{BYTE_LIMIT}
+use Rattle.redlog_reader.specs.declared.level.TheConstants.{LEVEL_LIMIT}
 
 -- the bytes are within the limit, and they are these tokens, none of them bad
 pub record AreKinds (bytes : List ℕ) (kinds : List TokenKind) : Type 0 where
