@@ -1,25 +1,22 @@
 -- Each formula that the grammar spells is read.
-use Rattle.std.proofs.Common.{◌≡◌, ℕ, zero, suc, ◌+◌, ◌<◌, ◌≤◌, Bool, true, false, List, [], ◌∷◌, ◌++◌, sym, refl, ap, ◌∙◌, subst, arith, append_assoc}
-use Rattle.std.specs.Prelude.{Option, Some, None, nat_lt, nat_le, if◌then◌else◌}
-use Rattle.std.proofs.lemmas.Bool.{lt-ltb, le-ltb, le-leb}
+use Rattle.std.proofs.Common.{◌≡◌, ℕ, ◌<◌, ◌≤◌, Bool, true, false, List, [], ◌∷◌, ◌++◌, sym, refl, ap, ◌∙◌, arith, append_assoc}
+use Rattle.std.specs.Prelude.{Some, None}
 use Rattle.formula_meaning.specs.Formula.{Yes, No, One, Not, Impl, Repl, Equiv}
 use Rattle.qe_syntax.specs.declared.tree.Relation.{Relation}
-use Rattle.qe_syntax.specs.Trees.{TermTree, Number, Named, Quotient, Power, Negative, Compare, Cong, Ncong, Bound, FormulaTree}
+use Rattle.qe_syntax.specs.Trees.{Compare, Cong, Ncong, FormulaTree}
 use Rattle.redlog_reader.specs.declared.terminal.Terminal.{Terminal}
 use Rattle.redlog_reader.specs.declared.terminal.Terminal.TheVariants as terminal
 use Rattle.redlog_reader.specs.declared.terminal.Mark.TheVariants as mark
 use Rattle.redlog_reader.specs.declared.terminal.Word.TheVariants as word
-use Rattle.redlog_reader.specs.declared.pending.Connective.{Connective}
 use Rattle.redlog_reader.specs.declared.pending.Connective.TheVariants as connective
-use Rattle.redlog_reader.specs.declared.pending.Arrow.{Arrow}
 use Rattle.redlog_reader.specs.declared.pending.Arrow.TheVariants as arrow
-use Rattle.redlog_reader.specs.Machine.{Reading, Term, Formula, Bare, term_of, formula_of, Frame, Group, Quantifier, Congruence, Negation, Compares, Added, Multiplied, Listed, Arrows}
-use Rattle.redlog_reader.specs.Machine.{Mode, Wants, Fresh, Held, Raised, Binder, Binding, NameWanted, NameRead, Scoped, Congruent, Outcome, Fails, Stops, Moves, strength, level, takes_last, takes, signed_term, multiplied, list_of, arrow_of, on_term, on_formula, ended, folded, continued, factors, members, listed, grouped, pushed, multiplies, adds, compares, joins, implies, congruence_of, closed, separated, operated, joined, held, fresh, wanted, step, run}
-use Rattle.redlog_reader.specs.Grammar.{product_of, sum_of, conjunction_of, disjunction_of, quantified, SpellsFactor, number, variable, inner_sum, SpellsPower, first_power, raised, SpellsProduct, product, Factors, no_factor, times, over, SpellsSum, sum, plus_sum, minus_sum, Members, no_member, plus, minus}
+use Rattle.redlog_reader.specs.Machine.{Reading, Formula, Bare, formula_of, Frame, Group, Quantifier, Congruence, Negation, Compares, Listed, Arrows}
+use Rattle.redlog_reader.specs.Machine.{Wants, Fresh, Held, Binding, NameWanted, NameRead, Fails, Moves, strength, takes, listed, grouped, pushed, compares, congruence_of, operated, held, run}
+use Rattle.redlog_reader.specs.Grammar.{conjunction_of, disjunction_of, quantified}
 use Rattle.redlog_reader.specs.Grammar.{IsRelation, relation_sign, relation_word, SpellsComparison, comparison, SpellsCongruence, congruent, incongruent, Names, last_name, more_names, SpellsNames, one_name, many_names}
 use Rattle.redlog_reader.specs.Grammar.{SpellsPrime, truth, falsity, named_formula, congruence, inner_formula, exists, for_all, SpellsNegation, negation, compared, prime, SpellsConjunction, conjunction, Conjuncts, no_conjunct, conjunct, SpellsDisjunction, disjunction, Disjuncts, no_disjunct, disjunct}
 use Rattle.redlog_reader.specs.Grammar.{SpellsImplication, no_implication, implication, SpellsReplication, replication, Repls, no_repl, repl, SpellsFormula, equivalence, Equivs, no_equiv, equiv}
-use Rattle.redlog_reader.proofs.Steps.{strength_at, ReadsTerm, ReadsFormula, moves, is_term, is_formula, unfolded, within, put, ends, no_power, level_kept}
+use Rattle.redlog_reader.proofs.Steps.{strength_at, ReadsFormula, moves, is_term, is_formula, within, put, ends, no_power}
 use Rattle.redlog_reader.proofs.CompleteTerms.{complete_sum}
 
 pub relation_strength : {t : Terminal} {r : Relation} → IsRelation t r → strength t ≡ 3

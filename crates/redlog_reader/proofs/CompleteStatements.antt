@@ -1,33 +1,29 @@
 -- Each statement that the grammar spells is read.
-use Rattle.std.proofs.Common.{◌≡◌, ℕ, zero, suc, ◌+◌, ◌<◌, ◌≤◌, Bool, true, false, List, [], ◌∷◌, ◌++◌, length, sym, refl, ap, ◌∙◌, subst, arith}
-use Rattle.std.specs.Prelude.{Option, Some, None, pos, if◌then◌else◌, ◌==◌}
+use Rattle.std.proofs.Common.{◌≡◌, ℕ, ◌<◌, Bool, true, false, List, [], ◌∷◌, sym, refl, ap, ◌∙◌, arith}
+use Rattle.std.specs.Prelude.{Option, Some, None, pos, if◌then◌else◌}
 use Rattle.qe_syntax.specs.declared.tree.Literal.{Literal}
 use Rattle.qe_syntax.specs.declared.tree.Literal.TheVariants.{Fits, Past}
 use Rattle.qe_syntax.specs.declared.tree.Relation.{Relation}
-use Rattle.qe_syntax.specs.declared.tree.Relation.TheVariants.{Equal, Differs}
-use Rattle.qe_syntax.specs.declared.statement.Setting.{Setting}
 use Rattle.qe_syntax.specs.declared.statement.PointEntry.{PointEntry}
 use Rattle.formula_meaning.specs.Formula.{One}
-use Rattle.qe_syntax.specs.Trees.{TermTree, Bound, Compare, FormulaTree, formulas_of}
-use Rattle.qe_syntax.specs.Statements.{CommandTree, Echo, Nnf, Pnf, Dnf, Cnf, Simpl, Qe, Qea, Holds, Sample, ActionTree, Empty, Ignored, Finish, Choose, Say, Assign, StatementTree}
+use Rattle.qe_syntax.specs.Trees.{TermTree, Compare, FormulaTree, formulas_of}
+use Rattle.qe_syntax.specs.Statements.{CommandTree, Echo, Nnf, Pnf, Dnf, Cnf, Simpl, Qe, Qea, Holds, Sample, ActionTree, Empty, Ignored, Choose, Say, Assign, StatementTree}
 use Rattle.redlog_reader.specs.declared.terminal.Terminal.{Terminal}
 use Rattle.redlog_reader.specs.declared.terminal.Terminal.TheVariants as terminal
-use Rattle.redlog_reader.specs.declared.terminal.Mark.{Mark}
 use Rattle.redlog_reader.specs.declared.terminal.Mark.TheVariants as mark
 use Rattle.redlog_reader.specs.declared.terminal.Word.{Word}
 use Rattle.redlog_reader.specs.declared.terminal.Word.TheVariants as word
-use Rattle.redlog_reader.specs.Machine.{Reading, Term, Formula, Bare, term_of, formula_of, Wants, Held, Stops, strength, run, joined, operated}
-use Rattle.redlog_reader.specs.Grammar.{SpellsFactor, number, variable, inner_sum, SpellsPower, first_power, raised, SpellsProduct, product, SpellsSum, sum, plus_sum, minus_sum, IsRelation, relation_sign, relation_word, SpellsComparison, comparison, SpellsCongruence, congruent, incongruent, SpellsAtom, compared_atom, congruent_atom}
-use Rattle.redlog_reader.specs.Grammar.{SpellsPrime, truth, falsity, named_formula, congruence, inner_formula, exists, for_all, SpellsFormula, setting_of, IsAny, any_name, any_word, SpellsAnys, last_any, more_anys, opposite, Above, unsigned, opposed, Below, one, divided, SpellsEntry, entry, Listed, last_item, more_items, Braced, empty, listed, SpellsPoint, SpellsAtoms}
+use Rattle.redlog_reader.specs.Machine.{Reading, term_of, formula_of, Wants, Held, Stops, strength, run, operated}
+use Rattle.redlog_reader.specs.Grammar.{SpellsFactor, SpellsPower, first_power, raised, product, SpellsSum, sum, IsRelation, relation_sign, relation_word, SpellsComparison, comparison, SpellsCongruence, congruent, incongruent, SpellsAtom, compared_atom, congruent_atom}
+use Rattle.redlog_reader.specs.Grammar.{SpellsPrime, truth, falsity, named_formula, congruence, inner_formula, exists, for_all, SpellsFormula, IsAny, any_name, any_word, SpellsAnys, last_any, more_anys, opposite, Above, unsigned, opposed, Below, one, divided, SpellsEntry, entry, Listed, last_item, more_items, empty, listed, SpellsPoint, SpellsAtoms}
 use Rattle.redlog_reader.specs.Grammar.{SpellsArgument, alone, under, SpellsResult, echo, nnf, pnf, dnf, cnf, simpl, qe, SpellsQuery, qea, holds, witness, SpellsAction, assign, result, query, choose, load, on, off, end, bye, quit, end_mark, SpellsStatement, nothing, acting}
-use Rattle.redlog_reader.specs.Reader.{on_some, number_of, after_mark, formula_read, sum_read, relation_of, relation_read, comparison_read, begins_congruence, atom_read, listed_read, items_read, braced_read, number_read, negated_literal, above_read, below_read, name_read, after_equal, entry_read, argument_read, pointed_read, result_from, result_read, is_any, anys_read, context_read, ignored_read, said, action_from, named_from, action_read, ending, statement_read}
-use Rattle.redlog_reader.specs.Reader as reader
+use Rattle.redlog_reader.specs.Reader.{on_some, after_mark, formula_read, sum_read, relation_of, relation_read, comparison_read, begins_congruence, atom_read, items_read, braced_read, negated_literal, above_read, below_read, entry_read, argument_read, pointed_read, result_read, is_any, anys_read, said, action_read, ending, statement_read}
 use Rattle.std.proofs.lemmas.Bool.{lt-ltb}
 use Rattle.std.proofs.lemmas.Int.{ints}
-use Rattle.std.specs.Prelude.{ℤ, negsuc}
+use Rattle.std.specs.Prelude.{negsuc}
 use Rattle.qe_syntax.specs.Proper.{IsNumeral}
 use Rattle.redlog_reader.proofs.Proper.{AreProperTerminals, proper_entry, proper_formula}
-use Rattle.redlog_reader.proofs.Steps.{outcome, strength_at, ReadsTerm, ReadsFormula, no_power}
+use Rattle.redlog_reader.proofs.Steps.{outcome, no_power}
 use Rattle.redlog_reader.proofs.CompleteTerms.{complete_sum}
 use Rattle.redlog_reader.proofs.CompleteFormulas.{complete_prime, complete_formula}
 use Rattle.redlog_reader.proofs.Options.{is_some, is_none, anys_more, anys_last}
@@ -128,7 +124,6 @@ entries_done : {ts rest : List Terminal} {es : List PointEntry} → AreProperTer
 entries_done {ts = ts} {rest = rest} good (last_item {x = x} p) = items_last entry_read entry_less ts (x, terminal.Mark mark.CloseBrace ∷ rest) (entry_done good p (omega arith)) refl
 entries_done {ts = ts} {rest = rest} good (more_items {us = us} {x = x} p m) =
     items_more entry_read entry_less ts us (x, terminal.Mark mark.Comma ∷ us) (entry_done good p (omega arith)) refl ∙ ap (onto (x ∷ [])) (entries_done (proper_entry p good).1 m)
-
 
 atoms_open : (us : List Terminal) {p : List FormulaTree × List Terminal} → items_read atom_read us ≡ Some p → after_mark mark.CloseBrace us ≡ None
 atoms_open [] e = refl

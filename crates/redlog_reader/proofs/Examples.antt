@@ -1,8 +1,8 @@
 -- Worked examples of the definitions. Each side is computed.
 use Rattle.std.proofs.Common.{◌≡◌, [], ◌∷◌, refl, codes}
-use Rattle.std.specs.Prelude.{pos, Some, None, true, false, List, ℕ}
-use Rattle.formula_meaning.specs.Formula.{Formula, One, Impl, Repl, Ex}
-use Rattle.qe_syntax.specs.Trees.{TermTree, Named, Product, Quotient, Negative, Sum, Power, Number, Bound, Compare, terms_of, FormulaTree}
+use Rattle.std.specs.Prelude.{pos, Some, None, List}
+use Rattle.formula_meaning.specs.Formula.{One, Impl, Repl, Ex}
+use Rattle.qe_syntax.specs.Trees.{TermTree, Named, Product, Quotient, Negative, Sum, Bound, Compare, terms_of, FormulaTree}
 use Rattle.qe_syntax.specs.declared.tree.Literal.TheVariants.{Fits}
 use Rattle.qe_syntax.specs.declared.tree.Relation.TheVariants.{Equal}
 use Rattle.redlog_reader.specs.declared.lexer.Front.TheVariants as found

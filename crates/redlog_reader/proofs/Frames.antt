@@ -1,6 +1,6 @@
 -- The stack of what has begun, of which the inmost stands last in the code.
 use Rattle.std.proofs.Common.{◌≡◌, ℕ, ◌<◌, Bool, List, [], ◌∷◌, ◌++◌, map, refl, ap, ◌∙◌}
-use Rattle.std.specs.Prelude.{reverse, Some, None, if◌then◌else◌}
+use Rattle.std.specs.Prelude.{Some, None, if◌then◌else◌}
 use Rattle.std.proofs.lemmas.Bool.{lt-ltb}
 use Rattle.qe_syntax.specs.Trees.{FormulaTree}
 use Rattle.redlog_reader.specs.Grammar.{quantifier, quantified}

@@ -1,7 +1,7 @@
 -- Reading a list of items.
-use Rattle.std.proofs.Common.{◌≡◌, ℕ, zero, suc, ◌+◌, ◌<◌, ◌≤◌, Bool, true, false, List, [], ◌∷◌, ◌++◌, length, sym, refl, ap, ◌∙◌, subst, arith, append_assoc}
+use Rattle.std.proofs.Common.{◌≡◌, ℕ, zero, suc, ◌<◌, ◌≤◌, Bool, true, false, List, [], ◌∷◌, ◌++◌, length, sym, refl, ap, ◌∙◌, subst, arith, append_assoc}
 use Rattle.std.specs.Prelude.{pos, Option, Some, None, nat_le, if◌then◌else◌, ◌==◌}
-use Rattle.qe_syntax.specs.Trees.{TermTree, FormulaTree}
+use Rattle.qe_syntax.specs.Trees.{FormulaTree}
 use Rattle.qe_syntax.specs.declared.tree.Literal.{Literal}
 use Rattle.qe_syntax.specs.declared.tree.Literal.TheVariants.{Fits}
 use Rattle.qe_syntax.specs.declared.tree.Relation.TheVariants.{Equal}
@@ -195,6 +195,7 @@ below_leaves ts = choose (after_mark mark.Slash ts) refl
     weaker : (us : List Terminal) → length us < length ts → (o : Option (Literal × List Terminal)) → LeavesLess (length us) o → Leaves (length ts) o
     weaker us less None l = tt
     weaker us less (Some p) l = omega (arith, l, less)
+
     choose : (o : Option (List Terminal)) → after_mark mark.Slash ts ≡ o → Leaves (length ts) (on_some o number_read (Some (Fits (pos 1), ts)))
     choose None e = omega arith
     choose (Some us) e = weaker us (mark_shorter mark.Slash ts us e) (number_read us) (number_less us)

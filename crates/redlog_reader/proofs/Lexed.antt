@@ -12,7 +12,7 @@ use Rattle.redlog_reader.specs.declared.lexer.Lexeme.{Lexeme}
 use Rattle.std.proofs.lemmas.Int.{ints}
 use Rattle.redlog_reader.specs.declared.terminal.Terminal.{Terminal}
 use Rattle.redlog_reader.specs.declared.terminal.Terminal.TheVariants as terminal
-use Rattle.redlog_reader.specs.Terminals.{terminals, terminal_of, word_of, sign_of}
+use Rattle.redlog_reader.specs.Terminals.{terminals, terminal_of, sign_of}
 use Rattle.redlog_reader.proofs.Proper.{AreProperTerminals}
 use Rattle.redlog_reader.specs.declared.token.Token.{Token}
 use Rattle.redlog_reader.specs.declared.token.TokenKind.{TokenKind}

@@ -1,28 +1,25 @@
 -- Whatever is read is spelled by the grammar.
-use Rattle.std.proofs.Common.{◌≡◌, ℕ, zero, suc, ◌+◌, ◌<◌, ◌≤◌, Bool, true, false, List, [], ◌∷◌, ◌++◌, sym, refl, ap, ◌∙◌, subst, arith, append_assoc}
-use Rattle.std.specs.Prelude.{◌-◌, Option, Some, None, nat_lt, nat_le, if◌then◌else◌}
+use Rattle.std.proofs.Common.{◌≡◌, ℕ, ◌<◌, ◌≤◌, Bool, true, false, List, [], ◌∷◌, ◌++◌, sym, refl, subst, arith, append_assoc}
+use Rattle.std.specs.Prelude.{Option, Some, None, nat_lt, nat_le, if◌then◌else◌}
 use Rattle.std.proofs.lemmas.Bool.{ltb-true, leb-true}
-use Rattle.formula_meaning.specs.Formula.{Yes, No, One, Not, Impl, Repl, Equiv}
+use Rattle.formula_meaning.specs.Formula.{Yes, No, One}
 use Rattle.qe_syntax.specs.declared.tree.Relation.{Relation}
 use Rattle.qe_syntax.specs.declared.tree.Relation.TheVariants.{Differs}
-use Rattle.qe_syntax.specs.Trees.{TermTree, Number, Named, Quotient, Power, Negative, Compare, Cong, Ncong, Bound, FormulaTree}
+use Rattle.qe_syntax.specs.Trees.{TermTree, Number, Power, Cong, Ncong, FormulaTree}
 use Rattle.redlog_reader.specs.declared.terminal.Terminal.{Terminal}
 use Rattle.redlog_reader.specs.declared.terminal.Terminal.TheVariants as terminal
 use Rattle.redlog_reader.specs.declared.terminal.Mark.TheVariants as mark
 use Rattle.redlog_reader.specs.declared.terminal.Word.TheVariants as word
-use Rattle.redlog_reader.specs.declared.terminal.Word.{Word}
-use Rattle.redlog_reader.specs.declared.pending.Connective.{Connective}
 use Rattle.redlog_reader.specs.declared.pending.Connective.TheVariants as connective
-use Rattle.redlog_reader.specs.declared.pending.Arrow.{Arrow}
 use Rattle.redlog_reader.specs.declared.pending.Arrow.TheVariants as arrow
-use Rattle.redlog_reader.specs.Machine.{Reading, Term, Formula, Bare, term_of, formula_of, Frame, Group, Quantifier, Congruence, Negation, Compares, Added, Multiplied, Listed, Arrows}
-use Rattle.redlog_reader.specs.Machine.{Mode, Wants, Fresh, Held, Raised, Binder, Binding, NameWanted, NameRead, Scoped, Congruent, Outcome, Fails, Stops, Moves, strength, level, takes_last, takes, signed_term, multiplied, list_of, arrow_of, on_term, on_formula, ended, folded, continued, factors, members, listed, grouped, pushed, multiplies, adds, compares, joins, implies, congruence_of, closed, separated, operated, joined, held, fresh, wanted, step, run}
-use Rattle.redlog_reader.specs.Grammar.{product_of, sum_of, conjunction_of, disjunction_of, quantified, quantifier_word, SpellsFactor, number, variable, inner_sum, SpellsPower, first_power, raised, SpellsProduct, product, Factors, no_factor, times, over, SpellsSum, sum, plus_sum, minus_sum, Members, no_member, plus, minus}
-use Rattle.redlog_reader.specs.Grammar.{IsRelation, relation_sign, relation_word, SpellsComparison, comparison, SpellsCongruence, congruent, incongruent, Names, last_name, more_names, SpellsNames, one_name, many_names}
-use Rattle.redlog_reader.specs.Grammar.{SpellsPrime, truth, falsity, named_formula, congruence, inner_formula, exists, for_all, SpellsNegation, negation, compared, prime, SpellsConjunction, conjunction, Conjuncts, no_conjunct, conjunct, SpellsDisjunction, disjunction, Disjuncts, no_disjunct, disjunct}
-use Rattle.redlog_reader.specs.Grammar.{SpellsImplication, no_implication, implication, SpellsReplication, replication, Repls, no_repl, repl, SpellsFormula, equivalence, Equivs, no_equiv, equiv}
+use Rattle.redlog_reader.specs.Machine.{Reading, term_of, formula_of, Frame, Group, Quantifier, Congruence, Negation, Compares, Added, Multiplied, Listed, Arrows}
+use Rattle.redlog_reader.specs.Machine.{Mode, Wants, Fresh, Held, Raised, Binder, Binding, NameWanted, NameRead, Scoped, Congruent, Outcome, Fails, Stops, Moves, strength, level, takes, on_term, on_formula, folded, continued, factors, members, listed, grouped, pushed, multiplies, adds, compares, joins, implies, closed, separated, operated, joined, held, fresh, wanted, step, run}
+use Rattle.redlog_reader.specs.Grammar.{quantified, quantifier_word, SpellsFactor, number, inner_sum, raised, SpellsProduct, product, Factors, times, over, SpellsSum, sum, plus_sum, minus_sum, Members, plus, minus}
+use Rattle.redlog_reader.specs.Grammar.{IsRelation, relation_sign, relation_word, congruent, incongruent, Names, last_name, more_names, SpellsNames, one_name, many_names}
+use Rattle.redlog_reader.specs.Grammar.{SpellsPrime, truth, falsity, congruence, inner_formula, exists, for_all, SpellsConjunction, conjunction, Conjuncts, conjunct, SpellsDisjunction, disjunction, Disjuncts, disjunct}
+use Rattle.redlog_reader.specs.Grammar.{SpellsReplication, replication, Repls, repl, SpellsFormula, equivalence, Equivs, equiv}
 use Rattle.redlog_reader.proofs.Steps.{strength_at, outcome}
-use Rattle.redlog_reader.proofs.SoundSteps.{TermAt, FormulaAt, term_raise, formula_raise, Said, SaidFresh, said_fresh, said_term, said_formula, fresh_term, fresh_formula, fresh_name, congruence_word, Arguments, Onward, yields, Begun, bottom, above, HeldAt, FoldedAt, folded_said}
+use Rattle.redlog_reader.proofs.SoundSteps.{TermAt, FormulaAt, term_raise, formula_raise, Said, SaidFresh, said_fresh, said_term, fresh_term, fresh_formula, fresh_name, congruence_word, Onward, yields, Begun, bottom, above, HeldAt, FoldedAt, folded_said}
 
 -- what the terminals before us have begun and said
 abbrev pub State : ℕ → List Terminal → Mode → List Frame → List Terminal → Type 0
@@ -105,47 +102,47 @@ module _ (goal : ℕ) (start us : List Terminal) where
 module _ (goal : ℕ) (start : List Terminal) (us : List Terminal) where
   module _ (fs : List Frame) (h : Reading) where
     times_fine : HeldAt goal start 1 (terminal.Mark mark.Times ∷ us) fs h → Fine goal start (terminal.Mark mark.Times) us (multiplies goal false fs h)
-    times_fine at = on_term_fine goal start (terminal.Mark mark.Times) us (term_of h) _ (λ s e. 
+    times_fine at = on_term_fine goal start (terminal.Mark mark.Times) us (term_of h) _ (λ s e.
         let list = factors_onward goal start (terminal.Mark mark.Times ∷ us) fs at.n s at.begun (at.said.term s e) at.within at.tighter in
         pushed_fine goal start (terminal.Mark mark.Times) us (Multiplied false (factors fs s).0) (factors fs s).1 list.1 (λ x vs p y rest m. list.2 y rest (times p m)) refl)
 
     over_fine : HeldAt goal start 1 (terminal.Mark mark.Slash ∷ us) fs h → Fine goal start (terminal.Mark mark.Slash) us (multiplies goal true fs h)
-    over_fine at = on_term_fine goal start (terminal.Mark mark.Slash) us (term_of h) _ (λ s e. 
+    over_fine at = on_term_fine goal start (terminal.Mark mark.Slash) us (term_of h) _ (λ s e.
         let list = factors_onward goal start (terminal.Mark mark.Slash ∷ us) fs at.n s at.begun (at.said.term s e) at.within at.tighter in
         pushed_fine goal start (terminal.Mark mark.Slash) us (Multiplied true (factors fs s).0) (factors fs s).1 list.1 (λ x vs p y rest m. list.2 y rest (over p m)) refl)
 
     plus_fine : HeldAt goal start 2 (terminal.Mark mark.Plus ∷ us) fs h → Fine goal start (terminal.Mark mark.Plus) us (adds goal false fs h)
-    plus_fine at = on_term_fine goal start (terminal.Mark mark.Plus) us (term_of h) _ (λ s e. 
+    plus_fine at = on_term_fine goal start (terminal.Mark mark.Plus) us (term_of h) _ (λ s e.
         let list = members_onward goal start (terminal.Mark mark.Plus ∷ us) fs at.n s at.begun (at.said.term s e) at.within at.tighter in
         pushed_fine goal start (terminal.Mark mark.Plus) us (Added false (members fs s).0) (members fs s).1 list.1 (λ x vs p y rest m. list.2 y rest (plus p m)) refl)
 
     minus_fine : HeldAt goal start 2 (terminal.Mark mark.Minus ∷ us) fs h → Fine goal start (terminal.Mark mark.Minus) us (adds goal true fs h)
-    minus_fine at = on_term_fine goal start (terminal.Mark mark.Minus) us (term_of h) _ (λ s e. 
+    minus_fine at = on_term_fine goal start (terminal.Mark mark.Minus) us (term_of h) _ (λ s e.
         let list = members_onward goal start (terminal.Mark mark.Minus ∷ us) fs at.n s at.begun (at.said.term s e) at.within at.tighter in
         pushed_fine goal start (terminal.Mark mark.Minus) us (Added true (members fs s).0) (members fs s).1 list.1 (λ x vs p y rest m. list.2 y rest (minus p m)) refl)
 
     and_fine : HeldAt goal start 4 (terminal.Word word.And ∷ us) fs h → Fine goal start (terminal.Word word.And) us (joins goal connective.And fs h)
-    and_fine at = on_formula_fine goal start (terminal.Word word.And) us (formula_of h) _ (λ f e. 
+    and_fine at = on_formula_fine goal start (terminal.Word word.And) us (formula_of h) _ (λ f e.
         let list = conjuncts_onward goal start (terminal.Word word.And ∷ us) fs at.n f at.begun (at.said.formula f e) at.within at.tighter in
         pushed_fine goal start (terminal.Word word.And) us (Listed connective.And (listed connective.And fs f).0) (listed connective.And fs f).1 list.1 (λ x vs p y rest m. list.2 y rest (conjunct p m)) refl)
 
     or_fine : HeldAt goal start 5 (terminal.Word word.Or ∷ us) fs h → Fine goal start (terminal.Word word.Or) us (joins goal connective.Or fs h)
-    or_fine at = on_formula_fine goal start (terminal.Word word.Or) us (formula_of h) _ (λ f e. 
+    or_fine at = on_formula_fine goal start (terminal.Word word.Or) us (formula_of h) _ (λ f e.
         let list = disjuncts_onward goal start (terminal.Word word.Or ∷ us) fs at.n f at.begun (at.said.formula f e) at.within at.tighter in
         pushed_fine goal start (terminal.Word word.Or) us (Listed connective.Or (listed connective.Or fs f).0) (listed connective.Or fs f).1 list.1 (λ x vs p y rest m. list.2 y rest (disjunct p m)) refl)
 
     repl_fine : HeldAt goal start 7 (terminal.Word word.Repl ∷ us) fs h → Fine goal start (terminal.Word word.Repl) us (implies goal arrow.Repl fs h)
-    repl_fine at = on_formula_fine goal start (terminal.Word word.Repl) us (formula_of h) _ (λ f e. 
+    repl_fine at = on_formula_fine goal start (terminal.Word word.Repl) us (formula_of h) _ (λ f e.
         let list = repls_onward goal start (terminal.Word word.Repl ∷ us) fs at.n f at.begun (at.said.formula f e) at.within at.tighter in
         pushed_fine goal start (terminal.Word word.Repl) us (Arrows arrow.Repl (grouped arrow.Repl fs f).0) (grouped arrow.Repl fs f).1 list.1 (λ x vs p y rest m. list.2 y rest (repl p m)) refl)
 
     equiv_fine : HeldAt goal start 8 (terminal.Word word.Equiv ∷ us) fs h → Fine goal start (terminal.Word word.Equiv) us (implies goal arrow.Equiv fs h)
-    equiv_fine at = on_formula_fine goal start (terminal.Word word.Equiv) us (formula_of h) _ (λ f e. 
+    equiv_fine at = on_formula_fine goal start (terminal.Word word.Equiv) us (formula_of h) _ (λ f e.
         let list = equivs_onward goal start (terminal.Word word.Equiv ∷ us) fs at.n f at.begun (at.said.formula f e) at.within at.tighter in
         pushed_fine goal start (terminal.Word word.Equiv) us (Arrows arrow.Equiv (grouped arrow.Equiv fs f).0) (grouped arrow.Equiv fs f).1 list.1 (λ x vs p y rest m. list.2 y rest (equiv p m)) refl)
 
     impl_fine : HeldAt goal start 6 (terminal.Word word.Impl ∷ us) fs h → Fine goal start (terminal.Word word.Impl) us (implies goal arrow.Impl fs h)
-    impl_fine at = on_formula_fine goal start (terminal.Word word.Impl) us (formula_of h) _ (λ f e. 
+    impl_fine at = on_formula_fine goal start (terminal.Word word.Impl) us (formula_of h) _ (λ f e.
         pushed_fine goal start (terminal.Word word.Impl) us (Arrows arrow.Impl f) fs at.begun (formula_raise at.n 5 at.mid (terminal.Word word.Impl ∷ us) f at.tighter (at.said.formula f e)) refl)
 
     compares_fine : (sign : Terminal) (r : Relation) → IsRelation sign r → HeldAt goal start 3 (sign ∷ us) fs h → Fine goal start sign us (compares goal r fs h)
@@ -154,10 +151,14 @@ module _ (goal : ℕ) (start : List Terminal) (us : List Terminal) where
 
   -- a closing bracket
   closed_fine : (fs : List Frame) (h : Reading) {mid : List Terminal} → Begun goal start fs mid → (n : ℕ) → Said n mid h (terminal.Mark mark.Close ∷ us) → n ≤ takes goal fs → Fine goal start (terminal.Mark mark.Close) us (closed fs h)
-  closed_fine (Group ∷ fs) h {mid = mid} (above {ts = ts} begun fits on) n said le = (ts, begun, record {
-    term = λ t e. subst (λ v. SpellsFactor v t us) (sym on) (inner_sum (term_raise n 8 mid (terminal.Mark mark.Close ∷ us) t le (said.term t e)));
-    formula = λ f e. subst (λ v. SpellsPrime v f us) (sym on) (inner_formula (formula_raise n 8 mid (terminal.Mark mark.Close ∷ us) f le (said.formula f e)));
-  })
+  closed_fine (Group ∷ fs) h {mid = mid} (above {ts = ts} begun fits on) n said le = (
+    ts,
+    begun,
+    record {
+      term = λ t e. subst (λ v. SpellsFactor v t us) (sym on) (inner_sum (term_raise n 8 mid (terminal.Mark mark.Close ∷ us) t le (said.term t e)));
+      formula = λ f e. subst (λ v. SpellsPrime v f us) (sym on) (inner_formula (formula_raise n 8 mid (terminal.Mark mark.Close ∷ us) f le (said.formula f e)));
+    },
+  )
   closed_fine (Quantifier true xs ∷ fs) h {mid = mid} (above {ts = ts} begun fits on) n said le = on_formula_fine goal start (terminal.Mark mark.Close) us (formula_of h) _ (λ f e.
       (ts, begun, fresh_formula (quantified true xs f) (subst (λ v. SpellsPrime v (quantified true xs f) us) (sym on.1) (for_all on.2 (formula_raise n 8 mid (terminal.Mark mark.Close ∷ us) f le (said.formula f e)) refl))))
   closed_fine (Quantifier false xs ∷ fs) h {mid = mid} (above {ts = ts} begun fits on) n said le = on_formula_fine goal start (terminal.Mark mark.Close) us (formula_of h) _ (λ f e.
@@ -238,8 +239,13 @@ module _ (goal : ℕ) (start : List Terminal) (us : List Terminal) where
   step_fine (Binder universal) (terminal.Mark mark.Open) fs s = s
   step_fine (Binding universal) (terminal.Name x) fs s = (terminal.Name x ∷ us, s, one_name)
   step_fine (Binding universal) (terminal.Mark mark.OpenBrace) fs s = (us, s, λ ys rest p. p)
-  step_fine (NameWanted universal xs) (terminal.Name x) fs s = (s.0, s.1, s.2 (x ∷ []) us last_name, λ ys ws rest at p.
-      subst (λ zs. Names s.0 zs rest) (sym (append_assoc xs (x ∷ []) ys)) (s.2 (x ∷ ys) rest (subst (λ vs. Names (terminal.Name x ∷ vs) (x ∷ ys) rest) (sym at) (more_names p))))
+  step_fine (NameWanted universal xs) (terminal.Name x) fs s = (
+    s.0,
+    s.1,
+    s.2 (x ∷ []) us last_name,
+    λ ys ws rest at p.
+        subst (λ zs. Names s.0 zs rest) (sym (append_assoc xs (x ∷ []) ys)) (s.2 (x ∷ ys) rest (subst (λ vs. Names (terminal.Name x ∷ vs) (x ∷ ys) rest) (sym at) (more_names p))),
+  )
   step_fine (NameRead universal xs) (terminal.Mark mark.Comma) fs s = (s.0, s.1, λ ys rest p. s.3 ys us rest refl p)
   step_fine (NameRead universal xs) (terminal.Mark mark.CloseBrace) fs s = (terminal.Mark mark.OpenBrace ∷ s.0, s.1, many_names s.2)
   step_fine (Scoped universal xs) (terminal.Mark mark.Comma) fs s = above s.1 (omega arith) (s.0, refl, s.2)

@@ -1,35 +1,27 @@
 -- Each statement that is read is spelled by the grammar.
-use Rattle.std.proofs.Common.{◌≡◌, ℕ, zero, suc, ◌+◌, ◌<◌, ◌≤◌, Bool, true, false, List, [], ◌∷◌, ◌++◌, length, sym, refl, ap, ◌∙◌, subst, arith}
-use Rattle.std.specs.Prelude.{Option, Some, None, pos, if◌then◌else◌, ◌==◌}
+use Rattle.std.proofs.Common.{◌≡◌, ℕ, zero, suc, Bool, true, false, List, [], ◌∷◌, length, sym, refl, ap, ◌∙◌, subst}
+use Rattle.std.specs.Prelude.{Option, Some, None, pos, if◌then◌else◌}
 use Rattle.qe_syntax.specs.declared.tree.Literal.{Literal}
-use Rattle.qe_syntax.specs.declared.tree.Literal.TheVariants.{Fits, Past}
+use Rattle.qe_syntax.specs.declared.tree.Literal.TheVariants.{Fits}
 use Rattle.qe_syntax.specs.declared.tree.Relation.{Relation}
-use Rattle.qe_syntax.specs.declared.tree.Relation.TheVariants.{Equal, Differs}
-use Rattle.qe_syntax.specs.declared.statement.Setting.{Setting}
+use Rattle.qe_syntax.specs.declared.tree.Relation.TheVariants.{Equal}
 use Rattle.qe_syntax.specs.declared.statement.PointEntry.{PointEntry}
-use Rattle.formula_meaning.specs.Formula.{One}
-use Rattle.qe_syntax.specs.Trees.{TermTree, Bound, Compare, FormulaTree, formulas_of}
-use Rattle.qe_syntax.specs.Statements.{CommandTree, Echo, Nnf, Pnf, Dnf, Cnf, Simpl, Qe, Qea, Holds, Sample, ActionTree, Empty, Ignored, Finish, Choose, Say, Assign, StatementTree}
+use Rattle.qe_syntax.specs.Trees.{TermTree, FormulaTree}
+use Rattle.qe_syntax.specs.Statements.{CommandTree, Echo, Holds, Sample, ActionTree, Ignored, Finish, Choose, Say, StatementTree}
 use Rattle.redlog_reader.specs.declared.terminal.Terminal.{Terminal}
 use Rattle.redlog_reader.specs.declared.terminal.Terminal.TheVariants as terminal
-use Rattle.redlog_reader.specs.declared.terminal.Mark.{Mark}
 use Rattle.redlog_reader.specs.declared.terminal.Mark.TheVariants as mark
 use Rattle.redlog_reader.specs.declared.terminal.Word.{Word}
 use Rattle.redlog_reader.specs.declared.terminal.Word.TheVariants as word
-use Rattle.redlog_reader.specs.Machine.{Reading, Term, Formula, Bare, term_of, formula_of, Wants, Held, Stops, strength, run, joined, operated}
-use Rattle.redlog_reader.specs.Grammar.{SpellsFactor, number, variable, inner_sum, SpellsPower, first_power, raised, SpellsProduct, product, SpellsSum, sum, plus_sum, minus_sum, IsRelation, relation_sign, relation_word, SpellsComparison, comparison, SpellsCongruence, congruent, incongruent, SpellsAtom, compared_atom, congruent_atom}
-use Rattle.redlog_reader.specs.Grammar.{SpellsPrime, truth, falsity, named_formula, congruence, inner_formula, exists, for_all, SpellsFormula, setting_of, IsAny, any_name, any_word, SpellsAnys, last_any, more_anys, opposite, Above, unsigned, opposed, Below, one, divided, SpellsEntry, entry, Listed, last_item, more_items, Braced, empty, listed, SpellsPoint, SpellsAtoms}
-use Rattle.redlog_reader.specs.Grammar.{SpellsArgument, alone, under, SpellsResult, echo, nnf, pnf, dnf, cnf, simpl, qe, SpellsQuery, qea, holds, witness, SpellsAction, assign, result, query, choose, load, on, off, end, bye, quit, end_mark, SpellsStatement, nothing, acting}
+use Rattle.redlog_reader.specs.Machine.{term_of, formula_of, Wants, run}
+use Rattle.redlog_reader.specs.Grammar.{SpellsSum, IsRelation, relation_sign, relation_word, SpellsComparison, comparison, SpellsCongruence, SpellsAtom, compared_atom, congruent_atom}
+use Rattle.redlog_reader.specs.Grammar.{SpellsPrime, truth, falsity, named_formula, congruence, inner_formula, exists, for_all, SpellsFormula, setting_of, IsAny, any_name, any_word, SpellsAnys, last_any, more_anys, Above, unsigned, opposed, Below, one, divided, SpellsEntry, entry, Listed, last_item, more_items, Braced, empty, listed, SpellsPoint, SpellsAtoms}
+use Rattle.redlog_reader.specs.Grammar.{SpellsArgument, alone, under, SpellsResult, echo, nnf, pnf, dnf, cnf, simpl, qe, qea, holds, witness, SpellsAction, assign, result, query, choose, load, on, off, end, bye, quit, end_mark, SpellsStatement, nothing, acting}
 use Rattle.redlog_reader.specs.Reader.{on_some, number_of, after_mark, formula_read, sum_read, relation_of, relation_read, comparison_read, begins_congruence, atom_read, listed_read, items_read, braced_read, number_read, negated_literal, above_read, below_read, name_read, after_equal, entry_read, argument_read, pointed_read, result_from, result_read, is_any, anys_read, context_read, ignored_read, said, action_from, named_from, action_read, ending, statement_read}
 use Rattle.redlog_reader.specs.Reader as reader
-use Rattle.std.proofs.lemmas.Bool.{lt-ltb}
-use Rattle.std.proofs.lemmas.Int.{ints}
-use Rattle.std.specs.Prelude.{ℤ, negsuc}
-use Rattle.qe_syntax.specs.Proper.{IsNumeral}
 use Rattle.redlog_reader.proofs.Proper.{AreProperTerminals, proper_entry, proper_formula}
-use Rattle.redlog_reader.proofs.Steps.{outcome, strength_at, ReadsTerm, ReadsFormula, no_power}
 use Rattle.redlog_reader.proofs.CompleteStatements.{negated_done}
-use Rattle.redlog_reader.proofs.SoundSteps.{TermAt, FormulaAt, term_raise, formula_raise, Said}
+use Rattle.redlog_reader.proofs.SoundSteps.{FormulaAt, term_raise, formula_raise}
 use Rattle.redlog_reader.proofs.Sound.{Sound, read_sound}
 
 some_of : {X Y : Type 0} (o : Option X) (f : X → Option Y) (y : Y) → on_some o f None ≡ Some y → (x : X) × (o ≡ Some x) × (f x ≡ Some y)
@@ -164,14 +156,14 @@ module _ {X : Type 0} (read : List Terminal → Option (X × List Terminal)) (It
       let item : Item ts first.0.0 first.0.1 = sound ts first.0.1 first.0.0 good first.1 in
       either {P = Listed Item ts xs rest} (after_mark mark.Comma first.0.1) _ (Some (first.0.0 ∷ [], first.0.1)) (xs, rest) first.2
       (λ us at f.
-          let more = some_of (listed_read read n us) _ (xs, rest) f in
-          let same = pair_of more.2 in
-          let comma = sound_Comma first.0.1 us at in
-          let later : Listed Item us more.0.0 more.0.1 = listed_sound n us more.0.1 more.0.0 (past us (subst P comma (kept ts first.0.1 first.0.0 good item))) more.1 in
-          subst (λ ys. Listed Item ts ys rest) same.0 (more_items (subst (λ v. Item ts first.0.0 v) comma item) (subst (λ v. Listed Item us more.0.0 v) same.1 later)))
+      let more = some_of (listed_read read n us) _ (xs, rest) f in
+      let same = pair_of more.2 in
+      let comma = sound_Comma first.0.1 us at in
+      let later : Listed Item us more.0.0 more.0.1 = listed_sound n us more.0.1 more.0.0 (past us (subst P comma (kept ts first.0.1 first.0.0 good item))) more.1 in
+      subst (λ ys. Listed Item ts ys rest) same.0 (more_items (subst (λ v. Item ts first.0.0 v) comma item) (subst (λ v. Listed Item us more.0.0 v) same.1 later)))
       (λ none f.
-          let same = pair_of f in
-          subst (λ ys. Listed Item ts ys rest) same.0 (last_item (subst (λ v. Item ts first.0.0 v) same.1 item)))
+      let same = pair_of f in
+      subst (λ ys. Listed Item ts ys rest) same.0 (last_item (subst (λ v. Item ts first.0.0 v) same.1 item)))
 
   braced_sound : (ts rest : List Terminal) (xs : List X) → ((us : List Terminal) → P (terminal.Mark mark.OpenBrace ∷ us) → P us) → P ts → braced_read read ts ≡ Some (xs, rest) → Braced Item ts xs rest
   braced_sound ts rest xs inside good e =
@@ -180,16 +172,16 @@ module _ {X : Type 0} (read : List Terminal → Option (X × List Terminal)) (It
       subst (λ v. Braced Item v xs rest) (sym opened)
       (either {P = Braced Item (terminal.Mark mark.OpenBrace ∷ start.0) xs rest} (after_mark mark.CloseBrace start.0) _ _ (xs, rest) start.2
       (λ vs at f.
-          let same = pair_of f in
-          let ended = sound_CloseBrace start.0 vs at ∙ ap (λ v. terminal.Mark mark.CloseBrace ∷ v) same.1 in
-          subst (λ v. Braced Item (terminal.Mark mark.OpenBrace ∷ v) xs rest) (sym ended) (subst (λ ys. Braced Item (terminal.Mark mark.OpenBrace ∷ terminal.Mark mark.CloseBrace ∷ rest) ys rest) same.0 empty))
+      let same = pair_of f in
+      let ended = sound_CloseBrace start.0 vs at ∙ ap (λ v. terminal.Mark mark.CloseBrace ∷ v) same.1 in
+      subst (λ v. Braced Item (terminal.Mark mark.OpenBrace ∷ v) xs rest) (sym ended) (subst (λ ys. Braced Item (terminal.Mark mark.OpenBrace ∷ terminal.Mark mark.CloseBrace ∷ rest) ys rest) same.0 empty))
       (λ none f.
-          let items = some_of (items_read read start.0) _ (xs, rest) f in
-          let close = some_of (after_mark mark.CloseBrace items.0.1) _ (xs, rest) items.2 in
-          let same = pair_of close.2 in
-          let ended = sound_CloseBrace items.0.1 close.0 close.1 ∙ ap (λ v. terminal.Mark mark.CloseBrace ∷ v) same.1 in
-          listed (subst (λ ys. Listed Item start.0 ys (terminal.Mark mark.CloseBrace ∷ rest)) same.0
-          (subst (λ v. Listed Item start.0 items.0.0 v) ended (listed_sound (suc (length start.0)) start.0 items.0.1 items.0.0 (inside start.0 (subst P opened good)) items.1)))))
+      let items = some_of (items_read read start.0) _ (xs, rest) f in
+      let close = some_of (after_mark mark.CloseBrace items.0.1) _ (xs, rest) items.2 in
+      let same = pair_of close.2 in
+      let ended = sound_CloseBrace items.0.1 close.0 close.1 ∙ ap (λ v. terminal.Mark mark.CloseBrace ∷ v) same.1 in
+      listed (subst (λ ys. Listed Item start.0 ys (terminal.Mark mark.CloseBrace ∷ rest)) same.0
+      (subst (λ v. Listed Item start.0 items.0.0 v) ended (listed_sound (suc (length start.0)) start.0 items.0.1 items.0.0 (inside start.0 (subst P opened good)) items.1)))))
 
 atoms_sound : (ts rest : List Terminal) (fs : List FormulaTree) → braced_read atom_read ts ≡ Some (fs, rest) → SpellsAtoms ts fs rest
 atoms_sound ts rest fs e = braced_sound atom_read SpellsAtom (λ ts. Unit {0}) (λ us r f good h. atom_sound us r f h) (λ us r f good h. tt) (λ us h. tt) ts rest fs (λ us h. tt) tt e
@@ -212,11 +204,11 @@ equal_sound (t ∷ ts) us e = absurd (let no : ⊥ = cc in no)
 above_sound : (ts rest : List Terminal) (n : Literal) → AreProperTerminals ts → above_read ts ≡ Some (n, rest) → Above ts n rest
 above_sound ts rest n good e = either {P = Above ts n rest} (after_mark mark.Minus ts) _ (number_read ts) (n, rest) e
     (λ us at f.
-        let found = some_of (number_read us) _ (n, rest) f in
-        let same = pair_of found.2 in
-        let begins = sound_Minus ts us at ∙ ap (λ v. terminal.Mark mark.Minus ∷ v) (number_sound us found.0.1 found.0.0 found.1) in
-        let numeral : AreProperTerminals (terminal.Mark mark.Minus ∷ terminal.Number found.0.0 ∷ found.0.1) = subst AreProperTerminals begins good in
-        subst (λ v. Above v n rest) (sym begins) (subst (λ v. Above (terminal.Mark mark.Minus ∷ terminal.Number found.0.0 ∷ found.0.1) n v) same.1 (opposed (sym same.0 ∙ negated_done found.0.0 numeral.0))))
+    let found = some_of (number_read us) _ (n, rest) f in
+    let same = pair_of found.2 in
+    let begins = sound_Minus ts us at ∙ ap (λ v. terminal.Mark mark.Minus ∷ v) (number_sound us found.0.1 found.0.0 found.1) in
+    let numeral : AreProperTerminals (terminal.Mark mark.Minus ∷ terminal.Number found.0.0 ∷ found.0.1) = subst AreProperTerminals begins good in
+    subst (λ v. Above v n rest) (sym begins) (subst (λ v. Above (terminal.Mark mark.Minus ∷ terminal.Number found.0.0 ∷ found.0.1) n v) same.1 (opposed (sym same.0 ∙ negated_done found.0.0 numeral.0))))
     (λ none f. subst (λ v. Above v n rest) (sym (number_sound ts rest n f)) unsigned)
 
 below_sound : (ts rest : List Terminal) (n : Literal) → below_read ts ≡ Some (n, rest) → Below ts n rest
@@ -244,32 +236,32 @@ entries_sound ts rest es good e = braced_sound entry_read SpellsEntry AreProperT
 argument_sound : (ts rest : List Terminal) (f : FormulaTree) (given : List FormulaTree) → argument_read ts ≡ Some ((f, given), rest) → SpellsArgument ts f given rest
 argument_sound ts rest f given e = either {P = SpellsArgument ts f given rest} (after_mark mark.Open ts) _ _ ((f, given), rest) e
     (λ us at i.
-        let opened = sound_Open ts us at in
-        let form = some_of (formula_read 8 us) _ ((f, given), rest) i in
-        let spelled : SpellsFormula us form.0.0 form.0.1 = formula_sound 8 us form.0.1 form.0.0 form.1 in
-        subst (λ v. SpellsArgument v f given rest) (sym opened)
-        (either {P = SpellsArgument (terminal.Mark mark.Open ∷ us) f given rest} (after_mark mark.Close form.0.1) _ _ ((f, given), rest) form.2
-        (λ vs close j.
-            let same = pair_of j in
-            let parts = pair_of (ap Some same.0) in
-            let ended = sound_Close form.0.1 vs close ∙ ap (λ v. terminal.Mark mark.Close ∷ v) same.1 in
-            subst (λ gs. SpellsArgument (terminal.Mark mark.Open ∷ us) f gs rest) parts.1
-            (alone (inner_formula (subst (λ g. SpellsFormula us g (terminal.Mark mark.Close ∷ rest)) parts.0 (subst (λ v. SpellsFormula us form.0.0 v) ended spelled)))))
-        (λ none j.
-            let comma = some_of (after_mark mark.Comma form.0.1) _ ((f, given), rest) j in
-            let atoms = some_of (braced_read atom_read comma.0) _ ((f, given), rest) comma.2 in
-            let close = some_of (after_mark mark.Close atoms.0.1) _ ((f, given), rest) atoms.2 in
-            let same = pair_of close.2 in
-            let parts = pair_of (ap Some same.0) in
-            let ended = sound_Close atoms.0.1 close.0 close.1 ∙ ap (λ v. terminal.Mark mark.Close ∷ v) same.1 in
-            under (subst (λ g. SpellsFormula us g (terminal.Mark mark.Comma ∷ comma.0)) parts.0 (subst (λ v. SpellsFormula us form.0.0 v) (sound_Comma form.0.1 comma.0 comma.1) spelled))
-            (subst (λ gs. SpellsAtoms comma.0 gs (terminal.Mark mark.Close ∷ rest)) parts.1 (subst (λ v. SpellsAtoms comma.0 atoms.0.0 v) ended (atoms_sound comma.0 atoms.0.1 atoms.0.0 atoms.1))))))
+    let opened = sound_Open ts us at in
+    let form = some_of (formula_read 8 us) _ ((f, given), rest) i in
+    let spelled : SpellsFormula us form.0.0 form.0.1 = formula_sound 8 us form.0.1 form.0.0 form.1 in
+    subst (λ v. SpellsArgument v f given rest) (sym opened)
+    (either {P = SpellsArgument (terminal.Mark mark.Open ∷ us) f given rest} (after_mark mark.Close form.0.1) _ _ ((f, given), rest) form.2
+    (λ vs close j.
+    let same = pair_of j in
+    let parts = pair_of (ap Some same.0) in
+    let ended = sound_Close form.0.1 vs close ∙ ap (λ v. terminal.Mark mark.Close ∷ v) same.1 in
+    subst (λ gs. SpellsArgument (terminal.Mark mark.Open ∷ us) f gs rest) parts.1
+    (alone (inner_formula (subst (λ g. SpellsFormula us g (terminal.Mark mark.Close ∷ rest)) parts.0 (subst (λ v. SpellsFormula us form.0.0 v) ended spelled)))))
+    (λ none j.
+    let comma = some_of (after_mark mark.Comma form.0.1) _ ((f, given), rest) j in
+    let atoms = some_of (braced_read atom_read comma.0) _ ((f, given), rest) comma.2 in
+    let close = some_of (after_mark mark.Close atoms.0.1) _ ((f, given), rest) atoms.2 in
+    let same = pair_of close.2 in
+    let parts = pair_of (ap Some same.0) in
+    let ended = sound_Close atoms.0.1 close.0 close.1 ∙ ap (λ v. terminal.Mark mark.Close ∷ v) same.1 in
+    under (subst (λ g. SpellsFormula us g (terminal.Mark mark.Comma ∷ comma.0)) parts.0 (subst (λ v. SpellsFormula us form.0.0 v) (sound_Comma form.0.1 comma.0 comma.1) spelled))
+    (subst (λ gs. SpellsAtoms comma.0 gs (terminal.Mark mark.Close ∷ rest)) parts.1 (subst (λ v. SpellsAtoms comma.0 atoms.0.0 v) ended (atoms_sound comma.0 atoms.0.1 atoms.0.0 atoms.1))))))
     (λ none i.
-        let form = some_of (formula_read 0 ts) _ ((f, given), rest) i in
-        let same = pair_of form.2 in
-        let parts = pair_of (ap Some same.0) in
-        let spelled : SpellsPrime ts form.0.0 form.0.1 = formula_sound 0 ts form.0.1 form.0.0 form.1 in
-        subst (λ gs. SpellsArgument ts f gs rest) parts.1 (alone (subst (λ g. SpellsPrime ts g rest) parts.0 (subst (λ v. SpellsPrime ts form.0.0 v) same.1 spelled))))
+    let form = some_of (formula_read 0 ts) _ ((f, given), rest) i in
+    let same = pair_of form.2 in
+    let parts = pair_of (ap Some same.0) in
+    let spelled : SpellsPrime ts form.0.0 form.0.1 = formula_sound 0 ts form.0.1 form.0.0 form.1 in
+    subst (λ gs. SpellsArgument ts f gs rest) parts.1 (alone (subst (λ g. SpellsPrime ts g rest) parts.0 (subst (λ v. SpellsPrime ts form.0.0 v) same.1 spelled))))
 
 -- a formula and a point in brackets
 abbrev Pointed : List Terminal → FormulaTree → List PointEntry → List Terminal → Type 0
@@ -288,9 +280,13 @@ pointed_sound ts rest f es good e =
     let ended = sound_Close point.0.1 close.0 close.1 ∙ ap (λ v. terminal.Mark mark.Close ∷ v) same.1 in
     let spelled : SpellsFormula start.0 form.0.0 (terminal.Mark mark.Comma ∷ comma.0) = subst (λ v. SpellsFormula start.0 form.0.0 v) (sound_Comma form.0.1 comma.0 comma.1) (formula_sound 8 start.0 form.0.1 form.0.0 form.1) in
     let inner : AreProperTerminals start.0 = subst AreProperTerminals opened good in
-    let left : AreProperTerminals comma.0 = (proper_formula spelled inner).1 in
-    (start.0, comma.0, opened, subst (λ g. SpellsFormula start.0 g (terminal.Mark mark.Comma ∷ comma.0)) parts.0 spelled,
-        subst (λ gs. SpellsPoint comma.0 gs (terminal.Mark mark.Close ∷ rest)) parts.1 (subst (λ v. SpellsPoint comma.0 point.0.0 v) ended (entries_sound comma.0 point.0.1 point.0.0 left point.1)))
+    let left : AreProperTerminals comma.0 = (proper_formula spelled inner).1 in (
+      start.0,
+      comma.0,
+      opened,
+      subst (λ g. SpellsFormula start.0 g (terminal.Mark mark.Comma ∷ comma.0)) parts.0 spelled,
+      subst (λ gs. SpellsPoint comma.0 gs (terminal.Mark mark.Close ∷ rest)) parts.1 (subst (λ v. SpellsPoint comma.0 point.0.0 v) ended (entries_sound comma.0 point.0.1 point.0.0 left point.1)),
+    )
 
 echo_sound : (ts rest : List Terminal) (c : CommandTree) → on_some {Y = Option (CommandTree × List Terminal)} (formula_read 8 ts) (λ p. Some (Echo p.0, p.1)) None ≡ Some (c, rest) → SpellsResult ts c rest
 echo_sound ts rest c e =
@@ -397,10 +393,10 @@ action_sound [] rest a good e = absurd (let no : ⊥ = cc in no)
 action_sound (terminal.Word w ∷ ts) rest a good e = action_from_sound w ts rest a good e
 action_sound (terminal.Name x ∷ ts) rest a good e = either {P = SpellsAction (terminal.Name x ∷ ts) a rest} (after_mark mark.Assign ts) _ _ (a, rest) e
     (λ us at f.
-        let found = some_of (result_read us) _ (a, rest) f in
-        let same = pair_of found.2 in
-        subst (λ v. SpellsAction (terminal.Name x ∷ v) a rest) (sym (sound_Assign ts us at))
-        (subst (λ d. SpellsAction (terminal.Name x ∷ terminal.Mark mark.Assign ∷ us) d rest) same.0 (assign (result_sound us rest found.0.0 (found.1 ∙ ap (λ v. Some (found.0.0, v)) same.1)))))
+    let found = some_of (result_read us) _ (a, rest) f in
+    let same = pair_of found.2 in
+    subst (λ v. SpellsAction (terminal.Name x ∷ v) a rest) (sym (sound_Assign ts us at))
+    (subst (λ d. SpellsAction (terminal.Name x ∷ terminal.Mark mark.Assign ∷ us) d rest) same.0 (assign (result_sound us rest found.0.0 (found.1 ∙ ap (λ v. Some (found.0.0, v)) same.1)))))
     (λ none f. said_sound (terminal.Name x ∷ ts) rest (result_read (terminal.Name x ∷ ts)) a (λ r c h. result_sound (terminal.Name x ∷ ts) r c h) f)
 action_sound (t ∷ ts) rest a good e = said_sound (t ∷ ts) rest (result_read (t ∷ ts)) a (λ r c h. result_sound (t ∷ ts) r c h) e
 
@@ -412,15 +408,15 @@ ending_sound : (ts : List Terminal) (printed : Bool) → ending ts ≡ Some prin
 ending_sound ts printed e = either {P = ts ≡ terminal.Mark (end_mark printed) ∷ []} (after_mark mark.Semicolon ts) _ _ printed e
     (λ us at f. let h = alone_sound true printed us f in sound_Semicolon ts us at ∙ (λ i. terminal.Mark (end_mark (h.1 i)) ∷ h.0 i))
     (λ none f.
-        let found = some_of (after_mark mark.Dollar ts) _ printed f in
-        let h = alone_sound false printed found.0 found.2 in
-        sound_Dollar ts found.0 found.1 ∙ (λ i. terminal.Mark (end_mark (h.1 i)) ∷ h.0 i))
+    let found = some_of (after_mark mark.Dollar ts) _ printed f in
+    let h = alone_sound false printed found.0 found.2 in
+    sound_Dollar ts found.0 found.1 ∙ (λ i. terminal.Mark (end_mark (h.1 i)) ∷ h.0 i))
 
 -- each statement that is read of proper terminals is spelled
 pub statement_sound : (ts : List Terminal) (s : StatementTree) → AreProperTerminals ts → statement_read ts ≡ Some s → SpellsStatement ts s
 statement_sound ts s good e = either {P = SpellsStatement ts s} (ending ts) _ _ s e
     (λ printed is f. subst (λ v. SpellsStatement v s) (sym (ending_sound ts printed is)) (nothing (sym (same_some f))))
     (λ none f.
-        let action = some_of (action_read ts) _ s f in
-        let end = some_of (ending action.0.1) _ s action.2 in
-        acting (subst (λ v. SpellsAction ts action.0.0 v) (ending_sound action.0.1 end.0 end.1) (action_sound ts action.0.1 action.0.0 good action.1)) (sym (same_some end.2)))
+    let action = some_of (action_read ts) _ s f in
+    let end = some_of (ending action.0.1) _ s action.2 in
+    acting (subst (λ v. SpellsAction ts action.0.0 v) (ending_sound action.0.1 end.0 end.1) (action_sound ts action.0.1 action.0.0 good action.1)) (sym (same_some end.2)))

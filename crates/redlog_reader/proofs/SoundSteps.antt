@@ -1,25 +1,22 @@
 -- Whatever is read is spelled by the grammar.
-use Rattle.std.proofs.Common.{◌≡◌, ℕ, zero, suc, ◌+◌, ◌<◌, ◌≤◌, Bool, true, false, List, [], ◌∷◌, ◌++◌, sym, refl, ap, ◌∙◌, subst, arith, append_assoc}
-use Rattle.std.specs.Prelude.{◌-◌, Option, Some, None, nat_lt, nat_le, if◌then◌else◌}
-use Rattle.std.proofs.lemmas.Bool.{ltb-true, leb-true}
-use Rattle.formula_meaning.specs.Formula.{Yes, No, One, Not, Impl, Repl, Equiv}
-use Rattle.qe_syntax.specs.declared.tree.Relation.{Relation}
-use Rattle.qe_syntax.specs.Trees.{TermTree, Number, Named, Quotient, Power, Negative, Compare, Cong, Ncong, Bound, FormulaTree}
+use Rattle.std.proofs.Common.{◌≡◌, ℕ, zero, suc, ◌+◌, ◌≤◌, Bool, true, false, List, [], ◌∷◌, ◌++◌, sym, refl, subst, arith}
+use Rattle.std.specs.Prelude.{◌-◌, Option, Some, None, nat_lt, if◌then◌else◌}
+use Rattle.std.proofs.lemmas.Bool.{ltb-true}
+use Rattle.formula_meaning.specs.Formula.{One, Not, Impl, Repl, Equiv}
+use Rattle.qe_syntax.specs.Trees.{TermTree, Named, Compare, Bound, FormulaTree}
 use Rattle.redlog_reader.specs.declared.terminal.Terminal.{Terminal}
 use Rattle.redlog_reader.specs.declared.terminal.Terminal.TheVariants as terminal
 use Rattle.redlog_reader.specs.declared.terminal.Mark.TheVariants as mark
 use Rattle.redlog_reader.specs.declared.terminal.Word.TheVariants as word
 use Rattle.redlog_reader.specs.declared.terminal.Word.{Word}
-use Rattle.redlog_reader.specs.declared.pending.Connective.{Connective}
 use Rattle.redlog_reader.specs.declared.pending.Connective.TheVariants as connective
-use Rattle.redlog_reader.specs.declared.pending.Arrow.{Arrow}
 use Rattle.redlog_reader.specs.declared.pending.Arrow.TheVariants as arrow
 use Rattle.redlog_reader.specs.Machine.{Reading, Term, Formula, Bare, term_of, formula_of, Frame, Group, Quantifier, Congruence, Negation, Compares, Added, Multiplied, Listed, Arrows}
-use Rattle.redlog_reader.specs.Machine.{Mode, Wants, Fresh, Held, Raised, Binder, Binding, NameWanted, NameRead, Scoped, Congruent, Outcome, Fails, Stops, Moves, strength, level, takes_last, takes, signed_term, multiplied, list_of, arrow_of, on_term, on_formula, ended, folded, continued, factors, members, listed, grouped, pushed, multiplies, adds, compares, joins, implies, congruence_of, closed, separated, operated, joined, held, fresh, wanted, step, run}
-use Rattle.redlog_reader.specs.Grammar.{product_of, sum_of, conjunction_of, disjunction_of, quantified, quantifier_word, SpellsFactor, number, variable, inner_sum, SpellsPower, first_power, raised, SpellsProduct, product, Factors, no_factor, times, over, SpellsSum, sum, plus_sum, minus_sum, Members, no_member, plus, minus}
-use Rattle.redlog_reader.specs.Grammar.{IsRelation, relation_sign, relation_word, SpellsComparison, comparison, SpellsCongruence, congruent, incongruent, Names, last_name, more_names, SpellsNames, one_name, many_names}
-use Rattle.redlog_reader.specs.Grammar.{SpellsPrime, truth, falsity, named_formula, congruence, inner_formula, exists, for_all, SpellsNegation, negation, compared, prime, SpellsConjunction, conjunction, Conjuncts, no_conjunct, conjunct, SpellsDisjunction, disjunction, Disjuncts, no_disjunct, disjunct}
-use Rattle.redlog_reader.specs.Grammar.{SpellsImplication, no_implication, implication, SpellsReplication, replication, Repls, no_repl, repl, SpellsFormula, equivalence, Equivs, no_equiv, equiv}
+use Rattle.redlog_reader.specs.Machine.{level, takes_last, takes, signed_term, multiplied, on_term, on_formula, ended, folded}
+use Rattle.redlog_reader.specs.Grammar.{product_of, sum_of, conjunction_of, disjunction_of, quantifier_word, SpellsFactor, variable, SpellsPower, first_power, SpellsProduct, product, Factors, no_factor, SpellsSum, sum, Members, no_member}
+use Rattle.redlog_reader.specs.Grammar.{IsRelation, comparison, SpellsNames}
+use Rattle.redlog_reader.specs.Grammar.{SpellsPrime, named_formula, SpellsNegation, negation, compared, prime, SpellsConjunction, conjunction, Conjuncts, no_conjunct, SpellsDisjunction, disjunction, Disjuncts, no_disjunct}
+use Rattle.redlog_reader.specs.Grammar.{SpellsImplication, no_implication, implication, SpellsReplication, replication, Repls, no_repl, SpellsFormula, equivalence, Equivs, no_equiv}
 
 -- a term that binds at most so loosely
 abbrev pub TermAt : ℕ → List Terminal → TermTree → List Terminal → Type 0

@@ -1,5 +1,5 @@
 -- Reading a statement.
-use Rattle.std.proofs.Common.{◌≡◌, ℕ, ◌<◌, ◌≤◌, List, [], ◌∷◌, ◌++◌, map, length, drop, sym, refl, ap, ◌∙◌, subst, inl, inr, arith}
+use Rattle.std.proofs.Common.{◌≡◌, ℕ, ◌≤◌, List, [], ◌∷◌, ◌++◌, map, length, drop, sym, refl, ap, ◌∙◌, subst, inl, inr}
 use Rattle.std.specs.Prelude.{Option, Some, None}
 use Rattle.qe_syntax.specs.Statements.{StatementTree}
 use Rattle.redlog_reader.specs.declared.lexer.Lexeme.{Lexeme}
@@ -11,7 +11,7 @@ use Rattle.redlog_reader.specs.Levels.{Passes}
 use Rattle.redlog_reader.specs.Grammar.{SpellsStatement}
 use Rattle.redlog_reader.specs.Reading.{Refuses}
 use Rattle.redlog_reader.specs.Reader.{statement_read}
-use Rattle.redlog_reader.specs.Statement.{AreKinds, Spells, HasBadToken, IsDeep, SpellsNothing, Unread}
+use Rattle.redlog_reader.specs.Statement.{AreKinds, Spells, IsDeep, SpellsNothing, Unread}
 use Rattle.redlog_reader.specs.declared.read.TheConstants.{BYTE_LIMIT}
 use Rattle.redlog_reader.specs.declared.level.TheConstants.{LEVEL_LIMIT}
 use Rattle.redlog_reader.specs.declared.token.ReadError.{ReadError}

@@ -190,8 +190,6 @@ mutual
 
 -- the letter in lower case
 
-
-
 -- the context that a name names, in any letter case
 unfoldable pub setting_of : List ℕ → Option Setting
 setting_of x =

@@ -15,8 +15,8 @@ use Rattle.redlog_reader.specs.declared.terminal.Mark.{Mark}
 use Rattle.redlog_reader.specs.declared.terminal.Mark.TheVariants as mark
 use Rattle.redlog_reader.specs.declared.terminal.Word.{Word}
 use Rattle.redlog_reader.specs.declared.terminal.Word.TheVariants as word
-use Rattle.redlog_reader.specs.Grammar.{opposite, setting_of}
-use Rattle.redlog_reader.specs.Machine.{Reading, term_of, formula_of, Wants, run}
+use Rattle.redlog_reader.specs.Grammar.{setting_of}
+use Rattle.redlog_reader.specs.Machine.{term_of, formula_of, Wants, run}
 
 -- what follows from a value, or from none
 abbrev pub on_some : {X Y : Type 0} → Option X → (X → Y) → Y → Y
@@ -85,8 +85,8 @@ items_read read ts = listed_read read (suc (length ts)) ts
 abbrev pub braced_read : {X : Type 0} → (List Terminal → Option (X × List Terminal)) → List Terminal → Option (List X × List Terminal)
 braced_read read ts =
     on_some (after_mark mark.OpenBrace ts) (λ us.
-        on_some (after_mark mark.CloseBrace us) (λ vs. Some ([], vs))
-        (on_some (items_read read us) (λ p. on_some (after_mark mark.CloseBrace p.1) (λ vs. Some (p.0, vs)) None) None))
+    on_some (after_mark mark.CloseBrace us) (λ vs. Some ([], vs))
+    (on_some (items_read read us) (λ p. on_some (after_mark mark.CloseBrace p.1) (λ vs. Some (p.0, vs)) None) None))
     None
 
 abbrev pub number_read : List Terminal → Option (Literal × List Terminal)
@@ -115,21 +115,21 @@ after_equal _ = None
 abbrev pub entry_read : List Terminal → Option (PointEntry × List Terminal)
 entry_read ts =
     on_some (name_read ts) (λ p. on_some (after_equal p.1) (λ us. on_some (above_read us) (λ q. on_some (below_read q.1) (λ r.
-        Some (record { name = p.0; above = q.0; below = r.0 }, r.1)) None) None) None) None
+    Some (record { name = p.0; above = q.0; below = r.0 }, r.1)) None) None) None) None
 
 -- a prime formula, or a formula and assumptions in brackets
 abbrev pub argument_read : List Terminal → Option ((FormulaTree × List FormulaTree) × List Terminal)
 argument_read ts =
     on_some (after_mark mark.Open ts) (λ us. on_some (formula_read 8 us) (λ p.
-        on_some (after_mark mark.Close p.1) (λ vs. Some ((p.0, []), vs))
-        (on_some (after_mark mark.Comma p.1) (λ vs. on_some (braced_read atom_read vs) (λ q. on_some (after_mark mark.Close q.1) (λ ws. Some ((p.0, q.0), ws)) None) None) None)) None)
+    on_some (after_mark mark.Close p.1) (λ vs. Some ((p.0, []), vs))
+    (on_some (after_mark mark.Comma p.1) (λ vs. on_some (braced_read atom_read vs) (λ q. on_some (after_mark mark.Close q.1) (λ ws. Some ((p.0, q.0), ws)) None) None) None)) None)
     (on_some (formula_read 0 ts) (λ p. Some ((p.0, []), p.1)) None)
 
 -- a formula and a point in brackets
 abbrev pub pointed_read : List Terminal → Option ((FormulaTree × List PointEntry) × List Terminal)
 pointed_read ts =
     on_some (after_mark mark.Open ts) (λ us. on_some (formula_read 8 us) (λ p. on_some (after_mark mark.Comma p.1) (λ vs.
-        on_some (braced_read entry_read vs) (λ q. on_some (after_mark mark.Close q.1) (λ ws. Some ((p.0, q.0), ws)) None) None) None) None) None
+    on_some (braced_read entry_read vs) (λ q. on_some (after_mark mark.Close q.1) (λ ws. Some ((p.0, q.0), ws)) None) None) None) None) None
 
 -- a result that begins with this word
 abbrev pub result_from : Word → List Terminal → Option (CommandTree × List Terminal)

@@ -1,5 +1,5 @@
 -- What the values of the code stand for, while terms and formulas are read.
-use Rattle.std.specs.Prelude.{ℕ, List, [], ◌∷◌, map, reverse}
+use Rattle.std.specs.Prelude.{List, [], ◌∷◌, map, reverse}
 use Rattle.qe_syntax.specs.Trees.{TermTree, term_tree, formula_tree}
 use Rattle.redlog_reader.specs.declared.operand.Operand as operands
 use Rattle.redlog_reader.specs.declared.operand.Operand.TheVariants as operand

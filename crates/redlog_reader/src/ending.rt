@@ -87,11 +87,7 @@ pub fn added(
 ) -> Result<Vec<Term>, AllocError>
     ensures { IfOk result (λ ts. map term_tree ts.items ≡ map term_tree members.items ++ signed_term minus (term_tree term) ∷ []) }
 {
-    let signed = if minus {
-        negative(alloc, term)?
-    } else {
-        term
-    };
+    let signed = if minus { negative(alloc, term)? } else { term };
     members.push(signed)?;
     Ok(members)
 }

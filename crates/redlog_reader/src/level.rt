@@ -83,7 +83,7 @@ impl Levels {
         ensures bound { OnOk result (count self.new ≤ 4096) }
         ensures held { OnOk result (self.new.held ≤ 512) }
         ensures taken { OnOk result ((before : List Terminal) → AreLevels self.old before → AreLevels self.new (terminal.now ∷ before)) }
-        {
+    {
         self.regroup(terminal)?;
         let run = self.run;
         self.held = held_after(terminal, run);
@@ -99,7 +99,7 @@ impl Levels {
         ensures total { OnOk result (IsTotal self.new) }
         ensures bound { OnOk result (self.new.total + weight self.new.inmost ≤ 2048) }
         ensures stack { OnOk result (stack self.new ≡ changed (change_of terminal.now) (self.old.run + self.old.held) terminal.now (stack self.old)) }
-        {
+    {
         match change_of(terminal) {
             Change::Opens => self.open(),
             Change::Closes => {
@@ -122,7 +122,7 @@ impl Levels {
         ensures total { OnOk result (IsTotal self.new) }
         ensures bound { OnOk result (self.new.total + weight self.new.inmost ≤ 2048) }
         ensures stack { OnOk result (stack self.new ≡ record { opened = suc (self.old.run + self.old.held); arrows = 0; slashes = 0 } ∷ stack self.old) }
-        {
+    {
         let group = self.inmost;
         self.around.push(group)?;
         self.total += weight(&group);

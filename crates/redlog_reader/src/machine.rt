@@ -14,8 +14,8 @@ use crate::pending::{Arguments, Arrow, Connective, Expects, Pending, Step, level
 use crate::terminal::{Mark, Terminal, Word};
 use crate::token::{ReadError, Token};
 use qe_syntax::{
-    Formula, Name, Relation, Term, congruence, existential, equivalence, incongruence, power, replication,
-    universal as universal_of,
+    Formula, Name, Relation, Term, congruence, equivalence, existential, incongruence, power,
+    replication, universal as universal_of,
 };
 use std::alloc::{AllocError, Global};
 
@@ -107,11 +107,7 @@ fn sign(
 
 /// The first word of an operand.
 #[tactic(auto, using(crate::proofs::Frames::steps, qe_syntax::proofs::TreeEquations::trees))]
-fn begin_with(
-    goal: usize,
-    pending: &mut Vec<Pending>,
-    word: Word,
-) -> Result<Step, ReadError>
+fn begin_with(goal: usize, pending: &mut Vec<Pending>, word: Word) -> Result<Step, ReadError>
     ensures taken { IfOk result (λ s. wanted goal (Terminal.Word word) (frames pending.old.items) ≡ outcome_of s (frames pending.new.items)) }
     ensures refused { IfErr result (λ e. Refuses e (wanted goal (Terminal.Word word) (frames pending.old.items) ≡ Fails)) }
 {
@@ -270,11 +266,7 @@ fn scope(
 
 /// The bracket of a congruence.
 #[tactic(auto, using(crate::proofs::Frames::steps))]
-fn terms(
-    pending: &mut Vec<Pending>,
-    terminal: &Terminal,
-    positive: bool,
-) -> Result<Step, ReadError>
+fn terms(pending: &mut Vec<Pending>, terminal: &Terminal, positive: bool) -> Result<Step, ReadError>
     ensures taken { IfOk result (λ s. opens positive terminal.now (frames pending.old.items) ≡ outcome_of s (frames pending.new.items)) }
     ensures refused { IfErr result (λ e. Refuses e (opens positive terminal.now (frames pending.old.items) ≡ Fails)) }
 {
@@ -412,11 +404,7 @@ fn operate_word(
 
 /// Begins what takes one more part, where what it makes may stand there.
 #[tactic(auto, using(crate::proofs::Frames::steps))]
-fn push(
-    goal: usize,
-    pending: &mut Vec<Pending>,
-    next: Pending,
-) -> Result<Step, ReadError>
+fn push(goal: usize, pending: &mut Vec<Pending>, next: Pending) -> Result<Step, ReadError>
     ensures taken { IfOk result (λ s. pushed goal (frame_of next) (frames pending.old.items) ≡ outcome_of s (frames pending.new.items)) }
     ensures refused { IfErr result (λ e. Refuses e (pushed goal (frame_of next) (frames pending.old.items) ≡ Fails)) }
 {
@@ -462,11 +450,7 @@ fn multiply(
 
 /// The factors so far, with the term as the last one. A product that they stand in is taken away.
 #[tactic(auto, using(crate::proofs::Frames::steps))]
-fn factors(
-    alloc: Global,
-    pending: &mut Vec<Pending>,
-    term: Term,
-) -> Result<Vec<Term>, AllocError>
+fn factors(alloc: Global, pending: &mut Vec<Pending>, term: Term) -> Result<Vec<Term>, AllocError>
     ensures { IfOk result (λ ts. factors (frames pending.old.items) (term_tree term) ≡ (map term_tree ts.items, frames pending.new.items)) }
 {
     match pending.pop() {
@@ -499,11 +483,7 @@ fn add(
 
 /// The members so far, with the term as the last one. A sum that they stand in is taken away.
 #[tactic(auto, using(crate::proofs::Frames::steps))]
-fn members(
-    alloc: Global,
-    pending: &mut Vec<Pending>,
-    term: Term,
-) -> Result<Vec<Term>, AllocError>
+fn members(alloc: Global, pending: &mut Vec<Pending>, term: Term) -> Result<Vec<Term>, AllocError>
     ensures { IfOk result (λ ts. members (frames pending.old.items) (term_tree term) ≡ (map term_tree ts.items, frames pending.new.items)) }
 {
     match pending.pop() {
@@ -626,11 +606,7 @@ fn grouped(
 
 /// A closing bracket.
 #[tactic(auto, using(crate::proofs::Frames::steps))]
-fn close(
-    alloc: Global,
-    pending: &mut Vec<Pending>,
-    operand: Operand,
-) -> Result<Step, ReadError>
+fn close(alloc: Global, pending: &mut Vec<Pending>, operand: Operand) -> Result<Step, ReadError>
     ensures taken { IfOk result (λ s. closed (frames pending.old.items) (reading_of operand) ≡ outcome_of s (frames pending.new.items)) }
     ensures refused { IfErr result (λ e. Refuses e (closed (frames pending.old.items) (reading_of operand) ≡ Fails)) }
 {

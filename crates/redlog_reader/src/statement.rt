@@ -197,10 +197,7 @@ fn is_any(terminal: &Terminal) -> bool
 
 /// A formula and a point in brackets.
 #[tactic(auto, using(crate::proofs::Options::options))]
-fn pointed(
-    alloc: Global,
-    tokens: &[Token],
-) -> Result<(Formula, Entries, &[Token]), ReadError>
+fn pointed(alloc: Global, tokens: &[Token]) -> Result<(Formula, Entries, &[Token]), ReadError>
     ensures read { IfOk result (λ r. pointed_read (terminals tokens.now) ≡ Some ((formula_tree r.0, r.1), terminals r.2.now)) }
     ensures refused { IfErr result (λ e. Refuses e (pointed_read (terminals tokens.now) ≡ None)) }
 {

@@ -18,8 +18,14 @@ fn reads(rt: HostRuntime) -> Result<(), AllocError> {
     for (text, wanted) in [
         (";", "read"),
         ("% a comment;\nrlholds(-x<=+3*y-1,{x=-2/3,y=1})$", "read"),
-        ("rlqe ex({x,y},x*y/2^3>0 impl cong(x,1,2) impl (b));", "read"),
-        ("f := rlsimpl(x neq 0 repl not y, {x>0, ncong(x,0,3)});", "read"),
+        (
+            "rlqe ex({x,y},x*y/2^3>0 impl cong(x,1,2) impl (b));",
+            "read",
+        ),
+        (
+            "f := rlsimpl(x neq 0 repl not y, {x>0, ncong(x,0,3)});",
+            "read",
+        ),
         ("rlset REALS;", "read"),
         ("on rlverbose, and$", "read"),
         ("load_package redlog;", "read"),
@@ -81,7 +87,11 @@ fn nests(rt: HostRuntime) -> Result<(), AllocError> {
         (" ", "", 1_048_572, "read"),
     ] {
         let text = nested(rt.alloc(), before, after, depth)?;
-        assert_eq!(rt; word(rt.alloc(), &text)?, wanted, "{before} {after} {depth}");
+        assert_eq!(rt;
+            word(rt.alloc(), &text)?,
+            wanted,
+            "{before} {after} {depth}"
+        );
     }
     Ok(())
 }

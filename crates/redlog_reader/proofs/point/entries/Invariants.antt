@@ -1,5 +1,4 @@
-use Rattle.std.proofs.Common.{◌≡◌, map, length}
-use Rattle.qe_syntax.specs.Trees.{formula_tree}
+use Rattle.std.proofs.Common.{◌≡◌, length}
 use Rattle.redlog_reader.specs.Terminals.{terminals}
 use Rattle.redlog_reader.specs.Reader.{items_read, entry_read}
 use Rattle.redlog_reader.proofs.Items.{onto}

@@ -5,7 +5,7 @@ use Rattle.redlog_reader.specs.declared.level.TheConstants.{LEVEL_LIMIT}
 use Rattle.redlog_reader.specs.Levels.{Passes}
 use Rattle.redlog_reader.specs.Terminals.{terminals}
 use Rattle.redlog_reader.specs.Lexing.{AreTokens}
-use Rattle.redlog_reader.proofs.Whole.{tokens_unread, deep_unread, statement_unread, spells, read_proper}
+use Rattle.redlog_reader.proofs.Whole.{deep_unread, statement_unread, spells, read_proper}
 use Rattle.redlog_reader.proofs.read.read_statement.Goals as goal
 
 pub returns-then-deep-clause-refused : goal.returns-then-deep-clause-refused
