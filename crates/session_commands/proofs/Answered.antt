@@ -1,24 +1,20 @@
 -- From the answer of a formula to the answer of its statement.
-use Rattle.std.proofs.Common.{◌≡◌, ◌∙◌, inl, inr, sym, subst, ap, Bool}
-use Rattle.std.specs.Prelude.{List, ℕ, Result, Ok, Err, IfOk}
+use Rattle.std.proofs.Common.{◌≡◌, ◌∙◌, sym, subst, ap, Bool}
+use Rattle.std.specs.Prelude.{List, Result, Ok, Err, IfOk}
 use Rattle.qe_syntax.specs.declared.statement.PointEntry.{PointEntry}
 use Rattle.qe_syntax.specs.declared.statement.Command.{Command}
 use Rattle.qe_syntax.specs.declared.statement.Command.TheVariants as command
 use Rattle.qe_syntax.specs.declared.tree.Formula.{Formula}
 use Rattle.qe_syntax.specs.Trees.{FormulaTree, formula_tree}
 use Rattle.qe_syntax.specs.Statements.{StatementTree, command_tree}
-use Rattle.redlog_reader.specs.Statement.{Spells, Unread}
-use Rattle.redlog_reader.specs.declared.token.ReadError.{ReadError}
-use Rattle.redlog_reader.specs.declared.token.ReadError.TheVariants as reading
 use Rattle.session_commands.specs.declared.line.Line.{Line}
 use Rattle.session_commands.specs.declared.line.Line.TheVariants as line
 use Rattle.session_commands.specs.declared.line.StatementError.{StatementError}
-use Rattle.session_commands.specs.declared.line.StatementError.TheVariants as error
 use Rattle.session_commands.specs.Holds.{IsAccepted, Says}
 use Rattle.qe_syntax.specs.Linear.{IsLinear}
 use Rattle.session_commands.specs.Built.{IsBuilt}
-use Rattle.session_commands.specs.Answer.{holds_statement, IsAnswer, IsRefused}
-use Rattle.session_commands.specs.Steps.{said, IsTruthLine, IsAnswered, IsStopped, read_refusal}
+use Rattle.session_commands.specs.Answer.{holds_statement}
+use Rattle.session_commands.specs.Steps.{said, IsTruthLine, IsAnswered}
 
 pub truth_answers : (s : StatementTree) (f : FormulaTree) (es : List PointEntry) (truth printed : Bool) (r : Result Line StatementError) → s ≡ holds_statement f es printed → IsLinear f
     → IsAccepted f es → Says f es truth → IfOk r (IsTruthLine truth printed) → IfOk r (IsAnswered s)

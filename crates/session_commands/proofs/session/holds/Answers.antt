@@ -1,6 +1,5 @@
 use Rattle.std.proofs.Common.{◌≡◌, false, subst}
 use Rattle.std.specs.Prelude.{Err}
-use Rattle.qe_syntax.specs.declared.value.EvalError.TheVariants.{ZeroDivisor}
 use Rattle.qe_syntax.specs.Trees.{formula_tree}
 use Rattle.qe_syntax.specs.Point.{IsPointOf, point_of}
 use Rattle.qe_syntax.specs.Rule.{calculated_truth}
