@@ -1,4 +1,4 @@
-ghost use Rattle.std.specs.Prelude.{◌≡◌, ◌≤◌, length, IfOk, OnOk, IfErr};
+ghost use Rattle.std.specs.Prelude.{◌≡◌, ◌≤◌, ◌<◌, length, IfOk, OnOk, IfErr};
 ghost use Rattle.qe_io.specs.Streams.{Gave, IsAtEnd};
 ghost use Rattle.redlog.specs.Script.{script_limit, StopCause, ReadsPiece, PieceStop};
 
