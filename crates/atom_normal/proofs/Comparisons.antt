@@ -1,11 +1,11 @@
 -- Comparisons in normal form: their truth, their names and their shape.
-use Rattle.std.proofs.Common.{◌≡◌, ◌<◌, ℕ, Bool, true, false, List, [], ◌∷◌, ap, sym, ◌∙◌, subst, refl, arith, ◌↔◌, if◌then◌else◌}
+use Rattle.std.proofs.Common.{◌≡◌, ◌<◌, ℕ, Bool, true, false, List, [], ◌∷◌, ap, sym, ◌∙◌, refl, arith, ◌↔◌, if◌then◌else◌}
 use Rattle.std.proofs.Math.IntN.{ℤ, pos, negsuc, neg_ℤ, ◌+ℤ◌, ◌-ℤ◌, ◌*ℤ◌}
 use Rattle.std.specs.Prelude.{◌<ℤ◌, ◌≤ℤ◌, int_div}
-use Rattle.std.specs.Ordering.{int_cmp, int_eq}
+use Rattle.std.specs.Ordering.{int_cmp}
 use Rattle.std.proofs.lemmas.Int.{ints}
-use Rattle.exact_numbers.specs.Divides.{Divides, DividesAll, IsFloor, content_of, floor_of, residue_of}
-use Rattle.exact_numbers.proofs.Ring.{ring, neg_mul, mul_zero, mul_one, one_mul, mul_comm, mul_add}
+use Rattle.exact_numbers.specs.Divides.{DividesAll, IsFloor, content_of, floor_of, residue_of}
+use Rattle.exact_numbers.proofs.Ring.{neg_mul, mul_zero, mul_one, one_mul, mul_comm, mul_add}
 use Rattle.exact_numbers.proofs.Order.{by_less, cancel, cancel_positive}
 use Rattle.exact_numbers.proofs.Divisibility.{one_divides, divides_along, divides_neg}
 use Rattle.exact_numbers.proofs.Floor.{floor_and_residue, floor_is, floor_unique, at_most_floor, from_at_most_floor, residue_of_multiple}
@@ -15,16 +15,16 @@ use Rattle.formula_meaning.specs.Context.{Context, Fields, Integers}
 use Rattle.formula_meaning.specs.Formula.{Yes, No, One}
 use Rattle.formula_meaning.specs.Point.{Point}
 use Rattle.formula_meaning.specs.Form.{Form, Term, total, multiple, value, coefficient}
-use Rattle.formula_meaning.specs.Sorted.{IsRising, AllNonzero, IsSorted}
-use Rattle.formula_meaning.specs.Atom.{Atom, Compare, Relation, Equals, Differs, Below, AtMost, Above, AtLeast, Relates, mirrored, AtomIn}
+use Rattle.formula_meaning.specs.Sorted.{AllNonzero, IsSorted}
+use Rattle.formula_meaning.specs.Atom.{Atom, Compare, Relation, Equals, Differs, Below, AtMost, Above, AtLeast, Relates, AtomIn}
 use Rattle.formula_meaning.specs.Every.{Every}
-use Rattle.formula_meaning.specs.Tree.{Tree, TrueAt, IsFree}
+use Rattle.formula_meaning.specs.Tree.{TrueAt, IsFree}
 use Rattle.formula_meaning.proofs.Relations.{relates_zero_mul, relates_neg}
 use Rattle.linear_forms.specs.Terms.{coefficients}
 use Rattle.linear_forms.specs.Reduction.{quotients, quotient}
 use Rattle.linear_forms.proofs.Reduced.{by_equal}
-use Rattle.linear_forms.proofs.Quotients.{all_divided, coefficients_quotients, quotients_one, quotient_one, total_quotients, value_quotient, multiple_quotients, sorted_quotient, rising_quotients, nonzero_quotients, content_divided}
-use Rattle.atom_normal.specs.NormalForm.{constant_tree, holds, first, turned, facing, compared_in_fields, bound, rounded, compared_over_integers, IsOriented, IsIntegerRelation, IsFieldComparison, IsIntegerComparison, IsNormal}
+use Rattle.linear_forms.proofs.Quotients.{coefficients_quotients, quotients_one, quotient_one, total_quotients, value_quotient, multiple_quotients, sorted_quotient, rising_quotients, nonzero_quotients, content_divided}
+use Rattle.atom_normal.specs.NormalForm.{constant_tree, holds, turned, facing, compared_in_fields, bound, rounded, compared_over_integers, IsIntegerRelation, IsFieldComparison, IsIntegerComparison, IsNormal}
 use Rattle.atom_normal.proofs.Relations.{chain, back, never, along, constant_truth, holds_so, turned_relates, turned_nonzero, turned_divides_all, divides_turned, turned_positive, content_positive}
 
 -- a form of the given terms and constant

@@ -1,24 +1,23 @@
 -- Congruences in normal form: their truth, their names and their shape.
-use Rattle.std.proofs.Common.{◌≡◌, ◌<◌, ◌*◌, inl, inr, ℕ, Bool, true, false, not, List, [], ◌∷◌, ap, sym, ◌∙◌, subst, refl, arith, ◌↔◌, if◌then◌else◌, nat_eq, eqb-true, eq-eqb}
+use Rattle.std.proofs.Common.{◌≡◌, ◌<◌, ℕ, Bool, true, false, not, List, [], ◌∷◌, ap, sym, ◌∙◌, subst, refl, arith, ◌↔◌, if◌then◌else◌, nat_eq, eqb-true, eq-eqb}
 use Rattle.std.proofs.Math.IntN.{ℤ, pos, negsuc, neg_ℤ, ◌+ℤ◌, ◌-ℤ◌, ◌*ℤ◌}
 use Rattle.std.specs.Prelude.{◌<ℤ◌, ◌≤ℤ◌, int_div, unsigned_abs}
 use Rattle.std.specs.declared.cmp.Ordering.{Ordering}
-use Rattle.std.specs.declared.cmp.Ordering.TheVariants.{Less, Equal, Greater}
-use Rattle.std.specs.Ordering.{int_cmp, int_eq, is_gt}
+use Rattle.std.specs.Ordering.{is_gt}
 use Rattle.std.proofs.lemmas.Int.{ints}
-use Rattle.exact_numbers.specs.Divides.{Divides, DividesAll, IsContent, content_of, floor_of, residue_of}
-use Rattle.exact_numbers.proofs.Ring.{ring, neg_mul, mul_zero, mul_one, one_mul, mul_comm, mul_add, mul_assoc}
-use Rattle.exact_numbers.proofs.Order.{by_less, by_compare, cancel, cancel_less, cancel_at_most, cancel_positive, factor_positive}
-use Rattle.exact_numbers.proofs.Divisibility.{one_divides, divides_along, divides_neg, divides_add, divides_sub, divides_trans, divides_same, divides_mul, divides_other, mul_divides_mul, cancel_divides, divisor_at_most}
+use Rattle.exact_numbers.specs.Divides.{Divides, DividesAll, content_of, floor_of, residue_of}
+use Rattle.exact_numbers.proofs.Ring.{mul_zero, mul_one, mul_comm}
+use Rattle.exact_numbers.proofs.Order.{by_less, by_compare, cancel, cancel_less, cancel_at_most, factor_positive}
+use Rattle.exact_numbers.proofs.Divisibility.{one_divides, divides_along, divides_neg, divides_add, divides_sub, divides_trans, divides_same, divides_other, mul_divides_mul, cancel_divides}
 use Rattle.exact_numbers.proofs.Floor.{floor_and_residue, residue_not_negative, residue_below, residue_is, residue_unique, residue_of_multiple, divides_from_residue}
 use Rattle.exact_numbers.proofs.LeastMultiple.{exact_div}
 use Rattle.exact_numbers.proofs.Contents.{content_is, content_unique}
-use Rattle.formula_meaning.specs.Context.{Context, Fields, Integers}
-use Rattle.formula_meaning.specs.Formula.{Yes, No, One}
+use Rattle.formula_meaning.specs.Context.{Integers}
+use Rattle.formula_meaning.specs.Formula.{One}
 use Rattle.formula_meaning.specs.Point.{Point}
-use Rattle.formula_meaning.specs.Form.{Form, Term, total, multiple, value, coefficient, scaled, scale}
-use Rattle.formula_meaning.specs.Sorted.{IsRising, AllNonzero, IsSorted}
-use Rattle.formula_meaning.specs.Atom.{Atom, Congruent, IsMultiple, Says, Mentions, AtomIn, form_of}
+use Rattle.formula_meaning.specs.Form.{Form, Term, total, value, coefficient, scaled, scale}
+use Rattle.formula_meaning.specs.Sorted.{IsSorted}
+use Rattle.formula_meaning.specs.Atom.{Atom, Congruent, IsMultiple, Says, AtomIn, form_of}
 use Rattle.formula_meaning.specs.Every.{Every}
 use Rattle.formula_meaning.specs.Tree.{Tree, TrueAt, IsFree}
 use Rattle.formula_meaning.proofs.Values.{value_scale}
@@ -28,7 +27,7 @@ use Rattle.linear_forms.specs.Terms.{coefficients}
 use Rattle.linear_forms.specs.Reduction.{quotients, quotient, residues, residue_form, AllReduced}
 use Rattle.linear_forms.proofs.Reduced.{by_equal, residue_sorted, residues_other}
 use Rattle.linear_forms.proofs.Quotients.{all_divided, coefficients_quotients, quotient_one, one_quotient, total_quotients, value_quotient, multiple_quotients, sorted_quotient, content_divided}
-use Rattle.linear_forms.proofs.Residues.{residue_apart, residue_stays, value_residue, multiple_residues, reduced_residues, residue_form_stays, divides_before}
+use Rattle.linear_forms.proofs.Residues.{residue_stays, value_residue, multiple_residues, reduced_residues, residue_form_stays, divides_before}
 use Rattle.atom_normal.specs.NormalForm.{constant_tree, first, smaller, congruence, coprime_congruence, reduced_congruence, congruent, negated_normal, IsNormalCongruence, IsNormal}
 use Rattle.atom_normal.proofs.Relations.{chain, back, never, along, constant_truth, content_positive}
 use Rattle.atom_normal.proofs.Comparisons.{value_whole, residue_one, constant_every, constant_free}

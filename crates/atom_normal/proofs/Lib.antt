@@ -7,3 +7,4 @@ pub mod NormalLaws
 pub mod Sorted
 pub mod Stepped
 pub mod Told
+pub mod Meaning

@@ -1,6 +1,5 @@
 -- What the code's parts need of forms.
 use Rattle.std.proofs.Common.{◌≡◌, List, [], ◌∷◌, Some, subst}
-use Rattle.std.proofs.Math.IntN.{ℤ}
 use Rattle.std.specs.Prelude.{slice_get}
 use Rattle.exact_numbers.specs.Limit.{InLimit}
 use Rattle.formula_meaning.specs.Form.{Term}

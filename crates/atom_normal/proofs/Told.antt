@@ -1,8 +1,7 @@
 -- The truth of an atom from the value of its form.
-use Rattle.std.proofs.Common.{◌≡◌, ◌<◌, ℕ, Bool, true, false, not, Option, Some, None, MatchOption, sym, ◌∙◌, ap, subst, refl, arith, ◌↔◌}
+use Rattle.std.proofs.Common.{◌≡◌, ◌<◌, ℕ, Bool, true, false, not, sym, ◌∙◌, ap, subst, refl, arith, ◌↔◌}
 use Rattle.std.proofs.Math.IntN.{ℤ, pos}
-use Rattle.std.specs.Prelude.{◌<ℤ◌, MatchBool, option_map, unsigned_abs}
-use Rattle.std.specs.Bool.{Decides}
+use Rattle.std.specs.Prelude.{◌<ℤ◌, MatchBool, unsigned_abs}
 use Rattle.std.specs.Ordering.{int_cmp, int_eq}
 use Rattle.std.specs.Cmp.{signed_Decides}
 use Rattle.std.proofs.Math.Bool.{beq}
@@ -13,7 +12,7 @@ use Rattle.formula_meaning.specs.Point.{Point}
 use Rattle.formula_meaning.specs.Form.{Form, value}
 use Rattle.formula_meaning.specs.Atom.{Atom, Compare, Congruent, Says, form_of}
 use Rattle.atom_normal.specs.NormalForm.{holds, is_true_at}
-use Rattle.atom_normal.proofs.Relations.{holds_so, chain, back}
+use Rattle.atom_normal.proofs.Relations.{holds_so, chain}
 use Rattle.atom_normal.proofs.Congruences.{congruent_says}
 
 -- the atom may be asked at the point

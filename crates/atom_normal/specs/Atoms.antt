@@ -54,3 +54,7 @@ IsWellFormedNormal (One a) = IsWellFormed a
 abbrev pub IsAskedWhole : Atom → ℤ → Type 0
 IsAskedWhole (Compare r f) denominator = Unit {0}
 IsAskedWhole (Congruent holds modulus form) denominator = denominator ≡ pos 1
+
+-- well-formed atoms of one meaning are one atom
+abbrev pub MeaningDeterminesAtom : Type 0
+MeaningDeterminesAtom = (a b : Atom) → IsWellFormed a → IsWellFormed b → atom_of a ≡ atom_of b → a ≡ b

@@ -1,23 +1,17 @@
 -- What is proved of normal forms and of their negation, as statements that the functions of this crate promise.
 use Rattle.std.specs.Prelude.{◌≡◌, ◌⊎◌, ℕ, ◌↔◌}
 use Rattle.formula_meaning.specs.Context.{Context}
-use Rattle.formula_meaning.specs.Formula.{Yes, No, One, Not, And, Or, Impl, Repl, Equiv, Ex, All}
+use Rattle.formula_meaning.specs.Formula.{One}
 use Rattle.formula_meaning.specs.Point.{Point, Of}
 use Rattle.formula_meaning.specs.Atom.{Atom, Says, AtomIn, Mentions}
 use Rattle.formula_meaning.specs.Every.{Every}
-use Rattle.formula_meaning.specs.Tree.{Tree, TrueAt, InContext, IsFree}
+use Rattle.formula_meaning.specs.Shape.{IsAtomic}
+use Rattle.formula_meaning.specs.Tree.{InContext, IsFree, IsNegation, Equivalent}
 use Rattle.atom_normal.specs.NormalForm.{normal_atom, negated_normal, IsNormal}
-
--- a constant, or one atom
-abbrev pub IsAtomic : Tree → Type 0
-IsAtomic Yes = Unit {0}
-IsAtomic No = Unit {0}
-IsAtomic (One a) = Unit {0}
-IsAtomic f = ⊥
 
 -- the normal form of an atom of the theory has its truth at every point of the theory
 abbrev pub NormalFormKeepsTruth : Type 0
-NormalFormKeepsTruth = (c : Context) (a : Atom) → AtomIn c a → (p : Point ℕ) → Of c p → Says a p ↔ TrueAt c (normal_atom c a) p
+NormalFormKeepsTruth = (c : Context) (a : Atom) → AtomIn c a → Equivalent c (One a) (normal_atom c a)
 
 -- it brings no name
 abbrev pub NormalFormBringsNoName : Type 0
@@ -33,7 +27,7 @@ NormalAtomStays = (c : Context) (a : Atom) → IsNormal c a → AtomIn c a × (n
 
 -- the negation has the opposite truth
 abbrev pub NegationIsOpposite : Type 0
-NegationIsOpposite = (c : Context) (a : Atom) → AtomIn c a → (p : Point ℕ) → Of c p → Says (negated_normal a) p ↔ (¬ (Says a p))
+NegationIsOpposite = (c : Context) (a : Atom) → AtomIn c a → IsNegation c a (negated_normal a)
 
 -- the negation stays in the theory and has the same names
 abbrev pub NegationKeepsNames : Type 0

@@ -1,5 +1,6 @@
 // The laws of normal forms and of their negation. Each function does nothing; its contract is a law.
 ghost use Rattle.atom_normal.specs.Laws.{NormalFormKeepsTruth, NormalFormBringsNoName, NormalFormIsNormal, NormalAtomStays, NegationIsOpposite, NegationKeepsNames, NegationOfNormalIsNormal, AtomsAreDecided};
+ghost use Rattle.atom_normal.specs.Atoms.{MeaningDeterminesAtom};
 
 /// The normal form of an atom has its truth at every point of the theory, brings no name, and is a constant or an atom in normal form.
 pub fn normal_form_keeps_truth()
@@ -23,4 +24,9 @@ pub fn negation_is_opposite()
 /// Each atom is true or not at each point of the theory.
 pub fn atoms_are_decided()
     ensures { AtomsAreDecided }
+{}
+
+/// Atoms with positive moduli that mean the same are one atom.
+pub fn meaning_determines_atom()
+    ensures { MeaningDeterminesAtom }
 {}

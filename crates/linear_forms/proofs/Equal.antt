@@ -1,14 +1,14 @@
 -- Lists of pairs are equal, and feed a hash, as the lists of their terms.
-use Rattle.std.proofs.Common.{◌≡◌, suc, Bool, true, false, ◌&&◌, List, [], ◌∷◌, ◌++◌, length, ap, sym, ◌∙◌, refl, nat_eq}
+use Rattle.std.proofs.Common.{◌≡◌, suc, Bool, ◌&&◌, List, [], ◌∷◌, ◌++◌, length, ap, ◌∙◌, refl, nat_eq}
 use Rattle.std.proofs.Math.IntN.{ℤ}
 use Rattle.std.specs.Ordering.{int_eq}
-use Rattle.std.specs.List.{flat_map, fold}
-use Rattle.std.specs.Hash.{HashWrites, slice, usize, i128, fed_then, fed_along}
+use Rattle.std.specs.List.{flat_map}
+use Rattle.std.specs.Hash.{slice, usize, i128}
 use Rattle.std.specs.Cmp.Lexicographic.{pointwise}
 use Rattle.linear_forms.specs.declared.form.VarId.{VarId}
 use Rattle.linear_forms.specs.Linear.{term_of, terms_of}
-use Rattle.linear_forms.specs.Equality.{term_eq, form_eq, term_writes, form_writes}
-use Rattle.formula_meaning.specs.Form.{Form, Term}
+use Rattle.linear_forms.specs.Equality.{term_eq, form_eq, term_writes}
+use Rattle.formula_meaning.specs.Form.{Form}
 
 pub pairs_eq : (xs ys : List (VarId × ℤ)) → pointwise (λ p q. nat_eq p.0.number q.0.number && int_eq p.1 q.1) xs ys ≡ pointwise term_eq (terms_of xs) (terms_of ys)
 pairs_eq [] [] = refl

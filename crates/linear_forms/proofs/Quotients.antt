@@ -1,16 +1,15 @@
 -- What a form divided by a common divisor of its numbers keeps. All numbers are unlimited.
-use Rattle.std.proofs.Common.{◌≡◌, ◌<◌, ℕ, List, [], ◌∷◌, ap, sym, ◌∙◌, subst, refl, arith}
-use Rattle.std.proofs.Math.IntN.{ℤ, pos, negsuc, neg_ℤ, ◌+ℤ◌, ◌*ℤ◌}
-use Rattle.std.specs.Prelude.{◌<ℤ◌, ◌≤ℤ◌, int_div}
+use Rattle.std.proofs.Common.{◌≡◌, ℕ, List, [], ◌∷◌, ap, sym, ◌∙◌, refl, arith}
+use Rattle.std.proofs.Math.IntN.{ℤ, pos, negsuc, ◌+ℤ◌, ◌*ℤ◌}
+use Rattle.std.specs.Prelude.{int_div}
 use Rattle.std.proofs.lemmas.Int.{ints}
 use Rattle.exact_numbers.specs.Divides.{Divides, DividesAll, IsContent, content_of}
 use Rattle.exact_numbers.proofs.Ring.{ring, mul_zero, mul_one, one_mul, mul_assoc}
-use Rattle.exact_numbers.proofs.Order.{cancel}
-use Rattle.exact_numbers.proofs.Divisibility.{one_divides, divides_along, divides_trans, mul_divides_mul, cancel_divides, divides_mul}
+use Rattle.exact_numbers.proofs.Divisibility.{one_divides, divides_along, divides_trans, mul_divides_mul, cancel_divides}
 use Rattle.exact_numbers.proofs.LeastMultiple.{exact_div}
 use Rattle.exact_numbers.proofs.Contents.{content_is, content_unique}
 use Rattle.formula_meaning.specs.Point.{Point}
-use Rattle.formula_meaning.specs.Form.{Form, Term, total, multiple, value, coefficient, scaled, scale}
+use Rattle.formula_meaning.specs.Form.{Form, Term, total, multiple, value, scaled, scale}
 use Rattle.formula_meaning.specs.Sorted.{AllAbove, IsRising, AllNonzero, IsSorted}
 use Rattle.linear_forms.specs.Terms.{coefficients}
 use Rattle.linear_forms.specs.Reduction.{quotients, quotient}

@@ -1,7 +1,7 @@
 -- Forms divided, and forms modulo a number.
-use Rattle.std.proofs.Common.{◌≡◌, ◌<◌, ◌⊎◌, inl, inr, ℕ, Bool, true, false, List, [], ◌∷◌, ◌++◌, length, get_or, drop, ◌+◌, append_assoc, ap, sym, ◌∙◌, subst, refl, arith, if◌then◌else◌}
+use Rattle.std.proofs.Common.{◌≡◌, ◌<◌, ℕ, Bool, true, false, List, [], ◌∷◌, ◌++◌, length, get_or, drop, ◌+◌, append_assoc, ap, sym, ◌∙◌, subst, refl, arith, if◌then◌else◌}
 use Rattle.std.proofs.Math.IntN.{ℤ, pos}
-use Rattle.std.specs.Prelude.{◌*ℤ◌, ◌<ℤ◌, ◌≤ℤ◌, int_div, FitsSigned}
+use Rattle.std.specs.Prelude.{◌*ℤ◌, ◌<ℤ◌, int_div, FitsSigned}
 use Rattle.std.specs.Int.{w128}
 use Rattle.std.specs.Bool.{Decides}
 use Rattle.std.specs.Cmp.{signed_Decides}
@@ -9,7 +9,7 @@ use Rattle.std.specs.List.{AllZip}
 use Rattle.std.specs.Ordering.{int_eq}
 use Rattle.std.proofs.lemmas.Int.{ints}
 use Rattle.exact_numbers.specs.Limit.{InLimit}
-use Rattle.exact_numbers.specs.Divides.{Divides, residue_of}
+use Rattle.exact_numbers.specs.Divides.{residue_of}
 use Rattle.exact_numbers.proofs.Order.{cancel}
 use Rattle.exact_numbers.proofs.LeastMultiple.{exact_div}
 use Rattle.exact_numbers.proofs.Floor.{residue_not_negative, residue_below}

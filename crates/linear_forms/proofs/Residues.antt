@@ -1,21 +1,21 @@
 -- What a form modulo a number keeps. All numbers are unlimited.
-use Rattle.std.proofs.Common.{◌≡◌, ◌<◌, ℕ, Bool, true, false, List, [], ◌∷◌, ap, sym, ◌∙◌, subst, refl, arith, nat_eq, if◌then◌else◌}
-use Rattle.std.proofs.Math.IntN.{ℤ, pos, negsuc, neg_ℤ, ◌+ℤ◌, ◌-ℤ◌, ◌*ℤ◌}
+use Rattle.std.proofs.Common.{◌≡◌, ℕ, List, [], ◌∷◌, ap, sym, ◌∙◌, subst, refl, arith}
+use Rattle.std.proofs.Math.IntN.{ℤ, pos, ◌+ℤ◌, ◌-ℤ◌, ◌*ℤ◌}
 use Rattle.std.specs.Prelude.{◌<ℤ◌, ◌≤ℤ◌}
 use Rattle.std.proofs.lemmas.Bool.{cases_eq}
 use Rattle.std.proofs.lemmas.Int.{ints}
 use Rattle.std.proofs.Common.{inl, inr}
 use Rattle.exact_numbers.specs.Divides.{Divides, DividesAll, IsResidue, residue_of}
-use Rattle.exact_numbers.proofs.Ring.{ring, zero_mul, mul_zero, mul_sub, sub_mul}
-use Rattle.exact_numbers.proofs.Divisibility.{divides_along, divides_add, divides_sub, divides_mul, divides_zero, divides_trans}
-use Rattle.exact_numbers.proofs.Floor.{residue_is, residue_unique, residue_not_negative, residue_below, residue_of_multiple, divides_from_residue}
+use Rattle.exact_numbers.proofs.Ring.{sub_mul}
+use Rattle.exact_numbers.proofs.Divisibility.{divides_along, divides_add, divides_mul, divides_zero, divides_trans}
+use Rattle.exact_numbers.proofs.Floor.{residue_is, residue_unique, residue_not_negative, residue_below, divides_from_residue}
 use Rattle.formula_meaning.specs.Point.{Point}
-use Rattle.formula_meaning.specs.Form.{Form, Term, total, multiple, value, coefficient}
+use Rattle.formula_meaning.specs.Form.{Form, Term, total, multiple, value}
 use Rattle.formula_meaning.specs.Sorted.{AllAbove, IsRising, AllNonzero, IsSorted}
 use Rattle.formula_meaning.proofs.Sorted.{here, elsewhere, multiple_above}
 use Rattle.linear_forms.specs.Terms.{coefficients}
 use Rattle.linear_forms.specs.Reduction.{residues, residue_form, AllReduced}
-use Rattle.linear_forms.proofs.Reduced.{residues_zero, residues_other, by_residue, above_residues}
+use Rattle.linear_forms.proofs.Reduced.{residues_other, by_residue, above_residues}
 
 module _ (m : ℤ) (p : pos 0 <ℤ m) where
   -- a number differs from its residue by a multiple

@@ -1,4 +1,6 @@
-ghost use Rattle.std.specs.Prelude.{◌≡◌, None};
+ghost use Rattle.std.specs.Prelude.{◌≡◌, ◌≤◌, ◌<◌, ℕ, List, None, length, take, IfOk, OnOk, OnErr};
+ghost use Rattle.qe_io.specs.Memory.{counted};
+ghost use Rattle.qe_io.specs.Streams.{Gave, IsAtEnd, Took, Rose};
 
 use crate::{ReadFailed, Sink, Source, WriteFailed};
 use std::io::{Read, Write};
@@ -24,7 +26,16 @@ impl<R: Read> Source for StdSource<R> {
 
     ghost faults = { λ s. s.faults };
 
-    fn read(&mut self, into: &mut [u8]) -> Result<usize, ReadFailed> {
+    /// As the trait says; besides, a failed read of the reader is counted once, and a read that succeeds is not.
+    fn read(&mut self, into: &mut [u8]) -> Result<usize, ReadFailed>
+        requires { 0 < length into.old }
+        ensures count { IfOk result (λ n. n ≤ length into.new) }
+        ensures bytes { IfOk result (λ n. Gave None None (take n into.new)) }
+        ensures end { IfOk result (λ n. n ≡ 0 → IsAtEnd None) }
+        ensures no_fault { OnOk result (self.new.faults ≡ self.old.faults) }
+        ensures fault { OnErr result (Rose self.old.faults self.new.faults) }
+        ensures once { OnErr result (self.new.faults ≡ counted self.old.faults) }
+    {
         match self.inner.read(into) {
             Ok(count) => Ok(count),
             Err(_) => {
@@ -56,7 +67,16 @@ impl<W: Write> Sink for StdSink<W> {
 
     ghost faults = { λ s. s.faults };
 
-    fn write(&mut self, piece: &[u8]) -> Result<usize, WriteFailed> {
+    /// As the trait says; besides, a failed write of the writer is counted once, and a write that succeeds is not.
+    fn write(&mut self, piece: &[u8]) -> Result<usize, WriteFailed>
+        requires { 0 < length piece.now }
+        ensures some { IfOk result (λ n. 1 ≤ n) }
+        ensures count { IfOk result (λ n. n ≤ length piece.now) }
+        ensures bytes { IfOk result (λ n. Took None None (take n piece.now)) }
+        ensures no_fault { OnOk result (self.new.faults ≡ self.old.faults) }
+        ensures fault { OnErr result (Rose self.old.faults self.new.faults) }
+        ensures once { OnErr result (self.new.faults ≡ counted self.old.faults) }
+    {
         match self.inner.write(piece) {
             Ok(count) if count > 0 => Ok(count),
             _ => {

@@ -6,20 +6,21 @@ use Rattle.std.specs.Prelude.{reverse, sum_by, if◌then◌else◌, ◌⊎◌}
 use Rattle.redlog_reader.specs.declared.level.Levels.{Levels}
 use Rattle.redlog_reader.specs.declared.terminal.Terminal.{Terminal}
 use Rattle.redlog_reader.specs.declared.terminal.Terminal.TheVariants as terminal
-use Rattle.redlog_reader.specs.declared.terminal.Mark.TheVariants as mark
+use Rattle.redlog_reader.specs.declared.terminal.Word.TheVariants as word
 use Rattle.redlog_reader.specs.Levels.{weight, change_of, changed, groups, run, run_before, level, Passes}
 use Rattle.redlog_reader.specs.declared.token.Token.{Token}
 use Rattle.redlog_reader.specs.Terminals.{terminals, terminal_of}
 use Rattle.redlog_reader.specs.Counting.{count, stack, IsTotal, IsSmall, AreLevels, is_binder, is_not}
 
 run_is : (t : Terminal) (before : List Terminal) (r : ℕ) → r ≡ run before → (if is_not t then r + 1 else 0) ≡ run (t ∷ before)
-run_is (terminal.Mark mark.Not) before r e = omega (arith, e)
+run_is (terminal.Word word.Not) before r e = omega (arith, e)
 run_is _ before r e = refl
 
 held_is : (t : Terminal) (before : List Terminal) (r : ℕ) → r ≡ run before
     → run_before (t ∷ before) ≡ (if is_not t then r + 1 else 0) + (if is_binder t then r else 0)
-held_is (terminal.Mark mark.Binder) before r e = omega (arith, e)
-held_is (terminal.Mark mark.Not) before r e = omega (arith, e)
+held_is (terminal.Word word.Ex) before r e = omega (arith, e)
+held_is (terminal.Word word.All) before r e = omega (arith, e)
+held_is (terminal.Word word.Not) before r e = omega (arith, e)
 held_is _ before r e = omega arith
 
 module _ (old new : Levels) (t : Terminal) (grouped : stack new ≡ changed (change_of t) (old.run + old.held) t (stack old))

@@ -1,57 +1,90 @@
 -- Reading a statement.
-use Rattle.std.proofs.Common.{◌≡◌, ℕ, ◌<◌, ◌≤◌, List, [], ◌∷◌, ◌++◌, map, length, drop, sym, refl, ap, ◌∙◌, subst, inl, inr, arith}
-use Rattle.std.specs.Prelude.{Some, None}
+use Rattle.std.proofs.Common.{◌≡◌, ℕ, ◌≤◌, List, [], ◌∷◌, ◌++◌, map, length, drop, sym, refl, ap, ◌∙◌, subst, inl, inr}
+use Rattle.std.specs.Prelude.{Option, Some, None}
 use Rattle.qe_syntax.specs.Statements.{StatementTree}
 use Rattle.redlog_reader.specs.declared.lexer.Lexeme.{Lexeme}
 use Rattle.redlog_reader.specs.declared.token.Token.{Token}
 use Rattle.redlog_reader.specs.declared.token.TokenKind.{TokenKind}
 use Rattle.redlog_reader.specs.Terminals.{terminals, terminal_of}
-use Rattle.redlog_reader.specs.Lexing.{Lexes, LexesFrom, lexeme_of, AreTokens, SomeBad, IsLexical}
+use Rattle.redlog_reader.specs.Lexing.{Lexes, LexesFrom, lexeme_of, AreTokens, SomeBad, IsLexical, LexicalWhere}
 use Rattle.redlog_reader.specs.Levels.{Passes}
 use Rattle.redlog_reader.specs.Grammar.{SpellsStatement}
-use Rattle.redlog_reader.specs.Reading.{NoStatement}
-use Rattle.redlog_reader.specs.Statement.{Spells}
-use Rattle.redlog_reader.proofs.Statements.{same_statement}
-use Rattle.redlog_reader.proofs.Lexed.{same_lexemes, lexed, no_bad, same_goods, goods_of, terminals_of}
+use Rattle.redlog_reader.specs.Reading.{Refuses}
+use Rattle.redlog_reader.specs.Reader.{statement_read}
+use Rattle.redlog_reader.specs.Statement.{AreKinds, Spells, IsDeep, SpellsNothing, Unread}
+use Rattle.redlog_reader.specs.declared.read.TheConstants.{BYTE_LIMIT}
+use Rattle.redlog_reader.specs.declared.level.TheConstants.{LEVEL_LIMIT}
+use Rattle.redlog_reader.specs.declared.token.ReadError.{ReadError}
+use Rattle.redlog_reader.specs.declared.token.ReadError.TheVariants as cause
+use Rattle.qe_syntax.specs.Proper.{IsProper}
+use Rattle.redlog_reader.proofs.CompleteStatements.{statement_done}
+use Rattle.redlog_reader.proofs.SoundStatements.{statement_sound}
+use Rattle.redlog_reader.proofs.Proper.{proper_statement}
+use Rattle.redlog_reader.proofs.Lexed.{same_lexemes, lexed, same_goods, goods_of, terminals_of, tokens_proper, lexed_proper}
 
-same_kinds_of : {bytes : List ℕ} {ts us : List Lexeme} {js ks : List TokenKind} → Lexes bytes 0 ts → Lexes bytes 0 us → map (λ t. t.kind) ts ≡ map Some js → map (λ t. t.kind) us ≡ map Some ks → js ≡ ks
-same_kinds_of {js = js} {ks = ks} l m e f = same_goods js ks (sym e ∙ ap (map (λ t. t.kind)) (same_lexemes l m) ∙ f)
+-- the kinds of the tokens are determined
+same_kinds : {bytes : List ℕ} {js ks : List TokenKind} → AreKinds bytes js → AreKinds bytes ks → js ≡ ks
+same_kinds {js = js} {ks = ks} h k = same_goods js ks (sym h.good ∙ ap (map (λ t. t.kind)) (same_lexemes h.lexes k.lexes) ∙ k.good)
+
+one_tree : {o : Option StatementTree} {s t : StatementTree} → o ≡ Some s → o ≡ Some t → s ≡ t
+one_tree e f = cc
 
 -- no bytes spell two statements
 pub spells_once : (bytes : List ℕ) (s t : StatementTree) → Spells bytes s → Spells bytes t → s ≡ t
 spells_once bytes s t h k =
-    let same = same_kinds_of h.lexes k.lexes h.good k.good in
-    same_statement h.spelled (subst (λ ks. SpellsStatement (map terminal_of ks) t) (sym same) k.spelled)
+    let proper = lexed_proper h.kinds h.tokens.lexes h.tokens.good in
+    one_tree (statement_done proper h.spelled) (statement_done proper (subst (λ ks. SpellsStatement (map terminal_of ks) t) (sym (same_kinds h.tokens k.tokens)) k.spelled))
 
--- bytes past the limit spell nothing
-pub too_long : (bytes : List ℕ) → 1048576 < length bytes → (s : StatementTree) → Spells bytes s → ⊥
-too_long bytes long s h = omega (arith, long, h.short)
+some_or_none : {o : Option StatementTree} {s : StatementTree} → o ≡ None → o ≡ Some s → ⊥
+some_or_none e f = cc
 
--- bytes with a bad token spell nothing
-pub lexical : (bytes : List ℕ) → IsLexical bytes → (s : StatementTree) → Spells bytes s → ⊥
-lexical bytes bad s h = no_bad h.lexemes h.kinds h.good (subst SomeBad (same_lexemes bad.lexes h.lexes) bad.bad)
+-- why tokens are not read
+pub tokens_unread : (bytes : List ℕ) (e : ReadError) → length bytes ≤ BYTE_LIMIT → LexicalWhere e (IsLexical bytes) → Unread bytes e
+tokens_unread bytes cause.Lexical short h = record { short = short; lexical = h }
+tokens_unread bytes cause.Memory short h = tt
+tokens_unread bytes cause.Long short h = absurd h
+tokens_unread bytes cause.Nesting short h = absurd h
+tokens_unread bytes cause.Syntax short h = absurd h
 
-module _ (bytes : List ℕ) (ts : List Token) (are : AreTokens bytes ts) where
-  kinds_are : (s : StatementTree) (h : Spells bytes s) → terminals ts ≡ map terminal_of h.kinds
-  kinds_are s h = terminals_of ts ∙ ap (map terminal_of) (same_kinds_of are h.lexes (goods_of ts) h.good)
+module _ (bytes : List ℕ) (ts : List Token) (are : AreTokens bytes ts) (short : length bytes ≤ BYTE_LIMIT) where
+  kinds_are : AreKinds bytes (map (λ t. t.kind) ts)
+  kinds_are = record { lexemes = map lexeme_of ts; short = short; lexes = are; good = goods_of ts }
 
-  -- tokens of which one is too deep spell nothing
-  pub too_deep : Passes 512 [] (terminals ts) → (s : StatementTree) → Spells bytes s → ⊥
-  too_deep deep s h = h.shallow (subst (Passes 512 []) (kinds_are s h) deep)
+  -- a token is too deep
+  pub deep_unread : Passes LEVEL_LIMIT [] (terminals ts) → IsDeep bytes
+  deep_unread deep = record { kinds = map (λ t. t.kind) ts; tokens = kinds_are; deep = subst (Passes LEVEL_LIMIT []) (terminals_of ts) deep }
 
-  pub no_statement : NoStatement (terminals ts) → (s : StatementTree) → Spells bytes s → ⊥
-  no_statement none s h = none.none s (subst (λ us. SpellsStatement us s) (sym (kinds_are s h)) h.spelled)
+  module _ (shallow : Passes LEVEL_LIMIT [] (terminals ts) → ⊥) where
+    shallow_kinds : Passes LEVEL_LIMIT [] (map terminal_of (map (λ t. t.kind) ts)) → ⊥
+    shallow_kinds p = shallow (subst (Passes LEVEL_LIMIT []) (sym (terminals_of ts)) p)
 
-  pub spells : {s : StatementTree} → length bytes ≤ 1048576 → (Passes 512 [] (terminals ts) → ⊥) → SpellsStatement (terminals ts) s → Spells bytes s
-  spells {s} short shallow spelled = record {
-    lexemes = map lexeme_of ts;
-    kinds = map (λ t. t.kind) ts;
-    short = short;
-    lexes = are;
-    good = goods_of ts;
-    shallow = λ p. shallow (subst (Passes 512 []) (sym (terminals_of ts)) p);
-    spelled = subst (λ us. SpellsStatement us s) (terminals_of ts) spelled;
-  }
+    nothing_spelled : statement_read (terminals ts) ≡ None → SpellsNothing bytes
+    nothing_spelled none = record {
+      kinds = map (λ t. t.kind) ts;
+      tokens = kinds_are;
+      shallow = shallow_kinds;
+      none = λ s h. some_or_none none (statement_done (tokens_proper bytes ts are) (subst (λ us. SpellsStatement us s) (sym (terminals_of ts)) h));
+    }
+
+    -- the tokens spell no statement
+    pub statement_unread : (e : ReadError) → Refuses e (statement_read (terminals ts) ≡ None) → Unread bytes e
+    statement_unread cause.Syntax h = nothing_spelled h
+    statement_unread cause.Memory h = tt
+    statement_unread cause.Long h = absurd h
+    statement_unread cause.Lexical h = absurd h
+    statement_unread cause.Nesting h = absurd h
+
+    -- the tokens spell this statement
+    pub spells : (s : StatementTree) → statement_read (terminals ts) ≡ Some s → Spells bytes s
+    spells s e = record {
+      kinds = map (λ t. t.kind) ts;
+      tokens = kinds_are;
+      shallow = shallow_kinds;
+      spelled = subst (λ us. SpellsStatement us s) (terminals_of ts) (statement_sound (terminals ts) s (tokens_proper bytes ts are) e);
+    }
+
+  pub read_proper : (s : StatementTree) → statement_read (terminals ts) ≡ Some s → IsProper s
+  read_proper s e = let good = tokens_proper bytes ts are in proper_statement (statement_sound (terminals ts) s good e) good
 
 pushed : (done : List Token) (t : Token) (ts : List Lexeme) → map lexeme_of done ++ lexeme_of t ∷ ts ≡ map lexeme_of (done ++ t ∷ []) ++ ts
 pushed [] t ts = refl

@@ -4,7 +4,7 @@ use Rattle.redlog_reader.specs.declared.level.Group.{Group}
 use Rattle.redlog_reader.specs.declared.level.Levels.{Levels}
 use Rattle.redlog_reader.specs.declared.terminal.Terminal.{Terminal}
 use Rattle.redlog_reader.specs.declared.terminal.Terminal.TheVariants as terminal
-use Rattle.redlog_reader.specs.declared.terminal.Mark.TheVariants as mark
+use Rattle.redlog_reader.specs.declared.terminal.Word.TheVariants as word
 use Rattle.redlog_reader.specs.Levels.{weight, groups, run, run_before}
 
 -- the level of the last token
@@ -33,10 +33,11 @@ pub record AreLevels (l : Levels) (before : List Terminal) : Type 0 where
 
 -- ex or all
 abbrev pub is_binder : Terminal → Bool
-is_binder (terminal.Mark mark.Binder) = true
+is_binder (terminal.Word word.Ex) = true
+is_binder (terminal.Word word.All) = true
 is_binder _ = false
 
 -- not
 abbrev pub is_not : Terminal → Bool
-is_not (terminal.Mark mark.Not) = true
+is_not (terminal.Word word.Not) = true
 is_not _ = false

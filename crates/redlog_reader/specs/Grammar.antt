@@ -1,60 +1,36 @@
 -- What terminals spell, line by line. Each relation is between terminals, what they spell, and the terminals that
--- are left after it. A list may end at any of its members: nothing looks ahead.
-use Rattle.std.specs.Prelude.{◌≡◌, ℕ, Bool, true, false, List, [], ◌∷◌, pos, neg_ℤ}
-use Rattle.formula_meaning.specs.Formula.{Yes, No, One, Not, And, Or}
+-- are left after it. A list may end at any of its members: nothing looks ahead. A list that groups to the left is
+-- given by what stands before it.
+use Rattle.std.specs.Prelude.{◌≡◌, ℕ, Bool, true, false, List, [], ◌∷◌, ◌++◌, map, codes, bytes_eq, ◌||◌, if◌then◌else◌, Option, Some, None, pos, neg_ℤ}
+use Rattle.std.specs.Char.{to_ascii_lowercase}
+use Rattle.formula_meaning.specs.Formula.{Yes, No, One, Not, And, Or, Impl, Repl, Equiv, Ex, All}
 use Rattle.qe_syntax.specs.declared.tree.Literal.{Literal}
 use Rattle.qe_syntax.specs.declared.tree.Literal.TheVariants.{Fits, Past}
 use Rattle.qe_syntax.specs.declared.tree.Relation.{Relation}
-use Rattle.qe_syntax.specs.declared.tree.Relation.TheVariants.{Equal}
+use Rattle.qe_syntax.specs.declared.tree.Relation.TheVariants.{Equal, Differs}
+use Rattle.qe_syntax.specs.declared.statement.Setting.{Setting}
+use Rattle.qe_syntax.specs.declared.statement.Setting.TheVariants.{Ofsf, Pasf}
 use Rattle.qe_syntax.specs.declared.statement.PointEntry.{PointEntry}
-use Rattle.qe_syntax.specs.Trees.{TermTree, Number, Named, Sum, Product, Negative, terms_of, Compare, FormulaTree, formulas_of}
-use Rattle.qe_syntax.specs.Statements.{StatementTree, Say, Holds}
+use Rattle.qe_syntax.specs.Trees.{TermTree, Number, Named, Sum, Product, Quotient, Power, Negative, terms_of, Compare, Cong, Ncong, Bound, FormulaTree, formulas_of}
+use Rattle.qe_syntax.specs.Statements.{CommandTree, Echo, Nnf, Pnf, Dnf, Cnf, Simpl, Qe, Qea, Holds, Sample, ActionTree, Empty, Ignored, Finish, Choose, Say, Assign, StatementTree}
 use Rattle.redlog_reader.specs.declared.terminal.Terminal.{Terminal}
 use Rattle.redlog_reader.specs.declared.terminal.Terminal.TheVariants as terminal
 use Rattle.redlog_reader.specs.declared.terminal.Mark.{Mark}
 use Rattle.redlog_reader.specs.declared.terminal.Mark.TheVariants as mark
+use Rattle.redlog_reader.specs.declared.terminal.Word.{Word}
+use Rattle.redlog_reader.specs.declared.terminal.Word.TheVariants as word
 
--- part = number | name | number "*" name
-pub data Part : List Terminal → TermTree → List Terminal → Type 0 where
-  number : {n : Literal} {rest : List Terminal} → Part (terminal.Number n ∷ rest) (Number n) rest
-  name : {x : List ℕ} {rest : List Terminal} → Part (terminal.Name x ∷ rest) (Named x) rest
-  product : {n : Literal} {x : List ℕ} {rest : List Terminal}
-      → Part (terminal.Number n ∷ terminal.Mark mark.Times ∷ terminal.Name x ∷ rest) (Product (terms_of (Number n ∷ Named x ∷ []))) rest
-
--- the sign - or +
-abbrev pub sign_mark : Bool → Mark
-sign_mark true = mark.Minus
-sign_mark false = mark.Plus
-
--- the term with the sign -, or as it is: a + leaves no trace
-abbrev pub signed_term : Bool → TermTree → TermTree
-signed_term true t = Negative t
-signed_term false t = t
-
--- part { ( "+" | "-" ) part }*, where the sign before the first part is given
-pub data Parts : Bool → List Terminal → List TermTree → List Terminal → Type 0 where
-  last_part : {minus : Bool} {ts rest : List Terminal} {t : TermTree} → Part ts t rest → Parts minus ts (signed_term minus t ∷ []) rest
-  more_parts : {minus next : Bool} {ts us rest : List Terminal} {t : TermTree} {more : List TermTree}
-      → Part ts t (terminal.Mark (sign_mark next) ∷ us) → Parts next us more rest → Parts minus ts (signed_term minus t ∷ more) rest
+-- the product of the factors, or the factor where there is one alone
+abbrev pub product_of : List TermTree → TermTree
+product_of [] = Product (terms_of [])
+product_of (t ∷ []) = t
+product_of (t ∷ u ∷ more) = Product (terms_of (t ∷ u ∷ more))
 
 -- the sum of the members, or the member where there is one alone
 abbrev pub sum_of : List TermTree → TermTree
 sum_of [] = Sum (terms_of [])
 sum_of (t ∷ []) = t
 sum_of (t ∷ u ∷ more) = Sum (terms_of (t ∷ u ∷ more))
-
--- sum = [ "+" | "-" ] part { ( "+" | "-" ) part }*
-pub data SpellsSum : List Terminal → TermTree → List Terminal → Type 0 where
-  bare : {ts rest : List Terminal} {s : TermTree} {members : List TermTree} → Parts false ts members rest → s ≡ sum_of members → SpellsSum ts s rest
-  plus : {ts rest : List Terminal} {s : TermTree} {members : List TermTree}
-      → Parts false ts members rest → s ≡ sum_of members → SpellsSum (terminal.Mark mark.Plus ∷ ts) s rest
-  minus : {ts rest : List Terminal} {s : TermTree} {members : List TermTree}
-      → Parts true ts members rest → s ≡ sum_of members → SpellsSum (terminal.Mark mark.Minus ∷ ts) s rest
-
--- comparison = sum relation sum
-pub data SpellsComparison : List Terminal → FormulaTree → List Terminal → Type 0 where
-  comparison : {ts us rest : List Terminal} {r : Relation} {s t : TermTree}
-      → SpellsSum ts s (terminal.Relation r ∷ us) → SpellsSum us t rest → SpellsComparison ts (One (Compare r s t)) rest
 
 -- the conjunction of the members, or the member where there is one alone
 abbrev pub conjunction_of : List FormulaTree → FormulaTree
@@ -68,36 +44,168 @@ disjunction_of [] = Or (formulas_of [])
 disjunction_of (f ∷ []) = f
 disjunction_of (f ∷ g ∷ more) = Or (formulas_of (f ∷ g ∷ more))
 
+-- all, or ex
+abbrev pub quantifier : Bool → List ℕ → FormulaTree → FormulaTree
+quantifier true x f = All x f
+quantifier false x f = Ex x f
+
+-- a quantifier for each name, the first one outermost
+abbrev pub quantified : Bool → List (List ℕ) → FormulaTree → FormulaTree
+quantified universal [] f = f
+quantified universal (x ∷ xs) f = quantifier universal x (quantified universal xs f)
+
+-- the word of the quantifier: all, or ex
+abbrev pub quantifier_word : Bool → Word
+quantifier_word true = word.All
+quantifier_word false = word.Ex
+
 mutual
-  -- formula = andf { "or" andf }*
-  pub data SpellsFormula : List Terminal → FormulaTree → List Terminal → Type 0 where
-    disjunction : {ts rest : List Terminal} {f : FormulaTree} {members : List FormulaTree}
-        → Disjuncts ts members rest → f ≡ disjunction_of members → SpellsFormula ts f rest
+  -- factor = number | name | "(" sum ")"
+  pub data SpellsFactor : List Terminal → TermTree → List Terminal → Type 0 where
+    number : {n : Literal} {rest : List Terminal} → SpellsFactor (terminal.Number n ∷ rest) (Number n) rest
+    variable : {x : List ℕ} {rest : List Terminal} → SpellsFactor (terminal.Name x ∷ rest) (Named x) rest
+    inner_sum : {ts rest : List Terminal} {t : TermTree} → SpellsSum ts t (terminal.Mark mark.Close ∷ rest) → SpellsFactor (terminal.Mark mark.Open ∷ ts) t rest
 
-  -- andf { "or" andf }*
-  pub data Disjuncts : List Terminal → List FormulaTree → List Terminal → Type 0 where
-    last_disjunct : {ts rest : List Terminal} {f : FormulaTree} → SpellsConjunction ts f rest → Disjuncts ts (f ∷ []) rest
-    more_disjuncts : {ts us rest : List Terminal} {f : FormulaTree} {more : List FormulaTree}
-        → SpellsConjunction ts f (terminal.Mark mark.Or ∷ us) → Disjuncts us more rest → Disjuncts ts (f ∷ more) rest
+  -- power = factor [ ("^"|"**") number ]
+  pub data SpellsPower : List Terminal → TermTree → List Terminal → Type 0 where
+    first_power : {ts rest : List Terminal} {t : TermTree} → SpellsFactor ts t rest → SpellsPower ts t rest
+    raised : {ts rest : List Terminal} {t : TermTree} {n : Literal} → SpellsFactor ts t (terminal.Mark mark.Power ∷ terminal.Number n ∷ rest) → SpellsPower ts (Power t n) rest
 
-  -- andf = notf { "and" notf }*
-  pub data SpellsConjunction : List Terminal → FormulaTree → List Terminal → Type 0 where
-    conjunction : {ts rest : List Terminal} {f : FormulaTree} {members : List FormulaTree}
-        → Conjuncts ts members rest → f ≡ conjunction_of members → SpellsConjunction ts f rest
+  -- product = power { ("*"|"/") power }*, grouped to the left
+  pub data SpellsProduct : List Terminal → TermTree → List Terminal → Type 0 where
+    product : {ts us rest : List Terminal} {t p : TermTree} → SpellsPower ts t us → Factors (t ∷ []) us p rest → SpellsProduct ts p rest
 
-  -- notf { "and" notf }*
-  pub data Conjuncts : List Terminal → List FormulaTree → List Terminal → Type 0 where
-    last_conjunct : {ts rest : List Terminal} {f : FormulaTree} → SpellsNegation ts f rest → Conjuncts ts (f ∷ []) rest
-    more_conjuncts : {ts us rest : List Terminal} {f : FormulaTree} {more : List FormulaTree}
-        → SpellsNegation ts f (terminal.Mark mark.And ∷ us) → Conjuncts us more rest → Conjuncts ts (f ∷ more) rest
+  -- { ("*"|"/") power }* after these factors: neighbouring * make one product, and / a quotient of what stands before it
+  pub data Factors : List TermTree → List Terminal → TermTree → List Terminal → Type 0 where
+    no_factor : {before : List TermTree} {rest : List Terminal} {p : TermTree} → p ≡ product_of before → Factors before rest p rest
+    times : {before : List TermTree} {us vs rest : List Terminal} {t p : TermTree} → SpellsPower us t vs → Factors (before ++ t ∷ []) vs p rest → Factors before (terminal.Mark mark.Times ∷ us) p rest
+    over : {before : List TermTree} {us vs rest : List Terminal} {t p : TermTree} → SpellsPower us t vs → Factors (Quotient (product_of before) t ∷ []) vs p rest → Factors before (terminal.Mark mark.Slash ∷ us) p rest
 
-  -- notf = "not" notf | comparison | "true" | "false" | "(" formula ")"
+  -- sum = [ "+" | "-" ] product { ("+"|"-") product }*; a leading + leaves no trace
+  pub data SpellsSum : List Terminal → TermTree → List Terminal → Type 0 where
+    sum : {ts us rest : List Terminal} {t s : TermTree} → SpellsProduct ts t us → Members (t ∷ []) us s rest → SpellsSum ts s rest
+    plus_sum : {ts us rest : List Terminal} {t s : TermTree} → SpellsProduct ts t us → Members (t ∷ []) us s rest → SpellsSum (terminal.Mark mark.Plus ∷ ts) s rest
+    minus_sum : {ts us rest : List Terminal} {t s : TermTree} → SpellsProduct ts t us → Members (Negative t ∷ []) us s rest → SpellsSum (terminal.Mark mark.Minus ∷ ts) s rest
+
+  -- { ("+"|"-") product }* after these members
+  pub data Members : List TermTree → List Terminal → TermTree → List Terminal → Type 0 where
+    no_member : {before : List TermTree} {rest : List Terminal} {s : TermTree} → s ≡ sum_of before → Members before rest s rest
+    plus : {before : List TermTree} {us vs rest : List Terminal} {t s : TermTree} → SpellsProduct us t vs → Members (before ++ t ∷ []) vs s rest → Members before (terminal.Mark mark.Plus ∷ us) s rest
+    minus : {before : List TermTree} {us vs rest : List Terminal} {t s : TermTree} → SpellsProduct us t vs → Members (before ++ Negative t ∷ []) vs s rest → Members before (terminal.Mark mark.Minus ∷ us) s rest
+
+-- relation = "=" | "<>" | "neq" | "<" | "<=" | ">" | ">="
+pub data IsRelation : Terminal → Relation → Type 0 where
+  relation_sign : {r : Relation} → IsRelation (terminal.Relation r) r
+  relation_word : IsRelation (terminal.Word word.Neq) Differs
+
+-- comparison = sum relation sum
+pub data SpellsComparison : List Terminal → FormulaTree → List Terminal → Type 0 where
+  comparison : {ts us rest : List Terminal} {sign : Terminal} {r : Relation} {s t : TermTree}
+      → SpellsSum ts s (sign ∷ us) → IsRelation sign r → SpellsSum us t rest → SpellsComparison ts (One (Compare r s t)) rest
+
+-- congruence = ("cong"|"ncong") "(" sum "," sum "," sum ")"
+pub data SpellsCongruence : List Terminal → FormulaTree → List Terminal → Type 0 where
+  congruent : {ts us vs rest : List Terminal} {s t modulus : TermTree}
+      → SpellsSum ts s (terminal.Mark mark.Comma ∷ us) → SpellsSum us t (terminal.Mark mark.Comma ∷ vs) → SpellsSum vs modulus (terminal.Mark mark.Close ∷ rest)
+      → SpellsCongruence (terminal.Word word.Cong ∷ terminal.Mark mark.Open ∷ ts) (One (Cong s t modulus)) rest
+  incongruent : {ts us vs rest : List Terminal} {s t modulus : TermTree}
+      → SpellsSum ts s (terminal.Mark mark.Comma ∷ us) → SpellsSum us t (terminal.Mark mark.Comma ∷ vs) → SpellsSum vs modulus (terminal.Mark mark.Close ∷ rest)
+      → SpellsCongruence (terminal.Word word.Ncong ∷ terminal.Mark mark.Open ∷ ts) (One (Ncong s t modulus)) rest
+
+-- atom = comparison | congruence
+pub data SpellsAtom : List Terminal → FormulaTree → List Terminal → Type 0 where
+  compared_atom : {ts rest : List Terminal} {f : FormulaTree} → SpellsComparison ts f rest → SpellsAtom ts f rest
+  congruent_atom : {ts rest : List Terminal} {f : FormulaTree} → SpellsCongruence ts f rest → SpellsAtom ts f rest
+
+-- name { "," name }*
+pub data Names : List Terminal → List (List ℕ) → List Terminal → Type 0 where
+  last_name : {x : List ℕ} {rest : List Terminal} → Names (terminal.Name x ∷ rest) (x ∷ []) rest
+  more_names : {x : List ℕ} {xs : List (List ℕ)} {ts rest : List Terminal} → Names ts xs rest → Names (terminal.Name x ∷ terminal.Mark mark.Comma ∷ ts) (x ∷ xs) rest
+
+-- name | "{" name { "," name }* "}"
+pub data SpellsNames : List Terminal → List (List ℕ) → List Terminal → Type 0 where
+  one_name : {x : List ℕ} {rest : List Terminal} → SpellsNames (terminal.Name x ∷ rest) (x ∷ []) rest
+  many_names : {xs : List (List ℕ)} {ts rest : List Terminal} → Names ts xs (terminal.Mark mark.CloseBrace ∷ rest) → SpellsNames (terminal.Mark mark.OpenBrace ∷ ts) xs rest
+
+mutual
+  -- prime = "true" | "false" | name | congruence | "(" formula ")"
+  --     | ("ex"|"all") "(" ( name | "{" name { "," name }* "}" ) "," formula ")"
+  pub data SpellsPrime : List Terminal → FormulaTree → List Terminal → Type 0 where
+    truth : {rest : List Terminal} → SpellsPrime (terminal.Word word.True ∷ rest) Yes rest
+    falsity : {rest : List Terminal} → SpellsPrime (terminal.Word word.False ∷ rest) No rest
+    named_formula : {x : List ℕ} {rest : List Terminal} → SpellsPrime (terminal.Name x ∷ rest) (One (Bound x)) rest
+    congruence : {ts rest : List Terminal} {f : FormulaTree} → SpellsCongruence ts f rest → SpellsPrime ts f rest
+    inner_formula : {ts rest : List Terminal} {f : FormulaTree} → SpellsFormula ts f (terminal.Mark mark.Close ∷ rest) → SpellsPrime (terminal.Mark mark.Open ∷ ts) f rest
+    exists : {ts us rest : List Terminal} {xs : List (List ℕ)} {f g : FormulaTree}
+        → SpellsNames ts xs (terminal.Mark mark.Comma ∷ us) → SpellsFormula us f (terminal.Mark mark.Close ∷ rest) → g ≡ quantified false xs f → SpellsPrime (terminal.Word word.Ex ∷ terminal.Mark mark.Open ∷ ts) g rest
+    for_all : {ts us rest : List Terminal} {xs : List (List ℕ)} {f g : FormulaTree}
+        → SpellsNames ts xs (terminal.Mark mark.Comma ∷ us) → SpellsFormula us f (terminal.Mark mark.Close ∷ rest) → g ≡ quantified true xs f → SpellsPrime (terminal.Word word.All ∷ terminal.Mark mark.Open ∷ ts) g rest
+
+  -- notf = "not" notf | comparison | prime
   pub data SpellsNegation : List Terminal → FormulaTree → List Terminal → Type 0 where
-    negated : {ts rest : List Terminal} {f : FormulaTree} → SpellsNegation ts f rest → SpellsNegation (terminal.Mark mark.Not ∷ ts) (Not f) rest
+    negation : {ts rest : List Terminal} {f : FormulaTree} → SpellsNegation ts f rest → SpellsNegation (terminal.Word word.Not ∷ ts) (Not f) rest
     compared : {ts rest : List Terminal} {f : FormulaTree} → SpellsComparison ts f rest → SpellsNegation ts f rest
-    truth : {rest : List Terminal} → SpellsNegation (terminal.Mark mark.True ∷ rest) Yes rest
-    falsity : {rest : List Terminal} → SpellsNegation (terminal.Mark mark.False ∷ rest) No rest
-    inner : {ts rest : List Terminal} {f : FormulaTree} → SpellsFormula ts f (terminal.Mark mark.Close ∷ rest) → SpellsNegation (terminal.Mark mark.Open ∷ ts) f rest
+    prime : {ts rest : List Terminal} {f : FormulaTree} → SpellsPrime ts f rest → SpellsNegation ts f rest
+
+  -- andf = notf { "and" notf }*, one list of all members
+  pub data SpellsConjunction : List Terminal → FormulaTree → List Terminal → Type 0 where
+    conjunction : {ts us rest : List Terminal} {f g : FormulaTree} → SpellsNegation ts f us → Conjuncts (f ∷ []) us g rest → SpellsConjunction ts g rest
+
+  -- { "and" notf }* after these members
+  pub data Conjuncts : List FormulaTree → List Terminal → FormulaTree → List Terminal → Type 0 where
+    no_conjunct : {before : List FormulaTree} {rest : List Terminal} {g : FormulaTree} → g ≡ conjunction_of before → Conjuncts before rest g rest
+    conjunct : {before : List FormulaTree} {us vs rest : List Terminal} {f g : FormulaTree} → SpellsNegation us f vs → Conjuncts (before ++ f ∷ []) vs g rest → Conjuncts before (terminal.Word word.And ∷ us) g rest
+
+  -- orf = andf { "or" andf }*, one list of all members
+  pub data SpellsDisjunction : List Terminal → FormulaTree → List Terminal → Type 0 where
+    disjunction : {ts us rest : List Terminal} {f g : FormulaTree} → SpellsConjunction ts f us → Disjuncts (f ∷ []) us g rest → SpellsDisjunction ts g rest
+
+  -- { "or" andf }* after these members
+  pub data Disjuncts : List FormulaTree → List Terminal → FormulaTree → List Terminal → Type 0 where
+    no_disjunct : {before : List FormulaTree} {rest : List Terminal} {g : FormulaTree} → g ≡ disjunction_of before → Disjuncts before rest g rest
+    disjunct : {before : List FormulaTree} {us vs rest : List Terminal} {f g : FormulaTree} → SpellsConjunction us f vs → Disjuncts (before ++ f ∷ []) vs g rest → Disjuncts before (terminal.Word word.Or ∷ us) g rest
+
+  -- implf = orf [ "impl" implf ], grouped to the right
+  pub data SpellsImplication : List Terminal → FormulaTree → List Terminal → Type 0 where
+    no_implication : {ts rest : List Terminal} {f : FormulaTree} → SpellsDisjunction ts f rest → SpellsImplication ts f rest
+    implication : {ts us rest : List Terminal} {f g : FormulaTree} → SpellsDisjunction ts f (terminal.Word word.Impl ∷ us) → SpellsImplication us g rest → SpellsImplication ts (Impl f g) rest
+
+  -- replf = implf { "repl" implf }*, grouped to the left
+  pub data SpellsReplication : List Terminal → FormulaTree → List Terminal → Type 0 where
+    replication : {ts us rest : List Terminal} {f g : FormulaTree} → SpellsImplication ts f us → Repls f us g rest → SpellsReplication ts g rest
+
+  -- { "repl" implf }* after this formula
+  pub data Repls : FormulaTree → List Terminal → FormulaTree → List Terminal → Type 0 where
+    no_repl : {before : FormulaTree} {rest : List Terminal} {g : FormulaTree} → g ≡ before → Repls before rest g rest
+    repl : {before : FormulaTree} {us vs rest : List Terminal} {f g : FormulaTree} → SpellsImplication us f vs → Repls (Repl before f) vs g rest → Repls before (terminal.Word word.Repl ∷ us) g rest
+
+  -- formula = replf { "equiv" replf }*, grouped to the left
+  pub data SpellsFormula : List Terminal → FormulaTree → List Terminal → Type 0 where
+    equivalence : {ts us rest : List Terminal} {f g : FormulaTree} → SpellsReplication ts f us → Equivs f us g rest → SpellsFormula ts g rest
+
+  -- { "equiv" replf }* after this formula
+  pub data Equivs : FormulaTree → List Terminal → FormulaTree → List Terminal → Type 0 where
+    no_equiv : {before : FormulaTree} {rest : List Terminal} {g : FormulaTree} → g ≡ before → Equivs before rest g rest
+    equiv : {before : FormulaTree} {us vs rest : List Terminal} {f g : FormulaTree} → SpellsReplication us f vs → Equivs (Equiv before f) vs g rest → Equivs before (terminal.Word word.Equiv ∷ us) g rest
+
+-- the letter in lower case
+
+-- the context that a name names, in any letter case
+unfoldable pub setting_of : List ℕ → Option Setting
+setting_of x =
+    let name = map to_ascii_lowercase x in
+    if bytes_eq name (codes "ofsf") || bytes_eq name (codes "r") || bytes_eq name (codes "reals") then Some Ofsf
+    else (if bytes_eq name (codes "pasf") || bytes_eq name (codes "z") || bytes_eq name (codes "integers") then Some Pasf else None)
+
+-- any = a name or a word
+pub data IsAny : Terminal → Type 0 where
+  any_name : {x : List ℕ} → IsAny (terminal.Name x)
+  any_word : {w : Word} → IsAny (terminal.Word w)
+
+-- any { "," any }*
+pub data SpellsAnys : List Terminal → List Terminal → Type 0 where
+  last_any : {t : Terminal} {rest : List Terminal} → IsAny t → SpellsAnys (t ∷ rest) rest
+  more_anys : {t : Terminal} {ts rest : List Terminal} → IsAny t → SpellsAnys ts rest → SpellsAnys (t ∷ terminal.Mark mark.Comma ∷ ts) rest
 
 -- the number with the other sign
 abbrev pub opposite : Literal → Literal
@@ -119,25 +227,69 @@ pub data SpellsEntry : List Terminal → PointEntry → List Terminal → Type 0
   entry : {ts us rest : List Terminal} {e : PointEntry} {x : List ℕ}
       → x ≡ e.name → Above ts e.above us → Below us e.below rest → SpellsEntry (terminal.Name x ∷ terminal.Relation Equal ∷ ts) e rest
 
--- entry { "," entry }*
-pub data Listed : List Terminal → List PointEntry → List Terminal → Type 0 where
-  last_entry : {ts rest : List Terminal} {e : PointEntry} → SpellsEntry ts e rest → Listed ts (e ∷ []) rest
-  more_entries : {ts us rest : List Terminal} {e : PointEntry} {more : List PointEntry}
-      → SpellsEntry ts e (terminal.Mark mark.Comma ∷ us) → Listed us more rest → Listed ts (e ∷ more) rest
+-- item { "," item }*
+pub data Listed {X : Type 0} (Item : List Terminal → X → List Terminal → Type 0) : List Terminal → List X → List Terminal → Type 0 where
+  last_item : {ts rest : List Terminal} {x : X} → Item ts x rest → Listed Item ts (x ∷ []) rest
+  more_items : {ts us rest : List Terminal} {x : X} {more : List X} → Item ts x (terminal.Mark mark.Comma ∷ us) → Listed Item us more rest → Listed Item ts (x ∷ more) rest
+
+-- "{" [ item { "," item }* ] "}"
+pub data Braced {X : Type 0} (Item : List Terminal → X → List Terminal → Type 0) : List Terminal → List X → List Terminal → Type 0 where
+  empty : {rest : List Terminal} → Braced Item (terminal.Mark mark.OpenBrace ∷ terminal.Mark mark.CloseBrace ∷ rest) [] rest
+  listed : {ts rest : List Terminal} {xs : List X} → Listed Item ts xs (terminal.Mark mark.CloseBrace ∷ rest) → Braced Item (terminal.Mark mark.OpenBrace ∷ ts) xs rest
 
 -- point = "{" [ entry { "," entry }* ] "}"
-pub data SpellsPoint : List Terminal → List PointEntry → List Terminal → Type 0 where
-  empty : {rest : List Terminal} → SpellsPoint (terminal.Mark mark.OpenBrace ∷ terminal.Mark mark.CloseBrace ∷ rest) [] rest
-  listed : {ts rest : List Terminal} {entries : List PointEntry}
-      → Listed ts entries (terminal.Mark mark.CloseBrace ∷ rest) → SpellsPoint (terminal.Mark mark.OpenBrace ∷ ts) entries rest
+abbrev pub SpellsPoint : List Terminal → List PointEntry → List Terminal → Type 0
+SpellsPoint = Braced SpellsEntry
 
--- the mark that ends a statement
+-- "{" [ atom { "," atom }* ] "}"
+abbrev pub SpellsAtoms : List Terminal → List FormulaTree → List Terminal → Type 0
+SpellsAtoms = Braced SpellsAtom
+
+-- argument = prime | "(" formula "," "{" [ atom { "," atom }* ] "}" ")"
+pub data SpellsArgument : List Terminal → FormulaTree → List FormulaTree → List Terminal → Type 0 where
+  alone : {ts rest : List Terminal} {f : FormulaTree} → SpellsPrime ts f rest → SpellsArgument ts f [] rest
+  under : {ts us rest : List Terminal} {f : FormulaTree} {given : List FormulaTree}
+      → SpellsFormula ts f (terminal.Mark mark.Comma ∷ us) → SpellsAtoms us given (terminal.Mark mark.Close ∷ rest) → SpellsArgument (terminal.Mark mark.Open ∷ ts) f given rest
+
+-- result = formula | ("rlnnf"|"rlpnf"|"rldnf"|"rlcnf") prime | ("rlsimpl"|"rlqe") argument
+pub data SpellsResult : List Terminal → CommandTree → List Terminal → Type 0 where
+  echo : {ts rest : List Terminal} {f : FormulaTree} → SpellsFormula ts f rest → SpellsResult ts (Echo f) rest
+  nnf : {ts rest : List Terminal} {f : FormulaTree} → SpellsPrime ts f rest → SpellsResult (terminal.Word word.Nnf ∷ ts) (Nnf f) rest
+  pnf : {ts rest : List Terminal} {f : FormulaTree} → SpellsPrime ts f rest → SpellsResult (terminal.Word word.Pnf ∷ ts) (Pnf f) rest
+  dnf : {ts rest : List Terminal} {f : FormulaTree} → SpellsPrime ts f rest → SpellsResult (terminal.Word word.Dnf ∷ ts) (Dnf f) rest
+  cnf : {ts rest : List Terminal} {f : FormulaTree} → SpellsPrime ts f rest → SpellsResult (terminal.Word word.Cnf ∷ ts) (Cnf f) rest
+  simpl : {ts rest : List Terminal} {f : FormulaTree} {given : List FormulaTree} → SpellsArgument ts f given rest → SpellsResult (terminal.Word word.Simpl ∷ ts) (Simpl f (formulas_of given)) rest
+  qe : {ts rest : List Terminal} {f : FormulaTree} {given : List FormulaTree} → SpellsArgument ts f given rest → SpellsResult (terminal.Word word.Qe ∷ ts) (Qe f (formulas_of given)) rest
+
+-- query = "rlqea" argument | ("rlholds"|"rlwitness") "(" formula "," point ")"
+pub data SpellsQuery : List Terminal → CommandTree → List Terminal → Type 0 where
+  qea : {ts rest : List Terminal} {f : FormulaTree} {given : List FormulaTree} → SpellsArgument ts f given rest → SpellsQuery (terminal.Word word.Qea ∷ ts) (Qea f (formulas_of given)) rest
+  holds : {ts us rest : List Terminal} {f : FormulaTree} {es : List PointEntry}
+      → SpellsFormula ts f (terminal.Mark mark.Comma ∷ us) → SpellsPoint us es (terminal.Mark mark.Close ∷ rest) → SpellsQuery (terminal.Word word.Holds ∷ terminal.Mark mark.Open ∷ ts) (Holds f es) rest
+  witness : {ts us rest : List Terminal} {f : FormulaTree} {es : List PointEntry}
+      → SpellsFormula ts f (terminal.Mark mark.Comma ∷ us) → SpellsPoint us es (terminal.Mark mark.Close ∷ rest) → SpellsQuery (terminal.Word word.Witness ∷ terminal.Mark mark.Open ∷ ts) (Sample f es) rest
+
+-- action = name ":=" result | result | query | "rlset" context
+--     | "load_package" any { "," any }* | ("on" | "off") any { "," any }* | "end" | "bye" | "quit"
+pub data SpellsAction : List Terminal → ActionTree → List Terminal → Type 0 where
+  assign : {x : List ℕ} {ts rest : List Terminal} {c : CommandTree} → SpellsResult ts c rest → SpellsAction (terminal.Name x ∷ terminal.Mark mark.Assign ∷ ts) (Assign x c) rest
+  result : {ts rest : List Terminal} {c : CommandTree} → SpellsResult ts c rest → SpellsAction ts (Say c) rest
+  query : {ts rest : List Terminal} {c : CommandTree} → SpellsQuery ts c rest → SpellsAction ts (Say c) rest
+  choose : {x : List ℕ} {s : Setting} {rest : List Terminal} → setting_of x ≡ Some s → SpellsAction (terminal.Word word.Set ∷ terminal.Name x ∷ rest) (Choose s) rest
+  load : {ts rest : List Terminal} → SpellsAnys ts rest → SpellsAction (terminal.Word word.Load ∷ ts) Ignored rest
+  on : {ts rest : List Terminal} → SpellsAnys ts rest → SpellsAction (terminal.Word word.On ∷ ts) Ignored rest
+  off : {ts rest : List Terminal} → SpellsAnys ts rest → SpellsAction (terminal.Word word.Off ∷ ts) Ignored rest
+  end : {rest : List Terminal} → SpellsAction (terminal.Word word.End ∷ rest) Finish rest
+  bye : {rest : List Terminal} → SpellsAction (terminal.Word word.Bye ∷ rest) Finish rest
+  quit : {rest : List Terminal} → SpellsAction (terminal.Word word.Quit ∷ rest) Finish rest
+
+-- the mark that ends a statement: ; where it is printed, $ where it is not
 abbrev pub end_mark : Bool → Mark
 end_mark true = mark.Semicolon
 end_mark false = mark.Dollar
 
--- statement = "rlholds" "(" formula "," point ")" ( ";" | "$" ); it is printed where it ends with ;
+-- statement = [ action ] end, end = ";" | "$"
 pub data SpellsStatement : List Terminal → StatementTree → Type 0 where
-  holds : {ts us : List Terminal} {f : FormulaTree} {es : List PointEntry} {printed : Bool} {s : StatementTree}
-      → SpellsFormula ts f (terminal.Mark mark.Comma ∷ us) → SpellsPoint us es (terminal.Mark mark.Close ∷ terminal.Mark (end_mark printed) ∷ [])
-      → s ≡ record { action = Say (Holds f es); printed = printed } → SpellsStatement (terminal.Mark mark.Holds ∷ terminal.Mark mark.Open ∷ ts) s
+  nothing : {printed : Bool} {s : StatementTree} → s ≡ record { action = Empty; printed = printed } → SpellsStatement (terminal.Mark (end_mark printed) ∷ []) s
+  acting : {ts : List Terminal} {a : ActionTree} {printed : Bool} {s : StatementTree}
+      → SpellsAction ts a (terminal.Mark (end_mark printed) ∷ []) → s ≡ record { action = a; printed = printed } → SpellsStatement ts s

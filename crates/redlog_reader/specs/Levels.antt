@@ -6,6 +6,7 @@ use Rattle.redlog_reader.specs.declared.level.Group.{Group}
 use Rattle.redlog_reader.specs.declared.terminal.Terminal.{Terminal}
 use Rattle.redlog_reader.specs.declared.terminal.Terminal.TheVariants as terminal
 use Rattle.redlog_reader.specs.declared.terminal.Mark.TheVariants as mark
+use Rattle.redlog_reader.specs.declared.terminal.Word.TheVariants as word
 
 -- What counts in an open group: opened is 1 for its bracket with each not of the run before that, arrows are the words
 -- impl, repl and equiv since the group's last comma, and slashes its / since its last token that no product goes on with.
@@ -20,13 +21,14 @@ outside = record { opened = 0; arrows = 0; slashes = 0 }
 -- how many of these tokens, the last of which comes first, are the run of not that ends there
 abbrev pub run : List Terminal → ℕ
 run [] = 0
-run (terminal.Mark mark.Not ∷ before) = suc (run before)
+run (terminal.Word word.Not ∷ before) = suc (run before)
 run (_ ∷ before) = 0
 
 -- the run that stands just before a bracket, or just before the ex or all of one
 abbrev pub run_before : List Terminal → ℕ
 run_before [] = 0
-run_before (terminal.Mark mark.Binder ∷ before) = run before
+run_before (terminal.Word word.Ex ∷ before) = run before
+run_before (terminal.Word word.All ∷ before) = run before
 run_before (t ∷ before) = run (t ∷ before)
 
 -- an open group after one more token that is no bracket
@@ -37,7 +39,9 @@ after (terminal.Mark mark.Times) g = g
 after (terminal.Mark mark.Power) g = g
 after (terminal.Mark mark.Slash) g = record g { slashes = suc g.slashes }
 after (terminal.Mark mark.Comma) g = record g { arrows = 0; slashes = 0 }
-after (terminal.Mark mark.Arrow) g = record g { arrows = suc g.arrows; slashes = 0 }
+after (terminal.Word word.Impl) g = record g { arrows = suc g.arrows; slashes = 0 }
+after (terminal.Word word.Repl) g = record g { arrows = suc g.arrows; slashes = 0 }
+after (terminal.Word word.Equiv) g = record g { arrows = suc g.arrows; slashes = 0 }
 after _ g = record g { slashes = 0 }
 
 -- how a token changes the open groups

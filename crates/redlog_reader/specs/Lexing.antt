@@ -1,6 +1,7 @@
 -- What bytes spell as tokens: the longest token each time, with blanks and comments between tokens dropped.
-use Rattle.std.specs.Prelude.{◌≡◌, ℕ, ◌+◌, ◌-◌, ◌*◌, ◌^◌, Bool, not, ◌&&◌, ◌||◌, List, [], ◌∷◌, length, map, ◌⊎◌, take, drop, codes, bytes_eq, nat_lt, nat_le, ◌==◌, if◌then◌else◌, Option, Some, None, pos}
-use Rattle.std.specs.List.{list_any, list_all, prefix_len}
+use Rattle.std.specs.Prelude.{◌≡◌, ℕ, ◌+◌, ◌-◌, ◌*◌, ◌^◌, Bool, not, ◌||◌, List, [], ◌∷◌, length, map, ◌⊎◌, take, drop, codes, nat_lt, ◌==◌, if◌then◌else◌, Option, Some, None, pos}
+use Rattle.std.specs.List.{prefix_len}
+use Rattle.qe_syntax.specs.Names.{is_digit, is_letter, is_name_part, is_one_of, is_word}
 use Rattle.qe_syntax.specs.declared.tree.Literal.{Literal}
 use Rattle.qe_syntax.specs.declared.tree.Literal.TheVariants.{Fits, Past}
 use Rattle.redlog_reader.specs.declared.lexer.Front.{Front}
@@ -16,17 +17,6 @@ use Rattle.redlog_reader.specs.declared.token.TokenKind.TheVariants as token
 abbrev pub is_blank : ℕ → Bool
 is_blank b = (b == 9) || (b == 10) || (b == 13) || (b == 32)
 
-abbrev pub is_digit : ℕ → Bool
-is_digit b = nat_le 48 b && nat_le b 57
-
--- an ASCII letter
-abbrev pub is_letter : ℕ → Bool
-is_letter b = (nat_le 65 b && nat_le b 90) || (nat_le 97 b && nat_le b 122)
-
--- what a name may go on with: a letter, a digit or _
-abbrev pub is_name_part : ℕ → Bool
-is_name_part b = is_letter b || is_digit b || (b == 95)
-
 -- what a comment goes on with: anything but a line feed
 abbrev pub is_in_line : ℕ → Bool
 is_in_line b = not (b == 10)
@@ -40,15 +30,6 @@ value_after n (d ∷ ds) = value_after (n * 10 + (d - 48)) ds
 unfoldable pub literal_of : List ℕ → Literal
 literal_of digits = if nat_lt (value_after 0 digits) (2 ^ 127) then Fits (pos (value_after 0 digits)) else Past
 
--- the words, but for those with numbers
-abbrev pub keywords : List (List ℕ)
-keywords =
-    codes "true" ∷ codes "false" ∷ codes "not" ∷ codes "and" ∷ codes "or" ∷ codes "impl" ∷ codes "repl" ∷ codes "equiv"
-    ∷ codes "ex" ∷ codes "all" ∷ codes "cong" ∷ codes "ncong" ∷ codes "neq"
-    ∷ codes "rlset" ∷ codes "rlnnf" ∷ codes "rlpnf" ∷ codes "rldnf" ∷ codes "rlcnf" ∷ codes "rlsimpl" ∷ codes "rlqe" ∷ codes "rlqea"
-    ∷ codes "rlholds" ∷ codes "rlwitness" ∷ codes "rlassume" ∷ codes "rlretract" ∷ codes "rlgrid" ∷ codes "rlopt" ∷ codes "rlcert" ∷ codes "rlcheck"
-    ∷ codes "load_package" ∷ codes "on" ∷ codes "off" ∷ codes "end" ∷ codes "bye" ∷ codes "quit" ∷ []
-
 -- the signs of two bytes
 abbrev pub long_signs : List (List ℕ)
 long_signs = codes "**" ∷ codes ":=" ∷ codes "<>" ∷ codes "<=" ∷ codes ">=" ∷ []
@@ -58,18 +39,6 @@ abbrev pub short_signs : List (List ℕ)
 short_signs =
     codes "+" ∷ codes "-" ∷ codes "*" ∷ codes "/" ∷ codes "^" ∷ codes "(" ∷ codes ")" ∷ codes "{" ∷ codes "}" ∷ codes ","
     ∷ codes ";" ∷ codes "$" ∷ codes "=" ∷ codes "<" ∷ codes ">" ∷ []
-
-abbrev pub is_one_of : List ℕ → List (List ℕ) → Bool
-is_one_of text = list_any (λ word. bytes_eq text word)
-
--- the text is this beginning and then one digit or more
-abbrev pub is_numbered : List ℕ → List ℕ → Bool
-is_numbered text beginning =
-    nat_lt (length beginning) (length text) && bytes_eq (take (length beginning) text) beginning && list_all is_digit (drop (length beginning) text)
-
--- a name that stands for no variable
-unfoldable pub is_word : List ℕ → Bool
-is_word text = is_one_of text keywords || is_numbered text (codes "infinity") || is_numbered text (codes "epsilon")
 
 -- a name or a word, which is bad where it has more than 64 bytes
 unfoldable pub worded : List ℕ → Option TokenKind

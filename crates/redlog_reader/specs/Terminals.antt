@@ -4,28 +4,47 @@ use Rattle.qe_syntax.specs.declared.tree.Relation.TheVariants.{Equal, Differs, L
 use Rattle.redlog_reader.specs.declared.terminal.Terminal.{Terminal}
 use Rattle.redlog_reader.specs.declared.terminal.Terminal.TheVariants as terminal
 use Rattle.redlog_reader.specs.declared.terminal.Mark.TheVariants as mark
+use Rattle.redlog_reader.specs.declared.terminal.Word.{Word}
+use Rattle.redlog_reader.specs.declared.terminal.Word.TheVariants as word
 use Rattle.redlog_reader.specs.declared.token.Token.{Token}
 use Rattle.redlog_reader.specs.declared.token.TokenKind.{TokenKind}
 use Rattle.redlog_reader.specs.declared.token.TokenKind.TheVariants as token
 
--- the terminal that a word is
-unfoldable pub word_of : List ℕ → Terminal
-word_of word =
-    if bytes_eq word (codes "true") then terminal.Mark mark.True
-    else (if bytes_eq word (codes "false") then terminal.Mark mark.False
-    else (if bytes_eq word (codes "not") then terminal.Mark mark.Not
-    else (if bytes_eq word (codes "and") then terminal.Mark mark.And
-    else (if bytes_eq word (codes "or") then terminal.Mark mark.Or
-    else (if bytes_eq word (codes "impl") then terminal.Mark mark.Arrow
-    else (if bytes_eq word (codes "repl") then terminal.Mark mark.Arrow
-    else (if bytes_eq word (codes "equiv") then terminal.Mark mark.Arrow
-    else (if bytes_eq word (codes "ex") then terminal.Mark mark.Binder
-    else (if bytes_eq word (codes "all") then terminal.Mark mark.Binder
-    else (if bytes_eq word (codes "neq") then terminal.Relation Differs
-    else (if bytes_eq word (codes "rlholds") then terminal.Mark mark.Holds
-    else terminal.Mark mark.Other)))))))))))
+-- the word that a text is
+unfoldable pub word_of : List ℕ → Word
+word_of text =
+    if bytes_eq text (codes "true") then word.True
+    else (if bytes_eq text (codes "false") then word.False
+    else (if bytes_eq text (codes "not") then word.Not
+    else (if bytes_eq text (codes "and") then word.And
+    else (if bytes_eq text (codes "or") then word.Or
+    else (if bytes_eq text (codes "impl") then word.Impl
+    else (if bytes_eq text (codes "repl") then word.Repl
+    else (if bytes_eq text (codes "equiv") then word.Equiv
+    else (if bytes_eq text (codes "ex") then word.Ex
+    else (if bytes_eq text (codes "all") then word.All
+    else (if bytes_eq text (codes "cong") then word.Cong
+    else (if bytes_eq text (codes "ncong") then word.Ncong
+    else (if bytes_eq text (codes "neq") then word.Neq
+    else (if bytes_eq text (codes "rlset") then word.Set
+    else (if bytes_eq text (codes "rlnnf") then word.Nnf
+    else (if bytes_eq text (codes "rlpnf") then word.Pnf
+    else (if bytes_eq text (codes "rldnf") then word.Dnf
+    else (if bytes_eq text (codes "rlcnf") then word.Cnf
+    else (if bytes_eq text (codes "rlsimpl") then word.Simpl
+    else (if bytes_eq text (codes "rlqe") then word.Qe
+    else (if bytes_eq text (codes "rlqea") then word.Qea
+    else (if bytes_eq text (codes "rlholds") then word.Holds
+    else (if bytes_eq text (codes "rlwitness") then word.Witness
+    else (if bytes_eq text (codes "load_package") then word.Load
+    else (if bytes_eq text (codes "on") then word.On
+    else (if bytes_eq text (codes "off") then word.Off
+    else (if bytes_eq text (codes "end") then word.End
+    else (if bytes_eq text (codes "bye") then word.Bye
+    else (if bytes_eq text (codes "quit") then word.Quit
+    else word.Other))))))))))))))))))))))))))))
 
--- the terminal that a sign is
+-- the terminal that a sign is; no token is another sign than these
 unfoldable pub sign_of : List ℕ → Terminal
 sign_of sign =
     if bytes_eq sign (codes "+") then terminal.Mark mark.Plus
@@ -41,19 +60,20 @@ sign_of sign =
     else (if bytes_eq sign (codes ",") then terminal.Mark mark.Comma
     else (if bytes_eq sign (codes ";") then terminal.Mark mark.Semicolon
     else (if bytes_eq sign (codes "$") then terminal.Mark mark.Dollar
+    else (if bytes_eq sign (codes ":=") then terminal.Mark mark.Assign
     else (if bytes_eq sign (codes "=") then terminal.Relation Equal
     else (if bytes_eq sign (codes "<>") then terminal.Relation Differs
     else (if bytes_eq sign (codes "<") then terminal.Relation Less
     else (if bytes_eq sign (codes "<=") then terminal.Relation AtMost
     else (if bytes_eq sign (codes ">") then terminal.Relation Greater
     else (if bytes_eq sign (codes ">=") then terminal.Relation AtLeast
-    else terminal.Mark mark.Other))))))))))))))))))
+    else terminal.Word word.Other)))))))))))))))))))
 
 -- the terminal that a token is
 abbrev pub terminal_of : TokenKind → Terminal
 terminal_of (token.Number n) = terminal.Number n
 terminal_of (token.Name x) = terminal.Name x
-terminal_of (token.Word w) = word_of w
+terminal_of (token.Word w) = terminal.Word (word_of w)
 terminal_of (token.Sign s) = sign_of s
 
 -- the terminals that tokens are

@@ -1,17 +1,16 @@
-ghost use Rattle.std.specs.Prelude.{◌≡◌, suc, ◌+◌, ◌≤◌, List, [], ◌∷◌, IfOk, OnOk, IfErr, if◌then◌else◌};
+ghost use Rattle.std.specs.Prelude.{◌≡◌, suc, ◌+◌, ◌≤◌, List, [], ◌∷◌, IfOk, OnOk, if◌then◌else◌};
 ghost use Rattle.std.specs.Bool.{MatchBool};
 ghost use Rattle.redlog_reader.specs.declared.terminal.Terminal.{Terminal};
 ghost use Rattle.redlog_reader.specs.Terminals.{terminals};
 ghost use Rattle.redlog_reader.specs.Levels.{weight, after, change_of, changed, closing, Passes};
 ghost use Rattle.redlog_reader.specs.Counting.{AreLevels, IsSmall, IsTotal, stack, count, is_binder, is_not};
-ghost use Rattle.redlog_reader.specs.Reading.{Refuses};
 
-use crate::terminal::{Mark, Terminal, terminal_of};
-use crate::token::{ReadError, Token};
-use std::alloc::Global;
+use crate::terminal::{Mark, Terminal, Word, terminal_of};
+use crate::token::Token;
+use std::alloc::{AllocError, Global};
 
 /// No level of a token passes this.
-const LEVEL_LIMIT: usize = 512;
+pub const LEVEL_LIMIT: usize = 512;
 
 /// What counts in an open group of brackets.
 #[derive(Clone, Copy)]
@@ -36,9 +35,8 @@ pub struct Levels {
 }
 
 /// Whether the level of some token passes 512.
-pub fn is_deep(alloc: Global, tokens: &[Token]) -> Result<bool, ReadError>
-    ensures deep { IfOk result (λ deep. MatchBool deep (Passes 512 [] (terminals tokens.now)) (Passes 512 [] (terminals tokens.now) → ⊥)) }
-    ensures refused { IfErr result (λ e. Refuses e ⊥) }
+pub fn is_deep(alloc: Global, tokens: &[Token]) -> Result<bool, AllocError>
+    ensures { IfOk result (λ deep. MatchBool deep (Passes LEVEL_LIMIT [] (terminals tokens.now)) (Passes LEVEL_LIMIT [] (terminals tokens.now) → ⊥)) }
 {
     let mut levels = Levels::new(alloc);
     'tokens: for token in tokens {
@@ -79,13 +77,12 @@ impl Levels {
     }
 
     /// Takes one more token.
-    fn take(&mut self, terminal: &Terminal) -> Result<(), ReadError>
+    fn take(&mut self, terminal: &Terminal) -> Result<(), AllocError>
         requires { IsSmall self.old }
         ensures total { OnOk result (IsTotal self.new) }
         ensures bound { OnOk result (count self.new ≤ 4096) }
         ensures held { OnOk result (self.new.held ≤ 512) }
         ensures taken { OnOk result ((before : List Terminal) → AreLevels self.old before → AreLevels self.new (terminal.now ∷ before)) }
-        ensures refused { IfErr result (λ e. Refuses e ⊥) }
     {
         self.regroup(terminal)?;
         let run = self.run;
@@ -95,14 +92,13 @@ impl Levels {
     }
 
     /// Changes the open groups for one more token.
-    fn regroup(&mut self, terminal: &Terminal) -> Result<(), ReadError>
+    fn regroup(&mut self, terminal: &Terminal) -> Result<(), AllocError>
         requires { IsSmall self.old }
         ensures run { OnOk result (self.new.run ≡ self.old.run) }
         ensures held { OnOk result (self.new.held ≡ self.old.held) }
         ensures total { OnOk result (IsTotal self.new) }
         ensures bound { OnOk result (self.new.total + weight self.new.inmost ≤ 2048) }
         ensures stack { OnOk result (stack self.new ≡ changed (change_of terminal.now) (self.old.run + self.old.held) terminal.now (stack self.old)) }
-        ensures refused { IfErr result (λ e. Refuses e ⊥) }
     {
         match change_of(terminal) {
             Change::Opens => self.open(),
@@ -119,17 +115,16 @@ impl Levels {
     }
 
     /// Opens a group.
-    fn open(&mut self) -> Result<(), ReadError>
+    fn open(&mut self) -> Result<(), AllocError>
         requires { IsSmall self.old }
         ensures run { OnOk result (self.new.run ≡ self.old.run) }
         ensures held { OnOk result (self.new.held ≡ self.old.held) }
         ensures total { OnOk result (IsTotal self.new) }
         ensures bound { OnOk result (self.new.total + weight self.new.inmost ≤ 2048) }
         ensures stack { OnOk result (stack self.new ≡ record { opened = suc (self.old.run + self.old.held); arrows = 0; slashes = 0 } ∷ stack self.old) }
-        ensures refused { IfErr result (λ e. Refuses e ⊥) }
     {
         let group = self.inmost;
-        self.around.push(group).map_err(|_| ReadError::Memory)?;
+        self.around.push(group)?;
         self.total += weight(&group);
         let opened = self.run + self.held + 1;
         self.inmost = Group {
@@ -183,7 +178,7 @@ fn held_after(terminal: &Terminal, run: usize) -> usize
     ensures { result ≡ (if is_binder terminal.now then run else 0) }
 {
     match terminal {
-        Terminal::Mark(Mark::Binder) => run,
+        Terminal::Word(Word::Ex | Word::All) => run,
         _ => 0,
     }
 }
@@ -194,7 +189,7 @@ fn run_after(terminal: &Terminal, run: usize) -> usize
     ensures { result ≡ (if is_not terminal.now then run + 1 else 0) }
 {
     match terminal {
-        Terminal::Mark(Mark::Not) => run + 1,
+        Terminal::Word(Word::Not) => run + 1,
         _ => 0,
     }
 }
@@ -225,9 +220,10 @@ fn after(terminal: &Terminal, group: Group) -> Group
             Mark::Times | Mark::Power => (arrows, slashes),
             Mark::Slash => (arrows, slashes + 1),
             Mark::Comma => (0, 0),
-            Mark::Arrow => (arrows + 1, 0),
             _ => (arrows, 0),
         },
+        Terminal::Word(Word::Impl | Word::Repl | Word::Equiv) => (arrows + 1, 0),
+        Terminal::Word(_) => (arrows, 0),
     };
     Group {
         opened,

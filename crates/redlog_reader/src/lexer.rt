@@ -1,7 +1,8 @@
 ghost use Rattle.std.specs.Prelude.{◌≡◌, ℕ, ◌+◌, ◌<◌, ◌≤◌, List, [], ◌∷◌, length, map, codes, IfSome, MatchOption};
 ghost use Rattle.std.specs.List.{prefix_len, list_all, list_any};
 ghost use Rattle.redlog_reader.specs.declared.lexer.Lexeme.{Lexeme};
-ghost use Rattle.redlog_reader.specs.Lexing.{is_blank, is_digit, is_letter, is_name_part, is_in_line, literal_of, keywords, long_signs, short_signs, is_one_of, is_numbered, is_word, worded, signed, front, IsFront, size, LexesFrom};
+ghost use Rattle.redlog_reader.specs.Lexing.{is_blank, is_in_line, literal_of, long_signs, short_signs, worded, signed, front, IsFront, size, LexesFrom};
+ghost use Rattle.qe_syntax.specs.Names.{is_digit, is_letter, is_name_part, keywords, is_one_of, is_numbered, is_word};
 
 use crate::terminal::is;
 use crate::token::TokenKind;
@@ -189,7 +190,7 @@ fn worded(text: &[u8]) -> Option<TokenKind>
 }
 
 /// Whether a name stands for no variable.
-#[tactic(auto, unfolding(crate::specs::Lexing::is_word))]
+#[tactic(auto, unfolding(qe_syntax::specs::Names::is_word))]
 fn is_word(text: &[u8]) -> bool
     ensures { result ≡ is_word text.now }
 {

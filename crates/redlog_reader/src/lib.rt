@@ -1,15 +1,19 @@
 //! Reads one statement of a script: from bytes to tokens, and from tokens to a tree.
 #![tactic(auto)]
 
-mod formula;
+mod argument;
+mod ending;
 mod level;
 mod lexer;
+mod machine;
+mod operand;
 mod peek;
+mod pending;
 mod piece;
 mod point;
 mod read;
+mod setting;
 mod statement;
-mod sum;
 mod terminal;
 #[cfg(test)]
 mod tests;

@@ -1,9 +1,10 @@
-ghost use Rattle.std.specs.Prelude.{◌≡◌, List, [], ◌∷◌, ◌<◌, length, IfSome, MatchOption};
-ghost use Rattle.redlog_reader.specs.declared.terminal.Terminal.{Terminal};
+ghost use Rattle.std.specs.Prelude.{◌≡◌, ◌∷◌, [], ◌<◌, length, IfSome, MatchOption};
 ghost use Rattle.redlog_reader.specs.Terminals.{terminals};
+ghost use Rattle.redlog_reader.specs.Reader.{after_mark, number_read, name_read, after_equal, relation_of, relation_read};
 
-use crate::terminal::{Mark, Terminal, terminal_of};
+use crate::terminal::{Mark, Terminal, Word, terminal_of};
 use crate::token::Token;
+use qe_syntax::{Literal, Name, Relation};
 
 /// The first terminal, and the tokens after it.
 #[tactic(auto, unfolding(crate::specs::Terminals::terminals))]
@@ -18,12 +19,68 @@ pub fn next(tokens: &[Token]) -> Option<(Terminal, &[Token])>
 /// The tokens after this mark, where they begin with it.
 pub fn after(tokens: &[Token], wanted: Mark) -> Option<&[Token]>
     ensures shorter { IfSome result (λ rest. length rest.now < length tokens.now) }
-    ensures value { MatchOption result
-        ((rest : List Terminal) → terminals tokens.now ≡ Terminal.Mark wanted ∷ rest → ⊥)
-        (λ rest. terminals tokens.now ≡ Terminal.Mark wanted ∷ terminals rest.now) }
+    ensures value { MatchOption result (after_mark wanted (terminals tokens.now) ≡ None) (λ rest. after_mark wanted (terminals tokens.now) ≡ Some (terminals rest.now)) }
 {
     match next(tokens) {
         Some((Terminal::Mark(mark), rest)) if mark == wanted => Some(rest),
+        _ => None,
+    }
+}
+
+/// The number at the front, and the tokens after it.
+pub fn number(tokens: &[Token]) -> Option<(Literal, &[Token])>
+    ensures { MatchOption result (number_read (terminals tokens.now) ≡ None) (λ r. number_read (terminals tokens.now) ≡ Some (r.0, terminals r.1.now)) }
+{
+    match next(tokens) {
+        Some((Terminal::Number(number), rest)) => Some((number, rest)),
+        _ => None,
+    }
+}
+
+/// The name at the front, and the tokens after it.
+pub fn name(tokens: &[Token]) -> Option<(Name, &[Token])>
+    ensures { MatchOption result (name_read (terminals tokens.now) ≡ None) (λ r. name_read (terminals tokens.now) ≡ Some (r.0, terminals r.1.now)) }
+{
+    let Some((first, rest)) = next(tokens) else {
+        return None;
+    };
+    match first {
+        Terminal::Name(name) => Some((name, rest)),
+        _ => None,
+    }
+}
+
+/// The tokens after `=`, where they begin with it.
+pub fn after_equal(tokens: &[Token]) -> Option<&[Token]>
+    ensures { MatchOption result (after_equal (terminals tokens.now) ≡ None) (λ rest. after_equal (terminals tokens.now) ≡ Some (terminals rest.now)) }
+{
+    match next(tokens) {
+        Some((Terminal::Relation(Relation::Equal), rest)) => Some(rest),
+        _ => None,
+    }
+}
+
+/// The relation at the front, and the tokens after it.
+#[tactic(auto, using(crate::proofs::Options::options))]
+pub fn relation(tokens: &[Token]) -> Option<(Relation, &[Token])>
+    ensures { MatchOption result (relation_read (terminals tokens.now) ≡ None) (λ r. relation_read (terminals tokens.now) ≡ Some (r.0, terminals r.1.now)) }
+{
+    let Some((first, rest)) = next(tokens) else {
+        return None;
+    };
+    match relation_of(&first) {
+        Some(relation) => Some((relation, rest)),
+        None => None,
+    }
+}
+
+/// The relation that the terminal is.
+fn relation_of(terminal: &Terminal) -> Option<Relation>
+    ensures { result ≡ relation_of terminal.now }
+{
+    match terminal {
+        Terminal::Relation(relation) => Some(*relation),
+        Terminal::Word(Word::Neq) => Some(Relation::Differs),
         _ => None,
     }
 }

@@ -1,23 +1,19 @@
-ghost use Rattle.std.specs.Prelude.{◌≡◌, List, ◌∷◌, IfOk, IfErr, MatchOption};
-ghost use Rattle.std.specs.Bool.{MatchBool};
-ghost use Rattle.qe_syntax.specs.Proper.{IsNumeral};
-ghost use Rattle.qe_syntax.specs.declared.tree.Literal.{Literal};
-ghost use Rattle.redlog_reader.specs.declared.terminal.Terminal.{Terminal};
+ghost use Rattle.std.specs.Prelude.{◌≡◌, IfOk, IfErr, MatchOption, Some, None};
 ghost use Rattle.redlog_reader.specs.Terminals.{terminals};
-ghost use Rattle.redlog_reader.specs.Grammar.{SpellsEntry, SpellsPoint, Listed, Above, Below, opposite};
-ghost use Rattle.redlog_reader.specs.Reading.{Anything, AreNumerals, EndsNumber, EndsEntries, Found, NotFound, Refuses};
+ghost use Rattle.redlog_reader.specs.Reader.{entry_read, items_read, braced_read, negated_literal, above_read, below_read};
+ghost use Rattle.redlog_reader.specs.Reading.{Refuses};
 
-use crate::peek::{after, next};
-use crate::terminal::{Mark, Terminal};
-use crate::token::{ReadError, Token, put};
-use qe_syntax::{Entries, Literal, PointEntry, Relation};
+use crate::peek::{after, after_equal, name, number};
+use crate::terminal::Mark;
+use crate::token::{ReadError, Token};
+use qe_syntax::{Entries, Literal, PointEntry};
 use std::alloc::Global;
 
 /// The entries of a point, in braces.
+#[tactic(auto, using(crate::proofs::Options::options))]
 pub fn point(alloc: Global, tokens: &[Token]) -> Result<(Entries, &[Token]), ReadError>
-    requires { AreNumerals (terminals tokens.now) }
-    ensures found { IfOk result (λ r. SpellsPoint (terminals tokens.now) r.0 (terminals r.1.now)) }
-    ensures refused { IfErr result (λ e. Refuses e (NotFound SpellsPoint Anything (terminals tokens.now))) }
+    ensures read { IfOk result (λ r. braced_read entry_read (terminals tokens.now) ≡ Some (r.0, terminals r.1.now)) }
+    ensures refused { IfErr result (λ e. Refuses e (braced_read entry_read (terminals tokens.now) ≡ None)) }
 {
     let Some(start) = after(tokens, Mark::OpenBrace) else {
         return Err(ReadError::Syntax);
@@ -25,125 +21,76 @@ pub fn point(alloc: Global, tokens: &[Token]) -> Result<(Entries, &[Token]), Rea
     if let Some(rest) = after(start, Mark::CloseBrace) {
         return Ok((Entries::of(Vec::new(alloc)), rest));
     }
-    let (list, end) = entries(alloc, start)?;
+    let (entries, end) = entries(alloc, start)?;
     let Some(rest) = after(end, Mark::CloseBrace) else {
         return Err(ReadError::Syntax);
     };
-    Ok((Entries::of(list), rest))
+    Ok((Entries::of(entries), rest))
 }
 
 /// One entry or more, with commas between them.
+#[tactic(auto, using(crate::proofs::Items::entries))]
 fn entries(alloc: Global, tokens: &[Token]) -> Result<(Vec<PointEntry>, &[Token]), ReadError>
-    requires { AreNumerals (terminals tokens.now) }
-    ensures found { IfOk result (λ r. Found Listed EndsEntries (terminals tokens.now) r.0.items (terminals r.1.now)) }
-    ensures refused { IfErr result (λ e. Refuses e (NotFound Listed EndsEntries (terminals tokens.now))) }
+    ensures read { IfOk result (λ r. items_read entry_read (terminals tokens.now) ≡ Some (r.0.items, terminals r.1.now)) }
+    ensures refused { IfErr result (λ e. Refuses e (items_read entry_read (terminals tokens.now) ≡ None)) }
 {
-    let mut list = Vec::new(alloc);
+    let mut entries = Vec::new(alloc);
     let mut start = tokens;
     'entries: loop {
         let Some((entry, rest)) = entry(start) else {
             return Err(ReadError::Syntax);
         };
-        put(&mut list, entry)?;
-        let Some(next) = after(rest, Mark::Comma) else {
-            return Ok((list, rest));
+        entries.push(entry)?;
+        let Some(more) = after(rest, Mark::Comma) else {
+            return Ok((entries, rest));
         };
-        start = next;
+        start = more;
     }
 }
 
-/// A name, `=`, and a fraction. No `/` follows it.
+/// A name, `=`, and a fraction.
+#[tactic(auto, using(crate::proofs::Options::options))]
 fn entry(tokens: &[Token]) -> Option<(PointEntry, &[Token])>
-    requires { AreNumerals (terminals tokens.now) }
-    ensures { MatchOption result
-        (NotFound SpellsEntry EndsNumber (terminals tokens.now))
-        (λ r. Found SpellsEntry EndsNumber (terminals tokens.now) r.0 (terminals r.1.now)) }
+    ensures { MatchOption result (entry_read (terminals tokens.now) ≡ None) (λ r. entry_read (terminals tokens.now) ≡ Some (r.0, terminals r.1.now)) }
 {
-    let Some((first, rest)) = next(tokens) else {
+    let Some((name, middle)) = name(tokens) else {
         return None;
     };
-    match first {
-        Terminal::Name(name) => {
-            let start = after_equal(rest)?;
-            let (above, middle) = numerator(start)?;
-            let (below, end) = denominator(middle)?;
-            Some((PointEntry { name, above, below }, end))
-        }
-        _ => None,
-    }
-}
-
-/// The tokens after `=`, where they begin with it.
-fn after_equal(tokens: &[Token]) -> Option<&[Token]>
-    ensures { MatchOption result
-        ((rest : List Terminal) → terminals tokens.now ≡ Terminal.Relation Relation.Equal ∷ rest → ⊥)
-        (λ rest. terminals tokens.now ≡ Terminal.Relation Relation.Equal ∷ terminals rest.now) }
-{
-    match next(tokens) {
-        Some((Terminal::Relation(Relation::Equal), rest)) => Some(rest),
-        _ => None,
-    }
+    let start = after_equal(middle)?;
+    let (above, line) = above(start)?;
+    let (below, rest) = below(line)?;
+    Some((PointEntry { name, above, below }, rest))
 }
 
 /// A number, which may have the sign `-`.
-fn numerator(tokens: &[Token]) -> Option<(Literal, &[Token])>
-    requires { AreNumerals (terminals tokens.now) }
-    ensures { MatchOption result
-        (NotFound Above Anything (terminals tokens.now))
-        (λ r. Above (terminals tokens.now) r.0 (terminals r.1.now)) }
+#[tactic(auto, using(crate::proofs::Options::options))]
+fn above(tokens: &[Token]) -> Option<(Literal, &[Token])>
+    ensures { MatchOption result (above_read (terminals tokens.now) ≡ None) (λ r. above_read (terminals tokens.now) ≡ Some (r.0, terminals r.1.now)) }
 {
     let Some(start) = after(tokens, Mark::Minus) else {
-        let (number, rest) = number(tokens)?;
-        return Some((number, rest));
+        return number(tokens);
     };
     let (number, rest) = number(start)?;
-    Some((opposite(number), rest))
+    Some((negated(number), rest))
 }
 
-/// `/` and a number; 1 where that is left out. No `/` follows it.
-fn denominator(tokens: &[Token]) -> Option<(Literal, &[Token])>
-    ensures { MatchOption result
-        (NotFound Below EndsNumber (terminals tokens.now))
-        (λ r. Found Below EndsNumber (terminals tokens.now) r.0 (terminals r.1.now)) }
-{
-    let Some(start) = after(tokens, Mark::Slash) else {
-        return Some((Literal::Fits(1), tokens));
-    };
-    let (number, rest) = number(start)?;
-    if numbers_end(rest) {
-        Some((number, rest))
-    } else {
-        None
-    }
-}
-
-/// Whether no `/` follows.
-#[tactic(auto, using(crate::proofs::Points::ends_number))]
-fn numbers_end(tokens: &[Token]) -> bool
-    ensures { MatchBool result (EndsNumber (terminals tokens.now)) (EndsNumber (terminals tokens.now) → ⊥) }
-{
-    after(tokens, Mark::Slash).is_none()
-}
-
-/// The number at the front, and the tokens after it.
-fn number(tokens: &[Token]) -> Option<(Literal, &[Token])>
-    ensures { MatchOption result
-        ((n : Literal) (rest : List Terminal) → terminals tokens.now ≡ Terminal.Number n ∷ rest → ⊥)
-        (λ r. terminals tokens.now ≡ Terminal.Number r.0 ∷ terminals r.1.now) }
-{
-    match next(tokens) {
-        Some((Terminal::Number(number), rest)) => Some((number, rest)),
-        _ => None,
-    }
-}
-
-/// The number with the other sign.
-fn opposite(number: Literal) -> Literal
-    requires { IsNumeral number }
-    ensures { result ≡ opposite number }
+/// The number with the other sign; one that has none within the limit is past it.
+fn negated(number: Literal) -> Literal
+    ensures { result ≡ negated_literal number }
 {
     match number {
-        Literal::Fits(value) => Literal::Fits(-value),
-        Literal::Past => Literal::Past,
+        Literal::Fits(value) if value != i128::MIN => Literal::Fits(-value),
+        _ => Literal::Past,
+    }
+}
+
+/// `/` and a number; 1 where that is left out.
+#[tactic(auto, using(crate::proofs::Options::options))]
+fn below(tokens: &[Token]) -> Option<(Literal, &[Token])>
+    ensures { MatchOption result (below_read (terminals tokens.now) ≡ None) (λ r. below_read (terminals tokens.now) ≡ Some (r.0, terminals r.1.now)) }
+{
+    match after(tokens, Mark::Slash) {
+        Some(start) => number(start),
+        None => Some((Literal::Fits(1), tokens)),
     }
 }

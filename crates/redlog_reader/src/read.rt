@@ -8,12 +8,12 @@ ghost use Rattle.redlog_reader.specs.Statement.{Spells, Unread};
 use crate::level::is_deep;
 use crate::lexer::next_lexeme;
 use crate::statement::statement;
-use crate::token::{ReadError, Token, Tokens, put};
+use crate::token::{ReadError, Token, Tokens};
 use qe_syntax::Statement;
 use std::alloc::Global;
 
 /// A piece is at most so long, in bytes.
-const BYTE_LIMIT: usize = 1_048_576;
+pub const BYTE_LIMIT: usize = 1_048_576;
 
 /// The tokens of the bytes, in order. `Lexical` says that a token is bad.
 pub fn tokens(alloc: Global, bytes: &[u8]) -> Result<Tokens, ReadError>
@@ -28,30 +28,27 @@ pub fn tokens(alloc: Global, bytes: &[u8]) -> Result<Tokens, ReadError>
         let Some(kind) = lexeme.kind else {
             return Err(ReadError::Lexical);
         };
-        put(&mut list, Token { kind, start, end })?;
+        list.push(Token { kind, start, end })?;
         from = end;
     }
     Ok(Tokens::of(list))
 }
 
-/// The statement that the bytes of one piece spell, with its end mark. What is past 1 MiB, has a bad token or a token
-/// whose level passes 512, or spells no statement is answered `Syntax`.
+/// The statement that the bytes of one piece spell, with its end mark. Why they spell none is the first of: `Long`, they
+/// are more than 1 MiB; `Lexical`, a token is bad; `Nesting`, the level of a token passes 512; `Syntax`, the tokens
+/// spell no statement.
 pub fn read_statement(alloc: Global, bytes: &[u8]) -> Result<Statement, ReadError>
     ensures spelled { IfOk result (λ s. Spells bytes.now (statement_tree s)) }
     ensures proper { IfOk result (λ s. IsProper (statement_tree s)) }
     ensures refused { IfErr result (Unread bytes.now) }
 {
     if bytes.len() > BYTE_LIMIT {
-        return Err(ReadError::Syntax);
+        return Err(ReadError::Long);
     }
-    let tokens = match tokens(alloc, bytes) {
-        Ok(tokens) => tokens,
-        Err(ReadError::Lexical) => return Err(ReadError::Syntax),
-        Err(error) => return Err(error),
-    };
+    let tokens = tokens(alloc, bytes)?;
     let deep = is_deep(alloc, tokens.items())?;
     if deep {
-        return Err(ReadError::Syntax);
+        return Err(ReadError::Nesting);
     }
     let statement = statement(alloc, tokens.items())?;
     Ok(statement)

@@ -1,85 +1,275 @@
-ghost use Rattle.std.specs.Prelude.{◌≡◌, List, [], ◌∷◌, Bool, IfOk, IfErr, MatchOption};
-ghost use Rattle.std.specs.Bool.{MatchBool};
-ghost use Rattle.qe_syntax.specs.Statements.{statement_tree, command_tree, Say};
+ghost use Rattle.std.specs.Prelude.{◌≡◌, ◌∷◌, IfOk, IfErr, MatchOption, Some, None};
+ghost use Rattle.qe_syntax.specs.Trees.{formula_tree, formulas_of};
+ghost use Rattle.qe_syntax.specs.Statements.{statement_tree, action_tree, command_tree, Say, Assign};
 ghost use Rattle.redlog_reader.specs.declared.terminal.Terminal.{Terminal};
-ghost use Rattle.redlog_reader.specs.declared.terminal.Mark.{Mark};
 ghost use Rattle.redlog_reader.specs.Terminals.{terminals};
-ghost use Rattle.redlog_reader.specs.Grammar.{SpellsStatement, end_mark};
-ghost use Rattle.redlog_reader.specs.Reading.{AreNumerals, NoStatement, Refuses};
+ghost use Rattle.redlog_reader.specs.Grammar.{setting_of};
+ghost use Rattle.redlog_reader.specs.Reader.{formula_read, pointed_read, result_from, result_read, is_any, anys_read, context_read, ignored_read, said, action_from, named_from, action_read, alone, ending, statement_read};
+ghost use Rattle.redlog_reader.specs.Reading.{Refuses};
 
-use crate::formula::formula;
-use crate::peek::{after, next};
+use crate::argument::{FORMULA, PRIME, argument, formula};
+use crate::peek::{after, name, next};
 use crate::point::point;
-use crate::terminal::{Mark, Terminal};
+use crate::setting::setting_of;
+use crate::terminal::{Mark, Terminal, Word};
 use crate::token::{ReadError, Token};
-use qe_syntax::{Action, Command, Statement};
-use std::alloc::Global;
+use qe_syntax::{Action, Command, Entries, Formula, Formulas, Name, Statement};
+use std::alloc::{AllocError, Global};
 
 /// The statement that the tokens spell, with no token after it.
+#[tactic(auto, using(crate::proofs::Options::options))]
 pub fn statement(alloc: Global, tokens: &[Token]) -> Result<Statement, ReadError>
-    requires { AreNumerals (terminals tokens.now) }
-    ensures found { IfOk result (λ s. SpellsStatement (terminals tokens.now) (statement_tree s)) }
-    ensures refused { IfErr result (λ e. Refuses e (NoStatement (terminals tokens.now))) }
+    ensures read { IfOk result (λ s. statement_read (terminals tokens.now) ≡ Some (statement_tree s)) }
+    ensures refused { IfErr result (λ e. Refuses e (statement_read (terminals tokens.now) ≡ None)) }
 {
-    let Some(opening) = after(tokens, Mark::Holds) else {
+    if let Some(printed) = ending(tokens) {
+        let action = Action::Empty;
+        return Ok(Statement { action, printed });
+    }
+    let (action, rest) = action(alloc, tokens)?;
+    let Some(printed) = ending(rest) else {
         return Err(ReadError::Syntax);
     };
-    let Some(start) = after(opening, Mark::Open) else {
-        return Err(ReadError::Syntax);
-    };
-    let (formula, comma) = formula(alloc, start)?;
-    let Some(middle) = after(comma, Mark::Comma) else {
-        return Err(ReadError::Syntax);
-    };
-    let (entries, rest) = point(alloc, middle)?;
-    let Some(printed) = end(rest) else {
-        return Err(ReadError::Syntax);
-    };
-    said(
-        alloc,
-        Command::Holds(Box::into_inner(formula), entries),
-        printed,
-    )
-}
-
-/// The statement that is this command.
-fn said(alloc: Global, command: Command, printed: bool) -> Result<Statement, ReadError>
-    ensures said { IfOk result (λ s. statement_tree s ≡ record { action = Say (command_tree command); printed = printed }) }
-    ensures refused { IfErr result (λ e. Refuses e ⊥) }
-{
-    let command = Box::new(alloc, command).map_err(|_| ReadError::Memory)?;
-    Ok(Statement {
-        action: Action::Say(command),
-        printed,
-    })
+    Ok(Statement { action, printed })
 }
 
 /// Whether the statement is printed, where the tokens are its end.
-fn end(tokens: &[Token]) -> Option<bool>
-    ensures { MatchOption result
-        ((printed : Bool) → terminals tokens.now ≡ Terminal.Mark Mark.Close ∷ Terminal.Mark (end_mark printed) ∷ [] → ⊥)
-        (λ printed. terminals tokens.now ≡ Terminal.Mark Mark.Close ∷ Terminal.Mark (end_mark printed) ∷ []) }
+#[tactic(auto, using(crate::proofs::Options::options))]
+fn ending(tokens: &[Token]) -> Option<bool>
+    ensures { result ≡ ending (terminals tokens.now) }
 {
-    let Some(mark) = after(tokens, Mark::Close) else {
-        return None;
-    };
-    if ends(mark, Mark::Semicolon) {
-        Some(true)
-    } else if ends(mark, Mark::Dollar) {
-        Some(false)
-    } else {
-        None
+    if let Some(rest) = after(tokens, Mark::Semicolon) {
+        return alone(true, rest);
+    }
+    let rest = after(tokens, Mark::Dollar)?;
+    alone(false, rest)
+}
+
+fn alone(printed: bool, tokens: &[Token]) -> Option<bool>
+    ensures { result ≡ alone printed (terminals tokens.now) }
+{
+    match next(tokens) {
+        None => Some(printed),
+        Some(_) => None,
     }
 }
 
-/// Whether the tokens are this mark alone.
-fn ends(tokens: &[Token], mark: Mark) -> bool
-    ensures { MatchBool result
-        (terminals tokens.now ≡ Terminal.Mark mark ∷ [])
-        (terminals tokens.now ≡ Terminal.Mark mark ∷ [] → ⊥) }
+/// What a statement does.
+#[tactic(auto, using(crate::proofs::Options::options))]
+fn action(alloc: Global, tokens: &[Token]) -> Result<(Action, &[Token]), ReadError>
+    ensures read { IfOk result (λ r. action_read (terminals tokens.now) ≡ Some (action_tree r.0, terminals r.1.now)) }
+    ensures refused { IfErr result (λ e. Refuses e (action_read (terminals tokens.now) ≡ None)) }
 {
-    let Some(rest) = after(tokens, mark) else {
-        return false;
+    let Some((first, rest)) = next(tokens) else {
+        return Err(ReadError::Syntax);
     };
-    next(rest).is_none()
+    match first {
+        Terminal::Word(word) => action_from(alloc, word, rest, tokens),
+        Terminal::Name(name) => named_from(alloc, name, rest, tokens),
+        _ => {
+            let (command, rest) = result_of(alloc, tokens)?;
+            let action = say(alloc, command)?;
+            Ok((action, rest))
+        }
+    }
+}
+
+/// An action that begins with this word.
+#[tactic(auto, using(crate::proofs::Options::options))]
+fn action_from<'a>(
+    alloc: Global,
+    word: Word,
+    rest: &'a [Token],
+    tokens: &'a [Token],
+) -> Result<(Action, &'a [Token]), ReadError>
+    requires { terminals tokens.now ≡ Terminal.Word word ∷ terminals rest.now }
+    ensures read { IfOk result (λ r. action_from word (terminals rest.now) ≡ Some (action_tree r.0, terminals r.1.now)) }
+    ensures refused { IfErr result (λ e. Refuses e (action_from word (terminals rest.now) ≡ None)) }
+{
+    match word {
+        Word::Set => context(rest),
+        Word::Load | Word::On | Word::Off => ignored(rest),
+        Word::End | Word::Bye | Word::Quit => Ok((Action::Finish, rest)),
+        Word::Qea => {
+            let (formula, given, rest) = argument(alloc, rest)?;
+            let action = say(alloc, Command::Qea(formula, Formulas::of(given)))?;
+            Ok((action, rest))
+        }
+        Word::Holds => {
+            let (formula, entries, rest) = pointed(alloc, rest)?;
+            let action = say(alloc, Command::Holds(formula, entries))?;
+            Ok((action, rest))
+        }
+        Word::Witness => {
+            let (formula, entries, rest) = pointed(alloc, rest)?;
+            let action = say(alloc, Command::Sample(formula, entries))?;
+            Ok((action, rest))
+        }
+        _ => {
+            let (command, rest) = result_from(alloc, word, rest, tokens)?;
+            let action = say(alloc, command)?;
+            Ok((action, rest))
+        }
+    }
+}
+
+/// An action that begins with this name.
+#[tactic(auto, using(crate::proofs::Options::options))]
+fn named_from<'a>(
+    alloc: Global,
+    name: Name,
+    rest: &'a [Token],
+    tokens: &'a [Token],
+) -> Result<(Action, &'a [Token]), ReadError>
+    requires { terminals tokens.now ≡ Terminal.Name name ∷ terminals rest.now }
+    ensures read { IfOk result (λ r. named_from name (terminals rest.now) ≡ Some (action_tree r.0, terminals r.1.now)) }
+    ensures refused { IfErr result (λ e. Refuses e (named_from name (terminals rest.now) ≡ None)) }
+{
+    if let Some(start) = after(rest, Mark::Assign) {
+        let (command, end) = result_of(alloc, start)?;
+        let command = Box::new(alloc, command)?;
+        return Ok((Action::Assign(name, command), end));
+    }
+    let (command, end) = result_of(alloc, tokens)?;
+    let action = say(alloc, command)?;
+    Ok((action, end))
+}
+
+/// The action that is this command.
+fn say(alloc: Global, command: Command) -> Result<Action, AllocError>
+    ensures { IfOk result (λ a. action_tree a ≡ Say (command_tree command)) }
+{
+    let command = Box::new(alloc, command)?;
+    Ok(Action::Say(command))
+}
+
+/// The context to be chosen.
+#[tactic(auto, using(crate::proofs::Options::options))]
+fn context(tokens: &[Token]) -> Result<(Action, &[Token]), ReadError>
+    ensures read { IfOk result (λ r. context_read (terminals tokens.now) ≡ Some (action_tree r.0, terminals r.1.now)) }
+    ensures refused { IfErr result (λ e. Refuses e (context_read (terminals tokens.now) ≡ None)) }
+{
+    let Some((name, rest)) = name(tokens) else {
+        return Err(ReadError::Syntax);
+    };
+    let Some(setting) = setting_of(name.bytes()) else {
+        return Err(ReadError::Syntax);
+    };
+    Ok((Action::Choose(setting), rest))
+}
+
+/// Names and words that change nothing.
+#[tactic(auto, using(crate::proofs::Options::options))]
+fn ignored(tokens: &[Token]) -> Result<(Action, &[Token]), ReadError>
+    ensures read { IfOk result (λ r. ignored_read (terminals tokens.now) ≡ Some (action_tree r.0, terminals r.1.now)) }
+    ensures refused { IfErr result (λ e. Refuses e (ignored_read (terminals tokens.now) ≡ None)) }
+{
+    let Some(rest) = anys(tokens) else {
+        return Err(ReadError::Syntax);
+    };
+    Ok((Action::Ignored, rest))
+}
+
+/// One name or word or more, with commas between them.
+#[tactic(auto, using(crate::proofs::Options::anys))]
+fn anys(tokens: &[Token]) -> Option<&[Token]>
+    ensures { MatchOption result (anys_read (terminals tokens.now) ≡ None) (λ rest. anys_read (terminals tokens.now) ≡ Some (terminals rest.now)) }
+{
+    let mut left = tokens;
+    'anys: while let Some((first, rest)) = next(left) {
+        if !is_any(&first) {
+            return None;
+        }
+        let Some(more) = after(rest, Mark::Comma) else {
+            return Some(rest);
+        };
+        left = more;
+    }
+    None
+}
+
+/// Whether the terminal is a name or a word.
+fn is_any(terminal: &Terminal) -> bool
+    ensures { result ≡ is_any terminal.now }
+{
+    matches!(terminal, Terminal::Name(_) | Terminal::Word(_))
+}
+
+/// A formula and a point in brackets.
+#[tactic(auto, using(crate::proofs::Options::options))]
+fn pointed(alloc: Global, tokens: &[Token]) -> Result<(Formula, Entries, &[Token]), ReadError>
+    ensures read { IfOk result (λ r. pointed_read (terminals tokens.now) ≡ Some ((formula_tree r.0, r.1), terminals r.2.now)) }
+    ensures refused { IfErr result (λ e. Refuses e (pointed_read (terminals tokens.now) ≡ None)) }
+{
+    let Some(start) = after(tokens, Mark::Open) else {
+        return Err(ReadError::Syntax);
+    };
+    let (formula, comma) = formula(alloc, FORMULA, start)?;
+    let Some(middle) = after(comma, Mark::Comma) else {
+        return Err(ReadError::Syntax);
+    };
+    let (entries, end) = point(alloc, middle)?;
+    let Some(rest) = after(end, Mark::Close) else {
+        return Err(ReadError::Syntax);
+    };
+    Ok((formula, entries, rest))
+}
+
+/// A command that gives a formula.
+#[tactic(auto, using(crate::proofs::Options::options))]
+fn result_of(alloc: Global, tokens: &[Token]) -> Result<(Command, &[Token]), ReadError>
+    ensures read { IfOk result (λ r. result_read (terminals tokens.now) ≡ Some (command_tree r.0, terminals r.1.now)) }
+    ensures refused { IfErr result (λ e. Refuses e (result_read (terminals tokens.now) ≡ None)) }
+{
+    match next(tokens) {
+        Some((Terminal::Word(word), rest)) => result_from(alloc, word, rest, tokens),
+        _ => {
+            let (formula, rest) = formula(alloc, FORMULA, tokens)?;
+            Ok((Command::Echo(formula), rest))
+        }
+    }
+}
+
+/// A command that gives a formula and begins with this word.
+#[tactic(auto, using(crate::proofs::Options::options))]
+fn result_from<'a>(
+    alloc: Global,
+    word: Word,
+    rest: &'a [Token],
+    tokens: &'a [Token],
+) -> Result<(Command, &'a [Token]), ReadError>
+    requires { terminals tokens.now ≡ Terminal.Word word ∷ terminals rest.now }
+    ensures read { IfOk result (λ r. result_from word (terminals rest.now) ≡ Some (command_tree r.0, terminals r.1.now)) }
+    ensures refused { IfErr result (λ e. Refuses e (result_from word (terminals rest.now) ≡ None)) }
+{
+    match word {
+        Word::Nnf => {
+            let (prime, end) = formula(alloc, PRIME, rest)?;
+            Ok((Command::Nnf(prime), end))
+        }
+        Word::Pnf => {
+            let (prime, end) = formula(alloc, PRIME, rest)?;
+            Ok((Command::Pnf(prime), end))
+        }
+        Word::Dnf => {
+            let (prime, end) = formula(alloc, PRIME, rest)?;
+            Ok((Command::Dnf(prime), end))
+        }
+        Word::Cnf => {
+            let (prime, end) = formula(alloc, PRIME, rest)?;
+            Ok((Command::Cnf(prime), end))
+        }
+        Word::Simpl => {
+            let (formula, given, end) = argument(alloc, rest)?;
+            Ok((Command::Simpl(formula, Formulas::of(given)), end))
+        }
+        Word::Qe => {
+            let (formula, given, end) = argument(alloc, rest)?;
+            Ok((Command::Qe(formula, Formulas::of(given)), end))
+        }
+        _ => {
+            let (formula, end) = formula(alloc, FORMULA, tokens)?;
+            Ok((Command::Echo(formula), end))
+        }
+    }
 }

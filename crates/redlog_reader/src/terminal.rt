@@ -11,9 +11,10 @@ pub enum Terminal {
     Name(Name),
     Relation(Relation),
     Mark(Mark),
+    Word(Word),
 }
 
-/// A sign or a word that stands for itself. `Arrow` is `impl`, `repl` or `equiv`, and `Binder` is `ex` or `all`.
+/// A sign that is no relation. `Power` is `^` or `**`.
 #[derive(Clone, Copy, Debug, PartialEq, Eq)]
 pub enum Mark {
     Plus,
@@ -28,14 +29,41 @@ pub enum Mark {
     Comma,
     Semicolon,
     Dollar,
+    Assign,
+}
+
+/// A word. `Other` is one that no statement begins with so far, or `infinity` or `epsilon` with a number.
+#[derive(Clone, Copy, Debug, PartialEq, Eq)]
+pub enum Word {
     True,
     False,
     Not,
     And,
     Or,
-    Arrow,
-    Binder,
+    Impl,
+    Repl,
+    Equiv,
+    Ex,
+    All,
+    Cong,
+    Ncong,
+    Neq,
+    Set,
+    Nnf,
+    Pnf,
+    Dnf,
+    Cnf,
+    Simpl,
+    Qe,
+    Qea,
     Holds,
+    Witness,
+    Load,
+    On,
+    Off,
+    End,
+    Bye,
+    Quit,
     Other,
 }
 
@@ -46,48 +74,82 @@ pub fn terminal_of(kind: &TokenKind) -> Terminal
     match kind {
         TokenKind::Number(number) => Terminal::Number(*number),
         TokenKind::Name(name) => Terminal::Name(*name),
-        TokenKind::Word(word) => word_terminal(word.bytes()),
-        TokenKind::Sign(sign) => sign_terminal(sign.bytes()),
+        TokenKind::Word(word) => Terminal::Word(word_of(word.bytes())),
+        TokenKind::Sign(sign) => sign_of(sign.bytes()),
     }
 }
 
-/// The terminal that a word is.
+/// The word that a text is.
 #[tactic(auto, unfolding(crate::specs::Terminals::word_of))]
-fn word_terminal(word: &[u8]) -> Terminal
+fn word_of(word: &[u8]) -> Word
     ensures { result ≡ word_of word.now }
 {
     if is(word, "true") {
-        Terminal::Mark(Mark::True)
+        Word::True
     } else if is(word, "false") {
-        Terminal::Mark(Mark::False)
+        Word::False
     } else if is(word, "not") {
-        Terminal::Mark(Mark::Not)
+        Word::Not
     } else if is(word, "and") {
-        Terminal::Mark(Mark::And)
+        Word::And
     } else if is(word, "or") {
-        Terminal::Mark(Mark::Or)
+        Word::Or
     } else if is(word, "impl") {
-        Terminal::Mark(Mark::Arrow)
+        Word::Impl
     } else if is(word, "repl") {
-        Terminal::Mark(Mark::Arrow)
+        Word::Repl
     } else if is(word, "equiv") {
-        Terminal::Mark(Mark::Arrow)
+        Word::Equiv
     } else if is(word, "ex") {
-        Terminal::Mark(Mark::Binder)
+        Word::Ex
     } else if is(word, "all") {
-        Terminal::Mark(Mark::Binder)
+        Word::All
+    } else if is(word, "cong") {
+        Word::Cong
+    } else if is(word, "ncong") {
+        Word::Ncong
     } else if is(word, "neq") {
-        Terminal::Relation(Relation::Differs)
+        Word::Neq
+    } else if is(word, "rlset") {
+        Word::Set
+    } else if is(word, "rlnnf") {
+        Word::Nnf
+    } else if is(word, "rlpnf") {
+        Word::Pnf
+    } else if is(word, "rldnf") {
+        Word::Dnf
+    } else if is(word, "rlcnf") {
+        Word::Cnf
+    } else if is(word, "rlsimpl") {
+        Word::Simpl
+    } else if is(word, "rlqe") {
+        Word::Qe
+    } else if is(word, "rlqea") {
+        Word::Qea
     } else if is(word, "rlholds") {
-        Terminal::Mark(Mark::Holds)
+        Word::Holds
+    } else if is(word, "rlwitness") {
+        Word::Witness
+    } else if is(word, "load_package") {
+        Word::Load
+    } else if is(word, "on") {
+        Word::On
+    } else if is(word, "off") {
+        Word::Off
+    } else if is(word, "end") {
+        Word::End
+    } else if is(word, "bye") {
+        Word::Bye
+    } else if is(word, "quit") {
+        Word::Quit
     } else {
-        Terminal::Mark(Mark::Other)
+        Word::Other
     }
 }
 
 /// The terminal that a sign is.
 #[tactic(auto, unfolding(crate::specs::Terminals::sign_of))]
-fn sign_terminal(sign: &[u8]) -> Terminal
+fn sign_of(sign: &[u8]) -> Terminal
     ensures { result ≡ sign_of sign.now }
 {
     if is(sign, "+") {
@@ -116,6 +178,8 @@ fn sign_terminal(sign: &[u8]) -> Terminal
         Terminal::Mark(Mark::Semicolon)
     } else if is(sign, "$") {
         Terminal::Mark(Mark::Dollar)
+    } else if is(sign, ":=") {
+        Terminal::Mark(Mark::Assign)
     } else if is(sign, "=") {
         Terminal::Relation(Relation::Equal)
     } else if is(sign, "<>") {
@@ -129,7 +193,7 @@ fn sign_terminal(sign: &[u8]) -> Terminal
     } else if is(sign, ">=") {
         Terminal::Relation(Relation::AtLeast)
     } else {
-        Terminal::Mark(Mark::Other)
+        Terminal::Word(Word::Other)
     }
 }
 

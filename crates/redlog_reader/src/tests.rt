@@ -1,35 +1,55 @@
 use super::{ReadError, next_piece, read_statement, tokens};
 use std::alloc::{AllocError, Global};
 
-// Whether the text is read: false where it spells no statement.
-fn is_read(alloc: Global, text: &str) -> Result<bool, AllocError> {
+// The word of the refusal, or `read`.
+fn word(alloc: Global, text: &str) -> Result<&str, AllocError> {
     match read_statement(alloc, text.as_bytes()) {
-        Ok(_) => Ok(true),
+        Ok(_) => Ok("read"),
         Err(ReadError::Memory) => Err(AllocError),
-        Err(_) => Ok(false),
+        Err(ReadError::Long) => Ok("long"),
+        Err(ReadError::Lexical) => Ok("lexical"),
+        Err(ReadError::Nesting) => Ok("nesting"),
+        Err(ReadError::Syntax) => Ok("syntax"),
     }
 }
 
 #[test]
 fn reads(rt: HostRuntime) -> Result<(), AllocError> {
-    for (text, read) in [
-        ("rlholds(x>0,{x=1});", true),
-        ("rlholds(x>0 and not y+2*x<3 or true,{x=1,y=-2/3})$", true),
-        ("rlholds((x neq 0),{});", true),
-        ("% a comment;\nrlholds(-x<=+3*y-1,{});", true),
-        ("", false),
-        ("rlholds(x>0,{x=1})", false),
-        ("rlholds(x>0,{x=1});;", false),
-        ("rlholds(x>0>1,{x=1});", false),
-        ("rlholds(x*2>0,{x=1});", false),
-        ("rlholds(x:>0,{x=1});", false),
-        ("rlholds(x>0,{x=+1});", false),
-        ("rlholds(true+1,{});", false),
-        ("rlholds(x\u{b}>0,{});", false),
-        ("rlholds(infinity1>0,{});", false),
-        ("rlholds(infinity1x>0,{});", true),
+    for (text, wanted) in [
+        (";", "read"),
+        ("% a comment;\nrlholds(-x<=+3*y-1,{x=-2/3,y=1})$", "read"),
+        (
+            "rlqe ex({x,y},x*y/2^3>0 impl cong(x,1,2) impl (b));",
+            "read",
+        ),
+        (
+            "f := rlsimpl(x neq 0 repl not y, {x>0, ncong(x,0,3)});",
+            "read",
+        ),
+        ("rlset REALS;", "read"),
+        ("on rlverbose, and$", "read"),
+        ("load_package redlog;", "read"),
+        ("(x)>0 and ((x)) equiv (x+1)**2=4;", "read"),
+        ("x:>0;", "lexical"),
+        ("x\u{b}>0;", "lexical"),
+        ("", "syntax"),
+        ("end", "syntax"),
+        ("rlset english;", "syntax"),
+        ("on ;", "syntax"),
+        ("rlqe x>0;", "syntax"),
+        ("rlnnf not x;", "syntax"),
+        ("rlqe(x,{(x>0)});", "syntax"),
+        ("x>0>1;", "syntax"),
+        ("x^2^1=0;", "syntax"),
+        ("x--1=0;", "syntax"),
+        ("cong(x,2);", "syntax"),
+        ("rlholds(x>0,{x=+1});", "syntax"),
+        ("rlassume x>0;", "syntax"),
+        ("infinity1>0;", "syntax"),
+        ("true+1=0;", "syntax"),
+        ("(rlholds(x>0,{}));", "syntax"),
     ] {
-        assert_eq!(rt; is_read(rt.alloc(), text)?, read, "{text}");
+        assert_eq!(rt; word(rt.alloc(), text)?, wanted, "{text}");
     }
     Ok(())
 }
@@ -37,7 +57,6 @@ fn reads(rt: HostRuntime) -> Result<(), AllocError> {
 // A comparison after this text so many times, and before that text as often.
 fn nested(alloc: Global, before: &str, after: &str, depth: usize) -> Result<String, AllocError> {
     let mut text = String::new(alloc);
-    text.push_str("rlholds(")?;
     for _ in 0..depth {
         text.push_str(before)?;
     }
@@ -45,29 +64,32 @@ fn nested(alloc: Global, before: &str, after: &str, depth: usize) -> Result<Stri
     for _ in 0..depth {
         text.push_str(after)?;
     }
-    text.push_str(",{});")?;
+    text.push_str(";")?;
     Ok(text)
 }
 
 #[test]
 fn nests(rt: HostRuntime) -> Result<(), AllocError> {
-    for (before, after, depth, read) in [
-        ("(", ")", 511, true),
-        ("(", ")", 512, false),
-        ("(true and ", ")", 511, true),
-        ("(true or true and ", ")", 511, true),
-        ("not ", "", 511, true),
-        ("not ", "", 512, false),
-        ("not(", ")", 255, true),
-        ("not(", ")", 256, false),
-        ("", " and x>0", 20_000, true),
-        ("", "+1 or x>0", 20_000, true),
-        ("", "1", 100_000, true),
+    for (before, after, depth, wanted) in [
+        ("(", ")", 512, "read"),
+        ("(", ")", 513, "nesting"),
+        ("not ", "", 512, "read"),
+        ("not ", "", 513, "nesting"),
+        ("y impl ", "", 512, "read"),
+        ("", " repl y", 513, "nesting"),
+        ("ex(x,", ")", 512, "read"),
+        ("", "/2", 512, "read"),
+        ("not(", ")", 257, "nesting"),
+        ("", "+1 or x>0", 20_000, "read"),
+        ("", "!", 1, "lexical"),
+        ("(", ")!", 600, "lexical"),
+        (" ", "", 1_048_573, "long"),
+        (" ", "", 1_048_572, "read"),
     ] {
         let text = nested(rt.alloc(), before, after, depth)?;
         assert_eq!(rt;
-            is_read(rt.alloc(), &text)?,
-            read,
+            word(rt.alloc(), &text)?,
+            wanted,
             "{before} {after} {depth}"
         );
     }

@@ -1,7 +1,8 @@
-ghost use Rattle.std.specs.Prelude.{◌≡◌, [], ◌∷◌, ◌++◌, OnOk, IfErr};
-ghost use Rattle.redlog_reader.specs.Reading.{Refuses};
+ghost use Rattle.std.specs.Prelude.{◌≡◌};
+ghost use Rattle.redlog_reader.specs.declared.token.ReadError.TheVariants.{Memory};
 
 use qe_syntax::{Literal, Name};
+use std::alloc::{AllocError, AllocFailed};
 use std::marker::Model;
 use thiserror::Error;
 
@@ -18,6 +19,22 @@ pub enum ReadError {
     Syntax,
     #[error("out of memory")]
     Memory,
+}
+
+impl From<AllocError> for ReadError {
+    ghost from_gives = { λ _ e. e ≡ Memory };
+
+    fn from(_error: AllocError) -> ReadError {
+        ReadError::Memory
+    }
+}
+
+impl<T: Drop> From<AllocFailed<T>> for ReadError {
+    ghost from_gives = { λ _ e. e ≡ Memory };
+
+    fn from(_error: AllocFailed<T>) -> ReadError {
+        ReadError::Memory
+    }
 }
 
 /// What a token is. A word or a sign is kept by its bytes.
@@ -66,12 +83,4 @@ impl Tokens {
     {
         &self.list
     }
-}
-
-/// Puts an item at the end of a list.
-pub fn put<T: Drop>(list: &mut Vec<T>, item: T) -> Result<(), ReadError>
-    ensures put { OnOk result (list.new.items ≡ list.old.items ++ item ∷ []) }
-    ensures refused { IfErr result (λ e. Refuses e ⊥) }
-{
-    list.push(item).map_err(|_| ReadError::Memory)
 }

@@ -7,7 +7,7 @@ use Rattle.exact_numbers.proofs.Casts.{fits}
 use Rattle.linear_forms.specs.Terms.{coefficients}
 use Rattle.linear_forms.specs.Reduction.{quotient}
 use Rattle.atom_normal.specs.Atoms.{relation_of}
-use Rattle.atom_normal.specs.NormalForm.{first, turned}
+use Rattle.atom_normal.specs.NormalForm.{turned}
 use Rattle.atom_normal.proofs.Stepped.{IsDivisor, field_divisor, field_atom}
 use Rattle.atom_normal.proofs.comparison.in_fields.Goals as goal
 

@@ -2,7 +2,7 @@ use Rattle.std.proofs.Common.{◌≡◌, ◌∷◌, List, pos, ℤ, ap, sym, ◌
 use Rattle.std.specs.Int.{w128, cast_unsigned}
 use Rattle.std.proofs.lemmas.Int.{to_z-of_z}
 use Rattle.exact_numbers.specs.Limit.{InLimit}
-use Rattle.exact_numbers.specs.Divides.{DividesAll, content_of}
+use Rattle.exact_numbers.specs.Divides.{DividesAll}
 use Rattle.exact_numbers.proofs.Casts.{fits}
 use Rattle.formula_meaning.specs.Form.{Form, Term}
 use Rattle.formula_meaning.specs.Formula.{One}
@@ -13,7 +13,7 @@ use Rattle.atom_normal.specs.Atoms.{relation_of}
 use Rattle.atom_normal.specs.Bounds.{bounded, IsWithin}
 use Rattle.atom_normal.specs.declared.comparison.Bound.{Bound}
 use Rattle.atom_normal.specs.declared.comparison.Bound.TheVariants.{At}
-use Rattle.atom_normal.specs.NormalForm.{first, turned, facing, rounded}
+use Rattle.atom_normal.specs.NormalForm.{turned}
 use Rattle.atom_normal.proofs.Stepped.{IsDivisor, integer_divisor, integer_tree, quotient_terms}
 use Rattle.atom_normal.proofs.comparison.over_integers.Goals as goal
 

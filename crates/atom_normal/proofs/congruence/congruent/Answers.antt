@@ -1,18 +1,16 @@
-use Rattle.std.proofs.Common.{◌≡◌, ◌∷◌, Ok, Err, IfOk, Bool, true, pos, ℤ, to_z, of_z, ap, sym, ◌∙◌, subst, rules}
-use Rattle.std.specs.Prelude.{◌<ℤ◌, int_div, FitsSigned}
+use Rattle.std.proofs.Common.{◌≡◌, ◌∷◌, true, pos, ℤ, ap, sym, ◌∙◌, subst, rules}
+use Rattle.std.specs.Prelude.{FitsSigned}
 use Rattle.std.specs.Int.{w128}
 use Rattle.std.specs.Ordering.{int_eq}
 use Rattle.std.specs.Cmp.{signed_Decides}
 use Rattle.std.proofs.lemmas.Int.{to_z-of_z}
 use Rattle.exact_numbers.specs.Limit.{InLimit}
-use Rattle.exact_numbers.specs.Divides.{Divides, DividesAll, residue_of, content_of}
+use Rattle.exact_numbers.specs.Divides.{DividesAll, residue_of, content_of}
 use Rattle.exact_numbers.proofs.Casts.{fits}
 use Rattle.exact_numbers.proofs.Floor.{divides_from_residue}
-use Rattle.formula_meaning.specs.Form.{Form}
 use Rattle.linear_forms.specs.Terms.{coefficients}
 use Rattle.linear_forms.specs.Reduction.{quotient, residue_form}
 use Rattle.atom_normal.specs.Atoms.{tree_of}
-use Rattle.atom_normal.specs.NormalForm.{first, congruent}
 use Rattle.atom_normal.proofs.Stepped.{divided_first, congruent_tree, ok_map}
 use Rattle.atom_normal.proofs.congruence.congruent.Goals as goal
 

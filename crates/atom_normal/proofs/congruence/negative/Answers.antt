@@ -1,4 +1,4 @@
-use Rattle.std.proofs.Common.{List, [], ◌∷◌, ◌∙◌, pos, negsuc, ℤ}
+use Rattle.std.proofs.Common.{List, [], ◌∷◌, ◌∙◌, negsuc, ℤ}
 use Rattle.exact_numbers.specs.Divides.{DividesAll}
 use Rattle.exact_numbers.proofs.Divisibility.{neg_divides, one_divides}
 use Rattle.linear_forms.specs.Terms.{coefficients}

@@ -1,5 +1,4 @@
-use Rattle.std.proofs.Common.{◌≡◌, IfOk, pos, ℤ, sym, ◌∙◌, subst, refl}
-use Rattle.std.specs.Prelude.{◌<ℤ◌}
+use Rattle.std.proofs.Common.{◌≡◌, sym, ◌∙◌, subst, refl}
 use Rattle.std.proofs.lemmas.Int.{to_z-of_z}
 use Rattle.exact_numbers.proofs.Casts.{fits}
 use Rattle.formula_meaning.specs.Tree.{Tree}
@@ -7,7 +6,7 @@ use Rattle.atom_normal.specs.declared.atoms.Atom.{Atom}
 use Rattle.atom_normal.specs.declared.atoms.Atom.TheVariants.{Compare, Congruent}
 use Rattle.atom_normal.specs.declared.atoms.Context.{Context}
 use Rattle.atom_normal.specs.declared.atoms.Context.TheVariants.{Fields, Integers}
-use Rattle.atom_normal.specs.Atoms.{context_of, relation_of, atom_of, tree_of, IsWellFormed}
+use Rattle.atom_normal.specs.Atoms.{context_of, relation_of, atom_of, IsWellFormed}
 use Rattle.atom_normal.specs.NormalForm.{normal_atom, compared_in_fields, compared_over_integers, ConstantPasses}
 use Rattle.atom_normal.proofs.Sorted.{normal_in_fields, normal_over_integers, normal_congruent}
 use Rattle.atom_normal.proofs.Stepped.{ok_map}

@@ -1,4 +1,4 @@
-use Rattle.std.proofs.Common.{◌≡◌, FitsSigned, MatchBool, rules, ap, sym, ◌∙◌, subst, ℤ}
+use Rattle.std.proofs.Common.{FitsSigned, MatchBool, rules, ap, sym, subst}
 use Rattle.std.specs.Prelude.{unsigned_abs}
 use Rattle.std.specs.Int.{w128}
 use Rattle.std.proofs.Math.Bool.{beq}

@@ -1,7 +1,6 @@
-use Rattle.std.proofs.Common.{rules, ◌≡◌, ℤ, FitsSigned, sym, subst}
+use Rattle.std.proofs.Common.{rules, FitsSigned}
 use Rattle.std.specs.Int.{w128}
 use Rattle.std.proofs.lemmas.Int.{to_z-of_z}
-use Rattle.exact_numbers.specs.Limit.{InLimit}
 use Rattle.atom_normal.proofs.Ranges.{first_within}
 use Rattle.atom_normal.proofs.parts.first_coefficient.Goals as goal
 

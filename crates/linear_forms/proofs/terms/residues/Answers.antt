@@ -1,4 +1,4 @@
-use Rattle.std.proofs.Common.{rules, ◌≡◌, FitsSigned, List, [], ◌∷◌, ◌++◌, get_or, drop, pos, ℤ, ap, sym, ◌∙◌, subst}
+use Rattle.std.proofs.Common.{rules, ◌≡◌, FitsSigned, List, ◌++◌, get_or, pos, ℤ, ap, sym, ◌∙◌}
 use Rattle.std.proofs.lemmas.List.{drop_all, append-nil}
 use Rattle.std.specs.Int.{w128, cast_unsigned}
 use Rattle.std.proofs.lemmas.Int.{to_z-of_z}

@@ -7,8 +7,8 @@ use Rattle.redlog_reader.proofs.level.is_deep.Goals as goal
 pub tokens-init : goal.tokens-init
 tokens-init c = shallow_start _ _ c.new-levels.ensures.small c.new-levels.ensures.levels
 
-pub returns-then-level-gt-LEVEL_LIMIT-clause-deep : goal.returns-then-level-gt-LEVEL_LIMIT-clause-deep
-returns-then-level-gt-LEVEL_LIMIT-clause-deep c =
+pub returns-then-level-gt-LEVEL_LIMIT : goal.returns-then-level-gt-LEVEL_LIMIT
+returns-then-level-gt-LEVEL_LIMIT c =
     let next = next_terminal c.args.tokens.now c.tokens.token-index c.token-item.result c.tokens-test.true c.token-item.is in
     let above : 512 < count c.take.new.self = omega (arith, c.if-level-gt-LEVEL_LIMIT.true, c.level.ensures) in
     deep _ _ c.tokens.invariant (next ∙ ap (λ t. t ∷ terminals (drop (c.tokens.token-index + 1) c.args.tokens.now)) (sym c.terminal_of-terminal.ensures)) c.in_ok-take.ensures.taken c.in_ok-take.ensures.total above
@@ -20,5 +20,5 @@ tokens-preserved c =
     shallow_more _ _ c.tokens.invariant (next ∙ ap (λ t. t ∷ terminals (drop (c.tokens.token-index + 1) c.args.tokens.now)) (sym c.terminal_of-terminal.ensures)) c.in_ok-take.ensures.taken c.in_ok-take.ensures.total within
     c.in_ok-take.ensures.held
 
-pub returns-clause-deep : goal.returns-clause-deep
-returns-clause-deep c = shallow_end c.tokens.invariant (no_terminal c.args.tokens.now c.tokens.token-index c.tokens-test.false)
+pub returns : goal.returns
+returns c = shallow_end c.tokens.invariant (no_terminal c.args.tokens.now c.tokens.token-index c.tokens-test.false)

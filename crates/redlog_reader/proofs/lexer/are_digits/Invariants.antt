@@ -1,6 +1,6 @@
 use Rattle.std.proofs.Common.{◌≡◌, drop}
 use Rattle.std.specs.List.{list_all}
-use Rattle.redlog_reader.specs.Lexing.{is_digit}
+use Rattle.qe_syntax.specs.Names.{is_digit}
 use Rattle.redlog_reader.proofs.lexer.are_digits.Given as goal
 
 abbrev pub invariant-digits : goal.invariant-digits

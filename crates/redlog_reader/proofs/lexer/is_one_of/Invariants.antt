@@ -1,5 +1,5 @@
 use Rattle.std.proofs.Common.{◌≡◌, map, drop}
-use Rattle.redlog_reader.specs.Lexing.{is_one_of}
+use Rattle.qe_syntax.specs.Names.{is_one_of}
 use Rattle.redlog_reader.proofs.lexer.is_one_of.Given as goal
 
 abbrev pub invariant-words : goal.invariant-words

@@ -1,8 +1,6 @@
-use Rattle.std.proofs.Common.{◌≡◌, List, ap}
+use Rattle.std.proofs.Common.{◌≡◌}
 use Rattle.std.proofs.lemmas.Int.{to_z-of_z}
-use Rattle.exact_numbers.specs.Divides.{residue_of}
 use Rattle.exact_numbers.proofs.Casts.{fits}
-use Rattle.formula_meaning.specs.Form.{Term}
 use Rattle.linear_forms.specs.Linear.{terms_of}
 use Rattle.linear_forms.specs.Reduction.{residues}
 use Rattle.linear_forms.proofs.Reduced.{reduced_form, reduced_linear}

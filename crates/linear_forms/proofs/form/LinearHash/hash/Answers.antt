@@ -1,6 +1,5 @@
-use Rattle.std.proofs.Common.{ap, sym, ◌∙◌, refl}
+use Rattle.std.proofs.Common.{ap}
 use Rattle.std.specs.Hash.{slice, i128, fed_then, fed_along}
-use Rattle.formula_meaning.specs.Form.{Form}
 use Rattle.linear_forms.specs.Linear.{terms_of}
 use Rattle.linear_forms.specs.Equality.{term_writes, form_writes}
 use Rattle.linear_forms.proofs.Equal.{slice_fed}

@@ -1,4 +1,4 @@
-use Rattle.std.proofs.Common.{◌≡◌, Bool, true, false, ◌&&◌, sym, ap, ◌∙◌, refl, is_eq}
+use Rattle.std.proofs.Common.{◌&&◌, sym, ap, ◌∙◌, is_eq}
 use Rattle.std.specs.Ordering.{int_eq}
 use Rattle.linear_forms.proofs.Equal.{forms_eq}
 use Rattle.linear_forms.proofs.form.LinearPartialEq.eq.Goals as goal

@@ -1,0 +1,286 @@
+-- Each statement that the grammar spells is read.
+use Rattle.std.proofs.Common.{◌≡◌, ℕ, ◌<◌, Bool, true, false, List, [], ◌∷◌, sym, refl, ap, ◌∙◌, arith}
+use Rattle.std.specs.Prelude.{Option, Some, None, pos, if◌then◌else◌}
+use Rattle.qe_syntax.specs.declared.tree.Literal.{Literal}
+use Rattle.qe_syntax.specs.declared.tree.Literal.TheVariants.{Fits, Past}
+use Rattle.qe_syntax.specs.declared.tree.Relation.{Relation}
+use Rattle.qe_syntax.specs.declared.statement.PointEntry.{PointEntry}
+use Rattle.formula_meaning.specs.Formula.{One}
+use Rattle.qe_syntax.specs.Trees.{TermTree, Compare, FormulaTree, formulas_of}
+use Rattle.qe_syntax.specs.Statements.{CommandTree, Echo, Nnf, Pnf, Dnf, Cnf, Simpl, Qe, Qea, Holds, Sample, ActionTree, Empty, Ignored, Choose, Say, Assign, StatementTree}
+use Rattle.redlog_reader.specs.declared.terminal.Terminal.{Terminal}
+use Rattle.redlog_reader.specs.declared.terminal.Terminal.TheVariants as terminal
+use Rattle.redlog_reader.specs.declared.terminal.Mark.TheVariants as mark
+use Rattle.redlog_reader.specs.declared.terminal.Word.{Word}
+use Rattle.redlog_reader.specs.declared.terminal.Word.TheVariants as word
+use Rattle.redlog_reader.specs.Machine.{Reading, term_of, formula_of, Wants, Held, Stops, strength, run, operated}
+use Rattle.redlog_reader.specs.Grammar.{SpellsFactor, SpellsPower, first_power, raised, product, SpellsSum, sum, IsRelation, relation_sign, relation_word, SpellsComparison, comparison, SpellsCongruence, congruent, incongruent, SpellsAtom, compared_atom, congruent_atom}
+use Rattle.redlog_reader.specs.Grammar.{SpellsPrime, truth, falsity, named_formula, congruence, inner_formula, exists, for_all, SpellsFormula, IsAny, any_name, any_word, SpellsAnys, last_any, more_anys, opposite, Above, unsigned, opposed, Below, one, divided, SpellsEntry, entry, Listed, last_item, more_items, empty, listed, SpellsPoint, SpellsAtoms}
+use Rattle.redlog_reader.specs.Grammar.{SpellsArgument, alone, under, SpellsResult, echo, nnf, pnf, dnf, cnf, simpl, qe, SpellsQuery, qea, holds, witness, SpellsAction, assign, result, query, choose, load, on, off, end, bye, quit, end_mark, SpellsStatement, nothing, acting}
+use Rattle.redlog_reader.specs.Reader.{on_some, after_mark, formula_read, sum_read, relation_of, relation_read, comparison_read, begins_congruence, atom_read, items_read, braced_read, negated_literal, above_read, below_read, entry_read, argument_read, pointed_read, result_read, is_any, anys_read, said, action_read, ending, statement_read}
+use Rattle.std.proofs.lemmas.Bool.{lt-ltb}
+use Rattle.std.proofs.lemmas.Int.{ints}
+use Rattle.std.specs.Prelude.{negsuc}
+use Rattle.qe_syntax.specs.Proper.{IsNumeral}
+use Rattle.redlog_reader.proofs.Proper.{AreProperTerminals, proper_entry, proper_formula}
+use Rattle.redlog_reader.proofs.Steps.{outcome, no_power}
+use Rattle.redlog_reader.proofs.CompleteTerms.{complete_sum}
+use Rattle.redlog_reader.proofs.CompleteFormulas.{complete_prime, complete_formula}
+use Rattle.redlog_reader.proofs.Options.{is_some, is_none, anys_more, anys_last}
+use Rattle.redlog_reader.proofs.Items.{items_more, items_last, atom_less, entry_less, onto}
+
+-- what is read where a terminal ends it
+stopped : (goal : ℕ) (t : Terminal) (ts : List Terminal) (h : Reading) → goal < strength t → run goal (t ∷ ts) [] (Held h) ≡ Some (h, t ∷ ts)
+stopped goal t ts h less = ap (λ b. outcome goal t ts (if b then Stops h else operated goal t [] h)) (lt-ltb goal (strength t) less)
+
+read_formula : (goal : ℕ) (ts : List Terminal) (h : Reading) (f : FormulaTree) (rest : List Terminal) → formula_of h ≡ Some f → run goal ts [] Wants ≡ Some (h, rest) → formula_read goal ts ≡ Some (f, rest)
+read_formula goal ts h f rest is runs =
+    is_some (run goal ts [] Wants) (h, rest) (λ p. on_some (formula_of p.0) (λ f. Some (f, p.1)) None) None runs ∙ is_some (formula_of h) f (λ f. Some (f, rest)) None is
+
+formula_done : {ts rest : List Terminal} {t : Terminal} {f : FormulaTree} → SpellsFormula ts f (t ∷ rest) → 8 < strength t → formula_read 8 ts ≡ Some (f, t ∷ rest)
+formula_done {ts = ts} {rest = rest} {t = t} {f = f} p less =
+    let found = complete_formula 8 [] p (omega arith) less in
+    read_formula 8 ts found.reading f (t ∷ rest) found.is (found.runs ∙ stopped 8 t rest found.reading less)
+
+prime_done : {ts rest : List Terminal} {t : Terminal} {f : FormulaTree} → SpellsPrime ts f (t ∷ rest) → 8 < strength t → formula_read 0 ts ≡ Some (f, t ∷ rest)
+prime_done {ts = ts} {rest = rest} {t = t} {f = f} p less =
+    let found = complete_prime 0 [] p in
+    read_formula 0 ts found.reading f (t ∷ rest) found.is (found.runs ∙ no_power 0 (t ∷ rest) [] found.reading (omega (arith, less)) ∙ stopped 0 t rest found.reading (omega (arith, less)))
+
+sum_done : {ts rest : List Terminal} {t : Terminal} {s : TermTree} → SpellsSum ts s (t ∷ rest) → 2 < strength t → sum_read ts ≡ Some (s, t ∷ rest)
+sum_done {ts = ts} {rest = rest} {t = t} {s = s} p less =
+    let found = complete_sum 2 [] p (omega arith) less in
+    is_some (run 2 ts [] Wants) (found.reading, t ∷ rest) (λ p. on_some (term_of p.0) (λ f. Some (f, p.1)) None) None (found.runs ∙ stopped 2 t rest found.reading less)
+    ∙ is_some (term_of found.reading) s (λ f. Some (f, t ∷ rest)) None found.is
+
+relation_done : {t : Terminal} {r : Relation} → IsRelation t r → (relation_of t ≡ Some r) × (strength t ≡ 3)
+relation_done relation_sign = (refl, refl)
+relation_done relation_word = (refl, refl)
+
+comparison_done : {ts rest : List Terminal} {t : Terminal} {f : FormulaTree} → SpellsComparison ts f (t ∷ rest) → 8 < strength t → comparison_read ts ≡ Some (f, t ∷ rest)
+comparison_done {ts = ts} {rest = rest} {t = t} (comparison {us = us} {sign = sign} {r = r} {s = s} {t = x} p is q) less =
+    is_some (sum_read ts) (s, sign ∷ us) (λ p. on_some (relation_read p.1) (λ q. on_some (sum_read q.1) (λ r. Some (One (Compare q.0 p.0 r.0), r.1)) None) None) None
+    (sum_done p (omega (arith, (relation_done is).1)))
+    ∙ is_some (relation_read (sign ∷ us)) (r, us) (λ q. on_some (sum_read q.1) (λ r. Some (One (Compare q.0 s r.0), r.1)) None) None (is_some (relation_of sign) r (λ r. Some (r, us)) None (relation_done is).0)
+    ∙ is_some (sum_read us) (x, t ∷ rest) (λ y. Some (One (Compare r s y.0), y.1)) None (sum_done q (omega (arith, less)))
+
+-- no sum begins with a word
+factor_no_word : {w : Word} {ts r : List Terminal} {t : TermTree} → SpellsFactor (terminal.Word w ∷ ts) t r → ⊥
+factor_no_word p = elim p [ ]
+
+power_no_word : {w : Word} {ts r : List Terminal} {t : TermTree} → SpellsPower (terminal.Word w ∷ ts) t r → ⊥
+power_no_word (first_power p) = factor_no_word p
+power_no_word (raised p) = factor_no_word p
+
+sum_no_word : {w : Word} {ts r : List Terminal} {t : TermTree} → SpellsSum (terminal.Word w ∷ ts) t r → ⊥
+sum_no_word (sum (product p n) m) = power_no_word p
+
+comparison_begins : (ts r : List Terminal) {f : FormulaTree} → SpellsComparison ts f r → begins_congruence ts ≡ false
+comparison_begins [] r p = refl
+comparison_begins (terminal.Word w ∷ ts) r (comparison p is q) = absurd (sum_no_word p)
+comparison_begins (t ∷ ts) r p = refl
+
+congruence_begins : {ts r : List Terminal} {f : FormulaTree} → SpellsCongruence ts f r → begins_congruence ts ≡ true
+congruence_begins (congruent p q m) = refl
+congruence_begins (incongruent p q m) = refl
+
+atom_done : {ts rest : List Terminal} {t : Terminal} {f : FormulaTree} → SpellsAtom ts f (t ∷ rest) → 8 < strength t → atom_read ts ≡ Some (f, t ∷ rest)
+atom_done {ts = ts} {rest = rest} {t = t} (compared_atom p) less = ap (λ b. if b then formula_read 0 ts else comparison_read ts) (comparison_begins ts (t ∷ rest) p) ∙ comparison_done p less
+atom_done {ts = ts} (congruent_atom p) less = ap (λ b. if b then formula_read 0 ts else comparison_read ts) (congruence_begins p) ∙ prime_done (congruence p) less
+
+-- each atom is read
+atoms_done : {ts rest : List Terminal} {fs : List FormulaTree} → Listed SpellsAtom ts fs (terminal.Mark mark.CloseBrace ∷ rest) → items_read atom_read ts ≡ Some (fs, terminal.Mark mark.CloseBrace ∷ rest)
+atoms_done {ts = ts} {rest = rest} (last_item {x = x} p) = items_last atom_read atom_less ts (x, terminal.Mark mark.CloseBrace ∷ rest) (atom_done p (omega arith)) refl
+atoms_done {ts = ts} {rest = rest} (more_items {us = us} {x = x} p m) =
+    items_more atom_read atom_less ts us (x, terminal.Mark mark.Comma ∷ us) (atom_done p (omega arith)) refl ∙ ap (onto (x ∷ [])) (atoms_done m)
+
+-- numerals have an opposite
+pub negated_done : (n : Literal) → IsNumeral n → negated_literal n ≡ opposite n
+negated_done (Fits (pos n)) h = refl
+negated_done (Fits (negsuc n)) h = absurd (omega (arith, ints, h.0))
+negated_done Past h = refl
+
+above_done : {ts rest : List Terminal} {n : Literal} → AreProperTerminals ts → Above ts n rest → above_read ts ≡ Some (n, rest)
+above_done good unsigned = refl
+above_done good (opposed {n = n} {rest = rest} is) = ap (λ k. Some (k, rest)) (negated_done n good.0 ∙ sym is)
+
+below_done : {ts rest : List Terminal} {t : Terminal} {n : Literal} → Below ts n (t ∷ rest) → 8 < strength t → below_read ts ≡ Some (n, t ∷ rest)
+below_done {rest = rest} {t = t} one less = no_slash t less
+  where
+    no_slash : (t : Terminal) → 8 < strength t → below_read (t ∷ rest) ≡ Some (Fits (pos 1), t ∷ rest)
+    no_slash (terminal.Mark mark.Slash) less = absurd (omega (arith, less))
+    no_slash (terminal.Mark m) less = refl
+    no_slash t less = refl
+below_done divided less = refl
+
+entry_done : {ts rest : List Terminal} {t : Terminal} {e : PointEntry} → AreProperTerminals ts → SpellsEntry ts e (t ∷ rest) → 8 < strength t → entry_read ts ≡ Some (e, t ∷ rest)
+entry_done {rest = rest} {t = t} {e = e} good (entry {ts = ts} {us = us} {x = x} is above below) less =
+    let made : List ℕ → Literal → Literal → PointEntry = λ x n d. record { name = x; above = n; below = d } in
+    is_some (above_read ts) (e.above, us) (λ q. on_some (below_read q.1) (λ r. Some (made x q.0 r.0, r.1)) None) None (above_done good.1 above)
+    ∙ is_some (below_read us) (e.below, t ∷ rest) (λ r. Some (made x e.above r.0, r.1)) None (below_done below less)
+    ∙ ap (λ y. Some (made y e.above e.below, t ∷ rest)) is
+
+entries_done : {ts rest : List Terminal} {es : List PointEntry} → AreProperTerminals ts → Listed SpellsEntry ts es (terminal.Mark mark.CloseBrace ∷ rest) → items_read entry_read ts ≡ Some (es, terminal.Mark mark.CloseBrace ∷ rest)
+entries_done {ts = ts} {rest = rest} good (last_item {x = x} p) = items_last entry_read entry_less ts (x, terminal.Mark mark.CloseBrace ∷ rest) (entry_done good p (omega arith)) refl
+entries_done {ts = ts} {rest = rest} good (more_items {us = us} {x = x} p m) =
+    items_more entry_read entry_less ts us (x, terminal.Mark mark.Comma ∷ us) (entry_done good p (omega arith)) refl ∙ ap (onto (x ∷ [])) (entries_done (proper_entry p good).1 m)
+
+atoms_open : (us : List Terminal) {p : List FormulaTree × List Terminal} → items_read atom_read us ≡ Some p → after_mark mark.CloseBrace us ≡ None
+atoms_open [] e = refl
+atoms_open (terminal.Mark mark.CloseBrace ∷ us) e = absurd (let no : ⊥ = cc in no)
+atoms_open (t ∷ us) e = refl
+
+entries_open : (us : List Terminal) {p : List PointEntry × List Terminal} → items_read entry_read us ≡ Some p → after_mark mark.CloseBrace us ≡ None
+entries_open [] e = refl
+entries_open (terminal.Mark mark.CloseBrace ∷ us) e = absurd (let no : ⊥ = cc in no)
+entries_open (t ∷ us) e = refl
+
+braced_done : {X : Type 0} (read : List Terminal → Option (X × List Terminal)) (us : List Terminal) {rest : List Terminal} {xs : List X}
+    → items_read read us ≡ Some (xs, terminal.Mark mark.CloseBrace ∷ rest) → after_mark mark.CloseBrace us ≡ None → braced_read read (terminal.Mark mark.OpenBrace ∷ us) ≡ Some (xs, rest)
+braced_done read us {rest = rest} {xs = xs} e others =
+    is_none (after_mark mark.CloseBrace us) (λ vs. Some ([], vs)) (on_some (items_read read us) (λ p. on_some (after_mark mark.CloseBrace p.1) (λ vs. Some (p.0, vs)) None) None) others
+    ∙ is_some (items_read read us) (xs, terminal.Mark mark.CloseBrace ∷ rest) (λ p. on_some (after_mark mark.CloseBrace p.1) (λ vs. Some (p.0, vs)) None) None e
+
+braced_atoms : {ts rest : List Terminal} {fs : List FormulaTree} → SpellsAtoms ts fs rest → braced_read atom_read ts ≡ Some (fs, rest)
+braced_atoms empty = refl
+braced_atoms (listed {ts = us} p) = braced_done atom_read us (atoms_done p) (atoms_open us (atoms_done p))
+
+braced_entries : {ts rest : List Terminal} {es : List PointEntry} → AreProperTerminals ts → SpellsPoint ts es rest → braced_read entry_read ts ≡ Some (es, rest)
+braced_entries good empty = refl
+braced_entries good (listed {ts = us} p) = braced_done entry_read us (entries_done good p) (entries_open us (entries_done good p))
+
+abbrev Argument : Type 0
+Argument = (FormulaTree × List FormulaTree) × List Terminal
+
+abbrev after_argument : FormulaTree × List Terminal → Option Argument
+after_argument p =
+    on_some (after_mark mark.Close p.1) (λ vs. Some ((p.0, []), vs))
+    (on_some (after_mark mark.Comma p.1) (λ vs. on_some (braced_read atom_read vs) (λ q. on_some (after_mark mark.Close q.1) (λ ws. Some ((p.0, q.0), ws)) None) None) None)
+
+prime_argument : {ts rest : List Terminal} {t : Terminal} {f : FormulaTree} → after_mark mark.Open ts ≡ None → SpellsPrime ts f (t ∷ rest) → 8 < strength t → argument_read ts ≡ Some ((f, []), t ∷ rest)
+prime_argument {ts = ts} {rest = rest} {t = t} {f = f} bare p less =
+    ap (λ o. on_some o (λ us. on_some (formula_read 8 us) after_argument None) (on_some (formula_read 0 ts) (λ p. let found : Option Argument = Some ((p.0, []), p.1) in found) None)) bare
+    ∙ is_some (formula_read 0 ts) (f, t ∷ rest) (λ p. let found : Option Argument = Some ((p.0, []), p.1) in found) None (prime_done p less)
+
+argument_done : {ts rest : List Terminal} {t : Terminal} {f : FormulaTree} {given : List FormulaTree} → SpellsArgument ts f given (t ∷ rest) → 8 < strength t → argument_read ts ≡ Some ((f, given), t ∷ rest)
+argument_done (alone truth) less = prime_argument refl truth less
+argument_done (alone falsity) less = prime_argument refl falsity less
+argument_done (alone named_formula) less = prime_argument refl named_formula less
+argument_done (alone (congruence (congruent p q m))) less = prime_argument refl (congruence (congruent p q m)) less
+argument_done (alone (congruence (incongruent p q m))) less = prime_argument refl (congruence (incongruent p q m)) less
+argument_done (alone (exists p q is)) less = prime_argument refl (exists p q is) less
+argument_done (alone (for_all p q is)) less = prime_argument refl (for_all p q is) less
+argument_done {rest = rest} {t = t} {f = f} (alone (inner_formula {ts = us} p)) less = is_some (formula_read 8 us) (f, terminal.Mark mark.Close ∷ t ∷ rest) after_argument None (formula_done p (omega arith))
+argument_done {rest = rest} {t = t} {f = f} (under {ts = ts} {us = us} {given = given} p q) less =
+    is_some (formula_read 8 ts) (f, terminal.Mark mark.Comma ∷ us) after_argument None (formula_done p (omega arith))
+    ∙ is_some (braced_read atom_read us) (given, terminal.Mark mark.Close ∷ t ∷ rest) (λ q. on_some (after_mark mark.Close q.1) (λ ws. let found : Option Argument = Some ((f, q.0), ws) in found) None) None (braced_atoms q)
+
+pointed_done : {ts us rest : List Terminal} {f : FormulaTree} {es : List PointEntry} → AreProperTerminals ts → SpellsFormula ts f (terminal.Mark mark.Comma ∷ us) → SpellsPoint us es (terminal.Mark mark.Close ∷ rest)
+    → pointed_read (terminal.Mark mark.Open ∷ ts) ≡ Some ((f, es), rest)
+pointed_done {ts = ts} {us = us} {rest = rest} {f = f} {es = es} good p q =
+    is_some (formula_read 8 ts) (f, terminal.Mark mark.Comma ∷ us)
+    (λ p. on_some (after_mark mark.Comma p.1) (λ vs. on_some (braced_read entry_read vs) (λ q. on_some (after_mark mark.Close q.1) (λ ws. Some ((p.0, q.0), ws)) None) None) None) None (formula_done p (omega arith))
+    ∙ is_some (braced_read entry_read us) (es, terminal.Mark mark.Close ∷ rest) (λ q. on_some (after_mark mark.Close q.1) (λ ws. Some ((f, q.0), ws)) None) None (braced_entries (proper_formula p good).1 q)
+
+echo_done : (ts : List Terminal) (f : FormulaTree) (rest : List Terminal) → formula_read 8 ts ≡ Some (f, rest) → result_read ts ≡ Some (Echo f, rest)
+echo_done [] f rest e = absurd (let no : ⊥ = cc in no)
+echo_done (terminal.Word word.Nnf ∷ ts) f rest e = absurd (let no : ⊥ = cc in no)
+echo_done (terminal.Word word.Pnf ∷ ts) f rest e = absurd (let no : ⊥ = cc in no)
+echo_done (terminal.Word word.Dnf ∷ ts) f rest e = absurd (let no : ⊥ = cc in no)
+echo_done (terminal.Word word.Cnf ∷ ts) f rest e = absurd (let no : ⊥ = cc in no)
+echo_done (terminal.Word word.Simpl ∷ ts) f rest e = absurd (let no : ⊥ = cc in no)
+echo_done (terminal.Word word.Qe ∷ ts) f rest e = absurd (let no : ⊥ = cc in no)
+echo_done (terminal.Word w ∷ ts) f rest e = ap (λ o. on_some o (λ p. Some (Echo p.0, p.1)) None) e
+echo_done (t ∷ ts) f rest e = ap (λ o. on_some o (λ p. Some (Echo p.0, p.1)) None) e
+
+result_done : {ts rest : List Terminal} {t : Terminal} {c : CommandTree} → SpellsResult ts c (t ∷ rest) → 8 < strength t → result_read ts ≡ Some (c, t ∷ rest)
+result_done {ts = ts} {rest = rest} {t = t} (echo {f = f} p) less = echo_done ts f (t ∷ rest) (formula_done p less)
+result_done (nnf p) less = ap (λ o. on_some o (λ p. Some (Nnf p.0, p.1)) None) (prime_done p less)
+result_done (pnf p) less = ap (λ o. on_some o (λ p. Some (Pnf p.0, p.1)) None) (prime_done p less)
+result_done (dnf p) less = ap (λ o. on_some o (λ p. Some (Dnf p.0, p.1)) None) (prime_done p less)
+result_done (cnf p) less = ap (λ o. on_some o (λ p. Some (Cnf p.0, p.1)) None) (prime_done p less)
+result_done (simpl p) less = ap (λ o. on_some o (λ p. Some (Simpl p.0.0 (formulas_of p.0.1), p.1)) None) (argument_done p less)
+result_done (qe p) less = ap (λ o. on_some o (λ p. Some (Qe p.0.0 (formulas_of p.0.1), p.1)) None) (argument_done p less)
+
+any_done : {t : Terminal} → IsAny t → is_any t ≡ true
+any_done any_name = refl
+any_done any_word = refl
+
+anys_done : {ts rest : List Terminal} → SpellsAnys ts rest → after_mark mark.Comma rest ≡ None → anys_read ts ≡ Some rest
+anys_done {rest = rest} (last_any {t = t} any) e = anys_last t rest (any_done any) e
+anys_done (more_anys {t = t} {ts = ts} any p) e = anys_more t (terminal.Mark mark.Comma ∷ ts) ts (any_done any) refl ∙ anys_done p e
+
+ends_strongly : (printed : Bool) → 8 < strength (terminal.Mark (end_mark printed))
+ends_strongly true = omega arith
+ends_strongly false = omega arith
+
+no_comma : (printed : Bool) → after_mark mark.Comma (terminal.Mark (end_mark printed) ∷ []) ≡ None
+no_comma true = refl
+no_comma false = refl
+
+no_assign : (printed : Bool) (us : List Terminal) → terminal.Mark (end_mark printed) ∷ [] ≡ terminal.Mark mark.Assign ∷ us → ⊥
+no_assign true us e = cc
+no_assign false us e = cc
+
+rest_of : {X : Type 0} {x y : X} {r s : List Terminal} → (let p : X × List Terminal = (x, r) in let q : X × List Terminal = (y, s) in Some p ≡ Some q) → s ≡ r
+rest_of {X = X} {x = x} {y = y} {r = r} {s = s} e = let same : (let p : X × List Terminal = (x, r) in let q : X × List Terminal = (y, s) in p ≡ q) = cc in ap (λ (v : X × List Terminal). v.1) (sym same)
+
+said_done : (ts : List Terminal) (c : CommandTree) (rest : List Terminal) → ((us : List Terminal) → rest ≡ terminal.Mark mark.Assign ∷ us → ⊥) → result_read ts ≡ Some (c, rest) → action_read ts ≡ Some (Say c, rest)
+said_done [] c rest other e = absurd (let no : ⊥ = cc in no)
+said_done (terminal.Word word.Set ∷ ts) c rest other e = absurd (let no : ⊥ = cc in no)
+said_done (terminal.Word word.Load ∷ ts) c rest other e = absurd (let no : ⊥ = cc in no)
+said_done (terminal.Word word.On ∷ ts) c rest other e = absurd (let no : ⊥ = cc in no)
+said_done (terminal.Word word.Off ∷ ts) c rest other e = absurd (let no : ⊥ = cc in no)
+said_done (terminal.Word word.End ∷ ts) c rest other e = absurd (let no : ⊥ = cc in no)
+said_done (terminal.Word word.Bye ∷ ts) c rest other e = absurd (let no : ⊥ = cc in no)
+said_done (terminal.Word word.Quit ∷ ts) c rest other e = absurd (let no : ⊥ = cc in no)
+said_done (terminal.Word word.Qea ∷ ts) c rest other e = absurd (let no : ⊥ = cc in no)
+said_done (terminal.Word word.Holds ∷ ts) c rest other e = absurd (let no : ⊥ = cc in no)
+said_done (terminal.Word word.Witness ∷ ts) c rest other e = absurd (let no : ⊥ = cc in no)
+said_done (terminal.Word w ∷ ts) c rest other e = ap said e
+said_done (terminal.Name x ∷ []) c rest other e = ap said e
+said_done (terminal.Name x ∷ terminal.Mark mark.Assign ∷ ts) c rest other e = absurd (other ts (rest_of e))
+said_done (terminal.Name x ∷ t ∷ ts) c rest other e = ap said e
+said_done (t ∷ ts) c rest other e = ap said e
+
+query_done : {ts : List Terminal} {c : CommandTree} (printed : Bool) → AreProperTerminals ts → SpellsQuery ts c (terminal.Mark (end_mark printed) ∷ []) → action_read ts ≡ Some (Say c, terminal.Mark (end_mark printed) ∷ [])
+query_done printed good (qea p) = ap (λ o. on_some o (λ p. Some (Say (Qea p.0.0 (formulas_of p.0.1)), p.1)) None) (argument_done p (ends_strongly printed))
+query_done printed good (holds p q) = ap (λ o. on_some o (λ p. Some (Say (Holds p.0.0 p.0.1), p.1)) None) (pointed_done good p q)
+query_done printed good (witness p q) = ap (λ o. on_some o (λ p. Some (Say (Sample p.0.0 p.0.1), p.1)) None) (pointed_done good p q)
+
+action_done : {ts : List Terminal} {a : ActionTree} (printed : Bool) → AreProperTerminals ts → SpellsAction ts a (terminal.Mark (end_mark printed) ∷ []) → action_read ts ≡ Some (a, terminal.Mark (end_mark printed) ∷ [])
+action_done printed good (assign {x = x} p) = ap (λ o. on_some o (λ p. Some (Assign x p.0, p.1)) None) (result_done p (ends_strongly printed))
+action_done {ts = ts} printed good (result {c = c} p) = said_done ts c (terminal.Mark (end_mark printed) ∷ []) (no_assign printed) (result_done p (ends_strongly printed))
+action_done printed good (query p) = query_done printed good p
+action_done printed good (choose {s = s} is) = ap (λ o. on_some o (λ s. Some (Choose s, terminal.Mark (end_mark printed) ∷ [])) None) is
+action_done printed good (load p) = ap (λ o. on_some o (λ us. Some (Ignored, us)) None) (anys_done p (no_comma printed))
+action_done printed good (on p) = ap (λ o. on_some o (λ us. Some (Ignored, us)) None) (anys_done p (no_comma printed))
+action_done printed good (off p) = ap (λ o. on_some o (λ us. Some (Ignored, us)) None) (anys_done p (no_comma printed))
+action_done printed good end = refl
+action_done printed good bye = refl
+action_done printed good quit = refl
+
+goes_on : (ts : List Terminal) (p : ActionTree × List Terminal) → action_read ts ≡ Some p → ending ts ≡ None
+goes_on [] p e = refl
+goes_on (terminal.Mark mark.Semicolon ∷ ts) p e = absurd (let no : ⊥ = cc in no)
+goes_on (terminal.Mark mark.Dollar ∷ ts) p e = absurd (let no : ⊥ = cc in no)
+goes_on (t ∷ ts) p e = refl
+
+ended : (printed : Bool) → ending (terminal.Mark (end_mark printed) ∷ []) ≡ Some printed
+ended true = refl
+ended false = refl
+
+-- what follows the first test of an end
+abbrev then_statement : List Terminal → Option Bool → Option (ActionTree × List Terminal) → Option StatementTree
+then_statement ts o a =
+    on_some o (λ printed. Some (record { action = Empty; printed = printed }))
+    (on_some a (λ p. on_some (ending p.1) (λ printed. Some (record { action = p.0; printed = printed })) None) None)
+
+-- each statement that proper terminals spell is read
+pub statement_done : {ts : List Terminal} {s : StatementTree} → AreProperTerminals ts → SpellsStatement ts s → statement_read ts ≡ Some s
+statement_done {ts = ts} good (nothing {printed = printed} is) = ap (λ o. then_statement ts o (action_read ts)) (ended printed) ∙ ap Some (sym is)
+statement_done {ts = ts} good (acting {a = a} {printed = printed} p is) =
+    let read = action_done printed good p in
+    ap (λ o. then_statement ts o (action_read ts)) (goes_on ts (a, terminal.Mark (end_mark printed) ∷ []) read)
+    ∙ ap (then_statement ts None) read
+    ∙ ap (λ o. on_some o (λ printed. let s : StatementTree = record { action = a; printed = printed } in Some s) None) (ended printed) ∙ ap Some (sym is)

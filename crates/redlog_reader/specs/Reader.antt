@@ -1,0 +1,204 @@
+-- How a statement is read around its terms and formulas. These are functions, so what they read is determined.
+use Rattle.std.specs.Prelude.{◌==◌, ℕ, zero, suc, Bool, true, false, List, [], ◌∷◌, length, Option, Some, None, if◌then◌else◌, pos, negsuc, neg_ℤ, ◌^◌, ◌-◌}
+use Rattle.std.specs.Ordering.{int_eq}
+use Rattle.formula_meaning.specs.Formula.{One}
+use Rattle.qe_syntax.specs.declared.tree.Literal.{Literal}
+use Rattle.qe_syntax.specs.declared.tree.Literal.TheVariants.{Fits, Past}
+use Rattle.qe_syntax.specs.declared.tree.Relation.{Relation}
+use Rattle.qe_syntax.specs.declared.tree.Relation.TheVariants.{Equal, Differs}
+use Rattle.qe_syntax.specs.declared.statement.PointEntry.{PointEntry}
+use Rattle.qe_syntax.specs.Trees.{TermTree, Compare, FormulaTree, formulas_of}
+use Rattle.qe_syntax.specs.Statements.{CommandTree, Echo, Nnf, Pnf, Dnf, Cnf, Simpl, Qe, Qea, Holds, Sample, ActionTree, Empty, Ignored, Finish, Choose, Say, Assign, StatementTree}
+use Rattle.redlog_reader.specs.declared.terminal.Terminal.{Terminal}
+use Rattle.redlog_reader.specs.declared.terminal.Terminal.TheVariants as terminal
+use Rattle.redlog_reader.specs.declared.terminal.Mark.{Mark}
+use Rattle.redlog_reader.specs.declared.terminal.Mark.TheVariants as mark
+use Rattle.redlog_reader.specs.declared.terminal.Word.{Word}
+use Rattle.redlog_reader.specs.declared.terminal.Word.TheVariants as word
+use Rattle.redlog_reader.specs.Grammar.{setting_of}
+use Rattle.redlog_reader.specs.Machine.{term_of, formula_of, Wants, run}
+
+-- what follows from a value, or from none
+abbrev pub on_some : {X Y : Type 0} → Option X → (X → Y) → Y → Y
+on_some None f other = other
+on_some (Some x) f other = f x
+
+-- a number for each mark
+abbrev pub number_of : Mark → ℕ
+number_of mark.Plus = 0
+number_of mark.Minus = 1
+number_of mark.Times = 2
+number_of mark.Slash = 3
+number_of mark.Power = 4
+number_of mark.Open = 5
+number_of mark.Close = 6
+number_of mark.OpenBrace = 7
+number_of mark.CloseBrace = 8
+number_of mark.Comma = 9
+number_of mark.Semicolon = 10
+number_of mark.Dollar = 11
+number_of mark.Assign = 12
+
+-- what stands after this mark
+abbrev pub after_mark : Mark → List Terminal → Option (List Terminal)
+after_mark m (terminal.Mark n ∷ ts) = if number_of m == number_of n then Some ts else None
+after_mark m _ = None
+
+-- a term or a formula that binds at most as loosely as the goal
+abbrev pub formula_read : ℕ → List Terminal → Option (FormulaTree × List Terminal)
+formula_read goal ts = on_some (run goal ts [] Wants) (λ p. on_some (formula_of p.0) (λ f. Some (f, p.1)) None) None
+
+abbrev pub sum_read : List Terminal → Option (TermTree × List Terminal)
+sum_read ts = on_some (run 2 ts [] Wants) (λ p. on_some (term_of p.0) (λ t. Some (t, p.1)) None) None
+
+abbrev pub relation_of : Terminal → Option Relation
+relation_of (terminal.Relation r) = Some r
+relation_of (terminal.Word word.Neq) = Some Differs
+relation_of _ = None
+
+abbrev pub relation_read : List Terminal → Option (Relation × List Terminal)
+relation_read [] = None
+relation_read (t ∷ ts) = on_some (relation_of t) (λ r. Some (r, ts)) None
+
+abbrev pub comparison_read : List Terminal → Option (FormulaTree × List Terminal)
+comparison_read ts =
+    on_some (sum_read ts) (λ p. on_some (relation_read p.1) (λ q. on_some (sum_read q.1) (λ r. Some (One (Compare q.0 p.0 r.0), r.1)) None) None) None
+
+abbrev pub begins_congruence : List Terminal → Bool
+begins_congruence (terminal.Word word.Cong ∷ ts) = true
+begins_congruence (terminal.Word word.Ncong ∷ ts) = true
+begins_congruence _ = false
+
+abbrev pub atom_read : List Terminal → Option (FormulaTree × List Terminal)
+atom_read ts = if begins_congruence ts then formula_read 0 ts else comparison_read ts
+
+-- one item or more, with commas between them; so many at most
+abbrev pub listed_read : {X : Type 0} → (List Terminal → Option (X × List Terminal)) → ℕ → List Terminal → Option (List X × List Terminal)
+listed_read read zero ts = None
+listed_read read (suc n) ts =
+    on_some (read ts) (λ p. on_some (after_mark mark.Comma p.1) (λ us. on_some (listed_read read n us) (λ q. Some (p.0 ∷ q.0, q.1)) None) (Some (p.0 ∷ [], p.1))) None
+
+abbrev pub items_read : {X : Type 0} → (List Terminal → Option (X × List Terminal)) → List Terminal → Option (List X × List Terminal)
+items_read read ts = listed_read read (suc (length ts)) ts
+
+-- items in braces
+abbrev pub braced_read : {X : Type 0} → (List Terminal → Option (X × List Terminal)) → List Terminal → Option (List X × List Terminal)
+braced_read read ts =
+    on_some (after_mark mark.OpenBrace ts) (λ us.
+    on_some (after_mark mark.CloseBrace us) (λ vs. Some ([], vs))
+    (on_some (items_read read us) (λ p. on_some (after_mark mark.CloseBrace p.1) (λ vs. Some (p.0, vs)) None) None))
+    None
+
+abbrev pub number_read : List Terminal → Option (Literal × List Terminal)
+number_read (terminal.Number n ∷ ts) = Some (n, ts)
+number_read _ = None
+
+-- the number with the other sign; one that has none within the limit is past it
+abbrev pub negated_literal : Literal → Literal
+negated_literal (Fits n) = if int_eq n (negsuc (2 ^ 127 - 1)) then Past else Fits (neg_ℤ n)
+negated_literal Past = Past
+
+abbrev pub above_read : List Terminal → Option (Literal × List Terminal)
+above_read ts = on_some (after_mark mark.Minus ts) (λ us. on_some (number_read us) (λ p. Some (negated_literal p.0, p.1)) None) (number_read ts)
+
+abbrev pub below_read : List Terminal → Option (Literal × List Terminal)
+below_read ts = on_some (after_mark mark.Slash ts) number_read (Some (Fits (pos 1), ts))
+
+abbrev pub name_read : List Terminal → Option (List ℕ × List Terminal)
+name_read (terminal.Name x ∷ ts) = Some (x, ts)
+name_read _ = None
+
+abbrev pub after_equal : List Terminal → Option (List Terminal)
+after_equal (terminal.Relation Equal ∷ ts) = Some ts
+after_equal _ = None
+
+abbrev pub entry_read : List Terminal → Option (PointEntry × List Terminal)
+entry_read ts =
+    on_some (name_read ts) (λ p. on_some (after_equal p.1) (λ us. on_some (above_read us) (λ q. on_some (below_read q.1) (λ r.
+    Some (record { name = p.0; above = q.0; below = r.0 }, r.1)) None) None) None) None
+
+-- a prime formula, or a formula and assumptions in brackets
+abbrev pub argument_read : List Terminal → Option ((FormulaTree × List FormulaTree) × List Terminal)
+argument_read ts =
+    on_some (after_mark mark.Open ts) (λ us. on_some (formula_read 8 us) (λ p.
+    on_some (after_mark mark.Close p.1) (λ vs. Some ((p.0, []), vs))
+    (on_some (after_mark mark.Comma p.1) (λ vs. on_some (braced_read atom_read vs) (λ q. on_some (after_mark mark.Close q.1) (λ ws. Some ((p.0, q.0), ws)) None) None) None)) None)
+    (on_some (formula_read 0 ts) (λ p. Some ((p.0, []), p.1)) None)
+
+-- a formula and a point in brackets
+abbrev pub pointed_read : List Terminal → Option ((FormulaTree × List PointEntry) × List Terminal)
+pointed_read ts =
+    on_some (after_mark mark.Open ts) (λ us. on_some (formula_read 8 us) (λ p. on_some (after_mark mark.Comma p.1) (λ vs.
+    on_some (braced_read entry_read vs) (λ q. on_some (after_mark mark.Close q.1) (λ ws. Some ((p.0, q.0), ws)) None) None) None) None) None
+
+-- a result that begins with this word
+abbrev pub result_from : Word → List Terminal → Option (CommandTree × List Terminal)
+result_from word.Nnf ts = on_some (formula_read 0 ts) (λ p. Some (Nnf p.0, p.1)) None
+result_from word.Pnf ts = on_some (formula_read 0 ts) (λ p. Some (Pnf p.0, p.1)) None
+result_from word.Dnf ts = on_some (formula_read 0 ts) (λ p. Some (Dnf p.0, p.1)) None
+result_from word.Cnf ts = on_some (formula_read 0 ts) (λ p. Some (Cnf p.0, p.1)) None
+result_from word.Simpl ts = on_some (argument_read ts) (λ p. Some (Simpl p.0.0 (formulas_of p.0.1), p.1)) None
+result_from word.Qe ts = on_some (argument_read ts) (λ p. Some (Qe p.0.0 (formulas_of p.0.1), p.1)) None
+result_from w ts = on_some (formula_read 8 (terminal.Word w ∷ ts)) (λ p. Some (Echo p.0, p.1)) None
+
+abbrev pub result_read : List Terminal → Option (CommandTree × List Terminal)
+result_read (terminal.Word w ∷ ts) = result_from w ts
+result_read ts = on_some (formula_read 8 ts) (λ p. Some (Echo p.0, p.1)) None
+
+-- a name or a word
+abbrev pub is_any : Terminal → Bool
+is_any (terminal.Name x) = true
+is_any (terminal.Word w) = true
+is_any _ = false
+
+abbrev pub anys_read : List Terminal → Option (List Terminal)
+anys_read [] = None
+anys_read (t ∷ []) = if is_any t then Some [] else None
+anys_read (t ∷ terminal.Mark mark.Comma ∷ ts) = if is_any t then anys_read ts else None
+anys_read (t ∷ u ∷ ts) = if is_any t then Some (u ∷ ts) else None
+
+abbrev pub context_read : List Terminal → Option (ActionTree × List Terminal)
+context_read ts = on_some (name_read ts) (λ p. on_some (setting_of p.0) (λ s. Some (Choose s, p.1)) None) None
+
+abbrev pub ignored_read : List Terminal → Option (ActionTree × List Terminal)
+ignored_read ts = on_some (anys_read ts) (λ us. Some (Ignored, us)) None
+
+abbrev pub said : Option (CommandTree × List Terminal) → Option (ActionTree × List Terminal)
+said o = on_some o (λ p. Some (Say p.0, p.1)) None
+
+-- an action that begins with this word
+abbrev pub action_from : Word → List Terminal → Option (ActionTree × List Terminal)
+action_from word.Set ts = context_read ts
+action_from word.Load ts = ignored_read ts
+action_from word.On ts = ignored_read ts
+action_from word.Off ts = ignored_read ts
+action_from word.End ts = Some (Finish, ts)
+action_from word.Bye ts = Some (Finish, ts)
+action_from word.Quit ts = Some (Finish, ts)
+action_from word.Qea ts = on_some (argument_read ts) (λ p. Some (Say (Qea p.0.0 (formulas_of p.0.1)), p.1)) None
+action_from word.Holds ts = on_some (pointed_read ts) (λ p. Some (Say (Holds p.0.0 p.0.1), p.1)) None
+action_from word.Witness ts = on_some (pointed_read ts) (λ p. Some (Say (Sample p.0.0 p.0.1), p.1)) None
+action_from w ts = said (result_from w ts)
+
+-- an action that begins with this name
+abbrev pub named_from : List ℕ → List Terminal → Option (ActionTree × List Terminal)
+named_from x ts = on_some (after_mark mark.Assign ts) (λ us. on_some (result_read us) (λ p. Some (Assign x p.0, p.1)) None) (said (result_read (terminal.Name x ∷ ts)))
+
+abbrev pub action_read : List Terminal → Option (ActionTree × List Terminal)
+action_read [] = None
+action_read (terminal.Word w ∷ ts) = action_from w ts
+action_read (terminal.Name x ∷ ts) = named_from x ts
+action_read ts = said (result_read ts)
+
+abbrev pub alone : Bool → List Terminal → Option Bool
+alone printed [] = Some printed
+alone printed (t ∷ ts) = None
+
+-- whether the statement is printed, where the terminals are its end
+abbrev pub ending : List Terminal → Option Bool
+ending ts = on_some (after_mark mark.Semicolon ts) (alone true) (on_some (after_mark mark.Dollar ts) (alone false) None)
+
+abbrev pub statement_read : List Terminal → Option StatementTree
+statement_read ts =
+    on_some (ending ts) (λ printed. Some (record { action = Empty; printed = printed }))
+    (on_some (action_read ts) (λ p. on_some (ending p.1) (λ printed. Some (record { action = p.0; printed = printed })) None) None)

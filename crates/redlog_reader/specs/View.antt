@@ -1,0 +1,56 @@
+-- What the values of the code stand for, while terms and formulas are read.
+use Rattle.std.specs.Prelude.{List, [], ◌∷◌, map, reverse}
+use Rattle.qe_syntax.specs.Trees.{TermTree, term_tree, formula_tree}
+use Rattle.redlog_reader.specs.declared.operand.Operand as operands
+use Rattle.redlog_reader.specs.declared.operand.Operand.TheVariants as operand
+use Rattle.redlog_reader.specs.declared.pending.Pending as begins
+use Rattle.redlog_reader.specs.declared.pending.Pending.TheVariants as pending
+use Rattle.redlog_reader.specs.declared.pending.Arguments as arguments
+use Rattle.redlog_reader.specs.declared.pending.Arguments.TheVariants as argument
+use Rattle.redlog_reader.specs.declared.pending.Expects as expected
+use Rattle.redlog_reader.specs.declared.pending.Expects.TheVariants as expects
+use Rattle.redlog_reader.specs.declared.pending.Step as steps
+use Rattle.redlog_reader.specs.declared.pending.Step.TheVariants as taken
+use Rattle.redlog_reader.specs.Machine.{Reading, Term, Formula, Bare, Frame, Group, Quantifier, Congruence, Negation, Compares, Added, Multiplied, Listed, Arrows, Mode, Wants, Fresh, Held, Raised, Binder, Binding, NameWanted, NameRead, Scoped, Congruent, Outcome, Stops, Moves}
+
+abbrev pub reading_of : operands.Operand → Reading
+reading_of (operand.Term t) = Term (term_tree t)
+reading_of (operand.Formula f) = Formula (formula_tree f)
+reading_of (operand.Name x) = Bare x
+
+abbrev pub arguments_of : arguments.Arguments → List TermTree
+arguments_of argument.First = []
+arguments_of (argument.Second s) = term_tree s ∷ []
+arguments_of (argument.Third s t) = term_tree s ∷ term_tree t ∷ []
+
+abbrev pub frame_of : begins.Pending → Frame
+frame_of pending.Group = Group
+frame_of (pending.Quantifier universal names) = Quantifier universal names.items
+frame_of (pending.Congruence positive terms) = Congruence positive (arguments_of terms)
+frame_of pending.Negation = Negation
+frame_of (pending.Compares r t) = Compares r (term_tree t)
+frame_of (pending.Added minus terms) = Added minus (map term_tree terms.items)
+frame_of (pending.Multiplied over terms) = Multiplied over (map term_tree terms.items)
+frame_of (pending.Listed c formulas) = Listed c (map formula_tree formulas.items)
+frame_of (pending.Arrows a f) = Arrows a (formula_tree f)
+
+-- what has begun, of which the inmost stands last in the code
+abbrev pub frames : List begins.Pending → List Frame
+frames list = map frame_of (reverse list)
+
+abbrev pub mode_of : expected.Expects → Mode
+mode_of expects.Operand = Wants
+mode_of (expects.Power o) = Fresh (reading_of o)
+mode_of (expects.Operator o) = Held (reading_of o)
+mode_of (expects.Exponent t) = Raised (term_tree t)
+mode_of (expects.Binder universal) = Binder universal
+mode_of (expects.Binding universal) = Binding universal
+mode_of (expects.Name universal names) = NameWanted universal names.items
+mode_of (expects.NameEnd universal names) = NameRead universal names.items
+mode_of (expects.Scope universal names) = Scoped universal names.items
+mode_of (expects.Terms positive) = Congruent positive
+
+-- what a step says, with what has begun then
+abbrev pub outcome_of : steps.Step → List Frame → Outcome
+outcome_of (taken.Stops o) fs = Stops (reading_of o)
+outcome_of (taken.Moves e) fs = Moves fs (mode_of e)

@@ -1,0 +1,155 @@
+ghost use Rattle.std.specs.Prelude.{◌≡◌, [], map, IfOk, IfErr, Some, None};
+ghost use Rattle.qe_syntax.specs.Trees.{term_tree, formula_tree, formulas_of};
+ghost use Rattle.redlog_reader.specs.Terminals.{terminals};
+ghost use Rattle.redlog_reader.specs.Reader.{formula_read, sum_read, comparison_read, begins_congruence, atom_read, items_read, braced_read, argument_read};
+ghost use Rattle.redlog_reader.specs.Reading.{Refuses};
+
+use crate::ending::put;
+use crate::machine::read;
+use crate::operand::{formula_of, term_of};
+use crate::peek::{after, next, relation};
+use crate::terminal::{Mark, Terminal, Word};
+use crate::token::{ReadError, Token};
+use qe_syntax::{Formula, Term, comparison as comparison_of};
+use std::alloc::Global;
+
+/// How loosely what is read may bind: a prime formula.
+pub const PRIME: usize = 0;
+
+/// A sum.
+const SUM: usize = 2;
+
+/// A formula.
+pub const FORMULA: usize = 8;
+
+/// A formula that binds at most as loosely as the goal, and the tokens after it.
+#[tactic(auto, using(crate::proofs::Options::options))]
+pub fn formula(
+    alloc: Global,
+    goal: usize,
+    tokens: &[Token],
+) -> Result<(Formula, &[Token]), ReadError>
+    ensures read { IfOk result (λ r. formula_read goal (terminals tokens.now) ≡ Some (formula_tree r.0, terminals r.1.now)) }
+    ensures refused { IfErr result (λ e. Refuses e (formula_read goal (terminals tokens.now) ≡ None)) }
+{
+    let (operand, rest) = read(alloc, goal, tokens)?;
+    let Some(formula) = formula_of(operand) else {
+        return Err(ReadError::Syntax);
+    };
+    Ok((formula, rest))
+}
+
+/// A sum, and the tokens after it.
+#[tactic(auto, using(crate::proofs::Options::options))]
+fn sum(alloc: Global, tokens: &[Token]) -> Result<(Term, &[Token]), ReadError>
+    ensures read { IfOk result (λ r. sum_read (terminals tokens.now) ≡ Some (term_tree r.0, terminals r.1.now)) }
+    ensures refused { IfErr result (λ e. Refuses e (sum_read (terminals tokens.now) ≡ None)) }
+{
+    let (operand, rest) = read(alloc, SUM, tokens)?;
+    let Some(term) = term_of(operand) else {
+        return Err(ReadError::Syntax);
+    };
+    Ok((term, rest))
+}
+
+/// A relation between two sums.
+#[tactic(auto, using(crate::proofs::Options::options))]
+fn comparison(alloc: Global, tokens: &[Token]) -> Result<(Formula, &[Token]), ReadError>
+    ensures read { IfOk result (λ r. comparison_read (terminals tokens.now) ≡ Some (formula_tree r.0, terminals r.1.now)) }
+    ensures refused { IfErr result (λ e. Refuses e (comparison_read (terminals tokens.now) ≡ None)) }
+{
+    let (left, middle) = sum(alloc, tokens)?;
+    let Some((relation, start)) = relation(middle) else {
+        return Err(ReadError::Syntax);
+    };
+    let (right, rest) = sum(alloc, start)?;
+    let comparison = comparison_of(alloc, relation, left, right)?;
+    Ok((comparison, rest))
+}
+
+/// A comparison or a congruence.
+#[tactic(auto, using(crate::proofs::Options::options))]
+fn atom(alloc: Global, tokens: &[Token]) -> Result<(Formula, &[Token]), ReadError>
+    ensures read { IfOk result (λ r. atom_read (terminals tokens.now) ≡ Some (formula_tree r.0, terminals r.1.now)) }
+    ensures refused { IfErr result (λ e. Refuses e (atom_read (terminals tokens.now) ≡ None)) }
+{
+    if begins_congruence(tokens) {
+        formula(alloc, PRIME, tokens)
+    } else {
+        comparison(alloc, tokens)
+    }
+}
+
+/// Whether the first token is `cong` or `ncong`.
+fn begins_congruence(tokens: &[Token]) -> bool
+    ensures { result ≡ begins_congruence (terminals tokens.now) }
+{
+    matches!(
+        next(tokens),
+        Some((Terminal::Word(Word::Cong | Word::Ncong), _))
+    )
+}
+
+/// Comparisons and congruences in braces.
+#[tactic(auto, using(crate::proofs::Options::options))]
+fn atoms(alloc: Global, tokens: &[Token]) -> Result<(Vec<Formula>, &[Token]), ReadError>
+    ensures read { IfOk result (λ r. braced_read atom_read (terminals tokens.now) ≡ Some (map formula_tree r.0.items, terminals r.1.now)) }
+    ensures refused { IfErr result (λ e. Refuses e (braced_read atom_read (terminals tokens.now) ≡ None)) }
+{
+    let Some(start) = after(tokens, Mark::OpenBrace) else {
+        return Err(ReadError::Syntax);
+    };
+    if let Some(rest) = after(start, Mark::CloseBrace) {
+        return Ok((Vec::new(alloc), rest));
+    }
+    let (atoms, end) = listed(alloc, start)?;
+    let Some(rest) = after(end, Mark::CloseBrace) else {
+        return Err(ReadError::Syntax);
+    };
+    Ok((atoms, rest))
+}
+
+/// One comparison or congruence or more, with commas between them.
+#[tactic(auto, using(crate::proofs::Items::atoms))]
+fn listed(alloc: Global, tokens: &[Token]) -> Result<(Vec<Formula>, &[Token]), ReadError>
+    ensures read { IfOk result (λ r. items_read atom_read (terminals tokens.now) ≡ Some (map formula_tree r.0.items, terminals r.1.now)) }
+    ensures refused { IfErr result (λ e. Refuses e (items_read atom_read (terminals tokens.now) ≡ None)) }
+{
+    let mut atoms = Vec::new(alloc);
+    let mut start = tokens;
+    'atoms: loop {
+        let (atom, rest) = atom(alloc, start)?;
+        put(&mut atoms, atom)?;
+        let Some(more) = after(rest, Mark::Comma) else {
+            return Ok((atoms, rest));
+        };
+        start = more;
+    }
+}
+
+/// A prime formula, or a formula and assumptions in brackets.
+#[tactic(auto, using(crate::proofs::Options::options))]
+pub fn argument(
+    alloc: Global,
+    tokens: &[Token],
+) -> Result<(Formula, Vec<Formula>, &[Token]), ReadError>
+    ensures read { IfOk result (λ r. argument_read (terminals tokens.now) ≡ Some ((formula_tree r.0, map formula_tree r.1.items), terminals r.2.now)) }
+    ensures refused { IfErr result (λ e. Refuses e (argument_read (terminals tokens.now) ≡ None)) }
+{
+    let Some(start) = after(tokens, Mark::Open) else {
+        let (prime, rest) = formula(alloc, PRIME, tokens)?;
+        return Ok((prime, Vec::new(alloc), rest));
+    };
+    let (formula, middle) = formula(alloc, FORMULA, start)?;
+    if let Some(rest) = after(middle, Mark::Close) {
+        return Ok((formula, Vec::new(alloc), rest));
+    }
+    let Some(given) = after(middle, Mark::Comma) else {
+        return Err(ReadError::Syntax);
+    };
+    let (atoms, end) = atoms(alloc, given)?;
+    let Some(rest) = after(end, Mark::Close) else {
+        return Err(ReadError::Syntax);
+    };
+    Ok((formula, atoms, rest))
+}

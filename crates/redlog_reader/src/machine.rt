@@ -1,0 +1,705 @@
+ghost use Rattle.std.specs.Prelude.{◌≡◌, [], ◌∷◌, ◌++◌, map, IfOk, IfErr, OnOk};
+ghost use Rattle.qe_syntax.specs.Trees.{term_tree, formula_tree};
+ghost use Rattle.redlog_reader.specs.declared.terminal.Terminal.{Terminal};
+ghost use Rattle.redlog_reader.specs.Terminals.{terminals};
+ghost use Rattle.redlog_reader.specs.Machine.{Wants, Fails, raised_to, binds, first_bound, next_bound, after_bound, scoped, opens, strength, Added, takes, folded, factors, members, listed, grouped, pushed, multiplies, adds, compares, joins, implies, congruence_of, closed, separated, operated, joined, held, fresh, wanted, step, run};
+ghost use Rattle.redlog_reader.specs.Grammar.{quantified, quantifier};
+ghost use Rattle.redlog_reader.specs.Reading.{Refuses};
+ghost use Rattle.redlog_reader.specs.View.{reading_of, frame_of, frames, mode_of, outcome_of};
+
+use crate::ending::{added, ended, multiplied, put};
+use crate::operand::{Operand, formula_of, term_of};
+use crate::peek::next;
+use crate::pending::{Arguments, Arrow, Connective, Expects, Pending, Step, level, takes_last};
+use crate::terminal::{Mark, Terminal, Word};
+use crate::token::{ReadError, Token};
+use qe_syntax::{
+    Formula, Name, Relation, Term, congruence, equivalence, existential, incongruence, power,
+    replication, universal as universal_of,
+};
+use std::alloc::{AllocError, Global};
+
+/// What is read at the front of the tokens, and the tokens after it: as much as binds at most as loosely as the goal,
+/// where 0 is a prime formula, 2 a sum and 8 a formula.
+pub fn read(alloc: Global, goal: usize, tokens: &[Token]) -> Result<(Operand, &[Token]), ReadError>
+    ensures read { IfOk result (λ r. run goal (terminals tokens.now) [] Wants ≡ Some (reading_of r.0, terminals r.1.now)) }
+    ensures refused { IfErr result (λ e. Refuses e (run goal (terminals tokens.now) [] Wants ≡ None)) }
+{
+    let mut pending = Vec::new(alloc);
+    let mut expects = Expects::Operand;
+    let mut left = tokens;
+    'terminals: while let Some((terminal, rest)) = next(left) {
+        match step(alloc, goal, &mut pending, expects, &terminal)? {
+            Step::Stops(operand) => return Ok((operand, left)),
+            Step::Moves(then) => expects = then,
+        }
+        left = rest;
+    }
+    Err(ReadError::Syntax)
+}
+
+/// One more terminal.
+fn step(
+    alloc: Global,
+    goal: usize,
+    pending: &mut Vec<Pending>,
+    expects: Expects,
+    terminal: &Terminal,
+) -> Result<Step, ReadError>
+    ensures taken { IfOk result (λ s. step goal (frames pending.old.items) (mode_of expects) terminal.now ≡ outcome_of s (frames pending.new.items)) }
+    ensures refused { IfErr result (λ e. Refuses e (step goal (frames pending.old.items) (mode_of expects) terminal.now ≡ Fails)) }
+{
+    match expects {
+        Expects::Operand => begin(alloc, goal, pending, terminal),
+        Expects::Power(operand) => raise(alloc, goal, pending, terminal, operand),
+        Expects::Operator(operand) => go_on(alloc, goal, pending, terminal, operand),
+        Expects::Exponent(base) => exponent(alloc, pending, terminal, base),
+        Expects::Binder(universal) => binder(pending, terminal, universal),
+        Expects::Binding(universal) => binding(alloc, pending, terminal, universal),
+        Expects::Name(universal, names) => name(pending, terminal, universal, names),
+        Expects::NameEnd(universal, names) => name_end(pending, terminal, universal, names),
+        Expects::Scope(universal, names) => scope(pending, terminal, universal, names),
+        Expects::Terms(positive) => terms(pending, terminal, positive),
+    }
+}
+
+/// The first terminal of an operand.
+#[tactic(auto, using(crate::proofs::Frames::steps, qe_syntax::proofs::TreeEquations::trees))]
+fn begin(
+    alloc: Global,
+    goal: usize,
+    pending: &mut Vec<Pending>,
+    terminal: &Terminal,
+) -> Result<Step, ReadError>
+    ensures taken { IfOk result (λ s. wanted goal terminal.now (frames pending.old.items) ≡ outcome_of s (frames pending.new.items)) }
+    ensures refused { IfErr result (λ e. Refuses e (wanted goal terminal.now (frames pending.old.items) ≡ Fails)) }
+{
+    match terminal {
+        Terminal::Number(number) => {
+            let number = Operand::Term(Term::Number(*number));
+            Ok(Step::Moves(Expects::Power(number)))
+        }
+        Terminal::Name(name) => Ok(Step::Moves(Expects::Power(Operand::Name(*name)))),
+        Terminal::Mark(Mark::Open) => {
+            pending.push(Pending::Group)?;
+            Ok(Step::Moves(Expects::Operand))
+        }
+        Terminal::Mark(Mark::Plus) => sign(alloc, goal, pending, false),
+        Terminal::Mark(Mark::Minus) => sign(alloc, goal, pending, true),
+        Terminal::Word(word) => begin_with(goal, pending, *word),
+        _ => Err(ReadError::Syntax),
+    }
+}
+
+/// The sign before the first member of a sum.
+#[tactic(auto, using(crate::proofs::Frames::steps))]
+fn sign(
+    alloc: Global,
+    goal: usize,
+    pending: &mut Vec<Pending>,
+    minus: bool,
+) -> Result<Step, ReadError>
+    ensures taken { IfOk result (λ s. pushed goal (Added minus []) (frames pending.old.items) ≡ outcome_of s (frames pending.new.items)) }
+    ensures refused { IfErr result (λ e. Refuses e (pushed goal (Added minus []) (frames pending.old.items) ≡ Fails)) }
+{
+    push(goal, pending, Pending::Added(minus, Vec::new(alloc)))
+}
+
+/// The first word of an operand.
+#[tactic(auto, using(crate::proofs::Frames::steps, qe_syntax::proofs::TreeEquations::trees))]
+fn begin_with(goal: usize, pending: &mut Vec<Pending>, word: Word) -> Result<Step, ReadError>
+    ensures taken { IfOk result (λ s. wanted goal (Terminal.Word word) (frames pending.old.items) ≡ outcome_of s (frames pending.new.items)) }
+    ensures refused { IfErr result (λ e. Refuses e (wanted goal (Terminal.Word word) (frames pending.old.items) ≡ Fails)) }
+{
+    match word {
+        Word::True => Ok(Step::Moves(Expects::Power(Operand::Formula(Formula::True)))),
+        Word::False => Ok(Step::Moves(Expects::Power(Operand::Formula(Formula::False)))),
+        Word::Not => push(goal, pending, Pending::Negation),
+        Word::Ex => Ok(Step::Moves(Expects::Binder(false))),
+        Word::All => Ok(Step::Moves(Expects::Binder(true))),
+        Word::Cong => Ok(Step::Moves(Expects::Terms(true))),
+        Word::Ncong => Ok(Step::Moves(Expects::Terms(false))),
+        _ => Err(ReadError::Syntax),
+    }
+}
+
+/// A terminal after an operand to which a power may be put.
+#[tactic(auto, using(crate::proofs::Frames::steps))]
+fn raise(
+    alloc: Global,
+    goal: usize,
+    pending: &mut Vec<Pending>,
+    terminal: &Terminal,
+    operand: Operand,
+) -> Result<Step, ReadError>
+    ensures taken { IfOk result (λ s. fresh goal terminal.now (frames pending.old.items) (reading_of operand) ≡ outcome_of s (frames pending.new.items)) }
+    ensures refused { IfErr result (λ e. Refuses e (fresh goal terminal.now (frames pending.old.items) (reading_of operand) ≡ Fails)) }
+{
+    match terminal {
+        Terminal::Mark(Mark::Power) => {
+            let Some(base) = term_of(operand) else {
+                return Err(ReadError::Syntax);
+            };
+            Ok(Step::Moves(Expects::Exponent(base)))
+        }
+        _ => go_on(alloc, goal, pending, terminal, operand),
+    }
+}
+
+/// The exponent of a power.
+#[tactic(auto, using(crate::proofs::Frames::steps, qe_syntax::proofs::TreeEquations::trees))]
+fn exponent(
+    alloc: Global,
+    pending: &mut Vec<Pending>,
+    terminal: &Terminal,
+    base: Term,
+) -> Result<Step, ReadError>
+    ensures taken { IfOk result (λ s. raised_to (term_tree base) terminal.now (frames pending.old.items) ≡ outcome_of s (frames pending.new.items)) }
+    ensures refused { IfErr result (λ e. Refuses e (raised_to (term_tree base) terminal.now (frames pending.old.items) ≡ Fails)) }
+{
+    match terminal {
+        Terminal::Number(number) => {
+            let power = power(alloc, base, *number)?;
+            Ok(Step::Moves(Expects::Operator(Operand::Term(power))))
+        }
+        _ => Err(ReadError::Syntax),
+    }
+}
+
+/// The bracket of a quantifier.
+#[tactic(auto, using(crate::proofs::Frames::steps))]
+fn binder(
+    pending: &mut Vec<Pending>,
+    terminal: &Terminal,
+    universal: bool,
+) -> Result<Step, ReadError>
+    ensures taken { IfOk result (λ s. binds universal terminal.now (frames pending.old.items) ≡ outcome_of s (frames pending.new.items)) }
+    ensures refused { IfErr result (λ e. Refuses e (binds universal terminal.now (frames pending.old.items) ≡ Fails)) }
+{
+    match terminal {
+        Terminal::Mark(Mark::Open) => Ok(Step::Moves(Expects::Binding(universal))),
+        _ => Err(ReadError::Syntax),
+    }
+}
+
+/// The first terminal of the names of a quantifier.
+#[tactic(auto, using(crate::proofs::Frames::steps))]
+fn binding(
+    alloc: Global,
+    pending: &mut Vec<Pending>,
+    terminal: &Terminal,
+    universal: bool,
+) -> Result<Step, ReadError>
+    ensures taken { IfOk result (λ s. first_bound universal terminal.now (frames pending.old.items) ≡ outcome_of s (frames pending.new.items)) }
+    ensures refused { IfErr result (λ e. Refuses e (first_bound universal terminal.now (frames pending.old.items) ≡ Fails)) }
+{
+    match terminal {
+        Terminal::Name(name) => {
+            let mut names = Vec::new(alloc);
+            names.push(*name)?;
+            Ok(Step::Moves(Expects::Scope(universal, names)))
+        }
+        Terminal::Mark(Mark::OpenBrace) => {
+            Ok(Step::Moves(Expects::Name(universal, Vec::new(alloc))))
+        }
+        _ => Err(ReadError::Syntax),
+    }
+}
+
+/// One more name of a quantifier.
+#[tactic(auto, using(crate::proofs::Frames::steps))]
+fn name(
+    pending: &mut Vec<Pending>,
+    terminal: &Terminal,
+    universal: bool,
+    mut names: Vec<Name>,
+) -> Result<Step, ReadError>
+    ensures taken { IfOk result (λ s. next_bound universal names.items terminal.now (frames pending.old.items) ≡ outcome_of s (frames pending.new.items)) }
+    ensures refused { IfErr result (λ e. Refuses e (next_bound universal names.items terminal.now (frames pending.old.items) ≡ Fails)) }
+{
+    match terminal {
+        Terminal::Name(name) => {
+            names.push(*name)?;
+            Ok(Step::Moves(Expects::NameEnd(universal, names)))
+        }
+        _ => Err(ReadError::Syntax),
+    }
+}
+
+/// What stands after a name of a quantifier.
+#[tactic(auto, using(crate::proofs::Frames::steps))]
+fn name_end(
+    pending: &mut Vec<Pending>,
+    terminal: &Terminal,
+    universal: bool,
+    names: Vec<Name>,
+) -> Result<Step, ReadError>
+    ensures taken { IfOk result (λ s. after_bound universal names.items terminal.now (frames pending.old.items) ≡ outcome_of s (frames pending.new.items)) }
+    ensures refused { IfErr result (λ e. Refuses e (after_bound universal names.items terminal.now (frames pending.old.items) ≡ Fails)) }
+{
+    match terminal {
+        Terminal::Mark(Mark::Comma) => Ok(Step::Moves(Expects::Name(universal, names))),
+        Terminal::Mark(Mark::CloseBrace) => Ok(Step::Moves(Expects::Scope(universal, names))),
+        _ => Err(ReadError::Syntax),
+    }
+}
+
+/// The comma before the formula of a quantifier.
+#[tactic(auto, using(crate::proofs::Frames::steps))]
+fn scope(
+    pending: &mut Vec<Pending>,
+    terminal: &Terminal,
+    universal: bool,
+    names: Vec<Name>,
+) -> Result<Step, ReadError>
+    ensures taken { IfOk result (λ s. scoped universal names.items terminal.now (frames pending.old.items) ≡ outcome_of s (frames pending.new.items)) }
+    ensures refused { IfErr result (λ e. Refuses e (scoped universal names.items terminal.now (frames pending.old.items) ≡ Fails)) }
+{
+    match terminal {
+        Terminal::Mark(Mark::Comma) => {
+            pending.push(Pending::Quantifier(universal, names))?;
+            Ok(Step::Moves(Expects::Operand))
+        }
+        _ => Err(ReadError::Syntax),
+    }
+}
+
+/// The bracket of a congruence.
+#[tactic(auto, using(crate::proofs::Frames::steps))]
+fn terms(pending: &mut Vec<Pending>, terminal: &Terminal, positive: bool) -> Result<Step, ReadError>
+    ensures taken { IfOk result (λ s. opens positive terminal.now (frames pending.old.items) ≡ outcome_of s (frames pending.new.items)) }
+    ensures refused { IfErr result (λ e. Refuses e (opens positive terminal.now (frames pending.old.items) ≡ Fails)) }
+{
+    match terminal {
+        Terminal::Mark(Mark::Open) => {
+            pending.push(Pending::Congruence(positive, Arguments::First))?;
+            Ok(Step::Moves(Expects::Operand))
+        }
+        _ => Err(ReadError::Syntax),
+    }
+}
+
+/// A terminal after an operand.
+#[tactic(auto, using(crate::proofs::Frames::steps))]
+fn go_on(
+    alloc: Global,
+    goal: usize,
+    pending: &mut Vec<Pending>,
+    terminal: &Terminal,
+    operand: Operand,
+) -> Result<Step, ReadError>
+    ensures taken { IfOk result (λ s. held goal terminal.now (frames pending.old.items) (reading_of operand) ≡ outcome_of s (frames pending.new.items)) }
+    ensures refused { IfErr result (λ e. Refuses e (held goal terminal.now (frames pending.old.items) (reading_of operand) ≡ Fails)) }
+{
+    let operand = fold(alloc, pending, strength(terminal), operand)?;
+    join(alloc, goal, pending, terminal, operand)
+}
+
+/// How loosely an operator binds. A power binds before all of them, and what is no operator after them.
+fn strength(terminal: &Terminal) -> usize
+    ensures { result ≡ strength terminal.now }
+{
+    match terminal {
+        Terminal::Mark(Mark::Power) => 0,
+        Terminal::Mark(Mark::Times | Mark::Slash) => 1,
+        Terminal::Mark(Mark::Plus | Mark::Minus) => 2,
+        Terminal::Relation(_) | Terminal::Word(Word::Neq) => 3,
+        Terminal::Word(Word::And) => 4,
+        Terminal::Word(Word::Or) => 5,
+        Terminal::Word(Word::Impl) => 6,
+        Terminal::Word(Word::Repl) => 7,
+        Terminal::Word(Word::Equiv) => 8,
+        _ => 9,
+    }
+}
+
+/// Ends what binds tighter, with the operand as its last part.
+#[tactic(auto, using(crate::proofs::Frames::folds))]
+fn fold(
+    alloc: Global,
+    pending: &mut Vec<Pending>,
+    strength: usize,
+    operand: Operand,
+) -> Result<Operand, ReadError>
+    ensures folded { IfOk result (λ o. folded strength (frames pending.old.items) (reading_of operand) ≡ Some (frames pending.new.items, reading_of o)) }
+    ensures refused { IfErr result (λ e. Refuses e (folded strength (frames pending.old.items) (reading_of operand) ≡ None)) }
+{
+    let mut operand = operand;
+    'tighter: while let Some(top) = pending.pop() {
+        if level(&top) >= strength {
+            pending.push(top)?;
+            return Ok(operand);
+        }
+        operand = ended(alloc, top, operand)?;
+    }
+    Ok(operand)
+}
+
+/// A terminal after an operand, where what binds tighter has ended. With nothing begun, what binds looser than the
+/// goal ends what is read.
+#[tactic(auto, using(crate::proofs::Frames::steps))]
+fn join(
+    alloc: Global,
+    goal: usize,
+    pending: &mut Vec<Pending>,
+    terminal: &Terminal,
+    operand: Operand,
+) -> Result<Step, ReadError>
+    ensures taken { IfOk result (λ s. joined goal terminal.now (frames pending.old.items) (reading_of operand) ≡ outcome_of s (frames pending.new.items)) }
+    ensures refused { IfErr result (λ e. Refuses e (joined goal terminal.now (frames pending.old.items) (reading_of operand) ≡ Fails)) }
+{
+    match pending.pop() {
+        Some(top) => {
+            pending.push(top)?;
+            operate(alloc, goal, pending, terminal, operand)
+        }
+        None if goal < strength(terminal) => Ok(Step::Stops(operand)),
+        None => operate(alloc, goal, pending, terminal, operand),
+    }
+}
+
+fn operate(
+    alloc: Global,
+    goal: usize,
+    pending: &mut Vec<Pending>,
+    terminal: &Terminal,
+    operand: Operand,
+) -> Result<Step, ReadError>
+    ensures taken { IfOk result (λ s. operated goal terminal.now (frames pending.old.items) (reading_of operand) ≡ outcome_of s (frames pending.new.items)) }
+    ensures refused { IfErr result (λ e. Refuses e (operated goal terminal.now (frames pending.old.items) (reading_of operand) ≡ Fails)) }
+{
+    match terminal {
+        Terminal::Mark(Mark::Times) => multiply(alloc, goal, pending, false, operand),
+        Terminal::Mark(Mark::Slash) => multiply(alloc, goal, pending, true, operand),
+        Terminal::Mark(Mark::Plus) => add(alloc, goal, pending, false, operand),
+        Terminal::Mark(Mark::Minus) => add(alloc, goal, pending, true, operand),
+        Terminal::Mark(Mark::Close) => close(alloc, pending, operand),
+        Terminal::Mark(Mark::Comma) => separate(pending, operand),
+        Terminal::Relation(relation) => compare(goal, pending, *relation, operand),
+        Terminal::Word(word) => operate_word(alloc, goal, pending, *word, operand),
+        _ => Err(ReadError::Syntax),
+    }
+}
+
+fn operate_word(
+    alloc: Global,
+    goal: usize,
+    pending: &mut Vec<Pending>,
+    word: Word,
+    operand: Operand,
+) -> Result<Step, ReadError>
+    ensures taken { IfOk result (λ s. operated goal (Terminal.Word word) (frames pending.old.items) (reading_of operand) ≡ outcome_of s (frames pending.new.items)) }
+    ensures refused { IfErr result (λ e. Refuses e (operated goal (Terminal.Word word) (frames pending.old.items) (reading_of operand) ≡ Fails)) }
+{
+    match word {
+        Word::Neq => compare(goal, pending, Relation::Differs, operand),
+        Word::And => list(alloc, goal, pending, Connective::And, operand),
+        Word::Or => list(alloc, goal, pending, Connective::Or, operand),
+        Word::Impl => imply(alloc, goal, pending, Arrow::Impl, operand),
+        Word::Repl => imply(alloc, goal, pending, Arrow::Repl, operand),
+        Word::Equiv => imply(alloc, goal, pending, Arrow::Equiv, operand),
+        _ => Err(ReadError::Syntax),
+    }
+}
+
+/// Begins what takes one more part, where what it makes may stand there.
+#[tactic(auto, using(crate::proofs::Frames::steps))]
+fn push(goal: usize, pending: &mut Vec<Pending>, next: Pending) -> Result<Step, ReadError>
+    ensures taken { IfOk result (λ s. pushed goal (frame_of next) (frames pending.old.items) ≡ outcome_of s (frames pending.new.items)) }
+    ensures refused { IfErr result (λ e. Refuses e (pushed goal (frame_of next) (frames pending.old.items) ≡ Fails)) }
+{
+    let takes = takes(goal, pending)?;
+    if level(&next) > takes {
+        return Err(ReadError::Syntax);
+    }
+    pending.push(next)?;
+    Ok(Step::Moves(Expects::Operand))
+}
+
+/// How loosely what is read next may bind.
+#[tactic(auto, using(crate::proofs::Frames::steps))]
+fn takes(goal: usize, pending: &mut Vec<Pending>) -> Result<usize, AllocError>
+    ensures takes { IfOk result (λ n. n ≡ takes goal (frames pending.old.items)) }
+    ensures same { OnOk result (frames pending.new.items ≡ frames pending.old.items) }
+{
+    let Some(top) = pending.pop() else {
+        return Ok(goal);
+    };
+    let takes = takes_last(&top);
+    pending.push(top)?;
+    Ok(takes)
+}
+
+#[tactic(auto, using(crate::proofs::Frames::steps))]
+fn multiply(
+    alloc: Global,
+    goal: usize,
+    pending: &mut Vec<Pending>,
+    over: bool,
+    operand: Operand,
+) -> Result<Step, ReadError>
+    ensures taken { IfOk result (λ s. multiplies goal over (frames pending.old.items) (reading_of operand) ≡ outcome_of s (frames pending.new.items)) }
+    ensures refused { IfErr result (λ e. Refuses e (multiplies goal over (frames pending.old.items) (reading_of operand) ≡ Fails)) }
+{
+    let Some(term) = term_of(operand) else {
+        return Err(ReadError::Syntax);
+    };
+    let factors = factors(alloc, pending, term)?;
+    push(goal, pending, Pending::Multiplied(over, factors))
+}
+
+/// The factors so far, with the term as the last one. A product that they stand in is taken away.
+#[tactic(auto, using(crate::proofs::Frames::steps))]
+fn factors(alloc: Global, pending: &mut Vec<Pending>, term: Term) -> Result<Vec<Term>, AllocError>
+    ensures { IfOk result (λ ts. factors (frames pending.old.items) (term_tree term) ≡ (map term_tree ts.items, frames pending.new.items)) }
+{
+    match pending.pop() {
+        Some(Pending::Multiplied(over, factors)) => multiplied(alloc, over, factors, term),
+        Some(other) => {
+            pending.push(other)?;
+            multiplied(alloc, false, Vec::new(alloc), term)
+        }
+        None => multiplied(alloc, false, Vec::new(alloc), term),
+    }
+}
+
+#[tactic(auto, using(crate::proofs::Frames::steps))]
+fn add(
+    alloc: Global,
+    goal: usize,
+    pending: &mut Vec<Pending>,
+    minus: bool,
+    operand: Operand,
+) -> Result<Step, ReadError>
+    ensures taken { IfOk result (λ s. adds goal minus (frames pending.old.items) (reading_of operand) ≡ outcome_of s (frames pending.new.items)) }
+    ensures refused { IfErr result (λ e. Refuses e (adds goal minus (frames pending.old.items) (reading_of operand) ≡ Fails)) }
+{
+    let Some(term) = term_of(operand) else {
+        return Err(ReadError::Syntax);
+    };
+    let members = members(alloc, pending, term)?;
+    push(goal, pending, Pending::Added(minus, members))
+}
+
+/// The members so far, with the term as the last one. A sum that they stand in is taken away.
+#[tactic(auto, using(crate::proofs::Frames::steps))]
+fn members(alloc: Global, pending: &mut Vec<Pending>, term: Term) -> Result<Vec<Term>, AllocError>
+    ensures { IfOk result (λ ts. members (frames pending.old.items) (term_tree term) ≡ (map term_tree ts.items, frames pending.new.items)) }
+{
+    match pending.pop() {
+        Some(Pending::Added(minus, members)) => added(alloc, minus, members, term),
+        Some(other) => {
+            pending.push(other)?;
+            added(alloc, false, Vec::new(alloc), term)
+        }
+        None => added(alloc, false, Vec::new(alloc), term),
+    }
+}
+
+#[tactic(auto, using(crate::proofs::Frames::steps))]
+fn compare(
+    goal: usize,
+    pending: &mut Vec<Pending>,
+    relation: Relation,
+    operand: Operand,
+) -> Result<Step, ReadError>
+    ensures taken { IfOk result (λ s. compares goal relation (frames pending.old.items) (reading_of operand) ≡ outcome_of s (frames pending.new.items)) }
+    ensures refused { IfErr result (λ e. Refuses e (compares goal relation (frames pending.old.items) (reading_of operand) ≡ Fails)) }
+{
+    let Some(term) = term_of(operand) else {
+        return Err(ReadError::Syntax);
+    };
+    push(goal, pending, Pending::Compares(relation, term))
+}
+
+#[tactic(auto, using(crate::proofs::Frames::steps))]
+fn list(
+    alloc: Global,
+    goal: usize,
+    pending: &mut Vec<Pending>,
+    connective: Connective,
+    operand: Operand,
+) -> Result<Step, ReadError>
+    ensures taken { IfOk result (λ s. joins goal connective (frames pending.old.items) (reading_of operand) ≡ outcome_of s (frames pending.new.items)) }
+    ensures refused { IfErr result (λ e. Refuses e (joins goal connective (frames pending.old.items) (reading_of operand) ≡ Fails)) }
+{
+    let Some(formula) = formula_of(operand) else {
+        return Err(ReadError::Syntax);
+    };
+    let members = listed(alloc, pending, connective, formula)?;
+    push(goal, pending, Pending::Listed(connective, members))
+}
+
+/// The members so far, with the formula as the last one. A list of this kind that they stand in is taken away.
+#[tactic(auto, using(crate::proofs::Frames::steps))]
+fn listed(
+    alloc: Global,
+    pending: &mut Vec<Pending>,
+    connective: Connective,
+    formula: Formula,
+) -> Result<Vec<Formula>, AllocError>
+    ensures { IfOk result (λ fs. listed connective (frames pending.old.items) (formula_tree formula) ≡ (map formula_tree fs.items, frames pending.new.items)) }
+{
+    match (connective, pending.pop()) {
+        (Connective::And, Some(Pending::Listed(Connective::And, members))) => {
+            with(members, formula)
+        }
+        (Connective::Or, Some(Pending::Listed(Connective::Or, members))) => with(members, formula),
+        (_, Some(other)) => {
+            pending.push(other)?;
+            with(Vec::new(alloc), formula)
+        }
+        (_, None) => with(Vec::new(alloc), formula),
+    }
+}
+
+/// The members with one more.
+fn with(mut members: Vec<Formula>, formula: Formula) -> Result<Vec<Formula>, AllocError>
+    ensures { IfOk result (λ fs. map formula_tree fs.items ≡ map formula_tree members.items ++ formula_tree formula ∷ []) }
+{
+    put(&mut members, formula)?;
+    Ok(members)
+}
+
+#[tactic(auto, using(crate::proofs::Frames::steps))]
+fn imply(
+    alloc: Global,
+    goal: usize,
+    pending: &mut Vec<Pending>,
+    arrow: Arrow,
+    operand: Operand,
+) -> Result<Step, ReadError>
+    ensures taken { IfOk result (λ s. implies goal arrow (frames pending.old.items) (reading_of operand) ≡ outcome_of s (frames pending.new.items)) }
+    ensures refused { IfErr result (λ e. Refuses e (implies goal arrow (frames pending.old.items) (reading_of operand) ≡ Fails)) }
+{
+    let Some(formula) = formula_of(operand) else {
+        return Err(ReadError::Syntax);
+    };
+    let left = grouped(alloc, pending, arrow, formula)?;
+    push(goal, pending, Pending::Arrows(arrow, left))
+}
+
+/// What stands to the left of the word: `repl` and `equiv` group to the left.
+#[tactic(auto, using(crate::proofs::Frames::steps))]
+fn grouped(
+    alloc: Global,
+    pending: &mut Vec<Pending>,
+    arrow: Arrow,
+    formula: Formula,
+) -> Result<Formula, AllocError>
+    ensures { IfOk result (λ f. grouped arrow (frames pending.old.items) (formula_tree formula) ≡ (formula_tree f, frames pending.new.items)) }
+{
+    match (arrow, pending.pop()) {
+        (Arrow::Repl, Some(Pending::Arrows(Arrow::Repl, left))) => {
+            replication(alloc, left, formula)
+        }
+        (Arrow::Equiv, Some(Pending::Arrows(Arrow::Equiv, left))) => {
+            equivalence(alloc, left, formula)
+        }
+        (_, Some(other)) => {
+            pending.push(other)?;
+            Ok(formula)
+        }
+        (_, None) => Ok(formula),
+    }
+}
+
+/// A closing bracket.
+#[tactic(auto, using(crate::proofs::Frames::steps))]
+fn close(alloc: Global, pending: &mut Vec<Pending>, operand: Operand) -> Result<Step, ReadError>
+    ensures taken { IfOk result (λ s. closed (frames pending.old.items) (reading_of operand) ≡ outcome_of s (frames pending.new.items)) }
+    ensures refused { IfErr result (λ e. Refuses e (closed (frames pending.old.items) (reading_of operand) ≡ Fails)) }
+{
+    match pending.pop() {
+        Some(Pending::Group) => Ok(Step::Moves(Expects::Power(operand))),
+        Some(Pending::Quantifier(universal, names)) => {
+            let Some(formula) = formula_of(operand) else {
+                return Err(ReadError::Syntax);
+            };
+            let quantified = quantified(alloc, universal, names, formula)?;
+            Ok(Step::Moves(Expects::Power(Operand::Formula(quantified))))
+        }
+        Some(Pending::Congruence(positive, Arguments::Third(left, right))) => {
+            let Some(modulus) = term_of(operand) else {
+                return Err(ReadError::Syntax);
+            };
+            let formula = congruence_of(alloc, positive, left, right, modulus)?;
+            Ok(Step::Moves(Expects::Power(Operand::Formula(formula))))
+        }
+        _ => Err(ReadError::Syntax),
+    }
+}
+
+/// A quantifier for each name, the first one outermost.
+#[tactic(auto, using(crate::proofs::Frames::quantified_more))]
+fn quantified(
+    alloc: Global,
+    universal: bool,
+    mut names: Vec<Name>,
+    formula: Formula,
+) -> Result<Formula, AllocError>
+    ensures { IfOk result (λ f. formula_tree f ≡ quantified universal names.items (formula_tree formula)) }
+{
+    let mut whole = formula;
+    'names: while let Some(name) = names.pop() {
+        whole = quantifier(alloc, universal, name, whole)?;
+    }
+    Ok(whole)
+}
+
+fn quantifier(
+    alloc: Global,
+    universal: bool,
+    name: Name,
+    formula: Formula,
+) -> Result<Formula, AllocError>
+    ensures { IfOk result (λ f. formula_tree f ≡ quantifier universal name (formula_tree formula)) }
+{
+    if universal {
+        universal_of(alloc, name, formula)
+    } else {
+        existential(alloc, name, formula)
+    }
+}
+
+/// The congruence of two terms modulo a third, or its negation.
+fn congruence_of(
+    alloc: Global,
+    positive: bool,
+    left: Term,
+    right: Term,
+    modulus: Term,
+) -> Result<Formula, AllocError>
+    ensures { IfOk result (λ f. formula_tree f ≡ congruence_of positive (term_tree left) (term_tree right) (term_tree modulus)) }
+{
+    if positive {
+        congruence(alloc, left, right, modulus)
+    } else {
+        incongruence(alloc, left, right, modulus)
+    }
+}
+
+/// A comma, which ends one of the first two terms of a congruence.
+#[tactic(auto, using(crate::proofs::Frames::steps))]
+fn separate(pending: &mut Vec<Pending>, operand: Operand) -> Result<Step, ReadError>
+    ensures taken { IfOk result (λ s. separated (frames pending.old.items) (reading_of operand) ≡ outcome_of s (frames pending.new.items)) }
+    ensures refused { IfErr result (λ e. Refuses e (separated (frames pending.old.items) (reading_of operand) ≡ Fails)) }
+{
+    match pending.pop() {
+        Some(Pending::Congruence(positive, Arguments::First)) => {
+            let Some(first) = term_of(operand) else {
+                return Err(ReadError::Syntax);
+            };
+            pending.push(Pending::Congruence(positive, Arguments::Second(first)))?;
+            Ok(Step::Moves(Expects::Operand))
+        }
+        Some(Pending::Congruence(positive, Arguments::Second(first))) => {
+            let Some(second) = term_of(operand) else {
+                return Err(ReadError::Syntax);
+            };
+            pending.push(Pending::Congruence(positive, Arguments::Third(first, second)))?;
+            Ok(Step::Moves(Expects::Operand))
+        }
+        _ => Err(ReadError::Syntax),
+    }
+}

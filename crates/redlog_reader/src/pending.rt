@@ -1,0 +1,100 @@
+ghost use Rattle.std.specs.Prelude.{◌≡◌};
+ghost use Rattle.redlog_reader.specs.Machine.{level, takes_last};
+ghost use Rattle.redlog_reader.specs.View.{frame_of};
+
+use crate::operand::Operand;
+use qe_syntax::{Formula, Name, Relation, Term};
+
+/// `and` or `or`.
+#[derive(Clone, Copy, Debug, PartialEq, Eq)]
+pub enum Connective {
+    And,
+    Or,
+}
+
+/// An implication: `impl`, `repl` or `equiv`.
+#[derive(Clone, Copy, Debug, PartialEq, Eq)]
+pub enum Arrow {
+    Impl,
+    Repl,
+    Equiv,
+}
+
+/// The terms of a congruence so far.
+#[derive(Drop)]
+pub enum Arguments {
+    First,
+    Second(Term),
+    Third(Term, Term),
+}
+
+/// What has begun and waits for its last part. A quantifier is `all` where the test is true, and a congruence `cong`.
+/// The last sign of a sum is `-`, and that of a product `/`, where the test is true.
+#[derive(Drop)]
+pub enum Pending {
+    Group,
+    Quantifier(bool, Vec<Name>),
+    Congruence(bool, Arguments),
+    Negation,
+    Compares(Relation, Term),
+    Added(bool, Vec<Term>),
+    Multiplied(bool, Vec<Term>),
+    Listed(Connective, Vec<Formula>),
+    Arrows(Arrow, Formula),
+}
+
+/// What comes next: an operand, what may follow one, the exponent of a power, or a part of what stands before the
+/// formula of a quantifier or the first term of a congruence.
+#[derive(Drop)]
+pub enum Expects {
+    Operand,
+    Power(Operand),
+    Operator(Operand),
+    Exponent(Term),
+    Binder(bool),
+    Binding(bool),
+    Name(bool, Vec<Name>),
+    NameEnd(bool, Vec<Name>),
+    Scope(bool, Vec<Name>),
+    Terms(bool),
+}
+
+/// A terminal ends what is read, or moves on.
+#[derive(Drop)]
+pub enum Step {
+    Stops(Operand),
+    Moves(Expects),
+}
+
+/// How loosely what it makes binds; only its bracket ends one with 9.
+pub fn level(pending: &Pending) -> usize
+    ensures { result ≡ level (frame_of pending.now) }
+{
+    match pending {
+        Pending::Group | Pending::Quantifier(_, _) | Pending::Congruence(_, _) => 9,
+        Pending::Multiplied(_, _) => 1,
+        Pending::Added(_, _) => 2,
+        Pending::Compares(_, _) | Pending::Negation => 3,
+        Pending::Listed(Connective::And, _) => 4,
+        Pending::Listed(Connective::Or, _) => 5,
+        Pending::Arrows(Arrow::Impl, _) => 6,
+        Pending::Arrows(Arrow::Repl, _) => 7,
+        Pending::Arrows(Arrow::Equiv, _) => 8,
+    }
+}
+
+/// How loosely its last part may bind.
+pub fn takes_last(pending: &Pending) -> usize
+    ensures { result ≡ takes_last (frame_of pending.now) }
+{
+    match pending {
+        Pending::Group | Pending::Quantifier(_, _) => 8,
+        Pending::Multiplied(_, _) => 0,
+        Pending::Added(_, _) => 1,
+        Pending::Congruence(_, _) | Pending::Compares(_, _) => 2,
+        Pending::Negation | Pending::Listed(Connective::And, _) => 3,
+        Pending::Listed(Connective::Or, _) => 4,
+        Pending::Arrows(Arrow::Impl | Arrow::Repl, _) => 6,
+        Pending::Arrows(Arrow::Equiv, _) => 7,
+    }
+}
