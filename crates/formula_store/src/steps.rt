@@ -1,5 +1,5 @@
 use std::marker::Model;
-use std::sync::ledger::{Book, Ledger, Share};
+use std::sync::ledger::{Blank, Book, Ledger, Share};
 
 /// How many nodes were evaluated. It takes no bytes, and only an evaluation changes it.
 #[derive(Drop)]
@@ -21,11 +21,14 @@ impl<L: Ledger> Model for Steps<L> {
 impl<L: Ledger> Steps<L> {
     ghost use Rattle.std.specs.Prelude.{◌≡◌, ◌+◌, ◌<◌};
 
-    /// A count that begins with what the ledger has.
-    pub fn of(book: Book<L>, share: Share<L>) -> Steps<L>
-        requires { 0 < share.parts }
-        ensures { result ≡ book.total }
+    /// A count that begins at 0.
+    pub fn begun(blank: Blank) -> Steps<L>
+        requires name { blank.name ≡ L.name }
+        requires parts { blank.parts ≡ L.parts }
+        requires some { 0 < L.parts }
+        ensures { result ≡ 0 }
     {
+        let (book, share) = blank.open();
         Steps { book, share }
     }
 

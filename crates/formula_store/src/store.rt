@@ -18,14 +18,14 @@ use crate::id::FormulaId;
 use crate::keep::copied;
 use crate::order::subformulas;
 use crate::steps::Steps;
-use crate::truth::truth_shared;
+use crate::truth::{truth_shared, truth_uncounted};
 use crate::unfold::unfolded;
 use formula_tree::{MakeError, Maker, Shape, Tree};
 use indexmap::IndexMap;
 use linear_forms::Values;
 use std::alloc::Global;
-use std::marker::Model;
-use std::sync::ledger::Ledger;
+use std::marker::{Brand, Model};
+use std::sync::ledger::{Blank, Ledger};
 
 /// Formulas, each kept once under one id. A member has a smaller number than the formulas that it stands in.
 #[derive(Drop)]
@@ -128,6 +128,17 @@ impl Store {
         ensures overflow { IsErrOf result EvalStop.Overflow → SomeAtomPasses (tree self.now id) at.now }
     {
         truth_shared(self.alloc, self, id, at, steps)
+    }
+
+    /// As `truth_shared`, for a caller that counts no steps.
+    pub fn truth(&self, id: FormulaId, at: &Values) -> Result<bool, EvalStop>
+        requires id { IsId self.now id }
+        requires free { IsQuantifierFree (tree self.now id) }
+        requires whole { IsWholeWhereAsked (tree self.now id) at.now.denominator }
+        ensures truth { IfOk result (λ b. Tells b (tree self.now id) (point_of at.now)) }
+        ensures overflow { IsErrOf result EvalStop.Overflow → SomeAtomPasses (tree self.now id) at.now }
+    {
+        truth_uncounted::<Brand>(self, id, at, Blank::new(1))
     }
 
     /// The formula as a tree. `Large` comes exactly where the tree has more than `limit` nodes, else `Memory`.

@@ -22,7 +22,7 @@ use atom_normal::truth;
 use formula_tree::Shape;
 use linear_forms::Values;
 use std::alloc::Global;
-use std::sync::ledger::Ledger;
+use std::sync::ledger::{Blank, Ledger};
 
 // The truth of a formula at the numbers, each distinct subformula evaluated once, its members before it.
 pub(crate) fn truth_shared<L: Ledger>(
@@ -53,6 +53,26 @@ pub(crate) fn truth_shared<L: Ledger>(
         table[id.number] = truth;
     }
     Ok(mark(&table, root))
+}
+
+/// The same for a caller that counts no steps.
+pub(crate) fn truth_uncounted<L: Ledger>(
+    store: &Store,
+    root: FormulaId,
+    at: &Values,
+    blank: Blank,
+) -> Result<bool, EvalStop>
+    requires id { IsId store.now root }
+    requires free { IsQuantifierFree (tree store.now root) }
+    requires whole { IsWholeWhereAsked (tree store.now root) at.now.denominator }
+    requires name { blank.name ≡ L.name }
+    requires parts { blank.parts ≡ L.parts }
+    requires some { 0 < L.parts }
+    ensures truth { IfOk result (λ b. Tells b (tree store.now root) (point_of at.now)) }
+    ensures overflow { IsErrOf result EvalStop.Overflow → SomeAtomPasses (tree store.now root) at.now }
+{
+    let mut steps: Steps<L> = Steps::begun(blank);
+    store.truth_shared(root, at, &mut steps)
 }
 
 // The truth of one formula, whose members have theirs in a table; `None` where the value of its atom is not there.

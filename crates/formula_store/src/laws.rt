@@ -1,0 +1,12 @@
+//! What is proved of every store.
+
+ghost use Rattle.std.specs.Prelude.{◌≡◌, List};
+ghost use Rattle.formula_tree.specs.declared.shape.Shape.{Shape};
+ghost use Rattle.formula_store.specs.declared.id.FormulaId.{FormulaId};
+ghost use Rattle.formula_store.specs.Nodes.{AreNodes, IsId, tree};
+
+/// Two ids of one store are equal where their formulas are.
+#[tactic(auto, using(crate::proofs::Same::same_tree))]
+pub fn one_formula_has_one_id()
+    ensures { (nodes : List (Shape FormulaId)) → AreNodes nodes → (x y : FormulaId) → IsId nodes x → IsId nodes y → tree nodes x ≡ tree nodes y → x ≡ y }
+{}
