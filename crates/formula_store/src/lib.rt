@@ -9,6 +9,8 @@ mod laws;
 mod order;
 mod steps;
 mod store;
+#[cfg(test)]
+mod tests;
 mod truth;
 mod unfold;
 
