@@ -1,11 +1,10 @@
 -- A store whose entries get a shape with its facts is a store still.
-use Rattle.std.proofs.Common.{◌≡◌, ℕ, zero, suc, ◌+◌, ◌<◌, Bool, true, false, List, [], ◌∷◌, ◌++◌, Some, slice_get, length, map, ◌⊎◌, inl, inr, ⊎_elim, refl, ap, sym, ◌∙◌, subst, arith, true≢false}
+use Rattle.std.proofs.Common.{◌≡◌, ℕ, zero, suc, ◌<◌, Bool, true, List, [], ◌∷◌, ◌++◌, Some, slice_get, length, ◌⊎◌, inl, inr, ap, sym, ◌∙◌, subst, true≢false}
 use Rattle.std.proofs.lemmas.List.{length-map, map-append}
 use Rattle.std.proofs.lemmas.Option.{slice_get_within}
 use Rattle.std.specs.Map.{keys_of}
 use Rattle.std.specs.List.{position_or_len}
 use Rattle.indexmap.specs.IndexMap.{insert_entry}
-use Rattle.formula_meaning.specs.Tree.{Tree}
 use Rattle.formula_tree.specs.declared.shape.Shape.{Shape}
 use Rattle.formula_tree.specs.Shapes.{tree_over, AllIds, IsProperShape}
 use Rattle.formula_store.specs.declared.id.FormulaId.{FormulaId}
@@ -27,7 +26,6 @@ entry_at (a ∷ es) (suc i) k e = entry_at es i k e
 module _ (eq : Shape FormulaId → Shape FormulaId → Bool) (same : (a b : Shape FormulaId) → eq a b ≡ true → a ≡ b) (itself : (a : Shape FormulaId) → eq a a ≡ true)
     (old : List (Shape FormulaId × Facts)) (node : Shape FormulaId) (facts : Facts) (store : IsStore old) (ids : AllIds (IsId (keys_of old)) node) (proper : IsProperShape node)
     (known : IsFactsOf (tree_over (tree (keys_of old)) node) facts) where
-
   makes_by : (new : List (Shape FormulaId × Facts)) (place : ℕ) → Inserts eq same node facts old new place → Makes (keys_of old) node (record { number = place }) (keys_of new)
   makes_by new place (present x there keys rest) = inl (key_at old place node x there, keys)
   makes_by new place (absent none last end) = inr (last ∙ sym (length-map old (λ e. e.0)), ap keys_of end ∙ map-append (λ e. e.0) old ((node, facts) ∷ []))
@@ -36,14 +34,14 @@ module _ (eq : Shape FormulaId → Shape FormulaId → Bool) (same : (a b : Shap
       → Makes (keys_of old) node (record { number = place }) (keys_of new)
   adds new place p n =
       subst (λ k. Makes (keys_of old) node (record { number = k }) (keys_of new)) (sym p)
-        (subst (λ es. Makes (keys_of old) node (record { number = position_or_len (eq node) (keys_of old) }) (keys_of es)) (sym n)
-          (makes_by (insert_entry eq old node facts) (position_or_len (eq node) (keys_of old)) (inserts eq same node facts old)))
+      (subst (λ es. Makes (keys_of old) node (record { number = position_or_len (eq node) (keys_of old) }) (keys_of es)) (sym n)
+      (makes_by (insert_entry eq old node facts) (position_or_len (eq node) (keys_of old)) (inserts eq same node facts old)))
 
   known_at_present : (new : List (Shape FormulaId × Facts)) (place : ℕ) (x : Facts) → slice_get old place ≡ Some (node, x) → keys_of new ≡ keys_of old
       → (j : ℕ) (e : Shape FormulaId × Facts) → ((j ≡ place) × (e ≡ (node, facts))) ⊎ (slice_get old j ≡ Some e) → IsFactsOf (tree (keys_of new) (record { number = j })) e.1
   known_at_present new place x there keys j e (inl p) =
       let t : tree (keys_of new) (record { number = j }) ≡ tree_over (tree (keys_of old)) node =
-          (λ i. tree (keys i) (record { number = p.0 i })) ∙ node_tree (keys_of old) place node store.nodes (key_at old place node x there) in
+      (λ i. tree (keys i) (record { number = p.0 i })) ∙ node_tree (keys_of old) place node store.nodes (key_at old place node x there) in
       subst (λ f. IsFactsOf f e.1) (sym t) (subst (λ d. IsFactsOf (tree_over (tree (keys_of old)) node) d.1) (sym p.1) known)
   known_at_present new place x there keys j e (inr p) = subst (λ ns. IsFactsOf (tree ns (record { number = j })) e.1) (sym keys) (store.known j e p)
 
@@ -54,7 +52,7 @@ module _ (eq : Shape FormulaId → Shape FormulaId → Bool) (same : (a b : Shap
   known_at_absent j e (inr p) =
       let last : j ≡ length (keys_of old) = p.0 ∙ sym (length-map old (λ e. e.0)) in
       let t : tree (keys_of old ++ node ∷ []) (record { number = j }) ≡ tree_over (tree (keys_of old)) node =
-          ap (λ n. tree (keys_of old ++ node ∷ []) (record { number = n })) last ∙ push_makes (keys_of old) node in
+      ap (λ n. tree (keys_of old ++ node ∷ []) (record { number = n })) last ∙ push_makes (keys_of old) node in
       subst (λ f. IsFactsOf f e.1) (sym t) (subst (λ d. IsFactsOf (tree_over (tree (keys_of old)) node) d.1) (sym p.1) known)
 
   stored_by : (new : List (Shape FormulaId × Facts)) (place : ℕ) → Inserts eq same node facts old new place → IsStore new
@@ -66,7 +64,7 @@ module _ (eq : Shape FormulaId → Shape FormulaId → Bool) (same : (a b : Shap
       let keys : keys_of new ≡ keys_of old ++ node ∷ [] = ap keys_of end ∙ map-append (λ e. e.0) old ((node, facts) ∷ []) in
       record {
         nodes = subst AreNodes (sym keys)
-          (push_nodes (keys_of old) node store.nodes ids proper (λ i h. let e = entry_at old i node h in true≢false (sym (itself node) ∙ none i (node, e.0) e.1)));
+            (push_nodes (keys_of old) node store.nodes ids proper (λ i h. let e = entry_at old i node h in true≢false (sym (itself node) ∙ none i (node, e.0) e.1)));
         known = λ j e g. subst (λ ns. IsFactsOf (tree ns (record { number = j })) e.1) (sym keys) (known_at_absent j e (at_push old (node, facts) e j (subst (λ es. slice_get es j ≡ Some e) end g)));
       }
 

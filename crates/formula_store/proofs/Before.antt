@@ -1,5 +1,5 @@
 -- In the list of the nodes of a formula the members of each stand before it.
-use Rattle.std.proofs.Common.{◌≡◌, ℕ, zero, suc, ◌+◌, ◌<◌, ◌≤◌, ◌⊎◌, inl, inr, ⊎_elim, List, [], ◌∷◌, ◌++◌, Some, slice_get, length, get_or, take, refl, ap, sym, ◌∙◌, subst, arith}
+use Rattle.std.proofs.Common.{◌≡◌, ℕ, zero, suc, ◌<◌, ◌≤◌, inl, inr, List, [], ◌∷◌, Some, slice_get, length, get_or, take, refl, ap, sym, subst, arith}
 use Rattle.std.specs.List.{AllByRecursion}
 use Rattle.formula_meaning.specs.Some.{SomeOf, Among}
 use Rattle.formula_meaning.specs.Distinct.{StandsOnce}
@@ -8,7 +8,7 @@ use Rattle.formula_tree.specs.Shapes.{ids_of}
 use Rattle.formula_tree.proofs.Shapes.{all_listed}
 use Rattle.formula_store.specs.declared.id.FormulaId.{FormulaId}
 use Rattle.formula_store.specs.Nodes.{AreNodes, IsId}
-use Rattle.formula_store.specs.Order.{Within, WithinSome, itself, inside, Rises, RisesFrom, IsOrder}
+use Rattle.formula_store.specs.Order.{WithinSome, Rises, RisesFrom, IsOrder}
 use Rattle.formula_store.proofs.Ordered.{some_then}
 use Rattle.formula_store.proofs.Marked.{all_at}
 use Rattle.formula_store.proofs.Counted.{within_id, fits}

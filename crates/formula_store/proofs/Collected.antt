@@ -1,7 +1,6 @@
 -- The marked places, collected upwards.
-use Rattle.std.proofs.Common.{◌≡◌, ℕ, zero, suc, ◌+◌, ◌<◌, ◌≤◌, ◌⊎◌, inl, inr, ⊎_elim, Bool, true, false, List, [], ◌∷◌, ◌++◌, length, get_or, refl, ap, sym, ◌∙◌, subst, arith, true≢false}
+use Rattle.std.proofs.Common.{◌≡◌, ℕ, zero, suc, ◌+◌, ◌<◌, ◌≤◌, inl, ⊎_elim, Bool, false, List, [], ◌∷◌, ◌++◌, length, get_or, sym, ◌∙◌, subst, arith, true≢false}
 use Rattle.std.specs.List.{AllByRecursion}
-use Rattle.formula_meaning.specs.Some.{SomeOf}
 use Rattle.formula_tree.specs.declared.shape.Shape.{Shape}
 use Rattle.formula_store.specs.declared.id.FormulaId.{FormulaId}
 use Rattle.formula_store.specs.Order.{WithinSome, IsMarked, AreMarked, Rises, RisesFrom, Collects, IsOrder}
@@ -31,7 +30,7 @@ module _ (marks : List Bool) (i : ℕ) (ids : List FormulaId) (c : Collects mark
         rises = push_rises ids x c.rises c.below;
         below = all_joined (λ (id : FormulaId). id.number < i + 1) ids (x ∷ []) further (omega arith, tt);
         all = λ y h k.
-          ⊎_elim (λ (e : y.number ≡ i). some_right (λ j. j ≡ y) ids (x ∷ []) (inl (same_id x y (sym e)))) (λ (e : ¬ (y.number ≡ i)). some_left (λ j. j ≡ y) ids (x ∷ []) (c.all y (omega arith) k))
+            ⊎_elim (λ (e : y.number ≡ i). some_right (λ j. j ≡ y) ids (x ∷ []) (inl (same_id x y (sym e)))) (λ (e : ¬ (y.number ≡ i)). some_left (λ j. j ≡ y) ids (x ∷ []) (c.all y (omega arith) k))
             (equal_or_not y.number i);
         only = all_joined (λ (id : FormulaId). IsMarked marks id.number) ids (x ∷ []) c.only (m, tt);
       }

@@ -1,18 +1,16 @@
 -- Copying a formula over the copies of its members.
-use Rattle.std.proofs.Common.{◌≡◌, ℕ, ◌+◌, ◌<◌, ◌≤◌, ◌⊎◌, inl, inr, List, [], ◌∷◌, Some, slice_get, length, map, get_or, set, take, refl, ap, sym, ◌∙◌, subst, arith}
+use Rattle.std.proofs.Common.{◌≡◌, inl, inr, List, [], ◌∷◌, map, get_or, refl, sym, ◌∙◌, subst}
 use Rattle.std.specs.List.{AllByRecursion}
-use Rattle.formula_meaning.specs.Tree.{Tree}
-use Rattle.formula_meaning.specs.Some.{SomeOf, Among}
+use Rattle.formula_meaning.specs.Some.{Among}
 use Rattle.formula_tree.specs.declared.shape.Shape.{Shape}
-use Rattle.formula_tree.specs.Makers.{IsMade, AreMade, Keeps}
-use Rattle.formula_tree.specs.Shapes.{tree_over, AllIds, moved, ids_of}
-use Rattle.formula_tree.proofs.Shapes.{over_same, all_ids_map, over_moved, ids_moved, listed_all}
+use Rattle.formula_tree.specs.Makers.{AreMade, Keeps}
+use Rattle.formula_tree.specs.Shapes.{tree_over, AllIds, moved}
+use Rattle.formula_tree.proofs.Shapes.{over_same, all_ids_map, over_moved, ids_moved}
 use Rattle.formula_store.specs.declared.id.FormulaId.{FormulaId}
-use Rattle.formula_store.specs.Nodes.{tree, IsId, AreNodes}
+use Rattle.formula_store.specs.Nodes.{tree, IsId}
 use Rattle.formula_store.specs.Order.{Within, WithinSome, itself, IsOrder}
 use Rattle.formula_store.specs.Copies.{first_id, Copied}
-use Rattle.formula_store.proofs.Before.{among_all, members_before}
-use Rattle.formula_store.proofs.Tables.{filled}
+use Rattle.formula_store.proofs.Before.{among_all}
 
 module _ (nodes old new : List (Shape FormulaId)) where
   -- copies stay copies

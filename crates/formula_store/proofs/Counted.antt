@@ -1,6 +1,6 @@
 -- The list of distinct subformulas has as many ids as there are distinct subformulas.
-use Rattle.std.proofs.Common.{◌≡◌, ℕ, zero, suc, ◌+◌, ◌<◌, ◌≤◌, ◌⊎◌, inl, inr, ⊎_elim, Bool, true, List, [], ◌∷◌, ◌++◌, Some, slice_get, length, map, refl, ap, sym, ◌∙◌, subst, arith, nat_eq, get_or}
-use Rattle.std.proofs.lemmas.Option.{slice_get_within, slice_get-get_or}
+use Rattle.std.proofs.Common.{◌≡◌, ℕ, zero, suc, ◌<◌, ◌≤◌, ◌⊎◌, inl, inr, ⊎_elim, true, List, [], ◌∷◌, ◌++◌, Some, slice_get, length, map, refl, ap, sym, ◌∙◌, subst, arith, nat_eq, get_or}
+use Rattle.std.proofs.lemmas.Option.{slice_get-get_or}
 use Rattle.std.proofs.lemmas.List.{length-map}
 use Rattle.std.specs.List.{AllByRecursion}
 use Rattle.std.specs.Cmp.{unsigned_Decides}
@@ -16,7 +16,7 @@ use Rattle.formula_meaning.proofs.Sizes.{formula_same, formula_alike}
 use Rattle.formula_tree.specs.declared.shape.Shape.{Shape}
 use Rattle.formula_tree.specs.declared.shape.Shape.TheVariants as shape
 use Rattle.formula_tree.specs.Trees.{members}
-use Rattle.formula_tree.specs.Shapes.{tree_over, AllIds, ids_of}
+use Rattle.formula_tree.specs.Shapes.{tree_over, ids_of}
 use Rattle.formula_tree.proofs.Shapes.{all_listed}
 use Rattle.formula_store.specs.declared.id.FormulaId.{FormulaId}
 use Rattle.formula_store.specs.Nodes.{tree, IsId, AreNodes}
@@ -60,7 +60,7 @@ module _ {X : Type 0} where
   fits (x ∷ xs) ys h k =
       let r = split ys x (k x (inl refl)) in
       let rest = fits xs (r.before ++ r.after) h.1
-            (λ s m. left_over r.before r.after x s (λ e. h.0 (turned xs x (subst (λ z. Among xs z) (sym e) m))) (subst (λ l. Among l s) r.whole (k s (inr m)))) in
+      (λ s m. left_over r.before r.after x s (λ e. h.0 (turned xs x (subst (λ z. Among xs z) (sym e) m))) (subst (λ l. Among l s) r.whole (k s (inr m)))) in
       let n = length-split r.before r.after x in
       let w : length ys ≡ length (r.before ++ x ∷ r.after) = ap length r.whole in
       omega arith
@@ -140,7 +140,7 @@ module _ (nodes : List (Shape FormulaId)) (are : AreNodes nodes) where
   within_subtree a b itself = own (tree nodes a)
   within_subtree a b (inside {m = m} n e s w) =
       subst (λ f. Among (subtrees f) (tree nodes b)) (sym (node_tree nodes a.number n are e))
-        (subtrees_over (tree nodes) n (tree nodes b) (member_some (ids_of n) m s (within_subtree m b w)))
+      (subtrees_over (tree nodes) n (tree nodes b) (member_some (ids_of n) m s (within_subtree m b w)))
     where
       member_some : (ids : List FormulaId) (m : FormulaId) → SomeOf (λ i. i ≡ m) ids → Among (subtrees (tree nodes m)) (tree nodes b) → SomeOf (λ id. Among (subtrees (tree nodes id)) (tree nodes b)) ids
       member_some [] m h k = absurd h
@@ -159,11 +159,11 @@ module _ (nodes : List (Shape FormulaId)) (are : AreNodes nodes) where
       let there : slice_get nodes a.number ≡ Some n = slice_get-get_or nodes a.number shape.True h in
       let t : tree nodes a ≡ tree_over (tree nodes) n = node_tree nodes a.number n are there in
       ⊎_elim (λ (p : tree_over (tree nodes) n ≡ f). record { id = a; stands = itself; same = t ∙ p })
-        (λ p.
-          let r = some_has (λ id. Among (subtrees (tree nodes id)) f) (λ (id : FormulaId). id.number < a.number) (ids_of n) p (all_listed (λ (id : FormulaId). id.number < a.number) n (are.below a.number n there)) in
-          let q = subtree_below bound r.0 (omega (arith, r.2)) (omega (arith, r.2)) f r.1 in
-          record { id = q.id; stands = inside n there r.3 q.stands; same = q.same })
-        (over_subtrees (tree nodes) n f (subst (λ g. Among (subtrees g) f) t m))
+      (λ p.
+      let r = some_has (λ id. Among (subtrees (tree nodes id)) f) (λ (id : FormulaId). id.number < a.number) (ids_of n) p (all_listed (λ (id : FormulaId). id.number < a.number) n (are.below a.number n there)) in
+      let q = subtree_below bound r.0 (omega (arith, r.2)) (omega (arith, r.2)) f r.1 in
+      record { id = q.id; stands = inside n there r.3 q.stands; same = q.same })
+      (over_subtrees (tree nodes) n f (subst (λ g. Among (subtrees g) f) t m))
 
   subtree_found : (a : FormulaId) → IsId nodes a → (f : Tree) → Among (subtrees (tree nodes a)) f → Found a f
   subtree_found a h f m = subtree_below (suc a.number) a (omega arith) h f m
@@ -226,11 +226,11 @@ module _ (nodes : List (Shape FormulaId)) (are : AreNodes nodes) where
       let f = tree nodes root in
       let once = trees_once ids o.rises (λ x m. within_id root x h (each_within root ids o.only x m)) in
       let up : length (map (tree nodes) ids) ≤ length (distinct_subtrees same_atom nat_eq f) =
-            fits (map (tree nodes) ids) (distinct_subtrees same_atom nat_eq f) once
-              (λ s m. let r = map_among ids s m in
-                among_distinct same sound (subtrees f) s (subst (λ g. Among (subtrees f) g) r.2 (within_subtree root r.0 (each_within root ids o.only r.0 r.1)))) in
+      fits (map (tree nodes) ids) (distinct_subtrees same_atom nat_eq f) once
+      (λ s m. let r = map_among ids s m in
+      among_distinct same sound (subtrees f) s (subst (λ g. Among (subtrees f) g) r.2 (within_subtree root r.0 (each_within root ids o.only r.0 r.1)))) in
       let down : length (distinct_subtrees same_atom nat_eq f) ≤ length (map (tree nodes) ids) =
-            fits (distinct_subtrees same_atom nat_eq f) (map (tree nodes) ids) (distinct_once same alike (subtrees f))
-              (λ s m. let r = subtree_found root h s (distinct_among same (subtrees f) s m) in subst (λ g. Among (map (tree nodes) ids) g) r.same (among_map ids r.id (o.all r.id (inl r.stands)))) in
+      fits (distinct_subtrees same_atom nat_eq f) (map (tree nodes) ids) (distinct_once same alike (subtrees f))
+      (λ s m. let r = subtree_found root h s (distinct_among same (subtrees f) s m) in subst (λ g. Among (map (tree nodes) ids) g) r.same (among_map ids r.id (o.all r.id (inl r.stands)))) in
       let n = length-map ids (tree nodes) in
       omega arith

@@ -1,8 +1,7 @@
 -- The truth of a node from those of its members, shape by shape.
-use Rattle.std.proofs.Common.{◌≡◌, ℕ, ◌<◌, Bool, true, false, not, ◌||◌, List, Some, slice_get, length, get_or, refl, sym, ap, ◌∙◌, subst, arith, ◌↔◌, IsTrue, inl}
+use Rattle.std.proofs.Common.{◌≡◌, ℕ, Bool, true, false, List, Some, slice_get, refl, sym, ap, ◌∙◌, subst, ◌↔◌, IsTrue, inl}
 use Rattle.std.specs.Prelude.{ℤ, unsigned_abs}
 use Rattle.std.specs.Bool.{beq}
-use Rattle.std.specs.List.{AllByRecursion}
 use Rattle.formula_meaning.specs.Point.{Point}
 use Rattle.formula_meaning.specs.Formula.{Equiv, One}
 use Rattle.formula_meaning.specs.Atom.{Congruent}
@@ -10,15 +9,14 @@ use Rattle.formula_meaning.specs.Sizes.{subtrees}
 use Rattle.atom_normal.specs.declared.atoms.Atom.{Atom as Code}
 use Rattle.atom_normal.specs.declared.atoms.Atom.TheVariants as atom
 use Rattle.atom_normal.specs.Atoms.{atom_of, IsAskedWhole}
-use Rattle.formula_meaning.specs.Some.{SomeOf, Among}
+use Rattle.formula_meaning.specs.Some.{Among}
 use Rattle.formula_meaning.specs.Tree.{Tree}
 use Rattle.formula_tree.specs.declared.shape.Shape.{Shape}
-use Rattle.formula_tree.specs.declared.shape.Shape.TheVariants as shape
 use Rattle.formula_tree.specs.Shapes.{AllIds, tree_over}
 use Rattle.formula_store.specs.declared.id.FormulaId.{FormulaId}
 use Rattle.formula_store.specs.Nodes.{tree}
 use Rattle.formula_store.specs.Truths.{Tells, IsWholeWhereAsked}
-use Rattle.formula_store.proofs.Told.{all_tell, some_tell, not_tells, impl_tells, repl_tells, equiv_tells, same_truths}
+use Rattle.formula_store.proofs.Told.{equiv_tells, same_truths}
 
 -- the node's shape is s, and its members have their truths
 module _ (nodes : List (Shape FormulaId)) (p : Point ℕ) (marks : FormulaId → Bool) (id : FormulaId) (n s : Shape FormulaId) (here : slice_get nodes id.number ≡ Some n) (t : tree nodes id ≡ tree_over (tree nodes) n) (is : n ≡ s)

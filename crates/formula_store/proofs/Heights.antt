@@ -1,5 +1,5 @@
 -- The height of a node's tree is at most one more than its number.
-use Rattle.std.proofs.Common.{◌≡◌, ℕ, zero, suc, ◌+◌, ◌<◌, ◌≤◌, max, List, [], ◌∷◌, get_or, slice_get, Some, length, map, sym, ap, ◌∙◌, subst, arith, add-one}
+use Rattle.std.proofs.Common.{◌≡◌, ℕ, zero, suc, ◌<◌, ◌≤◌, List, [], ◌∷◌, get_or, slice_get, Some, length, map, sym, subst, arith}
 use Rattle.std.specs.List.{AllByRecursion}
 use Rattle.std.proofs.lemmas.Option.{slice_get-get_or}
 use Rattle.formula_meaning.specs.Tree.{Tree}
@@ -37,7 +37,7 @@ below nodes a (suc bound) i h l =
     let n = get_or nodes i shape.True in
     let there : slice_get nodes i ≡ Some n = slice_get-get_or nodes i shape.True l in
     let ids : AllIds (λ id. height (tree nodes id) ≤ i) n =
-        all_ids_map (λ id. id.number < i) (λ id. height (tree nodes id) ≤ i) (λ id k. let b = below nodes a bound id.number (omega arith) (omega arith) in omega arith) n (a.below i n there) in
+    all_ids_map (λ id. id.number < i) (λ id. height (tree nodes id) ≤ i) (λ id k. let b = below nodes a bound id.number (omega arith) (omega arith) in omega arith) n (a.below i n there) in
     subst (λ f. height f ≤ suc i) (sym (node_tree nodes i n a there)) (over_height (tree nodes) i n ids)
 
 -- a height is at most the number of nodes

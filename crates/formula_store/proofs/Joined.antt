@@ -1,10 +1,7 @@
 -- Facts joined one after another.
-use Rattle.std.proofs.Common.{◌≡◌, ℕ, ◌+◌, ◌<◌, ◌≤◌, max, min, ◌||◌, Bool, true, false, List, [], ◌∷◌, length, map, drop, refl, ap, sym, ◌∙◌, subst, arith}
-use Rattle.formula_meaning.specs.Tree.{Tree, Trees}
-use Rattle.formula_meaning.specs.Formula.{none, also}
-use Rattle.formula_meaning.specs.Sizes.{all_nodes, greatest_height}
-use Rattle.formula_tree.specs.Quantified.{some_quantifier}
-use Rattle.formula_tree.specs.Trees.{members}
+use Rattle.std.proofs.Common.{◌≡◌, ◌≤◌, ◌||◌, Bool, true, false, refl, sym, ◌∙◌, arith}
+use Rattle.formula_meaning.specs.Tree.{Trees}
+use Rattle.formula_meaning.specs.Formula.{none}
 use Rattle.formula_store.specs.declared.facts.Facts.{Facts}
 use Rattle.formula_store.specs.Facts.{most_nodes, AreFactsOf}
 use Rattle.formula_store.specs.Together.{Join}

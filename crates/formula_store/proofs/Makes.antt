@@ -1,16 +1,15 @@
 -- What a new node changes: nothing of the old ones.
-use Rattle.std.proofs.Common.{◌≡◌, ℕ, zero, suc, ◌+◌, ◌<◌, ◌≤◌, List, [], ◌∷◌, ◌++◌, Some, slice_get, get_or, length, map, ◌⊎◌, inl, inr, ⊎_elim, refl, ap, sym, ◌∙◌, subst, arith, length-append}
+use Rattle.std.proofs.Common.{◌≡◌, ℕ, zero, suc, ◌<◌, List, [], ◌∷◌, ◌++◌, Some, slice_get, get_or, length, ◌⊎◌, inl, inr, ⊎_elim, refl, ap, sym, ◌∙◌, subst, arith, length-append}
 use Rattle.std.proofs.lemmas.List.{get_or_append_left}
 use Rattle.std.proofs.lemmas.Option.{slice_get_within}
 use Rattle.std.proofs.Math.Seq.{get_or-append_seam}
 use Rattle.formula_meaning.specs.Formula.{Yes}
-use Rattle.formula_meaning.specs.Tree.{Tree}
 use Rattle.formula_tree.specs.declared.shape.Shape.{Shape}
 use Rattle.formula_tree.specs.Makers.{IsMade, Keeps}
 use Rattle.formula_tree.specs.Shapes.{tree_over, AllIds, IsProperShape}
-use Rattle.formula_tree.proofs.Shapes.{over_same, all_ids_map}
+use Rattle.formula_tree.proofs.Shapes.{all_ids_map}
 use Rattle.formula_store.specs.declared.id.FormulaId.{FormulaId}
-use Rattle.formula_store.specs.Nodes.{at, trees_from, trees, tree, IsId, AreNodes, Front, Makes}
+use Rattle.formula_store.specs.Nodes.{at, trees, tree, IsId, AreNodes, Front, Makes}
 use Rattle.formula_store.proofs.Trees.{trees_from-push, length-trees_from, node_tree}
 
 length-trees : (nodes : List (Shape FormulaId)) → length (trees nodes) ≡ length nodes
@@ -46,7 +45,7 @@ module _ (old : List (Shape FormulaId)) (node : Shape FormulaId) where
     below = λ i n e. ⊎_elim (λ h. a.below i n h) (λ h. subst (λ m. AllIds (λ (id : FormulaId). id.number < i) m) (sym h.1) (all_ids_map (IsId old) (λ id. id.number < i) (λ id k. omega arith) node ids)) (at_push old node n i e);
     proper = λ i n e. ⊎_elim (λ h. a.proper i n h) (λ h. subst IsProperShape (sym h.1) proper) (at_push old node n i e);
     once = λ i j n e f.
-      ⊎_elim
+        ⊎_elim
         (λ h. ⊎_elim (λ k. a.once i j n h k) (λ k. absurd (new i (h ∙ ap Some k.1))) (at_push old node n j f))
         (λ h. ⊎_elim (λ k. absurd (new j (k ∙ ap Some h.1))) (λ k. h.0 ∙ sym k.0) (at_push old node n j f))
         (at_push old node n i e);

@@ -1,16 +1,14 @@
 -- Two ids of nodes that stand once are equal where their trees are.
-use Rattle.std.proofs.Common.{◌≡◌, ℕ, zero, suc, ◌+◌, ◌<◌, ◌≤◌, List, [], ◌∷◌, ◌++◌, get_or, slice_get, Some, length, refl, ap, sym, ◌∙◌, subst, arith}
-use Rattle.std.proofs.lemmas.Option.{slice_get_within, slice_get-get_or}
-use Rattle.formula_meaning.specs.Formula.{Yes}
-use Rattle.formula_meaning.specs.Tree.{Tree}
+use Rattle.std.proofs.Common.{◌≡◌, ℕ, zero, suc, ◌<◌, List, get_or, slice_get, Some, length, ap, sym, ◌∙◌, arith}
+use Rattle.std.proofs.lemmas.Option.{slice_get-get_or}
 use Rattle.formula_tree.specs.declared.shape.Shape.{Shape}
 use Rattle.formula_tree.specs.declared.shape.Shape.TheVariants as shape
-use Rattle.formula_tree.specs.Shapes.{tree_over, AllIds, IsProperShape}
-use Rattle.formula_tree.proofs.Shapes.{over_same, all_ids_map}
+use Rattle.formula_tree.specs.Shapes.{tree_over, AllIds}
+use Rattle.formula_tree.proofs.Shapes.{all_ids_map}
 use Rattle.formula_tree.proofs.Tells.{over_tells}
 use Rattle.formula_tree.proofs.AtomsTell.{atoms_tell}
 use Rattle.formula_store.specs.declared.id.FormulaId.{FormulaId}
-use Rattle.formula_store.specs.Nodes.{at, trees_from, trees, tree, AreNodes}
+use Rattle.formula_store.specs.Nodes.{tree, AreNodes}
 use Rattle.formula_store.proofs.Trees.{node_tree}
 
 -- the node of a place
@@ -31,10 +29,10 @@ tells_below nodes a (suc bound) i j hi hj li lj e =
     let in_j = node_at nodes j lj in
     let trees_meet : tree_over (tree nodes) n ≡ tree_over (tree nodes) m = sym (node_tree nodes i n a in_i) ∙ e ∙ node_tree nodes j m a in_j in
     let first : AllIds (λ x. (y : FormulaId) → y.number < j → tree nodes x ≡ tree nodes y → x ≡ y) n =
-        all_ids_map (λ id. id.number < i) (λ x. (y : FormulaId) → y.number < j → tree nodes x ≡ tree nodes y → x ≡ y)
-          (λ x k y l d. let s : x.number ≡ y.number = tells_below nodes a bound x.number y.number (omega arith) (omega arith) (omega arith) (omega arith) d in λ t. record { number = s t }) n (a.below i n in_i) in
+    all_ids_map (λ id. id.number < i) (λ x. (y : FormulaId) → y.number < j → tree nodes x ≡ tree nodes y → x ≡ y)
+    (λ x k y l d. let s : x.number ≡ y.number = tells_below nodes a bound x.number y.number (omega arith) (omega arith) (omega arith) (omega arith) d in λ t. record { number = s t }) n (a.below i n in_i) in
     one_place nodes a i j n m in_i in_j
-      (over_tells (tree nodes) (λ y. y.number < j) atoms_tell n m (a.proper i n in_i) (a.proper j m in_j) first (a.below j m in_j) trees_meet)
+    (over_tells (tree nodes) (λ y. y.number < j) atoms_tell n m (a.proper i n in_i) (a.proper j m in_j) first (a.below j m in_j) trees_meet)
 
 -- two ids with one tree are one
 pub same_tree : (nodes : List (Shape FormulaId)) → AreNodes nodes → (x y : FormulaId) → x.number < length nodes → y.number < length nodes → tree nodes x ≡ tree nodes y → x ≡ y

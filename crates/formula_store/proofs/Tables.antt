@@ -1,12 +1,11 @@
 -- A table with a value at the number of each id of a rising list, filled one after another.
-use Rattle.std.proofs.Common.{◌≡◌, ℕ, zero, suc, ◌+◌, ◌<◌, ◌≤◌, ◌⊎◌, inl, inr, List, [], ◌∷◌, ◌++◌, length, get_or, set, take, refl, ap, sym, ◌∙◌, subst, arith}
+use Rattle.std.proofs.Common.{◌≡◌, ℕ, zero, suc, ◌+◌, ◌<◌, List, [], ◌∷◌, length, get_or, set, take, sym, subst, arith}
 use Rattle.std.proofs.lemmas.List.{take_more}
 use Rattle.std.proofs.Math.Seq.{get_or-set_same, get_or-set_other}
 use Rattle.std.specs.List.{AllByRecursion}
 use Rattle.formula_store.specs.declared.id.FormulaId.{FormulaId}
 use Rattle.formula_store.specs.Order.{Rises, RisesFrom}
 use Rattle.formula_store.proofs.Marked.{all_on, all_joined}
-use Rattle.formula_store.proofs.Before.{at_least_from}
 
 below_from : (a : ℕ) (ids : List FormulaId) (i : ℕ) (d : FormulaId) → RisesFrom a ids → i < length ids → a < (get_or ids i d).number
 below_from a [] i d r h = absurd (omega arith)
@@ -36,7 +35,7 @@ pub filled : {V : Type 0} (P Q : FormulaId → V → Type 0) (table : List V) (d
 filled P Q table d ids i e v r h within grows new done =
     let id = get_or ids i e in
     let old = all_on (λ (x : FormulaId). P x (get_or table x.number d) × (x.number < id.number)) (λ (x : FormulaId). Q x (get_or (set table id.number v) x.number d))
-          (λ x p. let l = p.1 in subst (λ w. Q x w) (sym (get_or-set_other table id.number x.number v d (λ (s : x.number ≡ id.number). omega arith))) (grows x (get_or table x.number d) p.0)) (take i ids)
-          (both_all (λ (x : FormulaId). P x (get_or table x.number d)) (λ (x : FormulaId). x.number < id.number) (take i ids) done (numbers_before ids i e r h)) in
+    (λ x p. let l = p.1 in subst (λ w. Q x w) (sym (get_or-set_other table id.number x.number v d (λ (s : x.number ≡ id.number). omega arith))) (grows x (get_or table x.number d) p.0)) (take i ids)
+    (both_all (λ (x : FormulaId). P x (get_or table x.number d)) (λ (x : FormulaId). x.number < id.number) (take i ids) done (numbers_before ids i e r h)) in
     rw (take_more ids i e h)
-      (all_joined (λ (x : FormulaId). Q x (get_or (set table id.number v) x.number d)) (take i ids) (id ∷ []) old (subst (λ w. Q id w) (sym (get_or-set_same table id.number v d within)) new, tt))
+    (all_joined (λ (x : FormulaId). Q x (get_or (set table id.number v) x.number d)) (take i ids) (id ∷ []) old (subst (λ w. Q id w) (sym (get_or-set_same table id.number v d within)) new, tt))

@@ -1,13 +1,12 @@
 -- The truth of a formula from those of its members.
-use Rattle.std.proofs.Common.{◌≡◌, ℕ, zero, suc, ◌+◌, ◌<◌, take, length, arith, Bool, true, false, not, ◌||◌, ◌⊎◌, inl, inr, ⊎_elim, List, [], ◌∷◌, ◌++◌, Some, slice_get, map, refl, ap, sym, ◌∙◌, subst, ◌↔◌, IsTrue, true≢false, get_or}
+use Rattle.std.proofs.Common.{◌≡◌, ℕ, zero, suc, ◌+◌, ◌<◌, take, length, arith, Bool, true, false, not, ◌||◌, ◌⊎◌, inl, inr, ⊎_elim, List, [], ◌∷◌, ◌++◌, map, refl, sym, subst, ◌↔◌, IsTrue, true≢false, get_or}
 use Rattle.std.proofs.lemmas.List.{take_more}
 use Rattle.std.specs.Bool.{beq}
 use Rattle.std.specs.List.{AllByRecursion}
-use Rattle.formula_meaning.specs.Context.{Context, Fields}
-use Rattle.formula_meaning.specs.Point.{Point, move}
-use Rattle.formula_meaning.specs.Formula.{Formula, Formulas, Yes, No, One, Not, And, Or, Impl, Repl, Equiv, Ex, All, none, also}
+use Rattle.formula_meaning.specs.Context.{Context}
+use Rattle.formula_meaning.specs.Point.{Point}
+use Rattle.formula_meaning.specs.Formula.{Not, And, Or, Impl, Repl, Equiv}
 use Rattle.formula_meaning.specs.Some.{SomeOf}
-use Rattle.formula_meaning.specs.Shape.{IsQuantifierFree}
 use Rattle.formula_meaning.specs.Tree.{Tree, TrueAt}
 use Rattle.formula_store.specs.declared.id.FormulaId.{FormulaId}
 use Rattle.formula_tree.specs.Trees.{members}
@@ -72,7 +71,7 @@ module _ (P : FormulaId → Type 0) where
   -- none of the first ones has it, nor the next
   pub none_more : (ids : List FormulaId) (i : ℕ) (d : FormulaId) → i < length ids → ¬ (SomeOf P (take i ids)) → ¬ (P (get_or ids i d)) → ¬ (SomeOf P (take (i + 1) ids))
   none_more ids i d h n p = λ s.
-    ⊎_elim (λ q. n q) (λ q. ⊎_elim (λ r. p r) (λ r. absurd r) q) (some_joined (take i ids) (get_or ids i d ∷ []) (subst (λ (l : List FormulaId). SomeOf P l) (take_more ids i d h) s))
+      ⊎_elim (λ q. n q) (λ q. ⊎_elim (λ r. p r) (λ r. absurd r) q) (some_joined (take i ids) (get_or ids i d ∷ []) (subst (λ (l : List FormulaId). SomeOf P l) (take_more ids i d h) s))
 
 -- the members of a list, all true or not all
 pub all_tell : (b : Bool) (t : FormulaId → Tree) (marks : FormulaId → Bool) (p : Point ℕ) (ids : List FormulaId) → AllByRecursion (λ id. Tells (marks id) (t id) p) ids → (IsTrue b ↔ SomeOf (λ id. marks id ≡ false) ids)
@@ -88,6 +87,7 @@ all_tell false t marks p ids h i = all_true ids h (λ s. true≢false (sym (i.1 
     is_true : (b : Bool) → ¬ (b ≡ false) → b ≡ true
     is_true true n = refl
     is_true false n = absurd (n refl)
+
     all_true : (ids : List FormulaId) → AllByRecursion (λ id. Tells (marks id) (t id) p) ids → ¬ (SomeOf (λ id. marks id ≡ false) ids) → (c : Context) → TrueAt c (And (members (map t ids))) p
     all_true [] h n c = tt
     all_true (x ∷ ids) h n c = (subst (λ b. Tells b (t x) p) (is_true (marks x) (λ e. n (inl e))) h.0 c, all_true ids h.1 (λ s. n (inr s)) c)
@@ -106,6 +106,7 @@ some_tell false t marks p ids h i = none_true ids h (λ s. true≢false (sym (i.
     is_false : (b : Bool) → ¬ (b ≡ true) → b ≡ false
     is_false true n = absurd (n refl)
     is_false false n = refl
+
     none_true : (ids : List FormulaId) → AllByRecursion (λ id. Tells (marks id) (t id) p) ids → ¬ (SomeOf (λ id. marks id ≡ true) ids) → (c : Context) → ¬ (TrueAt c (Or (members (map t ids))) p)
     none_true [] h n c s = s
     none_true (x ∷ ids) h n c s = ⊎_elim (λ q. subst (λ b. Tells b (t x) p) (is_false (marks x) (λ e. n (inl e))) h.0 c q) (λ q. none_true ids h.1 (λ r. n (inr r)) c q) s

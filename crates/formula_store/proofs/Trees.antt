@@ -1,12 +1,11 @@
 -- The trees of nodes.
-use Rattle.std.proofs.Common.{◌≡◌, ℕ, zero, suc, ◌+◌, ◌<◌, ◌≤◌, List, [], ◌∷◌, ◌++◌, get_or, slice_get, Some, length, refl, ap, sym, ◌∙◌, subst, arith, length-append, append_assoc}
+use Rattle.std.proofs.Common.{◌≡◌, ℕ, zero, suc, ◌+◌, ◌<◌, List, [], ◌∷◌, ◌++◌, get_or, slice_get, Some, length, refl, ap, sym, ◌∙◌, subst, arith, length-append}
 use Rattle.std.proofs.lemmas.List.{get_or_append_left}
-use Rattle.std.proofs.lemmas.Option.{slice_get_within}
 use Rattle.std.proofs.Math.Seq.{get_or-append_seam}
 use Rattle.formula_meaning.specs.Formula.{Yes}
 use Rattle.formula_meaning.specs.Tree.{Tree}
 use Rattle.formula_tree.specs.declared.shape.Shape.{Shape}
-use Rattle.formula_tree.specs.Shapes.{tree_over, AllIds, IsProperShape}
+use Rattle.formula_tree.specs.Shapes.{tree_over, AllIds}
 use Rattle.formula_tree.proofs.Shapes.{over_same, all_ids_map}
 use Rattle.formula_store.specs.declared.id.FormulaId.{FormulaId}
 use Rattle.formula_store.specs.Nodes.{at, trees_from, trees, tree, AreNodes}
@@ -47,19 +46,19 @@ node_tree_from before (m ∷ ns) zero n e h =
     let none : length before + 0 ≡ length before = omega arith in
     let put : get_or front (length before + 0) Yes ≡ tree_over (at before) m = ap (λ k. get_or front k Yes) none ∙ get_or-append_seam before (tree_over (at before) m) [] Yes in
     let ids : AllIds (λ id. at before id ≡ at (trees_from front ns) id) n =
-        all_ids_map (λ id. id.number < length before + 0) (λ id. at before id ≡ at (trees_from front ns) id)
-          (λ id k. sym (get_or-trees_from front ns id.number (omega arith) ∙ get_or_append_left before (tree_over (at before) m ∷ []) Yes id.number (omega arith))) n h in
+    all_ids_map (λ id. id.number < length before + 0) (λ id. at before id ≡ at (trees_from front ns) id)
+    (λ id k. sym (get_or-trees_from front ns id.number (omega arith) ∙ get_or_append_left before (tree_over (at before) m ∷ []) Yes id.number (omega arith))) n h in
     start ∙ put ∙ ap (tree_over (at before)) same ∙ over_same (at before) (at (trees_from front ns)) n ids
 node_tree_from before (m ∷ ns) (suc i) n e h =
     let front : List Tree = before ++ tree_over (at before) m ∷ [] in
     let longer : length front ≡ length before + 1 = simp length-append in
     let moved : length front + i ≡ length before + suc i = omega arith in
     subst (λ k. get_or (trees_from front ns) k Yes ≡ tree_over (at (trees_from front ns)) n) moved
-      (node_tree_from front ns i n e (all_ids_map (λ id. id.number < length before + suc i) (λ id. id.number < length front + i) (λ id k. omega arith) n h))
+    (node_tree_from front ns i n e (all_ids_map (λ id. id.number < length before + suc i) (λ id. id.number < length front + i) (λ id k. omega arith) n h))
 
 -- a node's tree is the shape over the trees of its ids
 pub node_tree : (nodes : List (Shape FormulaId)) (i : ℕ) (n : Shape FormulaId) → AreNodes nodes → slice_get nodes i ≡ Some n → tree nodes (record { number = i }) ≡ tree_over (tree nodes) n
 node_tree nodes i n a e =
     let z : 0 + i ≡ i = omega arith in
     subst (λ k. get_or (trees nodes) k Yes ≡ tree_over (tree nodes) n) z
-      (node_tree_from [] nodes i n e (all_ids_map (λ id. id.number < i) (λ id. id.number < 0 + i) (λ id k. omega arith) n (a.below i n e)))
+    (node_tree_from [] nodes i n e (all_ids_map (λ id. id.number < i) (λ id. id.number < 0 + i) (λ id k. omega arith) n (a.below i n e)))

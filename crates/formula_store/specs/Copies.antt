@@ -1,5 +1,5 @@
 -- Copies of formulas in another store.
-use Rattle.std.specs.Prelude.{◌≡◌, List, get_or, length}
+use Rattle.std.specs.Prelude.{List}
 use Rattle.formula_tree.specs.declared.shape.Shape.{Shape}
 use Rattle.formula_tree.specs.Makers.{IsMade}
 use Rattle.formula_store.specs.declared.id.FormulaId.{FormulaId}

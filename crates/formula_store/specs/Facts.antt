@@ -1,5 +1,5 @@
 -- What a store knows of each formula.
-use Rattle.std.specs.Prelude.{◌≡◌, ℕ, ◌+◌, max, min, ◌||◌}
+use Rattle.std.specs.Prelude.{◌≡◌, ℕ, min}
 use Rattle.formula_meaning.specs.Tree.{Tree, Trees}
 use Rattle.formula_meaning.specs.Sizes.{nodes, all_nodes, height, greatest_height}
 use Rattle.formula_tree.specs.Quantified.{has_quantifier, some_quantifier}

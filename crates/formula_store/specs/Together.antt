@@ -1,5 +1,5 @@
 -- What is known of a list of formulas, while it is gone through.
-use Rattle.std.specs.Prelude.{◌≡◌, ℕ, ◌+◌, max, min, ◌||◌}
+use Rattle.std.specs.Prelude.{◌≡◌, ◌+◌, max, min, ◌||◌}
 use Rattle.formula_meaning.specs.Tree.{Trees}
 use Rattle.formula_meaning.specs.Sizes.{all_nodes, greatest_height}
 use Rattle.formula_tree.specs.Quantified.{some_quantifier}

@@ -33,7 +33,9 @@ pub(crate) fn copied(
 {
     let ids = subformulas(alloc, store, roots)?;
     let mut table = Vec::new(alloc);
-    table.resize(store.len(), FIRST).map_err(|_| StoreError::Memory)?;
+    table
+        .resize(store.len(), FIRST)
+        .map_err(|_| StoreError::Memory)?;
     for id in &ids {
         let copy = copied_node(alloc, store, *id, &table, into)?;
         table[id.number] = copy;
@@ -97,7 +99,9 @@ fn looked_up(
 {
     let mut found = Vec::new(alloc);
     for id in ids {
-        found.push(table[id.number]).map_err(|_| StoreError::Memory)?;
+        found
+            .push(table[id.number])
+            .map_err(|_| StoreError::Memory)?;
     }
     Ok(found)
 }

@@ -20,9 +20,18 @@ pub(crate) fn unfolded(alloc: Global, store: &Store, id: FormulaId) -> Result<Tr
     match store.shape(id) {
         Shape::True => Tree::over(alloc, Shape::True),
         Shape::False => Tree::over(alloc, Shape::False),
-        Shape::One(atom) => Tree::over(alloc, Shape::One(atom.copy(alloc).map_err(|_| AllocError)?)),
-        Shape::And(ids) => Tree::over(alloc, Shape::And(Ids::of(all_unfolded(alloc, store, id, ids.items())?))),
-        Shape::Or(ids) => Tree::over(alloc, Shape::Or(Ids::of(all_unfolded(alloc, store, id, ids.items())?))),
+        Shape::One(atom) => Tree::over(
+            alloc,
+            Shape::One(atom.copy(alloc).map_err(|_| AllocError)?),
+        ),
+        Shape::And(ids) => Tree::over(
+            alloc,
+            Shape::And(Ids::of(all_unfolded(alloc, store, id, ids.items())?)),
+        ),
+        Shape::Or(ids) => Tree::over(
+            alloc,
+            Shape::Or(Ids::of(all_unfolded(alloc, store, id, ids.items())?)),
+        ),
         Shape::Not(f) => Tree::over(alloc, Shape::Not(unfolded(alloc, store, *f)?)),
         Shape::Impl(f, g) => {
             let left = unfolded(alloc, store, *f)?;

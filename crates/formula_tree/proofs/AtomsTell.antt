@@ -1,8 +1,7 @@
 -- Two well-formed atoms of one meaning are one.
-use Rattle.std.proofs.Common.{◌≡◌, ℕ, refl, ap, arith}
+use Rattle.std.proofs.Common.{◌≡◌, refl, ap, arith}
 use Rattle.std.proofs.lemmas.Int.{ints}
-use Rattle.std.specs.Prelude.{pos, negsuc, ◌<ℤ◌, ℤ, unsigned_abs, Bool, true, false}
-use Rattle.formula_meaning.specs.Atom as meaning
+use Rattle.std.specs.Prelude.{pos, ◌<ℤ◌, ℤ, unsigned_abs}
 use Rattle.atom_normal.specs.declared.atoms.Rel.{Rel}
 use Rattle.atom_normal.specs.declared.atoms.Rel.TheVariants as rel
 use Rattle.atom_normal.specs.declared.atoms.Atom.{Atom}

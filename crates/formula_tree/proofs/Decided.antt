@@ -3,9 +3,8 @@ use Rattle.std.proofs.Common.{◌≡◌, true, false, Bool, refl, ◌&&◌, ap, 
 use denote.RattleType.{RattleType}
 use mir.Syntax.{Dict}
 use Rattle.std.specs.Cmp.{first_so, second_so, signed_Decides, unsigned_Decides}
-use Rattle.std.specs.Cmp.Lexicographic.{pointwise, pointwise_decides}
+use Rattle.std.specs.Cmp.Lexicographic.{pointwise}
 use Rattle.std.specs.Prelude.{nat_eq, ℤ}
-use Rattle.std.specs.Bool.{Decides}
 use Rattle.std.specs.Ordering.{int_eq}
 use Rattle.std.specs.declared.cmp.PartialEq.{Ghosts}
 use Rattle.formula_meaning.specs.Form.{Form}

@@ -1,17 +1,10 @@
 -- Two shapes with one tree are one shape, where the trees of their ids tell the ids apart.
-use Rattle.std.proofs.Common.{◌≡◌, ℕ, List, [], ◌∷◌, refl, ap, sym, ◌∙◌}
-use Rattle.std.specs.Prelude.{map, pos, negsuc, zero, suc, ◌<ℤ◌, ℤ, unsigned_abs, Bool, true, false}
+use Rattle.std.proofs.Common.{◌≡◌, List, [], ◌∷◌, refl, ap}
+use Rattle.std.specs.Prelude.{map}
 use Rattle.std.specs.List.{AllByRecursion}
-use Rattle.linear_forms.specs.declared.form.VarId.{VarId}
-use Rattle.formula_meaning.specs.Form.{Form}
-use Rattle.formula_meaning.specs.Atom as meaning
-use Rattle.formula_meaning.specs.Formula.{Formulas, Yes, No, One, Not, And, Or, Impl, Repl, Equiv, Ex, All, none, also}
 use Rattle.formula_meaning.specs.Tree.{Tree}
-use Rattle.atom_normal.specs.declared.atoms.Rel.{Rel}
-use Rattle.atom_normal.specs.declared.atoms.Rel.TheVariants as rel
 use Rattle.atom_normal.specs.declared.atoms.Atom.{Atom}
-use Rattle.atom_normal.specs.declared.atoms.Atom.TheVariants as atom
-use Rattle.atom_normal.specs.Atoms.{atom_of, relation_of, IsWellFormed}
+use Rattle.atom_normal.specs.Atoms.{atom_of, IsWellFormed}
 use Rattle.formula_tree.specs.declared.shape.Shape.{Shape}
 use Rattle.formula_tree.specs.declared.shape.Shape.TheVariants as shape
 use Rattle.formula_tree.specs.Trees.{members}

@@ -1,6 +1,6 @@
 -- Resolved formulas as trees of plain data: what the code's values stand for, with no memory in it.
-use Rattle.std.specs.Prelude.{ℕ, List, [], ◌∷◌}
-use Rattle.formula_meaning.specs.Formula.{Formula, Formulas, Yes, No, One, Not, And, Or, Impl, Repl, Equiv, Ex, All, none, also}
+use Rattle.std.specs.Prelude.{List, [], ◌∷◌}
+use Rattle.formula_meaning.specs.Formula.{Yes, No, One, Not, And, Or, Impl, Repl, Equiv, Ex, All, none, also}
 use Rattle.formula_meaning.specs.Tree as meaning
 use Rattle.atom_normal.specs.Atoms.{atom_of}
 use Rattle.formula_tree.specs.declared.tree.Tree as code

@@ -1,4 +1,4 @@
-use Rattle.std.proofs.Common.{rules, ◌≡◌, ◌<◌, ◌≤◌, List, take, drop, length, get_or, set, map, subst, sym, ap, ◌∙◌, arith, length-set, vec_len}
+use Rattle.std.proofs.Common.{rules, ◌≡◌, ◌<◌, ◌≤◌, List, take, length, get_or, map, subst, sym, ◌∙◌, arith, length-set, vec_len}
 use Rattle.std.proofs.lemmas.List.{take_all}
 use Rattle.std.specs.List.{AllByRecursion}
 use Rattle.formula_tree.specs.Makers.{AreMade}
@@ -24,12 +24,12 @@ pub copied_node-requires-clause-members : goal.copied_node-requires-clause-membe
 copied_node-requires-clause-members c n here =
     let P : FormulaId → Type 0 = λ id. Copied c.args.store.now c.loop-id.into id (get_or c.loop-id.table.items id.number first_id) in
     listed_all P n
-      (members_before c.args.store.now c.len.ensures.nodes c.args.roots.now c.deref-id-items.result.now (order c) c.loop-id.id-index (record { number = 0 }) c.loop-id-test.true n here P c.loop-id.invariant.0)
+    (members_before c.args.store.now c.len.ensures.nodes c.args.roots.now c.deref-id-items.result.now (order c) c.loop-id.id-index (record { number = 0 }) c.loop-id-test.true n here P c.loop-id.invariant.0)
 
 within : (c : goal.After-table-in-loop-id-2-1) → (get_or c.deref-id-items.result.now c.loop-id.id-index (record { number = 0 })).number < length c.args.store.now
 within c =
     each_id c.args.store.now c.len.ensures.nodes c.args.roots.now c.deref-id-items.result.now
-      (subst (λ (ids : List FormulaId). IsOrder c.args.store.now c.args.roots.now ids) (sym c.deref-id-items.ensures.value) c.in_ok-ids.ensures) c.requires c.loop-id.id-index (record { number = 0 }) c.loop-id-test.true
+    (subst (λ (ids : List FormulaId). IsOrder c.args.store.now c.args.roots.now ids) (sym c.deref-id-items.ensures.value) c.in_ok-ids.ensures) c.requires c.loop-id.id-index (record { number = 0 }) c.loop-id-test.true
 
 pub index_mut-requires : goal.index_mut-requires
 index_mut-requires c =
@@ -45,11 +45,10 @@ loop-id-preserved c =
     let ids : List FormulaId = c.deref-id-items.result.now in
     let o : IsOrder c.args.store.now c.args.roots.now ids = subst (λ (l : List FormulaId). IsOrder c.args.store.now c.args.roots.now l) (sym c.deref-id-items.ensures.value) c.in_ok-ids.ensures in
     let in_store : (get_or ids c.loop-id.id-index (record { number = 0 })).number < length c.args.store.now =
-          each_id c.args.store.now c.len.ensures.nodes c.args.roots.now ids o c.requires c.loop-id.id-index (record { number = 0 }) c.loop-id-test.true in
-    (
+    each_id c.args.store.now c.len.ensures.nodes c.args.roots.now ids o c.requires c.loop-id.id-index (record { number = 0 }) c.loop-id-test.true in (
       filled (λ id copy. Copied c.args.store.now c.loop-id.into id copy) (λ id copy. Copied c.args.store.now c.copied_node.new.into id copy) c.loop-id.table.items first_id ids c.loop-id.id-index (record { number = 0 })
-        c.in_ok-copy.copy o.rises c.loop-id-test.true (omega (arith, c.loop-id.invariant.1)) (λ x w h. still_copied c.args.store.now c.loop-id.into c.copied_node.new.into c.in_ok-copy.ensures.kept x w h)
-        c.in_ok-copy.ensures.copied c.loop-id.invariant.0,
+          c.in_ok-copy.copy o.rises c.loop-id-test.true (omega (arith, c.loop-id.invariant.1)) (λ x w h. still_copied c.args.store.now c.loop-id.into c.copied_node.new.into c.in_ok-copy.ensures.kept x w h)
+          c.in_ok-copy.ensures.copied c.loop-id.invariant.0,
       length-set c.loop-id.table.items (get_or ids c.loop-id.id-index (record { number = 0 })).number c.in_ok-copy.copy ∙ c.loop-id.invariant.1,
       (let few = c.in_ok-copy.ensures.few in let before = c.loop-id.invariant.2 in omega arith),
     )
@@ -62,7 +61,7 @@ returns-clause-made c =
     let whole : take c.loop-id.id-index ids ≡ ids = take_all c.loop-id.id-index ids (omega arith) in
     let done : AllByRecursion P ids = subst (λ (l : List FormulaId). AllByRecursion P l) whole c.loop-id.invariant.0 in
     subst (λ (l : List FormulaId). AreMade (IsId c.loop-id.into) (tree c.loop-id.into) l (map (tree c.args.store.now) c.args.roots.now)) (sym c.in_ok-copies.ensures)
-      (roots_copied c.args.store.now c.loop-id.into c.loop-id.table.items c.args.roots.now (all_roots c.args.store.now c.loop-id.into c.loop-id.table.items c.args.roots.now ids c.args.roots.now (λ r m. m) o P done))
+    (roots_copied c.args.store.now c.loop-id.into c.loop-id.table.items c.args.roots.now (all_roots c.args.store.now c.loop-id.into c.loop-id.table.items c.args.roots.now ids c.args.roots.now (λ r m. m) o P done))
 
 pub returns-clause-few : goal.returns-clause-few
 returns-clause-few c needed n =

@@ -1,4 +1,4 @@
-use Rattle.std.proofs.Common.{rules, ◌≤◌, length, arith}
+use Rattle.std.proofs.Common.{rules, ◌≤◌, length}
 use Rattle.formula_store.proofs.Collected.{collected}
 use Rattle.formula_store.proofs.order.subformulas.Goals as goal
 

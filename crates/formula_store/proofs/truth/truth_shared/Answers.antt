@@ -1,16 +1,13 @@
-use Rattle.std.proofs.Common.{rules, ◌≡◌, ◌<◌, ◌≤◌, ◌+◌, false, List, [], ◌∷◌, inl, inr, take, length, get_or, subst, sym, ap, ◌∙◌, refl, arith, length-set, vec_len, nat_eq, Err}
+use Rattle.std.proofs.Common.{rules, ◌≡◌, ◌<◌, ◌≤◌, false, List, [], ◌∷◌, inl, inr, take, length, get_or, subst, sym, ap, ◌∙◌, arith, length-set, vec_len}
 use Rattle.std.proofs.lemmas.List.{take_all}
 use Rattle.std.specs.List.{AllByRecursion}
-use Rattle.formula_meaning.specs.Same.{same_atom}
-use Rattle.formula_meaning.specs.Shape.{IsQuantifierFree}
-use Rattle.formula_meaning.specs.Sizes.{distinct_count}
 use Rattle.formula_tree.specs.declared.shape.Shape.{Shape}
 use Rattle.formula_tree.proofs.Shapes.{listed_all}
 use Rattle.linear_forms.specs.Values.{point_of}
 use Rattle.formula_store.specs.declared.id.FormulaId.{FormulaId}
-use Rattle.formula_store.specs.Nodes.{IsId, tree}
+use Rattle.formula_store.specs.Nodes.{tree}
 use Rattle.formula_store.specs.Order.{IsOrder, Within, WithinSome, itself}
-use Rattle.formula_store.specs.Truths.{Tells, SomeAtomPasses}
+use Rattle.formula_store.specs.Truths.{Tells}
 use Rattle.formula_store.proofs.Before.{each_id, members_before, among_all}
 use Rattle.formula_store.proofs.Counted.{counted}
 use Rattle.formula_store.proofs.Inner.{free_within, whole_within, passes_within}
@@ -52,7 +49,7 @@ index_mut-requires g c =
     let o = subst (λ (ids : List FormulaId). IsOrder c.args.store.now (c.args.root ∷ []) ids) (sym c.deref-id-items.ensures.value) c.in-Ok.ensures in
     let size : vec_len c.loop-id.table ≡ length c.loop-id.table.items = search rules in
     let within : (get_or c.deref-id-items.result.now c.loop-id.id-index (record { number = 0 })).number < length c.args.store.now =
-          each_id c.args.store.now c.len.ensures.nodes (c.args.root ∷ []) c.deref-id-items.result.now o (c.requires.id, tt) c.loop-id.id-index (record { number = 0 }) c.loop-id-test.true in
+    each_id c.args.store.now c.len.ensures.nodes (c.args.root ∷ []) c.deref-id-items.result.now o (c.requires.id, tt) c.loop-id.id-index (record { number = 0 }) c.loop-id-test.true in
     omega (arith, c.loop-id.invariant.1)
 
 pub loop-id-preserved : goal.loop-id-preserved
@@ -60,10 +57,9 @@ loop-id-preserved g c =
     let ids : List FormulaId = c.deref-id-items.result.now in
     let o : IsOrder c.args.store.now (c.args.root ∷ []) ids = subst (λ (l : List FormulaId). IsOrder c.args.store.now (c.args.root ∷ []) l) (sym c.deref-id-items.ensures.value) c.in-Ok.ensures in
     let in_store : (get_or ids c.loop-id.id-index (record { number = 0 })).number < length c.args.store.now =
-          each_id c.args.store.now c.len.ensures.nodes (c.args.root ∷ []) ids o (c.requires.id, tt) c.loop-id.id-index (record { number = 0 }) c.loop-id-test.true in
-    (
+    each_id c.args.store.now c.len.ensures.nodes (c.args.root ∷ []) ids o (c.requires.id, tt) c.loop-id.id-index (record { number = 0 }) c.loop-id-test.true in (
       filled (λ id b. Tells b (tree c.args.store.now id) (point_of c.args.at.now)) (λ id b. Tells b (tree c.args.store.now id) (point_of c.args.at.now)) c.loop-id.table.items false ids c.loop-id.id-index (record { number = 0 })
-        c.in-Some.truth o.rises c.loop-id-test.true (omega (arith, c.loop-id.invariant.1)) (λ x w h. h) c.in-Some.ensures c.loop-id.invariant.0,
+          c.in-Some.truth o.rises c.loop-id-test.true (omega (arith, c.loop-id.invariant.1)) (λ x w h. h) c.in-Some.ensures c.loop-id.invariant.0,
       length-set c.loop-id.table.items (get_or ids c.loop-id.id-index (record { number = 0 })).number c.in-Some.truth ∙ c.loop-id.invariant.1,
       (let tick = c.tick.ensures in let before = c.loop-id.invariant.2 in omega arith),
     )

@@ -1,4 +1,4 @@
-use Rattle.std.proofs.Common.{◌≡◌, ◌≤◌, length, map, drop}
+use Rattle.std.proofs.Common.{◌≤◌, length, map, drop}
 use Rattle.formula_store.specs.Nodes.{tree}
 use Rattle.formula_tree.specs.Trees.{members}
 use Rattle.formula_store.specs.Facts.{most_nodes}
