@@ -364,8 +364,8 @@ point_each es d numbers all =
     each_map _ _ es (λ (e : PointEntry) (h : (number : ℤ) × IsScaled d e number × (number_of e.name numbers ≡ Some number)).
     subst (IsScaled d e) (sym (ap (λ o. unwrap_or o (pos 0)) h.2)) h.1) all
 
-pub point_is : (es : List PointEntry) (d : ℤ) (numbers : List (List ℕ × ℤ)) → IsLeastDenominator es d → AreNumbers es d numbers
-    → IsPointOf es (point_of (record { numbers = numbers; denominator = d }))
+pub point_is : (es : List PointEntry) (d : ℤ) (numbers : List (List ℕ × ℤ)) (least : IsLeastDenominator es d) → AreNumbers es d numbers
+    → IsPointOf es (point_of (record { numbers = numbers; denominator = d; positive = least.positive }))
 point_is es d numbers least are =
     let back = abs_back d least.positive in
     record {

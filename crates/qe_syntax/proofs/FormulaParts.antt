@@ -7,10 +7,19 @@ use Rattle.qe_syntax.specs.declared.tree.Formula as written
 use Rattle.qe_syntax.specs.declared.tree.Formula.TheVariants as formula
 use Rattle.qe_syntax.specs.declared.tree.Formulas as writtens
 use Rattle.qe_syntax.specs.Trees.{formulas_of, formula_tree}
-use Rattle.qe_syntax.proofs.TreeEquations.{formula-Not, formula-And, formula-Or, formulas-out}
+use Rattle.qe_syntax.proofs.TreeEquations.{formula-Not, formula-And, formula-Or, formula-Impl, formula-Repl, formula-Equiv, formulas-out}
 
-pub not_is : (f : written.Formula) (b : Box written.Formula Global) (x : written.Formula) → f ≡ formula.Not b → x ≡ b.value → formula_tree f ≡ plain.Not (formula_tree x)
-not_is f b x is inner = ap formula_tree is ∙ formula-Not b ∙ ap (λ y. plain.Not (formula_tree y)) (sym inner)
+pub not_is : (f : written.Formula) (b : Box written.Formula Global) → f ≡ formula.Not b → formula_tree f ≡ plain.Not (formula_tree b.value)
+not_is f b is = ap formula_tree is ∙ formula-Not b
+
+pub impl_is : (f : written.Formula) (a b : Box written.Formula Global) → f ≡ formula.Impl a b → formula_tree f ≡ plain.Impl (formula_tree a.value) (formula_tree b.value)
+impl_is f a b is = ap formula_tree is ∙ formula-Impl a b
+
+pub repl_is : (f : written.Formula) (a b : Box written.Formula Global) → f ≡ formula.Repl a b → formula_tree f ≡ plain.Repl (formula_tree a.value) (formula_tree b.value)
+repl_is f a b is = ap formula_tree is ∙ formula-Repl a b
+
+pub equiv_is : (f : written.Formula) (a b : Box written.Formula Global) → f ≡ formula.Equiv a b → formula_tree f ≡ plain.Equiv (formula_tree a.value) (formula_tree b.value)
+equiv_is f a b is = ap formula_tree is ∙ formula-Equiv a b
 
 pub and_is : (f : written.Formula) (fs : writtens.Formulas) (xs : List written.Formula) → f ≡ formula.And fs → xs ≡ (writtens.out-Formulas fs).list.items → formula_tree f ≡ plain.And (formulas_of (map formula_tree xs))
 and_is f fs xs is items = ap formula_tree is ∙ formula-And fs ∙ ap plain.And (formulas-out fs ∙ ap (λ ys. formulas_of (map formula_tree ys)) (sym items))

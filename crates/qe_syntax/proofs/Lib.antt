@@ -5,8 +5,10 @@ pub mod EntryNumbers
 pub mod TermParts
 pub mod FormulaParts
 pub mod ValueLaw
+pub mod CongruenceLaw
 pub mod TruthLaw
+pub mod Quantified
+pub mod LinearSearch
 pub mod NameSearch
 pub mod OnePoint
-pub mod OnlyOverflow
 pub mod Examples

@@ -5,8 +5,9 @@ use Rattle.std.specs.declared.alloc.Global.{Global}
 use Rattle.qe_syntax.specs.declared.tree.Term as code
 use Rattle.qe_syntax.specs.declared.tree.Term.TheVariants as term
 use Rattle.qe_syntax.specs.declared.tree.Terms as codes
-use Rattle.qe_syntax.specs.Trees.{Sum, Product, Negative, terms_of, term_tree}
-use Rattle.qe_syntax.proofs.TreeEquations.{tree-Sum, tree-Product, tree-Negative, trees-out}
+use Rattle.qe_syntax.specs.declared.tree.Literal.{Literal}
+use Rattle.qe_syntax.specs.Trees.{Sum, Product, Quotient, Power, Negative, terms_of, term_tree}
+use Rattle.qe_syntax.proofs.TreeEquations.{tree-Sum, tree-Product, tree-Quotient, tree-Power, tree-Negative, trees-out}
 
 pub sum_is : (t : code.Term) (ts : codes.Terms) (xs : List code.Term) → t ≡ term.Sum ts → xs ≡ (codes.out-Terms ts).list.items → term_tree t ≡ Sum (terms_of (map term_tree xs))
 sum_is t ts xs is items = ap term_tree is ∙ tree-Sum ts ∙ ap Sum (trees-out ts ∙ ap (λ ys. terms_of (map term_tree ys)) (sym items))
@@ -16,3 +17,9 @@ product_is t ts xs is items = ap term_tree is ∙ tree-Product ts ∙ ap Product
 
 pub negative_is : (t : code.Term) (b : Box code.Term Global) (x : code.Term) → t ≡ term.Negative b → x ≡ b.value → term_tree t ≡ Negative (term_tree x)
 negative_is t b x is inner = ap term_tree is ∙ tree-Negative b ∙ ap (λ y. Negative (term_tree y)) (sym inner)
+
+pub quotient_is : (t : code.Term) (a b : Box code.Term Global) → t ≡ term.Quotient a b → term_tree t ≡ Quotient (term_tree a.value) (term_tree b.value)
+quotient_is t a b is = ap term_tree is ∙ tree-Quotient a b
+
+pub power_is : (t : code.Term) (b : Box code.Term Global) (n : Literal) → t ≡ term.Power b n → term_tree t ≡ Power (term_tree b.value) n
+power_is t b n is = ap term_tree is ∙ tree-Power b n

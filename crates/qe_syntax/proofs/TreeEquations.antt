@@ -62,15 +62,15 @@ pub formula-False : formula_tree formula.False ≡ plain.No
 unfolding formula_tree formula_trees
 formula-False = ap formula_tree (sym (formula.rolls-False)) ∙ written.fold-roll-Formula _ _ formula_step formulas_step open_formula.False
 
-pub formula-Compare : (rel : Relation) (s : code.Term) (t : code.Term) → formula_tree (formula.Compare rel s t) ≡ plain.One (Compare rel (term_tree s) (term_tree t))
+pub formula-Compare : (rel : Relation) (s t : Box code.Term Global) → formula_tree (formula.Compare rel s t) ≡ plain.One (Compare rel (term_tree s.value) (term_tree t.value))
 unfolding formula_tree formula_trees
 formula-Compare rel s t = ap formula_tree (sym (formula.rolls-Compare rel s t)) ∙ written.fold-roll-Formula _ _ formula_step formulas_step (open_formula.Compare rel s t)
 
-pub formula-Cong : (s : code.Term) (t : code.Term) (m : code.Term) → formula_tree (formula.Cong s t m) ≡ plain.One (Cong (term_tree s) (term_tree t) (term_tree m))
+pub formula-Cong : (s t m : Box code.Term Global) → formula_tree (formula.Cong s t m) ≡ plain.One (Cong (term_tree s.value) (term_tree t.value) (term_tree m.value))
 unfolding formula_tree formula_trees
 formula-Cong s t m = ap formula_tree (sym (formula.rolls-Cong s t m)) ∙ written.fold-roll-Formula _ _ formula_step formulas_step (open_formula.Cong s t m)
 
-pub formula-Ncong : (s : code.Term) (t : code.Term) (m : code.Term) → formula_tree (formula.Ncong s t m) ≡ plain.One (Ncong (term_tree s) (term_tree t) (term_tree m))
+pub formula-Ncong : (s t m : Box code.Term Global) → formula_tree (formula.Ncong s t m) ≡ plain.One (Ncong (term_tree s.value) (term_tree t.value) (term_tree m.value))
 unfolding formula_tree formula_trees
 formula-Ncong s t m = ap formula_tree (sym (formula.rolls-Ncong s t m)) ∙ written.fold-roll-Formula _ _ formula_step formulas_step (open_formula.Ncong s t m)
 

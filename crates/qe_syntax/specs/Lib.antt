@@ -1,4 +1,5 @@
 pub mod Padding
+pub mod Names
 pub mod Trees
 pub mod Statements
 pub mod Proper
@@ -6,6 +7,7 @@ pub mod Point
 pub mod PointFaults
 pub mod Value
 pub mod Rule
-pub mod Simple
+pub mod Testable
 pub mod Evaluates
 pub mod Valued
+pub mod Linear

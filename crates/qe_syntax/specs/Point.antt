@@ -99,10 +99,11 @@ pub record IsReady (denominator : ℤ) (e : PointEntry) : Type 0 where
   pub fits : ¬ (IsPast e)
   pub common : Divides (lowest_below e) denominator
 
--- what is seen of a point in the code: a number for some names, over one denominator
+-- what is seen of a point in the code: a number for some names, over one positive denominator
 pub record Numbers : Type 0 where
   pub numbers : List (List ℕ × ℤ)
   pub denominator : ℤ
+  pub positive : pos 0 <ℤ denominator
 
 -- the number of a name, if it has one
 abbrev pub number_of : List ℕ → List (List ℕ × ℤ) → Option ℤ

@@ -1,9 +1,10 @@
--- What the reader gives: numbers within the limit, and lists of two members at least.
+-- What the reader gives: numbers within the limit, names that a script can write, and lists of two members at least.
 use Rattle.std.specs.Prelude.{pos, ◌≤ℤ◌, List}
 use Rattle.std.specs.List.{AllByRecursion}
 use Rattle.exact_numbers.specs.Limit.{InLimit}
 use Rattle.formula_meaning.specs.Formula.{Formula, Formulas, Yes, No, One, Not, And, Or, Impl, Repl, Equiv, Ex, All}
 use Rattle.formula_meaning.specs.Formula as plain
+use Rattle.qe_syntax.specs.Names.{IsVariable}
 use Rattle.qe_syntax.specs.declared.tree.Literal.{Literal}
 use Rattle.qe_syntax.specs.declared.tree.Literal.TheVariants.{Fits, Past}
 use Rattle.qe_syntax.specs.declared.statement.PointEntry.{PointEntry}
@@ -20,9 +21,9 @@ abbrev pub IsSigned : Literal → Type 0
 IsSigned (Fits n) = InLimit n
 IsSigned Past = Unit {0}
 
--- an entry whose literals are within the limit, with no sign below
+-- an entry whose literals are within the limit, with no sign below, and whose name is one of a variable
 abbrev pub IsProperEntry : PointEntry → Type 0
-IsProperEntry e = IsSigned e.above × IsNumeral e.below
+IsProperEntry e = IsSigned e.above × IsNumeral e.below × IsVariable e.name
 
 -- each entry is proper
 abbrev pub AreProperEntries : List PointEntry → Type 0
@@ -41,10 +42,10 @@ AreFormulas (plain.also f plain.none) = ⊥
 AreFormulas (plain.also f (plain.also g fs)) = Unit {0}
 
 abbrev mutual
-  -- each number of the term is within the limit, and each list has two members at least
+  -- each number of the term is within the limit, each name is one of a variable, and each list has two members at least
   pub IsProperTerm : TermTree → Type 0
   IsProperTerm (Number n) = IsNumeral n
-  IsProperTerm (Named x) = Unit {0}
+  IsProperTerm (Named x) = IsVariable x
   IsProperTerm (Sum ts) = AreTerms ts × AreProperTerms ts
   IsProperTerm (Product ts) = AreTerms ts × AreProperTerms ts
   IsProperTerm (Quotient s t) = IsProperTerm s × IsProperTerm t
@@ -56,15 +57,15 @@ abbrev mutual
   AreProperTerms none = Unit {0}
   AreProperTerms (also t ts) = IsProperTerm t × AreProperTerms ts
 
--- each term of the atom is proper
+-- each term of the atom is proper, and so is its name
 abbrev pub IsProperAtom : WrittenAtom → Type 0
 IsProperAtom (Compare rel s t) = IsProperTerm s × IsProperTerm t
 IsProperAtom (Cong s t m) = IsProperTerm s × IsProperTerm t × IsProperTerm m
 IsProperAtom (Ncong s t m) = IsProperTerm s × IsProperTerm t × IsProperTerm m
-IsProperAtom (Bound x) = Unit {0}
+IsProperAtom (Bound x) = IsVariable x
 
 abbrev mutual
-  -- each atom of the formula is proper, and each list has two members at least
+  -- each atom and each name of the formula is proper, and each list has two members at least
   pub IsProperFormula : FormulaTree → Type 0
   IsProperFormula Yes = Unit {0}
   IsProperFormula No = Unit {0}
@@ -75,8 +76,8 @@ abbrev mutual
   IsProperFormula (Impl f g) = IsProperFormula f × IsProperFormula g
   IsProperFormula (Repl f g) = IsProperFormula f × IsProperFormula g
   IsProperFormula (Equiv f g) = IsProperFormula f × IsProperFormula g
-  IsProperFormula (Ex x f) = IsProperFormula f
-  IsProperFormula (All x f) = IsProperFormula f
+  IsProperFormula (Ex x f) = IsVariable x × IsProperFormula f
+  IsProperFormula (All x f) = IsVariable x × IsProperFormula f
 
   -- each of the formulas is proper
   pub AreProperFormulas : FormulaTrees → Type 0
@@ -96,14 +97,14 @@ IsProperCommand (Qea f given) = IsProperFormula f × AreProperFormulas given
 IsProperCommand (Holds f entries) = IsProperFormula f × AreProperEntries entries
 IsProperCommand (Sample f entries) = IsProperFormula f × AreProperEntries entries
 
--- the command of the action is proper, if it has one
+-- the command of the action is proper, if it has one, and so is its name
 abbrev pub IsProperAction : ActionTree → Type 0
 IsProperAction Empty = Unit {0}
 IsProperAction Ignored = Unit {0}
 IsProperAction Finish = Unit {0}
 IsProperAction (Choose setting) = Unit {0}
 IsProperAction (Say c) = IsProperCommand c
-IsProperAction (Assign x c) = IsProperCommand c
+IsProperAction (Assign x c) = IsVariable x × IsProperCommand c
 
 -- the action of the statement is proper
 abbrev pub IsProper : StatementTree → Type 0

@@ -77,9 +77,9 @@ term_trees = codes.fold-Terms TermTree TermTrees term_step terms_step
 abbrev pub formula_step : open_formula.Formula-F FormulaTree FormulaTrees → FormulaTree
 formula_step open_formula.True = plain.Yes
 formula_step open_formula.False = plain.No
-formula_step (open_formula.Compare rel s t) = plain.One (Compare rel (term_tree s) (term_tree t))
-formula_step (open_formula.Cong s t m) = plain.One (Cong (term_tree s) (term_tree t) (term_tree m))
-formula_step (open_formula.Ncong s t m) = plain.One (Ncong (term_tree s) (term_tree t) (term_tree m))
+formula_step (open_formula.Compare rel s t) = plain.One (Compare rel (term_tree s.value) (term_tree t.value))
+formula_step (open_formula.Cong s t m) = plain.One (Cong (term_tree s.value) (term_tree t.value) (term_tree m.value))
+formula_step (open_formula.Ncong s t m) = plain.One (Ncong (term_tree s.value) (term_tree t.value) (term_tree m.value))
 formula_step (open_formula.Not f) = plain.Not f.value
 formula_step (open_formula.And fs) = plain.And fs
 formula_step (open_formula.Or fs) = plain.Or fs

@@ -1,8 +1,8 @@
 -- What terms and formulas mean as they are written, over unlimited numbers. Truth is a fact and not a test.
 use Rattle.std.specs.Ordering.{int_eq}
-use Rattle.std.specs.Prelude.{◌≡◌, ℕ, zero, suc, ◌⊎◌, ℤ, pos, ◌*ℤ◌, unsigned_abs, List, Bool, nat_eq, if◌then◌else◌}
+use Rattle.std.specs.Prelude.{◌≡◌, ℕ, ◌⊎◌, ℤ, pos, ◌*ℤ◌, unsigned_abs, List, Bool, nat_eq, if◌then◌else◌}
 use Rattle.std.specs.Cmp.Lexicographic.{pointwise}
-use Rattle.exact_numbers.specs.Frac.{Frac, SameValue, whole_frac, true_sum, true_product, negated, inverted}
+use Rattle.exact_numbers.specs.Frac.{Frac, SameValue, whole_frac, true_sum, true_product, true_power, negated, inverted}
 use Rattle.formula_meaning.specs.Context.{Context}
 use Rattle.formula_meaning.specs.Point.{Point, move}
 use Rattle.formula_meaning.specs.Truth.{True}
@@ -26,11 +26,6 @@ literal_number Past = pos 0
 -- a quotient; by 0 it is 0, and no accepted statement has one
 abbrev pub true_quotient : Frac → Frac → Frac
 true_quotient v w = if int_eq w.numerator (pos 0) then whole_frac (pos 0) else true_product v (inverted w)
-
--- a repeated product; the power 0 is 1
-abbrev pub true_power : Frac → ℕ → Frac
-true_power v zero = whole_frac (pos 1)
-true_power v (suc n) = true_product v (true_power v n)
 
 abbrev mutual
   -- the value of a term at a point, as a fraction

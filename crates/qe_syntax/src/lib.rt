@@ -2,6 +2,7 @@
 #![tactic(auto)]
 
 mod laws;
+mod linear;
 mod name;
 mod point;
 mod statement;
@@ -14,10 +15,15 @@ mod valued;
 
 pub use exact_numbers::Fraction;
 pub use laws::one_point;
+pub use linear::is_linear;
 pub use name::Name;
 pub use point::{Point, PointFault};
 pub use statement::{Action, Command, Entries, PointEntry, Setting, Statement};
-pub use tree::{Formula, Formulas, Literal, Relation, Term, Terms, negation, negative};
+pub use tree::{
+    Formula, Formulas, Literal, Relation, Term, Terms, comparison, congruence, equivalence,
+    existential, implication, incongruence, negation, negative, power, quotient, replication,
+    universal,
+};
 pub use truth::truth_at;
 pub use value::{EvalError, value_at};
 pub use valued::is_valued;

@@ -22,6 +22,7 @@ use thiserror::Error;
 pub struct Point {
     numbers: BTreeMap<Name, i128>,
     denominator: i128,
+    ghost positive: { pos 0 <ℤ denominator },
 }
 
 impl Model for Point {
@@ -31,9 +32,9 @@ impl Model for Point {
 
     ghost Value = { Numbers };
 
-    ghost view = { λ p. record { numbers = p.numbers.entries; denominator = p.denominator } };
+    ghost view = { λ p. record { numbers = p.numbers.entries; denominator = p.denominator; positive = p.positive } };
 
-    ghost invariant = { λ p. (pos 0 <ℤ p.denominator) × InLimit p.denominator × ((name : List ℕ) → IfSome (number_of name p.numbers.entries) InLimit) };
+    ghost invariant = { λ p. InLimit p.denominator × ((name : List ℕ) → IfSome (number_of name p.numbers.entries) InLimit) };
 }
 
 impl Point {

@@ -1,7 +1,11 @@
-ghost use Rattle.std.specs.Prelude.{◌≡◌, IfOk};
-ghost use Rattle.qe_syntax.specs.Trees.{term_tree, formula_tree};
-ghost use Rattle.qe_syntax.specs.Proper.{IsNumeral, IsSigned, IsProperEntry, IsProperTerm, IsProperFormula};
-ghost use Rattle.qe_syntax.specs.Simple.{IsSimpleTerm, IsSimple};
+ghost use Rattle.std.specs.Prelude.{IfOk};
+ghost use Rattle.formula_meaning.specs.Every.{Every};
+ghost use Rattle.formula_meaning.specs.Shape.{IsQuantifierFree};
+ghost use Rattle.qe_syntax.specs.Names.{IsVariable};
+ghost use Rattle.qe_syntax.specs.Trees.{term_tree, term_trees, formula_tree};
+ghost use Rattle.qe_syntax.specs.Proper.{IsNumeral, IsSigned, IsProperEntry, AreTerms, IsProperTerm, AreProperTerms, IsProperFormula};
+ghost use Rattle.qe_syntax.specs.Value.{NamedPoint};
+ghost use Rattle.qe_syntax.specs.Testable.{IsTestable};
 
 use super::*;
 use std::alloc::{AllocError, Global};
@@ -9,15 +13,20 @@ use std::test::Fail;
 
 const MOST: i128 = i128::MAX;
 
-fn x() -> Name {
+fn x() -> Name
+    ensures { IsVariable result }
+{
     Name::of(b"x".as_slice())
 }
 
-fn y() -> Name {
+fn y() -> Name
+    ensures { IsVariable result }
+{
     Name::of(b"y".as_slice())
 }
 
 fn entry(name: Name, above: Literal, below: Literal) -> PointEntry
+    requires name { IsVariable name }
     requires above { IsSigned above }
     requires below { IsNumeral below }
     ensures { IsProperEntry result }
@@ -28,70 +37,17 @@ fn entry(name: Name, above: Literal, below: Literal) -> PointEntry
 #[tactic(auto, using(crate::proofs::TreeEquations::trees))]
 fn number(literal: Literal) -> Term
     requires { IsNumeral literal }
-    ensures proper { IsProperTerm (term_tree result) }
-    ensures simple { IsSimpleTerm (term_tree result) }
+    ensures { IsProperTerm (term_tree result) }
 {
     Term::Number(literal)
 }
 
 #[tactic(auto, using(crate::proofs::TreeEquations::trees))]
 fn named(name: Name) -> Term
-    ensures proper { IsProperTerm (term_tree result) }
-    ensures simple { IsSimpleTerm (term_tree result) }
+    requires { IsVariable name }
+    ensures { IsProperTerm (term_tree result) }
 {
     Term::Name(name)
-}
-
-#[tactic(auto, using(crate::proofs::TreeEquations::trees))]
-fn sum(alloc: Global, left: Term, right: Term) -> Result<Term, AllocError>
-    requires left { IsProperTerm (term_tree left) × IsSimpleTerm (term_tree left) }
-    requires right { IsProperTerm (term_tree right) × IsSimpleTerm (term_tree right) }
-    ensures proper { IfOk result (λ t. IsProperTerm (term_tree t)) }
-    ensures simple { IfOk result (λ t. IsSimpleTerm (term_tree t)) }
-{
-    let terms = Terms::of(vec![in alloc; left, right]?);
-    Ok(Term::Sum(terms))
-}
-
-#[tactic(auto, using(crate::proofs::TreeEquations::trees))]
-fn product(alloc: Global, left: Term, right: Term) -> Result<Term, AllocError>
-    requires left { IsProperTerm (term_tree left) × IsSimpleTerm (term_tree left) }
-    requires right { IsProperTerm (term_tree right) × IsSimpleTerm (term_tree right) }
-    ensures proper { IfOk result (λ t. IsProperTerm (term_tree t)) }
-    ensures simple { IfOk result (λ t. IsSimpleTerm (term_tree t)) }
-{
-    let terms = Terms::of(vec![in alloc; left, right]?);
-    Ok(Term::Product(terms))
-}
-
-#[tactic(auto, using(crate::proofs::TreeEquations::trees))]
-fn compare(relation: Relation, left: Term, right: Term) -> Formula
-    requires left { IsProperTerm (term_tree left) × IsSimpleTerm (term_tree left) }
-    requires right { IsProperTerm (term_tree right) × IsSimpleTerm (term_tree right) }
-    ensures proper { IsProperFormula (formula_tree result) }
-    ensures simple { IsSimple (formula_tree result) }
-{
-    Formula::Compare(relation, left, right)
-}
-
-#[tactic(auto, using(crate::proofs::TreeEquations::trees))]
-fn both(alloc: Global, left: Formula, right: Formula) -> Result<Formula, AllocError>
-    requires left { IsProperFormula (formula_tree left) × IsSimple (formula_tree left) }
-    requires right { IsProperFormula (formula_tree right) × IsSimple (formula_tree right) }
-    ensures proper { IfOk result (λ f. IsProperFormula (formula_tree f)) }
-    ensures simple { IfOk result (λ f. IsSimple (formula_tree f)) }
-{
-    let formulas = Formulas::of(vec![in alloc; left, right]?);
-    Ok(Formula::And(formulas))
-}
-
-#[tactic(auto, using(crate::proofs::TreeEquations::trees))]
-fn negated(alloc: Global, formula: Formula) -> Result<Formula, AllocError>
-    requires { IsProperFormula (formula_tree formula) × IsSimple (formula_tree formula) }
-    ensures proper { IfOk result (λ f. IsProperFormula (formula_tree f)) }
-    ensures simple { IfOk result (λ f. IsSimple (formula_tree f)) }
-{
-    negation(alloc, formula)
 }
 
 #[test]
@@ -156,64 +112,132 @@ fn point_faults(rt: HostRuntime) {
     assert_eq!(rt; fault, Some(PointFault::Overflow));
 }
 
+#[tactic(auto, using(crate::proofs::TreeEquations::trees))]
+fn pair(alloc: Global, left: Term, right: Term) -> Result<Terms, AllocError>
+    requires left { IsProperTerm (term_tree left) }
+    requires right { IsProperTerm (term_tree right) }
+    ensures { IfOk result (λ ts. AreTerms (term_trees ts) × AreProperTerms (term_trees ts)) }
+{
+    Ok(Terms::of(vec![in alloc; left, right]?))
+}
+
+/// 2*x + 1.
+#[tactic(auto, using(crate::proofs::TreeEquations::trees))]
+fn twice_and_one(alloc: Global) -> Result<Term, AllocError>
+    ensures { IfOk result (λ t. IsProperTerm (term_tree t)) }
+{
+    let twice = Term::Product(pair(alloc, number(Literal::Fits(2)), named(x()))?);
+    let members = pair(alloc, twice, number(Literal::Fits(1)))?;
+    Ok(Term::Sum(members))
+}
+
+/// base ^ exponent / divisor, where memory was there.
+#[tactic(auto, using(crate::proofs::TreeEquations::trees))]
+fn ratio(
+    alloc: Global,
+    base: Literal,
+    exponent: Literal,
+    divisor: Literal,
+) -> Result<Term, AllocError>
+    requires base { IsNumeral base }
+    requires exponent { IsNumeral exponent }
+    requires divisor { IsNumeral divisor }
+    ensures { IfOk result (λ t. IsProperTerm (term_tree t)) }
+{
+    let raised = power(alloc, number(base), exponent)?;
+    quotient(alloc, raised, number(divisor))
+}
+
+fn ratio_value(
+    alloc: Global,
+    base: Literal,
+    exponent: Literal,
+    divisor: Literal,
+) -> Option<Result<Fraction, EvalError>>
+    requires base { IsNumeral base }
+    requires exponent { IsNumeral exponent }
+    requires divisor { IsNumeral divisor }
+{
+    let point = Point::of(alloc, &[], false).ok()?;
+    let term = ratio(alloc, base, exponent, divisor).ok()?;
+    Some(value_at(&term, &point))
+}
+
 #[test]
 fn values(rt: HostRuntime) -> Result<(), Fail> {
-    let half = entry(x(), Literal::Fits(1), Literal::Fits(2));
-    let point = Point::of(rt.alloc(), &[half], false)?;
-    let twice = product(rt.alloc(), number(Literal::Fits(2)), named(x()))?;
-    let term = sum(rt.alloc(), twice, number(Literal::Fits(1)))?;
+    let alloc = rt.alloc();
+    let point = Point::of(alloc, &[half()], false)?;
+    let term = twice_and_one(alloc)?;
     assert_eq!(rt; value_at(&term, &point), Ok(Fraction::whole(2)));
-    let term = sum(rt.alloc(), named(x()), negative(rt.alloc(), named(x()))?)?;
-    assert_eq!(rt; value_at(&term, &point), Ok(Fraction::whole(0)));
-    let term = sum(
-        rt.alloc(),
-        number(Literal::Fits(MOST)),
-        number(Literal::Fits(1)),
-    )?;
-    assert_eq!(rt; value_at(&term, &point), Err(EvalError::Overflow));
+
+    let one = Literal::Fits(1);
+    let two = Literal::Fits(2);
+    let zero = Literal::Fits(0);
+    let most = Literal::Fits(MOST);
+    // A power of 1 is there at once, and the power 0 of 0 is 1.
+    assert_eq!(rt;
+        ratio_value(alloc, one, most, one),
+        Some(Ok(Fraction::whole(1)))
+    );
+    assert_eq!(rt;
+        ratio_value(alloc, zero, zero, one),
+        Some(Ok(Fraction::whole(1)))
+    );
+    assert_eq!(rt;
+        ratio_value(alloc, two, Literal::Fits(3), Literal::Fits(4)),
+        Some(Ok(Fraction::whole(2)))
+    );
+    assert_eq!(rt;
+        ratio_value(alloc, two, Literal::Fits(127), one),
+        Some(Err(EvalError::Overflow))
+    );
+    assert_eq!(rt;
+        ratio_value(alloc, two, one, zero),
+        Some(Err(EvalError::ZeroDivisor))
+    );
+    // What is met first from left to right is answered.
+    assert_eq!(rt;
+        ratio_value(alloc, most, two, zero),
+        Some(Err(EvalError::Overflow))
+    );
+    assert_eq!(rt;
+        ratio_value(alloc, two, one, Literal::Past),
+        Some(Err(EvalError::Overflow))
+    );
     Ok(())
 }
 
-/// 2*x + 1 >= 2 and not x = 1.
-fn answered(alloc: Global) -> Result<Formula, AllocError>
+/// 2*x + 1 < 2 impl x = 1/0.
+#[tactic(auto, using(crate::proofs::TreeEquations::trees))]
+fn stopped(alloc: Global) -> Result<Formula, AllocError>
     ensures proper { IfOk result (λ f. IsProperFormula (formula_tree f)) }
-    ensures simple { IfOk result (λ f. IsSimple (formula_tree f)) }
+    ensures free { IfOk result (λ f. IsQuantifierFree (formula_tree f)) }
+    ensures testable { IfOk result (λ f. (p : NamedPoint) → Every (IsTestable p) (formula_tree f)) }
 {
-    let twice = product(alloc, number(Literal::Fits(2)), named(x()))?;
-    let term = sum(alloc, twice, number(Literal::Fits(1)))?;
-    let left = compare(Relation::AtLeast, term, number(Literal::Fits(2)));
-    let right = compare(Relation::Equal, named(x()), number(Literal::Fits(1)));
-    both(alloc, left, negated(alloc, right)?)
-}
-
-/// x < 0 and y <> M + 1.
-fn overflowing(alloc: Global) -> Result<Formula, AllocError>
-    ensures proper { IfOk result (λ f. IsProperFormula (formula_tree f)) }
-    ensures simple { IfOk result (λ f. IsSimple (formula_tree f)) }
-{
-    let left = compare(Relation::Less, named(x()), number(Literal::Fits(0)));
-    let right = compare(Relation::Differs, named(y()), number(Literal::Past));
-    both(alloc, left, right)
+    let left = twice_and_one(alloc)?;
+    let premise = comparison(alloc, Relation::Less, left, number(Literal::Fits(2)))?;
+    let one = number(Literal::Fits(1));
+    let right = quotient(alloc, one, number(Literal::Fits(0)))?;
+    let conclusion = comparison(alloc, Relation::Equal, named(x()), right)?;
+    implication(alloc, premise, conclusion)
 }
 
 #[test]
 fn truths(rt: HostRuntime) -> Result<(), Fail> {
-    let point = Point::of(rt.alloc(), &[half()], false)?;
-    let formula = answered(rt.alloc())?;
-    assert_eq!(rt; truth_at(&formula, &point), Ok(true));
+    let alloc = rt.alloc();
+    let point = Point::of(alloc, &[half()], false)?;
+    // What stands after a false premise is calculated too.
+    let formula = stopped(alloc)?;
+    assert_eq!(rt; truth_at(&formula, &point), Err(EvalError::ZeroDivisor));
 
-    // What stands after a false comparison is calculated too.
-    let formula = overflowing(rt.alloc())?;
-    assert_eq!(rt; truth_at(&formula, &point), Err(EvalError::Overflow));
-    Ok(())
-}
+    assert!(rt; !is_linear(&formula) && is_linear(&Formula::True));
 
-#[test]
-fn names_with_values(rt: HostRuntime) -> Result<(), Fail> {
-    let formula = answered(rt.alloc())?;
-    assert!(rt; is_valued(rt.alloc(), &formula, &[half()])?);
-    let formula = overflowing(rt.alloc())?;
-    assert!(rt; !is_valued(rt.alloc(), &formula, &[half()])?);
+    // The quantifiers of x hide its name, and no other name.
+    let formula = existential(alloc, y(), universal(alloc, x(), formula)?)?;
+    assert!(rt; is_valued(alloc, &formula, &[])?);
+    let formula = existential(alloc, y(), stopped(alloc)?)?;
+    assert!(rt; !is_valued(alloc, &formula, &[])?);
+    assert!(rt; is_valued(alloc, &formula, &[half()])?);
     Ok(())
 }
 

@@ -1,6 +1,6 @@
 ghost use Rattle.std.specs.Prelude.{◌≡◌, map, IfOk};
-ghost use Rattle.qe_syntax.specs.Trees.{term_tree, term_trees, terms_of, formula_tree, formula_trees, formulas_of, Negative};
-ghost use Rattle.formula_meaning.specs.Formula.{Not};
+ghost use Rattle.qe_syntax.specs.Trees.{term_tree, term_trees, terms_of, formula_tree, formula_trees, formulas_of, Quotient, Power, Negative, Compare, Cong, Ncong};
+ghost use Rattle.formula_meaning.specs.Formula.{One, Not, Impl, Repl, Equiv, Ex, All};
 
 use crate::name::Name;
 use std::alloc::{AllocError, Global};
@@ -61,6 +61,24 @@ impl Terms {
     }
 }
 
+/// The first term divided by the second.
+#[tactic(auto, using(crate::proofs::TreeEquations::trees))]
+pub fn quotient(alloc: Global, dividend: Term, divisor: Term) -> Result<Term, AllocError>
+    ensures { IfOk result (λ t. term_tree t ≡ Quotient (term_tree dividend) (term_tree divisor)) }
+{
+    let dividend = Box::new(alloc, dividend)?;
+    let divisor = Box::new(alloc, divisor)?;
+    Ok(Term::Quotient(dividend, divisor))
+}
+
+/// The term raised to a power.
+#[tactic(auto, using(crate::proofs::TreeEquations::trees))]
+pub fn power(alloc: Global, base: Term, exponent: Literal) -> Result<Term, AllocError>
+    ensures { IfOk result (λ t. term_tree t ≡ Power (term_tree base) exponent) }
+{
+    Ok(Term::Power(Box::new(alloc, base)?, exponent))
+}
+
 /// The term with the sign `-` before it.
 #[tactic(auto, using(crate::proofs::TreeEquations::trees))]
 pub fn negative(alloc: Global, term: Term) -> Result<Term, AllocError>
@@ -74,9 +92,9 @@ pub fn negative(alloc: Global, term: Term) -> Result<Term, AllocError>
 pub enum Formula {
     True,
     False,
-    Compare(Relation, Term, Term),
-    Cong(Term, Term, Term),
-    Ncong(Term, Term, Term),
+    Compare(Relation, Box<Term>, Box<Term>),
+    Cong(Box<Term>, Box<Term>, Box<Term>),
+    Ncong(Box<Term>, Box<Term>, Box<Term>),
     Not(Box<Formula>),
     And(Formulas),
     Or(Formulas),
@@ -88,18 +106,24 @@ pub enum Formula {
     Named(Name),
 }
 
-// As the derived one, in fewer arms: each may have its own room on the stack, at each level of a deep formula.
+// A loop down the part on the right, since a quantifier over many names is a long chain. What else a formula has is
+// freed by recursion.
 impl Drop for Formula {
-    fn drop(self) {
-        match self {
-            Formula::True | Formula::False | Formula::Named(_) => (),
-            Formula::Compare(_, _left, _right) => (),
-            Formula::Cong(_left, _right, _modulus) | Formula::Ncong(_left, _right, _modulus) => (),
-            Formula::And(_members) | Formula::Or(_members) => (),
-            Formula::Not(_inner) | Formula::Ex(_, _inner) | Formula::All(_, _inner) => (),
-            Formula::Impl(_left, _right)
-            | Formula::Repl(_left, _right)
-            | Formula::Equiv(_left, _right) => (),
+    fn drop(mut self) {
+        'chain: loop {
+            match self {
+                Formula::True | Formula::False | Formula::Named(_) => return,
+                Formula::Compare(_, _left, _right) => return,
+                Formula::Cong(_left, _right, _modulus) | Formula::Ncong(_left, _right, _modulus) =>
+                    return,
+                Formula::And(_members) | Formula::Or(_members) => return,
+                Formula::Not(inner) | Formula::Ex(_, inner) | Formula::All(_, inner) => {
+                    self = Box::into_inner(inner);
+                }
+                Formula::Impl(_left, right)
+                | Formula::Repl(_left, right)
+                | Formula::Equiv(_left, right) => self = Box::into_inner(right),
+            }
         }
     }
 }
@@ -135,4 +159,105 @@ pub fn negation(alloc: Global, formula: Formula) -> Result<Formula, AllocError>
     ensures { IfOk result (λ f. formula_tree f ≡ Not (formula_tree formula)) }
 {
     Ok(Formula::Not(Box::new(alloc, formula)?))
+}
+
+/// The comparison of two terms.
+#[tactic(auto, using(crate::proofs::TreeEquations::trees))]
+pub fn comparison(
+    alloc: Global,
+    relation: Relation,
+    left: Term,
+    right: Term,
+) -> Result<Formula, AllocError>
+    ensures { IfOk result (λ f. formula_tree f ≡ One (Compare relation (term_tree left) (term_tree right))) }
+{
+    let left = Box::new(alloc, left)?;
+    let right = Box::new(alloc, right)?;
+    Ok(Formula::Compare(relation, left, right))
+}
+
+/// The congruence of two terms modulo a third: `cong(left, right, modulus)`.
+#[tactic(auto, using(crate::proofs::TreeEquations::trees))]
+pub fn congruence(
+    alloc: Global,
+    left: Term,
+    right: Term,
+    modulus: Term,
+) -> Result<Formula, AllocError>
+    ensures { IfOk result (λ f. formula_tree f ≡ One (Cong (term_tree left) (term_tree right) (term_tree modulus))) }
+{
+    let left = Box::new(alloc, left)?;
+    let right = Box::new(alloc, right)?;
+    let modulus = Box::new(alloc, modulus)?;
+    Ok(Formula::Cong(left, right, modulus))
+}
+
+/// The negated congruence of two terms modulo a third: `ncong(left, right, modulus)`.
+#[tactic(auto, using(crate::proofs::TreeEquations::trees))]
+pub fn incongruence(
+    alloc: Global,
+    left: Term,
+    right: Term,
+    modulus: Term,
+) -> Result<Formula, AllocError>
+    ensures { IfOk result (λ f. formula_tree f ≡ One (Ncong (term_tree left) (term_tree right) (term_tree modulus))) }
+{
+    let left = Box::new(alloc, left)?;
+    let right = Box::new(alloc, right)?;
+    let modulus = Box::new(alloc, modulus)?;
+    Ok(Formula::Ncong(left, right, modulus))
+}
+
+/// The formula `premise impl conclusion`.
+#[tactic(auto, using(crate::proofs::TreeEquations::trees))]
+pub fn implication(
+    alloc: Global,
+    premise: Formula,
+    conclusion: Formula,
+) -> Result<Formula, AllocError>
+    ensures { IfOk result (λ f. formula_tree f ≡ Impl (formula_tree premise) (formula_tree conclusion)) }
+{
+    let premise = Box::new(alloc, premise)?;
+    let conclusion = Box::new(alloc, conclusion)?;
+    Ok(Formula::Impl(premise, conclusion))
+}
+
+/// The formula `conclusion repl premise`, an implication from right to left.
+#[tactic(auto, using(crate::proofs::TreeEquations::trees))]
+pub fn replication(
+    alloc: Global,
+    conclusion: Formula,
+    premise: Formula,
+) -> Result<Formula, AllocError>
+    ensures { IfOk result (λ f. formula_tree f ≡ Repl (formula_tree conclusion) (formula_tree premise)) }
+{
+    let conclusion = Box::new(alloc, conclusion)?;
+    let premise = Box::new(alloc, premise)?;
+    Ok(Formula::Repl(conclusion, premise))
+}
+
+/// The formula `left equiv right`.
+#[tactic(auto, using(crate::proofs::TreeEquations::trees))]
+pub fn equivalence(alloc: Global, left: Formula, right: Formula) -> Result<Formula, AllocError>
+    ensures { IfOk result (λ f. formula_tree f ≡ Equiv (formula_tree left) (formula_tree right)) }
+{
+    let left = Box::new(alloc, left)?;
+    let right = Box::new(alloc, right)?;
+    Ok(Formula::Equiv(left, right))
+}
+
+/// The formula `ex(bound, formula)`.
+#[tactic(auto, using(crate::proofs::TreeEquations::trees))]
+pub fn existential(alloc: Global, bound: Name, formula: Formula) -> Result<Formula, AllocError>
+    ensures { IfOk result (λ f. formula_tree f ≡ Ex bound (formula_tree formula)) }
+{
+    Ok(Formula::Ex(bound, Box::new(alloc, formula)?))
+}
+
+/// The formula `all(bound, formula)`.
+#[tactic(auto, using(crate::proofs::TreeEquations::trees))]
+pub fn universal(alloc: Global, bound: Name, formula: Formula) -> Result<Formula, AllocError>
+    ensures { IfOk result (λ f. formula_tree f ≡ All bound (formula_tree formula)) }
+{
+    Ok(Formula::All(bound, Box::new(alloc, formula)?))
 }

@@ -1,31 +1,31 @@
-ghost use Rattle.std.specs.Prelude.{◌≡◌, ◌↔◌, map, true, false, IsTrue, IfOk, IfErr};
+ghost use Rattle.std.specs.Prelude.{◌≡◌, ◌↔◌, pos, map, true, false, IsTrue, IfOk};
+ghost use Rattle.exact_numbers.specs.Fraction.{frac_of};
 ghost use Rattle.formula_meaning.specs.Context.{Fields};
+ghost use Rattle.formula_meaning.specs.Every.{Every, EveryOf};
+ghost use Rattle.formula_meaning.specs.Shape.{IsQuantifierFree, AreQuantifierFree};
 ghost use Rattle.qe_syntax.specs.Trees.{term_tree, formula_tree, formulas_of};
 ghost use Rattle.qe_syntax.specs.Proper.{IsProperTerm, IsProperFormula, AreProperFormulas};
-ghost use Rattle.qe_syntax.specs.Simple.{IsSimpleTerm, IsSimple, AreSimple};
+ghost use Rattle.qe_syntax.specs.Testable.{IsModulus, IsTestable};
 ghost use Rattle.qe_syntax.specs.Point.{point_of};
-ghost use Rattle.qe_syntax.specs.Value.{TrueAt, NothingNamed};
-ghost use Rattle.qe_syntax.specs.Rule.{difference, test, calculated_truth, calculated_all, calculated_some};
+ghost use Rattle.qe_syntax.specs.Value.{value, TrueAt, NothingNamed};
+ghost use Rattle.qe_syntax.specs.Rule.{difference, is_multiple, congruence, test, calculated_truth, calculated_all, calculated_some};
 ghost use Rattle.qe_syntax.specs.Evaluates.{Evaluates, Decides};
 
 use crate::point::Point;
 use crate::tree::{Formula, Relation, Term};
 use crate::value::{EvalError, value_at};
-use exact_numbers::Fraction;
+use exact_numbers::{Fraction, residue};
 
-/// Whether a formula is true at a point, over the rational numbers. Each comparison is calculated, from left to right,
-/// as the difference of its two sides; an `Err` is what stops that first. It takes no memory. The formula has no
-/// quotients, powers and congruences, of the connectives only `not`, `and` and `or`, and no quantifiers and names of
-/// formulas.
+/// Whether a formula is true at a point, over the rational numbers. Each comparison and each congruence is calculated,
+/// from left to right, by the difference of its two sides; an `Err` is what stops that first. It takes no memory. The
+/// formula has no quantifiers and no names of formulas, and the value of each modulus is a whole number other than 0.
 pub fn truth_at(formula: &Formula, point: &Point) -> Result<bool, EvalError>
     requires proper { IsProperFormula (formula_tree formula.now) }
-    requires simple { IsSimple (formula_tree formula.now) }
+    requires free { IsQuantifierFree (formula_tree formula.now) }
+    requires testable { Every (IsTestable (point_of point.now)) (formula_tree formula.now) }
     ensures truth { IfOk result (λ b. IsTrue b ↔ TrueAt NothingNamed Fields (formula_tree formula.now) (point_of point.now)) }
     ensures rule { Decides result (calculated_truth (formula_tree formula.now) (point_of point.now)) }
-    ensures overflow { IfErr result (λ e. e ≡ EvalError.Overflow) }
 {
-    // The law of truth wants a positive denominator.
-    let _positive = point.denominator();
     formula_truth(formula, point)
 }
 
@@ -33,8 +33,6 @@ pub fn truth_at(formula: &Formula, point: &Point) -> Result<bool, EvalError>
 fn difference_at(left: &Term, right: &Term, point: &Point) -> Result<Fraction, EvalError>
     requires proper_left { IsProperTerm (term_tree left.now) }
     requires proper_right { IsProperTerm (term_tree right.now) }
-    requires simple_left { IsSimpleTerm (term_tree left.now) }
-    requires simple_right { IsSimpleTerm (term_tree right.now) }
     ensures { Evaluates result (difference (term_tree left.now) (term_tree right.now) (point_of point.now)) }
 {
     let left = value_at(left, point)?;
@@ -56,12 +54,39 @@ fn compares(relation: Relation, number: i128) -> bool
     }
 }
 
+/// Whether a number is a whole multiple of the modulus.
+fn divides(modulus: Fraction, number: Fraction) -> bool
+    requires { ¬ (modulus.numerator ≡ pos 0) }
+    ensures { result ≡ is_multiple (frac_of number) (frac_of modulus) }
+{
+    number.denominator == 1 && residue(number.numerator, modulus.numerator.abs()) == 0
+}
+
+/// Whether one term is congruent to another.
+fn congruence_truth(
+    left: &Term,
+    right: &Term,
+    modulus: &Term,
+    point: &Point,
+) -> Result<bool, EvalError>
+    requires proper_left { IsProperTerm (term_tree left.now) }
+    requires proper_right { IsProperTerm (term_tree right.now) }
+    requires proper_modulus { IsProperTerm (term_tree modulus.now) }
+    requires modulus { IsModulus (value (term_tree modulus.now) (point_of point.now)) }
+    ensures { Decides result (congruence (term_tree left.now) (term_tree right.now) (term_tree modulus.now) (point_of point.now)) }
+{
+    let difference = difference_at(left, right, point)?;
+    let modulus = value_at(modulus, point)?;
+    Ok(divides(modulus, difference))
+}
+
 /// What `truth_at` calculates.
 #[tactic(auto, using(crate::proofs::TreeEquations::trees))]
 #[cycle(truth)]
 fn formula_truth(formula: &Formula, point: &Point) -> Result<bool, EvalError>
     requires proper { IsProperFormula (formula_tree formula.now) }
-    requires simple { IsSimple (formula_tree formula.now) }
+    requires free { IsQuantifierFree (formula_tree formula.now) }
+    requires testable { Every (IsTestable (point_of point.now)) (formula_tree formula.now) }
     ensures { Decides result (calculated_truth (formula_tree formula.now) (point_of point.now)) }
 {
     match formula {
@@ -71,17 +96,29 @@ fn formula_truth(formula: &Formula, point: &Point) -> Result<bool, EvalError>
             let difference = difference_at(left, right, point)?;
             Ok(compares(*relation, difference.numerator))
         }
+        Formula::Cong(left, right, modulus) => congruence_truth(left, right, modulus, point),
+        Formula::Ncong(left, right, modulus) => {
+            Ok(!congruence_truth(left, right, modulus, point)?)
+        }
         Formula::Not(inner) => Ok(!formula_truth(inner, point)?),
         Formula::And(formulas) => all_true(&formulas.list, point),
         Formula::Or(formulas) => some_true(&formulas.list, point),
-        Formula::Cong(..)
-        | Formula::Ncong(..)
-        | Formula::Impl(..)
-        | Formula::Repl(..)
-        | Formula::Equiv(..)
-        | Formula::Ex(..)
-        | Formula::All(..)
-        | Formula::Named(..) => unreachable!(),
+        Formula::Impl(premise, conclusion) => {
+            let premise = formula_truth(premise, point)?;
+            let conclusion = formula_truth(conclusion, point)?;
+            Ok(!premise | conclusion)
+        }
+        Formula::Repl(conclusion, premise) => {
+            let conclusion = formula_truth(conclusion, point)?;
+            let premise = formula_truth(premise, point)?;
+            Ok(!premise | conclusion)
+        }
+        Formula::Equiv(left, right) => {
+            let left = formula_truth(left, point)?;
+            let right = formula_truth(right, point)?;
+            Ok(left == right)
+        }
+        Formula::Ex(..) | Formula::All(..) | Formula::Named(..) => unreachable!(),
     }
 }
 
@@ -89,7 +126,8 @@ fn formula_truth(formula: &Formula, point: &Point) -> Result<bool, EvalError>
 #[cycle(truth)]
 fn all_true(formulas: &[Formula], point: &Point) -> Result<bool, EvalError>
     requires proper { AreProperFormulas (formulas_of (map formula_tree formulas.now)) }
-    requires simple { AreSimple (formulas_of (map formula_tree formulas.now)) }
+    requires free { AreQuantifierFree (formulas_of (map formula_tree formulas.now)) }
+    requires testable { EveryOf (IsTestable (point_of point.now)) (formulas_of (map formula_tree formulas.now)) }
     ensures { Decides result (calculated_all true (formulas_of (map formula_tree formulas.now)) (point_of point.now)) }
 {
     let mut all = true;
@@ -103,7 +141,8 @@ fn all_true(formulas: &[Formula], point: &Point) -> Result<bool, EvalError>
 #[cycle(truth)]
 fn some_true(formulas: &[Formula], point: &Point) -> Result<bool, EvalError>
     requires proper { AreProperFormulas (formulas_of (map formula_tree formulas.now)) }
-    requires simple { AreSimple (formulas_of (map formula_tree formulas.now)) }
+    requires free { AreQuantifierFree (formulas_of (map formula_tree formulas.now)) }
+    requires testable { EveryOf (IsTestable (point_of point.now)) (formulas_of (map formula_tree formulas.now)) }
     ensures { Decides result (calculated_some false (formulas_of (map formula_tree formulas.now)) (point_of point.now)) }
 {
     let mut some = false;

@@ -3,10 +3,9 @@ ghost use Rattle.exact_numbers.specs.Fraction.{frac_of};
 ghost use Rattle.exact_numbers.specs.Frac.{SameValue, IsLowest, whole_frac, lowest};
 ghost use Rattle.qe_syntax.specs.Trees.{term_tree, terms_of};
 ghost use Rattle.qe_syntax.specs.Proper.{IsProperTerm, AreProperTerms, IsNumeral};
-ghost use Rattle.qe_syntax.specs.Simple.{IsSimpleTerm, AreSimpleTerms};
 ghost use Rattle.qe_syntax.specs.Point.{point_of};
 ghost use Rattle.qe_syntax.specs.Value.{value};
-ghost use Rattle.qe_syntax.specs.Rule.{calculated, added, multiplied, literal_fraction};
+ghost use Rattle.qe_syntax.specs.Rule.{calculated, added, multiplied, literal_fraction, quotient_step, power_step};
 ghost use Rattle.qe_syntax.specs.Evaluates.{Evaluates};
 
 use crate::name::Name;
@@ -25,16 +24,13 @@ pub enum EvalError {
 }
 
 /// The value of a term at a point, in lowest terms. It is calculated by the fraction rule, from left to right, and an
-/// `Err` is what stops that first. It takes no memory. The term has no quotient and no power.
+/// `Err` is what stops that first: a divisor whose value is 0, or a number past the limit. It takes no memory.
 pub fn value_at(term: &Term, point: &Point) -> Result<Fraction, EvalError>
-    requires proper { IsProperTerm (term_tree term.now) }
-    requires simple { IsSimpleTerm (term_tree term.now) }
+    requires { IsProperTerm (term_tree term.now) }
     ensures value { IfOk result (λ v. SameValue (frac_of v) (value (term_tree term.now) (point_of point.now))) }
     ensures lowest { IfOk result (λ v. IsLowest (frac_of v)) }
     ensures rule { Evaluates result (calculated (term_tree term.now) (point_of point.now)) }
 {
-    // The law of values wants a positive denominator.
-    let _positive = point.denominator();
     term_value(term, point)
 }
 
@@ -56,12 +52,35 @@ fn name_value(name: &Name, point: &Point) -> Fraction
     Fraction::reduced(point.numerator(name), point.denominator())
 }
 
+/// The first number divided by the second.
+fn quotient_value(dividend: Fraction, divisor: Fraction) -> Result<Fraction, EvalError>
+    ensures { Evaluates result (quotient_step (frac_of dividend) (frac_of divisor)) }
+{
+    if divisor.numerator == 0 {
+        return Err(EvalError::ZeroDivisor);
+    }
+    dividend
+        .multiply(divisor.invert())
+        .ok_or(EvalError::Overflow)
+}
+
+/// The number raised to a power.
+fn power_value(base: Fraction, exponent: Literal) -> Result<Fraction, EvalError>
+    requires lowest { IsLowest (frac_of base) }
+    requires numeral { IsNumeral exponent }
+    ensures { Evaluates result (power_step (frac_of base) exponent) }
+{
+    match exponent {
+        Literal::Fits(exponent) => base.power(exponent as u128).ok_or(EvalError::Overflow),
+        Literal::Past => Err(EvalError::Overflow),
+    }
+}
+
 /// What `value_at` calculates.
 #[tactic(auto, using(crate::proofs::TreeEquations::trees))]
 #[cycle(value)]
 fn term_value(term: &Term, point: &Point) -> Result<Fraction, EvalError>
-    requires proper { IsProperTerm (term_tree term.now) }
-    requires simple { IsSimpleTerm (term_tree term.now) }
+    requires { IsProperTerm (term_tree term.now) }
     ensures { Evaluates result (calculated (term_tree term.now) (point_of point.now)) }
 {
     match term {
@@ -70,15 +89,22 @@ fn term_value(term: &Term, point: &Point) -> Result<Fraction, EvalError>
         Term::Sum(terms) => sum_value(&terms.list, point),
         Term::Product(terms) => product_value(&terms.list, point),
         Term::Negative(inner) => Ok(term_value(inner, point)?.negate()),
-        Term::Quotient(..) | Term::Power(..) => unreachable!(),
+        Term::Quotient(dividend, divisor) => {
+            let dividend = term_value(dividend, point)?;
+            let divisor = term_value(divisor, point)?;
+            quotient_value(dividend, divisor)
+        }
+        Term::Power(base, exponent) => {
+            let base = term_value(base, point)?;
+            power_value(base, *exponent)
+        }
     }
 }
 
 /// The values of the terms added one after another.
 #[cycle(value)]
 fn sum_value(terms: &[Term], point: &Point) -> Result<Fraction, EvalError>
-    requires proper { AreProperTerms (terms_of (map term_tree terms.now)) }
-    requires simple { AreSimpleTerms (terms_of (map term_tree terms.now)) }
+    requires { AreProperTerms (terms_of (map term_tree terms.now)) }
     ensures { Evaluates result (added (whole_frac (pos 0)) (terms_of (map term_tree terms.now)) (point_of point.now)) }
 {
     let mut total = Fraction::whole(0);
@@ -93,8 +119,7 @@ fn sum_value(terms: &[Term], point: &Point) -> Result<Fraction, EvalError>
 /// The values of the terms multiplied one after another.
 #[cycle(value)]
 fn product_value(terms: &[Term], point: &Point) -> Result<Fraction, EvalError>
-    requires proper { AreProperTerms (terms_of (map term_tree terms.now)) }
-    requires simple { AreSimpleTerms (terms_of (map term_tree terms.now)) }
+    requires { AreProperTerms (terms_of (map term_tree terms.now)) }
     ensures { Evaluates result (multiplied (whole_frac (pos 1)) (terms_of (map term_tree terms.now)) (point_of point.now)) }
 {
     let mut total = Fraction::whole(1);

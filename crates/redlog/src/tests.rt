@@ -80,7 +80,7 @@ fn scripts(rt: HostRuntime) -> Result<(), Fail> {
             b"  rlholds(x>0,{x=1}); x".as_slice(),
             refused("***** syntax at 2\n"),
         ),
-        (b"\n\xff;".as_slice(), refused("***** syntax at 1\n")),
+        (b"\n\xff;".as_slice(), refused("***** lexical at 1\n")),
     ] {
         assert_eq!(rt;
             answer(rt.alloc(), script, 100)?,

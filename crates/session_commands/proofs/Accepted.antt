@@ -1,7 +1,6 @@
 -- A formula that was tested is accepted.
 use Rattle.std.proofs.Common.{◌≡◌, ⊎_elim, sym, ◌∙◌, ap, Bool, false}
-use Rattle.std.specs.Prelude.{List, Result, Ok, Err, OnOk, is_ok}
-use Rattle.std.proofs.lemmas.Bool.{false≢true}
+use Rattle.std.specs.Prelude.{List, Result, Ok, Err}
 use Rattle.qe_syntax.specs.declared.statement.PointEntry.{PointEntry}
 use Rattle.qe_syntax.specs.declared.value.EvalError.{EvalError}
 use Rattle.qe_syntax.specs.declared.value.EvalError.TheVariants as eval
@@ -10,12 +9,10 @@ use Rattle.qe_syntax.specs.Point.{IsPointOf}
 use Rattle.qe_syntax.specs.PointFaults.{IsFaultless}
 use Rattle.qe_syntax.specs.Value.{NamedPoint}
 use Rattle.qe_syntax.specs.Rule.{calculated_truth}
-use Rattle.qe_syntax.specs.Evaluates.{Decides}
 use Rattle.qe_syntax.proofs.OnePoint.{one_point}
-use Rattle.session_commands.specs.declared.line.StatementError.{StatementError}
 use Rattle.session_commands.specs.Holds.{IsValued, IsAccepted}
 
-accepted : (f : FormulaTree) (es : List PointEntry) (q : NamedPoint) (answer : Bool) → IsFaultless es false → IsPointOf es q → IsValued f es
+pub accepted : (f : FormulaTree) (es : List PointEntry) (q : NamedPoint) (answer : Bool) → IsFaultless es false → IsPointOf es q → IsValued f es
     → calculated_truth f q ≡ Ok answer → IsAccepted f es
 accepted f es q answer faultless meant valued decided = record {
   pointed = λ none. ⊎_elim faultless.checked.single faultless.checked.divided none;
@@ -28,9 +25,3 @@ accepted f es q answer faultless meant valued decided = record {
       cc)
       over;
 }
-
-pub accepted_on_ok : (f : FormulaTree) (es : List PointEntry) (q : NamedPoint) (r : Result Bool EvalError) (s : Result Bool StatementError) → is_ok s ≡ is_ok r
-    → IsFaultless es false → IsPointOf es q → IsValued f es → Decides r (calculated_truth f q) → OnOk s (IsAccepted f es)
-accepted_on_ok f es q (Ok b) (Ok c) same faultless meant valued decides = accepted f es q b faultless meant valued decides
-accepted_on_ok f es q (Err d) (Ok c) same faultless meant valued decides = absurd (false≢true (sym same))
-accepted_on_ok f es q r (Err e) same faultless meant valued decides = tt

@@ -1,3 +1,3 @@
 pub mod Accepted
-pub mod Spelled
 pub mod Answered
+pub mod OnlyOverflow

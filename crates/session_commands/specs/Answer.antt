@@ -1,14 +1,16 @@
 -- What a statement is answered with, and why it is refused.
-use Rattle.std.specs.Prelude.{◌≡◌, ℕ, List, Bool, true, false}
+use Rattle.std.specs.Prelude.{◌≡◌, ◌⊎◌, ℕ, List, Bool, true, false}
 use Rattle.qe_syntax.specs.declared.statement.PointEntry.{PointEntry}
 use Rattle.qe_syntax.specs.Trees.{FormulaTree}
 use Rattle.qe_syntax.specs.Statements.{StatementTree, Say, Holds}
-use Rattle.redlog_reader.specs.Statement.{Spells}
+use Rattle.redlog_reader.specs.Statement.{Spells, Unread}
+use Rattle.redlog_reader.specs.declared.token.ReadError.TheVariants as reading
 use Rattle.session_commands.specs.declared.line.Line.{Line}
 use Rattle.session_commands.specs.declared.line.Line.TheVariants as line
 use Rattle.session_commands.specs.declared.line.StatementError.{StatementError}
 use Rattle.session_commands.specs.declared.line.StatementError.TheVariants as error
 use Rattle.session_commands.specs.Words.{truth_text}
+use Rattle.session_commands.specs.Built.{IsBuilt}
 use Rattle.session_commands.specs.Holds.{IsAccepted, Refuses, Says}
 
 -- the statement that tests a formula at the point of these entries
@@ -26,16 +28,23 @@ AnswersTo s line.Finished = ⊥
 abbrev pub RefusesStatement : StatementTree → StatementError → Type 0
 RefusesStatement s e = (f : FormulaTree) × (es : List PointEntry) × (printed : Bool) × (s ≡ holds_statement f es printed) × Refuses f es e
 
--- the bytes of a piece spell a statement that is answered with this line
+-- the bytes of a piece spell a statement that is built, and is answered with this line
 abbrev pub IsAnswer : List ℕ → Line → Type 0
-IsAnswer piece answer = (s : StatementTree) × Spells piece s × AnswersTo s answer
+IsAnswer piece answer = (s : StatementTree) × Spells piece s × IsBuilt s × AnswersTo s answer
 
--- the bytes spell no statement
-abbrev pub SpellsNothing : List ℕ → Type 0
-SpellsNothing piece = (s : StatementTree) → ¬ (Spells piece s)
+-- the bytes spell a statement that is not built
+abbrev pub SpellsUnbuilt : List ℕ → Type 0
+SpellsUnbuilt piece = (s : StatementTree) × Spells piece s × (¬ (IsBuilt s))
 
--- Why a piece is refused: its bytes spell no statement, or they spell one that is refused. Want of memory has no cause.
+-- the bytes spell a statement that is built, and is refused with this word
+abbrev pub SpellsRefused : List ℕ → StatementError → Type 0
+SpellsRefused piece e = (s : StatementTree) × Spells piece s × IsBuilt s × RefusesStatement s e
+
+-- Why a piece is refused: it is not read, or its statement is not built or refused. Want of memory has no cause.
 abbrev pub IsRefused : List ℕ → StatementError → Type 0
-IsRefused piece error.Syntax = SpellsNothing piece
+IsRefused piece error.Long = Unread piece reading.Long
+IsRefused piece error.Lexical = Unread piece reading.Lexical
+IsRefused piece error.Nesting = Unread piece reading.Nesting
+IsRefused piece error.Syntax = Unread piece reading.Syntax ⊎ SpellsUnbuilt piece
 IsRefused piece error.Memory = Unit {0}
-IsRefused piece e = (s : StatementTree) × Spells piece s × RefusesStatement s e
+IsRefused piece e = SpellsRefused piece e

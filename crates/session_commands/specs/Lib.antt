@@ -1,4 +1,5 @@
 pub mod Words
 pub mod Holds
+pub mod Built
 pub mod Answer
 pub mod Steps

@@ -3,8 +3,6 @@ use Rattle.std.specs.Prelude.{◌≡◌, List, Bool, true, false}
 use Rattle.qe_syntax.specs.declared.statement.PointEntry.{PointEntry}
 use Rattle.qe_syntax.specs.Trees.{FormulaTree}
 use Rattle.qe_syntax.specs.Statements.{CommandTree, Say, StatementTree}
-use Rattle.qe_syntax.specs.Proper.{IsProperFormula, AreProperEntries}
-use Rattle.qe_syntax.specs.Simple.{IsSimple}
 use Rattle.redlog_reader.specs.declared.token.ReadError.{ReadError}
 use Rattle.redlog_reader.specs.declared.token.ReadError.TheVariants as reading
 use Rattle.session_commands.specs.declared.line.Line.{Line}
@@ -13,7 +11,8 @@ use Rattle.session_commands.specs.declared.line.StatementError.{StatementError}
 use Rattle.session_commands.specs.declared.line.StatementError.TheVariants as error
 use Rattle.session_commands.specs.Words.{truth_text}
 use Rattle.session_commands.specs.Holds.{HasUnvalued}
-use Rattle.session_commands.specs.Answer.{holds_statement, RefusesStatement}
+use Rattle.session_commands.specs.Answer.{AnswersTo, RefusesStatement}
+use Rattle.session_commands.specs.Built.{IsBuilt}
 
 abbrev pub read_refusal : ReadError → StatementError
 read_refusal reading.Long = error.Long
@@ -26,14 +25,15 @@ read_refusal reading.Memory = error.Memory
 abbrev pub said : CommandTree → Bool → StatementTree
 said c printed = record { action = Say c; printed = printed }
 
--- a statement that can be answered in this step of the language: it tests a simple formula at a point
-abbrev pub IsAsked : StatementTree → Type 0
-IsAsked s = (f : FormulaTree) × (es : List PointEntry) × (printed : Bool) × (s ≡ holds_statement f es printed) × IsProperFormula f × IsSimple f × AreProperEntries es
+-- the statement is built and answered with this line
+abbrev pub IsAnswered : StatementTree → Line → Type 0
+IsAnswered s answer = IsBuilt s × AnswersTo s answer
 
--- the statement is refused with a word that the reader doesn't give, or memory ran out
-abbrev pub RefusesOrStops : StatementTree → StatementError → Type 0
-RefusesOrStops s error.Memory = Unit {0}
-RefusesOrStops s e = RefusesStatement s e
+-- the statement is not built, or refused with a word that the reader doesn't give, or memory ran out
+abbrev pub IsStopped : StatementTree → StatementError → Type 0
+IsStopped s error.Syntax = ¬ (IsBuilt s)
+IsStopped s error.Memory = Unit {0}
+IsStopped s e = IsBuilt s × RefusesStatement s e
 
 -- the line of a truth, if it is printed
 abbrev pub IsTruthLine : Bool → Bool → Line → Type 0

@@ -1,15 +1,16 @@
-ghost use Rattle.std.specs.Prelude.{◌≡◌, ◌≤◌, true, false, IfOk, OnOk, IfErr};
+ghost use Rattle.std.specs.Prelude.{◌≡◌, ◌≤◌, IfOk, OnOk, IfErr};
 ghost use Rattle.qe_syntax.specs.Trees.{formula_tree};
-ghost use Rattle.qe_syntax.specs.Proper.{IsProperFormula, AreProperEntries};
-ghost use Rattle.qe_syntax.specs.Simple.{IsSimple};
+ghost use Rattle.qe_syntax.specs.Linear.{IsLinear};
+ghost use Rattle.qe_syntax.specs.Proper.{IsProperFormula, AreProperEntries, IsProperCommand, IsProper};
 ghost use Rattle.qe_syntax.specs.Statements.{statement_tree, command_tree};
 ghost use Rattle.session_commands.specs.Holds.{IsValued, IsAccepted, Refuses, Says};
-ghost use Rattle.session_commands.specs.Answer.{AnswersTo, IsAnswer, IsRefused};
-ghost use Rattle.session_commands.specs.Steps.{read_refusal, said, IsAsked, RefusesOrStops, IsTruthLine, ValueFault};
+ghost use Rattle.session_commands.specs.Answer.{IsAnswer, IsRefused};
+ghost use Rattle.session_commands.specs.Steps.{read_refusal, said, IsAnswered, IsStopped, IsTruthLine, ValueFault};
 
 use crate::line::{Line, StatementError};
 use qe_syntax::{
-    Action, Command, Entries, Formula, Point, PointFault, Statement, is_valued, truth_at,
+    Action, Command, Entries, EvalError, Formula, Point, PointFault, Statement, is_linear,
+    is_valued, truth_at,
 };
 use redlog_reader::{ReadError, read_statement};
 use std::alloc::Global;
@@ -69,39 +70,45 @@ fn refusal_of(error: ReadError) -> StatementError
     }
 }
 
-/// Answers a statement.
+/// Answers a statement. One that is not built is `Syntax`.
 fn answer(alloc: Global, statement: &Statement) -> Result<Line, StatementError>
-    requires { IsAsked (statement_tree statement.now) }
-    ensures answer { IfOk result (AnswersTo (statement_tree statement.now)) }
-    ensures refusal { IfErr result (RefusesOrStops (statement_tree statement.now)) }
+    requires { IsProper (statement_tree statement.now) }
+    ensures answer { IfOk result (IsAnswered (statement_tree statement.now)) }
+    ensures refusal { IfErr result (IsStopped (statement_tree statement.now)) }
 {
     match &statement.action {
         Action::Say(command) => say(alloc, command, statement.printed),
-        Action::Empty | Action::Ignored | Action::Finish | Action::Choose(_) | Action::Assign(..) =>
-            unreachable!(),
+        Action::Empty => Err(StatementError::Syntax),
+        Action::Ignored => Err(StatementError::Syntax),
+        Action::Finish => Err(StatementError::Syntax),
+        Action::Choose(_) => Err(StatementError::Syntax),
+        Action::Assign(..) => Err(StatementError::Syntax),
     }
 }
 
-/// Answers a statement that is this command.
+/// Answers a statement that is this command. One that is not built is `Syntax`.
 fn say(alloc: Global, command: &Command, printed: bool) -> Result<Line, StatementError>
-    requires { IsAsked (said (command_tree command.now) printed) }
-    ensures answer { IfOk result (AnswersTo (said (command_tree command.now) printed)) }
-    ensures refusal { IfErr result (RefusesOrStops (said (command_tree command.now) printed)) }
+    requires { IsProperCommand (command_tree command.now) }
+    ensures answer { IfOk result (IsAnswered (said (command_tree command.now) printed)) }
+    ensures refusal { IfErr result (IsStopped (said (command_tree command.now) printed)) }
 {
     match command {
         Command::Holds(formula, entries) => {
+            if !is_linear(formula) {
+                return Err(StatementError::Syntax);
+            }
             let holds = holds(alloc, formula, entries)?;
             truth_line(alloc, holds, printed)
         }
-        Command::Echo(_)
-        | Command::Nnf(_)
-        | Command::Pnf(_)
-        | Command::Dnf(_)
-        | Command::Cnf(_)
-        | Command::Simpl(..)
-        | Command::Qe(..)
-        | Command::Qea(..)
-        | Command::Sample(..) => unreachable!(),
+        Command::Echo(_) => Err(StatementError::Syntax),
+        Command::Nnf(_) => Err(StatementError::Syntax),
+        Command::Pnf(_) => Err(StatementError::Syntax),
+        Command::Dnf(_) => Err(StatementError::Syntax),
+        Command::Cnf(_) => Err(StatementError::Syntax),
+        Command::Simpl(..) => Err(StatementError::Syntax),
+        Command::Qe(..) => Err(StatementError::Syntax),
+        Command::Qea(..) => Err(StatementError::Syntax),
+        Command::Sample(..) => Err(StatementError::Syntax),
     }
 }
 
@@ -125,7 +132,7 @@ fn truth_line(alloc: Global, truth: bool, printed: bool) -> Result<Line, Stateme
 /// Whether the formula is true at the point that the entries mean.
 fn holds(alloc: Global, formula: &Formula, entries: &Entries) -> Result<bool, StatementError>
     requires proper { IsProperFormula (formula_tree formula.now) }
-    requires simple { IsSimple (formula_tree formula.now) }
+    requires linear { IsLinear (formula_tree formula.now) }
     requires entries { AreProperEntries entries.now }
     ensures says { IfOk result (Says (formula_tree formula.now) entries.now) }
     ensures accepted { OnOk result (IsAccepted (formula_tree formula.now) entries.now) }
@@ -134,7 +141,11 @@ fn holds(alloc: Global, formula: &Formula, entries: &Entries) -> Result<bool, St
     match Point::of(alloc, entries.items(), false) {
         Ok(point) => {
             check_valued(alloc, formula, entries)?;
-            truth_at(formula, &point).map_err(|_| StatementError::Overflow)
+            match truth_at(formula, &point) {
+                Ok(truth) => Ok(truth),
+                Err(EvalError::Overflow) => Err(StatementError::Overflow),
+                Err(EvalError::ZeroDivisor) => unreachable!(),
+            }
         }
         Err(PointFault::Overflow) => {
             check_valued(alloc, formula, entries)?;
@@ -149,7 +160,6 @@ fn holds(alloc: Global, formula: &Formula, entries: &Entries) -> Result<bool, St
 
 /// Whether each name of the formula has an entry.
 fn check_valued(alloc: Global, formula: &Formula, entries: &Entries) -> Result<(), StatementError>
-    requires { IsSimple (formula_tree formula.now) }
     ensures valued { OnOk result (IsValued (formula_tree formula.now) entries.now) }
     ensures refusal { IfErr result (ValueFault (formula_tree formula.now) entries.now) }
 {

@@ -13,6 +13,26 @@ fn statements(rt: HostRuntime) -> Result<(), Fail> {
         (b"rlholds(x<=y,{x=1/3,y=2/6});".as_slice(), Ok("true")),
         (b"rlholds(not x<=y,{x=1/3,y=2/6});".as_slice(), Ok("false")),
         (
+            b"rlholds(x>0 impl 2*(x+1)<=y,{x=1,y=3});".as_slice(),
+            Ok("false"),
+        ),
+        (b"rlholds(x>0 repl y=1,{x=0,y=3});".as_slice(), Ok("true")),
+        (b"rlholds(x>0 equiv y=1,{x=0,y=1});".as_slice(), Ok("false")),
+        // Read, and not built.
+        (b"rlqe ex(x,x>0);".as_slice(), Err(StatementError::Syntax)),
+        (
+            b"rlholds(x*y=1,{x=1,y=1});".as_slice(),
+            Err(StatementError::Syntax),
+        ),
+        (
+            b"rlholds(cong(x,1,2),{x=1});".as_slice(),
+            Err(StatementError::Syntax),
+        ),
+        (
+            b"rlholds(x?1,{x=1});".as_slice(),
+            Err(StatementError::Lexical),
+        ),
+        (
             b"rlholds(x<=y,{x=1/3,y=2/6});;".as_slice(),
             Err(StatementError::Syntax),
         ),

@@ -1,7 +1,9 @@
 use Rattle.std.proofs.Common.{◌≡◌, drop, map, true, false}
 use Rattle.qe_syntax.specs.Trees.{formula_tree, formulas_of}
 use Rattle.qe_syntax.specs.Proper.{AreProperFormulas}
-use Rattle.qe_syntax.specs.Simple.{AreSimple}
+use Rattle.formula_meaning.specs.Every.{EveryOf}
+use Rattle.formula_meaning.specs.Shape.{AreQuantifierFree}
+use Rattle.qe_syntax.specs.Testable.{IsTestable}
 use Rattle.qe_syntax.specs.Point.{point_of}
 use Rattle.qe_syntax.specs.Rule.{calculated_all, calculated_some}
 use Rattle.qe_syntax.proofs.truth.+truth.Given as goal
@@ -12,7 +14,8 @@ invariant-all_true-loop-formula l = record {
   rule : calculated_all l.all (formulas_of (map formula_tree (drop l.formula-index l.formulas))) (point_of l.point)
       ≡ calculated_all true (formulas_of (map formula_tree l.formulas)) (point_of l.point);
   proper : AreProperFormulas (formulas_of (map formula_tree (drop l.formula-index l.formulas)));
-  simple : AreSimple (formulas_of (map formula_tree (drop l.formula-index l.formulas)));
+  free : AreQuantifierFree (formulas_of (map formula_tree (drop l.formula-index l.formulas)));
+  testable : EveryOf (IsTestable (point_of l.point)) (formulas_of (map formula_tree (drop l.formula-index l.formulas)));
 }
 
 abbrev pub invariant-some_true-loop-formula : goal.invariant-some_true-loop-formula
@@ -20,5 +23,6 @@ invariant-some_true-loop-formula l = record {
   rule : calculated_some l.some (formulas_of (map formula_tree (drop l.formula-index l.formulas))) (point_of l.point)
       ≡ calculated_some false (formulas_of (map formula_tree l.formulas)) (point_of l.point);
   proper : AreProperFormulas (formulas_of (map formula_tree (drop l.formula-index l.formulas)));
-  simple : AreSimple (formulas_of (map formula_tree (drop l.formula-index l.formulas)));
+  free : AreQuantifierFree (formulas_of (map formula_tree (drop l.formula-index l.formulas)));
+  testable : EveryOf (IsTestable (point_of l.point)) (formulas_of (map formula_tree (drop l.formula-index l.formulas)));
 }

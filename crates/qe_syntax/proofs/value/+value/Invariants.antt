@@ -4,7 +4,6 @@ use Rattle.exact_numbers.specs.Frac.{whole_frac}
 use Rattle.exact_numbers.specs.Fraction.{frac_of}
 use Rattle.qe_syntax.specs.Trees.{term_tree, terms_of}
 use Rattle.qe_syntax.specs.Proper.{AreProperTerms}
-use Rattle.qe_syntax.specs.Simple.{AreSimpleTerms}
 use Rattle.qe_syntax.specs.Point.{point_of}
 use Rattle.qe_syntax.specs.Rule.{added, multiplied}
 use Rattle.qe_syntax.proofs.value.+value.Given as goal
@@ -15,7 +14,6 @@ invariant-sum_value-loop-term l = record {
   rule : added (frac_of l.total) (terms_of (map term_tree (drop l.term-index l.terms))) (point_of l.point)
       ≡ added (whole_frac (pos 0)) (terms_of (map term_tree l.terms)) (point_of l.point);
   proper : AreProperTerms (terms_of (map term_tree (drop l.term-index l.terms)));
-  simple : AreSimpleTerms (terms_of (map term_tree (drop l.term-index l.terms)));
 }
 
 abbrev pub invariant-product_value-loop-term : goal.invariant-product_value-loop-term
@@ -23,5 +21,4 @@ invariant-product_value-loop-term l = record {
   rule : multiplied (frac_of l.total) (terms_of (map term_tree (drop l.term-index l.terms))) (point_of l.point)
       ≡ multiplied (whole_frac (pos 1)) (terms_of (map term_tree l.terms)) (point_of l.point);
   proper : AreProperTerms (terms_of (map term_tree (drop l.term-index l.terms)));
-  simple : AreSimpleTerms (terms_of (map term_tree (drop l.term-index l.terms)));
 }

@@ -1,15 +1,24 @@
-use Rattle.std.proofs.Common.{drop, map}
+use Rattle.std.proofs.Common.{◌+◌, ◌*◌, drop, map}
 use Rattle.std.specs.Ordering.{nat_cmp}
 use Rattle.std.specs.Cmp.Lexicographic.{slice_cmp}
-use Rattle.std.specs.BTreeSet.{contains}
+use Rattle.std.specs.BTreeSet.{contains, IsSameSet}
 use Rattle.qe_syntax.specs.Trees.{formula_tree, formulas_of}
-use Rattle.qe_syntax.specs.Simple.{AreSimple}
 use Rattle.qe_syntax.specs.Valued.{AreFree}
 use Rattle.qe_syntax.proofs.NameSearch.{SearchedTo}
 use Rattle.qe_syntax.proofs.valued.+formulas.Given as goal
 
 abbrev pub invariant-in_formulas-loop-formula : goal.invariant-in_formulas-loop-formula
 invariant-in_formulas-loop-formula l = record {
-  searched : SearchedTo (AreFree (formulas_of (map formula_tree l.formulas))) (AreFree (formulas_of (map formula_tree (drop l.formula-index l.formulas)))) (contains (slice_cmp nat_cmp) l.names);
-  simple : AreSimple (formulas_of (map formula_tree (drop l.formula-index l.formulas)));
+  searched : SearchedTo (AreFree (formulas_of (map formula_tree l.formulas))) (AreFree (formulas_of (map formula_tree (drop l.formula-index l.formulas)))) (contains (slice_cmp nat_cmp) l.initial.names);
+  kept : IsSameSet (slice_cmp nat_cmp) l.initial.names l.names;
 }
+
+-- the depth of the formula, with the order of the three functions at one depth
+abbrev pub decreases-in_formula : goal.decreases-in_formula
+decreases-in_formula l = 3 * goal.size-in_formula l + 1
+
+abbrev pub decreases-in_matrix : goal.decreases-in_matrix
+decreases-in_matrix l = 3 * goal.size-in_matrix l
+
+abbrev pub decreases-in_formulas : goal.decreases-in_formulas
+decreases-in_formulas l = 3 * goal.size-in_formulas l + 2

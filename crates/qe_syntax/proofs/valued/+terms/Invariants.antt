@@ -3,13 +3,10 @@ use Rattle.std.specs.Ordering.{nat_cmp}
 use Rattle.std.specs.Cmp.Lexicographic.{slice_cmp}
 use Rattle.std.specs.BTreeSet.{contains}
 use Rattle.qe_syntax.specs.Trees.{term_tree, terms_of}
-use Rattle.qe_syntax.specs.Simple.{AreSimpleTerms}
 use Rattle.qe_syntax.specs.Value.{HaveName}
 use Rattle.qe_syntax.proofs.NameSearch.{SearchedTo}
 use Rattle.qe_syntax.proofs.valued.+terms.Given as goal
 
 abbrev pub invariant-in_terms-loop-term : goal.invariant-in_terms-loop-term
-invariant-in_terms-loop-term l = record {
-  searched : SearchedTo (HaveName (terms_of (map term_tree l.terms))) (HaveName (terms_of (map term_tree (drop l.term-index l.terms)))) (contains (slice_cmp nat_cmp) l.names);
-  simple : AreSimpleTerms (terms_of (map term_tree (drop l.term-index l.terms)));
-}
+invariant-in_terms-loop-term l =
+    SearchedTo (HaveName (terms_of (map term_tree l.terms))) (HaveName (terms_of (map term_tree (drop l.term-index l.terms)))) (contains (slice_cmp nat_cmp) l.names)
