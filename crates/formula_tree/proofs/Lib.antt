@@ -3,3 +3,4 @@ pub mod Shapes
 pub mod Tells
 pub mod AtomsTell
 pub mod Decided
+pub mod RuleLaw

@@ -4,3 +4,6 @@ pub mod Trees
 pub mod Shapes
 pub mod Makers
 pub mod Quantified
+pub mod FractionRule
+pub mod RationalForms
+pub mod ResolvedLaws

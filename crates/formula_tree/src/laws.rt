@@ -1,0 +1,12 @@
+// The laws of the fraction rule and of resolving. Each function does nothing; its contract is a law.
+ghost use Rattle.formula_tree.specs.ResolvedLaws.{CalculatedByRule, FormHasValue};
+
+/// What is calculated for a term at a point is the fraction rule taken for fractions.
+pub fn fractions_go_by_the_rule()
+    ensures { CalculatedByRule }
+{}
+
+/// A form that is there has the value of its term at every point.
+pub fn forms_have_values()
+    ensures { FormHasValue }
+{}
