@@ -4,3 +4,5 @@ pub mod Tells
 pub mod AtomsTell
 pub mod Decided
 pub mod RuleLaw
+pub mod FormSteps
+pub mod FormValues
