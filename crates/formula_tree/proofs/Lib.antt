@@ -6,3 +6,4 @@ pub mod Decided
 pub mod RuleLaw
 pub mod FormSteps
 pub mod FormValues
+mod ResolvedExamples

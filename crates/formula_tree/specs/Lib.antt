@@ -7,3 +7,6 @@ pub mod Quantified
 pub mod FractionRule
 pub mod RationalForms
 pub mod ResolvedLaws
+pub mod Somewhere
+pub mod Resolving
+pub mod Causes
