@@ -18,7 +18,7 @@ use Rattle.formula_tree.specs.ResolvedLaws.{value_at, Numbered, FormHasValue}
 use Rattle.formula_tree.proofs.RuleLaw.{ok_same, KeepMeaning, rule_stands}
 use Rattle.formula_tree.proofs.FormSteps.{Stands, constant_stands, plus_stands, times_stands, over_stands, power_stands, opposite_stands, stands_as}
 
-below_positive : (p : NamedPoint) (q : Point ℕ) → 0 < p.below → q.below ≡ p.below → pos 0 <ℤ pos q.below
+pub below_positive : (p : NamedPoint) (q : Point ℕ) → 0 < p.below → q.below ≡ p.below → pos 0 <ℤ pos q.below
 below_positive p q h e = subst (λ n. pos 0 <ℤ pos n) (sym e) (omega (arith, ints))
 
 whole_stands : (q : Point ℕ) → pos 0 <ℤ pos q.below → (n : ℤ) → Stands q (constant_form (whole_frac n)) (whole_frac n)

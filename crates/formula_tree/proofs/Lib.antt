@@ -7,3 +7,7 @@ pub mod RuleLaw
 pub mod FormSteps
 pub mod FormValues
 mod ResolvedExamples
+pub mod PlaceLaws
+pub mod Nowhere
+pub mod AtomTruth
+pub mod ResolvedTruth

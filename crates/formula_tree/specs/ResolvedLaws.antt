@@ -1,15 +1,23 @@
 -- What is proved of the fraction rule and of resolving, as statements that the functions of this crate promise.
-use Rattle.std.specs.Prelude.{◌≡◌, ℕ, ◌<◌, ℤ, pos, ◌*ℤ◌, ◌<ℤ◌, List, Result, Ok, Err}
+use Rattle.std.specs.Prelude.{◌≡◌, ℕ, ◌<◌, ◌↔◌, ℤ, pos, ◌*ℤ◌, ◌<ℤ◌, List, Option, Some, Result, Ok, Err}
+use Rattle.std.specs.List.{IsDistinct}
 use Rattle.exact_numbers.specs.Frac.{Frac, SameValue}
 use Rattle.formula_meaning.specs.Context.{Context}
-use Rattle.formula_meaning.specs.Point.{Point}
+use Rattle.formula_meaning.specs.Point.{Point, Of}
 use Rattle.formula_meaning.specs.Form as form
 use Rattle.formula_meaning.specs.Sorted.{IsSorted}
-use Rattle.qe_syntax.specs.Trees.{TermTree}
-use Rattle.qe_syntax.specs.Value.{NamedPoint, value, HasName}
+use Rattle.formula_meaning.specs.Every.{Every}
+use Rattle.formula_meaning.specs.Tree.{Tree, TrueAt}
+use Rattle.atom_normal.specs.NormalForm.{IsNormal}
+use Rattle.qe_syntax.specs.Trees.{TermTree, FormulaTree}
+use Rattle.qe_syntax.specs.Value.{NamedPoint, value, HasName, same_name}
+use Rattle.qe_syntax.specs.Value as written
 use Rattle.qe_syntax.specs.Rule.{calculated}
 use Rattle.formula_tree.specs.FractionRule.{by_rule, fractions}
+use Rattle.formula_tree.specs.Bindings.{bound_to}
 use Rattle.formula_tree.specs.RationalForms.{RationalForm, formed}
+use Rattle.formula_tree.specs.Resolving.{BoundTrees, names_after, at_names, resolve, bound_truth}
+use Rattle.formula_tree.specs.Causes.{IsAccepted}
 
 -- what is calculated for a term is the rule at fractions
 abbrev pub CalculatedByRule : Type 0
@@ -34,3 +42,21 @@ pub record IsFormOf (t : TermTree) (p : NamedPoint) (q : Point ℕ) (v : Rationa
 abbrev pub FormHasValue : Type 0
 FormHasValue = (c : Context) (number : List ℕ → ℕ) (t : TermTree) (v : RationalForm) → formed c number t ≡ Ok v →
     (p : NamedPoint) (q : Point ℕ) → 0 < p.below → Numbered number (HasName t) p q → IsFormOf t p q v
+
+-- ---- resolved formulas
+
+-- each bound tree has atoms in normal form
+abbrev pub HasNormalTrees : Context → BoundTrees → Type 0
+HasNormalTrees c bound = (x : List ℕ) (t : Tree) → bound_to bound x ≡ Some t → Every (IsNormal c) t
+
+-- Where no cause applies, the resolved formula has the truth of the written one at every point of the theory; a bound
+-- name has the truth of its tree.
+abbrev pub ResolvingKeepsTruth : Type 0
+ResolvingKeepsTruth = (c : Context) (bound : BoundTrees) (names : List (List ℕ)) (f : FormulaTree) → IsDistinct same_name names → IsAccepted c bound names f →
+    (p : NamedPoint) → Of c p →
+    written.TrueAt (bound_truth c bound (names_after names f)) c f p ↔ TrueAt c (resolve c bound (names_after names f) f) (at_names (names_after names f) p)
+
+-- Where no cause applies, its atoms are in normal form if those of the bound trees are.
+abbrev pub ResolvingIsNormal : Type 0
+ResolvingIsNormal = (c : Context) (bound : BoundTrees) (names : List (List ℕ)) (f : FormulaTree) → HasNormalTrees c bound → IsAccepted c bound names f →
+    Every (IsNormal c) (resolve c bound (names_after names f) f)
