@@ -7,7 +7,7 @@ use Rattle.exact_numbers.specs.Divides.{Divides, lcm_of, content_of}
 use Rattle.exact_numbers.specs.Frac.{Frac, IsProper, SameValue, whole_frac, true_sum, true_product, negated}
 use Rattle.exact_numbers.proofs.Ring.{ring, mul_one, one_mul}
 use Rattle.exact_numbers.proofs.Order.{mul_positive, cancel_positive, by_less}
-use Rattle.exact_numbers.proofs.FractionRule.{same_value_trans}
+use Rattle.exact_numbers.proofs.Divisibility.{abs_sign, sign_abs}
 use Rattle.formula_meaning.specs.Context.{Context, Fields, Integers}
 use Rattle.formula_meaning.specs.Point.{Point, Of}
 use Rattle.formula_meaning.specs.Form as form
@@ -49,3 +49,55 @@ comparison_truth r d v w q h pv pw s =
     chain (back (relates_difference r x y))
     (chain (relates_zero_mul r m (x -ℤ y) (mul_positive s.positive h))
     (chain (relates_along r (pos 0) e) (back (relates_zero_mul r k n (mul_positive pv pw)))))
+
+-- ---- congruences
+
+ones : (n a b : ℤ) → a ≡ pos 1 → b ≡ pos 1 → n *ℤ (a *ℤ b) ≡ n
+ones n a b e f = ap (λ x. n *ℤ (x *ℤ b)) e ∙ ap (λ y. n *ℤ (pos 1 *ℤ y)) f ∙ simp mul_one
+
+-- f * k stands for n, and m for a constant a over 1 with a * b ≡ m
+multiple_of : (f n k b m a z : ℤ) → pos 0 <ℤ (k *ℤ b) → f *ℤ k ≡ n → a *ℤ b ≡ m → n *ℤ b ≡ (z *ℤ m) *ℤ k → f ≡ z *ℤ a
+multiple_of f n k b m a z h e g i = cancel_positive (k *ℤ b) h (both f n k b m a z e g i)
+  where
+    both : (f n k b m a z : ℤ) → f *ℤ k ≡ n → a *ℤ b ≡ m → n *ℤ b ≡ (z *ℤ m) *ℤ k → (k *ℤ b) *ℤ f ≡ (k *ℤ b) *ℤ (z *ℤ a)
+    both f n k b m a z e g i =
+        let p = simp ring at (ap (λ t. t *ℤ b) e) in
+        let q = simp ring at (ap (λ t. t *ℤ (z *ℤ k)) g) in
+        let r = simp ring at i in
+        simp ring (omega (arith, ints, p, q, r))
+
+from_multiple : (f n k b m a z : ℤ) → f *ℤ k ≡ n → a *ℤ b ≡ m → f ≡ z *ℤ a → n *ℤ b ≡ (z *ℤ m) *ℤ k
+from_multiple f n k b m a z e g i =
+    let p = simp ring at (ap (λ t. t *ℤ b) e) in
+    let q = simp ring at (ap (λ t. t *ℤ (z *ℤ k)) g) in
+    let r = simp ring at (ap (λ t. t *ℤ (b *ℤ k)) i) in
+    simp ring (omega (arith, ints, p, q, r))
+
+by_divisor : (f z a d s : ℤ) → f ≡ z *ℤ a → a ≡ d *ℤ s → f ≡ (z *ℤ s) *ℤ (d *ℤ pos 1)
+by_divisor f z a d s e g = e ∙ ap (λ t. z *ℤ t) g ∙ simp (mul_one, ring)
+
+to_divisor : (f z a d s : ℤ) → f ≡ z *ℤ (d *ℤ pos 1) → d ≡ a *ℤ s → f ≡ (z *ℤ s) *ℤ a
+to_divisor f z a d s e g = e ∙ ap (λ t. z *ℤ (t *ℤ pos 1)) g ∙ simp (mul_one, ring)
+
+-- over the integers the form is a multiple of the modulus where the values are congruent
+pub congruence_truth : (d : RationalForm) (a : ℤ) (v w m : Frac) (q : Point ℕ) → q.below ≡ 1 → d.denominator ≡ pos 1 → IsProper v → IsProper w → IsProper m
+    → Stands q d (true_sum v (negated w)) → SameValue (whole_frac a) m
+    → IsCongruent v w m ↔ meaning.IsMultiple (unsigned_abs a) d.form q
+congruence_truth d a v w m q h one pv pw pm s e =
+    let f = form.value d.form q in
+    let k = v.denominator *ℤ w.denominator in
+    let n = v.numerator *ℤ w.denominator +ℤ neg_ℤ w.numerator *ℤ v.denominator in
+    let b = m.denominator in
+    let below : pos q.below ≡ pos 1 = ap pos h in
+    let first : f *ℤ k ≡ n = s.same ∙ ones n d.denominator (pos q.below) one below in
+    let second : a *ℤ b ≡ m.numerator = e ∙ mul_one m.numerator in
+    let positive : pos 0 <ℤ (k *ℤ b) = mul_positive (mul_positive pv pw) pm in
+    let down = abs_sign a in let up = sign_abs a in (
+      λ c.
+      let times : n *ℤ b ≡ (c.0 *ℤ m.numerator) *ℤ k = ap (λ t. n *ℤ t) (sym (one_mul b)) ∙ c.1 in
+      let is : f ≡ c.0 *ℤ a = multiple_of f n k b m.numerator a c.0 positive first second times in
+      (c.0 *ℤ down.quotient, by_divisor f c.0 a (pos (unsigned_abs a)) down.quotient is down.exact ∙ ap (λ t. (c.0 *ℤ down.quotient) *ℤ (pos (unsigned_abs a) *ℤ t)) (sym below)),
+      λ c.
+      let is : f ≡ (c.0 *ℤ up.quotient) *ℤ a = to_divisor f c.0 a (pos (unsigned_abs a)) up.quotient (c.1 ∙ ap (λ t. c.0 *ℤ (pos (unsigned_abs a) *ℤ t)) below) up.exact in
+      (c.0 *ℤ up.quotient, ap (λ t. n *ℤ t) (one_mul b) ∙ from_multiple f n k b m.numerator a (c.0 *ℤ up.quotient) first second is),
+    )

@@ -180,7 +180,7 @@ constant_stands q h u w p m e = record {
 }
 
 -- the fraction of a constant form is what the form stands for
-constant_is : (q : Point ℕ) → pos 0 <ℤ pos q.below → (v : RationalForm) (w : Frac) → is_constant v ≡ true → Stands q v w → SameValue (constant_of v) w
+pub constant_is : (q : Point ℕ) → pos 0 <ℤ pos q.below → (v : RationalForm) (w : Frac) → is_constant v ≡ true → Stands q v w → SameValue (constant_of v) w
 constant_is q h v w c s = same_value_trans (constant_of v) (value_at v q) w (mul_positive s.positive h) (sym (constant_same q v c)) s.same
 
 -- ---- products
@@ -302,7 +302,7 @@ over_stands Fields q h a b r v w s t e = go (is_constant b) (int_eq b.form.const
 
 -- ---- powers
 
-power_proper : (v : Frac) (n : ℕ) → IsProper v → IsProper (true_power v n)
+pub power_proper : (v : Frac) (n : ℕ) → IsProper v → IsProper (true_power v n)
 unfolding true_power
 power_proper v zero h = omega (arith, ints)
 power_proper v (suc n) h = mul_positive (power_proper v n h) h

@@ -11,3 +11,4 @@ pub mod PlaceLaws
 pub mod Nowhere
 pub mod AtomTruth
 pub mod ResolvedTruth
+pub mod WholeForms

@@ -9,7 +9,7 @@ mod shape;
 mod tree;
 
 pub use bindings::{BindError, Bindings};
-pub use laws::{forms_have_values, fractions_go_by_the_rule};
+pub use laws::{forms_have_values, fractions_go_by_the_rule, resolving_keeps_truth};
 pub use maker::{MakeError, Maker};
 pub use names::{Names, NamesError};
 pub use shape::{Ids, Shape};
