@@ -1,27 +1,24 @@
 -- The normal atom of a form has the truth of the comparison or congruence as it is written.
-use Rattle.std.proofs.Common.{◌≡◌, ◌<◌, ◌⊎◌, ◌↔◌, inl, inr, ⊎_elim, ℕ, List, [], ◌∷◌, Bool, true, false, Option, Some, None, ap, sym, ◌∙◌, subst, refl, arith, if◌then◌else◌}
-use Rattle.std.proofs.Math.IntN.{ℤ, pos, negsuc, neg_ℤ, ◌+ℤ◌, ◌-ℤ◌, ◌*ℤ◌}
-use Rattle.std.specs.Prelude.{◌<ℤ◌, ◌≤ℤ◌, unsigned_abs, int_div, Result, Ok, Err}
+use Rattle.std.proofs.Common.{◌≡◌, ◌<◌, ◌⊎◌, ◌↔◌, inl, inr, ℕ, List, ap, sym, ◌∙◌, arith}
+use Rattle.std.proofs.Math.IntN.{ℤ, pos, neg_ℤ, ◌+ℤ◌, ◌-ℤ◌, ◌*ℤ◌}
+use Rattle.std.specs.Prelude.{◌<ℤ◌, unsigned_abs, Ok}
 use Rattle.std.proofs.lemmas.Int.{ints}
-use Rattle.exact_numbers.specs.Divides.{Divides, lcm_of, content_of}
-use Rattle.exact_numbers.specs.Frac.{Frac, IsProper, SameValue, whole_frac, true_sum, true_product, negated}
+use Rattle.exact_numbers.specs.Frac.{Frac, IsProper, SameValue, whole_frac, true_sum, negated}
 use Rattle.exact_numbers.proofs.Ring.{ring, mul_one, one_mul}
-use Rattle.exact_numbers.proofs.Order.{mul_positive, cancel_positive, by_less}
+use Rattle.exact_numbers.proofs.Order.{mul_positive, cancel_positive}
 use Rattle.exact_numbers.proofs.Divisibility.{abs_sign, sign_abs}
-use Rattle.formula_meaning.specs.Context.{Context, Fields, Integers}
-use Rattle.formula_meaning.specs.Point.{Point, Of}
+use Rattle.formula_meaning.specs.Context.{Context}
+use Rattle.formula_meaning.specs.Point.{Point}
 use Rattle.formula_meaning.specs.Form as form
 use Rattle.formula_meaning.specs.Atom as meaning
 use Rattle.formula_meaning.specs.Atom.{Relates}
 use Rattle.formula_meaning.proofs.Relations.{relates_along, relates_zero_mul, relates_difference}
 use Rattle.atom_normal.proofs.Relations.{chain, back}
-use Rattle.qe_syntax.specs.declared.tree.Relation.{Relation}
 use Rattle.qe_syntax.specs.Trees.{TermTree}
-use Rattle.qe_syntax.specs.Value.{NamedPoint, HasName, value, relation_of, RelatesFractions, IsCongruent}
-use Rattle.qe_syntax.proofs.ValueLaw.{value_proper}
+use Rattle.qe_syntax.specs.Value.{NamedPoint, HasName, value, IsCongruent}
 use Rattle.formula_tree.specs.FractionRule.{◌>>=◌}
-use Rattle.formula_tree.specs.RationalForms.{RationalForm, Missing, formed, formed_difference, sum_of_forms, opposite_form, is_constant, constant_of}
-use Rattle.formula_tree.specs.ResolvedLaws.{value_at, Numbered}
+use Rattle.formula_tree.specs.RationalForms.{RationalForm, formed, formed_difference, sum_of_forms, opposite_form}
+use Rattle.formula_tree.specs.ResolvedLaws.{Numbered}
 use Rattle.formula_tree.proofs.RuleLaw.{bind_ok}
 use Rattle.formula_tree.proofs.FormSteps.{Stands, plus_stands, opposite_stands}
 use Rattle.formula_tree.proofs.FormValues.{form_stands, below_positive}
@@ -94,10 +91,10 @@ congruence_truth d a v w m q h one pv pw pm s e =
     let positive : pos 0 <ℤ (k *ℤ b) = mul_positive (mul_positive pv pw) pm in
     let down = abs_sign a in let up = sign_abs a in (
       λ c.
-      let times : n *ℤ b ≡ (c.0 *ℤ m.numerator) *ℤ k = ap (λ t. n *ℤ t) (sym (one_mul b)) ∙ c.1 in
-      let is : f ≡ c.0 *ℤ a = multiple_of f n k b m.numerator a c.0 positive first second times in
-      (c.0 *ℤ down.quotient, by_divisor f c.0 a (pos (unsigned_abs a)) down.quotient is down.exact ∙ ap (λ t. (c.0 *ℤ down.quotient) *ℤ (pos (unsigned_abs a) *ℤ t)) (sym below)),
+          let times : n *ℤ b ≡ (c.0 *ℤ m.numerator) *ℤ k = ap (λ t. n *ℤ t) (sym (one_mul b)) ∙ c.1 in
+          let is : f ≡ c.0 *ℤ a = multiple_of f n k b m.numerator a c.0 positive first second times in
+          (c.0 *ℤ down.quotient, by_divisor f c.0 a (pos (unsigned_abs a)) down.quotient is down.exact ∙ ap (λ t. (c.0 *ℤ down.quotient) *ℤ (pos (unsigned_abs a) *ℤ t)) (sym below)),
       λ c.
-      let is : f ≡ (c.0 *ℤ up.quotient) *ℤ a = to_divisor f c.0 a (pos (unsigned_abs a)) up.quotient (c.1 ∙ ap (λ t. c.0 *ℤ (pos (unsigned_abs a) *ℤ t)) below) up.exact in
-      (c.0 *ℤ up.quotient, ap (λ t. n *ℤ t) (one_mul b) ∙ from_multiple f n k b m.numerator a (c.0 *ℤ up.quotient) first second is),
+          let is : f ≡ (c.0 *ℤ up.quotient) *ℤ a = to_divisor f c.0 a (pos (unsigned_abs a)) up.quotient (c.1 ∙ ap (λ t. c.0 *ℤ (pos (unsigned_abs a) *ℤ t)) below) up.exact in
+          (c.0 *ℤ up.quotient, ap (λ t. n *ℤ t) (one_mul b) ∙ from_multiple f n k b m.numerator a (c.0 *ℤ up.quotient) first second is),
     )

@@ -1,5 +1,5 @@
 -- The steps of the fraction rule at forms keep values.
-use Rattle.std.proofs.Common.{◌≡◌, ◌<◌, ◌⊎◌, inl, inr, ⊎_elim, ℕ, zero, suc, List, [], ◌∷◌, Bool, true, false, Option, Some, None, ap, sym, ◌∙◌, subst, refl, arith, if◌then◌else◌}
+use Rattle.std.proofs.Common.{◌≡◌, ⊎_elim, ℕ, zero, suc, List, [], ◌∷◌, Bool, true, false, Option, Some, None, ap, sym, ◌∙◌, subst, refl, arith, if◌then◌else◌}
 use Rattle.std.proofs.Math.IntN.{ℤ, pos, negsuc, neg_ℤ, ◌+ℤ◌, ◌*ℤ◌}
 use Rattle.std.specs.Prelude.{◌<ℤ◌, ◌≤ℤ◌, unsigned_abs, int_div, Result, Ok, Err}
 use Rattle.std.specs.List.{list_all}
@@ -7,7 +7,7 @@ use Rattle.std.specs.Ordering.{int_eq, is_eq}
 use Rattle.std.proofs.lemmas.Int.{ints}
 use Rattle.exact_numbers.specs.Divides.{Divides, lcm_of, content_of}
 use Rattle.exact_numbers.specs.Frac.{Frac, IsProper, SameValue, whole_frac, true_sum, true_product, true_power, negated, inverted, power_steps}
-use Rattle.exact_numbers.proofs.Ring.{ring, mul_one, one_mul, zero_mul, mul_zero}
+use Rattle.exact_numbers.proofs.Ring.{ring, one_mul, zero_mul}
 use Rattle.exact_numbers.proofs.Order.{mul_positive, mul_negative, mul_not_negative, factor_positive, by_less, by_order, by_compare, compare_same, zero_product}
 use Rattle.exact_numbers.proofs.LeastMultiple.{exact_div, lcm_is}
 use Rattle.exact_numbers.proofs.Contents.{content_is}
@@ -27,7 +27,6 @@ use Rattle.linear_forms.proofs.Quotients.{value_quotient, sorted_quotient}
 use Rattle.qe_syntax.specs.declared.tree.Literal.{Literal}
 use Rattle.qe_syntax.specs.declared.tree.Literal.TheVariants.{Fits, Past}
 use Rattle.qe_syntax.specs.Value.{literal_number, true_quotient}
-use Rattle.formula_tree.specs.FractionRule.{◌>>=◌}
 use Rattle.formula_tree.specs.RationalForms.{RationalForm, Missing, Overflow, Nonlinear, Division, numbers_of, is_within, formed_number, formed_form, lowest_form, is_empty, is_constant, constant_form, constant_of, sum_of_forms, multiple_of_form, product_of_forms, quotient_of_forms, small_power, as_constant, power_of_form, opposite_form}
 use Rattle.formula_tree.specs.ResolvedLaws.{value_at}
 use Rattle.formula_tree.proofs.RuleLaw.{bind_ok, ok_same}
@@ -203,8 +202,8 @@ multiple_stands q h a r k v w s hk hw same e =
     let now : RationalForm = record { form = e0.0; denominator = e1.0 } in
     let both = true_product (value_at a q) k in
     let crossed : SameValue (value_at now q) both =
-        ap (λ z. z *ℤ ((a.denominator *ℤ pos q.below) *ℤ k.denominator)) value ∙ multiple_crossed k.numerator (form.value a.form q) a.denominator k.denominator (pos q.below)
-        ∙ ap (λ z. (form.value a.form q *ℤ k.numerator) *ℤ (z *ℤ pos q.below)) d_is in
+    ap (λ z. z *ℤ ((a.denominator *ℤ pos q.below) *ℤ k.denominator)) value ∙ multiple_crossed k.numerator (form.value a.form q) a.denominator k.denominator (pos q.below)
+    ∙ ap (λ z. (form.value a.form q *ℤ k.numerator) *ℤ (z *ℤ pos q.below)) d_is in
     subst (λ u. Stands q u (true_product v w)) r_is
     (lowest_stands q e0.0 e1.0 (true_product v w) (subst IsSorted f_is (gathered_sorted _)) (subst (λ z. pos 0 <ℤ z) d_is (mul_positive s.positive hk)) h (mul_positive s.meant hw)
     (same_value_trans (value_at now q) both (true_product v w) (mul_positive (mul_positive s.positive h) hk) crossed (product_same (value_at a q) k v w s.same same)))

@@ -1,9 +1,9 @@
 -- A form that is there has the value of its term.
-use Rattle.std.proofs.Common.{◌≡◌, ◌<◌, ℕ, List, [], ◌∷◌, ap, sym, ◌∙◌, subst, refl, arith}
+use Rattle.std.proofs.Common.{◌≡◌, ◌<◌, ℕ, List, ap, sym, ◌∙◌, subst, refl, arith}
 use Rattle.std.proofs.Math.IntN.{ℤ, pos, ◌+ℤ◌, ◌*ℤ◌}
-use Rattle.std.specs.Prelude.{◌<ℤ◌, Result, Ok, Err}
+use Rattle.std.specs.Prelude.{◌<ℤ◌, Ok}
 use Rattle.std.proofs.lemmas.Int.{ints}
-use Rattle.exact_numbers.specs.Frac.{Frac, IsProper, SameValue, whole_frac, negated}
+use Rattle.exact_numbers.specs.Frac.{whole_frac, negated}
 use Rattle.formula_meaning.specs.Context.{Context}
 use Rattle.formula_meaning.specs.Point.{Point}
 use Rattle.formula_meaning.specs.Form as form
@@ -13,8 +13,8 @@ use Rattle.qe_syntax.specs.Trees.{TermTree, Named}
 use Rattle.qe_syntax.specs.Value.{NamedPoint, HasName, literal_number, value}
 use Rattle.qe_syntax.proofs.ValueLaw.{value_proper}
 use Rattle.formula_tree.specs.FractionRule.{by_rule}
-use Rattle.formula_tree.specs.RationalForms.{RationalForm, Missing, constant_form, variable_form, opposite_form, literal_form, forms}
-use Rattle.formula_tree.specs.ResolvedLaws.{value_at, Numbered, FormHasValue}
+use Rattle.formula_tree.specs.RationalForms.{RationalForm, constant_form, variable_form, literal_form, forms}
+use Rattle.formula_tree.specs.ResolvedLaws.{Numbered, FormHasValue}
 use Rattle.formula_tree.proofs.RuleLaw.{ok_same, KeepMeaning, rule_stands}
 use Rattle.formula_tree.proofs.FormSteps.{Stands, constant_stands, plus_stands, times_stands, over_stands, power_stands, opposite_stands, stands_as}
 

@@ -1,12 +1,12 @@
 -- Where something is said of no atom, and of no quantified name; and the variables of a formula, each in the list.
-use Rattle.std.proofs.Common.{◌≡◌, ◌⊎◌, inl, inr, ⊎_elim, ℕ, List, [], ◌∷◌, ◌++◌, refl}
+use Rattle.std.proofs.Common.{◌⊎◌, inl, inr, ⊎_elim, ℕ, List, ◌++◌, refl}
 use Rattle.formula_meaning.specs.Formula.{Formula, Formulas, Yes, No, One, Not, And, Or, Impl, Repl, Equiv, Ex, All, none, also}
 use Rattle.formula_meaning.specs.Every.{Every, EveryOf, EveryBound, EveryBoundOf}
 use Rattle.qe_syntax.specs.Trees as term
 use Rattle.qe_syntax.specs.Trees.{TermTree, TermTrees, Number, Named, Sum, Product, Quotient, Power, Negative, WrittenAtom, Compare, Cong, Ncong, Bound, FormulaTree, FormulaTrees}
 use Rattle.qe_syntax.specs.Value.{HasName, HaveName, Mentions}
 use Rattle.qe_syntax.specs.Valued.{IsIn}
-use Rattle.formula_tree.specs.Somewhere.{Somewhere, SomewhereIn, SomeAtom}
+use Rattle.formula_tree.specs.Somewhere.{SomewhereIn, SomeAtom}
 use Rattle.formula_tree.specs.Resolving.{variables_of, variables_in, atom_variables, formula_variables, all_variables}
 use Rattle.formula_tree.proofs.PlaceLaws.{in_either}
 

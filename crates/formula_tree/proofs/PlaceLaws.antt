@@ -4,12 +4,10 @@ use Rattle.std.proofs.Math.IntN.{ℤ, pos, ◌*ℤ◌}
 use Rattle.std.specs.Prelude.{unwrap_or, option_map, slice_get}
 use Rattle.std.specs.List.{IsDistinct, AllByRecursion, list_any, fold}
 use Rattle.std.specs.Cmp.Lexicographic.{pointwise_decides}
-use Rattle.std.specs.Cmp.{IsEquivalence}
 use Rattle.std.proofs.lemmas.Cmp.{nat_list_eq_equiv}
 use Rattle.std.proofs.lemmas.Map.Keys.{IsDistinct-push}
 use Rattle.exact_numbers.proofs.Ring.{mul_zero}
-use Rattle.formula_meaning.specs.Point.{Point, move}
-use Rattle.formula_meaning.specs.Some.{SomeOf}
+use Rattle.formula_meaning.specs.Point.{move}
 use Rattle.formula_meaning.proofs.SamePoint.{point_same}
 use Rattle.qe_syntax.specs.Value.{NamedPoint, same_name}
 use Rattle.qe_syntax.specs.Valued.{IsIn}

@@ -1,7 +1,7 @@
 -- Forms, causes and resolved formulas worked by hand. Each side is computed.
-use Rattle.std.proofs.Common.{◌≡◌, inl, inr, List, [], ◌∷◌, codes, true, refl, ℕ, lit≤}
+use Rattle.std.proofs.Common.{◌≡◌, inl, inr, ⊎_elim, zero, suc, sym, subst, arith, Some, None, List, [], ◌∷◌, codes, true, refl, ℕ, lit≤}
 use Rattle.std.proofs.Math.IntN.{pos, negsuc}
-use Rattle.std.specs.Prelude.{◌^◌, ◌-ℤ◌, Ok, Err, Result}
+use Rattle.std.specs.Prelude.{◌^◌, ◌-ℤ◌, Ok, Err}
 use Rattle.exact_numbers.specs.Limit.{checked}
 use Rattle.exact_numbers.specs.Divides.{gcd_of, lcm_of, euclid, content_of}
 use Rattle.exact_numbers.specs.Frac.{inverted, power_steps, product_step}
@@ -11,16 +11,15 @@ use Rattle.formula_meaning.specs.Form.{scale, combine}
 use Rattle.formula_meaning.specs.Sorted.{gathered}
 use Rattle.formula_meaning.specs.Atom as meaning
 use Rattle.formula_meaning.specs.Tree.{Tree}
-use Rattle.formula_meaning.specs.Replaced.{replaced}
-use Rattle.formula_meaning.specs.Sizes.{height}
 use Rattle.linear_forms.specs.Reduction.{quotient, residue_form}
 use Rattle.atom_normal.specs.NormalForm.{normal_atom}
 use Rattle.qe_syntax.specs.declared.tree.Literal.TheVariants.{Fits, Past}
-use Rattle.qe_syntax.specs.declared.tree.Relation.TheVariants.{Equal, Less, AtMost, Greater, AtLeast}
-use Rattle.qe_syntax.specs.Trees.{TermTree, Number, Named, Sum, Product, Quotient, Power, Negative, terms_of, WrittenAtom, Compare, Cong, Ncong, Bound, FormulaTree, formulas_of}
-use Rattle.formula_tree.specs.RationalForms.{RationalForm, Missing, Overflow, Nonlinear, Division, formed_number, formed_form, lowest_form, sum_of_forms, multiple_of_form, product_of_forms, quotient_of_forms, power_of_form, formed, variable_form, constant_form}
+use Rattle.qe_syntax.specs.declared.tree.Relation.TheVariants.{Equal, Less, Greater, AtLeast}
+use Rattle.qe_syntax.specs.Trees.{TermTree, Number, Named, Sum, Product, Quotient, Power, Negative, terms_of, Compare, Cong, Ncong, Bound, FormulaTree, formulas_of}
+use Rattle.formula_tree.specs.RationalForms.{Overflow, Nonlinear, Division, formed_number, formed_form, lowest_form, sum_of_forms, multiple_of_form, product_of_forms, quotient_of_forms, power_of_form, formed, variable_form, constant_form}
+use Rattle.formula_tree.specs.Bindings.{bound_to}
 use Rattle.formula_tree.specs.Resolving.{BoundTrees, place, names_after, resolve}
-use Rattle.formula_tree.specs.Causes.{IsUnbound, NamesFormulaAsTerm, IsNonlinear, Divides, CongruenceInFields, IsBadModulus, OverflowsInReading, atom_in_place}
+use Rattle.formula_tree.specs.Causes.{IsUnbound, NamesFormulaAsTerm, IsNonlinear, Divides, CongruenceInFields, IsBadModulus, IsTooDeep, OverflowsInReading, IsBound, IsAccepted, height_in_place}
 
 abbrev x : TermTree
 x = Named (codes "x")
@@ -86,10 +85,17 @@ past_before_names : formed Fields (place names) (Product (terms_of (most ∷ mos
 unfolding formed_number formed_form lowest_form multiple_of_form product_of_forms gathered scale quotient content_of gcd_of euclid
 past_before_names = refl
 
--- M/2 * 2 is M, and M * 2 / 2 is not there
-divided_first : formed Fields (place names) (times (Quotient most (number 2)) (number 2)) ≡ Err Overflow
+-- (M - 1)/2 * 2 is M - 1, as what is before 2 is divided first; (M - 1)*2 / 2 passes the limit
+abbrev even : TermTree
+even = Number (Fits (pos (2 ^ 127) -ℤ pos 2))
+
+divided_first : formed Fields (place names) (times (Quotient even (number 2)) (number 2)) ≡ Ok (constant_form (record { numerator = pos (2 ^ 127) -ℤ pos 2; denominator = pos 1 }))
 unfolding formed_number formed_form lowest_form multiple_of_form product_of_forms quotient_of_forms gathered scale quotient inverted content_of gcd_of euclid
 divided_first = refl
+
+divided_last : formed Fields (place names) (Quotient (times even (number 2)) (number 2)) ≡ Err Overflow
+unfolding formed_number formed_form lowest_form multiple_of_form product_of_forms gathered scale quotient content_of gcd_of euclid
+divided_last = refl
 
 -- (x + M) - M is x, and x + M + 1 passes the limit
 back_within : formed Fields (place names) (minus (plus x most) most) ≡ Ok (variable_form 0)
@@ -141,7 +147,6 @@ past_times_zero = refl
 
 -- ---- resolved formulas
 
-
 -- x + y < 2*x is x - y > 0
 fields_turned : resolve Fields [] names (One (Compare Less (plus x y) (times (number 2) x)))
     ≡ One (meaning.Compare meaning.Above (record { terms = record { times = pos 1; name = 0 } ∷ record { times = negsuc 0; name = 1 } ∷ []; constant = pos 0 }))
@@ -174,8 +179,9 @@ integers_rounded = refl
 abbrev positive : Tree
 positive = One (meaning.Compare meaning.Above (record { terms = record { times = pos 1; name = 0 } ∷ []; constant = pos 0 }))
 
+-- and h to its negation
 abbrev bound : BoundTrees
-bound = (codes "f", positive) ∷ []
+bound = (codes "f", positive) ∷ (codes "h", Not positive) ∷ []
 
 abbrev f : FormulaTree
 f = One (Bound (codes "f"))
@@ -230,10 +236,50 @@ modulus_with_name = record { form = variable_form 1; there = refl; fails = inl r
 modulus_zero : IsBadModulus Integers (place names) (One (Ncong x (number 0) (number 0)))
 modulus_zero = record { form = constant_form (record { numerator = pos 0; denominator = pos 1 }); there = refl; fails = inr refl }
 
--- not f has the height 2, as the tree of f has 1
-height_in_place : height (replaced (atom_in_place bound) (λ n. 0) (Not f)) ≡ 2
-height_in_place = refl
+-- not h has the height 3, as the tree of h has 2; an atom has 1
+with_bound_tree : height_in_place bound (Not (One (Bound (codes "h")))) ≡ 3
+with_bound_tree = refl
+
+-- 512 times not before an atom are one too many
+abbrev nots : ℕ → FormulaTree → FormulaTree
+nots zero g = g
+nots (suc n) g = Not (nots n g)
+
+too_deep : IsTooDeep [] (nots 512 (One (Compare Greater x y)))
+too_deep = lit≤ tt
+
+deep_enough : ¬ (IsTooDeep [] (nots 511 (One (Compare Greater x y))))
+deep_enough h = omega (arith, h)
 
 -- a literal past the limit in the second conjunct
 past_literal : OverflowsInReading Fields [] (place names) (And (formulas_of (Yes ∷ One (Compare Greater (Number Past) x) ∷ [])))
 past_literal = inl (inr (inl (inl refl)))
+
+-- over the integers x + M >= 0 is x + M + 1 > 0, whose constant passes the limit; over the fields it does not
+past_when_rounded : OverflowsInReading Integers [] (place names) (One (Compare AtLeast (plus x most) (number 0)))
+unfolding formed_number formed_form lowest_form sum_of_forms gathered scale combine quotient normal_atom content_of gcd_of lcm_of euclid
+past_when_rounded = inr (inr (lit≤ tt))
+
+-- ---- accepted formulas
+
+-- x > 0 and f
+abbrev plain : FormulaTree
+plain = And (formulas_of (One (Compare Greater x (number 0)) ∷ f ∷ []))
+
+none_bound : (z : List ℕ) → codes "x" ≡ z → ¬ (IsBound bound z)
+none_bound z e h = let e2 : None ≡ Some h.0 = subst (λ w. bound_to bound w ≡ Some h.0) (sym e) h.1 in absurd (cc)
+
+accepted : IsAccepted Fields bound [] plain
+unfolding formed_number formed_form lowest_form sum_of_forms gathered scale combine quotient normal_atom content_of gcd_of lcm_of euclid
+accepted = record {
+  bound_names = ⊎_elim (λ h. h) (⊎_elim (λ h. absurd (cc)) (λ h. h));
+  variables = ⊎_elim (λ h. ⊎_elim (λ e. none_bound h.0 e h.2) (λ e. e) h.1) (⊎_elim (λ h. h.1) (λ h. h));
+  linear = ⊎_elim (⊎_elim (λ h. h) (λ h. h)) (⊎_elim (λ h. h) (λ h. h));
+  undivided = ⊎_elim (⊎_elim (λ h. h) (λ h. h)) (⊎_elim (λ h. h) (λ h. h));
+  congruences = ⊎_elim (λ h. h) (⊎_elim (λ h. h) (λ h. h));
+  moduli = ⊎_elim (λ h. h) (⊎_elim (λ h. h) (λ h. h));
+  flat = λ h. omega (arith, h);
+  within = ⊎_elim
+      (⊎_elim (⊎_elim (λ h. h) (λ h. absurd (cc))) (⊎_elim (λ h. h) (λ h. h)))
+      (⊎_elim (⊎_elim (λ h. let e = h.1 in absurd (cc)) (λ h. omega (arith, h))) (⊎_elim (λ h. h) (λ h. h)));
+}

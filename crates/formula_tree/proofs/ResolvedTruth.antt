@@ -1,13 +1,12 @@
 -- Where no cause applies, the resolved formula has the truth of the written one.
-use Rattle.std.proofs.Common.{◌≡◌, ◌<◌, ◌⊎◌, ◌↔◌, inl, inr, ⊎_elim, ℕ, List, [], ◌∷◌, Bool, true, false, Option, Some, None, ap, sym, ◌∙◌, subst, refl, arith, nat_eq}
+use Rattle.std.proofs.Common.{◌≡◌, ◌<◌, ◌⊎◌, ◌↔◌, inl, inr, ⊎_elim, ℕ, List, Bool, true, false, Option, Some, None, ap, sym, ◌∙◌, subst, refl, arith, nat_eq}
 use Rattle.std.proofs.Math.IntN.{ℤ, pos}
 use Rattle.std.specs.Prelude.{◌<ℤ◌, unsigned_abs, unwrap_or, Result, Ok, Err}
 use Rattle.std.proofs.lemmas.Int.{ints}
-use Rattle.std.specs.List.{IsDistinct}
 use Rattle.exact_numbers.specs.Frac.{SameValue, whole_frac}
 use Rattle.formula_meaning.specs.Context.{Context, Fields, Integers, Allowed}
 use Rattle.formula_meaning.specs.Point.{Point, Of, move}
-use Rattle.formula_meaning.specs.Formula.{Formula, Yes, No, One}
+use Rattle.formula_meaning.specs.Formula.{No}
 use Rattle.formula_meaning.specs.Every.{Every}
 use Rattle.formula_meaning.specs.Atom as meaning
 use Rattle.formula_meaning.specs.Tree.{Tree, TrueAt}
@@ -26,7 +25,7 @@ use Rattle.qe_syntax.specs.Valued.{IsIn}
 use Rattle.qe_syntax.proofs.ValueLaw.{value_proper}
 use Rattle.formula_tree.specs.Bindings.{bound_to}
 use Rattle.formula_tree.specs.RationalForms.{RationalForm, Missing, is_constant, formed, formed_difference}
-use Rattle.formula_tree.specs.Resolving.{BoundTrees, place, names_after, formula_variables, at_names, compared, congruent, resolved_atom, resolve, IsTreeTrue, bound_truth}
+use Rattle.formula_tree.specs.Resolving.{BoundTrees, place, names_after, formula_variables, at_names, compared, congruent, resolved_atom, IsTreeTrue, bound_truth}
 use Rattle.formula_tree.specs.Causes.{HasNoTree, IsCongruence, HasBadModulus, IsMissing, IsNoDivisor, PassesInReading, CongruenceInFields, IsAccepted}
 use Rattle.formula_tree.specs.ResolvedLaws.{Numbered, HasNormalTrees, ResolvingKeepsTruth, ResolvingIsNormal}
 use Rattle.formula_tree.proofs.PlaceLaws.{at_place, move_at_names, after_has, after_distinct}

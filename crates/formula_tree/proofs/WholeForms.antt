@@ -15,11 +15,11 @@ use Rattle.formula_meaning.specs.Sorted.{gathered}
 use Rattle.qe_syntax.specs.declared.tree.Literal.{Literal}
 use Rattle.qe_syntax.specs.declared.tree.Literal.TheVariants.{Fits, Past}
 use Rattle.qe_syntax.specs.Trees.{TermTree, Named}
-use Rattle.qe_syntax.specs.Value.{NamedPoint, HasName, literal_number, value}
+use Rattle.qe_syntax.specs.Value.{NamedPoint, literal_number}
 use Rattle.qe_syntax.proofs.ValueLaw.{value_proper}
 use Rattle.qe_syntax.proofs.CongruenceLaw.{whole_in_lowest}
 use Rattle.formula_tree.specs.FractionRule.{◌>>=◌}
-use Rattle.formula_tree.specs.RationalForms.{RationalForm, Missing, Overflow, Nonlinear, Division, numbers_of, formed_number, formed_form, lowest_form, is_constant, constant_form, constant_of, sum_of_forms, multiple_of_form, product_of_forms, quotient_of_forms, small_power, as_constant, power_of_form, opposite_form, literal_form, forms, formed, formed_difference}
+use Rattle.formula_tree.specs.RationalForms.{RationalForm, Missing, Overflow, Nonlinear, numbers_of, formed_number, formed_form, lowest_form, is_constant, constant_of, sum_of_forms, multiple_of_form, product_of_forms, quotient_of_forms, small_power, as_constant, power_of_form, opposite_form, literal_form, forms, formed, formed_difference}
 use Rattle.formula_tree.proofs.RuleLaw.{bind_ok, ok_same, KeepMeaning, rule_stands}
 use Rattle.formula_tree.proofs.FormSteps.{number_ok, power_proper}
 

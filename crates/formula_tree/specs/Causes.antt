@@ -1,9 +1,9 @@
 -- Why a written formula is not resolved: each cause on its own, over the whole formula. number gives the variables their
 -- numbers.
-use Rattle.std.specs.Prelude.{◌≡◌, ℕ, ◌<◌, ◌⊎◌, ℤ, pos, List, Bool, true, false, unsigned_abs, Option, Some, None, unwrap_or, Result, Ok, Err}
+use Rattle.std.specs.Prelude.{◌≡◌, ℕ, ◌<◌, ◌⊎◌, pos, List, false, unsigned_abs, Some, None, unwrap_or, Result, Ok, Err}
 use Rattle.exact_numbers.specs.Frac.{whole_frac}
 use Rattle.formula_meaning.specs.Context.{Context, Fields, Integers}
-use Rattle.formula_meaning.specs.Formula.{Yes, No, One, Not, And, Or, Impl, Repl, Equiv, Ex, All}
+use Rattle.formula_meaning.specs.Formula.{Yes}
 use Rattle.formula_meaning.specs.Replaced.{replaced}
 use Rattle.formula_meaning.specs.Sizes.{height}
 use Rattle.formula_meaning.specs.Tree.{Tree}
@@ -182,9 +182,13 @@ atom_in_place bound (Ncong s t m) = Yes
 abbrev pub most_height : ℕ
 most_height = 512
 
--- the formula with the bound trees in their places is too high
+-- the height of the formula with the bound trees in their places
+abbrev pub height_in_place : BoundTrees → FormulaTree → ℕ
+height_in_place bound f = height (replaced (atom_in_place bound) (λ x. 0) f)
+
+-- it is too high
 abbrev pub IsTooDeep : BoundTrees → FormulaTree → Type 0
-IsTooDeep bound f = most_height < height (replaced (atom_in_place bound) (λ x. 0) f)
+IsTooDeep bound f = most_height < height_in_place bound f
 
 -- a literal is past the limit, a form is not there, or a normal atom passes the limit
 abbrev pub OverflowsInReading : Context → BoundTrees → (List ℕ → ℕ) → FormulaTree → Type 0

@@ -1,5 +1,5 @@
 -- Linear forms over a positive denominator, and what the steps of the fraction rule make of them.
-use Rattle.std.specs.Prelude.{◌^◌, ℕ, zero, suc, ℤ, pos, negsuc, ◌*ℤ◌, List, [], ◌∷◌, Bool, true, false, ◌&&◌, unsigned_abs, int_div, nat_lt, Option, Some, None, Result, Ok, Err, if◌then◌else◌}
+use Rattle.std.specs.Prelude.{◌^◌, ℕ, zero, suc, ℤ, pos, negsuc, ◌*ℤ◌, List, [], ◌∷◌, Bool, true, false, unsigned_abs, int_div, nat_lt, Option, Some, None, Result, Ok, Err, if◌then◌else◌}
 use Rattle.std.specs.List.{list_all}
 use Rattle.std.specs.Ordering.{int_eq}
 use Rattle.exact_numbers.specs.Divides.{lcm_of, content_of}

@@ -1,5 +1,5 @@
 -- What is proved of the fraction rule and of resolving, as statements that the functions of this crate promise.
-use Rattle.std.specs.Prelude.{◌≡◌, ℕ, ◌<◌, ◌↔◌, ℤ, pos, ◌*ℤ◌, ◌<ℤ◌, List, Option, Some, Result, Ok, Err}
+use Rattle.std.specs.Prelude.{◌≡◌, ℕ, ◌<◌, ◌↔◌, pos, ◌*ℤ◌, ◌<ℤ◌, List, Some, Ok}
 use Rattle.std.specs.List.{IsDistinct}
 use Rattle.exact_numbers.specs.Frac.{Frac, SameValue}
 use Rattle.formula_meaning.specs.Context.{Context}

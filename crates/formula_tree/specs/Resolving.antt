@@ -1,6 +1,6 @@
 -- Resolved formulas: the names of variables are numbered, bound names have their trees, and each comparison or congruence
 -- is the normal atom of its form.
-use Rattle.std.specs.Prelude.{ℕ, ℤ, pos, List, [], ◌∷◌, ◌++◌, Bool, true, false, unsigned_abs, Option, Some, None, unwrap_or, option_map, slice_get, Result, Ok, Err}
+use Rattle.std.specs.Prelude.{ℕ, pos, List, [], ◌∷◌, ◌++◌, Bool, true, false, unsigned_abs, Option, Some, None, unwrap_or, option_map, slice_get, Result, Ok, Err}
 use Rattle.std.specs.List.{fold, position_or_len}
 use Rattle.formula_meaning.specs.Context.{Context}
 use Rattle.formula_meaning.specs.Point.{Point}
