@@ -58,7 +58,7 @@ form_ok f g e = go (list_all is_within (numbers_of f)) e
 
 -- ---- lowest terms
 
-content_not_zero : (d : ℤ) (f : Form) → pos 0 <ℤ d → ¬ (content_of (d ∷ numbers_of f) ≡ pos 0)
+pub content_not_zero : (d : ℤ) (f : Form) → pos 0 <ℤ d → ¬ (content_of (d ∷ numbers_of f) ≡ pos 0)
 content_not_zero d f h z =
     let c = (content_is (d ∷ numbers_of f)).divides.0 in
     let e : d ≡ pos 0 = zero_divides (subst (λ g. Divides g d) z c) in
@@ -232,13 +232,13 @@ times_stands q h a b r v w s t e = go (is_constant b) (is_constant a) refl refl 
 int_eq_zero : (a : ℤ) → a ≡ pos 0 → int_eq a (pos 0) ≡ true
 int_eq_zero a e = ap is_eq (compare_same e)
 
-zero_int_eq : (a : ℤ) → int_eq a (pos 0) ≡ false → ¬ (a ≡ pos 0)
+pub zero_int_eq : (a : ℤ) → int_eq a (pos 0) ≡ false → ¬ (a ≡ pos 0)
 zero_int_eq a e z = let t = int_eq_zero a z in let f : true ≡ false = sym t ∙ e in absurd (cc)
 
 quotient_of_other : (v w : Frac) → int_eq w.numerator (pos 0) ≡ false → true_quotient v w ≡ true_product v (inverted w)
 quotient_of_other v w e = ap (λ b. if b then whole_frac (pos 0) else true_product v (inverted w)) e
 
-inverted_proper : (w : Frac) → IsProper w → ¬ (w.numerator ≡ pos 0) → IsProper (inverted w)
+pub inverted_proper : (w : Frac) → IsProper w → ¬ (w.numerator ≡ pos 0) → IsProper (inverted w)
 inverted_proper w h nonzero =
     by_order w.numerator (pos 0)
     (λ l. subst IsProper (sym (inverted_negative w l)) (omega (arith, ints)))

@@ -12,3 +12,5 @@ pub mod Nowhere
 pub mod AtomTruth
 pub mod ResolvedTruth
 pub mod WholeForms
+pub mod FormNames
+pub mod ResolvedNames

@@ -51,18 +51,18 @@ record IsNumbered (c : Context) (names : List (List ℕ)) (p : NamedPoint) (q : 
   of : Of c p
 
 -- what is known of each atom
-record IsPlain (c : Context) (bound : BoundTrees) (names : List (List ℕ)) (a : WrittenAtom) : Type 0 where
-  tree : ¬ (HasNoTree bound a)
-  theory : ¬ ((c ≡ Fields) × IsCongruence a)
-  modulus : ¬ (HasBadModulus c (place names) a)
-  within : ¬ (PassesInReading c bound (place names) a)
-  named : (x : List ℕ) → Mentions a x → IsIn x names
+pub record IsPlain (c : Context) (bound : BoundTrees) (names : List (List ℕ)) (a : WrittenAtom) : Type 0 where
+  pub tree : ¬ (HasNoTree bound a)
+  pub theory : ¬ ((c ≡ Fields) × IsCongruence a)
+  pub modulus : ¬ (HasBadModulus c (place names) a)
+  pub within : ¬ (PassesInReading c bound (place names) a)
+  pub named : (x : List ℕ) → Mentions a x → IsIn x names
 
-above_zero : (a : ℤ) → ¬ (a ≡ pos 0) → 0 < unsigned_abs a
+pub above_zero : (a : ℤ) → ¬ (a ≡ pos 0) → 0 < unsigned_abs a
 above_zero a h = omega (arith, ints)
 
 -- a form that is not missing is there
-there : (r : Result RationalForm Missing) → ¬ (IsMissing r) → (d : RationalForm) × (r ≡ Ok d)
+pub there : (r : Result RationalForm Missing) → ¬ (IsMissing r) → (d : RationalForm) × (r ≡ Ok d)
 there (Ok d) h = (d, refl)
 there (Err e) h = absurd (h (e, refl))
 
@@ -86,7 +86,7 @@ module _ (c : Context) (bound : BoundTrees) (names : List (List ℕ)) where
   bound_atom_truth x (Some t) h q = (λ y. y, λ y. y)
 
   -- a modulus that is there is a whole constant other than 0
-  modulus_there : (m : TermTree) (r : RationalForm) → ¬ (IsNoDivisor (formed c (place names) m)) → formed c (place names) m ≡ Ok r → (is_constant r ≡ true) × (¬ (r.form.constant ≡ pos 0))
+  pub modulus_there : (m : TermTree) (r : RationalForm) → ¬ (IsNoDivisor (formed c (place names) m)) → formed c (place names) m ≡ Ok r → (is_constant r ≡ true) × (¬ (r.form.constant ≡ pos 0))
   modulus_there m r h e = (varies (is_constant r) refl, λ z. h (record { form = r; there = e; fails = inr z }))
     where
       varies : (b : Bool) → is_constant r ≡ b → b ≡ true
@@ -155,7 +155,7 @@ no_congruence : (c : Context) (f : FormulaTree) → ¬ (CongruenceInFields c f) 
 no_congruence Fields f h = every_map (λ a. ¬ (IsCongruence a)) (λ a. ¬ ((Fields ≡ Fields) × IsCongruence a)) (λ a n t. n t.1) f (nowhere IsCongruence f h)
 no_congruence Integers f h = every_all (λ a. ¬ ((Integers ≡ Fields) × IsCongruence a)) (λ a t. let e = t.0 in absurd (cc)) f
 
-all_plain : (c : Context) (bound : BoundTrees) (names : List (List ℕ)) (f : FormulaTree) → IsAccepted c bound names f → Every (IsPlain c bound (names_after names f)) f
+pub all_plain : (c : Context) (bound : BoundTrees) (names : List (List ℕ)) (f : FormulaTree) → IsAccepted c bound names f → Every (IsPlain c bound (names_after names f)) f
 all_plain c bound names f h =
     let after = names_after names f in
     let trees = nowhere (HasNoTree bound) f h.bound_names in

@@ -7,7 +7,7 @@ use Rattle.formula_meaning.specs.Point.{Point, Of}
 use Rattle.formula_meaning.specs.Form as form
 use Rattle.formula_meaning.specs.Sorted.{IsSorted}
 use Rattle.formula_meaning.specs.Every.{Every}
-use Rattle.formula_meaning.specs.Tree.{Tree, TrueAt}
+use Rattle.formula_meaning.specs.Tree.{Tree, TrueAt, IsFree}
 use Rattle.atom_normal.specs.NormalForm.{IsNormal}
 use Rattle.qe_syntax.specs.Trees.{TermTree, FormulaTree}
 use Rattle.qe_syntax.specs.Value.{NamedPoint, value, HasName, same_name}
@@ -16,7 +16,7 @@ use Rattle.qe_syntax.specs.Rule.{calculated}
 use Rattle.formula_tree.specs.FractionRule.{by_rule, fractions}
 use Rattle.formula_tree.specs.Bindings.{bound_to}
 use Rattle.formula_tree.specs.RationalForms.{RationalForm, formed}
-use Rattle.formula_tree.specs.Resolving.{BoundTrees, names_after, at_names, resolve, bound_truth}
+use Rattle.formula_tree.specs.Resolving.{BoundTrees, place, names_after, at_names, resolve, bound_truth, IsFreeInPlace}
 use Rattle.formula_tree.specs.Causes.{IsAccepted}
 
 -- what is calculated for a term is the rule at fractions
@@ -60,3 +60,8 @@ ResolvingKeepsTruth = (c : Context) (bound : BoundTrees) (names : List (List ℕ
 abbrev pub ResolvingIsNormal : Type 0
 ResolvingIsNormal = (c : Context) (bound : BoundTrees) (names : List (List ℕ)) (f : FormulaTree) → HasNormalTrees c bound → IsAccepted c bound names f →
     Every (IsNormal c) (resolve c bound (names_after names f) f)
+
+-- A number that is free in the resolved formula is free in the written one, with the bound trees in their places.
+abbrev pub ResolvingBringsNoName : Type 0
+ResolvingBringsNoName = (c : Context) (bound : BoundTrees) (names : List (List ℕ)) (f : FormulaTree) → IsAccepted c bound names f →
+    (n : ℕ) → IsFree (resolve c bound (names_after names f) f) n → IsFreeInPlace bound (place (names_after names f)) f n

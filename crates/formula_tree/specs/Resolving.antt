@@ -1,6 +1,6 @@
 -- Resolved formulas: the names of variables are numbered, bound names have their trees, and each comparison or congruence
 -- is the normal atom of its form.
-use Rattle.std.specs.Prelude.{ℕ, pos, List, [], ◌∷◌, ◌++◌, Bool, true, false, unsigned_abs, Option, Some, None, unwrap_or, option_map, slice_get, Result, Ok, Err}
+use Rattle.std.specs.Prelude.{◌≡◌, ℕ, pos, List, [], ◌∷◌, ◌++◌, Bool, true, false, unsigned_abs, Option, Some, None, unwrap_or, option_map, slice_get, Result, Ok, Err}
 use Rattle.std.specs.List.{fold, position_or_len}
 use Rattle.formula_meaning.specs.Context.{Context}
 use Rattle.formula_meaning.specs.Point.{Point}
@@ -8,11 +8,12 @@ use Rattle.formula_meaning.specs.Formula.{Formula, Formulas, Yes, No, One, Not, 
 use Rattle.formula_meaning.specs.Formula as plain
 use Rattle.formula_meaning.specs.Atom as meaning
 use Rattle.formula_meaning.specs.Tree as meant
+use Rattle.formula_meaning.specs.Every.{Free}
 use Rattle.formula_meaning.specs.Replaced.{replaced}
 use Rattle.atom_normal.specs.NormalForm.{normal_atom}
 use Rattle.qe_syntax.specs.declared.tree.Relation.{Relation}
 use Rattle.qe_syntax.specs.Trees.{TermTree, TermTrees, Number, Named, Sum, Product, Quotient, Power, Negative, none, also, WrittenAtom, Compare, Cong, Ncong, Bound, FormulaTree, FormulaTrees}
-use Rattle.qe_syntax.specs.Value.{NamedPoint, same_name, relation_of}
+use Rattle.qe_syntax.specs.Value.{NamedPoint, same_name, relation_of, Mentions}
 use Rattle.formula_tree.specs.Bindings.{bound_to}
 use Rattle.formula_tree.specs.Names.{with_name}
 use Rattle.formula_tree.specs.RationalForms.{RationalForm, Missing, formed, formed_difference}
@@ -110,3 +111,16 @@ IsTreeTrue c (Some f) p = meant.TrueAt c f p
 -- a name that stands as a formula has the truth of its tree
 abbrev pub bound_truth : Context → BoundTrees → List (List ℕ) → List ℕ → NamedPoint → Type 0
 bound_truth c bound names x p = IsTreeTrue c (bound_to bound x) (at_names names p)
+
+-- ---- free names
+
+-- the number is that of a name of the atom, or is free in its tree
+abbrev pub MentionsNumber : BoundTrees → (List ℕ → ℕ) → WrittenAtom → ℕ → Type 0
+MentionsNumber bound number (Bound x) n = meant.IsFree (unwrap_or (bound_to bound x) No) n
+MentionsNumber bound number (Compare rel s t) n = (x : List ℕ) × Mentions (Compare rel s t) x × (number x ≡ n)
+MentionsNumber bound number (Cong s t m) n = (x : List ℕ) × Mentions (Cong s t m) x × (number x ≡ n)
+MentionsNumber bound number (Ncong s t m) n = (x : List ℕ) × Mentions (Ncong s t m) x × (number x ≡ n)
+
+-- the number is free in the formula as it is written, with its names numbered and the bound trees in their places
+abbrev pub IsFreeInPlace : BoundTrees → (List ℕ → ℕ) → FormulaTree → ℕ → Type 0
+IsFreeInPlace bound number f n = Free (MentionsNumber bound number) (replaced One number f) n

@@ -1,5 +1,5 @@
 // The laws of the fraction rule and of resolving. Each function does nothing; its contract is a law.
-ghost use Rattle.formula_tree.specs.ResolvedLaws.{CalculatedByRule, FormHasValue, ResolvingKeepsTruth, ResolvingIsNormal};
+ghost use Rattle.formula_tree.specs.ResolvedLaws.{CalculatedByRule, FormHasValue, ResolvingKeepsTruth, ResolvingIsNormal, ResolvingBringsNoName};
 
 /// What is calculated for a term at a point is the fraction rule taken for fractions.
 pub fn fractions_go_by_the_rule()
@@ -11,9 +11,10 @@ pub fn forms_have_values()
     ensures { FormHasValue }
 {}
 
-/// Where no cause applies, a resolved formula has the truth of the written one at every point of the theory, and its
-/// atoms are in normal form.
+/// Where no cause applies, a resolved formula has the truth of the written one at every point of the theory, its atoms
+/// are in normal form, and it has no other free names.
 pub fn resolving_keeps_truth()
     ensures truth { ResolvingKeepsTruth }
     ensures normal { ResolvingIsNormal }
+    ensures names { ResolvingBringsNoName }
 {}
