@@ -1,9 +1,7 @@
 -- A form has no names but those of its term.
-use Rattle.std.proofs.Common.{◌≡◌, ◌<◌, ◌⊎◌, inl, inr, ⊎_elim, ℕ, zero, suc, List, [], ◌∷◌, ◌++◌, Bool, true, false, Option, Some, None, ap, sym, ◌∙◌, subst, refl, arith, nat_eq, eqb-true, eq-eqb, if◌then◌else◌}
+use Rattle.std.proofs.Common.{◌≡◌, ◌<◌, ◌⊎◌, inl, inr, ℕ, zero, suc, List, ◌∷◌, Bool, true, false, Option, Some, None, ap, sym, ◌∙◌, subst, refl, arith, nat_eq, eqb-true, if◌then◌else◌}
 use Rattle.std.proofs.Math.IntN.{ℤ, pos, negsuc, ◌+ℤ◌, ◌*ℤ◌}
 use Rattle.std.specs.Prelude.{◌<ℤ◌, unsigned_abs, int_div, Result, Ok, Err}
-use Rattle.std.proofs.lemmas.Int.{ints}
-use Rattle.std.proofs.lemmas.Bool.{cases_eq}
 use Rattle.exact_numbers.specs.Divides.{lcm_of, content_of}
 use Rattle.exact_numbers.specs.Frac.{Frac, whole_frac, inverted, power_steps}
 use Rattle.exact_numbers.proofs.Ring.{mul_zero}
@@ -65,7 +63,7 @@ module _ (n : ℕ) where
       let first : coefficient n e1.0 ≡ pos 0 = subst (λ f. coefficient n f ≡ pos 0) (form_ok _ e1.0 e1.1) (scaled_lacks (int_div m d) a.form s) in
       let second : coefficient n e2.0 ≡ pos 0 = subst (λ f. coefficient n f ≡ pos 0) (form_ok _ e2.0 e2.1) (scaled_lacks (int_div m k) b.form t) in
       let both : coefficient n (gathered (combine (pos 1) e1.0 (pos 1) e2.0)) ≡ pos 0 =
-          coefficient_gathered n (combine (pos 1) e1.0 (pos 1) e2.0) ∙ coefficient_combine n (pos 1) e1.0 (pos 1) e2.0 ∙ ap (λ z. pos 1 *ℤ z +ℤ pos 1 *ℤ coefficient n e2.0) first ∙ ap (λ z. pos 1 *ℤ pos 0 +ℤ pos 1 *ℤ z) second in
+      coefficient_gathered n (combine (pos 1) e1.0 (pos 1) e2.0) ∙ coefficient_combine n (pos 1) e1.0 (pos 1) e2.0 ∙ ap (λ z. pos 1 *ℤ z +ℤ pos 1 *ℤ coefficient n e2.0) first ∙ ap (λ z. pos 1 *ℤ pos 0 +ℤ pos 1 *ℤ z) second in
       let positive = subst (λ z. pos 0 <ℤ z) (number_ok (lcm_of d k) m e0.1) (lcm_is ha hb).positive in
       subst Lacks r_is (lowest_lacks e3.0 m positive (subst (λ f. coefficient n f ≡ pos 0) (form_ok _ e3.0 e3.1) both))
 

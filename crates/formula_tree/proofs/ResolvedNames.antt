@@ -1,7 +1,7 @@
 -- A number that is free in a resolved formula is free in the written one.
-use Rattle.std.proofs.Common.{◌≡◌, ◌⊎◌, inl, inr, ⊎_elim, ℕ, List, [], ◌∷◌, ◌++◌, Bool, true, false, Option, Some, None, sym, subst, refl, arith}
-use Rattle.std.proofs.Math.IntN.{ℤ, pos}
-use Rattle.std.specs.Prelude.{unsigned_abs, Result, Ok, Err}
+use Rattle.std.proofs.Common.{◌≡◌, ◌⊎◌, inl, inr, ⊎_elim, ℕ, List, Bool, true, false, sym, subst, refl}
+use Rattle.std.proofs.Math.IntN.{pos}
+use Rattle.std.specs.Prelude.{unsigned_abs, Ok}
 use Rattle.std.proofs.lemmas.Bool.{cases_eq}
 use Rattle.formula_meaning.specs.Context.{Context, Fields, Integers}
 use Rattle.formula_meaning.specs.Formula.{Formula, Formulas, Yes, No, One, Not, And, Or, Impl, Repl, Equiv, Ex, All}
@@ -10,14 +10,14 @@ use Rattle.formula_meaning.specs.Every.{Every, EveryOf, Free, FreeInSome}
 use Rattle.formula_meaning.specs.Replaced.{replaced, all_replaced}
 use Rattle.formula_meaning.specs.Form.{coefficient}
 use Rattle.formula_meaning.specs.Atom as meaning
-use Rattle.formula_meaning.specs.Tree.{Tree, IsFree}
+use Rattle.formula_meaning.specs.Tree.{IsFree}
 use Rattle.formula_meaning.proofs.EachAtom.{every_map}
 use Rattle.atom_normal.proofs.NormalLaws.{normal_names}
 use Rattle.qe_syntax.specs.declared.tree.Relation.{Relation}
 use Rattle.qe_syntax.specs.Trees as term
 use Rattle.qe_syntax.specs.Trees.{TermTree, TermTrees, Number, Named, Sum, Product, Quotient, Power, Negative, WrittenAtom, Compare, Cong, Ncong, Bound, FormulaTree}
-use Rattle.qe_syntax.specs.Value.{HasName, HaveName, Mentions, relation_of}
-use Rattle.formula_tree.specs.RationalForms.{RationalForm, Missing, formed, formed_difference}
+use Rattle.qe_syntax.specs.Value.{HasName, HaveName, relation_of}
+use Rattle.formula_tree.specs.RationalForms.{RationalForm, formed, formed_difference}
 use Rattle.formula_tree.specs.Resolving.{BoundTrees, place, names_after, compared, congruent, resolved_atom, MentionsNumber}
 use Rattle.formula_tree.specs.Causes.{IsMissing, IsNoDivisor}
 use Rattle.formula_tree.specs.ResolvedLaws.{ResolvingBringsNoName}
