@@ -14,3 +14,4 @@ pub mod ResolvedTruth
 pub mod WholeForms
 pub mod FormNames
 pub mod ResolvedNames
+pub mod MissingForms

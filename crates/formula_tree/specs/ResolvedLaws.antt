@@ -1,5 +1,5 @@
 -- What is proved of the fraction rule and of resolving, as statements that the functions of this crate promise.
-use Rattle.std.specs.Prelude.{◌≡◌, ℕ, ◌<◌, ◌↔◌, pos, ◌*ℤ◌, ◌<ℤ◌, List, Some, Ok}
+use Rattle.std.specs.Prelude.{◌≡◌, ℕ, ◌<◌, ◌↔◌, pos, ◌*ℤ◌, ◌<ℤ◌, List, Some, Ok, Err}
 use Rattle.std.specs.List.{IsDistinct}
 use Rattle.exact_numbers.specs.Frac.{Frac, SameValue}
 use Rattle.formula_meaning.specs.Context.{Context}
@@ -15,9 +15,9 @@ use Rattle.qe_syntax.specs.Value as written
 use Rattle.qe_syntax.specs.Rule.{calculated}
 use Rattle.formula_tree.specs.FractionRule.{by_rule, fractions}
 use Rattle.formula_tree.specs.Bindings.{bound_to}
-use Rattle.formula_tree.specs.RationalForms.{RationalForm, formed}
+use Rattle.formula_tree.specs.RationalForms.{RationalForm, Missing, Overflow, Nonlinear, Division, formed}
 use Rattle.formula_tree.specs.Resolving.{BoundTrees, place, names_after, at_names, resolve, bound_truth, IsFreeInPlace}
-use Rattle.formula_tree.specs.Causes.{IsAccepted}
+use Rattle.formula_tree.specs.Causes.{HasNonlinear, HasForbidden, IsAccepted}
 
 -- what is calculated for a term is the rule at fractions
 abbrev pub CalculatedByRule : Type 0
@@ -65,3 +65,15 @@ ResolvingIsNormal = (c : Context) (bound : BoundTrees) (names : List (List ℕ))
 abbrev pub ResolvingBringsNoName : Type 0
 ResolvingBringsNoName = (c : Context) (bound : BoundTrees) (names : List (List ℕ)) (f : FormulaTree) → IsAccepted c bound names f →
     (n : ℕ) → IsFree (resolve c bound (names_after names f) f) n → IsFreeInPlace bound (place (names_after names f)) f n
+
+-- ---- missing forms
+
+-- the term has the cause, beside a number past the limit
+abbrev pub HasCause : Context → (List ℕ → ℕ) → TermTree → Missing → Type 0
+HasCause c number t Overflow = Unit {0}
+HasCause c number t Nonlinear = HasNonlinear c number t
+HasCause c number t Division = HasForbidden c number t
+
+-- a form that is not there for a cause other than a number past the limit has that cause somewhere in the term
+abbrev pub MissingHasCause : Type 0
+MissingHasCause = (c : Context) (number : List ℕ → ℕ) (t : TermTree) (e : Missing) → formed c number t ≡ Err e → HasCause c number t e

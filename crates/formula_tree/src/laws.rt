@@ -1,14 +1,16 @@
 // The laws of the fraction rule and of resolving. Each function does nothing; its contract is a law.
-ghost use Rattle.formula_tree.specs.ResolvedLaws.{CalculatedByRule, FormHasValue, ResolvingKeepsTruth, ResolvingIsNormal, ResolvingBringsNoName};
+ghost use Rattle.formula_tree.specs.ResolvedLaws.{CalculatedByRule, FormHasValue, MissingHasCause, ResolvingKeepsTruth, ResolvingIsNormal, ResolvingBringsNoName};
 
 /// What is calculated for a term at a point is the fraction rule taken for fractions.
 pub fn fractions_go_by_the_rule()
     ensures { CalculatedByRule }
 {}
 
-/// A form that is there has the value of its term at every point.
+/// A form that is there has the value of its term at every point. Where none is there though no number passes the
+/// limit, the term multiplies names or has a quotient that is not allowed.
 pub fn forms_have_values()
-    ensures { FormHasValue }
+    ensures value { FormHasValue }
+    ensures missing { MissingHasCause }
 {}
 
 /// Where no cause applies, a resolved formula has the truth of the written one at every point of the theory, its atoms

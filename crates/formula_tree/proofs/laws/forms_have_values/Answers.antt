@@ -1,5 +1,6 @@
 use Rattle.formula_tree.proofs.FormValues.{form_has_value}
+use Rattle.formula_tree.proofs.MissingForms.{missing_has_cause}
 use Rattle.formula_tree.proofs.laws.forms_have_values.Goals as goal
 
 pub returns : goal.returns
-returns c = form_has_value
+returns c = record { value = form_has_value; missing = missing_has_cause }
