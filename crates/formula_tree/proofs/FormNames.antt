@@ -29,10 +29,10 @@ use Rattle.exact_numbers.proofs.LeastMultiple.{lcm_is}
 use Rattle.std.specs.Ordering.{int_eq}
 
 -- the point at which each name is 0
-abbrev origin : NamedPoint
+abbrev pub origin : NamedPoint
 origin = record { at = λ x. pos 0; below = 1 }
 
-abbrev numbered_origin : Point ℕ
+abbrev pub numbered_origin : Point ℕ
 numbered_origin = record { at = λ x. pos 0; below = 1 }
 
 module _ (n : ℕ) where

@@ -15,3 +15,4 @@ pub mod WholeForms
 pub mod FormNames
 pub mod ResolvedNames
 pub mod MissingForms
+pub mod LowestForms

@@ -15,7 +15,7 @@ use Rattle.qe_syntax.specs.Value as written
 use Rattle.qe_syntax.specs.Rule.{calculated}
 use Rattle.formula_tree.specs.FractionRule.{by_rule, fractions}
 use Rattle.formula_tree.specs.Bindings.{bound_to}
-use Rattle.formula_tree.specs.RationalForms.{RationalForm, Missing, Overflow, Nonlinear, Division, formed}
+use Rattle.formula_tree.specs.RationalForms.{RationalForm, Missing, Overflow, Nonlinear, Division, IsLowestForm, formed}
 use Rattle.formula_tree.specs.Resolving.{BoundTrees, place, names_after, at_names, resolve, bound_truth, IsFreeInPlace}
 use Rattle.formula_tree.specs.Causes.{HasNonlinear, HasForbidden, IsAccepted}
 
@@ -42,6 +42,10 @@ pub record IsFormOf (t : TermTree) (p : NamedPoint) (q : Point ℕ) (v : Rationa
 abbrev pub FormHasValue : Type 0
 FormHasValue = (c : Context) (number : List ℕ → ℕ) (t : TermTree) (v : RationalForm) → formed c number t ≡ Ok v →
     (p : NamedPoint) (q : Point ℕ) → 0 < p.below → Numbered number (HasName t) p q → IsFormOf t p q v
+
+-- a form that is there is in lowest terms
+abbrev pub FormIsLowest : Type 0
+FormIsLowest = (c : Context) (number : List ℕ → ℕ) (t : TermTree) (v : RationalForm) → formed c number t ≡ Ok v → IsLowestForm v
 
 -- ---- resolved formulas
 
