@@ -16,3 +16,4 @@ pub mod FormNames
 pub mod ResolvedNames
 pub mod MissingForms
 pub mod LowestForms
+pub mod ResolvedHeight

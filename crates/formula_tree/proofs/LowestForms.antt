@@ -19,14 +19,12 @@ use Rattle.linear_forms.specs.Reduction.{quotient}
 use Rattle.linear_forms.proofs.Quotients.{coefficients_quotients, content_divided}
 use Rattle.qe_syntax.specs.declared.tree.Literal.{Literal}
 use Rattle.qe_syntax.specs.declared.tree.Literal.TheVariants.{Fits, Past}
-use Rattle.formula_tree.specs.FractionRule.{◌>>=◌}
 use Rattle.formula_tree.specs.RationalForms.{RationalForm, Missing, Overflow, Nonlinear, Division, numbers_of, formed_number, formed_form, lowest_form, IsLowestForm, is_constant, constant_form, constant_of, sum_of_forms, multiple_of_form, product_of_forms, quotient_of_forms, small_power, as_constant, power_of_form, opposite_form, variable_form, literal_form, forms}
 use Rattle.formula_tree.specs.ResolvedLaws.{Numbered, FormIsLowest}
 use Rattle.formula_tree.proofs.RuleLaw.{bind_ok, ok_same, KeepMeaning, rule_stands}
 use Rattle.formula_tree.proofs.FormSteps.{Stands, number_ok, content_not_zero, inverted_proper, zero_int_eq}
 use Rattle.formula_tree.proofs.FormValues.{forms_keep}
 use Rattle.formula_tree.proofs.FormNames.{origin, numbered_origin}
-use Rattle.qe_syntax.specs.Value.{HasName}
 
 lowest_lowest : (f : Form) (d : ℤ) → pos 0 <ℤ d → IsLowestForm (lowest_form f d)
 unfolding lowest_form quotient

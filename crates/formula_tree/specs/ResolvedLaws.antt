@@ -7,6 +7,7 @@ use Rattle.formula_meaning.specs.Point.{Point, Of}
 use Rattle.formula_meaning.specs.Form as form
 use Rattle.formula_meaning.specs.Sorted.{IsSorted}
 use Rattle.formula_meaning.specs.Every.{Every}
+use Rattle.formula_meaning.specs.Sizes.{height}
 use Rattle.formula_meaning.specs.Tree.{Tree, TrueAt, IsFree}
 use Rattle.atom_normal.specs.NormalForm.{IsNormal}
 use Rattle.qe_syntax.specs.Trees.{TermTree, FormulaTree}
@@ -17,7 +18,7 @@ use Rattle.formula_tree.specs.FractionRule.{by_rule, fractions}
 use Rattle.formula_tree.specs.Bindings.{bound_to}
 use Rattle.formula_tree.specs.RationalForms.{RationalForm, Missing, Overflow, Nonlinear, Division, IsLowestForm, formed}
 use Rattle.formula_tree.specs.Resolving.{BoundTrees, place, names_after, at_names, resolve, bound_truth, IsFreeInPlace}
-use Rattle.formula_tree.specs.Causes.{HasNonlinear, HasForbidden, IsAccepted}
+use Rattle.formula_tree.specs.Causes.{HasNonlinear, HasForbidden, height_in_place, IsAccepted}
 
 -- what is calculated for a term is the rule at fractions
 abbrev pub CalculatedByRule : Type 0
@@ -69,6 +70,10 @@ ResolvingIsNormal = (c : Context) (bound : BoundTrees) (names : List (List ℕ))
 abbrev pub ResolvingBringsNoName : Type 0
 ResolvingBringsNoName = (c : Context) (bound : BoundTrees) (names : List (List ℕ)) (f : FormulaTree) → IsAccepted c bound names f →
     (n : ℕ) → IsFree (resolve c bound (names_after names f) f) n → IsFreeInPlace bound (place (names_after names f)) f n
+
+-- A resolved formula is as high as the written one with the bound trees in their places.
+abbrev pub ResolvingKeepsHeight : Type 0
+ResolvingKeepsHeight = (c : Context) (bound : BoundTrees) (names : List (List ℕ)) (f : FormulaTree) → height (resolve c bound names f) ≡ height_in_place bound f
 
 -- ---- missing forms
 
