@@ -1,5 +1,5 @@
 -- Forms, causes and resolved formulas worked by hand. Each side is computed.
-use Rattle.std.proofs.Common.{◌≡◌, inl, inr, ⊎_elim, zero, suc, sym, subst, arith, Some, None, List, [], ◌∷◌, codes, true, refl, ℕ, lit≤}
+use Rattle.std.proofs.Common.{◌≡◌, bytes_eq, if◌then◌else◌, inl, inr, ⊎_elim, zero, suc, sym, subst, arith, Some, None, List, [], ◌∷◌, codes, true, refl, ℕ, lit≤}
 use Rattle.std.proofs.Math.IntN.{pos, negsuc}
 use Rattle.std.specs.Prelude.{◌^◌, ◌-ℤ◌, Ok, Err}
 use Rattle.exact_numbers.specs.Limit.{checked}
@@ -18,7 +18,8 @@ use Rattle.qe_syntax.specs.declared.tree.Relation.TheVariants.{Equal, Less, Grea
 use Rattle.qe_syntax.specs.Trees.{TermTree, Number, Named, Sum, Product, Quotient, Power, Negative, terms_of, Compare, Cong, Ncong, Bound, FormulaTree, formulas_of}
 use Rattle.formula_tree.specs.RationalForms.{Overflow, Nonlinear, Division, formed_number, formed_form, lowest_form, sum_of_forms, multiple_of_form, product_of_forms, quotient_of_forms, power_of_form, formed, variable_form, constant_form}
 use Rattle.formula_tree.specs.Bindings.{bound_to}
-use Rattle.formula_tree.specs.Resolving.{BoundTrees, place, names_after, resolve}
+use Rattle.qe_syntax.specs.Value.{NamedPoint}
+use Rattle.formula_tree.specs.Resolving.{BoundTrees, place, names_after, at_names, resolve}
 use Rattle.formula_tree.specs.Causes.{IsUnbound, NamesFormulaAsTerm, IsNonlinear, Divides, CongruenceInFields, IsBadModulus, IsTooDeep, OverflowsInReading, IsBound, IsAccepted, height_in_place}
 
 abbrev x : TermTree
@@ -175,6 +176,15 @@ integers_rounded : resolve Integers [] names (One (Compare AtLeast (times (numbe
 unfolding formed_number formed_form lowest_form sum_of_forms multiple_of_form product_of_forms gathered scale combine quotient residue_form normal_atom content_of gcd_of lcm_of euclid
 integers_rounded = refl
 
+-- x > 0 stays, over the integers too; 0*x*y = 0 is true
+integers_plain : resolve Integers [] names (One (Compare Greater x (number 0))) ≡ One (meaning.Compare meaning.Above (record { terms = record { times = pos 1; name = 0 } ∷ []; constant = pos 0 }))
+unfolding formed_number formed_form lowest_form sum_of_forms gathered scale combine quotient normal_atom content_of gcd_of lcm_of euclid
+integers_plain = refl
+
+fields_constant : resolve Fields [] names (One (Compare Equal (Product (terms_of (number 0 ∷ x ∷ y ∷ []))) (number 0))) ≡ Yes
+unfolding formed_number formed_form lowest_form sum_of_forms multiple_of_form product_of_forms gathered scale combine quotient normal_atom content_of gcd_of lcm_of euclid
+fields_constant = refl
+
 -- f is bound to x > 0; f or not f has its tree in both places
 abbrev positive : Tree
 positive = One (meaning.Compare meaning.Above (record { terms = record { times = pos 1; name = 0 } ∷ []; constant = pos 0 }))
@@ -197,6 +207,16 @@ text_order = refl
 -- names that have numbers keep them, and the name of a formula is no variable
 old_first : names_after (codes "x" ∷ []) (And (formulas_of (f ∷ One (Compare Less y x) ∷ []))) ≡ names
 old_first = refl
+
+-- at x = 1/2 the number 0 has 1/2, and a number without a name has 0
+abbrev half : NamedPoint
+half = record { at = λ name. if bytes_eq name (codes "x") then pos 1 else pos 0; below = 2 }
+
+x_at_half : (at_names names half).at 0 ≡ pos 1
+x_at_half = refl
+
+nothing_at_half : (at_names names half).at 7 ≡ pos 0
+nothing_at_half = refl
 
 -- ---- causes
 
