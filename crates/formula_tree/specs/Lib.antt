@@ -4,3 +4,9 @@ pub mod Trees
 pub mod Shapes
 pub mod Makers
 pub mod Quantified
+pub mod FractionRule
+pub mod RationalForms
+pub mod ResolvedLaws
+pub mod Somewhere
+pub mod Resolving
+pub mod Causes

@@ -2,12 +2,14 @@
 #![tactic(auto)]
 
 mod bindings;
+mod laws;
 mod maker;
 mod names;
 mod shape;
 mod tree;
 
 pub use bindings::{BindError, Bindings};
+pub use laws::{forms_have_values, fractions_go_by_the_rule, resolving_keeps_truth};
 pub use maker::{MakeError, Maker};
 pub use names::{Names, NamesError};
 pub use shape::{Ids, Shape};
