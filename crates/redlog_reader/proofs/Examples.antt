@@ -1,20 +1,21 @@
 -- Worked examples of the definitions. Each side is computed.
 use Rattle.std.proofs.Common.{◌≡◌, [], ◌∷◌, refl, codes}
-use Rattle.std.specs.Prelude.{pos, Some, None, List}
+use Rattle.std.specs.Prelude.{ℕ, ◌++◌, length, map, pos, Some, None, List}
 use Rattle.formula_meaning.specs.Formula.{One, Impl, Repl, Ex}
 use Rattle.qe_syntax.specs.Trees.{TermTree, Named, Product, Quotient, Negative, Sum, Bound, Compare, terms_of, FormulaTree}
 use Rattle.qe_syntax.specs.declared.tree.Literal.TheVariants.{Fits}
-use Rattle.qe_syntax.specs.declared.tree.Relation.TheVariants.{Equal}
+use Rattle.qe_syntax.specs.declared.tree.Relation.TheVariants.{Equal, Differs, Less, AtMost, Greater, AtLeast}
+use Rattle.redlog_reader.specs.declared.lexer.Front.{Front}
 use Rattle.redlog_reader.specs.declared.lexer.Front.TheVariants as found
 use Rattle.redlog_reader.specs.declared.token.TokenKind.TheVariants as token
 use Rattle.redlog_reader.specs.declared.terminal.Terminal.{Terminal}
 use Rattle.redlog_reader.specs.declared.terminal.Terminal.TheVariants as terminal
 use Rattle.redlog_reader.specs.declared.terminal.Mark.TheVariants as mark
 use Rattle.redlog_reader.specs.declared.terminal.Word.TheVariants as word
-use Rattle.redlog_reader.specs.Lexing.{front, literal_of, signed, worded}
-use Rattle.qe_syntax.specs.Names.{is_word}
+use Rattle.redlog_reader.specs.Lexing.{front, literal_of, long_signs, short_signs, signed, worded}
+use Rattle.qe_syntax.specs.Names.{is_word, keywords}
 use Rattle.redlog_reader.specs.Levels.{level, groups}
-use Rattle.redlog_reader.specs.Terminals.{word_of}
+use Rattle.redlog_reader.specs.Terminals.{sign_of, word_of}
 use Rattle.redlog_reader.specs.Reader.{formula_read, sum_read}
 
 -- 12x begins with the number 12
@@ -50,14 +51,36 @@ numbered : front 105 (codes "nfinity1") ≡ found.Token (Some (token.Word (codes
 unfolding front worded is_word
 numbered = refl
 
--- a word of the grammar, and one that begins no statement
-implication_word : word_of (codes "impl") ≡ word.Impl
-unfolding word_of
-implication_word = refl
+-- what stands at the front of a text
+abbrev front_of : List ℕ → Front
+front_of [] = found.Space 0
+front_of (b ∷ bs) = front b bs
 
-other_word : word_of (codes "rlassume") ≡ word.Other
+-- each word alone is a word, and each sign a sign
+all_words : map front_of keywords ≡ map (λ w. found.Token (Some (token.Word w)) (length w)) keywords
+unfolding front worded is_word
+all_words = refl
+
+all_signs : map front_of (long_signs ++ short_signs) ≡ map (λ s. found.Token (Some (token.Sign s)) (length s)) (long_signs ++ short_signs)
+unfolding front signed
+all_signs = refl
+
+-- the words as the grammar names them; those that begin no statement come from rlassume on
+grammar_words : map word_of keywords
+    ≡ word.True ∷ word.False ∷ word.Not ∷ word.And ∷ word.Or ∷ word.Impl ∷ word.Repl ∷ word.Equiv ∷ word.Ex ∷ word.All ∷ word.Cong ∷ word.Ncong ∷ word.Neq
+    ∷ word.Set ∷ word.Nnf ∷ word.Pnf ∷ word.Dnf ∷ word.Cnf ∷ word.Simpl ∷ word.Qe ∷ word.Qea ∷ word.Holds ∷ word.Witness
+    ∷ word.Other ∷ word.Other ∷ word.Other ∷ word.Other ∷ word.Other ∷ word.Other ∷ word.Load ∷ word.On ∷ word.Off ∷ word.End ∷ word.Bye ∷ word.Quit ∷ []
 unfolding word_of
-other_word = refl
+grammar_words = refl
+
+-- the signs as the grammar names them
+grammar_signs : map sign_of (long_signs ++ short_signs)
+    ≡ terminal.Mark mark.Power ∷ terminal.Mark mark.Assign ∷ terminal.Relation Differs ∷ terminal.Relation AtMost ∷ terminal.Relation AtLeast
+    ∷ terminal.Mark mark.Plus ∷ terminal.Mark mark.Minus ∷ terminal.Mark mark.Times ∷ terminal.Mark mark.Slash ∷ terminal.Mark mark.Power
+    ∷ terminal.Mark mark.Open ∷ terminal.Mark mark.Close ∷ terminal.Mark mark.OpenBrace ∷ terminal.Mark mark.CloseBrace ∷ terminal.Mark mark.Comma
+    ∷ terminal.Mark mark.Semicolon ∷ terminal.Mark mark.Dollar ∷ terminal.Relation Equal ∷ terminal.Relation Less ∷ terminal.Relation Greater ∷ []
+unfolding sign_of
+grammar_signs = refl
 
 -- the levels of tokens, of which the last comes first
 abbrev opening : Terminal

@@ -73,7 +73,7 @@ of_sign P bytes = chosen_sign P (is_one_of (take 2 bytes) long_signs) (is_one_of
 signed_size : (bytes : List ℕ) → 0 < size (signed bytes)
 signed_size bytes = of_sign (λ f. 0 < size f) bytes (omega arith) (omega arith) (omega arith)
 
-front_size : (b : ℕ) (bs : List ℕ) → 0 < size (front b bs)
+pub front_size : (b : ℕ) (bs : List ℕ) → 0 < size (front b bs)
 front_size b bs = of_front (λ f. 0 < size f) b bs (omega arith) (omega arith) (omega arith) (omega arith) (signed_size (b ∷ bs))
 
 next_lexes : (fuel : ℕ) (b : ℕ) (bs : List ℕ) (at : ℕ) (f : Front) → front b bs ≡ f → ((n : ℕ) → size f ≡ n → (ts : List Lexeme) × Lexes (drop n (b ∷ bs)) (at + n) ts) → (ts : List Lexeme) × Lexes (b ∷ bs) at ts

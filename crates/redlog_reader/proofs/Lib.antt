@@ -14,6 +14,7 @@ pub mod Lexemes
 pub mod PieceLemmas
 pub mod Counts
 pub mod Lexed
+pub mod Longest
 pub mod Whole
 pub mod Cutting
 pub mod Examples

@@ -1,6 +1,6 @@
 -- What bytes spell as tokens: the longest token each time, with blanks and comments between tokens dropped.
-use Rattle.std.specs.Prelude.{◌≡◌, ℕ, ◌+◌, ◌-◌, ◌*◌, ◌^◌, Bool, not, ◌||◌, List, [], ◌∷◌, length, map, ◌⊎◌, take, drop, codes, nat_lt, ◌==◌, if◌then◌else◌, Option, Some, None, pos}
-use Rattle.std.specs.List.{prefix_len}
+use Rattle.std.specs.Prelude.{◌≡◌, ℕ, ◌+◌, ◌-◌, ◌*◌, ◌^◌, ◌≤◌, Bool, false, true, not, ◌&&◌, ◌||◌, List, [], ◌∷◌, length, map, ◌⊎◌, take, drop, codes, nat_lt, ◌==◌, if◌then◌else◌, Option, Some, None, pos}
+use Rattle.std.specs.List.{prefix_len, list_all}
 use Rattle.qe_syntax.specs.Names.{is_digit, is_letter, is_name_part, is_one_of, is_word}
 use Rattle.qe_syntax.specs.declared.tree.Literal.{Literal}
 use Rattle.qe_syntax.specs.declared.tree.Literal.TheVariants.{Fits, Past}
@@ -109,3 +109,22 @@ LexicalWhere cause.Memory P = Unit {0}
 LexicalWhere cause.Long P = ⊥
 LexicalWhere cause.Nesting P = ⊥
 LexicalWhere cause.Syntax P = ⊥
+
+-- the text is a token's, good or of a name that is too long: a number is digits, a name or word a letter and then name parts
+abbrev pub is_token_text : List ℕ → Bool
+is_token_text [] = false
+is_token_text (b ∷ bs) =
+    (is_digit b && list_all is_digit bs) || ((is_letter b && list_all is_name_part bs) || (is_one_of (b ∷ bs) long_signs || is_one_of (b ∷ bs) short_signs))
+
+-- the bytes begin with a token of this many bytes
+pub record BeginWithToken (bytes : List ℕ) (n : ℕ) : Type 0 where
+  pub within : n ≤ length bytes
+  pub token : is_token_text (take n bytes) ≡ true
+
+-- no longer token begins at the place of this one
+abbrev pub IsLongest : List ℕ → Lexeme → Type 0
+IsLongest script t = (n : ℕ) → BeginWithToken (drop t.start script) n → t.start + n ≤ t.end
+
+abbrev pub AreLongest : List ℕ → List Lexeme → Type 0
+AreLongest script [] = Unit {0}
+AreLongest script (t ∷ ts) = IsLongest script t × AreLongest script ts

@@ -70,7 +70,7 @@ impl Levels {
 
     /// The level of the last token.
     fn level(&self) -> usize
-        requires { count self.now ≤ 4096 }
+        requires { count self.now ≤ 1538 }
         ensures { result ≡ count self.now }
     {
         self.total + weight(&self.inmost) + self.run
@@ -80,7 +80,7 @@ impl Levels {
     fn take(&mut self, terminal: &Terminal) -> Result<(), AllocError>
         requires { IsSmall self.old }
         ensures total { OnOk result (IsTotal self.new) }
-        ensures bound { OnOk result (count self.new ≤ 4096) }
+        ensures bound { OnOk result (count self.new ≤ 1538) }
         ensures held { OnOk result (self.new.held ≤ 512) }
         ensures taken { OnOk result ((before : List Terminal) → AreLevels self.old before → AreLevels self.new (terminal.now ∷ before)) }
     {
@@ -97,7 +97,7 @@ impl Levels {
         ensures run { OnOk result (self.new.run ≡ self.old.run) }
         ensures held { OnOk result (self.new.held ≡ self.old.held) }
         ensures total { OnOk result (IsTotal self.new) }
-        ensures bound { OnOk result (self.new.total + weight self.new.inmost ≤ 2048) }
+        ensures bound { OnOk result (self.new.total + weight self.new.inmost ≤ 1025) }
         ensures stack { OnOk result (stack self.new ≡ changed (change_of terminal.now) (self.old.run + self.old.held) terminal.now (stack self.old)) }
     {
         match change_of(terminal) {
@@ -120,7 +120,7 @@ impl Levels {
         ensures run { OnOk result (self.new.run ≡ self.old.run) }
         ensures held { OnOk result (self.new.held ≡ self.old.held) }
         ensures total { OnOk result (IsTotal self.new) }
-        ensures bound { OnOk result (self.new.total + weight self.new.inmost ≤ 2048) }
+        ensures bound { OnOk result (self.new.total + weight self.new.inmost ≤ 1025) }
         ensures stack { OnOk result (stack self.new ≡ record { opened = suc (self.old.run + self.old.held); arrows = 0; slashes = 0 } ∷ stack self.old) }
     {
         let group = self.inmost;
@@ -196,7 +196,7 @@ fn run_after(terminal: &Terminal, run: usize) -> usize
 
 /// What counts in the group.
 fn weight(group: &Group) -> usize
-    requires { weight group.now ≤ 4096 }
+    requires { weight group.now ≤ 1538 }
     ensures { result ≡ weight group.now }
 {
     group.opened + group.arrows + group.slashes

@@ -220,12 +220,7 @@ fn is_numbered(text: &[u8], beginning: &str) -> bool
 fn are_digits(text: &[u8]) -> bool
     ensures { result ≡ list_all is_digit text.now }
 {
-    'digits: for b in text {
-        if !is_digit(*b) {
-            return false;
-        }
-    }
-    true
+    text.iter().all(|b| is_digit(*b))
 }
 
 /// Whether the text is one of the words.

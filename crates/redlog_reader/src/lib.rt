@@ -20,5 +20,5 @@ mod tests;
 mod token;
 
 pub use piece::{Piece, next_piece};
-pub use read::{one_piece, one_statement, read_statement, tokens};
+pub use read::{longest_tokens, one_piece, one_statement, read_statement, tokens};
 pub use token::{ReadError, Token, TokenKind, Tokens};

@@ -1,7 +1,8 @@
 ghost use Rattle.std.specs.Prelude.{◌≡◌, ℕ, ◌⊎◌, List, IfOk, IfErr};
 ghost use Rattle.qe_syntax.specs.Proper.{IsProper};
 ghost use Rattle.qe_syntax.specs.Statements.{StatementTree, statement_tree};
-ghost use Rattle.redlog_reader.specs.Lexing.{AreTokens, IsLexical, LexicalWhere};
+ghost use Rattle.redlog_reader.specs.declared.lexer.Lexeme.{Lexeme};
+ghost use Rattle.redlog_reader.specs.Lexing.{Lexes, AreTokens, AreLongest, IsLexical, LexicalWhere};
 ghost use Rattle.redlog_reader.specs.Pieces.{HasNoTokenFrom, IsPiece};
 ghost use Rattle.redlog_reader.specs.Statement.{Spells, Unread};
 
@@ -53,6 +54,11 @@ pub fn read_statement(alloc: Global, bytes: &[u8]) -> Result<Statement, ReadErro
     let statement = statement(alloc, tokens.items())?;
     Ok(statement)
 }
+
+/// No longer token begins at the place of one that the bytes spell.
+pub fn longest_tokens()
+    ensures { (bytes : List ℕ) (ts : List Lexeme) → Lexes bytes 0 ts → AreLongest bytes ts }
+{}
 
 /// From each place on a script has no token or a next piece, never both, and the next piece is one.
 pub fn one_piece()
