@@ -1,13 +1,16 @@
 -- Worked examples of the definitions, by hand. Each side is computed. The names x, a and b are 0, 1 and 2.
-use Rattle.std.proofs.Common.{◌≡◌, true, false, List, [], ◌∷◌, map, refl}
-use Rattle.std.proofs.Math.IntN.{ℤ, pos, negsuc}
-use Rattle.exact_numbers.specs.Divides.{content_of, gcd_of, lcm_of, euclid}
-use Rattle.formula_meaning.specs.Context.{Fields, Integers}
+use Rattle.std.proofs.Common.{◌≡◌, ℕ, true, false, List, [], ◌∷◌, map, refl, arith, inl, inr}
+use Rattle.std.proofs.Math.IntN.{ℤ, pos, negsuc, neg_ℤ}
+use Rattle.std.proofs.lemmas.Int.{ints}
+use Rattle.exact_numbers.specs.Divides.{Divides, content_of, gcd_of, lcm_of, euclid}
+use Rattle.formula_meaning.specs.Context.{Context, Fields, Integers}
+use Rattle.formula_meaning.specs.Point.{Point, move}
 use Rattle.formula_meaning.specs.Formula.{Yes, No, One, And}
 use Rattle.formula_meaning.specs.NegationNormal.{both}
-use Rattle.formula_meaning.specs.Form.{Form, coefficient, without, scale, combine, plus}
+use Rattle.formula_meaning.specs.Form.{Form, coefficient, without, scale, combine, plus, value}
 use Rattle.formula_meaning.specs.Atom.{Relation, Equals, Differs, Below, AtMost, Above, AtLeast, Atom, Compare, Congruent}
 use Rattle.formula_meaning.specs.Answer.{Exact, AboveBy, BelowBy, MinusInfinity, Periodic}
+use Rattle.formula_meaning.specs.Tree.{Tree}
 use Rattle.elimination_theory.specs.Side.{Lower, Upper}
 use Rattle.elimination_theory.specs.FieldsExample.{open_interval, named, difference, multiple_of}
 use Rattle.elimination_theory.specs.Substitution.{beyond, form_at}
@@ -15,7 +18,9 @@ use Rattle.elimination_theory.specs.FieldsPoints.{form_over, comparison_points, 
 use Rattle.elimination_theory.specs.FieldsSubstitution.{beside}
 use Rattle.elimination_theory.specs.IntegersSubstitution.{integer_atom}
 use Rattle.elimination_theory.specs.IntegersPoints.{scale_of, own_span, comparison_starts, integer_count_of}
-use Rattle.elimination_theory.specs.Steps.{step}
+use Rattle.elimination_theory.specs.IntegersSample.{IsIntegerSample}
+use Rattle.elimination_theory.specs.Samples.{form_with, tree_with, KeepsPeriods}
+use Rattle.elimination_theory.specs.Steps.{IsNormaliser, step}
 
 abbrev relations : List Relation
 relations = Equals ∷ Differs ∷ Below ∷ AtMost ∷ Above ∷ AtLeast ∷ []
@@ -153,3 +158,42 @@ step_for_an_interval = refl
 step_downwards : step Integers (λ a. One a) Lower 0 (One (Compare AtMost (difference 0 1))) ≡ record { place = Periodic (pos 1) (negsuc 0); tree = Yes } ∷ []
 unfolding lcm_of gcd_of euclid coefficient without scale plus combine
 step_downwards = refl
+
+-- ---- samples over the integers: y = 3 and 2 * x <= y, where y is found to be 3
+
+abbrev three_and_twice : Tree
+three_and_twice = And (both (One (Compare Equals (record { terms = multiple_of (pos 1) 1 ∷ []; constant = negsuc 2 })))
+    (One (Compare AtMost (record { terms = multiple_of (pos 2) 0 ∷ multiple_of (negsuc 0) 1 ∷ []; constant = pos 0 }))))
+
+abbrev at_three : Point ℕ
+at_three = record { at = λ name. pos 3; below = 1 }
+
+-- n * x + m
+abbrev x_form : ℤ → ℤ → Form
+x_form n m = record { terms = multiple_of n 0 ∷ []; constant = m }
+
+-- with 3 for y, and atoms as they are: 0 * x + 0 = 0 and 2 * x - 3 <= 0
+three_put_in : tree_with (λ a. One a) 0 at_three three_and_twice ≡ And (both (One (Compare Equals (x_form (pos 0) (pos 0)))) (One (Compare AtMost (x_form (pos 2) (negsuc 2)))))
+unfolding form_with coefficient without value
+three_put_in = refl
+
+minus_one_divides : (a : ℤ) → Divides (negsuc 0) a
+minus_one_divides a = record { quotient = neg_ℤ a; exact = omega (arith, ints) }
+
+-- 2 * x - 3 <= 0 is x - 1 <= 0 in normal form: far below in the class of 1 the first number below 1 is 0
+first_below_one : IsIntegerSample 0 (Periodic (pos 1) (negsuc 0)) (One (Compare AtMost (x_form (pos 1) (negsuc 0)))) at_three (pos 0)
+unfolding coefficient value move
+first_below_one = inr (inl (λ (e : pos 1 ≡ pos 0). omega (arith, ints)), (minus_one_divides _, omega (arith, ints)), λ w h. let l = h.1 in omega (arith, ints, l))
+
+-- as it was, below 3/2, it would be 1
+first_below_three_halves : IsIntegerSample 0 (Periodic (pos 1) (negsuc 0)) (One (Compare AtMost (x_form (pos 2) (negsuc 2)))) at_three (pos 1)
+unfolding coefficient value move
+first_below_three_halves = inr (inl (λ (e : pos 2 ≡ pos 0). omega (arith, ints)), (minus_one_divides _, omega (arith, ints)), λ w h. let l = h.1 in omega (arith, ints, l))
+
+-- ---- leaving atoms as they are is a normal form that the theorems allow
+
+as_it_is : (c : Context) → IsNormaliser c (λ a. One a)
+as_it_is c = record { atomic = λ a i. tt; in_context = λ a i. i; equivalent = λ a i p o. (λ t. t, λ t. t); names = λ a y i t. t }
+
+periods_as_they_are : KeepsPeriods Integers (λ a. One a)
+periods_as_they_are a x q i h = h

@@ -37,7 +37,7 @@ pub mod IntegerCount
 pub mod FieldsNames
 pub mod IntegersNames
 pub mod FieldsUnique
-pub mod Reduced
+pub mod PointsLowest
 pub mod Simple
 pub mod Meets
 pub mod BothSubstitutions
@@ -48,3 +48,4 @@ mod Examples
 pub mod SentenceExample
 pub mod Overflow
 pub mod AnswersExample
+pub mod Becoming

@@ -2,12 +2,12 @@
 use Rattle.std.specs.Prelude.{ℕ, ◌⊎◌, ◌↔◌}
 use Rattle.formula_meaning.specs.Context.{Context, Fields}
 use Rattle.formula_meaning.specs.Point.{Point, Of}
-use Rattle.formula_meaning.specs.Formula.{Ex, All, Not}
+use Rattle.formula_meaning.specs.Formula.{Ex, All, Not, none, also}
 use Rattle.formula_meaning.specs.Shape.{IsPlain}
 use Rattle.formula_meaning.specs.Every.{Every}
 use Rattle.formula_meaning.specs.Atom.{Atom, AtomIn, opposite}
 use Rattle.formula_meaning.specs.NegationNormal.{normal_form, normal_form_of_not}
-use Rattle.formula_meaning.specs.Tree.{Tree, TrueAt, InContext, IsFree, Equivalent, IsNegation}
+use Rattle.formula_meaning.specs.Tree.{Tree, Trees, TrueAt, InContext, IsFree, Equivalent, IsNegation}
 use Rattle.elimination_theory.specs.Side.{Side}
 use Rattle.elimination_theory.specs.Elimination.{field_elimination}
 
@@ -17,6 +17,12 @@ pub record IsEliminated (c : Context) (f g : Tree) : Type 0 where
   pub in_context : InContext c g
   pub equivalent : Equivalent c f g
   pub names : (y : ℕ) → IsFree g y → IsFree f y
+
+-- member by member
+abbrev pub AreEliminated : Context → Trees → Trees → Type 0
+AreEliminated c none none = Unit {0}
+AreEliminated c (also f fs) (also g gs) = IsEliminated c f g × AreEliminated c fs gs
+AreEliminated c _ _ = ⊥
 
 -- one quantifier over a formula built by and and or can be eliminated
 abbrev pub QuantifierIsEliminated : Context → Type 0

@@ -1,5 +1,5 @@
 -- Test points of the ordered fields (Loos and Weispfenning): ends of intervals, infinitesimals beside them, and an infinity.
-use Rattle.std.specs.Prelude.{◌≡◌, ℕ, suc, zero, ◌/◌, ℤ, pos, negsuc, List, [], ◌∷◌, map, flat_map, unsigned_abs, int_div}
+use Rattle.std.specs.Prelude.{◌≡◌, ℕ, suc, zero, ◌/◌, ℤ, pos, negsuc, List, [], ◌∷◌, flat_map, unsigned_abs, int_div}
 use Rattle.exact_numbers.specs.Divides.{content_of}
 use Rattle.formula_meaning.specs.Some.{SomeOf}
 use Rattle.formula_meaning.specs.Form.{Form, Term, coefficient, without, scale, coefficients}

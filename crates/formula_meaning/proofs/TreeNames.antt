@@ -1,4 +1,4 @@
--- The free names of a tree, as a list.
+-- The free names of a tree, as a list; and the test of equality of trees.
 use Rattle.std.proofs.Common.{◌≡◌, ◌<◌, ℕ, true, List, [], ◌∷◌, map, sym, ◌∙◌, subst, refl, arith, inl, inr, ◌↔◌, nat_eq, eqb-true}
 use Rattle.std.proofs.Math.IntN.{pos}
 use Rattle.std.proofs.lemmas.Bool.{eq-eqb, cases_eq}
@@ -6,11 +6,14 @@ use Rattle.formula_meaning.specs.Some.{Among}
 use Rattle.formula_meaning.specs.Form.{Form, Term, multiple, coefficient}
 use Rattle.formula_meaning.specs.Sorted.{AllAbove, IsRising, AllNonzero, IsSorted, gathered}
 use Rattle.formula_meaning.specs.Atom.{Atom, Mentions, form_of}
-use Rattle.formula_meaning.specs.Tree.{atom_names}
-use Rattle.formula_meaning.specs.Laws.{FreeNamesAreListed}
+use Rattle.formula_meaning.specs.Tree.{Tree, atom_names}
+use Rattle.formula_meaning.specs.Laws.{FreeNamesAreListed, EqualityIsTested}
 use Rattle.formula_meaning.proofs.Sorted.{here, elsewhere}
 use Rattle.formula_meaning.proofs.Gathered.{gathered_sorted, coefficient_gathered}
-use Rattle.formula_meaning.proofs.Sizes.{free_name_is}
+use Rattle.formula_meaning.proofs.Sizes.{free_name_is, formula_same, formula_alike}
+use Rattle.formula_meaning.specs.Same.{same_atom}
+use Rattle.formula_meaning.specs.Sizes.{same_formula}
+use Rattle.formula_meaning.proofs.Same.{atom_same, atom_alike}
 
 abbrev names : List Term → List ℕ
 names ts = map (λ (t : Term). t.name) ts
@@ -53,3 +56,9 @@ name_alike x = eq-eqb x x refl
 
 pub names_listed : FreeNamesAreListed
 names_listed f x = free_name_is nat_eq name_sound name_alike atom_names Mentions atom_name_is f x
+
+pub equality_tested : EqualityIsTested
+equality_tested f g = (
+  formula_same same_atom nat_eq atom_same name_sound f g,
+  λ e. subst (λ (h : Tree). same_formula same_atom nat_eq f h ≡ true) e (formula_alike same_atom nat_eq atom_alike name_alike f),
+)

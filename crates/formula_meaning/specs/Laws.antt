@@ -1,17 +1,20 @@
 -- What is proved of truth, as statements that the functions of this crate promise.
-use Rattle.std.specs.Prelude.{ℕ, ◌≤◌, ◌↔◌}
+use Rattle.std.specs.Prelude.{◌≡◌, ℕ, ◌≤◌, ◌↔◌, true, length, nat_eq}
 use Rattle.formula_meaning.specs.Context.{Context}
 use Rattle.formula_meaning.specs.Point.{Point, Of, AgreeOn, IsSamePoint}
+use Rattle.formula_meaning.specs.Form.{Form, coefficient, value}
+use Rattle.formula_meaning.specs.Sorted.{IsSorted, gathered}
+use Rattle.formula_meaning.specs.Same.{same_atom}
 use Rattle.formula_meaning.specs.Formula.{One, Not, And, Or, Impl, Repl, Equiv, Ex, All}
 use Rattle.formula_meaning.specs.Every.{Every}
 use Rattle.formula_meaning.specs.Atom.{Atom, Mentions}
 use Rattle.formula_meaning.specs.Some.{Among}
-use Rattle.formula_meaning.specs.Sizes.{nodes}
+use Rattle.formula_meaning.specs.Sizes.{nodes, height, subtrees, same_formula}
 use Rattle.formula_meaning.specs.Fold.{folded}
 use Rattle.formula_meaning.specs.Replaced.{replaced}
 use Rattle.formula_meaning.specs.Shape.{IsNegationNormal, IsPlain}
 use Rattle.formula_meaning.specs.NegationNormal.{normal_form, normal_form_of_not}
-use Rattle.formula_meaning.specs.Tree.{Tree, Trees, TrueAt, InContext, IsFree, Equivalent, AreEquivalent, each_ex, each_all, tree_names}
+use Rattle.formula_meaning.specs.Tree.{Tree, Trees, TrueAt, InContext, IsFree, Equivalent, AreEquivalent, each_ex, each_all, tree_names, tree_distinct}
 
 -- a tree has the same truth at every representation of a rational point
 abbrev pub SamePointKeepsTruth : Type 0
@@ -74,3 +77,25 @@ pub record FoldingBringsNothing (f : Tree) : Type 0 where
 -- the names of the list of free names are the free ones
 abbrev pub FreeNamesAreListed : Type 0
 FreeNamesAreListed = (f : Tree) (x : ℕ) → Among (tree_names f) x ↔ IsFree f x
+
+-- the sorted form has the coefficients, the constant and the values of the form, and is the form where that is sorted
+pub record GatheringIsExact (f : Form) : Type 0 where
+  pub sorted : IsSorted (gathered f)
+  pub same_coefficients : (x : ℕ) → coefficient x (gathered f) ≡ coefficient x f
+  pub same_constant : (gathered f).constant ≡ f.constant
+  pub same_values : (p : Point ℕ) → value (gathered f) p ≡ value f p
+  pub itself : IsSorted f → gathered f ≡ f
+
+-- a sorted form is its coefficients and its constant
+abbrev pub SortedFormIsDetermined : Type 0
+SortedFormIsDetermined = (f g : Form) → IsSorted f → IsSorted g → ((x : ℕ) → coefficient x f ≡ coefficient x g) → f.constant ≡ g.constant → f ≡ g
+
+-- there are as many subtrees with repeats as nodes, and no more without; no tree is higher than it has nodes
+pub record SizesAgree (f : Tree) : Type 0 where
+  pub with_repeats : length (subtrees f) ≡ nodes f
+  pub without_repeats : tree_distinct f ≤ nodes f
+  pub height_at_most : height f ≤ nodes f
+
+-- the test of equality is true of equal trees alone
+abbrev pub EqualityIsTested : Type 0
+EqualityIsTested = (f g : Tree) → (same_formula same_atom nat_eq f g ≡ true) ↔ (f ≡ g)

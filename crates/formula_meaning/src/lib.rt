@@ -2,8 +2,9 @@
 #![tactic(auto)]
 
 ghost use Rattle.formula_meaning.specs.Context.{Context};
+ghost use Rattle.formula_meaning.specs.Form.{Form};
 ghost use Rattle.formula_meaning.specs.Tree.{Tree};
-ghost use Rattle.formula_meaning.specs.Laws.{SamePointKeepsTruth, FreeNamesDecideTruth, ReplacingKeepsTruth, NegationNormalFormIsNormal, NegationNormalFormBringsNoName, NegationNormalFormLosesNoName, EquivalenceIsCongruence, QuantifiersDistribute, AbsentNameIsDropped, FoldingKeepsTruth, FoldingBringsNothing, FreeNamesAreListed};
+ghost use Rattle.formula_meaning.specs.Laws.{SamePointKeepsTruth, FreeNamesDecideTruth, ReplacingKeepsTruth, NegationNormalFormIsNormal, NegationNormalFormBringsNoName, NegationNormalFormLosesNoName, EquivalenceIsCongruence, QuantifiersDistribute, AbsentNameIsDropped, FoldingKeepsTruth, FoldingBringsNothing, FreeNamesAreListed, GatheringIsExact, SortedFormIsDetermined, SizesAgree, EqualityIsTested};
 
 /// A tree has the same truth at every representation of a rational point.
 pub fn same_point_keeps_truth()
@@ -64,4 +65,24 @@ pub fn folding_brings_nothing()
 /// The list of free names that is computed has the free names.
 pub fn free_names_are_listed()
     ensures { FreeNamesAreListed }
+{}
+
+/// The sorted form has the coefficients, the constant and the values of the form, and is the form where that is sorted.
+pub fn gathering_is_exact()
+    ensures { (f : Form) → GatheringIsExact f }
+{}
+
+/// A sorted form is determined by its coefficients and its constant.
+pub fn sorted_form_is_determined()
+    ensures { SortedFormIsDetermined }
+{}
+
+/// Nodes, subtrees, different subtrees and height of a tree agree.
+pub fn sizes_agree()
+    ensures { (f : Tree) → SizesAgree f }
+{}
+
+/// The test of equality of trees is true of equal trees alone.
+pub fn equality_is_tested()
+    ensures { EqualityIsTested }
 {}

@@ -1,5 +1,5 @@
 -- A test point of the fields is in lowest terms: 1 is the greatest common divisor of all its numbers.
-use Rattle.std.proofs.Common.{◌≡◌, ℕ, zero, suc, ◌<◌, ◌/◌, List, [], ◌∷◌, map, flat_map, ap, sym, subst, arith, unsigned_abs, int_div, inl, inr}
+use Rattle.std.proofs.Common.{◌≡◌, ℕ, zero, suc, ◌<◌, ◌/◌, List, [], ◌∷◌, flat_map, ap, sym, subst, arith, unsigned_abs, int_div, inl, inr}
 use Rattle.std.proofs.Math.IntN.{ℤ, pos, negsuc, ◌*ℤ◌}
 use Rattle.std.specs.Prelude.{◌<ℤ◌, ◌≤ℤ◌}
 use Rattle.std.proofs.lemmas.Int.{ints}
@@ -35,8 +35,8 @@ all_divide g h e d n a b = (quotient_divides (pos g) h (pos d) n a.0 b.0, (quoti
 only_one : (h : ℤ) → pos 0 ≤ℤ h → ¬ (h ≡ pos 0) → h ≤ℤ pos 1 → h ≡ pos 1
 only_one h p n l = by_order h (pos 0) (λ (k : h <ℤ pos 0). absurd (omega (arith, ints))) (λ e. absurd (n e)) (λ (k : pos 0 <ℤ h). omega (arith, ints))
 
-reduced_content : (e : Form) (d : ℕ) → 0 < d → content_of (numbers_of (form_over (divisor_of e d) e) (d / divisor_of e d)) ≡ pos 1
-reduced_content e d pd =
+content_is_one : (e : Form) (d : ℕ) → 0 < d → content_of (numbers_of (form_over (divisor_of e d) e) (d / divisor_of e d)) ≡ pos 1
+content_is_one e d pd =
     let l = lowest e d pd in
     let c = content_is (numbers_of e d) in
     let k = content_is (numbers_of (form_over (divisor_of e d) e) (d / divisor_of e d)) in
@@ -53,46 +53,46 @@ reduced_content e d pd =
     positive_not_zero : (a : ℤ) → pos 0 <ℤ a → ¬ (a ≡ pos 0)
     positive_not_zero a p z = absurd (omega (arith, ints))
 
-reduced : (e : Form) (d : ℕ) → 0 < d → divisor_of (form_over (divisor_of e d) e) (d / divisor_of e d) ≡ 1
-reduced e d pd = ap unsigned_abs (reduced_content e d pd)
+form_lowest : (e : Form) (d : ℕ) → 0 < d → divisor_of (form_over (divisor_of e d) e) (d / divisor_of e d) ≡ 1
+form_lowest e d pd = ap unsigned_abs (content_is_one e d pd)
 
 -- ---- the points of the lists
 
 along : {s t : Place} → s ≡ t → IsInLowestTerms s → IsInLowestTerms t
 along e h = subst IsInLowestTerms e h
 
-beside_reduced : (side : Side) (e : Form) (d : ℕ) → 0 < d → IsInLowestTerms (beside_point side e d)
-beside_reduced Lower e d h = reduced e d h
-beside_reduced Upper e d h = reduced e d h
+beside_lowest : (side : Side) (e : Form) (d : ℕ) → 0 < d → IsInLowestTerms (beside_point side e d)
+beside_lowest Lower e d h = form_lowest e d h
+beside_lowest Upper e d h = form_lowest e d h
 
-end_reduced : (side : Side) (r : Relation) (e : Form) (d : ℕ) → 0 < d → (s : Place) → Among (ends_of side r e d) s → IsInLowestTerms s
-end_reduced side Equals e d h s (inl i) = along i (reduced e d h)
-end_reduced side Equals e d h s (inr i) = absurd i
-end_reduced side Differs e d h s (inl i) = along i (beside_reduced side e d h)
-end_reduced side Differs e d h s (inr i) = absurd i
-end_reduced side Below e d h s i = absurd i
-end_reduced side AtMost e d h s i = absurd i
-end_reduced side Above e d h s (inl i) = along i (beside_reduced side e d h)
-end_reduced side Above e d h s (inr i) = absurd i
-end_reduced side AtLeast e d h s (inl i) = along i (reduced e d h)
-end_reduced side AtLeast e d h s (inr i) = absurd i
+end_lowest : (side : Side) (r : Relation) (e : Form) (d : ℕ) → 0 < d → (s : Place) → Among (ends_of side r e d) s → IsInLowestTerms s
+end_lowest side Equals e d h s (inl i) = along i (form_lowest e d h)
+end_lowest side Equals e d h s (inr i) = absurd i
+end_lowest side Differs e d h s (inl i) = along i (beside_lowest side e d h)
+end_lowest side Differs e d h s (inr i) = absurd i
+end_lowest side Below e d h s i = absurd i
+end_lowest side AtMost e d h s i = absurd i
+end_lowest side Above e d h s (inl i) = along i (beside_lowest side e d h)
+end_lowest side Above e d h s (inr i) = absurd i
+end_lowest side AtLeast e d h s (inl i) = along i (form_lowest e d h)
+end_lowest side AtLeast e d h s (inr i) = absurd i
 
-comparison_reduced : (side : Side) (c : ℤ) (r : Relation) (t : Form) (s : Place) → Among (comparison_points side c r t) s → IsInLowestTerms s
-comparison_reduced side (pos zero) r t s h = absurd h
-comparison_reduced side (pos (suc n)) r t s h = end_reduced side (turned side r) (scale (negsuc 0) t) (suc n) (omega arith) s h
-comparison_reduced side (negsuc n) r t s h = end_reduced side (turned side (mirrored r)) t (suc n) (omega arith) s h
+comparison_lowest : (side : Side) (c : ℤ) (r : Relation) (t : Form) (s : Place) → Among (comparison_points side c r t) s → IsInLowestTerms s
+comparison_lowest side (pos zero) r t s h = absurd h
+comparison_lowest side (pos (suc n)) r t s h = end_lowest side (turned side r) (scale (negsuc 0) t) (suc n) (omega arith) s h
+comparison_lowest side (negsuc n) r t s h = end_lowest side (turned side (mirrored r)) t (suc n) (omega arith) s h
 
-atom_reduced : (side : Side) (x : ℕ) (a : Atom) (s : Place) → Among (atom_points side x a) s → IsInLowestTerms s
-atom_reduced side x (Compare r f) s h = comparison_reduced side (coefficient x f) r (without x f) s h
-atom_reduced side x (Congruent holds n f) s h = absurd h
+atom_lowest : (side : Side) (x : ℕ) (a : Atom) (s : Place) → Among (atom_points side x a) s → IsInLowestTerms s
+atom_lowest side x (Compare r f) s h = comparison_lowest side (coefficient x f) r (without x f) s h
+atom_lowest side x (Congruent holds n f) s h = absurd h
 
-infinity_reduced : (side : Side) → IsInLowestTerms (infinity_of side)
-infinity_reduced Lower = tt
-infinity_reduced Upper = tt
+infinity_lowest : (side : Side) → IsInLowestTerms (infinity_of side)
+infinity_lowest Lower = tt
+infinity_lowest Upper = tt
 
-pub points_reduced : FieldPointsAreInLowestTerms
-points_reduced side x f s h = go (distinct_among same_place (infinity_of side ∷ flat_map (atom_points side x) (atoms_of f)) s h)
+pub points_lowest : FieldPointsAreInLowestTerms
+points_lowest side x f s h = go (distinct_among same_place (infinity_of side ∷ flat_map (atom_points side x) (atoms_of f)) s h)
   where
     go : Among (infinity_of side ∷ flat_map (atom_points side x) (atoms_of f)) s → IsInLowestTerms s
-    go (inl e) = along e (infinity_reduced side)
-    go (inr m) = let r = flat_map_among (atom_points side x) (atoms_of f) s m in atom_reduced side x r.0 s r.2
+    go (inl e) = along e (infinity_lowest side)
+    go (inr m) = let r = flat_map_among (atom_points side x) (atoms_of f) s m in atom_lowest side x r.0 s r.2
