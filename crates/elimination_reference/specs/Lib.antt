@@ -1,0 +1,4 @@
+pub mod Measured
+pub mod Limits
+pub mod Reference
+pub mod Cases
