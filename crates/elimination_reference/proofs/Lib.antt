@@ -1,1 +1,7 @@
 mod Examples
+pub mod Tidy
+pub mod Always
+pub mod Turning
+pub mod Branches
+pub mod Sound
+pub mod CasesExact

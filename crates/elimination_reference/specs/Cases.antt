@@ -7,7 +7,7 @@ use Rattle.formula_meaning.specs.Answer.{Answer}
 use Rattle.formula_meaning.specs.Tree.{Tree}
 use Rattle.elimination_theory.specs.Answers.{answers_of}
 use Rattle.elimination_reference.specs.Measured.{Outcome, then_of, done}
-use Rattle.elimination_reference.specs.Reference.{Branch, signed_tree, leading_branches}
+use Rattle.elimination_reference.specs.Reference.{Branch, normal_tree, turned, leading_branches}
 
 -- where the guard is true, the answers make the matrix true
 pub record Case : Type 0 where
@@ -26,14 +26,9 @@ abbrev pub case_sign : Tree → Bool
 case_sign (All x f) = false
 case_sign _ = true
 
--- the quantifier of which the cases answer the leading block
-abbrev pub answered : Bool → Quantifier
-answered true = Exists
-answered false = ForAll
-
--- the formula whose cases are asked: f itself, or its negation
+-- the formula whose cases are asked: f itself, or its negation, in negation normal form
 abbrev pub case_formula : Tree → Tree
-case_formula f = signed_tree (case_sign (signed_tree true f)) f
+case_formula f = turned (case_sign (normal_tree f)) (normal_tree f)
 
 -- what stands in it behind the leading block, and the names of the block
 abbrev pub case_matrix : Tree → Tree
@@ -44,4 +39,4 @@ case_names f = block_of nat_eq (case_formula f) Exists []
 
 -- the case list and its cost
 abbrev pub reference_cases : Context → ℕ → Tree → Outcome (List Case × ℕ)
-reference_cases c limit f = then_of (leading_branches c limit (case_sign (signed_tree true f)) f 0) (λ r. done (cases_of r.0, r.1))
+reference_cases c limit f = then_of (leading_branches c limit (case_sign (normal_tree f)) f 0) (λ r. done (cases_of r.0, r.1))

@@ -2,3 +2,4 @@ pub mod Measured
 pub mod Limits
 pub mod Reference
 pub mod Cases
+pub mod Theorems

@@ -61,10 +61,14 @@ branch_trees (b ∷ bs) = also b.tree (branch_trees bs)
 abbrev pub together : List Branch → Tree
 together bs = fold_list Disjunction (branch_trees bs)
 
--- for true the formula, else its negation, in negation normal form
-abbrev pub signed_tree : Bool → Tree → Tree
-signed_tree true f = normal_form negated_normal f
-signed_tree false f = normal_form_of_not negated_normal f
+-- the negation normal form of the formula
+abbrev pub normal_tree : Tree → Tree
+normal_tree f = normal_form negated_normal f
+
+-- for true the formula, for false the negation normal form of its negation
+abbrev pub turned : Bool → Tree → Tree
+turned true f = f
+turned false f = normal_form_of_not negated_normal f
 
 -- what a list is joined by in the formula, or in its negation
 abbrev pub signed_junction : Bool → Junction → Junction
@@ -97,7 +101,7 @@ module _ (c : Context) (limit : ℕ) where
   closed sign x inner = do
     bs ← inner
     left ← steps x bs
-    give (alone (signed_tree sign (together left)))
+    give (alone (turned sign (together left)))
 
   abbrev mutual
     -- The branches of a formula in negation normal form, or for false those of its negation. A chain is a run of ex from the
@@ -134,8 +138,8 @@ module _ (c : Context) (limit : ℕ) where
   -- the branches of the formula, or for false of its negation; the cost begins as the nodes of its negation normal form
   abbrev pub leading_branches : Bool → Tree → Counted (List Branch)
   leading_branches sign f = do
-    _ ← pay limit (nodes (signed_tree true f))
-    branches [] sign (signed_tree true f)
+    _ ← pay limit (nodes (normal_tree f))
+    branches [] sign (normal_tree f)
 
   -- a formula without quantifiers that is equivalent to f, and its cost
   abbrev pub reference : Tree → Outcome (Tree × ℕ)

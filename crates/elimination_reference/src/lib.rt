@@ -1,3 +1,18 @@
 //! The reference elimination: a slow, plain definition by which a faster one is measured, and its theorems. Each function does
 //! nothing; its contract is a theorem.
 #![tactic(auto)]
+
+ghost use Rattle.formula_meaning.specs.Context.{Context};
+ghost use Rattle.elimination_reference.specs.Theorems.{ReferenceIsExact, CasesAreExact};
+
+/// Of a formula over normal atoms, the reference elimination gives an equivalent one without quantifiers, over its free names,
+/// built by `and` and `or` with two members at least from normal atoms.
+pub fn reference_is_exact()
+    ensures { (c : Context) → ReferenceIsExact c }
+{}
+
+/// The guard of each case is true exactly where its answers make the matrix behind the leading quantifiers true. Together the
+/// guards are equivalent to the formula, or to its negation where it begins with `all`.
+pub fn cases_are_exact()
+    ensures { (c : Context) → CasesAreExact c }
+{}

@@ -1,0 +1,92 @@
+-- What is proved of the reference elimination.
+use Rattle.std.specs.Prelude.{◌≡◌, ℕ, ◌≤◌, ◌↔◌, Bool, true, false, List, [], ◌∷◌}
+use Rattle.formula_meaning.specs.Context.{Context}
+use Rattle.formula_meaning.specs.Formula.{Yes, No, One, Not, And, Or, Impl, Repl, Equiv, Ex, All, none, also}
+use Rattle.formula_meaning.specs.Every.{Every}
+use Rattle.formula_meaning.specs.Shape.{IsPlain}
+use Rattle.formula_meaning.specs.Point.{Point, Of}
+use Rattle.formula_meaning.specs.Some.{EachOf}
+use Rattle.formula_meaning.specs.Sizes.{nodes}
+use Rattle.formula_meaning.specs.Answer.{Answer, Holds}
+use Rattle.formula_meaning.specs.Tree.{Tree, Trees, TrueAt, IsFree, Equivalent}
+use Rattle.elimination_theory.specs.Decided.{IsEliminated}
+use Rattle.atom_normal.specs.NormalForm.{IsNormal}
+use Rattle.elimination_reference.specs.Measured.{Gives}
+use Rattle.elimination_reference.specs.Reference.{normal_tree, reference}
+use Rattle.elimination_reference.specs.Cases.{Case, case_sign, case_matrix, case_names, reference_cases}
+
+-- the list has two members at least
+abbrev pub AreTwo : Trees → Type 0
+AreTwo none = ⊥
+AreTwo (also f none) = ⊥
+AreTwo (also f (also g fs)) = Unit {0}
+
+abbrev mutual
+  -- each and and each or has two members at least
+  pub IsBranching : Tree → Type 0
+  IsBranching Yes = Unit {0}
+  IsBranching No = Unit {0}
+  IsBranching (One a) = Unit {0}
+  IsBranching (Not f) = IsBranching f
+  IsBranching (And fs) = AreTwo fs × AreBranching fs
+  IsBranching (Or fs) = AreTwo fs × AreBranching fs
+  IsBranching (Impl f g) = IsBranching f × IsBranching g
+  IsBranching (Repl f g) = IsBranching f × IsBranching g
+  IsBranching (Equiv f g) = IsBranching f × IsBranching g
+  IsBranching (Ex x f) = IsBranching f
+  IsBranching (All x f) = IsBranching f
+
+  pub AreBranching : Trees → Type 0
+  AreBranching none = Unit {0}
+  AreBranching (also f fs) = IsBranching f × AreBranching fs
+
+-- built by and and or from normal atoms, with two members at least
+pub record IsTidy (c : Context) (f : Tree) : Type 0 where
+  pub is_plain : IsPlain f
+  pub normal : Every (IsNormal c) f
+  pub two_members : IsBranching f
+
+-- g is equivalent to f, has no quantifiers and no other free names, and is tidy
+pub record IsAnswerTo (c : Context) (f g : Tree) : Type 0 where
+  pub eliminated : IsEliminated c f g
+  pub tidy : IsTidy c g
+
+-- Of a formula over normal atoms the reference gives such a formula, whatever the limit.
+abbrev pub ReferenceIsExact : Context → Type 0
+ReferenceIsExact c = (limit : ℕ) (f : Tree) → Every (IsNormal c) f → Gives (λ r. IsAnswerTo c f r.0) (reference c limit f)
+
+-- ---- its cost
+
+-- The result has at most as many nodes as it cost, and that is within the limit.
+abbrev pub CostBoundsNodes : Context → Type 0
+CostBoundsNodes c = (limit : ℕ) (f : Tree) → Every (IsNormal c) f → Gives (λ r. (nodes r.0 ≤ r.1) × (r.1 ≤ limit)) (reference c limit f)
+
+-- ---- cases
+
+abbrev pub guards_of : List Case → Trees
+guards_of [] = none
+guards_of (k ∷ cases) = also k.guard (guards_of cases)
+
+abbrev pub answer_names : List Answer → List ℕ
+answer_names [] = []
+answer_names (a ∷ answers) = a.name ∷ answer_names answers
+
+-- the guard is true exactly where the answers make the matrix true; they name the leading block in its order
+pub record IsExactCase (c : Context) (f : Tree) (k : Case) : Type 0 where
+  pub exact : (p : Point ℕ) → Of c p → Holds c k.answers (case_matrix f) p ↔ TrueAt c k.guard p
+  pub in_order : answer_names k.answers ≡ case_names f
+  pub tidy : IsTidy c k.guard
+
+-- for true g is equivalent to f, for false to its negation
+abbrev pub Says : Context → Bool → Tree → Tree → Type 0
+Says c true f g = Equivalent c f g
+Says c false f g = Equivalent c (Not f) g
+
+-- each case is exact, and together the guards say the formula, or its negation where that begins with all
+pub record AreExactCases (c : Context) (f : Tree) (cases : List Case) : Type 0 where
+  pub each : EachOf (IsExactCase c f) cases
+  pub together : Says c (case_sign (normal_tree f)) f (Or (guards_of cases))
+  pub names : (y : ℕ) → IsFree (Or (guards_of cases)) y → IsFree f y
+
+abbrev pub CasesAreExact : Context → Type 0
+CasesAreExact c = (limit : ℕ) (f : Tree) → Every (IsNormal c) f → Gives (λ r. AreExactCases c f r.0) (reference_cases c limit f)
