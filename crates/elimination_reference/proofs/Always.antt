@@ -33,3 +33,11 @@ always_map {A} P Q m g h cost = go (m cost) (h cost)
     go : (o : Outcome (A × ℕ)) → Gives (λ (r : A × ℕ). P r.0) o → Gives (λ (r : A × ℕ). Q r.0) o
     go (stopped s) p = tt
     go (done r) p = g r.0 p
+
+pub gives_both : {A : Type 0} (P Q : A → Type 0) (o : Outcome A) → Gives P o → Gives Q o → Gives (λ a. P a × Q a) o
+gives_both P Q (stopped s) p q = tt
+gives_both P Q (done a) p q = (p, q)
+
+pub gives_map : {A : Type 0} (P Q : A → Type 0) (o : Outcome A) → ((a : A) → P a → Q a) → Gives P o → Gives Q o
+gives_map P Q (stopped s) g p = tt
+gives_map P Q (done a) g p = g a p

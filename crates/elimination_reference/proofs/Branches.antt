@@ -138,7 +138,7 @@ module _ (c : Context) where
 
   -- ---- one step
 
-  next_trees : (x : ℕ) (b : Branch) (rs : List Result) → trees_left rs ≡ branch_trees (map (next_branch x b) rs)
+  pub next_trees : (x : ℕ) (b : Branch) (rs : List Result) → trees_left rs ≡ branch_trees (map (next_branch x b) rs)
   next_trees x b [] = refl
   next_trees x b (r ∷ rs) = ap (also r.tree) (next_trees x b rs)
 

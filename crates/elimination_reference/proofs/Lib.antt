@@ -5,3 +5,4 @@ pub mod Turning
 pub mod Branches
 pub mod Sound
 pub mod CasesExact
+pub mod Bounded

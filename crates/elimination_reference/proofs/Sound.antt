@@ -94,7 +94,7 @@ module _ (c : Context) where
     turned_all false fs = normal_forms_of_not negated_normal fs
 
     -- what is said of the branches of a formula
-    abbrev Good : List ℕ → Bool → Tree → List Branch → Type 0
+    abbrev pub Good : List ℕ → Bool → Tree → List Branch → Type 0
     Good names sign f bs = AreBranches c (turned sign f) (matrix_of nat_eq (turned sign f) Exists names) (block_of nat_eq (turned sign f) Exists names) bs
 
     folded_are : (j : Junction) (fs : Trees) (m : Counted Trees) → Always (AreAnswers fs) m → Always (λ bs. AreBranches c (joined j fs) (joined j fs) [] bs) (m >>= λ gs. give (alone (fold_list j gs)))
@@ -112,7 +112,7 @@ module _ (c : Context) where
     mutual
       unfolding AreAnswers turned_all
 
-      branches_are : (names : List ℕ) (sign : Bool) (f : Tree) → IsNegationNormal f → Every (IsNormal c) f → Always (Good names sign f) (branches c limit names sign f)
+      pub branches_are : (names : List ℕ) (sign : Bool) (f : Tree) → IsNegationNormal f → Every (IsNormal c) f → Always (Good names sign f) (branches c limit names sign f)
       branches_are names true Yes n h = always_give (Good names true Yes) (alone Yes) (alone_are c Yes Yes yes_is)
       branches_are names false Yes n h = always_give (Good names false Yes) (alone No) (alone_are c No No no_is)
       branches_are names true No n h = always_give (Good names true No) (alone No) (alone_are c No No no_is)
@@ -148,7 +148,7 @@ module _ (c : Context) where
       members_are false (also f fs) n h =
           next_members (normal_form_of_not negated_normal f) (normal_forms_of_not negated_normal fs) _ _ (branches c limit [] false f) (members c limit false fs) (branches_are [] false f n.0 h.0) (members_are false fs n.1 h.1)
 
-    normal_normal_tree : (f : Tree) → Every (IsNormal c) f → Every (IsNormal c) (normal_tree f)
+    pub normal_normal_tree : (f : Tree) → Every (IsNormal c) f → Every (IsNormal c) (normal_tree f)
     normal_normal_tree f h = (normal_form_every negated_normal (IsNormal c) f (every_map _ _ (λ a n. (n, negated_normal_is c a n)) f h)).0
 
     -- the branches of the leading block

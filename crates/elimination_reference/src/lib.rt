@@ -3,12 +3,17 @@
 #![tactic(auto)]
 
 ghost use Rattle.formula_meaning.specs.Context.{Context};
-ghost use Rattle.elimination_reference.specs.Theorems.{ReferenceIsExact, CasesAreExact};
+ghost use Rattle.elimination_reference.specs.Theorems.{ReferenceIsExact, CostBoundsNodes, CasesAreExact};
 
 /// Of a formula over normal atoms, the reference elimination gives an equivalent one without quantifiers, over its free names,
 /// built by `and` and `or` with two members at least from normal atoms.
 pub fn reference_is_exact()
     ensures { (c : Context) → ReferenceIsExact c }
+{}
+
+/// What the reference elimination gives has at most as many nodes as it cost, and that is within the limit.
+pub fn cost_bounds_nodes()
+    ensures { (c : Context) → CostBoundsNodes c }
 {}
 
 /// The guard of each case is true exactly where its answers make the matrix behind the leading quantifiers true. Together the
