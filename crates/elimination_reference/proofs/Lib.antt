@@ -6,3 +6,4 @@ pub mod Branches
 pub mod Sound
 pub mod CasesExact
 pub mod Bounded
+pub mod PutIn

@@ -3,3 +3,4 @@ pub mod Limits
 pub mod Reference
 pub mod Cases
 pub mod Theorems
+pub mod PutIn
