@@ -1,5 +1,5 @@
 -- Putting in a point keeps the truth there.
-use Rattle.std.proofs.Common.{◌≡◌, ℕ, ◌*◌, Bool, true, false, List, [], ◌∷◌, refl, sym, ap, ◌∙◌, subst, arith, inl, inr, ⊎_elim, ◌↔◌, nat_eq, eqb-true, if◌then◌else◌}
+use Rattle.std.proofs.Common.{◌≡◌, ℕ, suc, ◌+◌, ◌*◌, Bool, true, false, List, [], ◌∷◌, refl, sym, ap, ◌∙◌, subst, arith, inl, inr, ⊎_elim, ◌↔◌, nat_eq, eqb-true, if◌then◌else◌}
 use Rattle.std.proofs.Math.IntN.{ℤ, pos, ◌+ℤ◌, ◌*ℤ◌}
 use Rattle.std.specs.Prelude.{◌<ℤ◌}
 use Rattle.std.proofs.lemmas.Int.{ints}
@@ -9,20 +9,22 @@ use Rattle.formula_meaning.specs.Context.{Context, Fields, Integers, Allowed}
 use Rattle.formula_meaning.specs.Point.{Point, Of, move}
 use Rattle.formula_meaning.specs.Formula.{Yes, No, One, Not, And, Or, Impl, Repl, Equiv, Ex, All, none, also}
 use Rattle.formula_meaning.specs.Truth.{AllTrue, SomeTrue}
-use Rattle.formula_meaning.specs.Every.{Every, EveryOf}
-use Rattle.formula_meaning.specs.Form.{Form, Term, total, value}
-use Rattle.formula_meaning.specs.Atom.{Atom, Compare, Congruent, AtomIn, Says, Relates, IsMultiple}
-use Rattle.formula_meaning.specs.Shape.{is_in}
-use Rattle.formula_meaning.specs.Tree.{Tree, Trees, TrueAt, InContext}
+use Rattle.formula_meaning.specs.Every.{Every, EveryOf, FreeInSome}
+use Rattle.formula_meaning.specs.Form.{Form, Term, total, value, multiple, coefficient}
+use Rattle.formula_meaning.specs.Atom.{Atom, Compare, Congruent, AtomIn, Mentions, Says, Relates, IsMultiple}
+use Rattle.formula_meaning.specs.Shape.{IsAtomic, is_in}
+use Rattle.formula_meaning.specs.Sizes.{nodes, all_nodes}
+use Rattle.formula_meaning.specs.Tree.{Tree, Trees, TrueAt, InContext, IsFree}
 use Rattle.formula_meaning.proofs.Iff.{both_ways, turn_round, not_iff, pair_iff, either_iff}
 use Rattle.formula_meaning.proofs.Relations.{relates_zero_mul}
 use Rattle.formula_meaning.proofs.SamePoint.{allowed_mul}
 use Rattle.formula_meaning.proofs.TreeReplacing.{moved_of}
 use Rattle.formula_meaning.proofs.Values.{pos_mul}
 use Rattle.atom_normal.specs.NormalForm.{IsNormal, normal_atom}
-use Rattle.atom_normal.proofs.NormalLaws.{normal_truth}
+use Rattle.atom_normal.proofs.NormalLaws.{normal_truth, normal_names, normal_normal, normal_atomic}
 use Rattle.elimination_reference.specs.Reference.{normal_tree}
 use Rattle.elimination_reference.specs.PutIn.{terms_kept, terms_put, form_put, atom_put, tree_put, trees_put, put_in}
+use Rattle.elimination_reference.specs.Theorems.{PuttingInIsExact}
 use Rattle.elimination_reference.proofs.Turning.{normal_inside, normal_tree_inside, normal_truths}
 
 -- r is the point whose values are those of q at the names, and those of p at all others
@@ -215,3 +217,120 @@ module _ (c : Context) (p : Point ℕ) (o : Of c p) where
 
   pub put_in_true : (f : Tree) (q : Point ℕ) → Every (IsNormal c) f → Of c q → TrueAt c f p ↔ TrueAt c (put_in c p f) q
   put_in_true f q n i = both_ways (normal_truths c f p (normal_inside c f n) o).0 (put_true [] (normal_tree f) q p (normal_tree_inside c f n) i o (nothing_mixes q))
+
+-- ---- its atoms, its nodes and its names
+
+atomic_nodes : (f : Tree) → IsAtomic f → nodes f ≡ 1
+atomic_nodes Yes h = refl
+atomic_nodes No h = refl
+atomic_nodes (One a) h = refl
+atomic_nodes (Not f) h = absurd h
+atomic_nodes (And fs) h = absurd h
+atomic_nodes (Or fs) h = absurd h
+atomic_nodes (Impl f g) h = absurd h
+atomic_nodes (Repl f g) h = absurd h
+atomic_nodes (Equiv f g) h = absurd h
+atomic_nodes (Ex x f) h = absurd h
+atomic_nodes (All x f) h = absurd h
+
+kept_names : (p : Point ℕ) (names : List ℕ) (y : ℕ) → is_in nat_eq y names ≡ false → (ts : List Term) → multiple y (terms_kept p names ts) ≡ pos 0
+kept_names p names y e [] = refl
+kept_names p names y e (t ∷ ts) = go (kept_names p names y e ts) (is_in nat_eq t.name names) refl
+  where
+    other : (b : Bool) → nat_eq y t.name ≡ b → is_in nat_eq t.name names ≡ true → multiple y (terms_kept p names ts) ≡ pos 0 →
+        (if b then (pos p.below *ℤ t.times) +ℤ multiple y (terms_kept p names ts) else multiple y (terms_kept p names ts)) ≡ pos 0
+    other true u v h = absurd (not_both (is_in nat_eq y names) (subst (λ (z : ℕ). is_in nat_eq z names ≡ true) (sym (eqb-true y t.name u)) v) e)
+    other false u v h = h
+
+    go : multiple y (terms_kept p names ts) ≡ pos 0 → (b : Bool) → is_in nat_eq t.name names ≡ b →
+        multiple y (if b then record { times = pos p.below *ℤ t.times; name = t.name } ∷ terms_kept p names ts else terms_kept p names ts) ≡ pos 0
+    go h true v = other (nat_eq y t.name) refl v h
+    go h false v = h
+
+kept_form : (p : Point ℕ) (names : List ℕ) (y : ℕ) → is_in nat_eq y names ≡ false → (f : Form) → coefficient y (form_put p names f) ≡ pos 0
+unfolding coefficient
+kept_form p names y e f = kept_names p names y e f.terms
+
+kept_atom : (p : Point ℕ) (names : List ℕ) (y : ℕ) (a : Atom) → Mentions (atom_put p names a) y → is_in nat_eq y names ≡ true
+kept_atom p names y (Compare r f) m = go (is_in nat_eq y names) refl
+  where
+    go : (b : Bool) → is_in nat_eq y names ≡ b → b ≡ true
+    go true e = refl
+    go false e = absurd (m (kept_form p names y e f))
+kept_atom p names y (Congruent holds n f) m = go (is_in nat_eq y names) refl
+  where
+    go : (b : Bool) → is_in nat_eq y names ≡ b → b ≡ true
+    go true e = refl
+    go false e = absurd (m (kept_form p names y e f))
+
+one_less : (x y : ℕ) (names : List ℕ) → ¬ (x ≡ y) → is_in nat_eq y (x ∷ names) ≡ true → is_in nat_eq y names ≡ true
+one_less x y names n = go (nat_eq y x) refl
+  where
+    go : (b : Bool) → nat_eq y x ≡ b → (if b then true else is_in nat_eq y names) ≡ true → is_in nat_eq y names ≡ true
+    go true u h = absurd (n (sym (eqb-true y x u)))
+    go false u h = h
+
+module _ (c : Context) (p : Point ℕ) where
+  mutual
+    put_normal : (names : List ℕ) (f : Tree) → InContext c f → Every (IsNormal c) (tree_put c p names f)
+    put_normal names Yes i = tt
+    put_normal names No i = tt
+    put_normal names (One a) i = normal_normal c (atom_put p names a) (put_in_context c p names a i)
+    put_normal names (Not f) i = put_normal names f i
+    put_normal names (And fs) i = all_put_normal names fs i
+    put_normal names (Or fs) i = all_put_normal names fs i
+    put_normal names (Impl f g) i = (put_normal names f i.0, put_normal names g i.1)
+    put_normal names (Repl f g) i = (put_normal names f i.0, put_normal names g i.1)
+    put_normal names (Equiv f g) i = (put_normal names f i.0, put_normal names g i.1)
+    put_normal names (Ex x f) i = put_normal (x ∷ names) f i
+    put_normal names (All x f) i = put_normal (x ∷ names) f i
+
+    all_put_normal : (names : List ℕ) (fs : Trees) → EveryOf (AtomIn c) fs → EveryOf (IsNormal c) (trees_put c p names fs)
+    all_put_normal names none i = tt
+    all_put_normal names (also f fs) i = (put_normal names f i.0, all_put_normal names fs i.1)
+
+  mutual
+    put_nodes : (names : List ℕ) (f : Tree) → nodes (tree_put c p names f) ≡ nodes f
+    put_nodes names Yes = refl
+    put_nodes names No = refl
+    put_nodes names (One a) = atomic_nodes (normal_atom c (atom_put p names a)) (normal_atomic c (atom_put p names a))
+    put_nodes names (Not f) = ap suc (put_nodes names f)
+    put_nodes names (And fs) = ap suc (all_put_nodes names fs)
+    put_nodes names (Or fs) = ap suc (all_put_nodes names fs)
+    put_nodes names (Impl f g) = let a = put_nodes names f in let b = put_nodes names g in omega arith
+    put_nodes names (Repl f g) = let a = put_nodes names f in let b = put_nodes names g in omega arith
+    put_nodes names (Equiv f g) = let a = put_nodes names f in let b = put_nodes names g in omega arith
+    put_nodes names (Ex x f) = ap suc (put_nodes (x ∷ names) f)
+    put_nodes names (All x f) = ap suc (put_nodes (x ∷ names) f)
+
+    all_put_nodes : (names : List ℕ) (fs : Trees) → all_nodes (trees_put c p names fs) ≡ all_nodes fs
+    all_put_nodes names none = refl
+    all_put_nodes names (also f fs) = let a = put_nodes names f in let b = all_put_nodes names fs in omega arith
+
+  mutual
+    put_names : (names : List ℕ) (f : Tree) (y : ℕ) → InContext c f → IsFree (tree_put c p names f) y → is_in nat_eq y names ≡ true
+    put_names names Yes y i t = absurd t
+    put_names names No y i t = absurd t
+    put_names names (One a) y i t = kept_atom p names y a (normal_names c (atom_put p names a) (put_in_context c p names a i) y t)
+    put_names names (Not f) y i t = put_names names f y i t
+    put_names names (And fs) y i t = all_put_names names fs y i t
+    put_names names (Or fs) y i t = all_put_names names fs y i t
+    put_names names (Impl f g) y i t = ⊎_elim (put_names names f y i.0) (put_names names g y i.1) t
+    put_names names (Repl f g) y i t = ⊎_elim (put_names names f y i.0) (put_names names g y i.1) t
+    put_names names (Equiv f g) y i t = ⊎_elim (put_names names f y i.0) (put_names names g y i.1) t
+    put_names names (Ex x f) y i t = one_less x y names t.0 (put_names (x ∷ names) f y i t.1)
+    put_names names (All x f) y i t = one_less x y names t.0 (put_names (x ∷ names) f y i t.1)
+
+    all_put_names : (names : List ℕ) (fs : Trees) (y : ℕ) → EveryOf (AtomIn c) fs → FreeInSome Mentions (trees_put c p names fs) y → is_in nat_eq y names ≡ true
+    all_put_names names none y i t = absurd t
+    all_put_names names (also f fs) y i t = ⊎_elim (put_names names f y i.0) (all_put_names names fs y i.1) t
+
+pub putting_in_exact : (c : Context) → PuttingInIsExact c
+putting_in_exact c f p n o =
+    let i = normal_tree_inside c f n in
+    record {
+      truth = λ q u. put_in_true c p o f q n u;
+      closed = λ y t. not_both true refl (sym (put_names c p [] (normal_tree f) y i t));
+      normal = put_normal c p [] (normal_tree f) i;
+      same_nodes = put_nodes c p [] (normal_tree f);
+    }

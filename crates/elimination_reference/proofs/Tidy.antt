@@ -25,7 +25,7 @@ use Rattle.elimination_theory.specs.BothTheories.{IsPlaceIn, raw_atom, guard_of,
 use Rattle.elimination_theory.specs.Steps.{IsNormaliser, normalised, atom_at, result_at, Result, kept, results, step}
 use Rattle.elimination_theory.proofs.Simple.{IsSimple, simple_plain, simple_normalised, where_zero_has, raw_simple, guard_simple, replaced_plain}
 use Rattle.elimination_theory.proofs.BothSubstitutions.{place_in, point_suits}
-use Rattle.elimination_reference.specs.Theorems.{AreTwo, IsBranching, AreBranching, IsTidy}
+use Rattle.elimination_reference.specs.Theorems.{AreTwo, IsProper, IsBranching, AreBranching, IsTidy}
 
 -- the normal form of atoms is one in the sense of elimination steps
 pub normaliser : (c : Context) → IsNormaliser c (normal_atom c)
@@ -38,13 +38,17 @@ normaliser c = record {
 
 -- ---- two members at least
 
+EachBranching : Trees → Type 0
+EachBranching none = Unit {0}
+EachBranching (also f fs) = IsBranching f × EachBranching fs
+
 ArePieces : Option Trees → Type 0
 ArePieces None = Unit {0}
 ArePieces (Some fs) = AreBranching fs
 
 branching_append : (fs gs : Trees) → AreBranching fs → AreBranching gs → AreBranching (append fs gs)
 branching_append none gs h k = k
-branching_append (also f fs) gs h k = (h.0, branching_append fs gs h.1 k)
+branching_append (also f fs) gs h k = (h.0, h.1, branching_append fs gs h.2 k)
 
 branching_together : (o u : Option Trees) → ArePieces o → ArePieces u → ArePieces (put_together o u)
 unfolding ArePieces
@@ -57,14 +61,14 @@ unfolding ArePieces
 branching_pieces Conjunction Yes h = tt
 branching_pieces Conjunction No h = tt
 branching_pieces Conjunction (And fs) h = h.1
-branching_pieces Conjunction f h = (h, tt)
+branching_pieces Conjunction f h = (tt, h, tt)
 branching_pieces Disjunction Yes h = tt
 branching_pieces Disjunction No h = tt
 branching_pieces Disjunction (Or fs) h = h.1
-branching_pieces Disjunction f h = (h, tt)
+branching_pieces Disjunction f h = (tt, h, tt)
 
-branching_all_pieces : (j : Junction) (fs : Trees) → AreBranching fs → ArePieces (all_pieces j fs)
-unfolding ArePieces
+branching_all_pieces : (j : Junction) (fs : Trees) → EachBranching fs → ArePieces (all_pieces j fs)
+unfolding ArePieces EachBranching
 branching_all_pieces j none h = tt
 branching_all_pieces j (also f fs) h = branching_together (pieces_of j f) (all_pieces j fs) (branching_pieces j f h.0) (branching_all_pieces j fs h.1)
 
@@ -72,17 +76,19 @@ branching_from_pieces : (j : Junction) (o : Option Trees) → ArePieces o → Is
 unfolding ArePieces
 branching_from_pieces Conjunction None h = tt
 branching_from_pieces Conjunction (Some none) h = tt
-branching_from_pieces Conjunction (Some (also f none)) h = h.0
+branching_from_pieces Conjunction (Some (also f none)) h = h.1
 branching_from_pieces Conjunction (Some (also f (also g gs))) h = (tt, h)
 branching_from_pieces Disjunction None h = tt
 branching_from_pieces Disjunction (Some none) h = tt
-branching_from_pieces Disjunction (Some (also f none)) h = h.0
+branching_from_pieces Disjunction (Some (also f none)) h = h.1
 branching_from_pieces Disjunction (Some (also f (also g gs))) h = (tt, h)
 
-pub branching_fold_list : (j : Junction) (fs : Trees) → AreBranching fs → IsBranching (fold_list j fs)
+branching_fold_list : (j : Junction) (fs : Trees) → EachBranching fs → IsBranching (fold_list j fs)
 branching_fold_list j fs h = branching_from_pieces j (all_pieces j fs) (branching_all_pieces j fs h)
 
 mutual
+  unfolding EachBranching
+
   branching_folded : (f : Tree) → IsPlain f → IsBranching (folded f)
   branching_folded Yes h = tt
   branching_folded No h = tt
@@ -96,7 +102,7 @@ mutual
   branching_folded (Ex x f) h = absurd h
   branching_folded (All x f) h = absurd h
 
-  branching_all_folded : (fs : Trees) → ArePlain fs → AreBranching (all_folded fs)
+  branching_all_folded : (fs : Trees) → ArePlain fs → EachBranching (all_folded fs)
   branching_all_folded none h = tt
   branching_all_folded (also f fs) h = (branching_folded f h.0, branching_all_folded fs h.1)
 
@@ -104,6 +110,19 @@ two_turned : (fs : Trees) → AreTwo fs → AreTwo (normal_forms_of_not negated_
 two_turned none h = h
 two_turned (also f none) h = h
 two_turned (also f (also g fs)) h = h
+
+proper_turned : (f : Tree) → IsPlain f → IsProper f → IsProper (normal_form_of_not negated_normal f)
+proper_turned Yes p h = h
+proper_turned No p h = h
+proper_turned (One a) p h = tt
+proper_turned (And fs) p h = tt
+proper_turned (Or fs) p h = tt
+proper_turned (Not f) p h = absurd p
+proper_turned (Impl f g) p h = absurd p
+proper_turned (Repl f g) p h = absurd p
+proper_turned (Equiv f g) p h = absurd p
+proper_turned (Ex x f) p h = absurd p
+proper_turned (All x f) p h = absurd p
 
 module _ (c : Context) where
   -- the members are tidy
@@ -119,7 +138,8 @@ module _ (c : Context) where
   tidy_normal none h = tt
   tidy_normal (also f fs) h = (h.0.normal, tidy_normal fs h.1)
 
-  tidy_branching : (fs : Trees) → AreTidy fs → AreBranching fs
+  tidy_branching : (fs : Trees) → AreTidy fs → EachBranching fs
+  unfolding EachBranching
   tidy_branching none h = tt
   tidy_branching (also f fs) h = (h.0.two_members, tidy_branching fs h.1)
 
@@ -136,14 +156,18 @@ module _ (c : Context) where
   pub tidy_folded : (f : Tree) → IsPlain f → Every (IsNormal c) f → IsTidy c (folded f)
   tidy_folded f plain normal = record { is_plain = folded_plain f plain; normal = folded_every (IsNormal c) f normal; two_members = branching_folded f plain }
 
+  branching_turned : (fs : Trees) → ArePlain fs → AreBranching fs → AreTidy (normal_forms_of_not negated_normal fs) → AreBranching (normal_forms_of_not negated_normal fs)
+  branching_turned none p b h = tt
+  branching_turned (also f fs) p b h = (proper_turned f p.0 b.0, h.0.two_members, branching_turned fs p.1 b.2 h.1)
+
   mutual
     turned_tidy : (f : Tree) → IsPlain f → Every (IsNormal c) f → IsBranching f → IsTidy c (normal_form_of_not negated_normal f)
     turned_tidy Yes p n b = record { is_plain = tt; normal = tt; two_members = tt }
     turned_tidy No p n b = record { is_plain = tt; normal = tt; two_members = tt }
     turned_tidy (One a) p n b = record { is_plain = tt; normal = negated_normal_is c a n; two_members = tt }
     turned_tidy (Not f) p n b = absurd p
-    turned_tidy (And fs) p n b = let h = turned_all fs p n b.1 in record { is_plain = tidy_plain _ h; normal = tidy_normal _ h; two_members = (two_turned fs b.0, tidy_branching _ h) }
-    turned_tidy (Or fs) p n b = let h = turned_all fs p n b.1 in record { is_plain = tidy_plain _ h; normal = tidy_normal _ h; two_members = (two_turned fs b.0, tidy_branching _ h) }
+    turned_tidy (And fs) p n b = let h = turned_all fs p n b.1 in record { is_plain = tidy_plain _ h; normal = tidy_normal _ h; two_members = (two_turned fs b.0, branching_turned fs p b.1 h) }
+    turned_tidy (Or fs) p n b = let h = turned_all fs p n b.1 in record { is_plain = tidy_plain _ h; normal = tidy_normal _ h; two_members = (two_turned fs b.0, branching_turned fs p b.1 h) }
     turned_tidy (Impl f g) p n b = absurd p
     turned_tidy (Repl f g) p n b = absurd p
     turned_tidy (Equiv f g) p n b = absurd p
@@ -152,7 +176,7 @@ module _ (c : Context) where
 
     turned_all : (fs : Trees) → ArePlain fs → EveryOf (IsNormal c) fs → AreBranching fs → AreTidy (normal_forms_of_not negated_normal fs)
     turned_all none p n b = tt
-    turned_all (also f fs) p n b = (turned_tidy f p.0 n.0 b.0, turned_all fs p.1 n.1 b.1)
+    turned_all (also f fs) p n b = (turned_tidy f p.0 n.0 b.1, turned_all fs p.1 n.1 b.2)
 
   pub tidy_turned : (f : Tree) → IsTidy c f → IsTidy c (normal_form_of_not negated_normal f)
   tidy_turned f h = turned_tidy f h.is_plain h.normal h.two_members

@@ -13,6 +13,7 @@ use Rattle.elimination_theory.specs.Decided.{IsEliminated}
 use Rattle.atom_normal.specs.NormalForm.{IsNormal}
 use Rattle.elimination_reference.specs.Measured.{Gives}
 use Rattle.elimination_reference.specs.Reference.{normal_tree, reference}
+use Rattle.elimination_reference.specs.PutIn.{put_in}
 use Rattle.elimination_reference.specs.Cases.{Case, case_sign, case_matrix, case_names, reference_cases}
 
 -- the list has two members at least
@@ -21,8 +22,14 @@ AreTwo none = ⊥
 AreTwo (also f none) = ⊥
 AreTwo (also f (also g fs)) = Unit {0}
 
+-- neither true nor false
+abbrev pub IsProper : Tree → Type 0
+IsProper Yes = ⊥
+IsProper No = ⊥
+IsProper f = Unit {0}
+
 abbrev mutual
-  -- each and and each or has two members at least
+  -- each and and each or has two members at least, and no constant among them
   pub IsBranching : Tree → Type 0
   IsBranching Yes = Unit {0}
   IsBranching No = Unit {0}
@@ -38,9 +45,9 @@ abbrev mutual
 
   pub AreBranching : Trees → Type 0
   AreBranching none = Unit {0}
-  AreBranching (also f fs) = IsBranching f × AreBranching fs
+  AreBranching (also f fs) = IsProper f × IsBranching f × AreBranching fs
 
--- built by and and or from normal atoms, with two members at least
+-- built by and and or from normal atoms, with two members at least and constants alone
 pub record IsTidy (c : Context) (f : Tree) : Type 0 where
   pub is_plain : IsPlain f
   pub normal : Every (IsNormal c) f
@@ -90,3 +97,16 @@ pub record AreExactCases (c : Context) (f : Tree) (cases : List Case) : Type 0 w
 
 abbrev pub CasesAreExact : Context → Type 0
 CasesAreExact c = (limit : ℕ) (f : Tree) → Every (IsNormal c) f → Gives (λ r. AreExactCases c f r.0) (reference_cases c limit f)
+
+-- ---- putting in a point
+
+-- The formula has the truth that f has at the point wherever it is asked, no free name, normal atoms and the nodes of the
+-- negation normal form of f.
+pub record IsPutIn (c : Context) (f : Tree) (p : Point ℕ) (g : Tree) : Type 0 where
+  pub truth : (q : Point ℕ) → Of c q → TrueAt c f p ↔ TrueAt c g q
+  pub closed : (y : ℕ) → ¬ (IsFree g y)
+  pub normal : Every (IsNormal c) g
+  pub same_nodes : nodes g ≡ nodes (normal_tree f)
+
+abbrev pub PuttingInIsExact : Context → Type 0
+PuttingInIsExact c = (f : Tree) (p : Point ℕ) → Every (IsNormal c) f → Of c p → IsPutIn c f p (put_in c p f)

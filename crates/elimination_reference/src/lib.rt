@@ -3,7 +3,7 @@
 #![tactic(auto)]
 
 ghost use Rattle.formula_meaning.specs.Context.{Context};
-ghost use Rattle.elimination_reference.specs.Theorems.{ReferenceIsExact, CostBoundsNodes, CasesAreExact};
+ghost use Rattle.elimination_reference.specs.Theorems.{ReferenceIsExact, CostBoundsNodes, CasesAreExact, PuttingInIsExact};
 
 /// Of a formula over normal atoms, the reference elimination gives an equivalent one without quantifiers, over its free names,
 /// built by `and` and `or` with two members at least from normal atoms.
@@ -20,4 +20,10 @@ pub fn cost_bounds_nodes()
 /// guards are equivalent to the formula, or to its negation where it begins with `all`.
 pub fn cases_are_exact()
     ensures { (c : Context) → CasesAreExact c }
+{}
+
+/// With a point put in, a formula has the truth that it has there, no free names, normal atoms, and the nodes of its negation
+/// normal form.
+pub fn putting_in_is_exact()
+    ensures { (c : Context) → PuttingInIsExact c }
 {}
