@@ -7,3 +7,4 @@ pub mod Sound
 pub mod CasesExact
 pub mod Bounded
 pub mod PutIn
+pub mod Periods
