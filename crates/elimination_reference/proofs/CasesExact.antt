@@ -47,7 +47,7 @@ module _ (c : Context) (f : Tree) where
       let k = e p o in
       (λ m. k.0 (j.0 (λ t. m (i.1 t))), λ t u. j.1 (k.1 t) (i.0 u))
 
-  free : (sign : Bool) (y : ℕ) → IsFree (turned sign (normal_tree f)) y → IsFree f y
+  pub free : (sign : Bool) (y : ℕ) → IsFree (turned sign (normal_tree f)) y → IsFree f y
   free true y t = (turned_brings c f y).0 t
   free false y t = (turned_brings c f y).0 ((turned_brings c (normal_tree f) y).1 t)
 

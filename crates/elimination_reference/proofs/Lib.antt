@@ -8,3 +8,4 @@ pub mod CasesExact
 pub mod Bounded
 pub mod PutIn
 pub mod Periods
+pub mod Sample

@@ -1,5 +1,5 @@
 -- What is proved of the reference elimination.
-use Rattle.std.specs.Prelude.{◌≡◌, ℕ, ◌≤◌, ◌↔◌, Bool, true, false, List, [], ◌∷◌}
+use Rattle.std.specs.Prelude.{◌≡◌, ℕ, ◌≤◌, ◌↔◌, Bool, true, false, List, [], ◌∷◌, Option, Some, None}
 use Rattle.formula_meaning.specs.Context.{Context}
 use Rattle.formula_meaning.specs.Formula.{Yes, No, One, Not, And, Or, Impl, Repl, Equiv, Ex, All, none, also}
 use Rattle.formula_meaning.specs.Every.{Every}
@@ -10,11 +10,13 @@ use Rattle.formula_meaning.specs.Sizes.{nodes}
 use Rattle.formula_meaning.specs.Answer.{Answer, Holds}
 use Rattle.formula_meaning.specs.Tree.{Tree, Trees, TrueAt, IsFree, Equivalent}
 use Rattle.elimination_theory.specs.Decided.{IsEliminated}
+use Rattle.elimination_theory.specs.Answers.{Step}
 use Rattle.atom_normal.specs.NormalForm.{IsNormal}
 use Rattle.elimination_reference.specs.Measured.{Gives}
 use Rattle.elimination_reference.specs.Reference.{normal_tree, reference}
 use Rattle.elimination_reference.specs.PutIn.{put_in}
-use Rattle.elimination_reference.specs.Cases.{Case, case_sign, case_matrix, case_names, reference_cases}
+use Rattle.elimination_reference.specs.Sample.{chosen_steps, IsSampled}
+use Rattle.elimination_reference.specs.Cases.{Case, case_sign, case_formula, case_matrix, case_names, reference_cases}
 
 -- the list has two members at least
 abbrev pub AreTwo : Trees → Type 0
@@ -110,3 +112,17 @@ pub record IsPutIn (c : Context) (f : Tree) (p : Point ℕ) (g : Tree) : Type 0 
 
 abbrev pub PuttingInIsExact : Context → Type 0
 PuttingInIsExact c = (f : Tree) (p : Point ℕ) → Every (IsNormal c) f → Of c p → IsPutIn c f p (put_in c p f)
+
+-- ---- samples
+
+-- Where steps are chosen the formula whose cases are asked is true, there is a sample, and every sample makes the matrix true.
+-- Over the integers it is whole. Where none are chosen the formula is false.
+abbrev pub IsChoice : Context → Tree → Point ℕ → Option (List Step) → Type 0
+IsChoice c g p None = ¬ (TrueAt c (case_formula g) p)
+IsChoice c g p (Some steps) =
+    TrueAt c (case_formula g) p
+    × ((q : Point ℕ) × IsSampled c p steps q)
+    × ((q : Point ℕ) → IsSampled c p steps q → Of c q × TrueAt c (case_matrix g) q)
+
+abbrev pub SamplesAreExact : Context → Type 0
+SamplesAreExact c = (limit : ℕ) (f : Tree) (p : Point ℕ) → Every (IsNormal c) f → Of c p → Gives (λ r. IsChoice c (put_in c p f) p r.0) (chosen_steps c limit p f)

@@ -3,7 +3,7 @@
 #![tactic(auto)]
 
 ghost use Rattle.formula_meaning.specs.Context.{Context};
-ghost use Rattle.elimination_reference.specs.Theorems.{ReferenceIsExact, CostBoundsNodes, CasesAreExact, PuttingInIsExact};
+ghost use Rattle.elimination_reference.specs.Theorems.{ReferenceIsExact, CostBoundsNodes, CasesAreExact, PuttingInIsExact, SamplesAreExact};
 
 /// Of a formula over normal atoms, the reference elimination gives an equivalent one without quantifiers, over its free names,
 /// built by `and` and `or` with two members at least from normal atoms.
@@ -26,4 +26,10 @@ pub fn cases_are_exact()
 /// normal form.
 pub fn putting_in_is_exact()
     ensures { (c : Context) → PuttingInIsExact c }
+{}
+
+/// With a point put in, steps are chosen exactly where the formula, or its negation where it begins with `all`, is true. Then
+/// there is a sample of them, and every sample makes the matrix true; over the integers it is whole.
+pub fn samples_are_exact()
+    ensures { (c : Context) → SamplesAreExact c }
 {}

@@ -1,0 +1,141 @@
+-- With a point put in each guard is true or false, and the first true one has a sample.
+use Rattle.std.proofs.Common.{◌≡◌, ℕ, ◌<◌, List, [], ◌∷◌, Option, Some, None, refl, sym, ap, ◌∙◌, subst, arith, inl, inr, ⊎_elim, nat_eq}
+use Rattle.std.proofs.Math.IntN.{ℤ, pos, negsuc, ◌+ℤ◌}
+use Rattle.std.specs.Prelude.{◌<ℤ◌}
+use Rattle.std.proofs.lemmas.Int.{ints}
+use Rattle.exact_numbers.specs.Divides.{content_of, gcd_of, euclid}
+use Rattle.formula_meaning.specs.Context.{Context, Fields, Integers}
+use Rattle.formula_meaning.specs.Point.{Point, Of, move}
+use Rattle.formula_meaning.specs.Formula.{Yes, No, One, Not, And, Or, Impl, Repl, Equiv, Ex, All, none, also}
+use Rattle.formula_meaning.specs.Truth.{SomeTrue}
+use Rattle.formula_meaning.specs.Every.{Every, FreeInSome}
+use Rattle.formula_meaning.specs.Some.{EachOf}
+use Rattle.formula_meaning.specs.Shape.{IsPlain}
+use Rattle.formula_meaning.specs.Form.{Form, Term, coefficient, multiple, coefficients}
+use Rattle.formula_meaning.specs.Sorted.{IsSorted, AllAbove, IsRising, AllNonzero}
+use Rattle.formula_meaning.specs.Atom.{Atom, Compare, Congruent, Mentions, Says}
+use Rattle.formula_meaning.specs.Tree.{Tree, Trees, TrueAt, IsFree}
+use Rattle.formula_meaning.proofs.Sorted.{here}
+use Rattle.formula_meaning.proofs.TreeReplacing.{moved_of}
+use Rattle.elimination_theory.specs.Answers.{Step, Lead}
+use Rattle.elimination_theory.specs.Samples.{AreSamples}
+use Rattle.elimination_theory.proofs.Samples.{samples_true, samples_exist}
+use Rattle.atom_normal.specs.NormalForm.{IsNormal, normal_atom, first}
+use Rattle.elimination_reference.specs.Reference.{Branch, branch_trees, normal_tree, leading_branches}
+use Rattle.elimination_reference.specs.Cases.{case_sign, case_formula, case_matrix, case_names}
+use Rattle.elimination_reference.specs.PutIn.{put_in}
+use Rattle.elimination_reference.specs.Sample.{if_true, first_true, IsSampled}
+use Rattle.elimination_reference.specs.Theorems.{IsProper, IsBranching, IsTidy, IsChoice, SamplesAreExact}
+use Rattle.elimination_reference.proofs.Always.{gives_then}
+use Rattle.elimination_reference.proofs.Tidy.{normaliser}
+use Rattle.elimination_reference.proofs.Branches.{IsBranch, AreBranches}
+use Rattle.elimination_reference.proofs.CasesExact.{free}
+use Rattle.elimination_reference.proofs.Sound.{leading_are}
+use Rattle.elimination_reference.proofs.Periods.{normal_keeps_periods}
+use Rattle.elimination_reference.proofs.PutIn.{putting_in_exact}
+
+-- ---- a tidy formula that is not a constant has a name
+
+first_stands : (t : Term) (ts : List Term) → AllAbove t.name ts → ¬ (t.times ≡ pos 0) → ¬ (multiple t.name (t ∷ ts) ≡ pos 0)
+first_stands t ts above n e = n (sym (here t.name t ts refl above) ∙ e)
+
+positive_stands : (z : ℤ) → pos 0 <ℤ z → ¬ (z ≡ pos 0)
+positive_stands z h e = absurd (omega (arith, ints))
+
+oriented_name : (f : Form) → IsRising f.terms → pos 0 <ℤ first f.terms → (x : ℕ) × ¬ (coefficient x f ≡ pos 0)
+unfolding coefficient
+oriented_name f rising h = go f.terms rising h
+  where
+    go : (ts : List Term) → IsRising ts → pos 0 <ℤ first ts → (x : ℕ) × ¬ (multiple x ts ≡ pos 0)
+    go [] r p = absurd (omega (arith, ints))
+    go (t ∷ ts) r p = (t.name, first_stands t ts r.0 (positive_stands t.times p))
+
+alone_content : (m : ℕ) → content_of (pos m ∷ []) ≡ pos m
+unfolding content_of gcd_of euclid
+alone_content m = refl
+
+congruence_name : (m : ℕ) (f : Form) → 1 < m → IsSorted f → content_of (pos m ∷ coefficients f.terms) ≡ pos 1 → (x : ℕ) × ¬ (coefficient x f ≡ pos 0)
+unfolding coefficient
+congruence_name m f h s e = go f.terms s.rising s.nonzero e
+  where
+    go : (ts : List Term) → IsRising ts → AllNonzero ts → content_of (pos m ∷ coefficients ts) ≡ pos 1 → (x : ℕ) × ¬ (multiple x ts ≡ pos 0)
+    go [] r n e = let k = sym (alone_content m) ∙ e in absurd (omega (arith, ints))
+    go (t ∷ ts) r n e = (t.name, first_stands t ts r.0 n.0)
+
+normal_name : (c : Context) (a : Atom) → IsNormal c a → (x : ℕ) × Mentions a x
+normal_name Fields (Compare r f) n = oriented_name f n.oriented.sorted.rising n.oriented.positive
+normal_name Integers (Compare r f) n = oriented_name f n.oriented.sorted.rising n.oriented.positive
+normal_name Fields (Congruent b m f) n = absurd n
+normal_name Integers (Congruent b m f) n = congruence_name m f n.above_one n.sorted n.coprime
+
+has_name : (c : Context) (f : Tree) → IsPlain f → Every (IsNormal c) f → IsBranching f → IsProper f → (x : ℕ) × IsFree f x
+has_name c Yes p n b h = absurd h
+has_name c No p n b h = absurd h
+has_name c (One a) p n b h = normal_name c a n
+has_name c (Not f) p n b h = absurd p
+has_name c (And none) p n b h = absurd b.0
+has_name c (And (also f fs)) p n b h = let i = has_name c f p.0 n.0 b.1.1 b.1.0 in (i.0, inl i.1)
+has_name c (Or none) p n b h = absurd b.0
+has_name c (Or (also f fs)) p n b h = let i = has_name c f p.0 n.0 b.1.1 b.1.0 in (i.0, inl i.1)
+has_name c (Impl f g) p n b h = absurd p
+has_name c (Repl f g) p n b h = absurd p
+has_name c (Equiv f g) p n b h = absurd p
+has_name c (Ex x f) p n b h = absurd p
+has_name c (All x f) p n b h = absurd p
+
+-- ---- the first true branch
+
+module _ (c : Context) (matrix : Tree) (p : Point ℕ) where
+  -- what is chosen of branches
+  Chosen : Trees → Option (List Step) → Type 0
+  Chosen ts None = ¬ (SomeTrue Says (move nat_eq) c ts p)
+  Chosen ts (Some steps) = Lead c steps matrix Yes × SomeTrue Says (move nat_eq) c ts p
+
+  one_more : (f : Tree) (ts : Trees) (o : Option (List Step)) → ¬ (TrueAt c f p) → Chosen ts o → Chosen (also f ts) o
+  unfolding Chosen
+  one_more f ts None n h = ⊎_elim n h
+  one_more f ts (Some steps) n h = (h.0, inr h.1)
+
+  choose : (f : Tree) (steps : List Step) (ts : Trees) (o : Option (List Step)) → IsTidy c f → ((y : ℕ) → ¬ (IsFree f y)) → Lead c steps matrix f → Chosen ts o → Chosen (also f ts) (if_true f steps o)
+  unfolding Chosen
+  choose Yes steps ts o tidy n l h = (l, inl tt)
+  choose No steps ts o tidy n l h = one_more No ts o (λ t. t) h
+  choose (One a) steps ts o tidy n l h = let i = has_name c (One a) tidy.is_plain tidy.normal tidy.two_members tt in absurd (n i.0 i.1)
+  choose (And fs) steps ts o tidy n l h = let i = has_name c (And fs) tidy.is_plain tidy.normal tidy.two_members tt in absurd (n i.0 i.1)
+  choose (Or fs) steps ts o tidy n l h = let i = has_name c (Or fs) tidy.is_plain tidy.normal tidy.two_members tt in absurd (n i.0 i.1)
+  choose (Not f) steps ts o tidy n l h = absurd tidy.is_plain
+  choose (Impl f g) steps ts o tidy n l h = absurd tidy.is_plain
+  choose (Repl f g) steps ts o tidy n l h = absurd tidy.is_plain
+  choose (Equiv f g) steps ts o tidy n l h = absurd tidy.is_plain
+  choose (Ex x f) steps ts o tidy n l h = absurd tidy.is_plain
+  choose (All x f) steps ts o tidy n l h = absurd tidy.is_plain
+
+  found : (names : List ℕ) (bs : List Branch) → EachOf (IsBranch c matrix names) bs → ((y : ℕ) → ¬ (FreeInSome Mentions (branch_trees bs) y)) → Chosen (branch_trees bs) (first_true bs)
+  unfolding Chosen
+  found names [] h n = λ t. t
+  found names (b ∷ bs) h n = choose b.tree b.steps (branch_trees bs) (first_true bs) h.0.tidy (λ y t. n y (inl t)) h.0.lead (found names bs h.1 (λ y t. n y (inr t)))
+
+-- samples are points of the theory
+samples_of : (c : Context) (steps : List Step) (p q : Point ℕ) → Of c p → IsSampled c p steps q → Of c q
+samples_of c [] p q o s = subst (Of c) s o
+samples_of c (s ∷ steps) p q o r = samples_of c steps (move nat_eq p s.name r.0 r.1) q (moved_of c p s.name r.0 r.1 o r.2) r.4
+
+module _ (c : Context) (g : Tree) (p : Point ℕ) (o : Of c p) where
+  choice : (bs : List Branch) → AreBranches c (case_formula g) (case_matrix g) (case_names g) bs → (u : Option (List Step)) → Chosen c (case_matrix g) p (branch_trees bs) u → IsChoice c g p u
+  unfolding Chosen
+  choice bs b None h = λ t. h ((b.equivalent p o).0 t)
+  choice bs b (Some steps) h =
+      let norm = normaliser c in let keeps = normal_keeps_periods c in (
+        (b.equivalent p o).1 h.1,
+        (let e = samples_exist c (normal_atom c) steps (case_matrix g) Yes p norm keeps h.0 o tt in (e.0, e.2)),
+        λ q s. (samples_of c steps p q o s, samples_true c (normal_atom c) steps (case_matrix g) Yes p q norm keeps h.0 o tt s),
+      )
+
+pub samples_exact : (c : Context) → SamplesAreExact c
+samples_exact c limit f p n o =
+    let g = put_in c p f in
+    let is = putting_in_exact c f p n o in
+    let sign = case_sign (normal_tree g) in
+    gives_then (λ (r : List Branch × ℕ). AreBranches c (case_formula g) (case_matrix g) (case_names g) r.0) (λ (r : Option (List Step) × ℕ). IsChoice c g p r.0) (leading_branches c limit sign g 0) _
+    (leading_are c limit sign g is.normal 0)
+    (λ r b. choice c g p o r.0 b (first_true r.0) (found c (case_matrix g) p (case_names g) r.0 b.each (λ y t. is.closed y (free c g sign y (b.free y t)))))
