@@ -9,3 +9,4 @@ pub mod Bounded
 pub mod PutIn
 pub mod Periods
 pub mod Sample
+pub mod PutMatrix

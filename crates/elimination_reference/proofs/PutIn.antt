@@ -28,9 +28,9 @@ use Rattle.elimination_reference.specs.Theorems.{PuttingInIsExact}
 use Rattle.elimination_reference.proofs.Turning.{normal_inside, normal_tree_inside, normal_truths}
 
 -- r is the point whose values are those of q at the names, and those of p at all others
-record Mixes (names : List ℕ) (p q r : Point ℕ) : Type 0 where
-  inside : (x : ℕ) → is_in nat_eq x names ≡ true → r.at x *ℤ pos q.below ≡ q.at x *ℤ pos r.below
-  outside : (x : ℕ) → is_in nat_eq x names ≡ false → r.at x *ℤ pos p.below ≡ p.at x *ℤ pos r.below
+pub record Mixes (names : List ℕ) (p q r : Point ℕ) : Type 0 where
+  pub inside : (x : ℕ) → is_in nat_eq x names ≡ true → r.at x *ℤ pos q.below ≡ q.at x *ℤ pos r.below
+  pub outside : (x : ℕ) → is_in nat_eq x names ≡ false → r.at x *ℤ pos p.below ≡ p.at x *ℤ pos r.below
 
 -- ---- values
 
@@ -90,7 +90,7 @@ same_multiple n f g p q b e = (
   λ t. (t.0, e ∙ t.1 ∙ sym (ap (λ (d : ℕ). t.0 *ℤ (pos n *ℤ pos d)) b)),
 )
 
-put_in_context : (c : Context) (p : Point ℕ) (names : List ℕ) (a : Atom) → AtomIn c a → AtomIn c (atom_put p names a)
+pub put_in_context : (c : Context) (p : Point ℕ) (names : List ℕ) (a : Atom) → AtomIn c a → AtomIn c (atom_put p names a)
 put_in_context c p names (Compare r f) i = tt
 put_in_context Fields p names (Congruent holds n f) i = i
 put_in_context Integers p names (Congruent holds n f) i = i
@@ -112,10 +112,10 @@ module _ (names : List ℕ) (p q r : Point ℕ) (mixes : Mixes names p q r) wher
 
 -- ---- moves
 
-turn_equal : (x y : ℕ) → nat_eq x y ≡ true → nat_eq y x ≡ true
+pub turn_equal : (x y : ℕ) → nat_eq x y ≡ true → nat_eq y x ≡ true
 turn_equal x y e = eq-eqb y x (sym (eqb-true x y e))
 
-not_both : (b : Bool) → b ≡ true → b ≡ false → ⊥
+pub not_both : (b : Bool) → b ≡ true → b ≡ false → ⊥
 not_both true e f = absurd (grind (arith, f))
 not_both false e f = absurd (grind (arith, e))
 
@@ -186,7 +186,7 @@ module _ (c : Context) (p : Point ℕ) (o : Of c p) where
   )
 
   mutual
-    put_true : (names : List ℕ) (f : Tree) (q r : Point ℕ) → InContext c f → Of c q → Of c r → Mixes names p q r → TrueAt c f r ↔ TrueAt c (tree_put c p names f) q
+    pub put_true : (names : List ℕ) (f : Tree) (q r : Point ℕ) → InContext c f → Of c q → Of c r → Mixes names p q r → TrueAt c f r ↔ TrueAt c (tree_put c p names f) q
     put_true names Yes q r n i j h = (λ t. t, λ t. t)
     put_true names No q r n i j h = (λ t. t, λ t. t)
     put_true names (One a) q r n i j h = both_ways (atom_put_true names p q r h c a o i j n) (normal_truth c (atom_put p names a) (put_in_context c p names a n) q i)

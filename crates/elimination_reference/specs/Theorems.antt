@@ -115,14 +115,14 @@ PuttingInIsExact c = (f : Tree) (p : Point ℕ) → Every (IsNormal c) f → Of 
 
 -- ---- samples
 
--- Where steps are chosen the formula whose cases are asked is true, there is a sample, and every sample makes the matrix true.
--- Over the integers it is whole. Where none are chosen the formula is false.
+-- Where steps are chosen the formula whose cases are asked is true at the point, there is a sample, and every sample makes the
+-- matrix true; over the integers it is whole. Where none are chosen the formula is false there.
 abbrev pub IsChoice : Context → Tree → Point ℕ → Option (List Step) → Type 0
-IsChoice c g p None = ¬ (TrueAt c (case_formula g) p)
-IsChoice c g p (Some steps) =
-    TrueAt c (case_formula g) p
+IsChoice c f p None = ¬ (TrueAt c (case_formula f) p)
+IsChoice c f p (Some steps) =
+    TrueAt c (case_formula f) p
     × ((q : Point ℕ) × IsSampled c p steps q)
-    × ((q : Point ℕ) → IsSampled c p steps q → Of c q × TrueAt c (case_matrix g) q)
+    × ((q : Point ℕ) → IsSampled c p steps q → Of c q × TrueAt c (case_matrix f) q)
 
 abbrev pub SamplesAreExact : Context → Type 0
-SamplesAreExact c = (limit : ℕ) (f : Tree) (p : Point ℕ) → Every (IsNormal c) f → Of c p → Gives (λ r. IsChoice c (put_in c p f) p r.0) (chosen_steps c limit p f)
+SamplesAreExact c = (limit : ℕ) (f : Tree) (p : Point ℕ) → Every (IsNormal c) f → Of c p → Gives (λ r. IsChoice c f p r.0) (chosen_steps c limit p f)

@@ -28,8 +28,8 @@ pub fn putting_in_is_exact()
     ensures { (c : Context) → PuttingInIsExact c }
 {}
 
-/// With a point put in, steps are chosen exactly where the formula, or its negation where it begins with `all`, is true. Then
-/// there is a sample of them, and every sample makes the matrix true; over the integers it is whole.
+/// Steps are chosen exactly where the formula, or its negation where it begins with `all`, is true at the point. Then there is
+/// a sample of them, and every sample makes the matrix behind the leading quantifiers true; over the integers it is whole.
 pub fn samples_are_exact()
     ensures { (c : Context) → SamplesAreExact c }
 {}
