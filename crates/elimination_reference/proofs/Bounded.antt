@@ -1,11 +1,11 @@
 -- The result has at most as many nodes as it cost.
-use Rattle.std.proofs.Common.{◌≡◌, ℕ, suc, ◌+◌, ◌*◌, ◌≤◌, nat_le, Bool, true, false, List, [], ◌∷◌, ◌++◌, map, length, refl, sym, subst, arith, nat_eq, if◌then◌else◌}
+use Rattle.std.proofs.Common.{◌≡◌, ℕ, suc, ◌+◌, ◌*◌, ◌≤◌, nat_le, Bool, true, false, List, [], ◌∷◌, ◌++◌, map, length, refl, subst, arith, nat_eq, if◌then◌else◌}
 use Rattle.std.proofs.lemmas.Bool.{leb-true}
 use Rattle.formula_meaning.specs.Context.{Context, Fields, Integers}
 use Rattle.formula_meaning.specs.Formula.{Yes, No, One, Not, And, Or, Impl, Repl, Equiv, Ex, All, none, also}
 use Rattle.formula_meaning.specs.Every.{Every, EveryOf}
 use Rattle.formula_meaning.specs.Some.{EachOf}
-use Rattle.formula_meaning.specs.Shape.{IsPlain, ArePlain, IsNegationNormal, AreNegationNormal, Exists, matrix_of, block_of, is_in}
+use Rattle.formula_meaning.specs.Shape.{IsPlain, ArePlain, IsNegationNormal, AreNegationNormal, is_in}
 use Rattle.formula_meaning.specs.Fold.{Junction, Conjunction, Disjunction, append, fold_list}
 use Rattle.formula_meaning.specs.Sizes.{nodes, all_nodes}
 use Rattle.formula_meaning.specs.NegationNormal.{normal_form_of_not, normal_forms_of_not}
@@ -18,17 +18,17 @@ use Rattle.elimination_theory.specs.Side.{Lower}
 use Rattle.elimination_theory.specs.Atoms.{atoms_in, atoms_of}
 use Rattle.elimination_theory.specs.IntegersPoints.{scale_of, own_span, points_with}
 use Rattle.elimination_theory.specs.BothTheories.{test_points}
-use Rattle.elimination_theory.specs.Steps.{trees_left, step}
+use Rattle.elimination_theory.specs.Steps.{step}
 use Rattle.elimination_theory.proofs.OneStep.{steps_exact}
 use Rattle.atom_normal.specs.NormalForm.{IsNormal, normal_atom, negated_normal}
 use Rattle.elimination_reference.specs.Measured.{Outcome, stopped, done, then_of, Counted, ◌>>=◌, give, pay, within, Gives, Nodes}
 use Rattle.elimination_reference.specs.Limits.{span_within, step_within}
-use Rattle.elimination_reference.specs.Reference.{Branch, stands_among, point_count, kept_at_zero, next_branch, alone, branch_trees, together, normal_tree, turned, signed_junction, full_step, one_step, steps, closed, branches, members, leading_branches, reference}
+use Rattle.elimination_reference.specs.Reference.{Branch, stands_among, point_count, kept_at_zero, next_branch, alone, branch_trees, together, normal_tree, turned, full_step, one_step, steps, closed, branches, members}
 use Rattle.elimination_reference.specs.Theorems.{CostBoundsNodes}
 use Rattle.elimination_reference.proofs.Always.{Always, gives_then, gives_both, gives_map}
 use Rattle.elimination_reference.proofs.Tidy.{normaliser, tidy_in}
 use Rattle.elimination_reference.proofs.Branches.{IsBranch, AreBranches, next_trees, together_is, steps_are}
-use Rattle.elimination_reference.proofs.Sound.{Good, branches_are, normal_normal_tree}
+use Rattle.elimination_reference.proofs.Sound.{branches_are, normal_normal_tree}
 
 -- ---- nodes
 

@@ -1,12 +1,11 @@
 -- The cases are the branches of the leading block.
-use Rattle.std.proofs.Common.{◌≡◌, ℕ, Bool, true, false, List, [], ◌∷◌, refl, ap, sym, subst, ◌∙◌, ◌↔◌, nat_eq}
+use Rattle.std.proofs.Common.{◌≡◌, ℕ, Bool, true, false, List, [], ◌∷◌, refl, ap, sym, subst, ◌∙◌}
 use Rattle.formula_meaning.specs.Context.{Context}
-use Rattle.formula_meaning.specs.Formula.{Or, none, also}
+use Rattle.formula_meaning.specs.Formula.{Or, also}
 use Rattle.formula_meaning.specs.Every.{Every}
 use Rattle.formula_meaning.specs.Some.{EachOf}
-use Rattle.formula_meaning.specs.Shape.{Exists, matrix_of, block_of}
 use Rattle.formula_meaning.specs.Tree.{Tree, Trees, Equivalent, IsFree}
-use Rattle.formula_meaning.proofs.Iff.{both_ways, turn_round}
+use Rattle.formula_meaning.proofs.Iff.{both_ways}
 use Rattle.elimination_theory.specs.Answers.{Step, answers_of}
 use Rattle.elimination_theory.proofs.Answers.{answers_hold}
 use Rattle.atom_normal.specs.NormalForm.{IsNormal}

@@ -1,5 +1,5 @@
 -- Worked examples of the reference elimination, by hand. The names x, y, a, b and c are 0, 1, 2, 3 and 4.
-use Rattle.std.proofs.Common.{◌≡◌, ℕ, true, [], ◌∷◌, refl}
+use Rattle.std.proofs.Common.{None, Some, [], if◌then◌else◌, nat_eq, refl, true, ℕ, ◌∷◌, ◌≡◌}
 use Rattle.std.proofs.Math.IntN.{ℤ, pos, negsuc, neg_ℤ}
 use Rattle.exact_numbers.specs.Divides.{content_of, gcd_of, lcm_of, euclid}
 use Rattle.formula_meaning.specs.Context.{Fields, Integers}
@@ -18,6 +18,9 @@ use Rattle.atom_normal.specs.NormalForm.{normal_atom}
 use Rattle.elimination_reference.specs.Measured.{done, stopped, Nodes, Overflow}
 use Rattle.elimination_reference.specs.Reference.{reference}
 use Rattle.elimination_reference.specs.Cases.{reference_cases}
+use Rattle.elimination_reference.specs.PutIn.{put_in}
+use Rattle.elimination_reference.specs.Sample.{chosen_steps}
+use Rattle.formula_meaning.specs.Point.{Point}
 
 -- an atom of a comparison
 abbrev atom : Relation → Form → Tree
@@ -149,3 +152,37 @@ wide = Ex 0 (And (both (atom Above (weighted (pos 850705917302346158658436518579
 wide_overflows : reference Integers 4 wide ≡ stopped Overflow
 unfolding coefficient without scale combine plus content_of gcd_of lcm_of euclid normal_atom gathered quotient residue_form
 wide_overflows = refl
+
+-- ---- a point put in, and the sample
+
+-- a = 1/2 and b = 3/2, all others 0
+abbrev halves : Point ℕ
+halves = record { at = λ x. if nat_eq x 2 then pos 1 else if nat_eq x 3 then pos 3 else pos 0; below = 2 }
+
+-- 2 * x - n
+abbrev twice : ℤ → Form
+twice n = record { terms = multiple_of (pos 2) 0 ∷ []; constant = n }
+
+-- x > a and x < b become 2 * x - 1 > 0 and 2 * x - 3 < 0
+abbrev inner : Tree
+inner = And (both (atom Above (twice (negsuc 0))) (atom Below (twice (negsuc 2))))
+
+halves_put_in : put_in Fields halves between ≡ Ex 0 inner
+unfolding content_of gcd_of euclid normal_atom gathered quotient
+halves_put_in = refl
+
+-- the bound name is not put in
+bound_name_stays : put_in Fields halves (Ex 2 (atom Above (difference 2 3))) ≡ Ex 2 (atom Above (record { terms = multiple_of (pos 2) 2 ∷ []; constant = negsuc 2 }))
+unfolding content_of gcd_of euclid normal_atom gathered quotient
+bound_name_stays = refl
+
+-- at minus infinity false is left, at 1/2 + epsilon true
+halves_chosen : chosen_steps Fields 14 halves between
+    ≡ done (Some (record { name = 0; place = AboveBy (record { terms = []; constant = pos 1 }) 2; branch = inner } ∷ []), 14)
+unfolding coefficient without scale combine plus form_over content_of gcd_of euclid normal_atom gathered quotient
+halves_chosen = refl
+
+-- between a and a there is nothing
+nothing_chosen : chosen_steps Fields 14 halves (Ex 0 (And (both (atom Above (difference 0 2)) (atom Below (difference 0 2))))) ≡ done (None, 14)
+unfolding coefficient without scale combine plus form_over content_of gcd_of euclid normal_atom gathered quotient
+nothing_chosen = refl

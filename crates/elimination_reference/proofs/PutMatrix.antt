@@ -25,7 +25,7 @@ use Rattle.elimination_reference.specs.PutIn.{atom_put, tree_put, trees_put}
 use Rattle.elimination_reference.specs.Sample.{IsSampled}
 use Rattle.elimination_reference.proofs.Turning.{normal_truths}
 use Rattle.elimination_reference.proofs.Branches.{step_names}
-use Rattle.elimination_reference.proofs.PutIn.{Mixes, put_true, not_both, turn_equal}
+use Rattle.elimination_reference.proofs.PutIn.{put_true, not_both, turn_equal}
 
 -- ---- constants and atoms
 

@@ -1,6 +1,6 @@
 -- With a point put in each guard is true or false, and the first true one has a sample.
-use Rattle.std.proofs.Common.{◌≡◌, ℕ, ◌<◌, ◌↔◌, Bool, true, false, List, [], ◌∷◌, Option, Some, None, refl, sym, ap, ◌∙◌, subst, arith, inl, inr, ⊎_elim, nat_eq}
-use Rattle.std.proofs.Math.IntN.{ℤ, pos, negsuc, ◌+ℤ◌}
+use Rattle.std.proofs.Common.{◌≡◌, ℕ, ◌<◌, ◌↔◌, Bool, false, List, [], ◌∷◌, Option, Some, None, refl, sym, ap, ◌∙◌, subst, arith, inl, inr, ⊎_elim, nat_eq}
+use Rattle.std.proofs.Math.IntN.{ℤ, pos}
 use Rattle.std.specs.Prelude.{◌<ℤ◌}
 use Rattle.std.proofs.lemmas.Int.{ints}
 use Rattle.exact_numbers.specs.Divides.{content_of, gcd_of, euclid}
@@ -19,7 +19,6 @@ use Rattle.formula_meaning.proofs.NormalShape.{normal_form_shape}
 use Rattle.formula_meaning.proofs.Sorted.{here}
 use Rattle.formula_meaning.proofs.TreeReplacing.{moved_of}
 use Rattle.elimination_theory.specs.Answers.{Step, Lead}
-use Rattle.elimination_theory.specs.Samples.{AreSamples}
 use Rattle.elimination_theory.proofs.Samples.{samples_true, samples_exist}
 use Rattle.atom_normal.specs.NormalForm.{IsNormal, normal_atom, negated_normal, first}
 use Rattle.elimination_reference.specs.Reference.{Branch, branch_trees, normal_tree, turned, leading_branches}

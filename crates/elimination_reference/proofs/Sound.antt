@@ -1,5 +1,5 @@
 -- The branches of each formula, by one recursion over it.
-use Rattle.std.proofs.Common.{ℕ, Bool, true, false, List, [], ◌∷◌, ⊎_elim, inl, inr, nat_eq, if◌then◌else◌}
+use Rattle.std.proofs.Common.{ℕ, Bool, true, false, List, [], ◌∷◌, nat_eq, if◌then◌else◌}
 use Rattle.formula_meaning.specs.Context.{Context}
 use Rattle.formula_meaning.specs.Formula.{Yes, No, One, Not, And, Or, Impl, Repl, Equiv, Ex, All, none, also}
 use Rattle.formula_meaning.specs.Every.{Every, EveryOf, FreeInSome}
@@ -17,12 +17,12 @@ use Rattle.formula_meaning.proofs.NormalShape.{normal_form_shape, normal_form_ev
 use Rattle.elimination_theory.specs.Decided.{IsEliminated, AreEliminated}
 use Rattle.elimination_theory.proofs.Becoming.{becomes_itself, becomes_and, becomes_or}
 use Rattle.atom_normal.specs.NormalForm.{IsNormal, negated_normal}
-use Rattle.atom_normal.proofs.NormalLaws.{normal_in, negated_normal_is}
-use Rattle.elimination_reference.specs.Measured.{Counted, ◌>>=◌, give, pay, Gives}
-use Rattle.elimination_reference.specs.Reference.{Branch, alone, together, normal_tree, turned, steps, closed, branches, members, leading_branches, reference}
+use Rattle.atom_normal.proofs.NormalLaws.{negated_normal_is}
+use Rattle.elimination_reference.specs.Measured.{Counted, ◌>>=◌, give, pay}
+use Rattle.elimination_reference.specs.Reference.{Branch, alone, together, normal_tree, turned, steps, closed, branches, members, leading_branches}
 use Rattle.elimination_reference.specs.Theorems.{IsTidy, IsAnswerTo, ReferenceIsExact}
 use Rattle.elimination_reference.proofs.Tidy.{AreTidy, tidy_in, tidy_fold_list}
-use Rattle.elimination_reference.proofs.Always.{Always, always_then, always_map, always_give, always_pay, gives_then}
+use Rattle.elimination_reference.proofs.Always.{Always, always_then, always_give, always_pay, gives_then}
 use Rattle.elimination_reference.proofs.Turning.{turn_forth, turn_back, from_normal}
 use Rattle.elimination_reference.proofs.Branches.{AreBranches, alone_are, together_is, steps_are, closed_are}
 

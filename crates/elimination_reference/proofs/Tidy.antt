@@ -1,8 +1,7 @@
 -- Tidy formulas stay tidy: through folding, negation and steps.
-use Rattle.std.proofs.Common.{◌≡◌, ℕ, List, [], ◌∷◌, Option, Some, None, refl, subst, inl, inr}
-use Rattle.std.proofs.Math.IntN.{ℤ, pos, negsuc}
+use Rattle.std.proofs.Common.{ℕ, List, [], ◌∷◌, Option, Some, None, refl, inl, inr}
 use Rattle.formula_meaning.specs.Context.{Context, Fields, Integers}
-use Rattle.formula_meaning.specs.Formula.{Formula, Formulas, Yes, No, One, Not, And, Or, Impl, Repl, Equiv, Ex, All, none, also}
+use Rattle.formula_meaning.specs.Formula.{Yes, No, One, Not, And, Or, Impl, Repl, Equiv, Ex, All, none, also}
 use Rattle.formula_meaning.specs.Every.{Every, EveryOf}
 use Rattle.formula_meaning.specs.Form.{coefficient}
 use Rattle.formula_meaning.specs.Atom.{Atom, AtomIn, form_of}
@@ -20,7 +19,6 @@ use Rattle.atom_normal.specs.NormalForm.{IsNormal, normal_atom, negated_normal}
 use Rattle.atom_normal.proofs.NormalLaws.{normal_in, normal_truth, normal_names, normal_within, normal_normal, normal_atomic, negated_normal_is}
 use Rattle.elimination_theory.specs.Side.{Lower}
 use Rattle.elimination_theory.specs.Atoms.{atoms_of}
-use Rattle.elimination_theory.specs.Substitution.{where_zero}
 use Rattle.elimination_theory.specs.BothTheories.{IsPlaceIn, raw_atom, guard_of, test_points}
 use Rattle.elimination_theory.specs.Steps.{IsNormaliser, normalised, atom_at, result_at, Result, kept, results, step}
 use Rattle.elimination_theory.proofs.Simple.{IsSimple, simple_plain, simple_normalised, where_zero_has, raw_simple, guard_simple, replaced_plain}
