@@ -10,3 +10,4 @@ pub mod PutIn
 pub mod Periods
 pub mod Sample
 pub mod PutMatrix
+pub mod Limits

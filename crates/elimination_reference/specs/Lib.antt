@@ -5,3 +5,4 @@ pub mod Cases
 pub mod Sample
 pub mod Theorems
 pub mod PutIn
+pub mod LimitLaws

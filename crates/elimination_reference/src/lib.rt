@@ -3,6 +3,9 @@
 #![tactic(auto)]
 
 ghost use Rattle.formula_meaning.specs.Context.{Context};
+ghost use Rattle.std.specs.Prelude.{ℕ};
+ghost use Rattle.formula_meaning.specs.Tree.{Tree};
+ghost use Rattle.elimination_reference.specs.LimitLaws.{LimitsAreTested};
 ghost use Rattle.elimination_reference.specs.Theorems.{ReferenceIsExact, CostBoundsNodes, CasesAreExact, PuttingInIsExact, SamplesAreExact};
 
 /// Of a formula over normal atoms, the reference elimination gives an equivalent one without quantifiers, over its free names,
@@ -32,4 +35,10 @@ pub fn putting_in_is_exact()
 /// a sample of them, and every sample makes the matrix behind the leading quantifiers true; over the integers it is whole.
 pub fn samples_are_exact()
     ensures { (c : Context) → SamplesAreExact c }
+{}
+
+/// The tests by which the reference elimination stops with `Overflow` are true exactly where the numbers that a step forms are
+/// within the limit.
+pub fn limits_are_tested()
+    ensures { (c : Context) (x : ℕ) (f : Tree) → LimitsAreTested c x f }
 {}
