@@ -11,3 +11,4 @@ pub mod Periods
 pub mod Sample
 pub mod PutMatrix
 pub mod Limits
+pub mod Turned

@@ -6,3 +6,4 @@ pub mod Sample
 pub mod Theorems
 pub mod PutIn
 pub mod LimitLaws
+pub mod Turned

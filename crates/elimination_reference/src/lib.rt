@@ -6,6 +6,7 @@ ghost use Rattle.formula_meaning.specs.Context.{Context};
 ghost use Rattle.std.specs.Prelude.{ℕ};
 ghost use Rattle.formula_meaning.specs.Tree.{Tree};
 ghost use Rattle.elimination_reference.specs.LimitLaws.{LimitsAreTested};
+ghost use Rattle.elimination_reference.specs.Turned.{AllIsNegatedEx};
 ghost use Rattle.elimination_reference.specs.Theorems.{ReferenceIsExact, CostBoundsNodes, CasesAreExact, PuttingInIsExact, SamplesAreExact};
 
 /// Of a formula over normal atoms, the reference elimination gives an equivalent one without quantifiers, over its free names,
@@ -41,4 +42,9 @@ pub fn samples_are_exact()
 /// within the limit.
 pub fn limits_are_tested()
     ensures { (c : Context) (x : ℕ) (f : Tree) → LimitsAreTested c x f }
+{}
+
+/// The reference elimination of `all(x, f)` is the negation of that of `ex(x, not f)`: its sign stands for a negation.
+pub fn all_is_negated_ex()
+    ensures { AllIsNegatedEx }
 {}
