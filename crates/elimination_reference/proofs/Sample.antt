@@ -1,0 +1,174 @@
+-- With a point put in each guard is true or false, and the first true one has a sample.
+use Rattle.std.proofs.Common.{◌≡◌, ℕ, ◌<◌, ◌↔◌, Bool, false, List, [], ◌∷◌, Option, Some, None, refl, sym, ap, ◌∙◌, subst, arith, inl, inr, ⊎_elim, nat_eq}
+use Rattle.std.proofs.Math.IntN.{ℤ, pos}
+use Rattle.std.specs.Prelude.{◌<ℤ◌}
+use Rattle.std.proofs.lemmas.Int.{ints}
+use Rattle.exact_numbers.specs.Divides.{content_of, gcd_of, euclid}
+use Rattle.formula_meaning.specs.Context.{Context, Fields, Integers}
+use Rattle.formula_meaning.specs.Point.{Point, Of, move}
+use Rattle.formula_meaning.specs.Formula.{Yes, No, One, Not, And, Or, Impl, Repl, Equiv, Ex, All, none, also}
+use Rattle.formula_meaning.specs.Truth.{SomeTrue}
+use Rattle.formula_meaning.specs.Every.{Every, FreeInSome}
+use Rattle.formula_meaning.specs.Some.{EachOf}
+use Rattle.formula_meaning.specs.Shape.{IsPlain, IsNegationNormal, Exists, is_in, matrix_of, block_of}
+use Rattle.formula_meaning.specs.Form.{Form, Term, coefficient, multiple, coefficients}
+use Rattle.formula_meaning.specs.Sorted.{IsSorted, AllAbove, IsRising, AllNonzero}
+use Rattle.formula_meaning.specs.Atom.{Atom, Compare, Congruent, Mentions, Says}
+use Rattle.formula_meaning.specs.Tree.{Tree, Trees, TrueAt, InContext, IsFree}
+use Rattle.formula_meaning.proofs.NormalShape.{normal_form_shape}
+use Rattle.formula_meaning.proofs.Sorted.{here}
+use Rattle.formula_meaning.proofs.TreeReplacing.{moved_of}
+use Rattle.elimination_theory.specs.Answers.{Step, Lead}
+use Rattle.elimination_theory.proofs.Samples.{samples_true, samples_exist}
+use Rattle.atom_normal.specs.NormalForm.{IsNormal, normal_atom, negated_normal, first}
+use Rattle.elimination_reference.specs.Reference.{Branch, branch_trees, normal_tree, turned, leading_branches}
+use Rattle.elimination_reference.specs.Cases.{case_sign, case_formula, case_matrix, case_names}
+use Rattle.elimination_reference.specs.PutIn.{put_in}
+use Rattle.elimination_reference.specs.Sample.{if_true, first_true, IsSampled}
+use Rattle.elimination_reference.specs.Theorems.{IsProper, IsBranching, IsTidy, IsChoice, SamplesAreExact}
+use Rattle.elimination_reference.proofs.Always.{gives_then}
+use Rattle.elimination_reference.proofs.Tidy.{normaliser}
+use Rattle.elimination_reference.proofs.Turning.{normal_inside, normal_tree_inside}
+use Rattle.elimination_reference.proofs.Branches.{step_names, IsBranch, AreBranches}
+use Rattle.elimination_reference.proofs.PutMatrix.{normal_stays, put_shape, put_sign, Same, formula_put, matrix_same, samples_same}
+use Rattle.elimination_reference.proofs.CasesExact.{free}
+use Rattle.elimination_reference.proofs.Sound.{leading_are}
+use Rattle.elimination_reference.proofs.Periods.{normal_keeps_periods}
+use Rattle.elimination_reference.proofs.PutIn.{putting_in_exact}
+
+-- ---- a tidy formula that is not a constant has a name
+
+first_stands : (t : Term) (ts : List Term) → AllAbove t.name ts → ¬ (t.times ≡ pos 0) → ¬ (multiple t.name (t ∷ ts) ≡ pos 0)
+first_stands t ts above n e = n (sym (here t.name t ts refl above) ∙ e)
+
+positive_stands : (z : ℤ) → pos 0 <ℤ z → ¬ (z ≡ pos 0)
+positive_stands z h e = absurd (omega (arith, ints))
+
+oriented_name : (f : Form) → IsRising f.terms → pos 0 <ℤ first f.terms → (x : ℕ) × ¬ (coefficient x f ≡ pos 0)
+unfolding coefficient
+oriented_name f rising h = go f.terms rising h
+  where
+    go : (ts : List Term) → IsRising ts → pos 0 <ℤ first ts → (x : ℕ) × ¬ (multiple x ts ≡ pos 0)
+    go [] r p = absurd (omega (arith, ints))
+    go (t ∷ ts) r p = (t.name, first_stands t ts r.0 (positive_stands t.times p))
+
+alone_content : (m : ℕ) → content_of (pos m ∷ []) ≡ pos m
+unfolding content_of gcd_of euclid
+alone_content m = refl
+
+congruence_name : (m : ℕ) (f : Form) → 1 < m → IsSorted f → content_of (pos m ∷ coefficients f.terms) ≡ pos 1 → (x : ℕ) × ¬ (coefficient x f ≡ pos 0)
+unfolding coefficient
+congruence_name m f h s e = go f.terms s.rising s.nonzero e
+  where
+    go : (ts : List Term) → IsRising ts → AllNonzero ts → content_of (pos m ∷ coefficients ts) ≡ pos 1 → (x : ℕ) × ¬ (multiple x ts ≡ pos 0)
+    go [] r n e = let k = sym (alone_content m) ∙ e in absurd (omega (arith, ints))
+    go (t ∷ ts) r n e = (t.name, first_stands t ts r.0 n.0)
+
+normal_name : (c : Context) (a : Atom) → IsNormal c a → (x : ℕ) × Mentions a x
+normal_name Fields (Compare r f) n = oriented_name f n.oriented.sorted.rising n.oriented.positive
+normal_name Integers (Compare r f) n = oriented_name f n.oriented.sorted.rising n.oriented.positive
+normal_name Fields (Congruent b m f) n = absurd n
+normal_name Integers (Congruent b m f) n = congruence_name m f n.above_one n.sorted n.coprime
+
+has_name : (c : Context) (f : Tree) → IsPlain f → Every (IsNormal c) f → IsBranching f → IsProper f → (x : ℕ) × IsFree f x
+has_name c Yes p n b h = absurd h
+has_name c No p n b h = absurd h
+has_name c (One a) p n b h = normal_name c a n
+has_name c (Not f) p n b h = absurd p
+has_name c (And none) p n b h = absurd b.0
+has_name c (And (also f fs)) p n b h = let i = has_name c f p.0 n.0 b.1.1 b.1.0 in (i.0, inl i.1)
+has_name c (Or none) p n b h = absurd b.0
+has_name c (Or (also f fs)) p n b h = let i = has_name c f p.0 n.0 b.1.1 b.1.0 in (i.0, inl i.1)
+has_name c (Impl f g) p n b h = absurd p
+has_name c (Repl f g) p n b h = absurd p
+has_name c (Equiv f g) p n b h = absurd p
+has_name c (Ex x f) p n b h = absurd p
+has_name c (All x f) p n b h = absurd p
+
+-- ---- the first true branch
+
+module _ (c : Context) (matrix : Tree) (names : List ℕ) (p : Point ℕ) where
+  -- what is chosen of branches
+  Chosen : Trees → Option (List Step) → Type 0
+  Chosen ts None = ¬ (SomeTrue Says (move nat_eq) c ts p)
+  Chosen ts (Some steps) = Lead c steps matrix Yes × SomeTrue Says (move nat_eq) c ts p × (step_names steps ≡ names)
+
+  one_more : (f : Tree) (ts : Trees) (o : Option (List Step)) → ¬ (TrueAt c f p) → Chosen ts o → Chosen (also f ts) o
+  unfolding Chosen
+  one_more f ts None n h = ⊎_elim n h
+  one_more f ts (Some steps) n h = (h.0, inr h.1, h.2)
+
+  choose : (f : Tree) (steps : List Step) (ts : Trees) (o : Option (List Step)) → IsTidy c f → ((y : ℕ) → ¬ (IsFree f y)) → Lead c steps matrix f → step_names steps ≡ names → Chosen ts o → Chosen (also f ts) (if_true f steps o)
+  unfolding Chosen
+  choose Yes steps ts o tidy n l e h = (l, inl tt, e)
+  choose No steps ts o tidy n l e h = one_more No ts o (λ t. t) h
+  choose (One a) steps ts o tidy n l e h = let i = has_name c (One a) tidy.is_plain tidy.normal tidy.two_members tt in absurd (n i.0 i.1)
+  choose (And fs) steps ts o tidy n l e h = let i = has_name c (And fs) tidy.is_plain tidy.normal tidy.two_members tt in absurd (n i.0 i.1)
+  choose (Or fs) steps ts o tidy n l e h = let i = has_name c (Or fs) tidy.is_plain tidy.normal tidy.two_members tt in absurd (n i.0 i.1)
+  choose (Not f) steps ts o tidy n l e h = absurd tidy.is_plain
+  choose (Impl f g) steps ts o tidy n l e h = absurd tidy.is_plain
+  choose (Repl f g) steps ts o tidy n l e h = absurd tidy.is_plain
+  choose (Equiv f g) steps ts o tidy n l e h = absurd tidy.is_plain
+  choose (Ex x f) steps ts o tidy n l e h = absurd tidy.is_plain
+  choose (All x f) steps ts o tidy n l e h = absurd tidy.is_plain
+
+  found : (bs : List Branch) → EachOf (IsBranch c matrix names) bs → ((y : ℕ) → ¬ (FreeInSome Mentions (branch_trees bs) y)) → Chosen (branch_trees bs) (first_true bs)
+  unfolding Chosen
+  found [] h n = λ t. t
+  found (b ∷ bs) h n = choose b.tree b.steps (branch_trees bs) (first_true bs) h.0.tidy (λ y t. n y (inl t)) h.0.lead h.0.in_order (found bs h.1 (λ y t. n y (inr t)))
+
+-- samples are points of the theory
+samples_of : (c : Context) (steps : List Step) (p q : Point ℕ) → Of c p → IsSampled c p steps q → Of c q
+samples_of c [] p q o s = subst (Of c) s o
+samples_of c (s ∷ steps) p q o r = samples_of c steps (move nat_eq p s.name r.0 r.1) q (moved_of c p s.name r.0 r.1 o r.2) r.4
+
+module _ (c : Context) (f : Tree) (p : Point ℕ) (n : Every (IsNormal c) f) (o : Of c p) where
+  -- the cases of the formula with the point put in, in words of the formula's own negation normal form
+  shape : IsNegationNormal (normal_tree f)
+  shape = (normal_form_shape negated_normal f).0
+
+  stays : normal_tree (put_in c p f) ≡ put_in c p f
+  stays = normal_stays (put_in c p f) (put_shape c p o [] (normal_tree f) shape)
+
+  same_sign : case_sign (normal_tree (put_in c p f)) ≡ case_sign (normal_tree f)
+  same_sign = ap case_sign stays ∙ put_sign c p o [] (normal_tree f)
+
+  same_formula : case_formula (put_in c p f) ≡ turned (case_sign (normal_tree f)) (put_in c p f)
+  same_formula = ap (λ (b : Bool). turned b (normal_tree (put_in c p f))) same_sign ∙ ap (turned (case_sign (normal_tree f))) stays
+
+  inside : InContext c (put_in c p f)
+  inside = normal_inside c (put_in c p f) (putting_in_exact c f p n o).normal
+
+  formula_true : TrueAt c (case_formula f) p ↔ TrueAt c (case_formula (put_in c p f)) p
+  formula_true =
+      subst (λ (g : Tree). TrueAt c (case_formula f) p ↔ TrueAt c g p) (sym same_formula)
+      (formula_put c p o (normal_tree f) shape (normal_tree_inside c f n) inside (case_sign (normal_tree f)))
+
+  matrix_true : (q : Point ℕ) → Of c q → ((y : ℕ) → is_in nat_eq y (case_names (put_in c p f)) ≡ false → Same c p o q y) → TrueAt c (case_matrix (put_in c p f)) q → TrueAt c (case_matrix f) q
+  matrix_true q u h t =
+      (matrix_same c p o (normal_tree f) shape (normal_tree_inside c f n) inside (case_sign (normal_tree f)) q u
+      (λ y e. h y (ap (λ (g : Tree). is_in nat_eq y (block_of nat_eq g Exists [])) same_formula ∙ e))).1
+      (subst (λ (g : Tree). TrueAt c (matrix_of nat_eq g Exists []) q) same_formula t)
+
+  choice : (bs : List Branch) → AreBranches c (case_formula (put_in c p f)) (case_matrix (put_in c p f)) (case_names (put_in c p f)) bs → (u : Option (List Step)) →
+      Chosen c (case_matrix (put_in c p f)) (case_names (put_in c p f)) p (branch_trees bs) u → IsChoice c f p u
+  unfolding Chosen
+  choice bs b None h = λ t. h ((b.equivalent p o).0 (formula_true.0 t))
+  choice bs b (Some steps) h =
+      let matrix = case_matrix (put_in c p f) in
+      let norm = normaliser c in let keeps = normal_keeps_periods c in (
+        formula_true.1 ((b.equivalent p o).1 h.1),
+        (let e = samples_exist c (normal_atom c) steps matrix Yes p norm keeps h.0 o tt in (e.0, e.2)),
+        λ q s.
+            let u = samples_of c steps p q o s in
+            (u, matrix_true q u (λ y e. samples_same c steps p q s y (ap (is_in nat_eq y) h.2 ∙ e)) (samples_true c (normal_atom c) steps matrix Yes p q norm keeps h.0 o tt s)),
+      )
+
+pub samples_exact : (c : Context) → SamplesAreExact c
+samples_exact c limit f p n o =
+    let g = put_in c p f in
+    let is = putting_in_exact c f p n o in
+    let sign = case_sign (normal_tree g) in
+    gives_then (λ (r : List Branch × ℕ). AreBranches c (case_formula g) (case_matrix g) (case_names g) r.0) (λ (r : Option (List Step) × ℕ). IsChoice c f p r.0) (leading_branches c limit sign g 0) _
+    (leading_are c limit sign g is.normal 0)
+    (λ r b. choice c f p n o r.0 b (first_true r.0) (found c (case_matrix g) (case_names g) p r.0 b.each (λ y t. is.closed y (free c g sign y (b.free y t)))))

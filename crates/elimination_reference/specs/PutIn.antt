@@ -1,0 +1,55 @@
+-- A point put into a formula: free names become numbers, and each atom is brought to normal form.
+use Rattle.std.specs.Prelude.{ℕ, ℤ, pos, ◌+ℤ◌, ◌*ℤ◌, List, [], ◌∷◌, nat_eq, if◌then◌else◌}
+use Rattle.formula_meaning.specs.Context.{Context}
+use Rattle.formula_meaning.specs.Point.{Point}
+use Rattle.formula_meaning.specs.Formula.{Yes, No, One, Not, And, Or, Impl, Repl, Equiv, Ex, All, none, also}
+use Rattle.formula_meaning.specs.Form.{Form, Term}
+use Rattle.formula_meaning.specs.Atom.{Atom, Compare, Congruent}
+use Rattle.formula_meaning.specs.Shape.{is_in}
+use Rattle.formula_meaning.specs.Tree.{Tree, Trees}
+use Rattle.atom_normal.specs.NormalForm.{normal_atom}
+use Rattle.elimination_reference.specs.Reference.{normal_tree}
+
+-- names: those that stay, because a quantifier stands around
+module _ (p : Point ℕ) (names : List ℕ) where
+  -- the terms of these names, times the denominator of the point
+  abbrev pub terms_kept : List Term → List Term
+  terms_kept [] = []
+  terms_kept (t ∷ ts) = if is_in nat_eq t.name names then record { times = pos p.below *ℤ t.times; name = t.name } ∷ terms_kept ts else terms_kept ts
+
+  -- the sum of the other terms at the point, times its denominator
+  abbrev pub terms_put : List Term → ℤ
+  terms_put [] = pos 0
+  terms_put (t ∷ ts) = if is_in nat_eq t.name names then terms_put ts else t.times *ℤ p.at t.name +ℤ terms_put ts
+
+  -- the form with the numbers of the point, times its denominator
+  abbrev pub form_put : Form → Form
+  form_put f = record { terms = terms_kept f.terms; constant = terms_put f.terms +ℤ f.constant *ℤ pos p.below }
+
+  -- over the integers the denominator is 1, so that the modulus stays
+  abbrev pub atom_put : Atom → Atom
+  atom_put (Compare r f) = Compare r (form_put f)
+  atom_put (Congruent holds n f) = Congruent holds n (form_put f)
+
+module _ (c : Context) (p : Point ℕ) where
+  abbrev mutual
+    pub tree_put : List ℕ → Tree → Tree
+    tree_put names Yes = Yes
+    tree_put names No = No
+    tree_put names (One a) = normal_atom c (atom_put p names a)
+    tree_put names (Not f) = Not (tree_put names f)
+    tree_put names (And fs) = And (trees_put names fs)
+    tree_put names (Or fs) = Or (trees_put names fs)
+    tree_put names (Impl f g) = Impl (tree_put names f) (tree_put names g)
+    tree_put names (Repl f g) = Repl (tree_put names f) (tree_put names g)
+    tree_put names (Equiv f g) = Equiv (tree_put names f) (tree_put names g)
+    tree_put names (Ex x f) = Ex x (tree_put (x ∷ names) f)
+    tree_put names (All x f) = All x (tree_put (x ∷ names) f)
+
+    pub trees_put : List ℕ → Trees → Trees
+    trees_put names none = none
+    trees_put names (also f fs) = also (tree_put names f) (trees_put names fs)
+
+  -- the negation normal form with the numbers of the point
+  abbrev pub put_in : Tree → Tree
+  put_in f = tree_put [] (normal_tree f)

@@ -1,0 +1,50 @@
+//! The reference elimination: a slow, plain definition by which a faster one is measured, and its theorems. Each function does
+//! nothing; its contract is a theorem.
+#![tactic(auto)]
+
+ghost use Rattle.formula_meaning.specs.Context.{Context};
+ghost use Rattle.std.specs.Prelude.{ℕ};
+ghost use Rattle.formula_meaning.specs.Tree.{Tree};
+ghost use Rattle.elimination_reference.specs.LimitLaws.{LimitsAreTested};
+ghost use Rattle.elimination_reference.specs.Turned.{AllIsNegatedEx};
+ghost use Rattle.elimination_reference.specs.Theorems.{ReferenceIsExact, CostBoundsNodes, CasesAreExact, PuttingInIsExact, SamplesAreExact};
+
+/// Of a formula over normal atoms, the reference elimination gives an equivalent one without quantifiers, over its free names,
+/// built by `and` and `or` with two members at least from normal atoms.
+pub fn reference_is_exact()
+    ensures { (c : Context) → ReferenceIsExact c }
+{}
+
+/// What the reference elimination gives has at most as many nodes as it cost, and that is within the limit.
+pub fn cost_bounds_nodes()
+    ensures { (c : Context) → CostBoundsNodes c }
+{}
+
+/// The guard of each case is true exactly where its answers make the matrix behind the leading quantifiers true. Together the
+/// guards are equivalent to the formula, or to its negation where it begins with `all`.
+pub fn cases_are_exact()
+    ensures { (c : Context) → CasesAreExact c }
+{}
+
+/// With a point put in, a formula has the truth that it has there, no free names, normal atoms, and the nodes of its negation
+/// normal form.
+pub fn putting_in_is_exact()
+    ensures { (c : Context) → PuttingInIsExact c }
+{}
+
+/// Steps are chosen exactly where the formula, or its negation where it begins with `all`, is true at the point. Then there is
+/// a sample of them, and every sample makes the matrix behind the leading quantifiers true; over the integers it is whole.
+pub fn samples_are_exact()
+    ensures { (c : Context) → SamplesAreExact c }
+{}
+
+/// The tests by which the reference elimination stops with `Overflow` are true exactly where the numbers that a step forms are
+/// within the limit.
+pub fn limits_are_tested()
+    ensures { (c : Context) (x : ℕ) (f : Tree) → LimitsAreTested c x f }
+{}
+
+/// The reference elimination of `all(x, f)` is the negation of that of `ex(x, not f)`: its sign stands for a negation.
+pub fn all_is_negated_ex()
+    ensures { AllIsNegatedEx }
+{}
