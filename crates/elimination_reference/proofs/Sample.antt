@@ -168,8 +168,8 @@ module _ (c : Context) (f : Tree) (p : Point ℕ) (n : Every (IsNormal c) f) (o 
   branches_at_are limit s =
       let Q = Good c limit [] s (put_in c p f) in
       always_then (λ u. Unit {0}) Q (pay limit (nodes (normal_tree f))) _ (always_pay limit (nodes (normal_tree f))) (λ u v.
-        always_then (λ u. Unit {0}) Q (within (tree_put_within c p [] (normal_tree f))) _ (always_within (tree_put_within c p [] (normal_tree f))) (λ u v.
-          branches_are c limit [] s (put_in c p f) put_in_shape (putting_in_exact c f p n o).normal))
+      always_then (λ u. Unit {0}) Q (within (tree_put_within c p [] (normal_tree f))) _ (always_within (tree_put_within c p [] (normal_tree f))) (λ u v.
+      branches_are c limit [] s (put_in c p f) put_in_shape (putting_in_exact c f p n o).normal))
 
   told : (g : Tree) → IsAnswerTo c (put_in c p f) g → IsTold c f p g
   told g a = go g a.tidy (λ y t. (putting_in_exact c f p n o).closed y (a.eliminated.names y t)) (both_ways ((putting_in_exact c f p n o).truth p o) (a.eliminated.equivalent p o))
