@@ -13,13 +13,15 @@ use Rattle.formula_meaning.specs.Tree.{Tree}
 use Rattle.elimination_theory.specs.FieldsExample.{named, difference, multiple_of}
 use Rattle.elimination_theory.specs.Answers.{zero_place}
 use Rattle.elimination_theory.specs.FieldsPoints.{form_over}
+use Rattle.exact_numbers.specs.Limit.{checked}
+use Rattle.linear_forms.specs.Terms.{value_steps, total_steps}
 use Rattle.linear_forms.specs.Reduction.{quotient, residue_form}
 use Rattle.atom_normal.specs.NormalForm.{normal_atom}
 use Rattle.elimination_reference.specs.Measured.{done, stopped, Nodes, Overflow}
 use Rattle.elimination_reference.specs.Reference.{reference}
 use Rattle.elimination_reference.specs.Cases.{reference_cases}
 use Rattle.elimination_reference.specs.PutIn.{put_in}
-use Rattle.elimination_reference.specs.Sample.{chosen_steps}
+use Rattle.elimination_reference.specs.Sample.{reference_at, chosen_steps}
 use Rattle.formula_meaning.specs.Point.{Point}
 
 -- an atom of a comparison
@@ -179,10 +181,25 @@ bound_name_stays = refl
 -- at minus infinity false is left, at 1/2 + epsilon true
 halves_chosen : chosen_steps Fields 14 halves between
     ≡ done (Some (record { name = 0; place = AboveBy (record { terms = []; constant = pos 1 }) 2; branch = inner } ∷ []), 14)
-unfolding coefficient without scale combine plus form_over content_of gcd_of euclid normal_atom gathered quotient
+unfolding coefficient without scale combine plus form_over content_of gcd_of euclid normal_atom gathered quotient value_steps total_steps checked
 halves_chosen = refl
 
 -- between a and a there is nothing
 nothing_chosen : chosen_steps Fields 14 halves (Ex 0 (And (both (atom Above (difference 0 2)) (atom Below (difference 0 2))))) ≡ done (None, 14)
-unfolding coefficient without scale combine plus form_over content_of gcd_of euclid normal_atom gathered quotient
+unfolding coefficient without scale combine plus form_over content_of gcd_of euclid normal_atom gathered quotient value_steps total_steps checked
 nothing_chosen = refl
+
+-- a = 2 ^ 126 with the denominator 3, over which 5 * a passes the limit: but the nodes are counted first
+abbrev far : Point ℕ
+far = record { at = λ x. pos 85070591730234615865843651857942052864; below = 3 }
+
+abbrev five_times : Tree
+five_times = Ex 0 (atom Above (weighted (pos 1) 0 (negsuc 4) 2))
+
+far_overflows : reference_at Fields 8 far five_times ≡ stopped Overflow
+unfolding coefficient without scale combine plus form_over content_of gcd_of euclid normal_atom gathered quotient value_steps total_steps checked
+far_overflows = refl
+
+far_stops_at_1 : reference_at Fields 1 far five_times ≡ stopped Nodes
+unfolding coefficient without scale combine plus form_over content_of gcd_of euclid normal_atom gathered quotient value_steps total_steps checked
+far_stops_at_1 = refl

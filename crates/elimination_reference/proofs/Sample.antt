@@ -1,5 +1,5 @@
 -- With a point put in each guard is true or false, and the first true one has a sample.
-use Rattle.std.proofs.Common.{◌≡◌, ℕ, ◌<◌, ◌↔◌, Bool, false, List, [], ◌∷◌, Option, Some, None, refl, sym, ap, ◌∙◌, subst, arith, inl, inr, ⊎_elim, nat_eq}
+use Rattle.std.proofs.Common.{◌≡◌, ℕ, ◌<◌, ◌↔◌, Bool, true, false, List, [], ◌∷◌, Option, Some, None, refl, sym, ap, ◌∙◌, subst, arith, inl, inr, ⊎_elim, nat_eq}
 use Rattle.std.proofs.Math.IntN.{ℤ, pos}
 use Rattle.std.specs.Prelude.{◌<ℤ◌}
 use Rattle.std.proofs.lemmas.Int.{ints}
@@ -21,18 +21,20 @@ use Rattle.formula_meaning.proofs.TreeReplacing.{moved_of}
 use Rattle.elimination_theory.specs.Answers.{Step, Lead}
 use Rattle.elimination_theory.proofs.Samples.{samples_true, samples_exist}
 use Rattle.atom_normal.specs.NormalForm.{IsNormal, normal_atom, negated_normal, first}
-use Rattle.elimination_reference.specs.Reference.{Branch, branch_trees, normal_tree, turned, leading_branches}
-use Rattle.elimination_reference.specs.Cases.{case_sign, case_formula, case_matrix, case_names}
-use Rattle.elimination_reference.specs.PutIn.{put_in}
-use Rattle.elimination_reference.specs.Sample.{if_true, first_true, IsSampled}
-use Rattle.elimination_reference.specs.Theorems.{IsProper, IsBranching, IsTidy, IsChoice, SamplesAreExact}
-use Rattle.elimination_reference.proofs.Always.{gives_then}
+use Rattle.elimination_reference.specs.Reference.{Branch, branch_trees, together, normal_tree, turned}
+use Rattle.elimination_reference.specs.Cases.{case_sign, case_formula, case_matrix}
+use Rattle.elimination_reference.specs.PutIn.{tree_put_within, put_in}
+use Rattle.elimination_reference.specs.Measured.{pay, within}
+use Rattle.formula_meaning.specs.Sizes.{nodes}
+use Rattle.formula_meaning.proofs.Iff.{both_ways}
+use Rattle.elimination_reference.specs.Sample.{if_true, first_true, branches_at, IsSampled}
+use Rattle.elimination_reference.specs.Theorems.{IsProper, IsBranching, IsTidy, IsAnswerTo, IsTold, TruthIsTold, IsChoice, SamplesAreExact}
+use Rattle.elimination_reference.proofs.Always.{Always, gives_then, always_then, always_pay, always_within}
 use Rattle.elimination_reference.proofs.Tidy.{normaliser}
-use Rattle.elimination_reference.proofs.Turning.{normal_inside, normal_tree_inside}
-use Rattle.elimination_reference.proofs.Branches.{step_names, IsBranch, AreBranches}
-use Rattle.elimination_reference.proofs.PutMatrix.{normal_stays, put_shape, put_sign, Same, formula_put, matrix_same, samples_same}
-use Rattle.elimination_reference.proofs.CasesExact.{free}
-use Rattle.elimination_reference.proofs.Sound.{leading_are}
+use Rattle.elimination_reference.proofs.Turning.{normal_inside, normal_tree_inside, turned_brings}
+use Rattle.elimination_reference.proofs.Branches.{step_names, IsBranch, AreBranches, together_is}
+use Rattle.elimination_reference.proofs.PutMatrix.{put_shape, Same, formula_put, matrix_same, samples_same}
+use Rattle.elimination_reference.proofs.Sound.{Good, branches_are}
 use Rattle.elimination_reference.proofs.Periods.{normal_keeps_periods}
 use Rattle.elimination_reference.proofs.PutIn.{putting_in_exact}
 
@@ -127,35 +129,33 @@ module _ (c : Context) (f : Tree) (p : Point ℕ) (n : Every (IsNormal c) f) (o 
   shape : IsNegationNormal (normal_tree f)
   shape = (normal_form_shape negated_normal f).0
 
-  stays : normal_tree (put_in c p f) ≡ put_in c p f
-  stays = normal_stays (put_in c p f) (put_shape c p o [] (normal_tree f) shape)
+  put_in_shape : IsNegationNormal (put_in c p f)
+  put_in_shape = put_shape c p o [] (normal_tree f) shape
 
-  same_sign : case_sign (normal_tree (put_in c p f)) ≡ case_sign (normal_tree f)
-  same_sign = ap case_sign stays ∙ put_sign c p o [] (normal_tree f)
+  sign : Bool
+  sign = case_sign (normal_tree f)
 
-  same_formula : case_formula (put_in c p f) ≡ turned (case_sign (normal_tree f)) (put_in c p f)
-  same_formula = ap (λ (b : Bool). turned b (normal_tree (put_in c p f))) same_sign ∙ ap (turned (case_sign (normal_tree f))) stays
+  -- the formula whose cases are asked, with the point put in
+  asked : Tree
+  asked = turned sign (put_in c p f)
 
   inside : InContext c (put_in c p f)
   inside = normal_inside c (put_in c p f) (putting_in_exact c f p n o).normal
 
-  formula_true : TrueAt c (case_formula f) p ↔ TrueAt c (case_formula (put_in c p f)) p
-  formula_true =
-      subst (λ (g : Tree). TrueAt c (case_formula f) p ↔ TrueAt c g p) (sym same_formula)
-      (formula_put c p o (normal_tree f) shape (normal_tree_inside c f n) inside (case_sign (normal_tree f)))
+  formula_true : TrueAt c (case_formula f) p ↔ TrueAt c asked p
+  unfolding asked sign
+  formula_true = formula_put c p o (normal_tree f) shape (normal_tree_inside c f n) inside sign
 
-  matrix_true : (q : Point ℕ) → Of c q → ((y : ℕ) → is_in nat_eq y (case_names (put_in c p f)) ≡ false → Same c p o q y) → TrueAt c (case_matrix (put_in c p f)) q → TrueAt c (case_matrix f) q
-  matrix_true q u h t =
-      (matrix_same c p o (normal_tree f) shape (normal_tree_inside c f n) inside (case_sign (normal_tree f)) q u
-      (λ y e. h y (ap (λ (g : Tree). is_in nat_eq y (block_of nat_eq g Exists [])) same_formula ∙ e))).1
-      (subst (λ (g : Tree). TrueAt c (matrix_of nat_eq g Exists []) q) same_formula t)
+  matrix_true : (q : Point ℕ) → Of c q → ((y : ℕ) → is_in nat_eq y (block_of nat_eq asked Exists []) ≡ false → Same c p o q y) → TrueAt c (matrix_of nat_eq asked Exists []) q → TrueAt c (case_matrix f) q
+  unfolding asked sign
+  matrix_true q u h t = (matrix_same c p o (normal_tree f) shape (normal_tree_inside c f n) inside sign q u h).1 t
 
-  choice : (bs : List Branch) → AreBranches c (case_formula (put_in c p f)) (case_matrix (put_in c p f)) (case_names (put_in c p f)) bs → (u : Option (List Step)) →
-      Chosen c (case_matrix (put_in c p f)) (case_names (put_in c p f)) p (branch_trees bs) u → IsChoice c f p u
+  choice : (bs : List Branch) → AreBranches c asked (matrix_of nat_eq asked Exists []) (block_of nat_eq asked Exists []) bs → (u : Option (List Step)) →
+      Chosen c (matrix_of nat_eq asked Exists []) (block_of nat_eq asked Exists []) p (branch_trees bs) u → IsChoice c f p u
   unfolding Chosen
   choice bs b None h = λ t. h ((b.equivalent p o).0 (formula_true.0 t))
   choice bs b (Some steps) h =
-      let matrix = case_matrix (put_in c p f) in
+      let matrix = matrix_of nat_eq asked Exists [] in
       let norm = normaliser c in let keeps = normal_keeps_periods c in (
         formula_true.1 ((b.equivalent p o).1 h.1),
         (let e = samples_exist c (normal_atom c) steps matrix Yes p norm keeps h.0 o tt in (e.0, e.2)),
@@ -164,11 +164,47 @@ module _ (c : Context) (f : Tree) (p : Point ℕ) (n : Every (IsNormal c) f) (o 
             (u, matrix_true q u (λ y e. samples_same c steps p q s y (ap (is_in nat_eq y) h.2 ∙ e)) (samples_true c (normal_atom c) steps matrix Yes p q norm keeps h.0 o tt s)),
       )
 
-pub samples_exact : (c : Context) → SamplesAreExact c
-samples_exact c limit f p n o =
+  branches_at_are : (limit : ℕ) (s : Bool) → Always (Good c limit [] s (put_in c p f)) (branches_at c limit p s f)
+  branches_at_are limit s =
+      let Q = Good c limit [] s (put_in c p f) in
+      always_then (λ u. Unit {0}) Q (pay limit (nodes (normal_tree f))) _ (always_pay limit (nodes (normal_tree f))) (λ u v.
+      always_then (λ u. Unit {0}) Q (within (tree_put_within c p [] (normal_tree f))) _ (always_within (tree_put_within c p [] (normal_tree f))) (λ u v.
+      branches_are c limit [] s (put_in c p f) put_in_shape (putting_in_exact c f p n o).normal))
+
+  told : (g : Tree) → IsAnswerTo c (put_in c p f) g → IsTold c f p g
+  told g a = go g a.tidy (λ y t. (putting_in_exact c f p n o).closed y (a.eliminated.names y t)) (both_ways ((putting_in_exact c f p n o).truth p o) (a.eliminated.equivalent p o))
+    where
+      go : (g : Tree) → IsTidy c g → ((y : ℕ) → ¬ (IsFree g y)) → TrueAt c f p ↔ TrueAt c g p → IsTold c f p g
+      go Yes tidy h e = inl (refl, e.1 tt)
+      go No tidy h e = inr (refl, e.0)
+      go (One a) tidy h e = let i = has_name c (One a) tidy.is_plain tidy.normal tidy.two_members tt in absurd (h i.0 i.1)
+      go (And fs) tidy h e = let i = has_name c (And fs) tidy.is_plain tidy.normal tidy.two_members tt in absurd (h i.0 i.1)
+      go (Or fs) tidy h e = let i = has_name c (Or fs) tidy.is_plain tidy.normal tidy.two_members tt in absurd (h i.0 i.1)
+      go (Not f) tidy h e = absurd tidy.is_plain
+      go (Impl f g) tidy h e = absurd tidy.is_plain
+      go (Repl f g) tidy h e = absurd tidy.is_plain
+      go (Equiv f g) tidy h e = absurd tidy.is_plain
+      go (Ex x f) tidy h e = absurd tidy.is_plain
+      go (All x f) tidy h e = absurd tidy.is_plain
+
+pub truth_told : (c : Context) → TruthIsTold c
+truth_told c limit f p n o =
     let g = put_in c p f in
-    let is = putting_in_exact c f p n o in
-    let sign = case_sign (normal_tree g) in
-    gives_then (λ (r : List Branch × ℕ). AreBranches c (case_formula g) (case_matrix g) (case_names g) r.0) (λ (r : Option (List Step) × ℕ). IsChoice c f p r.0) (leading_branches c limit sign g 0) _
-    (leading_are c limit sign g is.normal 0)
-    (λ r b. choice c f p n o r.0 b (first_true r.0) (found c (case_matrix g) (case_names g) p r.0 b.each (λ y t. is.closed y (free c g sign y (b.free y t)))))
+    gives_then (λ (r : List Branch × ℕ). AreBranches c g (matrix_of nat_eq g Exists []) (block_of nat_eq g Exists []) r.0) (λ (r : Tree × ℕ). IsTold c f p r.0) (branches_at c limit p true f 0) _
+    (branches_at_are c f p n o limit true 0)
+    (λ r b. told c f p n o (together r.0) (together_is c g (matrix_of nat_eq g Exists []) (block_of nat_eq g Exists []) r.0 b))
+
+pub samples_exact : (c : Context) → SamplesAreExact c
+unfolding asked sign
+samples_exact c limit f p n o =
+    let s = case_sign (normal_tree f) in
+    let g = turned s (put_in c p f) in
+    let matrix = matrix_of nat_eq g Exists [] in
+    let names = block_of nat_eq g Exists [] in
+    gives_then (λ (r : List Branch × ℕ). AreBranches c g matrix names r.0) (λ (r : Option (List Step) × ℕ). IsChoice c f p r.0) (branches_at c limit p s f 0) _
+    (branches_at_are c f p n o limit s 0)
+    (λ r b. choice c f p n o r.0 b (first_true r.0) (found c matrix names p r.0 b.each (λ y t. (putting_in_exact c f p n o).closed y (turned_free (put_in c p f) s y (b.free y t)))))
+  where
+    turned_free : (g : Tree) (s : Bool) (y : ℕ) → IsFree (turned s g) y → IsFree g y
+    turned_free g true y t = t
+    turned_free g false y t = (turned_brings c g y).1 t

@@ -1,13 +1,15 @@
 -- A point put into a formula: free names become numbers, and each atom is brought to normal form.
-use Rattle.std.specs.Prelude.{ℕ, ℤ, pos, ◌+ℤ◌, ◌*ℤ◌, List, [], ◌∷◌, nat_eq, if◌then◌else◌}
+use Rattle.std.specs.Prelude.{ℕ, ℤ, pos, ◌+ℤ◌, ◌*ℤ◌, Bool, true, ◌&&◌, List, [], ◌∷◌, is_some, nat_eq, if◌then◌else◌}
 use Rattle.formula_meaning.specs.Context.{Context}
 use Rattle.formula_meaning.specs.Point.{Point}
 use Rattle.formula_meaning.specs.Formula.{Yes, No, One, Not, And, Or, Impl, Repl, Equiv, Ex, All, none, also}
 use Rattle.formula_meaning.specs.Form.{Form, Term}
-use Rattle.formula_meaning.specs.Atom.{Atom, Compare, Congruent}
+use Rattle.formula_meaning.specs.Atom.{Atom, Compare, Congruent, form_of}
 use Rattle.formula_meaning.specs.Shape.{is_in}
 use Rattle.formula_meaning.specs.Tree.{Tree, Trees}
+use Rattle.linear_forms.specs.Terms.{value_steps}
 use Rattle.atom_normal.specs.NormalForm.{normal_atom}
+use Rattle.elimination_reference.specs.Limits.{each, is_within, normal_within}
 use Rattle.elimination_reference.specs.Reference.{normal_tree}
 
 -- names: those that stay, because a quantifier stands around
@@ -30,6 +32,41 @@ module _ (p : Point ℕ) (names : List ℕ) where
   abbrev pub atom_put : Atom → Atom
   atom_put (Compare r f) = Compare r (form_put f)
   atom_put (Congruent holds n f) = Congruent holds n (form_put f)
+
+-- ---- whether the numbers that are formed are within the limit of exact_numbers
+
+module _ (p : Point ℕ) (names : List ℕ) where
+  -- the terms that become numbers
+  abbrev pub terms_out : List Term → List Term
+  terms_out [] = []
+  terms_out (t ∷ ts) = if is_in nat_eq t.name names then terms_out ts else t ∷ terms_out ts
+
+  -- the products and partial sums of these terms at the point, and the multiples of the others
+  abbrev pub form_put_within : Form → Bool
+  form_put_within f =
+      is_some (value_steps (record { terms = terms_out f.terms; constant = f.constant }) p.at (pos p.below)) && each (λ (t : Term). is_within t.times) (terms_kept p names f.terms)
+
+module _ (c : Context) (p : Point ℕ) where
+  abbrev mutual
+    -- the numbers of each atom, and of its normal form
+    pub tree_put_within : List ℕ → Tree → Bool
+    tree_put_within names Yes = true
+    tree_put_within names No = true
+    tree_put_within names (One a) = form_put_within p names (form_of a) && normal_within (normal_atom c (atom_put p names a))
+    tree_put_within names (Not f) = tree_put_within names f
+    tree_put_within names (And fs) = trees_put_within names fs
+    tree_put_within names (Or fs) = trees_put_within names fs
+    tree_put_within names (Impl f g) = tree_put_within names f && tree_put_within names g
+    tree_put_within names (Repl f g) = tree_put_within names f && tree_put_within names g
+    tree_put_within names (Equiv f g) = tree_put_within names f && tree_put_within names g
+    tree_put_within names (Ex x f) = tree_put_within (x ∷ names) f
+    tree_put_within names (All x f) = tree_put_within (x ∷ names) f
+
+    pub trees_put_within : List ℕ → Trees → Bool
+    trees_put_within names none = true
+    trees_put_within names (also f fs) = tree_put_within names f && trees_put_within names fs
+
+-- ---- formulas
 
 module _ (c : Context) (p : Point ℕ) where
   abbrev mutual

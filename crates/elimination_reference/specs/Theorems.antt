@@ -1,5 +1,5 @@
 -- What is proved of the reference elimination.
-use Rattle.std.specs.Prelude.{◌≡◌, ℕ, ◌≤◌, ◌↔◌, Bool, true, false, List, [], ◌∷◌, Option, Some, None}
+use Rattle.std.specs.Prelude.{◌≡◌, ◌⊎◌, ℕ, ◌≤◌, ◌↔◌, Bool, true, false, List, [], ◌∷◌, Option, Some, None}
 use Rattle.formula_meaning.specs.Context.{Context}
 use Rattle.formula_meaning.specs.Formula.{Yes, No, One, Not, And, Or, Impl, Repl, Equiv, Ex, All, none, also}
 use Rattle.formula_meaning.specs.Every.{Every}
@@ -15,7 +15,7 @@ use Rattle.atom_normal.specs.NormalForm.{IsNormal}
 use Rattle.elimination_reference.specs.Measured.{Gives}
 use Rattle.elimination_reference.specs.Reference.{normal_tree, reference}
 use Rattle.elimination_reference.specs.PutIn.{put_in}
-use Rattle.elimination_reference.specs.Sample.{chosen_steps, IsSampled}
+use Rattle.elimination_reference.specs.Sample.{reference_at, chosen_steps, IsSampled}
 use Rattle.elimination_reference.specs.Cases.{Case, case_sign, case_formula, case_matrix, case_names, reference_cases}
 
 -- the list has two members at least
@@ -112,6 +112,13 @@ pub record IsPutIn (c : Context) (f : Tree) (p : Point ℕ) (g : Tree) : Type 0 
 
 abbrev pub PuttingInIsExact : Context → Type 0
 PuttingInIsExact c = (f : Tree) (p : Point ℕ) → Every (IsNormal c) f → Of c p → IsPutIn c f p (put_in c p f)
+
+-- At a point the reference gives true where the formula is true, and false where it is not.
+abbrev pub IsTold : Context → Tree → Point ℕ → Tree → Type 0
+IsTold c f p g = ((g ≡ Yes) × TrueAt c f p) ⊎ ((g ≡ No) × ¬ (TrueAt c f p))
+
+abbrev pub TruthIsTold : Context → Type 0
+TruthIsTold c = (limit : ℕ) (f : Tree) (p : Point ℕ) → Every (IsNormal c) f → Of c p → Gives (λ r. IsTold c f p r.0) (reference_at c limit p f)
 
 -- ---- samples
 

@@ -7,7 +7,7 @@ ghost use Rattle.std.specs.Prelude.{ℕ};
 ghost use Rattle.formula_meaning.specs.Tree.{Tree};
 ghost use Rattle.elimination_reference.specs.LimitLaws.{LimitsAreTested};
 ghost use Rattle.elimination_reference.specs.Turned.{AllIsNegatedEx};
-ghost use Rattle.elimination_reference.specs.Theorems.{ReferenceIsExact, CostBoundsNodes, CasesAreExact, PuttingInIsExact, SamplesAreExact};
+ghost use Rattle.elimination_reference.specs.Theorems.{ReferenceIsExact, CostBoundsNodes, CasesAreExact, PuttingInIsExact, TruthIsTold, SamplesAreExact};
 
 /// Of a formula over normal atoms, the reference elimination gives an equivalent one without quantifiers, over its free names,
 /// built by `and` and `or` with two members at least from normal atoms.
@@ -30,6 +30,11 @@ pub fn cases_are_exact()
 /// normal form.
 pub fn putting_in_is_exact()
     ensures { (c : Context) → PuttingInIsExact c }
+{}
+
+/// At a point the reference elimination gives `true` exactly where the formula is true there, and else `false`.
+pub fn truth_is_told()
+    ensures { (c : Context) → TruthIsTold c }
 {}
 
 /// Steps are chosen exactly where the formula, or its negation where it begins with `all`, is true at the point. Then there is
