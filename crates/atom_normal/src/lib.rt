@@ -16,6 +16,7 @@ pub use laws::{
     normal_form_keeps_truth,
 };
 pub use normal_form::{negate, normal, truth};
+pub use parts::{holds, opposite};
 
 #[cfg(test)]
 mod tests;

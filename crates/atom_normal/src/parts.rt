@@ -15,8 +15,8 @@ use linear_forms::Linear;
 use std::alloc::Global;
 use std::cmp::Ordering;
 
-// Whether a number has the relation to another, by the order of the two.
-pub(crate) fn holds(relation: Rel, order: Ordering) -> bool
+/// Whether a number has the relation to another, by the order of the two.
+pub fn holds(relation: Rel, order: Ordering) -> bool
     ensures { result ≡ holds (relation_of relation) order }
 {
     match relation {
@@ -42,8 +42,8 @@ pub(crate) fn mirrored(relation: Rel) -> Rel
     }
 }
 
-// The relation that holds where the other does not.
-pub(crate) fn opposite(relation: Rel) -> Rel
+/// The relation that holds where the other does not.
+pub fn opposite(relation: Rel) -> Rel
     ensures { relation_of result ≡ opposite_relation (relation_of relation) }
 {
     match relation {

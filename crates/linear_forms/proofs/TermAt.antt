@@ -22,3 +22,8 @@ at_place (y ∷ ys) (suc i) x h e = at_place ys i x (omega arith) e
 pub read_at : {X B : Type 0} (now : B → X) (xs : List X) (i : ℕ) (o : Option B) → MatchOption o (length xs ≤ i) (λ x. (i < length xs) × HoldsAt (λ y. now x ≡ y) xs i) → option_map now o ≡ slice_get xs i
 read_at now xs i None h = sym (slice_get_past xs i h)
 read_at now xs i (Some x) h = at_place xs i (now x) h.0 h.1
+
+-- as many terms as pairs
+pub length-terms_of : (xs : List (VarId × ℤ)) → length (terms_of xs) ≡ length xs
+length-terms_of [] = refl
+length-terms_of (p ∷ ps) = ap suc (length-terms_of ps)

@@ -1,5 +1,5 @@
 // A linear form: a sorted list of names with their coefficients, and a constant.
-ghost use Rattle.std.specs.Prelude.{◌≡◌, ℕ, pos, ◌<ℤ◌, [], ◌∷◌, IfOk, IfErr, IsErrOf, MatchOption, option_map, slice_get};
+ghost use Rattle.std.specs.Prelude.{◌≡◌, ℕ, pos, ◌<ℤ◌, [], ◌∷◌, IfOk, IfErr, IsErrOf, MatchOption, option_map, length, slice_get};
 ghost use Rattle.exact_numbers.specs.Limit.{InLimit};
 ghost use Rattle.exact_numbers.specs.Divides.{DividesAll, IsContent, content_of};
 ghost use Rattle.formula_meaning.specs.Form.{coefficient, value};
@@ -217,6 +217,13 @@ impl Linear {
         ensures linear { IsLinear self.now }
     {
         self.terms.get(place).copied()
+    }
+
+    /// How many places the list has. It takes no memory.
+    pub fn places(&self) -> usize
+        ensures { result ≡ length self.now.terms }
+    {
+        self.terms.len()
     }
 
     /// The value at the numbers times their denominator: the products in rising order of the names, and the constant's last.
