@@ -1,0 +1,12 @@
+pub mod Tables
+pub mod Mixed
+pub mod Thresholds
+pub mod Sets
+pub mod Unique
+pub mod JoinedComparisons
+pub mod Places
+pub mod MergedAnswers
+pub mod ResidueClasses
+pub mod JoinedCongruences
+pub mod PointLaws
+mod Examples

@@ -1,0 +1,62 @@
+use Rattle.std.proofs.Common.{◌≡◌, sym, ap, ◌∙◌}
+use Rattle.formula_meaning.specs.Atom.{opposite_relation}
+use Rattle.formula_meaning.specs.Fold.{Conjunction, Disjunction}
+use Rattle.atom_normal.specs.Atoms.{context_of, relation_of}
+use Rattle.atom_merging.specs.Verdicts.{Settled, both, verdict_of}
+use Rattle.atom_merging.proofs.JoinedComparisons.{normal_content, normal_relation, relation_toward, judged_both, settles, implies, not_implies, not_excludes}
+use Rattle.atom_merging.proofs.MergedAnswers.{decisive, indecisive}
+use Rattle.atom_merging.proofs.comparison.decided.Goals as goal
+
+pub position_of-requires-clause-content : goal.position_of-requires-clause-content
+position_of-requires-clause-content c = normal_content (context_of c.args.context) (relation_of c.args.relation) c.args.form.now c.requires.normal
+
+pub position_of-requires-clause-other_content : goal.position_of-requires-clause-other_content
+position_of-requires-clause-other_content c = normal_content (context_of c.args.context) (relation_of c.args.other_relation) c.args.other.now c.requires.other_normal
+
+pub returns-then-is_settled : goal.returns-then-is_settled
+returns-then-is_settled c =
+    let t = context_of c.args.context in
+    let r = relation_of c.args.relation in
+    let s = relation_of c.args.other_relation in
+    let f = c.args.form.now in
+    let g = c.args.other.now in
+    let x = c.requires.normal in
+    let y = c.requires.other_normal in
+    let w = c.in_ok-position.position in
+    let p = c.in_ok-position.ensures.0 in
+    let e : Settled ≡ both w r (opposite_relation s) = sym (decisive (verdict_of c.both.result) c.if-is_settled.ensures) ∙ c.both.ensures ∙ ap (both w r) c.opposite.ensures in
+    implies t r f s g x y p (judged_both t r f s g x y p r (opposite_relation s) (normal_relation t r f x) (relation_toward t Disjunction s (normal_relation t s g y)) w c.in_ok-position.ensures.1 Settled e)
+
+pub returns-then-is_settled-2 : goal.returns-then-is_settled-2
+returns-then-is_settled-2 c =
+    let t = context_of c.args.context in
+    let r = relation_of c.args.relation in
+    let s = relation_of c.args.other_relation in
+    let f = c.args.form.now in
+    let g = c.args.other.now in
+    let x = c.requires.normal in
+    let y = c.requires.other_normal in
+    let w = c.in_ok-position.position in
+    let p = c.in_ok-position.ensures.0 in
+    let e : Settled ≡ both w r s = sym (decisive (verdict_of c.both-else-is_settled.result) c.if-is_settled-2.ensures) ∙ c.both-else-is_settled.ensures in
+    settles t r f s g x y p Conjunction (judged_both t r f s g x y p r s (normal_relation t r f x) (normal_relation t s g y) w c.in_ok-position.ensures.1 Settled e)
+
+pub returns-else-is_settled-2 : goal.returns-else-is_settled-2
+returns-else-is_settled-2 c =
+    let t = context_of c.args.context in
+    let r = relation_of c.args.relation in
+    let s = relation_of c.args.other_relation in
+    let f = c.args.form.now in
+    let g = c.args.other.now in
+    let x = c.requires.normal in
+    let y = c.requires.other_normal in
+    let w = c.in_ok-position.position in
+    let p = c.in_ok-position.ensures.0 in
+    let l = c.in_ok-position.ensures.1 in
+    let u = verdict_of c.both.result in
+    let v = verdict_of c.both-else-is_settled.result in
+    let i = normal_relation t r f x in
+    let k = normal_relation t s g y in (
+      not_implies t r f s g x y p u (judged_both t r f s g x y p r (opposite_relation s) i (relation_toward t Disjunction s k) w l u (c.both.ensures ∙ ap (both w r) c.opposite.ensures)) (indecisive u c.if-is_settled.ensures),
+      not_excludes t r f s g x y p v (judged_both t r f s g x y p r s i k w l v c.both-else-is_settled.ensures) (indecisive v c.if-is_settled-2.ensures),
+    )

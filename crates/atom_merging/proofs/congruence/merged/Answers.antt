@@ -1,0 +1,136 @@
+use Rattle.std.proofs.Common.{◌≡◌, rules, pos, sym, subst, ap, ◌∙◌}
+use Rattle.std.specs.Prelude.{FitsSigned, unsigned_abs, ◌-ℤ◌}
+use Rattle.std.specs.Int.{w128}
+use Rattle.std.proofs.lemmas.Int.{to_z-of_z}
+use Rattle.formula_meaning.specs.Context.{Integers}
+use Rattle.formula_meaning.specs.Atom.{Atom, Congruent}
+use Rattle.atom_normal.proofs.Stepped.{ok_map}
+use Rattle.atom_merging.specs.declared.congruence.Class.TheVariants.{Settled, First, Second, Third, Kept}
+use Rattle.atom_merging.specs.Classes.{class}
+use Rattle.atom_merging.specs.Junctions.{junction_of}
+use Rattle.atom_merging.specs.Answered.{IsOne}
+use Rattle.atom_merging.specs.Merged.{IsMerging}
+use Rattle.atom_merging.proofs.JoinedCongruences.{judged_class, classes_settle, classes_kept, merges_first, merges_second, merges_third, third_atom}
+use Rattle.atom_merging.proofs.Sets.{flip}
+use Rattle.atom_merging.proofs.MergedAnswers.{settled_answer, exact_answer, and_is_told}
+use Rattle.atom_merging.proofs.congruence.merged.Goals as goal
+
+pub returns-in-Settled-clause-merged : goal.returns-in-Settled-clause-merged
+returns-in-Settled-clause-merged c =
+    let m = c.args.modulus in
+    let p = c.requires.positive in
+    let b = c.args.holds in
+    let d = c.args.other_holds in
+    let f = c.args.form.now in
+    let g = c.args.other.now in
+    let x = c.requires.normal in
+    let y = c.requires.other_normal in
+    let s = c.requires.same_terms in
+    let j = junction_of c.args.junction in
+    let fa : FitsSigned w128 c.constant_part-number.result = search rules in
+    let fb : FitsSigned w128 c.constant_part-other_number.result = search rules in
+    let rm = to_z-of_z w128 m c.ranges.modulus in
+    let ra = to_z-of_z w128 c.constant_part-number.result fa ∙ c.constant_part-number.ensures.value in
+    let rb = to_z-of_z w128 c.constant_part-other_number.result fb ∙ c.constant_part-other_number.ensures.value in
+    let e : Settled ≡ class j m b f.constant d g.constant = sym c.in-Settled.is ∙ c.class_of.ensures ∙ (λ i. class j (rm i) b (ra i) d (rb i)) in
+    let h = judged_class m p b f d g x y s j Settled e in
+    let q = settled_answer Integers c.args.junction (Congruent b (unsigned_abs m) f) (Congruent d (unsigned_abs m) g) (classes_settle m p b f d g x y s j h) in
+    subst (IsMerging Integers j (Congruent b (unsigned_abs m) f) (Congruent d (unsigned_abs m) g)) (sym c.absorbing.ensures) q
+
+pub returns-in-First-clause-merged : goal.returns-in-First-clause-merged
+returns-in-First-clause-merged c =
+    let m = c.args.modulus in
+    let p = c.requires.positive in
+    let b = c.args.holds in
+    let d = c.args.other_holds in
+    let f = c.args.form.now in
+    let g = c.args.other.now in
+    let x = c.requires.normal in
+    let y = c.requires.other_normal in
+    let s = c.requires.same_terms in
+    let j = junction_of c.args.junction in
+    let fa : FitsSigned w128 c.constant_part-number.result = search rules in
+    let fb : FitsSigned w128 c.constant_part-other_number.result = search rules in
+    let rm = to_z-of_z w128 m c.ranges.modulus in
+    let ra = to_z-of_z w128 c.constant_part-number.result fa ∙ c.constant_part-number.ensures.value in
+    let rb = to_z-of_z w128 c.constant_part-other_number.result fb ∙ c.constant_part-other_number.ensures.value in
+    let e : First ≡ class j m b f.constant d g.constant = sym c.in-First.is ∙ c.class_of.ensures ∙ (λ i. class j (rm i) b (ra i) d (rb i)) in
+    let h = judged_class m p b f d g x y s j First e in
+    ok_map c.congruence.result
+    (λ o w. exact_answer Integers j (Congruent b (unsigned_abs m) f) (Congruent d (unsigned_abs m) g) (Congruent b (unsigned_abs m) f) o (merges_first m p b f d g x y s j h)
+    (subst (λ (a : Atom). IsOne a o) (λ i. Congruent b (unsigned_abs (rm i)) (record { terms = f.terms; constant = ra i })) w))
+    c.congruence.ensures.one
+
+pub returns-in-Second-clause-merged : goal.returns-in-Second-clause-merged
+returns-in-Second-clause-merged c =
+    let m = c.args.modulus in
+    let p = c.requires.positive in
+    let b = c.args.holds in
+    let d = c.args.other_holds in
+    let f = c.args.form.now in
+    let g = c.args.other.now in
+    let x = c.requires.normal in
+    let y = c.requires.other_normal in
+    let s = c.requires.same_terms in
+    let j = junction_of c.args.junction in
+    let fa : FitsSigned w128 c.constant_part-number.result = search rules in
+    let fb : FitsSigned w128 c.constant_part-other_number.result = search rules in
+    let rm = to_z-of_z w128 m c.ranges.modulus in
+    let ra = to_z-of_z w128 c.constant_part-number.result fa ∙ c.constant_part-number.ensures.value in
+    let rb = to_z-of_z w128 c.constant_part-other_number.result fb ∙ c.constant_part-other_number.ensures.value in
+    let e : Second ≡ class j m b f.constant d g.constant = sym c.in-Second.is ∙ c.class_of.ensures ∙ (λ i. class j (rm i) b (ra i) d (rb i)) in
+    let h = judged_class m p b f d g x y s j Second e in
+    ok_map c.congruence-in-Second.result
+    (λ o w. exact_answer Integers j (Congruent b (unsigned_abs m) f) (Congruent d (unsigned_abs m) g) (Congruent d (unsigned_abs m) g) o (merges_second m p b f d g x y s j h)
+    (subst (λ (a : Atom). IsOne a o) (λ i. Congruent d (unsigned_abs (rm i)) (record { terms = g.terms; constant = rb i })) w))
+    c.congruence-in-Second.ensures.one
+
+pub returns-in-Kept-clause-merged : goal.returns-in-Kept-clause-merged
+returns-in-Kept-clause-merged c =
+    let m = c.args.modulus in
+    let p = c.requires.positive in
+    let b = c.args.holds in
+    let d = c.args.other_holds in
+    let f = c.args.form.now in
+    let g = c.args.other.now in
+    let x = c.requires.normal in
+    let y = c.requires.other_normal in
+    let s = c.requires.same_terms in
+    let j = junction_of c.args.junction in
+    let fa : FitsSigned w128 c.constant_part-number.result = search rules in
+    let fb : FitsSigned w128 c.constant_part-other_number.result = search rules in
+    let rm = to_z-of_z w128 m c.ranges.modulus in
+    let ra = to_z-of_z w128 c.constant_part-number.result fa ∙ c.constant_part-number.ensures.value in
+    let rb = to_z-of_z w128 c.constant_part-other_number.result fb ∙ c.constant_part-other_number.ensures.value in
+    let e : Kept ≡ class j m b f.constant d g.constant = sym c.in-Kept.is ∙ c.class_of.ensures ∙ (λ i. class j (rm i) b (ra i) d (rb i)) in
+    let h = judged_class m p b f d g x y s j Kept e in
+    classes_kept m p b f d g x y s j h
+
+pub returns-in-Third-clause-merged : goal.returns-in-Third-clause-merged
+returns-in-Third-clause-merged c =
+    let m = c.args.modulus in
+    let p = c.requires.positive in
+    let b = c.args.holds in
+    let d = c.args.other_holds in
+    let f = c.args.form.now in
+    let g = c.args.other.now in
+    let x = c.requires.normal in
+    let y = c.requires.other_normal in
+    let s = c.requires.same_terms in
+    let j = junction_of c.args.junction in
+    let fa : FitsSigned w128 c.constant_part-number.result = search rules in
+    let fb : FitsSigned w128 c.constant_part-other_number.result = search rules in
+    let rm = to_z-of_z w128 m c.ranges.modulus in
+    let ra = to_z-of_z w128 c.constant_part-number.result fa ∙ c.constant_part-number.ensures.value in
+    let rb = to_z-of_z w128 c.constant_part-other_number.result fb ∙ c.constant_part-other_number.ensures.value in
+    let e : Third ≡ class j m b f.constant d g.constant = sym c.in-Third.is ∙ c.class_of.ensures ∙ (λ i. class j (rm i) b (ra i) d (rb i)) in
+    let h = judged_class m p b f d g x y s j Third e in
+    let third = c.third_class-third.result in
+    let ft : FitsSigned w128 third = search rules in
+    let rt = to_z-of_z w128 third ft ∙ c.third_class-third.ensures ∙ (λ i. (pos 3 -ℤ ra i) -ℤ rb i) in
+    let q = c.is_and.result in
+    let u = ap (flip j) c.is_and.ensures ∙ and_is_told c.args.junction in
+    ok_map c.congruence-in-Third.result
+    (λ o w. exact_answer Integers j (Congruent b (unsigned_abs m) f) (Congruent d (unsigned_abs m) g) (third_atom m p b f d g x y s j q) o (merges_third m p b f d g x y s j q u h)
+    (subst (λ (a : Atom). IsOne a o) (λ i. Congruent q (unsigned_abs (rm i)) (record { terms = f.terms; constant = rt i })) w))
+    c.congruence-in-Third.ensures.one

@@ -1,0 +1,118 @@
+// Merging and deciding of two normal atoms.
+ghost use Rattle.std.specs.Prelude.{◌≡◌, IfOk, IfErr};
+ghost use Rattle.formula_meaning.specs.Fold.{Conjunction, Disjunction};
+ghost use Rattle.atom_normal.specs.NormalForm.{IsNormal};
+ghost use Rattle.atom_normal.specs.Atoms.{context_of, atom_of, IsWellFormed};
+ghost use Rattle.atom_merging.specs.Merged.{IsMerging, IsDecision};
+ghost use Rattle.atom_merging.specs.Junctions.{junction_of};
+
+use crate::answers::Merged;
+use crate::junction::Junction;
+use crate::{comparison, congruence};
+use atom_normal::{Atom, AtomError, Context};
+use std::alloc::Global;
+
+// Two normal atoms joined. The only error is `Memory`.
+fn merged(
+    alloc: Global,
+    context: Context,
+    junction: Junction,
+    a: &Atom,
+    b: &Atom,
+) -> Result<Merged, AtomError>
+    requires well_formed { IsWellFormed a.now }
+    requires other_well_formed { IsWellFormed b.now }
+    requires normal { IsNormal (context_of context) (atom_of a.now) }
+    requires other_normal { IsNormal (context_of context) (atom_of b.now) }
+    ensures merged { IfOk result (IsMerging (context_of context) (junction_of junction) (atom_of a.now) (atom_of b.now)) }
+    ensures memory { IfErr result (λ e. e ≡ AtomError.Memory) }
+{
+    match (a, b) {
+        (Atom::Compare(relation, form), Atom::Compare(other_relation, other)) => {
+            comparison::merged(
+                alloc,
+                context,
+                junction,
+                *relation,
+                form,
+                *other_relation,
+                other,
+            )
+        }
+        (
+            Atom::Congruent {
+                holds,
+                modulus,
+                form,
+            },
+            Atom::Congruent {
+                holds: other_holds,
+                modulus: other_modulus,
+                form: other,
+            },
+        ) if congruence::is_same_part(*modulus, form, *other_modulus, other) => {
+            congruence::merged(alloc, junction, *modulus, *holds, form, *other_holds, other)
+        }
+        _ => Ok(Merged::Keep),
+    }
+}
+
+/// What two normal atoms joined by `and` become: `False` where no number meets both, the normal atom that stands for the
+/// numbers that meet both where there is one, and `Keep` where there is none, where its constant passes 2^127 - 1, or where
+/// the atoms have different variable parts. Its only error is `Memory`.
+pub fn merge_and(alloc: Global, context: Context, a: &Atom, b: &Atom) -> Result<Merged, AtomError>
+    requires well_formed { IsWellFormed a.now }
+    requires other_well_formed { IsWellFormed b.now }
+    requires normal { IsNormal (context_of context) (atom_of a.now) }
+    requires other_normal { IsNormal (context_of context) (atom_of b.now) }
+    ensures merged { IfOk result (IsMerging (context_of context) Conjunction (atom_of a.now) (atom_of b.now)) }
+    ensures memory { IfErr result (λ e. e ≡ AtomError.Memory) }
+{
+    merged(alloc, context, Junction::And, a, b)
+}
+
+/// What two normal atoms joined by `or` become: `True` where each number meets one of them, the normal atom that stands for
+/// the numbers that meet one of them where there is one, and `Keep` where there is none, where its constant passes
+/// 2^127 - 1, or where the atoms have different variable parts. Its only error is `Memory`.
+pub fn merge_or(alloc: Global, context: Context, a: &Atom, b: &Atom) -> Result<Merged, AtomError>
+    requires well_formed { IsWellFormed a.now }
+    requires other_well_formed { IsWellFormed b.now }
+    requires normal { IsNormal (context_of context) (atom_of a.now) }
+    requires other_normal { IsNormal (context_of context) (atom_of b.now) }
+    ensures merged { IfOk result (IsMerging (context_of context) Disjunction (atom_of a.now) (atom_of b.now)) }
+    ensures memory { IfErr result (λ e. e ≡ AtomError.Memory) }
+{
+    merged(alloc, context, Junction::Or, a, b)
+}
+
+/// Whether the normal atom `theory` decides another: `Some(true)` where both have one variable part and each number that
+/// meets `theory` meets `other`, `Some(false)` where they have one and no number meets both, `None` elsewhere. It takes no
+/// memory.
+pub fn decides(context: Context, theory: &Atom, other: &Atom) -> Option<bool>
+    requires well_formed { IsWellFormed theory.now }
+    requires other_well_formed { IsWellFormed other.now }
+    requires normal { IsNormal (context_of context) (atom_of theory.now) }
+    requires other_normal { IsNormal (context_of context) (atom_of other.now) }
+    ensures { IsDecision (context_of context) (atom_of theory.now) (atom_of other.now) result }
+{
+    match (theory, other) {
+        (Atom::Compare(relation, form), Atom::Compare(other_relation, other)) => {
+            comparison::decided(context, *relation, form, *other_relation, other)
+        }
+        (
+            Atom::Congruent {
+                holds,
+                modulus,
+                form,
+            },
+            Atom::Congruent {
+                holds: other_holds,
+                modulus: other_modulus,
+                form: other,
+            },
+        ) if congruence::is_same_part(*modulus, form, *other_modulus, other) => {
+            congruence::decided(*modulus, *holds, form, *other_holds, other)
+        }
+        _ => None,
+    }
+}
