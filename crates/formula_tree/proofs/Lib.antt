@@ -8,6 +8,7 @@ pub mod FormSteps
 pub mod FormValues
 mod ResolvedExamples
 pub mod PlaceLaws
+pub mod NamePlaces
 pub mod Nowhere
 pub mod AtomTruth
 pub mod ResolvedTruth

@@ -82,7 +82,7 @@ congruent_named Integers bound names n b s t m h k i f g =
     let x = difference_named Integers (place names) s t d.0 n d.1 (normal_names Integers (meaning.Congruent b (unsigned_abs r.0.form.constant) d.0.form) positive n second) in
     (x.0, ⊎_elim (λ l. inl l) (λ l. inr (inl l)) x.1, x.2)
 
-atom_named : (c : Context) (bound : BoundTrees) (names : List (List ℕ)) (n : ℕ) (a : WrittenAtom) → IsPlain c bound names a → IsFree (resolved_atom c bound (place names) a) n → MentionsNumber bound (place names) a n
+pub atom_named : (c : Context) (bound : BoundTrees) (names : List (List ℕ)) (n : ℕ) (a : WrittenAtom) → IsPlain c bound names a → IsFree (resolved_atom c bound (place names) a) n → MentionsNumber bound (place names) a n
 atom_named c bound names n (Compare rel s t) a h = compare_named c bound names n rel s t a h
 atom_named c bound names n (Cong s t m) a h = congruent_named c bound names n true s t m (λ i. a.within (inl i)) (λ i. a.within (inr (inl i))) a.modulus (λ e. a.theory (e, tt)) h
 atom_named c bound names n (Ncong s t m) a h = congruent_named c bound names n false s t m (λ i. a.within (inl i)) (λ i. a.within (inr (inl i))) a.modulus (λ e. a.theory (e, tt)) h

@@ -194,7 +194,7 @@ bound_normal : (c : Context) (o : Option Tree) → ((t : Tree) → o ≡ Some t 
 bound_normal c None h = tt
 bound_normal c (Some t) h = h t refl
 
-is_normal : (c : Context) (bound : BoundTrees) (names : List (List ℕ)) → HasNormalTrees c bound → (a : WrittenAtom) → IsPlain c bound names a → Every (IsNormal c) (resolved_atom c bound (place names) a)
+pub is_normal : (c : Context) (bound : BoundTrees) (names : List (List ℕ)) → HasNormalTrees c bound → (a : WrittenAtom) → IsPlain c bound names a → Every (IsNormal c) (resolved_atom c bound (place names) a)
 is_normal c bound names trees (Compare rel s t) a =
     let d = there (formed_difference c (place names) s t) (λ m. a.within (inl m)) in
     subst (λ r. Every (IsNormal c) (compared c rel r)) (sym d.1) (normal_normal c (meaning.Compare (relation_of rel) d.0.form) tt)

@@ -1,4 +1,7 @@
 ghost use Rattle.std.specs.Prelude.{◌≡◌, ◌<◌, ◌≤◌, ℕ, [], Some, None, Err, IfErr, OnOk, OnErr, length, slice_get, option_map};
+ghost use Rattle.std.specs.List.{IsDistinct};
+ghost use Rattle.std.specs.Map.{keys_of};
+ghost use Rattle.qe_syntax.specs.Value.{same_name};
 ghost use Rattle.formula_tree.specs.Bindings.{bound_to, bind, most_bound};
 
 use indexmap::IndexMap;
@@ -83,9 +86,19 @@ impl<Id: Copy> Bindings<Id> {
 
     /// How many names are bound. It takes no memory.
     pub fn len(&self) -> usize
-        ensures { result ≡ length self.now }
+        ensures len { result ≡ length self.now }
+        ensures distinct { IsDistinct same_name (keys_of self.now) }
     {
         self.entries.len()
+    }
+
+    /// What is bound to the name at a place, from 0 on; `None` exactly where the place isn't below the length. It takes no
+    /// memory.
+    pub fn bound_at(&self, place: usize) -> Option<Id>
+        ensures { result ≡ option_map (λ e. e.1) (slice_get self.now place) }
+    {
+        let (_, id) = self.entries.get_index(place)?;
+        Some(*id)
     }
 
     /// The name at a place, from 0 on; `None` exactly where the place isn't below the length. It takes no memory.

@@ -2,6 +2,7 @@
 #![tactic(auto)]
 
 mod bindings;
+mod error;
 mod laws;
 mod maker;
 mod names;
@@ -9,6 +10,7 @@ mod shape;
 mod tree;
 
 pub use bindings::{BindError, Bindings};
+pub use error::FormError;
 pub use laws::{forms_have_values, fractions_go_by_the_rule, resolving_keeps_truth};
 pub use maker::{MakeError, Maker};
 pub use names::{Names, NamesError};

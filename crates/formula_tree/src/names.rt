@@ -1,6 +1,7 @@
 ghost use Rattle.std.specs.Prelude.{◌≡◌, ◌≤◌, ℕ, [], Some, IfOk, IfErr, OnOk, OnErr, length, take, position, slice_get, option_map};
 ghost use Rattle.qe_syntax.specs.Value.{same_name};
 ghost use Rattle.formula_tree.specs.Names.{with_name};
+ghost use Rattle.formula_tree.specs.Resolving.{place};
 
 use indexmap::IndexSet;
 use linear_forms::VarId;
@@ -65,6 +66,15 @@ impl Names {
     {
         let number = self.names.get_index_of(name)?;
         Some(VarId { number })
+    }
+
+    /// The number of the name; one that has none would get the next. It takes no memory.
+    pub fn place(&self, name: &Name) -> VarId
+        ensures { result.number ≡ place self.now name.now }
+    {
+        self.find(name).unwrap_or(VarId {
+            number: self.count(),
+        })
     }
 
     /// The bytes of the name with this number; `None` exactly where no name has it. It takes no memory.

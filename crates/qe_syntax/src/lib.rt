@@ -26,4 +26,4 @@ pub use tree::{
 };
 pub use truth::truth_at;
 pub use value::{EvalError, value_at};
-pub use valued::is_valued;
+pub use valued::{is_valued, matrix};

@@ -72,7 +72,7 @@ fn in_terms(terms: &[Term], names: &BTreeSet<Name>) -> bool
 
 /// The formula after the quantifiers with which this one begins.
 #[tactic(auto, using(crate::proofs::TreeEquations::trees))]
-fn matrix(formula: &Formula) -> &Formula
+pub fn matrix(formula: &Formula) -> &Formula
     ensures matrix { formula_tree result.now ≡ matrix_of (formula_tree formula.now) }
     ensures no_deeper { size-Formula result.now ≤ size-Formula formula.now }
 {

@@ -1,0 +1,18 @@
+use thiserror::Error;
+
+/// Why a formula has no normal form of some kind.
+#[derive(Clone, Copy, Debug, PartialEq, Eq, Drop, Error)]
+pub enum FormError {
+    /// A quantifier stands in the formula.
+    #[error("a quantifier stands in the formula")]
+    Quantified,
+    /// A number passes 2^127 - 1.
+    #[error("a number passes the limit")]
+    Overflow,
+    /// The measure of the formula passes the limit of nodes.
+    #[error("the formula is too large")]
+    Nodes,
+    /// There is no memory left.
+    #[error("out of memory")]
+    Memory,
+}
