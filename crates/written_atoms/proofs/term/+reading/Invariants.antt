@@ -1,0 +1,30 @@
+use Rattle.std.proofs.Common.{drop, map}
+use Rattle.atom_normal.specs.Atoms.{context_of}
+use Rattle.qe_syntax.specs.Proper.{AreProperTerms}
+use Rattle.qe_syntax.specs.Trees.{term_tree, terms_of}
+use Rattle.formula_tree.specs.Resolving.{place}
+use Rattle.written_atoms.proofs.TermSizes.{term_size, terms_size}
+use Rattle.written_atoms.proofs.Readings.{SumLeft, ProductLeft}
+use Rattle.written_atoms.proofs.term.+reading.Given as goal
+
+abbrev pub decreases-read_term : goal.decreases-read_term
+decreases-read_term l = term_size (term_tree l.term.now)
+
+abbrev pub decreases-read_sum : goal.decreases-read_sum
+decreases-read_sum l = terms_size (terms_of (map term_tree l.terms.now))
+
+abbrev pub decreases-read_product : goal.decreases-read_product
+decreases-read_product l = terms_size (terms_of (map term_tree l.terms.now))
+
+-- what was read of the first members, and the members that are left
+abbrev pub invariant-read_sum-loop-term : goal.invariant-read_sum-loop-term
+invariant-read_sum-loop-term l = record {
+  left : SumLeft (context_of l.context) (place l.names) (terms_of (map term_tree l.terms)) (terms_of (map term_tree (drop l.term-index l.terms))) l.total l.nonlinear l.division;
+  proper : AreProperTerms (terms_of (map term_tree (drop l.term-index l.terms)));
+}
+
+abbrev pub invariant-read_product-loop-term : goal.invariant-read_product-loop-term
+invariant-read_product-loop-term l = record {
+  left : ProductLeft (context_of l.context) (place l.names) (terms_of (map term_tree l.terms)) (terms_of (map term_tree (drop l.term-index l.terms))) l.total;
+  proper : AreProperTerms (terms_of (map term_tree (drop l.term-index l.terms)));
+}

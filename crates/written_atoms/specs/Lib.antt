@@ -1,0 +1,6 @@
+pub mod Rational
+pub mod Entries
+pub mod Sum
+pub mod Term
+pub mod Atom
+pub mod Read

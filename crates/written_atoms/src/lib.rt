@@ -1,0 +1,11 @@
+//! Written comparisons and congruences: their normal atoms, and which causes of a refusal stand in them.
+#![tactic(auto)]
+
+mod rational;
+mod read;
+mod sum;
+mod term;
+#[cfg(test)]
+mod tests;
+
+pub use read::{AtomCauses, ReadAtom, read_comparison, read_congruence};
