@@ -1,0 +1,9 @@
+pub mod Numbered
+pub mod Measures
+pub mod FirstCause
+pub mod Written
+pub mod Openings
+pub mod PartLaws
+pub mod AtomLaws
+pub mod WrittenParts
+pub mod Refusing

@@ -1,0 +1,52 @@
+-- Why a formula is not resolved: the first cause that applies.
+use Rattle.std.specs.Prelude.{ℕ, ◌<◌, List, map}
+use Rattle.std.specs.List.{AllByRecursion}
+use Rattle.formula_meaning.specs.Context.{Context}
+use Rattle.formula_meaning.specs.Tree.{Tree}
+use Rattle.qe_syntax.specs.Trees.{FormulaTree}
+use Rattle.formula_tree.specs.Resolving.{BoundTrees, place, names_after}
+use Rattle.formula_tree.specs.Causes as cause
+use Rattle.formula_resolving.specs.declared.error.StaticError.{StaticError}
+use Rattle.formula_resolving.specs.declared.error.StaticError.TheVariants.{Unbound, FormulaAsTerm, Nonlinear, Division, CongruenceContext, Modulus, Depth, Overflow, Memory}
+
+-- what is bound are ids
+abbrev pub AreIds : {Id : Type 0} → (Id → Type 0) → List (List ℕ × Id) → Type 0
+AreIds is_id bound = AllByRecursion (λ e. is_id e.1) bound
+
+-- the trees of what is bound
+abbrev pub trees_bound : {Id : Type 0} → (Id → Tree) → List (List ℕ × Id) → BoundTrees
+trees_bound tree bound = map (λ e. (e.0, tree e.1)) bound
+
+-- the place of a cause in the order in which they are looked for
+abbrev pub rank : StaticError → ℕ
+rank Unbound = 0
+rank FormulaAsTerm = 1
+rank Nonlinear = 2
+rank Division = 3
+rank CongruenceContext = 4
+rank Modulus = 5
+rank Depth = 6
+rank Overflow = 7
+rank Memory = 8
+
+-- The cause applies to the formula, whose new variables come after the names. Want of memory has no cause.
+abbrev pub Applies : Context → BoundTrees → List (List ℕ) → FormulaTree → StaticError → Type 0
+Applies c bound names f Unbound = cause.IsUnbound bound f
+Applies c bound names f FormulaAsTerm = cause.NamesFormulaAsTerm bound f
+Applies c bound names f Nonlinear = cause.IsNonlinear c (place (names_after names f)) f
+Applies c bound names f Division = cause.Divides c (place (names_after names f)) f
+Applies c bound names f CongruenceContext = cause.CongruenceInFields c f
+Applies c bound names f Modulus = cause.IsBadModulus c (place (names_after names f)) f
+Applies c bound names f Depth = cause.IsTooDeep bound f
+Applies c bound names f Overflow = cause.OverflowsInReading c bound (place (names_after names f)) f
+Applies c bound names f Memory = Unit {0}
+
+-- it applies, and no earlier one does
+pub record IsFirst (c : Context) (bound : BoundTrees) (names : List (List ℕ)) (f : FormulaTree) (e : StaticError) : Type 0 where
+  pub applies : Applies c bound names f e
+  pub first : (d : StaticError) → rank d < rank e → ¬ (Applies c bound names f d)
+
+-- the same, where want of memory says nothing
+abbrev pub IsFirstCause : Context → BoundTrees → List (List ℕ) → FormulaTree → StaticError → Type 0
+IsFirstCause c bound names f Memory = Unit {0}
+IsFirstCause c bound names f e = IsFirst c bound names f e

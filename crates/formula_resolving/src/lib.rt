@@ -1,0 +1,16 @@
+//! Written formulas become resolved ones, or are refused for the first cause.
+#![tactic(auto)]
+
+mod causes;
+mod error;
+mod numbering;
+mod parts;
+mod plain;
+mod reading;
+mod resolving;
+#[cfg(test)]
+mod tests;
+
+pub use error::StaticError;
+pub use plain::{PlainId, PlainMaker};
+pub use resolving::linearise;

@@ -1,0 +1,233 @@
+//! The parts of a formula as they are read, and the formulas made over them.
+
+ghost use Rattle.std.specs.Prelude.{◌≡◌, ◌++◌, [], max, Some, IfOk, OnOk};
+ghost use Rattle.std.specs.Option.{option_to_list, ForSome};
+ghost use Rattle.atom_normal.specs.Atoms.{context_of, IsWellFormedNormal};
+ghost use Rattle.formula_tree.specs.Makers.{Keeps};
+ghost use Rattle.formula_resolving.specs.Refusals.{AreIds, trees_bound};
+ghost use Rattle.formula_tree.specs.Shapes.{AllIds, IsProperShape};
+ghost use Rattle.formula_resolving.specs.Parts.{IsFinished, IsNamePart};
+ghost use Rattle.formula_resolving.specs.MetCauses.{atom_causes, either, is_fields, no_causes};
+ghost use Rattle.formula_resolving.specs.Connectives.{joint_shape, negated_shape, normal_shape, pair_shape, quantifier_shape};
+
+use crate::causes::{Causes, told};
+use atom_normal::{Context, Normal};
+use formula_tree::{Bindings, Ids, Maker, Shape};
+use linear_forms::VarId;
+use qe_syntax::Name;
+use std::alloc::{AllocError, Global};
+use written_atoms::ReadAtom;
+
+/// What is read of a formula: the causes in it, its height, and the resolved formula where it is not refused.
+#[derive(Drop)]
+pub(crate) struct Part<Id> {
+    pub causes: Causes,
+    pub height: u64,
+    pub id: Option<Id>,
+}
+
+/// What is read of the members of a list: the causes in them, the greatest height, and the resolved formulas.
+#[derive(Drop)]
+pub(crate) struct Members<Id> {
+    pub causes: Causes,
+    pub height: u64,
+    pub ids: Vec<Id>,
+}
+
+/// A quantifier, and the number of its name.
+#[derive(Clone, Copy)]
+pub(crate) struct Quantifier {
+    pub universal: bool,
+    pub name: VarId,
+}
+
+impl Quantifier {
+    /// The formula with the quantifier before it; `None` where it is not there.
+    pub(crate) fn over<Id: Copy>(self, inner: Option<Id>) -> Option<Shape<Id>>
+        ensures { result ≡ quantifier_shape self inner }
+    {
+        let inner = inner?;
+        if self.universal {
+            Some(Shape::All(self.name, inner))
+        } else {
+            Some(Shape::Ex(self.name, inner))
+        }
+    }
+}
+
+/// The negation of the formula; `None` where it is not there.
+pub(crate) fn negation<Id: Copy>(inner: Option<Id>) -> Option<Shape<Id>>
+    ensures { result ≡ negated_shape inner }
+{
+    let inner = inner?;
+    Some(Shape::Not(inner))
+}
+
+/// The formula of a normal atom; `None` where it is not there.
+fn normal_shape<Id>(normal: Option<Normal>) -> Option<Shape<Id>>
+    ensures { result ≡ normal_shape normal }
+{
+    match normal {
+        None => None,
+        Some(Normal::True) => Some(Shape::True),
+        Some(Normal::False) => Some(Shape::False),
+        Some(Normal::One(atom)) => Some(Shape::One(atom)),
+    }
+}
+
+/// What joins the members of a list.
+#[derive(Clone, Copy)]
+pub(crate) enum Joint {
+    And,
+    Or,
+}
+
+impl Joint {
+    /// The list with these members.
+    pub(crate) fn over<Id>(self, ids: Vec<Id>) -> Shape<Id>
+        ensures { result ≡ joint_shape self ids.items }
+    {
+        match self {
+            Joint::And => Shape::And(Ids::of(ids)),
+            Joint::Or => Shape::Or(Ids::of(ids)),
+        }
+    }
+}
+
+/// A connective of two formulas.
+#[derive(Clone, Copy)]
+pub(crate) enum Pair {
+    Impl,
+    Repl,
+    Equiv,
+}
+
+impl Pair {
+    /// The two formulas with the connective between them; `None` where one is not there.
+    pub(crate) fn over<Id: Copy>(self, left: Option<Id>, right: Option<Id>) -> Option<Shape<Id>>
+        ensures { result ≡ pair_shape self left right }
+    {
+        let left = left?;
+        let right = right?;
+        match self {
+            Pair::Impl => Some(Shape::Impl(left, right)),
+            Pair::Repl => Some(Shape::Repl(left, right)),
+            Pair::Equiv => Some(Shape::Equiv(left, right)),
+        }
+    }
+}
+
+impl<Id: Copy> Members<Id> {
+    /// No members.
+    pub(crate) fn none(alloc: Global) -> Members<Id>
+        ensures causes { result.causes ≡ no_causes }
+        ensures height { result.height ≡ 0 }
+        ensures ids { result.ids.items ≡ [] }
+    {
+        Members {
+            causes: Causes::none(),
+            height: 0,
+            ids: Vec::new(alloc),
+        }
+    }
+
+    /// Takes in one more member.
+    pub(crate) fn add(&mut self, member: Part<Id>) -> Result<(), AllocError>
+        ensures causes { OnOk result (self.new.causes ≡ either self.old.causes member.causes) }
+        ensures height { OnOk result (self.new.height ≡ max self.old.height member.height) }
+        ensures ids { OnOk result (self.new.ids.items ≡ self.old.ids.items ++ option_to_list member.id) }
+    {
+        self.causes = self.causes.or(member.causes);
+        self.height = self.height.max(member.height);
+        if let Some(id) = member.id {
+            self.ids.push(id)?;
+        }
+        Ok(())
+    }
+}
+
+/// Makes the shape, if it is there and not refused for these causes at this height.
+pub(crate) fn finish<M: Maker>(
+    causes: Causes,
+    height: u64,
+    shape: Option<Shape<M::Id>>,
+    maker: &mut M,
+) -> Result<Part<M::Id>, AllocError>
+    requires ids { ForSome shape (AllIds (M.is_id maker.old)) }
+    requires proper { ForSome shape IsProperShape }
+    ensures finished { IfOk result (IsFinished (M.is_id maker.new) (M.tree maker.old) (M.tree maker.new) causes height shape) }
+    ensures kept { Keeps (M.is_id maker.old) (M.tree maker.old) (M.is_id maker.new) (M.tree maker.new) }
+{
+    if causes.refuse(height) {
+        return Ok(Part {
+            causes,
+            height,
+            id: None,
+        });
+    }
+    let Some(shape) = shape else {
+        return Ok(Part {
+            causes,
+            height,
+            id: None,
+        });
+    };
+    match maker.make(shape) {
+        Ok(id) => Ok(Part {
+            causes,
+            height,
+            id: Some(id),
+        }),
+        Err(_) => Err(AllocError),
+    }
+}
+
+/// The part of a comparison or congruence that was read; `congruence` says whether it is a congruence over the fields.
+pub(crate) fn atom_part<M: Maker>(
+    read: ReadAtom,
+    congruence: bool,
+    maker: &mut M,
+) -> Result<Part<M::Id>, AllocError>
+    requires { ForSome read.normal IsWellFormedNormal }
+    ensures finished { IfOk result (IsFinished (M.is_id maker.new) (M.tree maker.old) (M.tree maker.new) (atom_causes read.causes congruence) 1 (normal_shape read.normal)) }
+    ensures kept { Keeps (M.is_id maker.old) (M.tree maker.old) (M.is_id maker.new) (M.tree maker.new) }
+{
+    let causes = Causes {
+        unbound: false,
+        nonlinear: read.causes.nonlinear,
+        division: read.causes.division,
+        congruence,
+        modulus: read.causes.modulus,
+        overflow: read.causes.overflow,
+    };
+    finish(causes, 1, normal_shape(read.normal), maker)
+}
+
+/// Whether the theory is that of the fields.
+pub(crate) fn is_fields(context: Context) -> bool
+    ensures { result ≡ is_fields (context_of context) }
+{
+    match context {
+        Context::Fields => true,
+        Context::Integers => false,
+    }
+}
+
+/// The part of a name that stands as a formula.
+pub(crate) fn name_part<M: Maker>(name: &Name, bound: &Bindings<M::Id>, maker: &M) -> Part<M::Id>
+    requires { AreIds (M.is_id maker.now) bound.now }
+    ensures { IsNamePart (trees_bound (M.tree maker.now) bound.now) (M.is_id maker.now) (M.tree maker.now) name.now result }
+{
+    match bound.get(name) {
+        Some(id) => Part {
+            causes: Causes::none(),
+            height: told(maker.height(id)),
+            id: Some(id),
+        },
+        None => Part {
+            causes: Causes::nothing_bound(),
+            height: 1,
+            id: None,
+        },
+    }
+}

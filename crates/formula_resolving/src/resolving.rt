@@ -1,0 +1,87 @@
+ghost use Rattle.std.specs.Prelude.{◌≡◌, IfOk, IfErr, OnOk, OnErr};
+ghost use Rattle.qe_syntax.specs.Proper.{IsProperFormula};
+ghost use Rattle.qe_syntax.specs.Trees.{formula_tree};
+ghost use Rattle.atom_normal.specs.Atoms.{context_of};
+ghost use Rattle.formula_tree.specs.Causes.{IsAccepted};
+ghost use Rattle.formula_tree.specs.Makers.{IsMade, Keeps};
+ghost use Rattle.formula_tree.specs.Resolving.{names_after, resolve};
+ghost use Rattle.formula_resolving.specs.Numbering.{Grows};
+ghost use Rattle.formula_resolving.specs.Refusals.{AreIds, trees_bound, IsFirstCause};
+
+use crate::error::StaticError;
+use crate::numbering::number_formula;
+use crate::reading::{Scope, read_formula};
+use atom_normal::Context;
+use formula_tree::{Bindings, Maker, Names};
+use qe_syntax::Formula;
+use std::alloc::Global;
+
+/// The resolved formula: bound names by their trees, each comparison and congruence by its normal atom. Its new variables
+/// get the next numbers, in the order of the text. The first cause of a refusal is answered, else `Memory`; then the
+/// names are as before, and formulas may have been made that nothing needs.
+pub fn linearise<M: Maker>(
+    alloc: Global,
+    formula: &Formula,
+    bound: &Bindings<M::Id>,
+    context: Context,
+    names: &mut Names,
+    maker: &mut M,
+) -> Result<M::Id, StaticError>
+    requires proper { IsProperFormula (formula_tree formula.now) }
+    requires ids { AreIds (M.is_id maker.old) bound.now }
+    ensures accepted { OnOk result (IsAccepted (context_of context) (trees_bound (M.tree maker.old) bound.now) names.old (formula_tree formula.now)) }
+    ensures resolved { IfOk result (λ id. IsMade (M.is_id maker.new) (M.tree maker.new) id (resolve (context_of context) (trees_bound (M.tree maker.old) bound.now) (names_after names.old (formula_tree formula.now)) (formula_tree formula.now))) }
+    ensures names { OnOk result (names.new ≡ names_after names.old (formula_tree formula.now)) }
+    ensures refused { IfErr result (IsFirstCause (context_of context) (trees_bound (M.tree maker.old) bound.now) names.old (formula_tree formula.now)) }
+    ensures unchanged { OnErr result (names.new ≡ names.old) }
+    ensures kept { Keeps (M.is_id maker.old) (M.tree maker.old) (M.is_id maker.new) (M.tree maker.new) }
+{
+    let count = names.count();
+    match resolved(alloc, formula, bound, context, names, maker) {
+        Ok(id) => Ok(id),
+        Err(error) => {
+            names.keep_first(count);
+            Err(error)
+        }
+    }
+}
+
+/// The same, where the names may have grown after an `Err`. The names are numbered in a pass of their own, so that what is
+/// read of a part does not change with the names after it.
+fn resolved<M: Maker>(
+    alloc: Global,
+    formula: &Formula,
+    bound: &Bindings<M::Id>,
+    context: Context,
+    names: &mut Names,
+    maker: &mut M,
+) -> Result<M::Id, StaticError>
+    requires proper { IsProperFormula (formula_tree formula.now) }
+    requires ids { AreIds (M.is_id maker.old) bound.now }
+    ensures accepted { OnOk result (IsAccepted (context_of context) (trees_bound (M.tree maker.old) bound.now) names.old (formula_tree formula.now)) }
+    ensures resolved { IfOk result (λ id. IsMade (M.is_id maker.new) (M.tree maker.new) id (resolve (context_of context) (trees_bound (M.tree maker.old) bound.now) (names_after names.old (formula_tree formula.now)) (formula_tree formula.now))) }
+    ensures names { OnOk result (names.new ≡ names_after names.old (formula_tree formula.now)) }
+    ensures refused { IfErr result (IsFirstCause (context_of context) (trees_bound (M.tree maker.old) bound.now) names.old (formula_tree formula.now)) }
+    ensures grown { Grows names.old names.new }
+    ensures kept { Keeps (M.is_id maker.old) (M.tree maker.old) (M.is_id maker.new) (M.tree maker.new) }
+{
+    let Ok(named) = number_formula(formula, bound, names) else {
+        return Err(StaticError::Memory);
+    };
+    let scope = Scope {
+        alloc,
+        context,
+        bound,
+        names,
+    };
+    let Ok(part) = read_formula(&scope, formula, maker) else {
+        return Err(StaticError::Memory);
+    };
+    match part.causes.first(named, part.height) {
+        Some(cause) => Err(cause),
+        None => match part.id {
+            Some(id) => Ok(id),
+            None => unreachable!(),
+        },
+    }
+}
