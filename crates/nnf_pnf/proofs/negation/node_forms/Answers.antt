@@ -1,0 +1,11 @@
+use Rattle.nnf_pnf.proofs.Kept.{keeps_then, members_stay}
+use Rattle.nnf_pnf.proofs.negation.node_forms.Goals as goal
+
+pub node_form-requires-2-clause-members : goal.node_form-requires-2-clause-members
+node_form-requires-2-clause-members c = members_stay c.args.store.now c.node_form.new.store c.node_form.ensures.kept c.node_form.ensures.front c.args.table.now c.args.id c.requires.id c.requires.members
+
+pub returns-in_err-negated-clause-kept : goal.returns-in_err-negated-clause-kept
+returns-in_err-negated-clause-kept c = keeps_then c.args.store.now c.node_form.new.store c.node_form-2.new.store c.node_form.ensures.kept c.node_form-2.ensures.kept
+
+pub returns-clause-kept : goal.returns-clause-kept
+returns-clause-kept c = keeps_then c.args.store.now c.node_form.new.store c.node_form-2.new.store c.node_form.ensures.kept c.node_form-2.ensures.kept

@@ -1,0 +1,11 @@
+//! Negation normal forms of shared formulas.
+#![tactic(auto)]
+
+mod forms;
+mod negation;
+mod plan;
+
+pub use negation::nnf;
+
+#[cfg(test)]
+mod tests;

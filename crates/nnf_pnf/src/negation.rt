@@ -1,0 +1,116 @@
+//! The negation normal form of a formula, made over those of its distinct subformulas.
+
+ghost use Rattle.std.specs.Prelude.{◌≡◌, ◌≤◌, ◌<◌, ◌+◌, ◌*◌, ◌⊎◌, ℕ, Some, IfOk, IfErr, OnOk, IsErrOf, length, nat_eq, slice_get, true, false, IsTrue, ◌↔◌, [], ◌∷◌};
+ghost use Rattle.formula_meaning.specs.Same.{same_atom};
+ghost use Rattle.formula_meaning.specs.Sizes.{distinct_count};
+ghost use Rattle.formula_meaning.specs.NegationNormal.{normal_form};
+ghost use Rattle.atom_normal.specs.NormalForm.{negated_normal};
+ghost use Rattle.formula_tree.specs.Makers.{IsMade, Keeps};
+ghost use Rattle.formula_tree.specs.declared.shape.Shape.{Shape};
+ghost use Rattle.formula_tree.specs.Shapes.{AllIds};
+ghost use Rattle.formula_store.specs.declared.id.FormulaId.{FormulaId};
+ghost use Rattle.formula_store.specs.Nodes.{IsId, tree, AreNodes, Front};
+ghost use Rattle.formula_store.specs.Order.{IsOrder};
+ghost use Rattle.nnf_pnf.specs.Forms.{form, Known};
+
+use crate::forms::{Forms, Table, form};
+use crate::plan::{performed, planned};
+use formula_store::{FormulaId, Store};
+use formula_tree::FormError;
+use std::alloc::Global;
+use std::collections::HashMap;
+
+/// The negation normal form of a formula, whose atoms are negated in normal form. It makes at most 6 formulas for each
+/// distinct subformula. `Nodes` comes exactly where a limit is given and 6 times the distinct subformulas are above it, else
+/// `Memory`; the formulas of the store stay.
+pub fn nnf(
+    alloc: Global,
+    store: &mut Store,
+    id: FormulaId,
+    limit: Option<u64>,
+) -> Result<FormulaId, FormError>
+    requires { IsId store.old id }
+    ensures made { IfOk result (λ r. IsMade (IsId store.new) (tree store.new) r (normal_form negated_normal (tree store.old id))) }
+    ensures kept { Keeps (IsId store.old) (tree store.old) (IsId store.new) (tree store.new) }
+    ensures few { length store.new ≤ length store.old + 6 * distinct_count same_atom nat_eq (tree store.old id) }
+    ensures nodes { IsErrOf result FormError.Nodes → (l : ℕ) × (limit ≡ Some l) × (l < 6 * distinct_count same_atom nat_eq (tree store.old id)) }
+    ensures limited { OnOk result ((l : ℕ) → limit ≡ Some l → 6 * distinct_count same_atom nat_eq (tree store.old id) ≤ l) }
+    ensures unmade { IsErrOf result FormError.Nodes → store.new ≡ store.old }
+    ensures errors { IfErr result (λ e. (e ≡ FormError.Nodes) ⊎ (e ≡ FormError.Memory)) }
+{
+    let ids = subformulas(store, id)?;
+    if passes(ids.len(), limit) {
+        return Err(FormError::Nodes);
+    }
+    let mut table = HashMap::new(alloc);
+    for id in &ids {
+        let forms = node_forms(alloc, store, *id, &table)?;
+        table.insert(*id, forms).map_err(|_| FormError::Memory)?;
+    }
+    Ok(form(&table, id, false))
+}
+
+// The distinct subformulas, members first.
+fn subformulas(store: &Store, id: FormulaId) -> Result<Vec<FormulaId>, FormError>
+    requires { IsId store.now id }
+    ensures order { IfOk result (λ ids. IsOrder store.now (id ∷ []) ids.items) }
+    ensures count { IfOk result (λ ids. length ids.items ≡ distinct_count same_atom nat_eq (tree store.now id)) }
+    ensures nodes { AreNodes store.now }
+    ensures memory { IfErr result (λ e. e ≡ FormError.Memory) }
+{
+    match store.subformulas(id) {
+        Ok(ids) => Ok(ids),
+        Err(_) => Err(FormError::Memory),
+    }
+}
+
+// Whether 6 times the count is above the limit, if there is one.
+fn passes(count: usize, limit: Option<u64>) -> bool
+    ensures { IsTrue result ↔ ((l : ℕ) × (limit ≡ Some l) × (l < 6 * count)) }
+{
+    match limit {
+        None => false,
+        Some(limit) => limit / 6 < count as u64,
+    }
+}
+
+// Makes the forms of one formula over those of its members, with at most six new formulas.
+fn node_forms(
+    alloc: Global,
+    store: &mut Store,
+    id: FormulaId,
+    table: &Table,
+) -> Result<Forms, FormError>
+    requires id { IsId store.old id }
+    requires members { (n : Shape FormulaId) → slice_get store.old id.number ≡ Some n → AllIds (Known store.old table.now) n }
+    ensures plain { IfOk result (λ forms. IsMade (IsId store.new) (tree store.new) forms.plain (form false (tree store.old id))) }
+    ensures negated { IfOk result (λ forms. IsMade (IsId store.new) (tree store.new) forms.negated (form true (tree store.old id))) }
+    ensures kept { Keeps (IsId store.old) (tree store.old) (IsId store.new) (tree store.new) }
+    ensures front { Front store.old store.new }
+    ensures few { length store.new ≤ length store.old + 6 }
+    ensures memory { IfErr result (λ e. e ≡ FormError.Memory) }
+{
+    let plain = node_form(alloc, store, id, table, false)?;
+    let negated = node_form(alloc, store, id, table, true)?;
+    Ok(Forms { plain, negated })
+}
+
+// Makes the form of one formula, or of its negation.
+fn node_form(
+    alloc: Global,
+    store: &mut Store,
+    id: FormulaId,
+    table: &Table,
+    negated: bool,
+) -> Result<FormulaId, FormError>
+    requires id { IsId store.old id }
+    requires members { (n : Shape FormulaId) → slice_get store.old id.number ≡ Some n → AllIds (Known store.old table.now) n }
+    ensures made { IfOk result (λ r. IsMade (IsId store.new) (tree store.new) r (form negated (tree store.old id))) }
+    ensures kept { Keeps (IsId store.old) (tree store.old) (IsId store.new) (tree store.new) }
+    ensures front { Front store.old store.new }
+    ensures few { length store.new ≤ length store.old + 3 }
+    ensures memory { IfErr result (λ e. e ≡ FormError.Memory) }
+{
+    let plan = planned(alloc, store, id, table, negated)?;
+    performed(alloc, store, plan)
+}
