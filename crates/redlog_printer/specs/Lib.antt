@@ -1,0 +1,4 @@
+pub mod Text
+pub mod Within
+pub mod Bound
+pub mod Writing
