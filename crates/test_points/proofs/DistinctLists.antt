@@ -1,0 +1,115 @@
+-- A list built by putting each element last unless it is there is the list without repeats.
+use Rattle.std.proofs.Common.{◌≡◌, Bool, true, false, ◌||◌, List, [], ◌∷◌, ◌++◌, map, refl, sym, ap, ap₂, ◌∙◌, subst, if◌then◌else◌, append_assoc, append-nil}
+use Rattle.std.proofs.lemmas.List.{map-append}
+use Rattle.std.specs.List.{list_any, fold}
+use Rattle.formula_meaning.specs.Some.{EachOf}
+use Rattle.formula_meaning.specs.Distinct.{without_same, distinct}
+use Rattle.elimination_theory.proofs.SomeListed.{each_append}
+use Rattle.indexmap.specs.IndexSet.{insert_key, insert_all}
+
+module _ {X : Type 0} (same : X → X → Bool) (sound : (x y : X) → same x y ≡ true → x ≡ y) where
+  swap : (x y : X) (zs : List X) → without_same same x (without_same same y zs) ≡ without_same same y (without_same same x zs)
+  swap x y [] = refl
+  swap x y (z ∷ zs) = go (same x z) refl (same y z) refl (swap x y zs)
+    where
+      go : (b : Bool) → same x z ≡ b → (c : Bool) → same y z ≡ c → without_same same x (without_same same y zs) ≡ without_same same y (without_same same x zs) →
+          without_same same x (if c then without_same same y zs else z ∷ without_same same y zs) ≡ without_same same y (if b then without_same same x zs else z ∷ without_same same x zs)
+      go true e true f h = h
+      go true e false f h = rw e h
+      go false e true f h = rw f h
+      go false e false f h = rw e (rw f (ap (λ ws. z ∷ ws) h))
+
+  twice : (x : X) (zs : List X) → without_same same x (without_same same x zs) ≡ without_same same x zs
+  twice x [] = refl
+  twice x (z ∷ zs) = go (same x z) refl (twice x zs)
+    where
+      go : (b : Bool) → same x z ≡ b → without_same same x (without_same same x zs) ≡ without_same same x zs →
+          without_same same x (if b then without_same same x zs else z ∷ without_same same x zs) ≡ (if b then without_same same x zs else z ∷ without_same same x zs)
+      go true e h = h
+      go false e h = rw e (ap (λ ws. z ∷ ws) h)
+
+  -- the list without what is the same as an element of the first
+  abbrev removed : List X → List X → List X
+  removed [] ys = ys
+  removed (x ∷ xs) ys = without_same same x (removed xs ys)
+
+  -- an element is the same as this one
+  abbrev has : List X → X → Bool
+  has xs y = list_any (λ x. same x y) xs
+
+  -- the element last, unless one is the same
+  abbrev put : List X → X → List X
+  put xs y = if has xs y then xs else xs ++ y ∷ []
+
+  removed_nothing : (xs : List X) → removed xs [] ≡ []
+  removed_nothing [] = refl
+  removed_nothing (x ∷ xs) = ap (without_same same x) (removed_nothing xs)
+
+  removed_first : (xs : List X) (y : X) (ys : List X) → removed xs (y ∷ ys) ≡ (if has xs y then removed xs ys else y ∷ removed xs ys)
+  removed_first [] y ys = refl
+  removed_first (x ∷ xs) y ys = ap (without_same same x) (removed_first xs y ys) ∙ go (same x y) refl (has xs y)
+    where
+      go : (a : Bool) → same x y ≡ a → (b : Bool) →
+          without_same same x (if b then removed xs ys else y ∷ removed xs ys) ≡ (if a || b then without_same same x (removed xs ys) else y ∷ without_same same x (removed xs ys))
+      go true e true = refl
+      go true e false = rw e refl
+      go false e true = refl
+      go false e false = rw e refl
+
+  removed_without : (xs : List X) (y : X) (zs : List X) → removed xs (without_same same y zs) ≡ without_same same y (removed xs zs)
+  removed_without [] y zs = refl
+  removed_without (x ∷ xs) y zs = ap (without_same same x) (removed_without xs y zs) ∙ swap x y (removed xs zs)
+
+  -- what is the same as an element is gone already
+  gone : (xs : List X) (y : X) (zs : List X) → has xs y ≡ true → without_same same y (removed xs zs) ≡ removed xs zs
+  gone [] y zs h = absurd (cc)
+  gone (x ∷ xs) y zs h = go (same x y) refl h (λ k. gone xs y zs k)
+    where
+      go : (b : Bool) → same x y ≡ b → (b || has xs y) ≡ true → (has xs y ≡ true → without_same same y (removed xs zs) ≡ removed xs zs) → without_same same y (without_same same x (removed xs zs)) ≡ without_same same x (removed xs zs)
+      go true e k r = subst (λ (w : X). without_same same w (without_same same x (removed xs zs)) ≡ without_same same x (removed xs zs)) (sound x y e) (twice x (removed xs zs))
+      go false e k r = swap y x (removed xs zs) ∙ ap (without_same same x) (r k)
+
+  removed_last : (xs : List X) (y : X) (zs : List X) → removed (xs ++ y ∷ []) zs ≡ removed xs (without_same same y zs)
+  removed_last [] y zs = refl
+  removed_last (x ∷ xs) y zs = ap (without_same same x) (removed_last xs y zs)
+
+  put_all : (xs ys : List X) → fold put xs ys ≡ xs ++ removed xs (distinct same ys)
+  put_all xs [] = sym (append-nil xs) ∙ ap (λ l. xs ++ l) (sym (removed_nothing xs))
+  put_all xs (y ∷ ys) =
+      go (has xs y) refl (put_all xs ys) (put_all (xs ++ y ∷ []) ys) ∙ ap (λ l. xs ++ l) (sym (removed_first xs y (without_same same y (distinct same ys))))
+    where
+      go : (b : Bool) → has xs y ≡ b → fold put xs ys ≡ xs ++ removed xs (distinct same ys) → fold put (xs ++ y ∷ []) ys ≡ (xs ++ y ∷ []) ++ removed (xs ++ y ∷ []) (distinct same ys) →
+          fold put (if b then xs else xs ++ y ∷ []) ys ≡ xs ++ (if b then removed xs (without_same same y (distinct same ys)) else y ∷ removed xs (without_same same y (distinct same ys)))
+      go true e h k = h ∙ ap (λ l. xs ++ l) (sym (removed_without xs y (distinct same ys) ∙ gone xs y (distinct same ys) e))
+      go false e h k = k ∙ append_assoc xs (y ∷ []) (removed (xs ++ y ∷ []) (distinct same ys)) ∙ ap (λ l. xs ++ y ∷ l) (removed_last xs y (distinct same ys))
+
+  -- the same of elements that the test compares through g
+  module _ {T : Type 0} (eq : T → T → Bool) (g : T → X) (Q : T → Type 0) (agree : (new old : T) → Q new → Q old → eq new old ≡ same (g old) (g new)) where
+    any_agree : (ks : List T) (k : T) → EachOf Q ks → Q k → list_any (eq k) ks ≡ has (map g ks) (g k)
+    any_agree [] k h q = refl
+    any_agree (o ∷ ks) k h q = ap₂ (λ a b. a || b) (agree k o q h.0) (any_agree ks k h.1 q)
+
+    map_put : (ks : List T) (k : T) → EachOf Q ks → Q k → map g (insert_key eq ks k) ≡ put (map g ks) (g k)
+    map_put ks k h q = go (list_any (eq k) ks) refl ∙ ap (λ b. if b then map g ks else map g ks ++ g k ∷ []) (any_agree ks k h q)
+      where
+        go : (b : Bool) → list_any (eq k) ks ≡ b → map g (if b then ks else ks ++ k ∷ []) ≡ (if b then map g ks else map g ks ++ g k ∷ [])
+        go true e = refl
+        go false e = map-append g ks (k ∷ [])
+
+    each_put : (ks : List T) (k : T) → EachOf Q ks → Q k → EachOf Q (insert_key eq ks k)
+    each_put ks k h q = go (list_any (eq k) ks)
+      where
+        go : (b : Bool) → EachOf Q (if b then ks else ks ++ k ∷ [])
+        go true = h
+        go false = each_append Q ks (k ∷ []) h (q, tt)
+
+    pub each_inserted : (ks xs : List T) → EachOf Q ks → EachOf Q xs → EachOf Q (insert_all eq ks xs)
+    each_inserted ks [] h k = h
+    each_inserted ks (x ∷ xs) h k = each_inserted (insert_key eq ks x) xs (each_put ks x h k.0) k.1
+
+    map_inserted : (ks xs : List T) → EachOf Q ks → EachOf Q xs → map g (insert_all eq ks xs) ≡ fold put (map g ks) (map g xs)
+    map_inserted ks [] h k = refl
+    map_inserted ks (x ∷ xs) h k = map_inserted (insert_key eq ks x) xs (each_put ks x h k.0) k.1 ∙ ap (λ l. fold put l (map g xs)) (map_put ks x h k.0)
+
+    pub inserted_is_distinct : (xs : List T) → EachOf Q xs → map g (insert_all eq [] xs) ≡ distinct same (map g xs)
+    inserted_is_distinct xs k = map_inserted [] xs tt k ∙ put_all [] (map g xs)

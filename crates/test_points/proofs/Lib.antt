@@ -1,0 +1,9 @@
+pub mod Outcomes
+pub mod WithinTests
+pub mod Forms
+pub mod Ended
+pub mod SamePoints
+pub mod DistinctLists
+pub mod Lowest
+pub mod Loops
+pub mod PutLaws

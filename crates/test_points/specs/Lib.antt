@@ -1,0 +1,4 @@
+pub mod Points
+pub mod Verdicts
+pub mod Substituted
+pub mod Laws

@@ -1,0 +1,16 @@
+// The errors of test points.
+use thiserror::Error;
+
+/// Why a list of test points, or what an atom becomes at one, could not be made.
+#[derive(Clone, Copy, Debug, PartialEq, Eq, Drop, Error)]
+pub enum PointError {
+    /// A number passes 2^127 - 1.
+    #[error("a number passes the limit")]
+    Overflow,
+    /// There are more test points than the limit that was given.
+    #[error("too many test points")]
+    Nodes,
+    /// There is no memory left.
+    #[error("out of memory")]
+    Memory,
+}

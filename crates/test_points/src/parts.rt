@@ -1,0 +1,49 @@
+// Forms with a name put at a form over a number.
+ghost use Rattle.std.specs.Prelude.{◌≡◌, negsuc, neg_ℤ, if◌then◌else◌, IfOk, IfErr, IsErrOf};
+ghost use Rattle.exact_numbers.specs.Limit.{InLimit};
+ghost use Rattle.formula_meaning.specs.Form.{coefficient, without, scale};
+ghost use Rattle.linear_forms.specs.Terms.{IsLinear, IsCombination, CombinePasses};
+
+use linear_forms::{LinError, Linear, VarId};
+use std::alloc::Global;
+
+// The number with the other sign.
+fn opposite(number: i128) -> i128
+    requires { InLimit number }
+    ensures value { result ≡ neg_ℤ number }
+    ensures within { InLimit result }
+{
+    -number
+}
+
+/// The form without the terms of a name, or the negative of that. Its only error is `Memory`.
+pub fn rest(alloc: Global, form: &Linear, x: VarId, negative: bool) -> Result<Linear, LinError>
+    ensures value { IfOk result (λ r. r ≡ (if negative then scale (negsuc 0) (without x.number form.now) else without x.number form.now)) }
+    ensures linear { IfOk result IsLinear }
+    ensures memory { IfErr result (λ e. e ≡ LinError.Memory) }
+{
+    let _constant = form.constant_part();
+    let times = form.coefficient(x);
+    let variable = Linear::variable(alloc, x)?;
+    if negative {
+        form.combine(alloc, -1, &variable, times)
+    } else {
+        form.combine(alloc, 1, &variable, opposite(times))
+    }
+}
+
+/// The form `a * end + over * t` that the form `a * x + t` becomes with `end` over `over` for `x`, times `over`.
+/// `Overflow` comes exactly where a product or a sum of one place passes 2^127 - 1, else `Memory`.
+pub fn form_at(
+    alloc: Global,
+    form: &Linear,
+    x: VarId,
+    end: &Linear,
+    over: i128,
+) -> Result<Linear, LinError>
+    ensures combined { IfOk result (IsCombination (coefficient x.number form.now) end.now over (without x.number form.now)) }
+    ensures overflow { IsErrOf result LinError.Overflow → CombinePasses (coefficient x.number form.now) end.now over (without x.number form.now) }
+{
+    let rest = rest(alloc, form, x, false)?;
+    end.combine(alloc, form.coefficient(x), &rest, over)
+}
