@@ -1,0 +1,9 @@
+pub mod Beside
+pub mod Collected
+pub mod Congruences
+pub mod Counts
+pub mod Multiples
+pub mod PointLaws
+pub mod Rows
+pub mod Steps
+pub mod Whole

@@ -1,0 +1,3 @@
+pub mod Periods
+pub mod Starts
+pub mod Laws

@@ -1,0 +1,87 @@
+// Test points of the integers, and how many there are.
+ghost use Rattle.std.specs.Prelude.{◌≡◌, pos, ◌<ℤ◌, ◌<◌, ◌≤◌, ◌^◌, ◌+◌, ◌*◌, ◌/◌, unsigned_abs, count_by, true, false, All, map, MatchOption, IfOk, IsErrOf};
+ghost use Rattle.elimination_theory.specs.IntegersPoints.{integer_points_of, integer_count_of};
+ghost use Rattle.elimination_reference.specs.Limits.{each, place_within};
+ghost use Rattle.atom_normal.specs.Atoms.{atom_of, IsWellFormed};
+ghost use Rattle.test_points.specs.Points.{side_of, place_of, IsPointOf};
+ghost use Rattle.cooper_periods.specs.Starts.{has_end};
+ghost use Rattle.cooper_periods.specs.Periods.{IsPeriodOf};
+
+use crate::ends::push_atoms;
+use crate::runs::push_classes;
+use crate::scales::Period;
+use crate::starts::has_end;
+use atom_normal::Atom;
+use linear_forms::VarId;
+use std::alloc::Global;
+use test_points::{PointError, Side, TestPoint, distinct_points, quotient};
+
+// How many of the atoms have an end that lies to the side.
+fn ends_count(atoms: &[Atom], x: VarId, side: Side) -> usize
+    ensures { result ≡ count_by (λ a. has_end (side_of side) x.number (atom_of a)) atoms.now }
+{
+    atoms.iter().filter(|atom| has_end(atom, x, side)).count()
+}
+
+// So many numbers beside each end, and the residue classes: `None` exactly where there are more than `u64::MAX`.
+fn total(ends: usize, span: i128, scale: i128) -> Option<u64>
+    requires span { pos 0 <ℤ span }
+    requires scale { pos 0 <ℤ scale }
+    ensures { MatchOption result (2 ^ 64 ≤ unsigned_abs span / unsigned_abs scale + unsigned_abs span * ends) (λ n. n ≡ unsigned_abs span / unsigned_abs scale + unsigned_abs span * ends) }
+{
+    let span = span.unsigned_abs();
+    let beside_ends = span.checked_mul(ends as u128)?;
+    let all = beside_ends.checked_add(span / scale.unsigned_abs())?;
+    u64::try_from(all).ok()
+}
+
+/// How many test points of `x` the atoms give, equal points counted as often as they are formed: `None` exactly where there
+/// are more than `u64::MAX`. No point is formed.
+pub fn points_count(atoms: &[Atom], x: VarId, period: &Period, side: Side) -> Option<u64>
+    requires well_formed { All IsWellFormed atoms.now }
+    requires period { IsPeriodOf x.number (map atom_of atoms.now) period.now }
+    ensures { MatchOption result (2 ^ 64 ≤ integer_count_of (side_of side) x.number (map atom_of atoms.now)) (λ n. n ≡ integer_count_of (side_of side) x.number (map atom_of atoms.now)) }
+{
+    total(ends_count(atoms, x, side), period.span, period.scale)
+}
+
+/// The test points of `x` in the atoms, each once (Cooper 1972): the residue classes of the period towards the infinity of
+/// the side, and then the numbers next to the ends of the atoms' intervals that lie to the side, over the scale.
+///
+/// `Nodes` comes exactly where `points_count` gives more than `limit`, before any point is formed; else `Overflow` exactly
+/// where a number of a point passes 2^127 - 1, else `Memory`.
+pub fn integer_points(
+    alloc: Global,
+    atoms: &[Atom],
+    x: VarId,
+    period: &Period,
+    side: Side,
+    limit: u64,
+) -> Result<Vec<TestPoint>, PointError>
+    requires well_formed { All IsWellFormed atoms.now }
+    requires period { IsPeriodOf x.number (map atom_of atoms.now) period.now }
+    ensures points { IfOk result (λ v. map place_of v.items ≡ integer_points_of (side_of side) x.number (map atom_of atoms.now)) }
+    ensures well_formed { IfOk result (λ v. All (IsPointOf x) v.items) }
+    ensures few { IfOk result (λ v. integer_count_of (side_of side) x.number (map atom_of atoms.now) ≤ limit) }
+    ensures within { IfOk result (λ v. each place_within (integer_points_of (side_of side) x.number (map atom_of atoms.now)) ≡ true) }
+    ensures many { IsErrOf result PointError.Nodes → limit < integer_count_of (side_of side) x.number (map atom_of atoms.now) }
+    ensures few_first { IsErrOf result PointError.Overflow → integer_count_of (side_of side) x.number (map atom_of atoms.now) ≤ limit }
+    ensures overflow { IsErrOf result PointError.Overflow → each place_within (integer_points_of (side_of side) x.number (map atom_of atoms.now)) ≡ false }
+{
+    match points_count(atoms, x, period, side) {
+        Some(count) if count <= limit => {}
+        _ => return Err(PointError::Nodes),
+    }
+    let Ok(classes) = u64::try_from(quotient(period.span, period.scale)) else {
+        return Err(PointError::Nodes);
+    };
+    let mut points = Vec::new(alloc);
+    match push_classes(alloc, &mut points, x, side, classes) {
+        Ok(()) => {}
+        Err(error) => return Err(error),
+    }
+    match push_atoms(alloc, &mut points, atoms, x, side, period) {
+        Ok(()) => distinct_points(alloc, x, points),
+        Err(error) => Err(error),
+    }
+}

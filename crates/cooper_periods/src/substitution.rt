@@ -1,0 +1,75 @@
+// An atom with a name put at a test point of the integers, and the condition under which the point is a whole number.
+ghost use Rattle.std.specs.Prelude.{◌≡◌, true, false, IfOk, IfErr, IsErrOf};
+ghost use Rattle.formula_meaning.specs.Context.{Integers};
+ghost use Rattle.elimination_theory.specs.IntegersTheorems.{IsIntegerPlace};
+ghost use Rattle.elimination_theory.specs.BothTheories.{guard_of};
+ghost use Rattle.elimination_theory.specs.Steps.{atom_at, normalised};
+ghost use Rattle.elimination_reference.specs.Limits.{atom_within};
+ghost use Rattle.atom_normal.specs.NormalForm.{normal_atom};
+ghost use Rattle.atom_normal.specs.Atoms.{atom_of, tree_of, IsWellFormed, IsWellFormedNormal};
+ghost use Rattle.test_points.specs.Points.{place_of, IsTestPoint};
+
+use crate::congruence::{in_class, over_number};
+use atom_normal::{Atom, Context, Normal, normal};
+use std::alloc::Global;
+use test_points::{Place, PointError, TestPoint, comparison_at, unchanged};
+
+/// The atom with the point's name put at the point, in normal form (Cooper 1972); an atom without the name stays as it is.
+/// `Overflow` comes exactly where a number that is formed on the way passes 2^127 - 1, else `Memory`.
+pub fn substitute_integer(
+    alloc: Global,
+    atom: &Atom,
+    point: &TestPoint,
+) -> Result<Normal, PointError>
+    requires well_formed { IsWellFormed atom.now }
+    requires test_point { IsTestPoint point.now }
+    requires place { IsIntegerPlace (place_of point.now) }
+    ensures substituted { IfOk result (λ n. tree_of n ≡ atom_at Integers (normal_atom Integers) point.now.name.number (place_of point.now) (atom_of atom.now)) }
+    ensures well_formed { IfOk result IsWellFormedNormal }
+    ensures within { IfOk result (λ n. atom_within Integers point.now.name.number (place_of point.now) (atom_of atom.now) ≡ true) }
+    ensures overflow { IsErrOf result PointError.Overflow → atom_within Integers point.now.name.number (place_of point.now) (atom_of atom.now) ≡ false }
+    ensures counted { IsErrOf result PointError.Nodes → ⊥ }
+{
+    match atom {
+        Atom::Compare(relation, form) if form.coefficient(point.name) != 0 => {
+            comparison_at(alloc, Context::Integers, *relation, form, point)
+        }
+        Atom::Congruent {
+            holds,
+            modulus,
+            form,
+        } if form.coefficient(point.name) != 0 => match point.place {
+            Place::Exact => over_number(alloc, *holds, *modulus, form, point),
+            Place::Periodic => in_class(alloc, *holds, *modulus, form, point),
+            _ => unreachable!(),
+        },
+        _ => unchanged(alloc, atom),
+    }
+}
+
+/// The condition under which the point is a whole number, in normal form: over 1 and at a Periodic point it is true.
+/// Its only error is `Memory`.
+pub fn guard(alloc: Global, point: &TestPoint) -> Result<Normal, PointError>
+    requires test_point { IsTestPoint point.now }
+    requires place { IsIntegerPlace (place_of point.now) }
+    ensures guard { IfOk result (λ n. tree_of n ≡ normalised (normal_atom Integers) (guard_of Integers (place_of point.now))) }
+    ensures well_formed { IfOk result IsWellFormedNormal }
+    ensures memory { IfErr result (λ e. e ≡ PointError.Memory) }
+{
+    if matches!(point.place, Place::Periodic) || point.over == 1 {
+        return Ok(Normal::True);
+    }
+    let form = match point.form.copy(alloc) {
+        Ok(form) => form,
+        Err(_) => return Err(PointError::Memory),
+    };
+    let atom = Atom::Congruent {
+        holds: true,
+        modulus: point.over,
+        form,
+    };
+    match normal(alloc, Context::Integers, atom) {
+        Ok(normal) => Ok(normal),
+        Err(_) => Err(PointError::Memory),
+    }
+}
