@@ -1,0 +1,4 @@
+pub mod NnfEquations
+pub mod Pieces
+pub mod Counting
+pub mod FormLaws

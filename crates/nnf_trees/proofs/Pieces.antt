@@ -1,0 +1,124 @@
+-- What a member gives to the pieces of a fold.
+use Rattle.std.proofs.Common.{◌≡◌, sym, ap, ◌∙◌, subst, refl, Bool, true, false, List, [], ◌∷◌, ◌++◌, map, Some, None, Option, length, ◌<◌, arith}
+use Rattle.std.specs.Prelude.{if◌then◌else◌}
+use Rattle.formula_meaning.specs.Formula.{One, none, also}
+use Rattle.formula_meaning.specs.Fold.{Conjunction, Disjunction, joined, append, pieces_of, put_together, neutral, absorbing, all_pieces, from_pieces, fold_list}
+use Rattle.formula_meaning.specs.Fold as folding
+use Rattle.formula_meaning.specs.Tree.{Tree, Trees}
+use Rattle.atom_normal.specs.NormalForm.{constant_tree}
+use Rattle.formula_tree.specs.Trees.{members}
+use Rattle.nnf_trees.specs.contracts.nnf.Junction.{the_type}
+use Rattle.nnf_trees.specs.declared.nnf.Junction.{Junction}
+use Rattle.nnf_trees.specs.declared.nnf.Junction.TheVariants as junction
+use Rattle.nnf_trees.specs.declared.nnf.Quantifier.{Quantifier}
+use Rattle.nnf_trees.specs.declared.nnf.Quantifier.TheVariants as quantifier
+use Rattle.nnf_trees.specs.declared.nnf.Nnf.{Nnf}
+use Rattle.nnf_trees.specs.Nnfs.{junction_of, quantified, nnf_of, AreProper, IsProper}
+use denote.Enum.Bare.{sameb}
+use mathlib.Core.Bool.{beq}
+
+abbrev pub Formulas_of : List Nnf → Trees
+Formulas_of fs = members (map nnf_of fs)
+
+pub lists_joined : (xs ys : List Nnf) → Formulas_of (xs ++ ys) ≡ append (Formulas_of xs) (Formulas_of ys)
+lists_joined [] ys = refl
+lists_joined (x ∷ xs) ys = ap (also (nnf_of x)) (lists_joined xs ys)
+
+pub are_joined : (xs ys : List Nnf) → AreProper xs → AreProper ys → AreProper (xs ++ ys)
+are_joined [] ys h k = k
+are_joined (x ∷ xs) ys h k = (h.0, are_joined xs ys h.1 k)
+
+pub empty : (xs : List Nnf) → length xs ≡ 0 → xs ≡ []
+empty [] e = refl
+empty (x ∷ xs) e = cc
+
+pub append_none : (fs : Trees) → append fs none ≡ fs
+append_none none = refl
+append_none (also f fs) = ap (also f) (append_none fs)
+
+-- a constant decides the whole, or gives nothing
+pub constant_gives : (j : Junction) (b : Bool) (made : Trees)
+    → put_together (Some made) (pieces_of (junction_of j) (constant_tree b)) ≡ (if beq b (sameb the_type j junction.And) then Some made else None)
+constant_gives junction.And true made = ap Some (append_none made)
+constant_gives junction.And false made = refl
+constant_gives junction.Or true made = refl
+constant_gives junction.Or false made = ap Some (append_none made)
+
+-- what is not of the junction gives itself
+abbrev pub GivesItself : Junction → Tree → Type 0
+GivesItself j f = pieces_of (junction_of j) f ≡ Some (also f none)
+
+pub atom_gives : (j : Junction) (a : _) → GivesItself j (One a)
+atom_gives junction.And a = refl
+atom_gives junction.Or a = refl
+
+pub quantified_gives : (j : Junction) (q : Quantifier) (x : _) (f : Tree) → GivesItself j (quantified q x f)
+quantified_gives junction.And quantifier.Ex x f = refl
+quantified_gives junction.And quantifier.All x f = refl
+quantified_gives junction.Or quantifier.Ex x f = refl
+quantified_gives junction.Or quantifier.All x f = refl
+
+pub other_gives : (j o : Junction) (fs : Trees) → sameb the_type o j ≡ false → GivesItself j (joined (junction_of o) fs)
+other_gives junction.And junction.And fs e = cc
+other_gives junction.And junction.Or fs e = refl
+other_gives junction.Or junction.And fs e = refl
+other_gives junction.Or junction.Or fs e = cc
+
+pub same_gives : (j o : Junction) (fs : Trees) → sameb the_type o j ≡ true → pieces_of (junction_of j) (joined (junction_of o) fs) ≡ Some fs
+same_gives junction.And junction.And fs e = refl
+same_gives junction.And junction.Or fs e = cc
+same_gives junction.Or junction.And fs e = cc
+same_gives junction.Or junction.Or fs e = refl
+
+pub itself_put : (j : Junction) (f : Nnf) (t : Tree) (made made2 : List Nnf) → nnf_of f ≡ t → GivesItself j t → made2 ≡ made ++ f ∷ []
+    → put_together (Some (Formulas_of made)) (pieces_of (junction_of j) (nnf_of f)) ≡ Some (Formulas_of made2)
+itself_put j f t made made2 e g m =
+    let g2 : GivesItself j (nnf_of f) = subst (GivesItself j) (sym e) g in
+    ap (put_together (Some (Formulas_of made))) g2 ∙ ap Some (sym (lists_joined made (f ∷ [])) ∙ ap Formulas_of (sym m))
+
+pub members_put : (j : Junction) (f : Nnf) (fs : List Nnf) (made made2 : List Nnf) → pieces_of (junction_of j) (nnf_of f) ≡ Some (Formulas_of fs) → made2 ≡ made ++ fs
+    → put_together (Some (Formulas_of made)) (pieces_of (junction_of j) (nnf_of f)) ≡ Some (Formulas_of made2)
+members_put j f fs made made2 g m = ap (put_together (Some (Formulas_of made))) g ∙ ap Some (sym (lists_joined made fs) ∙ ap Formulas_of (sym m))
+
+pub itself_proper : (f : Nnf) (made made2 : List Nnf) → AreProper made → IsProper f → made2 ≡ made ++ f ∷ [] → AreProper made2
+itself_proper f made made2 h k e = subst AreProper (sym e) (are_joined made (f ∷ []) h (k, tt))
+
+pub members_proper : (fs made made2 : List Nnf) → AreProper made → AreProper fs → made2 ≡ made ++ fs → AreProper made2
+members_proper fs made made2 h k e = subst AreProper (sym e) (are_joined made fs h k)
+
+pub append_thrice : (fs gs hs : Trees) → append (append fs gs) hs ≡ append fs (append gs hs)
+append_thrice none gs hs = refl
+append_thrice (also f fs) gs hs = ap (also f) (append_thrice fs gs hs)
+
+put_thrice : (a b c : Option Trees) → put_together (put_together a b) c ≡ put_together a (put_together b c)
+put_thrice None b c = refl
+put_thrice (Some fs) None c = refl
+put_thrice (Some fs) (Some gs) None = refl
+put_thrice (Some fs) (Some gs) (Some hs) = ap Some (append_thrice fs gs hs)
+
+-- one member more is put to the pieces, or decides the whole
+module _ (j : folding.Junction) (goes : Bool) (f : Nnf) (made made2 rest left : List Nnf) (all : Option Trees)
+    (put : put_together (Some (Formulas_of made)) (pieces_of j (nnf_of f)) ≡ (if goes then Some (Formulas_of made2) else None))
+    (split : left ≡ f ∷ rest) (before : put_together (Some (Formulas_of made)) (all_pieces j (Formulas_of left)) ≡ all) where
+  after : put_together (if goes then Some (Formulas_of made2) else None) (all_pieces j (Formulas_of rest)) ≡ all
+  after =
+      ap (λ o. put_together o (all_pieces j (Formulas_of rest))) (sym put) ∙ put_thrice (Some (Formulas_of made)) (pieces_of j (nnf_of f)) (all_pieces j (Formulas_of rest))
+      ∙ ap (λ xs. put_together (Some (Formulas_of made)) (all_pieces j (Formulas_of xs))) (sym split) ∙ before
+
+  pub one_more : goes ≡ true → put_together (Some (Formulas_of made2)) (all_pieces j (Formulas_of rest)) ≡ all
+  one_more e = subst (λ b. put_together (if b then Some (Formulas_of made2) else None) (all_pieces j (Formulas_of rest)) ≡ all) e after
+
+  pub decided : goes ≡ false → all ≡ None
+  decided e = sym (subst (λ b. put_together (if b then Some (Formulas_of made2) else None) (all_pieces j (Formulas_of rest)) ≡ all) e after)
+
+pub all_put : (j : folding.Junction) (made rest : List Nnf) (all : Option Trees) → rest ≡ [] → put_together (Some (Formulas_of made)) (all_pieces j (Formulas_of rest)) ≡ all → Some (Formulas_of made) ≡ all
+all_put j made rest all e h = ap Some (sym (append_none (Formulas_of made))) ∙ ap (λ xs. put_together (Some (Formulas_of made)) (all_pieces j (Formulas_of xs))) (sym e) ∙ h
+
+pub absorbing_is : (j : Junction) → constant_tree (sameb the_type j junction.Or) ≡ absorbing (junction_of j)
+absorbing_is junction.And = refl
+absorbing_is junction.Or = refl
+
+pub two_pieces : (j : folding.Junction) (fs : List Nnf) → 1 < length fs → joined j (Formulas_of fs) ≡ from_pieces j (Some (Formulas_of fs))
+two_pieces j [] h = absurd (omega (arith, h))
+two_pieces j (f ∷ []) h = absurd (omega (arith, h))
+two_pieces j (f ∷ (g ∷ fs)) h = refl

@@ -1,0 +1,2 @@
+pub mod Nnfs
+pub mod Forms
