@@ -1,0 +1,3 @@
+pub mod AtomsOnce
+pub mod PutLaws
+pub mod ResultLaws

@@ -1,0 +1,10 @@
+//! A formula in negation normal form with a name put at a test point, and its atoms, each once.
+#![tactic(auto)]
+
+mod atoms;
+mod results;
+mod substitution;
+
+pub use atoms::distinct_atoms;
+pub use results::{formula_at, formulas_at, stands_in_some};
+pub use substitution::substituted;
