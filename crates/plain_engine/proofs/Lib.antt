@@ -1,0 +1,4 @@
+pub mod Seen
+pub mod Arms
+pub mod Paying
+pub mod Readiness

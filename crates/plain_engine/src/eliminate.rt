@@ -1,0 +1,50 @@
+ghost use Rattle.std.specs.Prelude.{◌≡◌, ◌≤◌, ℕ, IfOk, IfErr};
+ghost use Rattle.formula_meaning.specs.Every.{Every};
+ghost use Rattle.formula_meaning.specs.Sizes.{nodes};
+ghost use Rattle.atom_normal.specs.Atoms.{context_of};
+ghost use Rattle.atom_normal.specs.NormalForm.{IsNormal};
+ghost use Rattle.elimination_reference.specs.Measured.{done};
+ghost use Rattle.elimination_reference.specs.Reference.{reference};
+ghost use Rattle.elimination_reference.specs.Theorems.{IsAnswerTo};
+ghost use Rattle.formula_tree.specs.Trees.{tree_of};
+ghost use Rattle.nnf_trees.specs.Nnfs.{HasModulus};
+ghost use Rattle.plain_engine.specs.Told.{StopsWith};
+
+use crate::branches::branches;
+use crate::measured::{Measured, Setting, pay};
+use crate::parts::{folded, resolved};
+use atom_normal::Context;
+use formula_tree::Tree;
+use nnf_trees::{Junction, form_sizes, normal_form};
+use std::alloc::Global;
+
+/// The reference elimination of a tree over normal atoms: a formula without quantifiers that is equivalent to the tree, has no
+/// other free names, normal atoms and at most `limit` nodes. `Nodes` comes exactly where it costs more than `limit` nodes, and
+/// `Overflow` exactly where a number passes 2^127 - 1 before that, else `Memory`.
+///
+/// The recursion is as deep as the tree is high.
+pub fn eliminate_plain(
+    alloc: Global,
+    tree: &Tree,
+    context: Context,
+    limit: u64,
+) -> Result<Tree, Measured>
+    requires moduli { Every HasModulus (tree_of tree.now) }
+    requires normal { Every (IsNormal (context_of context)) (tree_of tree.now) }
+    ensures answer { IfOk result (λ t. (cost : ℕ) × (reference (context_of context) limit (tree_of tree.now) ≡ done (tree_of t, cost))) }
+    ensures exact { IfOk result (λ t. IsAnswerTo (context_of context) (tree_of tree.now) (tree_of t)) }
+    ensures small { IfOk result (λ t. nodes (tree_of t) ≤ limit) }
+    ensures stops { IfErr result (λ e. StopsWith e (reference (context_of context) limit (tree_of tree.now))) }
+{
+    let setting = Setting {
+        alloc,
+        context,
+        limit,
+    };
+    let mut cost = 0;
+    pay(limit, &mut cost, form_sizes(tree).plain)?;
+    let form = normal_form(alloc, tree, false).map_err(|_| Measured::Memory)?;
+    let left = branches(setting, &mut cost, Vec::new(alloc), true, &form)?;
+    let whole = folded(alloc, Junction::Or, left)?;
+    resolved(alloc, whole)
+}

@@ -1,0 +1,43 @@
+ghost use Rattle.std.specs.Prelude.{ℕ, SomeIff, ◌<◌, ◌^◌, ◌≡◌};
+ghost use Rattle.elimination_reference.specs.Measured.{pay};
+ghost use Rattle.nnf_trees.specs.Forms.{limited};
+ghost use Rattle.plain_engine.specs.Told.{Told, the_unit};
+
+use atom_normal::Context;
+use std::alloc::{AllocError, Global};
+use thiserror::Error;
+
+/// What stops a measured computation.
+#[derive(Clone, Copy, Debug, PartialEq, Eq, Drop, Error)]
+pub enum Measured {
+    /// A number passes 2^127 - 1.
+    #[error("a number passes the limit")]
+    Overflow,
+    /// The computation would cost more nodes than the limit.
+    #[error("the formula is too large")]
+    Nodes,
+    /// There is no memory left.
+    #[error("out of memory")]
+    Memory,
+}
+
+/// What stays the same during a computation.
+#[derive(Clone, Copy)]
+pub(crate) struct Setting {
+    pub(crate) alloc: Global,
+    pub(crate) context: Context,
+    pub(crate) limit: u64,
+}
+
+/// Adds the nodes to the cost; `Nodes` comes exactly where the sum passes the limit.
+pub(crate) fn pay(limit: u64, cost: &mut u64, nodes: Option<u64>) -> Result<(), Measured>
+    ensures { (n : ℕ) → nodes ≡ limited n → Told the_unit result cost.new (pay limit n cost.old) }
+{
+    match nodes {
+        Some(nodes) if *cost <= limit && nodes <= limit - *cost => {
+            *cost += nodes;
+            Ok(())
+        }
+        _ => Err(Measured::Nodes),
+    }
+}
