@@ -12,5 +12,6 @@ mod resolving;
 mod tests;
 
 pub use error::StaticError;
+pub use numbering::number_formula;
 pub use plain::{PlainId, PlainMaker};
 pub use resolving::linearise;

@@ -65,9 +65,10 @@ fn number_terms<Id: Copy>(
     Ok(met)
 }
 
-/// Numbers the variables of a formula, and answers whether something is bound to one of them.
+/// Numbers the variables of a formula, in the order of the text, and answers whether something is bound to one of them. Its
+/// only error is `Memory`, after which the names may have grown.
 #[cycle(formulas)]
-pub(crate) fn number_formula<Id: Copy>(
+pub fn number_formula<Id: Copy>(
     formula: &Formula,
     bound: &Bindings<Id>,
     names: &mut Names,
