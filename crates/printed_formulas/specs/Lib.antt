@@ -1,0 +1,4 @@
+pub mod Written
+pub mod Printed
+pub mod Levels
+pub mod Round

@@ -1,0 +1,125 @@
+-- Which trees are printed so that they are read back, and what is proved of them.
+use Rattle.std.specs.Prelude.{◌≡◌, ◌<◌, ℕ, ℤ, pos, ◌≤◌, true, List, [], ◌++◌, length, codes}
+use Rattle.std.specs.List.{AllByRecursion, IsDistinct}
+use Rattle.exact_numbers.specs.Limit.{InLimit}
+use Rattle.formula_meaning.specs.Context.{Context}
+use Rattle.formula_meaning.specs.Form.{Form, Term}
+use Rattle.formula_meaning.specs.Atom.{Atom, Compare, Congruent}
+use Rattle.formula_meaning.specs.Tree.{Tree}
+use Rattle.formula_meaning.specs.Every.{Every}
+use Rattle.formula_meaning.specs.Sizes.{height}
+use Rattle.atom_normal.specs.NormalForm.{IsNormal}
+use Rattle.qe_syntax.specs.Names.{IsVariable}
+use Rattle.qe_syntax.specs.Trees.{FormulaTree}
+use Rattle.qe_syntax.specs.Value.{same_name}
+use Rattle.qe_syntax.specs.Statements.{StatementTree, Say, Echo}
+use Rattle.redlog_reader.specs.declared.read.TheConstants.{BYTE_LIMIT}
+use Rattle.redlog_reader.specs.declared.level.TheConstants.{LEVEL_LIMIT}
+use Rattle.redlog_reader.specs.Statement.{Spells, IsDeep}
+use Rattle.formula_tree.specs.Resolving.{names_after, resolve}
+use Rattle.formula_tree.specs.Causes.{most_height, IsAccepted}
+use Rattle.redlog_printer.specs.Text.{tree_text}
+use Rattle.redlog_printer.specs.Bound.{HasTwoMembers}
+use Rattle.redlog_printer.specs.Within.{IsAtomWithin, IsTreeWithin}
+use Rattle.printed_formulas.specs.Written.{written_formula}
+use Rattle.printed_formulas.specs.Levels.{tree_level}
+
+-- ---- names and numbers
+
+-- names that a script can write, each once
+pub record AreVariables (names : List (List ℕ)) : Type 0 where
+  pub distinct : IsDistinct same_name names
+  pub variables : AllByRecursion IsVariable names
+
+abbrev pub NumberFits : ℤ → Type 0
+NumberFits = InLimit
+
+-- each coefficient is within the limit
+abbrev pub AreMultiplesFit : List Term → Type 0
+AreMultiplesFit ts = AllByRecursion (λ (t : Term). NumberFits t.times) ts
+
+abbrev pub FormFits : Form → Type 0
+FormFits f = NumberFits f.constant × AreMultiplesFit f.terms
+
+-- each number of the atom is within the limit
+abbrev pub AtomFits : Atom → Type 0
+AtomFits (Compare r f) = FormFits f
+AtomFits (Congruent b m f) = NumberFits (pos m) × FormFits f
+
+abbrev pub IsAtomPrintable : ℕ → Atom → Type 0
+IsAtomPrintable n a = IsAtomWithin n a × AtomFits a
+
+-- ---- trees
+
+-- The numbers of the tree are within the limit, its names stand in a list of n names, and each conjunction and
+-- disjunction has two members at least.
+pub record IsPrintable (n : ℕ) (f : Tree) : Type 0 where
+  pub numbers : Every AtomFits f
+  pub names : IsTreeWithin n f
+  pub joins : HasTwoMembers f
+
+-- each atom is in normal form, and the tree is no higher than a resolved formula may be
+pub record IsResolved (c : Context) (f : Tree) : Type 0 where
+  pub atoms : Every (IsNormal c) f
+  pub low : height f ≤ most_height
+
+-- the text of the tree as a statement
+abbrev pub line_text : List (List ℕ) → Tree → List ℕ
+line_text names f = tree_text names f ++ codes ";"
+
+-- The text is no longer and no deeper than the reader takes it: 1 MiB, and 512 levels.
+pub record IsReadable (names : List (List ℕ)) (f : Tree) : Type 0 where
+  pub short : length (line_text names f) ≤ BYTE_LIMIT
+  pub shallow : tree_level f ≤ LEVEL_LIMIT
+
+-- ---- what is proved
+
+-- the statement that prints a formula
+abbrev pub printed_echo : FormulaTree → StatementTree
+printed_echo f = record { action = Say (Echo f); printed = true }
+
+-- the bytes spell this one statement
+pub record SpellsAlone (bytes : List ℕ) (s : StatementTree) : Type 0 where
+  pub spelled : Spells bytes s
+  pub alone : (t : StatementTree) → Spells bytes t → t ≡ s
+
+-- The text of a tree with its end mark spells one statement, which prints the written formula of the tree.
+abbrev pub TextSpells : Type 0
+TextSpells =
+    (names : List (List ℕ)) (f : Tree) → AreVariables names → IsPrintable (length names) f → IsReadable names f →
+    SpellsAlone (line_text names f) (printed_echo (written_formula names f))
+
+-- The formula has no cause of a refusal, brings no new name, and is resolved to the tree.
+pub record IsResolvedTo (c : Context) (names : List (List ℕ)) (written : FormulaTree) (f : Tree) : Type 0 where
+  pub accepted : IsAccepted c [] names written
+  pub same_names : names_after names written ≡ names
+  pub same_tree : resolve c [] names written ≡ f
+
+-- The written formula of a resolved tree is resolved to the tree, where nothing is bound.
+abbrev pub WrittenIsResolved : Type 0
+WrittenIsResolved =
+    (c : Context) (names : List (List ℕ)) (f : Tree) → AreVariables names → IsPrintable (length names) f → IsResolved c f →
+    IsResolvedTo c names (written_formula names f) f
+
+-- Each statement that the bytes spell prints a formula that is resolved to the tree; and there is one.
+pub record IsReadBack (c : Context) (names : List (List ℕ)) (bytes : List ℕ) (f : Tree) : Type 0 where
+  pub written : FormulaTree
+  pub spells : SpellsAlone bytes (printed_echo written)
+  pub resolved : IsResolvedTo c names written f
+  pub same_text : line_text (names_after names written) (resolve c [] (names_after names written) written) ≡ bytes
+
+-- What is printed is read back under the same names, in the same context and with nothing bound.
+abbrev pub TextIsReadBack : Type 0
+TextIsReadBack =
+    (c : Context) (names : List (List ℕ)) (f : Tree) → AreVariables names → IsPrintable (length names) f → IsResolved c f → IsReadable names f →
+    IsReadBack c names (line_text names f) f
+
+-- Where a token of such a text is too deep, the reader refuses it for that.
+abbrev pub DeepTextIsNesting : Type 0
+DeepTextIsNesting =
+    (names : List (List ℕ)) (f : Tree) → AreVariables names → IsPrintable (length names) f → length (line_text names f) ≤ BYTE_LIMIT → LEVEL_LIMIT < tree_level f →
+    IsDeep (line_text names f)
+
+-- a tree of the height 257 at most has a text of 512 levels at most
+abbrev pub HeightBoundsLevel : Type 0
+HeightBoundsLevel = (f : Tree) → height f ≤ 257 → tree_level f ≤ LEVEL_LIMIT
