@@ -1,0 +1,5 @@
+pub mod Search
+pub mod Scopes
+pub mod Lists
+pub mod Nodes
+pub mod Parts

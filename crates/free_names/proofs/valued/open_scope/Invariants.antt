@@ -1,0 +1,12 @@
+use Rattle.std.proofs.Common.{map}
+use Rattle.std.specs.Ordering.{nat_cmp}
+use Rattle.std.specs.BTreeSet.{contains}
+use Rattle.qe_syntax.specs.Trees.{formula_tree}
+use Rattle.qe_syntax.specs.Valued.{prefix_of}
+use Rattle.formula_tree.specs.Resolving.{place}
+use Rattle.free_names.proofs.Scopes.{IsOpening}
+use Rattle.free_names.proofs.valued.open_scope.Given as goal
+
+abbrev pub invariant-prefix : goal.invariant-prefix
+invariant-prefix l =
+    IsOpening (map (place l.around.names.now) (prefix_of (formula_tree l.formula))) (map (place l.around.names.now) (prefix_of (formula_tree l.inner))) (contains nat_cmp l.initial.opened) (contains nat_cmp l.opened) l.new.items

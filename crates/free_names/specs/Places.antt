@@ -1,0 +1,29 @@
+-- The free numbers of a written formula over a store, and those in scope.
+use Rattle.std.specs.Prelude.{ℕ, List, Bool, ◌||◌}
+use Rattle.std.specs.Ordering.{nat_cmp}
+use Rattle.std.specs.BTreeSet.{BTreeSet, contains}
+use Rattle.formula_meaning.specs.Every.{FreeInSome}
+use Rattle.formula_meaning.specs.Formula.{One}
+use Rattle.formula_meaning.specs.Replaced.{all_replaced}
+use Rattle.qe_syntax.specs.Trees.{FormulaTree, FormulaTrees}
+use Rattle.formula_tree.specs.declared.shape.Shape.{Shape}
+use Rattle.formula_tree.specs.Resolving.{place, IsFreeInPlace, MentionsNumber}
+use Rattle.formula_store.specs.declared.id.FormulaId.{FormulaId}
+use Rattle.formula_store.specs.Nodes.{tree}
+use Rattle.formula_resolving.specs.Refusals.{trees_bound}
+
+-- the number is free in the formula with the bound formulas of the store in their places
+abbrev pub IsFreeHere : List (Shape FormulaId) → List (List ℕ × FormulaId) → List (List ℕ) → FormulaTree → ℕ → Type 0
+IsFreeHere nodes bound names f n = IsFreeInPlace (trees_bound (tree nodes) bound) (place names) f n
+
+-- the number is free in some of the formulas
+abbrev pub AreFreeHere : List (Shape FormulaId) → List (List ℕ × FormulaId) → List (List ℕ) → FormulaTrees → ℕ → Type 0
+AreFreeHere nodes bound names fs n = FreeInSome (MentionsNumber (trees_bound (tree nodes) bound) (place names)) (all_replaced One (place names) fs) n
+
+-- whether an entry has the number, or a quantifier around
+abbrev pub in_scope : BTreeSet ℕ → BTreeSet ℕ → ℕ → Bool
+in_scope valued opened n = contains nat_cmp valued n || contains nat_cmp opened n
+
+-- the same for the number of a name
+abbrev pub name_in_scope : List (List ℕ) → BTreeSet ℕ → BTreeSet ℕ → List ℕ → Bool
+name_in_scope names valued opened x = in_scope valued opened (place names x)

@@ -1,0 +1,9 @@
+//! Which numbers are free in a written formula, with the bound formulas in their places.
+#![tactic(auto)]
+
+mod missing;
+mod quantified;
+mod valued;
+
+pub use quantified::is_quantified;
+pub use valued::is_valued;

@@ -1,0 +1,266 @@
+//! Whether each free number of a formula has an entry.
+
+ghost use Rattle.std.specs.Prelude.{◌≡◌, ◌↔◌, ℕ, List, map, IsTrue, IfOk, OnOk};
+ghost use Rattle.std.specs.Bool.{MatchBool};
+ghost use Rattle.std.specs.Ordering.{nat_cmp};
+ghost use Rattle.std.specs.BTreeSet.{contains, IsSameSet};
+ghost use Rattle.formula_meaning.specs.Every.{FreeInSome};
+ghost use Rattle.formula_meaning.specs.Formula.{One};
+ghost use Rattle.formula_meaning.specs.Replaced.{all_replaced};
+ghost use Rattle.qe_syntax.specs.Trees.{term_tree, terms_of, formula_tree, formulas_of, Bound};
+ghost use Rattle.qe_syntax.specs.Value.{HasName, HaveName};
+ghost use Rattle.qe_syntax.specs.Valued.{prefix_of, IsUnquantified};
+ghost use Rattle.formula_tree.specs.Resolving.{place, IsFreeInPlace, MentionsNumber};
+ghost use Rattle.formula_store.specs.Nodes.{tree, IsId};
+ghost use Rattle.formula_resolving.specs.Refusals.{AreIds, trees_bound};
+ghost use Rattle.free_names.specs.Entries.{HasEntryAt};
+ghost use Rattle.free_names.specs.Missing.{IsSound};
+ghost use Rattle.free_names.specs.Places.{IsFreeHere, AreFreeHere, in_scope, name_in_scope};
+ghost use Rattle.free_names.specs.Scopes.{AreAmong, IsIn, IsOpened, IsClosed};
+
+use crate::missing::{Table, look_into, numbers};
+use formula_store::{FormulaId, Store};
+use formula_tree::{Bindings, Names};
+use qe_syntax::{Formula, Name, PointEntry, Term, matrix};
+use std::alloc::{AllocError, Global};
+use std::collections::{BTreeSet, HashMap};
+
+/// What a formula is searched with: the numbers that have an entry, and what names stand for.
+#[derive(Drop)]
+struct Around<'a> {
+    alloc: Global,
+    valued: &'a BTreeSet<usize>,
+    bound: &'a Bindings<FormulaId>,
+    names: &'a Names,
+    store: &'a Store,
+}
+
+/// Whether each number that is free in the formula, with the bound formulas in their places, is that of a name with an
+/// entry. An `Err` is want of memory.
+pub fn is_valued(
+    alloc: Global,
+    formula: &Formula,
+    entries: &[PointEntry],
+    bound: &Bindings<FormulaId>,
+    names: &Names,
+    store: &Store,
+) -> Result<bool, AllocError>
+    requires { AreIds (IsId store.now) bound.now }
+    ensures { IfOk result (λ valued. MatchBool valued
+        ((n : ℕ) → IsFreeInPlace (trees_bound (tree store.now) bound.now) (place names.now) (formula_tree formula.now) n → HasEntryAt (place names.now) entries.now n)
+        ((n : ℕ) × IsFreeInPlace (trees_bound (tree store.now) bound.now) (place names.now) (formula_tree formula.now) n × (¬ (HasEntryAt (place names.now) entries.now n)))) }
+{
+    let valued = numbers_of(alloc, entries, names)?;
+    let around = Around {
+        alloc,
+        valued: &valued,
+        bound,
+        names,
+        store,
+    };
+    let mut opened = BTreeSet::new(alloc);
+    let mut table = HashMap::new(alloc);
+    in_formula(&around, formula, &mut opened, &mut table)
+}
+
+/// The numbers of the names that have entries.
+fn numbers_of(
+    alloc: Global,
+    entries: &[PointEntry],
+    names: &Names,
+) -> Result<BTreeSet<usize>, AllocError>
+    ensures { IfOk result (λ valued. (n : ℕ) → IsTrue (contains nat_cmp valued n) ↔ HasEntryAt (place names.now) entries.now n) }
+{
+    let mut valued = BTreeSet::new(alloc);
+    for entry in entries {
+        valued.insert(names.place(&entry.name).number)?;
+    }
+    Ok(valued)
+}
+
+/// Whether the number has an entry, or a quantifier around has it.
+fn is_in_scope(around: &Around<'_>, name: &Name, opened: &BTreeSet<usize>) -> bool
+    ensures { result ≡ name_in_scope around.now.names.now around.now.valued.now opened.now name.now }
+{
+    let number = around.names.place(name).number;
+    around.valued.contains(&number) || opened.contains(&number)
+}
+
+/// Whether the names of a term are in scope.
+#[tactic(auto, using(qe_syntax::proofs::TreeEquations::trees))]
+#[cycle(terms)]
+fn in_term(around: &Around<'_>, term: &Term, opened: &BTreeSet<usize>) -> bool
+    ensures { AreAmong (HasName (term_tree term.now)) (name_in_scope around.now.names.now around.now.valued.now opened.now) result }
+{
+    match term {
+        Term::Number(_) => true,
+        Term::Name(name) => is_in_scope(around, name, opened),
+        Term::Sum(terms) => in_terms(around, terms.items(), opened),
+        Term::Product(terms) => in_terms(around, terms.items(), opened),
+        Term::Negative(inner) => in_term(around, inner, opened),
+        Term::Quotient(left, right) => {
+            in_term(around, left, opened) && in_term(around, right, opened)
+        }
+        Term::Power(base, _) => in_term(around, base, opened),
+    }
+}
+
+/// Whether the names of the terms are in scope.
+#[cycle(terms)]
+fn in_terms(around: &Around<'_>, terms: &[Term], opened: &BTreeSet<usize>) -> bool
+    ensures { AreAmong (HaveName (terms_of (map term_tree terms.now))) (name_in_scope around.now.names.now around.now.valued.now opened.now) result }
+{
+    for term in terms {
+        if !in_term(around, term, opened) {
+            return false;
+        }
+    }
+    true
+}
+
+/// Puts in the numbers of the quantifiers with which the formula begins, and answers those that were not there.
+#[tactic(auto, using(qe_syntax::proofs::TreeEquations::trees))]
+fn open_scope(
+    around: &Around<'_>,
+    formula: &Formula,
+    opened: &mut BTreeSet<usize>,
+) -> Result<Vec<usize>, AllocError>
+    ensures { IfOk result (λ new. IsOpened (map (place around.now.names.now) (prefix_of (formula_tree formula.now))) (contains nat_cmp opened.old) (contains nat_cmp opened.new) new.items) }
+{
+    let mut new = Vec::new(around.alloc);
+    let mut inner = formula;
+    'prefix: while let Formula::Ex(name, body) | Formula::All(name, body) = inner {
+        let number = around.names.place(name).number;
+        if opened.insert(number)? {
+            new.push(number)?;
+        }
+        inner = body;
+    }
+    Ok(new)
+}
+
+/// Takes these numbers out.
+fn close_scope(new: &[usize], opened: &mut BTreeSet<usize>)
+    ensures { IsClosed (contains nat_cmp opened.old) (contains nat_cmp opened.new) new.now }
+{
+    for number in new {
+        opened.remove(number);
+    }
+}
+
+/// Whether the numbers are among these.
+fn are_in(numbers: &[usize], opened: &BTreeSet<usize>) -> bool
+    ensures { AreAmong (λ n. IsIn n numbers.now) (contains nat_cmp opened.now) result }
+{
+    for number in numbers {
+        if !opened.contains(number) {
+            return false;
+        }
+    }
+    true
+}
+
+/// Whether the free numbers of what is bound to a name are in scope.
+fn in_bound(
+    around: &Around<'_>,
+    name: &Name,
+    opened: &BTreeSet<usize>,
+    table: &mut Table,
+) -> Result<bool, AllocError>
+    requires ids { AreIds (IsId around.now.store.now) around.now.bound.now }
+    requires sound { IsSound around.now.store.now (contains nat_cmp around.now.valued.now) table.old }
+    ensures among { IfOk result (AreAmong (MentionsNumber (trees_bound (tree around.now.store.now) around.now.bound.now) (place around.now.names.now) (Bound name.now)) (in_scope around.now.valued.now opened.now)) }
+    ensures sound { OnOk result (IsSound around.now.store.now (contains nat_cmp around.now.valued.now) table.new) }
+{
+    let Some(id) = around.bound.get(name) else {
+        return Ok(true);
+    };
+    if !table.contains_key(&id) {
+        look_into(around.alloc, around.store, id, around.valued, table)?;
+    }
+    Ok(are_in(numbers(table, id), opened))
+}
+
+/// Whether the free numbers of a formula are in scope. The scope is as before.
+#[cycle(formulas)]
+fn in_formula(
+    around: &Around<'_>,
+    formula: &Formula,
+    opened: &mut BTreeSet<usize>,
+    table: &mut Table,
+) -> Result<bool, AllocError>
+    requires ids { AreIds (IsId around.now.store.now) around.now.bound.now }
+    requires sound { IsSound around.now.store.now (contains nat_cmp around.now.valued.now) table.old }
+    ensures among { IfOk result (AreAmong (IsFreeHere around.now.store.now around.now.bound.now around.now.names.now (formula_tree formula.now)) (in_scope around.now.valued.now opened.old)) }
+    ensures kept { OnOk result (IsSameSet nat_cmp opened.old opened.new) }
+    ensures sound { OnOk result (IsSound around.now.store.now (contains nat_cmp around.now.valued.now) table.new) }
+{
+    let new = open_scope(around, formula, opened)?;
+    let valued = in_matrix(around, matrix(formula), opened, table)?;
+    close_scope(&new, opened);
+    Ok(valued)
+}
+
+/// Whether the free numbers of a formula that begins with no quantifier are in scope. The scope is as before.
+#[tactic(auto, using(qe_syntax::proofs::TreeEquations::trees))]
+#[cycle(formulas)]
+fn in_matrix(
+    around: &Around<'_>,
+    formula: &Formula,
+    opened: &mut BTreeSet<usize>,
+    table: &mut Table,
+) -> Result<bool, AllocError>
+    requires unquantified { IsUnquantified (formula_tree formula.now) }
+    requires ids { AreIds (IsId around.now.store.now) around.now.bound.now }
+    requires sound { IsSound around.now.store.now (contains nat_cmp around.now.valued.now) table.old }
+    ensures among { IfOk result (AreAmong (IsFreeHere around.now.store.now around.now.bound.now around.now.names.now (formula_tree formula.now)) (in_scope around.now.valued.now opened.old)) }
+    ensures kept { OnOk result (IsSameSet nat_cmp opened.old opened.new) }
+    ensures sound { OnOk result (IsSound around.now.store.now (contains nat_cmp around.now.valued.now) table.new) }
+{
+    match formula {
+        Formula::True | Formula::False => Ok(true),
+        Formula::Named(name) => in_bound(around, name, opened, table),
+        Formula::Compare(_, left, right) => {
+            Ok(in_term(around, left, opened) && in_term(around, right, opened))
+        }
+        Formula::Cong(left, right, modulus) | Formula::Ncong(left, right, modulus) => {
+            Ok(
+                in_term(around, left, opened)
+                    && in_term(around, right, opened)
+                    && in_term(around, modulus, opened),
+            )
+        }
+        Formula::Not(inner) => in_formula(around, inner, opened, table),
+        Formula::And(members) | Formula::Or(members) => {
+            in_formulas(around, members.items(), opened, table)
+        }
+        Formula::Impl(left, right) | Formula::Repl(left, right) | Formula::Equiv(left, right) => {
+            let left = in_formula(around, left, opened, table)?;
+            let right = in_formula(around, right, opened, table)?;
+            Ok(left && right)
+        }
+        Formula::Ex(..) | Formula::All(..) => unreachable!(),
+    }
+}
+
+/// Whether the free numbers of the formulas are in scope. The scope is as before.
+#[cycle(formulas)]
+fn in_formulas(
+    around: &Around<'_>,
+    formulas: &[Formula],
+    opened: &mut BTreeSet<usize>,
+    table: &mut Table,
+) -> Result<bool, AllocError>
+    requires ids { AreIds (IsId around.now.store.now) around.now.bound.now }
+    requires sound { IsSound around.now.store.now (contains nat_cmp around.now.valued.now) table.old }
+    ensures among { IfOk result (AreAmong (AreFreeHere around.now.store.now around.now.bound.now around.now.names.now (formulas_of (map formula_tree formulas.now))) (in_scope around.now.valued.now opened.old)) }
+    ensures kept { OnOk result (IsSameSet nat_cmp opened.old opened.new) }
+    ensures sound { OnOk result (IsSound around.now.store.now (contains nat_cmp around.now.valued.now) table.new) }
+{
+    for formula in formulas {
+        if !in_formula(around, formula, opened, table)? {
+            return Ok(false);
+        }
+    }
+    Ok(true)
+}
