@@ -9,7 +9,7 @@ use std::alloc::{AllocError, Global};
 use std::io;
 
 const LIMITS: Limits = Limits {
-    nodes: 1,
+    nodes: 1_000_000,
     workers: 1,
 };
 
@@ -42,14 +42,74 @@ const FORMULAS: [(&str, &str, &str, usize, &str, &str, &str); 24] = [
     ("1 MiB and a byte", "", " ", 1_048_558, "x=1", "", ""),
 ];
 
+/// Statements of one session: what stands first, what is written so often, and what stands last.
+const STATEMENTS: [(&str, &str, &str, usize, &str); 9] = [
+    ("511 times not printed", "", "not ", 511, "x>0;"),
+    ("512 times not printed", "", "not ", 512, "x>0;"),
+    ("513 times not printed", "", "not ", 513, "x>0;"),
+    (
+        "100,000 equal members bound",
+        "f := x>0",
+        " and x>0",
+        99_999,
+        "$",
+    ),
+    ("their truth", "rlholds(f,{x=1}", "", 0, ");"),
+    (
+        "255 times equiv bound",
+        "g := rlnnf(x>0",
+        " equiv x>0",
+        255,
+        ")$",
+    ),
+    ("its text", "g", "", 0, ";"),
+    (
+        "511 times equiv bound",
+        "h := rlnnf(x>0",
+        " equiv x>0",
+        511,
+        ")$",
+    ),
+    ("its truth", "rlholds(h,{x=1}", "", 0, ");"),
+];
+
 fn main(rt: HostRuntime) -> io::Result<()> {
+    formulas(&rt)?;
+    session(&rt)
+}
+
+/// Each formula's truth in a session of its own.
+fn formulas(rt: &HostRuntime) -> io::Result<()> {
     let alloc = rt.alloc();
     for (title, first, opening, count, inside, closing, last) in FORMULAS {
         let statement = statement(alloc, first, opening, count, inside, closing, last)?;
-        let answer = answer(alloc, statement.as_bytes())?;
+        let mut session = Session::new(alloc, LIMITS);
+        let answer = answer(alloc, &mut session, statement.as_bytes())?;
         let valued = names(alloc, statement.as_bytes());
         println!(rt; "{title}: {answer}, {valued}")?;
     }
+    Ok(())
+}
+
+/// The statements of one session, and two long bindings after them.
+fn session(rt: &HostRuntime) -> io::Result<()> {
+    let alloc = rt.alloc();
+    let mut session = Session::new(alloc, LIMITS);
+    for (title, first, repeated, count, last) in STATEMENTS {
+        let statement = chain(alloc, first, repeated, count, last)?;
+        let answer = answer(alloc, &mut session, statement.as_bytes())?;
+        println!(rt; "{title}: {answer}")?;
+    }
+    binding(rt, &mut session, 99_999)?;
+    binding(rt, &mut session, 100_000)
+}
+
+/// The answer where a disjunction of so many different formulas is bound.
+fn binding(rt: &HostRuntime, session: &mut Session, count: usize) -> io::Result<()> {
+    let alloc = rt.alloc();
+    let statement = disjunction(alloc, count)?;
+    let answer = answer(alloc, session, statement.as_bytes())?;
+    println!(rt; "{count} distinct members bound: {answer}")?;
     Ok(())
 }
 
@@ -68,12 +128,38 @@ fn statement(
     format!(in alloc; "rlholds({first}{openings}{inside}{closings}{last},{{x=1}});")
 }
 
-/// The line of a statement, or the word of its refusal.
-fn answer(alloc: Global, statement: &[u8]) -> Result<String, AllocError> {
-    let mut session = Session::new(LIMITS);
-    match session.statement(alloc, statement) {
+/// A text with a part that is repeated.
+fn chain(
+    alloc: Global,
+    first: &str,
+    repeated: &str,
+    count: usize,
+    last: &str,
+) -> Result<String, AllocError> {
+    let middle = repeated.repeat(alloc, count)?;
+    format!(in alloc; "{first}{middle}{last}")
+}
+
+/// The statement that binds the disjunction of so many different formulas, in less than 1 MiB.
+fn disjunction(alloc: Global, count: usize) -> Result<String, AllocError> {
+    let mut statement = "k := true ".to_string(alloc)?;
+    for number in 1..count {
+        let number = format!(in alloc; "or x>{number}")?;
+        statement.push_str(&number)?;
+    }
+    statement.push_str("$")?;
+    Ok(statement)
+}
+
+/// The line of a statement, or its length where it is long, or the word of the refusal.
+fn answer(alloc: Global, session: &mut Session, statement: &[u8]) -> Result<String, AllocError> {
+    match session.statement(statement) {
+        Ok(Line::Printed(line)) if line.len() > 100 => {
+            let length = line.len();
+            format!(in alloc; "{length} bytes")
+        }
         Ok(Line::Printed(line)) => Ok(String::from_utf8(line).unwrap_or(String::new(alloc))),
-        Ok(_) => Ok(String::new(alloc)),
+        Ok(_) => "no line".to_string(alloc),
         Err(error) => error.word().to_string(alloc),
     }
 }

@@ -1,24 +1,24 @@
 -- What was read and written, by the status that the program ends with.
-use Rattle.std.specs.Prelude.{◌≡◌, ◌⊎◌, ℕ, ◌≤◌, List, [], length, Option, Bool, true, false}
+use Rattle.std.specs.Prelude.{◌≡◌, ℕ, ◌≤◌, List, length, Option, Bool, true, false}
 use Rattle.qe_io.specs.Streams.{Gave, IsAtEnd, Took, Rose}
 use Rattle.redlog.specs.declared.status.Status.{Status}
 use Rattle.redlog.specs.declared.status.Status.TheVariants as status
 use Rattle.redlog.specs.declared.read.ReadStop.{ReadStop}
 use Rattle.redlog.specs.declared.read.ReadStop.TheVariants as stop
 use Rattle.redlog.specs.Script.{script_limit, GaveTooMany, TookFront}
-use Rattle.redlog.specs.Run.{Run}
+use Rattle.redlog.specs.Run.{RunOf}
 
 -- The source gave its whole script, which is within the limit, and the sink took the lines that answer it.
 abbrev pub Answered : Option (List ℕ) → Option (List ℕ) → Option (List ℕ) → Option (List ℕ) → Bool → Type 0
 Answered left later wrote after refusal =
     (script : List ℕ) × (lines : List ℕ)
-    × Gave left later script × IsAtEnd later × (length script ≤ script_limit) × Run script lines refusal × Took wrote after lines
+    × Gave left later script × IsAtEnd later × (length script ≤ script_limit) × RunOf script lines refusal × Took wrote after lines
 
--- The sink took nothing, or the front of lines that answer the script that the source gave.
+-- The source gave its whole script, which is within the limit, and the sink took the front of the lines that answer it.
 abbrev pub AnsweredInPart : Option (List ℕ) → Option (List ℕ) → Option (List ℕ) → Option (List ℕ) → Type 0
 AnsweredInPart left later wrote after =
-    Took wrote after []
-    ⊎ ((script : List ℕ) × (lines : List ℕ) × (refusal : Bool) × Gave left later script × IsAtEnd later × Run script lines refusal × TookFront wrote after lines)
+    (script : List ℕ) × (lines : List ℕ) × (refusal : Bool)
+    × Gave left later script × IsAtEnd later × (length script ≤ script_limit) × RunOf script lines refusal × TookFront wrote after lines
 
 -- by what the source had left and what the sink had taken, before and after
 abbrev pub Outcome : Option (List ℕ) → Option (List ℕ) → Option (List ℕ) → Option (List ℕ) → Status → Type 0
@@ -47,9 +47,9 @@ stop_status stop.Memory = status.Memory
 
 -- what becomes of a script that was read whole, by what the sink had taken and its count of faults, before and after
 abbrev pub Replied : List ℕ → Option (List ℕ) → Option (List ℕ) → ℕ → ℕ → Status → Type 0
-Replied script wrote after writes later status.Done = (lines : List ℕ) × Run script lines false × Took wrote after lines × (later ≡ writes)
-Replied script wrote after writes later status.Refused = (lines : List ℕ) × Run script lines true × Took wrote after lines × (later ≡ writes)
-Replied script wrote after writes later status.WriteFault = (lines : List ℕ) × (refusal : Bool) × Run script lines refusal × TookFront wrote after lines × Rose writes later
+Replied script wrote after writes later status.Done = (lines : List ℕ) × RunOf script lines false × Took wrote after lines × (later ≡ writes)
+Replied script wrote after writes later status.Refused = (lines : List ℕ) × RunOf script lines true × Took wrote after lines × (later ≡ writes)
+Replied script wrote after writes later status.WriteFault = (lines : List ℕ) × (refusal : Bool) × RunOf script lines refusal × TookFront wrote after lines × Rose writes later
 Replied script wrote after writes later status.Memory = (after ≡ wrote) × (later ≡ writes)
 Replied script wrote after writes later status.Usage = ⊥
 Replied script wrote after writes later status.ReadFault = ⊥

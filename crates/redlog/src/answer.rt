@@ -1,76 +1,85 @@
-ghost use Rattle.std.specs.Prelude.{◌≡◌, ◌≢◌, ◌++◌, ◌∷◌, [], true, false, IfOk, OnOk};
+ghost use Rattle.std.specs.Prelude.{◌≡◌, ◌≢◌, ◌++◌, ◌∷◌, [], true, IfOk, OnOk};
+ghost use Rattle.session_commands.specs.Seen.{state_in};
 ghost use Rattle.session_commands.specs.Words.{word_of};
 ghost use Rattle.redlog.specs.Lines.{refusal_line};
-ghost use Rattle.redlog.specs.Run.{Run, AnswersPiece};
+ghost use Rattle.redlog.specs.Run.{RunOf, Adds};
 
 use redlog_reader::next_piece;
 use session_commands::{Limits, Line, Session, StatementError};
 use std::alloc::{AllocError, Global};
 
 /// The limits of the session, until words of the program can change them.
-const LIMITS: Limits = Limits {
+pub const LIMITS: Limits = Limits {
     nodes: 1_000_000,
     workers: 4,
 };
 
 /// What a script is answered with: its lines, and whether one of them is a refusal.
 #[derive(Drop)]
-pub struct Reply {
+pub struct Answers {
     pub lines: Vec<u8>,
     pub refused: bool,
 }
 
-/// Answers a script, which is one statement.
-pub fn answer_script(alloc: Global, script: &[u8]) -> Result<Reply, AllocError>
-    ensures { IfOk result (λ reply. Run script.now reply.lines.items reply.refused) }
+/// Answers a script: its statements in turn, each in the state that the one before left, until one of them ends it.
+pub fn answer_script(alloc: Global, script: &[u8]) -> Result<Answers, AllocError>
+    ensures { IfOk result (λ answers. RunOf script.now answers.lines.items answers.refused) }
 {
-    let Some(piece) = next_piece(script, 0) else {
-        return Ok(Reply {
-            lines: Vec::new(alloc),
-            refused: false,
-        });
-    };
-    if next_piece(script, piece.end).is_some() {
-        return refusal(alloc, StatementError::Syntax, piece.start);
-    }
-    answer_piece(alloc, &script[piece.start..piece.end], piece.start)
-}
-
-/// Answers the one piece of a script, which begins at this offset.
-fn answer_piece(alloc: Global, piece: &[u8], offset: usize) -> Result<Reply, AllocError>
-    ensures { IfOk result (λ reply. AnswersPiece piece.now offset reply.lines.items reply.refused) }
-{
-    let mut session = Session::new(LIMITS);
-    match session.statement(alloc, piece) {
-        Ok(Line::Printed(text)) => printed(text),
-        Ok(Line::Nothing) => Ok(Reply {
-            lines: Vec::new(alloc),
-            refused: false,
-        }),
-        Ok(Line::Finished) => Ok(Reply {
-            lines: Vec::new(alloc),
-            refused: false,
-        }),
-        Err(error) => refusal(alloc, error, offset),
-    }
-}
-
-/// The reply that is this line.
-fn printed(mut text: Vec<u8>) -> Result<Reply, AllocError>
-    ensures lines { IfOk result (λ reply. reply.lines.items ≡ text.items ++ 10 ∷ []) }
-    ensures accepted { IfOk result (λ reply. reply.refused ≡ false) }
-{
-    text.push(b'\n')?;
-    Ok(Reply {
-        lines: text,
+    let mut session = Session::new(alloc, LIMITS);
+    let mut answers = Answers {
+        lines: Vec::new(alloc),
         refused: false,
-    })
+    };
+    let mut from = 0;
+    'pieces: while let Some(piece) = next_piece(script, from) {
+        let bytes = &script[piece.start..piece.end];
+        if answer_piece(alloc, &mut session, bytes, piece.start, &mut answers)? {
+            return Ok(answers);
+        }
+        from = piece.end;
+    }
+    Ok(answers)
 }
 
-/// The reply that is this refusal of a statement at this offset. Want of memory is no refusal.
-fn refusal(alloc: Global, error: StatementError, offset: usize) -> Result<Reply, AllocError>
-    ensures lines { IfOk result (λ reply. reply.lines.items ≡ refusal_line (word_of error) offset) }
-    ensures refused { IfOk result (λ reply. reply.refused ≡ true) }
+/// Adds what a piece at this offset is answered with, and says whether it ends the script.
+fn answer_piece(
+    alloc: Global,
+    session: &mut Session,
+    piece: &[u8],
+    offset: usize,
+    answers: &mut Answers,
+) -> Result<bool, AllocError>
+    ensures adds { IfOk result (λ ends. Adds (state_in session.old) session.old.limits.nodes piece.now offset ends (state_in session.new) answers.old.lines.items answers.old.refused answers.new.lines.items answers.new.refused) }
+    ensures limits { session.new.limits ≡ session.old.limits }
+{
+    match session.statement(piece) {
+        Ok(Line::Finished) => return Ok(true),
+        Ok(Line::Nothing) => (),
+        Ok(Line::Printed(text)) => add_line(&text, answers)?,
+        Err(error) => add_refusal(alloc, error, offset, answers)?,
+    }
+    Ok(false)
+}
+
+/// Adds a line.
+fn add_line(text: &[u8], answers: &mut Answers) -> Result<(), AllocError>
+    ensures lines { OnOk result (answers.new.lines.items ≡ answers.old.lines.items ++ (text.now ++ 10 ∷ [])) }
+    ensures refused { answers.new.refused ≡ answers.old.refused }
+{
+    answers.lines.extend_from_slice(text)?;
+    answers.lines.push(b'\n')?;
+    Ok(())
+}
+
+/// Adds the line of a refusal of the statement at this offset. Want of memory is no refusal.
+fn add_refusal(
+    alloc: Global,
+    error: StatementError,
+    offset: usize,
+    answers: &mut Answers,
+) -> Result<(), AllocError>
+    ensures lines { OnOk result (answers.new.lines.items ≡ answers.old.lines.items ++ refusal_line (word_of error) offset) }
+    ensures refused { OnOk result (answers.new.refused ≡ true) }
     ensures cause { OnOk result (error ≢ StatementError.Memory) }
 {
     if error == StatementError::Memory {
@@ -78,8 +87,7 @@ fn refusal(alloc: Global, error: StatementError, offset: usize) -> Result<Reply,
     }
     let word = error.word();
     let line = format!(in alloc; "***** {word} at {offset}\n")?;
-    Ok(Reply {
-        lines: line.into_bytes(),
-        refused: true,
-    })
+    answers.lines.extend_from_slice(line.as_bytes())?;
+    answers.refused = true;
+    Ok(())
 }

@@ -1,7 +1,7 @@
 ghost use Rattle.std.specs.Prelude.{◌≡◌, ◌≢◌, ◌⊎◌, ◌↔◌, ◌≤◌, ℕ, List, [], length, Some, true};
 ghost use Rattle.qe_io.specs.Streams.{Rose};
 ghost use Rattle.redlog.specs.Script.{script_limit};
-ghost use Rattle.redlog.specs.Run.{Run};
+ghost use Rattle.redlog.specs.Run.{RunOf};
 ghost use Rattle.redlog.specs.Outcome.{Outcome, Faults, Replied, stop_status};
 
 use crate::answer::answer_script;
@@ -31,7 +31,7 @@ pub fn run<S: Source, K: Sink>(
 
     // Without words, over ends that don't fail, a script within the limit that has no cause of a refusal is answered.
     ensures complete { words.now ≡ [] → (script : List ℕ) → S.left source.old ≡ Some script → length script ≤ script_limit
-        → (¬ ((lines : List ℕ) × Run script lines true))
+        → (¬ ((lines : List ℕ) × RunOf script lines true))
         → (¬ (Rose (S.faults source.old) (S.faults source.new))) → (¬ (Rose (K.faults sink.old) (K.faults sink.new)))
         → (result ≡ Status.Done) ⊎ (result ≡ Status.Memory) }
 {
@@ -59,11 +59,11 @@ fn status_of(stop: ReadStop) -> Status
 fn reply<K: Sink>(alloc: Global, script: &[u8], sink: &mut K) -> Status
     ensures replied { Replied script.now (K.wrote sink.old) (K.wrote sink.new) (K.faults sink.old) (K.faults sink.new) result }
 {
-    let Ok(reply) = answer_script(alloc, script) else {
+    let Ok(answers) = answer_script(alloc, script) else {
         return Status::Memory;
     };
-    match write_all(sink, &reply.lines) {
-        Ok(()) if reply.refused => Status::Refused,
+    match write_all(sink, &answers.lines) {
+        Ok(()) if answers.refused => Status::Refused,
         Ok(()) => Status::Done,
         Err(_) => Status::WriteFault,
     }

@@ -1,3 +1,11 @@
-pub mod Accepted
-pub mod Answered
-pub mod OnlyOverflow
+pub mod NameLemmas
+pub mod SoundLemmas
+pub mod BindingLemmas
+pub mod DeskLemmas
+pub mod CauseLemmas
+pub mod GivenLemmas
+pub mod GivenSteps
+pub mod AnswerLemmas
+pub mod TruthLemmas
+pub mod PointLemmas
+pub mod TruthSteps

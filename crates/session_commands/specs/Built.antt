@@ -1,27 +1,39 @@
 -- The statements that are answered so far. Each other one is refused as syntax, until its command is built.
-use Rattle.qe_syntax.specs.Linear.{IsLinear}
 use Rattle.qe_syntax.specs.Statements.{CommandTree, Echo, Nnf, Pnf, Dnf, Cnf, Simpl, Qe, Qea, Holds, Sample, ActionTree, Empty, Ignored, Finish, Choose, Say, Assign, StatementTree}
 
--- the test of a formula without quantifiers whose atoms compare linear terms
+-- a command that gives a formula
+abbrev pub IsBuiltFormula : CommandTree → Type 0
+IsBuiltFormula (Echo f) = Unit {0}
+IsBuiltFormula (Nnf f) = Unit {0}
+IsBuiltFormula (Pnf f) = ⊥
+IsBuiltFormula (Dnf f) = ⊥
+IsBuiltFormula (Cnf f) = ⊥
+IsBuiltFormula (Simpl f given) = ⊥
+IsBuiltFormula (Qe f given) = ⊥
+IsBuiltFormula (Qea f given) = ⊥
+IsBuiltFormula (Holds f es) = ⊥
+IsBuiltFormula (Sample f es) = ⊥
+
+-- one of these, or the test of a formula at a point
 abbrev pub IsBuiltCommand : CommandTree → Type 0
-IsBuiltCommand (Holds f es) = IsLinear f
-IsBuiltCommand (Echo f) = ⊥
-IsBuiltCommand (Nnf f) = ⊥
+IsBuiltCommand (Echo f) = Unit {0}
+IsBuiltCommand (Nnf f) = Unit {0}
 IsBuiltCommand (Pnf f) = ⊥
 IsBuiltCommand (Dnf f) = ⊥
 IsBuiltCommand (Cnf f) = ⊥
 IsBuiltCommand (Simpl f given) = ⊥
 IsBuiltCommand (Qe f given) = ⊥
 IsBuiltCommand (Qea f given) = ⊥
+IsBuiltCommand (Holds f es) = Unit {0}
 IsBuiltCommand (Sample f es) = ⊥
 
 abbrev pub IsBuiltAction : ActionTree → Type 0
 IsBuiltAction (Say c) = IsBuiltCommand c
-IsBuiltAction Empty = ⊥
-IsBuiltAction Ignored = ⊥
-IsBuiltAction Finish = ⊥
-IsBuiltAction (Choose setting) = ⊥
-IsBuiltAction (Assign x c) = ⊥
+IsBuiltAction Empty = Unit {0}
+IsBuiltAction Ignored = Unit {0}
+IsBuiltAction Finish = Unit {0}
+IsBuiltAction (Choose setting) = Unit {0}
+IsBuiltAction (Assign x c) = IsBuiltFormula c
 
 abbrev pub IsBuilt : StatementTree → Type 0
 IsBuilt s = IsBuiltAction s.action

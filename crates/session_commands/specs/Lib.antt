@@ -1,5 +1,12 @@
 pub mod Words
-pub mod Holds
+pub mod State
+pub mod Commands
+pub mod Points
+pub mod Causes
 pub mod Built
-pub mod Answer
+pub mod Reply
+pub mod Keeping
+pub mod Seen
 pub mod Steps
+pub mod Answered
+pub mod Truths

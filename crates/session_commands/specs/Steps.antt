@@ -1,18 +1,33 @@
 -- What the steps of an answer give one another.
-use Rattle.std.specs.Prelude.{◌≡◌, List, Bool, true, false}
-use Rattle.qe_syntax.specs.declared.statement.PointEntry.{PointEntry}
+use Rattle.std.specs.Prelude.{◌≡◌, ◌⊎◌, ◌*◌, ◌<◌, ℕ, List, Bool, true, Option, Some, None, length}
+use Rattle.formula_meaning.specs.Tree.{Tree, tree_distinct}
+use Rattle.formula_meaning.specs.NegationNormal.{normal_form}
+use Rattle.atom_normal.specs.NormalForm.{negated_normal}
 use Rattle.qe_syntax.specs.Trees.{FormulaTree}
-use Rattle.qe_syntax.specs.Statements.{CommandTree, Say, StatementTree}
+use Rattle.qe_syntax.specs.Statements.{CommandTree, Echo, Nnf}
 use Rattle.redlog_reader.specs.declared.token.ReadError.{ReadError}
 use Rattle.redlog_reader.specs.declared.token.ReadError.TheVariants as reading
+use Rattle.formula_tree.specs.Bindings.{bind}
+use Rattle.formula_tree.specs.Makers.{Keeps}
+use Rattle.formula_tree.specs.Resolving.{BoundTrees, names_after}
+use Rattle.formula_tree.specs.Causes.{IsAccepted as IsResolvable}
+use Rattle.formula_resolving.specs.declared.error.StaticError.{StaticError}
+use Rattle.formula_resolving.specs.declared.error.StaticError.TheVariants as static
+use Rattle.formula_resolving.specs.Numbering.{Grows}
+use Rattle.formula_resolving.specs.Refusals.{IsFirstCause}
+use Rattle.formula_store.specs.declared.id.FormulaId.{FormulaId}
+use Rattle.formula_store.specs.Nodes.{tree, IsId}
+use Rattle.redlog_printer.specs.Writing.{text_limit}
 use Rattle.session_commands.specs.declared.line.Line.{Line}
-use Rattle.session_commands.specs.declared.line.Line.TheVariants as line
 use Rattle.session_commands.specs.declared.line.StatementError.{StatementError}
 use Rattle.session_commands.specs.declared.line.StatementError.TheVariants as error
-use Rattle.session_commands.specs.Words.{truth_text}
-use Rattle.session_commands.specs.Holds.{HasUnvalued}
-use Rattle.session_commands.specs.Answer.{AnswersTo, RefusesStatement}
-use Rattle.session_commands.specs.Built.{IsBuilt}
+use Rattle.session_commands.specs.declared.formulas.Wanted.{Wanted}
+use Rattle.session_commands.specs.declared.formulas.Wanted.TheVariants as wanted
+use Rattle.session_commands.specs.declared.desk.Desk.{Desk}
+use Rattle.session_commands.specs.State.{State}
+use Rattle.session_commands.specs.Commands.{Gives}
+use Rattle.session_commands.specs.Causes.{Use, formula_line, HasNoRoom, IsTooLarge, IsAccepted}
+use Rattle.session_commands.specs.Reply.{with_bound, IsLine}
 
 abbrev pub read_refusal : ReadError → StatementError
 read_refusal reading.Long = error.Long
@@ -21,28 +36,99 @@ read_refusal reading.Nesting = error.Nesting
 read_refusal reading.Syntax = error.Syntax
 read_refusal reading.Memory = error.Memory
 
--- the statement that is this command
-abbrev pub said : CommandTree → Bool → StatementTree
-said c printed = record { action = Say c; printed = printed }
+abbrev pub static_refusal : StaticError → StatementError
+static_refusal static.Unbound = error.Unbound
+static_refusal static.FormulaAsTerm = error.FormulaAsTerm
+static_refusal static.Nonlinear = error.Nonlinear
+static_refusal static.Division = error.Division
+static_refusal static.CongruenceContext = error.CongruenceContext
+static_refusal static.Modulus = error.Modulus
+static_refusal static.Depth = error.Depth
+static_refusal static.Overflow = error.Overflow
+static_refusal static.Memory = error.Memory
 
--- the statement is built and answered with this line
-abbrev pub IsAnswered : StatementTree → Line → Type 0
-IsAnswered s answer = IsBuilt s × AnswersTo s answer
+-- the command that gives the wanted formula
+abbrev pub command_of : Wanted → FormulaTree → CommandTree
+command_of wanted.Given f = Echo f
+command_of wanted.NegationNormal f = Nnf f
 
--- the statement is not built, or refused with a word that the reader doesn't give, or memory ran out
-abbrev pub IsStopped : StatementTree → StatementError → Type 0
-IsStopped s error.Syntax = ¬ (IsBuilt s)
-IsStopped s error.Memory = Unit {0}
-IsStopped s e = IsBuilt s × RefusesStatement s e
+-- the state after a formula was given
+abbrev pub state_with : State → Option (List ℕ) → Tree → State
+state_with s None t = s
+state_with s (Some x) t = with_bound s x t
 
--- the line of a truth, if it is printed
-abbrev pub IsTruthLine : Bool → Bool → Line → Type 0
-IsTruthLine truth printed line.Nothing = printed ≡ false
-IsTruthLine truth printed (line.Printed text) = (printed ≡ true) × (text.items ≡ truth_text truth)
-IsTruthLine truth printed line.Finished = ⊥
+-- The command is accepted, and its line and the next state are those of the formula that it gives. The state is one in which
+-- its variables have their numbers.
+pub record IsGiven (s : State) (u : Use) (c : CommandTree) (answer : Line) (next : State) : Type 0 where
+  pub accepted : IsAccepted s u c
+  pub formula : Tree
+  pub given : Gives s c formula
+  pub line : IsLine u.printed (formula_line u.target s.names formula) answer
+  pub after : next ≡ state_with s u.target formula
 
--- why not each name has a value
-abbrev pub ValueFault : FormulaTree → List PointEntry → StatementError → Type 0
-ValueFault f es error.Unvalued = HasUnvalued f es
-ValueFault f es error.Memory = Unit {0}
-ValueFault f es _ = ⊥
+-- ---- what a step keeps
+
+-- the formulas of the store stay, and so does all else
+pub record KeepsDesk (old new : Desk) : Type 0 where
+  pub context : new.context ≡ old.context
+  pub names : new.names ≡ old.names
+  pub bindings : new.bindings ≡ old.bindings
+  pub store : Keeps (IsId old.store) (tree old.store) (IsId new.store) (tree new.store)
+
+-- the same, but for new names after the old ones
+pub record GrowsDesk (old new : Desk) : Type 0 where
+  pub context : new.context ≡ old.context
+  pub names : Grows old.names new.names
+  pub bindings : new.bindings ≡ old.bindings
+  pub store : Keeps (IsId old.store) (tree old.store) (IsId new.store) (tree new.store)
+
+-- each variable of the formula has its number
+abbrev pub HasNumbers : List (List ℕ) → FormulaTree → Type 0
+HasNumbers names f = names_after names f ≡ names
+
+-- the first cause why a formula is not resolved is this word's
+abbrev pub IsUnread : State → FormulaTree → StatementError → Type 0
+IsUnread s f e = (d : StaticError) × (e ≡ static_refusal d) × IsFirstCause s.context s.bound s.names f d
+
+-- the formula is resolved in the state
+abbrev pub IsReadable : State → FormulaTree → Type 0
+IsReadable s f = IsResolvable s.context s.bound s.names f
+
+-- the wanted form of a resolved formula
+abbrev pub wanted_form : Wanted → Tree → Tree
+wanted_form wanted.Given t = t
+wanted_form wanted.NegationNormal t = normal_form negated_normal t
+
+-- why the wanted form is not made
+abbrev pub FormFault : Wanted → ℕ → Tree → StatementError → Type 0
+FormFault w limit t error.Nodes = (w ≡ wanted.NegationNormal) × (limit < 6 * tree_distinct t)
+FormFault w limit t error.Memory = Unit {0}
+FormFault w limit t _ = ⊥
+
+-- the formula may be bound to the name, if there is one
+pub record MayBind (bound : BoundTrees) (target : Option (List ℕ)) (t : Tree) : Type 0 where
+  pub room : ¬ (HasNoRoom bound target)
+  pub small : ¬ (IsTooLarge target t)
+
+-- why it may not
+abbrev pub TargetFault : BoundTrees → Option (List ℕ) → Tree → StatementError → Type 0
+TargetFault bound target t error.Bindings = HasNoRoom bound target ⊎ IsTooLarge target t
+TargetFault bound target t error.Memory = Unit {0}
+TargetFault bound target t _ = ⊥
+
+-- why a text is not written
+abbrev pub LineFault : Bool → List ℕ → StatementError → Type 0
+LineFault printed text error.Text = (printed ≡ true) × (text_limit < length text)
+LineFault printed text error.Memory = Unit {0}
+LineFault printed text _ = ⊥
+
+-- ---- bindings
+
+-- what is done with what a command gives
+abbrev pub use_of : Option (List ℕ) → Bool → Use
+use_of target printed = record { target = target; printed = printed }
+
+-- the bindings with the id bound to the name, if there is one
+abbrev pub bound_after : List (List ℕ × FormulaId) → Option (List ℕ) → FormulaId → List (List ℕ × FormulaId)
+bound_after entries None id = entries
+bound_after entries (Some x) id = bind entries x id

@@ -1,5 +1,6 @@
 -- The words of the refusals.
 use Rattle.std.specs.Prelude.{ℕ, List, Bool, true, false, codes}
+use Rattle.formula_meaning.specs.Context.{Context, Fields, Integers}
 use Rattle.session_commands.specs.declared.line.StatementError.{StatementError}
 use Rattle.session_commands.specs.declared.line.StatementError.TheVariants as error
 
@@ -28,3 +29,8 @@ word_of error.Memory = codes "memory"
 abbrev pub truth_text : Bool → List ℕ
 truth_text true = codes "true"
 truth_text false = codes "false"
+
+-- the line of a theory
+abbrev pub context_text : Context → List ℕ
+context_text Fields = codes "ofsf"
+context_text Integers = codes "pasf"

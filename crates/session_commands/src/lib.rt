@@ -1,10 +1,15 @@
 //! Answers one statement of a script with one line, or with the word of its refusal.
 #![tactic(auto)]
 
+mod desk;
+mod formulas;
+mod holds;
 mod line;
+mod lines;
 mod session;
 #[cfg(test)]
 mod tests;
 
+pub use formulas::MOST_SUBFORMULAS;
 pub use line::{Line, StatementError};
 pub use session::{Limits, Session};

@@ -1,19 +1,24 @@
-ghost use Rattle.std.specs.Prelude.{◌≡◌, ◌≤◌, IfOk, OnOk, IfErr};
-ghost use Rattle.qe_syntax.specs.Trees.{formula_tree};
-ghost use Rattle.qe_syntax.specs.Linear.{IsLinear};
-ghost use Rattle.qe_syntax.specs.Proper.{IsProperFormula, AreProperEntries, IsProperCommand, IsProper};
+ghost use Rattle.std.specs.Prelude.{◌≡◌, ◌≤◌, IfOk, IfErr, OnOk, OnErr};
 ghost use Rattle.qe_syntax.specs.Statements.{statement_tree, command_tree};
-ghost use Rattle.session_commands.specs.Holds.{IsValued, IsAccepted, Refuses, Says};
-ghost use Rattle.session_commands.specs.Answer.{IsAnswer, IsRefused};
-ghost use Rattle.session_commands.specs.Steps.{read_refusal, said, IsAnswered, IsStopped, IsTruthLine, ValueFault};
+ghost use Rattle.qe_syntax.specs.Proper.{IsProper, IsProperCommand};
+ghost use Rattle.session_commands.specs.Keeping.{state_of, IsDesk};
+ghost use Rattle.session_commands.specs.Reply.{Reply, IsLine};
+ghost use Rattle.session_commands.specs.Words.{context_text};
+ghost use Rattle.session_commands.specs.Seen.{state_in};
+ghost use Rattle.session_commands.specs.State.{first_state, theory_of, chosen};
+ghost use Rattle.session_commands.specs.Steps.{read_refusal};
+ghost use Rattle.session_commands.specs.Answered.{IsCommandAnswered, IsCommandStopped, IsAssigned, IsAssignmentStopped, IsAnswered, IsStopped};
 
+use crate::desk::Desk;
+use crate::formulas::{Wanted, answer_formula};
+use crate::holds::answer_holds;
 use crate::line::{Line, StatementError};
-use qe_syntax::{
-    Action, Command, Entries, EvalError, Formula, Point, PointFault, Statement, is_linear,
-    is_valued, truth_at,
-};
+use crate::lines::printed_line;
+use atom_normal::Context;
+use qe_syntax::{Action, Command, Name, Setting, Statement};
 use redlog_reader::{ReadError, read_statement};
 use std::alloc::Global;
+use std::marker::Model;
 
 /// The limits that a session keeps: nodes of an elimination, and workers of its parallel phase.
 #[derive(Clone, Copy, Debug)]
@@ -22,19 +27,35 @@ pub struct Limits {
     pub workers: usize,
 }
 
-/// What the statements of a script share.
+/// What the statements of a script share. It is seen as its state and its limits.
 #[derive(Drop)]
 pub struct Session {
+    desk: Desk,
     limits: Limits,
 }
 
+impl Model for Session {
+    ghost use Rattle.session_commands.specs.Keeping.{IsDesk};
+    ghost use Rattle.session_commands.specs.Seen.{Seen};
+
+    ghost Value = { Seen };
+
+    ghost view = { λ s. record { context = s.desk.context; names = s.desk.names; bindings = s.desk.bindings; formulas = s.desk.store; limits = s.limits } };
+
+    ghost invariant = { λ s. IsDesk s.desk };
+}
+
 impl Session {
-    /// A session under these limits.
-    pub fn new(limits: Limits) -> Session
+    /// A session under these limits: over the ordered fields, with no names and nothing bound.
+    pub fn new(alloc: Global, limits: Limits) -> Session
         requires { 1 ≤ limits.workers }
-        ensures { result.limits ≡ limits }
+        ensures state { state_in result ≡ first_state }
+        ensures limits { result.limits ≡ limits }
     {
-        Session { limits }
+        Session {
+            desk: Desk::new(alloc),
+            limits,
+        }
     }
 
     /// The limits of the session.
@@ -44,16 +65,25 @@ impl Session {
         self.limits
     }
 
-    /// Answers the statement that these bytes spell, or says the first cause of its refusal.
-    pub fn statement(&mut self, alloc: Global, bytes: &[u8]) -> Result<Line, StatementError>
-        ensures answer { IfOk result (IsAnswer bytes.now) }
-        ensures refusal { IfErr result (IsRefused bytes.now) }
-        ensures kept { self.new ≡ self.old }
+    /// Answers the statement that these bytes spell, or says the first cause of its refusal, which changes nothing.
+    pub fn statement(&mut self, bytes: &[u8]) -> Result<Line, StatementError>
+        ensures reply { Reply (state_in self.old) self.old.limits.nodes bytes.now result (state_in self.new) }
+        ensures limits { self.new.limits ≡ self.old.limits }
     {
-        match read_statement(alloc, bytes) {
-            Ok(statement) => answer(alloc, &statement),
-            Err(error) => Err(refusal_of(error)),
-        }
+        self.desk.tidy()?;
+        reply_to(&mut self.desk, self.limits.nodes, bytes)
+    }
+}
+
+/// Reads a statement and answers it.
+fn reply_to(desk: &mut Desk, limit: u64, bytes: &[u8]) -> Result<Line, StatementError>
+    requires { IsDesk desk.old }
+    ensures desk { IsDesk desk.new }
+    ensures reply { Reply (state_of desk.old) limit bytes.now result (state_of desk.new) }
+{
+    match read_statement(desk.alloc, bytes) {
+        Ok(statement) => answer(desk, limit, &statement),
+        Err(error) => Err(refusal_of(error)),
     }
 }
 
@@ -71,101 +101,108 @@ fn refusal_of(error: ReadError) -> StatementError
 }
 
 /// Answers a statement. One that is not built is `Syntax`.
-fn answer(alloc: Global, statement: &Statement) -> Result<Line, StatementError>
-    requires { IsProper (statement_tree statement.now) }
-    ensures answer { IfOk result (IsAnswered (statement_tree statement.now)) }
-    ensures refusal { IfErr result (IsStopped (statement_tree statement.now)) }
+fn answer(desk: &mut Desk, limit: u64, statement: &Statement) -> Result<Line, StatementError>
+    requires proper { IsProper (statement_tree statement.now) }
+    requires desk { IsDesk desk.old }
+    ensures desk { IsDesk desk.new }
+    ensures answer { IfOk result (λ line. IsAnswered (state_of desk.old) (statement_tree statement.now) line (state_of desk.new)) }
+    ensures refusal { IfErr result (IsStopped (state_of desk.old) limit (statement_tree statement.now)) }
+    ensures unchanged { OnErr result (state_of desk.new ≡ state_of desk.old) }
 {
     match &statement.action {
-        Action::Say(command) => say(alloc, command, statement.printed),
-        Action::Empty => Err(StatementError::Syntax),
-        Action::Ignored => Err(StatementError::Syntax),
-        Action::Finish => Err(StatementError::Syntax),
-        Action::Choose(_) => Err(StatementError::Syntax),
-        Action::Assign(..) => Err(StatementError::Syntax),
+        Action::Empty | Action::Ignored => Ok(Line::Nothing),
+        Action::Finish => Ok(Line::Finished),
+        Action::Choose(setting) => choose(desk, *setting, statement.printed),
+        Action::Say(command) => say(desk, limit, command, statement.printed),
+        Action::Assign(name, command) => assign(desk, limit, name, command, statement.printed),
     }
 }
 
-/// Answers a statement that is this command. One that is not built is `Syntax`.
-fn say(alloc: Global, command: &Command, printed: bool) -> Result<Line, StatementError>
-    requires { IsProperCommand (command_tree command.now) }
-    ensures answer { IfOk result (IsAnswered (said (command_tree command.now) printed)) }
-    ensures refusal { IfErr result (IsStopped (said (command_tree command.now) printed)) }
+/// Chooses the theory. Another one than before drops what is bound.
+fn choose(desk: &mut Desk, setting: Setting, printed: bool) -> Result<Line, StatementError>
+    requires { IsDesk desk.old }
+    ensures desk { IsDesk desk.new }
+    ensures line { IfOk result (IsLine printed (context_text (theory_of setting))) }
+    ensures chosen { OnOk result (state_of desk.new ≡ chosen (state_of desk.old) (theory_of setting)) }
+    ensures memory { IfErr result (λ e. e ≡ StatementError.Memory) }
+    ensures unchanged { OnErr result (state_of desk.new ≡ state_of desk.old) }
+{
+    let (context, word) = match setting {
+        Setting::Ofsf => (Context::Fields, b"ofsf".as_slice()),
+        Setting::Pasf => (Context::Integers, b"pasf".as_slice()),
+    };
+    let line = printed_line(desk.alloc, word, printed)?;
+    if desk.context != context {
+        desk.bindings.clear();
+        desk.context = context;
+    }
+    Ok(line)
+}
+
+/// Answers a command. One that is not built is `Syntax`.
+fn say(
+    desk: &mut Desk,
+    limit: u64,
+    command: &Command,
+    printed: bool,
+) -> Result<Line, StatementError>
+    requires proper { IsProperCommand (command_tree command.now) }
+    requires desk { IsDesk desk.old }
+    ensures desk { IsDesk desk.new }
+    ensures answer { IfOk result (λ line. IsCommandAnswered (state_of desk.old) printed (command_tree command.now) line (state_of desk.new)) }
+    ensures refusal { IfErr result (IsCommandStopped (state_of desk.old) limit printed (command_tree command.now)) }
+    ensures unchanged { OnErr result (state_of desk.new ≡ state_of desk.old) }
 {
     match command {
-        Command::Holds(formula, entries) => {
-            if !is_linear(formula) {
-                return Err(StatementError::Syntax);
-            }
-            let holds = holds(alloc, formula, entries)?;
-            truth_line(alloc, holds, printed)
+        Command::Echo(formula) => answer_formula(
+            desk,
+            limit,
+            Wanted::Given,
+            formula,
+            &None,
+            printed,
+        ),
+        Command::Nnf(formula) => {
+            answer_formula(desk, limit, Wanted::NegationNormal, formula, &None, printed)
         }
-        Command::Echo(_) => Err(StatementError::Syntax),
-        Command::Nnf(_) => Err(StatementError::Syntax),
-        Command::Pnf(_) => Err(StatementError::Syntax),
-        Command::Dnf(_) => Err(StatementError::Syntax),
-        Command::Cnf(_) => Err(StatementError::Syntax),
-        Command::Simpl(..) => Err(StatementError::Syntax),
-        Command::Qe(..) => Err(StatementError::Syntax),
-        Command::Qea(..) => Err(StatementError::Syntax),
+        Command::Holds(formula, entries) => answer_holds(desk, formula, entries, printed),
+        Command::Pnf(_) | Command::Dnf(_) | Command::Cnf(_) => Err(StatementError::Syntax),
+        Command::Simpl(..) | Command::Qe(..) | Command::Qea(..) => Err(StatementError::Syntax),
         Command::Sample(..) => Err(StatementError::Syntax),
     }
 }
 
-/// The line of a truth, if it is printed.
-fn truth_line(alloc: Global, truth: bool, printed: bool) -> Result<Line, StatementError>
-    ensures line { IfOk result (IsTruthLine truth printed) }
-    ensures memory { IfErr result (λ e. e ≡ StatementError.Memory) }
+/// Answers an assignment. One whose command is not built is `Syntax`.
+fn assign(
+    desk: &mut Desk,
+    limit: u64,
+    name: &Name,
+    command: &Command,
+    printed: bool,
+) -> Result<Line, StatementError>
+    requires proper { IsProperCommand (command_tree command.now) }
+    requires desk { IsDesk desk.old }
+    ensures desk { IsDesk desk.new }
+    ensures answer { IfOk result (λ line. IsAssigned (state_of desk.old) printed name.now (command_tree command.now) line (state_of desk.new)) }
+    ensures refusal { IfErr result (IsAssignmentStopped (state_of desk.old) limit printed name.now (command_tree command.now)) }
+    ensures unchanged { OnErr result (state_of desk.new ≡ state_of desk.old) }
 {
-    if !printed {
-        return Ok(Line::Nothing);
-    }
-    let text = if truth {
-        b"true".as_slice()
-    } else {
-        b"false".as_slice()
-    };
-    let line = Vec::from_slice(alloc, text).map_err(|_| StatementError::Memory)?;
-    Ok(Line::Printed(line))
-}
-
-/// Whether the formula is true at the point that the entries mean.
-fn holds(alloc: Global, formula: &Formula, entries: &Entries) -> Result<bool, StatementError>
-    requires proper { IsProperFormula (formula_tree formula.now) }
-    requires linear { IsLinear (formula_tree formula.now) }
-    requires entries { AreProperEntries entries.now }
-    ensures says { IfOk result (Says (formula_tree formula.now) entries.now) }
-    ensures accepted { OnOk result (IsAccepted (formula_tree formula.now) entries.now) }
-    ensures refusal { IfErr result (Refuses (formula_tree formula.now) entries.now) }
-{
-    match Point::of(alloc, entries.items(), false) {
-        Ok(point) => {
-            check_valued(alloc, formula, entries)?;
-            match truth_at(formula, &point) {
-                Ok(truth) => Ok(truth),
-                Err(EvalError::Overflow) => Err(StatementError::Overflow),
-                Err(EvalError::ZeroDivisor) => unreachable!(),
-            }
+    match command {
+        Command::Echo(formula) => {
+            answer_formula(desk, limit, Wanted::Given, formula, &Some(*name), printed)
         }
-        Err(PointFault::Overflow) => {
-            check_valued(alloc, formula, entries)?;
-            Err(StatementError::Overflow)
+        Command::Nnf(formula) => {
+            answer_formula(
+                desk,
+                limit,
+                Wanted::NegationNormal,
+                formula,
+                &Some(*name),
+                printed,
+            )
         }
-        Err(PointFault::Double) => Err(StatementError::Point),
-        Err(PointFault::ZeroBelow) => Err(StatementError::Point),
-        Err(PointFault::NotWhole) => unreachable!(),
-        Err(PointFault::Memory) => Err(StatementError::Memory),
-    }
-}
-
-/// Whether each name of the formula has an entry.
-fn check_valued(alloc: Global, formula: &Formula, entries: &Entries) -> Result<(), StatementError>
-    ensures valued { OnOk result (IsValued (formula_tree formula.now) entries.now) }
-    ensures refusal { IfErr result (ValueFault (formula_tree formula.now) entries.now) }
-{
-    match is_valued(alloc, formula, entries.items()) {
-        Ok(true) => Ok(()),
-        Ok(false) => Err(StatementError::Unvalued),
-        Err(_) => Err(StatementError::Memory),
+        Command::Pnf(_) | Command::Dnf(_) | Command::Cnf(_) => Err(StatementError::Syntax),
+        Command::Simpl(..) | Command::Qe(..) | Command::Qea(..) => Err(StatementError::Syntax),
+        Command::Holds(..) | Command::Sample(..) => Err(StatementError::Syntax),
     }
 }

@@ -1,71 +1,54 @@
 use crate::{Limits, Line, Session, StatementError};
 use std::test::Fail;
 
-const LIMITS: Limits = Limits {
-    nodes: 100,
-    workers: 1,
-};
-
+/// A session answers each statement with this line, an empty one where none is printed, or with the word of its refusal.
 #[test]
 fn statements(rt: HostRuntime) -> Result<(), Fail> {
-    let mut session = Session::new(LIMITS);
+    let limits = Limits {
+        nodes: 36,
+        workers: 1,
+    };
+    let mut session = Session::new(rt.alloc(), limits);
     for (statement, want) in [
-        (b"rlholds(x<=y,{x=1/3,y=2/6});".as_slice(), Ok("true")),
-        (b"rlholds(not x<=y,{x=1/3,y=2/6});".as_slice(), Ok("false")),
+        ("y > x;", Ok("y - x > 0")),
+        ("x+y<2*x;", Ok("y - x < 0")),
+        ("f := z*q=0 and x>0;", Err(StatementError::Nonlinear)),
+        ("f := x>0 and y<=1$", Ok("")),
+        ("f := f or z=0;", Ok("f := (x > 0 and y - 1 <= 0) or z = 0")),
+        ("rlnnf(not f);", Ok("(x <= 0 or y - 1 > 0) and z <> 0")),
+        ("rlnnf(not f impl x=1);", Err(StatementError::Nodes)),
+        ("f+1>0;", Err(StatementError::FormulaAsTerm)),
+        ("g or x>0;", Err(StatementError::Unbound)),
+        ("rlholds(f,{x=1/2,y=1,z=7});", Ok("true")),
+        ("rlholds(f,{x=1/2,y=1});", Err(StatementError::Unvalued)),
+        ("rlholds(f,{x=1,x=2});", Err(StatementError::Point)),
         (
-            b"rlholds(x>0 impl 2*(x+1)<=y,{x=1,y=3});".as_slice(),
-            Ok("false"),
+            "rlholds(ex(x,f),{y=0,z=0});",
+            Err(StatementError::Quantified),
         ),
-        (b"rlholds(x>0 repl y=1,{x=0,y=3});".as_slice(), Ok("true")),
-        (b"rlholds(x>0 equiv y=1,{x=0,y=1});".as_slice(), Ok("false")),
-        // Read, and not built.
-        (b"rlqe ex(x,x>0);".as_slice(), Err(StatementError::Syntax)),
-        (
-            b"rlholds(x*y=1,{x=1,y=1});".as_slice(),
-            Err(StatementError::Syntax),
-        ),
-        (
-            b"rlholds(cong(x,1,2),{x=1});".as_slice(),
-            Err(StatementError::Syntax),
-        ),
-        (
-            b"rlholds(x?1,{x=1});".as_slice(),
-            Err(StatementError::Lexical),
-        ),
-        (
-            b"rlholds(x<=y,{x=1/3,y=2/6});;".as_slice(),
-            Err(StatementError::Syntax),
-        ),
-        (
-            b"rlholds(x<=y,{x=1/3,x=2/6});".as_slice(),
-            Err(StatementError::Point),
-        ),
-        (
-            b"rlholds(x<=y,{x=1/3});".as_slice(),
-            Err(StatementError::Unvalued),
-        ),
-        (
-            b"rlholds(false and x<=1,{x=170141183460469231731687303715884105728});".as_slice(),
-            Err(StatementError::Overflow),
-        ),
+        ("rlset Z;", Ok("pasf")),
+        ("f;", Err(StatementError::Unbound)),
+        ("cong(y,x,-2);", Ok("cong(y + x,0,2)")),
+        ("rlholds(cong(x,1,2),{x=1/2});", Err(StatementError::Point)),
+        ("rlholds(cong(x,1,2),{x=-1})$", Ok("")),
+        ("rlqe ex(x,x>0);", Err(StatementError::Syntax)),
     ] {
-        let found = match session.statement(rt.alloc(), statement) {
+        let found = match session.statement(statement.as_bytes()) {
             Ok(Line::Printed(text)) => {
-                assert_eq!(rt; Ok(text.as_slice()), want.map(|line| line.as_bytes()));
+                assert_eq!(rt;
+                    Ok(text.as_slice()),
+                    want.map(|line| line.as_bytes()),
+                    "{statement}"
+                );
                 continue;
             }
-            Ok(_) => Ok("no line"),
+            Ok(_) => Ok(""),
             Err(error) => Err(error),
         };
-        assert_eq!(rt; found, want);
+        assert_eq!(rt; found, want, "{statement}");
     }
-    assert!(rt;
-        matches!(
-            session.statement(rt.alloc(), b"rlholds(true,{})$"),
-            Ok(Line::Nothing)
-        )
-    );
-    assert_eq!(rt; session.limits().nodes, 100);
+    assert!(rt; matches!(session.statement(b"end;"), Ok(Line::Finished)));
+    assert_eq!(rt; session.limits().nodes, 36);
     assert_eq!(rt;
         StatementError::CongruenceContext.word(),
         "congruence-context"

@@ -1,17 +1,33 @@
-use Rattle.std.proofs.Common.{rules}
-use Rattle.redlog.specs.Run.{silent}
-use Rattle.redlog.proofs.Replies.{single_reply, several_reply}
+use Rattle.std.proofs.Common.{◌≡◌, ℕ, List, Bool, true, false, ap, subst, sym, ◌∙◌, arith, rules}
+use Rattle.session_commands.specs.declared.session.Limits.{Limits}
+use Rattle.session_commands.specs.Seen.{state_in}
+use Rattle.session_commands.specs.State.{first_state}
+use Rattle.redlog.specs.declared.answer.TheConstants.{LIMITS}
+use Rattle.redlog.specs.Run.{Adds, piece_bytes}
+use Rattle.redlog.proofs.Replies.{ends, stops, goes_on, no_piece_left}
 use Rattle.redlog.proofs.answer.answer_script.Goals as goal
 
-pub returns-in_default : goal.returns-in_default
-returns-in_default c = search (rules, silent)
+pub returns-then-branch : goal.returns-then-branch
+returns-then-branch c =
+    let s = state_in c.pieces.session in
+    let next = state_in c.answer_piece.new.session in
+    let new = c.answer_piece.new.answers in
+    let adds = subst (λ (b : Bool). Adds s LIMITS.nodes (piece_bytes c.args.script.now c.in-Some.piece.start c.in-Some.piece.end) c.in-Some.piece.start b next c.pieces.answers.lines.items c.pieces.answers.refused new.lines.items new.refused) c.if-branch.true
+    (subst (λ (l : Limits). Adds s l.nodes (piece_bytes c.args.script.now c.in-Some.piece.start c.in-Some.piece.end) c.in-Some.piece.start c.in_ok-answer_piece.field-0 next c.pieces.answers.lines.items c.pieces.answers.refused new.lines.items new.refused) c.pieces.invariant.limits c.in_ok-answer_piece.ensures.adds) in
+    stops LIMITS.nodes c.args.script.now first_state c.pieces.from s c.pieces.answers.lines.items c.pieces.answers.refused c.pieces.invariant.so_far c.in-Some.piece.start c.in-Some.piece.end c.in-Some.ensures.found next new.lines.items new.refused adds
 
-pub returns-then-is_some : goal.returns-then-is_some
-returns-then-is_some c =
-    several_reply c.refusal.result c.args.script.now c.in-Some.piece.start c.in-Some.piece.end c.next_piece-2.result c.in-Some.ensures.found
-    (search rules) c.next_piece-2.ensures.found c.refusal.ensures.lines c.refusal.ensures.refused
+pub pieces-preserved : goal.pieces-preserved
+pieces-preserved c =
+    let s = state_in c.pieces.session in
+    let next = state_in c.answer_piece.new.session in
+    let new = c.answer_piece.new.answers in
+    let adds = subst (λ (b : Bool). Adds s LIMITS.nodes (piece_bytes c.args.script.now c.in-Some.piece.start c.in-Some.piece.end) c.in-Some.piece.start b next c.pieces.answers.lines.items c.pieces.answers.refused new.lines.items new.refused) c.if-branch.false
+    (subst (λ (l : Limits). Adds s l.nodes (piece_bytes c.args.script.now c.in-Some.piece.start c.in-Some.piece.end) c.in-Some.piece.start c.in_ok-answer_piece.field-0 next c.pieces.answers.lines.items c.pieces.answers.refused new.lines.items new.refused) c.pieces.invariant.limits c.in_ok-answer_piece.ensures.adds) in
+    record {
+      within = c.in-Some.ensures.within;
+      limits = c.in_ok-answer_piece.ensures.limits ∙ c.pieces.invariant.limits;
+      so_far = goes_on LIMITS.nodes c.args.script.now first_state c.pieces.from s c.pieces.answers.lines.items c.pieces.answers.refused c.pieces.invariant.so_far c.in-Some.piece.start c.in-Some.piece.end c.in-Some.ensures.found next new.lines.items new.refused adds;
+    }
 
 pub returns : goal.returns
-returns c =
-    single_reply c.answer_piece.result c.args.script.now c.in-Some.piece.start c.in-Some.piece.end c.next_piece-2.result c.in-Some.ensures.found
-    (search rules) c.next_piece-2.ensures.none c.answer_piece.ensures
+returns c = ends LIMITS.nodes c.args.script.now first_state c.pieces.from (state_in c.pieces.session) c.pieces.answers.lines.items c.pieces.answers.refused c.pieces.invariant.so_far (no_piece_left c.next_piece.result c.in_default.not-Some c.next_piece.ensures.none)

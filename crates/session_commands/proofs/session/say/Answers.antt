@@ -1,7 +1,27 @@
-use Rattle.session_commands.proofs.Answered.{truth_answers, holds_is}
+use Rattle.std.proofs.Common.{ap}
+use Rattle.qe_syntax.specs.Trees.{formula_tree}
+use Rattle.qe_syntax.specs.Statements.{command_tree}
+use Rattle.session_commands.specs.declared.formulas.Wanted.TheVariants as wanted
+use Rattle.session_commands.specs.Keeping.{state_of}
+use Rattle.session_commands.proofs.AnswerLemmas.{answered_as, holds_answered, holds_stopped}
 use Rattle.session_commands.proofs.session.say.Goals as goal
 
-pub returns-in_ok-holds-in-Holds-clause-answer : goal.returns-in_ok-holds-in-Holds-clause-answer
-returns-in_ok-holds-in-Holds-clause-answer c =
-    truth_answers _ _ _ c.in_ok-holds-in-Holds.holds c.args.printed c.truth_line.result (holds_is c.args.command.now c.in-Holds.formula c.in-Holds.entries c.args.printed c.in-Holds.is)
-    (c.is_linear.ensures.0 c.if-not-is_linear.false) c.in_ok-holds-in-Holds.ensures.accepted c.in_ok-holds-in-Holds.ensures.says c.truth_line.ensures.line
+pub returns-in-Echo-clause-answer : goal.returns-in-Echo-clause-answer
+returns-in-Echo-clause-answer c =
+    answered_as c.answer_formula.result wanted.Given (formula_tree c.in-Echo.formula) (command_tree c.args.command.now) (state_of c.args.desk.now) (state_of c.answer_formula.new.desk) c.args.printed
+    (ap command_tree c.in-Echo.is) c.answer_formula.ensures.answer
+
+pub returns-in-Nnf-clause-answer : goal.returns-in-Nnf-clause-answer
+returns-in-Nnf-clause-answer c =
+    answered_as c.answer_formula-in-Nnf.result wanted.NegationNormal (formula_tree c.in-Nnf.formula) (command_tree c.args.command.now) (state_of c.args.desk.now) (state_of c.answer_formula-in-Nnf.new.desk) c.args.printed
+    (ap command_tree c.in-Nnf.is) c.answer_formula-in-Nnf.ensures.answer
+
+pub returns-in-Holds-clause-answer : goal.returns-in-Holds-clause-answer
+returns-in-Holds-clause-answer c =
+    holds_answered c.answer_holds.result (formula_tree c.in-Holds.formula) c.in-Holds.entries (command_tree c.args.command.now) (state_of c.args.desk.now) (state_of c.answer_holds.new.desk) c.args.printed
+    (ap command_tree c.in-Holds.is) c.answer_holds.ensures.answer c.answer_holds.ensures.next
+
+pub returns-in-Holds-clause-refusal : goal.returns-in-Holds-clause-refusal
+returns-in-Holds-clause-refusal c =
+    holds_stopped c.answer_holds.result (formula_tree c.in-Holds.formula) c.in-Holds.entries (command_tree c.args.command.now) (state_of c.args.desk.now) c.args.limit c.args.printed
+    (ap command_tree c.in-Holds.is) c.answer_holds.ensures.refused

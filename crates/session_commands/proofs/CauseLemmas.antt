@@ -1,0 +1,241 @@
+-- Causes of refusals, in their order.
+use Rattle.std.proofs.Common.{◌≡◌, ◌⊎◌, inl, inr, ⊎_elim, ℕ, ◌+◌, ◌-◌, ◌*◌, ◌<◌, ◌≤◌, [], sym, subst, refl, arith}
+use Rattle.std.proofs.Math.IntN.{ℤ, pos}
+use Rattle.std.proofs.lemmas.Int.{ints}
+use Rattle.exact_numbers.specs.Limit.{PastLimit}
+use Rattle.exact_numbers.specs.Divides as whole
+use Rattle.exact_numbers.proofs.Ring.{one_mul}
+use Rattle.formula_meaning.specs.Context.{Context, Fields, Integers}
+use Rattle.formula_meaning.specs.Some.{SomeOf}
+use Rattle.formula_meaning.specs.Tree.{Tree}
+use Rattle.qe_syntax.specs.declared.statement.PointEntry.{PointEntry}
+use Rattle.qe_syntax.specs.Statements.{CommandTree}
+use Rattle.qe_syntax.specs.Point.{PassesLimit, IsLeastDenominator}
+use Rattle.qe_syntax.proofs.EntryNumbers.{least_unique}
+use Rattle.formula_tree.specs.Resolving.{place}
+use Rattle.formula_tree.specs.Causes.{IsBound, IsNonlinear, Divides, IsBadModulus, OverflowsInReading}
+use Rattle.formula_resolving.specs.declared.error.StaticError.{StaticError}
+use Rattle.formula_resolving.specs.declared.error.StaticError.TheVariants as static
+use Rattle.formula_resolving.specs.Refusals as reading
+use Rattle.session_commands.specs.declared.line.StatementError.{StatementError}
+use Rattle.session_commands.specs.declared.line.StatementError.TheVariants as error
+use Rattle.session_commands.specs.State.{State}
+use Rattle.session_commands.specs.Commands.{formula_of, entries_of, Gives}
+use Rattle.session_commands.specs.Points.{MeanNoPoint}
+use Rattle.session_commands.specs.Causes.{Use, AsksTruth, IsCause, rank, HasNoCauseBelow, Refuses, IsAccepted}
+use Rattle.session_commands.specs.Steps.{static_refusal, HasNumbers, IsReadable, IsUnread}
+
+-- ---- no entries
+
+no_point : (c : Context) → ¬ (MeanNoPoint c [])
+no_point Fields h = ⊎_elim absurd absurd h
+no_point Integers h = ⊎_elim absurd (⊎_elim absurd absurd) h
+
+-- the order of the causes in reading is theirs among all
+rank_is : (d : StaticError) → rank (static_refusal d) ≡ reading.rank d + 5 + 3 * (reading.rank d - 6)
+rank_is static.Unbound = refl
+rank_is static.FormulaAsTerm = refl
+rank_is static.Nonlinear = refl
+rank_is static.Division = refl
+rank_is static.CongruenceContext = refl
+rank_is static.Modulus = refl
+rank_is static.Depth = refl
+rank_is static.Overflow = refl
+rank_is static.Memory = refl
+
+pub earlier : (d e : StaticError) → rank (static_refusal d) < rank (static_refusal e) → reading.rank d < reading.rank e
+earlier d e h = let p = rank_is d in let q = rank_is e in omega arith
+
+module _ (s : State) (u : Use) (c : CommandTree) (numbers : HasNumbers s.names (formula_of c)) where
+  abbrev Applies : StaticError → Type 0
+  Applies d = reading.Applies s.context s.bound s.names (formula_of c) d
+
+  linear_here : IsNonlinear s.context (place s.names) (formula_of c) → Applies static.Nonlinear
+  linear_here h = subst (λ ns. IsNonlinear s.context (place ns) (formula_of c)) (sym numbers) h
+
+  divides_here : Divides s.context (place s.names) (formula_of c) → Applies static.Division
+  divides_here h = subst (λ ns. Divides s.context (place ns) (formula_of c)) (sym numbers) h
+
+  modulus_here : IsBadModulus s.context (place s.names) (formula_of c) → Applies static.Modulus
+  modulus_here h = subst (λ ns. IsBadModulus s.context (place ns) (formula_of c)) (sym numbers) h
+
+  overflow_here : OverflowsInReading s.context s.bound (place s.names) (formula_of c) → Applies static.Overflow
+  overflow_here h = subst (λ ns. OverflowsInReading s.context s.bound (place ns) (formula_of c)) (sym numbers) h
+
+  -- a cause in reading is one of the command
+  pub cause_of_reading : (d : StaticError) → Applies d → (d ≡ static.Memory) ⊎ IsCause s u c (static_refusal d)
+  cause_of_reading static.Unbound h = inr h
+  cause_of_reading static.FormulaAsTerm h = inr (inl h)
+  cause_of_reading static.Nonlinear h = inr (subst (λ ns. IsNonlinear s.context (place ns) (formula_of c)) numbers h)
+  cause_of_reading static.Division h = inr (subst (λ ns. Divides s.context (place ns) (formula_of c)) numbers h)
+  cause_of_reading static.CongruenceContext h = inr h
+  cause_of_reading static.Modulus h = inr (subst (λ ns. IsBadModulus s.context (place ns) (formula_of c)) numbers h)
+  cause_of_reading static.Depth h = inr h
+  cause_of_reading static.Overflow h = inr (inl (subst (λ ns. OverflowsInReading s.context s.bound (place ns) (formula_of c)) numbers h))
+  cause_of_reading static.Memory h = inl refl
+
+  -- where no cause in reading applies below a place of the order, nor one of the point or of free names, none does
+  pub none_below : (m : ℕ) → m ≤ 16 → ((d : StaticError) → rank (static_refusal d) < m → ¬ (Applies d)) → (6 < m → ¬ (SomeOf (λ (e : PointEntry). IsBound s.bound e.name) (entries_of c)))
+      → (12 < m → ¬ (MeanNoPoint s.context (entries_of c))) → (13 < m → ¬ (IsCause s u c error.Unvalued)) → (14 < m → ¬ (IsCause s u c error.Quantified)) → (15 < m → ¬ (PassesLimit (entries_of c))) → HasNoCauseBelow s u c m
+  none_below m b first bound point valued free within error.Unbound l k = first static.Unbound l k
+  none_below m b first bound point valued free within error.FormulaAsTerm l (inl k) = first static.FormulaAsTerm l k
+  none_below m b first bound point valued free within error.FormulaAsTerm l (inr k) = bound l k
+  none_below m b first bound point valued free within error.Nonlinear l k = first static.Nonlinear l (linear_here k)
+  none_below m b first bound point valued free within error.Division l k = first static.Division l (divides_here k)
+  none_below m b first bound point valued free within error.CongruenceContext l k = first static.CongruenceContext l k
+  none_below m b first bound point valued free within error.Modulus l k = first static.Modulus l (modulus_here k)
+  none_below m b first bound point valued free within error.Depth l k = first static.Depth l k
+  none_below m b first bound point valued free within error.Point l k = point l k
+  none_below m b first bound point valued free within error.Unvalued l k = valued l k
+  none_below m b first bound point valued free within error.Quantified l k = free l k
+  none_below m b first bound point valued free within error.Overflow l (inl k) = first static.Overflow l (overflow_here k)
+  none_below m b first bound point valued free within error.Overflow l (inr k) = within l k
+  none_below m b first bound point valued free within error.Bindings l k = absurd (omega arith)
+  none_below m b first bound point valued free within error.Text l k = absurd (omega arith)
+  none_below m b first bound point valued free within error.Long l k = k
+  none_below m b first bound point valued free within error.Lexical l k = k
+  none_below m b first bound point valued free within error.Nesting l k = k
+  none_below m b first bound point valued free within error.Syntax l k = k
+  none_below m b first bound point valued free within error.Nodes l k = k
+  none_below m b first bound point valued free within error.Memory l k = k
+
+-- ---- commands without a point
+
+one_divides : (n : ℤ) → whole.Divides (pos 1) n
+one_divides n = record { quotient = n; exact = sym (one_mul n) }
+
+-- no number is formed for no entries
+nothing_passes : ¬ (PassesLimit [])
+nothing_passes (inl (inl h)) = absurd h
+nothing_passes (inl (inr h)) =
+    let least : IsLeastDenominator [] (pos 1) = record { positive = omega (arith, ints); common = tt; least = λ n k. one_divides n } in
+    let d : h.0 ≡ pos 1 = least_unique h.1 least in
+    let past = subst PastLimit d h.2 in
+    absurd (omega (arith, past))
+nothing_passes (inr h) = absurd h.2
+
+-- the command has no point, and gives one formula
+pub record GivesOne (s : State) (c : CommandTree) (t : Tree) : Type 0 where
+  pub no_entries : entries_of c ≡ []
+  pub no_truth : ¬ (AsksTruth c)
+  pub gives : Gives s c t
+  pub one : (other : Tree) → Gives s c other → other ≡ t
+
+module _ (s : State) (u : Use) (c : CommandTree) (t : Tree) (numbers : HasNumbers s.names (formula_of c)) (single : GivesOne s c t) where
+  no_bound : ¬ (SomeOf (λ (e : PointEntry). IsBound s.bound e.name) (entries_of c))
+  no_bound h = let k = subst (SomeOf (λ (e : PointEntry). IsBound s.bound e.name)) single.no_entries h in absurd k
+
+  no_meaning : ¬ (MeanNoPoint s.context (entries_of c))
+  no_meaning h = no_point s.context (subst (MeanNoPoint s.context) single.no_entries h)
+
+  no_past : ¬ (PassesLimit (entries_of c))
+  no_past h = nothing_passes (subst PassesLimit single.no_entries h)
+
+  plain_below : (m : ℕ) → m ≤ 16 → ((d : StaticError) → rank (static_refusal d) < m → ¬ (reading.Applies s.context s.bound s.names (formula_of c) d)) → HasNoCauseBelow s u c m
+  plain_below m b first = none_below s u c numbers m b first (λ l. no_bound) (λ l. no_meaning) (λ l k. single.no_truth k.0) (λ l k. single.no_truth k.0) (λ l. no_past)
+
+  unread_one : (limit : ℕ) (d : StaticError) → reading.IsFirstCause s.context s.bound s.names (formula_of c) d → Refuses s limit u c (static_refusal d)
+  unread_one limit static.Memory h = tt
+  unread_one limit static.Unbound h = record { applies = h.applies; first = plain_below 5 (omega arith) (λ e l. h.first e (earlier e static.Unbound l)) }
+  unread_one limit static.FormulaAsTerm h = record { applies = inl h.applies; first = plain_below 6 (omega arith) (λ e l. h.first e (earlier e static.FormulaAsTerm l)) }
+  unread_one limit static.Nonlinear h = record {
+    applies = subst (λ ns. IsNonlinear s.context (place ns) (formula_of c)) numbers h.applies;
+    first = plain_below 7 (omega arith) (λ e l. h.first e (earlier e static.Nonlinear l));
+  }
+  unread_one limit static.Division h = record {
+    applies = subst (λ ns. Divides s.context (place ns) (formula_of c)) numbers h.applies;
+    first = plain_below 8 (omega arith) (λ e l. h.first e (earlier e static.Division l));
+  }
+  unread_one limit static.CongruenceContext h = record { applies = h.applies; first = plain_below 9 (omega arith) (λ e l. h.first e (earlier e static.CongruenceContext l)) }
+  unread_one limit static.Modulus h = record {
+    applies = subst (λ ns. IsBadModulus s.context (place ns) (formula_of c)) numbers h.applies;
+    first = plain_below 10 (omega arith) (λ e l. h.first e (earlier e static.Modulus l));
+  }
+  unread_one limit static.Depth h = record { applies = h.applies; first = plain_below 11 (omega arith) (λ e l. h.first e (earlier e static.Depth l)) }
+  unread_one limit static.Overflow h = record {
+    applies = inl (inl (subst (λ ns. OverflowsInReading s.context s.bound (place ns) (formula_of c)) numbers h.applies));
+    first = plain_below 15 (omega arith) (λ e l. h.first e (earlier e static.Overflow l));
+  }
+
+  pub unread_refuses : (limit : ℕ) (e : StatementError) → IsUnread s (formula_of c) e → Refuses s limit u c e
+  unread_refuses limit e h = subst (Refuses s limit u c) (sym h.1) (unread_one limit h.0 h.2)
+
+  readable_applies : IsReadable s (formula_of c) → (d : StaticError) → rank (static_refusal d) < 16 → ¬ (reading.Applies s.context s.bound s.names (formula_of c) d)
+  readable_applies h static.Unbound l k = h.bound_names k
+  readable_applies h static.FormulaAsTerm l k = h.variables k
+  readable_applies h static.Nonlinear l k = h.linear k
+  readable_applies h static.Division l k = h.undivided k
+  readable_applies h static.CongruenceContext l k = h.congruences k
+  readable_applies h static.Modulus l k = h.moduli k
+  readable_applies h static.Depth l k = h.flat k
+  readable_applies h static.Overflow l k = h.within k
+  readable_applies h static.Memory l k = absurd (omega arith)
+
+  pub readable_below : IsReadable s (formula_of c) → HasNoCauseBelow s u c 16
+  readable_below h = plain_below 16 (omega arith) (readable_applies h)
+
+-- ---- the later causes
+
+module _ (s : State) (u : Use) (c : CommandTree) where
+  pub below_17 : HasNoCauseBelow s u c 16 → HasNoCauseBelow s u c 17
+  below_17 h error.Long l k = k
+  below_17 h error.Lexical l k = k
+  below_17 h error.Nesting l k = k
+  below_17 h error.Syntax l k = k
+  below_17 h error.Unbound l k = h error.Unbound (omega arith) k
+  below_17 h error.FormulaAsTerm l k = h error.FormulaAsTerm (omega arith) k
+  below_17 h error.Nonlinear l k = h error.Nonlinear (omega arith) k
+  below_17 h error.Division l k = h error.Division (omega arith) k
+  below_17 h error.CongruenceContext l k = h error.CongruenceContext (omega arith) k
+  below_17 h error.Modulus l k = h error.Modulus (omega arith) k
+  below_17 h error.Depth l k = h error.Depth (omega arith) k
+  below_17 h error.Point l k = h error.Point (omega arith) k
+  below_17 h error.Unvalued l k = h error.Unvalued (omega arith) k
+  below_17 h error.Quantified l k = h error.Quantified (omega arith) k
+  below_17 h error.Overflow l k = h error.Overflow (omega arith) k
+  below_17 h error.Nodes l k = k
+  below_17 h error.Bindings l k = absurd (omega arith)
+  below_17 h error.Text l k = absurd (omega arith)
+  below_17 h error.Memory l k = k
+
+  pub below_18 : HasNoCauseBelow s u c 17 → ¬ (IsCause s u c error.Bindings) → HasNoCauseBelow s u c 18
+  below_18 h b error.Long l k = k
+  below_18 h b error.Lexical l k = k
+  below_18 h b error.Nesting l k = k
+  below_18 h b error.Syntax l k = k
+  below_18 h b error.Unbound l k = h error.Unbound (omega arith) k
+  below_18 h b error.FormulaAsTerm l k = h error.FormulaAsTerm (omega arith) k
+  below_18 h b error.Nonlinear l k = h error.Nonlinear (omega arith) k
+  below_18 h b error.Division l k = h error.Division (omega arith) k
+  below_18 h b error.CongruenceContext l k = h error.CongruenceContext (omega arith) k
+  below_18 h b error.Modulus l k = h error.Modulus (omega arith) k
+  below_18 h b error.Depth l k = h error.Depth (omega arith) k
+  below_18 h b error.Point l k = h error.Point (omega arith) k
+  below_18 h b error.Unvalued l k = h error.Unvalued (omega arith) k
+  below_18 h b error.Quantified l k = h error.Quantified (omega arith) k
+  below_18 h b error.Overflow l k = h error.Overflow (omega arith) k
+  below_18 h b error.Nodes l k = k
+  below_18 h b error.Bindings l k = b k
+  below_18 h b error.Text l k = absurd (omega arith)
+  below_18 h b error.Memory l k = k
+
+  pub below_19 : HasNoCauseBelow s u c 18 → ¬ (IsCause s u c error.Text) → IsAccepted s u c
+  below_19 h b error.Long l k = k
+  below_19 h b error.Lexical l k = k
+  below_19 h b error.Nesting l k = k
+  below_19 h b error.Syntax l k = k
+  below_19 h b error.Unbound l k = h error.Unbound (omega arith) k
+  below_19 h b error.FormulaAsTerm l k = h error.FormulaAsTerm (omega arith) k
+  below_19 h b error.Nonlinear l k = h error.Nonlinear (omega arith) k
+  below_19 h b error.Division l k = h error.Division (omega arith) k
+  below_19 h b error.CongruenceContext l k = h error.CongruenceContext (omega arith) k
+  below_19 h b error.Modulus l k = h error.Modulus (omega arith) k
+  below_19 h b error.Depth l k = h error.Depth (omega arith) k
+  below_19 h b error.Point l k = h error.Point (omega arith) k
+  below_19 h b error.Unvalued l k = h error.Unvalued (omega arith) k
+  below_19 h b error.Quantified l k = h error.Quantified (omega arith) k
+  below_19 h b error.Overflow l k = h error.Overflow (omega arith) k
+  below_19 h b error.Nodes l k = k
+  below_19 h b error.Bindings l k = h error.Bindings (omega arith) k
+  below_19 h b error.Text l k = b k
+  below_19 h b error.Memory l k = k

@@ -1,0 +1,126 @@
+-- What is kept on the desk while the store grows, and when its formulas are given up.
+use Rattle.std.proofs.Common.{◌≡◌, ℕ, ◌≤◌, List, [], ◌∷◌, ◌++◌, sym, ap, ◌∙◌, subst, refl, length, take, map, arith}
+use Rattle.std.proofs.lemmas.List.{length-map, length-append}
+use Rattle.std.specs.List.{AllByRecursion, IsDistinct, fold}
+use Rattle.std.specs.Map.{keys_of}
+use Rattle.formula_meaning.specs.Context.{Context}
+use Rattle.formula_meaning.specs.Tree.{Tree}
+use Rattle.atom_normal.specs.declared.atoms.Context.{Context as Theory}
+use Rattle.atom_normal.specs.Atoms.{context_of}
+use Rattle.qe_syntax.specs.Value.{same_name}
+use Rattle.formula_tree.specs.declared.shape.Shape.{Shape}
+use Rattle.formula_tree.specs.Makers.{AreMade}
+use Rattle.formula_tree.specs.Names.{with_name}
+use Rattle.formula_tree.specs.Resolving.{BoundTrees}
+use Rattle.formula_tree.proofs.PlaceLaws.{after_distinct}
+use Rattle.formula_resolving.specs.Numbering.{Grows}
+use Rattle.formula_resolving.specs.Refusals.{AreIds, trees_bound}
+use Rattle.formula_store.specs.declared.id.FormulaId.{FormulaId}
+use Rattle.formula_store.specs.Nodes.{tree, IsId}
+use Rattle.session_commands.specs.declared.desk.Desk.{Desk}
+use Rattle.session_commands.specs.State.{State}
+use Rattle.session_commands.specs.Keeping.{state_of, ids_bound, IsSound, IsDesk}
+use Rattle.session_commands.specs.Steps.{KeepsDesk, GrowsDesk}
+use Rattle.session_commands.proofs.BindingLemmas.{trees_kept, ids_kept, trees_by_parts, ids_by_list}
+use Rattle.session_commands.proofs.SoundLemmas.{more_formula}
+
+pub state_parts : (c d : Context) (ns ms : List (List ℕ)) (bs es : BoundTrees) → c ≡ d → ns ≡ ms → bs ≡ es
+    → (let s : State = record { context = c; names = ns; bound = bs } in let t : State = record { context = d; names = ms; bound = es } in s ≡ t)
+state_parts c d ns ms bs es p q r = λ j. record { context = p j; names = q j; bound = r j }
+
+-- the state is the same where the store alone grew
+pub same_state : (old new : Desk) → AreIds (IsId old.store) old.bindings → KeepsDesk old new → state_of new ≡ state_of old
+same_state old new ids k =
+    state_parts _ _ _ _ _ _ (ap context_of k.context) k.names
+    (ap (trees_bound (tree new.store)) k.bindings ∙ trees_kept (IsId old.store) (tree old.store) (IsId new.store) (tree new.store) old.bindings k.store ids)
+
+pub same_desk : (old new : Desk) → IsDesk old → KeepsDesk old new → IsDesk new
+same_desk old new h k = record {
+  ids = subst (AreIds (IsId new.store)) (sym k.bindings) (ids_kept (IsId old.store) (tree old.store) (IsId new.store) (tree new.store) old.bindings k.store h.ids);
+  bound_once = subst (λ es. IsDistinct same_name (keys_of es)) (sym k.bindings) h.bound_once;
+  sound = subst IsSound (sym (same_state old new h.ids k)) h.sound;
+}
+
+pub length_grows : (old new : List (List ℕ)) → Grows old new → length old ≤ length new
+length_grows old new g = let e = ap length g.is ∙ length-append old g.more in omega arith
+
+-- more names leave a state sound where they are different
+pub sound_with : (s : State) (names : List (List ℕ)) → IsSound s → IsDistinct same_name names → length s.names ≤ length names → IsSound (record { context = s.context; names = names; bound = s.bound })
+sound_with s names h d l = record {
+  names_once = d;
+  formulas = λ x t e. more_formula s.context (length s.names) (length names) t l (h.formulas x t e);
+}
+
+-- variables that are put in
+pub sound_named : (s : State) (xs : List (List ℕ)) → IsSound s → length s.names ≤ length (fold with_name s.names xs) → IsSound (record { context = s.context; names = fold with_name s.names xs; bound = s.bound })
+sound_named s xs h l = sound_with s (fold with_name s.names xs) h (after_distinct xs s.names h.names_once) l
+
+-- ---- formulas given up
+
+module _ (old : Desk) (bindings : List (List ℕ × FormulaId)) (nodes : List (Shape FormulaId)) (kept : ℕ) (ids : List FormulaId)
+    (keys : keys_of bindings ≡ keys_of old.bindings) (bound : ids_bound bindings ≡ ids) (made : AreMade (IsId nodes) (tree nodes) ids (map (tree old.store) (ids_bound old.bindings))) where
+  abbrev after : Desk
+  after = record { alloc = old.alloc; context = old.context; names = old.names; bindings = bindings; store = nodes; kept = kept }
+
+  pub rebound_state : state_of after ≡ state_of old
+  rebound_state =
+      state_parts _ _ _ _ _ _ refl refl
+      (trees_by_parts (tree old.store) (tree nodes) old.bindings bindings keys (ap (map (tree nodes)) bound ∙ made.same))
+
+  pub rebound_desk : IsDesk old → IsDesk after
+  rebound_desk h = record {
+    ids = ids_by_list (IsId nodes) bindings (subst (AllByRecursion (IsId nodes)) (sym bound) made.are);
+    bound_once = subst (IsDistinct same_name) (sym keys) h.bound_once;
+    sound = subst IsSound (sym rebound_state) h.sound;
+  }
+
+pub ids_as_many : (t u : FormulaId → Tree) (roots ids : List FormulaId) → map u ids ≡ map t roots → length ids ≡ length roots
+ids_as_many t u roots ids e = sym (length-map ids u) ∙ ap length e ∙ length-map roots t
+
+-- with nothing bound, in any theory
+pub cleared_desk : (old : Desk) (context : Theory) (bindings : List (List ℕ × FormulaId)) (nodes : List (Shape FormulaId)) (kept : ℕ) → bindings ≡ [] → IsDesk old
+    → IsDesk (record { alloc = old.alloc; context = context; names = old.names; bindings = bindings; store = nodes; kept = kept })
+unfolding IsDistinct
+cleared_desk old context bindings nodes kept e h =
+    subst (λ es. IsDesk (record { alloc = old.alloc; context = context; names = old.names; bindings = es; store = nodes; kept = kept })) (sym e)
+    (record { ids = tt; bound_once = tt; sound = record { names_once = h.sound.names_once; formulas = λ x t f. absurd (cc) } })
+
+-- ---- steps one after another
+
+pub keeps_itself : (old : Desk) (names : List (List ℕ)) → Grows old.names names
+    → GrowsDesk old (record { alloc = old.alloc; context = old.context; names = names; bindings = old.bindings; store = old.store; kept = old.kept })
+keeps_itself old names g = record { context = refl; names = g; bindings = refl; store = record { is = λ id h. h; same = λ id h. refl } }
+
+pub grows_then : (first second third : Desk) → GrowsDesk first second → KeepsDesk second third → GrowsDesk first third
+grows_then first second third g k = record {
+  context = k.context ∙ g.context;
+  names = subst (Grows first.names) (sym k.names) g.names;
+  bindings = k.bindings ∙ g.bindings;
+  store = record { is = λ id h. k.store.is id (g.store.is id h); same = λ id h. k.store.same id (g.store.is id h) ∙ g.store.same id h };
+}
+
+pub keeps_then : (first second third : Desk) → KeepsDesk first second → KeepsDesk second third → KeepsDesk first third
+keeps_then first second third g k = record {
+  context = k.context ∙ g.context;
+  names = k.names ∙ g.names;
+  bindings = k.bindings ∙ g.bindings;
+  store = record { is = λ id h. k.store.is id (g.store.is id h); same = λ id h. k.store.same id (g.store.is id h) ∙ g.store.same id h };
+}
+
+take_front : (xs ys : List (List ℕ)) → take (length xs) (xs ++ ys) ≡ xs
+take_front [] ys = refl
+take_front (x ∷ xs) ys = ap (λ zs. x ∷ zs) (take_front xs ys)
+
+-- the names taken back
+module _ (old new : Desk) (g : GrowsDesk old new) where
+  abbrev back : Desk
+  back = record { alloc = new.alloc; context = new.context; names = take (length old.names) new.names; bindings = new.bindings; store = new.store; kept = new.kept }
+
+  taken_back : KeepsDesk old back
+  taken_back = record { context = g.context; names = ap (take (length old.names)) g.names.is ∙ take_front old.names g.names.more; bindings = g.bindings; store = g.store }
+
+  pub back_desk : IsDesk old → IsDesk back
+  back_desk h = same_desk old back h taken_back
+
+  pub back_state : IsDesk old → state_of back ≡ state_of old
+  back_state h = same_state old back h.ids taken_back

@@ -1,0 +1,138 @@
+-- The steps of a command that gives a formula, on the desk.
+use Rattle.std.proofs.Common.{◌≡◌, ⊎_elim, ℕ, List, Bool, Option, Some, None, sym, ap, ap₂, ◌∙◌, subst, refl, length}
+use Rattle.std.specs.List.{fold, IsDistinct}
+use Rattle.std.specs.Map.{keys_of}
+use Rattle.formula_meaning.specs.Tree.{Tree}
+use Rattle.qe_syntax.specs.Trees.{FormulaTree}
+use Rattle.qe_syntax.specs.Proper.{IsProperFormula}
+use Rattle.qe_syntax.specs.Value.{same_name}
+use Rattle.formula_tree.specs.Bindings.{bind}
+use Rattle.formula_tree.specs.Makers.{IsMade}
+use Rattle.formula_tree.specs.Names.{with_name}
+use Rattle.formula_tree.specs.Resolving.{formula_variables, resolve}
+use Rattle.formula_tree.proofs.PlaceLaws.{after_distinct}
+use Rattle.formula_resolving.specs.Numbering.{Grows}
+use Rattle.formula_resolving.specs.Refusals.{AreIds}
+use Rattle.formula_store.specs.declared.id.FormulaId.{FormulaId}
+use Rattle.formula_store.specs.Nodes.{tree, IsId}
+use Rattle.redlog_printer.specs.Within.{IsTreeWithin}
+use Rattle.redlog_printer.specs.Bound.{HasTwoMembers}
+use Rattle.session_commands.specs.declared.desk.Desk.{Desk}
+use Rattle.session_commands.specs.declared.line.Line.{Line}
+use Rattle.session_commands.specs.declared.line.StatementError.{StatementError}
+use Rattle.session_commands.specs.declared.line.StatementError.TheVariants as error
+use Rattle.session_commands.specs.declared.formulas.Wanted.{Wanted}
+use Rattle.session_commands.specs.State.{State}
+use Rattle.session_commands.specs.Commands.{named}
+use Rattle.session_commands.specs.Causes.{formula_line, Refuses}
+use Rattle.session_commands.specs.Keeping.{state_of, IsSessionFormula, IsSound, IsDesk}
+use Rattle.session_commands.specs.Reply.{IsLine}
+use Rattle.session_commands.specs.Steps.{KeepsDesk, HasNumbers, IsUnread, IsReadable, command_of, use_of, IsGiven, FormFault, MayBind, TargetFault, LineFault, state_with, bound_after}
+use Rattle.session_commands.proofs.BindingLemmas.{bind_trees, bind_ids, bind_distinct, bound_there}
+use Rattle.session_commands.proofs.DeskLemmas.{state_parts, same_state, same_desk, sound_with, length_grows}
+use Rattle.session_commands.proofs.GivenLemmas.{named_is, numbers_of, given_tree, refused_unread, refused_form, refused_target, refused_line, is_given, given_formula}
+
+-- a state with one more formula bound is sound
+sound_bound : (s : State) (x : List ℕ) (t : Tree) → IsSound s → IsSessionFormula s.context (length s.names) t → IsSound (state_with s (Some x) t)
+sound_bound s x t h k = record {
+  names_once = h.names_once;
+  formulas = λ y u e. ⊎_elim (λ old. h.formulas y u old) (λ new. subst (IsSessionFormula s.context (length s.names)) (sym new) k) (bound_there s.bound x y t u e);
+}
+
+module _ (w : Wanted) (f : FormulaTree) (desk : Desk) (names : List (List ℕ)) (is : names ≡ fold with_name desk.names (formula_variables f)) where
+  -- the desk where the variables have their numbers
+  abbrev pub numbered : Desk
+  numbered = record { alloc = desk.alloc; context = desk.context; names = names; bindings = desk.bindings; store = desk.store; kept = desk.kept }
+
+  start : named (state_of desk) (command_of w f) ≡ state_of numbered
+  start = named_is w f (state_of desk) ∙ state_parts _ _ _ _ _ _ refl (sym is) refl
+
+  pub numbers : HasNumbers names f
+  numbers = subst (λ ms. HasNumbers ms f) (sym is) (numbers_of f desk.names)
+
+  pub numbered_desk : IsDesk desk → Grows desk.names names → IsDesk numbered
+  numbered_desk h g = record {
+    ids = h.ids;
+    bound_once = h.bound_once;
+    sound = sound_with (state_of desk) names h.sound (subst (λ ms. IsDistinct same_name ms) (sym is) (after_distinct (formula_variables f) desk.names h.sound.names_once)) (length_grows desk.names names g);
+  }
+
+  module _ (limit : ℕ) (target : Option (List ℕ)) (printed : Bool) where
+    refuses : (e : StatementError) → Refuses (state_of numbered) limit (use_of target printed) (command_of w f) e → Refuses (named (state_of desk) (command_of w f)) limit (use_of target printed) (command_of w f) e
+    refuses e h = subst (λ s. Refuses s limit (use_of target printed) (command_of w f) e) (sym start) h
+
+    pub unread_step : (e : StatementError) → IsUnread (state_of numbered) f e → Refuses (named (state_of desk) (command_of w f)) limit (use_of target printed) (command_of w f) e
+    unread_step e h = refuses e (refused_unread w f (state_of numbered) numbers limit target printed e h)
+
+    module _ (readable : IsReadable (state_of numbered) f) where
+      pub form_step : (t : Tree) → t ≡ resolve (state_of numbered).context (state_of numbered).bound names f → (e : StatementError) → FormFault w limit t e → Refuses (named (state_of desk) (command_of w f)) limit (use_of target printed) (command_of w f) e
+      form_step t p e h = refuses e (refused_form w f (state_of numbered) numbers limit target printed readable e (subst (λ u. FormFault w limit u e) p h))
+
+      -- the desk after the form was made, and its id
+      module _ (later : Desk) (h : IsDesk numbered) (k : KeepsDesk numbered later) (id : FormulaId) (made : IsMade (IsId later.store) (tree later.store) id (given_tree w f (state_of numbered))) where
+        same : state_of later ≡ state_of numbered
+        same = same_state numbered later h.ids k
+
+        bound_same : (state_of later).bound ≡ (state_of numbered).bound
+        bound_same = ap (λ (s : State). s.bound) same
+
+        pub target_step : (e : StatementError) → TargetFault (state_of later).bound target (tree later.store id) e → Refuses (named (state_of desk) (command_of w f)) limit (use_of target printed) (command_of w f) e
+        target_step e t =
+            refuses e (refused_target w f (state_of numbered) numbers limit target printed readable e
+            (subst (λ b. TargetFault b target (given_tree w f (state_of numbered)) e) bound_same (subst (λ u. TargetFault (state_of later).bound target u e) made.same t)))
+
+        may_bind : MayBind (state_of later).bound target (tree later.store id) → MayBind (state_of numbered).bound target (given_tree w f (state_of numbered))
+        may_bind b = subst (λ c. MayBind c target (given_tree w f (state_of numbered))) bound_same (subst (MayBind (state_of later).bound target) made.same b)
+
+        line_is : formula_line target later.names (tree later.store id) ≡ formula_line target names (given_tree w f (state_of numbered))
+        line_is = ap₂ (formula_line target) k.names made.same
+
+        pub line_step : MayBind (state_of later).bound target (tree later.store id) → (e : StatementError) → LineFault printed (formula_line target later.names (tree later.store id)) e
+            → Refuses (named (state_of desk) (command_of w f)) limit (use_of target printed) (command_of w f) e
+        line_step b e t = refuses e (refused_line w f (state_of numbered) numbers limit target printed readable (may_bind b) e (subst (λ text. LineFault printed text e) line_is t))
+
+        session_formula : IsProperFormula f → IsSessionFormula (state_of numbered).context (length names) (given_tree w f (state_of numbered))
+        session_formula proper = given_formula w f (state_of numbered) numbers limit target printed h.sound proper readable
+
+        pub within_step : IsProperFormula f → IsTreeWithin (length later.names) (tree later.store id)
+        within_step proper = subst (λ ns. IsTreeWithin (length ns) (tree later.store id)) (sym k.names) (subst (IsTreeWithin (length names)) (sym made.same) (session_formula proper).within)
+
+        pub members_step : IsProperFormula f → HasTwoMembers (tree later.store id)
+        members_step proper = subst HasTwoMembers (sym made.same) (session_formula proper).members
+
+        -- the desk with the formula bound
+        abbrev pub last : Desk
+        last = record { alloc = later.alloc; context = later.context; names = later.names; bindings = bound_after later.bindings target id; store = later.store; kept = later.kept }
+
+        last_state : (o : Option (List ℕ)) → state_of (record { alloc = later.alloc; context = later.context; names = later.names; bindings = bound_after later.bindings o id; store = later.store; kept = later.kept })
+            ≡ state_with (state_of numbered) o (given_tree w f (state_of numbered))
+        last_state None = same
+        last_state (Some x) =
+            state_parts _ _ _ _ _ _ (ap (λ (s : State). s.context) same) (ap (λ (s : State). s.names) same)
+            (sym (bind_trees (tree later.store) later.bindings x id) ∙ ap₂ (λ b t. bind b x t) bound_same made.same)
+
+        pub answer_step : MayBind (state_of later).bound target (tree later.store id) → (answer : Line) → IsLine printed (formula_line target later.names (tree later.store id)) answer
+            → ¬ (LineFault printed (formula_line target later.names (tree later.store id)) error.Text) → IsGiven (named (state_of desk) (command_of w f)) (use_of target printed) (command_of w f) answer (state_of last)
+        answer_step b answer line short =
+            subst (λ s. IsGiven s (use_of target printed) (command_of w f) answer (state_of last)) (sym start)
+            (subst (IsGiven (state_of numbered) (use_of target printed) (command_of w f) answer) (sym (last_state target))
+            (is_given w f (state_of numbered) numbers limit target printed readable (may_bind b) answer (subst (λ text. IsLine printed text answer) line_is line)
+            (λ t. short (subst (λ text. LineFault printed text error.Text) (sym line_is) t))))
+
+        last_sound : IsProperFormula f → (o : Option (List ℕ)) → IsSound (state_with (state_of numbered) o (given_tree w f (state_of numbered)))
+        last_sound proper None = h.sound
+        last_sound proper (Some x) = sound_bound (state_of numbered) x (given_tree w f (state_of numbered)) h.sound (session_formula proper)
+
+        kept_desk : IsDesk later
+        kept_desk = same_desk numbered later h k
+
+        last_ids : (o : Option (List ℕ)) → AreIds (IsId later.store) (bound_after later.bindings o id)
+        last_ids None = kept_desk.ids
+        last_ids (Some x) = bind_ids (IsId later.store) later.bindings x id kept_desk.ids made.is
+
+        last_once : (o : Option (List ℕ)) → IsDistinct same_name (keys_of (bound_after later.bindings o id))
+        last_once None = kept_desk.bound_once
+        last_once (Some x) = bind_distinct later.bindings x id kept_desk.bound_once
+
+        pub desk_step : IsProperFormula f → IsDesk last
+        desk_step proper = record { ids = last_ids target; bound_once = last_once target; sound = subst IsSound (sym (last_state target)) (last_sound proper target) }

@@ -1,0 +1,138 @@
+-- Why a command is refused: each cause on its own, over the whole statement, and their order. The state is one in which the
+-- variables of the command have their numbers.
+use Rattle.std.specs.Prelude.{◌≡◌, ◌⊎◌, ◌*◌, ℕ, ◌<◌, ◌≤◌, List, ◌++◌, Bool, true, Option, Some, None, length, codes}
+use Rattle.formula_meaning.specs.Some.{SomeOf}
+use Rattle.formula_meaning.specs.Tree.{Tree, tree_distinct}
+use Rattle.qe_syntax.specs.declared.statement.PointEntry.{PointEntry}
+use Rattle.qe_syntax.specs.Point.{PassesLimit}
+use Rattle.qe_syntax.specs.Statements.{CommandTree, Echo, Nnf, Pnf, Dnf, Cnf, Simpl, Qe, Qea, Holds, Sample}
+use Rattle.formula_tree.specs.Bindings.{bound_to, most_bound}
+use Rattle.formula_tree.specs.Resolving.{BoundTrees, place}
+use Rattle.formula_tree.specs.Causes.{IsUnbound, NamesFormulaAsTerm, IsBound, IsNonlinear, Divides, CongruenceInFields, IsBadModulus, IsTooDeep, OverflowsInReading}
+use Rattle.redlog_printer.specs.Text.{tree_text}
+use Rattle.redlog_printer.specs.Writing.{text_limit}
+use Rattle.session_commands.specs.declared.line.StatementError.{StatementError}
+use Rattle.session_commands.specs.declared.line.StatementError.TheVariants as error
+use Rattle.session_commands.specs.declared.formulas.TheConstants.{MOST_SUBFORMULAS}
+use Rattle.session_commands.specs.State.{State}
+use Rattle.session_commands.specs.Commands.{formula_of, entries_of, resolved, Gives}
+use Rattle.session_commands.specs.Points.{MeanNoPoint, HasUnvalued, IsQuantified, TruthPasses}
+
+-- what is done with what a command gives: a name that it is bound to, and whether its line is printed
+pub record Use : Type 0 where
+  pub target : Option (List ℕ)
+  pub printed : Bool
+
+-- the command asks for the truth at a point
+abbrev pub AsksTruth : CommandTree → Type 0
+AsksTruth (Echo f) = ⊥
+AsksTruth (Nnf f) = ⊥
+AsksTruth (Pnf f) = ⊥
+AsksTruth (Dnf f) = ⊥
+AsksTruth (Cnf f) = ⊥
+AsksTruth (Simpl f given) = ⊥
+AsksTruth (Qe f given) = ⊥
+AsksTruth (Qea f given) = ⊥
+AsksTruth (Holds f es) = Unit {0}
+AsksTruth (Sample f es) = ⊥
+
+-- the command gives a negation normal form
+abbrev pub AsksNegationNormal : CommandTree → Type 0
+AsksNegationNormal (Echo f) = ⊥
+AsksNegationNormal (Nnf f) = Unit {0}
+AsksNegationNormal (Pnf f) = ⊥
+AsksNegationNormal (Dnf f) = ⊥
+AsksNegationNormal (Cnf f) = ⊥
+AsksNegationNormal (Simpl f given) = ⊥
+AsksNegationNormal (Qe f given) = ⊥
+AsksNegationNormal (Qea f given) = ⊥
+AsksNegationNormal (Holds f es) = ⊥
+AsksNegationNormal (Sample f es) = ⊥
+
+-- ---- what is bound and printed
+
+-- the name, if there is one, is new, and as many names are bound as may be
+abbrev pub HasNoRoom : BoundTrees → Option (List ℕ) → Type 0
+HasNoRoom bound None = ⊥
+HasNoRoom bound (Some x) = (bound_to bound x ≡ None) × (most_bound ≤ length bound)
+
+-- the formula is bound, and has more distinct subformulas than a bound formula may have
+abbrev pub IsTooLarge : Option (List ℕ) → Tree → Type 0
+IsTooLarge None t = ⊥
+IsTooLarge (Some x) t = MOST_SUBFORMULAS < tree_distinct t
+
+-- the line of a formula: its text, after the name that it is bound to
+abbrev pub formula_line : Option (List ℕ) → List (List ℕ) → Tree → List ℕ
+formula_line None names t = tree_text names t
+formula_line (Some x) names t = x ++ codes " := " ++ tree_text names t
+
+-- ---- causes
+
+-- The cause applies. Each of these is answered wherever it applies and no earlier one does.
+abbrev pub IsCause : State → Use → CommandTree → StatementError → Type 0
+IsCause s u c error.Unbound = IsUnbound s.bound (formula_of c)
+IsCause s u c error.FormulaAsTerm = NamesFormulaAsTerm s.bound (formula_of c) ⊎ SomeOf (λ (e : PointEntry). IsBound s.bound e.name) (entries_of c)
+IsCause s u c error.Nonlinear = IsNonlinear s.context (place s.names) (formula_of c)
+IsCause s u c error.Division = Divides s.context (place s.names) (formula_of c)
+IsCause s u c error.CongruenceContext = CongruenceInFields s.context (formula_of c)
+IsCause s u c error.Modulus = IsBadModulus s.context (place s.names) (formula_of c)
+IsCause s u c error.Depth = IsTooDeep s.bound (formula_of c)
+IsCause s u c error.Point = MeanNoPoint s.context (entries_of c)
+IsCause s u c error.Unvalued = AsksTruth c × HasUnvalued s.bound (place s.names) (formula_of c) (entries_of c)
+-- until quantifiers are eliminated
+IsCause s u c error.Quantified = AsksTruth c × IsQuantified s.bound (formula_of c)
+IsCause s u c error.Overflow = OverflowsInReading s.context s.bound (place s.names) (formula_of c) ⊎ PassesLimit (entries_of c)
+IsCause s u c error.Bindings = HasNoRoom s.bound u.target ⊎ ((t : Tree) × Gives s c t × IsTooLarge u.target t)
+IsCause s u c error.Text = (u.printed ≡ true) × ((t : Tree) × Gives s c t × (text_limit < length (formula_line u.target s.names t)))
+IsCause s u c error.Long = ⊥
+IsCause s u c error.Lexical = ⊥
+IsCause s u c error.Nesting = ⊥
+IsCause s u c error.Syntax = ⊥
+IsCause s u c error.Nodes = ⊥
+IsCause s u c error.Memory = ⊥
+
+-- The command may be refused with the word: its cause applies, or one for which a command may be refused and need not be.
+abbrev pub MayRefuse : State → ℕ → Use → CommandTree → StatementError → Type 0
+MayRefuse s limit u c error.Overflow = IsCause s u c error.Overflow ⊎ (AsksTruth c × TruthPasses s c)
+MayRefuse s limit u c error.Nodes = AsksNegationNormal c × (limit < 6 * tree_distinct (resolved s c))
+MayRefuse s limit u c e = IsCause s u c e
+
+-- the order in which causes are looked for
+abbrev pub rank : StatementError → ℕ
+rank error.Long = 1
+rank error.Lexical = 2
+rank error.Nesting = 3
+rank error.Syntax = 4
+rank error.Unbound = 5
+rank error.FormulaAsTerm = 6
+rank error.Nonlinear = 7
+rank error.Division = 8
+rank error.CongruenceContext = 9
+rank error.Modulus = 10
+rank error.Depth = 11
+rank error.Point = 12
+rank error.Unvalued = 13
+rank error.Quantified = 14
+rank error.Overflow = 15
+rank error.Nodes = 16
+rank error.Bindings = 17
+rank error.Text = 18
+rank error.Memory = 19
+
+-- none of the causes that come before a place of the order applies
+abbrev pub HasNoCauseBelow : State → Use → CommandTree → ℕ → Type 0
+HasNoCauseBelow s u c n = (e : StatementError) → rank e < n → ¬ (IsCause s u c e)
+
+-- the word may be answered, and no earlier cause applies
+pub record IsFirst (s : State) (limit : ℕ) (u : Use) (c : CommandTree) (e : StatementError) : Type 0 where
+  pub applies : MayRefuse s limit u c e
+  pub first : HasNoCauseBelow s u c (rank e)
+
+-- the same, where want of memory says nothing
+abbrev pub Refuses : State → ℕ → Use → CommandTree → StatementError → Type 0
+Refuses s limit u c error.Memory = Unit {0}
+Refuses s limit u c e = IsFirst s limit u c e
+
+-- no cause applies
+abbrev pub IsAccepted : State → Use → CommandTree → Type 0
+IsAccepted s u c = HasNoCauseBelow s u c 19

@@ -1,0 +1,68 @@
+-- The parts of a command, and the formula that it gives.
+use Rattle.std.specs.Prelude.{◌≡◌, ℕ, List, [], ◌++◌, map}
+use Rattle.std.specs.List.{fold}
+use Rattle.formula_meaning.specs.NegationNormal.{normal_form}
+use Rattle.formula_meaning.specs.Tree.{Tree}
+use Rattle.atom_normal.specs.NormalForm.{negated_normal}
+use Rattle.qe_syntax.specs.declared.statement.PointEntry.{PointEntry}
+use Rattle.qe_syntax.specs.Trees.{FormulaTree}
+use Rattle.qe_syntax.specs.Statements.{CommandTree, Echo, Nnf, Pnf, Dnf, Cnf, Simpl, Qe, Qea, Holds, Sample}
+use Rattle.formula_tree.specs.Names.{with_name}
+use Rattle.formula_tree.specs.Resolving.{formula_variables, resolve}
+use Rattle.session_commands.specs.State.{State}
+
+-- the formula that the command is about
+abbrev pub formula_of : CommandTree → FormulaTree
+formula_of (Echo f) = f
+formula_of (Nnf f) = f
+formula_of (Pnf f) = f
+formula_of (Dnf f) = f
+formula_of (Cnf f) = f
+formula_of (Simpl f given) = f
+formula_of (Qe f given) = f
+formula_of (Qea f given) = f
+formula_of (Holds f es) = f
+formula_of (Sample f es) = f
+
+-- the entries of its point, if it has one
+abbrev pub entries_of : CommandTree → List PointEntry
+entries_of (Echo f) = []
+entries_of (Nnf f) = []
+entries_of (Pnf f) = []
+entries_of (Dnf f) = []
+entries_of (Cnf f) = []
+entries_of (Simpl f given) = []
+entries_of (Qe f given) = []
+entries_of (Qea f given) = []
+entries_of (Holds f es) = es
+entries_of (Sample f es) = es
+
+abbrev pub entry_names : List PointEntry → List (List ℕ)
+entry_names es = map (λ e. e.name) es
+
+-- its variables in the order of the text: names in terms, after quantifiers and in the point
+abbrev pub command_variables : CommandTree → List (List ℕ)
+command_variables c = formula_variables (formula_of c) ++ entry_names (entries_of c)
+
+-- the state with the new variables of the command after its names
+abbrev pub named : State → CommandTree → State
+named s c = record { context = s.context; names = fold with_name s.names (command_variables c); bound = s.bound }
+
+-- What follows is said of a state in which the variables of the command have their numbers.
+
+-- the resolved formula of the command
+abbrev pub resolved : State → CommandTree → Tree
+resolved s c = resolve s.context s.bound s.names (formula_of c)
+
+-- the formula that the command gives is this one; a query gives none
+abbrev pub Gives : State → CommandTree → Tree → Type 0
+Gives s (Echo f) t = t ≡ resolved s (Echo f)
+Gives s (Nnf f) t = t ≡ normal_form negated_normal (resolved s (Nnf f))
+Gives s (Pnf f) t = ⊥
+Gives s (Dnf f) t = ⊥
+Gives s (Cnf f) t = ⊥
+Gives s (Simpl f given) t = ⊥
+Gives s (Qe f given) t = ⊥
+Gives s (Qea f given) t = ⊥
+Gives s (Holds f es) t = ⊥
+Gives s (Sample f es) t = ⊥

@@ -1,0 +1,51 @@
+-- The point of a command: when it is none, which free names it values, and the truth there.
+use Rattle.std.specs.Prelude.{◌≡◌, ◌⊎◌, ◌↔◌, ℕ, pos, List, Bool, true, IsTrue}
+use Rattle.formula_meaning.specs.Context.{Context, Fields, Integers}
+use Rattle.formula_meaning.specs.Point.{Point}
+use Rattle.formula_meaning.specs.Formula.{One}
+use Rattle.formula_meaning.specs.Atom.{Atom, form_of}
+use Rattle.formula_meaning.specs.Some.{SomeOf, Among}
+use Rattle.formula_meaning.specs.Sizes.{subtrees}
+use Rattle.formula_meaning.specs.Replaced.{replaced}
+use Rattle.formula_meaning.specs.Tree.{Tree}
+use Rattle.linear_forms.specs.Terms.{ValuePasses}
+use Rattle.qe_syntax.specs.declared.statement.PointEntry.{PointEntry}
+use Rattle.qe_syntax.specs.Trees.{FormulaTree}
+use Rattle.qe_syntax.specs.Statements.{CommandTree}
+use Rattle.qe_syntax.specs.Point.{NamesTwice, IsZeroBelow, IsBroken, IsPointOf}
+use Rattle.qe_syntax.specs.Value.{NamedPoint, TrueAt}
+use Rattle.formula_tree.specs.Resolving.{BoundTrees, at_names, bound_truth, IsFreeInPlace}
+use Rattle.formula_tree.specs.Causes.{atom_in_place}
+use Rattle.formula_tree.specs.Quantified.{has_quantifier}
+use Rattle.free_names.specs.Entries.{HasEntryAt}
+use Rattle.session_commands.specs.State.{State}
+use Rattle.session_commands.specs.Commands.{formula_of, entries_of, resolved}
+
+-- the entries mean no point of the theory: a name stands twice, a denominator is 0, or over the integers a value is not whole
+abbrev pub MeanNoPoint : Context → List PointEntry → Type 0
+MeanNoPoint Fields es = NamesTwice es ⊎ SomeOf IsZeroBelow es
+MeanNoPoint Integers es = NamesTwice es ⊎ (SomeOf IsZeroBelow es ⊎ SomeOf IsBroken es)
+
+-- a free name of the formula, with the bound formulas in their places, has no entry
+abbrev pub HasUnvalued : BoundTrees → (List ℕ → ℕ) → FormulaTree → List PointEntry → Type 0
+HasUnvalued bound number f es = (n : ℕ) × IsFreeInPlace bound number f n × (¬ (HasEntryAt number es n))
+
+-- a quantifier stands in the formula, with the bound formulas in their places
+abbrev pub IsQuantified : BoundTrees → FormulaTree → Type 0
+IsQuantified bound f = has_quantifier (replaced (atom_in_place bound) (λ x. 0) f) ≡ true
+
+-- a product or a partial sum of the value of some atom passes the limit at the point
+abbrev pub SomeAtomPassesAt : Tree → Point ℕ → Type 0
+SomeAtomPassesAt f q = (a : Atom) × Among (subtrees f) (One a) × ValuePasses (form_of a) q.at (pos q.below)
+
+-- at the point that the entries mean
+pub record TruthPasses (s : State) (c : CommandTree) : Type 0 where
+  pub point : NamedPoint
+  pub meant : IsPointOf (entries_of c) point
+  pub passes : SomeAtomPassesAt (resolved s c) (at_names s.names point)
+
+-- the answer is the truth of the formula as it is written, at the point that the entries mean
+pub record IsTruth (s : State) (c : CommandTree) (answer : Bool) : Type 0 where
+  pub point : NamedPoint
+  pub meant : IsPointOf (entries_of c) point
+  pub truth : IsTrue answer ↔ TrueAt (bound_truth s.context s.bound s.names) s.context (formula_of c) point

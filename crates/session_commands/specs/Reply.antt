@@ -1,0 +1,103 @@
+-- What a statement is answered with in a state, and the state after it.
+use Rattle.std.specs.Prelude.{◌≡◌, ◌⊎◌, ℕ, List, Bool, true, false, Some, None, Result, Ok, Err}
+use Rattle.formula_meaning.specs.Tree.{Tree}
+use Rattle.qe_syntax.specs.Statements.{CommandTree, Echo, Nnf, Pnf, Dnf, Cnf, Simpl, Qe, Qea, Holds, Sample, ActionTree, Empty, Ignored, Finish, Choose, Say, Assign, StatementTree}
+use Rattle.formula_tree.specs.Bindings.{bind}
+use Rattle.redlog_reader.specs.Statement.{Spells, Unread}
+use Rattle.redlog_reader.specs.declared.token.ReadError.TheVariants as reading
+use Rattle.session_commands.specs.declared.line.Line.{Line}
+use Rattle.session_commands.specs.declared.line.Line.TheVariants as line
+use Rattle.session_commands.specs.declared.line.StatementError.{StatementError}
+use Rattle.session_commands.specs.declared.line.StatementError.TheVariants as error
+use Rattle.session_commands.specs.Words.{truth_text, context_text}
+use Rattle.session_commands.specs.Built.{IsBuilt}
+use Rattle.session_commands.specs.State.{State, theory_of, chosen}
+use Rattle.session_commands.specs.Commands.{named, Gives}
+use Rattle.session_commands.specs.Points.{IsTruth}
+use Rattle.session_commands.specs.Causes.{formula_line, Refuses, IsAccepted}
+
+-- the line is this text, where it is printed
+abbrev pub IsLine : Bool → List ℕ → Line → Type 0
+IsLine printed text line.Nothing = printed ≡ false
+IsLine printed text (line.Printed bytes) = (printed ≡ true) × (bytes.items ≡ text)
+IsLine printed text line.Finished = ⊥
+
+-- the state with the formula bound to the name
+abbrev pub with_bound : State → List ℕ → Tree → State
+with_bound s x t = record { context = s.context; names = s.names; bound = bind s.bound x t }
+
+-- the text that a command answers with, in a state in which its variables have their numbers
+abbrev pub Tells : State → CommandTree → List ℕ → Type 0
+Tells s (Echo f) text = (t : Tree) × Gives s (Echo f) t × (text ≡ formula_line None s.names t)
+Tells s (Nnf f) text = (t : Tree) × Gives s (Nnf f) t × (text ≡ formula_line None s.names t)
+Tells s (Pnf f) text = ⊥
+Tells s (Dnf f) text = ⊥
+Tells s (Cnf f) text = ⊥
+Tells s (Simpl f given) text = ⊥
+Tells s (Qe f given) text = ⊥
+Tells s (Qea f given) text = ⊥
+Tells s (Holds f es) text = (answer : Bool) × IsTruth s (Holds f es) answer × (text ≡ truth_text answer)
+Tells s (Sample f es) text = ⊥
+
+-- no cause of a refusal applies, and this is the line
+abbrev pub AnswersCommand : State → Bool → CommandTree → Line → Type 0
+AnswersCommand s printed c answer = IsAccepted s (record { target = None; printed = printed }) c × ((text : List ℕ) × Tells s c text × IsLine printed text answer)
+
+-- the same of an assignment, which binds the formula of its line
+pub record AnswersAssignment (s : State) (printed : Bool) (x : List ℕ) (c : CommandTree) (answer : Line) (next : State) : Type 0 where
+  pub accepted : IsAccepted s (record { target = Some x; printed = printed }) c
+  pub formula : Tree
+  pub given : Gives s c formula
+  pub line : IsLine printed (formula_line (Some x) s.names formula) answer
+  pub binds : next ≡ with_bound s x formula
+
+-- the line of an accepted statement, and the state after it
+abbrev pub Answers : State → Bool → ActionTree → Line → State → Type 0
+Answers s printed Empty answer next = (answer ≡ line.Nothing) × (next ≡ s)
+Answers s printed Ignored answer next = (answer ≡ line.Nothing) × (next ≡ s)
+Answers s printed Finish answer next = (answer ≡ line.Finished) × (next ≡ s)
+Answers s printed (Choose setting) answer next = IsLine printed (context_text (theory_of setting)) answer × (next ≡ chosen s (theory_of setting))
+Answers s printed (Say c) answer next = AnswersCommand (named s c) printed c answer × (next ≡ named s c)
+Answers s printed (Assign x c) answer next = AnswersAssignment (named s c) printed x c answer next
+
+-- the word with which a statement is refused
+abbrev pub RefusesAction : State → ℕ → Bool → ActionTree → StatementError → Type 0
+RefusesAction s limit printed (Say c) e = Refuses (named s c) limit (record { target = None; printed = printed }) c e
+RefusesAction s limit printed (Assign x c) e = Refuses (named s c) limit (record { target = Some x; printed = printed }) c e
+RefusesAction s limit printed Empty e = ⊥
+RefusesAction s limit printed Ignored e = ⊥
+RefusesAction s limit printed Finish e = ⊥
+RefusesAction s limit printed (Choose setting) e = ⊥
+
+-- the bytes of a piece spell a statement that is built, and is answered with the line
+pub record IsAnswer (s : State) (piece : List ℕ) (answer : Line) (next : State) : Type 0 where
+  pub statement : StatementTree
+  pub spelled : Spells piece statement
+  pub built : IsBuilt statement
+  pub answered : Answers s statement.printed statement.action answer next
+
+-- the bytes spell a statement that is not built
+abbrev pub SpellsUnbuilt : List ℕ → Type 0
+SpellsUnbuilt piece = (t : StatementTree) × Spells piece t × (¬ (IsBuilt t))
+
+-- the bytes spell a statement that is built, and is refused with the word
+pub record SpellsRefused (s : State) (limit : ℕ) (piece : List ℕ) (e : StatementError) : Type 0 where
+  pub statement : StatementTree
+  pub spelled : Spells piece statement
+  pub built : IsBuilt statement
+  pub refused : RefusesAction s limit statement.printed statement.action e
+
+-- why a piece is refused
+abbrev pub IsRefused : State → ℕ → List ℕ → StatementError → Type 0
+IsRefused s limit piece error.Long = Unread piece reading.Long
+IsRefused s limit piece error.Lexical = Unread piece reading.Lexical
+IsRefused s limit piece error.Nesting = Unread piece reading.Nesting
+IsRefused s limit piece error.Syntax = Unread piece reading.Syntax ⊎ SpellsUnbuilt piece
+IsRefused s limit piece e = SpellsRefused s limit piece e
+
+-- What a piece is answered with in a state, under a limit of nodes, and the state after it. A refusal changes nothing; of want
+-- of memory nothing is said.
+abbrev pub Reply : State → ℕ → List ℕ → Result Line StatementError → State → Type 0
+Reply s limit piece (Ok answer) next = IsAnswer s piece answer next
+Reply s limit piece (Err error.Memory) next = Unit {0}
+Reply s limit piece (Err e) next = (next ≡ s) × IsRefused s limit piece e

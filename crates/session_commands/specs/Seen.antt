@@ -1,0 +1,21 @@
+-- What is seen of a session: the formulas that it keeps, each once, what is bound to names by its place among them, and its
+-- limits; and the state that this stands for.
+use Rattle.std.specs.Prelude.{ℕ, List}
+use Rattle.atom_normal.specs.declared.atoms.Context.{Context}
+use Rattle.atom_normal.specs.Atoms.{context_of}
+use Rattle.formula_tree.specs.declared.shape.Shape.{Shape}
+use Rattle.formula_resolving.specs.Refusals.{trees_bound}
+use Rattle.formula_store.specs.declared.id.FormulaId.{FormulaId}
+use Rattle.formula_store.specs.Nodes.{tree}
+use Rattle.session_commands.specs.declared.session.Limits.{Limits}
+use Rattle.session_commands.specs.State.{State}
+
+pub record Seen : Type 0 where
+  pub context : Context
+  pub names : List (List ℕ)
+  pub bindings : List (List ℕ × FormulaId)
+  pub formulas : List (Shape FormulaId)
+  pub limits : Limits
+
+abbrev pub state_in : Seen → State
+state_in s = record { context = context_of s.context; names = s.names; bound = trees_bound (tree s.formulas) s.bindings }

@@ -1,0 +1,30 @@
+-- What the statements of a script share: the theory, the names of variables in the order of their numbers, and the formulas
+-- that names are bound to.
+use Rattle.std.specs.Prelude.{ℕ, List, [], Bool, true, false, if◌then◌else◌}
+use Rattle.formula_meaning.specs.Context.{Context, Fields, Integers}
+use Rattle.qe_syntax.specs.declared.statement.Setting.{Setting}
+use Rattle.qe_syntax.specs.declared.statement.Setting.TheVariants.{Ofsf, Pasf}
+use Rattle.formula_tree.specs.Resolving.{BoundTrees}
+
+pub record State : Type 0 where
+  pub context : Context
+  pub names : List (List ℕ)
+  pub bound : BoundTrees
+
+-- a script begins over the ordered fields, without names
+abbrev pub first_state : State
+first_state = record { context = Fields; names = []; bound = [] }
+
+abbrev pub theory_of : Setting → Context
+theory_of Ofsf = Fields
+theory_of Pasf = Integers
+
+abbrev pub is_same_theory : Context → Context → Bool
+is_same_theory Fields Fields = true
+is_same_theory Fields Integers = false
+is_same_theory Integers Fields = false
+is_same_theory Integers Integers = true
+
+-- the state where the theory is chosen: another one than before drops what is bound
+abbrev pub chosen : State → Context → State
+chosen s c = record { context = c; names = s.names; bound = if is_same_theory s.context c then s.bound else [] }

@@ -1,0 +1,278 @@
+//! Commands that give a formula: it is printed, or bound to a name.
+
+ghost use Rattle.std.specs.Prelude.{◌≡◌, ◌⊎◌, ◌<◌, ◌≤◌, ◌++◌, true, IfOk, IfErr, OnOk, OnErr, length, codes};
+ghost use Rattle.std.specs.Bool.{MatchBool};
+ghost use Rattle.formula_tree.specs.Bindings.{bound_to, most_bound};
+ghost use Rattle.formula_tree.specs.Makers.{IsMade};
+ghost use Rattle.formula_tree.specs.Resolving.{resolve};
+ghost use Rattle.formula_resolving.specs.Refusals.{AreIds};
+ghost use Rattle.formula_store.specs.Nodes.{tree, IsId};
+ghost use Rattle.redlog_printer.specs.Text.{tree_text};
+ghost use Rattle.redlog_printer.specs.Within.{IsTreeWithin};
+ghost use Rattle.redlog_printer.specs.Bound.{HasTwoMembers};
+ghost use Rattle.redlog_printer.specs.Writing.{text_limit};
+ghost use Rattle.qe_syntax.specs.Proper.{IsProperFormula};
+ghost use Rattle.qe_syntax.specs.Trees.{formula_tree};
+ghost use Rattle.session_commands.specs.Commands.{named};
+ghost use Rattle.session_commands.specs.Causes.{formula_line, Refuses, HasNoRoom};
+ghost use Rattle.session_commands.specs.Keeping.{state_of, IsDesk};
+ghost use Rattle.session_commands.specs.Reply.{IsLine};
+ghost use Rattle.session_commands.specs.Steps.{static_refusal as refusal_of_static, command_of, use_of, IsGiven, KeepsDesk, GrowsDesk, HasNumbers, IsUnread, IsReadable, wanted_form, FormFault, MayBind, TargetFault, LineFault, bound_after};
+
+use crate::desk::Desk;
+use crate::line::{Line, StatementError};
+use formula_resolving::{StaticError, linearise, number_formula};
+use formula_store::{FormulaId, Unfold};
+use formula_tree::{BindError, Bindings, FormError};
+use nnf_pnf::nnf;
+use qe_syntax::{Formula, Name};
+use redlog_printer::{PrintError, TEXT_LIMIT, formula_text};
+use std::alloc::Global;
+
+/// A bound formula has at most so many distinct subformulas.
+pub const MOST_SUBFORMULAS: u64 = 100_000;
+
+/// At most so many names are bound.
+const MOST_BOUND: usize = 256;
+
+/// A formula with more nodes has a text that is too long.
+const MOST_PRINTED_NODES: u64 = 8_388_608;
+
+/// The formula that a command gives: as it is, or its negation normal form.
+#[derive(Clone, Copy, Debug, PartialEq, Eq)]
+pub(crate) enum Wanted {
+    Given,
+    NegationNormal,
+}
+
+/// Answers a command that gives a formula. An `Err` leaves the state as it was.
+pub(crate) fn answer_formula(
+    desk: &mut Desk,
+    limit: u64,
+    wanted: Wanted,
+    formula: &Formula,
+    target: &Option<Name>,
+    printed: bool,
+) -> Result<Line, StatementError>
+    requires proper { IsProperFormula (formula_tree formula.now) }
+    requires desk { IsDesk desk.old }
+    ensures desk { IsDesk desk.new }
+    ensures answer { IfOk result (λ line. IsGiven (named (state_of desk.old) (command_of wanted (formula_tree formula.now))) (use_of target.now printed) (command_of wanted (formula_tree formula.now)) line (state_of desk.new)) }
+    ensures refused { IfErr result (Refuses (named (state_of desk.old) (command_of wanted (formula_tree formula.now))) limit (use_of target.now printed) (command_of wanted (formula_tree formula.now))) }
+    ensures unchanged { OnErr result (state_of desk.new ≡ state_of desk.old) }
+{
+    let count = desk.names.count();
+    match given(desk, limit, wanted, formula, target, printed) {
+        Ok(line) => Ok(line),
+        Err(error) => {
+            desk.names.keep_first(count);
+            Err(error)
+        }
+    }
+}
+
+fn given(
+    desk: &mut Desk,
+    limit: u64,
+    wanted: Wanted,
+    formula: &Formula,
+    target: &Option<Name>,
+    printed: bool,
+) -> Result<Line, StatementError>
+    requires proper { IsProperFormula (formula_tree formula.now) }
+    requires desk { IsDesk desk.old }
+    ensures desk { OnOk result (IsDesk desk.new) }
+    ensures answer { IfOk result (λ line. IsGiven (named (state_of desk.old) (command_of wanted (formula_tree formula.now))) (use_of target.now printed) (command_of wanted (formula_tree formula.now)) line (state_of desk.new)) }
+    ensures refused { IfErr result (Refuses (named (state_of desk.old) (command_of wanted (formula_tree formula.now))) limit (use_of target.now printed) (command_of wanted (formula_tree formula.now))) }
+    ensures grown { OnErr result (GrowsDesk desk.old desk.new) }
+{
+    if let Err(_failed) = number_formula(formula, &desk.bindings, &mut desk.names) {
+        return Err(StatementError::Memory);
+    }
+    let id = resolved(desk, formula)?;
+    let id = formed(desk, limit, wanted, id)?;
+    check_target(desk, target, id)?;
+    let line = line_of(desk, target, printed, id)?;
+    bind(desk, target, id)?;
+    Ok(line)
+}
+
+/// The resolved formula.
+pub(crate) fn resolved(desk: &mut Desk, formula: &Formula) -> Result<FormulaId, StatementError>
+    requires proper { IsProperFormula (formula_tree formula.now) }
+    requires ids { AreIds (IsId desk.old.store) desk.old.bindings }
+    requires numbered { HasNumbers desk.old.names (formula_tree formula.now) }
+    ensures made { IfOk result (λ id. IsMade (IsId desk.new.store) (tree desk.new.store) id (resolve (state_of desk.old).context (state_of desk.old).bound desk.old.names (formula_tree formula.now))) }
+    ensures readable { OnOk result (IsReadable (state_of desk.old) (formula_tree formula.now)) }
+    ensures unread { IfErr result (IsUnread (state_of desk.old) (formula_tree formula.now)) }
+    ensures kept { KeepsDesk desk.old desk.new }
+{
+    match linearise(
+        desk.alloc,
+        formula,
+        &desk.bindings,
+        desk.context,
+        &mut desk.names,
+        &mut desk.store,
+    ) {
+        Ok(id) => Ok(id),
+        Err(error) => Err(static_refusal(error)),
+    }
+}
+
+/// A refusal of a formula that is not resolved.
+pub(crate) fn static_refusal(error: StaticError) -> StatementError
+    ensures { result ≡ refusal_of_static error }
+{
+    match error {
+        StaticError::Unbound => StatementError::Unbound,
+        StaticError::FormulaAsTerm => StatementError::FormulaAsTerm,
+        StaticError::Nonlinear => StatementError::Nonlinear,
+        StaticError::Division => StatementError::Division,
+        StaticError::CongruenceContext => StatementError::CongruenceContext,
+        StaticError::Modulus => StatementError::Modulus,
+        StaticError::Depth => StatementError::Depth,
+        StaticError::Overflow => StatementError::Overflow,
+        StaticError::Memory => StatementError::Memory,
+    }
+}
+
+/// The wanted form of a formula.
+fn formed(
+    desk: &mut Desk,
+    limit: u64,
+    wanted: Wanted,
+    id: FormulaId,
+) -> Result<FormulaId, StatementError>
+    requires { IsId desk.old.store id }
+    ensures made { IfOk result (λ r. IsMade (IsId desk.new.store) (tree desk.new.store) r (wanted_form wanted (tree desk.old.store id))) }
+    ensures fault { IfErr result (FormFault wanted limit (tree desk.old.store id)) }
+    ensures kept { KeepsDesk desk.old desk.new }
+{
+    match wanted {
+        Wanted::Given => Ok(id),
+        Wanted::NegationNormal => match nnf(desk.alloc, &mut desk.store, id, Some(limit)) {
+            Ok(id) => Ok(id),
+            Err(FormError::Nodes) => Err(StatementError::Nodes),
+            Err(_) => Err(StatementError::Memory),
+        },
+    }
+}
+
+/// Whether the formula may be bound to the name, if there is one.
+fn check_target(desk: &Desk, target: &Option<Name>, id: FormulaId) -> Result<(), StatementError>
+    requires { IsId desk.now.store id }
+    ensures ok { OnOk result (MayBind (state_of desk.now).bound target.now (tree desk.now.store id)) }
+    ensures fault { IfErr result (TargetFault (state_of desk.now).bound target.now (tree desk.now.store id)) }
+{
+    let Some(name) = target else {
+        return Ok(());
+    };
+    if has_no_room(&desk.bindings, name) {
+        return Err(StatementError::Bindings);
+    }
+    let Ok(count) = desk.store.distinct(id) else {
+        return Err(StatementError::Memory);
+    };
+    if count > MOST_SUBFORMULAS {
+        return Err(StatementError::Bindings);
+    }
+    Ok(())
+}
+
+/// Whether the name is new, and as many names are bound as may be.
+fn has_no_room(bindings: &Bindings<FormulaId>, name: &Name) -> bool
+    ensures { MatchBool result
+        ((bound_to bindings.now name.now ≡ None) × (most_bound ≤ length bindings.now))
+        (¬ ((bound_to bindings.now name.now ≡ None) × (most_bound ≤ length bindings.now))) }
+{
+    bindings.get(name).is_none() && bindings.len() >= MOST_BOUND
+}
+
+/// The line of a formula, if it is printed.
+fn line_of(
+    desk: &Desk,
+    target: &Option<Name>,
+    printed: bool,
+    id: FormulaId,
+) -> Result<Line, StatementError>
+    requires id { IsId desk.now.store id }
+    requires within { IsTreeWithin (length desk.now.names) (tree desk.now.store id) }
+    requires members { HasTwoMembers (tree desk.now.store id) }
+    ensures line { IfOk result (IsLine printed (formula_line target.now desk.now.names (tree desk.now.store id))) }
+    ensures short { OnOk result (¬ (LineFault printed (formula_line target.now desk.now.names (tree desk.now.store id)) StatementError.Text)) }
+    ensures fault { IfErr result (LineFault printed (formula_line target.now desk.now.names (tree desk.now.store id))) }
+{
+    if !printed {
+        return Ok(Line::Nothing);
+    }
+    let text = text_of(desk, id)?;
+    match target {
+        None => Ok(Line::Printed(text)),
+        Some(name) => assignment_line(desk.alloc, name, &text),
+    }
+}
+
+/// The text of a formula.
+fn text_of(desk: &Desk, id: FormulaId) -> Result<Vec<u8>, StatementError>
+    requires id { IsId desk.now.store id }
+    requires within { IsTreeWithin (length desk.now.names) (tree desk.now.store id) }
+    requires members { HasTwoMembers (tree desk.now.store id) }
+    ensures text { IfOk result (λ v. v.items ≡ tree_text desk.now.names (tree desk.now.store id)) }
+    ensures short { OnOk result (length (tree_text desk.now.names (tree desk.now.store id)) ≤ text_limit) }
+    ensures fault { IfErr result (λ e. ((e ≡ StatementError.Text) × (text_limit < length (tree_text desk.now.names (tree desk.now.store id)))) ⊎ (e ≡ StatementError.Memory)) }
+{
+    match desk.store.unfold(id, MOST_PRINTED_NODES) {
+        Ok(tree) => match formula_text(desk.alloc, &tree, &desk.names) {
+            Ok(text) => Ok(text),
+            Err(PrintError::Text) => Err(StatementError::Text),
+            Err(PrintError::Memory) => Err(StatementError::Memory),
+        },
+        Err(Unfold::Large) => Err(StatementError::Text),
+        Err(Unfold::Memory) => Err(StatementError::Memory),
+    }
+}
+
+/// The line of an assignment.
+fn assignment_line(alloc: Global, name: &Name, text: &[u8]) -> Result<Line, StatementError>
+    ensures line { IfOk result (IsLine true (name.now ++ codes " := " ++ text.now)) }
+    ensures short { OnOk result (length (name.now ++ codes " := " ++ text.now) ≤ text_limit) }
+    ensures fault { IfErr result (λ e. ((e ≡ StatementError.Text) × (text_limit < length (name.now ++ codes " := " ++ text.now))) ⊎ (e ≡ StatementError.Memory)) }
+{
+    let before = name.bytes();
+    if text.len() > TEXT_LIMIT || TEXT_LIMIT - text.len() < before.len() + 4 {
+        return Err(StatementError::Text);
+    }
+    let Ok(line) = joined(alloc, before, text) else {
+        return Err(StatementError::Memory);
+    };
+    Ok(Line::Printed(line))
+}
+
+/// The name, ` := ` and the text.
+fn joined(alloc: Global, name: &[u8], text: &[u8]) -> Result<Vec<u8>, std::alloc::AllocError>
+    ensures { IfOk result (λ v. v.items ≡ name.now ++ codes " := " ++ text.now) }
+{
+    let mut line = Vec::new(alloc);
+    line.extend_from_slice(name)?;
+    line.extend_from_slice(b" := ")?;
+    line.extend_from_slice(text)?;
+    Ok(line)
+}
+
+/// Binds the formula to the name, if there is one.
+fn bind(desk: &mut Desk, target: &Option<Name>, id: FormulaId) -> Result<(), StatementError>
+    requires { ¬ (HasNoRoom (state_of desk.old).bound target.now) }
+    ensures bound { OnOk result (desk.new ≡ record desk.old { bindings = bound_after desk.old.bindings target.now id }) }
+    ensures memory { IfErr result (λ e. e ≡ StatementError.Memory) }
+    ensures unchanged { OnErr result (desk.new ≡ desk.old) }
+{
+    let Some(name) = target else {
+        return Ok(());
+    };
+    match desk.bindings.put(name, id) {
+        Ok(()) => Ok(()),
+        Err(BindError::Full) => unreachable!(),
+        Err(BindError::Memory) => Err(StatementError::Memory),
+    }
+}

@@ -1,0 +1,25 @@
+//! Lines that are printed or not.
+
+ghost use Rattle.std.specs.Prelude.{◌≡◌, IfOk, IfErr};
+ghost use Rattle.session_commands.specs.Reply.{IsLine};
+
+use crate::line::{Line, StatementError};
+use std::alloc::Global;
+
+/// The line that is this text, if it is printed.
+pub(crate) fn printed_line(
+    alloc: Global,
+    text: &[u8],
+    printed: bool,
+) -> Result<Line, StatementError>
+    ensures line { IfOk result (IsLine printed text.now) }
+    ensures memory { IfErr result (λ e. e ≡ StatementError.Memory) }
+{
+    if !printed {
+        return Ok(Line::Nothing);
+    }
+    let Ok(line) = Vec::from_slice(alloc, text) else {
+        return Err(StatementError::Memory);
+    };
+    Ok(Line::Printed(line))
+}
