@@ -43,36 +43,24 @@ impl Nest {
     }
 }
 
-/// Statements of one session: what stands first, what is written so often, and what stands last.
-const STATEMENTS: [(&str, &str, &str, usize, &str); 9] = [
-    ("511 times not printed", "", "not ", 511, "x>0;"),
-    ("512 times not printed", "", "not ", 512, "x>0;"),
-    ("513 times not printed", "", "not ", 513, "x>0;"),
-    (
-        "100,000 equal members bound",
-        "f := x>0",
-        " and x>0",
-        99_999,
-        "$",
-    ),
-    ("their truth", "rlholds(f,{x=1}", "", 0, ");"),
-    (
-        "255 times equiv bound",
-        "g := rlnnf(x>0",
-        " equiv x>0",
-        255,
-        ")$",
-    ),
-    ("its text", "g", "", 0, ";"),
-    (
-        "511 times equiv bound",
-        "h := rlnnf(x>0",
-        " equiv x>0",
-        511,
-        ")$",
-    ),
-    ("its truth", "rlholds(h,{x=1}", "", 0, ");"),
-];
+/// A statement in parts: what stands first, what is written so often, and what stands last.
+#[derive(Clone, Copy)]
+struct Chain {
+    first: &'static str,
+    repeated: &'static str,
+    last: &'static str,
+}
+
+impl Chain {
+    /// A statement of these parts.
+    const fn of(first: &'static str, repeated: &'static str, last: &'static str) -> Chain {
+        Chain {
+            first,
+            repeated,
+            last,
+        }
+    }
+}
 
 fn main(rt: HostRuntime) -> io::Result<()> {
     levels(&rt)?;
@@ -131,17 +119,60 @@ fn formula(rt: &HostRuntime, title: &str, nest: Nest, count: usize) -> io::Resul
     Ok(())
 }
 
-/// The statements of one session, and two long bindings after them.
+/// The statements of one session.
 fn session(rt: &HostRuntime) -> io::Result<()> {
-    let alloc = rt.alloc();
-    let mut session = Session::new(alloc, LIMITS);
-    for (title, first, repeated, count, last) in STATEMENTS {
-        let statement = chain(alloc, first, repeated, count, last)?;
-        let answer = answer(alloc, &mut session, statement.as_bytes())?;
-        println!(rt; "{title}: {answer}")?;
-    }
+    let mut session = Session::new(rt.alloc(), LIMITS);
+    printed(rt, &mut session)?;
+    bound(rt, &mut session)?;
     binding(rt, &mut session, 99_999)?;
     binding(rt, &mut session, 100_000)
+}
+
+/// Deep formulas that are printed.
+fn printed(rt: &HostRuntime, session: &mut Session) -> io::Result<()> {
+    let not = Chain::of("", "not ", "x>0;");
+    tell(rt, session, "511 times not printed", not, 511)?;
+    tell(rt, session, "512 times not printed", not, 512)?;
+    tell(rt, session, "513 times not printed", not, 513)
+}
+
+/// Long and deep formulas that are bound, and their texts and truths.
+fn bound(rt: &HostRuntime, session: &mut Session) -> io::Result<()> {
+    let members = Chain::of("f := x>0", " and x>0", "$");
+    tell(rt, session, "100,000 equal members bound", members, 99_999)?;
+    tell(
+        rt,
+        session,
+        "their truth",
+        Chain::of("rlholds(f,{x=1}", "", ");"),
+        0,
+    )?;
+    let low = Chain::of("g := rlnnf(x>0", " equiv x>0", ")$");
+    tell(rt, session, "255 times equiv bound", low, 255)?;
+    tell(rt, session, "its text", Chain::of("g", "", ";"), 0)?;
+    let high = Chain::of("h := rlnnf(x>0", " equiv x>0", ")$");
+    tell(rt, session, "511 times equiv bound", high, 511)?;
+    tell(
+        rt,
+        session,
+        "its truth",
+        Chain::of("rlholds(h,{x=1}", "", ");"),
+        0,
+    )
+}
+
+/// The answer to a statement of these parts.
+fn tell(
+    rt: &HostRuntime,
+    session: &mut Session,
+    title: &str,
+    chain: Chain,
+    count: usize,
+) -> io::Result<()> {
+    let statement = chained(rt.alloc(), chain, count)?;
+    let answer = answer(rt.alloc(), session, statement.as_bytes())?;
+    println!(rt; "{title}: {answer}")?;
+    Ok(())
 }
 
 /// The answer where a disjunction of so many different formulas is bound.
@@ -166,15 +197,10 @@ fn statement(alloc: Global, nest: Nest, count: usize) -> Result<String, AllocErr
     format!(in alloc; "rlholds({first}{openings}{inside}{closings}{last},{{x=1}});")
 }
 
-/// A text with a part that is repeated.
-fn chain(
-    alloc: Global,
-    first: &str,
-    repeated: &str,
-    count: usize,
-    last: &str,
-) -> Result<String, AllocError> {
-    let middle = repeated.repeat(alloc, count)?;
+/// The statement of these parts.
+fn chained(alloc: Global, chain: Chain, count: usize) -> Result<String, AllocError> {
+    let middle = chain.repeated.repeat(alloc, count)?;
+    let Chain { first, last, .. } = chain;
     format!(in alloc; "{first}{middle}{last}")
 }
 
