@@ -63,23 +63,36 @@ impl Chain {
 }
 
 fn main(rt: HostRuntime) -> io::Result<()> {
-    levels(&rt)?;
+    brackets(&rt)?;
+    chains(&rt)?;
     lengths(&rt)?;
     session(&rt)
 }
 
-/// The deepest formulas of each kind that are read, and those a level deeper.
-fn levels(rt: &HostRuntime) -> io::Result<()> {
-    twice(rt, "brackets", Nest::of("", "(", "x=1", ")", ""))?;
-    twice(rt, "brackets of a term", Nest::of("", "(", "x", ")", "=1"))?;
+/// The deepest brackets and negations that are read, and those a level deeper.
+fn brackets(rt: &HostRuntime) -> io::Result<()> {
+    let formulas = Nest::of("", "(", "x=1", ")", "");
+    let terms = Nest::of("", "(", "x", ")", "=1");
     let lists = Nest::of("", "(true or false and ", "x=1", ")", "");
+    let negations = Nest::of("", "not ", "x=1", "", "");
+    twice(rt, "brackets", formulas)?;
+    twice(rt, "brackets of a term", terms)?;
     formula(rt, "511 lists", lists, 511)?;
-    twice(rt, "times not", Nest::of("", "not ", "x=1", "", ""))?;
-    twice(rt, "times impl", Nest::of("", "x=1 impl ", "x=1", "", ""))?;
-    twice(rt, "times repl", Nest::of("", "x=1 repl ", "x=1", "", ""))?;
-    twice(rt, "times equiv", Nest::of("", "x=1 equiv ", "x=1", "", ""))?;
-    twice(rt, "times /", Nest::of("", "x/", "x", "", "=1"))?;
-    twice(rt, "times ex", Nest::of("", "ex(x,", "x=1", ")", ""))
+    twice(rt, "times not", negations)
+}
+
+/// The deepest formulas with arrows, quotients and quantifiers that are read, and those a level deeper.
+fn chains(rt: &HostRuntime) -> io::Result<()> {
+    let implications = Nest::of("", "x=1 impl ", "x=1", "", "");
+    let replications = Nest::of("", "x=1 repl ", "x=1", "", "");
+    let equivalences = Nest::of("", "x=1 equiv ", "x=1", "", "");
+    let quotients = Nest::of("", "x/", "x", "", "=1");
+    let quantifiers = Nest::of("", "ex(x,", "x=1", ")", "");
+    twice(rt, "times impl", implications)?;
+    twice(rt, "times repl", replications)?;
+    twice(rt, "times equiv", equivalences)?;
+    twice(rt, "times /", quotients)?;
+    twice(rt, "times ex", quantifiers)
 }
 
 /// A formula with 511 levels, and with 512.
@@ -123,6 +136,7 @@ fn formula(rt: &HostRuntime, title: &str, nest: Nest, count: usize) -> io::Resul
 fn session(rt: &HostRuntime) -> io::Result<()> {
     let mut session = Session::new(rt.alloc(), LIMITS);
     printed(rt, &mut session)?;
+    long(rt, &mut session)?;
     bound(rt, &mut session)?;
     binding(rt, &mut session, 99_999)?;
     binding(rt, &mut session, 100_000)
@@ -136,29 +150,24 @@ fn printed(rt: &HostRuntime, session: &mut Session) -> io::Result<()> {
     tell(rt, session, "513 times not printed", not, 513)
 }
 
-/// Long and deep formulas that are bound, and their texts and truths.
-fn bound(rt: &HostRuntime, session: &mut Session) -> io::Result<()> {
+/// A long formula that is bound, and its truth.
+fn long(rt: &HostRuntime, session: &mut Session) -> io::Result<()> {
     let members = Chain::of("f := x>0", " and x>0", "$");
+    let truth = Chain::of("rlholds(f,{x=1}", "", ");");
     tell(rt, session, "100,000 equal members bound", members, 99_999)?;
-    tell(
-        rt,
-        session,
-        "their truth",
-        Chain::of("rlholds(f,{x=1}", "", ");"),
-        0,
-    )?;
+    tell(rt, session, "their truth", truth, 0)
+}
+
+/// Deep formulas that are bound, and the text of one and the truth of another.
+fn bound(rt: &HostRuntime, session: &mut Session) -> io::Result<()> {
     let low = Chain::of("g := rlnnf(x>0", " equiv x>0", ")$");
-    tell(rt, session, "255 times equiv bound", low, 255)?;
-    tell(rt, session, "its text", Chain::of("g", "", ";"), 0)?;
+    let text = Chain::of("g", "", ";");
     let high = Chain::of("h := rlnnf(x>0", " equiv x>0", ")$");
+    let truth = Chain::of("rlholds(h,{x=1}", "", ");");
+    tell(rt, session, "255 times equiv bound", low, 255)?;
+    tell(rt, session, "its text", text, 0)?;
     tell(rt, session, "511 times equiv bound", high, 511)?;
-    tell(
-        rt,
-        session,
-        "its truth",
-        Chain::of("rlholds(h,{x=1}", "", ");"),
-        0,
-    )
+    tell(rt, session, "its truth", truth, 0)
 }
 
 /// The answer to a statement of these parts.
