@@ -1,7 +1,7 @@
 -- Commands that give a formula: what they give, when they are accepted, and why they are refused.
 use Rattle.std.proofs.Common.{◌≡◌, inl, inr, ℕ, ◌<◌, List, [], ◌∷◌, ◌++◌, Bool, true, Option, Some, None, sym, ap, ◌∙◌, subst, refl, length, nat_eq, arith}
 use Rattle.std.specs.List.{fold}
-use Rattle.formula_meaning.specs.Atom.{same_atom}
+use Rattle.formula_meaning.specs.Same.{same_atom}
 use Rattle.formula_meaning.specs.Tree.{Tree}
 use Rattle.formula_meaning.proofs.Sizes.{distinct_count_within}
 use Rattle.qe_syntax.specs.Trees.{FormulaTree}
@@ -118,14 +118,14 @@ module _ (f : FormulaTree) (s : State) (limit : ℕ) (t : Tree) where
 module _ (w : Wanted) (f : FormulaTree) (s : State) (numbers : HasNumbers s.names f) (limit : ℕ) (target : Option (List ℕ)) (printed : Bool) (t : Tree)
     (given : IsWantedForm s.context limit w (resolve s.context s.bound s.names f) t) (h : IsReadable s f) where
   pub refused_target : (e : StatementError) → TargetFault s.bound target t e → Refuses s limit (use_of target printed) (command_of w f) e
-  refused_target error.Bindings (inl k) = record { applies = no_room f s limit t w (use_of target printed) k; first = below_17 s _ _ (clear_16 w f s numbers limit target printed h) }
-  refused_target error.Bindings (inr k) = record { applies = too_large f s limit t w given (use_of target printed) k; first = below_17 s _ _ (clear_16 w f s numbers limit target printed h) }
+  refused_target error.Bindings (inl k) = record { applies = no_room f s limit t w (use_of target printed) k; first = below_17 s (use_of target printed) (command_of w f) (clear_16 w f s numbers limit target printed h) }
+  refused_target error.Bindings (inr k) = record { applies = too_large f s limit t w given (use_of target printed) k; first = below_17 s (use_of target printed) (command_of w f) (clear_16 w f s numbers limit target printed h) }
   refused_target error.Memory k = tt
   refused_target _ k = absurd k
 
   clear_18 : MayBind s.bound target t → HasNoCauseBelow s (use_of target printed) (command_of w f) 18
   clear_18 b =
-      below_18 s _ _ (below_17 s _ _ (clear_16 w f s numbers limit target printed h))
+      below_18 s (use_of target printed) (command_of w f) (below_17 s (use_of target printed) (command_of w f) (clear_16 w f s numbers limit target printed h))
       (λ k. elim k [ inl r ↦ b.room r | inr m ↦ b.small (subst (IsTooLarge target) (one f s limit t w given m.0 m.1) m.2) ])
 
   pub refused_line : MayBind s.bound target t → (e : StatementError) → LineFault printed (formula_line target s.names t) e → Refuses s limit (use_of target printed) (command_of w f) e
@@ -136,7 +136,7 @@ module _ (w : Wanted) (f : FormulaTree) (s : State) (numbers : HasNumbers s.name
   pub is_given : IsSound s → MayBind s.bound target t → (answer : Line) → IsLine printed (formula_line target s.names t) answer
       → ¬ (LineFault printed (formula_line target s.names t) error.Text) → IsGiven s limit (use_of target printed) (command_of w f) answer (state_with s target t)
   is_given sound b answer line short = record {
-    accepted = below_19 s _ _ (clear_18 b) (λ k. short (k.0, subst (λ u. text_limit < length (formula_line target s.names u)) (one f s limit t w given k.1.0 k.1.1) k.1.2));
+    accepted = below_19 s (use_of target printed) (command_of w f) (clear_18 b) (λ k. short (k.0, subst (λ u. text_limit < length (formula_line target s.names u)) (one f s limit t w given k.1.0 k.1.1) k.1.2));
     formula = t;
     given = gives f s limit t w h sound numbers given;
     line = line;

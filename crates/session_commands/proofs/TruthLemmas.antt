@@ -22,13 +22,17 @@ use Rattle.formula_resolving.specs.declared.error.StaticError.TheVariants as sta
 use Rattle.formula_resolving.specs.Refusals as reading
 use Rattle.formula_resolving.specs.Refusals.{trees_bound}
 use Rattle.formula_store.specs.Truths.{Tells}
+use Rattle.elimination_reference.specs.Sample.{reference_at}
+use Rattle.plain_engine.specs.declared.measured.Measured.{Measured}
+use Rattle.plain_engine.specs.declared.measured.Measured.TheVariants as measured
+use Rattle.plain_engine.specs.Told.{StopsWith}
 use Rattle.session_commands.specs.declared.line.StatementError.{StatementError}
 use Rattle.session_commands.specs.declared.line.StatementError.TheVariants as error
 use Rattle.session_commands.specs.State.{State}
 use Rattle.session_commands.specs.Commands.{resolved}
 use Rattle.session_commands.specs.Points.{MeanNoPoint, IsQuantified, IsTruth}
 use Rattle.session_commands.specs.Causes.{IsCause, rank, HasNoCauseBelow}
-use Rattle.session_commands.specs.Steps.{static_refusal, use_of, HasNumbers, IsReadable, IsUnread}
+use Rattle.session_commands.specs.Steps.{static_refusal, measured_refusal, use_of, HasNumbers, IsReadable, IsUnread}
 use Rattle.session_commands.specs.Truths.{IsBoundName, RefusesTruth, RefusesTruthAt, HasNoneBelow, stop_of, IsClear, IsValued, PointStop, ValuedStop, ValueStop, EliminationStop}
 use Rattle.session_commands.proofs.BindingLemmas.{trees_find}
 use Rattle.session_commands.proofs.CauseLemmas.{earlier, cause_of_reading, none_below}
@@ -252,3 +256,12 @@ module _ (s : State) (f : FormulaTree) (es : List PointEntry) (numbers : HasNumb
 pub told_in : (c : Context) (b : Bool) (t : Tree) (q : Point ℕ) → Tells b t q → IsTrue b ↔ TrueAt c t q
 told_in c true t q h = (λ _. h c, λ _. refl)
 told_in c false t q h = (λ e. absurd (false≢true e), λ k. absurd (h c k))
+
+-- what stops the reference elimination at a point refuses the truth there
+pub elimination_stopped : (c : Context) (limit : ℕ) (t : Tree) (p q : Point ℕ) → p ≡ q → (e : Measured) → StopsWith e (reference_at c limit p t) → (d : StatementError) → d ≡ measured_refusal e → EliminationStop c limit t q d
+elimination_stopped c limit t p q same e h d is = subst (EliminationStop c limit t q) (sym is) (subst (λ r. EliminationStop c limit t r (measured_refusal e)) same (go e h))
+  where
+    go : (m : Measured) → StopsWith m (reference_at c limit p t) → EliminationStop c limit t p (measured_refusal m)
+    go measured.Overflow k = k
+    go measured.Nodes k = k
+    go measured.Memory k = tt

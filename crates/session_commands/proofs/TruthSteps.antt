@@ -56,6 +56,10 @@ on_ok : {T E : Type 0} {P : Type 0} (r : Result T E) → P → OnOk r P
 on_ok (Ok x) p = p
 on_ok (Err e) p = tt
 
+-- what is refused whatever the limit is, is refused under a limit
+pub at_limit : (s : State) (limit : ℕ) (f : FormulaTree) (es : List PointEntry) (e : StatementError) → RefusesTruth s f es e → RefusesTruthAt s limit f es e
+at_limit s limit f es e h = λ printed. h limit printed
+
 there_not : {X : Type 0} (P : Type 0) (Q : X → Type 0) (o : Option X) → ((x : X) → ¬ (o ≡ Some x)) → MatchOption o P Q → P
 there_not P Q None none h = h
 there_not P Q (Some x) none h = absurd (none x refl)
@@ -145,12 +149,8 @@ module _ (old new : Desk) (f : FormulaTree) (es : List PointEntry) (desk : IsDes
         pub truth_stops : (r : Result Bool StatementError) (limit : ℕ) → ¬ (IsQuantified (state_of new).bound f) → IfErr r (ValueStop (tree new.store i) (at_names new.names (point_of q)))
             → IfErr r (RefusesTruthAt s limit f es)
         truth_stops r limit free h =
-            err_map r (λ e t. at_limit e (truth_passes s f es numbers read.clear means here (free_here free) (point_of q) numbered.0 e
+            err_map r (λ e t. at_limit s limit f es e (truth_passes s f es numbers read.clear means here (free_here free) (point_of q) numbered.0 e
             (subst (λ ns. ValueStop (resolved s (Holds f es)) (at_names ns (point_of q)) e) k.names (subst (λ (u : Tree). ValueStop u (at_names new.names (point_of q)) e) formula.1.same t)))) h
-          where
-            at_limit : (e : StatementError) → RefusesTruth s f es e → RefusesTruthAt s limit f es e
-            at_limit e t printed = t limit printed
-
         pub eliminated_stops : (r : Result Bool StatementError) (limit : ℕ) → IsQuantified (state_of new).bound f
             → IfErr r (EliminationStop (context_of new.context) limit (tree new.store i) (at_names new.names (point_of q))) → IfErr r (RefusesTruthAt s limit f es)
         eliminated_stops r limit quantified h =

@@ -1,6 +1,6 @@
 //! The truth of a formula at a point.
 
-ghost use Rattle.std.specs.Prelude.{◌≡◌, ◌≤◌, ◌↔◌, ◌++◌, pos, Bool, None, IfOk, IfErr, OnOk, OnErr, IsTrue, length};
+ghost use Rattle.std.specs.Prelude.{◌≡◌, ◌≤◌, ◌↔◌, ◌++◌, ℕ, pos, Bool, None, IfOk, IfErr, OnOk, OnErr, IsTrue, length};
 ghost use Rattle.std.specs.List.{IsDistinct, fold};
 ghost use Rattle.formula_meaning.specs.Context.{Context as Theory, Fields, Integers};
 ghost use Rattle.formula_meaning.specs.Every.{Every};
@@ -286,7 +286,7 @@ fn eliminated_truth(
 {
     let values = values_of(desk.alloc, &desk.names, entries, point)?;
     match truth_by_elimination(desk.alloc, &mut desk.store, desk.context, id, &values, limit) {
-        Ok(truth) => Ok(truth),
+        Ok(holds) => Ok(holds),
         Err(error) => Err(measured_refusal(error)),
     }
 }
