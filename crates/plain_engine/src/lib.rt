@@ -8,7 +8,7 @@ mod parts;
 mod points;
 mod steps;
 
-pub use eliminate::eliminate_plain;
+pub use eliminate::{eliminate_form, eliminate_plain};
 pub use measured::Measured;
 
 #[cfg(test)]

@@ -1,0 +1,27 @@
+-- The reference elimination of a formula is that of its negation normal form.
+use Rattle.std.proofs.Common.{◌≡◌, ℕ, ◌+◌, ◌<◌, nat_le, ap, true, [], arith}
+use Rattle.std.proofs.lemmas.Bool.{lt-leb}
+use Rattle.std.specs.Prelude.{if◌then◌else◌}
+use Rattle.formula_meaning.specs.Context.{Context}
+use Rattle.formula_meaning.specs.Sizes.{nodes}
+use Rattle.formula_meaning.specs.Tree.{Tree}
+use Rattle.formula_meaning.proofs.NormalAgain.{normal_form_again}
+use Rattle.atom_normal.specs.NormalForm.{negated_normal}
+use Rattle.elimination_reference.specs.Measured.{Outcome, stopped, done, then_of, pay}
+use Rattle.elimination_reference.specs.Measured as stop
+use Rattle.elimination_reference.specs.Reference.{branches, together, normal_tree, reference}
+
+pub normal_tree_again : (f : Tree) → normal_tree (normal_tree f) ≡ normal_tree f
+normal_tree_again f = normal_form_again negated_normal f
+
+module _ (c : Context) (limit : ℕ) where
+  -- the elimination of a formula with this negation normal form
+  abbrev from_form : Tree → Outcome (Tree × ℕ)
+  from_form g = then_of (then_of (pay limit (nodes g) 0) (λ r. branches c limit [] true g r.1)) (λ r. done (together r.0, r.1))
+
+  pub reference_again : (f : Tree) → reference c limit (normal_tree f) ≡ reference c limit f
+  reference_again f = ap from_form (normal_tree_again f)
+
+-- more nodes than the limit stop the count
+pub more_stops : (limit n : ℕ) → limit < n → pay limit n 0 ≡ stopped stop.Nodes
+more_stops limit n h = ap (λ b. if b then done (tt, 0 + n) else stopped stop.Nodes) (lt-leb (0 + n) limit (omega arith))

@@ -1,0 +1,3 @@
+pub mod Moduli
+pub mod Sharing
+pub mod FormAgain
