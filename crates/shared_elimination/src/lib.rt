@@ -6,3 +6,6 @@ mod share;
 
 pub use eliminate::eliminate_shared;
 pub use share::share;
+
+#[cfg(test)]
+mod tests;
