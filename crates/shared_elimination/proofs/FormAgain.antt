@@ -1,5 +1,5 @@
 -- The reference elimination of a formula is that of its negation normal form.
-use Rattle.std.proofs.Common.{◌≡◌, ℕ, ◌+◌, ◌<◌, nat_le, ap, true, [], arith}
+use Rattle.std.proofs.Common.{◌≡◌, ℕ, ◌+◌, ◌<◌, nat_le, ap, ◌∙◌, true, [], arith}
 use Rattle.std.proofs.lemmas.Bool.{lt-leb}
 use Rattle.std.specs.Prelude.{if◌then◌else◌}
 use Rattle.formula_meaning.specs.Context.{Context}
@@ -19,8 +19,8 @@ module _ (c : Context) (limit : ℕ) where
   abbrev from_form : Tree → Outcome (Tree × ℕ)
   from_form g = then_of (then_of (pay limit (nodes g) 0) (λ r. branches c limit [] true g r.1)) (λ r. done (together r.0, r.1))
 
-  pub reference_again : (f : Tree) → reference c limit (normal_tree f) ≡ reference c limit f
-  reference_again f = ap from_form (normal_tree_again f)
+  pub reference_along : (f g : Tree) → g ≡ normal_tree f → reference c limit g ≡ reference c limit f
+  reference_along f g e = ap from_form (ap normal_tree e ∙ normal_tree_again f)
 
 -- more nodes than the limit stop the count
 pub more_stops : (limit n : ℕ) → limit < n → pay limit n 0 ≡ stopped stop.Nodes

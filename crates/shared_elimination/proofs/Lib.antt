@@ -1,3 +1,3 @@
 pub mod Moduli
-pub mod Sharing
+pub mod SharedShapes
 pub mod FormAgain

@@ -14,7 +14,7 @@ ghost use Rattle.formula_store.specs.Nodes.{IsId, tree};
 ghost use Rattle.nnf_trees.specs.Nnfs.{HasModulus};
 ghost use Rattle.plain_engine.specs.Told.{StopsWith};
 
-use crate::share::share;
+use crate::sharing::share;
 use atom_normal::Context;
 use formula_store::{FormulaId, Store, Unfold};
 use formula_tree::Tree;

@@ -2,10 +2,12 @@
 #![tactic(auto)]
 
 mod eliminate;
-mod share;
+mod sharing;
+mod truth;
 
 pub use eliminate::eliminate_shared;
-pub use share::share;
+pub use sharing::share;
+pub use truth::truth_by_elimination;
 
 #[cfg(test)]
 mod tests;

@@ -6,7 +6,7 @@ use Rattle.formula_tree.specs.Makers.{Keeps}
 use Rattle.formula_tree.specs.Trees.{members}
 use Rattle.formula_store.specs.Nodes.{IsId, tree}
 use Rattle.nnf_trees.specs.Nnfs.{nnf_of, nnfs_of, AreProper}
-use Rattle.shared_elimination.proofs.share.+shared.Given as goal
+use Rattle.shared_elimination.proofs.sharing.+shared.Given as goal
 
 abbrev pub decreases-share_all : goal.decreases-share_all
 decreases-share_all l = 2 * all_nodes (nnfs_of l.fs) + 1
