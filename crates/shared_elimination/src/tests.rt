@@ -36,7 +36,8 @@ fn comparison(
     alloc: Global,
     store: &mut Store,
     context: Context,
-    (relation, form): (Rel, Linear),
+    relation: Rel,
+    form: Linear,
 ) -> Result<FormulaId, Fail>
     ensures made { IfOk result (IsId store.new) }
     ensures normal { IfOk result (λ f. Every (IsNormal (context_of context)) (tree store.new f)) }
@@ -61,8 +62,8 @@ fn sentence(
     ensures made { IfOk result (IsId store.new) }
     ensures normal { IfOk result (λ f. Every (IsNormal (context_of context)) (tree store.new f)) }
 {
-    let f = comparison(alloc, store, context, (first.0, form(alloc, first.1)?))?;
-    let g = comparison(alloc, store, context, (second.0, form(alloc, second.1)?))?;
+    let f = comparison(alloc, store, context, first.0, form(alloc, first.1)?)?;
+    let g = comparison(alloc, store, context, second.0, form(alloc, second.1)?)?;
     let both = store.make(Shape::And(Ids::of(vec![in alloc; f, g]?)))?;
     Ok(store.make(Shape::Ex(X, both))?)
 }
@@ -71,17 +72,17 @@ fn sentence(
 #[test]
 fn answers_stand_in_the_store(rt: HostRuntime) -> Result<(), Fail> {
     let alloc = rt.alloc();
-    for (context, wanted) in [
-        (Context::Fields, (Rel::Less, (0, 1, -1, 0))),
-        (Context::Integers, (Rel::AtMost, (0, 1, -1, 2))),
+    for (context, relation, numbers) in [
+        (Context::Fields, Rel::Less, (0, 1, -1, 0)),
+        (Context::Integers, Rel::AtMost, (0, 1, -1, 2)),
     ] {
         let mut store = Store::new(alloc);
         let above = (Rel::Greater, (1, -1, 0, 0));
         let below = (Rel::Less, (1, 0, -1, 0));
         let f = sentence(alloc, &mut store, context, above, below)?;
         let answer = eliminate_shared(alloc, &mut store, context, f, 1000)?;
-        let wanted = (wanted.0, form(alloc, wanted.1)?);
-        assert_eq!(rt; answer, comparison(alloc, &mut store, context, wanted)?);
+        let wanted = comparison(alloc, &mut store, context, relation, form(alloc, numbers)?)?;
+        assert_eq!(rt; answer, wanted);
     }
     Ok(())
 }
@@ -113,8 +114,8 @@ fn next(
     ensures made { IfOk result (IsId store.new) }
     ensures normal { IfOk result (λ g. Every (IsNormal (context_of Context.Fields)) (tree store.new g)) }
 {
-    let positive = (Rel::Greater, Linear::variable(alloc, name)?);
-    let p = comparison(alloc, store, Context::Fields, positive)?;
+    let form = Linear::variable(alloc, name)?;
+    let p = comparison(alloc, store, Context::Fields, Rel::Greater, form)?;
     let g = store.make(Shape::Impl(f, p))?;
     Ok(store.make(Shape::Equiv(f, g))?)
 }
@@ -124,8 +125,8 @@ fn next(
 fn large_formulas_stop_at_once(rt: HostRuntime) -> Result<(), Fail> {
     let alloc = rt.alloc();
     let mut store = Store::new(alloc);
-    let positive = (Rel::Greater, Linear::variable(alloc, A)?);
-    let mut f = comparison(alloc, &mut store, Context::Fields, positive)?;
+    let form = Linear::variable(alloc, A)?;
+    let mut f = comparison(alloc, &mut store, Context::Fields, Rel::Greater, form)?;
     for number in 1..41 {
         f = next(alloc, &mut store, f, VarId { number })?;
     }
