@@ -27,11 +27,12 @@ const X: VarId = VarId { number: 1 };
 fn comparison(
     alloc: Global,
     context: Context,
-    (relation, n, p, c): (Rel, i128, i128, i128),
+    numbers: (Rel, i128, i128, i128),
 ) -> Result<Tree, Fail>
     ensures moduli { IfOk result (λ t. Every HasModulus (tree_of t)) }
     ensures normal { IfOk result (λ t. Every (IsNormal (context_of context)) (tree_of t)) }
 {
+    let (relation, n, p, c) = numbers;
     let x = Linear::variable(alloc, X)?;
     let a = Linear::variable(alloc, A)?;
     let one = Linear::constant(alloc, 1);
