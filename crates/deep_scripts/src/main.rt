@@ -13,34 +13,35 @@ const LIMITS: Limits = Limits {
     workers: 1,
 };
 
-/// The formulas of the statements: what stands first, what is written so often, what stands inside, what closes each
-/// of these, and what stands last.
-const FORMULAS: [(&str, &str, &str, usize, &str, &str, &str); 24] = [
-    ("511 brackets", "", "(", 511, "x=1", ")", ""),
-    ("512 brackets", "", "(", 512, "x=1", ")", ""),
-    ("511 brackets of a term", "", "(", 511, "x", ")", "=1"),
-    ("512 brackets of a term", "", "(", 512, "x", ")", "=1"),
-    ("511 lists", "", "(true or false and ", 511, "x=1", ")", ""),
-    ("511 times not", "", "not ", 511, "x=1", "", ""),
-    ("512 times not", "", "not ", 512, "x=1", "", ""),
-    ("511 times impl", "", "x=1 impl ", 511, "x=1", "", ""),
-    ("512 times impl", "", "x=1 impl ", 512, "x=1", "", ""),
-    ("511 times repl", "", "x=1 repl ", 511, "x=1", "", ""),
-    ("512 times repl", "", "x=1 repl ", 512, "x=1", "", ""),
-    ("511 times equiv", "", "x=1 equiv ", 511, "x=1", "", ""),
-    ("512 times equiv", "", "x=1 equiv ", 512, "x=1", "", ""),
-    ("511 times /", "", "x/", 511, "x", "", "=1"),
-    ("512 times /", "", "x/", 512, "x", "", "=1"),
-    ("511 times ex", "", "ex(x,", 511, "x=1", ")", ""),
-    ("512 times ex", "", "ex(x,", 512, "x=1", ")", ""),
-    ("300,000 names", "ex({", "x,", 299_999, "x},x=1)", "", ""),
-    ("100,000 members", "", "x=1 and ", 99_999, "x=1", "", ""),
-    ("100,000 terms", "", "x+", 99_999, "x", "", "=100000"),
-    ("100,000 factors", "", "1*", 99_999, "x", "", "=1"),
-    ("100,000 digits", "", "1", 99_999, "1", "", "=x"),
-    ("1 MiB", "", " ", 1_048_557, "x=1", "", ""),
-    ("1 MiB and a byte", "", " ", 1_048_558, "x=1", "", ""),
-];
+/// A formula in parts: what stands first, what is written so often, what stands inside, what closes each of these, and
+/// what stands last.
+#[derive(Clone, Copy)]
+struct Nest {
+    first: &'static str,
+    opening: &'static str,
+    inside: &'static str,
+    closing: &'static str,
+    last: &'static str,
+}
+
+impl Nest {
+    /// A formula of these parts, in the order of the text.
+    const fn of(
+        first: &'static str,
+        opening: &'static str,
+        inside: &'static str,
+        closing: &'static str,
+        last: &'static str,
+    ) -> Nest {
+        Nest {
+            first,
+            opening,
+            inside,
+            closing,
+            last,
+        }
+    }
+}
 
 /// Statements of one session: what stands first, what is written so often, and what stands last.
 const STATEMENTS: [(&str, &str, &str, usize, &str); 9] = [
@@ -74,20 +75,59 @@ const STATEMENTS: [(&str, &str, &str, usize, &str); 9] = [
 ];
 
 fn main(rt: HostRuntime) -> io::Result<()> {
-    formulas(&rt)?;
+    levels(&rt)?;
+    lengths(&rt)?;
     session(&rt)
 }
 
-/// Each formula's truth in a session of its own.
-fn formulas(rt: &HostRuntime) -> io::Result<()> {
-    let alloc = rt.alloc();
-    for (title, first, opening, count, inside, closing, last) in FORMULAS {
-        let statement = statement(alloc, first, opening, count, inside, closing, last)?;
-        let mut session = Session::new(alloc, LIMITS);
-        let answer = answer(alloc, &mut session, statement.as_bytes())?;
-        let valued = names(alloc, statement.as_bytes());
-        println!(rt; "{title}: {answer}, {valued}")?;
+/// The deepest formulas of each kind that are read, and those a level deeper.
+fn levels(rt: &HostRuntime) -> io::Result<()> {
+    twice(rt, "brackets", Nest::of("", "(", "x=1", ")", ""))?;
+    twice(rt, "brackets of a term", Nest::of("", "(", "x", ")", "=1"))?;
+    let lists = Nest::of("", "(true or false and ", "x=1", ")", "");
+    formula(rt, "511 lists", lists, 511)?;
+    twice(rt, "times not", Nest::of("", "not ", "x=1", "", ""))?;
+    twice(rt, "times impl", Nest::of("", "x=1 impl ", "x=1", "", ""))?;
+    twice(rt, "times repl", Nest::of("", "x=1 repl ", "x=1", "", ""))?;
+    twice(rt, "times equiv", Nest::of("", "x=1 equiv ", "x=1", "", ""))?;
+    twice(rt, "times /", Nest::of("", "x/", "x", "", "=1"))?;
+    twice(rt, "times ex", Nest::of("", "ex(x,", "x=1", ")", ""))
+}
+
+/// A formula with 511 levels, and with 512.
+fn twice(rt: &HostRuntime, title: &str, nest: Nest) -> io::Result<()> {
+    for count in [511, 512] {
+        let title = format!(in rt.alloc(); "{count} {title}")?;
+        formula(rt, &title, nest, count)?;
     }
+    Ok(())
+}
+
+/// Long formulas.
+fn lengths(rt: &HostRuntime) -> io::Result<()> {
+    let names = Nest::of("ex({", "x,", "x},x=1)", "", "");
+    let members = Nest::of("", "x=1 and ", "x=1", "", "");
+    let terms = Nest::of("", "x+", "x", "", "=100000");
+    let factors = Nest::of("", "1*", "x", "", "=1");
+    let digits = Nest::of("", "1", "1", "", "=x");
+    let blanks = Nest::of("", " ", "x=1", "", "");
+    formula(rt, "300,000 names", names, 299_999)?;
+    formula(rt, "100,000 members", members, 99_999)?;
+    formula(rt, "100,000 terms", terms, 99_999)?;
+    formula(rt, "100,000 factors", factors, 99_999)?;
+    formula(rt, "100,000 digits", digits, 99_999)?;
+    formula(rt, "1 MiB", blanks, 1_048_557)?;
+    formula(rt, "1 MiB and a byte", blanks, 1_048_558)
+}
+
+/// The formula's truth in a session of its own.
+fn formula(rt: &HostRuntime, title: &str, nest: Nest, count: usize) -> io::Result<()> {
+    let alloc = rt.alloc();
+    let statement = statement(alloc, nest, count)?;
+    let mut session = Session::new(alloc, LIMITS);
+    let answer = answer(alloc, &mut session, statement.as_bytes())?;
+    let valued = names(alloc, statement.as_bytes());
+    println!(rt; "{title}: {answer}, {valued}")?;
     Ok(())
 }
 
@@ -114,17 +154,15 @@ fn binding(rt: &HostRuntime, session: &mut Session, count: usize) -> io::Result<
 }
 
 /// The statement whether a formula holds where x is 1.
-fn statement(
-    alloc: Global,
-    first: &str,
-    opening: &str,
-    count: usize,
-    inside: &str,
-    closing: &str,
-    last: &str,
-) -> Result<String, AllocError> {
-    let openings = opening.repeat(alloc, count)?;
-    let closings = closing.repeat(alloc, count)?;
+fn statement(alloc: Global, nest: Nest, count: usize) -> Result<String, AllocError> {
+    let openings = nest.opening.repeat(alloc, count)?;
+    let closings = nest.closing.repeat(alloc, count)?;
+    let Nest {
+        first,
+        inside,
+        last,
+        ..
+    } = nest;
     format!(in alloc; "rlholds({first}{openings}{inside}{closings}{last},{{x=1}});")
 }
 

@@ -1,5 +1,5 @@
 -- Reading a statement.
-use Rattle.std.proofs.Common.{◌≡◌, ℕ, ◌≤◌, List, [], ◌∷◌, ◌++◌, map, length, drop, sym, refl, ap, ◌∙◌, subst, inl, inr}
+use Rattle.std.proofs.Common.{◌≡◌, ◌≢◌, ℕ, ◌≤◌, arith, List, [], ◌∷◌, ◌++◌, map, length, drop, sym, refl, ap, ◌∙◌, subst, inl, inr}
 use Rattle.std.specs.Prelude.{Option, Some, None}
 use Rattle.qe_syntax.specs.Statements.{StatementTree}
 use Rattle.redlog_reader.specs.declared.lexer.Lexeme.{Lexeme}
@@ -20,7 +20,7 @@ use Rattle.qe_syntax.specs.Proper.{IsProper}
 use Rattle.redlog_reader.proofs.CompleteStatements.{statement_done}
 use Rattle.redlog_reader.proofs.SoundStatements.{statement_sound}
 use Rattle.redlog_reader.proofs.Proper.{proper_statement}
-use Rattle.redlog_reader.proofs.Lexed.{same_lexemes, lexed, same_goods, goods_of, terminals_of, tokens_proper, lexed_proper}
+use Rattle.redlog_reader.proofs.Lexed.{same_lexemes, no_bad, lexed, same_goods, goods_of, terminals_of, tokens_proper, lexed_proper}
 
 -- the kinds of the tokens are determined
 same_kinds : {bytes : List ℕ} {js ks : List TokenKind} → AreKinds bytes js → AreKinds bytes ks → js ≡ ks
@@ -116,3 +116,11 @@ no_more (t ∷ ts) = ap (λ us. t ∷ us) (no_more ts)
 pub tokens_end : (bytes : List ℕ) (from : ℕ) (done : List Token)
     → ((ts : List Lexeme) → LexesFrom bytes from ts → Lexes bytes 0 (map lexeme_of done ++ ts)) → LexesFrom bytes from [] → AreTokens bytes done
 tokens_end bytes from done before l = subst (Lexes bytes 0) (no_more (map lexeme_of done)) (before [] l)
+
+-- bytes that spell a statement are not refused
+pub not_unread : (bytes : List ℕ) (t : StatementTree) (e : ReadError) → e ≢ cause.Memory → Spells bytes t → Unread bytes e → ⊥
+not_unread bytes t cause.Long other s u = let short = s.tokens.short in omega arith
+not_unread bytes t cause.Lexical other s u = no_bad u.lexical.lexemes s.kinds (ap (map (λ t. t.kind)) (same_lexemes u.lexical.lexes s.tokens.lexes) ∙ s.tokens.good) u.lexical.bad
+not_unread bytes t cause.Nesting other s u = s.shallow (subst (λ ks. Passes LEVEL_LIMIT [] (map terminal_of ks)) (same_kinds u.tokens s.tokens) u.deep)
+not_unread bytes t cause.Syntax other s u = u.none t (subst (λ ks. SpellsStatement (map terminal_of ks) t) (same_kinds s.tokens u.tokens) s.spelled)
+not_unread bytes t cause.Memory other s u = other refl

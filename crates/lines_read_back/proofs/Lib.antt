@@ -1,0 +1,4 @@
+pub mod Numbers
+pub mod Answered
+pub mod Bare
+pub mod Printed

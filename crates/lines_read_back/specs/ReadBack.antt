@@ -1,0 +1,112 @@
+-- What a session answers where it is given the text of a formula.
+use Rattle.std.specs.Prelude.{◌≡◌, ◌≤◌, ℕ, List, [], ◌++◌, length, codes, true, Result, Ok, Err}
+use Rattle.std.specs.declared.alloc.Global.{Global}
+use Rattle.std.specs.declared.vec.Vec.{Vec}
+use Rattle.formula_meaning.specs.Every.{Every}
+use Rattle.formula_meaning.specs.Sizes.{height}
+use Rattle.formula_meaning.specs.Tree.{Tree}
+use Rattle.qe_syntax.specs.Trees.{FormulaTree}
+use Rattle.qe_syntax.specs.Statements.{CommandTree, Echo, Nnf, Pnf, Dnf, Cnf, Simpl, Qe, Qea, Holds, Sample, Say}
+use Rattle.formula_tree.specs.Causes.{most_height}
+use Rattle.redlog_reader.specs.Statement.{Spells, IsDeep}
+use Rattle.redlog_reader.specs.declared.read.TheConstants.{BYTE_LIMIT}
+use Rattle.redlog_printer.specs.Text.{tree_text}
+use Rattle.printed_formulas.specs.Round.{AreVariables, AtomFits, IsReadable, line_text}
+use Rattle.session_commands.specs.declared.line.Line.{Line}
+use Rattle.session_commands.specs.declared.line.Line.TheVariants as line
+use Rattle.session_commands.specs.declared.line.StatementError.{StatementError}
+use Rattle.session_commands.specs.declared.line.StatementError.TheVariants as error
+use Rattle.session_commands.specs.State.{State}
+use Rattle.session_commands.specs.Commands.{MayGive}
+use Rattle.session_commands.specs.Built.{IsBuiltFormula}
+use Rattle.session_commands.specs.Keeping.{IsSessionFormula}
+use Rattle.session_commands.specs.Reply.{Reply}
+
+-- nothing is bound, no name has two numbers, and each name is one that a script can write
+pub record IsBare (s : State) : Type 0 where
+  pub names : AreVariables s.names
+  pub unbound : s.bound ≡ []
+
+-- a formula as the session has it, with numbers within the limit, and no higher than a resolved formula may be
+pub record IsOwnFormula (s : State) (t : Tree) : Type 0 where
+  pub formula : IsSessionFormula s.context (length s.names) t
+  pub numbers : Every AtomFits t
+  pub low : height t ≤ most_height
+
+-- the line with this text is printed, and the state stays; or memory ran out
+abbrev pub IsSameLine : State → List ℕ → Result Line StatementError → State → Type 0
+IsSameLine s text (Ok (line.Printed bytes)) next = (bytes.items ≡ text) × (next ≡ s)
+IsSameLine s text (Ok line.Nothing) next = ⊥
+IsSameLine s text (Ok line.Finished) next = ⊥
+IsSameLine s text (Err error.Memory) next = Unit {0}
+IsSameLine s text (Err e) next = ⊥
+
+-- in this state the piece is answered with the line of this text, and with nothing else but want of memory
+pub record IsAnsweredBy (s : State) (limit : ℕ) (piece text : List ℕ) : Type 0 where
+  pub answered : (bytes : Vec ℕ Global) → bytes.items ≡ text → Reply s limit piece (Ok (line.Printed bytes)) s
+  pub only : (result : Result Line StatementError) (next : State) → Reply s limit piece result next → IsSameLine s text result next
+
+-- The text of a formula as the session has it, with ; behind it, is answered with the same text, where the reader takes it
+-- and nothing is bound.
+abbrev pub TextIsAnswered : Type 0
+TextIsAnswered = (s : State) (limit : ℕ) (t : Tree) → IsBare s → IsOwnFormula s t → IsReadable s.names t → IsAnsweredBy s limit (line_text s.names t) (tree_text s.names t)
+
+-- ---- which states and formulas these are
+
+-- After a statement that is answered the names are ones that a script can write, where they were before.
+abbrev pub NamesStayWritable : Type 0
+NamesStayWritable = (s : State) (limit : ℕ) (piece : List ℕ) (answer : Line) (next : State) → AreVariables s.names → Reply s limit piece (Ok answer) next → AreVariables next.names
+
+-- the command asks for the formula as it is
+abbrev pub IsEcho : CommandTree → Type 0
+IsEcho (Echo f) = Unit {0}
+IsEcho (Nnf f) = ⊥
+IsEcho (Pnf f) = ⊥
+IsEcho (Dnf f) = ⊥
+IsEcho (Cnf f) = ⊥
+IsEcho (Simpl f given) = ⊥
+IsEcho (Qe f given) = ⊥
+IsEcho (Qea f given) = ⊥
+IsEcho (Holds f es) = ⊥
+IsEcho (Sample f es) = ⊥
+
+-- the command asks for an elimination
+abbrev pub IsElimination : CommandTree → Type 0
+IsElimination (Echo f) = ⊥
+IsElimination (Nnf f) = ⊥
+IsElimination (Pnf f) = ⊥
+IsElimination (Dnf f) = ⊥
+IsElimination (Cnf f) = ⊥
+IsElimination (Simpl f given) = ⊥
+IsElimination (Qe f given) = Unit {0}
+IsElimination (Qea f given) = Unit {0}
+IsElimination (Holds f es) = ⊥
+IsElimination (Sample f es) = ⊥
+
+-- The text is that of a formula which the command may give, and which is one as the session has it. It is no higher than a
+-- resolved formula may be where the command asks for the formula as it is, and its numbers are within the limit where no
+-- elimination is asked for.
+pub record IsPrinted (s : State) (limit : ℕ) (c : CommandTree) (text : List ℕ) : Type 0 where
+  pub tree : Tree
+  pub given : MayGive s limit c tree
+  pub text_is : text ≡ tree_text s.names tree
+  pub formula : IsSessionFormula s.context (length s.names) tree
+  pub numbers : ¬ (IsElimination c) → Every AtomFits tree
+  pub low : IsEcho c → height tree ≤ most_height
+
+-- What a formula command prints in a state in which nothing is bound is such a text, and the state after it is again one in
+-- which nothing is bound.
+abbrev pub PrintedIsFormula : Type 0
+PrintedIsFormula =
+    (s : State) (limit : ℕ) (piece : List ℕ) (c : CommandTree) (bytes : Vec ℕ Global) (next : State) → IsBare s → IsBuiltFormula c →
+    Spells piece (record { action = Say c; printed = true }) → Reply s limit piece (Ok (line.Printed bytes)) next →
+    IsBare next × IsPrinted next limit c bytes.items
+
+-- So a line that a formula prints is answered with the same line in the state after it, where it is no longer and no deeper
+-- than the reader takes it.
+abbrev pub EchoIsAnswered : Type 0
+EchoIsAnswered =
+    (s : State) (limit : ℕ) (piece : List ℕ) (f : FormulaTree) (bytes : Vec ℕ Global) (next : State) → IsBare s →
+    Spells piece (record { action = Say (Echo f); printed = true }) → Reply s limit piece (Ok (line.Printed bytes)) next →
+    length (bytes.items ++ codes ";") ≤ BYTE_LIMIT → ¬ (IsDeep (bytes.items ++ codes ";")) →
+    (more : ℕ) → IsAnsweredBy next more (bytes.items ++ codes ";") bytes.items

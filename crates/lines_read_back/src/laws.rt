@@ -1,0 +1,25 @@
+//! What is proved of lines that are read back. Each function does nothing; its contract is a law.
+
+ghost use Rattle.lines_read_back.specs.ReadBack.{TextIsAnswered, NamesStayWritable, PrintedIsFormula, EchoIsAnswered};
+
+/// In a state in which nothing is bound, the text of a formula as the session has it, followed by `;`, is answered with the
+/// line of the same text, which changes nothing, or memory runs out. The text is at most 1 MiB long and 512 levels deep.
+pub fn text_is_answered()
+    ensures { TextIsAnswered }
+{}
+
+/// Each statement that is answered leaves the names ones that a script can write, each once.
+pub fn names_stay_writable()
+    ensures { NamesStayWritable }
+{}
+
+/// What a formula command prints in a state in which nothing is bound is the text of a formula as the session has it. Its
+/// numbers are within the limit but for an elimination, and it is low enough where it is printed as it is.
+pub fn printed_is_formula()
+    ensures { PrintedIsFormula }
+{}
+
+/// So a printed formula is answered with the same line again, as long as it is at most 1 MiB long and 512 levels deep.
+pub fn echo_is_answered()
+    ensures { EchoIsAnswered }
+{}

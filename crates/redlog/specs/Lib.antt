@@ -1,5 +1,0 @@
-pub mod Numbers
-pub mod Script
-pub mod Lines
-pub mod Run
-pub mod Outcome

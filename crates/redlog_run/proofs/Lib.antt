@@ -1,0 +1,5 @@
+pub mod Joined
+pub mod Replies
+pub mod Unrefused
+pub mod Choices
+pub mod ChoiceExample

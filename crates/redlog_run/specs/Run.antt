@@ -1,0 +1,47 @@
+-- What a script is answered with: piece after piece, each in the state that the one before left.
+use Rattle.std.specs.Prelude.{◌≡◌, ◌≢◌, ℕ, ◌-◌, List, [], ◌++◌, take, drop, Bool, true, false, ◌||◌, Ok, Err}
+use Rattle.redlog_reader.specs.Pieces.{HasNoTokenFrom, IsPiece}
+use Rattle.session_commands.specs.declared.line.Line.{Line}
+use Rattle.session_commands.specs.declared.line.Line.TheVariants.{Finished}
+use Rattle.session_commands.specs.declared.line.StatementError.{StatementError}
+use Rattle.session_commands.specs.declared.line.StatementError.TheVariants as error
+use Rattle.session_commands.specs.Words.{word_of}
+use Rattle.session_commands.specs.State.{State, first_state}
+use Rattle.session_commands.specs.Reply.{Reply}
+use Rattle.redlog_run.specs.declared.answer.TheConstants.{LIMITS}
+use Rattle.redlog_run.specs.Lines.{refusal_line, lines_of}
+
+-- In this state the piece at this offset ends the script or does not, is answered with these lines, and is refused or not; and
+-- the state after it.
+pub data AnswersPiece (s : State) (limit : ℕ) (piece : List ℕ) (offset : ℕ) : Bool → List ℕ → Bool → State → Type 0 where
+  finished : {next : State} → Reply s limit piece (Ok Finished) next → AnswersPiece s limit piece offset true [] false next
+  answered : {next : State} (line : Line) → line ≢ Finished → Reply s limit piece (Ok line) next → AnswersPiece s limit piece offset false (lines_of line) false next
+  refused : {next : State} (cause : StatementError) → cause ≢ error.Memory → Reply s limit piece (Err cause) next
+      → AnswersPiece s limit piece offset false (refusal_line (word_of cause) offset) true next
+
+abbrev pub piece_bytes : List ℕ → ℕ → ℕ → List ℕ
+piece_bytes script start end = take (end - start) (drop start script)
+
+-- from this place on, in this state, the script is answered with these lines, and one of them is a refusal or none
+pub data Run (limit : ℕ) (script : List ℕ) : ℕ → State → List ℕ → Bool → Type 0 where
+  -- no token is left
+  over : {from : ℕ} {s : State} → HasNoTokenFrom script from → Run limit script from s [] false
+  -- a statement ends the script
+  last : {from start end : ℕ} {s next : State} {lines : List ℕ} {refusal : Bool} → IsPiece script from start end
+      → AnswersPiece s limit (piece_bytes script start end) start true lines refusal next → Run limit script from s lines refusal
+  -- a statement, and those after it
+  then : {from start end : ℕ} {s next : State} {lines rest all : List ℕ} {refusal more some : Bool} → IsPiece script from start end
+      → AnswersPiece s limit (piece_bytes script start end) start false lines refusal next → Run limit script end next rest more
+      → all ≡ lines ++ rest → some ≡ (refusal || more) → Run limit script from s all some
+
+-- the whole script is answered with these lines, and one of them is a refusal or none
+abbrev pub RunOf : List ℕ → List ℕ → Bool → Type 0
+RunOf script lines refusal = Run LIMITS.nodes script 0 first_state lines refusal
+
+-- what one piece adds to the lines and to the flag of a refusal
+pub record Adds (s : State) (limit : ℕ) (piece : List ℕ) (offset : ℕ) (ends : Bool) (next : State) (lines : List ℕ) (refusal : Bool) (all : List ℕ) (some : Bool) : Type 0 where
+  pub added : List ℕ
+  pub is_refused : Bool
+  pub answer : AnswersPiece s limit piece offset ends added is_refused next
+  pub lines_are : all ≡ lines ++ added
+  pub refusal_is : some ≡ (refusal || is_refused)

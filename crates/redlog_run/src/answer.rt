@@ -1,0 +1,93 @@
+ghost use Rattle.std.specs.Prelude.{◌≡◌, ◌≢◌, ◌++◌, ◌∷◌, [], true, IfOk, OnOk};
+ghost use Rattle.session_commands.specs.Seen.{state_in};
+ghost use Rattle.session_commands.specs.Words.{word_of};
+ghost use Rattle.redlog_run.specs.Lines.{refusal_line};
+ghost use Rattle.redlog_run.specs.Run.{RunOf, Adds};
+
+use redlog_reader::next_piece;
+use session_commands::{Limits, Line, Session, StatementError};
+use std::alloc::{AllocError, Global};
+
+/// The limits of the session, until words of the program can change them.
+pub const LIMITS: Limits = Limits {
+    nodes: 1_000_000,
+    workers: 4,
+};
+
+/// What a script is answered with: its lines, and whether one of them is a refusal.
+#[derive(Drop)]
+pub struct Answers {
+    pub lines: Vec<u8>,
+    pub refused: bool,
+}
+
+/// Answers a script: its statements in turn, each in the state that the one before left, until one of them ends it.
+pub fn answer_script(alloc: Global, script: &[u8]) -> Result<Answers, AllocError>
+    ensures { IfOk result (λ answers. RunOf script.now answers.lines.items answers.refused) }
+{
+    let mut session = Session::new(alloc, LIMITS);
+    let mut answers = Answers {
+        lines: Vec::new(alloc),
+        refused: false,
+    };
+    let mut from = 0;
+    'pieces: while let Some(piece) = next_piece(script, from) {
+        let bytes = &script[piece.start..piece.end];
+        if answer_piece(alloc, &mut session, bytes, piece.start, &mut answers)? {
+            return Ok(answers);
+        }
+        from = piece.end;
+    }
+    Ok(answers)
+}
+
+/// Adds what a piece at this offset is answered with, and says whether it ends the script.
+fn answer_piece(
+    alloc: Global,
+    session: &mut Session,
+    piece: &[u8],
+    offset: usize,
+    answers: &mut Answers,
+) -> Result<bool, AllocError>
+    ensures adds { IfOk result (λ ends. Adds (state_in session.old) session.old.limits.nodes piece.now offset ends (state_in session.new) answers.old.lines.items answers.old.refused answers.new.lines.items answers.new.refused) }
+    ensures limits { session.new.limits ≡ session.old.limits }
+{
+    match session.statement(piece) {
+        Ok(Line::Finished) => return Ok(true),
+        Ok(Line::Nothing) => (),
+        Ok(Line::Printed(text)) => add_line(&text, answers)?,
+        Err(error) => add_refusal(alloc, error, offset, answers)?,
+    }
+    Ok(false)
+}
+
+/// Adds a line.
+fn add_line(text: &[u8], answers: &mut Answers) -> Result<(), AllocError>
+    ensures lines { OnOk result (answers.new.lines.items ≡ answers.old.lines.items ++ (text.now ++ 10 ∷ [])) }
+    ensures refused { answers.new.refused ≡ answers.old.refused }
+{
+    answers.lines.extend_from_slice(text)?;
+    answers.lines.push(b'\n')?;
+    Ok(())
+}
+
+/// Adds the line of a refusal of the statement at this offset. Want of memory is no refusal.
+fn add_refusal(
+    alloc: Global,
+    error: StatementError,
+    offset: usize,
+    answers: &mut Answers,
+) -> Result<(), AllocError>
+    ensures lines { OnOk result (answers.new.lines.items ≡ answers.old.lines.items ++ refusal_line (word_of error) offset) }
+    ensures refused { OnOk result (answers.new.refused ≡ true) }
+    ensures cause { OnOk result (error ≢ StatementError.Memory) }
+{
+    if error == StatementError::Memory {
+        return Err(AllocError);
+    }
+    let word = error.word();
+    let line = format!(in alloc; "***** {word} at {offset}\n")?;
+    answers.lines.extend_from_slice(line.as_bytes())?;
+    answers.refused = true;
+    Ok(())
+}

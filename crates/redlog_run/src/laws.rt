@@ -1,0 +1,13 @@
+//! That scripts are answered. Each function does nothing; its contract is a law.
+
+ghost use Rattle.redlog_run.specs.WithoutFormulas.{EndingIsAnswered, ChoicesAreAnswered, NoneIsRefused, SomeChoiceIsAnswered};
+
+/// A script whose first statement is `end`, `bye` or `quit` has exactly one run, which has no line. One whose statements,
+/// through the first that ends it, are empty, ignored or choices of a theory has exactly one, which has the lines of the choices.
+/// No run of such a script has a refusal, so `run` answers it or runs out of memory. `rlset pasf; end;` is such a script.
+pub fn scripts_without_formulas()
+    ensures ending { EndingIsAnswered }
+    ensures choices { ChoicesAreAnswered }
+    ensures none_refused { NoneIsRefused }
+    ensures example { SomeChoiceIsAnswered }
+{}

@@ -1,0 +1,17 @@
+//! From a script to the lines that answer it, and to the status that the process ends with.
+#![tactic(auto)]
+
+mod answer;
+mod laws;
+mod process;
+mod program;
+mod read;
+mod status;
+#[cfg(test)]
+mod tests;
+mod write;
+
+pub use laws::scripts_without_formulas;
+pub use process::{WordsError, finish, run_process};
+pub use program::run;
+pub use status::Status;
