@@ -1,0 +1,2 @@
+pub mod FreeTests
+pub mod Keeps

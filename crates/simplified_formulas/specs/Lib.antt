@@ -1,0 +1,4 @@
+pub mod Atoms
+pub mod Reduced
+pub mod Tidy
+pub mod Pass
