@@ -35,30 +35,30 @@ module _ {A : Type 0} (kit : Kit A) (P : A → Type 0) (Mentions : A → ℕ →
     AtomsWithin None = Unit {0}
     AtomsWithin (Some us) = EachOf HasAtom us
 
-    abbrev PartsWithin : Parts A → Type 0
+    abbrev pub PartsWithin : Parts A → Type 0
     PartsWithin Closed = Unit {0}
     PartsWithin (Open us gs) = EachOf HasAtom us × AreWithin gs
 
-    abbrev PiecesWithin : Option (Formulas A ℕ) → Type 0
+    abbrev pub PiecesWithin : Option (Formulas A ℕ) → Type 0
     PiecesWithin None = Unit {0}
     PiecesWithin (Some fs) = AreWithin fs
 
-    nothing : AreWithin none
+    pub nothing : AreWithin none
     nothing = record { tidy = tt; names = λ x h. absurd h }
 
-    one_more : (f : Formula A ℕ) (fs : Formulas A ℕ) → IsWithin f → AreWithin fs → AreWithin (also f fs)
+    pub one_more : (f : Formula A ℕ) (fs : Formulas A ℕ) → IsWithin f → AreWithin fs → AreWithin (also f fs)
     one_more f fs h k = record { tidy = (h.tidy, k.tidy); names = λ x. ⊎_elim (h.names x) (k.names x) }
 
-    first : (f : Formula A ℕ) (fs : Formulas A ℕ) → AreWithin (also f fs) → IsWithin f
+    pub first : (f : Formula A ℕ) (fs : Formulas A ℕ) → AreWithin (also f fs) → IsWithin f
     first f fs h = record { tidy = h.tidy.0; names = λ x t. h.names x (inl t) }
 
-    rest : (f : Formula A ℕ) (fs : Formulas A ℕ) → AreWithin (also f fs) → AreWithin fs
+    pub rest : (f : Formula A ℕ) (fs : Formulas A ℕ) → AreWithin (also f fs) → AreWithin fs
     rest f fs h = record { tidy = h.tidy.1; names = λ x t. h.names x (inr t) }
 
-    atom_of : (a : A) → IsWithin (One a) → HasAtom a
+    pub atom_of : (a : A) → IsWithin (One a) → HasAtom a
     atom_of a h = record { holds = h.tidy; names = h.names }
 
-    of_atom : (a : A) → HasAtom a → IsWithin (One a)
+    pub of_atom : (a : A) → HasAtom a → IsWithin (One a)
     of_atom a h = record { tidy = h.holds; names = h.names }
 
     -- ---- an atom more
@@ -85,15 +85,15 @@ module _ {A : Type 0} (kit : Kit A) (P : A → Type 0) (Mentions : A → ℕ →
     decision_within (Some b) j a us gs h k l = closed_if_within (settles j b) us gs k l
     decision_within None j a us gs h k l = opened_within (with_one kit j a us) gs (one_within j a us h k) l
 
-    atom_within : (j : Junction) (ks : List A) (a : A) (s : Parts A) → HasAtom a → PartsWithin s → PartsWithin (with_atom kit j ks a s)
+    pub atom_within : (j : Junction) (ks : List A) (a : A) (s : Parts A) → HasAtom a → PartsWithin s → PartsWithin (with_atom kit j ks a s)
     atom_within j ks a Closed h k = tt
     atom_within j ks a (Open us gs) h k = decision_within (decided kit ks a) j a us gs h k.0 k.1
 
-    atom_first_within : (j : Junction) (ks : List A) (f : Formula A ℕ) (s : Parts A) → IsWithin f → PartsWithin s → PartsWithin (with_atom_first kit j ks f s)
+    pub atom_first_within : (j : Junction) (ks : List A) (f : Formula A ℕ) (s : Parts A) → IsWithin f → PartsWithin s → PartsWithin (with_atom_first kit j ks f s)
     atom_first_within j ks (One a) s h k = atom_within j ks a s (atom_of a h) k
     atom_first_within j ks f s h k = k
 
-    atoms_within : (j : Junction) (ks : List A) (fs : Formulas A ℕ) (s : Parts A) → AreWithin fs → PartsWithin s → PartsWithin (with_atoms kit j ks fs s)
+    pub atoms_within : (j : Junction) (ks : List A) (fs : Formulas A ℕ) (s : Parts A) → AreWithin fs → PartsWithin s → PartsWithin (with_atoms kit j ks fs s)
     atoms_within j ks none s h k = k
     atoms_within j ks (also f fs) s h k = atoms_within j ks fs (with_atom_first kit j ks f s) (rest f fs h) (atom_first_within j ks f s (first f fs h) k)
 
@@ -111,7 +111,7 @@ module _ {A : Type 0} (kit : Kit A) (P : A → Type 0) (Mentions : A → ℕ →
     other_within f Closed h k = tt
     other_within f (Open us gs) h k = (k.0, pushed_within (has kit gs f) f gs h k.1)
 
-    piece_within : (j : Junction) (ks : List A) (f : Formula A ℕ) (s : Parts A) → IsWithin f → PartsWithin s → PartsWithin (with_piece kit j ks f s)
+    pub piece_within : (j : Junction) (ks : List A) (f : Formula A ℕ) (s : Parts A) → IsWithin f → PartsWithin s → PartsWithin (with_piece kit j ks f s)
     piece_within j ks (One a) s h k = atom_within j ks a s (atom_of a h) k
     piece_within j ks f s h k = other_within f s h k
 
@@ -132,7 +132,7 @@ module _ {A : Type 0} (kit : Kit A) (P : A → Type 0) (Mentions : A → ℕ →
     or_pieces : (fs : Formulas A ℕ) → IsWithin (Or fs) → AreWithin fs
     or_pieces fs h = record { tidy = h.tidy.1; names = h.names }
 
-    split_within : (j : Junction) (f : Formula A ℕ) → IsWithin f → PiecesWithin (pieces_of j f)
+    pub split_within : (j : Junction) (f : Formula A ℕ) → IsWithin f → PiecesWithin (pieces_of j f)
     split_within Conjunction Yes h = nothing
     split_within Conjunction No h = tt
     split_within Conjunction (And fs) h = list_pieces fs h
@@ -142,7 +142,7 @@ module _ {A : Type 0} (kit : Kit A) (P : A → Type 0) (Mentions : A → ℕ →
     split_within Disjunction (Or fs) h = or_pieces fs h
     split_within Disjunction f h = alone f h
 
-    passed_within : (j : Junction) (ks : List A) (f g : Formula A ℕ) (s : Parts A) → IsWithin g → PartsWithin s → PartsWithin (with_passed kit j ks f g s)
+    pub passed_within : (j : Junction) (ks : List A) (f g : Formula A ℕ) (s : Parts A) → IsWithin g → PartsWithin s → PartsWithin (with_passed kit j ks f g s)
     passed_within j ks (One a) g s h k = k
     passed_within j ks f g s h k = member_within j ks (pieces_of j g) s (split_within j g h) k
 
@@ -174,16 +174,16 @@ module _ {A : Type 0} (kit : Kit A) (P : A → Type 0) (Mentions : A → ℕ →
 
   -- ---- the pass
 
-  wider : (C D : ℕ → Type 0) (f : Formula A ℕ) → ((x : ℕ) → C x → D x) → IsWithin C f → IsWithin D f
+  pub wider : (C D : ℕ → Type 0) (f : Formula A ℕ) → ((x : ℕ) → C x → D x) → IsWithin C f → IsWithin D f
   wider C D f w h = record { tidy = h.tidy; names = λ x t. w x (h.names x t) }
 
   abbrev pub FreeIn : Formula A ℕ → ℕ → Type 0
   FreeIn f x = Free Mentions f x
 
-  abbrev FreeInAny : Formulas A ℕ → ℕ → Type 0
+  abbrev pub FreeInAny : Formulas A ℕ → ℕ → Type 0
   FreeInAny fs x = FreeInSome Mentions fs x
 
-  decided_within : (a : A) (o : Option Bool) → P a → IsWithin (Mentions a) (atom_or a o)
+  pub decided_within : (a : A) (o : Option Bool) → P a → IsWithin (Mentions a) (atom_or a o)
   decided_within a (Some b) h = constant_within (Mentions a) b
   decided_within a None h = record { tidy = h; names = λ x t. t }
 
@@ -196,7 +196,7 @@ module _ {A : Type 0} (kit : Kit A) (P : A → Type 0) (Mentions : A → ℕ →
     names = λ x t. (λ (k : y ≡ x). not_free kit Mentions told y g e (subst (FreeIn g) (sym k) t), h.names x t);
   }
 
-  start : (C : ℕ → Type 0) → PartsWithin C (Open [] none)
+  pub start : (C : ℕ → Type 0) → PartsWithin C (Open [] none)
   start C = (tt, nothing C)
 
   mutual
@@ -222,7 +222,7 @@ module _ {A : Type 0} (kit : Kit A) (P : A → Type 0) (Mentions : A → ℕ →
         (pass_within f (without kit.contains y ks) h)
 
     -- the members fs of the list ts
-    others_within : (ts fs : Formulas A ℕ) (j : Junction) (ks : List A) (s : Parts A) → ((x : ℕ) → FreeInAny fs x → FreeInAny ts x) → AreTidy P fs → PartsWithin (FreeInAny ts) s → PartsWithin (FreeInAny ts) (others kit fs j ks s)
+    pub others_within : (ts fs : Formulas A ℕ) (j : Junction) (ks : List A) (s : Parts A) → ((x : ℕ) → FreeInAny fs x → FreeInAny ts x) → AreTidy P fs → PartsWithin (FreeInAny ts) s → PartsWithin (FreeInAny ts) (others kit fs j ks s)
     others_within ts none j ks s c h k = k
     others_within ts (also f fs) j ks s c h k =
         others_within ts fs j ks (with_passed kit j ks f (pass kit f (known kit j s ks)) s) (λ x t. c x (inr t)) h.1

@@ -1,2 +1,4 @@
 pub mod FreeTests
 pub mod Keeps
+pub mod Joining
+pub mod Sound
