@@ -2,3 +2,4 @@ pub mod FreeTests
 pub mod Keeps
 pub mod Joining
 pub mod Sound
+pub mod Sizes

@@ -2,3 +2,4 @@ pub mod Atoms
 pub mod Reduced
 pub mod Tidy
 pub mod Pass
+pub mod Measure
