@@ -10,6 +10,10 @@ use Rattle.simplified_formulas.specs.Tidy.{IsTidy, AreTidy}
 use Rattle.simplified_formulas.proofs.FreeTests.{NamesTold, not_free}
 use Rattle.simplified_formulas.specs.Pass.{Parts, Closed, Open, settles, constant, first_answer, ones, close, opened, closed_if, atom_or, pushed_unless, where_merged, decided, with_one, by_decision, with_atom, has, with_other, with_piece, with_pieces, with_member, with_atom_first, with_atoms, with_passed, known, is_free, is_free_in_some, quantified, pass, others}
 
+-- any name
+abbrev pub Any : ℕ → Type 0
+Any x = Unit {0}
+
 -- a merged atom has P, and no name that the first has not
 pub record MergesWithin {A : Type 0} (kit : Kit A) (P : A → Type 0) (Mentions : A → ℕ → Type 0) : Type 0 where
   pub keeps : (j : Junction) (a b d : A) → P a → P b → kit.merge j a b ≡ Into d → P d

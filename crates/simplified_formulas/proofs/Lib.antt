@@ -3,3 +3,5 @@ pub mod Keeps
 pub mod Joining
 pub mod Sound
 pub mod Sizes
+pub mod Nodes
+pub mod Shape

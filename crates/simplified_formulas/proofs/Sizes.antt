@@ -10,7 +10,7 @@ use Rattle.simplified_formulas.specs.Tidy.{IsTidy, AreTidy}
 use Rattle.simplified_formulas.specs.Measure.{Measure, as_member, size, members_size, more_size}
 use Rattle.simplified_formulas.specs.Pass.{Parts, Closed, Open, settles, constant, ones, close, opened, closed_if, atom_or, pushed_unless, where_merged, decided, with_one, by_decision, with_atom, has, with_other, with_piece, with_pieces, with_member, with_atom_first, with_atoms, with_passed, known, is_free, quantified, pass, others}
 use Rattle.simplified_formulas.proofs.FreeTests.{NamesTold}
-use Rattle.simplified_formulas.proofs.Keeps.{MergesWithin, HasAtom, IsWithin, AreWithin, PartsWithin, PiecesWithin, FreeIn, wider, piece_within, split_within, atom_first_within, passed_within, atoms_within, pass_within, first, rest, start}
+use Rattle.simplified_formulas.proofs.Keeps.{Any, MergesWithin, HasAtom, IsWithin, AreWithin, PartsWithin, PiecesWithin, FreeIn, wider, piece_within, split_within, atom_first_within, passed_within, atoms_within, pass_within, first, rest, start}
 
 -- a constant is no larger than an atom or a list, a merged atom no larger than the two, and brackets than a quantifier
 pub record MeasureLaws {A : Type 0} (kit : Kit A) (P : A → Type 0) (m : Measure A) (low : ℕ) : Type 0 where
@@ -22,9 +22,6 @@ pub record MeasureLaws {A : Type 0} (kit : Kit A) (P : A → Type 0) (m : Measur
   pub around : (q : Quantifier) (x : ℕ) → m.brackets ≤ m.quantifier q x
 
 module _ {A : Type 0} (kit : Kit A) (P : A → Type 0) (Mentions : A → ℕ → Type 0) (within : MergesWithin kit P Mentions) (names : NamesTold kit Mentions) (m : Measure A) (low : ℕ) (laws : MeasureLaws kit P m low) where
-  abbrev Any : ℕ → Type 0
-  Any x = Unit {0}
-
   abbrev Hold : List A → Type 0
   Hold us = EachOf (HasAtom kit P Mentions within names Any) us
 
@@ -262,23 +259,23 @@ module _ {A : Type 0} (kit : Kit A) (P : A → Type 0) (Mentions : A → ℕ →
   -- no larger, alone and as a member
   pub record IsNoLarger (g f : Formula A ℕ) : Type 0 where
     pub alone : size m g ≤ size m f
-    pub as_member : as_member m g (size m g) ≤ as_member m f (size m f)
+    pub inside : as_member m g (size m g) ≤ as_member m f (size m f)
 
   no_larger : (f : Formula A ℕ) → IsNoLarger f f
-  no_larger f = record { alone = omega arith; as_member = omega arith }
+  no_larger f = record { alone = omega arith; inside = omega arith }
 
   decided_smaller : (a : A) (o : Option Bool) → P a → IsNoLarger (atom_or a o) (One a)
-  decided_smaller a (Some true) h = record { alone = laws.constant_atom true a h; as_member = laws.constant_atom true a h }
-  decided_smaller a (Some false) h = record { alone = laws.constant_atom false a h; as_member = laws.constant_atom false a h }
+  decided_smaller a (Some true) h = record { alone = laws.constant_atom true a h; inside = laws.constant_atom true a h }
+  decided_smaller a (Some false) h = record { alone = laws.constant_atom false a h; inside = laws.constant_atom false a h }
   decided_smaller a None h = no_larger (One a)
 
   ex_smaller : (x : ℕ) (f g : Formula A ℕ) (b : Bool) → IsNoLarger g f → IsNoLarger (quantified (Ex x) b g) (Ex x f)
-  ex_smaller x f g true h = let k = h.alone in record { alone = omega arith; as_member = omega arith }
-  ex_smaller x f g false h = let k = h.alone in let i = laws.around Exists x in let l = member_most g in record { alone = omega arith; as_member = omega arith }
+  ex_smaller x f g true h = let k = h.alone in record { alone = omega arith; inside = omega arith }
+  ex_smaller x f g false h = let k = h.alone in let i = laws.around Exists x in let l = member_most g in record { alone = omega arith; inside = omega arith }
 
   all_smaller : (x : ℕ) (f g : Formula A ℕ) (b : Bool) → IsNoLarger g f → IsNoLarger (quantified (All x) b g) (All x f)
-  all_smaller x f g true h = let k = h.alone in record { alone = omega arith; as_member = omega arith }
-  all_smaller x f g false h = let k = h.alone in let i = laws.around ForAll x in let l = member_most g in record { alone = omega arith; as_member = omega arith }
+  all_smaller x f g true h = let k = h.alone in record { alone = omega arith; inside = omega arith }
+  all_smaller x f g false h = let k = h.alone in let i = laws.around ForAll x in let l = member_most g in record { alone = omega arith; inside = omega arith }
 
   any_within : (f g : Formula A ℕ) → IsWithin kit P Mentions within names (FreeIn kit P Mentions within names f) g → IsWithin kit P Mentions within names Any g
   any_within f g h = wider kit P Mentions within names (FreeIn kit P Mentions within names f) Any g (λ x t. tt) h
@@ -313,11 +310,11 @@ module _ {A : Type 0} (kit : Kit A) (P : A → Type 0) (Mentions : A → ℕ →
     pass_smaller (And fs) ks h =
         let k = list_smaller Conjunction fs ks h.0 h.1 (others_smaller fs Conjunction ks (begun Conjunction ks fs) h.1 (begun_within Conjunction ks fs h.1)) in
         let i = member_most (pass kit (And fs) ks) in
-        record { alone = k; as_member = omega arith }
+        record { alone = k; inside = omega arith }
     pass_smaller (Or fs) ks h =
         let k = list_smaller Disjunction fs ks h.0 h.1 (others_smaller fs Disjunction ks (begun Disjunction ks fs) h.1 (begun_within Disjunction ks fs h.1)) in
         let i = member_most (pass kit (Or fs) ks) in
-        record { alone = k; as_member = omega arith }
+        record { alone = k; inside = omega arith }
     pass_smaller (Impl f g) ks h = absurd h
     pass_smaller (Repl f g) ks h = absurd h
     pass_smaller (Equiv f g) ks h = absurd h
@@ -330,5 +327,5 @@ module _ {A : Type 0} (kit : Kit A) (P : A → Type 0) (Mentions : A → ℕ →
         let q = known kit j s ks in
         let g = passed_any f q h.0 in
         let t = others_smaller fs j ks (with_passed kit j ks f (pass kit f q) s) h.1 (passed_within kit P Mentions within names Any j ks f (pass kit f q) s g k) in
-        let i = passed_size j ks f (pass kit f q) s g k (pass_smaller f q h.0).as_member in
+        let i = passed_size j ks f (pass kit f q) s g k (pass_smaller f q h.0).inside in
         omega arith

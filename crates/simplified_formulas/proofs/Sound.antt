@@ -17,7 +17,7 @@ use Rattle.simplified_formulas.specs.Atoms.{Merging, Settled, Into, Kept, Kit, w
 use Rattle.simplified_formulas.specs.Tidy.{IsTidy, AreTidy}
 use Rattle.simplified_formulas.specs.Pass.{Parts, Closed, Open, settles, constant, first_answer, ones, close, opened, closed_if, atom_or, pushed_unless, where_merged, decided, with_one, by_decision, with_atom, has, with_other, with_piece, with_pieces, with_member, with_atom_first, with_atoms, with_passed, known, is_free, is_free_in_some, quantified, pass, others}
 use Rattle.simplified_formulas.proofs.FreeTests.{NamesTold, not_free}
-use Rattle.simplified_formulas.proofs.Keeps.{MergesWithin, HasAtom, IsWithin, AreWithin, PartsWithin, PiecesWithin, FreeInAny, FreeIn, nothing, wider, piece_within, split_within, atom_first_within, passed_within, atoms_within, atom_within, pass_within, first, rest, start}
+use Rattle.simplified_formulas.proofs.Keeps.{Any, MergesWithin, HasAtom, IsWithin, AreWithin, PartsWithin, PiecesWithin, FreeInAny, FreeIn, nothing, wider, piece_within, split_within, atom_first_within, passed_within, atoms_within, atom_within, pass_within, first, rest, start}
 use Rattle.simplified_formulas.proofs.Joining.{Joined, Nothing, Settling, same, along_both, along_right, along_left, group, swap, exchange, again, nothing_more, settled_left, settled_right}
 
 -- Q, or its negation
@@ -42,10 +42,6 @@ module _ {A P : Type 0} (kit : Kit A) (Holds : A → Type 0) (Mentions : A → �
   module _ (within : MergesWithin kit Holds Mentions) (names : NamesTold kit Mentions) (laws : Truthful) where
     abbrev T : Formula A ℕ → P → Type 0
     T f p = True says move c f p
-
-    -- any name
-    abbrev Any : ℕ → Type 0
-    Any x = Unit {0}
 
     abbrev Hold : List A → Type 0
     Hold us = EachOf (HasAtom kit Holds Mentions within names Any) us
