@@ -5,3 +5,4 @@ pub mod Sound
 pub mod Sizes
 pub mod Nodes
 pub mod Shape
+pub mod Simplified
