@@ -4,7 +4,8 @@ use Rattle.formula_meaning.specs.Formula.{Formula, Formulas, Yes, No, One, Not, 
 use Rattle.formula_meaning.specs.Every.{Free, FreeInSome}
 use Rattle.formula_meaning.specs.Some.{EachOf}
 use Rattle.formula_meaning.specs.Fold.{Junction, Conjunction, Disjunction, joined, neutral, absorbing, append, pieces_of, from_pieces}
-use Rattle.simplified_formulas.specs.Atoms.{Merging, Settled, Into, Kept, Kit, without}
+use Rattle.atom_merging.specs.Computed.{Merging, Settled, Into, Kept}
+use Rattle.simplified_formulas.specs.Atoms.{Kit, without}
 use Rattle.simplified_formulas.specs.Reduced.{AreTwo}
 use Rattle.simplified_formulas.specs.Tidy.{IsTidy, AreTidy}
 use Rattle.simplified_formulas.proofs.FreeTests.{NamesTold, not_free}

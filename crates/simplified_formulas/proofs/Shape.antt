@@ -7,7 +7,8 @@ use Rattle.formula_meaning.specs.Some.{EachOf}
 use Rattle.formula_meaning.specs.Sizes.{same_formula}
 use Rattle.formula_meaning.specs.Fold.{Junction, Conjunction, Disjunction, joined, neutral, absorbing, append, pieces_of, from_pieces}
 use Rattle.formula_meaning.proofs.Sizes.{formula_alike}
-use Rattle.simplified_formulas.specs.Atoms.{Merging, Settled, Into, Kept, Kit, without, beside}
+use Rattle.atom_merging.specs.Computed.{Merging, Settled, Into, Kept}
+use Rattle.simplified_formulas.specs.Atoms.{Kit, without, beside}
 use Rattle.simplified_formulas.specs.Reduced.{AreTwo, atoms_of, MayStand, under, HasNone, AreDifferent, AreKept, IsUndecided, ReducedInside, MembersReduced, Reduced}
 use Rattle.simplified_formulas.specs.Tidy.{IsTidy, AreTidy}
 use Rattle.simplified_formulas.specs.Measure.{as_member, size, members_size, node_measure}

@@ -12,7 +12,8 @@ use Rattle.formula_meaning.specs.Some.{EachOf}
 use Rattle.formula_meaning.specs.Fold.{Junction}
 use Rattle.formula_meaning.proofs.Sizes.{nodes_positive}
 use Rattle.formula_meaning.proofs.Iff.{both_ways}
-use Rattle.simplified_formulas.specs.Atoms.{Kit, Kept}
+use Rattle.atom_merging.specs.Computed.{Kept}
+use Rattle.simplified_formulas.specs.Atoms.{Kit}
 use Rattle.simplified_formulas.specs.Reduced.{Reduced}
 use Rattle.simplified_formulas.specs.Tidy.{IsTidy}
 use Rattle.simplified_formulas.specs.Measure.{Measure, size, node_measure}

@@ -13,7 +13,8 @@ use Rattle.formula_meaning.specs.Fold.{Junction, Conjunction, Disjunction, joine
 use Rattle.formula_meaning.proofs.Iff.{both_ways, turn_round}
 use Rattle.formula_meaning.proofs.Equivalence.{one_allowed}
 use Rattle.formula_meaning.proofs.Sizes.{formula_same}
-use Rattle.simplified_formulas.specs.Atoms.{Merging, Settled, Into, Kept, Kit, without, tells, beside}
+use Rattle.atom_merging.specs.Computed.{Merging, Settled, Into, Kept}
+use Rattle.simplified_formulas.specs.Atoms.{Kit, without, tells, beside}
 use Rattle.simplified_formulas.specs.Tidy.{IsTidy, AreTidy}
 use Rattle.simplified_formulas.specs.Pass.{Parts, Closed, Open, settles, constant, first_answer, ones, close, opened, closed_if, atom_or, pushed_unless, where_merged, decided, with_one, by_decision, with_atom, has, with_other, with_piece, with_pieces, with_member, with_atom_first, with_atoms, with_passed, known, is_free, is_free_in_some, quantified, pass, others}
 use Rattle.simplified_formulas.proofs.FreeTests.{NamesTold, not_free}

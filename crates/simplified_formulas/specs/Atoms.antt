@@ -1,16 +1,9 @@
 -- What simplification asks of atoms whose names are numbers, as functions that compute.
 use Rattle.std.specs.Prelude.{ℕ, Bool, true, false, Option, List, [], ◌∷◌, map, ◌++◌, if◌then◌else◌}
 use Rattle.formula_meaning.specs.Fold.{Junction, Conjunction, Disjunction}
+use Rattle.atom_merging.specs.Computed.{Merging}
 
--- what two atoms become in a list
-pub data Merging (A : Type 0) : Type 0 where
-  -- their join is false in an and, true in an or
-  Settled : Merging A
-  -- one atom stands for both
-  Into : A → Merging A
-  -- both stay
-  Kept : Merging A
-
+-- the functions of atoms
 pub record Kit (A : Type 0) : Type 0 where
   pub merge : Junction → A → A → Merging A
   -- whether the second atom is true, or false, where the first is true

@@ -3,3 +3,4 @@ pub mod Reduced
 pub mod Tidy
 pub mod Pass
 pub mod Measure
+pub mod AtomKit

@@ -4,7 +4,8 @@ use Rattle.std.specs.Prelude.{ℕ, zero, suc, nat_eq, nat_lt, Bool, true, false,
 use Rattle.formula_meaning.specs.Formula.{Formula, Formulas, Yes, No, One, Not, And, Or, Impl, Repl, Equiv, Ex, All, none, also}
 use Rattle.formula_meaning.specs.Fold.{Junction, Conjunction, Disjunction, joined, neutral, absorbing, append, pieces_of, from_pieces}
 use Rattle.formula_meaning.specs.Sizes.{nodes, same_formula}
-use Rattle.simplified_formulas.specs.Atoms.{Merging, Settled, Into, Kept, Kit, without, beside}
+use Rattle.atom_merging.specs.Computed.{Merging, Settled, Into, Kept}
+use Rattle.simplified_formulas.specs.Atoms.{Kit, without, beside}
 
 -- a list on the way: its atoms and its other members; Closed where its junction is settled
 pub data Parts (A : Type 0) : Type 0 where
