@@ -1,11 +1,8 @@
 -- The laws of joining by and, and by or.
 use Rattle.std.proofs.Common.{◌⊎◌, inl, inr, ⊎_elim, ◌↔◌}
 use Rattle.formula_meaning.specs.Fold.{Junction, Conjunction, Disjunction}
+use Rattle.atom_merging.specs.Merging.{Joined}
 use Rattle.formula_meaning.proofs.Iff.{both_ways, turn_round, pair_iff, either_iff}
-
-abbrev pub Joined : Junction → Type 0 → Type 0 → Type 0
-Joined Conjunction P Q = P × Q
-Joined Disjunction P Q = P ⊎ Q
 
 -- what a list without members is, and a settled list
 abbrev pub Nothing : Junction → Type 0

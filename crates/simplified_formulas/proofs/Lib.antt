@@ -6,3 +6,6 @@ pub mod Sizes
 pub mod Nodes
 pub mod Shape
 pub mod Simplified
+pub mod AtomLaws
+pub mod Wider
+pub mod TreeLaws

@@ -4,3 +4,5 @@ pub mod Tidy
 pub mod Pass
 pub mod Measure
 pub mod AtomKit
+pub mod Trees
+pub mod Laws
