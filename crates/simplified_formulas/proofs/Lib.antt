@@ -9,3 +9,4 @@ pub mod Simplified
 pub mod AtomLaws
 pub mod Wider
 pub mod TreeLaws
+mod Examples
