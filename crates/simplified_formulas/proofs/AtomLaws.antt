@@ -1,16 +1,16 @@
 -- What normal atoms within the limit owe to simplification.
-use Rattle.std.proofs.Common.{◌≡◌, ◌↔◌, ◌<◌, ℕ, Bool, true, false, not, nat_eq, refl, sym, subst, ◌∙◌, ap, arith, ◌⊎◌, inl, inr, ⊎_elim, Option, Some, None, List}
+use Rattle.std.proofs.Common.{◌≡◌, ◌↔◌, ℕ, Bool, true, false, not, nat_eq, refl, sym, subst, ◌∙◌, ap, arith, inl, ⊎_elim, Some, None}
 use Rattle.std.proofs.Math.IntN.{ℤ, pos, ◌-ℤ◌}
-use Rattle.std.specs.Prelude.{◌<ℤ◌, ◌≤ℤ◌, unsigned_abs, if◌then◌else◌}
+use Rattle.std.specs.Prelude.{◌<ℤ◌, ◌≤ℤ◌, if◌then◌else◌}
 use Rattle.std.specs.Ordering.{int_eq}
 use Rattle.std.proofs.lemmas.Int.{ints}
 use Rattle.std.proofs.lemmas.Bool.Decides.{Decides-int_eq}
-use Rattle.exact_numbers.specs.Limit.{InLimit, PastLimit}
+use Rattle.exact_numbers.specs.Limit.{InLimit}
 use Rattle.exact_numbers.specs.Divides.{residue_of}
 use Rattle.exact_numbers.proofs.Floor.{residue_is}
-use Rattle.formula_meaning.specs.Context.{Context, Fields, Integers, IsDenominator}
+use Rattle.formula_meaning.specs.Context.{Context}
 use Rattle.formula_meaning.specs.Point.{Point, Of, move}
-use Rattle.formula_meaning.specs.Form.{Form, coefficient}
+use Rattle.formula_meaning.specs.Form.{coefficient}
 use Rattle.formula_meaning.specs.Formula.{One}
 use Rattle.formula_meaning.specs.Atom.{Atom, Compare, Congruent, Says, Mentions, form_of}
 use Rattle.formula_meaning.specs.Fold.{Junction, Conjunction, Disjunction}
@@ -19,7 +19,7 @@ use Rattle.formula_meaning.proofs.Equivalence.{absent_moved}
 use Rattle.formula_meaning.proofs.TreeReplacing.{moved_of}
 use Rattle.atom_normal.specs.NormalForm.{IsNormal, negated_normal}
 use Rattle.atom_normal.proofs.NormalLaws.{normal_in, atom_decided, negated_truth, negated_normal_is}
-use Rattle.atom_merging.specs.Merging.{Joined, IsSettled, SamePart, StandsFor, Settles, MergesInto, IsKept}
+use Rattle.atom_merging.specs.Merging.{Joined, IsSettled, SamePart, MergesInto, IsKept}
 use Rattle.atom_merging.specs.Merged.{IsDecision}
 use Rattle.atom_merging.specs.Computed.{Merging, Settled, Into, Kept, merged, decided_by, IsRight, IsNormalWithin}
 use Rattle.atom_merging.proofs.Computed.{merged_right, decided_right}

@@ -1,9 +1,9 @@
 -- Simplification worked by hand. x is the name 1, y the name 2.
-use Rattle.std.proofs.Common.{◌≡◌, ℕ, Bool, true, false, [], ◌∷◌, List, refl, arith}
+use Rattle.std.proofs.Common.{◌≡◌, ℕ, Bool, true, false, [], ◌∷◌, refl, arith}
 use Rattle.std.proofs.Math.IntN.{ℤ, pos, negsuc}
 use Rattle.std.proofs.lemmas.Int.{ints}
 use Rattle.exact_numbers.specs.Divides.{content_of, gcd_of, euclid}
-use Rattle.formula_meaning.specs.Context.{Context, Fields, Integers}
+use Rattle.formula_meaning.specs.Context.{Fields, Integers}
 use Rattle.formula_meaning.specs.Form.{coefficient}
 use Rattle.formula_meaning.specs.Atom.{Atom, Relation, Equals, Differs, Below, AtMost, Above, AtLeast, Compare, Congruent}
 use Rattle.formula_meaning.specs.Formula.{Yes, No, One, And, Or, Ex, All, none, also}

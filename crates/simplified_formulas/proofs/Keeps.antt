@@ -1,15 +1,14 @@
 -- The pass keeps the shape and what each atom has, and brings no name.
-use Rattle.std.proofs.Common.{◌≡◌, ℕ, Bool, true, false, nat_eq, refl, subst, sym, ◌⊎◌, inl, inr, ⊎_elim, Option, None, Some, List, [], ◌∷◌}
+use Rattle.std.proofs.Common.{◌≡◌, ℕ, Bool, true, false, refl, subst, sym, inl, inr, ⊎_elim, Option, None, Some, List, [], ◌∷◌}
 use Rattle.formula_meaning.specs.Formula.{Formula, Formulas, Yes, No, One, Not, And, Or, Impl, Repl, Equiv, Ex, All, none, also}
 use Rattle.formula_meaning.specs.Every.{Free, FreeInSome}
 use Rattle.formula_meaning.specs.Some.{EachOf}
-use Rattle.formula_meaning.specs.Fold.{Junction, Conjunction, Disjunction, joined, neutral, absorbing, append, pieces_of, from_pieces}
+use Rattle.formula_meaning.specs.Fold.{Junction, Conjunction, Disjunction, joined, append, pieces_of, from_pieces}
 use Rattle.atom_merging.specs.Computed.{Merging, Settled, Into, Kept}
 use Rattle.simplified_formulas.specs.Atoms.{Kit, without}
-use Rattle.simplified_formulas.specs.Reduced.{AreTwo}
 use Rattle.simplified_formulas.specs.Tidy.{IsTidy, AreTidy}
 use Rattle.simplified_formulas.proofs.FreeTests.{NamesTold, not_free}
-use Rattle.simplified_formulas.specs.Pass.{Parts, Closed, Open, settles, constant, first_answer, ones, close, opened, closed_if, atom_or, pushed_unless, where_merged, decided, with_one, by_decision, with_atom, has, with_other, with_piece, with_pieces, with_member, with_atom_first, with_atoms, with_passed, known, is_free, is_free_in_some, quantified, pass, others}
+use Rattle.simplified_formulas.specs.Pass.{Parts, Closed, Open, settles, constant, ones, close, opened, closed_if, atom_or, pushed_unless, where_merged, decided, with_one, by_decision, with_atom, has, with_other, with_piece, with_pieces, with_member, with_atom_first, with_atoms, with_passed, known, is_free, quantified, pass, others}
 
 -- any name
 abbrev pub Any : ℕ → Type 0
@@ -175,7 +174,6 @@ module _ {A : Type 0} (kit : Kit A) (P : A → Type 0) (Mentions : A → ℕ →
     close_within Conjunction Closed h = constant_within false
     close_within Disjunction Closed h = constant_within true
     close_within j (Open us gs) h = from_within j (ones us gs) (ones_within us gs h.0 h.1)
-
 
   -- ---- the pass
 

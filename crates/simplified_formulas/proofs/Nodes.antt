@@ -1,13 +1,12 @@
 -- Nodes and atoms as measures.
-use Rattle.std.proofs.Common.{◌≡◌, ℕ, ◌+◌, ◌≤◌, suc, Bool, true, false, refl, arith}
+use Rattle.std.proofs.Common.{◌≡◌, ℕ, Bool, true, false, refl, arith}
 use Rattle.formula_meaning.specs.Formula.{Formula, Formulas, Yes, No, One, Not, And, Or, Impl, Repl, Equiv, Ex, All, none, also}
 use Rattle.formula_meaning.specs.Fold.{Junction, Conjunction, Disjunction}
-use Rattle.formula_meaning.specs.Shape.{Quantifier}
 use Rattle.formula_meaning.specs.Sizes.{nodes, all_nodes}
 use Rattle.simplified_formulas.specs.Atoms.{Kit}
 use Rattle.simplified_formulas.specs.Pass.{constant}
 use Rattle.simplified_formulas.specs.Tidy.{IsTidy, AreTidy}
-use Rattle.simplified_formulas.specs.Measure.{Measure, as_member, size, members_size, more_size, node_measure, atom_measure}
+use Rattle.simplified_formulas.specs.Measure.{as_member, size, members_size, more_size, node_measure, atom_measure}
 use Rattle.simplified_formulas.proofs.Sizes.{MeasureLaws}
 
 module _ {A : Type 0} where

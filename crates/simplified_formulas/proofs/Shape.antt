@@ -1,5 +1,5 @@
 -- Where the pass takes no node away, its formula is Reduced.
-use Rattle.std.proofs.Common.{◌≡◌, ℕ, ◌+◌, ◌≤◌, ◌<◌, suc, Bool, true, false, nat_eq, refl, sym, subst, ap, ◌∙◌, arith, ◌⊎◌, inl, inr, ⊎_elim, Option, None, Some, List, [], ◌∷◌, ◌++◌, eq-eqb}
+use Rattle.std.proofs.Common.{◌≡◌, ℕ, ◌+◌, ◌≤◌, ◌<◌, Bool, true, false, nat_eq, refl, sym, subst, ap, ◌∙◌, arith, Option, None, Some, List, [], ◌∷◌, ◌++◌, eq-eqb}
 use Rattle.std.specs.Prelude.{◌||◌}
 use Rattle.formula_meaning.specs.Formula.{Formula, Formulas, Yes, No, One, Not, And, Or, Impl, Repl, Equiv, Ex, All, none, also}
 use Rattle.formula_meaning.specs.Every.{Free}
@@ -11,10 +11,10 @@ use Rattle.atom_merging.specs.Computed.{Merging, Settled, Into, Kept}
 use Rattle.simplified_formulas.specs.Atoms.{Kit, without, beside}
 use Rattle.simplified_formulas.specs.Reduced.{AreTwo, atoms_of, MayStand, under, HasNone, AreDifferent, AreKept, IsUndecided, ReducedInside, MembersReduced, Reduced}
 use Rattle.simplified_formulas.specs.Tidy.{IsTidy, AreTidy}
-use Rattle.simplified_formulas.specs.Measure.{as_member, size, members_size, node_measure}
-use Rattle.simplified_formulas.specs.Pass.{Parts, Closed, Open, constant, first_answer, ones, close, opened, closed_if, settles, atom_or, pushed_unless, where_merged, decided, with_one, by_decision, with_atom, has, with_other, with_piece, with_pieces, with_member, with_atom_first, with_atoms, with_passed, known, is_free, quantified, pass, others}
+use Rattle.simplified_formulas.specs.Measure.{size, members_size, node_measure}
+use Rattle.simplified_formulas.specs.Pass.{Parts, Closed, Open, first_answer, ones, close, opened, settles, atom_or, pushed_unless, where_merged, decided, with_one, by_decision, with_atom, has, with_other, with_member, with_atom_first, with_atoms, with_passed, known, is_free, quantified, pass, others}
 use Rattle.simplified_formulas.proofs.FreeTests.{NamesTold, told_free}
-use Rattle.simplified_formulas.proofs.Keeps.{Any, MergesWithin, HasAtom, IsWithin, AreWithin, PartsWithin, split_within, atom_first_within, passed_within, atoms_within, first, rest, start}
+use Rattle.simplified_formulas.proofs.Keeps.{Any, MergesWithin, HasAtom, IsWithin, AreWithin, PartsWithin, split_within, atom_first_within, passed_within, first, rest, start}
 use Rattle.simplified_formulas.proofs.Sizes.{cost, total, atoms_total, weight, members_is, ones_is, closed_if_size, atom_cost, atoms_cost, other_cost, others_cost, costs, atom_first_size, atoms_size, last_size, pieces_cost, inner_cost, member_size, passed_size, least, least_members, passed_any, begun, all_tidy, begun_within, begun_size, IsNoLarger, pass_smaller, others_smaller}
 use Rattle.simplified_formulas.proofs.Nodes.{node_laws, member_nodes}
 

@@ -1,5 +1,5 @@
 -- The pass until no node goes: tidy, without new names, no larger, with the same truth, and Reduced.
-use Rattle.std.proofs.Common.{◌≡◌, ℕ, zero, suc, ◌+◌, ◌≤◌, ◌<◌, Bool, true, false, refl, sym, ◌∙◌, arith, ◌↔◌, List}
+use Rattle.std.proofs.Common.{◌≡◌, ℕ, zero, suc, ◌≤◌, Bool, true, false, refl, arith, ◌↔◌, List}
 use Rattle.std.specs.Prelude.{nat_lt, if◌then◌else◌}
 use Rattle.std.proofs.Math.IntN.{ℤ}
 use Rattle.std.proofs.lemmas.Bool.{ltb-true, ltb-false}
@@ -20,7 +20,7 @@ use Rattle.simplified_formulas.specs.Measure.{Measure, size, node_measure}
 use Rattle.simplified_formulas.specs.Pass.{pass, repeated, simplified}
 use Rattle.simplified_formulas.proofs.FreeTests.{NamesTold}
 use Rattle.simplified_formulas.proofs.Keeps.{MergesWithin, pass_within}
-use Rattle.simplified_formulas.proofs.Sizes.{MeasureLaws, IsNoLarger, pass_smaller}
+use Rattle.simplified_formulas.proofs.Sizes.{MeasureLaws, pass_smaller}
 use Rattle.simplified_formulas.proofs.Nodes.{node_laws, nodes_size}
 use Rattle.simplified_formulas.proofs.Shape.{Keeps, Undecided, pass_reduced}
 use Rattle.simplified_formulas.proofs.Sound.{Truthful, pass_true}

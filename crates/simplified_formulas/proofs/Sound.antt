@@ -1,12 +1,12 @@
 -- The pass keeps truth at the points where the atoms that it is given are true.
-use Rattle.std.proofs.Common.{◌≡◌, ℕ, Bool, true, false, not, nat_eq, refl, subst, sym, ap, ◌∙◌, ◌⊎◌, inl, inr, ⊎_elim, ◌↔◌, Option, None, Some, List, [], ◌∷◌, ◌++◌, map}
+use Rattle.std.proofs.Common.{◌≡◌, ℕ, Bool, true, false, nat_eq, refl, subst, ◌⊎◌, inl, inr, ⊎_elim, ◌↔◌, Option, None, Some, List, [], ◌∷◌}
 use Rattle.std.specs.Prelude.{◌||◌, if◌then◌else◌}
 use Rattle.std.proofs.Common.{eqb-true}
 use Rattle.std.proofs.Math.IntN.{ℤ, pos}
 use Rattle.formula_meaning.specs.Context.{Context, Allowed}
 use Rattle.formula_meaning.specs.Formula.{Formula, Formulas, Yes, No, One, Not, And, Or, Impl, Repl, Equiv, Ex, All, none, also}
-use Rattle.formula_meaning.specs.Truth.{True, AllTrue, SomeTrue}
-use Rattle.formula_meaning.specs.Every.{Free, FreeInSome}
+use Rattle.formula_meaning.specs.Truth.{True}
+use Rattle.formula_meaning.specs.Every.{Free}
 use Rattle.formula_meaning.specs.Some.{EachOf}
 use Rattle.formula_meaning.specs.Sizes.{same_formula}
 use Rattle.formula_meaning.specs.Fold.{Junction, Conjunction, Disjunction, joined, neutral, absorbing, append, pieces_of, from_pieces}
@@ -17,10 +17,10 @@ use Rattle.atom_merging.specs.Merging.{Joined}
 use Rattle.atom_merging.specs.Computed.{Merging, Settled, Into, Kept}
 use Rattle.simplified_formulas.specs.Atoms.{Kit, without, tells, beside}
 use Rattle.simplified_formulas.specs.Tidy.{IsTidy, AreTidy}
-use Rattle.simplified_formulas.specs.Pass.{Parts, Closed, Open, settles, constant, first_answer, ones, close, opened, closed_if, atom_or, pushed_unless, where_merged, decided, with_one, by_decision, with_atom, has, with_other, with_piece, with_pieces, with_member, with_atom_first, with_atoms, with_passed, known, is_free, is_free_in_some, quantified, pass, others}
+use Rattle.simplified_formulas.specs.Pass.{Parts, Closed, Open, settles, first_answer, ones, close, opened, closed_if, atom_or, pushed_unless, where_merged, decided, with_one, by_decision, with_atom, has, with_other, with_piece, with_pieces, with_member, with_atom_first, with_atoms, with_passed, known, is_free, quantified, pass, others}
 use Rattle.simplified_formulas.proofs.FreeTests.{NamesTold, not_free}
-use Rattle.simplified_formulas.proofs.Keeps.{Any, MergesWithin, HasAtom, IsWithin, AreWithin, PartsWithin, PiecesWithin, FreeInAny, FreeIn, nothing, wider, piece_within, split_within, atom_first_within, passed_within, atoms_within, atom_within, pass_within, first, rest, start}
-use Rattle.simplified_formulas.proofs.Joining.{Nothing, Settling, same, along_both, along_right, along_left, group, swap, exchange, again, nothing_more, settled_left, settled_right}
+use Rattle.simplified_formulas.proofs.Keeps.{Any, MergesWithin, HasAtom, IsWithin, AreWithin, PartsWithin, PiecesWithin, FreeIn, wider, piece_within, split_within, atom_first_within, passed_within, atoms_within, pass_within, first, rest, start}
+use Rattle.simplified_formulas.proofs.Joining.{Nothing, Settling, same, along_right, along_left, group, swap, exchange, again, nothing_more, settled_left, settled_right}
 
 -- Q, or its negation
 abbrev pub SaysSo : Bool → Type 0 → Type 0

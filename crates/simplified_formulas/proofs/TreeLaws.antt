@@ -1,18 +1,15 @@
 -- The laws of simplification for resolved formulas.
-use Rattle.std.proofs.Common.{◌≡◌, ◌≤◌, ◌↔◌, ℕ, sym, arith, List}
-use Rattle.formula_meaning.specs.Context.{Context}
+use Rattle.std.proofs.Common.{arith}
 use Rattle.formula_meaning.specs.Point.{Of, move}
 use Rattle.std.proofs.Common.{nat_eq}
-use Rattle.formula_meaning.specs.Atom.{Atom, Says, Mentions}
-use Rattle.formula_meaning.specs.Tree.{Tree}
-use Rattle.formula_meaning.specs.Sizes.{nodes}
+use Rattle.formula_meaning.specs.Atom.{Says, Mentions}
 use Rattle.formula_meaning.proofs.Same.{atom_alike}
 use Rattle.atom_normal.specs.NormalForm.{negated_normal}
 use Rattle.atom_merging.specs.Merging.{IsKept}
 use Rattle.atom_merging.specs.Computed.{IsNormalWithin}
 use Rattle.simplified_formulas.specs.AtomKit.{contains, atom_kit}
 use Rattle.simplified_formulas.specs.Measure.{node_measure, atom_measure}
-use Rattle.simplified_formulas.specs.Trees.{AreAssumable, IsSimplifiable, LeavesOpen, IsReduced, EquivalentUnder, simplified_under}
+use Rattle.simplified_formulas.specs.Trees.{LeavesOpen, simplified_under}
 use Rattle.simplified_formulas.specs.Laws.{SimplifyingKeepsTruth, SimplifiedIsReduced, SimplifyingKeepsShape, SimplifyingBringsNoName, SimplifyingBringsNoNode, SimplifyingBringsNoAtom}
 use Rattle.simplified_formulas.proofs.Nodes.{node_laws, atom_laws, nodes_size}
 use Rattle.simplified_formulas.proofs.Simplified.{simplified_within, simplified_smaller, simplified_reduced, simplified_true}

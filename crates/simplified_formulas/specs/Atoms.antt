@@ -1,5 +1,5 @@
 -- What simplification asks of atoms whose names are numbers, as functions that compute.
-use Rattle.std.specs.Prelude.{ℕ, Bool, true, false, Option, List, [], ◌∷◌, map, ◌++◌, if◌then◌else◌}
+use Rattle.std.specs.Prelude.{ℕ, Bool, Option, List, [], ◌∷◌, map, ◌++◌, if◌then◌else◌}
 use Rattle.formula_meaning.specs.Fold.{Junction, Conjunction, Disjunction}
 use Rattle.atom_merging.specs.Computed.{Merging}
 

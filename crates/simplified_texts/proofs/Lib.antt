@@ -1,0 +1,4 @@
+pub mod Digits
+
+
+

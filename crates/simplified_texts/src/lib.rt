@@ -1,0 +1,2 @@
+//! The text of a simplified formula: a theorem without code.
+#![tactic(auto)]
