@@ -1,5 +1,5 @@
 -- The functions that compute merging and deciding are right.
-use Rattle.std.proofs.Common.{◌≡◌, ◌<◌, ◌≤◌, ◌^◌, ℕ, Bool, true, false, not, ◌&&◌, sym, subst, ◌∙◌, ap, refl, arith}
+use Rattle.std.proofs.Common.{◌≡◌, ◌⊎◌, inl, inr, ◌<◌, ◌≤◌, ◌^◌, ℕ, Bool, true, false, not, ◌&&◌, sym, subst, ◌∙◌, ap, refl, arith}
 use Rattle.std.proofs.Math.IntN.{ℤ, pos, ◌+ℤ◌, ◌-ℤ◌, ◌*ℤ◌}
 use Rattle.std.specs.Prelude.{◌<ℤ◌, ◌≤ℤ◌, unsigned_abs, nat_eq, nat_lt, if◌then◌else◌, Option, Some, None, List}
 use Rattle.std.specs.declared.cmp.Ordering.{Ordering}
@@ -14,7 +14,7 @@ use Rattle.exact_numbers.proofs.Ring.{mul_one}
 use Rattle.std.proofs.lemmas.Bool.Decides.{Decides-int_eq}
 use Rattle.formula_meaning.specs.Context.{Context, Fields, Integers}
 use Rattle.formula_meaning.specs.Form.{Form, Term}
-use Rattle.formula_meaning.specs.Atom.{Relation, Atom, Compare, Congruent, opposite_relation, form_of}
+use Rattle.formula_meaning.specs.Atom.{Relation, Equals, Differs, Below, AtMost, Above, AtLeast, Atom, Compare, Congruent, opposite_relation, form_of}
 use Rattle.formula_meaning.specs.Same.{same_terms, same_form}
 use Rattle.formula_meaning.specs.Fold.{Junction, Conjunction, Disjunction}
 use Rattle.formula_meaning.proofs.Same.{terms_same, form_alike, and_right, and_left}
@@ -214,3 +214,67 @@ decided_right c a b x y = split (is_same_part a b) refl
     split : (t : Bool) → is_same_part a b ≡ t → IsDecision c a b (if t then decided_part c a b else None)
     split true e = part_decided c a b x y (part_told a b e)
     split false e = apart_undecided c a b (part_apart a b e)
+
+-- ---- what a merged atom looks like
+
+-- The atom e has the terms of a, and its constant or nearly so.
+pub data ComesOf : Atom → Atom → Type 0 where
+  compared : (r q : Relation) (f : Form) (k : ℤ) → (k ≡ f.constant) ⊎ (k ≡ f.constant +ℤ pos 1) → ComesOf (Compare r f) (Compare q (record { terms = f.terms; constant = k }))
+  congruent : (b q : Bool) (m : ℕ) (f : Form) (k : ℤ) → (k ≡ f.constant) ⊎ (unsigned_abs k ≤ 9) → ComesOf (Congruent b m f) (Congruent q m (record { terms = f.terms; constant = k }))
+
+moved_comes : (c : Context) (r q : Relation) (f : Form) → ComesOf (Compare r f) (normal_comparison c q f)
+moved_comes Integers r Below f = compared r AtMost f (f.constant +ℤ pos 1) (inr refl)
+moved_comes Integers r AtLeast f = compared r Above f (f.constant +ℤ pos 1) (inr refl)
+moved_comes Integers r Equals f = compared r Equals f f.constant (inl refl)
+moved_comes Integers r Differs f = compared r Differs f f.constant (inl refl)
+moved_comes Integers r AtMost f = compared r AtMost f f.constant (inl refl)
+moved_comes Integers r Above f = compared r Above f f.constant (inl refl)
+moved_comes Fields r q f = compared r q f f.constant (inl refl)
+
+into_is : (d e : Atom) → into_within d ≡ Into e → d ≡ e
+into_is d e h = split (nat_lt (unsigned_abs (form_of d).constant) (2 ^ 127)) h
+  where
+    split : (t : Bool) → (if t then Into d else Kept) ≡ Into e → d ≡ e
+    split true q = cc
+    split false q = absurd (cc (q))
+
+verdict_comes : (c : Context) (r : Relation) (f : Form) (s : Relation) (g : Form) (e : Atom) (v : Verdict) → of_verdict c f g v ≡ Into e → ComesOf (Compare r f) e ⊎ ComesOf (Compare s g) e
+verdict_comes c r f s g e verdicts.Settled h = absurd (cc (h))
+verdict_comes c r f s g e verdicts.Kept h = absurd (cc (h))
+verdict_comes c r f s g e (verdicts.First q) h = inl (subst (ComesOf (Compare r f)) (into_is (normal_comparison c q f) e h) (moved_comes c r q f))
+verdict_comes c r f s g e (verdicts.Second q) h = inr (subst (ComesOf (Compare s g)) (into_is (normal_comparison c q g) e h) (moved_comes c s q g))
+
+class_comes : (m : ℕ) (b : Bool) (f : Form) (d : Bool) (g : Form) → IsNormalCongruence b m f → IsNormalCongruence d m g → f.terms ≡ g.terms → (j : Junction) (e : Atom) (v : Class) → v ≡ class j (pos m) b f.constant d g.constant
+    → of_class j m b f d g v ≡ Into e → ComesOf (Congruent b m f) e ⊎ ComesOf (Congruent d m g) e
+class_comes m b f d g x y s j e class_is.Settled q h = absurd (cc (h))
+class_comes m b f d g x y s j e class_is.Kept q h = absurd (cc (h))
+class_comes m b f d g x y s j e class_is.First q h = let w : Congruent b m f ≡ e = cc in inl (subst (ComesOf (Congruent b m f)) w (congruent b b m f f.constant (inl refl)))
+class_comes m b f d g x y s j e class_is.Second q h = let w : Congruent d m g ≡ e = cc in inr (subst (ComesOf (Congruent d m g)) w (congruent d d m g g.constant (inl refl)))
+class_comes m b f d g x y s j e class_is.Third q h =
+    let k = judged_class (pos m) (above m b f d g x y s) b f d g x y s j class_is.Third q in
+    let t = k.three in
+    let u = k.is_class.not_negative in
+    let v = k.is_class.below in
+    let w : Congruent (is_told j) m (record { terms = f.terms; constant = (pos 3 -ℤ f.constant) -ℤ g.constant }) ≡ e = cc in
+    inl (subst (ComesOf (Congruent b m f)) w (congruent b (is_told j) m f ((pos 3 -ℤ f.constant) -ℤ g.constant) (inr (small ((pos 3 -ℤ f.constant) -ℤ g.constant) u (subst (λ z. ((pos 3 -ℤ f.constant) -ℤ g.constant) <ℤ z) t v)))))
+  where
+    small : (z : ℤ) → pos 0 ≤ℤ z → z <ℤ pos 3 → unsigned_abs z ≤ 9
+    small z u v = omega (arith, ints)
+
+part_comes : (c : Context) (j : Junction) (a b e : Atom) → IsNormal c a → IsNormal c b → SamePart a b → merged_part c j a b ≡ Into e → ComesOf a e ⊎ ComesOf b e
+part_comes c j (Compare r f) (Compare s g) e x y p h = verdict_comes c r f s g e (verdict j (position c f g) r s) h
+part_comes Fields j (Congruent b m f) (Congruent d n g) e x y p h = absurd x
+part_comes Integers j (Congruent b m f) (Congruent d n g) e x y p h =
+    subst (λ (k : ℕ). IsNormalCongruence d k g → ComesOf (Congruent b m f) e ⊎ ComesOf (Congruent d k g) e) p.0
+    (λ z. class_comes m b f d g x z p.1 j e (class j (pos m) b f.constant d g.constant) refl h)
+    y
+part_comes c j (Compare r f) (Congruent d n g) e x y p h = absurd p
+part_comes c j (Congruent b m f) (Compare s g) e x y p h = absurd p
+
+-- a merged atom comes of one of the two
+pub merged_comes : (c : Context) (j : Junction) (a b e : Atom) → IsNormal c a → IsNormal c b → merged c j a b ≡ Into e → ComesOf a e ⊎ ComesOf b e
+merged_comes c j a b e x y h = split (is_same_part a b) refl h
+  where
+    split : (t : Bool) → is_same_part a b ≡ t → (if t then merged_part c j a b else Kept) ≡ Into e → ComesOf a e ⊎ ComesOf b e
+    split true q k = part_comes c j a b e x y (part_told a b q) k
+    split false q k = absurd (cc (k))

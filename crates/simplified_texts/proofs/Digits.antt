@@ -1,5 +1,6 @@
 -- How many digits a number has.
-use Rattle.std.proofs.Common.{◌≡◌, ℕ, ◌+◌, ◌*◌, ◌^◌, ◌/◌, ◌%◌, ◌<◌, ◌≤◌, List, [], ◌∷◌, ◌++◌, length, arith, length-append}
+use Rattle.std.proofs.Common.{◌≡◌, ℕ, ◌+◌, ◌*◌, ◌^◌, ◌/◌, ◌%◌, ◌<◌, ◌≤◌, List, [], ◌∷◌, ◌++◌, length, arith, length-append, ap, ◌∙◌, sym, subst, add-one}
+use Rattle.std.proofs.Math.Nat.{pow-succ'}
 use Rattle.std.specs.Fmt.{decimal}
 use Rattle.std.proofs.lemmas.Fmt.{decimal_by_steps_wide, length-decimal-le_wide}
 
@@ -9,7 +10,7 @@ record HasDigits (n : ℕ) (ds : List ℕ) : Type 0 where
   below : n < 10 ^ length ds
 
 power_more : (k : ℕ) → 10 ^ (k + 1) ≡ 10 * 10 ^ k
-power_more k = ?
+power_more k = ap (λ z. 10 ^ z) (add-one k) ∙ pow-succ' 10 k
 
 has_digits : (n : ℕ) → n < 10 ^ 64 → HasDigits n (decimal n)
 has_digits n h =
