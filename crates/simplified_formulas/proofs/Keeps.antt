@@ -6,7 +6,7 @@ use Rattle.formula_meaning.specs.Some.{EachOf}
 use Rattle.formula_meaning.specs.Fold.{Junction, Conjunction, Disjunction, joined, append, pieces_of, from_pieces}
 use Rattle.atom_merging.specs.Computed.{Merging, Settled, Into, Kept}
 use Rattle.simplified_formulas.specs.Atoms.{Kit, without}
-use Rattle.simplified_formulas.specs.Tidy.{IsTidy, AreTidy}
+use Rattle.simplified_formulas.specs.Orderly.{IsOrderly, AreOrderly}
 use Rattle.simplified_formulas.proofs.FreeTests.{NamesTold, not_free}
 use Rattle.simplified_formulas.specs.Pass.{Parts, Closed, Open, settles, constant, ones, close, opened, closed_if, atom_or, pushed_unless, where_merged, decided, with_one, by_decision, with_atom, has, with_other, with_piece, with_pieces, with_member, with_atom_first, with_atoms, with_passed, known, is_free, quantified, pass, others}
 
@@ -22,13 +22,13 @@ pub record MergesWithin {A : Type 0} (kit : Kit A) (P : A → Type 0) (Mentions 
 module _ {A : Type 0} (kit : Kit A) (P : A → Type 0) (Mentions : A → ℕ → Type 0) (laws : MergesWithin kit P Mentions) (told : NamesTold kit Mentions) where
   -- all names are in C
   module _ (C : ℕ → Type 0) where
-    -- tidy, with free names in C alone
+    -- orderly, with free names in C alone
     pub record IsWithin (f : Formula A ℕ) : Type 0 where
-      pub tidy : IsTidy P f
+      pub orderly : IsOrderly P f
       pub names : (x : ℕ) → Free Mentions f x → C x
 
     pub record AreWithin (fs : Formulas A ℕ) : Type 0 where
-      pub tidy : AreTidy P fs
+      pub orderly : AreOrderly P fs
       pub names : (x : ℕ) → FreeInSome Mentions fs x → C x
 
     pub record HasAtom (a : A) : Type 0 where
@@ -48,22 +48,22 @@ module _ {A : Type 0} (kit : Kit A) (P : A → Type 0) (Mentions : A → ℕ →
     PiecesWithin (Some fs) = AreWithin fs
 
     pub nothing : AreWithin none
-    nothing = record { tidy = tt; names = λ x h. absurd h }
+    nothing = record { orderly = tt; names = λ x h. absurd h }
 
     pub one_more : (f : Formula A ℕ) (fs : Formulas A ℕ) → IsWithin f → AreWithin fs → AreWithin (also f fs)
-    one_more f fs h k = record { tidy = (h.tidy, k.tidy); names = λ x. ⊎_elim (h.names x) (k.names x) }
+    one_more f fs h k = record { orderly = (h.orderly, k.orderly); names = λ x. ⊎_elim (h.names x) (k.names x) }
 
     pub first : (f : Formula A ℕ) (fs : Formulas A ℕ) → AreWithin (also f fs) → IsWithin f
-    first f fs h = record { tidy = h.tidy.0; names = λ x t. h.names x (inl t) }
+    first f fs h = record { orderly = h.orderly.0; names = λ x t. h.names x (inl t) }
 
     pub rest : (f : Formula A ℕ) (fs : Formulas A ℕ) → AreWithin (also f fs) → AreWithin fs
-    rest f fs h = record { tidy = h.tidy.1; names = λ x t. h.names x (inr t) }
+    rest f fs h = record { orderly = h.orderly.1; names = λ x t. h.names x (inr t) }
 
     pub atom_of : (a : A) → IsWithin (One a) → HasAtom a
-    atom_of a h = record { holds = h.tidy; names = h.names }
+    atom_of a h = record { holds = h.orderly; names = h.names }
 
     pub of_atom : (a : A) → HasAtom a → IsWithin (One a)
-    of_atom a h = record { tidy = h.holds; names = h.names }
+    of_atom a h = record { orderly = h.holds; names = h.names }
 
     -- ---- an atom more
 
@@ -131,10 +131,10 @@ module _ {A : Type 0} (kit : Kit A) (P : A → Type 0) (Mentions : A → ℕ →
     alone f h = one_more f none h nothing
 
     list_pieces : (fs : Formulas A ℕ) → IsWithin (And fs) → AreWithin fs
-    list_pieces fs h = record { tidy = h.tidy.1; names = h.names }
+    list_pieces fs h = record { orderly = h.orderly.1; names = h.names }
 
     or_pieces : (fs : Formulas A ℕ) → IsWithin (Or fs) → AreWithin fs
-    or_pieces fs h = record { tidy = h.tidy.1; names = h.names }
+    or_pieces fs h = record { orderly = h.orderly.1; names = h.names }
 
     pub split_within : (j : Junction) (f : Formula A ℕ) → IsWithin f → PiecesWithin (pieces_of j f)
     split_within Conjunction Yes h = nothing
@@ -157,12 +157,12 @@ module _ {A : Type 0} (kit : Kit A) (P : A → Type 0) (Mentions : A → ℕ →
     ones_within (a ∷ us) gs h k = one_more (One a) (ones us gs) (of_atom a h.0) (ones_within us gs h.1 k)
 
     constant_within : (b : Bool) → IsWithin (constant b)
-    constant_within true = record { tidy = tt; names = λ x h. absurd h }
-    constant_within false = record { tidy = tt; names = λ x h. absurd h }
+    constant_within true = record { orderly = tt; names = λ x h. absurd h }
+    constant_within false = record { orderly = tt; names = λ x h. absurd h }
 
     joined_within : (j : Junction) (f g : Formula A ℕ) (fs : Formulas A ℕ) → AreWithin (also f (also g fs)) → IsWithin (joined j (also f (also g fs)))
-    joined_within Conjunction f g fs h = record { tidy = (tt, h.tidy); names = h.names }
-    joined_within Disjunction f g fs h = record { tidy = (tt, h.tidy); names = h.names }
+    joined_within Conjunction f g fs h = record { orderly = (tt, h.orderly); names = h.names }
+    joined_within Disjunction f g fs h = record { orderly = (tt, h.orderly); names = h.names }
 
     from_within : (j : Junction) (fs : Formulas A ℕ) → AreWithin fs → IsWithin (from_pieces j (Some fs))
     from_within Conjunction none h = constant_within true
@@ -178,7 +178,7 @@ module _ {A : Type 0} (kit : Kit A) (P : A → Type 0) (Mentions : A → ℕ →
   -- ---- the pass
 
   pub wider : (C D : ℕ → Type 0) (f : Formula A ℕ) → ((x : ℕ) → C x → D x) → IsWithin C f → IsWithin D f
-  wider C D f w h = record { tidy = h.tidy; names = λ x t. w x (h.names x t) }
+  wider C D f w h = record { orderly = h.orderly; names = λ x t. w x (h.names x t) }
 
   abbrev pub FreeIn : Formula A ℕ → ℕ → Type 0
   FreeIn f x = Free Mentions f x
@@ -188,14 +188,14 @@ module _ {A : Type 0} (kit : Kit A) (P : A → Type 0) (Mentions : A → ℕ →
 
   pub decided_within : (a : A) (o : Option Bool) → P a → IsWithin (Mentions a) (atom_or a o)
   decided_within a (Some b) h = constant_within (Mentions a) b
-  decided_within a None h = record { tidy = h; names = λ x t. t }
+  decided_within a None h = record { orderly = h; names = λ x t. t }
 
   -- a quantifier stays where its name is free
-  quantified_within : (y : ℕ) (f g : Formula A ℕ) (q : Formula A ℕ → Formula A ℕ) → ((g : Formula A ℕ) → IsTidy P g → IsTidy P (q g)) → ((g : Formula A ℕ) (x : ℕ) → FreeIn (q g) x → ¬ (y ≡ x) × FreeIn g x)
+  quantified_within : (y : ℕ) (f g : Formula A ℕ) (q : Formula A ℕ → Formula A ℕ) → ((g : Formula A ℕ) → IsOrderly P g → IsOrderly P (q g)) → ((g : Formula A ℕ) (x : ℕ) → FreeIn (q g) x → ¬ (y ≡ x) × FreeIn g x)
       → (b : Bool) → is_free kit y g ≡ b → IsWithin (FreeIn f) g → IsWithin (λ x. ¬ (y ≡ x) × FreeIn f x) (quantified q b g)
-  quantified_within y f g q tidy free true e h = record { tidy = tidy g h.tidy; names = λ x t. let u = free g x t in (u.0, h.names x u.1) }
-  quantified_within y f g q tidy free false e h = record {
-    tidy = h.tidy;
+  quantified_within y f g q orderly free true e h = record { orderly = orderly g h.orderly; names = λ x t. let u = free g x t in (u.0, h.names x u.1) }
+  quantified_within y f g q orderly free false e h = record {
+    orderly = h.orderly;
     names = λ x t. (λ (k : y ≡ x). not_free kit Mentions told y g e (subst (FreeIn g) (sym k) t), h.names x t);
   }
 
@@ -203,17 +203,17 @@ module _ {A : Type 0} (kit : Kit A) (P : A → Type 0) (Mentions : A → ℕ →
   start C = (tt, nothing C)
 
   mutual
-    pub pass_within : (f : Formula A ℕ) (ks : List A) → IsTidy P f → IsWithin (FreeIn f) (pass kit f ks)
-    pass_within Yes ks h = record { tidy = tt; names = λ x t. t }
-    pass_within No ks h = record { tidy = tt; names = λ x t. t }
+    pub pass_within : (f : Formula A ℕ) (ks : List A) → IsOrderly P f → IsWithin (FreeIn f) (pass kit f ks)
+    pass_within Yes ks h = record { orderly = tt; names = λ x t. t }
+    pass_within No ks h = record { orderly = tt; names = λ x t. t }
     pass_within (One a) ks h = decided_within a (decided kit ks a) h
     pass_within (Not f) ks h = absurd h
     pass_within (And fs) ks h =
         close_within (FreeInAny fs) Conjunction _
-        (others_within fs fs Conjunction ks _ (λ x t. t) h.1 (atoms_within (FreeInAny fs) Conjunction ks fs (Open [] none) (record { tidy = h.1; names = λ x t. t }) (start (FreeInAny fs))))
+        (others_within fs fs Conjunction ks _ (λ x t. t) h.1 (atoms_within (FreeInAny fs) Conjunction ks fs (Open [] none) (record { orderly = h.1; names = λ x t. t }) (start (FreeInAny fs))))
     pass_within (Or fs) ks h =
         close_within (FreeInAny fs) Disjunction _
-        (others_within fs fs Disjunction ks _ (λ x t. t) h.1 (atoms_within (FreeInAny fs) Disjunction ks fs (Open [] none) (record { tidy = h.1; names = λ x t. t }) (start (FreeInAny fs))))
+        (others_within fs fs Disjunction ks _ (λ x t. t) h.1 (atoms_within (FreeInAny fs) Disjunction ks fs (Open [] none) (record { orderly = h.1; names = λ x t. t }) (start (FreeInAny fs))))
     pass_within (Impl f g) ks h = absurd h
     pass_within (Repl f g) ks h = absurd h
     pass_within (Equiv f g) ks h = absurd h
@@ -225,7 +225,7 @@ module _ {A : Type 0} (kit : Kit A) (P : A → Type 0) (Mentions : A → ℕ →
         (pass_within f (without kit.contains y ks) h)
 
     -- the members fs of the list ts
-    pub others_within : (ts fs : Formulas A ℕ) (j : Junction) (ks : List A) (s : Parts A) → ((x : ℕ) → FreeInAny fs x → FreeInAny ts x) → AreTidy P fs → PartsWithin (FreeInAny ts) s → PartsWithin (FreeInAny ts) (others kit fs j ks s)
+    pub others_within : (ts fs : Formulas A ℕ) (j : Junction) (ks : List A) (s : Parts A) → ((x : ℕ) → FreeInAny fs x → FreeInAny ts x) → AreOrderly P fs → PartsWithin (FreeInAny ts) s → PartsWithin (FreeInAny ts) (others kit fs j ks s)
     others_within ts none j ks s c h k = k
     others_within ts (also f fs) j ks s c h k =
         others_within ts fs j ks (with_passed kit j ks f (pass kit f (known kit j s ks)) s) (λ x t. c x (inr t)) h.1

@@ -5,7 +5,7 @@ use Rattle.formula_meaning.specs.Fold.{Junction, Conjunction, Disjunction}
 use Rattle.formula_meaning.specs.Sizes.{nodes, all_nodes}
 use Rattle.simplified_formulas.specs.Atoms.{Kit}
 use Rattle.simplified_formulas.specs.Pass.{constant}
-use Rattle.simplified_formulas.specs.Tidy.{IsTidy, AreTidy}
+use Rattle.simplified_formulas.specs.Orderly.{IsOrderly, AreOrderly}
 use Rattle.simplified_formulas.specs.Measure.{as_member, size, members_size, more_size, node_measure, atom_measure}
 use Rattle.simplified_formulas.proofs.Sizes.{MeasureLaws}
 
@@ -25,7 +25,7 @@ module _ {A : Type 0} where
 
   module _ (P : A → Type 0) where
     mutual
-      pub nodes_size : (f : Formula A ℕ) → IsTidy P f → size node_measure f ≡ nodes f
+      pub nodes_size : (f : Formula A ℕ) → IsOrderly P f → size node_measure f ≡ nodes f
       nodes_size Yes h = refl
       nodes_size No h = refl
       nodes_size (One a) h = refl
@@ -38,11 +38,11 @@ module _ {A : Type 0} where
       nodes_size (Ex x f) h = let i = nodes_size f h in omega arith
       nodes_size (All x f) h = let i = nodes_size f h in omega arith
 
-      members_nodes : (fs : Formulas A ℕ) (j : Junction) → AreTidy P fs → members_size node_measure fs j ≡ all_nodes fs
+      members_nodes : (fs : Formulas A ℕ) (j : Junction) → AreOrderly P fs → members_size node_measure fs j ≡ all_nodes fs
       members_nodes none j h = refl
       members_nodes (also f fs) j h = let i = nodes_size f h.0 in let k = more_nodes fs j h.1 in let l = member_nodes f (size node_measure f) in omega arith
 
-      more_nodes : (fs : Formulas A ℕ) (j : Junction) → AreTidy P fs → more_size node_measure fs j ≡ all_nodes fs
+      more_nodes : (fs : Formulas A ℕ) (j : Junction) → AreOrderly P fs → more_size node_measure fs j ≡ all_nodes fs
       more_nodes none j h = refl
       more_nodes (also f fs) j h = let i = nodes_size f h.0 in let k = more_nodes fs j h.1 in let l = member_nodes f (size node_measure f) in omega arith
 

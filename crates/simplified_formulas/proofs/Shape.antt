@@ -10,12 +10,12 @@ use Rattle.formula_meaning.proofs.Sizes.{formula_alike}
 use Rattle.atom_merging.specs.Computed.{Merging, Settled, Into, Kept}
 use Rattle.simplified_formulas.specs.Atoms.{Kit, without, beside}
 use Rattle.simplified_formulas.specs.Reduced.{AreTwo, atoms_of, MayStand, under, HasNone, AreDifferent, AreKept, IsUndecided, ReducedInside, MembersReduced, Reduced}
-use Rattle.simplified_formulas.specs.Tidy.{IsTidy, AreTidy}
+use Rattle.simplified_formulas.specs.Orderly.{IsOrderly, AreOrderly}
 use Rattle.simplified_formulas.specs.Measure.{size, members_size, node_measure}
 use Rattle.simplified_formulas.specs.Pass.{Parts, Closed, Open, first_answer, ones, close, opened, settles, atom_or, pushed_unless, where_merged, decided, with_one, by_decision, with_atom, has, with_other, with_member, with_atom_first, with_atoms, with_passed, known, is_free, quantified, pass, others}
 use Rattle.simplified_formulas.proofs.FreeTests.{NamesTold, told_free}
 use Rattle.simplified_formulas.proofs.Keeps.{Any, MergesWithin, HasAtom, IsWithin, AreWithin, PartsWithin, split_within, atom_first_within, passed_within, first, rest, start}
-use Rattle.simplified_formulas.proofs.Sizes.{cost, total, atoms_total, weight, members_is, ones_is, closed_if_size, atom_cost, atoms_cost, other_cost, others_cost, costs, atom_first_size, atoms_size, last_size, pieces_cost, inner_cost, member_size, passed_size, least, least_members, passed_any, begun, all_tidy, begun_within, begun_size, IsNoLarger, pass_smaller, others_smaller}
+use Rattle.simplified_formulas.proofs.Sizes.{cost, total, atoms_total, weight, members_is, ones_is, closed_if_size, atom_cost, atoms_cost, other_cost, others_cost, costs, atom_first_size, atoms_size, last_size, pieces_cost, inner_cost, member_size, passed_size, least, least_members, passed_any, begun, all_orderly, begun_within, begun_size, IsNoLarger, pass_smaller, others_smaller}
 use Rattle.simplified_formulas.proofs.Nodes.{node_laws, member_nodes}
 
 -- no atom
@@ -118,7 +118,7 @@ module _ {A : Type 0} (kit : Kit A) (P : A → Type 0) (Mentions : A → ℕ →
       let g = first kit P Mentions within names Any f fs h in
       let z = with_atom_first kit j ks f s in
       let v = atom_first_within kit P Mentions within names Any j ks f s g k in
-      let i = atom_first_size kit P Mentions within names node_measure 1 (node_laws kit P) j ks f s g.tidy k in
+      let i = atom_first_size kit P Mentions within names node_measure 1 (node_laws kit P) j ks f s g.orderly k in
       let l = atoms_size kit P Mentions within names node_measure 1 (node_laws kit P) j ks fs z (rest kit P Mentions within names Any f fs h) v in
       all_begun j ks fs z (rest kit P Mentions within names Any f fs h) v (first_begun j ks f s b (omega arith)) (omega arith)
 
@@ -348,11 +348,11 @@ module _ {A : Type 0} (kit : Kit A) (P : A → Type 0) (Mentions : A → ℕ →
   empty_begun : (j : Junction) (ks : List A) → Begun j ks (Open [] none)
   empty_begun j ks = record { atoms = []; is = refl; good = record { kept = tt; undecided = tt } }
 
-  two_members : (fs : Formulas A ℕ) (j : Junction) → AreTwo fs → AreTidy P fs → 2 ≤ members_size node_measure fs j
+  two_members : (fs : Formulas A ℕ) (j : Junction) → AreTwo fs → AreOrderly P fs → 2 ≤ members_size node_measure fs j
   two_members fs j t h = let k = least_members kit P Mentions within names node_measure 1 (node_laws kit P) fs j t h in omega arith
 
   -- an atom comes of a formula with two nodes at least, unless it was one
-  shrunk : (f : Formula A ℕ) (ks : List A) (j : Junction) → IsTidy P f → AtomOr f ((a : A) → pass kit f ks ≡ One a → 2 ≤ cost kit P Mentions within names node_measure 1 (node_laws kit P) j f)
+  shrunk : (f : Formula A ℕ) (ks : List A) (j : Junction) → IsOrderly P f → AtomOr f ((a : A) → pass kit f ks ≡ One a → 2 ≤ cost kit P Mentions within names node_measure 1 (node_laws kit P) j f)
   shrunk Yes ks j h = λ a e. absurd (cc (e))
   shrunk No ks j h = λ a e. absurd (cc (e))
   shrunk (One b) ks j h = tt
@@ -389,7 +389,7 @@ module _ {A : Type 0} (kit : Kit A) (P : A → Type 0) (Mentions : A → ℕ →
   inside_is No ks h = absurd h
   inside_is g ks h = h
 
-  list_reduced : (j : Junction) (fs : Formulas A ℕ) (ks : List A) → AreTwo fs → AreTidy P fs → Within (others kit fs j ks (begun kit P Mentions within names node_measure 1 (node_laws kit P) j ks fs))
+  list_reduced : (j : Junction) (fs : Formulas A ℕ) (ks : List A) → AreTwo fs → AreOrderly P fs → Within (others kit fs j ks (begun kit P Mentions within names node_measure 1 (node_laws kit P) j ks fs))
       → (Good j ks (begun kit P Mentions within names node_measure 1 (node_laws kit P) j ks fs) → w j (others kit fs j ks (begun kit P Mentions within names node_measure 1 (node_laws kit P) j ks fs)) ≡ others_cost kit P Mentions within names node_measure 1 (node_laws kit P) j fs + w j (begun kit P Mentions within names node_measure 1 (node_laws kit P) j ks fs) → Good j ks (others kit fs j ks (begun kit P Mentions within names node_measure 1 (node_laws kit P) j ks fs)))
       → nodes_of (close j (others kit fs j ks (begun kit P Mentions within names node_measure 1 (node_laws kit P) j ks fs))) ≡ 1 + members_size node_measure fs j → Reduced Keeps Undecided kit.opposite kit.contains Mentions (close j (others kit fs j ks (begun kit P Mentions within names node_measure 1 (node_laws kit P) j ks fs))) ks
   list_reduced j fs ks t h v i e =
@@ -403,17 +403,17 @@ module _ {A : Type 0} (kit : Kit A) (P : A → Type 0) (Mentions : A → ℕ →
       let l = two_members fs j t h in
       let m : w j z ≤ n = omega arith in
       let u : w j z ≡ n = close_tight j z n m l e in
-      let g = all_begun j ks fs (Open [] none) (all_tidy kit P Mentions within names node_measure 1 (node_laws kit P) fs h) (start kit P Mentions within names Any) (empty_begun j ks) (omega arith) in
+      let g = all_begun j ks fs (Open [] none) (all_orderly kit P Mentions within names node_measure 1 (node_laws kit P) fs h) (start kit P Mentions within names Any) (empty_begun j ks) (omega arith) in
       inside_is (close j z) ks (close_reduced j ks z n v m l e (i (begun_good j ks s g) (omega arith)))
 
-  others_within : (fs : Formulas A ℕ) (j : Junction) (ks : List A) (s : Parts A) → AreTidy P fs → Within s → Within (others kit fs j ks s)
+  others_within : (fs : Formulas A ℕ) (j : Junction) (ks : List A) (s : Parts A) → AreOrderly P fs → Within s → Within (others kit fs j ks s)
   others_within none j ks s h k = k
   others_within (also f fs) j ks s h k =
       let q = known kit j s ks in
       others_within fs j ks (with_passed kit j ks f (pass kit f q) s) h.1 (passed_within kit P Mentions within names Any j ks f (pass kit f q) s (passed_any kit P Mentions within names node_measure 1 (node_laws kit P) f q h.0) k)
 
   mutual
-    pub pass_reduced : (f : Formula A ℕ) (ks : List A) → IsTidy P f → size node_measure (pass kit f ks) ≡ size node_measure f → Reduced Keeps Undecided kit.opposite kit.contains Mentions (pass kit f ks) ks
+    pub pass_reduced : (f : Formula A ℕ) (ks : List A) → IsOrderly P f → size node_measure (pass kit f ks) ≡ size node_measure f → Reduced Keeps Undecided kit.opposite kit.contains Mentions (pass kit f ks) ks
     pass_reduced Yes ks h e = tt
     pass_reduced No ks h e = tt
     pass_reduced (One a) ks h e = decided_reduced a ks (decided kit ks a) refl
@@ -434,7 +434,7 @@ module _ {A : Type 0} (kit : Kit A) (P : A → Type 0) (Mentions : A → ℕ →
         let q = without kit.contains x ks in
         all_quantified_reduced x f (pass kit f q) ks (pass_smaller kit P Mentions within names node_measure 1 (node_laws kit P) f q h) (λ t. pass_reduced f q h t) (is_free kit x (pass kit f q)) refl e
 
-    others_good : (fs : Formulas A ℕ) (j : Junction) (ks : List A) (s : Parts A) → AreTidy P fs → Within s → Good j ks s → w j (others kit fs j ks s) ≡ others_cost kit P Mentions within names node_measure 1 (node_laws kit P) j fs + w j s → Good j ks (others kit fs j ks s)
+    others_good : (fs : Formulas A ℕ) (j : Junction) (ks : List A) (s : Parts A) → AreOrderly P fs → Within s → Good j ks s → w j (others kit fs j ks s) ≡ others_cost kit P Mentions within names node_measure 1 (node_laws kit P) j fs + w j s → Good j ks (others kit fs j ks s)
     others_good none j ks s h k b t = b
     others_good (also f fs) j ks s h k b t =
         let q = known kit j s ks in
@@ -445,7 +445,7 @@ module _ {A : Type 0} (kit : Kit A) (P : A → Type 0) (Mentions : A → ℕ →
         let a = others_smaller kit P Mentions within names node_measure 1 (node_laws kit P) fs j ks z h.1 y in
         let l = (pass_smaller kit P Mentions within names node_measure 1 (node_laws kit P) f q h.0).inside in
         let i = passed_size kit P Mentions within names node_measure 1 (node_laws kit P) j ks f g s v k l in
-        let m = least kit P Mentions within names node_measure 1 (node_laws kit P) g v.tidy in
+        let m = least kit P Mentions within names node_measure 1 (node_laws kit P) g v.orderly in
         let c = member_nodes g (nodes_of g) in
         let d = member_nodes f (nodes_of f) in
         others_good fs j ks z h.1 y (passed_good j ks f g s b v k (omega arith) (omega arith) (shrunk f q j h.0) (λ e. pass_reduced f q h.0 (omega arith)) (omega arith)) (omega arith)

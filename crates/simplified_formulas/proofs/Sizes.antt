@@ -7,7 +7,7 @@ use Rattle.formula_meaning.specs.Shape.{Quantifier, Exists, ForAll}
 use Rattle.atom_merging.specs.Computed.{Merging, Settled, Into, Kept}
 use Rattle.simplified_formulas.specs.Atoms.{Kit, without}
 use Rattle.simplified_formulas.specs.Reduced.{AreTwo}
-use Rattle.simplified_formulas.specs.Tidy.{IsTidy, AreTidy}
+use Rattle.simplified_formulas.specs.Orderly.{IsOrderly, AreOrderly}
 use Rattle.simplified_formulas.specs.Measure.{Measure, as_member, size, members_size, more_size}
 use Rattle.simplified_formulas.specs.Pass.{Parts, Closed, Open, settles, constant, ones, close, opened, closed_if, atom_or, pushed_unless, where_merged, decided, with_one, by_decision, with_atom, has, with_other, with_piece, with_pieces, with_member, with_atom_first, with_atoms, with_passed, known, is_free, quantified, pass, others}
 use Rattle.simplified_formulas.proofs.FreeTests.{NamesTold}
@@ -137,7 +137,7 @@ module _ {A : Type 0} (kit : Kit A) (P : A → Type 0) (Mentions : A → ℕ →
   costs j none = refl
   costs j (also f fs) = let h = costs j fs in let k = one_cost j f in omega arith
 
-  pub atom_first_size : (j : Junction) (ks : List A) (f : Formula A ℕ) (s : Parts A) → IsTidy P f → Within s → weight j (with_atom_first kit j ks f s) ≤ atom_cost j f + weight j s
+  pub atom_first_size : (j : Junction) (ks : List A) (f : Formula A ℕ) (s : Parts A) → IsOrderly P f → Within s → weight j (with_atom_first kit j ks f s) ≤ atom_cost j f + weight j s
   atom_first_size j ks (One a) s h k = atom_size j ks a s h k
   atom_first_size j ks f s h k = at_least 0 (weight j s)
     where
@@ -149,7 +149,7 @@ module _ {A : Type 0} (kit : Kit A) (P : A → Type 0) (Mentions : A → ℕ →
   atoms_size j ks (also f fs) s h k =
       let g = first kit P Mentions within names Any f fs h in
       let t = atoms_size j ks fs (with_atom_first kit j ks f s) (rest kit P Mentions within names Any f fs h) (atom_first_within kit P Mentions within names Any j ks f s g k) in
-      let i = atom_first_size j ks f s g.tidy k in
+      let i = atom_first_size j ks f s g.orderly k in
       omega arith
 
   -- ---- another member more
@@ -166,7 +166,7 @@ module _ {A : Type 0} (kit : Kit A) (P : A → Type 0) (Mentions : A → ℕ →
   other_size j f Closed = omega arith
   other_size j f (Open us gs) = let h = pushed_size j (has kit gs f) f gs in omega arith
 
-  piece_size : (j : Junction) (ks : List A) (f : Formula A ℕ) (s : Parts A) → IsTidy P f → Within s → weight j (with_piece kit j ks f s) ≤ cost j f + weight j s
+  piece_size : (j : Junction) (ks : List A) (f : Formula A ℕ) (s : Parts A) → IsOrderly P f → Within s → weight j (with_piece kit j ks f s) ≤ cost j f + weight j s
   piece_size j ks (One a) s h k = atom_size j ks a s h k
   piece_size j ks f s h k = other_size j f s
 
@@ -175,7 +175,7 @@ module _ {A : Type 0} (kit : Kit A) (P : A → Type 0) (Mentions : A → ℕ →
   pieces_size j ks (also f fs) s h k =
       let g = first kit P Mentions within names Any f fs h in
       let t = pieces_size j ks fs (with_piece kit j ks f s) (rest kit P Mentions within names Any f fs h) (piece_within kit P Mentions within names Any j ks f s g k) in
-      let i = piece_size j ks f s g.tidy k in
+      let i = piece_size j ks f s g.orderly k in
       omega arith
 
   abbrev pub pieces_cost : Junction → Option (Formulas A ℕ) → ℕ
@@ -217,7 +217,7 @@ module _ {A : Type 0} (kit : Kit A) (P : A → Type 0) (Mentions : A → ℕ →
   -- ---- the list closed
 
   mutual
-    pub least : (f : Formula A ℕ) → IsTidy P f → low ≤ size m f
+    pub least : (f : Formula A ℕ) → IsOrderly P f → low ≤ size m f
     least Yes h = laws.low_yes
     least No h = laws.low_no
     least (One a) h = let i = laws.low_yes in let k = laws.constant_atom true a h in omega arith
@@ -230,7 +230,7 @@ module _ {A : Type 0} (kit : Kit A) (P : A → Type 0) (Mentions : A → ℕ →
     least (Ex x f) h = let i = least f h in omega arith
     least (All x f) h = let i = least f h in omega arith
 
-    pub least_members : (fs : Formulas A ℕ) (j : Junction) → AreTwo fs → AreTidy P fs → low + (m.gap j + low) ≤ members_size m fs j
+    pub least_members : (fs : Formulas A ℕ) (j : Junction) → AreTwo fs → AreOrderly P fs → low + (m.gap j + low) ≤ members_size m fs j
     least_members none j t h = absurd t
     least_members (also f none) j t h = absurd t
     least_members (also f (also g fs)) j t h =
@@ -281,29 +281,29 @@ module _ {A : Type 0} (kit : Kit A) (P : A → Type 0) (Mentions : A → ℕ →
   any_within : (f g : Formula A ℕ) → IsWithin kit P Mentions within names (FreeIn kit P Mentions within names f) g → IsWithin kit P Mentions within names Any g
   any_within f g h = wider kit P Mentions within names (FreeIn kit P Mentions within names f) Any g (λ x t. tt) h
 
-  pub passed_any : (f : Formula A ℕ) (ks : List A) → IsTidy P f → IsWithin kit P Mentions within names Any (pass kit f ks)
+  pub passed_any : (f : Formula A ℕ) (ks : List A) → IsOrderly P f → IsWithin kit P Mentions within names Any (pass kit f ks)
   passed_any f ks h = any_within f (pass kit f ks) (pass_within kit P Mentions within names f ks h)
 
   -- the atoms of a list joined to the empty one
   abbrev pub begun : Junction → List A → Formulas A ℕ → Parts A
   begun j ks fs = with_atoms kit j ks fs (Open [] none)
 
-  pub all_tidy : (fs : Formulas A ℕ) → AreTidy P fs → AreWithin kit P Mentions within names Any fs
-  all_tidy fs h = record { tidy = h; names = λ x t. tt }
+  pub all_orderly : (fs : Formulas A ℕ) → AreOrderly P fs → AreWithin kit P Mentions within names Any fs
+  all_orderly fs h = record { orderly = h; names = λ x t. tt }
 
-  pub begun_within : (j : Junction) (ks : List A) (fs : Formulas A ℕ) → AreTidy P fs → Within (begun j ks fs)
-  begun_within j ks fs h = atoms_within kit P Mentions within names Any j ks fs (Open [] none) (all_tidy fs h) (start kit P Mentions within names Any)
+  pub begun_within : (j : Junction) (ks : List A) (fs : Formulas A ℕ) → AreOrderly P fs → Within (begun j ks fs)
+  begun_within j ks fs h = atoms_within kit P Mentions within names Any j ks fs (Open [] none) (all_orderly fs h) (start kit P Mentions within names Any)
 
-  pub begun_size : (j : Junction) (ks : List A) (fs : Formulas A ℕ) → AreTidy P fs → weight j (begun j ks fs) ≤ atoms_cost j fs
-  begun_size j ks fs h = let t = atoms_size j ks fs (Open [] none) (all_tidy fs h) (start kit P Mentions within names Any) in omega arith
+  pub begun_size : (j : Junction) (ks : List A) (fs : Formulas A ℕ) → AreOrderly P fs → weight j (begun j ks fs) ≤ atoms_cost j fs
+  begun_size j ks fs h = let t = atoms_size j ks fs (Open [] none) (all_orderly fs h) (start kit P Mentions within names Any) in omega arith
 
-  list_smaller : (j : Junction) (fs : Formulas A ℕ) (ks : List A) → AreTwo fs → AreTidy P fs → (weight j (others kit fs j ks (begun j ks fs)) ≤ others_cost j fs + weight j (begun j ks fs)) → size m (close j (others kit fs j ks (begun j ks fs))) ≤ m.head + members_size m fs j
+  list_smaller : (j : Junction) (fs : Formulas A ℕ) (ks : List A) → AreTwo fs → AreOrderly P fs → (weight j (others kit fs j ks (begun j ks fs)) ≤ others_cost j fs + weight j (begun j ks fs)) → size m (close j (others kit fs j ks (begun j ks fs))) ≤ m.head + members_size m fs j
   list_smaller j fs ks t h i =
       let a = begun_size j ks fs h in let b = costs j fs in let d = inner_cost j fs in
       close_size j (others kit fs j ks (begun j ks fs)) (members_size m fs j) (omega arith) (least_members fs j t h)
 
   mutual
-    pub pass_smaller : (f : Formula A ℕ) (ks : List A) → IsTidy P f → IsNoLarger (pass kit f ks) f
+    pub pass_smaller : (f : Formula A ℕ) (ks : List A) → IsOrderly P f → IsNoLarger (pass kit f ks) f
     pass_smaller Yes ks h = no_larger Yes
     pass_smaller No ks h = no_larger No
     pass_smaller (One a) ks h = decided_smaller a (decided kit ks a) h
@@ -322,7 +322,7 @@ module _ {A : Type 0} (kit : Kit A) (P : A → Type 0) (Mentions : A → ℕ →
     pass_smaller (Ex x f) ks h = ex_smaller x f (pass kit f (without kit.contains x ks)) (is_free kit x (pass kit f (without kit.contains x ks))) (pass_smaller f (without kit.contains x ks) h)
     pass_smaller (All x f) ks h = all_smaller x f (pass kit f (without kit.contains x ks)) (is_free kit x (pass kit f (without kit.contains x ks))) (pass_smaller f (without kit.contains x ks) h)
 
-    pub others_smaller : (fs : Formulas A ℕ) (j : Junction) (ks : List A) (s : Parts A) → AreTidy P fs → Within s → weight j (others kit fs j ks s) ≤ others_cost j fs + weight j s
+    pub others_smaller : (fs : Formulas A ℕ) (j : Junction) (ks : List A) (s : Parts A) → AreOrderly P fs → Within s → weight j (others kit fs j ks s) ≤ others_cost j fs + weight j s
     others_smaller none j ks s h k = omega arith
     others_smaller (also f fs) j ks s h k =
         let q = known kit j s ks in

@@ -16,7 +16,7 @@ use Rattle.formula_meaning.proofs.Sizes.{formula_same}
 use Rattle.atom_merging.specs.Merging.{Joined}
 use Rattle.atom_merging.specs.Computed.{Merging, Settled, Into, Kept}
 use Rattle.simplified_formulas.specs.Atoms.{Kit, without, tells, beside}
-use Rattle.simplified_formulas.specs.Tidy.{IsTidy, AreTidy}
+use Rattle.simplified_formulas.specs.Orderly.{IsOrderly, AreOrderly}
 use Rattle.simplified_formulas.specs.Pass.{Parts, Closed, Open, settles, first_answer, ones, close, opened, closed_if, atom_or, pushed_unless, where_merged, decided, with_one, by_decision, with_atom, has, with_other, with_piece, with_pieces, with_member, with_atom_first, with_atoms, with_passed, known, is_free, quantified, pass, others}
 use Rattle.simplified_formulas.proofs.FreeTests.{NamesTold, not_free}
 use Rattle.simplified_formulas.proofs.Keeps.{Any, MergesWithin, HasAtom, IsWithin, AreWithin, PartsWithin, PiecesWithin, FreeIn, wider, piece_within, split_within, atom_first_within, passed_within, atoms_within, pass_within, first, rest, start}
@@ -186,7 +186,7 @@ module _ {A P : Type 0} (kit : Kit A) (Holds : A → Type 0) (Mentions : A → �
         atom_true j a Closed h k = settled_more j (says a p)
         atom_true j a (Open us gs) h k = decision_true j a us gs h k.0 (decided kit ks a) (decided_so ks a hold h known_true)
 
-        piece_true : (j : Junction) (f : Formula A ℕ) (s : Parts A) → IsTidy Holds f → Within s → T (formula_of j (with_piece kit j ks f s)) p ↔ Joined j (T f p) (T (formula_of j s) p)
+        piece_true : (j : Junction) (f : Formula A ℕ) (s : Parts A) → IsOrderly Holds f → Within s → T (formula_of j (with_piece kit j ks f s)) p ↔ Joined j (T f p) (T (formula_of j s) p)
         piece_true j (One a) s h k = atom_true j a s h k
         piece_true j f s h k = other_true j f s
 
@@ -197,7 +197,7 @@ module _ {A P : Type 0} (kit : Kit A) (Holds : A → Type 0) (Mentions : A → �
             let X = T (formula_of j s) p in
             let J = T (joined j fs) p in
             both_ways (pieces_true j fs (with_piece kit j ks f s) (rest kit Holds Mentions within names Any f fs h) (piece_within kit Holds Mentions within names Any j ks f s g k))
-            (both_ways (along_right j J (piece_true j f s g.tidy k))
+            (both_ways (along_right j J (piece_true j f s g.orderly k))
             (both_ways (exchange j J (T f p) X) (both_ways (turn_round (group j (T f p) J X)) (along_left j X (turn_round (also_true j f fs p))))))
 
         -- what the pieces of a formula say of it
@@ -250,7 +250,7 @@ module _ {A P : Type 0} (kit : Kit A) (Holds : A → Type 0) (Mentions : A → �
         parted j none = both_ways (none_true j p) (nothing_more j (Nothing j) (Nothing j) same)
         parted j (also f fs) = both_ways (also_true j f fs p) (both_ways (along_right j (T f p) (parted j fs)) (parted_more j f (OthersSay j fs) (AtomsSay j fs)))
 
-        atom_first_true : (j : Junction) (f : Formula A ℕ) (s : Parts A) → IsTidy Holds f → Within s → T (formula_of j (with_atom_first kit j ks f s)) p ↔ with_atom_say j f (T (formula_of j s) p)
+        atom_first_true : (j : Junction) (f : Formula A ℕ) (s : Parts A) → IsOrderly Holds f → Within s → T (formula_of j (with_atom_first kit j ks f s)) p ↔ with_atom_say j f (T (formula_of j s) p)
         atom_first_true j (One a) s h k = atom_true j a s h k
         atom_first_true j f s h k = same
 
@@ -263,7 +263,7 @@ module _ {A P : Type 0} (kit : Kit A) (Holds : A → Type 0) (Mentions : A → �
         atoms_true j (also f fs) s h k =
             let g = first kit Holds Mentions within names Any f fs h in
             both_ways (atoms_true j fs (with_atom_first kit j ks f s) (rest kit Holds Mentions within names Any f fs h) (atom_first_within kit Holds Mentions within names Any j ks f s g k))
-            (both_ways (along_right j (AtomsSay j fs) (atom_first_true j f s g.tidy k)) (atom_moves j f (AtomsSay j fs) (T (formula_of j s) p)))
+            (both_ways (along_right j (AtomsSay j fs) (atom_first_true j f s g.orderly k)) (atom_moves j f (AtomsSay j fs) (T (formula_of j s) p)))
 
         other_moves : (j : Junction) (f : Formula A ℕ) (Q R : Type 0) → Joined j Q (with_other_say j f R) ↔ Joined j (with_other_say j f Q) R
         other_moves j (One a) Q R = same
@@ -359,12 +359,12 @@ module _ {A P : Type 0} (kit : Kit A) (Holds : A → Type 0) (Mentions : A → �
     any_within f g h = wider kit Holds Mentions within names (FreeIn kit Holds Mentions within names f) Any g (λ x t. tt) h
 
     -- the members of a list: first the atoms, then the others
-    members_true : (j : Junction) (fs : Formulas A ℕ) (ks : List A) (p : P) (o : OfTheory p) → AreTidy Holds fs → (h : EachOf Holds ks) (t : EachOf (λ k. says k p) ks)
+    members_true : (j : Junction) (fs : Formulas A ℕ) (ks : List A) (p : P) (o : OfTheory p) → AreOrderly Holds fs → (h : EachOf Holds ks) (t : EachOf (λ k. says k p) ks)
         → ((s : Parts A) → PartsWithin kit Holds Mentions within names Any s → T (formula_of j (others kit fs j ks s)) p ↔ Joined j (OthersSay p o ks h t j fs) (T (formula_of j s) p))
         → T (close j (others kit fs j ks (with_atoms kit j ks fs (Open [] none)))) p ↔ T (joined j fs) p
     members_true j fs ks p o d h t i =
         let s = with_atoms kit j ks fs (Open [] none) in
-        let w : AreWithin kit Holds Mentions within names Any fs = record { tidy = d; names = λ x u. tt } in
+        let w : AreWithin kit Holds Mentions within names Any fs = record { orderly = d; names = λ x u. tt } in
         let z : PartsWithin kit Holds Mentions within names Any (Open [] none) = start kit Holds Mentions within names Any in
         both_ways (close_true p o j (others kit fs j ks s))
         (both_ways (i s (atoms_within kit Holds Mentions within names Any j ks fs (Open [] none) w z))
@@ -372,7 +372,7 @@ module _ {A P : Type 0} (kit : Kit A) (Holds : A → Type 0) (Mentions : A → �
         (turn_round (parted p o ks h t j fs))))
 
     mutual
-      pub pass_true : (f : Formula A ℕ) (ks : List A) (p : P) → OfTheory p → IsTidy Holds f → EachOf Holds ks → EachOf (λ k. says k p) ks → T (pass kit f ks) p ↔ T f p
+      pub pass_true : (f : Formula A ℕ) (ks : List A) (p : P) → OfTheory p → IsOrderly Holds f → EachOf Holds ks → EachOf (λ k. says k p) ks → T (pass kit f ks) p ↔ T f p
       pass_true Yes ks p o d h t = same
       pass_true No ks p o d h t = same
       pass_true (One a) ks p o d h t = atom_or_true p o a (decided kit ks a) (decided_so p o ks a h d t)
@@ -391,7 +391,7 @@ module _ {A P : Type 0} (kit : Kit A) (Holds : A → Type 0) (Mentions : A → �
           (λ k m l. pass_true f (without kit.contains x ks) (move p x k m) (laws.moved p x k m o l) d (holds_without x ks h) (known_without p x k m ks o l t))
           (is_free kit x (pass kit f (without kit.contains x ks))) refl
 
-      others_true : (fs : Formulas A ℕ) (j : Junction) (ks : List A) (s : Parts A) (p : P) (o : OfTheory p) → AreTidy Holds fs → (h : EachOf Holds ks) (t : EachOf (λ k. says k p) ks) → PartsWithin kit Holds Mentions within names Any s
+      others_true : (fs : Formulas A ℕ) (j : Junction) (ks : List A) (s : Parts A) (p : P) (o : OfTheory p) → AreOrderly Holds fs → (h : EachOf Holds ks) (t : EachOf (λ k. says k p) ks) → PartsWithin kit Holds Mentions within names Any s
           → T (formula_of j (others kit fs j ks s)) p ↔ Joined j (OthersSay p o ks h t j fs) (T (formula_of j s) p)
       others_true none j ks s p o d h t w = nothing_more j (Nothing j) (T (formula_of j s) p) same
       others_true (also f fs) j ks s p o d h t w =

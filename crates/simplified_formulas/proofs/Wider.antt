@@ -6,7 +6,7 @@ use Rattle.formula_meaning.specs.Some.{EachOf}
 use Rattle.formula_meaning.specs.Fold.{Junction, Conjunction, Disjunction}
 use Rattle.simplified_formulas.specs.Atoms.{without, tells, beside}
 use Rattle.simplified_formulas.specs.Reduced.{atom_first, atoms_of, under, AreKept, IsUndecided, ReducedInside, MembersReduced, Reduced}
-use Rattle.simplified_formulas.specs.Tidy.{IsTidy, AreTidy}
+use Rattle.simplified_formulas.specs.Orderly.{IsOrderly, AreOrderly}
 
 module _ {A : Type 0} (P : A → Type 0) (Keeps More : Junction → A → A → Type 0) (Undecided Open : A → A → Type 0) (opposite : A → A) (contains : A → ℕ → Bool) (Mentions : A → ℕ → Type 0)
     (stays : (a : A) → P a → P (opposite a))
@@ -24,11 +24,11 @@ module _ {A : Type 0} (P : A → Type 0) (Keeps More : Junction → A → A → 
   is_open [] a h x k = tt
   is_open (u ∷ us) a h x k = (undecide u a h.0 x k.0, is_open us a h.1 x k.1)
 
-  first_holds : (f : Formula A ℕ) (us : List A) → IsTidy P f → EachOf P us → EachOf P (atom_first f us)
+  first_holds : (f : Formula A ℕ) (us : List A) → IsOrderly P f → EachOf P us → EachOf P (atom_first f us)
   first_holds (One a) us h k = (h, k)
   first_holds f us h k = k
 
-  atoms_hold : (fs : Formulas A ℕ) → AreTidy P fs → EachOf P (atoms_of fs)
+  atoms_hold : (fs : Formulas A ℕ) → AreOrderly P fs → EachOf P (atoms_of fs)
   atoms_hold none h = tt
   atoms_hold (also f fs) h = first_holds f (atoms_of fs) h.0 (atoms_hold fs h.1)
 
@@ -53,7 +53,7 @@ module _ {A : Type 0} (P : A → Type 0) (Keeps More : Junction → A → A → 
   under_hold f ks ls h k = k
 
   mutual
-    wider_inside : (f : Formula A ℕ) (ks : List A) → IsTidy P f → EachOf P ks → ReducedInside Keeps Undecided opposite contains Mentions f ks → ReducedInside More Open opposite contains Mentions f ks
+    wider_inside : (f : Formula A ℕ) (ks : List A) → IsOrderly P f → EachOf P ks → ReducedInside Keeps Undecided opposite contains Mentions f ks → ReducedInside More Open opposite contains Mentions f ks
     wider_inside Yes ks h k r = r
     wider_inside No ks h k r = r
     wider_inside (One a) ks h k r = is_open ks a k h r
@@ -70,11 +70,11 @@ module _ {A : Type 0} (P : A → Type 0) (Keeps More : Junction → A → A → 
     wider_inside (Ex x f) ks h k r = (r.0, wider_inside f (without contains x ks) h (without_hold x ks k) r.1)
     wider_inside (All x f) ks h k r = (r.0, wider_inside f (without contains x ks) h (without_hold x ks k) r.1)
 
-    wider_members : (fs : Formulas A ℕ) (j : Junction) (ks ls : List A) → AreTidy P fs → EachOf P ks → EachOf P ls → MembersReduced Keeps Undecided opposite contains Mentions fs j ks ls → MembersReduced More Open opposite contains Mentions fs j ks ls
+    wider_members : (fs : Formulas A ℕ) (j : Junction) (ks ls : List A) → AreOrderly P fs → EachOf P ks → EachOf P ls → MembersReduced Keeps Undecided opposite contains Mentions fs j ks ls → MembersReduced More Open opposite contains Mentions fs j ks ls
     wider_members none j ks ls h k l r = tt
     wider_members (also f fs) j ks ls h k l r = (r.0, wider_inside f (under f ks ls) h.0 (under_hold f ks ls k l) r.1, wider_members fs j ks ls h.1 k l r.2)
 
-  pub wider : (f : Formula A ℕ) (ks : List A) → IsTidy P f → EachOf P ks → Reduced Keeps Undecided opposite contains Mentions f ks → Reduced More Open opposite contains Mentions f ks
+  pub wider : (f : Formula A ℕ) (ks : List A) → IsOrderly P f → EachOf P ks → Reduced Keeps Undecided opposite contains Mentions f ks → Reduced More Open opposite contains Mentions f ks
   wider Yes ks h k r = tt
   wider No ks h k r = tt
   wider f ks h k r = wider_inside f ks h k r

@@ -1,6 +1,6 @@
 pub mod Atoms
 pub mod Reduced
-pub mod Tidy
+pub mod Orderly
 pub mod Pass
 pub mod Measure
 pub mod AtomKit

@@ -9,13 +9,13 @@ use Rattle.atom_normal.specs.NormalForm.{negated_normal}
 use Rattle.atom_merging.specs.Merging.{IsKept, Implies, Excludes}
 use Rattle.atom_merging.specs.Computed.{IsNormalWithin}
 use Rattle.simplified_formulas.specs.Reduced.{Reduced}
-use Rattle.simplified_formulas.specs.Tidy.{IsTidy}
+use Rattle.simplified_formulas.specs.Orderly.{IsOrderly}
 use Rattle.simplified_formulas.specs.AtomKit.{contains, atom_kit}
 use Rattle.simplified_formulas.specs.Pass.{simplified}
 
 -- in negation normal form, with two members at least in each list, and normal atoms whose constants are within the limit
 abbrev pub IsSimplifiable : Context → Tree → Type 0
-IsSimplifiable c f = IsTidy (IsNormalWithin c) f
+IsSimplifiable c f = IsOrderly (IsNormalWithin c) f
 
 -- normal atoms whose constants are within the limit
 abbrev pub AreAssumable : Context → List Atom → Type 0

@@ -1,5 +1,5 @@
 -- Simplifying makes no text longer.
-use Rattle.std.proofs.Common.{◌≡◌, ℕ, zero, suc, ◌+◌, ◌≤◌, ◌<◌, Bool, true, false, List, [], ◌∷◌, length, arith, refl, sym, subst, ⊎_elim}
+use Rattle.std.proofs.Common.{◌≡◌, ℕ, zero, suc, ◌+◌, ◌≤◌, ◌<◌, Bool, true, false, List, [], ◌∷◌, length, arith, sym, subst, ⊎_elim}
 use Rattle.std.specs.Prelude.{slice_get, unwrap_or}
 use Rattle.std.specs.List.{AllByRecursion}
 use Rattle.formula_meaning.specs.Context.{Context}
@@ -14,7 +14,7 @@ use Rattle.atom_merging.specs.Computed.{Into, merged, IsNormalWithin}
 use Rattle.atom_merging.proofs.Computed.{merged_comes}
 use Rattle.redlog_printer.specs.Text.{name_at, atom_text}
 use Rattle.redlog_printer.specs.Within.{AreTermsWithin, IsAtomWithin}
-use Rattle.simplified_formulas.specs.Tidy.{IsTidy, AreTidy}
+use Rattle.simplified_formulas.specs.Orderly.{IsOrderly, AreOrderly}
 use Rattle.simplified_formulas.specs.Measure.{size}
 use Rattle.simplified_formulas.specs.Pass.{constant}
 use Rattle.simplified_formulas.specs.AtomKit.{atom_kit}
@@ -26,26 +26,26 @@ use Rattle.simplified_formulas.proofs.TreeLaws.{keeps_shape}
 use Rattle.simplified_formulas.proofs.AtomLaws.{merges_within, names_told}
 use Rattle.simplified_texts.specs.Texts.{word_length, quantifier_length, text_measure, SimplifyingLengthensNoText}
 use Rattle.simplified_texts.proofs.Measured.{text_is}
-use Rattle.simplified_texts.proofs.Widths.{IsLike, comes_like, atom_long}
+use Rattle.simplified_texts.proofs.Widths.{comes_like, atom_long}
 
 module _ {A : Type 0} (P Q R : A → Type 0) (both : (a : A) → P a → Q a → R a) where
   mutual
-    tidy_both : (f : Formula A ℕ) → IsTidy P f → Every Q f → IsTidy R f
-    tidy_both Yes h k = tt
-    tidy_both No h k = tt
-    tidy_both (One a) h k = both a h k
-    tidy_both (Not f) h k = absurd h
-    tidy_both (And fs) h k = (h.0, all_both fs h.1 k)
-    tidy_both (Or fs) h k = (h.0, all_both fs h.1 k)
-    tidy_both (Impl f g) h k = absurd h
-    tidy_both (Repl f g) h k = absurd h
-    tidy_both (Equiv f g) h k = absurd h
-    tidy_both (Ex x f) h k = tidy_both f h k
-    tidy_both (All x f) h k = tidy_both f h k
+    orderly_both : (f : Formula A ℕ) → IsOrderly P f → Every Q f → IsOrderly R f
+    orderly_both Yes h k = tt
+    orderly_both No h k = tt
+    orderly_both (One a) h k = both a h k
+    orderly_both (Not f) h k = absurd h
+    orderly_both (And fs) h k = (h.0, all_both fs h.1 k)
+    orderly_both (Or fs) h k = (h.0, all_both fs h.1 k)
+    orderly_both (Impl f g) h k = absurd h
+    orderly_both (Repl f g) h k = absurd h
+    orderly_both (Equiv f g) h k = absurd h
+    orderly_both (Ex x f) h k = orderly_both f h k
+    orderly_both (All x f) h k = orderly_both f h k
 
-    all_both : (fs : Formulas A ℕ) → AreTidy P fs → EveryOf Q fs → AreTidy R fs
+    all_both : (fs : Formulas A ℕ) → AreOrderly P fs → EveryOf Q fs → AreOrderly R fs
     all_both none h k = tt
-    all_both (also f fs) h k = (tidy_both f h.0 k.0, all_both fs h.1 k.1)
+    all_both (also f fs) h k = (orderly_both f h.0 k.0, all_both fs h.1 k.1)
 
 -- a name of the list is not empty
 name_long : (names : List (List ℕ)) (x : ℕ) → EachOf (λ name. 0 < length name) names → x < length names → 0 < length (unwrap_or (slice_get names x) [])
@@ -110,7 +110,7 @@ module _ (names : List (List ℕ)) (long : EachOf (λ name. 0 < length name) nam
 
 pub no_longer : SimplifyingLengthensNoText
 no_longer names long c ks f h k =
-    let w = tidy_both (IsNormalWithin c) (IsAtomWithin (length names)) (IsWritten names long c) (λ a x y. record { normal = x; named = y }) f h k in
+    let w = orderly_both (IsNormalWithin c) (IsAtomWithin (length names)) (IsWritten names long c) (λ a x y. record { normal = x; named = y }) f h k in
     let a = text_is names (IsNormalWithin c) f h in
     let b = text_is names (IsNormalWithin c) (simplified_under c ks f) (keeps_shape c ks f h) in
     let l = simplified_smaller (atom_kit c) (IsWritten names long c) Mentions (written_within names long c) (names_told c) (text_measure names) 4 (text_laws names long c) f ks w in

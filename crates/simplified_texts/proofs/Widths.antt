@@ -1,7 +1,7 @@
 -- The text of a merged atom is little longer than that of one of the two.
-use Rattle.std.proofs.Common.{◌≡◌, ℕ, suc, ◌+◌, ◌≤◌, ◌<◌, ◌^◌, Bool, true, false, nat_eq, List, [], ◌∷◌, ◌++◌, length, arith, refl, sym, subst, ap, ◌∙◌, ◌⊎◌, inl, inr, ⊎_elim, length-append}
-use Rattle.std.proofs.Math.IntN.{ℤ, pos, negsuc, ◌+ℤ◌, ◌-ℤ◌}
-use Rattle.std.specs.Prelude.{codes, unsigned_abs, if◌then◌else◌, ◌≤ℤ◌, ◌<ℤ◌}
+use Rattle.std.proofs.Common.{◌≡◌, ℕ, ◌+◌, ◌≤◌, ◌<◌, Bool, true, false, nat_eq, List, [], ◌∷◌, ◌++◌, length, arith, refl, sym, subst, ap, ◌⊎◌, inl, inr, ⊎_elim, length-append}
+use Rattle.std.proofs.Math.IntN.{ℤ, pos, negsuc, ◌+ℤ◌}
+use Rattle.std.specs.Prelude.{codes, unsigned_abs, if◌then◌else◌}
 use Rattle.std.specs.Fmt.{decimal}
 use Rattle.std.specs.List.{flat_map, AllByRecursion}
 use Rattle.std.specs.Ordering.{int_eq}
