@@ -9,4 +9,5 @@ pub mod MergedAnswers
 pub mod ResidueClasses
 pub mod JoinedCongruences
 pub mod PointLaws
+pub mod Computed
 mod Examples

@@ -6,6 +6,8 @@ use Rattle.formula_meaning.specs.Point.{Point, Of}
 use Rattle.formula_meaning.specs.Atom.{Atom, Says, Mentions, form_of}
 use Rattle.formula_meaning.specs.Fold.{Junction}
 use Rattle.atom_normal.specs.NormalForm.{IsNormal}
+use Rattle.atom_merging.specs.Merged.{IsDecision}
+use Rattle.atom_merging.specs.Computed.{merged, decided_by, IsRight, IsNormalWithin}
 use Rattle.atom_merging.specs.Merging.{Joined, IsSettled, Settles, MergesInto, IsKept, Implies, Excludes}
 
 -- at every point of the theory the atom into which two merge is true exactly where both are, or one of them is
@@ -27,3 +29,10 @@ AtomMergesWithItself = (c : Context) (j : Junction) (a : Atom) → IsNormal c a 
 -- what follows from an atom is true at each point of the theory where the atom is
 abbrev pub DecidingIsSound : Type 0
 DecidingIsSound = (c : Context) (a b : Atom) → IsNormal c a → IsNormal c b → (p : Point ℕ) → Of c p → (Implies c a b → Says a p → Says b p) × (Excludes c a b → Says a p → ¬ (Says b p))
+
+-- the functions that compute merging and deciding are right of normal atoms within the limit
+abbrev pub MergingIsComputed : Type 0
+MergingIsComputed = (c : Context) (j : Junction) (a b : Atom) → IsNormalWithin c a → IsNormalWithin c b → IsRight c j a b (merged c j a b)
+
+abbrev pub DecidingIsComputed : Type 0
+DecidingIsComputed = (c : Context) (a b : Atom) → IsNormal c a → IsNormal c b → IsDecision c a b (decided_by c a b)

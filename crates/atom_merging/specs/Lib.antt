@@ -6,3 +6,4 @@ pub mod Positions
 pub mod Merged
 pub mod Junctions
 pub mod Answered
+pub mod Computed

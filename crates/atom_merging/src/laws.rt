@@ -1,5 +1,5 @@
 // What is proved of merging and deciding. Each function does nothing: its contract is the law, and its check is the proof.
-ghost use Rattle.atom_merging.specs.Laws.{MergingKeepsTruth, SettlingIsSound, MergingBringsNoName, AtomMergesWithItself, DecidingIsSound};
+ghost use Rattle.atom_merging.specs.Laws.{MergingKeepsTruth, SettlingIsSound, MergingBringsNoName, AtomMergesWithItself, DecidingIsSound, MergingIsComputed, DecidingIsComputed};
 
 /// At every point of the theory the atom into which two merge is true exactly where their join is, and a settled join is
 /// false, or true.
@@ -21,4 +21,10 @@ pub fn atom_merges_with_itself()
 /// An atom that follows from another is true at each point of the theory where that is, and one that the other excludes is not.
 pub fn deciding_is_sound()
     ensures { DecidingIsSound }
+{}
+
+/// Merging and deciding have definitions that compute, and their answers are right.
+pub fn merging_is_computed()
+    ensures merging { MergingIsComputed }
+    ensures deciding { DecidingIsComputed }
 {}

@@ -11,7 +11,8 @@ mod quotients;
 
 pub use answers::Merged;
 pub use laws::{
-    atom_merges_with_itself, deciding_is_sound, merging_brings_no_name, merging_keeps_truth,
+    atom_merges_with_itself, deciding_is_sound, merging_brings_no_name, merging_is_computed,
+    merging_keeps_truth,
 };
 pub use merging::{decides, merge_and, merge_or};
 

@@ -17,6 +17,7 @@ pub mod EachAtom
 pub mod ReplacedShape
 pub mod FreeReplaced
 pub mod NormalShape
+pub mod NormalAgain
 pub mod TreeNormal
 pub mod TreeReplacing
 pub mod Fold

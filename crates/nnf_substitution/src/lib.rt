@@ -7,4 +7,4 @@ mod substitution;
 
 pub use atoms::distinct_atoms;
 pub use results::{formula_at, formulas_at, stands_in_some};
-pub use substitution::substituted;
+pub use substitution::{of_normal, substituted};

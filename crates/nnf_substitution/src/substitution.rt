@@ -19,7 +19,7 @@ use test_points::{PointError, TestPoint, substitute_field};
 
 /// The formula of a normal form.
 #[tactic(auto, using(nnf_trees::proofs::NnfEquations::nnfs))]
-pub(crate) fn of_normal(normal: Normal) -> Nnf
+pub fn of_normal(normal: Normal) -> Nnf
     requires { IsWellFormedNormal normal }
     ensures formula { nnf_of result ≡ tree_of normal }
     ensures proper { IsProper result }

@@ -11,11 +11,10 @@ use Rattle.nnf_trees.specs.declared.nnf.Junction.{Junction}
 use Rattle.nnf_trees.specs.declared.nnf.Quantifier.{Quantifier}
 use Rattle.nnf_trees.specs.declared.nnf.Junction.TheVariants as junction
 use Rattle.nnf_trees.specs.declared.nnf.Quantifier.TheVariants as quantifier
-use Rattle.formula_tree.specs.declared.tree.Tree as code
-use Rattle.formula_tree.specs.Trees.{members, tree_of}
+use Rattle.formula_tree.specs.Trees.{members}
 use Rattle.nnf_trees.specs.declared.nnf.Nnf.{Nnf}
 use Rattle.nnf_trees.specs.Nnfs.{junction_of, quantified, nnf_of}
-use Rattle.nnf_trees.proofs.Pieces.{Formulas_of, lists_joined, append_none, append_thrice}
+use Rattle.nnf_trees.proofs.Pieces.{Formulas_of, members_joined, lists_joined, append_none, append_thrice}
 use Rattle.nnf_trees.specs.Forms.{form, forms, turned_junction, turned_quantifier}
 
 pub form_yes : (n : Bool) → constant_tree (not n) ≡ form n Yes
@@ -105,16 +104,13 @@ pub quantified_nodes : (q : Quantifier) (x : ℕ) (f : Tree) → nodes (quantifi
 quantified_nodes quantifier.Ex x f = refl
 quantified_nodes quantifier.All x f = refl
 
--- one tree more is made
-tree_lists_joined : (xs ys : List code.Tree) → members (map tree_of (xs ++ ys)) ≡ append (members (map tree_of xs)) (members (map tree_of ys))
-tree_lists_joined [] ys = refl
-tree_lists_joined (x ∷ xs) ys = ap (also (tree_of x)) (tree_lists_joined xs ys)
+-- one formula more is made, whatever stands for the formulas
+module _ {X : Type 0} (t : X → Tree) where
+  pub one_tree : (made made2 : List X) (g : X) (f : Nnf) (rest left : List Nnf) (all : Trees) → append (members (map t made)) (Formulas_of left) ≡ all → left ≡ f ∷ rest → t g ≡ nnf_of f → made2 ≡ made ++ g ∷ []
+      → append (members (map t made2)) (Formulas_of rest) ≡ all
+  one_tree made made2 g f rest left all h e s m =
+      ap (λ xs. append (members (map t xs)) (Formulas_of rest)) m ∙ ap (λ fs. append fs (Formulas_of rest)) (members_joined t made (g ∷ [])) ∙ append_thrice (members (map t made)) (also (t g) none) (Formulas_of rest)
+      ∙ ap (append (members (map t made))) (ap (λ x. also x (Formulas_of rest)) s ∙ ap Formulas_of (sym e)) ∙ h
 
-pub one_tree : (made made2 : List code.Tree) (g : code.Tree) (f : Nnf) (rest left : List Nnf) (all : Trees) → append (members (map tree_of made)) (Formulas_of left) ≡ all → left ≡ f ∷ rest → tree_of g ≡ nnf_of f
-    → made2 ≡ made ++ g ∷ [] → append (members (map tree_of made2)) (Formulas_of rest) ≡ all
-one_tree made made2 g f rest left all h e s m =
-    ap (λ xs. append (members (map tree_of xs)) (Formulas_of rest)) m ∙ ap (λ fs. append fs (Formulas_of rest)) (tree_lists_joined made (g ∷ [])) ∙ append_thrice (members (map tree_of made)) (also (tree_of g) none) (Formulas_of rest)
-    ∙ ap (append (members (map tree_of made))) (ap (λ x. also x (Formulas_of rest)) s ∙ ap Formulas_of (sym e)) ∙ h
-
-pub all_trees : (made : List code.Tree) (left : List Nnf) (all : Trees) → append (members (map tree_of made)) (Formulas_of left) ≡ all → left ≡ [] → members (map tree_of made) ≡ all
-all_trees made left all h e = sym (append_none (members (map tree_of made))) ∙ ap (append (members (map tree_of made))) (sym (ap Formulas_of e)) ∙ h
+  pub all_trees : (made : List X) (left : List Nnf) (all : Trees) → append (members (map t made)) (Formulas_of left) ≡ all → left ≡ [] → members (map t made) ≡ all
+  all_trees made left all h e = sym (append_none (members (map t made))) ∙ ap (append (members (map t made))) (sym (ap Formulas_of e)) ∙ h

@@ -20,9 +20,13 @@ use mathlib.Core.Bool.{beq}
 abbrev pub Formulas_of : List Nnf → Trees
 Formulas_of fs = members (map nnf_of fs)
 
+-- the formulas of two lists, one after the other
+pub members_joined : {X : Type 0} (t : X → Tree) (xs ys : List X) → members (map t (xs ++ ys)) ≡ append (members (map t xs)) (members (map t ys))
+members_joined t [] ys = refl
+members_joined t (x ∷ xs) ys = ap (also (t x)) (members_joined t xs ys)
+
 pub lists_joined : (xs ys : List Nnf) → Formulas_of (xs ++ ys) ≡ append (Formulas_of xs) (Formulas_of ys)
-lists_joined [] ys = refl
-lists_joined (x ∷ xs) ys = ap (also (nnf_of x)) (lists_joined xs ys)
+lists_joined xs ys = members_joined nnf_of xs ys
 
 pub are_joined : (xs ys : List Nnf) → AreProper xs → AreProper ys → AreProper (xs ++ ys)
 are_joined [] ys h k = k

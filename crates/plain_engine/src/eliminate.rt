@@ -7,7 +7,7 @@ ghost use Rattle.elimination_reference.specs.Measured.{done};
 ghost use Rattle.elimination_reference.specs.Reference.{reference};
 ghost use Rattle.elimination_reference.specs.Theorems.{IsAnswerTo};
 ghost use Rattle.formula_tree.specs.Trees.{tree_of};
-ghost use Rattle.nnf_trees.specs.Nnfs.{HasModulus};
+ghost use Rattle.nnf_trees.specs.Nnfs.{nnf_of, HasModulus, IsProper};
 ghost use Rattle.plain_engine.specs.Told.{StopsWith};
 
 use crate::branches::branches;
@@ -15,7 +15,7 @@ use crate::measured::{Measured, Setting, pay};
 use crate::parts::{folded, resolved};
 use atom_normal::Context;
 use formula_tree::Tree;
-use nnf_trees::{Junction, form_sizes, normal_form};
+use nnf_trees::{Junction, Nnf, form_sizes, normal_form};
 use std::alloc::Global;
 
 /// The reference elimination of a tree over normal atoms: a formula without quantifiers that is equivalent to the tree, has no
@@ -36,6 +36,25 @@ pub fn eliminate_plain(
     ensures small { IfOk result (λ t. nodes (tree_of t) ≤ limit) }
     ensures stops { IfErr result (λ e. StopsWith e (reference (context_of context) limit (tree_of tree.now))) }
 {
+    let answer = eliminate_form(alloc, tree, context, limit)?;
+    resolved(alloc, answer)
+}
+
+/// As `eliminate_plain`, the answer in negation normal form, whose atoms are well formed.
+pub fn eliminate_form(
+    alloc: Global,
+    tree: &Tree,
+    context: Context,
+    limit: u64,
+) -> Result<Nnf, Measured>
+    requires moduli { Every HasModulus (tree_of tree.now) }
+    requires normal { Every (IsNormal (context_of context)) (tree_of tree.now) }
+    ensures answer { IfOk result (λ f. (cost : ℕ) × (reference (context_of context) limit (tree_of tree.now) ≡ done (nnf_of f, cost))) }
+    ensures exact { IfOk result (λ f. IsAnswerTo (context_of context) (tree_of tree.now) (nnf_of f)) }
+    ensures small { IfOk result (λ f. nodes (nnf_of f) ≤ limit) }
+    ensures proper { IfOk result IsProper }
+    ensures stops { IfErr result (λ e. StopsWith e (reference (context_of context) limit (tree_of tree.now))) }
+{
     let setting = Setting {
         alloc,
         context,
@@ -45,6 +64,5 @@ pub fn eliminate_plain(
     pay(limit, &mut cost, form_sizes(tree).plain)?;
     let form = normal_form(alloc, tree, false).map_err(|_| Measured::Memory)?;
     let left = branches(setting, &mut cost, Vec::new(alloc), true, &form)?;
-    let whole = folded(alloc, Junction::Or, left)?;
-    resolved(alloc, whole)
+    folded(alloc, Junction::Or, left)
 }

@@ -8,8 +8,10 @@ mod parts;
 mod points;
 mod steps;
 
-pub use eliminate::eliminate_plain;
-pub use measured::Measured;
+pub use eliminate::{eliminate_form, eliminate_plain};
+pub use measured::{Measured, pay};
+pub use parts::stands_in;
+pub use points::stopped;
 
 #[cfg(test)]
 mod tests;

@@ -30,7 +30,7 @@ pub(crate) struct Setting {
 }
 
 /// Adds the nodes to the cost; `Nodes` comes exactly where the sum passes the limit.
-pub(crate) fn pay(limit: u64, cost: &mut u64, nodes: Option<u64>) -> Result<(), Measured>
+pub fn pay(limit: u64, cost: &mut u64, nodes: Option<u64>) -> Result<(), Measured>
     ensures { (n : ℕ) → nodes ≡ limited n → Told the_unit result cost.new (pay limit n cost.old) }
 {
     match nodes {

@@ -92,7 +92,7 @@ pub(crate) fn is_ex(quantifier: Quantifier) -> bool
 }
 
 /// Whether the name is one of the names.
-pub(crate) fn stands_in(names: &[VarId], x: VarId) -> bool
+pub fn stands_in(names: &[VarId], x: VarId) -> bool
     ensures { result ≡ is_in nat_eq x.number (numbers names.now) }
 {
     for name in names {

@@ -17,7 +17,7 @@ use nnf_trees::{Nnf, nodes};
 use test_points::{PointError, Side, TestPoint, field_points};
 
 /// What stops the engine where a test point, or a formula at it, could not be made.
-pub(crate) fn stopped(error: PointError) -> Measured
+pub fn stopped(error: PointError) -> Measured
     ensures { result ≡ measured_of error }
 {
     match error {

@@ -1,9 +1,10 @@
 -- What a formula command answers is the answer of its statement.
-use Rattle.std.proofs.Common.{◌≡◌, inr, ℕ, List, Bool, Some, None, sym, subst, refl}
+use Rattle.std.proofs.Common.{◌≡◌, ◌∙◌, ap, inl, inr, ℕ, List, Bool, Some, None, sym, subst, refl}
 use Rattle.std.specs.Prelude.{Result, Ok, Err, IfOk, OnOk, IfErr, OnErr}
 use Rattle.qe_syntax.specs.declared.statement.PointEntry.{PointEntry}
-use Rattle.qe_syntax.specs.Trees.{FormulaTree}
-use Rattle.qe_syntax.specs.Statements.{CommandTree, ActionTree, Empty, Ignored, Finish, Choose, Say, Assign, StatementTree, Holds}
+use Rattle.formula_meaning.specs.Formula.{none}
+use Rattle.qe_syntax.specs.Trees.{FormulaTree, FormulaTrees}
+use Rattle.qe_syntax.specs.Statements.{CommandTree, ActionTree, Empty, Ignored, Finish, Choose, Say, Assign, StatementTree, Qe, Holds}
 use Rattle.redlog_reader.specs.Statement.{Spells}
 use Rattle.session_commands.specs.declared.line.Line.{Line}
 use Rattle.session_commands.specs.declared.formulas.Wanted.{Wanted}
@@ -13,68 +14,131 @@ use Rattle.session_commands.specs.Commands.{named}
 use Rattle.session_commands.specs.Steps.{command_of, use_of, IsGiven}
 use Rattle.session_commands.specs.declared.line.StatementError.{StatementError}
 use Rattle.session_commands.specs.declared.line.StatementError.TheVariants as error
-use Rattle.session_commands.specs.Built.{IsBuilt}
+use Rattle.session_commands.specs.Built.{IsBuiltCommand, IsBuilt}
 use Rattle.session_commands.specs.Causes.{Refuses}
 use Rattle.session_commands.specs.Reply.{AnswersCommand, RefusesAction, SpellsRefused, Reply}
-use Rattle.session_commands.specs.Answered.{IsCommandAnswered, IsCommandStopped, IsAssigned, IsAnswered, IsStopped}
+use Rattle.session_commands.specs.Answered.{IsEliminationAnswered, IsEliminationStopped, IsCommandAnswered, IsCommandStopped, IsAssigned, IsAssignmentStopped, IsAnswered, IsStopped}
 
-given_answered : (w : Wanted) (f : FormulaTree) (s next : State) (printed : Bool) (answer : Line) → IsGiven (named s (command_of w f)) (use_of None printed) (command_of w f) answer next → IsCommandAnswered s printed (command_of w f) answer next
-given_answered wanted.Given f s next printed answer h = record { built = tt; answered = (h.accepted, (_, (h.formula, h.given, refl), h.line)); after = h.after }
-given_answered wanted.NegationNormal f s next printed answer h = record { built = tt; answered = (h.accepted, (_, (h.formula, h.given, refl), h.line)); after = h.after }
+given_answered : (w : Wanted) (f : FormulaTree) (s next : State) (limit : ℕ) (printed : Bool) (answer : Line) → IsGiven (named s (command_of w f)) limit (use_of None printed) (command_of w f) answer next
+    → IsCommandAnswered s limit printed (command_of w f) answer next
+given_answered wanted.Given f s next limit printed answer h = record { built = tt; answered = (h.accepted, (_, (h.formula, h.given, refl), h.line)); after = h.after }
+given_answered wanted.NegationNormal f s next limit printed answer h = record { built = tt; answered = (h.accepted, (_, (h.formula, h.given, refl), h.line)); after = h.after }
+given_answered wanted.Eliminated f s next limit printed answer h = record { built = tt; answered = (h.accepted, (_, (h.formula, h.given, refl), h.line)); after = h.after }
 
-given_assigned : (w : Wanted) (f : FormulaTree) (s next : State) (printed : Bool) (x : List ℕ) (answer : Line) → IsGiven (named s (command_of w f)) (use_of (Some x) printed) (command_of w f) answer next → IsAssigned s printed x (command_of w f) answer next
-given_assigned wanted.Given f s next printed x answer h = record { built = tt; answered = record { accepted = h.accepted; formula = h.formula; given = h.given; line = h.line; binds = h.after } }
-given_assigned wanted.NegationNormal f s next printed x answer h = record { built = tt; answered = record { accepted = h.accepted; formula = h.formula; given = h.given; line = h.line; binds = h.after } }
+given_assigned : (w : Wanted) (f : FormulaTree) (s next : State) (limit : ℕ) (printed : Bool) (x : List ℕ) (answer : Line) → IsGiven (named s (command_of w f)) limit (use_of (Some x) printed) (command_of w f) answer next
+    → IsAssigned s limit printed x (command_of w f) answer next
+given_assigned wanted.Given f s next limit printed x answer h = record { built = tt; answered = record { accepted = h.accepted; formula = h.formula; given = h.given; line = h.line; binds = h.after } }
+given_assigned wanted.NegationNormal f s next limit printed x answer h = record { built = tt; answered = record { accepted = h.accepted; formula = h.formula; given = h.given; line = h.line; binds = h.after } }
+given_assigned wanted.Eliminated f s next limit printed x answer h = record { built = tt; answered = record { accepted = h.accepted; formula = h.formula; given = h.given; line = h.line; binds = h.after } }
 
 -- the same of a result, for a command that is known to be this one
-pub answered_as : {E : Type 0} (r : Result Line E) (w : Wanted) (f : FormulaTree) (c : CommandTree) (s next : State) (printed : Bool) → c ≡ command_of w f
-    → IfOk r (λ answer. IsGiven (named s (command_of w f)) (use_of None printed) (command_of w f) answer next) → IfOk r (λ answer. IsCommandAnswered s printed c answer next)
-answered_as (Ok answer) w f c s next printed e h = subst (λ d. IsCommandAnswered s printed d answer next) (sym e) (given_answered w f s next printed answer h)
-answered_as (Err e) w f c s next printed p h = tt
+pub answered_as : {E : Type 0} (r : Result Line E) (w : Wanted) (f : FormulaTree) (c : CommandTree) (s next : State) (limit : ℕ) (printed : Bool) → c ≡ command_of w f
+    → IfOk r (λ answer. IsGiven (named s (command_of w f)) limit (use_of None printed) (command_of w f) answer next) → IfOk r (λ answer. IsCommandAnswered s limit printed c answer next)
+answered_as (Ok answer) w f c s next limit printed e h = subst (λ d. IsCommandAnswered s limit printed d answer next) (sym e) (given_answered w f s next limit printed answer h)
+answered_as (Err e) w f c s next limit printed p h = tt
 
-pub assigned_as : {E : Type 0} (r : Result Line E) (w : Wanted) (f : FormulaTree) (c : CommandTree) (s next : State) (printed : Bool) (x : List ℕ) → c ≡ command_of w f
-    → IfOk r (λ answer. IsGiven (named s (command_of w f)) (use_of (Some x) printed) (command_of w f) answer next) → IfOk r (λ answer. IsAssigned s printed x c answer next)
-assigned_as (Ok answer) w f c s next printed x e h = subst (λ d. IsAssigned s printed x d answer next) (sym e) (given_assigned w f s next printed x answer h)
-assigned_as (Err e) w f c s next printed x p h = tt
+pub assigned_as : {E : Type 0} (r : Result Line E) (w : Wanted) (f : FormulaTree) (c : CommandTree) (s next : State) (limit : ℕ) (printed : Bool) (x : List ℕ) → c ≡ command_of w f
+    → IfOk r (λ answer. IsGiven (named s (command_of w f)) limit (use_of (Some x) printed) (command_of w f) answer next) → IfOk r (λ answer. IsAssigned s limit printed x c answer next)
+assigned_as (Ok answer) w f c s next limit printed x e h = subst (λ d. IsAssigned s limit printed x d answer next) (sym e) (given_assigned w f s next limit printed x answer h)
+assigned_as (Err e) w f c s next limit printed x p h = tt
+
+-- an elimination, whose assumptions are looked at
+eliminates : (f : FormulaTree) (given : FormulaTrees) (c : CommandTree) → c ≡ Qe f given → given ≡ none → c ≡ command_of wanted.Eliminated f
+eliminates f given c e plain = e ∙ ap (Qe f) plain
+
+pub elimination_answered : {E : Type 0} (r : Result Line E) (f : FormulaTree) (given : FormulaTrees) (c : CommandTree) (s next : State) (limit : ℕ) (printed : Bool) → c ≡ Qe f given
+    → IfOk r (λ answer. IsEliminationAnswered s limit (use_of None printed) f given answer next) → IfOk r (λ answer. IsCommandAnswered s limit printed c answer next)
+elimination_answered (Ok answer) f given c s next limit printed e h = answered_as {E = Unit {0}} (Ok answer) wanted.Eliminated f c s next limit printed (eliminates f given c e h.plain) h.answered
+elimination_answered (Err e) f given c s next limit printed p h = tt
+
+pub elimination_assigned : {E : Type 0} (r : Result Line E) (f : FormulaTree) (given : FormulaTrees) (c : CommandTree) (s next : State) (limit : ℕ) (printed : Bool) (x : List ℕ) → c ≡ Qe f given
+    → IfOk r (λ answer. IsEliminationAnswered s limit (use_of (Some x) printed) f given answer next) → IfOk r (λ answer. IsAssigned s limit printed x c answer next)
+elimination_assigned (Ok answer) f given c s next limit printed x e h = assigned_as {E = Unit {0}} (Ok answer) wanted.Eliminated f c s next limit printed x (eliminates f given c e h.plain) h.answered
+elimination_assigned (Err e) f given c s next limit printed x p h = tt
 
 -- the truth at a point
-pub holds_answered : {E : Type 0} (r : Result Line E) (f : FormulaTree) (es : List PointEntry) (c : CommandTree) (s next : State) (printed : Bool) → c ≡ Holds f es
-    → IfOk r (AnswersCommand (named s (Holds f es)) printed (Holds f es)) → OnOk r (next ≡ named s (Holds f es)) → IfOk r (λ answer. IsCommandAnswered s printed c answer next)
-holds_answered (Ok answer) f es c s next printed e h k = subst (λ d. IsCommandAnswered s printed d answer next) (sym e) (record { built = tt; answered = h; after = k })
-holds_answered (Err e) f es c s next printed p h k = tt
+pub holds_answered : {E : Type 0} (r : Result Line E) (f : FormulaTree) (es : List PointEntry) (c : CommandTree) (s next : State) (limit : ℕ) (printed : Bool) → c ≡ Holds f es
+    → IfOk r (AnswersCommand (named s (Holds f es)) limit printed (Holds f es)) → OnOk r (next ≡ named s (Holds f es)) → IfOk r (λ answer. IsCommandAnswered s limit printed c answer next)
+holds_answered (Ok answer) f es c s next limit printed e h k = subst (λ d. IsCommandAnswered s limit printed d answer next) (sym e) (record { built = tt; answered = h; after = k })
+holds_answered (Err e) f es c s next limit printed p h k = tt
 
-holds_stop : (f : FormulaTree) (es : List PointEntry) (s : State) (limit : ℕ) (printed : Bool) (e : StatementError) → Refuses (named s (Holds f es)) limit (use_of None printed) (Holds f es) e → IsCommandStopped s limit printed (Holds f es) e
-holds_stop f es s limit printed error.Syntax h = absurd h.applies
-holds_stop f es s limit printed error.Memory h = tt
-holds_stop f es s limit printed error.Long h = (tt, h)
-holds_stop f es s limit printed error.Lexical h = (tt, h)
-holds_stop f es s limit printed error.Nesting h = (tt, h)
-holds_stop f es s limit printed error.Unbound h = (tt, h)
-holds_stop f es s limit printed error.FormulaAsTerm h = (tt, h)
-holds_stop f es s limit printed error.Nonlinear h = (tt, h)
-holds_stop f es s limit printed error.Division h = (tt, h)
-holds_stop f es s limit printed error.CongruenceContext h = (tt, h)
-holds_stop f es s limit printed error.Modulus h = (tt, h)
-holds_stop f es s limit printed error.Depth h = (tt, h)
-holds_stop f es s limit printed error.Point h = (tt, h)
-holds_stop f es s limit printed error.Unvalued h = (tt, h)
-holds_stop f es s limit printed error.Quantified h = (tt, h)
-holds_stop f es s limit printed error.Overflow h = (tt, h)
-holds_stop f es s limit printed error.Nodes h = (tt, h)
-holds_stop f es s limit printed error.Bindings h = (tt, h)
-holds_stop f es s limit printed error.Text h = (tt, h)
+-- a built command that is refused is stopped
+module _ (s : State) (limit : ℕ) (printed : Bool) (c : CommandTree) (built : IsBuiltCommand c) where
+  command_stop : (e : StatementError) → Refuses (named s c) limit (use_of None printed) c e → IsCommandStopped s limit printed c e
+  command_stop error.Syntax h = absurd h.applies
+  command_stop error.Memory h = tt
+  command_stop error.Long h = (built, h)
+  command_stop error.Lexical h = (built, h)
+  command_stop error.Nesting h = (built, h)
+  command_stop error.Unbound h = (built, h)
+  command_stop error.FormulaAsTerm h = (built, h)
+  command_stop error.Nonlinear h = (built, h)
+  command_stop error.Division h = (built, h)
+  command_stop error.CongruenceContext h = (built, h)
+  command_stop error.Modulus h = (built, h)
+  command_stop error.Depth h = (built, h)
+  command_stop error.Point h = (built, h)
+  command_stop error.Unvalued h = (built, h)
+  command_stop error.Quantified h = (built, h)
+  command_stop error.Overflow h = (built, h)
+  command_stop error.Nodes h = (built, h)
+  command_stop error.Bindings h = (built, h)
+  command_stop error.Text h = (built, h)
 
 pub holds_stopped : {T : Type 0} (r : Result T StatementError) (f : FormulaTree) (es : List PointEntry) (c : CommandTree) (s : State) (limit : ℕ) (printed : Bool) → c ≡ Holds f es
-    → IfErr r (λ e. (l : ℕ) → Refuses (named s (Holds f es)) l (use_of None printed) (Holds f es) e) → IfErr r (IsCommandStopped s limit printed c)
+    → IfErr r (Refuses (named s (Holds f es)) limit (use_of None printed) (Holds f es)) → IfErr r (IsCommandStopped s limit printed c)
 holds_stopped (Ok x) f es c s limit printed e h = tt
-holds_stopped (Err e) f es c s limit printed p h = subst (λ d. IsCommandStopped s limit printed d e) (sym p) (holds_stop f es s limit printed e (h limit))
+holds_stopped (Err e) f es c s limit printed p h = subst (λ d. IsCommandStopped s limit printed d e) (sym p) (command_stop s limit printed (Holds f es) tt e h)
+
+-- an elimination that has assumptions or is refused
+module _ (s : State) (limit : ℕ) (printed : Bool) (f : FormulaTree) where
+  elimination_stop : (given : FormulaTrees) (e : StatementError) → IsEliminationStopped s limit (use_of None printed) f given e → IsCommandStopped s limit printed (Qe f given) e
+  elimination_stop given e (inl h) =
+      subst (λ g. IsCommandStopped s limit printed (Qe f g) e) (sym h.0) (command_stop s limit printed (Qe f none) tt e h.1)
+  elimination_stop given e (inr h) = subst (λ d. IsCommandStopped s limit printed (Qe f given) d) (sym h.0) h.1
+
+  pub elimination_stopped : {T : Type 0} (r : Result T StatementError) (given : FormulaTrees) (c : CommandTree) → c ≡ Qe f given
+      → IfErr r (IsEliminationStopped s limit (use_of None printed) f given) → IfErr r (IsCommandStopped s limit printed c)
+  elimination_stopped (Ok x) given c e h = tt
+  elimination_stopped (Err e) given c p h = subst (λ d. IsCommandStopped s limit printed d e) (sym p) (elimination_stop given e h)
+
+  module _ (x : List ℕ) where
+    assignment_stop : (e : StatementError) → Refuses (named s (Qe f none)) limit (use_of (Some x) printed) (Qe f none) e → IsAssignmentStopped s limit printed x (Qe f none) e
+    assignment_stop error.Syntax h = absurd h.applies
+    assignment_stop error.Memory h = tt
+    assignment_stop error.Long h = (tt, h)
+    assignment_stop error.Lexical h = (tt, h)
+    assignment_stop error.Nesting h = (tt, h)
+    assignment_stop error.Unbound h = (tt, h)
+    assignment_stop error.FormulaAsTerm h = (tt, h)
+    assignment_stop error.Nonlinear h = (tt, h)
+    assignment_stop error.Division h = (tt, h)
+    assignment_stop error.CongruenceContext h = (tt, h)
+    assignment_stop error.Modulus h = (tt, h)
+    assignment_stop error.Depth h = (tt, h)
+    assignment_stop error.Point h = (tt, h)
+    assignment_stop error.Unvalued h = (tt, h)
+    assignment_stop error.Quantified h = (tt, h)
+    assignment_stop error.Overflow h = (tt, h)
+    assignment_stop error.Nodes h = (tt, h)
+    assignment_stop error.Bindings h = (tt, h)
+    assignment_stop error.Text h = (tt, h)
+
+    elimination_unassigned : (given : FormulaTrees) (e : StatementError) → IsEliminationStopped s limit (use_of (Some x) printed) f given e → IsAssignmentStopped s limit printed x (Qe f given) e
+    elimination_unassigned given e (inl h) = subst (λ g. IsAssignmentStopped s limit printed x (Qe f g) e) (sym h.0) (assignment_stop e h.1)
+    elimination_unassigned given e (inr h) = subst (λ d. IsAssignmentStopped s limit printed x (Qe f given) d) (sym h.0) h.1
+
+    pub assignment_stopped : {T : Type 0} (r : Result T StatementError) (given : FormulaTrees) (c : CommandTree) → c ≡ Qe f given
+        → IfErr r (IsEliminationStopped s limit (use_of (Some x) printed) f given) → IfErr r (IsAssignmentStopped s limit printed x c)
+    assignment_stopped (Ok y) given c e h = tt
+    assignment_stopped (Err e) given c p h = subst (λ d. IsAssignmentStopped s limit printed x d e) (sym p) (elimination_unassigned given e h)
 
 -- a command that is the statement
-pub say_answered : {E : Type 0} (r : Result Line E) (a : ActionTree) (c : CommandTree) (s next : State) (printed : Bool) → a ≡ Say c → IfOk r (λ answer. IsCommandAnswered s printed c answer next)
-    → IfOk r (λ answer. IsAnswered s (record { action = a; printed = printed }) answer next)
-say_answered (Ok answer) a c s next printed e h =
-    subst (λ b. IsAnswered s (record { action = b; printed = printed }) answer next) (sym e) (record { built = h.built; answered = (h.answered, h.after) })
-say_answered (Err e) a c s next printed p h = tt
+pub say_answered : {E : Type 0} (r : Result Line E) (a : ActionTree) (c : CommandTree) (s next : State) (limit : ℕ) (printed : Bool) → a ≡ Say c → IfOk r (λ answer. IsCommandAnswered s limit printed c answer next)
+    → IfOk r (λ answer. IsAnswered s limit (record { action = a; printed = printed }) answer next)
+say_answered (Ok answer) a c s next limit printed e h =
+    subst (λ b. IsAnswered s limit (record { action = b; printed = printed }) answer next) (sym e) (record { built = h.built; answered = (h.answered, h.after) })
+say_answered (Err e) a c s next limit printed p h = tt
 
 -- ---- the reply
 
@@ -128,6 +192,6 @@ module _ (s next : State) (limit : ℕ) (piece : List ℕ) (t : StatementTree) (
   reply_to_stop error.Bindings p h = (p, spelled_refused error.Bindings h)
   reply_to_stop error.Text p h = (p, spelled_refused error.Text h)
 
-  pub reply_to : (r : Result Line StatementError) → IfOk r (λ answer. IsAnswered s t answer next) → IfErr r (IsStopped s limit t) → OnErr r (next ≡ s) → Reply s limit piece r next
+  pub reply_to : (r : Result Line StatementError) → IfOk r (λ answer. IsAnswered s limit t answer next) → IfErr r (IsStopped s limit t) → OnErr r (next ≡ s) → Reply s limit piece r next
   reply_to (Ok answer) a b k = record { statement = t; spelled = spelled; built = a.built; answered = a.answered }
   reply_to (Err e) a b k = reply_to_stop e k b

@@ -7,7 +7,6 @@ use Rattle.exact_numbers.specs.Divides as whole
 use Rattle.exact_numbers.proofs.Ring.{one_mul}
 use Rattle.formula_meaning.specs.Context.{Context, Fields, Integers}
 use Rattle.formula_meaning.specs.Some.{SomeOf}
-use Rattle.formula_meaning.specs.Tree.{Tree}
 use Rattle.qe_syntax.specs.declared.statement.PointEntry.{PointEntry}
 use Rattle.qe_syntax.specs.Statements.{CommandTree}
 use Rattle.qe_syntax.specs.Point.{PassesLimit, IsLeastDenominator}
@@ -20,7 +19,7 @@ use Rattle.formula_resolving.specs.Refusals as reading
 use Rattle.session_commands.specs.declared.line.StatementError.{StatementError}
 use Rattle.session_commands.specs.declared.line.StatementError.TheVariants as error
 use Rattle.session_commands.specs.State.{State}
-use Rattle.session_commands.specs.Commands.{formula_of, entries_of, Gives}
+use Rattle.session_commands.specs.Commands.{formula_of, entries_of}
 use Rattle.session_commands.specs.Points.{MeanNoPoint}
 use Rattle.session_commands.specs.Causes.{Use, AsksTruth, IsCause, rank, HasNoCauseBelow, Refuses, IsAccepted}
 use Rattle.session_commands.specs.Steps.{static_refusal, HasNumbers, IsReadable, IsUnread}
@@ -76,28 +75,28 @@ module _ (s : State) (u : Use) (c : CommandTree) (numbers : HasNumbers s.names (
 
   -- where no cause in reading applies below a place of the order, nor one of the point or of free names, none does
   pub none_below : (m : ℕ) → m ≤ 16 → ((d : StaticError) → rank (static_refusal d) < m → ¬ (Applies d)) → (6 < m → ¬ (SomeOf (λ (e : PointEntry). IsBound s.bound e.name) (entries_of c)))
-      → (12 < m → ¬ (MeanNoPoint s.context (entries_of c))) → (13 < m → ¬ (IsCause s u c error.Unvalued)) → (14 < m → ¬ (IsCause s u c error.Quantified)) → (15 < m → ¬ (PassesLimit (entries_of c))) → HasNoCauseBelow s u c m
-  none_below m b first bound point valued free within error.Unbound l k = first static.Unbound l k
-  none_below m b first bound point valued free within error.FormulaAsTerm l (inl k) = first static.FormulaAsTerm l k
-  none_below m b first bound point valued free within error.FormulaAsTerm l (inr k) = bound l k
-  none_below m b first bound point valued free within error.Nonlinear l k = first static.Nonlinear l (linear_here k)
-  none_below m b first bound point valued free within error.Division l k = first static.Division l (divides_here k)
-  none_below m b first bound point valued free within error.CongruenceContext l k = first static.CongruenceContext l k
-  none_below m b first bound point valued free within error.Modulus l k = first static.Modulus l (modulus_here k)
-  none_below m b first bound point valued free within error.Depth l k = first static.Depth l k
-  none_below m b first bound point valued free within error.Point l k = point l k
-  none_below m b first bound point valued free within error.Unvalued l k = valued l k
-  none_below m b first bound point valued free within error.Quantified l k = free l k
-  none_below m b first bound point valued free within error.Overflow l (inl k) = first static.Overflow l (overflow_here k)
-  none_below m b first bound point valued free within error.Overflow l (inr k) = within l k
-  none_below m b first bound point valued free within error.Bindings l k = absurd (omega arith)
-  none_below m b first bound point valued free within error.Text l k = absurd (omega arith)
-  none_below m b first bound point valued free within error.Long l k = k
-  none_below m b first bound point valued free within error.Lexical l k = k
-  none_below m b first bound point valued free within error.Nesting l k = k
-  none_below m b first bound point valued free within error.Syntax l k = k
-  none_below m b first bound point valued free within error.Nodes l k = k
-  none_below m b first bound point valued free within error.Memory l k = k
+      → (12 < m → ¬ (MeanNoPoint s.context (entries_of c))) → (13 < m → ¬ (IsCause s u c error.Unvalued)) → (15 < m → ¬ (PassesLimit (entries_of c))) → HasNoCauseBelow s u c m
+  none_below m b first bound point valued within error.Unbound l k = first static.Unbound l k
+  none_below m b first bound point valued within error.FormulaAsTerm l (inl k) = first static.FormulaAsTerm l k
+  none_below m b first bound point valued within error.FormulaAsTerm l (inr k) = bound l k
+  none_below m b first bound point valued within error.Nonlinear l k = first static.Nonlinear l (linear_here k)
+  none_below m b first bound point valued within error.Division l k = first static.Division l (divides_here k)
+  none_below m b first bound point valued within error.CongruenceContext l k = first static.CongruenceContext l k
+  none_below m b first bound point valued within error.Modulus l k = first static.Modulus l (modulus_here k)
+  none_below m b first bound point valued within error.Depth l k = first static.Depth l k
+  none_below m b first bound point valued within error.Point l k = point l k
+  none_below m b first bound point valued within error.Unvalued l k = valued l k
+  none_below m b first bound point valued within error.Quantified l k = k
+  none_below m b first bound point valued within error.Overflow l (inl k) = first static.Overflow l (overflow_here k)
+  none_below m b first bound point valued within error.Overflow l (inr k) = within l k
+  none_below m b first bound point valued within error.Bindings l k = absurd (omega arith)
+  none_below m b first bound point valued within error.Text l k = absurd (omega arith)
+  none_below m b first bound point valued within error.Long l k = k
+  none_below m b first bound point valued within error.Lexical l k = k
+  none_below m b first bound point valued within error.Nesting l k = k
+  none_below m b first bound point valued within error.Syntax l k = k
+  none_below m b first bound point valued within error.Nodes l k = k
+  none_below m b first bound point valued within error.Memory l k = k
 
 -- ---- commands without a point
 
@@ -114,14 +113,12 @@ nothing_passes (inl (inr h)) =
     absurd (omega (arith, past))
 nothing_passes (inr h) = absurd h.2
 
--- the command has no point, and gives one formula
-pub record GivesOne (s : State) (c : CommandTree) (t : Tree) : Type 0 where
+-- the command has no point, and asks for no truth
+pub record IsPlainCommand (c : CommandTree) : Type 0 where
   pub no_entries : entries_of c ≡ []
   pub no_truth : ¬ (AsksTruth c)
-  pub gives : Gives s c t
-  pub one : (other : Tree) → Gives s c other → other ≡ t
 
-module _ (s : State) (u : Use) (c : CommandTree) (t : Tree) (numbers : HasNumbers s.names (formula_of c)) (single : GivesOne s c t) where
+module _ (s : State) (u : Use) (c : CommandTree) (numbers : HasNumbers s.names (formula_of c)) (single : IsPlainCommand c) where
   no_bound : ¬ (SomeOf (λ (e : PointEntry). IsBound s.bound e.name) (entries_of c))
   no_bound h = let k = subst (SomeOf (λ (e : PointEntry). IsBound s.bound e.name)) single.no_entries h in absurd k
 
@@ -132,7 +129,7 @@ module _ (s : State) (u : Use) (c : CommandTree) (t : Tree) (numbers : HasNumber
   no_past h = nothing_passes (subst PassesLimit single.no_entries h)
 
   plain_below : (m : ℕ) → m ≤ 16 → ((d : StaticError) → rank (static_refusal d) < m → ¬ (reading.Applies s.context s.bound s.names (formula_of c) d)) → HasNoCauseBelow s u c m
-  plain_below m b first = none_below s u c numbers m b first (λ l. no_bound) (λ l. no_meaning) (λ l k. single.no_truth k.0) (λ l k. single.no_truth k.0) (λ l. no_past)
+  plain_below m b first = none_below s u c numbers m b first (λ l. no_bound) (λ l. no_meaning) (λ l k. single.no_truth k.0) (λ l. no_past)
 
   unread_one : (limit : ℕ) (d : StaticError) → reading.IsFirstCause s.context s.bound s.names (formula_of c) d → Refuses s limit u c (static_refusal d)
   unread_one limit static.Memory h = tt
@@ -191,7 +188,7 @@ module _ (s : State) (u : Use) (c : CommandTree) where
   below_17 h error.Depth l k = h error.Depth (omega arith) k
   below_17 h error.Point l k = h error.Point (omega arith) k
   below_17 h error.Unvalued l k = h error.Unvalued (omega arith) k
-  below_17 h error.Quantified l k = h error.Quantified (omega arith) k
+  below_17 h error.Quantified l k = k
   below_17 h error.Overflow l k = h error.Overflow (omega arith) k
   below_17 h error.Nodes l k = k
   below_17 h error.Bindings l k = absurd (omega arith)
@@ -212,7 +209,7 @@ module _ (s : State) (u : Use) (c : CommandTree) where
   below_18 h b error.Depth l k = h error.Depth (omega arith) k
   below_18 h b error.Point l k = h error.Point (omega arith) k
   below_18 h b error.Unvalued l k = h error.Unvalued (omega arith) k
-  below_18 h b error.Quantified l k = h error.Quantified (omega arith) k
+  below_18 h b error.Quantified l k = k
   below_18 h b error.Overflow l k = h error.Overflow (omega arith) k
   below_18 h b error.Nodes l k = k
   below_18 h b error.Bindings l k = b k
@@ -233,7 +230,7 @@ module _ (s : State) (u : Use) (c : CommandTree) where
   below_19 h b error.Depth l k = h error.Depth (omega arith) k
   below_19 h b error.Point l k = h error.Point (omega arith) k
   below_19 h b error.Unvalued l k = h error.Unvalued (omega arith) k
-  below_19 h b error.Quantified l k = h error.Quantified (omega arith) k
+  below_19 h b error.Quantified l k = k
   below_19 h b error.Overflow l k = h error.Overflow (omega arith) k
   below_19 h b error.Nodes l k = k
   below_19 h b error.Bindings l k = h error.Bindings (omega arith) k

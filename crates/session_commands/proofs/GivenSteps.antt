@@ -1,13 +1,15 @@
 -- The steps of a command that gives a formula, on the desk.
-use Rattle.std.proofs.Common.{◌≡◌, ⊎_elim, ℕ, List, Bool, Option, Some, None, sym, ap, ap₂, ◌∙◌, subst, refl, length}
+use Rattle.std.proofs.Common.{◌≡◌, ⊎_elim, ℕ, List, Bool, Option, Some, None, sym, ap, ◌∙◌, subst, refl, length}
 use Rattle.std.specs.List.{fold, IsDistinct}
 use Rattle.std.specs.Map.{keys_of}
+use Rattle.formula_meaning.specs.Every.{Every}
 use Rattle.formula_meaning.specs.Tree.{Tree}
+use Rattle.atom_normal.specs.Atoms.{context_of}
+use Rattle.atom_normal.specs.NormalForm.{IsNormal}
 use Rattle.qe_syntax.specs.Trees.{FormulaTree}
 use Rattle.qe_syntax.specs.Proper.{IsProperFormula}
 use Rattle.qe_syntax.specs.Value.{same_name}
 use Rattle.formula_tree.specs.Bindings.{bind}
-use Rattle.formula_tree.specs.Makers.{IsMade}
 use Rattle.formula_tree.specs.Names.{with_name}
 use Rattle.formula_tree.specs.Resolving.{formula_variables, resolve}
 use Rattle.formula_tree.proofs.PlaceLaws.{after_distinct}
@@ -27,10 +29,10 @@ use Rattle.session_commands.specs.Commands.{named}
 use Rattle.session_commands.specs.Causes.{formula_line, Refuses}
 use Rattle.session_commands.specs.Keeping.{state_of, IsSessionFormula, IsSound, IsDesk}
 use Rattle.session_commands.specs.Reply.{IsLine}
-use Rattle.session_commands.specs.Steps.{KeepsDesk, HasNumbers, IsUnread, IsReadable, command_of, use_of, IsGiven, FormFault, MayBind, TargetFault, LineFault, state_with, bound_after}
+use Rattle.session_commands.specs.Steps.{KeepsDesk, HasNumbers, IsUnread, IsReadable, command_of, use_of, IsGiven, IsWantedForm, FormFault, MayBind, TargetFault, LineFault, state_with, bound_after}
 use Rattle.session_commands.proofs.BindingLemmas.{bind_trees, bind_ids, bind_distinct, bound_there}
 use Rattle.session_commands.proofs.DeskLemmas.{state_parts, same_state, same_desk, sound_with, length_grows}
-use Rattle.session_commands.proofs.GivenLemmas.{named_is, numbers_of, given_tree, refused_unread, refused_form, refused_target, refused_line, is_given, given_formula}
+use Rattle.session_commands.proofs.GivenLemmas.{named_is, numbers_of, refused_unread, refused_form, refused_target, refused_line, is_given, readable_formula, given_formula}
 
 -- a state with one more formula bound is sound
 sound_bound : (s : State) (x : List ℕ) (t : Tree) → IsSound s → IsSessionFormula s.context (length s.names) t → IsSound (state_with s (Some x) t)
@@ -65,11 +67,27 @@ module _ (w : Wanted) (f : FormulaTree) (desk : Desk) (names : List (List ℕ)) 
     unread_step e h = refuses e (refused_unread w f (state_of numbered) numbers limit target printed e h)
 
     module _ (readable : IsReadable (state_of numbered) f) where
-      pub form_step : (t : Tree) → t ≡ resolve (state_of numbered).context (state_of numbered).bound names f → (e : StatementError) → FormFault w limit t e → Refuses (named (state_of desk) (command_of w f)) limit (use_of target printed) (command_of w f) e
-      form_step t p e h = refuses e (refused_form w f (state_of numbered) numbers limit target printed readable e (subst (λ u. FormFault w limit u e) p h))
+      -- the desk after the formula was resolved, and its tree
+      module _ (read : Desk) (kept : KeepsDesk numbered read) (t : Tree) (same : t ≡ resolve (state_of numbered).context (state_of numbered).bound names f) where
+        theory : context_of read.context ≡ (state_of numbered).context
+        theory = ap context_of kept.context
+
+        pub form_step : (e : StatementError) → FormFault (context_of read.context) limit w t e → Refuses (named (state_of desk) (command_of w f)) limit (use_of target printed) (command_of w f) e
+        form_step e h =
+            refuses e (refused_form f (state_of numbered) numbers limit target printed readable w e
+            (subst (λ u. FormFault (state_of numbered).context limit w u e) same (subst (λ c. FormFault c limit w t e) theory h)))
+
+        pub normal_step : IsDesk numbered → IsProperFormula f → Every (IsNormal (context_of read.context)) t
+        normal_step h proper =
+            subst (λ c. Every (IsNormal c) t) (sym theory)
+            (subst (Every (IsNormal (state_of numbered).context)) (sym same) (readable_formula f (state_of numbered) numbers h.sound proper readable).normal)
+
+        pub wanted_step : (u : Tree) → IsWantedForm (context_of read.context) limit w t u → IsWantedForm (state_of numbered).context limit w (resolve (state_of numbered).context (state_of numbered).bound names f) u
+        wanted_step u h = subst (λ v. IsWantedForm (state_of numbered).context limit w v u) same (subst (λ c. IsWantedForm c limit w t u) theory h)
 
       -- the desk after the form was made, and its id
-      module _ (later : Desk) (h : IsDesk numbered) (k : KeepsDesk numbered later) (id : FormulaId) (made : IsMade (IsId later.store) (tree later.store) id (given_tree w f (state_of numbered))) where
+      module _ (later : Desk) (h : IsDesk numbered) (k : KeepsDesk numbered later) (id : FormulaId) (made : IsId later.store id)
+          (given : IsWantedForm (state_of numbered).context limit w (resolve (state_of numbered).context (state_of numbered).bound names f) (tree later.store id)) where
         same : state_of later ≡ state_of numbered
         same = same_state numbered later h.ids k
 
@@ -78,57 +96,57 @@ module _ (w : Wanted) (f : FormulaTree) (desk : Desk) (names : List (List ℕ)) 
 
         pub target_step : (e : StatementError) → TargetFault (state_of later).bound target (tree later.store id) e → Refuses (named (state_of desk) (command_of w f)) limit (use_of target printed) (command_of w f) e
         target_step e t =
-            refuses e (refused_target w f (state_of numbered) numbers limit target printed readable e
-            (subst (λ b. TargetFault b target (given_tree w f (state_of numbered)) e) bound_same (subst (λ u. TargetFault (state_of later).bound target u e) made.same t)))
+            refuses e (refused_target w f (state_of numbered) numbers limit target printed (tree later.store id) given readable e
+            (subst (λ b. TargetFault b target (tree later.store id) e) bound_same t))
 
-        may_bind : MayBind (state_of later).bound target (tree later.store id) → MayBind (state_of numbered).bound target (given_tree w f (state_of numbered))
-        may_bind b = subst (λ c. MayBind c target (given_tree w f (state_of numbered))) bound_same (subst (MayBind (state_of later).bound target) made.same b)
+        may_bind : MayBind (state_of later).bound target (tree later.store id) → MayBind (state_of numbered).bound target (tree later.store id)
+        may_bind b = subst (λ c. MayBind c target (tree later.store id)) bound_same b
 
-        line_is : formula_line target later.names (tree later.store id) ≡ formula_line target names (given_tree w f (state_of numbered))
-        line_is = ap₂ (formula_line target) k.names made.same
+        line_is : formula_line target later.names (tree later.store id) ≡ formula_line target names (tree later.store id)
+        line_is = ap (λ ns. formula_line target ns (tree later.store id)) k.names
 
         pub line_step : MayBind (state_of later).bound target (tree later.store id) → (e : StatementError) → LineFault printed (formula_line target later.names (tree later.store id)) e
             → Refuses (named (state_of desk) (command_of w f)) limit (use_of target printed) (command_of w f) e
-        line_step b e t = refuses e (refused_line w f (state_of numbered) numbers limit target printed readable (may_bind b) e (subst (λ text. LineFault printed text e) line_is t))
+        line_step b e t = refuses e (refused_line w f (state_of numbered) numbers limit target printed (tree later.store id) given readable (may_bind b) e (subst (λ text. LineFault printed text e) line_is t))
 
-        session_formula : IsProperFormula f → IsSessionFormula (state_of numbered).context (length names) (given_tree w f (state_of numbered))
-        session_formula proper = given_formula w f (state_of numbered) numbers limit target printed h.sound proper readable
+        session_formula : IsProperFormula f → IsSessionFormula (state_of numbered).context (length names) (tree later.store id)
+        session_formula proper = given_formula w f (state_of numbered) limit (tree later.store id) given numbers h.sound proper readable
 
         pub within_step : IsProperFormula f → IsTreeWithin (length later.names) (tree later.store id)
-        within_step proper = subst (λ ns. IsTreeWithin (length ns) (tree later.store id)) (sym k.names) (subst (IsTreeWithin (length names)) (sym made.same) (session_formula proper).within)
+        within_step proper = subst (λ ns. IsTreeWithin (length ns) (tree later.store id)) (sym k.names) (session_formula proper).within
 
         pub members_step : IsProperFormula f → HasTwoMembers (tree later.store id)
-        members_step proper = subst HasTwoMembers (sym made.same) (session_formula proper).members
+        members_step proper = (session_formula proper).members
 
         -- the desk with the formula bound
         abbrev pub last : Desk
         last = record { alloc = later.alloc; context = later.context; names = later.names; bindings = bound_after later.bindings target id; store = later.store; kept = later.kept }
 
         last_state : (o : Option (List ℕ)) → state_of (record { alloc = later.alloc; context = later.context; names = later.names; bindings = bound_after later.bindings o id; store = later.store; kept = later.kept })
-            ≡ state_with (state_of numbered) o (given_tree w f (state_of numbered))
+            ≡ state_with (state_of numbered) o (tree later.store id)
         last_state None = same
         last_state (Some x) =
             state_parts _ _ _ _ _ _ (ap (λ (s : State). s.context) same) (ap (λ (s : State). s.names) same)
-            (sym (bind_trees (tree later.store) later.bindings x id) ∙ ap₂ (λ b t. bind b x t) bound_same made.same)
+            (sym (bind_trees (tree later.store) later.bindings x id) ∙ ap (λ b. bind b x (tree later.store id)) bound_same)
 
         pub answer_step : MayBind (state_of later).bound target (tree later.store id) → (answer : Line) → IsLine printed (formula_line target later.names (tree later.store id)) answer
-            → ¬ (LineFault printed (formula_line target later.names (tree later.store id)) error.Text) → IsGiven (named (state_of desk) (command_of w f)) (use_of target printed) (command_of w f) answer (state_of last)
+            → ¬ (LineFault printed (formula_line target later.names (tree later.store id)) error.Text) → IsGiven (named (state_of desk) (command_of w f)) limit (use_of target printed) (command_of w f) answer (state_of last)
         answer_step b answer line short =
-            subst (λ s. IsGiven s (use_of target printed) (command_of w f) answer (state_of last)) (sym start)
-            (subst (IsGiven (state_of numbered) (use_of target printed) (command_of w f) answer) (sym (last_state target))
-            (is_given w f (state_of numbered) numbers limit target printed readable (may_bind b) answer (subst (λ text. IsLine printed text answer) line_is line)
+            subst (λ s. IsGiven s limit (use_of target printed) (command_of w f) answer (state_of last)) (sym start)
+            (subst (IsGiven (state_of numbered) limit (use_of target printed) (command_of w f) answer) (sym (last_state target))
+            (is_given w f (state_of numbered) numbers limit target printed (tree later.store id) given readable h.sound (may_bind b) answer (subst (λ text. IsLine printed text answer) line_is line)
             (λ t. short (subst (λ text. LineFault printed text error.Text) (sym line_is) t))))
 
-        last_sound : IsProperFormula f → (o : Option (List ℕ)) → IsSound (state_with (state_of numbered) o (given_tree w f (state_of numbered)))
+        last_sound : IsProperFormula f → (o : Option (List ℕ)) → IsSound (state_with (state_of numbered) o (tree later.store id))
         last_sound proper None = h.sound
-        last_sound proper (Some x) = sound_bound (state_of numbered) x (given_tree w f (state_of numbered)) h.sound (session_formula proper)
+        last_sound proper (Some x) = sound_bound (state_of numbered) x (tree later.store id) h.sound (session_formula proper)
 
         kept_desk : IsDesk later
         kept_desk = same_desk numbered later h k
 
         last_ids : (o : Option (List ℕ)) → AreIds (IsId later.store) (bound_after later.bindings o id)
         last_ids None = kept_desk.ids
-        last_ids (Some x) = bind_ids (IsId later.store) later.bindings x id kept_desk.ids made.is
+        last_ids (Some x) = bind_ids (IsId later.store) later.bindings x id kept_desk.ids made
 
         last_once : (o : Option (List ℕ)) → IsDistinct same_name (keys_of (bound_after later.bindings o id))
         last_once None = kept_desk.bound_once

@@ -1,5 +1,6 @@
 pub mod NameLemmas
 pub mod SoundLemmas
+pub mod EliminatedLemmas
 pub mod BindingLemmas
 pub mod DeskLemmas
 pub mod CauseLemmas

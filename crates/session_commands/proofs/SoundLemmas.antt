@@ -67,11 +67,11 @@ normal_sorted Integers (atom.Compare r f) h = h.oriented.sorted
 normal_sorted Fields (atom.Congruent b m f) h = absurd h
 normal_sorted Integers (atom.Congruent b m f) h = h.sorted
 
-atom_within : (c : Context) (n : ℕ) (a : Atom) → IsNormal c a → ((x : ℕ) → Mentions a x → x < n) → IsAtomWithin n a
+pub atom_within : (c : Context) (n : ℕ) (a : Atom) → IsNormal c a → ((x : ℕ) → Mentions a x → x < n) → IsAtomWithin n a
 unfolding coefficient
 atom_within c n a h k = let s = normal_sorted c a h in terms_within n (form_of a).terms s.rising s.nonzero k
 
-atom_mentions : (n x : ℕ) (a : Atom) → IsAtomWithin n a → Mentions a x → x < n
+pub atom_mentions : (n x : ℕ) (a : Atom) → IsAtomWithin n a → Mentions a x → x < n
 unfolding coefficient
 atom_mentions n x a h k = mention_below n x (form_of a).terms h k
 

@@ -3,7 +3,8 @@ use Rattle.std.proofs.Common.{◌≡◌, inl, inr, ⊎_elim, ℕ, ◌<◌, ◌�
 use Rattle.std.proofs.lemmas.Bool.{false≢true}
 use Rattle.std.specs.Prelude.{option_map, is_some}
 use Rattle.std.specs.List.{IsDistinct}
-use Rattle.formula_meaning.specs.Point.{Of}
+use Rattle.formula_meaning.specs.Context.{Context}
+use Rattle.formula_meaning.specs.Point.{Point, Of}
 use Rattle.formula_meaning.specs.Some.{SomeOf}
 use Rattle.formula_meaning.specs.Tree.{Tree, TrueAt}
 use Rattle.qe_syntax.specs.declared.statement.PointEntry.{PointEntry}
@@ -21,14 +22,18 @@ use Rattle.formula_resolving.specs.declared.error.StaticError.TheVariants as sta
 use Rattle.formula_resolving.specs.Refusals as reading
 use Rattle.formula_resolving.specs.Refusals.{trees_bound}
 use Rattle.formula_store.specs.Truths.{Tells}
+use Rattle.elimination_reference.specs.Sample.{reference_at}
+use Rattle.plain_engine.specs.declared.measured.Measured.{Measured}
+use Rattle.plain_engine.specs.declared.measured.Measured.TheVariants as measured
+use Rattle.plain_engine.specs.Told.{StopsWith}
 use Rattle.session_commands.specs.declared.line.StatementError.{StatementError}
 use Rattle.session_commands.specs.declared.line.StatementError.TheVariants as error
 use Rattle.session_commands.specs.State.{State}
 use Rattle.session_commands.specs.Commands.{resolved}
-use Rattle.session_commands.specs.Points.{MeanNoPoint, HasUnvalued, IsTruth}
+use Rattle.session_commands.specs.Points.{MeanNoPoint, IsQuantified, IsTruth}
 use Rattle.session_commands.specs.Causes.{IsCause, rank, HasNoCauseBelow}
-use Rattle.session_commands.specs.Steps.{static_refusal, use_of, HasNumbers, IsReadable, IsUnread}
-use Rattle.session_commands.specs.Truths.{IsBoundName, RefusesTruth, HasNoneBelow, stop_of, IsClear, IsGround, PointStop, GroundStop, ValueStop}
+use Rattle.session_commands.specs.Steps.{static_refusal, measured_refusal, use_of, HasNumbers, IsReadable, IsUnread}
+use Rattle.session_commands.specs.Truths.{IsBoundName, RefusesTruth, RefusesTruthAt, HasNoneBelow, stop_of, IsClear, IsValued, PointStop, ValuedStop, ValueStop, EliminationStop}
 use Rattle.session_commands.proofs.BindingLemmas.{trees_find}
 use Rattle.session_commands.proofs.CauseLemmas.{earlier, cause_of_reading, none_below}
 
@@ -60,6 +65,13 @@ pub none_found : {I : Type 0} (bound : List (List ℕ × I)) (x : List ℕ) (o :
 none_found bound x None e h k = let q = e ∙ k.1 in absurd (cc)
 none_found bound x (Some i) e h k = false≢true (sym h)
 
+-- the resolved formula has the truth of the written one
+pub truth_as_written : (s : State) (f : FormulaTree) → HasNumbers s.names f → IsDistinct same_name s.names → IsReadable s f → (p : NamedPoint) → Of s.context p
+    → written.TrueAt (bound_truth s.context s.bound s.names) s.context f p ↔ TrueAt s.context (resolve s.context s.bound s.names f) (at_names s.names p)
+truth_as_written s f numbers distinct readable p of =
+    subst (λ ns. written.TrueAt (bound_truth s.context s.bound ns) s.context f p ↔ TrueAt s.context (resolve s.context s.bound ns f) (at_names ns p)) numbers
+    (resolving_keeps_truth s.context s.bound s.names f distinct readable p of)
+
 module _ (s : State) (f : FormulaTree) (es : List PointEntry) (numbers : HasNumbers s.names f) where
   abbrev Applies : StaticError → Type 0
   Applies d = reading.Applies s.context s.bound s.names f d
@@ -84,22 +96,22 @@ module _ (s : State) (f : FormulaTree) (es : List PointEntry) (numbers : HasNumb
   pub below_point : IsClear s f es → HasNoneBelow s f es 12
   below_point clear printed =
       none_below s (use_of None printed) (Holds f es) numbers 12 (lit≤ tt) (no_reading clear 12 (λ l. absurd (omega arith)) (lit≤ tt)) (λ l. clear.entries) (λ l. absurd (omega arith)) (λ l. absurd (omega arith))
-      (λ l. absurd (omega arith)) (λ l. absurd (omega arith))
+      (λ l. absurd (omega arith))
 
   pub below_unvalued : IsClear s f es → ¬ (MeanNoPoint s.context es) → HasNoneBelow s f es 13
   below_unvalued clear point printed =
       none_below s (use_of None printed) (Holds f es) numbers 13 (lit≤ tt) (no_reading clear 13 (λ l. absurd (omega arith)) (lit≤ tt)) (λ l. clear.entries) (λ l. point) (λ l. absurd (omega arith))
-      (λ l. absurd (omega arith)) (λ l. absurd (omega arith))
+      (λ l. absurd (omega arith))
 
-  pub below_quantified : IsClear s f es → ¬ (MeanNoPoint s.context es) → ¬ (HasUnvalued s.bound (place s.names) f es) → HasNoneBelow s f es 14
-  below_quantified clear point valued printed =
-      none_below s (use_of None printed) (Holds f es) numbers 14 (lit≤ tt) (no_reading clear 14 (λ l. absurd (omega arith)) (lit≤ tt)) (λ l. clear.entries) (λ l. point) (λ l h. valued h.1)
-      (λ l. absurd (omega arith)) (λ l. absurd (omega arith))
+  pub below_overflow : IsClear s f es → ¬ (MeanNoPoint s.context es) → IsValued s f es → HasNoneBelow s f es 15
+  below_overflow clear point valued printed =
+      none_below s (use_of None printed) (Holds f es) numbers 15 (lit≤ tt) (no_reading clear 15 (λ l. absurd (omega arith)) (lit≤ tt)) (λ l. clear.entries) (λ l. point) (λ l h. valued h.1)
+      (λ l. absurd (omega arith))
 
-  pub below_overflow : IsClear s f es → ¬ (MeanNoPoint s.context es) → IsGround s f es → HasNoneBelow s f es 15
-  below_overflow clear point ground printed =
-      none_below s (use_of None printed) (Holds f es) numbers 15 (lit≤ tt) (no_reading clear 15 (λ l. absurd (omega arith)) (lit≤ tt)) (λ l. clear.entries) (λ l. point) (λ l h. ground.valued h.1)
-      (λ l h. ground.free h.1) (λ l. absurd (omega arith))
+  pub below_nodes : IsClear s f es → ¬ (MeanNoPoint s.context es) → IsValued s f es → ¬ (PassesLimit es) → IsReadable s f → HasNoneBelow s f es 16
+  below_nodes clear point valued within readable printed =
+      none_below s (use_of None printed) (Holds f es) numbers 16 (lit≤ tt) (no_reading clear 16 (λ l. readable.within) (lit≤ tt)) (λ l. clear.entries) (λ l. point) (λ l h. valued h.1)
+      (λ l. within)
 
   -- a truth has no formula to bind or to print
   no_formula : (printed : Bool) → HasNoCauseBelow s (use_of None printed) (Holds f es) 16 → HasNoCauseBelow s (use_of None printed) (Holds f es) 19
@@ -116,18 +128,15 @@ module _ (s : State) (f : FormulaTree) (es : List PointEntry) (numbers : HasNumb
   no_formula printed clear error.Depth l h = clear error.Depth (lit< tt) h
   no_formula printed clear error.Point l h = clear error.Point (lit< tt) h
   no_formula printed clear error.Unvalued l h = clear error.Unvalued (lit< tt) h
-  no_formula printed clear error.Quantified l h = clear error.Quantified (lit< tt) h
+  no_formula printed clear error.Quantified l h = h
   no_formula printed clear error.Overflow l h = clear error.Overflow (lit< tt) h
   no_formula printed clear error.Nodes l h = h
   no_formula printed clear error.Bindings l h = ⊎_elim (λ p. p) (λ g. g.1) h
   no_formula printed clear error.Text l h = h.1.1
   no_formula printed clear error.Memory l h = h
 
-  pub all_clear : IsClear s f es → ¬ (MeanNoPoint s.context es) → IsGround s f es → ¬ (PassesLimit es) → IsReadable s f → HasNoneBelow s f es 19
-  all_clear clear point ground within readable printed =
-      no_formula printed
-      (none_below s (use_of None printed) (Holds f es) numbers 16 (lit≤ tt) (no_reading clear 16 (λ l. readable.within) (lit≤ tt)) (λ l. clear.entries) (λ l. point) (λ l h. ground.valued h.1)
-      (λ l h. ground.free h.1) (λ l. within))
+  pub all_clear : IsClear s f es → ¬ (MeanNoPoint s.context es) → IsValued s f es → ¬ (PassesLimit es) → IsReadable s f → HasNoneBelow s f es 19
+  all_clear clear point valued within readable printed = no_formula printed (below_nodes clear point valued within readable printed)
 
   -- ---- refusals
 
@@ -136,23 +145,38 @@ module _ (s : State) (f : FormulaTree) (es : List PointEntry) (numbers : HasNumb
   no_point clear error.Memory h = λ limit printed. tt
   no_point clear _ h = absurd h
 
-  pub not_ground : IsClear s f es → ¬ (MeanNoPoint s.context es) → (e : StatementError) → GroundStop s f es e → RefusesTruth s f es e
-  not_ground clear point error.Unvalued h = λ limit printed. record { applies = (tt, h); first = below_unvalued clear point printed }
-  not_ground clear point error.Quantified h = λ limit printed. record { applies = (tt, h.1); first = below_quantified clear point h.0 printed }
-  not_ground clear point error.Memory h = λ limit printed. tt
-  not_ground clear point _ h = absurd h
+  pub not_valued : IsClear s f es → ¬ (MeanNoPoint s.context es) → (e : StatementError) → ValuedStop s f es e → RefusesTruth s f es e
+  not_valued clear point error.Unvalued h = λ limit printed. record { applies = (tt, h); first = below_unvalued clear point printed }
+  not_valued clear point error.Memory h = λ limit printed. tt
+  not_valued clear point _ h = absurd h
 
-  pub reading_passes : IsClear s f es → ¬ (MeanNoPoint s.context es) → IsGround s f es → OverflowsInReading s.context s.bound (place s.names) f → RefusesTruth s f es error.Overflow
-  reading_passes clear point ground h = λ limit printed. record { applies = inl (inl h); first = below_overflow clear point ground printed }
+  pub reading_passes : IsClear s f es → ¬ (MeanNoPoint s.context es) → IsValued s f es → OverflowsInReading s.context s.bound (place s.names) f → RefusesTruth s f es error.Overflow
+  reading_passes clear point valued h = λ limit printed. record { applies = inl (inl h); first = below_overflow clear point valued printed }
 
-  pub point_passes : IsClear s f es → ¬ (MeanNoPoint s.context es) → IsGround s f es → PassesLimit es → RefusesTruth s f es error.Overflow
-  point_passes clear point ground h = λ limit printed. record { applies = inl (inr h); first = below_overflow clear point ground printed }
+  pub point_passes : IsClear s f es → ¬ (MeanNoPoint s.context es) → IsValued s f es → PassesLimit es → RefusesTruth s f es error.Overflow
+  point_passes clear point valued h = λ limit printed. record { applies = inl (inr h); first = below_overflow clear point valued printed }
 
-  pub truth_passes : IsClear s f es → ¬ (MeanNoPoint s.context es) → IsGround s f es → (p : NamedPoint) → IsPointOf es p → (e : StatementError)
+  pub truth_passes : IsClear s f es → ¬ (MeanNoPoint s.context es) → IsValued s f es → ¬ (IsQuantified s.bound f) → (p : NamedPoint) → IsPointOf es p → (e : StatementError)
       → ValueStop (resolved s (Holds f es)) (at_names s.names p) e → RefusesTruth s f es e
-  truth_passes clear point ground p meant error.Overflow h = λ limit printed. record { applies = inr (tt, record { point = p; meant = meant; passes = h }); first = below_overflow clear point ground printed }
-  truth_passes clear point ground p meant error.Memory h = λ limit printed. tt
-  truth_passes clear point ground p meant _ h = absurd h
+  truth_passes clear point valued free p meant error.Overflow h = λ limit printed. record {
+    applies = inr (inl (tt, free, record { point = p; meant = meant; passes = h }));
+    first = below_overflow clear point valued printed;
+  }
+  truth_passes clear point valued free p meant error.Memory h = λ limit printed. tt
+  truth_passes clear point valued free p meant _ h = absurd h
+
+  pub elimination_stops : IsClear s f es → ¬ (MeanNoPoint s.context es) → IsValued s f es → ¬ (PassesLimit es) → IsReadable s f → IsQuantified s.bound f → (p : NamedPoint) → IsPointOf es p
+      → (limit : ℕ) (e : StatementError) → EliminationStop s.context limit (resolved s (Holds f es)) (at_names s.names p) e → RefusesTruthAt s limit f es e
+  elimination_stops clear point valued within readable quantified p meant limit error.Overflow h = λ printed. record {
+    applies = inr (inr (quantified, (p, meant, h)));
+    first = below_overflow clear point valued printed;
+  }
+  elimination_stops clear point valued within readable quantified p meant limit error.Nodes h = λ printed. record {
+    applies = inr (quantified, (p, meant, h));
+    first = below_nodes clear point valued within readable printed;
+  }
+  elimination_stops clear point valued within readable quantified p meant limit error.Memory h = λ printed. tt
+  elimination_stops clear point valued within readable quantified p meant limit _ h = absurd h
 
   -- ---- a formula that is not read
 
@@ -162,13 +186,13 @@ module _ (s : State) (f : FormulaTree) (es : List PointEntry) (numbers : HasNumb
   -- the first cause is the one of the reading
   reading_first : (d : StaticError) → reading.IsFirst s.context s.bound s.names f d → (rank (static_refusal d) ≤ 16) → (6 < rank (static_refusal d) → ¬ Bound) → (rank (static_refusal d) ≤ 12) → HasNoneBelow s f es (rank (static_refusal d))
   reading_first d first b bound c printed =
-      none_below s (use_of None printed) (Holds f es) numbers (rank (static_refusal d)) b (λ e l. first.first e (earlier e d l)) bound (λ l. absurd (omega arith)) (λ l. absurd (omega arith)) (λ l. absurd (omega arith)) (λ l. absurd (omega arith))
+      none_below s (use_of None printed) (Holds f es) numbers (rank (static_refusal d)) b (λ e l. first.first e (earlier e d l)) bound (λ l. absurd (omega arith)) (λ l. absurd (omega arith)) (λ l. absurd (omega arith))
 
   bound_first : (d : StaticError) → reading.IsFirst s.context s.bound s.names f d → 0 < reading.rank d → Bound → RefusesTruth s f es error.FormulaAsTerm
   bound_first d first l h = λ limit printed. record {
     applies = inr h;
     first = none_below s (use_of None printed) (Holds f es) numbers 6 (lit≤ tt) (λ e m. first.first e (let n = earlier e static.FormulaAsTerm m in omega arith)) (λ m. absurd (omega arith)) (λ m. absurd (omega arith))
-        (λ m. absurd (omega arith)) (λ m. absurd (omega arith)) (λ m. absurd (omega arith));
+        (λ m. absurd (omega arith)) (λ m. absurd (omega arith));
   }
 
   clear_at : reading.IsFirst s.context s.bound s.names f static.Overflow → ¬ Bound → IsClear s f es
@@ -217,23 +241,27 @@ module _ (s : State) (f : FormulaTree) (es : List PointEntry) (numbers : HasNumb
   pub read_bound : IsReadable s f → Bound → RefusesTruth s f es error.FormulaAsTerm
   read_bound a h = λ limit printed. record {
     applies = inr h;
-    first = none_below s (use_of None printed) (Holds f es) numbers 6 (lit≤ tt) (λ e m. resolvable a e (omega arith)) (λ m. absurd (omega arith)) (λ m. absurd (omega arith)) (λ m. absurd (omega arith)) (λ m. absurd (omega arith))
-        (λ m. absurd (omega arith));
+    first = none_below s (use_of None printed) (Holds f es) numbers 6 (lit≤ tt) (λ e m. resolvable a e (omega arith)) (λ m. absurd (omega arith)) (λ m. absurd (omega arith)) (λ m. absurd (omega arith)) (λ m. absurd (omega arith));
   }
 
   -- ---- the truth
 
-  tells_truth : (b : Bool) (p : NamedPoint) → IsDistinct same_name s.names → IsReadable s f → Of s.context p → Tells b (resolved s (Holds f es)) (at_names s.names p)
-      → IsTrue b ↔ written.TrueAt (bound_truth s.context s.bound s.names) s.context f p
-  tells_truth b p distinct readable of tells = go b tells
-    where
-      same : written.TrueAt (bound_truth s.context s.bound s.names) s.context f p ↔ TrueAt s.context (resolve s.context s.bound s.names f) (at_names s.names p)
-      same = subst (λ ns. written.TrueAt (bound_truth s.context s.bound ns) s.context f p ↔ TrueAt s.context (resolve s.context s.bound ns f) (at_names ns p)) numbers
-          (resolving_keeps_truth s.context s.bound s.names f distinct readable p of)
+  pub is_truth : (b : Bool) (p : NamedPoint) → IsDistinct same_name s.names → IsReadable s f → IsPointOf es p → Of s.context p
+      → (IsTrue b ↔ TrueAt s.context (resolved s (Holds f es)) (at_names s.names p)) → IsTruth s (Holds f es) b
+  is_truth b p distinct readable meant of told =
+      let same = truth_as_written s f numbers distinct readable p of in
+      record { point = p; meant = meant; truth = (λ h. same.1 (told.0 h), λ h. told.1 (same.0 h)) }
 
-      go : (b : Bool) → Tells b (resolved s (Holds f es)) (at_names s.names p) → IsTrue b ↔ written.TrueAt (bound_truth s.context s.bound s.names) s.context f p
-      go true t = (λ _. same.1 (t s.context), λ _. refl)
-      go false t = (λ e. absurd (false≢true e), λ h. absurd (t s.context (same.0 h)))
+-- the truth that is told in both theories is told in each
+pub told_in : (c : Context) (b : Bool) (t : Tree) (q : Point ℕ) → Tells b t q → IsTrue b ↔ TrueAt c t q
+told_in c true t q h = (λ _. h c, λ _. refl)
+told_in c false t q h = (λ e. absurd (false≢true e), λ k. absurd (h c k))
 
-  pub is_truth : (b : Bool) (p : NamedPoint) → IsDistinct same_name s.names → IsReadable s f → IsPointOf es p → Of s.context p → Tells b (resolved s (Holds f es)) (at_names s.names p) → IsTruth s (Holds f es) b
-  is_truth b p distinct readable meant of tells = record { point = p; meant = meant; truth = tells_truth b p distinct readable of tells }
+-- what stops the reference elimination at a point refuses the truth there
+pub elimination_stopped : (c : Context) (limit : ℕ) (t : Tree) (p q : Point ℕ) → p ≡ q → (e : Measured) → StopsWith e (reference_at c limit p t) → (d : StatementError) → d ≡ measured_refusal e → EliminationStop c limit t q d
+elimination_stopped c limit t p q same e h d is = subst (EliminationStop c limit t q) (sym is) (subst (λ r. EliminationStop c limit t r (measured_refusal e)) same (go e h))
+  where
+    go : (m : Measured) → StopsWith m (reference_at c limit p t) → EliminationStop c limit t p (measured_refusal m)
+    go measured.Overflow k = k
+    go measured.Nodes k = k
+    go measured.Memory k = tt

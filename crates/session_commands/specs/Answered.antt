@@ -1,20 +1,31 @@
 -- What the parts of a statement are answered with, and why they are not.
-use Rattle.std.specs.Prelude.{◌≡◌, ℕ, List, Bool, Some, None}
-use Rattle.qe_syntax.specs.Statements.{CommandTree, StatementTree}
+use Rattle.std.specs.Prelude.{◌≡◌, ◌⊎◌, ℕ, List, Bool, Some, None}
+use Rattle.formula_meaning.specs.Formula.{none}
+use Rattle.qe_syntax.specs.Trees.{FormulaTree, FormulaTrees}
+use Rattle.qe_syntax.specs.Statements.{CommandTree, Qe, StatementTree}
 use Rattle.session_commands.specs.declared.line.Line.{Line}
 use Rattle.session_commands.specs.declared.line.StatementError.{StatementError}
 use Rattle.session_commands.specs.declared.line.StatementError.TheVariants as error
-use Rattle.session_commands.specs.Built.{IsBuiltCommand, IsBuiltFormula, IsBuilt}
+use Rattle.session_commands.specs.Built.{HasNoAssumption, IsBuiltCommand, IsBuiltFormula, IsBuilt}
 use Rattle.session_commands.specs.State.{State}
 use Rattle.session_commands.specs.Commands.{named}
-use Rattle.session_commands.specs.Causes.{Refuses}
+use Rattle.session_commands.specs.Causes.{Use, Refuses}
 use Rattle.session_commands.specs.Reply.{AnswersCommand, AnswersAssignment, Answers, RefusesAction}
-use Rattle.session_commands.specs.Steps.{use_of}
+use Rattle.session_commands.specs.Steps.{use_of, IsGiven}
+
+-- the elimination has no assumptions, and is answered with the line
+pub record IsEliminationAnswered (s : State) (limit : ℕ) (u : Use) (f : FormulaTree) (given : FormulaTrees) (answer : Line) (next : State) : Type 0 where
+  pub plain : given ≡ none
+  pub answered : IsGiven (named s (Qe f none)) limit u (Qe f none) answer next
+
+-- it has assumptions, or is refused with the word
+abbrev pub IsEliminationStopped : State → ℕ → Use → FormulaTree → FormulaTrees → StatementError → Type 0
+IsEliminationStopped s limit u f given e = ((given ≡ none) × Refuses (named s (Qe f none)) limit u (Qe f none) e) ⊎ ((e ≡ error.Syntax) × (¬ (HasNoAssumption given)))
 
 -- the command is built and answered with the line, and its variables have their numbers
-pub record IsCommandAnswered (s : State) (printed : Bool) (c : CommandTree) (answer : Line) (next : State) : Type 0 where
+pub record IsCommandAnswered (s : State) (limit : ℕ) (printed : Bool) (c : CommandTree) (answer : Line) (next : State) : Type 0 where
   pub built : IsBuiltCommand c
-  pub answered : AnswersCommand (named s c) printed c answer
+  pub answered : AnswersCommand (named s c) limit printed c answer
   pub after : next ≡ named s c
 
 -- the command is not built, or refused with a word that the reader doesn't give, or memory ran out
@@ -24,9 +35,9 @@ IsCommandStopped s limit printed c error.Memory = Unit {0}
 IsCommandStopped s limit printed c e = IsBuiltCommand c × Refuses (named s c) limit (use_of None printed) c e
 
 -- the same of an assignment
-pub record IsAssigned (s : State) (printed : Bool) (x : List ℕ) (c : CommandTree) (answer : Line) (next : State) : Type 0 where
+pub record IsAssigned (s : State) (limit : ℕ) (printed : Bool) (x : List ℕ) (c : CommandTree) (answer : Line) (next : State) : Type 0 where
   pub built : IsBuiltFormula c
-  pub answered : AnswersAssignment (named s c) printed x c answer next
+  pub answered : AnswersAssignment (named s c) limit printed x c answer next
 
 abbrev pub IsAssignmentStopped : State → ℕ → Bool → List ℕ → CommandTree → StatementError → Type 0
 IsAssignmentStopped s limit printed x c error.Syntax = ¬ (IsBuiltFormula c)
@@ -34,9 +45,9 @@ IsAssignmentStopped s limit printed x c error.Memory = Unit {0}
 IsAssignmentStopped s limit printed x c e = IsBuiltFormula c × Refuses (named s c) limit (use_of (Some x) printed) c e
 
 -- and of a statement
-pub record IsAnswered (s : State) (t : StatementTree) (answer : Line) (next : State) : Type 0 where
+pub record IsAnswered (s : State) (limit : ℕ) (t : StatementTree) (answer : Line) (next : State) : Type 0 where
   pub built : IsBuilt t
-  pub answered : Answers s t.printed t.action answer next
+  pub answered : Answers s limit t.printed t.action answer next
 
 abbrev pub IsStopped : State → ℕ → StatementTree → StatementError → Type 0
 IsStopped s limit t error.Syntax = ¬ (IsBuilt t)

@@ -1,5 +1,12 @@
 -- The statements that are answered so far. Each other one is refused as syntax, until its command is built.
+use Rattle.formula_meaning.specs.Formula.{none, also}
+use Rattle.qe_syntax.specs.Trees.{FormulaTrees}
 use Rattle.qe_syntax.specs.Statements.{CommandTree, Echo, Nnf, Pnf, Dnf, Cnf, Simpl, Qe, Qea, Holds, Sample, ActionTree, Empty, Ignored, Finish, Choose, Say, Assign, StatementTree}
+
+-- assumptions are not built
+abbrev pub HasNoAssumption : FormulaTrees → Type 0
+HasNoAssumption none = Unit {0}
+HasNoAssumption (also a given) = ⊥
 
 -- a command that gives a formula
 abbrev pub IsBuiltFormula : CommandTree → Type 0
@@ -9,7 +16,7 @@ IsBuiltFormula (Pnf f) = ⊥
 IsBuiltFormula (Dnf f) = ⊥
 IsBuiltFormula (Cnf f) = ⊥
 IsBuiltFormula (Simpl f given) = ⊥
-IsBuiltFormula (Qe f given) = ⊥
+IsBuiltFormula (Qe f given) = HasNoAssumption given
 IsBuiltFormula (Qea f given) = ⊥
 IsBuiltFormula (Holds f es) = ⊥
 IsBuiltFormula (Sample f es) = ⊥
@@ -22,7 +29,7 @@ IsBuiltCommand (Pnf f) = ⊥
 IsBuiltCommand (Dnf f) = ⊥
 IsBuiltCommand (Cnf f) = ⊥
 IsBuiltCommand (Simpl f given) = ⊥
-IsBuiltCommand (Qe f given) = ⊥
+IsBuiltCommand (Qe f given) = HasNoAssumption given
 IsBuiltCommand (Qea f given) = ⊥
 IsBuiltCommand (Holds f es) = Unit {0}
 IsBuiltCommand (Sample f es) = ⊥

@@ -2,12 +2,17 @@
 -- variables of the command have their numbers.
 use Rattle.std.specs.Prelude.{◌≡◌, ◌⊎◌, ◌*◌, ℕ, ◌<◌, ◌≤◌, List, ◌++◌, Bool, true, Option, Some, None, length, codes}
 use Rattle.formula_meaning.specs.Some.{SomeOf}
+use Rattle.formula_meaning.specs.Sizes.{nodes}
 use Rattle.formula_meaning.specs.Tree.{Tree, tree_distinct}
+use Rattle.elimination_reference.specs.Measured.{Stop, Overflow, Nodes, done, stopped}
+use Rattle.elimination_reference.specs.Reference.{reference}
+use Rattle.elimination_reference.specs.Sample.{reference_at}
 use Rattle.qe_syntax.specs.declared.statement.PointEntry.{PointEntry}
-use Rattle.qe_syntax.specs.Point.{PassesLimit}
+use Rattle.qe_syntax.specs.Point.{PassesLimit, IsPointOf}
 use Rattle.qe_syntax.specs.Statements.{CommandTree, Echo, Nnf, Pnf, Dnf, Cnf, Simpl, Qe, Qea, Holds, Sample}
+use Rattle.qe_syntax.specs.Value.{NamedPoint}
 use Rattle.formula_tree.specs.Bindings.{bound_to, most_bound}
-use Rattle.formula_tree.specs.Resolving.{BoundTrees, place}
+use Rattle.formula_tree.specs.Resolving.{BoundTrees, place, at_names}
 use Rattle.formula_tree.specs.Causes.{IsUnbound, NamesFormulaAsTerm, IsBound, IsNonlinear, Divides, CongruenceInFields, IsBadModulus, IsTooDeep, OverflowsInReading}
 use Rattle.redlog_printer.specs.Text.{tree_text}
 use Rattle.redlog_printer.specs.Writing.{text_limit}
@@ -79,8 +84,7 @@ IsCause s u c error.Modulus = IsBadModulus s.context (place s.names) (formula_of
 IsCause s u c error.Depth = IsTooDeep s.bound (formula_of c)
 IsCause s u c error.Point = MeanNoPoint s.context (entries_of c)
 IsCause s u c error.Unvalued = AsksTruth c × HasUnvalued s.bound (place s.names) (formula_of c) (entries_of c)
--- until quantifiers are eliminated
-IsCause s u c error.Quantified = AsksTruth c × IsQuantified s.bound (formula_of c)
+IsCause s u c error.Quantified = ⊥
 IsCause s u c error.Overflow = OverflowsInReading s.context s.bound (place s.names) (formula_of c) ⊎ PassesLimit (entries_of c)
 IsCause s u c error.Bindings = HasNoRoom s.bound u.target ⊎ ((t : Tree) × Gives s c t × IsTooLarge u.target t)
 IsCause s u c error.Text = (u.printed ≡ true) × ((t : Tree) × Gives s c t × (text_limit < length (formula_line u.target s.names t)))
@@ -91,10 +95,52 @@ IsCause s u c error.Syntax = ⊥
 IsCause s u c error.Nodes = ⊥
 IsCause s u c error.Memory = ⊥
 
+-- ---- causes for which a command may be refused and need not be
+
+-- The reference elimination that the command asks for stops like this: of the formula of an elimination; or of a formula with quantifiers at the
+-- point of a truth, where nodes are counted before the point is put in.
+abbrev pub ReferenceStops : State → ℕ → CommandTree → Stop → Type 0
+ReferenceStops s limit (Echo f) e = ⊥
+ReferenceStops s limit (Nnf f) e = ⊥
+ReferenceStops s limit (Pnf f) e = ⊥
+ReferenceStops s limit (Dnf f) e = ⊥
+ReferenceStops s limit (Cnf f) e = ⊥
+ReferenceStops s limit (Simpl f given) e = ⊥
+ReferenceStops s limit (Qe f given) e = reference s.context limit (resolved s (Qe f given)) ≡ stopped e
+ReferenceStops s limit (Qea f given) e = ⊥
+ReferenceStops s limit (Holds f es) e = IsQuantified s.bound f
+    × ((point : NamedPoint) × IsPointOf es point × (reference_at s.context limit (at_names s.names point) (resolved s (Holds f es)) ≡ stopped e))
+ReferenceStops s limit (Sample f es) e = ⊥
+
+-- the formula is the reference elimination's, for a command that eliminates
+abbrev pub IsReferenceOf : State → ℕ → CommandTree → Tree → Type 0
+IsReferenceOf s limit (Echo f) t = ⊥
+IsReferenceOf s limit (Nnf f) t = ⊥
+IsReferenceOf s limit (Pnf f) t = ⊥
+IsReferenceOf s limit (Dnf f) t = ⊥
+IsReferenceOf s limit (Cnf f) t = ⊥
+IsReferenceOf s limit (Simpl f given) t = ⊥
+IsReferenceOf s limit (Qe f given) t = (cost : ℕ) × (reference s.context limit (resolved s (Qe f given)) ≡ done (t, cost))
+IsReferenceOf s limit (Qea f given) t = ⊥
+IsReferenceOf s limit (Holds f es) t = ⊥
+IsReferenceOf s limit (Sample f es) t = ⊥
+
+-- a product or a partial sum of the value of an atom passes the limit at the point, in a formula without quantifiers
+abbrev pub ValuePassesAt : State → CommandTree → Type 0
+ValuePassesAt s c = AsksTruth c × (¬ (IsQuantified s.bound (formula_of c))) × TruthPasses s c
+
+-- the formula is bound, and has more nodes than a bound formula may have distinct subformulas
+abbrev pub HasManyNodes : Option (List ℕ) → Tree → Type 0
+HasManyNodes None t = ⊥
+HasManyNodes (Some x) t = MOST_SUBFORMULAS < nodes t
+
 -- The command may be refused with the word: its cause applies, or one for which a command may be refused and need not be.
 abbrev pub MayRefuse : State → ℕ → Use → CommandTree → StatementError → Type 0
-MayRefuse s limit u c error.Overflow = IsCause s u c error.Overflow ⊎ (AsksTruth c × TruthPasses s c)
-MayRefuse s limit u c error.Nodes = AsksNegationNormal c × (limit < 6 * tree_distinct (resolved s c))
+MayRefuse s limit u c error.Overflow = IsCause s u c error.Overflow ⊎ (ValuePassesAt s c ⊎ ReferenceStops s limit c Overflow)
+MayRefuse s limit u c error.Nodes = (AsksNegationNormal c × (limit < 6 * tree_distinct (resolved s c))) ⊎ ReferenceStops s limit c Nodes
+MayRefuse s limit u c error.Bindings = IsCause s u c error.Bindings ⊎ ((t : Tree) × IsReferenceOf s limit c t × HasManyNodes u.target t)
+MayRefuse s limit u c error.Text = IsCause s u c error.Text
+    ⊎ ((u.printed ≡ true) × ((t : Tree) × IsReferenceOf s limit c t × (text_limit < length (formula_line u.target s.names t))))
 MayRefuse s limit u c e = IsCause s u c e
 
 -- the order in which causes are looked for

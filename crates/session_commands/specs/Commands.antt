@@ -1,14 +1,20 @@
 -- The parts of a command, and the formula that it gives.
-use Rattle.std.specs.Prelude.{◌≡◌, ℕ, List, [], ◌++◌, map}
+use Rattle.std.specs.Prelude.{◌≡◌, ◌↔◌, ◌≤◌, ℕ, List, [], ◌++◌, map}
 use Rattle.std.specs.List.{fold}
 use Rattle.formula_meaning.specs.NegationNormal.{normal_form}
-use Rattle.formula_meaning.specs.Tree.{Tree}
-use Rattle.atom_normal.specs.NormalForm.{negated_normal}
+use Rattle.formula_meaning.specs.Point.{Of}
+use Rattle.formula_meaning.specs.Every.{Every}
+use Rattle.formula_meaning.specs.Shape.{IsQuantifierFree}
+use Rattle.formula_meaning.specs.Sizes.{nodes}
+use Rattle.formula_meaning.specs.Tree.{Tree, IsFree, TrueAt}
+use Rattle.atom_normal.specs.NormalForm.{negated_normal, IsNormal}
 use Rattle.qe_syntax.specs.declared.statement.PointEntry.{PointEntry}
 use Rattle.qe_syntax.specs.Trees.{FormulaTree}
+use Rattle.qe_syntax.specs.Value as written
 use Rattle.qe_syntax.specs.Statements.{CommandTree, Echo, Nnf, Pnf, Dnf, Cnf, Simpl, Qe, Qea, Holds, Sample}
 use Rattle.formula_tree.specs.Names.{with_name}
-use Rattle.formula_tree.specs.Resolving.{formula_variables, resolve}
+use Rattle.formula_tree.specs.Resolving.{formula_variables, resolve, at_names, bound_truth}
+use Rattle.redlog_printer.specs.Bound.{HasTwoMembers}
 use Rattle.session_commands.specs.State.{State}
 
 -- the formula that the command is about
@@ -54,7 +60,7 @@ named s c = record { context = s.context; names = fold with_name s.names (comman
 abbrev pub resolved : State → CommandTree → Tree
 resolved s c = resolve s.context s.bound s.names (formula_of c)
 
--- the formula that the command gives is this one; a query gives none
+-- the formula that the command determines is this one; a query determines none, and an elimination leaves a choice
 abbrev pub Gives : State → CommandTree → Tree → Type 0
 Gives s (Echo f) t = t ≡ resolved s (Echo f)
 Gives s (Nnf f) t = t ≡ normal_form negated_normal (resolved s (Nnf f))
@@ -66,3 +72,28 @@ Gives s (Qe f given) t = ⊥
 Gives s (Qea f given) t = ⊥
 Gives s (Holds f es) t = ⊥
 Gives s (Sample f es) t = ⊥
+
+-- ---- elimination
+
+-- The formula has no quantifier and no free name but those of the resolved formula, and is true exactly where the formula is, as it is written, at every
+-- point of the theory. It has at most so many nodes, normal atoms, and lists of two members at least.
+pub record IsCondition (s : State) (limit : ℕ) (f : FormulaTree) (t : Tree) : Type 0 where
+  pub free : IsQuantifierFree t
+  pub names : (n : ℕ) → IsFree t n → IsFree (resolve s.context s.bound s.names f) n
+  pub truth : (p : written.NamedPoint) → Of s.context p → written.TrueAt (bound_truth s.context s.bound s.names) s.context f p ↔ TrueAt s.context t (at_names s.names p)
+  pub small : nodes t ≤ limit
+  pub normal : Every (IsNormal s.context) t
+  pub members : HasTwoMembers t
+
+-- under a limit of nodes the command may give this formula
+abbrev pub MayGive : State → ℕ → CommandTree → Tree → Type 0
+MayGive s limit (Echo f) t = Gives s (Echo f) t
+MayGive s limit (Nnf f) t = Gives s (Nnf f) t
+MayGive s limit (Pnf f) t = ⊥
+MayGive s limit (Dnf f) t = ⊥
+MayGive s limit (Cnf f) t = ⊥
+MayGive s limit (Simpl f given) t = ⊥
+MayGive s limit (Qe f given) t = IsCondition s limit f t
+MayGive s limit (Qea f given) t = ⊥
+MayGive s limit (Holds f es) t = ⊥
+MayGive s limit (Sample f es) t = ⊥

@@ -12,7 +12,7 @@ use Rattle.session_commands.specs.declared.line.StatementError.TheVariants as er
 use Rattle.session_commands.specs.Words.{truth_text, context_text}
 use Rattle.session_commands.specs.Built.{IsBuilt}
 use Rattle.session_commands.specs.State.{State, theory_of, chosen}
-use Rattle.session_commands.specs.Commands.{named, Gives}
+use Rattle.session_commands.specs.Commands.{named, MayGive}
 use Rattle.session_commands.specs.Points.{IsTruth}
 use Rattle.session_commands.specs.Causes.{formula_line, Refuses, IsAccepted}
 
@@ -26,39 +26,43 @@ IsLine printed text line.Finished = ⊥
 abbrev pub with_bound : State → List ℕ → Tree → State
 with_bound s x t = record { context = s.context; names = s.names; bound = bind s.bound x t }
 
--- the text that a command answers with, in a state in which its variables have their numbers
-abbrev pub Tells : State → CommandTree → List ℕ → Type 0
-Tells s (Echo f) text = (t : Tree) × Gives s (Echo f) t × (text ≡ formula_line None s.names t)
-Tells s (Nnf f) text = (t : Tree) × Gives s (Nnf f) t × (text ≡ formula_line None s.names t)
-Tells s (Pnf f) text = ⊥
-Tells s (Dnf f) text = ⊥
-Tells s (Cnf f) text = ⊥
-Tells s (Simpl f given) text = ⊥
-Tells s (Qe f given) text = ⊥
-Tells s (Qea f given) text = ⊥
-Tells s (Holds f es) text = (answer : Bool) × IsTruth s (Holds f es) answer × (text ≡ truth_text answer)
-Tells s (Sample f es) text = ⊥
+-- the text is that of a formula that the command may give
+abbrev pub IsFormulaText : State → ℕ → CommandTree → List ℕ → Type 0
+IsFormulaText s limit c text = (t : Tree) × MayGive s limit c t × (text ≡ formula_line None s.names t)
+
+-- the text that a command answers with under a limit of nodes, in a state in which its variables have their numbers
+abbrev pub Tells : State → ℕ → CommandTree → List ℕ → Type 0
+Tells s limit (Echo f) text = IsFormulaText s limit (Echo f) text
+Tells s limit (Nnf f) text = IsFormulaText s limit (Nnf f) text
+Tells s limit (Pnf f) text = ⊥
+Tells s limit (Dnf f) text = ⊥
+Tells s limit (Cnf f) text = ⊥
+Tells s limit (Simpl f given) text = ⊥
+Tells s limit (Qe f given) text = IsFormulaText s limit (Qe f given) text
+Tells s limit (Qea f given) text = ⊥
+Tells s limit (Holds f es) text = (answer : Bool) × IsTruth s (Holds f es) answer × (text ≡ truth_text answer)
+Tells s limit (Sample f es) text = ⊥
 
 -- no cause of a refusal applies, and this is the line
-abbrev pub AnswersCommand : State → Bool → CommandTree → Line → Type 0
-AnswersCommand s printed c answer = IsAccepted s (record { target = None; printed = printed }) c × ((text : List ℕ) × Tells s c text × IsLine printed text answer)
+abbrev pub AnswersCommand : State → ℕ → Bool → CommandTree → Line → Type 0
+AnswersCommand s limit printed c answer = IsAccepted s (record { target = None; printed = printed }) c × ((text : List ℕ) × Tells s limit c text × IsLine printed text answer)
 
 -- the same of an assignment, which binds the formula of its line
-pub record AnswersAssignment (s : State) (printed : Bool) (x : List ℕ) (c : CommandTree) (answer : Line) (next : State) : Type 0 where
+pub record AnswersAssignment (s : State) (limit : ℕ) (printed : Bool) (x : List ℕ) (c : CommandTree) (answer : Line) (next : State) : Type 0 where
   pub accepted : IsAccepted s (record { target = Some x; printed = printed }) c
   pub formula : Tree
-  pub given : Gives s c formula
+  pub given : MayGive s limit c formula
   pub line : IsLine printed (formula_line (Some x) s.names formula) answer
   pub binds : next ≡ with_bound s x formula
 
 -- the line of an accepted statement, and the state after it
-abbrev pub Answers : State → Bool → ActionTree → Line → State → Type 0
-Answers s printed Empty answer next = (answer ≡ line.Nothing) × (next ≡ s)
-Answers s printed Ignored answer next = (answer ≡ line.Nothing) × (next ≡ s)
-Answers s printed Finish answer next = (answer ≡ line.Finished) × (next ≡ s)
-Answers s printed (Choose setting) answer next = IsLine printed (context_text (theory_of setting)) answer × (next ≡ chosen s (theory_of setting))
-Answers s printed (Say c) answer next = AnswersCommand (named s c) printed c answer × (next ≡ named s c)
-Answers s printed (Assign x c) answer next = AnswersAssignment (named s c) printed x c answer next
+abbrev pub Answers : State → ℕ → Bool → ActionTree → Line → State → Type 0
+Answers s limit printed Empty answer next = (answer ≡ line.Nothing) × (next ≡ s)
+Answers s limit printed Ignored answer next = (answer ≡ line.Nothing) × (next ≡ s)
+Answers s limit printed Finish answer next = (answer ≡ line.Finished) × (next ≡ s)
+Answers s limit printed (Choose setting) answer next = IsLine printed (context_text (theory_of setting)) answer × (next ≡ chosen s (theory_of setting))
+Answers s limit printed (Say c) answer next = AnswersCommand (named s c) limit printed c answer × (next ≡ named s c)
+Answers s limit printed (Assign x c) answer next = AnswersAssignment (named s c) limit printed x c answer next
 
 -- the word with which a statement is refused
 abbrev pub RefusesAction : State → ℕ → Bool → ActionTree → StatementError → Type 0
@@ -70,11 +74,11 @@ RefusesAction s limit printed Finish e = ⊥
 RefusesAction s limit printed (Choose setting) e = ⊥
 
 -- the bytes of a piece spell a statement that is built, and is answered with the line
-pub record IsAnswer (s : State) (piece : List ℕ) (answer : Line) (next : State) : Type 0 where
+pub record IsAnswer (s : State) (limit : ℕ) (piece : List ℕ) (answer : Line) (next : State) : Type 0 where
   pub statement : StatementTree
   pub spelled : Spells piece statement
   pub built : IsBuilt statement
-  pub answered : Answers s statement.printed statement.action answer next
+  pub answered : Answers s limit statement.printed statement.action answer next
 
 -- the bytes spell a statement that is not built
 abbrev pub SpellsUnbuilt : List ℕ → Type 0
@@ -98,6 +102,6 @@ IsRefused s limit piece e = SpellsRefused s limit piece e
 -- What a piece is answered with in a state, under a limit of nodes, and the state after it. A refusal changes nothing; of want
 -- of memory nothing is said.
 abbrev pub Reply : State → ℕ → List ℕ → Result Line StatementError → State → Type 0
-Reply s limit piece (Ok answer) next = IsAnswer s piece answer next
+Reply s limit piece (Ok answer) next = IsAnswer s limit piece answer next
 Reply s limit piece (Err error.Memory) next = Unit {0}
 Reply s limit piece (Err e) next = (next ≡ s) × IsRefused s limit piece e

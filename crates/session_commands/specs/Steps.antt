@@ -1,10 +1,16 @@
 -- What the steps of an answer give one another.
-use Rattle.std.specs.Prelude.{◌≡◌, ◌⊎◌, ◌*◌, ◌<◌, ℕ, List, Bool, true, Option, Some, None, length}
+use Rattle.std.specs.Prelude.{◌≡◌, ◌⊎◌, ◌*◌, ◌<◌, ◌≤◌, ℕ, List, Bool, true, Option, Some, None, length}
+use Rattle.formula_meaning.specs.Context.{Context}
+use Rattle.formula_meaning.specs.Formula.{none}
+use Rattle.formula_meaning.specs.Sizes.{nodes}
 use Rattle.formula_meaning.specs.Tree.{Tree, tree_distinct}
+use Rattle.elimination_reference.specs.Measured.{Overflow, Nodes, done, stopped}
+use Rattle.elimination_reference.specs.Reference.{reference}
+use Rattle.elimination_reference.specs.Theorems.{IsAnswerTo}
 use Rattle.formula_meaning.specs.NegationNormal.{normal_form}
 use Rattle.atom_normal.specs.NormalForm.{negated_normal}
 use Rattle.qe_syntax.specs.Trees.{FormulaTree}
-use Rattle.qe_syntax.specs.Statements.{CommandTree, Echo, Nnf}
+use Rattle.qe_syntax.specs.Statements.{CommandTree, Echo, Nnf, Qe}
 use Rattle.redlog_reader.specs.declared.token.ReadError.{ReadError}
 use Rattle.redlog_reader.specs.declared.token.ReadError.TheVariants as reading
 use Rattle.formula_tree.specs.Bindings.{bind}
@@ -17,6 +23,8 @@ use Rattle.formula_resolving.specs.Numbering.{Grows}
 use Rattle.formula_resolving.specs.Refusals.{IsFirstCause}
 use Rattle.formula_store.specs.declared.id.FormulaId.{FormulaId}
 use Rattle.formula_store.specs.Nodes.{tree, IsId}
+use Rattle.plain_engine.specs.declared.measured.Measured.{Measured}
+use Rattle.plain_engine.specs.declared.measured.Measured.TheVariants as measured
 use Rattle.redlog_printer.specs.Writing.{text_limit}
 use Rattle.session_commands.specs.declared.line.Line.{Line}
 use Rattle.session_commands.specs.declared.line.StatementError.{StatementError}
@@ -25,7 +33,7 @@ use Rattle.session_commands.specs.declared.formulas.Wanted.{Wanted}
 use Rattle.session_commands.specs.declared.formulas.Wanted.TheVariants as wanted
 use Rattle.session_commands.specs.declared.desk.Desk.{Desk}
 use Rattle.session_commands.specs.State.{State}
-use Rattle.session_commands.specs.Commands.{Gives}
+use Rattle.session_commands.specs.Commands.{MayGive}
 use Rattle.session_commands.specs.Causes.{Use, formula_line, HasNoRoom, IsTooLarge, IsAccepted}
 use Rattle.session_commands.specs.Reply.{with_bound, IsLine}
 
@@ -47,10 +55,16 @@ static_refusal static.Depth = error.Depth
 static_refusal static.Overflow = error.Overflow
 static_refusal static.Memory = error.Memory
 
+abbrev pub measured_refusal : Measured → StatementError
+measured_refusal measured.Overflow = error.Overflow
+measured_refusal measured.Nodes = error.Nodes
+measured_refusal measured.Memory = error.Memory
+
 -- the command that gives the wanted formula
 abbrev pub command_of : Wanted → FormulaTree → CommandTree
 command_of wanted.Given f = Echo f
 command_of wanted.NegationNormal f = Nnf f
+command_of wanted.Eliminated f = Qe f none
 
 -- the state after a formula was given
 abbrev pub state_with : State → Option (List ℕ) → Tree → State
@@ -59,10 +73,10 @@ state_with s (Some x) t = with_bound s x t
 
 -- The command is accepted, and its line and the next state are those of the formula that it gives. The state is one in which
 -- its variables have their numbers.
-pub record IsGiven (s : State) (u : Use) (c : CommandTree) (answer : Line) (next : State) : Type 0 where
+pub record IsGiven (s : State) (limit : ℕ) (u : Use) (c : CommandTree) (answer : Line) (next : State) : Type 0 where
   pub accepted : IsAccepted s u c
   pub formula : Tree
-  pub given : Gives s c formula
+  pub given : MayGive s limit c formula
   pub line : IsLine u.printed (formula_line u.target s.names formula) answer
   pub after : next ≡ state_with s u.target formula
 
@@ -94,16 +108,26 @@ IsUnread s f e = (d : StaticError) × (e ≡ static_refusal d) × IsFirstCause s
 abbrev pub IsReadable : State → FormulaTree → Type 0
 IsReadable s f = IsResolvable s.context s.bound s.names f
 
--- the wanted form of a resolved formula
-abbrev pub wanted_form : Wanted → Tree → Tree
-wanted_form wanted.Given t = t
-wanted_form wanted.NegationNormal t = normal_form negated_normal t
+-- the reference elimination gives t of f, and it is an answer to f
+pub record IsEliminatedAs (c : Context) (limit : ℕ) (f t : Tree) : Type 0 where
+  pub cost : ℕ
+  pub same : reference c limit f ≡ done (t, cost)
+  pub exact : IsAnswerTo c f t
+  pub small : nodes t ≤ limit
+
+-- t is the wanted form of a resolved formula f
+abbrev pub IsWantedForm : Context → ℕ → Wanted → Tree → Tree → Type 0
+IsWantedForm c limit wanted.Given f t = t ≡ f
+IsWantedForm c limit wanted.NegationNormal f t = t ≡ normal_form negated_normal f
+IsWantedForm c limit wanted.Eliminated f t = IsEliminatedAs c limit f t
 
 -- why the wanted form is not made
-abbrev pub FormFault : Wanted → ℕ → Tree → StatementError → Type 0
-FormFault w limit t error.Nodes = (w ≡ wanted.NegationNormal) × (limit < 6 * tree_distinct t)
-FormFault w limit t error.Memory = Unit {0}
-FormFault w limit t _ = ⊥
+abbrev pub FormFault : Context → ℕ → Wanted → Tree → StatementError → Type 0
+FormFault c limit wanted.NegationNormal f error.Nodes = limit < 6 * tree_distinct f
+FormFault c limit wanted.Eliminated f error.Nodes = reference c limit f ≡ stopped Nodes
+FormFault c limit wanted.Eliminated f error.Overflow = reference c limit f ≡ stopped Overflow
+FormFault c limit w f error.Memory = Unit {0}
+FormFault c limit w f _ = ⊥
 
 -- the formula may be bound to the name, if there is one
 pub record MayBind (bound : BoundTrees) (target : Option (List ℕ)) (t : Tree) : Type 0 where

@@ -6,6 +6,8 @@ use Rattle.formula_meaning.specs.Context.{Context, Fields, Integers}
 use Rattle.formula_meaning.specs.Point.{Point}
 use Rattle.formula_meaning.specs.Some.{SomeOf}
 use Rattle.formula_meaning.specs.Tree.{Tree}
+use Rattle.elimination_reference.specs.Measured.{Overflow, Nodes, stopped}
+use Rattle.elimination_reference.specs.Sample.{reference_at}
 use Rattle.qe_syntax.specs.declared.statement.PointEntry.{PointEntry}
 use Rattle.qe_syntax.specs.Point.{Numbers, PassesLimit, IsPointOf, point_of}
 use Rattle.qe_syntax.specs.Statements.{Holds}
@@ -24,7 +26,7 @@ use Rattle.session_commands.specs.declared.line.StatementError.TheVariants as er
 use Rattle.session_commands.specs.declared.desk.Desk.{Desk}
 use Rattle.session_commands.specs.State.{State}
 use Rattle.session_commands.specs.Commands.{resolved}
-use Rattle.session_commands.specs.Points.{MeanNoPoint, HasUnvalued, IsQuantified, SomeAtomPassesAt}
+use Rattle.session_commands.specs.Points.{MeanNoPoint, HasUnvalued, SomeAtomPassesAt}
 use Rattle.session_commands.specs.Causes.{rank, Refuses, HasNoCauseBelow}
 use Rattle.session_commands.specs.Steps.{static_refusal, use_of, IsReadable}
 
@@ -35,6 +37,10 @@ HaveNumbers names es = AllByRecursion (λ e. IsIn e.name names) es
 -- the command is refused with the word, whatever the limit is and whether its line is printed
 abbrev pub RefusesTruth : State → FormulaTree → List PointEntry → StatementError → Type 0
 RefusesTruth s f es e = (limit : ℕ) (printed : Bool) → Refuses s limit (use_of None printed) (Holds f es) e
+
+-- the same under a limit of nodes
+abbrev pub RefusesTruthAt : State → ℕ → FormulaTree → List PointEntry → StatementError → Type 0
+RefusesTruthAt s limit f es e = (printed : Bool) → Refuses s limit (use_of None printed) (Holds f es) e
 
 -- none of the causes that come before a place of the order applies
 abbrev pub HasNoneBelow : State → FormulaTree → List PointEntry → ℕ → Type 0
@@ -79,19 +85,24 @@ PointStop c es error.Point = MeanNoPoint c es
 PointStop c es error.Memory = Unit {0}
 PointStop c es _ = ⊥
 
--- the free names of the formula have entries, and no quantifier stands in it
-pub record IsGround (s : State) (f : FormulaTree) (es : List PointEntry) : Type 0 where
-  pub valued : ¬ (HasUnvalued s.bound (place s.names) f es)
-  pub free : ¬ (IsQuantified s.bound f)
+-- the free names of the formula have entries
+abbrev pub IsValued : State → FormulaTree → List PointEntry → Type 0
+IsValued s f es = ¬ (HasUnvalued s.bound (place s.names) f es)
 
 -- why that is not so
-abbrev pub GroundStop : State → FormulaTree → List PointEntry → StatementError → Type 0
-GroundStop s f es error.Unvalued = HasUnvalued s.bound (place s.names) f es
-GroundStop s f es error.Quantified = (¬ (HasUnvalued s.bound (place s.names) f es)) × IsQuantified s.bound f
-GroundStop s f es error.Memory = Unit {0}
-GroundStop s f es _ = ⊥
+abbrev pub ValuedStop : State → FormulaTree → List PointEntry → StatementError → Type 0
+ValuedStop s f es error.Unvalued = HasUnvalued s.bound (place s.names) f es
+ValuedStop s f es error.Memory = Unit {0}
+ValuedStop s f es _ = ⊥
 
--- why the truth of a resolved formula is not told
+-- why the truth of a resolved formula with quantifiers is not told
+abbrev pub EliminationStop : Context → ℕ → Tree → Point ℕ → StatementError → Type 0
+EliminationStop c limit t q error.Overflow = reference_at c limit q t ≡ stopped Overflow
+EliminationStop c limit t q error.Nodes = reference_at c limit q t ≡ stopped Nodes
+EliminationStop c limit t q error.Memory = Unit {0}
+EliminationStop c limit t q _ = ⊥
+
+-- why the truth of a resolved formula without quantifiers is not told
 abbrev pub ValueStop : Tree → Point ℕ → StatementError → Type 0
 ValueStop t q error.Overflow = SomeAtomPassesAt t q
 ValueStop t q error.Memory = Unit {0}

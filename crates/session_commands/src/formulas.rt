@@ -2,6 +2,9 @@
 
 ghost use Rattle.std.specs.Prelude.{◌≡◌, ◌⊎◌, ◌<◌, ◌≤◌, ◌++◌, true, IfOk, IfErr, OnOk, OnErr, length, codes};
 ghost use Rattle.std.specs.Bool.{MatchBool};
+ghost use Rattle.formula_meaning.specs.Every.{Every};
+ghost use Rattle.atom_normal.specs.Atoms.{context_of};
+ghost use Rattle.atom_normal.specs.NormalForm.{IsNormal};
 ghost use Rattle.formula_tree.specs.Bindings.{bound_to, most_bound};
 ghost use Rattle.formula_tree.specs.Makers.{IsMade};
 ghost use Rattle.formula_tree.specs.Resolving.{resolve};
@@ -17,7 +20,7 @@ ghost use Rattle.session_commands.specs.Commands.{named};
 ghost use Rattle.session_commands.specs.Causes.{formula_line, Refuses, HasNoRoom};
 ghost use Rattle.session_commands.specs.Keeping.{state_of, IsDesk};
 ghost use Rattle.session_commands.specs.Reply.{IsLine};
-ghost use Rattle.session_commands.specs.Steps.{static_refusal as refusal_of_static, command_of, use_of, IsGiven, KeepsDesk, GrowsDesk, HasNumbers, IsUnread, IsReadable, wanted_form, FormFault, MayBind, TargetFault, LineFault, bound_after};
+ghost use Rattle.session_commands.specs.Steps.{static_refusal as refusal_of_static, measured_refusal as refusal_of_measured, command_of, use_of, IsGiven, KeepsDesk, GrowsDesk, HasNumbers, IsUnread, IsReadable, IsWantedForm, FormFault, MayBind, TargetFault, LineFault, bound_after};
 
 use crate::desk::Desk;
 use crate::line::{Line, StatementError};
@@ -25,8 +28,10 @@ use formula_resolving::{StaticError, linearise, number_formula};
 use formula_store::{FormulaId, Unfold};
 use formula_tree::{BindError, Bindings, FormError};
 use nnf_pnf::nnf;
+use plain_engine::Measured;
 use qe_syntax::{Formula, Name};
 use redlog_printer::{PrintError, TEXT_LIMIT, formula_text};
+use shared_elimination::eliminate_shared;
 use std::alloc::Global;
 
 /// A bound formula has at most so many distinct subformulas.
@@ -38,11 +43,12 @@ const MOST_BOUND: usize = 256;
 /// A formula with more nodes has a text that is too long.
 const MOST_PRINTED_NODES: u64 = 8_388_608;
 
-/// The formula that a command gives: as it is, or its negation normal form.
+/// The formula that a command gives: as it is, its negation normal form, or one without quantifiers.
 #[derive(Clone, Copy, Debug, PartialEq, Eq)]
 pub(crate) enum Wanted {
     Given,
     NegationNormal,
+    Eliminated,
 }
 
 /// Answers a command that gives a formula. An `Err` leaves the state as it was.
@@ -57,7 +63,7 @@ pub(crate) fn answer_formula(
     requires proper { IsProperFormula (formula_tree formula.now) }
     requires desk { IsDesk desk.old }
     ensures desk { IsDesk desk.new }
-    ensures answer { IfOk result (λ line. IsGiven (named (state_of desk.old) (command_of wanted (formula_tree formula.now))) (use_of target.now printed) (command_of wanted (formula_tree formula.now)) line (state_of desk.new)) }
+    ensures answer { IfOk result (λ line. IsGiven (named (state_of desk.old) (command_of wanted (formula_tree formula.now))) limit (use_of target.now printed) (command_of wanted (formula_tree formula.now)) line (state_of desk.new)) }
     ensures refused { IfErr result (Refuses (named (state_of desk.old) (command_of wanted (formula_tree formula.now))) limit (use_of target.now printed) (command_of wanted (formula_tree formula.now))) }
     ensures unchanged { OnErr result (state_of desk.new ≡ state_of desk.old) }
 {
@@ -82,7 +88,7 @@ fn given(
     requires proper { IsProperFormula (formula_tree formula.now) }
     requires desk { IsDesk desk.old }
     ensures desk { OnOk result (IsDesk desk.new) }
-    ensures answer { IfOk result (λ line. IsGiven (named (state_of desk.old) (command_of wanted (formula_tree formula.now))) (use_of target.now printed) (command_of wanted (formula_tree formula.now)) line (state_of desk.new)) }
+    ensures answer { IfOk result (λ line. IsGiven (named (state_of desk.old) (command_of wanted (formula_tree formula.now))) limit (use_of target.now printed) (command_of wanted (formula_tree formula.now)) line (state_of desk.new)) }
     ensures refused { IfErr result (Refuses (named (state_of desk.old) (command_of wanted (formula_tree formula.now))) limit (use_of target.now printed) (command_of wanted (formula_tree formula.now))) }
     ensures grown { OnErr result (GrowsDesk desk.old desk.new) }
 {
@@ -144,9 +150,11 @@ fn formed(
     wanted: Wanted,
     id: FormulaId,
 ) -> Result<FormulaId, StatementError>
-    requires { IsId desk.old.store id }
-    ensures made { IfOk result (λ r. IsMade (IsId desk.new.store) (tree desk.new.store) r (wanted_form wanted (tree desk.old.store id))) }
-    ensures fault { IfErr result (FormFault wanted limit (tree desk.old.store id)) }
+    requires id { IsId desk.old.store id }
+    requires normal { Every (IsNormal (context_of desk.old.context)) (tree desk.old.store id) }
+    ensures made { IfOk result (IsId desk.new.store) }
+    ensures wanted { IfOk result (λ r. IsWantedForm (context_of desk.old.context) limit wanted (tree desk.old.store id) (tree desk.new.store r)) }
+    ensures fault { IfErr result (FormFault (context_of desk.old.context) limit wanted (tree desk.old.store id)) }
     ensures kept { KeepsDesk desk.old desk.new }
 {
     match wanted {
@@ -156,6 +164,23 @@ fn formed(
             Err(FormError::Nodes) => Err(StatementError::Nodes),
             Err(_) => Err(StatementError::Memory),
         },
+        Wanted::Eliminated => {
+            match eliminate_shared(desk.alloc, &mut desk.store, desk.context, id, limit) {
+                Ok(id) => Ok(id),
+                Err(error) => Err(measured_refusal(error)),
+            }
+        }
+    }
+}
+
+/// A refusal of an elimination.
+pub(crate) fn measured_refusal(error: Measured) -> StatementError
+    ensures { result ≡ refusal_of_measured error }
+{
+    match error {
+        Measured::Overflow => StatementError::Overflow,
+        Measured::Nodes => StatementError::Nodes,
+        Measured::Memory => StatementError::Memory,
     }
 }
 

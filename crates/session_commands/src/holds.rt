@@ -3,10 +3,13 @@
 ghost use Rattle.std.specs.Prelude.{◌≡◌, ◌≤◌, ◌↔◌, ◌++◌, ℕ, pos, Bool, None, IfOk, IfErr, OnOk, OnErr, IsTrue, length};
 ghost use Rattle.std.specs.List.{IsDistinct, fold};
 ghost use Rattle.formula_meaning.specs.Context.{Context as Theory, Fields, Integers};
+ghost use Rattle.formula_meaning.specs.Every.{Every};
 ghost use Rattle.formula_meaning.specs.Point.{Of};
 ghost use Rattle.formula_meaning.specs.Shape.{IsQuantifierFree};
 ghost use Rattle.formula_meaning.specs.Some.{SomeOf};
+ghost use Rattle.formula_meaning.specs.Tree.{TrueAt};
 ghost use Rattle.atom_normal.specs.Atoms.{context_of};
+ghost use Rattle.atom_normal.specs.NormalForm.{IsNormal};
 ghost use Rattle.linear_forms.specs.Values.{number_at};
 ghost use Rattle.qe_syntax.specs.declared.statement.PointEntry.{PointEntry as Entry};
 ghost use Rattle.qe_syntax.specs.Point.{IsPointOf, point_of};
@@ -27,11 +30,11 @@ ghost use Rattle.session_commands.specs.Keeping.{state_of, IsDesk};
 ghost use Rattle.session_commands.specs.Points.{IsTruth};
 ghost use Rattle.session_commands.specs.Reply.{AnswersCommand};
 ghost use Rattle.session_commands.specs.Steps.{use_of, HasNumbers, KeepsDesk, GrowsDesk};
-ghost use Rattle.session_commands.specs.Truths.{HaveNumbers, IsBoundName, is_whole_theory, RefusesTruth, HasNoneBelow, stop_of, IsReadAs, IsMeantPoint, PointStop, IsGround, GroundStop, ValueStop};
+ghost use Rattle.session_commands.specs.Truths.{HaveNumbers, IsBoundName, is_whole_theory, RefusesTruth, RefusesTruthAt, HasNoneBelow, stop_of, IsReadAs, IsMeantPoint, PointStop, IsValued, ValuedStop, ValueStop, EliminationStop};
 ghost use Rattle.session_commands.specs.Words.{truth_text};
 
 use crate::desk::Desk;
-use crate::formulas::resolved;
+use crate::formulas::{measured_refusal, resolved};
 use crate::line::{Line, StatementError};
 use crate::lines::printed_line;
 use atom_normal::Context;
@@ -41,11 +44,13 @@ use formula_tree::{Bindings, Names};
 use free_names::{is_quantified, is_valued};
 use linear_forms::Values;
 use qe_syntax::{Entries, Formula, Point, PointEntry, PointFault};
+use shared_elimination::truth_by_elimination;
 use std::alloc::Global;
 
 /// Answers whether the formula is true at the point. An `Err` leaves the state as it was.
 pub(crate) fn answer_holds(
     desk: &mut Desk,
+    limit: u64,
     formula: &Formula,
     entries: &Entries,
     printed: bool,
@@ -54,13 +59,13 @@ pub(crate) fn answer_holds(
     requires entries { AreProperEntries entries.now }
     requires desk { IsDesk desk.old }
     ensures desk { IsDesk desk.new }
-    ensures answer { IfOk result (AnswersCommand (named (state_of desk.old) (Holds (formula_tree formula.now) entries.now)) printed (Holds (formula_tree formula.now) entries.now)) }
+    ensures answer { IfOk result (AnswersCommand (named (state_of desk.old) (Holds (formula_tree formula.now) entries.now)) limit printed (Holds (formula_tree formula.now) entries.now)) }
     ensures next { OnOk result (state_of desk.new ≡ named (state_of desk.old) (Holds (formula_tree formula.now) entries.now)) }
-    ensures refused { IfErr result (λ e. (limit : ℕ) → Refuses (named (state_of desk.old) (Holds (formula_tree formula.now) entries.now)) limit (use_of None printed) (Holds (formula_tree formula.now) entries.now) e) }
+    ensures refused { IfErr result (Refuses (named (state_of desk.old) (Holds (formula_tree formula.now) entries.now)) limit (use_of None printed) (Holds (formula_tree formula.now) entries.now)) }
     ensures unchanged { OnErr result (state_of desk.new ≡ state_of desk.old) }
 {
     let count = desk.names.count();
-    match truth_line(desk, formula, entries.items(), printed) {
+    match truth_line(desk, limit, formula, entries.items(), printed) {
         Ok(line) => Ok(line),
         Err(error) => {
             desk.names.keep_first(count);
@@ -72,6 +77,7 @@ pub(crate) fn answer_holds(
 /// The line of the truth of the formula at the point. After an `Err` the names may have grown.
 fn truth_line(
     desk: &mut Desk,
+    limit: u64,
     formula: &Formula,
     entries: &[PointEntry],
     printed: bool,
@@ -80,13 +86,13 @@ fn truth_line(
     requires entries { AreProperEntries entries.now }
     requires desk { IsDesk desk.old }
     ensures desk { OnOk result (IsDesk desk.new) }
-    ensures answer { IfOk result (AnswersCommand (named (state_of desk.old) (Holds (formula_tree formula.now) entries.now)) printed (Holds (formula_tree formula.now) entries.now)) }
+    ensures answer { IfOk result (AnswersCommand (named (state_of desk.old) (Holds (formula_tree formula.now) entries.now)) limit printed (Holds (formula_tree formula.now) entries.now)) }
     ensures next { OnOk result (state_of desk.new ≡ named (state_of desk.old) (Holds (formula_tree formula.now) entries.now)) }
-    ensures refused { IfErr result (λ e. (limit : ℕ) → Refuses (named (state_of desk.old) (Holds (formula_tree formula.now) entries.now)) limit (use_of None printed) (Holds (formula_tree formula.now) entries.now) e) }
+    ensures refused { IfErr result (Refuses (named (state_of desk.old) (Holds (formula_tree formula.now) entries.now)) limit (use_of None printed) (Holds (formula_tree formula.now) entries.now)) }
     ensures grown { OnErr result (GrowsDesk desk.old desk.new) }
 {
     number_command(formula, entries, &desk.bindings, &mut desk.names)?;
-    let truth = truth(desk, formula, entries)?;
+    let truth = truth(desk, limit, formula, entries)?;
     printed_line(desk.alloc, text_of_truth(truth), printed)
 }
 
@@ -124,7 +130,12 @@ fn number_command(
 }
 
 /// Whether the formula is true at the point, or the first cause of a refusal.
-fn truth(desk: &mut Desk, formula: &Formula, entries: &[PointEntry]) -> Result<bool, StatementError>
+fn truth(
+    desk: &mut Desk,
+    limit: u64,
+    formula: &Formula,
+    entries: &[PointEntry],
+) -> Result<bool, StatementError>
     requires proper { IsProperFormula (formula_tree formula.now) }
     requires entries { AreProperEntries entries.now }
     requires desk { IsDesk desk.old }
@@ -132,19 +143,23 @@ fn truth(desk: &mut Desk, formula: &Formula, entries: &[PointEntry]) -> Result<b
     requires valued { HaveNumbers desk.old.names entries.now }
     ensures truth { IfOk result (IsTruth (state_of desk.old) (Holds (formula_tree formula.now) entries.now)) }
     ensures accepted { OnOk result (HasNoneBelow (state_of desk.old) (formula_tree formula.now) entries.now 19) }
-    ensures refused { IfErr result (RefusesTruth (state_of desk.old) (formula_tree formula.now) entries.now) }
+    ensures refused { IfErr result (RefusesTruthAt (state_of desk.old) limit (formula_tree formula.now) entries.now) }
     ensures kept { KeepsDesk desk.old desk.new }
 {
     let id = read(desk, formula, entries)?;
     let point = meant_point(desk.alloc, desk.context, entries)?;
-    check_ground(desk, formula, entries)?;
+    check_valued(desk, formula, entries)?;
     let Some(id) = id else {
         return Err(StatementError::Overflow);
     };
     let Some(point) = point else {
         return Err(StatementError::Overflow);
     };
-    truth_at(desk, id, entries, &point)
+    if is_quantified(formula, &desk.bindings, &desk.store) {
+        eliminated_truth(desk, limit, id, entries, &point)
+    } else {
+        truth_at(desk, id, entries, &point)
+    }
 }
 
 /// The resolved formula, or `None` where its reading overflows.
@@ -227,15 +242,15 @@ fn is_whole(context: Context) -> bool
     }
 }
 
-/// Whether each free name of the formula has an entry, and it has no quantifier.
-fn check_ground(
+/// Whether each free name of the formula has an entry.
+fn check_valued(
     desk: &Desk,
     formula: &Formula,
     entries: &[PointEntry],
 ) -> Result<(), StatementError>
     requires { AreIds (IsId desk.now.store) desk.now.bindings }
-    ensures ground { OnOk result (IsGround (state_of desk.now) (formula_tree formula.now) entries.now) }
-    ensures fault { IfErr result (GroundStop (state_of desk.now) (formula_tree formula.now) entries.now) }
+    ensures valued { OnOk result (IsValued (state_of desk.now) (formula_tree formula.now) entries.now) }
+    ensures fault { IfErr result (ValuedStop (state_of desk.now) (formula_tree formula.now) entries.now) }
 {
     match is_valued(
         desk.alloc,
@@ -245,17 +260,38 @@ fn check_ground(
         &desk.names,
         &desk.store,
     ) {
-        Ok(true) => (),
-        Ok(false) => return Err(StatementError::Unvalued),
-        Err(_) => return Err(StatementError::Memory),
+        Ok(true) => Ok(()),
+        Ok(false) => Err(StatementError::Unvalued),
+        Err(_) => Err(StatementError::Memory),
     }
-    if is_quantified(formula, &desk.bindings, &desk.store) {
-        return Err(StatementError::Quantified);
-    }
-    Ok(())
 }
 
-/// The truth of a resolved formula at the point.
+/// The truth of a resolved formula at the point, by elimination.
+fn eliminated_truth(
+    desk: &mut Desk,
+    limit: u64,
+    id: FormulaId,
+    entries: &[PointEntry],
+    point: &Point,
+) -> Result<bool, StatementError>
+    requires id { IsId desk.old.store id }
+    requires normal { Every (IsNormal (context_of desk.old.context)) (tree desk.old.store id) }
+    requires theory { Of (context_of desk.old.context) (point_of point.now) }
+    requires distinct { IsDistinct same_name desk.old.names }
+    requires numbered { HaveNumbers desk.old.names entries.now }
+    requires point { IsPointOf entries.now (point_of point.now) }
+    ensures truth { IfOk result (λ b. IsTrue b ↔ TrueAt (context_of desk.old.context) (tree desk.old.store id) (at_names desk.old.names (point_of point.now))) }
+    ensures fault { IfErr result (EliminationStop (context_of desk.old.context) limit (tree desk.old.store id) (at_names desk.old.names (point_of point.now))) }
+    ensures kept { KeepsDesk desk.old desk.new }
+{
+    let values = values_of(desk.alloc, &desk.names, entries, point)?;
+    match truth_by_elimination(desk.alloc, &mut desk.store, desk.context, id, &values, limit) {
+        Ok(holds) => Ok(holds),
+        Err(error) => Err(measured_refusal(error)),
+    }
+}
+
+/// The truth of a resolved formula without quantifiers at the point.
 fn truth_at(
     desk: &Desk,
     id: FormulaId,

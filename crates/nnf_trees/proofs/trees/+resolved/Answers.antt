@@ -1,6 +1,6 @@
 use Rattle.std.proofs.Common.{rules, arith, ◌≡◌, ◌≤◌, ◌+◌, ◌∷◌, List, map, length, ◌∙◌, subst}
 use Rattle.formula_meaning.specs.Sizes.{nodes, all_nodes}
-use Rattle.formula_tree.specs.Trees.{members}
+use Rattle.formula_tree.specs.Trees.{members, tree_of}
 use Rattle.nnf_trees.specs.declared.nnf.Nnf.{Nnf}
 use Rattle.nnf_trees.specs.Nnfs.{nnf_of, nnfs_of}
 use Rattle.nnf_trees.proofs.Pieces.{empty}
@@ -15,7 +15,7 @@ into_trees-loop-f-preserved t c =
     record {
       can = tt;
       finite = tt;
-      left = one_tree c.loop-f.trees.items c.push.new.self.items c.in_ok-into_tree.field-0 c.in-Some.f c.next.new.self.rest.items c.loop-f.f-iterator.rest.items (nnfs_of c.args.fs)
+      left = one_tree tree_of c.loop-f.trees.items c.push.new.self.items c.in_ok-into_tree.field-0 c.in-Some.f c.next.new.self.rest.items c.loop-f.f-iterator.rest.items (nnfs_of c.args.fs)
           c.loop-f.invariant.left split c.in_ok-into_tree.ensures c.in_ok-push.ensures.items;
       small = omega (arith, few);
     }
@@ -23,4 +23,4 @@ into_trees-loop-f-preserved t c =
 pub into_trees-returns : goal.into_trees-returns
 into_trees-returns t c =
     let none_left : length c.loop-f.f-iterator.rest.items ≡ 0 = search rules in
-    c.of.ensures ∙ all_trees c.loop-f.trees.items c.loop-f.f-iterator.rest.items (nnfs_of c.args.fs) c.loop-f.invariant.left (empty c.loop-f.f-iterator.rest.items none_left)
+    c.of.ensures ∙ all_trees tree_of c.loop-f.trees.items c.loop-f.f-iterator.rest.items (nnfs_of c.args.fs) c.loop-f.invariant.left (empty c.loop-f.f-iterator.rest.items none_left)

@@ -1,46 +1,22 @@
-use Rattle.std.proofs.Common.{rules, ◌≡◌, ◌≤◌, false, true, [], List, ◌∙◌, sym, ap, subst}
+use Rattle.std.proofs.Common.{◌≡◌, ◌≤◌, ◌∙◌, sym, ap, subst}
 use Rattle.formula_meaning.specs.Sizes.{nodes}
 use Rattle.atom_normal.specs.Atoms.{context_of}
 use Rattle.elimination_reference.specs.Measured.{done}
-use Rattle.elimination_reference.specs.Reference.{branches, normal_tree, reference}
 use Rattle.elimination_reference.specs.Theorems.{IsAnswerTo}
-use Rattle.formula_tree.specs.declared.tree.Tree as code
 use Rattle.formula_tree.specs.Trees.{tree_of}
-use Rattle.linear_forms.specs.declared.form.VarId.{VarId}
 use Rattle.nnf_trees.specs.Nnfs.{nnf_of}
-use Rattle.nnf_trees.specs.Forms.{form}
-use Rattle.plain_engine.specs.Told.{seen, numbers, formulas_of}
-use Rattle.plain_engine.specs.Ready.{IsReady}
-use Rattle.plain_engine.proofs.Readiness.{form_ready}
-use Rattle.plain_engine.proofs.Arms.{reference_is, if_ok_also, answer_exact}
+use Rattle.plain_engine.proofs.Arms.{if_ok_also}
 use Rattle.plain_engine.proofs.eliminate.eliminate_plain.Goals as goal
 
--- the tree of the reference
-is_reference : (c : goal.Joined-form-5) (t : code.Tree) → tree_of t ≡ nnf_of c.in_ok-whole.whole → reference (context_of c.args.context) c.args.limit (tree_of c.args.tree.now) ≡ done (tree_of t, c.branches.new.cost)
-is_reference c t e =
-    let f = tree_of c.args.tree.now in
-    let made : nnf_of c.in_ok-form.form ≡ form false f = search rules in
-    let told : seen (branches (context_of c.args.context) c.args.limit [] true (normal_tree f) c.pay.new.cost) ≡ done (formulas_of c.in_ok-left.left.items, c.branches.new.cost)
-    = ap (λ g. seen (branches (context_of c.args.context) c.args.limit [] true g c.pay.new.cost)) (sym made)
-    ∙ ap (λ (xs : List VarId). seen (branches (context_of c.args.context) c.args.limit (numbers xs) true (nnf_of c.in_ok-form.form) c.pay.new.cost)) (sym c.new.ensures.items) ∙ c.in_ok-left.ensures.told in
-    reference_is (context_of c.args.context) c.args.limit f (tree_of t) c.pay.new.cost c.branches.new.cost (formulas_of c.in_ok-left.left.items) (c.in_ok-pay.ensures (nodes (form false f)) c.form_sizes.ensures.plain) told
-    (e ∙ c.in_ok-whole.ensures.folded)
-
 pub returns-clause-answer : goal.returns-clause-answer
-returns-clause-answer c = if_ok_also c.resolved.result (λ t. tree_of t ≡ nnf_of c.in_ok-whole.whole) _ c.resolved.ensures.tree (λ t e. (c.branches.new.cost, is_reference c t e))
+returns-clause-answer c =
+    let told = c.in_ok-answer.ensures.answer in
+    if_ok_also c.resolved.result (λ t. tree_of t ≡ nnf_of c.in_ok-answer.answer) _ c.resolved.ensures.tree (λ t e. (told.0, told.1 ∙ ap (λ f. done (f, told.0)) (sym e)))
 
 pub returns-clause-exact : goal.returns-clause-exact
 returns-clause-exact c =
-    if_ok_also c.resolved.result (λ t. tree_of t ≡ nnf_of c.in_ok-whole.whole) (λ t. IsAnswerTo (context_of c.args.context) (tree_of c.args.tree.now) (tree_of t)) c.resolved.ensures.tree
-    (λ t e. (answer_exact (context_of c.args.context) c.args.limit (tree_of c.args.tree.now) (tree_of t) c.branches.new.cost (is_reference c t e) c.requires.normal).0)
+    if_ok_also c.resolved.result (λ t. tree_of t ≡ nnf_of c.in_ok-answer.answer) _ c.resolved.ensures.tree (λ t e. subst (IsAnswerTo (context_of c.args.context) (tree_of c.args.tree.now)) (sym e) c.in_ok-answer.ensures.exact)
 
 pub returns-clause-small : goal.returns-clause-small
 returns-clause-small c =
-    if_ok_also c.resolved.result (λ t. tree_of t ≡ nnf_of c.in_ok-whole.whole) (λ t. nodes (tree_of t) ≤ c.args.limit) c.resolved.ensures.tree
-    (λ t e. (answer_exact (context_of c.args.context) c.args.limit (tree_of c.args.tree.now) (tree_of t) c.branches.new.cost (is_reference c t e) c.requires.normal).1)
-
-pub branches-requires-clause-ready : goal.branches-requires-clause-ready
-branches-requires-clause-ready c =
-    let f = tree_of c.args.tree.now in
-    let made : nnf_of c.in_ok-form.form ≡ form false f = search rules in
-    subst (IsReady (context_of c.args.context)) (sym made) (form_ready (context_of c.args.context) c.args.limit f c.requires.normal)
+    if_ok_also c.resolved.result (λ t. tree_of t ≡ nnf_of c.in_ok-answer.answer) _ c.resolved.ensures.tree (λ t e. subst (λ f. nodes f ≤ c.args.limit) (sym e) c.in_ok-answer.ensures.small)

@@ -1,4 +1,4 @@
-use Rattle.std.proofs.Common.{◌∙◌, ℕ, List, None, sym, ap, subst, take}
+use Rattle.std.proofs.Common.{◌∙◌, List, None, sym, ap, subst, take}
 use Rattle.qe_syntax.specs.declared.statement.PointEntry.{PointEntry}
 use Rattle.qe_syntax.specs.Statements.{Holds}
 use Rattle.qe_syntax.specs.Trees.{formula_tree}
@@ -14,7 +14,7 @@ use Rattle.session_commands.proofs.holds.answer_holds.Goals as goal
 pub returns-in-Ok-clause-answer : goal.returns-in-Ok-clause-answer
 returns-in-Ok-clause-answer c =
     let f = formula_tree c.args.formula.now in
-    subst (λ (es : List PointEntry). AnswersCommand (named (state_of c.args.desk.now) (Holds f es)) c.args.printed (Holds f es) c.in-Ok.line) c.items.ensures c.in-Ok.ensures.answer
+    subst (λ (es : List PointEntry). AnswersCommand (named (state_of c.args.desk.now) (Holds f es)) c.args.limit c.args.printed (Holds f es) c.in-Ok.line) c.items.ensures c.in-Ok.ensures.answer
 
 pub returns-in-Err-clause-desk : goal.returns-in-Err-clause-desk
 returns-in-Err-clause-desk c =
@@ -26,7 +26,7 @@ returns-in-Err-clause-desk c =
 pub returns-in-Err-clause-refused : goal.returns-in-Err-clause-refused
 returns-in-Err-clause-refused c =
     let f = formula_tree c.args.formula.now in
-    subst (λ (es : List PointEntry). (limit : ℕ) → Refuses (named (state_of c.args.desk.now) (Holds f es)) limit (use_of None c.args.printed) (Holds f es) c.in-Err.error) c.items.ensures c.in-Err.ensures.refused
+    subst (λ (es : List PointEntry). Refuses (named (state_of c.args.desk.now) (Holds f es)) c.args.limit (use_of None c.args.printed) (Holds f es) c.in-Err.error) c.items.ensures c.in-Err.ensures.refused
 
 pub returns-in-Err-clause-unchanged : goal.returns-in-Err-clause-unchanged
 returns-in-Err-clause-unchanged c =

@@ -1,4 +1,4 @@
-use Rattle.std.proofs.Common.{◌≡◌, ℕ, Bool, None, sym, subst, rules, Err}
+use Rattle.std.proofs.Common.{◌≡◌, Bool, None, sym, subst, rules, Err}
 use Rattle.std.specs.Prelude.{Result, IfErr}
 use Rattle.qe_syntax.specs.Statements.{Holds}
 use Rattle.qe_syntax.specs.Trees.{formula_tree}
@@ -7,7 +7,7 @@ use Rattle.session_commands.specs.Causes.{Refuses}
 use Rattle.session_commands.specs.Commands.{named}
 use Rattle.session_commands.specs.Keeping.{state_of}
 use Rattle.session_commands.specs.Steps.{use_of}
-use Rattle.session_commands.specs.Truths.{RefusesTruth}
+use Rattle.session_commands.specs.Truths.{RefusesTruthAt}
 use Rattle.session_commands.proofs.TruthSteps.{named_desk, desk_named, numbers_there, entries_there, truth_refused, truth_answered, state_later, desk_later}
 use Rattle.session_commands.proofs.holds.truth_line.Goals as goal
 
@@ -27,9 +27,9 @@ returns-in_err-truth-clause-refused c =
     let es = c.args.entries.now in
     let e : c.from_residual-in_err-truth.result ≡ Err c.in_err-truth.field-0.0 = search rules in
     let stop : Result Bool StatementError = Err c.in_err-truth.field-0.0 in
-    let refused : IfErr stop (RefusesTruth (state_of (named_desk desk c.number_command.new.names f es c.requires.desk c.in_ok-number_command.ensures.grown c.in_ok-number_command.ensures.numbered)) f es) = c.in_err-truth.ensures.refused in
-    subst (λ r. IfErr r (λ e. (limit : ℕ) → Refuses (named (state_of desk) (Holds f es)) limit (use_of None c.args.printed) (Holds f es) e)) (sym e)
-    (truth_refused desk c.number_command.new.names f es c.requires.desk c.in_ok-number_command.ensures.grown c.in_ok-number_command.ensures.numbered stop c.args.printed refused)
+    let refused : IfErr stop (RefusesTruthAt (state_of (named_desk desk c.number_command.new.names f es c.requires.desk c.in_ok-number_command.ensures.grown c.in_ok-number_command.ensures.numbered)) c.args.limit f es) = c.in_err-truth.ensures.refused in
+    subst (λ r. IfErr r (Refuses (named (state_of desk) (Holds f es)) c.args.limit (use_of None c.args.printed) (Holds f es))) (sym e)
+    (truth_refused desk c.number_command.new.names f es c.requires.desk c.in_ok-number_command.ensures.grown c.in_ok-number_command.ensures.numbered stop c.args.limit c.args.printed refused)
 
 pub returns-clause-desk : goal.returns-clause-desk
 returns-clause-desk c =
@@ -39,7 +39,7 @@ returns-clause-desk c =
 pub returns-clause-answer : goal.returns-clause-answer
 returns-clause-answer c =
     truth_answered c.args.desk.now c.number_command.new.names (formula_tree c.args.formula.now) c.args.entries.now c.requires.desk c.in_ok-number_command.ensures.grown c.in_ok-number_command.ensures.numbered
-    c.printed_line.result c.args.printed c.in_ok-truth.truth c.text_of_truth.result.now c.in_ok-truth.ensures.truth c.in_ok-truth.ensures.accepted c.text_of_truth.ensures c.printed_line.ensures.line
+    c.printed_line.result c.args.limit c.args.printed c.in_ok-truth.truth c.text_of_truth.result.now c.in_ok-truth.ensures.truth c.in_ok-truth.ensures.accepted c.text_of_truth.ensures c.printed_line.ensures.line
 
 pub returns-clause-next : goal.returns-clause-next
 returns-clause-next c =

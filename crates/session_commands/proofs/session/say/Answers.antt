@@ -1,27 +1,37 @@
 use Rattle.std.proofs.Common.{ap}
-use Rattle.qe_syntax.specs.Trees.{formula_tree}
+use Rattle.qe_syntax.specs.Trees.{formula_tree, formula_trees}
 use Rattle.qe_syntax.specs.Statements.{command_tree}
 use Rattle.session_commands.specs.declared.formulas.Wanted.TheVariants as wanted
 use Rattle.session_commands.specs.Keeping.{state_of}
-use Rattle.session_commands.proofs.AnswerLemmas.{answered_as, holds_answered, holds_stopped}
+use Rattle.session_commands.proofs.AnswerLemmas.{answered_as, elimination_answered, elimination_stopped, holds_answered, holds_stopped}
 use Rattle.session_commands.proofs.session.say.Goals as goal
 
 pub returns-in-Echo-clause-answer : goal.returns-in-Echo-clause-answer
 returns-in-Echo-clause-answer c =
-    answered_as c.answer_formula.result wanted.Given (formula_tree c.in-Echo.formula) (command_tree c.args.command.now) (state_of c.args.desk.now) (state_of c.answer_formula.new.desk) c.args.printed
+    answered_as c.answer_formula.result wanted.Given (formula_tree c.in-Echo.formula) (command_tree c.args.command.now) (state_of c.args.desk.now) (state_of c.answer_formula.new.desk) c.args.limit c.args.printed
     (ap command_tree c.in-Echo.is) c.answer_formula.ensures.answer
 
 pub returns-in-Nnf-clause-answer : goal.returns-in-Nnf-clause-answer
 returns-in-Nnf-clause-answer c =
-    answered_as c.answer_formula-in-Nnf.result wanted.NegationNormal (formula_tree c.in-Nnf.formula) (command_tree c.args.command.now) (state_of c.args.desk.now) (state_of c.answer_formula-in-Nnf.new.desk) c.args.printed
+    answered_as c.answer_formula-in-Nnf.result wanted.NegationNormal (formula_tree c.in-Nnf.formula) (command_tree c.args.command.now) (state_of c.args.desk.now) (state_of c.answer_formula-in-Nnf.new.desk) c.args.limit c.args.printed
     (ap command_tree c.in-Nnf.is) c.answer_formula-in-Nnf.ensures.answer
 
 pub returns-in-Holds-clause-answer : goal.returns-in-Holds-clause-answer
 returns-in-Holds-clause-answer c =
-    holds_answered c.answer_holds.result (formula_tree c.in-Holds.formula) c.in-Holds.entries (command_tree c.args.command.now) (state_of c.args.desk.now) (state_of c.answer_holds.new.desk) c.args.printed
+    holds_answered c.answer_holds.result (formula_tree c.in-Holds.formula) c.in-Holds.entries (command_tree c.args.command.now) (state_of c.args.desk.now) (state_of c.answer_holds.new.desk) c.args.limit c.args.printed
     (ap command_tree c.in-Holds.is) c.answer_holds.ensures.answer c.answer_holds.ensures.next
 
 pub returns-in-Holds-clause-refusal : goal.returns-in-Holds-clause-refusal
 returns-in-Holds-clause-refusal c =
     holds_stopped c.answer_holds.result (formula_tree c.in-Holds.formula) c.in-Holds.entries (command_tree c.args.command.now) (state_of c.args.desk.now) c.args.limit c.args.printed
     (ap command_tree c.in-Holds.is) c.answer_holds.ensures.refused
+
+pub returns-in-Qe-clause-answer : goal.returns-in-Qe-clause-answer
+returns-in-Qe-clause-answer c =
+    elimination_answered c.eliminate.result (formula_tree c.in-Qe.formula) (formula_trees c.in-Qe.given) (command_tree c.args.command.now) (state_of c.args.desk.now) (state_of c.eliminate.new.desk) c.args.limit c.args.printed
+    (ap command_tree c.in-Qe.is) c.eliminate.ensures.answer
+
+pub returns-in-Qe-clause-refusal : goal.returns-in-Qe-clause-refusal
+returns-in-Qe-clause-refusal c =
+    elimination_stopped (state_of c.args.desk.now) c.args.limit c.args.printed (formula_tree c.in-Qe.formula) c.eliminate.result (formula_trees c.in-Qe.given) (command_tree c.args.command.now)
+    (ap command_tree c.in-Qe.is) c.eliminate.ensures.refused

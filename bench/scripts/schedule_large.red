@@ -1,0 +1,2 @@
+rlset ofsf$
+rlqe ex({s1,s2,s3,s4,s5,s6,s7,s8,s9,s10,s11,s12},(s1 >= 0 and s2 >= s1+1 and s3 >= s2+2 and s4 >= s3+3 and s5 >= s4+4 and s6 >= s5+5 and s7 >= s6+6 and s8 >= s7+7 and s9 >= s8+8 and s10 >= s9+9 and s11 >= s10+10 and s12 >= s11+11 and s1+1 <= 78 and s2+2 <= 78 and s3+3 <= 78 and s4+4 <= 78 and s5+5 <= 78 and s6+6 <= 78 and s7+7 <= 78 and s8+8 <= 78 and s9+9 <= 78 and s10+10 <= 78 and s11+11 <= 78 and s12+12 <= 78));

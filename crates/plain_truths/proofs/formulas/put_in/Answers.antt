@@ -1,0 +1,33 @@
+use Rattle.std.proofs.Common.{rules, ◌≡◌, false, List, [], sym, ap, ◌∙◌, subst}
+use Rattle.std.specs.Prelude.{IfOk}
+use Rattle.formula_meaning.specs.Tree.{InContext}
+use Rattle.atom_normal.specs.Atoms.{context_of}
+use Rattle.elimination_reference.specs.Theorems.{IsPutIn}
+use Rattle.elimination_reference.specs.PutIn.{put_in, tree_put}
+use Rattle.elimination_reference.proofs.PutIn.{putting_in_exact}
+use Rattle.elimination_reference.proofs.Turning.{normal_tree_inside}
+use Rattle.formula_tree.specs.Trees.{tree_of}
+use Rattle.linear_forms.specs.declared.form.VarId.{VarId}
+use Rattle.linear_forms.specs.Values.{point_of}
+use Rattle.nnf_trees.specs.Nnfs.{nnf_of}
+use Rattle.nnf_trees.specs.Forms.{form}
+use Rattle.plain_engine.proofs.Arms.{if_ok_also}
+use Rattle.plain_truths.specs.Put.{around}
+use Rattle.plain_truths.proofs.formulas.put_in.Goals as goal
+
+pub formula_put-requires-clause-in_context : goal.formula_put-requires-clause-in_context
+formula_put-requires-clause-in_context c =
+    let made : nnf_of c.in_ok-form.form ≡ form false (tree_of c.args.tree.now) = search rules in
+    subst (InContext (context_of c.args.context)) (sym made) (normal_tree_inside (context_of c.args.context) (tree_of c.args.tree.now) c.requires.normal)
+
+pub returns-in-Ok-clause-exact : goal.returns-in-Ok-clause-exact
+returns-in-Ok-clause-exact c =
+    let o = context_of c.args.context in
+    let p = point_of c.args.at.now in
+    let f = tree_of c.args.tree.now in
+    let made : nnf_of c.in_ok-form.form ≡ form false f = search rules in
+    let put : nnf_of c.in-Ok.put ≡ put_in o p f
+    = c.in-Ok.ensures.put.formula ∙ ap (λ (xs : List VarId). tree_put o p (around xs) (nnf_of c.in_ok-form.form)) c.new-names.ensures.items ∙ ap (tree_put o p []) made in
+    let tree : IfOk c.map_err-in-Ok.result (λ t. tree_of t ≡ nnf_of c.in-Ok.put) = search rules in
+    if_ok_also c.map_err-in-Ok.result (λ t. tree_of t ≡ nnf_of c.in-Ok.put) (λ t. IsPutIn o f p (tree_of t)) tree
+    (λ t e. subst (IsPutIn o f p) (sym (e ∙ put)) (putting_in_exact o f p c.requires.normal c.requires.point))

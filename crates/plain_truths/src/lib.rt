@@ -1,0 +1,12 @@
+//! A point put into a formula, and the truth there by the reference elimination.
+#![tactic(auto)]
+
+mod forms;
+mod formulas;
+mod truths;
+
+pub use formulas::put_in;
+pub use truths::truth_plain;
+
+#[cfg(test)]
+mod tests;

@@ -1,0 +1,3 @@
+pub mod Moduli
+pub mod SharedShapes
+pub mod FormAgain

@@ -1,0 +1,75 @@
+//! The reference elimination of a shared formula.
+
+ghost use Rattle.std.specs.Prelude.{◌≡◌, ◌≤◌, ℕ, IfOk, IfErr, OnOk};
+ghost use Rattle.formula_meaning.specs.Every.{Every};
+ghost use Rattle.formula_meaning.specs.Sizes.{nodes};
+ghost use Rattle.atom_normal.specs.Atoms.{context_of};
+ghost use Rattle.atom_normal.specs.NormalForm.{IsNormal};
+ghost use Rattle.elimination_reference.specs.Measured.{done, pay};
+ghost use Rattle.elimination_reference.specs.Reference.{normal_tree, reference};
+ghost use Rattle.elimination_reference.specs.Theorems.{IsAnswerTo};
+ghost use Rattle.formula_tree.specs.Makers.{Keeps};
+ghost use Rattle.formula_tree.specs.Trees.{tree_of};
+ghost use Rattle.formula_store.specs.Nodes.{IsId, tree};
+ghost use Rattle.nnf_trees.specs.Nnfs.{HasModulus};
+ghost use Rattle.plain_engine.specs.Told.{StopsWith};
+
+use crate::sharing::share;
+use atom_normal::Context;
+use formula_store::{FormulaId, Store, Unfold};
+use formula_tree::Tree;
+use nnf_pnf::nnf;
+use plain_engine::{Measured, eliminate_form};
+use std::alloc::Global;
+
+/// A formula without quantifiers that is equivalent to the shared one, by the reference elimination of its tree: it has no other
+/// free names, normal atoms and at most `limit` nodes. `Nodes` comes exactly where the elimination costs more than `limit` nodes,
+/// at once where the negation normal form has more, and `Overflow` exactly where a number passes 2^127 - 1 before that, else
+/// `Memory`. The formulas of the store stay.
+///
+/// The recursion is as deep as the tree is high.
+pub fn eliminate_shared(
+    alloc: Global,
+    store: &mut Store,
+    context: Context,
+    id: FormulaId,
+    limit: u64,
+) -> Result<FormulaId, Measured>
+    requires id { IsId store.old id }
+    requires normal { Every (IsNormal (context_of context)) (tree store.old id) }
+    ensures made { IfOk result (λ r. IsId store.new r) }
+    ensures answer { IfOk result (λ r. (cost : ℕ) × (reference (context_of context) limit (tree store.old id) ≡ done (tree store.new r, cost))) }
+    ensures exact { IfOk result (λ r. IsAnswerTo (context_of context) (tree store.old id) (tree store.new r)) }
+    ensures small { IfOk result (λ r. nodes (tree store.new r) ≤ limit) }
+    ensures stops { IfErr result (λ e. StopsWith e (reference (context_of context) limit (tree store.old id))) }
+    ensures kept { Keeps (IsId store.old) (tree store.old) (IsId store.new) (tree store.new) }
+{
+    let form = unfolded_form(alloc, store, id, limit)?;
+    let answer = eliminate_form(alloc, &form, context, limit)?;
+    share(alloc, store, answer).map_err(|_| Measured::Memory)
+}
+
+/// The negation normal form of the shared formula, as a tree. `Nodes` comes exactly where it has more than `limit` nodes, and
+/// before it is unfolded, else `Memory`. The formulas of the store stay.
+pub(crate) fn unfolded_form(
+    alloc: Global,
+    store: &mut Store,
+    id: FormulaId,
+    limit: u64,
+) -> Result<Tree, Measured>
+    requires { IsId store.old id }
+    ensures form { IfOk result (λ t. tree_of t ≡ normal_tree (tree store.old id)) }
+    ensures moduli { IfOk result (λ t. Every HasModulus (tree_of t)) }
+    ensures small { OnOk result (nodes (normal_tree (tree store.old id)) ≤ limit) }
+    ensures stops { IfErr result (λ e. StopsWith e (pay limit (nodes (normal_tree (tree store.old id))) 0)) }
+    ensures kept { Keeps (IsId store.old) (tree store.old) (IsId store.new) (tree store.new) }
+{
+    let form = nnf(alloc, store, id, None).map_err(|_| Measured::Memory)?;
+    // Its clause says that the formulas of the store are proper.
+    let _formulas = store.len();
+    match store.unfold(form, limit) {
+        Ok(tree) => Ok(tree),
+        Err(Unfold::Large) => Err(Measured::Nodes),
+        Err(Unfold::Memory) => Err(Measured::Memory),
+    }
+}

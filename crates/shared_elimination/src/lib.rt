@@ -1,0 +1,13 @@
+//! The reference elimination of shared formulas: from ids of a store to ids of the store, and to truths.
+#![tactic(auto)]
+
+mod eliminate;
+mod sharing;
+mod truth;
+
+pub use eliminate::eliminate_shared;
+pub use sharing::share;
+pub use truth::truth_by_elimination;
+
+#[cfg(test)]
+mod tests;

@@ -1,0 +1,46 @@
+-- The laws of simplification for resolved formulas.
+use Rattle.std.proofs.Common.{arith}
+use Rattle.formula_meaning.specs.Point.{Of, move}
+use Rattle.std.proofs.Common.{nat_eq}
+use Rattle.formula_meaning.specs.Atom.{Says, Mentions}
+use Rattle.formula_meaning.proofs.Same.{atom_alike}
+use Rattle.atom_normal.specs.NormalForm.{negated_normal}
+use Rattle.atom_merging.specs.Merging.{IsKept}
+use Rattle.atom_merging.specs.Computed.{IsNormalWithin}
+use Rattle.simplified_formulas.specs.AtomKit.{contains, atom_kit}
+use Rattle.simplified_formulas.specs.Measure.{node_measure, atom_measure}
+use Rattle.simplified_formulas.specs.Trees.{LeavesOpen, simplified_under}
+use Rattle.simplified_formulas.specs.Laws.{SimplifyingKeepsTruth, SimplifiedIsReduced, SimplifyingKeepsShape, SimplifyingBringsNoName, SimplifyingBringsNoNode, SimplifyingBringsNoAtom}
+use Rattle.simplified_formulas.proofs.Nodes.{node_laws, atom_laws, nodes_size}
+use Rattle.simplified_formulas.proofs.Simplified.{simplified_within, simplified_smaller, simplified_reduced, simplified_true}
+use Rattle.simplified_formulas.proofs.Shape.{Keeps, Undecided}
+use Rattle.simplified_formulas.proofs.Wider.{wider}
+use Rattle.simplified_formulas.proofs.AtomLaws.{merges_within, names_told, merges_itself, negation_within, truthful, kept_so, open_so}
+
+pub keeps_truth : SimplifyingKeepsTruth
+keeps_truth c ks f k h = simplified_true (atom_kit c) (IsNormalWithin c) Mentions (merges_within c) (names_told c) Says (move nat_eq) c (Of c) (truthful c) f ks h k
+
+pub keeps_shape : SimplifyingKeepsShape
+keeps_shape c ks f h = (simplified_within (atom_kit c) (IsNormalWithin c) Mentions (merges_within c) (names_told c) f ks h).0
+
+pub brings_no_name : SimplifyingBringsNoName
+brings_no_name c ks f h = (simplified_within (atom_kit c) (IsNormalWithin c) Mentions (merges_within c) (names_told c) f ks h).1
+
+pub is_reduced : SimplifiedIsReduced
+is_reduced c ks f k h =
+    wider (IsNormalWithin c)
+    (Keeps (atom_kit c) (IsNormalWithin c) Mentions (merges_within c) (names_told c) (merges_itself c) atom_alike) (IsKept c)
+    (Undecided (atom_kit c) (IsNormalWithin c) Mentions (merges_within c) (names_told c) (merges_itself c) atom_alike) (LeavesOpen c)
+    negated_normal contains Mentions (negation_within c) (kept_so c) (open_so c)
+    (simplified_under c ks f) ks (keeps_shape c ks f h) k
+    (simplified_reduced (atom_kit c) (IsNormalWithin c) Mentions (merges_within c) (names_told c) (merges_itself c) atom_alike f ks h)
+
+pub brings_no_node : SimplifyingBringsNoNode
+brings_no_node c ks f h =
+    let a = nodes_size (IsNormalWithin c) f h in
+    let b = nodes_size (IsNormalWithin c) (simplified_under c ks f) (keeps_shape c ks f h) in
+    let l = simplified_smaller (atom_kit c) (IsNormalWithin c) Mentions (merges_within c) (names_told c) node_measure 1 (node_laws (atom_kit c) (IsNormalWithin c)) f ks h in
+    omega arith
+
+pub brings_no_atom : SimplifyingBringsNoAtom
+brings_no_atom c ks f h = simplified_smaller (atom_kit c) (IsNormalWithin c) Mentions (merges_within c) (names_told c) atom_measure 0 (atom_laws (atom_kit c) (IsNormalWithin c)) f ks h

@@ -1,0 +1,31 @@
+-- What simplification asks of atoms whose names are numbers, as functions that compute.
+use Rattle.std.specs.Prelude.{ℕ, Bool, Option, List, [], ◌∷◌, map, ◌++◌, if◌then◌else◌}
+use Rattle.formula_meaning.specs.Fold.{Junction, Conjunction, Disjunction}
+use Rattle.atom_merging.specs.Computed.{Merging}
+
+-- the functions of atoms
+pub record Kit (A : Type 0) : Type 0 where
+  pub merge : Junction → A → A → Merging A
+  -- whether the second atom is true, or false, where the first is true
+  pub decides : A → A → Option Bool
+  -- the atom of the opposite truth
+  pub opposite : A → A
+  -- the name stands in the atom
+  pub contains : A → ℕ → Bool
+  pub same : A → A → Bool
+
+module _ {A : Type 0} (contains : A → ℕ → Bool) where
+  -- the atoms that do not contain the name
+  abbrev pub without : ℕ → List A → List A
+  without x [] = []
+  without x (k ∷ ks) = if contains k x then without x ks else k ∷ without x ks
+
+module _ {A : Type 0} (opposite : A → A) where
+  -- What a member tells those beside it: in an and that it is true. An or needs a look at the others only where it is false.
+  abbrev pub tells : Junction → A → A
+  tells Conjunction a = a
+  tells Disjunction a = opposite a
+
+  -- the atoms known beside these members of a list
+  abbrev pub beside : Junction → List A → List A → List A
+  beside j us ks = map (tells j) us ++ ks

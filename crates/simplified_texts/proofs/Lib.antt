@@ -1,0 +1,4 @@
+pub mod Digits
+pub mod Measured
+pub mod Widths
+pub mod Longer
