@@ -1,15 +1,12 @@
 -- The reference elimination of a formula is that of its negation normal form.
-use Rattle.std.proofs.Common.{◌≡◌, ℕ, ◌+◌, ◌<◌, nat_le, ap, ◌∙◌, true, [], arith}
-use Rattle.std.proofs.lemmas.Bool.{lt-leb}
-use Rattle.std.specs.Prelude.{if◌then◌else◌}
+use Rattle.std.proofs.Common.{◌≡◌, ℕ, ap, ◌∙◌, true, []}
 use Rattle.formula_meaning.specs.Context.{Context}
 use Rattle.formula_meaning.specs.Point.{Point}
 use Rattle.formula_meaning.specs.Sizes.{nodes}
 use Rattle.formula_meaning.specs.Tree.{Tree}
 use Rattle.formula_meaning.proofs.NormalAgain.{normal_form_again}
 use Rattle.atom_normal.specs.NormalForm.{negated_normal}
-use Rattle.elimination_reference.specs.Measured.{Outcome, stopped, done, then_of, pay, within}
-use Rattle.elimination_reference.specs.Measured as stop
+use Rattle.elimination_reference.specs.Measured.{Outcome, done, then_of, pay, within}
 use Rattle.elimination_reference.specs.PutIn.{tree_put, tree_put_within}
 use Rattle.elimination_reference.specs.Sample.{reference_at}
 use Rattle.elimination_reference.specs.Reference.{branches, together, normal_tree, reference}
@@ -32,7 +29,3 @@ module _ (c : Context) (limit : ℕ) where
 
   pub reference_at_along : (p : Point ℕ) (f g : Tree) → g ≡ normal_tree f → reference_at c limit p g ≡ reference_at c limit p f
   reference_at_along p f g e = ap (from_form_at p) (ap normal_tree e ∙ normal_tree_again f)
-
--- more nodes than the limit stop the count
-pub more_stops : (limit n : ℕ) → limit < n → pay limit n 0 ≡ stopped stop.Nodes
-more_stops limit n h = ap (λ b. if b then done (tt, 0 + n) else stopped stop.Nodes) (lt-leb (0 + n) limit (omega arith))

@@ -1,3 +1,3 @@
 pub mod Moduli
-pub mod SharedShapes
+pub mod StillThere
 pub mod FormAgain

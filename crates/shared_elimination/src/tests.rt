@@ -1,5 +1,7 @@
 ghost use Rattle.std.specs.Prelude.{IfOk};
 ghost use Rattle.formula_meaning.specs.Every.{Every};
+ghost use Rattle.formula_meaning.specs.Point.{Of};
+ghost use Rattle.linear_forms.specs.Values.{point_of};
 ghost use Rattle.atom_normal.specs.Atoms.{context_of};
 ghost use Rattle.atom_normal.specs.NormalForm.{IsNormal};
 ghost use Rattle.formula_tree.specs.Makers.{Keeps};
@@ -9,7 +11,7 @@ use super::*;
 use atom_normal::{Atom, Context, Normal, Rel, normal};
 use formula_store::{FormulaId, Store};
 use formula_tree::{Ids, Maker, Shape};
-use linear_forms::{Linear, VarId};
+use linear_forms::{Linear, Values, VarId};
 use plain_engine::Measured;
 use std::alloc::Global;
 use std::test::Fail;
@@ -87,6 +89,37 @@ fn answers_stand_in_the_store(rt: HostRuntime) -> Result<(), Fail> {
     Ok(())
 }
 
+// The numbers for a and b.
+fn point(alloc: Global, context: Context, a: i128, b: i128) -> Result<Values, Fail>
+    ensures { IfOk result (λ v. Of (context_of context) (point_of v)) }
+{
+    let mut values = Values::new(alloc, 1);
+    values.put(A, a)?;
+    values.put(B, b)?;
+    Ok(values)
+}
+
+// Some x lies between a and b.
+#[test]
+fn truths_at_points(rt: HostRuntime) -> Result<(), Fail> {
+    let alloc = rt.alloc();
+    for (context, a, b, wanted) in [
+        (Context::Fields, 0, 1, true),
+        (Context::Fields, 1, 1, false),
+        (Context::Integers, 0, 1, false),
+        (Context::Integers, 0, 2, true),
+    ] {
+        let mut store = Store::new(alloc);
+        let above = (Rel::Greater, (1, -1, 0, 0));
+        let below = (Rel::Less, (1, 0, -1, 0));
+        let f = sentence(alloc, &mut store, context, above, below)?;
+        let at = point(alloc, context, a, b)?;
+        let truth = truth_by_elimination(alloc, &mut store, context, f, &at, 1000)?;
+        assert_eq!(rt; truth, wanted);
+    }
+    Ok(())
+}
+
 // The least limit of ex(x, x = a and x < b) is 14.
 #[test]
 fn limits_are_exact(rt: HostRuntime) -> Result<(), Fail> {
@@ -103,12 +136,7 @@ fn limits_are_exact(rt: HostRuntime) -> Result<(), Fail> {
 }
 
 // f equiv (f impl name > 0).
-fn next(
-    alloc: Global,
-    store: &mut Store,
-    f: FormulaId,
-    name: VarId,
-) -> Result<FormulaId, Fail>
+fn next(alloc: Global, store: &mut Store, f: FormulaId, name: VarId) -> Result<FormulaId, Fail>
     requires id { IsId store.old f }
     requires normal { Every (IsNormal (context_of Context.Fields)) (tree store.old f) }
     ensures made { IfOk result (IsId store.new) }

@@ -1,11 +1,10 @@
-use Rattle.std.proofs.Common.{rules, ◌≡◌, ◌≤◌, ◌∙◌, sym, ap, subst}
+use Rattle.std.proofs.Common.{rules, ◌≡◌, ◌∙◌, sym, ap, subst}
 use Rattle.std.specs.Prelude.{IfOk}
 use Rattle.std.specs.declared.result.Result.TheVariants.{Err}
 use Rattle.formula_meaning.specs.Every.{Every}
 use Rattle.atom_normal.specs.Atoms.{context_of}
 use Rattle.atom_normal.specs.NormalForm.{IsNormal}
 use Rattle.elimination_reference.specs.Measured.{done}
-use Rattle.elimination_reference.specs.Reference.{normal_tree, reference}
 use Rattle.elimination_reference.specs.Theorems.{IsAnswerTo}
 use Rattle.elimination_reference.proofs.Sound.{normal_normal_tree}
 use Rattle.elimination_reference.proofs.Turning.{from_normal}
@@ -16,7 +15,6 @@ use Rattle.nnf_pnf.proofs.Kept.{keeps_then}
 use Rattle.nnf_trees.specs.Nnfs.{nnf_of}
 use Rattle.plain_engine.proofs.Arms.{if_ok_also}
 use Rattle.plain_engine.proofs.Seen.{stops_along}
-use Rattle.plain_engine.specs.Told.{StopsWith}
 use Rattle.shared_elimination.proofs.FormAgain.{reference_along}
 use Rattle.shared_elimination.proofs.eliminate.eliminate_shared.Goals as goal
 

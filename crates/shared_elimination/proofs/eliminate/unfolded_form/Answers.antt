@@ -1,4 +1,4 @@
-use Rattle.std.proofs.Common.{rules, ◌≡◌, sym, subst}
+use Rattle.std.proofs.Common.{rules, sym, subst}
 use Rattle.formula_meaning.specs.Every.{Every}
 use Rattle.formula_store.specs.Nodes.{IsId}
 use Rattle.nnf_trees.specs.Nnfs.{HasModulus}

@@ -7,10 +7,10 @@ use Rattle.formula_store.specs.Nodes.{IsId, tree}
 use Rattle.formula_store.proofs.Marked.{all_joined}
 use Rattle.nnf_pnf.proofs.Kept.{keeps_then}
 use Rattle.nnf_trees.specs.declared.nnf.Nnf.{Nnf}
-use Rattle.nnf_trees.specs.Nnfs.{nnf_of, nnfs_of, AreProper, IsProper}
+use Rattle.nnf_trees.specs.Nnfs.{nnf_of, nnfs_of, AreProper}
 use Rattle.nnf_trees.proofs.Pieces.{empty}
 use Rattle.nnf_trees.proofs.FormLaws.{one_tree, all_trees}
-use Rattle.shared_elimination.proofs.SharedShapes.{still_ids, still_trees}
+use Rattle.shared_elimination.proofs.StillThere.{still_ids, still_trees}
 use Rattle.shared_elimination.proofs.sharing.+shared.Goals as goal
 
 pub share-returns-in_ok-id-in-Quantified-clause-kept : goal.share-returns-in_ok-id-in-Quantified-clause-kept

@@ -15,7 +15,8 @@ returns-clause-normal c =
     let t = tree c.args.store.now in
     let same : tree_over t c.match-branch-2.shape ≡ tree_of c.in_ok-normal.field-0
     = elim c.match-branch-2.branch [
-    in-True w ↦ ap (tree_over t) w.shape-is ∙ sym (ap tree_of w.in-True.is)
-    | in-False w ↦ ap (tree_over t) w.shape-is ∙ sym (ap tree_of w.in-False.is)
-    | in-One w ↦ ap (tree_over t) w.shape-is ∙ sym (ap tree_of w.in-One.is) ] in
+      | in-True w ↦ ap (tree_over t) w.shape-is ∙ sym (ap tree_of w.in-True.is)
+      | in-False w ↦ ap (tree_over t) w.shape-is ∙ sym (ap tree_of w.in-False.is)
+      | in-One w ↦ ap (tree_over t) w.shape-is ∙ sym (ap tree_of w.in-One.is)
+    ] in
     subst (Every (IsNormal o)) (sym (c.in_ok-make.ensures.made.same ∙ same ∙ c.in_ok-normal.ensures.normal)) (normal_normal o (meant.Compare (relation_of c.args.relation) c.args.form) tt)
