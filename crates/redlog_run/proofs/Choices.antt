@@ -91,7 +91,7 @@ after s (Say c) = s
 after s (Assign x c) = s
 
 module _ (s : State) (limit : ℕ) (printed : Bool) where
-  finishing : (a : ActionTree) (next : State) → IsWithoutFormula a → Answers s printed a line.Finished next → a ≡ Finish
+  finishing : (a : ActionTree) (next : State) → IsWithoutFormula a → Answers s limit printed a line.Finished next → a ≡ Finish
   finishing Empty next w r = let e = r.0 in absurd (cc)
   finishing Ignored next w r = let e = r.0 in absurd (cc)
   finishing Finish next w r = refl
@@ -99,7 +99,7 @@ module _ (s : State) (limit : ℕ) (printed : Bool) where
   finishing (Say c) next w r = absurd w
   finishing (Assign x c) next w r = absurd w
 
-  silent : (a : ActionTree) (answer : Line) (next : State) → IsWithoutFormula a → answer ≢ line.Finished → Answers s printed a answer next → (false ≡ ends a) × (lines_of answer ≡ choice_line printed a)
+  silent : (a : ActionTree) (answer : Line) (next : State) → IsWithoutFormula a → answer ≢ line.Finished → Answers s limit printed a answer next → (false ≡ ends a) × (lines_of answer ≡ choice_line printed a)
   silent Empty answer next w other r = (refl, ap lines_of r.0)
   silent Ignored answer next w other r = (refl, ap lines_of r.0)
   silent Finish answer next w other r = absurd (other r.0)
@@ -123,18 +123,18 @@ module _ (s : State) (limit : ℕ) (piece : List ℕ) (offset : ℕ) (t : Statem
   -- each answer to the piece is this one
   choice : {ending : Bool} {lines : List ℕ} {refusal : Bool} {next : State} → AnswersPiece s limit piece offset ending lines refusal next → IsChoice t ending lines refusal
   choice {next = next} (finished r) =
-      let a = subst (λ (u : StatementTree). Answers s u.printed u.action line.Finished next) (same r.statement r.spelled) r.answered in
+      let a = subst (λ (u : StatementTree). Answers s limit u.printed u.action line.Finished next) (same r.statement r.spelled) r.answered in
       let finish : t.action ≡ Finish = finishing s limit t.printed t.action next w a in
       record { ending_is = sym (ap ends finish); lines_are = sym (ap (choice_line t.printed) finish); unrefused = refl }
   choice {next = next} (answered answer other r) =
-      let a = subst (λ (u : StatementTree). Answers s u.printed u.action answer next) (same r.statement r.spelled) r.answered in
+      let a = subst (λ (u : StatementTree). Answers s limit u.printed u.action answer next) (same r.statement r.spelled) r.answered in
       let q = silent s limit t.printed t.action answer next w other a in
       record { ending_is = q.0; lines_are = q.1; unrefused = refl }
   choice {next = next} (refused e other r) = absurd (never s limit piece t h (built t.action w) (λ d more. no_refusal s limit t.printed t.action d w) e next other r)
 
 -- and there is one
 module _ (s : State) (limit : ℕ) (piece : List ℕ) (offset : ℕ) where
-  theory_chosen : (printed : Bool) (c : Context) (a : ActionTree) → Spells piece (record { action = a; printed = printed }) → IsBuiltAction a → ((answer : Line) → IsLine printed (context_text c) answer → Answers s printed a answer (chosen s c))
+  theory_chosen : (printed : Bool) (c : Context) (a : ActionTree) → Spells piece (record { action = a; printed = printed }) → IsBuiltAction a → ((answer : Line) → IsLine printed (context_text c) answer → Answers s limit printed a answer (chosen s c))
       → AnswersPiece s limit piece offset false (if printed then context_text c ++ newline else []) false (chosen s c)
   theory_chosen true c a h b answers =
       let text = line.Printed (text_of (context_text c) (context_small c)) in
@@ -142,7 +142,7 @@ module _ (s : State) (limit : ℕ) (piece : List ℕ) (offset : ℕ) where
   theory_chosen false c a h b answers =
       answered line.Nothing (λ e. absurd (cc)) (record { statement = record { action = a; printed = false }; spelled = h; built = b; answered = answers line.Nothing refl })
 
-  nothing_said : (printed : Bool) (a : ActionTree) → Spells piece (record { action = a; printed = printed }) → IsBuiltAction a → Answers s printed a line.Nothing s → AnswersPiece s limit piece offset false [] false s
+  nothing_said : (printed : Bool) (a : ActionTree) → Spells piece (record { action = a; printed = printed }) → IsBuiltAction a → Answers s limit printed a line.Nothing s → AnswersPiece s limit piece offset false [] false s
   nothing_said printed a h b answers = answered line.Nothing (λ e. absurd (cc)) (record { statement = record { action = a; printed = printed }; spelled = h; built = b; answered = answers })
 
   made : (printed : Bool) (a : ActionTree) → Spells piece (record { action = a; printed = printed }) → IsWithoutFormula a → AnswersPiece s limit piece offset (ends a) (choice_line printed a) false (after s a)
