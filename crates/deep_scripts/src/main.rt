@@ -43,55 +43,56 @@ impl Nest {
     }
 }
 
-/// Statements of one session: what stands first, what is written so often, and what stands last.
-const STATEMENTS: [(&str, &str, &str, usize, &str); 9] = [
-    ("511 times not printed", "", "not ", 511, "x>0;"),
-    ("512 times not printed", "", "not ", 512, "x>0;"),
-    ("513 times not printed", "", "not ", 513, "x>0;"),
-    (
-        "100,000 equal members bound",
-        "f := x>0",
-        " and x>0",
-        99_999,
-        "$",
-    ),
-    ("their truth", "rlholds(f,{x=1}", "", 0, ");"),
-    (
-        "255 times equiv bound",
-        "g := rlnnf(x>0",
-        " equiv x>0",
-        255,
-        ")$",
-    ),
-    ("its text", "g", "", 0, ";"),
-    (
-        "511 times equiv bound",
-        "h := rlnnf(x>0",
-        " equiv x>0",
-        511,
-        ")$",
-    ),
-    ("its truth", "rlholds(h,{x=1}", "", 0, ");"),
-];
+/// A statement in parts: what stands first, what is written so often, and what stands last.
+#[derive(Clone, Copy)]
+struct Chain {
+    first: &'static str,
+    repeated: &'static str,
+    last: &'static str,
+}
+
+impl Chain {
+    /// A statement of these parts.
+    const fn of(first: &'static str, repeated: &'static str, last: &'static str) -> Chain {
+        Chain {
+            first,
+            repeated,
+            last,
+        }
+    }
+}
 
 fn main(rt: HostRuntime) -> io::Result<()> {
-    levels(&rt)?;
+    brackets(&rt)?;
+    chains(&rt)?;
     lengths(&rt)?;
     session(&rt)
 }
 
-/// The deepest formulas of each kind that are read, and those a level deeper.
-fn levels(rt: &HostRuntime) -> io::Result<()> {
-    twice(rt, "brackets", Nest::of("", "(", "x=1", ")", ""))?;
-    twice(rt, "brackets of a term", Nest::of("", "(", "x", ")", "=1"))?;
+/// The deepest brackets and negations that are read, and those a level deeper.
+fn brackets(rt: &HostRuntime) -> io::Result<()> {
+    let formulas = Nest::of("", "(", "x=1", ")", "");
+    let terms = Nest::of("", "(", "x", ")", "=1");
     let lists = Nest::of("", "(true or false and ", "x=1", ")", "");
+    let negations = Nest::of("", "not ", "x=1", "", "");
+    twice(rt, "brackets", formulas)?;
+    twice(rt, "brackets of a term", terms)?;
     formula(rt, "511 lists", lists, 511)?;
-    twice(rt, "times not", Nest::of("", "not ", "x=1", "", ""))?;
-    twice(rt, "times impl", Nest::of("", "x=1 impl ", "x=1", "", ""))?;
-    twice(rt, "times repl", Nest::of("", "x=1 repl ", "x=1", "", ""))?;
-    twice(rt, "times equiv", Nest::of("", "x=1 equiv ", "x=1", "", ""))?;
-    twice(rt, "times /", Nest::of("", "x/", "x", "", "=1"))?;
-    twice(rt, "times ex", Nest::of("", "ex(x,", "x=1", ")", ""))
+    twice(rt, "times not", negations)
+}
+
+/// The deepest formulas with arrows, quotients and quantifiers that are read, and those a level deeper.
+fn chains(rt: &HostRuntime) -> io::Result<()> {
+    let implications = Nest::of("", "x=1 impl ", "x=1", "", "");
+    let replications = Nest::of("", "x=1 repl ", "x=1", "", "");
+    let equivalences = Nest::of("", "x=1 equiv ", "x=1", "", "");
+    let quotients = Nest::of("", "x/", "x", "", "=1");
+    let quantifiers = Nest::of("", "ex(x,", "x=1", ")", "");
+    twice(rt, "times impl", implications)?;
+    twice(rt, "times repl", replications)?;
+    twice(rt, "times equiv", equivalences)?;
+    twice(rt, "times /", quotients)?;
+    twice(rt, "times ex", quantifiers)
 }
 
 /// A formula with 511 levels, and with 512.
@@ -131,17 +132,56 @@ fn formula(rt: &HostRuntime, title: &str, nest: Nest, count: usize) -> io::Resul
     Ok(())
 }
 
-/// The statements of one session, and two long bindings after them.
+/// The statements of one session.
 fn session(rt: &HostRuntime) -> io::Result<()> {
-    let alloc = rt.alloc();
-    let mut session = Session::new(alloc, LIMITS);
-    for (title, first, repeated, count, last) in STATEMENTS {
-        let statement = chain(alloc, first, repeated, count, last)?;
-        let answer = answer(alloc, &mut session, statement.as_bytes())?;
-        println!(rt; "{title}: {answer}")?;
-    }
+    let mut session = Session::new(rt.alloc(), LIMITS);
+    printed(rt, &mut session)?;
+    long(rt, &mut session)?;
+    bound(rt, &mut session)?;
     binding(rt, &mut session, 99_999)?;
     binding(rt, &mut session, 100_000)
+}
+
+/// Deep formulas that are printed.
+fn printed(rt: &HostRuntime, session: &mut Session) -> io::Result<()> {
+    let not = Chain::of("", "not ", "x>0;");
+    tell(rt, session, "511 times not printed", not, 511)?;
+    tell(rt, session, "512 times not printed", not, 512)?;
+    tell(rt, session, "513 times not printed", not, 513)
+}
+
+/// A long formula that is bound, and its truth.
+fn long(rt: &HostRuntime, session: &mut Session) -> io::Result<()> {
+    let members = Chain::of("f := x>0", " and x>0", "$");
+    let truth = Chain::of("rlholds(f,{x=1}", "", ");");
+    tell(rt, session, "100,000 equal members bound", members, 99_999)?;
+    tell(rt, session, "their truth", truth, 0)
+}
+
+/// Deep formulas that are bound, and the text of one and the truth of another.
+fn bound(rt: &HostRuntime, session: &mut Session) -> io::Result<()> {
+    let low = Chain::of("g := rlnnf(x>0", " equiv x>0", ")$");
+    let text = Chain::of("g", "", ";");
+    let high = Chain::of("h := rlnnf(x>0", " equiv x>0", ")$");
+    let truth = Chain::of("rlholds(h,{x=1}", "", ");");
+    tell(rt, session, "255 times equiv bound", low, 255)?;
+    tell(rt, session, "its text", text, 0)?;
+    tell(rt, session, "511 times equiv bound", high, 511)?;
+    tell(rt, session, "its truth", truth, 0)
+}
+
+/// The answer to a statement of these parts.
+fn tell(
+    rt: &HostRuntime,
+    session: &mut Session,
+    title: &str,
+    chain: Chain,
+    count: usize,
+) -> io::Result<()> {
+    let statement = chained(rt.alloc(), chain, count)?;
+    let answer = answer(rt.alloc(), session, statement.as_bytes())?;
+    println!(rt; "{title}: {answer}")?;
+    Ok(())
 }
 
 /// The answer where a disjunction of so many different formulas is bound.
@@ -166,15 +206,10 @@ fn statement(alloc: Global, nest: Nest, count: usize) -> Result<String, AllocErr
     format!(in alloc; "rlholds({first}{openings}{inside}{closings}{last},{{x=1}});")
 }
 
-/// A text with a part that is repeated.
-fn chain(
-    alloc: Global,
-    first: &str,
-    repeated: &str,
-    count: usize,
-    last: &str,
-) -> Result<String, AllocError> {
-    let middle = repeated.repeat(alloc, count)?;
+/// The statement of these parts.
+fn chained(alloc: Global, chain: Chain, count: usize) -> Result<String, AllocError> {
+    let middle = chain.repeated.repeat(alloc, count)?;
+    let Chain { first, last, .. } = chain;
     format!(in alloc; "{first}{middle}{last}")
 }
 
