@@ -1,4 +1,4 @@
-ghost use Rattle.std.specs.Prelude.{◌≡◌, ◌≢◌, ◌⊎◌, ◌≤◌, ℕ, List, [], length, Some, Ok, true, IfErr};
+ghost use Rattle.std.specs.Prelude.{◌≡◌, ◌≢◌, ◌⊎◌, ◌≤◌, ℕ, List, [], length, Some, true, IfOk, IfErr};
 ghost use Rattle.std.specs.IoError.{error_kind};
 ghost use Rattle.std.specs.Process.{exit_status};
 ghost use Rattle.qe_io.specs.Streams.{Rose};
@@ -51,6 +51,14 @@ pub fn finish<S: Source, K: Sink>(
     ensures outcome { EndsWith result (Outcome (S.left source.old) (S.left source.new) (K.wrote sink.old) (K.wrote sink.new)) }
     ensures faults { EndsWith result (Faults (S.faults source.old) (S.faults source.new) (K.faults sink.old) (K.faults sink.new)) }
     ensures words { IfErr words (λ e. exit_status result ≡ number_of (words_status e)) }
+
+    // What `run` says of usage and of a script without a cause of a refusal.
+    ensures usage { IfOk words (λ ws. exit_status result ≡ number_of Status.Usage → ws.items ≢ []) }
+    ensures only_usage { IfOk words (λ ws. ws.items ≢ [] → exit_status result ≡ number_of Status.Usage) }
+    ensures complete { IfOk words (λ ws. ws.items ≡ [] → (script : List ℕ) → S.left source.old ≡ Some script → length script ≤ script_limit
+        → (¬ ((lines : List ℕ) × RunOf script lines true))
+        → (¬ (Rose (S.faults source.old) (S.faults source.new))) → (¬ (Rose (K.faults sink.old) (K.faults sink.new)))
+        → (exit_status result ≡ number_of Status.Done) ⊎ (exit_status result ≡ number_of Status.Memory)) }
 {
     let status = answer_words(alloc, words, source, sink);
     exit_code(status)
@@ -73,6 +81,12 @@ fn answer_words<S: Source, K: Sink>(
     ensures outcome { Outcome (S.left source.old) (S.left source.new) (K.wrote sink.old) (K.wrote sink.new) result }
     ensures faults { Faults (S.faults source.old) (S.faults source.new) (K.faults sink.old) (K.faults sink.new) result }
     ensures words { IfErr words (λ e. result ≡ words_status e) }
+    ensures usage { IfOk words (λ ws. result ≡ Status.Usage → ws.items ≢ []) }
+    ensures only_usage { IfOk words (λ ws. ws.items ≢ [] → result ≡ Status.Usage) }
+    ensures complete { IfOk words (λ ws. ws.items ≡ [] → (script : List ℕ) → S.left source.old ≡ Some script → length script ≤ script_limit
+        → (¬ ((lines : List ℕ) × RunOf script lines true))
+        → (¬ (Rose (S.faults source.old) (S.faults source.new))) → (¬ (Rose (K.faults sink.old) (K.faults sink.new)))
+        → (result ≡ Status.Done) ⊎ (result ≡ Status.Memory)) }
 {
     match words {
         Ok(words) => run(alloc, &words, source, sink),
