@@ -256,12 +256,15 @@ fn eliminations(rt: HostRuntime) -> Result<(), Fail> {
 /// A script as users write it: bounds of a sum over both theories, with a comment and a set switch.
 #[test]
 fn an_ordinary_script(rt: HostRuntime) -> Result<(), Fail> {
-    let script = b"load_package redlog;\noff nat;   % no two-dimensional output\nf := ex({x,y},x>=0 and y>=0 and x+y<=a and x-y<=2 and y-x<=2\n  and x+2*y>=1 and 2*x+y>=1 and x<=10 and y<=10 and x+y>=1)$\nrlholds(f,{a=1});\nrlholds(f,{a=1/2});\nrlset pasf$\nf := ex({x,y},x>=0 and y>=0 and x+y<=a and x-y<=2 and y-x<=2\n  and x+2*y>=1 and 2*x+y>=1 and x<=10 and y<=10 and x+y>=1)$\nrlqe all(a,f equiv a>=1);\nrlholds(f,{a=1});\nrlholds(f,{a=0});\nend;\nthese bytes are never read as statements #\n".as_slice();
+    let script =
+        b"load_package redlog;\noff nat;   % no two-dimensional output\nf := ex({x,y},x>=0 and y>=0 and x+y<=a and x-y<=2 and y-x<=2\n  and x+2*y>=1 and 2*x+y>=1 and x<=10 and y<=10 and x+y>=1)$\nrlholds(f,{a=1});\nrlholds(f,{a=1/2});\nrlset pasf$\nf := ex({x,y},x>=0 and y>=0 and x+y<=a and x-y<=2 and y-x<=2\n  and x+2*y>=1 and 2*x+y>=1 and x<=10 and y<=10 and x+y>=1)$\nrlqe all(a,f equiv a>=1);\nrlholds(f,{a=1});\nrlholds(f,{a=0});\nend;\nthese bytes are never read as statements #\n".as_slice();
     assert_eq!(rt;
         answer(rt.alloc(), script, 100)?,
         (
             Status::Done,
-            "true\nfalse\ntrue\ntrue\nfalse\n".as_bytes().to_vec(rt.alloc())?
+            "true\nfalse\ntrue\ntrue\nfalse\n"
+                .as_bytes()
+                .to_vec(rt.alloc())?
         )
     );
     Ok(())
