@@ -1,12 +1,12 @@
 -- The functions that compute merging and deciding are right.
-use Rattle.std.proofs.Common.{◌≡◌, ◌⊎◌, inl, inr, ◌<◌, ◌≤◌, ◌^◌, ℕ, Bool, true, false, not, ◌&&◌, sym, subst, ◌∙◌, ap, refl, arith}
+use Rattle.std.proofs.Common.{◌≡◌, ◌⊎◌, inl, inr, ◌≤◌, ◌^◌, ℕ, Bool, true, false, not, ◌&&◌, sym, subst, ◌∙◌, ap, refl, arith}
 use Rattle.std.proofs.Math.IntN.{ℤ, pos, ◌+ℤ◌, ◌-ℤ◌, ◌*ℤ◌}
-use Rattle.std.specs.Prelude.{◌<ℤ◌, ◌≤ℤ◌, unsigned_abs, nat_eq, nat_lt, if◌then◌else◌, Option, Some, None, List}
+use Rattle.std.specs.Prelude.{◌<ℤ◌, ◌≤ℤ◌, unsigned_abs, nat_eq, nat_lt, if◌then◌else◌, None, List}
 use Rattle.std.specs.declared.cmp.Ordering.{Ordering}
 use Rattle.std.specs.declared.cmp.Ordering.TheVariants.{Less, Equal, Greater}
 use Rattle.std.specs.Ordering.{int_cmp, int_eq}
 use Rattle.std.proofs.lemmas.Int.{ints}
-use Rattle.std.proofs.lemmas.Bool.{ltb-true, ltb-false}
+use Rattle.std.proofs.lemmas.Bool.{ltb-true, ltb-false, lt-ltb, le-ltb}
 use Rattle.std.proofs.Common.{eq-eqb, eqb-true}
 use Rattle.exact_numbers.specs.Limit.{InLimit, PastLimit}
 use Rattle.exact_numbers.proofs.Order.{by_compare}
@@ -15,24 +15,30 @@ use Rattle.std.proofs.lemmas.Bool.Decides.{Decides-int_eq}
 use Rattle.formula_meaning.specs.Context.{Context, Fields, Integers}
 use Rattle.formula_meaning.specs.Form.{Form, Term}
 use Rattle.formula_meaning.specs.Atom.{Relation, Equals, Differs, Below, AtMost, Above, AtLeast, Atom, Compare, Congruent, opposite_relation, form_of}
-use Rattle.formula_meaning.specs.Same.{same_terms, same_form}
+use Rattle.formula_meaning.specs.Same.{same_terms}
 use Rattle.formula_meaning.specs.Fold.{Junction, Conjunction, Disjunction}
-use Rattle.formula_meaning.proofs.Same.{terms_same, form_alike, and_right, and_left}
+use Rattle.formula_meaning.proofs.Same.{terms_same, form_alike, and_right, and_left, both_true}
 use Rattle.atom_normal.specs.NormalForm.{IsNormal, IsNormalCongruence}
 use Rattle.atom_merging.specs.declared.comparison.Position.{Position}
 use Rattle.atom_merging.specs.declared.comparison.Position.TheVariants as lies
 use Rattle.atom_merging.specs.declared.congruence.Class.{Class}
 use Rattle.atom_merging.specs.declared.congruence.Class.TheVariants as class_is
 use Rattle.atom_merging.specs.Positions.{IsPosition, IsContentIn, IsBelow, IsNextBelow}
-use Rattle.atom_merging.specs.Merging.{variable_part, SamePart, Settles, MergesInto, IsKept, Implies, Excludes}
+use Rattle.atom_merging.specs.Merging.{variable_part, SamePart, MergesInto, IsKept}
 use Rattle.atom_merging.specs.Merged.{IsDecision}
 use Rattle.atom_merging.specs.Verdicts as verdicts
-use Rattle.atom_merging.specs.Verdicts.{Verdict, verdict, both, normal_comparison}
+use Rattle.atom_merging.specs.Verdicts.{Verdict, verdict, both, normal_comparison, IsDecisive}
+use Rattle.atom_merging.specs.declared.junction.Junction as code
+use Rattle.atom_merging.specs.declared.junction.Junction.TheVariants as code_is
+use Rattle.atom_merging.specs.declared.answers.Merged as answers
+use Rattle.atom_merging.specs.declared.answers.Merged.TheVariants as answer_is
+use Rattle.atom_merging.specs.Junctions.{junction_of, absorbing, is_and}
+use Rattle.atom_merging.specs.Answered.{IsOne, IsOneOrKept}
 use Rattle.atom_merging.specs.Classes.{class, both_classes}
-use Rattle.atom_merging.specs.Computed.{Merging, Settled, Into, Kept, is_next, placed, position, into_within, of_verdict, is_settled, is_told, of_class, is_settled_class, answer, is_same_part, merged_part, merged, decided_part, decided_by, IsRight, IsNormalWithin}
+use Rattle.atom_merging.specs.Computed.{Merging, Settled, Into, Kept, is_next, placed, position, into_within, of_verdict, is_settled, is_told, of_class, is_settled_class, answer, is_same_part, merged_part, merged, decided_part, decided_by, IsRight, IsNormalWithin, merging_of}
 use Rattle.atom_merging.proofs.Sets.{flip}
 use Rattle.atom_merging.proofs.JoinedComparisons.{content, normal_content, normal_relation, relation_toward, judged_verdict, judged_both, settles, stays_kept, merges_at, kept_at, implies, not_implies, not_excludes, apart_kept, apart_undecided}
-use Rattle.atom_merging.proofs.JoinedCongruences.{judged_class, judged_classes, classes_settle, classes_kept, merges_first, merges_second, merges_third, class_implies, not_class_implies, not_class_excludes, third_atom}
+use Rattle.atom_merging.proofs.JoinedCongruences.{modulus_back, judged_class, judged_classes, classes_settle, classes_kept, merges_first, merges_second, merges_third, class_implies, not_class_implies, not_class_excludes}
 
 -- ---- how two thresholds lie
 
@@ -278,3 +284,125 @@ merged_comes c j a b e x y h = split (is_same_part a b) refl h
     split : (t : Bool) → is_same_part a b ≡ t → (if t then merged_part c j a b else Kept) ≡ Into e → ComesOf a e ⊎ ComesOf b e
     split true q k = part_comes c j a b e x y (part_told a b q) k
     split false q k = absurd (cc (k))
+
+-- ---- the program's answers
+
+same_of : (ts us : List Term) → ts ≡ us → same_terms ts us ≡ true
+same_of ts us e =
+    let f : Form = record { terms = ts; constant = pos 0 } in
+    ap (same_terms ts) (sym e) ∙ and_right (int_eq (pos 0) (pos 0)) (same_terms ts ts) (form_alike f)
+
+merged_same : (c : Context) (j : Junction) (a b : Atom) → is_same_part a b ≡ true → merged_part c j a b ≡ merged c j a b
+merged_same c j a b e = ap (λ (t : Bool). if t then merged_part c j a b else Kept) (sym e)
+
+merged_apart : (c : Context) (j : Junction) (a b : Atom) → is_same_part a b ≡ false → Kept ≡ merged c j a b
+merged_apart c j a b e = ap (λ (t : Bool). if t then merged_part c j a b else Kept) (sym e)
+
+decided_same : (c : Context) (a b : Atom) → is_same_part a b ≡ true → decided_part c a b ≡ decided_by c a b
+decided_same c a b e = ap (λ (t : Bool). if t then decided_part c a b else None) (sym e)
+
+pub decided_apart : (c : Context) (a b : Atom) → is_same_part a b ≡ false → None ≡ decided_by c a b
+decided_apart c a b e = ap (λ (t : Bool). if t then decided_part c a b else None) (sym e)
+
+apart_told : (ts us : List Term) → ¬ (ts ≡ us) → same_terms ts us ≡ false
+apart_told ts us n = split (same_terms ts us) refl
+  where
+    split : (t : Bool) → same_terms ts us ≡ t → t ≡ false
+    split true e = absurd (n (terms_same ts us e))
+    split false e = refl
+
+pub compared_apart : (c : Context) (j : Junction) (r : Relation) (f : Form) (s : Relation) (g : Form) → ¬ (variable_part f.terms ≡ variable_part g.terms) → Kept ≡ merged c j (Compare r f) (Compare s g)
+compared_apart c j r f s g n = merged_apart c j (Compare r f) (Compare s g) (apart_told (variable_part f.terms) (variable_part g.terms) n)
+
+pub compared_open : (c : Context) (r : Relation) (f : Form) (s : Relation) (g : Form) → ¬ (variable_part f.terms ≡ variable_part g.terms) → None ≡ decided_by c (Compare r f) (Compare s g)
+compared_open c r f s g n = decided_apart c (Compare r f) (Compare s g) (apart_told (variable_part f.terms) (variable_part g.terms) n)
+
+pub compared_so : (c : Context) (j : Junction) (r : Relation) (f : Form) (s : Relation) (g : Form) → variable_part f.terms ≡ variable_part g.terms → (p : Position) → p ≡ position c f g → (v : Verdict) → v ≡ verdict j p r s
+    → (m : Merging Atom) → m ≡ of_verdict c f g v → m ≡ merged c j (Compare r f) (Compare s g)
+compared_so c j r f s g h p q v e m k =
+    k ∙ ap (of_verdict c f g) (e ∙ ap (λ (x : Position). verdict j x r s) q) ∙ merged_same c j (Compare r f) (Compare s g) (same_of (variable_part f.terms) (variable_part g.terms) h)
+
+pub decided_so : (c : Context) (r : Relation) (f : Form) (s : Relation) (g : Form) → variable_part f.terms ≡ variable_part g.terms → (p : Position) → p ≡ position c f g
+    → (a b : Bool) → is_settled (both p r (opposite_relation s)) ≡ a → is_settled (both p r s) ≡ b → answer a b ≡ decided_by c (Compare r f) (Compare s g)
+decided_so c r f s g h p q a b i k =
+    (λ t. answer (sym i t) (sym k t)) ∙ ap (λ (x : Position). answer (is_settled (both x r (opposite_relation s))) (is_settled (both x r s))) q
+    ∙ decided_same c (Compare r f) (Compare s g) (same_of (variable_part f.terms) (variable_part g.terms) h)
+
+pub settled_of : (v : Verdict) → IsDecisive v → is_settled v ≡ true
+settled_of verdicts.Settled h = refl
+settled_of verdicts.Kept h = absurd h
+settled_of (verdicts.First q) h = absurd h
+settled_of (verdicts.Second q) h = absurd h
+
+pub unsettled_of : (v : Verdict) → ¬ (IsDecisive v) → is_settled v ≡ false
+unsettled_of verdicts.Settled h = absurd (h tt)
+unsettled_of verdicts.Kept h = refl
+unsettled_of (verdicts.First q) h = refl
+unsettled_of (verdicts.Second q) h = refl
+
+pub absorbing_is : (j : code.Junction) → merging_of (absorbing j) ≡ Settled
+absorbing_is code_is.And = refl
+absorbing_is code_is.Or = refl
+
+within_is : (a : Atom) → InLimit (form_of a).constant → Into a ≡ into_within a
+within_is a h = ap (λ (t : Bool). if t then Into a else Kept) (sym (lt-ltb (unsigned_abs (form_of a).constant) (2 ^ 127) h))
+
+past_is : (a : Atom) → PastLimit (form_of a).constant → Kept ≡ into_within a
+past_is a h = ap (λ (t : Bool). if t then Into a else Kept) (sym (le-ltb (unsigned_abs (form_of a).constant) (2 ^ 127) h))
+
+pub one_or_kept : (a : Atom) (m : answers.Merged) → IsOneOrKept a m → merging_of m ≡ into_within a
+one_or_kept a answer_is.True h = absurd h
+one_or_kept a answer_is.False h = absurd h
+one_or_kept a (answer_is.One e) h = ap Into h.0 ∙ within_is a h.2.constant_within
+one_or_kept a answer_is.Keep h = past_is a h
+
+pub one_is : (a : Atom) (m : answers.Merged) → IsOne a m → merging_of m ≡ Into a
+one_is a answer_is.True h = absurd h
+one_is a answer_is.False h = absurd h
+one_is a (answer_is.One e) h = ap Into h.0
+one_is a answer_is.Keep h = absurd h
+
+pub told_is : (j : code.Junction) → is_and j ≡ is_told (junction_of j)
+told_is code_is.And = refl
+told_is code_is.Or = refl
+
+-- congruences of one modulus k and the same terms; k is the program's number
+class_part : (j : Junction) (m : ℕ) (b : Bool) (f : Form) (d : Bool) (g : Form) → f.terms ≡ g.terms → is_same_part (Congruent b m f) (Congruent d m g) ≡ true
+class_part j m b f d g h = both_true (nat_eq m m) (same_terms f.terms g.terms) (eq-eqb m m refl) (same_of f.terms g.terms h)
+
+pub class_so : (j : Junction) (k : ℤ) → pos 0 <ℤ k → (b : Bool) (f : Form) (d : Bool) (g : Form) → f.terms ≡ g.terms → (v : Class) → v ≡ class j k b f.constant d g.constant
+    → (m : Merging Atom) → m ≡ of_class j (unsigned_abs k) b f d g v → m ≡ merged Integers j (Congruent b (unsigned_abs k) f) (Congruent d (unsigned_abs k) g)
+class_so j k p b f d g h v e m q =
+    q ∙ ap (of_class j (unsigned_abs k) b f d g) (e ∙ ap (λ (x : ℤ). class j x b f.constant d g.constant) (modulus_back k p))
+    ∙ merged_same Integers j (Congruent b (unsigned_abs k) f) (Congruent d (unsigned_abs k) g) (class_part j (unsigned_abs k) b f d g h)
+
+pub class_decided : (k : ℤ) → pos 0 <ℤ k → (b : Bool) (f : Form) (d : Bool) (g : Form) → f.terms ≡ g.terms → (x y : Bool)
+    → is_settled_class (both_classes k b f.constant (not d) g.constant) ≡ x → is_settled_class (both_classes k b f.constant d g.constant) ≡ y
+    → answer x y ≡ decided_by Integers (Congruent b (unsigned_abs k) f) (Congruent d (unsigned_abs k) g)
+class_decided k p b f d g h x y u v =
+    (λ t. answer (sym u t) (sym v t))
+    ∙ ap (λ (z : ℤ). answer (is_settled_class (both_classes z b f.constant (not d) g.constant)) (is_settled_class (both_classes z b f.constant d g.constant))) (modulus_back k p)
+    ∙ decided_same Integers (Congruent b (unsigned_abs k) f) (Congruent d (unsigned_abs k) g) (class_part Conjunction (unsigned_abs k) b f d g h)
+
+pub class_settled : (v : Class) → v ≡ class_is.Settled → is_settled_class v ≡ true
+class_settled v e = ap is_settled_class e
+
+pub class_unsettled : (v : Class) → ¬ (v ≡ class_is.Settled) → is_settled_class v ≡ false
+class_unsettled class_is.Settled n = absurd (n refl)
+class_unsettled class_is.First n = refl
+class_unsettled class_is.Second n = refl
+class_unsettled class_is.Third n = refl
+class_unsettled class_is.Kept n = refl
+
+class_apart : (m n : ℤ) → pos 0 <ℤ m → pos 0 <ℤ n → (b : Bool) (f : Form) (d : Bool) (g : Form) → ¬ ((m ≡ n) × (f.terms ≡ g.terms)) → is_same_part (Congruent b (unsigned_abs m) f) (Congruent d (unsigned_abs n) g) ≡ false
+class_apart m n p q b f d g h = split (is_same_part (Congruent b (unsigned_abs m) f) (Congruent d (unsigned_abs n) g)) refl
+  where
+    split : (t : Bool) → is_same_part (Congruent b (unsigned_abs m) f) (Congruent d (unsigned_abs n) g) ≡ t → t ≡ false
+    split true e = let k = part_told (Congruent b (unsigned_abs m) f) (Congruent d (unsigned_abs n) g) e in absurd (h (modulus_back m p ∙ ap pos k.0 ∙ sym (modulus_back n q), k.1))
+    split false e = refl
+
+pub merged_classes_apart : (c : Context) (j : Junction) (m n : ℤ) → pos 0 <ℤ m → pos 0 <ℤ n → (b : Bool) (f : Form) (d : Bool) (g : Form) → ¬ ((m ≡ n) × (f.terms ≡ g.terms)) → Kept ≡ merged c j (Congruent b (unsigned_abs m) f) (Congruent d (unsigned_abs n) g)
+merged_classes_apart c j m n p q b f d g h = merged_apart c j (Congruent b (unsigned_abs m) f) (Congruent d (unsigned_abs n) g) (class_apart m n p q b f d g h)
+
+pub decided_classes_apart : (c : Context) (m n : ℤ) → pos 0 <ℤ m → pos 0 <ℤ n → (b : Bool) (f : Form) (d : Bool) (g : Form) → ¬ ((m ≡ n) × (f.terms ≡ g.terms)) → None ≡ decided_by c (Congruent b (unsigned_abs m) f) (Congruent d (unsigned_abs n) g)
+decided_classes_apart c m n p q b f d g h = decided_apart c (Congruent b (unsigned_abs m) f) (Congruent d (unsigned_abs n) g) (class_apart m n p q b f d g h)

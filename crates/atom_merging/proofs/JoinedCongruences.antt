@@ -69,7 +69,7 @@ class_flipped : (j : Junction) (m : ℤ) (b : Bool) (c : ℤ) (d : Bool) (e : �
 class_flipped Conjunction m b c d e = refl
 class_flipped Disjunction m b c d e = refl
 
-modulus_back : (m : ℤ) → pos 0 <ℤ m → m ≡ pos (unsigned_abs m)
+pub modulus_back : (m : ℤ) → pos 0 <ℤ m → m ≡ pos (unsigned_abs m)
 modulus_back m p = omega (arith, ints)
 
 modulus_above : (m : ℤ) → 1 < unsigned_abs m → pos 0 <ℤ m → pos 1 <ℤ m

@@ -7,7 +7,7 @@ use Rattle.exact_numbers.specs.Limit.{InLimit}
 use Rattle.exact_numbers.specs.Divides.{content_of}
 use Rattle.formula_meaning.specs.Context.{Context, Fields, Integers}
 use Rattle.formula_meaning.specs.Form.{Form}
-use Rattle.formula_meaning.specs.Atom.{Relation, Atom, Compare, Congruent, opposite_relation, form_of}
+use Rattle.formula_meaning.specs.Atom.{Atom, Compare, Congruent, opposite_relation, form_of}
 use Rattle.formula_meaning.specs.Same.{same_terms}
 use Rattle.formula_meaning.specs.Fold.{Junction, Conjunction, Disjunction}
 use Rattle.linear_forms.specs.Terms.{coefficients}
@@ -16,6 +16,9 @@ use Rattle.atom_merging.specs.declared.comparison.Position.{Position}
 use Rattle.atom_merging.specs.declared.comparison.Position.TheVariants as lies
 use Rattle.atom_merging.specs.declared.congruence.Class.{Class}
 use Rattle.atom_merging.specs.declared.congruence.Class.TheVariants as class_is
+use Rattle.atom_normal.specs.Atoms.{atom_of}
+use Rattle.atom_merging.specs.declared.answers.Merged as answers
+use Rattle.atom_merging.specs.declared.answers.Merged.TheVariants as answer_is
 use Rattle.atom_merging.specs.Merging.{variable_part, Settles, MergesInto, IsKept}
 use Rattle.atom_merging.specs.Verdicts as verdicts
 use Rattle.atom_merging.specs.Verdicts.{Verdict, verdict, both, normal_comparison}
@@ -123,3 +126,10 @@ IsRight c j a b Kept = IsKept c j a b
 pub record IsNormalWithin (c : Context) (a : Atom) : Type 0 where
   pub normal : IsNormal c a
   pub within : InLimit (form_of a).constant
+
+-- the program's answer
+abbrev pub merging_of : answers.Merged → Merging Atom
+merging_of answer_is.True = Settled
+merging_of answer_is.False = Settled
+merging_of (answer_is.One a) = Into (atom_of a)
+merging_of answer_is.Keep = Kept

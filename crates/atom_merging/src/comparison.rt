@@ -1,5 +1,6 @@
 // Two comparisons with one variable part.
-ghost use Rattle.std.specs.Prelude.{◌≡◌, pos, ◌<ℤ◌, MatchBool, MatchOption, IfOk, IfErr};
+ghost use Rattle.std.specs.Prelude.{◌≡◌, pos, ◌<ℤ◌, ◌*ℤ◌, MatchBool, MatchOption, IfOk, IfErr};
+ghost use Rattle.std.specs.Ordering.{int_cmp};
 ghost use Rattle.exact_numbers.specs.Limit.{InLimit};
 ghost use Rattle.exact_numbers.specs.Divides.{content_of};
 ghost use Rattle.formula_meaning.specs.Atom.{Compare};
@@ -10,6 +11,7 @@ ghost use Rattle.atom_merging.specs.Merging.{variable_part};
 ghost use Rattle.atom_merging.specs.Merged.{IsMerging, IsDecision};
 ghost use Rattle.atom_merging.specs.Positions.{IsContentIn, IsNextBelow, IsPosition};
 ghost use Rattle.atom_merging.specs.Verdicts.{at_one, with_answers, apart, next_to, both, verdict, verdict_of, swapped, opposed, normal_comparison, IsDecisive};
+ghost use Rattle.atom_merging.specs.Computed.{placed, position, merged, merging_of, decided_by};
 ghost use Rattle.atom_merging.specs.Answered.{IsOneOrKept};
 ghost use Rattle.atom_merging.specs.Junctions.{junction_of};
 
@@ -65,7 +67,8 @@ fn place(
     requires other_content { IsContentIn (context_of context) other_content }
     requires number { InLimit number }
     requires other_number { InLimit other }
-    ensures { IsPosition (context_of context) content number other_content other result }
+    ensures position { IsPosition (context_of context) content number other_content other result }
+    ensures computed { result ≡ placed (context_of context) number other (int_cmp (other *ℤ content) (number *ℤ other_content)) }
 {
     match compare_fractions(other, other_content, number, content) {
         Ordering::Equal => Position::Same,
@@ -81,7 +84,8 @@ fn position_of(context: Context, form: &Linear, other: &Linear) -> Option<Positi
     requires content { IsContentIn (context_of context) (content_of (coefficients form.now.terms)) }
     requires other_content { IsContentIn (context_of context) (content_of (coefficients other.now.terms)) }
     ensures { MatchOption result (¬ (variable_part form.now.terms ≡ variable_part other.now.terms)) (λ p. (variable_part form.now.terms ≡ variable_part other.now.terms)
-        × IsPosition (context_of context) (content_of (coefficients form.now.terms)) form.now.constant (content_of (coefficients other.now.terms)) other.now.constant p) }
+        × IsPosition (context_of context) (content_of (coefficients form.now.terms)) form.now.constant (content_of (coefficients other.now.terms)) other.now.constant p
+        × (p ≡ position (context_of context) form.now other.now)) }
 {
     let content = form.content();
     let other_content = other.content();
@@ -251,6 +255,7 @@ pub(crate) fn merged(
     requires normal { IsNormal (context_of context) (Compare (relation_of relation) form.now) }
     requires other_normal { IsNormal (context_of context) (Compare (relation_of other_relation) other.now) }
     ensures merged { IfOk result (IsMerging (context_of context) (junction_of junction) (Compare (relation_of relation) form.now) (Compare (relation_of other_relation) other.now)) }
+    ensures computed { IfOk result (λ m. merging_of m ≡ merged (context_of context) (junction_of junction) (Compare (relation_of relation) form.now) (Compare (relation_of other_relation) other.now)) }
     ensures memory { IfErr result (λ e. e ≡ AtomError.Memory) }
 {
     let Some(position) = position_of(context, form, other) else {
@@ -274,7 +279,8 @@ pub(crate) fn decided(
 ) -> Option<bool>
     requires normal { IsNormal (context_of context) (Compare (relation_of relation) form.now) }
     requires other_normal { IsNormal (context_of context) (Compare (relation_of other_relation) other.now) }
-    ensures { IsDecision (context_of context) (Compare (relation_of relation) form.now) (Compare (relation_of other_relation) other.now) result }
+    ensures decided { IsDecision (context_of context) (Compare (relation_of relation) form.now) (Compare (relation_of other_relation) other.now) result }
+    ensures computed { result ≡ decided_by (context_of context) (Compare (relation_of relation) form.now) (Compare (relation_of other_relation) other.now) }
 {
     let position = position_of(context, form, other)?;
     if is_settled(both(position, relation, opposite(other_relation))) {

@@ -5,6 +5,7 @@ ghost use Rattle.formula_meaning.specs.Context.{Integers};
 ghost use Rattle.formula_meaning.specs.Atom.{Congruent};
 ghost use Rattle.atom_normal.specs.NormalForm.{IsNormalCongruence};
 ghost use Rattle.atom_merging.specs.Merged.{IsMerging, IsDecision};
+ghost use Rattle.atom_merging.specs.Computed.{merged, merging_of, decided_by};
 ghost use Rattle.atom_merging.specs.Answered.{IsOne};
 ghost use Rattle.atom_merging.specs.Classes.{left_by_two, different_classes, same_class, both_classes, class};
 ghost use Rattle.atom_merging.specs.Junctions.{junction_of};
@@ -155,6 +156,7 @@ pub(crate) fn merged(
     requires normal { IsNormalCongruence holds (unsigned_abs modulus) form.now }
     requires other_normal { IsNormalCongruence other_holds (unsigned_abs modulus) other.now }
     ensures merged { IfOk result (IsMerging Integers (junction_of junction) (Congruent holds (unsigned_abs modulus) form.now) (Congruent other_holds (unsigned_abs modulus) other.now)) }
+    ensures computed { IfOk result (λ m. merging_of m ≡ merged Integers (junction_of junction) (Congruent holds (unsigned_abs modulus) form.now) (Congruent other_holds (unsigned_abs modulus) other.now)) }
     ensures memory { IfErr result (λ e. e ≡ AtomError.Memory) }
 {
     let number = form.constant_part();
@@ -183,7 +185,8 @@ pub(crate) fn decided(
     requires same_terms { form.now.terms ≡ other.now.terms }
     requires normal { IsNormalCongruence holds (unsigned_abs modulus) form.now }
     requires other_normal { IsNormalCongruence other_holds (unsigned_abs modulus) other.now }
-    ensures { IsDecision Integers (Congruent holds (unsigned_abs modulus) form.now) (Congruent other_holds (unsigned_abs modulus) other.now) result }
+    ensures decided { IsDecision Integers (Congruent holds (unsigned_abs modulus) form.now) (Congruent other_holds (unsigned_abs modulus) other.now) result }
+    ensures computed { result ≡ decided_by Integers (Congruent holds (unsigned_abs modulus) form.now) (Congruent other_holds (unsigned_abs modulus) other.now) }
 {
     let number = form.constant_part();
     let other_number = other.constant_part();

@@ -4,6 +4,7 @@ ghost use Rattle.formula_meaning.specs.Fold.{Conjunction, Disjunction};
 ghost use Rattle.atom_normal.specs.NormalForm.{IsNormal};
 ghost use Rattle.atom_normal.specs.Atoms.{context_of, atom_of, IsWellFormed};
 ghost use Rattle.atom_merging.specs.Merged.{IsMerging, IsDecision};
+ghost use Rattle.atom_merging.specs.Computed.{merged, merging_of, decided_by};
 ghost use Rattle.atom_merging.specs.Junctions.{junction_of};
 
 use crate::answers::Merged;
@@ -25,6 +26,7 @@ fn merged(
     requires normal { IsNormal (context_of context) (atom_of a.now) }
     requires other_normal { IsNormal (context_of context) (atom_of b.now) }
     ensures merged { IfOk result (IsMerging (context_of context) (junction_of junction) (atom_of a.now) (atom_of b.now)) }
+    ensures computed { IfOk result (λ m. merging_of m ≡ merged (context_of context) (junction_of junction) (atom_of a.now) (atom_of b.now)) }
     ensures memory { IfErr result (λ e. e ≡ AtomError.Memory) }
 {
     match (a, b) {
@@ -66,6 +68,7 @@ pub fn merge_and(alloc: Global, context: Context, a: &Atom, b: &Atom) -> Result<
     requires normal { IsNormal (context_of context) (atom_of a.now) }
     requires other_normal { IsNormal (context_of context) (atom_of b.now) }
     ensures merged { IfOk result (IsMerging (context_of context) Conjunction (atom_of a.now) (atom_of b.now)) }
+    ensures computed { IfOk result (λ m. merging_of m ≡ merged (context_of context) Conjunction (atom_of a.now) (atom_of b.now)) }
     ensures memory { IfErr result (λ e. e ≡ AtomError.Memory) }
 {
     merged(alloc, context, Junction::And, a, b)
@@ -80,6 +83,7 @@ pub fn merge_or(alloc: Global, context: Context, a: &Atom, b: &Atom) -> Result<M
     requires normal { IsNormal (context_of context) (atom_of a.now) }
     requires other_normal { IsNormal (context_of context) (atom_of b.now) }
     ensures merged { IfOk result (IsMerging (context_of context) Disjunction (atom_of a.now) (atom_of b.now)) }
+    ensures computed { IfOk result (λ m. merging_of m ≡ merged (context_of context) Disjunction (atom_of a.now) (atom_of b.now)) }
     ensures memory { IfErr result (λ e. e ≡ AtomError.Memory) }
 {
     merged(alloc, context, Junction::Or, a, b)
@@ -93,7 +97,8 @@ pub fn decides(context: Context, theory: &Atom, other: &Atom) -> Option<bool>
     requires other_well_formed { IsWellFormed other.now }
     requires normal { IsNormal (context_of context) (atom_of theory.now) }
     requires other_normal { IsNormal (context_of context) (atom_of other.now) }
-    ensures { IsDecision (context_of context) (atom_of theory.now) (atom_of other.now) result }
+    ensures decided { IsDecision (context_of context) (atom_of theory.now) (atom_of other.now) result }
+    ensures computed { result ≡ decided_by (context_of context) (atom_of theory.now) (atom_of other.now) }
 {
     match (theory, other) {
         (Atom::Compare(relation, form), Atom::Compare(other_relation, other)) => {

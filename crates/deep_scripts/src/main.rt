@@ -88,11 +88,13 @@ fn chains(rt: &HostRuntime) -> io::Result<()> {
     let equivalences = Nest::of("", "x=1 equiv ", "x=1", "", "");
     let quotients = Nest::of("", "x/", "x", "", "=1");
     let quantifiers = Nest::of("", "ex(x,", "x=1", ")", "");
+    let alternations = Nest::of("", "ex(x,x>1 and all(y,y<x or ", "x>y", "))", "");
     twice(rt, "times impl", implications)?;
     twice(rt, "times repl", replications)?;
     twice(rt, "times equiv", equivalences)?;
     twice(rt, "times /", quotients)?;
-    twice(rt, "times ex", quantifiers)
+    twice(rt, "times ex", quantifiers)?;
+    formula(rt, "127 times ex and all", alternations, 127)
 }
 
 /// A formula with 511 levels, and with 512.

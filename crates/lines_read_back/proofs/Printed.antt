@@ -154,19 +154,25 @@ module _ (z : State) (limit : ℕ) (u : Use) (c : CommandTree) (numbers : names_
 given_formula : (z : State) (limit : ℕ) (u : Use) (c : CommandTree) → IsBuiltFormula c → names_after z.names (formula_of c) ≡ z.names → IsProperFormula (formula_of c) → z.bound ≡ [] → IsAccepted z u c
     → (text : List ℕ) (t : Tree) → MayGive z limit c t → text ≡ tree_text z.names t → IsPrinted z limit c text
 given_formula z limit u (Echo f) b numbers proper unbound accepted text t given e = record {
-  tree = t; given = given; text_is = e;
+  tree = t;
+  given = given;
+  text_is = e;
   formula = subst (IsSessionFormula z.context (length z.names)) (sym given) (resolved_one z limit u (Echo f) numbers proper unbound accepted);
   numbers = λ k. subst (Every AtomFits) (sym given) (resolved_numbers z limit u (Echo f) numbers proper unbound accepted);
   low = λ k. subst (λ (t : Tree). height t ≤ most_height) (sym given) (resolved_low z limit u (Echo f) numbers proper unbound accepted);
 }
 given_formula z limit u (Nnf f) b numbers proper unbound accepted text t given e = record {
-  tree = t; given = given; text_is = e;
+  tree = t;
+  given = given;
+  text_is = e;
   formula = subst (IsSessionFormula z.context (length z.names)) (sym given) (negated_formula z.context (length z.names) (resolved z (Nnf f)) (resolved_one z limit u (Nnf f) numbers proper unbound accepted));
   numbers = λ k. subst (Every AtomFits) (sym given) (negated_fits (resolved z (Nnf f)) (resolved_numbers z limit u (Nnf f) numbers proper unbound accepted));
   low = λ k. absurd k;
 }
 given_formula z limit u (Qe f given) b numbers proper unbound accepted text t h e = record {
-  tree = t; given = h; text_is = e;
+  tree = t;
+  given = h;
+  text_is = e;
   formula = condition_formula z limit u (Qe f given) numbers proper unbound accepted t h;
   numbers = λ k. absurd (k tt);
   low = λ k. absurd k;

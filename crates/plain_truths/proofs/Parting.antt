@@ -1,12 +1,12 @@
 -- The terms of a form with a point put in: those that stay, and those that become a number.
-use Rattle.std.proofs.Common.{◌≡◌, ℕ, ◌+◌, ◌<◌, drop, slice_get, Bool, true, false, ◌&&◌, List, [], ◌∷◌, ◌++◌, append_assoc, Option, Some, None, refl, sym, ap, ◌∙◌, subst, arith, nat_eq, reverse, map}
+use Rattle.std.proofs.Common.{◌≡◌, ℕ, ◌+◌, drop, slice_get, Bool, true, false, ◌&&◌, List, [], ◌∷◌, ◌++◌, append_assoc, Option, Some, None, refl, sym, ap, ◌∙◌, subst, arith, nat_eq, reverse}
 use Rattle.std.proofs.Math.IntN.{ℤ, pos, ◌+ℤ◌, ◌*ℤ◌}
 use Rattle.std.proofs.lemmas.Int.{ints}
 use Rattle.std.proofs.lemmas.List.{append-nil, reverse-append}
 use Rattle.std.proofs.lemmas.Option.{slice_get_within, get_or_from_slice_get}
-use Rattle.std.specs.Prelude.{◌<ℤ◌, unsigned_abs, is_some, if◌then◌else◌, Result, MatchResult}
-use Rattle.std.specs.declared.result.Result.TheVariants.{Ok, Err}
-use Rattle.exact_numbers.specs.Limit.{InLimit, PastLimit, checked}
+use Rattle.std.specs.Prelude.{◌<ℤ◌, is_some, if◌then◌else◌, Result, MatchResult}
+use Rattle.std.specs.declared.result.Result.TheVariants.{Err}
+use Rattle.exact_numbers.specs.Limit.{InLimit, PastLimit}
 use Rattle.exact_numbers.proofs.Limits.{by_limit, checked_some}
 use Rattle.exact_numbers.proofs.Order.{cancel}
 use Rattle.exact_numbers.proofs.Ring.{mul_zero}
@@ -20,10 +20,9 @@ use Rattle.elimination_reference.specs.PutIn.{terms_kept, terms_put, terms_out, 
 use Rattle.linear_forms.specs.Terms.{AllInLimit, IsLinear, total_steps, value_steps}
 use Rattle.linear_forms.specs.Values.{Numbers, number_at, point_of}
 use Rattle.linear_forms.proofs.Steps.{value_total_none, value_product_none, value_last}
-use Rattle.test_points.proofs.Ended.{first_false, second_false}
+use Rattle.test_points.proofs.Ended.{first_false}
 use Rattle.test_points.proofs.WithinTests.{within_tests}
 use Rattle.test_points.specs.declared.error.PointError.{PointError}
-use Rattle.test_points.specs.declared.error.PointError.TheVariants.{Overflow, Nodes, Memory}
 use Rattle.nnf_substitution.specs.Placed.{Fails}
 use Rattle.nnf_trees.proofs.Counting.{drop_at}
 use Rattle.plain_engine.proofs.Paying.{is_past_limit}

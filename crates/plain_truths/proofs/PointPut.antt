@@ -1,6 +1,6 @@
 -- The reference elimination at a point is that of the formula with the point put in.
 use Rattle.std.proofs.Common.{◌≡◌, ◌⊎◌, inl, inr, ℕ, Bool, true, false, List, [], refl, sym, ap, ◌∙◌, subst, ◌↔◌}
-use Rattle.std.specs.Prelude.{if◌then◌else◌, IsTrue, Result, IfErr}
+use Rattle.std.specs.Prelude.{IsTrue}
 use Rattle.formula_meaning.specs.Context.{Context}
 use Rattle.formula_meaning.specs.Every.{Every}
 use Rattle.formula_meaning.specs.Formula.{Yes, No}
@@ -9,20 +9,14 @@ use Rattle.formula_meaning.specs.Sizes.{nodes}
 use Rattle.formula_meaning.specs.Tree.{Tree, TrueAt}
 use Rattle.formula_meaning.proofs.NormalShape.{normal_form_shape}
 use Rattle.atom_normal.specs.NormalForm.{IsNormal, negated_normal, constant_tree}
-use Rattle.elimination_reference.specs.Measured.{Outcome, stopped, done, then_of, Gives, pay, within}
-use Rattle.elimination_reference.specs.Measured as stop
+use Rattle.elimination_reference.specs.Measured.{Outcome, done, then_of, Gives, pay, within}
 use Rattle.elimination_reference.specs.PutIn.{put_in, tree_put_within}
 use Rattle.elimination_reference.specs.Reference.{Branch, together, branches, normal_tree, reference}
 use Rattle.elimination_reference.specs.Sample.{reference_at}
-use Rattle.elimination_reference.specs.Theorems.{IsTold, IsPutIn}
+use Rattle.elimination_reference.specs.Theorems.{IsTold}
 use Rattle.elimination_reference.proofs.PutIn.{putting_in_exact}
 use Rattle.elimination_reference.proofs.PutMatrix.{normal_stays, put_shape}
 use Rattle.elimination_reference.proofs.Sample.{truth_told}
-use Rattle.plain_engine.specs.declared.measured.Measured.{Measured}
-use Rattle.plain_engine.specs.declared.measured.Measured.TheVariants as measured
-use Rattle.plain_engine.specs.Told.{StopsWith}
-use Rattle.plain_engine.proofs.Seen.{stops_then, stops_along}
-use Rattle.plain_truths.specs.Put.{Refuses}
 
 abbrev joined : Outcome (List Branch × ℕ) → Outcome (Tree × ℕ)
 joined o = then_of o (λ r. done (together r.0, r.1))

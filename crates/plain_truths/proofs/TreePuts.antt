@@ -1,11 +1,9 @@
 -- A formula with a point put in, at each way to make one.
-use Rattle.std.proofs.Common.{◌≡◌, ℕ, ◌-◌, ◌<◌, length, take, length-append, Bool, true, false, ◌&&◌, List, [], ◌∷◌, ◌++◌, refl, sym, ap, ◌∙◌, subst, arith, nat_eq, reverse, map}
-use Rattle.std.proofs.Math.IntN.{ℤ, pos}
+use Rattle.std.proofs.Common.{◌≡◌, ℕ, ◌-◌, length, take, length-append, Bool, true, false, List, [], ◌∷◌, ◌++◌, refl, sym, ap, ◌∙◌, subst, arith, reverse}
 use Rattle.std.proofs.lemmas.Int.{ints}
 use Rattle.std.proofs.lemmas.List.{map-append, reverse-append}
 use Rattle.std.proofs.Math.Seq.{take-append_seam}
-use Rattle.std.specs.Prelude.{◌<ℤ◌, unsigned_abs}
-use Rattle.formula_meaning.specs.Context.{Context, Fields, Integers}
+use Rattle.formula_meaning.specs.Context.{Context}
 use Rattle.formula_meaning.specs.Every.{Every, EveryOf}
 use Rattle.formula_meaning.specs.Fold.{append}
 use Rattle.formula_meaning.specs.Fold as folding
@@ -13,15 +11,13 @@ use Rattle.formula_meaning.specs.Formula.{One, none, also}
 use Rattle.formula_meaning.specs.Atom as meant
 use Rattle.formula_meaning.specs.Point.{Point}
 use Rattle.formula_meaning.specs.Tree.{Tree, Trees}
-use Rattle.formula_meaning.proofs.Same.{both_true}
-use Rattle.elimination_reference.specs.Limits.{normal_within}
-use Rattle.elimination_reference.specs.PutIn.{form_put_within, atom_put, tree_put, trees_put, tree_put_within, trees_put_within}
+use Rattle.elimination_reference.specs.PutIn.{tree_put, trees_put, tree_put_within, trees_put_within}
 use Rattle.atom_normal.specs.declared.atoms.Atom.{Atom}
 use Rattle.atom_normal.specs.declared.atoms.Atom.TheVariants as atom
 use Rattle.atom_normal.specs.declared.atoms.Normal.{Normal}
 use Rattle.atom_normal.specs.declared.atoms.Normal.TheVariants as normal
 use Rattle.atom_normal.specs.Atoms.{atom_of, tree_of, IsWellFormed, IsWellFormedNormal}
-use Rattle.atom_normal.specs.NormalForm.{constant_tree, normal_atom}
+use Rattle.atom_normal.specs.NormalForm.{constant_tree}
 use Rattle.nnf_trees.specs.declared.nnf.Junction.{Junction}
 use Rattle.nnf_trees.specs.declared.nnf.Junction.TheVariants as junction
 use Rattle.nnf_trees.specs.declared.nnf.Quantifier.{Quantifier}
@@ -31,10 +27,6 @@ use Rattle.nnf_trees.specs.Nnfs.{nnf_of, junction_of, quantified, HasModulus}
 use Rattle.nnf_trees.proofs.Pieces.{Formulas_of, lists_joined, append_none, append_thrice}
 use Rattle.linear_forms.specs.declared.form.VarId.{VarId}
 use Rattle.plain_engine.specs.Told.{numbers}
-use Rattle.test_points.proofs.Ended.{second_false}
-use Rattle.test_points.specs.declared.error.PointError.{PointError}
-use Rattle.test_points.specs.declared.error.PointError.TheVariants as error
-use Rattle.nnf_substitution.specs.Placed.{Fails}
 use Rattle.plain_truths.specs.Put.{around, IsAtomPut, IsTreePut, AreTreesPut}
 
 -- the modulus of a well-formed atom is positive and within the limit

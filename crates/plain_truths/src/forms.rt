@@ -23,12 +23,7 @@ struct Parts {
 }
 
 // The places of the form, parted by whether a quantifier around it binds the name.
-fn parted(
-    alloc: Global,
-    names: &[VarId],
-    form: &Linear,
-    at: &Values,
-) -> Result<Parts, PointError>
+fn parted(alloc: Global, names: &[VarId], form: &Linear, at: &Values) -> Result<Parts, PointError>
     ensures positive { pos 0 <ℤ at.now.denominator }
     ensures parted { MatchResult result (λ r. IsParted (point_of at.now) (around names.now) form.now.terms (terms_of r.kept.items) (terms_of r.out.items)) (λ e. Fails e (kept_within (point_of at.now) (around names.now) form.now.terms)) }
 {

@@ -84,12 +84,7 @@ fn members_put(
 /// comes exactly where a number that is formed passes 2^127 - 1, else `Memory`, and never `Nodes`.
 ///
 /// The recursion is as deep as the tree is high.
-pub fn put_in(
-    alloc: Global,
-    tree: &Tree,
-    context: Context,
-    at: &Values,
-) -> Result<Tree, Measured>
+pub fn put_in(alloc: Global, tree: &Tree, context: Context, at: &Values) -> Result<Tree, Measured>
     requires moduli { Every HasModulus (tree_of tree.now) }
     requires normal { Every (IsNormal (context_of context)) (tree_of tree.now) }
     requires point { Of (context_of context) (point_of at.now) }

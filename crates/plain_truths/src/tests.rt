@@ -22,21 +22,27 @@ const A: VarId = VarId { number: 0 };
 
 const X: VarId = VarId { number: 1 };
 
-// The comparison of n * x + p * a + c with 0, in normal form.
+// The form n * x + p * a + c.
+fn form(alloc: Global, (n, p, c): (i128, i128, i128)) -> Result<Linear, Fail> {
+    let x = Linear::variable(alloc, X)?;
+    let a = Linear::variable(alloc, A)?;
+    let one = Linear::constant(alloc, 1);
+    let names = x.combine(alloc, n, &a, p)?;
+    Ok(names.combine(alloc, 1, &one, c)?)
+}
+
+// The comparison of the form with 0, in normal form.
 #[tactic(auto, using(formula_tree::proofs::TreeEquations::trees))]
 fn comparison(
     alloc: Global,
     context: Context,
-    numbers: (Rel, i128, i128, i128),
+    relation: Rel,
+    numbers: (i128, i128, i128),
 ) -> Result<Tree, Fail>
     ensures moduli { IfOk result (λ t. Every HasModulus (tree_of t)) }
     ensures normal { IfOk result (λ t. Every (IsNormal (context_of context)) (tree_of t)) }
 {
-    let (relation, n, p, c) = numbers;
-    let x = Linear::variable(alloc, X)?;
-    let a = Linear::variable(alloc, A)?;
-    let one = Linear::constant(alloc, 1);
-    let form = x.combine(alloc, n, &a, p)?.combine(alloc, 1, &one, c)?;
+    let form = form(alloc, numbers)?;
     match normal(alloc, context, Atom::Compare(relation, form))? {
         Normal::True => Ok(Tree::True),
         Normal::False => Ok(Tree::False),
@@ -48,14 +54,14 @@ fn comparison(
 fn sentence(
     alloc: Global,
     context: Context,
-    first: (Rel, i128, i128, i128),
-    second: (Rel, i128, i128, i128),
+    first: (Rel, (i128, i128, i128)),
+    second: (Rel, (i128, i128, i128)),
 ) -> Result<Tree, Fail>
     ensures moduli { IfOk result (λ t. Every HasModulus (tree_of t)) }
     ensures normal { IfOk result (λ t. Every (IsNormal (context_of context)) (tree_of t)) }
 {
-    let f = comparison(alloc, context, first)?;
-    let g = comparison(alloc, context, second)?;
+    let f = comparison(alloc, context, first.0, first.1)?;
+    let g = comparison(alloc, context, second.0, second.1)?;
     let both = Tree::over(alloc, Shape::And(Ids::of(vec![in alloc; f, g]?)))?;
     Ok(Tree::over(alloc, Shape::Ex(X, both))?)
 }
@@ -78,11 +84,11 @@ fn halves(alloc: Global, a: i128) -> Result<Values, Fail>
     Ok(values)
 }
 
-const DOUBLE: (Rel, i128, i128, i128) = (Rel::Equal, 2, -1, 0);
+const DOUBLE: (Rel, (i128, i128, i128)) = (Rel::Equal, (2, -1, 0));
 
-const ABOVE: (Rel, i128, i128, i128) = (Rel::Greater, 1, -1, 0);
+const ABOVE: (Rel, (i128, i128, i128)) = (Rel::Greater, (1, -1, 0));
 
-const BELOW_ONE: (Rel, i128, i128, i128) = (Rel::Less, 1, 0, -1);
+const BELOW_ONE: (Rel, (i128, i128, i128)) = (Rel::Less, (1, 0, -1));
 
 // Some x is the half of a, or lies between a and 1.
 #[test]
@@ -113,7 +119,7 @@ fn truths_at_halves(rt: HostRuntime) -> Result<(), Fail> {
         let tree = sentence(alloc, Context::Fields, ABOVE, BELOW_ONE)?;
         let truth = truth_plain(alloc, &tree, Context::Fields, &at, 1000)?;
         assert_eq!(rt; truth, between);
-        let tree = comparison(alloc, Context::Fields, (Rel::Equal, 0, 2, -1))?;
+        let tree = comparison(alloc, Context::Fields, Rel::Equal, (0, 2, -1))?;
         let put = put_in(alloc, &tree, Context::Fields, &at)?;
         assert_eq!(rt; matches!(put, Tree::True), a_is_half);
         assert_eq!(rt; matches!(put, Tree::False), !a_is_half);
@@ -129,8 +135,8 @@ fn limits_are_exact(rt: HostRuntime) -> Result<(), Fail> {
         (DOUBLE, 3, 14, None),
         (DOUBLE, 3, 13, Some(Measured::Nodes)),
         (DOUBLE, 3, 3, Some(Measured::Nodes)),
-        ((Rel::Less, 1, 2, 0), M, 3, Some(Measured::Nodes)),
-        ((Rel::Less, 1, 2, 0), M, 4, Some(Measured::Overflow)),
+        ((Rel::Less, (1, 2, 0)), M, 3, Some(Measured::Nodes)),
+        ((Rel::Less, (1, 2, 0)), M, 4, Some(Measured::Overflow)),
     ] {
         let tree = sentence(alloc, Context::Fields, comparison, comparison)?;
         let at = whole(alloc, Context::Fields, a)?;

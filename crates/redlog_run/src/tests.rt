@@ -164,8 +164,8 @@ fn scripts(rt: HostRuntime) -> Result<(), Fail> {
             refused("***** point at 12\ntrue\n"),
         ),
         (
-            b"f := ex(x,x>0)$ rlholds(f,{}); f := x>0$ rlholds(ex(x,f),{}); rlholds(f,{x=1});".as_slice(),
-            refused("***** quantified at 16\n***** quantified at 41\ntrue\n"),
+            b"f := ex(x,x>0)$ rlholds(f,{}); f := x>0$ rlholds(all(x,f),{}); rlholds(f,{x=1});".as_slice(),
+            done("true\nfalse\ntrue\n"),
         ),
         (
             b"rlholds(170141183460469231731687303715884105727*x+1>0,{x=2});".as_slice(),
@@ -181,6 +181,92 @@ fn scripts(rt: HostRuntime) -> Result<(), Fail> {
             (status, lines.as_bytes().to_vec(rt.alloc())?)
         );
     }
+    Ok(())
+}
+
+/// Quantifiers are eliminated in both theories, and truths with quantifiers told.
+#[test]
+fn eliminations(rt: HostRuntime) -> Result<(), Fail> {
+    let done = |lines| (Status::Done, lines);
+    let refused = |lines| (Status::Refused, lines);
+    for (script, (status, lines)) in [
+        (
+            b"rlqe ex(x,x>a and x<b); rlqe ex(x,x<a);".as_slice(),
+            done("a - b < 0\ntrue\n"),
+        ),
+        (
+            b"rlqe ex(x,0<x and x<1); rlset pasf; rlqe ex(x,0<x and x<1);".as_slice(),
+            done("true\npasf\nfalse\n"),
+        ),
+        (
+            b"rlset pasf$ rlqe ex(x,2*x=a); rlqe ex(x,a<2*x and 2*x<a+2);".as_slice(),
+            done("cong(a,0,2)\ncong(a + 1,0,2)\n"),
+        ),
+        (
+            b"rlset pasf$ rlqe all(x,ex(y,x=2*y or x=2*y+1));".as_slice(),
+            done("true\n"),
+        ),
+        (
+            b"rlqe(ex(x,x>0 and all(x,x<1))); rlqe(x>0,{});".as_slice(),
+            done("false\nx > 0\n"),
+        ),
+        (
+            b"rlqe ex(x,x*y>1); x>0;".as_slice(),
+            refused("***** nonlinear at 0\nx > 0\n"),
+        ),
+        (
+            b"rlqe ex(x,170141183460469231731687303715884105727*x>=3*a and 5*x<=170141183460469231731687303715884105727*b);".as_slice(),
+            refused("***** overflow at 0\n"),
+        ),
+        (
+            b"rlqe ex(x,7*x>=3*a and 5*x<=7*b);".as_slice(),
+            done("15*a - 49*b <= 0\n"),
+        ),
+        (
+            b"rlholds(ex(x,2*x=a),{a=3}); rlset pasf$ rlholds(ex(x,2*x=a),{a=3}); rlholds(ex(x,2*x=a),{});".as_slice(),
+            refused("true\nfalse\n***** unvalued at 68\n"),
+        ),
+        // Between two numbers there is a third over the ordered fields, and a next one over the integers.
+        (
+            b"f := all({x,y},x<y impl ex(z,x<z and z<y))$ g := all(x,ex(y,all(z,x<y and (z<=x or y<=z))))$ rlqe f; rlqe g;".as_slice(),
+            done("true\nfalse\n"),
+        ),
+        (
+            b"rlset pasf$ f := all({x,y},x<y impl ex(z,x<z and z<y))$ g := all(x,ex(y,all(z,x<y and (z<=x or y<=z))))$ rlqe f; rlqe g;".as_slice(),
+            done("false\ntrue\n"),
+        ),
+        // The answer is true where the question is, on a grid of points.
+        (
+            b"f := ex(x,x>a and 3*x<b)$ g := rlqe f$ h := f equiv g$ rlholds(h,{a=0,b=0}); rlholds(h,{a=0,b=1}); rlholds(h,{a=1/3,b=1}); rlholds(h,{a=-1/2,b=-1});".as_slice(),
+            done("true\ntrue\ntrue\ntrue\n"),
+        ),
+        (
+            b"rlset pasf$ f := ex(x,x>a and 3*x<b)$ g := rlqe f$ h := f equiv g$ rlholds(h,{a=0,b=3}); rlholds(h,{a=0,b=4}); rlholds(h,{a=-2,b=-2}); rlholds(h,{a=-2,b=-3});".as_slice(),
+            done("true\ntrue\ntrue\ntrue\n"),
+        ),
+    ] {
+        assert_eq!(rt;
+            answer(rt.alloc(), script, 100)?,
+            (status, lines.as_bytes().to_vec(rt.alloc())?)
+        );
+    }
+    Ok(())
+}
+
+/// A script as users write it: bounds of a sum over both theories, with a comment and a set switch.
+#[test]
+fn an_ordinary_script(rt: HostRuntime) -> Result<(), Fail> {
+    let script =
+        b"load_package redlog;\noff nat;   % no two-dimensional output\nf := ex({x,y},x>=0 and y>=0 and x+y<=a and x-y<=2 and y-x<=2\n  and x+2*y>=1 and 2*x+y>=1 and x<=10 and y<=10 and x+y>=1)$\nrlholds(f,{a=1});\nrlholds(f,{a=1/2});\nrlset pasf$\nf := ex({x,y},x>=0 and y>=0 and x+y<=a and x-y<=2 and y-x<=2\n  and x+2*y>=1 and 2*x+y>=1 and x<=10 and y<=10 and x+y>=1)$\nrlqe all(a,f equiv a>=1);\nrlholds(f,{a=1});\nrlholds(f,{a=0});\nend;\nthese bytes are never read as statements #\n".as_slice();
+    assert_eq!(rt;
+        answer(rt.alloc(), script, 100)?,
+        (
+            Status::Done,
+            "true\nfalse\ntrue\ntrue\nfalse\n"
+                .as_bytes()
+                .to_vec(rt.alloc())?
+        )
+    );
     Ok(())
 }
 

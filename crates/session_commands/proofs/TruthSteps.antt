@@ -151,6 +151,7 @@ module _ (old new : Desk) (f : FormulaTree) (es : List PointEntry) (desk : IsDes
         truth_stops r limit free h =
             err_map r (λ e t. at_limit s limit f es e (truth_passes s f es numbers read.clear means here (free_here free) (point_of q) numbered.0 e
             (subst (λ ns. ValueStop (resolved s (Holds f es)) (at_names ns (point_of q)) e) k.names (subst (λ (u : Tree). ValueStop u (at_names new.names (point_of q)) e) formula.1.same t)))) h
+
         pub eliminated_stops : (r : Result Bool StatementError) (limit : ℕ) → IsQuantified (state_of new).bound f
             → IfErr r (EliminationStop (context_of new.context) limit (tree new.store i) (at_names new.names (point_of q))) → IfErr r (RefusesTruthAt s limit f es)
         eliminated_stops r limit quantified h =

@@ -285,7 +285,14 @@ fn eliminated_truth(
     ensures kept { KeepsDesk desk.old desk.new }
 {
     let values = values_of(desk.alloc, &desk.names, entries, point)?;
-    match truth_by_elimination(desk.alloc, &mut desk.store, desk.context, id, &values, limit) {
+    match truth_by_elimination(
+        desk.alloc,
+        &mut desk.store,
+        desk.context,
+        id,
+        &values,
+        limit,
+    ) {
         Ok(holds) => Ok(holds),
         Err(error) => Err(measured_refusal(error)),
     }

@@ -22,16 +22,17 @@ fn statements(rt: HostRuntime) -> Result<(), Fail> {
         ("rlholds(f,{x=1/2,y=1,z=7});", Ok("true")),
         ("rlholds(f,{x=1/2,y=1});", Err(StatementError::Unvalued)),
         ("rlholds(f,{x=1,x=2});", Err(StatementError::Point)),
-        (
-            "rlholds(ex(x,f),{y=0,z=0});",
-            Err(StatementError::Quantified),
-        ),
+        ("rlholds(ex(x,f),{y=0,z=1});", Ok("true")),
+        ("rlholds(all(x,f),{y=0,z=1});", Ok("false")),
+        ("g := rlqe ex({z,x},f and y>x);", Err(StatementError::Nodes)),
+        ("rlqe ex(w,w>x and w<y);", Ok("y - x > 0")),
         ("rlset Z;", Ok("pasf")),
         ("f;", Err(StatementError::Unbound)),
         ("cong(y,x,-2);", Ok("cong(y + x,0,2)")),
         ("rlholds(cong(x,1,2),{x=1/2});", Err(StatementError::Point)),
         ("rlholds(cong(x,1,2),{x=-1})$", Ok("")),
-        ("rlqe ex(x,x>0);", Err(StatementError::Syntax)),
+        ("g := rlqe ex(w,2*w=x);", Ok("g := cong(x,0,2)")),
+        ("rlqe(ex(w,w>x),{x>0});", Err(StatementError::Syntax)),
     ] {
         let found = match session.statement(statement.as_bytes()) {
             Ok(Line::Printed(text)) => {

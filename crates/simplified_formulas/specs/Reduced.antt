@@ -57,6 +57,10 @@ module _ {A : Type 0} (Keeps : Junction → A → A → Type 0) (Undecided : A �
   abbrev pub IsUndecided : List A → A → Type 0
   IsUndecided ks a = EachOf (λ k. Undecided k a) ks
 
+  -- two members at least, no two equal, no two atoms that merge, and what is owed of each member
+  abbrev pub IsListOf : Junction → Formulas A ℕ → Type 0 → Type 0
+  IsListOf j fs Members = AreTwo fs × AreDifferent fs × AreKept j (atoms_of fs) × Members
+
   abbrev mutual
     -- The formula is Reduced under the atoms ks and may stand inside another: it is no constant.
     pub ReducedInside : Formula A ℕ → List A → Type 0
@@ -64,8 +68,8 @@ module _ {A : Type 0} (Keeps : Junction → A → A → Type 0) (Undecided : A �
     ReducedInside No ks = ⊥
     ReducedInside (One a) ks = IsUndecided ks a
     ReducedInside (Not f) ks = ⊥
-    ReducedInside (And fs) ks = AreTwo fs × AreDifferent fs × AreKept Conjunction (atoms_of fs) × MembersReduced fs Conjunction ks (beside opposite Conjunction (atoms_of fs) ks)
-    ReducedInside (Or fs) ks = AreTwo fs × AreDifferent fs × AreKept Disjunction (atoms_of fs) × MembersReduced fs Disjunction ks (beside opposite Disjunction (atoms_of fs) ks)
+    ReducedInside (And fs) ks = IsListOf Conjunction fs (MembersReduced fs Conjunction ks (beside opposite Conjunction (atoms_of fs) ks))
+    ReducedInside (Or fs) ks = IsListOf Disjunction fs (MembersReduced fs Disjunction ks (beside opposite Disjunction (atoms_of fs) ks))
     ReducedInside (Impl f g) ks = ⊥
     ReducedInside (Repl f g) ks = ⊥
     ReducedInside (Equiv f g) ks = ⊥

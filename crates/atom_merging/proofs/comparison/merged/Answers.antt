@@ -1,4 +1,7 @@
-use Rattle.std.proofs.Common.{refl, subst, sym}
+use Rattle.std.proofs.Common.{refl, subst, sym, ap, ◌∙◌}
+use Rattle.atom_merging.specs.Computed.{merging_of}
+use Rattle.atom_merging.specs.Computed as merging
+use Rattle.atom_merging.proofs.Computed.{compared_apart, compared_so, absorbing_is, one_or_kept}
 use Rattle.atom_normal.specs.Atoms.{context_of, relation_of}
 use Rattle.atom_normal.proofs.Stepped.{ok_map}
 use Rattle.formula_meaning.specs.Atom.{Compare}
@@ -78,3 +81,52 @@ returns-in-Kept-clause-merged c =
     let y = c.requires.other_normal in
     let p = c.in-Some.ensures.0 in
     stays_kept t r f s g x y p j (judged_verdict t r f s g x y p j c.in-Some.position c.in-Some.ensures.1 Kept c.in-Kept.ensures)
+
+pub returns-in_default-clause-computed : goal.returns-in_default-clause-computed
+returns-in_default-clause-computed c = compared_apart (context_of c.args.context) (junction_of c.args.junction) (relation_of c.args.relation) c.args.form.now (relation_of c.args.other_relation) c.args.other.now c.in_default.ensures
+
+pub returns-in-Settled-clause-computed : goal.returns-in-Settled-clause-computed
+returns-in-Settled-clause-computed c =
+    let t = context_of c.args.context in
+    let j = junction_of c.args.junction in
+    let r = relation_of c.args.relation in
+    let s = relation_of c.args.other_relation in
+    let f = c.args.form.now in
+    let g = c.args.other.now in
+    compared_so t j r f s g c.in-Some.ensures.0 c.in-Some.position c.in-Some.ensures.2 Settled c.in-Settled.ensures (merging_of c.absorbing.result) (ap merging_of c.absorbing.ensures ∙ absorbing_is c.args.junction)
+
+pub returns-in-First-clause-computed : goal.returns-in-First-clause-computed
+returns-in-First-clause-computed c =
+    let t = context_of c.args.context in
+    let j = junction_of c.args.junction in
+    let r = relation_of c.args.relation in
+    let s = relation_of c.args.other_relation in
+    let q = relation_of c.in-First.relation in
+    let f = c.args.form.now in
+    let g = c.args.other.now in
+    ok_map c.normal_comparison.result
+    (λ m w. compared_so t j r f s g c.in-Some.ensures.0 c.in-Some.position c.in-Some.ensures.2 (First q) c.in-First.ensures (merging_of m) (one_or_kept (normal_comparison t q f) m w))
+    c.normal_comparison.ensures.one
+
+pub returns-in-Second-clause-computed : goal.returns-in-Second-clause-computed
+returns-in-Second-clause-computed c =
+    let t = context_of c.args.context in
+    let j = junction_of c.args.junction in
+    let r = relation_of c.args.relation in
+    let s = relation_of c.args.other_relation in
+    let q = relation_of c.in-Second.relation in
+    let f = c.args.form.now in
+    let g = c.args.other.now in
+    ok_map c.normal_comparison-in-Second.result
+    (λ m w. compared_so t j r f s g c.in-Some.ensures.0 c.in-Some.position c.in-Some.ensures.2 (Second q) c.in-Second.ensures (merging_of m) (one_or_kept (normal_comparison t q g) m w))
+    c.normal_comparison-in-Second.ensures.one
+
+pub returns-in-Kept-clause-computed : goal.returns-in-Kept-clause-computed
+returns-in-Kept-clause-computed c =
+    let t = context_of c.args.context in
+    let j = junction_of c.args.junction in
+    let r = relation_of c.args.relation in
+    let s = relation_of c.args.other_relation in
+    let f = c.args.form.now in
+    let g = c.args.other.now in
+    compared_so t j r f s g c.in-Some.ensures.0 c.in-Some.position c.in-Some.ensures.2 Kept c.in-Kept.ensures merging.Kept refl

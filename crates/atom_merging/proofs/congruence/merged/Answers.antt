@@ -1,4 +1,4 @@
-use Rattle.std.proofs.Common.{◌≡◌, rules, pos, sym, subst, ap, ◌∙◌}
+use Rattle.std.proofs.Common.{◌≡◌, refl, rules, pos, sym, subst, ap, ◌∙◌}
 use Rattle.std.specs.Prelude.{FitsSigned, unsigned_abs, ◌-ℤ◌}
 use Rattle.std.specs.Int.{w128}
 use Rattle.std.proofs.lemmas.Int.{to_z-of_z}
@@ -11,6 +11,9 @@ use Rattle.atom_merging.specs.Junctions.{junction_of}
 use Rattle.atom_merging.specs.Answered.{IsOne}
 use Rattle.atom_merging.specs.Merged.{IsMerging}
 use Rattle.atom_merging.proofs.JoinedCongruences.{judged_class, classes_settle, classes_kept, merges_first, merges_second, merges_third, third_atom}
+use Rattle.atom_merging.specs.Computed.{merging_of, is_told}
+use Rattle.atom_merging.specs.Computed as merging
+use Rattle.atom_merging.proofs.Computed.{class_so, absorbing_is, one_is, told_is}
 use Rattle.atom_merging.proofs.Sets.{flip}
 use Rattle.atom_merging.proofs.MergedAnswers.{settled_answer, exact_answer, and_is_told}
 use Rattle.atom_merging.proofs.congruence.merged.Goals as goal
@@ -133,4 +136,108 @@ returns-in-Third-clause-merged c =
     ok_map c.congruence-in-Third.result
     (λ o w. exact_answer Integers j (Congruent b (unsigned_abs m) f) (Congruent d (unsigned_abs m) g) (third_atom m p b f d g x y s j q) o (merges_third m p b f d g x y s j q u h)
     (subst (λ (a : Atom). IsOne a o) (λ i. Congruent q (unsigned_abs (rm i)) (record { terms = f.terms; constant = rt i })) w))
+    c.congruence-in-Third.ensures.one
+
+pub returns-in-Settled-clause-computed : goal.returns-in-Settled-clause-computed
+returns-in-Settled-clause-computed c =
+    let m = c.args.modulus in
+    let p = c.requires.positive in
+    let b = c.args.holds in
+    let d = c.args.other_holds in
+    let f = c.args.form.now in
+    let g = c.args.other.now in
+    let s = c.requires.same_terms in
+    let j = junction_of c.args.junction in
+    let fa : FitsSigned w128 c.constant_part-number.result = search rules in
+    let fb : FitsSigned w128 c.constant_part-other_number.result = search rules in
+    let rm = to_z-of_z w128 m c.ranges.modulus in
+    let ra = to_z-of_z w128 c.constant_part-number.result fa ∙ c.constant_part-number.ensures.value in
+    let rb = to_z-of_z w128 c.constant_part-other_number.result fb ∙ c.constant_part-other_number.ensures.value in
+    let e : Settled ≡ class j m b f.constant d g.constant = sym c.in-Settled.is ∙ c.class_of.ensures ∙ (λ i. class j (rm i) b (ra i) d (rb i)) in
+    class_so j m p b f d g s Settled e (merging_of c.absorbing.result) (ap merging_of c.absorbing.ensures ∙ absorbing_is c.args.junction)
+
+pub returns-in-First-clause-computed : goal.returns-in-First-clause-computed
+returns-in-First-clause-computed c =
+    let m = c.args.modulus in
+    let p = c.requires.positive in
+    let b = c.args.holds in
+    let d = c.args.other_holds in
+    let f = c.args.form.now in
+    let g = c.args.other.now in
+    let s = c.requires.same_terms in
+    let j = junction_of c.args.junction in
+    let fa : FitsSigned w128 c.constant_part-number.result = search rules in
+    let fb : FitsSigned w128 c.constant_part-other_number.result = search rules in
+    let rm = to_z-of_z w128 m c.ranges.modulus in
+    let ra = to_z-of_z w128 c.constant_part-number.result fa ∙ c.constant_part-number.ensures.value in
+    let rb = to_z-of_z w128 c.constant_part-other_number.result fb ∙ c.constant_part-other_number.ensures.value in
+    let e : First ≡ class j m b f.constant d g.constant = sym c.in-First.is ∙ c.class_of.ensures ∙ (λ i. class j (rm i) b (ra i) d (rb i)) in
+    ok_map c.congruence.result
+    (λ o w. class_so j m p b f d g s First e (merging_of o)
+    (one_is (Congruent b (unsigned_abs m) f) o (subst (λ (a : Atom). IsOne a o) (λ i. Congruent b (unsigned_abs (rm i)) (record { terms = f.terms; constant = ra i })) w)))
+    c.congruence.ensures.one
+
+pub returns-in-Second-clause-computed : goal.returns-in-Second-clause-computed
+returns-in-Second-clause-computed c =
+    let m = c.args.modulus in
+    let p = c.requires.positive in
+    let b = c.args.holds in
+    let d = c.args.other_holds in
+    let f = c.args.form.now in
+    let g = c.args.other.now in
+    let s = c.requires.same_terms in
+    let j = junction_of c.args.junction in
+    let fa : FitsSigned w128 c.constant_part-number.result = search rules in
+    let fb : FitsSigned w128 c.constant_part-other_number.result = search rules in
+    let rm = to_z-of_z w128 m c.ranges.modulus in
+    let ra = to_z-of_z w128 c.constant_part-number.result fa ∙ c.constant_part-number.ensures.value in
+    let rb = to_z-of_z w128 c.constant_part-other_number.result fb ∙ c.constant_part-other_number.ensures.value in
+    let e : Second ≡ class j m b f.constant d g.constant = sym c.in-Second.is ∙ c.class_of.ensures ∙ (λ i. class j (rm i) b (ra i) d (rb i)) in
+    ok_map c.congruence-in-Second.result
+    (λ o w. class_so j m p b f d g s Second e (merging_of o)
+    (one_is (Congruent d (unsigned_abs m) g) o (subst (λ (a : Atom). IsOne a o) (λ i. Congruent d (unsigned_abs (rm i)) (record { terms = g.terms; constant = rb i })) w)))
+    c.congruence-in-Second.ensures.one
+
+pub returns-in-Kept-clause-computed : goal.returns-in-Kept-clause-computed
+returns-in-Kept-clause-computed c =
+    let m = c.args.modulus in
+    let p = c.requires.positive in
+    let b = c.args.holds in
+    let d = c.args.other_holds in
+    let f = c.args.form.now in
+    let g = c.args.other.now in
+    let s = c.requires.same_terms in
+    let j = junction_of c.args.junction in
+    let fa : FitsSigned w128 c.constant_part-number.result = search rules in
+    let fb : FitsSigned w128 c.constant_part-other_number.result = search rules in
+    let rm = to_z-of_z w128 m c.ranges.modulus in
+    let ra = to_z-of_z w128 c.constant_part-number.result fa ∙ c.constant_part-number.ensures.value in
+    let rb = to_z-of_z w128 c.constant_part-other_number.result fb ∙ c.constant_part-other_number.ensures.value in
+    let e : Kept ≡ class j m b f.constant d g.constant = sym c.in-Kept.is ∙ c.class_of.ensures ∙ (λ i. class j (rm i) b (ra i) d (rb i)) in
+    class_so j m p b f d g s Kept e merging.Kept refl
+
+pub returns-in-Third-clause-computed : goal.returns-in-Third-clause-computed
+returns-in-Third-clause-computed c =
+    let m = c.args.modulus in
+    let p = c.requires.positive in
+    let b = c.args.holds in
+    let d = c.args.other_holds in
+    let f = c.args.form.now in
+    let g = c.args.other.now in
+    let s = c.requires.same_terms in
+    let j = junction_of c.args.junction in
+    let fa : FitsSigned w128 c.constant_part-number.result = search rules in
+    let fb : FitsSigned w128 c.constant_part-other_number.result = search rules in
+    let rm = to_z-of_z w128 m c.ranges.modulus in
+    let ra = to_z-of_z w128 c.constant_part-number.result fa ∙ c.constant_part-number.ensures.value in
+    let rb = to_z-of_z w128 c.constant_part-other_number.result fb ∙ c.constant_part-other_number.ensures.value in
+    let e : Third ≡ class j m b f.constant d g.constant = sym c.in-Third.is ∙ c.class_of.ensures ∙ (λ i. class j (rm i) b (ra i) d (rb i)) in
+    let third = c.third_class-third.result in
+    let ft : FitsSigned w128 third = search rules in
+    let rt = to_z-of_z w128 third ft ∙ c.third_class-third.ensures ∙ (λ i. (pos 3 -ℤ ra i) -ℤ rb i) in
+    let q = c.is_and.ensures ∙ told_is c.args.junction in
+    ok_map c.congruence-in-Third.result
+    (λ o w. class_so j m p b f d g s Third e (merging_of o)
+    (one_is (Congruent (is_told j) (unsigned_abs m) (record { terms = f.terms; constant = (pos 3 -ℤ f.constant) -ℤ g.constant })) o
+    (subst (λ (a : Atom). IsOne a o) (λ i. Congruent (q i) (unsigned_abs (rm i)) (record { terms = f.terms; constant = rt i })) w)))
     c.congruence-in-Third.ensures.one

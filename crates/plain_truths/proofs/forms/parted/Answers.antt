@@ -1,5 +1,5 @@
-use Rattle.std.proofs.Common.{rules, ◌≡◌, ◌+◌, ◌∷◌, ◌++◌, [], true, false, ℤ, pos, to_z, of_z, FitsSigned, Some, None, Err, drop, slice_get, nat_eq, sym, ap, ◌∙◌, subst, List}
-use Rattle.std.specs.Prelude.{◌*ℤ◌, ◌<ℤ◌, MatchResult}
+use Rattle.std.proofs.Common.{rules, ◌≡◌, ◌+◌, ◌∷◌, ◌++◌, [], true, ℤ, pos, to_z, of_z, FitsSigned, Some, None, Err, drop, slice_get, nat_eq, sym, ap, ◌∙◌, subst, List}
+use Rattle.std.specs.Prelude.{◌*ℤ◌}
 use Rattle.std.specs.Int.{w128}
 use Rattle.std.proofs.lemmas.Int.{to_z-of_z}
 use Rattle.std.specs.declared.vec.Vec.{Vec}
@@ -71,20 +71,20 @@ loop-place-preserved c =
     let found = in_reverse term.name (numbers c.args.names.now) ∙ sym c.stands_in.ensures in
     elim c.if-stands_in.branch [
       | then-stands_in+in-Some-product+in_ok-map_err w ↦
-        let n = w.in-Some-product.number in
-        let rule : Some n ≡ checked (d *ℤ times) = simp to_z-of_z at w.in-Some-product.ensures.rule in
-        let f = formed_by (d *ℤ times) n rule in
-        let fn = fits n f.within in
-        let pushed : w.push.new.self.items ≡ kept ++ (name, to_z w128 (of_z w128 n)) ∷ [] = search rules in
-        let same : n ≡ pos p.below *ℤ times = f.same ∙ ap (λ z. z *ℤ times) below in
-        let more = one_kept kept w.push.new.self.items name (to_z w128 (of_z w128 n)) (pos p.below *ℤ times) pushed (to_z-of_z w128 n fn ∙ same) in
-        subst (λ (v : Vec (VarId × ℤ) Global). IsPartedBefore p ns ts (terms_of v.items) (terms_of c.if-stands_in.out.items) (drop (i + 1) ts)) (sym w.kept-is)
-        (subst (λ (v : Vec (VarId × ℤ) Global). IsPartedBefore p ns ts (terms_of w.push.new.self.items) (terms_of v.items) (drop (i + 1) ts)) (sym w.out-is)
-        (part_kept p ns ts (terms_of kept) (terms_of w.push.new.self.items) (terms_of out) (drop (i + 1) ts) term before (found ∙ w.if-stands_in.true) (subst InLimit same f.within) more))
+          let n = w.in-Some-product.number in
+          let rule : Some n ≡ checked (d *ℤ times) = simp to_z-of_z at w.in-Some-product.ensures.rule in
+          let f = formed_by (d *ℤ times) n rule in
+          let fn = fits n f.within in
+          let pushed : w.push.new.self.items ≡ kept ++ (name, to_z w128 (of_z w128 n)) ∷ [] = search rules in
+          let same : n ≡ pos p.below *ℤ times = f.same ∙ ap (λ z. z *ℤ times) below in
+          let more = one_kept kept w.push.new.self.items name (to_z w128 (of_z w128 n)) (pos p.below *ℤ times) pushed (to_z-of_z w128 n fn ∙ same) in
+          subst (λ (v : Vec (VarId × ℤ) Global). IsPartedBefore p ns ts (terms_of v.items) (terms_of c.if-stands_in.out.items) (drop (i + 1) ts)) (sym w.kept-is)
+          (subst (λ (v : Vec (VarId × ℤ) Global). IsPartedBefore p ns ts (terms_of w.push.new.self.items) (terms_of v.items) (drop (i + 1) ts)) (sym w.out-is)
+          (part_kept p ns ts (terms_of kept) (terms_of w.push.new.self.items) (terms_of out) (drop (i + 1) ts) term before (found ∙ w.if-stands_in.true) (subst InLimit same f.within) more))
       | else-stands_in+in_ok-map_err-2 w ↦
-        let pushed : w.push-else-stands_in.new.self.items ≡ out ++ (name, to_z w128 (of_z w128 times)) ∷ [] = search rules in
-        let more = one_kept out w.push-else-stands_in.new.self.items name (to_z w128 (of_z w128 times)) times pushed (to_z-of_z w128 times ft) in
-        subst (λ (v : Vec (VarId × ℤ) Global). IsPartedBefore p ns ts (terms_of v.items) (terms_of c.if-stands_in.out.items) (drop (i + 1) ts)) (sym w.kept-is)
-        (subst (λ (v : Vec (VarId × ℤ) Global). IsPartedBefore p ns ts (terms_of kept) (terms_of v.items) (drop (i + 1) ts)) (sym w.out-is)
-        (part_out p ns ts (terms_of kept) (terms_of out) (terms_of w.push-else-stands_in.new.self.items) (drop (i + 1) ts) term before (found ∙ w.if-stands_in.false) more))
+          let pushed : w.push-else-stands_in.new.self.items ≡ out ++ (name, to_z w128 (of_z w128 times)) ∷ [] = search rules in
+          let more = one_kept out w.push-else-stands_in.new.self.items name (to_z w128 (of_z w128 times)) times pushed (to_z-of_z w128 times ft) in
+          subst (λ (v : Vec (VarId × ℤ) Global). IsPartedBefore p ns ts (terms_of v.items) (terms_of c.if-stands_in.out.items) (drop (i + 1) ts)) (sym w.kept-is)
+          (subst (λ (v : Vec (VarId × ℤ) Global). IsPartedBefore p ns ts (terms_of kept) (terms_of v.items) (drop (i + 1) ts)) (sym w.out-is)
+          (part_out p ns ts (terms_of kept) (terms_of out) (terms_of w.push-else-stands_in.new.self.items) (drop (i + 1) ts) term before (found ∙ w.if-stands_in.false) more))
     ]

@@ -5,7 +5,7 @@ use Rattle.formula_meaning.specs.Every.{EveryOf}
 use Rattle.formula_meaning.specs.Fold.{append}
 use Rattle.formula_meaning.specs.Sizes.{nodes, all_nodes}
 use Rattle.formula_meaning.specs.Tree.{Tree, InContext}
-use Rattle.elimination_reference.specs.PutIn.{tree_put, trees_put, tree_put_within, trees_put_within}
+use Rattle.elimination_reference.specs.PutIn.{trees_put, tree_put_within, trees_put_within}
 use Rattle.atom_normal.specs.Atoms.{context_of}
 use Rattle.linear_forms.specs.declared.form.VarId.{VarId}
 use Rattle.linear_forms.specs.Values.{point_of}
@@ -19,7 +19,7 @@ use Rattle.nnf_substitution.specs.Placed.{Fails}
 use Rattle.nnf_substitution.proofs.PutLaws.{and_known}
 use Rattle.plain_truths.specs.Put.{around, IsTreePut}
 use Rattle.plain_truths.proofs.Parting.{refused}
-use Rattle.plain_truths.proofs.TreePuts.{quantified_put, quantified_within, one_more_around, taken_back, one_member_put, all_members_put, moduli_more}
+use Rattle.plain_truths.proofs.TreePuts.{quantified_put, quantified_within, one_more_around, one_member_put, all_members_put, moduli_more}
 use Rattle.plain_truths.proofs.formulas.+put.Goals as goal
 
 pub formula_put-returns-in_err-put-in-Quantified-clause-put : goal.formula_put-returns-in_err-put-in-Quantified-clause-put
