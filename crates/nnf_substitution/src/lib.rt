@@ -6,5 +6,5 @@ mod results;
 mod substitution;
 
 pub use atoms::distinct_atoms;
-pub use results::{formula_at, formulas_at, stands_in_some};
+pub use results::{formula_at, formulas_at, is_false, stands_in_some};
 pub use substitution::{of_normal, substituted};

@@ -60,9 +60,9 @@ pub fn formula_at(
     }
 }
 
-// Whether the formula is the constant false.
+/// Whether the formula is the constant false.
 #[tactic(auto, using(nnf_trees::proofs::NnfEquations::nnfs, crate::proofs::ResultLaws::falses))]
-fn is_false(f: &Nnf) -> bool
+pub fn is_false(f: &Nnf) -> bool
     ensures { result ≡ is_no (nnf_of f.now) }
 {
     match f {

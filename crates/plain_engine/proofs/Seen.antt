@@ -45,7 +45,7 @@ trees_appended [] cs = refl
 trees_appended (b ∷ bs) cs = ap (also b.tree) (trees_appended bs cs)
 
 module _ (c : Context) (limit x : ℕ) where
-  full_bare : (b : Branch) (cost : ℕ) → seen (full_step c limit x b cost) ≡ seen (full_step c limit x (bare b.tree) cost)
+  pub full_bare : (b : Branch) (cost : ℕ) → seen (full_step c limit x b cost) ≡ seen (full_step c limit x (bare b.tree) cost)
   full_bare b cost =
       let rs : List Left = step c (normal_atom c) Lower x b.tree in
       seen_alike (within (span_within c x b.tree) cost) _ _ (λ u d.

@@ -16,7 +16,7 @@ use nnf_trees::{Junction, Members, Nnf, Quantifier};
 /// formula stands, the last first. The recursion is as deep as the formula is high.
 #[cycle(branches)]
 #[tactic(auto, using(nnf_trees::proofs::NnfEquations::nnfs))]
-pub(crate) fn branches(
+pub fn branches(
     setting: Setting,
     cost: &mut u64,
     names: Vec<VarId>,

@@ -1,7 +1,7 @@
 //! The reference elimination as a program: quantifiers are eliminated from the inside, branch by branch, and nodes are counted.
 #![tactic(auto)]
 
-mod branches;
+pub mod branches;
 mod eliminate;
 mod measured;
 mod parts;
@@ -9,9 +9,9 @@ mod points;
 mod steps;
 
 pub use eliminate::{eliminate_form, eliminate_plain};
-pub use measured::{Measured, pay};
-pub use parts::stands_in;
-pub use points::stopped;
+pub use measured::{Measured, Setting, pay};
+pub use parts::{before, is_ex, stands_in};
+pub use points::{paid_points, stopped};
 
 #[cfg(test)]
 mod tests;

@@ -23,10 +23,10 @@ pub enum Measured {
 
 /// What stays the same during a computation.
 #[derive(Clone, Copy)]
-pub(crate) struct Setting {
-    pub(crate) alloc: Global,
-    pub(crate) context: Context,
-    pub(crate) limit: u64,
+pub struct Setting {
+    pub alloc: Global,
+    pub context: Context,
+    pub limit: u64,
 }
 
 /// Adds the nodes to the cost; `Nodes` comes exactly where the sum passes the limit.

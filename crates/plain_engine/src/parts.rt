@@ -73,7 +73,7 @@ pub(crate) fn resolved(alloc: Global, f: Nnf) -> Result<Tree, Measured>
 }
 
 /// The names with one before them. Its only error is `Memory`.
-pub(crate) fn before(mut names: Vec<VarId>, x: VarId) -> Result<Vec<VarId>, Measured>
+pub fn before(mut names: Vec<VarId>, x: VarId) -> Result<Vec<VarId>, Measured>
     ensures names { IfOk result (λ v. v.items ≡ x ∷ names.items) }
     ensures memory { IfErr result (λ e. e ≡ Measured.Memory) }
 {
@@ -82,7 +82,7 @@ pub(crate) fn before(mut names: Vec<VarId>, x: VarId) -> Result<Vec<VarId>, Meas
 }
 
 /// Whether the quantifier is `ex`.
-pub(crate) fn is_ex(quantifier: Quantifier) -> bool
+pub fn is_ex(quantifier: Quantifier) -> bool
     ensures { result ≡ is_ex quantifier }
 {
     match quantifier {

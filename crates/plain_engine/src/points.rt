@@ -82,7 +82,7 @@ fn paid_in_integers(
 }
 
 /// The test points of `x` in a branch, paid for: `Overflow` and `Nodes` come exactly where they stop the whole step.
-pub(crate) fn paid_points(
+pub fn paid_points(
     setting: Setting,
     cost: &mut u64,
     x: VarId,

@@ -1,0 +1,15 @@
+-- The program's cases.
+use Rattle.std.specs.Prelude.{List, [], ◌∷◌, All, map}
+use Rattle.elimination_reference.specs.Cases.{Case}
+use Rattle.formula_tree.specs.Trees.{tree_of}
+use Rattle.test_points.specs.Points.{answer_of, IsTestPoint}
+use Rattle.plain_cases.specs.declared.cases.PlainCase.{PlainCase}
+
+-- the case
+abbrev pub case_seen : PlainCase → Case
+case_seen k = record { guard = tree_of k.guard; answers = map answer_of k.answers.items }
+
+-- each answer is a well-formed test point
+abbrev pub HavePoints : List PlainCase → Type 0
+HavePoints [] = Unit {0}
+HavePoints (k ∷ ks) = All IsTestPoint k.answers.items × HavePoints ks

@@ -1,0 +1,67 @@
+// A formula that is left, and the test points that led to it.
+ghost use Rattle.std.specs.Prelude.{◌≡◌, ◌∷◌, IfOk, IfErr};
+ghost use Rattle.nnf_trees.specs.Nnfs.{AreProper};
+ghost use Rattle.plain_engine.specs.Told.{formulas_of, all_bare};
+ghost use Rattle.plain_cases.specs.Stand.{StandFor, AreSound, IsZeroPoint};
+
+use linear_forms::{Linear, VarId};
+use nnf_trees::Nnf;
+use plain_engine::Measured;
+use std::alloc::Global;
+use test_points::{Place, PointError, TestPoint};
+
+/// A formula that is left, and the test points that led to it, the last one first.
+#[derive(Drop)]
+pub(crate) struct Leaf {
+    pub(crate) formula: Nnf,
+    pub(crate) points: Vec<TestPoint>,
+}
+
+/// A point before others, all copied. The only error is `Memory`.
+pub(crate) fn with_point(
+    alloc: Global,
+    point: &TestPoint,
+    points: &[TestPoint],
+) -> Result<Vec<TestPoint>, PointError>
+    ensures items { IfOk result (λ v. v.items ≡ point.now ∷ points.now) }
+    ensures memory { IfErr result (λ e. e ≡ PointError.Memory) }
+{
+    let first = point.copy(alloc)?;
+    let mut all = vec![in alloc; first].map_err(|_| PointError::Memory)?;
+    for other in points {
+        let copy = other.copy(alloc)?;
+        all.push(copy).map_err(|_| PointError::Memory)?;
+    }
+    Ok(all)
+}
+
+/// The point at which a name is put where it stands in no atom: 0.
+pub(crate) fn zero_point(alloc: Global, name: VarId) -> TestPoint
+    ensures { IsZeroPoint name result }
+{
+    TestPoint {
+        name,
+        place: Place::Exact,
+        form: Linear::constant(alloc, 0),
+        over: 1,
+        period: 0,
+    }
+}
+
+/// The formulas, to which no point has led. The only error is `Memory`.
+pub(crate) fn without_points(alloc: Global, formulas: Vec<Nnf>) -> Result<Vec<Leaf>, Measured>
+    requires { AreProper formulas.items }
+    ensures stand { IfOk result (λ v. StandFor v.items (all_bare (formulas_of formulas.items))) }
+    ensures sound { IfOk result (λ v. AreSound v.items) }
+    ensures memory { IfErr result (λ e. e ≡ Measured.Memory) }
+{
+    let mut leaves = Vec::new(alloc);
+    for formula in formulas {
+        let leaf = Leaf {
+            formula,
+            points: Vec::new(alloc),
+        };
+        leaves.push(leaf).map_err(|_| Measured::Memory)?;
+    }
+    Ok(leaves)
+}

@@ -1,0 +1,91 @@
+// The cases of the leading block.
+ghost use Rattle.std.specs.Prelude.{◌≡◌, ℕ, List, map, IfOk, IfErr};
+ghost use Rattle.formula_meaning.specs.Every.{Every};
+ghost use Rattle.atom_normal.specs.Atoms.{context_of};
+ghost use Rattle.atom_normal.specs.NormalForm.{IsNormal};
+ghost use Rattle.elimination_reference.specs.Cases.{case_sign, cases_of, reference_cases};
+ghost use Rattle.elimination_reference.specs.Measured.{done};
+ghost use Rattle.elimination_reference.specs.Reference.{Branch};
+ghost use Rattle.elimination_reference.specs.Theorems.{AreExactCases};
+ghost use Rattle.formula_tree.specs.Trees.{tree_of};
+ghost use Rattle.nnf_trees.specs.Nnfs.{nnf_of, HasModulus};
+ghost use Rattle.plain_engine.specs.Told.{StopsWith};
+ghost use Rattle.plain_cases.specs.Stand.{StandFor, AreSound};
+ghost use Rattle.plain_cases.specs.Case.{case_seen, HavePoints};
+
+use crate::branch::Leaf;
+use crate::chain::leaves;
+use atom_normal::Context;
+use formula_tree::Tree;
+use nnf_trees::{Nnf, form_sizes, into_tree, normal_form};
+use plain_engine::{Measured, Setting, is_ex, pay};
+use std::alloc::Global;
+use test_points::TestPoint;
+
+/// Where the guard is true, the answers make the matrix behind the leading block true.
+#[derive(Drop)]
+pub struct PlainCase {
+    pub guard: Tree,
+    pub answers: Vec<TestPoint>,
+}
+
+// Whether the cases are those of the formula itself, and not of its negation.
+#[tactic(auto, using(nnf_trees::proofs::NnfEquations::nnfs, crate::proofs::Chaining::signs))]
+fn is_asked(f: &Nnf) -> bool
+    ensures { result ≡ case_sign (nnf_of f.now) }
+{
+    match f {
+        Nnf::Constant(_) | Nnf::One(_) | Nnf::Joined(..) => true,
+        Nnf::Quantified(quantifier, _, _) => is_ex(*quantifier),
+    }
+}
+
+// The leaves as cases. The only error is `Memory`.
+fn told(alloc: Global, leaves: Vec<Leaf>) -> Result<Vec<PlainCase>, Measured>
+    requires { AreSound leaves.items }
+    ensures cases { IfOk result (λ v. (bs : List Branch) → StandFor leaves.items bs → map case_seen v.items ≡ cases_of bs) }
+    ensures points { IfOk result (λ v. HavePoints v.items) }
+    ensures memory { IfErr result (λ e. e ≡ Measured.Memory) }
+{
+    let mut cases = Vec::new(alloc);
+    for leaf in leaves {
+        let Leaf { formula, points } = leaf;
+        let guard = into_tree(alloc, formula).map_err(|_| Measured::Memory)?;
+        let case = PlainCase {
+            guard,
+            answers: points,
+        };
+        cases.push(case).map_err(|_| Measured::Memory)?;
+    }
+    Ok(cases)
+}
+
+/// The cases of the leading block of `ex`, or of `all` for the negation, by the reference elimination, in its order: each guard
+/// is true exactly where its answers make the matrix true, and together they are the tree, or its negation. `Nodes` comes exactly
+/// where that costs more than `limit` nodes, and `Overflow` exactly where a number passes 2^127 - 1 before that, else `Memory`.
+///
+/// The recursion is as deep as the tree is high.
+pub fn cases_plain(
+    alloc: Global,
+    tree: &Tree,
+    context: Context,
+    limit: u64,
+) -> Result<Vec<PlainCase>, Measured>
+    requires moduli { Every HasModulus (tree_of tree.now) }
+    requires normal { Every (IsNormal (context_of context)) (tree_of tree.now) }
+    ensures cases { IfOk result (λ v. (cost : ℕ) × (reference_cases (context_of context) limit (tree_of tree.now) ≡ done (map case_seen v.items, cost))) }
+    ensures exact { IfOk result (λ v. AreExactCases (context_of context) (tree_of tree.now) (map case_seen v.items)) }
+    ensures points { IfOk result (λ v. HavePoints v.items) }
+    ensures stops { IfErr result (λ e. StopsWith e (reference_cases (context_of context) limit (tree_of tree.now))) }
+{
+    let setting = Setting {
+        alloc,
+        context,
+        limit,
+    };
+    let mut cost = 0;
+    pay(limit, &mut cost, form_sizes(tree).plain)?;
+    let form = normal_form(alloc, tree, false).map_err(|_| Measured::Memory)?;
+    let left = leaves(setting, &mut cost, Vec::new(alloc), is_asked(&form), &form)?;
+    told(alloc, left)
+}
