@@ -1,5 +1,5 @@
 -- The branches of the leading chain of quantifiers.
-use Rattle.std.proofs.Common.{◌≡◌, ℕ, Bool, true, false, not, ◌&&◌, List, [], ◌∷◌, refl, sym, ap, ◌∙◌, subst, nat_eq}
+use Rattle.std.proofs.Common.{◌≡◌, ℕ, Bool, true, false, not, List, [], ◌∷◌, refl, sym, ap, ◌∙◌, nat_eq}
 use Rattle.std.specs.Prelude.{if◌then◌else◌}
 use Rattle.formula_meaning.specs.Context.{Context}
 use Rattle.formula_meaning.specs.Formula.{Yes, No, One, Not, And, Or, Impl, Repl, Equiv, Ex, All}
@@ -21,7 +21,7 @@ use Rattle.plain_engine.specs.Told.{is_ex, seen, all_bare}
 use Rattle.formula_meaning.specs.Sizes.{nodes}
 use Rattle.plain_cases.specs.declared.branch.Leaf.{Leaf}
 use Rattle.plain_cases.specs.Stand.{goes_on, StandFor, TellsOf}
-use Rattle.plain_cases.proofs.Standing.{IsDone, done_of}
+use Rattle.plain_cases.proofs.Standing.{done_of}
 use mathlib.Core.Bool.{beq}
 
 -- branches without steps

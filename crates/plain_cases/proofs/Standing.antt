@@ -1,5 +1,5 @@
 -- Leaves and the branches for which they stand.
-use Rattle.std.proofs.Common.{◌≡◌, ℕ, Bool, true, false, List, [], ◌∷◌, ◌++◌, length, append_assoc, All, map, refl, sym, ap, ◌∙◌, subst}
+use Rattle.std.proofs.Common.{◌≡◌, ℕ, List, [], ◌∷◌, ◌++◌, length, append_assoc, All, map, refl, sym, ap, ◌∙◌, subst}
 use Rattle.std.specs.Prelude.{Result, IfOk, IfErr}
 use Rattle.std.specs.declared.vec.Vec.{Vec}
 use Rattle.std.specs.declared.alloc.Global.{Global}
@@ -9,10 +9,9 @@ use Rattle.std.proofs.lemmas.List.Elements.{All-cons}
 use Rattle.formula_meaning.specs.Context.{Context}
 use Rattle.formula_meaning.specs.Atom.{AtomIn}
 use Rattle.formula_meaning.specs.Every.{EveryOf}
-use Rattle.formula_meaning.specs.Formula.{none, also}
-use Rattle.formula_meaning.specs.Tree.{Tree, Trees, InContext}
-use Rattle.elimination_reference.specs.Cases.{Case, case_of, cases_of}
-use Rattle.elimination_reference.specs.Measured.{Outcome, stopped, done, then_of}
+use Rattle.formula_meaning.specs.Tree.{InContext}
+use Rattle.elimination_reference.specs.Cases.{case_of, cases_of}
+use Rattle.elimination_reference.specs.Measured.{Outcome, stopped, done}
 use Rattle.elimination_reference.specs.Reference.{Branch, branch_trees}
 use Rattle.nnf_trees.specs.declared.nnf.Nnf.{Nnf}
 use Rattle.nnf_trees.specs.Nnfs.{nnf_of}
@@ -21,8 +20,8 @@ use Rattle.test_points.specs.declared.points.TestPoint.{TestPoint}
 use Rattle.test_points.specs.Points.{answer_of, IsTestPoint}
 use Rattle.plain_engine.specs.declared.measured.Measured.{Measured}
 use Rattle.plain_engine.specs.declared.measured.Measured.TheVariants as measured
-use Rattle.plain_engine.specs.Told.{StopsWith, Told, bare, all_bare, formulas_of, seen}
-use Rattle.plain_engine.proofs.Seen.{stops_then, stops_along, only_memory}
+use Rattle.plain_engine.specs.Told.{StopsWith, bare, all_bare, formulas_of, seen}
+use Rattle.plain_engine.proofs.Seen.{only_memory}
 use Rattle.plain_cases.specs.declared.branch.Leaf.{Leaf}
 use Rattle.plain_cases.specs.declared.cases.PlainCase.{PlainCase}
 use Rattle.plain_cases.specs.Stand.{StandsFor, StandFor, IsSound, AreSound, AreInside, TellsOf, Tells}

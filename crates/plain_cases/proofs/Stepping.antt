@@ -1,5 +1,5 @@
 -- Steps of branches, as the program takes them.
-use Rattle.std.proofs.Common.{◌≡◌, ℕ, ◌*◌, ◌+◌, Bool, true, false, List, [], ◌∷◌, ◌++◌, append_assoc, All, map, refl, sym, ap, ◌∙◌, subst}
+use Rattle.std.proofs.Common.{◌≡◌, ℕ, ◌*◌, ◌+◌, true, false, List, [], ◌∷◌, ◌++◌, append_assoc, map, refl, sym, ap, ◌∙◌, subst}
 use Rattle.std.specs.Prelude.{if◌then◌else◌}
 use Rattle.std.proofs.lemmas.List.{append-nil}
 use Rattle.formula_meaning.specs.Answer.{Place}
@@ -8,7 +8,6 @@ use Rattle.formula_meaning.specs.Formula.{No}
 use Rattle.formula_meaning.specs.Sizes.{nodes}
 use Rattle.formula_meaning.specs.Tree.{Tree}
 use Rattle.elimination_theory.specs.Atoms.{atoms_in, atoms_of}
-use Rattle.elimination_theory.specs.Answers.{answers_of}
 use Rattle.elimination_theory.specs.BothTheories.{test_points}
 use Rattle.elimination_theory.specs.Side.{Lower}
 use Rattle.elimination_theory.specs.Steps.{Result as Left, kept, result_at, results}
@@ -21,14 +20,14 @@ use Rattle.nnf_trees.specs.Nnfs.{nnf_of}
 use Rattle.nnf_substitution.specs.Placed.{is_no, point_within}
 use Rattle.nnf_substitution.proofs.PutLaws.{and_known}
 use Rattle.test_points.specs.declared.points.TestPoint.{TestPoint}
-use Rattle.test_points.specs.Points.{answer_of, place_of, IsTestPoint, IsPointOf}
+use Rattle.test_points.specs.Points.{answer_of, place_of, IsPointOf}
 use Rattle.plain_engine.specs.declared.measured.Measured.{Measured}
 use Rattle.plain_engine.specs.declared.measured.Measured.TheVariants as measured
 use Rattle.plain_engine.specs.Told.{StopsWith, bare, seen}
 use Rattle.plain_engine.specs.Paid.{paid_for}
 use Rattle.plain_engine.proofs.Seen.{stops_then, stops_along, full_bare}
 use Rattle.plain_cases.specs.declared.branch.Leaf.{Leaf}
-use Rattle.plain_cases.specs.Stand.{StandsFor, StandFor, IsSound, AreSound, IsZeroPoint, TellsOf, results_at}
+use Rattle.plain_cases.specs.Stand.{StandsFor, StandFor, IsZeroPoint, TellsOf, results_at}
 use Rattle.plain_cases.proofs.Standing.{stand_appended, stand_pushed, unseen_stops}
 
 -- ---- a list of steps
@@ -168,7 +167,7 @@ module _ (c : Context) (l : Leaf) where
       point_within c x.number (nnf_of l.formula) (place_of t) ≡ true → AreLeft c x.number l made rest all
   left_without x made t rest all g a e n w = record {
     stand = λ b h. let s = a.stand b h in
-    (s.0, s.1, ap (λ bs. s.0 ++ bs) (sym (place_without c x.number b (place_of t) g (map place_of rest) (e ∙ ap (result_at c (normal_atom c) x.number (place_of t)) h.formula) n)) ∙ s.2);
+        (s.0, s.1, ap (λ bs. s.0 ++ bs) (sym (place_without c x.number b (place_of t) g (map place_of rest) (e ∙ ap (result_at c (normal_atom c) x.number (place_of t)) h.formula) n)) ∙ s.2);
     within = sym (and_known (point_within c x.number (nnf_of l.formula) (place_of t)) (each (point_within c x.number (nnf_of l.formula)) (map place_of rest)) w) ∙ a.within;
   }
 
@@ -181,7 +180,7 @@ module _ (c : Context) (l : Leaf) where
           s.0 ++ d ∷ [],
           stand_pushed made made2 m s.0 d s.1 (next_stands l m b x t h i p) q,
           append_assoc s.0 (d ∷ []) (results_at c x.number b (map place_of rest))
-          ∙ ap (λ bs. s.0 ++ bs) (sym (place_with c x.number b (place_of t) (nnf_of m.formula) (map place_of rest) (e ∙ ap (result_at c (normal_atom c) x.number (place_of t)) h.formula) n)) ∙ s.2,
+              ∙ ap (λ bs. s.0 ++ bs) (sym (place_with c x.number b (place_of t) (nnf_of m.formula) (map place_of rest) (e ∙ ap (result_at c (normal_atom c) x.number (place_of t)) h.formula) n)) ∙ s.2,
         );
     within = sym (and_known (point_within c x.number (nnf_of l.formula) (place_of t)) (each (point_within c x.number (nnf_of l.formula)) (map place_of rest)) w) ∙ a.within;
   }

@@ -8,3 +8,5 @@ mod step;
 
 pub use cases::{PlainCase, cases_plain};
 
+#[cfg(test)]
+mod tests;

@@ -14,7 +14,6 @@ use Rattle.plain_engine.specs.Ready.{IsReady}
 use Rattle.plain_engine.specs.Told.{numbers}
 use Rattle.plain_engine.proofs.Arms.{if_ok_also}
 use Rattle.plain_engine.proofs.Readiness.{form_ready}
-use Rattle.plain_cases.specs.declared.cases.PlainCase.{PlainCase}
 use Rattle.plain_cases.specs.Case.{case_seen}
 use Rattle.plain_cases.specs.Stand.{StandFor, TellsOf}
 use Rattle.plain_cases.proofs.Chaining.{cases_are}

@@ -1,8 +1,7 @@
-use Rattle.std.proofs.Common.{rules, arith, ◌≡◌, ◌<◌, ◌∷◌, true, false, List, Err, suc, ℕ, nat_eq, sym, ap, ◌∙◌, subst}
+use Rattle.std.proofs.Common.{rules, arith, ◌≡◌, ◌∷◌, true, false, List, Err, suc, nat_eq, sym, ap, ◌∙◌, subst}
 use Rattle.formula_meaning.specs.Every.{Every}
 use Rattle.formula_meaning.specs.Shape.{is_in}
 use Rattle.formula_meaning.specs.Sizes.{nodes}
-use Rattle.formula_meaning.specs.Tree.{Tree}
 use Rattle.atom_normal.specs.Atoms.{context_of, IsWellFormed}
 use Rattle.elimination_reference.specs.Measured.{then_of}
 use Rattle.elimination_reference.specs.Reference.{branches, branch_trees, steps}

@@ -1,4 +1,3 @@
-use Rattle.std.proofs.Common.{◌*◌}
 use Rattle.formula_meaning.specs.Sizes.{nodes}
 use Rattle.nnf_trees.specs.Nnfs.{nnf_of}
 use Rattle.plain_cases.proofs.chain.+leaves.Given as goal

@@ -1,4 +1,4 @@
-use Rattle.std.proofs.Common.{rules, ◌≡◌, List, [], ◌∷◌, ◌++◌, length, Err, sym, subst}
+use Rattle.std.proofs.Common.{rules, ◌≡◌, List, [], ◌∷◌, ◌++◌, length, sym, subst}
 use Rattle.atom_normal.specs.Atoms.{context_of}
 use Rattle.elimination_reference.specs.Reference.{steps}
 use Rattle.plain_cases.specs.declared.branch.Leaf.{Leaf}

@@ -1,11 +1,11 @@
-use Rattle.std.proofs.Common.{rules, ◌≡◌, ◌+◌, List, ◌∷◌, ◌++◌, [], true, false, All, map, drop, sym, ap, ◌∙◌, subst}
+use Rattle.std.proofs.Common.{rules, ◌≡◌, ◌+◌, List, ◌∷◌, ◌++◌, [], true, drop, sym, ap, ◌∙◌, subst}
 use Rattle.std.specs.declared.vec.Vec.{Vec}
 use Rattle.std.specs.declared.alloc.Global.{Global}
 use Rattle.atom_normal.specs.Atoms.{context_of}
 use Rattle.linear_forms.specs.declared.form.VarId.{VarId}
 use Rattle.nnf_trees.specs.Nnfs.{nnf_of}
 use Rattle.nnf_trees.proofs.Counting.{drop_at}
-use Rattle.nnf_substitution.specs.Placed.{is_no, IsResultAt}
+use Rattle.nnf_substitution.specs.Placed.{IsResultAt}
 use Rattle.test_points.specs.declared.points.TestPoint.{TestPoint}
 use Rattle.test_points.specs.Points.{place_of, IsPointOf}
 use Rattle.plain_cases.specs.declared.branch.Leaf.{Leaf}
@@ -44,14 +44,14 @@ loop-point-preserved c =
     (record { left = left_without o leaf x made t rest points (nnf_of formula) before at.formula (sym c.is_false.ensures ∙ no) at.within; sound = c.loop-point.invariant.sound }) in
     elim c.if-not-is_false.branch [
       | then-not-is_false+in_ok-points+in_ok-map_err w ↦
-        let next : Leaf = record { formula = formula; points = w.in_ok-points.points } in
-        let pushed : w.push.new.self.items ≡ made ++ next ∷ [] = search rules in
-        let items : w.in_ok-points.points.items ≡ t ∷ leaf.points.items = w.in_ok-points.ensures.items ∙ ap (λ (ts : List TestPoint). t ∷ ts) w.deref.ensures.value in
-        subst (λ (v : Vec Leaf Global). Keeps c v.items) (sym w.left-is)
-        (record {
-          left = left_with o leaf x made w.push.new.self.items next t rest points before at.formula (sym c.is_false.ensures ∙ w.if-not-is_false.true) at.within is items pushed;
-          sound = sound_pushed made w.push.new.self.items next c.loop-point.invariant.sound (record { proper = at.proper; points = points_more t leaf.points.items w.in_ok-points.points.items items is.well_formed c.requires.sound.points }) pushed;
-        })
+          let next : Leaf = record { formula = formula; points = w.in_ok-points.points } in
+          let pushed : w.push.new.self.items ≡ made ++ next ∷ [] = search rules in
+          let items : w.in_ok-points.points.items ≡ t ∷ leaf.points.items = w.in_ok-points.ensures.items ∙ ap (λ (ts : List TestPoint). t ∷ ts) w.deref.ensures.value in
+          subst (λ (v : Vec Leaf Global). Keeps c v.items) (sym w.left-is)
+          (record {
+            left = left_with o leaf x made w.push.new.self.items next t rest points before at.formula (sym c.is_false.ensures ∙ w.if-not-is_false.true) at.within is items pushed;
+            sound = sound_pushed made w.push.new.self.items next c.loop-point.invariant.sound (record { proper = at.proper; points = points_more t leaf.points.items w.in_ok-points.points.items items is.well_formed c.requires.sound.points }) pushed;
+          })
       | else-not-is_false+in-One+in-Compare-1 w ↦ without w.left-is w.if-not-is_false.false
       | else-not-is_false+in-One+in-Congruent-1 w ↦ without w.left-is w.if-not-is_false.false
       | else-not-is_false+in-Joined-1 w ↦ without w.left-is w.if-not-is_false.false
