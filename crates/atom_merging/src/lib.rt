@@ -15,6 +15,3 @@ pub use laws::{
     merging_keeps_truth,
 };
 pub use merging::{decides, merge_and, merge_or};
-
-#[cfg(test)]
-mod tests;

@@ -16,6 +16,3 @@ pub use points::{integer_points, points_count};
 pub use scales::Period;
 pub use spans::period;
 pub use substitution::{guard, substitute_integer};
-
-#[cfg(test)]
-mod tests;

@@ -8,8 +8,6 @@ mod parts;
 mod plain;
 mod reading;
 mod resolving;
-#[cfg(test)]
-mod tests;
 
 pub use error::StaticError;
 pub use numbering::number_formula;

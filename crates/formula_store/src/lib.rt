@@ -9,8 +9,6 @@ mod laws;
 mod order;
 mod steps;
 mod store;
-#[cfg(test)]
-mod tests;
 mod truth;
 mod unfold;
 

@@ -6,6 +6,3 @@ mod negation;
 mod plan;
 
 pub use negation::nnf;
-
-#[cfg(test)]
-mod tests;

@@ -14,6 +14,3 @@ pub use negation::negated;
 pub use nnf::{Junction, Members, Nnf, Quantifier};
 pub use sizes::{Sizes, form_sizes, nodes};
 pub use trees::into_tree;
-
-#[cfg(test)]
-mod tests;

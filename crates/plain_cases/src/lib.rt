@@ -7,6 +7,3 @@ mod chain;
 mod step;
 
 pub use cases::{PlainCase, cases_plain};
-
-#[cfg(test)]
-mod tests;

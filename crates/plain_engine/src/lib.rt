@@ -12,6 +12,3 @@ pub use eliminate::{eliminate_form, eliminate_plain};
 pub use measured::{Measured, Setting, pay};
 pub use parts::{before, is_ex, stands_in};
 pub use points::{paid_points, stopped};
-
-#[cfg(test)]
-mod tests;

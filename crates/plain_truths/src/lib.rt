@@ -7,6 +7,3 @@ mod truths;
 
 pub use formulas::put_in;
 pub use truths::truth_plain;
-
-#[cfg(test)]
-mod tests;

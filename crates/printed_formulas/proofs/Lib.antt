@@ -8,4 +8,3 @@ pub mod Forms
 pub mod Places
 pub mod Back
 pub mod Accepted
-pub mod NamesInTests

@@ -3,8 +3,6 @@
 #![tactic(auto)]
 
 mod laws;
-#[cfg(test)]
-mod tests;
 
 pub use laws::{
     deep_text_is_nesting, height_bounds_level, printed_text_is_read_back, printed_text_spells,

@@ -6,8 +6,6 @@ mod linear;
 mod name;
 mod point;
 mod statement;
-#[cfg(test)]
-mod tests;
 mod tree;
 mod truth;
 mod value;

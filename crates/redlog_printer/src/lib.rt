@@ -11,6 +11,3 @@ pub use error::PrintError;
 pub use formulas::formula_text;
 pub use laws::nodes_bound_text;
 pub use output::TEXT_LIMIT;
-
-#[cfg(test)]
-mod tests;

@@ -15,8 +15,6 @@ mod read;
 mod setting;
 mod statement;
 mod terminal;
-#[cfg(test)]
-mod tests;
 mod token;
 
 pub use piece::{Piece, next_piece};

@@ -7,8 +7,6 @@ mod holds;
 mod line;
 mod lines;
 mod session;
-#[cfg(test)]
-mod tests;
 
 pub use formulas::MOST_SUBFORMULAS;
 pub use line::{Line, StatementError};

@@ -8,6 +8,3 @@ mod truth;
 pub use eliminate::eliminate_shared;
 pub use sharing::share;
 pub use truth::truth_by_elimination;
-
-#[cfg(test)]
-mod tests;

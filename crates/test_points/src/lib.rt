@@ -21,6 +21,3 @@ pub use laws::{field_points_suffice, field_substitution_is_exact};
 pub use parts::{form_at, rest};
 pub use points::{Place, Side, TestPoint};
 pub use substitution::{substitute_field, unchanged};
-
-#[cfg(test)]
-mod tests;

@@ -6,4 +6,3 @@ pub mod TermSizes
 pub mod AtomsRead
 pub mod EntryTerms
 pub mod WholeSums
-mod NamesInTests

@@ -5,7 +5,5 @@ mod rational;
 mod read;
 mod sum;
 mod term;
-#[cfg(test)]
-mod tests;
 
 pub use read::{AtomCauses, ReadAtom, read_comparison, read_congruence};
