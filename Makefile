@@ -1,10 +1,15 @@
 # make                    builds the proved program and leaves it at bin/redlog
 # make test               proves everything, and runs the tests and the edits that the proofs must refuse
-# make install PREFIX=..  copies the program to PREFIX/bin
+# make install PREFIX=..  copies the program, its manual page and its documents to PREFIX
+# make uninstall          takes them away again
+# make deb                builds a package of these, which dpkg -i installs
 
 PREFIX ?= /usr/local
+VERSION ?= 0.1.0
+PAGES = docs/LANGUAGE.md docs/TUTORIAL.md docs/DEFINITIONS.md docs/DECISIONS.md README.md
+PACKAGE = bin/redlog_$(VERSION)_amd64
 
-.PHONY: all test install clean
+.PHONY: all test install uninstall deb clean
 
 all: bin/redlog
 
@@ -17,8 +22,22 @@ test:
 	bash .ci/run
 
 install: bin/redlog
-	mkdir -p $(DESTDIR)$(PREFIX)/bin
-	cp bin/redlog $(DESTDIR)$(PREFIX)/bin/redlog
+	install -D -m 755 bin/redlog $(DESTDIR)$(PREFIX)/bin/redlog
+	install -D -m 644 man/redlog.1 $(DESTDIR)$(PREFIX)/share/man/man1/redlog.1
+	install -d $(DESTDIR)$(PREFIX)/share/doc/redlog
+	install -m 644 $(PAGES) $(DESTDIR)$(PREFIX)/share/doc/redlog
+
+uninstall:
+	rm -f $(DESTDIR)$(PREFIX)/bin/redlog $(DESTDIR)$(PREFIX)/share/man/man1/redlog.1
+	rm -rf $(DESTDIR)$(PREFIX)/share/doc/redlog
+
+deb: bin/redlog
+	rm -rf $(PACKAGE)
+	$(MAKE) install PREFIX=/usr DESTDIR=$(CURDIR)/$(PACKAGE)
+	gzip -9n $(PACKAGE)/usr/share/man/man1/redlog.1
+	install -d $(PACKAGE)/DEBIAN
+	sed 's/@VERSION@/$(VERSION)/' man/control > $(PACKAGE)/DEBIAN/control
+	dpkg-deb --root-owner-group --build $(PACKAGE) $(PACKAGE).deb
 
 clean:
 	rm -rf bin crates/*/out

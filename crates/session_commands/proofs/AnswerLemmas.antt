@@ -4,7 +4,7 @@ use Rattle.std.specs.Prelude.{Result, Ok, Err, IfOk, OnOk, IfErr, OnErr}
 use Rattle.qe_syntax.specs.declared.statement.PointEntry.{PointEntry}
 use Rattle.formula_meaning.specs.Formula.{none}
 use Rattle.qe_syntax.specs.Trees.{FormulaTree, FormulaTrees}
-use Rattle.qe_syntax.specs.Statements.{CommandTree, ActionTree, Empty, Ignored, Finish, Choose, Say, Assign, StatementTree, Qe, Holds}
+use Rattle.qe_syntax.specs.Statements.{CommandTree, ActionTree, Empty, Ignored, Finish, Choose, Say, Assign, StatementTree, Simpl, Qe, Holds}
 use Rattle.redlog_reader.specs.Statement.{Spells}
 use Rattle.session_commands.specs.declared.line.Line.{Line}
 use Rattle.session_commands.specs.declared.formulas.Wanted.{Wanted}
@@ -14,22 +14,28 @@ use Rattle.session_commands.specs.Commands.{named}
 use Rattle.session_commands.specs.Steps.{command_of, use_of, IsGiven}
 use Rattle.session_commands.specs.declared.line.StatementError.{StatementError}
 use Rattle.session_commands.specs.declared.line.StatementError.TheVariants as error
-use Rattle.session_commands.specs.Built.{IsBuiltCommand, IsBuilt}
-use Rattle.session_commands.specs.Causes.{Refuses}
-use Rattle.session_commands.specs.Reply.{AnswersCommand, RefusesAction, SpellsRefused, Reply}
-use Rattle.session_commands.specs.Answered.{IsEliminationAnswered, IsEliminationStopped, IsCommandAnswered, IsCommandStopped, IsAssigned, IsAssignmentStopped, IsAnswered, IsStopped}
+use Rattle.session_commands.specs.Built.{IsBuiltCommand, IsBuiltFormula, IsBuilt}
+use Rattle.session_commands.specs.Causes.{formula_line, Refuses}
+use Rattle.session_commands.specs.Reply.{IsFormulaText, Tells, AnswersCommand, RefusesAction, SpellsRefused, Reply}
+use Rattle.session_commands.specs.Answered.{IsCommandAnswered, IsCommandStopped, IsAssigned, IsAssignmentStopped, IsAnswered, IsStopped}
+
+ok_map : {E : Type 0} {P Q : Line → Type 0} (r : Result Line E) → ((answer : Line) → P answer → Q answer) → IfOk r P → IfOk r Q
+ok_map (Ok answer) h k = h answer k
+ok_map (Err e) h k = tt
 
 given_answered : (w : Wanted) (f : FormulaTree) (s next : State) (limit : ℕ) (printed : Bool) (answer : Line) → IsGiven (named s (command_of w f)) limit (use_of None printed) (command_of w f) answer next
     → IsCommandAnswered s limit printed (command_of w f) answer next
 given_answered wanted.Given f s next limit printed answer h = record { built = tt; answered = (h.accepted, (_, (h.formula, h.given, refl), h.line)); after = h.after }
 given_answered wanted.NegationNormal f s next limit printed answer h = record { built = tt; answered = (h.accepted, (_, (h.formula, h.given, refl), h.line)); after = h.after }
-given_answered wanted.Eliminated f s next limit printed answer h = record { built = tt; answered = (h.accepted, (_, (h.formula, h.given, refl), h.line)); after = h.after }
+given_answered (wanted.Simplified given) f s next limit printed answer h = record { built = tt; answered = (h.accepted, (_, (h.formula, h.given, refl), h.line)); after = h.after }
+given_answered (wanted.Eliminated given) f s next limit printed answer h = record { built = tt; answered = (h.accepted, (_, (h.formula, h.given, refl), h.line)); after = h.after }
 
 given_assigned : (w : Wanted) (f : FormulaTree) (s next : State) (limit : ℕ) (printed : Bool) (x : List ℕ) (answer : Line) → IsGiven (named s (command_of w f)) limit (use_of (Some x) printed) (command_of w f) answer next
     → IsAssigned s limit printed x (command_of w f) answer next
 given_assigned wanted.Given f s next limit printed x answer h = record { built = tt; answered = record { accepted = h.accepted; formula = h.formula; given = h.given; line = h.line; binds = h.after } }
 given_assigned wanted.NegationNormal f s next limit printed x answer h = record { built = tt; answered = record { accepted = h.accepted; formula = h.formula; given = h.given; line = h.line; binds = h.after } }
-given_assigned wanted.Eliminated f s next limit printed x answer h = record { built = tt; answered = record { accepted = h.accepted; formula = h.formula; given = h.given; line = h.line; binds = h.after } }
+given_assigned (wanted.Simplified given) f s next limit printed x answer h = record { built = tt; answered = record { accepted = h.accepted; formula = h.formula; given = h.given; line = h.line; binds = h.after } }
+given_assigned (wanted.Eliminated given) f s next limit printed x answer h = record { built = tt; answered = record { accepted = h.accepted; formula = h.formula; given = h.given; line = h.line; binds = h.after } }
 
 -- the same of a result, for a command that is known to be this one
 pub answered_as : {E : Type 0} (r : Result Line E) (w : Wanted) (f : FormulaTree) (c : CommandTree) (s next : State) (limit : ℕ) (printed : Bool) → c ≡ command_of w f
@@ -42,19 +48,29 @@ pub assigned_as : {E : Type 0} (r : Result Line E) (w : Wanted) (f : FormulaTree
 assigned_as (Ok answer) w f c s next limit printed x e h = subst (λ d. IsAssigned s limit printed x d answer next) (sym e) (given_assigned w f s next limit printed x answer h)
 assigned_as (Err e) w f c s next limit printed x p h = tt
 
--- an elimination, whose assumptions are looked at
-eliminates : (f : FormulaTree) (given : FormulaTrees) (c : CommandTree) → c ≡ Qe f given → given ≡ none → c ≡ command_of wanted.Eliminated f
-eliminates f given c e plain = e ∙ ap (Qe f) plain
+-- a command that gives a formula, whatever form it takes
+one_answered : (d : CommandTree) → IsBuiltCommand d → ((s : State) (limit : ℕ) (text : List ℕ) → IsFormulaText s limit d text → Tells s limit d text)
+    → (s next : State) (limit : ℕ) (printed : Bool) (answer : Line) → IsGiven (named s d) limit (use_of None printed) d answer next → IsCommandAnswered s limit printed d answer next
+one_answered d built tells s next limit printed answer h =
+    record { built = built; answered = (h.accepted, (formula_line None (named s d).names h.formula, tells (named s d) limit _ (h.formula, h.given, refl), h.line)); after = h.after }
 
-pub elimination_answered : {E : Type 0} (r : Result Line E) (f : FormulaTree) (given : FormulaTrees) (c : CommandTree) (s next : State) (limit : ℕ) (printed : Bool) → c ≡ Qe f given
-    → IfOk r (λ answer. IsEliminationAnswered s limit (use_of None printed) f given answer next) → IfOk r (λ answer. IsCommandAnswered s limit printed c answer next)
-elimination_answered (Ok answer) f given c s next limit printed e h = answered_as {E = Unit {0}} (Ok answer) wanted.Eliminated f c s next limit printed (eliminates f given c e h.plain) h.answered
-elimination_answered (Err e) f given c s next limit printed p h = tt
+one_assigned : (d : CommandTree) → IsBuiltFormula d → (s next : State) (limit : ℕ) (printed : Bool) (x : List ℕ) (answer : Line) → IsGiven (named s d) limit (use_of (Some x) printed) d answer next
+    → IsAssigned s limit printed x d answer next
+one_assigned d built s next limit printed x answer h = record { built = built; answered = record { accepted = h.accepted; formula = h.formula; given = h.given; line = h.line; binds = h.after } }
 
-pub elimination_assigned : {E : Type 0} (r : Result Line E) (f : FormulaTree) (given : FormulaTrees) (c : CommandTree) (s next : State) (limit : ℕ) (printed : Bool) (x : List ℕ) → c ≡ Qe f given
-    → IfOk r (λ answer. IsEliminationAnswered s limit (use_of (Some x) printed) f given answer next) → IfOk r (λ answer. IsAssigned s limit printed x c answer next)
-elimination_assigned (Ok answer) f given c s next limit printed x e h = assigned_as {E = Unit {0}} (Ok answer) wanted.Eliminated f c s next limit printed x (eliminates f given c e h.plain) h.answered
-elimination_assigned (Err e) f given c s next limit printed x p h = tt
+module _ {E : Type 0} (r : Result Line E) (f : FormulaTree) (gs : FormulaTrees) (c : CommandTree) (s next : State) (limit : ℕ) (printed : Bool) where
+  pub simplification_answered : c ≡ Simpl f gs → IfOk r (λ answer. IsGiven (named s (Simpl f gs)) limit (use_of None printed) (Simpl f gs) answer next) → IfOk r (λ answer. IsCommandAnswered s limit printed c answer next)
+  simplification_answered e h = ok_map r (λ answer k. subst (λ d. IsCommandAnswered s limit printed d answer next) (sym e) (one_answered (Simpl f gs) tt (λ s l t t'. t') s next limit printed answer k)) h
+
+  pub elimination_answered : c ≡ Qe f gs → IfOk r (λ answer. IsGiven (named s (Qe f gs)) limit (use_of None printed) (Qe f gs) answer next) → IfOk r (λ answer. IsCommandAnswered s limit printed c answer next)
+  elimination_answered e h = ok_map r (λ answer k. subst (λ d. IsCommandAnswered s limit printed d answer next) (sym e) (one_answered (Qe f gs) tt (λ s l t t'. t') s next limit printed answer k)) h
+
+  module _ (x : List ℕ) where
+    pub simplification_assigned : c ≡ Simpl f gs → IfOk r (λ answer. IsGiven (named s (Simpl f gs)) limit (use_of (Some x) printed) (Simpl f gs) answer next) → IfOk r (λ answer. IsAssigned s limit printed x c answer next)
+    simplification_assigned e h = ok_map r (λ answer k. subst (λ d. IsAssigned s limit printed x d answer next) (sym e) (one_assigned (Simpl f gs) tt s next limit printed x answer k)) h
+
+    pub elimination_assigned : c ≡ Qe f gs → IfOk r (λ answer. IsGiven (named s (Qe f gs)) limit (use_of (Some x) printed) (Qe f gs) answer next) → IfOk r (λ answer. IsAssigned s limit printed x c answer next)
+    elimination_assigned e h = ok_map r (λ answer k. subst (λ d. IsAssigned s limit printed x d answer next) (sym e) (one_assigned (Qe f gs) tt s next limit printed x answer k)) h
 
 -- the truth at a point
 pub holds_answered : {E : Type 0} (r : Result Line E) (f : FormulaTree) (es : List PointEntry) (c : CommandTree) (s next : State) (limit : ℕ) (printed : Bool) → c ≡ Holds f es
@@ -90,48 +106,51 @@ pub holds_stopped : {T : Type 0} (r : Result T StatementError) (f : FormulaTree)
 holds_stopped (Ok x) f es c s limit printed e h = tt
 holds_stopped (Err e) f es c s limit printed p h = subst (λ d. IsCommandStopped s limit printed d e) (sym p) (command_stop s limit printed (Holds f es) tt e h)
 
--- an elimination that has assumptions or is refused
-module _ (s : State) (limit : ℕ) (printed : Bool) (f : FormulaTree) where
-  elimination_stop : (given : FormulaTrees) (e : StatementError) → IsEliminationStopped s limit (use_of None printed) f given e → IsCommandStopped s limit printed (Qe f given) e
-  elimination_stop given e (inl h) =
-      subst (λ g. IsCommandStopped s limit printed (Qe f g) e) (sym h.0) (command_stop s limit printed (Qe f none) tt e h.1)
-  elimination_stop given e (inr h) = subst (λ d. IsCommandStopped s limit printed (Qe f given) d) (sym h.0) h.1
+-- a refused command that gives a formula
+formula_built : (w : Wanted) (f : FormulaTree) → IsBuiltCommand (command_of w f)
+formula_built wanted.Given f = tt
+formula_built wanted.NegationNormal f = tt
+formula_built (wanted.Simplified given) f = tt
+formula_built (wanted.Eliminated given) f = tt
 
-  pub elimination_stopped : {T : Type 0} (r : Result T StatementError) (given : FormulaTrees) (c : CommandTree) → c ≡ Qe f given
-      → IfErr r (IsEliminationStopped s limit (use_of None printed) f given) → IfErr r (IsCommandStopped s limit printed c)
-  elimination_stopped (Ok x) given c e h = tt
-  elimination_stopped (Err e) given c p h = subst (λ d. IsCommandStopped s limit printed d e) (sym p) (elimination_stop given e h)
+pub formula_stopped : {T : Type 0} (r : Result T StatementError) (w : Wanted) (f : FormulaTree) (c : CommandTree) (s : State) (limit : ℕ) (printed : Bool) → c ≡ command_of w f
+    → IfErr r (Refuses (named s (command_of w f)) limit (use_of None printed) (command_of w f)) → IfErr r (IsCommandStopped s limit printed c)
+formula_stopped (Ok x) w f c s limit printed e h = tt
+formula_stopped (Err e) w f c s limit printed p h = subst (λ d. IsCommandStopped s limit printed d e) (sym p) (command_stop s limit printed (command_of w f) (formula_built w f) e h)
 
-  module _ (x : List ℕ) where
-    assignment_stop : (e : StatementError) → Refuses (named s (Qe f none)) limit (use_of (Some x) printed) (Qe f none) e → IsAssignmentStopped s limit printed x (Qe f none) e
-    assignment_stop error.Syntax h = absurd h.applies
-    assignment_stop error.Memory h = tt
-    assignment_stop error.Long h = (tt, h)
-    assignment_stop error.Lexical h = (tt, h)
-    assignment_stop error.Nesting h = (tt, h)
-    assignment_stop error.Unbound h = (tt, h)
-    assignment_stop error.FormulaAsTerm h = (tt, h)
-    assignment_stop error.Nonlinear h = (tt, h)
-    assignment_stop error.Division h = (tt, h)
-    assignment_stop error.CongruenceContext h = (tt, h)
-    assignment_stop error.Modulus h = (tt, h)
-    assignment_stop error.Depth h = (tt, h)
-    assignment_stop error.Point h = (tt, h)
-    assignment_stop error.Unvalued h = (tt, h)
-    assignment_stop error.Quantified h = (tt, h)
-    assignment_stop error.Overflow h = (tt, h)
-    assignment_stop error.Nodes h = (tt, h)
-    assignment_stop error.Bindings h = (tt, h)
-    assignment_stop error.Text h = (tt, h)
+-- the same of an assignment
+assignment_built : (w : Wanted) (f : FormulaTree) → IsBuiltFormula (command_of w f)
+assignment_built wanted.Given f = tt
+assignment_built wanted.NegationNormal f = tt
+assignment_built (wanted.Simplified given) f = tt
+assignment_built (wanted.Eliminated given) f = tt
 
-    elimination_unassigned : (given : FormulaTrees) (e : StatementError) → IsEliminationStopped s limit (use_of (Some x) printed) f given e → IsAssignmentStopped s limit printed x (Qe f given) e
-    elimination_unassigned given e (inl h) = subst (λ g. IsAssignmentStopped s limit printed x (Qe f g) e) (sym h.0) (assignment_stop e h.1)
-    elimination_unassigned given e (inr h) = subst (λ d. IsAssignmentStopped s limit printed x (Qe f given) d) (sym h.0) h.1
+module _ (s : State) (limit : ℕ) (printed : Bool) (x : List ℕ) (c : CommandTree) (built : IsBuiltFormula c) where
+  assignment_stop : (e : StatementError) → Refuses (named s c) limit (use_of (Some x) printed) c e → IsAssignmentStopped s limit printed x c e
+  assignment_stop error.Syntax h = absurd h.applies
+  assignment_stop error.Memory h = tt
+  assignment_stop error.Long h = (built, h)
+  assignment_stop error.Lexical h = (built, h)
+  assignment_stop error.Nesting h = (built, h)
+  assignment_stop error.Unbound h = (built, h)
+  assignment_stop error.FormulaAsTerm h = (built, h)
+  assignment_stop error.Nonlinear h = (built, h)
+  assignment_stop error.Division h = (built, h)
+  assignment_stop error.CongruenceContext h = (built, h)
+  assignment_stop error.Modulus h = (built, h)
+  assignment_stop error.Depth h = (built, h)
+  assignment_stop error.Point h = (built, h)
+  assignment_stop error.Unvalued h = (built, h)
+  assignment_stop error.Quantified h = (built, h)
+  assignment_stop error.Overflow h = (built, h)
+  assignment_stop error.Nodes h = (built, h)
+  assignment_stop error.Bindings h = (built, h)
+  assignment_stop error.Text h = (built, h)
 
-    pub assignment_stopped : {T : Type 0} (r : Result T StatementError) (given : FormulaTrees) (c : CommandTree) → c ≡ Qe f given
-        → IfErr r (IsEliminationStopped s limit (use_of (Some x) printed) f given) → IfErr r (IsAssignmentStopped s limit printed x c)
-    assignment_stopped (Ok y) given c e h = tt
-    assignment_stopped (Err e) given c p h = subst (λ d. IsAssignmentStopped s limit printed x d e) (sym p) (elimination_unassigned given e h)
+pub assignment_stopped : {T : Type 0} (r : Result T StatementError) (w : Wanted) (f : FormulaTree) (c : CommandTree) (s : State) (limit : ℕ) (printed : Bool) (x : List ℕ) → c ≡ command_of w f
+    → IfErr r (Refuses (named s (command_of w f)) limit (use_of (Some x) printed) (command_of w f)) → IfErr r (IsAssignmentStopped s limit printed x c)
+assignment_stopped (Ok y) w f c s limit printed x e h = tt
+assignment_stopped (Err e) w f c s limit printed x p h = subst (λ d. IsAssignmentStopped s limit printed x d e) (sym p) (assignment_stop s limit printed x (command_of w f) (assignment_built w f) e h)
 
 -- a command that is the statement
 pub say_answered : {E : Type 0} (r : Result Line E) (a : ActionTree) (c : CommandTree) (s next : State) (limit : ℕ) (printed : Bool) → a ≡ Say c → IfOk r (λ answer. IsCommandAnswered s limit printed c answer next)

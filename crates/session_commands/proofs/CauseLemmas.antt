@@ -1,5 +1,5 @@
 -- Causes of refusals, in their order.
-use Rattle.std.proofs.Common.{◌≡◌, ◌⊎◌, inl, inr, ⊎_elim, ℕ, ◌+◌, ◌-◌, ◌*◌, ◌<◌, ◌≤◌, [], sym, subst, refl, arith}
+use Rattle.std.proofs.Common.{◌≡◌, ◌⊎◌, inl, inr, ⊎_elim, ℕ, ◌+◌, ◌-◌, ◌*◌, ◌<◌, ◌≤◌, List, [], sym, subst, refl, arith}
 use Rattle.std.proofs.Math.IntN.{ℤ, pos}
 use Rattle.std.proofs.lemmas.Int.{ints}
 use Rattle.exact_numbers.specs.Limit.{PastLimit}
@@ -11,7 +11,8 @@ use Rattle.qe_syntax.specs.declared.statement.PointEntry.{PointEntry}
 use Rattle.qe_syntax.specs.Statements.{CommandTree}
 use Rattle.qe_syntax.specs.Point.{PassesLimit, IsLeastDenominator}
 use Rattle.qe_syntax.proofs.EntryNumbers.{least_unique}
-use Rattle.formula_tree.specs.Resolving.{place}
+use Rattle.qe_syntax.specs.Trees.{FormulaTree}
+use Rattle.formula_tree.specs.Resolving.{place, names_after}
 use Rattle.formula_tree.specs.Causes.{IsBound, IsNonlinear, Divides, IsBadModulus, OverflowsInReading}
 use Rattle.formula_resolving.specs.declared.error.StaticError.{StaticError}
 use Rattle.formula_resolving.specs.declared.error.StaticError.TheVariants as static
@@ -19,10 +20,12 @@ use Rattle.formula_resolving.specs.Refusals as reading
 use Rattle.session_commands.specs.declared.line.StatementError.{StatementError}
 use Rattle.session_commands.specs.declared.line.StatementError.TheVariants as error
 use Rattle.session_commands.specs.State.{State}
+use Rattle.session_commands.specs.Parts.{given_of}
 use Rattle.session_commands.specs.Commands.{formula_of, entries_of}
 use Rattle.session_commands.specs.Points.{MeanNoPoint}
-use Rattle.session_commands.specs.Causes.{Use, AsksTruth, IsCause, rank, HasNoCauseBelow, Refuses, IsAccepted}
-use Rattle.session_commands.specs.Steps.{static_refusal, HasNumbers, IsReadable, IsUnread}
+use Rattle.session_commands.specs.Causes.{Use, AsksTruth, InSomePart, IsCause, rank, HasNoCauseBelow, Refuses, IsAccepted}
+use Rattle.session_commands.specs.Steps.{static_refusal, HasNumbers, IsReadable, ArePartsNumbered, ArePartsReadable, ArePartsUnread, AppliesToPart, IsFirstPartCause}
+use Rattle.session_commands.proofs.PartLemmas.{some_part, no_part}
 
 -- ---- no entries
 
@@ -45,32 +48,40 @@ rank_is static.Memory = refl
 pub earlier : (d e : StaticError) → rank (static_refusal d) < rank (static_refusal e) → reading.rank d < reading.rank e
 earlier d e h = let p = rank_is d in let q = rank_is e in omega arith
 
-module _ (s : State) (u : Use) (c : CommandTree) (numbers : HasNumbers s.names (formula_of c)) where
+module _ (s : State) (u : Use) (c : CommandTree) (numbers : ArePartsNumbered s.names (formula_of c) (given_of c)) where
   abbrev Applies : StaticError → Type 0
-  Applies d = reading.Applies s.context s.bound s.names (formula_of c) d
+  Applies d = AppliesToPart s (formula_of c) (given_of c) d
 
-  linear_here : IsNonlinear s.context (place s.names) (formula_of c) → Applies static.Nonlinear
-  linear_here h = subst (λ ns. IsNonlinear s.context (place ns) (formula_of c)) (sym numbers) h
+  -- a cause that speaks of the names of the state is one of the names after the formula, and the other way round
+  module _ (P : List (List ℕ) → FormulaTree → Type 0) where
+    after_here : InSomePart c (P s.names) → InSomePart c (λ g. P (names_after s.names g) g)
+    after_here h = some_part (HasNumbers s.names) (P s.names) (λ g. P (names_after s.names g) g) (λ g n p. subst (λ ns. P ns g) (sym n) p) (formula_of c) (given_of c) numbers h
 
-  divides_here : Divides s.context (place s.names) (formula_of c) → Applies static.Division
-  divides_here h = subst (λ ns. Divides s.context (place ns) (formula_of c)) (sym numbers) h
+    here_after : InSomePart c (λ g. P (names_after s.names g) g) → InSomePart c (P s.names)
+    here_after h = some_part (HasNumbers s.names) (λ g. P (names_after s.names g) g) (P s.names) (λ g n p. subst (λ ns. P ns g) n p) (formula_of c) (given_of c) numbers h
 
-  modulus_here : IsBadModulus s.context (place s.names) (formula_of c) → Applies static.Modulus
-  modulus_here h = subst (λ ns. IsBadModulus s.context (place ns) (formula_of c)) (sym numbers) h
+  linear_here : InSomePart c (IsNonlinear s.context (place s.names)) → Applies static.Nonlinear
+  linear_here h = after_here (λ ns. IsNonlinear s.context (place ns)) h
 
-  overflow_here : OverflowsInReading s.context s.bound (place s.names) (formula_of c) → Applies static.Overflow
-  overflow_here h = subst (λ ns. OverflowsInReading s.context s.bound (place ns) (formula_of c)) (sym numbers) h
+  divides_here : InSomePart c (Divides s.context (place s.names)) → Applies static.Division
+  divides_here h = after_here (λ ns. Divides s.context (place ns)) h
+
+  modulus_here : InSomePart c (IsBadModulus s.context (place s.names)) → Applies static.Modulus
+  modulus_here h = after_here (λ ns. IsBadModulus s.context (place ns)) h
+
+  overflow_here : InSomePart c (OverflowsInReading s.context s.bound (place s.names)) → Applies static.Overflow
+  overflow_here h = after_here (λ ns. OverflowsInReading s.context s.bound (place ns)) h
 
   -- a cause in reading is one of the command
   pub cause_of_reading : (d : StaticError) → Applies d → (d ≡ static.Memory) ⊎ IsCause s u c (static_refusal d)
   cause_of_reading static.Unbound h = inr h
   cause_of_reading static.FormulaAsTerm h = inr (inl h)
-  cause_of_reading static.Nonlinear h = inr (subst (λ ns. IsNonlinear s.context (place ns) (formula_of c)) numbers h)
-  cause_of_reading static.Division h = inr (subst (λ ns. Divides s.context (place ns) (formula_of c)) numbers h)
+  cause_of_reading static.Nonlinear h = inr (here_after (λ ns. IsNonlinear s.context (place ns)) h)
+  cause_of_reading static.Division h = inr (here_after (λ ns. Divides s.context (place ns)) h)
   cause_of_reading static.CongruenceContext h = inr h
-  cause_of_reading static.Modulus h = inr (subst (λ ns. IsBadModulus s.context (place ns) (formula_of c)) numbers h)
+  cause_of_reading static.Modulus h = inr (here_after (λ ns. IsBadModulus s.context (place ns)) h)
   cause_of_reading static.Depth h = inr h
-  cause_of_reading static.Overflow h = inr (inl (subst (λ ns. OverflowsInReading s.context s.bound (place ns) (formula_of c)) numbers h))
+  cause_of_reading static.Overflow h = inr (inl (here_after (λ ns. OverflowsInReading s.context s.bound (place ns)) h))
   cause_of_reading static.Memory h = inl refl
 
   -- where no cause in reading applies below a place of the order, nor one of the point or of free names, none does
@@ -113,12 +124,24 @@ nothing_passes (inl (inr h)) =
     absurd (omega (arith, past))
 nothing_passes (inr h) = absurd h.2
 
+-- no cause applies to a formula that is resolved
+readable_part : (s : State) (g : FormulaTree) (d : StaticError) → rank (static_refusal d) < 16 → IsReadable s g → ¬ (reading.Applies s.context s.bound s.names g d)
+readable_part s g static.Unbound l h k = h.bound_names k
+readable_part s g static.FormulaAsTerm l h k = h.variables k
+readable_part s g static.Nonlinear l h k = h.linear k
+readable_part s g static.Division l h k = h.undivided k
+readable_part s g static.CongruenceContext l h k = h.congruences k
+readable_part s g static.Modulus l h k = h.moduli k
+readable_part s g static.Depth l h k = h.flat k
+readable_part s g static.Overflow l h k = h.within k
+readable_part s g static.Memory l h k = absurd (omega arith)
+
 -- the command has no point, and asks for no truth
 pub record IsPlainCommand (c : CommandTree) : Type 0 where
   pub no_entries : entries_of c ≡ []
   pub no_truth : ¬ (AsksTruth c)
 
-module _ (s : State) (u : Use) (c : CommandTree) (numbers : HasNumbers s.names (formula_of c)) (single : IsPlainCommand c) where
+module _ (s : State) (u : Use) (c : CommandTree) (numbers : ArePartsNumbered s.names (formula_of c) (given_of c)) (single : IsPlainCommand c) where
   no_bound : ¬ (SomeOf (λ (e : PointEntry). IsBound s.bound e.name) (entries_of c))
   no_bound h = let k = subst (SomeOf (λ (e : PointEntry). IsBound s.bound e.name)) single.no_entries h in absurd k
 
@@ -128,47 +151,39 @@ module _ (s : State) (u : Use) (c : CommandTree) (numbers : HasNumbers s.names (
   no_past : ¬ (PassesLimit (entries_of c))
   no_past h = nothing_passes (subst PassesLimit single.no_entries h)
 
-  plain_below : (m : ℕ) → m ≤ 16 → ((d : StaticError) → rank (static_refusal d) < m → ¬ (reading.Applies s.context s.bound s.names (formula_of c) d)) → HasNoCauseBelow s u c m
+  plain_below : (m : ℕ) → m ≤ 16 → ((d : StaticError) → rank (static_refusal d) < m → ¬ (AppliesToPart s (formula_of c) (given_of c) d)) → HasNoCauseBelow s u c m
   plain_below m b first = none_below s u c numbers m b first (λ l. no_bound) (λ l. no_meaning) (λ l k. single.no_truth k.0) (λ l. no_past)
 
-  unread_one : (limit : ℕ) (d : StaticError) → reading.IsFirstCause s.context s.bound s.names (formula_of c) d → Refuses s limit u c (static_refusal d)
+  unread_one : (limit : ℕ) (d : StaticError) → IsFirstPartCause s (formula_of c) (given_of c) d → Refuses s limit u c (static_refusal d)
   unread_one limit static.Memory h = tt
   unread_one limit static.Unbound h = record { applies = h.applies; first = plain_below 5 (omega arith) (λ e l. h.first e (earlier e static.Unbound l)) }
   unread_one limit static.FormulaAsTerm h = record { applies = inl h.applies; first = plain_below 6 (omega arith) (λ e l. h.first e (earlier e static.FormulaAsTerm l)) }
   unread_one limit static.Nonlinear h = record {
-    applies = subst (λ ns. IsNonlinear s.context (place ns) (formula_of c)) numbers h.applies;
+    applies = here_after s u c numbers (λ ns. IsNonlinear s.context (place ns)) h.applies;
     first = plain_below 7 (omega arith) (λ e l. h.first e (earlier e static.Nonlinear l));
   }
   unread_one limit static.Division h = record {
-    applies = subst (λ ns. Divides s.context (place ns) (formula_of c)) numbers h.applies;
+    applies = here_after s u c numbers (λ ns. Divides s.context (place ns)) h.applies;
     first = plain_below 8 (omega arith) (λ e l. h.first e (earlier e static.Division l));
   }
   unread_one limit static.CongruenceContext h = record { applies = h.applies; first = plain_below 9 (omega arith) (λ e l. h.first e (earlier e static.CongruenceContext l)) }
   unread_one limit static.Modulus h = record {
-    applies = subst (λ ns. IsBadModulus s.context (place ns) (formula_of c)) numbers h.applies;
+    applies = here_after s u c numbers (λ ns. IsBadModulus s.context (place ns)) h.applies;
     first = plain_below 10 (omega arith) (λ e l. h.first e (earlier e static.Modulus l));
   }
   unread_one limit static.Depth h = record { applies = h.applies; first = plain_below 11 (omega arith) (λ e l. h.first e (earlier e static.Depth l)) }
   unread_one limit static.Overflow h = record {
-    applies = inl (inl (subst (λ ns. OverflowsInReading s.context s.bound (place ns) (formula_of c)) numbers h.applies));
+    applies = inl (inl (here_after s u c numbers (λ ns. OverflowsInReading s.context s.bound (place ns)) h.applies));
     first = plain_below 15 (omega arith) (λ e l. h.first e (earlier e static.Overflow l));
   }
 
-  pub unread_refuses : (limit : ℕ) (e : StatementError) → IsUnread s (formula_of c) e → Refuses s limit u c e
+  pub unread_refuses : (limit : ℕ) (e : StatementError) → ArePartsUnread s (formula_of c) (given_of c) e → Refuses s limit u c e
   unread_refuses limit e h = subst (Refuses s limit u c) (sym h.1) (unread_one limit h.0 h.2)
 
-  readable_applies : IsReadable s (formula_of c) → (d : StaticError) → rank (static_refusal d) < 16 → ¬ (reading.Applies s.context s.bound s.names (formula_of c) d)
-  readable_applies h static.Unbound l k = h.bound_names k
-  readable_applies h static.FormulaAsTerm l k = h.variables k
-  readable_applies h static.Nonlinear l k = h.linear k
-  readable_applies h static.Division l k = h.undivided k
-  readable_applies h static.CongruenceContext l k = h.congruences k
-  readable_applies h static.Modulus l k = h.moduli k
-  readable_applies h static.Depth l k = h.flat k
-  readable_applies h static.Overflow l k = h.within k
-  readable_applies h static.Memory l k = absurd (omega arith)
+  readable_applies : ArePartsReadable s (formula_of c) (given_of c) → (d : StaticError) → rank (static_refusal d) < 16 → ¬ (AppliesToPart s (formula_of c) (given_of c) d)
+  readable_applies h d l = no_part (IsReadable s) (λ g. reading.Applies s.context s.bound s.names g d) (λ g k. readable_part s g d l k) (formula_of c) (given_of c) h
 
-  pub readable_below : IsReadable s (formula_of c) → HasNoCauseBelow s u c 16
+  pub readable_below : ArePartsReadable s (formula_of c) (given_of c) → HasNoCauseBelow s u c 16
   readable_below h = plain_below 16 (omega arith) (readable_applies h)
 
 -- ---- the later causes

@@ -23,6 +23,7 @@ use Rattle.session_commands.specs.Keeping.{state_of, ids_bound, IsSound, IsDesk}
 use Rattle.session_commands.specs.Steps.{KeepsDesk, GrowsDesk}
 use Rattle.session_commands.proofs.BindingLemmas.{trees_kept, ids_kept, trees_by_parts, ids_by_list}
 use Rattle.session_commands.proofs.SoundLemmas.{more_formula}
+use Rattle.session_commands.proofs.VariableLemmas.{AllVariables}
 
 pub state_parts : (c d : Context) (ns ms : List (List ℕ)) (bs es : BoundTrees) → c ≡ d → ns ≡ ms → bs ≡ es
     → (let s : State = record { context = c; names = ns; bound = bs } in let t : State = record { context = d; names = ms; bound = es } in s ≡ t)
@@ -34,9 +35,12 @@ same_state old new ids k =
     state_parts _ _ _ _ _ _ (ap context_of k.context) k.names
     (ap (trees_bound (tree new.store)) k.bindings ∙ trees_kept (IsId old.store) (tree old.store) (IsId new.store) (tree new.store) old.bindings k.store ids)
 
+pub kept_ids : (old new : Desk) → AreIds (IsId old.store) old.bindings → KeepsDesk old new → AreIds (IsId new.store) new.bindings
+kept_ids old new ids k = subst (AreIds (IsId new.store)) (sym k.bindings) (ids_kept (IsId old.store) (tree old.store) (IsId new.store) (tree new.store) old.bindings k.store ids)
+
 pub same_desk : (old new : Desk) → IsDesk old → KeepsDesk old new → IsDesk new
 same_desk old new h k = record {
-  ids = subst (AreIds (IsId new.store)) (sym k.bindings) (ids_kept (IsId old.store) (tree old.store) (IsId new.store) (tree new.store) old.bindings k.store h.ids);
+  ids = kept_ids old new h.ids k;
   bound_once = subst (λ es. IsDistinct same_name (keys_of es)) (sym k.bindings) h.bound_once;
   sound = subst IsSound (sym (same_state old new h.ids k)) h.sound;
 }
@@ -45,15 +49,12 @@ pub length_grows : (old new : List (List ℕ)) → Grows old new → length old 
 length_grows old new g = let e = ap length g.is ∙ length-append old g.more in omega arith
 
 -- more names leave a state sound where they are different
-pub sound_with : (s : State) (names : List (List ℕ)) → IsSound s → IsDistinct same_name names → length s.names ≤ length names → IsSound (record { context = s.context; names = names; bound = s.bound })
-sound_with s names h d l = record {
+pub sound_with : (s : State) (names : List (List ℕ)) → IsSound s → IsDistinct same_name names → AllVariables names → length s.names ≤ length names → IsSound (record { context = s.context; names = names; bound = s.bound })
+sound_with s names h d v l = record {
   names_once = d;
+  variables = v;
   formulas = λ x t e. more_formula s.context (length s.names) (length names) t l (h.formulas x t e);
 }
-
--- variables that are put in
-pub sound_named : (s : State) (xs : List (List ℕ)) → IsSound s → length s.names ≤ length (fold with_name s.names xs) → IsSound (record { context = s.context; names = fold with_name s.names xs; bound = s.bound })
-sound_named s xs h l = sound_with s (fold with_name s.names xs) h (after_distinct xs s.names h.names_once) l
 
 -- ---- formulas given up
 
@@ -83,7 +84,7 @@ pub cleared_desk : (old : Desk) (context : Theory) (bindings : List (List ℕ ×
 unfolding IsDistinct
 cleared_desk old context bindings nodes kept e h =
     subst (λ es. IsDesk (record { alloc = old.alloc; context = context; names = old.names; bindings = es; store = nodes; kept = kept })) (sym e)
-    (record { ids = tt; bound_once = tt; sound = record { names_once = h.sound.names_once; formulas = λ x t f. absurd (cc) } })
+    (record { ids = tt; bound_once = tt; sound = record { names_once = h.sound.names_once; variables = h.sound.variables; formulas = λ x t f. absurd (cc) } })
 
 -- ---- steps one after another
 
@@ -98,6 +99,9 @@ grows_then first second third g k = record {
   bindings = k.bindings ∙ g.bindings;
   store = record { is = λ id h. k.store.is id (g.store.is id h); same = λ id h. k.store.same id (g.store.is id h) ∙ g.store.same id h };
 }
+
+pub keeps_self : (old : Desk) → KeepsDesk old old
+keeps_self old = record { context = refl; names = refl; bindings = refl; store = record { is = λ id h. h; same = λ id h. refl } }
 
 pub keeps_then : (first second third : Desk) → KeepsDesk first second → KeepsDesk second third → KeepsDesk first third
 keeps_then first second third g k = record {

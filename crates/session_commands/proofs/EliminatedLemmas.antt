@@ -1,19 +1,30 @@
 -- Formulas that an elimination gives are formulas of the session.
-use Rattle.std.proofs.Common.{inl, inr, ⊎_elim, ℕ, ◌<◌}
+use Rattle.std.proofs.Common.{◌≡◌, inl, inr, ⊎_elim, ℕ, ◌<◌, List, sym, subst}
+use Rattle.std.proofs.lemmas.Bool.{cases_eq}
 use Rattle.formula_meaning.specs.Context.{Context}
 use Rattle.formula_meaning.specs.Formula.{Formula, Formulas, Yes, No, One, Not, And, Or, Impl, Repl, Equiv, Ex, All}
 use Rattle.formula_meaning.specs.Formula as plain
 use Rattle.formula_meaning.specs.Every.{Every, EveryOf, EveryBound, EveryBoundOf, FreeInSome}
-use Rattle.formula_meaning.specs.Atom.{Mentions}
-use Rattle.formula_meaning.specs.Shape.{IsPlain, ArePlain, IsQuantifierFree, AreQuantifierFree}
+use Rattle.formula_meaning.specs.Atom.{Atom, Mentions}
+use Rattle.formula_meaning.specs.NegationNormal.{normal_form}
+use Rattle.formula_meaning.specs.Shape.{IsPlain, ArePlain, IsNegationNormal, AreNegationNormal, IsQuantifierFree, AreQuantifierFree}
+use Rattle.formula_meaning.proofs.EachAtom.{every_map}
+use Rattle.formula_meaning.proofs.NormalShape.{normal_form_shape, normal_form_every}
 use Rattle.formula_meaning.specs.Tree.{Tree, Trees, IsFree}
 use Rattle.elimination_reference.specs.Theorems.{IsAnswerTo, IsBranching, AreBranching}
 use Rattle.elimination_reference.specs.Theorems as reference
-use Rattle.atom_normal.specs.NormalForm.{IsNormal}
+use Rattle.atom_normal.specs.NormalForm.{IsNormal, negated_normal}
+use Rattle.atom_normal.proofs.NormalLaws.{negated_normal_is}
+use Rattle.simplified_formulas.specs.Orderly.{IsOrderly, AreOrderly}
+use Rattle.simplified_formulas.specs.Reduced as orderly
+use Rattle.simplified_formulas.specs.AtomKit.{atom_kit}
+use Rattle.simplified_formulas.specs.Trees.{simplified_under}
+use Rattle.simplified_formulas.proofs.Bound.{simplified_bound, free_bound, orderly_free}
 use Rattle.redlog_printer.specs.Within.{IsAtomWithin}
 use Rattle.redlog_printer.specs.Bound.{HasTwoMembers, HaveTwoMembers, AreTwo}
 use Rattle.session_commands.specs.Keeping.{IsSessionFormula}
-use Rattle.session_commands.proofs.SoundLemmas.{atom_within, atom_mentions}
+use Rattle.session_commands.specs.Steps.{IsSimplifiedAs}
+use Rattle.session_commands.proofs.SoundLemmas.{atom_within, atom_mentions, members_of_negation}
 
 module _ {A N : Type 0} where
   mutual
@@ -130,3 +141,125 @@ answer_formula c n f t h a =
       };
       members = branching_members t a.tidy.two_members;
     }
+
+-- ---- simplified formulas
+
+two_orderly : {A : Type 0} (fs : Formulas A ℕ) → orderly.AreTwo fs → AreTwo fs
+two_orderly plain.none h = absurd h
+two_orderly (plain.also f plain.none) h = absurd h
+two_orderly (plain.also f (plain.also g fs)) h = tt
+
+module _ {A : Type 0} (P : A → Type 0) where
+  mutual
+    pub orderly_members : (f : Formula A ℕ) → IsOrderly P f → HasTwoMembers f
+    orderly_members Yes h = tt
+    orderly_members No h = tt
+    orderly_members (One a) h = tt
+    orderly_members (Not f) h = absurd h
+    orderly_members (And fs) h = (two_orderly fs h.0, all_orderly_members fs h.1)
+    orderly_members (Or fs) h = (two_orderly fs h.0, all_orderly_members fs h.1)
+    orderly_members (Impl f g) h = absurd h
+    orderly_members (Repl f g) h = absurd h
+    orderly_members (Equiv f g) h = absurd h
+    orderly_members (Ex x f) h = orderly_members f h
+    orderly_members (All x f) h = orderly_members f h
+
+    all_orderly_members : (fs : Formulas A ℕ) → AreOrderly P fs → HaveTwoMembers fs
+    all_orderly_members plain.none h = tt
+    all_orderly_members (plain.also f fs) h = (orderly_members f h.0, all_orderly_members fs h.1)
+
+  two_in_order : (fs : Formulas A ℕ) → AreTwo fs → orderly.AreTwo fs
+  two_in_order plain.none h = absurd h
+  two_in_order (plain.also f plain.none) h = absurd h
+  two_in_order (plain.also f (plain.also g fs)) h = tt
+
+  mutual
+    -- a formula in negation normal form with two members at least in each list is orderly
+    pub orderly_of : (f : Formula A ℕ) → IsNegationNormal f → HasTwoMembers f → Every P f → IsOrderly P f
+    orderly_of Yes n h k = tt
+    orderly_of No n h k = tt
+    orderly_of (One a) n h k = k
+    orderly_of (Not f) n h k = absurd n
+    orderly_of (And fs) n h k = (two_in_order fs h.0, all_orderly_of fs n h.1 k)
+    orderly_of (Or fs) n h k = (two_in_order fs h.0, all_orderly_of fs n h.1 k)
+    orderly_of (Impl f g) n h k = absurd n
+    orderly_of (Repl f g) n h k = absurd n
+    orderly_of (Equiv f g) n h k = absurd n
+    orderly_of (Ex x f) n h k = orderly_of f n h k
+    orderly_of (All x f) n h k = orderly_of f n h k
+
+    all_orderly_of : (fs : Formulas A ℕ) → AreNegationNormal fs → HaveTwoMembers fs → EveryOf P fs → AreOrderly P fs
+    all_orderly_of plain.none n h k = tt
+    all_orderly_of (plain.also f fs) n h k = (orderly_of f n.0 h.0 k.0, all_orderly_of fs n.1 h.1 k.1)
+
+mutual
+  plain_negation_normal : {A : Type 0} (f : Formula A ℕ) → IsPlain f → IsNegationNormal f
+  plain_negation_normal Yes h = tt
+  plain_negation_normal No h = tt
+  plain_negation_normal (One a) h = tt
+  plain_negation_normal (Not f) h = absurd h
+  plain_negation_normal (And fs) h = all_plain_negation_normal fs h
+  plain_negation_normal (Or fs) h = all_plain_negation_normal fs h
+  plain_negation_normal (Impl f g) h = absurd h
+  plain_negation_normal (Repl f g) h = absurd h
+  plain_negation_normal (Equiv f g) h = absurd h
+  plain_negation_normal (Ex x f) h = absurd h
+  plain_negation_normal (All x f) h = absurd h
+
+  all_plain_negation_normal : {A : Type 0} (fs : Formulas A ℕ) → ArePlain fs → AreNegationNormal fs
+  all_plain_negation_normal plain.none h = tt
+  all_plain_negation_normal (plain.also f fs) h = (plain_negation_normal f h.0, all_plain_negation_normal fs h.1)
+
+-- an answer can be simplified
+pub answer_orderly : (c : Context) (f t : Tree) → IsAnswerTo c f t → IsOrderly (IsNormal c) t
+answer_orderly c f t a = orderly_of (IsNormal c) t (plain_negation_normal t a.tidy.is_plain) (branching_members t a.tidy.two_members) a.tidy.normal
+
+-- and so can a negation normal form
+pub negation_orderly : (c : Context) (t : Tree) → Every (IsNormal c) t → HasTwoMembers t → IsOrderly (IsNormal c) (normal_form negated_normal t)
+negation_orderly c t normal members =
+    orderly_of (IsNormal c) (normal_form negated_normal t) (normal_form_shape negated_normal t).0 (members_of_negation t members)
+    (normal_form_every negated_normal (IsNormal c) t (every_map (IsNormal c) (λ a. IsNormal c a × IsNormal c (negated_normal a)) (λ a k. (k, negated_normal_is c a k)) t normal)).0
+
+module _ (c : Context) (n : ℕ) where
+  below : (y : ℕ) (f : Tree) (x : ℕ) → y < n → (¬ (y ≡ x) → x < n) → x < n
+  below y f x l k = elim (cases_eq y x) [ inl e ↦ subst (λ z. z < n) e l | inr d ↦ k d ]
+
+  mutual
+    -- a name that stands in an atom is free in the formula, or quantified
+    within_of_names : (f : Tree) → Every (IsNormal c) f → EveryBound (λ x. x < n) f → ((x : ℕ) → IsFree f x → x < n) → Every (IsAtomWithin n) f
+    within_of_names Yes h b k = tt
+    within_of_names No h b k = tt
+    within_of_names (One a) h b k = atom_within c n a h k
+    within_of_names (Not f) h b k = within_of_names f h b k
+    within_of_names (And fs) h b k = all_within_of_names fs h b k
+    within_of_names (Or fs) h b k = all_within_of_names fs h b k
+    within_of_names (Impl f g) h b k = (within_of_names f h.0 b.0 (λ x m. k x (inl m)), within_of_names g h.1 b.1 (λ x m. k x (inr m)))
+    within_of_names (Repl f g) h b k = (within_of_names f h.0 b.0 (λ x m. k x (inl m)), within_of_names g h.1 b.1 (λ x m. k x (inr m)))
+    within_of_names (Equiv f g) h b k = (within_of_names f h.0 b.0 (λ x m. k x (inl m)), within_of_names g h.1 b.1 (λ x m. k x (inr m)))
+    within_of_names (Ex y f) h b k = within_of_names f h b.1 (λ x m. below y f x b.0 (λ e. k x (e, m)))
+    within_of_names (All y f) h b k = within_of_names f h b.1 (λ x m. below y f x b.0 (λ e. k x (e, m)))
+
+    all_within_of_names : (fs : Trees) → EveryOf (IsNormal c) fs → EveryBoundOf (λ x. x < n) fs → ((x : ℕ) → FreeInSome Mentions fs x → x < n) → EveryOf (IsAtomWithin n) fs
+    all_within_of_names plain.none h b k = tt
+    all_within_of_names (plain.also f fs) h b k = (within_of_names f h.0 b.0 (λ x m. k x (inl m)), all_within_of_names fs h.1 b.1 (λ x m. k x (inr m)))
+
+-- a formula of the session that is simplified is one
+pub simplified_formula : (c : Context) (ks : List Atom) (n : ℕ) (f t : Tree) → IsSessionFormula c n f → IsSimplifiedAs c ks f t → IsSessionFormula c n t
+simplified_formula c ks n f t h a =
+    let bound = a.bound n h.within.quantified in
+    record {
+      normal = a.normal;
+      within = record {
+        atoms = within_of_names c n t a.normal bound (λ x m. free_below n x f h.within.atoms (a.names x m));
+        quantified = bound;
+      };
+      members = orderly_members (IsNormal c) t a.orderly;
+    }
+
+-- ---- what a simplified formula keeps of its quantifiers
+
+pub simplified_quantifies : (c : Context) (ks : List Atom) (f t : Tree) → t ≡ simplified_under c ks f → (n : ℕ) → EveryBound (λ x. x < n) f → EveryBound (λ x. x < n) t
+simplified_quantifies c ks f t e n h = subst (λ (g : Tree). EveryBound (λ x. x < n) g) (sym e) (simplified_bound (atom_kit c) (λ x. x < n) f ks h)
+
+pub simplified_free : (c : Context) (ks : List Atom) (f t : Tree) → t ≡ simplified_under c ks f → IsOrderly (IsNormal c) t → IsQuantifierFree f → IsQuantifierFree t
+simplified_free c ks f t e o h = orderly_free (IsNormal c) t o (subst (λ (g : Tree). EveryBound (λ x. ⊥) g) (sym e) (simplified_bound (atom_kit c) (λ x. ⊥) f ks (free_bound f h)))

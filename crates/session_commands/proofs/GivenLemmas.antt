@@ -1,14 +1,31 @@
 -- Commands that give a formula: what they give, when they are accepted, and why they are refused.
-use Rattle.std.proofs.Common.{◌≡◌, inl, inr, ℕ, ◌<◌, List, [], ◌∷◌, ◌++◌, Bool, true, Option, Some, None, sym, ap, ◌∙◌, subst, refl, length, nat_eq, arith}
+use Rattle.std.proofs.Common.{◌≡◌, inl, inr, ℕ, ◌<◌, List, [], ◌∷◌, ◌++◌, Bool, true, Option, Some, None, sym, ap, ◌∙◌, subst, refl, length, codes, nat_eq, arith, ◌↔◌, ◌≤◌}
+use Rattle.std.proofs.lemmas.List.{length-append}
 use Rattle.std.specs.List.{fold}
+use Rattle.formula_meaning.specs.Formula.{none, also}
+use Rattle.formula_meaning.specs.Point.{Of}
 use Rattle.formula_meaning.specs.Same.{same_atom}
-use Rattle.formula_meaning.specs.Tree.{Tree}
+use Rattle.formula_meaning.specs.Tree.{Tree, TrueAt}
 use Rattle.formula_meaning.proofs.Sizes.{distinct_count_within}
-use Rattle.qe_syntax.specs.Trees.{FormulaTree}
+use Rattle.qe_syntax.specs.Trees.{FormulaTree, FormulaTrees, formula_trees}
 use Rattle.qe_syntax.specs.Statements.{CommandTree}
-use Rattle.qe_syntax.specs.Proper.{IsProperFormula}
+use Rattle.qe_syntax.specs.Proper.{IsProperFormula, AreProperFormulas}
+use Rattle.qe_syntax.specs.Valued.{IsIn}
+use Rattle.qe_syntax.specs.Value.{NamedPoint}
+use Rattle.formula_tree.proofs.PlaceLaws.{after_has, in_either}
+use Rattle.elimination_reference.proofs.Turning.{normal_truths, normal_inside}
+use Rattle.atom_normal.specs.NormalForm.{IsNormal}
+use Rattle.formula_meaning.specs.Atom.{Says}
+use Rattle.formula_meaning.specs.Every.{Every}
+use Rattle.formula_meaning.specs.Point.{Point}
+use Rattle.formula_meaning.specs.Sizes.{nodes}
+use Rattle.formula_meaning.specs.Some.{EachOf}
+use Rattle.formula_tree.specs.Resolving.{bound_truth}
+use Rattle.qe_syntax.specs.Value as written
+use Rattle.redlog_printer.specs.Text.{tree_text}
+use Rattle.session_commands.specs.Steps.{IsWantedAnswer}
 use Rattle.formula_tree.specs.Names.{with_name}
-use Rattle.formula_tree.specs.Resolving.{formula_variables, resolve, at_names}
+use Rattle.formula_tree.specs.Resolving.{formula_variables, all_variables, resolve, at_names}
 use Rattle.redlog_printer.specs.Writing.{text_limit}
 use Rattle.session_commands.specs.declared.line.Line.{Line}
 use Rattle.session_commands.specs.declared.line.StatementError.{StatementError}
@@ -16,14 +33,19 @@ use Rattle.session_commands.specs.declared.line.StatementError.TheVariants as er
 use Rattle.session_commands.specs.declared.formulas.Wanted.{Wanted}
 use Rattle.session_commands.specs.declared.formulas.Wanted.TheVariants as wanted
 use Rattle.session_commands.specs.State.{State}
-use Rattle.session_commands.specs.Commands.{formula_of, named, Gives, MayGive}
+use Rattle.session_commands.specs.Parts.{given_of, EachPart}
+use Rattle.session_commands.specs.Assumptions.{atoms_alone, assumed, Hold}
+use Rattle.session_commands.specs.Commands.{formula_of, named, negated_of, Gives, MayGive, IsSimplification, IsCondition}
 use Rattle.session_commands.specs.Causes.{Use, HasNoRoom, IsTooLarge, HasManyNodes, formula_line, MayRefuse, HasNoCauseBelow, Refuses}
 use Rattle.session_commands.specs.Keeping.{IsSessionFormula, IsSound}
 use Rattle.session_commands.specs.Reply.{IsLine}
-use Rattle.session_commands.specs.Steps.{command_of, use_of, IsGiven, HasNumbers, IsReadable, IsUnread, IsWantedForm, FormFault, MayBind, TargetFault, LineFault, state_with}
+use Rattle.session_commands.specs.Steps.{given_trees, command_of, use_of, IsGiven, HasNumbers, IsReadable, ArePartsNumbered, ArePartsReadable, ArePartsUnread, IsWantedForm, IsSimplifiedAs, FormFault, MayBind, TargetFault, LineFault, state_with}
 use Rattle.session_commands.proofs.CauseLemmas.{IsPlainCommand, unread_refuses, readable_below, below_17, below_18, below_19}
-use Rattle.session_commands.proofs.NameLemmas.{numbers_stay}
-use Rattle.session_commands.proofs.EliminatedLemmas.{plain_free, branching_members, answer_formula}
+use Rattle.session_commands.proofs.NameLemmas.{kept_names}
+use Rattle.session_commands.proofs.PartLemmas.{first_part}
+use Rattle.session_commands.proofs.AssumptionLemmas.{assumed_hold, each_both, alone_has}
+use Rattle.session_commands.proofs.VariableLemmas.{not_empty}
+use Rattle.session_commands.proofs.EliminatedLemmas.{plain_free, answer_formula, orderly_members, simplified_formula}
 use Rattle.session_commands.proofs.SoundLemmas.{resolved_formula, negated_formula}
 use Rattle.session_commands.proofs.TruthLemmas.{truth_as_written}
 
@@ -31,92 +53,179 @@ append_nil : (xs : List (List ℕ)) → xs ++ [] ≡ xs
 append_nil [] = refl
 append_nil (x ∷ xs) = ap (λ z. x ∷ z) (append_nil xs)
 
--- the state with the variables of a formula
-abbrev pub with_variables : State → FormulaTree → State
-with_variables s f = record { context = s.context; names = fold with_name s.names (formula_variables f); bound = s.bound }
+-- ---- the formula and the assumptions of the command
 
-pub named_is : (w : Wanted) (f : FormulaTree) (s : State) → named s (command_of w f) ≡ with_variables s f
-named_is wanted.Given f s = ap (λ xs. let t : State = record { context = s.context; names = fold with_name s.names xs; bound = s.bound } in t) (append_nil (formula_variables f))
-named_is wanted.Eliminated f s = ap (λ xs. let t : State = record { context = s.context; names = fold with_name s.names xs; bound = s.bound } in t) (append_nil (formula_variables f))
-named_is wanted.NegationNormal f s = ap (λ xs. let t : State = record { context = s.context; names = fold with_name s.names xs; bound = s.bound } in t) (append_nil (formula_variables f))
-
-pub numbers_of : (f : FormulaTree) (names : List (List ℕ)) → HasNumbers (fold with_name names (formula_variables f)) f
-numbers_of f names = subst (λ xs. HasNumbers (fold with_name names xs) f) (append_nil (formula_variables f)) (numbers_stay f names [])
-
-formula_is : (w : Wanted) (f : FormulaTree) → formula_of (command_of w f) ≡ f
-formula_is wanted.Given f = refl
-formula_is wanted.NegationNormal f = refl
-formula_is wanted.Eliminated f = refl
+pub parts_are : (w : Wanted) (f : FormulaTree) (X : FormulaTree → FormulaTrees → Type 0) → X f (given_trees w) → X (formula_of (command_of w f)) (given_of (command_of w f))
+parts_are wanted.Given f X h = h
+parts_are wanted.NegationNormal f X h = h
+parts_are (wanted.Simplified given) f X h = h
+parts_are (wanted.Eliminated given) f X h = h
 
 plain_command : (w : Wanted) (f : FormulaTree) → IsPlainCommand (command_of w f)
 plain_command wanted.Given f = record { no_entries = refl; no_truth = λ h. h }
 plain_command wanted.NegationNormal f = record { no_entries = refl; no_truth = λ h. h }
-plain_command wanted.Eliminated f = record { no_entries = refl; no_truth = λ h. h }
+plain_command (wanted.Simplified given) f = record { no_entries = refl; no_truth = λ h. h }
+plain_command (wanted.Eliminated given) f = record { no_entries = refl; no_truth = λ h. h }
+
+-- the state with their variables
+abbrev pub with_variables : State → FormulaTree → FormulaTrees → State
+with_variables s f given = record { context = s.context; names = fold with_name s.names (formula_variables f ++ all_variables given); bound = s.bound }
+
+with_them : (s : State) (f : FormulaTree) (xs ys : List (List ℕ)) → xs ≡ ys
+    → (let t : State = record { context = s.context; names = fold with_name s.names (formula_variables f ++ xs); bound = s.bound } in
+      let u : State = record { context = s.context; names = fold with_name s.names (formula_variables f ++ ys); bound = s.bound } in t ≡ u)
+with_them s f xs ys e = ap (λ zs. let t : State = record { context = s.context; names = fold with_name s.names (formula_variables f ++ zs); bound = s.bound } in t) e
+
+pub named_is : (w : Wanted) (f : FormulaTree) (s : State) → named s (command_of w f) ≡ with_variables s f (given_trees w)
+named_is wanted.Given f s = refl
+named_is wanted.NegationNormal f s = refl
+named_is (wanted.Simplified given) f s = with_them s f _ _ (append_nil (all_variables (formula_trees given.now)))
+named_is (wanted.Eliminated given) f s = with_them s f _ _ (append_nil (all_variables (formula_trees given.now)))
+
+numbered_in : (f : FormulaTree) (gs : FormulaTrees) (names : List (List ℕ)) → ((x : List ℕ) → IsIn x (formula_variables f ++ all_variables gs) → IsIn x names) → ArePartsNumbered names f gs
+numbered_in f none names h = kept_names (formula_variables f) names (λ x i. h x (in_either x (formula_variables f) [] (inl i)))
+numbered_in f (also g gs) names h = (
+  kept_names (formula_variables f) names (λ x i. h x (in_either x (formula_variables f) (formula_variables g ++ all_variables gs) (inl i))),
+  numbered_in g gs names (λ x i. h x (in_either x (formula_variables f) (formula_variables g ++ all_variables gs) (inr i))),
+)
+
+pub numbers_of : (f : FormulaTree) (gs : FormulaTrees) (names : List (List ℕ)) → ArePartsNumbered (fold with_name names (formula_variables f ++ all_variables gs)) f gs
+numbers_of f gs names = numbered_in f gs (fold with_name names (formula_variables f ++ all_variables gs)) (λ x i. after_has (formula_variables f ++ all_variables gs) names x (inr i))
+
+-- ---- refusals in reading
 
 -- no line is refused for the text of a formula that is not the one that is given
-many_nodes : (target : Option (List ℕ)) (t : Tree) → IsTooLarge target t → HasManyNodes target t
-many_nodes None t h = h
-many_nodes (Some x) t h = let d = distinct_count_within same_atom nat_eq t in omega arith
+many_nodes : (target : Option (List ℕ)) (t u : Tree) → nodes t ≤ nodes u → IsTooLarge target t → HasManyNodes target u
+many_nodes None t u l h = h
+many_nodes (Some x) t u l h = let d = distinct_count_within same_atom nat_eq t in omega arith
 
-module _ (w : Wanted) (f : FormulaTree) (s : State) (numbers : HasNumbers s.names f) (limit : ℕ) (target : Option (List ℕ)) (printed : Bool) where
+longer : (target : Option (List ℕ)) (names : List (List ℕ)) (t u : Tree) → length (tree_text names t) ≤ length (tree_text names u) → text_limit < length (formula_line target names t) → text_limit < length (formula_line target names u)
+longer None names t u l h = omega arith
+longer (Some x) names t u l h =
+    let short : text_limit < length ((x ++ codes " := ") ++ tree_text names t) = h in
+    let a = length-append (x ++ codes " := ") (tree_text names t) in
+    let b = length-append (x ++ codes " := ") (tree_text names u) in
+    let goal : text_limit < length ((x ++ codes " := ") ++ tree_text names u) = omega arith in
+    goal
+
+module _ (w : Wanted) (f : FormulaTree) (s : State) (numbers : ArePartsNumbered s.names f (given_trees w)) (limit : ℕ) (target : Option (List ℕ)) (printed : Bool) where
   abbrev command : CommandTree
   command = command_of w f
 
   abbrev done : Use
   done = use_of target printed
 
-  numbers_here : HasNumbers s.names (formula_of command)
-  numbers_here = subst (HasNumbers s.names) (sym (formula_is w f)) numbers
+  numbers_here : ArePartsNumbered s.names (formula_of command) (given_of command)
+  numbers_here = parts_are w f (λ g gs. ArePartsNumbered s.names g gs) numbers
 
-  pub refused_unread : (e : StatementError) → IsUnread s f e → Refuses s limit done command e
-  refused_unread e h = unread_refuses s done command numbers_here (plain_command w f) limit e (subst (λ g. IsUnread s g e) (sym (formula_is w f)) h)
+  pub refused_unread : (e : StatementError) → ArePartsUnread s f (given_trees w) e → Refuses s limit done command e
+  refused_unread e h = unread_refuses s done command numbers_here (plain_command w f) limit e (parts_are w f (λ g gs. ArePartsUnread s g gs e) h)
 
-  pub clear_16 : IsReadable s f → HasNoCauseBelow s done command 16
-  clear_16 h = readable_below s done command numbers_here (plain_command w f) (subst (IsReadable s) (sym (formula_is w f)) h)
+  pub clear_16 : ArePartsReadable s f (given_trees w) → HasNoCauseBelow s done command 16
+  clear_16 h = readable_below s done command numbers_here (plain_command w f) (parts_are w f (λ g gs. ArePartsReadable s g gs) h)
 
-  pub clear_15 : IsReadable s f → HasNoCauseBelow s done command 15
+  pub clear_15 : ArePartsReadable s f (given_trees w) → HasNoCauseBelow s done command 15
   clear_15 h = λ e l. clear_16 h e (omega arith)
+
+-- ---- what is given
+
+-- the negation normal form has the truth of the formula
+negated_truth : (s : State) (f : FormulaTree) → Every (IsNormal s.context) (resolve s.context s.bound s.names f) → (p : Point ℕ) → Of s.context p
+    → TrueAt s.context (resolve s.context s.bound s.names f) p ↔ TrueAt s.context (negated_of s f) p
+negated_truth s f normal p of =
+    let t = resolve s.context s.bound s.names f in
+    (normal_truths s.context t p (normal_inside s.context t normal) of).0
 
 -- the formula t is given, where it is the wanted form of the resolved formula
 module _ (f : FormulaTree) (s : State) (limit : ℕ) (t : Tree) where
+  abbrev resolution : Tree
+  resolution = resolve s.context s.bound s.names f
+
   abbrev Given : Wanted → Type 0
-  Given w = IsWantedForm s.context limit w (resolve s.context s.bound s.names f) t
+  Given w = IsWantedForm s.context (assumed s (given_trees w)) limit w resolution t
 
   one : (w : Wanted) → Given w → (other : Tree) → Gives s (command_of w f) other → other ≡ t
   one wanted.Given h other k = k ∙ sym h
   one wanted.NegationNormal h other k = k ∙ sym h
-  one wanted.Eliminated h other k = absurd k
+  one (wanted.Simplified given) h other k = absurd k
+  one (wanted.Eliminated given) h other k = absurd k
 
-  gives : (w : Wanted) → IsReadable s f → IsSound s → HasNumbers s.names f → Given w → MayGive s limit (command_of w f) t
-  gives wanted.Given readable sound numbers h = h
-  gives wanted.NegationNormal readable sound numbers h = h
-  gives wanted.Eliminated readable sound numbers h = record {
-    free = plain_free t h.exact.tidy.is_plain;
-    names = h.exact.eliminated.names;
-    truth = λ p of.
-        let same = truth_as_written s f numbers sound.names_once readable p of in
-        let q = h.exact.eliminated.equivalent (at_names s.names p) of in
-        (λ k. q.0 (same.0 k), λ k. same.1 (q.1 k));
-    small = h.small;
-    normal = h.exact.tidy.normal;
-    members = branching_members t h.exact.tidy.two_members;
-  }
+  -- ---- simplified
+
+  module _ (gs : FormulaTrees) (readable : ArePartsReadable s f gs) (sound : IsSound s) (numbers : ArePartsNumbered s.names f gs) (own : IsSessionFormula s.context (length s.names) resolution) where
+    same_here : (p : NamedPoint) → Of s.context p → written.TrueAt (bound_truth s.context s.bound s.names) s.context f p ↔ TrueAt s.context resolution (at_names s.names p)
+    same_here p of = truth_as_written s f (first_part (HasNumbers s.names) f gs numbers) sound.names_once (first_part (IsReadable s) f gs readable) p of
+
+    assumptions_say : (p : NamedPoint) → Of s.context p → Hold s gs p → EachOf (λ k. Says k (at_names s.names p)) (assumed s gs)
+    assumptions_say p of hold = assumed_hold s f gs readable sound.names_once numbers p of hold
+
+    simplification : IsSimplifiedAs s.context (assumed s gs) (negated_of s f) t → IsSimplification s f gs t
+    simplification h = record {
+      reduced = h.reduced;
+      truth = λ p of hold.
+          let q = at_names s.names p in
+          let a = same_here p of in
+          let b = negated_truth s f own.normal q of in
+          let c = h.truth q of (assumptions_say p of hold) in
+          (λ x. c.1 (b.0 (a.0 x)), λ x. a.1 (b.1 (c.0 x)));
+      names = h.names;
+      nodes = h.nodes;
+      atoms = h.atoms;
+      text = h.text s.names (not_empty s.names sound.variables) (negated_formula s.context (length s.names) resolution own).within.atoms;
+      normal = h.normal;
+      members = orderly_members (IsNormal s.context) t h.orderly;
+    }
+
+    condition : IsWantedAnswer s.context (assumed s gs) limit resolution t → IsCondition s limit f gs t
+    condition h =
+        let exact = h.eliminated.exact in
+        let small = h.eliminated.small in
+        let fewer = h.simplified.nodes in
+        record {
+          free = h.simplified.free (plain_free h.answer exact.tidy.is_plain);
+          names = λ n m. exact.eliminated.names n (h.simplified.names n m);
+          reduced = h.simplified.reduced;
+          truth = λ p of hold.
+              let q = at_names s.names p in
+              let a = same_here p of in
+              let b = exact.eliminated.equivalent q of in
+              let c = h.simplified.truth q of (assumptions_say p of hold) in
+              (λ x. c.1 (b.0 (a.0 x)), λ x. a.1 (b.1 (c.0 x)));
+          small = omega arith;
+          normal = h.simplified.normal;
+          members = orderly_members (IsNormal s.context) t h.simplified.orderly;
+        }
+
+  gives : (w : Wanted) → ArePartsReadable s f (given_trees w) → IsSound s → IsSessionFormula s.context (length s.names) resolution → ArePartsNumbered s.names f (given_trees w) → Given w → MayGive s limit (command_of w f) t
+  gives wanted.Given readable sound own numbers h = h
+  gives wanted.NegationNormal readable sound own numbers h = h
+  gives (wanted.Simplified given) readable sound own numbers h = simplification (formula_trees given.now) readable sound numbers own h
+  gives (wanted.Eliminated given) readable sound own numbers h = condition (formula_trees given.now) readable sound numbers own h
 
   too_large : (w : Wanted) → Given w → (u : Use) → IsTooLarge u.target t → MayRefuse s limit u (command_of w f) error.Bindings
   too_large wanted.Given h u k = inl (inr (t, h, k))
   too_large wanted.NegationNormal h u k = inl (inr (t, h, k))
-  too_large wanted.Eliminated h u k = inr (t, (h.cost, h.same), many_nodes u.target t k)
+  too_large (wanted.Simplified given) h u k = inr (negated_of s f, refl, many_nodes u.target t (negated_of s f) h.nodes k)
+  too_large (wanted.Eliminated given) h u k = inr (h.answer, (h.eliminated.cost, h.eliminated.same), many_nodes u.target t h.answer h.simplified.nodes k)
 
-  too_long : (w : Wanted) → Given w → (u : Use) → u.printed ≡ true → text_limit < length (formula_line u.target s.names t) → MayRefuse s limit u (command_of w f) error.Text
-  too_long wanted.Given h u p k = inl (p, (t, h, k))
-  too_long wanted.NegationNormal h u p k = inl (p, (t, h, k))
-  too_long wanted.Eliminated h u p k = inr (p, (t, (h.cost, h.same), k))
+  -- the names are none that is empty, and those of the resolved formula have numbers
+  module _ (sound : IsSound s) (own : IsSessionFormula s.context (length s.names) resolution) where
+    too_long : (w : Wanted) → Given w → (u : Use) → u.printed ≡ true → text_limit < length (formula_line u.target s.names t) → MayRefuse s limit u (command_of w f) error.Text
+    too_long wanted.Given h u p k = inl (p, (t, h, k))
+    too_long wanted.NegationNormal h u p k = inl (p, (t, h, k))
+    too_long (wanted.Simplified given) h u p k =
+        let short = h.text s.names (not_empty s.names sound.variables) (negated_formula s.context (length s.names) resolution own).within.atoms in
+        inr (p, (negated_of s f, refl, longer u.target s.names t (negated_of s f) short k))
+    too_long (wanted.Eliminated given) h u p k =
+        let answered = answer_formula s.context (length s.names) resolution h.answer own h.eliminated.exact in
+        let short = h.simplified.text s.names (not_empty s.names sound.variables) answered.within.atoms in
+        inr (p, (h.answer, (h.eliminated.cost, h.eliminated.same), longer u.target s.names t h.answer short k))
 
   no_room : (w : Wanted) (u : Use) → HasNoRoom s.bound u.target → MayRefuse s limit u (command_of w f) error.Bindings
   no_room w u k = inl (inl k)
 
-module _ (w : Wanted) (f : FormulaTree) (s : State) (numbers : HasNumbers s.names f) (limit : ℕ) (target : Option (List ℕ)) (printed : Bool) (t : Tree)
-    (given : IsWantedForm s.context limit w (resolve s.context s.bound s.names f) t) (h : IsReadable s f) where
+module _ (w : Wanted) (f : FormulaTree) (s : State) (numbers : ArePartsNumbered s.names f (given_trees w)) (limit : ℕ) (target : Option (List ℕ)) (printed : Bool) (t : Tree)
+    (given : IsWantedForm s.context (assumed s (given_trees w)) limit w (resolve s.context s.bound s.names f) t) (h : ArePartsReadable s f (given_trees w)) where
   pub refused_target : (e : StatementError) → TargetFault s.bound target t e → Refuses s limit (use_of target printed) (command_of w f) e
   refused_target error.Bindings (inl k) = record { applies = no_room f s limit t w (use_of target printed) k; first = below_17 s (use_of target printed) (command_of w f) (clear_16 w f s numbers limit target printed h) }
   refused_target error.Bindings (inr k) = record { applies = too_large f s limit t w given (use_of target printed) k; first = below_17 s (use_of target printed) (command_of w f) (clear_16 w f s numbers limit target printed h) }
@@ -128,44 +237,60 @@ module _ (w : Wanted) (f : FormulaTree) (s : State) (numbers : HasNumbers s.name
       below_18 s (use_of target printed) (command_of w f) (below_17 s (use_of target printed) (command_of w f) (clear_16 w f s numbers limit target printed h))
       (λ k. elim k [ inl r ↦ b.room r | inr m ↦ b.small (subst (IsTooLarge target) (one f s limit t w given m.0 m.1) m.2) ])
 
-  pub refused_line : MayBind s.bound target t → (e : StatementError) → LineFault printed (formula_line target s.names t) e → Refuses s limit (use_of target printed) (command_of w f) e
-  refused_line b error.Text k = record { applies = too_long f s limit t w given (use_of target printed) k.0 k.1; first = clear_18 b }
-  refused_line b error.Memory k = tt
-  refused_line b _ k = absurd k
+  module _ (sound : IsSound s) (own : IsSessionFormula s.context (length s.names) (resolve s.context s.bound s.names f)) where
+    pub refused_line : MayBind s.bound target t → (e : StatementError) → LineFault printed (formula_line target s.names t) e → Refuses s limit (use_of target printed) (command_of w f) e
+    refused_line b error.Text k = record { applies = too_long f s limit t sound own w given (use_of target printed) k.0 k.1; first = clear_18 b }
+    refused_line b error.Memory k = tt
+    refused_line b _ k = absurd k
 
-  pub is_given : IsSound s → MayBind s.bound target t → (answer : Line) → IsLine printed (formula_line target s.names t) answer
-      → ¬ (LineFault printed (formula_line target s.names t) error.Text) → IsGiven s limit (use_of target printed) (command_of w f) answer (state_with s target t)
-  is_given sound b answer line short = record {
-    accepted = below_19 s (use_of target printed) (command_of w f) (clear_18 b) (λ k. short (k.0, subst (λ u. text_limit < length (formula_line target s.names u)) (one f s limit t w given k.1.0 k.1.1) k.1.2));
-    formula = t;
-    given = gives f s limit t w h sound numbers given;
-    line = line;
-    after = refl;
-  }
+    pub is_given : MayBind s.bound target t → (answer : Line) → IsLine printed (formula_line target s.names t) answer
+        → ¬ (LineFault printed (formula_line target s.names t) error.Text) → IsGiven s limit (use_of target printed) (command_of w f) answer (state_with s target t)
+    is_given b answer line short = record {
+      accepted = below_19 s (use_of target printed) (command_of w f) (clear_18 b) (λ k. short (k.0, subst (λ u. text_limit < length (formula_line target s.names u)) (one f s limit t w given k.1.0 k.1.1) k.1.2));
+      formula = t;
+      given = gives f s limit t w h sound own numbers given;
+      line = line;
+      after = refl;
+    }
 
 -- the resolved formula is one of the session, and so is the one that is given
 pub readable_formula : (f : FormulaTree) (s : State) → HasNumbers s.names f → IsSound s → IsProperFormula f → IsReadable s f → IsSessionFormula s.context (length s.names) (resolve s.context s.bound s.names f)
 readable_formula f s numbers sound proper h = resolved_formula s.context s.bound s.names f sound.formulas numbers proper h
 
-pub given_formula : (w : Wanted) (f : FormulaTree) (s : State) (limit : ℕ) (t : Tree) → IsWantedForm s.context limit w (resolve s.context s.bound s.names f) t → HasNumbers s.names f → IsSound s
-    → IsProperFormula f → IsReadable s f → IsSessionFormula s.context (length s.names) t
-given_formula wanted.Given f s limit t given numbers sound proper h = subst (IsSessionFormula s.context (length s.names)) (sym given) (readable_formula f s numbers sound proper h)
-given_formula wanted.NegationNormal f s limit t given numbers sound proper h =
-    subst (IsSessionFormula s.context (length s.names)) (sym given) (negated_formula s.context (length s.names) _ (readable_formula f s numbers sound proper h))
-given_formula wanted.Eliminated f s limit t given numbers sound proper h = answer_formula s.context (length s.names) _ t (readable_formula f s numbers sound proper h) given.exact
+-- the assumptions are normal atoms
+pub assumed_normal : (s : State) → IsSound s → (f : FormulaTree) (gs : FormulaTrees) → ArePartsNumbered s.names f gs → ArePartsReadable s f gs → AreProperFormulas gs → EachOf (IsNormal s.context) (assumed s gs)
+assumed_normal s sound f none numbers readable proper = tt
+assumed_normal s sound f (also g gs) numbers readable proper =
+    each_both (IsNormal s.context) (atoms_alone (resolve s.context s.bound s.names g)) (assumed s gs)
+    (alone_has (IsNormal s.context) (resolve s.context s.bound s.names g) (readable_formula g s (first_part (HasNumbers s.names) g gs numbers.1) sound proper.0 (first_part (IsReadable s) g gs readable.1)).normal)
+    (assumed_normal s sound g gs numbers.1 readable.1 proper.1)
+
+pub given_formula : (w : Wanted) (f : FormulaTree) (s : State) (limit : ℕ) (t : Tree) → IsWantedForm s.context (assumed s (given_trees w)) limit w (resolve s.context s.bound s.names f) t
+    → IsSessionFormula s.context (length s.names) (resolve s.context s.bound s.names f) → IsSessionFormula s.context (length s.names) t
+given_formula wanted.Given f s limit t given own = subst (IsSessionFormula s.context (length s.names)) (sym given) own
+given_formula wanted.NegationNormal f s limit t given own = subst (IsSessionFormula s.context (length s.names)) (sym given) (negated_formula s.context (length s.names) _ own)
+given_formula (wanted.Simplified g) f s limit t given own = simplified_formula s.context _ (length s.names) _ t (negated_formula s.context (length s.names) _ own) given
+given_formula (wanted.Eliminated g) f s limit t given own = simplified_formula s.context _ (length s.names) given.answer t (answer_formula s.context (length s.names) _ given.answer own given.eliminated.exact) given.simplified
 
 -- the form is not made
-module _ (f : FormulaTree) (s : State) (numbers : HasNumbers s.names f) (limit : ℕ) (target : Option (List ℕ)) (printed : Bool) (h : IsReadable s f) where
-  abbrev Fault : Wanted → StatementError → Type 0
-  Fault w e = FormFault s.context limit w (resolve s.context s.bound s.names f) e
+module _ (w : Wanted) (f : FormulaTree) (s : State) (numbers : ArePartsNumbered s.names f (given_trees w)) (limit : ℕ) (target : Option (List ℕ)) (printed : Bool) (h : ArePartsReadable s f (given_trees w)) where
+  first_16 : HasNoCauseBelow s (use_of target printed) (command_of w f) 16
+  first_16 = clear_16 w f s numbers limit target printed h
 
-  pub refused_form : (w : Wanted) (e : StatementError) → Fault w e → Refuses s limit (use_of target printed) (command_of w f) e
-  refused_form wanted.NegationNormal error.Nodes k = record { applies = inl (tt, k); first = clear_16 wanted.NegationNormal f s numbers limit target printed h }
-  refused_form wanted.Eliminated error.Nodes k = record { applies = inr k; first = clear_16 wanted.Eliminated f s numbers limit target printed h }
-  refused_form wanted.Eliminated error.Overflow k = record { applies = inr (inr k); first = clear_15 wanted.Eliminated f s numbers limit target printed h }
-  refused_form wanted.Given error.Memory k = tt
-  refused_form wanted.NegationNormal error.Memory k = tt
-  refused_form wanted.Eliminated error.Memory k = tt
-  refused_form wanted.Given _ k = absurd k
-  refused_form wanted.NegationNormal _ k = absurd k
-  refused_form wanted.Eliminated _ k = absurd k
+  first_15 : HasNoCauseBelow s (use_of target printed) (command_of w f) 15
+  first_15 = clear_15 w f s numbers limit target printed h
+
+pub refused_form : (w : Wanted) (f : FormulaTree) (s : State) (numbers : ArePartsNumbered s.names f (given_trees w)) (limit : ℕ) (target : Option (List ℕ)) (printed : Bool) → ArePartsReadable s f (given_trees w)
+    → (e : StatementError) → FormFault s.context limit w (resolve s.context s.bound s.names f) e → Refuses s limit (use_of target printed) (command_of w f) e
+refused_form wanted.NegationNormal f s numbers limit target printed h error.Nodes k = record { applies = inl (tt, k); first = first_16 wanted.NegationNormal f s numbers limit target printed h }
+refused_form (wanted.Simplified g) f s numbers limit target printed h error.Nodes k = record { applies = inr (inl k); first = first_16 (wanted.Simplified g) f s numbers limit target printed h }
+refused_form (wanted.Eliminated g) f s numbers limit target printed h error.Nodes k = record { applies = inr (inr k); first = first_16 (wanted.Eliminated g) f s numbers limit target printed h }
+refused_form (wanted.Eliminated g) f s numbers limit target printed h error.Overflow k = record { applies = inr (inr k); first = first_15 (wanted.Eliminated g) f s numbers limit target printed h }
+refused_form wanted.Given f s numbers limit target printed h error.Memory k = tt
+refused_form wanted.NegationNormal f s numbers limit target printed h error.Memory k = tt
+refused_form (wanted.Simplified g) f s numbers limit target printed h error.Memory k = tt
+refused_form (wanted.Eliminated g) f s numbers limit target printed h error.Memory k = tt
+refused_form wanted.Given f s numbers limit target printed h _ k = absurd k
+refused_form wanted.NegationNormal f s numbers limit target printed h _ k = absurd k
+refused_form (wanted.Simplified g) f s numbers limit target printed h _ k = absurd k
+refused_form (wanted.Eliminated g) f s numbers limit target printed h _ k = absurd k

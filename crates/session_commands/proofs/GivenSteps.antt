@@ -1,17 +1,20 @@
 -- The steps of a command that gives a formula, on the desk.
-use Rattle.std.proofs.Common.{◌≡◌, ⊎_elim, ℕ, List, Bool, Option, Some, None, sym, ap, ◌∙◌, subst, refl, length}
-use Rattle.std.specs.List.{fold, IsDistinct}
+use Rattle.std.proofs.Common.{◌≡◌, ⊎_elim, ℕ, List, [], ◌∷◌, ◌++◌, map, Bool, Option, Some, None, sym, ap, ◌∙◌, subst, refl, length}
+use Rattle.std.specs.List.{AllByRecursion, fold, IsDistinct}
 use Rattle.std.specs.Map.{keys_of}
+use Rattle.formula_meaning.specs.Atom.{Atom}
 use Rattle.formula_meaning.specs.Every.{Every}
+use Rattle.formula_meaning.specs.Some.{EachOf}
 use Rattle.formula_meaning.specs.Tree.{Tree}
 use Rattle.atom_normal.specs.Atoms.{context_of}
 use Rattle.atom_normal.specs.NormalForm.{IsNormal}
-use Rattle.qe_syntax.specs.Trees.{FormulaTree}
-use Rattle.qe_syntax.specs.Proper.{IsProperFormula}
+use Rattle.qe_syntax.specs.declared.tree.Formula.{Formula}
+use Rattle.qe_syntax.specs.Trees.{FormulaTree, FormulaTrees, formula_tree, formulas_of}
+use Rattle.qe_syntax.specs.Proper.{IsProperFormula, AreProperFormulas}
 use Rattle.qe_syntax.specs.Value.{same_name}
 use Rattle.formula_tree.specs.Bindings.{bind}
 use Rattle.formula_tree.specs.Names.{with_name}
-use Rattle.formula_tree.specs.Resolving.{formula_variables, resolve}
+use Rattle.formula_tree.specs.Resolving.{formula_variables, all_variables, resolve}
 use Rattle.formula_tree.proofs.PlaceLaws.{after_distinct}
 use Rattle.formula_resolving.specs.Numbering.{Grows}
 use Rattle.formula_resolving.specs.Refusals.{AreIds}
@@ -29,19 +32,32 @@ use Rattle.session_commands.specs.Commands.{named}
 use Rattle.session_commands.specs.Causes.{formula_line, Refuses}
 use Rattle.session_commands.specs.Keeping.{state_of, IsSessionFormula, IsSound, IsDesk}
 use Rattle.session_commands.specs.Reply.{IsLine}
-use Rattle.session_commands.specs.Steps.{KeepsDesk, HasNumbers, IsUnread, IsReadable, command_of, use_of, IsGiven, IsWantedForm, FormFault, MayBind, TargetFault, LineFault, state_with, bound_after}
+use Rattle.session_commands.specs.Assumptions.{assumed}
+use Rattle.session_commands.specs.Steps.{KeepsDesk, HasNumbers, IsReadable, ArePartsNumbered, ArePartsReadable, ArePartsUnread, given_trees, command_of, use_of, IsGiven, IsWantedForm, FormFault, MayBind, TargetFault, LineFault, state_with, bound_after}
 use Rattle.session_commands.proofs.BindingLemmas.{bind_trees, bind_ids, bind_distinct, bound_there}
 use Rattle.session_commands.proofs.DeskLemmas.{state_parts, same_state, same_desk, sound_with, length_grows}
-use Rattle.session_commands.proofs.GivenLemmas.{named_is, numbers_of, refused_unread, refused_form, refused_target, refused_line, is_given, readable_formula, given_formula}
+use Rattle.session_commands.proofs.PartLemmas.{first_part}
+use Rattle.session_commands.proofs.VariableLemmas.{AllVariables, both, variables_of_formula, variables_of_all, all_put_in}
+use Rattle.session_commands.proofs.GivenLemmas.{assumed_normal, named_is, numbers_of, refused_unread, refused_form, refused_target, refused_line, is_given, readable_formula, given_formula}
 
 -- a state with one more formula bound is sound
 sound_bound : (s : State) (x : List ℕ) (t : Tree) → IsSound s → IsSessionFormula s.context (length s.names) t → IsSound (state_with s (Some x) t)
 sound_bound s x t h k = record {
   names_once = h.names_once;
+  variables = h.variables;
   formulas = λ y u e. ⊎_elim (λ old. h.formulas y u old) (λ new. subst (IsSessionFormula s.context (length s.names)) (sym new) k) (bound_there s.bound x y t u e);
 }
 
-module _ (w : Wanted) (f : FormulaTree) (desk : Desk) (names : List (List ℕ)) (is : names ≡ fold with_name desk.names (formula_variables f)) where
+-- the names with the variables of the formula and of these assumptions, which are those of the wanted form
+pub names_are : (w : Wanted) (f : FormulaTree) (desk : Desk) (names : List (List ℕ)) (gs : FormulaTrees) → names ≡ fold with_name desk.names (formula_variables f ++ all_variables gs) → gs ≡ given_trees w
+    → names ≡ fold with_name desk.names (formula_variables f ++ all_variables (given_trees w))
+names_are w f desk names gs e g = e ∙ ap (λ hs. fold with_name desk.names (formula_variables f ++ all_variables hs)) g
+
+pub proper_items : (gs : List Formula) → AreProperFormulas (formulas_of (map formula_tree gs)) → AllByRecursion (λ g. IsProperFormula (formula_tree g)) gs
+proper_items [] h = tt
+proper_items (g ∷ gs) h = (h.0, proper_items gs h.1)
+
+module _ (w : Wanted) (f : FormulaTree) (desk : Desk) (names : List (List ℕ)) (is : names ≡ fold with_name desk.names (formula_variables f ++ all_variables (given_trees w))) where
   -- the desk where the variables have their numbers
   abbrev pub numbered : Desk
   numbered = record { alloc = desk.alloc; context = desk.context; names = names; bindings = desk.bindings; store = desk.store; kept = desk.kept }
@@ -49,45 +65,64 @@ module _ (w : Wanted) (f : FormulaTree) (desk : Desk) (names : List (List ℕ)) 
   start : named (state_of desk) (command_of w f) ≡ state_of numbered
   start = named_is w f (state_of desk) ∙ state_parts _ _ _ _ _ _ refl (sym is) refl
 
-  pub numbers : HasNumbers names f
-  numbers = subst (λ ms. HasNumbers ms f) (sym is) (numbers_of f desk.names)
+  pub numbers : ArePartsNumbered names f (given_trees w)
+  numbers = subst (λ ms. ArePartsNumbered ms f (given_trees w)) (sym is) (numbers_of f (given_trees w) desk.names)
 
-  pub numbered_desk : IsDesk desk → Grows desk.names names → IsDesk numbered
-  numbered_desk h g = record {
-    ids = h.ids;
-    bound_once = h.bound_once;
-    sound = sound_with (state_of desk) names h.sound (subst (λ ms. IsDistinct same_name ms) (sym is) (after_distinct (formula_variables f) desk.names h.sound.names_once)) (length_grows desk.names names g);
-  }
+  pub numbered_desk : IsDesk desk → Grows desk.names names → IsProperFormula f → AreProperFormulas (given_trees w) → IsDesk numbered
+  numbered_desk h g proper proper_given =
+      let xs = formula_variables f ++ all_variables (given_trees w) in
+      let variables = both (formula_variables f) (all_variables (given_trees w)) (variables_of_formula f proper) (variables_of_all (given_trees w) proper_given) in
+      record {
+        ids = h.ids;
+        bound_once = h.bound_once;
+        sound = sound_with (state_of desk) names h.sound (subst (λ ms. IsDistinct same_name ms) (sym is) (after_distinct xs desk.names h.sound.names_once))
+            (subst AllVariables (sym is) (all_put_in desk.names xs h.sound.variables variables)) (length_grows desk.names names g);
+      }
 
   module _ (limit : ℕ) (target : Option (List ℕ)) (printed : Bool) where
     refuses : (e : StatementError) → Refuses (state_of numbered) limit (use_of target printed) (command_of w f) e → Refuses (named (state_of desk) (command_of w f)) limit (use_of target printed) (command_of w f) e
     refuses e h = subst (λ s. Refuses s limit (use_of target printed) (command_of w f) e) (sym start) h
 
-    pub unread_step : (e : StatementError) → IsUnread (state_of numbered) f e → Refuses (named (state_of desk) (command_of w f)) limit (use_of target printed) (command_of w f) e
+    pub unread_step : (e : StatementError) → ArePartsUnread (state_of numbered) f (given_trees w) e → Refuses (named (state_of desk) (command_of w f)) limit (use_of target printed) (command_of w f) e
     unread_step e h = refuses e (refused_unread w f (state_of numbered) numbers limit target printed e h)
 
-    module _ (readable : IsReadable (state_of numbered) f) where
-      -- the desk after the formula was resolved, and its tree
-      module _ (read : Desk) (kept : KeepsDesk numbered read) (t : Tree) (same : t ≡ resolve (state_of numbered).context (state_of numbered).bound names f) where
+    module _ (readable : ArePartsReadable (state_of numbered) f (given_trees w)) where
+      -- the resolved formula
+      abbrev resolution : Tree
+      resolution = resolve (state_of numbered).context (state_of numbered).bound names f
+
+      own : IsDesk numbered → IsProperFormula f → IsSessionFormula (state_of numbered).context (length names) resolution
+      own h proper = readable_formula f (state_of numbered) (first_part (HasNumbers names) f (given_trees w) numbers) h.sound proper (first_part (IsReadable (state_of numbered)) f (given_trees w) readable)
+
+      -- the desk after the formula and its assumptions were resolved, the formula's tree, and the atoms
+      module _ (read : Desk) (kept : KeepsDesk numbered read) (t : Tree) (same : t ≡ resolution) (ks : List Atom) (same_atoms : ks ≡ assumed (state_of numbered) (given_trees w)) where
         theory : context_of read.context ≡ (state_of numbered).context
         theory = ap context_of kept.context
 
         pub form_step : (e : StatementError) → FormFault (context_of read.context) limit w t e → Refuses (named (state_of desk) (command_of w f)) limit (use_of target printed) (command_of w f) e
         form_step e h =
-            refuses e (refused_form f (state_of numbered) numbers limit target printed readable w e
+            refuses e (refused_form w f (state_of numbered) numbers limit target printed readable e
             (subst (λ u. FormFault (state_of numbered).context limit w u e) same (subst (λ c. FormFault c limit w t e) theory h)))
 
         pub normal_step : IsDesk numbered → IsProperFormula f → Every (IsNormal (context_of read.context)) t
-        normal_step h proper =
-            subst (λ c. Every (IsNormal c) t) (sym theory)
-            (subst (Every (IsNormal (state_of numbered).context)) (sym same) (readable_formula f (state_of numbered) numbers h.sound proper readable).normal)
+        normal_step h proper = subst (λ c. Every (IsNormal c) t) (sym theory) (subst (Every (IsNormal (state_of numbered).context)) (sym same) (own h proper).normal)
 
-        pub wanted_step : (u : Tree) → IsWantedForm (context_of read.context) limit w t u → IsWantedForm (state_of numbered).context limit w (resolve (state_of numbered).context (state_of numbered).bound names f) u
-        wanted_step u h = subst (λ v. IsWantedForm (state_of numbered).context limit w v u) same (subst (λ c. IsWantedForm c limit w t u) theory h)
+        pub two_step : IsDesk numbered → IsProperFormula f → HasTwoMembers t
+        two_step h proper = subst (λ (u : Tree). HasTwoMembers u) (sym same) (own h proper).members
+
+        pub atoms_step : IsDesk numbered → AreProperFormulas (given_trees w) → EachOf (IsNormal (context_of read.context)) ks
+        atoms_step h proper =
+            subst (λ c. EachOf (IsNormal c) ks) (sym theory)
+            (subst (EachOf (IsNormal (state_of numbered).context)) (sym same_atoms) (assumed_normal (state_of numbered) h.sound f (given_trees w) numbers readable proper))
+
+        pub wanted_step : (u : Tree) → IsWantedForm (context_of read.context) ks limit w t u → IsWantedForm (state_of numbered).context (assumed (state_of numbered) (given_trees w)) limit w resolution u
+        wanted_step u h =
+            subst (λ ls. IsWantedForm (state_of numbered).context ls limit w resolution u) same_atoms
+            (subst (λ v. IsWantedForm (state_of numbered).context ks limit w v u) same (subst (λ c. IsWantedForm c ks limit w t u) theory h))
 
       -- the desk after the form was made, and its id
-      module _ (later : Desk) (h : IsDesk numbered) (k : KeepsDesk numbered later) (id : FormulaId) (made : IsId later.store id)
-          (given : IsWantedForm (state_of numbered).context limit w (resolve (state_of numbered).context (state_of numbered).bound names f) (tree later.store id)) where
+      module _ (later : Desk) (h : IsDesk numbered) (k : KeepsDesk numbered later) (id : FormulaId) (made : IsId later.store id) (proper : IsProperFormula f)
+          (given : IsWantedForm (state_of numbered).context (assumed (state_of numbered) (given_trees w)) limit w resolution (tree later.store id)) where
         same : state_of later ≡ state_of numbered
         same = same_state numbered later h.ids k
 
@@ -107,16 +142,16 @@ module _ (w : Wanted) (f : FormulaTree) (desk : Desk) (names : List (List ℕ)) 
 
         pub line_step : MayBind (state_of later).bound target (tree later.store id) → (e : StatementError) → LineFault printed (formula_line target later.names (tree later.store id)) e
             → Refuses (named (state_of desk) (command_of w f)) limit (use_of target printed) (command_of w f) e
-        line_step b e t = refuses e (refused_line w f (state_of numbered) numbers limit target printed (tree later.store id) given readable (may_bind b) e (subst (λ text. LineFault printed text e) line_is t))
+        line_step b e t = refuses e (refused_line w f (state_of numbered) numbers limit target printed (tree later.store id) given readable h.sound (own h proper) (may_bind b) e (subst (λ text. LineFault printed text e) line_is t))
 
-        session_formula : IsProperFormula f → IsSessionFormula (state_of numbered).context (length names) (tree later.store id)
-        session_formula proper = given_formula w f (state_of numbered) limit (tree later.store id) given numbers h.sound proper readable
+        session_formula : IsSessionFormula (state_of numbered).context (length names) (tree later.store id)
+        session_formula = given_formula w f (state_of numbered) limit (tree later.store id) given (own h proper)
 
-        pub within_step : IsProperFormula f → IsTreeWithin (length later.names) (tree later.store id)
-        within_step proper = subst (λ ns. IsTreeWithin (length ns) (tree later.store id)) (sym k.names) (session_formula proper).within
+        pub within_step : IsTreeWithin (length later.names) (tree later.store id)
+        within_step = subst (λ ns. IsTreeWithin (length ns) (tree later.store id)) (sym k.names) session_formula.within
 
-        pub members_step : IsProperFormula f → HasTwoMembers (tree later.store id)
-        members_step proper = (session_formula proper).members
+        pub members_step : HasTwoMembers (tree later.store id)
+        members_step = session_formula.members
 
         -- the desk with the formula bound
         abbrev pub last : Desk
@@ -134,12 +169,12 @@ module _ (w : Wanted) (f : FormulaTree) (desk : Desk) (names : List (List ℕ)) 
         answer_step b answer line short =
             subst (λ s. IsGiven s limit (use_of target printed) (command_of w f) answer (state_of last)) (sym start)
             (subst (IsGiven (state_of numbered) limit (use_of target printed) (command_of w f) answer) (sym (last_state target))
-            (is_given w f (state_of numbered) numbers limit target printed (tree later.store id) given readable h.sound (may_bind b) answer (subst (λ text. IsLine printed text answer) line_is line)
+            (is_given w f (state_of numbered) numbers limit target printed (tree later.store id) given readable h.sound (own h proper) (may_bind b) answer (subst (λ text. IsLine printed text answer) line_is line)
             (λ t. short (subst (λ text. LineFault printed text error.Text) (sym line_is) t))))
 
-        last_sound : IsProperFormula f → (o : Option (List ℕ)) → IsSound (state_with (state_of numbered) o (tree later.store id))
-        last_sound proper None = h.sound
-        last_sound proper (Some x) = sound_bound (state_of numbered) x (tree later.store id) h.sound (session_formula proper)
+        last_sound : (o : Option (List ℕ)) → IsSound (state_with (state_of numbered) o (tree later.store id))
+        last_sound None = h.sound
+        last_sound (Some x) = sound_bound (state_of numbered) x (tree later.store id) h.sound session_formula
 
         kept_desk : IsDesk later
         kept_desk = same_desk numbered later h k
@@ -152,5 +187,5 @@ module _ (w : Wanted) (f : FormulaTree) (desk : Desk) (names : List (List ℕ)) 
         last_once None = kept_desk.bound_once
         last_once (Some x) = bind_distinct later.bindings x id kept_desk.bound_once
 
-        pub desk_step : IsProperFormula f → IsDesk last
-        desk_step proper = record { ids = last_ids target; bound_once = last_once target; sound = subst IsSound (sym (last_state target)) (last_sound proper target) }
+        pub desk_step : IsDesk last
+        desk_step = record { ids = last_ids target; bound_once = last_once target; sound = subst IsSound (sym (last_state target)) (last_sound target) }

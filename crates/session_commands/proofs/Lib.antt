@@ -1,9 +1,12 @@
+pub mod PartLemmas
 pub mod NameLemmas
+pub mod VariableLemmas
 pub mod SoundLemmas
 pub mod EliminatedLemmas
 pub mod BindingLemmas
 pub mod DeskLemmas
 pub mod CauseLemmas
+pub mod AssumptionLemmas
 pub mod GivenLemmas
 pub mod GivenSteps
 pub mod AnswerLemmas

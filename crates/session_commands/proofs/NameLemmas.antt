@@ -48,3 +48,10 @@ grows_itself names = record { more = []; is = sym (append_nil names) }
     append_nil : (xs : List (List ℕ)) → xs ++ [] ≡ xs
     append_nil [] = refl
     append_nil (x ∷ xs) = ap (λ z. x ∷ z) (append_nil xs)
+
+pub grows_then : (first second third : List (List ℕ)) → Grows first second → Grows second third → Grows first third
+grows_then first second third g h = record { more = g.more ++ h.more; is = h.is ∙ ap (λ ns. ns ++ h.more) g.is ∙ append_assoc first g.more h.more }
+  where
+    append_assoc : (xs ys zs : List (List ℕ)) → (xs ++ ys) ++ zs ≡ xs ++ (ys ++ zs)
+    append_assoc [] ys zs = refl
+    append_assoc (x ∷ xs) ys zs = ap (λ t. x ∷ t) (append_assoc xs ys zs)

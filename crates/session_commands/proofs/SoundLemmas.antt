@@ -279,6 +279,9 @@ resolved_formula c bound names f trees numbers proper accepted =
       members = members_replaced by (place names) f (proper_members f proper) (every_map _ (λ a. HasTwoMembers (by a)) (λ a h. h.members) f each);
     }
 
+pub members_of_negation : (t : Tree) → HasTwoMembers t → HasTwoMembers (normal_form negated_normal t)
+members_of_negation t h = (members_normal_form negated_normal t h).0
+
 -- the negation normal form of a formula of a session
 pub negated_formula : (c : Context) (n : ℕ) (t : Tree) → IsSessionFormula c n t → IsSessionFormula c n (normal_form negated_normal t)
 negated_formula c n t h =

@@ -172,7 +172,7 @@ module _ (s : State) (f : FormulaTree) (es : List PointEntry) (numbers : HasNumb
     first = below_overflow clear point valued printed;
   }
   elimination_stops clear point valued within readable quantified p meant limit error.Nodes h = λ printed. record {
-    applies = inr (quantified, (p, meant, h));
+    applies = inr (inr (quantified, (p, meant, h)));
     first = below_nodes clear point valued within readable printed;
   }
   elimination_stops clear point valued within readable quantified p meant limit error.Memory h = λ printed. tt

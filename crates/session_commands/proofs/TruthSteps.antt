@@ -12,7 +12,7 @@ use Rattle.atom_normal.specs.NormalForm.{IsNormal}
 use Rattle.atom_normal.proofs.Stepped.{ok_map}
 use Rattle.qe_syntax.specs.declared.statement.PointEntry.{PointEntry}
 use Rattle.qe_syntax.specs.Point.{Numbers, PassesLimit, IsPointOf, point_of}
-use Rattle.qe_syntax.specs.Proper.{AreProperEntries}
+use Rattle.qe_syntax.specs.Proper.{IsProperFormula, AreProperEntries}
 use Rattle.qe_syntax.specs.Statements.{Holds}
 use Rattle.qe_syntax.specs.Trees.{FormulaTree}
 use Rattle.qe_syntax.specs.Value.{same_name}
@@ -42,6 +42,7 @@ use Rattle.session_commands.specs.Words.{truth_text}
 use Rattle.session_commands.specs.Steps.{use_of, HasNumbers, KeepsDesk, IsReadable}
 use Rattle.session_commands.specs.Truths.{HaveNumbers, RefusesTruth, RefusesTruthAt, HasNoneBelow, IsReadAs, IsMeantPoint, PointStop, IsValued, ValuedStop, ValueStop, EliminationStop}
 use Rattle.session_commands.proofs.DeskLemmas.{state_parts, same_state, same_desk, length_grows, sound_with}
+use Rattle.session_commands.proofs.VariableLemmas.{AllVariables, both, variables_of_formula, names_of_entries, all_put_in}
 use Rattle.session_commands.proofs.NameLemmas.{numbers_stay}
 use Rattle.session_commands.proofs.PointLemmas.{of_theory, resolved_free, whole_where_asked}
 use Rattle.session_commands.proofs.TruthLemmas.{no_point, not_valued, reading_passes, point_passes, truth_passes, elimination_stops, all_clear, is_truth, told_in}
@@ -172,7 +173,7 @@ each_entry [] P h = tt
 each_entry (e ∷ es) P h = (h e (inl refl), each_entry es P (λ d k. h d (inr k)))
 
 module _ (desk : Desk) (names : List (List ℕ)) (f : FormulaTree) (es : List PointEntry) (h : IsDesk desk) (grown : Grows desk.names names)
-    (is : names ≡ fold with_name desk.names (formula_variables f ++ entry_names es)) where
+    (is : names ≡ fold with_name desk.names (formula_variables f ++ entry_names es)) (proper : IsProperFormula f) (proper_entries : AreProperEntries es) where
   -- the desk where the variables of the command have their numbers
   abbrev pub named_desk : Desk
   named_desk = record { alloc = desk.alloc; context = desk.context; names = names; bindings = desk.bindings; store = desk.store; kept = desk.kept }
@@ -184,7 +185,9 @@ module _ (desk : Desk) (names : List (List ℕ)) (f : FormulaTree) (es : List Po
   desk_named = record {
     ids = h.ids;
     bound_once = h.bound_once;
-    sound = sound_with (state_of desk) names h.sound (subst (λ ms. IsDistinct same_name ms) (sym is) (after_distinct (formula_variables f ++ entry_names es) desk.names h.sound.names_once)) (length_grows desk.names names grown);
+    sound = sound_with (state_of desk) names h.sound (subst (λ ms. IsDistinct same_name ms) (sym is) (after_distinct (formula_variables f ++ entry_names es) desk.names h.sound.names_once))
+        (subst AllVariables (sym is) (all_put_in desk.names (formula_variables f ++ entry_names es) h.sound.variables (both (formula_variables f) (entry_names es) (variables_of_formula f proper) (names_of_entries es proper_entries))))
+        (length_grows desk.names names grown);
   }
 
   pub numbers_there : HasNumbers names f

@@ -1,26 +1,15 @@
 -- What the parts of a statement are answered with, and why they are not.
-use Rattle.std.specs.Prelude.{◌≡◌, ◌⊎◌, ℕ, List, Bool, Some, None}
-use Rattle.formula_meaning.specs.Formula.{none}
-use Rattle.qe_syntax.specs.Trees.{FormulaTree, FormulaTrees}
-use Rattle.qe_syntax.specs.Statements.{CommandTree, Qe, StatementTree}
+use Rattle.std.specs.Prelude.{◌≡◌, ℕ, List, Bool, Some, None}
+use Rattle.qe_syntax.specs.Statements.{CommandTree, StatementTree}
 use Rattle.session_commands.specs.declared.line.Line.{Line}
 use Rattle.session_commands.specs.declared.line.StatementError.{StatementError}
 use Rattle.session_commands.specs.declared.line.StatementError.TheVariants as error
-use Rattle.session_commands.specs.Built.{HasNoAssumption, IsBuiltCommand, IsBuiltFormula, IsBuilt}
+use Rattle.session_commands.specs.Built.{IsBuiltCommand, IsBuiltFormula, IsBuilt}
 use Rattle.session_commands.specs.State.{State}
 use Rattle.session_commands.specs.Commands.{named}
-use Rattle.session_commands.specs.Causes.{Use, Refuses}
+use Rattle.session_commands.specs.Causes.{Refuses}
 use Rattle.session_commands.specs.Reply.{AnswersCommand, AnswersAssignment, Answers, RefusesAction}
-use Rattle.session_commands.specs.Steps.{use_of, IsGiven}
-
--- the elimination has no assumptions, and is answered with the line
-pub record IsEliminationAnswered (s : State) (limit : ℕ) (u : Use) (f : FormulaTree) (given : FormulaTrees) (answer : Line) (next : State) : Type 0 where
-  pub plain : given ≡ none
-  pub answered : IsGiven (named s (Qe f none)) limit u (Qe f none) answer next
-
--- it has assumptions, or is refused with the word
-abbrev pub IsEliminationStopped : State → ℕ → Use → FormulaTree → FormulaTrees → StatementError → Type 0
-IsEliminationStopped s limit u f given e = ((given ≡ none) × Refuses (named s (Qe f none)) limit u (Qe f none) e) ⊎ ((e ≡ error.Syntax) × (¬ (HasNoAssumption given)))
+use Rattle.session_commands.specs.Steps.{use_of}
 
 -- the command is built and answered with the line, and its variables have their numbers
 pub record IsCommandAnswered (s : State) (limit : ℕ) (printed : Bool) (c : CommandTree) (answer : Line) (next : State) : Type 0 where

@@ -1,12 +1,5 @@
 -- The statements that are answered so far. Each other one is refused as syntax, until its command is built.
-use Rattle.formula_meaning.specs.Formula.{none, also}
-use Rattle.qe_syntax.specs.Trees.{FormulaTrees}
 use Rattle.qe_syntax.specs.Statements.{CommandTree, Echo, Nnf, Pnf, Dnf, Cnf, Simpl, Qe, Qea, Holds, Sample, ActionTree, Empty, Ignored, Finish, Choose, Say, Assign, StatementTree}
-
--- assumptions are not built
-abbrev pub HasNoAssumption : FormulaTrees → Type 0
-HasNoAssumption none = Unit {0}
-HasNoAssumption (also a given) = ⊥
 
 -- a command that gives a formula
 abbrev pub IsBuiltFormula : CommandTree → Type 0
@@ -15,8 +8,8 @@ IsBuiltFormula (Nnf f) = Unit {0}
 IsBuiltFormula (Pnf f) = ⊥
 IsBuiltFormula (Dnf f) = ⊥
 IsBuiltFormula (Cnf f) = ⊥
-IsBuiltFormula (Simpl f given) = ⊥
-IsBuiltFormula (Qe f given) = HasNoAssumption given
+IsBuiltFormula (Simpl f given) = Unit {0}
+IsBuiltFormula (Qe f given) = Unit {0}
 IsBuiltFormula (Qea f given) = ⊥
 IsBuiltFormula (Holds f es) = ⊥
 IsBuiltFormula (Sample f es) = ⊥
@@ -28,8 +21,8 @@ IsBuiltCommand (Nnf f) = Unit {0}
 IsBuiltCommand (Pnf f) = ⊥
 IsBuiltCommand (Dnf f) = ⊥
 IsBuiltCommand (Cnf f) = ⊥
-IsBuiltCommand (Simpl f given) = ⊥
-IsBuiltCommand (Qe f given) = HasNoAssumption given
+IsBuiltCommand (Simpl f given) = Unit {0}
+IsBuiltCommand (Qe f given) = Unit {0}
 IsBuiltCommand (Qea f given) = ⊥
 IsBuiltCommand (Holds f es) = Unit {0}
 IsBuiltCommand (Sample f es) = ⊥

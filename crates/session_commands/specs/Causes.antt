@@ -9,6 +9,7 @@ use Rattle.elimination_reference.specs.Reference.{reference}
 use Rattle.elimination_reference.specs.Sample.{reference_at}
 use Rattle.qe_syntax.specs.declared.statement.PointEntry.{PointEntry}
 use Rattle.qe_syntax.specs.Point.{PassesLimit, IsPointOf}
+use Rattle.qe_syntax.specs.Trees.{FormulaTree}
 use Rattle.qe_syntax.specs.Statements.{CommandTree, Echo, Nnf, Pnf, Dnf, Cnf, Simpl, Qe, Qea, Holds, Sample}
 use Rattle.qe_syntax.specs.Value.{NamedPoint}
 use Rattle.formula_tree.specs.Bindings.{bound_to, most_bound}
@@ -20,7 +21,8 @@ use Rattle.session_commands.specs.declared.line.StatementError.{StatementError}
 use Rattle.session_commands.specs.declared.line.StatementError.TheVariants as error
 use Rattle.session_commands.specs.declared.formulas.TheConstants.{MOST_SUBFORMULAS}
 use Rattle.session_commands.specs.State.{State}
-use Rattle.session_commands.specs.Commands.{formula_of, entries_of, resolved, Gives}
+use Rattle.session_commands.specs.Parts.{given_of, SomePart}
+use Rattle.session_commands.specs.Commands.{formula_of, entries_of, resolved, negated_of, Gives}
 use Rattle.session_commands.specs.Points.{MeanNoPoint, HasUnvalued, IsQuantified, TruthPasses}
 
 -- what is done with what a command gives: a name that it is bound to, and whether its line is printed
@@ -73,19 +75,23 @@ formula_line (Some x) names t = x ++ codes " := " ++ tree_text names t
 
 -- ---- causes
 
+-- somewhere in the command: in its formula, or in one of its assumptions
+abbrev pub InSomePart : CommandTree → (FormulaTree → Type 0) → Type 0
+InSomePart c P = SomePart P (formula_of c) (given_of c)
+
 -- The cause applies. Each of these is answered wherever it applies and no earlier one does.
 abbrev pub IsCause : State → Use → CommandTree → StatementError → Type 0
-IsCause s u c error.Unbound = IsUnbound s.bound (formula_of c)
-IsCause s u c error.FormulaAsTerm = NamesFormulaAsTerm s.bound (formula_of c) ⊎ SomeOf (λ (e : PointEntry). IsBound s.bound e.name) (entries_of c)
-IsCause s u c error.Nonlinear = IsNonlinear s.context (place s.names) (formula_of c)
-IsCause s u c error.Division = Divides s.context (place s.names) (formula_of c)
-IsCause s u c error.CongruenceContext = CongruenceInFields s.context (formula_of c)
-IsCause s u c error.Modulus = IsBadModulus s.context (place s.names) (formula_of c)
-IsCause s u c error.Depth = IsTooDeep s.bound (formula_of c)
+IsCause s u c error.Unbound = InSomePart c (IsUnbound s.bound)
+IsCause s u c error.FormulaAsTerm = InSomePart c (NamesFormulaAsTerm s.bound) ⊎ SomeOf (λ (e : PointEntry). IsBound s.bound e.name) (entries_of c)
+IsCause s u c error.Nonlinear = InSomePart c (IsNonlinear s.context (place s.names))
+IsCause s u c error.Division = InSomePart c (Divides s.context (place s.names))
+IsCause s u c error.CongruenceContext = InSomePart c (CongruenceInFields s.context)
+IsCause s u c error.Modulus = InSomePart c (IsBadModulus s.context (place s.names))
+IsCause s u c error.Depth = InSomePart c (IsTooDeep s.bound)
 IsCause s u c error.Point = MeanNoPoint s.context (entries_of c)
 IsCause s u c error.Unvalued = AsksTruth c × HasUnvalued s.bound (place s.names) (formula_of c) (entries_of c)
 IsCause s u c error.Quantified = ⊥
-IsCause s u c error.Overflow = OverflowsInReading s.context s.bound (place s.names) (formula_of c) ⊎ PassesLimit (entries_of c)
+IsCause s u c error.Overflow = InSomePart c (OverflowsInReading s.context s.bound (place s.names)) ⊎ PassesLimit (entries_of c)
 IsCause s u c error.Bindings = HasNoRoom s.bound u.target ⊎ ((t : Tree) × Gives s c t × IsTooLarge u.target t)
 IsCause s u c error.Text = (u.printed ≡ true) × ((t : Tree) × Gives s c t × (text_limit < length (formula_line u.target s.names t)))
 IsCause s u c error.Long = ⊥
@@ -112,18 +118,31 @@ ReferenceStops s limit (Holds f es) e = IsQuantified s.bound f
     × ((point : NamedPoint) × IsPointOf es point × (reference_at s.context limit (at_names s.names point) (resolved s (Holds f es)) ≡ stopped e))
 ReferenceStops s limit (Sample f es) e = ⊥
 
--- the formula is the reference elimination's, for a command that eliminates
-abbrev pub IsReferenceOf : State → ℕ → CommandTree → Tree → Type 0
-IsReferenceOf s limit (Echo f) t = ⊥
-IsReferenceOf s limit (Nnf f) t = ⊥
-IsReferenceOf s limit (Pnf f) t = ⊥
-IsReferenceOf s limit (Dnf f) t = ⊥
-IsReferenceOf s limit (Cnf f) t = ⊥
-IsReferenceOf s limit (Simpl f given) t = ⊥
-IsReferenceOf s limit (Qe f given) t = (cost : ℕ) × (reference s.context limit (resolved s (Qe f given)) ≡ done (t, cost))
-IsReferenceOf s limit (Qea f given) t = ⊥
-IsReferenceOf s limit (Holds f es) t = ⊥
-IsReferenceOf s limit (Sample f es) t = ⊥
+-- the formula that a simpler answer is measured by: the negation normal form, or what the reference elimination gives
+abbrev pub IsMeasureOf : State → ℕ → CommandTree → Tree → Type 0
+IsMeasureOf s limit (Echo f) t = ⊥
+IsMeasureOf s limit (Nnf f) t = ⊥
+IsMeasureOf s limit (Pnf f) t = ⊥
+IsMeasureOf s limit (Dnf f) t = ⊥
+IsMeasureOf s limit (Cnf f) t = ⊥
+IsMeasureOf s limit (Simpl f given) t = t ≡ negated_of s f
+IsMeasureOf s limit (Qe f given) t = (cost : ℕ) × (reference s.context limit (resolved s (Qe f given)) ≡ done (t, cost))
+IsMeasureOf s limit (Qea f given) t = ⊥
+IsMeasureOf s limit (Holds f es) t = ⊥
+IsMeasureOf s limit (Sample f es) t = ⊥
+
+-- the negation normal form of a formula that is simplified has more nodes than the limit
+abbrev pub HasManyToSimplify : State → ℕ → CommandTree → Type 0
+HasManyToSimplify s limit (Echo f) = ⊥
+HasManyToSimplify s limit (Nnf f) = ⊥
+HasManyToSimplify s limit (Pnf f) = ⊥
+HasManyToSimplify s limit (Dnf f) = ⊥
+HasManyToSimplify s limit (Cnf f) = ⊥
+HasManyToSimplify s limit (Simpl f given) = limit < nodes (negated_of s f)
+HasManyToSimplify s limit (Qe f given) = ⊥
+HasManyToSimplify s limit (Qea f given) = ⊥
+HasManyToSimplify s limit (Holds f es) = ⊥
+HasManyToSimplify s limit (Sample f es) = ⊥
 
 -- a product or a partial sum of the value of an atom passes the limit at the point, in a formula without quantifiers
 abbrev pub ValuePassesAt : State → CommandTree → Type 0
@@ -137,10 +156,10 @@ HasManyNodes (Some x) t = MOST_SUBFORMULAS < nodes t
 -- The command may be refused with the word: its cause applies, or one for which a command may be refused and need not be.
 abbrev pub MayRefuse : State → ℕ → Use → CommandTree → StatementError → Type 0
 MayRefuse s limit u c error.Overflow = IsCause s u c error.Overflow ⊎ (ValuePassesAt s c ⊎ ReferenceStops s limit c Overflow)
-MayRefuse s limit u c error.Nodes = (AsksNegationNormal c × (limit < 6 * tree_distinct (resolved s c))) ⊎ ReferenceStops s limit c Nodes
-MayRefuse s limit u c error.Bindings = IsCause s u c error.Bindings ⊎ ((t : Tree) × IsReferenceOf s limit c t × HasManyNodes u.target t)
+MayRefuse s limit u c error.Nodes = (AsksNegationNormal c × (limit < 6 * tree_distinct (resolved s c))) ⊎ (HasManyToSimplify s limit c ⊎ ReferenceStops s limit c Nodes)
+MayRefuse s limit u c error.Bindings = IsCause s u c error.Bindings ⊎ ((t : Tree) × IsMeasureOf s limit c t × HasManyNodes u.target t)
 MayRefuse s limit u c error.Text = IsCause s u c error.Text
-    ⊎ ((u.printed ≡ true) × ((t : Tree) × IsReferenceOf s limit c t × (text_limit < length (formula_line u.target s.names t))))
+    ⊎ ((u.printed ≡ true) × ((t : Tree) × IsMeasureOf s limit c t × (text_limit < length (formula_line u.target s.names t))))
 MayRefuse s limit u c e = IsCause s u c e
 
 -- the order in which causes are looked for

@@ -1,5 +1,5 @@
 -- The parts of a command, and the formula that it gives.
-use Rattle.std.specs.Prelude.{◌≡◌, ◌↔◌, ◌≤◌, ℕ, List, [], ◌++◌, map}
+use Rattle.std.specs.Prelude.{◌≡◌, ◌↔◌, ◌≤◌, ℕ, List, [], ◌++◌, map, length}
 use Rattle.std.specs.List.{fold}
 use Rattle.formula_meaning.specs.NegationNormal.{normal_form}
 use Rattle.formula_meaning.specs.Point.{Of}
@@ -9,13 +9,18 @@ use Rattle.formula_meaning.specs.Sizes.{nodes}
 use Rattle.formula_meaning.specs.Tree.{Tree, IsFree, TrueAt}
 use Rattle.atom_normal.specs.NormalForm.{negated_normal, IsNormal}
 use Rattle.qe_syntax.specs.declared.statement.PointEntry.{PointEntry}
-use Rattle.qe_syntax.specs.Trees.{FormulaTree}
+use Rattle.qe_syntax.specs.Trees.{FormulaTree, FormulaTrees}
 use Rattle.qe_syntax.specs.Value as written
 use Rattle.qe_syntax.specs.Statements.{CommandTree, Echo, Nnf, Pnf, Dnf, Cnf, Simpl, Qe, Qea, Holds, Sample}
 use Rattle.formula_tree.specs.Names.{with_name}
-use Rattle.formula_tree.specs.Resolving.{formula_variables, resolve, at_names, bound_truth}
+use Rattle.formula_tree.specs.Resolving.{formula_variables, all_variables, resolve, at_names, bound_truth}
 use Rattle.redlog_printer.specs.Bound.{HasTwoMembers}
+use Rattle.redlog_printer.specs.Text.{tree_text}
+use Rattle.simplified_formulas.specs.Measure.{size, atom_measure}
+use Rattle.simplified_formulas.specs.Trees.{IsReduced}
 use Rattle.session_commands.specs.State.{State}
+use Rattle.session_commands.specs.Parts.{given_of}
+use Rattle.session_commands.specs.Assumptions.{Hold, assumed}
 
 -- the formula that the command is about
 abbrev pub formula_of : CommandTree → FormulaTree
@@ -46,9 +51,9 @@ entries_of (Sample f es) = es
 abbrev pub entry_names : List PointEntry → List (List ℕ)
 entry_names es = map (λ e. e.name) es
 
--- its variables in the order of the text: names in terms, after quantifiers and in the point
+-- its variables in the order of the text: names in terms, after quantifiers, in assumptions and in the point
 abbrev pub command_variables : CommandTree → List (List ℕ)
-command_variables c = formula_variables (formula_of c) ++ entry_names (entries_of c)
+command_variables c = formula_variables (formula_of c) ++ (all_variables (given_of c) ++ entry_names (entries_of c))
 
 -- the state with the new variables of the command after its names
 abbrev pub named : State → CommandTree → State
@@ -60,7 +65,11 @@ named s c = record { context = s.context; names = fold with_name s.names (comman
 abbrev pub resolved : State → CommandTree → Tree
 resolved s c = resolve s.context s.bound s.names (formula_of c)
 
--- the formula that the command determines is this one; a query determines none, and an elimination leaves a choice
+-- the negation normal form of a resolved formula
+abbrev pub negated_of : State → FormulaTree → Tree
+negated_of s f = normal_form negated_normal (resolve s.context s.bound s.names f)
+
+-- the formula that the command determines is this one; a query determines none, and simplification and elimination leave a choice
 abbrev pub Gives : State → CommandTree → Tree → Type 0
 Gives s (Echo f) t = t ≡ resolved s (Echo f)
 Gives s (Nnf f) t = t ≡ normal_form negated_normal (resolved s (Nnf f))
@@ -73,14 +82,29 @@ Gives s (Qea f given) t = ⊥
 Gives s (Holds f es) t = ⊥
 Gives s (Sample f es) t = ⊥
 
--- ---- elimination
+-- ---- simplification and elimination
 
--- The formula has no quantifier and no free name but those of the resolved formula, and is true exactly where the formula is, as it is written, at every
--- point of the theory. It has at most so many nodes, normal atoms, and lists of two members at least.
-pub record IsCondition (s : State) (limit : ℕ) (f : FormulaTree) (t : Tree) : Type 0 where
+-- The formula is simplified under the assumptions: it is Reduced under them, and true exactly where the command's formula is, as it is written, at every
+-- point of the theory where the assumptions are true. It is no larger than the negation normal form: it has no more nodes, no more places of atoms, no
+-- longer text and no other free names. Its atoms are normal, and its lists have two members at least.
+pub record IsSimplification (s : State) (f : FormulaTree) (given : FormulaTrees) (t : Tree) : Type 0 where
+  pub reduced : IsReduced s.context t (assumed s given)
+  pub truth : (p : written.NamedPoint) → Of s.context p → Hold s given p → written.TrueAt (bound_truth s.context s.bound s.names) s.context f p ↔ TrueAt s.context t (at_names s.names p)
+  pub names : (n : ℕ) → IsFree t n → IsFree (negated_of s f) n
+  pub nodes : nodes t ≤ nodes (negated_of s f)
+  pub atoms : size atom_measure t ≤ size atom_measure (negated_of s f)
+  pub text : length (tree_text s.names t) ≤ length (tree_text s.names (negated_of s f))
+  pub normal : Every (IsNormal s.context) t
+  pub members : HasTwoMembers t
+
+-- The formula has no quantifier and no free name but those of the resolved formula. It is Reduced under the assumptions, and true exactly where the command's
+-- formula is, as it is written, at every point of the theory where the assumptions are true. It has at most so many nodes, normal atoms, and lists of two members
+-- at least.
+pub record IsCondition (s : State) (limit : ℕ) (f : FormulaTree) (given : FormulaTrees) (t : Tree) : Type 0 where
   pub free : IsQuantifierFree t
   pub names : (n : ℕ) → IsFree t n → IsFree (resolve s.context s.bound s.names f) n
-  pub truth : (p : written.NamedPoint) → Of s.context p → written.TrueAt (bound_truth s.context s.bound s.names) s.context f p ↔ TrueAt s.context t (at_names s.names p)
+  pub reduced : IsReduced s.context t (assumed s given)
+  pub truth : (p : written.NamedPoint) → Of s.context p → Hold s given p → written.TrueAt (bound_truth s.context s.bound s.names) s.context f p ↔ TrueAt s.context t (at_names s.names p)
   pub small : nodes t ≤ limit
   pub normal : Every (IsNormal s.context) t
   pub members : HasTwoMembers t
@@ -92,8 +116,8 @@ MayGive s limit (Nnf f) t = Gives s (Nnf f) t
 MayGive s limit (Pnf f) t = ⊥
 MayGive s limit (Dnf f) t = ⊥
 MayGive s limit (Cnf f) t = ⊥
-MayGive s limit (Simpl f given) t = ⊥
-MayGive s limit (Qe f given) t = IsCondition s limit f t
+MayGive s limit (Simpl f given) t = IsSimplification s f given t
+MayGive s limit (Qe f given) t = IsCondition s limit f given t
 MayGive s limit (Qea f given) t = ⊥
 MayGive s limit (Holds f es) t = ⊥
 MayGive s limit (Sample f es) t = ⊥

@@ -1,12 +1,13 @@
 -- What the session keeps, as the state that its statements see.
 use Rattle.std.specs.Prelude.{◌≡◌, ℕ, List, Some, length, map}
-use Rattle.std.specs.List.{IsDistinct}
+use Rattle.std.specs.List.{AllByRecursion, IsDistinct}
 use Rattle.std.specs.Map.{keys_of}
 use Rattle.formula_meaning.specs.Context.{Context}
 use Rattle.formula_meaning.specs.Every.{Every}
 use Rattle.formula_meaning.specs.Tree.{Tree}
 use Rattle.atom_normal.specs.Atoms.{context_of}
 use Rattle.atom_normal.specs.NormalForm.{IsNormal}
+use Rattle.qe_syntax.specs.Names.{IsVariable}
 use Rattle.qe_syntax.specs.Value.{same_name}
 use Rattle.formula_tree.specs.Bindings.{bound_to}
 use Rattle.formula_resolving.specs.Refusals.{AreIds, trees_bound}
@@ -31,9 +32,10 @@ pub record IsSessionFormula (c : Context) (n : ℕ) (t : Tree) : Type 0 where
   pub within : IsTreeWithin n t
   pub members : HasTwoMembers t
 
--- no name has two numbers, and each bound formula is such a one
+-- no name has two numbers, each is one that a script can write, and each bound formula is such a one
 pub record IsSound (s : State) : Type 0 where
   pub names_once : IsDistinct same_name s.names
+  pub variables : AllByRecursion IsVariable s.names
   pub formulas : (x : List ℕ) (t : Tree) → bound_to s.bound x ≡ Some t → IsSessionFormula s.context (length s.names) t
 
 -- what is bound are ids of the store, no name is bound twice, and the state is sound

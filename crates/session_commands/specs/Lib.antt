@@ -1,5 +1,7 @@
 pub mod Words
 pub mod State
+pub mod Parts
+pub mod Assumptions
 pub mod Commands
 pub mod Points
 pub mod Causes

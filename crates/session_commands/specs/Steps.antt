@@ -1,16 +1,24 @@
 -- What the steps of an answer give one another.
-use Rattle.std.specs.Prelude.{◌≡◌, ◌⊎◌, ◌*◌, ◌<◌, ◌≤◌, ℕ, List, Bool, true, Option, Some, None, length}
+use Rattle.std.specs.Prelude.{◌≡◌, ◌⊎◌, ◌*◌, ◌<◌, ◌≤◌, ℕ, List, Bool, true, Option, Some, None, length, nat_lt, if◌then◌else◌}
 use Rattle.formula_meaning.specs.Context.{Context}
 use Rattle.formula_meaning.specs.Formula.{none}
 use Rattle.formula_meaning.specs.Sizes.{nodes}
-use Rattle.formula_meaning.specs.Tree.{Tree, tree_distinct}
+use Rattle.formula_meaning.specs.Every.{Every, EveryBound}
+use Rattle.formula_meaning.specs.Shape.{IsQuantifierFree}
+use Rattle.formula_meaning.specs.Some.{SomeOf, EachOf}
+use Rattle.formula_meaning.specs.Atom.{Atom}
+use Rattle.formula_meaning.specs.Tree.{Tree, IsFree, tree_distinct}
+use Rattle.simplified_formulas.specs.Measure.{size, atom_measure}
+use Rattle.simplified_formulas.specs.Orderly.{IsOrderly}
+use Rattle.simplified_formulas.specs.Trees.{IsReduced, EquivalentUnder}
 use Rattle.elimination_reference.specs.Measured.{Overflow, Nodes, done, stopped}
 use Rattle.elimination_reference.specs.Reference.{reference}
 use Rattle.elimination_reference.specs.Theorems.{IsAnswerTo}
 use Rattle.formula_meaning.specs.NegationNormal.{normal_form}
-use Rattle.atom_normal.specs.NormalForm.{negated_normal}
-use Rattle.qe_syntax.specs.Trees.{FormulaTree}
-use Rattle.qe_syntax.specs.Statements.{CommandTree, Echo, Nnf, Qe}
+use Rattle.atom_normal.specs.NormalForm.{negated_normal, IsNormal}
+use Rattle.qe_syntax.specs.declared.tree.Formula.{Formula}
+use Rattle.qe_syntax.specs.Trees.{FormulaTree, FormulaTrees, formula_tree, formula_trees}
+use Rattle.qe_syntax.specs.Statements.{CommandTree, Echo, Nnf, Simpl, Qe}
 use Rattle.redlog_reader.specs.declared.token.ReadError.{ReadError}
 use Rattle.redlog_reader.specs.declared.token.ReadError.TheVariants as reading
 use Rattle.formula_tree.specs.Bindings.{bind}
@@ -20,11 +28,14 @@ use Rattle.formula_tree.specs.Causes.{IsAccepted as IsResolvable}
 use Rattle.formula_resolving.specs.declared.error.StaticError.{StaticError}
 use Rattle.formula_resolving.specs.declared.error.StaticError.TheVariants as static
 use Rattle.formula_resolving.specs.Numbering.{Grows}
-use Rattle.formula_resolving.specs.Refusals.{IsFirstCause}
+use Rattle.formula_resolving.specs.Refusals.{IsFirstCause, Applies}
+use Rattle.formula_resolving.specs.Refusals.{rank as static_rank}
 use Rattle.formula_store.specs.declared.id.FormulaId.{FormulaId}
 use Rattle.formula_store.specs.Nodes.{tree, IsId}
 use Rattle.plain_engine.specs.declared.measured.Measured.{Measured}
 use Rattle.plain_engine.specs.declared.measured.Measured.TheVariants as measured
+use Rattle.redlog_printer.specs.Text.{tree_text}
+use Rattle.redlog_printer.specs.Within.{IsAtomWithin}
 use Rattle.redlog_printer.specs.Writing.{text_limit}
 use Rattle.session_commands.specs.declared.line.Line.{Line}
 use Rattle.session_commands.specs.declared.line.StatementError.{StatementError}
@@ -33,6 +44,7 @@ use Rattle.session_commands.specs.declared.formulas.Wanted.{Wanted}
 use Rattle.session_commands.specs.declared.formulas.Wanted.TheVariants as wanted
 use Rattle.session_commands.specs.declared.desk.Desk.{Desk}
 use Rattle.session_commands.specs.State.{State}
+use Rattle.session_commands.specs.Parts.{SomePart, EachPart}
 use Rattle.session_commands.specs.Commands.{MayGive}
 use Rattle.session_commands.specs.Causes.{Use, formula_line, HasNoRoom, IsTooLarge, IsAccepted}
 use Rattle.session_commands.specs.Reply.{with_bound, IsLine}
@@ -60,11 +72,19 @@ measured_refusal measured.Overflow = error.Overflow
 measured_refusal measured.Nodes = error.Nodes
 measured_refusal measured.Memory = error.Memory
 
+-- the assumptions
+abbrev pub given_trees : Wanted → FormulaTrees
+given_trees wanted.Given = none
+given_trees wanted.NegationNormal = none
+given_trees (wanted.Simplified given) = formula_trees given.now
+given_trees (wanted.Eliminated given) = formula_trees given.now
+
 -- the command that gives the wanted formula
 abbrev pub command_of : Wanted → FormulaTree → CommandTree
 command_of wanted.Given f = Echo f
 command_of wanted.NegationNormal f = Nnf f
-command_of wanted.Eliminated f = Qe f none
+command_of (wanted.Simplified given) f = Simpl f (formula_trees given.now)
+command_of (wanted.Eliminated given) f = Qe f (formula_trees given.now)
 
 -- the state after a formula was given
 abbrev pub state_with : State → Option (List ℕ) → Tree → State
@@ -108,6 +128,57 @@ IsUnread s f e = (d : StaticError) × (e ≡ static_refusal d) × IsFirstCause s
 abbrev pub IsReadable : State → FormulaTree → Type 0
 IsReadable s f = IsResolvable s.context s.bound s.names f
 
+-- ---- the formula and its assumptions
+
+abbrev pub ArePartsNumbered : List (List ℕ) → FormulaTree → FormulaTrees → Type 0
+ArePartsNumbered names f given = EachPart (HasNumbers names) f given
+
+abbrev pub ArePartsReadable : State → FormulaTree → FormulaTrees → Type 0
+ArePartsReadable s f given = EachPart (IsReadable s) f given
+
+-- the cause applies to some of them
+abbrev pub AppliesToPart : State → FormulaTree → FormulaTrees → StaticError → Type 0
+AppliesToPart s f given d = SomePart (λ g. Applies s.context s.bound s.names g d) f given
+
+-- it is the first that applies to some of them; of want of memory nothing is said
+pub record IsFirstPart (s : State) (f : FormulaTree) (given : FormulaTrees) (d : StaticError) : Type 0 where
+  pub applies : AppliesToPart s f given d
+  pub first : (e : StaticError) → static_rank e < static_rank d → ¬ (AppliesToPart s f given e)
+
+abbrev pub IsFirstPartCause : State → FormulaTree → FormulaTrees → StaticError → Type 0
+IsFirstPartCause s f given static.Memory = Unit {0}
+IsFirstPartCause s f given d = IsFirstPart s f given d
+
+-- the first cause why one of them is not resolved is this word's
+abbrev pub ArePartsUnread : State → FormulaTree → FormulaTrees → StatementError → Type 0
+ArePartsUnread s f given e = (d : StaticError) × (e ≡ static_refusal d) × IsFirstPartCause s f given d
+
+-- The first cause for which P holds, or None where there is none. Want of memory is no cause.
+abbrev pub FirstAmong : (StaticError → Type 0) → Option StaticError → Type 0
+FirstAmong P None = (d : StaticError) → static_rank d < 8 → ¬ (P d)
+FirstAmong P (Some e) = (static_rank e < 8) × P e × ((d : StaticError) → static_rank d < static_rank e → ¬ (P d))
+
+-- the earlier of two causes
+abbrev pub first_of : StaticError → Option StaticError → StaticError
+first_of e None = e
+first_of e (Some d) = if nat_lt (static_rank d) (static_rank e) then d else e
+
+abbrev pub earlier_of : Option StaticError → Option StaticError → Option StaticError
+earlier_of stop None = stop
+earlier_of stop (Some e) = Some (first_of e stop)
+
+-- the cause applies to some formula of the list
+abbrev pub AppliesToSome : State → List Formula → StaticError → Type 0
+AppliesToSome s gs d = SomeOf (λ g. Applies s.context s.bound s.names (formula_tree g) d) gs
+
+-- the first cause in the formula, or None where it is resolved, joined to an earlier one
+pub record IsFirstWith (s : State) (g : FormulaTree) (stop after : Option StaticError) : Type 0 where
+  pub cause : Option StaticError
+  pub first : FirstAmong (λ d. Applies s.context s.bound s.names g d) cause
+  pub joined : after ≡ earlier_of stop cause
+
+-- ---- forms
+
 -- the reference elimination gives t of f, and it is an answer to f
 pub record IsEliminatedAs (c : Context) (limit : ℕ) (f t : Tree) : Type 0 where
   pub cost : ℕ
@@ -115,17 +186,51 @@ pub record IsEliminatedAs (c : Context) (limit : ℕ) (f t : Tree) : Type 0 wher
   pub exact : IsAnswerTo c f t
   pub small : nodes t ≤ limit
 
--- t is the wanted form of a resolved formula f
-abbrev pub IsWantedForm : Context → ℕ → Wanted → Tree → Tree → Type 0
-IsWantedForm c limit wanted.Given f t = t ≡ f
-IsWantedForm c limit wanted.NegationNormal f t = t ≡ normal_form negated_normal f
-IsWantedForm c limit wanted.Eliminated f t = IsEliminatedAs c limit f t
+-- t is f simplified under the atoms ks
+pub record IsSimplifiedAs (c : Context) (ks : List Atom) (f t : Tree) : Type 0 where
+  pub truth : EquivalentUnder c ks t f
+  pub reduced : IsReduced c t ks
+  pub orderly : IsOrderly (IsNormal c) t
+  pub normal : Every (IsNormal c) t
+  pub free : IsQuantifierFree f → IsQuantifierFree t
+  pub bound : (n : ℕ) → EveryBound (λ x. x < n) f → EveryBound (λ x. x < n) t
+  pub names : (x : ℕ) → IsFree t x → IsFree f x
+  pub nodes : nodes t ≤ nodes f
+  pub atoms : size atom_measure t ≤ size atom_measure f
+  pub text : (names : List (List ℕ)) → EachOf (λ name. 0 < length name) names → Every (IsAtomWithin (length names)) f → length (tree_text names t) ≤ length (tree_text names f)
+
+-- t is what the reference elimination gives of f, simplified under the atoms ks
+pub record IsWantedAnswer (c : Context) (ks : List Atom) (limit : ℕ) (f t : Tree) : Type 0 where
+  pub answer : Tree
+  pub eliminated : IsEliminatedAs c limit f answer
+  pub simplified : IsSimplifiedAs c ks answer t
+
+-- t is the wanted form of a resolved formula f under the assumptions ks
+abbrev pub IsWantedForm : Context → List Atom → ℕ → Wanted → Tree → Tree → Type 0
+IsWantedForm c ks limit wanted.Given f t = t ≡ f
+IsWantedForm c ks limit wanted.NegationNormal f t = t ≡ normal_form negated_normal f
+IsWantedForm c ks limit (wanted.Simplified given) f t = IsSimplifiedAs c ks (normal_form negated_normal f) t
+IsWantedForm c ks limit (wanted.Eliminated given) f t = IsWantedAnswer c ks limit f t
+
+-- why a negation normal form is not made
+abbrev pub NegationFault : Option ℕ → Tree → StatementError → Type 0
+NegationFault limit f error.Nodes = (n : ℕ) × (limit ≡ Some n) × (n < 6 * tree_distinct f)
+NegationFault limit f error.Memory = Unit {0}
+NegationFault limit f _ = ⊥
+
+-- why quantifiers are not eliminated
+abbrev pub EliminationFault : Context → ℕ → Tree → StatementError → Type 0
+EliminationFault c limit f error.Nodes = reference c limit f ≡ stopped Nodes
+EliminationFault c limit f error.Overflow = reference c limit f ≡ stopped Overflow
+EliminationFault c limit f error.Memory = Unit {0}
+EliminationFault c limit f _ = ⊥
 
 -- why the wanted form is not made
 abbrev pub FormFault : Context → ℕ → Wanted → Tree → StatementError → Type 0
 FormFault c limit wanted.NegationNormal f error.Nodes = limit < 6 * tree_distinct f
-FormFault c limit wanted.Eliminated f error.Nodes = reference c limit f ≡ stopped Nodes
-FormFault c limit wanted.Eliminated f error.Overflow = reference c limit f ≡ stopped Overflow
+FormFault c limit (wanted.Simplified given) f error.Nodes = limit < nodes (normal_form negated_normal f)
+FormFault c limit (wanted.Eliminated given) f error.Nodes = reference c limit f ≡ stopped Nodes
+FormFault c limit (wanted.Eliminated given) f error.Overflow = reference c limit f ≡ stopped Overflow
 FormFault c limit w f error.Memory = Unit {0}
 FormFault c limit w f _ = ⊥
 

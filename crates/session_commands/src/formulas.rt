@@ -1,37 +1,33 @@
 //! Commands that give a formula: it is printed, or bound to a name.
 
-ghost use Rattle.std.specs.Prelude.{◌≡◌, ◌⊎◌, ◌<◌, ◌≤◌, ◌++◌, true, IfOk, IfErr, OnOk, OnErr, length, codes};
+ghost use Rattle.std.specs.Prelude.{◌≡◌, ◌⊎◌, ◌<◌, ◌≤◌, ◌++◌, true, IfOk, IfErr, OnOk, OnErr, length, codes, map};
 ghost use Rattle.std.specs.Bool.{MatchBool};
-ghost use Rattle.formula_meaning.specs.Every.{Every};
-ghost use Rattle.atom_normal.specs.Atoms.{context_of};
-ghost use Rattle.atom_normal.specs.NormalForm.{IsNormal};
 ghost use Rattle.formula_tree.specs.Bindings.{bound_to, most_bound};
 ghost use Rattle.formula_tree.specs.Makers.{IsMade};
 ghost use Rattle.formula_tree.specs.Resolving.{resolve};
-ghost use Rattle.formula_resolving.specs.Refusals.{AreIds};
+ghost use Rattle.formula_resolving.specs.Refusals.{AreIds, IsFirstCause};
 ghost use Rattle.formula_store.specs.Nodes.{tree, IsId};
 ghost use Rattle.redlog_printer.specs.Text.{tree_text};
 ghost use Rattle.redlog_printer.specs.Within.{IsTreeWithin};
 ghost use Rattle.redlog_printer.specs.Bound.{HasTwoMembers};
 ghost use Rattle.redlog_printer.specs.Writing.{text_limit};
-ghost use Rattle.qe_syntax.specs.Proper.{IsProperFormula};
-ghost use Rattle.qe_syntax.specs.Trees.{formula_tree};
+ghost use Rattle.qe_syntax.specs.Proper.{IsProperFormula, AreProperFormulas};
+ghost use Rattle.qe_syntax.specs.Trees.{formula_tree, formulas_of};
 ghost use Rattle.session_commands.specs.Commands.{named};
 ghost use Rattle.session_commands.specs.Causes.{formula_line, Refuses, HasNoRoom};
 ghost use Rattle.session_commands.specs.Keeping.{state_of, IsDesk};
 ghost use Rattle.session_commands.specs.Reply.{IsLine};
-ghost use Rattle.session_commands.specs.Steps.{static_refusal as refusal_of_static, measured_refusal as refusal_of_measured, command_of, use_of, IsGiven, KeepsDesk, GrowsDesk, HasNumbers, IsUnread, IsReadable, IsWantedForm, FormFault, MayBind, TargetFault, LineFault, bound_after};
+ghost use Rattle.session_commands.specs.Steps.{static_refusal as refusal_of_static, given_trees, command_of, use_of, IsGiven, KeepsDesk, GrowsDesk, HasNumbers, IsUnread, IsReadable, MayBind, TargetFault, LineFault, bound_after};
 
+use crate::assumptions::{number_parts, read_parts};
 use crate::desk::Desk;
+use crate::forms::formed;
 use crate::line::{Line, StatementError};
-use formula_resolving::{StaticError, linearise, number_formula};
+use formula_resolving::{StaticError, linearise};
 use formula_store::{FormulaId, Unfold};
-use formula_tree::{BindError, Bindings, FormError};
-use nnf_pnf::nnf;
-use plain_engine::Measured;
-use qe_syntax::{Formula, Name};
+use formula_tree::{BindError, Bindings};
+use qe_syntax::{Formula, Formulas, Name};
 use redlog_printer::{PrintError, TEXT_LIMIT, formula_text};
-use shared_elimination::eliminate_shared;
 use std::alloc::Global;
 
 /// A bound formula has at most so many distinct subformulas.
@@ -43,28 +39,43 @@ const MOST_BOUND: usize = 256;
 /// A formula with more nodes has a text that is too long.
 const MOST_PRINTED_NODES: u64 = 8_388_608;
 
-/// The formula that a command gives: as it is, its negation normal form, or one without quantifiers.
-#[derive(Clone, Copy, Debug, PartialEq, Eq)]
-pub(crate) enum Wanted {
+/// The formula that a command gives: as it is, its negation normal form, one that is simplified under assumptions, or one
+/// without quantifiers, simplified under assumptions.
+#[derive(Clone, Copy)]
+pub(crate) enum Wanted<'a> {
     Given,
     NegationNormal,
-    Eliminated,
+    Simplified(&'a Formulas),
+    Eliminated(&'a Formulas),
+}
+
+impl<'a> Wanted<'a> {
+    /// The assumptions.
+    fn assumptions(self) -> &'a [Formula]
+        ensures { formulas_of (map formula_tree result.now) ≡ given_trees self.entry }
+    {
+        match self {
+            Wanted::Given | Wanted::NegationNormal => &[],
+            Wanted::Simplified(given) | Wanted::Eliminated(given) => given.items(),
+        }
+    }
 }
 
 /// Answers a command that gives a formula. An `Err` leaves the state as it was.
 pub(crate) fn answer_formula(
     desk: &mut Desk,
     limit: u64,
-    wanted: Wanted,
+    wanted: Wanted<'_>,
     formula: &Formula,
     target: &Option<Name>,
     printed: bool,
 ) -> Result<Line, StatementError>
     requires proper { IsProperFormula (formula_tree formula.now) }
+    requires given { AreProperFormulas (given_trees wanted) }
     requires desk { IsDesk desk.old }
     ensures desk { IsDesk desk.new }
-    ensures answer { IfOk result (λ line. IsGiven (named (state_of desk.old) (command_of wanted (formula_tree formula.now))) limit (use_of target.now printed) (command_of wanted (formula_tree formula.now)) line (state_of desk.new)) }
-    ensures refused { IfErr result (Refuses (named (state_of desk.old) (command_of wanted (formula_tree formula.now))) limit (use_of target.now printed) (command_of wanted (formula_tree formula.now))) }
+    ensures answer { IfOk result (λ line. IsGiven (named (state_of desk.old) (command_of wanted.entry (formula_tree formula.now))) limit (use_of target.now printed) (command_of wanted.entry (formula_tree formula.now)) line (state_of desk.new)) }
+    ensures refused { IfErr result (Refuses (named (state_of desk.old) (command_of wanted.entry (formula_tree formula.now))) limit (use_of target.now printed) (command_of wanted.entry (formula_tree formula.now))) }
     ensures unchanged { OnErr result (state_of desk.new ≡ state_of desk.old) }
 {
     let count = desk.names.count();
@@ -80,23 +91,23 @@ pub(crate) fn answer_formula(
 fn given(
     desk: &mut Desk,
     limit: u64,
-    wanted: Wanted,
+    wanted: Wanted<'_>,
     formula: &Formula,
     target: &Option<Name>,
     printed: bool,
 ) -> Result<Line, StatementError>
     requires proper { IsProperFormula (formula_tree formula.now) }
+    requires given { AreProperFormulas (given_trees wanted) }
     requires desk { IsDesk desk.old }
     ensures desk { OnOk result (IsDesk desk.new) }
-    ensures answer { IfOk result (λ line. IsGiven (named (state_of desk.old) (command_of wanted (formula_tree formula.now))) limit (use_of target.now printed) (command_of wanted (formula_tree formula.now)) line (state_of desk.new)) }
-    ensures refused { IfErr result (Refuses (named (state_of desk.old) (command_of wanted (formula_tree formula.now))) limit (use_of target.now printed) (command_of wanted (formula_tree formula.now))) }
+    ensures answer { IfOk result (λ line. IsGiven (named (state_of desk.old) (command_of wanted.entry (formula_tree formula.now))) limit (use_of target.now printed) (command_of wanted.entry (formula_tree formula.now)) line (state_of desk.new)) }
+    ensures refused { IfErr result (Refuses (named (state_of desk.old) (command_of wanted.entry (formula_tree formula.now))) limit (use_of target.now printed) (command_of wanted.entry (formula_tree formula.now))) }
     ensures grown { OnErr result (GrowsDesk desk.old desk.new) }
 {
-    if let Err(_failed) = number_formula(formula, &desk.bindings, &mut desk.names) {
-        return Err(StatementError::Memory);
-    }
-    let id = resolved(desk, formula)?;
-    let id = formed(desk, limit, wanted, id)?;
+    let assumptions = wanted.assumptions();
+    number_parts(formula, assumptions, &desk.bindings, &mut desk.names)?;
+    let read = read_parts(desk, formula, assumptions)?;
+    let id = formed(desk, limit, wanted, &read)?;
     check_target(desk, target, id)?;
     let line = line_of(desk, target, printed, id)?;
     bind(desk, target, id)?;
@@ -113,17 +124,30 @@ pub(crate) fn resolved(desk: &mut Desk, formula: &Formula) -> Result<FormulaId, 
     ensures unread { IfErr result (IsUnread (state_of desk.old) (formula_tree formula.now)) }
     ensures kept { KeepsDesk desk.old desk.new }
 {
-    match linearise(
+    match resolved_part(desk, formula) {
+        Ok(id) => Ok(id),
+        Err(error) => Err(static_refusal(error)),
+    }
+}
+
+/// The resolved formula, or the first cause why there is none.
+pub(crate) fn resolved_part(desk: &mut Desk, formula: &Formula) -> Result<FormulaId, StaticError>
+    requires proper { IsProperFormula (formula_tree formula.now) }
+    requires ids { AreIds (IsId desk.old.store) desk.old.bindings }
+    requires numbered { HasNumbers desk.old.names (formula_tree formula.now) }
+    ensures made { IfOk result (λ id. IsMade (IsId desk.new.store) (tree desk.new.store) id (resolve (state_of desk.old).context (state_of desk.old).bound desk.old.names (formula_tree formula.now))) }
+    ensures readable { OnOk result (IsReadable (state_of desk.old) (formula_tree formula.now)) }
+    ensures unread { IfErr result (IsFirstCause (state_of desk.old).context (state_of desk.old).bound desk.old.names (formula_tree formula.now)) }
+    ensures kept { KeepsDesk desk.old desk.new }
+{
+    linearise(
         desk.alloc,
         formula,
         &desk.bindings,
         desk.context,
         &mut desk.names,
         &mut desk.store,
-    ) {
-        Ok(id) => Ok(id),
-        Err(error) => Err(static_refusal(error)),
-    }
+    )
 }
 
 /// A refusal of a formula that is not resolved.
@@ -140,47 +164,6 @@ pub(crate) fn static_refusal(error: StaticError) -> StatementError
         StaticError::Depth => StatementError::Depth,
         StaticError::Overflow => StatementError::Overflow,
         StaticError::Memory => StatementError::Memory,
-    }
-}
-
-/// The wanted form of a formula.
-fn formed(
-    desk: &mut Desk,
-    limit: u64,
-    wanted: Wanted,
-    id: FormulaId,
-) -> Result<FormulaId, StatementError>
-    requires id { IsId desk.old.store id }
-    requires normal { Every (IsNormal (context_of desk.old.context)) (tree desk.old.store id) }
-    ensures made { IfOk result (IsId desk.new.store) }
-    ensures wanted { IfOk result (λ r. IsWantedForm (context_of desk.old.context) limit wanted (tree desk.old.store id) (tree desk.new.store r)) }
-    ensures fault { IfErr result (FormFault (context_of desk.old.context) limit wanted (tree desk.old.store id)) }
-    ensures kept { KeepsDesk desk.old desk.new }
-{
-    match wanted {
-        Wanted::Given => Ok(id),
-        Wanted::NegationNormal => match nnf(desk.alloc, &mut desk.store, id, Some(limit)) {
-            Ok(id) => Ok(id),
-            Err(FormError::Nodes) => Err(StatementError::Nodes),
-            Err(_) => Err(StatementError::Memory),
-        },
-        Wanted::Eliminated => {
-            match eliminate_shared(desk.alloc, &mut desk.store, desk.context, id, limit) {
-                Ok(id) => Ok(id),
-                Err(error) => Err(measured_refusal(error)),
-            }
-        }
-    }
-}
-
-/// A refusal of an elimination.
-pub(crate) fn measured_refusal(error: Measured) -> StatementError
-    ensures { result ≡ refusal_of_measured error }
-{
-    match error {
-        Measured::Overflow => StatementError::Overflow,
-        Measured::Nodes => StatementError::Nodes,
-        Measured::Memory => StatementError::Memory,
     }
 }
 

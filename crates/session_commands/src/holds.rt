@@ -34,7 +34,8 @@ ghost use Rattle.session_commands.specs.Truths.{HaveNumbers, IsBoundName, is_who
 ghost use Rattle.session_commands.specs.Words.{truth_text};
 
 use crate::desk::Desk;
-use crate::formulas::{measured_refusal, resolved};
+use crate::forms::measured_refusal;
+use crate::formulas::resolved;
 use crate::line::{Line, StatementError};
 use crate::lines::printed_line;
 use atom_normal::Context;

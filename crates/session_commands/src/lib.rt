@@ -1,7 +1,9 @@
 //! Answers one statement of a script with one line, or with the word of its refusal.
 #![tactic(auto)]
 
+mod assumptions;
 mod desk;
+mod forms;
 mod formulas;
 mod holds;
 mod line;

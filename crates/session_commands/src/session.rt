@@ -1,14 +1,13 @@
 ghost use Rattle.std.specs.Prelude.{◌≡◌, ◌≤◌, IfOk, IfErr, OnOk, OnErr};
 ghost use Rattle.qe_syntax.specs.Statements.{statement_tree, command_tree};
-ghost use Rattle.qe_syntax.specs.Proper.{IsProper, IsProperCommand, IsProperFormula};
-ghost use Rattle.qe_syntax.specs.Trees.{formula_tree, formula_trees};
+ghost use Rattle.qe_syntax.specs.Proper.{IsProper, IsProperCommand};
 ghost use Rattle.session_commands.specs.Keeping.{state_of, IsDesk};
 ghost use Rattle.session_commands.specs.Reply.{Reply, IsLine};
 ghost use Rattle.session_commands.specs.Words.{context_text};
 ghost use Rattle.session_commands.specs.Seen.{state_in};
 ghost use Rattle.session_commands.specs.State.{first_state, theory_of, chosen};
-ghost use Rattle.session_commands.specs.Steps.{read_refusal, use_of};
-ghost use Rattle.session_commands.specs.Answered.{IsEliminationAnswered, IsEliminationStopped, IsCommandAnswered, IsCommandStopped, IsAssigned, IsAssignmentStopped, IsAnswered, IsStopped};
+ghost use Rattle.session_commands.specs.Steps.{read_refusal};
+ghost use Rattle.session_commands.specs.Answered.{IsCommandAnswered, IsCommandStopped, IsAssigned, IsAssignmentStopped, IsAnswered, IsStopped};
 
 use crate::desk::Desk;
 use crate::formulas::{Wanted, answer_formula};
@@ -16,7 +15,7 @@ use crate::holds::answer_holds;
 use crate::line::{Line, StatementError};
 use crate::lines::printed_line;
 use atom_normal::Context;
-use qe_syntax::{Action, Command, Formula, Formulas, Name, Setting, Statement};
+use qe_syntax::{Action, Command, Name, Setting, Statement};
 use redlog_reader::{ReadError, read_statement};
 use std::alloc::Global;
 use std::marker::Model;
@@ -166,11 +165,15 @@ fn say(
         Command::Nnf(formula) => {
             answer_formula(desk, limit, Wanted::NegationNormal, formula, &None, printed)
         }
-        Command::Qe(formula, given) => eliminate(desk, limit, formula, given, &None, printed),
+        Command::Simpl(formula, given) => {
+            answer_formula(desk, limit, Wanted::Simplified(given), formula, &None, printed)
+        }
+        Command::Qe(formula, given) => {
+            answer_formula(desk, limit, Wanted::Eliminated(given), formula, &None, printed)
+        }
         Command::Holds(formula, entries) => answer_holds(desk, limit, formula, entries, printed),
         Command::Pnf(_) | Command::Dnf(_) | Command::Cnf(_) => Err(StatementError::Syntax),
-        Command::Simpl(..) | Command::Qea(..) => Err(StatementError::Syntax),
-        Command::Sample(..) => Err(StatementError::Syntax),
+        Command::Qea(..) | Command::Sample(..) => Err(StatementError::Syntax),
     }
 }
 
@@ -203,33 +206,23 @@ fn assign(
                 printed,
             )
         }
-        Command::Qe(formula, given) => {
-            eliminate(desk, limit, formula, given, &Some(*name), printed)
-        }
+        Command::Simpl(formula, given) => answer_formula(
+            desk,
+            limit,
+            Wanted::Simplified(given),
+            formula,
+            &Some(*name),
+            printed,
+        ),
+        Command::Qe(formula, given) => answer_formula(
+            desk,
+            limit,
+            Wanted::Eliminated(given),
+            formula,
+            &Some(*name),
+            printed,
+        ),
         Command::Pnf(_) | Command::Dnf(_) | Command::Cnf(_) => Err(StatementError::Syntax),
-        Command::Simpl(..) | Command::Qea(..) => Err(StatementError::Syntax),
-        Command::Holds(..) | Command::Sample(..) => Err(StatementError::Syntax),
+        Command::Qea(..) | Command::Holds(..) | Command::Sample(..) => Err(StatementError::Syntax),
     }
-}
-
-/// Answers an elimination. One with assumptions is not built, and is `Syntax`.
-fn eliminate(
-    desk: &mut Desk,
-    limit: u64,
-    formula: &Formula,
-    given: &Formulas,
-    target: &Option<Name>,
-    printed: bool,
-) -> Result<Line, StatementError>
-    requires proper { IsProperFormula (formula_tree formula.now) }
-    requires desk { IsDesk desk.old }
-    ensures desk { IsDesk desk.new }
-    ensures answer { IfOk result (λ line. IsEliminationAnswered (state_of desk.old) limit (use_of target.now printed) (formula_tree formula.now) (formula_trees given.now) line (state_of desk.new)) }
-    ensures refused { IfErr result (IsEliminationStopped (state_of desk.old) limit (use_of target.now printed) (formula_tree formula.now) (formula_trees given.now)) }
-    ensures unchanged { OnErr result (state_of desk.new ≡ state_of desk.old) }
-{
-    if !given.items().is_empty() {
-        return Err(StatementError::Syntax);
-    }
-    answer_formula(desk, limit, Wanted::Eliminated, formula, target, printed)
 }

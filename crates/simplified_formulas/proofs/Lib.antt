@@ -6,6 +6,7 @@ pub mod Sizes
 pub mod Nodes
 pub mod Shape
 pub mod Simplified
+pub mod Bound
 pub mod AtomLaws
 pub mod Wider
 pub mod TreeLaws

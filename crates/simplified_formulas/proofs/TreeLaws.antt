@@ -1,5 +1,5 @@
 -- The laws of simplification for resolved formulas.
-use Rattle.std.proofs.Common.{arith}
+use Rattle.std.proofs.Common.{◌<◌, arith}
 use Rattle.formula_meaning.specs.Point.{Of, move}
 use Rattle.std.proofs.Common.{nat_eq}
 use Rattle.formula_meaning.specs.Atom.{Says, Mentions}
@@ -10,10 +10,11 @@ use Rattle.atom_merging.specs.Computed.{IsNormalWithin}
 use Rattle.simplified_formulas.specs.AtomKit.{contains, atom_kit}
 use Rattle.simplified_formulas.specs.Measure.{node_measure, atom_measure}
 use Rattle.simplified_formulas.specs.Trees.{LeavesOpen, simplified_under}
-use Rattle.simplified_formulas.specs.Laws.{SimplifyingKeepsTruth, SimplifiedIsReduced, SimplifyingKeepsShape, SimplifyingBringsNoName, SimplifyingBringsNoNode, SimplifyingBringsNoAtom}
+use Rattle.simplified_formulas.specs.Laws.{SimplifyingKeepsTruth, SimplifiedIsReduced, SimplifyingKeepsShape, SimplifyingBringsNoName, SimplifyingQuantifiesNoName, SimplifyingBringsNoQuantifier, SimplifyingBringsNoNode, SimplifyingBringsNoAtom}
 use Rattle.simplified_formulas.proofs.Nodes.{node_laws, atom_laws, nodes_size}
 use Rattle.simplified_formulas.proofs.Simplified.{simplified_within, simplified_smaller, simplified_reduced, simplified_true}
 use Rattle.simplified_formulas.proofs.Shape.{Keeps, Undecided}
+use Rattle.simplified_formulas.proofs.Bound.{simplified_bound, free_bound, orderly_free}
 use Rattle.simplified_formulas.proofs.Wider.{wider}
 use Rattle.simplified_formulas.proofs.AtomLaws.{merges_within, names_told, merges_itself, negation_within, truthful, kept_so, open_so}
 
@@ -44,3 +45,9 @@ brings_no_node c ks f h =
 
 pub brings_no_atom : SimplifyingBringsNoAtom
 brings_no_atom c ks f h = simplified_smaller (atom_kit c) (IsNormalWithin c) Mentions (merges_within c) (names_told c) atom_measure 0 (atom_laws (atom_kit c) (IsNormalWithin c)) f ks h
+
+pub quantifies_no_name : SimplifyingQuantifiesNoName
+quantifies_no_name c ks f n h = simplified_bound (atom_kit c) (λ x. x < n) f ks h
+
+pub brings_no_quantifier : SimplifyingBringsNoQuantifier
+brings_no_quantifier c ks f h k = orderly_free (IsNormalWithin c) (simplified_under c ks f) (keeps_shape c ks f h) (simplified_bound (atom_kit c) (λ x. ⊥) f ks (free_bound f k))

@@ -1,5 +1,7 @@
 -- What is proved of simplification, as statements that the functions of this crate promise.
-use Rattle.std.specs.Prelude.{ℕ, ◌≤◌, List}
+use Rattle.std.specs.Prelude.{ℕ, ◌<◌, ◌≤◌, List}
+use Rattle.formula_meaning.specs.Every.{EveryBound}
+use Rattle.formula_meaning.specs.Shape.{IsQuantifierFree}
 use Rattle.formula_meaning.specs.Context.{Context}
 use Rattle.formula_meaning.specs.Atom.{Atom}
 use Rattle.formula_meaning.specs.Tree.{Tree, IsFree}
@@ -21,6 +23,14 @@ SimplifyingKeepsShape = (c : Context) (ks : List Atom) (f : Tree) → IsSimplifi
 
 abbrev pub SimplifyingBringsNoName : Type 0
 SimplifyingBringsNoName = (c : Context) (ks : List Atom) (f : Tree) → IsSimplifiable c f → (x : ℕ) → IsFree (simplified_under c ks f) x → IsFree f x
+
+-- it quantifies no other names: what each quantified name of the formula has, each of it has too
+abbrev pub SimplifyingQuantifiesNoName : Type 0
+SimplifyingQuantifiesNoName = (c : Context) (ks : List Atom) (f : Tree) (n : ℕ) → EveryBound (λ x. x < n) f → EveryBound (λ x. x < n) (simplified_under c ks f)
+
+-- without quantifiers it stays without
+abbrev pub SimplifyingBringsNoQuantifier : Type 0
+SimplifyingBringsNoQuantifier = (c : Context) (ks : List Atom) (f : Tree) → IsSimplifiable c f → IsQuantifierFree f → IsQuantifierFree (simplified_under c ks f)
 
 -- it has no more nodes, and no more places of atoms
 abbrev pub SimplifyingBringsNoNode : Type 0

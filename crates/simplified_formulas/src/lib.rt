@@ -2,7 +2,7 @@
 //! its contract is a law.
 #![tactic(auto)]
 
-ghost use Rattle.simplified_formulas.specs.Laws.{SimplifyingKeepsTruth, SimplifiedIsReduced, SimplifyingKeepsShape, SimplifyingBringsNoName, SimplifyingBringsNoNode, SimplifyingBringsNoAtom};
+ghost use Rattle.simplified_formulas.specs.Laws.{SimplifyingKeepsTruth, SimplifiedIsReduced, SimplifyingKeepsShape, SimplifyingBringsNoName, SimplifyingQuantifiesNoName, SimplifyingBringsNoQuantifier, SimplifyingBringsNoNode, SimplifyingBringsNoAtom};
 
 /// A formula simplified under assumptions has its truth at every point of the theory where the assumptions are true.
 pub fn simplifying_keeps_truth()
@@ -18,6 +18,12 @@ pub fn simplified_is_reduced()
 pub fn simplifying_brings_no_name()
     ensures shape { SimplifyingKeepsShape }
     ensures names { SimplifyingBringsNoName }
+{}
+
+/// A simplified formula quantifies no name that the formula does not, and has no quantifier where the formula has none.
+pub fn simplifying_brings_no_quantifier()
+    ensures names { SimplifyingQuantifiesNoName }
+    ensures free { SimplifyingBringsNoQuantifier }
 {}
 
 /// A simplified formula has no more nodes and no more places of atoms.

@@ -1,181 +1,271 @@
-use Rattle.std.proofs.Common.{◌≡◌, ◌∙◌, sym, ap, subst, rules, Err}
+use Rattle.std.proofs.Common.{◌≡◌, ◌∙◌, ◌++◌, sym, ap, subst, rules, map, Err}
 use Rattle.std.specs.Prelude.{IfErr, OnErr}
+use Rattle.std.specs.List.{fold}
+use Rattle.atom_normal.specs.Atoms.{atom_of}
 use Rattle.formula_store.specs.Nodes.{tree}
+use Rattle.formula_tree.specs.Names.{with_name}
+use Rattle.formula_tree.specs.Resolving.{formula_variables, all_variables}
+use Rattle.qe_syntax.specs.Proper.{IsProperFormula, AreProperFormulas}
 use Rattle.qe_syntax.specs.Trees.{formula_tree}
+use Rattle.session_commands.specs.Assumptions.{assumed}
 use Rattle.session_commands.specs.Commands.{named}
 use Rattle.session_commands.specs.Causes.{Refuses}
 use Rattle.session_commands.specs.Keeping.{state_of, IsDesk}
-use Rattle.session_commands.specs.Steps.{command_of, use_of, GrowsDesk, IsGiven}
+use Rattle.session_commands.specs.Steps.{command_of, use_of, GrowsDesk, IsGiven, ArePartsNumbered, ArePartsReadable, ArePartsUnread}
 use Rattle.session_commands.proofs.DeskLemmas.{keeps_itself, grows_then, keeps_then}
-use Rattle.session_commands.proofs.GivenSteps.{numbered, numbers, numbered_desk, unread_step, form_step, normal_step, wanted_step, target_step, line_step, within_step, members_step, answer_step, desk_step}
+use Rattle.session_commands.proofs.GivenSteps.{numbered, numbers, numbered_desk, names_are, proper_items, unread_step, form_step, normal_step, two_step, atoms_step, wanted_step, target_step, line_step, within_step, members_step, answer_step, desk_step}
 use Rattle.session_commands.proofs.formulas.given.Goals as goal
 
-pub resolved-requires-clause-numbered : goal.resolved-requires-clause-numbered
-resolved-requires-clause-numbered c = numbers c.args.wanted (formula_tree c.args.formula.now) c.args.desk.now c.number_formula.new.names c.in_default.ensures.numbered.names
-
-pub returns-in_err-id-clause-refused : goal.returns-in_err-id-clause-refused
-returns-in_err-id-clause-refused c =
+pub read_parts-requires-clause-proper_given : goal.read_parts-requires-clause-proper_given
+read_parts-requires-clause-proper_given c =
     let f = formula_tree c.args.formula.now in
     let d = c.args.desk.now in
     let w = c.args.wanted in
-    let e : c.from_residual.result ≡ Err c.in_err-id.field-0.0 = search rules in
-    subst (λ r. IfErr r (Refuses (named (state_of d) (command_of w f)) c.args.limit (use_of c.args.target.now c.args.printed) (command_of w f))) (sym e)
-    (unread_step w f d c.number_formula.new.names c.in_default.ensures.numbered.names c.args.limit c.args.target.now c.args.printed c.in_err-id.field-0.0 c.in_err-id.ensures.unread)
+    let g = c.assumptions-assumptions.ensures in
+    let ns = c.number_parts.new.names in
+    let is = names_are w f d ns _ c.in_ok-number_parts.ensures.numbered g in
+    proper_items c.assumptions-assumptions.result.now (subst AreProperFormulas (sym g) c.requires.given)
 
-pub returns-in_err-id-2-clause-refused : goal.returns-in_err-id-2-clause-refused
-returns-in_err-id-2-clause-refused c =
+pub read_parts-requires-clause-numbered : goal.read_parts-requires-clause-numbered
+read_parts-requires-clause-numbered c =
     let f = formula_tree c.args.formula.now in
     let d = c.args.desk.now in
     let w = c.args.wanted in
-    let e : c.from_residual-in_err-id-2.result ≡ Err c.in_err-id-2.field-0.0 = search rules in
+    let g = c.assumptions-assumptions.ensures in
+    let ns = c.number_parts.new.names in
+    let is = names_are w f d ns _ c.in_ok-number_parts.ensures.numbered g in
+    subst (ArePartsNumbered ns f) (sym g) (numbers w f d ns is)
+
+pub returns-in_err-read-clause-refused : goal.returns-in_err-read-clause-refused
+returns-in_err-read-clause-refused c =
+    let f = formula_tree c.args.formula.now in
+    let d = c.args.desk.now in
+    let w = c.args.wanted in
+    let g = c.assumptions-assumptions.ensures in
+    let ns = c.number_parts.new.names in
+    let is = names_are w f d ns _ c.in_ok-number_parts.ensures.numbered g in
+    let e : c.from_residual-in_err-read.result ≡ Err c.in_err-read.field-0.0 = search rules in
     subst (λ r. IfErr r (Refuses (named (state_of d) (command_of w f)) c.args.limit (use_of c.args.target.now c.args.printed) (command_of w f))) (sym e)
-    (form_step w f d c.number_formula.new.names c.in_default.ensures.numbered.names c.args.limit c.args.target.now c.args.printed c.in_ok-id.ensures.readable c.resolved.new.desk c.resolved.ensures.kept
-    (tree c.resolved.new.desk.store c.in_ok-id.id) c.in_ok-id.ensures.made.same c.in_err-id-2.field-0.0 c.in_err-id-2.ensures.fault)
+    (unread_step w f d ns is c.args.limit c.args.target.now c.args.printed c.in_err-read.field-0.0 (subst (λ hs. ArePartsUnread (state_of (numbered w f d ns is)) f hs c.in_err-read.field-0.0) g c.in_err-read.ensures.unread))
 
 pub formed-requires-clause-normal : goal.formed-requires-clause-normal
 formed-requires-clause-normal c =
     let f = formula_tree c.args.formula.now in
     let d = c.args.desk.now in
     let w = c.args.wanted in
-    let ns = c.number_formula.new.names in
-    let is = c.in_default.ensures.numbered.names in
-    normal_step w f d ns is c.args.limit c.args.target.now c.args.printed c.in_ok-id.ensures.readable c.resolved.new.desk c.resolved.ensures.kept (tree c.resolved.new.desk.store c.in_ok-id.id) c.in_ok-id.ensures.made.same
-    (numbered_desk w f d ns is c.requires.desk c.number_formula.ensures.grown) c.requires.proper
+    let g = c.assumptions-assumptions.ensures in
+    let ns = c.number_parts.new.names in
+    let is = names_are w f d ns _ c.in_ok-number_parts.ensures.numbered g in
+    let h = numbered_desk w f d ns is c.requires.desk c.number_parts.ensures.grown c.requires.proper c.requires.given in
+    let readable = subst (ArePartsReadable (state_of (numbered w f d ns is)) f) g c.in_ok-read.ensures.readable in
+    let ks = map atom_of c.in_ok-read.read.atoms.items in
+    let same_atoms = c.in_ok-read.ensures.atoms ∙ ap (assumed (state_of (numbered w f d ns is))) g in
+    let t = tree c.read_parts.new.desk.store c.in_ok-read.read.formula in
+    normal_step w f d ns is c.args.limit c.args.target.now c.args.printed readable c.read_parts.new.desk c.read_parts.ensures.kept t c.in_ok-read.ensures.made.same ks same_atoms h c.requires.proper
 
-pub returns-in_err-id-2-clause-grown : goal.returns-in_err-id-2-clause-grown
-returns-in_err-id-2-clause-grown c =
+pub formed-requires-clause-members : goal.formed-requires-clause-members
+formed-requires-clause-members c =
     let f = formula_tree c.args.formula.now in
     let d = c.args.desk.now in
     let w = c.args.wanted in
-    let ns = c.number_formula.new.names in
-    let is = c.in_default.ensures.numbered.names in
-    let k = keeps_then (numbered w f d ns is) c.resolved.new.desk c.formed.new.desk c.resolved.ensures.kept c.formed.ensures.kept in
-    let g = grows_then d (numbered w f d ns is) c.formed.new.desk (keeps_itself d ns c.number_formula.ensures.grown) k in
-    let e : c.from_residual-in_err-id-2.result ≡ Err c.in_err-id-2.field-0.0 = search rules in
-    subst (λ r. OnErr r (GrowsDesk d c.formed.new.desk)) (sym e) g
+    let g = c.assumptions-assumptions.ensures in
+    let ns = c.number_parts.new.names in
+    let is = names_are w f d ns _ c.in_ok-number_parts.ensures.numbered g in
+    let h = numbered_desk w f d ns is c.requires.desk c.number_parts.ensures.grown c.requires.proper c.requires.given in
+    let readable = subst (ArePartsReadable (state_of (numbered w f d ns is)) f) g c.in_ok-read.ensures.readable in
+    let ks = map atom_of c.in_ok-read.read.atoms.items in
+    let same_atoms = c.in_ok-read.ensures.atoms ∙ ap (assumed (state_of (numbered w f d ns is))) g in
+    let t = tree c.read_parts.new.desk.store c.in_ok-read.read.formula in
+    two_step w f d ns is c.args.limit c.args.target.now c.args.printed readable c.read_parts.new.desk c.read_parts.ensures.kept t c.in_ok-read.ensures.made.same ks same_atoms h c.requires.proper
+
+pub formed-requires-clause-atoms : goal.formed-requires-clause-atoms
+formed-requires-clause-atoms c =
+    let f = formula_tree c.args.formula.now in
+    let d = c.args.desk.now in
+    let w = c.args.wanted in
+    let g = c.assumptions-assumptions.ensures in
+    let ns = c.number_parts.new.names in
+    let is = names_are w f d ns _ c.in_ok-number_parts.ensures.numbered g in
+    let h = numbered_desk w f d ns is c.requires.desk c.number_parts.ensures.grown c.requires.proper c.requires.given in
+    let readable = subst (ArePartsReadable (state_of (numbered w f d ns is)) f) g c.in_ok-read.ensures.readable in
+    let ks = map atom_of c.in_ok-read.read.atoms.items in
+    let same_atoms = c.in_ok-read.ensures.atoms ∙ ap (assumed (state_of (numbered w f d ns is))) g in
+    let t = tree c.read_parts.new.desk.store c.in_ok-read.read.formula in
+    atoms_step w f d ns is c.args.limit c.args.target.now c.args.printed readable c.read_parts.new.desk c.read_parts.ensures.kept t c.in_ok-read.ensures.made.same ks same_atoms h c.requires.given
+
+pub returns-in_err-id-clause-refused : goal.returns-in_err-id-clause-refused
+returns-in_err-id-clause-refused c =
+    let f = formula_tree c.args.formula.now in
+    let d = c.args.desk.now in
+    let w = c.args.wanted in
+    let g = c.assumptions-assumptions.ensures in
+    let ns = c.number_parts.new.names in
+    let is = names_are w f d ns _ c.in_ok-number_parts.ensures.numbered g in
+    let h = numbered_desk w f d ns is c.requires.desk c.number_parts.ensures.grown c.requires.proper c.requires.given in
+    let readable = subst (ArePartsReadable (state_of (numbered w f d ns is)) f) g c.in_ok-read.ensures.readable in
+    let ks = map atom_of c.in_ok-read.read.atoms.items in
+    let same_atoms = c.in_ok-read.ensures.atoms ∙ ap (assumed (state_of (numbered w f d ns is))) g in
+    let t = tree c.read_parts.new.desk.store c.in_ok-read.read.formula in
+    let e : c.from_residual-in_err-id.result ≡ Err c.in_err-id.field-0.0 = search rules in
+    subst (λ r. IfErr r (Refuses (named (state_of d) (command_of w f)) c.args.limit (use_of c.args.target.now c.args.printed) (command_of w f))) (sym e)
+    (form_step w f d ns is c.args.limit c.args.target.now c.args.printed readable c.read_parts.new.desk c.read_parts.ensures.kept t c.in_ok-read.ensures.made.same ks same_atoms c.in_err-id.field-0.0 c.in_err-id.ensures.fault)
+
+pub returns-in_err-id-clause-grown : goal.returns-in_err-id-clause-grown
+returns-in_err-id-clause-grown c =
+    let f = formula_tree c.args.formula.now in
+    let d = c.args.desk.now in
+    let w = c.args.wanted in
+    let g = c.assumptions-assumptions.ensures in
+    let ns = c.number_parts.new.names in
+    let is = names_are w f d ns _ c.in_ok-number_parts.ensures.numbered g in
+    let k = keeps_then (numbered w f d ns is) c.read_parts.new.desk c.formed.new.desk c.read_parts.ensures.kept c.formed.ensures.kept in
+    let grown = grows_then d (numbered w f d ns is) c.formed.new.desk (keeps_itself d ns c.number_parts.ensures.grown) k in
+    let e : c.from_residual-in_err-id.result ≡ Err c.in_err-id.field-0.0 = search rules in
+    subst (λ r. OnErr r (GrowsDesk d c.formed.new.desk)) (sym e) grown
 
 pub returns-in_err-check_target-clause-refused : goal.returns-in_err-check_target-clause-refused
 returns-in_err-check_target-clause-refused c =
     let f = formula_tree c.args.formula.now in
     let d = c.args.desk.now in
     let w = c.args.wanted in
-    let ns = c.number_formula.new.names in
-    let is = c.in_default.ensures.numbered.names in
-    let k = keeps_then (numbered w f d ns is) c.resolved.new.desk c.formed.new.desk c.resolved.ensures.kept c.formed.ensures.kept in
-    let h = numbered_desk w f d ns is c.requires.desk c.number_formula.ensures.grown in
-    let v =
-    wanted_step w f d ns is c.args.limit c.args.target.now c.args.printed c.in_ok-id.ensures.readable c.resolved.new.desk c.resolved.ensures.kept (tree c.resolved.new.desk.store c.in_ok-id.id) c.in_ok-id.ensures.made.same
-    (tree c.formed.new.desk.store c.in_ok-id-2.id) c.in_ok-id-2.ensures.wanted in
+    let g = c.assumptions-assumptions.ensures in
+    let ns = c.number_parts.new.names in
+    let is = names_are w f d ns _ c.in_ok-number_parts.ensures.numbered g in
+    let h = numbered_desk w f d ns is c.requires.desk c.number_parts.ensures.grown c.requires.proper c.requires.given in
+    let readable = subst (ArePartsReadable (state_of (numbered w f d ns is)) f) g c.in_ok-read.ensures.readable in
+    let ks = map atom_of c.in_ok-read.read.atoms.items in
+    let same_atoms = c.in_ok-read.ensures.atoms ∙ ap (assumed (state_of (numbered w f d ns is))) g in
+    let t = tree c.read_parts.new.desk.store c.in_ok-read.read.formula in
+    let k = keeps_then (numbered w f d ns is) c.read_parts.new.desk c.formed.new.desk c.read_parts.ensures.kept c.formed.ensures.kept in
+    let v = wanted_step w f d ns is c.args.limit c.args.target.now c.args.printed readable c.read_parts.new.desk c.read_parts.ensures.kept t c.in_ok-read.ensures.made.same ks same_atoms (tree c.formed.new.desk.store c.in_ok-id.id) c.in_ok-id.ensures.wanted in
     let e : c.from_residual-in_err-check_target.result ≡ Err c.in_err-check_target.field-0.0 = search rules in
     subst (λ r. IfErr r (Refuses (named (state_of d) (command_of w f)) c.args.limit (use_of c.args.target.now c.args.printed) (command_of w f))) (sym e)
-    (target_step w f d ns is c.args.limit c.args.target.now c.args.printed c.in_ok-id.ensures.readable c.formed.new.desk h k c.in_ok-id-2.id c.in_ok-id-2.ensures.made v c.in_err-check_target.field-0.0 c.in_err-check_target.ensures.fault)
+    (target_step w f d ns is c.args.limit c.args.target.now c.args.printed readable c.formed.new.desk h k c.in_ok-id.id c.in_ok-id.ensures.made c.requires.proper v c.in_err-check_target.field-0.0 c.in_err-check_target.ensures.fault)
 
 pub returns-in_err-check_target-clause-grown : goal.returns-in_err-check_target-clause-grown
 returns-in_err-check_target-clause-grown c =
     let f = formula_tree c.args.formula.now in
     let d = c.args.desk.now in
     let w = c.args.wanted in
-    let ns = c.number_formula.new.names in
-    let is = c.in_default.ensures.numbered.names in
-    let k = keeps_then (numbered w f d ns is) c.resolved.new.desk c.formed.new.desk c.resolved.ensures.kept c.formed.ensures.kept in
-    let g = grows_then d (numbered w f d ns is) c.formed.new.desk (keeps_itself d ns c.number_formula.ensures.grown) k in
+    let g = c.assumptions-assumptions.ensures in
+    let ns = c.number_parts.new.names in
+    let is = names_are w f d ns _ c.in_ok-number_parts.ensures.numbered g in
+    let k = keeps_then (numbered w f d ns is) c.read_parts.new.desk c.formed.new.desk c.read_parts.ensures.kept c.formed.ensures.kept in
+    let grown = grows_then d (numbered w f d ns is) c.formed.new.desk (keeps_itself d ns c.number_parts.ensures.grown) k in
     let e : c.from_residual-in_err-check_target.result ≡ Err c.in_err-check_target.field-0.0 = search rules in
-    subst (λ r. OnErr r (GrowsDesk d c.formed.new.desk)) (sym e) g
+    subst (λ r. OnErr r (GrowsDesk d c.formed.new.desk)) (sym e) grown
 
 pub line_of-requires-clause-within : goal.line_of-requires-clause-within
 line_of-requires-clause-within c =
     let f = formula_tree c.args.formula.now in
     let d = c.args.desk.now in
     let w = c.args.wanted in
-    let ns = c.number_formula.new.names in
-    let is = c.in_default.ensures.numbered.names in
-    let k = keeps_then (numbered w f d ns is) c.resolved.new.desk c.formed.new.desk c.resolved.ensures.kept c.formed.ensures.kept in
-    let h = numbered_desk w f d ns is c.requires.desk c.number_formula.ensures.grown in
-    let v =
-    wanted_step w f d ns is c.args.limit c.args.target.now c.args.printed c.in_ok-id.ensures.readable c.resolved.new.desk c.resolved.ensures.kept (tree c.resolved.new.desk.store c.in_ok-id.id) c.in_ok-id.ensures.made.same
-    (tree c.formed.new.desk.store c.in_ok-id-2.id) c.in_ok-id-2.ensures.wanted in
-    within_step w f d ns is c.args.limit c.args.target.now c.args.printed c.in_ok-id.ensures.readable c.formed.new.desk h k c.in_ok-id-2.id c.in_ok-id-2.ensures.made v c.requires.proper
+    let g = c.assumptions-assumptions.ensures in
+    let ns = c.number_parts.new.names in
+    let is = names_are w f d ns _ c.in_ok-number_parts.ensures.numbered g in
+    let h = numbered_desk w f d ns is c.requires.desk c.number_parts.ensures.grown c.requires.proper c.requires.given in
+    let readable = subst (ArePartsReadable (state_of (numbered w f d ns is)) f) g c.in_ok-read.ensures.readable in
+    let ks = map atom_of c.in_ok-read.read.atoms.items in
+    let same_atoms = c.in_ok-read.ensures.atoms ∙ ap (assumed (state_of (numbered w f d ns is))) g in
+    let t = tree c.read_parts.new.desk.store c.in_ok-read.read.formula in
+    let k = keeps_then (numbered w f d ns is) c.read_parts.new.desk c.formed.new.desk c.read_parts.ensures.kept c.formed.ensures.kept in
+    let v = wanted_step w f d ns is c.args.limit c.args.target.now c.args.printed readable c.read_parts.new.desk c.read_parts.ensures.kept t c.in_ok-read.ensures.made.same ks same_atoms (tree c.formed.new.desk.store c.in_ok-id.id) c.in_ok-id.ensures.wanted in
+    within_step w f d ns is c.args.limit c.args.target.now c.args.printed readable c.formed.new.desk h k c.in_ok-id.id c.in_ok-id.ensures.made c.requires.proper v
 
 pub line_of-requires-clause-members : goal.line_of-requires-clause-members
 line_of-requires-clause-members c =
     let f = formula_tree c.args.formula.now in
     let d = c.args.desk.now in
     let w = c.args.wanted in
-    let ns = c.number_formula.new.names in
-    let is = c.in_default.ensures.numbered.names in
-    let k = keeps_then (numbered w f d ns is) c.resolved.new.desk c.formed.new.desk c.resolved.ensures.kept c.formed.ensures.kept in
-    let h = numbered_desk w f d ns is c.requires.desk c.number_formula.ensures.grown in
-    let v =
-    wanted_step w f d ns is c.args.limit c.args.target.now c.args.printed c.in_ok-id.ensures.readable c.resolved.new.desk c.resolved.ensures.kept (tree c.resolved.new.desk.store c.in_ok-id.id) c.in_ok-id.ensures.made.same
-    (tree c.formed.new.desk.store c.in_ok-id-2.id) c.in_ok-id-2.ensures.wanted in
-    members_step w f d ns is c.args.limit c.args.target.now c.args.printed c.in_ok-id.ensures.readable c.formed.new.desk h k c.in_ok-id-2.id c.in_ok-id-2.ensures.made v c.requires.proper
+    let g = c.assumptions-assumptions.ensures in
+    let ns = c.number_parts.new.names in
+    let is = names_are w f d ns _ c.in_ok-number_parts.ensures.numbered g in
+    let h = numbered_desk w f d ns is c.requires.desk c.number_parts.ensures.grown c.requires.proper c.requires.given in
+    let readable = subst (ArePartsReadable (state_of (numbered w f d ns is)) f) g c.in_ok-read.ensures.readable in
+    let ks = map atom_of c.in_ok-read.read.atoms.items in
+    let same_atoms = c.in_ok-read.ensures.atoms ∙ ap (assumed (state_of (numbered w f d ns is))) g in
+    let t = tree c.read_parts.new.desk.store c.in_ok-read.read.formula in
+    let k = keeps_then (numbered w f d ns is) c.read_parts.new.desk c.formed.new.desk c.read_parts.ensures.kept c.formed.ensures.kept in
+    let v = wanted_step w f d ns is c.args.limit c.args.target.now c.args.printed readable c.read_parts.new.desk c.read_parts.ensures.kept t c.in_ok-read.ensures.made.same ks same_atoms (tree c.formed.new.desk.store c.in_ok-id.id) c.in_ok-id.ensures.wanted in
+    members_step w f d ns is c.args.limit c.args.target.now c.args.printed readable c.formed.new.desk h k c.in_ok-id.id c.in_ok-id.ensures.made c.requires.proper v
 
 pub returns-in_err-line-clause-refused : goal.returns-in_err-line-clause-refused
 returns-in_err-line-clause-refused c =
     let f = formula_tree c.args.formula.now in
     let d = c.args.desk.now in
     let w = c.args.wanted in
-    let ns = c.number_formula.new.names in
-    let is = c.in_default.ensures.numbered.names in
-    let k = keeps_then (numbered w f d ns is) c.resolved.new.desk c.formed.new.desk c.resolved.ensures.kept c.formed.ensures.kept in
-    let h = numbered_desk w f d ns is c.requires.desk c.number_formula.ensures.grown in
-    let v =
-    wanted_step w f d ns is c.args.limit c.args.target.now c.args.printed c.in_ok-id.ensures.readable c.resolved.new.desk c.resolved.ensures.kept (tree c.resolved.new.desk.store c.in_ok-id.id) c.in_ok-id.ensures.made.same
-    (tree c.formed.new.desk.store c.in_ok-id-2.id) c.in_ok-id-2.ensures.wanted in
+    let g = c.assumptions-assumptions.ensures in
+    let ns = c.number_parts.new.names in
+    let is = names_are w f d ns _ c.in_ok-number_parts.ensures.numbered g in
+    let h = numbered_desk w f d ns is c.requires.desk c.number_parts.ensures.grown c.requires.proper c.requires.given in
+    let readable = subst (ArePartsReadable (state_of (numbered w f d ns is)) f) g c.in_ok-read.ensures.readable in
+    let ks = map atom_of c.in_ok-read.read.atoms.items in
+    let same_atoms = c.in_ok-read.ensures.atoms ∙ ap (assumed (state_of (numbered w f d ns is))) g in
+    let t = tree c.read_parts.new.desk.store c.in_ok-read.read.formula in
+    let k = keeps_then (numbered w f d ns is) c.read_parts.new.desk c.formed.new.desk c.read_parts.ensures.kept c.formed.ensures.kept in
+    let v = wanted_step w f d ns is c.args.limit c.args.target.now c.args.printed readable c.read_parts.new.desk c.read_parts.ensures.kept t c.in_ok-read.ensures.made.same ks same_atoms (tree c.formed.new.desk.store c.in_ok-id.id) c.in_ok-id.ensures.wanted in
     let e : c.from_residual-in_err-line.result ≡ Err c.in_err-line.field-0.0 = search rules in
     subst (λ r. IfErr r (Refuses (named (state_of d) (command_of w f)) c.args.limit (use_of c.args.target.now c.args.printed) (command_of w f))) (sym e)
-    (line_step w f d ns is c.args.limit c.args.target.now c.args.printed c.in_ok-id.ensures.readable c.formed.new.desk h k c.in_ok-id-2.id c.in_ok-id-2.ensures.made v c.in_ok-check_target.ensures.ok c.in_err-line.field-0.0 c.in_err-line.ensures.fault)
+    (line_step w f d ns is c.args.limit c.args.target.now c.args.printed readable c.formed.new.desk h k c.in_ok-id.id c.in_ok-id.ensures.made c.requires.proper v c.in_ok-check_target.ensures.ok c.in_err-line.field-0.0 c.in_err-line.ensures.fault)
 
 pub returns-in_err-line-clause-grown : goal.returns-in_err-line-clause-grown
 returns-in_err-line-clause-grown c =
     let f = formula_tree c.args.formula.now in
     let d = c.args.desk.now in
     let w = c.args.wanted in
-    let ns = c.number_formula.new.names in
-    let is = c.in_default.ensures.numbered.names in
-    let k = keeps_then (numbered w f d ns is) c.resolved.new.desk c.formed.new.desk c.resolved.ensures.kept c.formed.ensures.kept in
-    let g = grows_then d (numbered w f d ns is) c.formed.new.desk (keeps_itself d ns c.number_formula.ensures.grown) k in
+    let g = c.assumptions-assumptions.ensures in
+    let ns = c.number_parts.new.names in
+    let is = names_are w f d ns _ c.in_ok-number_parts.ensures.numbered g in
+    let k = keeps_then (numbered w f d ns is) c.read_parts.new.desk c.formed.new.desk c.read_parts.ensures.kept c.formed.ensures.kept in
+    let grown = grows_then d (numbered w f d ns is) c.formed.new.desk (keeps_itself d ns c.number_parts.ensures.grown) k in
     let e : c.from_residual-in_err-line.result ≡ Err c.in_err-line.field-0.0 = search rules in
-    subst (λ r. OnErr r (GrowsDesk d c.formed.new.desk)) (sym e) g
+    subst (λ r. OnErr r (GrowsDesk d c.formed.new.desk)) (sym e) grown
 
 pub returns-in_err-bind-clause-grown : goal.returns-in_err-bind-clause-grown
 returns-in_err-bind-clause-grown c =
     let f = formula_tree c.args.formula.now in
     let d = c.args.desk.now in
     let w = c.args.wanted in
-    let ns = c.number_formula.new.names in
-    let is = c.in_default.ensures.numbered.names in
-    let k = keeps_then (numbered w f d ns is) c.resolved.new.desk c.formed.new.desk c.resolved.ensures.kept c.formed.ensures.kept in
-    let g = grows_then d (numbered w f d ns is) c.formed.new.desk (keeps_itself d ns c.number_formula.ensures.grown) k in
+    let g = c.assumptions-assumptions.ensures in
+    let ns = c.number_parts.new.names in
+    let is = names_are w f d ns _ c.in_ok-number_parts.ensures.numbered g in
+    let k = keeps_then (numbered w f d ns is) c.read_parts.new.desk c.formed.new.desk c.read_parts.ensures.kept c.formed.ensures.kept in
+    let grown = grows_then d (numbered w f d ns is) c.formed.new.desk (keeps_itself d ns c.number_parts.ensures.grown) k in
     let e : c.from_residual-in_err-bind.result ≡ Err c.in_err-bind.field-0.0 = search rules in
     let same : c.bind.new.desk ≡ c.formed.new.desk = c.in_err-bind.ensures.unchanged in
-    subst (λ r. OnErr r (GrowsDesk d c.bind.new.desk)) (sym e) (subst (GrowsDesk d) (sym same) g)
+    subst (λ r. OnErr r (GrowsDesk d c.bind.new.desk)) (sym e) (subst (GrowsDesk d) (sym same) grown)
 
 pub returns-clause-desk : goal.returns-clause-desk
 returns-clause-desk c =
     let f = formula_tree c.args.formula.now in
     let d = c.args.desk.now in
     let w = c.args.wanted in
-    let ns = c.number_formula.new.names in
-    let is = c.in_default.ensures.numbered.names in
-    let k = keeps_then (numbered w f d ns is) c.resolved.new.desk c.formed.new.desk c.resolved.ensures.kept c.formed.ensures.kept in
-    let h = numbered_desk w f d ns is c.requires.desk c.number_formula.ensures.grown in
-    let v =
-    wanted_step w f d ns is c.args.limit c.args.target.now c.args.printed c.in_ok-id.ensures.readable c.resolved.new.desk c.resolved.ensures.kept (tree c.resolved.new.desk.store c.in_ok-id.id) c.in_ok-id.ensures.made.same
-    (tree c.formed.new.desk.store c.in_ok-id-2.id) c.in_ok-id-2.ensures.wanted in
-    subst IsDesk (sym c.in_ok-bind.ensures.bound) (desk_step w f d ns is c.args.limit c.args.target.now c.args.printed c.in_ok-id.ensures.readable c.formed.new.desk h k c.in_ok-id-2.id c.in_ok-id-2.ensures.made v c.requires.proper)
+    let g = c.assumptions-assumptions.ensures in
+    let ns = c.number_parts.new.names in
+    let is = names_are w f d ns _ c.in_ok-number_parts.ensures.numbered g in
+    let h = numbered_desk w f d ns is c.requires.desk c.number_parts.ensures.grown c.requires.proper c.requires.given in
+    let readable = subst (ArePartsReadable (state_of (numbered w f d ns is)) f) g c.in_ok-read.ensures.readable in
+    let ks = map atom_of c.in_ok-read.read.atoms.items in
+    let same_atoms = c.in_ok-read.ensures.atoms ∙ ap (assumed (state_of (numbered w f d ns is))) g in
+    let t = tree c.read_parts.new.desk.store c.in_ok-read.read.formula in
+    let k = keeps_then (numbered w f d ns is) c.read_parts.new.desk c.formed.new.desk c.read_parts.ensures.kept c.formed.ensures.kept in
+    let v = wanted_step w f d ns is c.args.limit c.args.target.now c.args.printed readable c.read_parts.new.desk c.read_parts.ensures.kept t c.in_ok-read.ensures.made.same ks same_atoms (tree c.formed.new.desk.store c.in_ok-id.id) c.in_ok-id.ensures.wanted in
+    subst IsDesk (sym c.in_ok-bind.ensures.bound) (desk_step w f d ns is c.args.limit c.args.target.now c.args.printed readable c.formed.new.desk h k c.in_ok-id.id c.in_ok-id.ensures.made c.requires.proper v)
 
 pub returns-clause-answer : goal.returns-clause-answer
 returns-clause-answer c =
     let f = formula_tree c.args.formula.now in
     let d = c.args.desk.now in
     let w = c.args.wanted in
-    let ns = c.number_formula.new.names in
-    let is = c.in_default.ensures.numbered.names in
-    let k = keeps_then (numbered w f d ns is) c.resolved.new.desk c.formed.new.desk c.resolved.ensures.kept c.formed.ensures.kept in
-    let h = numbered_desk w f d ns is c.requires.desk c.number_formula.ensures.grown in
-    let v =
-    wanted_step w f d ns is c.args.limit c.args.target.now c.args.printed c.in_ok-id.ensures.readable c.resolved.new.desk c.resolved.ensures.kept (tree c.resolved.new.desk.store c.in_ok-id.id) c.in_ok-id.ensures.made.same
-    (tree c.formed.new.desk.store c.in_ok-id-2.id) c.in_ok-id-2.ensures.wanted in
+    let g = c.assumptions-assumptions.ensures in
+    let ns = c.number_parts.new.names in
+    let is = names_are w f d ns _ c.in_ok-number_parts.ensures.numbered g in
+    let h = numbered_desk w f d ns is c.requires.desk c.number_parts.ensures.grown c.requires.proper c.requires.given in
+    let readable = subst (ArePartsReadable (state_of (numbered w f d ns is)) f) g c.in_ok-read.ensures.readable in
+    let ks = map atom_of c.in_ok-read.read.atoms.items in
+    let same_atoms = c.in_ok-read.ensures.atoms ∙ ap (assumed (state_of (numbered w f d ns is))) g in
+    let t = tree c.read_parts.new.desk.store c.in_ok-read.read.formula in
+    let k = keeps_then (numbered w f d ns is) c.read_parts.new.desk c.formed.new.desk c.read_parts.ensures.kept c.formed.ensures.kept in
+    let v = wanted_step w f d ns is c.args.limit c.args.target.now c.args.printed readable c.read_parts.new.desk c.read_parts.ensures.kept t c.in_ok-read.ensures.made.same ks same_atoms (tree c.formed.new.desk.store c.in_ok-id.id) c.in_ok-id.ensures.wanted in
     subst (λ later. IsGiven (named (state_of d) (command_of w f)) c.args.limit (use_of c.args.target.now c.args.printed) (command_of w f) c.in_ok-line.line (state_of later)) (sym c.in_ok-bind.ensures.bound)
-    (answer_step w f d ns is c.args.limit c.args.target.now c.args.printed c.in_ok-id.ensures.readable c.formed.new.desk h k c.in_ok-id-2.id c.in_ok-id-2.ensures.made v c.in_ok-check_target.ensures.ok c.in_ok-line.line c.in_ok-line.ensures.line c.in_ok-line.ensures.short)
+    (answer_step w f d ns is c.args.limit c.args.target.now c.args.printed readable c.formed.new.desk h k c.in_ok-id.id c.in_ok-id.ensures.made c.requires.proper v c.in_ok-check_target.ensures.ok c.in_ok-line.line c.in_ok-line.ensures.line c.in_ok-line.ensures.short)

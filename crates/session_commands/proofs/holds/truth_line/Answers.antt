@@ -12,13 +12,13 @@ use Rattle.session_commands.proofs.TruthSteps.{named_desk, desk_named, numbers_t
 use Rattle.session_commands.proofs.holds.truth_line.Goals as goal
 
 pub truth-requires-clause-desk : goal.truth-requires-clause-desk
-truth-requires-clause-desk c = desk_named c.args.desk.now c.number_command.new.names (formula_tree c.args.formula.now) c.args.entries.now c.requires.desk c.in_ok-number_command.ensures.grown c.in_ok-number_command.ensures.numbered
+truth-requires-clause-desk c = desk_named c.args.desk.now c.number_command.new.names (formula_tree c.args.formula.now) c.args.entries.now c.requires.desk c.in_ok-number_command.ensures.grown c.in_ok-number_command.ensures.numbered c.requires.proper c.requires.entries
 
 pub truth-requires-clause-numbered : goal.truth-requires-clause-numbered
-truth-requires-clause-numbered c = numbers_there c.args.desk.now c.number_command.new.names (formula_tree c.args.formula.now) c.args.entries.now c.requires.desk c.in_ok-number_command.ensures.grown c.in_ok-number_command.ensures.numbered
+truth-requires-clause-numbered c = numbers_there c.args.desk.now c.number_command.new.names (formula_tree c.args.formula.now) c.args.entries.now c.requires.desk c.in_ok-number_command.ensures.grown c.in_ok-number_command.ensures.numbered c.requires.proper c.requires.entries
 
 pub truth-requires-clause-valued : goal.truth-requires-clause-valued
-truth-requires-clause-valued c = entries_there c.args.desk.now c.number_command.new.names (formula_tree c.args.formula.now) c.args.entries.now c.requires.desk c.in_ok-number_command.ensures.grown c.in_ok-number_command.ensures.numbered
+truth-requires-clause-valued c = entries_there c.args.desk.now c.number_command.new.names (formula_tree c.args.formula.now) c.args.entries.now c.requires.desk c.in_ok-number_command.ensures.grown c.in_ok-number_command.ensures.numbered c.requires.proper c.requires.entries
 
 pub returns-in_err-truth-clause-refused : goal.returns-in_err-truth-clause-refused
 returns-in_err-truth-clause-refused c =
@@ -27,21 +27,21 @@ returns-in_err-truth-clause-refused c =
     let es = c.args.entries.now in
     let e : c.from_residual-in_err-truth.result ≡ Err c.in_err-truth.field-0.0 = search rules in
     let stop : Result Bool StatementError = Err c.in_err-truth.field-0.0 in
-    let refused : IfErr stop (RefusesTruthAt (state_of (named_desk desk c.number_command.new.names f es c.requires.desk c.in_ok-number_command.ensures.grown c.in_ok-number_command.ensures.numbered)) c.args.limit f es) = c.in_err-truth.ensures.refused in
+    let refused : IfErr stop (RefusesTruthAt (state_of (named_desk desk c.number_command.new.names f es c.requires.desk c.in_ok-number_command.ensures.grown c.in_ok-number_command.ensures.numbered c.requires.proper c.requires.entries)) c.args.limit f es) = c.in_err-truth.ensures.refused in
     subst (λ r. IfErr r (Refuses (named (state_of desk) (Holds f es)) c.args.limit (use_of None c.args.printed) (Holds f es))) (sym e)
-    (truth_refused desk c.number_command.new.names f es c.requires.desk c.in_ok-number_command.ensures.grown c.in_ok-number_command.ensures.numbered stop c.args.limit c.args.printed refused)
+    (truth_refused desk c.number_command.new.names f es c.requires.desk c.in_ok-number_command.ensures.grown c.in_ok-number_command.ensures.numbered c.requires.proper c.requires.entries stop c.args.limit c.args.printed refused)
 
 pub returns-clause-desk : goal.returns-clause-desk
 returns-clause-desk c =
-    desk_later c.args.desk.now c.number_command.new.names (formula_tree c.args.formula.now) c.args.entries.now c.requires.desk c.in_ok-number_command.ensures.grown c.in_ok-number_command.ensures.numbered
+    desk_later c.args.desk.now c.number_command.new.names (formula_tree c.args.formula.now) c.args.entries.now c.requires.desk c.in_ok-number_command.ensures.grown c.in_ok-number_command.ensures.numbered c.requires.proper c.requires.entries
     c.truth.new.desk c.in_ok-truth.ensures.kept c.printed_line.result
 
 pub returns-clause-answer : goal.returns-clause-answer
 returns-clause-answer c =
-    truth_answered c.args.desk.now c.number_command.new.names (formula_tree c.args.formula.now) c.args.entries.now c.requires.desk c.in_ok-number_command.ensures.grown c.in_ok-number_command.ensures.numbered
+    truth_answered c.args.desk.now c.number_command.new.names (formula_tree c.args.formula.now) c.args.entries.now c.requires.desk c.in_ok-number_command.ensures.grown c.in_ok-number_command.ensures.numbered c.requires.proper c.requires.entries
     c.printed_line.result c.args.limit c.args.printed c.in_ok-truth.truth c.text_of_truth.result.now c.in_ok-truth.ensures.truth c.in_ok-truth.ensures.accepted c.text_of_truth.ensures c.printed_line.ensures.line
 
 pub returns-clause-next : goal.returns-clause-next
 returns-clause-next c =
-    state_later c.args.desk.now c.number_command.new.names (formula_tree c.args.formula.now) c.args.entries.now c.requires.desk c.in_ok-number_command.ensures.grown c.in_ok-number_command.ensures.numbered
+    state_later c.args.desk.now c.number_command.new.names (formula_tree c.args.formula.now) c.args.entries.now c.requires.desk c.in_ok-number_command.ensures.grown c.in_ok-number_command.ensures.numbered c.requires.proper c.requires.entries
     c.truth.new.desk c.in_ok-truth.ensures.kept c.printed_line.result

@@ -3,7 +3,7 @@ use Rattle.qe_syntax.specs.Trees.{formula_tree, formula_trees}
 use Rattle.qe_syntax.specs.Statements.{command_tree}
 use Rattle.session_commands.specs.declared.formulas.Wanted.TheVariants as wanted
 use Rattle.session_commands.specs.Keeping.{state_of}
-use Rattle.session_commands.proofs.AnswerLemmas.{assigned_as, elimination_assigned, assignment_stopped}
+use Rattle.session_commands.proofs.AnswerLemmas.{assigned_as, simplification_assigned, elimination_assigned}
 use Rattle.session_commands.proofs.session.assign.Goals as goal
 
 pub returns-in-Echo-clause-answer : goal.returns-in-Echo-clause-answer
@@ -16,12 +16,12 @@ returns-in-Nnf-clause-answer c =
     assigned_as c.answer_formula-in-Nnf.result wanted.NegationNormal (formula_tree c.in-Nnf.formula) (command_tree c.args.command.now) (state_of c.args.desk.now) (state_of c.answer_formula-in-Nnf.new.desk) c.args.limit c.args.printed c.args.name.now
     (ap command_tree c.in-Nnf.is) c.answer_formula-in-Nnf.ensures.answer
 
+pub returns-in-Simpl-clause-answer : goal.returns-in-Simpl-clause-answer
+returns-in-Simpl-clause-answer c =
+    simplification_assigned c.answer_formula-in-Simpl.result (formula_tree c.in-Simpl.formula) (formula_trees c.in-Simpl.given) (command_tree c.args.command.now) (state_of c.args.desk.now) (state_of c.answer_formula-in-Simpl.new.desk) c.args.limit c.args.printed c.args.name.now
+    (ap command_tree c.in-Simpl.is) c.answer_formula-in-Simpl.ensures.answer
+
 pub returns-in-Qe-clause-answer : goal.returns-in-Qe-clause-answer
 returns-in-Qe-clause-answer c =
-    elimination_assigned c.eliminate.result (formula_tree c.in-Qe.formula) (formula_trees c.in-Qe.given) (command_tree c.args.command.now) (state_of c.args.desk.now) (state_of c.eliminate.new.desk) c.args.limit c.args.printed
-    c.args.name.now (ap command_tree c.in-Qe.is) c.eliminate.ensures.answer
-
-pub returns-in-Qe-clause-refusal : goal.returns-in-Qe-clause-refusal
-returns-in-Qe-clause-refusal c =
-    assignment_stopped (state_of c.args.desk.now) c.args.limit c.args.printed (formula_tree c.in-Qe.formula) c.args.name.now c.eliminate.result (formula_trees c.in-Qe.given) (command_tree c.args.command.now)
-    (ap command_tree c.in-Qe.is) c.eliminate.ensures.refused
+    elimination_assigned c.answer_formula-in-Qe.result (formula_tree c.in-Qe.formula) (formula_trees c.in-Qe.given) (command_tree c.args.command.now) (state_of c.args.desk.now) (state_of c.answer_formula-in-Qe.new.desk) c.args.limit c.args.printed c.args.name.now
+    (ap command_tree c.in-Qe.is) c.answer_formula-in-Qe.ensures.answer

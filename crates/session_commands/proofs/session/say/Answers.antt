@@ -3,7 +3,7 @@ use Rattle.qe_syntax.specs.Trees.{formula_tree, formula_trees}
 use Rattle.qe_syntax.specs.Statements.{command_tree}
 use Rattle.session_commands.specs.declared.formulas.Wanted.TheVariants as wanted
 use Rattle.session_commands.specs.Keeping.{state_of}
-use Rattle.session_commands.proofs.AnswerLemmas.{answered_as, elimination_answered, elimination_stopped, holds_answered, holds_stopped}
+use Rattle.session_commands.proofs.AnswerLemmas.{answered_as, simplification_answered, elimination_answered, holds_answered, holds_stopped}
 use Rattle.session_commands.proofs.session.say.Goals as goal
 
 pub returns-in-Echo-clause-answer : goal.returns-in-Echo-clause-answer
@@ -26,12 +26,12 @@ returns-in-Holds-clause-refusal c =
     holds_stopped c.answer_holds.result (formula_tree c.in-Holds.formula) c.in-Holds.entries (command_tree c.args.command.now) (state_of c.args.desk.now) c.args.limit c.args.printed
     (ap command_tree c.in-Holds.is) c.answer_holds.ensures.refused
 
+pub returns-in-Simpl-clause-answer : goal.returns-in-Simpl-clause-answer
+returns-in-Simpl-clause-answer c =
+    simplification_answered c.answer_formula-in-Simpl.result (formula_tree c.in-Simpl.formula) (formula_trees c.in-Simpl.given) (command_tree c.args.command.now) (state_of c.args.desk.now) (state_of c.answer_formula-in-Simpl.new.desk) c.args.limit c.args.printed
+    (ap command_tree c.in-Simpl.is) c.answer_formula-in-Simpl.ensures.answer
+
 pub returns-in-Qe-clause-answer : goal.returns-in-Qe-clause-answer
 returns-in-Qe-clause-answer c =
-    elimination_answered c.eliminate.result (formula_tree c.in-Qe.formula) (formula_trees c.in-Qe.given) (command_tree c.args.command.now) (state_of c.args.desk.now) (state_of c.eliminate.new.desk) c.args.limit c.args.printed
-    (ap command_tree c.in-Qe.is) c.eliminate.ensures.answer
-
-pub returns-in-Qe-clause-refusal : goal.returns-in-Qe-clause-refusal
-returns-in-Qe-clause-refusal c =
-    elimination_stopped (state_of c.args.desk.now) c.args.limit c.args.printed (formula_tree c.in-Qe.formula) c.eliminate.result (formula_trees c.in-Qe.given) (command_tree c.args.command.now)
-    (ap command_tree c.in-Qe.is) c.eliminate.ensures.refused
+    elimination_answered c.answer_formula-in-Qe.result (formula_tree c.in-Qe.formula) (formula_trees c.in-Qe.given) (command_tree c.args.command.now) (state_of c.args.desk.now) (state_of c.answer_formula-in-Qe.new.desk) c.args.limit c.args.printed
+    (ap command_tree c.in-Qe.is) c.answer_formula-in-Qe.ensures.answer

@@ -1,0 +1,25 @@
+use Rattle.std.proofs.Common.{map}
+use Rattle.atom_normal.specs.Atoms.{context_of, atom_of}
+use Rattle.formula_store.specs.Nodes.{tree}
+use Rattle.session_commands.proofs.EliminatedLemmas.{simplified_quantifies, simplified_free}
+use Rattle.session_commands.proofs.forms.simplified.Goals as goal
+
+pub returns-in-Ok-clause-simplified : goal.returns-in-Ok-clause-simplified
+returns-in-Ok-clause-simplified c =
+    let theory = context_of c.args.desk.now.context in
+    let ks = map atom_of c.args.atoms.now in
+    let f = tree c.args.desk.now.store c.args.id in
+    let t = tree c.simplify.new.store c.in-Ok.id in
+    let h = c.in-Ok.ensures in
+    record {
+      truth = h.truth;
+      reduced = h.reduced;
+      orderly = h.shape;
+      normal = h.normal;
+      free = simplified_free theory ks f t h.simplified h.shape;
+      bound = simplified_quantifies theory ks f t h.simplified;
+      names = h.names;
+      nodes = h.nodes;
+      atoms = h.atoms;
+      text = h.text;
+    }

@@ -1,0 +1,162 @@
+//! The forms of a resolved formula that commands give.
+
+ghost use Rattle.std.specs.Prelude.{◌≡◌, ◌*◌, ◌⊎◌, ◌<◌, ◌≤◌, ℕ, Some, IfOk, IfErr, OnOk, map};
+ghost use Rattle.std.specs.List.{AllByRecursion};
+ghost use Rattle.formula_meaning.specs.Every.{Every};
+ghost use Rattle.formula_meaning.specs.NegationNormal.{normal_form};
+ghost use Rattle.formula_meaning.specs.Sizes.{nodes};
+ghost use Rattle.formula_meaning.specs.Some.{EachOf};
+ghost use Rattle.formula_meaning.specs.Tree.{tree_distinct};
+ghost use Rattle.atom_normal.specs.Atoms.{context_of, atom_of, IsWellFormed};
+ghost use Rattle.atom_normal.specs.NormalForm.{IsNormal, negated_normal};
+ghost use Rattle.simplified_formulas.specs.Orderly.{IsOrderly};
+ghost use Rattle.formula_store.specs.Nodes.{tree, IsId};
+ghost use Rattle.redlog_printer.specs.Bound.{HasTwoMembers};
+ghost use Rattle.session_commands.specs.Steps.{KeepsDesk, IsWantedForm, FormFault, IsEliminatedAs, IsSimplifiedAs, IsWantedAnswer, EliminationFault, NegationFault, measured_refusal as refusal_of_measured};
+
+use crate::assumptions::Premised;
+use crate::desk::Desk;
+use crate::formulas::Wanted;
+use crate::line::StatementError;
+use atom_normal::Atom;
+use formula_store::FormulaId;
+use formula_tree::FormError;
+use nnf_pnf::nnf;
+use plain_engine::Measured;
+use shared_elimination::eliminate_shared;
+use theory_simplifier::{SimplError, simplify};
+
+/// The wanted form of what was read.
+pub(crate) fn formed(
+    desk: &mut Desk,
+    limit: u64,
+    wanted: Wanted<'_>,
+    read: &Premised,
+) -> Result<FormulaId, StatementError>
+    requires id { IsId desk.old.store read.now.formula }
+    requires normal { Every (IsNormal (context_of desk.old.context)) (tree desk.old.store read.now.formula) }
+    requires members { HasTwoMembers (tree desk.old.store read.now.formula) }
+    requires atoms { EachOf (IsNormal (context_of desk.old.context)) (map atom_of read.now.atoms.items) }
+    requires well_formed { AllByRecursion IsWellFormed read.now.atoms.items }
+    ensures made { IfOk result (IsId desk.new.store) }
+    ensures wanted { IfOk result (λ r. IsWantedForm (context_of desk.old.context) (map atom_of read.now.atoms.items) limit wanted.entry (tree desk.old.store read.now.formula) (tree desk.new.store r)) }
+    ensures fault { IfErr result (FormFault (context_of desk.old.context) limit wanted.entry (tree desk.old.store read.now.formula)) }
+    ensures kept { KeepsDesk desk.old desk.new }
+{
+    match wanted {
+        Wanted::Given => Ok(read.formula),
+        Wanted::NegationNormal => negated(desk, Some(limit), read.formula),
+        Wanted::Simplified(_) => simplified_negation(desk, limit, read),
+        Wanted::Eliminated(_) => simplified_answer(desk, limit, read),
+    }
+}
+
+/// The negation normal form. `Nodes` comes exactly where there is a limit and 6 times the distinct subformulas are above it.
+fn negated(
+    desk: &mut Desk,
+    limit: Option<u64>,
+    id: FormulaId,
+) -> Result<FormulaId, StatementError>
+    requires { IsId desk.old.store id }
+    ensures made { IfOk result (IsId desk.new.store) }
+    ensures form { IfOk result (λ r. tree desk.new.store r ≡ normal_form negated_normal (tree desk.old.store id)) }
+    ensures fault { IfErr result (NegationFault limit (tree desk.old.store id)) }
+    ensures kept { KeepsDesk desk.old desk.new }
+{
+    match nnf(desk.alloc, &mut desk.store, id, limit) {
+        Ok(id) => Ok(id),
+        Err(FormError::Nodes) => Err(StatementError::Nodes),
+        Err(_) => Err(StatementError::Memory),
+    }
+}
+
+/// The negation normal form, simplified under the assumptions.
+fn simplified_negation(
+    desk: &mut Desk,
+    limit: u64,
+    read: &Premised,
+) -> Result<FormulaId, StatementError>
+    requires id { IsId desk.old.store read.now.formula }
+    requires normal { Every (IsNormal (context_of desk.old.context)) (tree desk.old.store read.now.formula) }
+    requires members { HasTwoMembers (tree desk.old.store read.now.formula) }
+    requires atoms { EachOf (IsNormal (context_of desk.old.context)) (map atom_of read.now.atoms.items) }
+    requires well_formed { AllByRecursion IsWellFormed read.now.atoms.items }
+    ensures made { IfOk result (IsId desk.new.store) }
+    ensures simplified { IfOk result (λ r. IsSimplifiedAs (context_of desk.old.context) (map atom_of read.now.atoms.items) (normal_form negated_normal (tree desk.old.store read.now.formula)) (tree desk.new.store r)) }
+    ensures fault { IfErr result (λ e. ((e ≡ StatementError.Nodes) × (limit < nodes (normal_form negated_normal (tree desk.old.store read.now.formula)))) ⊎ (e ≡ StatementError.Memory)) }
+    ensures kept { KeepsDesk desk.old desk.new }
+{
+    let form = negated(desk, None, read.formula)?;
+    simplified(desk, limit, form, &read.atoms)
+}
+
+/// An equivalent formula without quantifiers, simplified under the assumptions.
+fn simplified_answer(
+    desk: &mut Desk,
+    limit: u64,
+    read: &Premised,
+) -> Result<FormulaId, StatementError>
+    requires id { IsId desk.old.store read.now.formula }
+    requires normal { Every (IsNormal (context_of desk.old.context)) (tree desk.old.store read.now.formula) }
+    requires atoms { EachOf (IsNormal (context_of desk.old.context)) (map atom_of read.now.atoms.items) }
+    requires well_formed { AllByRecursion IsWellFormed read.now.atoms.items }
+    ensures made { IfOk result (IsId desk.new.store) }
+    ensures answer { IfOk result (λ r. IsWantedAnswer (context_of desk.old.context) (map atom_of read.now.atoms.items) limit (tree desk.old.store read.now.formula) (tree desk.new.store r)) }
+    ensures fault { IfErr result (EliminationFault (context_of desk.old.context) limit (tree desk.old.store read.now.formula)) }
+    ensures kept { KeepsDesk desk.old desk.new }
+{
+    let answer = eliminated(desk, limit, read.formula)?;
+    match simplified(desk, limit, answer, &read.atoms) {
+        Ok(id) => Ok(id),
+        Err(_) => Err(StatementError::Memory),
+    }
+}
+
+/// What the reference elimination gives.
+fn eliminated(desk: &mut Desk, limit: u64, id: FormulaId) -> Result<FormulaId, StatementError>
+    requires id { IsId desk.old.store id }
+    requires normal { Every (IsNormal (context_of desk.old.context)) (tree desk.old.store id) }
+    ensures made { IfOk result (IsId desk.new.store) }
+    ensures answer { IfOk result (λ r. IsEliminatedAs (context_of desk.old.context) limit (tree desk.old.store id) (tree desk.new.store r)) }
+    ensures fault { IfErr result (EliminationFault (context_of desk.old.context) limit (tree desk.old.store id)) }
+    ensures kept { KeepsDesk desk.old desk.new }
+{
+    match eliminate_shared(desk.alloc, &mut desk.store, desk.context, id, limit) {
+        Ok(id) => Ok(id),
+        Err(error) => Err(measured_refusal(error)),
+    }
+}
+
+/// A formula in negation normal form, simplified under the assumptions. `Nodes` comes only where it has more nodes than the limit.
+fn simplified(
+    desk: &mut Desk,
+    limit: u64,
+    id: FormulaId,
+    atoms: &[Atom],
+) -> Result<FormulaId, StatementError>
+    requires id { IsId desk.old.store id }
+    requires formula { IsOrderly (IsNormal (context_of desk.old.context)) (tree desk.old.store id) }
+    requires well_formed { AllByRecursion IsWellFormed atoms.now }
+    requires atoms { EachOf (IsNormal (context_of desk.old.context)) (map atom_of atoms.now) }
+    ensures made { IfOk result (IsId desk.new.store) }
+    ensures simplified { IfOk result (λ r. IsSimplifiedAs (context_of desk.old.context) (map atom_of atoms.now) (tree desk.old.store id) (tree desk.new.store r)) }
+    ensures fault { IfErr result (λ e. ((e ≡ StatementError.Nodes) × (limit < nodes (tree desk.old.store id))) ⊎ (e ≡ StatementError.Memory)) }
+    ensures kept { KeepsDesk desk.old desk.new }
+{
+    match simplify(desk.alloc, &mut desk.store, desk.context, id, atoms, limit) {
+        Ok(id) => Ok(id),
+        Err(SimplError::Nodes) => Err(StatementError::Nodes),
+        Err(SimplError::Memory) => Err(StatementError::Memory),
+    }
+}
+
+/// A refusal of an elimination.
+pub(crate) fn measured_refusal(error: Measured) -> StatementError
+    ensures { result ≡ refusal_of_measured error }
+{
+    match error {
+        Measured::Overflow => StatementError::Overflow,
+        Measured::Nodes => StatementError::Nodes,
+        Measured::Memory => StatementError::Memory,
+    }
+}
