@@ -1,0 +1,8 @@
+//! Simplification of shared formulas under assumptions.
+#![tactic(auto)]
+
+mod error;
+mod repeat;
+
+pub use error::SimplError;
+pub use repeat::simplify;

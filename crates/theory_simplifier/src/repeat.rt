@@ -1,0 +1,60 @@
+//! A shared formula simplified under assumptions.
+
+ghost use Rattle.std.specs.Prelude.{◌≡◌, ◌≤◌, ◌<◌, ℕ, List, IfOk, IfErr, OnOk, length, map};
+ghost use Rattle.std.specs.List.{AllByRecursion};
+ghost use Rattle.formula_meaning.specs.Every.{Every};
+ghost use Rattle.formula_meaning.specs.Some.{EachOf};
+ghost use Rattle.formula_meaning.specs.Sizes.{nodes};
+ghost use Rattle.formula_meaning.specs.Tree.{IsFree};
+ghost use Rattle.atom_normal.specs.Atoms.{context_of, atom_of, IsWellFormed};
+ghost use Rattle.atom_normal.specs.NormalForm.{IsNormal};
+ghost use Rattle.simplified_formulas.specs.Measure.{size, atom_measure};
+ghost use Rattle.simplified_formulas.specs.Orderly.{IsOrderly};
+ghost use Rattle.simplified_formulas.specs.Trees.{IsReduced, EquivalentUnder, simplified_under};
+ghost use Rattle.formula_tree.specs.Makers.{Keeps};
+ghost use Rattle.formula_store.specs.Nodes.{IsId, tree};
+ghost use Rattle.redlog_printer.specs.Text.{tree_text};
+ghost use Rattle.redlog_printer.specs.Within.{IsAtomWithin};
+
+use crate::error::SimplError;
+use atom_normal::{Atom, Context};
+use formula_store::{FormulaId, Store};
+use std::alloc::Global;
+
+/// The shared formula simplified under the assumptions `theory`: it has the formula's truth wherever all of them are true, is
+/// Reduced under them, and has no other free names, no more nodes and atoms and no longer text. `Nodes` comes exactly where the
+/// tree of the formula has more than `limit` nodes, and before anything is made, else `Memory`. The formulas of the store stay.
+pub fn simplify(
+    alloc: Global,
+    store: &mut Store,
+    context: Context,
+    id: FormulaId,
+    theory: &[Atom],
+    limit: u64,
+) -> Result<FormulaId, SimplError>
+    requires id { IsId store.old id }
+    requires formula { IsOrderly (IsNormal (context_of context)) (tree store.old id) }
+    requires well_formed { AllByRecursion IsWellFormed theory.now }
+    requires theory { EachOf (IsNormal (context_of context)) (map atom_of theory.now) }
+    ensures made { IfOk result (λ r. IsId store.new r) }
+    ensures simplified { IfOk result (λ r. tree store.new r ≡ simplified_under (context_of context) (map atom_of theory.now) (tree store.old id)) }
+
+    // What is promised of the simplified formula: its truth under the assumptions, and that it is Reduced under them.
+    ensures truth { IfOk result (λ r. EquivalentUnder (context_of context) (map atom_of theory.now) (tree store.new r) (tree store.old id)) }
+    ensures reduced { IfOk result (λ r. IsReduced (context_of context) (tree store.new r) (map atom_of theory.now)) }
+
+    // It can be simplified again, and is no larger in any way.
+    ensures shape { IfOk result (λ r. IsOrderly (IsNormal (context_of context)) (tree store.new r)) }
+    ensures normal { IfOk result (λ r. Every (IsNormal (context_of context)) (tree store.new r)) }
+    ensures names { IfOk result (λ r. (x : ℕ) → IsFree (tree store.new r) x → IsFree (tree store.old id) x) }
+    ensures nodes { IfOk result (λ r. nodes (tree store.new r) ≤ nodes (tree store.old id)) }
+    ensures atoms { IfOk result (λ r. size atom_measure (tree store.new r) ≤ size atom_measure (tree store.old id)) }
+    ensures text { IfOk result (λ r. (names : List (List ℕ)) → EachOf (λ name. 0 < length name) names → Every (IsAtomWithin (length names)) (tree store.old id) →
+        length (tree_text names (tree store.new r)) ≤ length (tree_text names (tree store.old id))) }
+
+    ensures small { OnOk result (nodes (tree store.old id) ≤ limit) }
+    ensures large { IfErr result (λ e. e ≡ SimplError.Nodes → limit < nodes (tree store.old id)) }
+    ensures kept { Keeps (IsId store.old) (tree store.old) (IsId store.new) (tree store.new) }
+{
+    Err(SimplError::Memory)
+}
