@@ -2,6 +2,8 @@
 #![tactic(auto)]
 
 mod error;
+mod joined;
+mod known;
 mod repeat;
 
 pub use error::SimplError;

@@ -1,0 +1,3 @@
+pub mod Listed
+pub mod Partners
+pub mod Known
