@@ -4,3 +4,4 @@ pub mod Entries
 pub mod Reading
 pub mod Parting
 pub mod Knowing
+pub mod Members

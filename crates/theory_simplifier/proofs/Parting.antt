@@ -49,7 +49,7 @@ part_back (Congruent b m f) (Compare s g) h = absurd h
 told_along : (c : Context) (a b : Atom) (x : ℕ) → IsNormal c a → IsNormal c b → SamePart a b → contains b x ≡ true → contains a x ≡ true
 told_along c a b x n m h e = (names_told c).absent a x (names_along c a b x n m h ((names_told c).there b x e))
 
-same_test : (s t : Bool) → (s ≡ true → t ≡ true) → (t ≡ true → s ≡ true) → s ≡ t
+pub same_test : (s t : Bool) → (s ≡ true → t ≡ true) → (t ≡ true → s ≡ true) → s ≡ t
 same_test true t h k = sym (h refl)
 same_test false true h k = k refl
 same_test false false h k = refl

@@ -1,3 +1,4 @@
 pub mod Listed
 pub mod Partners
 pub mod Known
+pub mod Parts

@@ -4,6 +4,7 @@
 mod error;
 mod joined;
 mod known;
+mod parts;
 mod repeat;
 
 pub use error::SimplError;
