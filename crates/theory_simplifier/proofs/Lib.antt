@@ -5,3 +5,6 @@ pub mod Reading
 pub mod Parting
 pub mod Knowing
 pub mod Members
+pub mod FreeMembers
+pub mod Keeping
+pub mod Passing

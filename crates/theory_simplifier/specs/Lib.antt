@@ -2,3 +2,4 @@ pub mod Listed
 pub mod Partners
 pub mod Known
 pub mod Parts
+pub mod Constants

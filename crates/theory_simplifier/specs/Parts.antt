@@ -1,9 +1,9 @@
 -- A list on the way, as the program holds it.
-use Rattle.std.specs.Prelude.{◌≡◌, Bool, nat_eq, List, [], map}
+use Rattle.std.specs.Prelude.{◌≡◌, Bool, true, false, nat_eq, List, [], map}
 use Rattle.std.specs.List.{AllByRecursion}
 use Rattle.formula_meaning.specs.Context.{Context}
 use Rattle.formula_meaning.specs.Some.{EachOf}
-use Rattle.formula_meaning.specs.Formula.{none}
+use Rattle.formula_meaning.specs.Formula.{One, none}
 use Rattle.formula_meaning.specs.Fold.{Junction}
 use Rattle.formula_meaning.specs.Atom.{Atom}
 use Rattle.formula_meaning.specs.Tree.{Tree, Trees}
@@ -54,3 +54,11 @@ joined_shape junction.Or ids = shape.Or ids
 abbrev pub quantified_shape : {Id : Type 0} → Quantifier → VarId → Id → Shape Id
 quantified_shape quantifier.Ex x f = shape.Ex x f
 quantified_shape quantifier.All x f = shape.All x f
+
+-- whether the formula is an atom
+abbrev pub is_one : Tree → Bool
+is_one (One a) = true
+is_one f = false
+
+abbrev pub one_tree : Atom → Tree
+one_tree a = One a

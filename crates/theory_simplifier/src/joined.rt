@@ -113,11 +113,11 @@ impl Joined {
     }
 
     /// The atoms in their order. It takes no memory.
-    pub(crate) fn into_entries(self) -> Vec<Entry>
-        ensures atoms { map entry_atom result.items ≡ self.atoms }
-        ensures entries { AllByRecursion (IsEntry self.junction) result.items }
+    pub(crate) fn entries(&self) -> &[Entry]
+        ensures atoms { map entry_atom result.now ≡ self.now.atoms }
+        ensures entries { AllByRecursion (IsEntry self.now.junction) result.now }
     {
-        self.entries
+        &self.entries
     }
 
     // The place of the first atom with which this one merges, and what they become. Its only error is `Memory`.

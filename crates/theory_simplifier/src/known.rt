@@ -3,11 +3,12 @@
 ghost use Rattle.std.specs.Prelude.{◌≡◌, ◌++◌, ◌∷◌, [], IfOk, IfErr, IfSome, IfNone, OnOk};
 ghost use Rattle.atom_normal.specs.Atoms.{context_of, atom_of, IsWellFormed};
 ghost use Rattle.atom_merging.specs.Computed.{IsNormalWithin};
-ghost use Rattle.simplified_formulas.specs.AtomKit.{atom_kit, contains};
+ghost use Rattle.simplified_formulas.specs.AtomKit.{atom_kit};
 ghost use Rattle.simplified_formulas.specs.Pass.{decided};
 ghost use Rattle.theory_simplifier.specs.Known.{known_atoms, AreNormalFrames};
 
 use crate::error::SimplError;
+use crate::free::has_name;
 use crate::joined::Joined;
 use atom_normal::{Atom, Context};
 use linear_forms::VarId;
@@ -80,21 +81,12 @@ impl Known {
                     }
                 }
                 Frame::Under(x) => {
-                    if has(atom, *x) {
+                    if has_name(atom, *x) {
                         return None;
                     }
                 }
             }
         }
         None
-    }
-}
-
-// Whether the name stands in the atom.
-fn has(atom: &Atom, x: VarId) -> bool
-    ensures { result ≡ contains (atom_of atom.now) x.number }
-{
-    match atom {
-        Atom::Compare(_, form) | Atom::Congruent { form, .. } => !form.coefficient(x).cmp(&0).is_eq(),
     }
 }

@@ -1,10 +1,14 @@
 //! Simplification of shared formulas under assumptions.
 #![tactic(auto)]
 
+mod closing;
+mod constants;
 mod error;
+mod free;
 mod joined;
 mod known;
 mod parts;
+mod pass;
 mod repeat;
 
 pub use error::SimplError;

@@ -36,16 +36,16 @@ loop-place-preserved-else-is_some c = record {
       (sym c.decided-truth.ensures ∙ no_truth c.decided-truth.result (sym c.is_some.ensures ∙ c.if-is_some.false));
 }
 
-pub returns-then-has : goal.returns-then-has
-returns-then-has c =
+pub returns-then-has_name : goal.returns-then-has_name
+returns-then-has_name c =
     sym (c.loop-place.invariant.same ∙ last (context_of c.args.context) (atom_of c.args.atom.now) c.args.self.now c.loop-place.place c.loop-place-test.true
         ∙ name_hides (context_of c.args.context) (atom_of c.args.atom.now) c.requires.normal.normal c.args.self.now c.requires.known (c.loop-place.place - 1) (there c.args.self.now c.loop-place.place c.loop-place-test.true c.loop-place.invariant.within) c.index.result.now
-        c.in-Under.x (frame_read c.self.inside.frames.items c.args.self.now (c.loop-place.place - 1) c.index.result.now _ c.self.view_is c.index.ensures c.in-Under.is) (sym c.has.ensures ∙ c.if-has.true))
+        c.in-Under.x (frame_read c.self.inside.frames.items c.args.self.now (c.loop-place.place - 1) c.index.result.now _ c.self.view_is c.index.ensures c.in-Under.is) (sym c.has_name.ensures ∙ c.if-has_name.true))
 
 pub loop-place-preserved : goal.loop-place-preserved
 loop-place-preserved c = record {
   within = (let h = c.loop-place.invariant.within in omega arith);
   same = c.loop-place.invariant.same ∙ last (context_of c.args.context) (atom_of c.args.atom.now) c.args.self.now c.loop-place.place c.loop-place-test.true
       ∙ name_passes (context_of c.args.context) (atom_of c.args.atom.now) c.requires.normal.normal c.args.self.now c.requires.known (c.loop-place.place - 1) (there c.args.self.now c.loop-place.place c.loop-place-test.true c.loop-place.invariant.within) c.index.result.now
-      c.in-Under.x (frame_read c.self.inside.frames.items c.args.self.now (c.loop-place.place - 1) c.index.result.now _ c.self.view_is c.index.ensures c.in-Under.is) (sym c.has.ensures ∙ c.if-has.false);
+      c.in-Under.x (frame_read c.self.inside.frames.items c.args.self.now (c.loop-place.place - 1) c.index.result.now _ c.self.view_is c.index.ensures c.in-Under.is) (sym c.has_name.ensures ∙ c.if-has_name.false);
 }
