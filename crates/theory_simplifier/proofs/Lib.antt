@@ -8,3 +8,5 @@ pub mod Members
 pub mod FreeMembers
 pub mod Keeping
 pub mod Passing
+pub mod Repeating
+pub mod Assuming

@@ -21,7 +21,9 @@ pub(crate) fn see_formula(store: &Store, id: FormulaId) -> Result<(), SimplError
     ensures within { OnOk result (Every IsWithin (tree store.now id)) }
     ensures memory { IfErr result (λ e. e ≡ SimplError.Memory) }
 {
-    let ids = store.subformulas(id).map_err(|_| SimplError::Memory)?;
+    let Ok(ids) = store.subformulas(id) else {
+        return Err(SimplError::Memory);
+    };
     for id in &ids {
         see_top(store, *id);
     }

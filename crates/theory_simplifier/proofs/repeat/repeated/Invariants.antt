@@ -10,8 +10,8 @@ use Rattle.formula_store.specs.Nodes.{tree, IsId}
 use Rattle.theory_simplifier.specs.Known.{known_atoms}
 use Rattle.theory_simplifier.proofs.repeat.repeated.Given as goal
 
-abbrev pub invariant-loop-formula : goal.invariant-loop-formula
-invariant-loop-formula l = record {
+abbrev pub invariant-loop-next : goal.invariant-loop-next
+invariant-loop-next l = record {
   is : IsId l.store l.formula;
   normal : IsSimplifiable (context_of l.context) (tree l.store l.formula);
   known : l.known ≡ l.initial.known;
@@ -21,5 +21,5 @@ invariant-loop-formula l = record {
   same : simplified (atom_kit (context_of l.context)) (tree l.initial.store l.fn.id) (known_atoms l.initial.known) ≡ simplified (atom_kit (context_of l.context)) (tree l.store l.formula) (known_atoms l.initial.known);
 }
 
-abbrev pub decreases-loop-formula : goal.decreases-loop-formula
-decreases-loop-formula l = l.nodes
+abbrev pub decreases-loop-next : goal.decreases-loop-next
+decreases-loop-next l = l.nodes
