@@ -1,14 +1,13 @@
 -- The assumptions, and formulas whose constants are within the limit.
-use Rattle.std.proofs.Common.{◌≡◌, ℕ, refl, ap, ◌∙◌, subst, List, [], ◌∷◌, ◌++◌, map, append-nil}
+use Rattle.std.proofs.Common.{◌≡◌, refl, ap, ◌∙◌, List, [], ◌∷◌, map, append-nil}
 use Rattle.std.specs.List.{AllByRecursion}
 use Rattle.formula_meaning.specs.Context.{Context}
-use Rattle.formula_meaning.specs.Formula.{Formula, Formulas, Yes, No, One, Not, And, Or, Impl, Repl, Equiv, Ex, All, none, also}
+use Rattle.formula_meaning.specs.Formula.{Yes, No, One, Not, And, Or, Impl, Repl, Equiv, Ex, All, none, also}
 use Rattle.formula_meaning.specs.Every.{Every, EveryOf}
 use Rattle.formula_meaning.specs.Some.{EachOf}
 use Rattle.formula_meaning.specs.Fold.{Conjunction}
 use Rattle.formula_meaning.specs.Atom.{Atom}
 use Rattle.formula_meaning.specs.Tree.{Tree, Trees}
-use Rattle.atom_normal.specs.Atoms.{atom_of}
 use Rattle.atom_normal.specs.declared.atoms.Atom.{Atom as CodeAtom}
 use Rattle.atom_normal.specs.NormalForm.{IsNormal, negated_normal}
 use Rattle.atom_merging.specs.Computed.{IsNormalWithin}
@@ -18,9 +17,8 @@ use Rattle.formula_tree.specs.declared.shape.Shape.{Shape}
 use Rattle.formula_tree.specs.declared.shape.Shape.TheVariants as shape
 use Rattle.formula_tree.specs.Shapes.{tree_over, AllIds}
 use Rattle.formula_tree.specs.Trees.{members}
-use Rattle.theory_simplifier.specs.declared.known.Frame.{Frame}
 use Rattle.theory_simplifier.specs.declared.known.Frame.TheVariants.{Beside}
-use Rattle.theory_simplifier.specs.Known.{known_atoms, AreNormalFrames}
+use Rattle.theory_simplifier.specs.Known.{known_atoms}
 use Rattle.theory_simplifier.specs.Constants.{IsWithin}
 
 -- ---- the assumptions

@@ -1,5 +1,5 @@
 -- What several lists of known atoms say of an atom, and which known atoms can say anything.
-use Rattle.std.proofs.Common.{◌≡◌, ℕ, Bool, true, false, refl, sym, ap, ◌∙◌, Option, Some, None, List, [], ◌∷◌, ◌++◌}
+use Rattle.std.proofs.Common.{◌≡◌, Bool, refl, sym, ap, ◌∙◌, Option, Some, None, List, [], ◌∷◌, ◌++◌}
 use Rattle.simplified_formulas.specs.Atoms.{Kit}
 use Rattle.simplified_formulas.specs.Pass.{first_answer, decided}
 

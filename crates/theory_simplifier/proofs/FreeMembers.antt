@@ -1,6 +1,6 @@
 -- Whether a name is free in some members, one after another.
 use Rattle.std.proofs.Common.{◌≡◌, ℕ, zero, suc, ◌+◌, ◌<◌, ◌≤◌, Bool, true, false, refl, sym, ap, ◌∙◌, List, [], ◌∷◌, ◌++◌, length, take, drop, map, get_or, arith}
-use Rattle.std.proofs.lemmas.List.{take_more, take_all}
+use Rattle.std.proofs.lemmas.List.{take_more}
 use Rattle.std.specs.Prelude.{◌||◌}
 use Rattle.formula_meaning.specs.Sizes.{nodes, all_nodes}
 use Rattle.formula_meaning.specs.Atom.{Atom}
@@ -45,4 +45,4 @@ module _ {Id : Type 0} (t : Id → Tree) where
     pub some_here : (ids : List Id) (i : ℕ) (d : Id) → i < length ids → is_free kit x (t (get_or ids i d)) ≡ true → true ≡ free_in ids
     some_here ids i d h e =
         sym (ap free_in (split_at ids i d h) ∙ free_append (take i ids) (get_or ids i d ∷ drop (suc i) ids)
-            ∙ or_true (free_in (take i ids)) (is_free kit x (t (get_or ids i d))) (free_in (drop (suc i) ids)) e)
+        ∙ or_true (free_in (take i ids)) (is_free kit x (t (get_or ids i d))) (free_in (drop (suc i) ids)) e)

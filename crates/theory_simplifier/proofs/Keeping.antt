@@ -1,5 +1,5 @@
 -- What is made stays as more is made, and members as a store has them.
-use Rattle.std.proofs.Common.{◌≡◌, ℕ, suc, ◌+◌, ◌<◌, refl, sym, ap, ◌∙◌, subst, List, [], ◌∷◌, ◌++◌, length, take, map, get_or, Some, arith}
+use Rattle.std.proofs.Common.{◌≡◌, ℕ, ◌+◌, ◌<◌, refl, sym, ap, ◌∙◌, List, [], ◌∷◌, ◌++◌, length, take, map, get_or, Some, arith}
 use Rattle.std.proofs.lemmas.List.{take_more}
 use Rattle.std.specs.Prelude.{IfOk}
 use Rattle.std.specs.declared.result.Result.{Result}
@@ -12,7 +12,7 @@ use Rattle.formula_meaning.specs.Tree.{Tree}
 use Rattle.simplified_formulas.specs.Pass as meant
 use Rattle.simplified_formulas.specs.Pass.{ones}
 use Rattle.formula_tree.specs.declared.shape.Shape.{Shape}
-use Rattle.formula_tree.specs.Makers.{IsMade, Keeps}
+use Rattle.formula_tree.specs.Makers.{Keeps}
 use Rattle.formula_tree.specs.Shapes.{tree_over}
 use Rattle.formula_tree.specs.Trees.{members}
 use Rattle.formula_store.specs.declared.id.FormulaId.{FormulaId}
@@ -62,7 +62,7 @@ module _ (a b : List (Shape FormulaId)) (k : Keeps (IsId a) (tree a) (IsId b) (t
   one_more ids id items i e all so t h is =
       map_append (tree b) ids (id ∷ []) ∙ (λ x. (still_trees ids all ∙ so) x ++ t x ∷ [])
       ∙ sym (ap (λ es. map one_tree (map entry_atom es)) (take_more items i e h ∙ ap (λ x. take i items ++ x ∷ []) (sym is))
-          ∙ ap (map one_tree) (map_append entry_atom (take i items) (e ∷ [])) ∙ map_append one_tree (map entry_atom (take i items)) (entry_atom e ∷ []))
+      ∙ ap (map one_tree) (map_append entry_atom (take i items) (e ∷ [])) ∙ map_append one_tree (map entry_atom (take i items)) (entry_atom e ∷ []))
 
 pub all_joined : (P : FormulaId → Type 0) (xs ys : List FormulaId) → AllByRecursion P xs → AllByRecursion P ys → AllByRecursion P (xs ++ ys)
 all_joined P [] ys h k = k

@@ -1,5 +1,5 @@
 -- What is known at a place, frame by frame.
-use Rattle.std.proofs.Common.{◌≡◌, ℕ, zero, suc, ◌+◌, ◌<◌, Bool, true, false, refl, sym, ap, ◌∙◌, subst, Option, Some, None, List, [], ◌∷◌, ◌++◌, length, take, map, get_or, arith}
+use Rattle.std.proofs.Common.{◌≡◌, ℕ, zero, suc, ◌+◌, ◌<◌, Bool, true, false, refl, sym, ap, ◌∙◌, subst, Option, Some, None, List, [], ◌∷◌, ◌++◌, length, take, map, get_or}
 use Rattle.std.proofs.lemmas.List.{take_more}
 use Rattle.std.specs.Prelude.{if◌then◌else◌}
 use Rattle.formula_meaning.specs.Context.{Context}
@@ -7,7 +7,7 @@ use Rattle.formula_meaning.specs.Some.{EachOf}
 use Rattle.formula_meaning.specs.Atom.{Atom}
 use Rattle.formula_meaning.specs.Fold.{Junction}
 use Rattle.atom_normal.specs.NormalForm.{IsNormal, negated_normal}
-use Rattle.atom_merging.specs.Computed.{IsNormalWithin, decided_by}
+use Rattle.atom_merging.specs.Computed.{IsNormalWithin}
 use Rattle.simplified_formulas.specs.Atoms.{without, tells}
 use Rattle.simplified_formulas.specs.AtomKit.{contains, atom_kit}
 use Rattle.simplified_formulas.specs.Pass.{first_answer, decided}

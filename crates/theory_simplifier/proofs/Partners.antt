@@ -3,12 +3,11 @@ use Rattle.std.proofs.Common.{◌≡◌, ℕ, zero, suc, ◌<◌, refl, sym, ap,
 use Rattle.std.proofs.Math.ListN.{set}
 use Rattle.formula_meaning.specs.Context.{Context}
 use Rattle.formula_meaning.specs.Some.{EachOf}
-use Rattle.formula_meaning.specs.Atom.{Atom, Mentions}
+use Rattle.formula_meaning.specs.Atom.{Atom}
 use Rattle.formula_meaning.specs.Fold.{Junction}
-use Rattle.atom_merging.specs.Computed.{Settled, Into, Kept, Merging, merged, IsNormalWithin}
+use Rattle.atom_merging.specs.Computed.{Settled, Into, Kept, merged}
 use Rattle.simplified_formulas.specs.AtomKit.{atom_kit}
 use Rattle.simplified_formulas.specs.Pass.{where_merged, with_one}
-use Rattle.simplified_formulas.proofs.AtomLaws.{merges_within}
 use Rattle.theory_simplifier.specs.Partners.{AreApart}
 
 module _ (c : Context) (j : Junction) (a : Atom) where

@@ -1,10 +1,10 @@
 -- One member of a list passed, and a quantified formula.
-use Rattle.std.proofs.Common.{◌≡◌, ℕ, suc, ◌+◌, ◌<◌, Bool, true, false, refl, sym, ap, ◌∙◌, subst, Option, Some, None, List, [], ◌∷◌, ◌++◌, map}
+use Rattle.std.proofs.Common.{◌≡◌, true, false, refl, sym, ap, ◌∙◌, subst, Option, Some, None, List, [], ◌∷◌, ◌++◌, map}
 use Rattle.std.specs.Prelude.{IfSome, IfNone, OnOk}
 use Rattle.std.specs.declared.result.Result.{Result}
 use Rattle.std.specs.declared.result.Result.TheVariants.{Ok, Err}
 use Rattle.formula_meaning.specs.Context.{Context}
-use Rattle.formula_meaning.specs.Formula.{Formula, Formulas, One, Ex, All, none, also}
+use Rattle.formula_meaning.specs.Formula.{One, Ex, All, none, also}
 use Rattle.formula_meaning.specs.Fold.{Junction, pieces_of}
 use Rattle.formula_meaning.specs.Atom.{Atom, Mentions}
 use Rattle.formula_meaning.specs.Tree.{Tree, Trees}
@@ -30,7 +30,7 @@ use Rattle.theory_simplifier.specs.declared.known.Frame.{Frame}
 use Rattle.theory_simplifier.specs.declared.known.Frame.TheVariants.{Beside, Under}
 use Rattle.theory_simplifier.specs.declared.parts.Parts.{Parts}
 use Rattle.theory_simplifier.specs.declared.parts.Parts.TheVariants.{Closed, Open}
-use Rattle.theory_simplifier.specs.Listed.{Listed, told_by}
+use Rattle.theory_simplifier.specs.Listed.{Listed}
 use Rattle.theory_simplifier.specs.Known.{inside, known_atoms}
 use Rattle.theory_simplifier.specs.Parts.{parts_of, is_one, IsListOf, HasIds, quantified_shape}
 use Rattle.theory_simplifier.proofs.Keeping.{still_trees}

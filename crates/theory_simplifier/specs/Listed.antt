@@ -2,7 +2,6 @@
 use Rattle.std.specs.Prelude.{◌≡◌, List, map}
 use Rattle.formula_meaning.specs.Atom as meant
 use Rattle.formula_meaning.specs.Fold.{Junction}
-use Rattle.atom_normal.specs.declared.atoms.Atom.{Atom}
 use Rattle.atom_normal.specs.Atoms.{atom_of, IsWellFormed}
 use Rattle.atom_normal.specs.NormalForm.{negated_normal}
 use Rattle.simplified_formulas.specs.Atoms.{tells}

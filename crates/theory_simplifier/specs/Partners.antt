@@ -6,7 +6,7 @@ use Rattle.formula_meaning.specs.Atom.{Atom}
 use Rattle.formula_meaning.specs.Fold.{Junction}
 use Rattle.atom_normal.specs.Atoms.{atom_of, IsWellFormed}
 use Rattle.atom_merging.specs.declared.answers.Merged.{Merged}
-use Rattle.atom_merging.specs.declared.answers.Merged.TheVariants.{True, False, One, Keep}
+use Rattle.atom_merging.specs.declared.answers.Merged.TheVariants.{One, Keep}
 use Rattle.atom_merging.specs.Computed.{IsNormalWithin, Kept, merged, merging_of}
 
 -- none of the atoms merges with a

@@ -90,7 +90,12 @@ impl Joined {
 
     /// The list with the atom: it takes the place of the first with which it merges, else it comes last. False where the two
     /// settle the list. Its only error is `Memory`.
-    pub(crate) fn add(&mut self, alloc: Global, context: Context, atom: &Atom) -> Result<bool, SimplError>
+    pub(crate) fn add(
+        &mut self,
+        alloc: Global,
+        context: Context,
+        atom: &Atom,
+    ) -> Result<bool, SimplError>
         requires well_formed { IsWellFormed atom.now }
         requires normal { IsNormalWithin (context_of context) (atom_of atom.now) }
         requires atoms { EachOf (IsNormalWithin (context_of context)) self.old.atoms }

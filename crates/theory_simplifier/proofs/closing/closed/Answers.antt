@@ -2,7 +2,6 @@ use Rattle.std.proofs.Common.{rules, ◌≡◌, ◌++◌, Some, map, sym, ap, su
 use Rattle.std.specs.List.{AllByRecursion}
 use Rattle.formula_meaning.specs.Fold.{from_pieces}
 use Rattle.simplified_formulas.specs.Pass.{close, ones}
-use Rattle.formula_tree.specs.Makers.{IsMade}
 use Rattle.formula_tree.specs.Trees.{members}
 use Rattle.formula_store.specs.Nodes.{tree, IsId}
 use Rattle.nnf_trees.specs.Nnfs.{junction_of}
@@ -26,7 +25,7 @@ returns-clause-made c =
     let list : from_pieces j (Some (members (map t c.extend_from_slice.new.self.items))) ≡ close j (parts_of (tree c.args.store.now) c.args.parts) =
     ap (λ fs. from_pieces j (Some fs))
     (ap (λ ids. members (map t ids)) all ∙ ones_members t c.in_ok-ids.ids.items c.in-Open.others c.in-Open.atoms.atoms c.in_ok-ids.ensures.made
-        ∙ ap (λ fs. ones c.in-Open.atoms.atoms (members fs)) (still_trees c.args.store.now c.atoms_made.new.store c.atoms_made.ensures.kept c.in-Open.others old))
+    ∙ ap (λ fs. ones c.in-Open.atoms.atoms (members fs)) (still_trees c.args.store.now c.atoms_made.new.store c.atoms_made.ensures.kept c.in-Open.others old))
     ∙ ap (λ s. close j (parts_of (tree c.args.store.now) s)) (sym c.in-Open.is) in
     if_ok_map c.whole.result _ _ (λ id m. record { is = m.is; same = m.same ∙ list }) c.whole.ensures.made
 

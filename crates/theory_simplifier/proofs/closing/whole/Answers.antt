@@ -1,4 +1,4 @@
-use Rattle.std.proofs.Common.{rules, ◌≡◌, ◌<◌, length, sym, ap, ◌∙◌}
+use Rattle.std.proofs.Common.{rules, ◌≡◌, ◌<◌, length, ap, ◌∙◌}
 use Rattle.formula_tree.specs.Shapes.{tree_over}
 use Rattle.formula_store.specs.Nodes.{tree}
 use Rattle.theory_simplifier.specs.Parts.{joined_shape}

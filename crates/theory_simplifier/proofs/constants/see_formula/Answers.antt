@@ -1,10 +1,10 @@
-use Rattle.std.proofs.Common.{◌≡◌, List, [], ◌∷◌, get_or, take, inl, sym, subst, arith}
+use Rattle.std.proofs.Common.{◌≡◌, List, [], ◌∷◌, take, inl, sym, subst, arith}
 use Rattle.std.proofs.lemmas.List.{take_all}
 use Rattle.std.specs.List.{AllByRecursion}
 use Rattle.formula_meaning.specs.Every.{Every}
 use Rattle.formula_tree.proofs.Shapes.{listed_all}
 use Rattle.formula_store.specs.declared.id.FormulaId.{FormulaId}
-use Rattle.formula_store.specs.Nodes.{tree, IsId}
+use Rattle.formula_store.specs.Nodes.{tree}
 use Rattle.formula_store.specs.Order.{IsOrder, itself}
 use Rattle.formula_store.proofs.Before.{each_id, members_before, among_all}
 use Rattle.theory_simplifier.specs.Constants.{IsWithin}

@@ -1,7 +1,5 @@
-use Rattle.std.proofs.Common.{◌≡◌, ◌≤◌, map, get_or, sym, ◌∙◌, arith}
-use Rattle.formula_meaning.specs.Sizes.{nodes, all_nodes}
+use Rattle.std.proofs.Common.{sym, ◌∙◌, arith}
 use Rattle.simplified_formulas.specs.AtomKit.{atom_kit}
-use Rattle.formula_tree.specs.Trees.{members}
 use Rattle.formula_store.specs.Nodes.{tree, IsId}
 use Rattle.formula_store.proofs.Marked.{all_at}
 use Rattle.theory_simplifier.proofs.FreeMembers.{nodes_at, none_more, some_here}

@@ -1,4 +1,4 @@
-use Rattle.std.proofs.Common.{◌≡◌, [], map, sym, ap, ◌∙◌, get_or, arith}
+use Rattle.std.proofs.Common.{[], map, sym, ap, ◌∙◌, get_or, arith}
 use Rattle.formula_meaning.specs.Formula.{none}
 use Rattle.atom_normal.specs.Atoms.{context_of}
 use Rattle.atom_merging.specs.Computed.{IsNormalWithin}
@@ -7,7 +7,6 @@ use Rattle.simplified_formulas.specs.Pass.{Open, with_atom_first}
 use Rattle.formula_store.specs.Nodes.{tree}
 use Rattle.nnf_trees.specs.Nnfs.{junction_of}
 use Rattle.theory_simplifier.specs.Known.{known_atoms}
-use Rattle.theory_simplifier.specs.Parts.{parts_of}
 use Rattle.theory_simplifier.proofs.Members.{through_atoms, through_more, through_all, orderly_at}
 use Rattle.theory_simplifier.proofs.parts.with_atoms.Goals as goal
 

@@ -1,8 +1,8 @@
-use Rattle.std.proofs.Common.{◌≡◌, [], map, sym, ap, ◌∙◌, get_or, arith}
+use Rattle.std.proofs.Common.{map, sym, ap, ◌∙◌, get_or, arith}
 use Rattle.atom_normal.specs.Atoms.{context_of}
 use Rattle.atom_merging.specs.Computed.{IsNormalWithin}
 use Rattle.simplified_formulas.specs.AtomKit.{atom_kit}
-use Rattle.simplified_formulas.specs.Pass.{Open, with_piece}
+use Rattle.simplified_formulas.specs.Pass.{with_piece}
 use Rattle.formula_store.specs.Nodes.{tree}
 use Rattle.nnf_trees.specs.Nnfs.{junction_of}
 use Rattle.theory_simplifier.specs.Known.{known_atoms}

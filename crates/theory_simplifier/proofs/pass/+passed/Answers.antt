@@ -1,7 +1,5 @@
-use Rattle.std.proofs.Common.{rules, ◌≡◌, ◌≤◌, ℕ, map, get_or, sym, ap, subst, ◌∙◌, arith}
-use Rattle.std.specs.List.{AllByRecursion}
+use Rattle.std.proofs.Common.{◌≡◌, ◌≤◌, map, get_or, sym, ap, subst, ◌∙◌, arith}
 use Rattle.formula_meaning.specs.Sizes.{nodes, all_nodes}
-use Rattle.formula_meaning.specs.Fold.{pieces_of}
 use Rattle.atom_normal.specs.Atoms.{context_of}
 use Rattle.atom_merging.specs.Computed.{IsNormalWithin}
 use Rattle.simplified_formulas.specs.AtomKit.{atom_kit}
@@ -18,7 +16,7 @@ use Rattle.theory_simplifier.specs.Parts.{parts_of, HasIds}
 use Rattle.theory_simplifier.proofs.Keeping.{if_ok_map, keeps_then, still_ids}
 use Rattle.theory_simplifier.proofs.FreeMembers.{nodes_at}
 use Rattle.theory_simplifier.proofs.Members.{with_next, through_more, through_all, through_others, orderly_at}
-use Rattle.theory_simplifier.proofs.Passing.{on_ok, last_same, left_same, known_under, passed_simplifiable, next_closed, member_step, stays_quantified, loses_quantifier, over_quantified}
+use Rattle.theory_simplifier.proofs.Passing.{on_ok, last_same, left_same, passed_simplifiable, next_closed, member_step, stays_quantified, loses_quantifier, over_quantified}
 use Rattle.theory_simplifier.proofs.pass.+passed.Goals as goal
 
 pub member_passed-returns-in_default-clause-with : goal.member_passed-returns-in_default-clause-with
@@ -42,7 +40,7 @@ member_passed-returns-clause-with t c =
     let made = c.in_ok-passed.ensures.made.same ∙ ap (λ fs. pass (atom_kit o) (tree c.args.store.now c.args.id) (known_atoms fs)) c.in_ok-enter.ensures.entered in
     if_ok_map c.with_member.result _ _
     (λ r e. e ∙ member_step o j c.args.store.now c.passed.new.store c.passed.ensures.kept c.args.known.now c.in-Open.atoms c.in-Open.others c.args.parts c.in-Open.is c.requires.list c.requires.ids
-        (tree c.args.store.now c.args.id) (tree c.passed.new.store c.in_ok-passed.passed) (sym c.is_atom.ensures ∙ c.if-is_atom.false) made c.leave.new.self back.0 c.in-Some-Beside.atoms list)
+    (tree c.args.store.now c.args.id) (tree c.passed.new.store c.in_ok-passed.passed) (sym c.is_atom.ensures ∙ c.if-is_atom.false) made c.leave.new.self back.0 c.in-Some-Beside.atoms list)
     c.with_member.ensures.with
 
 pub others_passed-member_passed-requires : goal.others_passed-member_passed-requires
@@ -50,11 +48,17 @@ others_passed-member_passed-requires t c =
     let id = get_or c.args.ids.now c.loop-id.id-index (record { number = 0 }) in
     let old : IsId c.args.store.now id = all_at (IsId c.args.store.now) c.args.ids.now c.loop-id.id-index (record { number = 0 }) c.loop-id-test.true c.requires.members in
     let same : nodes (tree c.loop-id.store id) ≡ nodes (tree c.args.store.now id) = ap nodes (c.loop-id.invariant.kept.same id old) in
-    let few : nodes (tree c.args.store.now id) ≤ all_nodes (members (map (tree c.args.store.now) c.args.ids.now)) = nodes_at (tree c.args.store.now) c.args.ids.now c.loop-id.id-index (record { number = 0 }) c.loop-id-test.true in
-    (omega arith, (c.loop-id.invariant.kept.is id old,
-            (subst (IsSimplifiable (context_of c.args.context)) (sym (c.loop-id.invariant.kept.same id old))
-                (orderly_at (IsNormalWithin (context_of c.args.context)) (tree c.args.store.now) c.args.ids.now c.loop-id.id-index (record { number = 0 }) c.loop-id-test.true c.requires.formulas),
-                (subst (AreNormalFrames (context_of c.args.context)) (sym c.loop-id.invariant.known) c.requires.known, (c.loop-id.invariant.list, c.loop-id.invariant.ids)))))
+    let few : nodes (tree c.args.store.now id) ≤ all_nodes (members (map (tree c.args.store.now) c.args.ids.now)) = nodes_at (tree c.args.store.now) c.args.ids.now c.loop-id.id-index (record { number = 0 }) c.loop-id-test.true in (
+      omega arith,
+      (
+        c.loop-id.invariant.kept.is id old,
+        (
+          subst (IsSimplifiable (context_of c.args.context)) (sym (c.loop-id.invariant.kept.same id old))
+              (orderly_at (IsNormalWithin (context_of c.args.context)) (tree c.args.store.now) c.args.ids.now c.loop-id.id-index (record { number = 0 }) c.loop-id-test.true c.requires.formulas),
+          (subst (AreNormalFrames (context_of c.args.context)) (sym c.loop-id.invariant.known) c.requires.known, (c.loop-id.invariant.list, c.loop-id.invariant.ids)),
+        ),
+      ),
+    )
 
 pub others_passed-returns-in_err-parts-clause-kept : goal.others_passed-returns-in_err-parts-clause-kept
 others_passed-returns-in_err-parts-clause-kept t c = keeps_then c.args.store.now c.loop-id.store c.member_passed.new.store c.loop-id.invariant.kept c.member_passed.ensures.kept
@@ -88,7 +92,7 @@ quantified_passed-returns-then-is_free-clause-made t c =
     let o = context_of c.args.context in
     let made = c.in_ok-inner.ensures.made.same ∙ ap (λ fs. pass (atom_kit o) (tree c.args.store.now c.args.id) (known_atoms fs)) c.in_ok-enter.ensures.entered in
     let whole = ap (tree_over (tree c.passed.new.store)) c.quantified_over.ensures ∙ over_quantified (tree c.passed.new.store) c.args.quantifier c.args.x c.in_ok-inner.inner
-        ∙ stays_quantified o c.args.x (tree c.args.store.now c.args.id) (tree c.passed.new.store c.in_ok-inner.inner) c.args.known.now made c.args.quantifier (sym (c.is_free.ensures o) ∙ c.if-is_free.true) in
+    ∙ stays_quantified o c.args.x (tree c.args.store.now c.args.id) (tree c.passed.new.store c.in_ok-inner.inner) c.args.known.now made c.args.quantifier (sym (c.is_free.ensures o) ∙ c.if-is_free.true) in
     if_ok_map c.made.result _ _ (λ id m. record { is = m.is; same = m.same ∙ whole }) c.made.ensures.made
 
 pub quantified_passed-returns-then-is_free-clause-known : goal.quantified_passed-returns-then-is_free-clause-known

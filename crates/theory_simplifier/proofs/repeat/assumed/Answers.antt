@@ -1,7 +1,6 @@
-use Rattle.std.proofs.Common.{rules, ◌≡◌, [], ◌∷◌, ◌++◌, map, List, sym, ap, subst, ◌∙◌}
+use Rattle.std.proofs.Common.{◌≡◌, [], ◌∷◌, ◌++◌, map, sym, ap, subst, ◌∙◌}
 use Rattle.formula_meaning.specs.Fold.{Conjunction}
 use Rattle.atom_normal.specs.Atoms.{atom_of}
-use Rattle.theory_simplifier.specs.declared.known.Frame.{Frame}
 use Rattle.theory_simplifier.specs.declared.known.Frame.TheVariants.{Beside}
 use Rattle.theory_simplifier.specs.Known.{known_atoms, AreNormalFrames}
 use Rattle.theory_simplifier.proofs.Assuming.{assumed_atoms, each_within}

@@ -1,18 +1,16 @@
-use Rattle.std.proofs.Common.{rules, ◌≡◌, ◌++◌, ◌∷◌, [], Some, None, Option, ℕ, List, sym, ap, subst, ◌∙◌, refl, set}
+use Rattle.std.proofs.Common.{◌≡◌, Some, None, ℕ, List, sym, ap, subst, ◌∙◌, refl}
 use Rattle.formula_meaning.specs.Context.{Context}
-use Rattle.formula_meaning.specs.Some.{EachOf}
 use Rattle.formula_meaning.specs.Fold.{Junction}
 use Rattle.formula_meaning.specs.Atom.{Atom}
 use Rattle.atom_normal.specs.declared.atoms.Atom.{Atom as CodeAtom}
 use Rattle.atom_normal.specs.Atoms.{context_of, atom_of}
 use Rattle.atom_merging.specs.declared.answers.Merged.{Merged}
 use Rattle.atom_merging.specs.declared.answers.Merged.TheVariants.{True, False, One, Keep}
-use Rattle.atom_merging.specs.Computed.{IsNormalWithin}
 use Rattle.simplified_formulas.specs.AtomKit.{atom_kit}
 use Rattle.simplified_formulas.specs.Pass.{with_one}
 use Rattle.theory_simplifier.specs.Listed.{Listed}
 use Rattle.theory_simplifier.specs.Partners.{IsPartner, IsMergedAt}
-use Rattle.theory_simplifier.proofs.Partners.{with_last, with_settled, with_merged, each_last, each_set}
+use Rattle.theory_simplifier.proofs.Partners.{with_last, with_settled, with_merged}
 use Rattle.theory_simplifier.proofs.joined.Joined.add.Goals as goal
 
 at_most_settled : (c : Context) (j : Junction) (a : Atom) (us : List Atom) (n : ℕ) (m : Merged) → IsMergedAt c j a us n m → ((e : CodeAtom) → m ≡ One e → ⊥) → with_one (atom_kit c) j a us ≡ None

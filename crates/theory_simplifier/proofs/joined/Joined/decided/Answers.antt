@@ -1,5 +1,4 @@
-use Rattle.std.proofs.Common.{◌≡◌, ◌∙◌, ◌≤◌, length, sym, Option, Some, None, Bool, false, refl, arith}
-use Rattle.std.specs.Option.{is_some}
+use Rattle.std.proofs.Common.{◌∙◌, sym, arith}
 use Rattle.atom_normal.specs.Atoms.{context_of, atom_of}
 use Rattle.nnf_trees.specs.Nnfs.{junction_of}
 use Rattle.theory_simplifier.proofs.Reading.{no_truth, item_told_normal, spoken, silent, silent_all}

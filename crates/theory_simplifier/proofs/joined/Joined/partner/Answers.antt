@@ -1,7 +1,7 @@
 use Rattle.std.proofs.Common.{◌≡◌, ◌∙◌, sym, ap, subst, true≢false, arith}
 use Rattle.atom_normal.specs.Atoms.{context_of, atom_of}
 use Rattle.atom_merging.specs.declared.answers.Merged.TheVariants.{Keep}
-use Rattle.atom_merging.specs.Computed.{merging_of, Kept}
+use Rattle.atom_merging.specs.Computed.{merging_of}
 use Rattle.nnf_trees.specs.Nnfs.{junction_of}
 use Rattle.theory_simplifier.specs.Listed.{Listed}
 use Rattle.theory_simplifier.specs.Partners.{AreApart, IsMergedAt}

@@ -1,4 +1,4 @@
-use Rattle.std.proofs.Common.{rules, ◌≡◌, ◌++◌, ◌∷◌, [], map, sym, ap, ◌∙◌}
+use Rattle.std.proofs.Common.{rules, ◌≡◌, ◌++◌, ◌∷◌, [], map, ap, ◌∙◌}
 use Rattle.atom_normal.specs.Atoms.{atom_of}
 use Rattle.nnf_trees.specs.Nnfs.{junction_of}
 use Rattle.theory_simplifier.specs.Listed.{Listed, entry_atom}

@@ -1,4 +1,4 @@
-use Rattle.std.proofs.Common.{◌≡◌, ℕ, ◌+◌, ◌-◌, ◌<◌, ◌≤◌, length, take, get_or, Bool, Option, List, sym, ap, ◌∙◌, arith}
+use Rattle.std.proofs.Common.{◌≡◌, ℕ, ◌+◌, ◌-◌, ◌<◌, ◌≤◌, length, take, Bool, Option, List, sym, ap, ◌∙◌, arith}
 use Rattle.atom_normal.specs.Atoms.{context_of, atom_of}
 use Rattle.formula_meaning.specs.Context.{Context}
 use Rattle.formula_meaning.specs.Atom.{Atom}
@@ -24,8 +24,8 @@ pub returns-then-is_some : goal.returns-then-is_some
 returns-then-is_some c =
     let b = some_is c.decided-truth.result (sym c.is_some.ensures ∙ c.if-is_some.true) in
     sym (c.loop-place.invariant.same ∙ last (context_of c.args.context) (atom_of c.args.atom.now) c.args.self.now c.loop-place.place c.loop-place-test.true
-        ∙ list_tells (context_of c.args.context) (atom_of c.args.atom.now) c.requires.normal.normal c.args.self.now c.requires.known (c.loop-place.place - 1) (there c.args.self.now c.loop-place.place c.loop-place-test.true c.loop-place.invariant.within) c.index.result.now
-        c.in-Beside.list (frame_read c.self.inside.frames.items c.args.self.now (c.loop-place.place - 1) c.index.result.now _ c.self.view_is c.index.ensures c.in-Beside.is) c.decided-truth.result b.0 c.decided-truth.ensures b.1)
+    ∙ list_tells (context_of c.args.context) (atom_of c.args.atom.now) c.requires.normal.normal c.args.self.now c.requires.known (c.loop-place.place - 1) (there c.args.self.now c.loop-place.place c.loop-place-test.true c.loop-place.invariant.within) c.index.result.now
+    c.in-Beside.list (frame_read c.self.inside.frames.items c.args.self.now (c.loop-place.place - 1) c.index.result.now _ c.self.view_is c.index.ensures c.in-Beside.is) c.decided-truth.result b.0 c.decided-truth.ensures b.1)
 
 pub loop-place-preserved-else-is_some : goal.loop-place-preserved-else-is_some
 loop-place-preserved-else-is_some c = record {
@@ -39,8 +39,8 @@ loop-place-preserved-else-is_some c = record {
 pub returns-then-has_name : goal.returns-then-has_name
 returns-then-has_name c =
     sym (c.loop-place.invariant.same ∙ last (context_of c.args.context) (atom_of c.args.atom.now) c.args.self.now c.loop-place.place c.loop-place-test.true
-        ∙ name_hides (context_of c.args.context) (atom_of c.args.atom.now) c.requires.normal.normal c.args.self.now c.requires.known (c.loop-place.place - 1) (there c.args.self.now c.loop-place.place c.loop-place-test.true c.loop-place.invariant.within) c.index.result.now
-        c.in-Under.x (frame_read c.self.inside.frames.items c.args.self.now (c.loop-place.place - 1) c.index.result.now _ c.self.view_is c.index.ensures c.in-Under.is) (sym c.has_name.ensures ∙ c.if-has_name.true))
+    ∙ name_hides (context_of c.args.context) (atom_of c.args.atom.now) c.requires.normal.normal c.args.self.now c.requires.known (c.loop-place.place - 1) (there c.args.self.now c.loop-place.place c.loop-place-test.true c.loop-place.invariant.within) c.index.result.now
+    c.in-Under.x (frame_read c.self.inside.frames.items c.args.self.now (c.loop-place.place - 1) c.index.result.now _ c.self.view_is c.index.ensures c.in-Under.is) (sym c.has_name.ensures ∙ c.if-has_name.true))
 
 pub loop-place-preserved : goal.loop-place-preserved
 loop-place-preserved c = record {
