@@ -10,3 +10,4 @@ pub mod Keeping
 pub mod Passing
 pub mod Repeating
 pub mod Assuming
+pub mod SameParts

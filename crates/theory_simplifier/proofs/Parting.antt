@@ -24,7 +24,7 @@ use Rattle.simplified_formulas.specs.AtomKit.{contains, atom_kit}
 use Rattle.simplified_formulas.specs.Pass.{first_answer, decided}
 use Rattle.simplified_formulas.proofs.AtomLaws.{names_told}
 
-content_nonzero : (c : Context) (r : Relation) (f : Form) → IsNormal c (Compare r f) → ¬ (content f ≡ pos 0)
+pub content_nonzero : (c : Context) (r : Relation) (f : Form) → IsNormal c (Compare r f) → ¬ (content f ≡ pos 0)
 content_nonzero c r f n = let p = content_positive_in c (content f) (normal_content c r f n) in λ (e : content f ≡ pos 0). omega (arith, ints)
 
 names_along : (c : Context) (a b : Atom) (x : ℕ) → IsNormal c a → IsNormal c b → SamePart a b → Mentions b x → Mentions a x

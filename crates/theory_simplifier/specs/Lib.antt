@@ -3,3 +3,4 @@ pub mod Partners
 pub mod Known
 pub mod Parts
 pub mod Constants
+pub mod VariableParts

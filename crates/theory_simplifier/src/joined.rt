@@ -5,27 +5,31 @@ ghost use Rattle.std.specs.List.{AllByRecursion};
 ghost use Rattle.formula_meaning.specs.Some.{EachOf};
 ghost use Rattle.formula_meaning.specs.Fold.{Conjunction};
 ghost use Rattle.atom_normal.specs.Atoms.{context_of, atom_of, IsWellFormed};
-ghost use Rattle.atom_normal.specs.NormalForm.{negated_normal};
-ghost use Rattle.atom_merging.specs.Computed.{IsNormalWithin, merged, merging_of};
+ghost use Rattle.atom_normal.specs.NormalForm.{IsNormal};
+ghost use Rattle.atom_merging.specs.Computed.{IsNormalWithin, decided_by, merged, merging_of};
 ghost use Rattle.simplified_formulas.specs.Atoms.{tells};
 ghost use Rattle.simplified_formulas.specs.AtomKit.{atom_kit};
 ghost use Rattle.simplified_formulas.specs.Pass.{decided, with_one};
 ghost use Rattle.nnf_trees.specs.Nnfs.{junction_of};
+ghost use Rattle.theory_simplifier.specs.VariableParts.{part_of};
 ghost use Rattle.theory_simplifier.specs.Listed.{told_by, entry_atom, IsEntry};
 ghost use Rattle.theory_simplifier.specs.Partners.{IsPartner, IsNormalMerged};
 
 use crate::error::SimplError;
+use crate::part::Part;
 use atom_merging::{Merged, decides, merge_and, merge_or};
 use atom_normal::{Atom, Context, negate};
 use nnf_trees::Junction;
 use std::alloc::Global;
 use std::marker::Model;
 
-/// An atom of a list, and what it tells the members beside it: in an `and` that it is true, in an `or` that it is false.
+/// An atom of a list, what it tells the members beside it (in an `and` that it is true, in an `or` that it is false), and the
+/// variable part of both.
 #[derive(Drop)]
 pub(crate) struct Entry {
     pub(crate) atom: Atom,
     pub(crate) told: Atom,
+    pub(crate) part: Part,
 }
 
 /// The atoms of a conjunction or a disjunction.
@@ -39,7 +43,8 @@ impl Model for Joined {
     ghost use Rattle.std.specs.Prelude.{map};
     ghost use Rattle.std.specs.List.{AllByRecursion};
     ghost use Rattle.nnf_trees.specs.Nnfs.{junction_of};
-    ghost use Rattle.theory_simplifier.specs.Listed.{Listed, entry_atom, IsEntry};
+    ghost use Rattle.theory_simplifier.specs.VariableParts.{part_of};
+ghost use Rattle.theory_simplifier.specs.Listed.{Listed, entry_atom, IsEntry};
 
     ghost Value = { Listed };
 
@@ -73,14 +78,15 @@ impl Joined {
     }
 
     /// The truth of the atom by what the atoms tell: that of the first that decides it. It takes no memory.
-    pub(crate) fn decided(&self, context: Context, atom: &Atom) -> Option<bool>
+    pub(crate) fn decided(&self, context: Context, atom: &Atom, part: &Part) -> Option<bool>
         requires well_formed { IsWellFormed atom.now }
+        requires part { part.now ≡ part_of (atom_of atom.now) }
         requires normal { IsNormalWithin (context_of context) (atom_of atom.now) }
         requires atoms { EachOf (IsNormalWithin (context_of context)) self.now.atoms }
         ensures { result ≡ decided (atom_kit (context_of context)) (told_by self.now) (atom_of atom.now) }
     {
         for entry in &self.entries {
-            let truth = decides(context, &entry.told, atom);
+            let truth = decided_by(context, entry, atom, part);
             if truth.is_some() {
                 return truth;
             }
@@ -138,8 +144,9 @@ impl Joined {
         ensures partner { IfOk result (IsPartner (context_of context) self.now.junction (atom_of atom.now) self.now.atoms) }
         ensures memory { IfErr result (λ e. e ≡ SimplError.Memory) }
     {
+        let part = Part::of(alloc, atom)?;
         for (place, entry) in self.entries.iter().enumerate() {
-            let merged = merged(alloc, context, self.junction, &entry.atom, atom)?;
+            let merged = merged_with(alloc, context, self.junction, entry, atom, &part)?;
             if !matches!(merged, Merged::Keep) {
                 return Ok(Some((place, merged)));
             }
@@ -184,7 +191,51 @@ fn told_entry(alloc: Global, junction: Junction, atom: Atom) -> Result<Entry, Si
         Junction::Or => negate(alloc, &atom),
     };
     let told = told.map_err(|_| SimplError::Memory)?;
-    Ok(Entry { atom, told })
+    let part = Part::of(alloc, &atom)?;
+    Ok(Entry { atom, told, part })
+}
+
+// The truth of the atom by what the entry tells: none where their variable parts differ. It takes no memory.
+fn decided_by(context: Context, entry: &Entry, atom: &Atom, part: &Part) -> Option<bool>
+    requires told { IsWellFormed entry.now.told }
+    requires told_part { entry.now.part ≡ part_of (atom_of entry.now.told) }
+    requires told_normal { IsNormal (context_of context) (atom_of entry.now.told) }
+    requires well_formed { IsWellFormed atom.now }
+    requires normal { IsNormal (context_of context) (atom_of atom.now) }
+    requires part { part.now ≡ part_of (atom_of atom.now) }
+    ensures { result ≡ decided_by (context_of context) (atom_of entry.now.told) (atom_of atom.now) }
+{
+    if entry.part.is_same(part) {
+        decides(context, &entry.told, atom)
+    } else {
+        None
+    }
+}
+
+// What an entry's atom and another become: both stay where their variable parts differ. Its only error is `Memory`.
+fn merged_with(
+    alloc: Global,
+    context: Context,
+    junction: Junction,
+    entry: &Entry,
+    atom: &Atom,
+    part: &Part,
+) -> Result<Merged, SimplError>
+    requires entry { IsWellFormed entry.now.atom }
+    requires entry_part { entry.now.part ≡ part_of (atom_of entry.now.atom) }
+    requires entry_normal { IsNormalWithin (context_of context) (atom_of entry.now.atom) }
+    requires well_formed { IsWellFormed atom.now }
+    requires normal { IsNormalWithin (context_of context) (atom_of atom.now) }
+    requires part { part.now ≡ part_of (atom_of atom.now) }
+    ensures merged { IfOk result (λ m. merging_of m ≡ merged (context_of context) (junction_of junction) (atom_of entry.now.atom) (atom_of atom.now)) }
+    ensures normal { IfOk result (IsNormalMerged (context_of context)) }
+    ensures memory { IfErr result (λ e. e ≡ SimplError.Memory) }
+{
+    if entry.part.is_same(part) {
+        merged(alloc, context, junction, &entry.atom, atom)
+    } else {
+        Ok(Merged::Keep)
+    }
 }
 
 // What two atoms of a list become. Its only error is `Memory`.

@@ -7,6 +7,7 @@ mod error;
 mod free;
 mod joined;
 mod known;
+mod part;
 mod parts;
 mod pass;
 mod repeat;

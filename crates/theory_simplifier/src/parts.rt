@@ -24,6 +24,7 @@ ghost use Rattle.theory_simplifier.specs.Parts.{same_id, parts_of, IsListOf, Has
 use crate::error::SimplError;
 use crate::joined::Joined;
 use crate::known::Known;
+use crate::part::Part;
 use atom_normal::{Atom, Context};
 use formula_store::{FormulaId, Store};
 use formula_tree::Shape;
@@ -112,7 +113,8 @@ pub(crate) fn with_atom(
     let Parts::Open(mut atoms, others) = parts else {
         return Ok(Parts::Closed);
     };
-    if let Some(truth) = known.decided(context, atom) {
+    let part = Part::of(alloc, atom)?;
+    if let Some(truth) = known.decided(context, atom, &part) {
         if settles(junction, truth) {
             return Ok(Parts::Closed);
         }

@@ -20,6 +20,7 @@ use crate::closing::{closed, constant, made, quantified_over};
 use crate::error::SimplError;
 use crate::free::is_free;
 use crate::known::{Frame, Known};
+use crate::part::Part;
 use crate::parts::{Parts, with_atoms, with_member};
 use atom_normal::Context;
 use formula_store::{FormulaId, Store};
@@ -47,10 +48,13 @@ pub(crate) fn passed(
     ensures memory { IfErr result (λ e. e ≡ SimplError.Memory) }
 {
     match store.shape(id) {
-        Shape::One(atom) => match known.decided(context, atom) {
-            Some(truth) => constant(store, truth),
-            None => Ok(id),
-        },
+        Shape::One(atom) => {
+            let part = Part::of(alloc, atom)?;
+            match known.decided(context, atom, &part) {
+                Some(truth) => constant(store, truth),
+                None => Ok(id),
+            }
+        }
         Shape::And(ids) => {
             let ids = listed(alloc, ids.items())?;
             list_passed(alloc, store, context, Junction::And, &ids, known)

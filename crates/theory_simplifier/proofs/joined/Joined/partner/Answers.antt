@@ -9,8 +9,8 @@ use Rattle.theory_simplifier.proofs.Reading.{item_normal, apart_more, merges_her
 use Rattle.theory_simplifier.proofs.joined.Joined.partner.Goals as goal
 use Rattle.theory_simplifier.proofs.joined.Joined.partner.Goals.{in-Keep, in_default}
 
-pub merged-requires-clause-normal : goal.merged-requires-clause-normal
-merged-requires-clause-normal c =
+pub merged_with-requires-clause-entry_normal : goal.merged_with-requires-clause-entry_normal
+merged_with-requires-clause-entry_normal c =
     item_normal (context_of c.args.context) (junction_of c.self.inside.junction) c.self.inside.entries.items c.deref-entry-items.result.now c.deref-entry-items.ensures.value c.args.self.now c.self.view_is
     c.loop-place.place c.entry-item.result c.loop-place-test.true c.entry-item.is c.requires.atoms
 
