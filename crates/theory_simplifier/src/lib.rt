@@ -1,7 +1,15 @@
 //! Simplification of shared formulas under assumptions.
 #![tactic(auto)]
 
+mod closing;
+mod constants;
 mod error;
+mod free;
+mod joined;
+mod known;
+mod part;
+mod parts;
+mod pass;
 mod repeat;
 
 pub use error::SimplError;

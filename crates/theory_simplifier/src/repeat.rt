@@ -11,12 +11,23 @@ ghost use Rattle.atom_normal.specs.NormalForm.{IsNormal};
 ghost use Rattle.simplified_formulas.specs.Measure.{size, atom_measure};
 ghost use Rattle.simplified_formulas.specs.Orderly.{IsOrderly};
 ghost use Rattle.simplified_formulas.specs.Trees.{IsReduced, EquivalentUnder, simplified_under};
-ghost use Rattle.formula_tree.specs.Makers.{Keeps};
+ghost use Rattle.simplified_formulas.specs.Trees.{IsSimplifiable};
+ghost use Rattle.simplified_formulas.specs.AtomKit.{atom_kit};
+ghost use Rattle.simplified_formulas.specs.Pass.{simplified};
+ghost use Rattle.formula_meaning.specs.Context.{Context as Theory};
+ghost use Rattle.formula_tree.specs.Makers.{IsMade, Keeps};
+ghost use Rattle.formula_store.specs.Facts.{most_nodes};
+ghost use Rattle.theory_simplifier.specs.Known.{known_atoms, AreNormalFrames};
+ghost use Rattle.theory_simplifier.specs.Constants.{IsWithin};
 ghost use Rattle.formula_store.specs.Nodes.{IsId, tree};
 ghost use Rattle.redlog_printer.specs.Text.{tree_text};
 ghost use Rattle.redlog_printer.specs.Within.{IsAtomWithin};
 
+use crate::constants::{see_atoms, see_formula};
 use crate::error::SimplError;
+use crate::joined::Joined;
+use crate::known::{Frame, Known};
+use crate::pass::passed;
 use atom_normal::{Atom, Context};
 use formula_store::{FormulaId, Store};
 use std::alloc::Global;
@@ -56,5 +67,57 @@ pub fn simplify(
     ensures large { IfErr result (λ e. e ≡ SimplError.Nodes → limit < nodes (tree store.old id)) }
     ensures kept { Keeps (IsId store.old) (tree store.old) (IsId store.new) (tree store.new) }
 {
-    Err(SimplError::Memory)
+    let nodes = store.facts(id).nodes;
+    if limit < nodes {
+        return Err(SimplError::Nodes);
+    }
+    if nodes == u64::MAX {
+        return Err(SimplError::Memory);
+    }
+    see_formula(store, id)?;
+    let mut known = assumed(alloc, theory)?;
+    repeated(alloc, store, context, id, &mut known)
+}
+
+// The assumptions as what is known at the top. Its only error is `Memory`.
+fn assumed(alloc: Global, theory: &[Atom]) -> Result<Known, SimplError>
+    requires { AllByRecursion IsWellFormed theory.now }
+    ensures atoms { IfOk result (λ known. known_atoms known ≡ map atom_of theory.now) }
+    ensures normal { IfOk result (λ known. (c : Theory) → EachOf (IsNormal c) (map atom_of theory.now) → AreNormalFrames c known) }
+    ensures within { EachOf IsWithin (map atom_of theory.now) }
+    ensures memory { IfErr result (λ e. e ≡ SimplError.Memory) }
+{
+    see_atoms(theory);
+    let mut known = Known::new(alloc);
+    known.enter(Frame::Beside(Joined::of(alloc, theory)?))?;
+    Ok(known)
+}
+
+// The formula passed again as long as it gets smaller. Its only error is `Memory`.
+fn repeated(
+    alloc: Global,
+    store: &mut Store,
+    context: Context,
+    id: FormulaId,
+    known: &mut Known,
+) -> Result<FormulaId, SimplError>
+    requires id { IsId store.old id }
+    requires formula { IsSimplifiable (context_of context) (tree store.old id) }
+    requires small { nodes (tree store.old id) < most_nodes }
+    requires known { AreNormalFrames (context_of context) known.old }
+    ensures made { IfOk result (λ r. IsMade (IsId store.new) (tree store.new) r (simplified (atom_kit (context_of context)) (tree store.old id) (known_atoms known.old))) }
+    ensures kept { Keeps (IsId store.old) (tree store.old) (IsId store.new) (tree store.new) }
+    ensures memory { IfErr result (λ e. e ≡ SimplError.Memory) }
+{
+    let mut formula = id;
+    let mut nodes = store.facts(id).nodes;
+    loop {
+        let next = passed(alloc, store, context, formula, known)?;
+        let fewer = store.facts(next).nodes;
+        if fewer >= nodes {
+            return Ok(next);
+        }
+        formula = next;
+        nodes = fewer;
+    }
 }

@@ -1,0 +1,84 @@
+-- What is made stays as more is made, and members as a store has them.
+use Rattle.std.proofs.Common.{◌≡◌, ℕ, ◌+◌, ◌<◌, refl, sym, ap, ◌∙◌, List, [], ◌∷◌, ◌++◌, length, take, map, get_or, Some, arith}
+use Rattle.std.proofs.lemmas.List.{take_more}
+use Rattle.std.specs.Prelude.{IfOk}
+use Rattle.std.specs.declared.result.Result.{Result}
+use Rattle.std.specs.declared.result.Result.TheVariants.{Ok, Err}
+use Rattle.std.specs.List.{AllByRecursion}
+use Rattle.formula_meaning.specs.Formula.{One, also}
+use Rattle.formula_meaning.specs.Fold.{from_pieces}
+use Rattle.formula_meaning.specs.Atom.{Atom}
+use Rattle.formula_meaning.specs.Tree.{Tree}
+use Rattle.simplified_formulas.specs.Pass as meant
+use Rattle.simplified_formulas.specs.Pass.{ones}
+use Rattle.formula_tree.specs.declared.shape.Shape.{Shape}
+use Rattle.formula_tree.specs.Makers.{Keeps}
+use Rattle.formula_tree.specs.Shapes.{tree_over}
+use Rattle.formula_tree.specs.Trees.{members}
+use Rattle.formula_store.specs.declared.id.FormulaId.{FormulaId}
+use Rattle.formula_store.specs.Nodes.{tree, IsId}
+use Rattle.nnf_trees.specs.declared.nnf.Junction.{Junction}
+use Rattle.nnf_trees.specs.declared.nnf.Junction.TheVariants as junction
+use Rattle.nnf_trees.specs.Nnfs.{junction_of}
+use Rattle.theory_simplifier.specs.declared.joined.Entry.{Entry}
+use Rattle.theory_simplifier.specs.declared.parts.Parts.{Parts}
+use Rattle.theory_simplifier.specs.declared.parts.Parts.TheVariants.{Closed, Open}
+use Rattle.theory_simplifier.specs.Listed.{entry_atom}
+use Rattle.theory_simplifier.specs.Parts.{one_tree, parts_of, HasIds, joined_shape}
+use Rattle.theory_simplifier.proofs.Entries.{map_append}
+
+pub if_ok_map : {X E : Type 0} (r : Result X E) (P Q : X → Type 0) → ((x : X) → P x → Q x) → IfOk r P → IfOk r Q
+if_ok_map (Ok x) P Q k h = k x h
+if_ok_map (Err e) P Q k h = tt
+
+module _ (a b c : List (Shape FormulaId)) where
+  pub keeps_then : Keeps (IsId a) (tree a) (IsId b) (tree b) → Keeps (IsId b) (tree b) (IsId c) (tree c) → Keeps (IsId a) (tree a) (IsId c) (tree c)
+  keeps_then h k = record {
+    is = λ id i. k.is id (h.is id i);
+    same = λ id i. k.same id (h.is id i) ∙ h.same id i;
+  }
+
+-- a has become b
+module _ (a b : List (Shape FormulaId)) (k : Keeps (IsId a) (tree a) (IsId b) (tree b)) where
+  pub still_ids : (ids : List FormulaId) → AllByRecursion (IsId a) ids → AllByRecursion (IsId b) ids
+  still_ids [] h = tt
+  still_ids (id ∷ ids) h = (k.is id h.0, still_ids ids h.1)
+
+  pub still_trees : (ids : List FormulaId) → AllByRecursion (IsId a) ids → map (tree b) ids ≡ map (tree a) ids
+  still_trees [] h = refl
+  still_trees (id ∷ ids) h = λ i. k.same id h.0 i ∷ still_trees ids h.1 i
+
+  pub still_parts : (s : Parts) → HasIds a s → parts_of (tree b) s ≡ parts_of (tree a) s
+  still_parts Closed h = refl
+  still_parts (Open l ids) h = ap (λ fs. meant.Open l.atoms (members fs)) (still_trees ids h)
+
+  pub still_has : (s : Parts) → HasIds a s → HasIds b s
+  still_has Closed h = tt
+  still_has (Open l ids) h = still_ids ids h
+
+  -- a formula is made for one atom more
+  pub one_more : (ids : List FormulaId) (id : FormulaId) (items : List Entry) (i : ℕ) (e : Entry) → AllByRecursion (IsId a) ids → map (tree a) ids ≡ map one_tree (map entry_atom (take i items)) → tree b id ≡ One (entry_atom e) → i < length items → e ≡ get_or items i e
+      → map (tree b) (ids ++ id ∷ []) ≡ map one_tree (map entry_atom (take (i + 1) items))
+  one_more ids id items i e all so t h is =
+      map_append (tree b) ids (id ∷ []) ∙ (λ x. (still_trees ids all ∙ so) x ++ t x ∷ [])
+      ∙ sym (ap (λ es. map one_tree (map entry_atom es)) (take_more items i e h ∙ ap (λ x. take i items ++ x ∷ []) (sym is))
+      ∙ ap (map one_tree) (map_append entry_atom (take i items) (e ∷ [])) ∙ map_append one_tree (map entry_atom (take i items)) (entry_atom e ∷ []))
+
+pub all_joined : (P : FormulaId → Type 0) (xs ys : List FormulaId) → AllByRecursion P xs → AllByRecursion P ys → AllByRecursion P (xs ++ ys)
+all_joined P [] ys h k = k
+all_joined P (x ∷ xs) ys h k = (h.0, all_joined P xs ys h.1 k)
+
+-- ---- a list closed
+
+ones_first : (us : List Atom) (fs : List Tree) → members (map one_tree us ++ fs) ≡ ones us (members fs)
+ones_first [] fs = refl
+ones_first (u ∷ us) fs = ap (also (One u)) (ones_first us fs)
+
+pub ones_members : (t : FormulaId → Tree) (ids os : List FormulaId) (us : List Atom) → map t ids ≡ map one_tree us → members (map t (ids ++ os)) ≡ ones us (members (map t os))
+ones_members t ids os us e = ap members (map_append t ids os ∙ ap (λ fs. fs ++ map t os) e) ∙ ones_first us (map t os)
+
+pub whole_joined : (t : FormulaId → Tree) (j : Junction) (ids : List FormulaId) → 1 < length ids → tree_over t (joined_shape j ids) ≡ from_pieces (junction_of j) (Some (members (map t ids)))
+whole_joined t j [] h = absurd (omega arith)
+whole_joined t j (x ∷ []) h = absurd (omega arith)
+whole_joined t junction.And (x ∷ y ∷ ids) h = refl
+whole_joined t junction.Or (x ∷ y ∷ ids) h = refl

@@ -1,0 +1,13 @@
+pub mod Deciding
+pub mod Partners
+pub mod Entries
+pub mod Reading
+pub mod Parting
+pub mod Knowing
+pub mod Members
+pub mod FreeMembers
+pub mod Keeping
+pub mod Passing
+pub mod Repeating
+pub mod Assuming
+pub mod SameParts

@@ -1,0 +1,6 @@
+pub mod Listed
+pub mod Partners
+pub mod Known
+pub mod Parts
+pub mod Constants
+pub mod VariableParts

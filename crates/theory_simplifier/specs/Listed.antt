@@ -1,0 +1,28 @@
+-- The atoms of a list, and those that they tell the members beside them.
+use Rattle.std.specs.Prelude.{◌≡◌, List, map}
+use Rattle.formula_meaning.specs.Atom as meant
+use Rattle.formula_meaning.specs.Fold.{Junction}
+use Rattle.atom_normal.specs.Atoms.{atom_of, IsWellFormed}
+use Rattle.atom_normal.specs.NormalForm.{negated_normal}
+use Rattle.simplified_formulas.specs.Atoms.{tells}
+use Rattle.theory_simplifier.specs.declared.joined.Entry.{Entry}
+use Rattle.theory_simplifier.specs.VariableParts.{part_of}
+
+-- atoms of a list that the junction joins
+pub record Listed : Type 0 where
+  pub junction : Junction
+  pub atoms : List meant.Atom
+
+-- what the atoms tell
+abbrev pub told_by : Listed → List meant.Atom
+told_by l = map (tells negated_normal l.junction) l.atoms
+
+abbrev pub entry_atom : Entry → meant.Atom
+entry_atom e = atom_of e.atom
+
+-- an atom beside what it tells and their variable part
+pub record IsEntry (junction : Junction) (e : Entry) : Type 0 where
+  pub well_formed : IsWellFormed e.atom
+  pub told_well_formed : IsWellFormed e.told
+  pub tells_so : atom_of e.told ≡ tells negated_normal junction (atom_of e.atom)
+  pub part_is : e.part ≡ part_of (atom_of e.atom)

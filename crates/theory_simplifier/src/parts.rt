@@ -1,0 +1,281 @@
+//! A list on the way: its atoms, and its other members, each once.
+
+ghost use Rattle.std.specs.Prelude.{◌≡◌, List, [], map, IfOk, IfErr, OnOk, if◌then◌else◌};
+ghost use Rattle.std.specs.List.{AllByRecursion};
+ghost use Rattle.indexmap.specs.IndexSet.{insert_key};
+ghost use Rattle.formula_meaning.specs.Context.{Context as Theory};
+ghost use Rattle.formula_meaning.specs.Formula.{none};
+ghost use Rattle.formula_meaning.specs.Fold.{Junction as Joint, pieces_of};
+ghost use Rattle.formula_meaning.specs.Tree.{Tree};
+ghost use Rattle.atom_normal.specs.Atoms.{context_of, atom_of, IsWellFormed};
+ghost use Rattle.atom_merging.specs.Computed.{IsNormalWithin};
+ghost use Rattle.simplified_formulas.specs.AtomKit.{atom_kit};
+ghost use Rattle.simplified_formulas.specs.Pass.{Open, settles, with_atom, with_other, with_piece, with_pieces, with_member, with_atom_first, with_atoms};
+ghost use Rattle.simplified_formulas.specs.Orderly.{AreOrderly};
+ghost use Rattle.simplified_formulas.specs.Trees.{IsSimplifiable};
+ghost use Rattle.formula_tree.specs.declared.shape.Shape.{Shape};
+ghost use Rattle.formula_tree.specs.Trees.{members};
+ghost use Rattle.formula_store.specs.declared.id.FormulaId.{FormulaId};
+ghost use Rattle.formula_store.specs.Nodes.{IsId, tree, AreNodes};
+ghost use Rattle.nnf_trees.specs.Nnfs.{junction_of};
+ghost use Rattle.theory_simplifier.specs.Known.{known_atoms, AreNormalFrames};
+ghost use Rattle.theory_simplifier.specs.Parts.{same_id, parts_of, IsListOf, HasIds};
+
+use crate::error::SimplError;
+use crate::joined::Joined;
+use crate::known::Known;
+use crate::part::Part;
+use atom_normal::{Atom, Context};
+use formula_store::{FormulaId, Store};
+use formula_tree::Shape;
+use indexmap::IndexSet;
+use nnf_trees::Junction;
+use std::alloc::Global;
+use std::marker::Model;
+
+/// Formulas of a store, each once, in the order in which they came.
+#[derive(Drop)]
+pub(crate) struct Others {
+    ids: IndexSet<FormulaId>,
+}
+
+impl Model for Others {
+    ghost use Rattle.std.specs.Prelude.{List};
+    ghost use Rattle.formula_store.specs.declared.id.FormulaId.{FormulaId as Id};
+
+    ghost Value = { List Id };
+
+    ghost view = { λ o. o.ids.keys };
+}
+
+impl Others {
+    /// No formulas.
+    pub(crate) fn new(alloc: Global) -> Others
+        ensures { result ≡ [] }
+    {
+        Others {
+            ids: IndexSet::new(alloc),
+        }
+    }
+
+    /// The formula last, unless it is there. Its only error is `Memory`.
+    pub(crate) fn add(&mut self, id: FormulaId) -> Result<(), SimplError>
+        ensures added { OnOk result (self.new ≡ insert_key same_id self.old id) }
+        ensures memory { IfErr result (λ e. e ≡ SimplError.Memory) }
+    {
+        self.ids.insert(id).map_err(|_| SimplError::Memory)?;
+        Ok(())
+    }
+
+    /// The formulas. It takes no memory.
+    pub(crate) fn items(&self) -> &[FormulaId]
+        ensures { result.now ≡ self.now }
+    {
+        self.ids.as_slice()
+    }
+}
+
+/// A list on the way: settled, or its atoms and its other members.
+#[derive(Drop)]
+pub(crate) enum Parts {
+    Closed,
+    Open(Joined, Others),
+}
+
+/// Whether a member of this truth settles the list.
+pub(crate) fn settles(junction: Junction, truth: bool) -> bool
+    ensures { result ≡ settles (junction_of junction) truth }
+{
+    match junction {
+        Junction::And => !truth,
+        Junction::Or => truth,
+    }
+}
+
+/// The list with an atom more, which the known ones may decide. Its only error is `Memory`.
+pub(crate) fn with_atom(
+    alloc: Global,
+    context: Context,
+    junction: Junction,
+    known: &Known,
+    parts: Parts,
+    atom: &Atom,
+) -> Result<Parts, SimplError>
+    requires well_formed { IsWellFormed atom.now }
+    requires normal { IsNormalWithin (context_of context) (atom_of atom.now) }
+    requires known { AreNormalFrames (context_of context) known.now }
+    requires list { IsListOf (context_of context) (junction_of junction) parts }
+    ensures with { IfOk result (λ r. (t : FormulaId → Tree) → parts_of t r ≡ with_atom (atom_kit (context_of context)) (junction_of junction) (known_atoms known.now) (atom_of atom.now) (parts_of t parts)) }
+    ensures list { IfOk result (IsListOf (context_of context) (junction_of junction)) }
+    ensures ids { IfOk result (λ r. (nodes : List (Shape FormulaId)) → HasIds nodes parts → HasIds nodes r) }
+    ensures memory { IfErr result (λ e. e ≡ SimplError.Memory) }
+{
+    let Parts::Open(mut atoms, others) = parts else {
+        return Ok(Parts::Closed);
+    };
+    let part = Part::of(alloc, atom)?;
+    if let Some(truth) = known.decided(context, atom, &part) {
+        if settles(junction, truth) {
+            return Ok(Parts::Closed);
+        }
+        return Ok(Parts::Open(atoms, others));
+    }
+    if atoms.add(alloc, context, atom)? {
+        Ok(Parts::Open(atoms, others))
+    } else {
+        Ok(Parts::Closed)
+    }
+}
+
+// The list with a member more that is no atom, unless it is there. Its only error is `Memory`.
+fn with_other(store: &Store, parts: Parts, id: FormulaId) -> Result<Parts, SimplError>
+    requires id { IsId store.now id }
+    requires ids { HasIds store.now parts }
+    ensures with { IfOk result (λ r. (c : Theory) → parts_of (tree store.now) r ≡ with_other (atom_kit c) (tree store.now id) (parts_of (tree store.now) parts)) }
+    ensures list { IfOk result (λ r. (c : Theory) (j : Joint) → IsListOf c j parts → IsListOf c j r) }
+    ensures ids { IfOk result (HasIds store.now) }
+    ensures memory { IfErr result (λ e. e ≡ SimplError.Memory) }
+{
+    // Its clause says that the formulas of the store are distinct.
+    let _formulas = store.len();
+    match parts {
+        Parts::Closed => Ok(Parts::Closed),
+        Parts::Open(atoms, mut others) => {
+            others.add(id)?;
+            Ok(Parts::Open(atoms, others))
+        }
+    }
+}
+
+// The list with a formula that is no list of its junction and no constant. Its only error is `Memory`.
+fn with_piece(
+    alloc: Global,
+    store: &Store,
+    context: Context,
+    junction: Junction,
+    known: &Known,
+    parts: Parts,
+    id: FormulaId,
+) -> Result<Parts, SimplError>
+    requires id { IsId store.now id }
+    requires formula { IsSimplifiable (context_of context) (tree store.now id) }
+    requires known { AreNormalFrames (context_of context) known.now }
+    requires list { IsListOf (context_of context) (junction_of junction) parts }
+    requires ids { HasIds store.now parts }
+    ensures with { IfOk result (λ r. parts_of (tree store.now) r ≡ with_piece (atom_kit (context_of context)) (junction_of junction) (known_atoms known.now) (tree store.now id) (parts_of (tree store.now) parts)) }
+    ensures list { IfOk result (IsListOf (context_of context) (junction_of junction)) }
+    ensures ids { IfOk result (HasIds store.now) }
+    ensures memory { IfErr result (λ e. e ≡ SimplError.Memory) }
+{
+    match store.shape(id) {
+        Shape::One(atom) => with_atom(alloc, context, junction, known, parts, atom),
+        _ => with_other(store, parts, id),
+    }
+}
+
+// The list with the members of another of its junction. Its only error is `Memory`.
+fn with_pieces(
+    alloc: Global,
+    store: &Store,
+    context: Context,
+    junction: Junction,
+    known: &Known,
+    mut parts: Parts,
+    ids: &[FormulaId],
+) -> Result<Parts, SimplError>
+    requires pieces { AllByRecursion (IsId store.now) ids.now }
+    requires formulas { AreOrderly (IsNormalWithin (context_of context)) (members (map (tree store.now) ids.now)) }
+    requires known { AreNormalFrames (context_of context) known.now }
+    requires list { IsListOf (context_of context) (junction_of junction) parts }
+    requires ids { HasIds store.now parts }
+    ensures with { IfOk result (λ r. parts_of (tree store.now) r ≡ with_pieces (atom_kit (context_of context)) (junction_of junction) (known_atoms known.now) (members (map (tree store.now) ids.now)) (parts_of (tree store.now) parts)) }
+    ensures list { IfOk result (IsListOf (context_of context) (junction_of junction)) }
+    ensures ids { IfOk result (HasIds store.now) }
+    ensures memory { IfErr result (λ e. e ≡ SimplError.Memory) }
+{
+    for id in ids {
+        parts = with_piece(alloc, store, context, junction, known, parts, *id)?;
+    }
+    Ok(parts)
+}
+
+/// The list with what a member gives: a constant goes or settles the list, a list of the same junction gives its members. Its
+/// only error is `Memory`.
+pub(crate) fn with_member(
+    alloc: Global,
+    store: &Store,
+    context: Context,
+    junction: Junction,
+    known: &Known,
+    parts: Parts,
+    id: FormulaId,
+) -> Result<Parts, SimplError>
+    requires id { IsId store.now id }
+    requires formula { IsSimplifiable (context_of context) (tree store.now id) }
+    requires known { AreNormalFrames (context_of context) known.now }
+    requires list { IsListOf (context_of context) (junction_of junction) parts }
+    requires ids { HasIds store.now parts }
+    ensures with { IfOk result (λ r. parts_of (tree store.now) r ≡ with_member (atom_kit (context_of context)) (junction_of junction) (known_atoms known.now) (pieces_of (junction_of junction) (tree store.now id)) (parts_of (tree store.now) parts)) }
+    ensures list { IfOk result (IsListOf (context_of context) (junction_of junction)) }
+    ensures ids { IfOk result (HasIds store.now) }
+    ensures memory { IfErr result (λ e. e ≡ SimplError.Memory) }
+{
+    match (junction, store.shape(id)) {
+        (Junction::And, Shape::True) | (Junction::Or, Shape::False) => Ok(parts),
+        (Junction::And, Shape::False) | (Junction::Or, Shape::True) => Ok(Parts::Closed),
+        (Junction::And, Shape::And(ids)) | (Junction::Or, Shape::Or(ids)) => {
+            with_pieces(alloc, store, context, junction, known, parts, ids.items())
+        }
+        _ => with_piece(alloc, store, context, junction, known, parts, id),
+    }
+}
+
+/// The list with the atoms among its members. Its only error is `Memory`.
+pub(crate) fn with_atoms(
+    alloc: Global,
+    store: &Store,
+    context: Context,
+    junction: Junction,
+    known: &Known,
+    ids: &[FormulaId],
+) -> Result<Parts, SimplError>
+    requires members { AllByRecursion (IsId store.now) ids.now }
+    requires formulas { AreOrderly (IsNormalWithin (context_of context)) (members (map (tree store.now) ids.now)) }
+    requires known { AreNormalFrames (context_of context) known.now }
+    ensures with { IfOk result (λ r. parts_of (tree store.now) r ≡ with_atoms (atom_kit (context_of context)) (junction_of junction) (known_atoms known.now) (members (map (tree store.now) ids.now)) (Open [] none)) }
+    ensures list { IfOk result (IsListOf (context_of context) (junction_of junction)) }
+    ensures ids { IfOk result (HasIds store.now) }
+    ensures memory { IfErr result (λ e. e ≡ SimplError.Memory) }
+{
+    let mut parts = Parts::Open(Joined::new(alloc, junction), Others::new(alloc));
+    for id in ids {
+        parts = with_atom_first(alloc, store, context, junction, known, parts, *id)?;
+    }
+    Ok(parts)
+}
+
+// The list with the member, if that is an atom. Its only error is `Memory`.
+fn with_atom_first(
+    alloc: Global,
+    store: &Store,
+    context: Context,
+    junction: Junction,
+    known: &Known,
+    parts: Parts,
+    id: FormulaId,
+) -> Result<Parts, SimplError>
+    requires id { IsId store.now id }
+    requires formula { IsSimplifiable (context_of context) (tree store.now id) }
+    requires known { AreNormalFrames (context_of context) known.now }
+    requires list { IsListOf (context_of context) (junction_of junction) parts }
+    requires ids { HasIds store.now parts }
+    ensures with { IfOk result (λ r. parts_of (tree store.now) r ≡ with_atom_first (atom_kit (context_of context)) (junction_of junction) (known_atoms known.now) (tree store.now id) (parts_of (tree store.now) parts)) }
+    ensures list { IfOk result (IsListOf (context_of context) (junction_of junction)) }
+    ensures ids { IfOk result (HasIds store.now) }
+    ensures memory { IfErr result (λ e. e ≡ SimplError.Memory) }
+{
+    match store.shape(id) {
+        Shape::One(atom) => with_atom(alloc, context, junction, known, parts, atom),
+        _ => Ok(parts),
+    }
+}
