@@ -1,0 +1,4 @@
+mod Examples
+pub mod Inserting
+pub mod Joins
+pub mod Absorbed

@@ -1,0 +1,5 @@
+pub mod Ways
+pub mod Plain
+pub mod Lines
+pub mod Clean
+pub mod Laws

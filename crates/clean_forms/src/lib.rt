@@ -1,0 +1,2 @@
+//! Clean disjunctive and conjunctive forms: theorems without code.
+#![tactic(auto)]
