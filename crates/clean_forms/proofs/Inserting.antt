@@ -48,15 +48,15 @@ module _ {A : Type 0} (kit : Kit A) (j : Junction) (Q : A → Type 0) (w : A →
   FitsIf n k (Some us) = Fits n k us
 
   -- d and cs are what a becomes beside us
-  record Becomes (a : A) (us : List A) (d : A) (cs : List A) : Type 0 where
-    made : Q d
-    each : EachOf Q cs
-    beside : (b : A) → EachOf (Keeps b) us → EachOf (Keeps b) cs
-    unmerged : IsUnmerged Keeps us → IsUnmerged Keeps cs
-    shorter : suc (length cs) ≡ length us
-    weight : w d + total w cs ≤ w a + total w us
+  pub record Becomes (a : A) (us : List A) (d : A) (cs : List A) : Type 0 where
+    pub made : Q d
+    pub each : EachOf Q cs
+    pub beside : (b : A) → EachOf (Keeps b) us → EachOf (Keeps b) cs
+    pub unmerged : IsUnmerged Keeps us → IsUnmerged Keeps cs
+    pub shorter : suc (length cs) ≡ length us
+    pub weight : w d + total w cs ≤ w a + total w us
 
-  abbrev IsPartner : A → List A → Met A → Type 0
+  abbrev pub IsPartner : A → List A → Met A → Type 0
   IsPartner a us Alone = EachOf (λ b. Keeps b a) us
   IsPartner a us Void = Unit {0}
   IsPartner a us (Meets d cs) = Becomes a us d cs
@@ -72,7 +72,7 @@ module _ {A : Type 0} (kit : Kit A) (j : Junction) (Q : A → Type 0) (w : A →
       let k = h.weight in
       record { made = h.made; each = (y, h.each); beside = λ q t. (t.0, h.beside q t.1); unmerged = λ t. (h.beside b t.0, h.unmerged t.1); shorter = ap suc h.shorter; weight = omega arith }
 
-  partner_is : (a : A) (us : List A) → Q a → EachOf Q us → IsPartner a us (partner kit j a us)
+  pub partner_is : (a : A) (us : List A) → Q a → EachOf Q us → IsPartner a us (partner kit j a us)
   partner_is a [] x h = tt
   partner_is a (b ∷ bs) x h = met_is a b bs x h.0 h.1 (kit.merge j b a) refl (partner kit j a bs) (partner_is a bs x h.1)
 
