@@ -1,16 +1,21 @@
 -- The counted lists and places are those of the distributed formula.
-use Rattle.std.proofs.Common.{◌≡◌, ℕ, ◌+◌, ◌*◌, Bool, true, false, refl, sym, ap, ◌∙◌, List, [], ◌∷◌, ◌++◌, map, length, arith, length-append, sum_by}
+use Rattle.std.proofs.Common.{◌≡◌, ℕ, ◌+◌, ◌*◌, Bool, true, false, refl, sym, ap, ◌∙◌, List, [], ◌∷◌, ◌++◌, map, length, arith, length-append}
 use Rattle.std.proofs.lemmas.List.{length-map}
 use Rattle.formula_meaning.specs.Formula.{Formula, Formulas, Yes, No, One, Not, And, Or, Impl, Repl, Equiv, Ex, All, none, also}
 use Rattle.formula_meaning.specs.Fold.{Junction, Conjunction, Disjunction}
 use Rattle.clean_forms.specs.Ways.{is_same}
-use Rattle.clean_forms.specs.Plain.{products, together, of_none, count_together, count_of_none, places_together, distributed, all_distributed, lines_count, all_lines_count, atom_places, all_atom_places}
+use Rattle.clean_forms.specs.Plain.{products, together, of_none, places, count_together, count_of_none, places_together, distributed, all_distributed, lines_count, all_lines_count, atom_places, all_atom_places}
 use Rattle.clean_forms.specs.Laws.{PlacesAreCounted}
 
-module _ {A : Type 0} where
-  abbrev places : List (List A) → ℕ
-  places ls = sum_by length ls
+none_count : (A : Type 0) (b : Bool) → length (of_none {A = A} b) ≡ count_of_none b
+none_count A false = refl
+none_count A true = refl
 
+none_places : (A : Type 0) (b : Bool) → places (of_none {A = A} b) ≡ 0
+none_places A false = refl
+none_places A true = refl
+
+module _ {A : Type 0} where
   places_append : (ls ks : List (List A)) → places (ls ++ ks) ≡ places ls + places ks
   places_append [] ks = omega arith
   places_append (us ∷ ls) ks = let k = places_append ls ks in omega arith
@@ -43,20 +48,12 @@ module _ {A : Type 0} where
   together_places false ls ks = places_append ls ks
   together_places true ls ks = products_places ls ks
 
-  none_count : (b : Bool) → length (of_none {A = A} b) ≡ count_of_none b
-  none_count false = refl
-  none_count true = refl
-
-  none_places : (b : Bool) → places (of_none b) ≡ 0
-  none_places false = refl
-  none_places true = refl
-
   record Counts (n s : ℕ) (ls : List (List A)) : Type 0 where
     pub count : length ls ≡ n
     pub placed : places ls ≡ s
 
   counts_none : (b : Bool) → Counts (count_of_none b) 0 (of_none b)
-  counts_none b = record { count = none_count b; placed = none_places b }
+  counts_none b = record { count = none_count A b; placed = none_places A b }
 
   counts_both : (b : Bool) (m s n t : ℕ) (ls ks : List (List A)) → Counts m s ls → Counts n t ks → Counts (count_together b m n) (places_together b m s n t) (together b ls ks)
   counts_both b m s n t ls ks h k = record {

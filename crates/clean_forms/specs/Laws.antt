@@ -1,5 +1,5 @@
 -- What is proved of clean forms, as statements that the functions of this crate promise.
-use Rattle.std.specs.Prelude.{◌≡◌, ℕ, ◌≤◌, ◌<◌, List, length, sum_by}
+use Rattle.std.specs.Prelude.{◌≡◌, ℕ, ◌≤◌, ◌<◌, List, length}
 use Rattle.formula_meaning.specs.Context.{Context}
 use Rattle.formula_meaning.specs.Some.{EachOf}
 use Rattle.formula_meaning.specs.Every.{Every}
@@ -11,7 +11,7 @@ use Rattle.redlog_printer.specs.Text.{tree_text}
 use Rattle.redlog_printer.specs.Within.{IsAtomWithin}
 use Rattle.simplified_formulas.specs.AtomKit.{atom_kit}
 use Rattle.simplified_formulas.specs.Trees.{IsSimplifiable}
-use Rattle.clean_forms.specs.Plain.{plain_form, distributed, lines_count, atom_places}
+use Rattle.clean_forms.specs.Plain.{plain_form, distributed, places, lines_count, atom_places}
 use Rattle.clean_forms.specs.Lines.{clean_form}
 use Rattle.clean_forms.specs.Clean.{IsCleanForm}
 
@@ -53,7 +53,7 @@ CleaningLengthensNoText = (c : Context) (j : Junction) (f : Tree) → IsDistribu
 -- the counts are those of the distributed formula
 pub record CountsPlaces (j : Junction) (f : Tree) : Type 0 where
   pub lines : length (distributed j f) ≡ lines_count j f
-  pub places : sum_by length (distributed j f) ≡ atom_places j f
+  pub places : places (distributed j f) ≡ atom_places j f
 
 abbrev pub PlacesAreCounted : Type 0
 PlacesAreCounted = (j : Junction) (f : Tree) → CountsPlaces j f
