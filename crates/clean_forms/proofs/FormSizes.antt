@@ -9,7 +9,9 @@ use Rattle.simplified_formulas.specs.Pass.{constant, ones}
 use Rattle.clean_forms.specs.Ways.{dual, line_form, line_forms, form_of_lines}
 use Rattle.clean_forms.proofs.Inserting.{total, MergesLightly, Fits}
 use Rattle.clean_forms.proofs.Under.{FitsLine, Under, ends, goes, stays, under_plain, under_few}
-use Rattle.clean_forms.proofs.Pieces.{Filled, Open}
+use Rattle.clean_forms.specs.Plain.{of_none}
+use Rattle.clean_forms.specs.Lines.{joined_lines}
+use Rattle.clean_forms.proofs.Shown.{Filled, Opens}
 
 module _ {A : Type 0} (m : Measure A) where
   joined_size : (j : Junction) (fs : Formulas A ℕ) → size m (joined j fs) ≡ m.head + members_size m fs j
@@ -145,18 +147,18 @@ module _ {A : Type 0} (m : Measure A) where
               let b : s ≡ d = cc in
               line_same r s q d a b (λ k. (fits_smaller r s k g).alone) h
 
-      pub open_smaller : (ps cs : List (List A)) → Open kit j Q m.atom light ps cs → Form cs ≤ Form ps
-      open_smaller ps [] h = form_low (dual j) ps h.some h.filled (under_plain kit j Q m.atom light ps [] h.under)
+      pub open_smaller : (ps cs : List (List A)) → Opens (Under kit j Q m.atom light) (joined_lines kit j) of_none ps cs → Form cs ≤ Form ps
+      open_smaller ps [] h = form_low (dual j) ps h.some h.filled (under_plain kit j Q m.atom light ps [] h.made)
       open_smaller [] (c ∷ cs) h = let s = h.some in absurd (omega arith)
-      open_smaller (p ∷ []) (c ∷ []) h = one_line p c h.filled.0 h.under
+      open_smaller (p ∷ []) (c ∷ []) h = one_line p c h.filled.0 h.made
       open_smaller (p ∷ q ∷ ps) (c ∷ []) h =
-          let k = less_together (p ∷ q ∷ ps) (c ∷ []) h.filled h.under in
+          let k = less_together (p ∷ q ∷ ps) (c ∷ []) h.filled h.made in
           let l = member_more (line_form j c) (Alone c) in
           let t = two_form p q ps in
           omega arith
-      open_smaller (p ∷ []) (c ∷ d ∷ cs) h = let k = under_few kit j Q m.atom light (p ∷ []) (c ∷ d ∷ cs) h.under in absurd (omega arith)
+      open_smaller (p ∷ []) (c ∷ d ∷ cs) h = let k = under_few kit j Q m.atom light (p ∷ []) (c ∷ d ∷ cs) h.made in absurd (omega arith)
       open_smaller (p ∷ q ∷ ps) (c ∷ d ∷ cs) h =
-          let k = less_together (p ∷ q ∷ ps) (c ∷ d ∷ cs) h.filled h.under in
+          let k = less_together (p ∷ q ∷ ps) (c ∷ d ∷ cs) h.filled h.made in
           let t = two_form p q ps in
           let u = two_form c d cs in
           omega arith

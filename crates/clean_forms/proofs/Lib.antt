@@ -3,6 +3,7 @@ pub mod Inserting
 pub mod Joins
 pub mod Absorbed
 pub mod Under
+pub mod Shown
 pub mod Pieces
 pub mod LinesTrue
 pub mod FormsTrue

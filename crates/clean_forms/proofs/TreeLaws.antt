@@ -1,5 +1,5 @@
 -- The laws of clean forms for resolved formulas.
-use Rattle.std.proofs.Common.{◌≡◌, ℕ, ◌+◌, ◌≤◌, Bool, true, false, nat_eq, refl, sym, ap, subst, ◌⊎◌, ⊎_elim, List, [], ◌∷◌, length, arith}
+use Rattle.std.proofs.Common.{◌≡◌, ℕ, ◌+◌, ◌≤◌, Bool, true, false, nat_eq, refl, sym, ap, ◌∙◌, subst, ◌⊎◌, ⊎_elim, List, [], ◌∷◌, length, arith}
 use Rattle.formula_meaning.specs.Context.{Context}
 use Rattle.formula_meaning.specs.Point.{Point, Of, move}
 use Rattle.formula_meaning.specs.Some.{EachOf}
@@ -22,14 +22,17 @@ use Rattle.simplified_formulas.proofs.Nodes.{nodes_size}
 use Rattle.simplified_texts.specs.Texts.{text_measure}
 use Rattle.simplified_texts.proofs.Measured.{text_is}
 use Rattle.clean_forms.specs.Ways.{is_same, form_of_lines}
-use Rattle.clean_forms.specs.Plain.{distributed, plain_form}
+use Rattle.clean_forms.specs.Plain.{of_none, distributed, plain_form}
 use Rattle.clean_forms.specs.Lines.{clean_lines}
 use Rattle.clean_forms.specs.Clean.{IsUnmerged}
 use Rattle.clean_forms.specs.Laws.{IsDistributable, cleaned, CleanFormIsClean, CleaningKeepsTruth, CleaningKeepsShape, CleaningBringsNoName, CleaningBringsNoNode, CleaningLengthensNoText}
 use Rattle.clean_forms.proofs.Inserting.{each_map, MergesLightly, Keeps}
 use Rattle.clean_forms.proofs.Absorbed.{lines_incomparable}
 use Rattle.clean_forms.proofs.Under.{under_plain}
-use Rattle.clean_forms.proofs.Pieces.{Open, shown, told, shows_sound}
+use Rattle.clean_forms.specs.Lines.{joined_lines, more_clean_lines}
+use Rattle.clean_forms.proofs.Under.{Under}
+use Rattle.clean_forms.proofs.Shown.{Opens, Closes, told}
+use Rattle.clean_forms.proofs.Pieces.{lines_shown, lines_sound}
 use Rattle.clean_forms.proofs.LinesTrue.{MergesTruly}
 use Rattle.clean_forms.proofs.FormsTrue.{clean_form_true}
 use Rattle.clean_forms.proofs.FormShapes.{form_orderly, form_free, HasNames, names_in, in_names, orderly_both}
@@ -43,9 +46,7 @@ module _ (c : Context) (j : Junction) where
   -- ---- lists that are clean
 
   sound : (f : Tree) → IsDistributable c f → EachOf (EachOf (IsNormalWithin c)) (clean_lines (atom_kit c) j f) × EachOf (IsUnmerged (Keeps (atom_kit c) j (IsNormalWithin c) (λ a. 1) normal_lightly)) (clean_lines (atom_kit c) j f)
-  sound f h =
-      shows_sound (atom_kit c) j (IsNormalWithin c) (λ a. 1) normal_lightly (is_same j Conjunction) (pieces_of Conjunction (folded f)) (clean_lines (atom_kit c) j f)
-      (shown (atom_kit c) j (IsNormalWithin c) (λ a. 1) normal_lightly f h.orderly h.free Conjunction)
+  sound f h = lines_sound (atom_kit c) j (IsNormalWithin c) (λ a. 1) normal_lightly f h.orderly h.free
 
   each_kept : (a : Atom) (us : List Atom) → IsNormalWithin c a → EachOf (IsNormalWithin c) us → EachOf (Keeps (atom_kit c) j (IsNormalWithin c) (λ b. 1) normal_lightly a) us → EachOf (IsKept c j a) us
   each_kept a [] x h k = tt
@@ -84,7 +85,7 @@ module _ (c : Context) (j : Junction) where
     names_within : (f : Tree) → IsDistributable c f → ((x : ℕ) → IsFree f x → C x) → (x : ℕ) → IsFree (cleaned c j f) x → C x
     names_within f h i =
         let w = orderly_both (IsNormalWithin c) (HasNames Mentions C) IsNamed (λ a x y. record { normal = x; names = y }) f h.orderly (in_names Mentions C f h.free i) in
-        let s = (shows_sound (atom_kit c) j IsNamed (λ a. 1) named_lightly (is_same j Conjunction) (pieces_of Conjunction (folded f)) (clean_lines (atom_kit c) j f) (shown (atom_kit c) j IsNamed (λ a. 1) named_lightly f w h.free Conjunction)).0 in
+        let s = (lines_sound (atom_kit c) j IsNamed (λ a. 1) named_lightly f w h.free).0 in
         let t = each_map (EachOf IsNamed) (EachOf (HasNames Mentions C)) (λ us. each_map IsNamed (HasNames Mentions C) (λ a k. k.names) us) (clean_lines (atom_kit c) j f) s in
         names_in Mentions C (cleaned c j f) (form_orderly (HasNames Mentions C) j (clean_lines (atom_kit c) j f) t) (form_free j (clean_lines (atom_kit c) j f))
 
@@ -98,23 +99,25 @@ module _ (c : Context) (j : Junction) where
 
     bounds : (f : Tree) → IsDistributable c f → IsOrderly Q f → Bounds f
     bounds f h k =
-        let s = shown (atom_kit c) j Q m.atom light f k h.free in
-        let e = (shows_sound (atom_kit c) j Q m.atom light (is_same j Conjunction) (pieces_of Conjunction (folded f)) (clean_lines (atom_kit c) j f) (s Conjunction)).0 in
-        ⊎_elim
-        (λ (t : distributed j (folded f) ≡ clean_lines (atom_kit c) j f). constant_case f e t)
-        (λ (t : Open (atom_kit c) j Q m.atom light (distributed j (folded f)) (clean_lines (atom_kit c) j f)). record {
-          orderly = form_orderly Q j (distributed j (folded f)) (under_plain (atom_kit c) j Q m.atom light (distributed j (folded f)) (clean_lines (atom_kit c) j f) t.under);
-          smaller = open_smaller m j (atom_kit c) Q light low (distributed j (folded f)) (clean_lines (atom_kit c) j f) t;
-        })
-        (told (atom_kit c) j Q m.atom light (folded f) (clean_lines (atom_kit c) j f) s)
+        ⊎_elim (constant_case f (lines_sound (atom_kit c) j Q m.atom light f k h.free).0) (open_case f)
+        (told j Q (Under (atom_kit c) j Q m.atom light) (joined_lines (atom_kit c) j) of_none (clean_lines (atom_kit c) j) (more_clean_lines (atom_kit c) j) (folded f) (clean_lines (atom_kit c) j f)
+          (lines_shown (atom_kit c) j Q m.atom light f k h.free))
       where
-        constant_case : (g : Tree) → EachOf (EachOf Q) (clean_lines (atom_kit c) j g) → distributed j (folded g) ≡ clean_lines (atom_kit c) j g → Bounds g
+        constant_case : (g : Tree) → EachOf (EachOf Q) (clean_lines (atom_kit c) j g)
+            → Closes j Q (Under (atom_kit c) j Q m.atom light) (joined_lines (atom_kit c) j) of_none (clean_lines (atom_kit c) j) (more_clean_lines (atom_kit c) j) (distributed j (folded g)) (clean_lines (atom_kit c) j g) → Bounds g
         constant_case g e t =
-            let n : size m (form_of_lines j (distributed j (folded g))) ≡ size m (form_of_lines j (clean_lines (atom_kit c) j g)) = ap (λ ls. size m (form_of_lines j ls)) t in
+            let same : distributed j (folded g) ≡ clean_lines (atom_kit c) j g = t.lists ∙ sym t.is in
+            let n : size m (form_of_lines j (distributed j (folded g))) ≡ size m (form_of_lines j (clean_lines (atom_kit c) j g)) = ap (λ ls. size m (form_of_lines j ls)) same in
             record {
-              orderly = subst (λ ls. IsOrderly Q (form_of_lines j ls)) (sym t) (form_orderly Q j (clean_lines (atom_kit c) j g) e);
+              orderly = subst (λ ls. IsOrderly Q (form_of_lines j ls)) (sym same) (form_orderly Q j (clean_lines (atom_kit c) j g) e);
               smaller = omega arith;
             }
+
+        open_case : (g : Tree) → Opens (Under (atom_kit c) j Q m.atom light) (joined_lines (atom_kit c) j) of_none (distributed j (folded g)) (clean_lines (atom_kit c) j g) → Bounds g
+        open_case g t = record {
+          orderly = form_orderly Q j (distributed j (folded g)) (under_plain (atom_kit c) j Q m.atom light (distributed j (folded g)) (clean_lines (atom_kit c) j g) t.made);
+          smaller = open_smaller m j (atom_kit c) Q light low (distributed j (folded g)) (clean_lines (atom_kit c) j g) t;
+        }
 
 -- ---- the laws
 

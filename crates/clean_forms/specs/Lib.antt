@@ -2,4 +2,5 @@ pub mod Ways
 pub mod Plain
 pub mod Lines
 pub mod Clean
+pub mod Counts
 pub mod Laws
