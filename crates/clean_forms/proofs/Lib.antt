@@ -12,3 +12,4 @@ pub mod FormSizes
 pub mod Widths
 pub mod TreeLaws
 pub mod Places
+pub mod Counts

@@ -40,11 +40,11 @@ module _ {A : Type 0} where
       let m = line_places us ks in
       omega arith
 
-  together_count : (b : Bool) (ls ks : List (List A)) → length (together b ls ks) ≡ count_together b (length ls) (length ks)
+  pub together_count : (b : Bool) (ls ks : List (List A)) → length (together b ls ks) ≡ count_together b (length ls) (length ks)
   together_count false ls ks = length-append ls ks
   together_count true ls ks = products_count ls ks
 
-  together_places : (b : Bool) (ls ks : List (List A)) → places (together b ls ks) ≡ places_together b (length ls) (places ls) (length ks) (places ks)
+  pub together_places : (b : Bool) (ls ks : List (List A)) → places (together b ls ks) ≡ places_together b (length ls) (places ls) (length ks) (places ks)
   together_places false ls ks = places_append ls ks
   together_places true ls ks = products_places ls ks
 

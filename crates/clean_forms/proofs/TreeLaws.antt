@@ -40,7 +40,7 @@ use Rattle.clean_forms.proofs.FormSizes.{open_smaller}
 use Rattle.clean_forms.proofs.Widths.{IsWritten, written_lightly, constant_width}
 
 module _ (c : Context) (j : Junction) where
-  normal_lightly : MergesLightly (atom_kit c) j (IsNormalWithin c) (λ a. 1)
+  pub normal_lightly : MergesLightly (atom_kit c) j (IsNormalWithin c) (λ a. 1)
   normal_lightly = record { keeps = λ a b d x y e. (merges_within c).keeps j a b d x y e; weight = λ a b d x y e. omega arith }
 
   -- ---- lists that are clean

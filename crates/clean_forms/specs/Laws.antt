@@ -1,9 +1,9 @@
 -- What is proved of clean forms, as statements that the functions of this crate promise.
-use Rattle.std.specs.Prelude.{◌≡◌, ℕ, ◌≤◌, ◌<◌, List, length}
+use Rattle.std.specs.Prelude.{◌≡◌, ℕ, ◌≤◌, ◌<◌, List, [], ◌∷◌, length}
 use Rattle.formula_meaning.specs.Context.{Context}
 use Rattle.formula_meaning.specs.Some.{EachOf}
 use Rattle.formula_meaning.specs.Every.{Every}
-use Rattle.formula_meaning.specs.Fold.{Junction}
+use Rattle.formula_meaning.specs.Fold.{Junction, folded}
 use Rattle.formula_meaning.specs.Shape.{IsQuantifierFree}
 use Rattle.formula_meaning.specs.Sizes.{nodes}
 use Rattle.formula_meaning.specs.Tree.{Tree, Equivalent, IsFree}
@@ -11,8 +11,9 @@ use Rattle.redlog_printer.specs.Text.{tree_text}
 use Rattle.redlog_printer.specs.Within.{IsAtomWithin}
 use Rattle.simplified_formulas.specs.AtomKit.{atom_kit}
 use Rattle.simplified_formulas.specs.Trees.{IsSimplifiable}
-use Rattle.clean_forms.specs.Plain.{plain_form, distributed, places, lines_count, atom_places}
-use Rattle.clean_forms.specs.Lines.{clean_form}
+use Rattle.clean_forms.specs.Plain.{plain_form, distributed, places, lines_count, atom_places, literals}
+use Rattle.clean_forms.specs.Lines.{clean_lines, clean_form}
+use Rattle.clean_forms.specs.Counts.{Sizes, sizes}
 use Rattle.clean_forms.specs.Clean.{IsCleanForm}
 
 -- in negation normal form without quantifiers, with two members at least in each list, and normal atoms within the limit
@@ -57,3 +58,19 @@ pub record CountsPlaces (j : Junction) (f : Tree) : Type 0 where
 
 abbrev pub PlacesAreCounted : Type 0
 PlacesAreCounted = (j : Junction) (f : Tree) → CountsPlaces j f
+
+-- what is counted without folding constants are the sizes of the plain form
+pub record HasPlainSizes (j : Junction) (f : Tree) (x : Sizes) : Type 0 where
+  pub lines : x.lines ≡ lines_count j (folded f)
+  pub places : x.places ≡ literals j f
+
+abbrev pub SizesAreThosePlain : Type 0
+SizesAreThosePlain = (c : Context) (j : Junction) (f : Tree) → IsDistributable c f → HasPlainSizes j f (sizes j f)
+
+-- where there is no list, or no place in a list, the clean lists are those of a constant
+pub record FewPlacesDecideLinesOf (c : Context) (j : Junction) (f : Tree) : Type 0 where
+  pub none : (sizes j f).lines ≡ 0 → clean_lines (atom_kit c) j f ≡ []
+  pub bare : (sizes j f).places ≡ 0 → 1 ≤ (sizes j f).lines → clean_lines (atom_kit c) j f ≡ [] ∷ []
+
+abbrev pub FewPlacesDecideLines : Type 0
+FewPlacesDecideLines = (c : Context) (j : Junction) (f : Tree) → IsDistributable c f → FewPlacesDecideLinesOf c j f

@@ -2,7 +2,7 @@
 //! its contract is a law.
 #![tactic(auto)]
 
-ghost use Rattle.clean_forms.specs.Laws.{CleanFormIsClean, CleaningKeepsTruth, CleaningKeepsShape, CleaningBringsNoName, CleaningBringsNoNode, CleaningLengthensNoText, PlacesAreCounted};
+ghost use Rattle.clean_forms.specs.Laws.{CleanFormIsClean, CleaningKeepsTruth, CleaningKeepsShape, CleaningBringsNoName, CleaningBringsNoNode, CleaningLengthensNoText, PlacesAreCounted, SizesAreThosePlain, FewPlacesDecideLines};
 
 /// A clean form is one: a disjunction of conjunctions of atoms, or the dual, none of which has two atoms that merge or
 /// contains all atoms of another.
@@ -27,7 +27,10 @@ pub fn cleaning_brings_no_node()
     ensures text { CleaningLengthensNoText }
 {}
 
-/// The places of atoms that are counted are those of the distributed formula.
+/// The places of atoms that are counted are those of the distributed formula, and what is counted without folding constants
+/// are those of the plain form; where there are none, the clean form is a constant.
 pub fn places_are_counted()
-    ensures { PlacesAreCounted }
+    ensures places { PlacesAreCounted }
+    ensures sizes { SizesAreThosePlain }
+    ensures few { FewPlacesDecideLines }
 {}
