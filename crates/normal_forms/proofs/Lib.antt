@@ -1,0 +1,5 @@
+pub mod Absorbing
+pub mod Partners
+pub mod Grown
+pub mod Inserted
+pub mod LineSteps

@@ -1,6 +1,11 @@
 //! Disjunctive and conjunctive normal forms of shared formulas.
 #![tactic(auto)]
 
+mod absorption;
 mod clean;
+mod form;
+mod insertion;
+mod lines;
+mod merging;
 
 pub use clean::{cnf, dnf};
