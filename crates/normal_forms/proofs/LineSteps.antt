@@ -1,8 +1,8 @@
 -- Lists of ids are added as the lists of their atoms are.
-use Rattle.std.proofs.Common.{◌≡◌, ℕ, zero, suc, ◌+◌, ◌<◌, nat_eq, eqb-true, eq-eqb, Bool, true, false, Option, None, Some, List, [], ◌∷◌, ◌++◌, map, length, take, get_or, refl, sym, ap, ◌∙◌, subst, add-one, arith}
+use Rattle.std.proofs.Common.{◌≡◌, ℕ, zero, suc, ◌+◌, ◌<◌, nat_eq, eqb-true, eq-eqb, Bool, true, false, Option, None, Some, Result, Ok, Err, OnOk, List, [], ◌∷◌, ◌++◌, map, length, take, get_or, refl, sym, ap, ◌∙◌, subst, add-one, arith}
 use Rattle.std.specs.Prelude.{◌||◌, ◌&&◌, if◌then◌else◌}
 use Rattle.std.specs.List.{AllByRecursion}
-use Rattle.std.proofs.lemmas.List.{map-append}
+use Rattle.std.proofs.lemmas.List.{map-append, take_more}
 use Rattle.formula_meaning.specs.Context.{Context}
 use Rattle.formula_meaning.specs.Formula.{One}
 use Rattle.formula_meaning.specs.Atom.{Atom}
@@ -13,6 +13,7 @@ use Rattle.formula_tree.specs.declared.shape.Shape.{Shape}
 use Rattle.formula_tree.specs.Makers.{Keeps}
 use Rattle.formula_store.specs.declared.id.FormulaId.{FormulaId}
 use Rattle.formula_store.specs.Nodes.{tree, IsId, AreNodes}
+use Rattle.formula_store.proofs.Ordered.{same_id as same_number}
 use Rattle.formula_store.proofs.Same.{same_tree}
 use Rattle.simplified_formulas.specs.Atoms.{Kit}
 use Rattle.simplified_formulas.specs.AtomKit.{atom_kit}
@@ -27,20 +28,17 @@ module _ (c : Context) (j : Junction) (nodes : List (Shape FormulaId)) (are : Ar
   same_told : (a b : FormulaId) → IsAtomId c nodes a → IsAtomId c nodes b → same_id a b ≡ same_atom (atom_at nodes a) (atom_at nodes b)
   same_told a b h k = split (same_id a b) refl (same_atom (atom_at nodes a) (atom_at nodes b)) refl
     where
-      one : a.number ≡ b.number → a ≡ b
-      one e = λ i. record { number = e i }
-
       split : (x : Bool) → same_id a b ≡ x → (y : Bool) → same_atom (atom_at nodes a) (atom_at nodes b) ≡ y → x ≡ y
       split true e true f = refl
       split true e false f =
-          let i : a ≡ b = one (eqb-true a.number b.number e) in
+          let i : a ≡ b = same_number a b (eqb-true a.number b.number e) in
           let w : true ≡ false = sym (atom_alike (atom_at nodes a)) ∙ ap (λ (x : FormulaId). same_atom (atom_at nodes a) (atom_at nodes x)) i ∙ f in
           absurd (cc (w))
       split false e true f =
           let t : tree nodes a ≡ tree nodes b = h.one ∙ ap One (atom_same (atom_at nodes a) (atom_at nodes b) f) ∙ sym k.one in
           let i : a ≡ b = same_tree nodes are a b h.is k.is t in
           let n : a.number ≡ b.number = ap (λ (x : FormulaId). x.number) i in
-          let w : false ≡ true = sym e ∙ eq-eqb n in
+          let w : false ≡ true = sym e ∙ eq-eqb a.number b.number n in
           absurd (cc (w))
       split false e false f = refl
 
@@ -112,3 +110,46 @@ module _ {A : Type 0} (kit : Kit A) (j : Junction) where
   pub products_then : (ls hs gs ks : List (List A)) → add_products kit j ls (hs ++ gs) ks ≡ add_products kit j (add_products kit j ls hs ks) gs ks
   products_then ls [] gs ks = refl
   products_then ls (us ∷ hs) gs ks = products_then (add_line_products kit j ls us ks) hs gs ks
+
+  pub all_then : (ls ks hs : List (List A)) → clean.add_all kit j ls (ks ++ hs) ≡ clean.add_all kit j (clean.add_all kit j ls ks) hs
+  all_then ls [] hs = refl
+  all_then ls (vs ∷ ks) hs = all_then (clean.add kit j ls vs) ks hs
+
+pub all_get : {X : Type 0} (P : X → Type 0) (xs : List X) (i : ℕ) (d : X) → i < length xs → AllByRecursion P xs → P (get_or xs i d)
+all_get P [] i d l h = absurd (omega arith)
+all_get P (x ∷ xs) zero d l h = h.0
+all_get P (x ∷ xs) (suc i) d l h = all_get P xs i d (omega arith) h.1
+
+-- what holds where a call succeeded
+pub on_ok : {T E : Type 0} (P Q : Type 0) (r : Result T E) → OnOk r P → (P → Q) → OnOk r Q
+on_ok P Q (Ok t) h f = f h
+on_ok P Q (Err e) h f = tt
+
+module _ (c : Context) (j : Junction) (old nodes new : List (Shape FormulaId)) (k : Keeps (IsId old) (tree old) (IsId nodes) (tree nodes)) where
+  pub line_step : (start : List (List Atom)) (line : List FormulaId) (items : List (List FormulaId)) (i : ℕ) (d : List FormulaId) (ls ls2 : List (List FormulaId)) → i < length items → AreAtomIds c old line → AreLineIds c old items
+      → AreLines c nodes (add_line_products (atom_kit c) j start (atoms old line) (lines old (take i items))) ls
+      → AreLines c new (add_if (atom_kit c) j (lines nodes ls) (insert_all (atom_kit c) j (Some (atoms nodes line)) (atoms nodes (get_or items i d)))) ls2
+      → AreLines c new (add_line_products (atom_kit c) j start (atoms old line) (lines old (take (i + 1) items))) ls2
+  line_step start line items i d ls ls2 l h g s t =
+      let one_more : lines old (take (i + 1) items) ≡ lines old (take i items) ++ atoms old (get_or items i d) ∷ [] =
+          ap (lines old) (take_more items i d l) ∙ map-append (atoms old) (take i items) (get_or items i d ∷ []) in
+      let e : add_line_products (atom_kit c) j start (atoms old line) (lines old (take (i + 1) items)) ≡ add_if (atom_kit c) j (lines nodes ls) (insert_all (atom_kit c) j (Some (atoms nodes line)) (atoms nodes (get_or items i d))) =
+          ap (add_line_products (atom_kit c) j start (atoms old line)) one_more ∙ line_then (atom_kit c) j start (atoms old line) (lines old (take i items)) (atoms old (get_or items i d) ∷ [])
+          ∙ ap (λ ks. add_if (atom_kit c) j ks (insert_all (atom_kit c) j (Some (atoms old line)) (atoms old (get_or items i d)))) (sym s.same)
+          ∙ ap (λ us. add_if (atom_kit c) j (lines nodes ls) (insert_all (atom_kit c) j (Some us) (atoms old (get_or items i d)))) (sym (atoms_stay c old nodes k line h))
+          ∙ ap (λ us. add_if (atom_kit c) j (lines nodes ls) (insert_all (atom_kit c) j (Some (atoms nodes line)) us)) (sym (atoms_stay c old nodes k (get_or items i d) (all_get (AreAtomIds c old) items i d l g))) in
+      subst (λ ks. AreLines c new ks ls2) (sym e) t
+
+  pub products_step : (firsts others : List (List FormulaId)) (i : ℕ) (d : List FormulaId) (ls ls2 : List (List FormulaId)) → i < length firsts → AreLineIds c old firsts → AreLineIds c old others
+      → AreLines c nodes (add_products (atom_kit c) j [] (lines old (take i firsts)) (lines old others)) ls
+      → AreLines c new (add_line_products (atom_kit c) j (lines nodes ls) (atoms nodes (get_or firsts i d)) (lines nodes others)) ls2
+      → AreLines c new (add_products (atom_kit c) j [] (lines old (take (i + 1) firsts)) (lines old others)) ls2
+  products_step firsts others i d ls ls2 l h g s t =
+      let one_more : lines old (take (i + 1) firsts) ≡ lines old (take i firsts) ++ atoms old (get_or firsts i d) ∷ [] =
+          ap (lines old) (take_more firsts i d l) ∙ map-append (atoms old) (take i firsts) (get_or firsts i d ∷ []) in
+      let e : add_products (atom_kit c) j [] (lines old (take (i + 1) firsts)) (lines old others) ≡ add_line_products (atom_kit c) j (lines nodes ls) (atoms nodes (get_or firsts i d)) (lines nodes others) =
+          ap (λ ks. add_products (atom_kit c) j [] ks (lines old others)) one_more ∙ products_then (atom_kit c) j [] (lines old (take i firsts)) (atoms old (get_or firsts i d) ∷ []) (lines old others)
+          ∙ ap (λ ks. add_line_products (atom_kit c) j ks (atoms old (get_or firsts i d)) (lines old others)) (sym s.same)
+          ∙ ap (λ us. add_line_products (atom_kit c) j (lines nodes ls) us (lines old others)) (sym (atoms_stay c old nodes k (get_or firsts i d) (all_get (AreAtomIds c old) firsts i d l h)))
+          ∙ ap (λ ks. add_line_products (atom_kit c) j (lines nodes ls) (atoms nodes (get_or firsts i d)) ks) (sym (lines_stay c old nodes k others g)) in
+      subst (λ ks. AreLines c new ks ls2) (sym e) t

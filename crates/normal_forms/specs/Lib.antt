@@ -1,3 +1,4 @@
 pub mod Forms
 pub mod Atoms
 pub mod Merging
+pub mod Sizes

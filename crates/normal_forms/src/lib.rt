@@ -7,5 +7,6 @@ mod form;
 mod insertion;
 mod lines;
 mod merging;
+mod sizes;
 
 pub use clean::{cnf, dnf};
