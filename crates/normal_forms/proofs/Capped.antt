@@ -29,7 +29,8 @@ capped_product m a b h = split (nat_le a m) refl (nat_le b m) refl
     one_large : (x y : ℕ) → m < x → min (min x m * min y m) m ≡ min (x * y) m
     one_large x zero l =
         let z : min zero m ≡ 0 = omega arith in
-        let e : min x m * min zero m ≡ 0 = ap (λ t. min x m * t) z in
+        let n : min x m * 0 ≡ 0 = omega arith in
+        let e : min x m * min zero m ≡ 0 = ap (λ t. min x m * t) z ∙ n in
         omega arith
     one_large x (suc y) l =
         let k = large_left m x (suc y) (omega arith) h (omega arith) in

@@ -7,6 +7,7 @@ mod form;
 mod insertion;
 mod lines;
 mod merging;
+mod normal;
 mod sizes;
 
-pub use clean::{cnf, dnf};
+pub use normal::{cnf, dnf};
