@@ -5,3 +5,5 @@ pub mod Inserted
 pub mod LineSteps
 pub mod Capped
 pub mod Tables
+pub mod Parts
+pub mod Formed

@@ -88,8 +88,8 @@ pub(crate) fn insert_all(
     Ok(Some(longer))
 }
 
-// A copy of a list. Its only error is `Memory`.
-fn copied(alloc: Global, line: &[FormulaId]) -> Result<Ids<FormulaId>, FormError>
+/// A copy of a list. Its only error is `Memory`.
+pub(crate) fn copied(alloc: Global, line: &[FormulaId]) -> Result<Ids<FormulaId>, FormError>
     ensures copy { IfOk result (λ copy. copy ≡ line.now) }
     ensures memory { IfErr result (λ e. e ≡ FormError.Memory) }
 {

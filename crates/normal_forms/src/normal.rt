@@ -3,6 +3,7 @@
 ghost use Rattle.std.specs.Prelude.{◌≡◌, ◌≤◌, ◌<◌, ◌↔◌, ℕ, Some, map, if◌then◌else◌, true, IfOk, IfErr, OnOk, IsErrOf};
 ghost use Rattle.formula_meaning.specs.Fold.{Conjunction, Disjunction, from_pieces};
 ghost use Rattle.formula_tree.specs.Trees.{members};
+ghost use Rattle.formula_tree.specs.Shapes.{AllIds, IsProperShape, tree_over};
 ghost use Rattle.clean_forms.specs.Ways.{form_of_lines};
 ghost use Rattle.normal_forms.specs.Forms.{inner};
 ghost use Rattle.normal_forms.specs.Atoms.{AreLineIds, lines as atom_lines};
@@ -22,6 +23,7 @@ ghost use Rattle.clean_forms.specs.Laws.{IsNoLonger};
 use crate::absorption::Lines;
 use crate::clean::formula_lines;
 use crate::form::{Form, conjunctions_inside, disjunctions_inside};
+use crate::insertion::copied;
 use crate::sizes::{all_sizes, table_sizes};
 use atom_normal::Context;
 use formula_store::{FormulaId, Store};
@@ -136,11 +138,24 @@ fn joined(store: &mut Store, conjunction: bool, ids: Ids<FormulaId>) -> Result<F
     ensures kept { Keeps (IsId store.old) (tree store.old) (IsId store.new) (tree store.new) }
     ensures memory { IfErr result (λ e. e ≡ FormError.Memory) }
 {
-    let shape = match ids.items() {
-        [] => constant(conjunction),
-        [id] => return Ok(*id),
-        _ => list(conjunction, ids),
-    };
+    let count = ids.items().len();
+    if count == 0 {
+        return made(store, constant(conjunction));
+    }
+    if count == 1 {
+        return Ok(ids.items()[0]);
+    }
+    made(store, list(conjunction, ids))
+}
+
+// Makes the formula of this shape. Its only error is `Memory`.
+fn made(store: &mut Store, shape: Shape<FormulaId>) -> Result<FormulaId, FormError>
+    requires ids { AllIds (IsId store.old) shape }
+    requires proper { IsProperShape shape }
+    ensures made { IfOk result (λ id. IsMade (IsId store.new) (tree store.new) id (tree_over (tree store.old) shape)) }
+    ensures kept { Keeps (IsId store.old) (tree store.old) (IsId store.new) (tree store.new) }
+    ensures memory { IfErr result (λ e. e ≡ FormError.Memory) }
+{
     store.make(shape).map_err(|_| FormError::Memory)
 }
 
@@ -180,7 +195,8 @@ fn lines_form(
     ensures memory { IfErr result (λ e. e ≡ FormError.Memory) }
 {
     let mut ids = Vec::new(alloc);
-    for line in lines {
+    for line in &lines {
+        let line = copied(alloc, line.items())?;
         let id = joined(store, conjunctions_inside(form), line)?;
         ids.push(id).map_err(|_| FormError::Memory)?;
     }
