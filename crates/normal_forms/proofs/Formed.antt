@@ -1,6 +1,6 @@
 -- The formula of clean lists.
 use Rattle.std.proofs.Common.{◌≡◌, ℕ, zero, suc, ◌+◌, ◌≤◌, ◌<◌, Bool, true, false, List, [], ◌∷◌, ◌++◌, map, take, length, get_or, Some, refl, sym, ap, ◌∙◌, subst, arith}
-use Rattle.std.specs.Prelude.{if◌then◌else◌, ◌||◌}
+use Rattle.std.specs.Prelude.{if◌then◌else◌, ◌||◌, Result, Ok, Err, OnOk, min}
 use Rattle.std.specs.List.{AllByRecursion}
 use Rattle.std.proofs.lemmas.List.{take_more, map-append}
 use Rattle.formula_meaning.specs.Context.{Context}
@@ -20,7 +20,15 @@ use Rattle.formula_store.specs.Nodes.{tree, IsId}
 use Rattle.formula_store.proofs.Marked.{all_joined}
 use Rattle.simplified_formulas.specs.Pass.{ones}
 use Rattle.clean_forms.specs.Ways.{dual, is_same, line_form, line_forms, form_of_lines}
-use Rattle.normal_forms.specs.Atoms.{atom_at, IsAtomId, AreAtomIds, atoms, AreLineIds, lines}
+use Rattle.simplified_formulas.specs.AtomKit.{atom_kit}
+use Rattle.clean_forms.specs.Plain.{literals}
+use Rattle.clean_forms.specs.Lines.{clean_lines}
+use Rattle.clean_forms.specs.Counts.{sizes}
+use Rattle.clean_forms.specs.Laws.{IsDistributable, cleaned}
+use Rattle.clean_forms.proofs.Counts.{sizes_plain}
+use Rattle.normal_forms.specs.declared.sizes.Sizes.{Sizes}
+use Rattle.normal_forms.specs.Sizes.{most, capped}
+use Rattle.normal_forms.specs.Atoms.{AreAtomIds, atoms, AreLineIds, lines, AreLines}
 use Rattle.normal_forms.proofs.Grown.{atoms_stay, ids_stay}
 use Rattle.normal_forms.proofs.LineSteps.{all_get}
 
@@ -138,3 +146,29 @@ module _ {A N : Type 0} where
     all_free_told : (fs : Formulas A N) → some_quantifier fs ≡ false → AreQuantifierFree fs
     all_free_told none e = tt
     all_free_told (also f fs) e = (free_told f (or_left (has_quantifier f) (some_quantifier fs) e), all_free_told fs (or_right (has_quantifier f) (some_quantifier fs) e))
+
+-- ---- the whole
+
+-- what holds wherever a call succeeded
+pub on_any : {T E : Type 0} (Q : Type 0) (r : Result T E) → Q → OnOk r Q
+on_any Q (Ok v) h = h
+on_any Q (Err e) h = tt
+
+pub ids_are : (c : Context) (nodes : List (Shape FormulaId)) (us : List FormulaId) → AreAtomIds c nodes us → AllByRecursion (IsId nodes) us
+ids_are c nodes [] h = tt
+ids_are c nodes (u ∷ us) h = (h.0.is, ids_are c nodes us h.1)
+
+-- the formula that is made is the clean form
+pub clean_made : (c : Context) (j : Junction) (f : Tree) (mid new : List (Shape FormulaId)) (ls : List (List FormulaId)) (r : FormulaId) → AreLines c mid (clean_lines (atom_kit c) j f) ls → IsMade (IsId new) (tree new) r (form_of_lines j (lines mid ls)) → cleaned c j f ≡ tree new r
+clean_made c j f mid new ls r h m = sym (m.same ∙ ap (form_of_lines j) h.same)
+
+-- ---- the places that are counted
+
+pub few_places : (c : Context) (j : Junction) (f : Tree) (x : Sizes) → IsDistributable c f → x ≡ capped (sizes j f) → (limit : ℕ) → (limit < x.places → limit < literals j f) × (x.places ≤ limit → ¬ (x.places ≡ most) → literals j f ≤ limit)
+few_places c j f x d e limit =
+    let p = (sizes_plain c j f d).places in
+    let k : x.places ≡ min (sizes j f).places most = ap (λ (y : Sizes). y.places) e in
+    (λ h. omega arith, λ h n. within (sizes j f).places x.places limit k h n p)
+  where
+    within : (a b l : ℕ) → b ≡ min a most → b ≤ l → ¬ (b ≡ most) → a ≡ literals j f → literals j f ≤ l
+    within a b l k h n p = omega (arith, n)
