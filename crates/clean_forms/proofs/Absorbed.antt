@@ -1,15 +1,15 @@
 -- Absorption keeps lists incomparable.
-use Rattle.std.proofs.Common.{◌≡◌, ℕ, Bool, true, false, refl, sym, ◌∙◌, ap, ◌⊎◌, inl, inr, ⊎_elim, Option, None, Some, List, [], ◌∷◌, ◌++◌}
+use Rattle.std.proofs.Common.{◌≡◌, ℕ, Bool, true, false, refl, sym, ◌∙◌, ap, ⊎_elim, Option, None, Some, List, [], ◌∷◌, ◌++◌}
 use Rattle.std.specs.Prelude.{◌||◌, ◌&&◌, if◌then◌else◌}
 use Rattle.formula_meaning.specs.Formula.{Formula, Formulas, Yes, No, One, Not, And, Or, Impl, Repl, Equiv, Ex, All, none, also}
-use Rattle.formula_meaning.specs.Some.{EachOf, SomeOf, Among}
+use Rattle.formula_meaning.specs.Some.{EachOf, Among}
 use Rattle.formula_meaning.specs.Fold.{Junction, Conjunction, Disjunction}
 use Rattle.simplified_formulas.specs.Atoms.{Kit}
 use Rattle.clean_forms.specs.Ways.{is_same}
 use Rattle.clean_forms.specs.Plain.{of_none}
 use Rattle.clean_forms.specs.Lines.{insert_all, is_among, is_within, some_within, not_above, add, add_if, add_all, add_line_products, add_products, joined_lines, clean_lines, more_clean_lines}
 use Rattle.clean_forms.specs.Clean.{IsWithin, AreApart, AreIncomparable}
-use Rattle.clean_forms.proofs.Inserting.{each_append, each_map}
+use Rattle.clean_forms.proofs.Inserting.{each_append}
 
 module _ {A : Type 0} (kit : Kit A) (j : Junction) (alike : (a : A) → kit.same a a ≡ true) where
   among_told : (vs : List A) (a : A) → Among vs a → is_among kit j vs a ≡ true

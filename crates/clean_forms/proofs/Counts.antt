@@ -113,21 +113,21 @@ module _ (c : Context) (j : Junction) (f : Tree) (h : IsDistributable c f) where
   counts =
       ⊎_elim
       (λ (t : Closes j (IsNormalWithin c) Counts joined_sizes nothing_sizes (sizes j) (more_sizes j) (distributed j (folded f)) (sizes j f)).
-        subst (λ ls. Counts ls (sizes j f)) (sym t.lists) (subst (Counts (of_none t.of)) (sym t.is) (none_counts t.of)))
+      subst (λ ls. Counts ls (sizes j f)) (sym t.lists) (subst (Counts (of_none t.of)) (sym t.is) (none_counts t.of)))
       (λ (t : Opens Counts joined_sizes nothing_sizes (distributed j (folded f)) (sizes j f)). t.made)
       (told j (IsNormalWithin c) Counts joined_sizes nothing_sizes (sizes j) (more_sizes j) (folded f) (sizes j f)
-        (shown j (IsNormalWithin c) Counts joined_sizes nothing_sizes (sizes j) (more_sizes j) (sizes_made j (IsNormalWithin c)) f h.orderly h.free))
+      (shown j (IsNormalWithin c) Counts joined_sizes nothing_sizes (sizes j) (more_sizes j) (sizes_made j (IsNormalWithin c)) f h.orderly h.free))
 
   few : FewPlacesDecideLinesOf c j f
   few =
       ⊎_elim
       (λ (t : Closes j (IsNormalWithin c) (Under (atom_kit c) j (IsNormalWithin c) (λ a. 1) (normal_lightly c j)) (joined_lines (atom_kit c) j) of_none (clean_lines (atom_kit c) j) (more_clean_lines (atom_kit c) j) (distributed j (folded f)) (clean_lines (atom_kit c) j f)).
-        constant t.of t.lists t.is)
+      constant t.of t.lists t.is)
       (λ (t : Opens (Under (atom_kit c) j (IsNormalWithin c) (λ a. 1) (normal_lightly c j)) (joined_lines (atom_kit c) j) of_none (distributed j (folded f)) (clean_lines (atom_kit c) j f)).
-        let l = counts.lines in let p = counts.places in let s = t.some in let a = at_least (distributed j (folded f)) t.filled in
-        record { none = λ e. absurd (omega arith); bare = λ e k. absurd (omega arith) })
+      let l = counts.lines in let p = counts.places in let s = t.some in let a = at_least (distributed j (folded f)) t.filled in
+      record { none = λ e. absurd (omega arith); bare = λ e k. absurd (omega arith) })
       (told j (IsNormalWithin c) (Under (atom_kit c) j (IsNormalWithin c) (λ a. 1) (normal_lightly c j)) (joined_lines (atom_kit c) j) of_none (clean_lines (atom_kit c) j) (more_clean_lines (atom_kit c) j) (folded f) (clean_lines (atom_kit c) j f)
-        (lines_shown (atom_kit c) j (IsNormalWithin c) (λ a. 1) (normal_lightly c j) f h.orderly h.free))
+      (lines_shown (atom_kit c) j (IsNormalWithin c) (λ a. 1) (normal_lightly c j) f h.orderly h.free))
     where
       constant : (b : Bool) → distributed j (folded f) ≡ of_none b → clean_lines (atom_kit c) j f ≡ of_none b → FewPlacesDecideLinesOf c j f
       constant false d e = record {

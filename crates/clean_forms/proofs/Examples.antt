@@ -1,9 +1,9 @@
 -- Clean forms worked by hand. x, y and z are the names 1, 2 and 3.
 use Rattle.std.proofs.Common.{◌≡◌, ℕ, [], ◌∷◌, refl}
-use Rattle.std.proofs.Math.IntN.{ℤ, pos, negsuc}
+use Rattle.std.proofs.Math.IntN.{ℤ, pos}
 use Rattle.exact_numbers.specs.Divides.{content_of, gcd_of, euclid}
-use Rattle.formula_meaning.specs.Context.{Fields, Integers}
-use Rattle.formula_meaning.specs.Atom.{Atom, Relation, Equals, Differs, Below, AtMost, Above, AtLeast, Compare}
+use Rattle.formula_meaning.specs.Context.{Fields}
+use Rattle.formula_meaning.specs.Atom.{Relation, Differs, Below, Above, AtLeast, Compare}
 use Rattle.formula_meaning.specs.Formula.{Yes, No, One, And, Or, none, also}
 use Rattle.formula_meaning.specs.Tree.{Tree}
 use Rattle.formula_meaning.specs.Fold.{Conjunction, Disjunction}

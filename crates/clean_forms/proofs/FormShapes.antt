@@ -1,14 +1,13 @@
 -- The shape and the names of a formula that stands for lists of atoms.
-use Rattle.std.proofs.Common.{◌≡◌, ℕ, ◌⊎◌, inl, inr, ⊎_elim, Some, List, [], ◌∷◌}
+use Rattle.std.proofs.Common.{ℕ, inl, inr, ⊎_elim, Some, List, [], ◌∷◌}
 use Rattle.formula_meaning.specs.Formula.{Formula, Formulas, Yes, No, One, Not, And, Or, Impl, Repl, Equiv, Ex, All, none, also}
 use Rattle.formula_meaning.specs.Every.{Every, EveryOf, Free, FreeInSome}
 use Rattle.formula_meaning.specs.Some.{EachOf}
 use Rattle.formula_meaning.specs.Shape.{IsQuantifierFree, AreQuantifierFree}
-use Rattle.formula_meaning.specs.Fold.{Junction, Conjunction, Disjunction, joined, from_pieces}
-use Rattle.simplified_formulas.specs.Reduced.{AreTwo}
+use Rattle.formula_meaning.specs.Fold.{Junction, Conjunction, Disjunction, from_pieces}
 use Rattle.simplified_formulas.specs.Orderly.{IsOrderly, AreOrderly}
 use Rattle.simplified_formulas.specs.Pass.{ones}
-use Rattle.clean_forms.specs.Ways.{dual, line_form, line_forms, form_of_lines}
+use Rattle.clean_forms.specs.Ways.{dual, line_forms, form_of_lines}
 
 module _ {A : Type 0} (Q : A → Type 0) where
   pieces_orderly : (j : Junction) (fs : Formulas A ℕ) → AreOrderly Q fs → IsOrderly Q (from_pieces j (Some fs))

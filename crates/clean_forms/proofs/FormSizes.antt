@@ -1,13 +1,13 @@
 -- The clean form is no larger than the plain form.
-use Rattle.std.proofs.Common.{◌≡◌, ℕ, ◌+◌, ◌≤◌, Bool, true, false, refl, Some, List, [], ◌∷◌, length, arith}
+use Rattle.std.proofs.Common.{◌≡◌, ℕ, ◌+◌, ◌≤◌, Bool, true, false, refl, List, [], ◌∷◌, length, arith}
 use Rattle.formula_meaning.specs.Formula.{Formula, Formulas, Yes, No, One, Not, And, Or, Impl, Repl, Equiv, Ex, All, none, also}
 use Rattle.formula_meaning.specs.Some.{EachOf}
-use Rattle.formula_meaning.specs.Fold.{Junction, Conjunction, Disjunction, joined, neutral, from_pieces}
+use Rattle.formula_meaning.specs.Fold.{Junction, Conjunction, Disjunction, joined, neutral}
 use Rattle.simplified_formulas.specs.Atoms.{Kit}
 use Rattle.simplified_formulas.specs.Measure.{Measure, as_member, size, members_size, more_size}
 use Rattle.simplified_formulas.specs.Pass.{constant, ones}
 use Rattle.clean_forms.specs.Ways.{dual, line_form, line_forms, form_of_lines}
-use Rattle.clean_forms.proofs.Inserting.{total, MergesLightly, Fits}
+use Rattle.clean_forms.proofs.Inserting.{total, MergesLightly}
 use Rattle.clean_forms.proofs.Under.{FitsLine, Under, ends, goes, stays, under_plain, under_few}
 use Rattle.clean_forms.specs.Plain.{of_none}
 use Rattle.clean_forms.specs.Lines.{joined_lines}

@@ -1,10 +1,9 @@
 -- The clean form has the truth of the formula at a point where merging has the truth of joining.
-use Rattle.std.proofs.Common.{◌≡◌, ◌↔◌, ℕ, Bool, true, false, ◌⊎◌, inl, inr, ⊎_elim, Some, List, [], ◌∷◌}
+use Rattle.std.proofs.Common.{◌≡◌, ◌↔◌, ℕ, Bool, true, false, inl, ⊎_elim, Some, List, [], ◌∷◌}
 use Rattle.std.proofs.Math.IntN.{ℤ}
 use Rattle.formula_meaning.specs.Context.{Context}
 use Rattle.formula_meaning.specs.Formula.{Formula, Formulas, Yes, No, One, Not, And, Or, Impl, Repl, Equiv, Ex, All, none, also}
 use Rattle.formula_meaning.specs.Truth.{True}
-use Rattle.formula_meaning.specs.Some.{EachOf}
 use Rattle.formula_meaning.specs.Shape.{IsQuantifierFree, AreQuantifierFree}
 use Rattle.formula_meaning.specs.Fold.{Junction, Conjunction, Disjunction, joined, from_pieces}
 use Rattle.formula_meaning.proofs.Iff.{both_ways, turn_round}
@@ -12,7 +11,7 @@ use Rattle.atom_merging.specs.Merging.{Joined}
 use Rattle.simplified_formulas.specs.Atoms.{Kit}
 use Rattle.simplified_formulas.specs.Orderly.{IsOrderly, AreOrderly}
 use Rattle.simplified_formulas.specs.Pass.{ones}
-use Rattle.simplified_formulas.proofs.Joining.{Nothing, same, along_both, along_right, along_left, group, swap, nothing_more}
+use Rattle.simplified_formulas.proofs.Joining.{Nothing, same, along_both, along_right, along_left, group, nothing_more}
 use Rattle.clean_forms.specs.Ways.{dual, is_same, line_form, line_forms, form_of_lines}
 use Rattle.clean_forms.specs.Plain.{of_none}
 use Rattle.clean_forms.specs.Lines.{joined_lines, clean_lines, more_clean_lines, clean_form}
@@ -169,10 +168,10 @@ module _ {A P : Type 0} (says : A → P → Type 0) (move : P → ℕ → ℤ �
       more_true k ls (also f fs) s h q =
           both_ways (more_true k (joined_lines kit j (is_same j k) ls (clean_lines kit j f)) fs (joined_sound kit j Q w light (λ a. says a p) truly (is_same j k) ls (clean_lines kit j f) s (clean_sound f h.0)) h.1 q.1)
           (both_ways
-            (along_left k (T (joined k fs))
-              (both_ways (joined_true kit j Q w light (λ a. says a p) truly (is_same j k) ls (clean_lines kit j f) s (clean_sound f h.0))
-                (both_ways (together_is j k (M ls) (M (clean_lines kit j f)) (λ i. j)) (along_right k (M ls) (clean_true f h.0 q.0)))))
-            (both_ways (group k (M ls) (T f) (T (joined k fs))) (along_right k (M ls) (turn_round (also_true k f fs)))))
+          (along_left k (T (joined k fs))
+          (both_ways (joined_true kit j Q w light (λ a. says a p) truly (is_same j k) ls (clean_lines kit j f) s (clean_sound f h.0))
+          (both_ways (together_is j k (M ls) (M (clean_lines kit j f)) (λ i. j)) (along_right k (M ls) (clean_true f h.0 q.0)))))
+          (both_ways (group k (M ls) (T f) (T (joined k fs))) (along_right k (M ls) (turn_round (also_true k f fs)))))
 
     pub clean_form_true : (f : Formula A ℕ) → IsOrderly Q f → IsQuantifierFree f → T (clean_form kit j f) ↔ T f
     clean_form_true f h q = both_ways (form_true (clean_lines kit j f)) (clean_true f h q)

@@ -1,7 +1,7 @@
 -- The lists of two members together: laws of lists.
 use Rattle.std.proofs.Common.{◌≡◌, ℕ, Bool, true, false, List, [], ◌∷◌, ◌++◌, map, refl, sym, ap, ◌∙◌, append_assoc}
 use Rattle.std.specs.List.{flat_map}
-use Rattle.formula_meaning.specs.Formula.{Formula, Formulas, none, also}
+use Rattle.formula_meaning.specs.Formula.{Formulas, none, also}
 use Rattle.formula_meaning.specs.Fold.{Junction, append}
 use Rattle.clean_forms.specs.Plain.{products, together, of_none, all_distributed, distributed}
 

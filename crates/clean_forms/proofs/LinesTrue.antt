@@ -1,5 +1,5 @@
 -- The clean lists have the truth of the formula at a point where merging has the truth of joining.
-use Rattle.std.proofs.Common.{◌≡◌, ◌↔◌, ℕ, zero, suc, ◌+◌, Bool, true, false, refl, sym, ap, ◌∙◌, subst, ◌⊎◌, inl, inr, ⊎_elim, Option, None, Some, List, [], ◌∷◌, ◌++◌, length, arith}
+use Rattle.std.proofs.Common.{◌≡◌, ◌↔◌, ℕ, zero, suc, ◌+◌, Bool, true, false, refl, subst, inl, inr, ⊎_elim, Option, None, Some, List, [], ◌∷◌, ◌++◌, length, arith}
 use Rattle.std.specs.Prelude.{◌||◌, ◌&&◌, if◌then◌else◌}
 use Rattle.formula_meaning.specs.Some.{EachOf}
 use Rattle.formula_meaning.specs.Fold.{Junction, Conjunction, Disjunction}
@@ -12,7 +12,6 @@ use Rattle.clean_forms.specs.Ways.{dual}
 use Rattle.clean_forms.specs.Lines.{Met, Alone, Void, Meets, met, resolved, partner, insert, insert_into, insert_all, is_among, is_within, some_within, not_above, add, add_if, add_all, add_line_products, add_products, joined_lines}
 use Rattle.clean_forms.specs.Clean.{IsUnmerged}
 use Rattle.clean_forms.proofs.Inserting.{each_append, total, MergesLightly, Keeps, Fits, FitsIf, IsPartner, partner_is, all_fit}
-use Rattle.clean_forms.proofs.Absorbed.{each_stays}
 
 -- ---- laws of the two junctions
 
@@ -175,7 +174,7 @@ module _ {A : Type 0} (kit : Kit A) (j : Junction) (Q : A → Type 0) (w : A →
         split true f i =
             both_ways i
             (both_ways (along_right (dual j) (LinesSay ls) (both_ways (absorb j (LineSays vs) (LineSays us) (within_true vs us f)) (swap (dual j) (LineSays vs) (LineSays us))))
-              (both_ways (exchange (dual j) (LinesSay ls) (LineSays us) (LineSays vs)) (turn_round (group (dual j) (LineSays us) (LinesSay ls) (LineSays vs)))))
+            (both_ways (exchange (dual j) (LinesSay ls) (LineSays us) (LineSays vs)) (turn_round (group (dual j) (LineSays us) (LinesSay ls) (LineSays vs)))))
         split false f i =
             both_ways (group (dual j) (LineSays us) (LinesSay (not_above kit j ls vs)) (LineSays vs)) (both_ways (along_right (dual j) (LineSays us) i) (turn_round (group (dual j) (LineSays us) (LinesSay ls) (LineSays vs))))
 
@@ -208,8 +207,8 @@ module _ {A : Type 0} (kit : Kit A) (j : Junction) (Q : A → Type 0) (w : A →
     line_true ls us (vs ∷ ks) h k =
         both_ways (line_true (add_if kit j ls (insert_all kit j (Some us) vs)) us ks h k.1)
         (both_ways (along_left (dual j) (Joined j (LineSays us) (LinesSay ks)) (both_ways (add_if_true ls (insert_all kit j (Some us) vs)) (along_right (dual j) (LinesSay ls) (put_true us vs h k.0))))
-          (both_ways (group (dual j) (LinesSay ls) (Joined j (LineSays us) (LineSays vs)) (Joined j (LineSays us) (LinesSay ks)))
-            (along_right (dual j) (LinesSay ls) (turn_round (distribute j (LineSays us) (LineSays vs) (LinesSay ks))))))
+        (both_ways (group (dual j) (LinesSay ls) (Joined j (LineSays us) (LineSays vs)) (Joined j (LineSays us) (LinesSay ks)))
+        (along_right (dual j) (LinesSay ls) (turn_round (distribute j (LineSays us) (LineSays vs) (LinesSay ks))))))
 
     product_true : (ls hs ks : List (List A)) → AreSound hs → AreSound ks → LinesSay (add_products kit j ls hs ks) ↔ Joined (dual j) (LinesSay ls) (Joined j (LinesSay hs) (LinesSay ks))
     product_true ls [] ks h k = both_ways (nothing_right (dual j) (LinesSay ls)) (along_right (dual j) (LinesSay ls) (both_ways (void_product j (LinesSay ks)) (swap j (LinesSay ks) (Nothing (dual j)))))
@@ -217,10 +216,10 @@ module _ {A : Type 0} (kit : Kit A) (j : Junction) (Q : A → Type 0) (w : A →
         let X : Type 0 = LineSays us in
         both_ways (product_true (add_line_products kit j ls us ks) hs ks h.1 k)
         (both_ways (along_left (dual j) (Joined j (LinesSay hs) (LinesSay ks)) (line_true ls us ks h.0 k))
-          (both_ways (group (dual j) (LinesSay ls) (Joined j (LineSays us) (LinesSay ks)) (Joined j (LinesSay hs) (LinesSay ks)))
-            (along_right (dual j) (LinesSay ls)
-              (both_ways (along_both (dual j) (swap j (LineSays us) (LinesSay ks)) (swap j (LinesSay hs) (LinesSay ks)))
-                (both_ways (turn_round (distribute j (LinesSay ks) (LineSays us) (LinesSay hs))) (swap j (LinesSay ks) (Joined (dual j) (LineSays us) (LinesSay hs))))))))
+        (both_ways (group (dual j) (LinesSay ls) (Joined j (LineSays us) (LinesSay ks)) (Joined j (LinesSay hs) (LinesSay ks)))
+        (along_right (dual j) (LinesSay ls)
+        (both_ways (along_both (dual j) (swap j (LineSays us) (LinesSay ks)) (swap j (LinesSay hs) (LinesSay ks)))
+        (both_ways (turn_round (distribute j (LinesSay ks) (LineSays us) (LinesSay hs))) (swap j (LinesSay ks) (Joined (dual j) (LineSays us) (LinesSay hs))))))))
 
     -- ---- lists stay sound
 

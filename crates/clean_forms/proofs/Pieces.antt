@@ -1,5 +1,5 @@
 -- The clean lists of a formula against the lists of the formula with its constants folded, distributed.
-use Rattle.std.proofs.Common.{◌≡◌, ℕ, ◌≤◌, Bool, true, false, not, refl, sym, ap, ◌∙◌, subst, ◌⊎◌, Option, None, Some, List, [], ◌∷◌, ◌++◌, length, arith}
+use Rattle.std.proofs.Common.{◌≡◌, ℕ, ◌≤◌, Bool, true, false, not, refl, sym, ap, ◌∙◌, subst, Option, None, Some, List, [], ◌∷◌, ◌++◌, length, arith}
 use Rattle.std.specs.Prelude.{if◌then◌else◌, ◌||◌}
 use Rattle.formula_meaning.specs.Formula.{Formula, Formulas, none, also}
 use Rattle.formula_meaning.specs.Some.{EachOf}
@@ -8,7 +8,7 @@ use Rattle.formula_meaning.specs.Fold.{Junction, Conjunction, pieces_of, folded}
 use Rattle.simplified_formulas.specs.Atoms.{Kit}
 use Rattle.simplified_formulas.specs.Orderly.{IsOrderly}
 use Rattle.clean_forms.specs.Ways.{is_same}
-use Rattle.clean_forms.specs.Plain.{of_none, distributed, all_distributed}
+use Rattle.clean_forms.specs.Plain.{of_none, all_distributed}
 use Rattle.clean_forms.specs.Lines.{is_within, some_within, not_above, add, add_all, add_products, joined_lines, clean_lines, more_clean_lines}
 use Rattle.clean_forms.specs.Clean.{IsUnmerged}
 use Rattle.clean_forms.proofs.Inserting.{MergesLightly, Keeps}

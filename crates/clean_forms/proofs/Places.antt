@@ -1,5 +1,5 @@
 -- The counted lists and places are those of the distributed formula.
-use Rattle.std.proofs.Common.{◌≡◌, ℕ, ◌+◌, ◌*◌, Bool, true, false, refl, sym, ap, ◌∙◌, List, [], ◌∷◌, ◌++◌, map, length, arith, length-append}
+use Rattle.std.proofs.Common.{◌≡◌, ℕ, ◌+◌, ◌*◌, Bool, true, false, refl, ap, ◌∙◌, List, [], ◌∷◌, ◌++◌, map, length, arith, length-append}
 use Rattle.std.proofs.lemmas.List.{length-map}
 use Rattle.formula_meaning.specs.Formula.{Formula, Formulas, Yes, No, One, Not, And, Or, Impl, Repl, Equiv, Ex, All, none, also}
 use Rattle.formula_meaning.specs.Fold.{Junction, Conjunction, Disjunction}
@@ -59,7 +59,7 @@ module _ {A : Type 0} where
   counts_both b m s n t ls ks h k = record {
     count = together_count b ls ks ∙ ap (λ x. count_together b x (length ks)) h.count ∙ ap (λ x. count_together b m x) k.count;
     placed = together_places b ls ks ∙ ap (λ x. places_together b x (places ls) (length ks) (places ks)) h.count ∙ ap (λ x. places_together b m x (length ks) (places ks)) h.placed
-      ∙ ap (λ x. places_together b m s x (places ks)) k.count ∙ ap (λ x. places_together b m s n x) k.placed;
+        ∙ ap (λ x. places_together b m s x (places ks)) k.count ∙ ap (λ x. places_together b m s n x) k.placed;
   }
 
   mutual

@@ -1,5 +1,5 @@
 -- What a formula makes step by step, against the lists of the formula with its constants folded, distributed.
-use Rattle.std.proofs.Common.{◌≡◌, ℕ, ◌+◌, ◌≤◌, Bool, true, false, not, refl, sym, ap, ◌∙◌, subst, ◌⊎◌, inl, inr, Option, None, Some, List, [], ◌∷◌, ◌++◌, map, length, arith, length-append}
+use Rattle.std.proofs.Common.{◌≡◌, ℕ, ◌≤◌, Bool, true, false, not, refl, sym, ap, ◌∙◌, subst, ◌⊎◌, inl, inr, Option, None, Some, List, [], ◌∷◌, ◌++◌, map, length, arith, length-append}
 use Rattle.std.proofs.lemmas.List.{length-map}
 use Rattle.formula_meaning.specs.Formula.{Formula, Formulas, Yes, No, One, Not, And, Or, Impl, Repl, Equiv, Ex, All, none, also}
 use Rattle.formula_meaning.specs.Some.{EachOf}
@@ -185,11 +185,11 @@ module _ {A X : Type 0} (j : Junction) (Q : A → Type 0) (Rel : List (List A) �
       shown (And fs) h q k = whole_pieces Conjunction (all_pieces Conjunction (all_folded fs)) (value (And fs))
           (subst (λ x. Shows (is_same j Conjunction) (all_pieces Conjunction (all_folded fs)) x) (sym (laws.conjunction fs))
           (subst (λ o. Shows (is_same j Conjunction) o (more (is_same j Conjunction) (nothing (is_same j Conjunction)) fs)) (put_first (all_pieces Conjunction (all_folded fs)))
-            (more_shown Conjunction (Some none) (nothing (is_same j Conjunction)) fs refl h.1 q))) k
+          (more_shown Conjunction (Some none) (nothing (is_same j Conjunction)) fs refl h.1 q))) k
       shown (Or fs) h q k = whole_pieces Disjunction (all_pieces Disjunction (all_folded fs)) (value (Or fs))
           (subst (λ x. Shows (is_same j Disjunction) (all_pieces Disjunction (all_folded fs)) x) (sym (laws.disjunction fs))
           (subst (λ o. Shows (is_same j Disjunction) o (more (is_same j Disjunction) (nothing (is_same j Disjunction)) fs)) (put_first (all_pieces Disjunction (all_folded fs)))
-            (more_shown Disjunction (Some none) (nothing (is_same j Disjunction)) fs refl h.1 q))) k
+          (more_shown Disjunction (Some none) (nothing (is_same j Disjunction)) fs refl h.1 q))) k
       shown (Impl f g) h q k = absurd h
       shown (Repl f g) h q k = absurd h
       shown (Equiv f g) h q k = absurd h
@@ -202,8 +202,8 @@ module _ {A X : Type 0} (j : Junction) (Q : A → Type 0) (Rel : List (List A) �
       more_shown k o x (also f fs) s h q =
           subst (λ t. Shows (is_same j k) (put_together o (put_together (pieces_of k (folded f)) (all_pieces k (all_folded fs)))) t) (sym (laws.one_more (is_same j k) x f fs))
           (subst (λ u. Shows (is_same j k) u (more (is_same j k) (join (is_same j k) x (value f)) fs)) (put_assoc o (pieces_of k (folded f)) (all_pieces k (all_folded fs)))
-            (more_shown k (put_together o (pieces_of k (folded f))) (join (is_same j k) x (value f)) fs
-              (step (is_same j k) o (pieces_of k (folded f)) x (value f) s (shown f h.0 q.0 k)) h.1 q.1))
+          (more_shown k (put_together o (pieces_of k (folded f))) (join (is_same j k) x (value f)) fs
+          (step (is_same j k) o (pieces_of k (folded f)) x (value f) s (shown f h.0 q.0 k)) h.1 q.1))
 
   -- the value of a constant, with the lists of the constant
   pub record Closes (ps : List (List A)) (x : X) : Type 0 where

@@ -1,17 +1,14 @@
 -- The laws of clean forms for resolved formulas.
-use Rattle.std.proofs.Common.{◌≡◌, ℕ, ◌+◌, ◌≤◌, Bool, true, false, nat_eq, refl, sym, ap, ◌∙◌, subst, ◌⊎◌, ⊎_elim, List, [], ◌∷◌, length, arith}
+use Rattle.std.proofs.Common.{◌≡◌, ℕ, ◌≤◌, Bool, true, false, nat_eq, refl, sym, ap, ◌∙◌, subst, ⊎_elim, List, [], ◌∷◌, length, arith}
 use Rattle.formula_meaning.specs.Context.{Context}
 use Rattle.formula_meaning.specs.Point.{Point, Of, move}
 use Rattle.formula_meaning.specs.Some.{EachOf}
-use Rattle.formula_meaning.specs.Every.{Every}
 use Rattle.formula_meaning.specs.Atom.{Atom, Says, Mentions}
-use Rattle.formula_meaning.specs.Fold.{Junction, Conjunction, pieces_of, folded}
-use Rattle.formula_meaning.specs.Sizes.{nodes}
+use Rattle.formula_meaning.specs.Fold.{Junction, folded}
 use Rattle.formula_meaning.specs.Tree.{Tree, IsFree}
 use Rattle.formula_meaning.proofs.Same.{atom_alike}
 use Rattle.atom_merging.specs.Merging.{IsKept}
 use Rattle.atom_merging.specs.Computed.{IsNormalWithin}
-use Rattle.redlog_printer.specs.Text.{tree_text}
 use Rattle.redlog_printer.specs.Within.{IsAtomWithin}
 use Rattle.simplified_formulas.specs.Orderly.{IsOrderly}
 use Rattle.simplified_formulas.specs.AtomKit.{atom_kit}
@@ -21,7 +18,7 @@ use Rattle.simplified_formulas.proofs.AtomLaws.{merges_within, kept_so, truthful
 use Rattle.simplified_formulas.proofs.Nodes.{nodes_size}
 use Rattle.simplified_texts.specs.Texts.{text_measure}
 use Rattle.simplified_texts.proofs.Measured.{text_is}
-use Rattle.clean_forms.specs.Ways.{is_same, form_of_lines}
+use Rattle.clean_forms.specs.Ways.{form_of_lines}
 use Rattle.clean_forms.specs.Plain.{of_none, distributed, plain_form}
 use Rattle.clean_forms.specs.Lines.{clean_lines}
 use Rattle.clean_forms.specs.Clean.{IsUnmerged}
@@ -101,7 +98,7 @@ module _ (c : Context) (j : Junction) where
     bounds f h k =
         ⊎_elim (constant_case f (lines_sound (atom_kit c) j Q m.atom light f k h.free).0) (open_case f)
         (told j Q (Under (atom_kit c) j Q m.atom light) (joined_lines (atom_kit c) j) of_none (clean_lines (atom_kit c) j) (more_clean_lines (atom_kit c) j) (folded f) (clean_lines (atom_kit c) j f)
-          (lines_shown (atom_kit c) j Q m.atom light f k h.free))
+        (lines_shown (atom_kit c) j Q m.atom light f k h.free))
       where
         constant_case : (g : Tree) → EachOf (EachOf Q) (clean_lines (atom_kit c) j g)
             → Closes j Q (Under (atom_kit c) j Q m.atom light) (joined_lines (atom_kit c) j) of_none (clean_lines (atom_kit c) j) (more_clean_lines (atom_kit c) j) (distributed j (folded g)) (clean_lines (atom_kit c) j g) → Bounds g

@@ -1,7 +1,6 @@
 -- The clean lists against the plain lists: each comes of one of these, in their order, with no more atoms and no more weight.
-use Rattle.std.proofs.Common.{◌≡◌, ℕ, zero, suc, ◌+◌, ◌≤◌, Bool, true, false, refl, sym, subst, Option, None, Some, List, [], ◌∷◌, ◌++◌, map, length, arith, length-append, append_assoc}
+use Rattle.std.proofs.Common.{◌≡◌, ℕ, zero, suc, ◌+◌, ◌≤◌, Bool, true, false, sym, subst, Option, None, Some, List, [], ◌∷◌, ◌++◌, map, length, arith, length-append, append_assoc}
 use Rattle.std.specs.Prelude.{if◌then◌else◌}
-use Rattle.std.specs.List.{flat_map}
 use Rattle.formula_meaning.specs.Some.{EachOf}
 use Rattle.formula_meaning.specs.Fold.{Junction}
 use Rattle.simplified_formulas.specs.Atoms.{Kit}
@@ -81,7 +80,7 @@ module _ {A : Type 0} (kit : Kit A) (j : Junction) (Q : A → Type 0) (w : A →
   line_added ps cs p c _ _ x f (stays q d {ps = qs} {cs = ds} y g v) u =
       subst (λ t. Under t (add_line_products kit j (add_if kit j cs (insert_all kit j (Some c) d)) c ds)) (append_assoc ps ((p ++ q) ∷ []) (map (λ vs. p ++ vs) qs))
       (line_added (ps ++ (p ++ q) ∷ []) (add_if kit j cs (insert_all kit j (Some c) d)) p c qs ds x f v
-        (added_if (p ++ q) (insert_all kit j (Some c) d) ps cs (each_append Q p q x y) (put_in p c q d f g) u))
+      (added_if (p ++ q) (insert_all kit j (Some c) d) ps cs (each_append Q p q x y) (put_in p c q d f g) u))
 
   skip_all : (p : List A) (ps cs qs ds : List (List A)) → EachOf Q p → Under qs ds → Under ps cs → Under (ps ++ map (λ vs. p ++ vs) qs) cs
   skip_all p ps cs _ _ x ends u = subst (λ t. Under t cs) (sym (append_none ps)) u

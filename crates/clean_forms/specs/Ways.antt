@@ -1,6 +1,6 @@
 -- The two normal forms. A list of lists of atoms stands for a formula: the atoms of an inner list are joined by one junction,
 -- the inner lists by its dual. With inner lists that are conjunctions it is a disjunctive form, else a conjunctive form.
-use Rattle.std.specs.Prelude.{ℕ, Bool, true, false, List, [], ◌∷◌, Some, map}
+use Rattle.std.specs.Prelude.{ℕ, Bool, true, false, List, [], ◌∷◌, Some}
 use Rattle.formula_meaning.specs.Formula.{Formula, Formulas, none, also}
 use Rattle.formula_meaning.specs.Fold.{Junction, Conjunction, Disjunction, from_pieces}
 use Rattle.simplified_formulas.specs.Pass.{ones}

@@ -1,6 +1,5 @@
 -- Lists of atoms stay as formulas are added to the store.
-use Rattle.std.proofs.Common.{◌≡◌, ℕ, List, [], ◌∷◌, Option, None, Some, refl, sym, ap, ap₂, ◌∙◌, subst}
-use Rattle.std.specs.List.{AllByRecursion}
+use Rattle.std.proofs.Common.{◌≡◌, List, [], ◌∷◌, refl, sym, ap, ◌∙◌, subst}
 use Rattle.formula_meaning.specs.Context.{Context}
 use Rattle.formula_meaning.specs.Formula.{One}
 use Rattle.formula_meaning.specs.Atom.{Atom}
@@ -9,7 +8,7 @@ use Rattle.formula_tree.specs.declared.shape.Shape.{Shape}
 use Rattle.formula_tree.specs.Makers.{IsMade, Keeps}
 use Rattle.formula_store.specs.declared.id.FormulaId.{FormulaId}
 use Rattle.formula_store.specs.Nodes.{tree, IsId}
-use Rattle.normal_forms.specs.Atoms.{atom_in, atom_at, IsAtomId, AreAtomIds, atoms, AreLineIds, lines, IsLine, IsLineIf, AreLines}
+use Rattle.normal_forms.specs.Atoms.{atom_in, atom_at, IsAtomId, AreAtomIds, atoms, AreLineIds, lines, IsLine, AreLines}
 
 module _ (a b c : List (Shape FormulaId)) where
   pub keeps_then : Keeps (IsId a) (tree a) (IsId b) (tree b) → Keeps (IsId b) (tree b) (IsId c) (tree c) → Keeps (IsId a) (tree a) (IsId c) (tree c)

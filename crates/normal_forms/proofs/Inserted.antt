@@ -1,5 +1,5 @@
 -- An atom put into an inner list, step by step.
-use Rattle.std.proofs.Common.{◌≡◌, ℕ, zero, suc, ◌+◌, ◌<◌, Option, None, Some, List, [], ◌∷◌, ◌++◌, map, length, take, drop, get_or, refl, sym, ap, ◌∙◌, subst, add-one, arith}
+use Rattle.std.proofs.Common.{◌≡◌, ℕ, zero, suc, ◌+◌, ◌<◌, Option, None, Some, List, [], ◌∷◌, ◌++◌, length, take, drop, get_or, refl, sym, ap, ◌∙◌, subst, arith}
 use Rattle.std.specs.Prelude.{remove}
 use Rattle.std.specs.List.{AllByRecursion}
 use Rattle.std.proofs.lemmas.List.{length-map, map-append, take_more}
@@ -16,10 +16,10 @@ use Rattle.formula_store.specs.Nodes.{tree, IsId}
 use Rattle.formula_store.proofs.Marked.{all_joined, all_at}
 use Rattle.simplified_formulas.specs.Atoms.{Kit}
 use Rattle.simplified_formulas.specs.AtomKit.{atom_kit}
-use Rattle.clean_forms.specs.Lines.{Met, Alone, Void, Meets, resolved, partner, insert, insert_into, insert_all}
+use Rattle.clean_forms.specs.Lines.{Alone, Void, Meets, resolved, partner, insert, insert_into, insert_all}
 use Rattle.clean_forms.proofs.Inserting.{IsPartner, partner_is}
 use Rattle.clean_forms.proofs.TreeLaws.{normal_lightly}
-use Rattle.normal_forms.specs.Atoms.{atom_at, IsAtomId, AreAtomIds, atoms, IsLine, IsLineIf}
+use Rattle.normal_forms.specs.Atoms.{atom_at, IsAtomId, AreAtomIds, atoms, IsLineIf}
 use Rattle.normal_forms.proofs.Grown.{made_atom, made_is, atom_stays, ids_stay, atoms_stay, keeps_then}
 
 -- ---- lists of atoms
@@ -83,9 +83,9 @@ module _ (c : Context) (j : Junction) where
     puts_merged new i made d l e k m =
         let left = all_removed (IsAtomId c nodes) line i l h.line_is in
         let becomes = subst (IsPartner (atom_kit c) j (IsNormalWithin c) (λ a. 1) (normal_lightly c j) (atom_at nodes atom) (atoms nodes line)) e
-            (partner_is (atom_kit c) j (IsNormalWithin c) (λ a. 1) (normal_lightly c j) (atom_at nodes atom) (atoms nodes line) h.atom_is.normal (each_normal nodes line h.line_is)) in
+        (partner_is (atom_kit c) j (IsNormalWithin c) (λ a. 1) (normal_lightly c j) (atom_at nodes atom) (atoms nodes line) h.atom_is.normal (each_normal nodes line h.line_is)) in
         let longer : length (atoms nodes line) ≡ suc (length (atoms nodes (remove line i))) =
-            length-map line (atom_at nodes) ∙ removed line i l ∙ ap suc (sym (length-map (remove line i) (atom_at nodes))) in
+        length-map line (atom_at nodes) ∙ removed line i l ∙ ap suc (sym (length-map (remove line i) (atom_at nodes))) in
         record {
           kept = keeps_then old nodes new h.kept k;
           line_is = ids_stay c nodes new k (remove line i) left;
@@ -121,17 +121,17 @@ module _ (c : Context) (j : Junction) where
       → IsLineIf c new (insert_all (atom_kit c) j o (atoms old (take (i + 1) others))) r
   all_step old nodes new o others i d longer l h k s r t =
       let one_more : atoms old (take (i + 1) others) ≡ atoms old (take i others) ++ atom_at old (get_or others i d) ∷ [] =
-          ap (atoms old) (take_more others i d l) ∙ map-append (atom_at old) (take i others) (get_or others i d ∷ []) in
+      ap (atoms old) (take_more others i d l) ∙ map-append (atom_at old) (take i others) (get_or others i d ∷ []) in
       let e : insert_all (atom_kit c) j o (atoms old (take (i + 1) others)) ≡ insert_into (atom_kit c) j (atom_at nodes (get_or others i d)) (Some (atoms nodes longer)) =
-          ap (insert_all (atom_kit c) j o) one_more ∙ all_then (atom_kit c) j o (atoms old (take i others)) (atom_at old (get_or others i d) ∷ [])
-          ∙ ap (insert_into (atom_kit c) j (atom_at old (get_or others i d))) (some_of nodes (insert_all (atom_kit c) j o (atoms old (take i others))) longer s)
-          ∙ ap (λ a. insert_into (atom_kit c) j a (Some (atoms nodes longer))) (sym (atom_stays c old nodes k (get_or others i d) (all_at (IsAtomId c old) others i d l h))) in
+      ap (insert_all (atom_kit c) j o) one_more ∙ all_then (atom_kit c) j o (atoms old (take i others)) (atom_at old (get_or others i d) ∷ [])
+      ∙ ap (insert_into (atom_kit c) j (atom_at old (get_or others i d))) (some_of nodes (insert_all (atom_kit c) j o (atoms old (take i others))) longer s)
+      ∙ ap (λ a. insert_into (atom_kit c) j a (Some (atoms nodes longer))) (sym (atom_stays c old nodes k (get_or others i d) (all_at (IsAtomId c old) others i d l h))) in
       subst (λ p. IsLineIf c new p r) (sym e) t
 
   pub all_void : (old new : List (Shape FormulaId)) (o : Option (List Atom)) (others : List FormulaId) (i : ℕ) → IsLineIf c new (insert_all (atom_kit c) j o (atoms old (take i others))) None → IsLineIf c new (insert_all (atom_kit c) j o (atoms old others)) None
   all_void old new o others i h =
       let whole : atoms old others ≡ atoms old (take i others) ++ atoms old (drop i others) = ap (atoms old) (sym (take_drop i others)) ∙ map-append (atom_at old) (take i others) (drop i others) in
       let e : insert_all (atom_kit c) j o (atoms old others) ≡ None =
-          ap (insert_all (atom_kit c) j o) whole ∙ all_then (atom_kit c) j o (atoms old (take i others)) (atoms old (drop i others))
-          ∙ ap (λ p. insert_all (atom_kit c) j p (atoms old (drop i others))) (none_of new (insert_all (atom_kit c) j o (atoms old (take i others))) h) ∙ all_none (atom_kit c) j (atoms old (drop i others)) in
+      ap (insert_all (atom_kit c) j o) whole ∙ all_then (atom_kit c) j o (atoms old (take i others)) (atoms old (drop i others))
+      ∙ ap (λ p. insert_all (atom_kit c) j p (atoms old (drop i others))) (none_of new (insert_all (atom_kit c) j o (atoms old (take i others))) h) ∙ all_none (atom_kit c) j (atoms old (drop i others)) in
       subst (λ p. IsLineIf c new p None) (sym e) tt

@@ -1,5 +1,5 @@
 -- Lists of ids are added as the lists of their atoms are.
-use Rattle.std.proofs.Common.{◌≡◌, ℕ, zero, suc, ◌+◌, ◌<◌, nat_eq, eqb-true, eq-eqb, Bool, true, false, Option, None, Some, Result, Ok, Err, OnOk, List, [], ◌∷◌, ◌++◌, map, length, take, get_or, refl, sym, ap, ◌∙◌, subst, add-one, arith}
+use Rattle.std.proofs.Common.{◌≡◌, ℕ, zero, suc, ◌+◌, ◌<◌, eqb-true, eq-eqb, Bool, true, false, Option, None, Some, Result, Ok, Err, OnOk, List, [], ◌∷◌, ◌++◌, length, take, get_or, refl, sym, ap, ◌∙◌, subst, arith}
 use Rattle.std.specs.Prelude.{◌||◌, ◌&&◌, if◌then◌else◌}
 use Rattle.std.specs.List.{AllByRecursion}
 use Rattle.std.proofs.lemmas.List.{map-append, take_more}
@@ -19,8 +19,8 @@ use Rattle.simplified_formulas.specs.Atoms.{Kit}
 use Rattle.simplified_formulas.specs.AtomKit.{atom_kit}
 use Rattle.clean_forms.specs.Lines as clean
 use Rattle.clean_forms.specs.Lines.{insert_all, add_if, add_line_products, add_products, joined_lines}
-use Rattle.normal_forms.specs.Atoms.{atom_at, IsAtomId, AreAtomIds, atoms, AreLineIds, lines, IsLine, IsLineIf, AreLines, same_id, id_kit, is_within, some_within, not_above, add, add_all}
-use Rattle.normal_forms.proofs.Grown.{ids_stay, atoms_stay, line_ids_stay, lines_stay, keeps_then}
+use Rattle.normal_forms.specs.Atoms.{atom_at, IsAtomId, AreAtomIds, atoms, AreLineIds, lines, IsLineIf, AreLines, same_id, id_kit, is_within, some_within, not_above, add, add_all}
+use Rattle.normal_forms.proofs.Grown.{atoms_stay, line_ids_stay, lines_stay}
 use Rattle.normal_forms.proofs.Inserted.{some_of, none_of}
 
 module _ (c : Context) (j : Junction) (nodes : List (Shape FormulaId)) (are : AreNodes nodes) where
@@ -132,12 +132,12 @@ module _ (c : Context) (j : Junction) (old nodes new : List (Shape FormulaId)) (
       → AreLines c new (add_line_products (atom_kit c) j start (atoms old line) (lines old (take (i + 1) items))) ls2
   line_step start line items i d ls ls2 l h g s t =
       let one_more : lines old (take (i + 1) items) ≡ lines old (take i items) ++ atoms old (get_or items i d) ∷ [] =
-          ap (lines old) (take_more items i d l) ∙ map-append (atoms old) (take i items) (get_or items i d ∷ []) in
+      ap (lines old) (take_more items i d l) ∙ map-append (atoms old) (take i items) (get_or items i d ∷ []) in
       let e : add_line_products (atom_kit c) j start (atoms old line) (lines old (take (i + 1) items)) ≡ add_if (atom_kit c) j (lines nodes ls) (insert_all (atom_kit c) j (Some (atoms nodes line)) (atoms nodes (get_or items i d))) =
-          ap (add_line_products (atom_kit c) j start (atoms old line)) one_more ∙ line_then (atom_kit c) j start (atoms old line) (lines old (take i items)) (atoms old (get_or items i d) ∷ [])
-          ∙ ap (λ ks. add_if (atom_kit c) j ks (insert_all (atom_kit c) j (Some (atoms old line)) (atoms old (get_or items i d)))) (sym s.same)
-          ∙ ap (λ us. add_if (atom_kit c) j (lines nodes ls) (insert_all (atom_kit c) j (Some us) (atoms old (get_or items i d)))) (sym (atoms_stay c old nodes k line h))
-          ∙ ap (λ us. add_if (atom_kit c) j (lines nodes ls) (insert_all (atom_kit c) j (Some (atoms nodes line)) us)) (sym (atoms_stay c old nodes k (get_or items i d) (all_get (AreAtomIds c old) items i d l g))) in
+      ap (add_line_products (atom_kit c) j start (atoms old line)) one_more ∙ line_then (atom_kit c) j start (atoms old line) (lines old (take i items)) (atoms old (get_or items i d) ∷ [])
+      ∙ ap (λ ks. add_if (atom_kit c) j ks (insert_all (atom_kit c) j (Some (atoms old line)) (atoms old (get_or items i d)))) (sym s.same)
+      ∙ ap (λ us. add_if (atom_kit c) j (lines nodes ls) (insert_all (atom_kit c) j (Some us) (atoms old (get_or items i d)))) (sym (atoms_stay c old nodes k line h))
+      ∙ ap (λ us. add_if (atom_kit c) j (lines nodes ls) (insert_all (atom_kit c) j (Some (atoms nodes line)) us)) (sym (atoms_stay c old nodes k (get_or items i d) (all_get (AreAtomIds c old) items i d l g))) in
       subst (λ ks. AreLines c new ks ls2) (sym e) t
 
   pub products_step : (firsts others : List (List FormulaId)) (i : ℕ) (d : List FormulaId) (ls ls2 : List (List FormulaId)) → i < length firsts → AreLineIds c old firsts → AreLineIds c old others
@@ -146,10 +146,10 @@ module _ (c : Context) (j : Junction) (old nodes new : List (Shape FormulaId)) (
       → AreLines c new (add_products (atom_kit c) j [] (lines old (take (i + 1) firsts)) (lines old others)) ls2
   products_step firsts others i d ls ls2 l h g s t =
       let one_more : lines old (take (i + 1) firsts) ≡ lines old (take i firsts) ++ atoms old (get_or firsts i d) ∷ [] =
-          ap (lines old) (take_more firsts i d l) ∙ map-append (atoms old) (take i firsts) (get_or firsts i d ∷ []) in
+      ap (lines old) (take_more firsts i d l) ∙ map-append (atoms old) (take i firsts) (get_or firsts i d ∷ []) in
       let e : add_products (atom_kit c) j [] (lines old (take (i + 1) firsts)) (lines old others) ≡ add_line_products (atom_kit c) j (lines nodes ls) (atoms nodes (get_or firsts i d)) (lines nodes others) =
-          ap (λ ks. add_products (atom_kit c) j [] ks (lines old others)) one_more ∙ products_then (atom_kit c) j [] (lines old (take i firsts)) (atoms old (get_or firsts i d) ∷ []) (lines old others)
-          ∙ ap (λ ks. add_line_products (atom_kit c) j ks (atoms old (get_or firsts i d)) (lines old others)) (sym s.same)
-          ∙ ap (λ us. add_line_products (atom_kit c) j (lines nodes ls) us (lines old others)) (sym (atoms_stay c old nodes k (get_or firsts i d) (all_get (AreAtomIds c old) firsts i d l h)))
-          ∙ ap (λ ks. add_line_products (atom_kit c) j (lines nodes ls) (atoms nodes (get_or firsts i d)) ks) (sym (lines_stay c old nodes k others g)) in
+      ap (λ ks. add_products (atom_kit c) j [] ks (lines old others)) one_more ∙ products_then (atom_kit c) j [] (lines old (take i firsts)) (atoms old (get_or firsts i d) ∷ []) (lines old others)
+      ∙ ap (λ ks. add_line_products (atom_kit c) j ks (atoms old (get_or firsts i d)) (lines old others)) (sym s.same)
+      ∙ ap (λ us. add_line_products (atom_kit c) j (lines nodes ls) us (lines old others)) (sym (atoms_stay c old nodes k (get_or firsts i d) (all_get (AreAtomIds c old) firsts i d l h)))
+      ∙ ap (λ ks. add_line_products (atom_kit c) j (lines nodes ls) (atoms nodes (get_or firsts i d)) ks) (sym (lines_stay c old nodes k others g)) in
       subst (λ ks. AreLines c new ks ls2) (sym e) t

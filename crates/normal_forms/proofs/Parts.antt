@@ -97,10 +97,10 @@ pub member_step : (c : Context) (j : Junction) (b : Bool) (old nodes mid new : L
     → AreLines c new (more_clean_lines (atom_kit c) j b (of_none b) (members (map (tree old) (take (i + 1) ids)))) all
 member_step c j b old nodes mid new ids i d ls more all l k is m s t u =
     let one_more : map (tree old) (take (i + 1) ids) ≡ map (tree old) (take i ids) ++ tree old (get_or ids i d) ∷ [] =
-        ap (map (tree old)) (take_more ids i d l) ∙ map-append (tree old) (take i ids) (get_or ids i d ∷ []) in
+    ap (map (tree old)) (take_more ids i d l) ∙ map-append (tree old) (take i ids) (get_or ids i d ∷ []) in
     let e : more_clean_lines (atom_kit c) j b (of_none b) (members (map (tree old) (take (i + 1) ids))) ≡ joined_lines (atom_kit c) j b (lines mid ls) (lines mid more) =
-        ap (λ fs. more_clean_lines (atom_kit c) j b (of_none b) (members fs)) one_more ∙ members_then c j b (of_none b) (map (tree old) (take i ids)) (tree old (get_or ids i d))
-        ∙ ap (λ f. joined_lines (atom_kit c) j b (more_clean_lines (atom_kit c) j b (of_none b) (members (map (tree old) (take i ids)))) (clean_lines (atom_kit c) j f)) (sym (k.same (get_or ids i d) is))
-        ∙ ap (λ hs. joined_lines (atom_kit c) j b hs (clean_lines (atom_kit c) j (tree nodes (get_or ids i d)))) (sym s.same ∙ sym (lines_stay c nodes mid m ls s.are))
-        ∙ ap (λ hs. joined_lines (atom_kit c) j b (lines mid ls) hs) (sym t.same) in
+    ap (λ fs. more_clean_lines (atom_kit c) j b (of_none b) (members fs)) one_more ∙ members_then c j b (of_none b) (map (tree old) (take i ids)) (tree old (get_or ids i d))
+    ∙ ap (λ f. joined_lines (atom_kit c) j b (more_clean_lines (atom_kit c) j b (of_none b) (members (map (tree old) (take i ids)))) (clean_lines (atom_kit c) j f)) (sym (k.same (get_or ids i d) is))
+    ∙ ap (λ hs. joined_lines (atom_kit c) j b hs (clean_lines (atom_kit c) j (tree nodes (get_or ids i d)))) (sym s.same ∙ sym (lines_stay c nodes mid m ls s.are))
+    ∙ ap (λ hs. joined_lines (atom_kit c) j b (lines mid ls) hs) (sym t.same) in
     subst (λ hs. AreLines c new hs all) (sym e) u

@@ -1,18 +1,16 @@
 -- Lists of atoms of a store, by the ids of the atoms.
-use Rattle.std.specs.Prelude.{◌≡◌, ℕ, pos, nat_eq, Bool, false, Option, Some, None, List, [], ◌∷◌, map}
+use Rattle.std.specs.Prelude.{◌≡◌, pos, nat_eq, Bool, false, Option, Some, None, List, [], map}
 use Rattle.std.specs.List.{AllByRecursion}
 use Rattle.formula_meaning.specs.Context.{Context}
 use Rattle.formula_meaning.specs.Formula.{One}
 use Rattle.formula_meaning.specs.Atom.{Atom, Compare, Equals}
 use Rattle.formula_meaning.specs.Fold.{Conjunction}
 use Rattle.formula_meaning.specs.Tree.{Tree}
-use Rattle.atom_normal.specs.Atoms.{atom_of, IsWellFormed}
 use Rattle.atom_merging.specs.Computed.{Kept, IsNormalWithin}
 use Rattle.formula_tree.specs.declared.shape.Shape.{Shape}
 use Rattle.formula_store.specs.declared.id.FormulaId.{FormulaId}
 use Rattle.formula_store.specs.Nodes.{tree, IsId}
 use Rattle.simplified_formulas.specs.Atoms.{Kit}
-use Rattle.simplified_formulas.specs.AtomKit.{atom_kit}
 use Rattle.clean_forms.specs.Lines as clean
 
 -- the atom, where the formula is one

@@ -64,11 +64,7 @@ fn part_of(
 }
 
 // The members of a list. Its only error is `Memory`.
-fn members(
-    alloc: Global,
-    each_with_each: bool,
-    ids: &Ids<FormulaId>,
-) -> Result<Part, FormError>
+fn members(alloc: Global, each_with_each: bool, ids: &Ids<FormulaId>) -> Result<Part, FormError>
     ensures members { IfOk result (λ part. part ≡ Part.Members each_with_each ids.now) }
     ensures memory { IfErr result (λ e. e ≡ FormError.Memory) }
 {
@@ -124,7 +120,16 @@ pub(crate) fn formula_lines(
         Part::Constant(bare) => constant_lines(alloc, bare),
         Part::Atom => atom_lines(alloc, id),
         Part::Members(each_with_each, ids) => {
-            member_lines(alloc, store, context, form, id, each_with_each, ids.items(), table)
+            member_lines(
+                alloc,
+                store,
+                context,
+                form,
+                id,
+                each_with_each,
+                ids.items(),
+                table,
+            )
         }
     }
 }

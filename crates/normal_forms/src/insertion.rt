@@ -25,9 +25,7 @@ fn put(store: &mut Store, atom: Atom) -> Result<FormulaId, FormError>
     ensures kept { Keeps (IsId store.old) (tree store.old) (IsId store.new) (tree store.new) }
     ensures memory { IfErr result (λ e. e ≡ FormError.Memory) }
 {
-    store
-        .make(Shape::One(atom))
-        .map_err(|_| FormError::Memory)
+    store.make(Shape::One(atom)).map_err(|_| FormError::Memory)
 }
 
 /// An inner list with an atom more, or nothing where the list is settled. An atom that merges with one of the list is taken

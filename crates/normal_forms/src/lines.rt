@@ -84,7 +84,15 @@ fn products(
 {
     let mut lines = Vec::new(alloc);
     for line in firsts {
-        add_line_products(alloc, store, context, form, &mut lines, line.items(), others)?;
+        add_line_products(
+            alloc,
+            store,
+            context,
+            form,
+            &mut lines,
+            line.items(),
+            others,
+        )?;
     }
     Ok(lines)
 }

@@ -1,4 +1,4 @@
-use Rattle.std.proofs.Common.{rules, ◌≡◌, ◌∙◌, filter, not}
+use Rattle.std.proofs.Common.{rules, ◌∙◌, not}
 use Rattle.std.proofs.lemmas.Fn.{filter_same}
 use Rattle.normal_forms.specs.Atoms.{is_within}
 use Rattle.normal_forms.proofs.Absorbing.{above_is}

@@ -8,7 +8,7 @@ returns-then-not-contains c =
     let r : c.contains.result ≡ false = search rules in
     let d : FormulaId = record { number = 0 } in
     sym (within_not c.args.atoms.now c.args.others.now c.loop-atom.atom-index d c.loop-atom-test.true
-      (here_among c.args.others.now (get_or c.args.atoms.now c.loop-atom.atom-index d) false (sym r ∙ c.contains.ensures.value)))
+    (here_among c.args.others.now (get_or c.args.atoms.now c.loop-atom.atom-index d) false (sym r ∙ c.contains.ensures.value)))
 
 pub loop-atom-preserved : goal.loop-atom-preserved
 loop-atom-preserved c =

@@ -1,4 +1,4 @@
-use Rattle.std.proofs.Common.{◌≡◌, ◌<◌, ◌∙◌, sym, subst, get_or, arith, List}
+use Rattle.std.proofs.Common.{◌<◌, sym, subst, get_or, arith}
 use Rattle.atom_normal.specs.Atoms.{context_of}
 use Rattle.formula_store.specs.declared.id.FormulaId.{FormulaId}
 use Rattle.formula_store.specs.Nodes.{tree, IsId}
@@ -18,8 +18,7 @@ member_lines-formula_lines-requires t c =
     let above = c.requires.above in
     let old : IsId c.args.store.now id = omega arith in
     let here = all_at (λ (m : FormulaId). IsDistributable (context_of c.args.context) (tree c.args.store.now m)) c.args.ids.now c.loop-id.id-index d c.loop-id-test.true c.requires.distributable in
-    let falls = c.decreases in
-    (
+    let falls = c.decreases in (
       omega arith,
       (
         c.loop-id.invariant.kept.is id old,

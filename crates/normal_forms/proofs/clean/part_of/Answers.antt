@@ -1,6 +1,5 @@
-use Rattle.std.proofs.Common.{rules, ◌≡◌, ◌<◌, ◌∙◌, sym, ap, subst, Some, List}
+use Rattle.std.proofs.Common.{rules, ◌≡◌, ◌<◌, ◌∙◌, sym, ap, subst, Some}
 use Rattle.std.specs.HashMap.{get}
-use Rattle.std.specs.List.{AllByRecursion}
 use Rattle.atom_normal.specs.Atoms.{context_of}
 use Rattle.formula_tree.specs.declared.shape.Shape.{Shape}
 use Rattle.formula_tree.specs.Shapes.{AllIds, tree_over}
@@ -23,7 +22,7 @@ pub returns-in-And-clause-part : goal.returns-in-And-clause-part
 returns-in-And-clause-part c =
     let below = subst (λ (n : Shape FormulaId). AllIds (λ (m : FormulaId). m.number < c.args.id.number) n) c.in-And.is c.shape.ensures.ids in
     let whole = and_part (context_of c.args.context) (inner c.args.form) c.args.store.now c.args.id c.in-And.ids below c.requires.distributable c.conjunctions_inside-in-And.result
-        (c.shape.ensures.tree ∙ ap (tree_over (tree c.args.store.now)) c.in-And.is) c.conjunctions_inside-in-And.ensures in
+    (c.shape.ensures.tree ∙ ap (tree_over (tree c.args.store.now)) c.in-And.is) c.conjunctions_inside-in-And.ensures in
     if_ok (λ (p : Part). p ≡ part_is.Members c.conjunctions_inside-in-And.result c.in-And.ids) (IsPart (context_of c.args.context) (inner c.args.form) c.args.store.now c.args.id) c.members.result c.members.ensures.members
     (λ p e. subst (IsPart (context_of c.args.context) (inner c.args.form) c.args.store.now c.args.id) (sym e) whole)
 
@@ -31,6 +30,6 @@ pub returns-in-Or-clause-part : goal.returns-in-Or-clause-part
 returns-in-Or-clause-part c =
     let below = subst (λ (n : Shape FormulaId). AllIds (λ (m : FormulaId). m.number < c.args.id.number) n) c.in-Or.is c.shape.ensures.ids in
     let whole = or_part (context_of c.args.context) (inner c.args.form) c.args.store.now c.args.id c.in-Or.ids below c.requires.distributable c.disjunctions_inside-in-Or.result
-        (c.shape.ensures.tree ∙ ap (tree_over (tree c.args.store.now)) c.in-Or.is) c.disjunctions_inside-in-Or.ensures in
+    (c.shape.ensures.tree ∙ ap (tree_over (tree c.args.store.now)) c.in-Or.is) c.disjunctions_inside-in-Or.ensures in
     if_ok (λ (p : Part). p ≡ part_is.Members c.disjunctions_inside-in-Or.result c.in-Or.ids) (IsPart (context_of c.args.context) (inner c.args.form) c.args.store.now c.args.id) c.members-in-Or.result c.members-in-Or.ensures.members
     (λ p e. subst (IsPart (context_of c.args.context) (inner c.args.form) c.args.store.now c.args.id) (sym e) whole)

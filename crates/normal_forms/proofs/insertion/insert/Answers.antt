@@ -1,4 +1,4 @@
-use Rattle.std.proofs.Common.{rules, ◌≡◌, ◌∙◌, sym, subst, List, [], ◌∷◌, ◌++◌, Option, None, Some}
+use Rattle.std.proofs.Common.{rules, ◌≡◌, sym, subst, List, [], ◌∷◌, ◌++◌, None, Some}
 use Rattle.atom_normal.specs.Atoms.{context_of, atom_of}
 use Rattle.formula_store.specs.declared.id.FormulaId.{FormulaId}
 use Rattle.simplified_formulas.specs.AtomKit.{atom_kit}
@@ -35,5 +35,5 @@ loop-line-preserved c =
     let met = subst (λ (us : List FormulaId). MeetsAs (context_of c.args.context) (inner c.args.form) c.loop-line.store c.loop-line.atom us c.in_ok-partner.field-0) c.deref.ensures.value c.in_ok-partner.ensures.met in
     let meets = subst (λ (m : Met). MeetsAs (context_of c.args.context) (inner c.args.form) c.loop-line.store c.loop-line.atom c.loop-line.line.items m) c.in-Meets.is met in
     let left = puts_merged (context_of c.args.context) (inner c.args.form) c.args.store.now c.loop-line.store c.into_items-line.result.items c.loop-line.line.items c.args.atom c.loop-line.atom c.loop-line.invariant
-        c.put.new.store c.in-Meets.place c.in_ok-atom-in-Meets.atom (atom_of c.in-Meets.merged) meets.1.within meets.1.met c.put.ensures.kept c.in_ok-atom-in-Meets.ensures.made in
+    c.put.new.store c.in-Meets.place c.in_ok-atom-in-Meets.atom (atom_of c.in-Meets.merged) meets.1.within meets.1.met c.put.ensures.kept c.in_ok-atom-in-Meets.ensures.made in
     subst (λ (us : List FormulaId). Puts (context_of c.args.context) (inner c.args.form) c.args.store.now c.put.new.store c.into_items-line.result.items us c.args.atom c.in_ok-atom-in-Meets.atom) (sym c.remove.ensures.items) left

@@ -5,7 +5,7 @@ use Rattle.formula_store.specs.Nodes.{IsId, tree}
 use Rattle.simplified_formulas.specs.AtomKit.{atom_kit}
 use Rattle.clean_forms.specs.Lines.{insert_all}
 use Rattle.normal_forms.specs.Forms.{inner}
-use Rattle.normal_forms.specs.Atoms.{atoms, IsLine, IsLineIf}
+use Rattle.normal_forms.specs.Atoms.{atoms, IsLineIf}
 use Rattle.normal_forms.proofs.insertion.insert_all.Given as goal
 
 abbrev pub invariant-loop-atom : goal.invariant-loop-atom

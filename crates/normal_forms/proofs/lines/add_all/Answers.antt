@@ -1,4 +1,4 @@
-use Rattle.std.proofs.Common.{◌≡◌, ◌∙◌, sym, ap, ◌∷◌, [], List}
+use Rattle.std.proofs.Common.{◌∙◌, sym, ap, ◌∷◌, [], List}
 use Rattle.formula_meaning.specs.Fold.{Conjunction}
 use Rattle.formula_store.specs.declared.id.FormulaId.{FormulaId}
 use Rattle.normal_forms.specs.Atoms.{id_kit, add}

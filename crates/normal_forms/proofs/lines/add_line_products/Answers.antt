@@ -1,4 +1,4 @@
-use Rattle.std.proofs.Common.{◌≡◌, ◌∙◌, sym, subst, get_or, List, Some}
+use Rattle.std.proofs.Common.{◌∙◌, sym, subst, get_or, List, Some}
 use Rattle.atom_normal.specs.Atoms.{context_of}
 use Rattle.formula_store.specs.declared.id.FormulaId.{FormulaId}
 use Rattle.simplified_formulas.specs.AtomKit.{atom_kit}
@@ -30,7 +30,7 @@ loop-other-preserved c =
     let items : List (List FormulaId) = c.deref-other-items.result.now in
     let valid = subst (λ (ls : List (List FormulaId)). AreLineIds (context_of c.args.context) c.args.store.now ls) (sym c.deref-other-items.ensures.value) c.requires.others in
     let more = subst (λ (us : List FormulaId). AreLines (context_of c.args.context) c.add_product.new.store (add_if (atom_kit (context_of c.args.context)) (inner c.args.form) (lines c.loop-other.store c.loop-other.lines.items)
-        (insert_all (atom_kit (context_of c.args.context)) (inner c.args.form) (Some (atoms c.loop-other.store c.args.line.now)) (atoms c.loop-other.store us))) c.add_product.new.lines.items) (c.items.ensures ∙ c.other-item.is) c.in_ok-add_product.ensures.added in
+    (insert_all (atom_kit (context_of c.args.context)) (inner c.args.form) (Some (atoms c.loop-other.store c.args.line.now)) (atoms c.loop-other.store us))) c.add_product.new.lines.items) (c.items.ensures ∙ c.other-item.is) c.in_ok-add_product.ensures.added in
     record {
       kept = keeps_then c.args.store.now c.loop-other.store c.add_product.new.store c.loop-other.invariant.kept c.add_product.ensures.kept;
       so_far = line_step (context_of c.args.context) (inner c.args.form) c.args.store.now c.loop-other.store c.add_product.new.store c.loop-other.invariant.kept (lines c.args.store.now c.args.lines.now.items) c.args.line.now items

@@ -1,4 +1,4 @@
-use Rattle.std.proofs.Common.{◌≡◌, ◌∙◌, sym, subst, get_or, List}
+use Rattle.std.proofs.Common.{◌∙◌, sym, subst, get_or, List}
 use Rattle.atom_normal.specs.Atoms.{context_of}
 use Rattle.formula_store.specs.declared.id.FormulaId.{FormulaId}
 use Rattle.simplified_formulas.specs.AtomKit.{atom_kit}
@@ -30,7 +30,7 @@ loop-line-preserved c =
     let items : List (List FormulaId) = c.deref-line-items.result.now in
     let valid = subst (λ (ls : List (List FormulaId)). AreLineIds (context_of c.args.context) c.args.store.now ls) (sym c.deref-line-items.ensures.value) c.requires.firsts in
     let more = subst (λ (us : List FormulaId). AreLines (context_of c.args.context) c.add_line_products.new.store (add_line_products (atom_kit (context_of c.args.context)) (inner c.args.form) (lines c.loop-line.store c.loop-line.lines.items)
-        (atoms c.loop-line.store us) (lines c.loop-line.store c.args.others.now.items)) c.add_line_products.new.lines.items) (c.items.ensures ∙ c.line-item.is) c.in_ok-add_line_products.ensures.added in
+    (atoms c.loop-line.store us) (lines c.loop-line.store c.args.others.now.items)) c.add_line_products.new.lines.items) (c.items.ensures ∙ c.line-item.is) c.in_ok-add_line_products.ensures.added in
     record {
       kept = keeps_then c.args.store.now c.loop-line.store c.add_line_products.new.store c.loop-line.invariant.kept c.add_line_products.ensures.kept;
       so_far = products_step (context_of c.args.context) (inner c.args.form) c.args.store.now c.loop-line.store c.add_line_products.new.store c.loop-line.invariant.kept items c.args.others.now.items

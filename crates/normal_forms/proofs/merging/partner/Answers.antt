@@ -1,10 +1,9 @@
-use Rattle.std.proofs.Common.{◌≡◌, ◌∙◌, sym, ap, subst, get_or, take, List, length, arith, ℕ, ◌≤◌}
+use Rattle.std.proofs.Common.{◌≡◌, ◌∙◌, sym, ap, subst, get_or, take, List, length, arith, ◌≤◌}
 use Rattle.std.specs.List.{AllByRecursion}
 use Rattle.std.proofs.lemmas.List.{take_all}
-use Rattle.formula_meaning.specs.Atom.{Atom}
 use Rattle.atom_normal.specs.Atoms.{context_of, atom_of}
 use Rattle.atom_merging.specs.declared.answers.Merged.{Merged}
-use Rattle.atom_merging.specs.Computed.{Merging, Settled, Into, merged, merging_of}
+use Rattle.atom_merging.specs.Computed.{Settled, Into, merged, merging_of}
 use Rattle.formula_store.specs.declared.id.FormulaId.{FormulaId}
 use Rattle.normal_forms.specs.Forms.{inner}
 use Rattle.normal_forms.specs.Atoms.{atom_at}
@@ -16,22 +15,21 @@ pub returns-in-True-clause-met : goal.returns-in-True-clause-met
 returns-in-True-clause-met c =
     let d : FormulaId = record { number = 0 } in
     let e : merged (context_of c.args.context) (inner c.args.form) (atom_at c.args.store.now (get_or c.args.line.now c.loop-place.place d)) (atom_at c.args.store.now c.args.atom) ≡ Settled =
-        sym c.in_ok-merged.ensures.merged ∙ ap merging_of c.in-True.is in
+    sym c.in_ok-merged.ensures.merged ∙ ap merging_of c.in-True.is in
     void_met (context_of c.args.context) (inner c.args.form) c.args.store.now c.args.atom c.args.line.now c.loop-place.place d c.loop-place-test.true c.loop-place.invariant e
 
 pub returns-in-False-clause-met : goal.returns-in-False-clause-met
 returns-in-False-clause-met c =
     let d : FormulaId = record { number = 0 } in
     let e : merged (context_of c.args.context) (inner c.args.form) (atom_at c.args.store.now (get_or c.args.line.now c.loop-place.place d)) (atom_at c.args.store.now c.args.atom) ≡ Settled =
-        sym c.in_ok-merged.ensures.merged ∙ ap merging_of c.in-False.is in
+    sym c.in_ok-merged.ensures.merged ∙ ap merging_of c.in-False.is in
     void_met (context_of c.args.context) (inner c.args.form) c.args.store.now c.args.atom c.args.line.now c.loop-place.place d c.loop-place-test.true c.loop-place.invariant e
 
 pub returns-in-One-clause-met : goal.returns-in-One-clause-met
 returns-in-One-clause-met c =
     let d : FormulaId = record { number = 0 } in
     let e : merged (context_of c.args.context) (inner c.args.form) (atom_at c.args.store.now (get_or c.args.line.now c.loop-place.place d)) (atom_at c.args.store.now c.args.atom) ≡ Into (atom_of c.in-One.atom) =
-        sym c.in_ok-merged.ensures.merged ∙ ap merging_of c.in-One.is in
-    (
+    sym c.in_ok-merged.ensures.merged ∙ ap merging_of c.in-One.is in (
       subst (λ (m : Merged). IsWellMerged m) c.in-One.is c.in_ok-merged.ensures.well_formed,
       record {
         within = c.loop-place-test.true;

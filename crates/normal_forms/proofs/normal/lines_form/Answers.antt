@@ -1,4 +1,4 @@
-use Rattle.std.proofs.Common.{rules, ◌≡◌, ◌+◌, ◌≤◌, ◌∙◌, ◌++◌, ◌∷◌, [], sym, ap, subst, get_or, take, map, length, arith, Some, List}
+use Rattle.std.proofs.Common.{rules, ◌≡◌, ◌+◌, ◌≤◌, ◌∙◌, ◌++◌, ◌∷◌, [], sym, subst, get_or, take, map, length, arith, Some, List}
 use Rattle.std.proofs.lemmas.List.{take_all}
 use Rattle.std.specs.List.{AllByRecursion}
 use Rattle.formula_meaning.specs.Fold.{from_pieces}
@@ -37,13 +37,13 @@ loop-line-preserved c =
     let items : List (List FormulaId) = c.deref-line-items.result.now in
     let valid = subst (λ (ls : List (List FormulaId)). AreLineIds (context_of c.args.context) c.args.store.now ls) (sym c.deref-line-items.ensures.value) c.requires in
     let made = subst (λ (us : List FormulaId). IsMade (IsId c.joined.new.store) (tree c.joined.new.store) c.in_ok-id.id (from_pieces (chosen c.conjunctions_inside.result) (Some (members (map (tree c.loop-line.store) us)))))
-        (c.in_ok-line.ensures.copy ∙ c.items.ensures ∙ c.line-item.is) c.in_ok-id.ensures.made in
+    (c.in_ok-line.ensures.copy ∙ c.items.ensures ∙ c.line-item.is) c.in_ok-id.ensures.made in
     let pushed : c.push.new.self.items ≡ c.loop-line.ids.items ++ c.in_ok-id.id ∷ [] = search rules in
     record {
       kept = keeps_then c.args.store.now c.loop-line.store c.joined.new.store c.loop-line.invariant.kept c.joined.ensures.kept;
       made = subst (λ (us : List FormulaId). AreForms (inner c.args.form) c.joined.new.store (lines c.args.store.now (take (c.loop-line.line-index + 1) items)) us) (sym pushed)
           (form_step (context_of c.args.context) (inner c.args.form) c.args.store.now c.loop-line.store c.joined.new.store items c.loop-line.line-index item c.loop-line.ids.items c.in_ok-id.id c.conjunctions_inside.result
-            c.loop-line-test.true c.loop-line.invariant.kept c.joined.ensures.kept valid c.conjunctions_inside.ensures c.loop-line.invariant.made made);
+          c.loop-line-test.true c.loop-line.invariant.kept c.joined.ensures.kept valid c.conjunctions_inside.ensures c.loop-line.invariant.made made);
     }
 
 pub returns-clause-made : goal.returns-clause-made
@@ -56,4 +56,4 @@ returns-clause-made c =
     (λ (r : FormulaId). IsMade (IsId c.joined-2.new.store) (tree c.joined-2.new.store) r (form_of_lines (inner c.args.form) (lines c.args.store.now c.args.lines.items)))
     c.joined-2.result c.joined-2.ensures.made
     (λ r m. whole_made (inner c.args.form) c.args.store.now c.loop-line.store c.joined-2.new.store c.args.lines.items c.loop-line.ids.items r c.disjunctions_inside.result c.disjunctions_inside.ensures all
-      (subst (λ (us : List FormulaId). IsMade (IsId c.joined-2.new.store) (tree c.joined-2.new.store) r (from_pieces (chosen c.disjunctions_inside.result) (Some (members (map (tree c.loop-line.store) us))))) c.of.ensures m))
+    (subst (λ (us : List FormulaId). IsMade (IsId c.joined-2.new.store) (tree c.joined-2.new.store) r (from_pieces (chosen c.disjunctions_inside.result) (Some (members (map (tree c.loop-line.store) us))))) c.of.ensures m))

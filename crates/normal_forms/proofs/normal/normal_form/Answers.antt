@@ -1,20 +1,18 @@
-use Rattle.std.proofs.Common.{◌≡◌, ◌≤◌, ℕ, ◌∙◌, sym, ap, subst}
+use Rattle.std.proofs.Common.{◌≤◌, ℕ, ◌∙◌, sym, subst}
 use Rattle.formula_meaning.specs.Sizes.{nodes}
 use Rattle.formula_meaning.specs.Tree.{Tree, Equivalent, IsFree}
 use Rattle.atom_normal.specs.Atoms.{context_of}
-use Rattle.formula_tree.specs.Makers.{IsMade, Keeps}
+use Rattle.formula_tree.specs.Makers.{IsMade}
 use Rattle.formula_store.specs.declared.id.FormulaId.{FormulaId}
 use Rattle.formula_store.specs.Nodes.{tree, IsId}
 use Rattle.simplified_formulas.specs.Trees.{IsSimplifiable}
 use Rattle.clean_forms.specs.Ways.{form_of_lines}
 use Rattle.clean_forms.specs.Plain.{plain_form, literals}
 use Rattle.clean_forms.specs.Clean.{IsCleanForm}
-use Rattle.clean_forms.specs.Counts.{sizes}
 use Rattle.clean_forms.specs.Laws.{IsDistributable, IsNoLonger}
 use Rattle.clean_forms.proofs.TreeLaws.{is_clean, keeps_truth, keeps_shape, brings_no_name, brings_no_node, lengthens_no_text}
 use Rattle.normal_forms.specs.Forms.{inner}
 use Rattle.normal_forms.specs.Atoms.{lines}
-use Rattle.normal_forms.specs.Sizes.{capped}
 use Rattle.normal_forms.proofs.Grown.{keeps_then}
 use Rattle.normal_forms.proofs.Parts.{if_ok}
 use Rattle.normal_forms.proofs.Formed.{free_told, clean_made, few_places, on_any}

@@ -1,4 +1,4 @@
-use Rattle.std.proofs.Common.{◌≡◌, ◌∙◌, sym, ap, subst, map, List}
+use Rattle.std.proofs.Common.{◌∙◌, sym, ap, subst, map, List}
 use Rattle.std.specs.List.{AllByRecursion}
 use Rattle.formula_meaning.specs.Fold.{Conjunction, Disjunction}
 use Rattle.formula_tree.specs.declared.shape.Shape.{Shape}

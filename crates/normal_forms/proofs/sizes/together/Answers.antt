@@ -1,4 +1,4 @@
-use Rattle.std.proofs.Common.{◌≡◌, ◌∙◌, ◌++◌, ◌∷◌, [], sym, ap, map, take, get_or, List}
+use Rattle.std.proofs.Common.{◌∙◌, ◌∷◌, [], sym, ap, map, take, get_or, List}
 use Rattle.std.proofs.lemmas.List.{take_more, map-append}
 use Rattle.formula_store.specs.declared.id.FormulaId.{FormulaId}
 use Rattle.clean_forms.specs.Counts.{nothing_sizes, joined_sizes}
