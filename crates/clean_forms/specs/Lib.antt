@@ -1,0 +1,6 @@
+pub mod Ways
+pub mod Plain
+pub mod Lines
+pub mod Clean
+pub mod Counts
+pub mod Laws

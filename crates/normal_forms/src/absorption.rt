@@ -1,0 +1,54 @@
+//! Lists of atoms by their ids, none of which contains all atoms of another.
+
+ghost use Rattle.std.specs.Prelude.{◌≡◌, OnOk, IfErr};
+ghost use Rattle.normal_forms.specs.Atoms.{is_within, some_within, not_above, add};
+
+use formula_store::FormulaId;
+use formula_tree::{FormError, Ids};
+
+/// Lists of atoms.
+pub(crate) type Lines = Vec<Ids<FormulaId>>;
+
+/// Whether each atom of the first list is in the second.
+fn is_within(atoms: &[FormulaId], others: &[FormulaId]) -> bool
+    ensures { result ≡ is_within atoms.now others.now }
+{
+    for atom in atoms {
+        if !others.contains(atom) {
+            return false;
+        }
+    }
+    true
+}
+
+/// Whether some list is within this one.
+fn some_within(lines: &Lines, line: &Ids<FormulaId>) -> bool
+    ensures { result ≡ some_within lines.now.items line.now }
+{
+    for other in lines {
+        if is_within(other.items(), line.items()) {
+            return true;
+        }
+    }
+    false
+}
+
+/// Drops the lists that this one is within.
+fn drop_above(lines: &mut Lines, line: &Ids<FormulaId>)
+    ensures { lines.new.items ≡ not_above lines.old.items line.now }
+{
+    lines.retain(|other| !is_within(line.items(), other.items()));
+}
+
+/// Adds a list, unless another is within it, and drops the others that it is within. Its only error is `Memory`.
+pub(crate) fn add(lines: &mut Lines, line: Ids<FormulaId>) -> Result<(), FormError>
+    ensures added { OnOk result (lines.new.items ≡ add lines.old.items line) }
+    ensures memory { IfErr result (λ e. e ≡ FormError.Memory) }
+{
+    if some_within(lines, &line) {
+        return Ok(());
+    }
+    drop_above(lines, &line);
+    lines.push(line).map_err(|_| FormError::Memory)?;
+    Ok(())
+}

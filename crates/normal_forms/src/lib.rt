@@ -1,0 +1,13 @@
+//! Disjunctive and conjunctive normal forms of shared formulas.
+#![tactic(auto)]
+
+mod absorption;
+mod clean;
+mod form;
+mod insertion;
+mod lines;
+mod merging;
+mod normal;
+mod sizes;
+
+pub use normal::{cnf, dnf};

@@ -1,0 +1,88 @@
+//! An atom beside the atoms of an inner list.
+
+ghost use Rattle.std.specs.Prelude.{◌≡◌, IfOk, IfErr};
+ghost use Rattle.std.specs.List.{AllByRecursion};
+ghost use Rattle.atom_normal.specs.Atoms.{context_of, atom_of, IsWellFormed};
+ghost use Rattle.formula_meaning.specs.Formula.{One};
+ghost use Rattle.formula_store.specs.Nodes.{tree, IsId};
+ghost use Rattle.atom_merging.specs.Computed.{merged, merging_of};
+ghost use Rattle.normal_forms.specs.Forms.{inner};
+ghost use Rattle.normal_forms.specs.Atoms.{atom_at, IsAtomId};
+ghost use Rattle.normal_forms.specs.Merging.{IsWellMerged, MeetsAs};
+
+use crate::form::Form;
+use atom_merging::{Merged, merge_and, merge_or};
+use atom_normal::{Atom, Context};
+use formula_store::{FormulaId, Store};
+use formula_tree::{FormError, Shape};
+use std::alloc::Global;
+
+/// What becomes of an atom beside others: it merges with none; with the first with which it merges it settles the list; or
+/// with the one at a place it makes one atom.
+#[derive(Drop)]
+pub(crate) enum Met {
+    Alone,
+    Void,
+    Meets(Atom, usize),
+}
+
+// The atom of an id.
+fn atom(store: &Store, id: FormulaId) -> &Atom
+    requires { (tree store.now id ≡ One (atom_at store.now id)) × IsId store.now id }
+    ensures atom { atom_of result.now ≡ atom_at store.now id }
+    ensures well_formed { IsWellFormed result.now }
+{
+    match store.shape(id) {
+        Shape::One(atom) => atom,
+        _ => unreachable!(),
+    }
+}
+
+// What two atoms become in an inner list. Its only error is `Memory`.
+fn merged(
+    alloc: Global,
+    store: &Store,
+    context: Context,
+    form: Form,
+    first: FormulaId,
+    second: FormulaId,
+) -> Result<Merged, FormError>
+    requires first { IsAtomId (context_of context) store.now first }
+    requires second { IsAtomId (context_of context) store.now second }
+    ensures merged { IfOk result (λ m. merging_of m ≡ merged (context_of context) (inner form) (atom_at store.now first) (atom_at store.now second)) }
+    ensures well_formed { IfOk result IsWellMerged }
+    ensures memory { IfErr result (λ e. e ≡ FormError.Memory) }
+{
+    let first = atom(store, first);
+    let second = atom(store, second);
+    let merged = match form {
+        Form::Disjunctive => merge_and(alloc, context, first, second),
+        Form::Conjunctive => merge_or(alloc, context, first, second),
+    };
+    merged.map_err(|_| FormError::Memory)
+}
+
+/// What becomes of an atom beside the atoms of an inner list. Its only error is `Memory`.
+pub(crate) fn partner(
+    alloc: Global,
+    store: &Store,
+    context: Context,
+    form: Form,
+    atom: FormulaId,
+    line: &[FormulaId],
+) -> Result<Met, FormError>
+    requires atom { IsAtomId (context_of context) store.now atom }
+    requires line { AllByRecursion (IsAtomId (context_of context) store.now) line.now }
+    ensures met { IfOk result (MeetsAs (context_of context) (inner form) store.now atom line.now) }
+    ensures memory { IfErr result (λ e. e ≡ FormError.Memory) }
+{
+    for (place, other) in line.iter().enumerate() {
+        match merged(alloc, store, context, form, *other, atom)? {
+            Merged::True => return Ok(Met::Void),
+            Merged::False => return Ok(Met::Void),
+            Merged::One(atom) => return Ok(Met::Meets(atom, place)),
+            Merged::Keep => (),
+        }
+    }
+    Ok(Met::Alone)
+}
