@@ -1,0 +1,4 @@
+pub mod Values
+pub mod Calculated
+pub mod Sample
+pub mod Seen
