@@ -1,4 +1,0 @@
-pub mod Values
-pub mod Calculated
-pub mod Sample
-pub mod Seen

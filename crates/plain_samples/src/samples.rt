@@ -12,9 +12,9 @@ ghost use Rattle.formula_tree.specs.Trees.{tree_of};
 ghost use Rattle.linear_forms.specs.Values.{point_of};
 ghost use Rattle.nnf_trees.specs.Nnfs.{HasModulus};
 ghost use Rattle.plain_engine.specs.Told.{StopsWith};
-ghost use Rattle.plain_samples.specs.Sample.{closed_sample, reference_sample, IsTrueSample};
-ghost use Rattle.plain_samples.specs.Seen.{sample_of};
-ghost use Rattle.plain_samples.specs.Values.{origin};
+ghost use Rattle.sample_reference.specs.Sample.{closed_sample, reference_sample, IsTrueSample};
+ghost use Rattle.sample_reference.specs.Seen.{sample_of};
+ghost use Rattle.sample_reference.specs.Values.{origin};
 
 use atom_normal::Context;
 use exact_numbers::Fraction;

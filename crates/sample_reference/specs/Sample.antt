@@ -9,8 +9,8 @@ use Rattle.elimination_reference.specs.Measured.{Outcome, stopped, done, then_of
 use Rattle.elimination_reference.specs.Reference.{normal_tree, leading_branches}
 use Rattle.elimination_reference.specs.Cases.{case_sign, case_formula, case_matrix, case_names}
 use Rattle.elimination_reference.specs.Sample.{first_true, chosen_steps}
-use Rattle.plain_samples.specs.Values.{Value, value_names, with_values, IsValue}
-use Rattle.plain_samples.specs.Calculated.{values_from}
+use Rattle.sample_reference.specs.Values.{Value, value_names, with_values, IsValue}
+use Rattle.sample_reference.specs.Calculated.{values_from}
 
 -- the values, or a number passes the limit
 abbrev pub evaluated : ℕ → Option (List Value) → Outcome (Option (List Value) × ℕ)

@@ -20,7 +20,7 @@ use Rattle.linear_forms.specs.Terms.{value_steps}
 use Rattle.elimination_theory.specs.Atoms.{atoms_of}
 use Rattle.elimination_theory.specs.Answers.{Step}
 use Rattle.elimination_reference.specs.PutIn.{tree_put, tree_put_within}
-use Rattle.plain_samples.specs.Values.{Value, common_denominator, point_over}
+use Rattle.sample_reference.specs.Values.{Value, common_denominator, point_over}
 
 -- ---- critical values
 

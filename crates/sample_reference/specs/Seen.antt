@@ -5,7 +5,7 @@ use Rattle.std.specs.declared.alloc.Global.{Global}
 use Rattle.exact_numbers.specs.declared.fraction.Fraction.{Fraction}
 use Rattle.exact_numbers.specs.Fraction.{frac_of}
 use Rattle.linear_forms.specs.declared.form.VarId.{VarId}
-use Rattle.plain_samples.specs.Values.{Value}
+use Rattle.sample_reference.specs.Values.{Value}
 
 -- a name and its value
 abbrev pub value_of : VarId × Fraction → Value

@@ -1,0 +1,5 @@
+pub mod Values
+pub mod Seen
+pub mod Calculated
+pub mod Sample
+pub mod Theorems
