@@ -6,7 +6,7 @@
 --   where critical values are asked, those of the branch with these numbers, and its atoms in normal form;
 --   the numbers of the sum and of the product that give the value, and over the integers the value itself.
 -- Critical values are asked where the place is not exact. They are numbers of an atom divided, and so within the limit.
-use Rattle.std.specs.Prelude.{ℕ, zero, suc, ℤ, pos, negsuc, neg_ℤ, ◌-ℤ◌, ◌*ℤ◌, int_lt, Bool, List, [], ◌∷◌, ◌++◌, filter, Option, Some, None, if◌then◌else◌}
+use Rattle.std.specs.Prelude.{ℕ, zero, suc, ℤ, pos, negsuc, neg_ℤ, ◌-ℤ◌, ◌*ℤ◌, int_lt, Bool, List, [], ◌∷◌, ◌++◌, Option, Some, None, if◌then◌else◌}
 use Rattle.exact_numbers.specs.Limit.{checked}
 use Rattle.exact_numbers.specs.Divides.{floor_of, residue_of}
 use Rattle.exact_numbers.specs.Frac.{Frac, whole_frac, lowest, sum_step, product_step, ◌>>=◌}
@@ -25,19 +25,24 @@ use Rattle.sample_reference.specs.Values.{Value, common_denominator, point_over}
 -- ---- critical values
 
 -- -t/a, where a * x + t has x
-abbrev pub root_of : ℤ → ℤ → List Frac
-root_of (pos zero) t = []
-root_of (pos (suc a)) t = lowest (neg_ℤ t) (pos (suc a)) ∷ []
-root_of (negsuc a) t = lowest t (pos (suc a)) ∷ []
+abbrev pub root_of : ℤ → ℤ → Option Frac
+root_of (pos zero) t = None
+root_of (pos (suc a)) t = Some (lowest (neg_ℤ t) (pos (suc a)))
+root_of (negsuc a) t = Some (lowest t (pos (suc a)))
 
 -- of a comparison in x alone
-abbrev pub atom_root : ℕ → Atom → List Frac
+abbrev pub atom_root : ℕ → Atom → Option Frac
 atom_root x (Compare r f) = root_of (coefficient x f) f.constant
-atom_root x (Congruent holds n f) = []
+atom_root x (Congruent holds n f) = None
+
+-- the number, if there is one, before others
+abbrev pub with_root : Option Frac → List Frac → List Frac
+with_root (Some a) rest = a ∷ rest
+with_root None rest = rest
 
 abbrev pub critical_values : ℕ → List Atom → List Frac
 critical_values x [] = []
-critical_values x (a ∷ atoms) = atom_root x a ++ critical_values x atoms
+critical_values x (a ∷ atoms) = with_root (atom_root x a) (critical_values x atoms)
 
 -- those of the branch with the numbers of the point, where these are within the limit
 abbrev pub criticals : Context → ℕ → Tree → Point ℕ → Option (List Frac)
@@ -58,8 +63,14 @@ abbrev pub least_with : Option Frac → List Frac → Option Frac
 least_with o [] = o
 least_with o (a ∷ rest) = least_with (Some (lesser a o)) rest
 
-abbrev pub least : List Frac → Option Frac
-least values = least_with None values
+-- those that are above a bound, if there is one
+abbrev pub past : Option Frac → List Frac → List Frac
+past None values = values
+past (Some e) [] = []
+past (Some e) (a ∷ rest) = if is_less e a then a ∷ past (Some e) rest else past (Some e) rest
+
+abbrev pub least_past : Option Frac → List Frac → Option Frac
+least_past bound values = least_with None (past bound values)
 
 -- ---- the value at a place
 
@@ -96,9 +107,9 @@ class_below j q None = Some (whole_frac j)
 -- the value of x at a place of the lower side; other places have none, and are not asked
 abbrev pub place_value : Context → ℕ → Place → Tree → Point ℕ → Option Frac
 place_value c x (Exact e d) f p = form_value e d p
-place_value c x (AboveBy e d) f p = form_value e d p >>= λ v. criticals c x f p >>= λ values. just_past v (least (filter (is_less v) values))
-place_value c x MinusInfinity f p = criticals c x f p >>= λ values. below_all (least values)
-place_value c x (Periodic j (negsuc q)) f p = criticals c x f p >>= λ values. class_below j (pos (suc q)) (least values)
+place_value c x (AboveBy e d) f p = form_value e d p >>= λ v. criticals c x f p >>= λ values. just_past v (least_past (Some v) values)
+place_value c x MinusInfinity f p = criticals c x f p >>= λ values. below_all (least_past None values)
+place_value c x (Periodic j (negsuc q)) f p = criticals c x f p >>= λ values. class_below j (pos (suc q)) (least_past None values)
 place_value c x (Periodic j (pos q)) f p = Some (whole_frac (pos 0))
 place_value c x (BelowBy e d) f p = Some (whole_frac (pos 0))
 place_value c x PlusInfinity f p = Some (whole_frac (pos 0))

@@ -2,4 +2,5 @@ pub mod Values
 pub mod Seen
 pub mod Calculated
 pub mod Sample
+pub mod Traced
 pub mod Theorems
