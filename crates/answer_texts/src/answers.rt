@@ -1,5 +1,5 @@
 // The texts of answers.
-ghost use Rattle.std.specs.Prelude.{◌≡◌, ◌<◌, ◌≤◌, ◌+◌, ◌++◌, ℕ, [], map, OnOk, IsErrOf, length, unsigned_abs};
+ghost use Rattle.std.specs.Prelude.{◌≡◌, ◌<◌, ◌≤◌, ◌+◌, ◌^◌, ◌++◌, [], map, OnOk, IsErrOf, length};
 ghost use Rattle.redlog_printer.specs.Text.{first_sign, later_sign, sum_text};
 ghost use Rattle.redlog_printer.specs.Within.{AreTermsWithin};
 ghost use Rattle.redlog_printer.specs.Writing.{text_limit};
@@ -90,6 +90,21 @@ fn put_whole(out: &mut Output, names: &Names, number: i128) -> Result<(), PrintE
     out.put_number(number.unsigned_abs())
 }
 
+// A number and the multiple of an infinity behind it.
+fn put_periodic(
+    out: &mut Output,
+    names: &Names,
+    number: i128,
+    period: i128,
+    infinity: u128,
+) -> Result<(), PrintError>
+    ensures wrote { OnOk result (out.new ≡ out.old ++ (sum_text names.now [] number ++ period_text period infinity)) }
+    ensures long { IsErrOf result PrintError.Text → text_limit < length out.old + length (sum_text names.now [] number ++ period_text period infinity) }
+{
+    put_whole(out, names, number)?;
+    put_period(out, period, infinity)
+}
+
 // Where an answer puts its name.
 fn put_place(
     out: &mut Output,
@@ -123,8 +138,8 @@ fn put_place(
             out.put_number(counts.infinity)
         }
         Place::Periodic => {
-            put_whole(out, names, point.form.constant_part())?;
-            put_period(out, point.period, counts.infinity)
+            let number = point.form.constant_part();
+            put_periodic(out, names, number, point.period, counts.infinity)
         }
     }
 }

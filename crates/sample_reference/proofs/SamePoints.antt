@@ -50,10 +50,10 @@ scaled_exact a d h k =
     let e = exact_div a.denominator d (λ (z : a.denominator ≡ pos 0). absurd (omega (arith, ints))) k in
     mul_assoc a.numerator (int_div d a.denominator) a.denominator ∙ ap (λ z. a.numerator *ℤ z) (mul_comm (int_div d a.denominator) a.denominator ∙ e)
 
-some_same : {X : Type 0} (a b : X) → Some a ≡ Some b → a ≡ b
+pub some_same : {X : Type 0} (a b : X) → Some a ≡ Some b → a ≡ b
 some_same a b e = cc
 
-none_some : {X P : Type 0} (a : X) → None ≡ Some a → P
+pub none_some : {X P : Type 0} (a : X) → None ≡ Some a → P
 none_some a e = absurd cc
 
 pub some_then : {A B P : Type 0} (o : Option A) (k : A → Option B) (b : B) → (o >>= k) ≡ Some b → ((a : A) → o ≡ Some a → k a ≡ Some b → P) → P

@@ -1,5 +1,5 @@
 -- The program's values.
-use Rattle.std.specs.Prelude.{ℤ, List, [], ◌∷◌, Option, Some, None}
+use Rattle.std.specs.Prelude.{List, map, Option, Some, None}
 use Rattle.std.specs.declared.vec.Vec.{Vec}
 use Rattle.std.specs.declared.alloc.Global.{Global}
 use Rattle.exact_numbers.specs.declared.fraction.Fraction.{Fraction}
@@ -12,8 +12,7 @@ abbrev pub value_of : VarId × Fraction → Value
 value_of v = record { name = v.0.number; at = frac_of v.1 }
 
 abbrev pub values_of : List (VarId × Fraction) → List Value
-values_of [] = []
-values_of (v ∷ vs) = value_of v ∷ values_of vs
+values_of vs = map value_of vs
 
 -- the values, where there are some
 abbrev pub sample_of : Option (Vec (VarId × Fraction) Global) → Option (List Value)
