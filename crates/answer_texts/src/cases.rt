@@ -1,8 +1,8 @@
 // The text of a case list.
-ghost use Rattle.std.specs.Prelude.{◌≡◌, ◌<◌, ◌≤◌, ◌+◌, ◌++◌, map, IfOk, OnOk, IsErrOf, length};
+ghost use Rattle.std.specs.Prelude.{◌≡◌, ◌<◌, ◌≤◌, ◌+◌, ◌++◌, [], map, IfOk, OnOk, IsErrOf, length};
 ghost use Rattle.redlog_printer.specs.Writing.{text_limit};
 ghost use Rattle.plain_cases.specs.Case.{case_seen};
-ghost use Rattle.answer_texts.specs.Answers.{case_text, cases_text};
+ghost use Rattle.answer_texts.specs.Answers.{separated, case_text, cases_text};
 ghost use Rattle.answer_texts.specs.Within.{IsCaseWithin, AreCasesWithin};
 
 use crate::answers::put_answers;
@@ -30,18 +30,28 @@ fn put_case(
     out.put(b"}}")
 }
 
-// The cases in braces.
+// The cases with commas between them.
 fn put_cases(out: &mut Output, names: &Names, cases: &[PlainCase]) -> Result<(), PrintError>
     requires { AreCasesWithin (length names.now) (map case_seen cases.now) }
-    ensures wrote { OnOk result (out.new ≡ out.old ++ cases_text names.now (map case_seen cases.now)) }
-    ensures long { IsErrOf result PrintError.Text → text_limit < length out.old + length (cases_text names.now (map case_seen cases.now)) }
+    ensures wrote { OnOk result (out.new ≡ out.old ++ separated [] (map (case_text names.now) (map case_seen cases.now))) }
+    ensures long { IsErrOf result PrintError.Text → text_limit < length out.old + length (separated [] (map (case_text names.now) (map case_seen cases.now))) }
 {
-    out.put(b"{")?;
     let mut before: &[u8] = b"";
     for case in cases {
         put_case(out, names, before, case)?;
         before = b",";
     }
+    Ok(())
+}
+
+// The cases in braces.
+fn put_list(out: &mut Output, names: &Names, cases: &[PlainCase]) -> Result<(), PrintError>
+    requires { AreCasesWithin (length names.now) (map case_seen cases.now) }
+    ensures wrote { OnOk result (out.new ≡ out.old ++ cases_text names.now (map case_seen cases.now)) }
+    ensures long { IsErrOf result PrintError.Text → text_limit < length out.old + length (cases_text names.now (map case_seen cases.now)) }
+{
+    out.put(b"{")?;
+    put_cases(out, names, cases)?;
     out.put(b"}")
 }
 
@@ -58,6 +68,6 @@ pub fn cases_text(
     ensures long { IsErrOf result PrintError.Text → text_limit < length (cases_text names.now (map case_seen cases.now)) }
 {
     let mut out = Output::new(alloc);
-    put_cases(&mut out, names, cases)?;
+    put_list(&mut out, names, cases)?;
     Ok(out.into_bytes())
 }

@@ -1,8 +1,9 @@
 // The text of a point.
-ghost use Rattle.std.specs.Prelude.{◌≡◌, ◌<◌, ◌≤◌, ◌+◌, ◌++◌, IfOk, OnOk, IsErrOf, length};
+ghost use Rattle.std.specs.Prelude.{◌≡◌, ◌<◌, ◌≤◌, ◌+◌, ◌++◌, [], map, IfOk, OnOk, IsErrOf, length};
 ghost use Rattle.exact_numbers.specs.Fraction.{frac_of};
 ghost use Rattle.redlog_printer.specs.Writing.{text_limit};
 ghost use Rattle.sample_reference.specs.Seen.{value_of, values_of};
+ghost use Rattle.answer_texts.specs.Answers.{separated};
 ghost use Rattle.answer_texts.specs.Points.{fraction_text, value_text, point_text};
 ghost use Rattle.answer_texts.specs.Within.{AreValuesWithin};
 
@@ -45,18 +46,36 @@ fn put_value(
     put_fraction(out, value)
 }
 
-// The names and their values in braces.
-fn put_point(out: &mut Output, names: &Names, values: &[(VarId, Fraction)]) -> Result<(), PrintError>
+// The names and their values with commas between them.
+fn put_values(
+    out: &mut Output,
+    names: &Names,
+    values: &[(VarId, Fraction)],
+) -> Result<(), PrintError>
     requires { AreValuesWithin (length names.now) (values_of values.now) }
-    ensures wrote { OnOk result (out.new ≡ out.old ++ point_text names.now (values_of values.now)) }
-    ensures long { IsErrOf result PrintError.Text → text_limit < length out.old + length (point_text names.now (values_of values.now)) }
+    ensures wrote { OnOk result (out.new ≡ out.old ++ separated [] (map (value_text names.now) (values_of values.now))) }
+    ensures long { IsErrOf result PrintError.Text → text_limit < length out.old + length (separated [] (map (value_text names.now) (values_of values.now))) }
 {
-    out.put(b"{")?;
     let mut before: &[u8] = b"";
     for value in values {
         put_value(out, names, before, value.0, value.1)?;
         before = b",";
     }
+    Ok(())
+}
+
+// The same in braces.
+fn put_point(
+    out: &mut Output,
+    names: &Names,
+    values: &[(VarId, Fraction)],
+) -> Result<(), PrintError>
+    requires { AreValuesWithin (length names.now) (values_of values.now) }
+    ensures wrote { OnOk result (out.new ≡ out.old ++ point_text names.now (values_of values.now)) }
+    ensures long { IsErrOf result PrintError.Text → text_limit < length out.old + length (point_text names.now (values_of values.now)) }
+{
+    out.put(b"{")?;
+    put_values(out, names, values)?;
     out.put(b"}")
 }
 
