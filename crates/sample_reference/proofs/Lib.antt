@@ -4,3 +4,4 @@ pub mod Leasts
 pub mod Critical
 pub mod FieldsValue
 pub mod IntegersValue
+pub mod OneValue
