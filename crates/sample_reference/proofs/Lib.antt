@@ -5,3 +5,5 @@ pub mod Critical
 pub mod FieldsValue
 pub mod IntegersValue
 pub mod OneValue
+pub mod Chain
+pub mod Sound

@@ -21,9 +21,9 @@ use Rattle.elimination_theory.specs.Steps.{Result, kept, results, result_at, ste
 use Rattle.elimination_theory.proofs.SomeListed.{each_append, each_distinct, each_mapped, each_flat_map}
 use Rattle.atom_normal.specs.NormalForm.{normal_atom, negated_normal}
 use Rattle.elimination_reference.specs.Limits.{each, place_within, atom_within, span_within, step_within}
-use Rattle.elimination_reference.specs.Measured.{Counted, ◌>>=◌, give, pay, within}
+use Rattle.elimination_reference.specs.Measured.{Outcome, stopped, done, Gives, Counted, ◌>>=◌, give, pay, within}
 use Rattle.elimination_reference.specs.Reference.{Branch, stands_among, kept_at_zero, next_branch, alone, together, turned, point_count, full_step, one_step, steps, closed, branches, members}
-use Rattle.elimination_reference.proofs.Always.{Always, always_then, always_give, always_pay, always_within}
+use Rattle.elimination_reference.proofs.Always.{Always, always_then, always_map, always_give, always_pay, always_within}
 use Rattle.sample_reference.specs.Traced.{IsLower, after_step, after_within, Leaves, Trace, IsTraced}
 
 -- ---- lists
@@ -150,3 +150,59 @@ module _ (c : Context) (root : Tree) where
         always_then Traced Traced (one_step c limit x b) _ (one_traced x b h.0) (λ first i.
         always_then Traced Traced (steps c limit x bs) _ (steps_traced x bs h.1) (λ rest j.
         always_give Traced (first ++ rest) (each_append (IsTraced c root) first rest i j)))
+
+-- ---- branches
+
+always_any : {A : Type 0} (m : Counted A) → Always (λ a. Unit {0}) m
+always_any {A} m cost = go (m cost)
+  where
+    go : (o : Outcome (A × ℕ)) → Gives (λ (r : A × ℕ). Unit {0}) o
+    go (stopped s) = tt
+    go (done r) = tt
+
+module _ (c : Context) (limit : ℕ) where
+  -- the branches come from one formula
+  abbrev pub FromOne : List Branch → Type 0
+  FromOne bs = (root : Tree) × EachOf (IsTraced c root) bs
+
+  alone_from : (t : Tree) → Always FromOne (give (alone t))
+  alone_from t = always_give FromOne (alone t) (t, (refl, tt))
+
+  then_alone : {A : Type 0} (m : Counted A) (k : A → Tree) → Always FromOne (m >>= λ a. give (alone (k a)))
+  then_alone m k = always_then (λ a. Unit {0}) FromOne m (λ a. give (alone (k a))) (always_any m) (λ a u. alone_from (k a))
+
+  closed_from : (sign : Bool) (x : ℕ) (inner : Counted (List Branch)) → Always FromOne (closed c limit sign x inner)
+  closed_from sign x inner = always_then (λ a. Unit {0}) FromOne inner _ (always_any inner) (λ bs u. then_alone (steps c limit x bs) (λ left. turned sign (together left)))
+
+  chain_from : (x : ℕ) (ended going : Counted (List Branch)) (test : Bool) → Always FromOne going → Always FromOne (if test then closed c limit true x ended else (going >>= steps c limit x))
+  chain_from x ended going true h = closed_from true x ended
+  chain_from x ended going false h = always_then FromOne FromOne going (steps c limit x) h (λ bs r. always_map (EachOf (IsTraced c r.0)) FromOne (steps c limit x bs) (λ left i. (r.0, i)) (steps_traced c r.0 limit x bs r.1))
+
+  pub branches_from : (names : List ℕ) (sign : Bool) (f : Tree) → Always FromOne (branches c limit names sign f)
+  branches_from names true Yes = alone_from Yes
+  branches_from names false Yes = alone_from No
+  branches_from names true No = alone_from No
+  branches_from names false No = alone_from Yes
+  branches_from names true (One a) = alone_from (One a)
+  branches_from names false (One a) = alone_from (One (negated_normal a))
+  branches_from names true (And fs) = then_alone (members c limit true fs) _
+  branches_from names false (And fs) = then_alone (members c limit false fs) _
+  branches_from names true (Or fs) = then_alone (members c limit true fs) _
+  branches_from names false (Or fs) = then_alone (members c limit false fs) _
+  branches_from names true (Ex x f) = chain_from x (branches c limit (x ∷ []) true f) (branches c limit (x ∷ names) true f) (is_in nat_eq x names) (branches_from (x ∷ names) true f)
+  branches_from names false (Ex x f) = closed_from false x (branches c limit (x ∷ []) true f)
+  branches_from names true (All x f) = closed_from false x (branches c limit (x ∷ []) false f)
+  branches_from names false (All x f) = chain_from x (branches c limit (x ∷ []) false f) (branches c limit (x ∷ names) false f) (is_in nat_eq x names) (branches_from (x ∷ names) false f)
+  branches_from names true (Not f) = always_give FromOne [] (Yes, tt)
+  branches_from names false (Not f) = always_give FromOne [] (Yes, tt)
+  branches_from names true (Impl f g) = always_give FromOne [] (Yes, tt)
+  branches_from names false (Impl f g) = always_give FromOne [] (Yes, tt)
+  branches_from names true (Repl f g) = always_give FromOne [] (Yes, tt)
+  branches_from names false (Repl f g) = always_give FromOne [] (Yes, tt)
+  branches_from names true (Equiv f g) = always_give FromOne [] (Yes, tt)
+  branches_from names false (Equiv f g) = always_give FromOne [] (Yes, tt)
+
+-- the steps of a traced branch are of the lower side
+pub lower_steps : (c : Context) (root : Tree) (steps : List Step) (t : Tree) → Trace c root steps t → EachOf (λ (s : Step). IsLower s.place) steps
+lower_steps c root [] t h = tt
+lower_steps c root (s ∷ rest) t h = (h.0.lower, lower_steps c root rest s.branch h.1)
