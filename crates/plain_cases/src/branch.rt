@@ -12,9 +12,9 @@ use test_points::{Place, PointError, TestPoint};
 
 /// A formula that is left, and the test points that led to it, the last one first.
 #[derive(Drop)]
-pub(crate) struct Leaf {
-    pub(crate) formula: Nnf,
-    pub(crate) points: Vec<TestPoint>,
+pub struct Leaf {
+    pub formula: Nnf,
+    pub points: Vec<TestPoint>,
 }
 
 /// A point before others, all copied. The only error is `Memory`.
@@ -49,7 +49,7 @@ pub(crate) fn zero_point(alloc: Global, name: VarId) -> TestPoint
 }
 
 /// The formulas, to which no point has led. The only error is `Memory`.
-pub(crate) fn without_points(alloc: Global, formulas: Vec<Nnf>) -> Result<Vec<Leaf>, Measured>
+pub fn without_points(alloc: Global, formulas: Vec<Nnf>) -> Result<Vec<Leaf>, Measured>
     requires { AreProper formulas.items }
     ensures stand { IfOk result (λ v. StandFor v.items (all_bare (formulas_of formulas.items))) }
     ensures sound { IfOk result (λ v. AreSound v.items) }

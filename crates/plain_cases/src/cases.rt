@@ -29,9 +29,9 @@ pub struct PlainCase {
     pub answers: Vec<TestPoint>,
 }
 
-// Whether the cases are those of the formula itself, and not of its negation.
+/// Whether the cases are those of the formula itself, and not of its negation.
 #[tactic(auto, using(nnf_trees::proofs::NnfEquations::nnfs, crate::proofs::Chaining::signs))]
-fn is_asked(f: &Nnf) -> bool
+pub fn is_asked(f: &Nnf) -> bool
     ensures { result ≡ case_sign (nnf_of f.now) }
 {
     match f {

@@ -6,4 +6,6 @@ mod cases;
 mod chain;
 mod step;
 
-pub use cases::{PlainCase, cases_plain};
+pub use branch::{Leaf, without_points};
+pub use cases::{PlainCase, cases_plain, is_asked};
+pub use step::case_steps;

@@ -20,7 +20,7 @@ use std::alloc::Global;
 use test_points::{PointError, TestPoint};
 
 /// One step for `x` of each leaf, in their order.
-pub(crate) fn case_steps(
+pub fn case_steps(
     setting: Setting,
     cost: &mut u64,
     x: VarId,

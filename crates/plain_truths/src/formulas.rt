@@ -25,11 +25,11 @@ use plain_engine::{Measured, stopped};
 use std::alloc::Global;
 use test_points::PointError;
 
-// The formula with the numbers of the point for the names that no quantifier binds, each atom in normal form. The names are those
-// of the quantifiers around it, the innermost last. The recursion is as deep as the formula is high.
+/// The formula with the numbers of the point for the names that no quantifier binds, each atom in normal form. The names are those
+/// of the quantifiers around it, the innermost last. The recursion is as deep as the formula is high.
 #[cycle(put)]
 #[tactic(auto, using(nnf_trees::proofs::NnfEquations::nnfs, crate::proofs::TreePuts::puts))]
-fn formula_put(
+pub fn formula_put(
     alloc: Global,
     context: Context,
     names: &mut Vec<VarId>,

@@ -5,5 +5,5 @@ mod forms;
 mod formulas;
 mod truths;
 
-pub use formulas::put_in;
+pub use formulas::{formula_put, put_in};
 pub use truths::truth_plain;

@@ -84,8 +84,8 @@ fn put_later_constant(out: &mut Output, number: i128) -> Result<(), PrintError>
     out.put_number(number.unsigned_abs())
 }
 
-// The multiples in the order of the list, and then the constant.
-fn put_form(out: &mut Output, names: &Names, form: &Linear) -> Result<(), PrintError>
+/// The multiples in the order of the list, and then the constant.
+pub fn put_form(out: &mut Output, names: &Names, form: &Linear) -> Result<(), PrintError>
     requires { AreTermsWithin (length names.now) form.now.terms }
     ensures wrote { OnOk result (out.new ≡ out.old ++ form_text names.now form.now) }
     ensures long { IsErrOf result PrintError.Text → text_limit < length out.old + length (form_text names.now form.now) }

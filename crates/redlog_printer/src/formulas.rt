@@ -26,10 +26,10 @@ pub fn formula_text(alloc: Global, tree: &Tree, names: &Names) -> Result<Vec<u8>
     Ok(out.into_bytes())
 }
 
-// The text of a formula.
+/// The text of a formula.
 #[cycle(text)]
 #[tactic(auto, using(formula_tree::proofs::TreeEquations::trees))]
-fn put_tree(out: &mut Output, names: &Names, tree: &Tree) -> Result<(), PrintError>
+pub fn put_tree(out: &mut Output, names: &Names, tree: &Tree) -> Result<(), PrintError>
     requires { IsTreeWithin (length names.now) (tree_of tree.now) }
     ensures wrote { OnOk result (out.new ≡ out.old ++ tree_text names.now (tree_of tree.now)) }
     ensures long { IsErrOf result PrintError.Text → text_limit < length out.old + length (tree_text names.now (tree_of tree.now)) }

@@ -16,7 +16,7 @@ pub const TEXT_LIMIT: usize = 33_554_432;
 
 /// The bytes of a text so far, never more than the limit.
 #[derive(Drop)]
-pub(crate) struct Output {
+pub struct Output {
     bytes: Vec<u8>,
 }
 
@@ -34,8 +34,8 @@ impl Model for Output {
 impl Output {
     ghost use Rattle.redlog_printer.specs.Writing.{text_limit};
 
-    // Nothing so far.
-    pub(crate) fn new(alloc: Global) -> Output
+    /// Nothing so far.
+    pub fn new(alloc: Global) -> Output
         ensures { result ≡ [] }
     {
         Output {
@@ -43,8 +43,8 @@ impl Output {
         }
     }
 
-    // Adds the bytes. `Text` comes exactly where the text would pass the limit.
-    pub(crate) fn put(&mut self, bytes: &[u8]) -> Result<(), PrintError>
+    /// Adds the bytes. `Text` comes exactly where the text would pass the limit.
+    pub fn put(&mut self, bytes: &[u8]) -> Result<(), PrintError>
         ensures wrote { OnOk result (self.new ≡ self.old ++ bytes.now) }
         ensures long { IsErrOf result PrintError.Text → text_limit < length self.old + length bytes.now }
         ensures few { length self.new ≤ text_limit }
@@ -58,8 +58,8 @@ impl Output {
         Ok(())
     }
 
-    // Adds the digits of the number.
-    pub(crate) fn put_number(&mut self, number: u128) -> Result<(), PrintError>
+    /// Adds the digits of the number.
+    pub fn put_number(&mut self, number: u128) -> Result<(), PrintError>
         ensures wrote { OnOk result (self.new ≡ self.old ++ decimal number) }
         ensures long { IsErrOf result PrintError.Text → text_limit < length self.old + length (decimal number) }
         ensures few { length self.new ≤ text_limit }
@@ -67,8 +67,8 @@ impl Output {
         self.put(Buffer::new().format(number).as_bytes())
     }
 
-    // Adds the name with this number.
-    pub(crate) fn put_name(&mut self, names: &Names, x: VarId) -> Result<(), PrintError>
+    /// Adds the name with this number.
+    pub fn put_name(&mut self, names: &Names, x: VarId) -> Result<(), PrintError>
         requires { x.number < length names.now }
         ensures wrote { OnOk result (self.new ≡ self.old ++ name_at names.now x.number) }
         ensures long { IsErrOf result PrintError.Text → text_limit < length self.old + length (name_at names.now x.number) }
@@ -80,8 +80,8 @@ impl Output {
         }
     }
 
-    // The bytes of the text.
-    pub(crate) fn into_bytes(self) -> Vec<u8>
+    /// The bytes of the text.
+    pub fn into_bytes(self) -> Vec<u8>
         ensures bytes { result.items ≡ self }
         ensures short { length self ≤ text_limit }
     {

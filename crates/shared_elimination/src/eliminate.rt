@@ -51,7 +51,7 @@ pub fn eliminate_shared(
 
 /// The negation normal form of the shared formula, as a tree. `Nodes` comes exactly where it has more than `limit` nodes, and
 /// before it is unfolded, else `Memory`. The formulas of the store stay.
-pub(crate) fn unfolded_form(
+pub fn unfolded_form(
     alloc: Global,
     store: &mut Store,
     id: FormulaId,

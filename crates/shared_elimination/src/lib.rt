@@ -5,6 +5,6 @@ mod eliminate;
 mod sharing;
 mod truth;
 
-pub use eliminate::eliminate_shared;
+pub use eliminate::{eliminate_shared, unfolded_form};
 pub use sharing::share;
 pub use truth::truth_by_elimination;

@@ -1,0 +1,9 @@
+pub mod Tracing
+pub mod SamePoints
+pub mod Leasts
+pub mod Critical
+pub mod FieldsValue
+pub mod IntegersValue
+pub mod OneValue
+pub mod Chain
+pub mod Sound

@@ -1,0 +1,228 @@
+-- With the values found before put in, the calculated value of a name makes its branch true.
+use Rattle.std.proofs.Common.{◌≡◌, ℕ, suc, zero, ◌*◌, ◌<◌, Bool, true, false, List, [], ◌∷◌, Option, Some, None, ◌↔◌, refl, sym, ap, ◌∙◌, subst, subst₂, arith, nat_eq, eqb-true, if◌then◌else◌, unsigned_abs}
+use Rattle.std.proofs.Math.IntN.{ℤ, pos, negsuc, neg_ℤ, ◌+ℤ◌, ◌*ℤ◌}
+use Rattle.std.specs.Prelude.{◌<ℤ◌}
+use Rattle.std.proofs.lemmas.Int.{ints}
+use Rattle.exact_numbers.specs.Divides.{Divides}
+use Rattle.exact_numbers.specs.Frac.{Frac}
+use Rattle.exact_numbers.proofs.Ring.{ring, mul_add, mul_zero, mul_one, one_mul}
+use Rattle.exact_numbers.proofs.Order.{by_zero}
+use Rattle.formula_meaning.specs.Context.{Context, Fields, Integers, Allowed}
+use Rattle.formula_meaning.specs.Point.{Point, Of, move}
+use Rattle.formula_meaning.specs.Formula.{Yes, No, One, Not, And, Or, Impl, Repl, Equiv, Ex, All, none, also}
+use Rattle.formula_meaning.specs.Every.{Every}
+use Rattle.formula_meaning.specs.Some.{EachOf}
+use Rattle.formula_meaning.specs.Shape.{IsPlain, ArePlain, IsAtomic, is_in}
+use Rattle.formula_meaning.specs.Form.{Form, Term, multiple, coefficient}
+use Rattle.formula_meaning.specs.Atom.{Atom, Compare, Congruent, AtomIn, Mentions, form_of}
+use Rattle.formula_meaning.specs.Replaced.{replaced, all_replaced}
+use Rattle.formula_meaning.specs.Answer.{Place, Exact, AboveBy, BelowBy, PlusInfinity, MinusInfinity, Periodic, Holds}
+use Rattle.formula_meaning.specs.Tree.{Tree, Trees, TrueAt, InContext, IsFree}
+use Rattle.formula_meaning.proofs.EachAtom.{every_map, every_both, every_all}
+use Rattle.formula_meaning.proofs.ReplacedShape.{every_replaced}
+use Rattle.formula_meaning.proofs.TreeFiner.{allowed_positive}
+use Rattle.formula_meaning.proofs.TreeReplacing.{moved_of}
+use Rattle.formula_meaning.proofs.Values.{pos_mul}
+use Rattle.elimination_theory.specs.Substitution.{at_place}
+use Rattle.elimination_theory.specs.IntegersTheorems.{IsIntegerPlace, IsPeriodOf, Suits}
+use Rattle.elimination_theory.specs.Answers.{Step, Makes}
+use Rattle.elimination_theory.specs.Atoms.{atoms_of}
+use Rattle.elimination_theory.proofs.Meets.{meets_map}
+use Rattle.elimination_theory.proofs.Simple.{simple_from, replaced_plain}
+use Rattle.elimination_theory.proofs.BothSubstitutions.{place_in}
+use Rattle.elimination_theory.proofs.SomeListed.{atoms_of_every}
+use Rattle.elimination_theory.proofs.Answers.{step_holds}
+use Rattle.elimination_theory.proofs.FieldsSample.{sample_is_true as field_sample_is_true}
+use Rattle.elimination_theory.proofs.IntegerSample.{sample_is_true as integer_sample_is_true}
+use Rattle.atom_normal.specs.NormalForm.{normal_atom}
+use Rattle.atom_normal.proofs.NormalLaws.{normal_names, normal_within, normal_atomic}
+use Rattle.elimination_reference.specs.PutIn.{terms_kept, form_put, atom_put, tree_put, trees_put}
+use Rattle.elimination_reference.proofs.PutIn.{Mixes, put_in_context, put_true, turn_equal, not_both}
+use Rattle.elimination_reference.proofs.Periods.{normal_keeps_periods}
+use Rattle.sample_reference.specs.Traced.{IsLower}
+use Rattle.sample_reference.specs.Values.{Value, IsValue}
+use Rattle.sample_reference.specs.Calculated.{place_value}
+use Rattle.sample_reference.proofs.SamePoints.{abs_above}
+use Rattle.sample_reference.proofs.Critical.{Alone}
+use Rattle.sample_reference.proofs.FieldsValue.{field_sample}
+use Rattle.sample_reference.proofs.IntegersValue.{integer_sample}
+
+-- ---- names
+
+pub turn_differ : (x y : ℕ) → nat_eq x y ≡ false → nat_eq y x ≡ false
+turn_differ x y e = go (nat_eq y x) refl
+  where
+    go : (b : Bool) → nat_eq y x ≡ b → b ≡ false
+    go true d = absurd (not_both (nat_eq x y) (turn_equal y x d) e)
+    go false d = refl
+
+in_one : (y x : ℕ) → is_in nat_eq y (x ∷ []) ≡ nat_eq y x
+in_one y x = go (nat_eq y x)
+  where
+    go : (b : Bool) → (if b then true else false) ≡ b
+    go true = refl
+    go false = refl
+
+-- the terms of x alone stay
+kept_others : (x : ℕ) (p : Point ℕ) (ts : List Term) (y : ℕ) → nat_eq x y ≡ false → multiple y (terms_kept p (x ∷ []) ts) ≡ pos 0
+kept_others x p [] y e = refl
+kept_others x p (t ∷ ts) y e = go (nat_eq t.name x) refl (kept_others x p ts y e)
+  where
+    go : (b : Bool) → nat_eq t.name x ≡ b → multiple y (terms_kept p (x ∷ []) ts) ≡ pos 0 → multiple y (terms_kept p (x ∷ []) (t ∷ ts)) ≡ pos 0
+    go true d ih =
+        let is : nat_eq y t.name ≡ false = ap (nat_eq y) (eqb-true t.name x d) ∙ turn_differ x y e in
+        ap (λ (b : Bool). multiple y (if b then record { times = pos p.below *ℤ t.times; name = t.name } ∷ terms_kept p (x ∷ []) ts else terms_kept p (x ∷ []) ts)) (in_one t.name x ∙ d)
+        ∙ ap (λ (b : Bool). if b then pos p.below *ℤ t.times +ℤ multiple y (terms_kept p (x ∷ []) ts) else multiple y (terms_kept p (x ∷ []) ts)) is ∙ ih
+    go false d ih = ap (λ (b : Bool). multiple y (if b then record { times = pos p.below *ℤ t.times; name = t.name } ∷ terms_kept p (x ∷ []) ts else terms_kept p (x ∷ []) ts)) (in_one t.name x ∙ d) ∙ ih
+
+kept_own : (x : ℕ) (p : Point ℕ) (ts : List Term) → multiple x (terms_kept p (x ∷ []) ts) ≡ pos p.below *ℤ multiple x ts
+kept_own x p [] = sym (mul_zero (pos p.below))
+kept_own x p (t ∷ ts) = go (nat_eq t.name x) refl (kept_own x p ts)
+  where
+    go : (b : Bool) → nat_eq t.name x ≡ b → multiple x (terms_kept p (x ∷ []) ts) ≡ pos p.below *ℤ multiple x ts → multiple x (terms_kept p (x ∷ []) (t ∷ ts)) ≡ pos p.below *ℤ multiple x (t ∷ ts)
+    go true d ih =
+        let is : nat_eq x t.name ≡ true = turn_equal t.name x d in
+        ap (λ (b : Bool). multiple x (if b then record { times = pos p.below *ℤ t.times; name = t.name } ∷ terms_kept p (x ∷ []) ts else terms_kept p (x ∷ []) ts)) (in_one t.name x ∙ d)
+        ∙ ap (λ (b : Bool). if b then pos p.below *ℤ t.times +ℤ multiple x (terms_kept p (x ∷ []) ts) else multiple x (terms_kept p (x ∷ []) ts)) is
+        ∙ ap (λ z. pos p.below *ℤ t.times +ℤ z) ih
+        ∙ sym (mul_add (pos p.below) t.times (multiple x ts))
+        ∙ sym (ap (λ (b : Bool). pos p.below *ℤ (if b then t.times +ℤ multiple x ts else multiple x ts)) is)
+    go false d ih =
+        let is : nat_eq x t.name ≡ false = turn_differ t.name x d in
+        ap (λ (b : Bool). multiple x (if b then record { times = pos p.below *ℤ t.times; name = t.name } ∷ terms_kept p (x ∷ []) ts else terms_kept p (x ∷ []) ts)) (in_one t.name x ∙ d)
+        ∙ ih
+        ∙ sym (ap (λ (b : Bool). pos p.below *ℤ (if b then t.times +ℤ multiple x ts else multiple x ts)) is)
+
+put_alone : (x : ℕ) (p : Point ℕ) (f : Form) → Alone x (form_put p (x ∷ []) f)
+unfolding coefficient
+put_alone x p f y e = kept_others x p f.terms y e
+
+put_coefficient : (x : ℕ) (p : Point ℕ) (f : Form) → coefficient x (form_put p (x ∷ []) f) ≡ pos p.below *ℤ coefficient x f
+unfolding coefficient
+put_coefficient x p f = kept_own x p f.terms
+
+atom_alone : (x : ℕ) (p : Point ℕ) (a : Atom) → Alone x (form_of (atom_put p (x ∷ []) a))
+atom_alone x p (Compare r f) = put_alone x p f
+atom_alone x p (Congruent holds n f) = put_alone x p f
+
+-- ---- the branch with the values put in
+
+module _ (c : Context) (x : ℕ) (p : Point ℕ) where
+  abbrev by : Atom → Tree
+  by a = normal_atom c (atom_put p (x ∷ []) a)
+
+  mutual
+    put_replaced : (f : Tree) → IsPlain f → tree_put c p (x ∷ []) f ≡ replaced by (λ y. y) f
+    put_replaced Yes h = refl
+    put_replaced No h = refl
+    put_replaced (One a) h = refl
+    put_replaced (Not f) h = absurd h
+    put_replaced (And fs) h = ap (λ gs. let g : Tree = And gs in g) (all_put_replaced fs h)
+    put_replaced (Or fs) h = ap (λ gs. let g : Tree = Or gs in g) (all_put_replaced fs h)
+    put_replaced (Impl f g) h = absurd h
+    put_replaced (Repl f g) h = absurd h
+    put_replaced (Equiv f g) h = absurd h
+    put_replaced (Ex y f) h = absurd h
+    put_replaced (All y f) h = absurd h
+
+    all_put_replaced : (fs : Trees) → ArePlain fs → trees_put c p (x ∷ []) fs ≡ all_replaced by (λ y. y) fs
+    all_put_replaced none h = refl
+    all_put_replaced (also f fs) h = let i = put_replaced f h.0 in let j = all_put_replaced fs h.1 in subst (λ (g : Tree). also (tree_put c p (x ∷ []) f) (trees_put c p (x ∷ []) fs) ≡ also g (all_replaced by (λ y. y) fs)) i (ap (also (tree_put c p (x ∷ []) f)) j)
+
+  -- what is true of each put atom is true of each atom of the whole
+  put_every : (P : Atom → Type 0) (f : Tree) → IsPlain f → Every (λ a. Every P (by a)) f → Every P (tree_put c p (x ∷ []) f)
+  put_every P f h e = subst (Every P) (sym (put_replaced f h)) (every_replaced by (λ y. y) P f e)
+
+  put_plain : (f : Tree) → IsPlain f → InContext c f → IsPlain (tree_put c p (x ∷ []) f) × InContext c (tree_put c p (x ∷ []) f)
+  put_plain f h i =
+      subst (λ (g : Tree). IsPlain g × InContext c g) (sym (put_replaced f h))
+      (replaced_plain c by f (λ a n. simple_from c (by a) (normal_atomic c (atom_put p (x ∷ []) a)) (normal_within c (atom_put p (x ∷ []) a) (put_in_context c p (x ∷ []) a n))) h i)
+
+  atomic_alone : (t : Tree) → IsAtomic t → ((y : ℕ) → nat_eq x y ≡ false → ¬ (IsFree t y)) → Every (λ a. Alone x (form_of a)) t
+  atomic_alone Yes h n = tt
+  atomic_alone No h n = tt
+  atomic_alone (One a) h n = λ y e. by_zero (coefficient y (form_of a)) (λ z. z) (λ other. absurd (n y e other))
+  atomic_alone (Not f) h n = absurd h
+  atomic_alone (And fs) h n = absurd h
+  atomic_alone (Or fs) h n = absurd h
+  atomic_alone (Impl f g) h n = absurd h
+  atomic_alone (Repl f g) h n = absurd h
+  atomic_alone (Equiv f g) h n = absurd h
+  atomic_alone (Ex y f) h n = absurd h
+  atomic_alone (All y f) h n = absurd h
+
+  put_atom_alone : (a : Atom) → AtomIn c a → Every (λ b. Alone x (form_of b)) (by a)
+  put_atom_alone a i =
+      atomic_alone (by a) (normal_atomic c (atom_put p (x ∷ []) a)) (λ y e free. normal_names c (atom_put p (x ∷ []) a) (put_in_context c p (x ∷ []) a i) y free (atom_alone x p a y e))
+
+  put_names : (f : Tree) → IsPlain f → InContext c f → EachOf (λ a. Alone x (form_of a)) (atoms_of (tree_put c p (x ∷ []) f))
+  put_names f h i = atoms_of_every (λ a. Alone x (form_of a)) (tree_put c p (x ∷ []) f) (put_every (λ a. Alone x (form_of a)) f h (every_map (AtomIn c) (λ a. Every (λ b. Alone x (form_of b)) (by a)) put_atom_alone f i))
+
+  -- ---- truth
+
+  stay_there : (m a b : ℤ) → (m *ℤ a) *ℤ b ≡ a *ℤ (b *ℤ m)
+  stay_there m a b = simp ring
+
+  moved_mixes : (k : ℤ) (m : ℕ) → Mixes (x ∷ []) p (move nat_eq p x k m) (move nat_eq p x k m)
+  unfolding move
+  moved_mixes k m = record {
+    inside = λ y e. refl;
+    outside = λ y e. go y (nat_eq x y) refl (sym (in_one y x) ∙ e);
+  }
+    where
+      go : (y : ℕ) (b : Bool) → nat_eq x y ≡ b → nat_eq y x ≡ false → (if b then k else pos m *ℤ p.at y) *ℤ pos p.below ≡ p.at y *ℤ pos (p.below * m)
+      go y true e n = absurd (not_both (nat_eq y x) (turn_equal x y e) n)
+      go y false e n = subst (λ z. (pos m *ℤ p.at y) *ℤ pos p.below ≡ p.at y *ℤ z) (sym (pos_mul p.below m)) (stay_there (pos m) (p.at y) (pos p.below))
+
+  put_same : Of c p → (f : Tree) → InContext c f → (k : ℤ) (m : ℕ) → Allowed c m → TrueAt c f (move nat_eq p x k m) ↔ TrueAt c (tree_put c p (x ∷ []) f) (move nat_eq p x k m)
+  put_same o f i k m a = let u = moved_of c p x k m o a in put_true c p o (x ∷ []) f (move nat_eq p x k m) (move nat_eq p x k m) i u u (moved_mixes k m)
+
+  put_holds : Of c p → (s : Step) (g : Tree) → s.name ≡ x → Makes c s g → TrueAt c g p → Holds c (at_place x s.place) (tree_put c p (x ∷ []) s.branch) p
+  put_holds o s g e made t =
+      subst (λ y. Holds c (at_place y s.place) (tree_put c p (x ∷ []) s.branch) p) e
+      (meets_map c s.place s.name (λ q. TrueAt c s.branch q) (λ q. TrueAt c (tree_put c p (x ∷ []) s.branch) q) p
+      (λ k m a. subst (λ y. TrueAt c s.branch (move nat_eq p y k m) → TrueAt c (tree_put c p (x ∷ []) s.branch) (move nat_eq p y k m)) (sym e) (put_same o s.branch made.in_context k m a).0)
+      (place_in c s.name s.place s.branch made.suits) ((step_holds c s g p made o).1 t))
+
+-- ---- periods
+
+put_period : (x : ℕ) (q : ℤ) (p : Point ℕ) (a : Atom) → p.below ≡ 1 → IsPeriodOf x q a → IsPeriodOf x q (atom_put p (x ∷ []) a)
+put_period x q p (Compare r f) o h = tt
+put_period x q p (Congruent holds n f) o h =
+    subst (λ (z : ℤ). Divides (pos n) (z *ℤ q)) (sym (put_coefficient x p f ∙ ap (λ b. pos b *ℤ coefficient x f) o ∙ one_mul (coefficient x f))) h
+
+put_suits : (x : ℕ) (s : Place) (p : Point ℕ) (f : Tree) → p.below ≡ 1 → IsIntegerPlace s → IsPlain f → InContext Integers f → Every (Suits x s) f → Every (Suits x s) (tree_put Integers p (x ∷ []) f)
+put_suits x (Exact e l) p f o place plain inside h = every_all (Suits x (Exact e l)) (λ a. tt) (tree_put Integers p (x ∷ []) f)
+put_suits x (Periodic j q) p f o place plain inside h =
+    put_every Integers x p (IsPeriodOf x q) f plain
+    (every_both (AtomIn Integers) (IsPeriodOf x q) _ (λ a i g. normal_keeps_periods Integers (atom_put p (x ∷ []) a) x q (put_in_context Integers p (x ∷ []) a i) (put_period x q p a o g)) f inside h)
+put_suits x (AboveBy e l) p f o place plain inside h = absurd place
+put_suits x (BelowBy e l) p f o place plain inside h = absurd place
+put_suits x PlusInfinity p f o place plain inside h = absurd place
+put_suits x MinusInfinity p f o place plain inside h = absurd place
+
+-- ---- one value
+
+pub one_value : (c : Context) (s : Step) (g : Tree) (p : Point ℕ) (r : Frac) → Of c p → Makes c s g → TrueAt c g p → IsLower s.place → place_value c s.name s.place s.branch p ≡ Some r →
+    IsValue c (record { name = s.name; at = r }) × TrueAt c s.branch (move nat_eq p s.name (r.numerator *ℤ pos p.below) (unsigned_abs r.denominator))
+one_value Fields s g p r o made t low h =
+    let x = s.name in
+    let w = put_plain Fields x p s.branch made.is_plain made.in_context in
+    let is = field_sample x s.place s.branch p r o low made.suits (atoms_of_every (AtomIn Fields) (tree_put Fields p (x ∷ []) s.branch) w.1) (put_names Fields x p s.branch made.is_plain made.in_context) h in
+    let pm = abs_above r.denominator is.0 in (
+      record { proper = is.0; lowest_terms = is.1; whole = tt },
+      (put_same Fields x p o s.branch made.in_context (r.numerator *ℤ pos p.below) (unsigned_abs r.denominator) pm).1
+      (field_sample_is_true x s.place (tree_put Fields p (x ∷ []) s.branch) p (r.numerator *ℤ pos p.below) (unsigned_abs r.denominator) made.suits w.0 w.1 o pm is.2 (put_holds Fields x p o s g refl made t)),
+    )
+one_value Integers s g p r o made t low h =
+    let x = s.name in
+    let w = put_plain Integers x p s.branch made.is_plain made.in_context in
+    let holds = put_holds Integers x p o s g refl made t in
+    let is = integer_sample x s.place s.branch p r o low made.suits.0 (put_names Integers x p s.branch made.is_plain made.in_context) holds h in
+    let one : unsigned_abs r.denominator ≡ 1 = ap unsigned_abs is.0.one in
+    let there : TrueAt Integers (tree_put Integers p (x ∷ []) s.branch) (move nat_eq p x (r.numerator *ℤ pos p.below) 1) =
+        integer_sample_is_true x s.place (tree_put Integers p (x ∷ []) s.branch) p (r.numerator *ℤ pos p.below) made.suits.0 (put_suits x s.place p s.branch o made.suits.0 made.is_plain made.in_context made.suits.1) w.0 o holds is.1 in (
+      record { proper = is.0.proper; lowest_terms = is.0.lowest_terms; whole = is.0.one },
+      (put_same Integers x p o s.branch made.in_context (r.numerator *ℤ pos p.below) (unsigned_abs r.denominator) one).1
+      (subst (λ (n : ℕ). TrueAt Integers (tree_put Integers p (x ∷ []) s.branch) (move nat_eq p x (r.numerator *ℤ pos p.below) n)) (sym one) there),
+    )

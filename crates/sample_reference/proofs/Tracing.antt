@@ -1,0 +1,208 @@
+-- Each step of a branch is one of the lower side, and leaves the branch of the next.
+use Rattle.std.proofs.Common.{◌≡◌, ℕ, suc, zero, ◌+◌, ◌*◌, ◌/◌, Bool, true, false, ◌&&◌, List, [], ◌∷◌, ◌++◌, map, flat_map, refl, sym, ap, ◌∙◌, subst, nat_eq, if◌then◌else◌, arith}
+use Rattle.std.proofs.Math.IntN.{ℤ, pos, negsuc, neg_ℤ}
+use Rattle.formula_meaning.specs.Context.{Context, Fields, Integers}
+use Rattle.formula_meaning.specs.Formula.{Yes, No, One, Not, And, Or, Impl, Repl, Equiv, Ex, All, none, also}
+use Rattle.formula_meaning.specs.Some.{EachOf}
+use Rattle.formula_meaning.specs.Shape.{is_in}
+use Rattle.formula_meaning.specs.Sizes.{nodes}
+use Rattle.formula_meaning.specs.Fold.{Conjunction, Disjunction, fold_list}
+use Rattle.formula_meaning.specs.Form.{Form, coefficient, without}
+use Rattle.formula_meaning.specs.Atom.{Atom, Compare, Congruent, Relation, Equals, Differs, Below, AtMost, Above, AtLeast, mirrored}
+use Rattle.formula_meaning.specs.Answer.{Place, Periodic, same_place}
+use Rattle.formula_meaning.specs.Tree.{Tree, Trees}
+use Rattle.elimination_theory.specs.Answers.{Step, zero_place}
+use Rattle.elimination_theory.specs.Atoms.{atoms_in, atoms_of}
+use Rattle.elimination_theory.specs.Side.{Lower}
+use Rattle.elimination_theory.specs.BothTheories.{test_points}
+use Rattle.elimination_theory.specs.FieldsPoints.{ends_of, comparison_points, atom_points, infinity_of}
+use Rattle.elimination_theory.specs.IntegersPoints.{counted, class_points, next_points, points_with, scale_of, own_span, atom_starts}
+use Rattle.elimination_theory.specs.Steps.{Result, kept, results, result_at, step}
+use Rattle.elimination_theory.proofs.SomeListed.{each_append, each_distinct, each_mapped, each_flat_map}
+use Rattle.atom_normal.specs.NormalForm.{normal_atom, negated_normal}
+use Rattle.elimination_reference.specs.Limits.{each, place_within, atom_within, span_within, step_within}
+use Rattle.elimination_reference.specs.Measured.{Outcome, stopped, done, Gives, Counted, ◌>>=◌, give, pay, within}
+use Rattle.elimination_reference.specs.Reference.{Branch, stands_among, kept_at_zero, next_branch, alone, together, turned, point_count, full_step, one_step, steps, closed, branches, members}
+use Rattle.elimination_reference.proofs.Always.{Always, always_then, always_map, always_give, always_pay, always_within}
+use Rattle.sample_reference.specs.Traced.{IsLower, after_step, after_within, Leaves, Trace, IsTraced}
+
+-- ---- lists
+
+both_true : (a b : Bool) → (a && b) ≡ true → (a ≡ true) × (b ≡ true)
+both_true true true e = (refl, refl)
+both_true true false e = absurd (grind arith)
+both_true false true e = absurd (grind arith)
+both_true false false e = absurd (grind arith)
+
+pub each_true : {X : Type 0} (test : X → Bool) (xs : List X) → each test xs ≡ true → EachOf (λ x. test x ≡ true) xs
+each_true test [] e = tt
+each_true test (x ∷ xs) e = let b = both_true (test x) (each test xs) e in (b.0, each_true test xs b.1)
+
+each_pair : {X : Type 0} (P Q : X → Type 0) (xs : List X) → EachOf P xs → EachOf Q xs → EachOf (λ x. P x × Q x) xs
+each_pair P Q [] h k = tt
+each_pair P Q (x ∷ xs) h k = ((h.0, k.0), each_pair P Q xs h.1 k.1)
+
+-- ---- test points of the lower side
+
+lower_ends : (r : Relation) (e : Form) (d : ℕ) → EachOf IsLower (ends_of Lower r e d)
+lower_ends Equals e d = (tt, tt)
+lower_ends Differs e d = (tt, tt)
+lower_ends Below e d = tt
+lower_ends AtMost e d = tt
+lower_ends Above e d = (tt, tt)
+lower_ends AtLeast e d = (tt, tt)
+
+lower_comparison : (a : ℤ) (r : Relation) (t : Form) → EachOf IsLower (comparison_points Lower a r t)
+lower_comparison (pos zero) r t = tt
+lower_comparison (pos (suc n)) r t = lower_ends r _ (suc n)
+lower_comparison (negsuc n) r t = lower_ends (mirrored r) t (suc n)
+
+lower_atom : (x : ℕ) (a : Atom) → EachOf IsLower (atom_points Lower x a)
+lower_atom x (Compare r f) = lower_comparison (coefficient x f) r (without x f)
+lower_atom x (Congruent holds n f) = tt
+
+lower_classes : (period : ℕ) → EachOf IsLower (class_points Lower period)
+lower_classes zero = tt
+lower_classes (suc n) = each_mapped IsLower _ (counted 1 (suc n)) (λ j. tt)
+
+lower_with : (l d x : ℕ) (atoms : List Atom) → EachOf IsLower (points_with Lower l d x atoms)
+lower_with l d x atoms =
+    each_append IsLower (class_points Lower (d / l)) _ (lower_classes (d / l))
+    (each_flat_map IsLower (next_points Lower l d) (flat_map (atom_starts Lower l x) atoms) (λ b. each_mapped IsLower _ (counted 1 d) (λ j. tt)))
+
+lower_points : (c : Context) (x : ℕ) (atoms : List Atom) → EachOf IsLower (test_points c Lower x atoms)
+lower_points Fields x atoms = each_distinct same_place IsLower (infinity_of Lower ∷ flat_map (atom_points Lower x) atoms) (tt, each_flat_map IsLower (atom_points Lower x) atoms (lower_atom x))
+lower_points Integers x atoms = each_distinct same_place IsLower _ (lower_with (scale_of x atoms) (own_span x atoms) x atoms)
+
+-- ---- one step
+
+each_kept : (P : Result → Type 0) (s : Place) (t : Tree) (rest : List Result) → P (record { place = s; tree = t }) → EachOf P rest → EachOf P (kept s t rest)
+each_kept P s Yes rest h k = (h, k)
+each_kept P s No rest h k = k
+each_kept P s (One a) rest h k = (h, k)
+each_kept P s (Not f) rest h k = (h, k)
+each_kept P s (And fs) rest h k = (h, k)
+each_kept P s (Or fs) rest h k = (h, k)
+each_kept P s (Impl f g) rest h k = (h, k)
+each_kept P s (Repl f g) rest h k = (h, k)
+each_kept P s (Equiv f g) rest h k = (h, k)
+each_kept P s (Ex x f) rest h k = (h, k)
+each_kept P s (All x f) rest h k = (h, k)
+
+always_tested : {B : Type 0} (test : Bool) (Q : B → Type 0) (k : Unit {0} → Counted B) → (test ≡ true → Always Q (k tt)) → Always Q (within test >>= k)
+always_tested true Q k h cost = h refl cost
+always_tested false Q k h cost = tt
+
+module _ (c : Context) (root : Tree) where
+  abbrev Traced : List Branch → Type 0
+  Traced bs = EachOf (IsTraced c root) bs
+
+  module _ (x : ℕ) (b : Branch) (here : IsTraced c root b) (stands : stands_among x (atoms_in b.tree) ≡ true) where
+    abbrev step_at : Place → Step
+    step_at s = record { name = x; place = s; branch = b.tree }
+
+    leaves_at : (s : Place) → IsLower s → (place_within s && each (atom_within c x s) (atoms_of b.tree)) ≡ true → Leaves c (step_at s) (result_at c (normal_atom c) x s b.tree)
+    leaves_at s low e = record {
+      lower = low;
+      tree = sym (ap (λ (t : Bool). if t then result_at c (normal_atom c) x s b.tree else b.tree) stands);
+      within = ap (λ (t : Bool). if t then (place_within s && each (atom_within c x s) (atoms_of b.tree)) else true) stands ∙ e;
+    }
+
+    results_left : (places : List Place) → EachOf (λ s. IsLower s × ((place_within s && each (atom_within c x s) (atoms_of b.tree)) ≡ true)) places →
+        EachOf (λ (r : Result). Leaves c (step_at r.place) r.tree) (results c (normal_atom c) x b.tree places)
+    results_left [] h = tt
+    results_left (s ∷ places) h =
+        each_kept (λ (r : Result). Leaves c (step_at r.place) r.tree) s (result_at c (normal_atom c) x s b.tree) (results c (normal_atom c) x b.tree places)
+        (leaves_at s h.0.0 h.0.1) (results_left places h.1)
+
+    next_traced : (rs : List Result) → EachOf (λ (r : Result). Leaves c (step_at r.place) r.tree) rs → Traced (map (next_branch x b) rs)
+    next_traced [] h = tt
+    next_traced (r ∷ rs) h = ((h.0, here), next_traced rs h.1)
+
+  kept_traced : (x : ℕ) (b : Branch) → IsTraced c root b → stands_among x (atoms_in b.tree) ≡ false → IsTraced c root (kept_at_zero x b)
+  kept_traced x b here e = (
+    record {
+      lower = tt;
+      tree = sym (ap (λ (t : Bool). if t then result_at c (normal_atom c) x zero_place b.tree else b.tree) e);
+      within = ap (λ (t : Bool). if t then (place_within zero_place && each (atom_within c x zero_place) (atoms_of b.tree)) else true) e;
+    },
+    here,
+  )
+
+  module _ (limit : ℕ) where
+    one_traced : (x : ℕ) (b : Branch) → IsTraced c root b → Always Traced (one_step c limit x b)
+    one_traced x b here = go (stands_among x (atoms_in b.tree)) refl
+      where
+        go : (test : Bool) → stands_among x (atoms_in b.tree) ≡ test → Always Traced (if test then full_step c limit x b else give (kept_at_zero x b ∷ []))
+        go true e =
+            always_then (λ u. Unit {0}) Traced (within (span_within c x b.tree)) _ (always_within (span_within c x b.tree)) (λ u v.
+            always_then (λ u. Unit {0}) Traced (pay limit (point_count c x b.tree * (nodes b.tree + 2))) _ (always_pay limit (point_count c x b.tree * (nodes b.tree + 2))) (λ u v.
+            always_tested (step_within c x b.tree) Traced _ (λ w.
+            always_give Traced (map (next_branch x b) (step c (normal_atom c) Lower x b.tree))
+            (next_traced x b here e _ (results_left x b here e (test_points c Lower x (atoms_of b.tree))
+            (each_pair IsLower _ (test_points c Lower x (atoms_of b.tree)) (lower_points c x (atoms_of b.tree)) (each_true _ (test_points c Lower x (atoms_of b.tree)) w)))))))
+        go false e = always_give Traced (kept_at_zero x b ∷ []) (kept_traced x b here e, tt)
+
+    -- steps keep the trace
+    pub steps_traced : (x : ℕ) (bs : List Branch) → Traced bs → Always Traced (steps c limit x bs)
+    steps_traced x [] h = always_give Traced [] tt
+    steps_traced x (b ∷ bs) h =
+        always_then Traced Traced (one_step c limit x b) _ (one_traced x b h.0) (λ first i.
+        always_then Traced Traced (steps c limit x bs) _ (steps_traced x bs h.1) (λ rest j.
+        always_give Traced (first ++ rest) (each_append (IsTraced c root) first rest i j)))
+
+-- ---- branches
+
+always_any : {A : Type 0} (m : Counted A) → Always (λ a. Unit {0}) m
+always_any {A} m cost = go (m cost)
+  where
+    go : (o : Outcome (A × ℕ)) → Gives (λ (r : A × ℕ). Unit {0}) o
+    go (stopped s) = tt
+    go (done r) = tt
+
+module _ (c : Context) (limit : ℕ) where
+  -- the branches come from one formula
+  abbrev pub FromOne : List Branch → Type 0
+  FromOne bs = (root : Tree) × EachOf (IsTraced c root) bs
+
+  alone_from : (t : Tree) → Always FromOne (give (alone t))
+  alone_from t = always_give FromOne (alone t) (t, (refl, tt))
+
+  then_alone : {A : Type 0} (m : Counted A) (k : A → Tree) → Always FromOne (m >>= λ a. give (alone (k a)))
+  then_alone m k = always_then (λ a. Unit {0}) FromOne m (λ a. give (alone (k a))) (always_any m) (λ a u. alone_from (k a))
+
+  closed_from : (sign : Bool) (x : ℕ) (inner : Counted (List Branch)) → Always FromOne (closed c limit sign x inner)
+  closed_from sign x inner = always_then (λ a. Unit {0}) FromOne inner _ (always_any inner) (λ bs u. then_alone (steps c limit x bs) (λ left. turned sign (together left)))
+
+  chain_from : (x : ℕ) (ended going : Counted (List Branch)) (test : Bool) → Always FromOne going → Always FromOne (if test then closed c limit true x ended else (going >>= steps c limit x))
+  chain_from x ended going true h = closed_from true x ended
+  chain_from x ended going false h = always_then FromOne FromOne going (steps c limit x) h (λ bs r. always_map (EachOf (IsTraced c r.0)) FromOne (steps c limit x bs) (λ left i. (r.0, i)) (steps_traced c r.0 limit x bs r.1))
+
+  pub branches_from : (names : List ℕ) (sign : Bool) (f : Tree) → Always FromOne (branches c limit names sign f)
+  branches_from names true Yes = alone_from Yes
+  branches_from names false Yes = alone_from No
+  branches_from names true No = alone_from No
+  branches_from names false No = alone_from Yes
+  branches_from names true (One a) = alone_from (One a)
+  branches_from names false (One a) = alone_from (One (negated_normal a))
+  branches_from names true (And fs) = then_alone (members c limit true fs) _
+  branches_from names false (And fs) = then_alone (members c limit false fs) _
+  branches_from names true (Or fs) = then_alone (members c limit true fs) _
+  branches_from names false (Or fs) = then_alone (members c limit false fs) _
+  branches_from names true (Ex x f) = chain_from x (branches c limit (x ∷ []) true f) (branches c limit (x ∷ names) true f) (is_in nat_eq x names) (branches_from (x ∷ names) true f)
+  branches_from names false (Ex x f) = closed_from false x (branches c limit (x ∷ []) true f)
+  branches_from names true (All x f) = closed_from false x (branches c limit (x ∷ []) false f)
+  branches_from names false (All x f) = chain_from x (branches c limit (x ∷ []) false f) (branches c limit (x ∷ names) false f) (is_in nat_eq x names) (branches_from (x ∷ names) false f)
+  branches_from names true (Not f) = always_give FromOne [] (Yes, tt)
+  branches_from names false (Not f) = always_give FromOne [] (Yes, tt)
+  branches_from names true (Impl f g) = always_give FromOne [] (Yes, tt)
+  branches_from names false (Impl f g) = always_give FromOne [] (Yes, tt)
+  branches_from names true (Repl f g) = always_give FromOne [] (Yes, tt)
+  branches_from names false (Repl f g) = always_give FromOne [] (Yes, tt)
+  branches_from names true (Equiv f g) = always_give FromOne [] (Yes, tt)
+  branches_from names false (Equiv f g) = always_give FromOne [] (Yes, tt)
+
+-- the steps of a traced branch are of the lower side
+pub lower_steps : (c : Context) (root : Tree) (steps : List Step) (t : Tree) → Trace c root steps t → EachOf (λ (s : Step). IsLower s.place) steps
+lower_steps c root [] t h = tt
+lower_steps c root (s ∷ rest) t h = (h.0.lower, lower_steps c root rest s.branch h.1)

@@ -1,0 +1,6 @@
+pub mod Values
+pub mod Seen
+pub mod Calculated
+pub mod Sample
+pub mod Traced
+pub mod Theorems

@@ -1,0 +1,18 @@
+-- What is proved of the reference sample.
+use Rattle.std.specs.Prelude.{ℕ}
+use Rattle.formula_meaning.specs.Context.{Context}
+use Rattle.formula_meaning.specs.Every.{Every}
+use Rattle.formula_meaning.specs.Point.{Point, Of}
+use Rattle.formula_meaning.specs.Tree.{Tree, IsFree}
+use Rattle.atom_normal.specs.NormalForm.{IsNormal}
+use Rattle.elimination_reference.specs.Measured.{Gives}
+use Rattle.sample_reference.specs.Values.{origin}
+use Rattle.sample_reference.specs.Sample.{closed_sample, reference_sample, IsTrueSample}
+
+-- At a point: where there are values the matrix is true with them, and there are none exactly where the formula is false.
+abbrev pub SampleIsTrue : Context → Type 0
+SampleIsTrue c = (limit : ℕ) (f : Tree) (p : Point ℕ) → Every (IsNormal c) f → Of c p → Gives (λ r. IsTrueSample c f p r.0) (reference_sample c limit p f)
+
+-- The same of a formula without free names.
+abbrev pub ClosedSampleIsTrue : Context → Type 0
+ClosedSampleIsTrue c = (limit : ℕ) (f : Tree) → Every (IsNormal c) f → ((y : ℕ) → ¬ (IsFree f y)) → Gives (λ r. IsTrueSample c f origin r.0) (closed_sample c limit f)

@@ -1,0 +1,43 @@
+-- Branches come from one formula by the steps that they name.
+use Rattle.std.specs.Prelude.{◌≡◌, pos, negsuc, Bool, true, ◌&&◌, List, [], ◌∷◌, if◌then◌else◌}
+use Rattle.formula_meaning.specs.Context.{Context}
+use Rattle.formula_meaning.specs.Answer.{Place, Exact, AboveBy, BelowBy, PlusInfinity, MinusInfinity, Periodic}
+use Rattle.formula_meaning.specs.Tree.{Tree}
+use Rattle.elimination_theory.specs.Answers.{Step}
+use Rattle.elimination_theory.specs.Atoms.{atoms_in, atoms_of}
+use Rattle.elimination_theory.specs.Steps.{result_at}
+use Rattle.atom_normal.specs.NormalForm.{normal_atom}
+use Rattle.elimination_reference.specs.Limits.{each, place_within, atom_within}
+use Rattle.elimination_reference.specs.Reference.{Branch, stands_among}
+
+-- the places of the lower side
+abbrev pub IsLower : Place → Type 0
+IsLower (Exact e d) = Unit {0}
+IsLower (AboveBy e d) = Unit {0}
+IsLower (BelowBy e d) = ⊥
+IsLower PlusInfinity = ⊥
+IsLower MinusInfinity = Unit {0}
+IsLower (Periodic j (negsuc q)) = Unit {0}
+IsLower (Periodic j (pos q)) = ⊥
+
+-- what a step leaves of its branch; a branch without the name stays
+abbrev pub after_step : Context → Step → Tree
+after_step c s = if stands_among s.name (atoms_in s.branch) then result_at c (normal_atom c) s.name s.place s.branch else s.branch
+
+-- no number that is formed for it passes the limit
+abbrev pub after_within : Context → Step → Bool
+after_within c s = if stands_among s.name (atoms_in s.branch) then (place_within s.place && each (atom_within c s.name s.place) (atoms_of s.branch)) else true
+
+-- the step leaves the formula
+pub record Leaves (c : Context) (s : Step) (t : Tree) : Type 0 where
+  pub lower : IsLower s.place
+  pub tree : t ≡ after_step c s
+  pub within : after_within c s ≡ true
+
+-- the steps, the last one first, lead from the root to the formula
+abbrev pub Trace : Context → Tree → List Step → Tree → Type 0
+Trace c root [] t = t ≡ root
+Trace c root (s ∷ rest) t = Leaves c s t × Trace c root rest s.branch
+
+abbrev pub IsTraced : Context → Tree → Branch → Type 0
+IsTraced c root b = Trace c root b.steps b.tree

@@ -1,0 +1,13 @@
+//! The reference sample: values for the names of the leading block, calculated from the first case whose guard is true, and its
+//! theorems. Each function does nothing; its contract is a theorem.
+#![tactic(auto)]
+
+ghost use Rattle.formula_meaning.specs.Context.{Context};
+ghost use Rattle.sample_reference.specs.Theorems.{SampleIsTrue};
+
+/// Where the reference sample gives values, they are those of the names of the leading block, in lowest terms and over the integers
+/// whole, and the matrix behind the block is true at the point with them. It gives none exactly where the formula, or its negation
+/// where it begins with `all`, is false at the point.
+pub fn sample_is_true()
+    ensures { (c : Context) → SampleIsTrue c }
+{}
