@@ -75,7 +75,7 @@ module _ (s : State) (limit : ℕ) (t : Tree) (bare : IsBare s) (own : IsOwnForm
 
   may_not : (e : StatementError) → MayRefuse s limit use_of_line (Echo w) e → ⊥
   may_not error.Overflow h = ⊎_elim (no_cause error.Overflow) (⊎_elim (λ k. k.0) absurd) h
-  may_not error.Nodes h = ⊎_elim (λ k. k.0) absurd h
+  may_not error.Nodes h = ⊎_elim (λ k. k.0) (⊎_elim absurd absurd) h
   may_not error.Bindings h = ⊎_elim (no_cause error.Bindings) (λ k. k.1) h
   may_not error.Text h = ⊎_elim (no_cause error.Text) (λ k. k.1.1) h
   may_not e h = no_cause e h

@@ -70,28 +70,28 @@ IsEcho (Qea f given) = ⊥
 IsEcho (Holds f es) = ⊥
 IsEcho (Sample f es) = ⊥
 
--- the command asks for an elimination
-abbrev pub IsElimination : CommandTree → Type 0
-IsElimination (Echo f) = ⊥
-IsElimination (Nnf f) = ⊥
-IsElimination (Pnf f) = ⊥
-IsElimination (Dnf f) = ⊥
-IsElimination (Cnf f) = ⊥
-IsElimination (Simpl f given) = ⊥
-IsElimination (Qe f given) = Unit {0}
-IsElimination (Qea f given) = Unit {0}
-IsElimination (Holds f es) = ⊥
-IsElimination (Sample f es) = ⊥
+-- the command leaves a choice of formulas: it simplifies, brings to a clean form, or eliminates
+abbrev pub LeavesChoice : CommandTree → Type 0
+LeavesChoice (Echo f) = ⊥
+LeavesChoice (Nnf f) = ⊥
+LeavesChoice (Pnf f) = ⊥
+LeavesChoice (Dnf f) = Unit {0}
+LeavesChoice (Cnf f) = Unit {0}
+LeavesChoice (Simpl f given) = Unit {0}
+LeavesChoice (Qe f given) = Unit {0}
+LeavesChoice (Qea f given) = ⊥
+LeavesChoice (Holds f es) = ⊥
+LeavesChoice (Sample f es) = ⊥
 
 -- The text is that of a formula which the command may give, and which is one as the session has it. It is no higher than a
--- resolved formula may be where the command asks for the formula as it is, and its numbers are within the limit where no
--- elimination is asked for.
+-- resolved formula may be where the command asks for the formula as it is, and its numbers are within the limit where the
+-- command leaves no choice.
 pub record IsPrinted (s : State) (limit : ℕ) (c : CommandTree) (text : List ℕ) : Type 0 where
   pub tree : Tree
   pub given : MayGive s limit c tree
   pub text_is : text ≡ tree_text s.names tree
   pub formula : IsSessionFormula s.context (length s.names) tree
-  pub numbers : ¬ (IsElimination c) → Every AtomFits tree
+  pub numbers : ¬ (LeavesChoice c) → Every AtomFits tree
   pub low : IsEcho c → height tree ≤ most_height
 
 -- What a formula command prints in a state in which nothing is bound is such a text, and the state after it is again one in

@@ -1,5 +1,5 @@
 -- Causes of refusals, in their order.
-use Rattle.std.proofs.Common.{◌≡◌, ◌⊎◌, inl, inr, ⊎_elim, ℕ, ◌+◌, ◌-◌, ◌*◌, ◌<◌, ◌≤◌, List, [], sym, subst, refl, arith}
+use Rattle.std.proofs.Common.{◌≡◌, ◌⊎◌, inl, inr, ⊎_elim, ℕ, ◌+◌, ◌-◌, ◌*◌, ◌<◌, ◌≤◌, List, [], sym, ap, ◌∙◌, subst, refl, arith}
 use Rattle.std.proofs.Math.IntN.{ℤ, pos}
 use Rattle.std.proofs.lemmas.Int.{ints}
 use Rattle.exact_numbers.specs.Limit.{PastLimit}
@@ -23,7 +23,7 @@ use Rattle.session_commands.specs.State.{State}
 use Rattle.session_commands.specs.Parts.{given_of}
 use Rattle.session_commands.specs.Commands.{formula_of, entries_of}
 use Rattle.session_commands.specs.Points.{MeanNoPoint}
-use Rattle.session_commands.specs.Causes.{Use, AsksTruth, InSomePart, IsCause, rank, HasNoCauseBelow, Refuses, IsAccepted}
+use Rattle.session_commands.specs.Causes.{Use, AsksAtPoint, InSomePart, IsCause, rank, HasNoCauseBelow, Refuses, IsAccepted}
 use Rattle.session_commands.specs.Steps.{static_refusal, HasNumbers, IsReadable, ArePartsNumbered, ArePartsReadable, ArePartsUnread, AppliesToPart, IsFirstPartCause}
 use Rattle.session_commands.proofs.PartLemmas.{some_part, no_part}
 
@@ -86,28 +86,28 @@ module _ (s : State) (u : Use) (c : CommandTree) (numbers : ArePartsNumbered s.n
 
   -- where no cause in reading applies below a place of the order, nor one of the point or of free names, none does
   pub none_below : (m : ℕ) → m ≤ 16 → ((d : StaticError) → rank (static_refusal d) < m → ¬ (Applies d)) → (6 < m → ¬ (SomeOf (λ (e : PointEntry). IsBound s.bound e.name) (entries_of c)))
-      → (12 < m → ¬ (MeanNoPoint s.context (entries_of c))) → (13 < m → ¬ (IsCause s u c error.Unvalued)) → (15 < m → ¬ (PassesLimit (entries_of c))) → HasNoCauseBelow s u c m
-  none_below m b first bound point valued within error.Unbound l k = first static.Unbound l k
-  none_below m b first bound point valued within error.FormulaAsTerm l (inl k) = first static.FormulaAsTerm l k
-  none_below m b first bound point valued within error.FormulaAsTerm l (inr k) = bound l k
-  none_below m b first bound point valued within error.Nonlinear l k = first static.Nonlinear l (linear_here k)
-  none_below m b first bound point valued within error.Division l k = first static.Division l (divides_here k)
-  none_below m b first bound point valued within error.CongruenceContext l k = first static.CongruenceContext l k
-  none_below m b first bound point valued within error.Modulus l k = first static.Modulus l (modulus_here k)
-  none_below m b first bound point valued within error.Depth l k = first static.Depth l k
-  none_below m b first bound point valued within error.Point l k = point l k
-  none_below m b first bound point valued within error.Unvalued l k = valued l k
-  none_below m b first bound point valued within error.Quantified l k = k
-  none_below m b first bound point valued within error.Overflow l (inl k) = first static.Overflow l (overflow_here k)
-  none_below m b first bound point valued within error.Overflow l (inr k) = within l k
-  none_below m b first bound point valued within error.Bindings l k = absurd (omega arith)
-  none_below m b first bound point valued within error.Text l k = absurd (omega arith)
-  none_below m b first bound point valued within error.Long l k = k
-  none_below m b first bound point valued within error.Lexical l k = k
-  none_below m b first bound point valued within error.Nesting l k = k
-  none_below m b first bound point valued within error.Syntax l k = k
-  none_below m b first bound point valued within error.Nodes l k = k
-  none_below m b first bound point valued within error.Memory l k = k
+      → (12 < m → ¬ (MeanNoPoint s.context (entries_of c))) → (13 < m → ¬ (IsCause s u c error.Unvalued)) → (14 < m → ¬ (IsCause s u c error.Quantified)) → (15 < m → ¬ (PassesLimit (entries_of c))) → HasNoCauseBelow s u c m
+  none_below m b first bound point valued plain within error.Unbound l k = first static.Unbound l k
+  none_below m b first bound point valued plain within error.FormulaAsTerm l (inl k) = first static.FormulaAsTerm l k
+  none_below m b first bound point valued plain within error.FormulaAsTerm l (inr k) = bound l k
+  none_below m b first bound point valued plain within error.Nonlinear l k = first static.Nonlinear l (linear_here k)
+  none_below m b first bound point valued plain within error.Division l k = first static.Division l (divides_here k)
+  none_below m b first bound point valued plain within error.CongruenceContext l k = first static.CongruenceContext l k
+  none_below m b first bound point valued plain within error.Modulus l k = first static.Modulus l (modulus_here k)
+  none_below m b first bound point valued plain within error.Depth l k = first static.Depth l k
+  none_below m b first bound point valued plain within error.Point l k = point l k
+  none_below m b first bound point valued plain within error.Unvalued l k = valued l k
+  none_below m b first bound point valued plain within error.Quantified l k = plain l k
+  none_below m b first bound point valued plain within error.Overflow l (inl k) = first static.Overflow l (overflow_here k)
+  none_below m b first bound point valued plain within error.Overflow l (inr k) = within l k
+  none_below m b first bound point valued plain within error.Bindings l k = absurd (omega arith)
+  none_below m b first bound point valued plain within error.Text l k = absurd (omega arith)
+  none_below m b first bound point valued plain within error.Long l k = k
+  none_below m b first bound point valued plain within error.Lexical l k = k
+  none_below m b first bound point valued plain within error.Nesting l k = k
+  none_below m b first bound point valued plain within error.Syntax l k = k
+  none_below m b first bound point valued plain within error.Nodes l k = k
+  none_below m b first bound point valued plain within error.Memory l k = k
 
 -- ---- commands without a point
 
@@ -139,7 +139,7 @@ readable_part s g static.Memory l h k = absurd (omega arith)
 -- the command has no point, and asks for no truth
 pub record IsPlainCommand (c : CommandTree) : Type 0 where
   pub no_entries : entries_of c ≡ []
-  pub no_truth : ¬ (AsksTruth c)
+  pub no_point : ¬ (AsksAtPoint c)
 
 module _ (s : State) (u : Use) (c : CommandTree) (numbers : ArePartsNumbered s.names (formula_of c) (given_of c)) (single : IsPlainCommand c) where
   no_bound : ¬ (SomeOf (λ (e : PointEntry). IsBound s.bound e.name) (entries_of c))
@@ -151,40 +151,44 @@ module _ (s : State) (u : Use) (c : CommandTree) (numbers : ArePartsNumbered s.n
   no_past : ¬ (PassesLimit (entries_of c))
   no_past h = nothing_passes (subst PassesLimit single.no_entries h)
 
-  plain_below : (m : ℕ) → m ≤ 16 → ((d : StaticError) → rank (static_refusal d) < m → ¬ (AppliesToPart s (formula_of c) (given_of c) d)) → HasNoCauseBelow s u c m
-  plain_below m b first = none_below s u c numbers m b first (λ l. no_bound) (λ l. no_meaning) (λ l k. single.no_truth k.0) (λ l. no_past)
+  plain_below : (m : ℕ) → m ≤ 16 → (14 < m → ¬ (IsCause s u c error.Quantified)) → ((d : StaticError) → rank (static_refusal d) < m → ¬ (AppliesToPart s (formula_of c) (given_of c) d)) → HasNoCauseBelow s u c m
+  plain_below m b plain first = none_below s u c numbers m b first (λ l. no_bound) (λ l. no_meaning) (λ l k. single.no_point k.0) plain (λ l. no_past)
 
-  unread_one : (limit : ℕ) (d : StaticError) → IsFirstPartCause s (formula_of c) (given_of c) d → Refuses s limit u c (static_refusal d)
-  unread_one limit static.Memory h = tt
-  unread_one limit static.Unbound h = record { applies = h.applies; first = plain_below 5 (omega arith) (λ e l. h.first e (earlier e static.Unbound l)) }
-  unread_one limit static.FormulaAsTerm h = record { applies = inl h.applies; first = plain_below 6 (omega arith) (λ e l. h.first e (earlier e static.FormulaAsTerm l)) }
-  unread_one limit static.Nonlinear h = record {
+  unread_one : (limit : ℕ) (d : StaticError) → (d ≡ static.Overflow → ¬ (IsCause s u c error.Quantified)) → IsFirstPartCause s (formula_of c) (given_of c) d → Refuses s limit u c (static_refusal d)
+  unread_one limit static.Memory plain h = tt
+  unread_one limit static.Unbound plain h = record { applies = h.applies; first = plain_below 5 (omega arith) (λ l. absurd (omega arith)) (λ e l. h.first e (earlier e static.Unbound l)) }
+  unread_one limit static.FormulaAsTerm plain h = record { applies = inl h.applies; first = plain_below 6 (omega arith) (λ l. absurd (omega arith)) (λ e l. h.first e (earlier e static.FormulaAsTerm l)) }
+  unread_one limit static.Nonlinear plain h = record {
     applies = here_after s u c numbers (λ ns. IsNonlinear s.context (place ns)) h.applies;
-    first = plain_below 7 (omega arith) (λ e l. h.first e (earlier e static.Nonlinear l));
+    first = plain_below 7 (omega arith) (λ l. absurd (omega arith)) (λ e l. h.first e (earlier e static.Nonlinear l));
   }
-  unread_one limit static.Division h = record {
+  unread_one limit static.Division plain h = record {
     applies = here_after s u c numbers (λ ns. Divides s.context (place ns)) h.applies;
-    first = plain_below 8 (omega arith) (λ e l. h.first e (earlier e static.Division l));
+    first = plain_below 8 (omega arith) (λ l. absurd (omega arith)) (λ e l. h.first e (earlier e static.Division l));
   }
-  unread_one limit static.CongruenceContext h = record { applies = h.applies; first = plain_below 9 (omega arith) (λ e l. h.first e (earlier e static.CongruenceContext l)) }
-  unread_one limit static.Modulus h = record {
+  unread_one limit static.CongruenceContext plain h = record { applies = h.applies; first = plain_below 9 (omega arith) (λ l. absurd (omega arith)) (λ e l. h.first e (earlier e static.CongruenceContext l)) }
+  unread_one limit static.Modulus plain h = record {
     applies = here_after s u c numbers (λ ns. IsBadModulus s.context (place ns)) h.applies;
-    first = plain_below 10 (omega arith) (λ e l. h.first e (earlier e static.Modulus l));
+    first = plain_below 10 (omega arith) (λ l. absurd (omega arith)) (λ e l. h.first e (earlier e static.Modulus l));
   }
-  unread_one limit static.Depth h = record { applies = h.applies; first = plain_below 11 (omega arith) (λ e l. h.first e (earlier e static.Depth l)) }
-  unread_one limit static.Overflow h = record {
+  unread_one limit static.Depth plain h = record { applies = h.applies; first = plain_below 11 (omega arith) (λ l. absurd (omega arith)) (λ e l. h.first e (earlier e static.Depth l)) }
+  unread_one limit static.Overflow plain h = record {
     applies = inl (inl (here_after s u c numbers (λ ns. OverflowsInReading s.context s.bound (place ns)) h.applies));
-    first = plain_below 15 (omega arith) (λ e l. h.first e (earlier e static.Overflow l));
+    first = plain_below 15 (omega arith) (λ l. plain refl) (λ e l. h.first e (earlier e static.Overflow l));
   }
 
-  pub unread_refuses : (limit : ℕ) (e : StatementError) → ArePartsUnread s (formula_of c) (given_of c) e → Refuses s limit u c e
-  unread_refuses limit e h = subst (Refuses s limit u c) (sym h.1) (unread_one limit h.0 h.2)
+  pub unread_refuses : (limit : ℕ) (e : StatementError) → (e ≡ error.Overflow → ¬ (IsCause s u c error.Quantified)) → ArePartsUnread s (formula_of c) (given_of c) e → Refuses s limit u c e
+  unread_refuses limit e plain h = subst (Refuses s limit u c) (sym h.1) (unread_one limit h.0 (λ o. plain (h.1 ∙ ap static_refusal o)) h.2)
+
+  -- a quantifier stands in the formula, where nothing else is wrong but that its reading may overflow
+  pub quantified_refuses : (limit : ℕ) → IsCause s u c error.Quantified → ((d : StaticError) → rank (static_refusal d) < 14 → ¬ (AppliesToPart s (formula_of c) (given_of c) d)) → Refuses s limit u c error.Quantified
+  quantified_refuses limit h first = record { applies = h; first = plain_below 14 (omega arith) (λ l. absurd (omega arith)) first }
 
   readable_applies : ArePartsReadable s (formula_of c) (given_of c) → (d : StaticError) → rank (static_refusal d) < 16 → ¬ (AppliesToPart s (formula_of c) (given_of c) d)
   readable_applies h d l = no_part (IsReadable s) (λ g. reading.Applies s.context s.bound s.names g d) (λ g k. readable_part s g d l k) (formula_of c) (given_of c) h
 
-  pub readable_below : ArePartsReadable s (formula_of c) (given_of c) → HasNoCauseBelow s u c 16
-  readable_below h = plain_below 16 (omega arith) (readable_applies h)
+  pub readable_below : ArePartsReadable s (formula_of c) (given_of c) → ¬ (IsCause s u c error.Quantified) → HasNoCauseBelow s u c 16
+  readable_below h plain = plain_below 16 (omega arith) (λ l. plain) (readable_applies h)
 
 -- ---- the later causes
 
@@ -203,7 +207,7 @@ module _ (s : State) (u : Use) (c : CommandTree) where
   below_17 h error.Depth l k = h error.Depth (omega arith) k
   below_17 h error.Point l k = h error.Point (omega arith) k
   below_17 h error.Unvalued l k = h error.Unvalued (omega arith) k
-  below_17 h error.Quantified l k = k
+  below_17 h error.Quantified l k = h error.Quantified (omega arith) k
   below_17 h error.Overflow l k = h error.Overflow (omega arith) k
   below_17 h error.Nodes l k = k
   below_17 h error.Bindings l k = absurd (omega arith)
@@ -224,7 +228,7 @@ module _ (s : State) (u : Use) (c : CommandTree) where
   below_18 h b error.Depth l k = h error.Depth (omega arith) k
   below_18 h b error.Point l k = h error.Point (omega arith) k
   below_18 h b error.Unvalued l k = h error.Unvalued (omega arith) k
-  below_18 h b error.Quantified l k = k
+  below_18 h b error.Quantified l k = h error.Quantified (omega arith) k
   below_18 h b error.Overflow l k = h error.Overflow (omega arith) k
   below_18 h b error.Nodes l k = k
   below_18 h b error.Bindings l k = b k
@@ -245,7 +249,7 @@ module _ (s : State) (u : Use) (c : CommandTree) where
   below_19 h b error.Depth l k = h error.Depth (omega arith) k
   below_19 h b error.Point l k = h error.Point (omega arith) k
   below_19 h b error.Unvalued l k = h error.Unvalued (omega arith) k
-  below_19 h b error.Quantified l k = k
+  below_19 h b error.Quantified l k = h error.Quantified (omega arith) k
   below_19 h b error.Overflow l k = h error.Overflow (omega arith) k
   below_19 h b error.Nodes l k = k
   below_19 h b error.Bindings l k = h error.Bindings (omega arith) k

@@ -1,6 +1,6 @@
 -- Formulas that an elimination gives are formulas of the session.
-use Rattle.std.proofs.Common.{◌≡◌, inl, inr, ⊎_elim, ℕ, ◌<◌, List, sym, subst}
-use Rattle.std.proofs.lemmas.Bool.{cases_eq}
+use Rattle.std.proofs.Common.{◌≡◌, ◌⊎◌, inl, inr, ⊎_elim, ℕ, ◌<◌, ◌≤◌, List, refl, sym, subst, arith}
+use Rattle.std.proofs.lemmas.Bool.{cases_eq, cases_lt}
 use Rattle.formula_meaning.specs.Context.{Context}
 use Rattle.formula_meaning.specs.Formula.{Formula, Formulas, Yes, No, One, Not, And, Or, Impl, Repl, Equiv, Ex, All}
 use Rattle.formula_meaning.specs.Formula as plain
@@ -9,8 +9,8 @@ use Rattle.formula_meaning.specs.Atom.{Atom, Mentions}
 use Rattle.formula_meaning.specs.NegationNormal.{normal_form}
 use Rattle.formula_meaning.specs.Shape.{IsPlain, ArePlain, IsNegationNormal, AreNegationNormal, IsQuantifierFree, AreQuantifierFree}
 use Rattle.formula_meaning.proofs.EachAtom.{every_map}
-use Rattle.formula_meaning.proofs.NormalShape.{normal_form_shape, normal_form_every}
-use Rattle.formula_meaning.specs.Tree.{Tree, Trees, IsFree}
+use Rattle.formula_meaning.proofs.NormalShape.{normal_form_shape, normal_form_every, normal_form_quantifier_free}
+use Rattle.formula_meaning.specs.Tree.{Tree, Trees, IsFree, Equivalent}
 use Rattle.elimination_reference.specs.Theorems.{IsAnswerTo, IsBranching, AreBranching}
 use Rattle.elimination_reference.specs.Theorems as reference
 use Rattle.atom_normal.specs.NormalForm.{IsNormal, negated_normal}
@@ -22,8 +22,23 @@ use Rattle.simplified_formulas.specs.Trees.{simplified_under}
 use Rattle.simplified_formulas.proofs.Bound.{simplified_bound, free_bound, orderly_free}
 use Rattle.redlog_printer.specs.Within.{IsAtomWithin}
 use Rattle.redlog_printer.specs.Bound.{HasTwoMembers, HaveTwoMembers, AreTwo}
+use Rattle.clean_forms.specs.Clean.{IsCleanForm}
+use Rattle.clean_forms.specs.Laws.{IsNoLonger}
+use Rattle.clean_forms.specs.Plain.{plain_form}
+use Rattle.clean_forms.proofs.FormShapes.{form_free}
+use Rattle.theory_simplifier.specs.Constants.{IsWithin}
+use Rattle.theory_simplifier.proofs.Assuming.{simplifiable, orderly_normal}
+use Rattle.simplified_formulas.specs.Trees.{IsSimplifiable}
+use Rattle.formula_meaning.specs.Sizes.{nodes}
+use Rattle.formula_store.specs.declared.id.FormulaId.{FormulaId}
+use Rattle.formula_tree.specs.declared.error.FormError.{FormError}
+use Rattle.formula_tree.specs.declared.error.FormError.TheVariants as form_error
+use Rattle.session_commands.specs.declared.line.StatementError.{StatementError}
+use Rattle.session_commands.specs.declared.line.StatementError.TheVariants as error
+use Rattle.std.specs.Prelude.{Result, Ok, Err, IfOk, IfErr, IsErrOf}
 use Rattle.session_commands.specs.Keeping.{IsSessionFormula}
-use Rattle.session_commands.specs.Steps.{IsSimplifiedAs}
+use Rattle.formula_meaning.specs.Fold.{Junction}
+use Rattle.session_commands.specs.Steps.{IsSimplifiedAs, IsCleanedAs}
 use Rattle.session_commands.proofs.SoundLemmas.{atom_within, atom_mentions, members_of_negation}
 
 module _ {A N : Type 0} where
@@ -89,7 +104,7 @@ module _ (c : Context) (n : ℕ) where
 module _ (n x : ℕ) where
   mutual
     -- a free name stands in an atom
-    free_below : (f : Tree) → Every (IsAtomWithin n) f → IsFree f x → x < n
+    pub free_below : (f : Tree) → Every (IsAtomWithin n) f → IsFree f x → x < n
     free_below Yes h m = absurd m
     free_below No h m = absurd m
     free_below (One a) h m = atom_mentions n x a h m
@@ -168,6 +183,24 @@ module _ {A : Type 0} (P : A → Type 0) where
     all_orderly_members plain.none h = tt
     all_orderly_members (plain.also f fs) h = (orderly_members f h.0, all_orderly_members fs h.1)
 
+  mutual
+    pub orderly_every : (f : Formula A ℕ) → IsOrderly P f → Every P f
+    orderly_every Yes h = tt
+    orderly_every No h = tt
+    orderly_every (One a) h = h
+    orderly_every (Not f) h = absurd h
+    orderly_every (And fs) h = all_orderly_every fs h.1
+    orderly_every (Or fs) h = all_orderly_every fs h.1
+    orderly_every (Impl f g) h = absurd h
+    orderly_every (Repl f g) h = absurd h
+    orderly_every (Equiv f g) h = absurd h
+    orderly_every (Ex x f) h = orderly_every f h
+    orderly_every (All x f) h = orderly_every f h
+
+    all_orderly_every : (fs : Formulas A ℕ) → AreOrderly P fs → EveryOf P fs
+    all_orderly_every plain.none h = tt
+    all_orderly_every (plain.also f fs) h = (orderly_every f h.0, all_orderly_every fs h.1)
+
   two_in_order : (fs : Formulas A ℕ) → AreTwo fs → orderly.AreTwo fs
   two_in_order plain.none h = absurd h
   two_in_order (plain.also f plain.none) h = absurd h
@@ -226,7 +259,7 @@ module _ (c : Context) (n : ℕ) where
 
   mutual
     -- a name that stands in an atom is free in the formula, or quantified
-    within_of_names : (f : Tree) → Every (IsNormal c) f → EveryBound (λ x. x < n) f → ((x : ℕ) → IsFree f x → x < n) → Every (IsAtomWithin n) f
+    pub within_of_names : (f : Tree) → Every (IsNormal c) f → EveryBound (λ x. x < n) f → ((x : ℕ) → IsFree f x → x < n) → Every (IsAtomWithin n) f
     within_of_names Yes h b k = tt
     within_of_names No h b k = tt
     within_of_names (One a) h b k = atom_within c n a h k
@@ -261,5 +294,116 @@ simplified_formula c ks n f t h a =
 pub simplified_quantifies : (c : Context) (ks : List Atom) (f t : Tree) → t ≡ simplified_under c ks f → (n : ℕ) → EveryBound (λ x. x < n) f → EveryBound (λ x. x < n) t
 simplified_quantifies c ks f t e n h = subst (λ (g : Tree). EveryBound (λ x. x < n) g) (sym e) (simplified_bound (atom_kit c) (λ x. x < n) f ks h)
 
+pub simplified_names_no_other : (c : Context) (ks : List Atom) (f t : Tree) → t ≡ simplified_under c ks f → (n : ℕ) → EveryBound (λ x. ¬ (x ≡ n)) f → EveryBound (λ x. ¬ (x ≡ n)) t
+simplified_names_no_other c ks f t e n h = subst (λ (g : Tree). EveryBound (λ x. ¬ (x ≡ n)) g) (sym e) (simplified_bound (atom_kit c) (λ x. ¬ (x ≡ n)) f ks h)
+
 pub simplified_free : (c : Context) (ks : List Atom) (f t : Tree) → t ≡ simplified_under c ks f → IsOrderly (IsNormal c) t → IsQuantifierFree f → IsQuantifierFree t
 simplified_free c ks f t e o h = orderly_free (IsNormal c) t o (subst (λ (g : Tree). EveryBound (λ x. ⊥) g) (sym e) (simplified_bound (atom_kit c) (λ x. ⊥) f ks (free_bound f h)))
+
+-- ---- clean forms
+
+module _ {A N : Type 0} (K : N → Type 0) where
+  mutual
+    pub unquantified_bound : (f : Formula A N) → IsQuantifierFree f → EveryBound K f
+    unquantified_bound Yes h = tt
+    unquantified_bound No h = tt
+    unquantified_bound (One a) h = tt
+    unquantified_bound (Not f) h = unquantified_bound f h
+    unquantified_bound (And fs) h = all_unquantified_bound fs h
+    unquantified_bound (Or fs) h = all_unquantified_bound fs h
+    unquantified_bound (Impl f g) h = (unquantified_bound f h.0, unquantified_bound g h.1)
+    unquantified_bound (Repl f g) h = (unquantified_bound f h.0, unquantified_bound g h.1)
+    unquantified_bound (Equiv f g) h = (unquantified_bound f h.0, unquantified_bound g h.1)
+    unquantified_bound (Ex x f) h = absurd h
+    unquantified_bound (All x f) h = absurd h
+
+    all_unquantified_bound : (fs : Formulas A N) → AreQuantifierFree fs → EveryBoundOf K fs
+    all_unquantified_bound plain.none h = tt
+    all_unquantified_bound (plain.also f fs) h = (unquantified_bound f h.0, all_unquantified_bound fs h.1)
+
+-- a clean form of a formula of the session is one
+pub cleaned_formula : (c : Context) (j : Junction) (n : ℕ) (f t : Tree) → IsSessionFormula c n f → IsCleanedAs c j f t → IsSessionFormula c n t
+cleaned_formula c j n f t h a =
+    let normal = orderly_every (IsNormal c) t a.orderly in
+    let bound = unquantified_bound (λ x. x < n) t a.free in
+    record {
+      normal = normal;
+      within = record {
+        atoms = within_of_names c n t normal bound (λ x m. free_below n x f h.within.atoms (a.names x m));
+        quantified = bound;
+      };
+      members = orderly_members (IsNormal c) t a.orderly;
+    }
+
+-- what the program's clean form is
+pub cleaned_as : (c : Context) (j : Junction) (f t : Tree) → IsCleanForm c j t → Equivalent c t f → IsSimplifiable c t → ((x : ℕ) → IsFree t x → IsFree f x) → nodes t ≤ nodes (plain_form j f) → IsNoLonger t (plain_form j f) f
+    → IsCleanedAs c j f t
+cleaned_as c j f t clean truth shape names few short = record {
+  clean = clean;
+  truth = truth;
+  orderly = orderly_normal c t shape;
+  free = subst (λ (g : Tree). IsQuantifierFree g) (sym clean.form) (form_free j clean.lines);
+  names = names;
+  nodes = few;
+  text = short;
+}
+
+pub can_be_simplified : (c : Context) (f : Tree) → IsOrderly (IsNormal c) f → Every IsWithin f → IsSimplifiable c f
+can_be_simplified c f h k = simplifiable c f h k
+
+pub negation_free : (f : Tree) → IsQuantifierFree f → IsQuantifierFree (normal_form negated_normal f)
+negation_free f h = (normal_form_quantifier_free negated_normal f h).0
+
+-- what is told of a form that was made
+pub told_made : (P : FormulaId → Type 0) (r : Result FormulaId StatementError) (made : Result FormulaId FormError) → IfOk r (λ id. made ≡ Ok id) → IfOk made P → IfOk r P
+told_made P (Ok id) made e h = subst (λ m. IfOk m P) e h
+told_made P (Err x) made e h = tt
+
+-- the clean form that is made, where one is
+pub cleaned_result : (c : Context) (j : Junction) (f : Tree) (t : FormulaId → Tree) (r : Result FormulaId FormError) → IfOk r (λ i. IsCleanForm c j (t i)) → IfOk r (λ i. Equivalent c (t i) f) → IfOk r (λ i. IsSimplifiable c (t i))
+    → IfOk r (λ i. (x : ℕ) → IsFree (t i) x → IsFree f x) → IfOk r (λ i. nodes (t i) ≤ nodes (plain_form j f)) → IfOk r (λ i. IsNoLonger (t i) (plain_form j f) f) → IfOk r (λ i. IsCleanedAs c j f (t i))
+cleaned_result c j f t (Ok i) clean truth shape names few short = cleaned_as c j f (t i) clean truth shape names few short
+cleaned_result c j f t (Err e) clean truth shape names few short = tt
+
+-- ---- names that a formula does not quantify
+
+module _ {A : Type 0} (n : ℕ) where
+  mutual
+    -- quantified names below n are none from n on
+    pub none_from : (f : Formula A ℕ) (m : ℕ) → n ≤ m → EveryBound (λ x. x < n) f → EveryBound (λ x. ¬ (x ≡ m)) f
+    none_from Yes m l h = tt
+    none_from No m l h = tt
+    none_from (One a) m l h = tt
+    none_from (Not f) m l h = none_from f m l h
+    none_from (And fs) m l h = all_none_from fs m l h
+    none_from (Or fs) m l h = all_none_from fs m l h
+    none_from (Impl f g) m l h = (none_from f m l h.0, none_from g m l h.1)
+    none_from (Repl f g) m l h = (none_from f m l h.0, none_from g m l h.1)
+    none_from (Equiv f g) m l h = (none_from f m l h.0, none_from g m l h.1)
+    none_from (Ex x f) m l h = (λ e. absurd (omega (arith, h.0, e)), none_from f m l h.1)
+    none_from (All x f) m l h = (λ e. absurd (omega (arith, h.0, e)), none_from f m l h.1)
+
+    all_none_from : (fs : Formulas A ℕ) (m : ℕ) → n ≤ m → EveryBoundOf (λ x. x < n) fs → EveryBoundOf (λ x. ¬ (x ≡ m)) fs
+    all_none_from plain.none m l h = tt
+    all_none_from (plain.also f fs) m l h = (none_from f m l h.0, all_none_from fs m l h.1)
+
+  small_where : (x : ℕ) → ((m : ℕ) → n ≤ m → ¬ (x ≡ m)) → x < n
+  small_where x h = elim (cases_lt x n) [ inl l ↦ l | inr l ↦ absurd (h x l refl) ]
+
+  mutual
+    pub all_below : (f : Formula A ℕ) → ((m : ℕ) → n ≤ m → EveryBound (λ x. ¬ (x ≡ m)) f) → EveryBound (λ x. x < n) f
+    all_below Yes h = tt
+    all_below No h = tt
+    all_below (One a) h = tt
+    all_below (Not f) h = all_below f h
+    all_below (And fs) h = all_below_in fs h
+    all_below (Or fs) h = all_below_in fs h
+    all_below (Impl f g) h = (all_below f (λ m l. (h m l).0), all_below g (λ m l. (h m l).1))
+    all_below (Repl f g) h = (all_below f (λ m l. (h m l).0), all_below g (λ m l. (h m l).1))
+    all_below (Equiv f g) h = (all_below f (λ m l. (h m l).0), all_below g (λ m l. (h m l).1))
+    all_below (Ex x f) h = (small_where x (λ m l. (h m l).0), all_below f (λ m l. (h m l).1))
+    all_below (All x f) h = (small_where x (λ m l. (h m l).0), all_below f (λ m l. (h m l).1))
+
+    all_below_in : (fs : Formulas A ℕ) → ((m : ℕ) → n ≤ m → EveryBoundOf (λ x. ¬ (x ≡ m)) fs) → EveryBoundOf (λ x. x < n) fs
+    all_below_in plain.none h = tt
+    all_below_in (plain.also f fs) h = (all_below f (λ m l. (h m l).0), all_below_in fs (λ m l. (h m l).1))

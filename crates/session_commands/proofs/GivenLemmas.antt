@@ -1,5 +1,5 @@
 -- Commands that give a formula: what they give, when they are accepted, and why they are refused.
-use Rattle.std.proofs.Common.{◌≡◌, inl, inr, ℕ, ◌<◌, List, [], ◌∷◌, ◌++◌, Bool, true, Option, Some, None, sym, ap, ◌∙◌, subst, refl, length, codes, nat_eq, arith, ◌↔◌, ◌≤◌}
+use Rattle.std.proofs.Common.{◌≡◌, inl, inr, ℕ, ◌<◌, List, [], ◌∷◌, ◌++◌, Bool, true, Option, Some, None, sym, ap, ◌∙◌, subst, refl, length, codes, nat_eq, arith, lit<, ◌↔◌, ◌≤◌}
 use Rattle.std.proofs.lemmas.List.{length-append}
 use Rattle.std.specs.List.{fold}
 use Rattle.formula_meaning.specs.Formula.{none, also}
@@ -36,16 +36,23 @@ use Rattle.session_commands.specs.State.{State}
 use Rattle.session_commands.specs.Parts.{given_of, EachPart}
 use Rattle.session_commands.specs.Assumptions.{atoms_alone, assumed, Hold}
 use Rattle.session_commands.specs.Commands.{formula_of, named, negated_of, Gives, MayGive, IsSimplification, IsCondition}
-use Rattle.session_commands.specs.Causes.{Use, HasNoRoom, IsTooLarge, HasManyNodes, formula_line, MayRefuse, HasNoCauseBelow, Refuses}
+use Rattle.session_commands.specs.Causes.{Use, IsCause, rank, HasNoRoom, IsTooLarge, HasManyNodes, formula_line, MayRefuse, HasNoCauseBelow, Refuses}
 use Rattle.session_commands.specs.Keeping.{IsSessionFormula, IsSound}
 use Rattle.session_commands.specs.Reply.{IsLine}
-use Rattle.session_commands.specs.Steps.{given_trees, command_of, use_of, IsGiven, HasNumbers, IsReadable, ArePartsNumbered, ArePartsReadable, ArePartsUnread, IsWantedForm, IsSimplifiedAs, FormFault, MayBind, TargetFault, LineFault, state_with}
-use Rattle.session_commands.proofs.CauseLemmas.{IsPlainCommand, unread_refuses, readable_below, below_17, below_18, below_19}
+use Rattle.session_commands.specs.declared.formulas.Way.TheVariants as way
+use Rattle.formula_resolving.specs.declared.error.StaticError.{StaticError}
+use Rattle.formula_resolving.specs.declared.error.StaticError.TheVariants as static
+use Rattle.formula_resolving.specs.Refusals.{rank as static_rank}
+use Rattle.formula_meaning.specs.Fold.{Junction, Conjunction, Disjunction}
+use Rattle.clean_forms.specs.Plain.{plain_form}
+use Rattle.session_commands.specs.Commands.{IsCleanAnswer}
+use Rattle.session_commands.specs.Steps.{static_refusal, junction_of, HasUnwantedQuantifier, IsReady, IsUnready, IsCleanedAs, AppliesToPart, given_trees, command_of, use_of, IsGiven, HasNumbers, IsReadable, ArePartsNumbered, ArePartsReadable, ArePartsUnread, IsWantedForm, IsSimplifiedAs, FormFault, MayBind, TargetFault, LineFault, state_with}
+use Rattle.session_commands.proofs.CauseLemmas.{IsPlainCommand, unread_refuses, quantified_refuses, readable_below, below_17, below_18, below_19}
 use Rattle.session_commands.proofs.NameLemmas.{kept_names}
 use Rattle.session_commands.proofs.PartLemmas.{first_part}
 use Rattle.session_commands.proofs.AssumptionLemmas.{assumed_hold, each_both, alone_has}
 use Rattle.session_commands.proofs.VariableLemmas.{not_empty}
-use Rattle.session_commands.proofs.EliminatedLemmas.{plain_free, answer_formula, orderly_members, simplified_formula}
+use Rattle.session_commands.proofs.EliminatedLemmas.{plain_free, answer_formula, orderly_members, orderly_every, simplified_formula, cleaned_formula}
 use Rattle.session_commands.proofs.SoundLemmas.{resolved_formula, negated_formula}
 use Rattle.session_commands.proofs.TruthLemmas.{truth_as_written}
 
@@ -58,14 +65,18 @@ append_nil (x ∷ xs) = ap (λ z. x ∷ z) (append_nil xs)
 pub parts_are : (w : Wanted) (f : FormulaTree) (X : FormulaTree → FormulaTrees → Type 0) → X f (given_trees w) → X (formula_of (command_of w f)) (given_of (command_of w f))
 parts_are wanted.Given f X h = h
 parts_are wanted.NegationNormal f X h = h
+parts_are (wanted.Distributed way.Disjunctive) f X h = h
+parts_are (wanted.Distributed way.Conjunctive) f X h = h
 parts_are (wanted.Simplified given) f X h = h
 parts_are (wanted.Eliminated given) f X h = h
 
 plain_command : (w : Wanted) (f : FormulaTree) → IsPlainCommand (command_of w f)
-plain_command wanted.Given f = record { no_entries = refl; no_truth = λ h. h }
-plain_command wanted.NegationNormal f = record { no_entries = refl; no_truth = λ h. h }
-plain_command (wanted.Simplified given) f = record { no_entries = refl; no_truth = λ h. h }
-plain_command (wanted.Eliminated given) f = record { no_entries = refl; no_truth = λ h. h }
+plain_command wanted.Given f = record { no_entries = refl; no_point = λ h. h }
+plain_command wanted.NegationNormal f = record { no_entries = refl; no_point = λ h. h }
+plain_command (wanted.Distributed way.Disjunctive) f = record { no_entries = refl; no_point = λ h. h }
+plain_command (wanted.Distributed way.Conjunctive) f = record { no_entries = refl; no_point = λ h. h }
+plain_command (wanted.Simplified given) f = record { no_entries = refl; no_point = λ h. h }
+plain_command (wanted.Eliminated given) f = record { no_entries = refl; no_point = λ h. h }
 
 -- the state with their variables
 abbrev pub with_variables : State → FormulaTree → FormulaTrees → State
@@ -79,6 +90,8 @@ with_them s f xs ys e = ap (λ zs. let t : State = record { context = s.context;
 pub named_is : (w : Wanted) (f : FormulaTree) (s : State) → named s (command_of w f) ≡ with_variables s f (given_trees w)
 named_is wanted.Given f s = refl
 named_is wanted.NegationNormal f s = refl
+named_is (wanted.Distributed way.Disjunctive) f s = refl
+named_is (wanted.Distributed way.Conjunctive) f s = refl
 named_is (wanted.Simplified given) f s = with_them s f _ _ (append_nil (all_variables (formula_trees given.now)))
 named_is (wanted.Eliminated given) f s = with_them s f _ _ (append_nil (all_variables (formula_trees given.now)))
 
@@ -108,6 +121,23 @@ longer (Some x) names t u l h =
     let goal : text_limit < length ((x ++ codes " := ") ++ tree_text names u) = omega arith in
     goal
 
+-- a quantifier where none may be is the cause of that name
+unwanted : (w : Wanted) (f : FormulaTree) (s : State) (u : Use) → IsCause s u (command_of w f) error.Quantified → HasUnwantedQuantifier s w f
+unwanted wanted.Given f s u h = h.0
+unwanted wanted.NegationNormal f s u h = h.0
+unwanted (wanted.Distributed way.Disjunctive) f s u h = h.1
+unwanted (wanted.Distributed way.Conjunctive) f s u h = h.1
+unwanted (wanted.Simplified given) f s u h = h.0
+unwanted (wanted.Eliminated given) f s u h = h.0
+
+wanted_no_quantifier : (w : Wanted) (f : FormulaTree) (s : State) (u : Use) → HasUnwantedQuantifier s w f → IsCause s u (command_of w f) error.Quantified
+wanted_no_quantifier wanted.Given f s u h = absurd h
+wanted_no_quantifier wanted.NegationNormal f s u h = absurd h
+wanted_no_quantifier (wanted.Distributed way.Disjunctive) f s u h = (tt, h)
+wanted_no_quantifier (wanted.Distributed way.Conjunctive) f s u h = (tt, h)
+wanted_no_quantifier (wanted.Simplified given) f s u h = absurd h
+wanted_no_quantifier (wanted.Eliminated given) f s u h = absurd h
+
 module _ (w : Wanted) (f : FormulaTree) (s : State) (numbers : ArePartsNumbered s.names f (given_trees w)) (limit : ℕ) (target : Option (List ℕ)) (printed : Bool) where
   abbrev command : CommandTree
   command = command_of w f
@@ -118,13 +148,34 @@ module _ (w : Wanted) (f : FormulaTree) (s : State) (numbers : ArePartsNumbered 
   numbers_here : ArePartsNumbered s.names (formula_of command) (given_of command)
   numbers_here = parts_are w f (λ g gs. ArePartsNumbered s.names g gs) numbers
 
-  pub refused_unread : (e : StatementError) → ArePartsUnread s f (given_trees w) e → Refuses s limit done command e
-  refused_unread e h = unread_refuses s done command numbers_here (plain_command w f) limit e (parts_are w f (λ g gs. ArePartsUnread s g gs e) h)
+  module _ (plain : ¬ (HasUnwantedQuantifier s w f)) where
+    no_quantifier : ¬ (IsCause s done command error.Quantified)
+    no_quantifier h = plain (unwanted w f s done h)
 
-  pub clear_16 : ArePartsReadable s f (given_trees w) → HasNoCauseBelow s done command 16
-  clear_16 h = readable_below s done command numbers_here (plain_command w f) (parts_are w f (λ g gs. ArePartsReadable s g gs) h)
+    pub refused_unread : (e : StatementError) → ArePartsUnread s f (given_trees w) e → Refuses s limit done command e
+    refused_unread e h = unread_refuses s done command numbers_here (plain_command w f) limit e (λ o. no_quantifier) (parts_are w f (λ g gs. ArePartsUnread s g gs e) h)
 
-  pub clear_15 : ArePartsReadable s f (given_trees w) → HasNoCauseBelow s done command 15
+  pub unread_early : (e : StatementError) → ¬ (e ≡ error.Overflow) → ArePartsUnread s f (given_trees w) e → Refuses s limit done command e
+  unread_early e early h = unread_refuses s done command numbers_here (plain_command w f) limit e (λ o. absurd (early o)) (parts_are w f (λ g gs. ArePartsUnread s g gs e) h)
+
+  below_quantified : ((d : StaticError) → static_rank d < 7 → ¬ (AppliesToPart s f (given_trees w) d)) → (d : StaticError) → rank (static_refusal d) < 14 → ¬ (AppliesToPart s (formula_of command) (given_of command) d)
+  below_quantified first static.Unbound l = parts_are w f (λ g gs. ¬ (AppliesToPart s g gs static.Unbound)) (first static.Unbound (lit< tt))
+  below_quantified first static.FormulaAsTerm l = parts_are w f (λ g gs. ¬ (AppliesToPart s g gs static.FormulaAsTerm)) (first static.FormulaAsTerm (lit< tt))
+  below_quantified first static.Nonlinear l = parts_are w f (λ g gs. ¬ (AppliesToPart s g gs static.Nonlinear)) (first static.Nonlinear (lit< tt))
+  below_quantified first static.Division l = parts_are w f (λ g gs. ¬ (AppliesToPart s g gs static.Division)) (first static.Division (lit< tt))
+  below_quantified first static.CongruenceContext l = parts_are w f (λ g gs. ¬ (AppliesToPart s g gs static.CongruenceContext)) (first static.CongruenceContext (lit< tt))
+  below_quantified first static.Modulus l = parts_are w f (λ g gs. ¬ (AppliesToPart s g gs static.Modulus)) (first static.Modulus (lit< tt))
+  below_quantified first static.Depth l = parts_are w f (λ g gs. ¬ (AppliesToPart s g gs static.Depth)) (first static.Depth (lit< tt))
+  below_quantified first static.Overflow l = absurd (omega arith)
+  below_quantified first static.Memory l = absurd (omega arith)
+
+  pub refused_quantified : HasUnwantedQuantifier s w f → ((d : StaticError) → static_rank d < 7 → ¬ (AppliesToPart s f (given_trees w) d)) → Refuses s limit done command error.Quantified
+  refused_quantified h first = quantified_refuses s done command numbers_here (plain_command w f) limit (wanted_no_quantifier w f s done h) (below_quantified first)
+
+  pub clear_16 : IsReady s w f → HasNoCauseBelow s done command 16
+  clear_16 h = readable_below s done command numbers_here (plain_command w f) (parts_are w f (λ g gs. ArePartsReadable s g gs) h.readable) (no_quantifier h.plain)
+
+  pub clear_15 : IsReady s w f → HasNoCauseBelow s done command 15
   clear_15 h = λ e l. clear_16 h e (omega arith)
 
 -- ---- what is given
@@ -147,6 +198,8 @@ module _ (f : FormulaTree) (s : State) (limit : ℕ) (t : Tree) where
   one : (w : Wanted) → Given w → (other : Tree) → Gives s (command_of w f) other → other ≡ t
   one wanted.Given h other k = k ∙ sym h
   one wanted.NegationNormal h other k = k ∙ sym h
+  one (wanted.Distributed way.Disjunctive) h other k = absurd k
+  one (wanted.Distributed way.Conjunctive) h other k = absurd k
   one (wanted.Simplified given) h other k = absurd k
   one (wanted.Eliminated given) h other k = absurd k
 
@@ -169,10 +222,27 @@ module _ (f : FormulaTree) (s : State) (limit : ℕ) (t : Tree) where
           let c = h.truth q of (assumptions_say p of hold) in
           (λ x. c.1 (b.0 (a.0 x)), λ x. a.1 (b.1 (c.0 x)));
       names = h.names;
+      quantified = h.quantified;
       nodes = h.nodes;
       atoms = h.atoms;
       text = h.text s.names (not_empty s.names sound.variables) (negated_formula s.context (length s.names) resolution own).within.atoms;
       normal = h.normal;
+      members = orderly_members (IsNormal s.context) t h.orderly;
+    }
+
+    cleaning : (j : Junction) → IsCleanedAs s.context j (negated_of s f) t → IsCleanAnswer s j f t
+    cleaning j h = record {
+      clean = h.clean;
+      truth = λ p of.
+          let q = at_names s.names p in
+          let a = same_here p of in
+          let b = negated_truth s f own.normal q of in
+          let c = h.truth q of in
+          (λ x. c.1 (b.0 (a.0 x)), λ x. a.1 (b.1 (c.0 x)));
+      names = h.names;
+      nodes = h.nodes;
+      text = h.text s.names (not_empty s.names sound.variables) (negated_formula s.context (length s.names) resolution own).within.atoms;
+      normal = orderly_every (IsNormal s.context) t h.orderly;
       members = orderly_members (IsNormal s.context) t h.orderly;
     }
 
@@ -196,15 +266,19 @@ module _ (f : FormulaTree) (s : State) (limit : ℕ) (t : Tree) where
           members = orderly_members (IsNormal s.context) t h.simplified.orderly;
         }
 
-  gives : (w : Wanted) → ArePartsReadable s f (given_trees w) → IsSound s → IsSessionFormula s.context (length s.names) resolution → ArePartsNumbered s.names f (given_trees w) → Given w → MayGive s limit (command_of w f) t
+  gives : (w : Wanted) → IsReady s w f → IsSound s → IsSessionFormula s.context (length s.names) resolution → ArePartsNumbered s.names f (given_trees w) → Given w → MayGive s limit (command_of w f) t
   gives wanted.Given readable sound own numbers h = h
   gives wanted.NegationNormal readable sound own numbers h = h
-  gives (wanted.Simplified given) readable sound own numbers h = simplification (formula_trees given.now) readable sound numbers own h
-  gives (wanted.Eliminated given) readable sound own numbers h = condition (formula_trees given.now) readable sound numbers own h
+  gives (wanted.Distributed way.Disjunctive) readable sound own numbers h = cleaning none readable.readable sound numbers own Conjunction h
+  gives (wanted.Distributed way.Conjunctive) readable sound own numbers h = cleaning none readable.readable sound numbers own Disjunction h
+  gives (wanted.Simplified given) readable sound own numbers h = simplification (formula_trees given.now) readable.readable sound numbers own h
+  gives (wanted.Eliminated given) readable sound own numbers h = condition (formula_trees given.now) readable.readable sound numbers own h
 
   too_large : (w : Wanted) → Given w → (u : Use) → IsTooLarge u.target t → MayRefuse s limit u (command_of w f) error.Bindings
   too_large wanted.Given h u k = inl (inr (t, h, k))
   too_large wanted.NegationNormal h u k = inl (inr (t, h, k))
+  too_large (wanted.Distributed way.Disjunctive) h u k = inr (plain_form Conjunction (negated_of s f), refl, many_nodes u.target t (plain_form Conjunction (negated_of s f)) h.nodes k)
+  too_large (wanted.Distributed way.Conjunctive) h u k = inr (plain_form Disjunction (negated_of s f), refl, many_nodes u.target t (plain_form Disjunction (negated_of s f)) h.nodes k)
   too_large (wanted.Simplified given) h u k = inr (negated_of s f, refl, many_nodes u.target t (negated_of s f) h.nodes k)
   too_large (wanted.Eliminated given) h u k = inr (h.answer, (h.eliminated.cost, h.eliminated.same), many_nodes u.target t h.answer h.simplified.nodes k)
 
@@ -213,6 +287,12 @@ module _ (f : FormulaTree) (s : State) (limit : ℕ) (t : Tree) where
     too_long : (w : Wanted) → Given w → (u : Use) → u.printed ≡ true → text_limit < length (formula_line u.target s.names t) → MayRefuse s limit u (command_of w f) error.Text
     too_long wanted.Given h u p k = inl (p, (t, h, k))
     too_long wanted.NegationNormal h u p k = inl (p, (t, h, k))
+    too_long (wanted.Distributed way.Disjunctive) h u p k =
+        let short = h.text s.names (not_empty s.names sound.variables) (negated_formula s.context (length s.names) resolution own).within.atoms in
+        inr (p, (plain_form Conjunction (negated_of s f), refl, longer u.target s.names t (plain_form Conjunction (negated_of s f)) short k))
+    too_long (wanted.Distributed way.Conjunctive) h u p k =
+        let short = h.text s.names (not_empty s.names sound.variables) (negated_formula s.context (length s.names) resolution own).within.atoms in
+        inr (p, (plain_form Disjunction (negated_of s f), refl, longer u.target s.names t (plain_form Disjunction (negated_of s f)) short k))
     too_long (wanted.Simplified given) h u p k =
         let short = h.text s.names (not_empty s.names sound.variables) (negated_formula s.context (length s.names) resolution own).within.atoms in
         inr (p, (negated_of s f, refl, longer u.target s.names t (negated_of s f) short k))
@@ -225,7 +305,7 @@ module _ (f : FormulaTree) (s : State) (limit : ℕ) (t : Tree) where
   no_room w u k = inl (inl k)
 
 module _ (w : Wanted) (f : FormulaTree) (s : State) (numbers : ArePartsNumbered s.names f (given_trees w)) (limit : ℕ) (target : Option (List ℕ)) (printed : Bool) (t : Tree)
-    (given : IsWantedForm s.context (assumed s (given_trees w)) limit w (resolve s.context s.bound s.names f) t) (h : ArePartsReadable s f (given_trees w)) where
+    (given : IsWantedForm s.context (assumed s (given_trees w)) limit w (resolve s.context s.bound s.names f) t) (h : IsReady s w f) where
   pub refused_target : (e : StatementError) → TargetFault s.bound target t e → Refuses s limit (use_of target printed) (command_of w f) e
   refused_target error.Bindings (inl k) = record { applies = no_room f s limit t w (use_of target printed) k; first = below_17 s (use_of target printed) (command_of w f) (clear_16 w f s numbers limit target printed h) }
   refused_target error.Bindings (inr k) = record { applies = too_large f s limit t w given (use_of target printed) k; first = below_17 s (use_of target printed) (command_of w f) (clear_16 w f s numbers limit target printed h) }
@@ -269,28 +349,56 @@ pub given_formula : (w : Wanted) (f : FormulaTree) (s : State) (limit : ℕ) (t 
     → IsSessionFormula s.context (length s.names) (resolve s.context s.bound s.names f) → IsSessionFormula s.context (length s.names) t
 given_formula wanted.Given f s limit t given own = subst (IsSessionFormula s.context (length s.names)) (sym given) own
 given_formula wanted.NegationNormal f s limit t given own = subst (IsSessionFormula s.context (length s.names)) (sym given) (negated_formula s.context (length s.names) _ own)
+given_formula (wanted.Distributed way) f s limit t given own = cleaned_formula s.context (junction_of way) (length s.names) _ t (negated_formula s.context (length s.names) _ own) given
 given_formula (wanted.Simplified g) f s limit t given own = simplified_formula s.context _ (length s.names) _ t (negated_formula s.context (length s.names) _ own) given
 given_formula (wanted.Eliminated g) f s limit t given own = simplified_formula s.context _ (length s.names) given.answer t (answer_formula s.context (length s.names) _ given.answer own given.eliminated.exact) given.simplified
 
+-- a command that is not ready is refused
+pub refused_unready : (w : Wanted) (f : FormulaTree) (s : State) (numbers : ArePartsNumbered s.names f (given_trees w)) (limit : ℕ) (target : Option (List ℕ)) (printed : Bool) (e : StatementError) → IsUnready s w f e
+    → Refuses s limit (use_of target printed) (command_of w f) e
+refused_unready w f s numbers limit target printed error.Quantified h = refused_quantified w f s numbers limit target printed h.0 h.1
+refused_unready w f s numbers limit target printed error.Overflow h = refused_unread w f s numbers limit target printed h.1 error.Overflow h.0
+refused_unready w f s numbers limit target printed error.Unbound h = unread_early w f s numbers limit target printed error.Unbound (λ e. absurd (cc (e))) h
+refused_unready w f s numbers limit target printed error.FormulaAsTerm h = unread_early w f s numbers limit target printed error.FormulaAsTerm (λ e. absurd (cc (e))) h
+refused_unready w f s numbers limit target printed error.Nonlinear h = unread_early w f s numbers limit target printed error.Nonlinear (λ e. absurd (cc (e))) h
+refused_unready w f s numbers limit target printed error.Division h = unread_early w f s numbers limit target printed error.Division (λ e. absurd (cc (e))) h
+refused_unready w f s numbers limit target printed error.CongruenceContext h = unread_early w f s numbers limit target printed error.CongruenceContext (λ e. absurd (cc (e))) h
+refused_unready w f s numbers limit target printed error.Modulus h = unread_early w f s numbers limit target printed error.Modulus (λ e. absurd (cc (e))) h
+refused_unready w f s numbers limit target printed error.Depth h = unread_early w f s numbers limit target printed error.Depth (λ e. absurd (cc (e))) h
+refused_unready w f s numbers limit target printed error.Memory h = tt
+refused_unready w f s numbers limit target printed error.Long h = unread_early w f s numbers limit target printed error.Long (λ e. absurd (cc (e))) h
+refused_unready w f s numbers limit target printed error.Lexical h = unread_early w f s numbers limit target printed error.Lexical (λ e. absurd (cc (e))) h
+refused_unready w f s numbers limit target printed error.Nesting h = unread_early w f s numbers limit target printed error.Nesting (λ e. absurd (cc (e))) h
+refused_unready w f s numbers limit target printed error.Syntax h = unread_early w f s numbers limit target printed error.Syntax (λ e. absurd (cc (e))) h
+refused_unready w f s numbers limit target printed error.Point h = unread_early w f s numbers limit target printed error.Point (λ e. absurd (cc (e))) h
+refused_unready w f s numbers limit target printed error.Unvalued h = unread_early w f s numbers limit target printed error.Unvalued (λ e. absurd (cc (e))) h
+refused_unready w f s numbers limit target printed error.Nodes h = unread_early w f s numbers limit target printed error.Nodes (λ e. absurd (cc (e))) h
+refused_unready w f s numbers limit target printed error.Bindings h = unread_early w f s numbers limit target printed error.Bindings (λ e. absurd (cc (e))) h
+refused_unready w f s numbers limit target printed error.Text h = unread_early w f s numbers limit target printed error.Text (λ e. absurd (cc (e))) h
+
 -- the form is not made
-module _ (w : Wanted) (f : FormulaTree) (s : State) (numbers : ArePartsNumbered s.names f (given_trees w)) (limit : ℕ) (target : Option (List ℕ)) (printed : Bool) (h : ArePartsReadable s f (given_trees w)) where
+module _ (w : Wanted) (f : FormulaTree) (s : State) (numbers : ArePartsNumbered s.names f (given_trees w)) (limit : ℕ) (target : Option (List ℕ)) (printed : Bool) (h : IsReady s w f) where
   first_16 : HasNoCauseBelow s (use_of target printed) (command_of w f) 16
   first_16 = clear_16 w f s numbers limit target printed h
 
   first_15 : HasNoCauseBelow s (use_of target printed) (command_of w f) 15
   first_15 = clear_15 w f s numbers limit target printed h
 
-pub refused_form : (w : Wanted) (f : FormulaTree) (s : State) (numbers : ArePartsNumbered s.names f (given_trees w)) (limit : ℕ) (target : Option (List ℕ)) (printed : Bool) → ArePartsReadable s f (given_trees w)
+pub refused_form : (w : Wanted) (f : FormulaTree) (s : State) (numbers : ArePartsNumbered s.names f (given_trees w)) (limit : ℕ) (target : Option (List ℕ)) (printed : Bool) → IsReady s w f
     → (e : StatementError) → FormFault s.context limit w (resolve s.context s.bound s.names f) e → Refuses s limit (use_of target printed) (command_of w f) e
 refused_form wanted.NegationNormal f s numbers limit target printed h error.Nodes k = record { applies = inl (tt, k); first = first_16 wanted.NegationNormal f s numbers limit target printed h }
+refused_form (wanted.Distributed way.Disjunctive) f s numbers limit target printed h error.Nodes k = record { applies = inr (inl k); first = first_16 (wanted.Distributed way.Disjunctive) f s numbers limit target printed h }
+refused_form (wanted.Distributed way.Conjunctive) f s numbers limit target printed h error.Nodes k = record { applies = inr (inl k); first = first_16 (wanted.Distributed way.Conjunctive) f s numbers limit target printed h }
 refused_form (wanted.Simplified g) f s numbers limit target printed h error.Nodes k = record { applies = inr (inl k); first = first_16 (wanted.Simplified g) f s numbers limit target printed h }
 refused_form (wanted.Eliminated g) f s numbers limit target printed h error.Nodes k = record { applies = inr (inr k); first = first_16 (wanted.Eliminated g) f s numbers limit target printed h }
 refused_form (wanted.Eliminated g) f s numbers limit target printed h error.Overflow k = record { applies = inr (inr k); first = first_15 (wanted.Eliminated g) f s numbers limit target printed h }
 refused_form wanted.Given f s numbers limit target printed h error.Memory k = tt
 refused_form wanted.NegationNormal f s numbers limit target printed h error.Memory k = tt
+refused_form (wanted.Distributed way) f s numbers limit target printed h error.Memory k = tt
 refused_form (wanted.Simplified g) f s numbers limit target printed h error.Memory k = tt
 refused_form (wanted.Eliminated g) f s numbers limit target printed h error.Memory k = tt
 refused_form wanted.Given f s numbers limit target printed h _ k = absurd k
 refused_form wanted.NegationNormal f s numbers limit target printed h _ k = absurd k
+refused_form (wanted.Distributed way) f s numbers limit target printed h _ k = absurd k
 refused_form (wanted.Simplified g) f s numbers limit target printed h _ k = absurd k
 refused_form (wanted.Eliminated g) f s numbers limit target printed h _ k = absurd k

@@ -27,18 +27,22 @@ use Rattle.session_commands.specs.declared.line.Line.{Line}
 use Rattle.session_commands.specs.declared.line.StatementError.{StatementError}
 use Rattle.session_commands.specs.declared.line.StatementError.TheVariants as error
 use Rattle.session_commands.specs.declared.formulas.Wanted.{Wanted}
+use Rattle.session_commands.specs.declared.formulas.Wanted.TheVariants as wanted
+use Rattle.session_commands.specs.Points.{IsQuantified}
+use Rattle.formula_meaning.specs.Shape.{IsQuantifierFree}
 use Rattle.session_commands.specs.State.{State}
 use Rattle.session_commands.specs.Commands.{named}
 use Rattle.session_commands.specs.Causes.{formula_line, Refuses}
 use Rattle.session_commands.specs.Keeping.{state_of, IsSessionFormula, IsSound, IsDesk}
 use Rattle.session_commands.specs.Reply.{IsLine}
 use Rattle.session_commands.specs.Assumptions.{assumed}
-use Rattle.session_commands.specs.Steps.{KeepsDesk, HasNumbers, IsReadable, ArePartsNumbered, ArePartsReadable, ArePartsUnread, given_trees, command_of, use_of, IsGiven, IsWantedForm, FormFault, MayBind, TargetFault, LineFault, state_with, bound_after}
+use Rattle.session_commands.specs.Steps.{KeepsDesk, HasNumbers, IsReadable, ArePartsNumbered, IsDistributed, HasUnwantedQuantifier, IsReady, IsUnready, given_trees, command_of, use_of, IsGiven, IsWantedForm, FormFault, MayBind, TargetFault, LineFault, state_with, bound_after}
 use Rattle.session_commands.proofs.BindingLemmas.{bind_trees, bind_ids, bind_distinct, bound_there}
 use Rattle.session_commands.proofs.DeskLemmas.{state_parts, same_state, same_desk, sound_with, length_grows}
 use Rattle.session_commands.proofs.PartLemmas.{first_part}
+use Rattle.session_commands.proofs.PointLemmas.{resolved_free}
 use Rattle.session_commands.proofs.VariableLemmas.{AllVariables, both, variables_of_formula, variables_of_all, all_put_in}
-use Rattle.session_commands.proofs.GivenLemmas.{assumed_normal, named_is, numbers_of, refused_unread, refused_form, refused_target, refused_line, is_given, readable_formula, given_formula}
+use Rattle.session_commands.proofs.GivenLemmas.{assumed_normal, named_is, numbers_of, refused_unready, refused_form, refused_target, refused_line, is_given, readable_formula, given_formula}
 
 -- a state with one more formula bound is sound
 sound_bound : (s : State) (x : List ℕ) (t : Tree) → IsSound s → IsSessionFormula s.context (length s.names) t → IsSound (state_with s (Some x) t)
@@ -56,6 +60,13 @@ names_are w f desk names gs e g = e ∙ ap (λ hs. fold with_name desk.names (fo
 pub proper_items : (gs : List Formula) → AreProperFormulas (formulas_of (map formula_tree gs)) → AllByRecursion (λ g. IsProperFormula (formula_tree g)) gs
 proper_items [] h = tt
 proper_items (g ∷ gs) h = (h.0, proper_items gs h.1)
+
+free_here : {s : State} {f : FormulaTree} (w : Wanted) → IsDistributed w → ¬ (HasUnwantedQuantifier s w f) → ¬ (IsQuantified s.bound f)
+free_here wanted.Given d h = absurd d
+free_here wanted.NegationNormal d h = absurd d
+free_here (wanted.Distributed way) d h = h
+free_here (wanted.Simplified given) d h = absurd d
+free_here (wanted.Eliminated given) d h = absurd d
 
 module _ (w : Wanted) (f : FormulaTree) (desk : Desk) (names : List (List ℕ)) (is : names ≡ fold with_name desk.names (formula_variables f ++ all_variables (given_trees w))) where
   -- the desk where the variables have their numbers
@@ -83,16 +94,16 @@ module _ (w : Wanted) (f : FormulaTree) (desk : Desk) (names : List (List ℕ)) 
     refuses : (e : StatementError) → Refuses (state_of numbered) limit (use_of target printed) (command_of w f) e → Refuses (named (state_of desk) (command_of w f)) limit (use_of target printed) (command_of w f) e
     refuses e h = subst (λ s. Refuses s limit (use_of target printed) (command_of w f) e) (sym start) h
 
-    pub unread_step : (e : StatementError) → ArePartsUnread (state_of numbered) f (given_trees w) e → Refuses (named (state_of desk) (command_of w f)) limit (use_of target printed) (command_of w f) e
-    unread_step e h = refuses e (refused_unread w f (state_of numbered) numbers limit target printed e h)
+    pub unready_step : (e : StatementError) → IsUnready (state_of numbered) w f e → Refuses (named (state_of desk) (command_of w f)) limit (use_of target printed) (command_of w f) e
+    unready_step e h = refuses e (refused_unready w f (state_of numbered) numbers limit target printed e h)
 
-    module _ (readable : ArePartsReadable (state_of numbered) f (given_trees w)) where
+    module _ (readable : IsReady (state_of numbered) w f) where
       -- the resolved formula
       abbrev resolution : Tree
       resolution = resolve (state_of numbered).context (state_of numbered).bound names f
 
       own : IsDesk numbered → IsProperFormula f → IsSessionFormula (state_of numbered).context (length names) resolution
-      own h proper = readable_formula f (state_of numbered) (first_part (HasNumbers names) f (given_trees w) numbers) h.sound proper (first_part (IsReadable (state_of numbered)) f (given_trees w) readable)
+      own h proper = readable_formula f (state_of numbered) (first_part (HasNumbers names) f (given_trees w) numbers) h.sound proper (first_part (IsReadable (state_of numbered)) f (given_trees w) readable.readable)
 
       -- the desk after the formula and its assumptions were resolved, the formula's tree, and the atoms
       module _ (read : Desk) (kept : KeepsDesk numbered read) (t : Tree) (same : t ≡ resolution) (ks : List Atom) (same_atoms : ks ≡ assumed (state_of numbered) (given_trees w)) where
@@ -110,10 +121,13 @@ module _ (w : Wanted) (f : FormulaTree) (desk : Desk) (names : List (List ℕ)) 
         pub two_step : IsDesk numbered → IsProperFormula f → HasTwoMembers t
         two_step h proper = subst (λ (u : Tree). HasTwoMembers u) (sym same) (own h proper).members
 
+        pub free_step : IsDesk numbered → IsDistributed w → IsQuantifierFree t
+        free_step h d = subst (λ (u : Tree). IsQuantifierFree u) (sym same) (resolved_free (state_of numbered).context (state_of numbered).bound names f (free_here w d readable.plain))
+
         pub atoms_step : IsDesk numbered → AreProperFormulas (given_trees w) → EachOf (IsNormal (context_of read.context)) ks
         atoms_step h proper =
             subst (λ c. EachOf (IsNormal c) ks) (sym theory)
-            (subst (EachOf (IsNormal (state_of numbered).context)) (sym same_atoms) (assumed_normal (state_of numbered) h.sound f (given_trees w) numbers readable proper))
+            (subst (EachOf (IsNormal (state_of numbered).context)) (sym same_atoms) (assumed_normal (state_of numbered) h.sound f (given_trees w) numbers readable.readable proper))
 
         pub wanted_step : (u : Tree) → IsWantedForm (context_of read.context) ks limit w t u → IsWantedForm (state_of numbered).context (assumed (state_of numbered) (given_trees w)) limit w resolution u
         wanted_step u h =

@@ -29,6 +29,11 @@ module _ (P : FormulaTree → Type 0) where
   first_part f none h = h
   first_part f (also g gs) h = h.0
 
+  -- what the formula has, some part has
+  pub some_first : (f : FormulaTree) (gs : FormulaTrees) → P f → SomePart P f gs
+  some_first f none h = h
+  some_first f (also g gs) h = inl h
+
   -- the assumptions as a list
   pub some_listed : (f : FormulaTree) (gs : List Formula) → SomePart P f (formulas_of (map formula_tree gs)) ↔ (P f ⊎ SomeOf (λ g. P (formula_tree g)) gs)
   some_listed f [] = (λ h. inl h, λ h. ⊎_elim (λ p. p) absurd h)

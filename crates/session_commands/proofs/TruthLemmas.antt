@@ -96,22 +96,22 @@ module _ (s : State) (f : FormulaTree) (es : List PointEntry) (numbers : HasNumb
   pub below_point : IsClear s f es → HasNoneBelow s f es 12
   below_point clear printed =
       none_below s (use_of None printed) (Holds f es) numbers 12 (lit≤ tt) (no_reading clear 12 (λ l. absurd (omega arith)) (lit≤ tt)) (λ l. clear.entries) (λ l. absurd (omega arith)) (λ l. absurd (omega arith))
-      (λ l. absurd (omega arith))
+      (λ l k. k.0) (λ l. absurd (omega arith))
 
   pub below_unvalued : IsClear s f es → ¬ (MeanNoPoint s.context es) → HasNoneBelow s f es 13
   below_unvalued clear point printed =
       none_below s (use_of None printed) (Holds f es) numbers 13 (lit≤ tt) (no_reading clear 13 (λ l. absurd (omega arith)) (lit≤ tt)) (λ l. clear.entries) (λ l. point) (λ l. absurd (omega arith))
-      (λ l. absurd (omega arith))
+      (λ l k. k.0) (λ l. absurd (omega arith))
 
   pub below_overflow : IsClear s f es → ¬ (MeanNoPoint s.context es) → IsValued s f es → HasNoneBelow s f es 15
   below_overflow clear point valued printed =
       none_below s (use_of None printed) (Holds f es) numbers 15 (lit≤ tt) (no_reading clear 15 (λ l. absurd (omega arith)) (lit≤ tt)) (λ l. clear.entries) (λ l. point) (λ l h. valued h.1)
-      (λ l. absurd (omega arith))
+      (λ l k. k.0) (λ l. absurd (omega arith))
 
   pub below_nodes : IsClear s f es → ¬ (MeanNoPoint s.context es) → IsValued s f es → ¬ (PassesLimit es) → IsReadable s f → HasNoneBelow s f es 16
   below_nodes clear point valued within readable printed =
       none_below s (use_of None printed) (Holds f es) numbers 16 (lit≤ tt) (no_reading clear 16 (λ l. readable.within) (lit≤ tt)) (λ l. clear.entries) (λ l. point) (λ l h. valued h.1)
-      (λ l. within)
+      (λ l k. k.0) (λ l. within)
 
   -- a truth has no formula to bind or to print
   no_formula : (printed : Bool) → HasNoCauseBelow s (use_of None printed) (Holds f es) 16 → HasNoCauseBelow s (use_of None printed) (Holds f es) 19
@@ -128,7 +128,7 @@ module _ (s : State) (f : FormulaTree) (es : List PointEntry) (numbers : HasNumb
   no_formula printed clear error.Depth l h = clear error.Depth (lit< tt) h
   no_formula printed clear error.Point l h = clear error.Point (lit< tt) h
   no_formula printed clear error.Unvalued l h = clear error.Unvalued (lit< tt) h
-  no_formula printed clear error.Quantified l h = h
+  no_formula printed clear error.Quantified l h = h.0
   no_formula printed clear error.Overflow l h = clear error.Overflow (lit< tt) h
   no_formula printed clear error.Nodes l h = h
   no_formula printed clear error.Bindings l h = ⊎_elim (λ p. p) (λ g. g.1) h
@@ -192,7 +192,7 @@ module _ (s : State) (f : FormulaTree) (es : List PointEntry) (numbers : HasNumb
   bound_first d first l h = λ limit printed. record {
     applies = inr h;
     first = none_below s (use_of None printed) (Holds f es) numbers 6 (lit≤ tt) (λ e m. first.first e (let n = earlier e static.FormulaAsTerm m in omega arith)) (λ m. absurd (omega arith)) (λ m. absurd (omega arith))
-        (λ m. absurd (omega arith)) (λ m. absurd (omega arith));
+        (λ m. absurd (omega arith)) (λ m k. k.0) (λ m. absurd (omega arith));
   }
 
   clear_at : reading.IsFirst s.context s.bound s.names f static.Overflow → ¬ Bound → IsClear s f es
@@ -241,7 +241,7 @@ module _ (s : State) (f : FormulaTree) (es : List PointEntry) (numbers : HasNumb
   pub read_bound : IsReadable s f → Bound → RefusesTruth s f es error.FormulaAsTerm
   read_bound a h = λ limit printed. record {
     applies = inr h;
-    first = none_below s (use_of None printed) (Holds f es) numbers 6 (lit≤ tt) (λ e m. resolvable a e (omega arith)) (λ m. absurd (omega arith)) (λ m. absurd (omega arith)) (λ m. absurd (omega arith)) (λ m. absurd (omega arith));
+    first = none_below s (use_of None printed) (Holds f es) numbers 6 (lit≤ tt) (λ e m. resolvable a e (omega arith)) (λ m. absurd (omega arith)) (λ m. absurd (omega arith)) (λ m. absurd (omega arith)) (λ m k. k.0) (λ m. absurd (omega arith));
   }
 
   -- ---- the truth

@@ -6,8 +6,8 @@ abbrev pub IsBuiltFormula : CommandTree → Type 0
 IsBuiltFormula (Echo f) = Unit {0}
 IsBuiltFormula (Nnf f) = Unit {0}
 IsBuiltFormula (Pnf f) = ⊥
-IsBuiltFormula (Dnf f) = ⊥
-IsBuiltFormula (Cnf f) = ⊥
+IsBuiltFormula (Dnf f) = Unit {0}
+IsBuiltFormula (Cnf f) = Unit {0}
 IsBuiltFormula (Simpl f given) = Unit {0}
 IsBuiltFormula (Qe f given) = Unit {0}
 IsBuiltFormula (Qea f given) = ⊥
@@ -19,8 +19,8 @@ abbrev pub IsBuiltCommand : CommandTree → Type 0
 IsBuiltCommand (Echo f) = Unit {0}
 IsBuiltCommand (Nnf f) = Unit {0}
 IsBuiltCommand (Pnf f) = ⊥
-IsBuiltCommand (Dnf f) = ⊥
-IsBuiltCommand (Cnf f) = ⊥
+IsBuiltCommand (Dnf f) = Unit {0}
+IsBuiltCommand (Cnf f) = Unit {0}
 IsBuiltCommand (Simpl f given) = Unit {0}
 IsBuiltCommand (Qe f given) = Unit {0}
 IsBuiltCommand (Qea f given) = ⊥

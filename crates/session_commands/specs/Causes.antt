@@ -1,6 +1,7 @@
 -- Why a command is refused: each cause on its own, over the whole statement, and their order. The state is one in which the
 -- variables of the command have their numbers.
 use Rattle.std.specs.Prelude.{◌≡◌, ◌⊎◌, ◌*◌, ℕ, ◌<◌, ◌≤◌, List, ◌++◌, Bool, true, Option, Some, None, length, codes}
+use Rattle.formula_meaning.specs.Fold.{Conjunction, Disjunction}
 use Rattle.formula_meaning.specs.Some.{SomeOf}
 use Rattle.formula_meaning.specs.Sizes.{nodes}
 use Rattle.formula_meaning.specs.Tree.{Tree, tree_distinct}
@@ -15,6 +16,7 @@ use Rattle.qe_syntax.specs.Value.{NamedPoint}
 use Rattle.formula_tree.specs.Bindings.{bound_to, most_bound}
 use Rattle.formula_tree.specs.Resolving.{BoundTrees, place, at_names}
 use Rattle.formula_tree.specs.Causes.{IsUnbound, NamesFormulaAsTerm, IsBound, IsNonlinear, Divides, CongruenceInFields, IsBadModulus, IsTooDeep, OverflowsInReading}
+use Rattle.clean_forms.specs.Plain.{plain_form, literals}
 use Rattle.redlog_printer.specs.Text.{tree_text}
 use Rattle.redlog_printer.specs.Writing.{text_limit}
 use Rattle.session_commands.specs.declared.line.StatementError.{StatementError}
@@ -42,6 +44,32 @@ AsksTruth (Qe f given) = ⊥
 AsksTruth (Qea f given) = ⊥
 AsksTruth (Holds f es) = Unit {0}
 AsksTruth (Sample f es) = ⊥
+
+-- the command asks about a point: for the truth there, or for a sample
+abbrev pub AsksAtPoint : CommandTree → Type 0
+AsksAtPoint (Echo f) = ⊥
+AsksAtPoint (Nnf f) = ⊥
+AsksAtPoint (Pnf f) = ⊥
+AsksAtPoint (Dnf f) = ⊥
+AsksAtPoint (Cnf f) = ⊥
+AsksAtPoint (Simpl f given) = ⊥
+AsksAtPoint (Qe f given) = ⊥
+AsksAtPoint (Qea f given) = ⊥
+AsksAtPoint (Holds f es) = Unit {0}
+AsksAtPoint (Sample f es) = Unit {0}
+
+-- the command gives a disjunctive or a conjunctive form
+abbrev pub AsksPlainForm : CommandTree → Type 0
+AsksPlainForm (Echo f) = ⊥
+AsksPlainForm (Nnf f) = ⊥
+AsksPlainForm (Pnf f) = ⊥
+AsksPlainForm (Dnf f) = Unit {0}
+AsksPlainForm (Cnf f) = Unit {0}
+AsksPlainForm (Simpl f given) = ⊥
+AsksPlainForm (Qe f given) = ⊥
+AsksPlainForm (Qea f given) = ⊥
+AsksPlainForm (Holds f es) = ⊥
+AsksPlainForm (Sample f es) = ⊥
 
 -- the command gives a negation normal form
 abbrev pub AsksNegationNormal : CommandTree → Type 0
@@ -89,8 +117,8 @@ IsCause s u c error.CongruenceContext = InSomePart c (CongruenceInFields s.conte
 IsCause s u c error.Modulus = InSomePart c (IsBadModulus s.context (place s.names))
 IsCause s u c error.Depth = InSomePart c (IsTooDeep s.bound)
 IsCause s u c error.Point = MeanNoPoint s.context (entries_of c)
-IsCause s u c error.Unvalued = AsksTruth c × HasUnvalued s.bound (place s.names) (formula_of c) (entries_of c)
-IsCause s u c error.Quantified = ⊥
+IsCause s u c error.Unvalued = AsksAtPoint c × HasUnvalued s.bound (place s.names) (formula_of c) (entries_of c)
+IsCause s u c error.Quantified = AsksPlainForm c × IsQuantified s.bound (formula_of c)
 IsCause s u c error.Overflow = InSomePart c (OverflowsInReading s.context s.bound (place s.names)) ⊎ PassesLimit (entries_of c)
 IsCause s u c error.Bindings = HasNoRoom s.bound u.target ⊎ ((t : Tree) × Gives s c t × IsTooLarge u.target t)
 IsCause s u c error.Text = (u.printed ≡ true) × ((t : Tree) × Gives s c t × (text_limit < length (formula_line u.target s.names t)))
@@ -118,31 +146,31 @@ ReferenceStops s limit (Holds f es) e = IsQuantified s.bound f
     × ((point : NamedPoint) × IsPointOf es point × (reference_at s.context limit (at_names s.names point) (resolved s (Holds f es)) ≡ stopped e))
 ReferenceStops s limit (Sample f es) e = ⊥
 
--- the formula that a simpler answer is measured by: the negation normal form, or what the reference elimination gives
+-- the formula that a simpler answer is measured by: the negation normal form, the plain form, or what the reference elimination gives
 abbrev pub IsMeasureOf : State → ℕ → CommandTree → Tree → Type 0
 IsMeasureOf s limit (Echo f) t = ⊥
 IsMeasureOf s limit (Nnf f) t = ⊥
 IsMeasureOf s limit (Pnf f) t = ⊥
-IsMeasureOf s limit (Dnf f) t = ⊥
-IsMeasureOf s limit (Cnf f) t = ⊥
+IsMeasureOf s limit (Dnf f) t = t ≡ plain_form Conjunction (negated_of s f)
+IsMeasureOf s limit (Cnf f) t = t ≡ plain_form Disjunction (negated_of s f)
 IsMeasureOf s limit (Simpl f given) t = t ≡ negated_of s f
 IsMeasureOf s limit (Qe f given) t = (cost : ℕ) × (reference s.context limit (resolved s (Qe f given)) ≡ done (t, cost))
 IsMeasureOf s limit (Qea f given) t = ⊥
 IsMeasureOf s limit (Holds f es) t = ⊥
 IsMeasureOf s limit (Sample f es) t = ⊥
 
--- the negation normal form of a formula that is simplified has more nodes than the limit
-abbrev pub HasManyToSimplify : State → ℕ → CommandTree → Type 0
-HasManyToSimplify s limit (Echo f) = ⊥
-HasManyToSimplify s limit (Nnf f) = ⊥
-HasManyToSimplify s limit (Pnf f) = ⊥
-HasManyToSimplify s limit (Dnf f) = ⊥
-HasManyToSimplify s limit (Cnf f) = ⊥
-HasManyToSimplify s limit (Simpl f given) = limit < nodes (negated_of s f)
-HasManyToSimplify s limit (Qe f given) = ⊥
-HasManyToSimplify s limit (Qea f given) = ⊥
-HasManyToSimplify s limit (Holds f es) = ⊥
-HasManyToSimplify s limit (Sample f es) = ⊥
+-- What the command counts before it answers is above the limit: the nodes of the negation normal form that is simplified, or the places of atoms of the plain form.
+abbrev pub IsOverLimit : State → ℕ → CommandTree → Type 0
+IsOverLimit s limit (Echo f) = ⊥
+IsOverLimit s limit (Nnf f) = ⊥
+IsOverLimit s limit (Pnf f) = ⊥
+IsOverLimit s limit (Dnf f) = limit < literals Conjunction (negated_of s f)
+IsOverLimit s limit (Cnf f) = limit < literals Disjunction (negated_of s f)
+IsOverLimit s limit (Simpl f given) = limit < nodes (negated_of s f)
+IsOverLimit s limit (Qe f given) = ⊥
+IsOverLimit s limit (Qea f given) = ⊥
+IsOverLimit s limit (Holds f es) = ⊥
+IsOverLimit s limit (Sample f es) = ⊥
 
 -- a product or a partial sum of the value of an atom passes the limit at the point, in a formula without quantifiers
 abbrev pub ValuePassesAt : State → CommandTree → Type 0
@@ -156,7 +184,7 @@ HasManyNodes (Some x) t = MOST_SUBFORMULAS < nodes t
 -- The command may be refused with the word: its cause applies, or one for which a command may be refused and need not be.
 abbrev pub MayRefuse : State → ℕ → Use → CommandTree → StatementError → Type 0
 MayRefuse s limit u c error.Overflow = IsCause s u c error.Overflow ⊎ (ValuePassesAt s c ⊎ ReferenceStops s limit c Overflow)
-MayRefuse s limit u c error.Nodes = (AsksNegationNormal c × (limit < 6 * tree_distinct (resolved s c))) ⊎ (HasManyToSimplify s limit c ⊎ ReferenceStops s limit c Nodes)
+MayRefuse s limit u c error.Nodes = (AsksNegationNormal c × (limit < 6 * tree_distinct (resolved s c))) ⊎ (IsOverLimit s limit c ⊎ ReferenceStops s limit c Nodes)
 MayRefuse s limit u c error.Bindings = IsCause s u c error.Bindings ⊎ ((t : Tree) × IsMeasureOf s limit c t × HasManyNodes u.target t)
 MayRefuse s limit u c error.Text = IsCause s u c error.Text
     ⊎ ((u.printed ≡ true) × ((t : Tree) × IsMeasureOf s limit c t × (text_limit < length (formula_line u.target s.names t))))

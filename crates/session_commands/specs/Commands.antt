@@ -1,9 +1,10 @@
 -- The parts of a command, and the formula that it gives.
 use Rattle.std.specs.Prelude.{◌≡◌, ◌↔◌, ◌≤◌, ℕ, List, [], ◌++◌, map, length}
 use Rattle.std.specs.List.{fold}
+use Rattle.formula_meaning.specs.Fold.{Junction, Conjunction, Disjunction}
 use Rattle.formula_meaning.specs.NegationNormal.{normal_form}
 use Rattle.formula_meaning.specs.Point.{Of}
-use Rattle.formula_meaning.specs.Every.{Every}
+use Rattle.formula_meaning.specs.Every.{Every, EveryBound}
 use Rattle.formula_meaning.specs.Shape.{IsQuantifierFree}
 use Rattle.formula_meaning.specs.Sizes.{nodes}
 use Rattle.formula_meaning.specs.Tree.{Tree, IsFree, TrueAt}
@@ -16,6 +17,8 @@ use Rattle.formula_tree.specs.Names.{with_name}
 use Rattle.formula_tree.specs.Resolving.{formula_variables, all_variables, resolve, at_names, bound_truth}
 use Rattle.redlog_printer.specs.Bound.{HasTwoMembers}
 use Rattle.redlog_printer.specs.Text.{tree_text}
+use Rattle.clean_forms.specs.Clean.{IsCleanForm}
+use Rattle.clean_forms.specs.Plain.{plain_form}
 use Rattle.simplified_formulas.specs.Measure.{size, atom_measure}
 use Rattle.simplified_formulas.specs.Trees.{IsReduced}
 use Rattle.session_commands.specs.State.{State}
@@ -69,7 +72,7 @@ resolved s c = resolve s.context s.bound s.names (formula_of c)
 abbrev pub negated_of : State → FormulaTree → Tree
 negated_of s f = normal_form negated_normal (resolve s.context s.bound s.names f)
 
--- the formula that the command determines is this one; a query determines none, and simplification and elimination leave a choice
+-- the formula that the command determines is this one; a query determines none, and simplification, clean forms and elimination leave a choice
 abbrev pub Gives : State → CommandTree → Tree → Type 0
 Gives s (Echo f) t = t ≡ resolved s (Echo f)
 Gives s (Nnf f) t = t ≡ normal_form negated_normal (resolved s (Nnf f))
@@ -82,18 +85,31 @@ Gives s (Qea f given) t = ⊥
 Gives s (Holds f es) t = ⊥
 Gives s (Sample f es) t = ⊥
 
--- ---- simplification and elimination
+-- ---- simplification, clean forms and elimination
 
 -- The formula is simplified under the assumptions: it is Reduced under them, and true exactly where the command's formula is, as it is written, at every
 -- point of the theory where the assumptions are true. It is no larger than the negation normal form: it has no more nodes, no more places of atoms, no
--- longer text and no other free names. Its atoms are normal, and its lists have two members at least.
+-- longer text, and no other names, free or quantified. Its atoms are normal, and its lists have two members at least.
 pub record IsSimplification (s : State) (f : FormulaTree) (given : FormulaTrees) (t : Tree) : Type 0 where
   pub reduced : IsReduced s.context t (assumed s given)
   pub truth : (p : written.NamedPoint) → Of s.context p → Hold s given p → written.TrueAt (bound_truth s.context s.bound s.names) s.context f p ↔ TrueAt s.context t (at_names s.names p)
   pub names : (n : ℕ) → IsFree t n → IsFree (negated_of s f) n
+  pub quantified : (n : ℕ) → EveryBound (λ x. ¬ (x ≡ n)) (negated_of s f) → EveryBound (λ x. ¬ (x ≡ n)) t
   pub nodes : nodes t ≤ nodes (negated_of s f)
   pub atoms : size atom_measure t ≤ size atom_measure (negated_of s f)
   pub text : length (tree_text s.names t) ≤ length (tree_text s.names (negated_of s f))
+  pub normal : Every (IsNormal s.context) t
+  pub members : HasTwoMembers t
+
+-- The formula is a clean disjunctive form, where j is and, or a clean conjunctive form, and true exactly where the command's formula is, as it is written, at
+-- every point of the theory. It has no other free names than the negation normal form, and no more nodes and no longer text than the plain form. Its atoms are
+-- normal, and its lists have two members at least.
+pub record IsCleanAnswer (s : State) (j : Junction) (f : FormulaTree) (t : Tree) : Type 0 where
+  pub clean : IsCleanForm s.context j t
+  pub truth : (p : written.NamedPoint) → Of s.context p → written.TrueAt (bound_truth s.context s.bound s.names) s.context f p ↔ TrueAt s.context t (at_names s.names p)
+  pub names : (n : ℕ) → IsFree t n → IsFree (negated_of s f) n
+  pub nodes : nodes t ≤ nodes (plain_form j (negated_of s f))
+  pub text : length (tree_text s.names t) ≤ length (tree_text s.names (plain_form j (negated_of s f)))
   pub normal : Every (IsNormal s.context) t
   pub members : HasTwoMembers t
 
@@ -114,8 +130,8 @@ abbrev pub MayGive : State → ℕ → CommandTree → Tree → Type 0
 MayGive s limit (Echo f) t = Gives s (Echo f) t
 MayGive s limit (Nnf f) t = Gives s (Nnf f) t
 MayGive s limit (Pnf f) t = ⊥
-MayGive s limit (Dnf f) t = ⊥
-MayGive s limit (Cnf f) t = ⊥
+MayGive s limit (Dnf f) t = IsCleanAnswer s Conjunction f t
+MayGive s limit (Cnf f) t = IsCleanAnswer s Disjunction f t
 MayGive s limit (Simpl f given) t = IsSimplification s f given t
 MayGive s limit (Qe f given) t = IsCondition s limit f given t
 MayGive s limit (Qea f given) t = ⊥

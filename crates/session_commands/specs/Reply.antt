@@ -35,8 +35,8 @@ abbrev pub Tells : State → ℕ → CommandTree → List ℕ → Type 0
 Tells s limit (Echo f) text = IsFormulaText s limit (Echo f) text
 Tells s limit (Nnf f) text = IsFormulaText s limit (Nnf f) text
 Tells s limit (Pnf f) text = ⊥
-Tells s limit (Dnf f) text = ⊥
-Tells s limit (Cnf f) text = ⊥
+Tells s limit (Dnf f) text = IsFormulaText s limit (Dnf f) text
+Tells s limit (Cnf f) text = IsFormulaText s limit (Cnf f) text
 Tells s limit (Simpl f given) text = IsFormulaText s limit (Simpl f given) text
 Tells s limit (Qe f given) text = IsFormulaText s limit (Qe f given) text
 Tells s limit (Qea f given) text = ⊥

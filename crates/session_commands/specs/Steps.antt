@@ -1,5 +1,5 @@
 -- What the steps of an answer give one another.
-use Rattle.std.specs.Prelude.{◌≡◌, ◌⊎◌, ◌*◌, ◌<◌, ◌≤◌, ℕ, List, Bool, true, Option, Some, None, length, nat_lt, if◌then◌else◌}
+use Rattle.std.specs.Prelude.{◌≡◌, ◌⊎◌, ◌*◌, ◌<◌, ◌≤◌, ℕ, List, Bool, true, Option, Some, None, Result, Ok, Err, length, nat_lt, if◌then◌else◌}
 use Rattle.formula_meaning.specs.Context.{Context}
 use Rattle.formula_meaning.specs.Formula.{none}
 use Rattle.formula_meaning.specs.Sizes.{nodes}
@@ -7,7 +7,11 @@ use Rattle.formula_meaning.specs.Every.{Every, EveryBound}
 use Rattle.formula_meaning.specs.Shape.{IsQuantifierFree}
 use Rattle.formula_meaning.specs.Some.{SomeOf, EachOf}
 use Rattle.formula_meaning.specs.Atom.{Atom}
-use Rattle.formula_meaning.specs.Tree.{Tree, IsFree, tree_distinct}
+use Rattle.formula_meaning.specs.Fold.{Junction, Conjunction, Disjunction}
+use Rattle.formula_meaning.specs.Tree.{Tree, IsFree, Equivalent, tree_distinct}
+use Rattle.clean_forms.specs.Clean.{IsCleanForm}
+use Rattle.clean_forms.specs.Laws.{IsNoLonger}
+use Rattle.clean_forms.specs.Plain.{plain_form, literals}
 use Rattle.simplified_formulas.specs.Measure.{size, atom_measure}
 use Rattle.simplified_formulas.specs.Orderly.{IsOrderly}
 use Rattle.simplified_formulas.specs.Trees.{IsReduced, EquivalentUnder}
@@ -18,7 +22,7 @@ use Rattle.formula_meaning.specs.NegationNormal.{normal_form}
 use Rattle.atom_normal.specs.NormalForm.{negated_normal, IsNormal}
 use Rattle.qe_syntax.specs.declared.tree.Formula.{Formula}
 use Rattle.qe_syntax.specs.Trees.{FormulaTree, FormulaTrees, formula_tree, formula_trees}
-use Rattle.qe_syntax.specs.Statements.{CommandTree, Echo, Nnf, Simpl, Qe}
+use Rattle.qe_syntax.specs.Statements.{CommandTree, Echo, Nnf, Dnf, Cnf, Simpl, Qe}
 use Rattle.redlog_reader.specs.declared.token.ReadError.{ReadError}
 use Rattle.redlog_reader.specs.declared.token.ReadError.TheVariants as reading
 use Rattle.formula_tree.specs.Bindings.{bind}
@@ -42,10 +46,13 @@ use Rattle.session_commands.specs.declared.line.StatementError.{StatementError}
 use Rattle.session_commands.specs.declared.line.StatementError.TheVariants as error
 use Rattle.session_commands.specs.declared.formulas.Wanted.{Wanted}
 use Rattle.session_commands.specs.declared.formulas.Wanted.TheVariants as wanted
+use Rattle.session_commands.specs.declared.formulas.Way.{Way}
+use Rattle.session_commands.specs.declared.formulas.Way.TheVariants as way
 use Rattle.session_commands.specs.declared.desk.Desk.{Desk}
 use Rattle.session_commands.specs.State.{State}
 use Rattle.session_commands.specs.Parts.{SomePart, EachPart}
 use Rattle.session_commands.specs.Commands.{MayGive}
+use Rattle.session_commands.specs.Points.{IsQuantified}
 use Rattle.session_commands.specs.Causes.{Use, formula_line, HasNoRoom, IsTooLarge, IsAccepted}
 use Rattle.session_commands.specs.Reply.{with_bound, IsLine}
 
@@ -76,13 +83,21 @@ measured_refusal measured.Memory = error.Memory
 abbrev pub given_trees : Wanted → FormulaTrees
 given_trees wanted.Given = none
 given_trees wanted.NegationNormal = none
+given_trees (wanted.Distributed way) = none
 given_trees (wanted.Simplified given) = formula_trees given.now
 given_trees (wanted.Eliminated given) = formula_trees given.now
+
+-- what the lists of a clean form are joined by
+abbrev pub junction_of : Way → Junction
+junction_of way.Disjunctive = Conjunction
+junction_of way.Conjunctive = Disjunction
 
 -- the command that gives the wanted formula
 abbrev pub command_of : Wanted → FormulaTree → CommandTree
 command_of wanted.Given f = Echo f
 command_of wanted.NegationNormal f = Nnf f
+command_of (wanted.Distributed way.Disjunctive) f = Dnf f
+command_of (wanted.Distributed way.Conjunctive) f = Cnf f
 command_of (wanted.Simplified given) f = Simpl f (formula_trees given.now)
 command_of (wanted.Eliminated given) f = Qe f (formula_trees given.now)
 
@@ -177,6 +192,38 @@ pub record IsFirstWith (s : State) (g : FormulaTree) (stop after : Option Static
   pub first : FirstAmong (λ d. Applies s.context s.bound s.names g d) cause
   pub joined : after ≡ earlier_of stop cause
 
+-- a disjunctive or conjunctive form is wanted
+abbrev pub IsDistributed : Wanted → Type 0
+IsDistributed wanted.Given = ⊥
+IsDistributed wanted.NegationNormal = ⊥
+IsDistributed (wanted.Distributed way) = Unit {0}
+IsDistributed (wanted.Simplified given) = ⊥
+IsDistributed (wanted.Eliminated given) = ⊥
+
+-- all causes that come before a quantifier were looked for in vain
+abbrev pub MayBeQuantified : {T : Type 0} → Result T StatementError → Type 0
+MayBeQuantified (Ok x) = Unit {0}
+MayBeQuantified (Err e) = e ≡ error.Overflow
+
+-- a quantifier stands in a formula that is asked for its disjunctive or conjunctive form
+abbrev pub HasUnwantedQuantifier : State → Wanted → FormulaTree → Type 0
+HasUnwantedQuantifier s wanted.Given f = ⊥
+HasUnwantedQuantifier s wanted.NegationNormal f = ⊥
+HasUnwantedQuantifier s (wanted.Distributed way) f = IsQuantified s.bound f
+HasUnwantedQuantifier s (wanted.Simplified given) f = ⊥
+HasUnwantedQuantifier s (wanted.Eliminated given) f = ⊥
+
+-- no cause in reading applies, nor is there a quantifier where none may be
+pub record IsReady (s : State) (w : Wanted) (f : FormulaTree) : Type 0 where
+  pub readable : ArePartsReadable s f (given_trees w)
+  pub plain : ¬ (HasUnwantedQuantifier s w f)
+
+-- why that is not so: the quantifier comes before an overflow, and after all other causes
+abbrev pub IsUnready : State → Wanted → FormulaTree → StatementError → Type 0
+IsUnready s w f error.Quantified = HasUnwantedQuantifier s w f × ((d : StaticError) → static_rank d < 7 → ¬ (AppliesToPart s f (given_trees w) d))
+IsUnready s w f error.Overflow = ArePartsUnread s f (given_trees w) error.Overflow × (¬ (HasUnwantedQuantifier s w f))
+IsUnready s w f e = ArePartsUnread s f (given_trees w) e
+
 -- ---- forms
 
 -- the reference elimination gives t of f, and it is an answer to f
@@ -194,10 +241,21 @@ pub record IsSimplifiedAs (c : Context) (ks : List Atom) (f t : Tree) : Type 0 w
   pub normal : Every (IsNormal c) t
   pub free : IsQuantifierFree f → IsQuantifierFree t
   pub bound : (n : ℕ) → EveryBound (λ x. x < n) f → EveryBound (λ x. x < n) t
+  pub quantified : (n : ℕ) → EveryBound (λ x. ¬ (x ≡ n)) f → EveryBound (λ x. ¬ (x ≡ n)) t
   pub names : (x : ℕ) → IsFree t x → IsFree f x
   pub nodes : nodes t ≤ nodes f
   pub atoms : size atom_measure t ≤ size atom_measure f
   pub text : (names : List (List ℕ)) → EachOf (λ name. 0 < length name) names → Every (IsAtomWithin (length names)) f → length (tree_text names t) ≤ length (tree_text names f)
+
+-- t is a clean form of f
+pub record IsCleanedAs (c : Context) (j : Junction) (f t : Tree) : Type 0 where
+  pub clean : IsCleanForm c j t
+  pub truth : Equivalent c t f
+  pub orderly : IsOrderly (IsNormal c) t
+  pub free : IsQuantifierFree t
+  pub names : (x : ℕ) → IsFree t x → IsFree f x
+  pub nodes : nodes t ≤ nodes (plain_form j f)
+  pub text : IsNoLonger t (plain_form j f) f
 
 -- t is what the reference elimination gives of f, simplified under the atoms ks
 pub record IsWantedAnswer (c : Context) (ks : List Atom) (limit : ℕ) (f t : Tree) : Type 0 where
@@ -209,6 +267,7 @@ pub record IsWantedAnswer (c : Context) (ks : List Atom) (limit : ℕ) (f t : Tr
 abbrev pub IsWantedForm : Context → List Atom → ℕ → Wanted → Tree → Tree → Type 0
 IsWantedForm c ks limit wanted.Given f t = t ≡ f
 IsWantedForm c ks limit wanted.NegationNormal f t = t ≡ normal_form negated_normal f
+IsWantedForm c ks limit (wanted.Distributed way) f t = IsCleanedAs c (junction_of way) (normal_form negated_normal f) t
 IsWantedForm c ks limit (wanted.Simplified given) f t = IsSimplifiedAs c ks (normal_form negated_normal f) t
 IsWantedForm c ks limit (wanted.Eliminated given) f t = IsWantedAnswer c ks limit f t
 
@@ -228,6 +287,7 @@ EliminationFault c limit f _ = ⊥
 -- why the wanted form is not made
 abbrev pub FormFault : Context → ℕ → Wanted → Tree → StatementError → Type 0
 FormFault c limit wanted.NegationNormal f error.Nodes = limit < 6 * tree_distinct f
+FormFault c limit (wanted.Distributed way) f error.Nodes = limit < literals (junction_of way) (normal_form negated_normal f)
 FormFault c limit (wanted.Simplified given) f error.Nodes = limit < nodes (normal_form negated_normal f)
 FormFault c limit (wanted.Eliminated given) f error.Nodes = reference c limit f ≡ stopped Nodes
 FormFault c limit (wanted.Eliminated given) f error.Overflow = reference c limit f ≡ stopped Overflow

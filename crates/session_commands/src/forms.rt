@@ -1,10 +1,12 @@
 //! The forms of a resolved formula that commands give.
 
-ghost use Rattle.std.specs.Prelude.{◌≡◌, ◌*◌, ◌⊎◌, ◌<◌, ◌≤◌, ℕ, Some, IfOk, IfErr, OnOk, map};
+ghost use Rattle.std.specs.Prelude.{◌≡◌, ◌*◌, ◌⊎◌, ◌<◌, ◌≤◌, ℕ, Some, Ok, IsErrOf, IfOk, IfErr, OnOk, map};
 ghost use Rattle.std.specs.List.{AllByRecursion};
 ghost use Rattle.formula_meaning.specs.Every.{Every};
 ghost use Rattle.formula_meaning.specs.NegationNormal.{normal_form};
+ghost use Rattle.formula_meaning.specs.Shape.{IsQuantifierFree};
 ghost use Rattle.formula_meaning.specs.Sizes.{nodes};
+ghost use Rattle.clean_forms.specs.Plain.{literals};
 ghost use Rattle.formula_meaning.specs.Some.{EachOf};
 ghost use Rattle.formula_meaning.specs.Tree.{tree_distinct};
 ghost use Rattle.atom_normal.specs.Atoms.{context_of, atom_of, IsWellFormed};
@@ -12,19 +14,20 @@ ghost use Rattle.atom_normal.specs.NormalForm.{IsNormal, negated_normal};
 ghost use Rattle.simplified_formulas.specs.Orderly.{IsOrderly};
 ghost use Rattle.formula_store.specs.Nodes.{tree, IsId};
 ghost use Rattle.redlog_printer.specs.Bound.{HasTwoMembers};
-ghost use Rattle.session_commands.specs.Steps.{KeepsDesk, IsWantedForm, FormFault, IsEliminatedAs, IsSimplifiedAs, IsWantedAnswer, EliminationFault, NegationFault, measured_refusal as refusal_of_measured};
+ghost use Rattle.session_commands.specs.Steps.{KeepsDesk, IsWantedForm, FormFault, IsDistributed, junction_of, IsCleanedAs, IsEliminatedAs, IsSimplifiedAs, IsWantedAnswer, EliminationFault, NegationFault, measured_refusal as refusal_of_measured};
 
 use crate::assumptions::Premised;
 use crate::desk::Desk;
-use crate::formulas::Wanted;
+use crate::formulas::{Wanted, Way};
 use crate::line::StatementError;
 use atom_normal::Atom;
 use formula_store::FormulaId;
 use formula_tree::FormError;
 use nnf_pnf::nnf;
+use normal_forms::{cnf, dnf};
 use plain_engine::Measured;
 use shared_elimination::eliminate_shared;
-use theory_simplifier::{SimplError, simplify};
+use theory_simplifier::{SimplError, see_formula, simplify};
 
 /// The wanted form of what was read.
 pub(crate) fn formed(
@@ -36,6 +39,7 @@ pub(crate) fn formed(
     requires id { IsId desk.old.store read.now.formula }
     requires normal { Every (IsNormal (context_of desk.old.context)) (tree desk.old.store read.now.formula) }
     requires members { HasTwoMembers (tree desk.old.store read.now.formula) }
+    requires free { IsDistributed wanted → IsQuantifierFree (tree desk.old.store read.now.formula) }
     requires atoms { EachOf (IsNormal (context_of desk.old.context)) (map atom_of read.now.atoms.items) }
     requires well_formed { AllByRecursion IsWellFormed read.now.atoms.items }
     ensures made { IfOk result (IsId desk.new.store) }
@@ -46,6 +50,7 @@ pub(crate) fn formed(
     match wanted {
         Wanted::Given => Ok(read.formula),
         Wanted::NegationNormal => negated(desk, Some(limit), read.formula),
+        Wanted::Distributed(way) => distributed(desk, limit, way, read),
         Wanted::Simplified(_) => simplified_negation(desk, limit, read),
         Wanted::Eliminated(_) => simplified_answer(desk, limit, read),
     }
@@ -64,6 +69,62 @@ fn negated(
     ensures kept { KeepsDesk desk.old desk.new }
 {
     match nnf(desk.alloc, &mut desk.store, id, limit) {
+        Ok(id) => Ok(id),
+        Err(FormError::Nodes) => Err(StatementError::Nodes),
+        Err(_) => Err(StatementError::Memory),
+    }
+}
+
+/// A clean form of the negation normal form. `Nodes` comes only where the plain form has more places of atoms than the limit.
+fn distributed(
+    desk: &mut Desk,
+    limit: u64,
+    way: Way,
+    read: &Premised,
+) -> Result<FormulaId, StatementError>
+    requires id { IsId desk.old.store read.now.formula }
+    requires normal { Every (IsNormal (context_of desk.old.context)) (tree desk.old.store read.now.formula) }
+    requires members { HasTwoMembers (tree desk.old.store read.now.formula) }
+    requires free { IsQuantifierFree (tree desk.old.store read.now.formula) }
+    ensures made { IfOk result (IsId desk.new.store) }
+    ensures cleaned { IfOk result (λ r. IsCleanedAs (context_of desk.old.context) (junction_of way) (normal_form negated_normal (tree desk.old.store read.now.formula)) (tree desk.new.store r)) }
+    ensures fault { IfErr result (λ e. ((e ≡ StatementError.Nodes) × (limit < literals (junction_of way) (normal_form negated_normal (tree desk.old.store read.now.formula)))) ⊎ (e ≡ StatementError.Memory)) }
+    ensures kept { KeepsDesk desk.old desk.new }
+{
+    let form = negated(desk, None, read.formula)?;
+    cleaned(desk, limit, way, form)
+}
+
+/// A clean form of a formula in negation normal form without quantifiers.
+fn cleaned(
+    desk: &mut Desk,
+    limit: u64,
+    way: Way,
+    id: FormulaId,
+) -> Result<FormulaId, StatementError>
+    requires id { IsId desk.old.store id }
+    requires formula { IsOrderly (IsNormal (context_of desk.old.context)) (tree desk.old.store id) }
+    requires free { IsQuantifierFree (tree desk.old.store id) }
+    ensures made { IfOk result (IsId desk.new.store) }
+    ensures cleaned { IfOk result (λ r. IsCleanedAs (context_of desk.old.context) (junction_of way) (tree desk.old.store id) (tree desk.new.store r)) }
+    ensures fault { IfErr result (λ e. ((e ≡ StatementError.Nodes) × (limit < literals (junction_of way) (tree desk.old.store id))) ⊎ (e ≡ StatementError.Memory)) }
+    ensures kept { KeepsDesk desk.old desk.new }
+{
+    if let Err(_failed) = see_formula(&desk.store, id) {
+        return Err(StatementError::Memory);
+    }
+    match way {
+        Way::Disjunctive => told(dnf(desk.alloc, &mut desk.store, desk.context, id, limit)),
+        Way::Conjunctive => told(cnf(desk.alloc, &mut desk.store, desk.context, id, limit)),
+    }
+}
+
+/// The form, or the word for why there is none. One that is quantified is not asked for.
+fn told(made: Result<FormulaId, FormError>) -> Result<FormulaId, StatementError>
+    ensures made { IfOk result (λ id. made ≡ Ok id) }
+    ensures fault { IfErr result (λ e. ((e ≡ StatementError.Nodes) × IsErrOf made FormError.Nodes) ⊎ (e ≡ StatementError.Memory)) }
+{
+    match made {
         Ok(id) => Ok(id),
         Err(FormError::Nodes) => Err(StatementError::Nodes),
         Err(_) => Err(StatementError::Memory),

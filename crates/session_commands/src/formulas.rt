@@ -1,7 +1,9 @@
 //! Commands that give a formula: it is printed, or bound to a name.
 
-ghost use Rattle.std.specs.Prelude.{◌≡◌, ◌⊎◌, ◌<◌, ◌≤◌, ◌++◌, true, IfOk, IfErr, OnOk, OnErr, length, codes, map};
+ghost use Rattle.std.specs.Prelude.{◌≡◌, ◌⊎◌, ◌↔◌, ◌<◌, ◌≤◌, ◌++◌, true, IsTrue, IfOk, IfErr, OnOk, OnErr, length, codes, map};
 ghost use Rattle.std.specs.Bool.{MatchBool};
+ghost use Rattle.std.specs.List.{AllByRecursion};
+ghost use Rattle.atom_normal.specs.Atoms.{atom_of, IsWellFormed};
 ghost use Rattle.formula_tree.specs.Bindings.{bound_to, most_bound};
 ghost use Rattle.formula_tree.specs.Makers.{IsMade};
 ghost use Rattle.formula_tree.specs.Resolving.{resolve};
@@ -13,18 +15,20 @@ ghost use Rattle.redlog_printer.specs.Bound.{HasTwoMembers};
 ghost use Rattle.redlog_printer.specs.Writing.{text_limit};
 ghost use Rattle.qe_syntax.specs.Proper.{IsProperFormula, AreProperFormulas};
 ghost use Rattle.qe_syntax.specs.Trees.{formula_tree, formulas_of};
+ghost use Rattle.session_commands.specs.Assumptions.{assumed};
 ghost use Rattle.session_commands.specs.Commands.{named};
 ghost use Rattle.session_commands.specs.Causes.{formula_line, Refuses, HasNoRoom};
 ghost use Rattle.session_commands.specs.Keeping.{state_of, IsDesk};
 ghost use Rattle.session_commands.specs.Reply.{IsLine};
-ghost use Rattle.session_commands.specs.Steps.{static_refusal as refusal_of_static, given_trees, command_of, use_of, IsGiven, KeepsDesk, GrowsDesk, HasNumbers, IsUnread, IsReadable, MayBind, TargetFault, LineFault, bound_after};
+ghost use Rattle.session_commands.specs.Steps.{static_refusal as refusal_of_static, MayBeQuantified, IsDistributed, ArePartsNumbered, IsReady, IsUnready, given_trees, command_of, use_of, IsGiven, KeepsDesk, GrowsDesk, HasNumbers, IsUnread, IsReadable, MayBind, TargetFault, LineFault, bound_after};
 
-use crate::assumptions::{number_parts, read_parts};
+use crate::assumptions::{Premised, number_parts, read_parts};
 use crate::desk::Desk;
 use crate::forms::formed;
 use crate::line::{Line, StatementError};
 use formula_resolving::{StaticError, linearise};
 use formula_store::{FormulaId, Unfold};
+use free_names::is_quantified;
 use formula_tree::{BindError, Bindings};
 use qe_syntax::{Formula, Formulas, Name};
 use redlog_printer::{PrintError, TEXT_LIMIT, formula_text};
@@ -39,23 +43,38 @@ const MOST_BOUND: usize = 256;
 /// A formula with more nodes has a text that is too long.
 const MOST_PRINTED_NODES: u64 = 8_388_608;
 
-/// The formula that a command gives: as it is, its negation normal form, one that is simplified under assumptions, or one
-/// without quantifiers, simplified under assumptions.
+/// Which clean form is wanted.
+#[derive(Clone, Copy, Debug, PartialEq, Eq)]
+pub(crate) enum Way {
+    Disjunctive,
+    Conjunctive,
+}
+
+/// The formula that a command gives: as it is, its negation normal form, a clean form, one that is simplified under
+/// assumptions, or one without quantifiers, simplified under assumptions.
 #[derive(Clone, Copy)]
 pub(crate) enum Wanted<'a> {
     Given,
     NegationNormal,
+    Distributed(Way),
     Simplified(&'a Formulas),
     Eliminated(&'a Formulas),
 }
 
 impl<'a> Wanted<'a> {
+    /// Whether a disjunctive or conjunctive form is wanted.
+    fn is_distributed(self) -> bool
+        ensures { IsTrue result ↔ IsDistributed self.entry }
+    {
+        matches!(self, Wanted::Distributed(_))
+    }
+
     /// The assumptions.
     fn assumptions(self) -> &'a [Formula]
         ensures { formulas_of (map formula_tree result.now) ≡ given_trees self.entry }
     {
         match self {
-            Wanted::Given | Wanted::NegationNormal => &[],
+            Wanted::Given | Wanted::NegationNormal | Wanted::Distributed(_) => &[],
             Wanted::Simplified(given) | Wanted::Eliminated(given) => given.items(),
         }
     }
@@ -106,12 +125,50 @@ fn given(
 {
     let assumptions = wanted.assumptions();
     number_parts(formula, assumptions, &desk.bindings, &mut desk.names)?;
-    let read = read_parts(desk, formula, assumptions)?;
+    let read = read_wanted(desk, wanted, formula)?;
     let id = formed(desk, limit, wanted, &read)?;
     check_target(desk, target, id)?;
     let line = line_of(desk, target, printed, id)?;
     bind(desk, target, id)?;
     Ok(line)
+}
+
+/// What is read of the formula and its assumptions. A disjunctive or conjunctive form is refused where a quantifier stands in the
+/// formula, also where reading it overflows.
+fn read_wanted(
+    desk: &mut Desk,
+    wanted: Wanted<'_>,
+    formula: &Formula,
+) -> Result<Premised, StatementError>
+    requires proper { IsProperFormula (formula_tree formula.now) }
+    requires given { AreProperFormulas (given_trees wanted) }
+    requires ids { AreIds (IsId desk.old.store) desk.old.bindings }
+    requires numbered { ArePartsNumbered desk.old.names (formula_tree formula.now) (given_trees wanted) }
+    ensures made { IfOk result (λ r. IsMade (IsId desk.new.store) (tree desk.new.store) r.formula (resolve (state_of desk.old).context (state_of desk.old).bound desk.old.names (formula_tree formula.now))) }
+    ensures atoms { IfOk result (λ r. map atom_of r.atoms.items ≡ assumed (state_of desk.old) (given_trees wanted.entry)) }
+    ensures well_formed { IfOk result (λ r. AllByRecursion IsWellFormed r.atoms.items) }
+    ensures ready { OnOk result (IsReady (state_of desk.old) wanted.entry (formula_tree formula.now)) }
+    ensures unready { IfErr result (IsUnready (state_of desk.old) wanted.entry (formula_tree formula.now)) }
+    ensures kept { KeepsDesk desk.old desk.new }
+{
+    let read = read_parts(desk, formula, wanted.assumptions());
+    if !may_be_quantified(&read) {
+        return read;
+    }
+    if wanted.is_distributed() && is_quantified(formula, &desk.bindings, &desk.store) {
+        return Err(StatementError::Quantified);
+    }
+    read
+}
+
+/// Whether all causes that come before a quantifier were looked for in vain.
+fn may_be_quantified(read: &Result<Premised, StatementError>) -> bool
+    ensures { IsTrue result ↔ MayBeQuantified read.now }
+{
+    match read {
+        Ok(_) => true,
+        Err(error) => *error == StatementError::Overflow,
+    }
 }
 
 /// The resolved formula.

@@ -10,7 +10,7 @@ ghost use Rattle.session_commands.specs.Steps.{read_refusal};
 ghost use Rattle.session_commands.specs.Answered.{IsCommandAnswered, IsCommandStopped, IsAssigned, IsAssignmentStopped, IsAnswered, IsStopped};
 
 use crate::desk::Desk;
-use crate::formulas::{Wanted, answer_formula};
+use crate::formulas::{Wanted, Way, answer_formula};
 use crate::holds::answer_holds;
 use crate::line::{Line, StatementError};
 use crate::lines::printed_line;
@@ -172,8 +172,15 @@ fn say(
             answer_formula(desk, limit, Wanted::Eliminated(given), formula, &None, printed)
         }
         Command::Holds(formula, entries) => answer_holds(desk, limit, formula, entries, printed),
-        Command::Pnf(_) | Command::Dnf(_) | Command::Cnf(_) => Err(StatementError::Syntax),
-        Command::Qea(..) | Command::Sample(..) => Err(StatementError::Syntax),
+        Command::Dnf(formula) => {
+            let wanted = Wanted::Distributed(Way::Disjunctive);
+            answer_formula(desk, limit, wanted, formula, &None, printed)
+        }
+        Command::Cnf(formula) => {
+            let wanted = Wanted::Distributed(Way::Conjunctive);
+            answer_formula(desk, limit, wanted, formula, &None, printed)
+        }
+        Command::Pnf(_) | Command::Qea(..) | Command::Sample(..) => Err(StatementError::Syntax),
     }
 }
 
@@ -222,7 +229,14 @@ fn assign(
             &Some(*name),
             printed,
         ),
-        Command::Pnf(_) | Command::Dnf(_) | Command::Cnf(_) => Err(StatementError::Syntax),
-        Command::Qea(..) | Command::Holds(..) | Command::Sample(..) => Err(StatementError::Syntax),
+        Command::Dnf(formula) => {
+            let wanted = Wanted::Distributed(Way::Disjunctive);
+            answer_formula(desk, limit, wanted, formula, &Some(*name), printed)
+        }
+        Command::Cnf(formula) => {
+            let wanted = Wanted::Distributed(Way::Conjunctive);
+            answer_formula(desk, limit, wanted, formula, &Some(*name), printed)
+        }
+        Command::Pnf(_) | Command::Qea(..) | Command::Holds(..) | Command::Sample(..) => Err(StatementError::Syntax),
     }
 }

@@ -15,8 +15,9 @@ use atom_normal::Atom;
 use formula_store::{FormulaId, Store};
 use formula_tree::Shape;
 
-/// Looks at each atom of the formula once. Its only error is `Memory`.
-pub(crate) fn see_formula(store: &Store, id: FormulaId) -> Result<(), SimplError>
+/// Looks at each atom of the formula once: the constants of its atoms are within 2^127 - 1, as all numbers of the program are. Its
+/// only error is `Memory`.
+pub fn see_formula(store: &Store, id: FormulaId) -> Result<(), SimplError>
     requires { IsId store.now id }
     ensures within { OnOk result (Every IsWithin (tree store.now id)) }
     ensures memory { IfErr result (λ e. e ≡ SimplError.Memory) }

@@ -12,5 +12,6 @@ mod parts;
 mod pass;
 mod repeat;
 
+pub use constants::see_formula;
 pub use error::SimplError;
 pub use repeat::simplify;

@@ -1,7 +1,7 @@
 use Rattle.std.proofs.Common.{map}
 use Rattle.atom_normal.specs.Atoms.{context_of, atom_of}
 use Rattle.formula_store.specs.Nodes.{tree}
-use Rattle.session_commands.proofs.EliminatedLemmas.{simplified_quantifies, simplified_free}
+use Rattle.session_commands.proofs.EliminatedLemmas.{simplified_quantifies, simplified_names_no_other, simplified_free}
 use Rattle.session_commands.proofs.forms.simplified.Goals as goal
 
 pub returns-in-Ok-clause-simplified : goal.returns-in-Ok-clause-simplified
@@ -18,6 +18,7 @@ returns-in-Ok-clause-simplified c =
       normal = h.normal;
       free = simplified_free theory ks f t h.simplified h.shape;
       bound = simplified_quantifies theory ks f t h.simplified;
+      quantified = simplified_names_no_other theory ks f t h.simplified;
       names = h.names;
       nodes = h.nodes;
       atoms = h.atoms;

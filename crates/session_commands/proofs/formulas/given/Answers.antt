@@ -5,36 +5,24 @@ use Rattle.atom_normal.specs.Atoms.{atom_of}
 use Rattle.formula_store.specs.Nodes.{tree}
 use Rattle.formula_tree.specs.Names.{with_name}
 use Rattle.formula_tree.specs.Resolving.{formula_variables, all_variables}
-use Rattle.qe_syntax.specs.Proper.{IsProperFormula, AreProperFormulas}
 use Rattle.qe_syntax.specs.Trees.{formula_tree}
-use Rattle.session_commands.specs.Assumptions.{assumed}
 use Rattle.session_commands.specs.Commands.{named}
 use Rattle.session_commands.specs.Causes.{Refuses}
 use Rattle.session_commands.specs.Keeping.{state_of, IsDesk}
-use Rattle.session_commands.specs.Steps.{command_of, use_of, GrowsDesk, IsGiven, ArePartsNumbered, ArePartsReadable, ArePartsUnread}
+use Rattle.session_commands.specs.Steps.{command_of, use_of, GrowsDesk, IsGiven}
 use Rattle.session_commands.proofs.DeskLemmas.{keeps_itself, grows_then, keeps_then}
-use Rattle.session_commands.proofs.GivenSteps.{numbered, numbers, numbered_desk, names_are, proper_items, unread_step, form_step, normal_step, two_step, atoms_step, wanted_step, target_step, line_step, within_step, members_step, answer_step, desk_step}
+use Rattle.session_commands.proofs.GivenSteps.{numbered, numbers, numbered_desk, names_are, unready_step, form_step, normal_step, two_step, free_step, atoms_step, wanted_step, target_step, line_step, within_step, members_step, answer_step, desk_step}
 use Rattle.session_commands.proofs.formulas.given.Goals as goal
 
-pub read_parts-requires-clause-proper_given : goal.read_parts-requires-clause-proper_given
-read_parts-requires-clause-proper_given c =
+pub read_wanted-requires-clause-numbered : goal.read_wanted-requires-clause-numbered
+read_wanted-requires-clause-numbered c =
     let f = formula_tree c.args.formula.now in
     let d = c.args.desk.now in
     let w = c.args.wanted in
     let g = c.assumptions-assumptions.ensures in
     let ns = c.number_parts.new.names in
     let is = names_are w f d ns _ c.in_ok-number_parts.ensures.numbered g in
-    proper_items c.assumptions-assumptions.result.now (subst AreProperFormulas (sym g) c.requires.given)
-
-pub read_parts-requires-clause-numbered : goal.read_parts-requires-clause-numbered
-read_parts-requires-clause-numbered c =
-    let f = formula_tree c.args.formula.now in
-    let d = c.args.desk.now in
-    let w = c.args.wanted in
-    let g = c.assumptions-assumptions.ensures in
-    let ns = c.number_parts.new.names in
-    let is = names_are w f d ns _ c.in_ok-number_parts.ensures.numbered g in
-    subst (ArePartsNumbered ns f) (sym g) (numbers w f d ns is)
+    numbers w f d ns is
 
 pub returns-in_err-read-clause-refused : goal.returns-in_err-read-clause-refused
 returns-in_err-read-clause-refused c =
@@ -46,7 +34,7 @@ returns-in_err-read-clause-refused c =
     let is = names_are w f d ns _ c.in_ok-number_parts.ensures.numbered g in
     let e : c.from_residual-in_err-read.result ≡ Err c.in_err-read.field-0.0 = search rules in
     subst (λ r. IfErr r (Refuses (named (state_of d) (command_of w f)) c.args.limit (use_of c.args.target.now c.args.printed) (command_of w f))) (sym e)
-    (unread_step w f d ns is c.args.limit c.args.target.now c.args.printed c.in_err-read.field-0.0 (subst (λ hs. ArePartsUnread (state_of (numbered w f d ns is)) f hs c.in_err-read.field-0.0) g c.in_err-read.ensures.unread))
+    (unready_step w f d ns is c.args.limit c.args.target.now c.args.printed c.in_err-read.field-0.0 c.in_err-read.ensures.unready)
 
 pub formed-requires-clause-normal : goal.formed-requires-clause-normal
 formed-requires-clause-normal c =
@@ -57,11 +45,11 @@ formed-requires-clause-normal c =
     let ns = c.number_parts.new.names in
     let is = names_are w f d ns _ c.in_ok-number_parts.ensures.numbered g in
     let h = numbered_desk w f d ns is c.requires.desk c.number_parts.ensures.grown c.requires.proper c.requires.given in
-    let readable = subst (ArePartsReadable (state_of (numbered w f d ns is)) f) g c.in_ok-read.ensures.readable in
+    let readable = c.in_ok-read.ensures.ready in
     let ks = map atom_of c.in_ok-read.read.atoms.items in
-    let same_atoms = c.in_ok-read.ensures.atoms ∙ ap (assumed (state_of (numbered w f d ns is))) g in
-    let t = tree c.read_parts.new.desk.store c.in_ok-read.read.formula in
-    normal_step w f d ns is c.args.limit c.args.target.now c.args.printed readable c.read_parts.new.desk c.read_parts.ensures.kept t c.in_ok-read.ensures.made.same ks same_atoms h c.requires.proper
+    let same_atoms = c.in_ok-read.ensures.atoms in
+    let t = tree c.read_wanted.new.desk.store c.in_ok-read.read.formula in
+    normal_step w f d ns is c.args.limit c.args.target.now c.args.printed readable c.read_wanted.new.desk c.read_wanted.ensures.kept t c.in_ok-read.ensures.made.same ks same_atoms h c.requires.proper
 
 pub formed-requires-clause-members : goal.formed-requires-clause-members
 formed-requires-clause-members c =
@@ -72,11 +60,26 @@ formed-requires-clause-members c =
     let ns = c.number_parts.new.names in
     let is = names_are w f d ns _ c.in_ok-number_parts.ensures.numbered g in
     let h = numbered_desk w f d ns is c.requires.desk c.number_parts.ensures.grown c.requires.proper c.requires.given in
-    let readable = subst (ArePartsReadable (state_of (numbered w f d ns is)) f) g c.in_ok-read.ensures.readable in
+    let readable = c.in_ok-read.ensures.ready in
     let ks = map atom_of c.in_ok-read.read.atoms.items in
-    let same_atoms = c.in_ok-read.ensures.atoms ∙ ap (assumed (state_of (numbered w f d ns is))) g in
-    let t = tree c.read_parts.new.desk.store c.in_ok-read.read.formula in
-    two_step w f d ns is c.args.limit c.args.target.now c.args.printed readable c.read_parts.new.desk c.read_parts.ensures.kept t c.in_ok-read.ensures.made.same ks same_atoms h c.requires.proper
+    let same_atoms = c.in_ok-read.ensures.atoms in
+    let t = tree c.read_wanted.new.desk.store c.in_ok-read.read.formula in
+    two_step w f d ns is c.args.limit c.args.target.now c.args.printed readable c.read_wanted.new.desk c.read_wanted.ensures.kept t c.in_ok-read.ensures.made.same ks same_atoms h c.requires.proper
+
+pub formed-requires-clause-free : goal.formed-requires-clause-free
+formed-requires-clause-free c =
+    let f = formula_tree c.args.formula.now in
+    let d = c.args.desk.now in
+    let w = c.args.wanted in
+    let g = c.assumptions-assumptions.ensures in
+    let ns = c.number_parts.new.names in
+    let is = names_are w f d ns _ c.in_ok-number_parts.ensures.numbered g in
+    let h = numbered_desk w f d ns is c.requires.desk c.number_parts.ensures.grown c.requires.proper c.requires.given in
+    let readable = c.in_ok-read.ensures.ready in
+    let ks = map atom_of c.in_ok-read.read.atoms.items in
+    let same_atoms = c.in_ok-read.ensures.atoms in
+    let t = tree c.read_wanted.new.desk.store c.in_ok-read.read.formula in
+    free_step w f d ns is c.args.limit c.args.target.now c.args.printed readable c.read_wanted.new.desk c.read_wanted.ensures.kept t c.in_ok-read.ensures.made.same ks same_atoms h
 
 pub formed-requires-clause-atoms : goal.formed-requires-clause-atoms
 formed-requires-clause-atoms c =
@@ -87,11 +90,11 @@ formed-requires-clause-atoms c =
     let ns = c.number_parts.new.names in
     let is = names_are w f d ns _ c.in_ok-number_parts.ensures.numbered g in
     let h = numbered_desk w f d ns is c.requires.desk c.number_parts.ensures.grown c.requires.proper c.requires.given in
-    let readable = subst (ArePartsReadable (state_of (numbered w f d ns is)) f) g c.in_ok-read.ensures.readable in
+    let readable = c.in_ok-read.ensures.ready in
     let ks = map atom_of c.in_ok-read.read.atoms.items in
-    let same_atoms = c.in_ok-read.ensures.atoms ∙ ap (assumed (state_of (numbered w f d ns is))) g in
-    let t = tree c.read_parts.new.desk.store c.in_ok-read.read.formula in
-    atoms_step w f d ns is c.args.limit c.args.target.now c.args.printed readable c.read_parts.new.desk c.read_parts.ensures.kept t c.in_ok-read.ensures.made.same ks same_atoms h c.requires.given
+    let same_atoms = c.in_ok-read.ensures.atoms in
+    let t = tree c.read_wanted.new.desk.store c.in_ok-read.read.formula in
+    atoms_step w f d ns is c.args.limit c.args.target.now c.args.printed readable c.read_wanted.new.desk c.read_wanted.ensures.kept t c.in_ok-read.ensures.made.same ks same_atoms h c.requires.given
 
 pub returns-in_err-id-clause-refused : goal.returns-in_err-id-clause-refused
 returns-in_err-id-clause-refused c =
@@ -102,13 +105,13 @@ returns-in_err-id-clause-refused c =
     let ns = c.number_parts.new.names in
     let is = names_are w f d ns _ c.in_ok-number_parts.ensures.numbered g in
     let h = numbered_desk w f d ns is c.requires.desk c.number_parts.ensures.grown c.requires.proper c.requires.given in
-    let readable = subst (ArePartsReadable (state_of (numbered w f d ns is)) f) g c.in_ok-read.ensures.readable in
+    let readable = c.in_ok-read.ensures.ready in
     let ks = map atom_of c.in_ok-read.read.atoms.items in
-    let same_atoms = c.in_ok-read.ensures.atoms ∙ ap (assumed (state_of (numbered w f d ns is))) g in
-    let t = tree c.read_parts.new.desk.store c.in_ok-read.read.formula in
+    let same_atoms = c.in_ok-read.ensures.atoms in
+    let t = tree c.read_wanted.new.desk.store c.in_ok-read.read.formula in
     let e : c.from_residual-in_err-id.result ≡ Err c.in_err-id.field-0.0 = search rules in
     subst (λ r. IfErr r (Refuses (named (state_of d) (command_of w f)) c.args.limit (use_of c.args.target.now c.args.printed) (command_of w f))) (sym e)
-    (form_step w f d ns is c.args.limit c.args.target.now c.args.printed readable c.read_parts.new.desk c.read_parts.ensures.kept t c.in_ok-read.ensures.made.same ks same_atoms c.in_err-id.field-0.0 c.in_err-id.ensures.fault)
+    (form_step w f d ns is c.args.limit c.args.target.now c.args.printed readable c.read_wanted.new.desk c.read_wanted.ensures.kept t c.in_ok-read.ensures.made.same ks same_atoms c.in_err-id.field-0.0 c.in_err-id.ensures.fault)
 
 pub returns-in_err-id-clause-grown : goal.returns-in_err-id-clause-grown
 returns-in_err-id-clause-grown c =
@@ -118,7 +121,7 @@ returns-in_err-id-clause-grown c =
     let g = c.assumptions-assumptions.ensures in
     let ns = c.number_parts.new.names in
     let is = names_are w f d ns _ c.in_ok-number_parts.ensures.numbered g in
-    let k = keeps_then (numbered w f d ns is) c.read_parts.new.desk c.formed.new.desk c.read_parts.ensures.kept c.formed.ensures.kept in
+    let k = keeps_then (numbered w f d ns is) c.read_wanted.new.desk c.formed.new.desk c.read_wanted.ensures.kept c.formed.ensures.kept in
     let grown = grows_then d (numbered w f d ns is) c.formed.new.desk (keeps_itself d ns c.number_parts.ensures.grown) k in
     let e : c.from_residual-in_err-id.result ≡ Err c.in_err-id.field-0.0 = search rules in
     subst (λ r. OnErr r (GrowsDesk d c.formed.new.desk)) (sym e) grown
@@ -132,12 +135,12 @@ returns-in_err-check_target-clause-refused c =
     let ns = c.number_parts.new.names in
     let is = names_are w f d ns _ c.in_ok-number_parts.ensures.numbered g in
     let h = numbered_desk w f d ns is c.requires.desk c.number_parts.ensures.grown c.requires.proper c.requires.given in
-    let readable = subst (ArePartsReadable (state_of (numbered w f d ns is)) f) g c.in_ok-read.ensures.readable in
+    let readable = c.in_ok-read.ensures.ready in
     let ks = map atom_of c.in_ok-read.read.atoms.items in
-    let same_atoms = c.in_ok-read.ensures.atoms ∙ ap (assumed (state_of (numbered w f d ns is))) g in
-    let t = tree c.read_parts.new.desk.store c.in_ok-read.read.formula in
-    let k = keeps_then (numbered w f d ns is) c.read_parts.new.desk c.formed.new.desk c.read_parts.ensures.kept c.formed.ensures.kept in
-    let v = wanted_step w f d ns is c.args.limit c.args.target.now c.args.printed readable c.read_parts.new.desk c.read_parts.ensures.kept t c.in_ok-read.ensures.made.same ks same_atoms (tree c.formed.new.desk.store c.in_ok-id.id) c.in_ok-id.ensures.wanted in
+    let same_atoms = c.in_ok-read.ensures.atoms in
+    let t = tree c.read_wanted.new.desk.store c.in_ok-read.read.formula in
+    let k = keeps_then (numbered w f d ns is) c.read_wanted.new.desk c.formed.new.desk c.read_wanted.ensures.kept c.formed.ensures.kept in
+    let v = wanted_step w f d ns is c.args.limit c.args.target.now c.args.printed readable c.read_wanted.new.desk c.read_wanted.ensures.kept t c.in_ok-read.ensures.made.same ks same_atoms (tree c.formed.new.desk.store c.in_ok-id.id) c.in_ok-id.ensures.wanted in
     let e : c.from_residual-in_err-check_target.result ≡ Err c.in_err-check_target.field-0.0 = search rules in
     subst (λ r. IfErr r (Refuses (named (state_of d) (command_of w f)) c.args.limit (use_of c.args.target.now c.args.printed) (command_of w f))) (sym e)
     (target_step w f d ns is c.args.limit c.args.target.now c.args.printed readable c.formed.new.desk h k c.in_ok-id.id c.in_ok-id.ensures.made c.requires.proper v c.in_err-check_target.field-0.0 c.in_err-check_target.ensures.fault)
@@ -150,7 +153,7 @@ returns-in_err-check_target-clause-grown c =
     let g = c.assumptions-assumptions.ensures in
     let ns = c.number_parts.new.names in
     let is = names_are w f d ns _ c.in_ok-number_parts.ensures.numbered g in
-    let k = keeps_then (numbered w f d ns is) c.read_parts.new.desk c.formed.new.desk c.read_parts.ensures.kept c.formed.ensures.kept in
+    let k = keeps_then (numbered w f d ns is) c.read_wanted.new.desk c.formed.new.desk c.read_wanted.ensures.kept c.formed.ensures.kept in
     let grown = grows_then d (numbered w f d ns is) c.formed.new.desk (keeps_itself d ns c.number_parts.ensures.grown) k in
     let e : c.from_residual-in_err-check_target.result ≡ Err c.in_err-check_target.field-0.0 = search rules in
     subst (λ r. OnErr r (GrowsDesk d c.formed.new.desk)) (sym e) grown
@@ -164,12 +167,12 @@ line_of-requires-clause-within c =
     let ns = c.number_parts.new.names in
     let is = names_are w f d ns _ c.in_ok-number_parts.ensures.numbered g in
     let h = numbered_desk w f d ns is c.requires.desk c.number_parts.ensures.grown c.requires.proper c.requires.given in
-    let readable = subst (ArePartsReadable (state_of (numbered w f d ns is)) f) g c.in_ok-read.ensures.readable in
+    let readable = c.in_ok-read.ensures.ready in
     let ks = map atom_of c.in_ok-read.read.atoms.items in
-    let same_atoms = c.in_ok-read.ensures.atoms ∙ ap (assumed (state_of (numbered w f d ns is))) g in
-    let t = tree c.read_parts.new.desk.store c.in_ok-read.read.formula in
-    let k = keeps_then (numbered w f d ns is) c.read_parts.new.desk c.formed.new.desk c.read_parts.ensures.kept c.formed.ensures.kept in
-    let v = wanted_step w f d ns is c.args.limit c.args.target.now c.args.printed readable c.read_parts.new.desk c.read_parts.ensures.kept t c.in_ok-read.ensures.made.same ks same_atoms (tree c.formed.new.desk.store c.in_ok-id.id) c.in_ok-id.ensures.wanted in
+    let same_atoms = c.in_ok-read.ensures.atoms in
+    let t = tree c.read_wanted.new.desk.store c.in_ok-read.read.formula in
+    let k = keeps_then (numbered w f d ns is) c.read_wanted.new.desk c.formed.new.desk c.read_wanted.ensures.kept c.formed.ensures.kept in
+    let v = wanted_step w f d ns is c.args.limit c.args.target.now c.args.printed readable c.read_wanted.new.desk c.read_wanted.ensures.kept t c.in_ok-read.ensures.made.same ks same_atoms (tree c.formed.new.desk.store c.in_ok-id.id) c.in_ok-id.ensures.wanted in
     within_step w f d ns is c.args.limit c.args.target.now c.args.printed readable c.formed.new.desk h k c.in_ok-id.id c.in_ok-id.ensures.made c.requires.proper v
 
 pub line_of-requires-clause-members : goal.line_of-requires-clause-members
@@ -181,12 +184,12 @@ line_of-requires-clause-members c =
     let ns = c.number_parts.new.names in
     let is = names_are w f d ns _ c.in_ok-number_parts.ensures.numbered g in
     let h = numbered_desk w f d ns is c.requires.desk c.number_parts.ensures.grown c.requires.proper c.requires.given in
-    let readable = subst (ArePartsReadable (state_of (numbered w f d ns is)) f) g c.in_ok-read.ensures.readable in
+    let readable = c.in_ok-read.ensures.ready in
     let ks = map atom_of c.in_ok-read.read.atoms.items in
-    let same_atoms = c.in_ok-read.ensures.atoms ∙ ap (assumed (state_of (numbered w f d ns is))) g in
-    let t = tree c.read_parts.new.desk.store c.in_ok-read.read.formula in
-    let k = keeps_then (numbered w f d ns is) c.read_parts.new.desk c.formed.new.desk c.read_parts.ensures.kept c.formed.ensures.kept in
-    let v = wanted_step w f d ns is c.args.limit c.args.target.now c.args.printed readable c.read_parts.new.desk c.read_parts.ensures.kept t c.in_ok-read.ensures.made.same ks same_atoms (tree c.formed.new.desk.store c.in_ok-id.id) c.in_ok-id.ensures.wanted in
+    let same_atoms = c.in_ok-read.ensures.atoms in
+    let t = tree c.read_wanted.new.desk.store c.in_ok-read.read.formula in
+    let k = keeps_then (numbered w f d ns is) c.read_wanted.new.desk c.formed.new.desk c.read_wanted.ensures.kept c.formed.ensures.kept in
+    let v = wanted_step w f d ns is c.args.limit c.args.target.now c.args.printed readable c.read_wanted.new.desk c.read_wanted.ensures.kept t c.in_ok-read.ensures.made.same ks same_atoms (tree c.formed.new.desk.store c.in_ok-id.id) c.in_ok-id.ensures.wanted in
     members_step w f d ns is c.args.limit c.args.target.now c.args.printed readable c.formed.new.desk h k c.in_ok-id.id c.in_ok-id.ensures.made c.requires.proper v
 
 pub returns-in_err-line-clause-refused : goal.returns-in_err-line-clause-refused
@@ -198,12 +201,12 @@ returns-in_err-line-clause-refused c =
     let ns = c.number_parts.new.names in
     let is = names_are w f d ns _ c.in_ok-number_parts.ensures.numbered g in
     let h = numbered_desk w f d ns is c.requires.desk c.number_parts.ensures.grown c.requires.proper c.requires.given in
-    let readable = subst (ArePartsReadable (state_of (numbered w f d ns is)) f) g c.in_ok-read.ensures.readable in
+    let readable = c.in_ok-read.ensures.ready in
     let ks = map atom_of c.in_ok-read.read.atoms.items in
-    let same_atoms = c.in_ok-read.ensures.atoms ∙ ap (assumed (state_of (numbered w f d ns is))) g in
-    let t = tree c.read_parts.new.desk.store c.in_ok-read.read.formula in
-    let k = keeps_then (numbered w f d ns is) c.read_parts.new.desk c.formed.new.desk c.read_parts.ensures.kept c.formed.ensures.kept in
-    let v = wanted_step w f d ns is c.args.limit c.args.target.now c.args.printed readable c.read_parts.new.desk c.read_parts.ensures.kept t c.in_ok-read.ensures.made.same ks same_atoms (tree c.formed.new.desk.store c.in_ok-id.id) c.in_ok-id.ensures.wanted in
+    let same_atoms = c.in_ok-read.ensures.atoms in
+    let t = tree c.read_wanted.new.desk.store c.in_ok-read.read.formula in
+    let k = keeps_then (numbered w f d ns is) c.read_wanted.new.desk c.formed.new.desk c.read_wanted.ensures.kept c.formed.ensures.kept in
+    let v = wanted_step w f d ns is c.args.limit c.args.target.now c.args.printed readable c.read_wanted.new.desk c.read_wanted.ensures.kept t c.in_ok-read.ensures.made.same ks same_atoms (tree c.formed.new.desk.store c.in_ok-id.id) c.in_ok-id.ensures.wanted in
     let e : c.from_residual-in_err-line.result ≡ Err c.in_err-line.field-0.0 = search rules in
     subst (λ r. IfErr r (Refuses (named (state_of d) (command_of w f)) c.args.limit (use_of c.args.target.now c.args.printed) (command_of w f))) (sym e)
     (line_step w f d ns is c.args.limit c.args.target.now c.args.printed readable c.formed.new.desk h k c.in_ok-id.id c.in_ok-id.ensures.made c.requires.proper v c.in_ok-check_target.ensures.ok c.in_err-line.field-0.0 c.in_err-line.ensures.fault)
@@ -216,7 +219,7 @@ returns-in_err-line-clause-grown c =
     let g = c.assumptions-assumptions.ensures in
     let ns = c.number_parts.new.names in
     let is = names_are w f d ns _ c.in_ok-number_parts.ensures.numbered g in
-    let k = keeps_then (numbered w f d ns is) c.read_parts.new.desk c.formed.new.desk c.read_parts.ensures.kept c.formed.ensures.kept in
+    let k = keeps_then (numbered w f d ns is) c.read_wanted.new.desk c.formed.new.desk c.read_wanted.ensures.kept c.formed.ensures.kept in
     let grown = grows_then d (numbered w f d ns is) c.formed.new.desk (keeps_itself d ns c.number_parts.ensures.grown) k in
     let e : c.from_residual-in_err-line.result ≡ Err c.in_err-line.field-0.0 = search rules in
     subst (λ r. OnErr r (GrowsDesk d c.formed.new.desk)) (sym e) grown
@@ -229,7 +232,7 @@ returns-in_err-bind-clause-grown c =
     let g = c.assumptions-assumptions.ensures in
     let ns = c.number_parts.new.names in
     let is = names_are w f d ns _ c.in_ok-number_parts.ensures.numbered g in
-    let k = keeps_then (numbered w f d ns is) c.read_parts.new.desk c.formed.new.desk c.read_parts.ensures.kept c.formed.ensures.kept in
+    let k = keeps_then (numbered w f d ns is) c.read_wanted.new.desk c.formed.new.desk c.read_wanted.ensures.kept c.formed.ensures.kept in
     let grown = grows_then d (numbered w f d ns is) c.formed.new.desk (keeps_itself d ns c.number_parts.ensures.grown) k in
     let e : c.from_residual-in_err-bind.result ≡ Err c.in_err-bind.field-0.0 = search rules in
     let same : c.bind.new.desk ≡ c.formed.new.desk = c.in_err-bind.ensures.unchanged in
@@ -244,12 +247,12 @@ returns-clause-desk c =
     let ns = c.number_parts.new.names in
     let is = names_are w f d ns _ c.in_ok-number_parts.ensures.numbered g in
     let h = numbered_desk w f d ns is c.requires.desk c.number_parts.ensures.grown c.requires.proper c.requires.given in
-    let readable = subst (ArePartsReadable (state_of (numbered w f d ns is)) f) g c.in_ok-read.ensures.readable in
+    let readable = c.in_ok-read.ensures.ready in
     let ks = map atom_of c.in_ok-read.read.atoms.items in
-    let same_atoms = c.in_ok-read.ensures.atoms ∙ ap (assumed (state_of (numbered w f d ns is))) g in
-    let t = tree c.read_parts.new.desk.store c.in_ok-read.read.formula in
-    let k = keeps_then (numbered w f d ns is) c.read_parts.new.desk c.formed.new.desk c.read_parts.ensures.kept c.formed.ensures.kept in
-    let v = wanted_step w f d ns is c.args.limit c.args.target.now c.args.printed readable c.read_parts.new.desk c.read_parts.ensures.kept t c.in_ok-read.ensures.made.same ks same_atoms (tree c.formed.new.desk.store c.in_ok-id.id) c.in_ok-id.ensures.wanted in
+    let same_atoms = c.in_ok-read.ensures.atoms in
+    let t = tree c.read_wanted.new.desk.store c.in_ok-read.read.formula in
+    let k = keeps_then (numbered w f d ns is) c.read_wanted.new.desk c.formed.new.desk c.read_wanted.ensures.kept c.formed.ensures.kept in
+    let v = wanted_step w f d ns is c.args.limit c.args.target.now c.args.printed readable c.read_wanted.new.desk c.read_wanted.ensures.kept t c.in_ok-read.ensures.made.same ks same_atoms (tree c.formed.new.desk.store c.in_ok-id.id) c.in_ok-id.ensures.wanted in
     subst IsDesk (sym c.in_ok-bind.ensures.bound) (desk_step w f d ns is c.args.limit c.args.target.now c.args.printed readable c.formed.new.desk h k c.in_ok-id.id c.in_ok-id.ensures.made c.requires.proper v)
 
 pub returns-clause-answer : goal.returns-clause-answer
@@ -261,11 +264,11 @@ returns-clause-answer c =
     let ns = c.number_parts.new.names in
     let is = names_are w f d ns _ c.in_ok-number_parts.ensures.numbered g in
     let h = numbered_desk w f d ns is c.requires.desk c.number_parts.ensures.grown c.requires.proper c.requires.given in
-    let readable = subst (ArePartsReadable (state_of (numbered w f d ns is)) f) g c.in_ok-read.ensures.readable in
+    let readable = c.in_ok-read.ensures.ready in
     let ks = map atom_of c.in_ok-read.read.atoms.items in
-    let same_atoms = c.in_ok-read.ensures.atoms ∙ ap (assumed (state_of (numbered w f d ns is))) g in
-    let t = tree c.read_parts.new.desk.store c.in_ok-read.read.formula in
-    let k = keeps_then (numbered w f d ns is) c.read_parts.new.desk c.formed.new.desk c.read_parts.ensures.kept c.formed.ensures.kept in
-    let v = wanted_step w f d ns is c.args.limit c.args.target.now c.args.printed readable c.read_parts.new.desk c.read_parts.ensures.kept t c.in_ok-read.ensures.made.same ks same_atoms (tree c.formed.new.desk.store c.in_ok-id.id) c.in_ok-id.ensures.wanted in
+    let same_atoms = c.in_ok-read.ensures.atoms in
+    let t = tree c.read_wanted.new.desk.store c.in_ok-read.read.formula in
+    let k = keeps_then (numbered w f d ns is) c.read_wanted.new.desk c.formed.new.desk c.read_wanted.ensures.kept c.formed.ensures.kept in
+    let v = wanted_step w f d ns is c.args.limit c.args.target.now c.args.printed readable c.read_wanted.new.desk c.read_wanted.ensures.kept t c.in_ok-read.ensures.made.same ks same_atoms (tree c.formed.new.desk.store c.in_ok-id.id) c.in_ok-id.ensures.wanted in
     subst (λ later. IsGiven (named (state_of d) (command_of w f)) c.args.limit (use_of c.args.target.now c.args.printed) (command_of w f) c.in_ok-line.line (state_of later)) (sym c.in_ok-bind.ensures.bound)
     (answer_step w f d ns is c.args.limit c.args.target.now c.args.printed readable c.formed.new.desk h k c.in_ok-id.id c.in_ok-id.ensures.made c.requires.proper v c.in_ok-check_target.ensures.ok c.in_ok-line.line c.in_ok-line.ensures.line c.in_ok-line.ensures.short)

@@ -1,0 +1,31 @@
+use Rattle.std.proofs.Common.{sym, subst}
+use Rattle.std.specs.Prelude.{IfOk}
+use Rattle.formula_meaning.specs.Fold.{Conjunction, Disjunction}
+use Rattle.atom_normal.specs.Atoms.{context_of}
+use Rattle.formula_store.specs.declared.id.FormulaId.{FormulaId}
+use Rattle.formula_store.specs.Nodes.{tree}
+use Rattle.session_commands.specs.Steps.{junction_of, IsCleanedAs}
+use Rattle.session_commands.proofs.EliminatedLemmas.{can_be_simplified, cleaned_result, told_made}
+use Rattle.session_commands.proofs.forms.cleaned.Goals as goal
+
+pub dnf-requires-clause-orderly : goal.dnf-requires-clause-orderly
+dnf-requires-clause-orderly c = can_be_simplified (context_of c.args.desk.now.context) (tree c.args.desk.now.store c.args.id) c.requires.formula c.in_default.ensures.within
+
+pub cnf-requires-clause-orderly : goal.cnf-requires-clause-orderly
+cnf-requires-clause-orderly c = can_be_simplified (context_of c.args.desk.now.context) (tree c.args.desk.now.store c.args.id) c.requires.formula c.in_default.ensures.within
+
+pub returns-in-Disjunctive-clause-cleaned : goal.returns-in-Disjunctive-clause-cleaned
+returns-in-Disjunctive-clause-cleaned c =
+    let theory = context_of c.args.desk.now.context in
+    let f = tree c.args.desk.now.store c.args.id in
+    let t = λ (r : FormulaId). tree c.dnf.new.store r in
+    let made = cleaned_result theory Conjunction f t c.dnf.result c.dnf.ensures.clean c.dnf.ensures.truth c.dnf.ensures.orderly c.dnf.ensures.names c.dnf.ensures.nodes_within c.dnf.ensures.text_within in
+    subst (λ w. IfOk c.told.result (λ r. IsCleanedAs theory (junction_of w) f (t r))) (sym c.in-Disjunctive.is) (told_made (λ r. IsCleanedAs theory Conjunction f (t r)) c.told.result c.dnf.result c.told.ensures.made made)
+
+pub returns-in-Conjunctive-clause-cleaned : goal.returns-in-Conjunctive-clause-cleaned
+returns-in-Conjunctive-clause-cleaned c =
+    let theory = context_of c.args.desk.now.context in
+    let f = tree c.args.desk.now.store c.args.id in
+    let t = λ (r : FormulaId). tree c.cnf.new.store r in
+    let made = cleaned_result theory Disjunction f t c.cnf.result c.cnf.ensures.clean c.cnf.ensures.truth c.cnf.ensures.orderly c.cnf.ensures.names c.cnf.ensures.nodes_within c.cnf.ensures.text_within in
+    subst (λ w. IfOk c.told-in-Conjunctive.result (λ r. IsCleanedAs theory (junction_of w) f (t r))) (sym c.in-Conjunctive.is) (told_made (λ r. IsCleanedAs theory Disjunction f (t r)) c.told-in-Conjunctive.result c.cnf.result c.told-in-Conjunctive.ensures.made made)
