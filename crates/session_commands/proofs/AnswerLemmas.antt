@@ -9,6 +9,7 @@ use Rattle.redlog_reader.specs.Statement.{Spells}
 use Rattle.session_commands.specs.declared.line.Line.{Line}
 use Rattle.session_commands.specs.declared.formulas.Wanted.{Wanted}
 use Rattle.session_commands.specs.declared.formulas.Wanted.TheVariants as wanted
+use Rattle.session_commands.specs.declared.formulas.Way.TheVariants as way
 use Rattle.session_commands.specs.State.{State}
 use Rattle.session_commands.specs.Commands.{named}
 use Rattle.session_commands.specs.Steps.{command_of, use_of, IsGiven}
@@ -27,6 +28,8 @@ given_answered : (w : Wanted) (f : FormulaTree) (s next : State) (limit : ℕ) (
     → IsCommandAnswered s limit printed (command_of w f) answer next
 given_answered wanted.Given f s next limit printed answer h = record { built = tt; answered = (h.accepted, (_, (h.formula, h.given, refl), h.line)); after = h.after }
 given_answered wanted.NegationNormal f s next limit printed answer h = record { built = tt; answered = (h.accepted, (_, (h.formula, h.given, refl), h.line)); after = h.after }
+given_answered (wanted.Distributed way.Disjunctive) f s next limit printed answer h = record { built = tt; answered = (h.accepted, (_, (h.formula, h.given, refl), h.line)); after = h.after }
+given_answered (wanted.Distributed way.Conjunctive) f s next limit printed answer h = record { built = tt; answered = (h.accepted, (_, (h.formula, h.given, refl), h.line)); after = h.after }
 given_answered (wanted.Simplified given) f s next limit printed answer h = record { built = tt; answered = (h.accepted, (_, (h.formula, h.given, refl), h.line)); after = h.after }
 given_answered (wanted.Eliminated given) f s next limit printed answer h = record { built = tt; answered = (h.accepted, (_, (h.formula, h.given, refl), h.line)); after = h.after }
 
@@ -34,6 +37,8 @@ given_assigned : (w : Wanted) (f : FormulaTree) (s next : State) (limit : ℕ) (
     → IsAssigned s limit printed x (command_of w f) answer next
 given_assigned wanted.Given f s next limit printed x answer h = record { built = tt; answered = record { accepted = h.accepted; formula = h.formula; given = h.given; line = h.line; binds = h.after } }
 given_assigned wanted.NegationNormal f s next limit printed x answer h = record { built = tt; answered = record { accepted = h.accepted; formula = h.formula; given = h.given; line = h.line; binds = h.after } }
+given_assigned (wanted.Distributed way.Disjunctive) f s next limit printed x answer h = record { built = tt; answered = record { accepted = h.accepted; formula = h.formula; given = h.given; line = h.line; binds = h.after } }
+given_assigned (wanted.Distributed way.Conjunctive) f s next limit printed x answer h = record { built = tt; answered = record { accepted = h.accepted; formula = h.formula; given = h.given; line = h.line; binds = h.after } }
 given_assigned (wanted.Simplified given) f s next limit printed x answer h = record { built = tt; answered = record { accepted = h.accepted; formula = h.formula; given = h.given; line = h.line; binds = h.after } }
 given_assigned (wanted.Eliminated given) f s next limit printed x answer h = record { built = tt; answered = record { accepted = h.accepted; formula = h.formula; given = h.given; line = h.line; binds = h.after } }
 
@@ -110,6 +115,8 @@ holds_stopped (Err e) f es c s limit printed p h = subst (λ d. IsCommandStopped
 formula_built : (w : Wanted) (f : FormulaTree) → IsBuiltCommand (command_of w f)
 formula_built wanted.Given f = tt
 formula_built wanted.NegationNormal f = tt
+formula_built (wanted.Distributed way.Disjunctive) f = tt
+formula_built (wanted.Distributed way.Conjunctive) f = tt
 formula_built (wanted.Simplified given) f = tt
 formula_built (wanted.Eliminated given) f = tt
 
@@ -122,6 +129,8 @@ formula_stopped (Err e) w f c s limit printed p h = subst (λ d. IsCommandStoppe
 assignment_built : (w : Wanted) (f : FormulaTree) → IsBuiltFormula (command_of w f)
 assignment_built wanted.Given f = tt
 assignment_built wanted.NegationNormal f = tt
+assignment_built (wanted.Distributed way.Disjunctive) f = tt
+assignment_built (wanted.Distributed way.Conjunctive) f = tt
 assignment_built (wanted.Simplified given) f = tt
 assignment_built (wanted.Eliminated given) f = tt
 

@@ -22,8 +22,9 @@ use Rattle.session_commands.specs.declared.line.StatementError.{StatementError}
 use Rattle.session_commands.specs.declared.line.StatementError.TheVariants as error
 use Rattle.session_commands.specs.State.{State}
 use Rattle.session_commands.specs.Assumptions.{atoms_alone, assumed, Hold}
-use Rattle.session_commands.specs.Steps.{static_refusal, HasNumbers, IsReadable, ArePartsNumbered, ArePartsReadable, ArePartsUnread, AppliesToPart, AppliesToSome, IsFirstPartCause, FirstAmong, first_of, earlier_of, IsFirstWith}
-use Rattle.session_commands.proofs.PartLemmas.{some_listed, each_of_list}
+use Rattle.session_commands.specs.declared.formulas.Wanted.{Wanted}
+use Rattle.session_commands.specs.Steps.{given_trees, HasUnwantedQuantifier, IsUnready, static_refusal, HasNumbers, IsReadable, ArePartsNumbered, ArePartsReadable, ArePartsUnread, AppliesToPart, AppliesToSome, IsFirstPartCause, FirstAmong, first_of, earlier_of, IsFirstWith}
+use Rattle.session_commands.proofs.PartLemmas.{no_part, some_listed, each_of_list}
 use Rattle.session_commands.proofs.TruthLemmas.{truth_as_written}
 
 module _ (F : Atom → Type 0) where
@@ -232,3 +233,60 @@ module _ (s : State) (f : FormulaTree) (gs : List Formula) where
       each_listed_none : (ds : List Formula) → FirstAmong (AppliesToSome s ds) None → AllByRecursion (λ g. IsReadable s (formula_tree g)) ds
       each_listed_none [] k = tt
       each_listed_none (d ∷ ds) k = (readable_where_none s (formula_tree d) (λ e l x. k e l (inl x)), each_listed_none ds (λ e l x. k e l (inr x)))
+
+-- ---- a quantifier where none may be
+
+-- no earlier cause applies to what is resolved
+early_none : (s : State) (g : FormulaTree) (d : StaticError) → static_rank d < 7 → IsReadable s g → ¬ (reading.Applies s.context s.bound s.names g d)
+early_none s g d l h = none_unread s g h d (omega arith)
+
+pub early_readable : (s : State) (f : FormulaTree) (gs : FormulaTrees) → ArePartsReadable s f gs → (d : StaticError) → static_rank d < 7 → ¬ (AppliesToPart s f gs d)
+early_readable s f gs h d l = no_part (IsReadable s) (λ g. reading.Applies s.context s.bound s.names g d) (λ g k. early_none s g d l k) f gs h
+
+-- nor where the reading overflows
+pub early_overflow : (s : State) (f : FormulaTree) (gs : FormulaTrees) → ArePartsUnread s f gs error.Overflow → (d : StaticError) → static_rank d < 7 → ¬ (AppliesToPart s f gs d)
+early_overflow s f gs h = split h.0 h.1 h.2
+  where
+    split : (e : StaticError) → error.Overflow ≡ static_refusal e → IsFirstPartCause s f gs e → (d : StaticError) → static_rank d < 7 → ¬ (AppliesToPart s f gs d)
+    split static.Overflow p k d l = k.first d l
+    split static.Unbound p k d l = absurd (cc (p))
+    split static.FormulaAsTerm p k d l = absurd (cc (p))
+    split static.Nonlinear p k d l = absurd (cc (p))
+    split static.Division p k d l = absurd (cc (p))
+    split static.CongruenceContext p k d l = absurd (cc (p))
+    split static.Modulus p k d l = absurd (cc (p))
+    split static.Depth p k d l = absurd (cc (p))
+    split static.Memory p k d l = absurd (cc (p))
+
+never_quantified : (e : StaticError) → ¬ (error.Quantified ≡ static_refusal e)
+never_quantified static.Overflow p = absurd (cc (p))
+never_quantified static.Unbound p = absurd (cc (p))
+never_quantified static.FormulaAsTerm p = absurd (cc (p))
+never_quantified static.Nonlinear p = absurd (cc (p))
+never_quantified static.Division p = absurd (cc (p))
+never_quantified static.CongruenceContext p = absurd (cc (p))
+never_quantified static.Modulus p = absurd (cc (p))
+never_quantified static.Depth p = absurd (cc (p))
+never_quantified static.Memory p = absurd (cc (p))
+
+-- what is not read is not ready
+pub unready_of : (s : State) (w : Wanted) (f : FormulaTree) (e : StatementError) → ArePartsUnread s f (given_trees w) e → (e ≡ error.Overflow → ¬ (HasUnwantedQuantifier s w f)) → IsUnready s w f e
+unready_of s w f error.Quantified h k = absurd (never_quantified h.0 h.1)
+unready_of s w f error.Overflow h k = (h, k refl)
+unready_of s w f error.Unbound h k = h
+unready_of s w f error.FormulaAsTerm h k = h
+unready_of s w f error.Nonlinear h k = h
+unready_of s w f error.Division h k = h
+unready_of s w f error.CongruenceContext h k = h
+unready_of s w f error.Modulus h k = h
+unready_of s w f error.Depth h k = h
+unready_of s w f error.Memory h k = h
+unready_of s w f error.Long h k = h
+unready_of s w f error.Lexical h k = h
+unready_of s w f error.Nesting h k = h
+unready_of s w f error.Syntax h k = h
+unready_of s w f error.Point h k = h
+unready_of s w f error.Unvalued h k = h
+unready_of s w f error.Nodes h k = h
+unready_of s w f error.Bindings h k = h
+unready_of s w f error.Text h k = h

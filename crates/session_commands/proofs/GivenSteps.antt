@@ -61,12 +61,12 @@ pub proper_items : (gs : List Formula) → AreProperFormulas (formulas_of (map f
 proper_items [] h = tt
 proper_items (g ∷ gs) h = (h.0, proper_items gs h.1)
 
-free_here : {s : State} {f : FormulaTree} (w : Wanted) → IsDistributed w → ¬ (HasUnwantedQuantifier s w f) → ¬ (IsQuantified s.bound f)
-free_here wanted.Given d h = absurd d
-free_here wanted.NegationNormal d h = absurd d
-free_here (wanted.Distributed way) d h = h
-free_here (wanted.Simplified given) d h = absurd d
-free_here (wanted.Eliminated given) d h = absurd d
+free_here : (s : State) (f : FormulaTree) (w : Wanted) → IsDistributed w → ¬ (HasUnwantedQuantifier s w f) → ¬ (IsQuantified s.bound f)
+free_here s f wanted.Given d h = absurd d
+free_here s f wanted.NegationNormal d h = absurd d
+free_here s f (wanted.Distributed way) d h = h
+free_here s f (wanted.Simplified given) d h = absurd d
+free_here s f (wanted.Eliminated given) d h = absurd d
 
 module _ (w : Wanted) (f : FormulaTree) (desk : Desk) (names : List (List ℕ)) (is : names ≡ fold with_name desk.names (formula_variables f ++ all_variables (given_trees w))) where
   -- the desk where the variables have their numbers
@@ -122,7 +122,7 @@ module _ (w : Wanted) (f : FormulaTree) (desk : Desk) (names : List (List ℕ)) 
         two_step h proper = subst (λ (u : Tree). HasTwoMembers u) (sym same) (own h proper).members
 
         pub free_step : IsDesk numbered → IsDistributed w → IsQuantifierFree t
-        free_step h d = subst (λ (u : Tree). IsQuantifierFree u) (sym same) (resolved_free (state_of numbered).context (state_of numbered).bound names f (free_here w d readable.plain))
+        free_step h d = subst (λ (u : Tree). IsQuantifierFree u) (sym same) (resolved_free (state_of numbered).context (state_of numbered).bound names f (free_here (state_of numbered) f w d readable.plain))
 
         pub atoms_step : IsDesk numbered → AreProperFormulas (given_trees w) → EachOf (IsNormal (context_of read.context)) ks
         atoms_step h proper =

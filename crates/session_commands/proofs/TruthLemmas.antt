@@ -186,7 +186,7 @@ module _ (s : State) (f : FormulaTree) (es : List PointEntry) (numbers : HasNumb
   -- the first cause is the one of the reading
   reading_first : (d : StaticError) → reading.IsFirst s.context s.bound s.names f d → (rank (static_refusal d) ≤ 16) → (6 < rank (static_refusal d) → ¬ Bound) → (rank (static_refusal d) ≤ 12) → HasNoneBelow s f es (rank (static_refusal d))
   reading_first d first b bound c printed =
-      none_below s (use_of None printed) (Holds f es) numbers (rank (static_refusal d)) b (λ e l. first.first e (earlier e d l)) bound (λ l. absurd (omega arith)) (λ l. absurd (omega arith)) (λ l. absurd (omega arith))
+      none_below s (use_of None printed) (Holds f es) numbers (rank (static_refusal d)) b (λ e l. first.first e (earlier e d l)) bound (λ l. absurd (omega arith)) (λ l. absurd (omega arith)) (λ l k. k.0) (λ l. absurd (omega arith))
 
   bound_first : (d : StaticError) → reading.IsFirst s.context s.bound s.names f d → 0 < reading.rank d → Bound → RefusesTruth s f es error.FormulaAsTerm
   bound_first d first l h = λ limit printed. record {

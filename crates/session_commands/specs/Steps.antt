@@ -1,5 +1,5 @@
 -- What the steps of an answer give one another.
-use Rattle.std.specs.Prelude.{◌≡◌, ◌⊎◌, ◌*◌, ◌<◌, ◌≤◌, ℕ, List, Bool, true, Option, Some, None, Result, Ok, Err, length, nat_lt, if◌then◌else◌}
+use Rattle.std.specs.Prelude.{◌≡◌, ◌⊎◌, ◌*◌, ◌<◌, ◌≤◌, ℕ, List, Bool, true, Option, Some, None, length, nat_lt, if◌then◌else◌}
 use Rattle.formula_meaning.specs.Context.{Context}
 use Rattle.formula_meaning.specs.Formula.{none}
 use Rattle.formula_meaning.specs.Sizes.{nodes}
@@ -199,11 +199,6 @@ IsDistributed wanted.NegationNormal = ⊥
 IsDistributed (wanted.Distributed way) = Unit {0}
 IsDistributed (wanted.Simplified given) = ⊥
 IsDistributed (wanted.Eliminated given) = ⊥
-
--- all causes that come before a quantifier were looked for in vain
-abbrev pub MayBeQuantified : {T : Type 0} → Result T StatementError → Type 0
-MayBeQuantified (Ok x) = Unit {0}
-MayBeQuantified (Err e) = e ≡ error.Overflow
 
 -- a quantifier stands in a formula that is asked for its disjunctive or conjunctive form
 abbrev pub HasUnwantedQuantifier : State → Wanted → FormulaTree → Type 0

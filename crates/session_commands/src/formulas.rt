@@ -20,7 +20,7 @@ ghost use Rattle.session_commands.specs.Commands.{named};
 ghost use Rattle.session_commands.specs.Causes.{formula_line, Refuses, HasNoRoom};
 ghost use Rattle.session_commands.specs.Keeping.{state_of, IsDesk};
 ghost use Rattle.session_commands.specs.Reply.{IsLine};
-ghost use Rattle.session_commands.specs.Steps.{static_refusal as refusal_of_static, MayBeQuantified, IsDistributed, ArePartsNumbered, IsReady, IsUnready, given_trees, command_of, use_of, IsGiven, KeepsDesk, GrowsDesk, HasNumbers, IsUnread, IsReadable, MayBind, TargetFault, LineFault, bound_after};
+ghost use Rattle.session_commands.specs.Steps.{static_refusal as refusal_of_static, HasUnwantedQuantifier, ArePartsNumbered, IsReady, IsUnready, given_trees, command_of, use_of, IsGiven, KeepsDesk, GrowsDesk, HasNumbers, IsUnread, IsReadable, MayBind, TargetFault, LineFault, bound_after};
 
 use crate::assumptions::{Premised, number_parts, read_parts};
 use crate::desk::Desk;
@@ -62,13 +62,6 @@ pub(crate) enum Wanted<'a> {
 }
 
 impl<'a> Wanted<'a> {
-    /// Whether a disjunctive or conjunctive form is wanted.
-    fn is_distributed(self) -> bool
-        ensures { IsTrue result ↔ IsDistributed self.entry }
-    {
-        matches!(self, Wanted::Distributed(_))
-    }
-
     /// The assumptions.
     fn assumptions(self) -> &'a [Formula]
         ensures { formulas_of (map formula_tree result.now) ≡ given_trees self.entry }
@@ -151,23 +144,30 @@ fn read_wanted(
     ensures unready { IfErr result (IsUnready (state_of desk.old) wanted.entry (formula_tree formula.now)) }
     ensures kept { KeepsDesk desk.old desk.new }
 {
-    let read = read_parts(desk, formula, wanted.assumptions());
-    if !may_be_quantified(&read) {
-        return read;
+    match read_parts(desk, formula, wanted.assumptions()) {
+        Ok(read) => {
+            if has_unwanted_quantifier(desk, wanted, formula) {
+                return Err(StatementError::Quantified);
+            }
+            Ok(read)
+        }
+        Err(error) => {
+            if error == StatementError::Overflow && has_unwanted_quantifier(desk, wanted, formula) {
+                return Err(StatementError::Quantified);
+            }
+            Err(error)
+        }
     }
-    if wanted.is_distributed() && is_quantified(formula, &desk.bindings, &desk.store) {
-        return Err(StatementError::Quantified);
-    }
-    read
 }
 
-/// Whether all causes that come before a quantifier were looked for in vain.
-fn may_be_quantified(read: &Result<Premised, StatementError>) -> bool
-    ensures { IsTrue result ↔ MayBeQuantified read.now }
+/// Whether a quantifier stands in a formula that is asked for its disjunctive or conjunctive form.
+fn has_unwanted_quantifier(desk: &Desk, wanted: Wanted<'_>, formula: &Formula) -> bool
+    requires { AreIds (IsId desk.now.store) desk.now.bindings }
+    ensures { IsTrue result ↔ HasUnwantedQuantifier (state_of desk.now) wanted.entry (formula_tree formula.now) }
 {
-    match read {
-        Ok(_) => true,
-        Err(error) => *error == StatementError::Overflow,
+    match wanted {
+        Wanted::Distributed(_) => is_quantified(formula, &desk.bindings, &desk.store),
+        _ => false,
     }
 }
 
