@@ -1,19 +1,18 @@
 -- Atoms with different variable parts neither merge nor decide each other.
-use Rattle.std.proofs.Common.{◌≡◌, ℕ, Bool, true, false, nat_eq, refl, sym, ap, ◌∙◌, subst, None, List, arith, eqb-true}
+use Rattle.std.proofs.Common.{◌≡◌, Bool, true, false, nat_eq, refl, sym, ap, ◌∙◌, None, List, eqb-true}
 use Rattle.std.proofs.Math.IntN.{ℤ, pos, ◌-ℤ◌}
 use Rattle.std.specs.Prelude.{if◌then◌else◌}
 use Rattle.std.specs.Ordering.{int_eq}
 use Rattle.std.proofs.lemmas.Bool.Decides.{Decides-int_eq}
 use Rattle.exact_numbers.specs.Divides.{content_of, residue_of}
 use Rattle.formula_meaning.specs.Context.{Context}
-use Rattle.formula_meaning.specs.Form.{Form, Term}
+use Rattle.formula_meaning.specs.Form.{Term}
 use Rattle.formula_meaning.specs.Fold.{Junction}
-use Rattle.formula_meaning.specs.Atom.{Relation, Atom, Compare, Congruent}
-use Rattle.formula_meaning.specs.Same.{same_terms}
+use Rattle.formula_meaning.specs.Atom.{Atom, Compare, Congruent}
 use Rattle.formula_meaning.proofs.Same.{and_left, and_right, terms_same}
 use Rattle.linear_forms.specs.Terms.{coefficients}
 use Rattle.linear_forms.specs.Reduction.{quotients}
-use Rattle.atom_normal.specs.NormalForm.{IsNormal, negated_normal, congruence}
+use Rattle.atom_normal.specs.NormalForm.{IsNormal, negated_normal}
 use Rattle.atom_merging.specs.Merging.{variable_part}
 use Rattle.atom_merging.specs.Computed.{Kept, is_same_part, merged, merged_part, decided_by, decided_part}
 use Rattle.simplified_formulas.specs.Atoms.{tells}
