@@ -13,10 +13,6 @@ module _ {A : Type 0} (kit : Kit A) where
   decided-append [] ls a = refl
   decided-append (k ∷ ks) ls a = ap (first_answer (kit.decides k a)) (decided-append ks ls a) ∙ first_more (kit.decides k a) (decided kit ks a) (decided kit ls a)
 
-  pub first_none : (o : Option Bool) → first_answer o None ≡ o
-  first_none (Some b) = refl
-  first_none None = refl
-
   -- one that says nothing is as if it were not there
   pub silent_last : (ks : List A) (k a : A) → decided kit ks a ≡ None → kit.decides k a ≡ None → decided kit (ks ++ k ∷ []) a ≡ None
   silent_last ks k a e q = decided-append ks (k ∷ []) a ∙ ap (λ o. first_answer o (first_answer (kit.decides k a) None)) e ∙ ap (λ o. first_answer o None) q

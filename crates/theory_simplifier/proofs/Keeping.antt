@@ -9,7 +9,6 @@ use Rattle.formula_meaning.specs.Formula.{One, also}
 use Rattle.formula_meaning.specs.Fold.{from_pieces}
 use Rattle.formula_meaning.specs.Atom.{Atom}
 use Rattle.formula_meaning.specs.Tree.{Tree}
-use Rattle.simplified_formulas.specs.Pass as meant
 use Rattle.simplified_formulas.specs.Pass.{ones}
 use Rattle.formula_tree.specs.declared.shape.Shape.{Shape}
 use Rattle.formula_tree.specs.Makers.{Keeps}
@@ -21,10 +20,8 @@ use Rattle.nnf_trees.specs.declared.nnf.Junction.{Junction}
 use Rattle.nnf_trees.specs.declared.nnf.Junction.TheVariants as junction
 use Rattle.nnf_trees.specs.Nnfs.{junction_of}
 use Rattle.theory_simplifier.specs.declared.joined.Entry.{Entry}
-use Rattle.theory_simplifier.specs.declared.parts.Parts.{Parts}
-use Rattle.theory_simplifier.specs.declared.parts.Parts.TheVariants.{Closed, Open}
 use Rattle.theory_simplifier.specs.Listed.{entry_atom}
-use Rattle.theory_simplifier.specs.Parts.{one_tree, parts_of, HasIds, joined_shape}
+use Rattle.theory_simplifier.specs.Parts.{one_tree, joined_shape}
 use Rattle.theory_simplifier.proofs.Entries.{map_append}
 
 pub if_ok_map : {X E : Type 0} (r : Result X E) (P Q : X → Type 0) → ((x : X) → P x → Q x) → IfOk r P → IfOk r Q
@@ -47,14 +44,6 @@ module _ (a b : List (Shape FormulaId)) (k : Keeps (IsId a) (tree a) (IsId b) (t
   pub still_trees : (ids : List FormulaId) → AllByRecursion (IsId a) ids → map (tree b) ids ≡ map (tree a) ids
   still_trees [] h = refl
   still_trees (id ∷ ids) h = λ i. k.same id h.0 i ∷ still_trees ids h.1 i
-
-  pub still_parts : (s : Parts) → HasIds a s → parts_of (tree b) s ≡ parts_of (tree a) s
-  still_parts Closed h = refl
-  still_parts (Open l ids) h = ap (λ fs. meant.Open l.atoms (members fs)) (still_trees ids h)
-
-  pub still_has : (s : Parts) → HasIds a s → HasIds b s
-  still_has Closed h = tt
-  still_has (Open l ids) h = still_ids ids h
 
   -- a formula is made for one atom more
   pub one_more : (ids : List FormulaId) (id : FormulaId) (items : List Entry) (i : ℕ) (e : Entry) → AllByRecursion (IsId a) ids → map (tree a) ids ≡ map one_tree (map entry_atom (take i items)) → tree b id ≡ One (entry_atom e) → i < length items → e ≡ get_or items i e

@@ -1,5 +1,5 @@
 -- What is known at a place, frame by frame.
-use Rattle.std.proofs.Common.{◌≡◌, ℕ, zero, suc, ◌+◌, ◌<◌, Bool, true, false, refl, sym, ap, ◌∙◌, subst, Option, Some, None, List, [], ◌∷◌, ◌++◌, length, take, map, get_or}
+use Rattle.std.proofs.Common.{◌≡◌, ℕ, zero, suc, ◌+◌, ◌<◌, Bool, true, false, refl, sym, ap, ◌∙◌, Option, Some, None, List, [], ◌∷◌, ◌++◌, length, take, map, get_or}
 use Rattle.std.proofs.lemmas.List.{take_more}
 use Rattle.std.specs.Prelude.{if◌then◌else◌}
 use Rattle.formula_meaning.specs.Context.{Context}
@@ -18,7 +18,6 @@ use Rattle.theory_simplifier.specs.Listed.{Listed, told_by}
 use Rattle.theory_simplifier.specs.Known.{inside, known_inside, known_atoms, IsNormalFrame, AreNormalFrames}
 use Rattle.theory_simplifier.proofs.Deciding.{decided-append}
 use Rattle.theory_simplifier.proofs.Entries.{tells_normal}
-use Rattle.theory_simplifier.proofs.Partners.{each_at}
 use Rattle.theory_simplifier.proofs.Parting.{none_without, same_without}
 
 pub known_inside-append : (ks : List Atom) (fs gs : List Frame) → known_inside ks (fs ++ gs) ≡ known_inside (known_inside ks fs) gs
@@ -86,9 +85,6 @@ module _ (c : Context) (a : Atom) (m : IsNormal c a) (fs : List Frame) (n : AreN
   -- of one that it has not
   pub name_passes : (x : VarId) → get_or fs i d ≡ Under x → contains a x.number ≡ false → decided (atom_kit c) (known_atoms (take (i + 1) fs)) a ≡ decided (atom_kit c) outer a
   name_passes x e q = ap (λ ks. decided (atom_kit c) ks a) (known_more fs i d within ∙ ap (λ f. inside f outer) e) ∙ same_without c a x.number m q outer outer_normal
-
-  pub frame_normal : (l : Listed) → get_or fs i d ≡ Beside l → EachOf (IsNormalWithin c) l.atoms
-  frame_normal l e = subst (IsNormalFrame c) e (each_at (IsNormalFrame c) fs i d within n)
 
 -- the frame that was read
 pub frame_read : (items fs : List Frame) (i : ℕ) (f g : Frame) → items ≡ fs → f ≡ get_or items i f → f ≡ g → get_or fs i f ≡ g

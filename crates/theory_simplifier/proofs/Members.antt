@@ -55,18 +55,6 @@ module _ (nodes : List (Shape FormulaId)) (are : AreNodes nodes) (x : FormulaId)
     inserted ids h =
         pushed (list_any (same_id x) ids) ids ∙ ap (λ b. pushed_unless b (tree nodes x) (members (map (tree nodes) ids))) (sym (has_one ids h))
 
--- what all ids have, all after an insertion have
-pub inserted_all : (P : FormulaId → Type 0) (ids : List FormulaId) (x : FormulaId) → AllByRecursion P ids → P x → AllByRecursion P (insert_key same_id ids x)
-inserted_all P ids x h p = split (list_any (same_id x) ids)
-  where
-    all_last : (xs : List FormulaId) → AllByRecursion P xs → AllByRecursion P (xs ++ x ∷ [])
-    all_last [] k = (p, tt)
-    all_last (y ∷ xs) k = (k.0, all_last xs k.1)
-
-    split : (b : Bool) → AllByRecursion P (if b then ids else ids ++ x ∷ [])
-    split true = h
-    split false = all_last ids h
-
 -- ---- lists that are gone through
 
 module _ {S : Type 0} (step : Tree → S → S) where

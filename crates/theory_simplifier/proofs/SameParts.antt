@@ -1,23 +1,20 @@
 -- Atoms with different variable parts neither merge nor decide each other.
-use Rattle.std.proofs.Common.{◌≡◌, ℕ, Bool, true, false, nat_eq, refl, sym, ap, ◌∙◌, subst, None, List, arith, eqb-true}
-use Rattle.std.proofs.Math.IntN.{ℤ, pos, ◌-ℤ◌}
+use Rattle.std.proofs.Common.{◌≡◌, Bool, true, false, nat_eq, refl, sym, ap, ◌∙◌, None, List, eqb-true}
+use Rattle.std.proofs.Math.IntN.{ℤ, pos}
 use Rattle.std.specs.Prelude.{if◌then◌else◌}
 use Rattle.std.specs.Ordering.{int_eq}
 use Rattle.std.proofs.lemmas.Bool.Decides.{Decides-int_eq}
-use Rattle.exact_numbers.specs.Divides.{content_of, residue_of}
+use Rattle.exact_numbers.specs.Divides.{content_of}
 use Rattle.formula_meaning.specs.Context.{Context}
-use Rattle.formula_meaning.specs.Form.{Form, Term}
+use Rattle.formula_meaning.specs.Form.{Term}
 use Rattle.formula_meaning.specs.Fold.{Junction}
-use Rattle.formula_meaning.specs.Atom.{Relation, Atom, Compare, Congruent}
-use Rattle.formula_meaning.specs.Same.{same_terms}
+use Rattle.formula_meaning.specs.Atom.{Atom, Compare, Congruent}
 use Rattle.formula_meaning.proofs.Same.{and_left, and_right, terms_same}
 use Rattle.linear_forms.specs.Terms.{coefficients}
 use Rattle.linear_forms.specs.Reduction.{quotients}
-use Rattle.atom_normal.specs.NormalForm.{IsNormal, negated_normal, congruence}
+use Rattle.atom_normal.specs.NormalForm.{IsNormal}
 use Rattle.atom_merging.specs.Merging.{variable_part}
 use Rattle.atom_merging.specs.Computed.{Kept, is_same_part, merged, merged_part, decided_by, decided_part}
-use Rattle.simplified_formulas.specs.Atoms.{tells}
-use Rattle.formula_meaning.specs.Fold as folding
 use Rattle.theory_simplifier.specs.VariableParts.{part_terms, part_of}
 use Rattle.theory_simplifier.proofs.Parting.{content_nonzero}
 
@@ -30,9 +27,6 @@ terms_part ts n = undivided ts n (int_eq (content_of (coefficients ts)) (pos 0))
 
 pub divided_terms : (ts : List Term) (d : ℤ) → d ≡ content_of (coefficients ts) → ¬ (d ≡ pos 0) → quotients d ts ≡ part_terms ts
 divided_terms ts d e n = ap (λ k. quotients k ts) e ∙ sym (terms_part ts (λ q. n (e ∙ q)))
-
-pub undivided_terms : (ts : List Term) (d : ℤ) → d ≡ content_of (coefficients ts) → d ≡ pos 0 → ts ≡ part_terms ts
-undivided_terms ts d e q = sym (ap (λ (b : Bool). if b then ts else variable_part ts) ((Decides-int_eq (content_of (coefficients ts)) (pos 0)).1 (sym e ∙ q)))
 
 part_along : (c : Context) (a b : Atom) → IsNormal c a → IsNormal c b → is_same_part a b ≡ true → part_of a ≡ part_of b
 part_along c (Compare r f) (Compare s g) n m e =
@@ -55,14 +49,3 @@ module _ (c : Context) (a b : Atom) (n : IsNormal c a) (m : IsNormal c b) (d : �
 
   pub undecided_apart : None ≡ decided_by c a b
   undecided_apart = sym (ap (λ (t : Bool). if t then decided_part c a b else None) (apart (is_same_part a b) refl))
-
--- what an atom tells has its variable part
-pub told_part : (j : Junction) (a : Atom) → part_of (tells negated_normal j a) ≡ part_of a
-told_part folding.Conjunction a = refl
-told_part folding.Disjunction (Compare r f) = refl
-told_part folding.Disjunction (Congruent false m f) = refl
-told_part folding.Disjunction (Congruent true m f) = split (nat_eq m 2) refl
-  where
-    split : (b : Bool) → nat_eq m 2 ≡ b → part_of (if b then Congruent true 2 (record { terms = f.terms; constant = pos 1 -ℤ residue_of f.constant (pos 2) }) else Congruent false m f) ≡ part_of (Congruent true m f)
-    split true e = λ i. record { modulus = pos (sym (eqb-true m 2 e) i); form = record { terms = f.terms; constant = pos 0 } }
-    split false e = refl

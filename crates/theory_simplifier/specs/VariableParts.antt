@@ -1,5 +1,5 @@
 -- The variable part of an atom, by which the atoms that can merge with it or decide it are told.
-use Rattle.std.specs.Prelude.{ℤ, pos, List, if◌then◌else◌}
+use Rattle.std.specs.Prelude.{pos, List, if◌then◌else◌}
 use Rattle.std.specs.Ordering.{int_eq}
 use Rattle.exact_numbers.specs.Divides.{content_of}
 use Rattle.formula_meaning.specs.Form.{Term}

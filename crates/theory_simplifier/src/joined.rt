@@ -44,7 +44,7 @@ impl Model for Joined {
     ghost use Rattle.std.specs.List.{AllByRecursion};
     ghost use Rattle.nnf_trees.specs.Nnfs.{junction_of};
     ghost use Rattle.theory_simplifier.specs.VariableParts.{part_of};
-ghost use Rattle.theory_simplifier.specs.Listed.{Listed, entry_atom, IsEntry};
+    ghost use Rattle.theory_simplifier.specs.Listed.{Listed, entry_atom, IsEntry};
 
     ghost Value = { Listed };
 

@@ -35,6 +35,11 @@ use std::alloc::Global;
 /// The shared formula simplified under the assumptions `theory`: it has the formula's truth wherever all of them are true, is
 /// Reduced under them, and has no other free names, no more nodes and atoms and no longer text. `Nodes` comes exactly where the
 /// tree of the formula has more than `limit` nodes, and before anything is made, else `Memory`. The formulas of the store stay.
+///
+/// The formula is passed at most as often as its tree has nodes, and twice as a rule. A pass walks the tree, since a subformula may
+/// be simplified differently in two places, so that `limit` bounds it. It asks of each atom, and of each atom that is known there,
+/// whether both have one variable part, and compares them only then; of a name that a quantifier binds it looks whether it is free.
+/// The recursion is as deep as the formula is high.
 pub fn simplify(
     alloc: Global,
     store: &mut Store,

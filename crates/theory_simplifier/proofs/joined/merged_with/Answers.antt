@@ -1,4 +1,4 @@
-use Rattle.std.proofs.Common.{◌≡◌, true≢false, sym, ◌∙◌}
+use Rattle.std.proofs.Common.{true≢false, sym, ◌∙◌}
 use Rattle.atom_normal.specs.Atoms.{context_of, atom_of}
 use Rattle.nnf_trees.specs.Nnfs.{junction_of}
 use Rattle.theory_simplifier.proofs.SameParts.{kept_apart}

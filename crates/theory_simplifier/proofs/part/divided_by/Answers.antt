@@ -1,4 +1,4 @@
-use Rattle.std.proofs.Common.{rules, ◌≡◌, pos, sym, ap, to_z, ◌∙◌}
+use Rattle.std.proofs.Common.{rules, ◌≡◌, pos, ap, ◌∙◌}
 use Rattle.std.specs.Int.{w128}
 use Rattle.std.proofs.lemmas.Int.{to_z-of_z}
 use Rattle.formula_meaning.specs.Form.{Form}
