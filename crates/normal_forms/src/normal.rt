@@ -35,6 +35,9 @@ use std::alloc::Global;
 /// form, which only folds constants and distributes `and` over `or`. `Quantified` comes exactly where a quantifier stands in
 /// the formula. `Nodes` comes only where the plain form has more than `limit` places of atoms, which are counted before
 /// anything is multiplied out; else `Memory`. The formulas of the store stay.
+///
+/// The lists are kept clean as they grow, so a formula whose clean form stays small is answered without its plain form being
+/// built. Each list that comes is compared with all that are there: the time is quadratic in the number of lists.
 pub fn dnf(
     alloc: Global,
     store: &mut Store,
