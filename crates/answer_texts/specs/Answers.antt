@@ -1,10 +1,10 @@
 -- The text of a case list. Infinitesimals and infinities are numbered in each case, each from 1 on.
-use Rattle.std.specs.Prelude.{ℕ, ◌+◌, ℤ, pos, negsuc, suc, unsigned_abs, Bool, List, [], ◌∷◌, ◌++◌, codes, map, nat_eq, if◌then◌else◌}
+use Rattle.std.specs.Prelude.{ℕ, ◌+◌, ℤ, unsigned_abs, List, [], ◌∷◌, ◌++◌, codes, map, nat_eq, if◌then◌else◌}
 use Rattle.std.specs.Fmt.{decimal}
 use Rattle.formula_meaning.specs.Form.{Form, Term}
 use Rattle.formula_meaning.specs.Answer.{Answer, Place, Exact, AboveBy, BelowBy, PlusInfinity, MinusInfinity, Periodic}
 use Rattle.elimination_reference.specs.Cases.{Case}
-use Rattle.redlog_printer.specs.Text.{name_at, first_sign, later_sign, sum_text, form_text, tree_text}
+use Rattle.redlog_printer.specs.Text.{name_at, later_sign, sum_text, form_text, tree_text}
 
 -- the texts with commas between them, and something before the first
 abbrev pub separated : List ℕ → List (List ℕ) → List ℕ

@@ -57,11 +57,7 @@ fn put_list(out: &mut Output, names: &Names, cases: &[PlainCase]) -> Result<(), 
 
 /// The text of a case list, where the names of the list are numbered by their places: each case is its guard and the places of its
 /// names, in the order in which they are evaluated. `Text` comes exactly where the text is longer than 32 MiB, else `Memory`.
-pub fn cases_text(
-    alloc: Global,
-    cases: &[PlainCase],
-    names: &Names,
-) -> Result<Vec<u8>, PrintError>
+pub fn cases_text(alloc: Global, cases: &[PlainCase], names: &Names) -> Result<Vec<u8>, PrintError>
     requires { AreCasesWithin (length names.now) (map case_seen cases.now) }
     ensures text { IfOk result (λ v. v.items ≡ cases_text names.now (map case_seen cases.now)) }
     ensures short { OnOk result (length (cases_text names.now (map case_seen cases.now)) ≤ text_limit) }

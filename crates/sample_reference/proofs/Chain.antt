@@ -1,5 +1,5 @@
 -- The calculated values, one after the other, make the first formula true.
-use Rattle.std.proofs.Common.{◌≡◌, ℕ, ◌*◌, ◌<◌, Bool, true, false, List, [], ◌∷◌, ◌++◌, Option, Some, None, ◌⊎◌, inl, inr, ⊎_elim, refl, sym, ap, ◌∙◌, subst, subst₂, arith, nat_eq, if◌then◌else◌, unsigned_abs, append_assoc, append-nil, eq-eqb}
+use Rattle.std.proofs.Common.{◌≡◌, ℕ, ◌*◌, Bool, true, false, List, [], ◌∷◌, ◌++◌, Some, ◌⊎◌, inl, inr, refl, sym, ap, ◌∙◌, subst, arith, nat_eq, if◌then◌else◌, unsigned_abs, append_assoc, append-nil, eq-eqb}
 use Rattle.std.proofs.Math.IntN.{ℤ, pos, ◌*ℤ◌}
 use Rattle.std.specs.Prelude.{◌<ℤ◌}
 use Rattle.std.proofs.lemmas.Int.{ints}
@@ -63,7 +63,7 @@ one_found c s g found d r rest h t low e y =
     let a = value_allowed c v one.0 in (
       one.0,
       subst (TrueAt c s.branch) (sym (with_append found (v ∷ []) origin))
-      ((tree_same_point c s.branch (move nat_eq q s.name (r.numerator *ℤ pos q.below) m) (move nat_eq l s.name (r.numerator *ℤ pos l.below) m) (moved_of c q s.name (r.numerator *ℤ pos q.below) m oq a) (moved_of c l s.name (r.numerator *ℤ pos l.below) m ol a) (moved_same q l s.name r.numerator m same)).1 one.1),
+          ((tree_same_point c s.branch (move nat_eq q s.name (r.numerator *ℤ pos q.below) m) (move nat_eq l s.name (r.numerator *ℤ pos l.below) m) (moved_of c q s.name (r.numerator *ℤ pos q.below) m oq a) (moved_of c l s.name (r.numerator *ℤ pos l.below) m ol a) (moved_same q l s.name r.numerator m same)).1 one.1),
     )
 
 pub values_true : (c : Context) (steps : List Step) (f g : Tree) (found values : List Value) → Lead c steps f g → EachOf (λ (s : Step). IsLower s.place) steps → EachOf (IsValue c) found → TrueAt c g (with_values origin found) →

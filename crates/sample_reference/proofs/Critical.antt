@@ -1,14 +1,14 @@
 -- The critical values of a formula in one name: where its comparisons are 0.
-use Rattle.std.proofs.Common.{◌≡◌, ℕ, suc, zero, ◌*◌, ◌<◌, Bool, true, false, List, [], ◌∷◌, Option, Some, None, ◌⊎◌, inl, inr, ⊎_elim, refl, sym, ap, ◌∙◌, subst, arith, nat_eq, if◌then◌else◌, unsigned_abs}
+use Rattle.std.proofs.Common.{◌≡◌, ℕ, suc, zero, Bool, true, false, List, [], ◌∷◌, Option, Some, None, ◌⊎◌, inl, inr, refl, sym, ap, ◌∙◌, subst, arith, nat_eq, unsigned_abs}
 use Rattle.std.proofs.Math.IntN.{ℤ, pos, negsuc, neg_ℤ, ◌+ℤ◌, ◌*ℤ◌}
 use Rattle.std.specs.Prelude.{◌<ℤ◌}
 use Rattle.std.proofs.lemmas.Int.{ints}
 use Rattle.exact_numbers.specs.Frac.{Frac, IsProper, lowest}
-use Rattle.exact_numbers.proofs.Ring.{ring, zero_mul, mul_zero, mul_comm, neg_mul, mul_neg}
+use Rattle.exact_numbers.proofs.Ring.{ring, mul_zero, mul_comm, neg_mul}
 use Rattle.exact_numbers.proofs.Order.{cancel}
 use Rattle.exact_numbers.proofs.FractionRule.{lowest_proper, lowest_value}
-use Rattle.formula_meaning.specs.Context.{Context, Fields}
-use Rattle.formula_meaning.specs.Point.{Point, move, AgreeOn}
+use Rattle.formula_meaning.specs.Context.{Fields}
+use Rattle.formula_meaning.specs.Point.{Point, move}
 use Rattle.formula_meaning.specs.Some.{Among, SomeOf, EachOf}
 use Rattle.formula_meaning.specs.Form.{Form, Term, total, value, coefficient, without, others}
 use Rattle.formula_meaning.specs.Atom.{Atom, Compare, Congruent, AtomIn, form_of}
@@ -107,10 +107,12 @@ module _ (x : ℕ) (p : Point ℕ) where
   atom_zero : (a : Atom) (w : Frac) → Alone x (form_of a) → atom_root x a ≡ Some w → IsZeroAt (w.numerator *ℤ pos p.below) (unsigned_abs w.denominator) a
   atom_zero (Congruent holds n f) w h e = none_some w e
   atom_zero (Compare r f) w h e =
-      let i = root_is (coefficient x f) f.constant w e in
-      (i.moves, line x p f (w.numerator *ℤ pos p.below) (unsigned_abs w.denominator) h
-        ∙ ap (λ z. coefficient x f *ℤ (w.numerator *ℤ pos p.below) +ℤ (f.constant *ℤ pos p.below) *ℤ z) (abs_positive w.denominator i.proper)
-        ∙ at_root (coefficient x f) f.constant w.numerator w.denominator (pos p.below) i.zero_there)
+      let i = root_is (coefficient x f) f.constant w e in (
+        i.moves,
+        line x p f (w.numerator *ℤ pos p.below) (unsigned_abs w.denominator) h
+            ∙ ap (λ z. coefficient x f *ℤ (w.numerator *ℤ pos p.below) +ℤ (f.constant *ℤ pos p.below) *ℤ z) (abs_positive w.denominator i.proper)
+            ∙ at_root (coefficient x f) f.constant w.numerator w.denominator (pos p.below) i.zero_there,
+      )
 
   pub roots_proper : (atoms : List Atom) → EachOf IsProper (critical_values x atoms)
   roots_proper [] = tt

@@ -1,17 +1,17 @@
 -- Over the ordered fields the calculated value is the sample of the place.
-use Rattle.std.proofs.Common.{◌≡◌, ℕ, suc, zero, ◌*◌, ◌<◌, Bool, true, false, List, [], ◌∷◌, Option, Some, None, ◌⊎◌, inl, inr, ⊎_elim, refl, sym, ap, ◌∙◌, subst, arith, nat_eq, if◌then◌else◌, unsigned_abs, subst₂}
+use Rattle.std.proofs.Common.{◌≡◌, ℕ, ◌*◌, ◌<◌, Bool, true, false, List, [], ◌∷◌, Option, Some, None, inl, inr, refl, sym, ap, ◌∙◌, subst, arith, if◌then◌else◌, unsigned_abs, subst₂}
 use Rattle.std.proofs.Math.IntN.{ℤ, pos, negsuc, neg_ℤ, ◌+ℤ◌, ◌-ℤ◌, ◌*ℤ◌}
 use Rattle.std.specs.Prelude.{◌<ℤ◌, ◌≤ℤ◌, MatchOption}
 use Rattle.std.proofs.lemmas.Int.{ints}
-use Rattle.exact_numbers.specs.Frac.{Frac, IsProper, IsLowest, lowest, whole_frac, sum_step, product_step, SumPasses, IsExactSum, ProductPasses, IsExactProduct, ◌>>=◌}
-use Rattle.exact_numbers.proofs.Ring.{ring, mul_one, one_mul, zero_mul, mul_comm}
-use Rattle.exact_numbers.proofs.Order.{cancel_positive, cancel_less, mul_positive, mul_less}
+use Rattle.exact_numbers.specs.Frac.{Frac, IsProper, IsLowest, lowest, whole_frac, sum_step, product_step, SumPasses, IsExactSum, ProductPasses, IsExactProduct}
+use Rattle.exact_numbers.proofs.Ring.{ring, mul_one, one_mul, zero_mul}
+use Rattle.exact_numbers.proofs.Order.{cancel_positive, cancel_less, mul_less}
 use Rattle.exact_numbers.proofs.FractionRule.{lowest_proper, lowest_value, sum_step_gives, product_step_gives, whole_lowest}
 use Rattle.formula_meaning.specs.Context.{Context, Fields}
-use Rattle.formula_meaning.specs.Point.{Point, Of, move}
-use Rattle.formula_meaning.specs.Some.{Among, SomeOf, EachOf}
+use Rattle.formula_meaning.specs.Point.{Point}
+use Rattle.formula_meaning.specs.Some.{Among, EachOf}
 use Rattle.formula_meaning.specs.Form.{Form, value, total}
-use Rattle.formula_meaning.specs.Atom.{Atom, AtomIn, form_of}
+use Rattle.formula_meaning.specs.Atom.{AtomIn, form_of}
 use Rattle.formula_meaning.specs.Answer.{Place, Exact, AboveBy, BelowBy, PlusInfinity, MinusInfinity, Periodic}
 use Rattle.formula_meaning.specs.Tree.{Tree}
 use Rattle.formula_meaning.proofs.Values.{pos_mul}
@@ -21,7 +21,7 @@ use Rattle.elimination_theory.specs.Atoms.{atoms_of}
 use Rattle.elimination_theory.specs.FieldsSubstitution.{IsFieldPlace}
 use Rattle.elimination_theory.specs.FieldsSamples.{IsFieldSample, IsCritical, IsLess, NoCritical, IsJustPast, IsBelowAll}
 use Rattle.elimination_theory.proofs.FieldsSample.{twice}
-use Rattle.elimination_theory.proofs.Fractions.{at_most_less, less_at_most, at_most_at_most}
+use Rattle.elimination_theory.proofs.Fractions.{at_most_less, less_at_most}
 use Rattle.elimination_reference.specs.PutIn.{tree_put, tree_put_within}
 use Rattle.sample_reference.specs.Traced.{IsLower}
 use Rattle.sample_reference.specs.Calculated.{critical_values, criticals, least_past, form_value, half, just_past, below_all, place_value}
@@ -176,7 +176,7 @@ module _ (x : ℕ) (p : Point ℕ) (t : Tree) (pb : 0 < p.below) (inside : EachO
               inr (
                 none_such (λ i l. IsLess (value e p) d i l) (λ w i l pl m pw same q. none_above a values w f m (above_too w i l pl pw same q)),
                 subst₂ (λ y z. (r.numerator *ℤ pos p.below) *ℤ pos d ≡ (value e p +ℤ y) *ℤ z) (sym (pos_mul d p.below)) (sym (abs_positive r.denominator s.proper))
-                (one_more r.numerator a.numerator a.denominator r.denominator (value e p) (pos d) (pos p.below) is.proper is.same s.value),
+                    (one_more r.numerator a.numerator a.denominator r.denominator (value e p) (pos d) (pos p.below) is.proper is.same s.value),
               ),
             )
         go (Some w) f g = some_then (sum_step a w) _ r g (λ s u y.
@@ -193,9 +193,9 @@ module _ (x : ℕ) (p : Point ℕ) (t : Tree) (pb : 0 < p.below) (inside : EachO
                 abs_above w.denominator n.proper,
                 critical_there w n.among,
                 subst (λ z. (value e p *ℤ z) <ℤ ((w.numerator *ℤ pos p.below) *ℤ pos d)) (sym wd)
-                (at_most_less (value e p) (pos d) (a.numerator *ℤ pos p.below) a.denominator (w.numerator *ℤ pos p.below) w.denominator qd is.proper n.proper (equal_at_most _ _ (sym is.same)) (scaled_less (pos p.below) a.numerator a.denominator w.numerator w.denominator below_positive n.above)),
+                    (at_most_less (value e p) (pos d) (a.numerator *ℤ pos p.below) a.denominator (w.numerator *ℤ pos p.below) w.denominator qd is.proper n.proper (equal_at_most _ _ (sym is.same)) (scaled_less (pos p.below) a.numerator a.denominator w.numerator w.denominator below_positive n.above)),
                 none_such (λ i l. IsLess (value e p) d i l × IsLess i l (w.numerator *ℤ pos p.below) (unsigned_abs w.denominator)) (λ v i l pl m pv same q.
-                least_before w v i l pl n.proper pv same (n.first v m (above_too v i l pl pv same q.0)) (subst (λ z. (i *ℤ z) <ℤ ((w.numerator *ℤ pos p.below) *ℤ pos l)) wd q.1)),
+                    least_before w v i l pl n.proper pv same (n.first v m (above_too v i l pl pv same q.0)) (subst (λ z. (i *ℤ z) <ℤ ((w.numerator *ℤ pos p.below) *ℤ pos l)) wd q.1)),
                 halfway r w s product.proper n.proper sum product,
               ),
             ))
@@ -223,10 +223,10 @@ module _ (x : ℕ) (p : Point ℕ) (t : Tree) (pb : 0 < p.below) (inside : EachO
               abs_above w.denominator n.proper,
               critical_there w n.among,
               none_such (λ i l. IsLess i l (w.numerator *ℤ pos p.below) (unsigned_abs w.denominator)) (λ v i l pl m pv same q.
-              least_before w v i l pl n.proper pv same (n.first v m) (subst (λ z. (i *ℤ z) <ℤ ((w.numerator *ℤ pos p.below) *ℤ pos l)) wd q)),
+                  least_before w v i l pl n.proper pv same (n.first v m) (subst (λ z. (i *ℤ z) <ℤ ((w.numerator *ℤ pos p.below) *ℤ pos l)) wd q)),
               subst₂ (λ y z. (r.numerator *ℤ pos p.below) *ℤ pos (unsigned_abs w.denominator) ≡ ((w.numerator *ℤ pos p.below) -ℤ y) *ℤ z) (sym (pos_mul (unsigned_abs w.denominator) p.below)) (sym (abs_positive r.denominator s.proper))
-              (subst (λ z. (r.numerator *ℤ pos p.below) *ℤ z ≡ ((w.numerator *ℤ pos p.below) -ℤ z *ℤ pos p.below) *ℤ r.denominator) (sym wd)
-              (one_less r.numerator w.numerator w.denominator r.denominator (pos p.below) s.value)),
+                  (subst (λ z. (r.numerator *ℤ pos p.below) *ℤ z ≡ ((w.numerator *ℤ pos p.below) -ℤ z *ℤ pos p.below) *ℤ r.denominator) (sym wd)
+                  (one_less r.numerator w.numerator w.denominator r.denominator (pos p.below) s.value)),
             ),
           )
 

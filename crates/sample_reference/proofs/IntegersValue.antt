@@ -1,19 +1,19 @@
 -- Over the integers the calculated value is the sample of the place.
-use Rattle.std.proofs.Common.{◌≡◌, ℕ, suc, zero, ◌*◌, ◌<◌, ◌≤◌, Bool, true, false, List, [], ◌∷◌, Option, Some, None, ◌⊎◌, inl, inr, ⊎_elim, refl, sym, ap, ◌∙◌, subst, subst₂, arith, nat_eq, if◌then◌else◌, unsigned_abs}
+use Rattle.std.proofs.Common.{◌≡◌, ℕ, suc, zero, ◌<◌, List, [], ◌∷◌, Option, Some, None, inl, inr, refl, sym, ap, ◌∙◌, subst, arith, nat_eq}
 use Rattle.std.proofs.Math.IntN.{ℤ, pos, negsuc, neg_ℤ, ◌+ℤ◌, ◌-ℤ◌, ◌*ℤ◌}
 use Rattle.std.specs.Prelude.{◌<ℤ◌, ◌≤ℤ◌}
 use Rattle.std.proofs.lemmas.Int.{ints}
 use Rattle.exact_numbers.specs.Limit.{checked}
-use Rattle.exact_numbers.specs.Divides.{Divides, IsGcd, IsFloor, floor_of, residue_of}
-use Rattle.exact_numbers.specs.Frac.{Frac, IsProper, IsLowest, whole_frac, ◌>>=◌}
-use Rattle.exact_numbers.proofs.Ring.{ring, mul_one, one_mul, zero_mul, mul_zero, mul_comm, neg_mul, mul_neg}
-use Rattle.exact_numbers.proofs.Order.{cancel_positive, cancel_less, mul_positive, mul_less, by_less, by_zero}
-use Rattle.exact_numbers.proofs.Divisibility.{divides_same, divides_along, divisor_at_most, divides_sub, divides_neg, neg_divides}
+use Rattle.exact_numbers.specs.Divides.{Divides, floor_of, residue_of}
+use Rattle.exact_numbers.specs.Frac.{Frac, IsProper, IsLowest, whole_frac}
+use Rattle.exact_numbers.proofs.Ring.{ring, mul_one, mul_zero, mul_comm, neg_mul}
+use Rattle.exact_numbers.proofs.Order.{cancel_positive, cancel_less, mul_less, by_less, by_zero}
+use Rattle.exact_numbers.proofs.Divisibility.{divides_same, divides_along, divisor_at_most, divides_sub, neg_divides}
 use Rattle.exact_numbers.proofs.Floor.{floor_is, residue_is, at_most_floor, from_at_most_floor}
 use Rattle.exact_numbers.proofs.FractionRule.{whole_lowest}
 use Rattle.exact_numbers.proofs.Limits.{checked_some}
-use Rattle.formula_meaning.specs.Context.{Context, Integers}
-use Rattle.formula_meaning.specs.Point.{Point, Of, move}
+use Rattle.formula_meaning.specs.Context.{Integers}
+use Rattle.formula_meaning.specs.Point.{Point, move}
 use Rattle.formula_meaning.specs.Every.{Every}
 use Rattle.formula_meaning.specs.Some.{Among, SomeOf, EachOf}
 use Rattle.formula_meaning.specs.Form.{Form, value, coefficient}
@@ -25,15 +25,15 @@ use Rattle.elimination_theory.specs.Atoms.{atoms_of}
 use Rattle.elimination_theory.specs.Substitution.{at_place}
 use Rattle.elimination_theory.specs.IntegersTheorems.{IsIntegerPlace}
 use Rattle.elimination_theory.proofs.Fractions.{less_at_most}
-use Rattle.elimination_theory.specs.IntegersSample.{IsPast, LiesBeyond, HasCriticalValue, ComesFirst, IsFarMember, IsClassSample, IsIntegerSample}
+use Rattle.elimination_theory.specs.IntegersSample.{IsPast, LiesBeyond, HasCriticalValue, IsClassSample, IsIntegerSample}
 use Rattle.elimination_theory.proofs.SomeListed.{each_among, every_of_atoms, atoms_of_every}
 use Rattle.elimination_reference.specs.PutIn.{tree_put}
 use Rattle.sample_reference.specs.Traced.{IsLower}
-use Rattle.sample_reference.specs.Calculated.{root_of, atom_root, critical_values, criticals, least_past, form_value, whole_below, class_member, class_below, place_value}
-use Rattle.sample_reference.proofs.SamePoints.{some_same, none_some, some_then, abs_positive}
+use Rattle.sample_reference.specs.Calculated.{atom_root, critical_values, criticals, least_past, form_value, whole_below, class_member, class_below, place_value}
+use Rattle.sample_reference.proofs.SamePoints.{some_same, none_some, some_then}
 use Rattle.sample_reference.proofs.Leasts.{AtMost, first_of, none_at_all}
-use Rattle.sample_reference.proofs.Critical.{Alone, line, IsRoot, root_is, root_there, roots_proper, from_atom, to_atom}
-use Rattle.sample_reference.proofs.FieldsValue.{IsFormValue, form_value_is, criticals_are}
+use Rattle.sample_reference.proofs.Critical.{Alone, line, root_is, root_there, roots_proper, from_atom, to_atom}
+use Rattle.sample_reference.proofs.FieldsValue.{form_value_is, criticals_are}
 
 -- ---- a whole number over a number
 
@@ -252,12 +252,14 @@ module _ (x : ℕ) (j : ℤ) (q : ℕ) (p : Point ℕ) (t : Tree) (pb : p.below 
           let n = first_of values w (roots_proper x p (atoms_of t)) f in
           let has = has_atom w n.among in
           let is : class_member j (pos (suc q)) m ≡ k = (checked_some (class_member j (pos (suc q)) m) k u).0 in
-          subst (λ (a : Frac). IsWholeValue a × IsClassSample x j (negsuc q) t p a.numerator) (ap whole_frac is ∙ some_same (whole_frac k) r y)
-          (whole (class_member j (pos (suc q)) m), inr (
-            has.critical,
-            (member_divides m, all_beyond w (class_member j (pos (suc q)) m) n.proper n.first (below_whole w.numerator w.denominator (class_member j (pos (suc q)) m) n.proper (member_at_most m))),
-            λ v other. member_first m v other.0 (whole_up w.numerator w.denominator v n.proper (has.below v other.1)),
-          )))
+          subst (λ (a : Frac). IsWholeValue a × IsClassSample x j (negsuc q) t p a.numerator) (ap whole_frac is ∙ some_same (whole_frac k) r y) (
+            whole (class_member j (pos (suc q)) m),
+            inr (
+              has.critical,
+              (member_divides m, all_beyond w (class_member j (pos (suc q)) m) n.proper n.first (below_whole w.numerator w.denominator (class_member j (pos (suc q)) m) n.proper (member_at_most m))),
+              λ v other. member_first m v other.0 (whole_up w.numerator w.denominator v n.proper (has.below v other.1)),
+            ),
+          ))
 
 -- ---- all places
 

@@ -1,11 +1,9 @@
 -- With the values found before put in, the calculated value of a name makes its branch true.
-use Rattle.std.proofs.Common.{◌≡◌, ℕ, suc, zero, ◌*◌, ◌<◌, Bool, true, false, List, [], ◌∷◌, Option, Some, None, ◌↔◌, refl, sym, ap, ◌∙◌, subst, subst₂, arith, nat_eq, eqb-true, if◌then◌else◌, unsigned_abs}
-use Rattle.std.proofs.Math.IntN.{ℤ, pos, negsuc, neg_ℤ, ◌+ℤ◌, ◌*ℤ◌}
-use Rattle.std.specs.Prelude.{◌<ℤ◌}
-use Rattle.std.proofs.lemmas.Int.{ints}
+use Rattle.std.proofs.Common.{◌≡◌, ℕ, ◌*◌, Bool, true, false, List, [], ◌∷◌, Some, ◌↔◌, refl, sym, ap, ◌∙◌, subst, nat_eq, eqb-true, if◌then◌else◌, unsigned_abs}
+use Rattle.std.proofs.Math.IntN.{ℤ, pos, ◌+ℤ◌, ◌*ℤ◌}
 use Rattle.exact_numbers.specs.Divides.{Divides}
 use Rattle.exact_numbers.specs.Frac.{Frac}
-use Rattle.exact_numbers.proofs.Ring.{ring, mul_add, mul_zero, mul_one, one_mul}
+use Rattle.exact_numbers.proofs.Ring.{ring, mul_add, mul_zero, one_mul}
 use Rattle.exact_numbers.proofs.Order.{by_zero}
 use Rattle.formula_meaning.specs.Context.{Context, Fields, Integers, Allowed}
 use Rattle.formula_meaning.specs.Point.{Point, Of, move}
@@ -14,13 +12,12 @@ use Rattle.formula_meaning.specs.Every.{Every}
 use Rattle.formula_meaning.specs.Some.{EachOf}
 use Rattle.formula_meaning.specs.Shape.{IsPlain, ArePlain, IsAtomic, is_in}
 use Rattle.formula_meaning.specs.Form.{Form, Term, multiple, coefficient}
-use Rattle.formula_meaning.specs.Atom.{Atom, Compare, Congruent, AtomIn, Mentions, form_of}
+use Rattle.formula_meaning.specs.Atom.{Atom, Compare, Congruent, AtomIn, form_of}
 use Rattle.formula_meaning.specs.Replaced.{replaced, all_replaced}
 use Rattle.formula_meaning.specs.Answer.{Place, Exact, AboveBy, BelowBy, PlusInfinity, MinusInfinity, Periodic, Holds}
 use Rattle.formula_meaning.specs.Tree.{Tree, Trees, TrueAt, InContext, IsFree}
 use Rattle.formula_meaning.proofs.EachAtom.{every_map, every_both, every_all}
 use Rattle.formula_meaning.proofs.ReplacedShape.{every_replaced}
-use Rattle.formula_meaning.proofs.TreeFiner.{allowed_positive}
 use Rattle.formula_meaning.proofs.TreeReplacing.{moved_of}
 use Rattle.formula_meaning.proofs.Values.{pos_mul}
 use Rattle.elimination_theory.specs.Substitution.{at_place}
@@ -40,7 +37,7 @@ use Rattle.elimination_reference.specs.PutIn.{terms_kept, form_put, atom_put, tr
 use Rattle.elimination_reference.proofs.PutIn.{Mixes, put_in_context, put_true, turn_equal, not_both}
 use Rattle.elimination_reference.proofs.Periods.{normal_keeps_periods}
 use Rattle.sample_reference.specs.Traced.{IsLower}
-use Rattle.sample_reference.specs.Values.{Value, IsValue}
+use Rattle.sample_reference.specs.Values.{IsValue}
 use Rattle.sample_reference.specs.Calculated.{place_value}
 use Rattle.sample_reference.proofs.SamePoints.{abs_above}
 use Rattle.sample_reference.proofs.Critical.{Alone}
@@ -212,7 +209,7 @@ one_value Fields s g p r o made t low h =
     let pm = abs_above r.denominator is.0 in (
       record { proper = is.0; lowest_terms = is.1; whole = tt },
       (put_same Fields x p o s.branch made.in_context (r.numerator *ℤ pos p.below) (unsigned_abs r.denominator) pm).1
-      (field_sample_is_true x s.place (tree_put Fields p (x ∷ []) s.branch) p (r.numerator *ℤ pos p.below) (unsigned_abs r.denominator) made.suits w.0 w.1 o pm is.2 (put_holds Fields x p o s g refl made t)),
+          (field_sample_is_true x s.place (tree_put Fields p (x ∷ []) s.branch) p (r.numerator *ℤ pos p.below) (unsigned_abs r.denominator) made.suits w.0 w.1 o pm is.2 (put_holds Fields x p o s g refl made t)),
     )
 one_value Integers s g p r o made t low h =
     let x = s.name in
@@ -221,8 +218,8 @@ one_value Integers s g p r o made t low h =
     let is = integer_sample x s.place s.branch p r o low made.suits.0 (put_names Integers x p s.branch made.is_plain made.in_context) holds h in
     let one : unsigned_abs r.denominator ≡ 1 = ap unsigned_abs is.0.one in
     let there : TrueAt Integers (tree_put Integers p (x ∷ []) s.branch) (move nat_eq p x (r.numerator *ℤ pos p.below) 1) =
-        integer_sample_is_true x s.place (tree_put Integers p (x ∷ []) s.branch) p (r.numerator *ℤ pos p.below) made.suits.0 (put_suits x s.place p s.branch o made.suits.0 made.is_plain made.in_context made.suits.1) w.0 o holds is.1 in (
+    integer_sample_is_true x s.place (tree_put Integers p (x ∷ []) s.branch) p (r.numerator *ℤ pos p.below) made.suits.0 (put_suits x s.place p s.branch o made.suits.0 made.is_plain made.in_context made.suits.1) w.0 o holds is.1 in (
       record { proper = is.0.proper; lowest_terms = is.0.lowest_terms; whole = is.0.one },
       (put_same Integers x p o s.branch made.in_context (r.numerator *ℤ pos p.below) (unsigned_abs r.denominator) one).1
-      (subst (λ (n : ℕ). TrueAt Integers (tree_put Integers p (x ∷ []) s.branch) (move nat_eq p x (r.numerator *ℤ pos p.below) n)) (sym one) there),
+          (subst (λ (n : ℕ). TrueAt Integers (tree_put Integers p (x ∷ []) s.branch) (move nat_eq p x (r.numerator *ℤ pos p.below) n)) (sym one) there),
     )

@@ -1,12 +1,12 @@
 -- Values put over one denominator make the rational point that they make one after the other.
-use Rattle.std.proofs.Common.{◌≡◌, ℕ, ◌*◌, ◌<◌, Bool, true, false, List, [], ◌∷◌, ◌++◌, Option, Some, None, refl, sym, ap, ◌∙◌, subst, arith, nat_eq, if◌then◌else◌, unsigned_abs, subst₂}
-use Rattle.std.proofs.Math.IntN.{ℤ, pos, negsuc, ◌*ℤ◌, ◌+ℤ◌}
+use Rattle.std.proofs.Common.{◌≡◌, ℕ, ◌*◌, ◌<◌, Bool, true, false, List, [], ◌∷◌, Option, Some, None, refl, sym, ap, ◌∙◌, subst, arith, nat_eq, if◌then◌else◌, unsigned_abs, subst₂}
+use Rattle.std.proofs.Math.IntN.{ℤ, pos, negsuc, ◌*ℤ◌}
 use Rattle.std.specs.Prelude.{◌<ℤ◌, int_div}
 use Rattle.std.proofs.lemmas.Int.{ints}
 use Rattle.exact_numbers.specs.Limit.{checked}
 use Rattle.exact_numbers.specs.Divides.{Divides, IsLcm, lcm_of, gcd_of, euclid}
 use Rattle.exact_numbers.specs.Frac.{Frac, IsProper, scaled, ◌>>=◌}
-use Rattle.exact_numbers.proofs.Ring.{ring, mul_comm, mul_assoc, mul_left_comm, mul_one, zero_mul}
+use Rattle.exact_numbers.proofs.Ring.{ring, mul_comm, mul_assoc, zero_mul}
 use Rattle.exact_numbers.proofs.Divisibility.{divides_trans, divides_same, divides_along}
 use Rattle.exact_numbers.proofs.LeastMultiple.{exact_div, lcm_is}
 use Rattle.exact_numbers.proofs.Limits.{checked_some}

@@ -1,8 +1,8 @@
 -- The reference sample is true.
-use Rattle.std.proofs.Common.{◌≡◌, ℕ, Bool, true, false, not, List, [], ◌∷◌, ◌++◌, Option, Some, None, ◌⊎◌, inl, inr, ⊎_elim, refl, sym, ap, ◌∙◌, subst, nat_eq, if◌then◌else◌}
+use Rattle.std.proofs.Common.{◌≡◌, ℕ, Bool, true, false, List, [], ◌∷◌, Option, Some, None, ◌⊎◌, inl, inr, ⊎_elim, refl, sym, ap, ◌∙◌, subst, nat_eq, if◌then◌else◌}
 use Rattle.formula_meaning.specs.Context.{Context}
 use Rattle.formula_meaning.specs.Point.{Point, Of}
-use Rattle.formula_meaning.specs.Formula.{Yes, No, One, Not, And, Or, Impl, Repl, Equiv, Ex, All, none, also}
+use Rattle.formula_meaning.specs.Formula.{Yes, No, One, Not, And, Or, Impl, Repl, Equiv, Ex, All}
 use Rattle.formula_meaning.specs.Every.{Every}
 use Rattle.formula_meaning.specs.Some.{EachOf}
 use Rattle.formula_meaning.specs.Sizes.{nodes}
@@ -16,21 +16,21 @@ use Rattle.atom_normal.specs.NormalForm.{IsNormal, normal_atom, negated_normal}
 use Rattle.atom_normal.proofs.NormalLaws.{normal_atomic}
 use Rattle.elimination_reference.specs.Measured.{Outcome, stopped, done, then_of, Gives, pay, within}
 use Rattle.elimination_reference.specs.Reference.{Branch, normal_tree, turned, branches}
-use Rattle.elimination_reference.specs.Cases.{case_sign, case_formula, case_matrix, case_names}
+use Rattle.elimination_reference.specs.Cases.{case_sign, case_formula, case_names}
 use Rattle.elimination_reference.specs.PutIn.{atom_put, tree_put, tree_put_within, put_in}
-use Rattle.elimination_reference.specs.Sample.{if_true, first_true, branches_at, chosen_steps}
+use Rattle.elimination_reference.specs.Sample.{if_true, first_true, branches_at}
 use Rattle.elimination_reference.specs.Theorems.{IsChoice}
-use Rattle.elimination_reference.proofs.Always.{Always, gives_then, gives_both, gives_map, always_then, always_pay, always_within}
-use Rattle.elimination_reference.proofs.Branches.{step_names, IsBranch, AreBranches}
+use Rattle.elimination_reference.proofs.Always.{gives_both, always_then, always_pay, always_within}
+use Rattle.elimination_reference.proofs.Branches.{step_names, IsBranch}
 use Rattle.elimination_reference.proofs.PutIn.{turn_equal, putting_in_exact}
-use Rattle.elimination_reference.proofs.PutMatrix.{put_shape, put_sign, Same, matrix_same}
+use Rattle.elimination_reference.proofs.PutMatrix.{put_shape, matrix_same}
 use Rattle.elimination_reference.proofs.Sample.{samples_exact}
 use Rattle.elimination_reference.proofs.Sound.{Good, branches_are}
 use Rattle.elimination_reference.proofs.Turning.{normal_inside, normal_tree_inside, turned_brings}
 use Rattle.sample_reference.specs.Traced.{IsLower, IsTraced}
-use Rattle.sample_reference.specs.Values.{Value, value_names, with_values, IsValue, origin}
+use Rattle.sample_reference.specs.Values.{Value, value_names, with_values}
 use Rattle.sample_reference.specs.Calculated.{values_from}
-use Rattle.sample_reference.specs.Sample.{evaluated, sampled, reference_sample, AreTrueValues, IsTrueSample}
+use Rattle.sample_reference.specs.Sample.{evaluated, sampled, AreTrueValues, IsTrueSample}
 use Rattle.sample_reference.specs.Theorems.{SampleIsTrue}
 use Rattle.sample_reference.proofs.SamePoints.{some_same, none_some, values_of_theory}
 use Rattle.sample_reference.proofs.Tracing.{FromOne, branches_from, lower_steps}
@@ -198,8 +198,8 @@ module _ (c : Context) (f : Tree) (p : Point ℕ) (n : Every (IsNormal c) f) (o 
       always_then (λ u. Unit {0}) Q (pay limit (nodes (normal_tree f))) _ (always_pay limit (nodes (normal_tree f))) (λ u v.
       always_then (λ u. Unit {0}) Q (within (tree_put_within c p [] (normal_tree f))) _ (always_within (tree_put_within c p [] (normal_tree f))) (λ u v.
       λ cost. gives_both (λ (r : List Branch × ℕ). Good c limit [] s (put_in c p f) r.0) (λ (r : List Branch × ℕ). FromOne c limit r.0) (branches c limit [] s (put_in c p f) cost)
-          (branches_are c limit [] s (put_in c p f) (put_shape c p o [] (normal_tree f) shape) (putting_in_exact c f p n o).normal cost)
-          (branches_from c limit [] s (put_in c p f) cost))) 0
+      (branches_are c limit [] s (put_in c p f) (put_shape c p o [] (normal_tree f) shape) (putting_in_exact c f p n o).normal cost)
+      (branches_from c limit [] s (put_in c p f) cost))) 0
 
   choice_is : (u : Option (List Step)) (cost : ℕ) → IsChoice c f p u → ((steps : List Step) → u ≡ Some steps → IsChosen c (matrix_of nat_eq asked Exists []) (block_of nat_eq asked Exists []) steps) → Gives (λ r. IsTrueSample c f p r.0) (sampled c cost u)
   choice_is None cost h k = h

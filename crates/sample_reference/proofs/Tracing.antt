@@ -1,16 +1,15 @@
 -- Each step of a branch is one of the lower side, and leaves the branch of the next.
-use Rattle.std.proofs.Common.{◌≡◌, ℕ, suc, zero, ◌+◌, ◌*◌, ◌/◌, Bool, true, false, ◌&&◌, List, [], ◌∷◌, ◌++◌, map, flat_map, refl, sym, ap, ◌∙◌, subst, nat_eq, if◌then◌else◌, arith}
-use Rattle.std.proofs.Math.IntN.{ℤ, pos, negsuc, neg_ℤ}
+use Rattle.std.proofs.Common.{◌≡◌, ℕ, suc, zero, ◌+◌, ◌*◌, ◌/◌, Bool, true, false, ◌&&◌, List, [], ◌∷◌, ◌++◌, map, flat_map, refl, sym, ap, ◌∙◌, nat_eq, if◌then◌else◌, arith}
+use Rattle.std.proofs.Math.IntN.{ℤ, pos, negsuc}
 use Rattle.formula_meaning.specs.Context.{Context, Fields, Integers}
-use Rattle.formula_meaning.specs.Formula.{Yes, No, One, Not, And, Or, Impl, Repl, Equiv, Ex, All, none, also}
+use Rattle.formula_meaning.specs.Formula.{Yes, No, One, Not, And, Or, Impl, Repl, Equiv, Ex, All}
 use Rattle.formula_meaning.specs.Some.{EachOf}
 use Rattle.formula_meaning.specs.Shape.{is_in}
 use Rattle.formula_meaning.specs.Sizes.{nodes}
-use Rattle.formula_meaning.specs.Fold.{Conjunction, Disjunction, fold_list}
 use Rattle.formula_meaning.specs.Form.{Form, coefficient, without}
 use Rattle.formula_meaning.specs.Atom.{Atom, Compare, Congruent, Relation, Equals, Differs, Below, AtMost, Above, AtLeast, mirrored}
-use Rattle.formula_meaning.specs.Answer.{Place, Periodic, same_place}
-use Rattle.formula_meaning.specs.Tree.{Tree, Trees}
+use Rattle.formula_meaning.specs.Answer.{Place, same_place}
+use Rattle.formula_meaning.specs.Tree.{Tree}
 use Rattle.elimination_theory.specs.Answers.{Step, zero_place}
 use Rattle.elimination_theory.specs.Atoms.{atoms_in, atoms_of}
 use Rattle.elimination_theory.specs.Side.{Lower}
@@ -24,7 +23,7 @@ use Rattle.elimination_reference.specs.Limits.{each, place_within, atom_within, 
 use Rattle.elimination_reference.specs.Measured.{Outcome, stopped, done, Gives, Counted, ◌>>=◌, give, pay, within}
 use Rattle.elimination_reference.specs.Reference.{Branch, stands_among, kept_at_zero, next_branch, alone, together, turned, point_count, full_step, one_step, steps, closed, branches, members}
 use Rattle.elimination_reference.proofs.Always.{Always, always_then, always_map, always_give, always_pay, always_within}
-use Rattle.sample_reference.specs.Traced.{IsLower, after_step, after_within, Leaves, Trace, IsTraced}
+use Rattle.sample_reference.specs.Traced.{IsLower, Leaves, Trace, IsTraced}
 
 -- ---- lists
 

@@ -1,5 +1,5 @@
 -- Values of names: the point that they make of another, and the numbers by which they are put over one denominator.
-use Rattle.std.specs.Prelude.{◌≡◌, ℕ, ◌<◌, ℤ, pos, ◌*ℤ◌, ◌<ℤ◌, Bool, List, [], ◌∷◌, Option, Some, None, nat_eq, unsigned_abs, if◌then◌else◌}
+use Rattle.std.specs.Prelude.{◌≡◌, ℕ, ℤ, pos, ◌*ℤ◌, Bool, List, [], ◌∷◌, Option, Some, None, nat_eq, unsigned_abs, if◌then◌else◌}
 use Rattle.exact_numbers.specs.Limit.{checked}
 use Rattle.exact_numbers.specs.Divides.{lcm_of}
 use Rattle.exact_numbers.specs.Frac.{Frac, IsProper, IsLowest, scaled, ◌>>=◌}
