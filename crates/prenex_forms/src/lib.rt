@@ -1,0 +1,8 @@
+//! Prenex forms of shared formulas.
+#![tactic(auto)]
+
+mod error;
+mod prenex;
+
+pub use error::PrenexError;
+pub use prenex::pnf;

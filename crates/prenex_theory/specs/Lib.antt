@@ -1,0 +1,5 @@
+pub mod Blocks
+pub mod Front
+pub mod Renaming
+pub mod NewNames
+pub mod Prenex
