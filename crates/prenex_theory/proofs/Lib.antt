@@ -1,3 +1,5 @@
 pub mod Blocks
 pub mod Fronts
+pub mod NamedAtoms
+pub mod Used
 mod Examples
