@@ -2,4 +2,5 @@ pub mod Blocks
 pub mod Fronts
 pub mod NamedAtoms
 pub mod Used
+pub mod Renamed
 mod Examples
