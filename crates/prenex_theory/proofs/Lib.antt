@@ -3,4 +3,5 @@ pub mod Fronts
 pub mod NamedAtoms
 pub mod Used
 pub mod Renamed
+pub mod RenamedTruth
 mod Examples

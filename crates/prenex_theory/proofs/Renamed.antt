@@ -22,10 +22,10 @@ use Rattle.prenex_theory.proofs.Fronts.{IsApart, AreApart}
 abbrev pub HasSortedForm : Atom → Type 0
 HasSortedForm a = IsSorted (form_of a)
 
-now_same : (now : ℕ → ℕ) (x y : ℕ) → with_now now x y x ≡ y
+pub now_same : (now : ℕ → ℕ) (x y : ℕ) → with_now now x y x ≡ y
 now_same now x y = ap (λ (b : Bool). if b then y else now x) (eq-eqb x x refl)
 
-now_other : (now : ℕ → ℕ) (x y z : ℕ) → ¬ (x ≡ z) → with_now now x y z ≡ now z
+pub now_other : (now : ℕ → ℕ) (x y z : ℕ) → ¬ (x ≡ z) → with_now now x y z ≡ now z
 now_other now x y z n = go (nat_eq x z) refl
   where
     go : (b : Bool) → nat_eq x z ≡ b → (if b then y else now z) ≡ now z
@@ -173,13 +173,13 @@ module _ (count : ℕ) (free : List ℕ) where
     pub used : (z : ℕ) → Free z → U s (now z)
     pub one : (y z : ℕ) → Free y → Free z → now y ≡ now z → y ≡ z
 
-  links_fewer : (P Q : ℕ → Type 0) (now : ℕ → ℕ) (s : Chosen) → ((z : ℕ) → Q z → P z) → Links P now s → Links Q now s
+  pub links_fewer : (P Q : ℕ → Type 0) (now : ℕ → ℕ) (s : Chosen) → ((z : ℕ) → Q z → P z) → Links P now s → Links Q now s
   links_fewer P Q now s f l = record { used = λ z t. l.used z (f z t); one = λ y z t u e. l.one y z (f y t) (f z u) e }
 
-  links_later : (P : ℕ → Type 0) (now : ℕ → ℕ) (f : Tree) (s : Chosen) → Links P now s → Links P now (after count free f s)
+  pub links_later : (P : ℕ → Type 0) (now : ℕ → ℕ) (f : Tree) (s : Chosen) → Links P now s → Links P now (after count free f s)
   links_later P now f s l = record { used = λ z t. stays f s (now z) (l.used z t); one = l.one }
 
-  links_under : (P : ℕ → Type 0) (now : ℕ → ℕ) (x : ℕ) (s : Chosen) → x < count → Links (λ z. ¬ (x ≡ z) × P z) now s → Links P (with_now now x (chosen_name count free x s)) (chosen count free x s)
+  pub links_under : (P : ℕ → Type 0) (now : ℕ → ℕ) (x : ℕ) (s : Chosen) → x < count → Links (λ z. ¬ (x ≡ z) × P z) now s → Links P (with_now now x (chosen_name count free x s)) (chosen count free x s)
   links_under P now x s b l = record {
     used = λ z t. elim (cases_eq x z) [
       | inl e ↦ subst (U (next x s)) (sym (ap (with_now now x (name x s)) (sym e) ∙ now_same now x (name x s))) (chosen_used count free x s b)
