@@ -4,4 +4,5 @@ pub mod NamedAtoms
 pub mod Used
 pub mod Renamed
 pub mod RenamedTruth
+pub mod AtomNames
 mod Examples

@@ -21,7 +21,7 @@ named_above x y (t ∷ ts) a (inl e) = subst (λ (z : ℕ). y < z) e a.0
 named_above x y (t ∷ ts) a (inr m) = named_above x y ts a.1 m
 
 -- so a name among them has a multiple
-named_multiple : (x : ℕ) (ts : List Term) → IsRising ts → AllNonzero ts → Among (names_of ts) x → ¬ (multiple x ts ≡ pos 0)
+pub named_multiple : (x : ℕ) (ts : List Term) → IsRising ts → AllNonzero ts → Among (names_of ts) x → ¬ (multiple x ts ≡ pos 0)
 named_multiple x [] r n m e = absurd m
 named_multiple x (t ∷ ts) r n (inl h) e = n.0 (sym (here x t ts h (subst (λ (z : ℕ). AllAbove z ts) h r.0)) ∙ e)
 named_multiple x (t ∷ ts) r n (inr m) e =
