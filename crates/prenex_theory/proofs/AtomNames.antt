@@ -1,7 +1,7 @@
 -- The normal form of a normal atom whose names are changed one to one loses no name.
-use Rattle.std.proofs.Common.{◌≡◌, ◌<◌, ◌≤◌, ℕ, Bool, true, false, not, List, [], ◌∷◌, map, inl, inr, ap, sym, ◌∙◌, subst, refl, arith, ◌↔◌, nat_eq, if◌then◌else◌}
-use Rattle.std.proofs.Math.IntN.{ℤ, pos, negsuc, neg_ℤ, ◌+ℤ◌, ◌-ℤ◌, ◌*ℤ◌}
-use Rattle.std.specs.Prelude.{◌<ℤ◌, ◌≤ℤ◌, int_div, unsigned_abs}
+use Rattle.std.proofs.Common.{◌≡◌, ◌<◌, ℕ, Bool, true, false, not, List, [], ◌∷◌, inl, inr, ap, sym, ◌∙◌, subst, refl, arith, if◌then◌else◌}
+use Rattle.std.proofs.Math.IntN.{ℤ, pos, negsuc, neg_ℤ, ◌-ℤ◌, ◌*ℤ◌}
+use Rattle.std.specs.Prelude.{◌<ℤ◌, ◌≤ℤ◌, int_div}
 use Rattle.std.specs.Ordering.{int_cmp, is_gt}
 use Rattle.std.proofs.lemmas.Int.{ints}
 use Rattle.std.proofs.lemmas.Bool.{cases_eq}
@@ -12,7 +12,7 @@ use Rattle.exact_numbers.proofs.Floor.{residue_is, residue_unique}
 use Rattle.exact_numbers.proofs.Contents.{content_is, content_unique}
 use Rattle.formula_meaning.specs.Context.{Context, Fields, Integers}
 use Rattle.formula_meaning.specs.Formula.{Yes, No, One}
-use Rattle.formula_meaning.specs.Form.{Form, Term, multiple, coefficient, scale, scaled}
+use Rattle.formula_meaning.specs.Form.{Form, Term, multiple, coefficient, scale}
 use Rattle.formula_meaning.specs.Sorted.{AllAbove, IsRising, AllNonzero, IsSorted, gathered}
 use Rattle.formula_meaning.specs.Some.{Among, EachOf}
 use Rattle.formula_meaning.specs.Atom.{Atom, Relation, Equals, Differs, Below, AtMost, Above, AtLeast, Compare, Congruent, Mentions, form_of}
@@ -21,16 +21,16 @@ use Rattle.formula_meaning.proofs.Sorted.{here, elsewhere, scale_sorted}
 use Rattle.formula_meaning.proofs.Coefficients.{coefficient_scale}
 use Rattle.formula_meaning.proofs.Gathered.{coefficient_gathered, constant_gathered, gathered_sorted}
 use Rattle.linear_forms.specs.Terms.{coefficients}
-use Rattle.linear_forms.specs.Reduction.{quotients, quotient, residues, residue_form, AllReduced}
+use Rattle.linear_forms.specs.Reduction.{quotients, quotient, residue_form, AllReduced}
 use Rattle.linear_forms.proofs.Reduced.{by_equal}
 use Rattle.linear_forms.proofs.Quotients.{quotient_one, one_quotient, multiple_quotients}
 use Rattle.linear_forms.proofs.Residues.{multiple_residues, residue_form_stays}
-use Rattle.atom_normal.specs.NormalForm.{constant_tree, first, turned, facing, compared_in_fields, bound, rounded, compared_over_integers, smaller, congruence, coprime_congruence, reduced_congruence, congruent, normal_atom, IsNormal, IsNormalCongruence}
+use Rattle.atom_normal.specs.NormalForm.{constant_tree, first, turned, facing, compared_in_fields, bound, rounded, compared_over_integers, smaller, congruence, coprime_congruence, reduced_congruence, congruent, normal_atom, IsNormal}
 use Rattle.atom_normal.proofs.Relations.{turned_nonzero, turned_divides_all, content_positive}
-use Rattle.atom_normal.proofs.Comparisons.{form, residue_one}
+use Rattle.atom_normal.proofs.Comparisons.{residue_one}
 use Rattle.atom_normal.proofs.Congruences.{congruence_coefficient}
 use Rattle.prenex_theory.specs.Renaming.{form_named, atom_named}
-use Rattle.prenex_theory.proofs.NamedAtoms.{names_of, IsOneToOne, among_mentions, named_multiple, image_mentioned, coefficient_named}
+use Rattle.prenex_theory.proofs.NamedAtoms.{names_of, IsOneToOne, among_mentions, named_above, named_multiple, image_mentioned, coefficient_named}
 
 -- ---- numbers of terms
 
@@ -48,17 +48,12 @@ module _ (P : ℤ → Type 0) where
       later (inl e) n = absurd (n e)
       later (inr k) n = k
 
-  among_above : (x y : ℕ) (ts : List Term) → AllAbove y ts → Among (names_of ts) x → y < x
-  among_above x y [] a m = absurd m
-  among_above x y (t ∷ ts) a (inl e) = subst (λ (z : ℕ). y < z) e a.0
-  among_above x y (t ∷ ts) a (inr m) = among_above x y ts a.1 m
-
   -- and the other way round
   to_terms : (ts : List Term) → IsRising ts → ((z : ℕ) → Among (names_of ts) z → P (multiple z ts)) → EachOf P (coefficients ts)
   to_terms [] r h = tt
   to_terms (t ∷ ts) r h = (
     subst P (here t.name t ts refl r.0) (h t.name (inl refl)),
-    to_terms ts r.1 (λ z m. let l = among_above z t.name ts r.0 m in subst P (elsewhere z t ts (λ (e : t.name ≡ z). omega arith)) (h z (inr m))),
+    to_terms ts r.1 (λ z m. let l = named_above z t.name ts r.0 m in subst P (elsewhere z t ts (λ (e : t.name ≡ z). omega arith)) (h z (inr m))),
   )
 
   -- each multiple of the second terms is one of the first
@@ -145,8 +140,11 @@ modulus_moved : (m : ℤ) (f s : Form) → IsMoved f s → content_of (m ∷ coe
 modulus_moved m f s i e = content_unique (content_is (m ∷ coefficients s.terms)) (record {
   not_negative = omega (arith, ints);
   divides = (one_divides m, ones (coefficients s.terms));
-  greatest = λ d h. subst (Divides d) e ((content_is (m ∷ coefficients f.terms)).greatest d (h.0, each_divides d (coefficients f.terms)
-      (carried (Divides d) s.terms f.terms i.sorted_too.rising i.sorted.rising i.back (divides_each d (coefficients s.terms) h.1))));
+  greatest = λ d h. subst (Divides d) e ((content_is (m ∷ coefficients f.terms)).greatest d (
+    h.0,
+    each_divides d (coefficients f.terms)
+        (carried (Divides d) s.terms f.terms i.sorted_too.rising i.sorted.rising i.back (divides_each d (coefficients s.terms) h.1)),
+  ));
 })
 
 reduced_moved : (m : ℤ) (f s : Form) → IsMoved f s → AllReduced m (f.constant ∷ coefficients f.terms) → AllReduced m (s.constant ∷ coefficients s.terms)
@@ -185,7 +183,7 @@ integers_keep r (t ∷ ts) c x z e n =
     let h = (content_is xs).divides in
     let d = turned t.times (content_of xs) in
     rounded_keep (facing t.times r) (content_of xs) (quotients d (t ∷ ts)) (turned t.times c) x e
-        (divided_keep d (t ∷ ts) x (turned_nonzero t.times (content_of xs) (content_positive xs t.times h.0 z.0)) (turned_divides_all t.times (content_of xs) xs h) n)
+    (divided_keep d (t ∷ ts) x (turned_nonzero t.times (content_of xs) (content_positive xs t.times h.0 z.0)) (turned_divides_all t.times (content_of xs) xs h) n)
 
 -- ---- congruences
 
@@ -209,8 +207,6 @@ module _ (m : ℤ) (p : pos 0 <ℤ m) (s : Form) (t : IsSorted s) (h : AllReduce
   unfolding coefficient residue_form scale
   smaller_keep x n = go (is_gt (int_cmp (first s.terms) (m -ℤ first s.terms)))
     where
-      opposite : Form
-      opposite = scale (negsuc 0) s
       go : (b : Bool) → ¬ (coefficient x (if b then residue_form (scale (negsuc 0) s) m else s) ≡ pos 0)
       go true e =
           let a = multiple_residues m p x (scale (negsuc 0) s).terms (scale_sorted (negsuc 0) s (λ (z : negsuc 0 ≡ pos 0). omega (arith, ints)) t).rising in
@@ -225,12 +221,12 @@ congruent_keep b m s x l t h e n =
     let k : int_div (pos m) (pos 1) ≡ pos m = one_quotient (pos m) in
     let q : quotient s (pos 1) ≡ s = quotient_one s in
     let same = ap (λ g. reduced_congruence b (pos m) (content_of (pos m ∷ coefficients g.terms)) g) (residue_form_stays (pos m) p s t h) ∙ ap (λ z. reduced_congruence b (pos m) z s) e
-        ∙ by_equal (λ t. (if t then coprime_congruence b (int_div (pos m) (pos 1)) (quotient s (pos 1)) else constant_tree (not b)) ≡ coprime_congruence b (pos m) s) (residue_of s.constant (pos 1)) (pos 0)
-            (λ _ i. coprime_congruence b (k i) (q i)) (λ z. absurd (z (residue_one s.constant))) in
+    ∙ by_equal (λ t. (if t then coprime_congruence b (int_div (pos m) (pos 1)) (quotient s (pos 1)) else constant_tree (not b)) ≡ coprime_congruence b (pos m) s) (residue_of s.constant (pos 1)) (pos 0)
+    (λ _ i. coprime_congruence b (k i) (q i)) (λ z. absurd (z (residue_one s.constant))) in
     subst (λ (f : Tree). IsFree f x) (sym same)
     (by_equal (λ t. IsFree (if t then constant_tree b else One (congruence b m (smaller (pos m) s))) x) (pos m) (pos 1)
-        (λ (z : pos m ≡ pos 1). absurd (omega (arith, ints)))
-        (λ _ z. smaller_keep (pos m) p s t h x n (sym (congruence_coefficient b m (smaller (pos m) s) x) ∙ z)))
+    (λ (z : pos m ≡ pos 1). absurd (omega (arith, ints)))
+    (λ _ z. smaller_keep (pos m) p s t h x n (sym (congruence_coefficient b m (smaller (pos m) s) x) ∙ z)))
 
 -- ---- atoms
 

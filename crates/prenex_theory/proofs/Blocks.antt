@@ -1,6 +1,6 @@
 -- The blocks of a formula are as many as blocks_from says, and none but the first is empty; where that one is empty, the other
 -- kind has fewer.
-use Rattle.std.proofs.Common.{◌≡◌, ◌<◌, ◌⊎◌, inl, inr, ℕ, zero, suc, max, List, [], ◌∷◌, ◌++◌, length, ap, ap₂, sym, ◌∙◌, subst, refl, arith}
+use Rattle.std.proofs.Common.{◌≡◌, ◌<◌, ◌⊎◌, inl, inr, ℕ, suc, max, List, [], ◌∷◌, ◌++◌, length, ap, ap₂, sym, ◌∙◌, subst, refl, arith}
 use Rattle.formula_meaning.specs.Formula.{Formula, Formulas, Yes, No, One, Not, And, Or, Impl, Repl, Equiv, Ex, All, none, also}
 use Rattle.formula_meaning.specs.Shape.{Quantifier, Exists, ForAll, blocks_from, most_blocks}
 use Rattle.prenex_theory.specs.Blocks.{other_kind, in_first, joined_blocks, blocks, blocks_of}
@@ -165,7 +165,7 @@ module _ {A N : Type 0} where
         let e = length_blocks f q in let g = length_blocks_of fs q in
         subst (λ n. BeginsFilled (joined_blocks (blocks f q) (blocks_of fs q)) ⊎ (max (blocks_from f (other_kind q)) (most_blocks fs (other_kind q)) < n)) (sym (length_joined (blocks f q) (blocks_of fs q)))
         (begins_joined (blocks f q) (blocks_of fs q) (blocks_from f (other_kind q)) (most_blocks fs (other_kind q))
-            (λ z. no_blocks f q (sym e ∙ z)) (λ z. no_blocks_of fs q (sym g ∙ z)) (begins f q) (begins_of fs q))
+        (λ z. no_blocks f q (sym e ∙ z)) (λ z. no_blocks_of fs q (sym g ∙ z)) (begins f q) (begins_of fs q))
 
   -- a kind that has no more blocks than the other has no empty one
   pub least_filled : (f : Formula A N) (q : Quantifier) → ¬ (blocks_from f (other_kind q) < blocks_from f q) → AreFilled (blocks f q)

@@ -1,11 +1,10 @@
 -- Prenex forms worked by hand.
 use Rattle.std.proofs.Common.{◌≡◌, ℕ, [], ◌∷◌, refl}
-use Rattle.std.proofs.Math.IntN.{ℤ, pos, negsuc}
+use Rattle.std.proofs.Math.IntN.{pos, negsuc}
 use Rattle.exact_numbers.specs.Divides.{content_of, gcd_of, euclid}
-use Rattle.formula_meaning.specs.Context.{Fields, Integers}
-use Rattle.formula_meaning.specs.Form.{Form, Term}
+use Rattle.formula_meaning.specs.Context.{Fields}
 use Rattle.formula_meaning.specs.Sorted.{gathered}
-use Rattle.formula_meaning.specs.Atom.{Atom, Relation, Below, AtMost, Above, Compare}
+use Rattle.formula_meaning.specs.Atom.{Relation, Below, Above, Compare}
 use Rattle.formula_meaning.specs.Formula.{Yes, One, And, Or, Ex, All, none, also}
 use Rattle.formula_meaning.specs.Tree.{Tree}
 use Rattle.linear_forms.specs.Reduction.{quotient}

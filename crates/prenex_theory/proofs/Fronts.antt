@@ -4,7 +4,7 @@ use Rattle.std.proofs.Common.{◌≡◌, ℕ, ◌⊎◌, inl, inr, ⊎_elim, ◌
 use Rattle.std.proofs.Math.IntN.{pos}
 use Rattle.formula_meaning.specs.Context.{Context}
 use Rattle.formula_meaning.specs.Point.{Point, Of, move}
-use Rattle.formula_meaning.specs.Formula.{Formula, Formulas, Yes, No, One, Not, And, Or, Impl, Repl, Equiv, Ex, All, none, also}
+use Rattle.formula_meaning.specs.Formula.{Yes, No, One, Not, And, Or, Impl, Repl, Equiv, Ex, All, none, also}
 use Rattle.formula_meaning.specs.Fold.{Junction, Conjunction, Disjunction, joined}
 use Rattle.formula_meaning.specs.Shape.{Quantifier, Exists, ForAll, IsNegationNormal, AreNegationNormal}
 use Rattle.formula_meaning.specs.Atom.{AtomIn, Mentions}
@@ -144,9 +144,9 @@ prefixes_joined c j q (b ∷ bs) (d ∷ ds) f g h i m n =
     let f1 = prefixed r bs f in let g1 = prefixed r ds g in let h1 = prefixed r (joined_blocks bs ds) h in
     let k = prefixes_joined c j r bs ds f g h i m.1 n.1 in
     let right = block_pulled c j q d g1 f1 h1 (turned_join c j f1 g1 h1 k)
-        (each_fewer (λ x. ¬ (IsFree f x)) (λ x. ¬ (IsFree f1 x)) (λ x u t. u (prefix_free r bs f x t)) d n.0) in
+    (each_fewer (λ x. ¬ (IsFree f x)) (λ x. ¬ (IsFree f1 x)) (λ x u t. u (prefix_free r bs f x t)) d n.0) in
     let left = block_pulled c j q b f1 (block q d g1) (block q d h1) (turned_join c j (block q d g1) f1 (block q d h1) right)
-        (each_fewer (λ x. ¬ (IsFree g x)) (λ x. ¬ (IsFree (block q d g1) x)) (λ x u t. u (prefix_free r ds g x (block_free q d g1 x t))) b m.0) in
+    (each_fewer (λ x. ¬ (IsFree g x)) (λ x. ¬ (IsFree (block q d g1) x)) (λ x u t. u (prefix_free r ds g x (block_free q d g1 x t))) b m.0) in
     subst (λ z. IsJoin c j (block q b f1) (block q d g1) z) (sym (block_append q b d h1)) left
 
 -- ---- formulas
@@ -186,7 +186,7 @@ module _ (K : ℕ → Type 0) where
 
   mutual
     -- the names of the blocks are those that are quantified
-    blocks_each : (f : Tree) (q : Quantifier) → EveryBound K f → EachOf (EachOf K) (blocks f q)
+    pub blocks_each : (f : Tree) (q : Quantifier) → EveryBound K f → EachOf (EachOf K) (blocks f q)
     blocks_each Yes q h = tt
     blocks_each No q h = tt
     blocks_each (One a) q h = tt
@@ -207,7 +207,7 @@ module _ (K : ℕ → Type 0) where
 
 module _ (c : Context) where
   mutual
-    matrix_in : (f : Tree) → InContext c f → InContext c (matrix f)
+    pub matrix_in : (f : Tree) → InContext c f → InContext c (matrix f)
     matrix_in Yes i = i
     matrix_in No i = i
     matrix_in (One a) i = i
@@ -292,7 +292,7 @@ module _ (c : Context) where
     fronts_same j (also f fs) q n i a =
         let m = joined j (matrices fs) in
         let behind = prefixes_joined c j q (blocks f q) (blocks_of fs q) (matrix f) m (joined j (matrices (also f fs))) (member_joins j (matrix f) (matrices fs) (matrix_in f i.0) (matrices_in fs i.1))
-            (fewer_each (λ x. ¬ (FreeInSome Mentions (matrices fs) x)) (λ x. ¬ (IsFree m x)) (λ x u t. u (joined_free j (matrices fs) x t)) (blocks f q) (blocks_each (λ x. ¬ (FreeInSome Mentions (matrices fs) x)) f q a.2))
-            (blocks_of_each (λ x. ¬ (IsFree (matrix f) x)) fs q a.3) in
+        (fewer_each (λ x. ¬ (FreeInSome Mentions (matrices fs) x)) (λ x. ¬ (IsFree m x)) (λ x u t. u (joined_free j (matrices fs) x t)) (blocks f q) (blocks_each (λ x. ¬ (FreeInSome Mentions (matrices fs) x)) f q a.2))
+        (blocks_of_each (λ x. ¬ (IsFree (matrix f) x)) fs q a.3) in
         same_joined j f (joined j fs) (joined j (also f fs)) (prefixed q (blocks f q) (matrix f)) (prefixed q (blocks_of fs q) m) (prefixed q (joined_blocks (blocks f q) (blocks_of fs q)) (joined j (matrices (also f fs))))
-            (member_joins j f fs i.0 i.1) behind (front_same f q n.0 i.0 a.0) (fronts_same j fs q n.1 i.1 a.1)
+        (member_joins j f fs i.0 i.1) behind (front_same f q n.0 i.0 a.0) (fronts_same j fs q n.1 i.1 a.1)

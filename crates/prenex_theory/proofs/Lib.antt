@@ -5,4 +5,6 @@ pub mod Used
 pub mod Renamed
 pub mod RenamedTruth
 pub mod AtomNames
+pub mod Shapes
+pub mod Whole
 mod Examples

@@ -15,7 +15,7 @@ abbrev pub names_of : List Term → List ℕ
 names_of ts = map (λ (t : Term). t.name) ts
 
 -- the names of sorted terms rise
-named_above : (x y : ℕ) (ts : List Term) → AllAbove y ts → Among (names_of ts) x → y < x
+pub named_above : (x y : ℕ) (ts : List Term) → AllAbove y ts → Among (names_of ts) x → y < x
 named_above x y [] a m = absurd m
 named_above x y (t ∷ ts) a (inl e) = subst (λ (z : ℕ). y < z) e a.0
 named_above x y (t ∷ ts) a (inr m) = named_above x y ts a.1 m

@@ -1,20 +1,15 @@
 -- A formula in negation normal form with its quantified names chosen: its names, its atoms, its blocks and its truth.
-use Rattle.std.proofs.Common.{◌≡◌, ◌<◌, ◌⊎◌, ℕ, suc, ◌+◌, ◌*◌, max, Bool, true, false, List, [], ◌∷◌, inl, inr, ⊎_elim, ap, ap₂, sym, ◌∙◌, subst, refl, arith, ◌↔◌, nat_eq, if◌then◌else◌}
-use Rattle.std.proofs.Math.IntN.{ℤ, pos, ◌*ℤ◌}
+use Rattle.std.proofs.Common.{◌≡◌, ◌<◌, ◌⊎◌, ℕ, Bool, true, false, List, inl, inr, ⊎_elim, ap, sym, ◌∙◌, subst, refl, nat_eq, if◌then◌else◌}
 use Rattle.std.proofs.lemmas.Bool.{eq-eqb, eqb-true, cases_eq}
-use Rattle.formula_meaning.specs.Context.{Context, Allowed}
-use Rattle.formula_meaning.specs.Point.{Point, Of, move, AgreeOn}
 use Rattle.formula_meaning.specs.Formula.{Yes, No, One, Not, And, Or, Impl, Repl, Equiv, Ex, All, none, also}
 use Rattle.formula_meaning.specs.Sorted.{IsSorted}
-use Rattle.formula_meaning.specs.Atom.{Atom, Says, Mentions, form_of}
+use Rattle.formula_meaning.specs.Atom.{Atom, Mentions, form_of}
 use Rattle.formula_meaning.specs.Every.{Every, EveryOf, EveryBound, EveryBoundOf, FreeInSome}
-use Rattle.formula_meaning.specs.Shape.{Quantifier, Exists, ForAll, IsNegationNormal, AreNegationNormal, blocks_from, most_blocks}
-use Rattle.formula_meaning.specs.Truth.{AllTrue, SomeTrue}
-use Rattle.formula_meaning.specs.Tree.{Tree, Trees, TrueAt, IsFree}
-use Rattle.formula_meaning.proofs.FreeNames.{atom_agrees, agree_sym, differ_names}
+use Rattle.formula_meaning.specs.Shape.{IsNegationNormal, AreNegationNormal}
+use Rattle.formula_meaning.specs.Tree.{Tree, Trees, IsFree}
 use Rattle.prenex_theory.specs.Blocks.{matrix, matrices}
-use Rattle.prenex_theory.specs.Renaming.{Chosen, chosen_name, chosen, after, after_all, renamed, all_renamed, with_now, atom_named}
-use Rattle.prenex_theory.proofs.NamedAtoms.{IsOneToOne, before, says_named, image_mentioned, mentioned_image}
+use Rattle.prenex_theory.specs.Renaming.{Chosen, chosen_name, chosen, after, after_all, renamed, all_renamed, with_now}
+use Rattle.prenex_theory.proofs.NamedAtoms.{image_mentioned}
 use Rattle.prenex_theory.proofs.Used.{Used, chosen_unused, used_stays, chosen_used}
 use Rattle.prenex_theory.proofs.Fronts.{IsApart, AreApart}
 
@@ -125,11 +120,11 @@ module _ (count : ℕ) (free : List ℕ) where
       matrix_names now (Ex x f) s n o b h k v t =
           let y = name x s in
           matrix_names (with_now now x y) f (next x s) n o b.1 (under now x y f h (k y (chosen_unused count free x s b.0) (stays f (next x s) y (chosen_used count free x s b.0))))
-              (λ w m u. k w (λ r. m (used_stays count free w x s r)) u) v t
+          (λ w m u. k w (λ r. m (used_stays count free w x s r)) u) v t
       matrix_names now (All x f) s n o b h k v t =
           let y = name x s in
           matrix_names (with_now now x y) f (next x s) n o b.1 (under now x y f h (k y (chosen_unused count free x s b.0) (stays f (next x s) y (chosen_used count free x s b.0))))
-              (λ w m u. k w (λ r. m (used_stays count free w x s r)) u) v t
+          (λ w m u. k w (λ r. m (used_stays count free w x s r)) u) v t
 
       pub matrices_names : (now : ℕ → ℕ) (fs : Trees) (s : Chosen) → AreNegationNormal fs → EveryOf HasSortedForm fs → EveryBoundOf (λ x. x < count) fs → ((z : ℕ) → FreeInSome Mentions fs z → K (now z)) →
           ((v : ℕ) → ¬ (U s v) → U (after_all count free fs s) v → K v) → (v : ℕ) → FreeInSome Mentions (matrices (all_renamed count free now fs s)) v → K v
@@ -162,10 +157,10 @@ module _ (count : ℕ) (free : List ℕ) where
           apart now f s n.0 o.0 b.0 (λ z t. h z (inl t)),
           all_apart now fs r n.1 o.1 b.1 (λ z t. stays f s (now z) (h z (inr t))),
           bound_chosen (λ x. ¬ (FreeInSome Mentions (matrices (puts now fs r)) x)) now f s n.0 b.0 (λ v m u t.
-            ⊎_elim (λ w. m w) (λ w. w u)
-                (matrices_names (λ w. U s w ⊎ ¬ (U r w)) now fs r n.1 o.1 b.1 (λ z w. inl (h z (inr w))) (λ w k l. inr k) v t)),
+              ⊎_elim (λ w. m w) (λ w. w u)
+              (matrices_names (λ w. U s w ⊎ ¬ (U r w)) now fs r n.1 o.1 b.1 (λ z w. inl (h z (inr w))) (λ w k l. inr k) v t)),
           bounds_chosen (λ x. ¬ (IsFree (matrix (put now f s)) x)) now fs r n.1 b.1 (λ v m u t.
-            m (matrix_names (U r) now f s n.0 o.0 b.0 (λ z w. stays f s (now z) (h z (inl w))) (λ w k l. l) v t)),
+              m (matrix_names (U r) now f s n.0 o.0 b.0 (λ z w. stays f s (now z) (h z (inl w))) (λ w k l. l) v t)),
         )
 
   -- the free names of a formula have used images, and no two have one
@@ -187,13 +182,13 @@ module _ (count : ℕ) (free : List ℕ) where
     ];
     one = λ w z t u e. elim (cases_eq x w) [
       | inl f ↦ elim (cases_eq x z) [
-          | inl g ↦ sym f ∙ g
-          | inr n ↦ absurd (fresh z (n, u) (sym (now_same now x (name x s)) ∙ ap (with_now now x (name x s)) f ∙ e ∙ now_other now x (name x s) z n))
-        ]
+        | inl g ↦ sym f ∙ g
+        | inr n ↦ absurd (fresh z (n, u) (sym (now_same now x (name x s)) ∙ ap (with_now now x (name x s)) f ∙ e ∙ now_other now x (name x s) z n))
+      ]
       | inr m ↦ elim (cases_eq x z) [
-          | inl g ↦ absurd (fresh w (m, t) (sym (now_same now x (name x s)) ∙ ap (with_now now x (name x s)) g ∙ sym e ∙ now_other now x (name x s) w m))
-          | inr n ↦ l.one w z (m, t) (n, u) (sym (now_other now x (name x s) w m) ∙ e ∙ now_other now x (name x s) z n)
-        ]
+        | inl g ↦ absurd (fresh w (m, t) (sym (now_same now x (name x s)) ∙ ap (with_now now x (name x s)) g ∙ sym e ∙ now_other now x (name x s) w m))
+        | inr n ↦ l.one w z (m, t) (n, u) (sym (now_other now x (name x s) w m) ∙ e ∙ now_other now x (name x s) z n)
+      ]
     ];
   }
     where

@@ -1,12 +1,12 @@
 -- A formula in negation normal form with its quantified names chosen has the images of the free names, and the truth of the
 -- formula at linked points; its blocks are as many, and its atoms are the atoms with other names.
-use Rattle.std.proofs.Common.{◌≡◌, ◌<◌, ◌⊎◌, ℕ, suc, ◌+◌, ◌*◌, max, Bool, true, false, List, [], ◌∷◌, inl, inr, ⊎_elim, ap, ap₂, sym, ◌∙◌, subst, refl, arith, ◌↔◌, nat_eq, if◌then◌else◌}
+use Rattle.std.proofs.Common.{◌≡◌, ◌<◌, ℕ, suc, ◌*◌, max, Bool, true, false, List, inl, inr, ⊎_elim, ap, ap₂, sym, ◌∙◌, subst, refl, ◌↔◌, nat_eq, if◌then◌else◌}
 use Rattle.std.proofs.Math.IntN.{ℤ, pos, ◌*ℤ◌}
 use Rattle.std.proofs.lemmas.Bool.{eq-eqb, eqb-true, cases_eq}
-use Rattle.formula_meaning.specs.Context.{Context, Allowed}
-use Rattle.formula_meaning.specs.Point.{Point, Of, move, AgreeOn}
+use Rattle.formula_meaning.specs.Context.{Context}
+use Rattle.formula_meaning.specs.Point.{Point, move, AgreeOn}
 use Rattle.formula_meaning.specs.Formula.{Yes, No, One, Not, And, Or, Impl, Repl, Equiv, Ex, All, none, also}
-use Rattle.formula_meaning.specs.Atom.{Atom, Says, Mentions, form_of}
+use Rattle.formula_meaning.specs.Atom.{Atom, Says, Mentions}
 use Rattle.formula_meaning.specs.Every.{Every, EveryOf, EveryBound, EveryBoundOf, FreeInSome}
 use Rattle.formula_meaning.specs.Shape.{Quantifier, Exists, ForAll, IsNegationNormal, AreNegationNormal, blocks_from, most_blocks}
 use Rattle.formula_meaning.specs.Truth.{AllTrue, SomeTrue}
@@ -15,7 +15,7 @@ use Rattle.formula_meaning.proofs.FreeNames.{atom_agrees, agree_sym}
 use Rattle.prenex_theory.specs.Renaming.{Chosen, chosen_name, chosen, after, after_all, renamed, all_renamed, with_now, atom_named}
 use Rattle.prenex_theory.proofs.NamedAtoms.{IsOneToOne, before, says_named, image_mentioned, mentioned_image}
 use Rattle.prenex_theory.proofs.Used.{Used, chosen_unused}
-use Rattle.prenex_theory.proofs.Renamed.{HasSortedForm, Links, links_fewer, links_later, links_under, now_same, now_other, stays, stays_all}
+use Rattle.prenex_theory.proofs.Renamed.{HasSortedForm, Links, links_fewer, links_later, links_under, now_same, now_other, stays_all}
 
 module _ (count : ℕ) (free : List ℕ) where
   abbrev name : ℕ → Chosen → ℕ
@@ -146,11 +146,11 @@ module _ (count : ℕ) (free : List ℕ) where
       renamed_truth now (Equiv f g) s p q n b l i = absurd n
       renamed_truth now (Ex x f) s p q n b l i =
           let deep = λ (k : ℤ) (m : ℕ). renamed_truth (with_now now x (name x s)) f (next x s) (move nat_eq p x k m) (move nat_eq q (name x s) k m) n b.1
-              (links_under count free (IsFree f) now x s b.0 l) (linked_under (IsFree f) now x s p q k m b.0 l i) in
+          (links_under count free (IsFree f) now x s b.0 l) (linked_under (IsFree f) now x s p q k m b.0 l i) in
           (λ t. (t.0, t.1, t.2, (deep t.0 t.1).0 t.3), λ t. (t.0, t.1, t.2, (deep t.0 t.1).1 t.3))
       renamed_truth now (All x f) s p q n b l i =
           let deep = λ (k : ℤ) (m : ℕ). renamed_truth (with_now now x (name x s)) f (next x s) (move nat_eq p x k m) (move nat_eq q (name x s) k m) n b.1
-              (links_under count free (IsFree f) now x s b.0 l) (linked_under (IsFree f) now x s p q k m b.0 l i) in
+          (links_under count free (IsFree f) now x s b.0 l) (linked_under (IsFree f) now x s p q k m b.0 l i) in
           (λ t k m a. (deep k m).0 (t k m a), λ t k m a. (deep k m).1 (t k m a))
 
       all_renamed_truth : (now : ℕ → ℕ) (fs : Trees) (s : Chosen) (p q : Point ℕ) → AreNegationNormal fs → EveryBoundOf (λ x. x < count) fs → Links count free (λ z. FreeInSome Mentions fs z) now s →

@@ -1,6 +1,6 @@
 -- Which names are used before a place of the text: those that are free in the whole, quantified at an earlier place, or new.
-use Rattle.std.proofs.Common.{◌≡◌, ◌<◌, ◌≤◌, ◌⊎◌, ℕ, suc, ◌+◌, Bool, true, false, List, [], ◌∷◌, inl, inr, ⊎_elim, ap, sym, ◌∙◌, subst, refl, arith, nat_eq, if◌then◌else◌}
-use Rattle.std.proofs.lemmas.Bool.{eq-eqb, eqb-true}
+use Rattle.std.proofs.Common.{◌≡◌, ◌<◌, ◌≤◌, ◌⊎◌, ℕ, suc, ◌+◌, Bool, true, false, List, inl, inr, refl, arith, nat_eq, if◌then◌else◌}
+use Rattle.std.proofs.lemmas.Bool.{eq-eqb}
 use Rattle.formula_meaning.specs.Shape.{is_in}
 use Rattle.prenex_theory.specs.Renaming.{Chosen, is_taken, chosen_name, chosen}
 
@@ -51,6 +51,7 @@ module _ (count : ℕ) (free : List ℕ) where
           in_front true d e = refl
           in_front false true e = refl
           in_front false false e = absurd (cc)
+
       go : (b : Bool) → (((if b then count + s.made else x) < count) × (is_taken count free (if b then count + s.made else x) (chosen count free x s) ≡ true)) ⊎ ((count ≤ (if b then count + s.made else x)) × ((if b then count + s.made else x) < count + (if b then suc s.made else s.made)))
       go true = inr (omega arith, omega arith)
       go false = inl (l, first_taken)

@@ -1,7 +1,7 @@
 -- The prenex form of a formula, and what is proved of it.
-use Rattle.std.specs.Prelude.{◌≡◌, ◌⊎◌, ℕ, ◌+◌, ◌<◌, ◌↔◌}
+use Rattle.std.specs.Prelude.{◌≡◌, ℕ, ◌+◌, ◌<◌, ◌↔◌}
 use Rattle.formula_meaning.specs.Context.{Context}
-use Rattle.formula_meaning.specs.Atom.{Atom, Mentions}
+use Rattle.formula_meaning.specs.Atom.{Mentions}
 use Rattle.formula_meaning.specs.Every.{Every, EveryBound}
 use Rattle.formula_meaning.specs.Replaced.{replaced}
 use Rattle.formula_meaning.specs.Shape.{IsNegationNormal, IsPrenex, fewest_blocks}

@@ -1,6 +1,6 @@
 -- Quantified names that clash get new ones.
-use Rattle.std.specs.Prelude.{ℕ, suc, ◌+◌, Bool, true, List, [], ◌∷◌, map, nat_eq, if◌then◌else◌}
-use Rattle.formula_meaning.specs.Formula.{Yes, No, One, Not, And, Or, Impl, Repl, Equiv, Ex, All, none, also}
+use Rattle.std.specs.Prelude.{ℕ, suc, ◌+◌, Bool, true, List, [], ◌∷◌, nat_eq, if◌then◌else◌}
+use Rattle.formula_meaning.specs.Formula.{One, And, Or, Ex, All, none, also}
 use Rattle.formula_meaning.specs.Form.{Form, Term}
 use Rattle.formula_meaning.specs.Atom.{Atom, Compare, Congruent}
 use Rattle.formula_meaning.specs.Shape.{is_in}
