@@ -27,28 +27,28 @@ now_other now x y z n = go (nat_eq x z) refl
     go true e = absurd (n (eqb-true x z e))
     go false e = refl
 
-module _ (count : ℕ) (free : List ℕ) where
+module _ (count : ℕ) where
   abbrev U : Chosen → ℕ → Type 0
-  U s v = Used count free s v
+  U s v = Used count s v
 
   abbrev name : ℕ → Chosen → ℕ
-  name x s = chosen_name count free x s
+  name x s = chosen_name count x s
 
   abbrev next : ℕ → Chosen → Chosen
-  next x s = chosen count free x s
+  next x s = chosen count x s
 
   abbrev then_after : Tree → Chosen → Chosen
-  then_after f s = after count free f s
+  then_after f s = after count f s
 
   abbrev put : (ℕ → ℕ) → Tree → Chosen → Tree
-  put now f s = renamed count free now f s
+  put now f s = renamed count now f s
 
   abbrev puts : (ℕ → ℕ) → Trees → Chosen → Trees
-  puts now fs s = all_renamed count free now fs s
+  puts now fs s = all_renamed count now fs s
 
   mutual
     -- what is used stays used
-    pub stays : (f : Tree) (s : Chosen) (v : ℕ) → U s v → U (after count free f s) v
+    pub stays : (f : Tree) (s : Chosen) (v : ℕ) → U s v → U (after count f s) v
     stays Yes s v u = u
     stays No s v u = u
     stays (One a) s v u = u
@@ -58,10 +58,10 @@ module _ (count : ℕ) (free : List ℕ) where
     stays (Impl f g) s v u = u
     stays (Repl f g) s v u = u
     stays (Equiv f g) s v u = u
-    stays (Ex x f) s v u = stays f (next x s) v (used_stays count free v x s u)
-    stays (All x f) s v u = stays f (next x s) v (used_stays count free v x s u)
+    stays (Ex x f) s v u = stays f (next x s) v (used_stays count v x s u)
+    stays (All x f) s v u = stays f (next x s) v (used_stays count v x s u)
 
-    pub stays_all : (fs : Trees) (s : Chosen) (v : ℕ) → U s v → U (after_all count free fs s) v
+    pub stays_all : (fs : Trees) (s : Chosen) (v : ℕ) → U s v → U (after_all count fs s) v
     stays_all none s v u = u
     stays_all (also f fs) s v u = stays_all fs (then_after f s) v (stays f s v u)
 
@@ -70,7 +70,7 @@ module _ (count : ℕ) (free : List ℕ) where
   module _ (K : ℕ → Type 0) where
     mutual
       -- each quantified name was not used, and is used afterwards
-      pub bound_chosen : (now : ℕ → ℕ) (f : Tree) (s : Chosen) → IsNegationNormal f → EveryBound (λ x. x < count) f → ((v : ℕ) → ¬ (U s v) → U (after count free f s) v → K v) → EveryBound K (renamed count free now f s)
+      pub bound_chosen : (now : ℕ → ℕ) (f : Tree) (s : Chosen) → IsNegationNormal f → EveryBound (λ x. x < count) f → ((v : ℕ) → ¬ (U s v) → U (after count f s) v → K v) → EveryBound K (renamed count now f s)
       bound_chosen now Yes s n b k = tt
       bound_chosen now No s n b k = tt
       bound_chosen now (One a) s n b k = tt
@@ -81,15 +81,15 @@ module _ (count : ℕ) (free : List ℕ) where
       bound_chosen now (Repl f g) s n b k = absurd n
       bound_chosen now (Equiv f g) s n b k = absurd n
       bound_chosen now (Ex x f) s n b k = (
-        k (name x s) (chosen_unused count free x s b.0) (stays f (next x s) (name x s) (chosen_used count free x s b.0)),
-        bound_chosen (with_now now x (name x s)) f (next x s) n b.1 (λ v m u. k v (λ w. m (used_stays count free v x s w)) u),
+        k (name x s) (chosen_unused count x s b.0) (stays f (next x s) (name x s) (chosen_used count x s b.0)),
+        bound_chosen (with_now now x (name x s)) f (next x s) n b.1 (λ v m u. k v (λ w. m (used_stays count v x s w)) u),
       )
       bound_chosen now (All x f) s n b k = (
-        k (name x s) (chosen_unused count free x s b.0) (stays f (next x s) (name x s) (chosen_used count free x s b.0)),
-        bound_chosen (with_now now x (name x s)) f (next x s) n b.1 (λ v m u. k v (λ w. m (used_stays count free v x s w)) u),
+        k (name x s) (chosen_unused count x s b.0) (stays f (next x s) (name x s) (chosen_used count x s b.0)),
+        bound_chosen (with_now now x (name x s)) f (next x s) n b.1 (λ v m u. k v (λ w. m (used_stays count v x s w)) u),
       )
 
-      pub bounds_chosen : (now : ℕ → ℕ) (fs : Trees) (s : Chosen) → AreNegationNormal fs → EveryBoundOf (λ x. x < count) fs → ((v : ℕ) → ¬ (U s v) → U (after_all count free fs s) v → K v) → EveryBoundOf K (all_renamed count free now fs s)
+      pub bounds_chosen : (now : ℕ → ℕ) (fs : Trees) (s : Chosen) → AreNegationNormal fs → EveryBoundOf (λ x. x < count) fs → ((v : ℕ) → ¬ (U s v) → U (after_all count fs s) v → K v) → EveryBoundOf K (all_renamed count now fs s)
       bounds_chosen now none s n b k = tt
       bounds_chosen now (also f fs) s n b k = (
         bound_chosen now f s n.0 b.0 (λ v m u. k v m (stays_all fs (then_after f s) v u)),
@@ -107,7 +107,7 @@ module _ (count : ℕ) (free : List ℕ) where
     mutual
       -- each name of the matrix is the image of a free name, or a quantified one
       pub matrix_names : (now : ℕ → ℕ) (f : Tree) (s : Chosen) → IsNegationNormal f → Every HasSortedForm f → EveryBound (λ x. x < count) f → ((z : ℕ) → IsFree f z → K (now z)) →
-          ((v : ℕ) → ¬ (U s v) → U (after count free f s) v → K v) → (v : ℕ) → IsFree (matrix (renamed count free now f s)) v → K v
+          ((v : ℕ) → ¬ (U s v) → U (after count f s) v → K v) → (v : ℕ) → IsFree (matrix (renamed count now f s)) v → K v
       matrix_names now Yes s n o b h k v t = absurd t
       matrix_names now No s n o b h k v t = absurd t
       matrix_names now (One a) s n o b h k v t = let i = image_mentioned now a v o t in subst K i.2 (h i.0 i.1)
@@ -119,15 +119,15 @@ module _ (count : ℕ) (free : List ℕ) where
       matrix_names now (Equiv f g) s n o b h k v t = absurd n
       matrix_names now (Ex x f) s n o b h k v t =
           let y = name x s in
-          matrix_names (with_now now x y) f (next x s) n o b.1 (under now x y f h (k y (chosen_unused count free x s b.0) (stays f (next x s) y (chosen_used count free x s b.0))))
-          (λ w m u. k w (λ r. m (used_stays count free w x s r)) u) v t
+          matrix_names (with_now now x y) f (next x s) n o b.1 (under now x y f h (k y (chosen_unused count x s b.0) (stays f (next x s) y (chosen_used count x s b.0))))
+          (λ w m u. k w (λ r. m (used_stays count w x s r)) u) v t
       matrix_names now (All x f) s n o b h k v t =
           let y = name x s in
-          matrix_names (with_now now x y) f (next x s) n o b.1 (under now x y f h (k y (chosen_unused count free x s b.0) (stays f (next x s) y (chosen_used count free x s b.0))))
-          (λ w m u. k w (λ r. m (used_stays count free w x s r)) u) v t
+          matrix_names (with_now now x y) f (next x s) n o b.1 (under now x y f h (k y (chosen_unused count x s b.0) (stays f (next x s) y (chosen_used count x s b.0))))
+          (λ w m u. k w (λ r. m (used_stays count w x s r)) u) v t
 
       pub matrices_names : (now : ℕ → ℕ) (fs : Trees) (s : Chosen) → AreNegationNormal fs → EveryOf HasSortedForm fs → EveryBoundOf (λ x. x < count) fs → ((z : ℕ) → FreeInSome Mentions fs z → K (now z)) →
-          ((v : ℕ) → ¬ (U s v) → U (after_all count free fs s) v → K v) → (v : ℕ) → FreeInSome Mentions (matrices (all_renamed count free now fs s)) v → K v
+          ((v : ℕ) → ¬ (U s v) → U (after_all count fs s) v → K v) → (v : ℕ) → FreeInSome Mentions (matrices (all_renamed count now fs s)) v → K v
       matrices_names now none s n o b h k v t = absurd t
       matrices_names now (also f fs) s n o b h k v t = ⊎_elim
           (matrix_names now f s n.0 o.0 b.0 (λ z u. h z (inl u)) (λ w m u. k w m (stays_all fs (then_after f s) w u)) v)
@@ -135,7 +135,7 @@ module _ (count : ℕ) (free : List ℕ) where
 
   -- each free name has a used image, so a quantified name does not capture it
   mutual
-    pub apart : (now : ℕ → ℕ) (f : Tree) (s : Chosen) → IsNegationNormal f → Every HasSortedForm f → EveryBound (λ x. x < count) f → ((z : ℕ) → IsFree f z → U s (now z)) → IsApart (renamed count free now f s)
+    pub apart : (now : ℕ → ℕ) (f : Tree) (s : Chosen) → IsNegationNormal f → Every HasSortedForm f → EveryBound (λ x. x < count) f → ((z : ℕ) → IsFree f z → U s (now z)) → IsApart (renamed count now f s)
     apart now Yes s n o b h = tt
     apart now No s n o b h = tt
     apart now (One a) s n o b h = tt
@@ -146,11 +146,11 @@ module _ (count : ℕ) (free : List ℕ) where
     apart now (Repl f g) s n o b h = absurd n
     apart now (Equiv f g) s n o b h = absurd n
     apart now (Ex x f) s n o b h =
-        apart (with_now now x (name x s)) f (next x s) n o b.1 (under (U (next x s)) now x (name x s) f (λ z t. used_stays count free (now z) x s (h z t)) (chosen_used count free x s b.0))
+        apart (with_now now x (name x s)) f (next x s) n o b.1 (under (U (next x s)) now x (name x s) f (λ z t. used_stays count (now z) x s (h z t)) (chosen_used count x s b.0))
     apart now (All x f) s n o b h =
-        apart (with_now now x (name x s)) f (next x s) n o b.1 (under (U (next x s)) now x (name x s) f (λ z t. used_stays count free (now z) x s (h z t)) (chosen_used count free x s b.0))
+        apart (with_now now x (name x s)) f (next x s) n o b.1 (under (U (next x s)) now x (name x s) f (λ z t. used_stays count (now z) x s (h z t)) (chosen_used count x s b.0))
 
-    pub all_apart : (now : ℕ → ℕ) (fs : Trees) (s : Chosen) → AreNegationNormal fs → EveryOf HasSortedForm fs → EveryBoundOf (λ x. x < count) fs → ((z : ℕ) → FreeInSome Mentions fs z → U s (now z)) → AreApart (all_renamed count free now fs s)
+    pub all_apart : (now : ℕ → ℕ) (fs : Trees) (s : Chosen) → AreNegationNormal fs → EveryOf HasSortedForm fs → EveryBoundOf (λ x. x < count) fs → ((z : ℕ) → FreeInSome Mentions fs z → U s (now z)) → AreApart (all_renamed count now fs s)
     all_apart now none s n o b h = tt
     all_apart now (also f fs) s n o b h =
         let r = then_after f s in (
@@ -171,14 +171,14 @@ module _ (count : ℕ) (free : List ℕ) where
   pub links_fewer : (P Q : ℕ → Type 0) (now : ℕ → ℕ) (s : Chosen) → ((z : ℕ) → Q z → P z) → Links P now s → Links Q now s
   links_fewer P Q now s f l = record { used = λ z t. l.used z (f z t); one = λ y z t u e. l.one y z (f y t) (f z u) e }
 
-  pub links_later : (P : ℕ → Type 0) (now : ℕ → ℕ) (f : Tree) (s : Chosen) → Links P now s → Links P now (after count free f s)
+  pub links_later : (P : ℕ → Type 0) (now : ℕ → ℕ) (f : Tree) (s : Chosen) → Links P now s → Links P now (after count f s)
   links_later P now f s l = record { used = λ z t. stays f s (now z) (l.used z t); one = l.one }
 
-  pub links_under : (P : ℕ → Type 0) (now : ℕ → ℕ) (x : ℕ) (s : Chosen) → x < count → Links (λ z. ¬ (x ≡ z) × P z) now s → Links P (with_now now x (chosen_name count free x s)) (chosen count free x s)
+  pub links_under : (P : ℕ → Type 0) (now : ℕ → ℕ) (x : ℕ) (s : Chosen) → x < count → Links (λ z. ¬ (x ≡ z) × P z) now s → Links P (with_now now x (chosen_name count x s)) (chosen count x s)
   links_under P now x s b l = record {
     used = λ z t. elim (cases_eq x z) [
-      | inl e ↦ subst (U (next x s)) (sym (ap (with_now now x (name x s)) (sym e) ∙ now_same now x (name x s))) (chosen_used count free x s b)
-      | inr n ↦ subst (U (next x s)) (sym (now_other now x (name x s) z n)) (used_stays count free (now z) x s (l.used z (n, t)))
+      | inl e ↦ subst (U (next x s)) (sym (ap (with_now now x (name x s)) (sym e) ∙ now_same now x (name x s))) (chosen_used count x s b)
+      | inr n ↦ subst (U (next x s)) (sym (now_other now x (name x s) z n)) (used_stays count (now z) x s (l.used z (n, t)))
     ];
     one = λ w z t u e. elim (cases_eq x w) [
       | inl f ↦ elim (cases_eq x z) [
@@ -192,5 +192,5 @@ module _ (count : ℕ) (free : List ℕ) where
     ];
   }
     where
-      fresh : (z : ℕ) → ¬ (x ≡ z) × P z → ¬ (chosen_name count free x s ≡ now z)
-      fresh z t e = chosen_unused count free x s b (subst (U s) (sym e) (l.used z t))
+      fresh : (z : ℕ) → ¬ (x ≡ z) × P z → ¬ (chosen_name count x s ≡ now z)
+      fresh z t e = chosen_unused count x s b (subst (U s) (sym e) (l.used z t))

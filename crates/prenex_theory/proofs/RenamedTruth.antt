@@ -17,16 +17,16 @@ use Rattle.prenex_theory.proofs.NamedAtoms.{IsOneToOne, before, says_named, imag
 use Rattle.prenex_theory.proofs.Used.{Used, chosen_unused}
 use Rattle.prenex_theory.proofs.Renamed.{HasSortedForm, Links, links_fewer, links_later, links_under, now_same, now_other, stays_all}
 
-module _ (count : ℕ) (free : List ℕ) where
+module _ (count : ℕ) where
   abbrev name : ℕ → Chosen → ℕ
-  name x s = chosen_name count free x s
+  name x s = chosen_name count x s
 
   abbrev next : ℕ → Chosen → Chosen
-  next x s = chosen count free x s
+  next x s = chosen count x s
 
   -- the chosen name is the image of no free name
-  fresh : (P : ℕ → Type 0) (now : ℕ → ℕ) (x : ℕ) (s : Chosen) → x < count → Links count free (λ z. ¬ (x ≡ z) × P z) now s → (z : ℕ) → ¬ (x ≡ z) × P z → ¬ (name x s ≡ now z)
-  fresh P now x s b l z t e = chosen_unused count free x s b (subst (Used count free s) (sym e) (l.used z t))
+  fresh : (P : ℕ → Type 0) (now : ℕ → ℕ) (x : ℕ) (s : Chosen) → x < count → Links count (λ z. ¬ (x ≡ z) × P z) now s → (z : ℕ) → ¬ (x ≡ z) × P z → ¬ (name x s ≡ now z)
+  fresh P now x s b l z t e = chosen_unused count x s b (subst (Used count s) (sym e) (l.used z t))
 
   -- ---- free names
 
@@ -39,7 +39,7 @@ module _ (count : ℕ) (free : List ℕ) where
 
   mutual
     -- each free name is the image of one
-    pub free_image : (now : ℕ → ℕ) (f : Tree) (s : Chosen) (v : ℕ) → IsNegationNormal f → Every HasSortedForm f → IsFree (renamed count free now f s) v → (z : ℕ) × IsFree f z × (now z ≡ v)
+    pub free_image : (now : ℕ → ℕ) (f : Tree) (s : Chosen) (v : ℕ) → IsNegationNormal f → Every HasSortedForm f → IsFree (renamed count now f s) v → (z : ℕ) × IsFree f z × (now z ≡ v)
     free_image now Yes s v n o t = absurd t
     free_image now No s v n o t = absurd t
     free_image now (One a) s v n o t = image_mentioned now a v o t
@@ -52,26 +52,26 @@ module _ (count : ℕ) (free : List ℕ) where
     free_image now (Ex x f) s v n o t = uncaptured now x (name x s) v f t.0 (free_image (with_now now x (name x s)) f (next x s) v n o t.1)
     free_image now (All x f) s v n o t = uncaptured now x (name x s) v f t.0 (free_image (with_now now x (name x s)) f (next x s) v n o t.1)
 
-    free_images : (now : ℕ → ℕ) (fs : Trees) (s : Chosen) (v : ℕ) → AreNegationNormal fs → EveryOf HasSortedForm fs → FreeInSome Mentions (all_renamed count free now fs s) v → (z : ℕ) × FreeInSome Mentions fs z × (now z ≡ v)
+    free_images : (now : ℕ → ℕ) (fs : Trees) (s : Chosen) (v : ℕ) → AreNegationNormal fs → EveryOf HasSortedForm fs → FreeInSome Mentions (all_renamed count now fs s) v → (z : ℕ) × FreeInSome Mentions fs z × (now z ≡ v)
     free_images now none s v n o t = absurd t
     free_images now (also f fs) s v n o t = ⊎_elim
         (λ u. let i = free_image now f s v n.0 o.0 u in (i.0, inl i.1, i.2))
-        (λ u. let i = free_images now fs (after count free f s) v n.1 o.1 u in (i.0, inr i.1, i.2)) t
+        (λ u. let i = free_images now fs (after count f s) v n.1 o.1 u in (i.0, inr i.1, i.2)) t
 
-  first_links : (now : ℕ → ℕ) (f : Tree) (fs : Trees) (s : Chosen) → Links count free (λ z. FreeInSome Mentions (also f fs) z) now s → Links count free (IsFree f) now s
-  first_links now f fs s l = links_fewer count free (λ z. FreeInSome Mentions (also f fs) z) (IsFree f) now s (λ z t. inl t) l
+  first_links : (now : ℕ → ℕ) (f : Tree) (fs : Trees) (s : Chosen) → Links count (λ z. FreeInSome Mentions (also f fs) z) now s → Links count (IsFree f) now s
+  first_links now f fs s l = links_fewer count (λ z. FreeInSome Mentions (also f fs) z) (IsFree f) now s (λ z t. inl t) l
 
-  other_links : (now : ℕ → ℕ) (f : Tree) (fs : Trees) (s : Chosen) → Links count free (λ z. FreeInSome Mentions (also f fs) z) now s → Links count free (λ z. FreeInSome Mentions fs z) now (after count free f s)
+  other_links : (now : ℕ → ℕ) (f : Tree) (fs : Trees) (s : Chosen) → Links count (λ z. FreeInSome Mentions (also f fs) z) now s → Links count (λ z. FreeInSome Mentions fs z) now (after count f s)
   other_links now f fs s l =
-      links_later count free (λ z. FreeInSome Mentions fs z) now f s (links_fewer count free (λ z. FreeInSome Mentions (also f fs) z) (λ z. FreeInSome Mentions fs z) now s (λ z t. inr t) l)
+      links_later count (λ z. FreeInSome Mentions fs z) now f s (links_fewer count (λ z. FreeInSome Mentions (also f fs) z) (λ z. FreeInSome Mentions fs z) now s (λ z t. inr t) l)
 
-  kept_free : (now : ℕ → ℕ) (x : ℕ) (f g : Tree) (s : Chosen) (z : ℕ) → x < count → Links count free (λ z. ¬ (x ≡ z) × IsFree f z) now s → ¬ (x ≡ z) × IsFree f z →
+  kept_free : (now : ℕ → ℕ) (x : ℕ) (f g : Tree) (s : Chosen) (z : ℕ) → x < count → Links count (λ z. ¬ (x ≡ z) × IsFree f z) now s → ¬ (x ≡ z) × IsFree f z →
       (IsFree f z → IsFree g (with_now now x (name x s) z)) → ¬ (name x s ≡ now z) × IsFree g (now z)
   kept_free now x f g s z b l t h = (fresh (IsFree f) now x s b l z t, subst (λ v. IsFree g v) (now_other now x (name x s) z t.0) (h t.1))
 
   mutual
     -- and each image of a free name is free
-    pub image_free : (now : ℕ → ℕ) (f : Tree) (s : Chosen) (z : ℕ) → IsNegationNormal f → Every HasSortedForm f → EveryBound (λ x. x < count) f → Links count free (IsFree f) now s → IsFree f z → IsFree (renamed count free now f s) (now z)
+    pub image_free : (now : ℕ → ℕ) (f : Tree) (s : Chosen) (z : ℕ) → IsNegationNormal f → Every HasSortedForm f → EveryBound (λ x. x < count) f → Links count (IsFree f) now s → IsFree f z → IsFree (renamed count now f s) (now z)
     image_free now Yes s z n o b l t = absurd t
     image_free now No s z n o b l t = absurd t
     image_free now (One a) s z n o b l t = mentioned_image now a z o l.one t
@@ -82,15 +82,15 @@ module _ (count : ℕ) (free : List ℕ) where
     image_free now (Repl f g) s z n o b l t = absurd n
     image_free now (Equiv f g) s z n o b l t = absurd n
     image_free now (Ex x f) s z n o b l t =
-        kept_free now x f (renamed count free (with_now now x (name x s)) f (next x s)) s z b.0 l t (image_free (with_now now x (name x s)) f (next x s) z n o b.1 (links_under count free (IsFree f) now x s b.0 l))
+        kept_free now x f (renamed count (with_now now x (name x s)) f (next x s)) s z b.0 l t (image_free (with_now now x (name x s)) f (next x s) z n o b.1 (links_under count (IsFree f) now x s b.0 l))
     image_free now (All x f) s z n o b l t =
-        kept_free now x f (renamed count free (with_now now x (name x s)) f (next x s)) s z b.0 l t (image_free (with_now now x (name x s)) f (next x s) z n o b.1 (links_under count free (IsFree f) now x s b.0 l))
+        kept_free now x f (renamed count (with_now now x (name x s)) f (next x s)) s z b.0 l t (image_free (with_now now x (name x s)) f (next x s) z n o b.1 (links_under count (IsFree f) now x s b.0 l))
 
-    images_free : (now : ℕ → ℕ) (fs : Trees) (s : Chosen) (z : ℕ) → AreNegationNormal fs → EveryOf HasSortedForm fs → EveryBoundOf (λ x. x < count) fs → Links count free (λ z. FreeInSome Mentions fs z) now s → FreeInSome Mentions fs z → FreeInSome Mentions (all_renamed count free now fs s) (now z)
+    images_free : (now : ℕ → ℕ) (fs : Trees) (s : Chosen) (z : ℕ) → AreNegationNormal fs → EveryOf HasSortedForm fs → EveryBoundOf (λ x. x < count) fs → Links count (λ z. FreeInSome Mentions fs z) now s → FreeInSome Mentions fs z → FreeInSome Mentions (all_renamed count now fs s) (now z)
     images_free now none s z n o b l t = absurd t
     images_free now (also f fs) s z n o b l t = ⊎_elim
         (λ u. inl (image_free now f s z n.0 o.0 b.0 (first_links now f fs s l) u))
-        (λ u. inr (images_free now fs (after count free f s) z n.1 o.1 b.1 (other_links now f fs s l) u)) t
+        (λ u. inr (images_free now fs (after count f s) z n.1 o.1 b.1 (other_links now f fs s l) u)) t
 
   -- ---- truth
 
@@ -99,7 +99,7 @@ module _ (count : ℕ) (free : List ℕ) where
     pub same_below : q.below ≡ p.below
     pub same_at : (z : ℕ) → Free z → q.at (now z) ≡ p.at z
 
-  linked_under : (P : ℕ → Type 0) (now : ℕ → ℕ) (x : ℕ) (s : Chosen) (p q : Point ℕ) (k : ℤ) (m : ℕ) → x < count → Links count free (λ z. ¬ (x ≡ z) × P z) now s →
+  linked_under : (P : ℕ → Type 0) (now : ℕ → ℕ) (x : ℕ) (s : Chosen) (p q : Point ℕ) (k : ℤ) (m : ℕ) → x < count → Links count (λ z. ¬ (x ≡ z) × P z) now s →
       IsLinked (λ z. ¬ (x ≡ z) × P z) now p q → IsLinked P (with_now now x (name x s)) (move nat_eq p x k m) (move nat_eq q (name x s) k m)
   unfolding move
   linked_under P now x s p q k m b l i = record {
@@ -133,8 +133,8 @@ module _ (count : ℕ) (free : List ℕ) where
 
   module _ (c : Context) where
     mutual
-      pub renamed_truth : (now : ℕ → ℕ) (f : Tree) (s : Chosen) (p q : Point ℕ) → IsNegationNormal f → EveryBound (λ x. x < count) f → Links count free (IsFree f) now s → IsLinked (IsFree f) now p q →
-          TrueAt c f p ↔ TrueAt c (renamed count free now f s) q
+      pub renamed_truth : (now : ℕ → ℕ) (f : Tree) (s : Chosen) (p q : Point ℕ) → IsNegationNormal f → EveryBound (λ x. x < count) f → Links count (IsFree f) now s → IsLinked (IsFree f) now p q →
+          TrueAt c f p ↔ TrueAt c (renamed count now f s) q
       renamed_truth now Yes s p q n b l i = (λ t. t, λ t. t)
       renamed_truth now No s p q n b l i = (λ t. t, λ t. t)
       renamed_truth now (One a) s p q n b l i = atom_linked now a p q i
@@ -146,33 +146,33 @@ module _ (count : ℕ) (free : List ℕ) where
       renamed_truth now (Equiv f g) s p q n b l i = absurd n
       renamed_truth now (Ex x f) s p q n b l i =
           let deep = λ (k : ℤ) (m : ℕ). renamed_truth (with_now now x (name x s)) f (next x s) (move nat_eq p x k m) (move nat_eq q (name x s) k m) n b.1
-          (links_under count free (IsFree f) now x s b.0 l) (linked_under (IsFree f) now x s p q k m b.0 l i) in
+          (links_under count (IsFree f) now x s b.0 l) (linked_under (IsFree f) now x s p q k m b.0 l i) in
           (λ t. (t.0, t.1, t.2, (deep t.0 t.1).0 t.3), λ t. (t.0, t.1, t.2, (deep t.0 t.1).1 t.3))
       renamed_truth now (All x f) s p q n b l i =
           let deep = λ (k : ℤ) (m : ℕ). renamed_truth (with_now now x (name x s)) f (next x s) (move nat_eq p x k m) (move nat_eq q (name x s) k m) n b.1
-          (links_under count free (IsFree f) now x s b.0 l) (linked_under (IsFree f) now x s p q k m b.0 l i) in
+          (links_under count (IsFree f) now x s b.0 l) (linked_under (IsFree f) now x s p q k m b.0 l i) in
           (λ t k m a. (deep k m).0 (t k m a), λ t k m a. (deep k m).1 (t k m a))
 
-      all_renamed_truth : (now : ℕ → ℕ) (fs : Trees) (s : Chosen) (p q : Point ℕ) → AreNegationNormal fs → EveryBoundOf (λ x. x < count) fs → Links count free (λ z. FreeInSome Mentions fs z) now s →
-          IsLinked (λ z. FreeInSome Mentions fs z) now p q → AllTrue Says (move nat_eq) c fs p ↔ AllTrue Says (move nat_eq) c (all_renamed count free now fs s) q
+      all_renamed_truth : (now : ℕ → ℕ) (fs : Trees) (s : Chosen) (p q : Point ℕ) → AreNegationNormal fs → EveryBoundOf (λ x. x < count) fs → Links count (λ z. FreeInSome Mentions fs z) now s →
+          IsLinked (λ z. FreeInSome Mentions fs z) now p q → AllTrue Says (move nat_eq) c fs p ↔ AllTrue Says (move nat_eq) c (all_renamed count now fs s) q
       all_renamed_truth now none s p q n b l i = (λ t. t, λ t. t)
       all_renamed_truth now (also f fs) s p q n b l i =
           let u = renamed_truth now f s p q n.0 b.0 (first_links now f fs s l) (first_linked now f fs p q i) in
-          let w = all_renamed_truth now fs (after count free f s) p q n.1 b.1 (other_links now f fs s l) (other_linked now f fs p q i) in
+          let w = all_renamed_truth now fs (after count f s) p q n.1 b.1 (other_links now f fs s l) (other_linked now f fs p q i) in
           (λ t. (u.0 t.0, w.0 t.1), λ t. (u.1 t.0, w.1 t.1))
 
-      some_renamed_truth : (now : ℕ → ℕ) (fs : Trees) (s : Chosen) (p q : Point ℕ) → AreNegationNormal fs → EveryBoundOf (λ x. x < count) fs → Links count free (λ z. FreeInSome Mentions fs z) now s →
-          IsLinked (λ z. FreeInSome Mentions fs z) now p q → SomeTrue Says (move nat_eq) c fs p ↔ SomeTrue Says (move nat_eq) c (all_renamed count free now fs s) q
+      some_renamed_truth : (now : ℕ → ℕ) (fs : Trees) (s : Chosen) (p q : Point ℕ) → AreNegationNormal fs → EveryBoundOf (λ x. x < count) fs → Links count (λ z. FreeInSome Mentions fs z) now s →
+          IsLinked (λ z. FreeInSome Mentions fs z) now p q → SomeTrue Says (move nat_eq) c fs p ↔ SomeTrue Says (move nat_eq) c (all_renamed count now fs s) q
       some_renamed_truth now none s p q n b l i = (λ t. t, λ t. t)
       some_renamed_truth now (also f fs) s p q n b l i =
           let u = renamed_truth now f s p q n.0 b.0 (first_links now f fs s l) (first_linked now f fs p q i) in
-          let w = some_renamed_truth now fs (after count free f s) p q n.1 b.1 (other_links now f fs s l) (other_linked now f fs p q i) in
+          let w = some_renamed_truth now fs (after count f s) p q n.1 b.1 (other_links now f fs s l) (other_linked now f fs p q i) in
           (⊎_elim (λ t. inl (u.0 t)) (λ t. inr (w.0 t)), ⊎_elim (λ t. inl (u.1 t)) (λ t. inr (w.1 t)))
 
   -- ---- shape and atoms
 
   mutual
-    pub renamed_shape : (now : ℕ → ℕ) (f : Tree) (s : Chosen) → IsNegationNormal f → IsNegationNormal (renamed count free now f s)
+    pub renamed_shape : (now : ℕ → ℕ) (f : Tree) (s : Chosen) → IsNegationNormal f → IsNegationNormal (renamed count now f s)
     renamed_shape now Yes s n = n
     renamed_shape now No s n = n
     renamed_shape now (One a) s n = n
@@ -185,12 +185,12 @@ module _ (count : ℕ) (free : List ℕ) where
     renamed_shape now (Ex x f) s n = renamed_shape (with_now now x (name x s)) f (next x s) n
     renamed_shape now (All x f) s n = renamed_shape (with_now now x (name x s)) f (next x s) n
 
-    all_renamed_shape : (now : ℕ → ℕ) (fs : Trees) (s : Chosen) → AreNegationNormal fs → AreNegationNormal (all_renamed count free now fs s)
+    all_renamed_shape : (now : ℕ → ℕ) (fs : Trees) (s : Chosen) → AreNegationNormal fs → AreNegationNormal (all_renamed count now fs s)
     all_renamed_shape now none s n = n
-    all_renamed_shape now (also f fs) s n = (renamed_shape now f s n.0, all_renamed_shape now fs (after count free f s) n.1)
+    all_renamed_shape now (also f fs) s n = (renamed_shape now f s n.0, all_renamed_shape now fs (after count f s) n.1)
 
   mutual
-    pub renamed_blocks : (now : ℕ → ℕ) (f : Tree) (s : Chosen) (q : Quantifier) → blocks_from (renamed count free now f s) q ≡ blocks_from f q
+    pub renamed_blocks : (now : ℕ → ℕ) (f : Tree) (s : Chosen) (q : Quantifier) → blocks_from (renamed count now f s) q ≡ blocks_from f q
     renamed_blocks now Yes s q = refl
     renamed_blocks now No s q = refl
     renamed_blocks now (One a) s q = refl
@@ -205,15 +205,15 @@ module _ (count : ℕ) (free : List ℕ) where
     renamed_blocks now (All x f) s Exists = ap (λ n. suc (max 1 n)) (renamed_blocks (with_now now x (name x s)) f (next x s) ForAll)
     renamed_blocks now (All x f) s ForAll = ap (max 1) (renamed_blocks (with_now now x (name x s)) f (next x s) ForAll)
 
-    all_renamed_blocks : (now : ℕ → ℕ) (fs : Trees) (s : Chosen) (q : Quantifier) → most_blocks (all_renamed count free now fs s) q ≡ most_blocks fs q
+    all_renamed_blocks : (now : ℕ → ℕ) (fs : Trees) (s : Chosen) (q : Quantifier) → most_blocks (all_renamed count now fs s) q ≡ most_blocks fs q
     all_renamed_blocks now none s q = refl
-    all_renamed_blocks now (also f fs) s q = ap₂ max (renamed_blocks now f s q) (all_renamed_blocks now fs (after count free f s) q)
+    all_renamed_blocks now (also f fs) s q = ap₂ max (renamed_blocks now f s q) (all_renamed_blocks now fs (after count f s) q)
 
   module _ (Q P : Atom → Type 0) where
     mutual
       -- what holds of an atom whose names are changed one to one, to names that are used
-      pub renamed_every : (now : ℕ → ℕ) (f : Tree) (s : Chosen) → IsNegationNormal f → EveryBound (λ x. x < count) f → Every Q f → Links count free (IsFree f) now s →
-          ((a : Atom) (to : ℕ → ℕ) → Q a → IsOneToOne to a → ((z : ℕ) → Mentions a z → Used count free (after count free f s) (to z)) → P (atom_named to a)) → Every P (renamed count free now f s)
+      pub renamed_every : (now : ℕ → ℕ) (f : Tree) (s : Chosen) → IsNegationNormal f → EveryBound (λ x. x < count) f → Every Q f → Links count (IsFree f) now s →
+          ((a : Atom) (to : ℕ → ℕ) → Q a → IsOneToOne to a → ((z : ℕ) → Mentions a z → Used count (after count f s) (to z)) → P (atom_named to a)) → Every P (renamed count now f s)
       renamed_every now Yes s n b o l h = tt
       renamed_every now No s n b o l h = tt
       renamed_every now (One a) s n b o l h = h a now o l.one l.used
@@ -223,13 +223,13 @@ module _ (count : ℕ) (free : List ℕ) where
       renamed_every now (Impl f g) s n b o l h = absurd n
       renamed_every now (Repl f g) s n b o l h = absurd n
       renamed_every now (Equiv f g) s n b o l h = absurd n
-      renamed_every now (Ex x f) s n b o l h = renamed_every (with_now now x (name x s)) f (next x s) n b.1 o (links_under count free (IsFree f) now x s b.0 l) h
-      renamed_every now (All x f) s n b o l h = renamed_every (with_now now x (name x s)) f (next x s) n b.1 o (links_under count free (IsFree f) now x s b.0 l) h
+      renamed_every now (Ex x f) s n b o l h = renamed_every (with_now now x (name x s)) f (next x s) n b.1 o (links_under count (IsFree f) now x s b.0 l) h
+      renamed_every now (All x f) s n b o l h = renamed_every (with_now now x (name x s)) f (next x s) n b.1 o (links_under count (IsFree f) now x s b.0 l) h
 
-      all_renamed_every : (now : ℕ → ℕ) (fs : Trees) (s : Chosen) → AreNegationNormal fs → EveryBoundOf (λ x. x < count) fs → EveryOf Q fs → Links count free (λ z. FreeInSome Mentions fs z) now s →
-          ((a : Atom) (to : ℕ → ℕ) → Q a → IsOneToOne to a → ((z : ℕ) → Mentions a z → Used count free (after_all count free fs s) (to z)) → P (atom_named to a)) → EveryOf P (all_renamed count free now fs s)
+      all_renamed_every : (now : ℕ → ℕ) (fs : Trees) (s : Chosen) → AreNegationNormal fs → EveryBoundOf (λ x. x < count) fs → EveryOf Q fs → Links count (λ z. FreeInSome Mentions fs z) now s →
+          ((a : Atom) (to : ℕ → ℕ) → Q a → IsOneToOne to a → ((z : ℕ) → Mentions a z → Used count (after_all count fs s) (to z)) → P (atom_named to a)) → EveryOf P (all_renamed count now fs s)
       all_renamed_every now none s n b o l h = tt
       all_renamed_every now (also f fs) s n b o l h = (
-        renamed_every now f s n.0 b.0 o.0 (first_links now f fs s l) (λ a to q e u. h a to q e (λ z t. stays_all count free fs (after count free f s) (to z) (u z t))),
-        all_renamed_every now fs (after count free f s) n.1 b.1 o.1 (other_links now f fs s l) h,
+        renamed_every now f s n.0 b.0 o.0 (first_links now f fs s l) (λ a to q e u. h a to q e (λ z t. stays_all count fs (after count f s) (to z) (u z t))),
+        all_renamed_every now fs (after count f s) n.1 b.1 o.1 (other_links now f fs s l) h,
       )

@@ -38,7 +38,7 @@ normal_plain : (c : Context) (f : Tree) → IsPlain f → IsPlain (replaced (nor
 normal_plain c f p = plain_stays (normal_atom c) (λ x. x) f p (every_all (λ a. IsPlain (normal_atom c a)) (λ a. atomic_plain (normal_atom c a) (normal_atomic c a)) f)
 
 chosen_shape : (count : ℕ) (f : Tree) → IsNegationNormal f → IsNegationNormal (with_chosen_names count f)
-chosen_shape count f n = renamed_shape count (tree_names f) (λ x. x) f nothing_chosen n
+chosen_shape count f n = renamed_shape count (λ x. x) f (nothing_chosen (tree_names f)) n
 
 behind : Context → Tree → Tree
 behind c g = replaced (normal_atom c) (λ x. x) (matrix g)
@@ -65,7 +65,7 @@ first_least f = go (nat_lt (blocks_from f ForAll) (blocks_from f Exists)) refl
 
 fewest_chosen : (count : ℕ) (f : Tree) → fewest_blocks (with_chosen_names count f) ≡ fewest_blocks f
 fewest_chosen count f =
-    ap₂ min (renamed_blocks count (tree_names f) (λ x. x) f nothing_chosen Exists) (renamed_blocks count (tree_names f) (λ x. x) f nothing_chosen ForAll)
+    ap₂ min (renamed_blocks count (λ x. x) f (nothing_chosen (tree_names f)) Exists) (renamed_blocks count (λ x. x) f (nothing_chosen (tree_names f)) ForAll)
 
 pub has_fewest_blocks : PrenexFormHasFewestBlocks
 unfolding behind
@@ -120,31 +120,31 @@ module _ (c : Context) (count : ℕ) (f : Tree) (h : HasPrenexForm c count f) wh
   abbrev q : Quantifier
   q = first_kind g
 
-  free_used : (x : ℕ) → IsFree f x → Used count free nothing_chosen x
-  free_used x t = inl (free_below count f x h.named.atoms t, ap (λ (b : Bool). if b then true else is_in nat_eq x []) (among_is_in x free ((names_listed f x).1 t)))
+  free_used : (x : ℕ) → IsFree f x → Used count (nothing_chosen (tree_names f)) x
+  free_used x t = inl (free_below count f x h.named.atoms t, among_is_in x free ((names_listed f x).1 t))
 
-  links : Links count free (IsFree f) (λ x. x) nothing_chosen
+  links : Links count (IsFree f) (λ x. x) (nothing_chosen (tree_names f))
   links = record { used = free_used; one = λ y z t u e. e }
 
   sorted : Every HasSortedForm f
   sorted = every_map (IsNormal c) HasSortedForm (normal_sorted c) f h.normal
 
   chosen_in : InContext c g
-  chosen_in = renamed_every count free (IsNormal c) (AtomIn c) (λ x. x) f nothing_chosen h.negation_normal h.named.quantified h.normal links (λ a to n e u. named_in to c a (normal_in c a n))
+  chosen_in = renamed_every count (IsNormal c) (AtomIn c) (λ x. x) f (nothing_chosen (tree_names f)) h.negation_normal h.named.quantified h.normal links (λ a to n e u. named_in to c a (normal_in c a n))
 
   chosen_keeps : Every (KeepsNames c) g
-  chosen_keeps = renamed_every count free (IsNormal c) (KeepsNames c) (λ x. x) f nothing_chosen h.negation_normal h.named.quantified h.normal links (λ a to n e u. named_keeps c a to n e)
+  chosen_keeps = renamed_every count (IsNormal c) (KeepsNames c) (λ x. x) f (nothing_chosen (tree_names f)) h.negation_normal h.named.quantified h.normal links (λ a to n e u. named_keeps c a to n e)
 
   abbrev limit : ℕ
   limit = count + new_count count f
 
   chosen_below : Every (λ a. (x : ℕ) → Mentions a x → x < limit) g
-  chosen_below = renamed_every count free (IsNormal c) (λ a. (x : ℕ) → Mentions a x → x < limit) (λ x. x) f nothing_chosen h.negation_normal h.named.quantified h.normal links
-      (λ a to n e u x m. let i = image_mentioned to a x (normal_sorted c a n) m in subst (λ y. y < limit) i.2 (used_below count free (to i.0) (after count free f nothing_chosen) (u i.0 i.1)))
+  chosen_below = renamed_every count (IsNormal c) (λ a. (x : ℕ) → Mentions a x → x < limit) (λ x. x) f (nothing_chosen (tree_names f)) h.negation_normal h.named.quantified h.normal links
+      (λ a to n e u x m. let i = image_mentioned to a x (normal_sorted c a n) m in subst (λ y. y < limit) i.2 (used_below count (to i.0) (after count f (nothing_chosen (tree_names f))) (u i.0 i.1)))
 
   front_is_same : Equivalent c g (in_front g) × ((x : ℕ) → IsFree g x ↔ IsFree (in_front g) x)
   front_is_same =
-      let s = front_same c g q (chosen_shape count f h.negation_normal) chosen_in (apart count free (λ x. x) f nothing_chosen h.negation_normal sorted h.named.quantified free_used) in
+      let s = front_same c g q (chosen_shape count f h.negation_normal) chosen_in (apart count (λ x. x) f (nothing_chosen (tree_names f)) h.negation_normal sorted h.named.quantified free_used) in
       (s.truth, s.names)
 
   front_in : Every (AtomIn c) (in_front g)
@@ -152,8 +152,8 @@ module _ (c : Context) (count : ℕ) (f : Tree) (h : HasPrenexForm c count f) wh
 
   chosen_truth : Equivalent c f g
   chosen_truth p o =
-      let i : IsLinked count free (IsFree f) (λ x. x) p p = record { same_below = refl; same_at = λ z t. refl } in
-      renamed_truth count free c (λ x. x) f nothing_chosen p p h.negation_normal h.named.quantified links i
+      let i : IsLinked count (IsFree f) (λ x. x) p p = record { same_below = refl; same_at = λ z t. refl } in
+      renamed_truth count c (λ x. x) f (nothing_chosen (tree_names f)) p p h.negation_normal h.named.quantified links i
 
   keeps_truth_here : Equivalent c f (prenex_of c count f)
   keeps_truth_here = equivalent_then c f g (prenex_of c count f) chosen_truth (equivalent_then c g (in_front g) (prenex_of c count f) front_is_same.0
@@ -161,8 +161,8 @@ module _ (c : Context) (count : ℕ) (f : Tree) (h : HasPrenexForm c count f) wh
 
   chosen_names : (x : ℕ) → IsFree g x ↔ IsFree f x
   chosen_names x = (
-    λ t. let i = free_image count free (λ x. x) f nothing_chosen x h.negation_normal sorted t in subst (IsFree f) i.2 i.1,
-    λ t. image_free count free (λ x. x) f nothing_chosen x h.negation_normal sorted h.named.quantified links t,
+    λ t. let i = free_image count (λ x. x) f (nothing_chosen (tree_names f)) x h.negation_normal sorted t in subst (IsFree f) i.2 i.1,
+    λ t. image_free count (λ x. x) f (nothing_chosen (tree_names f)) x h.negation_normal sorted h.named.quantified links t,
   )
 
   normal_form_names : (x : ℕ) → IsFree (prenex_of c count f) x ↔ IsFree (in_front g) x
@@ -200,7 +200,7 @@ module _ (c : Context) (count : ℕ) (f : Tree) (h : HasPrenexForm c count f) wh
           (front_every (λ a. (x : ℕ) → Mentions a x → x < limit) q q g chosen_below));
       quantified = subst (EveryBound (λ x. x < limit)) (sym (replaced_prefixed (normal_atom c) q (blocks g q) (matrix g)))
           (prefix_bound (λ x. x < limit) q (blocks g q) (behind c g)
-          (blocks_each (λ x. x < limit) g q (bound_chosen count free (λ x. x < limit) (λ x. x) f nothing_chosen h.negation_normal h.named.quantified (λ v m u. used_below count free v (after count free f nothing_chosen) u)))
+          (blocks_each (λ x. x < limit) g q (bound_chosen count (λ x. x < limit) (λ x. x) f (nothing_chosen (tree_names f)) h.negation_normal h.named.quantified (λ v m u. used_below count v (after count f (nothing_chosen (tree_names f))) u)))
           (normal_plain c (matrix g) (matrix_plain g (chosen_shape count f h.negation_normal))));
     },
   )

@@ -26,27 +26,24 @@ with_now now x y = λ z. if nat_eq x z then y else now z
 
 -- ---- choosing names, in the order of the text
 
--- what was chosen before a place of the text: the names that are quantified there, and how many new names were made
+-- what was chosen before a place of the text: which names are taken there, and how many new names were made
 pub record Chosen : Type 0 where
-  pub seen : List ℕ
+  pub taken : ℕ → Bool
   pub made : ℕ
 
-abbrev pub nothing_chosen : Chosen
-nothing_chosen = record { seen = []; made = 0 }
+-- the names that are free in the whole are taken from the beginning
+abbrev pub nothing_chosen : List ℕ → Chosen
+nothing_chosen free = record { taken = λ x. is_in nat_eq x free; made = 0 }
 
--- count: how many names there are; the new names have the numbers from there on. free: the names that are free in the whole.
-module _ (count : ℕ) (free : List ℕ) where
-  -- the name is free in the whole, or quantified at an earlier place
-  abbrev pub is_taken : ℕ → Chosen → Bool
-  is_taken x s = if is_in nat_eq x free then true else is_in nat_eq x s.seen
-
+-- count: how many names there are; the new names have the numbers from there on
+module _ (count : ℕ) where
   -- the name itself, or the next new one where it is taken
   abbrev pub chosen_name : ℕ → Chosen → ℕ
-  chosen_name x s = if is_taken x s then count + s.made else x
+  chosen_name x s = if s.taken x then count + s.made else x
 
-  -- what is chosen after the quantifier of a name
+  -- what is chosen after the quantifier of a name, which is taken from then on
   abbrev pub chosen : ℕ → Chosen → Chosen
-  chosen x s = record { seen = x ∷ s.seen; made = if is_taken x s then suc s.made else s.made }
+  chosen x s = record { taken = λ z. if nat_eq x z then true else s.taken z; made = if s.taken x then suc s.made else s.made }
 
   abbrev mutual
     -- what is chosen after a formula in negation normal form
@@ -77,8 +74,8 @@ module _ (count : ℕ) (free : List ℕ) where
 
 -- the formula with its quantified names chosen, where count names are known
 abbrev pub with_chosen_names : ℕ → Tree → Tree
-with_chosen_names count f = renamed count (tree_names f) (λ x. x) f nothing_chosen
+with_chosen_names count f = renamed count (λ x. x) f (nothing_chosen (tree_names f))
 
 -- how many new names it has
 abbrev pub new_count : ℕ → Tree → ℕ
-new_count count f = (after count (tree_names f) f nothing_chosen).made
+new_count count f = (after count f (nothing_chosen (tree_names f))).made
