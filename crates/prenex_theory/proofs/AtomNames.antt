@@ -30,7 +30,8 @@ use Rattle.atom_normal.proofs.Relations.{turned_nonzero, turned_divides_all, con
 use Rattle.atom_normal.proofs.Comparisons.{residue_one}
 use Rattle.atom_normal.proofs.Congruences.{congruence_coefficient}
 use Rattle.prenex_theory.specs.Renaming.{form_named, atom_named}
-use Rattle.prenex_theory.proofs.NamedAtoms.{names_of, IsOneToOne, among_mentions, named_above, named_multiple, image_mentioned, coefficient_named}
+use Rattle.prenex_theory.specs.Links.{IsOneToOne}
+use Rattle.prenex_theory.proofs.NamedAtoms.{names_of, among_mentions, named_above, named_multiple, image_mentioned, coefficient_named}
 
 -- ---- numbers of terms
 

@@ -9,6 +9,7 @@ use Rattle.formula_meaning.specs.Some.{Among}
 use Rattle.formula_meaning.specs.Atom.{Atom, Compare, Congruent, Relates, Says, Mentions, AtomIn, IsMultiple, form_of}
 use Rattle.formula_meaning.specs.Context.{Context, Fields, Integers}
 use Rattle.formula_meaning.proofs.Sorted.{here, elsewhere}
+use Rattle.prenex_theory.specs.Links.{IsOneToOne}
 use Rattle.prenex_theory.specs.Renaming.{terms_named, form_named, atom_named}
 
 abbrev pub names_of : List Term → List ℕ
@@ -88,17 +89,13 @@ module _ (now : ℕ → ℕ) where
       let i = image_among v (form_of a).terms (λ e. n (ap (λ (f : Form). multiple v f.terms) (form_of_named a) ∙ e)) in
       (i.0, among_mentions a i.0 s i.1, i.2)
 
-  -- no two names of the atom become one
-  abbrev pub IsOneToOne : Atom → Type 0
-  IsOneToOne a = (y z : ℕ) → Mentions a y → Mentions a z → now y ≡ now z → y ≡ z
-
-  pub coefficient_named : (a : Atom) (z : ℕ) → IsSorted (form_of a) → IsOneToOne a → Mentions a z → coefficient (now z) (form_of (atom_named now a)) ≡ coefficient z (form_of a)
+  pub coefficient_named : (a : Atom) (z : ℕ) → IsSorted (form_of a) → IsOneToOne now a → Mentions a z → coefficient (now z) (form_of (atom_named now a)) ≡ coefficient z (form_of a)
   unfolding coefficient
   coefficient_named a z s one m =
       ap (λ (f : Form). multiple (now z) f.terms) (form_of_named a) ∙ multiple_named z (form_of a).terms (λ y n e. one y z (among_mentions a y s n) m e)
 
   -- and then each name before has one now
-  pub mentioned_image : (a : Atom) (z : ℕ) → IsSorted (form_of a) → IsOneToOne a → Mentions a z → Mentions (atom_named now a) (now z)
+  pub mentioned_image : (a : Atom) (z : ℕ) → IsSorted (form_of a) → IsOneToOne now a → Mentions a z → Mentions (atom_named now a) (now z)
   mentioned_image a z s one m e = m (sym (coefficient_named a z s one m) ∙ e)
 
   pub named_in : (c : Context) (a : Atom) → AtomIn c a → AtomIn c (atom_named now a)

@@ -9,8 +9,9 @@ use Rattle.formula_meaning.specs.Shape.{IsNegationNormal, AreNegationNormal}
 use Rattle.formula_meaning.specs.Tree.{Tree, Trees, IsFree}
 use Rattle.prenex_theory.specs.Blocks.{matrix, matrices}
 use Rattle.prenex_theory.specs.Renaming.{Chosen, chosen_name, chosen, after, after_all, renamed, all_renamed, with_now}
+use Rattle.prenex_theory.specs.Links.{Used, Links}
 use Rattle.prenex_theory.proofs.NamedAtoms.{image_mentioned}
-use Rattle.prenex_theory.proofs.Used.{Used, chosen_unused, used_stays, chosen_used}
+use Rattle.prenex_theory.proofs.Used.{chosen_unused, used_stays, chosen_used}
 use Rattle.prenex_theory.proofs.Fronts.{IsApart, AreApart}
 
 -- the atom's form is sorted
@@ -163,18 +164,13 @@ module _ (count : ℕ) where
               m (matrix_names (U r) now f s n.0 o.0 b.0 (λ z w. stays f s (now z) (h z (inl w))) (λ w k l. l) v t)),
         )
 
-  -- the free names of a formula have used images, and no two have one
-  pub record Links (Free : ℕ → Type 0) (now : ℕ → ℕ) (s : Chosen) : Type 0 where
-    pub used : (z : ℕ) → Free z → U s (now z)
-    pub one : (y z : ℕ) → Free y → Free z → now y ≡ now z → y ≡ z
-
-  pub links_fewer : (P Q : ℕ → Type 0) (now : ℕ → ℕ) (s : Chosen) → ((z : ℕ) → Q z → P z) → Links P now s → Links Q now s
+  pub links_fewer : (P Q : ℕ → Type 0) (now : ℕ → ℕ) (s : Chosen) → ((z : ℕ) → Q z → P z) → Links count P now s → Links count Q now s
   links_fewer P Q now s f l = record { used = λ z t. l.used z (f z t); one = λ y z t u e. l.one y z (f y t) (f z u) e }
 
-  pub links_later : (P : ℕ → Type 0) (now : ℕ → ℕ) (f : Tree) (s : Chosen) → Links P now s → Links P now (after count f s)
+  pub links_later : (P : ℕ → Type 0) (now : ℕ → ℕ) (f : Tree) (s : Chosen) → Links count P now s → Links count P now (after count f s)
   links_later P now f s l = record { used = λ z t. stays f s (now z) (l.used z t); one = l.one }
 
-  pub links_under : (P : ℕ → Type 0) (now : ℕ → ℕ) (x : ℕ) (s : Chosen) → x < count → Links (λ z. ¬ (x ≡ z) × P z) now s → Links P (with_now now x (chosen_name count x s)) (chosen count x s)
+  pub links_under : (P : ℕ → Type 0) (now : ℕ → ℕ) (x : ℕ) (s : Chosen) → x < count → Links count (λ z. ¬ (x ≡ z) × P z) now s → Links count P (with_now now x (chosen_name count x s)) (chosen count x s)
   links_under P now x s b l = record {
     used = λ z t. elim (cases_eq x z) [
       | inl e ↦ subst (U (next x s)) (sym (ap (with_now now x (name x s)) (sym e) ∙ now_same now x (name x s))) (chosen_used count x s b)

@@ -13,9 +13,10 @@ use Rattle.formula_meaning.specs.Truth.{AllTrue, SomeTrue}
 use Rattle.formula_meaning.specs.Tree.{Tree, Trees, TrueAt, IsFree}
 use Rattle.formula_meaning.proofs.FreeNames.{atom_agrees, agree_sym}
 use Rattle.prenex_theory.specs.Renaming.{Chosen, chosen_name, chosen, after, after_all, renamed, all_renamed, with_now, atom_named}
-use Rattle.prenex_theory.proofs.NamedAtoms.{IsOneToOne, before, says_named, image_mentioned, mentioned_image}
-use Rattle.prenex_theory.proofs.Used.{Used, chosen_unused}
-use Rattle.prenex_theory.proofs.Renamed.{HasSortedForm, Links, links_fewer, links_later, links_under, now_same, now_other, stays_all}
+use Rattle.prenex_theory.specs.Links.{Used, IsOneToOne, Links}
+use Rattle.prenex_theory.proofs.NamedAtoms.{before, says_named, image_mentioned, mentioned_image}
+use Rattle.prenex_theory.proofs.Used.{chosen_unused}
+use Rattle.prenex_theory.proofs.Renamed.{HasSortedForm, links_fewer, links_later, links_under, now_same, now_other, stays_all}
 
 module _ (count : ℕ) where
   abbrev name : ℕ → Chosen → ℕ

@@ -2,10 +2,7 @@
 use Rattle.std.proofs.Common.{◌≡◌, ◌<◌, ◌≤◌, ◌⊎◌, ℕ, suc, ◌+◌, Bool, true, false, inl, inr, arith, refl, nat_eq, if◌then◌else◌}
 use Rattle.std.proofs.lemmas.Bool.{eq-eqb}
 use Rattle.prenex_theory.specs.Renaming.{Chosen, chosen_name, chosen}
-
--- the name is an old one that is taken, or a new one that was made
-abbrev pub Used : ℕ → Chosen → ℕ → Type 0
-Used count s v = ((v < count) × (s.taken v ≡ true)) ⊎ ((count ≤ v) × (v < count + s.made))
+use Rattle.prenex_theory.specs.Links.{Used}
 
 module _ (count : ℕ) where
   -- the name that is chosen was not used

@@ -23,11 +23,12 @@ use Rattle.prenex_theory.specs.Blocks.{other_kind, blocks, matrix, block_count}
 use Rattle.prenex_theory.specs.Front.{first_kind, in_front}
 use Rattle.prenex_theory.specs.Renaming.{nothing_chosen, after, with_chosen_names, new_count}
 use Rattle.prenex_theory.specs.Prenex.{prenex_of, HasNamesBelow, HasPrenexForm, PrenexFormIsPrenex, PrenexFormHasFewestBlocks, PrenexFormKeepsTruth, PrenexFormKeepsNames, PrenexFormIsNormal}
+use Rattle.prenex_theory.specs.Links.{Used, Links}
 use Rattle.prenex_theory.proofs.Blocks.{length_blocks, least_filled}
 use Rattle.prenex_theory.proofs.Fronts.{front_same, blocks_each}
 use Rattle.prenex_theory.proofs.NamedAtoms.{image_mentioned, named_in}
-use Rattle.prenex_theory.proofs.Used.{Used, used_below}
-use Rattle.prenex_theory.proofs.Renamed.{HasSortedForm, Links, bound_chosen, apart}
+use Rattle.prenex_theory.proofs.Used.{used_below}
+use Rattle.prenex_theory.proofs.Renamed.{HasSortedForm, bound_chosen, apart}
 use Rattle.prenex_theory.proofs.RenamedTruth.{IsLinked, free_image, image_free, renamed_truth, renamed_shape, renamed_blocks, renamed_every}
 use Rattle.prenex_theory.proofs.AtomNames.{KeepsNames, normal_sorted, named_keeps}
 use Rattle.prenex_theory.proofs.Shapes.{matrix_plain, atomic_plain, prefix_prenex, count_prefixed, front_every, prefix_bound, replaced_prefixed, replaced_itself}
