@@ -2,6 +2,7 @@
 #![tactic(auto)]
 
 mod error;
+mod front;
 mod prenex;
 
 pub use error::PrenexError;

@@ -1,0 +1,18 @@
+-- Formulas that are made one after another.
+use Rattle.std.proofs.Common.{◌≡◌, sym, ap, ◌∙◌, List, [], ◌∷◌, ◌++◌}
+use Rattle.formula_meaning.specs.Formula.{none, also}
+use Rattle.formula_meaning.specs.Fold.{append}
+use Rattle.formula_meaning.specs.Tree.{Trees}
+use Rattle.nnf_trees.specs.declared.nnf.Nnf.{Nnf}
+use Rattle.nnf_trees.specs.Nnfs.{nnf_of}
+use Rattle.nnf_trees.proofs.Pieces.{Formulas_of, lists_joined, append_none, append_thrice}
+
+-- one formula more is made
+pub one_pushed : (made made2 : List Nnf) (g : Nnf) (left rest all : Trees) → append (Formulas_of made) left ≡ all → left ≡ also (nnf_of g) rest → made2 ≡ made ++ g ∷ [] → append (Formulas_of made2) rest ≡ all
+one_pushed made made2 g left rest all h e m =
+    ap (λ xs. append (Formulas_of xs) rest) m ∙ ap (λ fs. append fs rest) (lists_joined made (g ∷ [])) ∙ append_thrice (Formulas_of made) (also (nnf_of g) none) rest
+    ∙ ap (append (Formulas_of made)) (sym e) ∙ h
+
+-- none is left
+pub all_pushed : (made : List Nnf) (left all : Trees) → append (Formulas_of made) left ≡ all → left ≡ none → Formulas_of made ≡ all
+all_pushed made left all h e = sym (append_none (Formulas_of made)) ∙ ap (append (Formulas_of made)) (sym e) ∙ h
