@@ -1,5 +1,6 @@
 -- Formulas that are made one after another.
 use Rattle.std.proofs.Common.{◌≡◌, sym, ap, ◌∙◌, List, [], ◌∷◌, ◌++◌}
+use Rattle.std.specs.Prelude.{Result, Ok, Err, OnOk}
 use Rattle.formula_meaning.specs.Formula.{none, also}
 use Rattle.formula_meaning.specs.Fold.{append}
 use Rattle.formula_meaning.specs.Tree.{Trees}
@@ -16,3 +17,8 @@ one_pushed made made2 g left rest all h e m =
 -- none is left
 pub all_pushed : (made : List Nnf) (left all : Trees) → append (Formulas_of made) left ≡ all → left ≡ none → Formulas_of made ≡ all
 all_pushed made left all h e = sym (append_none (Formulas_of made)) ∙ ap (append (Formulas_of made)) (sym e) ∙ h
+
+-- what follows where a result is there
+pub on_ok_then : {X E : Type 0} (r : Result X E) (P Q : Type 0) → OnOk r P → (P → Q) → OnOk r Q
+on_ok_then (Ok x) P Q h f = f h
+on_ok_then (Err e) P Q h f = h
