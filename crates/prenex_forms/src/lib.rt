@@ -3,6 +3,7 @@
 
 mod error;
 mod front;
+mod prefix;
 mod prenex;
 
 pub use error::PrenexError;
