@@ -1,12 +1,19 @@
 -- The places of a formula, gathered by their levels, are its blocks.
-use Rattle.std.proofs.Common.{◌≡◌, ◌<◌, ℕ, zero, suc, ◌+◌, ◌%◌, Bool, true, false, List, [], ◌∷◌, ◌++◌, length, refl, sym, ap, ap₂, ◌∙◌, subst, arith, get_or, nat_eq, inl, inr, if◌then◌else◌}
+use Rattle.std.proofs.Common.{◌≡◌, ◌<◌, ℕ, zero, suc, ◌+◌, ◌%◌, Bool, true, false, List, [], ◌∷◌, ◌++◌, length, drop, refl, sym, ap, ap₂, ◌∙◌, subst, arith, get_or, nat_eq, inl, inr, if◌then◌else◌}
+use Rattle.std.proofs.Math.Seq.{drop-cons}
 use Rattle.std.proofs.lemmas.Bool.{cases_eq, ne_eqb, eq-eqb, eqb-true}
 use Rattle.formula_meaning.specs.Formula.{Formula, Formulas, Yes, No, One, Not, And, Or, Impl, Repl, Equiv, Ex, All, none, also}
 use Rattle.formula_meaning.specs.Shape.{Quantifier, Exists, ForAll}
 use Rattle.formula_meaning.specs.Tree.{Tree, Trees}
+use Rattle.linear_forms.specs.declared.form.VarId.{VarId}
+use Rattle.formula_tree.specs.Shapes.{tree_over}
+use Rattle.nnf_trees.specs.declared.nnf.Quantifier as code
+use Rattle.nnf_trees.specs.declared.nnf.Quantifier.TheVariants as quantifier
+use Rattle.shared_elimination.specs.Shared.{quantified_shape}
+use Rattle.prenex_theory.specs.Front.{quantified}
 use Rattle.prenex_theory.specs.Blocks.{other_kind, in_first, joined_blocks, blocks, blocks_of}
 use Rattle.prenex_forms.specs.declared.front.Place.{Place}
-use Rattle.prenex_forms.specs.Places.{place_at, placed, placed_in, level_names, levels_of, kind_at}
+use Rattle.prenex_forms.specs.Places.{kind_of, place_at, placed, placed_in, level_names, levels_of, kind_at}
 
 pub name_here : (l m x : ℕ) (ps : List Place) → l ≡ m → level_names m (place_at l x ∷ ps) ≡ x ∷ level_names m ps
 name_here l m x ps e = ap (λ (b : Bool). if b then x ∷ level_names m ps else level_names m ps) (eq-eqb l m e)
@@ -127,3 +134,15 @@ kind_next q l = go (nat_eq (l % 2) 0) refl (nat_eq ((l + 1) % 2) 0) refl
         odd n e z = absurd (cc (eq-eqb n 0 z, e))
         both_odd : ¬ (l % 2 ≡ 0) → ¬ ((l + 1) % 2 ≡ 0) → ⊥
         both_odd m n = omega arith
+
+-- the names from a place of this level on
+pub names_from : (l i : ℕ) (ps : List Place) (d : Place) → i < length ps → (get_or ps i d).level ≡ l → level_names l (drop i ps) ≡ (get_or ps i d).name.number ∷ level_names l (drop (suc i) ps)
+names_from l i ps d h e =
+    let p = get_or ps i d in
+    ap (level_names l) (drop-cons ps i d h)
+    ∙ ap (λ (b : Bool). if b then p.name.number ∷ level_names l (drop (suc i) ps) else level_names l (drop (suc i) ps)) (eq-eqb p.level l e)
+
+-- the tree of a formula under a quantifier
+pub quantified_tree : {Id : Type 0} (t : Id → Tree) (q : code.Quantifier) (x : VarId) (f : Id) → tree_over t (quantified_shape q x f) ≡ quantified (kind_of q) x.number (t f)
+quantified_tree t quantifier.Ex x f = refl
+quantified_tree t quantifier.All x f = refl

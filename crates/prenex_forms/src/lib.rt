@@ -3,6 +3,7 @@
 
 mod error;
 mod front;
+mod new_names;
 mod prefix;
 mod prenex;
 
