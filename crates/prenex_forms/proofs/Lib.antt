@@ -1,3 +1,4 @@
 pub mod Lists
 pub mod Fronts
 pub mod Gathered
+pub mod FoundNames
