@@ -2,7 +2,7 @@
 use Rattle.std.proofs.Common.{◌≡◌, ◌<◌, ◌≤◌, ◌+◌, ℕ, zero, suc, Bool, true, false, not, cond, List, [], ◌∷◌, ◌++◌, ◌||◌, length, take, Option, Some, None, inl, inr, refl, sym, ap, ◌∙◌, subst, arith, nat_lt, if◌then◌else◌}
 use Rattle.std.specs.Prelude.{option_map, position, is_none}
 use Rattle.std.specs.List.{prefix_len, list_any}
-use Rattle.std.proofs.lemmas.Bool.{ltb-true, ltb-false, lt-ltb, le-ltb}
+use Rattle.std.proofs.lemmas.Bool.{cases_eq, ltb-true, ltb-false, lt-ltb, le-ltb}
 use Rattle.formula_meaning.specs.Some.{Among}
 use Rattle.linear_forms.specs.declared.form.VarId.{VarId}
 use Rattle.qe_syntax.specs.Value.{same_name}
@@ -106,3 +106,10 @@ starts_more old now new x h e = record {
   front = ap (take (length old)) e ∙ take_shorter (length old) now (x ∷ []) h.longer ∙ h.front;
   longer = let l = h.longer in let m = ap length e ∙ length_last now x in omega arith;
 }
+
+-- all up to a number are there
+pub earlier_more : (index : ℕ) (names new : List (List ℕ)) → ((j : ℕ) → 0 < j → j < index → Among names (new_text j)) → Among names (new_text index) → new ≡ names → (j : ℕ) → 0 < j → j < index + 1 → Among new (new_text j)
+earlier_more index names new h k e j p l = elim (cases_eq j index) [
+    | inl i ↦ subst (λ ns. Among ns (new_text j)) (sym e) (subst (λ n. Among names (new_text n)) (sym i) k)
+    | inr n ↦ subst (λ ns. Among ns (new_text j)) (sym e) (h j p (omega arith))
+  ]

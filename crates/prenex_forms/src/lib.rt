@@ -6,6 +6,7 @@ mod front;
 mod new_names;
 mod prefix;
 mod prenex;
+mod sums;
 
 pub use error::PrenexError;
 pub use prenex::pnf;
