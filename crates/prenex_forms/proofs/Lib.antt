@@ -2,3 +2,4 @@ pub mod Lists
 pub mod Fronts
 pub mod Gathered
 pub mod FoundNames
+pub mod Changed

@@ -1,6 +1,7 @@
 //! Prenex forms of shared formulas.
 #![tactic(auto)]
 
+mod atoms;
 mod error;
 mod front;
 mod new_names;

@@ -34,7 +34,7 @@ unfolding coefficient
 among_mentions a x s m = named_multiple x (form_of a).terms s.rising s.nonzero m
 
 module _ (now : ℕ → ℕ) where
-  image_among : (v : ℕ) (ts : List Term) → ¬ (multiple v (terms_named now ts) ≡ pos 0) → (z : ℕ) × Among (names_of ts) z × (now z ≡ v)
+  pub image_among : (v : ℕ) (ts : List Term) → ¬ (multiple v (terms_named now ts) ≡ pos 0) → (z : ℕ) × Among (names_of ts) z × (now z ≡ v)
   image_among v [] n = absurd (n refl)
   image_among v (t ∷ ts) n =
       elim (cases_eq (now t.name) v) [
