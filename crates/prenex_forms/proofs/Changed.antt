@@ -37,6 +37,12 @@ module _ (now : ℕ → ℕ) where
   end_named zero (t ∷ ts) e = absurd (cc)
   end_named (suc i) (t ∷ ts) e = end_named i ts e
 
+  pub whole_named : (i : ℕ) (ts : List Term) → length ts ≤ i → take i (terms_named now ts) ≡ terms_named now ts
+  whole_named zero [] h = refl
+  whole_named (suc i) [] h = refl
+  whole_named zero (t ∷ ts) h = absurd (omega arith)
+  whole_named (suc i) (t ∷ ts) h = ap (λ us. record { times = t.times; name = now t.name } ∷ us) (whole_named i ts (omega arith))
+
   take_next : {X : Type 0} (i : ℕ) (x : X) (xs : List X) → take (suc i + 1) (x ∷ xs) ≡ x ∷ take (i + 1) xs
   take_next i x xs = let e : suc i + 1 ≡ suc (i + 1) = omega arith in ap (λ n. take n (x ∷ xs)) e
 
@@ -100,6 +106,11 @@ module _ (now : ℕ → ℕ) where
       together k m a e f = omega (arith, ints)
       nothing : (m a : ℤ) → a ≡ pos 0 → m ≡ m +ℤ a
       nothing m a e = omega (arith, ints)
+
+pub at_among : (i : ℕ) (ts : List Term) (t : Term) → slice_get ts i ≡ Some t → Among (names_of ts) t.name
+at_among i [] t e = absurd (cc)
+at_among zero (s ∷ ts) t e = let k : s ≡ t = cc in inl (ap (λ (u : Term). u.name) k)
+at_among (suc i) (s ∷ ts) t e = inr (at_among i ts t e)
 
 -- atoms of forms with the same sorted form have one normal form
 pub compare_same : (r : _) (f g : Form) (c : Context) → gathered f ≡ gathered g → normal_atom c (Compare r f) ≡ normal_atom c (Compare r g)

@@ -1,6 +1,6 @@
 -- Formulas that are made one after another.
 use Rattle.std.proofs.Common.{◌≡◌, sym, ap, ◌∙◌, List, [], ◌∷◌, ◌++◌}
-use Rattle.std.specs.Prelude.{Result, Ok, Err, OnOk}
+use Rattle.std.specs.Prelude.{Result, Ok, Err, OnOk, IfOk}
 use Rattle.formula_meaning.specs.Formula.{none, also}
 use Rattle.formula_meaning.specs.Fold.{append}
 use Rattle.formula_meaning.specs.Tree.{Trees}
@@ -22,3 +22,7 @@ all_pushed made left all h e = sym (append_none (Formulas_of made)) ∙ ap (appe
 pub on_ok_then : {X E : Type 0} (r : Result X E) (P Q : Type 0) → OnOk r P → (P → Q) → OnOk r Q
 on_ok_then (Ok x) P Q h f = f h
 on_ok_then (Err e) P Q h f = h
+
+pub if_ok_then : {X E : Type 0} (r : Result X E) (P Q : X → Type 0) → IfOk r P → ((x : X) → P x → Q x) → IfOk r Q
+if_ok_then (Ok x) P Q h f = f x h
+if_ok_then (Err e) P Q h f = h

@@ -21,6 +21,7 @@ use std::alloc::{AllocError, Global};
 
 /// An atom with each name as the list says, in normal form; an atom whose names all stay is copied. `Overflow` comes exactly
 /// where the constant of the normal form passes 2^127 - 1, else `Memory`.
+#[tactic(auto, using(nnf_trees::proofs::NnfEquations::nnfs))]
 pub(crate) fn renamed_atom(
     alloc: Global,
     context: Context,
@@ -35,6 +36,8 @@ pub(crate) fn renamed_atom(
     ensures fits { OnOk result (¬ (ConstantPasses (normal_atom (context_of context) (atom_named (now_of now.now) (atom_of atom.now))))) }
     ensures overflow { IsErrOf result AtomError.Overflow → ConstantPasses (normal_atom (context_of context) (atom_named (now_of now.now) (atom_of atom.now))) }
 {
+    // Its clause says that the numbers of the form are within the limit.
+    let _constant = form(atom).constant_part();
     if !is_changed(now, form(atom)) {
         return Ok(Nnf::One(atom.copy(alloc)?));
     }
