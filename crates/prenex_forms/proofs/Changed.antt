@@ -10,8 +10,12 @@ use Rattle.formula_meaning.specs.Form.{Form, Term, multiple, coefficient}
 use Rattle.formula_meaning.specs.Sorted.{AllAbove, IsRising, AllNonzero, IsSorted, gathered}
 use Rattle.formula_meaning.specs.Some.{Among}
 use Rattle.formula_meaning.specs.Atom.{Atom, Compare, Congruent, AtomIn, Mentions, form_of}
+use Rattle.formula_meaning.specs.Formula.{One}
+use Rattle.formula_meaning.specs.Tree.{Tree}
+use Rattle.exact_numbers.specs.Limit.{InLimit, PastLimit}
+use Rattle.linear_forms.specs.Terms.{IsLinear}
 use Rattle.formula_meaning.proofs.Gathered.{gathered_same}
-use Rattle.atom_normal.specs.NormalForm.{normal_atom, compared_in_fields, compared_over_integers, congruent}
+use Rattle.atom_normal.specs.NormalForm.{normal_atom, ConstantPasses, compared_in_fields, compared_over_integers, congruent}
 use Rattle.prenex_theory.specs.Renaming.{terms_named, form_named, atom_named}
 use Rattle.prenex_theory.specs.Links.{IsOneToOne}
 use Rattle.prenex_theory.proofs.NamedAtoms.{names_of, image_among, named_multiple}
@@ -127,3 +131,10 @@ congruent_same b n f g Integers e = ap (congruent b (pos n)) e
 pub atom_stays : (now : ℕ → ℕ) (a : Atom) → terms_named now (form_of a).terms ≡ (form_of a).terms → atom_named now a ≡ a
 atom_stays now (Compare r f) e = ap (λ ts. Compare r (record { terms = ts; constant = f.constant })) e
 atom_stays now (Congruent b n f) e = ap (λ ts. Congruent b n (record { terms = ts; constant = f.constant })) e
+
+-- a number within the limit does not pass it
+pub passes_not : (t : Tree) (a : Atom) → t ≡ One a → IsLinear (form_of a) → ¬ (ConstantPasses t)
+passes_not t a e l p = past (form_of a).constant l.constant_within (subst ConstantPasses e p)
+  where
+    past : (z : ℤ) → InLimit z → PastLimit z → ⊥
+    past z h k = omega (arith, ints, h, k)

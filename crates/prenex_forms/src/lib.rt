@@ -2,7 +2,9 @@
 #![tactic(auto)]
 
 mod atoms;
+mod chooser;
 mod error;
+mod free;
 mod front;
 mod new_names;
 mod prefix;
