@@ -3,3 +3,4 @@ pub mod Fronts
 pub mod Gathered
 pub mod FoundNames
 pub mod Changed
+pub mod RenamedParts

@@ -41,7 +41,9 @@ pub(crate) fn renamed_atom(
     if !is_changed(now, form(atom)) {
         return Ok(Nnf::One(atom.copy(alloc)?));
     }
-    let atom = changed(alloc, now, atom).map_err(|_| AtomError::Memory)?;
+    let Ok(atom) = changed(alloc, now, atom) else {
+        return Err(AtomError::Memory);
+    };
     match normal(alloc, context, atom)? {
         Normal::True => Ok(Nnf::Constant(true)),
         Normal::False => Ok(Nnf::Constant(false)),

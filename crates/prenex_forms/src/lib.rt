@@ -9,6 +9,7 @@ mod front;
 mod new_names;
 mod prefix;
 mod prenex;
+mod renaming;
 mod sums;
 
 pub use error::PrenexError;

@@ -59,10 +59,10 @@ module _ (count : ℕ) where
         (λ u. let i = free_image now f s v n.0 o.0 u in (i.0, inl i.1, i.2))
         (λ u. let i = free_images now fs (after count f s) v n.1 o.1 u in (i.0, inr i.1, i.2)) t
 
-  first_links : (now : ℕ → ℕ) (f : Tree) (fs : Trees) (s : Chosen) → Links count (λ z. FreeInSome Mentions (also f fs) z) now s → Links count (IsFree f) now s
+  pub first_links : (now : ℕ → ℕ) (f : Tree) (fs : Trees) (s : Chosen) → Links count (λ z. FreeInSome Mentions (also f fs) z) now s → Links count (IsFree f) now s
   first_links now f fs s l = links_fewer count (λ z. FreeInSome Mentions (also f fs) z) (IsFree f) now s (λ z t. inl t) l
 
-  other_links : (now : ℕ → ℕ) (f : Tree) (fs : Trees) (s : Chosen) → Links count (λ z. FreeInSome Mentions (also f fs) z) now s → Links count (λ z. FreeInSome Mentions fs z) now (after count f s)
+  pub other_links : (now : ℕ → ℕ) (f : Tree) (fs : Trees) (s : Chosen) → Links count (λ z. FreeInSome Mentions (also f fs) z) now s → Links count (λ z. FreeInSome Mentions fs z) now (after count f s)
   other_links now f fs s l =
       links_later count (λ z. FreeInSome Mentions fs z) now f s (links_fewer count (λ z. FreeInSome Mentions (also f fs) z) (λ z. FreeInSome Mentions fs z) now s (λ z t. inr t) l)
 

@@ -34,5 +34,4 @@ returns-then-not-is_changed-clause-fits c =
 
 pub normal-requires-clause-in_context : goal.normal-requires-clause-in_context
 normal-requires-clause-in_context c =
-    let stays : (o : Context) → AtomIn o (atom_of c.args.atom.now) → AtomIn o (atom_of c.in_ok-atom.atom) = search rules in
-    stays (context_of c.args.context) (normal_in (context_of c.args.context) (atom_of c.args.atom.now) c.requires.normal)
+    c.in-Ok.ensures.in_context (context_of c.args.context) (normal_in (context_of c.args.context) (atom_of c.args.atom.now) c.requires.normal)
