@@ -26,3 +26,7 @@ on_ok_then (Err e) P Q h f = h
 pub if_ok_then : {X E : Type 0} (r : Result X E) (P Q : X → Type 0) → IfOk r P → ((x : X) → P x → Q x) → IfOk r Q
 if_ok_then (Ok x) P Q h f = f x h
 if_ok_then (Err e) P Q h f = h
+
+pub if_ok_both : {X E : Type 0} (r : Result X E) (P R : X → Type 0) (Q : Type 0) → IfOk r P → OnOk r Q → ((x : X) → P x → Q → R x) → IfOk r R
+if_ok_both (Ok x) P R Q h k f = f x h k
+if_ok_both (Err e) P R Q h k f = h

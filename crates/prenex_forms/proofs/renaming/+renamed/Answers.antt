@@ -1,0 +1,86 @@
+use Rattle.std.proofs.Common.{rules, arith, ◌≡◌, ◌≤◌, ◌+◌, suc, [], ◌∷◌, ◌++◌, List, map, drop, inl, sym, ap, ◌∙◌, subst, true, refl}
+use Rattle.std.specs.Prelude.{IsErrOf, IfOk}
+use Rattle.std.specs.declared.result.Result.TheVariants.{Err}
+use Rattle.std.proofs.lemmas.List.{at_drop_all}
+use Rattle.formula_meaning.specs.Every.{EveryOf}
+use Rattle.formula_meaning.specs.Sizes.{nodes, all_nodes}
+use Rattle.formula_meaning.specs.Formula.{One}
+use Rattle.formula_meaning.specs.Tree.{Trees}
+use Rattle.atom_normal.specs.declared.error.AtomError.TheVariants as error
+use Rattle.atom_normal.specs.Atoms.{context_of, atom_of, IsWellFormed}
+use Rattle.formula_tree.specs.Trees.{members}
+use Rattle.nnf_trees.specs.declared.nnf.Nnf.{Nnf}
+use Rattle.nnf_trees.specs.Nnfs.{nnf_of, nnfs_of, quantified, AreProper}
+use Rattle.nnf_trees.proofs.Counting.{drop_at}
+use Rattle.nnf_trees.proofs.FormLaws.{quantified_nodes}
+use Rattle.nnf_trees.proofs.NnfEquations.{nnf-One, nnf-Quantified}
+use Rattle.nnf_trees.proofs.Pieces.{Formulas_of, itself_proper}
+use Rattle.prenex_forms.proofs.Lists.{if_ok_both}
+use Rattle.prenex_forms.proofs.RenamedParts.{IsGoing, going_first, going_on, going_last, first_ready, one_renamed, one_overflows}
+use Rattle.prenex_forms.proofs.renaming.+renamed.Goals as goal
+
+pub all_renamed-loop-f-init : goal.all_renamed-loop-f-init
+all_renamed-loop-f-init t c = record {
+  going = going_first (context_of c.args.context) c.args.chooser.now (nnfs_of c.args.fs.now) (members (map nnf_of c.items-f-items.result.now)) c.new-made.result.items c.requires.ready c.items-f-items.ensures.formulas c.new-made.ensures.items;
+  small = subst (λ fs. all_nodes fs ≤ all_nodes (nnfs_of c.args.fs.now)) c.items-f-items.ensures.formulas (omega arith);
+  made = subst AreProper (sym c.new-made.ensures.items) tt;
+  rest = subst (EveryOf IsWellFormed) c.items-f-items.ensures.atoms c.requires.proper;
+}
+
+pub all_renamed-loop-f-preserved : goal.all_renamed-loop-f-preserved
+all_renamed-loop-f-preserved t c =
+    let split = drop_at c.items-f-items.result.now c.loop-f.f-index c.f-item.result c.loop-f-test.true c.f-item.is in
+    let rest = drop (c.loop-f.f-index + 1) c.items-f-items.result.now in
+    let o = context_of c.args.context in
+    let before = c.loop-f.invariant in
+    let parts : AreProper (c.f-item.result ∷ rest) = subst AreProper split before.rest in
+    let few : nodes (nnf_of c.f-item.result) + all_nodes (members (map nnf_of rest)) ≤ all_nodes (nnfs_of c.args.fs.now)
+    = subst (λ (xs : List Nnf). all_nodes (members (map nnf_of xs)) ≤ all_nodes (nnfs_of c.args.fs.now)) split before.small in
+    let pushed : c.push.new.self.items ≡ c.loop-f.made.items ++ c.in_ok-member.member ∷ [] = search rules in
+    record {
+      going = going_on o c.args.chooser.now (nnfs_of c.args.fs.now) c.loop-f.made.items c.push.new.self.items c.loop-f.chooser (nnf_of c.f-item.result) (members (map nnf_of rest)) c.in_ok-member.member c.renamed.new.chooser
+          (subst (λ (xs : List Nnf). IsGoing o c.args.chooser.now (nnfs_of c.args.fs.now) c.loop-f.made.items c.loop-f.chooser (members (map nnf_of xs))) split before.going) c.in_ok-member.ensures.made pushed;
+      small = omega (arith, few);
+      made = itself_proper c.in_ok-member.member c.loop-f.made.items c.push.new.self.items before.made c.in_ok-member.ensures.proper pushed;
+      rest = parts.1;
+    }
+
+pub all_renamed-renamed-requires : goal.all_renamed-renamed-requires
+all_renamed-renamed-requires t c =
+    let split = drop_at c.items-f-items.result.now c.loop-f.f-index c.f-item.result c.loop-f-test.true c.f-item.is in
+    let rest = drop (c.loop-f.f-index + 1) c.items-f-items.result.now in
+    let o = context_of c.args.context in
+    let before = c.loop-f.invariant in
+    let parts : AreProper (c.f-item.result ∷ rest) = subst AreProper split before.rest in
+    let few : nodes (nnf_of c.f-item.result) + all_nodes (members (map nnf_of rest)) ≤ all_nodes (nnfs_of c.args.fs.now)
+    = subst (λ (xs : List Nnf). all_nodes (members (map nnf_of xs)) ≤ all_nodes (nnfs_of c.args.fs.now)) split before.small in
+    let going = subst (λ (xs : List Nnf). IsGoing o c.args.chooser.now (nnfs_of c.args.fs.now) c.loop-f.made.items c.loop-f.chooser (members (map nnf_of xs))) split before.going in
+    (omega (arith, few), (parts.0, first_ready o c.loop-f.chooser (nnf_of c.f-item.result) (members (map nnf_of rest)) going.ready))
+
+pub all_renamed-returns-in_err-member-clause-overflow : goal.all_renamed-returns-in_err-member-clause-overflow
+all_renamed-returns-in_err-member-clause-overflow t c =
+    let split = drop_at c.items-f-items.result.now c.loop-f.f-index c.f-item.result c.loop-f-test.true c.f-item.is in
+    let o = context_of c.args.context in
+    let going = subst (λ (xs : List Nnf). IsGoing o c.args.chooser.now (nnfs_of c.args.fs.now) c.loop-f.made.items c.loop-f.chooser (members (map nnf_of xs))) split c.loop-f.invariant.going in
+    let is : c.from_residual.result ≡ Err c.in_err-member.field-0.0 = search rules in
+    λ h. going.back (inl (c.in_err-member.ensures.overflow (subst (λ r. IsErrOf r error.Overflow) is h)))
+
+pub all_renamed-returns-clause-made : goal.all_renamed-returns-clause-made
+all_renamed-returns-clause-made t c =
+    going_last (context_of c.args.context) c.args.chooser.now (nnfs_of c.args.fs.now) c.loop-f.made.items c.loop-f.chooser (members (map nnf_of (drop c.loop-f.f-index c.items-f-items.result.now))) (nnfs_of c.of.result) c.loop-f.invariant.going
+        (at_drop_all (λ (xs : List Nnf). members (map nnf_of xs)) c.items-f-items.result.now c.loop-f.f-index c.loop-f-test.false) c.of.ensures.formulas
+
+pub renamed-returns-in-One-clause-made : goal.renamed-returns-in-One-clause-made
+renamed-returns-in-One-clause-made t c =
+    let o = context_of c.args.context in
+    let e : nnf_of c.args.f.now ≡ One (atom_of c.in-One.atom) = ap nnf_of c.in-One.is ∙ nnf-One c.in-One.atom in
+    if_ok_both c.renamed_atom.result _ _ _ c.renamed_atom.ensures.made c.renamed_atom.ensures.fits
+        (λ r m n. one_renamed o (atom_of c.in-One.atom) c.args.chooser.now (nnf_of c.args.f.now) (nnf_of r) c.deref.result.now e c.deref.ensures.value m n)
+
+pub renamed-returns-in-One-clause-overflow : goal.renamed-returns-in-One-clause-overflow
+renamed-returns-in-One-clause-overflow t c =
+    let e : nnf_of c.args.f.now ≡ One (atom_of c.in-One.atom) = ap nnf_of c.in-One.is ∙ nnf-One c.in-One.atom in
+    λ h. one_overflows (context_of c.args.context) (atom_of c.in-One.atom) c.args.chooser.now (nnf_of c.args.f.now) c.deref.result.now e c.deref.ensures.value (c.renamed_atom.ensures.overflow h)
+
+pub renamed-renamed-requires : goal.renamed-renamed-requires
+renamed-renamed-requires t c = let i = c.index-before.ensures in let j = c.rename.ensures.now in ?
