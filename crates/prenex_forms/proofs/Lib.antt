@@ -4,3 +4,4 @@ pub mod Gathered
 pub mod FoundNames
 pub mod Changed
 pub mod RenamedParts
+pub mod Done

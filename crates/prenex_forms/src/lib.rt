@@ -11,6 +11,7 @@ mod prefix;
 mod prenex;
 mod renaming;
 mod sums;
+mod whole;
 
 pub use error::PrenexError;
 pub use prenex::pnf;
