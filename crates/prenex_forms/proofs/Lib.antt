@@ -5,3 +5,4 @@ pub mod FoundNames
 pub mod Changed
 pub mod RenamedParts
 pub mod Done
+pub mod Starts

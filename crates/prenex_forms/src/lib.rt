@@ -4,12 +4,14 @@
 mod atoms;
 mod chooser;
 mod error;
+mod form;
 mod free;
 mod front;
 mod new_names;
 mod prefix;
 mod prenex;
 mod renaming;
+mod start;
 mod sums;
 mod whole;
 

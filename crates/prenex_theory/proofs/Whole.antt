@@ -81,7 +81,7 @@ has_fewest_blocks c count f n =
 -- ---- the names of the formula
 
 mutual
-  free_below : (n : ℕ) (f : Tree) (x : ℕ) → Every (λ a. (y : ℕ) → Mentions a y → y < n) f → IsFree f x → x < n
+  pub free_below : (n : ℕ) (f : Tree) (x : ℕ) → Every (λ a. (y : ℕ) → Mentions a y → y < n) f → IsFree f x → x < n
   free_below n Yes x h t = absurd t
   free_below n No x h t = absurd t
   free_below n (One a) x h t = h x t
@@ -102,7 +102,7 @@ mutual
   some_free_below n (also f fs) x h (inl t) = free_below n f x h.0 t
   some_free_below n (also f fs) x h (inr t) = some_free_below n fs x h.1 t
 
-among_is_in : (x : ℕ) (xs : List ℕ) → Among xs x → is_in nat_eq x xs ≡ true
+pub among_is_in : (x : ℕ) (xs : List ℕ) → Among xs x → is_in nat_eq x xs ≡ true
 among_is_in x [] m = absurd m
 among_is_in x (y ∷ ys) (inl e) = ap (λ (b : Bool). if b then true else is_in nat_eq x ys) (eq-eqb x y (sym e))
 among_is_in x (y ∷ ys) (inr m) = go (nat_eq x y) (among_is_in x ys m)
@@ -124,7 +124,7 @@ module _ (c : Context) (count : ℕ) (f : Tree) (h : HasPrenexForm c count f) wh
   free_used : (x : ℕ) → IsFree f x → Used count (nothing_chosen (tree_names f)) x
   free_used x t = inl (free_below count f x h.named.atoms t, among_is_in x free ((names_listed f x).1 t))
 
-  links : Links count (IsFree f) (λ x. x) (nothing_chosen (tree_names f))
+  pub links : Links count (IsFree f) (λ x. x) (nothing_chosen (tree_names f))
   links = record { used = free_used; one = λ y z t u e. e }
 
   sorted : Every HasSortedForm f
