@@ -6,3 +6,4 @@ pub mod Changed
 pub mod RenamedParts
 pub mod Done
 pub mod Starts
+pub mod Finished

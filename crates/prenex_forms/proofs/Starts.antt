@@ -28,7 +28,7 @@ module _ {X : Type 0} where
   get_past (y ∷ ys) zero h = absurd (omega arith)
   get_past (y ∷ ys) (suc x) h = get_past ys x (omega arith)
 
-length_push : {X : Type 0} (xs : List X) (b : X) → length (xs ++ b ∷ []) ≡ suc (length xs)
+pub length_push : {X : Type 0} (xs : List X) (b : X) → length (xs ++ b ∷ []) ≡ suc (length xs)
 length_push [] b = refl
 length_push (y ∷ ys) b = ap suc (length_push ys b)
 
@@ -61,11 +61,11 @@ free_is_in f x h = among_is_in x (tree_names f) ((names_listed f x).1 h)
 
 -- a test of a free name
 pub told_free : (b : Bool) (f : Tree) (x : ℕ) → IsTrue b ↔ IsFree f x → b ≡ is_in nat_eq x (tree_names f)
-told_free true f x e = sym (free_is_in f x (e.0 tt))
+told_free true f x e = sym (free_is_in f x (e.0 refl))
 told_free false f x e = go (is_in nat_eq x (tree_names f)) refl
   where
     go : (d : Bool) → is_in nat_eq x (tree_names f) ≡ d → false ≡ d
-    go true k = absurd (e.1 ((names_listed f x).0 (is_in_among x (tree_names f) k)))
+    go true k = let t : IsTrue false = e.1 ((names_listed f x).0 (is_in_among x (tree_names f) k)) in absurd (cc)
     go false k = refl
 
 pub flag_push : (f : Tree) (xs ys : List Bool) (n : ℕ) (b : Bool) → ((x : ℕ) → x < n → flag xs x ≡ is_in nat_eq x (tree_names f)) → length xs ≡ n → b ≡ is_in nat_eq n (tree_names f) → ys ≡ xs ++ b ∷ [] →
@@ -79,5 +79,5 @@ flag_push f xs ys n b h e t s x l = ap (λ zs. flag zs x) s ∙ elim (cases_eq x
 pub flag_all : (f : Tree) (xs : List Bool) (n : ℕ) → ((x : ℕ) → IsFree f x → x < n) → ((x : ℕ) → x < n → flag xs x ≡ is_in nat_eq x (tree_names f)) → length xs ≡ n → (x : ℕ) → flag xs x ≡ is_in nat_eq x (tree_names f)
 flag_all f xs n below h e x = elim (cases_lt x n) [
     | inl l ↦ h x l
-    | inr g ↦ ap (λ o. unwrap_or o false) (get_past xs x (omega arith)) ∙ told_free false f x (λ v. absurd v, λ v. let l = below x v in absurd (omega arith))
+    | inr g ↦ ap (λ o. unwrap_or o false) (get_past xs x (omega arith)) ∙ told_free false f x (λ (v : IsTrue false). absurd (cc), λ v. let l = below x v in absurd (omega arith))
   ]

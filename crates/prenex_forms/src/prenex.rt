@@ -17,7 +17,12 @@ ghost use Rattle.prenex_theory.specs.Prenex.{prenex_of};
 ghost use Rattle.prenex_forms.specs.Forms.{negation_form, OverflowsInRenaming};
 
 use crate::error::PrenexError;
-use atom_normal::Context;
+use crate::form::unfolded_form;
+use crate::new_names::add_new_names;
+use crate::renaming::renamed;
+use crate::start::start;
+use crate::whole::in_front;
+use atom_normal::{AtomError, Context};
 use formula_store::{FormulaId, Store};
 use formula_tree::Names;
 use std::alloc::Global;
@@ -57,5 +62,20 @@ pub fn pnf(
     ensures unchanged { OnErr result (names.new ≡ names.old) }
     ensures kept { Keeps (IsId store.old) (tree store.old) (IsId store.new) (tree store.new) }
 {
-    Err(PrenexError::Memory)
+    let form = unfolded_form(alloc, store, id, limit)?;
+    let Ok(mut chooser) = start(alloc, &form, names.count()) else {
+        return Err(PrenexError::Memory);
+    };
+    let named = match renamed(alloc, context, &mut chooser, &form) {
+        Ok(named) => named,
+        Err(AtomError::Overflow) => return Err(PrenexError::Overflow),
+        Err(AtomError::Memory) => return Err(PrenexError::Memory),
+    };
+    let Ok(made) = in_front(alloc, store, named) else {
+        return Err(PrenexError::Memory);
+    };
+    match add_new_names(alloc, names, chooser.made) {
+        Ok(()) => Ok(made),
+        Err(_) => Err(PrenexError::Memory),
+    }
 }

@@ -64,7 +64,7 @@ module _ (P : ℤ → Type 0) where
   carried : (ts us : List Term) → IsRising ts → IsRising us → HasMultiplesOf us ts → EachOf P (coefficients ts) → EachOf P (coefficients us)
   carried ts us r s h k = to_terms us s (λ w m. let i = h w m in subst P i.2 (from_terms ts r k i.0 i.1))
 
-multiple_among : (x : ℕ) (ts : List Term) → ¬ (multiple x ts ≡ pos 0) → Among (names_of ts) x
+pub multiple_among : (x : ℕ) (ts : List Term) → ¬ (multiple x ts ≡ pos 0) → Among (names_of ts) x
 multiple_among x [] n = absurd (n refl)
 multiple_among x (t ∷ ts) n =
     elim (cases_eq t.name x) [

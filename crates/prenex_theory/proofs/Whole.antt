@@ -38,7 +38,7 @@ use Rattle.prenex_theory.proofs.Shapes.{matrix_plain, atomic_plain, prefix_prene
 normal_plain : (c : Context) (f : Tree) → IsPlain f → IsPlain (replaced (normal_atom c) (λ x. x) f)
 normal_plain c f p = plain_stays (normal_atom c) (λ x. x) f p (every_all (λ a. IsPlain (normal_atom c a)) (λ a. atomic_plain (normal_atom c a) (normal_atomic c a)) f)
 
-chosen_shape : (count : ℕ) (f : Tree) → IsNegationNormal f → IsNegationNormal (with_chosen_names count f)
+pub chosen_shape : (count : ℕ) (f : Tree) → IsNegationNormal f → IsNegationNormal (with_chosen_names count f)
 chosen_shape count f n = renamed_shape count (λ x. x) f (nothing_chosen (tree_names f)) n
 
 behind : Context → Tree → Tree
