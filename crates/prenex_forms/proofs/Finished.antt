@@ -1,5 +1,5 @@
 -- The prenex form of a formula by its negation normal form and what a chooser chooses.
-use Rattle.std.proofs.Common.{◌≡◌, ◌<◌, ◌+◌, ℕ, Bool, List, [], ◌∷◌, inl, inr, refl, sym, ap, ap₂, ◌∙◌, subst, ◌↔◌, arith, nat_eq}
+use Rattle.std.proofs.Common.{◌≡◌, ◌<◌, ◌+◌, ℕ, zero, suc, Bool, List, [], ◌∷◌, ◌++◌, length, inl, inr, refl, sym, ap, ap₂, ◌∙◌, subst, ◌↔◌, arith, nat_eq}
 use Rattle.std.proofs.Math.Path.{fun_ext}
 use Rattle.formula_meaning.specs.Context.{Context}
 use Rattle.formula_meaning.specs.Formula.{Formula, Formulas, Yes, No, One, Not, And, Or, Impl, Repl, Equiv, Ex, All, none, also}
@@ -18,6 +18,19 @@ use Rattle.atom_normal.specs.NormalForm.{normal_atom, negated_normal, IsNormal, 
 use Rattle.formula_tree.specs.Somewhere.{SomeAtom}
 use Rattle.atom_normal.proofs.NormalLaws.{normal_atomic, negated_normal_is, negated_names}
 use Rattle.redlog_printer.specs.Within.{IsTreeWithin, IsAtomWithin, AreTermsWithin}
+use Rattle.formula_meaning.specs.Shape.{IsPrenex, fewest_blocks}
+use Rattle.formula_meaning.specs.Tree.{Equivalent, IsNegation}
+use Rattle.formula_meaning.specs.Atom.{AtomIn}
+use Rattle.formula_meaning.proofs.NormalShape.{normal_form_brings, normal_form_keeps}
+use Rattle.formula_meaning.proofs.Iff.{both_ways}
+use Rattle.formula_meaning.proofs.Equivalence.{equivalent_then}
+use Rattle.elimination_theory.proofs.NegationNormal.{negation_normal_keeps_truth}
+use Rattle.elimination_theory.proofs.BothTheories.{decided}
+use Rattle.atom_normal.proofs.NormalLaws.{negated_truth, normal_in}
+use Rattle.prenex_theory.specs.Blocks.{block_count}
+use Rattle.prenex_theory.specs.NewNames.{AddsNewNames}
+use Rattle.prenex_theory.proofs.Whole.{is_prenex, has_fewest_blocks, keeps_truth, keeps_names, is_normal}
+use Rattle.prenex_forms.proofs.Starts.{length_push}
 use Rattle.prenex_theory.specs.Front.{in_front}
 use Rattle.prenex_theory.specs.Renaming.{Chosen, nothing_chosen, after, renamed, with_chosen_names, new_count}
 use Rattle.prenex_theory.specs.Links.{Links}
@@ -123,3 +136,50 @@ module _ (c : Context) (n : ℕ) (f : Tree) (s : Chooser) (h : HasPrenexForm c n
 
   pub overflows_whole : Overflows c s f → OverflowsInRenaming c n f
   overflows_whole k = subst (λ (x : Tree). SomeAtom (λ a. ConstantPasses (normal_atom c a)) x) named_same k
+
+-- ---- the whole
+
+negation_keeps : (c : Context) (f : Tree) → Every (IsNormal c) f → Equivalent c f (negation_form f)
+negation_keeps c f h p o =
+    (negation_normal_keeps_truth c (decided c) negated_normal f p (every_map (IsNormal c) (AtomIn c) (normal_in c) f h)
+        (every_map (IsNormal c) (λ a. IsNegation c a (negated_normal a)) (λ a k q u. negated_truth c a (normal_in c a k) q u) f h) o).0
+
+-- what is promised of the prenex form of a formula
+pub record IsFinished (c : Context) (n : ℕ) (f g : Tree) : Type 0 where
+  pub prenex : IsPrenex g
+  pub fewest : block_count g ≡ fewest_blocks (negation_form f)
+  pub truth : Equivalent c f g
+  pub free : (x : ℕ) → IsFree g x ↔ IsFree f x
+  pub normal : Every (IsNormal c) g
+  pub named : IsTreeWithin (n + new_count n (negation_form f)) g
+
+finished_form : (c : Context) (n : ℕ) (f : Tree) → Every (IsNormal c) f → IsTreeWithin n f → IsFinished c n f (prenex_of c n (negation_form f))
+finished_form c n f k w =
+    let h = has_prenex_form c n f k w in
+    let g = negation_form f in
+    let m = is_normal c n g h in
+    record {
+      prenex = is_prenex c n g h.negation_normal;
+      fewest = has_fewest_blocks c n g h.negation_normal;
+      truth = equivalent_then c f g (prenex_of c n g) (negation_keeps c f k) (keeps_truth c n g h);
+      free = λ x. both_ways (keeps_names c n g h x) (
+        (normal_form_brings negated_normal Mentions x f (every_map (IsNormal c) (λ a. Mentions (negated_normal a) x → Mentions a x) (λ a _. (negated_names a x).0) f k)).0,
+        (normal_form_keeps negated_normal Mentions x f (every_map (IsNormal c) (λ a. Mentions a x → Mentions (negated_normal a) x) (λ a _. (negated_names a x).1) f k)).0,
+      );
+      normal = m.0;
+      named = within_back c (n + new_count n g) (prenex_of c n g) m.0 m.1;
+    }
+
+pub finished : (c : Context) (n : ℕ) (f g : Tree) → Every (IsNormal c) f → IsTreeWithin n f → g ≡ prenex_of c n (negation_form f) → IsFinished c n f g
+finished c n f g k w e = subst (IsFinished c n f) (sym e) (finished_form c n f k w)
+
+-- so many names more
+pub length_more : (k : ℕ) (old new : List (List ℕ)) → AddsNewNames old k new → length new ≡ length old + k
+length_more zero old new h = ap length h ∙ plus_zero (length old)
+  where
+    plus_zero : (m : ℕ) → m ≡ m + 0
+    plus_zero m = omega arith
+length_more (suc k) old new h = length_more k (old ++ h.0 ∷ []) new h.2 ∙ one_longer (length (old ++ h.0 ∷ [])) (length old) (length_push old h.0)
+  where
+    one_longer : (m n : ℕ) → m ≡ suc n → m + k ≡ n + suc k
+    one_longer m n e = omega arith
