@@ -1,27 +1,24 @@
 -- Terms whose names are changed one after another.
-use Rattle.std.proofs.Common.{◌≡◌, ◌<◌, ◌≤◌, ◌+◌, ℕ, zero, suc, Bool, true, false, List, [], ◌∷◌, Some, None, take, length, refl, sym, ap, ap₂, ◌∙◌, subst, arith, nat_eq, inl, inr, if◌then◌else◌}
+use Rattle.std.proofs.Common.{◌≡◌, ◌≤◌, ◌+◌, ℕ, zero, suc, Bool, List, [], ◌∷◌, Some, None, take, length, refl, sym, ap, ap₂, ◌∙◌, subst, arith, nat_eq, inl, inr, if◌then◌else◌}
 use Rattle.std.proofs.Math.IntN.{ℤ, pos, ◌+ℤ◌}
 use Rattle.std.specs.Prelude.{slice_get}
 use Rattle.std.proofs.lemmas.Int.{ints}
 use Rattle.std.proofs.lemmas.Bool.{cases_eq, ne_eqb, eq-eqb, cond-true, cond-false}
 use Rattle.exact_numbers.proofs.Order.{by_zero}
 use Rattle.formula_meaning.specs.Context.{Context, Fields, Integers}
-use Rattle.formula_meaning.specs.Form.{Form, Term, multiple, coefficient}
-use Rattle.formula_meaning.specs.Sorted.{AllAbove, IsRising, AllNonzero, IsSorted, gathered}
+use Rattle.formula_meaning.specs.Form.{Form, Term, multiple}
+use Rattle.formula_meaning.specs.Sorted.{AllAbove, IsRising, AllNonzero, gathered}
 use Rattle.formula_meaning.specs.Some.{Among}
-use Rattle.formula_meaning.specs.Atom.{Atom, Compare, Congruent, AtomIn, Mentions, form_of}
+use Rattle.formula_meaning.specs.Atom.{Atom, Compare, Congruent, form_of}
 use Rattle.formula_meaning.specs.Formula.{One}
 use Rattle.formula_meaning.specs.Tree.{Tree}
 use Rattle.exact_numbers.specs.Limit.{InLimit, PastLimit}
 use Rattle.linear_forms.specs.Terms.{IsLinear}
-use Rattle.formula_meaning.proofs.Gathered.{gathered_same}
 use Rattle.atom_normal.specs.NormalForm.{normal_atom, ConstantPasses, compared_in_fields, compared_over_integers, congruent}
-use Rattle.prenex_theory.specs.Renaming.{terms_named, form_named, atom_named}
-use Rattle.prenex_theory.specs.Links.{IsOneToOne}
+use Rattle.prenex_theory.specs.Renaming.{terms_named, atom_named}
 use Rattle.prenex_theory.proofs.NamedAtoms.{names_of, image_among, named_multiple}
 use Rattle.written_atoms.specs.Entries.{coefficient_at}
 use Rattle.written_atoms.proofs.EntryTerms.{at_name, multiple_take, none_before}
-use Rattle.prenex_forms.specs.Named.{IsOneToOneForm}
 
 module _ (now : ℕ → ℕ) where
   -- the first terms, changed
@@ -64,23 +61,26 @@ module _ (now : ℕ → ℕ) where
       multiple (now t.name) (take i (terms_named now ts)) ≡ pos 0
   none_named ts i t r n one e =
       by_zero (multiple (now t.name) (take i (terms_named now ts))) (λ z. z) (λ z.
-        let k = image_among now (now t.name) (take i ts) (λ m. z (ap (multiple (now t.name)) (take_named i ts) ∙ m)) in
-        let s = one k.0 (named_multiple k.0 ts r n (among_take k.0 i ts k.1)) k.2 in
-        absurd (named_multiple k.0 (take i ts) (rising_take i ts r) (nonzero_take i ts n) k.1 (ap (λ y. multiple y (take i ts)) s ∙ none_before ts i t r e)))
+      let k = image_among now (now t.name) (take i ts) (λ m. z (ap (multiple (now t.name)) (take_named i ts) ∙ m)) in
+      let s = one k.0 (named_multiple k.0 ts r n (among_take k.0 i ts k.1)) k.2 in
+      absurd (named_multiple k.0 (take i ts) (rising_take i ts r) (nonzero_take i ts n) k.1 (ap (λ y. multiple y (take i ts)) s ∙ none_before ts i t r e)))
     where
       among_take : (z j : ℕ) (us : List Term) → Among (names_of (take j us)) z → Among (names_of us) z
       among_take z zero us m = absurd m
       among_take z (suc j) [] m = absurd m
       among_take z (suc j) (u ∷ us) (inl p) = inl p
       among_take z (suc j) (u ∷ us) (inr m) = inr (among_take z j us m)
+
       above_take : (x j : ℕ) (us : List Term) → AllAbove x us → AllAbove x (take j us)
       above_take x zero us a = tt
       above_take x (suc j) [] a = tt
       above_take x (suc j) (u ∷ us) a = (a.0, above_take x j us a.1)
+
       rising_take : (j : ℕ) (us : List Term) → IsRising us → IsRising (take j us)
       rising_take zero us a = tt
       rising_take (suc j) [] a = tt
       rising_take (suc j) (u ∷ us) a = (above_take u.name j us a.0, rising_take j us a.1)
+
       nonzero_take : (j : ℕ) (us : List Term) → AllNonzero us → AllNonzero (take j us)
       nonzero_take zero us a = tt
       nonzero_take (suc j) [] a = tt
@@ -108,6 +108,7 @@ module _ (now : ℕ → ℕ) where
     where
       together : (k m a : ℤ) → m ≡ pos 0 → a ≡ k → k ≡ m +ℤ a
       together k m a e f = omega (arith, ints)
+
       nothing : (m a : ℤ) → a ≡ pos 0 → m ≡ m +ℤ a
       nothing m a e = omega (arith, ints)
 

@@ -1,11 +1,11 @@
 -- The prenex form of a formula by its negation normal form and what a chooser chooses.
-use Rattle.std.proofs.Common.{◌≡◌, ◌<◌, ◌+◌, ℕ, zero, suc, Bool, List, [], ◌∷◌, ◌++◌, length, inl, inr, refl, sym, ap, ap₂, ◌∙◌, subst, ◌↔◌, arith, nat_eq}
+use Rattle.std.proofs.Common.{◌≡◌, ◌<◌, ◌+◌, ℕ, zero, suc, List, [], ◌∷◌, ◌++◌, length, inl, inr, refl, sym, ap, ap₂, ◌∙◌, subst, ◌↔◌, arith, nat_eq}
 use Rattle.std.proofs.Math.Path.{fun_ext}
 use Rattle.formula_meaning.specs.Context.{Context}
 use Rattle.formula_meaning.specs.Formula.{Formula, Formulas, Yes, No, One, Not, And, Or, Impl, Repl, Equiv, Ex, All, none, also}
-use Rattle.formula_meaning.specs.Form.{Term, multiple, coefficient}
+use Rattle.formula_meaning.specs.Form.{Term, coefficient}
 use Rattle.formula_meaning.specs.Atom.{Atom, Mentions, form_of}
-use Rattle.formula_meaning.specs.Every.{Every, EveryOf, EveryBound, EveryBoundOf}
+use Rattle.formula_meaning.specs.Every.{Every, EveryBound, EveryBoundOf}
 use Rattle.formula_meaning.specs.NegationNormal.{normal_form, normal_form_of_not, normal_forms, normal_forms_of_not}
 use Rattle.formula_meaning.specs.Replaced.{replaced}
 use Rattle.formula_meaning.specs.Shape.{is_in}
@@ -13,7 +13,6 @@ use Rattle.formula_meaning.specs.Some.{Among}
 use Rattle.formula_meaning.specs.Tree.{Tree, IsFree, tree_names}
 use Rattle.formula_meaning.proofs.EachAtom.{every_map, every_both}
 use Rattle.formula_meaning.proofs.NormalShape.{normal_form_every, normal_form_shape}
-use Rattle.std.specs.List.{AllByRecursion}
 use Rattle.atom_normal.specs.NormalForm.{normal_atom, negated_normal, IsNormal, ConstantPasses}
 use Rattle.formula_tree.specs.Somewhere.{SomeAtom}
 use Rattle.atom_normal.proofs.NormalLaws.{normal_atomic, negated_normal_is, negated_names}
@@ -38,7 +37,7 @@ use Rattle.prenex_theory.specs.Prenex.{prenex_of, HasNamesBelow, HasPrenexForm}
 use Rattle.prenex_theory.proofs.NamedAtoms.{names_of}
 use Rattle.prenex_theory.proofs.AtomNames.{multiple_among, normal_sorted}
 use Rattle.prenex_theory.proofs.NamedAtoms.{among_mentions}
-use Rattle.prenex_theory.proofs.Whole.{links, free_below, chosen_shape}
+use Rattle.prenex_theory.proofs.Whole.{links, chosen_shape}
 use Rattle.prenex_forms.specs.declared.chooser.Chooser.{Chooser}
 use Rattle.prenex_forms.specs.Forms.{negation_form, OverflowsInRenaming}
 use Rattle.prenex_forms.specs.Named.{now_of}
@@ -84,7 +83,7 @@ has_prenex_form c n f h w = record {
   named = record {
     atoms = (normal_form_every negated_normal (λ a. (x : ℕ) → Mentions a x → x < n) f
         (every_map (IsAtomWithin n) (λ a. ((x : ℕ) → Mentions a x → x < n) × ((x : ℕ) → Mentions (negated_normal a) x → x < n))
-            (λ a k. (within_below n a k, λ x m. within_below n a k x ((negated_names a x).0 m))) f w.atoms)).0;
+        (λ a k. (within_below n a k, λ x m. within_below n a k x ((negated_names a x).0 m))) f w.atoms)).0;
     quantified = (bound_normal_form (λ x. x < n) negated_normal f w.quantified).0;
   };
 }
@@ -142,7 +141,7 @@ module _ (c : Context) (n : ℕ) (f : Tree) (s : Chooser) (h : HasPrenexForm c n
 negation_keeps : (c : Context) (f : Tree) → Every (IsNormal c) f → Equivalent c f (negation_form f)
 negation_keeps c f h p o =
     (negation_normal_keeps_truth c (decided c) negated_normal f p (every_map (IsNormal c) (AtomIn c) (normal_in c) f h)
-        (every_map (IsNormal c) (λ a. IsNegation c a (negated_normal a)) (λ a k q u. negated_truth c a (normal_in c a k) q u) f h) o).0
+    (every_map (IsNormal c) (λ a. IsNegation c a (negated_normal a)) (λ a k q u. negated_truth c a (normal_in c a k) q u) f h) o).0
 
 -- what is promised of the prenex form of a formula
 pub record IsFinished (c : Context) (n : ℕ) (f g : Tree) : Type 0 where

@@ -1,7 +1,7 @@
 -- Names that are found in a list, and new names at its end.
 use Rattle.std.proofs.Common.{◌≡◌, ◌<◌, ◌≤◌, ◌+◌, ℕ, zero, suc, Bool, true, false, not, cond, List, [], ◌∷◌, ◌++◌, ◌||◌, length, take, Option, Some, None, inl, inr, refl, sym, ap, ◌∙◌, subst, arith, nat_lt, if◌then◌else◌}
 use Rattle.std.specs.Prelude.{option_map, position, is_none}
-use Rattle.std.specs.List.{prefix_len, list_any}
+use Rattle.std.specs.List.{list_any}
 use Rattle.std.proofs.lemmas.Bool.{cases_eq, ltb-true, ltb-false, lt-ltb, le-ltb}
 use Rattle.formula_meaning.specs.Some.{Among}
 use Rattle.linear_forms.specs.declared.form.VarId.{VarId}
@@ -21,6 +21,7 @@ place_any x (y ∷ ys) = go (same_name x y) (place_any x ys)
         go : (b : Bool) → nat_lt m n ≡ b → nat_lt (1 + m) (suc n) ≡ b
         go true e = let l = ltb-true m n e in lt-ltb (1 + m) (suc n) (omega arith)
         go false e = let l = ltb-false m n e in le-ltb (1 + m) (suc n) (omega arith)
+
     go : (b : Bool) → nat_lt (place ys x) (length ys) ≡ list_any (same_name x) ys → nat_lt (if not b then 1 + place ys x else 0) (suc (length ys)) ≡ (b || list_any (same_name x) ys)
     go true h = lt-ltb 0 (suc (length ys)) (omega arith)
     go false h = next (place ys x) (length ys) ∙ h
@@ -110,6 +111,6 @@ starts_more old now new x h e = record {
 -- all up to a number are there
 pub earlier_more : (index : ℕ) (names new : List (List ℕ)) → ((j : ℕ) → 0 < j → j < index → Among names (new_text j)) → Among names (new_text index) → new ≡ names → (j : ℕ) → 0 < j → j < index + 1 → Among new (new_text j)
 earlier_more index names new h k e j p l = elim (cases_eq j index) [
-    | inl i ↦ subst (λ ns. Among ns (new_text j)) (sym e) (subst (λ n. Among names (new_text n)) (sym i) k)
-    | inr n ↦ subst (λ ns. Among ns (new_text j)) (sym e) (h j p (omega arith))
-  ]
+  | inl i ↦ subst (λ ns. Among ns (new_text j)) (sym e) (subst (λ n. Among names (new_text n)) (sym i) k)
+  | inr n ↦ subst (λ ns. Among ns (new_text j)) (sym e) (h j p (omega arith))
+]

@@ -1,8 +1,8 @@
 -- The places of a formula, gathered by their levels, are its blocks.
-use Rattle.std.proofs.Common.{◌≡◌, ◌<◌, ℕ, zero, suc, ◌+◌, ◌%◌, Bool, true, false, List, [], ◌∷◌, ◌++◌, length, drop, refl, sym, ap, ap₂, ◌∙◌, subst, arith, get_or, nat_eq, inl, inr, if◌then◌else◌}
+use Rattle.std.proofs.Common.{◌≡◌, ◌<◌, ℕ, zero, suc, ◌+◌, ◌%◌, Bool, true, false, List, [], ◌∷◌, ◌++◌, length, drop, refl, sym, ap, ap₂, ◌∙◌, arith, get_or, nat_eq, if◌then◌else◌}
 use Rattle.std.proofs.Math.Seq.{drop-cons}
-use Rattle.std.proofs.lemmas.Bool.{cases_eq, ne_eqb, eq-eqb, eqb-true}
-use Rattle.formula_meaning.specs.Formula.{Formula, Formulas, Yes, No, One, Not, And, Or, Impl, Repl, Equiv, Ex, All, none, also}
+use Rattle.std.proofs.lemmas.Bool.{ne_eqb, eq-eqb, eqb-true}
+use Rattle.formula_meaning.specs.Formula.{Yes, No, One, Not, And, Or, Impl, Repl, Equiv, Ex, All, none, also}
 use Rattle.formula_meaning.specs.Shape.{Quantifier, Exists, ForAll}
 use Rattle.formula_meaning.specs.Tree.{Tree, Trees}
 use Rattle.linear_forms.specs.declared.form.VarId.{VarId}
@@ -124,6 +124,7 @@ kind_next q l = go (nat_eq (l % 2) 0) refl (nat_eq ((l + 1) % 2) 0) refl
     twice : (q : Quantifier) → other_kind (other_kind q) ≡ q
     twice Exists = refl
     twice ForAll = refl
+
     go : (b : Bool) → nat_eq (l % 2) 0 ≡ b → (d : Bool) → nat_eq ((l + 1) % 2) 0 ≡ d → other_kind (if b then q else other_kind q) ≡ (if d then q else other_kind q)
     go true e true h = let a = eqb-true (l % 2) 0 e in let b = eqb-true ((l + 1) % 2) 0 h in absurd (omega arith)
     go true e false h = refl
@@ -132,6 +133,7 @@ kind_next q l = go (nat_eq (l % 2) 0) refl (nat_eq ((l + 1) % 2) 0) refl
       where
         odd : (n : ℕ) → nat_eq n 0 ≡ false → ¬ (n ≡ 0)
         odd n e z = absurd (cc (eq-eqb n 0 z, e))
+
         both_odd : ¬ (l % 2 ≡ 0) → ¬ ((l + 1) % 2 ≡ 0) → ⊥
         both_odd m n = omega arith
 

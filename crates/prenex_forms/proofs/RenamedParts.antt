@@ -1,18 +1,18 @@
 -- A formula with the names that a chooser chooses, at each way to make one.
-use Rattle.std.proofs.Common.{◌≡◌, ◌<◌, ◌⊎◌, ℕ, Bool, true, false, List, [], ◌∷◌, ◌++◌, Some, None, length, inl, inr, ⊎_elim, refl, sym, ap, ap₂, ◌∙◌, subst, arith, nat_eq, if◌then◌else◌, get_or}
-use Rattle.std.specs.Prelude.{slice_get, slice_set, unwrap_or}
+use Rattle.std.proofs.Common.{◌≡◌, ◌<◌, ℕ, Bool, true, false, List, [], ◌∷◌, ◌++◌, length, inl, inr, ⊎_elim, refl, sym, ap, ap₂, ◌∙◌, subst, if◌then◌else◌, get_or}
+use Rattle.std.specs.Prelude.{slice_set}
 use Rattle.std.proofs.Math.Path.{fun_ext}
 use Rattle.std.proofs.lemmas.Bool.{eq-eqb, ne_eqb, cases_eq}
 use Rattle.std.proofs.lemmas.List.{set-set, set-get_or, get_or-set_same, get_or-set_other}
 use Rattle.std.proofs.lemmas.Option.{unwrap_or-slice_get}
 use Rattle.formula_meaning.specs.Context.{Context}
-use Rattle.formula_meaning.specs.Formula.{Yes, No, One, And, Or, Ex, All, none, also}
+use Rattle.formula_meaning.specs.Formula.{One, And, Or, Ex, All, none, also}
 use Rattle.formula_meaning.specs.Fold.{joined, append}
 use Rattle.nnf_trees.specs.declared.nnf.Nnf.{Nnf}
 use Rattle.nnf_trees.proofs.Pieces.{Formulas_of}
 use Rattle.prenex_forms.proofs.Lists.{one_pushed, all_pushed}
 use Rattle.formula_meaning.specs.Atom.{Atom, Mentions}
-use Rattle.formula_meaning.specs.Every.{Every, EveryOf, EveryBound, EveryBoundOf, FreeInSome}
+use Rattle.formula_meaning.specs.Every.{Every, EveryBound, EveryBoundOf, FreeInSome}
 use Rattle.formula_meaning.specs.Replaced.{replaced, all_replaced}
 use Rattle.formula_meaning.specs.Tree.{Tree, Trees, IsFree}
 use Rattle.formula_tree.specs.Somewhere.{SomeAtom, SomewhereIn}
@@ -24,7 +24,7 @@ use Rattle.nnf_trees.specs.declared.nnf.Quantifier.TheVariants as quantifier
 use Rattle.nnf_trees.specs.Nnfs.{junction_of, quantified, nnf_of}
 use Rattle.prenex_theory.specs.Renaming.{Chosen, chosen_name, chosen, after, after_all, renamed, all_renamed, with_now, atom_named}
 use Rattle.prenex_theory.specs.Links.{Links}
-use Rattle.prenex_theory.proofs.Renamed.{links_fewer, links_later, links_under}
+use Rattle.prenex_theory.proofs.Renamed.{links_under}
 use Rattle.prenex_theory.proofs.RenamedTruth.{first_links, other_links}
 use Rattle.prenex_forms.specs.declared.chooser.Chooser.{Chooser}
 use Rattle.prenex_forms.specs.Named.{now_of}
@@ -77,6 +77,7 @@ module _ (c : Context) where
             let d = subst (λ (now : ℕ → ℕ). Links old.count (IsFree f) now (chosen_of in_it)) (sym (i.now ∙ ap (with_now (now_of old.now.items) x) i.name)) a in
             subst (λ (k : ℕ). Links k (IsFree f) (now_of in_it.now.items) (chosen_of in_it)) (sym i.count) d;
       }
+
       go : (q : Quantifier) → CanRename c old (quantified q x f) → CanRename c in_it f
       go quantifier.Ex h = under h.normal h.bound.0 h.bound.1 h.links
       go quantifier.All h = under h.normal h.bound.0 h.bound.1 h.links
@@ -96,10 +97,13 @@ module _ (c : Context) where
     where
       same : g ≡ replaced (normal_atom c) (λ z. z) (renamed old.count (with_now (now_of old.now.items) x (chosen_name old.count x (chosen_of old))) f (chosen old.count x (chosen_of old)))
       same = r.made ∙ ap (λ h. replaced (normal_atom c) (λ z. z) h) (named_inside old x y in_it f i)
+
       last : chosen_of new ≡ after old.count f (chosen old.count x (chosen_of old))
       last = a ∙ r.chosen ∙ ap₂ (λ n s. after n f s) i.count i.chosen
+
       fit : ¬ (SomeAtom (λ a. ConstantPasses (normal_atom c a)) (renamed old.count (with_now (now_of old.now.items) x (chosen_name old.count x (chosen_of old))) f (chosen old.count x (chosen_of old))))
       fit h = r.fits (subst (λ (g : Tree). SomeAtom (λ a. ConstantPasses (normal_atom c a)) g) (sym (named_inside old x y in_it f i)) h)
+
       go : (q : Quantifier) → IsRenamed c old (quantified q x f) (quantified q y g) new
       go quantifier.Ex = record { made = ap₂ Ex i.name same; chosen = last; now = d; count = b ∙ r.count ∙ i.count; fits = λ h. ⊎_elim (λ z. z) fit h }
       go quantifier.All = record { made = ap₂ All i.name same; chosen = last; now = d; count = b ∙ r.count ∙ i.count; fits = λ h. ⊎_elim (λ z. z) fit h }

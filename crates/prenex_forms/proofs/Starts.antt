@@ -1,5 +1,5 @@
 -- Flags and numbers that are put one after another.
-use Rattle.std.proofs.Common.{◌≡◌, ◌<◌, ◌≤◌, ◌+◌, ◌↔◌, ◌⊎◌, ℕ, zero, suc, Bool, true, false, IsTrue, List, [], ◌∷◌, ◌++◌, Some, None, length, inl, inr, refl, sym, ap, ◌∙◌, subst, arith, nat_eq, if◌then◌else◌}
+use Rattle.std.proofs.Common.{◌≡◌, ◌<◌, ◌≤◌, ◌+◌, ◌↔◌, ◌⊎◌, ℕ, zero, suc, Bool, true, false, IsTrue, List, [], ◌∷◌, ◌++◌, Some, None, length, inl, inr, refl, sym, ap, ◌∙◌, arith, nat_eq, if◌then◌else◌}
 use Rattle.std.specs.Prelude.{slice_get, unwrap_or}
 use Rattle.std.proofs.lemmas.Bool.{cases_eq, cases_lt, eqb-true}
 use Rattle.formula_meaning.specs.Shape.{is_in}
@@ -34,19 +34,19 @@ length_push (y ∷ ys) b = ap suc (length_push ys b)
 
 pub now_push : (xs ys : List ℕ) (n : ℕ) → ((x : ℕ) → now_of xs x ≡ x) → length xs ≡ n → ys ≡ xs ++ n ∷ [] → (x : ℕ) → now_of ys x ≡ x
 now_push xs ys n h e s x = ap (λ zs. now_of zs x) s ∙ elim (cases_order x) [
-    | inl l ↦ ap (λ o. unwrap_or o x) (get_front xs n x (omega arith)) ∙ h x
-    | inr (inl m) ↦ ap (λ o. unwrap_or o x) (get_last xs n x (e ∙ sym m)) ∙ sym m
-    | inr (inr g) ↦ let k = length_push xs n in ap (λ o. unwrap_or o x) (get_past (xs ++ n ∷ []) x (omega arith))
-  ]
+  | inl l ↦ ap (λ o. unwrap_or o x) (get_front xs n x (omega arith)) ∙ h x
+  | inr (inl m) ↦ ap (λ o. unwrap_or o x) (get_last xs n x (e ∙ sym m)) ∙ sym m
+  | inr (inr g) ↦ let k = length_push xs n in ap (λ o. unwrap_or o x) (get_past (xs ++ n ∷ []) x (omega arith))
+]
   where
     cases_order : (x : ℕ) → (x < n) ⊎ ((x ≡ n) ⊎ (n < x))
     cases_order x = elim (cases_eq x n) [
-        | inl m ↦ inr (inl m)
-        | inr d ↦ elim (cases_lt x n) [
-            | inl l ↦ inl l
-            | inr g ↦ inr (inr (omega arith))
-          ]
+      | inl m ↦ inr (inl m)
+      | inr d ↦ elim (cases_lt x n) [
+        | inl l ↦ inl l
+        | inr g ↦ inr (inr (omega arith))
       ]
+    ]
 
 is_in_among : (x : ℕ) (xs : List ℕ) → is_in nat_eq x xs ≡ true → Among xs x
 is_in_among x [] e = absurd (cc)
@@ -71,13 +71,13 @@ told_free false f x e = go (is_in nat_eq x (tree_names f)) refl
 pub flag_push : (f : Tree) (xs ys : List Bool) (n : ℕ) (b : Bool) → ((x : ℕ) → x < n → flag xs x ≡ is_in nat_eq x (tree_names f)) → length xs ≡ n → b ≡ is_in nat_eq n (tree_names f) → ys ≡ xs ++ b ∷ [] →
     (x : ℕ) → x < n + 1 → flag ys x ≡ is_in nat_eq x (tree_names f)
 flag_push f xs ys n b h e t s x l = ap (λ zs. flag zs x) s ∙ elim (cases_eq x n) [
-    | inl m ↦ ap (λ o. unwrap_or o false) (get_last xs b x (e ∙ sym m)) ∙ t ∙ ap (λ k. is_in nat_eq k (tree_names f)) (sym m)
-    | inr d ↦ ap (λ o. unwrap_or o false) (get_front xs b x (omega arith)) ∙ h x (omega arith)
-  ]
+  | inl m ↦ ap (λ o. unwrap_or o false) (get_last xs b x (e ∙ sym m)) ∙ t ∙ ap (λ k. is_in nat_eq k (tree_names f)) (sym m)
+  | inr d ↦ ap (λ o. unwrap_or o false) (get_front xs b x (omega arith)) ∙ h x (omega arith)
+]
 
 -- no flag past the end
 pub flag_all : (f : Tree) (xs : List Bool) (n : ℕ) → ((x : ℕ) → IsFree f x → x < n) → ((x : ℕ) → x < n → flag xs x ≡ is_in nat_eq x (tree_names f)) → length xs ≡ n → (x : ℕ) → flag xs x ≡ is_in nat_eq x (tree_names f)
 flag_all f xs n below h e x = elim (cases_lt x n) [
-    | inl l ↦ h x l
-    | inr g ↦ ap (λ o. unwrap_or o false) (get_past xs x (omega arith)) ∙ told_free false f x (λ (v : IsTrue false). absurd (cc), λ v. let l = below x v in absurd (omega arith))
-  ]
+  | inl l ↦ h x l
+  | inr g ↦ ap (λ o. unwrap_or o false) (get_past xs x (omega arith)) ∙ told_free false f x (λ (v : IsTrue false). absurd (cc), λ v. let l = below x v in absurd (omega arith))
+]

@@ -18,11 +18,7 @@ use std::alloc::{AllocError, Global};
 
 /// The formula with its quantifiers in front, in as few blocks as their nesting allows. Its only error is want of memory; the
 /// formulas of the store stay.
-pub(crate) fn in_front(
-    alloc: Global,
-    store: &mut Store,
-    f: Nnf,
-) -> Result<FormulaId, AllocError>
+pub(crate) fn in_front(alloc: Global, store: &mut Store, f: Nnf) -> Result<FormulaId, AllocError>
     requires { IsProper f }
     ensures made { IfOk result (λ r. IsMade (IsId store.new) (tree store.new) r (in_front (nnf_of f))) }
     ensures kept { Keeps (IsId store.old) (tree store.old) (IsId store.new) (tree store.new) }

@@ -1,16 +1,15 @@
-use Rattle.std.proofs.Common.{◌≡◌, ◌≤◌, Some, ℤ, pos, to_z, of_z, sym, ap, ◌∙◌, subst, arith, nat_eq, length, ℕ, if◌then◌else◌}
+use Rattle.std.proofs.Common.{◌≡◌, ◌≤◌, Some, ℤ, sym, ap, ◌∙◌, subst, arith, nat_eq, length, ℕ, if◌then◌else◌}
 use Rattle.std.specs.Prelude.{slice_get}
 use Rattle.std.specs.Int.{w128}
-use Rattle.std.proofs.lemmas.Int.{ints, to_z-of_z}
+use Rattle.std.proofs.lemmas.Int.{to_z-of_z}
 use Rattle.exact_numbers.specs.Limit.{InLimit}
 use Rattle.exact_numbers.proofs.Casts.{fits}
-use Rattle.formula_meaning.specs.Form.{Term, Form, coefficient, multiple}
-use Rattle.formula_meaning.specs.Sorted.{gathered}
+use Rattle.formula_meaning.specs.Form.{Term, coefficient, multiple}
 use Rattle.formula_meaning.proofs.Gathered.{gathered_same}
 use Rattle.linear_forms.specs.Terms.{IsLinear}
 use Rattle.written_atoms.specs.Entries.{coefficient_at}
 use Rattle.written_atoms.proofs.EntryTerms.{within_at}
-use Rattle.prenex_theory.specs.Renaming.{terms_named, form_named}
+use Rattle.prenex_theory.specs.Renaming.{form_named}
 use Rattle.prenex_theory.proofs.NamedAtoms.{named_multiple}
 use Rattle.prenex_forms.specs.Named.{now_of, IsFormOf}
 use Rattle.prenex_forms.proofs.Lists.{if_ok_then}
@@ -53,5 +52,5 @@ returns c =
     let start = simp to_z-of_z at c.of-sum.ensures.constant in
     let all : length f.terms ≤ c.loop-place.place = omega arith in
     if_ok_then c.into_form.result (λ g. IsFormOf c.loop-place.sum g × IsLinear g) _ c.into_form.ensures (λ g h.
-      gathered_same g (form_named now f) (λ x. h.0.coefficients x ∙ c.loop-place.invariant.coefficients x ∙ ap (multiple x) (whole_named now c.loop-place.place f.terms all))
-          (h.0.constant ∙ c.loop-place.invariant.constant ∙ start ∙ c.constant_part.ensures.value))
+    gathered_same g (form_named now f) (λ x. h.0.coefficients x ∙ c.loop-place.invariant.coefficients x ∙ ap (multiple x) (whole_named now c.loop-place.place f.terms all))
+    (h.0.constant ∙ c.loop-place.invariant.constant ∙ start ∙ c.constant_part.ensures.value))

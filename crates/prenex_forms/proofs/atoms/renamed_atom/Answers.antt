@@ -1,12 +1,9 @@
-use Rattle.std.proofs.Common.{rules, ◌≡◌, false, sym, ap, ◌∙◌, subst, arith}
-use Rattle.std.proofs.lemmas.Int.{ints}
-use Rattle.formula_meaning.specs.Context.{Context}
+use Rattle.std.proofs.Common.{rules, ◌≡◌, false, sym, ap, ◌∙◌, subst}
 use Rattle.formula_meaning.specs.Form.{Form}
 use Rattle.formula_meaning.specs.Formula.{One}
-use Rattle.formula_meaning.specs.Atom.{AtomIn, form_of}
 use Rattle.linear_forms.specs.Terms.{IsLinear}
 use Rattle.atom_normal.specs.Atoms.{context_of, atom_of}
-use Rattle.atom_normal.specs.NormalForm.{normal_atom, ConstantPasses}
+use Rattle.atom_normal.specs.NormalForm.{normal_atom}
 use Rattle.atom_normal.proofs.NormalLaws.{normal_stays, normal_in}
 use Rattle.nnf_trees.proofs.NnfEquations.{nnf-One}
 use Rattle.prenex_theory.specs.Renaming.{terms_named, atom_named}

@@ -1,13 +1,12 @@
 use Rattle.std.proofs.Common.{rules, arith, ◌≡◌, ◌≤◌, ◌+◌, ◌∷◌, ◌++◌, [], List, map, length, ap, ◌∙◌, subst, sym}
 use Rattle.formula_meaning.specs.Formula.{also}
-use Rattle.formula_meaning.specs.Fold.{append}
 use Rattle.formula_meaning.specs.Sizes.{nodes, all_nodes}
 use Rattle.formula_tree.specs.Trees.{members}
 use Rattle.nnf_trees.specs.declared.nnf.Nnf.{Nnf}
 use Rattle.nnf_trees.specs.Nnfs.{nnf_of, nnfs_of, AreProper}
 use Rattle.nnf_trees.proofs.NnfEquations.{nnf-Constant, nnf-One, nnf-Quantified}
 use Rattle.nnf_trees.proofs.Pieces.{empty, itself_proper, Formulas_of}
-use Rattle.prenex_theory.specs.Blocks.{matrix, matrices}
+use Rattle.prenex_theory.specs.Blocks.{matrices}
 use Rattle.prenex_forms.specs.Places.{kind_of, level_behind, place_at, placed, placed_in}
 use Rattle.prenex_forms.proofs.Lists.{one_pushed, all_pushed, on_ok_then}
 use Rattle.prenex_forms.proofs.Fronts.{constant_placed, quantified_placed, nothing_more, one_more, members_more}
@@ -58,10 +57,10 @@ stripped-returns-in_ok-push-in-Quantified-clause-places t c =
     let l = c.in_ok-level-in-Quantified.level in
     let at = level_behind q c.args.level (kind_of r) in
     let pushed : c.push.new.self.items ≡ c.args.places.now.items ++ place_at at c.in-Quantified.name.number ∷ [] =
-        c.in_ok-push-in-Quantified.ensures.items ∙ ap (λ k. c.args.places.now.items ++ place_at k c.in-Quantified.name.number ∷ []) c.in_ok-level-in-Quantified.ensures in
+    c.in_ok-push-in-Quantified.ensures.items ∙ ap (λ k. c.args.places.now.items ++ place_at k c.in-Quantified.name.number ∷ []) c.in_ok-level-in-Quantified.ensures in
     let same : placed q c.args.level (nnf_of c.args.f) ≡ place_at at c.in-Quantified.name.number ∷ placed (kind_of r) at f =
-        ap (placed q c.args.level) (ap nnf_of c.in-Quantified.is ∙ nnf-Quantified r c.in-Quantified.name c.in-Quantified.inner) ∙ sym (quantified_placed r c.in-Quantified.name.number f q c.args.level) in
+    ap (placed q c.args.level) (ap nnf_of c.in-Quantified.is ∙ nnf-Quantified r c.in-Quantified.name c.in-Quantified.inner) ∙ sym (quantified_placed r c.in-Quantified.name.number f q c.args.level) in
     on_ok_then c.stripped.result _ _ c.stripped.ensures.places (λ h.
-      one_more c.args.places.now.items c.push.new.self.items c.stripped.new.places.items (placed (kind_of r) at f) (place_at at c.in-Quantified.name.number) pushed
-          (h ∙ ap (λ g. c.push.new.self.items ++ placed (kind_of r) l (nnf_of g)) c.into_inner.ensures ∙ ap (λ k. c.push.new.self.items ++ placed (kind_of r) k f) c.in_ok-level-in-Quantified.ensures)
-      ∙ ap (λ ps. c.args.places.now.items ++ ps) (sym same))
+    one_more c.args.places.now.items c.push.new.self.items c.stripped.new.places.items (placed (kind_of r) at f) (place_at at c.in-Quantified.name.number) pushed
+    (h ∙ ap (λ g. c.push.new.self.items ++ placed (kind_of r) l (nnf_of g)) c.into_inner.ensures ∙ ap (λ k. c.push.new.self.items ++ placed (kind_of r) k f) c.in_ok-level-in-Quantified.ensures)
+    ∙ ap (λ ps. c.args.places.now.items ++ ps) (sym same))

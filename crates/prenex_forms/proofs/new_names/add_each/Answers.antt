@@ -1,4 +1,4 @@
-use Rattle.std.proofs.Common.{◌≡◌, ◌+◌, suc, sym, subst, arith}
+use Rattle.std.proofs.Common.{◌≡◌, ◌+◌, suc, subst, arith}
 use Rattle.prenex_theory.specs.NewNames.{AddsNewNames}
 use Rattle.prenex_forms.proofs.FoundNames.{adds_last, starts_more}
 use Rattle.prenex_forms.proofs.new_names.add_each.Goals as goal

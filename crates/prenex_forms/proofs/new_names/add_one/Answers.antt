@@ -1,4 +1,4 @@
-use Rattle.std.proofs.Common.{rules, ◌≡◌, ◌<◌, ◌++◌, ◌∷◌, [], ℕ, List, ap, sym, ◌∙◌, subst, arith, below_more, true, false}
+use Rattle.std.proofs.Common.{rules, ◌≡◌, ◌++◌, ◌∷◌, [], ℕ, List, ap, ◌∙◌, subst, arith, true, false}
 use Rattle.std.specs.Prelude.{is_none}
 use Rattle.formula_meaning.specs.Some.{Among}
 use Rattle.formula_tree.specs.Names.{with_name}
@@ -29,9 +29,9 @@ returns-then-is_none-clause-earlier c =
     let none : is_none c.find.result ≡ true = search rules in
     let put : c.number.new.self ≡ with_name names name = search rules in
     earlier_more c.loop-index.index (names ++ name ∷ []) c.number.new.self
-        (λ j p h. among_front (new_text j) names (name ∷ []) (c.loop-index.invariant.earlier j p h))
-        (subst (λ x. Among (names ++ name ∷ []) x) c.in_ok-name.ensures (among_last name names))
-        (put ∙ goes_last c.find.result names name c.find.ensures none)
+    (λ j p h. among_front (new_text j) names (name ∷ []) (c.loop-index.invariant.earlier j p h))
+    (subst (λ x. Among (names ++ name ∷ []) x) c.in_ok-name.ensures (among_last name names))
+    (put ∙ goes_last c.find.result names name c.find.ensures none)
 
 pub loop-index-preserved : goal.loop-index-preserved
 loop-index-preserved c =

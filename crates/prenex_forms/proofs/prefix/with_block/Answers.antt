@@ -1,10 +1,10 @@
-use Rattle.std.proofs.Common.{◌≡◌, ◌-◌, ◌<◌, suc, ◌∷◌, drop, get_or, length, sym, ap, ◌∙◌, arith}
+use Rattle.std.proofs.Common.{◌≡◌, ◌-◌, suc, ◌∷◌, drop, get_or, sym, ap, ◌∙◌, arith}
 use Rattle.formula_store.specs.Nodes.{tree}
 use Rattle.formula_tree.specs.Shapes.{tree_over}
 use Rattle.nnf_pnf.proofs.Kept.{keeps_then}
 use Rattle.prenex_theory.specs.Front.{block, quantified}
 use Rattle.prenex_forms.specs.declared.front.Place.{Place}
-use Rattle.prenex_forms.specs.Places.{kind_of, place_at, level_names}
+use Rattle.prenex_forms.specs.Places.{kind_of, level_names}
 use Rattle.prenex_forms.proofs.Gathered.{names_from, quantified_tree}
 use Rattle.prenex_forms.proofs.prefix.with_block.Goals as goal
 
@@ -21,7 +21,7 @@ loop-left-preserved-then-place-level c =
     let base = tree c.args.store.now c.args.id in
     let up : suc i ≡ c.loop-left.left = omega arith in
     let names : level_names l (drop i ps) ≡ p.name.number ∷ level_names l (drop c.loop-left.left ps) =
-        names_from l i ps d (omega arith) c.if-place-level.true ∙ ap (λ k. p.name.number ∷ level_names l (drop k ps)) up in
+    names_from l i ps d (omega arith) c.if-place-level.true ∙ ap (λ k. p.name.number ∷ level_names l (drop k ps)) up in
     record {
       within = omega arith;
       is = c.in_ok-id.ensures.made.is;

@@ -1,5 +1,5 @@
 use Rattle.std.proofs.Common.{◌≡◌, ◌-◌, suc, ◌+◌, ◌∷◌, sym, ap, ◌∙◌, arith}
-use Rattle.formula_store.specs.Nodes.{IsId, tree}
+use Rattle.formula_store.specs.Nodes.{tree}
 use Rattle.nnf_pnf.proofs.Kept.{keeps_then}
 use Rattle.prenex_theory.specs.Front.{block, prefixed}
 use Rattle.prenex_forms.specs.Places.{kind_of, kind_at, level_names, levels_of}
@@ -19,7 +19,7 @@ loop-level-preserved c =
     let up : l + 1 ≡ c.loop-level.level = omega arith in
     let rest = levels_of c.loop-level.level (c.args.blocks - c.loop-level.level) ps in
     let parts : levels_of l (c.args.blocks - l) ps ≡ level_names l ps ∷ rest =
-        ap (λ n. levels_of l n ps) left ∙ ap (λ k. level_names l ps ∷ levels_of k (c.args.blocks - c.loop-level.level) ps) up in
+    ap (λ n. levels_of l n ps) left ∙ ap (λ k. level_names l ps ∷ levels_of k (c.args.blocks - c.loop-level.level) ps) up in
     record {
       within = omega arith;
       is = c.in_ok-id.ensures.made.is;

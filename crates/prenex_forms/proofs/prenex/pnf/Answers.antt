@@ -1,4 +1,4 @@
-use Rattle.std.proofs.Common.{rules, ◌≡◌, ◌+◌, ◌<◌, ℕ, length, sym, ap, ap₂, ◌∙◌, subst, nat_eq, List}
+use Rattle.std.proofs.Common.{rules, ◌≡◌, ◌<◌, ℕ, length, sym, ◌∙◌, subst, nat_eq}
 use Rattle.formula_meaning.specs.Shape.{is_in}
 use Rattle.formula_meaning.specs.Tree.{Tree, IsFree, tree_names}
 use Rattle.atom_normal.specs.Atoms.{context_of}
@@ -8,7 +8,6 @@ use Rattle.nnf_trees.specs.Nnfs.{nnf_of}
 use Rattle.redlog_printer.specs.Within.{IsTreeWithin}
 use Rattle.prenex_theory.specs.NewNames.{AddsNewNames}
 use Rattle.prenex_theory.specs.Renaming.{new_count}
-use Rattle.prenex_theory.specs.Prenex.{prenex_of, HasPrenexForm}
 use Rattle.prenex_theory.proofs.Whole.{free_below}
 use Rattle.prenex_forms.specs.Chosen.{flag, CanRename, IsRenamed, Overflows}
 use Rattle.prenex_forms.specs.Forms.{negation_form}
@@ -43,8 +42,11 @@ returns-in-Err-Overflow-clause-overflow c =
     let h = has_prenex_form o n f c.requires.normal c.requires.named in
     let taken = subst (λ (g : Tree). (x : ℕ) → flag s.taken.items x ≡ is_in nat_eq x (tree_names g)) e c.in-Ok.ensures.taken in
     let passes : Overflows o s (nnf_of c.in_ok-form.form) = search rules in
-    λ _. (c.in_ok-form.ensures.small, overflows_whole o n (negation_form f) s h taken c.in-Ok.ensures.made c.in-Ok.ensures.now (c.in-Ok.ensures.count ∙ c.count.ensures)
-        (subst (λ (g : Tree). Overflows o s g) e passes))
+    λ _. (
+      c.in_ok-form.ensures.small,
+      overflows_whole o n (negation_form f) s h taken c.in-Ok.ensures.made c.in-Ok.ensures.now (c.in-Ok.ensures.count ∙ c.count.ensures)
+          (subst (λ (g : Tree). Overflows o s g) e passes),
+    )
 
 pub returns-in_default-in_front-clause-kept : goal.returns-in_default-in_front-clause-kept
 returns-in_default-in_front-clause-kept c = keeps_then c.args.store.now c.unfolded_form.new.store c.in_front.new.store c.unfolded_form.ensures.kept c.in_front.ensures.kept
@@ -75,7 +77,7 @@ returns-in-Ok-add_new_names-clause-names c =
     let taken = subst (λ (g : Tree). (x : ℕ) → flag s.taken.items x ≡ is_in nat_eq x (tree_names g)) e c.in-Ok.ensures.taken in
     let r = subst (λ (g : Tree). IsRenamed o s g (nnf_of c.in-Ok-renamed.named) c.renamed.new.chooser) e c.in-Ok-renamed.ensures.made in
     subst (λ (k : ℕ). AddsNewNames c.args.names.now k c.add_new_names.new.names)
-        (new_names o n (negation_form f) s h taken c.in-Ok.ensures.made c.in-Ok.ensures.now (c.in-Ok.ensures.count ∙ c.count.ensures) (nnf_of c.in-Ok-renamed.named) c.renamed.new.chooser r) c.in-Ok-add_new_names.ensures.added
+    (new_names o n (negation_form f) s h taken c.in-Ok.ensures.made c.in-Ok.ensures.now (c.in-Ok.ensures.count ∙ c.count.ensures) (nnf_of c.in-Ok-renamed.named) c.renamed.new.chooser r) c.in-Ok-add_new_names.ensures.added
 
 pub returns-in-Ok-add_new_names-clause-named : goal.returns-in-Ok-add_new_names-clause-named
 returns-in-Ok-add_new_names-clause-named c =
@@ -85,7 +87,7 @@ returns-in-Ok-add_new_names-clause-named c =
     let m = returns-in-Ok-add_new_names-clause-made c in
     let added = returns-in-Ok-add_new_names-clause-names c in
     subst (λ (k : ℕ). IsTreeWithin k (tree c.in_front.new.store c.in-Ok-in_front.made)) (sym (length_more (new_count n (negation_form f)) c.args.names.now c.add_new_names.new.names added))
-        (finished o n f (tree c.in_front.new.store c.in-Ok-in_front.made) c.requires.normal c.requires.named m.same).named
+    (finished o n f (tree c.in_front.new.store c.in-Ok-in_front.made) c.requires.normal c.requires.named m.same).named
 
 pub returns-in-Ok-add_new_names-clause-prenex : goal.returns-in-Ok-add_new_names-clause-prenex
 returns-in-Ok-add_new_names-clause-prenex c =

@@ -1,4 +1,4 @@
-use Rattle.std.proofs.Common.{rules, ◌≡◌, ◌<◌, ◌+◌, ◌∷◌, ◌++◌, [], length, ap, ◌∙◌, arith}
+use Rattle.std.proofs.Common.{rules, ◌≡◌, ◌∷◌, ◌++◌, [], length, ap, ◌∙◌, arith}
 use Rattle.nnf_trees.specs.Nnfs.{nnf_of}
 use Rattle.prenex_forms.proofs.Starts.{told_free, flag_push, flag_all, length_push}
 use Rattle.prenex_forms.proofs.start.flags.Goals as goal

@@ -1,4 +1,4 @@
-use Rattle.std.proofs.Common.{◌≡◌, ◌<◌, ℕ, length, false, nat_eq}
+use Rattle.std.proofs.Common.{◌≡◌, ◌<◌, ℕ, length, nat_eq}
 use Rattle.formula_meaning.specs.Shape.{is_in}
 use Rattle.formula_meaning.specs.Tree.{tree_names}
 use Rattle.nnf_trees.specs.Nnfs.{nnf_of}

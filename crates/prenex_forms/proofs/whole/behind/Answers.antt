@@ -1,8 +1,6 @@
-use Rattle.std.proofs.Common.{◌≡◌, ◌++◌, [], length, sym, ap, ap₂, ◌∙◌}
-use Rattle.formula_store.specs.Nodes.{tree}
+use Rattle.std.proofs.Common.{◌≡◌, ◌++◌, sym, ap, ap₂, ◌∙◌}
 use Rattle.nnf_pnf.proofs.Kept.{keeps_then}
 use Rattle.nnf_trees.specs.Nnfs.{nnf_of}
-use Rattle.prenex_theory.specs.Blocks.{blocks, matrix}
 use Rattle.prenex_theory.specs.Front.{prefixed}
 use Rattle.prenex_theory.proofs.Blocks.{length_blocks}
 use Rattle.prenex_forms.specs.Places.{kind_of, placed, levels_of}
@@ -14,7 +12,7 @@ returns-in-Ok-with_prefix-clause-made c =
     let f = nnf_of c.args.f in
     let q = kind_of c.args.kind in
     let places : c.deref.result.now ≡ placed q 0 f =
-        c.deref.ensures.value ∙ c.in_ok-matrix.ensures.places ∙ ap (λ ps. ps ++ placed q 0 f) c.new-places.ensures.items in
+    c.deref.ensures.value ∙ c.in_ok-matrix.ensures.places ∙ ap (λ ps. ps ++ placed q 0 f) c.new-places.ensures.items in
     let count = c.requires.count ∙ sym (length_blocks f q) in
     record {
       is = c.in-Ok-with_prefix.ensures.made.is;
