@@ -1,5 +1,5 @@
 -- A formula in negation normal form with its quantified names chosen: its names, its atoms, its blocks and its truth.
-use Rattle.std.proofs.Common.{◌≡◌, ◌<◌, ◌⊎◌, ℕ, Bool, true, false, List, inl, inr, ⊎_elim, ap, sym, ◌∙◌, subst, refl, nat_eq, if◌then◌else◌}
+use Rattle.std.proofs.Common.{◌≡◌, ◌<◌, ◌⊎◌, ℕ, Bool, true, false, inl, inr, ⊎_elim, ap, sym, ◌∙◌, subst, refl, nat_eq, if◌then◌else◌}
 use Rattle.std.proofs.lemmas.Bool.{eq-eqb, eqb-true, cases_eq}
 use Rattle.formula_meaning.specs.Formula.{Yes, No, One, Not, And, Or, Impl, Repl, Equiv, Ex, All, none, also}
 use Rattle.formula_meaning.specs.Sorted.{IsSorted}

@@ -1,6 +1,6 @@
 -- A formula in negation normal form with its quantified names chosen has the images of the free names, and the truth of the
 -- formula at linked points; its blocks are as many, and its atoms are the atoms with other names.
-use Rattle.std.proofs.Common.{◌≡◌, ◌<◌, ℕ, suc, ◌*◌, max, Bool, true, false, List, inl, inr, ⊎_elim, ap, ap₂, sym, ◌∙◌, subst, refl, ◌↔◌, nat_eq, if◌then◌else◌}
+use Rattle.std.proofs.Common.{◌≡◌, ◌<◌, ℕ, suc, ◌*◌, max, Bool, true, false, inl, inr, ⊎_elim, ap, ap₂, sym, ◌∙◌, subst, refl, ◌↔◌, nat_eq, if◌then◌else◌}
 use Rattle.std.proofs.Math.IntN.{ℤ, pos, ◌*ℤ◌}
 use Rattle.std.proofs.lemmas.Bool.{eq-eqb, eqb-true, cases_eq}
 use Rattle.formula_meaning.specs.Context.{Context}

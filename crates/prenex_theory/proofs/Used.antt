@@ -45,6 +45,7 @@ module _ (count : ℕ) where
           at_once : (b : Bool) → b ≡ true → (if b then true else s.taken x) ≡ true
           at_once true e = refl
           at_once false e = absurd (cc)
+
       go : (b : Bool) → (((if b then count + s.made else x) < count) × ((chosen count x s).taken (if b then count + s.made else x) ≡ true)) ⊎ ((count ≤ (if b then count + s.made else x)) × ((if b then count + s.made else x) < count + (if b then suc s.made else s.made)))
       go true = inr (omega arith, omega arith)
       go false = inl (l, first_taken)
