@@ -1,0 +1,9 @@
+pub mod Lists
+pub mod Fronts
+pub mod Gathered
+pub mod FoundNames
+pub mod Changed
+pub mod RenamedParts
+pub mod Done
+pub mod Starts
+pub mod Finished

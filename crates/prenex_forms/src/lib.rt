@@ -1,0 +1,19 @@
+//! Prenex forms of shared formulas.
+#![tactic(auto)]
+
+mod atoms;
+mod chooser;
+mod error;
+mod form;
+mod free;
+mod front;
+mod new_names;
+mod prefix;
+mod prenex;
+mod renaming;
+mod start;
+mod sums;
+mod whole;
+
+pub use error::PrenexError;
+pub use prenex::pnf;

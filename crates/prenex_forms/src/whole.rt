@@ -1,0 +1,57 @@
+//! Quantifiers in front of a formula that is put into a store.
+
+ghost use Rattle.std.specs.Prelude.{◌≡◌, IfOk};
+ghost use Rattle.formula_tree.specs.Makers.{IsMade, Keeps};
+ghost use Rattle.formula_store.specs.Nodes.{IsId, tree};
+ghost use Rattle.nnf_trees.specs.Nnfs.{nnf_of, IsProper};
+ghost use Rattle.formula_meaning.specs.Shape.{blocks_from};
+ghost use Rattle.prenex_theory.specs.Blocks.{blocks as blocks_in, matrix};
+ghost use Rattle.prenex_theory.specs.Front.{in_front, prefixed};
+ghost use Rattle.prenex_forms.specs.Places.{kind_of};
+
+use crate::front::{blocks_from, stripped};
+use crate::prefix::with_prefix;
+use formula_store::{FormulaId, Store};
+use nnf_trees::{Nnf, Quantifier};
+use shared_elimination::share;
+use std::alloc::{AllocError, Global};
+
+/// The formula with its quantifiers in front, in as few blocks as their nesting allows. Its only error is want of memory; the
+/// formulas of the store stay.
+pub(crate) fn in_front(alloc: Global, store: &mut Store, f: Nnf) -> Result<FormulaId, AllocError>
+    requires { IsProper f }
+    ensures made { IfOk result (λ r. IsMade (IsId store.new) (tree store.new) r (in_front (nnf_of f))) }
+    ensures kept { Keeps (IsId store.old) (tree store.old) (IsId store.new) (tree store.new) }
+{
+    let existential = blocks_from(&f, Quantifier::Ex).ok_or(AllocError)?;
+    let universal = blocks_from(&f, Quantifier::All).ok_or(AllocError)?;
+    if universal < existential {
+        behind(alloc, store, f, Quantifier::All, universal)
+    } else {
+        behind(alloc, store, f, Quantifier::Ex, existential)
+    }
+}
+
+// The formula behind its prefix, of so many blocks of which the first has this kind.
+fn behind(
+    alloc: Global,
+    store: &mut Store,
+    f: Nnf,
+    kind: Quantifier,
+    count: u64,
+) -> Result<FormulaId, AllocError>
+    requires proper { IsProper f }
+    requires count { count ≡ blocks_from (nnf_of f) (kind_of kind) }
+    ensures made { IfOk result (λ r. IsMade (IsId store.new) (tree store.new) r (prefixed (kind_of kind) (blocks_in (nnf_of f) (kind_of kind)) (matrix (nnf_of f)))) }
+    ensures kept { Keeps (IsId store.old) (tree store.old) (IsId store.new) (tree store.new) }
+{
+    let mut places = Vec::new(alloc);
+    let matrix = stripped(alloc, f, kind, 0, &mut places)?;
+    let Ok(id) = share(alloc, store, matrix) else {
+        return Err(AllocError);
+    };
+    match with_prefix(store, &places, count, kind, id) {
+        Ok(id) => Ok(id),
+        Err(_) => Err(AllocError),
+    }
+}

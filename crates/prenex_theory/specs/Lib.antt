@@ -1,0 +1,6 @@
+pub mod Blocks
+pub mod Front
+pub mod Renaming
+pub mod Links
+pub mod NewNames
+pub mod Prenex
