@@ -367,6 +367,9 @@ cleaned_result c j f t (Err e) clean truth shape names few short = tt
 
 -- ---- names that a formula does not quantify
 
+small_where : (n x : ℕ) → ((m : ℕ) → n ≤ m → ¬ (x ≡ m)) → x < n
+small_where n x h = elim (cases_lt x n) [ inl l ↦ l | inr l ↦ absurd (h x l refl) ]
+
 module _ {A : Type 0} (n : ℕ) where
   mutual
     -- quantified names below n are none from n on
@@ -387,9 +390,6 @@ module _ {A : Type 0} (n : ℕ) where
     all_none_from plain.none m l h = tt
     all_none_from (plain.also f fs) m l h = (none_from f m l h.0, all_none_from fs m l h.1)
 
-  small_where : (x : ℕ) → ((m : ℕ) → n ≤ m → ¬ (x ≡ m)) → x < n
-  small_where x h = elim (cases_lt x n) [ inl l ↦ l | inr l ↦ absurd (h x l refl) ]
-
   mutual
     pub all_below : (f : Formula A ℕ) → ((m : ℕ) → n ≤ m → EveryBound (λ x. ¬ (x ≡ m)) f) → EveryBound (λ x. x < n) f
     all_below Yes h = tt
@@ -401,8 +401,8 @@ module _ {A : Type 0} (n : ℕ) where
     all_below (Impl f g) h = (all_below f (λ m l. (h m l).0), all_below g (λ m l. (h m l).1))
     all_below (Repl f g) h = (all_below f (λ m l. (h m l).0), all_below g (λ m l. (h m l).1))
     all_below (Equiv f g) h = (all_below f (λ m l. (h m l).0), all_below g (λ m l. (h m l).1))
-    all_below (Ex x f) h = (small_where x (λ m l. (h m l).0), all_below f (λ m l. (h m l).1))
-    all_below (All x f) h = (small_where x (λ m l. (h m l).0), all_below f (λ m l. (h m l).1))
+    all_below (Ex x f) h = (small_where n x (λ m l. (h m l).0), all_below f (λ m l. (h m l).1))
+    all_below (All x f) h = (small_where n x (λ m l. (h m l).0), all_below f (λ m l. (h m l).1))
 
     all_below_in : (fs : Formulas A ℕ) → ((m : ℕ) → n ≤ m → EveryBoundOf (λ x. ¬ (x ≡ m)) fs) → EveryBoundOf (λ x. x < n) fs
     all_below_in plain.none h = tt

@@ -1,6 +1,6 @@
 use Rattle.std.proofs.Common.{sym, subst}
 use Rattle.qe_syntax.specs.Proper.{AreProperFormulas}
-use Rattle.session_commands.proofs.DeskLemmas.{kept_ids}
+use Rattle.session_commands.proofs.DeskLemmas.{kept_ids, same_state}
 use Rattle.session_commands.proofs.GivenSteps.{proper_items}
 use Rattle.session_commands.proofs.formulas.read_wanted.Goals as goal
 
