@@ -151,12 +151,13 @@ fn read_wanted(
             }
             Ok(read)
         }
-        Err(error) => {
-            if error == StatementError::Overflow && has_unwanted_quantifier(desk, wanted, formula) {
+        Err(StatementError::Overflow) => {
+            if has_unwanted_quantifier(desk, wanted, formula) {
                 return Err(StatementError::Quantified);
             }
-            Err(error)
+            Err(StatementError::Overflow)
         }
+        Err(error) => Err(error),
     }
 }
 

@@ -2,6 +2,7 @@ use Rattle.std.proofs.Common.{ap}
 use Rattle.qe_syntax.specs.Trees.{formula_tree, formula_trees}
 use Rattle.qe_syntax.specs.Statements.{command_tree}
 use Rattle.session_commands.specs.declared.formulas.Wanted.TheVariants as wanted
+use Rattle.session_commands.specs.declared.formulas.Way.TheVariants as way
 use Rattle.session_commands.specs.Keeping.{state_of}
 use Rattle.session_commands.proofs.AnswerLemmas.{assigned_as, simplification_assigned, elimination_assigned}
 use Rattle.session_commands.proofs.session.assign.Goals as goal
@@ -25,3 +26,13 @@ pub returns-in-Qe-clause-answer : goal.returns-in-Qe-clause-answer
 returns-in-Qe-clause-answer c =
     elimination_assigned c.answer_formula-in-Qe.result (formula_tree c.in-Qe.formula) (formula_trees c.in-Qe.given) (command_tree c.args.command.now) (state_of c.args.desk.now) (state_of c.answer_formula-in-Qe.new.desk) c.args.limit c.args.printed c.args.name.now
     (ap command_tree c.in-Qe.is) c.answer_formula-in-Qe.ensures.answer
+
+pub returns-in-Dnf-clause-answer : goal.returns-in-Dnf-clause-answer
+returns-in-Dnf-clause-answer c =
+    assigned_as c.answer_formula-in-Dnf.result (wanted.Distributed way.Disjunctive) (formula_tree c.in-Dnf.formula) (command_tree c.args.command.now) (state_of c.args.desk.now) (state_of c.answer_formula-in-Dnf.new.desk) c.args.limit c.args.printed c.args.name.now
+    (ap command_tree c.in-Dnf.is) c.answer_formula-in-Dnf.ensures.answer
+
+pub returns-in-Cnf-clause-answer : goal.returns-in-Cnf-clause-answer
+returns-in-Cnf-clause-answer c =
+    assigned_as c.answer_formula-in-Cnf.result (wanted.Distributed way.Conjunctive) (formula_tree c.in-Cnf.formula) (command_tree c.args.command.now) (state_of c.args.desk.now) (state_of c.answer_formula-in-Cnf.new.desk) c.args.limit c.args.printed c.args.name.now
+    (ap command_tree c.in-Cnf.is) c.answer_formula-in-Cnf.ensures.answer
