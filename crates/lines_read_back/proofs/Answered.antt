@@ -55,7 +55,7 @@ module _ (s : State) (limit : ℕ) (t : Tree) (bare : IsBare s) (own : IsOwnForm
   accepted = subst (λ bs. IsResolvable s.context bs s.names w) (sym bare.unbound) back.resolved.accepted
 
   readable_here : HasNoCauseBelow s use_of_line (Echo w) 16
-  readable_here = readable_below s use_of_line (Echo w) back.resolved.same_names (record { no_entries = refl; no_truth = λ h. h }) accepted
+  readable_here = readable_below s use_of_line (Echo w) back.resolved.same_names (record { no_entries = refl; no_point = λ h. h }) accepted (λ h. h.0)
 
   -- the text is shorter than a text may be
   short : length (tree_text s.names t) ≤ 1048576

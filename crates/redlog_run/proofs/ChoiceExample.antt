@@ -1,8 +1,8 @@
 -- A script that is answered: each token, and what its two pieces spell.
-use Rattle.std.proofs.Common.{◌≡◌, ℕ, ◌+◌, ◌-◌, ◌≤◌, List, [], ◌∷◌, true, codes, refl, arith, take, drop, ⊎_elim}
-use Rattle.std.specs.Prelude.{Option, Some, None}
+use Rattle.std.proofs.Common.{ℕ, List, [], ◌∷◌, true, codes, refl, arith, ⊎_elim}
+use Rattle.std.specs.Prelude.{Some}
 use Rattle.qe_syntax.specs.Names.{is_word}
-use Rattle.qe_syntax.specs.Statements.{StatementTree, Choose, Finish}
+use Rattle.qe_syntax.specs.Statements.{Choose, Finish}
 use Rattle.qe_syntax.specs.declared.statement.Setting.TheVariants.{Pasf}
 use Rattle.redlog_reader.specs.declared.lexer.Lexeme.{Lexeme}
 use Rattle.redlog_reader.specs.declared.token.TokenKind.{TokenKind}
@@ -10,9 +10,9 @@ use Rattle.redlog_reader.specs.declared.token.TokenKind.TheVariants as token
 use Rattle.redlog_reader.specs.Terminals.{word_of, sign_of}
 use Rattle.redlog_reader.specs.Levels.{groups}
 use Rattle.redlog_reader.specs.Lexing.{front, signed, worded, Lexes, LexesFrom, over, spaced, taken}
-use Rattle.redlog_reader.specs.Pieces.{IsPiece, Cuts, marked, inside}
+use Rattle.redlog_reader.specs.Pieces.{IsPiece, marked, inside}
 use Rattle.redlog_reader.specs.Grammar.{setting_of, choose, end, acting}
-use Rattle.redlog_reader.specs.Statement.{Spells, AreKinds}
+use Rattle.redlog_reader.specs.Statement.{Spells}
 use Rattle.redlog_run.specs.Run.{piece_bytes}
 use Rattle.redlog_run.specs.WithoutFormulas.{SomeChoiceIsAnswered, last, then}
 use Rattle.redlog_run.proofs.Choices.{choices_are_answered}

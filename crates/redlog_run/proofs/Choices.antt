@@ -6,14 +6,13 @@ use Rattle.std.specs.declared.vec.Vec.{Vec}
 use denote.RawPtr.{null_ptr}
 use Rattle.formula_meaning.specs.Context.{Context, Fields, Integers}
 use Rattle.qe_syntax.specs.Statements.{ActionTree, Empty, Ignored, Finish, Choose, Say, Assign, StatementTree}
-use Rattle.redlog_reader.specs.Pieces.{HasNoTokenFrom, IsPiece}
+use Rattle.redlog_reader.specs.Pieces.{IsPiece}
 use Rattle.redlog_reader.specs.Statement.{Spells}
 use Rattle.redlog_reader.proofs.Cutting.{none_or_piece, same_piece}
 use Rattle.redlog_reader.proofs.Whole.{spells_once}
 use Rattle.session_commands.specs.declared.line.Line.{Line}
 use Rattle.session_commands.specs.declared.line.Line.TheVariants as line
 use Rattle.session_commands.specs.declared.line.StatementError.{StatementError}
-use Rattle.session_commands.specs.declared.line.StatementError.TheVariants as error
 use Rattle.session_commands.specs.Built.{IsBuiltAction}
 use Rattle.session_commands.specs.Words.{context_text}
 use Rattle.session_commands.specs.State.{State, theory_of, chosen, first_state}

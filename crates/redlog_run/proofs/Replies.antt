@@ -12,7 +12,7 @@ use Rattle.session_commands.specs.Words.{word_of}
 use Rattle.session_commands.specs.State.{State}
 use Rattle.session_commands.specs.Reply.{Reply}
 use Rattle.redlog_run.specs.Lines.{refusal_line, lines_of}
-use Rattle.redlog_run.specs.Run.{AnswersPiece, finished, answered, refused, Run, over, last, then, piece_bytes, Adds}
+use Rattle.redlog_run.specs.Run.{finished, answered, refused, Run, over, last, then, piece_bytes, Adds}
 
 or_false : (b : Bool) → b ≡ (b || false)
 or_false true = refl

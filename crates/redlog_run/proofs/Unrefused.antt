@@ -1,5 +1,5 @@
 -- A piece that spells a statement which has no cause of a refusal is not refused.
-use Rattle.std.proofs.Common.{◌≡◌, ◌≢◌, ⊎_elim, ℕ, List, refl, sym, subst}
+use Rattle.std.proofs.Common.{◌≢◌, ⊎_elim, ℕ, List, refl, subst}
 use Rattle.std.specs.Prelude.{Err}
 use Rattle.qe_syntax.specs.Statements.{StatementTree}
 use Rattle.redlog_reader.specs.Statement.{Spells}

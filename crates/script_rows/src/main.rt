@@ -53,5 +53,7 @@ fn difference(alloc: Global, row: &Row, status: &str) -> Result<Option<String>, 
     }
     let script = String::from_utf8_lossy(alloc, row.script())?;
     let lines = String::from_utf8_lossy(alloc, &lines)?;
-    Ok(Some(format!(in alloc; "failed: {script}answered:\n{lines}status {found}, and {status} is expected")?))
+    Ok(Some(format!(in alloc;
+        "failed: {script}answered:\n{lines}status {found}, and {status} is expected"
+    )?))
 }

@@ -61,7 +61,10 @@ impl Row {
         };
         let status = run(alloc, &self.words, &mut source, &mut sink);
         let number = status.number();
-        Ok((sink.written().to_vec(alloc)?, format!(in alloc; "{number}")?))
+        Ok((
+            sink.written().to_vec(alloc)?,
+            format!(in alloc; "{number}")?,
+        ))
     }
 }
 

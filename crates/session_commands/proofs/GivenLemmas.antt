@@ -84,7 +84,7 @@ with_variables s f given = record { context = s.context; names = fold with_name 
 
 with_them : (s : State) (f : FormulaTree) (xs ys : List (List ℕ)) → xs ≡ ys
     → (let t : State = record { context = s.context; names = fold with_name s.names (formula_variables f ++ xs); bound = s.bound } in
-      let u : State = record { context = s.context; names = fold with_name s.names (formula_variables f ++ ys); bound = s.bound } in t ≡ u)
+    let u : State = record { context = s.context; names = fold with_name s.names (formula_variables f ++ ys); bound = s.bound } in t ≡ u)
 with_them s f xs ys e = ap (λ zs. let t : State = record { context = s.context; names = fold with_name s.names (formula_variables f ++ zs); bound = s.bound } in t) e
 
 pub named_is : (w : Wanted) (f : FormulaTree) (s : State) → named s (command_of w f) ≡ with_variables s f (given_trees w)

@@ -57,11 +57,7 @@ pub(crate) fn formed(
 }
 
 /// The negation normal form. `Nodes` comes exactly where there is a limit and 6 times the distinct subformulas are above it.
-fn negated(
-    desk: &mut Desk,
-    limit: Option<u64>,
-    id: FormulaId,
-) -> Result<FormulaId, StatementError>
+fn negated(desk: &mut Desk, limit: Option<u64>, id: FormulaId) -> Result<FormulaId, StatementError>
     requires { IsId desk.old.store id }
     ensures made { IfOk result (IsId desk.new.store) }
     ensures form { IfOk result (λ r. tree desk.new.store r ≡ normal_form negated_normal (tree desk.old.store id)) }

@@ -166,10 +166,24 @@ fn say(
             answer_formula(desk, limit, Wanted::NegationNormal, formula, &None, printed)
         }
         Command::Simpl(formula, given) => {
-            answer_formula(desk, limit, Wanted::Simplified(given), formula, &None, printed)
+            answer_formula(
+                desk,
+                limit,
+                Wanted::Simplified(given),
+                formula,
+                &None,
+                printed,
+            )
         }
         Command::Qe(formula, given) => {
-            answer_formula(desk, limit, Wanted::Eliminated(given), formula, &None, printed)
+            answer_formula(
+                desk,
+                limit,
+                Wanted::Eliminated(given),
+                formula,
+                &None,
+                printed,
+            )
         }
         Command::Holds(formula, entries) => answer_holds(desk, limit, formula, entries, printed),
         Command::Dnf(formula) => {
@@ -237,6 +251,8 @@ fn assign(
             let wanted = Wanted::Distributed(Way::Conjunctive);
             answer_formula(desk, limit, wanted, formula, &Some(*name), printed)
         }
-        Command::Pnf(_) | Command::Qea(..) | Command::Holds(..) | Command::Sample(..) => Err(StatementError::Syntax),
+        Command::Pnf(_) | Command::Qea(..) | Command::Holds(..) | Command::Sample(..) => Err(
+            StatementError::Syntax,
+        ),
     }
 }

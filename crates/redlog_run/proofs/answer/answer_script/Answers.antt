@@ -1,4 +1,4 @@
-use Rattle.std.proofs.Common.{◌≡◌, ℕ, List, Bool, true, false, ap, subst, sym, ◌∙◌, arith, rules}
+use Rattle.std.proofs.Common.{Bool, subst, ◌∙◌}
 use Rattle.session_commands.specs.declared.session.Limits.{Limits}
 use Rattle.session_commands.specs.Seen.{state_in}
 use Rattle.session_commands.specs.State.{first_state}
