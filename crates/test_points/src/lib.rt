@@ -21,3 +21,6 @@ pub use laws::{field_points_suffice, field_substitution_is_exact};
 pub use parts::{form_at, rest};
 pub use points::{Place, Side, TestPoint};
 pub use substitution::{substitute_field, unchanged};
+
+#[cfg(test)]
+mod tests;
