@@ -29,20 +29,31 @@ with_value Generate n options = record options { generate = Some n }
 abbrev pub no_options : Options
 no_options = record { nodes = None; generate = None }
 
--- The words begin with this option, which has this value, and then come the others: the value is the next word, or stands in the
--- option's word after =.
-pub data Begins (choice : Choice) : List (String Global) → ℕ → List (String Global) → Type 0 where
-  apart : {word text : String Global} {others : List (String Global)} {n : ℕ} → string_bytes word ≡ name_of choice
-      → value_of (greatest_of choice) (string_bytes text) ≡ Some n → Begins choice (word ∷ text ∷ others) n others
-  joined : {word : String Global} {others : List (String Global)} {n : ℕ} (text : List ℕ) → string_bytes word ≡ name_of choice ++ 61 ∷ text
-      → value_of (greatest_of choice) text ≡ Some n → Begins choice (word ∷ others) n others
+-- What stands after the option's name in its word, and the words that follow, give this value, and leave these words: the value is the
+-- next word where nothing stands there, or stands there itself after =.
+pub data Gives (greatest : ℕ) : List ℕ → List (String Global) → ℕ → List (String Global) → Type 0 where
+  apart : {text : String Global} {rest : List (String Global)} {n : ℕ} → value_of greatest (string_bytes text) ≡ Some n → Gives greatest [] (text ∷ rest) n rest
+  joined : {text : List ℕ} {rest : List (String Global)} {n : ℕ} → value_of greatest text ≡ Some n → Gives greatest (61 ∷ text) rest n rest
+
+-- the words begin with this option, which has this value, and these are left
+pub record Begins (choice : Choice) (words : List (String Global)) (n : ℕ) (rest : List (String Global)) : Type 0 where
+  pub word : String Global
+  pub others : List (String Global)
+  pub tail : List ℕ
+  pub words_are : words ≡ word ∷ others
+  pub word_is : string_bytes word ≡ name_of choice ++ tail
+  pub gives : Gives (greatest_of choice) tail others n rest
 
 -- after words that gave some options, the words are options that were not given yet, and all together give these
-pub data SpellsAfter (before : Options) : List (String Global) → Options → Type 0 where
-  over : SpellsAfter before [] before
-  option : {words others : List (String Global)} {all : Options} {n : ℕ} (choice : Choice) → given choice before ≡ None
-      → Begins choice words n others → SpellsAfter (with_value choice n before) others all → SpellsAfter before words all
+pub data SpellsAfter : Options → List (String Global) → Options → Type 0 where
+  over : {before : Options} → SpellsAfter before [] before
+  option : {before all : Options} {words rest : List (String Global)} {n : ℕ} (choice : Choice) → given choice before ≡ None
+      → Begins choice words n rest → SpellsAfter (with_value choice n before) rest all → SpellsAfter before words all
 
 -- the words are of the form of a command line, each option at most once and in any order, and give these options
 abbrev pub Spells : List (String Global) → Options → Type 0
 Spells words options = SpellsAfter no_options words options
+
+-- words give at most one choice of options
+abbrev pub SpellOnce : Type 0
+SpellOnce = (words : List (String Global)) (one other : Options) → Spells words one → Spells words other → one ≡ other

@@ -24,7 +24,14 @@ fn are_digits(text: &[u8]) -> bool
     if text.is_empty() || text.len() > 10 {
         return false;
     }
-    text.iter().all(|byte| b'0' <= *byte && *byte <= b'9')
+    all_digits(text)
+}
+
+/// Whether each byte is a digit.
+fn all_digits(text: &[u8]) -> bool
+    ensures { result ≡ list_all is_digit text.now }
+{
+    text.iter().all(|byte| is_digit(*byte))
 }
 
 /// The number that decimal digits say.
@@ -37,4 +44,11 @@ fn number_of(digits: &[u8]) -> u64
         number = number * 10 + digit.saturating_sub(b'0') as u64;
     }
     number
+}
+
+/// Whether a byte is a decimal digit.
+fn is_digit(byte: u8) -> bool
+    ensures { result ≡ is_digit byte }
+{
+    b'0' <= byte && byte <= b'9'
 }
