@@ -7,8 +7,6 @@ mod process;
 mod program;
 mod read;
 mod status;
-#[cfg(test)]
-mod tests;
 mod write;
 
 pub use laws::scripts_without_formulas;
