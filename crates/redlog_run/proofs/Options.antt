@@ -13,7 +13,7 @@ use Rattle.redlog_run.specs.declared.status.Status.TheVariants as status
 use Rattle.redlog_run.specs.Numbers.{number_of}
 use Rattle.redlog_run.specs.Process.{EndsWith}
 use Rattle.redlog_run.specs.Outcome.{node_limit, OutcomeOfSource, CompletesSource, Tallied, outcome_of, OutcomeUnder, completes_of, CompletesUnder, MeetsUsage, Faults}
-use Rattle.redlog_run.specs.Generated.{generated}
+use Rattle.generated_scripts.specs.Generated.{generated}
 use Rattle.redlog_run.specs.Run.{HasNoRefusal}
 use Rattle.qe_io.specs.Streams.{Rose}
 

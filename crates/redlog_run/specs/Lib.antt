@@ -1,6 +1,5 @@
 pub mod Numbers
 pub mod Script
-pub mod Generated
 pub mod Lines
 pub mod Run
 pub mod Outcome

@@ -11,7 +11,7 @@ use Rattle.redlog_run.specs.declared.read.ReadStop.{ReadStop}
 use Rattle.redlog_run.specs.declared.read.ReadStop.TheVariants as stop
 use Rattle.redlog_run.specs.Script.{script_limit, GaveTooMany, TookFront}
 use Rattle.redlog_run.specs.Run.{RunOf, HasNoRefusal}
-use Rattle.redlog_run.specs.Generated.{generated, tally}
+use Rattle.generated_scripts.specs.Generated.{generated, tally}
 
 -- the limit of nodes of the session that these options give
 abbrev pub node_limit : Options → ℕ
@@ -46,6 +46,10 @@ abbrev pub CompletesSource : ℕ → Option (List ℕ) → Status → Type 0
 CompletesSource limit left s = (script : List ℕ) → left ≡ Some script → length script ≤ script_limit → HasNoRefusal limit script → (s ≡ status.Done) ⊎ (s ≡ status.Memory)
 
 -- ---- a generated script
+
+-- this is the line that counts the answers of the generated script of n, and one of them is a refusal or none
+abbrev pub IsTally : ℕ → ℕ → List ℕ → Bool → Type 0
+IsTally limit n line refusal = (lines : List ℕ) × RunOf limit (generated n) lines refusal × (line ≡ tally lines)
 
 -- what becomes of the generated script of n, by what the sink had taken and its count of faults, before and after
 abbrev pub Tallied : ℕ → ℕ → Option (List ℕ) → Option (List ℕ) → ℕ → ℕ → Status → Type 0

@@ -1,14 +1,15 @@
-ghost use Rattle.std.specs.Prelude.{◌≡◌, ◌≢◌};
+ghost use Rattle.std.specs.Prelude.{◌≡◌, ◌≢◌, IfOk};
 ghost use Rattle.qe_io.specs.Streams.{Rose};
-ghost use Rattle.redlog_run.specs.Outcome.{node_limit, OutcomeOfSource, OutcomeUnder, Outcome, CompletesSource, CompletesUnder, Completes, Tallied, IsUnused, MeetsUsage, Faults, Replied, stop_status};
+ghost use Rattle.redlog_run.specs.Outcome.{node_limit, OutcomeOfSource, OutcomeUnder, Outcome, CompletesSource, CompletesUnder, Completes, Tallied, IsTally, IsUnused, MeetsUsage, Faults, Replied, stop_status};
 
-use crate::answer::answer_script;
+use crate::answer::{Answers, answer_script};
 use crate::read::{ReadStop, read_script};
 use crate::status::Status;
 use crate::write::write_all;
 use command_words::{Options, options_of};
+use generated_scripts::{generated, tally};
 use qe_io::{Sink, Source};
-use std::alloc::Global;
+use std::alloc::{AllocError, Global};
 
 /// Reads a script from the source and writes the lines of its answers to the sink, under the words
 /// `[--nodes n] [--generate n]`: the first gives the limit of nodes, and under the second the script is a generated one, nothing is
@@ -84,11 +85,31 @@ fn answer_source<S: Source, K: Sink>(
     }
 }
 
-/// Answers the generated script with this number of statements in each theory.
+/// Answers the generated script with this number of statements in each theory, and writes the line that counts its answers.
 fn answer_generated<K: Sink>(alloc: Global, nodes: u64, count: u32, sink: &mut K) -> Status
     ensures { Tallied nodes count (K.wrote sink.old) (K.wrote sink.new) (K.faults sink.old) (K.faults sink.new) result }
 {
-    Status::Memory
+    let Ok(answers) = tallied(alloc, nodes, count) else {
+        return Status::Memory;
+    };
+    match write_all(sink, &answers.lines) {
+        Ok(()) if answers.refused => Status::Refused,
+        Ok(()) => Status::Done,
+        Err(_) => Status::WriteFault,
+    }
+}
+
+/// The line that counts the answers of the generated script.
+fn tallied(alloc: Global, nodes: u64, count: u32) -> Result<Answers, AllocError>
+    ensures { IfOk result (λ answers. IsTally nodes count answers.lines.items answers.refused) }
+{
+    let script = generated(alloc, count)?;
+    let answers = answer_script(alloc, nodes, &script)?;
+    let lines = tally(alloc, &answers.lines)?;
+    Ok(Answers {
+        lines,
+        refused: answers.refused,
+    })
 }
 
 /// The status of a script that was not read whole.
