@@ -1,5 +1,5 @@
 -- Scripts whose statements have no formula, and what they are answered with.
-use Rattle.std.specs.Prelude.{◌≡◌, ℕ, List, [], ◌∷◌, ◌++◌, Bool, true, false, codes, if◌then◌else◌}
+use Rattle.std.specs.Prelude.{◌≡◌, ℕ, List, [], ◌∷◌, ◌++◌, Bool, false, codes, if◌then◌else◌}
 use Rattle.std.specs.List.{flat_map, AllByRecursion}
 use Rattle.qe_syntax.specs.Statements.{ActionTree, Empty, Ignored, Finish, Choose, Say, Assign, StatementTree}
 use Rattle.redlog_reader.specs.Pieces.{HasNoTokenFrom, IsPiece}

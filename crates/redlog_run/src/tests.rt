@@ -158,7 +158,11 @@ fn words_and_limits(rt: HostRuntime) -> Result<(), Fail> {
     for word in ["--help", "--", "--workers=2", "--nodes=0", "--nodes="] {
         let words = vec![in alloc; word.to_string(alloc)?]?;
         let mut source = SteadySource::new(FIRST.to_vec(alloc)?);
-        assert_eq!(rt; run(alloc, &words, &mut source, &mut sink), Status::Usage, "{word}");
+        assert_eq!(rt;
+            run(alloc, &words, &mut source, &mut sink),
+            Status::Usage,
+            "{word}"
+        );
     }
 
     // A generated script reads nothing: the first read would fail.

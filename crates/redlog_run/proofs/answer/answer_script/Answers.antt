@@ -1,4 +1,4 @@
-use Rattle.std.proofs.Common.{Bool, subst, ◌∙◌}
+use Rattle.std.proofs.Common.{ℕ, Bool, ap, subst, ◌∙◌}
 use Rattle.session_commands.specs.declared.session.Limits.{Limits}
 use Rattle.session_commands.specs.Seen.{state_in}
 use Rattle.session_commands.specs.State.{first_state}

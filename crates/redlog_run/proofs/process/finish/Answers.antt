@@ -1,4 +1,4 @@
-use Rattle.std.proofs.Common.{rules, ◌≡◌, sym, ◌∙◌}
+use Rattle.std.proofs.Common.{sym, ◌∙◌}
 use Rattle.qe_io.specs.Streams.{Rose}
 use Rattle.redlog_run.specs.Outcome.{Outcome, MeetsUsage, Completes}
 use Rattle.redlog_run.proofs.Options.{ends_with, usage_number}

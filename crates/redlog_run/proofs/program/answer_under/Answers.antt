@@ -1,4 +1,4 @@
-use Rattle.std.proofs.Common.{rules, refl}
+use Rattle.std.proofs.Common.{refl}
 use Rattle.redlog_run.proofs.Options.{under_source, under_generated, completes_source, completes_generated, tallied_done, tallied_faults, tallied_used, source_used}
 use Rattle.redlog_run.proofs.program.answer_under.Goals as goal
 

@@ -1,7 +1,6 @@
-use Rattle.std.proofs.Common.{rules}
 use Rattle.command_words.specs.declared.options.Options.{Options}
 use Rattle.redlog_run.specs.Outcome.{OutcomeUnder, CompletesUnder}
-use Rattle.redlog_run.proofs.Options.{for_each, meets_usage, usage_met}
+use Rattle.redlog_run.proofs.Options.{for_each, meets_usage}
 use Rattle.redlog_run.proofs.program.run.Goals as goal
 
 pub returns-in-Some : goal.returns-in-Some
