@@ -17,7 +17,6 @@ use Rattle.session_commands.specs.Built.{IsBuiltAction}
 use Rattle.session_commands.specs.Words.{context_text}
 use Rattle.session_commands.specs.State.{State, theory_of, chosen, first_state}
 use Rattle.session_commands.specs.Reply.{IsLine, Answers, RefusesAction}
-use Rattle.redlog_run.specs.declared.answer.TheConstants.{LIMITS}
 use Rattle.redlog_run.specs.Lines.{newline, lines_of}
 use Rattle.redlog_run.specs.Run as run
 use Rattle.redlog_run.specs.Run.{AnswersPiece, finished, answered, refused, Run, RunOf, piece_bytes}
@@ -208,7 +207,7 @@ module _ (limit : ℕ) (text : List ℕ) where
 -- ---- what is proved
 
 pub choices_are_answered : ChoicesAreAnswered
-choices_are_answered text ts h w = record { answered = one_run LIMITS.nodes text first_state h w; only = λ others refusal r. no_other LIMITS.nodes text h w r }
+choices_are_answered text ts h w = record { answered = λ limit. one_run limit text first_state h w; only = λ limit others refusal r. no_other limit text h w r }
 
 ends_without_formula : (a : ActionTree) → a ≡ Finish → IsWithoutFormula a
 ends_without_formula a e = subst IsWithoutFormula (sym e) tt
@@ -219,4 +218,4 @@ ending_is_answered text start end t piece h finish =
     subst (IsAnsweredOnlyWith text) lines (choices_are_answered text (t ∷ []) (script.last piece h finish) (ends_without_formula t.action finish, tt))
 
 pub none_is_refused : NoneIsRefused
-none_is_refused text lines a r = let wrong : true ≡ false = (a.only r.0 true r.1).1 in absurd (cc)
+none_is_refused text lines a limit r = let wrong : true ≡ false = (a.only limit r.0 true r.1).1 in absurd (cc)

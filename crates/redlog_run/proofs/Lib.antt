@@ -1,4 +1,5 @@
 pub mod Joined
+pub mod Options
 pub mod Replies
 pub mod Unrefused
 pub mod Choices

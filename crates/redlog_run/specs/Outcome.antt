@@ -1,34 +1,101 @@
 -- What was read and written, by the status that the program ends with.
-use Rattle.std.specs.Prelude.{◌≡◌, ℕ, ◌≤◌, List, length, Option, Bool, true, false}
+use Rattle.std.specs.Prelude.{◌≡◌, ℕ, ◌≤◌, ◌⊎◌, ◌↔◌, List, length, Option, Some, None, unwrap_or, Bool, true, false}
+use Rattle.std.specs.declared.alloc.Global.{Global}
+use Rattle.std.specs.declared.string.String.{String}
+use Rattle.command_words.specs.declared.options.Options.{Options}
+use Rattle.command_words.specs.Words.{Spells}
 use Rattle.qe_io.specs.Streams.{Gave, IsAtEnd, Took, Rose}
 use Rattle.redlog_run.specs.declared.status.Status.{Status}
 use Rattle.redlog_run.specs.declared.status.Status.TheVariants as status
 use Rattle.redlog_run.specs.declared.read.ReadStop.{ReadStop}
 use Rattle.redlog_run.specs.declared.read.ReadStop.TheVariants as stop
 use Rattle.redlog_run.specs.Script.{script_limit, GaveTooMany, TookFront}
-use Rattle.redlog_run.specs.Run.{RunOf}
+use Rattle.redlog_run.specs.Run.{RunOf, HasNoRefusal}
+use Rattle.generated_scripts.specs.Generated.{generated, tally}
+
+-- the limit of nodes of the session that these options give
+abbrev pub node_limit : Options → ℕ
+node_limit options = unwrap_or options.nodes 1000000
+
+-- ---- a script of the source
 
 -- The source gave its whole script, which is within the limit, and the sink took the lines that answer it.
-abbrev pub Answered : Option (List ℕ) → Option (List ℕ) → Option (List ℕ) → Option (List ℕ) → Bool → Type 0
-Answered left later wrote after refusal =
+abbrev pub Answered : ℕ → Option (List ℕ) → Option (List ℕ) → Option (List ℕ) → Option (List ℕ) → Bool → Type 0
+Answered limit left later wrote after refusal =
     (script : List ℕ) × (lines : List ℕ)
-    × Gave left later script × IsAtEnd later × (length script ≤ script_limit) × RunOf script lines refusal × Took wrote after lines
+    × Gave left later script × IsAtEnd later × (length script ≤ script_limit) × RunOf limit script lines refusal × Took wrote after lines
 
 -- The source gave its whole script, which is within the limit, and the sink took the front of the lines that answer it.
-abbrev pub AnsweredInPart : Option (List ℕ) → Option (List ℕ) → Option (List ℕ) → Option (List ℕ) → Type 0
-AnsweredInPart left later wrote after =
+abbrev pub AnsweredInPart : ℕ → Option (List ℕ) → Option (List ℕ) → Option (List ℕ) → Option (List ℕ) → Type 0
+AnsweredInPart limit left later wrote after =
     (script : List ℕ) × (lines : List ℕ) × (refusal : Bool)
-    × Gave left later script × IsAtEnd later × (length script ≤ script_limit) × RunOf script lines refusal × TookFront wrote after lines
+    × Gave left later script × IsAtEnd later × (length script ≤ script_limit) × RunOf limit script lines refusal × TookFront wrote after lines
 
 -- by what the source had left and what the sink had taken, before and after
-abbrev pub Outcome : Option (List ℕ) → Option (List ℕ) → Option (List ℕ) → Option (List ℕ) → Status → Type 0
-Outcome left later wrote after status.Done = Answered left later wrote after false
-Outcome left later wrote after status.Refused = Answered left later wrote after true
-Outcome left later wrote after status.Usage = (later ≡ left) × (after ≡ wrote)
-Outcome left later wrote after status.ReadFault = after ≡ wrote
-Outcome left later wrote after status.WriteFault = AnsweredInPart left later wrote after
-Outcome left later wrote after status.Memory = after ≡ wrote
-Outcome left later wrote after status.ScriptLong = GaveTooMany left later × (after ≡ wrote)
+abbrev pub OutcomeOfSource : ℕ → Option (List ℕ) → Option (List ℕ) → Option (List ℕ) → Option (List ℕ) → Status → Type 0
+OutcomeOfSource limit left later wrote after status.Done = Answered limit left later wrote after false
+OutcomeOfSource limit left later wrote after status.Refused = Answered limit left later wrote after true
+OutcomeOfSource limit left later wrote after status.Usage = ⊥
+OutcomeOfSource limit left later wrote after status.ReadFault = after ≡ wrote
+OutcomeOfSource limit left later wrote after status.WriteFault = AnsweredInPart limit left later wrote after
+OutcomeOfSource limit left later wrote after status.Memory = after ≡ wrote
+OutcomeOfSource limit left later wrote after status.ScriptLong = GaveTooMany left later × (after ≡ wrote)
+
+-- a script without a refusal
+abbrev pub CompletesSource : ℕ → Option (List ℕ) → Status → Type 0
+CompletesSource limit left s = (script : List ℕ) → left ≡ Some script → length script ≤ script_limit → HasNoRefusal limit script → (s ≡ status.Done) ⊎ (s ≡ status.Memory)
+
+-- ---- a generated script
+
+-- this is the line that counts the answers of the generated script of n, and one of them is a refusal or none
+abbrev pub IsTally : ℕ → ℕ → List ℕ → Bool → Type 0
+IsTally limit n line refusal = (lines : List ℕ) × RunOf limit (generated n) lines refusal × (line ≡ tally lines)
+
+-- what becomes of the generated script of n, by what the sink had taken and its count of faults, before and after
+abbrev pub Tallied : ℕ → ℕ → Option (List ℕ) → Option (List ℕ) → ℕ → ℕ → Status → Type 0
+Tallied limit n wrote after writes later status.Done = (lines : List ℕ) × RunOf limit (generated n) lines false × Took wrote after (tally lines) × (later ≡ writes)
+Tallied limit n wrote after writes later status.Refused = (lines : List ℕ) × RunOf limit (generated n) lines true × Took wrote after (tally lines) × (later ≡ writes)
+Tallied limit n wrote after writes later status.WriteFault = (lines : List ℕ) × (refusal : Bool) × RunOf limit (generated n) lines refusal × TookFront wrote after (tally lines) × Rose writes later
+Tallied limit n wrote after writes later status.Memory = (after ≡ wrote) × (later ≡ writes)
+Tallied limit n wrote after writes later status.Usage = ⊥
+Tallied limit n wrote after writes later status.ReadFault = ⊥
+Tallied limit n wrote after writes later status.ScriptLong = ⊥
+
+-- ---- either
+
+-- where the options ask for a generated script or not
+abbrev pub outcome_of : ℕ → Option ℕ → Option (List ℕ) → Option (List ℕ) → Option (List ℕ) → Option (List ℕ) → ℕ → ℕ → Status → Type 0
+outcome_of limit None left later wrote after writes faults s = OutcomeOfSource limit left later wrote after s
+outcome_of limit (Some n) left later wrote after writes faults s = (later ≡ left) × Tallied limit n wrote after writes faults s
+
+-- what was read and written under these options, by what the source had left, what the sink had taken and its count of faults, before
+-- and after
+abbrev pub OutcomeUnder : Options → Option (List ℕ) → Option (List ℕ) → Option (List ℕ) → Option (List ℕ) → ℕ → ℕ → Status → Type 0
+OutcomeUnder options left later wrote after writes faults s = outcome_of (node_limit options) options.generate left later wrote after writes faults s
+
+abbrev pub completes_of : ℕ → Option ℕ → Option (List ℕ) → Status → Type 0
+completes_of limit None left s = CompletesSource limit left s
+completes_of limit (Some n) left s = HasNoRefusal limit (generated n) → (s ≡ status.Done) ⊎ (s ≡ status.Memory)
+
+-- The run is done or lacks memory where the script has no cause of a refusal: the script of the source, within the limit, or the
+-- generated one.
+abbrev pub CompletesUnder : Options → Option (List ℕ) → Status → Type 0
+CompletesUnder options left s = completes_of (node_limit options) options.generate left s
+
+-- Nothing was read and written.
+abbrev pub IsUnused : Option (List ℕ) → Option (List ℕ) → Option (List ℕ) → Option (List ℕ) → Type 0
+IsUnused left later wrote after = (later ≡ left) × (after ≡ wrote)
+
+-- under the options that the words give
+abbrev pub Outcome : List (String Global) → Option (List ℕ) → Option (List ℕ) → Option (List ℕ) → Option (List ℕ) → ℕ → ℕ → Status → Type 0
+Outcome words left later wrote after writes faults s = (options : Options) → Spells words options → OutcomeUnder options left later wrote after writes faults s
+
+abbrev pub Completes : List (String Global) → Option (List ℕ) → Status → Type 0
+Completes words left s = (options : Options) → Spells words options → CompletesUnder options left s
+
+-- usage is answered exactly where the words are not of the form
+abbrev pub MeetsUsage : List (String Global) → Status → Type 0
+MeetsUsage words s = (s ≡ status.Usage) ↔ (¬ ((options : Options) × Spells words options))
 
 -- by the counts of faults of the source and the sink, before and after
 abbrev pub Faults : ℕ → ℕ → ℕ → ℕ → Status → Type 0
@@ -46,11 +113,11 @@ stop_status stop.Long = status.ScriptLong
 stop_status stop.Memory = status.Memory
 
 -- what becomes of a script that was read whole, by what the sink had taken and its count of faults, before and after
-abbrev pub Replied : List ℕ → Option (List ℕ) → Option (List ℕ) → ℕ → ℕ → Status → Type 0
-Replied script wrote after writes later status.Done = (lines : List ℕ) × RunOf script lines false × Took wrote after lines × (later ≡ writes)
-Replied script wrote after writes later status.Refused = (lines : List ℕ) × RunOf script lines true × Took wrote after lines × (later ≡ writes)
-Replied script wrote after writes later status.WriteFault = (lines : List ℕ) × (refusal : Bool) × RunOf script lines refusal × TookFront wrote after lines × Rose writes later
-Replied script wrote after writes later status.Memory = (after ≡ wrote) × (later ≡ writes)
-Replied script wrote after writes later status.Usage = ⊥
-Replied script wrote after writes later status.ReadFault = ⊥
-Replied script wrote after writes later status.ScriptLong = ⊥
+abbrev pub Replied : ℕ → List ℕ → Option (List ℕ) → Option (List ℕ) → ℕ → ℕ → Status → Type 0
+Replied limit script wrote after writes later status.Done = (lines : List ℕ) × RunOf limit script lines false × Took wrote after lines × (later ≡ writes)
+Replied limit script wrote after writes later status.Refused = (lines : List ℕ) × RunOf limit script lines true × Took wrote after lines × (later ≡ writes)
+Replied limit script wrote after writes later status.WriteFault = (lines : List ℕ) × (refusal : Bool) × RunOf limit script lines refusal × TookFront wrote after lines × Rose writes later
+Replied limit script wrote after writes later status.Memory = (after ≡ wrote) × (later ≡ writes)
+Replied limit script wrote after writes later status.Usage = ⊥
+Replied limit script wrote after writes later status.ReadFault = ⊥
+Replied limit script wrote after writes later status.ScriptLong = ⊥

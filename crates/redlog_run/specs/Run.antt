@@ -8,7 +8,6 @@ use Rattle.session_commands.specs.declared.line.StatementError.TheVariants as er
 use Rattle.session_commands.specs.Words.{word_of}
 use Rattle.session_commands.specs.State.{State, first_state}
 use Rattle.session_commands.specs.Reply.{Reply}
-use Rattle.redlog_run.specs.declared.answer.TheConstants.{LIMITS}
 use Rattle.redlog_run.specs.Lines.{refusal_line, lines_of}
 
 -- In this state the piece at this offset ends the script or does not, is answered with these lines, and is refused or not; and
@@ -34,9 +33,13 @@ pub data Run (limit : ℕ) (script : List ℕ) : ℕ → State → List ℕ → 
       → AnswersPiece s limit (piece_bytes script start end) start false lines refusal next → Run limit script end next rest more
       → all ≡ lines ++ rest → some ≡ (refusal || more) → Run limit script from s all some
 
--- the whole script is answered with these lines, and one of them is a refusal or none
-abbrev pub RunOf : List ℕ → List ℕ → Bool → Type 0
-RunOf script lines refusal = Run LIMITS.nodes script 0 first_state lines refusal
+-- under this limit of nodes the whole script is answered with these lines, and one of them is a refusal or none
+abbrev pub RunOf : ℕ → List ℕ → List ℕ → Bool → Type 0
+RunOf limit script lines refusal = Run limit script 0 first_state lines refusal
+
+-- no run of the script has a refusal
+abbrev pub HasNoRefusal : ℕ → List ℕ → Type 0
+HasNoRefusal limit script = ¬ ((lines : List ℕ) × RunOf limit script lines true)
 
 -- what one piece adds to the lines and to the flag of a refusal
 pub record Adds (s : State) (limit : ℕ) (piece : List ℕ) (offset : ℕ) (ends : Bool) (next : State) (lines : List ℕ) (refusal : Bool) (all : List ℕ) (some : Bool) : Type 0 where

@@ -1,5 +1,5 @@
 -- Scripts whose statements have no formula, and what they are answered with.
-use Rattle.std.specs.Prelude.{◌≡◌, ℕ, List, [], ◌∷◌, ◌++◌, Bool, true, false, codes, if◌then◌else◌}
+use Rattle.std.specs.Prelude.{◌≡◌, ℕ, List, [], ◌∷◌, ◌++◌, Bool, false, codes, if◌then◌else◌}
 use Rattle.std.specs.List.{flat_map, AllByRecursion}
 use Rattle.qe_syntax.specs.Statements.{ActionTree, Empty, Ignored, Finish, Choose, Say, Assign, StatementTree}
 use Rattle.redlog_reader.specs.Pieces.{HasNoTokenFrom, IsPiece}
@@ -7,7 +7,7 @@ use Rattle.redlog_reader.specs.Statement.{Spells}
 use Rattle.session_commands.specs.State.{theory_of}
 use Rattle.session_commands.specs.Words.{context_text}
 use Rattle.redlog_run.specs.Lines.{newline}
-use Rattle.redlog_run.specs.Run.{RunOf, piece_bytes}
+use Rattle.redlog_run.specs.Run.{RunOf, HasNoRefusal, piece_bytes}
 
 -- from this place on the script spells these statements, up to the first that ends it, or else to its end
 pub data SpellsFrom (script : List ℕ) : ℕ → List StatementTree → Type 0 where
@@ -37,10 +37,10 @@ choice_line printed (Assign x c) = []
 abbrev pub choice_lines : List StatementTree → List ℕ
 choice_lines ts = flat_map (λ t. choice_line t.printed t.action) ts
 
--- the script is answered with these lines and no others, and none of them is a refusal
+-- under any limit of nodes the script is answered with these lines and no others, and none of them is a refusal
 pub record IsAnsweredOnlyWith (script lines : List ℕ) : Type 0 where
-  pub answered : RunOf script lines false
-  pub only : (others : List ℕ) (refusal : Bool) → RunOf script others refusal → (others ≡ lines) × (refusal ≡ false)
+  pub answered : (limit : ℕ) → RunOf limit script lines false
+  pub only : (limit : ℕ) (others : List ℕ) (refusal : Bool) → RunOf limit script others refusal → (others ≡ lines) × (refusal ≡ false)
 
 -- ---- what is proved
 
@@ -58,7 +58,7 @@ ChoicesAreAnswered =
 
 -- so no run of such a script has a refusal
 abbrev pub NoneIsRefused : Type 0
-NoneIsRefused = (script lines : List ℕ) → IsAnsweredOnlyWith script lines → ¬ ((others : List ℕ) × RunOf script others true)
+NoneIsRefused = (script lines : List ℕ) → IsAnsweredOnlyWith script lines → (limit : ℕ) → HasNoRefusal limit script
 
 -- one such script
 abbrev pub SomeChoiceIsAnswered : Type 0

@@ -8,11 +8,8 @@ use redlog_reader::next_piece;
 use session_commands::{Limits, Line, Session, StatementError};
 use std::alloc::{AllocError, Global};
 
-/// The limits of the session, until words of the program can change them.
-pub const LIMITS: Limits = Limits {
-    nodes: 1_000_000,
-    workers: 4,
-};
+/// How many workers a session may have.
+const WORKERS: usize = 4;
 
 /// What a script is answered with: its lines, and whether one of them is a refusal.
 #[derive(Drop)]
@@ -21,11 +18,15 @@ pub struct Answers {
     pub refused: bool,
 }
 
-/// Answers a script: its statements in turn, each in the state that the one before left, until one of them ends it.
-pub fn answer_script(alloc: Global, script: &[u8]) -> Result<Answers, AllocError>
-    ensures { IfOk result (λ answers. RunOf script.now answers.lines.items answers.refused) }
+/// Answers a script under this limit of nodes: its statements in turn, each in the state that the one before left, until one of them ends it.
+pub fn answer_script(alloc: Global, nodes: u64, script: &[u8]) -> Result<Answers, AllocError>
+    ensures { IfOk result (λ answers. RunOf nodes script.now answers.lines.items answers.refused) }
 {
-    let mut session = Session::new(alloc, LIMITS);
+    let limits = Limits {
+        nodes,
+        workers: WORKERS,
+    };
+    let mut session = Session::new(alloc, limits);
     let mut answers = Answers {
         lines: Vec::new(alloc),
         refused: false,

@@ -7,11 +7,12 @@ mod process;
 mod program;
 mod read;
 mod status;
-#[cfg(test)]
-mod tests;
 mod write;
 
 pub use laws::scripts_without_formulas;
 pub use process::{WordsError, finish, run_process};
 pub use program::run;
 pub use status::Status;
+
+#[cfg(test)]
+mod tests;

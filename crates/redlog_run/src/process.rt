@@ -1,12 +1,10 @@
-ghost use Rattle.std.specs.Prelude.{◌≡◌, ◌≢◌, ◌⊎◌, ◌≤◌, ℕ, List, [], length, Some, true, IfOk, IfErr};
+ghost use Rattle.std.specs.Prelude.{◌≡◌, ◌≢◌, IfOk, IfErr, OnErr};
 ghost use Rattle.std.specs.IoError.{error_kind};
 ghost use Rattle.std.specs.Process.{exit_status};
 ghost use Rattle.qe_io.specs.Streams.{Rose};
 ghost use Rattle.redlog_run.specs.Numbers.{number_of};
-ghost use Rattle.redlog_run.specs.Outcome.{Outcome, Faults};
+ghost use Rattle.redlog_run.specs.Outcome.{Outcome, Completes, MeetsUsage, IsUnused, Faults};
 ghost use Rattle.redlog_run.specs.Process.{EndsWith, words_status};
-ghost use Rattle.redlog_run.specs.Run.{RunOf};
-ghost use Rattle.redlog_run.specs.Script.{script_limit};
 
 use crate::program::run;
 use crate::status::Status;
@@ -48,17 +46,15 @@ pub fn finish<S: Source, K: Sink>(
     sink: &mut K,
 ) -> ExitCode
     // What was read and written, and which faults came, by the status whose number it is.
-    ensures outcome { EndsWith result (Outcome (S.left source.old) (S.left source.new) (K.wrote sink.old) (K.wrote sink.new)) }
+    ensures outcome { IfOk words (λ ws. EndsWith result (Outcome ws.items (S.left source.old) (S.left source.new) (K.wrote sink.old) (K.wrote sink.new) (K.faults sink.old) (K.faults sink.new))) }
     ensures faults { EndsWith result (Faults (S.faults source.old) (S.faults source.new) (K.faults sink.old) (K.faults sink.new)) }
     ensures words { IfErr words (λ e. exit_status result ≡ number_of (words_status e)) }
+    ensures untaken { OnErr words (IsUnused (S.left source.old) (S.left source.new) (K.wrote sink.old) (K.wrote sink.new)) }
 
     // What `run` says of usage and of a script without a cause of a refusal.
-    ensures usage { IfOk words (λ ws. exit_status result ≡ number_of Status.Usage → ws.items ≢ []) }
-    ensures only_usage { IfOk words (λ ws. ws.items ≢ [] → exit_status result ≡ number_of Status.Usage) }
-    ensures complete { IfOk words (λ ws. ws.items ≡ [] → (script : List ℕ) → S.left source.old ≡ Some script → length script ≤ script_limit
-        → (¬ ((lines : List ℕ) × RunOf script lines true))
-        → (¬ (Rose (S.faults source.old) (S.faults source.new))) → (¬ (Rose (K.faults sink.old) (K.faults sink.new)))
-        → (exit_status result ≡ number_of Status.Done) ⊎ (exit_status result ≡ number_of Status.Memory)) }
+    ensures usage { IfOk words (λ ws. EndsWith result (MeetsUsage ws.items)) }
+    ensures unused { exit_status result ≡ number_of Status.Usage → IsUnused (S.left source.old) (S.left source.new) (K.wrote sink.old) (K.wrote sink.new) }
+    ensures complete { IfOk words (λ ws. EndsWith result (λ s. (¬ (Rose (S.faults source.old) (S.faults source.new))) → (¬ (Rose (K.faults sink.old) (K.faults sink.new))) → Completes ws.items (S.left source.old) s)) }
 {
     let status = answer_words(alloc, words, source, sink);
     exit_code(status)
@@ -78,15 +74,13 @@ fn answer_words<S: Source, K: Sink>(
     source: &mut S,
     sink: &mut K,
 ) -> Status
-    ensures outcome { Outcome (S.left source.old) (S.left source.new) (K.wrote sink.old) (K.wrote sink.new) result }
+    ensures outcome { IfOk words (λ ws. Outcome ws.items (S.left source.old) (S.left source.new) (K.wrote sink.old) (K.wrote sink.new) (K.faults sink.old) (K.faults sink.new) result) }
     ensures faults { Faults (S.faults source.old) (S.faults source.new) (K.faults sink.old) (K.faults sink.new) result }
     ensures words { IfErr words (λ e. result ≡ words_status e) }
-    ensures usage { IfOk words (λ ws. result ≡ Status.Usage → ws.items ≢ []) }
-    ensures only_usage { IfOk words (λ ws. ws.items ≢ [] → result ≡ Status.Usage) }
-    ensures complete { IfOk words (λ ws. ws.items ≡ [] → (script : List ℕ) → S.left source.old ≡ Some script → length script ≤ script_limit
-        → (¬ ((lines : List ℕ) × RunOf script lines true))
-        → (¬ (Rose (S.faults source.old) (S.faults source.new))) → (¬ (Rose (K.faults sink.old) (K.faults sink.new)))
-        → (result ≡ Status.Done) ⊎ (result ≡ Status.Memory)) }
+    ensures untaken { OnErr words (IsUnused (S.left source.old) (S.left source.new) (K.wrote sink.old) (K.wrote sink.new)) }
+    ensures usage { IfOk words (λ ws. MeetsUsage ws.items result) }
+    ensures unused { result ≡ Status.Usage → IsUnused (S.left source.old) (S.left source.new) (K.wrote sink.old) (K.wrote sink.new) }
+    ensures complete { IfOk words (λ ws. (¬ (Rose (S.faults source.old) (S.faults source.new))) → (¬ (Rose (K.faults sink.old) (K.faults sink.new))) → Completes ws.items (S.left source.old) result) }
 {
     match words {
         Ok(words) => run(alloc, &words, source, sink),

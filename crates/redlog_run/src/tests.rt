@@ -33,23 +33,6 @@ fn failing(
     Ok((status, sink.written().to_vec(alloc)?))
 }
 
-/// A script as users write it: bounds of a sum over both theories, with a comment and a set switch.
-#[test]
-fn an_ordinary_script(rt: HostRuntime) -> Result<(), Fail> {
-    let script =
-        b"load_package redlog;\noff nat;   % no two-dimensional output\nf := ex({x,y},x>=0 and y>=0 and x+y<=a and x-y<=2 and y-x<=2\n  and x+2*y>=1 and 2*x+y>=1 and x<=10 and y<=10 and x+y>=1)$\nrlholds(f,{a=1});\nrlholds(f,{a=1/2});\nrlset pasf$\nf := ex({x,y},x>=0 and y>=0 and x+y<=a and x-y<=2 and y-x<=2\n  and x+2*y>=1 and 2*x+y>=1 and x<=10 and y<=10 and x+y>=1)$\nrlqe all(a,f equiv a>=1);\nrlholds(f,{a=1});\nrlholds(f,{a=0});\nend;\nthese bytes are never read as statements #\n".as_slice();
-    assert_eq!(rt;
-        answer(rt.alloc(), script, 100)?,
-        (
-            Status::Done,
-            "true\nfalse\ntrue\ntrue\nfalse\n"
-                .as_bytes()
-                .to_vec(rt.alloc())?
-        )
-    );
-    Ok(())
-}
-
 /// `f40` has 2^42 - 3 nodes and 121 distinct subformulas; `g` is its negation normal form.
 #[test]
 fn a_shared_formula(rt: HostRuntime) -> Result<(), Fail> {
@@ -171,11 +154,26 @@ fn calls_that_fail(rt: HostRuntime) -> Result<(), Fail> {
 #[test]
 fn words_and_limits(rt: HostRuntime) -> Result<(), Fail> {
     let alloc = rt.alloc();
-    let mut words = Vec::new(alloc);
-    words.push("--help".to_string(alloc)?)?;
-    let mut source = SteadySource::new(FIRST.to_vec(alloc)?);
     let mut sink = SteadySink::new();
-    assert_eq!(rt; run(alloc, &words, &mut source, &mut sink), Status::Usage);
+    for word in ["--help", "--", "--workers=2", "--nodes=0", "--nodes="] {
+        let words = vec![in alloc; word.to_string(alloc)?]?;
+        let mut source = SteadySource::new(FIRST.to_vec(alloc)?);
+        assert_eq!(rt;
+            run(alloc, &words, &mut source, &mut sink),
+            Status::Usage,
+            "{word}"
+        );
+    }
+
+    // A generated script reads nothing: the first read would fail.
+    let words = vec![in alloc; "--generate=1".to_string(alloc)?]?;
+    let mut source = MemorySource::new(FIRST.to_vec(alloc)?, 7, vec![in alloc; 0]?);
+    let mut tallied = MemorySink::new(alloc, 100, Vec::new(alloc))?;
+    let status = run(alloc, &words, &mut source, &mut tallied);
+    assert_eq!(rt;
+        (status, tallied.written()),
+        (Status::Done, b"true 1 false 1 refused 0\n".as_slice())
+    );
 
     for (length, status) in [(16_777_216, Status::Done), (16_777_217, Status::ScriptLong)] {
         let mut blanks = Vec::with_capacity(alloc, length)?;

@@ -1,0 +1,219 @@
+-- Words give at most one choice of options.
+use Rattle.std.proofs.Common.{◌≡◌, ℕ, suc, ◌+◌, ◌-◌, ◌<◌, ◌≤◌, List, [], ◌∷◌, ◌++◌, length, get_or, drop, refl, sym, ap, ◌∙◌, subst, length-drop, take, inl, inr, ◌⊎◌, ⊎_elim, arith}
+use Rattle.std.proofs.lemmas.List.{drop-drop}
+use Rattle.std.proofs.Math.Seq.{take-length}
+use Rattle.std.specs.Prelude.{Option, Some, None, MatchOption, is_some, true, false, string_bytes}
+use Rattle.std.specs.declared.alloc.Global.{Global}
+use Rattle.std.specs.declared.string.String.{String}
+use Rattle.command_words.specs.declared.options.Choice.{Choice}
+use Rattle.command_words.specs.declared.options.Choice.TheVariants.{Nodes, Generate}
+use Rattle.command_words.specs.declared.options.Options.{Options}
+use Rattle.command_words.specs.declared.words.First.{First}
+use Rattle.command_words.specs.Value.{value_of}
+use Rattle.command_words.specs.Words.{name_of, greatest_of, given, with_value, Gives, apart, joined, Begins, SpellsAfter, over, option, Spells, SpellOnce}
+
+pub some_injective : {A : Type 0} (x y : A) → Some x ≡ Some y → x ≡ y
+some_injective x y e = cc
+
+pub head_same : {A : Type 0} (x y : A) (xs ys : List A) → x ∷ xs ≡ y ∷ ys → x ≡ y
+head_same x y xs ys e = cc
+
+pub tail_same : {A : Type 0} (x y : A) (xs ys : List A) → x ∷ xs ≡ y ∷ ys → xs ≡ ys
+tail_same x y xs ys e = cc
+
+-- the word has one of the names, and one tail
+record SameName (c d : Choice) (s t : List ℕ) : Type 0 where
+  choice : c ≡ d
+  tail : s ≡ t
+
+-- the names differ in the third letter
+other_letter : (m n : ℕ) → m ≡ n → m ≡ 110 → n ≡ 103 → ⊥
+other_letter m n e a b = omega arith
+
+same_name : (c d : Choice) (s t : List ℕ) → name_of c ++ s ≡ name_of d ++ t → SameName c d s t
+same_name Nodes Nodes s t e = record { choice = refl; tail = ap (λ (xs : List ℕ). drop 7 xs) e }
+same_name Nodes Generate s t e = absurd (other_letter 110 103 (ap (λ (xs : List ℕ). get_or xs 2 0) e) refl refl)
+same_name Generate Nodes s t e = absurd (other_letter 110 103 (sym (ap (λ (xs : List ℕ). get_or xs 2 0) e)) refl refl)
+same_name Generate Generate s t e = record { choice = refl; tail = ap (λ (xs : List ℕ). drop 10 xs) e }
+
+record SameGift (m n : ℕ) (these those : List (String Global)) : Type 0 where
+  value : m ≡ n
+  rest : these ≡ those
+
+-- what stands after the name has one value
+joined_same : (greatest : ℕ) (s t : List ℕ) (m n : ℕ) → 61 ∷ s ≡ 61 ∷ t → value_of greatest s ≡ Some m → value_of greatest t ≡ Some n → m ≡ n
+joined_same greatest s t m n e a b = some_injective m n (sym a ∙ ap (value_of greatest) (tail_same 61 61 s t e) ∙ b)
+
+pub record InNext (greatest : ℕ) (others : List (String Global)) (n : ℕ) (rest : List (String Global)) : Type 0 where
+  pub text : String Global
+  pub others_are : others ≡ text ∷ rest
+  pub value : value_of greatest (string_bytes text) ≡ Some n
+
+pub record InTail (greatest : ℕ) (tail : List ℕ) (others : List (String Global)) (n : ℕ) (rest : List (String Global)) : Type 0 where
+  pub text : List ℕ
+  pub tail_is : tail ≡ 61 ∷ text
+  pub others_are : others ≡ rest
+  pub value : value_of greatest text ≡ Some n
+
+-- where the value stands
+pub stands : {greatest : ℕ} {tail : List ℕ} {others : List (String Global)} {n : ℕ} {rest : List (String Global)} → Gives greatest tail others n rest
+    → ((tail ≡ []) × InNext greatest others n rest) ⊎ InTail greatest tail others n rest
+stands (apart {text = text} v) = inl (refl, record { text = text; others_are = refl; value = v })
+stands (joined {text = text} v) = inr (record { text = text; tail_is = refl; others_are = refl; value = v })
+
+same_gift : {greatest : ℕ} {tail : List ℕ} {others : List (String Global)} {m n : ℕ} {these those : List (String Global)}
+    → Gives greatest tail others m these → Gives greatest tail others n those → SameGift m n these those
+same_gift {greatest = greatest} {m = m} {n = n} {these = these} {those = those} g h =
+    ⊎_elim
+    (λ (e, a). ⊎_elim
+    (λ (f, b). record {
+      value = some_injective m n (sym a.value ∙ ap (λ (w : String Global). value_of greatest (string_bytes w)) (head_same a.text b.text these those (sym a.others_are ∙ b.others_are)) ∙ b.value);
+      rest = tail_same a.text b.text these those (sym a.others_are ∙ b.others_are);
+    })
+    (λ b. let x = sym e ∙ b.tail_is in absurd (cc))
+    (stands h))
+    (λ a. ⊎_elim
+    (λ (f, b). let x = sym f ∙ a.tail_is in absurd (cc))
+    (λ b. record { value = joined_same greatest a.text b.text m n (sym a.tail_is ∙ b.tail_is) a.value b.value; rest = sym a.others_are ∙ b.others_are })
+    (stands h))
+    (stands g)
+
+-- the words begin with one option
+pub record SameOption (c d : Choice) (m n : ℕ) (these those : List (String Global)) : Type 0 where
+  pub choice : c ≡ d
+  pub value : m ≡ n
+  pub rest : these ≡ those
+
+pub same_option : (c d : Choice) (words : List (String Global)) (m n : ℕ) (these those : List (String Global)) → Begins c words m these → Begins d words n those → SameOption c d m n these those
+same_option c d words m n these those a b =
+    let cons = sym a.words_are ∙ b.words_are in
+    let word = head_same a.word b.word a.others b.others cons in
+    let others = tail_same a.word b.word a.others b.others cons in
+    let name = same_name c d a.tail b.tail (sym a.word_is ∙ ap string_bytes word ∙ b.word_is) in
+    let here = subst (λ (k : Choice). Gives (greatest_of k) a.tail a.others m these) name.choice a.gives in
+    let moved = subst (λ (t : List ℕ). Gives (greatest_of d) t a.others m these) name.tail here in
+    let gift = same_gift (subst (λ (os : List (String Global)). Gives (greatest_of d) b.tail os m these) others moved) b.gives in
+    record { choice = name.choice; value = gift.value; rest = gift.rest }
+
+-- words that are left begin with an option
+pub record Opens (before : Options) (words : List (String Global)) (all : Options) : Type 0 where
+  pub choice : Choice
+  pub n : ℕ
+  pub rest : List (String Global)
+  pub free : given choice before ≡ None
+  pub begins : Begins choice words n rest
+  pub more : SpellsAfter (with_value choice n before) rest all
+
+pub opened : {before : Options} {words : List (String Global)} {all : Options} → SpellsAfter before words all → ((words ≡ []) × (all ≡ before)) ⊎ Opens before words all
+opened over = inl (refl, refl)
+opened (option {rest = rest} {n = n} choice free begins more) = inr (record { choice = choice; n = n; rest = rest; free = free; begins = begins; more = more })
+
+-- no options stand at words that are not empty and begin with none
+pub none_begins : (before : Options) (words : List (String Global)) → ¬ (words ≡ []) → ((c : Choice) (n : ℕ) (rest : List (String Global)) → ¬ Begins c words n rest)
+    → (all : Options) → ¬ SpellsAfter before words all
+none_begins before words some none all h = ⊎_elim (λ e. some e.0) (λ o. none o.choice o.n o.rest o.begins) (opened h)
+
+module _ (before : Options) (words : List (String Global)) (some : ¬ (words ≡ [])) (c : Choice) (n : ℕ) (rest : List (String Global)) (begins : Begins c words n rest) where
+  -- an option that was given is not given again
+  pub given_twice : is_some (given c before) ≡ true → (all : Options) → ¬ SpellsAfter before words all
+  given_twice was all h =
+      ⊎_elim (λ e. some e.0) (λ o. let same = same_option o.choice c words o.n n o.rest rest o.begins begins in
+      let free = subst (λ (k : Choice). given k before ≡ None) same.choice o.free in let bad : true ≡ false = sym was ∙ ap is_some free in absurd (cc)) (opened h)
+
+  -- what follows the option is spelled after it
+  pub follows : (all : Options) → SpellsAfter before words all → SpellsAfter (with_value c n before) rest all
+  follows all h =
+      ⊎_elim (λ e. absurd (some e.0)) (λ o. let same = same_option o.choice c words o.n n o.rest rest o.begins begins in
+      subst (λ (ws : List (String Global)). SpellsAfter (with_value c n before) ws all) same.rest
+      (subst (λ (m : ℕ). SpellsAfter (with_value c m before) o.rest all) same.value
+      (subst (λ (k : Choice). SpellsAfter (with_value k o.n before) o.rest all) same.choice o.more))) (opened h)
+
+not_empty : (words others : List (String Global)) (word : String Global) → words ≡ word ∷ others → ¬ (words ≡ [])
+not_empty words others word e h = let bad = sym h ∙ e in absurd (cc)
+
+spelled_once : {before all : Options} {words : List (String Global)} → SpellsAfter before words all → (other : Options) → SpellsAfter before words other → all ≡ other
+spelled_once {words = words} over other h = ⊎_elim (λ e. sym e.1) (λ o. absurd (not_empty [] o.begins.others o.begins.word o.begins.words_are refl)) (opened h)
+spelled_once {before = before} (option {words = words} {rest = rest} {n = n} choice free begins more) other h =
+    spelled_once more other (follows before words (not_empty words begins.others begins.word begins.words_are) choice n rest begins other h)
+
+pub words_spell_once : SpellOnce
+words_spell_once words one other h k = spelled_once h other k
+
+-- ---- what the functions find
+
+pub in_next : (greatest n : ℕ) (others rest : List (String Global)) (text : String Global) (bytes : List ℕ) → others ≡ text ∷ rest → bytes ≡ string_bytes text
+    → value_of greatest bytes ≡ Some n → (1 ≤ length others) × Gives greatest [] others n (drop 1 others)
+in_next greatest n others rest text bytes e b v =
+    subst (λ (os : List (String Global)). (1 ≤ length os) × Gives greatest [] os n (drop 1 os)) (sym e)
+    (omega arith, apart (sym (ap (value_of greatest) b) ∙ v))
+
+pub in_tail : (greatest n sign : ℕ) (others : List (String Global)) (tail text : List ℕ) → tail ≡ sign ∷ text → sign ≡ 61 → value_of greatest text ≡ Some n
+    → (0 ≤ length others) × Gives greatest tail others n others
+in_tail greatest n sign others tail text e s v =
+    (omega arith, subst (λ (t : List ℕ). Gives greatest t others n others) (sym (e ∙ ap (λ (b : ℕ). b ∷ text) s)) (joined v))
+
+add-one-length : (word : String Global) (others : List (String Global)) → length (word ∷ others) ≡ length others + 1
+add-one-length word others = omega arith
+
+pub begun : (choice : Choice) (n k : ℕ) (words others : List (String Global)) (word : String Global) (tail : List ℕ) → words ≡ word ∷ others → string_bytes word ≡ name_of choice ++ tail
+    → k ≤ length others → Gives (greatest_of choice) tail others n (drop k others)
+    → (0 < 1 + k) × (1 + k ≤ length words) × Begins choice words n (drop (1 + k) words)
+begun choice n k words others word tail e w h g =
+    let long : length words ≡ length others + 1 = ap length e ∙ add-one-length word others in
+    let one : 1 + k ≡ suc k = omega arith in
+    let left : drop k others ≡ drop (1 + k) words = sym (ap (λ (i : ℕ). drop i words) one ∙ ap (λ (ws : List (String Global)). drop (suc k) ws) e) in (
+      omega arith,
+      omega arith,
+      record {
+        word = word;
+        others = others;
+        tail = tail;
+        words_are = e;
+        word_is = w;
+        gives = subst (λ (ws : List (String Global)). Gives (greatest_of choice) tail others n ws) left g;
+      },
+    )
+
+pub neither : (words : List (String Global)) → ((n : ℕ) (rest : List (String Global)) → ¬ Begins Nodes words n rest) → ((n : ℕ) (rest : List (String Global)) → ¬ Begins Generate words n rest)
+    → (choice : Choice) (n : ℕ) (rest : List (String Global)) → ¬ Begins choice words n rest
+neither words a b Nodes = a
+neither words a b Generate = b
+
+pub second : (words : List (String Global)) (Q : First → Type 0) (r : Option First) → ((n : ℕ) (rest : List (String Global)) → ¬ Begins Nodes words n rest)
+    → MatchOption r ((n : ℕ) (rest : List (String Global)) → ¬ Begins Generate words n rest) Q
+    → MatchOption r ((choice : Choice) (n : ℕ) (rest : List (String Global)) → ¬ Begins choice words n rest) Q
+second words Q None a h = neither words a h
+second words Q (Some x) a h = h
+
+-- a range that goes to the end
+pub to_end : (i : ℕ) (words : List (String Global)) → take (length words - i) (drop i words) ≡ drop i words
+to_end i words = subst (λ (n : ℕ). take n (drop i words) ≡ drop i words) (length-drop i words) (take-length (drop i words))
+
+pub some_left : (i : ℕ) (words : List (String Global)) → i < length words → ¬ (drop i words ≡ [])
+some_left i words h e =
+    let long : length (drop i words) ≡ length words - i = length-drop i words in
+    let none : length (drop i words) ≡ 0 = ap length e in omega arith
+
+pub not_given : (o : Option ℕ) → is_some o ≡ false → o ≡ None
+not_given None e = refl
+not_given (Some n) e = absurd (cc)
+
+pub unspelled : (words : List (String Global)) (r : Option Options) → r ≡ None → ((all : Options) → ¬ Spells words all)
+    → MatchOption r (¬ ((options : Options) × Spells words options)) (λ options. Spells words options)
+unspelled words None e h = λ (all, s). h all s
+unspelled words (Some x) e h = absurd (cc)
+
+module _ (before next : Options) (words : List (String Global)) (i k : ℕ) (inside : i < length words) (c : Choice) (n : ℕ) (begins : Begins c (drop i words) n (drop k (drop i words)))
+    (next_is : next ≡ with_value c n before) where
+  left : drop k (drop i words) ≡ drop (i + k) words
+  left = drop-drop k i words
+
+  pub back : is_some (given c before) ≡ false → (all : Options) → SpellsAfter next (drop (i + k) words) all → SpellsAfter before (drop i words) all
+  back free all s =
+      option c (not_given (given c before) free) begins
+      (subst (λ (ws : List (String Global)). SpellsAfter (with_value c n before) ws all) (sym left) (subst (λ (o : Options). SpellsAfter o (drop (i + k) words) all) next_is s))
+
+  pub onward : (all : Options) → SpellsAfter before (drop i words) all → SpellsAfter next (drop (i + k) words) all
+  onward all s =
+      subst (λ (o : Options). SpellsAfter o (drop (i + k) words) all) (sym next_is) (subst (λ (ws : List (String Global)). SpellsAfter (with_value c n before) ws all) left
+      (follows before (drop i words) (some_left i words inside) c n (drop k (drop i words)) begins all s))

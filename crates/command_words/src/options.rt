@@ -1,0 +1,66 @@
+ghost use Rattle.std.specs.Prelude.{◌≡◌, Some, is_some};
+ghost use Rattle.command_words.specs.Words.{name_of, greatest_of, given, with_value};
+
+/// An option of the command line.
+#[derive(Clone, Copy, Debug, PartialEq, Eq)]
+pub enum Choice {
+    Nodes,
+    Generate,
+}
+
+/// The values of the options, where they are given.
+#[derive(Clone, Copy, Debug, PartialEq, Eq)]
+pub struct Options {
+    pub nodes: Option<u32>,
+    pub generate: Option<u32>,
+}
+
+impl Choice {
+    /// The word that begins the option.
+    pub fn name(self) -> &'static str
+        ensures { result.now ≡ name_of self }
+    {
+        match self {
+            Choice::Nodes => "--nodes",
+            Choice::Generate => "--generate",
+        }
+    }
+
+    /// The greatest value of the option. The least is 1.
+    pub fn greatest(self) -> u32
+        ensures { result ≡ greatest_of self }
+    {
+        match self {
+            Choice::Nodes => 4_000_000,
+            Choice::Generate => 100_000,
+        }
+    }
+}
+
+impl Options {
+    /// Whether the option has a value.
+    pub fn has(&self, choice: Choice) -> bool
+        ensures { result ≡ is_some (given choice self.now) }
+    {
+        match choice {
+            Choice::Nodes => self.nodes.is_some(),
+            Choice::Generate => self.generate.is_some(),
+        }
+    }
+
+    /// These options, and this value of one.
+    pub fn with(self, choice: Choice, value: u32) -> Options
+        ensures { result ≡ with_value choice value self }
+    {
+        match choice {
+            Choice::Nodes => Options {
+                nodes: Some(value),
+                generate: self.generate,
+            },
+            Choice::Generate => Options {
+                nodes: self.nodes,
+                generate: Some(value),
+            },
+        }
+    }
+}

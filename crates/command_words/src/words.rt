@@ -1,0 +1,109 @@
+ghost use Rattle.std.specs.Prelude.{◌≡◌, ℕ, ◌<◌, ◌≤◌, List, [], ◌++◌, length, drop, MatchOption};
+ghost use Rattle.std.specs.declared.alloc.Global.{Global};
+ghost use Rattle.std.specs.declared.string.String.{String};
+ghost use Rattle.command_words.specs.declared.options.Choice.{Choice};
+ghost use Rattle.command_words.specs.declared.options.Options.{Options};
+ghost use Rattle.command_words.specs.Words.{Gives, Begins, Spells};
+
+use crate::options::{Choice, Options};
+use crate::value::value_of;
+
+/// The options that the words of a command line give, or none where the words are not of the form
+/// `[--nodes n] [--generate n]`: each option at most once, in any order, its value in the next word or after `=`.
+pub fn options_of(words: &[String]) -> Option<Options>
+    ensures { MatchOption result (¬ ((options : Options) × Spells words.now options)) (λ options. Spells words.now options) }
+{
+    let mut options = Options {
+        nodes: None,
+        generate: None,
+    };
+    let mut from = 0;
+    'words: while from < words.len() {
+        let first = first_option(&words[from..])?;
+        if options.has(first.choice) {
+            return None;
+        }
+        options = options.with(first.choice, first.value);
+        from += first.words;
+    }
+    Some(options)
+}
+
+/// The first option of some words: its value, and in how many words it stands.
+#[derive(Clone, Copy)]
+struct First {
+    choice: Choice,
+    value: u32,
+    words: usize,
+}
+
+/// The option that the words begin with.
+fn first_option(words: &[String]) -> Option<First>
+    ensures { MatchOption result
+        ((choice : Choice) (n : ℕ) (rest : List (String Global)) → ¬ Begins choice words.now n rest)
+        (λ first. (0 < first.words) × (first.words ≤ length words.now) × Begins first.choice words.now first.value (drop first.words words.now)) }
+{
+    match option_at(words, Choice::Nodes) {
+        None => option_at(words, Choice::Generate),
+        first => first,
+    }
+}
+
+/// The option that the words begin with, where it is this one.
+fn option_at(words: &[String], choice: Choice) -> Option<First>
+    ensures { MatchOption result
+        ((n : ℕ) (rest : List (String Global)) → ¬ Begins choice words.now n rest)
+        (λ first. (0 < first.words) × (first.words ≤ length words.now) × Begins first.choice words.now first.value (drop first.words words.now)) }
+{
+    let (word, others) = words.split_first()?;
+    let tail = tail_after(word.as_bytes(), choice.name().as_bytes())?;
+    let given = value_at(tail, others, choice.greatest())?;
+    Some(First {
+        choice,
+        value: given.value,
+        words: 1 + given.words,
+    })
+}
+
+/// What follows the name in a word that begins with it.
+fn tail_after<'a>(word: &'a [u8], name: &[u8]) -> Option<&'a [u8]>
+    ensures { MatchOption result
+        ((tail : List ℕ) → ¬ (word.entry.now ≡ name.now ++ tail))
+        (λ tail. word.entry.now ≡ name.now ++ tail.now) }
+{
+    word.strip_prefix(name)
+}
+
+/// A value, and how many words after the option's it takes.
+#[derive(Clone, Copy)]
+struct Given {
+    value: u32,
+    words: usize,
+}
+
+/// The value of an option whose word has this tail and is followed by these words.
+fn value_at(tail: &[u8], others: &[String], greatest: u32) -> Option<Given>
+    ensures { MatchOption result
+        ((n : ℕ) (rest : List (String Global)) → ¬ Gives greatest tail.now others.now n rest)
+        (λ given. (given.words ≤ length others.now) × Gives greatest tail.now others.now given.value (drop given.words others.now)) }
+{
+    let Some((sign, text)) = tail.split_first() else {
+        return value_in_next(others, greatest);
+    };
+    if *sign != b'=' {
+        return None;
+    }
+    let value = value_of(text, greatest)?;
+    Some(Given { value, words: 0 })
+}
+
+/// The value of an option that stands in the next word.
+fn value_in_next(others: &[String], greatest: u32) -> Option<Given>
+    ensures { MatchOption result
+        ((n : ℕ) (rest : List (String Global)) → ¬ Gives greatest [] others.now n rest)
+        (λ given. (given.words ≤ length others.now) × Gives greatest [] others.now given.value (drop given.words others.now)) }
+{
+    let (text, _) = others.split_first()?;
+    let value = value_of(text.as_bytes(), greatest)?;
+    Some(Given { value, words: 1 })
+}
