@@ -48,7 +48,7 @@ use Rattle.prenex_forms.proofs.Done.{front_done}
 
 module _ {A N : Type 0} (K : N → Type 0) (opposite : A → A) where
   mutual
-    bound_normal_form : (f : Formula A N) → EveryBound K f → EveryBound K (normal_form opposite f) × EveryBound K (normal_form_of_not opposite f)
+    pub bound_normal_form : (f : Formula A N) → EveryBound K f → EveryBound K (normal_form opposite f) × EveryBound K (normal_form_of_not opposite f)
     bound_normal_form Yes h = (tt, tt)
     bound_normal_form No h = (tt, tt)
     bound_normal_form (One a) h = (tt, tt)

@@ -26,7 +26,7 @@ place_any x (y ∷ ys) = go (same_name x y) (place_any x ys)
     go true h = lt-ltb 0 (suc (length ys)) (omega arith)
     go false h = next (place ys x) (length ys) ∙ h
 
-any_among : (x : List ℕ) (names : List (List ℕ)) → list_any (same_name x) names ≡ true → Among names x
+pub any_among : (x : List ℕ) (names : List (List ℕ)) → list_any (same_name x) names ≡ true → Among names x
 any_among x [] e = absurd (cc)
 any_among x (y ∷ ys) e = go (same_name x y) refl e (any_among x ys)
   where

@@ -7,3 +7,5 @@ pub mod RenamedParts
 pub mod Done
 pub mod Starts
 pub mod Finished
+pub mod NewVariables
+pub mod Marking

@@ -1,6 +1,7 @@
 -- Flags and numbers that are put one after another.
-use Rattle.std.proofs.Common.{◌≡◌, ◌<◌, ◌≤◌, ◌+◌, ◌↔◌, ◌⊎◌, ℕ, zero, suc, Bool, true, false, IsTrue, List, [], ◌∷◌, ◌++◌, Some, None, length, inl, inr, refl, sym, ap, ◌∙◌, arith, nat_eq, if◌then◌else◌}
+use Rattle.std.proofs.Common.{◌≡◌, ◌<◌, ◌≤◌, ◌↔◌, ◌⊎◌, ℕ, zero, suc, Bool, true, false, IsTrue, List, [], ◌∷◌, ◌++◌, Some, None, length, take, inl, inr, refl, sym, ap, ◌∙◌, subst, arith, nat_eq, if◌then◌else◌}
 use Rattle.std.specs.Prelude.{slice_get, unwrap_or}
+use Rattle.std.specs.List.{AllByRecursion}
 use Rattle.std.proofs.lemmas.Bool.{cases_eq, cases_lt, eqb-true}
 use Rattle.formula_meaning.specs.Shape.{is_in}
 use Rattle.formula_meaning.specs.Some.{Among}
@@ -68,12 +69,19 @@ told_free false f x e = go (is_in nat_eq x (tree_names f)) refl
     go true k = let t : IsTrue false = e.1 ((names_listed f x).0 (is_in_among x (tree_names f) k)) in absurd (cc)
     go false k = refl
 
-pub flag_push : (f : Tree) (xs ys : List Bool) (n : ℕ) (b : Bool) → ((x : ℕ) → x < n → flag xs x ≡ is_in nat_eq x (tree_names f)) → length xs ≡ n → b ≡ is_in nat_eq n (tree_names f) → ys ≡ xs ++ b ∷ [] →
-    (x : ℕ) → x < n + 1 → flag ys x ≡ is_in nat_eq x (tree_names f)
-flag_push f xs ys n b h e t s x l = ap (λ zs. flag zs x) s ∙ elim (cases_eq x n) [
-  | inl m ↦ ap (λ o. unwrap_or o false) (get_last xs b x (e ∙ sym m)) ∙ t ∙ ap (λ k. is_in nat_eq k (tree_names f)) (sym m)
-  | inr d ↦ ap (λ o. unwrap_or o false) (get_front xs b x (omega arith)) ∙ h x (omega arith)
-]
+pub none_flag : (xs : List Bool) → AllByRecursion (λ b. b ≡ false) xs → (x : ℕ) → flag xs x ≡ false
+none_flag [] h zero = refl
+none_flag [] h (suc x) = refl
+none_flag (b ∷ bs) h zero = h.0
+none_flag (b ∷ bs) h (suc x) = none_flag bs h.1 x
+
+-- one flag more that is not set
+pub none_more : (xs ys : List Bool) → AllByRecursion (λ b. b ≡ false) xs → ys ≡ xs ++ false ∷ [] → AllByRecursion (λ b. b ≡ false) ys
+none_more xs ys h e = subst (AllByRecursion (λ b. b ≡ false)) (sym e) (go xs h)
+  where
+    go : (bs : List Bool) → AllByRecursion (λ b. b ≡ false) bs → AllByRecursion (λ b. b ≡ false) (bs ++ false ∷ [])
+    go [] k = (refl, tt)
+    go (b ∷ bs) k = (k.0, go bs k.1)
 
 -- no flag past the end
 pub flag_all : (f : Tree) (xs : List Bool) (n : ℕ) → ((x : ℕ) → IsFree f x → x < n) → ((x : ℕ) → x < n → flag xs x ≡ is_in nat_eq x (tree_names f)) → length xs ≡ n → (x : ℕ) → flag xs x ≡ is_in nat_eq x (tree_names f)
@@ -81,3 +89,11 @@ flag_all f xs n below h e x = elim (cases_lt x n) [
   | inl l ↦ h x l
   | inr g ↦ ap (λ o. unwrap_or o false) (get_past xs x (omega arith)) ∙ told_free false f x (λ (v : IsTrue false). absurd (cc), λ v. let l = below x v in absurd (omega arith))
 ]
+
+-- what stands in front
+pub front_whole : (n : ℕ) (xs ys : List Bool) → n ≡ length xs → take n (xs ++ ys) ≡ xs
+front_whole n xs ys e = ap (λ k. take k (xs ++ ys)) e ∙ go xs
+  where
+    go : (bs : List Bool) → take (length bs) (bs ++ ys) ≡ bs
+    go [] = refl
+    go (b ∷ bs) = ap (λ cs. b ∷ cs) (go bs)

@@ -2,3 +2,4 @@ pub mod Forms
 pub mod Places
 pub mod Named
 pub mod Chosen
+pub mod Marks

@@ -1,9 +1,6 @@
 -- Names of atoms and what they have become.
 use Rattle.std.specs.Prelude.{◌≡◌, ℕ, pos, List, slice_get, unwrap_or}
 use Rattle.formula_meaning.specs.Form.{Form, coefficient}
-use Rattle.formula_meaning.specs.Sorted.{IsSorted}
-use Rattle.written_atoms.specs.Entries.{coefficient_at}
-use Rattle.prenex_forms.specs.declared.sums.Sum.{Sum}
 
 -- what the list has at the name's number, or the name itself past its end
 abbrev pub now_of : List ℕ → ℕ → ℕ
@@ -12,9 +9,3 @@ now_of now x = unwrap_or (slice_get now x) x
 -- no two names of the form become one
 abbrev pub IsOneToOneForm : (ℕ → ℕ) → Form → Type 0
 IsOneToOneForm now f = (y z : ℕ) → ¬ (coefficient y f ≡ pos 0) → ¬ (coefficient z f ≡ pos 0) → now y ≡ now z → y ≡ z
-
--- the sorted form of these coefficients and this constant
-pub record IsFormOf (s : Sum) (f : Form) : Type 0 where
-  pub sorted : IsSorted f
-  pub coefficients : (x : ℕ) → coefficient x f ≡ coefficient_at s.coefficients.entries x
-  pub constant : f.constant ≡ s.constant

@@ -13,11 +13,11 @@ ghost use Rattle.prenex_theory.specs.Links.{IsOneToOne};
 ghost use Rattle.prenex_theory.specs.Renaming.{terms_named, form_named, atom_named};
 ghost use Rattle.prenex_forms.specs.Named.{now_of, IsOneToOneForm};
 
-use crate::sums::Sum;
 use atom_normal::{Atom, AtomError, Context, Normal, normal};
 use linear_forms::{Linear, VarId};
 use nnf_trees::Nnf;
 use std::alloc::{AllocError, Global};
+use written_atoms::WholeSum;
 
 /// An atom with each name as the list says, in normal form; an atom whose names all stay is copied. `Overflow` comes exactly
 /// where the constant of the normal form passes 2^127 - 1, else `Memory`.
@@ -52,7 +52,7 @@ pub(crate) fn renamed_atom(
 }
 
 // The form of an atom.
-fn form(atom: &Atom) -> &Linear
+pub(crate) fn form(atom: &Atom) -> &Linear
     ensures { result.now ≡ form_of (atom_of atom.now) }
 {
     match atom {
@@ -119,7 +119,7 @@ fn changed_form(alloc: Global, now: &[usize], form: &Linear) -> Result<Linear, A
     requires { IsOneToOneForm (now_of now.now) form.now }
     ensures { IfOk result (λ r. gathered r ≡ gathered (form_named (now_of now.now) form.now)) }
 {
-    let mut sum = Sum::of(alloc, form.constant_part());
+    let mut sum = WholeSum::of(alloc, form.constant_part());
     for place in 0..form.places() {
         let Some((name, times)) = form.term(place) else {
             return Err(AllocError);

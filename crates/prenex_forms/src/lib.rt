@@ -12,7 +12,6 @@ mod prefix;
 mod prenex;
 mod renaming;
 mod start;
-mod sums;
 mod whole;
 
 pub use error::PrenexError;

@@ -1,21 +1,24 @@
 //! New names of variables.
 
 ghost use Rattle.std.specs.Prelude.{◌≡◌, ◌<◌, ◌≤◌, ◌++◌, ◌∷◌, [], ℕ, List, IfOk, OnOk, OnErr, length, take};
+ghost use Rattle.std.specs.List.{AllByRecursion};
 ghost use Rattle.formula_meaning.specs.Some.{Among};
 ghost use Rattle.prenex_theory.specs.NewNames.{new_text, IsFirstNew, AddsNewNames};
+ghost use Rattle.qe_syntax.specs.Names.{IsVariable};
 
 use formula_tree::Names;
 use qe_syntax::Name;
 use std::alloc::{AllocError, Global};
 
-/// Adds so many new names: each is the first of `v1`, `v2`, .. that is none yet. Its only error is want of memory, which leaves
-/// the names as they were.
+/// Adds so many new names: each is the first of `v1`, `v2`, .. that is none yet. A script can write them. Its only error is want
+/// of memory, which leaves the names as they were.
 pub(crate) fn add_new_names(
     alloc: Global,
     names: &mut Names,
     count: usize,
 ) -> Result<(), AllocError>
     ensures added { OnOk result (AddsNewNames names.old count names.new) }
+    ensures variables { OnOk result (AllByRecursion IsVariable names.old → AllByRecursion IsVariable names.new) }
     ensures unchanged { OnErr result (names.new ≡ names.old) }
 {
     let known = names.count();
@@ -31,6 +34,7 @@ pub(crate) fn add_new_names(
 // The same, where after an error some names may have been added.
 fn add_each(alloc: Global, names: &mut Names, count: usize) -> Result<(), AllocError>
     ensures added { OnOk result (AddsNewNames names.old count names.new) }
+    ensures variables { OnOk result (AllByRecursion IsVariable names.old → AllByRecursion IsVariable names.new) }
     ensures front { take (length names.old) names.new ≡ names.old }
     ensures longer { length names.old ≤ length names.new }
 {
@@ -46,6 +50,7 @@ fn add_one(alloc: Global, names: &mut Names, from: u64) -> Result<u64, AllocErro
     requires positive { 0 < from }
     requires earlier { (j : ℕ) → 0 < j → j < from → Among names.old (new_text j) }
     ensures added { OnOk result ((text : List ℕ) × IsFirstNew names.old text × (names.new ≡ names.old ++ text ∷ [])) }
+    ensures variables { OnOk result (AllByRecursion IsVariable names.old → AllByRecursion IsVariable names.new) }
     ensures positive { IfOk result (λ next. 0 < next) }
     ensures earlier { IfOk result (λ next. (j : ℕ) → 0 < j → j < next → Among names.new (new_text j)) }
     ensures unchanged { OnErr result (names.new ≡ names.old) }

@@ -1,6 +1,7 @@
 //! The prenex form of a formula of a store.
 
 ghost use Rattle.std.specs.Prelude.{◌≡◌, ◌≤◌, ◌<◌, ◌↔◌, ℕ, IfOk, OnOk, OnErr, IsErrOf, length};
+ghost use Rattle.std.specs.List.{AllByRecursion};
 ghost use Rattle.formula_meaning.specs.Every.{Every};
 ghost use Rattle.formula_meaning.specs.Sizes.{nodes};
 ghost use Rattle.formula_meaning.specs.Shape.{IsPrenex, fewest_blocks};
@@ -9,6 +10,7 @@ ghost use Rattle.atom_normal.specs.Atoms.{context_of};
 ghost use Rattle.atom_normal.specs.NormalForm.{IsNormal};
 ghost use Rattle.formula_tree.specs.Makers.{IsMade, Keeps};
 ghost use Rattle.formula_store.specs.Nodes.{IsId, tree};
+ghost use Rattle.qe_syntax.specs.Names.{IsVariable};
 ghost use Rattle.redlog_printer.specs.Within.{IsTreeWithin};
 ghost use Rattle.prenex_theory.specs.Blocks.{block_count};
 ghost use Rattle.prenex_theory.specs.Renaming.{new_count};
@@ -46,6 +48,7 @@ pub fn pnf(
     // It is the form that the definition computes, and these are its new names.
     ensures made { IfOk result (λ r. IsMade (IsId store.new) (tree store.new) r (prenex_of (context_of context) (length names.old) (negation_form (tree store.old id)))) }
     ensures names { OnOk result (AddsNewNames names.old (new_count (length names.old) (negation_form (tree store.old id))) names.new) }
+    ensures variables { OnOk result (AllByRecursion IsVariable names.old → AllByRecursion IsVariable names.new) }
     ensures named { IfOk result (λ r. IsTreeWithin (length names.new) (tree store.new r)) }
 
     // So it is a prenex form.

@@ -1,6 +1,6 @@
 //! What is chosen before a formula.
 
-ghost use Rattle.std.specs.Prelude.{◌≡◌, ◌<◌, ℕ, IfOk, vec_len, nat_eq};
+ghost use Rattle.std.specs.Prelude.{◌≡◌, ◌<◌, ℕ, false, IfOk, vec_len, nat_eq};
 ghost use Rattle.formula_meaning.specs.Shape.{is_in};
 ghost use Rattle.formula_meaning.specs.Tree.{IsFree, tree_names};
 ghost use Rattle.nnf_trees.specs.Nnfs.{nnf_of};
@@ -8,8 +8,7 @@ ghost use Rattle.prenex_forms.specs.Named.{now_of};
 ghost use Rattle.prenex_forms.specs.Chosen.{flag};
 
 use crate::chooser::Chooser;
-use crate::free::is_free;
-use linear_forms::VarId;
+use crate::free::mark_free;
 use nnf_trees::Nnf;
 use std::alloc::{AllocError, Global};
 
@@ -37,11 +36,22 @@ fn flags(alloc: Global, f: &Nnf, count: usize) -> Result<Vec<bool>, AllocError>
     ensures flags { IfOk result (λ v. (x : ℕ) → flag v.items x ≡ is_in nat_eq x (tree_names (nnf_of f.now))) }
     ensures count { IfOk result (λ v. vec_len v ≡ count) }
 {
-    let mut flags = Vec::new(alloc);
-    for number in 0..count {
-        flags.push(is_free(f, VarId { number }))?;
+    let mut hidden = no_marks(alloc, count)?;
+    let mut marks = no_marks(alloc, count)?;
+    mark_free(f, &mut hidden, &mut marks);
+    Ok(marks)
+}
+
+// So many names, none of them marked.
+fn no_marks(alloc: Global, count: usize) -> Result<Vec<bool>, AllocError>
+    ensures none { IfOk result (λ v. (x : ℕ) → flag v.items x ≡ false) }
+    ensures count { IfOk result (λ v. vec_len v ≡ count) }
+{
+    let mut marks = Vec::new(alloc);
+    for _ in 0..count {
+        marks.push(false)?;
     }
-    Ok(flags)
+    Ok(marks)
 }
 
 // The numbers below this one.

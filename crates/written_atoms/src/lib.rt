@@ -7,3 +7,4 @@ mod sum;
 mod term;
 
 pub use read::{AtomCauses, ReadAtom, read_comparison, read_congruence};
+pub use sum::WholeSum;

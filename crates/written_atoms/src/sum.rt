@@ -8,9 +8,9 @@ use linear_forms::{Linear, VarId};
 use std::alloc::{AllocError, Global};
 use std::collections::BTreeMap;
 
-/// A sum whose denominator is 1, with its coefficients by name. A form is added in the time that its own names take.
+/// A sum of forms over the integers, with its coefficients by name. A form is added in the time that its own names take.
 #[derive(Drop)]
-pub(crate) struct WholeSum {
+pub struct WholeSum {
     coefficients: BTreeMap<usize, i128>,
     constant: i128,
     ghost coefficients_within: { (x : ℕ) → InLimit (coefficient_at coefficients.entries x) },
@@ -23,13 +23,14 @@ impl WholeSum {
     ghost use Rattle.linear_forms.specs.Terms.{IsLinear};
     ghost use Rattle.written_atoms.specs.Sum.{IsSumOf, IsAdded, AddingPasses};
 
-    // The sum of nothing.
-    fn new(alloc: Global) -> WholeSum
-        ensures { IsSumOf result (record { terms = []; constant = pos 0 }) }
+    /// The constant alone.
+    pub fn of(alloc: Global, constant: i128) -> WholeSum
+        requires { InLimit constant }
+        ensures { IsSumOf result (record { terms = []; constant = constant }) }
     {
         WholeSum {
             coefficients: BTreeMap::new(alloc),
-            constant: 0,
+            constant,
         }
     }
 
@@ -43,8 +44,8 @@ impl WholeSum {
         }
     }
 
-    // Gives a name another coefficient.
-    fn put(&mut self, name: VarId, coefficient: i128) -> Result<(), AllocError>
+    /// Gives a name another coefficient. Its only error is want of memory, after which the coefficients are as before.
+    pub fn put(&mut self, name: VarId, coefficient: i128) -> Result<(), AllocError>
         requires { InLimit coefficient }
         ensures put { OnOk result ((x : ℕ) → coefficient_at self.new.coefficients.entries x ≡ (if nat_eq name.number x then coefficient else coefficient_at self.old.coefficients.entries x)) }
         ensures constant { self.new.constant ≡ self.old.constant }
@@ -77,8 +78,8 @@ impl WholeSum {
         Err(AllocError)
     }
 
-    // The sum as a form.
-    fn into_form(self, alloc: Global) -> Result<Linear, AllocError>
+    /// The sum as a form. Its only error is want of memory.
+    pub fn into_form(self, alloc: Global) -> Result<Linear, AllocError>
         ensures { IfOk result (λ f. IsSumOf self f × IsLinear f) }
     {
         let mut terms = Vec::new(alloc);
@@ -110,7 +111,7 @@ impl RunningSum {
     pub(crate) fn new(alloc: Global) -> RunningSum
         ensures { ShowsSum result (Ok (constant_form (whole_frac (pos 0)))) }
     {
-        RunningSum::Whole(WholeSum::new(alloc))
+        RunningSum::Whole(WholeSum::of(alloc, 0))
     }
 
     /// The sum with one part more, as the fraction rule has it.

@@ -1,4 +1,4 @@
-use Rattle.std.proofs.Common.{◌≡◌, ◌≤◌, Some, ℤ, sym, ap, ◌∙◌, subst, arith, nat_eq, length, ℕ, if◌then◌else◌}
+use Rattle.std.proofs.Common.{◌≡◌, ◌≤◌, Some, ℤ, refl, sym, ap, ◌∙◌, subst, arith, nat_eq, length, ℕ, if◌then◌else◌}
 use Rattle.std.specs.Prelude.{slice_get}
 use Rattle.std.specs.Int.{w128}
 use Rattle.std.proofs.lemmas.Int.{to_z-of_z}
@@ -11,10 +11,15 @@ use Rattle.written_atoms.specs.Entries.{coefficient_at}
 use Rattle.written_atoms.proofs.EntryTerms.{within_at}
 use Rattle.prenex_theory.specs.Renaming.{form_named}
 use Rattle.prenex_theory.proofs.NamedAtoms.{named_multiple}
-use Rattle.prenex_forms.specs.Named.{now_of, IsFormOf}
+use Rattle.written_atoms.specs.Sum.{IsSumOf}
+use Rattle.prenex_forms.specs.Named.{now_of}
 use Rattle.prenex_forms.proofs.Lists.{if_ok_then}
 use Rattle.prenex_forms.proofs.Changed.{put_more, at_among, whole_named}
 use Rattle.prenex_forms.proofs.atoms.changed_form.Goals as goal
+
+pub loop-place-init : goal.loop-place-init
+unfolding coefficient
+loop-place-init c = record { coefficients = λ x. sym (c.of-sum.ensures.coefficients x); constant = refl }
 
 pub put-requires : goal.put-requires
 put-requires c =
@@ -49,8 +54,8 @@ returns c =
     let f = c.args.form.now in
     let now = now_of c.args.now.now in
     let fc = fits c.constant_part.result (subst (λ (z : ℤ). InLimit z) (sym c.constant_part.ensures.value) c.constant_part.ensures.linear.constant_within) in
-    let start = simp to_z-of_z at c.of-sum.ensures.constant in
+    let start = sym (simp to_z-of_z at c.of-sum.ensures.constant) in
     let all : length f.terms ≤ c.loop-place.place = omega arith in
-    if_ok_then c.into_form.result (λ g. IsFormOf c.loop-place.sum g × IsLinear g) _ c.into_form.ensures (λ g h.
+    if_ok_then c.into_form.result (λ g. IsSumOf c.loop-place.sum g × IsLinear g) _ c.into_form.ensures (λ g h.
     gathered_same g (form_named now f) (λ x. h.0.coefficients x ∙ c.loop-place.invariant.coefficients x ∙ ap (multiple x) (whole_named now c.loop-place.place f.terms all))
     (h.0.constant ∙ c.loop-place.invariant.constant ∙ start ∙ c.constant_part.ensures.value))

@@ -12,6 +12,7 @@ loop-preserved c =
     let next : suc c.loop.counter ≡ c.loop.counter + 1 = omega arith in
     record {
       added = subst (λ n. AddsNewNames old n new) next (adds_last c.loop.counter old now new text.0 c.loop.invariant.added text.1 text.2);
+      variables = λ v. c.in_ok-index.ensures.variables (c.loop.invariant.variables v);
       starts = starts_more old now new text.0 c.loop.invariant.starts text.2;
       positive = c.in_ok-index.ensures.positive;
       earlier = c.in_ok-index.ensures.earlier;

@@ -1,6 +1,9 @@
-use Rattle.std.proofs.Common.{rules, ◌≡◌, ◌++◌, ◌∷◌, [], ℕ, List, ap, ◌∙◌, subst, arith, true, false}
+use Rattle.std.proofs.Common.{rules, ◌≡◌, ◌<◌, ◌^◌, ◌++◌, ◌∷◌, [], ℕ, List, ap, sym, ◌∙◌, subst, arith, true, false}
 use Rattle.std.specs.Prelude.{is_none}
+use Rattle.std.specs.List.{AllByRecursion}
 use Rattle.formula_meaning.specs.Some.{Among}
+use Rattle.qe_syntax.specs.Names.{IsVariable}
+use Rattle.prenex_forms.proofs.NewVariables.{new_text_variable, one_more}
 use Rattle.formula_tree.specs.Names.{with_name}
 use Rattle.prenex_theory.specs.NewNames.{new_text, IsFirstNew}
 use Rattle.prenex_forms.proofs.FoundNames.{found_there, not_found, goes_last, among_front, among_last, earlier_more}
@@ -21,6 +24,17 @@ returns-then-is_none-clause-added c =
       first = i.earlier;
     } in
     (name, subst (λ (ns : List (List ℕ)). IsFirstNew ns name) i.same first, put ∙ goes_last c.find.result names name c.find.ensures none ∙ ap (λ (ns : List (List ℕ)). ns ++ name ∷ []) i.same)
+
+pub returns-then-is_none-clause-variables : goal.returns-then-is_none-clause-variables
+returns-then-is_none-clause-variables c =
+    let names = c.loop-index.names in
+    let name = c.in_ok-name.name in
+    let none : is_none c.find.result ≡ true = search rules in
+    let put : c.number.new.self ≡ with_name names name = search rules in
+    let index : c.loop-index.index < 2 ^ 64 = omega arith in
+    let variable : IsVariable name = subst IsVariable (sym c.in_ok-name.ensures) (new_text_variable c.loop-index.index index) in
+    λ v. subst (AllByRecursion IsVariable) (sym (put ∙ goes_last c.find.result names name c.find.ensures none))
+    (one_more names name (subst (AllByRecursion IsVariable) (sym c.loop-index.invariant.same) v) variable)
 
 pub returns-then-is_none-clause-earlier : goal.returns-then-is_none-clause-earlier
 returns-then-is_none-clause-earlier c =
