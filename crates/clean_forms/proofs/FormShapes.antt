@@ -90,24 +90,3 @@ module _ {A : Type 0} (Mentions : A → ℕ → Type 0) (C : ℕ → Type 0) whe
     all_in_names : (fs : Formulas A ℕ) → AreQuantifierFree fs → ((x : ℕ) → FreeInSome Mentions fs x → C x) → EveryOf HasNames fs
     all_in_names none q i = tt
     all_in_names (also f fs) q i = (in_names f q.0 (λ x t. i x (inl t)), all_in_names fs q.1 (λ x t. i x (inr t)))
-
--- ---- two facts of each atom are one
-
-module _ {A : Type 0} (P Q R : A → Type 0) (both : (a : A) → P a → Q a → R a) where
-  mutual
-    pub orderly_both : (f : Formula A ℕ) → IsOrderly P f → Every Q f → IsOrderly R f
-    orderly_both Yes h k = tt
-    orderly_both No h k = tt
-    orderly_both (One a) h k = both a h k
-    orderly_both (Not f) h k = absurd h
-    orderly_both (And fs) h k = (h.0, all_both fs h.1 k)
-    orderly_both (Or fs) h k = (h.0, all_both fs h.1 k)
-    orderly_both (Impl f g) h k = absurd h
-    orderly_both (Repl f g) h k = absurd h
-    orderly_both (Equiv f g) h k = absurd h
-    orderly_both (Ex x f) h k = orderly_both f h k
-    orderly_both (All x f) h k = orderly_both f h k
-
-    all_both : (fs : Formulas A ℕ) → AreOrderly P fs → EveryOf Q fs → AreOrderly R fs
-    all_both none h k = tt
-    all_both (also f fs) h k = (orderly_both f h.0 k.0, all_both fs h.1 k.1)

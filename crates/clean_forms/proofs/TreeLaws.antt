@@ -32,9 +32,10 @@ use Rattle.clean_forms.proofs.Shown.{Opens, Closes, told}
 use Rattle.clean_forms.proofs.Pieces.{lines_shown, lines_sound}
 use Rattle.clean_forms.proofs.LinesTrue.{MergesTruly}
 use Rattle.clean_forms.proofs.FormsTrue.{clean_form_true}
-use Rattle.clean_forms.proofs.FormShapes.{form_orderly, form_free, HasNames, names_in, in_names, orderly_both}
+use Rattle.clean_forms.proofs.FormShapes.{form_orderly, form_free, HasNames, names_in, in_names}
 use Rattle.clean_forms.proofs.FormSizes.{open_smaller}
-use Rattle.clean_forms.proofs.Widths.{IsWritten, written_lightly, constant_width}
+use Rattle.simplified_texts.proofs.Longer.{orderly_both, IsWritten, constant_width}
+use Rattle.clean_forms.proofs.Widths.{written_lightly}
 
 module _ (c : Context) (j : Junction) where
   pub normal_lightly : MergesLightly (atom_kit c) j (IsNormalWithin c) (λ a. 1)

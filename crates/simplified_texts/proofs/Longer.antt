@@ -30,7 +30,7 @@ use Rattle.simplified_texts.proofs.Widths.{comes_like, atom_long}
 
 module _ {A : Type 0} (P Q R : A → Type 0) (both : (a : A) → P a → Q a → R a) where
   mutual
-    orderly_both : (f : Formula A ℕ) → IsOrderly P f → Every Q f → IsOrderly R f
+    pub orderly_both : (f : Formula A ℕ) → IsOrderly P f → Every Q f → IsOrderly R f
     orderly_both Yes h k = tt
     orderly_both No h k = tt
     orderly_both (One a) h k = both a h k
@@ -55,9 +55,9 @@ name_long (n ∷ ns) (suc x) h l = name_long ns x h.1 (omega arith)
 
 module _ (names : List (List ℕ)) (long : EachOf (λ name. 0 < length name) names) (c : Context) where
   -- normal within the limit, with names of the list
-  record IsWritten (a : Atom) : Type 0 where
-    normal : IsNormalWithin c a
-    named : IsAtomWithin (length names) a
+  pub record IsWritten (a : Atom) : Type 0 where
+    pub normal : IsNormalWithin c a
+    pub named : IsAtomWithin (length names) a
 
   terms_long : (ts : List Term) → AreTermsWithin (length names) ts → AllByRecursion (λ (t : Term). 0 < length (name_at names t.name)) ts
   terms_long [] h = tt
@@ -66,11 +66,11 @@ module _ (names : List (List ℕ)) (long : EachOf (λ name. 0 < length name) nam
   least_width : (a : Atom) → IsWritten a → 5 ≤ length (atom_text names a)
   least_width a h = atom_long names a h.normal.within (terms_long (form_of a).terms h.named)
 
-  record Comes (a b d : Atom) : Type 0 where
-    named : IsAtomWithin (length names) d
-    width : length (atom_text names d) ≤ length (atom_text names a) + length (atom_text names b)
+  pub record Comes (a b d : Atom) : Type 0 where
+    pub named : IsAtomWithin (length names) d
+    pub width : length (atom_text names d) ≤ length (atom_text names a) + length (atom_text names b)
 
-  comes : (j : Junction) (a b d : Atom) → IsWritten a → IsWritten b → merged c j a b ≡ Into d → Comes a b d
+  pub comes : (j : Junction) (a b d : Atom) → IsWritten a → IsWritten b → merged c j a b ≡ Into d → Comes a b d
   comes j a b d x y e =
       let u = least_width a x in
       let v = least_width b y in
@@ -85,7 +85,7 @@ module _ (names : List (List ℕ)) (long : EachOf (λ name. 0 < length name) nam
     names = λ j a b d x y e. (merges_within c).names j a b d x.normal y.normal e;
   }
 
-  constant_width : (b : Bool) (a : Atom) → IsWritten a → size (text_measure names) (constant b) ≤ length (atom_text names a)
+  pub constant_width : (b : Bool) (a : Atom) → IsWritten a → size (text_measure names) (constant b) ≤ length (atom_text names a)
   constant_width true a h = let k = least_width a h in omega arith
   constant_width false a h = let k = least_width a h in omega arith
 
