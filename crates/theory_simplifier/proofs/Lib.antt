@@ -11,3 +11,5 @@ pub mod Passing
 pub mod Repeating
 pub mod Assuming
 pub mod SameParts
+pub mod Placing
+pub mod Indexed

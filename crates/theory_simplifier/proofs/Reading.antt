@@ -1,27 +1,23 @@
--- A list of entries, read one after another.
-use Rattle.std.proofs.Common.{◌≡◌, ℕ, suc, ◌+◌, ◌<◌, ◌≤◌, Bool, true, false, refl, sym, ap, ◌∙◌, Option, Some, None, List, [], ◌∷◌, ◌++◌, length, take, drop, map, get_or, subst}
+-- What the atoms of a list say of an atom, and with which of them it merges, by those of its variable part.
+use Rattle.std.proofs.Common.{◌≡◌, ℕ, zero, suc, ◌<◌, Bool, true, false, nat_eq, refl, sym, ap, ◌∙◌, Option, Some, None, List, [], ◌∷◌, length, take, map, get_or, arith, eqb-true, ⊎_elim}
+use Rattle.std.specs.Prelude.{if◌then◌else◌, pos, ◌-ℤ◌}
 use Rattle.std.specs.Option.{is_some}
-use Rattle.std.specs.List.{AllByRecursion}
-use Rattle.std.proofs.lemmas.List.{take_more, take_all}
+use Rattle.exact_numbers.specs.Divides.{residue_of}
 use Rattle.formula_meaning.specs.Context.{Context}
 use Rattle.formula_meaning.specs.Some.{EachOf}
-use Rattle.formula_meaning.specs.Atom as meant
-use Rattle.formula_meaning.specs.Fold.{Junction}
-use Rattle.atom_merging.specs.declared.answers.Merged.{Merged}
-use Rattle.atom_merging.specs.declared.answers.Merged.TheVariants.{Keep}
-use Rattle.atom_merging.specs.Computed.{IsNormalWithin, Kept, merged, merging_of, decided_by}
+use Rattle.formula_meaning.specs.Form.{Form}
+use Rattle.formula_meaning.specs.Atom.{Atom, Compare, Congruent}
+use Rattle.formula_meaning.specs.Fold.{Junction, Conjunction, Disjunction}
+use Rattle.linear_forms.specs.Equality.{form_eq, form_decides}
+use Rattle.atom_normal.specs.NormalForm.{IsNormal, negated_normal, congruence}
+use Rattle.atom_merging.specs.Computed.{IsNormalWithin, Kept, Into, merged, decided_by}
+use Rattle.atom_merging.proofs.Computed.{ComesOf, compared, congruent, merged_comes}
+use Rattle.simplified_formulas.specs.Atoms.{tells}
 use Rattle.simplified_formulas.specs.AtomKit.{atom_kit}
-use Rattle.simplified_formulas.specs.Pass.{decided}
-use Rattle.theory_simplifier.specs.declared.joined.Entry.{Entry}
-use Rattle.theory_simplifier.specs.Listed.{Listed, told_by, entry_atom, IsEntry}
-use Rattle.theory_simplifier.specs.Partners.{AreApart, IsMergedAt, IsNormalMerged}
-use Rattle.theory_simplifier.proofs.Deciding.{silent_last, first_speaks}
-use Rattle.theory_simplifier.proofs.Partners.{each_last}
-use Rattle.theory_simplifier.proofs.Entries.{map_append, map_at, map_take, length_map, split_at, all_place, told_atom, told_atoms, told_normal, entry_normal}
-
--- what is seen of the entries
-abbrev pub seen : Junction → List Entry → Listed
-seen j es = record { junction = j; atoms = map entry_atom es }
+use Rattle.simplified_formulas.specs.Pass.{first_answer, decided}
+use Rattle.theory_simplifier.specs.VariableParts.{part_of}
+use Rattle.theory_simplifier.proofs.Entries.{tells_normal}
+use Rattle.theory_simplifier.proofs.SameParts.{kept_apart, undecided_apart}
 
 pub some_is : (o : Option Bool) → is_some o ≡ true → (b : Bool) × (o ≡ Some b)
 some_is (Some b) e = (b, refl)
@@ -31,66 +27,63 @@ pub no_truth : (o : Option Bool) → is_some o ≡ false → o ≡ None
 no_truth None e = refl
 no_truth (Some b) e = absurd (cc (e))
 
-module _ (c : Context) (j : Junction) (es items : List Entry) (value : items ≡ es) (l : Listed) (v : seen j es ≡ l) where
-  seen_atoms : l.atoms ≡ map entry_atom items
-  seen_atoms = ap (λ (k : Listed). k.atoms) (sym v) ∙ ap (map entry_atom) (sym value)
+-- ---- variable parts
 
-  here : AllByRecursion (IsEntry j) es → AllByRecursion (IsEntry j) items
-  here h = subst (AllByRecursion (IsEntry j)) (sym value) h
+congruence_part : (b : Bool) (m : ℕ) (f : Form) → part_of (congruence b m f) ≡ part_of (Congruent b m f)
+congruence_part true m f = refl
+congruence_part false m f = split (nat_eq m 2) (λ e. eqb-true m 2 e)
+  where
+    split : (t : Bool) → (t ≡ true → m ≡ 2) → part_of (if t then Congruent true 2 (record { terms = f.terms; constant = pos 1 -ℤ residue_of f.constant (pos 2) }) else Congruent false m f) ≡ part_of (Congruent false m f)
+    split true e = ap (λ (k : ℕ). record { terms = f.terms; constant = pos k }) (sym (e refl))
+    split false e = refl
 
-  pub seen_told : AllByRecursion (IsEntry j) es → told_by l ≡ map told_atom items
-  seen_told h = ap told_by (sym v) ∙ sym (told_atoms j es h) ∙ ap (map told_atom) (sym value)
+told_part : (j : Junction) (a : Atom) → part_of (tells negated_normal j a) ≡ part_of a
+told_part Conjunction a = refl
+told_part Disjunction (Compare r f) = refl
+told_part Disjunction (Congruent true m f) = congruence_part false m f
+told_part Disjunction (Congruent false m f) = congruence_part true m f
 
-  module _ (i : ℕ) (e : Entry) (within : i < length items) (is : e ≡ get_or items i e) where
-    pub item_entry : AllByRecursion (IsEntry j) es → IsEntry j e
-    item_entry h = subst (IsEntry j) (sym is) (all_place (IsEntry j) items i e within (here h))
+different : (f g : Form) → form_eq f g ≡ false → ¬ (f ≡ g)
+different f g e h = let w : false ≡ true = sym e ∙ (form_decides f g).1 h in absurd (cc (w))
 
-    pub item_normal : EachOf (IsNormalWithin c) l.atoms → IsNormalWithin c (entry_atom e)
-    item_normal n = subst (λ x. IsNormalWithin c (entry_atom x)) (sym is) (entry_normal c items i e within (subst (EachOf (IsNormalWithin c)) seen_atoms n))
+-- a merged atom has the variable part of the two
+comes_part : (a d : Atom) → ComesOf a d → part_of d ≡ part_of a
+comes_part _ _ (compared r q f k e) = refl
+comes_part _ _ (congruent b q m f k e) = refl
 
-    pub item_told_normal : AllByRecursion (IsEntry j) es → EachOf (IsNormalWithin c) l.atoms → IsNormalWithin c (told_atom e)
-    item_told_normal h n = told_normal c j e (item_entry h) (item_normal n)
+module _ (c : Context) (j : Junction) (a : Atom) where
+  -- what the atom tells does not decide a
+  abbrev pub IsSilent : Atom → Type 0
+  IsSilent b = decided_by c (tells negated_normal j b) a ≡ None
 
-    split_here : items ≡ take i items ++ e ∷ drop (suc i) items
-    split_here = split_at items i e within ∙ ap (λ x. take i items ++ x ∷ drop (suc i) items) (sym is)
+  abbrev pub IsApart : Atom → Type 0
+  IsApart b = merged c j b a ≡ Kept
 
-    more_here : take (i + 1) items ≡ take i items ++ e ∷ []
-    more_here = take_more items i e within ∙ ap (λ x. take i items ++ x ∷ []) (sym is)
+  -- an atom of another variable part is silent and apart
+  pub others_silent : IsNormal c a → (us : List Atom) → EachOf (IsNormalWithin c) us → EachOf (λ b. form_eq (part_of b) (part_of a) ≡ false → IsSilent b) us
+  others_silent n [] h = tt
+  others_silent n (b ∷ us) h =
+      ((λ e. sym (undecided_apart c (tells negated_normal j b) a (tells_normal c j b h.0).normal n (λ s. different (part_of b) (part_of a) e (sym (told_part j b) ∙ s)))), others_silent n us h.1)
 
-    module _ (a : meant.Atom) where
-      -- the atoms before say nothing, and this one speaks
-      pub spoken : AllByRecursion (IsEntry j) es → decided (atom_kit c) (map told_atom (take i items)) a ≡ None → (o : Option Bool) → o ≡ decided_by c (told_atom e) a → is_some o ≡ true → o ≡ decided (atom_kit c) (told_by l) a
-      spoken h s o k t =
-          let b = some_is o t in
-          sym (ap (λ ks. decided (atom_kit c) ks a) (seen_told h ∙ ap (map told_atom) split_here ∙ map_append told_atom (take i items) (e ∷ drop (suc i) items))
-          ∙ first_speaks (atom_kit c) (map told_atom (take i items)) (map told_atom (drop (suc i) items)) (told_atom e) a o b.0 s (sym k) b.1)
+  pub others_apart : IsNormal c a → (us : List Atom) → EachOf (IsNormalWithin c) us → EachOf (λ b. form_eq (part_of b) (part_of a) ≡ false → IsApart b) us
+  others_apart n [] h = tt
+  others_apart n (b ∷ us) h = ((λ e. sym (kept_apart c b a h.0.normal n (different (part_of b) (part_of a) e) j)), others_apart n us h.1)
 
-      -- nor does this one
-      pub silent : decided (atom_kit c) (map told_atom (take i items)) a ≡ None → decided_by c (told_atom e) a ≡ None → decided (atom_kit c) (map told_atom (take (i + 1) items)) a ≡ None
-      silent s k =
-          ap (λ xs. decided (atom_kit c) xs a) (ap (map told_atom) more_here ∙ map_append told_atom (take i items) (e ∷ []))
-          ∙ silent_last (atom_kit c) (map told_atom (take i items)) (told_atom e) a s k
+  -- what an atom of the list and a become has the part of that atom
+  pub merged_part : (b d : Atom) → IsNormal c b → IsNormal c a → merged c j b a ≡ Into d → part_of d ≡ part_of b
+  merged_part b d m n e = ⊎_elim (λ k. comes_part b d k) (λ k. comes_part a d k ∙ split (form_eq (part_of b) (part_of a)) refl) (merged_comes c j b a d m n e)
+    where
+      split : (t : Bool) → form_eq (part_of b) (part_of a) ≡ t → part_of a ≡ part_of b
+      split true q = sym ((form_decides (part_of b) (part_of a)).0 q)
+      split false q = let k : Kept ≡ Into d = kept_apart c b a m n (different (part_of b) (part_of a) q) j ∙ e in absurd (cc (k))
 
-      -- nor merges
-      pub apart_more : AreApart c j a (map entry_atom (take i items)) → merged c j (entry_atom e) a ≡ Kept → AreApart c j a (map entry_atom (take (i + 1) items))
-      apart_more s k =
-          subst (AreApart c j a) (sym (ap (map entry_atom) more_here ∙ map_append entry_atom (take i items) (e ∷ [])))
-          (each_last (λ b. merged c j b a ≡ Kept) (map entry_atom (take i items)) (entry_atom e) s k)
+  -- where all are silent nothing is said
+  pub all_silent : (us : List Atom) → EachOf IsSilent us → decided (atom_kit c) (map (tells negated_normal j) us) a ≡ None
+  all_silent [] h = refl
+  all_silent (b ∷ us) h = ap (λ o. first_answer o (decided (atom_kit c) (map (tells negated_normal j) us) a)) h.0 ∙ all_silent us h.1
 
-      -- the first that merges
-      pub merges_here : AreApart c j a (map entry_atom (take i items)) → (m : Merged) → merging_of m ≡ merged c j (entry_atom e) a → ¬ (m ≡ Keep) → IsNormalMerged c m → IsMergedAt c j a l.atoms i m
-      merges_here s m k n q = record {
-        within = subst (λ us. i < length us) (sym seen_atoms) (subst (λ n. i < n) (sym (length_map entry_atom items)) within);
-        apart = subst (λ us. AreApart c j a (take i us)) (sym seen_atoms) (subst (AreApart c j a) (sym (map_take entry_atom items i)) s);
-        become = k ∙ ap (λ b. merged c j b a) (sym (ap (λ us. get_or us i a) seen_atoms ∙ map_at entry_atom items i e a within ∙ ap entry_atom (sym is)));
-        merges = n;
-        normal = q;
-      }
-
-  module _ (a : meant.Atom) (i : ℕ) (end : length items ≤ i) where
-    -- none of all
-    pub silent_all : AllByRecursion (IsEntry j) es → decided (atom_kit c) (map told_atom (take i items)) a ≡ None → None ≡ decided (atom_kit c) (told_by l) a
-    silent_all h s = sym (ap (λ ks. decided (atom_kit c) ks a) (seen_told h ∙ ap (map told_atom) (sym (take_all i items end))) ∙ s)
-
-    pub apart_all : AreApart c j a (map entry_atom (take i items)) → AreApart c j a l.atoms
-    apart_all s = subst (AreApart c j a) (ap (map entry_atom) (take_all i items end) ∙ sym seen_atoms) s
+  -- the first that speaks
+  pub speaks_at : (us : List Atom) (i : ℕ) (d : Atom) (o : Option Bool) (b : Bool) → i < length us → EachOf IsSilent (take i us) → decided_by c (tells negated_normal j (get_or us i d)) a ≡ o → o ≡ Some b → decided (atom_kit c) (map (tells negated_normal j) us) a ≡ o
+  speaks_at [] i d o b l h e s = absurd (omega arith)
+  speaks_at (x ∷ us) zero d o b l h e s = ap (λ z. first_answer z (decided (atom_kit c) (map (tells negated_normal j) us) a)) (e ∙ s) ∙ sym s
+  speaks_at (x ∷ us) (suc i) d o b l h e s = ap (λ z. first_answer z (decided (atom_kit c) (map (tells negated_normal j) us) a)) h.0 ∙ speaks_at us i d o b (omega arith) h.1 e s

@@ -28,14 +28,14 @@ terms_part ts n = undivided ts n (int_eq (content_of (coefficients ts)) (pos 0))
 pub divided_terms : (ts : List Term) (d : ℤ) → d ≡ content_of (coefficients ts) → ¬ (d ≡ pos 0) → quotients d ts ≡ part_terms ts
 divided_terms ts d e n = ap (λ k. quotients k ts) e ∙ sym (terms_part ts (λ q. n (e ∙ q)))
 
-part_along : (c : Context) (a b : Atom) → IsNormal c a → IsNormal c b → is_same_part a b ≡ true → part_of a ≡ part_of b
+pub part_along : (c : Context) (a b : Atom) → IsNormal c a → IsNormal c b → is_same_part a b ≡ true → part_of a ≡ part_of b
 part_along c (Compare r f) (Compare s g) n m e =
     let same : part_terms f.terms ≡ part_terms g.terms = terms_part f.terms (content_nonzero c r f n) ∙ terms_same (variable_part f.terms) (variable_part g.terms) e ∙ sym (terms_part g.terms (content_nonzero c s g m)) in
-    λ i. record { modulus = pos 0; form = record { terms = same i; constant = pos 0 } }
+    λ i. record { terms = same i; constant = pos 0 }
 part_along c (Congruent b m f) (Congruent d n g) x y e =
     let modulus : m ≡ n = eqb-true m n (and_left (nat_eq m n) _ e) in
     let same : f.terms ≡ g.terms = terms_same f.terms g.terms (and_right (nat_eq m n) _ e) in
-    λ i. record { modulus = pos (modulus i); form = record { terms = same i; constant = pos 0 } }
+    λ i. record { terms = same i; constant = pos (modulus i) }
 part_along c (Compare r f) (Congruent d n g) x y e = absurd (cc (e))
 part_along c (Congruent b m f) (Compare s g) x y e = absurd (cc (e))
 

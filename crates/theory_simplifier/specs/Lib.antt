@@ -4,3 +4,4 @@ pub mod Known
 pub mod Parts
 pub mod Constants
 pub mod VariableParts
+pub mod Places

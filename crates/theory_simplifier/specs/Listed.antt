@@ -6,7 +6,6 @@ use Rattle.atom_normal.specs.Atoms.{atom_of, IsWellFormed}
 use Rattle.atom_normal.specs.NormalForm.{negated_normal}
 use Rattle.simplified_formulas.specs.Atoms.{tells}
 use Rattle.theory_simplifier.specs.declared.joined.Entry.{Entry}
-use Rattle.theory_simplifier.specs.VariableParts.{part_of}
 
 -- atoms of a list that the junction joins
 pub record Listed : Type 0 where
@@ -20,9 +19,8 @@ told_by l = map (tells negated_normal l.junction) l.atoms
 abbrev pub entry_atom : Entry → meant.Atom
 entry_atom e = atom_of e.atom
 
--- an atom beside what it tells and their variable part
+-- an atom beside what it tells
 pub record IsEntry (junction : Junction) (e : Entry) : Type 0 where
   pub well_formed : IsWellFormed e.atom
   pub told_well_formed : IsWellFormed e.told
   pub tells_so : atom_of e.told ≡ tells negated_normal junction (atom_of e.atom)
-  pub part_is : e.part ≡ part_of (atom_of e.atom)

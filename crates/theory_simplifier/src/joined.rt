@@ -1,56 +1,58 @@
 //! The atoms of a list, which merge as they come.
 
-ghost use Rattle.std.specs.Prelude.{◌≡◌, ◌<◌, ◌++◌, ◌∷◌, [], Some, None, IfOk, IfErr, OnOk, length, map, set, if◌then◌else◌};
+ghost use Rattle.std.specs.Prelude.{◌≡◌, ◌<◌, ◌++◌, ◌∷◌, [], IfOk, IfErr, IfSome, OnOk, length, map, set, get_or, option_map};
 ghost use Rattle.std.specs.List.{AllByRecursion};
 ghost use Rattle.formula_meaning.specs.Some.{EachOf};
 ghost use Rattle.formula_meaning.specs.Fold.{Conjunction};
 ghost use Rattle.atom_normal.specs.Atoms.{context_of, atom_of, IsWellFormed};
 ghost use Rattle.atom_normal.specs.NormalForm.{IsNormal};
-ghost use Rattle.atom_merging.specs.Computed.{IsNormalWithin, decided_by, merged, merging_of};
-ghost use Rattle.simplified_formulas.specs.Atoms.{tells};
+ghost use Rattle.atom_merging.specs.Computed.{IsNormalWithin, merged, merging_of};
 ghost use Rattle.simplified_formulas.specs.AtomKit.{atom_kit};
 ghost use Rattle.simplified_formulas.specs.Pass.{decided, with_one};
 ghost use Rattle.nnf_trees.specs.Nnfs.{junction_of};
 ghost use Rattle.theory_simplifier.specs.VariableParts.{part_of};
-ghost use Rattle.theory_simplifier.specs.Listed.{told_by, entry_atom, IsEntry};
+ghost use Rattle.theory_simplifier.specs.Listed.{Listed, told_by, entry_atom, IsEntry};
 ghost use Rattle.theory_simplifier.specs.Partners.{IsPartner, IsNormalMerged};
 
 use crate::error::SimplError;
-use crate::part::Part;
+use crate::part::variable_part;
+use crate::places::{Places, places_at, with_place};
 use atom_merging::{Merged, decides, merge_and, merge_or};
 use atom_normal::{Atom, Context, negate};
+use linear_forms::Linear;
 use nnf_trees::Junction;
 use std::alloc::Global;
+use std::collections::HashMap;
 use std::marker::Model;
 
-/// An atom of a list, what it tells the members beside it (in an `and` that it is true, in an `or` that it is false), and the
-/// variable part of both.
+/// An atom of a list, and what it tells the members beside it: in an `and` that it is true, in an `or` that it is false.
 #[derive(Drop)]
 pub(crate) struct Entry {
     pub(crate) atom: Atom,
     pub(crate) told: Atom,
-    pub(crate) part: Part,
 }
 
-/// The atoms of a conjunction or a disjunction.
+/// The atoms of a conjunction or a disjunction. An atom is held only against those of its own variable part.
 #[derive(Drop)]
 pub(crate) struct Joined {
     junction: Junction,
     entries: Vec<Entry>,
+    places: Places,
 }
 
 impl Model for Joined {
     ghost use Rattle.std.specs.Prelude.{map};
     ghost use Rattle.std.specs.List.{AllByRecursion};
     ghost use Rattle.nnf_trees.specs.Nnfs.{junction_of};
-    ghost use Rattle.theory_simplifier.specs.VariableParts.{part_of};
     ghost use Rattle.theory_simplifier.specs.Listed.{Listed, entry_atom, IsEntry};
+    ghost use Rattle.theory_simplifier.specs.VariableParts.{part_of};
+    ghost use Rattle.theory_simplifier.specs.Places.{ArePlaces};
 
     ghost Value = { Listed };
 
     ghost view = { λ l. record { junction = junction_of l.junction; atoms = map entry_atom l.entries.items } };
 
-    ghost invariant = { λ l. AllByRecursion (IsEntry (junction_of l.junction)) l.entries.items };
+    ghost invariant = { λ l. AllByRecursion (IsEntry (junction_of l.junction)) l.entries.items × ArePlaces part_of l.places (map entry_atom l.entries.items) };
 }
 
 impl Joined {
@@ -61,6 +63,7 @@ impl Joined {
         Joined {
             junction,
             entries: Vec::new(alloc),
+            places: HashMap::new(alloc),
         }
     }
 
@@ -72,21 +75,23 @@ impl Joined {
     {
         let mut list = Joined::new(alloc, Junction::And);
         for atom in atoms {
-            list.push(alloc, atom)?;
+            let part = variable_part(alloc, atom)?;
+            list = list.with_last(alloc, atom, part)?;
         }
         Ok(list)
     }
 
-    /// The truth of the atom by what the atoms tell: that of the first that decides it. It takes no memory.
-    pub(crate) fn decided(&self, context: Context, atom: &Atom, part: &Part) -> Option<bool>
+    /// The truth of the atom, which has this variable part, by what the atoms tell: that of the first that decides it. It takes no
+    /// memory.
+    pub(crate) fn decided(&self, context: Context, atom: &Atom, part: &Linear) -> Option<bool>
         requires well_formed { IsWellFormed atom.now }
         requires part { part.now ≡ part_of (atom_of atom.now) }
         requires normal { IsNormalWithin (context_of context) (atom_of atom.now) }
         requires atoms { EachOf (IsNormalWithin (context_of context)) self.now.atoms }
         ensures { result ≡ decided (atom_kit (context_of context)) (told_by self.now) (atom_of atom.now) }
     {
-        for entry in &self.entries {
-            let truth = decided_by(context, entry, atom, part);
+        for place in places_at(&self.places, part) {
+            let truth = decides(context, &self.entries[*place].told, atom);
             if truth.is_some() {
                 return truth;
             }
@@ -94,32 +99,34 @@ impl Joined {
         None
     }
 
-    /// The list with the atom: it takes the place of the first with which it merges, else it comes last. False where the two
-    /// settle the list. Its only error is `Memory`.
-    pub(crate) fn add(
-        &mut self,
+    /// The list with the atom, which has this variable part: it takes the place of the first with which it merges, else it comes
+    /// last. `None` where the two settle the list. Its only error is `Memory`.
+    pub(crate) fn with(
+        self,
         alloc: Global,
         context: Context,
         atom: &Atom,
-    ) -> Result<bool, SimplError>
+        part: Linear,
+    ) -> Result<Option<Joined>, SimplError>
         requires well_formed { IsWellFormed atom.now }
+        requires part { part ≡ part_of (atom_of atom.now) }
         requires normal { IsNormalWithin (context_of context) (atom_of atom.now) }
-        requires atoms { EachOf (IsNormalWithin (context_of context)) self.old.atoms }
-        ensures added { IfOk result (λ stays. with_one (atom_kit (context_of context)) self.old.junction (atom_of atom.now) self.old.atoms ≡ (if stays then Some self.new.atoms else None)) }
-        ensures junction { OnOk result (self.new.junction ≡ self.old.junction) }
-        ensures normal { OnOk result (EachOf (IsNormalWithin (context_of context)) self.new.atoms) }
+        requires atoms { EachOf (IsNormalWithin (context_of context)) self.atoms }
+        ensures with { IfOk result (λ r. with_one (atom_kit (context_of context)) self.junction (atom_of atom.now) self.atoms ≡ option_map (λ (l : Listed). l.atoms) r) }
+        ensures junction { IfOk result (λ r. IfSome r (λ l. l.junction ≡ self.junction)) }
+        ensures normal { IfOk result (λ r. IfSome r (λ l. EachOf (IsNormalWithin (context_of context)) l.atoms)) }
         ensures memory { IfErr result (λ e. e ≡ SimplError.Memory) }
     {
-        let Some((place, merged)) = self.partner(alloc, context, atom)? else {
-            self.push(alloc, atom)?;
-            return Ok(true);
+        let Some((place, merged)) = self.partner(alloc, context, atom, &part)? else {
+            let list = self.with_last(alloc, atom, part)?;
+            return Ok(Some(list));
         };
         match merged {
             Merged::One(both) => {
-                self.replace(alloc, place, both)?;
-                Ok(true)
+                let list = self.with_at(alloc, place, both)?;
+                Ok(Some(list))
             }
-            _ => Ok(false),
+            _ => Ok(None),
         }
     }
 
@@ -137,45 +144,67 @@ impl Joined {
         alloc: Global,
         context: Context,
         atom: &Atom,
+        part: &Linear,
     ) -> Result<Option<(usize, Merged)>, SimplError>
         requires well_formed { IsWellFormed atom.now }
+        requires part { part.now ≡ part_of (atom_of atom.now) }
         requires normal { IsNormalWithin (context_of context) (atom_of atom.now) }
         requires atoms { EachOf (IsNormalWithin (context_of context)) self.now.atoms }
         ensures partner { IfOk result (IsPartner (context_of context) self.now.junction (atom_of atom.now) self.now.atoms) }
         ensures memory { IfErr result (λ e. e ≡ SimplError.Memory) }
     {
-        let part = Part::of(alloc, atom)?;
-        for (place, entry) in self.entries.iter().enumerate() {
-            let merged = merged_with(alloc, context, self.junction, entry, atom, &part)?;
+        for place in places_at(&self.places, part) {
+            let other = &self.entries[*place].atom;
+            let merged = merged(alloc, context, self.junction, other, atom)?;
             if !matches!(merged, Merged::Keep) {
-                return Ok(Some((place, merged)));
+                return Ok(Some((*place, merged)));
             }
         }
         Ok(None)
     }
 
-    // The atom put last. Its only error is `Memory`.
-    fn push(&mut self, alloc: Global, atom: &Atom) -> Result<(), SimplError>
-        requires { IsWellFormed atom.now }
-        ensures pushed { OnOk result (self.new ≡ record { junction = self.old.junction; atoms = self.old.atoms ++ atom_of atom.now ∷ [] }) }
+    // The list with the atom last, which has this variable part. Its only error is `Memory`.
+    fn with_last(self, alloc: Global, atom: &Atom, part: Linear) -> Result<Joined, SimplError>
+        requires well_formed { IsWellFormed atom.now }
+        requires part { part ≡ part_of (atom_of atom.now) }
+        ensures last { IfOk result (λ l. l ≡ record { junction = self.junction; atoms = self.atoms ++ atom_of atom.now ∷ [] }) }
         ensures memory { IfErr result (λ e. e ≡ SimplError.Memory) }
     {
+        let Joined {
+            junction,
+            mut entries,
+            places,
+        } = self;
         let atom = atom.copy(alloc).map_err(|_| SimplError::Memory)?;
-        let entry = told_entry(alloc, self.junction, atom)?;
-        self.entries.push(entry).map_err(|_| SimplError::Memory)?;
-        Ok(())
+        let entry = told_entry(alloc, junction, atom)?;
+        let places = with_place(alloc, places, part, entries.len())?;
+        entries.push(entry).map_err(|_| SimplError::Memory)?;
+        Ok(Joined {
+            junction,
+            entries,
+            places,
+        })
     }
 
-    // The atom put at the place of another. Its only error is `Memory`.
-    fn replace(&mut self, alloc: Global, place: usize, atom: Atom) -> Result<(), SimplError>
+    // The list with the atom at the place of another of its variable part. Its only error is `Memory`.
+    fn with_at(self, alloc: Global, place: usize, atom: Atom) -> Result<Joined, SimplError>
         requires well_formed { IsWellFormed atom }
-        requires place { place < length self.old.atoms }
-        ensures replaced { OnOk result (self.new ≡ record { junction = self.old.junction; atoms = set self.old.atoms place (atom_of atom) }) }
+        requires place { place < length self.atoms }
+        requires part { part_of (atom_of atom) ≡ part_of (get_or self.atoms place (atom_of atom)) }
+        ensures at { IfOk result (λ l. l ≡ record { junction = self.junction; atoms = set self.atoms place (atom_of atom) }) }
         ensures memory { IfErr result (λ e. e ≡ SimplError.Memory) }
     {
-        let entry = told_entry(alloc, self.junction, atom)?;
-        self.entries[place] = entry;
-        Ok(())
+        let Joined {
+            junction,
+            mut entries,
+            places,
+        } = self;
+        entries[place] = told_entry(alloc, junction, atom)?;
+        Ok(Joined {
+            junction,
+            entries,
+            places,
+        })
     }
 }
 
@@ -191,51 +220,7 @@ fn told_entry(alloc: Global, junction: Junction, atom: Atom) -> Result<Entry, Si
         Junction::Or => negate(alloc, &atom),
     };
     let told = told.map_err(|_| SimplError::Memory)?;
-    let part = Part::of(alloc, &atom)?;
-    Ok(Entry { atom, told, part })
-}
-
-// The truth of the atom by what the entry tells: none where their variable parts differ. It takes no memory.
-fn decided_by(context: Context, entry: &Entry, atom: &Atom, part: &Part) -> Option<bool>
-    requires told { IsWellFormed entry.now.told }
-    requires told_part { entry.now.part ≡ part_of (atom_of entry.now.told) }
-    requires told_normal { IsNormal (context_of context) (atom_of entry.now.told) }
-    requires well_formed { IsWellFormed atom.now }
-    requires normal { IsNormal (context_of context) (atom_of atom.now) }
-    requires part { part.now ≡ part_of (atom_of atom.now) }
-    ensures { result ≡ decided_by (context_of context) (atom_of entry.now.told) (atom_of atom.now) }
-{
-    if entry.part.is_same(part) {
-        decides(context, &entry.told, atom)
-    } else {
-        None
-    }
-}
-
-// What an entry's atom and another become: both stay where their variable parts differ. Its only error is `Memory`.
-fn merged_with(
-    alloc: Global,
-    context: Context,
-    junction: Junction,
-    entry: &Entry,
-    atom: &Atom,
-    part: &Part,
-) -> Result<Merged, SimplError>
-    requires entry { IsWellFormed entry.now.atom }
-    requires entry_part { entry.now.part ≡ part_of (atom_of entry.now.atom) }
-    requires entry_normal { IsNormalWithin (context_of context) (atom_of entry.now.atom) }
-    requires well_formed { IsWellFormed atom.now }
-    requires normal { IsNormalWithin (context_of context) (atom_of atom.now) }
-    requires part { part.now ≡ part_of (atom_of atom.now) }
-    ensures merged { IfOk result (λ m. merging_of m ≡ merged (context_of context) (junction_of junction) (atom_of entry.now.atom) (atom_of atom.now)) }
-    ensures normal { IfOk result (IsNormalMerged (context_of context)) }
-    ensures memory { IfErr result (λ e. e ≡ SimplError.Memory) }
-{
-    if entry.part.is_same(part) {
-        merged(alloc, context, junction, &entry.atom, atom)
-    } else {
-        Ok(Merged::Keep)
-    }
+    Ok(Entry { atom, told })
 }
 
 // What two atoms of a list become. Its only error is `Memory`.

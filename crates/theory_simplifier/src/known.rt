@@ -11,9 +11,8 @@ ghost use Rattle.theory_simplifier.specs.Known.{known_atoms, AreNormalFrames};
 use crate::error::SimplError;
 use crate::free::has_name;
 use crate::joined::Joined;
-use crate::part::Part;
 use atom_normal::{Atom, Context};
-use linear_forms::VarId;
+use linear_forms::{Linear, VarId};
 use std::alloc::Global;
 use std::marker::Model;
 
@@ -68,7 +67,7 @@ impl Known {
 
     /// The truth of the atom by the known ones: that of the first that decides it. An atom that has a name is decided by atoms
     /// that have it alone, so what is outside of a quantifier of a name of the atom is not looked at. It takes no memory.
-    pub(crate) fn decided(&self, context: Context, atom: &Atom, part: &Part) -> Option<bool>
+    pub(crate) fn decided(&self, context: Context, atom: &Atom, part: &Linear) -> Option<bool>
         requires well_formed { IsWellFormed atom.now }
         requires part { part.now ≡ part_of (atom_of atom.now) }
         requires normal { IsNormalWithin (context_of context) (atom_of atom.now) }

@@ -10,6 +10,7 @@ mod known;
 mod part;
 mod parts;
 mod pass;
+mod places;
 mod repeat;
 
 pub use constants::see_formula;

@@ -1,6 +1,7 @@
 //! The variable part of an atom: only atoms with one variable part merge or decide each other.
 
-ghost use Rattle.std.specs.Prelude.{◌≡◌, ◌↔◌, ◌∷◌, pos, IfOk, IfErr, IsTrue};
+ghost use Rattle.std.specs.Prelude.{◌≡◌, ◌∷◌, pos, IfOk, IfErr};
+ghost use Rattle.exact_numbers.specs.Limit.{InLimit};
 ghost use Rattle.exact_numbers.specs.Divides.{DividesAll, content_of};
 ghost use Rattle.linear_forms.specs.Terms.{coefficients};
 ghost use Rattle.atom_normal.specs.Atoms.{atom_of, IsWellFormed};
@@ -11,50 +12,27 @@ use atom_normal::Atom;
 use linear_forms::Linear;
 use std::alloc::Global;
 
-/// Of a comparison its terms divided by their content, of a congruence its modulus and its terms.
-#[derive(Drop)]
-pub(crate) struct Part {
-    modulus: i128,
-    form: Linear,
-}
-
-impl Part {
-    /// The variable part of the atom. Its only error is `Memory`.
-    pub(crate) fn of(alloc: Global, atom: &Atom) -> Result<Part, SimplError>
-        requires { IsWellFormed atom.now }
-        ensures part { IfOk result (λ p. p ≡ part_of (atom_of atom.now)) }
-        ensures memory { IfErr result (λ e. e ≡ SimplError.Memory) }
-    {
-        match atom {
-            Atom::Compare(_, form) => {
-                let form = divided(alloc, form)?;
-                Ok(Part { modulus: 0, form })
-            }
-            Atom::Congruent { modulus, form, .. } => {
-                let form = without_constant(alloc, form)?;
-                Ok(Part {
-                    modulus: *modulus,
-                    form,
-                })
-            }
-        }
-    }
-
-    /// Whether the two are one. It takes no memory.
-    pub(crate) fn is_same(&self, other: &Part) -> bool
-        ensures { IsTrue result ↔ (self.now ≡ other.now) }
-    {
-        self.modulus.cmp(&other.modulus).is_eq() && self.form == other.form
+/// The variable part of the atom: of a comparison its terms divided by their content, of a congruence its terms, with its modulus
+/// as the constant. Its only error is `Memory`.
+pub(crate) fn variable_part(alloc: Global, atom: &Atom) -> Result<Linear, SimplError>
+    requires { IsWellFormed atom.now }
+    ensures part { IfOk result (λ p. p ≡ part_of (atom_of atom.now)) }
+    ensures memory { IfErr result (λ e. e ≡ SimplError.Memory) }
+{
+    match atom {
+        Atom::Compare(_, form) => divided(alloc, form),
+        Atom::Congruent { modulus, form, .. } => with_constant(alloc, form, *modulus),
     }
 }
 
-// The form with the constant 0. Its only error is `Memory`.
-fn without_constant(alloc: Global, form: &Linear) -> Result<Linear, SimplError>
-    ensures terms { IfOk result (λ r. r ≡ record { terms = form.now.terms; constant = pos 0 }) }
+// The form with another constant. Its only error is `Memory`.
+fn with_constant(alloc: Global, form: &Linear, constant: i128) -> Result<Linear, SimplError>
+    requires { InLimit constant }
+    ensures terms { IfOk result (λ r. r ≡ record { terms = form.now.terms; constant = constant }) }
     ensures memory { IfErr result (λ e. e ≡ SimplError.Memory) }
 {
     let copy = form.copy(alloc).map_err(|_| SimplError::Memory)?;
-    Ok(copy.with_constant(0))
+    Ok(copy.with_constant(constant))
 }
 
 // The form with the constant 0, divided by its content, if that is not 0. Its only error is `Memory`.
@@ -62,10 +40,9 @@ fn divided(alloc: Global, form: &Linear) -> Result<Linear, SimplError>
     ensures terms { IfOk result (λ r. r ≡ record { terms = part_terms form.now.terms; constant = pos 0 }) }
     ensures memory { IfErr result (λ e. e ≡ SimplError.Memory) }
 {
-    let whole = without_constant(alloc, form)?;
+    let whole = with_constant(alloc, form, 0)?;
     divided_by(alloc, whole, form.content())
 }
-
 // The form divided by its content, if that is not 0. Its only error is `Memory`.
 fn divided_by(alloc: Global, form: Linear, content: i128) -> Result<Linear, SimplError>
     requires content { content ≡ content_of (coefficients form.terms) }

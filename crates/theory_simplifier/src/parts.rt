@@ -24,7 +24,7 @@ ghost use Rattle.theory_simplifier.specs.Parts.{same_id, parts_of, IsListOf, Has
 use crate::error::SimplError;
 use crate::joined::Joined;
 use crate::known::Known;
-use crate::part::Part;
+use crate::part::variable_part;
 use atom_normal::{Atom, Context};
 use formula_store::{FormulaId, Store};
 use formula_tree::Shape;
@@ -110,20 +110,19 @@ pub(crate) fn with_atom(
     ensures ids { IfOk result (λ r. (nodes : List (Shape FormulaId)) → HasIds nodes parts → HasIds nodes r) }
     ensures memory { IfErr result (λ e. e ≡ SimplError.Memory) }
 {
-    let Parts::Open(mut atoms, others) = parts else {
+    let Parts::Open(atoms, others) = parts else {
         return Ok(Parts::Closed);
     };
-    let part = Part::of(alloc, atom)?;
+    let part = variable_part(alloc, atom)?;
     if let Some(truth) = known.decided(context, atom, &part) {
         if settles(junction, truth) {
             return Ok(Parts::Closed);
         }
         return Ok(Parts::Open(atoms, others));
     }
-    if atoms.add(alloc, context, atom)? {
-        Ok(Parts::Open(atoms, others))
-    } else {
-        Ok(Parts::Closed)
+    match atoms.with(alloc, context, atom, part)? {
+        Some(atoms) => Ok(Parts::Open(atoms, others)),
+        None => Ok(Parts::Closed),
     }
 }
 

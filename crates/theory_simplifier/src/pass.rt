@@ -20,7 +20,7 @@ use crate::closing::{closed, constant, made, quantified_over};
 use crate::error::SimplError;
 use crate::free::is_free;
 use crate::known::{Frame, Known};
-use crate::part::Part;
+use crate::part::variable_part;
 use crate::parts::{Parts, with_atoms, with_member};
 use atom_normal::Context;
 use formula_store::{FormulaId, Store};
@@ -49,7 +49,7 @@ pub(crate) fn passed(
 {
     match store.shape(id) {
         Shape::One(atom) => {
-            let part = Part::of(alloc, atom)?;
+            let part = variable_part(alloc, atom)?;
             match known.decided(context, atom, &part) {
                 Some(truth) => constant(store, truth),
                 None => Ok(id),

@@ -1,9 +1,9 @@
-use Rattle.std.proofs.Common.{◌≡◌, None, map, take}
+use Rattle.std.proofs.Common.{take, get_or}
+use Rattle.formula_meaning.specs.Some.{EachOf}
 use Rattle.atom_normal.specs.Atoms.{context_of, atom_of}
-use Rattle.simplified_formulas.specs.AtomKit.{atom_kit}
-use Rattle.simplified_formulas.specs.Pass.{decided}
-use Rattle.theory_simplifier.proofs.Entries.{told_atom}
+use Rattle.theory_simplifier.proofs.Reading.{IsSilent}
 use Rattle.theory_simplifier.proofs.joined.Joined.decided.Given as goal
 
-abbrev pub invariant-loop-entry : goal.invariant-loop-entry
-invariant-loop-entry l = decided (atom_kit (context_of l.context)) (map told_atom (take l.entry-index l.entry-items)) (atom_of l.atom) ≡ None
+-- what the atoms at the places so far tell does not decide it
+abbrev pub invariant-loop-place : goal.invariant-loop-place
+invariant-loop-place l = EachOf (λ i. IsSilent (context_of l.context) l.self.junction (atom_of l.atom) (get_or l.self.atoms i (atom_of l.atom))) (take l.place-index l.place-items)

@@ -1,9 +1,9 @@
-use Rattle.std.proofs.Common.{map, take}
+use Rattle.std.proofs.Common.{take, get_or}
+use Rattle.formula_meaning.specs.Some.{EachOf}
 use Rattle.atom_normal.specs.Atoms.{context_of, atom_of}
-use Rattle.nnf_trees.specs.Nnfs.{junction_of}
-use Rattle.theory_simplifier.specs.Listed.{entry_atom}
-use Rattle.theory_simplifier.specs.Partners.{AreApart}
+use Rattle.theory_simplifier.proofs.Reading.{IsApart}
 use Rattle.theory_simplifier.proofs.joined.Joined.partner.Given as goal
 
+-- the atom does not merge with those at the places so far
 abbrev pub invariant-loop-place : goal.invariant-loop-place
-invariant-loop-place l = AreApart (context_of l.context) (junction_of l.self-inside.junction) (atom_of l.atom) (map entry_atom (take l.place l.entry-items))
+invariant-loop-place l = EachOf (λ i. IsApart (context_of l.context) l.self.junction (atom_of l.atom) (get_or l.self.atoms i (atom_of l.atom))) (take l.place-index l.place-items)
