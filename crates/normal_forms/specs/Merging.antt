@@ -1,6 +1,7 @@
 -- What becomes of an atom beside the atoms of an inner list, by their ids.
-use Rattle.std.specs.Prelude.{◌≡◌, ℕ, ◌<◌, List, length, remove}
+use Rattle.std.specs.Prelude.{◌≡◌, ℕ, ◌<◌, List, [], ◌∷◌, Option, None, Some, length, remove}
 use Rattle.formula_meaning.specs.Context.{Context}
+use Rattle.formula_meaning.specs.Form.{Term}
 use Rattle.formula_meaning.specs.Atom.{Atom}
 use Rattle.formula_meaning.specs.Fold.{Junction}
 use Rattle.atom_normal.specs.Atoms.{atom_of, IsWellFormed}
@@ -13,6 +14,11 @@ use Rattle.clean_forms.specs.Lines as clean
 use Rattle.normal_forms.specs.declared.merging.Met.{Met}
 use Rattle.normal_forms.specs.declared.merging.Met.TheVariants as met_is
 use Rattle.normal_forms.specs.Atoms.{atom_at, atoms}
+
+-- the name of the first term
+abbrev pub first_name : List Term → Option ℕ
+first_name [] = None
+first_name (t ∷ ts) = Some t.name
 
 -- the atom of the answer, if it is one, is well formed
 abbrev pub IsWellMerged : Merged → Type 0

@@ -1,6 +1,6 @@
 //! Lists of atoms by their ids, none of which contains all atoms of another.
 
-ghost use Rattle.std.specs.Prelude.{◌≡◌, OnOk, IfErr};
+ghost use Rattle.std.specs.Prelude.{◌≡◌, false, IsTrue, OnOk, IfErr};
 ghost use Rattle.normal_forms.specs.Atoms.{is_within, some_within, not_above, add};
 
 use formula_store::FormulaId;
@@ -9,10 +9,22 @@ use formula_tree::{FormError, Ids};
 /// Lists of atoms.
 pub(crate) type Lines = Vec<Ids<FormulaId>>;
 
-/// Whether each atom of the first list is in the second.
+/// Whether the last atom of the first list is missing in the second.
+fn lacks_last(atoms: &[FormulaId], others: &[FormulaId]) -> bool
+    ensures { IsTrue result → is_within atoms.now others.now ≡ false }
+{
+    let count = atoms.len();
+    count > 0 && !others.contains(&atoms[count - 1])
+}
+
+/// Whether each atom of the first list is in the second. The last one is looked for first: lists that begin alike mostly differ
+/// in it.
 fn is_within(atoms: &[FormulaId], others: &[FormulaId]) -> bool
     ensures { result ≡ is_within atoms.now others.now }
 {
+    if lacks_last(atoms, others) {
+        return false;
+    }
     for atom in atoms {
         if !others.contains(atom) {
             return false;

@@ -4,11 +4,12 @@ ghost use Rattle.std.specs.Prelude.{◌≡◌, IfOk, IfErr};
 ghost use Rattle.std.specs.List.{AllByRecursion};
 ghost use Rattle.atom_normal.specs.Atoms.{context_of, atom_of, IsWellFormed};
 ghost use Rattle.formula_meaning.specs.Formula.{One};
+ghost use Rattle.formula_meaning.specs.Atom.{form_of};
 ghost use Rattle.formula_store.specs.Nodes.{tree, IsId};
 ghost use Rattle.atom_merging.specs.Computed.{merged, merging_of};
 ghost use Rattle.normal_forms.specs.Forms.{inner};
 ghost use Rattle.normal_forms.specs.Atoms.{atom_at, IsAtomId};
-ghost use Rattle.normal_forms.specs.Merging.{IsWellMerged, MeetsAs};
+ghost use Rattle.normal_forms.specs.Merging.{IsWellMerged, MeetsAs, first_name};
 
 use crate::form::Form;
 use atom_merging::{Merged, merge_and, merge_or};
@@ -38,7 +39,22 @@ fn atom(store: &Store, id: FormulaId) -> &Atom
     }
 }
 
-// What two atoms become in an inner list. Its only error is `Memory`.
+// The first name of an atom.
+fn first_name(atom: &Atom) -> Option<usize>
+    ensures { result ≡ first_name (form_of (atom_of atom.now)).terms }
+{
+    let form = match atom {
+        Atom::Compare(_, form) => form,
+        Atom::Congruent { form, .. } => form,
+    };
+    match form.term(0) {
+        Some((name, _)) => Some(name.number),
+        None => None,
+    }
+}
+
+// What two atoms become in an inner list. Atoms that merge have the same names, so most are told apart by their first one. Its
+// only error is `Memory`.
 fn merged(
     alloc: Global,
     store: &Store,
@@ -55,6 +71,9 @@ fn merged(
 {
     let first = atom(store, first);
     let second = atom(store, second);
+    if first_name(first) != first_name(second) {
+        return Ok(Merged::Keep);
+    }
     let merged = match form {
         Form::Disjunctive => merge_and(alloc, context, first, second),
         Form::Conjunctive => merge_or(alloc, context, first, second),
