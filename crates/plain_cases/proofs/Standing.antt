@@ -10,7 +10,7 @@ use Rattle.formula_meaning.specs.Context.{Context}
 use Rattle.formula_meaning.specs.Atom.{AtomIn}
 use Rattle.formula_meaning.specs.Every.{EveryOf}
 use Rattle.formula_meaning.specs.Tree.{InContext}
-use Rattle.elimination_reference.specs.Cases.{case_of, cases_of}
+use Rattle.elimination_reference.specs.Cases.{Case, cases_of}
 use Rattle.elimination_reference.specs.Measured.{Outcome, stopped, done}
 use Rattle.elimination_reference.specs.Reference.{Branch, branch_trees}
 use Rattle.nnf_trees.specs.declared.nnf.Nnf.{Nnf}
@@ -25,7 +25,7 @@ use Rattle.plain_engine.proofs.Seen.{only_memory}
 use Rattle.plain_cases.specs.declared.branch.Leaf.{Leaf}
 use Rattle.plain_cases.specs.declared.cases.PlainCase.{PlainCase}
 use Rattle.plain_cases.specs.Stand.{StandsFor, StandFor, IsSound, AreSound, AreInside, TellsOf, Tells}
-use Rattle.plain_cases.specs.Case.{case_seen, HavePoints}
+use Rattle.plain_cases.specs.Case.{case_seen, leaf_case, HavePoints}
 
 -- ---- lists
 
@@ -99,40 +99,22 @@ case_pushed ks ms k e = ap (map case_seen) e ∙ go ks
     go [] = refl
     go (x ∷ xs) = ap (λ ys. case_seen x ∷ ys) (go xs)
 
--- the leaves before those left have become cases
-pub record AreCasesBefore (made : List PlainCase) (rest : List Leaf) (bs : List Branch) : Type 0 where
-  pub before : List Branch
-  pub left : List Branch
-  pub cases : map case_seen made ≡ cases_of before
-  pub left_stand : StandFor rest left
-  pub whole : before ++ left ≡ bs
+-- leaves are the cases of the branches for which they stand
+pub leaf_cases : (ls : List Leaf) (bs : List Branch) → StandFor ls bs → map leaf_case ls ≡ cases_of bs
+leaf_cases [] [] h = refl
+leaf_cases [] (b ∷ bs) h = absurd h
+leaf_cases (l ∷ ls) [] h = absurd h
+leaf_cases (l ∷ ls) (b ∷ bs) h = λ i. record { guard = h.0.formula i; answers = h.0.answers i } ∷ leaf_cases ls bs h.1 i
 
-cases_appended : (bs : List Branch) (b : Branch) → cases_of (bs ++ b ∷ []) ≡ cases_of bs ++ case_of b ∷ []
-cases_appended [] b = refl
-cases_appended (d ∷ bs) b = ap (λ ks. case_of d ∷ ks) (cases_appended bs b)
+-- a leaf becomes a case, after those before it
+pub cases_go_on : (made made2 : List PlainCase) (k : PlainCase) (l : Leaf) (rest : List Leaf) (all : List Case) → map case_seen made ++ map leaf_case (l ∷ rest) ≡ all → tree_of k.guard ≡ nnf_of l.formula → k.answers.items ≡ l.points.items
+    → made2 ≡ made ++ k ∷ [] → map case_seen made2 ++ map leaf_case rest ≡ all
+cases_go_on made made2 k l rest all w e a m =
+    ap (λ ks. ks ++ map leaf_case rest) (case_pushed made made2 k m ∙ (λ i. map case_seen made ++ record { guard = e i; answers = ap (map answer_of) a i } ∷ []))
+    ∙ append_assoc (map case_seen made) (leaf_case l ∷ []) (map leaf_case rest) ∙ w
 
-pub cases_begin : (ls : List Leaf) (bs : List Branch) → StandFor ls bs → AreCasesBefore [] ls bs
-cases_begin ls bs h = record { before = []; left = bs; cases = refl; left_stand = h; whole = refl }
-
-pub cases_go_on : (made made2 : List PlainCase) (k : PlainCase) (l : Leaf) (rest : List Leaf) (bs : List Branch) → AreCasesBefore made (l ∷ rest) bs → tree_of k.guard ≡ nnf_of l.formula → k.answers.items ≡ l.points.items → made2 ≡ made ++ k ∷ [] → AreCasesBefore made2 rest bs
-cases_go_on made made2 k l rest bs w e a m = go w.left w.left_stand w.whole
-  where
-    go : (left : List Branch) → StandFor (l ∷ rest) left → w.before ++ left ≡ bs → AreCasesBefore made2 rest bs
-    go [] h u = absurd h
-    go (b ∷ left) h u = record {
-      before = w.before ++ b ∷ [];
-      left = left;
-      cases = case_pushed made made2 k m ∙ (λ i. w.cases i ++ record { guard = (e ∙ h.0.formula) i; answers = (ap (map answer_of) a ∙ h.0.answers) i } ∷ []) ∙ sym (cases_appended w.before b);
-      left_stand = h.1;
-      whole = append_assoc w.before (b ∷ []) left ∙ u;
-    }
-
-pub cases_end : (made : List PlainCase) (rest : List Leaf) (bs : List Branch) → AreCasesBefore made rest bs → rest ≡ [] → map case_seen made ≡ cases_of bs
-cases_end made rest bs w e = go w.left (subst (λ ls. StandFor ls w.left) e w.left_stand) w.whole
-  where
-    go : (left : List Branch) → StandFor [] left → w.before ++ left ≡ bs → map case_seen made ≡ cases_of bs
-    go [] h u = w.cases ∙ ap cases_of (sym (append-nil w.before) ∙ u)
-    go (b ∷ left) h u = absurd h
+pub cases_end : (made : List PlainCase) (rest : List Leaf) (all : List Case) → map case_seen made ++ map leaf_case rest ≡ all → rest ≡ [] → map case_seen made ≡ all
+cases_end made rest all w e = sym (append-nil (map case_seen made)) ∙ ap (λ ls. map case_seen made ++ map leaf_case ls) (sym e) ∙ w
 
 pub points_pushed : (ks ms : List PlainCase) (k : PlainCase) → HavePoints ks → All IsTestPoint k.answers.items → ms ≡ ks ++ k ∷ [] → HavePoints ms
 points_pushed ks ms k h i e = subst HavePoints (sym e) (go ks h)

@@ -1,17 +1,16 @@
 // The cases of the leading block.
-ghost use Rattle.std.specs.Prelude.{◌≡◌, ℕ, List, map, IfOk, IfErr};
+ghost use Rattle.std.specs.Prelude.{◌≡◌, ℕ, map, IfOk, IfErr};
 ghost use Rattle.formula_meaning.specs.Every.{Every};
 ghost use Rattle.atom_normal.specs.Atoms.{context_of};
 ghost use Rattle.atom_normal.specs.NormalForm.{IsNormal};
-ghost use Rattle.elimination_reference.specs.Cases.{case_sign, cases_of, reference_cases};
+ghost use Rattle.elimination_reference.specs.Cases.{case_sign, reference_cases};
 ghost use Rattle.elimination_reference.specs.Measured.{done};
-ghost use Rattle.elimination_reference.specs.Reference.{Branch};
 ghost use Rattle.elimination_reference.specs.Theorems.{AreExactCases};
 ghost use Rattle.formula_tree.specs.Trees.{tree_of};
 ghost use Rattle.nnf_trees.specs.Nnfs.{nnf_of, HasModulus};
 ghost use Rattle.plain_engine.specs.Told.{StopsWith};
-ghost use Rattle.plain_cases.specs.Stand.{StandFor, AreSound};
-ghost use Rattle.plain_cases.specs.Case.{case_seen, HavePoints};
+ghost use Rattle.plain_cases.specs.Stand.{AreSound};
+ghost use Rattle.plain_cases.specs.Case.{case_seen, leaf_case, HavePoints};
 
 use crate::branch::Leaf;
 use crate::chain::leaves;
@@ -43,7 +42,7 @@ pub fn is_asked(f: &Nnf) -> bool
 // The leaves as cases. The only error is `Memory`.
 fn told(alloc: Global, leaves: Vec<Leaf>) -> Result<Vec<PlainCase>, Measured>
     requires { AreSound leaves.items }
-    ensures cases { IfOk result (λ v. (bs : List Branch) → StandFor leaves.items bs → map case_seen v.items ≡ cases_of bs) }
+    ensures cases { IfOk result (λ v. map case_seen v.items ≡ map leaf_case leaves.items) }
     ensures points { IfOk result (λ v. HavePoints v.items) }
     ensures memory { IfErr result (λ e. e ≡ Measured.Memory) }
 {
@@ -78,6 +77,23 @@ pub fn cases_plain(
     ensures points { IfOk result (λ v. HavePoints v.items) }
     ensures stops { IfErr result (λ e. StopsWith e (reference_cases (context_of context) limit (tree_of tree.now))) }
 {
+    let left = case_leaves(alloc, tree, context, limit)?;
+    told(alloc, left)
+}
+
+/// The same cases as leaves: the guards in negation normal form, to be worked on without a copy, and the points that answer.
+pub fn case_leaves(
+    alloc: Global,
+    tree: &Tree,
+    context: Context,
+    limit: u64,
+) -> Result<Vec<Leaf>, Measured>
+    requires moduli { Every HasModulus (tree_of tree.now) }
+    requires normal { Every (IsNormal (context_of context)) (tree_of tree.now) }
+    ensures cases { IfOk result (λ v. (cost : ℕ) × (reference_cases (context_of context) limit (tree_of tree.now) ≡ done (map leaf_case v.items, cost))) }
+    ensures sound { IfOk result (λ v. AreSound v.items) }
+    ensures stops { IfErr result (λ e. StopsWith e (reference_cases (context_of context) limit (tree_of tree.now))) }
+{
     let setting = Setting {
         alloc,
         context,
@@ -87,5 +103,5 @@ pub fn cases_plain(
     pay(limit, &mut cost, form_sizes(tree).plain)?;
     let form = normal_form(alloc, tree, false).map_err(|_| Measured::Memory)?;
     let left = leaves(setting, &mut cost, Vec::new(alloc), is_asked(&form), &form)?;
-    told(alloc, left)
+    Ok(left)
 }

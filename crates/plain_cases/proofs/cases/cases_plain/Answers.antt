@@ -1,49 +1,22 @@
-use Rattle.std.proofs.Common.{rules, ◌≡◌, false, [], List, map, sym, ap, ◌∙◌, subst}
-use Rattle.formula_meaning.specs.Sizes.{nodes}
+use Rattle.std.proofs.Common.{map, sym, ap, ◌∙◌, subst}
 use Rattle.atom_normal.specs.Atoms.{context_of}
-use Rattle.elimination_reference.specs.Cases.{Case, case_sign, cases_of, reference_cases}
 use Rattle.elimination_reference.specs.Measured.{done, Gives}
-use Rattle.elimination_reference.specs.Reference.{Branch, branches, normal_tree}
 use Rattle.elimination_reference.specs.Theorems.{AreExactCases}
 use Rattle.elimination_reference.proofs.CasesExact.{cases_exact}
 use Rattle.formula_tree.specs.Trees.{tree_of}
-use Rattle.linear_forms.specs.declared.form.VarId.{VarId}
-use Rattle.nnf_trees.specs.Nnfs.{nnf_of}
-use Rattle.nnf_trees.specs.Forms.{form}
-use Rattle.plain_engine.specs.Ready.{IsReady}
-use Rattle.plain_engine.specs.Told.{numbers}
 use Rattle.plain_engine.proofs.Arms.{if_ok_also}
-use Rattle.plain_engine.proofs.Readiness.{form_ready}
 use Rattle.plain_cases.specs.Case.{case_seen}
-use Rattle.plain_cases.specs.Stand.{StandFor, TellsOf}
-use Rattle.plain_cases.proofs.Chaining.{cases_are}
 use Rattle.plain_cases.proofs.cases.cases_plain.Goals as goal
 
-pub leaves-requires-clause-ready : goal.leaves-requires-clause-ready
-leaves-requires-clause-ready c =
-    let f = tree_of c.args.tree.now in
-    let made : nnf_of c.in_ok-form.form ≡ form false f = search rules in
-    subst (IsReady (context_of c.args.context)) (sym made) (form_ready (context_of c.args.context) c.args.limit f c.requires.normal)
-
--- the cases of the reference
-are_cases : (c : goal.Joined-form-3) (ks : List Case) → ((bs : List Branch) → StandFor c.in_ok-left.left.items bs → ks ≡ cases_of bs) → reference_cases (context_of c.args.context) c.args.limit (tree_of c.args.tree.now) ≡ done (ks, c.leaves.new.cost)
-are_cases c ks k =
-    let o = context_of c.args.context in
-    let limit = c.args.limit in
-    let f = tree_of c.args.tree.now in
-    let n = c.pay.new.cost in
-    let g = nnf_of c.in_ok-form.form in
-    let made : g ≡ form false f = search rules in
-    let same : branches o limit (numbers c.new.result.items) c.is_asked.result g n ≡ branches o limit [] (case_sign (normal_tree f)) (normal_tree f) n
-    = ap (λ (xs : List VarId). branches o limit (numbers xs) c.is_asked.result g n) c.new.ensures.items ∙ ap (λ b. branches o limit [] b g n) c.is_asked.ensures ∙ ap (λ h. branches o limit [] (case_sign h) h n) made in
-    cases_are o limit f n c.in_ok-left.left.items c.leaves.new.cost ks (c.in_ok-pay.ensures (nodes (form false f)) c.form_sizes.ensures.plain) (subst (TellsOf c.in_ok-left.left.items c.leaves.new.cost) same c.in_ok-left.ensures.told) k
-
 pub returns-clause-cases : goal.returns-clause-cases
-returns-clause-cases c = if_ok_also c.told.result _ _ c.told.ensures.cases (λ v k. (c.leaves.new.cost, are_cases c (map case_seen v.items) k))
+returns-clause-cases c =
+    let told = c.in_ok-left.ensures.cases in
+    if_ok_also c.told.result _ _ c.told.ensures.cases (λ v k. (told.0, told.1 ∙ ap (λ ks. done (ks, told.0)) (sym k)))
 
 pub returns-clause-exact : goal.returns-clause-exact
 returns-clause-exact c =
     let o = context_of c.args.context in
     let f = tree_of c.args.tree.now in
+    let told = c.in_ok-left.ensures.cases in
     if_ok_also c.told.result _ (λ v. AreExactCases o f (map case_seen v.items)) c.told.ensures.cases
-    (λ v k. subst (Gives (λ r. AreExactCases o f r.0)) (are_cases c (map case_seen v.items) k) (cases_exact o c.args.limit f c.requires.normal))
+    (λ v k. subst (Gives (λ r. AreExactCases o f r.0)) (told.1 ∙ ap (λ ks. done (ks, told.0)) (sym k)) (cases_exact o c.args.limit f c.requires.normal))

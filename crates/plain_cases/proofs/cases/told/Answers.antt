@@ -1,10 +1,11 @@
-use Rattle.std.proofs.Common.{rules, ◌≡◌, List, [], ◌∷◌, ◌++◌, length, refl, subst}
+use Rattle.std.proofs.Common.{rules, ◌≡◌, List, [], ◌∷◌, ◌++◌, map, length, refl, subst}
 use Rattle.formula_tree.specs.Trees.{tree_of}
 use Rattle.nnf_trees.specs.Nnfs.{nnf_of}
 use Rattle.plain_cases.specs.declared.branch.Leaf.{Leaf}
 use Rattle.plain_cases.specs.declared.cases.PlainCase.{PlainCase}
+use Rattle.plain_cases.specs.Case.{case_seen, leaf_case}
 use Rattle.plain_cases.specs.Stand.{AreSound}
-use Rattle.plain_cases.proofs.Standing.{AreCasesBefore, cases_go_on, cases_end, points_pushed, nothing}
+use Rattle.plain_cases.proofs.Standing.{cases_go_on, cases_end, points_pushed, nothing}
 use Rattle.plain_cases.proofs.cases.told.Goals as goal
 
 pub loop-leaf-preserved : goal.loop-leaf-preserved
@@ -18,12 +19,12 @@ loop-leaf-preserved c =
     record {
       can = tt;
       finite = tt;
-      cases = λ bs h. cases_go_on c.loop-leaf.cases.items c.push.new.self.items case leaf c.next.new.self.rest.items bs (subst (λ (xs : List Leaf). AreCasesBefore c.loop-leaf.cases.items xs bs) split (c.loop-leaf.invariant.cases bs h)) guard refl pushed;
+      cases = cases_go_on c.loop-leaf.cases.items c.push.new.self.items case leaf c.next.new.self.rest.items (map leaf_case c.args.leaves.items) (subst (λ (xs : List Leaf). map case_seen c.loop-leaf.cases.items ++ map leaf_case xs ≡ map leaf_case c.args.leaves.items) split c.loop-leaf.invariant.cases) guard refl pushed;
       points = points_pushed c.loop-leaf.cases.items c.push.new.self.items case c.loop-leaf.invariant.points sound.0.points pushed;
       rest = sound.1;
     }
 
 pub returns-clause-cases : goal.returns-clause-cases
-returns-clause-cases c = λ bs h.
+returns-clause-cases c =
     let none_left : length c.loop-leaf.leaf-iterator.rest.items ≡ 0 = search rules in
-    cases_end c.loop-leaf.cases.items c.loop-leaf.leaf-iterator.rest.items bs (c.loop-leaf.invariant.cases bs h) (nothing c.loop-leaf.leaf-iterator.rest.items none_left)
+    cases_end c.loop-leaf.cases.items c.loop-leaf.leaf-iterator.rest.items (map leaf_case c.args.leaves.items) c.loop-leaf.invariant.cases (nothing c.loop-leaf.leaf-iterator.rest.items none_left)
