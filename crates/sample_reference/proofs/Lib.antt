@@ -7,3 +7,4 @@ pub mod IntegersValue
 pub mod OneValue
 pub mod Chain
 pub mod Sound
+pub mod Closed

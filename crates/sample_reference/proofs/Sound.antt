@@ -115,12 +115,12 @@ matrix_free (Ex x f) chain y h = go (is_in nat_eq x chain) (matrix_free f (x ∷
 -- ---- the first true branch
 
 -- the steps are those of a branch that is true
-record IsChosen (c : Context) (matrix : Tree) (names : List ℕ) (steps : List Step) : Type 0 where
-  lead : Lead c steps matrix Yes
-  in_order : step_names steps ≡ names
-  lower : EachOf (λ (s : Step). IsLower s.place) steps
+pub record IsChosen (c : Context) (matrix : Tree) (names : List ℕ) (steps : List Step) : Type 0 where
+  pub lead : Lead c steps matrix Yes
+  pub in_order : step_names steps ≡ names
+  pub lower : EachOf (λ (s : Step). IsLower s.place) steps
 
-first_chosen : (c : Context) (matrix : Tree) (names : List ℕ) (root : Tree) (bs : List Branch) (steps : List Step) → EachOf (IsBranch c matrix names) bs → EachOf (IsTraced c root) bs → first_true bs ≡ Some steps → IsChosen c matrix names steps
+pub first_chosen : (c : Context) (matrix : Tree) (names : List ℕ) (root : Tree) (bs : List Branch) (steps : List Step) → EachOf (IsBranch c matrix names) bs → EachOf (IsTraced c root) bs → first_true bs ≡ Some steps → IsChosen c matrix names steps
 first_chosen c matrix names root [] steps h k e = none_some steps e
 first_chosen c matrix names root (b ∷ bs) steps h k e = go b.tree refl (first_chosen c matrix names root bs steps h.1 k.1) e
   where
@@ -147,7 +147,7 @@ first_chosen c matrix names root (b ∷ bs) steps h k e = go b.tree refl (first_
 -- ---- a sample
 
 -- what the values of the steps are
-gives_values : (c : Context) (cost : ℕ) (steps : List Step) (P : Option (List Value) → Type 0) → ((values : List Value) → values_from c steps [] ≡ Some values → P (Some values)) → Gives (λ r. P r.0) (sampled c cost (Some steps))
+pub gives_values : (c : Context) (cost : ℕ) (steps : List Step) (P : Option (List Value) → Type 0) → ((values : List Value) → values_from c steps [] ≡ Some values → P (Some values)) → Gives (λ r. P r.0) (sampled c cost (Some steps))
 gives_values c cost steps P h = go (values_from c steps []) refl
   where
     go : (o : Option (List Value)) → values_from c steps [] ≡ o → Gives (λ (r : Option (List Value) × ℕ). P r.0) (evaluated cost o)

@@ -3,11 +3,16 @@
 #![tactic(auto)]
 
 ghost use Rattle.formula_meaning.specs.Context.{Context};
-ghost use Rattle.sample_reference.specs.Theorems.{SampleIsTrue};
+ghost use Rattle.sample_reference.specs.Theorems.{SampleIsTrue, ClosedSampleIsTrue};
 
 /// Where the reference sample gives values, they are those of the names of the leading block, in lowest terms and over the integers
 /// whole, and the matrix behind the block is true at the point with them. It gives none exactly where the formula, or its negation
 /// where it begins with `all`, is false at the point.
 pub fn sample_is_true()
     ensures { (c : Context) → SampleIsTrue c }
+{}
+
+/// The same of a formula without free names, whose sample is taken at no point.
+pub fn closed_sample_is_true()
+    ensures { (c : Context) → ClosedSampleIsTrue c }
 {}

@@ -1,0 +1,149 @@
+-- The sample of a formula without free names is true.
+use Rattle.std.proofs.Common.{◌≡◌, ℕ, ◌<◌, List, [], ◌∷◌, Option, Some, None, inl, inr, ⊎_elim, refl, sym, ◌∙◌, arith, nat_eq}
+use Rattle.std.proofs.Math.IntN.{ℤ, pos}
+use Rattle.std.specs.Prelude.{◌<ℤ◌}
+use Rattle.std.proofs.lemmas.Int.{ints}
+use Rattle.exact_numbers.specs.Divides.{content_of, gcd_of, euclid}
+use Rattle.formula_meaning.specs.Context.{Context, Fields, Integers}
+use Rattle.formula_meaning.specs.Point.{Point, move}
+use Rattle.formula_meaning.specs.Formula.{Yes, No, One, Not, And, Or, Impl, Repl, Equiv, Ex, All, none, also}
+use Rattle.formula_meaning.specs.Truth.{SomeTrue}
+use Rattle.formula_meaning.specs.Every.{Every, FreeInSome}
+use Rattle.formula_meaning.specs.Some.{EachOf}
+use Rattle.formula_meaning.specs.Sizes.{nodes}
+use Rattle.formula_meaning.specs.Shape.{IsPlain}
+use Rattle.formula_meaning.specs.Form.{Form, Term, coefficient, multiple, coefficients}
+use Rattle.formula_meaning.specs.Sorted.{IsSorted, AllAbove, IsRising, AllNonzero}
+use Rattle.formula_meaning.specs.Atom.{Atom, Compare, Congruent, Mentions, Says}
+use Rattle.formula_meaning.specs.Tree.{Tree, Trees, TrueAt, IsFree}
+use Rattle.formula_meaning.proofs.Sorted.{here}
+use Rattle.elimination_theory.specs.Answers.{Step}
+use Rattle.atom_normal.specs.NormalForm.{IsNormal, first}
+use Rattle.elimination_reference.specs.Measured.{Outcome, stopped, done, then_of, Gives, pay}
+use Rattle.elimination_reference.specs.Reference.{Branch, branch_trees, normal_tree, leading_branches}
+use Rattle.elimination_reference.specs.Cases.{case_sign, case_formula, case_matrix, case_names}
+use Rattle.elimination_reference.specs.Sample.{if_true, first_true}
+use Rattle.elimination_reference.specs.Theorems.{IsProper, IsBranching, IsTidy}
+use Rattle.elimination_reference.proofs.Always.{gives_both, always_then, always_pay}
+use Rattle.elimination_reference.proofs.Branches.{IsBranch, AreBranches}
+use Rattle.elimination_reference.proofs.CasesExact.{free}
+use Rattle.elimination_reference.proofs.Sound.{leading_are}
+use Rattle.sample_reference.specs.Values.{Value, origin}
+use Rattle.sample_reference.specs.Calculated.{values_from}
+use Rattle.sample_reference.specs.Sample.{sampled, AreTrueValues, IsTrueSample}
+use Rattle.sample_reference.specs.Theorems.{ClosedSampleIsTrue}
+use Rattle.sample_reference.proofs.Tracing.{FromOne, branches_from}
+use Rattle.sample_reference.proofs.Chain.{AreFound, values_true, origin_of}
+use Rattle.sample_reference.proofs.Sound.{IsChosen, first_chosen, gives_values}
+
+-- ---- a tidy formula that is not a constant has a name
+
+first_stands : (t : Term) (ts : List Term) → AllAbove t.name ts → ¬ (t.times ≡ pos 0) → ¬ (multiple t.name (t ∷ ts) ≡ pos 0)
+first_stands t ts above n e = n (sym (here t.name t ts refl above) ∙ e)
+
+positive_stands : (z : ℤ) → pos 0 <ℤ z → ¬ (z ≡ pos 0)
+positive_stands z h e = absurd (omega (arith, ints))
+
+oriented_name : (f : Form) → IsRising f.terms → pos 0 <ℤ first f.terms → (x : ℕ) × ¬ (coefficient x f ≡ pos 0)
+unfolding coefficient
+oriented_name f rising h = go f.terms rising h
+  where
+    go : (ts : List Term) → IsRising ts → pos 0 <ℤ first ts → (x : ℕ) × ¬ (multiple x ts ≡ pos 0)
+    go [] r p = absurd (omega (arith, ints))
+    go (t ∷ ts) r p = (t.name, first_stands t ts r.0 (positive_stands t.times p))
+
+alone_content : (m : ℕ) → content_of (pos m ∷ []) ≡ pos m
+unfolding content_of gcd_of euclid
+alone_content m = refl
+
+congruence_name : (m : ℕ) (f : Form) → 1 < m → IsSorted f → content_of (pos m ∷ coefficients f.terms) ≡ pos 1 → (x : ℕ) × ¬ (coefficient x f ≡ pos 0)
+unfolding coefficient
+congruence_name m f h s e = go f.terms s.rising s.nonzero e
+  where
+    go : (ts : List Term) → IsRising ts → AllNonzero ts → content_of (pos m ∷ coefficients ts) ≡ pos 1 → (x : ℕ) × ¬ (multiple x ts ≡ pos 0)
+    go [] r n e = let k = sym (alone_content m) ∙ e in absurd (omega (arith, ints))
+    go (t ∷ ts) r n e = (t.name, first_stands t ts r.0 n.0)
+
+normal_name : (c : Context) (a : Atom) → IsNormal c a → (x : ℕ) × Mentions a x
+normal_name Fields (Compare r f) n = oriented_name f n.oriented.sorted.rising n.oriented.positive
+normal_name Integers (Compare r f) n = oriented_name f n.oriented.sorted.rising n.oriented.positive
+normal_name Fields (Congruent b m f) n = absurd n
+normal_name Integers (Congruent b m f) n = congruence_name m f n.above_one n.sorted n.coprime
+
+tidy_name : (c : Context) (f : Tree) → IsPlain f → Every (IsNormal c) f → IsBranching f → IsProper f → (x : ℕ) × IsFree f x
+tidy_name c Yes p n b h = absurd h
+tidy_name c No p n b h = absurd h
+tidy_name c (One a) p n b h = normal_name c a n
+tidy_name c (Not f) p n b h = absurd p
+tidy_name c (And none) p n b h = absurd b.0
+tidy_name c (And (also f fs)) p n b h = let i = tidy_name c f p.0 n.0 b.1.1 b.1.0 in (i.0, inl i.1)
+tidy_name c (Or none) p n b h = absurd b.0
+tidy_name c (Or (also f fs)) p n b h = let i = tidy_name c f p.0 n.0 b.1.1 b.1.0 in (i.0, inl i.1)
+tidy_name c (Impl f g) p n b h = absurd p
+tidy_name c (Repl f g) p n b h = absurd p
+tidy_name c (Equiv f g) p n b h = absurd p
+tidy_name c (Ex x f) p n b h = absurd p
+tidy_name c (All x f) p n b h = absurd p
+
+-- ---- the first true branch
+
+module _ (c : Context) (p : Point ℕ) where
+  -- where steps are found a branch is true, else none is
+  abbrev IsFound : Trees → Option (List Step) → Type 0
+  IsFound ts None = ¬ (SomeTrue Says (move nat_eq) c ts p)
+  IsFound ts (Some steps) = SomeTrue Says (move nat_eq) c ts p
+
+  one_more : (f : Tree) (ts : Trees) (o : Option (List Step)) → ¬ (TrueAt c f p) → IsFound ts o → IsFound (also f ts) o
+  one_more f ts None n h = ⊎_elim n h
+  one_more f ts (Some steps) n h = inr h
+
+  before : (f : Tree) (steps : List Step) (ts : Trees) (o : Option (List Step)) → IsTidy c f → ((y : ℕ) → ¬ (IsFree f y)) → IsFound ts o → IsFound (also f ts) (if_true f steps o)
+  before Yes steps ts o tidy n h = inl tt
+  before No steps ts o tidy n h = one_more No ts o (λ t. t) h
+  before (One a) steps ts o tidy n h = let i = tidy_name c (One a) tidy.is_plain tidy.normal tidy.two_members tt in absurd (n i.0 i.1)
+  before (And fs) steps ts o tidy n h = let i = tidy_name c (And fs) tidy.is_plain tidy.normal tidy.two_members tt in absurd (n i.0 i.1)
+  before (Or fs) steps ts o tidy n h = let i = tidy_name c (Or fs) tidy.is_plain tidy.normal tidy.two_members tt in absurd (n i.0 i.1)
+  before (Not f) steps ts o tidy n h = absurd tidy.is_plain
+  before (Impl f g) steps ts o tidy n h = absurd tidy.is_plain
+  before (Repl f g) steps ts o tidy n h = absurd tidy.is_plain
+  before (Equiv f g) steps ts o tidy n h = absurd tidy.is_plain
+  before (Ex x f) steps ts o tidy n h = absurd tidy.is_plain
+  before (All x f) steps ts o tidy n h = absurd tidy.is_plain
+
+  found : (matrix : Tree) (names : List ℕ) (bs : List Branch) → EachOf (IsBranch c matrix names) bs → ((y : ℕ) → ¬ (FreeInSome Mentions (branch_trees bs) y)) → IsFound (branch_trees bs) (first_true bs)
+  found matrix names [] h n = λ t. t
+  found matrix names (b ∷ bs) h n = before b.tree b.steps (branch_trees bs) (first_true bs) h.0.tidy (λ y t. n y (inl t)) (found matrix names bs h.1 (λ y t. n y (inr t)))
+
+-- ---- the sample
+
+module _ (c : Context) (limit : ℕ) (f : Tree) (n : Every (IsNormal c) f) (closed : (y : ℕ) → ¬ (IsFree f y)) where
+  abbrev AreTraced : List Branch → Type 0
+  AreTraced bs = AreBranches c (case_formula f) (case_matrix f) (case_names f) bs × FromOne c limit bs
+
+  both_are : Gives (λ (r : List Branch × ℕ). AreTraced r.0) (leading_branches c limit (case_sign (normal_tree f)) f 0)
+  both_are =
+      gives_both (λ (r : List Branch × ℕ). AreBranches c (case_formula f) (case_matrix f) (case_names f) r.0) (λ (r : List Branch × ℕ). FromOne c limit r.0) (leading_branches c limit (case_sign (normal_tree f)) f 0)
+      (leading_are c limit (case_sign (normal_tree f)) f n 0)
+      (always_then (λ u. Unit {0}) (FromOne c limit) (pay limit (nodes (normal_tree f))) _ (always_pay limit (nodes (normal_tree f))) (λ u v. branches_from c limit [] (case_sign (normal_tree f)) (normal_tree f)) 0)
+
+  values_are : (steps : List Step) (values : List Value) → TrueAt c (case_formula f) origin → IsChosen c (case_matrix f) (case_names f) steps → values_from c steps [] ≡ Some values → AreTrueValues c f origin values
+  values_are steps values t chosen e =
+      let given : AreFound c (case_matrix f) steps [] values = values_true c steps (case_matrix f) Yes [] values chosen.lead chosen.lower tt tt e in
+      record { asked = t; names = given.names ∙ chosen.in_order; each = given.each; matrix = given.matrix }
+
+  sample_of_branches : (bs : List Branch) (cost : ℕ) → AreTraced bs → Gives (λ r. IsTrueSample c f origin r.0) (sampled c cost (first_true bs))
+  sample_of_branches bs cost h =
+      go (first_true bs) refl (found c origin (case_matrix f) (case_names f) bs h.0.each (λ y t. closed y (free c f (case_sign (normal_tree f)) y (h.0.free y t))))
+    where
+      go : (o : Option (List Step)) → first_true bs ≡ o → IsFound c origin (branch_trees bs) o → Gives (λ (r : Option (List Value) × ℕ). IsTrueSample c f origin r.0) (sampled c cost o)
+      go None e k = λ t. k ((h.0.equivalent origin (origin_of c)).0 t)
+      go (Some steps) e k =
+          gives_values c cost steps (IsTrueSample c f origin) (λ values v.
+          values_are steps values ((h.0.equivalent origin (origin_of c)).1 k) (first_chosen c (case_matrix f) (case_names f) h.1.0 bs steps h.0.each h.1.1 e) v)
+
+pub closed_sample_true : (c : Context) → ClosedSampleIsTrue c
+closed_sample_true c limit f n closed = go (leading_branches c limit (case_sign (normal_tree f)) f 0) (both_are c limit f n closed)
+  where
+    go : (u : Outcome (List Branch × ℕ)) → Gives (λ (r : List Branch × ℕ). AreTraced c limit f n closed r.0) u → Gives (λ (r : Option (List Value) × ℕ). IsTrueSample c f origin r.0) (then_of u (λ r. sampled c r.1 (first_true r.0)))
+    go (stopped s) h = tt
+    go (done r) h = sample_of_branches c limit f n closed r.0 r.1 h

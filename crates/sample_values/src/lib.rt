@@ -1,0 +1,11 @@
+//! The values of the names of a sample, calculated one after the other from the steps of elimination.
+#![tactic(auto)]
+
+mod critical;
+mod denominators;
+mod numbers;
+mod places;
+mod roots;
+mod steps;
+
+pub use steps::step_values;

@@ -1,0 +1,4 @@
+pub mod Choosing
+pub mod Walking
+pub mod Rooting
+pub mod Finding

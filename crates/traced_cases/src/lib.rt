@@ -1,0 +1,11 @@
+//! The steps of the first case of the leading block whose guard is true: test points, and the formulas into which they were put.
+#![tactic(auto)]
+
+mod chain;
+mod copying;
+mod first;
+mod replay;
+mod step;
+
+pub use first::{first_true_steps, true_steps};
+pub use step::Step;

@@ -1,0 +1,102 @@
+// Steps taken again.
+ghost use Rattle.std.specs.Prelude.{◌≡◌, true, All, reverse, IfOk, IfErr};
+ghost use Rattle.formula_meaning.specs.Tree.{InContext};
+ghost use Rattle.elimination_theory.specs.BothTheories.{IsPlaceIn};
+ghost use Rattle.elimination_theory.specs.Steps.{result_at};
+ghost use Rattle.atom_normal.specs.Atoms.{context_of};
+ghost use Rattle.atom_normal.specs.NormalForm.{normal_atom};
+ghost use Rattle.sample_reference.specs.Traced.{after_step};
+ghost use Rattle.nnf_trees.specs.Nnfs.{nnf_of, IsProper};
+ghost use Rattle.nnf_substitution.specs.Placed.{point_within};
+ghost use Rattle.test_points.specs.Points.{place_of, IsTestPoint};
+ghost use Rattle.traced_cases.specs.Steps.{steps_of, IsStep};
+ghost use Rattle.traced_cases.specs.Replay.{taken, taken_from, IsTakable, AreTakable};
+
+use crate::copying::copied;
+use crate::step::Step;
+use atom_normal::Context;
+use nnf_substitution::{distinct_atoms, formula_at, stands_in_some};
+use nnf_trees::Nnf;
+use plain_engine::{Measured, stopped};
+use std::alloc::Global;
+use test_points::TestPoint;
+
+// What a step of elimination leaves of the formula at the point, where no number passes the limit. The only error is `Memory`.
+fn put(alloc: Global, context: Context, f: &Nnf, point: &TestPoint) -> Result<Nnf, Measured>
+    requires proper { IsProper f.now }
+    requires in_context { InContext (context_of context) (nnf_of f.now) }
+    requires test_point { IsTestPoint point.now }
+    requires place { IsPlaceIn (context_of context) (place_of point.now) }
+    requires within { point_within (context_of context) point.now.name.number (nnf_of f.now) (place_of point.now) ≡ true }
+    ensures formula { IfOk result (λ g. nnf_of g ≡ result_at (context_of context) (normal_atom (context_of context)) point.now.name.number (place_of point.now) (nnf_of f.now)) }
+    ensures proper { IfOk result IsProper }
+    ensures memory { IfErr result (λ e. e ≡ Measured.Memory) }
+{
+    match formula_at(alloc, context, f, point) {
+        Ok(left) => Ok(left),
+        Err(error) => Err(stopped(error)),
+    }
+}
+
+// What the step leaves of the formula; where the point's name stands in no atom it stays. The only error is `Memory`.
+fn after(alloc: Global, context: Context, f: &Nnf, point: &TestPoint) -> Result<Nnf, Measured>
+    requires proper { IsProper f.now }
+    requires takable { IsTakable (context_of context) (nnf_of f.now) point.now }
+    ensures formula { IfOk result (λ g. nnf_of g ≡ after_step (context_of context) (taken (nnf_of f.now) point.now)) }
+    ensures proper { IfOk result IsProper }
+    ensures memory { IfErr result (λ e. e ≡ Measured.Memory) }
+{
+    let atoms = distinct_atoms(alloc, f).map_err(|_| Measured::Memory)?;
+    if stands_in_some(&atoms, point.name) {
+        put(alloc, context, f, point)
+    } else {
+        copied(alloc, f).map_err(|_| Measured::Memory)
+    }
+}
+
+// The steps that the points take from the formula, the first one first. The only error is `Memory`.
+fn steps_along(
+    alloc: Global,
+    context: Context,
+    root: Nnf,
+    points: Vec<TestPoint>,
+) -> Result<Vec<Step>, Measured>
+    requires proper { IsProper root }
+    requires takable { AreTakable (context_of context) (nnf_of root) points.items }
+    ensures steps { IfOk result (λ v. steps_of v.items ≡ taken_from (context_of context) (nnf_of root) points.items) }
+    ensures sound { IfOk result (λ v. All (IsStep (context_of context)) v.items) }
+    ensures memory { IfErr result (λ e. e ≡ Measured.Memory) }
+{
+    let mut steps = Vec::new(alloc);
+    let mut formula = root;
+    for point in points {
+        let left = after(alloc, context, &formula, &point)?;
+        let step = Step {
+            point,
+            branch: formula,
+        };
+        steps.push(step).map_err(|_| Measured::Memory)?;
+        formula = left;
+    }
+    Ok(steps)
+}
+
+/// The steps that the points take from the formula, the last one first, as the points stand. The only error is `Memory`.
+pub(crate) fn steps_back(
+    alloc: Global,
+    context: Context,
+    root: Nnf,
+    points: Vec<TestPoint>,
+) -> Result<Vec<Step>, Measured>
+    requires proper { IsProper root }
+    requires takable { AreTakable (context_of context) (nnf_of root) (reverse points.items) }
+    ensures steps { IfOk result (λ v. steps_of v.items ≡ reverse (taken_from (context_of context) (nnf_of root) (reverse points.items))) }
+    ensures sound { IfOk result (λ v. All (IsStep (context_of context)) v.items) }
+    ensures memory { IfErr result (λ e. e ≡ Measured.Memory) }
+{
+    let mut points = points;
+    points.reverse();
+    let mut steps = steps_along(alloc, context, root, points)?;
+    steps.reverse();
+    Ok(steps)
+}
