@@ -1,5 +1,5 @@
 -- The text of a formula of the session is answered with the same text.
-use Rattle.std.proofs.Common.{◌≡◌, ◌≢◌, ◌⊎◌, ⊎_elim, ℕ, ◌≤◌, ◌<◌, List, [], ◌++◌, true, length, codes, refl, sym, ap, ◌∙◌, subst, append-nil, length-append, arith}
+use Rattle.std.proofs.Common.{◌≡◌, ◌≢◌, ◌⊎◌, ⊎_elim, ℕ, ◌≤◌, ◌<◌, List, [], ◌++◌, true, length, codes, refl, sym, ap, ap₂, ◌∙◌, subst, append-nil, length-append, arith}
 use Rattle.std.specs.Prelude.{Result, Ok, Err, None}
 use Rattle.std.specs.List.{fold}
 use Rattle.std.specs.declared.alloc.Global.{Global}
@@ -18,10 +18,10 @@ use Rattle.session_commands.specs.declared.line.Line.{Line}
 use Rattle.session_commands.specs.declared.line.Line.TheVariants as line
 use Rattle.session_commands.specs.declared.line.StatementError.{StatementError}
 use Rattle.session_commands.specs.declared.line.StatementError.TheVariants as error
-use Rattle.session_commands.specs.State.{State}
+use Rattle.session_commands.specs.State.{State, with_names}
 use Rattle.session_commands.specs.Commands.{named, resolved}
 use Rattle.session_commands.specs.Causes.{Use, IsCause, HasNoCauseBelow, MayRefuse, Refuses}
-use Rattle.session_commands.specs.Reply.{IsLine, AnswersCommand, Answers, RefusesAction, IsAnswer, Reply}
+use Rattle.session_commands.specs.Reply.{IsLine, AnswersCommand, AnswersSaid, Answers, RefusesAction, IsAnswer, Reply}
 use Rattle.session_commands.proofs.CauseLemmas.{readable_below}
 use Rattle.redlog_run.proofs.Unrefused.{never}
 use Rattle.lines_read_back.specs.ReadBack.{IsBare, IsOwnFormula, IsSameLine, TextIsAnswered}
@@ -54,20 +54,20 @@ module _ (s : State) (limit : ℕ) (t : Tree) (bare : IsBare s) (own : IsOwnForm
   accepted : IsResolvable s.context s.bound s.names w
   accepted = subst (λ bs. IsResolvable s.context bs s.names w) (sym bare.unbound) back.resolved.accepted
 
-  readable_here : HasNoCauseBelow s use_of_line (Echo w) 16
-  readable_here = readable_below s use_of_line (Echo w) back.resolved.same_names (record { no_entries = refl; no_point = λ h. h }) accepted (λ h. h.0)
+  readable_here : HasNoCauseBelow s limit use_of_line (Echo w) 16
+  readable_here = readable_below s limit use_of_line (Echo w) back.resolved.same_names (record { no_entries = refl; no_point = λ h. h }) accepted (λ h. h.0) (λ h. h)
 
   -- the text is shorter than a text may be
   short : length (tree_text s.names t) ≤ 1048576
   short = let l = readable.short in let e = length-append (tree_text s.names t) (codes ";") in omega arith
 
-  no_cause : (e : StatementError) → IsCause s use_of_line (Echo w) e → ⊥
+  no_cause : (e : StatementError) → IsCause s limit use_of_line (Echo w) e → ⊥
   no_cause error.Nodes h = h
   no_cause error.Bindings h = ⊎_elim absurd (λ k. k.2) h
   no_cause error.Text h =
       let k = h.1 in
-      let same : length (tree_text s.names k.0) ≡ length (tree_text s.names t) = ap (λ f. length (tree_text s.names f)) (k.1 ∙ same_tree) in
-      let long = k.2 in
+      let same : length (tree_text k.names k.formula) ≡ length (tree_text s.names t) = ap₂ (λ ns g. length (tree_text ns g)) k.named (k.given ∙ same_tree) in
+      let long = k.long in
       let l = short in
       omega arith
   no_cause error.Memory h = h
@@ -77,7 +77,7 @@ module _ (s : State) (limit : ℕ) (t : Tree) (bare : IsBare s) (own : IsOwnForm
   may_not error.Overflow h = ⊎_elim (no_cause error.Overflow) (⊎_elim (λ k. k.0) absurd) h
   may_not error.Nodes h = ⊎_elim (λ k. k.0) (⊎_elim absurd absurd) h
   may_not error.Bindings h = ⊎_elim (no_cause error.Bindings) (λ k. k.1) h
-  may_not error.Text h = ⊎_elim (no_cause error.Text) (λ k. k.1.1) h
+  may_not error.Text h = ⊎_elim (no_cause error.Text) (λ k. ⊎_elim (λ m. m.1) absurd k.1) h
   may_not e h = no_cause e h
 
   refuses_not : (e : StatementError) → e ≢ error.Memory → Refuses s limit use_of_line (Echo w) e → ⊥
@@ -96,9 +96,9 @@ module _ (s : State) (limit : ℕ) (t : Tree) (bare : IsBare s) (own : IsOwnForm
 
   answer_is : (answer : Line) (next : State) → Answers s limit true (Say (Echo w)) answer next → IsSameLine s (tree_text s.names t) (Ok answer) next
   answer_is answer next h =
-      let a : AnswersCommand s limit true (Echo w) answer = subst (λ (z : State). AnswersCommand z limit true (Echo w) answer) same_state h.0 in
-      let told = a.1.1 in
-      same_line a.1.0 answer next (told.2 ∙ ap (tree_text s.names) (told.1 ∙ same_tree)) (h.1 ∙ same_state) a.1.2
+      let a : AnswersSaid s limit true (Echo w) answer next = subst (λ (z : State). AnswersSaid z limit true (Echo w) answer next) same_state h in
+      let told = a.answered.1.1 in
+      same_line a.answered.1.0 answer next (told.2 ∙ ap₂ (λ ns g. tree_text ns g) a.named (told.1 ∙ same_tree)) (a.after ∙ ap (with_names s) a.named) a.answered.1.2
 
   only : (result : Result Line StatementError) (next : State) → Reply s limit (line_text s.names t) result next → IsSameLine s (tree_text s.names t) result next
   only (Ok answer) next r =
@@ -107,7 +107,7 @@ module _ (s : State) (limit : ℕ) (t : Tree) (bare : IsBare s) (own : IsOwnForm
   only (Err e) next r = absurd (never s limit (line_text s.names t) (printed_echo w) back.spells.spelled tt unrefused e next (λ m. absurd (cc)) r)
 
   -- and there is this one
-  answers : (bytes : Vec ℕ Global) → bytes.items ≡ tree_text s.names t → AnswersCommand s limit true (Echo w) (line.Printed bytes)
+  answers : (bytes : Vec ℕ Global) → bytes.items ≡ tree_text s.names t → AnswersCommand s limit true (Echo w) s.names (line.Printed bytes)
   answers bytes e = (λ c l. no_cause c, (tree_text s.names t, (t, sym same_tree, refl), (refl, e)))
 
   answered : (bytes : Vec ℕ Global) → bytes.items ≡ tree_text s.names t → Reply s limit (line_text s.names t) (Ok (line.Printed bytes)) s
@@ -115,7 +115,7 @@ module _ (s : State) (limit : ℕ) (t : Tree) (bare : IsBare s) (own : IsOwnForm
     statement = printed_echo w;
     spelled = back.spells.spelled;
     built = tt;
-    answered = (subst (λ (z : State). AnswersCommand z limit true (Echo w) (line.Printed bytes)) (sym same_state) (answers bytes e), sym same_state);
+    answered = subst (λ (z : State). AnswersSaid z limit true (Echo w) (line.Printed bytes) s) (sym same_state) (record { names = s.names; named = refl; answered = answers bytes e; after = refl });
   }
 
 pub text_is_answered : TextIsAnswered

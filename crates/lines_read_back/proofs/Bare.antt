@@ -20,8 +20,9 @@ use Rattle.printed_formulas.specs.Round.{AreVariables}
 use Rattle.session_commands.specs.declared.line.Line.{Line}
 use Rattle.session_commands.specs.State.{State}
 use Rattle.session_commands.specs.Parts.{given_of}
-use Rattle.session_commands.specs.Commands.{formula_of, entries_of, entry_names, command_variables, named}
+use Rattle.session_commands.specs.Commands.{formula_of, entries_of, entry_names, command_variables, named, HasAnswerNames}
 use Rattle.session_commands.specs.Reply.{Answers}
+use Rattle.session_commands.proofs.NewNameLemmas.{answer_names_distinct, answer_names_variables}
 use Rattle.session_commands.proofs.VariableLemmas.{AllVariables, both, variables_of_formula, variables_of_all, names_of_entries, all_put_in}
 use Rattle.lines_read_back.specs.ReadBack.{NamesStayWritable}
 
@@ -73,6 +74,10 @@ named_variables s c h v = record {
   variables = all_put_in s.names (command_variables c) v.variables (variables_of_command c h);
 }
 
+-- and the names after its answer
+pub answer_variables : (s : State) (c : CommandTree) (names : List (List ℕ)) → AreVariables s.names → HasAnswerNames s c names → AreVariables names
+answer_variables s c names v h = record { distinct = answer_names_distinct s c names v.distinct h; variables = answer_names_variables s c names v.variables h }
+
 -- ---- statements
 
 -- what is spelled is proper
@@ -88,8 +93,8 @@ after_action s limit printed Empty answer next p v h = subst HasVariables (sym h
 after_action s limit printed Ignored answer next p v h = subst HasVariables (sym h.1) v
 after_action s limit printed Finish answer next p v h = subst HasVariables (sym h.1) v
 after_action s limit printed (Choose setting) answer next p v h = subst HasVariables (sym h.1) v
-after_action s limit printed (Say c) answer next p v h = subst HasVariables (sym h.1) (named_variables s c p v)
-after_action s limit printed (Assign x c) answer next p v h = subst HasVariables (sym h.binds) (named_variables s c p.1 v)
+after_action s limit printed (Say c) answer next p v h = subst HasVariables (sym h.after) (answer_variables (named s c) c h.names (named_variables s c p v) h.named)
+after_action s limit printed (Assign x c) answer next p v h = subst HasVariables (sym h.binds) (answer_variables (named s c) c h.names (named_variables s c p.1 v) h.named)
 
 pub names_stay_writable : NamesStayWritable
 names_stay_writable s limit piece answer next v r =

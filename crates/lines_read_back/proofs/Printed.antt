@@ -29,7 +29,7 @@ use Rattle.session_commands.specs.declared.line.Line.TheVariants as line
 use Rattle.session_commands.specs.declared.line.StatementError.TheVariants as error
 use Rattle.session_commands.specs.State.{State}
 use Rattle.session_commands.specs.Parts.{given_of}
-use Rattle.session_commands.specs.Commands.{formula_of, entries_of, entry_names, named, resolved, negated_of, IsSimplification, IsCleanAnswer, IsCondition, MayGive}
+use Rattle.session_commands.specs.Commands.{formula_of, entries_of, entry_names, named, resolved, negated_of, IsSimplification, IsCleanAnswer, IsCondition, MayGive, HasAnswerNames}
 use Rattle.session_commands.specs.Built.{IsBuiltFormula}
 use Rattle.session_commands.specs.Causes.{Use, InSomePart, IsAccepted}
 use Rattle.session_commands.specs.Keeping.{IsSessionFormula}
@@ -38,10 +38,11 @@ use Rattle.clean_forms.proofs.FormShapes.{form_free}
 use Rattle.session_commands.proofs.PartLemmas.{some_first}
 use Rattle.session_commands.proofs.EliminatedLemmas.{unquantified_bound, within_of_names, free_below, none_from, all_below}
 use Rattle.session_commands.proofs.NameLemmas.{numbers_stay}
+use Rattle.session_commands.proofs.PrenexLemmas.{prenex_formula}
 use Rattle.session_commands.proofs.SoundLemmas.{AreSessionFormulas, resolved_formula, negated_formula}
-use Rattle.lines_read_back.specs.ReadBack.{IsBare, IsOwnFormula, IsEcho, LeavesChoice, IsPrinted, PrintedIsFormula, IsAnsweredBy, EchoIsAnswered}
+use Rattle.lines_read_back.specs.ReadBack.{IsBare, IsOwnFormula, IsEcho, KeepsNumbers, IsPrinted, PrintedIsFormula, IsAnsweredBy, EchoIsAnswered}
 use Rattle.lines_read_back.proofs.Answered.{text_is_answered}
-use Rattle.lines_read_back.proofs.Bare.{proper_formula, named_variables, spelled_proper}
+use Rattle.lines_read_back.proofs.Bare.{proper_formula, named_variables, answer_variables, spelled_proper}
 use Rattle.lines_read_back.proofs.Numbers.{resolved_fits, negated_fits}
 
 -- ---- what is given
@@ -52,7 +53,7 @@ none_bound c n bound e = subst (AreSessionFormulas c n) (sym e) (λ x t h. absur
 
 -- a state in which the variables of the command have their numbers, and which accepts it
 module _ (z : State) (limit : ℕ) (u : Use) (c : CommandTree) (numbers : names_after z.names (formula_of c) ≡ z.names) (proper : IsProperFormula (formula_of c))
-    (unbound : z.bound ≡ []) (accepted : IsAccepted z u c) where
+    (unbound : z.bound ≡ []) (accepted : IsAccepted z limit u c) where
   abbrev f : FormulaTree
   f = formula_of c
 
@@ -123,83 +124,105 @@ module _ (z : State) (limit : ℕ) (u : Use) (c : CommandTree) (numbers : names_
         members = h.members;
       }
 
-given_formula : (z : State) (limit : ℕ) (u : Use) (c : CommandTree) → IsBuiltFormula c → names_after z.names (formula_of c) ≡ z.names → IsProperFormula (formula_of c) → z.bound ≡ [] → IsAccepted z u c
-    → (text : List ℕ) (t : Tree) → MayGive z limit c t → text ≡ tree_text z.names t → IsPrinted z limit c text
-given_formula z limit u (Echo f) b numbers proper unbound accepted text t given e = record {
-  tree = t;
-  given = given;
-  text_is = e;
-  formula = subst (IsSessionFormula z.context (length z.names)) (sym given) (resolved_one z limit u (Echo f) numbers proper unbound accepted);
-  numbers = λ k. subst (Every AtomFits) (sym given) (resolved_numbers z limit u (Echo f) numbers proper unbound accepted);
-  low = λ k. subst (λ (t : Tree). height t ≤ most_height) (sym given) (resolved_low z limit u (Echo f) numbers proper unbound accepted);
-}
-given_formula z limit u (Nnf f) b numbers proper unbound accepted text t given e = record {
-  tree = t;
-  given = given;
-  text_is = e;
-  formula = subst (IsSessionFormula z.context (length z.names)) (sym given) (negated_formula z.context (length z.names) (resolved z (Nnf f)) (resolved_one z limit u (Nnf f) numbers proper unbound accepted));
-  numbers = λ k. subst (Every AtomFits) (sym given) (negated_fits (resolved z (Nnf f)) (resolved_numbers z limit u (Nnf f) numbers proper unbound accepted));
-  low = λ k. absurd k;
-}
-given_formula z limit u (Qe f given) b numbers proper unbound accepted text t h e = record {
-  tree = t;
-  given = h;
-  text_is = e;
-  formula = condition_formula z limit u (Qe f given) numbers proper unbound accepted given t h;
-  numbers = λ k. absurd (k tt);
-  low = λ k. absurd k;
-}
-given_formula z limit u (Pnf f) b numbers proper unbound accepted text t given e = absurd b
-given_formula z limit u (Dnf f) b numbers proper unbound accepted text t h e = record {
-  tree = t;
-  given = h;
-  text_is = e;
-  formula = clean_one z limit u (Dnf f) numbers proper unbound accepted Conjunction t h;
-  numbers = λ k. absurd (k tt);
-  low = λ k. absurd k;
-}
-given_formula z limit u (Cnf f) b numbers proper unbound accepted text t h e = record {
-  tree = t;
-  given = h;
-  text_is = e;
-  formula = clean_one z limit u (Cnf f) numbers proper unbound accepted Disjunction t h;
-  numbers = λ k. absurd (k tt);
-  low = λ k. absurd k;
-}
-given_formula z limit u (Simpl f given) b numbers proper unbound accepted text t h e = record {
-  tree = t;
-  given = h;
-  text_is = e;
-  formula = simplified_one z limit u (Simpl f given) numbers proper unbound accepted given t h;
-  numbers = λ k. absurd (k tt);
-  low = λ k. absurd k;
-}
-given_formula z limit u (Qea f g) b numbers proper unbound accepted text t given e = absurd b
-given_formula z limit u (Holds f es) b numbers proper unbound accepted text t given e = absurd b
-given_formula z limit u (Sample f es) b numbers proper unbound accepted text t given e = absurd b
+-- the names after the answer are these, but for a prenex form
+module _ (z next : State) (limit : ℕ) (u : Use) (context : next.context ≡ z.context) (text : List ℕ) (t : Tree) (e : text ≡ tree_text next.names t) where
+  -- a formula of the state before is one of the state after
+  same_formula : next.names ≡ z.names → IsSessionFormula z.context (length z.names) t → IsSessionFormula next.context (length next.names) t
+  same_formula n h = subst (λ c. IsSessionFormula c (length next.names) t) (sym context) (subst (λ ns. IsSessionFormula z.context (length ns) t) (sym n) h)
 
-told_formula : (z : State) (limit : ℕ) (c : CommandTree) (text : List ℕ) → IsBuiltFormula c → Tells z limit c text → (t : Tree) × MayGive z limit c t × (text ≡ tree_text z.names t)
-told_formula z limit (Echo f) text b h = h
-told_formula z limit (Nnf f) text b h = h
-told_formula z limit (Qe f given) text b h = h
-told_formula z limit (Pnf f) text b h = absurd b
-told_formula z limit (Dnf f) text b h = h
-told_formula z limit (Cnf f) text b h = h
-told_formula z limit (Simpl f g) text b h = h
-told_formula z limit (Qea f g) text b h = absurd b
-told_formula z limit (Holds f es) text b h = absurd b
-told_formula z limit (Sample f es) text b h = absurd b
+  given_formula : (c : CommandTree) → IsBuiltFormula c → names_after z.names (formula_of c) ≡ z.names → IsProperFormula (formula_of c) → z.bound ≡ [] → IsAccepted z limit u c
+      → MayGive z limit c t → HasAnswerNames z c next.names → IsPrinted z limit c text next
+  given_formula (Echo f) b numbers proper unbound accepted given n = record {
+    tree = t;
+    given = given;
+    text_is = e;
+    formula = same_formula n (subst (IsSessionFormula z.context (length z.names)) (sym given) (resolved_one z limit u (Echo f) numbers proper unbound accepted));
+    numbers = λ k. subst (Every AtomFits) (sym given) (resolved_numbers z limit u (Echo f) numbers proper unbound accepted);
+    low = λ k. subst (λ (t : Tree). height t ≤ most_height) (sym given) (resolved_low z limit u (Echo f) numbers proper unbound accepted);
+  }
+  given_formula (Nnf f) b numbers proper unbound accepted given n = record {
+    tree = t;
+    given = given;
+    text_is = e;
+    formula = same_formula n (subst (IsSessionFormula z.context (length z.names)) (sym given)
+        (negated_formula z.context (length z.names) (resolved z (Nnf f)) (resolved_one z limit u (Nnf f) numbers proper unbound accepted)));
+    numbers = λ k. subst (Every AtomFits) (sym given) (negated_fits (resolved z (Nnf f)) (resolved_numbers z limit u (Nnf f) numbers proper unbound accepted));
+    low = λ k. absurd k;
+  }
+  given_formula (Pnf f) b numbers proper unbound accepted h n = record {
+    tree = t;
+    given = h;
+    text_is = e;
+    formula = subst (λ c. IsSessionFormula c (length next.names) t) (sym context)
+        (prenex_formula z.context z.names next.names (resolved z (Pnf f)) t (resolved_one z limit u (Pnf f) numbers proper unbound accepted) h.form n);
+    numbers = λ k. absurd k;
+    low = λ k. absurd k;
+  }
+  given_formula (Dnf f) b numbers proper unbound accepted h n = record {
+    tree = t;
+    given = h;
+    text_is = e;
+    formula = same_formula n (clean_one z limit u (Dnf f) numbers proper unbound accepted Conjunction t h);
+    numbers = λ k. absurd k;
+    low = λ k. absurd k;
+  }
+  given_formula (Cnf f) b numbers proper unbound accepted h n = record {
+    tree = t;
+    given = h;
+    text_is = e;
+    formula = same_formula n (clean_one z limit u (Cnf f) numbers proper unbound accepted Disjunction t h);
+    numbers = λ k. absurd k;
+    low = λ k. absurd k;
+  }
+  given_formula (Simpl f given) b numbers proper unbound accepted h n = record {
+    tree = t;
+    given = h;
+    text_is = e;
+    formula = same_formula n (simplified_one z limit u (Simpl f given) numbers proper unbound accepted given t h);
+    numbers = λ k. absurd k;
+    low = λ k. absurd k;
+  }
+  given_formula (Qe f given) b numbers proper unbound accepted h n = record {
+    tree = t;
+    given = h;
+    text_is = e;
+    formula = same_formula n (condition_formula z limit u (Qe f given) numbers proper unbound accepted given t h);
+    numbers = λ k. absurd k;
+    low = λ k. absurd k;
+  }
+  given_formula (Qea f g) b numbers proper unbound accepted given n = absurd b
+  given_formula (Holds f es) b numbers proper unbound accepted given n = absurd b
+  given_formula (Sample f es) b numbers proper unbound accepted given n = absurd b
+
+told_formula : (z : State) (limit : ℕ) (c : CommandTree) (names : List (List ℕ)) (text : List ℕ) → IsBuiltFormula c → Tells z limit c names text → (t : Tree) × MayGive z limit c t × (text ≡ tree_text names t)
+told_formula z limit (Echo f) names text b h = h
+told_formula z limit (Nnf f) names text b h = h
+told_formula z limit (Pnf f) names text b h = h
+told_formula z limit (Qe f given) names text b h = h
+told_formula z limit (Dnf f) names text b h = h
+told_formula z limit (Cnf f) names text b h = h
+told_formula z limit (Simpl f g) names text b h = h
+told_formula z limit (Qea f g) names text b h = absurd b
+told_formula z limit (Holds f es) names text b h = absurd b
+told_formula z limit (Sample f es) names text b h = absurd b
 
 pub printed_is_formula : PrintedIsFormula
 printed_is_formula s limit piece c bytes next bare built spelled r =
     let a = subst (λ (u : StatementTree). Answers s limit u.printed u.action (line.Printed bytes) next) (spells_once piece r.statement (record { action = Say c; printed = true }) r.spelled spelled) r.answered in
     let z = named s c in
     let proper : IsProperCommand c = spelled_proper spelled in
-    let told = told_formula z limit c a.0.1.0 built a.0.1.1 in
+    let names : next.names ≡ a.names = ap (λ (y : State). y.names) a.after in
+    let told = told_formula z limit c a.names a.answered.1.0 built a.answered.1.1 in
+    let text_is : bytes.items ≡ tree_text next.names told.0 = a.answered.1.2.1 ∙ told.2 ∙ ap (λ ns. tree_text ns told.0) (sym names) in
     let numbers = numbers_stay (formula_of c) s.names (all_variables (given_of c) ++ entry_names (entries_of c)) in
-    let here : IsPrinted z limit c bytes.items = given_formula z limit (record { target = None; printed = true }) c built numbers (proper_formula c proper) bare.unbound a.0.0 bytes.items told.0 told.1 (a.0.1.2.1 ∙ told.2) in
-    let bare_here : IsBare z = record { names = named_variables s c proper bare.names; unbound = bare.unbound } in
-    (subst IsBare (sym a.1) bare_here, subst (λ (y : State). IsPrinted y limit c bytes.items) (sym a.1) here)
+    let after : HasAnswerNames z c next.names = subst (HasAnswerNames z c) (sym names) a.named in
+    let here : IsPrinted z limit c bytes.items next = given_formula z next limit (record { target = None; printed = true }) (ap (λ (y : State). y.context) a.after) bytes.items told.0 text_is c built numbers
+    (proper_formula c proper) bare.unbound a.answered.0 told.1 after in
+    let bare_next : IsBare next = record {
+      names = answer_variables z c next.names (named_variables s c proper bare.names) after;
+      unbound = ap (λ (y : State). y.bound) a.after ∙ bare.unbound;
+    } in
+    (bare_next, here)
 
 -- ---- a line that is read again
 
@@ -207,7 +230,7 @@ pub echo_is_answered : EchoIsAnswered
 echo_is_answered s limit piece f bytes next bare spelled r short shallow more =
     let p = printed_is_formula s limit piece (Echo f) bytes next bare tt spelled r in
     let q = p.1 in
-    let fits : Every AtomFits q.tree = q.numbers (λ h. h) in
+    let fits : Every AtomFits q.tree = q.numbers tt in
     let printable : IsPrintable (length next.names) q.tree = record { numbers = fits; names = q.formula.within; joins = q.formula.members } in
     let line_short : length (line_text next.names q.tree) ≤ BYTE_LIMIT = subst (λ text. length (text ++ codes ";") ≤ BYTE_LIMIT) q.text_is short in
     let line_shallow : ¬ (IsDeep (line_text next.names q.tree)) = subst (λ text. ¬ (IsDeep (text ++ codes ";"))) q.text_is shallow in

@@ -17,7 +17,7 @@ use Rattle.session_commands.specs.declared.line.Line.TheVariants as line
 use Rattle.session_commands.specs.declared.line.StatementError.{StatementError}
 use Rattle.session_commands.specs.declared.line.StatementError.TheVariants as error
 use Rattle.session_commands.specs.State.{State}
-use Rattle.session_commands.specs.Commands.{MayGive}
+use Rattle.session_commands.specs.Commands.{named, MayGive}
 use Rattle.session_commands.specs.Built.{IsBuiltFormula}
 use Rattle.session_commands.specs.Keeping.{IsSessionFormula}
 use Rattle.session_commands.specs.Reply.{Reply}
@@ -70,28 +70,28 @@ IsEcho (Qea f given) = ⊥
 IsEcho (Holds f es) = ⊥
 IsEcho (Sample f es) = ⊥
 
--- the command leaves a choice of formulas: it simplifies, brings to a clean form, or eliminates
-abbrev pub LeavesChoice : CommandTree → Type 0
-LeavesChoice (Echo f) = ⊥
-LeavesChoice (Nnf f) = ⊥
-LeavesChoice (Pnf f) = ⊥
-LeavesChoice (Dnf f) = Unit {0}
-LeavesChoice (Cnf f) = Unit {0}
-LeavesChoice (Simpl f given) = Unit {0}
-LeavesChoice (Qe f given) = Unit {0}
-LeavesChoice (Qea f given) = ⊥
-LeavesChoice (Holds f es) = ⊥
-LeavesChoice (Sample f es) = ⊥
+-- the numbers of the answer are those of the formula as it is read, or of its negation normal form
+abbrev pub KeepsNumbers : CommandTree → Type 0
+KeepsNumbers (Echo f) = Unit {0}
+KeepsNumbers (Nnf f) = Unit {0}
+KeepsNumbers (Pnf f) = ⊥
+KeepsNumbers (Dnf f) = ⊥
+KeepsNumbers (Cnf f) = ⊥
+KeepsNumbers (Simpl f given) = ⊥
+KeepsNumbers (Qe f given) = ⊥
+KeepsNumbers (Qea f given) = ⊥
+KeepsNumbers (Holds f es) = ⊥
+KeepsNumbers (Sample f es) = ⊥
 
--- The text is that of a formula which the command may give, and which is one as the session has it. It is no higher than a
--- resolved formula may be where the command asks for the formula as it is, and its numbers are within the limit where the
--- command leaves no choice.
-pub record IsPrinted (s : State) (limit : ℕ) (c : CommandTree) (text : List ℕ) : Type 0 where
+-- The text is that of a formula which the command may give in the state s, in which its variables have their numbers. In the state after it the formula is one as the
+-- session has it, and the text has its names. It is no higher than a resolved formula may be where the command asks for the formula as it is, and its numbers are within
+-- the limit where the command keeps them.
+pub record IsPrinted (s : State) (limit : ℕ) (c : CommandTree) (text : List ℕ) (next : State) : Type 0 where
   pub tree : Tree
   pub given : MayGive s limit c tree
-  pub text_is : text ≡ tree_text s.names tree
-  pub formula : IsSessionFormula s.context (length s.names) tree
-  pub numbers : ¬ (LeavesChoice c) → Every AtomFits tree
+  pub text_is : text ≡ tree_text next.names tree
+  pub formula : IsSessionFormula next.context (length next.names) tree
+  pub numbers : KeepsNumbers c → Every AtomFits tree
   pub low : IsEcho c → height tree ≤ most_height
 
 -- What a formula command prints in a state in which nothing is bound is such a text, and the state after it is again one in
@@ -100,7 +100,7 @@ abbrev pub PrintedIsFormula : Type 0
 PrintedIsFormula =
     (s : State) (limit : ℕ) (piece : List ℕ) (c : CommandTree) (bytes : Vec ℕ Global) (next : State) → IsBare s → IsBuiltFormula c →
     Spells piece (record { action = Say c; printed = true }) → Reply s limit piece (Ok (line.Printed bytes)) next →
-    IsBare next × IsPrinted next limit c bytes.items
+    IsBare next × IsPrinted (named s c) limit c bytes.items next
 
 -- So a line that a formula prints is answered with the same line in the state after it, where it is no longer and no deeper
 -- than the reader takes it.

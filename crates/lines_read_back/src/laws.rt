@@ -14,7 +14,8 @@ pub fn names_stay_writable()
 {}
 
 /// What a formula command prints in a state in which nothing is bound is the text of a formula as the session has it. Its
-/// numbers are within the limit but for an elimination, and it is low enough where it is printed as it is.
+/// numbers are within the limit where it is printed as it is or as a negation normal form, and it is low enough where it is
+/// printed as it is.
 pub fn printed_is_formula()
     ensures { PrintedIsFormula }
 {}

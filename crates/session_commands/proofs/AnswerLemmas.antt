@@ -1,17 +1,15 @@
 -- What a formula command answers is the answer of its statement.
-use Rattle.std.proofs.Common.{◌≡◌, ◌∙◌, ap, inl, inr, ℕ, List, Bool, Some, None, sym, subst, refl}
+use Rattle.std.proofs.Common.{ap, ◌≡◌, inr, ℕ, List, Bool, Some, None, sym, subst, refl}
 use Rattle.std.specs.Prelude.{Result, Ok, Err, IfOk, OnOk, IfErr, OnErr}
-use Rattle.qe_syntax.specs.declared.statement.PointEntry.{PointEntry}
-use Rattle.formula_meaning.specs.Formula.{none}
 use Rattle.qe_syntax.specs.Trees.{FormulaTree, FormulaTrees}
-use Rattle.qe_syntax.specs.Statements.{CommandTree, ActionTree, Empty, Ignored, Finish, Choose, Say, Assign, StatementTree, Simpl, Qe, Holds}
+use Rattle.qe_syntax.specs.Statements.{CommandTree, ActionTree, Empty, Ignored, Finish, Choose, Say, Assign, StatementTree, Simpl, Qe}
 use Rattle.redlog_reader.specs.Statement.{Spells}
 use Rattle.session_commands.specs.declared.line.Line.{Line}
 use Rattle.session_commands.specs.declared.formulas.Wanted.{Wanted}
 use Rattle.session_commands.specs.declared.formulas.Wanted.TheVariants as wanted
 use Rattle.session_commands.specs.declared.formulas.Way.TheVariants as way
-use Rattle.session_commands.specs.State.{State}
-use Rattle.session_commands.specs.Commands.{named}
+use Rattle.session_commands.specs.State.{State, with_names}
+use Rattle.session_commands.specs.Commands.{named, HasAnswerNames}
 use Rattle.session_commands.specs.Steps.{command_of, use_of, IsGiven}
 use Rattle.session_commands.specs.declared.line.StatementError.{StatementError}
 use Rattle.session_commands.specs.declared.line.StatementError.TheVariants as error
@@ -24,51 +22,71 @@ ok_map : {E : Type 0} {P Q : Line → Type 0} (r : Result Line E) → ((answer :
 ok_map (Ok answer) h k = h answer k
 ok_map (Err e) h k = tt
 
-given_answered : (w : Wanted) (f : FormulaTree) (s next : State) (limit : ℕ) (printed : Bool) (answer : Line) → IsGiven (named s (command_of w f)) limit (use_of None printed) (command_of w f) answer next
-    → IsCommandAnswered s limit printed (command_of w f) answer next
-given_answered wanted.Given f s next limit printed answer h = record { built = tt; answered = (h.accepted, (_, (h.formula, h.given, refl), h.line)); after = h.after }
-given_answered wanted.NegationNormal f s next limit printed answer h = record { built = tt; answered = (h.accepted, (_, (h.formula, h.given, refl), h.line)); after = h.after }
-given_answered (wanted.Distributed way.Disjunctive) f s next limit printed answer h = record { built = tt; answered = (h.accepted, (_, (h.formula, h.given, refl), h.line)); after = h.after }
-given_answered (wanted.Distributed way.Conjunctive) f s next limit printed answer h = record { built = tt; answered = (h.accepted, (_, (h.formula, h.given, refl), h.line)); after = h.after }
-given_answered (wanted.Simplified given) f s next limit printed answer h = record { built = tt; answered = (h.accepted, (_, (h.formula, h.given, refl), h.line)); after = h.after }
-given_answered (wanted.Eliminated given) f s next limit printed answer h = record { built = tt; answered = (h.accepted, (_, (h.formula, h.given, refl), h.line)); after = h.after }
+-- a command that gives a formula, whatever form it takes
+one_answered : (d : CommandTree) → IsBuiltCommand d → ((s : State) (limit : ℕ) (names : List (List ℕ)) (text : List ℕ) → IsFormulaText s limit d names text → Tells s limit d names text)
+    → (s next : State) (limit : ℕ) (printed : Bool) (answer : Line) → IsGiven (named s d) limit (use_of None printed) d answer next → IsCommandAnswered s limit printed d answer next
+one_answered d built tells s next limit printed answer h = record {
+  built = built;
+  answered = record {
+    names = h.names;
+    named = h.named;
+    answered = (h.accepted, (formula_line None h.names h.formula, tells (named s d) limit h.names _ (h.formula, h.given, refl), h.line));
+    after = h.after;
+  };
+}
 
-given_assigned : (w : Wanted) (f : FormulaTree) (s next : State) (limit : ℕ) (printed : Bool) (x : List ℕ) (answer : Line) → IsGiven (named s (command_of w f)) limit (use_of (Some x) printed) (command_of w f) answer next
-    → IsAssigned s limit printed x (command_of w f) answer next
-given_assigned wanted.Given f s next limit printed x answer h = record { built = tt; answered = record { accepted = h.accepted; formula = h.formula; given = h.given; line = h.line; binds = h.after } }
-given_assigned wanted.NegationNormal f s next limit printed x answer h = record { built = tt; answered = record { accepted = h.accepted; formula = h.formula; given = h.given; line = h.line; binds = h.after } }
-given_assigned (wanted.Distributed way.Disjunctive) f s next limit printed x answer h = record { built = tt; answered = record { accepted = h.accepted; formula = h.formula; given = h.given; line = h.line; binds = h.after } }
-given_assigned (wanted.Distributed way.Conjunctive) f s next limit printed x answer h = record { built = tt; answered = record { accepted = h.accepted; formula = h.formula; given = h.given; line = h.line; binds = h.after } }
-given_assigned (wanted.Simplified given) f s next limit printed x answer h = record { built = tt; answered = record { accepted = h.accepted; formula = h.formula; given = h.given; line = h.line; binds = h.after } }
-given_assigned (wanted.Eliminated given) f s next limit printed x answer h = record { built = tt; answered = record { accepted = h.accepted; formula = h.formula; given = h.given; line = h.line; binds = h.after } }
+one_assigned : (d : CommandTree) → IsBuiltFormula d → (s next : State) (limit : ℕ) (printed : Bool) (x : List ℕ) (answer : Line) → IsGiven (named s d) limit (use_of (Some x) printed) d answer next
+    → IsAssigned s limit printed x d answer next
+one_assigned d built s next limit printed x answer h = record {
+  built = built;
+  answered = record { accepted = h.accepted; formula = h.formula; given = h.given; names = h.names; named = h.named; line = h.line; binds = h.after };
+}
+
+-- each form that is wanted has such a command
+formula_built : (w : Wanted) (f : FormulaTree) → IsBuiltCommand (command_of w f)
+formula_built wanted.Given f = tt
+formula_built wanted.NegationNormal f = tt
+formula_built wanted.Prenex f = tt
+formula_built (wanted.Distributed way.Disjunctive) f = tt
+formula_built (wanted.Distributed way.Conjunctive) f = tt
+formula_built (wanted.Simplified given) f = tt
+formula_built (wanted.Eliminated given) f = tt
+
+assignment_built : (w : Wanted) (f : FormulaTree) → IsBuiltFormula (command_of w f)
+assignment_built wanted.Given f = tt
+assignment_built wanted.NegationNormal f = tt
+assignment_built wanted.Prenex f = tt
+assignment_built (wanted.Distributed way.Disjunctive) f = tt
+assignment_built (wanted.Distributed way.Conjunctive) f = tt
+assignment_built (wanted.Simplified given) f = tt
+assignment_built (wanted.Eliminated given) f = tt
+
+formula_told : (w : Wanted) (f : FormulaTree) (s : State) (limit : ℕ) (names : List (List ℕ)) (text : List ℕ) → IsFormulaText s limit (command_of w f) names text → Tells s limit (command_of w f) names text
+formula_told wanted.Given f s limit names text h = h
+formula_told wanted.NegationNormal f s limit names text h = h
+formula_told wanted.Prenex f s limit names text h = h
+formula_told (wanted.Distributed way.Disjunctive) f s limit names text h = h
+formula_told (wanted.Distributed way.Conjunctive) f s limit names text h = h
+formula_told (wanted.Simplified given) f s limit names text h = h
+formula_told (wanted.Eliminated given) f s limit names text h = h
 
 -- the same of a result, for a command that is known to be this one
 pub answered_as : {E : Type 0} (r : Result Line E) (w : Wanted) (f : FormulaTree) (c : CommandTree) (s next : State) (limit : ℕ) (printed : Bool) → c ≡ command_of w f
     → IfOk r (λ answer. IsGiven (named s (command_of w f)) limit (use_of None printed) (command_of w f) answer next) → IfOk r (λ answer. IsCommandAnswered s limit printed c answer next)
-answered_as (Ok answer) w f c s next limit printed e h = subst (λ d. IsCommandAnswered s limit printed d answer next) (sym e) (given_answered w f s next limit printed answer h)
+answered_as (Ok answer) w f c s next limit printed e h = subst (λ d. IsCommandAnswered s limit printed d answer next) (sym e) (one_answered (command_of w f) (formula_built w f) (formula_told w f) s next limit printed answer h)
 answered_as (Err e) w f c s next limit printed p h = tt
 
 pub assigned_as : {E : Type 0} (r : Result Line E) (w : Wanted) (f : FormulaTree) (c : CommandTree) (s next : State) (limit : ℕ) (printed : Bool) (x : List ℕ) → c ≡ command_of w f
     → IfOk r (λ answer. IsGiven (named s (command_of w f)) limit (use_of (Some x) printed) (command_of w f) answer next) → IfOk r (λ answer. IsAssigned s limit printed x c answer next)
-assigned_as (Ok answer) w f c s next limit printed x e h = subst (λ d. IsAssigned s limit printed x d answer next) (sym e) (given_assigned w f s next limit printed x answer h)
+assigned_as (Ok answer) w f c s next limit printed x e h = subst (λ d. IsAssigned s limit printed x d answer next) (sym e) (one_assigned (command_of w f) (assignment_built w f) s next limit printed x answer h)
 assigned_as (Err e) w f c s next limit printed x p h = tt
-
--- a command that gives a formula, whatever form it takes
-one_answered : (d : CommandTree) → IsBuiltCommand d → ((s : State) (limit : ℕ) (text : List ℕ) → IsFormulaText s limit d text → Tells s limit d text)
-    → (s next : State) (limit : ℕ) (printed : Bool) (answer : Line) → IsGiven (named s d) limit (use_of None printed) d answer next → IsCommandAnswered s limit printed d answer next
-one_answered d built tells s next limit printed answer h =
-    record { built = built; answered = (h.accepted, (formula_line None (named s d).names h.formula, tells (named s d) limit _ (h.formula, h.given, refl), h.line)); after = h.after }
-
-one_assigned : (d : CommandTree) → IsBuiltFormula d → (s next : State) (limit : ℕ) (printed : Bool) (x : List ℕ) (answer : Line) → IsGiven (named s d) limit (use_of (Some x) printed) d answer next
-    → IsAssigned s limit printed x d answer next
-one_assigned d built s next limit printed x answer h = record { built = built; answered = record { accepted = h.accepted; formula = h.formula; given = h.given; line = h.line; binds = h.after } }
 
 module _ {E : Type 0} (r : Result Line E) (f : FormulaTree) (gs : FormulaTrees) (c : CommandTree) (s next : State) (limit : ℕ) (printed : Bool) where
   pub simplification_answered : c ≡ Simpl f gs → IfOk r (λ answer. IsGiven (named s (Simpl f gs)) limit (use_of None printed) (Simpl f gs) answer next) → IfOk r (λ answer. IsCommandAnswered s limit printed c answer next)
-  simplification_answered e h = ok_map r (λ answer k. subst (λ d. IsCommandAnswered s limit printed d answer next) (sym e) (one_answered (Simpl f gs) tt (λ s l t t'. t') s next limit printed answer k)) h
+  simplification_answered e h = ok_map r (λ answer k. subst (λ d. IsCommandAnswered s limit printed d answer next) (sym e) (one_answered (Simpl f gs) tt (λ s l ns t h. h) s next limit printed answer k)) h
 
   pub elimination_answered : c ≡ Qe f gs → IfOk r (λ answer. IsGiven (named s (Qe f gs)) limit (use_of None printed) (Qe f gs) answer next) → IfOk r (λ answer. IsCommandAnswered s limit printed c answer next)
-  elimination_answered e h = ok_map r (λ answer k. subst (λ d. IsCommandAnswered s limit printed d answer next) (sym e) (one_answered (Qe f gs) tt (λ s l t t'. t') s next limit printed answer k)) h
+  elimination_answered e h = ok_map r (λ answer k. subst (λ d. IsCommandAnswered s limit printed d answer next) (sym e) (one_answered (Qe f gs) tt (λ s l ns t h. h) s next limit printed answer k)) h
 
   module _ (x : List ℕ) where
     pub simplification_assigned : c ≡ Simpl f gs → IfOk r (λ answer. IsGiven (named s (Simpl f gs)) limit (use_of (Some x) printed) (Simpl f gs) answer next) → IfOk r (λ answer. IsAssigned s limit printed x c answer next)
@@ -77,11 +95,20 @@ module _ {E : Type 0} (r : Result Line E) (f : FormulaTree) (gs : FormulaTrees) 
     pub elimination_assigned : c ≡ Qe f gs → IfOk r (λ answer. IsGiven (named s (Qe f gs)) limit (use_of (Some x) printed) (Qe f gs) answer next) → IfOk r (λ answer. IsAssigned s limit printed x c answer next)
     elimination_assigned e h = ok_map r (λ answer k. subst (λ d. IsAssigned s limit printed x d answer next) (sym e) (one_assigned (Qe f gs) tt s next limit printed x answer k)) h
 
--- the truth at a point
-pub holds_answered : {E : Type 0} (r : Result Line E) (f : FormulaTree) (es : List PointEntry) (c : CommandTree) (s next : State) (limit : ℕ) (printed : Bool) → c ≡ Holds f es
-    → IfOk r (AnswersCommand (named s (Holds f es)) limit printed (Holds f es)) → OnOk r (next ≡ named s (Holds f es)) → IfOk r (λ answer. IsCommandAnswered s limit printed c answer next)
-holds_answered (Ok answer) f es c s next limit printed e h k = subst (λ d. IsCommandAnswered s limit printed d answer next) (sym e) (record { built = tt; answered = h; after = k })
-holds_answered (Err e) f es c s next limit printed p h k = tt
+-- a command that gives no formula
+pub query_answered : {E : Type 0} (r : Result Line E) (d c : CommandTree) (s next : State) (limit : ℕ) (printed : Bool) → IsBuiltCommand d → c ≡ d → HasAnswerNames (named s d) d (named s d).names
+    → IfOk r (AnswersCommand (named s d) limit printed d next.names) → OnOk r (next ≡ named s d) → IfOk r (λ answer. IsCommandAnswered s limit printed c answer next)
+query_answered (Ok answer) d c s next limit printed built e same h k =
+    subst (λ x. IsCommandAnswered s limit printed x answer next) (sym e) (record {
+      built = built;
+      answered = record {
+        names = next.names;
+        named = subst (λ (ns : List (List ℕ)). HasAnswerNames (named s d) d ns) (sym (ap (λ (u : State). u.names) k)) same;
+        answered = h;
+        after = subst (λ (u : State). u ≡ with_names (named s d) u.names) (sym k) refl;
+      };
+    })
+query_answered (Err e) d c s next limit printed built p same h k = tt
 
 -- a built command that is refused is stopped
 module _ (s : State) (limit : ℕ) (printed : Bool) (c : CommandTree) (built : IsBuiltCommand c) where
@@ -106,34 +133,18 @@ module _ (s : State) (limit : ℕ) (printed : Bool) (c : CommandTree) (built : I
   command_stop error.Bindings h = (built, h)
   command_stop error.Text h = (built, h)
 
-pub holds_stopped : {T : Type 0} (r : Result T StatementError) (f : FormulaTree) (es : List PointEntry) (c : CommandTree) (s : State) (limit : ℕ) (printed : Bool) → c ≡ Holds f es
-    → IfErr r (Refuses (named s (Holds f es)) limit (use_of None printed) (Holds f es)) → IfErr r (IsCommandStopped s limit printed c)
-holds_stopped (Ok x) f es c s limit printed e h = tt
-holds_stopped (Err e) f es c s limit printed p h = subst (λ d. IsCommandStopped s limit printed d e) (sym p) (command_stop s limit printed (Holds f es) tt e h)
+pub query_stopped : {T : Type 0} (r : Result T StatementError) (d c : CommandTree) (s : State) (limit : ℕ) (printed : Bool) → IsBuiltCommand d → c ≡ d → IfErr r (Refuses (named s d) limit (use_of None printed) d)
+    → IfErr r (IsCommandStopped s limit printed c)
+query_stopped (Ok x) d c s limit printed built e h = tt
+query_stopped (Err e) d c s limit printed built p h = subst (λ x. IsCommandStopped s limit printed x e) (sym p) (command_stop s limit printed d built e h)
 
 -- a refused command that gives a formula
-formula_built : (w : Wanted) (f : FormulaTree) → IsBuiltCommand (command_of w f)
-formula_built wanted.Given f = tt
-formula_built wanted.NegationNormal f = tt
-formula_built (wanted.Distributed way.Disjunctive) f = tt
-formula_built (wanted.Distributed way.Conjunctive) f = tt
-formula_built (wanted.Simplified given) f = tt
-formula_built (wanted.Eliminated given) f = tt
-
 pub formula_stopped : {T : Type 0} (r : Result T StatementError) (w : Wanted) (f : FormulaTree) (c : CommandTree) (s : State) (limit : ℕ) (printed : Bool) → c ≡ command_of w f
     → IfErr r (Refuses (named s (command_of w f)) limit (use_of None printed) (command_of w f)) → IfErr r (IsCommandStopped s limit printed c)
 formula_stopped (Ok x) w f c s limit printed e h = tt
 formula_stopped (Err e) w f c s limit printed p h = subst (λ d. IsCommandStopped s limit printed d e) (sym p) (command_stop s limit printed (command_of w f) (formula_built w f) e h)
 
 -- the same of an assignment
-assignment_built : (w : Wanted) (f : FormulaTree) → IsBuiltFormula (command_of w f)
-assignment_built wanted.Given f = tt
-assignment_built wanted.NegationNormal f = tt
-assignment_built (wanted.Distributed way.Disjunctive) f = tt
-assignment_built (wanted.Distributed way.Conjunctive) f = tt
-assignment_built (wanted.Simplified given) f = tt
-assignment_built (wanted.Eliminated given) f = tt
-
 module _ (s : State) (limit : ℕ) (printed : Bool) (x : List ℕ) (c : CommandTree) (built : IsBuiltFormula c) where
   assignment_stop : (e : StatementError) → Refuses (named s c) limit (use_of (Some x) printed) c e → IsAssignmentStopped s limit printed x c e
   assignment_stop error.Syntax h = absurd h.applies
@@ -165,7 +176,7 @@ assignment_stopped (Err e) w f c s limit printed x p h = subst (λ d. IsAssignme
 pub say_answered : {E : Type 0} (r : Result Line E) (a : ActionTree) (c : CommandTree) (s next : State) (limit : ℕ) (printed : Bool) → a ≡ Say c → IfOk r (λ answer. IsCommandAnswered s limit printed c answer next)
     → IfOk r (λ answer. IsAnswered s limit (record { action = a; printed = printed }) answer next)
 say_answered (Ok answer) a c s next limit printed e h =
-    subst (λ b. IsAnswered s limit (record { action = b; printed = printed }) answer next) (sym e) (record { built = h.built; answered = (h.answered, h.after) })
+    subst (λ b. IsAnswered s limit (record { action = b; printed = printed }) answer next) (sym e) (record { built = h.built; answered = h.answered })
 say_answered (Err e) a c s next limit printed p h = tt
 
 -- ---- the reply

@@ -23,7 +23,7 @@ use Rattle.session_commands.specs.State.{State}
 use Rattle.session_commands.specs.Parts.{given_of}
 use Rattle.session_commands.specs.Commands.{formula_of, entries_of}
 use Rattle.session_commands.specs.Points.{MeanNoPoint}
-use Rattle.session_commands.specs.Causes.{Use, AsksAtPoint, InSomePart, IsCause, rank, HasNoCauseBelow, Refuses, IsAccepted}
+use Rattle.session_commands.specs.Causes.{Use, AsksAtPoint, InSomePart, RenamingPasses, IsCause, rank, HasNoCauseBelow, Refuses, IsAccepted}
 use Rattle.session_commands.specs.Steps.{static_refusal, HasNumbers, IsReadable, ArePartsNumbered, ArePartsReadable, ArePartsUnread, AppliesToPart, IsFirstPartCause}
 use Rattle.session_commands.proofs.PartLemmas.{some_part, no_part}
 
@@ -48,7 +48,7 @@ rank_is static.Memory = refl
 pub earlier : (d e : StaticError) → rank (static_refusal d) < rank (static_refusal e) → reading.rank d < reading.rank e
 earlier d e h = let p = rank_is d in let q = rank_is e in omega arith
 
-module _ (s : State) (u : Use) (c : CommandTree) (numbers : ArePartsNumbered s.names (formula_of c) (given_of c)) where
+module _ (s : State) (limit : ℕ) (u : Use) (c : CommandTree) (numbers : ArePartsNumbered s.names (formula_of c) (given_of c)) where
   abbrev Applies : StaticError → Type 0
   Applies d = AppliesToPart s (formula_of c) (given_of c) d
 
@@ -73,7 +73,7 @@ module _ (s : State) (u : Use) (c : CommandTree) (numbers : ArePartsNumbered s.n
   overflow_here h = after_here (λ ns. OverflowsInReading s.context s.bound (place ns)) h
 
   -- a cause in reading is one of the command
-  pub cause_of_reading : (d : StaticError) → Applies d → (d ≡ static.Memory) ⊎ IsCause s u c (static_refusal d)
+  pub cause_of_reading : (d : StaticError) → Applies d → (d ≡ static.Memory) ⊎ IsCause s limit u c (static_refusal d)
   cause_of_reading static.Unbound h = inr h
   cause_of_reading static.FormulaAsTerm h = inr (inl h)
   cause_of_reading static.Nonlinear h = inr (here_after (λ ns. IsNonlinear s.context (place ns)) h)
@@ -86,28 +86,29 @@ module _ (s : State) (u : Use) (c : CommandTree) (numbers : ArePartsNumbered s.n
 
   -- where no cause in reading applies below a place of the order, nor one of the point or of free names, none does
   pub none_below : (m : ℕ) → m ≤ 16 → ((d : StaticError) → rank (static_refusal d) < m → ¬ (Applies d)) → (6 < m → ¬ (SomeOf (λ (e : PointEntry). IsBound s.bound e.name) (entries_of c)))
-      → (12 < m → ¬ (MeanNoPoint s.context (entries_of c))) → (13 < m → ¬ (IsCause s u c error.Unvalued)) → (14 < m → ¬ (IsCause s u c error.Quantified)) → (15 < m → ¬ (PassesLimit (entries_of c))) → HasNoCauseBelow s u c m
-  none_below m b first bound point valued plain within error.Unbound l k = first static.Unbound l k
-  none_below m b first bound point valued plain within error.FormulaAsTerm l (inl k) = first static.FormulaAsTerm l k
-  none_below m b first bound point valued plain within error.FormulaAsTerm l (inr k) = bound l k
-  none_below m b first bound point valued plain within error.Nonlinear l k = first static.Nonlinear l (linear_here k)
-  none_below m b first bound point valued plain within error.Division l k = first static.Division l (divides_here k)
-  none_below m b first bound point valued plain within error.CongruenceContext l k = first static.CongruenceContext l k
-  none_below m b first bound point valued plain within error.Modulus l k = first static.Modulus l (modulus_here k)
-  none_below m b first bound point valued plain within error.Depth l k = first static.Depth l k
-  none_below m b first bound point valued plain within error.Point l k = point l k
-  none_below m b first bound point valued plain within error.Unvalued l k = valued l k
-  none_below m b first bound point valued plain within error.Quantified l k = plain l k
-  none_below m b first bound point valued plain within error.Overflow l (inl k) = first static.Overflow l (overflow_here k)
-  none_below m b first bound point valued plain within error.Overflow l (inr k) = within l k
-  none_below m b first bound point valued plain within error.Bindings l k = absurd (omega arith)
-  none_below m b first bound point valued plain within error.Text l k = absurd (omega arith)
-  none_below m b first bound point valued plain within error.Long l k = k
-  none_below m b first bound point valued plain within error.Lexical l k = k
-  none_below m b first bound point valued plain within error.Nesting l k = k
-  none_below m b first bound point valued plain within error.Syntax l k = k
-  none_below m b first bound point valued plain within error.Nodes l k = k
-  none_below m b first bound point valued plain within error.Memory l k = k
+      → (12 < m → ¬ (MeanNoPoint s.context (entries_of c))) → (13 < m → ¬ (IsCause s limit u c error.Unvalued)) → (14 < m → ¬ (IsCause s limit u c error.Quantified)) → (15 < m → ¬ (PassesLimit (entries_of c))) → (15 < m → ¬ (RenamingPasses s limit c)) → HasNoCauseBelow s limit u c m
+  none_below m b first bound point valued plain within fits error.Unbound l k = first static.Unbound l k
+  none_below m b first bound point valued plain within fits error.FormulaAsTerm l (inl k) = first static.FormulaAsTerm l k
+  none_below m b first bound point valued plain within fits error.FormulaAsTerm l (inr k) = bound l k
+  none_below m b first bound point valued plain within fits error.Nonlinear l k = first static.Nonlinear l (linear_here k)
+  none_below m b first bound point valued plain within fits error.Division l k = first static.Division l (divides_here k)
+  none_below m b first bound point valued plain within fits error.CongruenceContext l k = first static.CongruenceContext l k
+  none_below m b first bound point valued plain within fits error.Modulus l k = first static.Modulus l (modulus_here k)
+  none_below m b first bound point valued plain within fits error.Depth l k = first static.Depth l k
+  none_below m b first bound point valued plain within fits error.Point l k = point l k
+  none_below m b first bound point valued plain within fits error.Unvalued l k = valued l k
+  none_below m b first bound point valued plain within fits error.Quantified l k = plain l k
+  none_below m b first bound point valued plain within fits error.Overflow l (inl k) = first static.Overflow l (overflow_here k)
+  none_below m b first bound point valued plain within fits error.Overflow l (inr (inl k)) = within l k
+  none_below m b first bound point valued plain within fits error.Overflow l (inr (inr k)) = fits l k
+  none_below m b first bound point valued plain within fits error.Bindings l k = absurd (omega arith)
+  none_below m b first bound point valued plain within fits error.Text l k = absurd (omega arith)
+  none_below m b first bound point valued plain within fits error.Long l k = k
+  none_below m b first bound point valued plain within fits error.Lexical l k = k
+  none_below m b first bound point valued plain within fits error.Nesting l k = k
+  none_below m b first bound point valued plain within fits error.Syntax l k = k
+  none_below m b first bound point valued plain within fits error.Nodes l k = k
+  none_below m b first bound point valued plain within fits error.Memory l k = k
 
 -- ---- commands without a point
 
@@ -141,7 +142,7 @@ pub record IsPlainCommand (c : CommandTree) : Type 0 where
   pub no_entries : entries_of c ≡ []
   pub no_point : ¬ (AsksAtPoint c)
 
-module _ (s : State) (u : Use) (c : CommandTree) (numbers : ArePartsNumbered s.names (formula_of c) (given_of c)) (single : IsPlainCommand c) where
+module _ (s : State) (limit : ℕ) (u : Use) (c : CommandTree) (numbers : ArePartsNumbered s.names (formula_of c) (given_of c)) (single : IsPlainCommand c) where
   no_bound : ¬ (SomeOf (λ (e : PointEntry). IsBound s.bound e.name) (entries_of c))
   no_bound h = let k = subst (SomeOf (λ (e : PointEntry). IsBound s.bound e.name)) single.no_entries h in absurd k
 
@@ -151,49 +152,52 @@ module _ (s : State) (u : Use) (c : CommandTree) (numbers : ArePartsNumbered s.n
   no_past : ¬ (PassesLimit (entries_of c))
   no_past h = nothing_passes (subst PassesLimit single.no_entries h)
 
-  plain_below : (m : ℕ) → m ≤ 16 → (14 < m → ¬ (IsCause s u c error.Quantified)) → ((d : StaticError) → rank (static_refusal d) < m → ¬ (AppliesToPart s (formula_of c) (given_of c) d)) → HasNoCauseBelow s u c m
-  plain_below m b plain first = none_below s u c numbers m b first (λ l. no_bound) (λ l. no_meaning) (λ l k. single.no_point k.0) plain (λ l. no_past)
+  plain_below : (m : ℕ) → m ≤ 16 → (14 < m → ¬ (IsCause s limit u c error.Quantified)) → (15 < m → ¬ (RenamingPasses s limit c)) → ((d : StaticError) → rank (static_refusal d) < m → ¬ (AppliesToPart s (formula_of c) (given_of c) d)) → HasNoCauseBelow s limit u c m
+  plain_below m b plain fits first = none_below s limit u c numbers m b first (λ l. no_bound) (λ l. no_meaning) (λ l k. single.no_point k.0) plain (λ l. no_past) fits
 
-  unread_one : (limit : ℕ) (d : StaticError) → (d ≡ static.Overflow → ¬ (IsCause s u c error.Quantified)) → IsFirstPartCause s (formula_of c) (given_of c) d → Refuses s limit u c (static_refusal d)
-  unread_one limit static.Memory plain h = tt
-  unread_one limit static.Unbound plain h = record { applies = h.applies; first = plain_below 5 (omega arith) (λ l. absurd (omega arith)) (λ e l. h.first e (earlier e static.Unbound l)) }
-  unread_one limit static.FormulaAsTerm plain h = record { applies = inl h.applies; first = plain_below 6 (omega arith) (λ l. absurd (omega arith)) (λ e l. h.first e (earlier e static.FormulaAsTerm l)) }
-  unread_one limit static.Nonlinear plain h = record {
-    applies = here_after s u c numbers (λ ns. IsNonlinear s.context (place ns)) h.applies;
-    first = plain_below 7 (omega arith) (λ l. absurd (omega arith)) (λ e l. h.first e (earlier e static.Nonlinear l));
+  unread_one : (d : StaticError) → (d ≡ static.Overflow → ¬ (IsCause s limit u c error.Quantified)) → IsFirstPartCause s (formula_of c) (given_of c) d → Refuses s limit u c (static_refusal d)
+  unread_one static.Memory plain h = tt
+  unread_one static.Unbound plain h = record { applies = h.applies; first = plain_below 5 (omega arith) (λ l. absurd (omega arith)) (λ l. absurd (omega arith)) (λ e l. h.first e (earlier e static.Unbound l)) }
+  unread_one static.FormulaAsTerm plain h = record { applies = inl h.applies; first = plain_below 6 (omega arith) (λ l. absurd (omega arith)) (λ l. absurd (omega arith)) (λ e l. h.first e (earlier e static.FormulaAsTerm l)) }
+  unread_one static.Nonlinear plain h = record {
+    applies = here_after s limit u c numbers (λ ns. IsNonlinear s.context (place ns)) h.applies;
+    first = plain_below 7 (omega arith) (λ l. absurd (omega arith)) (λ l. absurd (omega arith)) (λ e l. h.first e (earlier e static.Nonlinear l));
   }
-  unread_one limit static.Division plain h = record {
-    applies = here_after s u c numbers (λ ns. Divides s.context (place ns)) h.applies;
-    first = plain_below 8 (omega arith) (λ l. absurd (omega arith)) (λ e l. h.first e (earlier e static.Division l));
+  unread_one static.Division plain h = record {
+    applies = here_after s limit u c numbers (λ ns. Divides s.context (place ns)) h.applies;
+    first = plain_below 8 (omega arith) (λ l. absurd (omega arith)) (λ l. absurd (omega arith)) (λ e l. h.first e (earlier e static.Division l));
   }
-  unread_one limit static.CongruenceContext plain h = record { applies = h.applies; first = plain_below 9 (omega arith) (λ l. absurd (omega arith)) (λ e l. h.first e (earlier e static.CongruenceContext l)) }
-  unread_one limit static.Modulus plain h = record {
-    applies = here_after s u c numbers (λ ns. IsBadModulus s.context (place ns)) h.applies;
-    first = plain_below 10 (omega arith) (λ l. absurd (omega arith)) (λ e l. h.first e (earlier e static.Modulus l));
+  unread_one static.CongruenceContext plain h = record { applies = h.applies; first = plain_below 9 (omega arith) (λ l. absurd (omega arith)) (λ l. absurd (omega arith)) (λ e l. h.first e (earlier e static.CongruenceContext l)) }
+  unread_one static.Modulus plain h = record {
+    applies = here_after s limit u c numbers (λ ns. IsBadModulus s.context (place ns)) h.applies;
+    first = plain_below 10 (omega arith) (λ l. absurd (omega arith)) (λ l. absurd (omega arith)) (λ e l. h.first e (earlier e static.Modulus l));
   }
-  unread_one limit static.Depth plain h = record { applies = h.applies; first = plain_below 11 (omega arith) (λ l. absurd (omega arith)) (λ e l. h.first e (earlier e static.Depth l)) }
-  unread_one limit static.Overflow plain h = record {
-    applies = inl (inl (here_after s u c numbers (λ ns. OverflowsInReading s.context s.bound (place ns)) h.applies));
-    first = plain_below 15 (omega arith) (λ l. plain refl) (λ e l. h.first e (earlier e static.Overflow l));
+  unread_one static.Depth plain h = record { applies = h.applies; first = plain_below 11 (omega arith) (λ l. absurd (omega arith)) (λ l. absurd (omega arith)) (λ e l. h.first e (earlier e static.Depth l)) }
+  unread_one static.Overflow plain h = record {
+    applies = inl (inl (here_after s limit u c numbers (λ ns. OverflowsInReading s.context s.bound (place ns)) h.applies));
+    first = plain_below 15 (omega arith) (λ l. plain refl) (λ l. absurd (omega arith)) (λ e l. h.first e (earlier e static.Overflow l));
   }
 
-  pub unread_refuses : (limit : ℕ) (e : StatementError) → (e ≡ error.Overflow → ¬ (IsCause s u c error.Quantified)) → ArePartsUnread s (formula_of c) (given_of c) e → Refuses s limit u c e
-  unread_refuses limit e plain h = subst (Refuses s limit u c) (sym h.1) (unread_one limit h.0 (λ o. plain (h.1 ∙ ap static_refusal o)) h.2)
+  pub unread_refuses : (e : StatementError) → (e ≡ error.Overflow → ¬ (IsCause s limit u c error.Quantified)) → ArePartsUnread s (formula_of c) (given_of c) e → Refuses s limit u c e
+  unread_refuses e plain h = subst (Refuses s limit u c) (sym h.1) (unread_one h.0 (λ o. plain (h.1 ∙ ap static_refusal o)) h.2)
 
   -- a quantifier stands in the formula, where nothing else is wrong but that its reading may overflow
-  pub quantified_refuses : (limit : ℕ) → IsCause s u c error.Quantified → ((d : StaticError) → rank (static_refusal d) < 14 → ¬ (AppliesToPart s (formula_of c) (given_of c) d)) → Refuses s limit u c error.Quantified
-  quantified_refuses limit h first = record { applies = h; first = plain_below 14 (omega arith) (λ l. absurd (omega arith)) first }
+  pub quantified_refuses : IsCause s limit u c error.Quantified → ((d : StaticError) → rank (static_refusal d) < 14 → ¬ (AppliesToPart s (formula_of c) (given_of c) d)) → Refuses s limit u c error.Quantified
+  quantified_refuses h first = record { applies = h; first = plain_below 14 (omega arith) (λ l. absurd (omega arith)) (λ l. absurd (omega arith)) first }
 
   readable_applies : ArePartsReadable s (formula_of c) (given_of c) → (d : StaticError) → rank (static_refusal d) < 16 → ¬ (AppliesToPart s (formula_of c) (given_of c) d)
   readable_applies h d l = no_part (IsReadable s) (λ g. reading.Applies s.context s.bound s.names g d) (λ g k. readable_part s g d l k) (formula_of c) (given_of c) h
 
-  pub readable_below : ArePartsReadable s (formula_of c) (given_of c) → ¬ (IsCause s u c error.Quantified) → HasNoCauseBelow s u c 16
-  readable_below h plain = plain_below 16 (omega arith) (λ l. plain) (readable_applies h)
+  pub ready_below : ArePartsReadable s (formula_of c) (given_of c) → ¬ (IsCause s limit u c error.Quantified) → HasNoCauseBelow s limit u c 15
+  ready_below h plain = plain_below 15 (omega arith) (λ l. plain) (λ l. absurd (omega arith)) (λ d l. readable_applies h d (omega arith))
+
+  pub readable_below : ArePartsReadable s (formula_of c) (given_of c) → ¬ (IsCause s limit u c error.Quantified) → ¬ (RenamingPasses s limit c) → HasNoCauseBelow s limit u c 16
+  readable_below h plain fits = plain_below 16 (omega arith) (λ l. plain) (λ l. fits) (readable_applies h)
 
 -- ---- the later causes
 
-module _ (s : State) (u : Use) (c : CommandTree) where
-  pub below_17 : HasNoCauseBelow s u c 16 → HasNoCauseBelow s u c 17
+module _ (s : State) (limit : ℕ) (u : Use) (c : CommandTree) where
+  pub below_17 : HasNoCauseBelow s limit u c 16 → HasNoCauseBelow s limit u c 17
   below_17 h error.Long l k = k
   below_17 h error.Lexical l k = k
   below_17 h error.Nesting l k = k
@@ -214,7 +218,7 @@ module _ (s : State) (u : Use) (c : CommandTree) where
   below_17 h error.Text l k = absurd (omega arith)
   below_17 h error.Memory l k = k
 
-  pub below_18 : HasNoCauseBelow s u c 17 → ¬ (IsCause s u c error.Bindings) → HasNoCauseBelow s u c 18
+  pub below_18 : HasNoCauseBelow s limit u c 17 → ¬ (IsCause s limit u c error.Bindings) → HasNoCauseBelow s limit u c 18
   below_18 h b error.Long l k = k
   below_18 h b error.Lexical l k = k
   below_18 h b error.Nesting l k = k
@@ -235,7 +239,7 @@ module _ (s : State) (u : Use) (c : CommandTree) where
   below_18 h b error.Text l k = absurd (omega arith)
   below_18 h b error.Memory l k = k
 
-  pub below_19 : HasNoCauseBelow s u c 18 → ¬ (IsCause s u c error.Text) → IsAccepted s u c
+  pub below_19 : HasNoCauseBelow s limit u c 18 → ¬ (IsCause s limit u c error.Text) → IsAccepted s limit u c
   below_19 h b error.Long l k = k
   below_19 h b error.Lexical l k = k
   below_19 h b error.Nesting l k = k

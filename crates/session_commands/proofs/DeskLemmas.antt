@@ -1,7 +1,7 @@
 -- What is kept on the desk while the store grows, and when its formulas are given up.
 use Rattle.std.proofs.Common.{◌≡◌, ℕ, ◌≤◌, List, [], ◌∷◌, ◌++◌, sym, ap, ◌∙◌, subst, refl, length, take, map, arith}
 use Rattle.std.proofs.lemmas.List.{length-map, length-append}
-use Rattle.std.specs.List.{AllByRecursion, IsDistinct, fold}
+use Rattle.std.specs.List.{AllByRecursion, IsDistinct}
 use Rattle.std.specs.Map.{keys_of}
 use Rattle.formula_meaning.specs.Context.{Context}
 use Rattle.formula_meaning.specs.Tree.{Tree}
@@ -10,18 +10,18 @@ use Rattle.atom_normal.specs.Atoms.{context_of}
 use Rattle.qe_syntax.specs.Value.{same_name}
 use Rattle.formula_tree.specs.declared.shape.Shape.{Shape}
 use Rattle.formula_tree.specs.Makers.{AreMade}
-use Rattle.formula_tree.specs.Names.{with_name}
 use Rattle.formula_tree.specs.Resolving.{BoundTrees}
-use Rattle.formula_tree.proofs.PlaceLaws.{after_distinct}
 use Rattle.formula_resolving.specs.Numbering.{Grows}
 use Rattle.formula_resolving.specs.Refusals.{AreIds, trees_bound}
 use Rattle.formula_store.specs.declared.id.FormulaId.{FormulaId}
 use Rattle.formula_store.specs.Nodes.{tree, IsId}
 use Rattle.session_commands.specs.declared.desk.Desk.{Desk}
-use Rattle.session_commands.specs.State.{State}
+use Rattle.session_commands.specs.State.{State, with_names}
 use Rattle.session_commands.specs.Keeping.{state_of, ids_bound, IsSound, IsDesk}
 use Rattle.session_commands.specs.Steps.{KeepsDesk, GrowsDesk}
 use Rattle.session_commands.proofs.BindingLemmas.{trees_kept, ids_kept, trees_by_parts, ids_by_list}
+use Rattle.session_commands.proofs.NameLemmas.{grows_itself}
+use Rattle.session_commands.proofs.NameLemmas.{grows_then as more_names}
 use Rattle.session_commands.proofs.SoundLemmas.{more_formula}
 use Rattle.session_commands.proofs.VariableLemmas.{AllVariables}
 
@@ -78,6 +78,19 @@ module _ (old : Desk) (bindings : List (List ℕ × FormulaId)) (nodes : List (S
 pub ids_as_many : (t u : FormulaId → Tree) (roots ids : List FormulaId) → map u ids ≡ map t roots → length ids ≡ length roots
 ids_as_many t u roots ids e = sym (length-map ids u) ∙ ap length e ∙ length-map roots t
 
+-- where the store and the names grew, the state has the new names
+pub grown_state : (old new : Desk) → AreIds (IsId old.store) old.bindings → GrowsDesk old new → state_of new ≡ with_names (state_of old) new.names
+grown_state old new ids g =
+    state_parts _ _ _ _ _ _ (ap context_of g.context) refl
+    (ap (trees_bound (tree new.store)) g.bindings ∙ trees_kept (IsId old.store) (tree old.store) (IsId new.store) (tree new.store) old.bindings g.store ids)
+
+pub grown_desk : (old new : Desk) → IsDesk old → GrowsDesk old new → IsDistinct same_name new.names → AllVariables new.names → IsDesk new
+grown_desk old new h g d v = record {
+  ids = subst (AreIds (IsId new.store)) (sym g.bindings) (ids_kept (IsId old.store) (tree old.store) (IsId new.store) (tree new.store) old.bindings g.store h.ids);
+  bound_once = subst (λ es. IsDistinct same_name (keys_of es)) (sym g.bindings) h.bound_once;
+  sound = subst IsSound (sym (grown_state old new h.ids g)) (sound_with (state_of old) new.names h.sound d v (length_grows old.names new.names g.names));
+}
+
 -- with nothing bound, in any theory
 pub cleared_desk : (old : Desk) (context : Theory) (bindings : List (List ℕ × FormulaId)) (nodes : List (Shape FormulaId)) (kept : ℕ) → bindings ≡ [] → IsDesk old
     → IsDesk (record { alloc = old.alloc; context = context; names = old.names; bindings = bindings; store = nodes; kept = kept })
@@ -96,6 +109,26 @@ pub grows_then : (first second third : Desk) → GrowsDesk first second → Keep
 grows_then first second third g k = record {
   context = k.context ∙ g.context;
   names = subst (Grows first.names) (sym k.names) g.names;
+  bindings = k.bindings ∙ g.bindings;
+  store = record { is = λ id h. k.store.is id (g.store.is id h); same = λ id h. k.store.same id (g.store.is id h) ∙ g.store.same id h };
+}
+
+-- what keeps all grows by nothing
+pub kept_grows : (old new : Desk) → KeepsDesk old new → GrowsDesk old new
+kept_grows old new k = record { context = k.context; names = subst (Grows old.names) (sym k.names) (grows_itself old.names); bindings = k.bindings; store = k.store }
+
+pub keeps_then_grows : (first second third : Desk) → KeepsDesk first second → GrowsDesk second third → GrowsDesk first third
+keeps_then_grows first second third k g = record {
+  context = g.context ∙ k.context;
+  names = subst (λ ns. Grows ns third.names) k.names g.names;
+  bindings = g.bindings ∙ k.bindings;
+  store = record { is = λ id h. g.store.is id (k.store.is id h); same = λ id h. g.store.same id (k.store.is id h) ∙ k.store.same id h };
+}
+
+pub grows_then_grows : (first second third : Desk) → GrowsDesk first second → GrowsDesk second third → GrowsDesk first third
+grows_then_grows first second third g k = record {
+  context = k.context ∙ g.context;
+  names = more_names first.names second.names third.names g.names k.names;
   bindings = k.bindings ∙ g.bindings;
   store = record { is = λ id h. k.store.is id (g.store.is id h); same = λ id h. k.store.same id (g.store.is id h) ∙ g.store.same id h };
 }

@@ -1,5 +1,5 @@
 -- Formulas that an elimination gives are formulas of the session.
-use Rattle.std.proofs.Common.{◌≡◌, ◌⊎◌, inl, inr, ⊎_elim, ℕ, ◌<◌, ◌≤◌, List, refl, sym, subst, arith}
+use Rattle.std.proofs.Common.{◌≡◌, inl, inr, ⊎_elim, ℕ, ◌<◌, ◌≤◌, List, refl, sym, subst, arith}
 use Rattle.std.proofs.lemmas.Bool.{cases_eq, cases_lt}
 use Rattle.formula_meaning.specs.Context.{Context}
 use Rattle.formula_meaning.specs.Formula.{Formula, Formulas, Yes, No, One, Not, And, Or, Impl, Repl, Equiv, Ex, All}
@@ -32,10 +32,8 @@ use Rattle.simplified_formulas.specs.Trees.{IsSimplifiable}
 use Rattle.formula_meaning.specs.Sizes.{nodes}
 use Rattle.formula_store.specs.declared.id.FormulaId.{FormulaId}
 use Rattle.formula_tree.specs.declared.error.FormError.{FormError}
-use Rattle.formula_tree.specs.declared.error.FormError.TheVariants as form_error
 use Rattle.session_commands.specs.declared.line.StatementError.{StatementError}
-use Rattle.session_commands.specs.declared.line.StatementError.TheVariants as error
-use Rattle.std.specs.Prelude.{Result, Ok, Err, IfOk, IfErr, IsErrOf}
+use Rattle.std.specs.Prelude.{Result, Ok, Err, IfOk}
 use Rattle.session_commands.specs.Keeping.{IsSessionFormula}
 use Rattle.formula_meaning.specs.Fold.{Junction}
 use Rattle.session_commands.specs.Steps.{IsSimplifiedAs, IsCleanedAs}

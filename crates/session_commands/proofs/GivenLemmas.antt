@@ -8,7 +8,7 @@ use Rattle.formula_meaning.specs.Same.{same_atom}
 use Rattle.formula_meaning.specs.Tree.{Tree, TrueAt}
 use Rattle.formula_meaning.proofs.Sizes.{distinct_count_within}
 use Rattle.qe_syntax.specs.Trees.{FormulaTree, FormulaTrees, formula_trees}
-use Rattle.qe_syntax.specs.Statements.{CommandTree}
+use Rattle.qe_syntax.specs.Statements.{CommandTree, Pnf}
 use Rattle.qe_syntax.specs.Proper.{IsProperFormula, AreProperFormulas}
 use Rattle.qe_syntax.specs.Valued.{IsIn}
 use Rattle.qe_syntax.specs.Value.{NamedPoint}
@@ -32,11 +32,11 @@ use Rattle.session_commands.specs.declared.line.StatementError.{StatementError}
 use Rattle.session_commands.specs.declared.line.StatementError.TheVariants as error
 use Rattle.session_commands.specs.declared.formulas.Wanted.{Wanted}
 use Rattle.session_commands.specs.declared.formulas.Wanted.TheVariants as wanted
-use Rattle.session_commands.specs.State.{State}
-use Rattle.session_commands.specs.Parts.{given_of, EachPart}
+use Rattle.session_commands.specs.State.{State, with_names}
+use Rattle.session_commands.specs.Parts.{given_of}
 use Rattle.session_commands.specs.Assumptions.{atoms_alone, assumed, Hold}
-use Rattle.session_commands.specs.Commands.{formula_of, named, negated_of, Gives, MayGive, IsSimplification, IsCondition}
-use Rattle.session_commands.specs.Causes.{Use, IsCause, rank, HasNoRoom, IsTooLarge, HasManyNodes, formula_line, MayRefuse, HasNoCauseBelow, Refuses}
+use Rattle.session_commands.specs.Commands.{formula_of, named, negated_of, Gives, MayGive, HasAnswerNames, IsPrenexAnswer, IsSimplification, IsCondition}
+use Rattle.session_commands.specs.Causes.{Use, RenamingPasses, IsCause, rank, HasNoRoom, IsTooLarge, HasManyNodes, formula_line, MayRefuse, HasNoCauseBelow, Refuses}
 use Rattle.session_commands.specs.Keeping.{IsSessionFormula, IsSound}
 use Rattle.session_commands.specs.Reply.{IsLine}
 use Rattle.session_commands.specs.declared.formulas.Way.TheVariants as way
@@ -46,9 +46,12 @@ use Rattle.formula_resolving.specs.Refusals.{rank as static_rank}
 use Rattle.formula_meaning.specs.Fold.{Junction, Conjunction, Disjunction}
 use Rattle.clean_forms.specs.Plain.{plain_form}
 use Rattle.session_commands.specs.Commands.{IsCleanAnswer}
-use Rattle.session_commands.specs.Steps.{static_refusal, junction_of, HasUnwantedQuantifier, IsReady, IsUnready, IsCleanedAs, AppliesToPart, given_trees, command_of, use_of, IsGiven, HasNumbers, IsReadable, ArePartsNumbered, ArePartsReadable, ArePartsUnread, IsWantedForm, IsSimplifiedAs, FormFault, MayBind, TargetFault, LineFault, state_with}
-use Rattle.session_commands.proofs.CauseLemmas.{IsPlainCommand, unread_refuses, quantified_refuses, readable_below, below_17, below_18, below_19}
+use Rattle.session_commands.specs.Steps.{static_refusal, HasUnwantedQuantifier, IsReady, IsUnready, IsCleanedAs, AppliesToPart, given_trees, command_of, use_of, IsGiven, HasNumbers, IsReadable, ArePartsNumbered, ArePartsReadable, ArePartsUnread, IsWantedForm, IsPrenexAs, IsSimplifiedAs, PrenexFault, FormFault, MayBind, TargetFault, LineFault, state_with}
+use Rattle.session_commands.proofs.CauseLemmas.{IsPlainCommand, unread_refuses, quantified_refuses, ready_below, readable_below, below_17, below_18, below_19}
+use Rattle.prenex_forms.proofs.Finished.{finished}
 use Rattle.session_commands.proofs.NameLemmas.{kept_names}
+use Rattle.session_commands.proofs.NewNameLemmas.{answer_names_once}
+use Rattle.session_commands.proofs.PrenexLemmas.{prenex_form_members, prenex_formula}
 use Rattle.session_commands.proofs.PartLemmas.{first_part}
 use Rattle.session_commands.proofs.AssumptionLemmas.{assumed_hold, each_both, alone_has}
 use Rattle.session_commands.proofs.VariableLemmas.{not_empty}
@@ -65,6 +68,7 @@ append_nil (x ∷ xs) = ap (λ z. x ∷ z) (append_nil xs)
 pub parts_are : (w : Wanted) (f : FormulaTree) (X : FormulaTree → FormulaTrees → Type 0) → X f (given_trees w) → X (formula_of (command_of w f)) (given_of (command_of w f))
 parts_are wanted.Given f X h = h
 parts_are wanted.NegationNormal f X h = h
+parts_are wanted.Prenex f X h = h
 parts_are (wanted.Distributed way.Disjunctive) f X h = h
 parts_are (wanted.Distributed way.Conjunctive) f X h = h
 parts_are (wanted.Simplified given) f X h = h
@@ -73,6 +77,7 @@ parts_are (wanted.Eliminated given) f X h = h
 plain_command : (w : Wanted) (f : FormulaTree) → IsPlainCommand (command_of w f)
 plain_command wanted.Given f = record { no_entries = refl; no_point = λ h. h }
 plain_command wanted.NegationNormal f = record { no_entries = refl; no_point = λ h. h }
+plain_command wanted.Prenex f = record { no_entries = refl; no_point = λ h. h }
 plain_command (wanted.Distributed way.Disjunctive) f = record { no_entries = refl; no_point = λ h. h }
 plain_command (wanted.Distributed way.Conjunctive) f = record { no_entries = refl; no_point = λ h. h }
 plain_command (wanted.Simplified given) f = record { no_entries = refl; no_point = λ h. h }
@@ -90,6 +95,7 @@ with_them s f xs ys e = ap (λ zs. let t : State = record { context = s.context;
 pub named_is : (w : Wanted) (f : FormulaTree) (s : State) → named s (command_of w f) ≡ with_variables s f (given_trees w)
 named_is wanted.Given f s = refl
 named_is wanted.NegationNormal f s = refl
+named_is wanted.Prenex f s = refl
 named_is (wanted.Distributed way.Disjunctive) f s = refl
 named_is (wanted.Distributed way.Conjunctive) f s = refl
 named_is (wanted.Simplified given) f s = with_them s f _ _ (append_nil (all_variables (formula_trees given.now)))
@@ -122,21 +128,23 @@ longer (Some x) names t u l h =
     goal
 
 -- a quantifier where none may be is the cause of that name
-unwanted : (w : Wanted) (f : FormulaTree) (s : State) (u : Use) → IsCause s u (command_of w f) error.Quantified → HasUnwantedQuantifier s w f
-unwanted wanted.Given f s u h = h.0
-unwanted wanted.NegationNormal f s u h = h.0
-unwanted (wanted.Distributed way.Disjunctive) f s u h = h.1
-unwanted (wanted.Distributed way.Conjunctive) f s u h = h.1
-unwanted (wanted.Simplified given) f s u h = h.0
-unwanted (wanted.Eliminated given) f s u h = h.0
+unwanted : (w : Wanted) (f : FormulaTree) (s : State) (limit : ℕ) (u : Use) → IsCause s limit u (command_of w f) error.Quantified → HasUnwantedQuantifier s w f
+unwanted wanted.Given f s limit u h = h.0
+unwanted wanted.NegationNormal f s limit u h = h.0
+unwanted wanted.Prenex f s limit u h = h.0
+unwanted (wanted.Distributed way.Disjunctive) f s limit u h = h.1
+unwanted (wanted.Distributed way.Conjunctive) f s limit u h = h.1
+unwanted (wanted.Simplified given) f s limit u h = h.0
+unwanted (wanted.Eliminated given) f s limit u h = h.0
 
-wanted_no_quantifier : (w : Wanted) (f : FormulaTree) (s : State) (u : Use) → HasUnwantedQuantifier s w f → IsCause s u (command_of w f) error.Quantified
-wanted_no_quantifier wanted.Given f s u h = absurd h
-wanted_no_quantifier wanted.NegationNormal f s u h = absurd h
-wanted_no_quantifier (wanted.Distributed way.Disjunctive) f s u h = (tt, h)
-wanted_no_quantifier (wanted.Distributed way.Conjunctive) f s u h = (tt, h)
-wanted_no_quantifier (wanted.Simplified given) f s u h = absurd h
-wanted_no_quantifier (wanted.Eliminated given) f s u h = absurd h
+wanted_no_quantifier : (w : Wanted) (f : FormulaTree) (s : State) (limit : ℕ) (u : Use) → HasUnwantedQuantifier s w f → IsCause s limit u (command_of w f) error.Quantified
+wanted_no_quantifier wanted.Given f s limit u h = absurd h
+wanted_no_quantifier wanted.NegationNormal f s limit u h = absurd h
+wanted_no_quantifier wanted.Prenex f s limit u h = absurd h
+wanted_no_quantifier (wanted.Distributed way.Disjunctive) f s limit u h = (tt, h)
+wanted_no_quantifier (wanted.Distributed way.Conjunctive) f s limit u h = (tt, h)
+wanted_no_quantifier (wanted.Simplified given) f s limit u h = absurd h
+wanted_no_quantifier (wanted.Eliminated given) f s limit u h = absurd h
 
 module _ (w : Wanted) (f : FormulaTree) (s : State) (numbers : ArePartsNumbered s.names f (given_trees w)) (limit : ℕ) (target : Option (List ℕ)) (printed : Bool) where
   abbrev command : CommandTree
@@ -149,14 +157,14 @@ module _ (w : Wanted) (f : FormulaTree) (s : State) (numbers : ArePartsNumbered 
   numbers_here = parts_are w f (λ g gs. ArePartsNumbered s.names g gs) numbers
 
   module _ (plain : ¬ (HasUnwantedQuantifier s w f)) where
-    no_quantifier : ¬ (IsCause s done command error.Quantified)
-    no_quantifier h = plain (unwanted w f s done h)
+    no_quantifier : ¬ (IsCause s limit done command error.Quantified)
+    no_quantifier h = plain (unwanted w f s limit done h)
 
     pub refused_unread : (e : StatementError) → ArePartsUnread s f (given_trees w) e → Refuses s limit done command e
-    refused_unread e h = unread_refuses s done command numbers_here (plain_command w f) limit e (λ o. no_quantifier) (parts_are w f (λ g gs. ArePartsUnread s g gs e) h)
+    refused_unread e h = unread_refuses s limit done command numbers_here (plain_command w f) e (λ o. no_quantifier) (parts_are w f (λ g gs. ArePartsUnread s g gs e) h)
 
   pub unread_early : (e : StatementError) → ¬ (e ≡ error.Overflow) → ArePartsUnread s f (given_trees w) e → Refuses s limit done command e
-  unread_early e early h = unread_refuses s done command numbers_here (plain_command w f) limit e (λ o. absurd (early o)) (parts_are w f (λ g gs. ArePartsUnread s g gs e) h)
+  unread_early e early h = unread_refuses s limit done command numbers_here (plain_command w f) e (λ o. absurd (early o)) (parts_are w f (λ g gs. ArePartsUnread s g gs e) h)
 
   below_quantified : ((d : StaticError) → static_rank d < 7 → ¬ (AppliesToPart s f (given_trees w) d)) → (d : StaticError) → rank (static_refusal d) < 14 → ¬ (AppliesToPart s (formula_of command) (given_of command) d)
   below_quantified first static.Unbound l = parts_are w f (λ g gs. ¬ (AppliesToPart s g gs static.Unbound)) (first static.Unbound (lit< tt))
@@ -170,13 +178,13 @@ module _ (w : Wanted) (f : FormulaTree) (s : State) (numbers : ArePartsNumbered 
   below_quantified first static.Memory l = absurd (omega arith)
 
   pub refused_quantified : HasUnwantedQuantifier s w f → ((d : StaticError) → static_rank d < 7 → ¬ (AppliesToPart s f (given_trees w) d)) → Refuses s limit done command error.Quantified
-  refused_quantified h first = quantified_refuses s done command numbers_here (plain_command w f) limit (wanted_no_quantifier w f s done h) (below_quantified first)
+  refused_quantified h first = quantified_refuses s limit done command numbers_here (plain_command w f) (wanted_no_quantifier w f s limit done h) (below_quantified first)
 
-  pub clear_16 : IsReady s w f → HasNoCauseBelow s done command 16
-  clear_16 h = readable_below s done command numbers_here (plain_command w f) (parts_are w f (λ g gs. ArePartsReadable s g gs) h.readable) (no_quantifier h.plain)
+  pub clear_16 : IsReady s w f → ¬ (RenamingPasses s limit command) → HasNoCauseBelow s limit done command 16
+  clear_16 h fits = readable_below s limit done command numbers_here (plain_command w f) (parts_are w f (λ g gs. ArePartsReadable s g gs) h.readable) (no_quantifier h.plain) fits
 
-  pub clear_15 : IsReady s w f → HasNoCauseBelow s done command 15
-  clear_15 h = λ e l. clear_16 h e (omega arith)
+  pub clear_15 : IsReady s w f → HasNoCauseBelow s limit done command 15
+  clear_15 h = ready_below s limit done command numbers_here (plain_command w f) (parts_are w f (λ g gs. ArePartsReadable s g gs) h.readable) (no_quantifier h.plain)
 
 -- ---- what is given
 
@@ -193,11 +201,22 @@ module _ (f : FormulaTree) (s : State) (limit : ℕ) (t : Tree) where
   resolution = resolve s.context s.bound s.names f
 
   abbrev Given : Wanted → Type 0
-  Given w = IsWantedForm s.context (assumed s (given_trees w)) limit w resolution t
+  Given w = IsWantedForm s.context (length s.names) (assumed s (given_trees w)) limit w resolution t
+
+  -- no renamed atom passes the limit of numbers
+  given_fits : (w : Wanted) → Given w → ¬ (RenamingPasses s limit (command_of w f))
+  given_fits wanted.Given h k = k
+  given_fits wanted.NegationNormal h k = k
+  given_fits wanted.Prenex h k = h.fits k.1
+  given_fits (wanted.Distributed way.Disjunctive) h k = k
+  given_fits (wanted.Distributed way.Conjunctive) h k = k
+  given_fits (wanted.Simplified given) h k = k
+  given_fits (wanted.Eliminated given) h k = k
 
   one : (w : Wanted) → Given w → (other : Tree) → Gives s (command_of w f) other → other ≡ t
   one wanted.Given h other k = k ∙ sym h
   one wanted.NegationNormal h other k = k ∙ sym h
+  one wanted.Prenex h other k = k ∙ sym h.form
   one (wanted.Distributed way.Disjunctive) h other k = absurd k
   one (wanted.Distributed way.Conjunctive) h other k = absurd k
   one (wanted.Simplified given) h other k = absurd k
@@ -246,6 +265,24 @@ module _ (f : FormulaTree) (s : State) (limit : ℕ) (t : Tree) where
       members = orderly_members (IsNormal s.context) t h.orderly;
     }
 
+    prenexing : IsPrenexAs s.context (length s.names) limit resolution t → IsPrenexAnswer s limit f t
+    prenexing h =
+        let done = finished s.context (length s.names) resolution t own.normal own.within h.form in
+        record {
+          form = h.form;
+          prenex = done.prenex;
+          fewest = done.fewest;
+          truth = λ p of.
+              let a = same_here p of in
+              let b = done.truth (at_names s.names p) of in
+              (λ x. b.0 (a.0 x), λ x. a.1 (b.1 x));
+          names = done.free;
+          normal = done.normal;
+          members = prenex_form_members s.context (length s.names) resolution t h.form own.members;
+          small = h.small;
+          fits = h.fits;
+        }
+
     condition : IsWantedAnswer s.context (assumed s gs) limit resolution t → IsCondition s limit f gs t
     condition h =
         let exact = h.eliminated.exact in
@@ -269,6 +306,7 @@ module _ (f : FormulaTree) (s : State) (limit : ℕ) (t : Tree) where
   gives : (w : Wanted) → IsReady s w f → IsSound s → IsSessionFormula s.context (length s.names) resolution → ArePartsNumbered s.names f (given_trees w) → Given w → MayGive s limit (command_of w f) t
   gives wanted.Given readable sound own numbers h = h
   gives wanted.NegationNormal readable sound own numbers h = h
+  gives wanted.Prenex readable sound own numbers h = prenexing none readable.readable sound numbers own h
   gives (wanted.Distributed way.Disjunctive) readable sound own numbers h = cleaning none readable.readable sound numbers own Conjunction h
   gives (wanted.Distributed way.Conjunctive) readable sound own numbers h = cleaning none readable.readable sound numbers own Disjunction h
   gives (wanted.Simplified given) readable sound own numbers h = simplification (formula_trees given.now) readable.readable sound numbers own h
@@ -277,58 +315,76 @@ module _ (f : FormulaTree) (s : State) (limit : ℕ) (t : Tree) where
   too_large : (w : Wanted) → Given w → (u : Use) → IsTooLarge u.target t → MayRefuse s limit u (command_of w f) error.Bindings
   too_large wanted.Given h u k = inl (inr (t, h, k))
   too_large wanted.NegationNormal h u k = inl (inr (t, h, k))
+  too_large wanted.Prenex h u k = inl (inr (t, h.form, k))
   too_large (wanted.Distributed way.Disjunctive) h u k = inr (plain_form Conjunction (negated_of s f), refl, many_nodes u.target t (plain_form Conjunction (negated_of s f)) h.nodes k)
   too_large (wanted.Distributed way.Conjunctive) h u k = inr (plain_form Disjunction (negated_of s f), refl, many_nodes u.target t (plain_form Disjunction (negated_of s f)) h.nodes k)
   too_large (wanted.Simplified given) h u k = inr (negated_of s f, refl, many_nodes u.target t (negated_of s f) h.nodes k)
   too_large (wanted.Eliminated given) h u k = inr (h.answer, (h.eliminated.cost, h.eliminated.same), many_nodes u.target t h.answer h.simplified.nodes k)
 
-  -- the names are none that is empty, and those of the resolved formula have numbers
-  module _ (sound : IsSound s) (own : IsSessionFormula s.context (length s.names) resolution) where
-    too_long : (w : Wanted) → Given w → (u : Use) → u.printed ≡ true → text_limit < length (formula_line u.target s.names t) → MayRefuse s limit u (command_of w f) error.Text
-    too_long wanted.Given h u p k = inl (p, (t, h, k))
-    too_long wanted.NegationNormal h u p k = inl (p, (t, h, k))
-    too_long (wanted.Distributed way.Disjunctive) h u p k =
+  -- The line is past the limit with the names after the answer. None of the names is empty, and those of the resolved formula have numbers.
+  module _ (sound : IsSound s) (own : IsSessionFormula s.context (length s.names) resolution) (names : List (List ℕ)) (u : Use) (p : u.printed ≡ true) (k : text_limit < length (formula_line u.target names t)) where
+    long_here : names ≡ s.names → text_limit < length (formula_line u.target s.names t)
+    long_here e = subst (λ ns. text_limit < length (formula_line u.target ns t)) e k
+
+    too_long : (w : Wanted) → Given w → HasAnswerNames s (command_of w f) names → MayRefuse s limit u (command_of w f) error.Text
+    too_long wanted.Given h n = inl (p, record { formula = t; given = h; names = names; named = n; long = k })
+    too_long wanted.NegationNormal h n = inl (p, record { formula = t; given = h; names = names; named = n; long = k })
+    too_long wanted.Prenex h n = inl (p, record { formula = t; given = h.form; names = names; named = n; long = k })
+    too_long (wanted.Distributed way.Disjunctive) h n =
         let short = h.text s.names (not_empty s.names sound.variables) (negated_formula s.context (length s.names) resolution own).within.atoms in
-        inr (p, (plain_form Conjunction (negated_of s f), refl, longer u.target s.names t (plain_form Conjunction (negated_of s f)) short k))
-    too_long (wanted.Distributed way.Conjunctive) h u p k =
+        inr (p, inl (plain_form Conjunction (negated_of s f), refl, longer u.target s.names t (plain_form Conjunction (negated_of s f)) short (long_here n)))
+    too_long (wanted.Distributed way.Conjunctive) h n =
         let short = h.text s.names (not_empty s.names sound.variables) (negated_formula s.context (length s.names) resolution own).within.atoms in
-        inr (p, (plain_form Disjunction (negated_of s f), refl, longer u.target s.names t (plain_form Disjunction (negated_of s f)) short k))
-    too_long (wanted.Simplified given) h u p k =
+        inr (p, inl (plain_form Disjunction (negated_of s f), refl, longer u.target s.names t (plain_form Disjunction (negated_of s f)) short (long_here n)))
+    too_long (wanted.Simplified given) h n =
         let short = h.text s.names (not_empty s.names sound.variables) (negated_formula s.context (length s.names) resolution own).within.atoms in
-        inr (p, (negated_of s f, refl, longer u.target s.names t (negated_of s f) short k))
-    too_long (wanted.Eliminated given) h u p k =
+        inr (p, inl (negated_of s f, refl, longer u.target s.names t (negated_of s f) short (long_here n)))
+    too_long (wanted.Eliminated given) h n =
         let answered = answer_formula s.context (length s.names) resolution h.answer own h.eliminated.exact in
         let short = h.simplified.text s.names (not_empty s.names sound.variables) answered.within.atoms in
-        inr (p, (h.answer, (h.eliminated.cost, h.eliminated.same), longer u.target s.names t h.answer short k))
+        inr (p, inl (h.answer, (h.eliminated.cost, h.eliminated.same), longer u.target s.names t h.answer short (long_here n)))
 
   no_room : (w : Wanted) (u : Use) → HasNoRoom s.bound u.target → MayRefuse s limit u (command_of w f) error.Bindings
   no_room w u k = inl (inl k)
 
 module _ (w : Wanted) (f : FormulaTree) (s : State) (numbers : ArePartsNumbered s.names f (given_trees w)) (limit : ℕ) (target : Option (List ℕ)) (printed : Bool) (t : Tree)
-    (given : IsWantedForm s.context (assumed s (given_trees w)) limit w (resolve s.context s.bound s.names f) t) (h : IsReady s w f) where
+    (given : IsWantedForm s.context (length s.names) (assumed s (given_trees w)) limit w (resolve s.context s.bound s.names f) t) (h : IsReady s w f) where
+  clear : HasNoCauseBelow s limit (use_of target printed) (command_of w f) 16
+  clear = clear_16 w f s numbers limit target printed h (given_fits f s limit t w given)
+
   pub refused_target : (e : StatementError) → TargetFault s.bound target t e → Refuses s limit (use_of target printed) (command_of w f) e
-  refused_target error.Bindings (inl k) = record { applies = no_room f s limit t w (use_of target printed) k; first = below_17 s (use_of target printed) (command_of w f) (clear_16 w f s numbers limit target printed h) }
-  refused_target error.Bindings (inr k) = record { applies = too_large f s limit t w given (use_of target printed) k; first = below_17 s (use_of target printed) (command_of w f) (clear_16 w f s numbers limit target printed h) }
+  refused_target error.Bindings (inl k) = record { applies = no_room f s limit t w (use_of target printed) k; first = below_17 s limit (use_of target printed) (command_of w f) clear }
+  refused_target error.Bindings (inr k) = record { applies = too_large f s limit t w given (use_of target printed) k; first = below_17 s limit (use_of target printed) (command_of w f) clear }
   refused_target error.Memory k = tt
   refused_target _ k = absurd k
 
-  clear_18 : MayBind s.bound target t → HasNoCauseBelow s (use_of target printed) (command_of w f) 18
+  clear_18 : MayBind s.bound target t → HasNoCauseBelow s limit (use_of target printed) (command_of w f) 18
   clear_18 b =
-      below_18 s (use_of target printed) (command_of w f) (below_17 s (use_of target printed) (command_of w f) (clear_16 w f s numbers limit target printed h))
+      below_18 s limit (use_of target printed) (command_of w f) (below_17 s limit (use_of target printed) (command_of w f) clear)
       (λ k. elim k [ inl r ↦ b.room r | inr m ↦ b.small (subst (IsTooLarge target) (one f s limit t w given m.0 m.1) m.2) ])
 
-  module _ (sound : IsSound s) (own : IsSessionFormula s.context (length s.names) (resolve s.context s.bound s.names f)) where
-    pub refused_line : MayBind s.bound target t → (e : StatementError) → LineFault printed (formula_line target s.names t) e → Refuses s limit (use_of target printed) (command_of w f) e
-    refused_line b error.Text k = record { applies = too_long f s limit t sound own w given (use_of target printed) k.0 k.1; first = clear_18 b }
+  module _ (sound : IsSound s) (own : IsSessionFormula s.context (length s.names) (resolve s.context s.bound s.names f)) (names : List (List ℕ)) (named : HasAnswerNames s (command_of w f) names) where
+    pub refused_line : MayBind s.bound target t → (e : StatementError) → LineFault printed (formula_line target names t) e → Refuses s limit (use_of target printed) (command_of w f) e
+    refused_line b error.Text k = record { applies = too_long f s limit t sound own names (use_of target printed) k.0 k.1 w given named; first = clear_18 b }
     refused_line b error.Memory k = tt
     refused_line b _ k = absurd k
 
-    pub is_given : MayBind s.bound target t → (answer : Line) → IsLine printed (formula_line target s.names t) answer
-        → ¬ (LineFault printed (formula_line target s.names t) error.Text) → IsGiven s limit (use_of target printed) (command_of w f) answer (state_with s target t)
+    -- a line that is past the limit would be this one
+    not_long : ¬ (LineFault printed (formula_line target names t) error.Text) → ¬ (IsCause s limit (use_of target printed) (command_of w f) error.Text)
+    not_long short k =
+        let long = k.1 in
+        let same_names = answer_names_once s (command_of w f) long.names names long.named named in
+        let here = subst (λ ns. text_limit < length (formula_line target ns long.formula)) same_names long.long in
+        short (k.0, subst (λ u. text_limit < length (formula_line target names u)) (one f s limit t w given long.formula long.given) here)
+
+    pub is_given : MayBind s.bound target t → (answer : Line) → IsLine printed (formula_line target names t) answer
+        → ¬ (LineFault printed (formula_line target names t) error.Text) → IsGiven s limit (use_of target printed) (command_of w f) answer (state_with (with_names s names) target t)
     is_given b answer line short = record {
-      accepted = below_19 s (use_of target printed) (command_of w f) (clear_18 b) (λ k. short (k.0, subst (λ u. text_limit < length (formula_line target s.names u)) (one f s limit t w given k.1.0 k.1.1) k.1.2));
+      accepted = below_19 s limit (use_of target printed) (command_of w f) (clear_18 b) (not_long short);
       formula = t;
       given = gives f s limit t w h sound own numbers given;
+      names = names;
+      named = named;
       line = line;
       after = refl;
     }
@@ -345,13 +401,19 @@ assumed_normal s sound f (also g gs) numbers readable proper =
     (alone_has (IsNormal s.context) (resolve s.context s.bound s.names g) (readable_formula g s (first_part (HasNumbers s.names) g gs numbers.1) sound proper.0 (first_part (IsReadable s) g gs readable.1)).normal)
     (assumed_normal s sound g gs numbers.1 readable.1 proper.1)
 
-pub given_formula : (w : Wanted) (f : FormulaTree) (s : State) (limit : ℕ) (t : Tree) → IsWantedForm s.context (assumed s (given_trees w)) limit w (resolve s.context s.bound s.names f) t
-    → IsSessionFormula s.context (length s.names) (resolve s.context s.bound s.names f) → IsSessionFormula s.context (length s.names) t
-given_formula wanted.Given f s limit t given own = subst (IsSessionFormula s.context (length s.names)) (sym given) own
-given_formula wanted.NegationNormal f s limit t given own = subst (IsSessionFormula s.context (length s.names)) (sym given) (negated_formula s.context (length s.names) _ own)
-given_formula (wanted.Distributed way) f s limit t given own = cleaned_formula s.context (junction_of way) (length s.names) _ t (negated_formula s.context (length s.names) _ own) given
-given_formula (wanted.Simplified g) f s limit t given own = simplified_formula s.context _ (length s.names) _ t (negated_formula s.context (length s.names) _ own) given
-given_formula (wanted.Eliminated g) f s limit t given own = simplified_formula s.context _ (length s.names) given.answer t (answer_formula s.context (length s.names) _ given.answer own given.eliminated.exact) given.simplified
+same_names : (s : State) (t : Tree) (names : List (List ℕ)) → names ≡ s.names → IsSessionFormula s.context (length s.names) t → IsSessionFormula s.context (length names) t
+same_names s t names e h = subst (λ ns. IsSessionFormula s.context (length ns) t) (sym e) h
+
+pub given_formula : (w : Wanted) (f : FormulaTree) (s : State) (limit : ℕ) (t : Tree) (names : List (List ℕ)) → IsWantedForm s.context (length s.names) (assumed s (given_trees w)) limit w (resolve s.context s.bound s.names f) t
+    → HasAnswerNames s (command_of w f) names → IsSessionFormula s.context (length s.names) (resolve s.context s.bound s.names f) → IsSessionFormula s.context (length names) t
+given_formula wanted.Given f s limit t names given named own = same_names s t names named (subst (IsSessionFormula s.context (length s.names)) (sym given) own)
+given_formula wanted.NegationNormal f s limit t names given named own = same_names s t names named (subst (IsSessionFormula s.context (length s.names)) (sym given) (negated_formula s.context (length s.names) _ own))
+given_formula wanted.Prenex f s limit t names given named own = prenex_formula s.context s.names names _ t own given.form named
+given_formula (wanted.Distributed way.Disjunctive) f s limit t names given named own = same_names s t names named (cleaned_formula s.context Conjunction (length s.names) _ t (negated_formula s.context (length s.names) _ own) given)
+given_formula (wanted.Distributed way.Conjunctive) f s limit t names given named own = same_names s t names named (cleaned_formula s.context Disjunction (length s.names) _ t (negated_formula s.context (length s.names) _ own) given)
+given_formula (wanted.Simplified g) f s limit t names given named own = same_names s t names named (simplified_formula s.context _ (length s.names) _ t (negated_formula s.context (length s.names) _ own) given)
+given_formula (wanted.Eliminated g) f s limit t names given named own =
+    same_names s t names named (simplified_formula s.context _ (length s.names) given.answer t (answer_formula s.context (length s.names) _ given.answer own given.eliminated.exact) given.simplified)
 
 -- a command that is not ready is refused
 pub refused_unready : (w : Wanted) (f : FormulaTree) (s : State) (numbers : ArePartsNumbered s.names f (given_trees w)) (limit : ℕ) (target : Option (List ℕ)) (printed : Bool) (e : StatementError) → IsUnready s w f e
@@ -378,19 +440,37 @@ refused_unready w f s numbers limit target printed error.Text h = unread_early w
 
 -- the form is not made
 module _ (w : Wanted) (f : FormulaTree) (s : State) (numbers : ArePartsNumbered s.names f (given_trees w)) (limit : ℕ) (target : Option (List ℕ)) (printed : Bool) (h : IsReady s w f) where
-  first_16 : HasNoCauseBelow s (use_of target printed) (command_of w f) 16
-  first_16 = clear_16 w f s numbers limit target printed h
+  first_16 : ¬ (RenamingPasses s limit (command_of w f)) → HasNoCauseBelow s limit (use_of target printed) (command_of w f) 16
+  first_16 fits = clear_16 w f s numbers limit target printed h fits
 
-  first_15 : HasNoCauseBelow s (use_of target printed) (command_of w f) 15
+  first_15 : HasNoCauseBelow s limit (use_of target printed) (command_of w f) 15
   first_15 = clear_15 w f s numbers limit target printed h
 
+-- a prenex form has too many nodes, or a number of a renamed atom passes the limit
+refused_prenex : (f : FormulaTree) (s : State) (numbers : ArePartsNumbered s.names f none) (limit : ℕ) (target : Option (List ℕ)) (printed : Bool) → IsReady s wanted.Prenex f
+    → (e : StatementError) → PrenexFault s.context (length s.names) limit (resolve s.context s.bound s.names f) e → Refuses s limit (use_of target printed) (Pnf f) e
+refused_prenex f s numbers limit target printed h error.Nodes k = record {
+  applies = inr (inl k);
+  first = first_16 wanted.Prenex f s numbers limit target printed h (λ p. let few = p.0 in absurd (omega arith));
+}
+refused_prenex f s numbers limit target printed h error.Overflow k = record { applies = inl (inr (inr k)); first = first_15 wanted.Prenex f s numbers limit target printed h }
+refused_prenex f s numbers limit target printed h error.Memory k = tt
+refused_prenex f s numbers limit target printed h _ k = absurd k
+
 pub refused_form : (w : Wanted) (f : FormulaTree) (s : State) (numbers : ArePartsNumbered s.names f (given_trees w)) (limit : ℕ) (target : Option (List ℕ)) (printed : Bool) → IsReady s w f
-    → (e : StatementError) → FormFault s.context limit w (resolve s.context s.bound s.names f) e → Refuses s limit (use_of target printed) (command_of w f) e
-refused_form wanted.NegationNormal f s numbers limit target printed h error.Nodes k = record { applies = inl (tt, k); first = first_16 wanted.NegationNormal f s numbers limit target printed h }
-refused_form (wanted.Distributed way.Disjunctive) f s numbers limit target printed h error.Nodes k = record { applies = inr (inl k); first = first_16 (wanted.Distributed way.Disjunctive) f s numbers limit target printed h }
-refused_form (wanted.Distributed way.Conjunctive) f s numbers limit target printed h error.Nodes k = record { applies = inr (inl k); first = first_16 (wanted.Distributed way.Conjunctive) f s numbers limit target printed h }
-refused_form (wanted.Simplified g) f s numbers limit target printed h error.Nodes k = record { applies = inr (inl k); first = first_16 (wanted.Simplified g) f s numbers limit target printed h }
-refused_form (wanted.Eliminated g) f s numbers limit target printed h error.Nodes k = record { applies = inr (inr k); first = first_16 (wanted.Eliminated g) f s numbers limit target printed h }
+    → (e : StatementError) → FormFault s.context (length s.names) limit w (resolve s.context s.bound s.names f) e → Refuses s limit (use_of target printed) (command_of w f) e
+refused_form wanted.NegationNormal f s numbers limit target printed h error.Nodes k = record { applies = inl (tt, k); first = first_16 wanted.NegationNormal f s numbers limit target printed h (λ p. p) }
+refused_form wanted.Prenex f s numbers limit target printed h e k = refused_prenex f s numbers limit target printed h e k
+refused_form (wanted.Distributed way.Disjunctive) f s numbers limit target printed h error.Nodes k = record {
+  applies = inr (inl k);
+  first = first_16 (wanted.Distributed way.Disjunctive) f s numbers limit target printed h (λ p. p);
+}
+refused_form (wanted.Distributed way.Conjunctive) f s numbers limit target printed h error.Nodes k = record {
+  applies = inr (inl k);
+  first = first_16 (wanted.Distributed way.Conjunctive) f s numbers limit target printed h (λ p. p);
+}
+refused_form (wanted.Simplified g) f s numbers limit target printed h error.Nodes k = record { applies = inr (inl k); first = first_16 (wanted.Simplified g) f s numbers limit target printed h (λ p. p) }
+refused_form (wanted.Eliminated g) f s numbers limit target printed h error.Nodes k = record { applies = inr (inr k); first = first_16 (wanted.Eliminated g) f s numbers limit target printed h (λ p. p) }
 refused_form (wanted.Eliminated g) f s numbers limit target printed h error.Overflow k = record { applies = inr (inr k); first = first_15 (wanted.Eliminated g) f s numbers limit target printed h }
 refused_form wanted.Given f s numbers limit target printed h error.Memory k = tt
 refused_form wanted.NegationNormal f s numbers limit target printed h error.Memory k = tt

@@ -30,15 +30,16 @@ use Rattle.session_commands.specs.declared.formulas.Wanted.{Wanted}
 use Rattle.session_commands.specs.declared.formulas.Wanted.TheVariants as wanted
 use Rattle.session_commands.specs.Points.{IsQuantified}
 use Rattle.formula_meaning.specs.Shape.{IsQuantifierFree}
-use Rattle.session_commands.specs.State.{State}
-use Rattle.session_commands.specs.Commands.{named}
+use Rattle.session_commands.specs.State.{State, with_names}
+use Rattle.session_commands.specs.Commands.{named, HasAnswerNames}
 use Rattle.session_commands.specs.Causes.{formula_line, Refuses}
 use Rattle.session_commands.specs.Keeping.{state_of, IsSessionFormula, IsSound, IsDesk}
 use Rattle.session_commands.specs.Reply.{IsLine}
 use Rattle.session_commands.specs.Assumptions.{assumed}
-use Rattle.session_commands.specs.Steps.{KeepsDesk, HasNumbers, IsReadable, ArePartsNumbered, IsDistributed, HasUnwantedQuantifier, IsReady, IsUnready, given_trees, command_of, use_of, IsGiven, IsWantedForm, FormFault, MayBind, TargetFault, LineFault, state_with, bound_after}
+use Rattle.session_commands.specs.Steps.{KeepsDesk, GrowsDesk, HasNumbers, IsReadable, ArePartsNumbered, IsDistributed, HasUnwantedQuantifier, IsReady, IsUnready, given_trees, command_of, use_of, IsGiven, IsWantedForm, HasFormNames, FormFault, MayBind, TargetFault, LineFault, state_with, bound_after}
 use Rattle.session_commands.proofs.BindingLemmas.{bind_trees, bind_ids, bind_distinct, bound_there}
-use Rattle.session_commands.proofs.DeskLemmas.{state_parts, same_state, same_desk, sound_with, length_grows}
+use Rattle.session_commands.proofs.DeskLemmas.{state_parts, grown_state, grown_desk, sound_with, length_grows}
+use Rattle.session_commands.proofs.NewNameLemmas.{form_names, answer_names_distinct, answer_names_variables}
 use Rattle.session_commands.proofs.PartLemmas.{first_part}
 use Rattle.session_commands.proofs.PointLemmas.{resolved_free}
 use Rattle.session_commands.proofs.VariableLemmas.{AllVariables, both, variables_of_formula, variables_of_all, all_put_in}
@@ -64,6 +65,7 @@ proper_items (g ∷ gs) h = (h.0, proper_items gs h.1)
 free_here : (s : State) (f : FormulaTree) (w : Wanted) → IsDistributed w → ¬ (HasUnwantedQuantifier s w f) → ¬ (IsQuantified s.bound f)
 free_here s f wanted.Given d h = absurd d
 free_here s f wanted.NegationNormal d h = absurd d
+free_here s f wanted.Prenex d h = absurd d
 free_here s f (wanted.Distributed way) d h = h
 free_here s f (wanted.Simplified given) d h = absurd d
 free_here s f (wanted.Eliminated given) d h = absurd d
@@ -110,16 +112,20 @@ module _ (w : Wanted) (f : FormulaTree) (desk : Desk) (names : List (List ℕ)) 
         theory : context_of read.context ≡ (state_of numbered).context
         theory = ap context_of kept.context
 
-        pub form_step : (e : StatementError) → FormFault (context_of read.context) limit w t e → Refuses (named (state_of desk) (command_of w f)) limit (use_of target printed) (command_of w f) e
+        pub form_step : (e : StatementError) → FormFault (context_of read.context) (length read.names) limit w t e → Refuses (named (state_of desk) (command_of w f)) limit (use_of target printed) (command_of w f) e
         form_step e h =
             refuses e (refused_form w f (state_of numbered) numbers limit target printed readable e
-            (subst (λ u. FormFault (state_of numbered).context limit w u e) same (subst (λ c. FormFault c limit w t e) theory h)))
+            (subst (λ u. FormFault (state_of numbered).context (length names) limit w u e) same
+            (subst (λ c. FormFault c (length names) limit w t e) theory (subst (λ ns. FormFault (context_of read.context) (length ns) limit w t e) kept.names h))))
 
         pub normal_step : IsDesk numbered → IsProperFormula f → Every (IsNormal (context_of read.context)) t
         normal_step h proper = subst (λ c. Every (IsNormal c) t) (sym theory) (subst (Every (IsNormal (state_of numbered).context)) (sym same) (own h proper).normal)
 
         pub two_step : IsDesk numbered → IsProperFormula f → HasTwoMembers t
         two_step h proper = subst (λ (u : Tree). HasTwoMembers u) (sym same) (own h proper).members
+
+        pub within_read : IsDesk numbered → IsProperFormula f → IsTreeWithin (length read.names) t
+        within_read h proper = subst (λ ns. IsTreeWithin (length ns) t) (sym kept.names) (subst (IsTreeWithin (length names)) (sym same) (own h proper).within)
 
         pub free_step : IsDesk numbered → IsDistributed w → IsQuantifierFree t
         free_step h d = subst (λ (u : Tree). IsQuantifierFree u) (sym same) (resolved_free (state_of numbered).context (state_of numbered).bound names f (free_here (state_of numbered) f w d readable.plain))
@@ -129,16 +135,22 @@ module _ (w : Wanted) (f : FormulaTree) (desk : Desk) (names : List (List ℕ)) 
             subst (λ c. EachOf (IsNormal c) ks) (sym theory)
             (subst (EachOf (IsNormal (state_of numbered).context)) (sym same_atoms) (assumed_normal (state_of numbered) h.sound f (given_trees w) numbers readable.readable proper))
 
-        pub wanted_step : (u : Tree) → IsWantedForm (context_of read.context) ks limit w t u → IsWantedForm (state_of numbered).context (assumed (state_of numbered) (given_trees w)) limit w resolution u
+        pub wanted_step : (u : Tree) → IsWantedForm (context_of read.context) (length read.names) ks limit w t u
+            → IsWantedForm (state_of numbered).context (length names) (assumed (state_of numbered) (given_trees w)) limit w resolution u
         wanted_step u h =
-            subst (λ ls. IsWantedForm (state_of numbered).context ls limit w resolution u) same_atoms
-            (subst (λ v. IsWantedForm (state_of numbered).context ks limit w v u) same (subst (λ c. IsWantedForm c ks limit w t u) theory h))
+            subst (λ ls. IsWantedForm (state_of numbered).context (length names) ls limit w resolution u) same_atoms
+            (subst (λ v. IsWantedForm (state_of numbered).context (length names) ks limit w v u) same
+            (subst (λ c. IsWantedForm c (length names) ks limit w t u) theory (subst (λ ns. IsWantedForm (context_of read.context) (length ns) ks limit w t u) kept.names h)))
 
-      -- the desk after the form was made, and its id
-      module _ (later : Desk) (h : IsDesk numbered) (k : KeepsDesk numbered later) (id : FormulaId) (made : IsId later.store id) (proper : IsProperFormula f)
-          (given : IsWantedForm (state_of numbered).context (assumed (state_of numbered) (given_trees w)) limit w resolution (tree later.store id)) where
-        same : state_of later ≡ state_of numbered
-        same = same_state numbered later h.ids k
+        -- the names after it
+        pub names_step : (after : List (List ℕ)) → HasFormNames w read.names t after → HasAnswerNames (state_of numbered) (command_of w f) after
+        names_step after h = form_names w f (state_of numbered) after (subst (λ u. HasFormNames w names u after) same (subst (λ ns. HasFormNames w ns t after) kept.names h))
+
+      -- the desk after the form was made, with the names after the answer, and the form's id
+      module _ (later : Desk) (h : IsDesk numbered) (k : GrowsDesk numbered later) (more : HasAnswerNames (state_of numbered) (command_of w f) later.names) (id : FormulaId) (made : IsId later.store id) (proper : IsProperFormula f)
+          (given : IsWantedForm (state_of numbered).context (length names) (assumed (state_of numbered) (given_trees w)) limit w resolution (tree later.store id)) where
+        same : state_of later ≡ with_names (state_of numbered) later.names
+        same = grown_state numbered later h.ids k
 
         bound_same : (state_of later).bound ≡ (state_of numbered).bound
         bound_same = ap (λ (s : State). s.bound) same
@@ -151,18 +163,15 @@ module _ (w : Wanted) (f : FormulaTree) (desk : Desk) (names : List (List ℕ)) 
         may_bind : MayBind (state_of later).bound target (tree later.store id) → MayBind (state_of numbered).bound target (tree later.store id)
         may_bind b = subst (λ c. MayBind c target (tree later.store id)) bound_same b
 
-        line_is : formula_line target later.names (tree later.store id) ≡ formula_line target names (tree later.store id)
-        line_is = ap (λ ns. formula_line target ns (tree later.store id)) k.names
-
         pub line_step : MayBind (state_of later).bound target (tree later.store id) → (e : StatementError) → LineFault printed (formula_line target later.names (tree later.store id)) e
             → Refuses (named (state_of desk) (command_of w f)) limit (use_of target printed) (command_of w f) e
-        line_step b e t = refuses e (refused_line w f (state_of numbered) numbers limit target printed (tree later.store id) given readable h.sound (own h proper) (may_bind b) e (subst (λ text. LineFault printed text e) line_is t))
+        line_step b e t = refuses e (refused_line w f (state_of numbered) numbers limit target printed (tree later.store id) given readable h.sound (own h proper) later.names more (may_bind b) e t)
 
-        session_formula : IsSessionFormula (state_of numbered).context (length names) (tree later.store id)
-        session_formula = given_formula w f (state_of numbered) limit (tree later.store id) given (own h proper)
+        session_formula : IsSessionFormula (state_of numbered).context (length later.names) (tree later.store id)
+        session_formula = given_formula w f (state_of numbered) limit (tree later.store id) later.names given more (own h proper)
 
         pub within_step : IsTreeWithin (length later.names) (tree later.store id)
-        within_step = subst (λ ns. IsTreeWithin (length ns) (tree later.store id)) (sym k.names) session_formula.within
+        within_step = session_formula.within
 
         pub members_step : HasTwoMembers (tree later.store id)
         members_step = session_formula.members
@@ -172,10 +181,10 @@ module _ (w : Wanted) (f : FormulaTree) (desk : Desk) (names : List (List ℕ)) 
         last = record { alloc = later.alloc; context = later.context; names = later.names; bindings = bound_after later.bindings target id; store = later.store; kept = later.kept }
 
         last_state : (o : Option (List ℕ)) → state_of (record { alloc = later.alloc; context = later.context; names = later.names; bindings = bound_after later.bindings o id; store = later.store; kept = later.kept })
-            ≡ state_with (state_of numbered) o (tree later.store id)
+            ≡ state_with (with_names (state_of numbered) later.names) o (tree later.store id)
         last_state None = same
         last_state (Some x) =
-            state_parts _ _ _ _ _ _ (ap (λ (s : State). s.context) same) (ap (λ (s : State). s.names) same)
+            state_parts _ _ _ _ _ _ (ap (λ (s : State). s.context) same) refl
             (sym (bind_trees (tree later.store) later.bindings x id) ∙ ap (λ b. bind b x (tree later.store id)) bound_same)
 
         pub answer_step : MayBind (state_of later).bound target (tree later.store id) → (answer : Line) → IsLine printed (formula_line target later.names (tree later.store id)) answer
@@ -183,23 +192,27 @@ module _ (w : Wanted) (f : FormulaTree) (desk : Desk) (names : List (List ℕ)) 
         answer_step b answer line short =
             subst (λ s. IsGiven s limit (use_of target printed) (command_of w f) answer (state_of last)) (sym start)
             (subst (IsGiven (state_of numbered) limit (use_of target printed) (command_of w f) answer) (sym (last_state target))
-            (is_given w f (state_of numbered) numbers limit target printed (tree later.store id) given readable h.sound (own h proper) (may_bind b) answer (subst (λ text. IsLine printed text answer) line_is line)
-            (λ t. short (subst (λ text. LineFault printed text error.Text) (sym line_is) t))))
+            (is_given w f (state_of numbered) numbers limit target printed (tree later.store id) given readable h.sound (own h proper) later.names more (may_bind b) answer line short))
 
-        last_sound : (o : Option (List ℕ)) → IsSound (state_with (state_of numbered) o (tree later.store id))
-        last_sound None = h.sound
-        last_sound (Some x) = sound_bound (state_of numbered) x (tree later.store id) h.sound session_formula
+        later_desk : IsDesk later
+        later_desk =
+            grown_desk numbered later h k (answer_names_distinct (state_of numbered) (command_of w f) later.names h.sound.names_once more)
+            (answer_names_variables (state_of numbered) (command_of w f) later.names h.sound.variables more)
 
-        kept_desk : IsDesk later
-        kept_desk = same_desk numbered later h k
+        later_sound : IsSound (with_names (state_of numbered) later.names)
+        later_sound = subst IsSound same later_desk.sound
+
+        last_sound : (o : Option (List ℕ)) → IsSound (state_with (with_names (state_of numbered) later.names) o (tree later.store id))
+        last_sound None = later_sound
+        last_sound (Some x) = sound_bound (with_names (state_of numbered) later.names) x (tree later.store id) later_sound session_formula
 
         last_ids : (o : Option (List ℕ)) → AreIds (IsId later.store) (bound_after later.bindings o id)
-        last_ids None = kept_desk.ids
-        last_ids (Some x) = bind_ids (IsId later.store) later.bindings x id kept_desk.ids made
+        last_ids None = later_desk.ids
+        last_ids (Some x) = bind_ids (IsId later.store) later.bindings x id later_desk.ids made
 
         last_once : (o : Option (List ℕ)) → IsDistinct same_name (keys_of (bound_after later.bindings o id))
-        last_once None = kept_desk.bound_once
-        last_once (Some x) = bind_distinct later.bindings x id kept_desk.bound_once
+        last_once None = later_desk.bound_once
+        last_once (Some x) = bind_distinct later.bindings x id later_desk.bound_once
 
         pub desk_step : IsDesk last
         desk_step = record { ids = last_ids target; bound_once = last_once target; sound = subst IsSound (sym (last_state target)) (last_sound target) }

@@ -9,7 +9,11 @@ pub mod CauseLemmas
 pub mod AssumptionLemmas
 pub mod GivenLemmas
 pub mod GivenSteps
+pub mod CaseLemmas
+pub mod CaseSteps
 pub mod AnswerLemmas
 pub mod TruthLemmas
 pub mod PointLemmas
 pub mod TruthSteps
+pub mod NewNameLemmas
+pub mod PrenexLemmas

@@ -35,12 +35,13 @@ use Rattle.formula_tree.proofs.ResolvedTruth.{IsPlain, all_plain, is_normal}
 use Rattle.formula_tree.proofs.ResolvedNames.{atom_named}
 use Rattle.redlog_printer.specs.Within.{IsAtomWithin, AreTermsWithin}
 use Rattle.redlog_printer.specs.Bound.{HasTwoMembers, HaveTwoMembers, AreTwo}
+use Rattle.prenex_forms.proofs.Finished.{bound_normal_form}
 use Rattle.session_commands.specs.Keeping.{IsSessionFormula}
 use Rattle.session_commands.proofs.NameLemmas.{place_below, variables_in_names}
 
 -- ---- atoms
 
-terms_within : (n : ℕ) (ts : List Term) → IsRising ts → AllNonzero ts → ((x : ℕ) → ¬ (multiple x ts ≡ pos 0) → x < n) → AreTermsWithin n ts
+pub terms_within : (n : ℕ) (ts : List Term) → IsRising ts → AllNonzero ts → ((x : ℕ) → ¬ (multiple x ts ≡ pos 0) → x < n) → AreTermsWithin n ts
 terms_within n [] r z h = tt
 terms_within n (t ∷ ts) r z h = (
   h t.name (λ e. z.0 (sym (here t.name t ts refl r.0) ∙ e)),
@@ -166,27 +167,6 @@ module _ {A N : Type 0} (K L : N → Type 0) (more : (x : N) → K x → L x) wh
     all_bound_more plain.none h = tt
     all_bound_more (plain.also f fs) h = (bound_more f h.0, all_bound_more fs h.1)
 
-module _ {A N : Type 0} (K : N → Type 0) (opposite : A → A) where
-  mutual
-    bound_normal_form : (f : Formula A N) → EveryBound K f → EveryBound K (normal_form opposite f) × EveryBound K (normal_form_of_not opposite f)
-    bound_normal_form Yes h = (tt, tt)
-    bound_normal_form No h = (tt, tt)
-    bound_normal_form (One a) h = (tt, tt)
-    bound_normal_form (Not f) h = let i = bound_normal_form f h in (i.1, i.0)
-    bound_normal_form (And fs) h = bound_normal_forms fs h
-    bound_normal_form (Or fs) h = bound_normal_forms fs h
-    bound_normal_form (Impl f g) h = let i = bound_normal_form f h.0 in let j = bound_normal_form g h.1 in ((i.1, (j.0, tt)), (i.0, (j.1, tt)))
-    bound_normal_form (Repl f g) h = let i = bound_normal_form f h.0 in let j = bound_normal_form g h.1 in ((i.0, (j.1, tt)), (i.1, (j.0, tt)))
-    bound_normal_form (Equiv f g) h =
-        let i = bound_normal_form f h.0 in let j = bound_normal_form g h.1 in
-        (((i.0, (j.0, tt)), ((i.1, (j.1, tt)), tt)), ((i.0, (j.1, tt)), ((i.1, (j.0, tt)), tt)))
-    bound_normal_form (Ex x f) h = let i = bound_normal_form f h.1 in ((h.0, i.0), (h.0, i.1))
-    bound_normal_form (All x f) h = let i = bound_normal_form f h.1 in ((h.0, i.0), (h.0, i.1))
-
-    bound_normal_forms : (fs : Formulas A N) → EveryBoundOf K fs → EveryBoundOf K (normal_forms opposite fs) × EveryBoundOf K (normal_forms_of_not opposite fs)
-    bound_normal_forms plain.none h = (tt, tt)
-    bound_normal_forms (plain.also f fs) h = let i = bound_normal_form f h.0 in let j = bound_normal_forms fs h.1 in ((i.0, j.0), (i.1, j.1))
-
 two_replaced : {A B N M : Type 0} (by : A → Formula B M) (rename : N → M) (fs : Formulas A N) → AreTwo fs → AreTwo (all_replaced by rename fs)
 two_replaced by rename plain.none h = absurd h
 two_replaced by rename (plain.also f plain.none) h = absurd h
@@ -194,7 +174,7 @@ two_replaced by rename (plain.also f (plain.also g fs)) h = tt
 
 module _ {A B N M : Type 0} (by : A → Formula B M) (rename : N → M) where
   mutual
-    members_replaced : (f : Formula A N) → HasTwoMembers f → Every (λ a. HasTwoMembers (by a)) f → HasTwoMembers (replaced by rename f)
+    pub members_replaced : (f : Formula A N) → HasTwoMembers f → Every (λ a. HasTwoMembers (by a)) f → HasTwoMembers (replaced by rename f)
     members_replaced Yes h k = tt
     members_replaced No h k = tt
     members_replaced (One a) h k = k

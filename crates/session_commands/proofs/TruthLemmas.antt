@@ -94,73 +94,73 @@ module _ (s : State) (f : FormulaTree) (es : List PointEntry) (numbers : HasNumb
 
   -- nothing comes before the point, the free names, the quantifiers or the numbers that pass the limit
   pub below_point : IsClear s f es → HasNoneBelow s f es 12
-  below_point clear printed =
-      none_below s (use_of None printed) (Holds f es) numbers 12 (lit≤ tt) (no_reading clear 12 (λ l. absurd (omega arith)) (lit≤ tt)) (λ l. clear.entries) (λ l. absurd (omega arith)) (λ l. absurd (omega arith))
-      (λ l k. k.0) (λ l. absurd (omega arith))
+  below_point clear limit printed =
+      none_below s limit (use_of None printed) (Holds f es) numbers 12 (lit≤ tt) (no_reading clear 12 (λ l. absurd (omega arith)) (lit≤ tt)) (λ l. clear.entries) (λ l. absurd (omega arith)) (λ l. absurd (omega arith))
+      (λ l k. k.0) (λ l. absurd (omega arith)) (λ l h. h)
 
   pub below_unvalued : IsClear s f es → ¬ (MeanNoPoint s.context es) → HasNoneBelow s f es 13
-  below_unvalued clear point printed =
-      none_below s (use_of None printed) (Holds f es) numbers 13 (lit≤ tt) (no_reading clear 13 (λ l. absurd (omega arith)) (lit≤ tt)) (λ l. clear.entries) (λ l. point) (λ l. absurd (omega arith))
-      (λ l k. k.0) (λ l. absurd (omega arith))
+  below_unvalued clear point limit printed =
+      none_below s limit (use_of None printed) (Holds f es) numbers 13 (lit≤ tt) (no_reading clear 13 (λ l. absurd (omega arith)) (lit≤ tt)) (λ l. clear.entries) (λ l. point) (λ l. absurd (omega arith))
+      (λ l k. k.0) (λ l. absurd (omega arith)) (λ l h. h)
 
   pub below_overflow : IsClear s f es → ¬ (MeanNoPoint s.context es) → IsValued s f es → HasNoneBelow s f es 15
-  below_overflow clear point valued printed =
-      none_below s (use_of None printed) (Holds f es) numbers 15 (lit≤ tt) (no_reading clear 15 (λ l. absurd (omega arith)) (lit≤ tt)) (λ l. clear.entries) (λ l. point) (λ l h. valued h.1)
-      (λ l k. k.0) (λ l. absurd (omega arith))
+  below_overflow clear point valued limit printed =
+      none_below s limit (use_of None printed) (Holds f es) numbers 15 (lit≤ tt) (no_reading clear 15 (λ l. absurd (omega arith)) (lit≤ tt)) (λ l. clear.entries) (λ l. point) (λ l h. valued h.1)
+      (λ l k. k.0) (λ l. absurd (omega arith)) (λ l h. h)
 
   pub below_nodes : IsClear s f es → ¬ (MeanNoPoint s.context es) → IsValued s f es → ¬ (PassesLimit es) → IsReadable s f → HasNoneBelow s f es 16
-  below_nodes clear point valued within readable printed =
-      none_below s (use_of None printed) (Holds f es) numbers 16 (lit≤ tt) (no_reading clear 16 (λ l. readable.within) (lit≤ tt)) (λ l. clear.entries) (λ l. point) (λ l h. valued h.1)
-      (λ l k. k.0) (λ l. within)
+  below_nodes clear point valued within readable limit printed =
+      none_below s limit (use_of None printed) (Holds f es) numbers 16 (lit≤ tt) (no_reading clear 16 (λ l. readable.within) (lit≤ tt)) (λ l. clear.entries) (λ l. point) (λ l h. valued h.1)
+      (λ l k. k.0) (λ l. within) (λ l h. h)
 
   -- a truth has no formula to bind or to print
-  no_formula : (printed : Bool) → HasNoCauseBelow s (use_of None printed) (Holds f es) 16 → HasNoCauseBelow s (use_of None printed) (Holds f es) 19
-  no_formula printed clear error.Long l h = h
-  no_formula printed clear error.Lexical l h = h
-  no_formula printed clear error.Nesting l h = h
-  no_formula printed clear error.Syntax l h = h
-  no_formula printed clear error.Unbound l h = clear error.Unbound (lit< tt) h
-  no_formula printed clear error.FormulaAsTerm l h = clear error.FormulaAsTerm (lit< tt) h
-  no_formula printed clear error.Nonlinear l h = clear error.Nonlinear (lit< tt) h
-  no_formula printed clear error.Division l h = clear error.Division (lit< tt) h
-  no_formula printed clear error.CongruenceContext l h = clear error.CongruenceContext (lit< tt) h
-  no_formula printed clear error.Modulus l h = clear error.Modulus (lit< tt) h
-  no_formula printed clear error.Depth l h = clear error.Depth (lit< tt) h
-  no_formula printed clear error.Point l h = clear error.Point (lit< tt) h
-  no_formula printed clear error.Unvalued l h = clear error.Unvalued (lit< tt) h
-  no_formula printed clear error.Quantified l h = h.0
-  no_formula printed clear error.Overflow l h = clear error.Overflow (lit< tt) h
-  no_formula printed clear error.Nodes l h = h
-  no_formula printed clear error.Bindings l h = ⊎_elim (λ p. p) (λ g. g.1) h
-  no_formula printed clear error.Text l h = h.1.1
-  no_formula printed clear error.Memory l h = h
+  no_formula : (limit : ℕ) (printed : Bool) → HasNoCauseBelow s limit (use_of None printed) (Holds f es) 16 → HasNoCauseBelow s limit (use_of None printed) (Holds f es) 19
+  no_formula limit printed clear error.Long l h = h
+  no_formula limit printed clear error.Lexical l h = h
+  no_formula limit printed clear error.Nesting l h = h
+  no_formula limit printed clear error.Syntax l h = h
+  no_formula limit printed clear error.Unbound l h = clear error.Unbound (lit< tt) h
+  no_formula limit printed clear error.FormulaAsTerm l h = clear error.FormulaAsTerm (lit< tt) h
+  no_formula limit printed clear error.Nonlinear l h = clear error.Nonlinear (lit< tt) h
+  no_formula limit printed clear error.Division l h = clear error.Division (lit< tt) h
+  no_formula limit printed clear error.CongruenceContext l h = clear error.CongruenceContext (lit< tt) h
+  no_formula limit printed clear error.Modulus l h = clear error.Modulus (lit< tt) h
+  no_formula limit printed clear error.Depth l h = clear error.Depth (lit< tt) h
+  no_formula limit printed clear error.Point l h = clear error.Point (lit< tt) h
+  no_formula limit printed clear error.Unvalued l h = clear error.Unvalued (lit< tt) h
+  no_formula limit printed clear error.Quantified l h = h.0
+  no_formula limit printed clear error.Overflow l h = clear error.Overflow (lit< tt) h
+  no_formula limit printed clear error.Nodes l h = h
+  no_formula limit printed clear error.Bindings l h = ⊎_elim (λ p. p) (λ g. g.1) h
+  no_formula limit printed clear error.Text l h = h.1.given
+  no_formula limit printed clear error.Memory l h = h
 
   pub all_clear : IsClear s f es → ¬ (MeanNoPoint s.context es) → IsValued s f es → ¬ (PassesLimit es) → IsReadable s f → HasNoneBelow s f es 19
-  all_clear clear point valued within readable printed = no_formula printed (below_nodes clear point valued within readable printed)
+  all_clear clear point valued within readable limit printed = no_formula limit printed (below_nodes clear point valued within readable limit printed)
 
   -- ---- refusals
 
   pub no_point : IsClear s f es → (e : StatementError) → PointStop s.context es e → RefusesTruth s f es e
-  no_point clear error.Point h = λ limit printed. record { applies = h; first = below_point clear printed }
+  no_point clear error.Point h = λ limit printed. record { applies = h; first = below_point clear limit printed }
   no_point clear error.Memory h = λ limit printed. tt
   no_point clear _ h = absurd h
 
   pub not_valued : IsClear s f es → ¬ (MeanNoPoint s.context es) → (e : StatementError) → ValuedStop s f es e → RefusesTruth s f es e
-  not_valued clear point error.Unvalued h = λ limit printed. record { applies = (tt, h); first = below_unvalued clear point printed }
+  not_valued clear point error.Unvalued h = λ limit printed. record { applies = (tt, h); first = below_unvalued clear point limit printed }
   not_valued clear point error.Memory h = λ limit printed. tt
   not_valued clear point _ h = absurd h
 
   pub reading_passes : IsClear s f es → ¬ (MeanNoPoint s.context es) → IsValued s f es → OverflowsInReading s.context s.bound (place s.names) f → RefusesTruth s f es error.Overflow
-  reading_passes clear point valued h = λ limit printed. record { applies = inl (inl h); first = below_overflow clear point valued printed }
+  reading_passes clear point valued h = λ limit printed. record { applies = inl (inl h); first = below_overflow clear point valued limit printed }
 
   pub point_passes : IsClear s f es → ¬ (MeanNoPoint s.context es) → IsValued s f es → PassesLimit es → RefusesTruth s f es error.Overflow
-  point_passes clear point valued h = λ limit printed. record { applies = inl (inr h); first = below_overflow clear point valued printed }
+  point_passes clear point valued h = λ limit printed. record { applies = inl (inr (inl h)); first = below_overflow clear point valued limit printed }
 
   pub truth_passes : IsClear s f es → ¬ (MeanNoPoint s.context es) → IsValued s f es → ¬ (IsQuantified s.bound f) → (p : NamedPoint) → IsPointOf es p → (e : StatementError)
       → ValueStop (resolved s (Holds f es)) (at_names s.names p) e → RefusesTruth s f es e
   truth_passes clear point valued free p meant error.Overflow h = λ limit printed. record {
     applies = inr (inl (tt, free, record { point = p; meant = meant; passes = h }));
-    first = below_overflow clear point valued printed;
+    first = below_overflow clear point valued limit printed;
   }
   truth_passes clear point valued free p meant error.Memory h = λ limit printed. tt
   truth_passes clear point valued free p meant _ h = absurd h
@@ -169,30 +169,30 @@ module _ (s : State) (f : FormulaTree) (es : List PointEntry) (numbers : HasNumb
       → (limit : ℕ) (e : StatementError) → EliminationStop s.context limit (resolved s (Holds f es)) (at_names s.names p) e → RefusesTruthAt s limit f es e
   elimination_stops clear point valued within readable quantified p meant limit error.Overflow h = λ printed. record {
     applies = inr (inr (quantified, (p, meant, h)));
-    first = below_overflow clear point valued printed;
+    first = below_overflow clear point valued limit printed;
   }
   elimination_stops clear point valued within readable quantified p meant limit error.Nodes h = λ printed. record {
     applies = inr (inr (quantified, (p, meant, h)));
-    first = below_nodes clear point valued within readable printed;
+    first = below_nodes clear point valued within readable limit printed;
   }
   elimination_stops clear point valued within readable quantified p meant limit error.Memory h = λ printed. tt
   elimination_stops clear point valued within readable quantified p meant limit _ h = absurd h
 
   -- ---- a formula that is not read
 
-  applied : (printed : Bool) (d : StaticError) → Applies d → ¬ (d ≡ static.Memory) → IsCause s (use_of None printed) (Holds f es) (static_refusal d)
-  applied printed d h other = ⊎_elim (λ e. absurd (other e)) (λ k. k) (cause_of_reading s (use_of None printed) (Holds f es) numbers d h)
+  applied : (limit : ℕ) (printed : Bool) (d : StaticError) → Applies d → ¬ (d ≡ static.Memory) → IsCause s limit (use_of None printed) (Holds f es) (static_refusal d)
+  applied limit printed d h other = ⊎_elim (λ e. absurd (other e)) (λ k. k) (cause_of_reading s limit (use_of None printed) (Holds f es) numbers d h)
 
   -- the first cause is the one of the reading
   reading_first : (d : StaticError) → reading.IsFirst s.context s.bound s.names f d → (rank (static_refusal d) ≤ 16) → (6 < rank (static_refusal d) → ¬ Bound) → (rank (static_refusal d) ≤ 12) → HasNoneBelow s f es (rank (static_refusal d))
-  reading_first d first b bound c printed =
-      none_below s (use_of None printed) (Holds f es) numbers (rank (static_refusal d)) b (λ e l. first.first e (earlier e d l)) bound (λ l. absurd (omega arith)) (λ l. absurd (omega arith)) (λ l k. k.0) (λ l. absurd (omega arith))
+  reading_first d first b bound c limit printed =
+      none_below s limit (use_of None printed) (Holds f es) numbers (rank (static_refusal d)) b (λ e l. first.first e (earlier e d l)) bound (λ l. absurd (omega arith)) (λ l. absurd (omega arith)) (λ l k. k.0) (λ l. absurd (omega arith)) (λ l h. h)
 
   bound_first : (d : StaticError) → reading.IsFirst s.context s.bound s.names f d → 0 < reading.rank d → Bound → RefusesTruth s f es error.FormulaAsTerm
   bound_first d first l h = λ limit printed. record {
     applies = inr h;
-    first = none_below s (use_of None printed) (Holds f es) numbers 6 (lit≤ tt) (λ e m. first.first e (let n = earlier e static.FormulaAsTerm m in omega arith)) (λ m. absurd (omega arith)) (λ m. absurd (omega arith))
-        (λ m. absurd (omega arith)) (λ m k. k.0) (λ m. absurd (omega arith));
+    first = none_below s limit (use_of None printed) (Holds f es) numbers 6 (lit≤ tt) (λ e m. first.first e (let n = earlier e static.FormulaAsTerm m in omega arith)) (λ m. absurd (omega arith)) (λ m. absurd (omega arith))
+        (λ m. absurd (omega arith)) (λ m k. k.0) (λ m. absurd (omega arith)) (λ m h. h);
   }
 
   clear_at : reading.IsFirst s.context s.bound s.names f static.Overflow → ¬ Bound → IsClear s f es
@@ -202,7 +202,7 @@ module _ (s : State) (f : FormulaTree) (es : List PointEntry) (numbers : HasNumb
   Stopped o = MatchOption o (IsClear s f es × OverflowsInReading s.context s.bound (place s.names) f) (RefusesTruth s f es)
 
   not_read : (d : StaticError) (met : Bool) → (IsTrue met ↔ Bound) → reading.IsFirstCause s.context s.bound s.names f d → Stopped (stop_of (static_refusal d) met)
-  not_read static.Unbound met is first = λ limit printed. record { applies = first.applies; first = reading_first static.Unbound first (lit≤ tt) (λ l. absurd (omega arith)) (lit≤ tt) printed }
+  not_read static.Unbound met is first = λ limit printed. record { applies = first.applies; first = reading_first static.Unbound first (lit≤ tt) (λ l. absurd (omega arith)) (lit≤ tt) limit printed }
   not_read static.Memory met is first = λ limit printed. tt
   not_read static.FormulaAsTerm true is first = bound_first static.FormulaAsTerm first (lit< tt) (is.0 refl)
   not_read static.Nonlinear true is first = bound_first static.Nonlinear first (lit< tt) (is.0 refl)
@@ -211,12 +211,12 @@ module _ (s : State) (f : FormulaTree) (es : List PointEntry) (numbers : HasNumb
   not_read static.Modulus true is first = bound_first static.Modulus first (lit< tt) (is.0 refl)
   not_read static.Depth true is first = bound_first static.Depth first (lit< tt) (is.0 refl)
   not_read static.Overflow true is first = bound_first static.Overflow first (lit< tt) (is.0 refl)
-  not_read static.FormulaAsTerm false is first = λ limit printed. record { applies = inl first.applies; first = reading_first static.FormulaAsTerm first (lit≤ tt) (λ l. absurd (omega arith)) (lit≤ tt) printed }
-  not_read static.Nonlinear false is first = λ limit printed. record { applies = applied printed static.Nonlinear first.applies (λ e. absurd (cc)); first = reading_first static.Nonlinear first (lit≤ tt) (λ l h. false≢true (is.1 h)) (lit≤ tt) printed }
-  not_read static.Division false is first = λ limit printed. record { applies = applied printed static.Division first.applies (λ e. absurd (cc)); first = reading_first static.Division first (lit≤ tt) (λ l h. false≢true (is.1 h)) (lit≤ tt) printed }
-  not_read static.CongruenceContext false is first = λ limit printed. record { applies = first.applies; first = reading_first static.CongruenceContext first (lit≤ tt) (λ l h. false≢true (is.1 h)) (lit≤ tt) printed }
-  not_read static.Modulus false is first = λ limit printed. record { applies = applied printed static.Modulus first.applies (λ e. absurd (cc)); first = reading_first static.Modulus first (lit≤ tt) (λ l h. false≢true (is.1 h)) (lit≤ tt) printed }
-  not_read static.Depth false is first = λ limit printed. record { applies = first.applies; first = reading_first static.Depth first (lit≤ tt) (λ l h. false≢true (is.1 h)) (lit≤ tt) printed }
+  not_read static.FormulaAsTerm false is first = λ limit printed. record { applies = inl first.applies; first = reading_first static.FormulaAsTerm first (lit≤ tt) (λ l. absurd (omega arith)) (lit≤ tt) limit printed }
+  not_read static.Nonlinear false is first = λ limit printed. record { applies = applied limit printed static.Nonlinear first.applies (λ e. absurd (cc)); first = reading_first static.Nonlinear first (lit≤ tt) (λ l h. false≢true (is.1 h)) (lit≤ tt) limit printed }
+  not_read static.Division false is first = λ limit printed. record { applies = applied limit printed static.Division first.applies (λ e. absurd (cc)); first = reading_first static.Division first (lit≤ tt) (λ l h. false≢true (is.1 h)) (lit≤ tt) limit printed }
+  not_read static.CongruenceContext false is first = λ limit printed. record { applies = first.applies; first = reading_first static.CongruenceContext first (lit≤ tt) (λ l h. false≢true (is.1 h)) (lit≤ tt) limit printed }
+  not_read static.Modulus false is first = λ limit printed. record { applies = applied limit printed static.Modulus first.applies (λ e. absurd (cc)); first = reading_first static.Modulus first (lit≤ tt) (λ l h. false≢true (is.1 h)) (lit≤ tt) limit printed }
+  not_read static.Depth false is first = λ limit printed. record { applies = first.applies; first = reading_first static.Depth first (lit≤ tt) (λ l h. false≢true (is.1 h)) (lit≤ tt) limit printed }
   not_read static.Overflow false is first = (clear_at first (λ h. false≢true (is.1 h)), subst (λ ns. OverflowsInReading s.context s.bound (place ns) f) numbers first.applies)
 
   pub unread_stops : (e : StatementError) (met : Bool) → (IsTrue met ↔ Bound) → IsUnread s f e → (o : Option StatementError) → o ≡ stop_of e met → Stopped o
@@ -241,7 +241,7 @@ module _ (s : State) (f : FormulaTree) (es : List PointEntry) (numbers : HasNumb
   pub read_bound : IsReadable s f → Bound → RefusesTruth s f es error.FormulaAsTerm
   read_bound a h = λ limit printed. record {
     applies = inr h;
-    first = none_below s (use_of None printed) (Holds f es) numbers 6 (lit≤ tt) (λ e m. resolvable a e (omega arith)) (λ m. absurd (omega arith)) (λ m. absurd (omega arith)) (λ m. absurd (omega arith)) (λ m k. k.0) (λ m. absurd (omega arith));
+    first = none_below s limit (use_of None printed) (Holds f es) numbers 6 (lit≤ tt) (λ e m. resolvable a e (omega arith)) (λ m. absurd (omega arith)) (λ m. absurd (omega arith)) (λ m. absurd (omega arith)) (λ m k. k.0) (λ m. absurd (omega arith)) (λ m h. h);
   }
 
   -- ---- the truth

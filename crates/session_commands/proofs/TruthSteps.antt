@@ -203,9 +203,9 @@ module _ (desk : Desk) (names : List (List ℕ)) (f : FormulaTree) (es : List Po
   truth_refused r limit printed k = err_map r (λ e t. subst (λ s. Refuses s limit (use_of None printed) (Holds f es) e) start (t printed)) k
 
   pub truth_answered : (r : Result Line StatementError) (limit : ℕ) (printed b : Bool) (text : List ℕ) → IsTruth (state_of named_desk) (Holds f es) b → HasNoneBelow (state_of named_desk) f es 19 → text ≡ truth_text b
-      → IfOk r (IsLine printed text) → IfOk r (AnswersCommand (named (state_of desk) (Holds f es)) limit printed (Holds f es))
-  truth_answered r limit printed b text truth clear same k =
-      ok_map r (λ line l. subst (λ s. AnswersCommand s limit printed (Holds f es) line) start (clear printed, (text, (b, truth, same), l))) k
+      → IfOk r (IsLine printed text) → (after : List (List ℕ)) → IfOk r (AnswersCommand (named (state_of desk) (Holds f es)) limit printed (Holds f es) after)
+  truth_answered r limit printed b text truth clear same k after =
+      ok_map r (λ line l. subst (λ s. AnswersCommand s limit printed (Holds f es) after line) start (clear limit printed, (text, (b, truth, same), l))) k
 
   module _ (later : Desk) (k : KeepsDesk named_desk later) where
     pub state_later : {E : Type 0} (r : Result E StatementError) → OnOk r (state_of later ≡ named (state_of desk) (Holds f es))

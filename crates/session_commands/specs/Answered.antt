@@ -1,5 +1,5 @@
 -- What the parts of a statement are answered with, and why they are not.
-use Rattle.std.specs.Prelude.{◌≡◌, ℕ, List, Bool, Some, None}
+use Rattle.std.specs.Prelude.{ℕ, List, Bool, Some, None}
 use Rattle.qe_syntax.specs.Statements.{CommandTree, StatementTree}
 use Rattle.session_commands.specs.declared.line.Line.{Line}
 use Rattle.session_commands.specs.declared.line.StatementError.{StatementError}
@@ -8,14 +8,13 @@ use Rattle.session_commands.specs.Built.{IsBuiltCommand, IsBuiltFormula, IsBuilt
 use Rattle.session_commands.specs.State.{State}
 use Rattle.session_commands.specs.Commands.{named}
 use Rattle.session_commands.specs.Causes.{Refuses}
-use Rattle.session_commands.specs.Reply.{AnswersCommand, AnswersAssignment, Answers, RefusesAction}
+use Rattle.session_commands.specs.Reply.{AnswersSaid, AnswersAssignment, Answers, RefusesAction}
 use Rattle.session_commands.specs.Steps.{use_of}
 
--- the command is built and answered with the line, and its variables have their numbers
+-- the command is built and answered with the line
 pub record IsCommandAnswered (s : State) (limit : ℕ) (printed : Bool) (c : CommandTree) (answer : Line) (next : State) : Type 0 where
   pub built : IsBuiltCommand c
-  pub answered : AnswersCommand (named s c) limit printed c answer
-  pub after : next ≡ named s c
+  pub answered : AnswersSaid (named s c) limit printed c answer next
 
 -- the command is not built, or refused with a word that the reader doesn't give, or memory ran out
 abbrev pub IsCommandStopped : State → ℕ → Bool → CommandTree → StatementError → Type 0

@@ -3,7 +3,7 @@ use Rattle.std.specs.Prelude.{List, [], ◌∷◌, ◌++◌}
 use Rattle.formula_meaning.specs.Atom.{Atom}
 use Rattle.formula_meaning.specs.Formula.{One, none, also}
 use Rattle.formula_meaning.specs.Tree.{Tree}
-use Rattle.qe_syntax.specs.Trees.{FormulaTree, FormulaTrees}
+use Rattle.qe_syntax.specs.Trees.{FormulaTrees}
 use Rattle.qe_syntax.specs.Value.{NamedPoint, TrueAt}
 use Rattle.formula_tree.specs.Resolving.{resolve, bound_truth}
 use Rattle.session_commands.specs.State.{State}

@@ -5,7 +5,7 @@ use Rattle.qe_syntax.specs.Statements.{CommandTree, Echo, Nnf, Pnf, Dnf, Cnf, Si
 abbrev pub IsBuiltFormula : CommandTree → Type 0
 IsBuiltFormula (Echo f) = Unit {0}
 IsBuiltFormula (Nnf f) = Unit {0}
-IsBuiltFormula (Pnf f) = ⊥
+IsBuiltFormula (Pnf f) = Unit {0}
 IsBuiltFormula (Dnf f) = Unit {0}
 IsBuiltFormula (Cnf f) = Unit {0}
 IsBuiltFormula (Simpl f given) = Unit {0}
@@ -14,16 +14,16 @@ IsBuiltFormula (Qea f given) = ⊥
 IsBuiltFormula (Holds f es) = ⊥
 IsBuiltFormula (Sample f es) = ⊥
 
--- one of these, or the test of a formula at a point
+-- one of these, the case list of a formula, or the test of a formula at a point
 abbrev pub IsBuiltCommand : CommandTree → Type 0
 IsBuiltCommand (Echo f) = Unit {0}
 IsBuiltCommand (Nnf f) = Unit {0}
-IsBuiltCommand (Pnf f) = ⊥
+IsBuiltCommand (Pnf f) = Unit {0}
 IsBuiltCommand (Dnf f) = Unit {0}
 IsBuiltCommand (Cnf f) = Unit {0}
 IsBuiltCommand (Simpl f given) = Unit {0}
 IsBuiltCommand (Qe f given) = Unit {0}
-IsBuiltCommand (Qea f given) = ⊥
+IsBuiltCommand (Qea f given) = Unit {0}
 IsBuiltCommand (Holds f es) = Unit {0}
 IsBuiltCommand (Sample f es) = ⊥
 

@@ -5,6 +5,7 @@ use Rattle.formula_meaning.specs.Fold.{Conjunction, Disjunction}
 use Rattle.formula_meaning.specs.Some.{SomeOf}
 use Rattle.formula_meaning.specs.Sizes.{nodes}
 use Rattle.formula_meaning.specs.Tree.{Tree, tree_distinct}
+use Rattle.elimination_reference.specs.Cases.{Case, reference_cases}
 use Rattle.elimination_reference.specs.Measured.{Stop, Overflow, Nodes, done, stopped}
 use Rattle.elimination_reference.specs.Reference.{reference}
 use Rattle.elimination_reference.specs.Sample.{reference_at}
@@ -16,7 +17,9 @@ use Rattle.qe_syntax.specs.Value.{NamedPoint}
 use Rattle.formula_tree.specs.Bindings.{bound_to, most_bound}
 use Rattle.formula_tree.specs.Resolving.{BoundTrees, place, at_names}
 use Rattle.formula_tree.specs.Causes.{IsUnbound, NamesFormulaAsTerm, IsBound, IsNonlinear, Divides, CongruenceInFields, IsBadModulus, IsTooDeep, OverflowsInReading}
+use Rattle.answer_texts.specs.Answers.{cases_text}
 use Rattle.clean_forms.specs.Plain.{plain_form, literals}
+use Rattle.prenex_forms.specs.Forms.{OverflowsInRenaming}
 use Rattle.redlog_printer.specs.Text.{tree_text}
 use Rattle.redlog_printer.specs.Writing.{text_limit}
 use Rattle.session_commands.specs.declared.line.StatementError.{StatementError}
@@ -24,7 +27,7 @@ use Rattle.session_commands.specs.declared.line.StatementError.TheVariants as er
 use Rattle.session_commands.specs.declared.formulas.TheConstants.{MOST_SUBFORMULAS}
 use Rattle.session_commands.specs.State.{State}
 use Rattle.session_commands.specs.Parts.{given_of, SomePart}
-use Rattle.session_commands.specs.Commands.{formula_of, entries_of, resolved, negated_of, Gives}
+use Rattle.session_commands.specs.Commands.{formula_of, entries_of, resolved, negated_of, Gives, HasAnswerNames}
 use Rattle.session_commands.specs.Points.{MeanNoPoint, HasUnvalued, IsQuantified, TruthPasses}
 
 -- what is done with what a command gives: a name that it is bound to, and whether its line is printed
@@ -101,37 +104,59 @@ abbrev pub formula_line : Option (List ℕ) → List (List ℕ) → Tree → Lis
 formula_line None names t = tree_text names t
 formula_line (Some x) names t = x ++ codes " := " ++ tree_text names t
 
+-- the line of the formula that the command determines is past the limit, with the names after the answer
+pub record HasLongLine (s : State) (u : Use) (c : CommandTree) : Type 0 where
+  pub formula : Tree
+  pub given : Gives s c formula
+  pub names : List (List ℕ)
+  pub named : HasAnswerNames s c names
+  pub long : text_limit < length (formula_line u.target names formula)
+
 -- ---- causes
+
+-- The command asks for a prenex form, the negation normal form has no more nodes than the limit, and the normal form of an atom whose names are chosen passes the
+-- limit of numbers.
+abbrev pub RenamingPasses : State → ℕ → CommandTree → Type 0
+RenamingPasses s limit (Echo f) = ⊥
+RenamingPasses s limit (Nnf f) = ⊥
+RenamingPasses s limit (Pnf f) = (nodes (negated_of s f) ≤ limit) × OverflowsInRenaming s.context (length s.names) (negated_of s f)
+RenamingPasses s limit (Dnf f) = ⊥
+RenamingPasses s limit (Cnf f) = ⊥
+RenamingPasses s limit (Simpl f given) = ⊥
+RenamingPasses s limit (Qe f given) = ⊥
+RenamingPasses s limit (Qea f given) = ⊥
+RenamingPasses s limit (Holds f es) = ⊥
+RenamingPasses s limit (Sample f es) = ⊥
 
 -- somewhere in the command: in its formula, or in one of its assumptions
 abbrev pub InSomePart : CommandTree → (FormulaTree → Type 0) → Type 0
 InSomePart c P = SomePart P (formula_of c) (given_of c)
 
 -- The cause applies. Each of these is answered wherever it applies and no earlier one does.
-abbrev pub IsCause : State → Use → CommandTree → StatementError → Type 0
-IsCause s u c error.Unbound = InSomePart c (IsUnbound s.bound)
-IsCause s u c error.FormulaAsTerm = InSomePart c (NamesFormulaAsTerm s.bound) ⊎ SomeOf (λ (e : PointEntry). IsBound s.bound e.name) (entries_of c)
-IsCause s u c error.Nonlinear = InSomePart c (IsNonlinear s.context (place s.names))
-IsCause s u c error.Division = InSomePart c (Divides s.context (place s.names))
-IsCause s u c error.CongruenceContext = InSomePart c (CongruenceInFields s.context)
-IsCause s u c error.Modulus = InSomePart c (IsBadModulus s.context (place s.names))
-IsCause s u c error.Depth = InSomePart c (IsTooDeep s.bound)
-IsCause s u c error.Point = MeanNoPoint s.context (entries_of c)
-IsCause s u c error.Unvalued = AsksAtPoint c × HasUnvalued s.bound (place s.names) (formula_of c) (entries_of c)
-IsCause s u c error.Quantified = AsksPlainForm c × IsQuantified s.bound (formula_of c)
-IsCause s u c error.Overflow = InSomePart c (OverflowsInReading s.context s.bound (place s.names)) ⊎ PassesLimit (entries_of c)
-IsCause s u c error.Bindings = HasNoRoom s.bound u.target ⊎ ((t : Tree) × Gives s c t × IsTooLarge u.target t)
-IsCause s u c error.Text = (u.printed ≡ true) × ((t : Tree) × Gives s c t × (text_limit < length (formula_line u.target s.names t)))
-IsCause s u c error.Long = ⊥
-IsCause s u c error.Lexical = ⊥
-IsCause s u c error.Nesting = ⊥
-IsCause s u c error.Syntax = ⊥
-IsCause s u c error.Nodes = ⊥
-IsCause s u c error.Memory = ⊥
+abbrev pub IsCause : State → ℕ → Use → CommandTree → StatementError → Type 0
+IsCause s limit u c error.Unbound = InSomePart c (IsUnbound s.bound)
+IsCause s limit u c error.FormulaAsTerm = InSomePart c (NamesFormulaAsTerm s.bound) ⊎ SomeOf (λ (e : PointEntry). IsBound s.bound e.name) (entries_of c)
+IsCause s limit u c error.Nonlinear = InSomePart c (IsNonlinear s.context (place s.names))
+IsCause s limit u c error.Division = InSomePart c (Divides s.context (place s.names))
+IsCause s limit u c error.CongruenceContext = InSomePart c (CongruenceInFields s.context)
+IsCause s limit u c error.Modulus = InSomePart c (IsBadModulus s.context (place s.names))
+IsCause s limit u c error.Depth = InSomePart c (IsTooDeep s.bound)
+IsCause s limit u c error.Point = MeanNoPoint s.context (entries_of c)
+IsCause s limit u c error.Unvalued = AsksAtPoint c × HasUnvalued s.bound (place s.names) (formula_of c) (entries_of c)
+IsCause s limit u c error.Quantified = AsksPlainForm c × IsQuantified s.bound (formula_of c)
+IsCause s limit u c error.Overflow = InSomePart c (OverflowsInReading s.context s.bound (place s.names)) ⊎ (PassesLimit (entries_of c) ⊎ RenamingPasses s limit c)
+IsCause s limit u c error.Bindings = HasNoRoom s.bound u.target ⊎ ((t : Tree) × Gives s c t × IsTooLarge u.target t)
+IsCause s limit u c error.Text = (u.printed ≡ true) × HasLongLine s u c
+IsCause s limit u c error.Long = ⊥
+IsCause s limit u c error.Lexical = ⊥
+IsCause s limit u c error.Nesting = ⊥
+IsCause s limit u c error.Syntax = ⊥
+IsCause s limit u c error.Nodes = ⊥
+IsCause s limit u c error.Memory = ⊥
 
 -- ---- causes for which a command may be refused and need not be
 
--- The reference elimination that the command asks for stops like this: of the formula of an elimination; or of a formula with quantifiers at the
+-- The reference elimination that the command asks for stops like this: of the formula of an elimination or of a case list; or of a formula with quantifiers at the
 -- point of a truth, where nodes are counted before the point is put in.
 abbrev pub ReferenceStops : State → ℕ → CommandTree → Stop → Type 0
 ReferenceStops s limit (Echo f) e = ⊥
@@ -141,7 +166,7 @@ ReferenceStops s limit (Dnf f) e = ⊥
 ReferenceStops s limit (Cnf f) e = ⊥
 ReferenceStops s limit (Simpl f given) e = ⊥
 ReferenceStops s limit (Qe f given) e = reference s.context limit (resolved s (Qe f given)) ≡ stopped e
-ReferenceStops s limit (Qea f given) e = ⊥
+ReferenceStops s limit (Qea f given) e = reference_cases s.context limit (resolved s (Qea f given)) ≡ stopped e
 ReferenceStops s limit (Holds f es) e = IsQuantified s.bound f
     × ((point : NamedPoint) × IsPointOf es point × (reference_at s.context limit (at_names s.names point) (resolved s (Holds f es)) ≡ stopped e))
 ReferenceStops s limit (Sample f es) e = ⊥
@@ -159,11 +184,25 @@ IsMeasureOf s limit (Qea f given) t = ⊥
 IsMeasureOf s limit (Holds f es) t = ⊥
 IsMeasureOf s limit (Sample f es) t = ⊥
 
--- What the command counts before it answers is above the limit: the nodes of the negation normal form that is simplified, or the places of atoms of the plain form.
+-- the text of the case list that the reference elimination gives passes the limit
+abbrev pub HasLongCases : State → ℕ → CommandTree → Type 0
+HasLongCases s limit (Echo f) = ⊥
+HasLongCases s limit (Nnf f) = ⊥
+HasLongCases s limit (Pnf f) = ⊥
+HasLongCases s limit (Dnf f) = ⊥
+HasLongCases s limit (Cnf f) = ⊥
+HasLongCases s limit (Simpl f given) = ⊥
+HasLongCases s limit (Qe f given) = ⊥
+HasLongCases s limit (Qea f given) = (ks : List Case) × (cost : ℕ) × (reference_cases s.context limit (resolved s (Qea f given)) ≡ done (ks, cost)) × (text_limit < length (cases_text s.names ks))
+HasLongCases s limit (Holds f es) = ⊥
+HasLongCases s limit (Sample f es) = ⊥
+
+-- What the command counts before it answers is above the limit: the nodes of the negation normal form that is simplified or brought to prenex form, or the places
+-- of atoms of the plain form.
 abbrev pub IsOverLimit : State → ℕ → CommandTree → Type 0
 IsOverLimit s limit (Echo f) = ⊥
 IsOverLimit s limit (Nnf f) = ⊥
-IsOverLimit s limit (Pnf f) = ⊥
+IsOverLimit s limit (Pnf f) = limit < nodes (negated_of s f)
 IsOverLimit s limit (Dnf f) = limit < literals Conjunction (negated_of s f)
 IsOverLimit s limit (Cnf f) = limit < literals Disjunction (negated_of s f)
 IsOverLimit s limit (Simpl f given) = limit < nodes (negated_of s f)
@@ -183,12 +222,12 @@ HasManyNodes (Some x) t = MOST_SUBFORMULAS < nodes t
 
 -- The command may be refused with the word: its cause applies, or one for which a command may be refused and need not be.
 abbrev pub MayRefuse : State → ℕ → Use → CommandTree → StatementError → Type 0
-MayRefuse s limit u c error.Overflow = IsCause s u c error.Overflow ⊎ (ValuePassesAt s c ⊎ ReferenceStops s limit c Overflow)
+MayRefuse s limit u c error.Overflow = IsCause s limit u c error.Overflow ⊎ (ValuePassesAt s c ⊎ ReferenceStops s limit c Overflow)
 MayRefuse s limit u c error.Nodes = (AsksNegationNormal c × (limit < 6 * tree_distinct (resolved s c))) ⊎ (IsOverLimit s limit c ⊎ ReferenceStops s limit c Nodes)
-MayRefuse s limit u c error.Bindings = IsCause s u c error.Bindings ⊎ ((t : Tree) × IsMeasureOf s limit c t × HasManyNodes u.target t)
-MayRefuse s limit u c error.Text = IsCause s u c error.Text
-    ⊎ ((u.printed ≡ true) × ((t : Tree) × IsMeasureOf s limit c t × (text_limit < length (formula_line u.target s.names t))))
-MayRefuse s limit u c e = IsCause s u c e
+MayRefuse s limit u c error.Bindings = IsCause s limit u c error.Bindings ⊎ ((t : Tree) × IsMeasureOf s limit c t × HasManyNodes u.target t)
+MayRefuse s limit u c error.Text = IsCause s limit u c error.Text
+    ⊎ ((u.printed ≡ true) × (((t : Tree) × IsMeasureOf s limit c t × (text_limit < length (formula_line u.target s.names t))) ⊎ HasLongCases s limit c))
+MayRefuse s limit u c e = IsCause s limit u c e
 
 -- the order in which causes are looked for
 abbrev pub rank : StatementError → ℕ
@@ -213,13 +252,13 @@ rank error.Text = 18
 rank error.Memory = 19
 
 -- none of the causes that come before a place of the order applies
-abbrev pub HasNoCauseBelow : State → Use → CommandTree → ℕ → Type 0
-HasNoCauseBelow s u c n = (e : StatementError) → rank e < n → ¬ (IsCause s u c e)
+abbrev pub HasNoCauseBelow : State → ℕ → Use → CommandTree → ℕ → Type 0
+HasNoCauseBelow s limit u c n = (e : StatementError) → rank e < n → ¬ (IsCause s limit u c e)
 
 -- the word may be answered, and no earlier cause applies
 pub record IsFirst (s : State) (limit : ℕ) (u : Use) (c : CommandTree) (e : StatementError) : Type 0 where
   pub applies : MayRefuse s limit u c e
-  pub first : HasNoCauseBelow s u c (rank e)
+  pub first : HasNoCauseBelow s limit u c (rank e)
 
 -- the same, where want of memory says nothing
 abbrev pub Refuses : State → ℕ → Use → CommandTree → StatementError → Type 0
@@ -227,5 +266,5 @@ Refuses s limit u c error.Memory = Unit {0}
 Refuses s limit u c e = IsFirst s limit u c e
 
 -- no cause applies
-abbrev pub IsAccepted : State → Use → CommandTree → Type 0
-IsAccepted s u c = HasNoCauseBelow s u c 19
+abbrev pub IsAccepted : State → ℕ → Use → CommandTree → Type 0
+IsAccepted s limit u c = HasNoCauseBelow s limit u c 19

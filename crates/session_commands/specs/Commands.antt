@@ -1,15 +1,21 @@
 -- The parts of a command, and the formula that it gives.
 use Rattle.std.specs.Prelude.{◌≡◌, ◌↔◌, ◌≤◌, ℕ, List, [], ◌++◌, map, length}
-use Rattle.std.specs.List.{fold}
+use Rattle.std.specs.List.{AllByRecursion, fold}
 use Rattle.formula_meaning.specs.Fold.{Junction, Conjunction, Disjunction}
 use Rattle.formula_meaning.specs.NegationNormal.{normal_form}
 use Rattle.formula_meaning.specs.Point.{Of}
 use Rattle.formula_meaning.specs.Every.{Every, EveryBound}
-use Rattle.formula_meaning.specs.Shape.{IsQuantifierFree}
+use Rattle.formula_meaning.specs.Shape.{IsQuantifierFree, IsPrenex, fewest_blocks}
 use Rattle.formula_meaning.specs.Sizes.{nodes}
 use Rattle.formula_meaning.specs.Tree.{Tree, IsFree, TrueAt}
 use Rattle.atom_normal.specs.NormalForm.{negated_normal, IsNormal}
+use Rattle.prenex_theory.specs.Blocks.{block_count}
+use Rattle.prenex_theory.specs.NewNames.{AddsNewNames}
+use Rattle.prenex_theory.specs.Prenex.{prenex_of}
+use Rattle.prenex_theory.specs.Renaming.{new_count}
+use Rattle.prenex_forms.specs.Forms.{OverflowsInRenaming}
 use Rattle.qe_syntax.specs.declared.statement.PointEntry.{PointEntry}
+use Rattle.qe_syntax.specs.Names.{IsVariable}
 use Rattle.qe_syntax.specs.Trees.{FormulaTree, FormulaTrees}
 use Rattle.qe_syntax.specs.Value as written
 use Rattle.qe_syntax.specs.Statements.{CommandTree, Echo, Nnf, Pnf, Dnf, Cnf, Simpl, Qe, Qea, Holds, Sample}
@@ -76,7 +82,7 @@ negated_of s f = normal_form negated_normal (resolve s.context s.bound s.names f
 abbrev pub Gives : State → CommandTree → Tree → Type 0
 Gives s (Echo f) t = t ≡ resolved s (Echo f)
 Gives s (Nnf f) t = t ≡ normal_form negated_normal (resolved s (Nnf f))
-Gives s (Pnf f) t = ⊥
+Gives s (Pnf f) t = t ≡ prenex_of s.context (length s.names) (negated_of s f)
 Gives s (Dnf f) t = ⊥
 Gives s (Cnf f) t = ⊥
 Gives s (Simpl f given) t = ⊥
@@ -84,6 +90,40 @@ Gives s (Qe f given) t = ⊥
 Gives s (Qea f given) t = ⊥
 Gives s (Holds f es) t = ⊥
 Gives s (Sample f es) t = ⊥
+
+-- ---- prenex forms
+
+-- The formula is the prenex form of the negation normal form. So it is prenex, with the fewest blocks that the nesting of the quantifiers allows, and true exactly
+-- where the command's formula is, as it is written, at every point of the theory. Its free names are those of the resolved formula, its atoms are normal, and its lists
+-- have two members at least. The negation normal form has no more nodes than the limit, and no number of a renamed atom passes the limit of numbers.
+pub record IsPrenexAnswer (s : State) (limit : ℕ) (f : FormulaTree) (t : Tree) : Type 0 where
+  pub form : Gives s (Pnf f) t
+  pub prenex : IsPrenex t
+  pub fewest : block_count t ≡ fewest_blocks (negated_of s f)
+  pub truth : (p : written.NamedPoint) → Of s.context p → written.TrueAt (bound_truth s.context s.bound s.names) s.context f p ↔ TrueAt s.context t (at_names s.names p)
+  pub names : (n : ℕ) → IsFree t n ↔ IsFree (resolve s.context s.bound s.names f) n
+  pub normal : Every (IsNormal s.context) t
+  pub members : HasTwoMembers t
+  pub small : nodes (negated_of s f) ≤ limit
+  pub fits : ¬ (OverflowsInRenaming s.context (length s.names) (negated_of s f))
+
+-- The names with the new ones of the prenex form of a resolved formula behind them. They are ones that a script can write, where the others are.
+pub record HasNewNames (names : List (List ℕ)) (f : Tree) (after : List (List ℕ)) : Type 0 where
+  pub added : AddsNewNames names (new_count (length names) (normal_form negated_normal f)) after
+  pub variables : AllByRecursion IsVariable names → AllByRecursion IsVariable after
+
+-- the names after the answer of a command: those of the state, and the new ones of a prenex form
+abbrev pub HasAnswerNames : State → CommandTree → List (List ℕ) → Type 0
+HasAnswerNames s (Echo f) names = names ≡ s.names
+HasAnswerNames s (Nnf f) names = names ≡ s.names
+HasAnswerNames s (Pnf f) names = HasNewNames s.names (resolved s (Pnf f)) names
+HasAnswerNames s (Dnf f) names = names ≡ s.names
+HasAnswerNames s (Cnf f) names = names ≡ s.names
+HasAnswerNames s (Simpl f given) names = names ≡ s.names
+HasAnswerNames s (Qe f given) names = names ≡ s.names
+HasAnswerNames s (Qea f given) names = names ≡ s.names
+HasAnswerNames s (Holds f es) names = names ≡ s.names
+HasAnswerNames s (Sample f es) names = names ≡ s.names
 
 -- ---- simplification, clean forms and elimination
 
@@ -129,7 +169,7 @@ pub record IsCondition (s : State) (limit : ℕ) (f : FormulaTree) (given : Form
 abbrev pub MayGive : State → ℕ → CommandTree → Tree → Type 0
 MayGive s limit (Echo f) t = Gives s (Echo f) t
 MayGive s limit (Nnf f) t = Gives s (Nnf f) t
-MayGive s limit (Pnf f) t = ⊥
+MayGive s limit (Pnf f) t = IsPrenexAnswer s limit f t
 MayGive s limit (Dnf f) t = IsCleanAnswer s Conjunction f t
 MayGive s limit (Cnf f) t = IsCleanAnswer s Disjunction f t
 MayGive s limit (Simpl f given) t = IsSimplification s f given t

@@ -4,11 +4,13 @@ pub mod Parts
 pub mod Assumptions
 pub mod Commands
 pub mod Points
+pub mod Cases
 pub mod Causes
 pub mod Built
 pub mod Reply
 pub mod Keeping
 pub mod Seen
 pub mod Steps
+pub mod CaseSteps
 pub mod Answered
 pub mod Truths

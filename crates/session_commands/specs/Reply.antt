@@ -1,6 +1,8 @@
 -- What a statement is answered with in a state, and the state after it.
 use Rattle.std.specs.Prelude.{◌≡◌, ◌⊎◌, ℕ, List, Bool, true, false, Some, None, Result, Ok, Err}
 use Rattle.formula_meaning.specs.Tree.{Tree}
+use Rattle.elimination_reference.specs.Cases.{Case}
+use Rattle.answer_texts.specs.Answers.{cases_text}
 use Rattle.qe_syntax.specs.Statements.{CommandTree, Echo, Nnf, Pnf, Dnf, Cnf, Simpl, Qe, Qea, Holds, Sample, ActionTree, Empty, Ignored, Finish, Choose, Say, Assign, StatementTree}
 use Rattle.formula_tree.specs.Bindings.{bind}
 use Rattle.redlog_reader.specs.Statement.{Spells, Unread}
@@ -11,9 +13,10 @@ use Rattle.session_commands.specs.declared.line.StatementError.{StatementError}
 use Rattle.session_commands.specs.declared.line.StatementError.TheVariants as error
 use Rattle.session_commands.specs.Words.{truth_text, context_text}
 use Rattle.session_commands.specs.Built.{IsBuilt}
-use Rattle.session_commands.specs.State.{State, theory_of, chosen}
-use Rattle.session_commands.specs.Commands.{named, MayGive}
+use Rattle.session_commands.specs.State.{State, with_names, theory_of, chosen}
+use Rattle.session_commands.specs.Commands.{named, MayGive, HasAnswerNames}
 use Rattle.session_commands.specs.Points.{IsTruth}
+use Rattle.session_commands.specs.Cases.{IsCaseAnswer}
 use Rattle.session_commands.specs.Causes.{formula_line, Refuses, IsAccepted}
 
 -- the line is this text, where it is printed
@@ -26,34 +29,43 @@ IsLine printed text line.Finished = ⊥
 abbrev pub with_bound : State → List ℕ → Tree → State
 with_bound s x t = record { context = s.context; names = s.names; bound = bind s.bound x t }
 
--- the text is that of a formula that the command may give
-abbrev pub IsFormulaText : State → ℕ → CommandTree → List ℕ → Type 0
-IsFormulaText s limit c text = (t : Tree) × MayGive s limit c t × (text ≡ formula_line None s.names t)
+-- the text is that of a formula that the command may give, with these names
+abbrev pub IsFormulaText : State → ℕ → CommandTree → List (List ℕ) → List ℕ → Type 0
+IsFormulaText s limit c names text = (t : Tree) × MayGive s limit c t × (text ≡ formula_line None names t)
 
--- the text that a command answers with under a limit of nodes, in a state in which its variables have their numbers
-abbrev pub Tells : State → ℕ → CommandTree → List ℕ → Type 0
-Tells s limit (Echo f) text = IsFormulaText s limit (Echo f) text
-Tells s limit (Nnf f) text = IsFormulaText s limit (Nnf f) text
-Tells s limit (Pnf f) text = ⊥
-Tells s limit (Dnf f) text = IsFormulaText s limit (Dnf f) text
-Tells s limit (Cnf f) text = IsFormulaText s limit (Cnf f) text
-Tells s limit (Simpl f given) text = IsFormulaText s limit (Simpl f given) text
-Tells s limit (Qe f given) text = IsFormulaText s limit (Qe f given) text
-Tells s limit (Qea f given) text = ⊥
-Tells s limit (Holds f es) text = (answer : Bool) × IsTruth s (Holds f es) answer × (text ≡ truth_text answer)
-Tells s limit (Sample f es) text = ⊥
+-- The text that a command answers with under a limit of nodes, in a state in which its variables have their numbers. The names are those after the answer.
+abbrev pub Tells : State → ℕ → CommandTree → List (List ℕ) → List ℕ → Type 0
+Tells s limit (Echo f) names text = IsFormulaText s limit (Echo f) names text
+Tells s limit (Nnf f) names text = IsFormulaText s limit (Nnf f) names text
+Tells s limit (Pnf f) names text = IsFormulaText s limit (Pnf f) names text
+Tells s limit (Dnf f) names text = IsFormulaText s limit (Dnf f) names text
+Tells s limit (Cnf f) names text = IsFormulaText s limit (Cnf f) names text
+Tells s limit (Simpl f given) names text = IsFormulaText s limit (Simpl f given) names text
+Tells s limit (Qe f given) names text = IsFormulaText s limit (Qe f given) names text
+Tells s limit (Qea f given) names text = (ks : List Case) × IsCaseAnswer s f given ks × (text ≡ cases_text s.names ks)
+Tells s limit (Holds f es) names text = (answer : Bool) × IsTruth s (Holds f es) answer × (text ≡ truth_text answer)
+Tells s limit (Sample f es) names text = ⊥
 
--- no cause of a refusal applies, and this is the line
-abbrev pub AnswersCommand : State → ℕ → Bool → CommandTree → Line → Type 0
-AnswersCommand s limit printed c answer = IsAccepted s (record { target = None; printed = printed }) c × ((text : List ℕ) × Tells s limit c text × IsLine printed text answer)
+-- no cause of a refusal applies, and this is the line, where the names after the answer are these
+abbrev pub AnswersCommand : State → ℕ → Bool → CommandTree → List (List ℕ) → Line → Type 0
+AnswersCommand s limit printed c names answer = IsAccepted s limit (record { target = None; printed = printed }) c × ((text : List ℕ) × Tells s limit c names text × IsLine printed text answer)
+
+-- a command is answered with the line, and the state after it has the names after the answer
+pub record AnswersSaid (s : State) (limit : ℕ) (printed : Bool) (c : CommandTree) (answer : Line) (next : State) : Type 0 where
+  pub names : List (List ℕ)
+  pub named : HasAnswerNames s c names
+  pub answered : AnswersCommand s limit printed c names answer
+  pub after : next ≡ with_names s names
 
 -- the same of an assignment, which binds the formula of its line
 pub record AnswersAssignment (s : State) (limit : ℕ) (printed : Bool) (x : List ℕ) (c : CommandTree) (answer : Line) (next : State) : Type 0 where
-  pub accepted : IsAccepted s (record { target = Some x; printed = printed }) c
+  pub accepted : IsAccepted s limit (record { target = Some x; printed = printed }) c
   pub formula : Tree
   pub given : MayGive s limit c formula
-  pub line : IsLine printed (formula_line (Some x) s.names formula) answer
-  pub binds : next ≡ with_bound s x formula
+  pub names : List (List ℕ)
+  pub named : HasAnswerNames s c names
+  pub line : IsLine printed (formula_line (Some x) names formula) answer
+  pub binds : next ≡ with_bound (with_names s names) x formula
 
 -- the line of an accepted statement, and the state after it
 abbrev pub Answers : State → ℕ → Bool → ActionTree → Line → State → Type 0
@@ -61,7 +73,7 @@ Answers s limit printed Empty answer next = (answer ≡ line.Nothing) × (next �
 Answers s limit printed Ignored answer next = (answer ≡ line.Nothing) × (next ≡ s)
 Answers s limit printed Finish answer next = (answer ≡ line.Finished) × (next ≡ s)
 Answers s limit printed (Choose setting) answer next = IsLine printed (context_text (theory_of setting)) answer × (next ≡ chosen s (theory_of setting))
-Answers s limit printed (Say c) answer next = AnswersCommand (named s c) limit printed c answer × (next ≡ named s c)
+Answers s limit printed (Say c) answer next = AnswersSaid (named s c) limit printed c answer next
 Answers s limit printed (Assign x c) answer next = AnswersAssignment (named s c) limit printed x c answer next
 
 -- the word with which a statement is refused

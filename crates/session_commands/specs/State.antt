@@ -11,6 +11,10 @@ pub record State : Type 0 where
   pub names : List (List ℕ)
   pub bound : BoundTrees
 
+-- the state with these names
+abbrev pub with_names : State → List (List ℕ) → State
+with_names s names = record { context = s.context; names = names; bound = s.bound }
+
 -- a script begins over the ordered fields, without names
 abbrev pub first_state : State
 first_state = record { context = Fields; names = []; bound = [] }

@@ -20,9 +20,11 @@ use Rattle.elimination_reference.specs.Reference.{reference}
 use Rattle.elimination_reference.specs.Theorems.{IsAnswerTo}
 use Rattle.formula_meaning.specs.NegationNormal.{normal_form}
 use Rattle.atom_normal.specs.NormalForm.{negated_normal, IsNormal}
+use Rattle.prenex_theory.specs.Prenex.{prenex_of}
+use Rattle.prenex_forms.specs.Forms.{OverflowsInRenaming}
 use Rattle.qe_syntax.specs.declared.tree.Formula.{Formula}
 use Rattle.qe_syntax.specs.Trees.{FormulaTree, FormulaTrees, formula_tree, formula_trees}
-use Rattle.qe_syntax.specs.Statements.{CommandTree, Echo, Nnf, Dnf, Cnf, Simpl, Qe}
+use Rattle.qe_syntax.specs.Statements.{CommandTree, Echo, Nnf, Pnf, Dnf, Cnf, Simpl, Qe}
 use Rattle.redlog_reader.specs.declared.token.ReadError.{ReadError}
 use Rattle.redlog_reader.specs.declared.token.ReadError.TheVariants as reading
 use Rattle.formula_tree.specs.Bindings.{bind}
@@ -49,9 +51,9 @@ use Rattle.session_commands.specs.declared.formulas.Wanted.TheVariants as wanted
 use Rattle.session_commands.specs.declared.formulas.Way.{Way}
 use Rattle.session_commands.specs.declared.formulas.Way.TheVariants as way
 use Rattle.session_commands.specs.declared.desk.Desk.{Desk}
-use Rattle.session_commands.specs.State.{State}
+use Rattle.session_commands.specs.State.{State, with_names}
 use Rattle.session_commands.specs.Parts.{SomePart, EachPart}
-use Rattle.session_commands.specs.Commands.{MayGive}
+use Rattle.session_commands.specs.Commands.{MayGive, HasNewNames, HasAnswerNames}
 use Rattle.session_commands.specs.Points.{IsQuantified}
 use Rattle.session_commands.specs.Causes.{Use, formula_line, HasNoRoom, IsTooLarge, IsAccepted}
 use Rattle.session_commands.specs.Reply.{with_bound, IsLine}
@@ -83,6 +85,7 @@ measured_refusal measured.Memory = error.Memory
 abbrev pub given_trees : Wanted → FormulaTrees
 given_trees wanted.Given = none
 given_trees wanted.NegationNormal = none
+given_trees wanted.Prenex = none
 given_trees (wanted.Distributed way) = none
 given_trees (wanted.Simplified given) = formula_trees given.now
 given_trees (wanted.Eliminated given) = formula_trees given.now
@@ -96,6 +99,7 @@ junction_of way.Conjunctive = Disjunction
 abbrev pub command_of : Wanted → FormulaTree → CommandTree
 command_of wanted.Given f = Echo f
 command_of wanted.NegationNormal f = Nnf f
+command_of wanted.Prenex f = Pnf f
 command_of (wanted.Distributed way.Disjunctive) f = Dnf f
 command_of (wanted.Distributed way.Conjunctive) f = Cnf f
 command_of (wanted.Simplified given) f = Simpl f (formula_trees given.now)
@@ -109,11 +113,13 @@ state_with s (Some x) t = with_bound s x t
 -- The command is accepted, and its line and the next state are those of the formula that it gives. The state is one in which
 -- its variables have their numbers.
 pub record IsGiven (s : State) (limit : ℕ) (u : Use) (c : CommandTree) (answer : Line) (next : State) : Type 0 where
-  pub accepted : IsAccepted s u c
+  pub accepted : IsAccepted s limit u c
   pub formula : Tree
   pub given : MayGive s limit c formula
-  pub line : IsLine u.printed (formula_line u.target s.names formula) answer
-  pub after : next ≡ state_with s u.target formula
+  pub names : List (List ℕ)
+  pub named : HasAnswerNames s c names
+  pub line : IsLine u.printed (formula_line u.target names formula) answer
+  pub after : next ≡ state_with (with_names s names) u.target formula
 
 -- ---- what a step keeps
 
@@ -196,6 +202,7 @@ pub record IsFirstWith (s : State) (g : FormulaTree) (stop after : Option Static
 abbrev pub IsDistributed : Wanted → Type 0
 IsDistributed wanted.Given = ⊥
 IsDistributed wanted.NegationNormal = ⊥
+IsDistributed wanted.Prenex = ⊥
 IsDistributed (wanted.Distributed way) = Unit {0}
 IsDistributed (wanted.Simplified given) = ⊥
 IsDistributed (wanted.Eliminated given) = ⊥
@@ -204,6 +211,7 @@ IsDistributed (wanted.Eliminated given) = ⊥
 abbrev pub HasUnwantedQuantifier : State → Wanted → FormulaTree → Type 0
 HasUnwantedQuantifier s wanted.Given f = ⊥
 HasUnwantedQuantifier s wanted.NegationNormal f = ⊥
+HasUnwantedQuantifier s wanted.Prenex f = ⊥
 HasUnwantedQuantifier s (wanted.Distributed way) f = IsQuantified s.bound f
 HasUnwantedQuantifier s (wanted.Simplified given) f = ⊥
 HasUnwantedQuantifier s (wanted.Eliminated given) f = ⊥
@@ -258,13 +266,29 @@ pub record IsWantedAnswer (c : Context) (ks : List Atom) (limit : ℕ) (f t : Tr
   pub eliminated : IsEliminatedAs c limit f answer
   pub simplified : IsSimplifiedAs c ks answer t
 
--- t is the wanted form of a resolved formula f under the assumptions ks
-abbrev pub IsWantedForm : Context → List Atom → ℕ → Wanted → Tree → Tree → Type 0
-IsWantedForm c ks limit wanted.Given f t = t ≡ f
-IsWantedForm c ks limit wanted.NegationNormal f t = t ≡ normal_form negated_normal f
-IsWantedForm c ks limit (wanted.Distributed way) f t = IsCleanedAs c (junction_of way) (normal_form negated_normal f) t
-IsWantedForm c ks limit (wanted.Simplified given) f t = IsSimplifiedAs c ks (normal_form negated_normal f) t
-IsWantedForm c ks limit (wanted.Eliminated given) f t = IsWantedAnswer c ks limit f t
+-- t is the prenex form of f, where count names are known: few nodes are counted, and no number of a renamed atom passes the limit
+pub record IsPrenexAs (c : Context) (count limit : ℕ) (f t : Tree) : Type 0 where
+  pub form : t ≡ prenex_of c count (normal_form negated_normal f)
+  pub small : nodes (normal_form negated_normal f) ≤ limit
+  pub fits : ¬ (OverflowsInRenaming c count (normal_form negated_normal f))
+
+-- t is the wanted form of a resolved formula f under the assumptions ks, where count names are known
+abbrev pub IsWantedForm : Context → ℕ → List Atom → ℕ → Wanted → Tree → Tree → Type 0
+IsWantedForm c count ks limit wanted.Given f t = t ≡ f
+IsWantedForm c count ks limit wanted.NegationNormal f t = t ≡ normal_form negated_normal f
+IsWantedForm c count ks limit wanted.Prenex f t = IsPrenexAs c count limit f t
+IsWantedForm c count ks limit (wanted.Distributed way) f t = IsCleanedAs c (junction_of way) (normal_form negated_normal f) t
+IsWantedForm c count ks limit (wanted.Simplified given) f t = IsSimplifiedAs c ks (normal_form negated_normal f) t
+IsWantedForm c count ks limit (wanted.Eliminated given) f t = IsWantedAnswer c ks limit f t
+
+-- the names after the wanted form of a resolved formula f was made
+abbrev pub HasFormNames : Wanted → List (List ℕ) → Tree → List (List ℕ) → Type 0
+HasFormNames wanted.Given names f after = after ≡ names
+HasFormNames wanted.NegationNormal names f after = after ≡ names
+HasFormNames wanted.Prenex names f after = HasNewNames names f after
+HasFormNames (wanted.Distributed way) names f after = after ≡ names
+HasFormNames (wanted.Simplified given) names f after = after ≡ names
+HasFormNames (wanted.Eliminated given) names f after = after ≡ names
 
 -- why a negation normal form is not made
 abbrev pub NegationFault : Option ℕ → Tree → StatementError → Type 0
@@ -279,15 +303,23 @@ EliminationFault c limit f error.Overflow = reference c limit f ≡ stopped Over
 EliminationFault c limit f error.Memory = Unit {0}
 EliminationFault c limit f _ = ⊥
 
--- why the wanted form is not made
-abbrev pub FormFault : Context → ℕ → Wanted → Tree → StatementError → Type 0
-FormFault c limit wanted.NegationNormal f error.Nodes = limit < 6 * tree_distinct f
-FormFault c limit (wanted.Distributed way) f error.Nodes = limit < literals (junction_of way) (normal_form negated_normal f)
-FormFault c limit (wanted.Simplified given) f error.Nodes = limit < nodes (normal_form negated_normal f)
-FormFault c limit (wanted.Eliminated given) f error.Nodes = reference c limit f ≡ stopped Nodes
-FormFault c limit (wanted.Eliminated given) f error.Overflow = reference c limit f ≡ stopped Overflow
-FormFault c limit w f error.Memory = Unit {0}
-FormFault c limit w f _ = ⊥
+-- why a prenex form is not made
+abbrev pub PrenexFault : Context → ℕ → ℕ → Tree → StatementError → Type 0
+PrenexFault c count limit f error.Nodes = limit < nodes (normal_form negated_normal f)
+PrenexFault c count limit f error.Overflow = (nodes (normal_form negated_normal f) ≤ limit) × OverflowsInRenaming c count (normal_form negated_normal f)
+PrenexFault c count limit f error.Memory = Unit {0}
+PrenexFault c count limit f _ = ⊥
+
+-- why the wanted form is not made, where count names are known
+abbrev pub FormFault : Context → ℕ → ℕ → Wanted → Tree → StatementError → Type 0
+FormFault c count limit wanted.NegationNormal f error.Nodes = limit < 6 * tree_distinct f
+FormFault c count limit wanted.Prenex f e = PrenexFault c count limit f e
+FormFault c count limit (wanted.Distributed way) f error.Nodes = limit < literals (junction_of way) (normal_form negated_normal f)
+FormFault c count limit (wanted.Simplified given) f error.Nodes = limit < nodes (normal_form negated_normal f)
+FormFault c count limit (wanted.Eliminated given) f error.Nodes = reference c limit f ≡ stopped Nodes
+FormFault c count limit (wanted.Eliminated given) f error.Overflow = reference c limit f ≡ stopped Overflow
+FormFault c count limit w f error.Memory = Unit {0}
+FormFault c count limit w f _ = ⊥
 
 -- the formula may be bound to the name, if there is one
 pub record MayBind (bound : BoundTrees) (target : Option (List ℕ)) (t : Tree) : Type 0 where

@@ -44,7 +44,7 @@ RefusesTruthAt s limit f es e = (printed : Bool) → Refuses s limit (use_of Non
 
 -- none of the causes that come before a place of the order applies
 abbrev pub HasNoneBelow : State → FormulaTree → List PointEntry → ℕ → Type 0
-HasNoneBelow s f es n = (printed : Bool) → HasNoCauseBelow s (use_of None printed) (Holds f es) n
+HasNoneBelow s f es n = (limit : ℕ) (printed : Bool) → HasNoCauseBelow s limit (use_of None printed) (Holds f es) n
 
 -- The word for a formula that is not resolved, where it is told whether something is bound to the name of an entry. There is
 -- none where the reading overflows, since other causes come before that.

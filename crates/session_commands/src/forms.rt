@@ -1,6 +1,6 @@
 //! The forms of a resolved formula that commands give.
 
-ghost use Rattle.std.specs.Prelude.{◌≡◌, ◌*◌, ◌⊎◌, ◌<◌, ◌≤◌, ℕ, Some, Ok, IsErrOf, IfOk, IfErr, OnOk, map};
+ghost use Rattle.std.specs.Prelude.{◌≡◌, ◌*◌, ◌⊎◌, ◌<◌, ◌≤◌, ℕ, Some, Ok, IsErrOf, IfOk, IfErr, OnOk, length, map};
 ghost use Rattle.std.specs.List.{AllByRecursion};
 ghost use Rattle.formula_meaning.specs.Every.{Every};
 ghost use Rattle.formula_meaning.specs.NegationNormal.{normal_form};
@@ -14,7 +14,9 @@ ghost use Rattle.atom_normal.specs.NormalForm.{IsNormal, negated_normal};
 ghost use Rattle.simplified_formulas.specs.Orderly.{IsOrderly};
 ghost use Rattle.formula_store.specs.Nodes.{tree, IsId};
 ghost use Rattle.redlog_printer.specs.Bound.{HasTwoMembers};
-ghost use Rattle.session_commands.specs.Steps.{KeepsDesk, IsWantedForm, FormFault, IsDistributed, junction_of, IsCleanedAs, IsEliminatedAs, IsSimplifiedAs, IsWantedAnswer, EliminationFault, NegationFault, measured_refusal as refusal_of_measured};
+ghost use Rattle.redlog_printer.specs.Within.{IsTreeWithin};
+ghost use Rattle.session_commands.specs.Commands.{HasNewNames};
+ghost use Rattle.session_commands.specs.Steps.{KeepsDesk, GrowsDesk, IsWantedForm, HasFormNames, FormFault, IsPrenexAs, PrenexFault, IsDistributed, junction_of, IsCleanedAs, IsEliminatedAs, IsSimplifiedAs, IsWantedAnswer, EliminationFault, NegationFault, measured_refusal as refusal_of_measured};
 
 use crate::assumptions::Premised;
 use crate::desk::Desk;
@@ -26,10 +28,11 @@ use formula_tree::FormError;
 use nnf_pnf::nnf;
 use normal_forms::{cnf, dnf};
 use plain_engine::Measured;
+use prenex_forms::{PrenexError, pnf};
 use shared_elimination::eliminate_shared;
 use theory_simplifier::{SimplError, see_formula, simplify};
 
-/// The wanted form of what was read.
+/// The wanted form of what was read. The new names of a prenex form stand behind the others.
 pub(crate) fn formed(
     desk: &mut Desk,
     limit: u64,
@@ -39,17 +42,20 @@ pub(crate) fn formed(
     requires id { IsId desk.old.store read.now.formula }
     requires normal { Every (IsNormal (context_of desk.old.context)) (tree desk.old.store read.now.formula) }
     requires members { HasTwoMembers (tree desk.old.store read.now.formula) }
+    requires within { IsTreeWithin (length desk.old.names) (tree desk.old.store read.now.formula) }
     requires free { IsDistributed wanted → IsQuantifierFree (tree desk.old.store read.now.formula) }
     requires atoms { EachOf (IsNormal (context_of desk.old.context)) (map atom_of read.now.atoms.items) }
     requires well_formed { AllByRecursion IsWellFormed read.now.atoms.items }
     ensures made { IfOk result (IsId desk.new.store) }
-    ensures wanted { IfOk result (λ r. IsWantedForm (context_of desk.old.context) (map atom_of read.now.atoms.items) limit wanted.entry (tree desk.old.store read.now.formula) (tree desk.new.store r)) }
-    ensures fault { IfErr result (FormFault (context_of desk.old.context) limit wanted.entry (tree desk.old.store read.now.formula)) }
-    ensures kept { KeepsDesk desk.old desk.new }
+    ensures wanted { IfOk result (λ r. IsWantedForm (context_of desk.old.context) (length desk.old.names) (map atom_of read.now.atoms.items) limit wanted.entry (tree desk.old.store read.now.formula) (tree desk.new.store r)) }
+    ensures names { OnOk result (HasFormNames wanted.entry desk.old.names (tree desk.old.store read.now.formula) desk.new.names) }
+    ensures fault { IfErr result (FormFault (context_of desk.old.context) (length desk.old.names) limit wanted.entry (tree desk.old.store read.now.formula)) }
+    ensures grown { GrowsDesk desk.old desk.new }
 {
     match wanted {
         Wanted::Given => Ok(read.formula),
         Wanted::NegationNormal => negated(desk, Some(limit), read.formula),
+        Wanted::Prenex => prenexed(desk, limit, read.formula),
         Wanted::Distributed(way) => distributed(desk, limit, way, read),
         Wanted::Simplified(_) => simplified_negation(desk, limit, read),
         Wanted::Eliminated(_) => simplified_answer(desk, limit, read),
@@ -68,6 +74,34 @@ fn negated(desk: &mut Desk, limit: Option<u64>, id: FormulaId) -> Result<Formula
         Ok(id) => Ok(id),
         Err(FormError::Nodes) => Err(StatementError::Nodes),
         Err(_) => Err(StatementError::Memory),
+    }
+}
+
+/// The prenex form, with its new names behind the others. `Nodes` comes exactly where the negation normal form has more nodes
+/// than the limit, and `Overflow` exactly where it has not and a number of a renamed atom passes the limit of numbers. After an
+/// `Err` the names are as before.
+fn prenexed(desk: &mut Desk, limit: u64, id: FormulaId) -> Result<FormulaId, StatementError>
+    requires id { IsId desk.old.store id }
+    requires normal { Every (IsNormal (context_of desk.old.context)) (tree desk.old.store id) }
+    requires within { IsTreeWithin (length desk.old.names) (tree desk.old.store id) }
+    ensures made { IfOk result (IsId desk.new.store) }
+    ensures form { IfOk result (λ r. IsPrenexAs (context_of desk.old.context) (length desk.old.names) limit (tree desk.old.store id) (tree desk.new.store r)) }
+    ensures names { OnOk result (HasNewNames desk.old.names (tree desk.old.store id) desk.new.names) }
+    ensures fault { IfErr result (PrenexFault (context_of desk.old.context) (length desk.old.names) limit (tree desk.old.store id)) }
+    ensures grown { GrowsDesk desk.old desk.new }
+{
+    match pnf(
+        desk.alloc,
+        &mut desk.store,
+        desk.context,
+        id,
+        &mut desk.names,
+        limit,
+    ) {
+        Ok(id) => Ok(id),
+        Err(PrenexError::Nodes) => Err(StatementError::Nodes),
+        Err(PrenexError::Overflow) => Err(StatementError::Overflow),
+        Err(PrenexError::Memory) => Err(StatementError::Memory),
     }
 }
 
@@ -185,7 +219,7 @@ fn eliminated(desk: &mut Desk, limit: u64, id: FormulaId) -> Result<FormulaId, S
 }
 
 /// A formula in negation normal form, simplified under the assumptions. `Nodes` comes only where it has more nodes than the limit.
-fn simplified(
+pub(crate) fn simplified(
     desk: &mut Desk,
     limit: u64,
     id: FormulaId,

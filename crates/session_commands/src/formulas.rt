@@ -50,12 +50,13 @@ pub(crate) enum Way {
     Conjunctive,
 }
 
-/// The formula that a command gives: as it is, its negation normal form, a clean form, one that is simplified under
-/// assumptions, or one without quantifiers, simplified under assumptions.
+/// The formula that a command gives: as it is, its negation normal form, its prenex form, a clean form, one that is simplified
+/// under assumptions, or one without quantifiers, simplified under assumptions.
 #[derive(Clone, Copy)]
 pub(crate) enum Wanted<'a> {
     Given,
     NegationNormal,
+    Prenex,
     Distributed(Way),
     Simplified(&'a Formulas),
     Eliminated(&'a Formulas),
@@ -67,7 +68,7 @@ impl<'a> Wanted<'a> {
         ensures { formulas_of (map formula_tree result.now) ≡ given_trees self.entry }
     {
         match self {
-            Wanted::Given | Wanted::NegationNormal | Wanted::Distributed(_) => &[],
+            Wanted::Given | Wanted::NegationNormal | Wanted::Prenex | Wanted::Distributed(_) => &[],
             Wanted::Simplified(given) | Wanted::Eliminated(given) => given.items(),
         }
     }

@@ -60,7 +60,7 @@ pub(crate) fn answer_holds(
     requires entries { AreProperEntries entries.now }
     requires desk { IsDesk desk.old }
     ensures desk { IsDesk desk.new }
-    ensures answer { IfOk result (AnswersCommand (named (state_of desk.old) (Holds (formula_tree formula.now) entries.now)) limit printed (Holds (formula_tree formula.now) entries.now)) }
+    ensures answer { IfOk result (AnswersCommand (named (state_of desk.old) (Holds (formula_tree formula.now) entries.now)) limit printed (Holds (formula_tree formula.now) entries.now) (state_of desk.new).names) }
     ensures next { OnOk result (state_of desk.new ≡ named (state_of desk.old) (Holds (formula_tree formula.now) entries.now)) }
     ensures refused { IfErr result (Refuses (named (state_of desk.old) (Holds (formula_tree formula.now) entries.now)) limit (use_of None printed) (Holds (formula_tree formula.now) entries.now)) }
     ensures unchanged { OnErr result (state_of desk.new ≡ state_of desk.old) }
@@ -87,7 +87,7 @@ fn truth_line(
     requires entries { AreProperEntries entries.now }
     requires desk { IsDesk desk.old }
     ensures desk { OnOk result (IsDesk desk.new) }
-    ensures answer { IfOk result (AnswersCommand (named (state_of desk.old) (Holds (formula_tree formula.now) entries.now)) limit printed (Holds (formula_tree formula.now) entries.now)) }
+    ensures answer { IfOk result (AnswersCommand (named (state_of desk.old) (Holds (formula_tree formula.now) entries.now)) limit printed (Holds (formula_tree formula.now) entries.now) (state_of desk.new).names) }
     ensures next { OnOk result (state_of desk.new ≡ named (state_of desk.old) (Holds (formula_tree formula.now) entries.now)) }
     ensures refused { IfErr result (Refuses (named (state_of desk.old) (Holds (formula_tree formula.now) entries.now)) limit (use_of None printed) (Holds (formula_tree formula.now) entries.now)) }
     ensures grown { OnErr result (GrowsDesk desk.old desk.new) }

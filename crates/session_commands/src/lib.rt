@@ -2,6 +2,7 @@
 #![tactic(auto)]
 
 mod assumptions;
+mod cases;
 mod desk;
 mod forms;
 mod formulas;

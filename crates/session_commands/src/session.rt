@@ -9,6 +9,7 @@ ghost use Rattle.session_commands.specs.State.{first_state, theory_of, chosen};
 ghost use Rattle.session_commands.specs.Steps.{read_refusal};
 ghost use Rattle.session_commands.specs.Answered.{IsCommandAnswered, IsCommandStopped, IsAssigned, IsAssignmentStopped, IsAnswered, IsStopped};
 
+use crate::cases::answer_cases;
 use crate::desk::Desk;
 use crate::formulas::{Wanted, Way, answer_formula};
 use crate::holds::answer_holds;
@@ -165,6 +166,14 @@ fn say(
         Command::Nnf(formula) => {
             answer_formula(desk, limit, Wanted::NegationNormal, formula, &None, printed)
         }
+        Command::Pnf(formula) => answer_formula(
+            desk,
+            limit,
+            Wanted::Prenex,
+            formula,
+            &None,
+            printed,
+        ),
         Command::Simpl(formula, given) => {
             answer_formula(
                 desk,
@@ -185,6 +194,7 @@ fn say(
                 printed,
             )
         }
+        Command::Qea(formula, given) => answer_cases(desk, limit, formula, given, printed),
         Command::Holds(formula, entries) => answer_holds(desk, limit, formula, entries, printed),
         Command::Dnf(formula) => {
             let wanted = Wanted::Distributed(Way::Disjunctive);
@@ -194,7 +204,7 @@ fn say(
             let wanted = Wanted::Distributed(Way::Conjunctive);
             answer_formula(desk, limit, wanted, formula, &None, printed)
         }
-        Command::Pnf(_) | Command::Qea(..) | Command::Sample(..) => Err(StatementError::Syntax),
+        Command::Sample(..) => Err(StatementError::Syntax),
     }
 }
 
@@ -227,6 +237,9 @@ fn assign(
                 printed,
             )
         }
+        Command::Pnf(formula) => {
+            answer_formula(desk, limit, Wanted::Prenex, formula, &Some(*name), printed)
+        }
         Command::Simpl(formula, given) => answer_formula(
             desk,
             limit,
@@ -251,8 +264,6 @@ fn assign(
             let wanted = Wanted::Distributed(Way::Conjunctive);
             answer_formula(desk, limit, wanted, formula, &Some(*name), printed)
         }
-        Command::Pnf(_) | Command::Qea(..) | Command::Holds(..) | Command::Sample(..) => Err(
-            StatementError::Syntax,
-        ),
+        Command::Qea(..) | Command::Holds(..) | Command::Sample(..) => Err(StatementError::Syntax),
     }
 }

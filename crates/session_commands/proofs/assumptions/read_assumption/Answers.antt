@@ -1,4 +1,4 @@
-use Rattle.std.proofs.Common.{Some, None, ap}
+use Rattle.std.proofs.Common.{Some, ap}
 use Rattle.qe_syntax.specs.Trees.{formula_tree}
 use Rattle.session_commands.specs.Keeping.{state_of}
 use Rattle.session_commands.proofs.AssumptionLemmas.{first_unread}

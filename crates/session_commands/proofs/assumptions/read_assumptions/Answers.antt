@@ -1,10 +1,9 @@
-use Rattle.std.proofs.Common.{◌≡◌, ◌∙◌, ◌++◌, sym, ap, subst, map, take, List, Some, None, Option}
+use Rattle.std.proofs.Common.{◌≡◌, ◌∙◌, ◌++◌, sym, ap, subst, map, take, List}
 use Rattle.atom_normal.specs.Atoms.{atom_of}
 use Rattle.qe_syntax.specs.declared.tree.Formula.{Formula}
 use Rattle.qe_syntax.specs.Proper.{IsProperFormula}
 use Rattle.qe_syntax.specs.Trees.{formula_tree, formulas_of}
 use Rattle.qe_syntax.proofs.EntryLists.{all_at, more_entries}
-use Rattle.formula_resolving.specs.declared.error.StaticError.{StaticError}
 use Rattle.formula_tree.specs.Resolving.{resolve}
 use Rattle.session_commands.specs.Assumptions.{atoms_alone, assumed}
 use Rattle.session_commands.specs.Keeping.{state_of}

@@ -1,4 +1,4 @@
-use Rattle.std.proofs.Common.{◌≡◌, ◌∙◌, sym, subst, rules, refl, map, Err, Some, None}
+use Rattle.std.proofs.Common.{◌≡◌, sym, subst, rules, map, Err}
 use Rattle.std.specs.Prelude.{IfErr}
 use Rattle.qe_syntax.specs.Trees.{formula_tree, formulas_of}
 use Rattle.formula_tree.specs.Makers.{IsMade}

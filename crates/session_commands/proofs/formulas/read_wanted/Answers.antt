@@ -1,11 +1,10 @@
-use Rattle.std.proofs.Common.{◌≡◌, ◌↔◌, map, sym, subst, ap, ◌∙◌, IsTrue}
+use Rattle.std.proofs.Common.{map, sym, subst}
 use Rattle.qe_syntax.specs.Proper.{AreProperFormulas}
-use Rattle.qe_syntax.specs.Trees.{FormulaTrees, formula_tree, formulas_of}
+use Rattle.qe_syntax.specs.Trees.{formula_tree, formulas_of}
 use Rattle.session_commands.specs.Keeping.{state_of}
-use Rattle.session_commands.specs.State.{State}
 use Rattle.session_commands.specs.Steps.{given_trees, HasUnwantedQuantifier, ArePartsReadable, ArePartsUnread}
 use Rattle.session_commands.specs.declared.line.StatementError.TheVariants as error
-use Rattle.session_commands.proofs.AssumptionLemmas.{early_readable, early_overflow, unready_of}
+use Rattle.session_commands.proofs.AssumptionLemmas.{early_readable, early_overflow}
 use Rattle.session_commands.proofs.DeskLemmas.{kept_ids, same_state}
 use Rattle.session_commands.proofs.GivenSteps.{proper_items}
 use Rattle.session_commands.proofs.formulas.read_wanted.Goals as goal

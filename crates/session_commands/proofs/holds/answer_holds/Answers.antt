@@ -14,7 +14,7 @@ use Rattle.session_commands.proofs.holds.answer_holds.Goals as goal
 pub returns-in-Ok-clause-answer : goal.returns-in-Ok-clause-answer
 returns-in-Ok-clause-answer c =
     let f = formula_tree c.args.formula.now in
-    subst (λ (es : List PointEntry). AnswersCommand (named (state_of c.args.desk.now) (Holds f es)) c.args.limit c.args.printed (Holds f es) c.in-Ok.line) c.items.ensures c.in-Ok.ensures.answer
+    subst (λ (es : List PointEntry). AnswersCommand (named (state_of c.args.desk.now) (Holds f es)) c.args.limit c.args.printed (Holds f es) c.truth_line.new.desk.names c.in-Ok.line) c.items.ensures c.in-Ok.ensures.answer
 
 pub returns-in-Err-clause-desk : goal.returns-in-Err-clause-desk
 returns-in-Err-clause-desk c =

@@ -39,7 +39,7 @@ returns-clause-desk c =
 pub returns-clause-answer : goal.returns-clause-answer
 returns-clause-answer c =
     truth_answered c.args.desk.now c.number_command.new.names (formula_tree c.args.formula.now) c.args.entries.now c.requires.desk c.in_ok-number_command.ensures.grown c.in_ok-number_command.ensures.numbered c.requires.proper c.requires.entries
-    c.printed_line.result c.args.limit c.args.printed c.in_ok-truth.truth c.text_of_truth.result.now c.in_ok-truth.ensures.truth c.in_ok-truth.ensures.accepted c.text_of_truth.ensures c.printed_line.ensures.line
+    c.printed_line.result c.args.limit c.args.printed c.in_ok-truth.truth c.text_of_truth.result.now c.in_ok-truth.ensures.truth c.in_ok-truth.ensures.accepted c.text_of_truth.ensures c.printed_line.ensures.line c.truth.new.desk.names
 
 pub returns-clause-next : goal.returns-clause-next
 returns-clause-next c =

@@ -36,3 +36,8 @@ pub returns-in-Cnf-clause-answer : goal.returns-in-Cnf-clause-answer
 returns-in-Cnf-clause-answer c =
     assigned_as c.answer_formula-in-Cnf.result (wanted.Distributed way.Conjunctive) (formula_tree c.in-Cnf.formula) (command_tree c.args.command.now) (state_of c.args.desk.now) (state_of c.answer_formula-in-Cnf.new.desk) c.args.limit c.args.printed c.args.name.now
     (ap command_tree c.in-Cnf.is) c.answer_formula-in-Cnf.ensures.answer
+
+pub returns-in-Pnf-clause-answer : goal.returns-in-Pnf-clause-answer
+returns-in-Pnf-clause-answer c =
+    assigned_as c.answer_formula-in-Pnf.result wanted.Prenex (formula_tree c.in-Pnf.formula) (command_tree c.args.command.now) (state_of c.args.desk.now) (state_of c.answer_formula-in-Pnf.new.desk) c.args.limit c.args.printed c.args.name.now
+    (ap command_tree c.in-Pnf.is) c.answer_formula-in-Pnf.ensures.answer

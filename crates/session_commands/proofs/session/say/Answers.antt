@@ -1,9 +1,10 @@
-use Rattle.std.proofs.Common.{ap}
+use Rattle.std.proofs.Common.{ap, refl}
 use Rattle.qe_syntax.specs.Trees.{formula_tree, formula_trees}
-use Rattle.qe_syntax.specs.Statements.{command_tree}
+use Rattle.qe_syntax.specs.Statements.{command_tree, Qea, Holds}
 use Rattle.session_commands.specs.declared.formulas.Wanted.TheVariants as wanted
+use Rattle.session_commands.specs.declared.formulas.Way.TheVariants as way
 use Rattle.session_commands.specs.Keeping.{state_of}
-use Rattle.session_commands.proofs.AnswerLemmas.{answered_as, simplification_answered, elimination_answered, holds_answered, holds_stopped}
+use Rattle.session_commands.proofs.AnswerLemmas.{answered_as, simplification_answered, elimination_answered, query_answered, query_stopped}
 use Rattle.session_commands.proofs.session.say.Goals as goal
 
 pub returns-in-Echo-clause-answer : goal.returns-in-Echo-clause-answer
@@ -18,12 +19,12 @@ returns-in-Nnf-clause-answer c =
 
 pub returns-in-Holds-clause-answer : goal.returns-in-Holds-clause-answer
 returns-in-Holds-clause-answer c =
-    holds_answered c.answer_holds.result (formula_tree c.in-Holds.formula) c.in-Holds.entries (command_tree c.args.command.now) (state_of c.args.desk.now) (state_of c.answer_holds.new.desk) c.args.limit c.args.printed
-    (ap command_tree c.in-Holds.is) c.answer_holds.ensures.answer c.answer_holds.ensures.next
+    query_answered c.answer_holds.result (Holds (formula_tree c.in-Holds.formula) c.in-Holds.entries) (command_tree c.args.command.now) (state_of c.args.desk.now) (state_of c.answer_holds.new.desk) c.args.limit c.args.printed tt
+    (ap command_tree c.in-Holds.is) refl c.answer_holds.ensures.answer c.answer_holds.ensures.next
 
 pub returns-in-Holds-clause-refusal : goal.returns-in-Holds-clause-refusal
 returns-in-Holds-clause-refusal c =
-    holds_stopped c.answer_holds.result (formula_tree c.in-Holds.formula) c.in-Holds.entries (command_tree c.args.command.now) (state_of c.args.desk.now) c.args.limit c.args.printed
+    query_stopped c.answer_holds.result (Holds (formula_tree c.in-Holds.formula) c.in-Holds.entries) (command_tree c.args.command.now) (state_of c.args.desk.now) c.args.limit c.args.printed tt
     (ap command_tree c.in-Holds.is) c.answer_holds.ensures.refused
 
 pub returns-in-Simpl-clause-answer : goal.returns-in-Simpl-clause-answer
@@ -35,3 +36,28 @@ pub returns-in-Qe-clause-answer : goal.returns-in-Qe-clause-answer
 returns-in-Qe-clause-answer c =
     elimination_answered c.answer_formula-in-Qe.result (formula_tree c.in-Qe.formula) (formula_trees c.in-Qe.given) (command_tree c.args.command.now) (state_of c.args.desk.now) (state_of c.answer_formula-in-Qe.new.desk) c.args.limit c.args.printed
     (ap command_tree c.in-Qe.is) c.answer_formula-in-Qe.ensures.answer
+
+pub returns-in-Pnf-clause-answer : goal.returns-in-Pnf-clause-answer
+returns-in-Pnf-clause-answer c =
+    answered_as c.answer_formula-in-Pnf.result wanted.Prenex (formula_tree c.in-Pnf.formula) (command_tree c.args.command.now) (state_of c.args.desk.now) (state_of c.answer_formula-in-Pnf.new.desk) c.args.limit c.args.printed
+    (ap command_tree c.in-Pnf.is) c.answer_formula-in-Pnf.ensures.answer
+
+pub returns-in-Dnf-clause-answer : goal.returns-in-Dnf-clause-answer
+returns-in-Dnf-clause-answer c =
+    answered_as c.answer_formula-in-Dnf.result (wanted.Distributed way.Disjunctive) (formula_tree c.in-Dnf.formula) (command_tree c.args.command.now) (state_of c.args.desk.now) (state_of c.answer_formula-in-Dnf.new.desk) c.args.limit c.args.printed
+    (ap command_tree c.in-Dnf.is) c.answer_formula-in-Dnf.ensures.answer
+
+pub returns-in-Cnf-clause-answer : goal.returns-in-Cnf-clause-answer
+returns-in-Cnf-clause-answer c =
+    answered_as c.answer_formula-in-Cnf.result (wanted.Distributed way.Conjunctive) (formula_tree c.in-Cnf.formula) (command_tree c.args.command.now) (state_of c.args.desk.now) (state_of c.answer_formula-in-Cnf.new.desk) c.args.limit c.args.printed
+    (ap command_tree c.in-Cnf.is) c.answer_formula-in-Cnf.ensures.answer
+
+pub returns-in-Qea-clause-answer : goal.returns-in-Qea-clause-answer
+returns-in-Qea-clause-answer c =
+    query_answered c.answer_cases.result (Qea (formula_tree c.in-Qea.formula) (formula_trees c.in-Qea.given)) (command_tree c.args.command.now) (state_of c.args.desk.now) (state_of c.answer_cases.new.desk) c.args.limit c.args.printed tt
+    (ap command_tree c.in-Qea.is) refl c.answer_cases.ensures.answer c.answer_cases.ensures.next
+
+pub returns-in-Qea-clause-refusal : goal.returns-in-Qea-clause-refusal
+returns-in-Qea-clause-refusal c =
+    query_stopped c.answer_cases.result (Qea (formula_tree c.in-Qea.formula) (formula_trees c.in-Qea.given)) (command_tree c.args.command.now) (state_of c.args.desk.now) c.args.limit c.args.printed tt
+    (ap command_tree c.in-Qea.is) c.answer_cases.ensures.refused

@@ -1,0 +1,247 @@
+-- From step to step of a case list.
+use Rattle.std.proofs.Common.{◌≡◌, ◌↔◌, inl, inr, ℕ, List, [], ◌∷◌, ◌++◌, map, length, Bool, None, sym, ap, ◌∙◌, subst, refl, arith}
+use Rattle.std.proofs.lemmas.List.{append-nil}
+use Rattle.std.specs.Prelude.{Result, Ok, Err, IfOk, IfErr, OnOk}
+use Rattle.std.specs.List.{IsDistinct, fold}
+use Rattle.formula_meaning.specs.Atom.{Atom, Says}
+use Rattle.formula_meaning.specs.Answer.{Holds}
+use Rattle.formula_meaning.specs.Every.{Every}
+use Rattle.formula_meaning.specs.Formula.{Or}
+use Rattle.formula_meaning.specs.Point.{Of}
+use Rattle.formula_meaning.specs.Some.{EachOf}
+use Rattle.formula_meaning.specs.Tree.{Tree, IsFree, TrueAt}
+use Rattle.atom_normal.specs.Atoms.{context_of}
+use Rattle.atom_normal.specs.NormalForm.{IsNormal}
+use Rattle.atom_normal.proofs.Stepped.{ok_map}
+use Rattle.elimination_reference.specs.Cases.{Case, case_sign, case_matrix}
+use Rattle.elimination_reference.specs.Theorems.{answer_names, guards_of}
+use Rattle.case_answers.specs.Over.{AreOver}
+use Rattle.plain_cases.specs.declared.cases.PlainCase.{PlainCase}
+use Rattle.plain_cases.specs.Case.{case_seen, HavePoints}
+use Rattle.qe_syntax.specs.Proper.{IsProperFormula, AreProperFormulas}
+use Rattle.qe_syntax.specs.Statements.{CommandTree, Qea}
+use Rattle.qe_syntax.specs.Trees.{FormulaTree, FormulaTrees}
+use Rattle.qe_syntax.specs.Value.{NamedPoint, same_name}
+use Rattle.qe_syntax.specs.Value as written
+use Rattle.formula_tree.specs.Names.{with_name}
+use Rattle.formula_tree.specs.Resolving.{formula_variables, all_variables, resolve, at_names, bound_truth}
+use Rattle.formula_tree.proofs.PlaceLaws.{after_distinct}
+use Rattle.formula_resolving.specs.Numbering.{Grows}
+use Rattle.redlog_printer.specs.Within.{IsAtomWithin}
+use Rattle.answer_texts.specs.Answers.{cases_text}
+use Rattle.answer_texts.specs.Within.{AreCasesWithin}
+use Rattle.session_commands.specs.declared.line.Line.{Line}
+use Rattle.session_commands.specs.declared.line.StatementError.{StatementError}
+use Rattle.session_commands.specs.declared.line.StatementError.TheVariants as error
+use Rattle.session_commands.specs.declared.desk.Desk.{Desk}
+use Rattle.session_commands.specs.State.{State}
+use Rattle.session_commands.specs.Assumptions.{Hold, assumed}
+use Rattle.session_commands.specs.Cases.{IsCaseOf, IsCaseAnswer}
+use Rattle.session_commands.specs.CaseSteps.{IsCaseLeft, AreWantedCases, CasesFault}
+use Rattle.session_commands.specs.Causes.{IsCause, HasNoCauseBelow, IsAccepted, Refuses}
+use Rattle.session_commands.specs.Commands.{named, negated_of}
+use Rattle.session_commands.specs.Keeping.{state_of, IsSessionFormula, IsSound, IsDesk}
+use Rattle.session_commands.specs.Reply.{IsLine, AnswersCommand}
+use Rattle.session_commands.specs.Steps.{use_of, HasNumbers, IsReadable, ArePartsNumbered, ArePartsReadable, ArePartsUnread, KeepsDesk, LineFault}
+use Rattle.session_commands.proofs.AssumptionLemmas.{assumed_hold}
+use Rattle.session_commands.proofs.CauseLemmas.{IsPlainCommand, unread_refuses, readable_below, below_17, below_18, below_19}
+use Rattle.session_commands.proofs.CaseLemmas.{IsReferenceCase, IsWritable, exact_here, reference_known, left_each, left_true, left_no_longer, left_writable, items_within, turned_says, turned_along}
+use Rattle.session_commands.proofs.DeskLemmas.{state_parts, same_state, same_desk, length_grows, sound_with}
+use Rattle.session_commands.proofs.EliminatedLemmas.{plain_free, orderly_members}
+use Rattle.session_commands.proofs.GivenLemmas.{numbers_of, readable_formula, assumed_normal}
+use Rattle.session_commands.proofs.PartLemmas.{first_part}
+use Rattle.session_commands.proofs.TruthLemmas.{truth_as_written}
+use Rattle.session_commands.proofs.VariableLemmas.{AllVariables, both, not_empty, variables_of_formula, variables_of_all, all_put_in}
+
+-- ---- results
+
+pub err_map : {T E : Type 0} {P Q : E → Type 0} (r : Result T E) → ((e : E) → P e → Q e) → IfErr r P → IfErr r Q
+err_map (Ok x) f h = tt
+err_map (Err e) f h = f e h
+
+pub on_ok : {T E : Type 0} {P : Type 0} (r : Result T E) → P → OnOk r P
+on_ok (Ok x) p = p
+on_ok (Err e) p = tt
+
+-- ---- refusals
+
+module _ (s : State) (f : FormulaTree) (gs : FormulaTrees) (numbers : ArePartsNumbered s.names f gs) (limit : ℕ) (printed : Bool) where
+  abbrev command : CommandTree
+  command = Qea f gs
+
+  plain : IsPlainCommand command
+  plain = record { no_entries = refl; no_point = λ h. h }
+
+  unquantified : ¬ (IsCause s limit (use_of None printed) command error.Quantified)
+  unquantified h = h.0
+
+  pub cases_unread : (e : StatementError) → ArePartsUnread s f gs e → Refuses s limit (use_of None printed) command e
+  cases_unread e h = unread_refuses s limit (use_of None printed) command numbers plain e (λ o. unquantified) h
+
+  module _ (readable : ArePartsReadable s f gs) where
+    clear_16 : HasNoCauseBelow s limit (use_of None printed) command 16
+    clear_16 = readable_below s limit (use_of None printed) command numbers plain readable unquantified (λ h. h)
+
+    clear_18 : HasNoCauseBelow s limit (use_of None printed) command 18
+    clear_18 = below_18 s limit (use_of None printed) command (below_17 s limit (use_of None printed) command clear_16) (λ k. elim k [ inl r ↦ r | inr m ↦ m.1 ])
+
+    clear_19 : IsAccepted s limit (use_of None printed) command
+    clear_19 = below_19 s limit (use_of None printed) command clear_18 (λ k. k.1.given)
+
+    pub cases_stopped : (e : StatementError) → CasesFault s.context limit (resolve s.context s.bound s.names f) e → Refuses s limit (use_of None printed) command e
+    cases_stopped error.Nodes k = record { applies = inr (inr k); first = clear_16 }
+    cases_stopped error.Overflow k = record { applies = inr (inr k); first = λ e l. clear_16 e (omega arith) }
+    cases_stopped error.Memory k = tt
+    cases_stopped _ k = absurd k
+
+    -- ---- the case list
+
+    module _ (sound : IsSound s) (own : IsSessionFormula s.context (length s.names) (resolve s.context s.bound s.names f)) (left : List Case)
+        (wanted : AreWantedCases s.context (assumed s gs) limit (resolve s.context s.bound s.names f) left) where
+      abbrev t : Tree
+      t = resolve s.context s.bound s.names f
+
+      known : EachOf (IsReferenceCase s.context (length s.names) t) wanted.cases
+      known = reference_known s.context (length s.names) t own limit wanted.cases wanted.cost wanted.same
+
+      assumptions_say : (p : NamedPoint) → Of s.context p → Hold s gs p → EachOf (λ k. Says k (at_names s.names p)) (assumed s gs)
+      assumptions_say p of hold = assumed_hold s f gs readable sound.names_once numbers p of hold
+
+      as_written : (p : NamedPoint) → Of s.context p → written.TrueAt (bound_truth s.context s.bound s.names) s.context f p ↔ TrueAt s.context t (at_names s.names p)
+      as_written p of = truth_as_written s f (first_part (HasNumbers s.names) f gs numbers) sound.names_once (first_part (IsReadable s) f gs readable) p of
+
+      case_of : (k m : Case) → IsReferenceCase s.context (length s.names) t k → IsCaseLeft s.context (assumed s gs) k m → IsCaseOf s f gs m
+      case_of k m r l = record {
+        free = l.simplified.free (plain_free k.guard r.exact.tidy.is_plain);
+        names = λ n u. r.names n (l.simplified.names n u);
+        reduced = l.simplified.reduced;
+        possible = l.possible;
+        normal = l.simplified.normal;
+        members = orderly_members (IsNormal s.context) m.guard l.simplified.orderly;
+        in_order = ap answer_names l.answers ∙ r.exact.in_order;
+        over = subst (AreOver (IsFree t)) (sym l.answers) r.over;
+        exact = λ p of hold.
+            let q = at_names s.names p in
+            let e = r.exact.exact q of in
+            let d = l.simplified.truth q of (assumptions_say p of hold) in
+            subst (λ answers. Holds s.context answers (case_matrix t) q ↔ TrueAt s.context m.guard q) (sym l.answers) (λ x. d.1 (e.0 x), λ x. e.1 (d.0 x));
+      }
+
+      answer : IsCaseAnswer s f gs left
+      answer = record {
+        each = left_each s.context (assumed s gs) (IsReferenceCase s.context (length s.names) t) (IsCaseOf s f gs) case_of wanted.cases left known wanted.simplified;
+        together = λ p of hold.
+            let q = at_names s.names p in
+            let sign = case_sign (negated_of s f) in
+            let a = turned_along sign _ _ (as_written p of) in
+            let b = turned_says s.context sign t (Or (guards_of wanted.cases)) q of (exact_here s.context (length s.names) t own limit wanted.cases wanted.cost wanted.same).together in
+            let d = left_true s.context (assumed s gs) q of (assumptions_say p of hold) wanted.cases left wanted.simplified in
+            (λ x. d.1 (b.0 (a.0 x)), λ x. a.1 (b.1 (d.0 x)));
+      }
+
+      pub cases_answered : (line : Line) (after : List (List ℕ)) → IsLine printed (cases_text s.names left) line → AnswersCommand s limit printed command after line
+      cases_answered line after l = (clear_19, (cases_text s.names left, (left, answer, refl), l))
+
+      each_within : (ks : List Case) → EachOf (IsReferenceCase s.context (length s.names) t) ks → EachOf (λ (k : Case). Every (IsAtomWithin (length s.names)) k.guard) ks
+      each_within [] h = tt
+      each_within (k ∷ ks) h = (h.0.formula.within.atoms, each_within ks h.1)
+
+      pub cases_too_long : (e : StatementError) → LineFault printed (cases_text s.names left) e → Refuses s limit (use_of None printed) command e
+      cases_too_long error.Text k =
+          let short = left_no_longer s.context (assumed s gs) s.names (not_empty s.names sound.variables) wanted.cases left (each_within wanted.cases known) wanted.simplified in
+          record { applies = inr (k.0, inr (wanted.cases, wanted.cost, wanted.same, omega (arith, k.1))); first = clear_18 }
+      cases_too_long error.Memory k = tt
+      cases_too_long _ k = absurd k
+
+      pub cases_within : (items : List PlainCase) → left ≡ map case_seen items → HavePoints items → AreCasesWithin (length s.names) (map case_seen items)
+      cases_within items e h =
+          items_within s.context (length s.names) t own items (subst (EachOf (IsWritable s.context (length s.names) t)) e (left_writable s.context (length s.names) t own (assumed s gs) wanted.cases left known wanted.simplified)) h
+
+-- ---- after the formula and its assumptions were resolved
+
+module _ (old read : Desk) (f : FormulaTree) (gs : FormulaTrees) (h : IsDesk old) (numbers : ArePartsNumbered old.names f gs) (readable : ArePartsReadable (state_of old) f gs) (kept : KeepsDesk old read)
+    (proper : IsProperFormula f) (proper_given : AreProperFormulas gs) where
+  abbrev s : State
+  s = state_of old
+
+  theory : context_of read.context ≡ s.context
+  theory = ap context_of kept.context
+
+  pub own_formula : IsSessionFormula s.context (length s.names) (resolve s.context s.bound s.names f)
+  own_formula = readable_formula f s (first_part (HasNumbers s.names) f gs numbers) h.sound proper (first_part (IsReadable s) f gs readable)
+
+  module _ (t : Tree) (same : t ≡ resolve s.context s.bound s.names f) where
+    pub normal_there : Every (IsNormal (context_of read.context)) t
+    normal_there = subst (λ c. Every (IsNormal c) t) (sym theory) (subst (Every (IsNormal s.context)) (sym same) own_formula.normal)
+
+    pub stopped_there : {T : Type 0} (r : Result T StatementError) (limit : ℕ) → IfErr r (CasesFault (context_of read.context) limit t)
+        → IfErr r (λ e. (printed : Bool) → Refuses s limit (use_of None printed) (Qea f gs) e)
+    stopped_there r limit k =
+        err_map r (λ e d printed. cases_stopped s f gs numbers limit printed readable e (subst (λ u. CasesFault s.context limit u e) same (subst (λ c. CasesFault c limit t e) theory d))) k
+
+    module _ (ks : List Atom) (same_atoms : ks ≡ assumed s gs) where
+      pub atoms_there : EachOf (IsNormal (context_of read.context)) ks
+      atoms_there = subst (λ c. EachOf (IsNormal c) ks) (sym theory) (subst (EachOf (IsNormal s.context)) (sym same_atoms) (assumed_normal s h.sound f gs numbers readable proper_given))
+
+      pub wanted_there : (limit : ℕ) (left : List Case) → AreWantedCases (context_of read.context) ks limit t left → AreWantedCases s.context (assumed s gs) limit (resolve s.context s.bound s.names f) left
+      wanted_there limit left w =
+          subst (λ ls. AreWantedCases s.context ls limit (resolve s.context s.bound s.names f) left) same_atoms
+          (subst (λ u. AreWantedCases s.context ks limit u left) same (subst (λ c. AreWantedCases c ks limit t left) theory w))
+
+pub unread_there : {T : Type 0} (r : Result T StatementError) (s : State) (f : FormulaTree) (gs : FormulaTrees) → ArePartsNumbered s.names f gs → (limit : ℕ) → IfErr r (ArePartsUnread s f gs)
+    → IfErr r (λ e. (printed : Bool) → Refuses s limit (use_of None printed) (Qea f gs) e)
+unread_there r s f gs numbers limit h = err_map r (λ e d printed. cases_unread s f gs numbers limit printed e d) h
+
+-- ---- the names of the command
+
+module _ (desk : Desk) (names : List (List ℕ)) (f : FormulaTree) (gs : FormulaTrees) (h : IsDesk desk) (grown : Grows desk.names names)
+    (is : names ≡ fold with_name desk.names (formula_variables f ++ all_variables gs)) (proper : IsProperFormula f) (proper_given : AreProperFormulas gs) where
+  -- the desk where the variables of the command have their numbers
+  abbrev pub named_desk : Desk
+  named_desk = record { alloc = desk.alloc; context = desk.context; names = names; bindings = desk.bindings; store = desk.store; kept = desk.kept }
+
+  start : state_of named_desk ≡ named (state_of desk) (Qea f gs)
+  start = state_parts _ _ _ _ _ _ refl (is ∙ ap (λ xs. fold with_name desk.names (formula_variables f ++ xs)) (sym (append-nil (all_variables gs)))) refl
+
+  pub desk_named : IsDesk named_desk
+  desk_named = record {
+    ids = h.ids;
+    bound_once = h.bound_once;
+    sound = sound_with (state_of desk) names h.sound (subst (λ ms. IsDistinct same_name ms) (sym is) (after_distinct (formula_variables f ++ all_variables gs) desk.names h.sound.names_once))
+        (subst AllVariables (sym is) (all_put_in desk.names (formula_variables f ++ all_variables gs) h.sound.variables (both (formula_variables f) (all_variables gs) (variables_of_formula f proper) (variables_of_all gs proper_given))))
+        (length_grows desk.names names grown);
+  }
+
+  pub numbers_there : ArePartsNumbered names f gs
+  numbers_there = subst (λ ms. ArePartsNumbered ms f gs) (sym is) (numbers_of f gs desk.names)
+
+  pub cases_refused : {T : Type 0} (r : Result T StatementError) (limit : ℕ) (printed : Bool) → IfErr r (λ e. (printed : Bool) → Refuses (state_of named_desk) limit (use_of None printed) (Qea f gs) e)
+      → IfErr r (Refuses (named (state_of desk) (Qea f gs)) limit (use_of None printed) (Qea f gs))
+  cases_refused r limit printed k = err_map r (λ e t. subst (λ s. Refuses s limit (use_of None printed) (Qea f gs) e) start (t printed)) k
+
+  module _ (later : Desk) (k : KeepsDesk named_desk later) where
+    pub state_later : {T : Type 0} (r : Result T StatementError) → OnOk r (state_of later ≡ named (state_of desk) (Qea f gs))
+    state_later r = on_ok r (same_state named_desk later h.ids k ∙ start)
+
+    pub desk_later : {T : Type 0} (r : Result T StatementError) → OnOk r (IsDesk later)
+    desk_later r = on_ok r (same_desk named_desk later desk_named k)
+
+    module _ (limit : ℕ) (printed : Bool) (readable : ArePartsReadable (state_of named_desk) f gs) (items : List PlainCase)
+        (wanted : AreWantedCases (state_of named_desk).context (assumed (state_of named_desk) gs) limit (resolve (state_of named_desk).context (state_of named_desk).bound names f) (map case_seen items)) where
+      own : IsSessionFormula (state_of named_desk).context (length names) (resolve (state_of named_desk).context (state_of named_desk).bound names f)
+      own = readable_formula f (state_of named_desk) (first_part (HasNumbers names) f gs numbers_there) desk_named.sound proper (first_part (IsReadable (state_of named_desk)) f gs readable)
+
+      pub within_there : HavePoints items → AreCasesWithin (length later.names) (map case_seen items)
+      within_there points =
+          subst (λ ns. AreCasesWithin (length ns) (map case_seen items)) (sym k.names)
+          (cases_within (state_of named_desk) f gs numbers_there limit printed readable desk_named.sound own (map case_seen items) wanted items refl points)
+
+      pub line_answered : (r : Result Line StatementError) (after : List (List ℕ)) → IfOk r (IsLine printed (cases_text later.names (map case_seen items))) → IfOk r (AnswersCommand (named (state_of desk) (Qea f gs)) limit printed (Qea f gs) after)
+      line_answered r after l =
+          ok_map r (λ line i. subst (λ s. AnswersCommand s limit printed (Qea f gs) after line) start
+          (cases_answered (state_of named_desk) f gs numbers_there limit printed readable desk_named.sound own (map case_seen items) wanted line after (subst (λ ns. IsLine printed (cases_text ns (map case_seen items)) line) k.names i))) l
+
+      pub line_refused : (r : Result Line StatementError) → IfErr r (LineFault printed (cases_text later.names (map case_seen items))) → IfErr r (Refuses (named (state_of desk) (Qea f gs)) limit (use_of None printed) (Qea f gs))
+      line_refused r l =
+          err_map r (λ e i. subst (λ s. Refuses s limit (use_of None printed) (Qea f gs) e) start
+          (cases_too_long (state_of named_desk) f gs numbers_there limit printed readable desk_named.sound own (map case_seen items) wanted e (subst (λ ns. LineFault printed (cases_text ns (map case_seen items)) e) k.names i))) l

@@ -1,0 +1,49 @@
+-- The case list of a formula, in a state in which the variables of the command have their numbers.
+use Rattle.std.specs.Prelude.{◌≡◌, ◌≢◌, ◌↔◌, ℕ, Bool, true, false, List}
+use Rattle.formula_meaning.specs.Answer.{Holds}
+use Rattle.formula_meaning.specs.Every.{Every}
+use Rattle.formula_meaning.specs.Formula.{No, Or}
+use Rattle.formula_meaning.specs.Point.{Of}
+use Rattle.formula_meaning.specs.Shape.{IsQuantifierFree}
+use Rattle.formula_meaning.specs.Some.{EachOf}
+use Rattle.formula_meaning.specs.Tree.{IsFree, TrueAt}
+use Rattle.atom_normal.specs.NormalForm.{IsNormal}
+use Rattle.elimination_reference.specs.Cases.{Case, case_sign, case_matrix, case_names}
+use Rattle.elimination_reference.specs.Theorems.{guards_of, answer_names}
+use Rattle.case_answers.specs.Over.{AreOver}
+use Rattle.qe_syntax.specs.Trees.{FormulaTree, FormulaTrees}
+use Rattle.qe_syntax.specs.Value as written
+use Rattle.formula_tree.specs.Resolving.{resolve, at_names, bound_truth}
+use Rattle.redlog_printer.specs.Bound.{HasTwoMembers}
+use Rattle.simplified_formulas.specs.Trees.{IsReduced}
+use Rattle.session_commands.specs.State.{State}
+use Rattle.session_commands.specs.Assumptions.{Hold, assumed}
+use Rattle.session_commands.specs.Commands.{negated_of}
+
+-- what is said, or for false that it is not so
+abbrev pub Turned : Bool → Type 0 → Type 0
+Turned true T = T
+Turned false T = ¬ T
+
+-- The guard has no quantifier and no free name but those of the resolved formula. It is Reduced under the assumptions and not false, with normal atoms and
+-- lists of two members at least. The answers are for the names of the leading block, each once and in its order, and their forms have free names of the formula
+-- and names answered before alone. At every point of the theory where the assumptions are true, the guard is true exactly where the answers make true what stands
+-- behind the block, or for a block of all its negation.
+pub record IsCaseOf (s : State) (f : FormulaTree) (given : FormulaTrees) (k : Case) : Type 0 where
+  pub free : IsQuantifierFree k.guard
+  pub names : (n : ℕ) → IsFree k.guard n → IsFree (resolve s.context s.bound s.names f) n
+  pub reduced : IsReduced s.context k.guard (assumed s given)
+  pub possible : k.guard ≢ No
+  pub normal : Every (IsNormal s.context) k.guard
+  pub members : HasTwoMembers k.guard
+  pub in_order : answer_names k.answers ≡ case_names (resolve s.context s.bound s.names f)
+  pub over : AreOver (IsFree (resolve s.context s.bound s.names f)) k.answers
+  pub exact : (p : written.NamedPoint) → Of s.context p → Hold s given p
+      → Holds s.context k.answers (case_matrix (resolve s.context s.bound s.names f)) (at_names s.names p) ↔ TrueAt s.context k.guard (at_names s.names p)
+
+-- Each is such a case. At every point of the theory where the assumptions are true, some guard is true exactly where the command's formula is, as it is written,
+-- or for a block of all where it is not.
+pub record IsCaseAnswer (s : State) (f : FormulaTree) (given : FormulaTrees) (ks : List Case) : Type 0 where
+  pub each : EachOf (IsCaseOf s f given) ks
+  pub together : (p : written.NamedPoint) → Of s.context p → Hold s given p
+      → Turned (case_sign (negated_of s f)) (written.TrueAt (bound_truth s.context s.bound s.names) s.context f p) ↔ TrueAt s.context (Or (guards_of ks)) (at_names s.names p)
