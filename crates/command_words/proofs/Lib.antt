@@ -1,2 +1,5 @@
 pub mod Values
 pub mod Spelling
+pub mod Steps
+pub mod Rows
+pub mod Walks

@@ -11,6 +11,11 @@ abbrev pub name_of : Choice → List ℕ
 name_of Nodes = codes "--nodes"
 name_of Generate = codes "--generate"
 
+-- the name without its hyphens
+abbrev pub id_of : Choice → List ℕ
+id_of Nodes = codes "nodes"
+id_of Generate = codes "generate"
+
 -- the greatest value of an option
 abbrev pub greatest_of : Choice → ℕ
 greatest_of Nodes = 4000000

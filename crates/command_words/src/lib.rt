@@ -1,11 +1,13 @@
-//! The words of the command line: which options they give, or that they are not of the form.
+//! The words of the command line: whether they are of the form, and which options they give.
 #![tactic(auto)]
 
 mod laws;
 mod options;
+mod reading;
 mod value;
 mod words;
 
 pub use laws::words_spell_once;
 pub use options::{Choice, Options};
-pub use words::options_of;
+pub use reading::options_of;
+pub use words::are_valid;

@@ -1,5 +1,5 @@
 ghost use Rattle.std.specs.Prelude.{◌≡◌, Some, is_some};
-ghost use Rattle.command_words.specs.Words.{name_of, greatest_of, given, with_value};
+ghost use Rattle.command_words.specs.Words.{name_of, id_of, greatest_of, given, with_value};
 
 /// An option of the command line.
 #[derive(Clone, Copy, Debug, PartialEq, Eq)]
@@ -23,6 +23,16 @@ impl Choice {
         match self {
             Choice::Nodes => "--nodes",
             Choice::Generate => "--generate",
+        }
+    }
+
+    /// The name of the option, without the hyphens before it.
+    pub fn id(self) -> &'static str
+        ensures { result.now ≡ id_of self }
+    {
+        match self {
+            Choice::Nodes => "nodes",
+            Choice::Generate => "generate",
         }
     }
 

@@ -1,4 +1,4 @@
-ghost use Rattle.std.specs.Prelude.{◌≡◌, ℕ, ◌<◌, ◌≤◌, List, [], ◌++◌, length, drop, MatchOption};
+ghost use Rattle.std.specs.Prelude.{◌≡◌, ℕ, IsTrue, ◌↔◌, ◌<◌, ◌≤◌, List, [], ◌++◌, length, drop, MatchOption};
 ghost use Rattle.std.specs.declared.alloc.Global.{Global};
 ghost use Rattle.std.specs.declared.string.String.{String};
 ghost use Rattle.command_words.specs.declared.options.Choice.{Choice};
@@ -8,9 +8,16 @@ ghost use Rattle.command_words.specs.Words.{Gives, Begins, Spells};
 use crate::options::{Choice, Options};
 use crate::value::value_of;
 
-/// The options that the words of a command line give, or none where the words are not of the form
-/// `[--nodes n] [--generate n]`: each option at most once, in any order, its value in the next word or after `=`.
-pub fn options_of(words: &[String]) -> Option<Options>
+/// Whether the words of a command line are of the form `[--nodes n] [--generate n]`: each option at most once, in any
+/// order, its value in the next word or after `=`. It takes no memory.
+pub fn are_valid(words: &[String]) -> bool
+    ensures { IsTrue result ↔ ((options : Options) × Spells words.now options) }
+{
+    spelled(words).is_some()
+}
+
+/// The options that the words give, where they are of the form.
+fn spelled(words: &[String]) -> Option<Options>
     ensures { MatchOption result (¬ ((options : Options) × Spells words.now options)) (λ options. Spells words.now options) }
 {
     let mut options = Options {

@@ -66,6 +66,7 @@ fn main(rt: HostRuntime) -> io::Result<()> {
     brackets(&rt)?;
     chains(&rt)?;
     lengths(&rt)?;
+    queries(&rt)?;
     session(&rt)
 }
 
@@ -121,6 +122,27 @@ fn lengths(rt: &HostRuntime) -> io::Result<()> {
     formula(rt, "100,000 digits", digits, 99_999)?;
     formula(rt, "1 MiB", blanks, 1_048_557)?;
     formula(rt, "1 MiB and a byte", blanks, 1_048_558)
+}
+
+/// The deepest quantifiers, asked for their prenex form, their cases and a sample.
+fn queries(rt: &HostRuntime) -> io::Result<()> {
+    let prenex = Nest::of("rlpnf ", "ex(x,", "x=1", ")", ";");
+    let cases = Nest::of("rlqea ", "ex(x,", "x=1", ")", ";");
+    let sample = Nest::of("rlwitness(", "ex(x,", "x=1", ")", ",{});");
+    query(rt, "511 times ex in prenex form", prenex, 511)?;
+    query(rt, "their cases", cases, 511)?;
+    query(rt, "their sample", sample, 511)?;
+    query(rt, "the sample of 512", sample, 512)
+}
+
+/// The answer to a statement of these parts in a session of its own.
+fn query(rt: &HostRuntime, title: &str, nest: Nest, count: usize) -> io::Result<()> {
+    let alloc = rt.alloc();
+    let statement = nested(alloc, nest, count)?;
+    let mut session = Session::new(alloc, LIMITS);
+    let answer = answer(alloc, &mut session, statement.as_bytes())?;
+    println!(rt; "{title}: {answer}")?;
+    Ok(())
 }
 
 /// The formula's truth in a session of its own.
@@ -197,6 +219,12 @@ fn binding(rt: &HostRuntime, session: &mut Session, count: usize) -> io::Result<
 
 /// The statement whether a formula holds where x is 1.
 fn statement(alloc: Global, nest: Nest, count: usize) -> Result<String, AllocError> {
+    let formula = nested(alloc, nest, count)?;
+    format!(in alloc; "rlholds({formula},{{x=1}});")
+}
+
+/// The text of these parts.
+fn nested(alloc: Global, nest: Nest, count: usize) -> Result<String, AllocError> {
     let openings = nest.opening.repeat(alloc, count)?;
     let closings = nest.closing.repeat(alloc, count)?;
     let Nest {
@@ -205,7 +233,7 @@ fn statement(alloc: Global, nest: Nest, count: usize) -> Result<String, AllocErr
         last,
         ..
     } = nest;
-    format!(in alloc; "rlholds({first}{openings}{inside}{closings}{last},{{x=1}});")
+    format!(in alloc; "{first}{openings}{inside}{closings}{last}")
 }
 
 /// The statement of these parts.

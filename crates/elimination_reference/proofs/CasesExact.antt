@@ -37,8 +37,8 @@ module _ (c : Context) (f : Tree) where
     each_exact bs h.1,
   )
 
-  -- the formula, or its negation, in negation normal form
-  says : (sign : Bool) (g : Tree) → Every (IsNormal c) f → Equivalent c (turned sign (normal_tree f)) g → Says c sign f g
+  -- what is equivalent to the formula, or its negation, in negation normal form says the same of the formula
+  pub says : (sign : Bool) (g : Tree) → Every (IsNormal c) f → Equivalent c (turned sign (normal_tree f)) g → Says c sign f g
   says true g n e = λ p o. both_ways (normal_truths c f p (normal_inside c f n) o).0 (e p o)
   says false g n e = λ p o.
       let i = (normal_truths c f p (normal_inside c f n) o).0 in

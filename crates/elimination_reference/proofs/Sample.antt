@@ -72,7 +72,7 @@ normal_name Integers (Compare r f) n = oriented_name f n.oriented.sorted.rising 
 normal_name Fields (Congruent b m f) n = absurd n
 normal_name Integers (Congruent b m f) n = congruence_name m f n.above_one n.sorted n.coprime
 
-has_name : (c : Context) (f : Tree) → IsPlain f → Every (IsNormal c) f → IsBranching f → IsProper f → (x : ℕ) × IsFree f x
+pub has_name : (c : Context) (f : Tree) → IsPlain f → Every (IsNormal c) f → IsBranching f → IsProper f → (x : ℕ) × IsFree f x
 has_name c Yes p n b h = absurd h
 has_name c No p n b h = absurd h
 has_name c (One a) p n b h = normal_name c a n

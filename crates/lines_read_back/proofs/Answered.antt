@@ -104,7 +104,7 @@ module _ (s : State) (limit : ℕ) (t : Tree) (bare : IsBare s) (own : IsOwnForm
   only (Ok answer) next r =
       answer_is answer next (subst (λ (u : StatementTree). Answers s limit u.printed u.action answer next) (back.spells.alone r.statement r.spelled) r.answered)
   only (Err error.Memory) next r = tt
-  only (Err e) next r = absurd (never s limit (line_text s.names t) (printed_echo w) back.spells.spelled tt unrefused e next (λ m. absurd (cc)) r)
+  only (Err e) next r = absurd (never s limit (line_text s.names t) (printed_echo w) back.spells.spelled unrefused e next (λ m. absurd (cc)) r)
 
   -- and there is this one
   answers : (bytes : Vec ℕ Global) → bytes.items ≡ tree_text s.names t → AnswersCommand s limit true (Echo w) s.names (line.Printed bytes)
@@ -114,7 +114,6 @@ module _ (s : State) (limit : ℕ) (t : Tree) (bare : IsBare s) (own : IsOwnForm
   answered bytes e = record {
     statement = printed_echo w;
     spelled = back.spells.spelled;
-    built = tt;
     answered = subst (λ (z : State). AnswersSaid z limit true (Echo w) (line.Printed bytes) s) (sym same_state) (record { names = s.names; named = refl; answered = answers bytes e; after = refl });
   }
 

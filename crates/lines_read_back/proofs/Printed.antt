@@ -29,8 +29,7 @@ use Rattle.session_commands.specs.declared.line.Line.TheVariants as line
 use Rattle.session_commands.specs.declared.line.StatementError.TheVariants as error
 use Rattle.session_commands.specs.State.{State}
 use Rattle.session_commands.specs.Parts.{given_of}
-use Rattle.session_commands.specs.Commands.{formula_of, entries_of, entry_names, named, resolved, negated_of, IsSimplification, IsCleanAnswer, IsCondition, MayGive, HasAnswerNames}
-use Rattle.session_commands.specs.Built.{IsBuiltFormula}
+use Rattle.session_commands.specs.Commands.{formula_of, entries_of, entry_names, named, resolved, negated_of, IsSimplification, IsCleanAnswer, IsCondition, MayGive, HasAnswerNames, GivesFormula}
 use Rattle.session_commands.specs.Causes.{Use, InSomePart, IsAccepted}
 use Rattle.session_commands.specs.Keeping.{IsSessionFormula}
 use Rattle.session_commands.specs.Reply.{Tells, AnswersCommand, Answers, Reply}
@@ -130,7 +129,7 @@ module _ (z next : State) (limit : ℕ) (u : Use) (context : next.context ≡ z.
   same_formula : next.names ≡ z.names → IsSessionFormula z.context (length z.names) t → IsSessionFormula next.context (length next.names) t
   same_formula n h = subst (λ c. IsSessionFormula c (length next.names) t) (sym context) (subst (λ ns. IsSessionFormula z.context (length ns) t) (sym n) h)
 
-  given_formula : (c : CommandTree) → IsBuiltFormula c → names_after z.names (formula_of c) ≡ z.names → IsProperFormula (formula_of c) → z.bound ≡ [] → IsAccepted z limit u c
+  given_formula : (c : CommandTree) → GivesFormula c → names_after z.names (formula_of c) ≡ z.names → IsProperFormula (formula_of c) → z.bound ≡ [] → IsAccepted z limit u c
       → MayGive z limit c t → HasAnswerNames z c next.names → IsPrinted z limit c text next
   given_formula (Echo f) b numbers proper unbound accepted given n = record {
     tree = t;
@@ -194,7 +193,7 @@ module _ (z next : State) (limit : ℕ) (u : Use) (context : next.context ≡ z.
   given_formula (Holds f es) b numbers proper unbound accepted given n = absurd b
   given_formula (Sample f es) b numbers proper unbound accepted given n = absurd b
 
-told_formula : (z : State) (limit : ℕ) (c : CommandTree) (names : List (List ℕ)) (text : List ℕ) → IsBuiltFormula c → Tells z limit c names text → (t : Tree) × MayGive z limit c t × (text ≡ tree_text names t)
+told_formula : (z : State) (limit : ℕ) (c : CommandTree) (names : List (List ℕ)) (text : List ℕ) → GivesFormula c → Tells z limit c names text → (t : Tree) × MayGive z limit c t × (text ≡ tree_text names t)
 told_formula z limit (Echo f) names text b h = h
 told_formula z limit (Nnf f) names text b h = h
 told_formula z limit (Pnf f) names text b h = h

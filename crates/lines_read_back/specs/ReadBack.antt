@@ -17,8 +17,7 @@ use Rattle.session_commands.specs.declared.line.Line.TheVariants as line
 use Rattle.session_commands.specs.declared.line.StatementError.{StatementError}
 use Rattle.session_commands.specs.declared.line.StatementError.TheVariants as error
 use Rattle.session_commands.specs.State.{State}
-use Rattle.session_commands.specs.Commands.{named, MayGive}
-use Rattle.session_commands.specs.Built.{IsBuiltFormula}
+use Rattle.session_commands.specs.Commands.{named, MayGive, GivesFormula}
 use Rattle.session_commands.specs.Keeping.{IsSessionFormula}
 use Rattle.session_commands.specs.Reply.{Reply}
 
@@ -98,7 +97,7 @@ pub record IsPrinted (s : State) (limit : ℕ) (c : CommandTree) (text : List �
 -- which nothing is bound.
 abbrev pub PrintedIsFormula : Type 0
 PrintedIsFormula =
-    (s : State) (limit : ℕ) (piece : List ℕ) (c : CommandTree) (bytes : Vec ℕ Global) (next : State) → IsBare s → IsBuiltFormula c →
+    (s : State) (limit : ℕ) (piece : List ℕ) (c : CommandTree) (bytes : Vec ℕ Global) (next : State) → IsBare s → GivesFormula c →
     Spells piece (record { action = Say c; printed = true }) → Reply s limit piece (Ok (line.Printed bytes)) next →
     IsBare next × IsPrinted (named s c) limit c bytes.items next
 

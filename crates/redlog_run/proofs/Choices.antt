@@ -13,7 +13,6 @@ use Rattle.redlog_reader.proofs.Whole.{spells_once}
 use Rattle.session_commands.specs.declared.line.Line.{Line}
 use Rattle.session_commands.specs.declared.line.Line.TheVariants as line
 use Rattle.session_commands.specs.declared.line.StatementError.{StatementError}
-use Rattle.session_commands.specs.Built.{IsBuiltAction}
 use Rattle.session_commands.specs.Words.{context_text}
 use Rattle.session_commands.specs.State.{State, theory_of, chosen, first_state}
 use Rattle.session_commands.specs.Reply.{IsLine, Answers, RefusesAction}
@@ -71,14 +70,6 @@ record IsChoice (t : StatementTree) (ending : Bool) (lines : List ℕ) (refusal 
   lines_are : lines ≡ choice_line t.printed t.action
   unrefused : refusal ≡ false
 
-built : (a : ActionTree) → IsWithoutFormula a → IsBuiltAction a
-built Empty w = tt
-built Ignored w = tt
-built Finish w = tt
-built (Choose setting) w = tt
-built (Say c) w = absurd w
-built (Assign x c) w = absurd w
-
 -- the state after such a statement
 abbrev after : State → ActionTree → State
 after s (Choose setting) = chosen s (theory_of setting)
@@ -128,26 +119,26 @@ module _ (s : State) (limit : ℕ) (piece : List ℕ) (offset : ℕ) (t : Statem
       let a = subst (λ (u : StatementTree). Answers s limit u.printed u.action answer next) (same r.statement r.spelled) r.answered in
       let q = silent s limit t.printed t.action answer next w other a in
       record { ending_is = q.0; lines_are = q.1; unrefused = refl }
-  choice {next = next} (refused e other r) = absurd (never s limit piece t h (built t.action w) (λ d more. no_refusal s limit t.printed t.action d w) e next other r)
+  choice {next = next} (refused e other r) = absurd (never s limit piece t h (λ d more. no_refusal s limit t.printed t.action d w) e next other r)
 
 -- and there is one
 module _ (s : State) (limit : ℕ) (piece : List ℕ) (offset : ℕ) where
-  theory_chosen : (printed : Bool) (c : Context) (a : ActionTree) → Spells piece (record { action = a; printed = printed }) → IsBuiltAction a → ((answer : Line) → IsLine printed (context_text c) answer → Answers s limit printed a answer (chosen s c))
+  theory_chosen : (printed : Bool) (c : Context) (a : ActionTree) → Spells piece (record { action = a; printed = printed }) → ((answer : Line) → IsLine printed (context_text c) answer → Answers s limit printed a answer (chosen s c))
       → AnswersPiece s limit piece offset false (if printed then context_text c ++ newline else []) false (chosen s c)
-  theory_chosen true c a h b answers =
+  theory_chosen true c a h answers =
       let text = line.Printed (text_of (context_text c) (context_small c)) in
-      answered text (λ e. absurd (cc)) (record { statement = record { action = a; printed = true }; spelled = h; built = b; answered = answers text (refl, refl) })
-  theory_chosen false c a h b answers =
-      answered line.Nothing (λ e. absurd (cc)) (record { statement = record { action = a; printed = false }; spelled = h; built = b; answered = answers line.Nothing refl })
+      answered text (λ e. absurd (cc)) (record { statement = record { action = a; printed = true }; spelled = h; answered = answers text (refl, refl) })
+  theory_chosen false c a h answers =
+      answered line.Nothing (λ e. absurd (cc)) (record { statement = record { action = a; printed = false }; spelled = h; answered = answers line.Nothing refl })
 
-  nothing_said : (printed : Bool) (a : ActionTree) → Spells piece (record { action = a; printed = printed }) → IsBuiltAction a → Answers s limit printed a line.Nothing s → AnswersPiece s limit piece offset false [] false s
-  nothing_said printed a h b answers = answered line.Nothing (λ e. absurd (cc)) (record { statement = record { action = a; printed = printed }; spelled = h; built = b; answered = answers })
+  nothing_said : (printed : Bool) (a : ActionTree) → Spells piece (record { action = a; printed = printed }) → Answers s limit printed a line.Nothing s → AnswersPiece s limit piece offset false [] false s
+  nothing_said printed a h answers = answered line.Nothing (λ e. absurd (cc)) (record { statement = record { action = a; printed = printed }; spelled = h; answered = answers })
 
   made : (printed : Bool) (a : ActionTree) → Spells piece (record { action = a; printed = printed }) → IsWithoutFormula a → AnswersPiece s limit piece offset (ends a) (choice_line printed a) false (after s a)
-  made printed Empty h w = nothing_said printed Empty h tt (refl, refl)
-  made printed Ignored h w = nothing_said printed Ignored h tt (refl, refl)
-  made printed Finish h w = finished (record { statement = record { action = Finish; printed = printed }; spelled = h; built = tt; answered = (refl, refl) })
-  made printed (Choose setting) h w = theory_chosen printed (theory_of setting) (Choose setting) h tt (λ answer l. (l, refl))
+  made printed Empty h w = nothing_said printed Empty h (refl, refl)
+  made printed Ignored h w = nothing_said printed Ignored h (refl, refl)
+  made printed Finish h w = finished (record { statement = record { action = Finish; printed = printed }; spelled = h; answered = (refl, refl) })
+  made printed (Choose setting) h w = theory_chosen printed (theory_of setting) (Choose setting) h (λ answer l. (l, refl))
   made printed (Say c) h w = absurd w
   made printed (Assign x c) h w = absurd w
 

@@ -6,7 +6,7 @@ use crate::answer::{Answers, answer_script};
 use crate::read::{ReadStop, read_script};
 use crate::status::Status;
 use crate::write::write_all;
-use command_words::{Options, options_of};
+use command_words::{Options, are_valid, options_of};
 use generated_scripts::{generated, tally};
 use qe_io::{Sink, Source};
 use std::alloc::{AllocError, Global};
@@ -33,9 +33,12 @@ pub fn run<S: Source, K: Sink>(
     // Over ends that don't fail, a script that has no cause of a refusal is answered.
     ensures complete { (¬ (Rose (S.faults source.old) (S.faults source.new))) → (¬ (Rose (K.faults sink.old) (K.faults sink.new))) → Completes words.now (S.left source.old) result }
 {
-    match options_of(words) {
-        Some(options) => answer_under(alloc, options, source, sink),
-        None => Status::Usage,
+    if !are_valid(words) {
+        return Status::Usage;
+    }
+    match options_of(alloc, words) {
+        Ok(options) => answer_under(alloc, options, source, sink),
+        Err(_) => Status::Memory,
     }
 }
 

@@ -1,9 +1,6 @@
 -- The sample of a formula without free names is true.
 use Rattle.std.proofs.Common.{◌≡◌, ℕ, ◌<◌, List, [], ◌∷◌, Option, Some, None, inl, inr, ⊎_elim, refl, sym, ◌∙◌, arith, nat_eq}
 use Rattle.std.proofs.Math.IntN.{ℤ, pos}
-use Rattle.std.specs.Prelude.{◌<ℤ◌}
-use Rattle.std.proofs.lemmas.Int.{ints}
-use Rattle.exact_numbers.specs.Divides.{content_of, gcd_of, euclid}
 use Rattle.formula_meaning.specs.Context.{Context, Fields, Integers}
 use Rattle.formula_meaning.specs.Point.{Point, move}
 use Rattle.formula_meaning.specs.Formula.{Yes, No, One, Not, And, Or, Impl, Repl, Equiv, Ex, All, none, also}
@@ -12,11 +9,8 @@ use Rattle.formula_meaning.specs.Every.{Every, FreeInSome}
 use Rattle.formula_meaning.specs.Some.{EachOf}
 use Rattle.formula_meaning.specs.Sizes.{nodes}
 use Rattle.formula_meaning.specs.Shape.{IsPlain}
-use Rattle.formula_meaning.specs.Form.{Form, Term, coefficient, multiple, coefficients}
-use Rattle.formula_meaning.specs.Sorted.{IsSorted, AllAbove, IsRising, AllNonzero}
 use Rattle.formula_meaning.specs.Atom.{Atom, Compare, Congruent, Mentions, Says}
 use Rattle.formula_meaning.specs.Tree.{Tree, Trees, TrueAt, IsFree}
-use Rattle.formula_meaning.proofs.Sorted.{here}
 use Rattle.elimination_theory.specs.Answers.{Step}
 use Rattle.atom_normal.specs.NormalForm.{IsNormal, first}
 use Rattle.elimination_reference.specs.Measured.{Outcome, stopped, done, then_of, Gives, pay}
@@ -27,6 +21,7 @@ use Rattle.elimination_reference.specs.Theorems.{IsProper, IsBranching, IsTidy}
 use Rattle.elimination_reference.proofs.Always.{gives_both, always_then, always_pay}
 use Rattle.elimination_reference.proofs.Branches.{IsBranch, AreBranches}
 use Rattle.elimination_reference.proofs.CasesExact.{free}
+use Rattle.elimination_reference.proofs.Sample.{has_name}
 use Rattle.elimination_reference.proofs.Sound.{leading_are}
 use Rattle.sample_reference.specs.Values.{Value, origin}
 use Rattle.sample_reference.specs.Calculated.{values_from}
@@ -35,55 +30,6 @@ use Rattle.sample_reference.specs.Theorems.{ClosedSampleIsTrue}
 use Rattle.sample_reference.proofs.Tracing.{FromOne, branches_from}
 use Rattle.sample_reference.proofs.Chain.{AreFound, values_true, origin_of}
 use Rattle.sample_reference.proofs.Sound.{IsChosen, first_chosen, gives_values}
-
--- ---- a tidy formula that is not a constant has a name
-
-first_stands : (t : Term) (ts : List Term) → AllAbove t.name ts → ¬ (t.times ≡ pos 0) → ¬ (multiple t.name (t ∷ ts) ≡ pos 0)
-first_stands t ts above n e = n (sym (here t.name t ts refl above) ∙ e)
-
-positive_stands : (z : ℤ) → pos 0 <ℤ z → ¬ (z ≡ pos 0)
-positive_stands z h e = absurd (omega (arith, ints))
-
-oriented_name : (f : Form) → IsRising f.terms → pos 0 <ℤ first f.terms → (x : ℕ) × ¬ (coefficient x f ≡ pos 0)
-unfolding coefficient
-oriented_name f rising h = go f.terms rising h
-  where
-    go : (ts : List Term) → IsRising ts → pos 0 <ℤ first ts → (x : ℕ) × ¬ (multiple x ts ≡ pos 0)
-    go [] r p = absurd (omega (arith, ints))
-    go (t ∷ ts) r p = (t.name, first_stands t ts r.0 (positive_stands t.times p))
-
-alone_content : (m : ℕ) → content_of (pos m ∷ []) ≡ pos m
-unfolding content_of gcd_of euclid
-alone_content m = refl
-
-congruence_name : (m : ℕ) (f : Form) → 1 < m → IsSorted f → content_of (pos m ∷ coefficients f.terms) ≡ pos 1 → (x : ℕ) × ¬ (coefficient x f ≡ pos 0)
-unfolding coefficient
-congruence_name m f h s e = go f.terms s.rising s.nonzero e
-  where
-    go : (ts : List Term) → IsRising ts → AllNonzero ts → content_of (pos m ∷ coefficients ts) ≡ pos 1 → (x : ℕ) × ¬ (multiple x ts ≡ pos 0)
-    go [] r n e = let k = sym (alone_content m) ∙ e in absurd (omega (arith, ints))
-    go (t ∷ ts) r n e = (t.name, first_stands t ts r.0 n.0)
-
-normal_name : (c : Context) (a : Atom) → IsNormal c a → (x : ℕ) × Mentions a x
-normal_name Fields (Compare r f) n = oriented_name f n.oriented.sorted.rising n.oriented.positive
-normal_name Integers (Compare r f) n = oriented_name f n.oriented.sorted.rising n.oriented.positive
-normal_name Fields (Congruent b m f) n = absurd n
-normal_name Integers (Congruent b m f) n = congruence_name m f n.above_one n.sorted n.coprime
-
-tidy_name : (c : Context) (f : Tree) → IsPlain f → Every (IsNormal c) f → IsBranching f → IsProper f → (x : ℕ) × IsFree f x
-tidy_name c Yes p n b h = absurd h
-tidy_name c No p n b h = absurd h
-tidy_name c (One a) p n b h = normal_name c a n
-tidy_name c (Not f) p n b h = absurd p
-tidy_name c (And none) p n b h = absurd b.0
-tidy_name c (And (also f fs)) p n b h = let i = tidy_name c f p.0 n.0 b.1.1 b.1.0 in (i.0, inl i.1)
-tidy_name c (Or none) p n b h = absurd b.0
-tidy_name c (Or (also f fs)) p n b h = let i = tidy_name c f p.0 n.0 b.1.1 b.1.0 in (i.0, inl i.1)
-tidy_name c (Impl f g) p n b h = absurd p
-tidy_name c (Repl f g) p n b h = absurd p
-tidy_name c (Equiv f g) p n b h = absurd p
-tidy_name c (Ex x f) p n b h = absurd p
-tidy_name c (All x f) p n b h = absurd p
 
 -- ---- the first true branch
 
@@ -100,9 +46,9 @@ module _ (c : Context) (p : Point ℕ) where
   before : (f : Tree) (steps : List Step) (ts : Trees) (o : Option (List Step)) → IsTidy c f → ((y : ℕ) → ¬ (IsFree f y)) → IsFound ts o → IsFound (also f ts) (if_true f steps o)
   before Yes steps ts o tidy n h = inl tt
   before No steps ts o tidy n h = one_more No ts o (λ t. t) h
-  before (One a) steps ts o tidy n h = let i = tidy_name c (One a) tidy.is_plain tidy.normal tidy.two_members tt in absurd (n i.0 i.1)
-  before (And fs) steps ts o tidy n h = let i = tidy_name c (And fs) tidy.is_plain tidy.normal tidy.two_members tt in absurd (n i.0 i.1)
-  before (Or fs) steps ts o tidy n h = let i = tidy_name c (Or fs) tidy.is_plain tidy.normal tidy.two_members tt in absurd (n i.0 i.1)
+  before (One a) steps ts o tidy n h = let i = has_name c (One a) tidy.is_plain tidy.normal tidy.two_members tt in absurd (n i.0 i.1)
+  before (And fs) steps ts o tidy n h = let i = has_name c (And fs) tidy.is_plain tidy.normal tidy.two_members tt in absurd (n i.0 i.1)
+  before (Or fs) steps ts o tidy n h = let i = has_name c (Or fs) tidy.is_plain tidy.normal tidy.two_members tt in absurd (n i.0 i.1)
   before (Not f) steps ts o tidy n h = absurd tidy.is_plain
   before (Impl f g) steps ts o tidy n h = absurd tidy.is_plain
   before (Repl f g) steps ts o tidy n h = absurd tidy.is_plain

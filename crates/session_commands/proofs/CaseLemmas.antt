@@ -64,7 +64,7 @@ turned_bound : (K : ℕ → Type 0) (sign : Bool) (f : Tree) → EveryBound K f 
 turned_bound K true f h = h
 turned_bound K false f h = (bound_normal_form K negated_normal f h).1
 
-block_below : (c : Context) (n : ℕ) (f : Tree) → IsSessionFormula c n f → EachOf (λ x. x < n) (case_names f)
+pub block_below : (c : Context) (n : ℕ) (f : Tree) → IsSessionFormula c n f → EachOf (λ x. x < n) (case_names f)
 block_below c n f own = block_names (λ x. x < n) (case_formula f) [] (turned_bound (λ x. x < n) (case_sign (normal_tree f)) (normal_tree f) (negated_formula c n f own).within.quantified)
 
 -- ---- the cases of the reference elimination
@@ -149,6 +149,14 @@ module _ (c : Context) (limit : ℕ) where
   fault_along f g same error.Memory h = tt
   fault_along f g same _ h = absurd h
 
+-- ---- lengths
+
+pub length_3 : (x y z : List ℕ) → length (x ++ y ++ z) ≡ length x + length y + length z
+length_3 x y z = length-append (x ++ y) z ∙ ap (λ n. n + length z) (length-append x y)
+
+length_5 : (v w x y z : List ℕ) → length (v ++ w ++ x ++ y ++ z) ≡ length v + length w + length x + length y + length z
+length_5 v w x y z = length-append (v ++ w ++ x ++ y) z ∙ ap (λ n. n + length z) (length-append (v ++ w ++ x) y ∙ ap (λ n. n + length y) (length_3 v w x))
+
 -- ---- what is left of cases
 
 module _ (c : Context) (ks : List Atom) where
@@ -171,12 +179,6 @@ module _ (c : Context) (ks : List Atom) where
         go rest (Some m) t = let e = t.simplified.truth p of says in (⊎_elim (λ u. inl (e.0 u)) (λ u. inr (rest.0 u)), ⊎_elim (λ u. inl (e.1 u)) (λ u. inr (rest.1 u)))
 
   -- ---- texts
-
-  length_3 : (x y z : List ℕ) → length (x ++ y ++ z) ≡ length x + length y + length z
-  length_3 x y z = length-append (x ++ y) z ∙ ap (λ n. n + length z) (length-append x y)
-
-  length_5 : (v w x y z : List ℕ) → length (v ++ w ++ x ++ y ++ z) ≡ length v + length w + length x + length y + length z
-  length_5 v w x y z = length-append (v ++ w ++ x ++ y) z ∙ ap (λ n. n + length z) (length-append (v ++ w ++ x) y ∙ ap (λ n. n + length y) (length_3 v w x))
 
   -- with a comma before it, a list is longer by less than what stands before it
   before_comma : (before : List ℕ) (ts : List (List ℕ)) → length (separated before ts) ≤ length before + length (separated (codes ",") ts)

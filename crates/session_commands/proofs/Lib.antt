@@ -12,8 +12,13 @@ pub mod GivenSteps
 pub mod CaseLemmas
 pub mod CaseSteps
 pub mod AnswerLemmas
+pub mod AskedLemmas
 pub mod TruthLemmas
 pub mod PointLemmas
+pub mod AskedSteps
 pub mod TruthSteps
+pub mod SampleLemmas
+pub mod ShortSamples
+pub mod SampleSteps
 pub mod NewNameLemmas
 pub mod PrenexLemmas

@@ -1,26 +1,18 @@
--- Why the truth at a point is refused, and when it is not.
-use Rattle.std.proofs.Common.{◌≡◌, inl, inr, ⊎_elim, ℕ, ◌<◌, ◌≤◌, List, [], ◌∷◌, Bool, true, false, IsTrue, ◌↔◌, MatchOption, Option, Some, None, sym, ap, ◌∙◌, subst, refl, arith, lit<, lit≤}
+-- The truth at a point, and why it is refused.
+use Rattle.std.proofs.Common.{◌≡◌, inl, inr, ℕ, List, ◌<◌, ◌≤◌, Bool, true, false, IsTrue, ◌↔◌, None, sym, subst, refl, arith, lit≤}
 use Rattle.std.proofs.lemmas.Bool.{false≢true}
-use Rattle.std.specs.Prelude.{option_map, is_some}
 use Rattle.std.specs.List.{IsDistinct}
 use Rattle.formula_meaning.specs.Context.{Context}
 use Rattle.formula_meaning.specs.Point.{Point, Of}
-use Rattle.formula_meaning.specs.Some.{SomeOf}
 use Rattle.formula_meaning.specs.Tree.{Tree, TrueAt}
 use Rattle.qe_syntax.specs.declared.statement.PointEntry.{PointEntry}
-use Rattle.qe_syntax.specs.Point.{PassesLimit, IsPointOf}
+use Rattle.qe_syntax.specs.Point.{IsPointOf}
 use Rattle.qe_syntax.specs.Statements.{Holds}
 use Rattle.qe_syntax.specs.Trees.{FormulaTree}
 use Rattle.qe_syntax.specs.Value.{NamedPoint, same_name}
 use Rattle.qe_syntax.specs.Value as written
-use Rattle.formula_tree.specs.Bindings.{bound_to}
-use Rattle.formula_tree.specs.Causes.{IsBound, OverflowsInReading}
-use Rattle.formula_tree.specs.Resolving.{place, at_names, resolve, bound_truth}
+use Rattle.formula_tree.specs.Resolving.{at_names, resolve, bound_truth}
 use Rattle.formula_tree.proofs.ResolvedTruth.{resolving_keeps_truth}
-use Rattle.formula_resolving.specs.declared.error.StaticError.{StaticError}
-use Rattle.formula_resolving.specs.declared.error.StaticError.TheVariants as static
-use Rattle.formula_resolving.specs.Refusals as reading
-use Rattle.formula_resolving.specs.Refusals.{trees_bound}
 use Rattle.formula_store.specs.Truths.{Tells}
 use Rattle.elimination_reference.specs.Sample.{reference_at}
 use Rattle.plain_engine.specs.declared.measured.Measured.{Measured}
@@ -29,41 +21,11 @@ use Rattle.plain_engine.specs.Told.{StopsWith}
 use Rattle.session_commands.specs.declared.line.StatementError.{StatementError}
 use Rattle.session_commands.specs.declared.line.StatementError.TheVariants as error
 use Rattle.session_commands.specs.State.{State}
-use Rattle.session_commands.specs.Commands.{resolved}
-use Rattle.session_commands.specs.Points.{MeanNoPoint, IsQuantified, IsTruth}
-use Rattle.session_commands.specs.Causes.{IsCause, rank, HasNoCauseBelow}
-use Rattle.session_commands.specs.Steps.{static_refusal, measured_refusal, use_of, HasNumbers, IsReadable, IsUnread}
-use Rattle.session_commands.specs.Truths.{IsBoundName, RefusesTruth, RefusesTruthAt, HasNoneBelow, stop_of, IsClear, IsValued, PointStop, ValuedStop, ValueStop, EliminationStop}
-use Rattle.session_commands.proofs.BindingLemmas.{trees_find}
-use Rattle.session_commands.proofs.CauseLemmas.{earlier, cause_of_reading, none_below}
-
--- ---- names that are bound
-
-module _ {I : Type 0} (t : I → Tree) (bound : List (List ℕ × I)) where
-  there : (x : List ℕ) (o : Option I) (f : Tree) → option_map t o ≡ Some f → (i : I) × (o ≡ Some i)
-  there x None f e = absurd (cc)
-  there x (Some i) f e = (i, refl)
-
-  -- something is bound to some entry's name exactly where a tree is
-  pub bound_entries : (es : List PointEntry) → SomeOf (λ (e : PointEntry). IsBoundName bound e.name) es ↔ SomeOf (λ (e : PointEntry). IsBound (trees_bound t bound) e.name) es
-  bound_entries [] = (λ h. h, λ h. h)
-  bound_entries (e ∷ es) =
-      let r = bound_entries es in (
-        λ h. ⊎_elim (λ p. inl (t p.0, trees_find t bound e.name ∙ ap (option_map t) p.1)) (λ q. inr (r.0 q)) h,
-        λ h. ⊎_elim (λ p. inl (there e.name (bound_to bound e.name) p.0 (sym (trees_find t bound e.name) ∙ p.1))) (λ q. inr (r.1 q)) h,
-      )
-
-pub met_entries : {I : Type 0} (t : I → Tree) (bound : List (List ℕ × I)) (es : List PointEntry) (b : Bool) → IsTrue b ↔ SomeOf (λ (e : PointEntry). IsBoundName bound e.name) es
-    → IsTrue b ↔ SomeOf (λ (e : PointEntry). IsBound (trees_bound t bound) e.name) es
-met_entries t bound es b h = let r = bound_entries t bound es in (λ x. r.0 (h.0 x), λ x. h.1 (r.1 x))
-
-pub some_found : {I : Type 0} (bound : List (List ℕ × I)) (x : List ℕ) (o : Option I) → o ≡ bound_to bound x → is_some o ≡ true → IsBoundName bound x
-some_found bound x None e h = absurd (false≢true h)
-some_found bound x (Some i) e h = (i, sym e)
-
-pub none_found : {I : Type 0} (bound : List (List ℕ × I)) (x : List ℕ) (o : Option I) → o ≡ bound_to bound x → is_some o ≡ false → ¬ (IsBoundName bound x)
-none_found bound x None e h k = let q = e ∙ k.1 in absurd (cc)
-none_found bound x (Some i) e h k = false≢true (sym h)
+use Rattle.session_commands.specs.Asked.{HasNoneBelow}
+use Rattle.session_commands.specs.Points.{IsQuantified, IsTruth}
+use Rattle.session_commands.specs.Causes.{HasNoCauseBelow}
+use Rattle.session_commands.specs.Steps.{measured_refusal, use_of, HasNumbers, IsReadable}
+use Rattle.session_commands.specs.Truths.{RefusesTruth, ValueStop, EliminationStop}
 
 -- the resolved formula has the truth of the written one
 pub truth_as_written : (s : State) (f : FormulaTree) → HasNumbers s.names f → IsDistinct same_name s.names → IsReadable s f → (p : NamedPoint) → Of s.context p
@@ -72,183 +34,29 @@ truth_as_written s f numbers distinct readable p of =
     subst (λ ns. written.TrueAt (bound_truth s.context s.bound ns) s.context f p ↔ TrueAt s.context (resolve s.context s.bound ns f) (at_names ns p)) numbers
     (resolving_keeps_truth s.context s.bound s.names f distinct readable p of)
 
-module _ (s : State) (f : FormulaTree) (es : List PointEntry) (numbers : HasNumbers s.names f) where
-  abbrev Applies : StaticError → Type 0
-  Applies d = reading.Applies s.context s.bound s.names f d
-
-  abbrev Bound : Type 0
-  Bound = SomeOf (λ (e : PointEntry). IsBound s.bound e.name) es
-
-  -- ---- what is clear
-
-  no_reading : IsClear s f es → (m : ℕ) → (15 < m → ¬ (Applies static.Overflow)) → m ≤ 16 → (d : StaticError) → rank (static_refusal d) < m → ¬ (Applies d)
-  no_reading clear m overflow b static.Unbound l = clear.reading static.Unbound (lit< tt)
-  no_reading clear m overflow b static.FormulaAsTerm l = clear.reading static.FormulaAsTerm (lit< tt)
-  no_reading clear m overflow b static.Nonlinear l = clear.reading static.Nonlinear (lit< tt)
-  no_reading clear m overflow b static.Division l = clear.reading static.Division (lit< tt)
-  no_reading clear m overflow b static.CongruenceContext l = clear.reading static.CongruenceContext (lit< tt)
-  no_reading clear m overflow b static.Modulus l = clear.reading static.Modulus (lit< tt)
-  no_reading clear m overflow b static.Depth l = clear.reading static.Depth (lit< tt)
-  no_reading clear m overflow b static.Overflow l = overflow l
-  no_reading clear m overflow b static.Memory l = absurd (omega arith)
-
-  -- nothing comes before the point, the free names, the quantifiers or the numbers that pass the limit
-  pub below_point : IsClear s f es → HasNoneBelow s f es 12
-  below_point clear limit printed =
-      none_below s limit (use_of None printed) (Holds f es) numbers 12 (lit≤ tt) (no_reading clear 12 (λ l. absurd (omega arith)) (lit≤ tt)) (λ l. clear.entries) (λ l. absurd (omega arith)) (λ l. absurd (omega arith))
-      (λ l k. k.0) (λ l. absurd (omega arith)) (λ l h. h)
-
-  pub below_unvalued : IsClear s f es → ¬ (MeanNoPoint s.context es) → HasNoneBelow s f es 13
-  below_unvalued clear point limit printed =
-      none_below s limit (use_of None printed) (Holds f es) numbers 13 (lit≤ tt) (no_reading clear 13 (λ l. absurd (omega arith)) (lit≤ tt)) (λ l. clear.entries) (λ l. point) (λ l. absurd (omega arith))
-      (λ l k. k.0) (λ l. absurd (omega arith)) (λ l h. h)
-
-  pub below_overflow : IsClear s f es → ¬ (MeanNoPoint s.context es) → IsValued s f es → HasNoneBelow s f es 15
-  below_overflow clear point valued limit printed =
-      none_below s limit (use_of None printed) (Holds f es) numbers 15 (lit≤ tt) (no_reading clear 15 (λ l. absurd (omega arith)) (lit≤ tt)) (λ l. clear.entries) (λ l. point) (λ l h. valued h.1)
-      (λ l k. k.0) (λ l. absurd (omega arith)) (λ l h. h)
-
-  pub below_nodes : IsClear s f es → ¬ (MeanNoPoint s.context es) → IsValued s f es → ¬ (PassesLimit es) → IsReadable s f → HasNoneBelow s f es 16
-  below_nodes clear point valued within readable limit printed =
-      none_below s limit (use_of None printed) (Holds f es) numbers 16 (lit≤ tt) (no_reading clear 16 (λ l. readable.within) (lit≤ tt)) (λ l. clear.entries) (λ l. point) (λ l h. valued h.1)
-      (λ l k. k.0) (λ l. within) (λ l h. h)
-
-  -- a truth has no formula to bind or to print
-  no_formula : (limit : ℕ) (printed : Bool) → HasNoCauseBelow s limit (use_of None printed) (Holds f es) 16 → HasNoCauseBelow s limit (use_of None printed) (Holds f es) 19
-  no_formula limit printed clear error.Long l h = h
-  no_formula limit printed clear error.Lexical l h = h
-  no_formula limit printed clear error.Nesting l h = h
-  no_formula limit printed clear error.Syntax l h = h
-  no_formula limit printed clear error.Unbound l h = clear error.Unbound (lit< tt) h
-  no_formula limit printed clear error.FormulaAsTerm l h = clear error.FormulaAsTerm (lit< tt) h
-  no_formula limit printed clear error.Nonlinear l h = clear error.Nonlinear (lit< tt) h
-  no_formula limit printed clear error.Division l h = clear error.Division (lit< tt) h
-  no_formula limit printed clear error.CongruenceContext l h = clear error.CongruenceContext (lit< tt) h
-  no_formula limit printed clear error.Modulus l h = clear error.Modulus (lit< tt) h
-  no_formula limit printed clear error.Depth l h = clear error.Depth (lit< tt) h
-  no_formula limit printed clear error.Point l h = clear error.Point (lit< tt) h
-  no_formula limit printed clear error.Unvalued l h = clear error.Unvalued (lit< tt) h
-  no_formula limit printed clear error.Quantified l h = h.0
-  no_formula limit printed clear error.Overflow l h = clear error.Overflow (lit< tt) h
-  no_formula limit printed clear error.Nodes l h = h
-  no_formula limit printed clear error.Bindings l h = ⊎_elim (λ p. p) (λ g. g.1) h
-  no_formula limit printed clear error.Text l h = h.1.given
-  no_formula limit printed clear error.Memory l h = h
-
-  pub all_clear : IsClear s f es → ¬ (MeanNoPoint s.context es) → IsValued s f es → ¬ (PassesLimit es) → IsReadable s f → HasNoneBelow s f es 19
-  all_clear clear point valued within readable limit printed = no_formula limit printed (below_nodes clear point valued within readable limit printed)
-
+module _ (s : State) (f : FormulaTree) (es : List PointEntry) (p : NamedPoint) (meant : IsPointOf es p) where
   -- ---- refusals
 
-  pub no_point : IsClear s f es → (e : StatementError) → PointStop s.context es e → RefusesTruth s f es e
-  no_point clear error.Point h = λ limit printed. record { applies = h; first = below_point clear limit printed }
-  no_point clear error.Memory h = λ limit printed. tt
-  no_point clear _ h = absurd h
+  module _ (clear : HasNoneBelow s f es 19) (limit : ℕ) where
+    below : (printed : Bool) (n : ℕ) → n ≤ 19 → HasNoCauseBelow s limit (use_of None printed) (Holds f es) n
+    below printed n b e l = (clear limit printed).0 e (omega arith)
 
-  pub not_valued : IsClear s f es → ¬ (MeanNoPoint s.context es) → (e : StatementError) → ValuedStop s f es e → RefusesTruth s f es e
-  not_valued clear point error.Unvalued h = λ limit printed. record { applies = (tt, h); first = below_unvalued clear point limit printed }
-  not_valued clear point error.Memory h = λ limit printed. tt
-  not_valued clear point _ h = absurd h
+    pub truth_passes : ¬ (IsQuantified s.bound f) → (e : StatementError) → ValueStop (resolve s.context s.bound s.names f) (at_names s.names p) e → RefusesTruth s limit f es e
+    truth_passes free error.Overflow h = λ printed. record { applies = inr (inl (tt, free, record { point = p; meant = meant; passes = h })); first = below printed 15 (lit≤ tt) }
+    truth_passes free error.Memory h = λ printed. tt
+    truth_passes free _ h = absurd h
 
-  pub reading_passes : IsClear s f es → ¬ (MeanNoPoint s.context es) → IsValued s f es → OverflowsInReading s.context s.bound (place s.names) f → RefusesTruth s f es error.Overflow
-  reading_passes clear point valued h = λ limit printed. record { applies = inl (inl h); first = below_overflow clear point valued limit printed }
-
-  pub point_passes : IsClear s f es → ¬ (MeanNoPoint s.context es) → IsValued s f es → PassesLimit es → RefusesTruth s f es error.Overflow
-  point_passes clear point valued h = λ limit printed. record { applies = inl (inr (inl h)); first = below_overflow clear point valued limit printed }
-
-  pub truth_passes : IsClear s f es → ¬ (MeanNoPoint s.context es) → IsValued s f es → ¬ (IsQuantified s.bound f) → (p : NamedPoint) → IsPointOf es p → (e : StatementError)
-      → ValueStop (resolved s (Holds f es)) (at_names s.names p) e → RefusesTruth s f es e
-  truth_passes clear point valued free p meant error.Overflow h = λ limit printed. record {
-    applies = inr (inl (tt, free, record { point = p; meant = meant; passes = h }));
-    first = below_overflow clear point valued limit printed;
-  }
-  truth_passes clear point valued free p meant error.Memory h = λ limit printed. tt
-  truth_passes clear point valued free p meant _ h = absurd h
-
-  pub elimination_stops : IsClear s f es → ¬ (MeanNoPoint s.context es) → IsValued s f es → ¬ (PassesLimit es) → IsReadable s f → IsQuantified s.bound f → (p : NamedPoint) → IsPointOf es p
-      → (limit : ℕ) (e : StatementError) → EliminationStop s.context limit (resolved s (Holds f es)) (at_names s.names p) e → RefusesTruthAt s limit f es e
-  elimination_stops clear point valued within readable quantified p meant limit error.Overflow h = λ printed. record {
-    applies = inr (inr (quantified, (p, meant, h)));
-    first = below_overflow clear point valued limit printed;
-  }
-  elimination_stops clear point valued within readable quantified p meant limit error.Nodes h = λ printed. record {
-    applies = inr (inr (quantified, (p, meant, h)));
-    first = below_nodes clear point valued within readable limit printed;
-  }
-  elimination_stops clear point valued within readable quantified p meant limit error.Memory h = λ printed. tt
-  elimination_stops clear point valued within readable quantified p meant limit _ h = absurd h
-
-  -- ---- a formula that is not read
-
-  applied : (limit : ℕ) (printed : Bool) (d : StaticError) → Applies d → ¬ (d ≡ static.Memory) → IsCause s limit (use_of None printed) (Holds f es) (static_refusal d)
-  applied limit printed d h other = ⊎_elim (λ e. absurd (other e)) (λ k. k) (cause_of_reading s limit (use_of None printed) (Holds f es) numbers d h)
-
-  -- the first cause is the one of the reading
-  reading_first : (d : StaticError) → reading.IsFirst s.context s.bound s.names f d → (rank (static_refusal d) ≤ 16) → (6 < rank (static_refusal d) → ¬ Bound) → (rank (static_refusal d) ≤ 12) → HasNoneBelow s f es (rank (static_refusal d))
-  reading_first d first b bound c limit printed =
-      none_below s limit (use_of None printed) (Holds f es) numbers (rank (static_refusal d)) b (λ e l. first.first e (earlier e d l)) bound (λ l. absurd (omega arith)) (λ l. absurd (omega arith)) (λ l k. k.0) (λ l. absurd (omega arith)) (λ l h. h)
-
-  bound_first : (d : StaticError) → reading.IsFirst s.context s.bound s.names f d → 0 < reading.rank d → Bound → RefusesTruth s f es error.FormulaAsTerm
-  bound_first d first l h = λ limit printed. record {
-    applies = inr h;
-    first = none_below s limit (use_of None printed) (Holds f es) numbers 6 (lit≤ tt) (λ e m. first.first e (let n = earlier e static.FormulaAsTerm m in omega arith)) (λ m. absurd (omega arith)) (λ m. absurd (omega arith))
-        (λ m. absurd (omega arith)) (λ m k. k.0) (λ m. absurd (omega arith)) (λ m h. h);
-  }
-
-  clear_at : reading.IsFirst s.context s.bound s.names f static.Overflow → ¬ Bound → IsClear s f es
-  clear_at first bound = record { reading = λ d l. first.first d (earlier d static.Overflow (omega arith)); entries = bound }
-
-  abbrev Stopped : Option StatementError → Type 0
-  Stopped o = MatchOption o (IsClear s f es × OverflowsInReading s.context s.bound (place s.names) f) (RefusesTruth s f es)
-
-  not_read : (d : StaticError) (met : Bool) → (IsTrue met ↔ Bound) → reading.IsFirstCause s.context s.bound s.names f d → Stopped (stop_of (static_refusal d) met)
-  not_read static.Unbound met is first = λ limit printed. record { applies = first.applies; first = reading_first static.Unbound first (lit≤ tt) (λ l. absurd (omega arith)) (lit≤ tt) limit printed }
-  not_read static.Memory met is first = λ limit printed. tt
-  not_read static.FormulaAsTerm true is first = bound_first static.FormulaAsTerm first (lit< tt) (is.0 refl)
-  not_read static.Nonlinear true is first = bound_first static.Nonlinear first (lit< tt) (is.0 refl)
-  not_read static.Division true is first = bound_first static.Division first (lit< tt) (is.0 refl)
-  not_read static.CongruenceContext true is first = bound_first static.CongruenceContext first (lit< tt) (is.0 refl)
-  not_read static.Modulus true is first = bound_first static.Modulus first (lit< tt) (is.0 refl)
-  not_read static.Depth true is first = bound_first static.Depth first (lit< tt) (is.0 refl)
-  not_read static.Overflow true is first = bound_first static.Overflow first (lit< tt) (is.0 refl)
-  not_read static.FormulaAsTerm false is first = λ limit printed. record { applies = inl first.applies; first = reading_first static.FormulaAsTerm first (lit≤ tt) (λ l. absurd (omega arith)) (lit≤ tt) limit printed }
-  not_read static.Nonlinear false is first = λ limit printed. record { applies = applied limit printed static.Nonlinear first.applies (λ e. absurd (cc)); first = reading_first static.Nonlinear first (lit≤ tt) (λ l h. false≢true (is.1 h)) (lit≤ tt) limit printed }
-  not_read static.Division false is first = λ limit printed. record { applies = applied limit printed static.Division first.applies (λ e. absurd (cc)); first = reading_first static.Division first (lit≤ tt) (λ l h. false≢true (is.1 h)) (lit≤ tt) limit printed }
-  not_read static.CongruenceContext false is first = λ limit printed. record { applies = first.applies; first = reading_first static.CongruenceContext first (lit≤ tt) (λ l h. false≢true (is.1 h)) (lit≤ tt) limit printed }
-  not_read static.Modulus false is first = λ limit printed. record { applies = applied limit printed static.Modulus first.applies (λ e. absurd (cc)); first = reading_first static.Modulus first (lit≤ tt) (λ l h. false≢true (is.1 h)) (lit≤ tt) limit printed }
-  not_read static.Depth false is first = λ limit printed. record { applies = first.applies; first = reading_first static.Depth first (lit≤ tt) (λ l h. false≢true (is.1 h)) (lit≤ tt) limit printed }
-  not_read static.Overflow false is first = (clear_at first (λ h. false≢true (is.1 h)), subst (λ ns. OverflowsInReading s.context s.bound (place ns) f) numbers first.applies)
-
-  pub unread_stops : (e : StatementError) (met : Bool) → (IsTrue met ↔ Bound) → IsUnread s f e → (o : Option StatementError) → o ≡ stop_of e met → Stopped o
-  unread_stops e met is h o same = subst Stopped (sym (same ∙ ap (λ w. stop_of w met) h.1)) (not_read h.0 met is h.2)
-
-  -- ---- a formula that is read
-
-  resolvable : IsReadable s f → (d : StaticError) → rank (static_refusal d) < 12 → ¬ (Applies d)
-  resolvable a static.Unbound l = a.bound_names
-  resolvable a static.FormulaAsTerm l = a.variables
-  resolvable a static.Nonlinear l = a.linear
-  resolvable a static.Division l = a.undivided
-  resolvable a static.CongruenceContext l = a.congruences
-  resolvable a static.Modulus l = a.moduli
-  resolvable a static.Depth l = a.flat
-  resolvable a static.Overflow l = absurd (omega arith)
-  resolvable a static.Memory l = absurd (omega arith)
-
-  pub read_clear : IsReadable s f → ¬ Bound → IsClear s f es
-  read_clear a h = record { reading = resolvable a; entries = h }
-
-  pub read_bound : IsReadable s f → Bound → RefusesTruth s f es error.FormulaAsTerm
-  read_bound a h = λ limit printed. record {
-    applies = inr h;
-    first = none_below s limit (use_of None printed) (Holds f es) numbers 6 (lit≤ tt) (λ e m. resolvable a e (omega arith)) (λ m. absurd (omega arith)) (λ m. absurd (omega arith)) (λ m. absurd (omega arith)) (λ m k. k.0) (λ m. absurd (omega arith)) (λ m h. h);
-  }
+    pub elimination_stops : IsQuantified s.bound f → (e : StatementError) → EliminationStop s.context limit (resolve s.context s.bound s.names f) (at_names s.names p) e → RefusesTruth s limit f es e
+    elimination_stops quantified error.Overflow h = λ printed. record { applies = inr (inr (quantified, (p, meant, h))); first = below printed 15 (lit≤ tt) }
+    elimination_stops quantified error.Nodes h = λ printed. record { applies = inr (inr (quantified, (p, meant, h))); first = below printed 16 (lit≤ tt) }
+    elimination_stops quantified error.Memory h = λ printed. tt
+    elimination_stops quantified _ h = absurd h
 
   -- ---- the truth
 
-  pub is_truth : (b : Bool) (p : NamedPoint) → IsDistinct same_name s.names → IsReadable s f → IsPointOf es p → Of s.context p
-      → (IsTrue b ↔ TrueAt s.context (resolved s (Holds f es)) (at_names s.names p)) → IsTruth s (Holds f es) b
-  is_truth b p distinct readable meant of told =
+  pub is_truth : HasNumbers s.names f → (b : Bool) → IsDistinct same_name s.names → IsReadable s f → Of s.context p
+      → (IsTrue b ↔ TrueAt s.context (resolve s.context s.bound s.names f) (at_names s.names p)) → IsTruth s (Holds f es) b
+  is_truth numbers b distinct readable of told =
       let same = truth_as_written s f numbers distinct readable p of in
       record { point = p; meant = meant; truth = (λ h. same.1 (told.0 h), λ h. told.1 (same.0 h)) }
 

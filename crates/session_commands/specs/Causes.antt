@@ -9,6 +9,7 @@ use Rattle.elimination_reference.specs.Cases.{Case, reference_cases}
 use Rattle.elimination_reference.specs.Measured.{Stop, Overflow, Nodes, done, stopped}
 use Rattle.elimination_reference.specs.Reference.{reference}
 use Rattle.elimination_reference.specs.Sample.{reference_at}
+use Rattle.sample_reference.specs.Sample.{reference_sample}
 use Rattle.qe_syntax.specs.declared.statement.PointEntry.{PointEntry}
 use Rattle.qe_syntax.specs.Point.{PassesLimit, IsPointOf}
 use Rattle.qe_syntax.specs.Trees.{FormulaTree}
@@ -156,8 +157,8 @@ IsCause s limit u c error.Memory = ⊥
 
 -- ---- causes for which a command may be refused and need not be
 
--- The reference elimination that the command asks for stops like this: of the formula of an elimination or of a case list; or of a formula with quantifiers at the
--- point of a truth, where nodes are counted before the point is put in.
+-- The reference elimination that the command asks for stops like this: of the formula of an elimination or of a case list; of a formula with quantifiers at the
+-- point of a truth; or of the formula of a sample at its point, or the sample that it leads to does. At a point, nodes are counted before the point is put in.
 abbrev pub ReferenceStops : State → ℕ → CommandTree → Stop → Type 0
 ReferenceStops s limit (Echo f) e = ⊥
 ReferenceStops s limit (Nnf f) e = ⊥
@@ -169,7 +170,7 @@ ReferenceStops s limit (Qe f given) e = reference s.context limit (resolved s (Q
 ReferenceStops s limit (Qea f given) e = reference_cases s.context limit (resolved s (Qea f given)) ≡ stopped e
 ReferenceStops s limit (Holds f es) e = IsQuantified s.bound f
     × ((point : NamedPoint) × IsPointOf es point × (reference_at s.context limit (at_names s.names point) (resolved s (Holds f es)) ≡ stopped e))
-ReferenceStops s limit (Sample f es) e = ⊥
+ReferenceStops s limit (Sample f es) e = (point : NamedPoint) × IsPointOf es point × (reference_sample s.context limit (at_names s.names point) (resolved s (Sample f es)) ≡ stopped e)
 
 -- the formula that a simpler answer is measured by: the negation normal form, the plain form, or what the reference elimination gives
 abbrev pub IsMeasureOf : State → ℕ → CommandTree → Tree → Type 0

@@ -18,7 +18,7 @@ use Rattle.qe_syntax.specs.declared.statement.PointEntry.{PointEntry}
 use Rattle.qe_syntax.specs.Names.{IsVariable}
 use Rattle.qe_syntax.specs.Trees.{FormulaTree, FormulaTrees}
 use Rattle.qe_syntax.specs.Value as written
-use Rattle.qe_syntax.specs.Statements.{CommandTree, Echo, Nnf, Pnf, Dnf, Cnf, Simpl, Qe, Qea, Holds, Sample}
+use Rattle.qe_syntax.specs.Statements.{CommandTree, Echo, Nnf, Pnf, Dnf, Cnf, Simpl, Qe, Qea, Holds, Sample, ActionTree, Empty, Ignored, Finish, Choose, Say, Assign}
 use Rattle.formula_tree.specs.Names.{with_name}
 use Rattle.formula_tree.specs.Resolving.{formula_variables, all_variables, resolve, at_names, bound_truth}
 use Rattle.redlog_printer.specs.Bound.{HasTwoMembers}
@@ -56,6 +56,28 @@ entries_of (Qe f given) = []
 entries_of (Qea f given) = []
 entries_of (Holds f es) = es
 entries_of (Sample f es) = es
+
+-- the command gives a formula, which may be bound; each other one is a query
+abbrev pub GivesFormula : CommandTree → Type 0
+GivesFormula (Echo f) = Unit {0}
+GivesFormula (Nnf f) = Unit {0}
+GivesFormula (Pnf f) = Unit {0}
+GivesFormula (Dnf f) = Unit {0}
+GivesFormula (Cnf f) = Unit {0}
+GivesFormula (Simpl f given) = Unit {0}
+GivesFormula (Qe f given) = Unit {0}
+GivesFormula (Qea f given) = ⊥
+GivesFormula (Holds f es) = ⊥
+GivesFormula (Sample f es) = ⊥
+
+-- what the statement binds, if it binds something, is a formula
+abbrev pub BindsFormula : ActionTree → Type 0
+BindsFormula (Assign x c) = GivesFormula c
+BindsFormula (Say c) = Unit {0}
+BindsFormula Empty = Unit {0}
+BindsFormula Ignored = Unit {0}
+BindsFormula Finish = Unit {0}
+BindsFormula (Choose setting) = Unit {0}
 
 abbrev pub entry_names : List PointEntry → List (List ℕ)
 entry_names es = map (λ e. e.name) es

@@ -5,12 +5,13 @@ pub mod Assumptions
 pub mod Commands
 pub mod Points
 pub mod Cases
+pub mod Samples
 pub mod Causes
-pub mod Built
 pub mod Reply
 pub mod Keeping
 pub mod Seen
 pub mod Steps
 pub mod CaseSteps
-pub mod Answered
+pub mod Asked
 pub mod Truths
+pub mod SampleSteps

@@ -1,7 +1,8 @@
 -- What a statement is answered with in a state, and the state after it.
-use Rattle.std.specs.Prelude.{◌≡◌, ◌⊎◌, ℕ, List, Bool, true, false, Some, None, Result, Ok, Err}
+use Rattle.std.specs.Prelude.{◌≡◌, ℕ, List, Bool, true, false, Option, Some, None, Result, Ok, Err}
 use Rattle.formula_meaning.specs.Tree.{Tree}
 use Rattle.elimination_reference.specs.Cases.{Case}
+use Rattle.sample_reference.specs.Values.{Value}
 use Rattle.answer_texts.specs.Answers.{cases_text}
 use Rattle.qe_syntax.specs.Statements.{CommandTree, Echo, Nnf, Pnf, Dnf, Cnf, Simpl, Qe, Qea, Holds, Sample, ActionTree, Empty, Ignored, Finish, Choose, Say, Assign, StatementTree}
 use Rattle.formula_tree.specs.Bindings.{bind}
@@ -12,11 +13,11 @@ use Rattle.session_commands.specs.declared.line.Line.TheVariants as line
 use Rattle.session_commands.specs.declared.line.StatementError.{StatementError}
 use Rattle.session_commands.specs.declared.line.StatementError.TheVariants as error
 use Rattle.session_commands.specs.Words.{truth_text, context_text}
-use Rattle.session_commands.specs.Built.{IsBuilt}
 use Rattle.session_commands.specs.State.{State, with_names, theory_of, chosen}
 use Rattle.session_commands.specs.Commands.{named, MayGive, HasAnswerNames}
 use Rattle.session_commands.specs.Points.{IsTruth}
 use Rattle.session_commands.specs.Cases.{IsCaseAnswer}
+use Rattle.session_commands.specs.Samples.{IsSampleAnswer, sample_text}
 use Rattle.session_commands.specs.Causes.{formula_line, Refuses, IsAccepted}
 
 -- the line is this text, where it is printed
@@ -44,7 +45,7 @@ Tells s limit (Simpl f given) names text = IsFormulaText s limit (Simpl f given)
 Tells s limit (Qe f given) names text = IsFormulaText s limit (Qe f given) names text
 Tells s limit (Qea f given) names text = (ks : List Case) × IsCaseAnswer s f given ks × (text ≡ cases_text s.names ks)
 Tells s limit (Holds f es) names text = (answer : Bool) × IsTruth s (Holds f es) answer × (text ≡ truth_text answer)
-Tells s limit (Sample f es) names text = ⊥
+Tells s limit (Sample f es) names text = (sample : Option (List Value)) × IsSampleAnswer s f es sample × (text ≡ sample_text s.names sample)
 
 -- no cause of a refusal applies, and this is the line, where the names after the answer are these
 abbrev pub AnswersCommand : State → ℕ → Bool → CommandTree → List (List ℕ) → Line → Type 0
@@ -85,22 +86,16 @@ RefusesAction s limit printed Ignored e = ⊥
 RefusesAction s limit printed Finish e = ⊥
 RefusesAction s limit printed (Choose setting) e = ⊥
 
--- the bytes of a piece spell a statement that is built, and is answered with the line
+-- the bytes of a piece spell a statement that is answered with the line
 pub record IsAnswer (s : State) (limit : ℕ) (piece : List ℕ) (answer : Line) (next : State) : Type 0 where
   pub statement : StatementTree
   pub spelled : Spells piece statement
-  pub built : IsBuilt statement
   pub answered : Answers s limit statement.printed statement.action answer next
 
--- the bytes spell a statement that is not built
-abbrev pub SpellsUnbuilt : List ℕ → Type 0
-SpellsUnbuilt piece = (t : StatementTree) × Spells piece t × (¬ (IsBuilt t))
-
--- the bytes spell a statement that is built, and is refused with the word
+-- the bytes spell a statement that is refused with the word
 pub record SpellsRefused (s : State) (limit : ℕ) (piece : List ℕ) (e : StatementError) : Type 0 where
   pub statement : StatementTree
   pub spelled : Spells piece statement
-  pub built : IsBuilt statement
   pub refused : RefusesAction s limit statement.printed statement.action e
 
 -- why a piece is refused
@@ -108,7 +103,7 @@ abbrev pub IsRefused : State → ℕ → List ℕ → StatementError → Type 0
 IsRefused s limit piece error.Long = Unread piece reading.Long
 IsRefused s limit piece error.Lexical = Unread piece reading.Lexical
 IsRefused s limit piece error.Nesting = Unread piece reading.Nesting
-IsRefused s limit piece error.Syntax = Unread piece reading.Syntax ⊎ SpellsUnbuilt piece
+IsRefused s limit piece error.Syntax = Unread piece reading.Syntax
 IsRefused s limit piece e = SpellsRefused s limit piece e
 
 -- What a piece is answered with in a state, under a limit of nodes, and the state after it. A refusal changes nothing; of want

@@ -24,7 +24,7 @@ use Rattle.prenex_theory.specs.Prenex.{prenex_of}
 use Rattle.prenex_forms.specs.Forms.{OverflowsInRenaming}
 use Rattle.qe_syntax.specs.declared.tree.Formula.{Formula}
 use Rattle.qe_syntax.specs.Trees.{FormulaTree, FormulaTrees, formula_tree, formula_trees}
-use Rattle.qe_syntax.specs.Statements.{CommandTree, Echo, Nnf, Pnf, Dnf, Cnf, Simpl, Qe}
+use Rattle.qe_syntax.specs.Statements.{CommandTree, Echo, Nnf, Pnf, Dnf, Cnf, Simpl, Qe, StatementTree}
 use Rattle.redlog_reader.specs.declared.token.ReadError.{ReadError}
 use Rattle.redlog_reader.specs.declared.token.ReadError.TheVariants as reading
 use Rattle.formula_tree.specs.Bindings.{bind}
@@ -40,6 +40,8 @@ use Rattle.formula_store.specs.declared.id.FormulaId.{FormulaId}
 use Rattle.formula_store.specs.Nodes.{tree, IsId}
 use Rattle.plain_engine.specs.declared.measured.Measured.{Measured}
 use Rattle.plain_engine.specs.declared.measured.Measured.TheVariants as measured
+use Rattle.redlog_printer.specs.declared.error.PrintError.{PrintError}
+use Rattle.redlog_printer.specs.declared.error.PrintError.TheVariants as print
 use Rattle.redlog_printer.specs.Text.{tree_text}
 use Rattle.redlog_printer.specs.Within.{IsAtomWithin}
 use Rattle.redlog_printer.specs.Writing.{text_limit}
@@ -56,7 +58,7 @@ use Rattle.session_commands.specs.Parts.{SomePart, EachPart}
 use Rattle.session_commands.specs.Commands.{MayGive, HasNewNames, HasAnswerNames}
 use Rattle.session_commands.specs.Points.{IsQuantified}
 use Rattle.session_commands.specs.Causes.{Use, formula_line, HasNoRoom, IsTooLarge, IsAccepted}
-use Rattle.session_commands.specs.Reply.{with_bound, IsLine}
+use Rattle.session_commands.specs.Reply.{with_bound, IsLine, RefusesAction}
 
 abbrev pub read_refusal : ReadError → StatementError
 read_refusal reading.Long = error.Long
@@ -80,6 +82,11 @@ abbrev pub measured_refusal : Measured → StatementError
 measured_refusal measured.Overflow = error.Overflow
 measured_refusal measured.Nodes = error.Nodes
 measured_refusal measured.Memory = error.Memory
+
+-- the refusal of a text that is not written
+abbrev pub print_refusal : PrintError → StatementError
+print_refusal print.Text = error.Text
+print_refusal print.Memory = error.Memory
 
 -- the assumptions
 abbrev pub given_trees : Wanted → FormulaTrees
@@ -348,3 +355,10 @@ use_of target printed = record { target = target; printed = printed }
 abbrev pub bound_after : List (List ℕ × FormulaId) → Option (List ℕ) → FormulaId → List (List ℕ × FormulaId)
 bound_after entries None id = entries
 bound_after entries (Some x) id = bind entries x id
+
+-- ---- statements
+
+-- why a statement is not answered; of want of memory nothing is said
+abbrev pub IsStopped : State → ℕ → StatementTree → StatementError → Type 0
+IsStopped s limit t error.Memory = Unit {0}
+IsStopped s limit t e = RefusesAction s limit t.printed t.action e

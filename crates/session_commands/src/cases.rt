@@ -35,46 +35,19 @@ use crate::assumptions::{Premised, number_parts, read_parts};
 use crate::desk::Desk;
 use crate::forms::{measured_refusal, simplified};
 use crate::line::{Line, StatementError};
+use crate::lines::print_refusal;
 use answer_texts::cases_text;
 use atom_normal::Atom;
 use formula_store::FormulaId;
 use formula_tree::{Shape, Tree};
 use nnf_trees::Nnf;
 use plain_cases::{Leaf, PlainCase, case_leaves};
-use qe_syntax::{Formula, Formulas};
-use redlog_printer::PrintError;
+use qe_syntax::Formula;
 use shared_elimination::{share, unfolded_form};
 use std::alloc::AllocError;
 
-/// Answers with the cases of the formula, their guards simplified under the assumptions. An `Err` leaves the state as it was.
+/// Answers with the cases of the formula, their guards simplified under the assumptions. After an `Err` the names may have grown.
 pub(crate) fn answer_cases(
-    desk: &mut Desk,
-    limit: u64,
-    formula: &Formula,
-    given: &Formulas,
-    printed: bool,
-) -> Result<Line, StatementError>
-    requires proper { IsProperFormula (formula_tree formula.now) }
-    requires given { AreProperFormulas (formula_trees given.now) }
-    requires desk { IsDesk desk.old }
-    ensures desk { IsDesk desk.new }
-    ensures answer { IfOk result (AnswersCommand (named (state_of desk.old) (Qea (formula_tree formula.now) (formula_trees given.now))) limit printed (Qea (formula_tree formula.now) (formula_trees given.now)) (state_of desk.new).names) }
-    ensures next { OnOk result (state_of desk.new ≡ named (state_of desk.old) (Qea (formula_tree formula.now) (formula_trees given.now))) }
-    ensures refused { IfErr result (Refuses (named (state_of desk.old) (Qea (formula_tree formula.now) (formula_trees given.now))) limit (use_of None printed) (Qea (formula_tree formula.now) (formula_trees given.now))) }
-    ensures unchanged { OnErr result (state_of desk.new ≡ state_of desk.old) }
-{
-    let count = desk.names.count();
-    match case_line(desk, limit, formula, given.items(), printed) {
-        Ok(line) => Ok(line),
-        Err(error) => {
-            desk.names.keep_first(count);
-            Err(error)
-        }
-    }
-}
-
-/// The line of the cases. After an `Err` the names may have grown.
-fn case_line(
     desk: &mut Desk,
     limit: u64,
     formula: &Formula,
@@ -293,7 +266,6 @@ fn line_of_cases(desk: &Desk, cases: &[PlainCase], printed: bool) -> Result<Line
     }
     match cases_text(desk.alloc, cases, &desk.names) {
         Ok(text) => Ok(Line::Printed(text)),
-        Err(PrintError::Text) => Err(StatementError::Text),
-        Err(PrintError::Memory) => Err(StatementError::Memory),
+        Err(error) => Err(print_refusal(error)),
     }
 }

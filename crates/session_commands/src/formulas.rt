@@ -26,12 +26,13 @@ use crate::assumptions::{Premised, number_parts, read_parts};
 use crate::desk::Desk;
 use crate::forms::formed;
 use crate::line::{Line, StatementError};
+use crate::lines::print_refusal;
 use formula_resolving::{StaticError, linearise};
 use formula_store::{FormulaId, Unfold};
 use formula_tree::{BindError, Bindings};
 use free_names::is_quantified;
 use qe_syntax::{Formula, Formulas, Name};
-use redlog_printer::{PrintError, TEXT_LIMIT, formula_text};
+use redlog_printer::{TEXT_LIMIT, formula_text};
 use std::alloc::Global;
 
 /// A bound formula has at most so many distinct subformulas.
@@ -74,34 +75,8 @@ impl<'a> Wanted<'a> {
     }
 }
 
-/// Answers a command that gives a formula. An `Err` leaves the state as it was.
+/// Answers a command that gives a formula. After an `Err` the names may have grown.
 pub(crate) fn answer_formula(
-    desk: &mut Desk,
-    limit: u64,
-    wanted: Wanted<'_>,
-    formula: &Formula,
-    target: &Option<Name>,
-    printed: bool,
-) -> Result<Line, StatementError>
-    requires proper { IsProperFormula (formula_tree formula.now) }
-    requires given { AreProperFormulas (given_trees wanted) }
-    requires desk { IsDesk desk.old }
-    ensures desk { IsDesk desk.new }
-    ensures answer { IfOk result (λ line. IsGiven (named (state_of desk.old) (command_of wanted.entry (formula_tree formula.now))) limit (use_of target.now printed) (command_of wanted.entry (formula_tree formula.now)) line (state_of desk.new)) }
-    ensures refused { IfErr result (Refuses (named (state_of desk.old) (command_of wanted.entry (formula_tree formula.now))) limit (use_of target.now printed) (command_of wanted.entry (formula_tree formula.now))) }
-    ensures unchanged { OnErr result (state_of desk.new ≡ state_of desk.old) }
-{
-    let count = desk.names.count();
-    match given(desk, limit, wanted, formula, target, printed) {
-        Ok(line) => Ok(line),
-        Err(error) => {
-            desk.names.keep_first(count);
-            Err(error)
-        }
-    }
-}
-
-fn given(
     desk: &mut Desk,
     limit: u64,
     wanted: Wanted<'_>,
@@ -292,8 +267,7 @@ fn text_of(desk: &Desk, id: FormulaId) -> Result<Vec<u8>, StatementError>
     match desk.store.unfold(id, MOST_PRINTED_NODES) {
         Ok(tree) => match formula_text(desk.alloc, &tree, &desk.names) {
             Ok(text) => Ok(text),
-            Err(PrintError::Text) => Err(StatementError::Text),
-            Err(PrintError::Memory) => Err(StatementError::Memory),
+            Err(error) => Err(print_refusal(error)),
         },
         Err(Unfold::Large) => Err(StatementError::Text),
         Err(Unfold::Memory) => Err(StatementError::Memory),

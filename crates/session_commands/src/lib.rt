@@ -9,6 +9,8 @@ mod formulas;
 mod holds;
 mod line;
 mod lines;
+mod points;
+mod samples;
 mod session;
 
 pub use formulas::MOST_SUBFORMULAS;

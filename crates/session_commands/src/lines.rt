@@ -2,8 +2,10 @@
 
 ghost use Rattle.std.specs.Prelude.{◌≡◌, IfOk, IfErr};
 ghost use Rattle.session_commands.specs.Reply.{IsLine};
+ghost use Rattle.session_commands.specs.Steps.{print_refusal as refusal_of_print};
 
 use crate::line::{Line, StatementError};
+use redlog_printer::PrintError;
 use std::alloc::Global;
 
 /// The line that is this text, if it is printed.
@@ -22,4 +24,14 @@ pub(crate) fn printed_line(
         return Err(StatementError::Memory);
     };
     Ok(Line::Printed(line))
+}
+
+/// A refusal of the printer.
+pub(crate) fn print_refusal(error: PrintError) -> StatementError
+    ensures { result ≡ refusal_of_print error }
+{
+    match error {
+        PrintError::Text => StatementError::Text,
+        PrintError::Memory => StatementError::Memory,
+    }
 }

@@ -1,13 +1,14 @@
-ghost use Rattle.std.specs.Prelude.{◌≡◌, ◌≤◌, IfOk, IfErr, OnOk, OnErr};
+ghost use Rattle.std.specs.Prelude.{◌≡◌, ◌≤◌, Some, None, IfOk, IfErr, OnOk, OnErr};
 ghost use Rattle.qe_syntax.specs.Statements.{statement_tree, command_tree};
 ghost use Rattle.qe_syntax.specs.Proper.{IsProper, IsProperCommand};
 ghost use Rattle.session_commands.specs.Keeping.{state_of, IsDesk};
-ghost use Rattle.session_commands.specs.Reply.{Reply, IsLine};
+ghost use Rattle.session_commands.specs.Reply.{Reply, IsLine, Answers, AnswersSaid, AnswersAssignment};
 ghost use Rattle.session_commands.specs.Words.{context_text};
 ghost use Rattle.session_commands.specs.Seen.{state_in};
 ghost use Rattle.session_commands.specs.State.{first_state, theory_of, chosen};
-ghost use Rattle.session_commands.specs.Steps.{read_refusal};
-ghost use Rattle.session_commands.specs.Answered.{IsCommandAnswered, IsCommandStopped, IsAssigned, IsAssignmentStopped, IsAnswered, IsStopped};
+ghost use Rattle.session_commands.specs.Steps.{read_refusal, use_of, IsStopped, GrowsDesk};
+ghost use Rattle.session_commands.specs.Causes.{Refuses};
+ghost use Rattle.session_commands.specs.Commands.{named, GivesFormula, BindsFormula};
 
 use crate::cases::answer_cases;
 use crate::desk::Desk;
@@ -15,6 +16,7 @@ use crate::formulas::{Wanted, Way, answer_formula};
 use crate::holds::answer_holds;
 use crate::line::{Line, StatementError};
 use crate::lines::printed_line;
+use crate::samples::answer_sample;
 use atom_normal::Context;
 use qe_syntax::{Action, Command, Name, Setting, Statement};
 use redlog_reader::{ReadError, read_statement};
@@ -101,14 +103,35 @@ fn refusal_of(error: ReadError) -> StatementError
     }
 }
 
-/// Answers a statement. One that is not built is `Syntax`.
+/// Answers a statement. An `Err` leaves the state as it was.
 fn answer(desk: &mut Desk, limit: u64, statement: &Statement) -> Result<Line, StatementError>
     requires proper { IsProper (statement_tree statement.now) }
+    requires formula { BindsFormula (statement_tree statement.now).action }
     requires desk { IsDesk desk.old }
     ensures desk { IsDesk desk.new }
-    ensures answer { IfOk result (λ line. IsAnswered (state_of desk.old) limit (statement_tree statement.now) line (state_of desk.new)) }
+    ensures answer { IfOk result (λ line. Answers (state_of desk.old) limit statement.now.printed (statement_tree statement.now).action line (state_of desk.new)) }
     ensures refusal { IfErr result (IsStopped (state_of desk.old) limit (statement_tree statement.now)) }
     ensures unchanged { OnErr result (state_of desk.new ≡ state_of desk.old) }
+{
+    let count = desk.names.count();
+    match act(desk, limit, statement) {
+        Ok(line) => Ok(line),
+        Err(error) => {
+            desk.names.keep_first(count);
+            Err(error)
+        }
+    }
+}
+
+/// Does what the statement says. After an `Err` the names may have grown.
+fn act(desk: &mut Desk, limit: u64, statement: &Statement) -> Result<Line, StatementError>
+    requires proper { IsProper (statement_tree statement.now) }
+    requires formula { BindsFormula (statement_tree statement.now).action }
+    requires desk { IsDesk desk.old }
+    ensures desk { OnOk result (IsDesk desk.new) }
+    ensures answer { IfOk result (λ line. Answers (state_of desk.old) limit statement.now.printed (statement_tree statement.now).action line (state_of desk.new)) }
+    ensures refusal { IfErr result (IsStopped (state_of desk.old) limit (statement_tree statement.now)) }
+    ensures grown { OnErr result (GrowsDesk desk.old desk.new) }
 {
     match &statement.action {
         Action::Empty | Action::Ignored => Ok(Line::Nothing),
@@ -122,11 +145,11 @@ fn answer(desk: &mut Desk, limit: u64, statement: &Statement) -> Result<Line, St
 /// Chooses the theory. Another one than before drops what is bound.
 fn choose(desk: &mut Desk, setting: Setting, printed: bool) -> Result<Line, StatementError>
     requires { IsDesk desk.old }
-    ensures desk { IsDesk desk.new }
+    ensures desk { OnOk result (IsDesk desk.new) }
     ensures line { IfOk result (IsLine printed (context_text (theory_of setting))) }
     ensures chosen { OnOk result (state_of desk.new ≡ chosen (state_of desk.old) (theory_of setting)) }
     ensures memory { IfErr result (λ e. e ≡ StatementError.Memory) }
-    ensures unchanged { OnErr result (state_of desk.new ≡ state_of desk.old) }
+    ensures grown { OnErr result (GrowsDesk desk.old desk.new) }
 {
     let (context, word) = match setting {
         Setting::Ofsf => (Context::Fields, b"ofsf".as_slice()),
@@ -140,7 +163,7 @@ fn choose(desk: &mut Desk, setting: Setting, printed: bool) -> Result<Line, Stat
     Ok(line)
 }
 
-/// Answers a command. One that is not built is `Syntax`.
+/// Answers a command. After an `Err` the names may have grown.
 fn say(
     desk: &mut Desk,
     limit: u64,
@@ -149,10 +172,10 @@ fn say(
 ) -> Result<Line, StatementError>
     requires proper { IsProperCommand (command_tree command.now) }
     requires desk { IsDesk desk.old }
-    ensures desk { IsDesk desk.new }
-    ensures answer { IfOk result (λ line. IsCommandAnswered (state_of desk.old) limit printed (command_tree command.now) line (state_of desk.new)) }
-    ensures refusal { IfErr result (IsCommandStopped (state_of desk.old) limit printed (command_tree command.now)) }
-    ensures unchanged { OnErr result (state_of desk.new ≡ state_of desk.old) }
+    ensures desk { OnOk result (IsDesk desk.new) }
+    ensures answer { IfOk result (λ line. AnswersSaid (named (state_of desk.old) (command_tree command.now)) limit printed (command_tree command.now) line (state_of desk.new)) }
+    ensures refusal { IfErr result (Refuses (named (state_of desk.old) (command_tree command.now)) limit (use_of None printed) (command_tree command.now)) }
+    ensures grown { OnErr result (GrowsDesk desk.old desk.new) }
 {
     match command {
         Command::Echo(formula) => answer_formula(
@@ -194,8 +217,14 @@ fn say(
                 printed,
             )
         }
-        Command::Qea(formula, given) => answer_cases(desk, limit, formula, given, printed),
-        Command::Holds(formula, entries) => answer_holds(desk, limit, formula, entries, printed),
+        Command::Qea(formula, given) => answer_cases(desk, limit, formula, given.items(), printed),
+        Command::Holds(formula, entries) => answer_holds(
+            desk,
+            limit,
+            formula,
+            entries.items(),
+            printed,
+        ),
         Command::Dnf(formula) => {
             let wanted = Wanted::Distributed(Way::Disjunctive);
             answer_formula(desk, limit, wanted, formula, &None, printed)
@@ -204,11 +233,17 @@ fn say(
             let wanted = Wanted::Distributed(Way::Conjunctive);
             answer_formula(desk, limit, wanted, formula, &None, printed)
         }
-        Command::Sample(..) => Err(StatementError::Syntax),
+        Command::Sample(formula, entries) => answer_sample(
+            desk,
+            limit,
+            formula,
+            entries.items(),
+            printed,
+        ),
     }
 }
 
-/// Answers an assignment. One whose command is not built is `Syntax`.
+/// Answers an assignment. After an `Err` the names may have grown.
 fn assign(
     desk: &mut Desk,
     limit: u64,
@@ -217,11 +252,12 @@ fn assign(
     printed: bool,
 ) -> Result<Line, StatementError>
     requires proper { IsProperCommand (command_tree command.now) }
+    requires formula { GivesFormula (command_tree command.now) }
     requires desk { IsDesk desk.old }
-    ensures desk { IsDesk desk.new }
-    ensures answer { IfOk result (λ line. IsAssigned (state_of desk.old) limit printed name.now (command_tree command.now) line (state_of desk.new)) }
-    ensures refusal { IfErr result (IsAssignmentStopped (state_of desk.old) limit printed name.now (command_tree command.now)) }
-    ensures unchanged { OnErr result (state_of desk.new ≡ state_of desk.old) }
+    ensures desk { OnOk result (IsDesk desk.new) }
+    ensures answer { IfOk result (λ line. AnswersAssignment (named (state_of desk.old) (command_tree command.now)) limit printed name.now (command_tree command.now) line (state_of desk.new)) }
+    ensures refusal { IfErr result (Refuses (named (state_of desk.old) (command_tree command.now)) limit (use_of (Some name.now) printed) (command_tree command.now)) }
+    ensures grown { OnErr result (GrowsDesk desk.old desk.new) }
 {
     match command {
         Command::Echo(formula) => {
@@ -264,6 +300,6 @@ fn assign(
             let wanted = Wanted::Distributed(Way::Conjunctive);
             answer_formula(desk, limit, wanted, formula, &Some(*name), printed)
         }
-        Command::Qea(..) | Command::Holds(..) | Command::Sample(..) => Err(StatementError::Syntax),
+        Command::Qea(..) | Command::Holds(..) | Command::Sample(..) => unreachable!(),
     }
 }

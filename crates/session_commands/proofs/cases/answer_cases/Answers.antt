@@ -1,39 +1,81 @@
-use Rattle.std.proofs.Common.{◌∙◌, None, sym, ap, subst, take}
+use Rattle.std.proofs.Common.{◌≡◌, List, None, sym, subst, rules, map, length, Err}
+use Rattle.std.specs.Prelude.{Result, IfOk, IfErr, OnErr}
+use Rattle.answer_texts.specs.Answers.{cases_text}
+use Rattle.answer_texts.specs.Within.{AreCasesWithin}
+use Rattle.plain_cases.specs.declared.cases.PlainCase.{PlainCase}
+use Rattle.plain_cases.specs.Case.{case_seen}
 use Rattle.qe_syntax.specs.Statements.{Qea}
-use Rattle.qe_syntax.specs.Proper.{AreProperFormulas}
-use Rattle.qe_syntax.specs.Trees.{FormulaTrees, formula_tree}
-use Rattle.session_commands.specs.declared.desk.Desk.{Desk}
+use Rattle.qe_syntax.specs.Trees.{formula_tree, formulas_of}
+use Rattle.session_commands.specs.declared.line.Line.{Line}
+use Rattle.session_commands.specs.declared.line.StatementError.{StatementError}
 use Rattle.session_commands.specs.Causes.{Refuses}
 use Rattle.session_commands.specs.Commands.{named}
-use Rattle.session_commands.specs.Keeping.{state_of, IsDesk}
-use Rattle.session_commands.specs.Reply.{AnswersCommand}
-use Rattle.session_commands.specs.Steps.{use_of}
-use Rattle.session_commands.proofs.DeskLemmas.{back_desk, back_state}
+use Rattle.session_commands.specs.Keeping.{state_of}
+use Rattle.session_commands.specs.Reply.{IsLine}
+use Rattle.session_commands.specs.Steps.{use_of, GrowsDesk, LineFault}
+use Rattle.session_commands.proofs.DeskLemmas.{keeps_itself, grows_then}
+use Rattle.session_commands.proofs.CaseSteps.{named_desk, desk_named, numbers_there, cases_refused, state_later, desk_later, within_there, line_answered, line_refused}
 use Rattle.session_commands.proofs.cases.answer_cases.Goals as goal
 
-pub case_line-requires-clause-given : goal.case_line-requires-clause-given
-case_line-requires-clause-given c = subst AreProperFormulas c.items.ensures c.requires.given
+pub cases_of-requires-clause-desk : goal.cases_of-requires-clause-desk
+cases_of-requires-clause-desk c =
+    desk_named c.args.desk.now c.number_parts.new.names (formula_tree c.args.formula.now) (formulas_of (map formula_tree c.args.given.now)) c.requires.desk c.number_parts.ensures.grown c.in_ok-number_parts.ensures.numbered
+    c.requires.proper c.requires.given
 
-pub returns-in-Ok-clause-answer : goal.returns-in-Ok-clause-answer
-returns-in-Ok-clause-answer c =
+pub cases_of-requires-clause-numbered : goal.cases_of-requires-clause-numbered
+cases_of-requires-clause-numbered c =
+    numbers_there c.args.desk.now c.number_parts.new.names (formula_tree c.args.formula.now) (formulas_of (map formula_tree c.args.given.now)) c.requires.desk c.number_parts.ensures.grown c.in_ok-number_parts.ensures.numbered
+    c.requires.proper c.requires.given
+
+pub returns-in_err-cases-clause-refused : goal.returns-in_err-cases-clause-refused
+returns-in_err-cases-clause-refused c =
+    let d = c.args.desk.now in
     let f = formula_tree c.args.formula.now in
-    subst (λ (gs : FormulaTrees). AnswersCommand (named (state_of c.args.desk.now) (Qea f gs)) c.args.limit c.args.printed (Qea f gs) c.case_line.new.desk.names c.in-Ok.line) (sym c.items.ensures) c.in-Ok.ensures.answer
+    let gs = formulas_of (map formula_tree c.args.given.now) in
+    let e : c.from_residual-in_err-cases.result ≡ Err c.in_err-cases.field-0.0 = search rules in
+    let stop : Result Line StatementError = Err c.in_err-cases.field-0.0 in
+    subst (λ r. IfErr r (Refuses (named (state_of d) (Qea f gs)) c.args.limit (use_of None c.args.printed) (Qea f gs))) (sym e)
+    (cases_refused d c.number_parts.new.names f gs c.requires.desk c.number_parts.ensures.grown c.in_ok-number_parts.ensures.numbered c.requires.proper c.requires.given
+    stop c.args.limit c.args.printed c.in_err-cases.ensures.refused)
 
-pub returns-in-Err-clause-desk : goal.returns-in-Err-clause-desk
-returns-in-Err-clause-desk c =
-    let d = c.case_line.new.desk in
-    let names = c.keep_first.ensures ∙ ap (λ n. take n d.names) c.count-count.ensures in
-    subst (λ ns. IsDesk (record { alloc = d.alloc; context = d.context; names = ns; bindings = d.bindings; store = d.store; kept = d.kept })) (sym names)
-    (back_desk c.args.desk.now d c.in-Err.ensures.grown c.requires.desk)
-
-pub returns-in-Err-clause-refused : goal.returns-in-Err-clause-refused
-returns-in-Err-clause-refused c =
+pub returns-in_err-cases-clause-grown : goal.returns-in_err-cases-clause-grown
+returns-in_err-cases-clause-grown c =
+    let d = c.args.desk.now in
     let f = formula_tree c.args.formula.now in
-    subst (λ (gs : FormulaTrees). Refuses (named (state_of c.args.desk.now) (Qea f gs)) c.args.limit (use_of None c.args.printed) (Qea f gs) c.in-Err.error) (sym c.items.ensures) c.in-Err.ensures.refused
+    let gs = formulas_of (map formula_tree c.args.given.now) in
+    let ns = c.number_parts.new.names in
+    let first = named_desk d ns f gs c.requires.desk c.number_parts.ensures.grown c.in_ok-number_parts.ensures.numbered c.requires.proper c.requires.given in
+    let grown = grows_then d first c.cases_of.new.desk (keeps_itself d ns c.number_parts.ensures.grown) c.cases_of.ensures.kept in
+    let e : c.from_residual-in_err-cases.result ≡ Err c.in_err-cases.field-0.0 = search rules in
+    subst (λ r. OnErr r (GrowsDesk d c.cases_of.new.desk)) (sym e) grown
 
-pub returns-in-Err-clause-unchanged : goal.returns-in-Err-clause-unchanged
-returns-in-Err-clause-unchanged c =
-    let d = c.case_line.new.desk in
-    let names = c.keep_first.ensures ∙ ap (λ n. take n d.names) c.count-count.ensures in
-    ap (λ ns. let e : Desk = record { alloc = d.alloc; context = d.context; names = ns; bindings = d.bindings; store = d.store; kept = d.kept } in state_of e) names
-    ∙ back_state c.args.desk.now d c.in-Err.ensures.grown c.requires.desk
+pub line_of_cases-requires : goal.line_of_cases-requires
+line_of_cases-requires c =
+    let same : c.deref.result.now ≡ c.in_ok-cases.cases.items = search rules in
+    subst (λ (xs : List PlainCase). AreCasesWithin (length c.cases_of.new.desk.names) (map case_seen xs)) (sym same)
+    (within_there c.args.desk.now c.number_parts.new.names (formula_tree c.args.formula.now) (formulas_of (map formula_tree c.args.given.now)) c.requires.desk c.number_parts.ensures.grown c.in_ok-number_parts.ensures.numbered
+    c.requires.proper c.requires.given c.cases_of.new.desk c.cases_of.ensures.kept c.args.limit c.args.printed c.in_ok-cases.ensures.readable c.in_ok-cases.cases.items c.in_ok-cases.ensures.cases c.in_ok-cases.ensures.points)
+
+pub returns-clause-desk : goal.returns-clause-desk
+returns-clause-desk c =
+    desk_later c.args.desk.now c.number_parts.new.names (formula_tree c.args.formula.now) (formulas_of (map formula_tree c.args.given.now)) c.requires.desk c.number_parts.ensures.grown c.in_ok-number_parts.ensures.numbered
+    c.requires.proper c.requires.given c.cases_of.new.desk c.cases_of.ensures.kept c.line_of_cases.result
+
+pub returns-clause-answer : goal.returns-clause-answer
+returns-clause-answer c =
+    let same : c.deref.result.now ≡ c.in_ok-cases.cases.items = search rules in
+    line_answered c.args.desk.now c.number_parts.new.names (formula_tree c.args.formula.now) (formulas_of (map formula_tree c.args.given.now)) c.requires.desk c.number_parts.ensures.grown c.in_ok-number_parts.ensures.numbered
+    c.requires.proper c.requires.given c.cases_of.new.desk c.cases_of.ensures.kept c.args.limit c.args.printed c.in_ok-cases.ensures.readable c.in_ok-cases.cases.items c.in_ok-cases.ensures.cases
+    c.line_of_cases.result c.cases_of.new.desk.names (subst (λ (xs : List PlainCase). IfOk c.line_of_cases.result (IsLine c.args.printed (cases_text c.cases_of.new.desk.names (map case_seen xs)))) same c.line_of_cases.ensures.line)
+
+pub returns-clause-next : goal.returns-clause-next
+returns-clause-next c =
+    state_later c.args.desk.now c.number_parts.new.names (formula_tree c.args.formula.now) (formulas_of (map formula_tree c.args.given.now)) c.requires.desk c.number_parts.ensures.grown c.in_ok-number_parts.ensures.numbered
+    c.requires.proper c.requires.given c.cases_of.new.desk c.cases_of.ensures.kept c.line_of_cases.result
+
+pub returns-clause-refused : goal.returns-clause-refused
+returns-clause-refused c =
+    let same : c.deref.result.now ≡ c.in_ok-cases.cases.items = search rules in
+    line_refused c.args.desk.now c.number_parts.new.names (formula_tree c.args.formula.now) (formulas_of (map formula_tree c.args.given.now)) c.requires.desk c.number_parts.ensures.grown c.in_ok-number_parts.ensures.numbered
+    c.requires.proper c.requires.given c.cases_of.new.desk c.cases_of.ensures.kept c.args.limit c.args.printed c.in_ok-cases.ensures.readable c.in_ok-cases.cases.items c.in_ok-cases.ensures.cases
+    c.line_of_cases.result (subst (λ (xs : List PlainCase). IfErr c.line_of_cases.result (LineFault c.args.printed (cases_text c.cases_of.new.desk.names (map case_seen xs)))) same c.line_of_cases.ensures.fault)

@@ -1,36 +1,48 @@
-use Rattle.std.proofs.Common.{◌∙◌, List, None, sym, ap, subst, take}
-use Rattle.qe_syntax.specs.declared.statement.PointEntry.{PointEntry}
+use Rattle.std.proofs.Common.{◌≡◌, Bool, None, sym, subst, rules, Err}
+use Rattle.std.specs.Prelude.{Result, IfErr}
 use Rattle.qe_syntax.specs.Statements.{Holds}
 use Rattle.qe_syntax.specs.Trees.{formula_tree}
-use Rattle.session_commands.specs.declared.desk.Desk.{Desk}
+use Rattle.session_commands.specs.declared.line.StatementError.{StatementError}
 use Rattle.session_commands.specs.Causes.{Refuses}
 use Rattle.session_commands.specs.Commands.{named}
-use Rattle.session_commands.specs.Keeping.{state_of, IsDesk}
-use Rattle.session_commands.specs.Reply.{AnswersCommand}
+use Rattle.session_commands.specs.Keeping.{state_of}
 use Rattle.session_commands.specs.Steps.{use_of}
-use Rattle.session_commands.proofs.DeskLemmas.{back_desk, back_state}
+use Rattle.session_commands.specs.Truths.{RefusesTruth}
+use Rattle.session_commands.proofs.AskedSteps.{named_desk, desk_named, numbers_there, entries_there, state_later, desk_later}
+use Rattle.session_commands.proofs.TruthSteps.{truth_refused, truth_answered}
 use Rattle.session_commands.proofs.holds.answer_holds.Goals as goal
 
-pub returns-in-Ok-clause-answer : goal.returns-in-Ok-clause-answer
-returns-in-Ok-clause-answer c =
+pub truth-requires-clause-desk : goal.truth-requires-clause-desk
+truth-requires-clause-desk c = desk_named c.args.desk.now c.number_command.new.names (formula_tree c.args.formula.now) c.args.entries.now c.requires.desk c.in_ok-number_command.ensures.grown c.in_ok-number_command.ensures.numbered c.requires.proper c.requires.entries
+
+pub truth-requires-clause-numbered : goal.truth-requires-clause-numbered
+truth-requires-clause-numbered c = numbers_there c.args.desk.now c.number_command.new.names (formula_tree c.args.formula.now) c.args.entries.now c.requires.desk c.in_ok-number_command.ensures.grown c.in_ok-number_command.ensures.numbered c.requires.proper c.requires.entries
+
+pub truth-requires-clause-valued : goal.truth-requires-clause-valued
+truth-requires-clause-valued c = entries_there c.args.desk.now c.number_command.new.names (formula_tree c.args.formula.now) c.args.entries.now c.requires.desk c.in_ok-number_command.ensures.grown c.in_ok-number_command.ensures.numbered c.requires.proper c.requires.entries
+
+pub returns-in_err-truth-clause-refused : goal.returns-in_err-truth-clause-refused
+returns-in_err-truth-clause-refused c =
+    let desk = c.args.desk.now in
     let f = formula_tree c.args.formula.now in
-    subst (λ (es : List PointEntry). AnswersCommand (named (state_of c.args.desk.now) (Holds f es)) c.args.limit c.args.printed (Holds f es) c.truth_line.new.desk.names c.in-Ok.line) c.items.ensures c.in-Ok.ensures.answer
+    let es = c.args.entries.now in
+    let e : c.from_residual-in_err-truth.result ≡ Err c.in_err-truth.field-0.0 = search rules in
+    let stop : Result Bool StatementError = Err c.in_err-truth.field-0.0 in
+    let refused : IfErr stop (RefusesTruth (state_of (named_desk desk c.number_command.new.names f es c.requires.desk c.in_ok-number_command.ensures.grown c.in_ok-number_command.ensures.numbered c.requires.proper c.requires.entries)) c.args.limit f es) = c.in_err-truth.ensures.refused in
+    subst (λ r. IfErr r (Refuses (named (state_of desk) (Holds f es)) c.args.limit (use_of None c.args.printed) (Holds f es))) (sym e)
+    (truth_refused desk c.number_command.new.names f es c.requires.desk c.in_ok-number_command.ensures.grown c.in_ok-number_command.ensures.numbered c.requires.proper c.requires.entries stop c.args.limit c.args.printed refused)
 
-pub returns-in-Err-clause-desk : goal.returns-in-Err-clause-desk
-returns-in-Err-clause-desk c =
-    let d = c.truth_line.new.desk in
-    let names = c.keep_first.ensures ∙ ap (λ n. take n d.names) c.count-count.ensures in
-    subst (λ ns. IsDesk (record { alloc = d.alloc; context = d.context; names = ns; bindings = d.bindings; store = d.store; kept = d.kept })) (sym names)
-    (back_desk c.args.desk.now d c.in-Err.ensures.grown c.requires.desk)
+pub returns-clause-desk : goal.returns-clause-desk
+returns-clause-desk c =
+    desk_later c.args.desk.now c.number_command.new.names (formula_tree c.args.formula.now) c.args.entries.now c.requires.desk c.in_ok-number_command.ensures.grown c.in_ok-number_command.ensures.numbered c.requires.proper c.requires.entries
+    c.truth.new.desk c.in_ok-truth.ensures.kept c.printed_line.result
 
-pub returns-in-Err-clause-refused : goal.returns-in-Err-clause-refused
-returns-in-Err-clause-refused c =
-    let f = formula_tree c.args.formula.now in
-    subst (λ (es : List PointEntry). Refuses (named (state_of c.args.desk.now) (Holds f es)) c.args.limit (use_of None c.args.printed) (Holds f es) c.in-Err.error) c.items.ensures c.in-Err.ensures.refused
+pub returns-clause-answer : goal.returns-clause-answer
+returns-clause-answer c =
+    truth_answered c.args.desk.now c.number_command.new.names (formula_tree c.args.formula.now) c.args.entries.now c.requires.desk c.in_ok-number_command.ensures.grown c.in_ok-number_command.ensures.numbered c.requires.proper c.requires.entries
+    c.printed_line.result c.args.limit c.args.printed c.in_ok-truth.truth c.text_of_truth.result.now c.in_ok-truth.ensures.truth c.in_ok-truth.ensures.accepted c.text_of_truth.ensures c.printed_line.ensures.line c.truth.new.desk.names
 
-pub returns-in-Err-clause-unchanged : goal.returns-in-Err-clause-unchanged
-returns-in-Err-clause-unchanged c =
-    let d = c.truth_line.new.desk in
-    let names = c.keep_first.ensures ∙ ap (λ n. take n d.names) c.count-count.ensures in
-    ap (λ ns. let e : Desk = record { alloc = d.alloc; context = d.context; names = ns; bindings = d.bindings; store = d.store; kept = d.kept } in state_of e) names
-    ∙ back_state c.args.desk.now d c.in-Err.ensures.grown c.requires.desk
+pub returns-clause-next : goal.returns-clause-next
+returns-clause-next c =
+    state_later c.args.desk.now c.number_command.new.names (formula_tree c.args.formula.now) c.args.entries.now c.requires.desk c.in_ok-number_command.ensures.grown c.in_ok-number_command.ensures.numbered c.requires.proper c.requires.entries
+    c.truth.new.desk c.in_ok-truth.ensures.kept c.printed_line.result

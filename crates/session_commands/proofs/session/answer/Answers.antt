@@ -1,10 +1,19 @@
-use Rattle.std.proofs.Common.{◌∙◌, ap, sym}
-use Rattle.qe_syntax.specs.Statements.{action_tree, command_tree, Say}
-use Rattle.session_commands.specs.Keeping.{state_of}
-use Rattle.session_commands.proofs.AnswerLemmas.{say_answered}
+use Rattle.std.proofs.Common.{◌∙◌, sym, ap, subst, take}
+use Rattle.session_commands.specs.Keeping.{state_of, IsDesk}
+use Rattle.session_commands.specs.declared.desk.Desk.{Desk}
+use Rattle.session_commands.proofs.DeskLemmas.{back_desk, back_state}
 use Rattle.session_commands.proofs.session.answer.Goals as goal
 
-pub returns-in-Say-clause-answer : goal.returns-in-Say-clause-answer
-returns-in-Say-clause-answer c =
-    say_answered c.say.result (action_tree c.args.statement.now.action) (command_tree c.deref.result.now) (state_of c.args.desk.now) (state_of c.say.new.desk) c.args.limit c.args.statement.now.printed
-    (ap action_tree c.in-Say.is ∙ ap (λ d. Say (command_tree d)) (sym c.deref.ensures)) c.say.ensures.answer
+pub returns-in-Err-clause-desk : goal.returns-in-Err-clause-desk
+returns-in-Err-clause-desk c =
+    let d = c.act.new.desk in
+    let names = c.keep_first.ensures ∙ ap (λ n. take n d.names) c.count-count.ensures in
+    subst (λ ns. IsDesk (record { alloc = d.alloc; context = d.context; names = ns; bindings = d.bindings; store = d.store; kept = d.kept })) (sym names)
+    (back_desk c.args.desk.now d c.in-Err.ensures.grown c.requires.desk)
+
+pub returns-in-Err-clause-unchanged : goal.returns-in-Err-clause-unchanged
+returns-in-Err-clause-unchanged c =
+    let d = c.act.new.desk in
+    let names = c.keep_first.ensures ∙ ap (λ n. take n d.names) c.count-count.ensures in
+    ap (λ ns. let e : Desk = record { alloc = d.alloc; context = d.context; names = ns; bindings = d.bindings; store = d.store; kept = d.kept } in state_of e) names
+    ∙ back_state c.args.desk.now d c.in-Err.ensures.grown c.requires.desk

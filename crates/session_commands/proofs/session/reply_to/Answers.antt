@@ -1,7 +1,10 @@
 use Rattle.qe_syntax.specs.Statements.{statement_tree}
 use Rattle.session_commands.specs.Keeping.{state_of}
-use Rattle.session_commands.proofs.AnswerLemmas.{reply_to}
+use Rattle.session_commands.proofs.AnswerLemmas.{reply_to, spelled_binds}
 use Rattle.session_commands.proofs.session.reply_to.Goals as goal
+
+pub answer-requires-clause-formula : goal.answer-requires-clause-formula
+answer-requires-clause-formula c = spelled_binds c.args.bytes.now (statement_tree c.in-Ok.statement) c.in-Ok.ensures.spelled
 
 pub returns-in-Ok-clause-reply : goal.returns-in-Ok-clause-reply
 returns-in-Ok-clause-reply c =

@@ -1,10 +1,10 @@
-use Rattle.std.proofs.Common.{ap, refl}
-use Rattle.qe_syntax.specs.Trees.{formula_tree, formula_trees}
-use Rattle.qe_syntax.specs.Statements.{command_tree, Qea, Holds}
+use Rattle.std.proofs.Common.{ap, refl, sym, ◌∙◌, map}
+use Rattle.qe_syntax.specs.Trees.{formula_tree, formula_trees, formulas_of}
+use Rattle.qe_syntax.specs.Statements.{command_tree, Qea, Holds, Sample}
 use Rattle.session_commands.specs.declared.formulas.Wanted.TheVariants as wanted
 use Rattle.session_commands.specs.declared.formulas.Way.TheVariants as way
 use Rattle.session_commands.specs.Keeping.{state_of}
-use Rattle.session_commands.proofs.AnswerLemmas.{answered_as, simplification_answered, elimination_answered, query_answered, query_stopped}
+use Rattle.session_commands.proofs.AnswerLemmas.{answered_as, simplification_answered, elimination_answered, query_answered, refused_as}
 use Rattle.session_commands.proofs.session.say.Goals as goal
 
 pub returns-in-Echo-clause-answer : goal.returns-in-Echo-clause-answer
@@ -19,13 +19,13 @@ returns-in-Nnf-clause-answer c =
 
 pub returns-in-Holds-clause-answer : goal.returns-in-Holds-clause-answer
 returns-in-Holds-clause-answer c =
-    query_answered c.answer_holds.result (Holds (formula_tree c.in-Holds.formula) c.in-Holds.entries) (command_tree c.args.command.now) (state_of c.args.desk.now) (state_of c.answer_holds.new.desk) c.args.limit c.args.printed tt
-    (ap command_tree c.in-Holds.is) refl c.answer_holds.ensures.answer c.answer_holds.ensures.next
+    query_answered c.answer_holds.result (Holds (formula_tree c.in-Holds.formula) c.items-in-Holds.result.now) (command_tree c.args.command.now) (state_of c.args.desk.now) (state_of c.answer_holds.new.desk) c.args.limit c.args.printed
+    (ap command_tree c.in-Holds.is ∙ ap (Holds (formula_tree c.in-Holds.formula)) (sym c.items-in-Holds.ensures)) refl c.answer_holds.ensures.answer c.answer_holds.ensures.next
 
 pub returns-in-Holds-clause-refusal : goal.returns-in-Holds-clause-refusal
 returns-in-Holds-clause-refusal c =
-    query_stopped c.answer_holds.result (Holds (formula_tree c.in-Holds.formula) c.in-Holds.entries) (command_tree c.args.command.now) (state_of c.args.desk.now) c.args.limit c.args.printed tt
-    (ap command_tree c.in-Holds.is) c.answer_holds.ensures.refused
+    refused_as c.answer_holds.result (Holds (formula_tree c.in-Holds.formula) c.items-in-Holds.result.now) (command_tree c.args.command.now) (state_of c.args.desk.now) c.args.limit c.args.printed
+    (ap command_tree c.in-Holds.is ∙ ap (Holds (formula_tree c.in-Holds.formula)) (sym c.items-in-Holds.ensures)) c.answer_holds.ensures.refused
 
 pub returns-in-Simpl-clause-answer : goal.returns-in-Simpl-clause-answer
 returns-in-Simpl-clause-answer c =
@@ -54,10 +54,20 @@ returns-in-Cnf-clause-answer c =
 
 pub returns-in-Qea-clause-answer : goal.returns-in-Qea-clause-answer
 returns-in-Qea-clause-answer c =
-    query_answered c.answer_cases.result (Qea (formula_tree c.in-Qea.formula) (formula_trees c.in-Qea.given)) (command_tree c.args.command.now) (state_of c.args.desk.now) (state_of c.answer_cases.new.desk) c.args.limit c.args.printed tt
-    (ap command_tree c.in-Qea.is) refl c.answer_cases.ensures.answer c.answer_cases.ensures.next
+    query_answered c.answer_cases.result (Qea (formula_tree c.in-Qea.formula) (formulas_of (map formula_tree c.items.result.now))) (command_tree c.args.command.now) (state_of c.args.desk.now) (state_of c.answer_cases.new.desk) c.args.limit c.args.printed
+    (ap command_tree c.in-Qea.is ∙ ap (Qea (formula_tree c.in-Qea.formula)) c.items.ensures) refl c.answer_cases.ensures.answer c.answer_cases.ensures.next
 
 pub returns-in-Qea-clause-refusal : goal.returns-in-Qea-clause-refusal
 returns-in-Qea-clause-refusal c =
-    query_stopped c.answer_cases.result (Qea (formula_tree c.in-Qea.formula) (formula_trees c.in-Qea.given)) (command_tree c.args.command.now) (state_of c.args.desk.now) c.args.limit c.args.printed tt
-    (ap command_tree c.in-Qea.is) c.answer_cases.ensures.refused
+    refused_as c.answer_cases.result (Qea (formula_tree c.in-Qea.formula) (formulas_of (map formula_tree c.items.result.now))) (command_tree c.args.command.now) (state_of c.args.desk.now) c.args.limit c.args.printed
+    (ap command_tree c.in-Qea.is ∙ ap (Qea (formula_tree c.in-Qea.formula)) c.items.ensures) c.answer_cases.ensures.refused
+
+pub returns-in-Sample-clause-answer : goal.returns-in-Sample-clause-answer
+returns-in-Sample-clause-answer c =
+    query_answered c.answer_sample.result (Sample (formula_tree c.in-Sample.formula) c.items-in-Sample.result.now) (command_tree c.args.command.now) (state_of c.args.desk.now) (state_of c.answer_sample.new.desk) c.args.limit c.args.printed
+    (ap command_tree c.in-Sample.is ∙ ap (Sample (formula_tree c.in-Sample.formula)) (sym c.items-in-Sample.ensures)) refl c.answer_sample.ensures.answer c.answer_sample.ensures.next
+
+pub returns-in-Sample-clause-refusal : goal.returns-in-Sample-clause-refusal
+returns-in-Sample-clause-refusal c =
+    refused_as c.answer_sample.result (Sample (formula_tree c.in-Sample.formula) c.items-in-Sample.result.now) (command_tree c.args.command.now) (state_of c.args.desk.now) c.args.limit c.args.printed
+    (ap command_tree c.in-Sample.is ∙ ap (Sample (formula_tree c.in-Sample.formula)) (sym c.items-in-Sample.ensures)) c.answer_sample.ensures.refused

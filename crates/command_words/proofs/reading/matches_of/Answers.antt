@@ -1,0 +1,30 @@
+use Rattle.std.proofs.Common.{ap, ◌≡◌, ◌∙◌, map}
+use Rattle.std.specs.Prelude.{option_and_then, string_bytes}
+use Rattle.std.proofs.lemmas.Result.{IfErr-weaker, IfOk-weaker}
+use Rattle.clap.specs.Words.{App, app_of, first_of, found_of, is_simple, matches_of, takes}
+use Rattle.clap.proofs.WalkLemmas.{first_value-rows}
+use Rattle.command_words.specs.Reading.{app}
+use Rattle.command_words.specs.Value.{value_of}
+use Rattle.command_words.specs.Words.{greatest_of, id_of}
+use Rattle.command_words.proofs.Walks.{words_taken, values_found}
+use Rattle.command_words.proofs.reading.matches_of.Goals as goal
+
+pub returns-clause-values : goal.returns-clause-values
+returns-clause-values c =
+    let parse = c.try_get_matches_from in
+    let command : app_of c.in_ok-command.command ≡ app = c.in_ok-command.ensures in
+    let words = map string_bytes c.args.words.now in
+    IfOk-weaker parse.result _ _
+    (λ m h options spells choice.
+    ap (option_and_then (value_of (greatest_of choice)))
+    (first_value-rows (found_of m) (id_of choice) ∙ ap (first_of (id_of choice)) ((h (ap is_simple command)).0 ∙ ap (λ (a : App). matches_of a words) command))
+    ∙ values_found c.args.words.now options spells choice)
+    parse.ensures.matches
+
+pub returns-clause-memory : goal.returns-clause-memory
+returns-clause-memory c =
+    let parse = c.try_get_matches_from in
+    let command : app_of c.in_ok-command.command ≡ app = c.in_ok-command.ensures in
+    IfErr-weaker parse.result _ _
+    (λ e h. h (ap (λ (a : App). takes a (map string_bytes c.args.words.now)) command ∙ words_taken c.args.words.now c.requires.0 c.requires.1))
+    parse.ensures.passes

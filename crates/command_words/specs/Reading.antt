@@ -1,0 +1,25 @@
+-- What `clap` is told of the command line, and what it finds in the words.
+use Rattle.std.specs.Prelude.{◌≡◌, true, Some, codes, option_and_then}
+use Rattle.clap.specs.Words.{App, Rule, first_value, found_of, new_app, new_rule, with_rule}
+use Rattle.clap.specs.Simple.{on_top}
+use Rattle.clap.specs.declared.builder.ArgAction.TheVariants.{Set}
+use Rattle.clap.specs.declared.parser.matches.ArgMatches.{ArgMatches}
+use Rattle.command_words.specs.declared.options.Choice.{Choice}
+use Rattle.command_words.specs.declared.options.Choice.TheVariants.{Nodes, Generate}
+use Rattle.command_words.specs.declared.options.Options.{Options}
+use Rattle.command_words.specs.Value.{value_of}
+use Rattle.command_words.specs.Words.{given, greatest_of, id_of}
+
+-- an option: its long name, and one value as text
+abbrev pub rule_for : Choice → Rule
+rule_for choice = record (new_rule (id_of choice)) { long = Some (id_of choice); action = Some Set }
+
+-- the options in words that begin with no program's name, with no help and no version
+abbrev pub app : App
+app = with_rule (with_rule
+    (on_top (λ s. record s { no_binary_name = true; disable_help_flag = true; disable_version_flag = true }) (new_app (codes "redlog")))
+    (rule_for Nodes)) (rule_for Generate)
+
+-- the texts found for the options say the values of these
+abbrev pub HasValues : ArgMatches → Options → Type 0
+HasValues m options = (choice : Choice) → option_and_then (value_of (greatest_of choice)) (first_value (found_of m) (id_of choice)) ≡ given choice options

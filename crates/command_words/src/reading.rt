@@ -1,0 +1,67 @@
+ghost use Rattle.std.specs.Prelude.{◌≡◌, false, IfErr, IfOk, option_and_then};
+ghost use Rattle.clap.specs.Words.{app_of, first_value, found_of, kind_of, rule_of};
+ghost use Rattle.command_words.specs.declared.options.Choice.{Choice};
+ghost use Rattle.command_words.specs.declared.options.Options.{Options};
+ghost use Rattle.command_words.specs.Reading.{HasValues, app, rule_for};
+ghost use Rattle.command_words.specs.Value.{value_of};
+ghost use Rattle.command_words.specs.Words.{greatest_of, id_of, Spells};
+
+use crate::options::{Choice, Options};
+use crate::value::value_of;
+use clap::error::ErrorKind;
+use clap::{Arg, ArgAction, ArgMatches, Command, Error};
+use std::alloc::{AllocError, Global};
+
+/// The options that valid words give, read by `clap`. Its only error is want of memory.
+pub fn options_of(alloc: Global, words: &[String]) -> Result<Options, AllocError>
+    requires { (options : Options) × Spells words.now options }
+    ensures { IfOk result (λ options. Spells words.now options) }
+{
+    match matches_of(alloc, words) {
+        Ok(matches) => Ok(Options {
+            nodes: value_given(&matches, Choice::Nodes),
+            generate: value_given(&matches, Choice::Generate),
+        }),
+        Err(_) => Err(AllocError),
+    }
+}
+
+/// What `clap` finds in valid words. It refuses none of them: its only error is want of memory.
+fn matches_of<'a>(alloc: Global, words: &'a [String]) -> Result<ArgMatches<'a>, Error>
+    requires { (options : Options) × Spells words.now options }
+    ensures values { IfOk result (λ m. (options : Options) → Spells words.entry.now options → HasValues m options) }
+    ensures memory { IfErr result (λ e. kind_of e ≡ ErrorKind.OutOfMemory) }
+{
+    let command = command_of(alloc)?;
+    command.try_get_matches_from(words)
+}
+
+/// The command line as `clap` is told of it: the two options, no help and no version.
+fn command_of<'a>(alloc: Global) -> Result<Command<'a>, AllocError>
+    ensures { IfOk result (λ command. app_of command ≡ app) }
+{
+    Command::new(alloc, "redlog")
+        .no_binary_name(true)
+        .disable_help_flag(true)
+        .disable_version_flag(true)
+        .arg(arg_of(alloc, Choice::Nodes))?
+        .arg(arg_of(alloc, Choice::Generate))
+}
+
+/// The option as `clap` is told of it, with its value as text.
+fn arg_of(alloc: Global, choice: Choice) -> Arg<'static>
+    ensures rule { rule_of result ≡ rule_for choice }
+    ensures local { result.global ≡ false }
+{
+    Arg::new(alloc, choice.id())
+        .long(choice.id())
+        .action(ArgAction::Set)
+}
+
+/// The value of the option among the matches.
+fn value_given(matches: &ArgMatches, choice: Choice) -> Option<u32>
+    ensures { result ≡ option_and_then (value_of (greatest_of choice)) (first_value (found_of matches.now) (id_of choice)) }
+{
+    let text = matches.get_str(choice.id())?;
+    value_of(text.as_bytes(), choice.greatest())
+}

@@ -1,0 +1,76 @@
+-- The sample at a point, and why it is refused.
+use Rattle.std.proofs.Common.{◌≡◌, ◌↔◌, inr, ℕ, ◌<◌, ◌≤◌, List, [], ◌∷◌, Bool, None, Some, Option, subst, length, lit≤, arith, sym}
+use Rattle.std.specs.List.{IsDistinct}
+use Rattle.formula_meaning.specs.Context.{Context}
+use Rattle.formula_meaning.specs.Every.{Every}
+use Rattle.formula_meaning.specs.Point.{Point, Of}
+use Rattle.formula_meaning.specs.Some.{EachOf}
+use Rattle.formula_meaning.specs.Tree.{Tree, TrueAt}
+use Rattle.atom_normal.specs.NormalForm.{IsNormal}
+use Rattle.elimination_reference.specs.Cases.{case_sign, case_formula}
+use Rattle.elimination_reference.proofs.CasesExact.{says}
+use Rattle.sample_reference.specs.Sample.{IsTrueSample}
+use Rattle.sample_reference.specs.Values.{Value, value_names}
+use Rattle.answer_texts.specs.Within.{AreValuesWithin}
+use Rattle.qe_syntax.specs.declared.statement.PointEntry.{PointEntry}
+use Rattle.qe_syntax.specs.Point.{IsPointOf}
+use Rattle.qe_syntax.specs.Statements.{Sample}
+use Rattle.qe_syntax.specs.Trees.{FormulaTree}
+use Rattle.qe_syntax.specs.Value.{NamedPoint, same_name}
+use Rattle.formula_tree.specs.Resolving.{at_names, resolve}
+use Rattle.session_commands.specs.declared.line.StatementError.{StatementError}
+use Rattle.session_commands.specs.declared.line.StatementError.TheVariants as error
+use Rattle.session_commands.specs.State.{State}
+use Rattle.session_commands.specs.Asked.{HasNoneBelow}
+use Rattle.session_commands.specs.Causes.{HasNoCauseBelow}
+use Rattle.session_commands.specs.Commands.{negated_of}
+use Rattle.session_commands.specs.Keeping.{IsSessionFormula}
+use Rattle.session_commands.specs.Samples.{HasSample, IsSample}
+use Rattle.session_commands.specs.SampleSteps.{RefusesSample, SampleStop, IsSampleWithin}
+use Rattle.session_commands.specs.Steps.{use_of, HasNumbers, IsReadable}
+use Rattle.session_commands.proofs.CaseLemmas.{block_below, turned_says, turned_along}
+use Rattle.session_commands.proofs.TruthLemmas.{truth_as_written}
+
+-- ---- the names of the values
+
+values_within : (n : ℕ) (values : List Value) → EachOf (λ x. x < n) (value_names values) → AreValuesWithin n values
+values_within n [] h = tt
+values_within n (v ∷ vs) h = (h.0, values_within n vs h.1)
+
+pub sample_within : (c : Context) (n : ℕ) (t : Tree) (q : Point ℕ) → IsSessionFormula c n t → (sample : Option (List Value)) → IsTrueSample c t q sample → IsSampleWithin n sample
+sample_within c n t q own None h = tt
+sample_within c n t q own (Some values) h = values_within n values (subst (EachOf (λ x. x < n)) (sym h.names) (block_below c n t own))
+
+module _ (s : State) (f : FormulaTree) (es : List PointEntry) (p : NamedPoint) where
+  abbrev t : Tree
+  t = resolve s.context s.bound s.names f
+
+  abbrev q : Point ℕ
+  q = at_names s.names p
+
+  -- ---- refusals
+
+  module _ (meant : IsPointOf es p) (clear : HasNoneBelow s f es 19) (limit : ℕ) where
+    below : (printed : Bool) (n : ℕ) → n ≤ 19 → HasNoCauseBelow s limit (use_of None printed) (Sample f es) n
+    below printed n b e l = (clear limit printed).1 e (omega arith)
+
+    pub sample_stops : (e : StatementError) → SampleStop s.context limit t q e → RefusesSample s limit f es e
+    sample_stops error.Overflow h = λ printed. record { applies = inr (inr (p, meant, h)); first = below printed 15 (lit≤ tt) }
+    sample_stops error.Nodes h = λ printed. record { applies = inr (inr (p, meant, h)); first = below printed 16 (lit≤ tt) }
+    sample_stops error.Memory h = λ printed. tt
+    sample_stops _ h = absurd h
+
+  -- ---- the sample
+
+  module _ (numbers : HasNumbers s.names f) (distinct : IsDistinct same_name s.names) (readable : IsReadable s f) (of : Of s.context p) (normal : Every (IsNormal s.context) t) where
+    -- there is a sample where the formula whose cases are asked is true
+    there : HasSample s f p ↔ TrueAt s.context (case_formula t) q
+    there =
+        let sign = case_sign (negated_of s f) in
+        let a = turned_along sign _ _ (truth_as_written s f numbers distinct readable p of) in
+        let b = turned_says s.context sign t (case_formula t) q of (says s.context t sign (case_formula t) normal (λ r o. (λ h. h, λ h. h))) in
+        (λ x. b.0 (a.0 x), λ x. a.1 (b.1 x))
+
+    pub sample_is : (sample : Option (List Value)) → IsTrueSample s.context t q sample → IsSample s f p sample
+    sample_is None h = λ k. h (there.0 k)
+    sample_is (Some values) h = record { there = there.1 h.asked; in_order = h.names; each = h.each; exact = h.matrix }

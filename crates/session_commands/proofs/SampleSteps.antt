@@ -1,0 +1,165 @@
+-- From step to step of a sample.
+use Rattle.std.proofs.Common.{◌≡◌, inr, ℕ, List, [], ◌++◌, ◌<◌, ◌≤◌, Bool, Option, Some, None, sym, ap, ◌∙◌, subst, refl, length, nat_eq, arith}
+use Rattle.std.specs.Prelude.{Result, IfOk, IfErr}
+use Rattle.std.specs.List.{fold}
+use Rattle.std.specs.declared.vec.Vec.{Vec}
+use Rattle.std.specs.declared.alloc.Global.{Global}
+use Rattle.exact_numbers.specs.declared.fraction.Fraction.{Fraction}
+use Rattle.formula_meaning.specs.Context.{Context}
+use Rattle.formula_meaning.specs.Point.{Point}
+use Rattle.formula_meaning.specs.Shape.{Exists, block_of, matrix_of}
+use Rattle.formula_meaning.specs.Sizes.{nodes, height}
+use Rattle.formula_meaning.specs.Tree.{Tree, TrueAt}
+use Rattle.atom_normal.specs.Atoms.{context_of}
+use Rattle.atom_normal.proofs.Stepped.{ok_map}
+use Rattle.elimination_theory.specs.Answers.{Step}
+use Rattle.elimination_reference.specs.Cases.{case_sign}
+use Rattle.elimination_reference.specs.Measured.{Outcome, pay, within, then_of, done}
+use Rattle.elimination_reference.specs.PutIn.{tree_put, tree_put_within}
+use Rattle.elimination_reference.specs.Reference.{normal_tree, turned, branches}
+use Rattle.elimination_reference.specs.Sample.{first_true}
+use Rattle.linear_forms.specs.declared.form.VarId.{VarId}
+use Rattle.plain_engine.specs.declared.measured.Measured.{Measured}
+use Rattle.plain_engine.specs.declared.measured.Measured.TheVariants as measured
+use Rattle.plain_engine.specs.Told.{StopsWith}
+use Rattle.shared_elimination.proofs.FormAgain.{normal_tree_again}
+use Rattle.sample_reference.specs.Sample.{sampled, reference_sample, IsTrueSample}
+use Rattle.sample_reference.specs.Seen.{sample_of}
+use Rattle.sample_reference.specs.Values.{Value, with_values}
+use Rattle.qe_syntax.specs.declared.statement.PointEntry.{PointEntry}
+use Rattle.qe_syntax.specs.Point.{Numbers, point_of}
+use Rattle.qe_syntax.specs.Proper.{IsProperFormula, AreProperEntries}
+use Rattle.qe_syntax.specs.Statements.{Sample}
+use Rattle.qe_syntax.specs.Trees.{FormulaTree}
+use Rattle.formula_tree.specs.Causes.{most_height}
+use Rattle.formula_tree.specs.Names.{with_name}
+use Rattle.formula_tree.specs.Resolving.{at_names, formula_variables, resolve}
+use Rattle.formula_tree.proofs.ResolvedHeight.{resolving_keeps_height}
+use Rattle.formula_resolving.specs.Numbering.{Grows}
+use Rattle.formula_store.specs.declared.id.FormulaId.{FormulaId}
+use Rattle.formula_store.specs.Nodes.{tree}
+use Rattle.redlog_printer.specs.Writing.{text_limit}
+use Rattle.session_commands.specs.declared.line.Line.{Line}
+use Rattle.session_commands.specs.declared.line.StatementError.{StatementError}
+use Rattle.session_commands.specs.declared.line.StatementError.TheVariants as error
+use Rattle.session_commands.specs.declared.desk.Desk.{Desk}
+use Rattle.session_commands.specs.State.{State}
+use Rattle.session_commands.specs.Asked.{IsAsked}
+use Rattle.session_commands.specs.Causes.{Refuses}
+use Rattle.session_commands.specs.Commands.{named, entry_names}
+use Rattle.session_commands.specs.Keeping.{state_of, IsDesk}
+use Rattle.session_commands.specs.Reply.{IsLine, AnswersCommand}
+use Rattle.session_commands.specs.Samples.{sample_text}
+use Rattle.session_commands.specs.SampleSteps.{RefusesSample, SampleStop, IsSampleWithin, IsWantedSample}
+use Rattle.session_commands.specs.Steps.{use_of, measured_refusal, HasNumbers, KeepsDesk}
+use Rattle.session_commands.proofs.AskedSteps.{theory, asked_normal, named_desk, start}
+use Rattle.session_commands.proofs.CaseSteps.{err_map}
+use Rattle.session_commands.proofs.GivenLemmas.{readable_formula}
+use Rattle.session_commands.proofs.SampleLemmas.{sample_stops, sample_is, sample_within}
+use Rattle.session_commands.proofs.ShortSamples.{sample_short}
+
+-- ---- the formula in negation normal form
+
+module _ (c : Context) (q : Point ℕ) (t g : Tree) (e : g ≡ normal_tree t) where
+  form_is : normal_tree g ≡ normal_tree t
+  form_is = ap normal_tree e ∙ normal_tree_again t
+
+  -- a sample of the negation normal form is one of the formula
+  pub true_along : (sample : Option (List Value)) → IsTrueSample c g q sample → IsTrueSample c t q sample
+  true_along None h = λ k. h (subst (λ n. TrueAt c (turned (case_sign n) n) q) (sym form_is) k)
+  true_along (Some values) h = record {
+    asked = subst (λ n. TrueAt c (turned (case_sign n) n) q) form_is h.asked;
+    names = h.names ∙ ap (λ n. block_of nat_eq (turned (case_sign n) n) Exists []) form_is;
+    each = h.each;
+    matrix = subst (λ n. TrueAt c (matrix_of nat_eq (turned (case_sign n) n) Exists []) (with_values q values)) form_is h.matrix;
+  }
+
+module _ (c : Context) (limit : ℕ) (q : Point ℕ) where
+  -- the sample of a formula with this negation normal form, from where its nodes are counted
+  abbrev from_form : Tree → Outcome (Unit {0} × ℕ) → Outcome (Option (List Value) × ℕ)
+  from_form g o =
+      then_of (then_of {B = Option (List Step) × ℕ} (then_of o (λ r. then_of (within (tree_put_within c q [] g) r.1) (λ s. branches c limit [] (case_sign g) (tree_put c q [] g) s.1))) (λ r. done (first_true r.0, r.1)))
+      (λ r. sampled c r.1 r.0)
+
+  sample_along : (t g : Tree) → g ≡ normal_tree t → reference_sample c limit q g ≡ reference_sample c limit q t
+  sample_along t g e = ap (λ n. from_form n (pay limit (nodes n) 0)) (form_is c q t g e)
+
+  pub stop_along : (t g : Tree) → g ≡ normal_tree t → (e : StatementError) → SampleStop c limit g q e → SampleStop c limit t q e
+  stop_along t g e error.Overflow h = sym (sample_along t g e) ∙ h
+  stop_along t g e error.Nodes h = sym (sample_along t g e) ∙ h
+  stop_along t g e error.Memory h = tt
+  stop_along t g e _ h = absurd h
+
+  pub sample_fault : (t : Tree) (e : Measured) → StopsWith e (reference_sample c limit q t) → SampleStop c limit t q (measured_refusal e)
+  sample_fault t measured.Overflow h = h
+  sample_fault t measured.Nodes h = h
+  sample_fault t measured.Memory h = tt
+
+  -- what stops the count stops the sample
+  pub paid_stops : (t : Tree) (e : Measured) → StopsWith e (pay limit (nodes (normal_tree t)) 0) → StopsWith e (reference_sample c limit q t)
+  paid_stops t measured.Overflow h = ap (from_form (normal_tree t)) h
+  paid_stops t measured.Nodes h = ap (from_form (normal_tree t)) h
+  paid_stops t measured.Memory h = tt
+
+-- ---- after the formula and the point were read
+
+module _ (old new : Desk) (f : FormulaTree) (es : List PointEntry) (desk : IsDesk old) (numbers : HasNumbers old.names f) (k : KeepsDesk old new) (i : FormulaId) (p : Numbers)
+    (a : IsAsked (state_of old) f es new i p) where
+  abbrev s : State
+  s = state_of old
+
+  abbrev t : Tree
+  t = resolve s.context s.bound s.names f
+
+  -- what is said of the formula of the store, in the theory and at the names there
+  here : (P : Context → Tree → List (List ℕ) → Type 0) → P (context_of new.context) (tree new.store i) new.names → P s.context t s.names
+  here P h = subst (P s.context t) k.names (subst (λ (u : Tree). P s.context u new.names) a.made.same (subst (λ c. P c (tree new.store i) new.names) (theory old new f es desk numbers k) h))
+
+  -- the formula is at most 512 high
+  low : height t ≤ most_height
+  low = let e = resolving_keeps_height s.context s.bound s.names f in let flat : ¬ (most_height < height t) = (λ h. a.readable.flat (subst (λ n. most_height < n) e h)) in omega arith
+
+  wanted : IsProperFormula f → (limit : ℕ) (o : Option (Vec (VarId × Fraction) Global)) → IsTrueSample s.context t (at_names s.names (point_of p)) (sample_of o) → IsWantedSample s limit f es (sample_of o)
+  wanted proper limit o h = record {
+    clear = λ printed. (a.clear limit printed).1;
+    answer = record {
+      point = point_of p;
+      meant = a.meant;
+      sampled = sample_is s f es (point_of p) numbers desk.sound.names_once a.readable a.theory (asked_normal old new f es desk numbers k i p a) (sample_of o) h;
+    };
+    within = sample_within s.context (length s.names) t (at_names s.names (point_of p)) (readable_formula f s numbers desk.sound proper a.readable) (sample_of o) h;
+    short = sample_short s.context s.names t (at_names s.names (point_of p)) desk.sound.variables low o h;
+  }
+
+  module _ (r : Result (Option (Vec (VarId × Fraction) Global)) StatementError) (limit : ℕ) where
+    pub sample_told : IsProperFormula f → IfOk r (λ o. IsTrueSample (context_of new.context) (tree new.store i) (at_names new.names (point_of p)) (sample_of o)) → IfOk r (λ o. IsWantedSample s limit f es (sample_of o))
+    sample_told proper h = ok_map r (λ o u. wanted proper limit o (here (λ c v ns. IsTrueSample c v (at_names ns (point_of p)) (sample_of o)) u)) h
+
+    pub sample_stopped : IfErr r (SampleStop (context_of new.context) limit (tree new.store i) (at_names new.names (point_of p))) → IfErr r (RefusesSample s limit f es)
+    sample_stopped h = err_map r (λ e u. sample_stops s f es (point_of p) a.meant a.clear limit e (here (λ c v ns. SampleStop c limit v (at_names ns (point_of p)) e) u)) h
+
+-- ---- the names of the command
+
+module _ (desk : Desk) (names : List (List ℕ)) (f : FormulaTree) (es : List PointEntry) (h : IsDesk desk) (grown : Grows desk.names names)
+    (is : names ≡ fold with_name desk.names (formula_variables f ++ entry_names es)) (proper : IsProperFormula f) (proper_entries : AreProperEntries es) (limit : ℕ) (printed : Bool) where
+  abbrev first : Desk
+  first = named_desk desk names f es h grown is proper proper_entries
+
+  -- what is said of the state where the variables have their numbers
+  begun : (P : State → Type 0) → P (state_of first) → P (named (state_of desk) (Sample f es))
+  begun P k = subst P (start desk names f es h grown is proper proper_entries) k
+
+  pub sample_refused : {E : Type 0} (r : Result E StatementError) → IfErr r (RefusesSample (state_of first) limit f es) → IfErr r (Refuses (named (state_of desk) (Sample f es)) limit (use_of None printed) (Sample f es))
+  sample_refused r k = err_map r (λ e u. begun (λ s. Refuses s limit (use_of None printed) (Sample f es) e) (u printed)) k
+
+  module _ (later : Desk) (k : KeepsDesk first later) (sample : Option (List Value)) (w : IsWantedSample (state_of first) limit f es sample) (r : Result Line StatementError) where
+    pub within_there : IsSampleWithin (length later.names) sample
+    within_there = subst (λ ns. IsSampleWithin (length ns) sample) (sym k.names) w.within
+
+    pub sample_answered : (after : List (List ℕ)) → IfOk r (IsLine printed (sample_text later.names sample)) → IfOk r (AnswersCommand (named (state_of desk) (Sample f es)) limit printed (Sample f es) after)
+    sample_answered after l =
+        ok_map r (λ line i. begun (λ s. AnswersCommand s limit printed (Sample f es) after line)
+        (w.clear printed, (sample_text names sample, (sample, w.answer, refl), subst (λ ns. IsLine printed (sample_text ns sample) line) k.names i))) l
+
+    pub short_there : length (sample_text later.names sample) ≤ text_limit
+    short_there = subst (λ ns. length (sample_text ns sample) ≤ text_limit) (sym k.names) w.short

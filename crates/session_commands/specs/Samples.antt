@@ -1,0 +1,43 @@
+-- The sample of a formula at a point, in a state in which the variables of the command have their numbers.
+use Rattle.std.specs.Prelude.{◌≡◌, ℕ, List, Option, Some, None, codes}
+use Rattle.formula_meaning.specs.Some.{EachOf}
+use Rattle.formula_meaning.specs.Tree.{TrueAt}
+use Rattle.elimination_reference.specs.Cases.{case_sign, case_matrix, case_names}
+use Rattle.sample_reference.specs.Values.{Value, value_names, with_values, IsValue}
+use Rattle.answer_texts.specs.Points.{point_text}
+use Rattle.qe_syntax.specs.declared.statement.PointEntry.{PointEntry}
+use Rattle.qe_syntax.specs.Point.{IsPointOf}
+use Rattle.qe_syntax.specs.Trees.{FormulaTree}
+use Rattle.qe_syntax.specs.Value as written
+use Rattle.formula_tree.specs.Resolving.{resolve, at_names, bound_truth}
+use Rattle.session_commands.specs.State.{State}
+use Rattle.session_commands.specs.Cases.{Turned}
+use Rattle.session_commands.specs.Commands.{negated_of}
+
+-- the formula is true at the point as it is written, or for a leading block of all it is not
+abbrev pub HasSample : State → FormulaTree → written.NamedPoint → Type 0
+HasSample s f p = Turned (case_sign (negated_of s f)) (written.TrueAt (bound_truth s.context s.bound s.names) s.context f p)
+
+-- The values are for the names of the leading block, each once and in its order. They are in lowest terms, and over the integers whole. With them, what stands
+-- behind the block, or for a block of all its negation, is true at the point.
+pub record AreSampleValues (s : State) (f : FormulaTree) (p : written.NamedPoint) (values : List Value) : Type 0 where
+  pub there : HasSample s f p
+  pub in_order : value_names values ≡ case_names (resolve s.context s.bound s.names f)
+  pub each : EachOf (IsValue s.context) values
+  pub exact : TrueAt s.context (case_matrix (resolve s.context s.bound s.names f)) (with_values (at_names s.names p) values)
+
+-- such values, or none where there are none
+abbrev pub IsSample : State → FormulaTree → written.NamedPoint → Option (List Value) → Type 0
+IsSample s f p (Some values) = AreSampleValues s f p values
+IsSample s f p None = ¬ (HasSample s f p)
+
+-- the same at the point that the entries mean
+pub record IsSampleAnswer (s : State) (f : FormulaTree) (es : List PointEntry) (sample : Option (List Value)) : Type 0 where
+  pub point : written.NamedPoint
+  pub meant : IsPointOf es point
+  pub sampled : IsSample s f point sample
+
+-- the line of a sample
+abbrev pub sample_text : List (List ℕ) → Option (List Value) → List ℕ
+sample_text names (Some values) = point_text names values
+sample_text names None = codes "none"

@@ -1,0 +1,209 @@
+//! What is looked at before anything is answered at a point.
+
+ghost use Rattle.std.specs.Prelude.{◌≡◌, ◌↔◌, ◌++◌, ℕ, IfOk, IfErr, OnOk, IsTrue};
+ghost use Rattle.std.specs.List.{IsDistinct, fold};
+ghost use Rattle.formula_meaning.specs.Some.{SomeOf};
+ghost use Rattle.atom_normal.specs.Atoms.{context_of};
+ghost use Rattle.linear_forms.specs.Values.{number_at};
+ghost use Rattle.qe_syntax.specs.declared.statement.PointEntry.{PointEntry as Entry};
+ghost use Rattle.qe_syntax.specs.Point.{IsPointOf, point_of};
+ghost use Rattle.qe_syntax.specs.Proper.{IsProperFormula, AreProperEntries};
+ghost use Rattle.qe_syntax.specs.Trees.{formula_tree};
+ghost use Rattle.qe_syntax.specs.Value.{same_name};
+ghost use Rattle.formula_tree.specs.Names.{with_name};
+ghost use Rattle.formula_tree.specs.Resolving.{formula_variables, at_names};
+ghost use Rattle.formula_resolving.specs.Numbering.{Grows};
+ghost use Rattle.formula_resolving.specs.Refusals.{AreIds};
+ghost use Rattle.formula_store.specs.Nodes.{IsId};
+ghost use Rattle.session_commands.specs.Asked.{HaveNumbers, IsBoundName, is_whole_theory, RefusesBoth, stop_of, IsReadAs, IsMeantPoint, PointStop, IsValued, ValuedStop, IsAsked};
+ghost use Rattle.session_commands.specs.Commands.{entry_names};
+ghost use Rattle.session_commands.specs.Keeping.{state_of, IsDesk};
+ghost use Rattle.session_commands.specs.Steps.{HasNumbers, KeepsDesk};
+
+use crate::desk::Desk;
+use crate::formulas::resolved;
+use crate::line::StatementError;
+use atom_normal::Context;
+use formula_resolving::number_formula;
+use formula_store::FormulaId;
+use formula_tree::{Bindings, Names};
+use free_names::is_valued;
+use linear_forms::Values;
+use qe_syntax::{Formula, Point, PointEntry, PointFault};
+use std::alloc::Global;
+
+/// Numbers the variables of the formula and of the point, in the order of the text. After an `Err` the names may have grown.
+pub(crate) fn number_command(
+    formula: &Formula,
+    entries: &[PointEntry],
+    bindings: &Bindings<FormulaId>,
+    names: &mut Names,
+) -> Result<(), StatementError>
+    ensures numbered { OnOk result (names.new ≡ fold with_name names.old (formula_variables (formula_tree formula.now) ++ entry_names entries.now)) }
+    ensures grown { Grows names.old names.new }
+    ensures memory { IfErr result (λ e. e ≡ StatementError.Memory) }
+{
+    if let Err(_failed) = number_formula(formula, bindings, names) {
+        return Err(StatementError::Memory);
+    }
+    for entry in entries {
+        if let Err(_failed) = names.number(&entry.name) {
+            return Err(StatementError::Memory);
+        }
+    }
+    Ok(())
+}
+
+/// The resolved formula and the point, or the first cause of a refusal.
+pub(crate) fn asked(
+    desk: &mut Desk,
+    formula: &Formula,
+    entries: &[PointEntry],
+) -> Result<(FormulaId, Point), StatementError>
+    requires proper { IsProperFormula (formula_tree formula.now) }
+    requires entries { AreProperEntries entries.now }
+    requires desk { IsDesk desk.old }
+    requires numbered { HasNumbers desk.old.names (formula_tree formula.now) }
+    ensures asked { IfOk result (λ a. IsAsked (state_of desk.old) (formula_tree formula.now) entries.now desk.new a.0 a.1) }
+    ensures refused { IfErr result (RefusesBoth (state_of desk.old) (formula_tree formula.now) entries.now) }
+    ensures kept { KeepsDesk desk.old desk.new }
+{
+    let id = read(desk, formula, entries)?;
+    let point = meant_point(desk.alloc, desk.context, entries)?;
+    check_valued(desk, formula, entries)?;
+    let Some(id) = id else {
+        return Err(StatementError::Overflow);
+    };
+    let Some(point) = point else {
+        return Err(StatementError::Overflow);
+    };
+    Ok((id, point))
+}
+
+/// The resolved formula, or `None` where its reading overflows.
+fn read(
+    desk: &mut Desk,
+    formula: &Formula,
+    entries: &[PointEntry],
+) -> Result<Option<FormulaId>, StatementError>
+    requires proper { IsProperFormula (formula_tree formula.now) }
+    requires ids { AreIds (IsId desk.old.store) desk.old.bindings }
+    requires numbered { HasNumbers desk.old.names (formula_tree formula.now) }
+    ensures read { IfOk result (IsReadAs (state_of desk.old) (formula_tree formula.now) entries.now desk.new) }
+    ensures refused { IfErr result (RefusesBoth (state_of desk.old) (formula_tree formula.now) entries.now) }
+    ensures kept { KeepsDesk desk.old desk.new }
+{
+    let met = some_bound(entries, &desk.bindings);
+    match resolved(desk, formula) {
+        Ok(id) => {
+            if met {
+                return Err(StatementError::FormulaAsTerm);
+            }
+            Ok(Some(id))
+        }
+        Err(error) => match stop(error, met) {
+            Some(error) => Err(error),
+            None => Ok(None),
+        },
+    }
+}
+
+/// The word for a formula that is not resolved, or `None` where its reading overflows and no entry names something bound.
+fn stop(error: StatementError, met: bool) -> Option<StatementError>
+    ensures { result ≡ stop_of error met }
+{
+    match error {
+        StatementError::Unbound | StatementError::Memory => Some(error),
+        _ if met => Some(StatementError::FormulaAsTerm),
+        StatementError::Overflow => None,
+        _ => Some(error),
+    }
+}
+
+/// Whether something is bound to the name of an entry.
+fn some_bound(entries: &[PointEntry], bindings: &Bindings<FormulaId>) -> bool
+    ensures { IsTrue result ↔ SomeOf (λ (e : Entry). IsBoundName bindings.now e.name) entries.now }
+{
+    for entry in entries {
+        if bindings.get(&entry.name).is_some() {
+            return true;
+        }
+    }
+    false
+}
+
+/// The point that the entries mean, or `None` where one of its numbers passes the limit.
+fn meant_point(
+    alloc: Global,
+    context: Context,
+    entries: &[PointEntry],
+) -> Result<Option<Point>, StatementError>
+    requires { AreProperEntries entries.now }
+    ensures point { IfOk result (IsMeantPoint (context_of context) entries.now) }
+    ensures fault { IfErr result (PointStop (context_of context) entries.now) }
+{
+    match Point::of(alloc, entries, is_whole(context)) {
+        Ok(point) => Ok(Some(point)),
+        Err(PointFault::Overflow) => Ok(None),
+        Err(PointFault::Memory) => Err(StatementError::Memory),
+        Err(_) => Err(StatementError::Point),
+    }
+}
+
+/// Whether the values of a point of the theory are whole.
+fn is_whole(context: Context) -> bool
+    ensures { result ≡ is_whole_theory (context_of context) }
+{
+    match context {
+        Context::Fields => false,
+        Context::Integers => true,
+    }
+}
+
+/// Whether each free name of the formula has an entry.
+fn check_valued(
+    desk: &Desk,
+    formula: &Formula,
+    entries: &[PointEntry],
+) -> Result<(), StatementError>
+    requires { AreIds (IsId desk.now.store) desk.now.bindings }
+    ensures valued { OnOk result (IsValued (state_of desk.now) (formula_tree formula.now) entries.now) }
+    ensures fault { IfErr result (ValuedStop (state_of desk.now) (formula_tree formula.now) entries.now) }
+{
+    match is_valued(
+        desk.alloc,
+        formula,
+        entries,
+        &desk.bindings,
+        &desk.names,
+        &desk.store,
+    ) {
+        Ok(true) => Ok(()),
+        Ok(false) => Err(StatementError::Unvalued),
+        Err(_) => Err(StatementError::Memory),
+    }
+}
+
+/// The numbers of the point for the numbered names.
+pub(crate) fn values_of(
+    alloc: Global,
+    names: &Names,
+    entries: &[PointEntry],
+    point: &Point,
+) -> Result<Values, StatementError>
+    requires distinct { IsDistinct same_name names.now }
+    requires numbered { HaveNumbers names.now entries.now }
+    requires point { IsPointOf entries.now (point_of point.now) }
+    ensures at { IfOk result (λ v. (n : ℕ) → number_at v n ≡ (at_names names.now (point_of point.now)).at n) }
+    ensures below { IfOk result (λ v. v.denominator ≡ point.now.denominator) }
+    ensures memory { IfErr result (λ e. e ≡ StatementError.Memory) }
+{
+    let mut values = Values::new(alloc, point.denominator());
+    for entry in entries {
+        let number = point.numerator(&entry.name);
+        if let Err(_failed) = values.put(names.place(&entry.name), number) {
+            return Err(StatementError::Memory);
+        }
+    }
+    Ok(values)
+}

@@ -1,0 +1,154 @@
+//! The sample of a formula at a point.
+
+ghost use Rattle.std.specs.Prelude.{◌≡◌, ◌≤◌, None, IfOk, IfErr, OnOk, OnErr, length};
+ghost use Rattle.std.specs.List.{IsDistinct};
+ghost use Rattle.formula_meaning.specs.Every.{Every};
+ghost use Rattle.formula_meaning.specs.Point.{Of};
+ghost use Rattle.atom_normal.specs.Atoms.{context_of};
+ghost use Rattle.atom_normal.specs.NormalForm.{IsNormal};
+ghost use Rattle.linear_forms.specs.Values.{point_of as numbers_of};
+ghost use Rattle.nnf_trees.specs.Nnfs.{HasModulus};
+ghost use Rattle.qe_syntax.specs.Point.{IsPointOf, point_of};
+ghost use Rattle.qe_syntax.specs.Proper.{IsProperFormula, AreProperEntries};
+ghost use Rattle.qe_syntax.specs.Statements.{Sample};
+ghost use Rattle.qe_syntax.specs.Trees.{formula_tree};
+ghost use Rattle.qe_syntax.specs.Value.{same_name};
+ghost use Rattle.formula_tree.specs.Resolving.{at_names};
+ghost use Rattle.formula_tree.specs.Trees.{tree_of};
+ghost use Rattle.formula_store.specs.Nodes.{tree, IsId};
+ghost use Rattle.sample_reference.specs.Sample.{IsTrueSample};
+ghost use Rattle.sample_reference.specs.Seen.{sample_of};
+ghost use Rattle.redlog_printer.specs.Writing.{text_limit};
+ghost use Rattle.session_commands.specs.Asked.{HaveNumbers};
+ghost use Rattle.session_commands.specs.Commands.{named};
+ghost use Rattle.session_commands.specs.Causes.{Refuses};
+ghost use Rattle.session_commands.specs.Keeping.{state_of, IsDesk};
+ghost use Rattle.session_commands.specs.Reply.{IsLine, AnswersCommand};
+ghost use Rattle.session_commands.specs.Samples.{sample_text};
+ghost use Rattle.session_commands.specs.SampleSteps.{RefusesSample, SampleStop, IsSampleWithin, IsWantedSample};
+ghost use Rattle.session_commands.specs.Steps.{use_of, HasNumbers, KeepsDesk, GrowsDesk};
+
+use crate::desk::Desk;
+use crate::forms::measured_refusal;
+use crate::line::{Line, StatementError};
+use crate::lines::printed_line;
+use crate::points::{asked, number_command, values_of};
+use answer_texts::point_text;
+use exact_numbers::Fraction;
+use formula_store::FormulaId;
+use formula_tree::Tree;
+use linear_forms::{Values, VarId};
+use plain_samples::sample_at;
+use qe_syntax::{Formula, Point, PointEntry};
+use redlog_printer::PrintError;
+use shared_elimination::unfolded_form;
+
+/// Answers with values for the names of the leading block, or with `none`. After an `Err` the names may have grown.
+pub(crate) fn answer_sample(
+    desk: &mut Desk,
+    limit: u64,
+    formula: &Formula,
+    entries: &[PointEntry],
+    printed: bool,
+) -> Result<Line, StatementError>
+    requires proper { IsProperFormula (formula_tree formula.now) }
+    requires entries { AreProperEntries entries.now }
+    requires desk { IsDesk desk.old }
+    ensures desk { OnOk result (IsDesk desk.new) }
+    ensures answer { IfOk result (AnswersCommand (named (state_of desk.old) (Sample (formula_tree formula.now) entries.now)) limit printed (Sample (formula_tree formula.now) entries.now) (state_of desk.new).names) }
+    ensures next { OnOk result (state_of desk.new ≡ named (state_of desk.old) (Sample (formula_tree formula.now) entries.now)) }
+    ensures refused { IfErr result (Refuses (named (state_of desk.old) (Sample (formula_tree formula.now) entries.now)) limit (use_of None printed) (Sample (formula_tree formula.now) entries.now)) }
+    ensures grown { OnErr result (GrowsDesk desk.old desk.new) }
+{
+    number_command(formula, entries, &desk.bindings, &mut desk.names)?;
+    let sample = sample(desk, limit, formula, entries)?;
+    line_of_sample(desk, &sample, printed)
+}
+
+/// The sample of the formula at the point, or the first cause of a refusal.
+fn sample(
+    desk: &mut Desk,
+    limit: u64,
+    formula: &Formula,
+    entries: &[PointEntry],
+) -> Result<Option<Vec<(VarId, Fraction)>>, StatementError>
+    requires proper { IsProperFormula (formula_tree formula.now) }
+    requires entries { AreProperEntries entries.now }
+    requires desk { IsDesk desk.old }
+    requires numbered { HasNumbers desk.old.names (formula_tree formula.now) }
+    requires valued { HaveNumbers desk.old.names entries.now }
+    ensures sample { IfOk result (λ o. IsWantedSample (state_of desk.old) limit (formula_tree formula.now) entries.now (sample_of o)) }
+    ensures refused { IfErr result (RefusesSample (state_of desk.old) limit (formula_tree formula.now) entries.now) }
+    ensures kept { KeepsDesk desk.old desk.new }
+{
+    let (id, point) = asked(desk, formula, entries)?;
+    resolved_sample(desk, limit, id, entries, &point)
+}
+
+/// The sample of a resolved formula at the point.
+fn resolved_sample(
+    desk: &mut Desk,
+    limit: u64,
+    id: FormulaId,
+    entries: &[PointEntry],
+    point: &Point,
+) -> Result<Option<Vec<(VarId, Fraction)>>, StatementError>
+    requires id { IsId desk.old.store id }
+    requires normal { Every (IsNormal (context_of desk.old.context)) (tree desk.old.store id) }
+    requires theory { Of (context_of desk.old.context) (point_of point.now) }
+    requires distinct { IsDistinct same_name desk.old.names }
+    requires numbered { HaveNumbers desk.old.names entries.now }
+    requires point { IsPointOf entries.now (point_of point.now) }
+    ensures sample { IfOk result (λ o. IsTrueSample (context_of desk.old.context) (tree desk.old.store id) (at_names desk.old.names (point_of point.now)) (sample_of o)) }
+    ensures fault { IfErr result (SampleStop (context_of desk.old.context) limit (tree desk.old.store id) (at_names desk.old.names (point_of point.now))) }
+    ensures kept { KeepsDesk desk.old desk.new }
+{
+    let values = values_of(desk.alloc, &desk.names, entries, point)?;
+    match unfolded_form(desk.alloc, &mut desk.store, id, limit) {
+        Ok(form) => form_sample(desk, limit, &form, &values),
+        Err(error) => Err(measured_refusal(error)),
+    }
+}
+
+/// The sample of a formula that is unfolded, at these values.
+fn form_sample(
+    desk: &Desk,
+    limit: u64,
+    form: &Tree,
+    values: &Values,
+) -> Result<Option<Vec<(VarId, Fraction)>>, StatementError>
+    requires moduli { Every HasModulus (tree_of form.now) }
+    requires normal { Every (IsNormal (context_of desk.now.context)) (tree_of form.now) }
+    requires theory { Of (context_of desk.now.context) (numbers_of values.now) }
+    ensures sample { IfOk result (λ o. IsTrueSample (context_of desk.now.context) (tree_of form.now) (numbers_of values.now) (sample_of o)) }
+    ensures fault { IfErr result (SampleStop (context_of desk.now.context) limit (tree_of form.now) (numbers_of values.now)) }
+{
+    match sample_at(desk.alloc, form, desk.context, values, limit) {
+        Ok(sample) => Ok(sample),
+        Err(error) => Err(measured_refusal(error)),
+    }
+}
+
+/// The line of a sample, if it is printed.
+fn line_of_sample(
+    desk: &Desk,
+    sample: &Option<Vec<(VarId, Fraction)>>,
+    printed: bool,
+) -> Result<Line, StatementError>
+    requires within { IsSampleWithin (length desk.now.names) (sample_of sample.now) }
+    requires short { length (sample_text desk.now.names (sample_of sample.now)) ≤ text_limit }
+    ensures line { IfOk result (IsLine printed (sample_text desk.now.names (sample_of sample.now))) }
+    ensures memory { IfErr result (λ e. e ≡ StatementError.Memory) }
+{
+    let Some(values) = sample else {
+        return printed_line(desk.alloc, b"none", printed);
+    };
+    if !printed {
+        return Ok(Line::Nothing);
+    }
+    match point_text(desk.alloc, values, &desk.names) {
+        Ok(text) => Ok(Line::Printed(text)),
+        Err(PrintError::Text) => unreachable!(),
+        Err(PrintError::Memory) => Err(StatementError::Memory),
+    }
+}
