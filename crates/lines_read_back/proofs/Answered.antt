@@ -1,18 +1,17 @@
 -- The text of a formula of the session is answered with the same text.
-use Rattle.std.proofs.Common.{◌≡◌, ◌≢◌, ◌⊎◌, ⊎_elim, ℕ, ◌≤◌, ◌<◌, List, [], ◌++◌, true, length, codes, refl, sym, ap, ap₂, ◌∙◌, subst, append-nil, length-append, arith}
+use Rattle.std.proofs.Common.{◌≡◌, ◌≢◌, ◌⊎◌, ⊎_elim, ℕ, ◌≤◌, List, [], ◌++◌, true, length, codes, refl, sym, ap, ap₂, ◌∙◌, subst, append-nil, length-append, arith}
 use Rattle.std.specs.Prelude.{Result, Ok, Err, None}
 use Rattle.std.specs.List.{fold}
 use Rattle.std.specs.declared.alloc.Global.{Global}
 use Rattle.std.specs.declared.vec.Vec.{Vec}
 use Rattle.formula_meaning.specs.Tree.{Tree}
 use Rattle.qe_syntax.specs.Trees.{FormulaTree}
-use Rattle.qe_syntax.specs.Statements.{CommandTree, Echo, Say, StatementTree}
+use Rattle.qe_syntax.specs.Statements.{Echo, Say, StatementTree}
 use Rattle.formula_tree.specs.Names.{with_name}
 use Rattle.formula_tree.specs.Resolving.{formula_variables, resolve}
 use Rattle.formula_tree.specs.Causes.{IsAccepted as IsResolvable}
-use Rattle.redlog_reader.specs.Statement.{Spells}
 use Rattle.redlog_printer.specs.Text.{tree_text}
-use Rattle.printed_formulas.specs.Round.{IsPrintable, IsResolved, IsReadable, line_text, printed_echo, IsReadBack}
+use Rattle.printed_formulas.specs.Round.{IsReadable, line_text, printed_echo, IsReadBack}
 use Rattle.printed_formulas.proofs.Echo.{text_is_read_back}
 use Rattle.session_commands.specs.declared.line.Line.{Line}
 use Rattle.session_commands.specs.declared.line.Line.TheVariants as line
@@ -21,7 +20,7 @@ use Rattle.session_commands.specs.declared.line.StatementError.TheVariants as er
 use Rattle.session_commands.specs.State.{State, with_names}
 use Rattle.session_commands.specs.Commands.{named, resolved}
 use Rattle.session_commands.specs.Causes.{Use, IsCause, HasNoCauseBelow, MayRefuse, Refuses}
-use Rattle.session_commands.specs.Reply.{IsLine, AnswersCommand, AnswersSaid, Answers, RefusesAction, IsAnswer, Reply}
+use Rattle.session_commands.specs.Reply.{IsLine, AnswersCommand, AnswersSaid, Answers, Reply}
 use Rattle.session_commands.proofs.CauseLemmas.{readable_below}
 use Rattle.redlog_run.proofs.Unrefused.{never}
 use Rattle.lines_read_back.specs.ReadBack.{IsBare, IsOwnFormula, IsSameLine, TextIsAnswered}

@@ -1,17 +1,8 @@
 -- The names of a state are ones that a script can write, after each statement.
-use Rattle.std.proofs.Common.{◌≡◌, ℕ, List, [], ◌∷◌, ◌++◌, Bool, true, false, map, sym, ap, ◌∙◌, subst, refl, if◌then◌else◌}
-use Rattle.std.specs.Prelude.{Ok}
-use Rattle.std.specs.List.{AllByRecursion, fold, list_any}
-use Rattle.formula_meaning.specs.Formula.{Yes, No, One, Not, And, Or, Impl, Repl, Equiv, Ex, All}
-use Rattle.formula_meaning.specs.Formula as plain
-use Rattle.qe_syntax.specs.declared.statement.PointEntry.{PointEntry}
-use Rattle.qe_syntax.specs.Names.{IsVariable}
-use Rattle.qe_syntax.specs.Trees.{TermTree, TermTrees, Number, Named, Sum, Product, Quotient, Power, Negative, none, also, WrittenAtom, Compare, Cong, Ncong, Bound, FormulaTree, FormulaTrees}
+use Rattle.std.proofs.Common.{ℕ, List, ◌++◌, Bool, sym, subst}
 use Rattle.qe_syntax.specs.Statements.{CommandTree, Echo, Nnf, Pnf, Dnf, Cnf, Simpl, Qe, Qea, Holds, Sample, ActionTree, Empty, Ignored, Finish, Choose, Say, Assign, StatementTree}
-use Rattle.qe_syntax.specs.Proper.{IsProperTerm, AreProperTerms, IsProperAtom, IsProperFormula, AreProperFormulas, AreProperEntries, IsProperCommand, IsProper}
-use Rattle.qe_syntax.specs.Value.{same_name}
-use Rattle.formula_tree.specs.Names.{with_name}
-use Rattle.formula_tree.specs.Resolving.{variables_of, variables_in, atom_variables, formula_variables, all_variables}
+use Rattle.qe_syntax.specs.Proper.{IsProperFormula, AreProperFormulas, AreProperEntries, IsProperCommand, IsProper}
+use Rattle.formula_tree.specs.Resolving.{formula_variables, all_variables}
 use Rattle.formula_tree.proofs.PlaceLaws.{after_distinct}
 use Rattle.redlog_reader.specs.Statement.{Spells}
 use Rattle.redlog_reader.proofs.Lexed.{lexed_proper}

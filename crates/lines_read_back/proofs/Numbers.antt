@@ -1,12 +1,11 @@
 -- The numbers of a resolved formula are within the limit, and so are those of its negation normal form.
-use Rattle.std.proofs.Common.{◌≡◌, ◌<◌, ◌≤◌, ◌^◌, ◌⊎◌, inl, inr, ⊎_elim, ℕ, zero, suc, List, [], ◌∷◌, Bool, true, false, not, Option, Some, None, nat_eq, nat_lt, ap, sym, ◌∙◌, subst, refl, arith, if◌then◌else◌}
+use Rattle.std.proofs.Common.{◌≡◌, ◌<◌, ◌≤◌, ◌^◌, inl, inr, ℕ, zero, suc, List, [], ◌∷◌, Bool, true, false, not, Option, Some, None, nat_eq, nat_lt, sym, subst, refl, arith, if◌then◌else◌}
 use Rattle.std.proofs.Math.IntN.{ℤ, pos, negsuc, neg_ℤ, ◌*ℤ◌, ◌-ℤ◌}
-use Rattle.std.specs.Prelude.{◌<ℤ◌, ◌≤ℤ◌, unsigned_abs, int_div, unwrap_or, option_and_then, Result, Ok, Err}
-use Rattle.std.specs.Ordering.{int_eq, int_cmp, is_gt}
-use Rattle.std.specs.List.{AllByRecursion}
+use Rattle.std.specs.Prelude.{unsigned_abs, int_div, unwrap_or, option_and_then, Result, Ok, Err}
+use Rattle.std.specs.Ordering.{int_eq}
 use Rattle.std.proofs.lemmas.Bool.{ltb-true}
 use Rattle.std.proofs.lemmas.Int.{ints}
-use Rattle.exact_numbers.specs.Limit.{InLimit, PastLimit, checked}
+use Rattle.exact_numbers.specs.Limit.{InLimit, checked}
 use Rattle.exact_numbers.specs.Divides.{lcm_of, gcd_of, content_of, floor_of, residue_of}
 use Rattle.exact_numbers.specs.Frac.{Frac, whole_frac, inverted, lowest, product_step, power_steps}
 use Rattle.exact_numbers.proofs.Floor.{residue_not_negative, residue_below}
@@ -16,17 +15,16 @@ use Rattle.formula_meaning.specs.Sorted.{IsSorted, gathered}
 use Rattle.formula_meaning.specs.Formula.{Yes, No, One, Not, And, Or, Impl, Repl, Equiv, Ex, All}
 use Rattle.formula_meaning.specs.Formula as plain
 use Rattle.formula_meaning.specs.Atom as atom
-use Rattle.formula_meaning.specs.Atom.{Atom, Relation, Equals, Differs, Below, AtMost, Above, AtLeast, form_of}
+use Rattle.formula_meaning.specs.Atom.{Atom, Relation, Equals, Differs, Below, AtMost, Above, AtLeast}
 use Rattle.formula_meaning.specs.Every.{Every, EveryOf}
 use Rattle.formula_meaning.specs.NegationNormal.{normal_form}
 use Rattle.formula_meaning.specs.Tree.{Tree}
 use Rattle.formula_meaning.proofs.EachAtom.{every_map}
-use Rattle.formula_meaning.proofs.Gathered.{sorted_stays}
 use Rattle.formula_meaning.proofs.NormalShape.{normal_form_every}
 use Rattle.formula_meaning.proofs.ReplacedShape.{every_replaced}
 use Rattle.linear_forms.specs.Reduction.{quotients, quotient, residue_form, AllReduced}
 use Rattle.linear_forms.specs.Terms.{AllInLimit}
-use Rattle.atom_normal.specs.NormalForm.{constant_tree, holds, facing, turned, compared_in_fields, compared_over_integers, bound, rounded, congruence, smaller, coprime_congruence, reduced_congruence, congruent, normal_atom, negated_normal, ConstantPasses, IsNormal}
+use Rattle.atom_normal.specs.NormalForm.{constant_tree, facing, turned, compared_in_fields, compared_over_integers, bound, rounded, congruence, smaller, coprime_congruence, reduced_congruence, congruent, normal_atom, negated_normal, ConstantPasses, IsNormal}
 use Rattle.atom_normal.proofs.NormalLaws.{normal_normal}
 use Rattle.atom_normal.proofs.Sorted.{normal_in_fields, normal_over_integers}
 use Rattle.qe_syntax.specs.declared.tree.Literal.{Literal}
@@ -39,7 +37,7 @@ use Rattle.qe_syntax.specs.Value.{relation_of}
 use Rattle.formula_tree.specs.Bindings.{bound_to}
 use Rattle.formula_tree.specs.Causes.{IsMissing, IsNoDivisor, IsAccepted as IsResolvable}
 use Rattle.formula_tree.specs.FractionRule.{by_rule, added, multiplied}
-use Rattle.formula_tree.specs.RationalForms.{RationalForm, Missing, Overflow, Nonlinear, Division, numbers_of, formed_number, formed_form, lowest_form, is_constant, constant_form, constant_of, sum_of_forms, multiple_of_form, product_of_forms, quotient_of_forms, small_power, as_constant, power_of_form, opposite_form, variable_form, literal_form, forms, formed, formed_difference}
+use Rattle.formula_tree.specs.RationalForms.{RationalForm, Missing, Overflow, Nonlinear, Division, numbers_of, formed_number, formed_form, lowest_form, is_constant, constant_form, constant_of, sum_of_forms, multiple_of_form, product_of_forms, quotient_of_forms, small_power, as_constant, power_of_form, opposite_form, literal_form, forms, formed, formed_difference}
 use Rattle.formula_tree.specs.Resolving as resolving
 use Rattle.formula_tree.specs.Resolving.{BoundTrees, place, names_after, resolved_atom, compared, resolve}
 use Rattle.formula_tree.proofs.AtomTruth.{difference_stands}

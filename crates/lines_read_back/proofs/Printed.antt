@@ -1,8 +1,6 @@
 -- What a formula command prints in a state in which nothing is bound is the text of a formula of the session.
-use Rattle.std.proofs.Common.{◌≡◌, ◌≢◌, ◌⊎◌, inl, inr, ⊎_elim, ℕ, ◌<◌, ◌≤◌, List, [], ◌++◌, true, length, codes, sym, ap, ◌∙◌, subst, refl, arith}
-use Rattle.std.specs.Prelude.{Ok, None}
-use Rattle.std.specs.declared.alloc.Global.{Global}
-use Rattle.std.specs.declared.vec.Vec.{Vec}
+use Rattle.std.proofs.Common.{◌≡◌, inl, ℕ, ◌<◌, ◌≤◌, List, [], ◌++◌, true, length, codes, sym, ap, ◌∙◌, subst, arith}
+use Rattle.std.specs.Prelude.{None}
 use Rattle.formula_meaning.specs.Context.{Context}
 use Rattle.formula_meaning.specs.Every.{Every}
 use Rattle.formula_meaning.specs.Fold.{Junction, Conjunction, Disjunction}
@@ -12,11 +10,10 @@ use Rattle.formula_meaning.specs.Tree.{Tree}
 use Rattle.qe_syntax.specs.Trees.{FormulaTree, FormulaTrees}
 use Rattle.qe_syntax.specs.Statements.{CommandTree, Echo, Nnf, Pnf, Dnf, Cnf, Simpl, Qe, Qea, Holds, Sample, Say, StatementTree}
 use Rattle.qe_syntax.specs.Proper.{IsProperCommand, IsProperFormula}
-use Rattle.formula_tree.specs.Bindings.{bound_to}
-use Rattle.formula_tree.specs.Resolving.{BoundTrees, place, names_after, all_variables, resolve}
+use Rattle.formula_tree.specs.Resolving.{BoundTrees, place, names_after, all_variables}
 use Rattle.formula_tree.specs.Causes.{most_height, IsAccepted as IsResolvable, IsUnbound, NamesFormulaAsTerm, IsNonlinear, Divides, CongruenceInFields, IsBadModulus, IsTooDeep, OverflowsInReading}
 use Rattle.formula_tree.proofs.ResolvedHeight.{resolving_keeps_height}
-use Rattle.redlog_reader.specs.Statement.{Spells, IsDeep}
+use Rattle.redlog_reader.specs.Statement.{IsDeep}
 use Rattle.redlog_reader.specs.declared.level.TheConstants.{LEVEL_LIMIT}
 use Rattle.redlog_reader.specs.declared.read.TheConstants.{BYTE_LIMIT}
 use Rattle.redlog_reader.proofs.Whole.{spells_once}
@@ -24,7 +21,6 @@ use Rattle.redlog_printer.specs.Text.{tree_text}
 use Rattle.printed_formulas.specs.Levels.{tree_level}
 use Rattle.printed_formulas.specs.Round.{AtomFits, IsPrintable, line_text}
 use Rattle.printed_formulas.proofs.Echo.{deep_text_is_nesting}
-use Rattle.session_commands.specs.declared.line.Line.{Line}
 use Rattle.session_commands.specs.declared.line.Line.TheVariants as line
 use Rattle.session_commands.specs.declared.line.StatementError.TheVariants as error
 use Rattle.session_commands.specs.State.{State}
@@ -32,14 +28,14 @@ use Rattle.session_commands.specs.Parts.{given_of}
 use Rattle.session_commands.specs.Commands.{formula_of, entries_of, entry_names, named, resolved, negated_of, IsSimplification, IsCleanAnswer, IsCondition, MayGive, HasAnswerNames, GivesFormula}
 use Rattle.session_commands.specs.Causes.{Use, InSomePart, IsAccepted}
 use Rattle.session_commands.specs.Keeping.{IsSessionFormula}
-use Rattle.session_commands.specs.Reply.{Tells, AnswersCommand, Answers, Reply}
+use Rattle.session_commands.specs.Reply.{Tells, Answers}
 use Rattle.clean_forms.proofs.FormShapes.{form_free}
 use Rattle.session_commands.proofs.PartLemmas.{some_first}
 use Rattle.session_commands.proofs.EliminatedLemmas.{unquantified_bound, within_of_names, free_below, none_from, all_below}
 use Rattle.session_commands.proofs.NameLemmas.{numbers_stay}
 use Rattle.session_commands.proofs.PrenexLemmas.{prenex_formula}
 use Rattle.session_commands.proofs.SoundLemmas.{AreSessionFormulas, resolved_formula, negated_formula}
-use Rattle.lines_read_back.specs.ReadBack.{IsBare, IsOwnFormula, IsEcho, KeepsNumbers, IsPrinted, PrintedIsFormula, IsAnsweredBy, EchoIsAnswered}
+use Rattle.lines_read_back.specs.ReadBack.{IsBare, IsOwnFormula, IsPrinted, PrintedIsFormula, IsAnsweredBy, EchoIsAnswered}
 use Rattle.lines_read_back.proofs.Answered.{text_is_answered}
 use Rattle.lines_read_back.proofs.Bare.{proper_formula, named_variables, answer_variables, spelled_proper}
 use Rattle.lines_read_back.proofs.Numbers.{resolved_fits, negated_fits}

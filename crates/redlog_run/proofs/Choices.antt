@@ -18,7 +18,7 @@ use Rattle.session_commands.specs.State.{State, theory_of, chosen, first_state}
 use Rattle.session_commands.specs.Reply.{IsLine, Answers, RefusesAction}
 use Rattle.redlog_run.specs.Lines.{newline, lines_of}
 use Rattle.redlog_run.specs.Run as run
-use Rattle.redlog_run.specs.Run.{AnswersPiece, finished, answered, refused, Run, RunOf, piece_bytes}
+use Rattle.redlog_run.specs.Run.{AnswersPiece, finished, answered, refused, Run, piece_bytes}
 use Rattle.redlog_run.proofs.Unrefused.{never}
 use Rattle.redlog_run.specs.WithoutFormulas as script
 use Rattle.redlog_run.specs.WithoutFormulas.{SpellsFrom, IsWithoutFormula, choice_line, choice_lines, IsAnsweredOnlyWith, EndingIsAnswered, ChoicesAreAnswered, NoneIsRefused}

@@ -27,22 +27,6 @@ meets_usage words found s h other = (λ e. absurd (other e), λ none. absurd (no
 pub usage_met : (words : List (String Global)) → ¬ ((options : Options) × Spells words options) → MeetsUsage words status.Usage
 usage_met words none = (λ e. none, λ n. refl)
 
--- want of memory before anything is read or written
-module _ (options : Options) (left wrote : Option (List ℕ)) (writes : ℕ) where
-  pub lacking : OutcomeUnder options left left wrote wrote writes writes status.Memory
-  lacking = go options.generate
-    where
-      go : (generate : Option ℕ) → outcome_of (node_limit options) generate left left wrote wrote writes writes status.Memory
-      go None = refl
-      go (Some n) = (refl, (refl, refl))
-
-  pub completes_lacking : CompletesUnder options left status.Memory
-  completes_lacking = go options.generate
-    where
-      go : (generate : Option ℕ) → completes_of (node_limit options) generate left status.Memory
-      go None = λ script e l none. inr refl
-      go (Some n) = λ none. inr refl
-
 -- a code that is the number of a status of which a fact holds
 pub ends_with : {A E : Type 0} (r : Result A E) (P : A → Status → Type 0) (code : ExitCode) (s : Status) → exit_status code ≡ number_of s → IfOk r (λ x. P x s) → IfOk r (λ x. EndsWith code (P x))
 ends_with (Ok x) P code s e h = (s, e, h)

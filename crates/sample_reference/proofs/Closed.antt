@@ -1,23 +1,21 @@
 -- The sample of a formula without free names is true.
-use Rattle.std.proofs.Common.{◌≡◌, ℕ, ◌<◌, List, [], ◌∷◌, Option, Some, None, inl, inr, ⊎_elim, refl, sym, ◌∙◌, arith, nat_eq}
-use Rattle.std.proofs.Math.IntN.{ℤ, pos}
-use Rattle.formula_meaning.specs.Context.{Context, Fields, Integers}
+use Rattle.std.proofs.Common.{◌≡◌, ℕ, List, [], ◌∷◌, Option, Some, None, inl, inr, ⊎_elim, refl, ◌∙◌, nat_eq}
+use Rattle.formula_meaning.specs.Context.{Context}
 use Rattle.formula_meaning.specs.Point.{Point, move}
-use Rattle.formula_meaning.specs.Formula.{Yes, No, One, Not, And, Or, Impl, Repl, Equiv, Ex, All, none, also}
+use Rattle.formula_meaning.specs.Formula.{Yes, No, One, Not, And, Or, Impl, Repl, Equiv, Ex, All, also}
 use Rattle.formula_meaning.specs.Truth.{SomeTrue}
 use Rattle.formula_meaning.specs.Every.{Every, FreeInSome}
 use Rattle.formula_meaning.specs.Some.{EachOf}
 use Rattle.formula_meaning.specs.Sizes.{nodes}
-use Rattle.formula_meaning.specs.Shape.{IsPlain}
-use Rattle.formula_meaning.specs.Atom.{Atom, Compare, Congruent, Mentions, Says}
+use Rattle.formula_meaning.specs.Atom.{Mentions, Says}
 use Rattle.formula_meaning.specs.Tree.{Tree, Trees, TrueAt, IsFree}
 use Rattle.elimination_theory.specs.Answers.{Step}
-use Rattle.atom_normal.specs.NormalForm.{IsNormal, first}
+use Rattle.atom_normal.specs.NormalForm.{IsNormal}
 use Rattle.elimination_reference.specs.Measured.{Outcome, stopped, done, then_of, Gives, pay}
 use Rattle.elimination_reference.specs.Reference.{Branch, branch_trees, normal_tree, leading_branches}
 use Rattle.elimination_reference.specs.Cases.{case_sign, case_formula, case_matrix, case_names}
 use Rattle.elimination_reference.specs.Sample.{if_true, first_true}
-use Rattle.elimination_reference.specs.Theorems.{IsProper, IsBranching, IsTidy}
+use Rattle.elimination_reference.specs.Theorems.{IsTidy}
 use Rattle.elimination_reference.proofs.Always.{gives_both, always_then, always_pay}
 use Rattle.elimination_reference.proofs.Branches.{IsBranch, AreBranches}
 use Rattle.elimination_reference.proofs.CasesExact.{free}

@@ -2,37 +2,25 @@
 use Rattle.std.proofs.Common.{◌≡◌, inl, inr, ⊎_elim, ℕ, ◌<◌, ◌≤◌, List, [], ◌∷◌, Bool, true, false, IsTrue, ◌↔◌, MatchOption, Option, Some, None, sym, ap, ◌∙◌, subst, refl, arith, lit<, lit≤}
 use Rattle.std.proofs.lemmas.Bool.{false≢true}
 use Rattle.std.specs.Prelude.{option_map, is_some}
-use Rattle.std.specs.List.{IsDistinct}
-use Rattle.formula_meaning.specs.Context.{Context}
-use Rattle.formula_meaning.specs.Point.{Point, Of}
 use Rattle.formula_meaning.specs.Some.{SomeOf}
-use Rattle.formula_meaning.specs.Tree.{Tree, TrueAt}
+use Rattle.formula_meaning.specs.Tree.{Tree}
 use Rattle.qe_syntax.specs.declared.statement.PointEntry.{PointEntry}
-use Rattle.qe_syntax.specs.Point.{PassesLimit, IsPointOf}
+use Rattle.qe_syntax.specs.Point.{PassesLimit}
 use Rattle.qe_syntax.specs.Statements.{Holds, Sample}
 use Rattle.qe_syntax.specs.Trees.{FormulaTree}
-use Rattle.qe_syntax.specs.Value.{NamedPoint, same_name}
-use Rattle.qe_syntax.specs.Value as written
 use Rattle.formula_tree.specs.Bindings.{bound_to}
 use Rattle.formula_tree.specs.Causes.{IsBound, OverflowsInReading}
-use Rattle.formula_tree.specs.Resolving.{place, at_names, resolve, bound_truth}
-use Rattle.formula_tree.proofs.ResolvedTruth.{resolving_keeps_truth}
+use Rattle.formula_tree.specs.Resolving.{place}
 use Rattle.formula_resolving.specs.declared.error.StaticError.{StaticError}
 use Rattle.formula_resolving.specs.declared.error.StaticError.TheVariants as static
 use Rattle.formula_resolving.specs.Refusals as reading
 use Rattle.formula_resolving.specs.Refusals.{trees_bound}
-use Rattle.formula_store.specs.Truths.{Tells}
-use Rattle.elimination_reference.specs.Sample.{reference_at}
-use Rattle.plain_engine.specs.declared.measured.Measured.{Measured}
-use Rattle.plain_engine.specs.declared.measured.Measured.TheVariants as measured
-use Rattle.plain_engine.specs.Told.{StopsWith}
 use Rattle.session_commands.specs.declared.line.StatementError.{StatementError}
 use Rattle.session_commands.specs.declared.line.StatementError.TheVariants as error
 use Rattle.session_commands.specs.State.{State}
-use Rattle.session_commands.specs.Commands.{resolved}
-use Rattle.session_commands.specs.Points.{MeanNoPoint, IsQuantified, IsTruth}
+use Rattle.session_commands.specs.Points.{MeanNoPoint}
 use Rattle.session_commands.specs.Causes.{IsCause, rank, Refuses, HasNoCauseBelow}
-use Rattle.session_commands.specs.Steps.{static_refusal, measured_refusal, use_of, HasNumbers, IsReadable, IsUnread}
+use Rattle.session_commands.specs.Steps.{static_refusal, use_of, HasNumbers, IsReadable, IsUnread}
 use Rattle.session_commands.specs.Asked.{IsBoundName, RefusesBoth, HasNoneBelow, stop_of, IsClear, IsValued, PointStop, ValuedStop}
 use Rattle.session_commands.proofs.BindingLemmas.{trees_find}
 use Rattle.session_commands.proofs.CauseLemmas.{earlier, cause_of_reading, none_below, below_17, below_18, below_19}

@@ -1,6 +1,6 @@
 -- From step to step of what is asked at a point.
-use Rattle.std.proofs.Common.{◌≡◌, inl, inr, ℕ, List, [], ◌∷◌, ◌++◌, Bool, Option, Some, None, MatchOption, sym, ap, ◌∙◌, subst, refl}
-use Rattle.std.specs.Prelude.{Result, Ok, Err, IfOk, IfErr, OnOk}
+use Rattle.std.proofs.Common.{◌≡◌, inl, inr, ℕ, List, [], ◌∷◌, ◌++◌, Option, Some, None, MatchOption, sym, ap, ◌∙◌, subst, refl}
+use Rattle.std.specs.Prelude.{Result, OnOk}
 use Rattle.std.specs.List.{IsDistinct, AllByRecursion, fold}
 use Rattle.formula_meaning.specs.Every.{Every}
 use Rattle.formula_meaning.specs.Point.{Of}

@@ -1,5 +1,5 @@
 -- From step to step of a sample.
-use Rattle.std.proofs.Common.{◌≡◌, inr, ℕ, List, [], ◌++◌, ◌<◌, ◌≤◌, Bool, Option, Some, None, sym, ap, ◌∙◌, subst, refl, length, nat_eq, arith}
+use Rattle.std.proofs.Common.{◌≡◌, ℕ, List, [], ◌++◌, ◌<◌, ◌≤◌, Bool, Option, Some, None, sym, ap, ◌∙◌, subst, refl, length, nat_eq, arith}
 use Rattle.std.specs.Prelude.{Result, IfOk, IfErr}
 use Rattle.std.specs.List.{fold}
 use Rattle.std.specs.declared.vec.Vec.{Vec}

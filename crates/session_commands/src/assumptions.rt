@@ -13,7 +13,7 @@ ghost use Rattle.qe_syntax.specs.Proper.{IsProperFormula};
 ghost use Rattle.qe_syntax.specs.Trees.{formula_tree, formulas_of};
 ghost use Rattle.session_commands.specs.Assumptions.{atoms_alone, assumed};
 ghost use Rattle.session_commands.specs.Keeping.{state_of};
-ghost use Rattle.session_commands.specs.Steps.{KeepsDesk, HasNumbers, IsReadable, IsFirstWith, ArePartsNumbered, ArePartsReadable, ArePartsUnread, FirstAmong, first_of, AppliesToSome};
+ghost use Rattle.session_commands.specs.Steps.{KeepsDesk, HasNumbers, IsFirstWith, ArePartsNumbered, ArePartsReadable, ArePartsUnread, FirstAmong, first_of, AppliesToSome};
 
 use crate::desk::Desk;
 use crate::formulas::{resolved_part, static_refusal};

@@ -22,7 +22,7 @@ ghost use Rattle.answer_texts.specs.Answers.{cases_text as text_of_cases};
 ghost use Rattle.answer_texts.specs.Within.{AreCasesWithin};
 ghost use Rattle.qe_syntax.specs.Proper.{IsProperFormula, AreProperFormulas};
 ghost use Rattle.qe_syntax.specs.Statements.{Qea};
-ghost use Rattle.qe_syntax.specs.Trees.{formula_tree, formula_trees, formulas_of};
+ghost use Rattle.qe_syntax.specs.Trees.{formula_tree, formulas_of};
 ghost use Rattle.session_commands.specs.Assumptions.{assumed};
 ghost use Rattle.session_commands.specs.Commands.{named};
 ghost use Rattle.session_commands.specs.Causes.{Refuses};

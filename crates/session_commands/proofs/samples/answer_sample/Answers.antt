@@ -10,7 +10,7 @@ use Rattle.session_commands.specs.Commands.{named}
 use Rattle.session_commands.specs.Keeping.{state_of}
 use Rattle.session_commands.specs.Steps.{use_of}
 use Rattle.session_commands.proofs.AskedSteps.{desk_named, numbers_there, entries_there, state_later, desk_later}
-use Rattle.session_commands.proofs.SampleSteps.{sample_refused, within_there, short_there, sample_answered}
+use Rattle.session_commands.proofs.SampleSteps.{sample_refused, sample_answered}
 use Rattle.session_commands.proofs.samples.answer_sample.Goals as goal
 
 pub sample-requires-clause-desk : goal.sample-requires-clause-desk

@@ -18,7 +18,7 @@ use Rattle.formula_store.specs.Nodes.{tree}
 use Rattle.session_commands.specs.SampleSteps.{SampleStop}
 use Rattle.session_commands.proofs.CaseSteps.{err_map}
 use Rattle.session_commands.proofs.PointLemmas.{same_point}
-use Rattle.session_commands.proofs.SampleSteps.{true_along, stop_along, sample_fault, paid_stops}
+use Rattle.session_commands.proofs.SampleSteps.{true_along, stop_along}
 use Rattle.session_commands.proofs.samples.resolved_sample.Goals as goal
 
 pub form_sample-requires-clause-normal : goal.form_sample-requires-clause-normal
