@@ -1,0 +1,66 @@
+//! The calls, with what they give as text.
+
+use crate::reading::{LIMIT, form_of, formula_of};
+use crate::writing::{cases_text, sample_text, tree_text};
+use atom_normal::Context;
+use formula_resolving::{PlainMaker, linearise};
+use formula_store::{Store, Unfold};
+use formula_tree::{Bindings, Names};
+use linear_forms::Values;
+use plain_cases::cases_plain;
+use plain_samples::sample_plain;
+use plain_truths::put_in;
+use redlog_reader::read_statement;
+use std::alloc::Global;
+
+/// The tree that a maker of plain trees keeps of the statement's formula.
+pub(crate) fn plain_tree(alloc: Global, context: Context, statement: &str) -> Option<String> {
+    let statement = read_statement(alloc, statement.as_bytes()).ok()?;
+    let formula = formula_of(&statement)?;
+    let mut names = Names::new(alloc);
+    let mut maker = PlainMaker::new(alloc);
+    let bound = Bindings::new(alloc);
+    let id = linearise(alloc, formula, &bound, context, &mut names, &mut maker).ok()?;
+    tree_text(alloc, maker.plain(id)).ok()
+}
+
+/// The tree of the statement's formula over the ordered fields, unfolded under a limit of nodes.
+pub(crate) fn unfolding(alloc: Global, statement: &str, limit: u64) -> Option<String> {
+    let statement = read_statement(alloc, statement.as_bytes()).ok()?;
+    let formula = formula_of(&statement)?;
+    let mut names = Names::new(alloc);
+    let mut store = Store::new(alloc);
+    let bound = Bindings::new(alloc);
+    let id = linearise(
+        alloc,
+        formula,
+        &bound,
+        Context::Fields,
+        &mut names,
+        &mut store,
+    )
+    .ok()?;
+    match store.unfold(id, limit) {
+        Ok(tree) => tree_text(alloc, &tree).ok(),
+        Err(Unfold::Large) => "large".to_string(alloc).ok(),
+        Err(Unfold::Memory) => None,
+    }
+}
+
+/// The cases of the statement's formula.
+pub(crate) fn cases(alloc: Global, context: Context, statement: &str) -> Option<String> {
+    let statement = read_statement(alloc, statement.as_bytes()).ok()?;
+    let form = form_of(alloc, context, &statement)?;
+    let cases = cases_plain(alloc, &form, context, LIMIT).ok()?;
+    cases_text(alloc, &cases).ok()
+}
+
+/// The sample of the statement's formula, with 0 for its free names.
+pub(crate) fn sample(alloc: Global, context: Context, statement: &str) -> Option<String> {
+    let statement = read_statement(alloc, statement.as_bytes()).ok()?;
+    let form = form_of(alloc, context, &statement)?;
+    let origin = Values::new(alloc, 1);
+    let closed = put_in(alloc, &form, context, &origin).ok()?;
+    let values = sample_plain(alloc, &closed, context, LIMIT).ok()?;
+    sample_text(alloc, &values).ok()
+}

@@ -1,0 +1,39 @@
+//! Makes the calls that no statement makes, on formulas worked by hand: a maker of plain trees, a formula unfolded under a
+//! limit, the cases of a tree, and the sample of one without free names. The gate runs it and compares what it prints.
+#![tactic(auto)]
+
+mod calls;
+mod reading;
+mod writing;
+
+use crate::calls::{cases, plain_tree, sample, unfolding};
+use atom_normal::Context;
+use std::io;
+
+fn main(rt: HostRuntime) -> io::Result<()> {
+    let alloc = rt.alloc();
+    let pair = plain_tree(alloc, Context::Fields, "x>0 and 6<=4*x;");
+    let whole = unfolding(alloc, "p>0 or (p>0 and q>0);", 5);
+    let large = unfolding(alloc, "p>0 or (p>0 and q>0);", 4);
+    let between = cases(alloc, Context::Fields, "ex(x,x>a and x<b);");
+    let half = cases(alloc, Context::Integers, "ex(x,2*x=a);");
+    let fifteenth = sample(alloc, Context::Fields, "ex({x,y},3*x=1 and 5*y=x);");
+    let below = sample(alloc, Context::Integers, "ex(x,x<0 and cong(x,1,3));");
+    let none = sample(alloc, Context::Integers, "ex(x,0<x and x<1);");
+    tell(&rt, "a plain tree", pair)?;
+    tell(&rt, "a tree of 5 nodes, unfolded under the limit 5", whole)?;
+    tell(&rt, "the same under the limit 4", large)?;
+    tell(&rt, "cases of a number between two", between)?;
+    tell(&rt, "cases of a half", half)?;
+    tell(&rt, "sample of a third and a fifteenth", fifteenth)?;
+    tell(&rt, "sample of a residue below 0", below)?;
+    tell(&rt, "sample between 0 and 1", none)
+}
+
+/// What a call gives, or that it gives nothing, as where memory ran out.
+fn tell(rt: &HostRuntime, title: &str, answer: Option<String>) -> io::Result<()> {
+    match answer {
+        Some(answer) => println!(rt; "{title}: {answer}"),
+        None => println!(rt; "{title}: nothing"),
+    }
+}
