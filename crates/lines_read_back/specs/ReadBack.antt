@@ -35,10 +35,8 @@ pub record IsOwnFormula (s : State) (t : Tree) : Type 0 where
 -- the line with this text is printed, and the state stays; or memory ran out
 abbrev pub IsSameLine : State → List ℕ → Result Line StatementError → State → Type 0
 IsSameLine s text (Ok (line.Printed bytes)) next = (bytes.items ≡ text) × (next ≡ s)
-IsSameLine s text (Ok line.Nothing) next = ⊥
-IsSameLine s text (Ok line.Finished) next = ⊥
 IsSameLine s text (Err error.Memory) next = Unit {0}
-IsSameLine s text (Err e) next = ⊥
+IsSameLine s text _ next = ⊥
 
 -- in this state the piece is answered with the line of this text, and with nothing else but want of memory
 pub record IsAnsweredBy (s : State) (limit : ℕ) (piece text : List ℕ) : Type 0 where
@@ -59,28 +57,13 @@ NamesStayWritable = (s : State) (limit : ℕ) (piece : List ℕ) (answer : Line)
 -- the command asks for the formula as it is
 abbrev pub IsEcho : CommandTree → Type 0
 IsEcho (Echo f) = Unit {0}
-IsEcho (Nnf f) = ⊥
-IsEcho (Pnf f) = ⊥
-IsEcho (Dnf f) = ⊥
-IsEcho (Cnf f) = ⊥
-IsEcho (Simpl f given) = ⊥
-IsEcho (Qe f given) = ⊥
-IsEcho (Qea f given) = ⊥
-IsEcho (Holds f es) = ⊥
-IsEcho (Sample f es) = ⊥
+IsEcho _ = ⊥
 
 -- the numbers of the answer are those of the formula as it is read, or of its negation normal form
 abbrev pub KeepsNumbers : CommandTree → Type 0
 KeepsNumbers (Echo f) = Unit {0}
 KeepsNumbers (Nnf f) = Unit {0}
-KeepsNumbers (Pnf f) = ⊥
-KeepsNumbers (Dnf f) = ⊥
-KeepsNumbers (Cnf f) = ⊥
-KeepsNumbers (Simpl f given) = ⊥
-KeepsNumbers (Qe f given) = ⊥
-KeepsNumbers (Qea f given) = ⊥
-KeepsNumbers (Holds f es) = ⊥
-KeepsNumbers (Sample f es) = ⊥
+KeepsNumbers _ = ⊥
 
 -- The text is that of a formula which the command may give in the state s, in which its variables have their numbers. In the state after it the formula is one as the
 -- session has it, and the text has its names. It is no higher than a resolved formula may be where the command asks for the formula as it is, and its numbers are within

@@ -51,15 +51,21 @@ CompletesSource limit left s = (script : List ℕ) → left ≡ Some script → 
 abbrev pub IsTally : ℕ → ℕ → List ℕ → Bool → Type 0
 IsTally limit n line refusal = (lines : List ℕ) × RunOf limit (generated n) lines refusal × (line ≡ tally lines)
 
--- what becomes of the generated script of n, by what the sink had taken and its count of faults, before and after
+-- What becomes of a script that is known whole and whose lines are told like this, by what the sink had taken and its count of faults, before and after.
+abbrev pub Told : ℕ → List ℕ → (List ℕ → List ℕ) → Option (List ℕ) → Option (List ℕ) → ℕ → ℕ → Status → Type 0
+Told limit script told wrote after writes later status.Done = (lines : List ℕ) × RunOf limit script lines false × Took wrote after (told lines) × (later ≡ writes)
+Told limit script told wrote after writes later status.Refused = (lines : List ℕ) × RunOf limit script lines true × Took wrote after (told lines) × (later ≡ writes)
+Told limit script told wrote after writes later status.WriteFault = (lines : List ℕ) × (refusal : Bool) × RunOf limit script lines refusal × TookFront wrote after (told lines) × Rose writes later
+Told limit script told wrote after writes later status.Memory = (after ≡ wrote) × (later ≡ writes)
+Told limit script told wrote after writes later _ = ⊥
+
+-- the lines of a script of the source are written as they are
+abbrev pub Replied : ℕ → List ℕ → Option (List ℕ) → Option (List ℕ) → ℕ → ℕ → Status → Type 0
+Replied limit script wrote after writes later s = Told limit script (λ lines. lines) wrote after writes later s
+
+-- those of the generated script of n are counted
 abbrev pub Tallied : ℕ → ℕ → Option (List ℕ) → Option (List ℕ) → ℕ → ℕ → Status → Type 0
-Tallied limit n wrote after writes later status.Done = (lines : List ℕ) × RunOf limit (generated n) lines false × Took wrote after (tally lines) × (later ≡ writes)
-Tallied limit n wrote after writes later status.Refused = (lines : List ℕ) × RunOf limit (generated n) lines true × Took wrote after (tally lines) × (later ≡ writes)
-Tallied limit n wrote after writes later status.WriteFault = (lines : List ℕ) × (refusal : Bool) × RunOf limit (generated n) lines refusal × TookFront wrote after (tally lines) × Rose writes later
-Tallied limit n wrote after writes later status.Memory = (after ≡ wrote) × (later ≡ writes)
-Tallied limit n wrote after writes later status.Usage = ⊥
-Tallied limit n wrote after writes later status.ReadFault = ⊥
-Tallied limit n wrote after writes later status.ScriptLong = ⊥
+Tallied limit n wrote after writes later s = Told limit (generated n) tally wrote after writes later s
 
 -- ---- either
 
@@ -101,23 +107,9 @@ MeetsUsage words s = (s ≡ status.Usage) ↔ (¬ ((options : Options) × Spells
 abbrev pub Faults : ℕ → ℕ → ℕ → ℕ → Status → Type 0
 Faults reads later writes after status.ReadFault = Rose reads later × (after ≡ writes)
 Faults reads later writes after status.WriteFault = (later ≡ reads) × Rose writes after
-Faults reads later writes after status.Done = (later ≡ reads) × (after ≡ writes)
-Faults reads later writes after status.Refused = (later ≡ reads) × (after ≡ writes)
-Faults reads later writes after status.Usage = (later ≡ reads) × (after ≡ writes)
-Faults reads later writes after status.Memory = (later ≡ reads) × (after ≡ writes)
-Faults reads later writes after status.ScriptLong = (later ≡ reads) × (after ≡ writes)
+Faults reads later writes after _ = (later ≡ reads) × (after ≡ writes)
 
 abbrev pub stop_status : ReadStop → Status
 stop_status stop.Fault = status.ReadFault
 stop_status stop.Long = status.ScriptLong
 stop_status stop.Memory = status.Memory
-
--- what becomes of a script that was read whole, by what the sink had taken and its count of faults, before and after
-abbrev pub Replied : ℕ → List ℕ → Option (List ℕ) → Option (List ℕ) → ℕ → ℕ → Status → Type 0
-Replied limit script wrote after writes later status.Done = (lines : List ℕ) × RunOf limit script lines false × Took wrote after lines × (later ≡ writes)
-Replied limit script wrote after writes later status.Refused = (lines : List ℕ) × RunOf limit script lines true × Took wrote after lines × (later ≡ writes)
-Replied limit script wrote after writes later status.WriteFault = (lines : List ℕ) × (refusal : Bool) × RunOf limit script lines refusal × TookFront wrote after lines × Rose writes later
-Replied limit script wrote after writes later status.Memory = (after ≡ wrote) × (later ≡ writes)
-Replied limit script wrote after writes later status.Usage = ⊥
-Replied limit script wrote after writes later status.ReadFault = ⊥
-Replied limit script wrote after writes later status.ScriptLong = ⊥

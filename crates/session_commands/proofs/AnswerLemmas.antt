@@ -1,26 +1,18 @@
 -- What a formula command answers is the answer of its statement.
 use Rattle.std.proofs.Common.{ap, ◌≡◌, ℕ, List, Bool, Some, None, sym, subst, refl}
 use Rattle.std.specs.Prelude.{Result, Ok, Err, IfOk, OnOk, IfErr, OnErr}
-use Rattle.qe_syntax.specs.Trees.{FormulaTree, FormulaTrees}
-use Rattle.qe_syntax.specs.Statements.{CommandTree, ActionTree, Empty, Ignored, Finish, Choose, Say, Assign, StatementTree, Simpl, Qe}
+use Rattle.qe_syntax.specs.Statements.{CommandTree, Qea, Holds, Sample, ActionTree, Empty, Ignored, Finish, Choose, Say, Assign, StatementTree}
 use Rattle.redlog_reader.specs.Grammar.{SpellsResult, echo, nnf, pnf, dnf, cnf, simpl, qe, SpellsAction, assign, SpellsStatement, nothing, acting}
 use Rattle.redlog_reader.specs.declared.terminal.Terminal.{Terminal}
 use Rattle.redlog_reader.specs.Statement.{Spells}
 use Rattle.session_commands.specs.declared.line.Line.{Line}
-use Rattle.session_commands.specs.declared.formulas.Wanted.{Wanted}
-use Rattle.session_commands.specs.declared.formulas.Wanted.TheVariants as wanted
-use Rattle.session_commands.specs.declared.formulas.Way.TheVariants as way
 use Rattle.session_commands.specs.State.{State, with_names}
 use Rattle.session_commands.specs.Commands.{named, HasAnswerNames, GivesFormula, BindsFormula}
-use Rattle.session_commands.specs.Steps.{command_of, use_of, IsGiven, IsStopped}
+use Rattle.session_commands.specs.Steps.{use_of, IsGiven, IsStopped}
 use Rattle.session_commands.specs.declared.line.StatementError.{StatementError}
 use Rattle.session_commands.specs.declared.line.StatementError.TheVariants as error
 use Rattle.session_commands.specs.Causes.{Use, formula_line, Refuses}
-use Rattle.session_commands.specs.Reply.{IsFormulaText, Tells, AnswersCommand, AnswersSaid, AnswersAssignment, Answers, RefusesAction, SpellsRefused, Reply}
-
-ok_map : {E : Type 0} {P Q : Line → Type 0} (r : Result Line E) → ((answer : Line) → P answer → Q answer) → IfOk r P → IfOk r Q
-ok_map (Ok answer) h k = h answer k
-ok_map (Err e) h k = tt
+use Rattle.session_commands.specs.Reply.{IsFormulaText, Tells, AnswersCommand, AnswersSaid, Answers, RefusesAction, SpellsRefused, Reply}
 
 -- ---- statements bind formulas
 
@@ -47,53 +39,30 @@ spelled_binds piece t h = statement_binds h.spelled
 
 -- ---- commands
 
--- a command that gives a formula, whatever form it takes
-one_answered : (d : CommandTree) → ((s : State) (limit : ℕ) (names : List (List ℕ)) (text : List ℕ) → IsFormulaText s limit d names text → Tells s limit d names text)
-    → (s next : State) (limit : ℕ) (printed : Bool) (answer : Line) → IsGiven (named s d) limit (use_of None printed) d answer next → AnswersSaid (named s d) limit printed d answer next
-one_answered d tells s next limit printed answer h = record {
+-- a command that gives a formula is answered with its text
+formula_told : (c : CommandTree) (s : State) (limit : ℕ) (names : List (List ℕ)) (text : List ℕ) → IsFormulaText s limit c names text → Tells s limit c names text
+formula_told (Qea f given) s limit names text h = absurd h.1
+formula_told (Holds f es) s limit names text h = absurd h.1
+formula_told (Sample f es) s limit names text h = absurd h.1
+formula_told c s limit names text h = h
+
+pub formula_answered : {E : Type 0} (r : Result Line E) (c : CommandTree) (s next : State) (limit : ℕ) (printed : Bool) → IfOk r (λ answer. IsGiven (named s c) limit (use_of None printed) c answer next)
+    → IfOk r (λ answer. AnswersSaid (named s c) limit printed c answer next)
+formula_answered (Ok answer) c s next limit printed h = record {
   names = h.names;
   named = h.named;
-  answered = (h.accepted, (formula_line None h.names h.formula, tells (named s d) limit h.names _ (h.formula, h.given, refl), h.line));
+  answered = (h.accepted, (formula_line None h.names h.formula, formula_told c (named s c) limit h.names _ (h.formula, h.given, refl), h.line));
   after = h.after;
 }
+formula_answered (Err e) c s next limit printed h = tt
 
-one_assigned : (d : CommandTree) (s next : State) (limit : ℕ) (printed : Bool) (x : List ℕ) (answer : Line) → IsGiven (named s d) limit (use_of (Some x) printed) d answer next
-    → AnswersAssignment (named s d) limit printed x d answer next
-one_assigned d s next limit printed x answer h = record { accepted = h.accepted; formula = h.formula; given = h.given; names = h.names; named = h.named; line = h.line; binds = h.after }
-
-formula_told : (w : Wanted) (f : FormulaTree) (s : State) (limit : ℕ) (names : List (List ℕ)) (text : List ℕ) → IsFormulaText s limit (command_of w f) names text → Tells s limit (command_of w f) names text
-formula_told wanted.Given f s limit names text h = h
-formula_told wanted.NegationNormal f s limit names text h = h
-formula_told wanted.Prenex f s limit names text h = h
-formula_told (wanted.Distributed way.Disjunctive) f s limit names text h = h
-formula_told (wanted.Distributed way.Conjunctive) f s limit names text h = h
-formula_told (wanted.Simplified given) f s limit names text h = h
-formula_told (wanted.Eliminated given) f s limit names text h = h
-
--- the same of a result, for a command that is known to be this one
-pub answered_as : {E : Type 0} (r : Result Line E) (w : Wanted) (f : FormulaTree) (c : CommandTree) (s next : State) (limit : ℕ) (printed : Bool) → c ≡ command_of w f
-    → IfOk r (λ answer. IsGiven (named s (command_of w f)) limit (use_of None printed) (command_of w f) answer next) → IfOk r (λ answer. AnswersSaid (named s c) limit printed c answer next)
-answered_as (Ok answer) w f c s next limit printed e h = subst (λ d. AnswersSaid (named s d) limit printed d answer next) (sym e) (one_answered (command_of w f) (formula_told w f) s next limit printed answer h)
-answered_as (Err e) w f c s next limit printed p h = tt
-
-pub assigned_as : {E : Type 0} (r : Result Line E) (w : Wanted) (f : FormulaTree) (c : CommandTree) (s next : State) (limit : ℕ) (printed : Bool) (x : List ℕ) → c ≡ command_of w f
-    → IfOk r (λ answer. IsGiven (named s (command_of w f)) limit (use_of (Some x) printed) (command_of w f) answer next) → IfOk r (λ answer. AnswersAssignment (named s c) limit printed x c answer next)
-assigned_as (Ok answer) w f c s next limit printed x e h = subst (λ d. AnswersAssignment (named s d) limit printed x d answer next) (sym e) (one_assigned (command_of w f) s next limit printed x answer h)
-assigned_as (Err e) w f c s next limit printed x p h = tt
-
-module _ {E : Type 0} (r : Result Line E) (f : FormulaTree) (gs : FormulaTrees) (c : CommandTree) (s next : State) (limit : ℕ) (printed : Bool) where
-  pub simplification_answered : c ≡ Simpl f gs → IfOk r (λ answer. IsGiven (named s (Simpl f gs)) limit (use_of None printed) (Simpl f gs) answer next) → IfOk r (λ answer. AnswersSaid (named s c) limit printed c answer next)
-  simplification_answered e h = ok_map r (λ answer k. subst (λ d. AnswersSaid (named s d) limit printed d answer next) (sym e) (one_answered (Simpl f gs) (λ s l ns t h. h) s next limit printed answer k)) h
-
-  pub elimination_answered : c ≡ Qe f gs → IfOk r (λ answer. IsGiven (named s (Qe f gs)) limit (use_of None printed) (Qe f gs) answer next) → IfOk r (λ answer. AnswersSaid (named s c) limit printed c answer next)
-  elimination_answered e h = ok_map r (λ answer k. subst (λ d. AnswersSaid (named s d) limit printed d answer next) (sym e) (one_answered (Qe f gs) (λ s l ns t h. h) s next limit printed answer k)) h
-
-  module _ (x : List ℕ) where
-    pub simplification_assigned : c ≡ Simpl f gs → IfOk r (λ answer. IsGiven (named s (Simpl f gs)) limit (use_of (Some x) printed) (Simpl f gs) answer next) → IfOk r (λ answer. AnswersAssignment (named s c) limit printed x c answer next)
-    simplification_assigned e h = ok_map r (λ answer k. subst (λ d. AnswersAssignment (named s d) limit printed x d answer next) (sym e) (one_assigned (Simpl f gs) s next limit printed x answer k)) h
-
-    pub elimination_assigned : c ≡ Qe f gs → IfOk r (λ answer. IsGiven (named s (Qe f gs)) limit (use_of (Some x) printed) (Qe f gs) answer next) → IfOk r (λ answer. AnswersAssignment (named s c) limit printed x c answer next)
-    elimination_assigned e h = ok_map r (λ answer k. subst (λ d. AnswersAssignment (named s d) limit printed x d answer next) (sym e) (one_assigned (Qe f gs) s next limit printed x answer k)) h
+-- an assignment, for a command that is known to be this one
+pub formula_assigned : {E : Type 0} (r : Result Line E) (a : ActionTree) (x : List ℕ) (c : CommandTree) (s next : State) (limit : ℕ) (printed : Bool) → a ≡ Assign x c
+    → IfOk r (λ answer. IsGiven (named s c) limit (use_of (Some x) printed) c answer next) → IfOk r (λ answer. Answers s limit printed a answer next)
+formula_assigned (Ok answer) a x c s next limit printed e h =
+    subst (λ b. Answers s limit printed b answer next) (sym e)
+    (record { accepted = h.accepted; formula = h.formula; given = h.given; names = h.names; named = h.named; line = h.line; binds = h.after })
+formula_assigned (Err e) a x c s next limit printed p h = tt
 
 -- a command that gives no formula
 pub query_answered : {E : Type 0} (r : Result Line E) (d c : CommandTree) (s next : State) (limit : ℕ) (printed : Bool) → c ≡ d → HasAnswerNames (named s d) d (named s d).names
@@ -108,9 +77,9 @@ query_answered (Ok answer) d c s next limit printed e same h k =
 query_answered (Err e) d c s next limit printed p same h k = tt
 
 -- a command that is refused, which is known to be this one
-pub refused_as : {T : Type 0} (r : Result T StatementError) (d c : CommandTree) (s : State) (limit : ℕ) (printed : Bool) → c ≡ d → IfErr r (Refuses (named s d) limit (use_of None printed) d)
-    → IfErr r (Refuses (named s c) limit (use_of None printed) c)
-refused_as r d c s limit printed e h = subst (λ x. IfErr r (Refuses (named s x) limit (use_of None printed) x)) (sym e) h
+pub refused_as : {T : Type 0} (r : Result T StatementError) (d c : CommandTree) (s : State) (limit : ℕ) (u : Use) → c ≡ d → IfErr r (Refuses (named s d) limit u d)
+    → IfErr r (Refuses (named s c) limit u c)
+refused_as r d c s limit u e h = subst (λ x. IfErr r (Refuses (named s x) limit u x)) (sym e) h
 
 -- a command that is the statement
 pub say_answered : {E : Type 0} (r : Result Line E) (a : ActionTree) (c : CommandTree) (s next : State) (limit : ℕ) (printed : Bool) → a ≡ Say c → IfOk r (λ answer. AnswersSaid (named s c) limit printed c answer next)

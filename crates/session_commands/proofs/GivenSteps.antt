@@ -1,5 +1,6 @@
 -- The steps of a command that gives a formula, on the desk.
-use Rattle.std.proofs.Common.{◌≡◌, ⊎_elim, ℕ, List, [], ◌∷◌, ◌++◌, map, Bool, Option, Some, None, sym, ap, ◌∙◌, subst, refl, length}
+use Rattle.std.specs.Prelude.{Result, Ok, Err, OnOk, OnErr, IfOk, IfErr}
+use Rattle.std.proofs.Common.{◌≡◌, ⊎_elim, inl, inr, ℕ, List, [], ◌∷◌, ◌++◌, map, Bool, Option, Some, None, sym, ap, ◌∙◌, subst, refl, length}
 use Rattle.std.specs.List.{AllByRecursion, fold, IsDistinct}
 use Rattle.std.specs.Map.{keys_of}
 use Rattle.formula_meaning.specs.Atom.{Atom}
@@ -25,18 +26,16 @@ use Rattle.redlog_printer.specs.Bound.{HasTwoMembers}
 use Rattle.session_commands.specs.declared.desk.Desk.{Desk}
 use Rattle.session_commands.specs.declared.line.Line.{Line}
 use Rattle.session_commands.specs.declared.line.StatementError.{StatementError}
-use Rattle.session_commands.specs.declared.line.StatementError.TheVariants as error
 use Rattle.session_commands.specs.declared.formulas.Wanted.{Wanted}
 use Rattle.session_commands.specs.declared.formulas.Wanted.TheVariants as wanted
 use Rattle.session_commands.specs.Points.{IsQuantified}
 use Rattle.formula_meaning.specs.Shape.{IsQuantifierFree}
 use Rattle.session_commands.specs.State.{State, with_names}
-use Rattle.session_commands.specs.Commands.{named, HasAnswerNames}
-use Rattle.session_commands.specs.Causes.{formula_line, Refuses}
+use Rattle.session_commands.specs.Commands.{named}
+use Rattle.session_commands.specs.Causes.{Refuses}
 use Rattle.session_commands.specs.Keeping.{state_of, IsSessionFormula, IsSound, IsDesk}
-use Rattle.session_commands.specs.Reply.{IsLine}
 use Rattle.session_commands.specs.Assumptions.{assumed}
-use Rattle.session_commands.specs.Steps.{KeepsDesk, GrowsDesk, HasNumbers, IsReadable, ArePartsNumbered, IsDistributed, HasUnwantedQuantifier, IsReady, IsUnready, given_trees, command_of, use_of, IsGiven, IsWantedForm, HasFormNames, FormFault, MayBind, TargetFault, LineFault, state_with, bound_after}
+use Rattle.session_commands.specs.Steps.{KeepsDesk, GrowsDesk, HasNumbers, IsReadable, ArePartsNumbered, IsDistributed, HasUnwantedQuantifier, IsReady, IsUnready, given_trees, command_of, use_of, IsGiven, IsWantedForm, IsWantedOf, HasFormNames, FormFault, MayBind, TargetFault, IsLineOf, GiveFault, state_with, bound_after}
 use Rattle.session_commands.proofs.BindingLemmas.{bind_trees, bind_ids, bind_distinct, bound_there}
 use Rattle.session_commands.proofs.DeskLemmas.{state_parts, grown_state, grown_desk, sound_with, length_grows}
 use Rattle.session_commands.proofs.NewNameLemmas.{form_names, answer_names_distinct, answer_names_variables}
@@ -70,16 +69,169 @@ free_here s f (wanted.Distributed way) d h = h
 free_here s f (wanted.Simplified given) d h = absurd d
 free_here s f (wanted.Eliminated given) d h = absurd d
 
+on_ok : {T P Q : Type 0} (r : Result T StatementError) → (P → Q) → OnOk r P → OnOk r Q
+on_ok (Ok x) h p = h p
+on_ok (Err e) h p = tt
+
+pub if_ok : {T P : Type 0} {Q R : T → Type 0} (r : Result T StatementError) → ((x : T) → P → Q x → R x) → OnOk r P → IfOk r Q → IfOk r R
+if_ok (Ok x) h p q = h x p q
+if_ok (Err e) h p q = tt
+
+pub on_err : {T P Q : Type 0} (r : Result T StatementError) → (P → Q) → OnErr r P → OnErr r Q
+on_err (Ok x) h p = tt
+on_err (Err e) h p = h p
+
+pub if_err : {T : Type 0} {P Q : StatementError → Type 0} (r : Result T StatementError) → ((e : StatementError) → P e → Q e) → IfErr r P → IfErr r Q
+if_err (Ok x) h p = tt
+if_err (Err e) h p = h e p
+
+-- ---- the wanted formula, on a desk where the variables have their numbers
+
+module _ (w : Wanted) (f : FormulaTree) (desk : Desk) (numbers : ArePartsNumbered desk.names f (given_trees w)) (h : IsDesk desk) (proper : IsProperFormula f) where
+  -- the resolved formula
+  abbrev resolution : Tree
+  resolution = resolve (state_of desk).context (state_of desk).bound desk.names f
+
+  pub unready_refused : (limit : ℕ) (e : StatementError) → IsUnready (state_of desk) w f e → (target : Option (List ℕ)) (printed : Bool) → Refuses (state_of desk) limit (use_of target printed) (command_of w f) e
+  unready_refused limit e u target printed = refused_unready w f (state_of desk) numbers limit target printed e u
+
+  own : IsReady (state_of desk) w f → IsSessionFormula (state_of desk).context (length desk.names) resolution
+  own ready = readable_formula f (state_of desk) (first_part (HasNumbers desk.names) f (given_trees w) numbers) h.sound proper (first_part (IsReadable (state_of desk)) f (given_trees w) ready.readable)
+
+  -- the desk after the formula and its assumptions were read, the formula's tree, and the atoms
+  module _ (ready : IsReady (state_of desk) w f) (read : Desk) (kept : KeepsDesk desk read) (t : Tree) (same : t ≡ resolution) (ks : List Atom) (same_atoms : ks ≡ assumed (state_of desk) (given_trees w)) where
+    theory : context_of read.context ≡ (state_of desk).context
+    theory = ap context_of kept.context
+
+    pub form_refused : (limit : ℕ) (e : StatementError) → FormFault (context_of read.context) (length read.names) limit w t e → (target : Option (List ℕ)) (printed : Bool) → Refuses (state_of desk) limit (use_of target printed) (command_of w f) e
+    form_refused limit e fault target printed =
+        refused_form w f (state_of desk) numbers limit target printed ready e
+        (subst (λ u. FormFault (state_of desk).context (length desk.names) limit w u e) same
+        (subst (λ c. FormFault c (length desk.names) limit w t e) theory (subst (λ ns. FormFault (context_of read.context) (length ns) limit w t e) kept.names fault)))
+
+    pub read_normal : Every (IsNormal (context_of read.context)) t
+    read_normal = subst (λ c. Every (IsNormal c) t) (sym theory) (subst (Every (IsNormal (state_of desk).context)) (sym same) (own ready).normal)
+
+    pub read_members : HasTwoMembers t
+    read_members = subst (λ (u : Tree). HasTwoMembers u) (sym same) (own ready).members
+
+    pub read_within : IsTreeWithin (length read.names) t
+    read_within = subst (λ ns. IsTreeWithin (length ns) t) (sym kept.names) (subst (IsTreeWithin (length desk.names)) (sym same) (own ready).within)
+
+    pub read_free : IsDistributed w → IsQuantifierFree t
+    read_free d = subst (λ (u : Tree). IsQuantifierFree u) (sym same) (resolved_free (state_of desk).context (state_of desk).bound desk.names f (free_here (state_of desk) f w d ready.plain))
+
+    pub read_atoms : AreProperFormulas (given_trees w) → EachOf (IsNormal (context_of read.context)) ks
+    read_atoms given =
+        subst (λ c. EachOf (IsNormal c) ks) (sym theory)
+        (subst (EachOf (IsNormal (state_of desk).context)) (sym same_atoms) (assumed_normal (state_of desk) h.sound f (given_trees w) numbers ready.readable given))
+
+    form_there : (limit : ℕ) (u : Tree) → IsWantedForm (context_of read.context) (length read.names) ks limit w t u
+        → IsWantedForm (state_of desk).context (length desk.names) (assumed (state_of desk) (given_trees w)) limit w resolution u
+    form_there limit u form =
+        subst (λ ls. IsWantedForm (state_of desk).context (length desk.names) ls limit w resolution u) same_atoms
+        (subst (λ v. IsWantedForm (state_of desk).context (length desk.names) ks limit w v u) same
+        (subst (λ c. IsWantedForm c (length desk.names) ks limit w t u) theory (subst (λ ns. IsWantedForm (context_of read.context) (length ns) ks limit w t u) kept.names form)))
+
+    pub form_wanted : (limit : ℕ) (u : Tree) (after : List (List ℕ)) → IsWantedForm (context_of read.context) (length read.names) ks limit w t u → HasFormNames w read.names t after
+        → IsWantedOf (state_of desk) limit w f u after
+    form_wanted limit u after form more = record {
+      ready = ready;
+      form = form_there limit u form;
+      names = form_names w f (state_of desk) after (subst (λ v. HasFormNames w desk.names v after) same (subst (λ ns. HasFormNames w ns t after) kept.names more));
+    }
+
+  -- ---- the line of the wanted formula, which is bound
+
+  -- the desk after the formula was made, which has this id there
+  module _ (limit : ℕ) (later : Desk) (k : GrowsDesk desk later) (id : FormulaId) (made : IsId later.store id) (is : IsWantedOf (state_of desk) limit w f (tree later.store id) later.names) where
+    later_state : state_of later ≡ with_names (state_of desk) later.names
+    later_state = grown_state desk later h.ids k
+
+    bound_same : (state_of later).bound ≡ (state_of desk).bound
+    bound_same = ap (λ (s : State). s.bound) later_state
+
+    session_formula : IsSessionFormula (state_of desk).context (length later.names) (tree later.store id)
+    session_formula = given_formula w f (state_of desk) limit (tree later.store id) later.names is.form is.names (own is.ready)
+
+    pub later_within : IsTreeWithin (length later.names) (tree later.store id)
+    later_within = session_formula.within
+
+    pub later_members : HasTwoMembers (tree later.store id)
+    later_members = session_formula.members
+
+    module _ (target : Option (List ℕ)) (printed : Bool) where
+      may_bind : MayBind (state_of later).bound target (tree later.store id) → MayBind (state_of desk).bound target (tree later.store id)
+      may_bind b = subst (λ c. MayBind c target (tree later.store id)) bound_same b
+
+      fault_refused : (e : StatementError) → GiveFault target printed (state_of later) (tree later.store id) e → Refuses (state_of desk) limit (use_of target printed) (command_of w f) e
+      fault_refused e (inl t) =
+          refused_target w f (state_of desk) numbers limit target printed (tree later.store id) is.form is.ready e
+          (subst (λ b. TargetFault b target (tree later.store id) e) bound_same t)
+      fault_refused e (inr t) = refused_line w f (state_of desk) numbers limit target printed (tree later.store id) is.form is.ready h.sound (own is.ready) later.names is.names (may_bind t.0) e t.1
+
+      -- the desk with the formula bound
+      abbrev last : Option (List ℕ) → Desk
+      last o = record { alloc = later.alloc; context = later.context; names = later.names; bindings = bound_after later.bindings o id; store = later.store; kept = later.kept }
+
+      last_state : (o : Option (List ℕ)) → state_of (last o) ≡ state_with (with_names (state_of desk) later.names) o (tree later.store id)
+      last_state None = later_state
+      last_state (Some x) =
+          state_parts _ _ _ _ _ _ (ap (λ (s : State). s.context) later_state) refl
+          (sym (bind_trees (tree later.store) later.bindings x id) ∙ ap (λ b. bind b x (tree later.store id)) bound_same)
+
+      later_desk : IsDesk later
+      later_desk =
+          grown_desk desk later h k (answer_names_distinct (state_of desk) (command_of w f) later.names h.sound.names_once is.names)
+          (answer_names_variables (state_of desk) (command_of w f) later.names h.sound.variables is.names)
+
+      later_sound : IsSound (with_names (state_of desk) later.names)
+      later_sound = subst IsSound later_state later_desk.sound
+
+      last_sound : (o : Option (List ℕ)) → IsSound (state_with (with_names (state_of desk) later.names) o (tree later.store id))
+      last_sound None = later_sound
+      last_sound (Some x) = sound_bound (with_names (state_of desk) later.names) x (tree later.store id) later_sound session_formula
+
+      last_ids : (o : Option (List ℕ)) → AreIds (IsId later.store) (bound_after later.bindings o id)
+      last_ids None = later_desk.ids
+      last_ids (Some x) = bind_ids (IsId later.store) later.bindings x id later_desk.ids made
+
+      last_once : (o : Option (List ℕ)) → IsDistinct same_name (keys_of (bound_after later.bindings o id))
+      last_once None = later_desk.bound_once
+      last_once (Some x) = bind_distinct later.bindings x id later_desk.bound_once
+
+      last_desk : IsDesk (last target)
+      last_desk = record { ids = last_ids target; bound_once = last_once target; sound = subst IsSound (sym (last_state target)) (last_sound target) }
+
+      line_given : (answer : Line) → IsLineOf target printed (state_of later) (tree later.store id) answer → IsGiven (state_of desk) limit (use_of target printed) (command_of w f) answer (state_of (last target))
+      line_given answer line =
+          subst (IsGiven (state_of desk) limit (use_of target printed) (command_of w f) answer) (sym (last_state target))
+          (is_given w f (state_of desk) numbers limit target printed (tree later.store id) is.form is.ready h.sound (own is.ready) later.names is.names (may_bind line.may) answer line.line line.short)
+
+      -- ---- what is given, and the desk after it
+
+      module _ (r : Result Line StatementError) (after : Desk) where
+        pub given_desk : OnOk r (after ≡ last target) → OnOk r (IsDesk after)
+        given_desk e = on_ok r (λ p. subst IsDesk (sym p) last_desk) e
+
+        pub given_answer : OnOk r (after ≡ last target) → IfOk r (IsLineOf target printed (state_of later) (tree later.store id))
+            → IfOk r (λ answer. IsGiven (state_of desk) limit (use_of target printed) (command_of w f) answer (state_of after))
+        given_answer e line = if_ok r (λ answer p l. subst (λ d. IsGiven (state_of desk) limit (use_of target printed) (command_of w f) answer (state_of d)) (sym p) (line_given answer l)) e line
+
+        pub given_refused : IfErr r (GiveFault target printed (state_of later) (tree later.store id)) → IfErr r (Refuses (state_of desk) limit (use_of target printed) (command_of w f))
+        given_refused fault = if_err r (λ e t. fault_refused e t) fault
+
+-- ---- the desk where the variables have their numbers
+
 module _ (w : Wanted) (f : FormulaTree) (desk : Desk) (names : List (List ℕ)) (is : names ≡ fold with_name desk.names (formula_variables f ++ all_variables (given_trees w))) where
-  -- the desk where the variables have their numbers
   abbrev pub numbered : Desk
   numbered = record { alloc = desk.alloc; context = desk.context; names = names; bindings = desk.bindings; store = desk.store; kept = desk.kept }
 
-  start : named (state_of desk) (command_of w f) ≡ state_of numbered
-  start = named_is w f (state_of desk) ∙ state_parts _ _ _ _ _ _ refl (sym is) refl
+  pub numbered_state : state_of numbered ≡ named (state_of desk) (command_of w f)
+  numbered_state = sym (named_is w f (state_of desk) ∙ state_parts _ _ _ _ _ _ refl (sym is) refl)
 
-  pub numbers : ArePartsNumbered names f (given_trees w)
-  numbers = subst (λ ms. ArePartsNumbered ms f (given_trees w)) (sym is) (numbers_of f (given_trees w) desk.names)
+  pub numbers_there : ArePartsNumbered names f (given_trees w)
+  numbers_there = subst (λ ms. ArePartsNumbered ms f (given_trees w)) (sym is) (numbers_of f (given_trees w) desk.names)
 
   pub numbered_desk : IsDesk desk → Grows desk.names names → IsProperFormula f → AreProperFormulas (given_trees w) → IsDesk numbered
   numbered_desk h g proper proper_given =
@@ -91,128 +243,3 @@ module _ (w : Wanted) (f : FormulaTree) (desk : Desk) (names : List (List ℕ)) 
         sound = sound_with (state_of desk) names h.sound (subst (λ ms. IsDistinct same_name ms) (sym is) (after_distinct xs desk.names h.sound.names_once))
             (subst AllVariables (sym is) (all_put_in desk.names xs h.sound.variables variables)) (length_grows desk.names names g);
       }
-
-  module _ (limit : ℕ) (target : Option (List ℕ)) (printed : Bool) where
-    refuses : (e : StatementError) → Refuses (state_of numbered) limit (use_of target printed) (command_of w f) e → Refuses (named (state_of desk) (command_of w f)) limit (use_of target printed) (command_of w f) e
-    refuses e h = subst (λ s. Refuses s limit (use_of target printed) (command_of w f) e) (sym start) h
-
-    pub unready_step : (e : StatementError) → IsUnready (state_of numbered) w f e → Refuses (named (state_of desk) (command_of w f)) limit (use_of target printed) (command_of w f) e
-    unready_step e h = refuses e (refused_unready w f (state_of numbered) numbers limit target printed e h)
-
-    module _ (readable : IsReady (state_of numbered) w f) where
-      -- the resolved formula
-      abbrev resolution : Tree
-      resolution = resolve (state_of numbered).context (state_of numbered).bound names f
-
-      own : IsDesk numbered → IsProperFormula f → IsSessionFormula (state_of numbered).context (length names) resolution
-      own h proper = readable_formula f (state_of numbered) (first_part (HasNumbers names) f (given_trees w) numbers) h.sound proper (first_part (IsReadable (state_of numbered)) f (given_trees w) readable.readable)
-
-      -- the desk after the formula and its assumptions were resolved, the formula's tree, and the atoms
-      module _ (read : Desk) (kept : KeepsDesk numbered read) (t : Tree) (same : t ≡ resolution) (ks : List Atom) (same_atoms : ks ≡ assumed (state_of numbered) (given_trees w)) where
-        theory : context_of read.context ≡ (state_of numbered).context
-        theory = ap context_of kept.context
-
-        pub form_step : (e : StatementError) → FormFault (context_of read.context) (length read.names) limit w t e → Refuses (named (state_of desk) (command_of w f)) limit (use_of target printed) (command_of w f) e
-        form_step e h =
-            refuses e (refused_form w f (state_of numbered) numbers limit target printed readable e
-            (subst (λ u. FormFault (state_of numbered).context (length names) limit w u e) same
-            (subst (λ c. FormFault c (length names) limit w t e) theory (subst (λ ns. FormFault (context_of read.context) (length ns) limit w t e) kept.names h))))
-
-        pub normal_step : IsDesk numbered → IsProperFormula f → Every (IsNormal (context_of read.context)) t
-        normal_step h proper = subst (λ c. Every (IsNormal c) t) (sym theory) (subst (Every (IsNormal (state_of numbered).context)) (sym same) (own h proper).normal)
-
-        pub two_step : IsDesk numbered → IsProperFormula f → HasTwoMembers t
-        two_step h proper = subst (λ (u : Tree). HasTwoMembers u) (sym same) (own h proper).members
-
-        pub within_read : IsDesk numbered → IsProperFormula f → IsTreeWithin (length read.names) t
-        within_read h proper = subst (λ ns. IsTreeWithin (length ns) t) (sym kept.names) (subst (IsTreeWithin (length names)) (sym same) (own h proper).within)
-
-        pub free_step : IsDesk numbered → IsDistributed w → IsQuantifierFree t
-        free_step h d = subst (λ (u : Tree). IsQuantifierFree u) (sym same) (resolved_free (state_of numbered).context (state_of numbered).bound names f (free_here (state_of numbered) f w d readable.plain))
-
-        pub atoms_step : IsDesk numbered → AreProperFormulas (given_trees w) → EachOf (IsNormal (context_of read.context)) ks
-        atoms_step h proper =
-            subst (λ c. EachOf (IsNormal c) ks) (sym theory)
-            (subst (EachOf (IsNormal (state_of numbered).context)) (sym same_atoms) (assumed_normal (state_of numbered) h.sound f (given_trees w) numbers readable.readable proper))
-
-        pub wanted_step : (u : Tree) → IsWantedForm (context_of read.context) (length read.names) ks limit w t u
-            → IsWantedForm (state_of numbered).context (length names) (assumed (state_of numbered) (given_trees w)) limit w resolution u
-        wanted_step u h =
-            subst (λ ls. IsWantedForm (state_of numbered).context (length names) ls limit w resolution u) same_atoms
-            (subst (λ v. IsWantedForm (state_of numbered).context (length names) ks limit w v u) same
-            (subst (λ c. IsWantedForm c (length names) ks limit w t u) theory (subst (λ ns. IsWantedForm (context_of read.context) (length ns) ks limit w t u) kept.names h)))
-
-        -- the names after it
-        pub names_step : (after : List (List ℕ)) → HasFormNames w read.names t after → HasAnswerNames (state_of numbered) (command_of w f) after
-        names_step after h = form_names w f (state_of numbered) after (subst (λ u. HasFormNames w names u after) same (subst (λ ns. HasFormNames w ns t after) kept.names h))
-
-      -- the desk after the form was made, with the names after the answer, and the form's id
-      module _ (later : Desk) (h : IsDesk numbered) (k : GrowsDesk numbered later) (more : HasAnswerNames (state_of numbered) (command_of w f) later.names) (id : FormulaId) (made : IsId later.store id) (proper : IsProperFormula f)
-          (given : IsWantedForm (state_of numbered).context (length names) (assumed (state_of numbered) (given_trees w)) limit w resolution (tree later.store id)) where
-        same : state_of later ≡ with_names (state_of numbered) later.names
-        same = grown_state numbered later h.ids k
-
-        bound_same : (state_of later).bound ≡ (state_of numbered).bound
-        bound_same = ap (λ (s : State). s.bound) same
-
-        pub target_step : (e : StatementError) → TargetFault (state_of later).bound target (tree later.store id) e → Refuses (named (state_of desk) (command_of w f)) limit (use_of target printed) (command_of w f) e
-        target_step e t =
-            refuses e (refused_target w f (state_of numbered) numbers limit target printed (tree later.store id) given readable e
-            (subst (λ b. TargetFault b target (tree later.store id) e) bound_same t))
-
-        may_bind : MayBind (state_of later).bound target (tree later.store id) → MayBind (state_of numbered).bound target (tree later.store id)
-        may_bind b = subst (λ c. MayBind c target (tree later.store id)) bound_same b
-
-        pub line_step : MayBind (state_of later).bound target (tree later.store id) → (e : StatementError) → LineFault printed (formula_line target later.names (tree later.store id)) e
-            → Refuses (named (state_of desk) (command_of w f)) limit (use_of target printed) (command_of w f) e
-        line_step b e t = refuses e (refused_line w f (state_of numbered) numbers limit target printed (tree later.store id) given readable h.sound (own h proper) later.names more (may_bind b) e t)
-
-        session_formula : IsSessionFormula (state_of numbered).context (length later.names) (tree later.store id)
-        session_formula = given_formula w f (state_of numbered) limit (tree later.store id) later.names given more (own h proper)
-
-        pub within_step : IsTreeWithin (length later.names) (tree later.store id)
-        within_step = session_formula.within
-
-        pub members_step : HasTwoMembers (tree later.store id)
-        members_step = session_formula.members
-
-        -- the desk with the formula bound
-        abbrev pub last : Desk
-        last = record { alloc = later.alloc; context = later.context; names = later.names; bindings = bound_after later.bindings target id; store = later.store; kept = later.kept }
-
-        last_state : (o : Option (List ℕ)) → state_of (record { alloc = later.alloc; context = later.context; names = later.names; bindings = bound_after later.bindings o id; store = later.store; kept = later.kept })
-            ≡ state_with (with_names (state_of numbered) later.names) o (tree later.store id)
-        last_state None = same
-        last_state (Some x) =
-            state_parts _ _ _ _ _ _ (ap (λ (s : State). s.context) same) refl
-            (sym (bind_trees (tree later.store) later.bindings x id) ∙ ap (λ b. bind b x (tree later.store id)) bound_same)
-
-        pub answer_step : MayBind (state_of later).bound target (tree later.store id) → (answer : Line) → IsLine printed (formula_line target later.names (tree later.store id)) answer
-            → ¬ (LineFault printed (formula_line target later.names (tree later.store id)) error.Text) → IsGiven (named (state_of desk) (command_of w f)) limit (use_of target printed) (command_of w f) answer (state_of last)
-        answer_step b answer line short =
-            subst (λ s. IsGiven s limit (use_of target printed) (command_of w f) answer (state_of last)) (sym start)
-            (subst (IsGiven (state_of numbered) limit (use_of target printed) (command_of w f) answer) (sym (last_state target))
-            (is_given w f (state_of numbered) numbers limit target printed (tree later.store id) given readable h.sound (own h proper) later.names more (may_bind b) answer line short))
-
-        later_desk : IsDesk later
-        later_desk =
-            grown_desk numbered later h k (answer_names_distinct (state_of numbered) (command_of w f) later.names h.sound.names_once more)
-            (answer_names_variables (state_of numbered) (command_of w f) later.names h.sound.variables more)
-
-        later_sound : IsSound (with_names (state_of numbered) later.names)
-        later_sound = subst IsSound same later_desk.sound
-
-        last_sound : (o : Option (List ℕ)) → IsSound (state_with (with_names (state_of numbered) later.names) o (tree later.store id))
-        last_sound None = later_sound
-        last_sound (Some x) = sound_bound (with_names (state_of numbered) later.names) x (tree later.store id) later_sound session_formula
-
-        last_ids : (o : Option (List ℕ)) → AreIds (IsId later.store) (bound_after later.bindings o id)
-        last_ids None = later_desk.ids
-        last_ids (Some x) = bind_ids (IsId later.store) later.bindings x id later_desk.ids made
-
-        last_once : (o : Option (List ℕ)) → IsDistinct same_name (keys_of (bound_after later.bindings o id))
-        last_once None = later_desk.bound_once
-        last_once (Some x) = bind_distinct later.bindings x id later_desk.bound_once
-
-        pub desk_step : IsDesk last
-        desk_step = record { ids = last_ids target; bound_once = last_once target; sound = subst IsSound (sym (last_state target)) (last_sound target) }

@@ -13,7 +13,7 @@ use Rattle.sample_reference.specs.Sample.{reference_sample}
 use Rattle.qe_syntax.specs.declared.statement.PointEntry.{PointEntry}
 use Rattle.qe_syntax.specs.Point.{PassesLimit, IsPointOf}
 use Rattle.qe_syntax.specs.Trees.{FormulaTree}
-use Rattle.qe_syntax.specs.Statements.{CommandTree, Echo, Nnf, Pnf, Dnf, Cnf, Simpl, Qe, Qea, Holds, Sample}
+use Rattle.qe_syntax.specs.Statements.{CommandTree, Nnf, Pnf, Dnf, Cnf, Simpl, Qe, Qea, Holds, Sample}
 use Rattle.qe_syntax.specs.Value.{NamedPoint}
 use Rattle.formula_tree.specs.Bindings.{bound_to, most_bound}
 use Rattle.formula_tree.specs.Resolving.{BoundTrees, place, at_names}
@@ -38,55 +38,25 @@ pub record Use : Type 0 where
 
 -- the command asks for the truth at a point
 abbrev pub AsksTruth : CommandTree → Type 0
-AsksTruth (Echo f) = ⊥
-AsksTruth (Nnf f) = ⊥
-AsksTruth (Pnf f) = ⊥
-AsksTruth (Dnf f) = ⊥
-AsksTruth (Cnf f) = ⊥
-AsksTruth (Simpl f given) = ⊥
-AsksTruth (Qe f given) = ⊥
-AsksTruth (Qea f given) = ⊥
 AsksTruth (Holds f es) = Unit {0}
-AsksTruth (Sample f es) = ⊥
+AsksTruth _ = ⊥
 
 -- the command asks about a point: for the truth there, or for a sample
 abbrev pub AsksAtPoint : CommandTree → Type 0
-AsksAtPoint (Echo f) = ⊥
-AsksAtPoint (Nnf f) = ⊥
-AsksAtPoint (Pnf f) = ⊥
-AsksAtPoint (Dnf f) = ⊥
-AsksAtPoint (Cnf f) = ⊥
-AsksAtPoint (Simpl f given) = ⊥
-AsksAtPoint (Qe f given) = ⊥
-AsksAtPoint (Qea f given) = ⊥
 AsksAtPoint (Holds f es) = Unit {0}
 AsksAtPoint (Sample f es) = Unit {0}
+AsksAtPoint _ = ⊥
 
 -- the command gives a disjunctive or a conjunctive form
 abbrev pub AsksPlainForm : CommandTree → Type 0
-AsksPlainForm (Echo f) = ⊥
-AsksPlainForm (Nnf f) = ⊥
-AsksPlainForm (Pnf f) = ⊥
 AsksPlainForm (Dnf f) = Unit {0}
 AsksPlainForm (Cnf f) = Unit {0}
-AsksPlainForm (Simpl f given) = ⊥
-AsksPlainForm (Qe f given) = ⊥
-AsksPlainForm (Qea f given) = ⊥
-AsksPlainForm (Holds f es) = ⊥
-AsksPlainForm (Sample f es) = ⊥
+AsksPlainForm _ = ⊥
 
 -- the command gives a negation normal form
 abbrev pub AsksNegationNormal : CommandTree → Type 0
-AsksNegationNormal (Echo f) = ⊥
 AsksNegationNormal (Nnf f) = Unit {0}
-AsksNegationNormal (Pnf f) = ⊥
-AsksNegationNormal (Dnf f) = ⊥
-AsksNegationNormal (Cnf f) = ⊥
-AsksNegationNormal (Simpl f given) = ⊥
-AsksNegationNormal (Qe f given) = ⊥
-AsksNegationNormal (Qea f given) = ⊥
-AsksNegationNormal (Holds f es) = ⊥
-AsksNegationNormal (Sample f es) = ⊥
+AsksNegationNormal _ = ⊥
 
 -- ---- what is bound and printed
 
@@ -118,16 +88,8 @@ pub record HasLongLine (s : State) (u : Use) (c : CommandTree) : Type 0 where
 -- The command asks for a prenex form, the negation normal form has no more nodes than the limit, and the normal form of an atom whose names are chosen passes the
 -- limit of numbers.
 abbrev pub RenamingPasses : State → ℕ → CommandTree → Type 0
-RenamingPasses s limit (Echo f) = ⊥
-RenamingPasses s limit (Nnf f) = ⊥
 RenamingPasses s limit (Pnf f) = (nodes (negated_of s f) ≤ limit) × OverflowsInRenaming s.context (length s.names) (negated_of s f)
-RenamingPasses s limit (Dnf f) = ⊥
-RenamingPasses s limit (Cnf f) = ⊥
-RenamingPasses s limit (Simpl f given) = ⊥
-RenamingPasses s limit (Qe f given) = ⊥
-RenamingPasses s limit (Qea f given) = ⊥
-RenamingPasses s limit (Holds f es) = ⊥
-RenamingPasses s limit (Sample f es) = ⊥
+RenamingPasses s limit _ = ⊥
 
 -- somewhere in the command: in its formula, or in one of its assumptions
 abbrev pub InSomePart : CommandTree → (FormulaTree → Type 0) → Type 0
@@ -148,69 +110,41 @@ IsCause s limit u c error.Quantified = AsksPlainForm c × IsQuantified s.bound (
 IsCause s limit u c error.Overflow = InSomePart c (OverflowsInReading s.context s.bound (place s.names)) ⊎ (PassesLimit (entries_of c) ⊎ RenamingPasses s limit c)
 IsCause s limit u c error.Bindings = HasNoRoom s.bound u.target ⊎ ((t : Tree) × Gives s c t × IsTooLarge u.target t)
 IsCause s limit u c error.Text = (u.printed ≡ true) × HasLongLine s u c
-IsCause s limit u c error.Long = ⊥
-IsCause s limit u c error.Lexical = ⊥
-IsCause s limit u c error.Nesting = ⊥
-IsCause s limit u c error.Syntax = ⊥
-IsCause s limit u c error.Nodes = ⊥
-IsCause s limit u c error.Memory = ⊥
+IsCause s limit u c _ = ⊥
 
 -- ---- causes for which a command may be refused and need not be
 
 -- The reference elimination that the command asks for stops like this: of the formula of an elimination or of a case list; of a formula with quantifiers at the
 -- point of a truth; or of the formula of a sample at its point, or the sample that it leads to does. At a point, nodes are counted before the point is put in.
 abbrev pub ReferenceStops : State → ℕ → CommandTree → Stop → Type 0
-ReferenceStops s limit (Echo f) e = ⊥
-ReferenceStops s limit (Nnf f) e = ⊥
-ReferenceStops s limit (Pnf f) e = ⊥
-ReferenceStops s limit (Dnf f) e = ⊥
-ReferenceStops s limit (Cnf f) e = ⊥
-ReferenceStops s limit (Simpl f given) e = ⊥
 ReferenceStops s limit (Qe f given) e = reference s.context limit (resolved s (Qe f given)) ≡ stopped e
 ReferenceStops s limit (Qea f given) e = reference_cases s.context limit (resolved s (Qea f given)) ≡ stopped e
 ReferenceStops s limit (Holds f es) e = IsQuantified s.bound f
     × ((point : NamedPoint) × IsPointOf es point × (reference_at s.context limit (at_names s.names point) (resolved s (Holds f es)) ≡ stopped e))
 ReferenceStops s limit (Sample f es) e = (point : NamedPoint) × IsPointOf es point × (reference_sample s.context limit (at_names s.names point) (resolved s (Sample f es)) ≡ stopped e)
+ReferenceStops s limit _ e = ⊥
 
 -- the formula that a simpler answer is measured by: the negation normal form, the plain form, or what the reference elimination gives
 abbrev pub IsMeasureOf : State → ℕ → CommandTree → Tree → Type 0
-IsMeasureOf s limit (Echo f) t = ⊥
-IsMeasureOf s limit (Nnf f) t = ⊥
-IsMeasureOf s limit (Pnf f) t = ⊥
 IsMeasureOf s limit (Dnf f) t = t ≡ plain_form Conjunction (negated_of s f)
 IsMeasureOf s limit (Cnf f) t = t ≡ plain_form Disjunction (negated_of s f)
 IsMeasureOf s limit (Simpl f given) t = t ≡ negated_of s f
 IsMeasureOf s limit (Qe f given) t = (cost : ℕ) × (reference s.context limit (resolved s (Qe f given)) ≡ done (t, cost))
-IsMeasureOf s limit (Qea f given) t = ⊥
-IsMeasureOf s limit (Holds f es) t = ⊥
-IsMeasureOf s limit (Sample f es) t = ⊥
+IsMeasureOf s limit _ t = ⊥
 
 -- the text of the case list that the reference elimination gives passes the limit
 abbrev pub HasLongCases : State → ℕ → CommandTree → Type 0
-HasLongCases s limit (Echo f) = ⊥
-HasLongCases s limit (Nnf f) = ⊥
-HasLongCases s limit (Pnf f) = ⊥
-HasLongCases s limit (Dnf f) = ⊥
-HasLongCases s limit (Cnf f) = ⊥
-HasLongCases s limit (Simpl f given) = ⊥
-HasLongCases s limit (Qe f given) = ⊥
 HasLongCases s limit (Qea f given) = (ks : List Case) × (cost : ℕ) × (reference_cases s.context limit (resolved s (Qea f given)) ≡ done (ks, cost)) × (text_limit < length (cases_text s.names ks))
-HasLongCases s limit (Holds f es) = ⊥
-HasLongCases s limit (Sample f es) = ⊥
+HasLongCases s limit _ = ⊥
 
 -- What the command counts before it answers is above the limit: the nodes of the negation normal form that is simplified or brought to prenex form, or the places
 -- of atoms of the plain form.
 abbrev pub IsOverLimit : State → ℕ → CommandTree → Type 0
-IsOverLimit s limit (Echo f) = ⊥
-IsOverLimit s limit (Nnf f) = ⊥
 IsOverLimit s limit (Pnf f) = limit < nodes (negated_of s f)
 IsOverLimit s limit (Dnf f) = limit < literals Conjunction (negated_of s f)
 IsOverLimit s limit (Cnf f) = limit < literals Disjunction (negated_of s f)
 IsOverLimit s limit (Simpl f given) = limit < nodes (negated_of s f)
-IsOverLimit s limit (Qe f given) = ⊥
-IsOverLimit s limit (Qea f given) = ⊥
-IsOverLimit s limit (Holds f es) = ⊥
-IsOverLimit s limit (Sample f es) = ⊥
+IsOverLimit s limit _ = ⊥
 
 -- a product or a partial sum of the value of an atom passes the limit at the point, in a formula without quantifiers
 abbrev pub ValuePassesAt : State → CommandTree → Type 0

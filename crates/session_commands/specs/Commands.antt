@@ -18,7 +18,7 @@ use Rattle.qe_syntax.specs.declared.statement.PointEntry.{PointEntry}
 use Rattle.qe_syntax.specs.Names.{IsVariable}
 use Rattle.qe_syntax.specs.Trees.{FormulaTree, FormulaTrees}
 use Rattle.qe_syntax.specs.Value as written
-use Rattle.qe_syntax.specs.Statements.{CommandTree, Echo, Nnf, Pnf, Dnf, Cnf, Simpl, Qe, Qea, Holds, Sample, ActionTree, Empty, Ignored, Finish, Choose, Say, Assign}
+use Rattle.qe_syntax.specs.Statements.{CommandTree, Echo, Nnf, Pnf, Dnf, Cnf, Simpl, Qe, Qea, Holds, Sample, ActionTree, Assign}
 use Rattle.formula_tree.specs.Names.{with_name}
 use Rattle.formula_tree.specs.Resolving.{formula_variables, all_variables, resolve, at_names, bound_truth}
 use Rattle.redlog_printer.specs.Bound.{HasTwoMembers}
@@ -46,38 +46,21 @@ formula_of (Sample f es) = f
 
 -- the entries of its point, if it has one
 abbrev pub entries_of : CommandTree → List PointEntry
-entries_of (Echo f) = []
-entries_of (Nnf f) = []
-entries_of (Pnf f) = []
-entries_of (Dnf f) = []
-entries_of (Cnf f) = []
-entries_of (Simpl f given) = []
-entries_of (Qe f given) = []
-entries_of (Qea f given) = []
 entries_of (Holds f es) = es
 entries_of (Sample f es) = es
+entries_of _ = []
 
 -- the command gives a formula, which may be bound; each other one is a query
 abbrev pub GivesFormula : CommandTree → Type 0
-GivesFormula (Echo f) = Unit {0}
-GivesFormula (Nnf f) = Unit {0}
-GivesFormula (Pnf f) = Unit {0}
-GivesFormula (Dnf f) = Unit {0}
-GivesFormula (Cnf f) = Unit {0}
-GivesFormula (Simpl f given) = Unit {0}
-GivesFormula (Qe f given) = Unit {0}
 GivesFormula (Qea f given) = ⊥
 GivesFormula (Holds f es) = ⊥
 GivesFormula (Sample f es) = ⊥
+GivesFormula _ = Unit {0}
 
 -- what the statement binds, if it binds something, is a formula
 abbrev pub BindsFormula : ActionTree → Type 0
 BindsFormula (Assign x c) = GivesFormula c
-BindsFormula (Say c) = Unit {0}
-BindsFormula Empty = Unit {0}
-BindsFormula Ignored = Unit {0}
-BindsFormula Finish = Unit {0}
-BindsFormula (Choose setting) = Unit {0}
+BindsFormula _ = Unit {0}
 
 abbrev pub entry_names : List PointEntry → List (List ℕ)
 entry_names es = map (λ e. e.name) es
@@ -105,13 +88,7 @@ abbrev pub Gives : State → CommandTree → Tree → Type 0
 Gives s (Echo f) t = t ≡ resolved s (Echo f)
 Gives s (Nnf f) t = t ≡ normal_form negated_normal (resolved s (Nnf f))
 Gives s (Pnf f) t = t ≡ prenex_of s.context (length s.names) (negated_of s f)
-Gives s (Dnf f) t = ⊥
-Gives s (Cnf f) t = ⊥
-Gives s (Simpl f given) t = ⊥
-Gives s (Qe f given) t = ⊥
-Gives s (Qea f given) t = ⊥
-Gives s (Holds f es) t = ⊥
-Gives s (Sample f es) t = ⊥
+Gives s _ t = ⊥
 
 -- ---- prenex forms
 
@@ -136,16 +113,8 @@ pub record HasNewNames (names : List (List ℕ)) (f : Tree) (after : List (List 
 
 -- the names after the answer of a command: those of the state, and the new ones of a prenex form
 abbrev pub HasAnswerNames : State → CommandTree → List (List ℕ) → Type 0
-HasAnswerNames s (Echo f) names = names ≡ s.names
-HasAnswerNames s (Nnf f) names = names ≡ s.names
 HasAnswerNames s (Pnf f) names = HasNewNames s.names (resolved s (Pnf f)) names
-HasAnswerNames s (Dnf f) names = names ≡ s.names
-HasAnswerNames s (Cnf f) names = names ≡ s.names
-HasAnswerNames s (Simpl f given) names = names ≡ s.names
-HasAnswerNames s (Qe f given) names = names ≡ s.names
-HasAnswerNames s (Qea f given) names = names ≡ s.names
-HasAnswerNames s (Holds f es) names = names ≡ s.names
-HasAnswerNames s (Sample f es) names = names ≡ s.names
+HasAnswerNames s _ names = names ≡ s.names
 
 -- ---- simplification, clean forms and elimination
 
@@ -196,6 +165,4 @@ MayGive s limit (Dnf f) t = IsCleanAnswer s Conjunction f t
 MayGive s limit (Cnf f) t = IsCleanAnswer s Disjunction f t
 MayGive s limit (Simpl f given) t = IsSimplification s f given t
 MayGive s limit (Qe f given) t = IsCondition s limit f given t
-MayGive s limit (Qea f given) t = ⊥
-MayGive s limit (Holds f es) t = ⊥
-MayGive s limit (Sample f es) t = ⊥
+MayGive s limit _ t = ⊥

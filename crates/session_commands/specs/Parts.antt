@@ -2,20 +2,14 @@
 use Rattle.std.specs.Prelude.{◌⊎◌}
 use Rattle.formula_meaning.specs.Formula.{none, also}
 use Rattle.qe_syntax.specs.Trees.{FormulaTree, FormulaTrees}
-use Rattle.qe_syntax.specs.Statements.{CommandTree, Echo, Nnf, Pnf, Dnf, Cnf, Simpl, Qe, Qea, Holds, Sample}
+use Rattle.qe_syntax.specs.Statements.{CommandTree, Simpl, Qe, Qea}
 
 -- the assumptions of a command, if it can have any
 abbrev pub given_of : CommandTree → FormulaTrees
-given_of (Echo f) = none
-given_of (Nnf f) = none
-given_of (Pnf f) = none
-given_of (Dnf f) = none
-given_of (Cnf f) = none
 given_of (Simpl f given) = given
 given_of (Qe f given) = given
 given_of (Qea f given) = given
-given_of (Holds f es) = none
-given_of (Sample f es) = none
+given_of _ = none
 
 module _ (P : FormulaTree → Type 0) where
   -- the formula, or one of its assumptions

@@ -4,7 +4,7 @@ use Rattle.formula_meaning.specs.Tree.{Tree}
 use Rattle.elimination_reference.specs.Cases.{Case}
 use Rattle.sample_reference.specs.Values.{Value}
 use Rattle.answer_texts.specs.Answers.{cases_text}
-use Rattle.qe_syntax.specs.Statements.{CommandTree, Echo, Nnf, Pnf, Dnf, Cnf, Simpl, Qe, Qea, Holds, Sample, ActionTree, Empty, Ignored, Finish, Choose, Say, Assign, StatementTree}
+use Rattle.qe_syntax.specs.Statements.{CommandTree, Qea, Holds, Sample, ActionTree, Empty, Ignored, Finish, Choose, Say, Assign, StatementTree}
 use Rattle.formula_tree.specs.Bindings.{bind}
 use Rattle.redlog_reader.specs.Statement.{Spells, Unread}
 use Rattle.redlog_reader.specs.declared.token.ReadError.TheVariants as reading
@@ -36,16 +36,10 @@ IsFormulaText s limit c names text = (t : Tree) × MayGive s limit c t × (text 
 
 -- The text that a command answers with under a limit of nodes, in a state in which its variables have their numbers. The names are those after the answer.
 abbrev pub Tells : State → ℕ → CommandTree → List (List ℕ) → List ℕ → Type 0
-Tells s limit (Echo f) names text = IsFormulaText s limit (Echo f) names text
-Tells s limit (Nnf f) names text = IsFormulaText s limit (Nnf f) names text
-Tells s limit (Pnf f) names text = IsFormulaText s limit (Pnf f) names text
-Tells s limit (Dnf f) names text = IsFormulaText s limit (Dnf f) names text
-Tells s limit (Cnf f) names text = IsFormulaText s limit (Cnf f) names text
-Tells s limit (Simpl f given) names text = IsFormulaText s limit (Simpl f given) names text
-Tells s limit (Qe f given) names text = IsFormulaText s limit (Qe f given) names text
 Tells s limit (Qea f given) names text = (ks : List Case) × IsCaseAnswer s f given ks × (text ≡ cases_text s.names ks)
 Tells s limit (Holds f es) names text = (answer : Bool) × IsTruth s (Holds f es) answer × (text ≡ truth_text answer)
 Tells s limit (Sample f es) names text = (sample : Option (List Value)) × IsSampleAnswer s f es sample × (text ≡ sample_text s.names sample)
+Tells s limit c names text = IsFormulaText s limit c names text
 
 -- no cause of a refusal applies, and this is the line, where the names after the answer are these
 abbrev pub AnswersCommand : State → ℕ → Bool → CommandTree → List (List ℕ) → Line → Type 0
@@ -81,10 +75,7 @@ Answers s limit printed (Assign x c) answer next = AnswersAssignment (named s c)
 abbrev pub RefusesAction : State → ℕ → Bool → ActionTree → StatementError → Type 0
 RefusesAction s limit printed (Say c) e = Refuses (named s c) limit (record { target = None; printed = printed }) c e
 RefusesAction s limit printed (Assign x c) e = Refuses (named s c) limit (record { target = Some x; printed = printed }) c e
-RefusesAction s limit printed Empty e = ⊥
-RefusesAction s limit printed Ignored e = ⊥
-RefusesAction s limit printed Finish e = ⊥
-RefusesAction s limit printed (Choose setting) e = ⊥
+RefusesAction s limit printed _ e = ⊥
 
 -- the bytes of a piece spell a statement that is answered with the line
 pub record IsAnswer (s : State) (limit : ℕ) (piece : List ℕ) (answer : Line) (next : State) : Type 0 where

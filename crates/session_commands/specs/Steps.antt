@@ -29,7 +29,7 @@ use Rattle.redlog_reader.specs.declared.token.ReadError.{ReadError}
 use Rattle.redlog_reader.specs.declared.token.ReadError.TheVariants as reading
 use Rattle.formula_tree.specs.Bindings.{bind}
 use Rattle.formula_tree.specs.Makers.{Keeps}
-use Rattle.formula_tree.specs.Resolving.{BoundTrees, names_after}
+use Rattle.formula_tree.specs.Resolving.{BoundTrees, names_after, resolve}
 use Rattle.formula_tree.specs.Causes.{IsAccepted as IsResolvable}
 use Rattle.formula_resolving.specs.declared.error.StaticError.{StaticError}
 use Rattle.formula_resolving.specs.declared.error.StaticError.TheVariants as static
@@ -54,6 +54,7 @@ use Rattle.session_commands.specs.declared.formulas.Way.{Way}
 use Rattle.session_commands.specs.declared.formulas.Way.TheVariants as way
 use Rattle.session_commands.specs.declared.desk.Desk.{Desk}
 use Rattle.session_commands.specs.State.{State, with_names}
+use Rattle.session_commands.specs.Assumptions.{assumed}
 use Rattle.session_commands.specs.Parts.{SomePart, EachPart}
 use Rattle.session_commands.specs.Commands.{MayGive, HasNewNames, HasAnswerNames}
 use Rattle.session_commands.specs.Points.{IsQuantified}
@@ -90,12 +91,9 @@ print_refusal print.Memory = error.Memory
 
 -- the assumptions
 abbrev pub given_trees : Wanted → FormulaTrees
-given_trees wanted.Given = none
-given_trees wanted.NegationNormal = none
-given_trees wanted.Prenex = none
-given_trees (wanted.Distributed way) = none
 given_trees (wanted.Simplified given) = formula_trees given.now
 given_trees (wanted.Eliminated given) = formula_trees given.now
+given_trees _ = none
 
 -- what the lists of a clean form are joined by
 abbrev pub junction_of : Way → Junction
@@ -207,21 +205,13 @@ pub record IsFirstWith (s : State) (g : FormulaTree) (stop after : Option Static
 
 -- a disjunctive or conjunctive form is wanted
 abbrev pub IsDistributed : Wanted → Type 0
-IsDistributed wanted.Given = ⊥
-IsDistributed wanted.NegationNormal = ⊥
-IsDistributed wanted.Prenex = ⊥
 IsDistributed (wanted.Distributed way) = Unit {0}
-IsDistributed (wanted.Simplified given) = ⊥
-IsDistributed (wanted.Eliminated given) = ⊥
+IsDistributed _ = ⊥
 
 -- a quantifier stands in a formula that is asked for its disjunctive or conjunctive form
 abbrev pub HasUnwantedQuantifier : State → Wanted → FormulaTree → Type 0
-HasUnwantedQuantifier s wanted.Given f = ⊥
-HasUnwantedQuantifier s wanted.NegationNormal f = ⊥
-HasUnwantedQuantifier s wanted.Prenex f = ⊥
 HasUnwantedQuantifier s (wanted.Distributed way) f = IsQuantified s.bound f
-HasUnwantedQuantifier s (wanted.Simplified given) f = ⊥
-HasUnwantedQuantifier s (wanted.Eliminated given) f = ⊥
+HasUnwantedQuantifier s _ f = ⊥
 
 -- no cause in reading applies, nor is there a quantifier where none may be
 pub record IsReady (s : State) (w : Wanted) (f : FormulaTree) : Type 0 where
@@ -290,12 +280,14 @@ IsWantedForm c count ks limit (wanted.Eliminated given) f t = IsWantedAnswer c k
 
 -- the names after the wanted form of a resolved formula f was made
 abbrev pub HasFormNames : Wanted → List (List ℕ) → Tree → List (List ℕ) → Type 0
-HasFormNames wanted.Given names f after = after ≡ names
-HasFormNames wanted.NegationNormal names f after = after ≡ names
 HasFormNames wanted.Prenex names f after = HasNewNames names f after
-HasFormNames (wanted.Distributed way) names f after = after ≡ names
-HasFormNames (wanted.Simplified given) names f after = after ≡ names
-HasFormNames (wanted.Eliminated given) names f after = after ≡ names
+HasFormNames _ names f after = after ≡ names
+
+-- t is the wanted form of a formula that is read in a state in which its variables have their numbers, and these are the names after it
+pub record IsWantedOf (s : State) (limit : ℕ) (w : Wanted) (f : FormulaTree) (t : Tree) (after : List (List ℕ)) : Type 0 where
+  pub ready : IsReady s w f
+  pub form : IsWantedForm s.context (length s.names) (assumed s (given_trees w)) limit w (resolve s.context s.bound s.names f) t
+  pub names : HasAnswerNames s (command_of w f) after
 
 -- why a negation normal form is not made
 abbrev pub NegationFault : Option ℕ → Tree → StatementError → Type 0
@@ -344,6 +336,16 @@ abbrev pub LineFault : Bool → List ℕ → StatementError → Type 0
 LineFault printed text error.Text = (printed ≡ true) × (text_limit < length text)
 LineFault printed text error.Memory = Unit {0}
 LineFault printed text _ = ⊥
+
+-- the formula may be bound, and this is its line
+pub record IsLineOf (target : Option (List ℕ)) (printed : Bool) (s : State) (t : Tree) (answer : Line) : Type 0 where
+  pub may : MayBind s.bound target t
+  pub line : IsLine printed (formula_line target s.names t) answer
+  pub short : ¬ (LineFault printed (formula_line target s.names t) error.Text)
+
+-- why it is not bound, or where it may be, not printed
+abbrev pub GiveFault : Option (List ℕ) → Bool → State → Tree → StatementError → Type 0
+GiveFault target printed s t e = TargetFault s.bound target t e ⊎ (MayBind s.bound target t × LineFault printed (formula_line target s.names t) e)
 
 -- ---- bindings
 

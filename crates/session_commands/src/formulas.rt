@@ -1,6 +1,6 @@
 //! Commands that give a formula: it is printed, or bound to a name.
 
-ghost use Rattle.std.specs.Prelude.{◌≡◌, ◌⊎◌, ◌↔◌, ◌<◌, ◌≤◌, ◌++◌, true, IsTrue, IfOk, IfErr, OnOk, OnErr, length, codes, map};
+ghost use Rattle.std.specs.Prelude.{◌≡◌, ◌⊎◌, ◌↔◌, ◌<◌, ◌≤◌, ◌++◌, ℕ, List, Bool, true, IsTrue, Option, IfOk, IfErr, IfSome, IfNone, OnOk, OnErr, length, codes, map};
 ghost use Rattle.std.specs.Bool.{MatchBool};
 ghost use Rattle.std.specs.List.{AllByRecursion};
 ghost use Rattle.atom_normal.specs.Atoms.{atom_of, IsWellFormed};
@@ -14,13 +14,14 @@ ghost use Rattle.redlog_printer.specs.Within.{IsTreeWithin};
 ghost use Rattle.redlog_printer.specs.Bound.{HasTwoMembers};
 ghost use Rattle.redlog_printer.specs.Writing.{text_limit};
 ghost use Rattle.qe_syntax.specs.Proper.{IsProperFormula, AreProperFormulas};
+ghost use Rattle.qe_syntax.specs.Statements.{command_tree};
 ghost use Rattle.qe_syntax.specs.Trees.{formula_tree, formulas_of};
 ghost use Rattle.session_commands.specs.Assumptions.{assumed};
-ghost use Rattle.session_commands.specs.Commands.{named};
+ghost use Rattle.session_commands.specs.Commands.{named, GivesFormula};
 ghost use Rattle.session_commands.specs.Causes.{formula_line, Refuses, HasNoRoom};
 ghost use Rattle.session_commands.specs.Keeping.{state_of, IsDesk};
 ghost use Rattle.session_commands.specs.Reply.{IsLine};
-ghost use Rattle.session_commands.specs.Steps.{static_refusal as refusal_of_static, HasUnwantedQuantifier, ArePartsNumbered, IsReady, IsUnready, given_trees, command_of, use_of, IsGiven, KeepsDesk, GrowsDesk, HasNumbers, IsUnread, IsReadable, MayBind, TargetFault, LineFault, bound_after};
+ghost use Rattle.session_commands.specs.Steps.{static_refusal as refusal_of_static, HasUnwantedQuantifier, ArePartsNumbered, IsReady, IsUnready, given_trees, command_of, use_of, IsGiven, IsWantedOf, KeepsDesk, GrowsDesk, HasNumbers, IsUnread, IsReadable, MayBind, TargetFault, LineFault, IsLineOf, GiveFault, bound_after};
 
 use crate::assumptions::{Premised, number_parts, read_parts};
 use crate::desk::Desk;
@@ -31,7 +32,7 @@ use formula_resolving::{StaticError, linearise};
 use formula_store::{FormulaId, Unfold};
 use formula_tree::{BindError, Bindings};
 use free_names::is_quantified;
-use qe_syntax::{Formula, Formulas, Name};
+use qe_syntax::{Command, Formula, Formulas, Name};
 use redlog_printer::{TEXT_LIMIT, formula_text};
 use std::alloc::Global;
 
@@ -75,6 +76,23 @@ impl<'a> Wanted<'a> {
     }
 }
 
+/// What formula the command asks for, and of which one; `None` of a query.
+pub(crate) fn wanted_of(command: &Command) -> Option<(Wanted<'_>, &Formula)>
+    ensures asked { IfSome result (λ r. command_tree command.now ≡ command_of r.0 (formula_tree r.1.now)) }
+    ensures query { IfNone result (¬ (GivesFormula (command_tree command.now))) }
+{
+    match command {
+        Command::Echo(formula) => Some((Wanted::Given, formula)),
+        Command::Nnf(formula) => Some((Wanted::NegationNormal, formula)),
+        Command::Pnf(formula) => Some((Wanted::Prenex, formula)),
+        Command::Dnf(formula) => Some((Wanted::Distributed(Way::Disjunctive), formula)),
+        Command::Cnf(formula) => Some((Wanted::Distributed(Way::Conjunctive), formula)),
+        Command::Simpl(formula, given) => Some((Wanted::Simplified(given), formula)),
+        Command::Qe(formula, given) => Some((Wanted::Eliminated(given), formula)),
+        Command::Qea(..) | Command::Holds(..) | Command::Sample(..) => None,
+    }
+}
+
 /// Answers a command that gives a formula. After an `Err` the names may have grown.
 pub(crate) fn answer_formula(
     desk: &mut Desk,
@@ -94,8 +112,45 @@ pub(crate) fn answer_formula(
 {
     let assumptions = wanted.assumptions();
     number_parts(formula, assumptions, &desk.bindings, &mut desk.names)?;
+    let id = wanted_formula(desk, limit, wanted, formula)?;
+    give(desk, target, printed, id)
+}
+
+/// The formula that is wanted, or the first cause of a refusal in reading or in making it. The names may have grown.
+fn wanted_formula(
+    desk: &mut Desk,
+    limit: u64,
+    wanted: Wanted<'_>,
+    formula: &Formula,
+) -> Result<FormulaId, StatementError>
+    requires proper { IsProperFormula (formula_tree formula.now) }
+    requires given { AreProperFormulas (given_trees wanted) }
+    requires desk { IsDesk desk.old }
+    requires numbered { ArePartsNumbered desk.old.names (formula_tree formula.now) (given_trees wanted) }
+    ensures made { IfOk result (IsId desk.new.store) }
+    ensures wanted { IfOk result (λ id. IsWantedOf (state_of desk.old) limit wanted.entry (formula_tree formula.now) (tree desk.new.store id) desk.new.names) }
+    ensures refused { IfErr result (λ e. (target : Option (List ℕ)) (printed : Bool) → Refuses (state_of desk.old) limit (use_of target printed) (command_of wanted.entry (formula_tree formula.now)) e) }
+    ensures grown { GrowsDesk desk.old desk.new }
+{
     let read = read_wanted(desk, wanted, formula)?;
-    let id = formed(desk, limit, wanted, &read)?;
+    formed(desk, limit, wanted, &read)
+}
+
+/// Binds the formula to the name, if there is one, and gives its line, if it is printed. An `Err` leaves all as it was.
+fn give(
+    desk: &mut Desk,
+    target: &Option<Name>,
+    printed: bool,
+    id: FormulaId,
+) -> Result<Line, StatementError>
+    requires id { IsId desk.old.store id }
+    requires within { IsTreeWithin (length desk.old.names) (tree desk.old.store id) }
+    requires members { HasTwoMembers (tree desk.old.store id) }
+    ensures bound { OnOk result (desk.new ≡ record desk.old { bindings = bound_after desk.old.bindings target.now id }) }
+    ensures line { IfOk result (IsLineOf target.now printed (state_of desk.old) (tree desk.old.store id)) }
+    ensures fault { IfErr result (GiveFault target.now printed (state_of desk.old) (tree desk.old.store id)) }
+    ensures unchanged { OnErr result (desk.new ≡ desk.old) }
+{
     check_target(desk, target, id)?;
     let line = line_of(desk, target, printed, id)?;
     bind(desk, target, id)?;

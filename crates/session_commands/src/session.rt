@@ -2,17 +2,17 @@ ghost use Rattle.std.specs.Prelude.{◌≡◌, ◌≤◌, Some, None, IfOk, IfEr
 ghost use Rattle.qe_syntax.specs.Statements.{statement_tree, command_tree};
 ghost use Rattle.qe_syntax.specs.Proper.{IsProper, IsProperCommand};
 ghost use Rattle.session_commands.specs.Keeping.{state_of, IsDesk};
-ghost use Rattle.session_commands.specs.Reply.{Reply, IsLine, Answers, AnswersSaid, AnswersAssignment};
+ghost use Rattle.session_commands.specs.Reply.{Reply, IsLine, Answers, AnswersSaid};
 ghost use Rattle.session_commands.specs.Words.{context_text};
 ghost use Rattle.session_commands.specs.Seen.{state_in};
 ghost use Rattle.session_commands.specs.State.{first_state, theory_of, chosen};
-ghost use Rattle.session_commands.specs.Steps.{read_refusal, use_of, IsStopped, GrowsDesk};
+ghost use Rattle.session_commands.specs.Steps.{read_refusal, use_of, IsStopped, IsGiven, GrowsDesk};
 ghost use Rattle.session_commands.specs.Causes.{Refuses};
 ghost use Rattle.session_commands.specs.Commands.{named, GivesFormula, BindsFormula};
 
 use crate::cases::answer_cases;
 use crate::desk::Desk;
-use crate::formulas::{Wanted, Way, answer_formula};
+use crate::formulas::{answer_formula, wanted_of};
 use crate::holds::answer_holds;
 use crate::line::{Line, StatementError};
 use crate::lines::printed_line;
@@ -138,7 +138,9 @@ fn act(desk: &mut Desk, limit: u64, statement: &Statement) -> Result<Line, State
         Action::Finish => Ok(Line::Finished),
         Action::Choose(setting) => choose(desk, *setting, statement.printed),
         Action::Say(command) => say(desk, limit, command, statement.printed),
-        Action::Assign(name, command) => assign(desk, limit, name, command, statement.printed),
+        Action::Assign(name, command) => {
+            answer_wanted(desk, limit, command, &Some(*name), statement.printed)
+        }
     }
 }
 
@@ -178,128 +180,35 @@ fn say(
     ensures grown { OnErr result (GrowsDesk desk.old desk.new) }
 {
     match command {
-        Command::Echo(formula) => answer_formula(
-            desk,
-            limit,
-            Wanted::Given,
-            formula,
-            &None,
-            printed,
-        ),
-        Command::Nnf(formula) => {
-            answer_formula(desk, limit, Wanted::NegationNormal, formula, &None, printed)
-        }
-        Command::Pnf(formula) => answer_formula(
-            desk,
-            limit,
-            Wanted::Prenex,
-            formula,
-            &None,
-            printed,
-        ),
-        Command::Simpl(formula, given) => {
-            answer_formula(
-                desk,
-                limit,
-                Wanted::Simplified(given),
-                formula,
-                &None,
-                printed,
-            )
-        }
-        Command::Qe(formula, given) => {
-            answer_formula(
-                desk,
-                limit,
-                Wanted::Eliminated(given),
-                formula,
-                &None,
-                printed,
-            )
-        }
         Command::Qea(formula, given) => answer_cases(desk, limit, formula, given.items(), printed),
-        Command::Holds(formula, entries) => answer_holds(
-            desk,
-            limit,
-            formula,
-            entries.items(),
-            printed,
-        ),
-        Command::Dnf(formula) => {
-            let wanted = Wanted::Distributed(Way::Disjunctive);
-            answer_formula(desk, limit, wanted, formula, &None, printed)
+        Command::Holds(formula, entries) => {
+            answer_holds(desk, limit, formula, entries.items(), printed)
         }
-        Command::Cnf(formula) => {
-            let wanted = Wanted::Distributed(Way::Conjunctive);
-            answer_formula(desk, limit, wanted, formula, &None, printed)
+        Command::Sample(formula, entries) => {
+            answer_sample(desk, limit, formula, entries.items(), printed)
         }
-        Command::Sample(formula, entries) => answer_sample(
-            desk,
-            limit,
-            formula,
-            entries.items(),
-            printed,
-        ),
+        _ => answer_wanted(desk, limit, command, &None, printed),
     }
 }
 
-/// Answers an assignment. After an `Err` the names may have grown.
-fn assign(
+/// Answers a command that gives a formula, and binds it to the name, if there is one. After an `Err` the names may have grown.
+fn answer_wanted(
     desk: &mut Desk,
     limit: u64,
-    name: &Name,
     command: &Command,
+    target: &Option<Name>,
     printed: bool,
 ) -> Result<Line, StatementError>
     requires proper { IsProperCommand (command_tree command.now) }
     requires formula { GivesFormula (command_tree command.now) }
     requires desk { IsDesk desk.old }
     ensures desk { OnOk result (IsDesk desk.new) }
-    ensures answer { IfOk result (λ line. AnswersAssignment (named (state_of desk.old) (command_tree command.now)) limit printed name.now (command_tree command.now) line (state_of desk.new)) }
-    ensures refusal { IfErr result (Refuses (named (state_of desk.old) (command_tree command.now)) limit (use_of (Some name.now) printed) (command_tree command.now)) }
+    ensures answer { IfOk result (λ line. IsGiven (named (state_of desk.old) (command_tree command.now)) limit (use_of target.now printed) (command_tree command.now) line (state_of desk.new)) }
+    ensures refusal { IfErr result (Refuses (named (state_of desk.old) (command_tree command.now)) limit (use_of target.now printed) (command_tree command.now)) }
     ensures grown { OnErr result (GrowsDesk desk.old desk.new) }
 {
-    match command {
-        Command::Echo(formula) => {
-            answer_formula(desk, limit, Wanted::Given, formula, &Some(*name), printed)
-        }
-        Command::Nnf(formula) => {
-            answer_formula(
-                desk,
-                limit,
-                Wanted::NegationNormal,
-                formula,
-                &Some(*name),
-                printed,
-            )
-        }
-        Command::Pnf(formula) => {
-            answer_formula(desk, limit, Wanted::Prenex, formula, &Some(*name), printed)
-        }
-        Command::Simpl(formula, given) => answer_formula(
-            desk,
-            limit,
-            Wanted::Simplified(given),
-            formula,
-            &Some(*name),
-            printed,
-        ),
-        Command::Qe(formula, given) => answer_formula(
-            desk,
-            limit,
-            Wanted::Eliminated(given),
-            formula,
-            &Some(*name),
-            printed,
-        ),
-        Command::Dnf(formula) => {
-            let wanted = Wanted::Distributed(Way::Disjunctive);
-            answer_formula(desk, limit, wanted, formula, &Some(*name), printed)
-        }
-        Command::Cnf(formula) => {
-            let wanted = Wanted::Distributed(Way::Conjunctive);
-            answer_formula(desk, limit, wanted, formula, &Some(*name), printed)
-        }
-        Command::Qea(..) | Command::Holds(..) | Command::Sample(..) => unreachable!(),
-    }
+    let Some((wanted, formula)) = wanted_of(command) else {
+        unreachable!()
+    };
+    answer_formula(desk, limit, wanted, formula, target, printed)
 }
