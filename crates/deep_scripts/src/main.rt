@@ -129,10 +129,12 @@ fn queries(rt: &HostRuntime) -> io::Result<()> {
     let prenex = Nest::of("rlpnf ", "ex(x,", "x=1", ")", ";");
     let cases = Nest::of("rlqea ", "ex(x,", "x=1", ")", ";");
     let sample = Nest::of("rlwitness(", "ex(x,", "x=1", ")", ",{});");
+    let many = Nest::of("rlpnf(", "ex(x,x=1) and ", "x=1", "", ");");
     query(rt, "511 times ex in prenex form", prenex, 511)?;
     query(rt, "their cases", cases, 511)?;
     query(rt, "their sample", sample, 511)?;
-    query(rt, "the sample of 512", sample, 512)
+    query(rt, "the sample of 512", sample, 512)?;
+    query(rt, "20,000 quantifiers in front", many, 20_000)
 }
 
 /// The answer to a statement of these parts in a session of its own.

@@ -22,3 +22,4 @@ pub mod ShortSamples
 pub mod SampleSteps
 pub mod NewNameLemmas
 pub mod PrenexLemmas
+pub mod TextLemmas

@@ -15,3 +15,4 @@ pub mod CaseSteps
 pub mod Asked
 pub mod Truths
 pub mod SampleSteps
+pub mod Texts

@@ -27,13 +27,13 @@ use crate::assumptions::{Premised, number_parts, read_parts};
 use crate::desk::Desk;
 use crate::forms::formed;
 use crate::line::{Line, StatementError};
-use crate::lines::print_refusal;
+use crate::texts::text_of;
 use formula_resolving::{StaticError, linearise};
-use formula_store::{FormulaId, Unfold};
+use formula_store::FormulaId;
 use formula_tree::{BindError, Bindings};
 use free_names::is_quantified;
 use qe_syntax::{Command, Formula, Formulas, Name};
-use redlog_printer::{TEXT_LIMIT, formula_text};
+use redlog_printer::TEXT_LIMIT;
 use std::alloc::Global;
 
 /// A bound formula has at most so many distinct subformulas.
@@ -41,9 +41,6 @@ pub const MOST_SUBFORMULAS: u64 = 100_000;
 
 /// At most so many names are bound.
 const MOST_BOUND: usize = 256;
-
-/// A formula with more nodes has a text that is too long.
-const MOST_PRINTED_NODES: u64 = 8_388_608;
 
 /// Which clean form is wanted.
 #[derive(Clone, Copy, Debug, PartialEq, Eq)]
@@ -307,25 +304,6 @@ fn line_of(
     match target {
         None => Ok(Line::Printed(text)),
         Some(name) => assignment_line(desk.alloc, name, &text),
-    }
-}
-
-/// The text of a formula.
-fn text_of(desk: &Desk, id: FormulaId) -> Result<Vec<u8>, StatementError>
-    requires id { IsId desk.now.store id }
-    requires within { IsTreeWithin (length desk.now.names) (tree desk.now.store id) }
-    requires members { HasTwoMembers (tree desk.now.store id) }
-    ensures text { IfOk result (λ v. v.items ≡ tree_text desk.now.names (tree desk.now.store id)) }
-    ensures short { OnOk result (length (tree_text desk.now.names (tree desk.now.store id)) ≤ text_limit) }
-    ensures fault { IfErr result (λ e. ((e ≡ StatementError.Text) × (text_limit < length (tree_text desk.now.names (tree desk.now.store id)))) ⊎ (e ≡ StatementError.Memory)) }
-{
-    match desk.store.unfold(id, MOST_PRINTED_NODES) {
-        Ok(tree) => match formula_text(desk.alloc, &tree, &desk.names) {
-            Ok(text) => Ok(text),
-            Err(error) => Err(print_refusal(error)),
-        },
-        Err(Unfold::Large) => Err(StatementError::Text),
-        Err(Unfold::Memory) => Err(StatementError::Memory),
     }
 }
 

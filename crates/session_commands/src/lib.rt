@@ -12,6 +12,7 @@ mod lines;
 mod points;
 mod samples;
 mod session;
+mod texts;
 
 pub use formulas::MOST_SUBFORMULAS;
 pub use line::{Line, StatementError};

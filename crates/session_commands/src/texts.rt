@@ -1,0 +1,153 @@
+//! The text of a formula of the store.
+
+ghost use Rattle.std.specs.Prelude.{◌≡◌, ◌⊎◌, ◌+◌, ◌<◌, ◌≤◌, ◌++◌, IsErrOf, IfOk, IfErr, IfSome, OnOk, length, codes};
+ghost use Rattle.formula_store.specs.Nodes.{tree, IsId};
+ghost use Rattle.redlog_printer.specs.Bound.{HasTwoMembers};
+ghost use Rattle.redlog_printer.specs.Text.{name_at, tree_text};
+ghost use Rattle.redlog_printer.specs.Within.{IsTreeWithin};
+ghost use Rattle.redlog_printer.specs.Writing.{text_limit};
+ghost use Rattle.session_commands.specs.Texts.{Begins, brackets, IsOpened};
+
+use crate::desk::Desk;
+use crate::line::StatementError;
+use crate::lines::print_refusal;
+use formula_store::{FormulaId, Store, Unfold};
+use formula_tree::{Names, Shape};
+use linear_forms::VarId;
+use redlog_printer::{Output, PrintError, put_tree};
+
+/// A formula with more nodes has a text that is too long.
+const MOST_PRINTED_NODES: u64 = 8_388_608;
+
+/// The text of a formula. `Text` comes exactly where it is longer than 32 MiB, else `Memory`.
+///
+/// The quantifiers that the formula begins with are written in a loop, since a prenex form has as many as its statement; the
+/// recursion is as deep as what stands behind them is high.
+pub(crate) fn text_of(desk: &Desk, id: FormulaId) -> Result<Vec<u8>, StatementError>
+    requires id { IsId desk.now.store id }
+    requires within { IsTreeWithin (length desk.now.names) (tree desk.now.store id) }
+    requires members { HasTwoMembers (tree desk.now.store id) }
+    ensures text { IfOk result (λ v. v.items ≡ tree_text desk.now.names (tree desk.now.store id)) }
+    ensures short { OnOk result (length (tree_text desk.now.names (tree desk.now.store id)) ≤ text_limit) }
+    ensures fault { IfErr result (λ e. ((e ≡ StatementError.Text) × (text_limit < length (tree_text desk.now.names (tree desk.now.store id)))) ⊎ (e ≡ StatementError.Memory)) }
+{
+    let mut out = Output::new(desk.alloc);
+    match put_formula(&desk.store, &desk.names, &mut out, id) {
+        Ok(()) => Ok(out.into_bytes()),
+        Err(error) => Err(print_refusal(error)),
+    }
+}
+
+/// Writes the formula.
+fn put_formula(
+    store: &Store,
+    names: &Names,
+    out: &mut Output,
+    id: FormulaId,
+) -> Result<(), PrintError>
+    requires id { IsId store.now id }
+    requires within { IsTreeWithin (length names.now) (tree store.now id) }
+    requires members { HasTwoMembers (tree store.now id) }
+    ensures wrote { OnOk result (out.new ≡ out.old ++ tree_text names.now (tree store.now id)) }
+    ensures long { IsErrOf result PrintError.Text → text_limit < length out.old + length (tree_text names.now (tree store.now id)) }
+{
+    let (matrix, count) = put_quantifiers(store, names, out, id)?;
+    put_unfolded(store, names, out, matrix)?;
+    put_brackets(out, count)
+}
+
+/// Writes the quantifiers that the formula begins with, and gives what stands behind them and how many brackets are open.
+fn put_quantifiers(
+    store: &Store,
+    names: &Names,
+    out: &mut Output,
+    id: FormulaId,
+) -> Result<(FormulaId, usize), PrintError>
+    requires id { IsId store.now id }
+    requires within { IsTreeWithin (length names.now) (tree store.now id) }
+    requires members { HasTwoMembers (tree store.now id) }
+    ensures made { IfOk result (λ r. IsId store.now r.0) }
+    ensures opened { IfOk result (λ r. IsOpened names.now out.old (tree store.now id) out.new (tree store.now r.0) r.1) }
+    ensures long { IsErrOf result PrintError.Text → text_limit < length out.old + length (tree_text names.now (tree store.now id)) }
+{
+    let mut id = id;
+    let mut count = 0;
+    'quantifiers: while let Some(first) = quantifier(store, id) {
+        let Quantified { word, name, matrix } = first;
+        put_opening(names, out, word, name)?;
+        id = matrix;
+        count += 1;
+    }
+    Ok((id, count))
+}
+
+/// A quantifier as it is written, its name, and the formula behind it.
+#[derive(Clone, Copy)]
+struct Quantified {
+    word: &'static [u8],
+    name: VarId,
+    matrix: FormulaId,
+}
+
+/// The quantifier that the formula begins with, if it does.
+fn quantifier(store: &Store, id: FormulaId) -> Option<Quantified>
+    requires { IsId store.now id }
+    ensures begins { IfSome result (λ q. Begins (tree store.now id) q.word.now q.name.number (tree store.now q.matrix)) }
+    ensures smaller { IfSome result (λ q. q.matrix.number < id.number) }
+{
+    match store.shape(id) {
+        Shape::Ex(name, matrix) => Some(Quantified {
+            word: b"ex(",
+            name: *name,
+            matrix: *matrix,
+        }),
+        Shape::All(name, matrix) => Some(Quantified {
+            word: b"all(",
+            name: *name,
+            matrix: *matrix,
+        }),
+        _ => None,
+    }
+}
+
+/// Writes a quantifier up to its comma.
+fn put_opening(names: &Names, out: &mut Output, word: &[u8], name: VarId) -> Result<(), PrintError>
+    requires { name.number < length names.now }
+    ensures wrote { OnOk result (out.new ≡ out.old ++ (word.now ++ name_at names.now name.number ++ codes ",")) }
+    ensures long { IsErrOf result PrintError.Text → text_limit < length out.old + length (word.now ++ name_at names.now name.number ++ codes ",") }
+{
+    out.put(word)?;
+    out.put_name(names, name)?;
+    out.put(b",")
+}
+
+/// Writes a formula that is unfolded for it.
+fn put_unfolded(
+    store: &Store,
+    names: &Names,
+    out: &mut Output,
+    id: FormulaId,
+) -> Result<(), PrintError>
+    requires id { IsId store.now id }
+    requires within { IsTreeWithin (length names.now) (tree store.now id) }
+    requires members { HasTwoMembers (tree store.now id) }
+    ensures wrote { OnOk result (out.new ≡ out.old ++ tree_text names.now (tree store.now id)) }
+    ensures long { IsErrOf result PrintError.Text → text_limit < length out.old + length (tree_text names.now (tree store.now id)) }
+{
+    match store.unfold(id, MOST_PRINTED_NODES) {
+        Ok(tree) => put_tree(out, names, &tree),
+        Err(Unfold::Large) => Err(PrintError::Text),
+        Err(Unfold::Memory) => Err(PrintError::Memory),
+    }
+}
+
+/// Closes so many brackets.
+fn put_brackets(out: &mut Output, count: usize) -> Result<(), PrintError>
+    ensures wrote { OnOk result (out.new ≡ out.old ++ brackets count) }
+    ensures long { IsErrOf result PrintError.Text → text_limit < length out.old + count }
+{
+    for _closed in 0..count {
+        out.put(b")")?;
+    }
+    Ok(())
+}
