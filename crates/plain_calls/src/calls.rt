@@ -2,14 +2,16 @@
 
 use crate::reading::{LIMIT, form_of, formula_of};
 use crate::writing::{cases_text, sample_text, tree_text};
-use atom_normal::Context;
+use atom_normal::{Atom, Context, Rel};
 use formula_resolving::{PlainMaker, linearise};
 use formula_store::{Store, Unfold};
-use formula_tree::{Bindings, Names};
-use linear_forms::Values;
+use formula_tree::{Bindings, Names, Tree};
+use linear_forms::{Linear, Values, VarId};
 use plain_cases::cases_plain;
 use plain_samples::sample_plain;
 use plain_truths::put_in;
+use qe_syntax::Name;
+use redlog_printer::formula_text;
 use redlog_reader::read_statement;
 use std::alloc::Global;
 
@@ -45,6 +47,17 @@ pub(crate) fn unfolding(alloc: Global, statement: &str, limit: u64) -> Option<St
         Err(Unfold::Large) => "large".to_string(alloc).ok(),
         Err(Unfold::Memory) => None,
     }
+}
+
+/// The text of `x > 0`, as the printer gives it.
+#[tactic(auto, using(formula_tree::proofs::TreeEquations::trees))]
+pub(crate) fn printed_atom(alloc: Global) -> Option<String> {
+    let mut names = Names::new(alloc);
+    names.number(&Name::of(b"x")).ok()?;
+    let form = Linear::variable(alloc, VarId { number: 0 }).ok()?;
+    let tree = Tree::One(Atom::Compare(Rel::Greater, form));
+    let text = formula_text(alloc, &tree, &names).ok()?;
+    String::from_utf8(text).ok()
 }
 
 /// The cases of the statement's formula.

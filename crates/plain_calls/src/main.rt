@@ -1,12 +1,12 @@
 //! Makes the calls that no statement makes, on formulas worked by hand: a maker of plain trees, a formula unfolded under a
-//! limit, the cases of a tree, and the sample of one without free names. The gate runs it and compares what it prints.
+//! limit, a tree printed by itself, the cases of a tree, and the sample of one without free names. The gate runs it and compares what it prints.
 #![tactic(auto)]
 
 mod calls;
 mod reading;
 mod writing;
 
-use crate::calls::{cases, plain_tree, sample, unfolding};
+use crate::calls::{cases, plain_tree, printed_atom, sample, unfolding};
 use atom_normal::Context;
 use std::io;
 
@@ -15,6 +15,7 @@ fn main(rt: HostRuntime) -> io::Result<()> {
     let pair = plain_tree(alloc, Context::Fields, "x>0 and 6<=4*x;");
     let whole = unfolding(alloc, "p>0 or (p>0 and q>0);", 5);
     let large = unfolding(alloc, "p>0 or (p>0 and q>0);", 4);
+    let printed = printed_atom(alloc);
     let between = cases(alloc, Context::Fields, "ex(x,x>a and x<b);");
     let half = cases(alloc, Context::Integers, "ex(x,2*x=a);");
     let fifteenth = sample(alloc, Context::Fields, "ex({x,y},3*x=1 and 5*y=x);");
@@ -23,6 +24,7 @@ fn main(rt: HostRuntime) -> io::Result<()> {
     tell(&rt, "a plain tree", pair)?;
     tell(&rt, "a tree of 5 nodes, unfolded under the limit 5", whole)?;
     tell(&rt, "the same under the limit 4", large)?;
+    tell(&rt, "an atom, printed", printed)?;
     tell(&rt, "cases of a number between two", between)?;
     tell(&rt, "cases of a half", half)?;
     tell(&rt, "sample of a third and a fifteenth", fifteenth)?;
