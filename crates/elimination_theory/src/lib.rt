@@ -5,5 +5,8 @@ pub mod fields;
 pub mod integers;
 pub mod names;
 pub mod points;
+mod side;
 pub mod steps;
 pub mod truth;
+
+pub use side::Side;

@@ -1,6 +1,19 @@
 -- Shapes of formulas: quantifier-free, built by and and or alone, negation normal, prenex; blocks of quantifiers.
 use Rattle.std.specs.Prelude.{ℕ, suc, max, min, Bool, true, false, List, [], ◌∷◌, if◌then◌else◌}
 use Rattle.formula_meaning.specs.Formula.{Formula, Formulas, Yes, No, One, Not, And, Or, Impl, Repl, Equiv, Ex, All, none, also}
+pub use Rattle.formula_meaning.specs.declared.quantifier.Quantifier.{Quantifier}
+pub use Rattle.formula_meaning.specs.declared.quantifier.Quantifier.TheVariants.{Exists, ForAll}
+
+-- what a negation makes of it
+abbrev pub turned_quantifier : Bool → Quantifier → Quantifier
+turned_quantifier false q = q
+turned_quantifier true Exists = ForAll
+turned_quantifier true ForAll = Exists
+
+-- the formula under the quantifier of the name
+abbrev pub quantified : {A N : Type 0} → Quantifier → N → Formula A N → Formula A N
+quantified Exists x f = Ex x f
+quantified ForAll x f = All x f
 
 module _ {A N : Type 0} where
   -- a constant, or one atom
@@ -80,9 +93,6 @@ module _ {A N : Type 0} where
   IsPrenex (Impl f g) = IsQuantifierFree f × IsQuantifierFree g
   IsPrenex (Repl f g) = IsQuantifierFree f × IsQuantifierFree g
   IsPrenex (Equiv f g) = IsQuantifierFree f × IsQuantifierFree g
-
-pub data Quantifier : Type 0 where
-  Exists ForAll : Quantifier
 
 module _ {A N : Type 0} where
   abbrev mutual

@@ -1,10 +1,16 @@
-//! What formulas mean: points, truth, linear forms, atoms, answers. Each function does nothing; its contract is a law.
+//! What formulas mean: points, truth, linear forms, atoms, answers. Beside the two enums each function does nothing; its contract is a law.
 #![tactic(auto)]
+
+mod junction;
+mod quantifier;
 
 ghost use Rattle.formula_meaning.specs.Context.{Context};
 ghost use Rattle.formula_meaning.specs.Form.{Form};
 ghost use Rattle.formula_meaning.specs.Tree.{Tree};
 ghost use Rattle.formula_meaning.specs.Laws.{SamePointKeepsTruth, FreeNamesDecideTruth, ReplacingKeepsTruth, NegationNormalFormIsNormal, NegationNormalFormBringsNoName, NegationNormalFormLosesNoName, EquivalenceIsCongruence, QuantifiersDistribute, AbsentNameIsDropped, FoldingKeepsTruth, FoldingBringsNothing, FreeNamesAreListed, GatheringIsExact, SortedFormIsDetermined, SizesAgree, EqualityIsTested};
+
+pub use junction::Junction;
+pub use quantifier::Quantifier;
 
 /// A tree has the same truth at every representation of a rational point.
 pub fn same_point_keeps_truth()
