@@ -1,3 +1,4 @@
+pub mod Known
 pub mod Lexemes
 pub mod PieceLemmas
 pub mod Counts

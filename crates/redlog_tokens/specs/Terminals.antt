@@ -1,5 +1,6 @@
 -- Tokens as the grammar names them.
-use Rattle.std.specs.Prelude.{ℕ, List, codes, bytes_eq, map, if◌then◌else◌}
+use Rattle.std.specs.Prelude.{ℕ, List, [], ◌∷◌, Option, Some, None, codes, bytes_eq, map, unwrap_or, if◌then◌else◌}
+use Rattle.std.specs.Borrow.{Bor}
 use Rattle.qe_syntax.specs.declared.tree.Relation.TheVariants.{Equal, Differs, Less, AtMost, Greater, AtLeast}
 use Rattle.redlog_tokens.specs.declared.terminal.Terminal.{Terminal}
 use Rattle.redlog_tokens.specs.declared.terminal.Terminal.TheVariants as terminal
@@ -10,39 +11,27 @@ use Rattle.redlog_tokens.specs.declared.token.Token.{Token}
 use Rattle.redlog_tokens.specs.declared.token.TokenKind.{TokenKind}
 use Rattle.redlog_tokens.specs.declared.token.TokenKind.TheVariants as token
 
+-- the words, but for those with numbers, each with what it is to the grammar: Other where no statement begins with it so far
+abbrev pub words : List (List ℕ × Word)
+words =
+    (codes "true", word.True) ∷ (codes "false", word.False) ∷ (codes "not", word.Not) ∷ (codes "and", word.And) ∷ (codes "or", word.Or) ∷ (codes "impl", word.Impl) ∷ (codes "repl", word.Repl) ∷ (codes "equiv", word.Equiv)
+    ∷ (codes "ex", word.Ex) ∷ (codes "all", word.All) ∷ (codes "cong", word.Cong) ∷ (codes "ncong", word.Ncong) ∷ (codes "neq", word.Neq)
+    ∷ (codes "rlset", word.Set) ∷ (codes "rlnnf", word.Nnf) ∷ (codes "rlpnf", word.Pnf) ∷ (codes "rldnf", word.Dnf) ∷ (codes "rlcnf", word.Cnf) ∷ (codes "rlsimpl", word.Simpl) ∷ (codes "rlqe", word.Qe) ∷ (codes "rlqea", word.Qea)
+    ∷ (codes "rlholds", word.Holds) ∷ (codes "rlwitness", word.Witness) ∷ (codes "rlassume", word.Other) ∷ (codes "rlretract", word.Other) ∷ (codes "rlgrid", word.Other) ∷ (codes "rlopt", word.Other) ∷ (codes "rlcert", word.Other) ∷ (codes "rlcheck", word.Other)
+    ∷ (codes "load_package", word.Load) ∷ (codes "on", word.On) ∷ (codes "off", word.Off) ∷ (codes "end", word.End) ∷ (codes "bye", word.Bye) ∷ (codes "quit", word.Quit) ∷ []
+
+-- what the text is, if it is one of these words
+abbrev pub known : List ℕ → List (List ℕ × Word) → Option Word
+known text [] = None
+known text (w ∷ ws) = if bytes_eq text w.0 then Some w.1 else known text ws
+
+-- a word of the code with what it is
+abbrev pub word_pair : Bor (List ℕ) × Word → List ℕ × Word
+word_pair w = (w.0.now, w.1)
+
 -- the word that a text is
 unfoldable pub word_of : List ℕ → Word
-word_of text =
-    if bytes_eq text (codes "true") then word.True
-    else (if bytes_eq text (codes "false") then word.False
-    else (if bytes_eq text (codes "not") then word.Not
-    else (if bytes_eq text (codes "and") then word.And
-    else (if bytes_eq text (codes "or") then word.Or
-    else (if bytes_eq text (codes "impl") then word.Impl
-    else (if bytes_eq text (codes "repl") then word.Repl
-    else (if bytes_eq text (codes "equiv") then word.Equiv
-    else (if bytes_eq text (codes "ex") then word.Ex
-    else (if bytes_eq text (codes "all") then word.All
-    else (if bytes_eq text (codes "cong") then word.Cong
-    else (if bytes_eq text (codes "ncong") then word.Ncong
-    else (if bytes_eq text (codes "neq") then word.Neq
-    else (if bytes_eq text (codes "rlset") then word.Set
-    else (if bytes_eq text (codes "rlnnf") then word.Nnf
-    else (if bytes_eq text (codes "rlpnf") then word.Pnf
-    else (if bytes_eq text (codes "rldnf") then word.Dnf
-    else (if bytes_eq text (codes "rlcnf") then word.Cnf
-    else (if bytes_eq text (codes "rlsimpl") then word.Simpl
-    else (if bytes_eq text (codes "rlqe") then word.Qe
-    else (if bytes_eq text (codes "rlqea") then word.Qea
-    else (if bytes_eq text (codes "rlholds") then word.Holds
-    else (if bytes_eq text (codes "rlwitness") then word.Witness
-    else (if bytes_eq text (codes "load_package") then word.Load
-    else (if bytes_eq text (codes "on") then word.On
-    else (if bytes_eq text (codes "off") then word.Off
-    else (if bytes_eq text (codes "end") then word.End
-    else (if bytes_eq text (codes "bye") then word.Bye
-    else (if bytes_eq text (codes "quit") then word.Quit
-    else word.Other))))))))))))))))))))))))))))
+word_of text = unwrap_or (known text words) word.Other
 
 -- the terminal that a sign is; no token is another sign than these
 unfoldable pub sign_of : List ℕ → Terminal

@@ -155,7 +155,7 @@ impl Levels {
 }
 
 /// How a token changes the open groups.
-#[derive(Clone, Copy, Debug)]
+#[derive(Clone, Copy)]
 pub enum Change {
     Opens,
     Closes,

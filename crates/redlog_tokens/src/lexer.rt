@@ -2,53 +2,14 @@ ghost use Rattle.std.specs.Prelude.{◌≡◌, ℕ, ◌+◌, ◌<◌, ◌≤◌,
 ghost use Rattle.std.specs.List.{prefix_len, list_all, list_any};
 ghost use Rattle.redlog_tokens.specs.declared.lexer.Lexeme.{Lexeme};
 ghost use Rattle.redlog_tokens.specs.Lexing.{is_blank, is_in_line, literal_of, long_signs, short_signs, worded, signed, front, IsFront, size, LexesFrom};
-ghost use Rattle.qe_syntax.specs.Names.{is_digit, is_letter, is_name_part, keywords, is_one_of, is_numbered, is_word};
+ghost use Rattle.qe_syntax.specs.Names.{is_digit, is_letter, is_name_part, is_one_of, is_numbered, is_word};
 
-use crate::terminal::is;
 use crate::token::TokenKind;
+use crate::words::{is, is_keyword};
 use qe_syntax::{Literal, Name};
 
 /// The greatest number that a literal keeps.
 const LIMIT: u128 = (1 << 127) - 1;
-
-/// The words, but for those with numbers.
-const KEYWORDS: [&str; 35] = [
-    "true",
-    "false",
-    "not",
-    "and",
-    "or",
-    "impl",
-    "repl",
-    "equiv",
-    "ex",
-    "all",
-    "cong",
-    "ncong",
-    "neq",
-    "rlset",
-    "rlnnf",
-    "rlpnf",
-    "rldnf",
-    "rlcnf",
-    "rlsimpl",
-    "rlqe",
-    "rlqea",
-    "rlholds",
-    "rlwitness",
-    "rlassume",
-    "rlretract",
-    "rlgrid",
-    "rlopt",
-    "rlcert",
-    "rlcheck",
-    "load_package",
-    "on",
-    "off",
-    "end",
-    "bye",
-    "quit",
-];
 
 /// The signs of two bytes.
 const LONG_SIGNS: [&str; 5] = ["**", ":=", "<>", "<=", ">="];
@@ -198,12 +159,6 @@ fn is_word(text: &[u8]) -> bool
         return true;
     }
     is_numbered(text, "epsilon")
-}
-
-fn is_keyword(text: &[u8]) -> bool
-    ensures { result ≡ is_one_of text.now keywords }
-{
-    is_one_of(text, &KEYWORDS)
 }
 
 /// Whether the text is this beginning and then one digit or more.

@@ -8,6 +8,7 @@ mod piece;
 mod scan;
 mod terminal;
 mod token;
+mod words;
 
 pub use laws::{longest_tokens, one_piece};
 pub use level::{LEVEL_LIMIT, is_deep};

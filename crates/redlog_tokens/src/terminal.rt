@@ -1,7 +1,8 @@
-ghost use Rattle.std.specs.Prelude.{◌≡◌, bytes_eq};
+ghost use Rattle.std.specs.Prelude.{◌≡◌};
 ghost use Rattle.redlog_tokens.specs.Terminals.{terminal_of, word_of, sign_of};
 
 use crate::token::TokenKind;
+use crate::words::{is, known_word};
 use qe_syntax::{Literal, Name, Relation};
 
 /// A token as the grammar names it.
@@ -15,7 +16,7 @@ pub enum Terminal {
 }
 
 /// A sign that is no relation. `Power` is `^` or `**`.
-#[derive(Clone, Copy, Debug, PartialEq, Eq)]
+#[derive(Clone, Copy, PartialEq, Eq)]
 pub enum Mark {
     Plus,
     Minus,
@@ -33,7 +34,7 @@ pub enum Mark {
 }
 
 /// A word. `Other` is one that no statement begins with so far, or `infinity` or `epsilon` with a number.
-#[derive(Clone, Copy, Debug, PartialEq, Eq)]
+#[derive(Clone, Copy, PartialEq, Eq)]
 pub enum Word {
     True,
     False,
@@ -84,67 +85,7 @@ pub fn terminal_of(kind: &TokenKind) -> Terminal
 fn word_of(word: &[u8]) -> Word
     ensures { result ≡ word_of word.now }
 {
-    if is(word, "true") {
-        Word::True
-    } else if is(word, "false") {
-        Word::False
-    } else if is(word, "not") {
-        Word::Not
-    } else if is(word, "and") {
-        Word::And
-    } else if is(word, "or") {
-        Word::Or
-    } else if is(word, "impl") {
-        Word::Impl
-    } else if is(word, "repl") {
-        Word::Repl
-    } else if is(word, "equiv") {
-        Word::Equiv
-    } else if is(word, "ex") {
-        Word::Ex
-    } else if is(word, "all") {
-        Word::All
-    } else if is(word, "cong") {
-        Word::Cong
-    } else if is(word, "ncong") {
-        Word::Ncong
-    } else if is(word, "neq") {
-        Word::Neq
-    } else if is(word, "rlset") {
-        Word::Set
-    } else if is(word, "rlnnf") {
-        Word::Nnf
-    } else if is(word, "rlpnf") {
-        Word::Pnf
-    } else if is(word, "rldnf") {
-        Word::Dnf
-    } else if is(word, "rlcnf") {
-        Word::Cnf
-    } else if is(word, "rlsimpl") {
-        Word::Simpl
-    } else if is(word, "rlqe") {
-        Word::Qe
-    } else if is(word, "rlqea") {
-        Word::Qea
-    } else if is(word, "rlholds") {
-        Word::Holds
-    } else if is(word, "rlwitness") {
-        Word::Witness
-    } else if is(word, "load_package") {
-        Word::Load
-    } else if is(word, "on") {
-        Word::On
-    } else if is(word, "off") {
-        Word::Off
-    } else if is(word, "end") {
-        Word::End
-    } else if is(word, "bye") {
-        Word::Bye
-    } else if is(word, "quit") {
-        Word::Quit
-    } else {
-        Word::Other
-    }
+    known_word(word).unwrap_or(Word::Other)
 }
 
 /// The terminal that a sign is.
@@ -195,11 +136,4 @@ fn sign_of(sign: &[u8]) -> Terminal
     } else {
         Terminal::Word(Word::Other)
     }
-}
-
-/// Whether the text is this word or sign.
-pub fn is(text: &[u8], word: &str) -> bool
-    ensures { result ≡ bytes_eq text.now word.now }
-{
-    text == word.as_bytes()
 }
