@@ -13,7 +13,7 @@ use Rattle.formula_meaning.specs.NegationNormal.{normal_form_of_not}
 use Rattle.formula_meaning.specs.Answer.{Answer, Place, PlaceMentions}
 use Rattle.formula_meaning.specs.Tree.{Tree, IsFree}
 use Rattle.formula_meaning.proofs.NormalShape.{normal_form_shape}
-use Rattle.elimination_theory.specs.Side.{Lower}
+use Rattle.elimination_theory.specs.declared.side.Side.TheVariants.{Lower}
 use Rattle.elimination_theory.specs.Atoms.{atoms_in, atoms_of}
 use Rattle.elimination_theory.specs.BothTheories.{test_points}
 use Rattle.elimination_theory.specs.Steps.{Result, result_at, kept, results, step}

@@ -14,7 +14,7 @@ use Rattle.formula_meaning.specs.Form.{coefficient}
 use Rattle.formula_meaning.specs.Atom as meant
 use Rattle.formula_meaning.specs.Answer.{Place, Periodic, same_place}
 use Rattle.formula_meaning.proofs.Same.{place_same}
-use Rattle.elimination_theory.specs.Side.{Side}
+use Rattle.elimination_theory.specs.declared.side.Side.{Side}
 use Rattle.elimination_theory.specs.Overflow.{PlaceWithin}
 use Rattle.elimination_theory.specs.IntegersPoints.{signed, class_points, next_points, atom_starts, points_with, scale_of, own_span, integer_points_of, integer_count_of}
 use Rattle.elimination_theory.proofs.IntegerCount.{points_are_counted}

@@ -9,7 +9,9 @@ use Rattle.formula_meaning.specs.Context.{Context}
 use Rattle.formula_meaning.specs.Point.{Point, Of, move}
 use Rattle.formula_meaning.specs.Formula.{Yes, No, One, Not, And, Or, Impl, Repl, Equiv, Ex, All, none, also}
 use Rattle.formula_meaning.specs.Every.{Every}
-use Rattle.formula_meaning.specs.Shape.{IsAtomic, IsNegationNormal, AreNegationNormal, Quantifier, Exists, ForAll, is_in, matrix_of, block_of}
+use Rattle.formula_meaning.specs.Shape.{IsAtomic, IsNegationNormal, AreNegationNormal, is_in, matrix_of, block_of}
+use Rattle.formula_meaning.specs.declared.quantifier.Quantifier.{Quantifier}
+use Rattle.formula_meaning.specs.declared.quantifier.Quantifier.TheVariants.{Exists, ForAll}
 use Rattle.formula_meaning.specs.NegationNormal.{normal_form_of_not, normal_forms}
 use Rattle.formula_meaning.specs.Atom.{Atom, AtomIn}
 use Rattle.formula_meaning.specs.Tree.{Tree, Trees, TrueAt, InContext}

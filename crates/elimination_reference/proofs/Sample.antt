@@ -10,7 +10,8 @@ use Rattle.formula_meaning.specs.Formula.{Yes, No, One, Not, And, Or, Impl, Repl
 use Rattle.formula_meaning.specs.Truth.{SomeTrue}
 use Rattle.formula_meaning.specs.Every.{Every, FreeInSome}
 use Rattle.formula_meaning.specs.Some.{EachOf}
-use Rattle.formula_meaning.specs.Shape.{IsPlain, IsNegationNormal, Exists, is_in, matrix_of, block_of}
+use Rattle.formula_meaning.specs.Shape.{IsPlain, IsNegationNormal, is_in, matrix_of, block_of}
+use Rattle.formula_meaning.specs.declared.quantifier.Quantifier.TheVariants.{Exists}
 use Rattle.formula_meaning.specs.Form.{Form, Term, coefficient, multiple, coefficients}
 use Rattle.formula_meaning.specs.Sorted.{IsSorted, AllAbove, IsRising, AllNonzero}
 use Rattle.formula_meaning.specs.Atom.{Atom, Compare, Congruent, Mentions, Says}

@@ -6,8 +6,11 @@ use Rattle.formula_meaning.specs.Every.{Every, EveryOf, FreeInSome}
 use Rattle.formula_meaning.specs.Atom.{Atom, Says, Mentions}
 use Rattle.formula_meaning.specs.Point.{move}
 use Rattle.formula_meaning.specs.Sizes.{nodes}
-use Rattle.formula_meaning.specs.Shape.{IsNegationNormal, AreNegationNormal, Exists, matrix_of, block_of, is_in}
-use Rattle.formula_meaning.specs.Fold.{Junction, Conjunction, Disjunction, joined, fold_list}
+use Rattle.formula_meaning.specs.Shape.{IsNegationNormal, AreNegationNormal, matrix_of, block_of, is_in}
+use Rattle.formula_meaning.specs.declared.quantifier.Quantifier.TheVariants.{Exists}
+use Rattle.formula_meaning.specs.Fold.{joined, fold_list}
+use Rattle.formula_meaning.specs.declared.junction.Junction.{Junction}
+use Rattle.formula_meaning.specs.declared.junction.Junction.TheVariants.{Conjunction, Disjunction}
 use Rattle.formula_meaning.specs.NegationNormal.{normal_form_of_not, normal_forms_of_not}
 use Rattle.formula_meaning.specs.Tree.{Tree, Trees, IsFree}
 use Rattle.formula_meaning.proofs.EachAtom.{every_map}

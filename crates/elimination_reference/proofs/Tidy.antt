@@ -7,7 +7,9 @@ use Rattle.formula_meaning.specs.Form.{coefficient}
 use Rattle.formula_meaning.specs.Atom.{Atom, AtomIn, form_of}
 use Rattle.formula_meaning.specs.Shape.{IsPlain, ArePlain}
 use Rattle.formula_meaning.specs.Some.{Among, EachOf}
-use Rattle.formula_meaning.specs.Fold.{Junction, Conjunction, Disjunction, append, pieces_of, put_together, all_pieces, from_pieces, fold_list, folded, all_folded}
+use Rattle.formula_meaning.specs.Fold.{append, pieces_of, put_together, all_pieces, from_pieces, fold_list, folded, all_folded}
+use Rattle.formula_meaning.specs.declared.junction.Junction.{Junction}
+use Rattle.formula_meaning.specs.declared.junction.Junction.TheVariants.{Conjunction, Disjunction}
 use Rattle.formula_meaning.specs.NegationNormal.{normal_form_of_not, normal_forms_of_not, both}
 use Rattle.formula_meaning.specs.Replaced.{replaced}
 use Rattle.formula_meaning.specs.Answer.{Place}
@@ -17,7 +19,7 @@ use Rattle.formula_meaning.proofs.Fold.{plain_of_members, every_of_members, fold
 use Rattle.formula_meaning.proofs.ReplacedShape.{every_replaced}
 use Rattle.atom_normal.specs.NormalForm.{IsNormal, normal_atom, negated_normal}
 use Rattle.atom_normal.proofs.NormalLaws.{normal_in, normal_truth, normal_names, normal_within, normal_normal, normal_atomic, negated_normal_is}
-use Rattle.elimination_theory.specs.Side.{Lower}
+use Rattle.elimination_theory.specs.declared.side.Side.TheVariants.{Lower}
 use Rattle.elimination_theory.specs.Atoms.{atoms_of}
 use Rattle.elimination_theory.specs.BothTheories.{IsPlaceIn, raw_atom, guard_of, test_points}
 use Rattle.elimination_theory.specs.Steps.{IsNormaliser, normalised, atom_at, result_at, Result, kept, results, step}

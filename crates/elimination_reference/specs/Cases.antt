@@ -2,7 +2,8 @@
 use Rattle.std.specs.Prelude.{ℕ, Bool, true, false, List, [], ◌∷◌, nat_eq}
 use Rattle.formula_meaning.specs.Context.{Context}
 use Rattle.formula_meaning.specs.Formula.{All}
-use Rattle.formula_meaning.specs.Shape.{Exists, block_of, matrix_of}
+use Rattle.formula_meaning.specs.Shape.{block_of, matrix_of}
+use Rattle.formula_meaning.specs.declared.quantifier.Quantifier.TheVariants.{Exists}
 use Rattle.formula_meaning.specs.Answer.{Answer}
 use Rattle.formula_meaning.specs.Tree.{Tree}
 use Rattle.elimination_theory.specs.Answers.{answers_of}

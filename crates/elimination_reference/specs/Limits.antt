@@ -6,7 +6,7 @@ use Rattle.formula_meaning.specs.Form.{Form, Term, coefficient, without}
 use Rattle.formula_meaning.specs.Atom.{Atom, Compare, Congruent, form_of}
 use Rattle.formula_meaning.specs.Answer.{Place, Exact, AboveBy, BelowBy, PlusInfinity, MinusInfinity, Periodic}
 use Rattle.formula_meaning.specs.Tree.{Tree}
-use Rattle.elimination_theory.specs.Side.{Lower}
+use Rattle.elimination_theory.specs.declared.side.Side.TheVariants.{Lower}
 use Rattle.elimination_theory.specs.Atoms.{atoms_of}
 use Rattle.elimination_theory.specs.Substitution.{where_zero}
 use Rattle.elimination_theory.specs.IntegersPoints.{own_span}

@@ -11,7 +11,9 @@ use Rattle.formula_meaning.specs.Shape.{IsPlain}
 use Rattle.formula_meaning.specs.Atom.{Atom, Compare, Congruent, Relation, Equals, Differs, Below, AtMost, Above, AtLeast, mirrored}
 use Rattle.formula_meaning.specs.Answer.{Place, Holds, same_place}
 use Rattle.formula_meaning.specs.Tree.{Tree, TrueAt, InContext}
-use Rattle.elimination_theory.specs.Side.{Side, Lower, Upper, turned}
+use Rattle.elimination_theory.specs.Side.{turned}
+use Rattle.elimination_theory.specs.declared.side.Side.{Side}
+use Rattle.elimination_theory.specs.declared.side.Side.TheVariants.{Lower, Upper}
 use Rattle.formula_meaning.specs.Same.{same_atom}
 use Rattle.elimination_theory.specs.Atoms.{atoms_in, atoms_in_all, atoms_of}
 use Rattle.elimination_theory.specs.FieldsPoints.{beside_point, ends_of, comparison_points, atom_points, infinity_of, field_points}

@@ -9,7 +9,8 @@ use Rattle.formula_meaning.specs.Atom.{Atom, Compare, Congruent, Relation, Equal
 use Rattle.formula_meaning.specs.Answer.{Place, Exact, AboveBy, BelowBy, PlusInfinity, MinusInfinity, Periodic, PlaceMentions, same_place}
 use Rattle.formula_meaning.specs.Tree.{Tree, InContext, IsFree}
 use Rattle.formula_meaning.proofs.Coefficients.{coefficient_plus}
-use Rattle.elimination_theory.specs.Side.{Side, turned}
+use Rattle.elimination_theory.specs.Side.{turned}
+use Rattle.elimination_theory.specs.declared.side.Side.{Side}
 use Rattle.elimination_theory.specs.Atoms.{atoms_of}
 use Rattle.elimination_theory.specs.Substitution.{form_at, where_zero}
 use Rattle.elimination_theory.specs.Elimination.{integer_elimination}

@@ -12,7 +12,9 @@ use Rattle.exact_numbers.proofs.Contents.{content_is}
 use Rattle.formula_meaning.specs.Form.{Form, Term, scale, coefficient, without, coefficients}
 use Rattle.formula_meaning.specs.Atom.{Atom, Compare, Congruent, Relation, Equals, Differs, Below, AtMost, Above, AtLeast, mirrored}
 use Rattle.formula_meaning.specs.Answer.{Place, same_place}
-use Rattle.elimination_theory.specs.Side.{Side, Lower, Upper, turned}
+use Rattle.elimination_theory.specs.Side.{turned}
+use Rattle.elimination_theory.specs.declared.side.Side.{Side}
+use Rattle.elimination_theory.specs.declared.side.Side.TheVariants.{Lower, Upper}
 use Rattle.elimination_theory.specs.Atoms.{atoms_of}
 use Rattle.elimination_theory.specs.FieldsPoints.{numbers_of, divisor_of, terms_over, form_over, beside_point, ends_of, comparison_points, atom_points, infinity_of, IsInLowestTerms, FieldPointsAreInLowestTerms}
 use Rattle.formula_meaning.specs.Some.{Among}

@@ -1,7 +1,7 @@
 -- What is said of the lists of test points in both theories.
 use Rattle.std.specs.Prelude.{◌≡◌, ℕ}
 use Rattle.formula_meaning.specs.Tree.{Tree}
-use Rattle.elimination_theory.specs.Side.{Side}
+use Rattle.elimination_theory.specs.declared.side.Side.{Side}
 use Rattle.formula_meaning.specs.Distinct.{StandsOnce}
 use Rattle.elimination_theory.specs.FieldsPoints.{field_points, field_points_of}
 use Rattle.elimination_theory.specs.IntegersPoints.{integer_points}

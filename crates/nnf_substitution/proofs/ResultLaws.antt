@@ -7,7 +7,8 @@ use Rattle.formula_meaning.specs.Context.{Context, Fields, Integers}
 use Rattle.formula_meaning.specs.Formula.{Yes, No, One, none, also}
 use Rattle.formula_meaning.specs.Form.{coefficient}
 use Rattle.formula_meaning.specs.Atom.{Atom, form_of}
-use Rattle.formula_meaning.specs.Fold.{append, folded, fold_list, Conjunction}
+use Rattle.formula_meaning.specs.Fold.{append, folded, fold_list}
+use Rattle.formula_meaning.specs.declared.junction.Junction.TheVariants.{Conjunction}
 use Rattle.formula_meaning.specs.Fold as folding
 use Rattle.formula_meaning.specs.NegationNormal.{both}
 use Rattle.formula_meaning.specs.Distinct.{without_same, distinct}

@@ -3,7 +3,8 @@ use Rattle.std.specs.Prelude.{◌≡◌, ℕ, Bool, true, false, ◌&&◌, List,
 use Rattle.formula_meaning.specs.Context.{Context, Integers}
 use Rattle.formula_meaning.specs.Formula.{No, none, also}
 use Rattle.formula_meaning.specs.NegationNormal.{both}
-use Rattle.formula_meaning.specs.Fold.{folded, all_folded, fold_list, Conjunction}
+use Rattle.formula_meaning.specs.Fold.{folded, all_folded, fold_list}
+use Rattle.formula_meaning.specs.declared.junction.Junction.TheVariants.{Conjunction}
 use Rattle.formula_meaning.specs.Replaced.{replaced, all_replaced}
 use Rattle.formula_meaning.specs.Answer.{Place}
 use Rattle.formula_meaning.specs.Tree.{Tree, Trees}

@@ -9,7 +9,7 @@ use Rattle.formula_meaning.specs.Sizes.{nodes}
 use Rattle.formula_meaning.specs.Tree.{Tree}
 use Rattle.elimination_theory.specs.Atoms.{atoms_in, atoms_of}
 use Rattle.elimination_theory.specs.BothTheories.{test_points}
-use Rattle.elimination_theory.specs.Side.{Lower}
+use Rattle.elimination_theory.specs.declared.side.Side.TheVariants.{Lower}
 use Rattle.elimination_theory.specs.Steps.{Result as Left, kept, result_at, results}
 use Rattle.elimination_reference.specs.Limits.{each, span_within, step_within}
 use Rattle.elimination_reference.specs.Measured.{Outcome, stopped, done, then_of, give, pay, within}

@@ -4,7 +4,9 @@ use Rattle.std.specs.Prelude.{if◌then◌else◌, Result, IfOk}
 use Rattle.std.specs.declared.result.Result.TheVariants.{Ok, Err}
 use Rattle.formula_meaning.specs.Context.{Context}
 use Rattle.formula_meaning.specs.Formula.{One, none, also}
-use Rattle.formula_meaning.specs.Fold.{Junction, append, joined, fold_list, Disjunction}
+use Rattle.formula_meaning.specs.Fold.{append, joined, fold_list}
+use Rattle.formula_meaning.specs.declared.junction.Junction.{Junction}
+use Rattle.formula_meaning.specs.declared.junction.Junction.TheVariants.{Disjunction}
 use Rattle.formula_meaning.specs.Shape.{is_in}
 use Rattle.formula_meaning.specs.Sizes.{nodes}
 use Rattle.formula_meaning.specs.Tree.{Tree, Trees}

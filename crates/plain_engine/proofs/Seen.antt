@@ -7,7 +7,7 @@ use Rattle.formula_meaning.specs.Fold.{append}
 use Rattle.formula_meaning.specs.Sizes.{nodes}
 use Rattle.formula_meaning.specs.Tree.{Tree, Trees}
 use Rattle.elimination_theory.specs.Atoms.{atoms_in}
-use Rattle.elimination_theory.specs.Side.{Lower}
+use Rattle.elimination_theory.specs.declared.side.Side.TheVariants.{Lower}
 use Rattle.elimination_theory.specs.Steps.{step, Result as Left}
 use Rattle.atom_normal.specs.NormalForm.{normal_atom}
 use Rattle.elimination_reference.specs.Limits.{span_within, step_within}

@@ -8,7 +8,9 @@ use Rattle.formula_meaning.specs.Some.{Among}
 use Rattle.formula_meaning.specs.Atom.{AtomIn, Mentions}
 use Rattle.formula_meaning.specs.Every.{Every, EveryOf, EveryBound, FreeInSome}
 use Rattle.formula_meaning.specs.Replaced.{replaced}
-use Rattle.formula_meaning.specs.Shape.{Quantifier, Exists, ForAll, IsNegationNormal, IsPlain, IsAtomic, IsPrenex, blocks_from, fewest_blocks, is_in}
+use Rattle.formula_meaning.specs.Shape.{IsNegationNormal, IsPlain, IsAtomic, IsPrenex, blocks_from, fewest_blocks, is_in}
+use Rattle.formula_meaning.specs.declared.quantifier.Quantifier.{Quantifier}
+use Rattle.formula_meaning.specs.declared.quantifier.Quantifier.TheVariants.{Exists, ForAll}
 use Rattle.formula_meaning.specs.Tree.{Tree, Trees, InContext, IsFree, Equivalent, tree_names}
 use Rattle.formula_meaning.proofs.EachAtom.{every_map, every_both, every_all}
 use Rattle.formula_meaning.proofs.Equivalence.{equivalent_then}

@@ -6,7 +6,9 @@ use Rattle.formula_meaning.specs.Formula.{Yes, No, One, Not, And, Or, Impl, Repl
 use Rattle.formula_meaning.specs.Every.{Every}
 use Rattle.formula_meaning.specs.Some.{EachOf}
 use Rattle.formula_meaning.specs.Sizes.{nodes}
-use Rattle.formula_meaning.specs.Shape.{IsAtomic, IsNegationNormal, Quantifier, Exists, ForAll, is_in, matrix_of, block_of}
+use Rattle.formula_meaning.specs.Shape.{IsAtomic, IsNegationNormal, is_in, matrix_of, block_of}
+use Rattle.formula_meaning.specs.declared.quantifier.Quantifier.{Quantifier}
+use Rattle.formula_meaning.specs.declared.quantifier.Quantifier.TheVariants.{Exists, ForAll}
 use Rattle.formula_meaning.specs.NegationNormal.{normal_form_of_not}
 use Rattle.formula_meaning.specs.Tree.{Tree, TrueAt, InContext, IsFree}
 use Rattle.formula_meaning.proofs.FreeNames.{differ_names}

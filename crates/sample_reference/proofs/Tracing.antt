@@ -12,7 +12,7 @@ use Rattle.formula_meaning.specs.Answer.{Place, same_place}
 use Rattle.formula_meaning.specs.Tree.{Tree}
 use Rattle.elimination_theory.specs.Answers.{Step, zero_place}
 use Rattle.elimination_theory.specs.Atoms.{atoms_in, atoms_of}
-use Rattle.elimination_theory.specs.Side.{Lower}
+use Rattle.elimination_theory.specs.declared.side.Side.TheVariants.{Lower}
 use Rattle.elimination_theory.specs.BothTheories.{test_points}
 use Rattle.elimination_theory.specs.FieldsPoints.{ends_of, comparison_points, atom_points, infinity_of}
 use Rattle.elimination_theory.specs.IntegersPoints.{counted, class_points, next_points, points_with, scale_of, own_span, atom_starts}

@@ -10,7 +10,8 @@ use Rattle.formula_meaning.specs.Every.{Every, EveryBound, FreeInSome}
 use Rattle.formula_meaning.specs.Form.{Form, coefficient}
 use Rattle.formula_meaning.specs.Formula.{Or, Ex}
 use Rattle.formula_meaning.specs.Point.{Point, Of}
-use Rattle.formula_meaning.specs.Shape.{Exists, block_of, is_in}
+use Rattle.formula_meaning.specs.Shape.{block_of, is_in}
+use Rattle.formula_meaning.specs.declared.quantifier.Quantifier.TheVariants.{Exists}
 use Rattle.formula_meaning.specs.Sizes.{nodes}
 use Rattle.formula_meaning.specs.Some.{EachOf}
 use Rattle.formula_meaning.specs.Tree.{Tree, IsFree, TrueAt}

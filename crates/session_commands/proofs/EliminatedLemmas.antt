@@ -35,7 +35,7 @@ use Rattle.formula_tree.specs.declared.error.FormError.{FormError}
 use Rattle.session_commands.specs.declared.line.StatementError.{StatementError}
 use Rattle.std.specs.Prelude.{Result, Ok, Err, IfOk}
 use Rattle.session_commands.specs.Keeping.{IsSessionFormula}
-use Rattle.formula_meaning.specs.Fold.{Junction}
+use Rattle.formula_meaning.specs.declared.junction.Junction.{Junction}
 use Rattle.session_commands.specs.Steps.{IsSimplifiedAs, IsCleanedAs}
 use Rattle.session_commands.proofs.SoundLemmas.{atom_within, atom_mentions, members_of_negation}
 

@@ -7,7 +7,8 @@ use Rattle.std.specs.declared.alloc.Global.{Global}
 use Rattle.exact_numbers.specs.declared.fraction.Fraction.{Fraction}
 use Rattle.formula_meaning.specs.Context.{Context}
 use Rattle.formula_meaning.specs.Point.{Point}
-use Rattle.formula_meaning.specs.Shape.{Exists, block_of, matrix_of}
+use Rattle.formula_meaning.specs.Shape.{block_of, matrix_of}
+use Rattle.formula_meaning.specs.declared.quantifier.Quantifier.TheVariants.{Exists}
 use Rattle.formula_meaning.specs.Sizes.{nodes, height}
 use Rattle.formula_meaning.specs.Tree.{Tree, TrueAt}
 use Rattle.atom_normal.specs.Atoms.{context_of}

@@ -1,7 +1,8 @@
 -- The parts of a command, and the formula that it gives.
 use Rattle.std.specs.Prelude.{◌≡◌, ◌↔◌, ◌≤◌, ℕ, List, [], ◌++◌, map, length}
 use Rattle.std.specs.List.{AllByRecursion, fold}
-use Rattle.formula_meaning.specs.Fold.{Junction, Conjunction, Disjunction}
+use Rattle.formula_meaning.specs.declared.junction.Junction.{Junction}
+use Rattle.formula_meaning.specs.declared.junction.Junction.TheVariants.{Conjunction, Disjunction}
 use Rattle.formula_meaning.specs.NegationNormal.{normal_form}
 use Rattle.formula_meaning.specs.Point.{Of}
 use Rattle.formula_meaning.specs.Every.{Every, EveryBound}

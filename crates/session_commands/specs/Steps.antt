@@ -7,7 +7,8 @@ use Rattle.formula_meaning.specs.Every.{Every, EveryBound}
 use Rattle.formula_meaning.specs.Shape.{IsQuantifierFree}
 use Rattle.formula_meaning.specs.Some.{SomeOf, EachOf}
 use Rattle.formula_meaning.specs.Atom.{Atom}
-use Rattle.formula_meaning.specs.Fold.{Junction, Conjunction, Disjunction}
+use Rattle.formula_meaning.specs.declared.junction.Junction.{Junction}
+use Rattle.formula_meaning.specs.declared.junction.Junction.TheVariants.{Conjunction, Disjunction}
 use Rattle.formula_meaning.specs.Tree.{Tree, IsFree, Equivalent, tree_distinct}
 use Rattle.clean_forms.specs.Clean.{IsCleanForm}
 use Rattle.clean_forms.specs.Laws.{IsNoLonger}

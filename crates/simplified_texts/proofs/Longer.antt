@@ -8,8 +8,10 @@ use Rattle.formula_meaning.specs.Every.{Every, EveryOf}
 use Rattle.formula_meaning.specs.Some.{EachOf}
 use Rattle.formula_meaning.specs.Form.{Term}
 use Rattle.formula_meaning.specs.Atom.{Atom, Mentions, form_of}
-use Rattle.formula_meaning.specs.Fold.{Junction, Conjunction, Disjunction}
-use Rattle.formula_meaning.specs.Shape.{Quantifier, Exists, ForAll}
+use Rattle.formula_meaning.specs.declared.junction.Junction.{Junction}
+use Rattle.formula_meaning.specs.declared.junction.Junction.TheVariants.{Conjunction, Disjunction}
+use Rattle.formula_meaning.specs.declared.quantifier.Quantifier.{Quantifier}
+use Rattle.formula_meaning.specs.declared.quantifier.Quantifier.TheVariants.{Exists, ForAll}
 use Rattle.atom_merging.specs.Computed.{Into, merged, IsNormalWithin}
 use Rattle.atom_merging.proofs.Computed.{merged_comes}
 use Rattle.redlog_printer.specs.Text.{name_at, atom_text}

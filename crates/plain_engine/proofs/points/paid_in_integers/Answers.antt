@@ -11,7 +11,7 @@ use Rattle.std.specs.Prelude.{List, Option}
 use Rattle.exact_numbers.specs.Limit.{InLimit}
 use Rattle.formula_meaning.specs.Context.{Integers}
 use Rattle.formula_meaning.specs.Sizes.{nodes}
-use Rattle.elimination_theory.specs.Side.{Lower}
+use Rattle.elimination_theory.specs.declared.side.Side.TheVariants.{Lower}
 use Rattle.elimination_theory.specs.Atoms.{atoms_of}
 use Rattle.elimination_theory.specs.IntegersPoints.{own_span, integer_count, integer_count_of, integer_points_of}
 use Rattle.elimination_reference.specs.Limits.{each, place_within, atom_within, span_within}

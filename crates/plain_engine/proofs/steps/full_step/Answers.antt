@@ -1,5 +1,5 @@
 use Rattle.std.proofs.Common.{rules, ◌≡◌, List, All, true, map, sym, ap, ◌∙◌, subst}
-use Rattle.elimination_theory.specs.Side.{Lower}
+use Rattle.elimination_theory.specs.declared.side.Side.TheVariants.{Lower}
 use Rattle.elimination_theory.specs.Atoms.{atoms_of}
 use Rattle.elimination_theory.specs.BothTheories.{IsPlaceIn, test_points}
 use Rattle.elimination_theory.specs.Steps.{results, trees_left}
