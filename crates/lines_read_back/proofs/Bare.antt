@@ -5,7 +5,7 @@ use Rattle.qe_syntax.specs.Proper.{IsProperFormula, AreProperFormulas, AreProper
 use Rattle.formula_tree.specs.Resolving.{formula_variables, all_variables}
 use Rattle.formula_tree.proofs.PlaceLaws.{after_distinct}
 use Rattle.redlog_reader.specs.Statement.{Spells}
-use Rattle.redlog_reader.proofs.Lexed.{lexed_proper}
+use Rattle.redlog_tokens.proofs.ProperTokens.{lexed_proper}
 use Rattle.redlog_reader.proofs.Proper.{proper_statement}
 use Rattle.printed_formulas.specs.Round.{AreVariables}
 use Rattle.session_commands.specs.declared.line.Line.{Line}

@@ -15,7 +15,7 @@ use Rattle.formula_tree.specs.Resolving.{BoundTrees, place, names_after, all_var
 use Rattle.formula_tree.specs.Causes.{most_height, IsAccepted as IsResolvable, IsUnbound, NamesFormulaAsTerm, IsNonlinear, Divides, CongruenceInFields, IsBadModulus, IsTooDeep, OverflowsInReading}
 use Rattle.formula_tree.proofs.ResolvedHeight.{resolving_keeps_height}
 use Rattle.redlog_reader.specs.Statement.{IsDeep}
-use Rattle.redlog_reader.specs.declared.level.TheConstants.{LEVEL_LIMIT}
+use Rattle.redlog_tokens.specs.declared.level.TheConstants.{LEVEL_LIMIT}
 use Rattle.redlog_reader.specs.declared.read.TheConstants.{BYTE_LIMIT}
 use Rattle.redlog_reader.proofs.Whole.{spells_once}
 use Rattle.redlog_printer.specs.Text.{tree_text}

@@ -6,13 +6,13 @@ use Rattle.std.specs.Prelude.{sum_by}
 use Rattle.formula_meaning.specs.Formula.{Yes, No, One, Not, And, Or, Impl, Repl, Equiv, Ex, All, none, also}
 use Rattle.formula_meaning.specs.Atom.{Atom, Compare, Congruent}
 use Rattle.formula_meaning.specs.Tree.{Tree, Trees}
-use Rattle.redlog_reader.specs.declared.level.Group.{Group}
-use Rattle.redlog_reader.specs.declared.terminal.Terminal.{Terminal}
-use Rattle.redlog_reader.specs.declared.terminal.Terminal.TheVariants as terminal
-use Rattle.redlog_reader.specs.declared.terminal.Mark.TheVariants as mark
-use Rattle.redlog_reader.specs.declared.terminal.Word.{Word}
-use Rattle.redlog_reader.specs.declared.terminal.Word.TheVariants as word
-use Rattle.redlog_reader.specs.Levels.{weight, run, run_before, changed, going_on, closing, groups, level, Passes}
+use Rattle.redlog_tokens.specs.declared.level.Group.{Group}
+use Rattle.redlog_tokens.specs.declared.terminal.Terminal.{Terminal}
+use Rattle.redlog_tokens.specs.declared.terminal.Terminal.TheVariants as terminal
+use Rattle.redlog_tokens.specs.declared.terminal.Mark.TheVariants as mark
+use Rattle.redlog_tokens.specs.declared.terminal.Word.{Word}
+use Rattle.redlog_tokens.specs.declared.terminal.Word.TheVariants as word
+use Rattle.redlog_tokens.specs.Levels.{weight, run, run_before, changed, going_on, closing, groups, level, Passes}
 use Rattle.redlog_printer.specs.Text.{name_at, is_compound}
 use Rattle.printed_formulas.specs.Written.{relation_sign}
 use Rattle.printed_formulas.specs.Printed.{Terminals, number, sum_terminals, congruence_word, atom_terminals, bracketed, tree_terminals, members_terminals, more_terminals, line_terminals}

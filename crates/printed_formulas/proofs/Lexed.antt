@@ -10,17 +10,17 @@ use Rattle.std.proofs.lemmas.Str.{digit_value_digit}
 use Rattle.std.specs.Char.{digit_value}
 use Rattle.qe_syntax.specs.declared.tree.Literal.TheVariants.{Fits, Past}
 use Rattle.qe_syntax.specs.Names.{IsVariable, is_digit, is_letter, is_name_part, is_word, begins_with_letter}
-use Rattle.redlog_reader.specs.declared.lexer.Front.{Front}
-use Rattle.redlog_reader.specs.declared.lexer.Front.TheVariants as found
-use Rattle.redlog_reader.specs.declared.lexer.Lexeme.{Lexeme}
-use Rattle.redlog_reader.specs.declared.token.TokenKind.{TokenKind}
-use Rattle.redlog_reader.specs.declared.token.TokenKind.TheVariants as token
-use Rattle.redlog_reader.specs.declared.terminal.Terminal.{Terminal}
-use Rattle.redlog_reader.specs.declared.terminal.Terminal.TheVariants as terminal
-use Rattle.redlog_reader.specs.declared.terminal.Mark.TheVariants as mark
-use Rattle.redlog_reader.specs.declared.terminal.Word.{Word}
-use Rattle.redlog_reader.specs.Lexing.{front, signed, worded, literal_of, value_after, is_blank, Lexes, over, spaced, taken}
-use Rattle.redlog_reader.specs.Terminals.{terminal_of, word_of, sign_of}
+use Rattle.redlog_tokens.specs.declared.lexer.Front.{Front}
+use Rattle.redlog_tokens.specs.declared.lexer.Front.TheVariants as found
+use Rattle.redlog_tokens.specs.declared.lexer.Lexeme.{Lexeme}
+use Rattle.redlog_tokens.specs.declared.token.TokenKind.{TokenKind}
+use Rattle.redlog_tokens.specs.declared.token.TokenKind.TheVariants as token
+use Rattle.redlog_tokens.specs.declared.terminal.Terminal.{Terminal}
+use Rattle.redlog_tokens.specs.declared.terminal.Terminal.TheVariants as terminal
+use Rattle.redlog_tokens.specs.declared.terminal.Mark.TheVariants as mark
+use Rattle.redlog_tokens.specs.declared.terminal.Word.{Word}
+use Rattle.redlog_tokens.specs.Lexing.{front, signed, worded, literal_of, value_after, is_blank, Lexes, over, spaced, taken}
+use Rattle.redlog_tokens.specs.Terminals.{terminal_of, word_of, sign_of}
 use Rattle.printed_formulas.specs.Printed.{number}
 
 -- the bytes spell these terminals, wherever they begin, and no token is bad

@@ -8,14 +8,14 @@ use Rattle.formula_meaning.specs.Form.{Term}
 use Rattle.formula_meaning.specs.Atom.{Atom, Compare, Congruent}
 use Rattle.formula_meaning.specs.Tree.{Tree, Trees}
 use Rattle.formula_meaning.specs.Sizes.{height, greatest_height}
-use Rattle.redlog_reader.specs.declared.level.Change.TheVariants as change
-use Rattle.redlog_reader.specs.declared.level.Group.{Group}
-use Rattle.redlog_reader.specs.declared.terminal.Terminal.{Terminal}
-use Rattle.redlog_reader.specs.declared.terminal.Terminal.TheVariants as terminal
-use Rattle.redlog_reader.specs.declared.terminal.Mark.TheVariants as mark
-use Rattle.redlog_reader.specs.declared.terminal.Word.{Word}
-use Rattle.redlog_reader.specs.declared.terminal.Word.TheVariants as word
-use Rattle.redlog_reader.specs.Levels.{weight, run, run_before, after, change_of, changed, going_on, closing, groups, level, Passes}
+use Rattle.redlog_tokens.specs.declared.level.Change.TheVariants as change
+use Rattle.redlog_tokens.specs.declared.level.Group.{Group}
+use Rattle.redlog_tokens.specs.declared.terminal.Terminal.{Terminal}
+use Rattle.redlog_tokens.specs.declared.terminal.Terminal.TheVariants as terminal
+use Rattle.redlog_tokens.specs.declared.terminal.Mark.TheVariants as mark
+use Rattle.redlog_tokens.specs.declared.terminal.Word.{Word}
+use Rattle.redlog_tokens.specs.declared.terminal.Word.TheVariants as word
+use Rattle.redlog_tokens.specs.Levels.{weight, run, run_before, after, change_of, changed, going_on, closing, groups, level, Passes}
 use Rattle.redlog_printer.specs.Text.{name_at, is_compound}
 use Rattle.printed_formulas.specs.Written.{relation_sign}
 use Rattle.printed_formulas.specs.Printed.{Terminals, number, first_mark, later_mark, factor_terminals, multiple_terminals, later_terminals, constant_terminals, sum_terminals, congruence_word, atom_terminals, bracketed, tree_terminals, members_terminals, more_terminals, line_terminals}

@@ -9,9 +9,9 @@ use Rattle.formula_meaning.specs.Tree.{Tree, Trees}
 use Rattle.formula_meaning.specs.Replaced.{all_replaced}
 use Rattle.qe_syntax.specs.Trees.{TermTree, Named, Product, terms_of, FormulaTree, FormulaTrees, formulas_of}
 use Rattle.qe_syntax.specs.Statements.{Echo, Say}
-use Rattle.redlog_reader.specs.declared.terminal.Terminal.TheVariants as terminal
-use Rattle.redlog_reader.specs.declared.terminal.Mark.TheVariants as mark
-use Rattle.redlog_reader.specs.declared.terminal.Word.TheVariants as word
+use Rattle.redlog_tokens.specs.declared.terminal.Terminal.TheVariants as terminal
+use Rattle.redlog_tokens.specs.declared.terminal.Mark.TheVariants as mark
+use Rattle.redlog_tokens.specs.declared.terminal.Word.TheVariants as word
 use Rattle.redlog_reader.specs.Grammar.{sum_of, conjunction_of, disjunction_of}
 use Rattle.redlog_reader.specs.Grammar as grammar
 use Rattle.redlog_printer.specs.Text.{name_at, is_compound}

@@ -9,15 +9,15 @@ use Rattle.formula_meaning.specs.Atom.{Atom, Compare, Congruent, Relation, Equal
 use Rattle.formula_meaning.specs.Tree.{Tree, Trees}
 use Rattle.formula_meaning.specs.Every.{Every, EveryOf, EveryBound, EveryBoundOf}
 use Rattle.qe_syntax.specs.Names.{IsVariable, is_word}
-use Rattle.redlog_reader.specs.declared.terminal.Terminal.{Terminal}
-use Rattle.redlog_reader.specs.declared.terminal.Terminal.TheVariants as terminal
-use Rattle.redlog_reader.specs.declared.terminal.Mark.TheVariants as mark
-use Rattle.redlog_reader.specs.declared.terminal.Word.{Word}
-use Rattle.redlog_reader.specs.declared.terminal.Word.TheVariants as word
-use Rattle.redlog_reader.specs.declared.token.TokenKind.TheVariants as token
-use Rattle.redlog_reader.specs.declared.lexer.Front.TheVariants as found
-use Rattle.redlog_reader.specs.Lexing.{front, signed, worded}
-use Rattle.redlog_reader.specs.Terminals.{word_of, sign_of}
+use Rattle.redlog_tokens.specs.declared.terminal.Terminal.{Terminal}
+use Rattle.redlog_tokens.specs.declared.terminal.Terminal.TheVariants as terminal
+use Rattle.redlog_tokens.specs.declared.terminal.Mark.TheVariants as mark
+use Rattle.redlog_tokens.specs.declared.terminal.Word.{Word}
+use Rattle.redlog_tokens.specs.declared.terminal.Word.TheVariants as word
+use Rattle.redlog_tokens.specs.declared.token.TokenKind.TheVariants as token
+use Rattle.redlog_tokens.specs.declared.lexer.Front.TheVariants as found
+use Rattle.redlog_tokens.specs.Lexing.{front, signed, worded}
+use Rattle.redlog_tokens.specs.Terminals.{word_of, sign_of}
 use Rattle.redlog_printer.specs.Text.{name_at, first_sign, later_sign, multiple_text, later_multiple, later_constant, sum_text, form_text, relation_text, congruence_text, atom_text, is_compound, in_parentheses, tree_text, members_text, more_text}
 use Rattle.formula_meaning.specs.Within.{AreTermsWithin}
 use Rattle.printed_formulas.specs.Written.{relation_sign}

@@ -6,11 +6,11 @@ use Rattle.formula_meaning.specs.Form.{Term}
 use Rattle.formula_meaning.specs.Atom.{Atom, Compare, Congruent}
 use Rattle.formula_meaning.specs.Tree.{Tree, Trees}
 use Rattle.qe_syntax.specs.declared.tree.Literal.TheVariants.{Fits}
-use Rattle.redlog_reader.specs.declared.terminal.Terminal.{Terminal}
-use Rattle.redlog_reader.specs.declared.terminal.Terminal.TheVariants as terminal
-use Rattle.redlog_reader.specs.declared.terminal.Mark.TheVariants as mark
-use Rattle.redlog_reader.specs.declared.terminal.Word.{Word}
-use Rattle.redlog_reader.specs.declared.terminal.Word.TheVariants as word
+use Rattle.redlog_tokens.specs.declared.terminal.Terminal.{Terminal}
+use Rattle.redlog_tokens.specs.declared.terminal.Terminal.TheVariants as terminal
+use Rattle.redlog_tokens.specs.declared.terminal.Mark.TheVariants as mark
+use Rattle.redlog_tokens.specs.declared.terminal.Word.{Word}
+use Rattle.redlog_tokens.specs.declared.terminal.Word.TheVariants as word
 use Rattle.redlog_printer.specs.Text.{name_at, is_compound}
 use Rattle.printed_formulas.specs.Written.{relation_sign}
 

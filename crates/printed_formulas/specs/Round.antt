@@ -14,7 +14,7 @@ use Rattle.qe_syntax.specs.Trees.{FormulaTree}
 use Rattle.qe_syntax.specs.Value.{same_name}
 use Rattle.qe_syntax.specs.Statements.{StatementTree, Say, Echo}
 use Rattle.redlog_reader.specs.declared.read.TheConstants.{BYTE_LIMIT}
-use Rattle.redlog_reader.specs.declared.level.TheConstants.{LEVEL_LIMIT}
+use Rattle.redlog_tokens.specs.declared.level.TheConstants.{LEVEL_LIMIT}
 use Rattle.redlog_reader.specs.Statement.{Spells, IsDeep}
 use Rattle.formula_tree.specs.Resolving.{names_after, resolve}
 use Rattle.formula_tree.specs.Causes.{most_height, IsAccepted}

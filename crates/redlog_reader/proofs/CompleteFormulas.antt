@@ -4,10 +4,10 @@ use Rattle.std.specs.Prelude.{Some, None}
 use Rattle.formula_meaning.specs.Formula.{Yes, No, One, Not, Impl, Repl, Equiv}
 use Rattle.qe_syntax.specs.declared.tree.Relation.{Relation}
 use Rattle.qe_syntax.specs.Trees.{Compare, Cong, Ncong, FormulaTree}
-use Rattle.redlog_reader.specs.declared.terminal.Terminal.{Terminal}
-use Rattle.redlog_reader.specs.declared.terminal.Terminal.TheVariants as terminal
-use Rattle.redlog_reader.specs.declared.terminal.Mark.TheVariants as mark
-use Rattle.redlog_reader.specs.declared.terminal.Word.TheVariants as word
+use Rattle.redlog_tokens.specs.declared.terminal.Terminal.{Terminal}
+use Rattle.redlog_tokens.specs.declared.terminal.Terminal.TheVariants as terminal
+use Rattle.redlog_tokens.specs.declared.terminal.Mark.TheVariants as mark
+use Rattle.redlog_tokens.specs.declared.terminal.Word.TheVariants as word
 use Rattle.redlog_reader.specs.declared.pending.Connective.TheVariants as connective
 use Rattle.redlog_reader.specs.declared.pending.Arrow.TheVariants as arrow
 use Rattle.redlog_reader.specs.Machine.{Reading, Formula, Bare, formula_of, Frame, Group, Quantifier, Congruence, Negation, Compares, Listed, Arrows}

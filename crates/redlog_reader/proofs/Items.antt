@@ -6,11 +6,11 @@ use Rattle.qe_syntax.specs.declared.tree.Literal.{Literal}
 use Rattle.qe_syntax.specs.declared.tree.Literal.TheVariants.{Fits}
 use Rattle.qe_syntax.specs.declared.tree.Relation.TheVariants.{Equal}
 use Rattle.qe_syntax.specs.declared.statement.PointEntry.{PointEntry}
-use Rattle.redlog_reader.specs.declared.terminal.Terminal.{Terminal}
-use Rattle.redlog_reader.specs.declared.terminal.Terminal.TheVariants as terminal
-use Rattle.redlog_reader.specs.declared.terminal.Mark.{Mark}
-use Rattle.redlog_reader.specs.declared.terminal.Mark.TheVariants as mark
-use Rattle.redlog_reader.specs.declared.terminal.Word.TheVariants as word
+use Rattle.redlog_tokens.specs.declared.terminal.Terminal.{Terminal}
+use Rattle.redlog_tokens.specs.declared.terminal.Terminal.TheVariants as terminal
+use Rattle.redlog_tokens.specs.declared.terminal.Mark.{Mark}
+use Rattle.redlog_tokens.specs.declared.terminal.Mark.TheVariants as mark
+use Rattle.redlog_tokens.specs.declared.terminal.Word.TheVariants as word
 use Rattle.redlog_reader.specs.Machine.{Reading, Frame, Mode, Wants, Outcome, Fails, Stops, Moves, Negation, Added, level, takes, pushed, wanted, step, run, term_of, formula_of}
 use Rattle.redlog_reader.specs.Reader.{on_some, number_of, after_mark, formula_read, sum_read, relation_of, relation_read, comparison_read, begins_congruence, atom_read, listed_read, items_read, number_read, above_read, below_read, name_read, after_equal, entry_read, negated_literal}
 use Rattle.redlog_reader.proofs.Steps.{outcome}

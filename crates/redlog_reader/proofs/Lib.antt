@@ -10,11 +10,5 @@ pub mod Items
 pub mod Proper
 pub mod CompleteStatements
 pub mod SoundStatements
-pub mod Lexemes
-pub mod PieceLemmas
-pub mod Counts
-pub mod Lexed
-pub mod Longest
 pub mod Whole
-pub mod Cutting
 pub mod Examples

@@ -7,9 +7,9 @@ use Rattle.qe_syntax.specs.declared.tree.Relation.{Relation}
 use Rattle.qe_syntax.specs.declared.statement.PointEntry.{PointEntry}
 use Rattle.qe_syntax.specs.Trees.{TermTree, FormulaTree, formulas_of}
 use Rattle.qe_syntax.specs.Statements.{CommandTree, ActionTree, StatementTree}
-use Rattle.redlog_reader.specs.declared.terminal.Terminal.{Terminal}
-use Rattle.redlog_reader.specs.declared.terminal.Terminal.TheVariants as terminal
-use Rattle.redlog_reader.specs.declared.terminal.Mark.TheVariants as mark
+use Rattle.redlog_tokens.specs.declared.terminal.Terminal.{Terminal}
+use Rattle.redlog_tokens.specs.declared.terminal.Terminal.TheVariants as terminal
+use Rattle.redlog_tokens.specs.declared.terminal.Mark.TheVariants as mark
 use Rattle.redlog_reader.specs.Grammar.{SpellsFactor, number, variable, inner_sum, SpellsPower, first_power, raised, SpellsProduct, product, SpellsSum, sum, plus_sum, minus_sum, IsRelation, relation_sign, relation_word, SpellsComparison, comparison, SpellsCongruence, congruent, incongruent, SpellsAtom, compared_atom, congruent_atom}
 use Rattle.redlog_reader.specs.Grammar.{SpellsPrime, truth, falsity, named_formula, congruence, inner_formula, exists, for_all, SpellsFormula, opposite, Above, unsigned, opposed, Below, one, divided, SpellsEntry, entry, Listed, last_item, more_items, Braced, empty, listed, SpellsPoint}
 use Rattle.redlog_reader.specs.Grammar.{SpellsArgument, alone, under, SpellsResult, echo, nnf, pnf, dnf, cnf, simpl, qe, SpellsQuery, qea, holds, witness, SpellsAction, assign, result, query, choose, load, on, off, end, bye, quit, SpellsStatement, nothing, acting}
@@ -19,16 +19,8 @@ use Rattle.qe_syntax.specs.Names.{IsVariable}
 use Rattle.qe_syntax.specs.Trees.{Negative, terms_of}
 use Rattle.qe_syntax.specs.Proper.{IsNumeral, IsSigned, IsProperEntry, AreProperEntries, IsProperTerm, AreProperTerms, IsProperFormula, AreProperFormulas, IsProperCommand, IsProperAction, IsProper}
 use Rattle.redlog_reader.specs.Grammar.{product_of, sum_of, conjunction_of, disjunction_of, quantifier, quantified, Factors, no_factor, times, over, Members, no_member, plus, minus, Names, last_name, more_names, SpellsNames, one_name, many_names}
+use Rattle.redlog_tokens.proofs.ProperTokens.{AreProperTerminals}
 use Rattle.redlog_reader.specs.Grammar.{SpellsNegation, negation, compared, prime, SpellsConjunction, conjunction, Conjuncts, no_conjunct, conjunct, SpellsDisjunction, disjunction, Disjuncts, no_disjunct, disjunct, SpellsImplication, no_implication, implication, SpellsReplication, replication, Repls, no_repl, repl, equivalence, Equivs, no_equiv, equiv}
-
--- each number is a numeral, and each name a variable
-abbrev pub AreProperTerminals : List Terminal → Type 0
-AreProperTerminals [] = Unit {0}
-AreProperTerminals (terminal.Number n ∷ ts) = IsNumeral n × AreProperTerminals ts
-AreProperTerminals (terminal.Name x ∷ ts) = IsVariable x × AreProperTerminals ts
-AreProperTerminals (terminal.Relation r ∷ ts) = AreProperTerminals ts
-AreProperTerminals (terminal.Mark m ∷ ts) = AreProperTerminals ts
-AreProperTerminals (terminal.Word w ∷ ts) = AreProperTerminals ts
 
 after_relation : {t : Terminal} {r : Relation} (ts : List Terminal) → IsRelation t r → AreProperTerminals (t ∷ ts) → AreProperTerminals ts
 after_relation ts relation_sign h = h

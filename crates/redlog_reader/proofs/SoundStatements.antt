@@ -8,18 +8,19 @@ use Rattle.qe_syntax.specs.declared.tree.Relation.TheVariants.{Equal}
 use Rattle.qe_syntax.specs.declared.statement.PointEntry.{PointEntry}
 use Rattle.qe_syntax.specs.Trees.{TermTree, FormulaTree}
 use Rattle.qe_syntax.specs.Statements.{CommandTree, Echo, Holds, Sample, ActionTree, Ignored, Finish, Choose, Say, StatementTree}
-use Rattle.redlog_reader.specs.declared.terminal.Terminal.{Terminal}
-use Rattle.redlog_reader.specs.declared.terminal.Terminal.TheVariants as terminal
-use Rattle.redlog_reader.specs.declared.terminal.Mark.TheVariants as mark
-use Rattle.redlog_reader.specs.declared.terminal.Word.{Word}
-use Rattle.redlog_reader.specs.declared.terminal.Word.TheVariants as word
+use Rattle.redlog_tokens.specs.declared.terminal.Terminal.{Terminal}
+use Rattle.redlog_tokens.specs.declared.terminal.Terminal.TheVariants as terminal
+use Rattle.redlog_tokens.specs.declared.terminal.Mark.TheVariants as mark
+use Rattle.redlog_tokens.specs.declared.terminal.Word.{Word}
+use Rattle.redlog_tokens.specs.declared.terminal.Word.TheVariants as word
 use Rattle.redlog_reader.specs.Machine.{term_of, formula_of, Wants, run}
 use Rattle.redlog_reader.specs.Grammar.{SpellsSum, IsRelation, relation_sign, relation_word, SpellsComparison, comparison, SpellsCongruence, SpellsAtom, compared_atom, congruent_atom}
 use Rattle.redlog_reader.specs.Grammar.{SpellsPrime, truth, falsity, named_formula, congruence, inner_formula, exists, for_all, SpellsFormula, setting_of, IsAny, any_name, any_word, SpellsAnys, last_any, more_anys, Above, unsigned, opposed, Below, one, divided, SpellsEntry, entry, Listed, last_item, more_items, Braced, empty, listed, SpellsPoint, SpellsAtoms}
 use Rattle.redlog_reader.specs.Grammar.{SpellsArgument, alone, under, SpellsResult, echo, nnf, pnf, dnf, cnf, simpl, qe, qea, holds, witness, SpellsAction, assign, result, query, choose, load, on, off, end, bye, quit, end_mark, SpellsStatement, nothing, acting}
-use Rattle.redlog_reader.specs.Reader.{on_some, number_of, after_mark, formula_read, sum_read, relation_of, relation_read, comparison_read, begins_congruence, atom_read, listed_read, items_read, braced_read, number_read, negated_literal, above_read, below_read, name_read, after_equal, entry_read, argument_read, pointed_read, result_from, result_read, is_any, anys_read, context_read, ignored_read, said, action_from, named_from, action_read, ending, statement_read}
+use Rattle.redlog_reader.specs.Reader.{on_some, after_mark, formula_read, sum_read, relation_of, relation_read, comparison_read, begins_congruence, atom_read, listed_read, items_read, braced_read, number_read, above_read, below_read, name_read, after_equal, entry_read, argument_read, pointed_read, result_from, result_read, is_any, anys_read, ignored_read, said, action_from, action_read, ending, statement_read}
 use Rattle.redlog_reader.specs.Reader as reader
-use Rattle.redlog_reader.proofs.Proper.{AreProperTerminals, proper_entry, proper_formula}
+use Rattle.redlog_tokens.proofs.ProperTokens.{AreProperTerminals}
+use Rattle.redlog_reader.proofs.Proper.{proper_entry, proper_formula}
 use Rattle.redlog_reader.proofs.CompleteStatements.{negated_done}
 use Rattle.redlog_reader.proofs.SoundSteps.{FormulaAt, term_raise, formula_raise}
 use Rattle.redlog_reader.proofs.Sound.{Sound, read_sound}

@@ -4,11 +4,11 @@ use Rattle.std.specs.Prelude.{◌-◌, Option, Some, None, nat_lt, if◌then◌e
 use Rattle.std.proofs.lemmas.Bool.{ltb-true}
 use Rattle.formula_meaning.specs.Formula.{One, Not, Impl, Repl, Equiv}
 use Rattle.qe_syntax.specs.Trees.{TermTree, Named, Compare, Bound, FormulaTree}
-use Rattle.redlog_reader.specs.declared.terminal.Terminal.{Terminal}
-use Rattle.redlog_reader.specs.declared.terminal.Terminal.TheVariants as terminal
-use Rattle.redlog_reader.specs.declared.terminal.Mark.TheVariants as mark
-use Rattle.redlog_reader.specs.declared.terminal.Word.TheVariants as word
-use Rattle.redlog_reader.specs.declared.terminal.Word.{Word}
+use Rattle.redlog_tokens.specs.declared.terminal.Terminal.{Terminal}
+use Rattle.redlog_tokens.specs.declared.terminal.Terminal.TheVariants as terminal
+use Rattle.redlog_tokens.specs.declared.terminal.Mark.TheVariants as mark
+use Rattle.redlog_tokens.specs.declared.terminal.Word.TheVariants as word
+use Rattle.redlog_tokens.specs.declared.terminal.Word.{Word}
 use Rattle.redlog_reader.specs.declared.pending.Connective.TheVariants as connective
 use Rattle.redlog_reader.specs.declared.pending.Arrow.TheVariants as arrow
 use Rattle.redlog_reader.specs.Machine.{Reading, Term, Formula, Bare, term_of, formula_of, Frame, Group, Quantifier, Congruence, Negation, Compares, Added, Multiplied, Listed, Arrows}

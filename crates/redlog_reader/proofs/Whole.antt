@@ -1,26 +1,26 @@
 -- Reading a statement.
-use Rattle.std.proofs.Common.{◌≡◌, ◌≢◌, ℕ, ◌≤◌, arith, List, [], ◌∷◌, ◌++◌, map, length, drop, sym, refl, ap, ◌∙◌, subst, inl, inr}
+use Rattle.std.proofs.Common.{◌≡◌, ◌≢◌, ℕ, ◌≤◌, arith, List, [], map, length, sym, refl, ap, ◌∙◌, subst}
 use Rattle.std.specs.Prelude.{Option, Some, None}
 use Rattle.qe_syntax.specs.Statements.{StatementTree}
-use Rattle.redlog_reader.specs.declared.lexer.Lexeme.{Lexeme}
-use Rattle.redlog_reader.specs.declared.token.Token.{Token}
-use Rattle.redlog_reader.specs.declared.token.TokenKind.{TokenKind}
-use Rattle.redlog_reader.specs.Terminals.{terminals, terminal_of}
-use Rattle.redlog_reader.specs.Lexing.{Lexes, LexesFrom, lexeme_of, AreTokens, SomeBad, IsLexical, LexicalWhere}
-use Rattle.redlog_reader.specs.Levels.{Passes}
+use Rattle.redlog_tokens.specs.declared.token.Token.{Token}
+use Rattle.redlog_tokens.specs.declared.token.TokenKind.{TokenKind}
+use Rattle.redlog_tokens.specs.Terminals.{terminals, terminal_of}
+use Rattle.redlog_tokens.specs.Lexing.{lexeme_of, AreTokens, IsLexical, LexicalWhere}
+use Rattle.redlog_tokens.specs.Levels.{Passes}
 use Rattle.redlog_reader.specs.Grammar.{SpellsStatement}
 use Rattle.redlog_reader.specs.Reading.{Refuses}
 use Rattle.redlog_reader.specs.Reader.{statement_read}
 use Rattle.redlog_reader.specs.Statement.{AreKinds, Spells, IsDeep, SpellsNothing, Unread}
 use Rattle.redlog_reader.specs.declared.read.TheConstants.{BYTE_LIMIT}
-use Rattle.redlog_reader.specs.declared.level.TheConstants.{LEVEL_LIMIT}
-use Rattle.redlog_reader.specs.declared.token.ReadError.{ReadError}
-use Rattle.redlog_reader.specs.declared.token.ReadError.TheVariants as cause
+use Rattle.redlog_tokens.specs.declared.level.TheConstants.{LEVEL_LIMIT}
+use Rattle.redlog_tokens.specs.declared.token.ReadError.{ReadError}
+use Rattle.redlog_tokens.specs.declared.token.ReadError.TheVariants as cause
 use Rattle.qe_syntax.specs.Proper.{IsProper}
 use Rattle.redlog_reader.proofs.CompleteStatements.{statement_done}
 use Rattle.redlog_reader.proofs.SoundStatements.{statement_sound}
 use Rattle.redlog_reader.proofs.Proper.{proper_statement}
-use Rattle.redlog_reader.proofs.Lexed.{same_lexemes, no_bad, lexed, same_goods, goods_of, terminals_of, tokens_proper, lexed_proper}
+use Rattle.redlog_tokens.proofs.Lexed.{same_lexemes, no_bad, same_goods, goods_of, terminals_of}
+use Rattle.redlog_tokens.proofs.ProperTokens.{tokens_proper, lexed_proper}
 
 -- the kinds of the tokens are determined
 same_kinds : {bytes : List ℕ} {js ks : List TokenKind} → AreKinds bytes js → AreKinds bytes ks → js ≡ ks
@@ -85,37 +85,6 @@ module _ (bytes : List ℕ) (ts : List Token) (are : AreTokens bytes ts) (short 
 
   pub read_proper : (s : StatementTree) → statement_read (terminals ts) ≡ Some s → IsProper s
   read_proper s e = let good = tokens_proper bytes ts are in proper_statement (statement_sound (terminals ts) s good e) good
-
-pushed : (done : List Token) (t : Token) (ts : List Lexeme) → map lexeme_of done ++ lexeme_of t ∷ ts ≡ map lexeme_of (done ++ t ∷ []) ++ ts
-pushed [] t ts = refl
-pushed (d ∷ done) t ts = ap (λ us. lexeme_of d ∷ us) (pushed done t ts)
-
--- tokens so far, and one more
-pub tokens_more : (bytes : List ℕ) (from end : ℕ) (done more : List Token) (t : Token) → more ≡ done ++ t ∷ [] → t.end ≡ end
-    → ((ts : List Lexeme) → LexesFrom bytes from ts → Lexes bytes 0 (map lexeme_of done ++ ts))
-    → ((ts : List Lexeme) → LexesFrom bytes end ts → LexesFrom bytes from (lexeme_of t ∷ ts))
-    → (ts : List Lexeme) → LexesFrom bytes end ts → Lexes bytes 0 (map lexeme_of more ++ ts)
-tokens_more bytes from end done more t put ends before next ts l = subst (Lexes bytes 0) (pushed done t ts ∙ ap (λ us. map lexeme_of us ++ ts) (sym put)) (before _ (next ts l))
-
-bad_after : (done : List Token) (t : Lexeme) (ts : List Lexeme) → t.kind ≡ None → SomeBad (map lexeme_of done ++ t ∷ ts)
-bad_after [] t ts e = inl e
-bad_after (d ∷ done) t ts e = inr (bad_after done t ts e)
-
--- a bad token comes
-pub bad_comes : (bytes : List ℕ) (from end : ℕ) (done : List Token) (t : Lexeme) → t.kind ≡ None
-    → ((ts : List Lexeme) → LexesFrom bytes from ts → Lexes bytes 0 (map lexeme_of done ++ ts))
-    → ((ts : List Lexeme) → LexesFrom bytes end ts → LexesFrom bytes from (t ∷ ts)) → IsLexical bytes
-bad_comes bytes from end done t bad before next =
-    let rest = lexed (drop end bytes) end in
-    record { lexemes = map lexeme_of done ++ t ∷ rest.0; lexes = before _ (next rest.0 rest.1); bad = bad_after done t rest.0 bad }
-
-no_more : (ts : List Lexeme) → ts ++ [] ≡ ts
-no_more [] = refl
-no_more (t ∷ ts) = ap (λ us. t ∷ us) (no_more ts)
-
-pub tokens_end : (bytes : List ℕ) (from : ℕ) (done : List Token)
-    → ((ts : List Lexeme) → LexesFrom bytes from ts → Lexes bytes 0 (map lexeme_of done ++ ts)) → LexesFrom bytes from [] → AreTokens bytes done
-tokens_end bytes from done before l = subst (Lexes bytes 0) (no_more (map lexeme_of done)) (before [] l)
 
 -- bytes that spell a statement are not refused
 pub not_unread : (bytes : List ℕ) (t : StatementTree) (e : ReadError) → e ≢ cause.Memory → Spells bytes t → Unread bytes e → ⊥

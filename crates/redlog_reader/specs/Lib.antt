@@ -1,11 +1,6 @@
-pub mod Terminals
-pub mod Lexing
-pub mod Pieces
-pub mod Levels
 pub mod Grammar
 pub mod Statement
 pub mod Machine
 pub mod Reader
 pub mod View
 pub mod Reading
-pub mod Counting

@@ -1,16 +1,16 @@
 -- What the bytes of a piece spell, and why they spell nothing.
 use Rattle.std.specs.Prelude.{◌≡◌, ℕ, ◌<◌, ◌≤◌, List, [], map, length, Some}
 use Rattle.qe_syntax.specs.Statements.{StatementTree}
-use Rattle.redlog_reader.specs.declared.lexer.Lexeme.{Lexeme}
-use Rattle.redlog_reader.specs.declared.token.TokenKind.{TokenKind}
-use Rattle.redlog_reader.specs.Terminals.{terminal_of}
-use Rattle.redlog_reader.specs.Lexing.{Lexes, IsLexical}
-use Rattle.redlog_reader.specs.Levels.{Passes}
+use Rattle.redlog_tokens.specs.declared.lexer.Lexeme.{Lexeme}
+use Rattle.redlog_tokens.specs.declared.token.TokenKind.{TokenKind}
+use Rattle.redlog_tokens.specs.Terminals.{terminal_of}
+use Rattle.redlog_tokens.specs.Lexing.{Lexes, IsLexical}
+use Rattle.redlog_tokens.specs.Levels.{Passes}
 use Rattle.redlog_reader.specs.Grammar.{SpellsStatement}
-use Rattle.redlog_reader.specs.declared.token.ReadError.{ReadError}
-use Rattle.redlog_reader.specs.declared.token.ReadError.TheVariants as cause
+use Rattle.redlog_tokens.specs.declared.token.ReadError.{ReadError}
+use Rattle.redlog_tokens.specs.declared.token.ReadError.TheVariants as cause
 use Rattle.redlog_reader.specs.declared.read.TheConstants.{BYTE_LIMIT}
-use Rattle.redlog_reader.specs.declared.level.TheConstants.{LEVEL_LIMIT}
+use Rattle.redlog_tokens.specs.declared.level.TheConstants.{LEVEL_LIMIT}
 
 -- the bytes are within the limit, and they are these tokens, none of them bad
 pub record AreKinds (bytes : List ℕ) (kinds : List TokenKind) : Type 0 where

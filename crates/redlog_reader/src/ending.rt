@@ -7,7 +7,7 @@ ghost use Rattle.redlog_reader.specs.View.{reading_of, frame_of};
 
 use crate::operand::{Operand, formula_of, term_of};
 use crate::pending::{Arrow, Connective, Pending};
-use crate::token::ReadError;
+use redlog_tokens::ReadError;
 use qe_syntax::{
     Formula, Formulas, Relation, Term, Terms, comparison, equivalence, implication, negation,
     negative, quotient, replication,

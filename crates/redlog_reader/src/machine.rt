@@ -1,7 +1,7 @@
 ghost use Rattle.std.specs.Prelude.{◌≡◌, [], ◌∷◌, ◌++◌, map, IfOk, IfErr, OnOk};
 ghost use Rattle.qe_syntax.specs.Trees.{term_tree, formula_tree};
-ghost use Rattle.redlog_reader.specs.declared.terminal.Terminal.{Terminal};
-ghost use Rattle.redlog_reader.specs.Terminals.{terminals};
+ghost use Rattle.redlog_tokens.specs.declared.terminal.Terminal.{Terminal};
+ghost use Rattle.redlog_tokens.specs.Terminals.{terminals};
 ghost use Rattle.redlog_reader.specs.Machine.{Wants, Fails, raised_to, binds, first_bound, next_bound, after_bound, scoped, opens, strength, Added, takes, folded, factors, members, listed, grouped, pushed, multiplies, adds, compares, joins, implies, congruence_of, closed, separated, operated, joined, held, fresh, wanted, step, run};
 ghost use Rattle.redlog_reader.specs.Grammar.{quantified, quantifier};
 ghost use Rattle.redlog_reader.specs.Reading.{Refuses};
@@ -11,8 +11,7 @@ use crate::ending::{added, ended, multiplied, put};
 use crate::operand::{Operand, formula_of, term_of};
 use crate::peek::next;
 use crate::pending::{Arguments, Arrow, Connective, Expects, Pending, Step, level, takes_last};
-use crate::terminal::{Mark, Terminal, Word};
-use crate::token::{ReadError, Token};
+use redlog_tokens::{Mark, ReadError, Terminal, Token, Word};
 use qe_syntax::{
     Formula, Name, Relation, Term, congruence, equivalence, existential, incongruence, power,
     replication, universal as universal_of,

@@ -1,13 +1,12 @@
 ghost use Rattle.std.specs.Prelude.{◌≡◌, ◌∷◌, [], ◌<◌, length, IfSome, MatchOption};
-ghost use Rattle.redlog_reader.specs.Terminals.{terminals};
+ghost use Rattle.redlog_tokens.specs.Terminals.{terminals};
 ghost use Rattle.redlog_reader.specs.Reader.{after_mark, number_read, name_read, after_equal, relation_of, relation_read};
 
-use crate::terminal::{Mark, Terminal, Word, terminal_of};
-use crate::token::Token;
+use redlog_tokens::{Mark, Terminal, Token, Word, terminal_of};
 use qe_syntax::{Literal, Name, Relation};
 
 /// The first terminal, and the tokens after it.
-#[tactic(auto, unfolding(crate::specs::Terminals::terminals))]
+#[tactic(auto, unfolding(redlog_tokens::specs::Terminals::terminals))]
 pub fn next(tokens: &[Token]) -> Option<(Terminal, &[Token])>
     ensures shorter { IfSome result (λ r. length r.1.now < length tokens.now) }
     ensures value { MatchOption result (terminals tokens.now ≡ []) (λ r. terminals tokens.now ≡ r.0 ∷ terminals r.1.now) }

@@ -1,11 +1,10 @@
 ghost use Rattle.std.specs.Prelude.{◌≡◌, IfOk, IfErr, MatchOption, Some, None};
-ghost use Rattle.redlog_reader.specs.Terminals.{terminals};
+ghost use Rattle.redlog_tokens.specs.Terminals.{terminals};
 ghost use Rattle.redlog_reader.specs.Reader.{entry_read, items_read, braced_read, negated_literal, above_read, below_read};
 ghost use Rattle.redlog_reader.specs.Reading.{Refuses};
 
 use crate::peek::{after, after_equal, name, number};
-use crate::terminal::Mark;
-use crate::token::{ReadError, Token};
+use redlog_tokens::{Mark, ReadError, Token};
 use qe_syntax::{Entries, Literal, PointEntry};
 use std::alloc::Global;
 

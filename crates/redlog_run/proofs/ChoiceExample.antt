@@ -4,13 +4,13 @@ use Rattle.std.specs.Prelude.{Some}
 use Rattle.qe_syntax.specs.Names.{is_word}
 use Rattle.qe_syntax.specs.Statements.{Choose, Finish}
 use Rattle.qe_syntax.specs.declared.statement.Setting.TheVariants.{Pasf}
-use Rattle.redlog_reader.specs.declared.lexer.Lexeme.{Lexeme}
-use Rattle.redlog_reader.specs.declared.token.TokenKind.{TokenKind}
-use Rattle.redlog_reader.specs.declared.token.TokenKind.TheVariants as token
-use Rattle.redlog_reader.specs.Terminals.{word_of, sign_of}
-use Rattle.redlog_reader.specs.Levels.{groups}
-use Rattle.redlog_reader.specs.Lexing.{front, signed, worded, Lexes, LexesFrom, over, spaced, taken}
-use Rattle.redlog_reader.specs.Pieces.{IsPiece, marked, inside}
+use Rattle.redlog_tokens.specs.declared.lexer.Lexeme.{Lexeme}
+use Rattle.redlog_tokens.specs.declared.token.TokenKind.{TokenKind}
+use Rattle.redlog_tokens.specs.declared.token.TokenKind.TheVariants as token
+use Rattle.redlog_tokens.specs.Terminals.{word_of, sign_of}
+use Rattle.redlog_tokens.specs.Levels.{groups}
+use Rattle.redlog_tokens.specs.Lexing.{front, signed, worded, Lexes, LexesFrom, over, spaced, taken}
+use Rattle.redlog_tokens.specs.Pieces.{IsPiece, marked, inside}
 use Rattle.redlog_reader.specs.Grammar.{setting_of, choose, end, acting}
 use Rattle.redlog_reader.specs.Statement.{Spells}
 use Rattle.redlog_run.specs.Run.{piece_bytes}

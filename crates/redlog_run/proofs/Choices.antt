@@ -6,9 +6,9 @@ use Rattle.std.specs.declared.vec.Vec.{Vec}
 use denote.RawPtr.{null_ptr}
 use Rattle.formula_meaning.specs.Context.{Context, Fields, Integers}
 use Rattle.qe_syntax.specs.Statements.{ActionTree, Empty, Ignored, Finish, Choose, Say, Assign, StatementTree}
-use Rattle.redlog_reader.specs.Pieces.{IsPiece}
+use Rattle.redlog_tokens.specs.Pieces.{IsPiece}
 use Rattle.redlog_reader.specs.Statement.{Spells}
-use Rattle.redlog_reader.proofs.Cutting.{none_or_piece, same_piece}
+use Rattle.redlog_tokens.proofs.Cutting.{none_or_piece, same_piece}
 use Rattle.redlog_reader.proofs.Whole.{spells_once}
 use Rattle.session_commands.specs.declared.line.Line.{Line}
 use Rattle.session_commands.specs.declared.line.Line.TheVariants as line

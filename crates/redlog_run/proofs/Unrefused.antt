@@ -3,7 +3,7 @@ use Rattle.std.proofs.Common.{◌≢◌, ℕ, List, refl, subst}
 use Rattle.std.specs.Prelude.{Err}
 use Rattle.qe_syntax.specs.Statements.{StatementTree}
 use Rattle.redlog_reader.specs.Statement.{Spells}
-use Rattle.redlog_reader.specs.declared.token.ReadError.TheVariants as reading
+use Rattle.redlog_tokens.specs.declared.token.ReadError.TheVariants as reading
 use Rattle.redlog_reader.proofs.Whole.{spells_once, not_unread}
 use Rattle.session_commands.specs.declared.line.StatementError.{StatementError}
 use Rattle.session_commands.specs.declared.line.StatementError.TheVariants as error

@@ -1,6 +1,6 @@
 -- What a script is answered with: piece after piece, each in the state that the one before left.
 use Rattle.std.specs.Prelude.{◌≡◌, ◌≢◌, ℕ, ◌-◌, List, [], ◌++◌, take, drop, Bool, true, false, ◌||◌, Ok, Err}
-use Rattle.redlog_reader.specs.Pieces.{HasNoTokenFrom, IsPiece}
+use Rattle.redlog_tokens.specs.Pieces.{HasNoTokenFrom, IsPiece}
 use Rattle.session_commands.specs.declared.line.Line.{Line}
 use Rattle.session_commands.specs.declared.line.Line.TheVariants.{Finished}
 use Rattle.session_commands.specs.declared.line.StatementError.{StatementError}

@@ -3,7 +3,7 @@ use Rattle.std.proofs.Common.{ap, ◌≡◌, ℕ, List, Bool, Some, None, sym, s
 use Rattle.std.specs.Prelude.{Result, Ok, Err, IfOk, OnOk, IfErr, OnErr}
 use Rattle.qe_syntax.specs.Statements.{CommandTree, Qea, Holds, Sample, ActionTree, Empty, Ignored, Finish, Choose, Say, Assign, StatementTree}
 use Rattle.redlog_reader.specs.Grammar.{SpellsResult, echo, nnf, pnf, dnf, cnf, simpl, qe, SpellsAction, assign, SpellsStatement, nothing, acting}
-use Rattle.redlog_reader.specs.declared.terminal.Terminal.{Terminal}
+use Rattle.redlog_tokens.specs.declared.terminal.Terminal.{Terminal}
 use Rattle.redlog_reader.specs.Statement.{Spells}
 use Rattle.session_commands.specs.declared.line.Line.{Line}
 use Rattle.session_commands.specs.State.{State, with_names}

@@ -7,7 +7,7 @@ use Rattle.answer_texts.specs.Answers.{cases_text}
 use Rattle.qe_syntax.specs.Statements.{CommandTree, Qea, Holds, Sample, ActionTree, Empty, Ignored, Finish, Choose, Say, Assign, StatementTree}
 use Rattle.formula_tree.specs.Bindings.{bind}
 use Rattle.redlog_reader.specs.Statement.{Spells, Unread}
-use Rattle.redlog_reader.specs.declared.token.ReadError.TheVariants as reading
+use Rattle.redlog_tokens.specs.declared.token.ReadError.TheVariants as reading
 use Rattle.session_commands.specs.declared.line.Line.{Line}
 use Rattle.session_commands.specs.declared.line.Line.TheVariants as line
 use Rattle.session_commands.specs.declared.line.StatementError.{StatementError}

@@ -26,8 +26,8 @@ use Rattle.prenex_forms.specs.Forms.{OverflowsInRenaming}
 use Rattle.qe_syntax.specs.declared.tree.Formula.{Formula}
 use Rattle.qe_syntax.specs.Trees.{FormulaTree, FormulaTrees, formula_tree, formula_trees}
 use Rattle.qe_syntax.specs.Statements.{CommandTree, Echo, Nnf, Pnf, Dnf, Cnf, Simpl, Qe, StatementTree}
-use Rattle.redlog_reader.specs.declared.token.ReadError.{ReadError}
-use Rattle.redlog_reader.specs.declared.token.ReadError.TheVariants as reading
+use Rattle.redlog_tokens.specs.declared.token.ReadError.{ReadError}
+use Rattle.redlog_tokens.specs.declared.token.ReadError.TheVariants as reading
 use Rattle.formula_tree.specs.Bindings.{bind}
 use Rattle.formula_tree.specs.Makers.{Keeps}
 use Rattle.formula_tree.specs.Resolving.{BoundTrees, names_after, resolve}

@@ -1,5 +1,5 @@
 use Rattle.qe_syntax.specs.Trees.{formula_tree}
-use Rattle.redlog_reader.specs.Terminals.{terminals}
+use Rattle.redlog_tokens.specs.Terminals.{terminals}
 use Rattle.redlog_reader.specs.Reader.{atom_read}
 use Rattle.redlog_reader.proofs.Items.{loop_more, loop_less, atom_less}
 use Rattle.redlog_reader.proofs.argument.listed.Goals as goal

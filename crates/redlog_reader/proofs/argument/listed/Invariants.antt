@@ -1,6 +1,6 @@
 use Rattle.std.proofs.Common.{◌≡◌, map, length}
 use Rattle.qe_syntax.specs.Trees.{formula_tree}
-use Rattle.redlog_reader.specs.Terminals.{terminals}
+use Rattle.redlog_tokens.specs.Terminals.{terminals}
 use Rattle.redlog_reader.specs.Reader.{items_read, atom_read}
 use Rattle.redlog_reader.proofs.Items.{onto}
 use Rattle.redlog_reader.proofs.argument.listed.Given as goal

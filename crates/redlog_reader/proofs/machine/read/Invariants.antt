@@ -1,5 +1,5 @@
 use Rattle.std.proofs.Common.{◌≡◌, [], length}
-use Rattle.redlog_reader.specs.Terminals.{terminals}
+use Rattle.redlog_tokens.specs.Terminals.{terminals}
 use Rattle.redlog_reader.specs.Machine.{run, Wants}
 use Rattle.redlog_reader.specs.View.{frames, mode_of}
 use Rattle.redlog_reader.proofs.machine.read.Given as goal

@@ -1,4 +1,4 @@
-use Rattle.redlog_reader.specs.Terminals.{terminals}
+use Rattle.redlog_tokens.specs.Terminals.{terminals}
 use Rattle.redlog_reader.specs.Reader.{entry_read}
 use Rattle.redlog_reader.proofs.Items.{loop_more, entry_less}
 use Rattle.redlog_reader.proofs.point.entries.Goals as goal

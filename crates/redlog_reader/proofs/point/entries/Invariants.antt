@@ -1,5 +1,5 @@
 use Rattle.std.proofs.Common.{◌≡◌, length}
-use Rattle.redlog_reader.specs.Terminals.{terminals}
+use Rattle.redlog_tokens.specs.Terminals.{terminals}
 use Rattle.redlog_reader.specs.Reader.{items_read, entry_read}
 use Rattle.redlog_reader.proofs.Items.{onto}
 use Rattle.redlog_reader.proofs.point.entries.Given as goal

@@ -1,5 +1,5 @@
 use Rattle.std.proofs.Common.{◌≡◌, length}
-use Rattle.redlog_reader.specs.Terminals.{terminals}
+use Rattle.redlog_tokens.specs.Terminals.{terminals}
 use Rattle.redlog_reader.specs.Reader.{anys_read}
 use Rattle.redlog_reader.proofs.statement.anys.Given as goal
 

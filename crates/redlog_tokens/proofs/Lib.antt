@@ -1,0 +1,9 @@
+pub mod Lexemes
+pub mod PieceLemmas
+pub mod Counts
+pub mod Lexed
+pub mod ProperTokens
+pub mod Longest
+pub mod Scanned
+pub mod Cutting
+pub mod Examples

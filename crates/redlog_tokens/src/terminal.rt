@@ -1,0 +1,205 @@
+ghost use Rattle.std.specs.Prelude.{◌≡◌, bytes_eq};
+ghost use Rattle.redlog_tokens.specs.Terminals.{terminal_of, word_of, sign_of};
+
+use crate::token::TokenKind;
+use qe_syntax::{Literal, Name, Relation};
+
+/// A token as the grammar names it.
+#[derive(Clone, Copy)]
+pub enum Terminal {
+    Number(Literal),
+    Name(Name),
+    Relation(Relation),
+    Mark(Mark),
+    Word(Word),
+}
+
+/// A sign that is no relation. `Power` is `^` or `**`.
+#[derive(Clone, Copy, Debug, PartialEq, Eq)]
+pub enum Mark {
+    Plus,
+    Minus,
+    Times,
+    Slash,
+    Power,
+    Open,
+    Close,
+    OpenBrace,
+    CloseBrace,
+    Comma,
+    Semicolon,
+    Dollar,
+    Assign,
+}
+
+/// A word. `Other` is one that no statement begins with so far, or `infinity` or `epsilon` with a number.
+#[derive(Clone, Copy, Debug, PartialEq, Eq)]
+pub enum Word {
+    True,
+    False,
+    Not,
+    And,
+    Or,
+    Impl,
+    Repl,
+    Equiv,
+    Ex,
+    All,
+    Cong,
+    Ncong,
+    Neq,
+    Set,
+    Nnf,
+    Pnf,
+    Dnf,
+    Cnf,
+    Simpl,
+    Qe,
+    Qea,
+    Holds,
+    Witness,
+    Load,
+    On,
+    Off,
+    End,
+    Bye,
+    Quit,
+    Other,
+}
+
+/// The terminal that a token is.
+pub fn terminal_of(kind: &TokenKind) -> Terminal
+    ensures { result ≡ terminal_of kind.now }
+{
+    match kind {
+        TokenKind::Number(number) => Terminal::Number(*number),
+        TokenKind::Name(name) => Terminal::Name(*name),
+        TokenKind::Word(word) => Terminal::Word(word_of(word.bytes())),
+        TokenKind::Sign(sign) => sign_of(sign.bytes()),
+    }
+}
+
+/// The word that a text is.
+#[tactic(auto, unfolding(crate::specs::Terminals::word_of))]
+fn word_of(word: &[u8]) -> Word
+    ensures { result ≡ word_of word.now }
+{
+    if is(word, "true") {
+        Word::True
+    } else if is(word, "false") {
+        Word::False
+    } else if is(word, "not") {
+        Word::Not
+    } else if is(word, "and") {
+        Word::And
+    } else if is(word, "or") {
+        Word::Or
+    } else if is(word, "impl") {
+        Word::Impl
+    } else if is(word, "repl") {
+        Word::Repl
+    } else if is(word, "equiv") {
+        Word::Equiv
+    } else if is(word, "ex") {
+        Word::Ex
+    } else if is(word, "all") {
+        Word::All
+    } else if is(word, "cong") {
+        Word::Cong
+    } else if is(word, "ncong") {
+        Word::Ncong
+    } else if is(word, "neq") {
+        Word::Neq
+    } else if is(word, "rlset") {
+        Word::Set
+    } else if is(word, "rlnnf") {
+        Word::Nnf
+    } else if is(word, "rlpnf") {
+        Word::Pnf
+    } else if is(word, "rldnf") {
+        Word::Dnf
+    } else if is(word, "rlcnf") {
+        Word::Cnf
+    } else if is(word, "rlsimpl") {
+        Word::Simpl
+    } else if is(word, "rlqe") {
+        Word::Qe
+    } else if is(word, "rlqea") {
+        Word::Qea
+    } else if is(word, "rlholds") {
+        Word::Holds
+    } else if is(word, "rlwitness") {
+        Word::Witness
+    } else if is(word, "load_package") {
+        Word::Load
+    } else if is(word, "on") {
+        Word::On
+    } else if is(word, "off") {
+        Word::Off
+    } else if is(word, "end") {
+        Word::End
+    } else if is(word, "bye") {
+        Word::Bye
+    } else if is(word, "quit") {
+        Word::Quit
+    } else {
+        Word::Other
+    }
+}
+
+/// The terminal that a sign is.
+#[tactic(auto, unfolding(crate::specs::Terminals::sign_of))]
+fn sign_of(sign: &[u8]) -> Terminal
+    ensures { result ≡ sign_of sign.now }
+{
+    if is(sign, "+") {
+        Terminal::Mark(Mark::Plus)
+    } else if is(sign, "-") {
+        Terminal::Mark(Mark::Minus)
+    } else if is(sign, "*") {
+        Terminal::Mark(Mark::Times)
+    } else if is(sign, "/") {
+        Terminal::Mark(Mark::Slash)
+    } else if is(sign, "^") {
+        Terminal::Mark(Mark::Power)
+    } else if is(sign, "**") {
+        Terminal::Mark(Mark::Power)
+    } else if is(sign, "(") {
+        Terminal::Mark(Mark::Open)
+    } else if is(sign, ")") {
+        Terminal::Mark(Mark::Close)
+    } else if is(sign, "{") {
+        Terminal::Mark(Mark::OpenBrace)
+    } else if is(sign, "}") {
+        Terminal::Mark(Mark::CloseBrace)
+    } else if is(sign, ",") {
+        Terminal::Mark(Mark::Comma)
+    } else if is(sign, ";") {
+        Terminal::Mark(Mark::Semicolon)
+    } else if is(sign, "$") {
+        Terminal::Mark(Mark::Dollar)
+    } else if is(sign, ":=") {
+        Terminal::Mark(Mark::Assign)
+    } else if is(sign, "=") {
+        Terminal::Relation(Relation::Equal)
+    } else if is(sign, "<>") {
+        Terminal::Relation(Relation::Differs)
+    } else if is(sign, "<") {
+        Terminal::Relation(Relation::Less)
+    } else if is(sign, "<=") {
+        Terminal::Relation(Relation::AtMost)
+    } else if is(sign, ">") {
+        Terminal::Relation(Relation::Greater)
+    } else if is(sign, ">=") {
+        Terminal::Relation(Relation::AtLeast)
+    } else {
+        Terminal::Word(Word::Other)
+    }
+}
+
+/// Whether the text is this word or sign.
+pub fn is(text: &[u8], word: &str) -> bool
+    ensures { result ≡ bytes_eq text.now word.now }
+{
+    text == word.as_bytes()
+}
