@@ -4,6 +4,9 @@
 # make uninstall          takes them away again
 # make deb                builds a package of these, which dpkg -i installs
 
+# How many crates are proved at a time: two more than there are processors, since a check waits now and then.
+JOBS ?= $(shell echo $$(($$(nproc) + 2)))
+
 PREFIX ?= /usr/local
 VERSION ?= 0.1.0
 PAGES = docs/LANGUAGE.md docs/TUTORIAL.md docs/DEFINITIONS.md docs/DECISIONS.md README.md
@@ -14,6 +17,9 @@ PACKAGE = bin/redlog_$(VERSION)_amd64
 all: bin/redlog
 
 bin/redlog: crates.txt $(shell find crates -path '*/out' -prune -o -type f -print)
+	@echo "Proving every crate, $(JOBS) at a time. Where nothing is kept this takes half an hour on four processors, and an hour on two."
+	cd crates && rt all check --jobs $(JOBS)
+	@echo "Building the program, and answering its first script."
 	cd crates/redlog && rt run < stdin
 	mkdir -p bin
 	cp crates/redlog/out/redlog bin/redlog

@@ -3,7 +3,7 @@ use Rattle.std.specs.Prelude.{ℕ, ◌<◌, List}
 use Rattle.std.specs.List.{AllByRecursion}
 use Rattle.formula_meaning.specs.Answer.{Answer, Place, Exact, AboveBy, BelowBy, PlusInfinity, MinusInfinity, Periodic}
 use Rattle.elimination_reference.specs.Cases.{Case}
-use Rattle.redlog_printer.specs.Within.{AreTermsWithin, IsTreeWithin}
+use Rattle.formula_meaning.specs.Within.{AreTermsWithin, IsTreeWithin}
 use Rattle.sample_reference.specs.Values.{Value}
 
 -- the number of each name of the place's form is below this one

@@ -1,7 +1,7 @@
 // The texts of answers.
 ghost use Rattle.std.specs.Prelude.{◌≡◌, ◌<◌, ◌≤◌, ◌+◌, ◌^◌, ◌++◌, [], map, OnOk, IsErrOf, length};
 ghost use Rattle.redlog_printer.specs.Text.{first_sign, later_sign, sum_text};
-ghost use Rattle.redlog_printer.specs.Within.{AreTermsWithin};
+ghost use Rattle.formula_meaning.specs.Within.{AreTermsWithin};
 ghost use Rattle.redlog_printer.specs.Writing.{text_limit};
 ghost use Rattle.test_points.specs.Points.{answer_of, place_of};
 ghost use Rattle.answer_texts.specs.Answers.{separated, quotient_text, period_text, place_text, answer_text, answer_texts, next_epsilon, next_infinity};

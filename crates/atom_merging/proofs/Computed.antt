@@ -16,7 +16,8 @@ use Rattle.formula_meaning.specs.Context.{Context, Fields, Integers}
 use Rattle.formula_meaning.specs.Form.{Form, Term}
 use Rattle.formula_meaning.specs.Atom.{Relation, Equals, Differs, Below, AtMost, Above, AtLeast, Atom, Compare, Congruent, opposite_relation, form_of}
 use Rattle.formula_meaning.specs.Same.{same_terms}
-use Rattle.formula_meaning.specs.Fold.{Junction, Conjunction, Disjunction}
+use Rattle.formula_meaning.specs.declared.junction.Junction.{Junction}
+use Rattle.formula_meaning.specs.declared.junction.Junction.TheVariants.{Conjunction, Disjunction}
 use Rattle.formula_meaning.proofs.Same.{terms_same, form_alike, and_right, and_left, both_true}
 use Rattle.atom_normal.specs.NormalForm.{IsNormal, IsNormalCongruence}
 use Rattle.atom_merging.specs.declared.comparison.Position.{Position}

@@ -4,7 +4,7 @@ use Rattle.std.proofs.Math.IntN.{pos, negsuc}
 use Rattle.exact_numbers.specs.Divides.{content_of, gcd_of, euclid}
 use Rattle.formula_meaning.specs.Context.{Fields, Integers}
 use Rattle.formula_meaning.specs.Atom.{Equals, Differs, Below, AtMost, Above, AtLeast, Compare}
-use Rattle.formula_meaning.specs.Fold.{Conjunction, Disjunction}
+use Rattle.formula_meaning.specs.declared.junction.Junction.TheVariants.{Conjunction, Disjunction}
 use Rattle.atom_merging.specs.declared.comparison.Position.TheVariants as lies
 use Rattle.atom_merging.specs.declared.congruence.Class.TheVariants as class_is
 use Rattle.atom_merging.specs.Merging.{variable_part}

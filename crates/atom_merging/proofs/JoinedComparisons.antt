@@ -10,7 +10,8 @@ use Rattle.exact_numbers.proofs.Contents.{content_is}
 use Rattle.formula_meaning.specs.Context.{Context, Fields, Integers, IsDenominator}
 use Rattle.formula_meaning.specs.Form.{Form, Term}
 use Rattle.formula_meaning.specs.Atom.{Relation, Equals, Differs, Below, AtMost, Above, AtLeast, Atom, Compare, Congruent, opposite_relation, form_of}
-use Rattle.formula_meaning.specs.Fold.{Junction, Conjunction, Disjunction}
+use Rattle.formula_meaning.specs.declared.junction.Junction.{Junction}
+use Rattle.formula_meaning.specs.declared.junction.Junction.TheVariants.{Conjunction, Disjunction}
 use Rattle.linear_forms.specs.Terms.{coefficients}
 use Rattle.atom_normal.specs.NormalForm.{holds, first, IsNormal, IsOriented}
 use Rattle.atom_normal.proofs.Relations.{holds_so, content_positive, chain}

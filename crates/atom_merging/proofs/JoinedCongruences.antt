@@ -11,7 +11,8 @@ use Rattle.exact_numbers.proofs.Floor.{residue_is, residues_same}
 use Rattle.formula_meaning.specs.Context.{Integers}
 use Rattle.formula_meaning.specs.Form.{Form}
 use Rattle.formula_meaning.specs.Atom.{Atom, Compare, Congruent, form_of}
-use Rattle.formula_meaning.specs.Fold.{Junction, Conjunction, Disjunction}
+use Rattle.formula_meaning.specs.declared.junction.Junction.{Junction}
+use Rattle.formula_meaning.specs.declared.junction.Junction.TheVariants.{Conjunction, Disjunction}
 use Rattle.linear_forms.proofs.Residues.{residue_stays}
 use Rattle.atom_normal.specs.NormalForm.{IsNormalCongruence}
 use Rattle.atom_normal.proofs.Relations.{chain, along}

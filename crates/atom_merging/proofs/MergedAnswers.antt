@@ -3,7 +3,7 @@ use Rattle.std.proofs.Common.{◌≡◌, true, sym, subst, refl}
 use Rattle.exact_numbers.specs.Limit.{PastLimit}
 use Rattle.formula_meaning.specs.Context.{Context}
 use Rattle.formula_meaning.specs.Atom.{Atom, form_of}
-use Rattle.formula_meaning.specs.Fold.{Junction}
+use Rattle.formula_meaning.specs.declared.junction.Junction.{Junction}
 use Rattle.linear_forms.specs.Terms.{IsLinear}
 use Rattle.atom_merging.specs.declared.junction.Junction as code
 use Rattle.atom_merging.specs.declared.junction.Junction.TheVariants.{And, Or}

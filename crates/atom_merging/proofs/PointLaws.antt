@@ -10,7 +10,8 @@ use Rattle.formula_meaning.specs.Context.{Context, Fields, Integers}
 use Rattle.formula_meaning.specs.Point.{Point, Of}
 use Rattle.formula_meaning.specs.Form.{Form, total, multiple, value, coefficient}
 use Rattle.formula_meaning.specs.Atom.{Relation, Relates, Atom, Compare, Congruent, Says, Mentions}
-use Rattle.formula_meaning.specs.Fold.{Junction, Conjunction, Disjunction}
+use Rattle.formula_meaning.specs.declared.junction.Junction.{Junction}
+use Rattle.formula_meaning.specs.declared.junction.Junction.TheVariants.{Conjunction, Disjunction}
 use Rattle.linear_forms.specs.Terms.{coefficients}
 use Rattle.linear_forms.proofs.Quotients.{total_quotients, multiple_quotients}
 use Rattle.atom_normal.specs.NormalForm.{IsNormal}

@@ -4,7 +4,8 @@ use Rattle.std.proofs.Math.IntN.{ℤ}
 use Rattle.std.specs.declared.cmp.Ordering.{Ordering}
 use Rattle.formula_meaning.specs.Context.{Context, IsDenominator}
 use Rattle.formula_meaning.specs.Atom.{Relation, Equals, Differs, Below, AtMost, Above, AtLeast, Atom, opposite_relation}
-use Rattle.formula_meaning.specs.Fold.{Junction, Conjunction, Disjunction}
+use Rattle.formula_meaning.specs.declared.junction.Junction.{Junction}
+use Rattle.formula_meaning.specs.declared.junction.Junction.TheVariants.{Conjunction, Disjunction}
 use Rattle.atom_normal.specs.NormalForm.{holds, IsNormal}
 use Rattle.atom_merging.specs.Merging.{SamePart, StandsFor, Joined, IsSettled, Settles, MergesInto}
 use Rattle.atom_merging.proofs.Tables.{opposite_holds}

@@ -1,7 +1,8 @@
 -- The table for two congruences of one modulus and the same terms.
 use Rattle.std.specs.Prelude.{ℤ, pos, Bool, true, false, not, if◌then◌else◌}
 use Rattle.std.specs.Ordering.{int_eq}
-use Rattle.formula_meaning.specs.Fold.{Junction, Conjunction, Disjunction}
+use Rattle.formula_meaning.specs.declared.junction.Junction.{Junction}
+use Rattle.formula_meaning.specs.declared.junction.Junction.TheVariants.{Conjunction, Disjunction}
 use Rattle.atom_merging.specs.declared.congruence.Class.{Class}
 use Rattle.atom_merging.specs.declared.congruence.Class.TheVariants.{Settled, First, Second, Third, Kept}
 

@@ -9,7 +9,8 @@ use Rattle.formula_meaning.specs.Context.{Context, Fields, Integers}
 use Rattle.formula_meaning.specs.Form.{Form}
 use Rattle.formula_meaning.specs.Atom.{Atom, Compare, Congruent, opposite_relation, form_of}
 use Rattle.formula_meaning.specs.Same.{same_terms}
-use Rattle.formula_meaning.specs.Fold.{Junction, Conjunction, Disjunction}
+use Rattle.formula_meaning.specs.declared.junction.Junction.{Junction}
+use Rattle.formula_meaning.specs.declared.junction.Junction.TheVariants.{Conjunction, Disjunction}
 use Rattle.linear_forms.specs.Terms.{coefficients}
 use Rattle.atom_normal.specs.NormalForm.{IsNormal}
 use Rattle.atom_merging.specs.declared.comparison.Position.{Position}

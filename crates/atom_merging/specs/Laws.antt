@@ -4,7 +4,7 @@ use Rattle.exact_numbers.specs.Limit.{InLimit}
 use Rattle.formula_meaning.specs.Context.{Context}
 use Rattle.formula_meaning.specs.Point.{Point, Of}
 use Rattle.formula_meaning.specs.Atom.{Atom, Says, Mentions, form_of}
-use Rattle.formula_meaning.specs.Fold.{Junction}
+use Rattle.formula_meaning.specs.declared.junction.Junction.{Junction}
 use Rattle.atom_normal.specs.NormalForm.{IsNormal}
 use Rattle.atom_merging.specs.Merged.{IsDecision}
 use Rattle.atom_merging.specs.Computed.{merged, decided_by, IsRight, IsNormalWithin}

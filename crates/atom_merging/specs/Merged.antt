@@ -2,7 +2,8 @@
 use Rattle.std.specs.Prelude.{Bool, true, false, Option, Some, None}
 use Rattle.formula_meaning.specs.Context.{Context}
 use Rattle.formula_meaning.specs.Atom as meant
-use Rattle.formula_meaning.specs.Fold.{Junction, Conjunction, Disjunction}
+use Rattle.formula_meaning.specs.declared.junction.Junction.{Junction}
+use Rattle.formula_meaning.specs.declared.junction.Junction.TheVariants.{Conjunction, Disjunction}
 use Rattle.linear_forms.specs.Terms.{IsLinear}
 use Rattle.atom_normal.specs.Atoms.{atom_of, IsWellFormed}
 use Rattle.atom_merging.specs.declared.answers.Merged.{Merged}

@@ -4,7 +4,8 @@ use Rattle.std.specs.declared.cmp.Ordering.TheVariants.{Less, Equal, Greater}
 use Rattle.formula_meaning.specs.Context.{Context, Integers}
 use Rattle.formula_meaning.specs.Form.{Form}
 use Rattle.formula_meaning.specs.Atom.{Relation, Equals, Differs, Below, AtMost, Above, AtLeast, Atom, Compare, opposite_relation}
-use Rattle.formula_meaning.specs.Fold.{Junction, Conjunction, Disjunction}
+use Rattle.formula_meaning.specs.declared.junction.Junction.{Junction}
+use Rattle.formula_meaning.specs.declared.junction.Junction.TheVariants.{Conjunction, Disjunction}
 use Rattle.atom_normal.specs.NormalForm.{holds}
 use Rattle.atom_normal.specs.Atoms.{relation_of}
 use Rattle.atom_merging.specs.declared.comparison.Position.{Position}

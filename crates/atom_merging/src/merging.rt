@@ -1,6 +1,6 @@
 // Merging and deciding of two normal atoms.
 ghost use Rattle.std.specs.Prelude.{◌≡◌, IfOk, IfErr};
-ghost use Rattle.formula_meaning.specs.Fold.{Conjunction, Disjunction};
+ghost use Rattle.formula_meaning.specs.declared.junction.Junction.TheVariants.{Conjunction, Disjunction};
 ghost use Rattle.atom_normal.specs.NormalForm.{IsNormal};
 ghost use Rattle.atom_normal.specs.Atoms.{context_of, atom_of, IsWellFormed};
 ghost use Rattle.atom_merging.specs.Merged.{IsMerging, IsDecision};

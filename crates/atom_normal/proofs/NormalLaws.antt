@@ -11,8 +11,8 @@ use Rattle.formula_meaning.specs.Context.{Context, Fields, Integers}
 use Rattle.formula_meaning.specs.Formula.{Yes, No, One}
 use Rattle.formula_meaning.specs.Point.{Point, Of}
 use Rattle.formula_meaning.specs.Form.{Form, Term, value}
-use Rattle.formula_meaning.specs.Sorted.{gathered}
-use Rattle.formula_meaning.specs.Atom.{Atom, Compare, Congruent, Relation, Equals, Differs, Below, AtMost, Above, AtLeast, Relates, Says, AtomIn, Mentions, opposite_relation}
+use Rattle.formula_meaning.specs.Sorted.{IsSorted, gathered}
+use Rattle.formula_meaning.specs.Atom.{Atom, Compare, Congruent, Relation, Equals, Differs, Below, AtMost, Above, AtLeast, Relates, Says, AtomIn, Mentions, form_of, opposite_relation}
 use Rattle.formula_meaning.specs.Every.{Every}
 use Rattle.formula_meaning.specs.Tree.{TrueAt, InContext, IsFree}
 use Rattle.formula_meaning.proofs.Gathered.{value_gathered, coefficient_gathered, gathered_sorted, sorted_stays}
@@ -74,6 +74,12 @@ normal_in Fields (Compare r f) n = tt
 normal_in Integers (Compare r f) n = tt
 normal_in Fields (Congruent b m f) n = absurd n
 normal_in Integers (Congruent b m f) n = let h = n.above_one in omega arith
+
+pub normal_sorted : (c : Context) (a : Atom) → IsNormal c a → IsSorted (form_of a)
+normal_sorted Fields (Compare r f) n = n.oriented.sorted
+normal_sorted Integers (Compare r f) n = n.oriented.sorted
+normal_sorted Fields (Congruent b m f) n = absurd n
+normal_sorted Integers (Congruent b m f) n = n.sorted
 
 -- ---- the negation
 

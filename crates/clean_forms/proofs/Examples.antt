@@ -6,7 +6,7 @@ use Rattle.formula_meaning.specs.Context.{Fields}
 use Rattle.formula_meaning.specs.Atom.{Relation, Differs, Below, Above, AtLeast, Compare}
 use Rattle.formula_meaning.specs.Formula.{Yes, No, One, And, Or, none, also}
 use Rattle.formula_meaning.specs.Tree.{Tree}
-use Rattle.formula_meaning.specs.Fold.{Conjunction, Disjunction}
+use Rattle.formula_meaning.specs.declared.junction.Junction.TheVariants.{Conjunction, Disjunction}
 use Rattle.clean_forms.specs.Plain.{plain_form, literals}
 use Rattle.clean_forms.specs.Laws.{cleaned}
 

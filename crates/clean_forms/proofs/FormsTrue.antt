@@ -5,7 +5,9 @@ use Rattle.formula_meaning.specs.Context.{Context}
 use Rattle.formula_meaning.specs.Formula.{Formula, Formulas, Yes, No, One, Not, And, Or, Impl, Repl, Equiv, Ex, All, none, also}
 use Rattle.formula_meaning.specs.Truth.{True}
 use Rattle.formula_meaning.specs.Shape.{IsQuantifierFree, AreQuantifierFree}
-use Rattle.formula_meaning.specs.Fold.{Junction, Conjunction, Disjunction, joined, from_pieces}
+use Rattle.formula_meaning.specs.Fold.{joined, from_pieces}
+use Rattle.formula_meaning.specs.declared.junction.Junction.{Junction}
+use Rattle.formula_meaning.specs.declared.junction.Junction.TheVariants.{Conjunction, Disjunction}
 use Rattle.formula_meaning.proofs.Iff.{both_ways, turn_round}
 use Rattle.atom_merging.specs.Merging.{Joined}
 use Rattle.simplified_formulas.specs.Atoms.{Kit}

@@ -1,7 +1,7 @@
 -- What an atom and a list of atoms become that are put into a list in which no two atoms merge.
 use Rattle.std.proofs.Common.{◌≡◌, ℕ, zero, suc, ◌+◌, ◌≤◌, Option, None, Some, List, [], ◌∷◌, ◌++◌, length, refl, ap, arith, length-append}
 use Rattle.formula_meaning.specs.Some.{EachOf}
-use Rattle.formula_meaning.specs.Fold.{Junction}
+use Rattle.formula_meaning.specs.declared.junction.Junction.{Junction}
 use Rattle.atom_merging.specs.Computed.{Merging, Settled, Into, Kept}
 use Rattle.simplified_formulas.specs.Atoms.{Kit}
 use Rattle.clean_forms.specs.Lines.{Met, Alone, Void, Meets, met, resolved, partner, insert, insert_into, insert_all}

@@ -2,7 +2,8 @@
 use Rattle.std.proofs.Common.{◌≡◌, ℕ, Bool, true, false, List, [], ◌∷◌, ◌++◌, map, refl, sym, ap, ◌∙◌, append_assoc}
 use Rattle.std.specs.List.{flat_map}
 use Rattle.formula_meaning.specs.Formula.{Formulas, none, also}
-use Rattle.formula_meaning.specs.Fold.{Junction, append}
+use Rattle.formula_meaning.specs.Fold.{append}
+use Rattle.formula_meaning.specs.declared.junction.Junction.{Junction}
 use Rattle.clean_forms.specs.Plain.{products, together, of_none, all_distributed, distributed}
 
 module _ {A : Type 0} where

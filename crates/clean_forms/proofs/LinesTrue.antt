@@ -2,7 +2,8 @@
 use Rattle.std.proofs.Common.{◌≡◌, ◌↔◌, ℕ, zero, suc, ◌+◌, Bool, true, false, refl, subst, inl, inr, ⊎_elim, Option, None, Some, List, [], ◌∷◌, ◌++◌, length, arith}
 use Rattle.std.specs.Prelude.{◌||◌, ◌&&◌, if◌then◌else◌}
 use Rattle.formula_meaning.specs.Some.{EachOf}
-use Rattle.formula_meaning.specs.Fold.{Junction, Conjunction, Disjunction}
+use Rattle.formula_meaning.specs.declared.junction.Junction.{Junction}
+use Rattle.formula_meaning.specs.declared.junction.Junction.TheVariants.{Conjunction, Disjunction}
 use Rattle.formula_meaning.proofs.Iff.{both_ways, turn_round}
 use Rattle.atom_merging.specs.Merging.{Joined}
 use Rattle.atom_merging.specs.Computed.{Merging, Settled, Into, Kept}

@@ -4,7 +4,9 @@ use Rattle.std.specs.Prelude.{if◌then◌else◌, ◌||◌}
 use Rattle.formula_meaning.specs.Formula.{Formula, Formulas, none, also}
 use Rattle.formula_meaning.specs.Some.{EachOf}
 use Rattle.formula_meaning.specs.Shape.{IsQuantifierFree}
-use Rattle.formula_meaning.specs.Fold.{Junction, Conjunction, pieces_of, folded}
+use Rattle.formula_meaning.specs.Fold.{pieces_of, folded}
+use Rattle.formula_meaning.specs.declared.junction.Junction.{Junction}
+use Rattle.formula_meaning.specs.declared.junction.Junction.TheVariants.{Conjunction}
 use Rattle.simplified_formulas.specs.Atoms.{Kit}
 use Rattle.simplified_formulas.specs.Orderly.{IsOrderly}
 use Rattle.clean_forms.specs.Ways.{is_same}

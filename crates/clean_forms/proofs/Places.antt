@@ -2,7 +2,8 @@
 use Rattle.std.proofs.Common.{◌≡◌, ℕ, ◌+◌, ◌*◌, Bool, true, false, refl, ap, ◌∙◌, List, [], ◌∷◌, ◌++◌, map, length, arith, length-append}
 use Rattle.std.proofs.lemmas.List.{length-map}
 use Rattle.formula_meaning.specs.Formula.{Formula, Formulas, Yes, No, One, Not, And, Or, Impl, Repl, Equiv, Ex, All, none, also}
-use Rattle.formula_meaning.specs.Fold.{Junction, Conjunction, Disjunction}
+use Rattle.formula_meaning.specs.declared.junction.Junction.{Junction}
+use Rattle.formula_meaning.specs.declared.junction.Junction.TheVariants.{Conjunction, Disjunction}
 use Rattle.clean_forms.specs.Ways.{is_same}
 use Rattle.clean_forms.specs.Plain.{products, together, of_none, places, count_together, count_of_none, places_together, distributed, all_distributed, lines_count, all_lines_count, atom_places, all_atom_places}
 use Rattle.clean_forms.specs.Laws.{PlacesAreCounted}

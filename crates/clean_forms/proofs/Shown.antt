@@ -4,7 +4,9 @@ use Rattle.std.proofs.lemmas.List.{length-map}
 use Rattle.formula_meaning.specs.Formula.{Formula, Formulas, Yes, No, One, Not, And, Or, Impl, Repl, Equiv, Ex, All, none, also}
 use Rattle.formula_meaning.specs.Some.{EachOf}
 use Rattle.formula_meaning.specs.Shape.{IsQuantifierFree, AreQuantifierFree}
-use Rattle.formula_meaning.specs.Fold.{Junction, Conjunction, Disjunction, append, pieces_of, put_together, all_pieces, from_pieces, folded, all_folded}
+use Rattle.formula_meaning.specs.Fold.{append, pieces_of, put_together, all_pieces, from_pieces, folded, all_folded}
+use Rattle.formula_meaning.specs.declared.junction.Junction.{Junction}
+use Rattle.formula_meaning.specs.declared.junction.Junction.TheVariants.{Conjunction, Disjunction}
 use Rattle.simplified_formulas.specs.Orderly.{IsOrderly, AreOrderly}
 use Rattle.clean_forms.specs.Ways.{is_same}
 use Rattle.clean_forms.specs.Plain.{products, together, of_none, distributed, all_distributed}

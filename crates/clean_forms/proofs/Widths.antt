@@ -2,7 +2,7 @@
 use Rattle.std.proofs.Common.{ℕ, ◌<◌, List, length}
 use Rattle.formula_meaning.specs.Context.{Context}
 use Rattle.formula_meaning.specs.Some.{EachOf}
-use Rattle.formula_meaning.specs.Fold.{Junction}
+use Rattle.formula_meaning.specs.declared.junction.Junction.{Junction}
 use Rattle.simplified_formulas.specs.AtomKit.{atom_kit}
 use Rattle.simplified_formulas.proofs.AtomLaws.{merges_within}
 use Rattle.simplified_texts.specs.Texts.{text_measure}

@@ -1,7 +1,8 @@
 -- A clean form as lists that are kept clean as they grow, as functions that compute. j joins the atoms of an inner list.
 use Rattle.std.specs.Prelude.{ℕ, zero, suc, Bool, true, false, ◌&&◌, ◌||◌, Option, Some, None, List, [], ◌∷◌, ◌++◌, length, if◌then◌else◌}
 use Rattle.formula_meaning.specs.Formula.{Formula, Formulas, Yes, No, One, Not, And, Or, Impl, Repl, Equiv, Ex, All, none, also}
-use Rattle.formula_meaning.specs.Fold.{Junction, Conjunction, Disjunction}
+use Rattle.formula_meaning.specs.declared.junction.Junction.{Junction}
+use Rattle.formula_meaning.specs.declared.junction.Junction.TheVariants.{Conjunction, Disjunction}
 use Rattle.atom_merging.specs.Computed.{Merging, Settled, Into, Kept}
 use Rattle.simplified_formulas.specs.Atoms.{Kit}
 use Rattle.clean_forms.specs.Ways.{is_same, form_of_lines}

@@ -3,7 +3,9 @@
 use Rattle.std.specs.Prelude.{ℕ, ◌+◌, ◌*◌, Bool, true, false, List, [], ◌∷◌, ◌++◌, map, length}
 use Rattle.std.specs.List.{flat_map}
 use Rattle.formula_meaning.specs.Formula.{Formula, Formulas, Yes, No, One, Not, And, Or, Impl, Repl, Equiv, Ex, All, none, also}
-use Rattle.formula_meaning.specs.Fold.{Junction, Conjunction, Disjunction, folded}
+use Rattle.formula_meaning.specs.Fold.{folded}
+use Rattle.formula_meaning.specs.declared.junction.Junction.{Junction}
+use Rattle.formula_meaning.specs.declared.junction.Junction.TheVariants.{Conjunction, Disjunction}
 use Rattle.clean_forms.specs.Ways.{is_same, form_of_lines}
 
 -- ---- sizes of two members together

@@ -2,7 +2,9 @@
 -- the inner lists by its dual. With inner lists that are conjunctions it is a disjunctive form, else a conjunctive form.
 use Rattle.std.specs.Prelude.{ℕ, Bool, true, false, List, [], ◌∷◌, Some}
 use Rattle.formula_meaning.specs.Formula.{Formula, Formulas, none, also}
-use Rattle.formula_meaning.specs.Fold.{Junction, Conjunction, Disjunction, from_pieces}
+use Rattle.formula_meaning.specs.Fold.{from_pieces}
+use Rattle.formula_meaning.specs.declared.junction.Junction.{Junction}
+use Rattle.formula_meaning.specs.declared.junction.Junction.TheVariants.{Conjunction, Disjunction}
 use Rattle.simplified_formulas.specs.Pass.{ones}
 
 -- the other junction

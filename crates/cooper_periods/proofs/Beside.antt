@@ -17,11 +17,13 @@ use Rattle.formula_meaning.specs.Some.{EachOf}
 use Rattle.formula_meaning.specs.Atom.{Relation, Equals, Differs, Below, AtMost, Above, AtLeast, mirrored}
 use Rattle.formula_meaning.specs.Answer.{Place, Exact}
 use Rattle.formula_meaning.proofs.Coefficients.{coefficient_scale}
-use Rattle.elimination_theory.specs.Side.{Side, Lower, Upper, turned}
+use Rattle.elimination_theory.specs.Side.{turned}
+use Rattle.elimination_theory.specs.declared.side.Side.{Side}
+use Rattle.elimination_theory.specs.declared.side.Side.TheVariants.{Lower, Upper}
 use Rattle.elimination_theory.specs.IntegersPoints.{signed, counted, next_points, starts_of, comparison_starts}
 use Rattle.elimination_theory.specs.Overflow.{PlaceWithin}
-use Rattle.elimination_reference.specs.Limits.{each, place_within}
-use Rattle.test_points.proofs.WithinTests.{each_tests, place_tests, refuted}
+use Rattle.formula_meaning.specs.Limits.{each, place_within}
+use Rattle.elimination_theory.proofs.WithinTests.{each_tests, place_tests, refuted}
 use Rattle.cooper_periods.specs.Starts.{first_step, run_of, beside_end}
 
 some_same : (a b : ℤ) → Some a ≡ Some b → a ≡ b

@@ -6,8 +6,8 @@ use Rattle.formula_meaning.specs.Some.{EachOf}
 use Rattle.formula_meaning.specs.Answer.{Place}
 use Rattle.elimination_theory.specs.Overflow.{PlaceWithin}
 use Rattle.elimination_theory.proofs.SomeListed.{each_left, each_right, each_append}
-use Rattle.elimination_reference.specs.Limits.{each, place_within}
-use Rattle.test_points.proofs.WithinTests.{each_tests, place_tests, refuted}
+use Rattle.formula_meaning.specs.Limits.{each, place_within}
+use Rattle.elimination_theory.proofs.WithinTests.{each_tests, place_tests, refuted}
 
 -- joined twice is joined over what the first gives
 pub joined_twice : {X Y Z : Type 0} (f : Y → List Z) (g : X → List Y) (xs : List X) → flat_map f (flat_map g xs) ≡ flat_map (λ x. flat_map f (g x)) xs

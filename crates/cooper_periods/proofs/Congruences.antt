@@ -16,11 +16,12 @@ use Rattle.formula_meaning.proofs.Values.{pos_mul}
 use Rattle.elimination_theory.specs.Substitution.{form_at, where_zero}
 use Rattle.elimination_theory.specs.IntegersSubstitution.{put_number}
 use Rattle.elimination_theory.proofs.LowestTerms.{natural}
-use Rattle.elimination_reference.specs.Limits.{is_within, sum_within, combination_within, normal_within}
+use Rattle.formula_meaning.specs.Limits.{is_within, sum_within, combination_within}
+use Rattle.elimination_reference.specs.Limits.{normal_within}
 use Rattle.linear_forms.specs.Terms.{IsCombination}
 use Rattle.atom_normal.specs.NormalForm.{normal_atom}
 use Rattle.test_points.specs.Substituted.{put_at, put_within}
-use Rattle.test_points.proofs.WithinTests.{within_tests, sum_tests, combination_tested, combination_refused}
+use Rattle.elimination_theory.proofs.WithinTests.{within_tests, sum_tests, combination_tested, combination_refused}
 use Rattle.test_points.proofs.Ended.{congruent_at, first_false, second_false}
 
 not_zero : {X : Type 0} (z : ℤ) (a b : X) → ¬ (z ≡ pos 0) → where_zero z a b ≡ b

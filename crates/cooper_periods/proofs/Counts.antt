@@ -5,7 +5,8 @@ use Rattle.std.specs.Prelude.{nat_lt}
 use Rattle.std.proofs.lemmas.List.Sums.{sum_by-cons}
 use Rattle.formula_meaning.specs.Form.{Form, coefficient, without, scale}
 use Rattle.formula_meaning.specs.Atom as meant
-use Rattle.elimination_theory.specs.Side.{Side, turned}
+use Rattle.elimination_theory.specs.Side.{turned}
+use Rattle.elimination_theory.specs.declared.side.Side.{Side}
 use Rattle.elimination_theory.specs.IntegersPoints.{starts_of, comparison_starts, atom_starts, scale_of, own_span, integer_count_of}
 use Rattle.elimination_theory.proofs.IntegerCount.{points_are_counted}
 use Rattle.atom_normal.specs.declared.atoms.Atom.{Atom}

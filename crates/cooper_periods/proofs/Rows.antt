@@ -12,7 +12,7 @@ use Rattle.formula_meaning.specs.Combining.{CombinePasses, AddPasses}
 use Rattle.formula_meaning.proofs.Coefficients.{coefficient_scale}
 use Rattle.formula_meaning.proofs.Sorted.{sorted_determined, scale_sorted}
 use Rattle.elimination_theory.specs.IntegersPoints.{signed, counted}
-use Rattle.elimination_theory.specs.Side.{Side}
+use Rattle.elimination_theory.specs.declared.side.Side.{Side}
 use Rattle.exact_numbers.proofs.Casts.{read_back}
 use Rattle.linear_forms.specs.Terms.{IsLinear, IsCombination}
 

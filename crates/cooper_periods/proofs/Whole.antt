@@ -14,16 +14,16 @@ use Rattle.formula_meaning.specs.Form.{coefficient}
 use Rattle.formula_meaning.specs.Atom as meant
 use Rattle.formula_meaning.specs.Answer.{Place, Periodic, same_place}
 use Rattle.formula_meaning.proofs.Same.{place_same}
-use Rattle.elimination_theory.specs.Side.{Side}
+use Rattle.elimination_theory.specs.declared.side.Side.{Side}
 use Rattle.elimination_theory.specs.Overflow.{PlaceWithin}
 use Rattle.elimination_theory.specs.IntegersPoints.{signed, class_points, next_points, atom_starts, points_with, scale_of, own_span, integer_points_of, integer_count_of}
 use Rattle.elimination_theory.proofs.IntegerCount.{points_are_counted}
 use Rattle.elimination_theory.proofs.IntegerScale.{scale_reaches, scale_positive, span_scale}
 use Rattle.elimination_theory.proofs.SomeListed.{each_map, each_right, each_append, each_distinct, each_of_distinct}
-use Rattle.elimination_reference.specs.Limits.{each, place_within}
+use Rattle.formula_meaning.specs.Limits.{each, place_within}
 use Rattle.atom_normal.specs.declared.atoms.Atom.{Atom}
 use Rattle.atom_normal.specs.Atoms.{atom_of, IsWellFormed}
-use Rattle.test_points.proofs.WithinTests.{each_tests, place_tests, refuted}
+use Rattle.elimination_theory.proofs.WithinTests.{each_tests, place_tests, refuted}
 use Rattle.cooper_periods.specs.Periods.{IsReached}
 use Rattle.cooper_periods.specs.Starts.{beside_atom}
 use Rattle.cooper_periods.proofs.Multiples.{IsSpanned}

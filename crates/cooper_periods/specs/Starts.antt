@@ -1,7 +1,7 @@
 -- The first whole number behind the end of an interval.
 use Rattle.std.specs.Prelude.{ℕ, ℤ, pos, ◌+ℤ◌, List, map, flat_map, Bool, nat_lt, length, Option, Some, None}
 use Rattle.formula_meaning.specs.Atom.{Atom, Relation, Equals, Differs, Below, AtMost, Above, AtLeast}
-use Rattle.elimination_theory.specs.Side.{Side}
+use Rattle.elimination_theory.specs.declared.side.Side.{Side}
 use Rattle.elimination_theory.specs.IntegersPoints.{signed, counted, starts_of, next_points, atom_starts}
 use Rattle.formula_meaning.specs.Form.{Form}
 use Rattle.formula_meaning.specs.Answer.{Place, Exact}

@@ -5,7 +5,7 @@ ghost use Rattle.formula_meaning.specs.Form.{coefficient, scale};
 ghost use Rattle.formula_meaning.specs.Some.{EachOf};
 ghost use Rattle.formula_meaning.specs.Atom.{Compare, form_of};
 ghost use Rattle.elimination_theory.specs.IntegersPoints.{next_points, starts_of, atom_starts};
-ghost use Rattle.elimination_reference.specs.Limits.{each, place_within};
+ghost use Rattle.formula_meaning.specs.Limits.{each, place_within};
 ghost use Rattle.atom_normal.specs.Atoms.{atom_of, relation_of};
 ghost use Rattle.test_points.specs.Points.{side_of, place_of, IsPointOf};
 ghost use Rattle.cooper_periods.specs.Periods.{IsReached, IsUsable};

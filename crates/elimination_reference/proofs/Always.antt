@@ -1,6 +1,6 @@
 -- What holds of a counted computation whatever it has cost so far.
-use Rattle.std.proofs.Common.{ℕ, ◌+◌, nat_le, Bool, true, false, if◌then◌else◌}
-use Rattle.elimination_reference.specs.Measured.{Outcome, stopped, done, then_of, Counted, ◌>>=◌, give, pay, within, Gives, Nodes}
+use Rattle.std.proofs.Common.{◌≡◌, refl, ℕ, ◌+◌, nat_le, Bool, true, false, if◌then◌else◌}
+use Rattle.formula_meaning.specs.Measured.{Outcome, stopped, done, then_of, Counted, ◌>>=◌, give, pay, within, Gives, Nodes}
 
 pub gives_then : {A B : Type 0} (P : A → Type 0) (Q : B → Type 0) (o : Outcome A) (k : A → Outcome B) → Gives P o → ((a : A) → P a → Gives Q (k a)) → Gives Q (then_of o k)
 gives_then P Q (stopped s) k h g = tt
@@ -26,6 +26,11 @@ always_pay limit n cost = go (nat_le (cost + n) limit)
 pub always_within : (test : Bool) → Always (λ u. Unit {0}) (within test)
 always_within true cost = tt
 always_within false cost = tt
+
+-- what goes on has passed the test
+pub always_passed : (test : Bool) → Always (λ u. test ≡ true) (within test)
+always_passed true cost = refl
+always_passed false cost = tt
 
 pub always_map : {A : Type 0} (P Q : A → Type 0) (m : Counted A) → ((a : A) → P a → Q a) → Always P m → Always Q m
 always_map {A} P Q m g h cost = go (m cost) (h cost)

@@ -6,7 +6,9 @@ use Rattle.formula_meaning.specs.Formula.{Yes, No, One, Not, And, Or, Impl, Repl
 use Rattle.formula_meaning.specs.Every.{Every, EveryOf}
 use Rattle.formula_meaning.specs.Some.{EachOf}
 use Rattle.formula_meaning.specs.Shape.{IsPlain, ArePlain, IsNegationNormal, AreNegationNormal, is_in}
-use Rattle.formula_meaning.specs.Fold.{Junction, Conjunction, Disjunction, append, fold_list}
+use Rattle.formula_meaning.specs.Fold.{append, fold_list}
+use Rattle.formula_meaning.specs.declared.junction.Junction.{Junction}
+use Rattle.formula_meaning.specs.declared.junction.Junction.TheVariants.{Conjunction, Disjunction}
 use Rattle.formula_meaning.specs.Sizes.{nodes, all_nodes}
 use Rattle.formula_meaning.specs.NegationNormal.{normal_form_of_not, normal_forms_of_not}
 use Rattle.formula_meaning.specs.Answer.{same_place}
@@ -14,14 +16,14 @@ use Rattle.formula_meaning.specs.Tree.{Tree, Trees}
 use Rattle.formula_meaning.proofs.Fold.{fold_list_nodes}
 use Rattle.formula_meaning.proofs.Sizes.{distinct_shorter}
 use Rattle.formula_meaning.proofs.NormalShape.{normal_form_shape}
-use Rattle.elimination_theory.specs.Side.{Lower}
+use Rattle.elimination_theory.specs.declared.side.Side.TheVariants.{Lower}
 use Rattle.elimination_theory.specs.Atoms.{atoms_in, atoms_of}
 use Rattle.elimination_theory.specs.IntegersPoints.{scale_of, own_span, points_with}
 use Rattle.elimination_theory.specs.BothTheories.{test_points}
 use Rattle.elimination_theory.specs.Steps.{step}
 use Rattle.elimination_theory.proofs.OneStep.{steps_exact}
 use Rattle.atom_normal.specs.NormalForm.{IsNormal, normal_atom, negated_normal}
-use Rattle.elimination_reference.specs.Measured.{Outcome, stopped, done, then_of, Counted, ◌>>=◌, give, pay, within, Gives, Nodes}
+use Rattle.formula_meaning.specs.Measured.{Outcome, stopped, done, then_of, Counted, ◌>>=◌, give, pay, within, Gives, Nodes}
 use Rattle.elimination_reference.specs.Limits.{span_within, step_within}
 use Rattle.elimination_reference.specs.Reference.{Branch, stands_among, point_count, kept_at_zero, next_branch, alone, branch_trees, together, normal_tree, turned, full_step, one_step, steps, closed, branches, members}
 use Rattle.elimination_reference.specs.Theorems.{CostBoundsNodes}

@@ -11,12 +11,12 @@ use Rattle.formula_meaning.specs.Every.{Every, EveryOf, FreeInSome}
 use Rattle.formula_meaning.specs.Form.{coefficient}
 use Rattle.formula_meaning.specs.Atom.{Atom, Mentions, Says, form_of}
 use Rattle.formula_meaning.specs.Some.{Among, EachOf}
-use Rattle.formula_meaning.specs.Fold.{Disjunction}
+use Rattle.formula_meaning.specs.declared.junction.Junction.TheVariants.{Disjunction}
 use Rattle.formula_meaning.specs.Sizes.{nodes}
 use Rattle.formula_meaning.specs.Tree.{Tree, Trees, IsFree, Equivalent, each_ex}
 use Rattle.formula_meaning.proofs.Fold.{free_of_members, fold_list_has, fold_list_true}
 use Rattle.formula_meaning.proofs.Equivalence.{equivalent_self, equivalent_then, ex_equivalent, distributed, absent_dropped}
-use Rattle.elimination_theory.specs.Side.{Lower}
+use Rattle.elimination_theory.specs.declared.side.Side.TheVariants.{Lower}
 use Rattle.elimination_theory.specs.Atoms.{atoms_in}
 use Rattle.elimination_theory.specs.Steps.{Result, IsResult, trees_left, step}
 use Rattle.elimination_theory.specs.Answers.{Step, Lead}
@@ -24,7 +24,7 @@ use Rattle.elimination_theory.proofs.SomeListed.{every_listed, each_append}
 use Rattle.elimination_theory.proofs.OneStep.{steps_exact}
 use Rattle.elimination_theory.proofs.Answers.{absent_zero}
 use Rattle.atom_normal.specs.NormalForm.{normal_atom}
-use Rattle.elimination_reference.specs.Measured.{Counted, give, pay, within}
+use Rattle.formula_meaning.specs.Measured.{Counted, give, pay, within}
 use Rattle.elimination_reference.specs.Limits.{span_within, step_within}
 use Rattle.elimination_reference.specs.Reference.{Branch, stands_among, point_count, kept_at_zero, next_branch, alone, branch_trees, together, turned, full_step, one_step, steps, closed}
 use Rattle.elimination_reference.specs.Theorems.{IsTidy, IsAnswerTo}

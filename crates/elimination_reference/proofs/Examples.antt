@@ -17,7 +17,7 @@ use Rattle.exact_numbers.specs.Limit.{checked}
 use Rattle.linear_forms.specs.Terms.{value_steps, total_steps}
 use Rattle.linear_forms.specs.Reduction.{quotient, residue_form}
 use Rattle.atom_normal.specs.NormalForm.{normal_atom}
-use Rattle.elimination_reference.specs.Measured.{done, stopped, Nodes, Overflow}
+use Rattle.formula_meaning.specs.Measured.{done, stopped, Nodes, Overflow}
 use Rattle.elimination_reference.specs.Reference.{reference}
 use Rattle.elimination_reference.specs.Cases.{reference_cases}
 use Rattle.elimination_reference.specs.PutIn.{put_in}

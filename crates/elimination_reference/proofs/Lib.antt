@@ -12,3 +12,4 @@ pub mod Sample
 pub mod PutMatrix
 pub mod Limits
 pub mod Turned
+pub mod Over

@@ -9,7 +9,9 @@ use Rattle.formula_meaning.specs.Context.{Context}
 use Rattle.formula_meaning.specs.Point.{Point, Of, move}
 use Rattle.formula_meaning.specs.Formula.{Yes, No, One, Not, And, Or, Impl, Repl, Equiv, Ex, All, none, also}
 use Rattle.formula_meaning.specs.Every.{Every}
-use Rattle.formula_meaning.specs.Shape.{IsAtomic, IsNegationNormal, AreNegationNormal, Quantifier, Exists, ForAll, is_in, matrix_of, block_of}
+use Rattle.formula_meaning.specs.Shape.{IsAtomic, IsNegationNormal, AreNegationNormal, is_in, matrix_of, block_of}
+use Rattle.formula_meaning.specs.declared.quantifier.Quantifier.{Quantifier}
+use Rattle.formula_meaning.specs.declared.quantifier.Quantifier.TheVariants.{Exists, ForAll}
 use Rattle.formula_meaning.specs.NegationNormal.{normal_form_of_not, normal_forms}
 use Rattle.formula_meaning.specs.Atom.{Atom, AtomIn}
 use Rattle.formula_meaning.specs.Tree.{Tree, Trees, TrueAt, InContext}
@@ -42,7 +44,7 @@ atomic_matrix (Equiv f g) k chain h = absurd h
 atomic_matrix (Ex x f) k chain h = absurd h
 atomic_matrix (All x f) k chain h = absurd h
 
-atomic_block : (f : Tree) (k : Quantifier) (chain : List ℕ) → IsAtomic f → block_of nat_eq f k chain ≡ []
+pub atomic_block : (f : Tree) (k : Quantifier) (chain : List ℕ) → IsAtomic f → block_of nat_eq f k chain ≡ []
 atomic_block Yes k chain h = refl
 atomic_block No k chain h = refl
 atomic_block (One a) k chain h = refl
@@ -108,7 +110,7 @@ matrix_turned (All x f) chain h = go (is_in nat_eq x chain) (matrix_turned f (x 
     go true e = refl
     go false e = e
 
-block_turned : (f : Tree) (chain : List ℕ) → IsNegationNormal f → block_of nat_eq (normal_form_of_not negated_normal f) Exists chain ≡ block_of nat_eq f ForAll chain
+pub block_turned : (f : Tree) (chain : List ℕ) → IsNegationNormal f → block_of nat_eq (normal_form_of_not negated_normal f) Exists chain ≡ block_of nat_eq f ForAll chain
 block_turned Yes chain h = refl
 block_turned No chain h = refl
 block_turned (One a) chain h = refl

@@ -10,7 +10,8 @@ use Rattle.formula_meaning.specs.Formula.{Yes, No, One, Not, And, Or, Impl, Repl
 use Rattle.formula_meaning.specs.Truth.{SomeTrue}
 use Rattle.formula_meaning.specs.Every.{Every, FreeInSome}
 use Rattle.formula_meaning.specs.Some.{EachOf}
-use Rattle.formula_meaning.specs.Shape.{IsPlain, IsNegationNormal, Exists, is_in, matrix_of, block_of}
+use Rattle.formula_meaning.specs.Shape.{IsPlain, IsNegationNormal, is_in, matrix_of, block_of}
+use Rattle.formula_meaning.specs.declared.quantifier.Quantifier.TheVariants.{Exists}
 use Rattle.formula_meaning.specs.Form.{Form, Term, coefficient, multiple, coefficients}
 use Rattle.formula_meaning.specs.Sorted.{IsSorted, AllAbove, IsRising, AllNonzero}
 use Rattle.formula_meaning.specs.Atom.{Atom, Compare, Congruent, Mentions, Says}
@@ -24,7 +25,7 @@ use Rattle.atom_normal.specs.NormalForm.{IsNormal, normal_atom, negated_normal, 
 use Rattle.elimination_reference.specs.Reference.{Branch, branch_trees, together, normal_tree, turned}
 use Rattle.elimination_reference.specs.Cases.{case_sign, case_formula, case_matrix}
 use Rattle.elimination_reference.specs.PutIn.{tree_put_within, put_in}
-use Rattle.elimination_reference.specs.Measured.{pay, within}
+use Rattle.formula_meaning.specs.Measured.{pay, within}
 use Rattle.formula_meaning.specs.Sizes.{nodes}
 use Rattle.formula_meaning.proofs.Iff.{both_ways}
 use Rattle.elimination_reference.specs.Sample.{if_true, first_true, branches_at, IsSampled}
@@ -66,7 +67,7 @@ congruence_name m f h s e = go f.terms s.rising s.nonzero e
     go [] r n e = let k = sym (alone_content m) ∙ e in absurd (omega (arith, ints))
     go (t ∷ ts) r n e = (t.name, first_stands t ts r.0 n.0)
 
-normal_name : (c : Context) (a : Atom) → IsNormal c a → (x : ℕ) × Mentions a x
+pub normal_name : (c : Context) (a : Atom) → IsNormal c a → (x : ℕ) × Mentions a x
 normal_name Fields (Compare r f) n = oriented_name f n.oriented.sorted.rising n.oriented.positive
 normal_name Integers (Compare r f) n = oriented_name f n.oriented.sorted.rising n.oriented.positive
 normal_name Fields (Congruent b m f) n = absurd n
@@ -91,17 +92,15 @@ has_name c (All x f) p n b h = absurd p
 
 module _ (c : Context) (matrix : Tree) (names : List ℕ) (p : Point ℕ) where
   -- what is chosen of branches
-  Chosen : Trees → Option (List Step) → Type 0
+  abbrev pub Chosen : Trees → Option (List Step) → Type 0
   Chosen ts None = ¬ (SomeTrue Says (move nat_eq) c ts p)
   Chosen ts (Some steps) = Lead c steps matrix Yes × SomeTrue Says (move nat_eq) c ts p × (step_names steps ≡ names)
 
   one_more : (f : Tree) (ts : Trees) (o : Option (List Step)) → ¬ (TrueAt c f p) → Chosen ts o → Chosen (also f ts) o
-  unfolding Chosen
   one_more f ts None n h = ⊎_elim n h
   one_more f ts (Some steps) n h = (h.0, inr h.1, h.2)
 
   choose : (f : Tree) (steps : List Step) (ts : Trees) (o : Option (List Step)) → IsTidy c f → ((y : ℕ) → ¬ (IsFree f y)) → Lead c steps matrix f → step_names steps ≡ names → Chosen ts o → Chosen (also f ts) (if_true f steps o)
-  unfolding Chosen
   choose Yes steps ts o tidy n l e h = (l, inl tt, e)
   choose No steps ts o tidy n l e h = one_more No ts o (λ t. t) h
   choose (One a) steps ts o tidy n l e h = let i = has_name c (One a) tidy.is_plain tidy.normal tidy.two_members tt in absurd (n i.0 i.1)
@@ -114,8 +113,8 @@ module _ (c : Context) (matrix : Tree) (names : List ℕ) (p : Point ℕ) where
   choose (Ex x f) steps ts o tidy n l e h = absurd tidy.is_plain
   choose (All x f) steps ts o tidy n l e h = absurd tidy.is_plain
 
-  found : (bs : List Branch) → EachOf (IsBranch c matrix names) bs → ((y : ℕ) → ¬ (FreeInSome Mentions (branch_trees bs) y)) → Chosen (branch_trees bs) (first_true bs)
-  unfolding Chosen
+  -- where steps are found a branch is true, else none is
+  pub found : (bs : List Branch) → EachOf (IsBranch c matrix names) bs → ((y : ℕ) → ¬ (FreeInSome Mentions (branch_trees bs) y)) → Chosen (branch_trees bs) (first_true bs)
   found [] h n = λ t. t
   found (b ∷ bs) h n = choose b.tree b.steps (branch_trees bs) (first_true bs) h.0.tidy (λ y t. n y (inl t)) h.0.lead h.0.in_order (found bs h.1 (λ y t. n y (inr t)))
 
@@ -152,7 +151,6 @@ module _ (c : Context) (f : Tree) (p : Point ℕ) (n : Every (IsNormal c) f) (o 
 
   choice : (bs : List Branch) → AreBranches c asked (matrix_of nat_eq asked Exists []) (block_of nat_eq asked Exists []) bs → (u : Option (List Step)) →
       Chosen c (matrix_of nat_eq asked Exists []) (block_of nat_eq asked Exists []) p (branch_trees bs) u → IsChoice c f p u
-  unfolding Chosen
   choice bs b None h = λ t. h ((b.equivalent p o).0 (formula_true.0 t))
   choice bs b (Some steps) h =
       let matrix = matrix_of nat_eq asked Exists [] in

@@ -6,8 +6,11 @@ use Rattle.formula_meaning.specs.Every.{Every, EveryOf, FreeInSome}
 use Rattle.formula_meaning.specs.Atom.{Atom, Says, Mentions}
 use Rattle.formula_meaning.specs.Point.{move}
 use Rattle.formula_meaning.specs.Sizes.{nodes}
-use Rattle.formula_meaning.specs.Shape.{IsNegationNormal, AreNegationNormal, Exists, matrix_of, block_of, is_in}
-use Rattle.formula_meaning.specs.Fold.{Junction, Conjunction, Disjunction, joined, fold_list}
+use Rattle.formula_meaning.specs.Shape.{IsNegationNormal, AreNegationNormal, matrix_of, block_of, is_in}
+use Rattle.formula_meaning.specs.declared.quantifier.Quantifier.TheVariants.{Exists}
+use Rattle.formula_meaning.specs.Fold.{joined, fold_list}
+use Rattle.formula_meaning.specs.declared.junction.Junction.{Junction}
+use Rattle.formula_meaning.specs.declared.junction.Junction.TheVariants.{Conjunction, Disjunction}
 use Rattle.formula_meaning.specs.NegationNormal.{normal_form_of_not, normal_forms_of_not}
 use Rattle.formula_meaning.specs.Tree.{Tree, Trees, IsFree}
 use Rattle.formula_meaning.proofs.EachAtom.{every_map}
@@ -18,7 +21,7 @@ use Rattle.elimination_theory.specs.Decided.{IsEliminated, AreEliminated}
 use Rattle.elimination_theory.proofs.Becoming.{becomes_itself, becomes_and, becomes_or}
 use Rattle.atom_normal.specs.NormalForm.{IsNormal, negated_normal}
 use Rattle.atom_normal.proofs.NormalLaws.{negated_normal_is}
-use Rattle.elimination_reference.specs.Measured.{Counted, ◌>>=◌, give, pay}
+use Rattle.formula_meaning.specs.Measured.{Counted, ◌>>=◌, give, pay}
 use Rattle.elimination_reference.specs.Reference.{Branch, alone, together, normal_tree, turned, steps, closed, branches, members, leading_branches}
 use Rattle.elimination_reference.specs.Theorems.{IsTidy, IsAnswerTo, ReferenceIsExact}
 use Rattle.elimination_reference.proofs.Tidy.{AreTidy, tidy_in, tidy_fold_list}

@@ -7,7 +7,9 @@ use Rattle.formula_meaning.specs.Form.{coefficient}
 use Rattle.formula_meaning.specs.Atom.{Atom, AtomIn, form_of}
 use Rattle.formula_meaning.specs.Shape.{IsPlain, ArePlain}
 use Rattle.formula_meaning.specs.Some.{Among, EachOf}
-use Rattle.formula_meaning.specs.Fold.{Junction, Conjunction, Disjunction, append, pieces_of, put_together, all_pieces, from_pieces, fold_list, folded, all_folded}
+use Rattle.formula_meaning.specs.Fold.{append, pieces_of, put_together, all_pieces, from_pieces, fold_list, folded, all_folded}
+use Rattle.formula_meaning.specs.declared.junction.Junction.{Junction}
+use Rattle.formula_meaning.specs.declared.junction.Junction.TheVariants.{Conjunction, Disjunction}
 use Rattle.formula_meaning.specs.NegationNormal.{normal_form_of_not, normal_forms_of_not, both}
 use Rattle.formula_meaning.specs.Replaced.{replaced}
 use Rattle.formula_meaning.specs.Answer.{Place}
@@ -17,13 +19,14 @@ use Rattle.formula_meaning.proofs.Fold.{plain_of_members, every_of_members, fold
 use Rattle.formula_meaning.proofs.ReplacedShape.{every_replaced}
 use Rattle.atom_normal.specs.NormalForm.{IsNormal, normal_atom, negated_normal}
 use Rattle.atom_normal.proofs.NormalLaws.{normal_in, normal_truth, normal_names, normal_within, normal_normal, normal_atomic, negated_normal_is}
-use Rattle.elimination_theory.specs.Side.{Lower}
+use Rattle.elimination_theory.specs.declared.side.Side.TheVariants.{Lower}
 use Rattle.elimination_theory.specs.Atoms.{atoms_of}
 use Rattle.elimination_theory.specs.BothTheories.{IsPlaceIn, raw_atom, guard_of, test_points}
 use Rattle.elimination_theory.specs.Steps.{IsNormaliser, normalised, atom_at, result_at, Result, kept, results, step}
 use Rattle.elimination_theory.proofs.Simple.{IsSimple, simple_plain, simple_normalised, where_zero_has, raw_simple, guard_simple, replaced_plain}
 use Rattle.elimination_theory.proofs.BothSubstitutions.{place_in, point_suits}
-use Rattle.elimination_reference.specs.Theorems.{AreTwo, IsProper, IsBranching, AreBranching, IsTidy}
+use Rattle.formula_meaning.specs.Members.{AreTwo}
+use Rattle.elimination_reference.specs.Theorems.{IsProper, IsBranching, AreBranching, IsTidy}
 
 -- the normal form of atoms is one in the sense of elimination steps
 pub normaliser : (c : Context) → IsNormaliser c (normal_atom c)
@@ -204,7 +207,7 @@ module _ (c : Context) where
   put_plain : (x : ℕ) (s : Place) (f : Tree) → IsPlaceIn c s → IsTidy c f → IsPlain (replaced (atom_at c (normal_atom c) x s) (λ y. y) f)
   put_plain x s f p h = (replaced_plain c (atom_at c (normal_atom c) x s) f (λ a i. atom_at_simple x s a p i) h.is_plain (tidy_in c f h)).0
 
-result_tidy : (c : Context) (x : ℕ) (s : Place) (f : Tree) → IsPlaceIn c s → IsTidy c f → IsTidy c (result_at c (normal_atom c) x s f)
+pub result_tidy : (c : Context) (x : ℕ) (s : Place) (f : Tree) → IsPlaceIn c s → IsTidy c f → IsTidy c (result_at c (normal_atom c) x s f)
 result_tidy Fields x s f p h = tidy_folded Fields (replaced (atom_at Fields (normal_atom Fields) x s) (λ y. y) f) (put_plain Fields x s f p h) (put_normal Fields x s f p h.normal)
 result_tidy Integers x s f p h =
     let g = guard_simple s p in

@@ -4,12 +4,14 @@ use Rattle.formula_meaning.specs.Context.{Context}
 use Rattle.formula_meaning.specs.Formula.{Yes, No, One, Not, And, Or, Impl, Repl, Equiv, Ex, All, none, also}
 use Rattle.formula_meaning.specs.Every.{Every, EveryOf}
 use Rattle.formula_meaning.specs.Shape.{IsNegationNormal, AreNegationNormal, is_in}
-use Rattle.formula_meaning.specs.Fold.{Junction, Conjunction, Disjunction, fold_list}
+use Rattle.formula_meaning.specs.Fold.{fold_list}
+use Rattle.formula_meaning.specs.declared.junction.Junction.{Junction}
+use Rattle.formula_meaning.specs.declared.junction.Junction.TheVariants.{Conjunction, Disjunction}
 use Rattle.formula_meaning.specs.NegationNormal.{normal_form_of_not, normal_forms_of_not}
 use Rattle.formula_meaning.specs.Tree.{Tree, Trees}
 use Rattle.atom_normal.specs.NormalForm.{IsNormal, negated_normal}
 use Rattle.atom_normal.proofs.NormalLaws.{negated_twice}
-use Rattle.elimination_reference.specs.Measured.{Counted, ◌>>=◌, give}
+use Rattle.formula_meaning.specs.Measured.{Counted, ◌>>=◌, give}
 use Rattle.elimination_reference.specs.Reference.{Branch, alone, together, steps, closed, branches, members}
 use Rattle.elimination_reference.specs.Turned.{AllIsNegatedEx}
 

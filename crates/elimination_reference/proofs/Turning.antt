@@ -31,7 +31,7 @@ module _ (c : Context) where
   pub normal_tree_inside : (f : Tree) → Every (IsNormal c) f → InContext c (normal_tree f)
   normal_tree_inside f n = (normal_form_every negated_normal (AtomIn c) f (every_map (IsNormal c) (λ a. AtomIn c a × AtomIn c (negated_normal a)) (λ a h. (normal_in c a h, negated_within c a (normal_in c a h))) f n)).0
 
-  turned_keeps : (f : Tree) (y : ℕ) → (IsFree f y → IsFree (normal_tree f) y) × (IsFree f y → IsFree (normal_form_of_not negated_normal f) y)
+  pub turned_keeps : (f : Tree) (y : ℕ) → (IsFree f y → IsFree (normal_tree f) y) × (IsFree f y → IsFree (normal_form_of_not negated_normal f) y)
   turned_keeps f y = normal_form_keeps negated_normal Mentions y f (every_all _ (λ a. (negated_names a y).1) f)
 
   -- k is the negation of h

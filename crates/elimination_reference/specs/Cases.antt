@@ -2,11 +2,12 @@
 use Rattle.std.specs.Prelude.{ℕ, Bool, true, false, List, [], ◌∷◌, nat_eq}
 use Rattle.formula_meaning.specs.Context.{Context}
 use Rattle.formula_meaning.specs.Formula.{All}
-use Rattle.formula_meaning.specs.Shape.{Exists, block_of, matrix_of}
+use Rattle.formula_meaning.specs.Shape.{block_of, matrix_of}
+use Rattle.formula_meaning.specs.declared.quantifier.Quantifier.TheVariants.{Exists}
 use Rattle.formula_meaning.specs.Answer.{Answer}
 use Rattle.formula_meaning.specs.Tree.{Tree}
 use Rattle.elimination_theory.specs.Answers.{answers_of}
-use Rattle.elimination_reference.specs.Measured.{Outcome, then_of, done}
+use Rattle.formula_meaning.specs.Measured.{Outcome, then_of, done}
 use Rattle.elimination_reference.specs.Reference.{Branch, normal_tree, turned, leading_branches}
 
 -- where the guard is true, the answers make the matrix true

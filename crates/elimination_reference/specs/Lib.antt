@@ -1,4 +1,3 @@
-pub mod Measured
 pub mod Limits
 pub mod Reference
 pub mod Cases
@@ -7,3 +6,4 @@ pub mod Theorems
 pub mod PutIn
 pub mod LimitLaws
 pub mod Turned
+pub mod Over

@@ -1,49 +1,19 @@
 -- Whether the numbers that a step of elimination forms are within the limit of exact_numbers, as tests that compute.
-use Rattle.std.specs.Prelude.{ℕ, ◌^◌, ◌*◌, ℤ, pos, ◌+ℤ◌, ◌*ℤ◌, unsigned_abs, nat_lt, Bool, true, ◌&&◌, List, [], ◌∷◌, ◌++◌}
+use Rattle.std.specs.Prelude.{ℕ, ◌*◌, pos, ◌*ℤ◌, Bool, true, ◌&&◌}
 use Rattle.formula_meaning.specs.Context.{Context, Fields, Integers}
 use Rattle.formula_meaning.specs.Formula.{One}
-use Rattle.formula_meaning.specs.Form.{Form, Term, coefficient, without}
+use Rattle.formula_meaning.specs.Form.{Form, coefficient, without}
 use Rattle.formula_meaning.specs.Atom.{Atom, Compare, Congruent, form_of}
 use Rattle.formula_meaning.specs.Answer.{Place, Exact, AboveBy, BelowBy, PlusInfinity, MinusInfinity, Periodic}
 use Rattle.formula_meaning.specs.Tree.{Tree}
-use Rattle.elimination_theory.specs.Side.{Lower}
+use Rattle.formula_meaning.specs.Limits.{each, is_within, place_within, sum_within, combination_within}
+use Rattle.elimination_theory.specs.declared.side.Side.TheVariants.{Lower}
 use Rattle.elimination_theory.specs.Atoms.{atoms_of}
 use Rattle.elimination_theory.specs.Substitution.{where_zero}
 use Rattle.elimination_theory.specs.IntegersPoints.{own_span}
 use Rattle.elimination_theory.specs.BothTheories.{raw_atom, test_points}
 use Rattle.elimination_theory.specs.Steps.{normalised}
 use Rattle.atom_normal.specs.NormalForm.{normal_atom}
-
--- the test is true of each element
-abbrev pub each : {X : Type 0} → (X → Bool) → List X → Bool
-each test [] = true
-each test (x ∷ xs) = test x && each test xs
-
--- the absolute value is at most 2 ^ 127 - 1
-abbrev pub is_within : ℤ → Bool
-is_within z = nat_lt (unsigned_abs z) (2 ^ 127)
-
--- each number of the form
-abbrev pub form_within : Form → Bool
-form_within f = is_within f.constant && each (λ (t : Term). is_within (coefficient t.name f)) f.terms
-
--- each number of the place
-abbrev pub place_within : Place → Bool
-place_within (Exact e d) = form_within e && is_within (pos d)
-place_within (AboveBy e d) = form_within e && is_within (pos d)
-place_within (BelowBy e d) = form_within e && is_within (pos d)
-place_within PlusInfinity = true
-place_within MinusInfinity = true
-place_within (Periodic j q) = is_within j && is_within q
-
--- two products and their sum
-abbrev pub sum_within : ℤ → ℤ → Bool
-sum_within p q = is_within p && (is_within q && is_within (p +ℤ q))
-
--- the numbers of a * f + b * g, at each name and at the constants
-abbrev pub combination_within : ℤ → Form → ℤ → Form → Bool
-combination_within a f b g =
-    sum_within (a *ℤ f.constant) (b *ℤ g.constant) && each (λ (t : Term). sum_within (a *ℤ coefficient t.name f) (b *ℤ coefficient t.name g)) (f.terms ++ g.terms)
 
 -- the modulus of a congruence, multiplied as its form is
 abbrev pub modulus_within : ℕ → Atom → Bool

@@ -9,7 +9,8 @@ use Rattle.formula_meaning.specs.Shape.{is_in}
 use Rattle.formula_meaning.specs.Tree.{Tree, Trees}
 use Rattle.linear_forms.specs.Terms.{value_steps}
 use Rattle.atom_normal.specs.NormalForm.{normal_atom}
-use Rattle.elimination_reference.specs.Limits.{each, is_within, normal_within}
+use Rattle.formula_meaning.specs.Limits.{each, is_within}
+use Rattle.elimination_reference.specs.Limits.{normal_within}
 use Rattle.elimination_reference.specs.Reference.{normal_tree}
 
 -- names: those that stay, because a quantifier stands around

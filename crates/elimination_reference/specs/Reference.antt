@@ -9,17 +9,19 @@ use Rattle.formula_meaning.specs.Form.{coefficient}
 use Rattle.formula_meaning.specs.Atom.{Atom, form_of}
 use Rattle.formula_meaning.specs.Sizes.{nodes}
 use Rattle.formula_meaning.specs.Shape.{is_in}
-use Rattle.formula_meaning.specs.Fold.{Junction, Conjunction, Disjunction, fold_list}
+use Rattle.formula_meaning.specs.Fold.{fold_list}
+use Rattle.formula_meaning.specs.declared.junction.Junction.{Junction}
+use Rattle.formula_meaning.specs.declared.junction.Junction.TheVariants.{Conjunction, Disjunction}
 use Rattle.formula_meaning.specs.NegationNormal.{normal_form, normal_form_of_not}
 use Rattle.formula_meaning.specs.Tree.{Tree, Trees}
-use Rattle.elimination_theory.specs.Side.{Lower}
+use Rattle.elimination_theory.specs.declared.side.Side.TheVariants.{Lower}
 use Rattle.elimination_theory.specs.Atoms.{atoms_in}
 use Rattle.elimination_theory.specs.IntegersPoints.{integer_count}
 use Rattle.elimination_theory.specs.FieldsPoints.{field_points}
 use Rattle.elimination_theory.specs.Steps.{Result, step}
 use Rattle.elimination_theory.specs.Answers.{Step, zero_place}
 use Rattle.atom_normal.specs.NormalForm.{normal_atom, negated_normal}
-use Rattle.elimination_reference.specs.Measured.{Outcome, Counted, ◌>>=◌, give, pay, within, then_of, done}
+use Rattle.formula_meaning.specs.Measured.{Outcome, Counted, ◌>>=◌, give, pay, within, then_of, done}
 use Rattle.elimination_reference.specs.Limits.{span_within, step_within}
 
 -- a formula that is left, and the steps that led to it, the last one first

@@ -9,7 +9,7 @@ use Rattle.formula_meaning.specs.Tree.{Tree}
 use Rattle.elimination_theory.specs.Answers.{Step}
 use Rattle.elimination_theory.specs.Samples.{AreSamples}
 use Rattle.atom_normal.specs.NormalForm.{normal_atom}
-use Rattle.elimination_reference.specs.Measured.{Outcome, Counted, ◌>>=◌, pay, within, then_of, done}
+use Rattle.formula_meaning.specs.Measured.{Outcome, Counted, ◌>>=◌, pay, within, then_of, done}
 use Rattle.elimination_reference.specs.Reference.{Branch, normal_tree, together, branches}
 use Rattle.elimination_reference.specs.Cases.{case_sign}
 use Rattle.elimination_reference.specs.PutIn.{tree_put_within, put_in}

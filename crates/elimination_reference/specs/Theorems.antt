@@ -3,6 +3,7 @@ use Rattle.std.specs.Prelude.{◌≡◌, ◌⊎◌, ℕ, ◌≤◌, ◌↔◌, B
 use Rattle.formula_meaning.specs.Context.{Context}
 use Rattle.formula_meaning.specs.Formula.{Yes, No, One, Not, And, Or, Impl, Repl, Equiv, Ex, All, none, also}
 use Rattle.formula_meaning.specs.Every.{Every}
+use Rattle.formula_meaning.specs.Members.{AreTwo}
 use Rattle.formula_meaning.specs.Shape.{IsPlain}
 use Rattle.formula_meaning.specs.Point.{Point, Of}
 use Rattle.formula_meaning.specs.Some.{EachOf}
@@ -12,17 +13,11 @@ use Rattle.formula_meaning.specs.Tree.{Tree, Trees, TrueAt, IsFree, Equivalent}
 use Rattle.elimination_theory.specs.Decided.{IsEliminated}
 use Rattle.elimination_theory.specs.Answers.{Step}
 use Rattle.atom_normal.specs.NormalForm.{IsNormal}
-use Rattle.elimination_reference.specs.Measured.{Gives}
+use Rattle.formula_meaning.specs.Measured.{Gives}
 use Rattle.elimination_reference.specs.Reference.{normal_tree, reference}
 use Rattle.elimination_reference.specs.PutIn.{put_in}
 use Rattle.elimination_reference.specs.Sample.{reference_at, chosen_steps, IsSampled}
 use Rattle.elimination_reference.specs.Cases.{Case, case_sign, case_formula, case_matrix, case_names, reference_cases}
-
--- the list has two members at least
-abbrev pub AreTwo : Trees → Type 0
-AreTwo none = ⊥
-AreTwo (also f none) = ⊥
-AreTwo (also f (also g fs)) = Unit {0}
 
 -- neither true nor false
 abbrev pub IsProper : Tree → Type 0

@@ -7,6 +7,7 @@ ghost use Rattle.std.specs.Prelude.{ℕ};
 ghost use Rattle.formula_meaning.specs.Tree.{Tree};
 ghost use Rattle.elimination_reference.specs.LimitLaws.{LimitsAreTested};
 ghost use Rattle.elimination_reference.specs.Turned.{AllIsNegatedEx};
+ghost use Rattle.elimination_reference.specs.Over.{CasesHaveAnswers, CasesAreOver};
 ghost use Rattle.elimination_reference.specs.Theorems.{ReferenceIsExact, CostBoundsNodes, CasesAreExact, PuttingInIsExact, TruthIsTold, SamplesAreExact};
 
 /// Of a formula over normal atoms, the reference elimination gives an equivalent one without quantifiers, over its free names,
@@ -24,6 +25,16 @@ pub fn cost_bounds_nodes()
 /// guards are equivalent to the formula, or to its negation where it begins with `all`.
 pub fn cases_are_exact()
     ensures { (c : Context) → CasesAreExact c }
+{}
+
+/// The place of each answer of a case is one of the theory, its form is sorted, and its numbers are within the limit.
+pub fn answers_are_places()
+    ensures { (c : Context) → CasesHaveAnswers c }
+{}
+
+/// The form of each answer of a case has no names but free names of the formula and names that are answered before it.
+pub fn answers_have_names_before()
+    ensures { (c : Context) → CasesAreOver c }
 {}
 
 /// With a point put in, a formula has the truth that it has there, no free names, normal atoms, and the nodes of its negation

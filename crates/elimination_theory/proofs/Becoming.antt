@@ -10,7 +10,7 @@ use Rattle.formula_meaning.specs.Atom.{Atom, AtomIn, Mentions}
 use Rattle.formula_meaning.specs.Tree.{Tree, Trees, InContext, IsFree, Equivalent, AreEquivalent}
 use Rattle.formula_meaning.proofs.Fold.{folded_plain, folded_every, folded_free}
 use Rattle.formula_meaning.proofs.Equivalence.{equivalent_self, equivalent_then, all_equivalent, some_equivalent, ex_equivalent}
-use Rattle.elimination_theory.specs.Side.{Side}
+use Rattle.elimination_theory.specs.declared.side.Side.{Side}
 use Rattle.elimination_theory.specs.Decided.{IsEliminated, AreEliminated}
 use Rattle.elimination_theory.specs.Steps.{IsNormaliser, normalised, Result, step, trees_left, IsResult}
 use Rattle.elimination_theory.proofs.Simple.{simple_from, replaced_plain}

@@ -7,7 +7,7 @@ use Rattle.formula_meaning.specs.Some.{Among}
 use Rattle.formula_meaning.specs.Shape.{IsPlain}
 use Rattle.formula_meaning.specs.Answer.{Place, Holds}
 use Rattle.formula_meaning.specs.Tree.{Tree, TrueAt, InContext, IsFree, Equivalent}
-use Rattle.elimination_theory.specs.Side.{Side}
+use Rattle.elimination_theory.specs.declared.side.Side.{Side}
 use Rattle.elimination_theory.specs.Atoms.{atoms_of}
 use Rattle.elimination_theory.specs.Elimination.{trees_at}
 use Rattle.elimination_theory.specs.Substitution.{at_place}

@@ -11,7 +11,7 @@ use Rattle.formula_meaning.specs.Form.{Form, coefficient, without, scale, combin
 use Rattle.formula_meaning.specs.Atom.{Relation, Equals, Differs, Below, AtMost, Above, AtLeast, Atom, Compare, Congruent}
 use Rattle.formula_meaning.specs.Answer.{Exact, AboveBy, BelowBy, MinusInfinity, Periodic}
 use Rattle.formula_meaning.specs.Tree.{Tree}
-use Rattle.elimination_theory.specs.Side.{Lower, Upper}
+use Rattle.elimination_theory.specs.declared.side.Side.TheVariants.{Lower, Upper}
 use Rattle.elimination_theory.specs.FieldsExample.{open_interval, named, difference, multiple_of}
 use Rattle.elimination_theory.specs.Substitution.{beyond, form_at}
 use Rattle.elimination_theory.specs.FieldsPoints.{form_over, comparison_points, field_points_of}

@@ -12,7 +12,9 @@ use Rattle.formula_meaning.specs.Shape.{IsPlain, ArePlain}
 use Rattle.formula_meaning.specs.Atom.{Compare, Congruent, Relation, Equals, Differs, Below, AtMost, Above, AtLeast, Relates, Says, AtomIn, mirrored}
 use Rattle.formula_meaning.specs.Answer.{Place, Exact, AboveBy, BelowBy, PlusInfinity, MinusInfinity, Periodic}
 use Rattle.formula_meaning.specs.Tree.{Tree, Trees, TrueAt, InContext}
-use Rattle.elimination_theory.specs.Side.{Side, Lower, Upper, turned}
+use Rattle.elimination_theory.specs.Side.{turned}
+use Rattle.elimination_theory.specs.declared.side.Side.{Side}
+use Rattle.elimination_theory.specs.declared.side.Side.TheVariants.{Lower, Upper}
 use Rattle.elimination_theory.specs.FieldsPoints.{exact_point, beside_point, ends_of, comparison_points, atom_points, infinity_of}
 use Rattle.elimination_theory.proofs.FieldsCut.{Before, NotAfter, Cut, Everywhere, From, After, IsProper, Covers, Within, one_within, Seen, seen, same_not_after, before_differs, both_not_after, by_sides, not_after_before, not_after_not_after}
 use Rattle.elimination_theory.proofs.FieldsLine.{over, under, line_positive, line_negative, comparison_still}

@@ -9,7 +9,7 @@ use Rattle.formula_meaning.specs.Shape.{IsPlain, ArePlain}
 use Rattle.formula_meaning.specs.Atom.{Says, AtomIn}
 use Rattle.formula_meaning.specs.Answer.{Place, Holds}
 use Rattle.formula_meaning.specs.Tree.{Tree, TrueAt, InContext}
-use Rattle.elimination_theory.specs.Side.{Side}
+use Rattle.elimination_theory.specs.declared.side.Side.{Side}
 use Rattle.elimination_theory.specs.FieldsPoints.{field_points}
 use Rattle.elimination_theory.specs.FieldsSubstitution.{field_substitution}
 use Rattle.elimination_theory.specs.Substitution.{at_place}

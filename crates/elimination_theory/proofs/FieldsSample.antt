@@ -17,7 +17,8 @@ use Rattle.formula_meaning.proofs.Values.{pos_mul}
 use Rattle.formula_meaning.proofs.TreeFiner.{tree_same_point}
 use Rattle.formula_meaning.proofs.EachAtom.{every_both}
 use Rattle.formula_meaning.proofs.PlainTruth.{plain_truth}
-use Rattle.elimination_theory.specs.Side.{Side, Lower, Upper}
+use Rattle.elimination_theory.specs.declared.side.Side.{Side}
+use Rattle.elimination_theory.specs.declared.side.Side.TheVariants.{Lower, Upper}
 use Rattle.elimination_theory.specs.Atoms.{atoms_of}
 use Rattle.elimination_theory.specs.FieldsSubstitution.{IsFieldPlace}
 use Rattle.elimination_theory.specs.Substitution.{at_place}

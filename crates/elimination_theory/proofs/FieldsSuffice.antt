@@ -1,27 +1,27 @@
 -- Over the ordered fields test points suffice, on both sides.
-use Rattle.std.proofs.Common.{◌≡◌, ℕ, suc, zero, ◌<◌, ◌∷◌, subst, refl, arith, inl, inr, ◌↔◌, nat_eq, flat_map}
-use Rattle.std.proofs.Math.IntN.{ℤ, pos, negsuc}
+use Rattle.std.proofs.Common.{ℕ, suc, ◌∷◌, refl, arith, inl, inr, ◌↔◌, nat_eq, flat_map}
+use Rattle.std.proofs.Math.IntN.{negsuc}
 use Rattle.formula_meaning.specs.Context.{Fields}
 use Rattle.formula_meaning.specs.Point.{Point, Of, move}
-use Rattle.formula_meaning.specs.Form.{Form, coefficient, without, scale}
+use Rattle.formula_meaning.specs.Form.{Form, without, scale}
 use Rattle.formula_meaning.specs.Formula.{Formula, Formulas, Yes, No, One, Not, And, Or, Impl, Repl, Equiv, Ex, All, none, also}
 use Rattle.formula_meaning.specs.Some.{SomeOf}
 use Rattle.formula_meaning.specs.Every.{Every, EveryOf}
 use Rattle.formula_meaning.specs.Shape.{IsPlain}
-use Rattle.formula_meaning.specs.Atom.{Atom, Compare, Congruent, Relation, Equals, Differs, Below, AtMost, Above, AtLeast, mirrored}
+use Rattle.formula_meaning.specs.Atom.{Atom, form_of}
 use Rattle.formula_meaning.specs.Answer.{Place, Holds, same_place}
 use Rattle.formula_meaning.specs.Tree.{Tree, TrueAt, InContext}
-use Rattle.elimination_theory.specs.Side.{Side, Lower, Upper, turned}
+use Rattle.elimination_theory.specs.declared.side.Side.{Side}
 use Rattle.formula_meaning.specs.Same.{same_atom}
 use Rattle.elimination_theory.specs.Atoms.{atoms_in, atoms_in_all, atoms_of}
-use Rattle.elimination_theory.specs.FieldsPoints.{beside_point, ends_of, comparison_points, atom_points, infinity_of, field_points}
+use Rattle.elimination_theory.specs.FieldsPoints.{atom_points, infinity_of, field_points}
 use Rattle.elimination_theory.specs.FieldsSubstitution.{IsFieldPlace}
 use Rattle.elimination_theory.specs.Substitution.{at_place}
 use Rattle.formula_meaning.specs.Some.{Among}
-use Rattle.formula_meaning.proofs.Listed.{some_among, among_some, among_left, among_right, among_flat_map, flat_map_among, distinct_among, among_distinct}
+use Rattle.formula_meaning.proofs.Listed.{some_among, among_some, among_left, among_right, among_flat_map, among_distinct}
 use Rattle.formula_meaning.proofs.Same.{atom_same, place_same}
-use Rattle.elimination_theory.proofs.FieldsLine.{under}
 use Rattle.elimination_theory.proofs.LowestTerms.{lowest}
+use Rattle.elimination_theory.proofs.FieldsEach.{HoldsAt, at_all, far_out, field_points_have}
 use Rattle.elimination_theory.proofs.FieldsBegin.{Begins, formula_begins}
 use Rattle.elimination_theory.proofs.FieldsMeet.{begins_meets, meets_some, pos_positive, positive_pos}
 
@@ -51,47 +51,12 @@ every_atom P f h = every_listed P f (λ a m. h a (among_distinct same_atom atom_
 
 -- ---- each test point is a place of the fields
 
-beside_place : (side : Side) (e : Form) (d : ℕ) → 0 < under e d → IsFieldPlace (beside_point side e d)
-beside_place Lower e d h = h
-beside_place Upper e d h = h
-
-along_place : {s t : Place} → s ≡ t → IsFieldPlace s → IsFieldPlace t
-along_place e h = subst IsFieldPlace e h
-
-end_place : (side : Side) (r : Relation) (e : Form) (d : ℕ) → 0 < under e d → (s : Place) → Among (ends_of side r e d) s → IsFieldPlace s
-end_place side Equals e d h s (inl i) = along_place i h
-end_place side Equals e d h s (inr i) = absurd i
-end_place side Differs e d h s (inl i) = along_place i (beside_place side e d h)
-end_place side Differs e d h s (inr i) = absurd i
-end_place side Below e d h s i = absurd i
-end_place side AtMost e d h s i = absurd i
-end_place side Above e d h s (inl i) = along_place i (beside_place side e d h)
-end_place side Above e d h s (inr i) = absurd i
-end_place side AtLeast e d h s (inl i) = along_place i h
-end_place side AtLeast e d h s (inr i) = absurd i
-
-below_lowest : (e : Form) (n : ℕ) → 0 < under e (suc n)
-below_lowest e n = positive_pos ((lowest e (suc n) (omega arith)).below_positive)
-
-comparison_place : (side : Side) (c : ℤ) (r : Relation) (t : Form) (s : Place) → Among (comparison_points side c r t) s → IsFieldPlace s
-comparison_place side (pos zero) r t s h = absurd h
-comparison_place side (pos (suc n)) r t s h = end_place side (turned side r) (scale (negsuc 0) t) (suc n) (below_lowest (scale (negsuc 0) t) n) s h
-comparison_place side (negsuc n) r t s h = end_place side (turned side (mirrored r)) t (suc n) (below_lowest t n) s h
-
-atom_place : (side : Side) (x : ℕ) (a : Atom) (s : Place) → Among (atom_points side x a) s → IsFieldPlace s
-atom_place side x (Compare r f) s h = comparison_place side (coefficient x f) r (without x f) s h
-atom_place side x (Congruent holds n f) s h = absurd h
-
-infinity_place : (side : Side) → IsFieldPlace (infinity_of side)
-infinity_place Lower = tt
-infinity_place Upper = tt
+place_at : (e : Form) (n : ℕ) → HoldsAt IsFieldPlace e (suc n)
+place_at e n = let h = positive_pos ((lowest e (suc n) (omega arith)).below_positive) in at_all IsFieldPlace e (suc n) h h h
 
 pub field_point_place : (side : Side) (x : ℕ) (f : Tree) (s : Place) → Among (field_points side x f) s → IsFieldPlace s
-field_point_place side x f s h = go (distinct_among same_place (infinity_of side ∷ flat_map (atom_points side x) (atoms_of f)) s h)
-  where
-    go : Among (infinity_of side ∷ flat_map (atom_points side x) (atoms_of f)) s → IsFieldPlace s
-    go (inl e) = along_place e (infinity_place side)
-    go (inr m) = let r = flat_map_among (atom_points side x) (atoms_of f) s m in atom_place side x r.0 s r.2
+field_point_place side x f s h =
+    field_points_have IsFieldPlace side x (atoms_of f) (far_out IsFieldPlace tt tt side) (λ a m n. (place_at (scale (negsuc 0) (without x (form_of a))) n, place_at (without x (form_of a)) n)) s h
 
 -- the points of each atom are listed
 points_listed : (side : Side) (x : ℕ) (f : Tree) → Every (λ a. (q : Place) → Among (atom_points side x a) q → Among (field_points side x f) q) f

@@ -3,7 +3,7 @@ use Rattle.std.proofs.Common.{pos, neg_ℤ, ◌≡◌, ℕ, suc, zero, ◌+◌, 
 use Rattle.std.proofs.lemmas.List.{length-map}
 use Rattle.formula_meaning.specs.Form.{Form, plus}
 use Rattle.formula_meaning.specs.Answer.{Exact, Periodic}
-use Rattle.elimination_theory.specs.Side.{Side}
+use Rattle.elimination_theory.specs.declared.side.Side.{Side}
 use Rattle.elimination_theory.specs.IntegersPoints.{signed, counted, class_points, next_points, atom_starts, scale_of, own_span}
 use Rattle.elimination_theory.specs.IntegersTheorems.{IntegerPointsAreCounted}
 

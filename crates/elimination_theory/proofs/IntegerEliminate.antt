@@ -14,7 +14,8 @@ use Rattle.formula_meaning.specs.Tree.{Tree, InContext}
 use Rattle.formula_meaning.proofs.EachAtom.{every_map, every_all}
 use Rattle.elimination_theory.proofs.Simple.{substitution_plain}
 use Rattle.formula_meaning.proofs.Iff.{both_ways}
-use Rattle.elimination_theory.specs.Side.{Side, Lower, Upper}
+use Rattle.elimination_theory.specs.declared.side.Side.{Side}
+use Rattle.elimination_theory.specs.declared.side.Side.TheVariants.{Lower, Upper}
 use Rattle.elimination_theory.specs.Atoms.{atoms_of}
 use Rattle.elimination_theory.specs.Substitution.{at_place}
 use Rattle.elimination_theory.specs.IntegersSubstitution.{guarded_substitution}

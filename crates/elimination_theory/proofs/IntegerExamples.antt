@@ -9,7 +9,7 @@ use Rattle.formula_meaning.specs.Form.{coefficient, without, scale, plus, combin
 use Rattle.formula_meaning.specs.Answer.{Exact, Periodic, Holds}
 use Rattle.formula_meaning.specs.Tree.{TrueAt}
 use Rattle.formula_meaning.specs.Formula.{Ex}
-use Rattle.elimination_theory.specs.Side.{Lower}
+use Rattle.elimination_theory.specs.declared.side.Side.TheVariants.{Lower}
 use Rattle.elimination_theory.specs.Substitution.{at_place}
 use Rattle.elimination_theory.specs.IntegersSubstitution.{integer_substitution}
 use Rattle.elimination_theory.specs.IntegersExamples.{a_plus, two_x_is_a, even_above_a, at_most_a, ClassesAreNeeded, PointsOfTwoXIsA, SubstitutionOfTwoXIsA, PointsOfEvenAboveA, SpanIsNeeded, GuardIsNeeded}

@@ -15,7 +15,8 @@ use Rattle.formula_meaning.specs.Answer.{Exact, AboveBy, BelowBy, PlusInfinity, 
 use Rattle.formula_meaning.specs.Tree.{Tree, TrueAt}
 use Rattle.formula_meaning.proofs.EachAtom.{every_map, every_all, every_both}
 use Rattle.formula_meaning.proofs.Iff.{both_ways, turn_round}
-use Rattle.elimination_theory.specs.Side.{Side, Lower, Upper}
+use Rattle.elimination_theory.specs.declared.side.Side.{Side}
+use Rattle.elimination_theory.specs.declared.side.Side.TheVariants.{Lower, Upper}
 use Rattle.elimination_theory.specs.Substitution.{at_place}
 use Rattle.elimination_theory.specs.IntegersSubstitution.{integer_atom, integer_substitution, integer_guard, is_whole}
 use Rattle.elimination_theory.specs.IntegersPoints.{signed, integer_scale}

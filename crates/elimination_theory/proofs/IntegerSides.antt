@@ -11,7 +11,8 @@ use Rattle.formula_meaning.specs.Answer.{Periodic}
 use Rattle.formula_meaning.specs.Tree.{TrueAt}
 use Rattle.formula_meaning.proofs.Values.{value_plus, value_scale}
 use Rattle.formula_meaning.proofs.Iff.{both_ways, turn_round}
-use Rattle.elimination_theory.specs.Side.{Side, Lower, Upper}
+use Rattle.elimination_theory.specs.declared.side.Side.{Side}
+use Rattle.elimination_theory.specs.declared.side.Side.TheVariants.{Lower, Upper}
 use Rattle.elimination_theory.specs.IntegersSubstitution.{along, integer_atom}
 use Rattle.elimination_theory.specs.IntegersPoints.{signed, starts_of, comparison_starts, atom_starts}
 use Rattle.elimination_theory.proofs.IntegerRelation.{Near, mirrored_mirrored}

@@ -9,7 +9,8 @@ use Rattle.formula_meaning.specs.Atom.{Atom, Compare, Congruent, Relation, Equal
 use Rattle.formula_meaning.specs.Answer.{Place, Exact, AboveBy, BelowBy, PlusInfinity, MinusInfinity, Periodic, PlaceMentions, same_place}
 use Rattle.formula_meaning.specs.Tree.{Tree, InContext, IsFree}
 use Rattle.formula_meaning.proofs.Coefficients.{coefficient_plus}
-use Rattle.elimination_theory.specs.Side.{Side, turned}
+use Rattle.elimination_theory.specs.Side.{turned}
+use Rattle.elimination_theory.specs.declared.side.Side.{Side}
 use Rattle.elimination_theory.specs.Atoms.{atoms_of}
 use Rattle.elimination_theory.specs.Substitution.{form_at, where_zero}
 use Rattle.elimination_theory.specs.Elimination.{integer_elimination}
@@ -23,7 +24,7 @@ use Rattle.formula_meaning.proofs.EachAtom.{every_all}
 use Rattle.elimination_theory.proofs.IntegerEliminate.{points_suit}
 use Rattle.elimination_theory.proofs.FieldsNames.{Has, HasOther, without_has, still_has, scale_has, put_or_still, exactly_has, beyond_has, neg_zero, AtomNames, names_of_replaced, atom_free, trees_free, field_substitution_names, field_point_names, field_elimination_names}
 
-map_among : {X Y : Type 0} (f : X → Y) (xs : List X) (y : Y) → Among (map f xs) y → (x : X) × Among xs x × (f x ≡ y)
+pub map_among : {X Y : Type 0} (f : X → Y) (xs : List X) (y : Y) → Among (map f xs) y → (x : X) × Among xs x × (f x ≡ y)
 map_among f [] y h = absurd h
 map_among f (x ∷ xs) y (inl e) = (x, inl refl, e)
 map_among f (x ∷ xs) y (inr h) = let r = map_among f xs y h in (r.0, inr r.1, r.2)

@@ -1,5 +1,6 @@
 pub mod Fractions
 pub mod LowestTerms
+pub mod FieldsEach
 pub mod FieldsLine
 pub mod FieldsCut
 pub mod FieldsBegin
@@ -38,6 +39,7 @@ pub mod FieldsNames
 pub mod IntegersNames
 pub mod FieldsUnique
 pub mod PointsLowest
+pub mod PointsSorted
 pub mod Simple
 pub mod Meets
 pub mod BothSubstitutions
@@ -49,3 +51,4 @@ pub mod SentenceExample
 pub mod Overflow
 pub mod AnswersExample
 pub mod Becoming
+pub mod WithinTests

@@ -60,12 +60,17 @@ not_zero g d h v e =
     let x = v.exact in
     absurd (omega (arith, ints))
 
+-- the divisor divides all numbers
+pub all_divided : (e : Form) (d : ℕ) → DividesAll (pos (divisor_of e d)) (numbers_of e d)
+all_divided e d = let c = content_is (numbers_of e d) in subst (λ g. DividesAll g (numbers_of e d)) (natural (content_of (numbers_of e d)) c.not_negative) c.divides
+
+pub divisor_not_zero : (e : Form) (d : ℕ) → 0 < d → ¬ (pos (divisor_of e d) ≡ pos 0)
+divisor_not_zero e d h = not_zero (divisor_of e d) d h (all_divided e d).0
+
 pub lowest : (e : Form) (d : ℕ) → 0 < d → IsLowest e d
 lowest e d h =
-    let c = content_is (numbers_of e d) in
-    let a : content_of (numbers_of e d) ≡ pos (divisor_of e d) = natural (content_of (numbers_of e d)) c.not_negative in
-    let v : DividesAll (pos (divisor_of e d)) (numbers_of e d) = subst (λ g. DividesAll g (numbers_of e d)) a c.divides in
-    let n : ¬ (pos (divisor_of e d) ≡ pos 0) = not_zero (divisor_of e d) d h v.0 in
+    let v : DividesAll (pos (divisor_of e d)) (numbers_of e d) = all_divided e d in
+    let n : ¬ (pos (divisor_of e d) ≡ pos 0) = divisor_not_zero e d h in
     let g : pos 0 <ℤ pos (divisor_of e d) = omega (arith, ints) in
     let b : pos (divisor_of e d) *ℤ pos (d / divisor_of e d) ≡ pos d = exact_div (pos (divisor_of e d)) (pos d) n v.0 in
     let q : pos 0 <ℤ (pos (divisor_of e d) *ℤ pos (d / divisor_of e d)) = omega (arith, ints) in

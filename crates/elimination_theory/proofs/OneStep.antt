@@ -89,12 +89,12 @@ module _ (c : Context) (by : Atom → Tree) (norm : IsNormaliser c by) where
 -- ---- the result at a place
 
 -- what the result has of the substitution
-record Becomes (c : Context) (f g h : Tree) : Type 0 where
-  equivalent : Equivalent c g h
-  is_plain : IsPlain h
-  in_context : InContext c h
-  names : (y : ℕ) → IsFree h y → IsFree g y
-  few_nodes : nodes h ≤ nodes f + 2
+pub record Becomes (c : Context) (f g h : Tree) : Type 0 where
+  pub equivalent : Equivalent c g h
+  pub is_plain : IsPlain h
+  pub in_context : InContext c h
+  pub names : (y : ℕ) → IsFree h y → IsFree g y
+  pub few_nodes : nodes h ≤ nodes f + 2
 
 becomes_folded : (c : Context) (f g h : Tree) → Equivalent c g h → IsPlain h → InContext c h → ((y : ℕ) → IsFree h y → IsFree g y) → nodes h ≤ nodes f + 2 → Becomes c f g (folded h)
 becomes_folded c f g h e plain inside names few = record {
@@ -105,7 +105,7 @@ becomes_folded c f g h e plain inside names few = record {
   few_nodes = let n = folded_nodes h in omega arith;
 }
 
-result_becomes : (c : Context) (by : Atom → Tree) → IsNormaliser c by → (x : ℕ) (s : Place) (f : Tree) → IsPlaceIn c s → IsPlain f → InContext c f → Becomes c f (substitution c x s f) (result_at c by x s f)
+pub result_becomes : (c : Context) (by : Atom → Tree) → IsNormaliser c by → (x : ℕ) (s : Place) (f : Tree) → IsPlaceIn c s → IsPlain f → InContext c f → Becomes c f (substitution c x s f) (result_at c by x s f)
 result_becomes Fields by norm x s f place plain inside =
     let t = atoms_plain Fields by norm x s place f plain inside in
     becomes_folded Fields f (substitution Fields x s f) (replaced (atom_at Fields by x s) (λ y. y) f)

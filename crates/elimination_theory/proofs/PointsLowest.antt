@@ -1,5 +1,5 @@
 -- A test point of the fields is in lowest terms: 1 is the greatest common divisor of all its numbers.
-use Rattle.std.proofs.Common.{◌≡◌, ℕ, zero, suc, ◌<◌, ◌/◌, List, [], ◌∷◌, flat_map, ap, sym, subst, arith, unsigned_abs, int_div, inl, inr}
+use Rattle.std.proofs.Common.{◌≡◌, ℕ, suc, ◌<◌, ◌/◌, List, [], ◌∷◌, ap, sym, subst, arith, unsigned_abs, int_div}
 use Rattle.std.proofs.Math.IntN.{ℤ, pos, negsuc, ◌*ℤ◌}
 use Rattle.std.specs.Prelude.{◌<ℤ◌, ◌≤ℤ◌}
 use Rattle.std.proofs.lemmas.Int.{ints}
@@ -9,15 +9,12 @@ use Rattle.exact_numbers.proofs.Order.{cancel_at_most, by_order}
 use Rattle.exact_numbers.proofs.Divisibility.{mul_divides_mul, divides_along, divisor_at_most, zero_divides}
 use Rattle.exact_numbers.proofs.LeastMultiple.{exact_div}
 use Rattle.exact_numbers.proofs.Contents.{content_is}
-use Rattle.formula_meaning.specs.Form.{Form, Term, scale, coefficient, without, coefficients}
-use Rattle.formula_meaning.specs.Atom.{Atom, Compare, Congruent, Relation, Equals, Differs, Below, AtMost, Above, AtLeast, mirrored}
-use Rattle.formula_meaning.specs.Answer.{Place, same_place}
-use Rattle.elimination_theory.specs.Side.{Side, Lower, Upper, turned}
+use Rattle.formula_meaning.specs.Form.{Form, Term, scale, without, coefficients}
+use Rattle.formula_meaning.specs.Atom.{form_of}
 use Rattle.elimination_theory.specs.Atoms.{atoms_of}
-use Rattle.elimination_theory.specs.FieldsPoints.{numbers_of, divisor_of, terms_over, form_over, beside_point, ends_of, comparison_points, atom_points, infinity_of, IsInLowestTerms, FieldPointsAreInLowestTerms}
-use Rattle.formula_meaning.specs.Some.{Among}
-use Rattle.formula_meaning.proofs.Listed.{flat_map_among, distinct_among}
-use Rattle.elimination_theory.proofs.LowestTerms.{lowest, natural}
+use Rattle.elimination_theory.specs.FieldsPoints.{numbers_of, divisor_of, terms_over, form_over, IsInLowestTerms, FieldPointsAreInLowestTerms}
+use Rattle.elimination_theory.proofs.LowestTerms.{lowest, natural, all_divided}
+use Rattle.elimination_theory.proofs.FieldsEach.{HoldsAt, at_all, far_out, field_points_have}
 
 -- what divides the quotient by g divides, g times as large, the number
 quotient_divides : (g h x : ℤ) → ¬ (g ≡ pos 0) → Divides g x → Divides h (int_div x g) → Divides (g *ℤ h) x
@@ -43,7 +40,7 @@ content_is_one e d pd =
     let h : ℤ = content_of (numbers_of (form_over (divisor_of e d) e) (d / divisor_of e d)) in
     let g : pos 0 <ℤ pos (divisor_of e d) = l.divisor_positive in
     let i : content_of (numbers_of e d) ≡ pos (divisor_of e d) = natural (content_of (numbers_of e d)) c.not_negative in
-    let a : DividesAll (pos (divisor_of e d)) (numbers_of e d) = subst (λ z. DividesAll z (numbers_of e d)) i c.divides in
+    let a = all_divided e d in
     let n : ¬ (pos (divisor_of e d) ≡ pos 0) = positive_not_zero (pos (divisor_of e d)) g in
     let b : Divides (pos (divisor_of e d) *ℤ h) (content_of (numbers_of e d)) = c.greatest (pos (divisor_of e d) *ℤ h) (all_divide (divisor_of e d) h e d n a k.divides) in
     let at_most : (pos (divisor_of e d) *ℤ h) ≤ℤ pos (divisor_of e d) = divisor_at_most g (divides_along i b) in
@@ -58,41 +55,10 @@ form_lowest e d pd = ap unsigned_abs (content_is_one e d pd)
 
 -- ---- the points of the lists
 
-along : {s t : Place} → s ≡ t → IsInLowestTerms s → IsInLowestTerms t
-along e h = subst IsInLowestTerms e h
-
-beside_lowest : (side : Side) (e : Form) (d : ℕ) → 0 < d → IsInLowestTerms (beside_point side e d)
-beside_lowest Lower e d h = form_lowest e d h
-beside_lowest Upper e d h = form_lowest e d h
-
-end_lowest : (side : Side) (r : Relation) (e : Form) (d : ℕ) → 0 < d → (s : Place) → Among (ends_of side r e d) s → IsInLowestTerms s
-end_lowest side Equals e d h s (inl i) = along i (form_lowest e d h)
-end_lowest side Equals e d h s (inr i) = absurd i
-end_lowest side Differs e d h s (inl i) = along i (beside_lowest side e d h)
-end_lowest side Differs e d h s (inr i) = absurd i
-end_lowest side Below e d h s i = absurd i
-end_lowest side AtMost e d h s i = absurd i
-end_lowest side Above e d h s (inl i) = along i (beside_lowest side e d h)
-end_lowest side Above e d h s (inr i) = absurd i
-end_lowest side AtLeast e d h s (inl i) = along i (form_lowest e d h)
-end_lowest side AtLeast e d h s (inr i) = absurd i
-
-comparison_lowest : (side : Side) (c : ℤ) (r : Relation) (t : Form) (s : Place) → Among (comparison_points side c r t) s → IsInLowestTerms s
-comparison_lowest side (pos zero) r t s h = absurd h
-comparison_lowest side (pos (suc n)) r t s h = end_lowest side (turned side r) (scale (negsuc 0) t) (suc n) (omega arith) s h
-comparison_lowest side (negsuc n) r t s h = end_lowest side (turned side (mirrored r)) t (suc n) (omega arith) s h
-
-atom_lowest : (side : Side) (x : ℕ) (a : Atom) (s : Place) → Among (atom_points side x a) s → IsInLowestTerms s
-atom_lowest side x (Compare r f) s h = comparison_lowest side (coefficient x f) r (without x f) s h
-atom_lowest side x (Congruent holds n f) s h = absurd h
-
-infinity_lowest : (side : Side) → IsInLowestTerms (infinity_of side)
-infinity_lowest Lower = tt
-infinity_lowest Upper = tt
+lowest_at : (e : Form) (d : ℕ) → 0 < d → HoldsAt IsInLowestTerms e d
+lowest_at e d h = let l = form_lowest e d h in at_all IsInLowestTerms e d l l l
 
 pub points_lowest : FieldPointsAreInLowestTerms
-points_lowest side x f s h = go (distinct_among same_place (infinity_of side ∷ flat_map (atom_points side x) (atoms_of f)) s h)
-  where
-    go : Among (infinity_of side ∷ flat_map (atom_points side x) (atoms_of f)) s → IsInLowestTerms s
-    go (inl e) = along e (infinity_lowest side)
-    go (inr m) = let r = flat_map_among (atom_points side x) (atoms_of f) s m in atom_lowest side x r.0 s r.2
+points_lowest side x f s h =
+    field_points_have IsInLowestTerms side x (atoms_of f) (far_out IsInLowestTerms tt tt side)
+    (λ a m n. (lowest_at (scale (negsuc 0) (without x (form_of a))) (suc n) (omega arith), lowest_at (without x (form_of a)) (suc n) (omega arith))) s h

@@ -6,7 +6,7 @@ use Rattle.formula_meaning.specs.Every.{Every}
 use Rattle.formula_meaning.specs.Atom.{Atom}
 use Rattle.formula_meaning.specs.Answer.{Place}
 use Rattle.formula_meaning.specs.Tree.{Tree}
-use Rattle.elimination_theory.specs.Side.{Side}
+use Rattle.elimination_theory.specs.declared.side.Side.{Side}
 use Rattle.elimination_theory.specs.FieldsSubstitution.{field_atom, field_substitution, IsFieldPlace}
 use Rattle.elimination_theory.specs.FieldsPoints.{field_points_of}
 use Rattle.elimination_theory.specs.IntegersSubstitution.{integer_atom, integer_guard, guarded_substitution}

@@ -8,7 +8,7 @@ use Rattle.formula_meaning.specs.Every.{Every}
 use Rattle.formula_meaning.specs.Atom.{Atom, AtomIn, opposite}
 use Rattle.formula_meaning.specs.NegationNormal.{normal_form, normal_form_of_not}
 use Rattle.formula_meaning.specs.Tree.{Tree, Trees, TrueAt, InContext, IsFree, Equivalent, IsNegation}
-use Rattle.elimination_theory.specs.Side.{Side}
+use Rattle.elimination_theory.specs.declared.side.Side.{Side}
 use Rattle.elimination_theory.specs.Elimination.{field_elimination}
 
 -- g is equivalent to f, is built by and and or alone, and has no other free names

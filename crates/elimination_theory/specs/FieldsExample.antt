@@ -8,7 +8,7 @@ use Rattle.formula_meaning.specs.Atom.{Compare, Below, Above, AtLeast}
 use Rattle.formula_meaning.specs.NegationNormal.{both}
 use Rattle.formula_meaning.specs.Answer.{Exact, AboveBy, BelowBy, MinusInfinity, PlusInfinity, Holds}
 use Rattle.formula_meaning.specs.Tree.{Tree, TrueAt}
-use Rattle.elimination_theory.specs.Side.{Lower, Upper}
+use Rattle.elimination_theory.specs.declared.side.Side.TheVariants.{Lower, Upper}
 use Rattle.elimination_theory.specs.FieldsPoints.{field_points}
 use Rattle.elimination_theory.specs.FieldsSubstitution.{field_substitution}
 use Rattle.elimination_theory.specs.Substitution.{at_place}

@@ -11,7 +11,8 @@ use Rattle.formula_meaning.specs.Atom.{Compare, Congruent, Equals, Above, AtMost
 use Rattle.formula_meaning.specs.Answer.{Place, Exact, Periodic, Holds}
 use Rattle.formula_meaning.specs.Tree.{Tree, TrueAt, InContext}
 use Rattle.elimination_theory.specs.Atoms.{atoms_of}
-use Rattle.elimination_theory.specs.Side.{Side, Lower, Upper}
+use Rattle.elimination_theory.specs.declared.side.Side.{Side}
+use Rattle.elimination_theory.specs.declared.side.Side.TheVariants.{Lower, Upper}
 use Rattle.elimination_theory.specs.Substitution.{at_place}
 use Rattle.elimination_theory.specs.IntegersSubstitution.{integer_substitution, integer_guard}
 use Rattle.elimination_theory.specs.IntegersPoints.{next_points, atom_starts, points_with, integer_scale, integer_span, integer_points}

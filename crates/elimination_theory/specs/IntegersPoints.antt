@@ -7,7 +7,9 @@ use Rattle.formula_meaning.specs.Answer.{Place, Exact, Periodic, same_place}
 use Rattle.formula_meaning.specs.Tree.{Tree}
 use Rattle.formula_meaning.specs.Distinct.{distinct}
 use Rattle.elimination_theory.specs.Atoms.{atoms_of}
-use Rattle.elimination_theory.specs.Side.{Side, Lower, Upper, turned}
+use Rattle.elimination_theory.specs.Side.{turned}
+use Rattle.elimination_theory.specs.declared.side.Side.{Side}
+use Rattle.elimination_theory.specs.declared.side.Side.TheVariants.{Lower, Upper}
 
 -- the least common multiple of two positive numbers
 abbrev pub common_multiple : ℕ → ℕ → ℕ

@@ -12,7 +12,7 @@ use Rattle.formula_meaning.specs.Atom.{form_of, Atom, AtomIn, Compare, Congruent
 use Rattle.formula_meaning.specs.Answer.{Place, Exact, AboveBy, BelowBy, PlusInfinity, MinusInfinity, Periodic, Holds}
 use Rattle.formula_meaning.specs.Tree.{Tree, TrueAt, InContext, Equivalent}
 use Rattle.elimination_theory.specs.Substitution.{at_place}
-use Rattle.elimination_theory.specs.Side.{Side}
+use Rattle.elimination_theory.specs.declared.side.Side.{Side}
 use Rattle.elimination_theory.specs.IntegersSubstitution.{integer_atom, integer_substitution, integer_guard}
 use Rattle.elimination_theory.specs.Elimination.{integer_elimination}
 use Rattle.elimination_theory.specs.IntegersPoints.{scale_of, own_span, integer_count_of, atom_starts, integer_scale, integer_span, integer_points}

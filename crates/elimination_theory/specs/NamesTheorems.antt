@@ -6,7 +6,7 @@ use Rattle.formula_meaning.specs.Some.{SomeOf}
 use Rattle.formula_meaning.specs.Shape.{IsPlain}
 use Rattle.formula_meaning.specs.Answer.{Place, PlaceMentions}
 use Rattle.formula_meaning.specs.Tree.{Tree, InContext, IsFree}
-use Rattle.elimination_theory.specs.Side.{Side}
+use Rattle.elimination_theory.specs.declared.side.Side.{Side}
 use Rattle.elimination_theory.specs.FieldsPoints.{field_points}
 use Rattle.elimination_theory.specs.FieldsSubstitution.{field_substitution, IsFieldPlace}
 use Rattle.elimination_theory.specs.Elimination.{field_elimination, integer_elimination}

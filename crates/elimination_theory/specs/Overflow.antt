@@ -8,7 +8,7 @@ use Rattle.formula_meaning.specs.Form.{Form, coefficient, without}
 use Rattle.formula_meaning.specs.Combining.{AddWithin, CombinesWithin}
 use Rattle.formula_meaning.specs.Atom.{Atom, AtomIn, Compare, Congruent, form_of}
 use Rattle.formula_meaning.specs.Answer.{Place, Exact, AboveBy, BelowBy, PlusInfinity, MinusInfinity, Periodic}
-use Rattle.elimination_theory.specs.Side.{Side}
+use Rattle.elimination_theory.specs.declared.side.Side.{Side}
 use Rattle.elimination_theory.specs.IntegersPoints.{scale_of, own_span}
 use Rattle.elimination_theory.specs.BothTheories.{test_points}
 

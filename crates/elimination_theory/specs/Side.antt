@@ -1,8 +1,8 @@
 -- The two sides from which test points are taken: the lower ends of the intervals on which a formula is true, or the
 -- upper ends. The upper side is the mirror image of the lower.
 use Rattle.formula_meaning.specs.Atom.{Relation, mirrored}
-pub use Rattle.elimination_theory.specs.declared.side.Side.{Side}
-pub use Rattle.elimination_theory.specs.declared.side.Side.TheVariants.{Lower, Upper}
+use Rattle.elimination_theory.specs.declared.side.Side.{Side}
+use Rattle.elimination_theory.specs.declared.side.Side.TheVariants.{Lower, Upper}
 
 -- the relation as the side sees it
 abbrev pub turned : Side → Relation → Relation

@@ -1,6 +1,7 @@
 //! The lists of test points.
 
-ghost use Rattle.elimination_theory.specs.PointsTheorems.{PointsStandOnce, AtomsMayRepeat};
+ghost use Rattle.formula_meaning.specs.Context.{Context};
+ghost use Rattle.elimination_theory.specs.PointsTheorems.{PointsStandOnce, AtomsMayRepeat, PointsAreSorted};
 ghost use Rattle.elimination_theory.specs.FieldsPoints.{FieldPointsAreInLowestTerms};
 
 /// Each atom of a formula and each of its test points stands once in its list, in both theories.
@@ -16,4 +17,9 @@ pub fn field_points_are_in_lowest_terms()
 /// Over the ordered fields the test points are those of the atoms as they stand in the text: repeats of atoms need not be dropped.
 pub fn atoms_may_repeat()
     ensures { AtomsMayRepeat }
+{}
+
+/// Where the forms of atoms are sorted, so is the form of each of their test points, in both theories.
+pub fn points_are_sorted()
+    ensures { (c : Context) → PointsAreSorted c }
 {}

@@ -7,7 +7,9 @@ use Rattle.formula_meaning.specs.Truth.{True, AllTrue, SomeTrue}
 use Rattle.formula_meaning.specs.Every.{Every, EveryOf, Free, FreeInSome}
 use Rattle.formula_meaning.specs.Shape.{IsPlain, ArePlain}
 use Rattle.formula_meaning.specs.Sizes.{nodes, all_nodes}
-use Rattle.formula_meaning.specs.Fold.{Junction, Conjunction, Disjunction, joined, neutral, absorbing, append, pieces_of, put_together, all_pieces, from_pieces, fold_list, folded, all_folded}
+use Rattle.formula_meaning.specs.Fold.{joined, neutral, absorbing, append, pieces_of, put_together, all_pieces, from_pieces, fold_list, folded, all_folded}
+use Rattle.formula_meaning.specs.declared.junction.Junction.{Junction}
+use Rattle.formula_meaning.specs.declared.junction.Junction.TheVariants.{Conjunction, Disjunction}
 use Rattle.formula_meaning.proofs.Iff.{both_ways, pair_iff, either_iff}
 
 module _ {A N : Type 0} where

@@ -4,6 +4,7 @@ use Rattle.std.specs.Ordering.{int_eq}
 use Rattle.formula_meaning.specs.Context.{Context, Fields, Integers}
 use Rattle.formula_meaning.specs.Point.{Point, move}
 use Rattle.formula_meaning.specs.Form.{Form, value, coefficient}
+use Rattle.formula_meaning.specs.Sorted.{IsSorted}
 use Rattle.formula_meaning.specs.Same.{same_form}
 use Rattle.formula_meaning.specs.Tree.{Tree, TrueAt}
 
@@ -63,6 +64,15 @@ PlaceMentions (BelowBy e d) x = ¬ (coefficient x e ≡ pos 0)
 PlaceMentions PlusInfinity x = ⊥
 PlaceMentions MinusInfinity x = ⊥
 PlaceMentions (Periodic a q) x = ⊥
+
+-- the form of the place is sorted
+abbrev pub IsSortedPlace : Place → Type 0
+IsSortedPlace (Exact e d) = IsSorted e
+IsSortedPlace (AboveBy e d) = IsSorted e
+IsSortedPlace (BelowBy e d) = IsSorted e
+IsSortedPlace PlusInfinity = Unit {0}
+IsSortedPlace MinusInfinity = Unit {0}
+IsSortedPlace (Periodic a q) = Unit {0}
 
 -- the same place
 abbrev pub same_place : Place → Place → Bool

@@ -2,8 +2,8 @@
 -- an and gives its members, and one member that is left stands for the whole. Or is the dual.
 use Rattle.std.specs.Prelude.{Bool, true, false, Option, Some, None}
 use Rattle.formula_meaning.specs.Formula.{Formula, Formulas, Yes, No, One, Not, And, Or, Impl, Repl, Equiv, Ex, All, none, also}
-pub use Rattle.formula_meaning.specs.declared.junction.Junction.{Junction}
-pub use Rattle.formula_meaning.specs.declared.junction.Junction.TheVariants.{Conjunction, Disjunction}
+use Rattle.formula_meaning.specs.declared.junction.Junction.{Junction}
+use Rattle.formula_meaning.specs.declared.junction.Junction.TheVariants.{Conjunction, Disjunction}
 
 -- what a negation makes of it
 abbrev pub turned_junction : Bool → Junction → Junction

@@ -11,10 +11,14 @@ pub mod Atom
 pub mod Same
 pub mod Every
 pub mod Sizes
+pub mod Members
 pub mod Replaced
 pub mod Shape
 pub mod NegationNormal
 pub mod Fold
 pub mod Tree
+pub mod Within
 pub mod Laws
 pub mod Answer
+pub mod Limits
+pub mod Measured

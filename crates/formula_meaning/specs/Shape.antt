@@ -1,8 +1,8 @@
 -- Shapes of formulas: quantifier-free, built by and and or alone, negation normal, prenex; blocks of quantifiers.
 use Rattle.std.specs.Prelude.{ℕ, suc, max, min, Bool, true, false, List, [], ◌∷◌, if◌then◌else◌}
 use Rattle.formula_meaning.specs.Formula.{Formula, Formulas, Yes, No, One, Not, And, Or, Impl, Repl, Equiv, Ex, All, none, also}
-pub use Rattle.formula_meaning.specs.declared.quantifier.Quantifier.{Quantifier}
-pub use Rattle.formula_meaning.specs.declared.quantifier.Quantifier.TheVariants.{Exists, ForAll}
+use Rattle.formula_meaning.specs.declared.quantifier.Quantifier.{Quantifier}
+use Rattle.formula_meaning.specs.declared.quantifier.Quantifier.TheVariants.{Exists, ForAll}
 
 -- what a negation makes of it
 abbrev pub turned_quantifier : Bool → Quantifier → Quantifier

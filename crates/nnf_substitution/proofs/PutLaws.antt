@@ -9,7 +9,8 @@ use Rattle.formula_meaning.specs.Atom.{AtomIn}
 use Rattle.formula_meaning.specs.Answer.{Place}
 use Rattle.formula_meaning.specs.Tree.{Tree, Trees, InContext}
 use Rattle.elimination_theory.specs.Atoms.{atoms_in, atoms_in_all}
-use Rattle.elimination_reference.specs.Limits.{each, atom_within}
+use Rattle.formula_meaning.specs.Limits.{each}
+use Rattle.elimination_reference.specs.Limits.{atom_within}
 use Rattle.atom_normal.specs.Atoms.{tree_of}
 use Rattle.atom_normal.specs.NormalForm.{constant_tree}
 use Rattle.atom_normal.specs.declared.atoms.Normal.{Normal}

@@ -7,7 +7,8 @@ use Rattle.formula_meaning.specs.Context.{Context, Fields, Integers}
 use Rattle.formula_meaning.specs.Formula.{Yes, No, One, none, also}
 use Rattle.formula_meaning.specs.Form.{coefficient}
 use Rattle.formula_meaning.specs.Atom.{Atom, form_of}
-use Rattle.formula_meaning.specs.Fold.{append, folded, fold_list, Conjunction}
+use Rattle.formula_meaning.specs.Fold.{append, folded, fold_list}
+use Rattle.formula_meaning.specs.declared.junction.Junction.TheVariants.{Conjunction}
 use Rattle.formula_meaning.specs.Fold as folding
 use Rattle.formula_meaning.specs.NegationNormal.{both}
 use Rattle.formula_meaning.specs.Distinct.{without_same, distinct}
@@ -19,7 +20,8 @@ use Rattle.elimination_theory.specs.Atoms.{atoms_in, atoms_of}
 use Rattle.elimination_theory.specs.BothTheories.{guard_of}
 use Rattle.elimination_theory.specs.Steps.{Result, normalised, kept, results, result_at, trees_left}
 use Rattle.elimination_theory.specs.Overflow.{FormWithin, PlaceWithin}
-use Rattle.elimination_reference.specs.Limits.{each, place_within, atom_within}
+use Rattle.formula_meaning.specs.Limits.{each, place_within}
+use Rattle.elimination_reference.specs.Limits.{atom_within}
 use Rattle.elimination_reference.specs.Reference.{stands_among}
 use Rattle.atom_normal.specs.NormalForm.{constant_tree, normal_atom}
 use Rattle.nnf_trees.specs.declared.nnf.Junction.{Junction}
@@ -35,7 +37,7 @@ use Rattle.test_points.specs.declared.points.TestPoint.{TestPoint}
 use Rattle.test_points.specs.Points.{place_at, place_of, IsTestPoint}
 use Rattle.test_points.specs.declared.points.Place.{Place}
 use Rattle.test_points.specs.declared.points.Place.TheVariants as place
-use Rattle.test_points.proofs.WithinTests.{place_tests}
+use Rattle.elimination_theory.proofs.WithinTests.{place_tests}
 use Rattle.test_points.proofs.Forms.{coefficient_within}
 use Rattle.exact_numbers.specs.Limit.{InLimit}
 use Rattle.formula_meaning.specs.Form as forms

@@ -3,14 +3,16 @@ use Rattle.std.specs.Prelude.{◌≡◌, ℕ, Bool, true, false, ◌&&◌, List,
 use Rattle.formula_meaning.specs.Context.{Context, Integers}
 use Rattle.formula_meaning.specs.Formula.{No, none, also}
 use Rattle.formula_meaning.specs.NegationNormal.{both}
-use Rattle.formula_meaning.specs.Fold.{folded, all_folded, fold_list, Conjunction}
+use Rattle.formula_meaning.specs.Fold.{folded, all_folded, fold_list}
+use Rattle.formula_meaning.specs.declared.junction.Junction.TheVariants.{Conjunction}
 use Rattle.formula_meaning.specs.Replaced.{replaced, all_replaced}
 use Rattle.formula_meaning.specs.Answer.{Place}
 use Rattle.formula_meaning.specs.Tree.{Tree, Trees}
 use Rattle.elimination_theory.specs.Atoms.{atoms_in, atoms_in_all, atoms_of}
 use Rattle.elimination_theory.specs.BothTheories.{guard_of}
 use Rattle.elimination_theory.specs.Steps.{atom_at, normalised, result_at, results, trees_left}
-use Rattle.elimination_reference.specs.Limits.{each, place_within, atom_within}
+use Rattle.formula_meaning.specs.Limits.{each, place_within}
+use Rattle.elimination_reference.specs.Limits.{atom_within}
 use Rattle.atom_normal.specs.NormalForm.{normal_atom}
 use Rattle.formula_tree.specs.Trees.{members}
 use Rattle.nnf_trees.specs.declared.nnf.Nnf.{Nnf}

@@ -7,7 +7,7 @@ ghost use Rattle.formula_meaning.specs.Atom.{form_of};
 ghost use Rattle.formula_meaning.specs.Context.{Integers};
 ghost use Rattle.elimination_theory.specs.BothTheories.{IsPlaceIn};
 ghost use Rattle.elimination_reference.specs.Reference.{stands_among};
-ghost use Rattle.elimination_reference.specs.Limits.{each};
+ghost use Rattle.formula_meaning.specs.Limits.{each};
 ghost use Rattle.atom_normal.specs.Atoms.{atom_of, context_of};
 ghost use Rattle.formula_tree.specs.Trees.{members};
 ghost use Rattle.nnf_trees.specs.Nnfs.{nnf_of, IsProper, AreProper};

@@ -2,7 +2,8 @@
 use Rattle.std.proofs.Common.{◌≡◌, sym, ap, ◌∙◌, subst, refl, Bool, true, false, List, [], ◌∷◌, ◌++◌, map, Some, None, Option, length, ◌<◌, arith}
 use Rattle.std.specs.Prelude.{if◌then◌else◌}
 use Rattle.formula_meaning.specs.Formula.{One, none, also}
-use Rattle.formula_meaning.specs.Fold.{Conjunction, Disjunction, joined, append, pieces_of, put_together, neutral, absorbing, all_pieces, from_pieces, fold_list}
+use Rattle.formula_meaning.specs.Fold.{joined, append, pieces_of, put_together, neutral, absorbing, all_pieces, from_pieces, fold_list}
+use Rattle.formula_meaning.specs.declared.junction.Junction.TheVariants.{Conjunction, Disjunction}
 use Rattle.formula_meaning.specs.Fold as folding
 use Rattle.formula_meaning.specs.Tree.{Tree, Trees}
 use Rattle.atom_normal.specs.NormalForm.{constant_tree}

@@ -4,7 +4,7 @@ use Rattle.std.specs.Prelude.{◌||◌, ◌&&◌, if◌then◌else◌}
 use Rattle.std.specs.List.{AllByRecursion}
 use Rattle.std.proofs.lemmas.Bool.Decides.{nat_tests}
 use Rattle.std.proofs.Math.Nat.{mul-le-mul_left}
-use Rattle.formula_meaning.specs.Fold.{Junction}
+use Rattle.formula_meaning.specs.declared.junction.Junction.{Junction}
 use Rattle.formula_meaning.specs.Tree.{Tree}
 use Rattle.formula_tree.specs.Trees.{members}
 use Rattle.clean_forms.specs.Counts as counts

@@ -7,7 +7,8 @@ use Rattle.std.specs.Prelude.{Result, Ok, Err, IfOk}
 use Rattle.formula_meaning.specs.Context.{Context}
 use Rattle.formula_meaning.specs.Formula.{And, Or}
 use Rattle.formula_meaning.specs.Atom.{Atom}
-use Rattle.formula_meaning.specs.Fold.{Junction, Conjunction, Disjunction}
+use Rattle.formula_meaning.specs.declared.junction.Junction.{Junction}
+use Rattle.formula_meaning.specs.declared.junction.Junction.TheVariants.{Conjunction, Disjunction}
 use Rattle.formula_meaning.specs.Shape.{AreQuantifierFree}
 use Rattle.formula_meaning.specs.Tree.{Tree}
 use Rattle.atom_merging.specs.Computed.{IsNormalWithin}

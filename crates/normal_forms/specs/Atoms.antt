@@ -4,7 +4,7 @@ use Rattle.std.specs.List.{AllByRecursion}
 use Rattle.formula_meaning.specs.Context.{Context}
 use Rattle.formula_meaning.specs.Formula.{One}
 use Rattle.formula_meaning.specs.Atom.{Atom, Compare, Equals}
-use Rattle.formula_meaning.specs.Fold.{Conjunction}
+use Rattle.formula_meaning.specs.declared.junction.Junction.TheVariants.{Conjunction}
 use Rattle.formula_meaning.specs.Tree.{Tree}
 use Rattle.atom_merging.specs.Computed.{Kept, IsNormalWithin}
 use Rattle.formula_tree.specs.declared.shape.Shape.{Shape}

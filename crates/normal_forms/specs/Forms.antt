@@ -1,5 +1,6 @@
 -- The two normal forms of the program.
-use Rattle.formula_meaning.specs.Fold.{Junction, Conjunction, Disjunction}
+use Rattle.formula_meaning.specs.declared.junction.Junction.{Junction}
+use Rattle.formula_meaning.specs.declared.junction.Junction.TheVariants.{Conjunction, Disjunction}
 use Rattle.normal_forms.specs.declared.form.Form.{Form}
 use Rattle.normal_forms.specs.declared.form.Form.TheVariants.{Disjunctive, Conjunctive}
 

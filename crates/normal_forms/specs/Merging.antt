@@ -3,7 +3,7 @@ use Rattle.std.specs.Prelude.{◌≡◌, ℕ, ◌<◌, List, [], ◌∷◌, Opti
 use Rattle.formula_meaning.specs.Context.{Context}
 use Rattle.formula_meaning.specs.Form.{Term}
 use Rattle.formula_meaning.specs.Atom.{Atom}
-use Rattle.formula_meaning.specs.Fold.{Junction}
+use Rattle.formula_meaning.specs.declared.junction.Junction.{Junction}
 use Rattle.atom_normal.specs.Atoms.{atom_of, IsWellFormed}
 use Rattle.atom_merging.specs.declared.answers.Merged.{Merged}
 use Rattle.atom_merging.specs.declared.answers.Merged.TheVariants as answer_is

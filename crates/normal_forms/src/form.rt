@@ -1,5 +1,5 @@
 ghost use Rattle.std.specs.Prelude.{◌≡◌};
-ghost use Rattle.formula_meaning.specs.Fold.{Conjunction, Disjunction};
+ghost use Rattle.formula_meaning.specs.declared.junction.Junction.TheVariants.{Conjunction, Disjunction};
 ghost use Rattle.clean_forms.specs.Ways.{is_same};
 ghost use Rattle.normal_forms.specs.Forms.{inner};
 

@@ -1,7 +1,8 @@
 //! The clean disjunctive and conjunctive forms of a formula.
 
 ghost use Rattle.std.specs.Prelude.{◌≡◌, ◌≤◌, ◌<◌, ◌↔◌, ℕ, Some, map, if◌then◌else◌, true, IfOk, IfErr, OnOk, IsErrOf};
-ghost use Rattle.formula_meaning.specs.Fold.{Conjunction, Disjunction, from_pieces};
+ghost use Rattle.formula_meaning.specs.Fold.{from_pieces};
+ghost use Rattle.formula_meaning.specs.declared.junction.Junction.TheVariants.{Conjunction, Disjunction};
 ghost use Rattle.formula_tree.specs.Trees.{members};
 ghost use Rattle.formula_tree.specs.Shapes.{AllIds, IsProperShape, tree_over};
 ghost use Rattle.clean_forms.specs.Ways.{form_of_lines};

@@ -2,7 +2,7 @@
 
 ghost use Rattle.std.specs.Prelude.{◌≡◌, Some, IfOk, IfErr, map, slice_get, [], ◌∷◌};
 ghost use Rattle.std.specs.List.{AllByRecursion};
-ghost use Rattle.formula_meaning.specs.Fold.{Conjunction, Disjunction};
+ghost use Rattle.formula_meaning.specs.declared.junction.Junction.TheVariants.{Conjunction, Disjunction};
 ghost use Rattle.formula_tree.specs.declared.shape.Shape.{Shape};
 ghost use Rattle.formula_tree.specs.Shapes.{AllIds};
 ghost use Rattle.formula_store.specs.declared.id.FormulaId.{FormulaId};

@@ -11,7 +11,7 @@ use Rattle.formula_meaning.specs.Atom.{AtomIn}
 use Rattle.formula_meaning.specs.Every.{EveryOf}
 use Rattle.formula_meaning.specs.Tree.{InContext}
 use Rattle.elimination_reference.specs.Cases.{Case, cases_of}
-use Rattle.elimination_reference.specs.Measured.{Outcome, stopped, done}
+use Rattle.formula_meaning.specs.Measured.{Outcome, stopped, done}
 use Rattle.elimination_reference.specs.Reference.{Branch, branch_trees}
 use Rattle.nnf_trees.specs.declared.nnf.Nnf.{Nnf}
 use Rattle.nnf_trees.specs.Nnfs.{nnf_of}

@@ -9,10 +9,11 @@ use Rattle.formula_meaning.specs.Sizes.{nodes}
 use Rattle.formula_meaning.specs.Tree.{Tree}
 use Rattle.elimination_theory.specs.Atoms.{atoms_in, atoms_of}
 use Rattle.elimination_theory.specs.BothTheories.{test_points}
-use Rattle.elimination_theory.specs.Side.{Lower}
+use Rattle.elimination_theory.specs.declared.side.Side.TheVariants.{Lower}
 use Rattle.elimination_theory.specs.Steps.{Result as Left, kept, result_at, results}
-use Rattle.elimination_reference.specs.Limits.{each, span_within, step_within}
-use Rattle.elimination_reference.specs.Measured.{Outcome, stopped, done, then_of, give, pay, within}
+use Rattle.formula_meaning.specs.Limits.{each}
+use Rattle.elimination_reference.specs.Limits.{span_within, step_within}
+use Rattle.formula_meaning.specs.Measured.{Outcome, stopped, done, then_of, give, pay, within}
 use Rattle.elimination_reference.specs.Reference.{Branch, next_branch, kept_at_zero, stands_among, point_count, full_step, one_step, steps}
 use Rattle.atom_normal.specs.NormalForm.{normal_atom}
 use Rattle.linear_forms.specs.declared.form.VarId.{VarId}

@@ -10,7 +10,7 @@ use Rattle.formula_meaning.specs.Shape.{is_in}
 use Rattle.formula_meaning.specs.Tree.{Tree, InContext}
 use Rattle.elimination_theory.specs.Answers.{answers_of, zero_place}
 use Rattle.elimination_theory.specs.Steps.{results}
-use Rattle.elimination_reference.specs.Measured.{Outcome, stopped, done}
+use Rattle.formula_meaning.specs.Measured.{Outcome, stopped, done}
 use Rattle.elimination_reference.specs.Reference.{Branch, next_branch}
 use Rattle.atom_normal.specs.NormalForm.{normal_atom}
 use Rattle.linear_forms.specs.declared.form.VarId.{VarId}

@@ -3,7 +3,7 @@ ghost use Rattle.std.specs.Prelude.{◌≡◌, List, true, [], ◌∷◌, All, m
 ghost use Rattle.formula_meaning.specs.Tree.{InContext};
 ghost use Rattle.elimination_theory.specs.Atoms.{atoms_of};
 ghost use Rattle.elimination_theory.specs.BothTheories.{IsPlaceIn};
-ghost use Rattle.elimination_reference.specs.Limits.{each};
+ghost use Rattle.formula_meaning.specs.Limits.{each};
 ghost use Rattle.elimination_reference.specs.Reference.{Branch, kept_at_zero, full_step, one_step, steps};
 ghost use Rattle.atom_normal.specs.Atoms.{atom_of, context_of, IsWellFormed};
 ghost use Rattle.nnf_trees.specs.Nnfs.{nnf_of};

@@ -14,19 +14,20 @@ use Rattle.formula_meaning.specs.Sizes.{nodes}
 use Rattle.formula_meaning.specs.Some.{Among, EachOf}
 use Rattle.formula_meaning.specs.Answer.{Place}
 use Rattle.formula_meaning.specs.Tree.{Tree, Trees, InContext}
-use Rattle.elimination_theory.specs.Side.{Lower}
+use Rattle.elimination_theory.specs.declared.side.Side.TheVariants.{Lower}
 use Rattle.elimination_theory.specs.Atoms.{atoms_in, atoms_of}
 use Rattle.elimination_theory.specs.BothTheories.{test_points, IsPlaceIn}
 use Rattle.elimination_theory.specs.Steps.{Result as Left, step, trees_left}
 use Rattle.elimination_theory.proofs.BothSubstitutions.{place_in, point_suits}
 use Rattle.atom_normal.specs.NormalForm.{normal_atom}
-use Rattle.elimination_reference.specs.Limits.{each, is_within, span_within, step_within}
-use Rattle.elimination_reference.specs.Measured.{Outcome, stopped, done, then_of, give, pay, within}
-use Rattle.elimination_reference.specs.Measured as stop
+use Rattle.formula_meaning.specs.Limits.{each, is_within}
+use Rattle.elimination_reference.specs.Limits.{span_within, step_within}
+use Rattle.formula_meaning.specs.Measured.{Outcome, stopped, done, then_of, give, pay, within}
+use Rattle.formula_meaning.specs.Measured as stop
 use Rattle.elimination_reference.specs.Reference.{Branch, next_branch, point_count, kept_at_zero, stands_among, full_step, one_step}
 use Rattle.elimination_reference.proofs.Branches.{next_trees}
 use Rattle.nnf_trees.specs.Forms.{limited}
-use Rattle.test_points.proofs.WithinTests.{within_tests}
+use Rattle.elimination_theory.proofs.WithinTests.{within_tests}
 use Rattle.test_points.specs.declared.error.PointError.{PointError}
 use Rattle.test_points.specs.declared.error.PointError.TheVariants as error
 use Rattle.test_points.specs.declared.points.TestPoint.{TestPoint}

@@ -3,11 +3,11 @@ use Rattle.std.specs.Prelude.{◌≡◌, ℕ, zero, suc, ◌+◌, ◌*◌, List,
 use Rattle.formula_meaning.specs.Context.{Context}
 use Rattle.formula_meaning.specs.Sizes.{nodes}
 use Rattle.formula_meaning.specs.Tree.{Tree}
-use Rattle.elimination_theory.specs.Side.{Lower}
+use Rattle.elimination_theory.specs.declared.side.Side.TheVariants.{Lower}
 use Rattle.elimination_theory.specs.Atoms.{atoms_of}
 use Rattle.elimination_theory.specs.BothTheories.{test_points}
 use Rattle.elimination_reference.specs.Limits.{span_within}
-use Rattle.elimination_reference.specs.Measured.{Outcome, done, then_of, pay, within}
+use Rattle.formula_meaning.specs.Measured.{Outcome, done, then_of, pay, within}
 use Rattle.elimination_reference.specs.Reference.{point_count}
 use Rattle.linear_forms.specs.declared.form.VarId.{VarId}
 use Rattle.nnf_trees.specs.Forms.{limited}

@@ -3,10 +3,12 @@ use Rattle.std.specs.Prelude.{◌≡◌, ℕ, Bool, true, false, List, [], ◌�
 use Rattle.formula_meaning.specs.Context.{Context}
 use Rattle.std.specs.declared.result.Result.TheVariants.{Ok, Err}
 use Rattle.formula_meaning.specs.Formula.{none, also}
-use Rattle.formula_meaning.specs.Fold.{Junction, append, fold_list, Disjunction}
+use Rattle.formula_meaning.specs.Fold.{append, fold_list}
+use Rattle.formula_meaning.specs.declared.junction.Junction.{Junction}
+use Rattle.formula_meaning.specs.declared.junction.Junction.TheVariants.{Disjunction}
 use Rattle.formula_meaning.specs.Tree.{Tree, Trees}
-use Rattle.elimination_reference.specs.Measured.{Outcome, stopped, done, then_of}
-use Rattle.elimination_reference.specs.Measured as stop
+use Rattle.formula_meaning.specs.Measured.{Outcome, stopped, done, then_of}
+use Rattle.formula_meaning.specs.Measured as stop
 use Rattle.elimination_reference.specs.Reference.{Branch, branch_trees, turned, steps, branches}
 use Rattle.formula_tree.specs.Trees.{members}
 use Rattle.linear_forms.specs.declared.form.VarId.{VarId}

@@ -1,5 +1,5 @@
 ghost use Rattle.std.specs.Prelude.{ℕ, SomeIff, ◌<◌, ◌^◌, ◌≡◌};
-ghost use Rattle.elimination_reference.specs.Measured.{pay};
+ghost use Rattle.formula_meaning.specs.Measured.{pay};
 ghost use Rattle.nnf_trees.specs.Forms.{limited};
 ghost use Rattle.plain_engine.specs.Told.{Told, the_unit};
 

@@ -11,7 +11,7 @@ use Rattle.formula_meaning.proofs.NormalShape.{normal_form_shape}
 use Rattle.atom_normal.specs.NormalForm.{negated_normal}
 use Rattle.elimination_theory.specs.Answers as meaning
 use Rattle.elimination_reference.specs.Cases.{case_sign}
-use Rattle.elimination_reference.specs.Measured.{Outcome, done, then_of, pay, within}
+use Rattle.formula_meaning.specs.Measured.{Outcome, done, then_of, pay, within}
 use Rattle.elimination_reference.specs.PutIn.{put_in, tree_put_within}
 use Rattle.elimination_reference.specs.Reference.{branches, normal_tree}
 use Rattle.elimination_reference.specs.Sample.{chosen_steps}

@@ -17,7 +17,7 @@ use Rattle.elimination_theory.specs.FieldsPoints.{form_over}
 use Rattle.linear_forms.specs.Terms.{value_steps, total_steps}
 use Rattle.linear_forms.specs.Reduction.{quotient, residue_form}
 use Rattle.atom_normal.specs.NormalForm.{normal_atom}
-use Rattle.elimination_reference.specs.Measured.{done}
+use Rattle.formula_meaning.specs.Measured.{done}
 use Rattle.sample_reference.specs.Sample.{closed_sample, reference_sample}
 
 abbrev atom : Relation → Form → Tree

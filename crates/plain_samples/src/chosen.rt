@@ -4,7 +4,7 @@ ghost use Rattle.formula_meaning.specs.Every.{Every};
 ghost use Rattle.formula_meaning.specs.Point.{Of};
 ghost use Rattle.atom_normal.specs.Atoms.{context_of};
 ghost use Rattle.atom_normal.specs.NormalForm.{IsNormal};
-ghost use Rattle.elimination_reference.specs.Measured.{done};
+ghost use Rattle.formula_meaning.specs.Measured.{done};
 ghost use Rattle.elimination_reference.specs.Sample.{chosen_steps};
 ghost use Rattle.formula_tree.specs.Trees.{tree_of};
 ghost use Rattle.linear_forms.specs.Values.{point_of};

@@ -5,7 +5,7 @@ ghost use Rattle.formula_meaning.specs.Point.{Of};
 ghost use Rattle.formula_meaning.specs.Tree.{IsFree};
 ghost use Rattle.atom_normal.specs.Atoms.{context_of};
 ghost use Rattle.atom_normal.specs.NormalForm.{IsNormal};
-ghost use Rattle.elimination_reference.specs.Measured.{done};
+ghost use Rattle.formula_meaning.specs.Measured.{done};
 ghost use Rattle.formula_tree.specs.Trees.{tree_of};
 ghost use Rattle.linear_forms.specs.Values.{point_of};
 ghost use Rattle.nnf_trees.specs.Nnfs.{HasModulus};

@@ -4,7 +4,7 @@ ghost use Rattle.formula_meaning.specs.Every.{Every};
 ghost use Rattle.formula_meaning.specs.Formula.{Yes};
 ghost use Rattle.formula_meaning.specs.Point.{Of};
 ghost use Rattle.formula_meaning.specs.Tree.{TrueAt};
-ghost use Rattle.elimination_reference.specs.Measured.{done};
+ghost use Rattle.formula_meaning.specs.Measured.{done};
 ghost use Rattle.elimination_reference.specs.Sample.{reference_at};
 ghost use Rattle.atom_normal.specs.Atoms.{context_of};
 ghost use Rattle.atom_normal.specs.NormalForm.{IsNormal, constant_tree};

@@ -2,7 +2,8 @@
 use Rattle.std.proofs.Common.{◌≡◌, ◌++◌, ◌∷◌, [], List, ℕ, Bool, true, false, max, refl, sym, ap, ◌∙◌, append_assoc}
 use Rattle.std.proofs.lemmas.List.{append-nil}
 use Rattle.formula_meaning.specs.Fold.{joined}
-use Rattle.formula_meaning.specs.Shape.{Quantifier, blocks_from, most_blocks}
+use Rattle.formula_meaning.specs.Shape.{blocks_from, most_blocks}
+use Rattle.formula_meaning.specs.declared.quantifier.Quantifier.{Quantifier}
 use Rattle.formula_meaning.specs.Tree.{Tree, Trees}
 use Rattle.atom_normal.specs.NormalForm.{constant_tree}
 use Rattle.nnf_trees.specs.declared.nnf.Junction.{Junction}

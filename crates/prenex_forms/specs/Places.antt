@@ -1,7 +1,8 @@
 -- The quantifiers of a formula in the order of the text, each with the block of the prefix that it stands in.
 use Rattle.std.specs.Prelude.{ℕ, zero, suc, ◌+◌, ◌%◌, List, [], ◌∷◌, ◌++◌, nat_eq, if◌then◌else◌}
 use Rattle.formula_meaning.specs.Formula.{And, Or, Ex, All, none, also}
-use Rattle.formula_meaning.specs.Shape.{Quantifier, Exists, ForAll}
+use Rattle.formula_meaning.specs.declared.quantifier.Quantifier.{Quantifier}
+use Rattle.formula_meaning.specs.declared.quantifier.Quantifier.TheVariants.{Exists, ForAll}
 use Rattle.formula_meaning.specs.Tree.{Tree, Trees}
 use Rattle.nnf_trees.specs.declared.nnf.Quantifier as code
 use Rattle.nnf_trees.specs.declared.nnf.Quantifier.TheVariants as quantifier

@@ -11,7 +11,7 @@ ghost use Rattle.atom_normal.specs.NormalForm.{IsNormal};
 ghost use Rattle.formula_tree.specs.Makers.{IsMade, Keeps};
 ghost use Rattle.formula_store.specs.Nodes.{IsId, tree};
 ghost use Rattle.qe_syntax.specs.Names.{IsVariable};
-ghost use Rattle.redlog_printer.specs.Within.{IsTreeWithin};
+ghost use Rattle.formula_meaning.specs.Within.{IsTreeWithin};
 ghost use Rattle.prenex_theory.specs.Blocks.{block_count};
 ghost use Rattle.prenex_theory.specs.Renaming.{new_count};
 ghost use Rattle.prenex_theory.specs.NewNames.{AddsNewNames};

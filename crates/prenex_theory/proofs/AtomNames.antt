@@ -235,12 +235,6 @@ congruent_keep b m s x l t h e n =
 abbrev pub KeepsNames : Context → Atom → Type 0
 KeepsNames c b = (v : ℕ) → Mentions b v → IsFree (normal_atom c b) v
 
-pub normal_sorted : (c : Context) (a : Atom) → IsNormal c a → IsSorted (form_of a)
-normal_sorted Fields (Compare r f) n = n.oriented.sorted
-normal_sorted Integers (Compare r f) n = n.oriented.sorted
-normal_sorted Fields (Congruent b m f) n = absurd n
-normal_sorted Integers (Congruent b m f) n = n.sorted
-
 pub named_keeps : (c : Context) (a : Atom) (now : ℕ → ℕ) → IsNormal c a → IsOneToOne now a → KeepsNames c (atom_named now a)
 unfolding normal_atom coefficient
 named_keeps Fields (Compare r f) now n one v m =

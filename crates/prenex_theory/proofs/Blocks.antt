@@ -2,7 +2,9 @@
 -- kind has fewer.
 use Rattle.std.proofs.Common.{◌≡◌, ◌<◌, ◌⊎◌, inl, inr, ℕ, suc, max, List, [], ◌∷◌, ◌++◌, length, ap, ap₂, sym, ◌∙◌, subst, refl, arith}
 use Rattle.formula_meaning.specs.Formula.{Formula, Formulas, Yes, No, One, Not, And, Or, Impl, Repl, Equiv, Ex, All, none, also}
-use Rattle.formula_meaning.specs.Shape.{Quantifier, Exists, ForAll, blocks_from, most_blocks}
+use Rattle.formula_meaning.specs.Shape.{blocks_from, most_blocks}
+use Rattle.formula_meaning.specs.declared.quantifier.Quantifier.{Quantifier}
+use Rattle.formula_meaning.specs.declared.quantifier.Quantifier.TheVariants.{Exists, ForAll}
 use Rattle.prenex_theory.specs.Blocks.{other_kind, in_first, joined_blocks, blocks, blocks_of}
 
 module _ {N : Type 0} where

@@ -8,7 +8,9 @@ use Rattle.formula_meaning.specs.Point.{Point, move, AgreeOn}
 use Rattle.formula_meaning.specs.Formula.{Yes, No, One, Not, And, Or, Impl, Repl, Equiv, Ex, All, none, also}
 use Rattle.formula_meaning.specs.Atom.{Atom, Says, Mentions}
 use Rattle.formula_meaning.specs.Every.{Every, EveryOf, EveryBound, EveryBoundOf, FreeInSome}
-use Rattle.formula_meaning.specs.Shape.{Quantifier, Exists, ForAll, IsNegationNormal, AreNegationNormal, blocks_from, most_blocks}
+use Rattle.formula_meaning.specs.Shape.{IsNegationNormal, AreNegationNormal, blocks_from, most_blocks}
+use Rattle.formula_meaning.specs.declared.quantifier.Quantifier.{Quantifier}
+use Rattle.formula_meaning.specs.declared.quantifier.Quantifier.TheVariants.{Exists, ForAll}
 use Rattle.formula_meaning.specs.Truth.{AllTrue, SomeTrue}
 use Rattle.formula_meaning.specs.Tree.{Tree, Trees, TrueAt, IsFree}
 use Rattle.formula_meaning.proofs.FreeNames.{atom_agrees, agree_sym}

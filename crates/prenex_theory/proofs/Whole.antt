@@ -8,7 +8,9 @@ use Rattle.formula_meaning.specs.Some.{Among}
 use Rattle.formula_meaning.specs.Atom.{AtomIn, Mentions}
 use Rattle.formula_meaning.specs.Every.{Every, EveryOf, EveryBound, FreeInSome}
 use Rattle.formula_meaning.specs.Replaced.{replaced}
-use Rattle.formula_meaning.specs.Shape.{Quantifier, Exists, ForAll, IsNegationNormal, IsPlain, IsAtomic, IsPrenex, blocks_from, fewest_blocks, is_in}
+use Rattle.formula_meaning.specs.Shape.{IsNegationNormal, IsPlain, IsAtomic, IsPrenex, blocks_from, fewest_blocks, is_in}
+use Rattle.formula_meaning.specs.declared.quantifier.Quantifier.{Quantifier}
+use Rattle.formula_meaning.specs.declared.quantifier.Quantifier.TheVariants.{Exists, ForAll}
 use Rattle.formula_meaning.specs.Tree.{Tree, Trees, InContext, IsFree, Equivalent, tree_names}
 use Rattle.formula_meaning.proofs.EachAtom.{every_map, every_both, every_all}
 use Rattle.formula_meaning.proofs.Equivalence.{equivalent_then}
@@ -18,7 +20,7 @@ use Rattle.formula_meaning.proofs.ReplacedShape.{plain_stays, every_replaced}
 use Rattle.formula_meaning.proofs.TreeNames.{names_listed}
 use Rattle.formula_meaning.proofs.TreeReplacing.{tree_replacing}
 use Rattle.atom_normal.specs.NormalForm.{normal_atom, IsNormal}
-use Rattle.atom_normal.proofs.NormalLaws.{normal_truth, normal_names, normal_normal, normal_in, normal_atomic}
+use Rattle.atom_normal.proofs.NormalLaws.{normal_truth, normal_names, normal_normal, normal_in, normal_atomic, normal_sorted}
 use Rattle.prenex_theory.specs.Blocks.{other_kind, blocks, matrix, block_count}
 use Rattle.prenex_theory.specs.Front.{first_kind, in_front}
 use Rattle.prenex_theory.specs.Renaming.{nothing_chosen, after, with_chosen_names, new_count}
@@ -30,7 +32,7 @@ use Rattle.prenex_theory.proofs.NamedAtoms.{image_mentioned, named_in}
 use Rattle.prenex_theory.proofs.Used.{used_below}
 use Rattle.prenex_theory.proofs.Renamed.{HasSortedForm, bound_chosen, apart}
 use Rattle.prenex_theory.proofs.RenamedTruth.{IsLinked, free_image, image_free, renamed_truth, renamed_shape, renamed_blocks, renamed_every}
-use Rattle.prenex_theory.proofs.AtomNames.{KeepsNames, normal_sorted, named_keeps}
+use Rattle.prenex_theory.proofs.AtomNames.{KeepsNames, named_keeps}
 use Rattle.prenex_theory.proofs.Shapes.{matrix_plain, atomic_plain, prefix_prenex, count_prefixed, front_every, prefix_bound, replaced_prefixed, replaced_itself}
 
 -- ---- shape

@@ -1,7 +1,9 @@
 -- A formula with all its quantifiers in front.
 use Rattle.std.specs.Prelude.{List, [], ◌∷◌, nat_lt, if◌then◌else◌}
 use Rattle.formula_meaning.specs.Formula.{Formula, Ex, All}
-use Rattle.formula_meaning.specs.Shape.{Quantifier, Exists, ForAll, blocks_from}
+use Rattle.formula_meaning.specs.Shape.{blocks_from}
+use Rattle.formula_meaning.specs.declared.quantifier.Quantifier.{Quantifier}
+use Rattle.formula_meaning.specs.declared.quantifier.Quantifier.TheVariants.{Exists, ForAll}
 use Rattle.prenex_theory.specs.Blocks.{other_kind, blocks, matrix}
 
 module _ {A N : Type 0} where

@@ -27,7 +27,7 @@ use Rattle.formula_tree.proofs.RuleLaw.{ok_same}
 use Rattle.formula_tree.proofs.Nowhere.{every_both}
 use Rattle.formula_tree.proofs.ResolvedHeight.{resolving_keeps_height}
 use Rattle.redlog_printer.specs.Text.{name_at}
-use Rattle.redlog_printer.specs.Within.{IsAtomWithin}
+use Rattle.formula_meaning.specs.Within.{IsAtomWithin}
 use Rattle.printed_formulas.specs.Written.{number_term, signed_term, factor_term, multiple_term, constant_term, later_constant_terms, member_terms, form_term, written_atom, written_formula}
 use Rattle.printed_formulas.specs.Round.{NumberFits, FormFits, AtomFits, WrittenIsResolved}
 use Rattle.printed_formulas.proofs.Forms.{whole, form, number_product}

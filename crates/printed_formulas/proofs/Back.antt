@@ -16,7 +16,7 @@ use Rattle.qe_syntax.specs.Value.{same_name, relation_of}
 use Rattle.formula_tree.specs.RationalForms.{formed, formed_difference}
 use Rattle.formula_tree.specs.Resolving.{place, compared, congruent, resolved_atom, resolve}
 use Rattle.redlog_printer.specs.Text.{name_at}
-use Rattle.redlog_printer.specs.Within.{IsAtomWithin}
+use Rattle.formula_meaning.specs.Within.{IsAtomWithin}
 use Rattle.printed_formulas.specs.Written.{number_term, form_term, relation_sign, written_atom, written_formula}
 use Rattle.printed_formulas.specs.Round.{FormFits, AtomFits}
 use Rattle.printed_formulas.proofs.Forms.{whole, difference_formed}

@@ -10,7 +10,7 @@ use Rattle.redlog_reader.specs.Grammar.{SpellsStatement}
 use Rattle.redlog_reader.specs.Statement.{Spells}
 use Rattle.redlog_reader.proofs.Whole.{spells_once}
 use Rattle.redlog_printer.specs.Text.{tree_text}
-use Rattle.redlog_printer.specs.Within.{IsAtomWithin}
+use Rattle.formula_meaning.specs.Within.{IsAtomWithin}
 use Rattle.formula_tree.specs.Resolving.{resolve}
 use Rattle.printed_formulas.specs.Written.{written_formula}
 use Rattle.printed_formulas.specs.Printed.{Terminals, tree_terminals, line_terminals}

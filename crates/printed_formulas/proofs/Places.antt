@@ -18,7 +18,7 @@ use Rattle.formula_tree.specs.Names.{with_name}
 use Rattle.formula_tree.specs.Resolving.{place, variables_of, variables_in, atom_variables, formula_variables, all_variables, names_after}
 use Rattle.formula_tree.proofs.PlaceLaws.{same_itself, slice_place, one_place}
 use Rattle.redlog_printer.specs.Text.{name_at}
-use Rattle.redlog_printer.specs.Within.{AreTermsWithin, IsAtomWithin}
+use Rattle.formula_meaning.specs.Within.{AreTermsWithin, IsAtomWithin}
 use Rattle.printed_formulas.specs.Written.{number_term, signed_term, factor_term, multiple_term, constant_term, later_constant_terms, member_terms, form_term, written_atom, written_formula}
 use Rattle.printed_formulas.proofs.Forms.{AreNumbered}
 

@@ -15,7 +15,7 @@ use Rattle.redlog_tokens.specs.declared.terminal.Word.TheVariants as word
 use Rattle.redlog_reader.specs.Grammar.{sum_of, conjunction_of, disjunction_of}
 use Rattle.redlog_reader.specs.Grammar as grammar
 use Rattle.redlog_printer.specs.Text.{name_at, is_compound}
-use Rattle.redlog_printer.specs.Bound.{HasTwoMembers, HaveTwoMembers}
+use Rattle.formula_meaning.specs.Members.{HasTwoMembers, HaveTwoMembers}
 use Rattle.printed_formulas.specs.Written.{number_term, signed_term, factor_term, multiple_term, constant_term, later_constant_terms, member_terms, relation_sign, written_atom, written_formula}
 use Rattle.printed_formulas.specs.Printed.{Terminals, number, first_mark, later_mark, factor_terminals, multiple_terminals, later_terminals, constant_terminals, sum_terminals, atom_terminals, bracketed, tree_terminals, more_terminals, line_terminals}
 

@@ -19,7 +19,7 @@ use Rattle.redlog_tokens.specs.declared.lexer.Front.TheVariants as found
 use Rattle.redlog_tokens.specs.Lexing.{front, signed, worded}
 use Rattle.redlog_tokens.specs.Terminals.{word_of, sign_of}
 use Rattle.redlog_printer.specs.Text.{name_at, first_sign, later_sign, multiple_text, later_multiple, later_constant, sum_text, form_text, relation_text, congruence_text, atom_text, is_compound, in_parentheses, tree_text, members_text, more_text}
-use Rattle.redlog_printer.specs.Within.{AreTermsWithin}
+use Rattle.formula_meaning.specs.Within.{AreTermsWithin}
 use Rattle.printed_formulas.specs.Written.{relation_sign}
 use Rattle.printed_formulas.specs.Printed.{Terminals, number, first_mark, later_mark, multiple_terminals, later_terminals, constant_terminals, sum_terminals, congruence_word, atom_terminals, bracketed, tree_terminals, members_terminals, more_terminals}
 use Rattle.printed_formulas.specs.Round.{NumberFits, AreMultiplesFit, IsAtomPrintable}

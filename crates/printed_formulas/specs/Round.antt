@@ -19,8 +19,8 @@ use Rattle.redlog_reader.specs.Statement.{Spells, IsDeep}
 use Rattle.formula_tree.specs.Resolving.{names_after, resolve}
 use Rattle.formula_tree.specs.Causes.{most_height, IsAccepted}
 use Rattle.redlog_printer.specs.Text.{tree_text}
-use Rattle.redlog_printer.specs.Bound.{HasTwoMembers}
-use Rattle.redlog_printer.specs.Within.{IsAtomWithin, IsTreeWithin}
+use Rattle.formula_meaning.specs.Members.{HasTwoMembers}
+use Rattle.formula_meaning.specs.Within.{IsAtomWithin, IsTreeWithin}
 use Rattle.printed_formulas.specs.Written.{written_formula}
 use Rattle.printed_formulas.specs.Levels.{tree_level}
 

@@ -6,7 +6,8 @@ use Rattle.formula_meaning.specs.Sizes.{nodes, all_nodes}
 use Rattle.formula_meaning.specs.Atom.{Atom, Compare, Congruent, Relation, Equals, Differs, Below, AtMost, Above, AtLeast}
 use Rattle.formula_meaning.specs.Tree.{Tree, Trees}
 use Rattle.redlog_printer.specs.Text.{relation_text, atom_text, is_compound, in_parentheses, tree_text, members_text, more_text}
-use Rattle.redlog_printer.specs.Bound.{HasTwoMembers, HaveTwoMembers, NodesBoundText}
+use Rattle.formula_meaning.specs.Members.{HasTwoMembers, HaveTwoMembers}
+use Rattle.redlog_printer.specs.Bound.{NodesBoundText}
 
 -- parentheses make a text no shorter
 kept : (b : Bool) (text : List ℕ) → length text ≤ length (in_parentheses b text)

@@ -1,4 +1,3 @@
 pub mod Text
-pub mod Within
 pub mod Bound
 pub mod Writing

@@ -4,7 +4,7 @@ ghost use Rattle.std.specs.Prelude.{◌≡◌, ◌<◌, ◌≤◌, ◌+◌, ◌+
 ghost use Rattle.std.specs.List.{flat_map};
 ghost use Rattle.atom_normal.specs.Atoms.{atom_of, relation_of};
 ghost use Rattle.redlog_printer.specs.Text.{first_sign, later_sign, multiple_text, later_multiple, later_constant, form_text, relation_text, congruence_text, atom_text};
-ghost use Rattle.redlog_printer.specs.Within.{AreTermsWithin, IsAtomWithin};
+ghost use Rattle.formula_meaning.specs.Within.{AreTermsWithin, IsAtomWithin};
 ghost use Rattle.redlog_printer.specs.Writing.{text_limit};
 
 use crate::error::PrintError;

@@ -1,25 +1,20 @@
 -- The sample of a formula without free names is true.
-use Rattle.std.proofs.Common.{◌≡◌, ℕ, List, [], ◌∷◌, Option, Some, None, inl, inr, ⊎_elim, refl, ◌∙◌, nat_eq}
+use Rattle.std.proofs.Common.{◌≡◌, ℕ, List, [], Option, Some, None, refl, ◌∙◌}
 use Rattle.formula_meaning.specs.Context.{Context}
-use Rattle.formula_meaning.specs.Point.{Point, move}
-use Rattle.formula_meaning.specs.Formula.{Yes, No, One, Not, And, Or, Impl, Repl, Equiv, Ex, All, also}
-use Rattle.formula_meaning.specs.Truth.{SomeTrue}
-use Rattle.formula_meaning.specs.Every.{Every, FreeInSome}
-use Rattle.formula_meaning.specs.Some.{EachOf}
+use Rattle.formula_meaning.specs.Formula.{Yes}
+use Rattle.formula_meaning.specs.Every.{Every}
 use Rattle.formula_meaning.specs.Sizes.{nodes}
-use Rattle.formula_meaning.specs.Atom.{Mentions, Says}
-use Rattle.formula_meaning.specs.Tree.{Tree, Trees, TrueAt, IsFree}
+use Rattle.formula_meaning.specs.Tree.{Tree, TrueAt, IsFree}
 use Rattle.elimination_theory.specs.Answers.{Step}
 use Rattle.atom_normal.specs.NormalForm.{IsNormal}
-use Rattle.elimination_reference.specs.Measured.{Outcome, stopped, done, then_of, Gives, pay}
+use Rattle.formula_meaning.specs.Measured.{Outcome, stopped, done, then_of, Gives, pay}
 use Rattle.elimination_reference.specs.Reference.{Branch, branch_trees, normal_tree, leading_branches}
 use Rattle.elimination_reference.specs.Cases.{case_sign, case_formula, case_matrix, case_names}
-use Rattle.elimination_reference.specs.Sample.{if_true, first_true}
-use Rattle.elimination_reference.specs.Theorems.{IsTidy}
+use Rattle.elimination_reference.specs.Sample.{first_true}
 use Rattle.elimination_reference.proofs.Always.{gives_both, always_then, always_pay}
-use Rattle.elimination_reference.proofs.Branches.{IsBranch, AreBranches}
+use Rattle.elimination_reference.proofs.Branches.{AreBranches}
 use Rattle.elimination_reference.proofs.CasesExact.{free}
-use Rattle.elimination_reference.proofs.Sample.{has_name}
+use Rattle.elimination_reference.proofs.Sample.{Chosen, found}
 use Rattle.elimination_reference.proofs.Sound.{leading_are}
 use Rattle.sample_reference.specs.Values.{Value, origin}
 use Rattle.sample_reference.specs.Calculated.{values_from}
@@ -28,35 +23,6 @@ use Rattle.sample_reference.specs.Theorems.{ClosedSampleIsTrue}
 use Rattle.sample_reference.proofs.Tracing.{FromOne, branches_from}
 use Rattle.sample_reference.proofs.Chain.{AreFound, values_true, origin_of}
 use Rattle.sample_reference.proofs.Sound.{IsChosen, first_chosen, gives_values}
-
--- ---- the first true branch
-
-module _ (c : Context) (p : Point ℕ) where
-  -- where steps are found a branch is true, else none is
-  abbrev IsFound : Trees → Option (List Step) → Type 0
-  IsFound ts None = ¬ (SomeTrue Says (move nat_eq) c ts p)
-  IsFound ts (Some steps) = SomeTrue Says (move nat_eq) c ts p
-
-  one_more : (f : Tree) (ts : Trees) (o : Option (List Step)) → ¬ (TrueAt c f p) → IsFound ts o → IsFound (also f ts) o
-  one_more f ts None n h = ⊎_elim n h
-  one_more f ts (Some steps) n h = inr h
-
-  before : (f : Tree) (steps : List Step) (ts : Trees) (o : Option (List Step)) → IsTidy c f → ((y : ℕ) → ¬ (IsFree f y)) → IsFound ts o → IsFound (also f ts) (if_true f steps o)
-  before Yes steps ts o tidy n h = inl tt
-  before No steps ts o tidy n h = one_more No ts o (λ t. t) h
-  before (One a) steps ts o tidy n h = let i = has_name c (One a) tidy.is_plain tidy.normal tidy.two_members tt in absurd (n i.0 i.1)
-  before (And fs) steps ts o tidy n h = let i = has_name c (And fs) tidy.is_plain tidy.normal tidy.two_members tt in absurd (n i.0 i.1)
-  before (Or fs) steps ts o tidy n h = let i = has_name c (Or fs) tidy.is_plain tidy.normal tidy.two_members tt in absurd (n i.0 i.1)
-  before (Not f) steps ts o tidy n h = absurd tidy.is_plain
-  before (Impl f g) steps ts o tidy n h = absurd tidy.is_plain
-  before (Repl f g) steps ts o tidy n h = absurd tidy.is_plain
-  before (Equiv f g) steps ts o tidy n h = absurd tidy.is_plain
-  before (Ex x f) steps ts o tidy n h = absurd tidy.is_plain
-  before (All x f) steps ts o tidy n h = absurd tidy.is_plain
-
-  found : (matrix : Tree) (names : List ℕ) (bs : List Branch) → EachOf (IsBranch c matrix names) bs → ((y : ℕ) → ¬ (FreeInSome Mentions (branch_trees bs) y)) → IsFound (branch_trees bs) (first_true bs)
-  found matrix names [] h n = λ t. t
-  found matrix names (b ∷ bs) h n = before b.tree b.steps (branch_trees bs) (first_true bs) h.0.tidy (λ y t. n y (inl t)) (found matrix names bs h.1 (λ y t. n y (inr t)))
 
 -- ---- the sample
 
@@ -77,13 +43,13 @@ module _ (c : Context) (limit : ℕ) (f : Tree) (n : Every (IsNormal c) f) (clos
 
   sample_of_branches : (bs : List Branch) (cost : ℕ) → AreTraced bs → Gives (λ r. IsTrueSample c f origin r.0) (sampled c cost (first_true bs))
   sample_of_branches bs cost h =
-      go (first_true bs) refl (found c origin (case_matrix f) (case_names f) bs h.0.each (λ y t. closed y (free c f (case_sign (normal_tree f)) y (h.0.free y t))))
+      go (first_true bs) refl (found c (case_matrix f) (case_names f) origin bs h.0.each (λ y t. closed y (free c f (case_sign (normal_tree f)) y (h.0.free y t))))
     where
-      go : (o : Option (List Step)) → first_true bs ≡ o → IsFound c origin (branch_trees bs) o → Gives (λ (r : Option (List Value) × ℕ). IsTrueSample c f origin r.0) (sampled c cost o)
+      go : (o : Option (List Step)) → first_true bs ≡ o → Chosen c (case_matrix f) (case_names f) origin (branch_trees bs) o → Gives (λ (r : Option (List Value) × ℕ). IsTrueSample c f origin r.0) (sampled c cost o)
       go None e k = λ t. k ((h.0.equivalent origin (origin_of c)).0 t)
       go (Some steps) e k =
           gives_values c cost steps (IsTrueSample c f origin) (λ values v.
-          values_are steps values ((h.0.equivalent origin (origin_of c)).1 k) (first_chosen c (case_matrix f) (case_names f) h.1.0 bs steps h.0.each h.1.1 e) v)
+          values_are steps values ((h.0.equivalent origin (origin_of c)).1 k.1) (first_chosen c (case_matrix f) (case_names f) h.1.0 bs steps h.0.each h.1.1 e) v)
 
 pub closed_sample_true : (c : Context) → ClosedSampleIsTrue c
 closed_sample_true c limit f n closed = go (leading_branches c limit (case_sign (normal_tree f)) f 0) (both_are c limit f n closed)

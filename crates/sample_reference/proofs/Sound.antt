@@ -6,15 +6,16 @@ use Rattle.formula_meaning.specs.Formula.{Yes, No, One, Not, And, Or, Impl, Repl
 use Rattle.formula_meaning.specs.Every.{Every}
 use Rattle.formula_meaning.specs.Some.{EachOf}
 use Rattle.formula_meaning.specs.Sizes.{nodes}
-use Rattle.formula_meaning.specs.Shape.{IsAtomic, IsNegationNormal, Quantifier, Exists, ForAll, is_in, matrix_of, block_of}
-use Rattle.formula_meaning.specs.NegationNormal.{normal_form_of_not}
+use Rattle.formula_meaning.specs.Shape.{IsNegationNormal, is_in, matrix_of, block_of}
+use Rattle.formula_meaning.specs.declared.quantifier.Quantifier.{Quantifier}
+use Rattle.formula_meaning.specs.declared.quantifier.Quantifier.TheVariants.{Exists, ForAll}
 use Rattle.formula_meaning.specs.Tree.{Tree, TrueAt, InContext, IsFree}
 use Rattle.formula_meaning.proofs.FreeNames.{differ_names}
 use Rattle.formula_meaning.proofs.NormalShape.{normal_form_shape}
 use Rattle.elimination_theory.specs.Answers.{Step, Lead}
 use Rattle.atom_normal.specs.NormalForm.{IsNormal, normal_atom, negated_normal}
 use Rattle.atom_normal.proofs.NormalLaws.{normal_atomic}
-use Rattle.elimination_reference.specs.Measured.{Outcome, stopped, done, then_of, Gives, pay, within}
+use Rattle.formula_meaning.specs.Measured.{Outcome, stopped, done, then_of, Gives, pay, within}
 use Rattle.elimination_reference.specs.Reference.{Branch, normal_tree, turned, branches}
 use Rattle.elimination_reference.specs.Cases.{case_sign, case_formula, case_names}
 use Rattle.elimination_reference.specs.PutIn.{atom_put, tree_put, tree_put_within, put_in}
@@ -23,7 +24,7 @@ use Rattle.elimination_reference.specs.Theorems.{IsChoice}
 use Rattle.elimination_reference.proofs.Always.{gives_both, always_then, always_pay, always_within}
 use Rattle.elimination_reference.proofs.Branches.{step_names, IsBranch}
 use Rattle.elimination_reference.proofs.PutIn.{turn_equal, putting_in_exact}
-use Rattle.elimination_reference.proofs.PutMatrix.{put_shape, matrix_same}
+use Rattle.elimination_reference.proofs.PutMatrix.{put_shape, atomic_block, block_turned, matrix_same}
 use Rattle.elimination_reference.proofs.Sample.{samples_exact}
 use Rattle.elimination_reference.proofs.Sound.{Good, branches_are}
 use Rattle.elimination_reference.proofs.Turning.{normal_inside, normal_tree_inside, turned_brings}
@@ -37,32 +38,6 @@ use Rattle.sample_reference.proofs.Tracing.{FromOne, branches_from, lower_steps}
 use Rattle.sample_reference.proofs.Chain.{AreFound, values_true, values_anywhere, others_stay}
 
 -- ---- the leading block
-
-atomic_block : (f : Tree) (k : Quantifier) (chain : List ℕ) → IsAtomic f → block_of nat_eq f k chain ≡ []
-atomic_block Yes k chain h = refl
-atomic_block No k chain h = refl
-atomic_block (One a) k chain h = refl
-atomic_block (Not f) k chain h = absurd h
-atomic_block (And fs) k chain h = absurd h
-atomic_block (Or fs) k chain h = absurd h
-atomic_block (Impl f g) k chain h = absurd h
-atomic_block (Repl f g) k chain h = absurd h
-atomic_block (Equiv f g) k chain h = absurd h
-atomic_block (Ex x f) k chain h = absurd h
-atomic_block (All x f) k chain h = absurd h
-
-block_turned : (f : Tree) (chain : List ℕ) → IsNegationNormal f → block_of nat_eq (normal_form_of_not negated_normal f) Exists chain ≡ block_of nat_eq f ForAll chain
-block_turned Yes chain h = refl
-block_turned No chain h = refl
-block_turned (One a) chain h = refl
-block_turned (Not f) chain h = absurd h
-block_turned (And fs) chain h = refl
-block_turned (Or fs) chain h = refl
-block_turned (Impl f g) chain h = absurd h
-block_turned (Repl f g) chain h = absurd h
-block_turned (Equiv f g) chain h = absurd h
-block_turned (Ex x f) chain h = refl
-block_turned (All x f) chain h = ap (λ ns. if is_in nat_eq x chain then [] else x ∷ ns) (block_turned f (x ∷ chain) h)
 
 -- a point put in keeps the block
 block_put : (c : Context) (p : Point ℕ) (k : Quantifier) (names chain : List ℕ) (f : Tree) → block_of nat_eq (tree_put c p names f) k chain ≡ block_of nat_eq f k chain

@@ -12,15 +12,16 @@ use Rattle.formula_meaning.specs.Answer.{Place, same_place}
 use Rattle.formula_meaning.specs.Tree.{Tree}
 use Rattle.elimination_theory.specs.Answers.{Step, zero_place}
 use Rattle.elimination_theory.specs.Atoms.{atoms_in, atoms_of}
-use Rattle.elimination_theory.specs.Side.{Lower}
+use Rattle.elimination_theory.specs.declared.side.Side.TheVariants.{Lower}
 use Rattle.elimination_theory.specs.BothTheories.{test_points}
 use Rattle.elimination_theory.specs.FieldsPoints.{ends_of, comparison_points, atom_points, infinity_of}
 use Rattle.elimination_theory.specs.IntegersPoints.{counted, class_points, next_points, points_with, scale_of, own_span, atom_starts}
 use Rattle.elimination_theory.specs.Steps.{Result, kept, results, result_at, step}
 use Rattle.elimination_theory.proofs.SomeListed.{each_append, each_distinct, each_mapped, each_flat_map}
 use Rattle.atom_normal.specs.NormalForm.{normal_atom, negated_normal}
-use Rattle.elimination_reference.specs.Limits.{each, place_within, atom_within, span_within, step_within}
-use Rattle.elimination_reference.specs.Measured.{Outcome, stopped, done, Gives, Counted, ◌>>=◌, give, pay, within}
+use Rattle.formula_meaning.specs.Limits.{each, place_within}
+use Rattle.elimination_reference.specs.Limits.{atom_within, span_within, step_within}
+use Rattle.formula_meaning.specs.Measured.{Outcome, stopped, done, Gives, Counted, ◌>>=◌, give, pay, within}
 use Rattle.elimination_reference.specs.Reference.{Branch, stands_among, kept_at_zero, next_branch, alone, together, turned, point_count, full_step, one_step, steps, closed, branches, members}
 use Rattle.elimination_reference.proofs.Always.{Always, always_then, always_map, always_give, always_pay, always_within}
 use Rattle.sample_reference.specs.Traced.{IsLower, Leaves, Trace, IsTraced}

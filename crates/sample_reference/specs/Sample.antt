@@ -5,7 +5,7 @@ use Rattle.formula_meaning.specs.Point.{Point}
 use Rattle.formula_meaning.specs.Some.{EachOf}
 use Rattle.formula_meaning.specs.Tree.{Tree, TrueAt}
 use Rattle.elimination_theory.specs.Answers.{Step}
-use Rattle.elimination_reference.specs.Measured.{Outcome, stopped, done, then_of, Overflow}
+use Rattle.formula_meaning.specs.Measured.{Outcome, stopped, done, then_of, Overflow}
 use Rattle.elimination_reference.specs.Reference.{normal_tree, leading_branches}
 use Rattle.elimination_reference.specs.Cases.{case_sign, case_formula, case_matrix, case_names}
 use Rattle.elimination_reference.specs.Sample.{first_true, chosen_steps}

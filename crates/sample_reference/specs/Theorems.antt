@@ -5,7 +5,7 @@ use Rattle.formula_meaning.specs.Every.{Every}
 use Rattle.formula_meaning.specs.Point.{Point, Of}
 use Rattle.formula_meaning.specs.Tree.{Tree, IsFree}
 use Rattle.atom_normal.specs.NormalForm.{IsNormal}
-use Rattle.elimination_reference.specs.Measured.{Gives}
+use Rattle.formula_meaning.specs.Measured.{Gives}
 use Rattle.sample_reference.specs.Values.{origin}
 use Rattle.sample_reference.specs.Sample.{closed_sample, reference_sample, IsTrueSample}
 

@@ -5,7 +5,7 @@ use Rattle.exact_numbers.specs.Divides.{lcm_of}
 use Rattle.exact_numbers.specs.Frac.{Frac, IsProper, IsLowest, scaled, ◌>>=◌}
 use Rattle.formula_meaning.specs.Context.{Context, Fields, Integers}
 use Rattle.formula_meaning.specs.Point.{Point, move}
-use Rattle.elimination_reference.specs.Limits.{each, is_within}
+use Rattle.formula_meaning.specs.Limits.{each, is_within}
 
 -- a name and its value
 pub record Value : Type 0 where

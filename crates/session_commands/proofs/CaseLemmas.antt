@@ -10,7 +10,8 @@ use Rattle.formula_meaning.specs.Every.{Every, EveryBound, FreeInSome}
 use Rattle.formula_meaning.specs.Form.{Form, coefficient}
 use Rattle.formula_meaning.specs.Formula.{Or, Ex}
 use Rattle.formula_meaning.specs.Point.{Point, Of}
-use Rattle.formula_meaning.specs.Shape.{Exists, block_of, is_in}
+use Rattle.formula_meaning.specs.Shape.{block_of, is_in}
+use Rattle.formula_meaning.specs.declared.quantifier.Quantifier.TheVariants.{Exists}
 use Rattle.formula_meaning.specs.Sizes.{nodes}
 use Rattle.formula_meaning.specs.Some.{EachOf}
 use Rattle.formula_meaning.specs.Tree.{Tree, IsFree, TrueAt}
@@ -18,13 +19,13 @@ use Rattle.atom_normal.specs.NormalForm.{IsNormal, negated_normal}
 use Rattle.linear_forms.specs.Terms.{IsLinear}
 use Rattle.elimination_theory.proofs.Becoming.{becomes_itself}
 use Rattle.elimination_reference.specs.Cases.{Case, case_sign, case_formula, case_names, cases_of, reference_cases}
-use Rattle.elimination_reference.specs.Measured.{Outcome, done, then_of, pay, Gives}
+use Rattle.formula_meaning.specs.Measured.{Outcome, done, then_of, pay, Gives}
 use Rattle.elimination_reference.specs.Reference.{normal_tree, turned, branches}
 use Rattle.elimination_reference.specs.Theorems.{IsTidy, IsExactCase, AreExactCases, Says as SaysOf, guards_of, answer_names}
 use Rattle.elimination_reference.proofs.CasesExact.{cases_exact}
 use Rattle.elimination_reference.proofs.Tidy.{tidy_in}
-use Rattle.case_answers.specs.Over.{AreOver}
-use Rattle.case_answers.proofs.Over.{cases_over}
+use Rattle.elimination_reference.specs.Over.{AreOver}
+use Rattle.elimination_reference.proofs.Over.{cases_over}
 use Rattle.test_points.specs.declared.points.Place.{Place}
 use Rattle.test_points.specs.declared.points.Place.TheVariants as place
 use Rattle.test_points.specs.declared.points.TestPoint.{TestPoint}
@@ -37,7 +38,7 @@ use Rattle.plain_cases.specs.Case.{case_seen, HavePoints}
 use Rattle.shared_elimination.proofs.FormAgain.{normal_tree_again}
 use Rattle.simplified_formulas.specs.Orderly.{IsOrderly}
 use Rattle.redlog_printer.specs.Text.{tree_text}
-use Rattle.redlog_printer.specs.Within.{IsAtomWithin}
+use Rattle.formula_meaning.specs.Within.{IsAtomWithin}
 use Rattle.answer_texts.specs.Answers.{separated, answer_texts, case_text, cases_text}
 use Rattle.answer_texts.specs.Within.{IsPlaceWithin, AreAnswersWithin, AreCasesWithin}
 use Rattle.session_commands.specs.declared.line.StatementError.{StatementError}

@@ -15,7 +15,7 @@ use Rattle.atom_normal.specs.NormalForm.{IsNormal}
 use Rattle.atom_normal.proofs.Stepped.{ok_map}
 use Rattle.elimination_reference.specs.Cases.{Case, case_sign, case_matrix}
 use Rattle.elimination_reference.specs.Theorems.{answer_names, guards_of}
-use Rattle.case_answers.specs.Over.{AreOver}
+use Rattle.elimination_reference.specs.Over.{AreOver}
 use Rattle.plain_cases.specs.declared.cases.PlainCase.{PlainCase}
 use Rattle.plain_cases.specs.Case.{case_seen, HavePoints}
 use Rattle.qe_syntax.specs.Proper.{IsProperFormula, AreProperFormulas}
@@ -27,7 +27,7 @@ use Rattle.formula_tree.specs.Names.{with_name}
 use Rattle.formula_tree.specs.Resolving.{formula_variables, all_variables, resolve, at_names, bound_truth}
 use Rattle.formula_tree.proofs.PlaceLaws.{after_distinct}
 use Rattle.formula_resolving.specs.Numbering.{Grows}
-use Rattle.redlog_printer.specs.Within.{IsAtomWithin}
+use Rattle.formula_meaning.specs.Within.{IsAtomWithin}
 use Rattle.answer_texts.specs.Answers.{cases_text}
 use Rattle.answer_texts.specs.Within.{AreCasesWithin}
 use Rattle.session_commands.specs.declared.line.Line.{Line}

@@ -20,8 +20,8 @@ use Rattle.simplified_formulas.specs.Reduced as orderly
 use Rattle.simplified_formulas.specs.AtomKit.{atom_kit}
 use Rattle.simplified_formulas.specs.Trees.{simplified_under}
 use Rattle.simplified_formulas.proofs.Bound.{simplified_bound, free_bound, orderly_free}
-use Rattle.redlog_printer.specs.Within.{IsAtomWithin}
-use Rattle.redlog_printer.specs.Bound.{HasTwoMembers, HaveTwoMembers, AreTwo}
+use Rattle.formula_meaning.specs.Within.{IsAtomWithin}
+use Rattle.formula_meaning.specs.Members.{HasTwoMembers, HaveTwoMembers, AreTwo}
 use Rattle.clean_forms.specs.Clean.{IsCleanForm}
 use Rattle.clean_forms.specs.Laws.{IsNoLonger}
 use Rattle.clean_forms.specs.Plain.{plain_form}
@@ -35,7 +35,7 @@ use Rattle.formula_tree.specs.declared.error.FormError.{FormError}
 use Rattle.session_commands.specs.declared.line.StatementError.{StatementError}
 use Rattle.std.specs.Prelude.{Result, Ok, Err, IfOk}
 use Rattle.session_commands.specs.Keeping.{IsSessionFormula}
-use Rattle.formula_meaning.specs.Fold.{Junction}
+use Rattle.formula_meaning.specs.declared.junction.Junction.{Junction}
 use Rattle.session_commands.specs.Steps.{IsSimplifiedAs, IsCleanedAs}
 use Rattle.session_commands.proofs.SoundLemmas.{atom_within, atom_mentions, members_of_negation}
 

@@ -43,7 +43,8 @@ use Rattle.session_commands.specs.declared.formulas.Way.TheVariants as way
 use Rattle.formula_resolving.specs.declared.error.StaticError.{StaticError}
 use Rattle.formula_resolving.specs.declared.error.StaticError.TheVariants as static
 use Rattle.formula_resolving.specs.Refusals.{rank as static_rank}
-use Rattle.formula_meaning.specs.Fold.{Junction, Conjunction, Disjunction}
+use Rattle.formula_meaning.specs.declared.junction.Junction.{Junction}
+use Rattle.formula_meaning.specs.declared.junction.Junction.TheVariants.{Conjunction, Disjunction}
 use Rattle.clean_forms.specs.Plain.{plain_form}
 use Rattle.session_commands.specs.Commands.{IsCleanAnswer}
 use Rattle.session_commands.specs.Steps.{static_refusal, HasUnwantedQuantifier, IsReady, IsUnready, IsCleanedAs, AppliesToPart, given_trees, command_of, use_of, IsGiven, HasNumbers, IsReadable, ArePartsNumbered, ArePartsReadable, ArePartsUnread, IsWantedForm, IsPrenexAs, IsSimplifiedAs, PrenexFault, FormFault, MayBind, TargetFault, LineFault, state_with}

@@ -4,13 +4,15 @@ use Rattle.formula_meaning.specs.Context.{Context}
 use Rattle.formula_meaning.specs.Formula.{Formula, Formulas, Yes, No, One, Not, And, Or, Impl, Repl, Equiv, Ex, All}
 use Rattle.formula_meaning.specs.Formula as plain
 use Rattle.formula_meaning.specs.NegationNormal.{normal_form}
-use Rattle.formula_meaning.specs.Shape.{Quantifier, Exists, ForAll, IsAtomic}
+use Rattle.formula_meaning.specs.Shape.{IsAtomic}
+use Rattle.formula_meaning.specs.declared.quantifier.Quantifier.{Quantifier}
+use Rattle.formula_meaning.specs.declared.quantifier.Quantifier.TheVariants.{Exists, ForAll}
 use Rattle.formula_meaning.specs.Tree.{Tree, Trees}
 use Rattle.formula_meaning.proofs.EachAtom.{every_all}
 use Rattle.atom_normal.specs.NormalForm.{normal_atom, negated_normal}
 use Rattle.atom_normal.proofs.NormalLaws.{normal_atomic}
-use Rattle.redlog_printer.specs.Bound.{HasTwoMembers, HaveTwoMembers, AreTwo}
-use Rattle.redlog_printer.specs.Within.{IsTreeWithin}
+use Rattle.formula_meaning.specs.Members.{HasTwoMembers, HaveTwoMembers, AreTwo}
+use Rattle.formula_meaning.specs.Within.{IsTreeWithin}
 use Rattle.prenex_theory.specs.Blocks.{other_kind, blocks, matrix, matrices}
 use Rattle.prenex_theory.specs.Front.{block, prefixed, first_kind, in_front}
 use Rattle.prenex_theory.specs.Prenex.{prenex_of}

@@ -7,14 +7,15 @@ use Rattle.std.specs.declared.alloc.Global.{Global}
 use Rattle.exact_numbers.specs.declared.fraction.Fraction.{Fraction}
 use Rattle.formula_meaning.specs.Context.{Context}
 use Rattle.formula_meaning.specs.Point.{Point}
-use Rattle.formula_meaning.specs.Shape.{Exists, block_of, matrix_of}
+use Rattle.formula_meaning.specs.Shape.{block_of, matrix_of}
+use Rattle.formula_meaning.specs.declared.quantifier.Quantifier.TheVariants.{Exists}
 use Rattle.formula_meaning.specs.Sizes.{nodes, height}
 use Rattle.formula_meaning.specs.Tree.{Tree, TrueAt}
 use Rattle.atom_normal.specs.Atoms.{context_of}
 use Rattle.atom_normal.proofs.Stepped.{ok_map}
 use Rattle.elimination_theory.specs.Answers.{Step}
 use Rattle.elimination_reference.specs.Cases.{case_sign}
-use Rattle.elimination_reference.specs.Measured.{Outcome, pay, within, then_of, done}
+use Rattle.formula_meaning.specs.Measured.{Outcome, pay, within, then_of, done}
 use Rattle.elimination_reference.specs.PutIn.{tree_put, tree_put_within}
 use Rattle.elimination_reference.specs.Reference.{normal_tree, turned, branches}
 use Rattle.elimination_reference.specs.Sample.{first_true}

@@ -15,7 +15,8 @@ use Rattle.formula_meaning.specs.Context.{Context}
 use Rattle.formula_meaning.specs.Formula.{Formula, Yes, No, One, Not, And, Or, Impl, Repl, Equiv, Ex, All}
 use Rattle.formula_meaning.specs.NegationNormal.{normal_form, normal_form_of_not}
 use Rattle.formula_meaning.specs.Point.{Point}
-use Rattle.formula_meaning.specs.Shape.{Exists, block_of, is_in}
+use Rattle.formula_meaning.specs.Shape.{block_of, is_in}
+use Rattle.formula_meaning.specs.declared.quantifier.Quantifier.TheVariants.{Exists}
 use Rattle.formula_meaning.specs.Sizes.{height}
 use Rattle.formula_meaning.specs.Tree.{Tree}
 use Rattle.atom_normal.specs.NormalForm.{negated_normal}

@@ -33,8 +33,8 @@ use Rattle.formula_tree.specs.Causes.{IsAccepted as IsResolvable}
 use Rattle.formula_tree.proofs.Nowhere.{every_both, quantified_have}
 use Rattle.formula_tree.proofs.ResolvedTruth.{IsPlain, all_plain, is_normal}
 use Rattle.formula_tree.proofs.ResolvedNames.{atom_named}
-use Rattle.redlog_printer.specs.Within.{IsAtomWithin, AreTermsWithin}
-use Rattle.redlog_printer.specs.Bound.{HasTwoMembers, HaveTwoMembers, AreTwo}
+use Rattle.formula_meaning.specs.Within.{IsAtomWithin, AreTermsWithin}
+use Rattle.formula_meaning.specs.Members.{HasTwoMembers, HaveTwoMembers, AreTwo}
 use Rattle.prenex_forms.proofs.Finished.{bound_normal_form}
 use Rattle.session_commands.specs.Keeping.{IsSessionFormula}
 use Rattle.session_commands.proofs.NameLemmas.{place_below, variables_in_names}

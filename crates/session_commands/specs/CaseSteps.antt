@@ -5,7 +5,7 @@ use Rattle.formula_meaning.specs.Atom.{Atom}
 use Rattle.formula_meaning.specs.Formula.{No}
 use Rattle.formula_meaning.specs.Tree.{Tree}
 use Rattle.elimination_reference.specs.Cases.{Case, reference_cases}
-use Rattle.elimination_reference.specs.Measured.{Overflow, Nodes, done, stopped}
+use Rattle.formula_meaning.specs.Measured.{Overflow, Nodes, done, stopped}
 use Rattle.session_commands.specs.declared.line.StatementError.{StatementError}
 use Rattle.session_commands.specs.declared.line.StatementError.TheVariants as error
 use Rattle.session_commands.specs.Steps.{IsSimplifiedAs}

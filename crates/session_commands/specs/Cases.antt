@@ -10,11 +10,11 @@ use Rattle.formula_meaning.specs.Tree.{IsFree, TrueAt}
 use Rattle.atom_normal.specs.NormalForm.{IsNormal}
 use Rattle.elimination_reference.specs.Cases.{Case, case_sign, case_matrix, case_names}
 use Rattle.elimination_reference.specs.Theorems.{guards_of, answer_names}
-use Rattle.case_answers.specs.Over.{AreOver}
+use Rattle.elimination_reference.specs.Over.{AreOver}
 use Rattle.qe_syntax.specs.Trees.{FormulaTree, FormulaTrees}
 use Rattle.qe_syntax.specs.Value as written
 use Rattle.formula_tree.specs.Resolving.{resolve, at_names, bound_truth}
-use Rattle.redlog_printer.specs.Bound.{HasTwoMembers}
+use Rattle.formula_meaning.specs.Members.{HasTwoMembers}
 use Rattle.simplified_formulas.specs.Trees.{IsReduced}
 use Rattle.session_commands.specs.State.{State}
 use Rattle.session_commands.specs.Assumptions.{Hold, assumed}

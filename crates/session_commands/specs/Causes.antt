@@ -1,12 +1,12 @@
 -- Why a command is refused: each cause on its own, over the whole statement, and their order. The state is one in which the
 -- variables of the command have their numbers.
 use Rattle.std.specs.Prelude.{◌≡◌, ◌⊎◌, ◌*◌, ℕ, ◌<◌, ◌≤◌, List, ◌++◌, Bool, true, Option, Some, None, length, codes}
-use Rattle.formula_meaning.specs.Fold.{Conjunction, Disjunction}
+use Rattle.formula_meaning.specs.declared.junction.Junction.TheVariants.{Conjunction, Disjunction}
 use Rattle.formula_meaning.specs.Some.{SomeOf}
 use Rattle.formula_meaning.specs.Sizes.{nodes}
 use Rattle.formula_meaning.specs.Tree.{Tree, tree_distinct}
 use Rattle.elimination_reference.specs.Cases.{Case, reference_cases}
-use Rattle.elimination_reference.specs.Measured.{Stop, Overflow, Nodes, done, stopped}
+use Rattle.formula_meaning.specs.Measured.{Stop, Overflow, Nodes, done, stopped}
 use Rattle.elimination_reference.specs.Reference.{reference}
 use Rattle.elimination_reference.specs.Sample.{reference_at}
 use Rattle.sample_reference.specs.Sample.{reference_sample}

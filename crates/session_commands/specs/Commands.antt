@@ -1,7 +1,8 @@
 -- The parts of a command, and the formula that it gives.
 use Rattle.std.specs.Prelude.{◌≡◌, ◌↔◌, ◌≤◌, ℕ, List, [], ◌++◌, map, length}
 use Rattle.std.specs.List.{AllByRecursion, fold}
-use Rattle.formula_meaning.specs.Fold.{Junction, Conjunction, Disjunction}
+use Rattle.formula_meaning.specs.declared.junction.Junction.{Junction}
+use Rattle.formula_meaning.specs.declared.junction.Junction.TheVariants.{Conjunction, Disjunction}
 use Rattle.formula_meaning.specs.NegationNormal.{normal_form}
 use Rattle.formula_meaning.specs.Point.{Of}
 use Rattle.formula_meaning.specs.Every.{Every, EveryBound}
@@ -21,7 +22,7 @@ use Rattle.qe_syntax.specs.Value as written
 use Rattle.qe_syntax.specs.Statements.{CommandTree, Echo, Nnf, Pnf, Dnf, Cnf, Simpl, Qe, Qea, Holds, Sample, ActionTree, Assign}
 use Rattle.formula_tree.specs.Names.{with_name}
 use Rattle.formula_tree.specs.Resolving.{formula_variables, all_variables, resolve, at_names, bound_truth}
-use Rattle.redlog_printer.specs.Bound.{HasTwoMembers}
+use Rattle.formula_meaning.specs.Members.{HasTwoMembers}
 use Rattle.redlog_printer.specs.Text.{tree_text}
 use Rattle.clean_forms.specs.Clean.{IsCleanForm}
 use Rattle.clean_forms.specs.Plain.{plain_form}

@@ -13,8 +13,8 @@ use Rattle.formula_tree.specs.Bindings.{bound_to}
 use Rattle.formula_resolving.specs.Refusals.{AreIds, trees_bound}
 use Rattle.formula_store.specs.declared.id.FormulaId.{FormulaId}
 use Rattle.formula_store.specs.Nodes.{tree, IsId}
-use Rattle.redlog_printer.specs.Within.{IsTreeWithin}
-use Rattle.redlog_printer.specs.Bound.{HasTwoMembers}
+use Rattle.formula_meaning.specs.Within.{IsTreeWithin}
+use Rattle.formula_meaning.specs.Members.{HasTwoMembers}
 use Rattle.session_commands.specs.declared.desk.Desk.{Desk}
 use Rattle.session_commands.specs.State.{State}
 

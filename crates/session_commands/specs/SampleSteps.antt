@@ -3,7 +3,7 @@ use Rattle.std.specs.Prelude.{◌≡◌, ◌≤◌, ℕ, List, Bool, Option, Som
 use Rattle.formula_meaning.specs.Context.{Context}
 use Rattle.formula_meaning.specs.Point.{Point}
 use Rattle.formula_meaning.specs.Tree.{Tree}
-use Rattle.elimination_reference.specs.Measured.{Overflow, Nodes, stopped}
+use Rattle.formula_meaning.specs.Measured.{Overflow, Nodes, stopped}
 use Rattle.sample_reference.specs.Sample.{reference_sample}
 use Rattle.sample_reference.specs.Values.{Value}
 use Rattle.answer_texts.specs.Within.{AreValuesWithin}

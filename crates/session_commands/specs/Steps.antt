@@ -7,7 +7,8 @@ use Rattle.formula_meaning.specs.Every.{Every, EveryBound}
 use Rattle.formula_meaning.specs.Shape.{IsQuantifierFree}
 use Rattle.formula_meaning.specs.Some.{SomeOf, EachOf}
 use Rattle.formula_meaning.specs.Atom.{Atom}
-use Rattle.formula_meaning.specs.Fold.{Junction, Conjunction, Disjunction}
+use Rattle.formula_meaning.specs.declared.junction.Junction.{Junction}
+use Rattle.formula_meaning.specs.declared.junction.Junction.TheVariants.{Conjunction, Disjunction}
 use Rattle.formula_meaning.specs.Tree.{Tree, IsFree, Equivalent, tree_distinct}
 use Rattle.clean_forms.specs.Clean.{IsCleanForm}
 use Rattle.clean_forms.specs.Laws.{IsNoLonger}
@@ -15,7 +16,7 @@ use Rattle.clean_forms.specs.Plain.{plain_form, literals}
 use Rattle.simplified_formulas.specs.Measure.{size, atom_measure}
 use Rattle.simplified_formulas.specs.Orderly.{IsOrderly}
 use Rattle.simplified_formulas.specs.Trees.{IsReduced, EquivalentUnder}
-use Rattle.elimination_reference.specs.Measured.{Overflow, Nodes, done, stopped}
+use Rattle.formula_meaning.specs.Measured.{Overflow, Nodes, done, stopped}
 use Rattle.elimination_reference.specs.Reference.{reference}
 use Rattle.elimination_reference.specs.Theorems.{IsAnswerTo}
 use Rattle.formula_meaning.specs.NegationNormal.{normal_form}
@@ -43,7 +44,7 @@ use Rattle.plain_engine.specs.declared.measured.Measured.TheVariants as measured
 use Rattle.redlog_printer.specs.declared.error.PrintError.{PrintError}
 use Rattle.redlog_printer.specs.declared.error.PrintError.TheVariants as print
 use Rattle.redlog_printer.specs.Text.{tree_text}
-use Rattle.redlog_printer.specs.Within.{IsAtomWithin}
+use Rattle.formula_meaning.specs.Within.{IsAtomWithin}
 use Rattle.redlog_printer.specs.Writing.{text_limit}
 use Rattle.session_commands.specs.declared.line.Line.{Line}
 use Rattle.session_commands.specs.declared.line.StatementError.{StatementError}

@@ -1,9 +1,9 @@
 -- The text of a formula in parts: the quantifiers that it begins with, what stands behind them, and the brackets that close them.
 use Rattle.std.specs.Prelude.{◌≡◌, ℕ, ◌<◌, List, ◌++◌, length, codes, replicate}
 use Rattle.formula_meaning.specs.Tree.{Tree}
-use Rattle.redlog_printer.specs.Bound.{HasTwoMembers}
+use Rattle.formula_meaning.specs.Members.{HasTwoMembers}
 use Rattle.redlog_printer.specs.Text.{name_at, tree_text}
-use Rattle.redlog_printer.specs.Within.{IsTreeWithin}
+use Rattle.formula_meaning.specs.Within.{IsTreeWithin}
 
 -- so many closing brackets
 abbrev pub brackets : ℕ → List ℕ

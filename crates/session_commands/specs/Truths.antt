@@ -3,7 +3,7 @@ use Rattle.std.specs.Prelude.{◌≡◌, ℕ, List, Bool, None}
 use Rattle.formula_meaning.specs.Context.{Context}
 use Rattle.formula_meaning.specs.Point.{Point}
 use Rattle.formula_meaning.specs.Tree.{Tree}
-use Rattle.elimination_reference.specs.Measured.{Overflow, Nodes, stopped}
+use Rattle.formula_meaning.specs.Measured.{Overflow, Nodes, stopped}
 use Rattle.elimination_reference.specs.Sample.{reference_at}
 use Rattle.qe_syntax.specs.declared.statement.PointEntry.{PointEntry}
 use Rattle.qe_syntax.specs.Statements.{Holds}

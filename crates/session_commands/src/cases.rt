@@ -9,7 +9,7 @@ ghost use Rattle.formula_meaning.specs.Some.{EachOf};
 ghost use Rattle.atom_normal.specs.Atoms.{context_of, atom_of, IsWellFormed};
 ghost use Rattle.atom_normal.specs.NormalForm.{IsNormal};
 ghost use Rattle.elimination_reference.specs.Cases.{Case, reference_cases};
-ghost use Rattle.elimination_reference.specs.Measured.{done};
+ghost use Rattle.formula_meaning.specs.Measured.{done};
 ghost use Rattle.test_points.specs.Points.{IsTestPoint};
 ghost use Rattle.nnf_trees.specs.Nnfs.{nnf_of, IsProper, HasModulus};
 ghost use Rattle.plain_cases.specs.Case.{case_seen, leaf_case, HavePoints};

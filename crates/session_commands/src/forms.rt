@@ -13,8 +13,8 @@ ghost use Rattle.atom_normal.specs.Atoms.{context_of, atom_of, IsWellFormed};
 ghost use Rattle.atom_normal.specs.NormalForm.{IsNormal, negated_normal};
 ghost use Rattle.simplified_formulas.specs.Orderly.{IsOrderly};
 ghost use Rattle.formula_store.specs.Nodes.{tree, IsId};
-ghost use Rattle.redlog_printer.specs.Bound.{HasTwoMembers};
-ghost use Rattle.redlog_printer.specs.Within.{IsTreeWithin};
+ghost use Rattle.formula_meaning.specs.Members.{HasTwoMembers};
+ghost use Rattle.formula_meaning.specs.Within.{IsTreeWithin};
 ghost use Rattle.session_commands.specs.Commands.{HasNewNames};
 ghost use Rattle.session_commands.specs.Steps.{KeepsDesk, GrowsDesk, IsWantedForm, HasFormNames, FormFault, IsPrenexAs, PrenexFault, IsDistributed, junction_of, IsCleanedAs, IsEliminatedAs, IsSimplifiedAs, IsWantedAnswer, EliminationFault, NegationFault, measured_refusal as refusal_of_measured};
 

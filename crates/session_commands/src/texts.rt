@@ -2,9 +2,9 @@
 
 ghost use Rattle.std.specs.Prelude.{◌≡◌, ◌⊎◌, ◌+◌, ◌<◌, ◌≤◌, ◌++◌, IsErrOf, IfOk, IfErr, IfSome, OnOk, length, codes};
 ghost use Rattle.formula_store.specs.Nodes.{tree, IsId};
-ghost use Rattle.redlog_printer.specs.Bound.{HasTwoMembers};
+ghost use Rattle.formula_meaning.specs.Members.{HasTwoMembers};
 ghost use Rattle.redlog_printer.specs.Text.{name_at, tree_text};
-ghost use Rattle.redlog_printer.specs.Within.{IsTreeWithin};
+ghost use Rattle.formula_meaning.specs.Within.{IsTreeWithin};
 ghost use Rattle.redlog_printer.specs.Writing.{text_limit};
 ghost use Rattle.session_commands.specs.Texts.{Begins, brackets, IsOpened};
 

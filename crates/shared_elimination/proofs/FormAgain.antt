@@ -6,7 +6,7 @@ use Rattle.formula_meaning.specs.Sizes.{nodes}
 use Rattle.formula_meaning.specs.Tree.{Tree}
 use Rattle.formula_meaning.proofs.NormalAgain.{normal_form_again}
 use Rattle.atom_normal.specs.NormalForm.{negated_normal}
-use Rattle.elimination_reference.specs.Measured.{Outcome, done, then_of, pay, within}
+use Rattle.formula_meaning.specs.Measured.{Outcome, done, then_of, pay, within}
 use Rattle.elimination_reference.specs.PutIn.{tree_put, tree_put_within}
 use Rattle.elimination_reference.specs.Sample.{reference_at}
 use Rattle.elimination_reference.specs.Reference.{branches, together, normal_tree, reference}

@@ -5,7 +5,7 @@ ghost use Rattle.formula_meaning.specs.Every.{Every};
 ghost use Rattle.formula_meaning.specs.Sizes.{nodes};
 ghost use Rattle.atom_normal.specs.Atoms.{context_of};
 ghost use Rattle.atom_normal.specs.NormalForm.{IsNormal};
-ghost use Rattle.elimination_reference.specs.Measured.{done, pay};
+ghost use Rattle.formula_meaning.specs.Measured.{done, pay};
 ghost use Rattle.elimination_reference.specs.Reference.{normal_tree, reference};
 ghost use Rattle.elimination_reference.specs.Theorems.{IsAnswerTo};
 ghost use Rattle.formula_tree.specs.Makers.{Keeps};

@@ -7,7 +7,7 @@ ghost use Rattle.formula_meaning.specs.Tree.{TrueAt};
 ghost use Rattle.linear_forms.specs.Values.{point_of};
 ghost use Rattle.atom_normal.specs.Atoms.{context_of};
 ghost use Rattle.atom_normal.specs.NormalForm.{IsNormal, constant_tree};
-ghost use Rattle.elimination_reference.specs.Measured.{done};
+ghost use Rattle.formula_meaning.specs.Measured.{done};
 ghost use Rattle.elimination_reference.specs.Sample.{reference_at};
 ghost use Rattle.formula_tree.specs.Makers.{Keeps};
 ghost use Rattle.formula_store.specs.Nodes.{IsId, tree};

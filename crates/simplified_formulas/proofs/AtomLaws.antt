@@ -13,7 +13,8 @@ use Rattle.formula_meaning.specs.Point.{Point, Of, move}
 use Rattle.formula_meaning.specs.Form.{coefficient}
 use Rattle.formula_meaning.specs.Formula.{One}
 use Rattle.formula_meaning.specs.Atom.{Atom, Compare, Congruent, Says, Mentions, form_of}
-use Rattle.formula_meaning.specs.Fold.{Junction, Conjunction, Disjunction}
+use Rattle.formula_meaning.specs.declared.junction.Junction.{Junction}
+use Rattle.formula_meaning.specs.declared.junction.Junction.TheVariants.{Conjunction, Disjunction}
 use Rattle.formula_meaning.proofs.Same.{atom_same}
 use Rattle.formula_meaning.proofs.Equivalence.{absent_moved}
 use Rattle.formula_meaning.proofs.TreeReplacing.{moved_of}

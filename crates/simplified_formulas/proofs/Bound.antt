@@ -2,7 +2,9 @@
 use Rattle.std.proofs.Common.{ℕ, Bool, true, false, List, [], ◌∷◌, Option, Some, None}
 use Rattle.formula_meaning.specs.Formula.{Formula, Formulas, Yes, No, One, Not, And, Or, Impl, Repl, Equiv, Ex, All, none, also}
 use Rattle.formula_meaning.specs.Every.{EveryBound, EveryBoundOf}
-use Rattle.formula_meaning.specs.Fold.{Junction, Conjunction, Disjunction, append, pieces_of, from_pieces}
+use Rattle.formula_meaning.specs.Fold.{append, pieces_of, from_pieces}
+use Rattle.formula_meaning.specs.declared.junction.Junction.{Junction}
+use Rattle.formula_meaning.specs.declared.junction.Junction.TheVariants.{Conjunction, Disjunction}
 use Rattle.formula_meaning.specs.Shape.{IsQuantifierFree, AreQuantifierFree}
 use Rattle.formula_meaning.specs.Sizes.{nodes}
 use Rattle.simplified_formulas.specs.Orderly.{IsOrderly, AreOrderly}

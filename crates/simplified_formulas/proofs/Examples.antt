@@ -8,7 +8,7 @@ use Rattle.formula_meaning.specs.Form.{coefficient}
 use Rattle.formula_meaning.specs.Atom.{Atom, Relation, Equals, Differs, Below, AtMost, Above, AtLeast, Compare, Congruent}
 use Rattle.formula_meaning.specs.Formula.{Yes, No, One, And, Or, Ex, All, none, also}
 use Rattle.formula_meaning.specs.Tree.{Tree}
-use Rattle.formula_meaning.specs.Fold.{Conjunction}
+use Rattle.formula_meaning.specs.declared.junction.Junction.TheVariants.{Conjunction}
 use Rattle.atom_merging.specs.Merging.{MergesInto}
 use Rattle.atom_merging.specs.Computed.{IsNormalWithin}
 use Rattle.atom_merging.proofs.Computed.{merged_right}

@@ -1,6 +1,7 @@
 -- The laws of joining by and, and by or.
 use Rattle.std.proofs.Common.{inl, inr, ⊎_elim, ◌↔◌}
-use Rattle.formula_meaning.specs.Fold.{Junction, Conjunction, Disjunction}
+use Rattle.formula_meaning.specs.declared.junction.Junction.{Junction}
+use Rattle.formula_meaning.specs.declared.junction.Junction.TheVariants.{Conjunction, Disjunction}
 use Rattle.atom_merging.specs.Merging.{Joined}
 use Rattle.formula_meaning.proofs.Iff.{both_ways, turn_round, pair_iff, either_iff}
 

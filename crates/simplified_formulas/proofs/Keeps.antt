@@ -3,7 +3,9 @@ use Rattle.std.proofs.Common.{◌≡◌, ℕ, Bool, true, false, refl, subst, sy
 use Rattle.formula_meaning.specs.Formula.{Formula, Formulas, Yes, No, One, Not, And, Or, Impl, Repl, Equiv, Ex, All, none, also}
 use Rattle.formula_meaning.specs.Every.{Free, FreeInSome}
 use Rattle.formula_meaning.specs.Some.{EachOf}
-use Rattle.formula_meaning.specs.Fold.{Junction, Conjunction, Disjunction, joined, append, pieces_of, from_pieces}
+use Rattle.formula_meaning.specs.Fold.{joined, append, pieces_of, from_pieces}
+use Rattle.formula_meaning.specs.declared.junction.Junction.{Junction}
+use Rattle.formula_meaning.specs.declared.junction.Junction.TheVariants.{Conjunction, Disjunction}
 use Rattle.atom_merging.specs.Computed.{Merging, Settled, Into, Kept}
 use Rattle.simplified_formulas.specs.Atoms.{Kit, without}
 use Rattle.simplified_formulas.specs.Orderly.{IsOrderly, AreOrderly}

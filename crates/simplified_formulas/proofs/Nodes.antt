@@ -1,7 +1,8 @@
 -- Nodes and atoms as measures.
 use Rattle.std.proofs.Common.{◌≡◌, ℕ, Bool, true, false, refl, arith}
 use Rattle.formula_meaning.specs.Formula.{Formula, Formulas, Yes, No, One, Not, And, Or, Impl, Repl, Equiv, Ex, All, none, also}
-use Rattle.formula_meaning.specs.Fold.{Junction, Conjunction, Disjunction}
+use Rattle.formula_meaning.specs.declared.junction.Junction.{Junction}
+use Rattle.formula_meaning.specs.declared.junction.Junction.TheVariants.{Conjunction, Disjunction}
 use Rattle.formula_meaning.specs.Sizes.{nodes, all_nodes}
 use Rattle.simplified_formulas.specs.Atoms.{Kit}
 use Rattle.simplified_formulas.specs.Pass.{constant}

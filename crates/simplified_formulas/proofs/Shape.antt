@@ -5,11 +5,14 @@ use Rattle.formula_meaning.specs.Formula.{Formula, Formulas, Yes, No, One, Not, 
 use Rattle.formula_meaning.specs.Every.{Free}
 use Rattle.formula_meaning.specs.Some.{EachOf}
 use Rattle.formula_meaning.specs.Sizes.{same_formula}
-use Rattle.formula_meaning.specs.Fold.{Junction, Conjunction, Disjunction, joined, neutral, absorbing, append, pieces_of, from_pieces}
+use Rattle.formula_meaning.specs.Fold.{joined, neutral, absorbing, append, pieces_of, from_pieces}
+use Rattle.formula_meaning.specs.declared.junction.Junction.{Junction}
+use Rattle.formula_meaning.specs.declared.junction.Junction.TheVariants.{Conjunction, Disjunction}
 use Rattle.formula_meaning.proofs.Sizes.{formula_alike}
 use Rattle.atom_merging.specs.Computed.{Merging, Settled, Into, Kept}
 use Rattle.simplified_formulas.specs.Atoms.{Kit, without, beside}
-use Rattle.simplified_formulas.specs.Reduced.{AreTwo, atoms_of, MayStand, under, HasNone, AreDifferent, AreKept, IsUndecided, ReducedInside, MembersReduced, Reduced}
+use Rattle.formula_meaning.specs.Members.{AreTwo}
+use Rattle.simplified_formulas.specs.Reduced.{atoms_of, MayStand, under, HasNone, AreDifferent, AreKept, IsUndecided, ReducedInside, MembersReduced, Reduced}
 use Rattle.simplified_formulas.specs.Orderly.{IsOrderly, AreOrderly}
 use Rattle.simplified_formulas.specs.Measure.{size, members_size, node_measure}
 use Rattle.simplified_formulas.specs.Pass.{Parts, Closed, Open, first_answer, ones, close, opened, settles, atom_or, pushed_unless, where_merged, decided, with_one, by_decision, with_atom, has, with_other, with_member, with_atom_first, with_atoms, with_passed, known, is_free, quantified, pass, others}

@@ -9,7 +9,7 @@ use Rattle.formula_meaning.specs.Truth.{True}
 use Rattle.formula_meaning.specs.Sizes.{nodes}
 use Rattle.formula_meaning.specs.Every.{Free}
 use Rattle.formula_meaning.specs.Some.{EachOf}
-use Rattle.formula_meaning.specs.Fold.{Junction}
+use Rattle.formula_meaning.specs.declared.junction.Junction.{Junction}
 use Rattle.formula_meaning.proofs.Sizes.{nodes_positive}
 use Rattle.formula_meaning.proofs.Iff.{both_ways}
 use Rattle.atom_merging.specs.Computed.{Kept}

@@ -9,7 +9,9 @@ use Rattle.formula_meaning.specs.Truth.{True}
 use Rattle.formula_meaning.specs.Every.{Free}
 use Rattle.formula_meaning.specs.Some.{EachOf}
 use Rattle.formula_meaning.specs.Sizes.{same_formula}
-use Rattle.formula_meaning.specs.Fold.{Junction, Conjunction, Disjunction, joined, neutral, absorbing, append, pieces_of, from_pieces}
+use Rattle.formula_meaning.specs.Fold.{joined, neutral, absorbing, append, pieces_of, from_pieces}
+use Rattle.formula_meaning.specs.declared.junction.Junction.{Junction}
+use Rattle.formula_meaning.specs.declared.junction.Junction.TheVariants.{Conjunction, Disjunction}
 use Rattle.formula_meaning.proofs.Iff.{both_ways, turn_round}
 use Rattle.formula_meaning.proofs.Equivalence.{one_allowed}
 use Rattle.formula_meaning.proofs.Sizes.{formula_same}

@@ -1,6 +1,7 @@
 -- What simplification asks of atoms whose names are numbers, as functions that compute.
 use Rattle.std.specs.Prelude.{ℕ, Bool, Option, List, [], ◌∷◌, map, ◌++◌, if◌then◌else◌}
-use Rattle.formula_meaning.specs.Fold.{Junction, Conjunction, Disjunction}
+use Rattle.formula_meaning.specs.declared.junction.Junction.{Junction}
+use Rattle.formula_meaning.specs.declared.junction.Junction.TheVariants.{Conjunction, Disjunction}
 use Rattle.atom_merging.specs.Computed.{Merging}
 
 -- the functions of atoms

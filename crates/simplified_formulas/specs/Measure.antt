@@ -2,8 +2,10 @@
 -- with what stands between them, a quantified formula that of its body and its quantifier.
 use Rattle.std.specs.Prelude.{ℕ, ◌+◌}
 use Rattle.formula_meaning.specs.Formula.{Formula, Formulas, Yes, No, One, Not, And, Or, Impl, Repl, Equiv, Ex, All, none, also}
-use Rattle.formula_meaning.specs.Fold.{Junction, Conjunction, Disjunction}
-use Rattle.formula_meaning.specs.Shape.{Quantifier, Exists, ForAll}
+use Rattle.formula_meaning.specs.declared.junction.Junction.{Junction}
+use Rattle.formula_meaning.specs.declared.junction.Junction.TheVariants.{Conjunction, Disjunction}
+use Rattle.formula_meaning.specs.declared.quantifier.Quantifier.{Quantifier}
+use Rattle.formula_meaning.specs.declared.quantifier.Quantifier.TheVariants.{Exists, ForAll}
 
 pub record Measure (A : Type 0) : Type 0 where
   pub yes : ℕ

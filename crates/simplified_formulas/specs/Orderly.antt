@@ -1,7 +1,7 @@
 -- The formulas that are simplified.
 use Rattle.std.specs.Prelude.{ℕ}
 use Rattle.formula_meaning.specs.Formula.{Formula, Formulas, Yes, No, One, Not, And, Or, Impl, Repl, Equiv, Ex, All, none, also}
-use Rattle.simplified_formulas.specs.Reduced.{AreTwo}
+use Rattle.formula_meaning.specs.Members.{AreTwo}
 
 module _ {A : Type 0} (P : A → Type 0) where
   abbrev mutual

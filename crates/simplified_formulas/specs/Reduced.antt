@@ -1,18 +1,14 @@
 -- Formulas that are Reduced under a list of atoms: what simplification owes, whatever way it goes.
 use Rattle.std.specs.Prelude.{◌≡◌, ℕ, Bool, List, [], ◌∷◌}
 use Rattle.formula_meaning.specs.Formula.{Formula, Formulas, Yes, No, One, Not, And, Or, Impl, Repl, Equiv, Ex, All, none, also}
-use Rattle.formula_meaning.specs.Fold.{Junction, Conjunction, Disjunction}
+use Rattle.formula_meaning.specs.declared.junction.Junction.{Junction}
+use Rattle.formula_meaning.specs.declared.junction.Junction.TheVariants.{Conjunction, Disjunction}
 use Rattle.formula_meaning.specs.Some.{EachOf}
 use Rattle.formula_meaning.specs.Every.{Free}
+use Rattle.formula_meaning.specs.Members.{AreTwo}
 use Rattle.simplified_formulas.specs.Atoms.{without, beside}
 
 module _ {A : Type 0} where
-  -- the list has two members at least
-  abbrev pub AreTwo : Formulas A ℕ → Type 0
-  AreTwo none = ⊥
-  AreTwo (also f none) = ⊥
-  AreTwo (also f (also g fs)) = Unit {0}
-
   -- the atom, where the formula is one, before others
   abbrev pub atom_first : Formula A ℕ → List A → List A
   atom_first (One a) us = a ∷ us

@@ -8,12 +8,14 @@ use Rattle.formula_meaning.specs.Every.{Every, EveryOf}
 use Rattle.formula_meaning.specs.Some.{EachOf}
 use Rattle.formula_meaning.specs.Form.{Term}
 use Rattle.formula_meaning.specs.Atom.{Atom, Mentions, form_of}
-use Rattle.formula_meaning.specs.Fold.{Junction, Conjunction, Disjunction}
-use Rattle.formula_meaning.specs.Shape.{Quantifier, Exists, ForAll}
+use Rattle.formula_meaning.specs.declared.junction.Junction.{Junction}
+use Rattle.formula_meaning.specs.declared.junction.Junction.TheVariants.{Conjunction, Disjunction}
+use Rattle.formula_meaning.specs.declared.quantifier.Quantifier.{Quantifier}
+use Rattle.formula_meaning.specs.declared.quantifier.Quantifier.TheVariants.{Exists, ForAll}
 use Rattle.atom_merging.specs.Computed.{Into, merged, IsNormalWithin}
 use Rattle.atom_merging.proofs.Computed.{merged_comes}
 use Rattle.redlog_printer.specs.Text.{name_at, atom_text}
-use Rattle.redlog_printer.specs.Within.{AreTermsWithin, IsAtomWithin}
+use Rattle.formula_meaning.specs.Within.{AreTermsWithin, IsAtomWithin}
 use Rattle.simplified_formulas.specs.Orderly.{IsOrderly, AreOrderly}
 use Rattle.simplified_formulas.specs.Measure.{size}
 use Rattle.simplified_formulas.specs.Pass.{constant}

@@ -4,35 +4,11 @@ use Rattle.std.proofs.lemmas.List.{map-append}
 use Rattle.std.specs.List.{list_any, fold}
 use Rattle.formula_meaning.specs.Some.{EachOf}
 use Rattle.formula_meaning.specs.Distinct.{without_same, distinct}
+use Rattle.formula_meaning.proofs.Once.{without_swap, without_twice, without_all, all_without, all_nothing}
 use Rattle.elimination_theory.proofs.SomeListed.{each_append}
 use Rattle.indexmap.specs.IndexSet.{insert_key, insert_all}
 
 module _ {X : Type 0} (same : X → X → Bool) (sound : (x y : X) → same x y ≡ true → x ≡ y) where
-  swap : (x y : X) (zs : List X) → without_same same x (without_same same y zs) ≡ without_same same y (without_same same x zs)
-  swap x y [] = refl
-  swap x y (z ∷ zs) = go (same x z) refl (same y z) refl (swap x y zs)
-    where
-      go : (b : Bool) → same x z ≡ b → (c : Bool) → same y z ≡ c → without_same same x (without_same same y zs) ≡ without_same same y (without_same same x zs) →
-          without_same same x (if c then without_same same y zs else z ∷ without_same same y zs) ≡ without_same same y (if b then without_same same x zs else z ∷ without_same same x zs)
-      go true e true f h = h
-      go true e false f h = rw e h
-      go false e true f h = rw f h
-      go false e false f h = rw e (rw f (ap (λ ws. z ∷ ws) h))
-
-  twice : (x : X) (zs : List X) → without_same same x (without_same same x zs) ≡ without_same same x zs
-  twice x [] = refl
-  twice x (z ∷ zs) = go (same x z) refl (twice x zs)
-    where
-      go : (b : Bool) → same x z ≡ b → without_same same x (without_same same x zs) ≡ without_same same x zs →
-          without_same same x (if b then without_same same x zs else z ∷ without_same same x zs) ≡ (if b then without_same same x zs else z ∷ without_same same x zs)
-      go true e h = h
-      go false e h = rw e (ap (λ ws. z ∷ ws) h)
-
-  -- the list without what is the same as an element of the first
-  abbrev removed : List X → List X → List X
-  removed [] ys = ys
-  removed (x ∷ xs) ys = without_same same x (removed xs ys)
-
   -- an element is the same as this one
   abbrev has : List X → X → Bool
   has xs y = list_any (λ x. same x y) xs
@@ -41,47 +17,39 @@ module _ {X : Type 0} (same : X → X → Bool) (sound : (x y : X) → same x y 
   abbrev put : List X → X → List X
   put xs y = if has xs y then xs else xs ++ y ∷ []
 
-  removed_nothing : (xs : List X) → removed xs [] ≡ []
-  removed_nothing [] = refl
-  removed_nothing (x ∷ xs) = ap (without_same same x) (removed_nothing xs)
-
-  removed_first : (xs : List X) (y : X) (ys : List X) → removed xs (y ∷ ys) ≡ (if has xs y then removed xs ys else y ∷ removed xs ys)
+  removed_first : (xs : List X) (y : X) (ys : List X) → without_all same xs (y ∷ ys) ≡ (if has xs y then without_all same xs ys else y ∷ without_all same xs ys)
   removed_first [] y ys = refl
   removed_first (x ∷ xs) y ys = ap (without_same same x) (removed_first xs y ys) ∙ go (same x y) refl (has xs y)
     where
       go : (a : Bool) → same x y ≡ a → (b : Bool) →
-          without_same same x (if b then removed xs ys else y ∷ removed xs ys) ≡ (if a || b then without_same same x (removed xs ys) else y ∷ without_same same x (removed xs ys))
+          without_same same x (if b then without_all same xs ys else y ∷ without_all same xs ys) ≡ (if a || b then without_same same x (without_all same xs ys) else y ∷ without_same same x (without_all same xs ys))
       go true e true = refl
       go true e false = rw e refl
       go false e true = refl
       go false e false = rw e refl
 
-  removed_without : (xs : List X) (y : X) (zs : List X) → removed xs (without_same same y zs) ≡ without_same same y (removed xs zs)
-  removed_without [] y zs = refl
-  removed_without (x ∷ xs) y zs = ap (without_same same x) (removed_without xs y zs) ∙ swap x y (removed xs zs)
-
   -- what is the same as an element is gone already
-  gone : (xs : List X) (y : X) (zs : List X) → has xs y ≡ true → without_same same y (removed xs zs) ≡ removed xs zs
+  gone : (xs : List X) (y : X) (zs : List X) → has xs y ≡ true → without_same same y (without_all same xs zs) ≡ without_all same xs zs
   gone [] y zs h = absurd (cc)
   gone (x ∷ xs) y zs h = go (same x y) refl h (λ k. gone xs y zs k)
     where
-      go : (b : Bool) → same x y ≡ b → (b || has xs y) ≡ true → (has xs y ≡ true → without_same same y (removed xs zs) ≡ removed xs zs) → without_same same y (without_same same x (removed xs zs)) ≡ without_same same x (removed xs zs)
-      go true e k r = subst (λ (w : X). without_same same w (without_same same x (removed xs zs)) ≡ without_same same x (removed xs zs)) (sound x y e) (twice x (removed xs zs))
-      go false e k r = swap y x (removed xs zs) ∙ ap (without_same same x) (r k)
+      go : (b : Bool) → same x y ≡ b → (b || has xs y) ≡ true → (has xs y ≡ true → without_same same y (without_all same xs zs) ≡ without_all same xs zs) → without_same same y (without_same same x (without_all same xs zs)) ≡ without_same same x (without_all same xs zs)
+      go true e k r = subst (λ (w : X). without_same same w (without_same same x (without_all same xs zs)) ≡ without_same same x (without_all same xs zs)) (sound x y e) (without_twice same x (without_all same xs zs))
+      go false e k r = without_swap same y x (without_all same xs zs) ∙ ap (without_same same x) (r k)
 
-  removed_last : (xs : List X) (y : X) (zs : List X) → removed (xs ++ y ∷ []) zs ≡ removed xs (without_same same y zs)
+  removed_last : (xs : List X) (y : X) (zs : List X) → without_all same (xs ++ y ∷ []) zs ≡ without_all same xs (without_same same y zs)
   removed_last [] y zs = refl
   removed_last (x ∷ xs) y zs = ap (without_same same x) (removed_last xs y zs)
 
-  put_all : (xs ys : List X) → fold put xs ys ≡ xs ++ removed xs (distinct same ys)
-  put_all xs [] = sym (append-nil xs) ∙ ap (λ l. xs ++ l) (sym (removed_nothing xs))
+  put_all : (xs ys : List X) → fold put xs ys ≡ xs ++ without_all same xs (distinct same ys)
+  put_all xs [] = sym (append-nil xs) ∙ ap (λ l. xs ++ l) (sym (all_nothing same xs))
   put_all xs (y ∷ ys) =
       go (has xs y) refl (put_all xs ys) (put_all (xs ++ y ∷ []) ys) ∙ ap (λ l. xs ++ l) (sym (removed_first xs y (without_same same y (distinct same ys))))
     where
-      go : (b : Bool) → has xs y ≡ b → fold put xs ys ≡ xs ++ removed xs (distinct same ys) → fold put (xs ++ y ∷ []) ys ≡ (xs ++ y ∷ []) ++ removed (xs ++ y ∷ []) (distinct same ys) →
-          fold put (if b then xs else xs ++ y ∷ []) ys ≡ xs ++ (if b then removed xs (without_same same y (distinct same ys)) else y ∷ removed xs (without_same same y (distinct same ys)))
-      go true e h k = h ∙ ap (λ l. xs ++ l) (sym (removed_without xs y (distinct same ys) ∙ gone xs y (distinct same ys) e))
-      go false e h k = k ∙ append_assoc xs (y ∷ []) (removed (xs ++ y ∷ []) (distinct same ys)) ∙ ap (λ l. xs ++ y ∷ l) (removed_last xs y (distinct same ys))
+      go : (b : Bool) → has xs y ≡ b → fold put xs ys ≡ xs ++ without_all same xs (distinct same ys) → fold put (xs ++ y ∷ []) ys ≡ (xs ++ y ∷ []) ++ without_all same (xs ++ y ∷ []) (distinct same ys) →
+          fold put (if b then xs else xs ++ y ∷ []) ys ≡ xs ++ (if b then without_all same xs (without_same same y (distinct same ys)) else y ∷ without_all same xs (without_same same y (distinct same ys)))
+      go true e h k = h ∙ ap (λ l. xs ++ l) (sym (all_without same xs y (distinct same ys) ∙ gone xs y (distinct same ys) e))
+      go false e h k = k ∙ append_assoc xs (y ∷ []) (without_all same (xs ++ y ∷ []) (distinct same ys)) ∙ ap (λ l. xs ++ y ∷ l) (removed_last xs y (distinct same ys))
 
   -- the same of elements that the test compares through g
   module _ {T : Type 0} (eq : T → T → Bool) (g : T → X) (Q : T → Type 0) (agree : (new old : T) → Q new → Q old → eq new old ≡ same (g old) (g new)) where

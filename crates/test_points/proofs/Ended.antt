@@ -14,7 +14,8 @@ use Rattle.formula_meaning.specs.Atom.{Relation, Compare, Congruent}
 use Rattle.formula_meaning.specs.Tree.{Tree}
 use Rattle.formula_meaning.proofs.Same.{both_true}
 use Rattle.elimination_theory.specs.Substitution.{form_at}
-use Rattle.elimination_reference.specs.Limits.{combination_within, normal_within}
+use Rattle.formula_meaning.specs.Limits.{combination_within}
+use Rattle.elimination_reference.specs.Limits.{normal_within}
 use Rattle.linear_forms.specs.Terms.{IsCombination}
 use Rattle.atom_normal.specs.NormalForm.{normal_atom, congruent, compared_in_fields, compared_over_integers}
 use Rattle.atom_normal.specs.Atoms.{relation_of}
@@ -23,7 +24,7 @@ use Rattle.formula_meaning.specs.Sorted.{gathered}
 use Rattle.test_points.specs.declared.verdict.Verdict.{Verdict}
 use Rattle.test_points.specs.declared.verdict.Verdict.TheVariants.{Always, Never, Holds}
 use Rattle.test_points.specs.Substituted.{ended, ended_within}
-use Rattle.test_points.proofs.WithinTests.{combination_tested, combination_refused}
+use Rattle.elimination_theory.proofs.WithinTests.{combination_tested, combination_refused}
 use Rattle.test_points.proofs.Forms.{gathered_at}
 
 -- atoms over forms of one sorted form have one normal form

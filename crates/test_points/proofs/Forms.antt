@@ -14,7 +14,7 @@ use Rattle.formula_meaning.proofs.Sorted.{scale_sorted}
 use Rattle.linear_forms.specs.Terms.{AllInLimit, IsLinear, IsCombination}
 use Rattle.linear_forms.proofs.Search.{multiple_within}
 use Rattle.linear_forms.proofs.Determined.{same_form, without_linear}
-use Rattle.test_points.proofs.WithinTests.{sum_refused}
+use Rattle.elimination_theory.proofs.WithinTests.{sum_refused}
 
 pub coefficient_within : (x : ℕ) (f : Form) → IsLinear f → InLimit (coefficient x f)
 unfolding coefficient

@@ -1,5 +1,4 @@
 pub mod Outcomes
-pub mod WithinTests
 pub mod Forms
 pub mod Ended
 pub mod SamePoints

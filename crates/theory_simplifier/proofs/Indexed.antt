@@ -8,7 +8,7 @@ use Rattle.formula_meaning.specs.Context.{Context}
 use Rattle.formula_meaning.specs.Some.{EachOf}
 use Rattle.formula_meaning.specs.Form.{Form}
 use Rattle.formula_meaning.specs.Atom as meant
-use Rattle.formula_meaning.specs.Fold.{Junction}
+use Rattle.formula_meaning.specs.declared.junction.Junction.{Junction}
 use Rattle.linear_forms.specs.Equality.{form_eq, form_decides}
 use Rattle.atom_normal.specs.Atoms.{atom_of}
 use Rattle.atom_normal.specs.NormalForm.{negated_normal}

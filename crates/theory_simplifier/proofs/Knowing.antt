@@ -5,7 +5,7 @@ use Rattle.std.specs.Prelude.{if◌then◌else◌}
 use Rattle.formula_meaning.specs.Context.{Context}
 use Rattle.formula_meaning.specs.Some.{EachOf}
 use Rattle.formula_meaning.specs.Atom.{Atom}
-use Rattle.formula_meaning.specs.Fold.{Junction}
+use Rattle.formula_meaning.specs.declared.junction.Junction.{Junction}
 use Rattle.atom_normal.specs.NormalForm.{IsNormal, negated_normal}
 use Rattle.atom_merging.specs.Computed.{IsNormalWithin}
 use Rattle.simplified_formulas.specs.Atoms.{without, tells}

@@ -7,7 +7,8 @@ use Rattle.formula_meaning.specs.Context.{Context}
 use Rattle.formula_meaning.specs.Some.{EachOf}
 use Rattle.formula_meaning.specs.Form.{Form}
 use Rattle.formula_meaning.specs.Atom.{Atom, Compare, Congruent}
-use Rattle.formula_meaning.specs.Fold.{Junction, Conjunction, Disjunction}
+use Rattle.formula_meaning.specs.declared.junction.Junction.{Junction}
+use Rattle.formula_meaning.specs.declared.junction.Junction.TheVariants.{Conjunction, Disjunction}
 use Rattle.linear_forms.specs.Equality.{form_eq, form_decides}
 use Rattle.atom_normal.specs.NormalForm.{IsNormal, negated_normal, congruence}
 use Rattle.atom_merging.specs.Computed.{IsNormalWithin, Kept, Into, merged, decided_by}

@@ -7,7 +7,7 @@ use Rattle.std.proofs.lemmas.Bool.Decides.{Decides-int_eq}
 use Rattle.exact_numbers.specs.Divides.{content_of}
 use Rattle.formula_meaning.specs.Context.{Context}
 use Rattle.formula_meaning.specs.Form.{Term}
-use Rattle.formula_meaning.specs.Fold.{Junction}
+use Rattle.formula_meaning.specs.declared.junction.Junction.{Junction}
 use Rattle.formula_meaning.specs.Atom.{Atom, Compare, Congruent}
 use Rattle.formula_meaning.proofs.Same.{and_left, and_right, terms_same}
 use Rattle.linear_forms.specs.Terms.{coefficients}

@@ -1,7 +1,7 @@
 -- The atoms of a list, and those that they tell the members beside them.
 use Rattle.std.specs.Prelude.{◌≡◌, List, map}
 use Rattle.formula_meaning.specs.Atom as meant
-use Rattle.formula_meaning.specs.Fold.{Junction}
+use Rattle.formula_meaning.specs.declared.junction.Junction.{Junction}
 use Rattle.atom_normal.specs.Atoms.{atom_of, IsWellFormed}
 use Rattle.atom_normal.specs.NormalForm.{negated_normal}
 use Rattle.simplified_formulas.specs.Atoms.{tells}

@@ -3,7 +3,7 @@
 ghost use Rattle.std.specs.Prelude.{◌≡◌, ◌<◌, ◌++◌, ◌∷◌, [], IfOk, IfErr, IfSome, OnOk, length, map, set, get_or, option_map};
 ghost use Rattle.std.specs.List.{AllByRecursion};
 ghost use Rattle.formula_meaning.specs.Some.{EachOf};
-ghost use Rattle.formula_meaning.specs.Fold.{Conjunction};
+ghost use Rattle.formula_meaning.specs.declared.junction.Junction.TheVariants.{Conjunction};
 ghost use Rattle.atom_normal.specs.Atoms.{context_of, atom_of, IsWellFormed};
 ghost use Rattle.atom_normal.specs.NormalForm.{IsNormal};
 ghost use Rattle.atom_merging.specs.Computed.{IsNormalWithin, merged, merging_of};

@@ -21,7 +21,7 @@ ghost use Rattle.theory_simplifier.specs.Known.{known_atoms, AreNormalFrames};
 ghost use Rattle.theory_simplifier.specs.Constants.{IsWithin};
 ghost use Rattle.formula_store.specs.Nodes.{IsId, tree};
 ghost use Rattle.redlog_printer.specs.Text.{tree_text};
-ghost use Rattle.redlog_printer.specs.Within.{IsAtomWithin};
+ghost use Rattle.formula_meaning.specs.Within.{IsAtomWithin};
 
 use crate::constants::{see_atoms, see_formula};
 use crate::error::SimplError;

@@ -6,7 +6,7 @@ use Rattle.formula_meaning.specs.Formula.{Yes}
 use Rattle.formula_meaning.specs.Some.{Among}
 use Rattle.formula_meaning.specs.Tree.{Tree}
 use Rattle.elimination_theory.specs.Answers.{Step, answers_of}
-use Rattle.elimination_reference.specs.Measured.{Outcome, then_of, done}
+use Rattle.formula_meaning.specs.Measured.{Outcome, then_of, done}
 use Rattle.elimination_reference.specs.Reference.{Branch}
 use Rattle.elimination_reference.specs.Sample.{first_true}
 use Rattle.test_points.specs.declared.points.TestPoint.{TestPoint}

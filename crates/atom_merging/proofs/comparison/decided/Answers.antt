@@ -1,6 +1,6 @@
 use Rattle.std.proofs.Common.{◌≡◌, None, true, false, refl, sym, ap, ◌∙◌}
 use Rattle.formula_meaning.specs.Atom.{Compare, opposite_relation}
-use Rattle.formula_meaning.specs.Fold.{Conjunction, Disjunction}
+use Rattle.formula_meaning.specs.declared.junction.Junction.TheVariants.{Conjunction, Disjunction}
 use Rattle.atom_normal.specs.Atoms.{context_of, relation_of}
 use Rattle.atom_merging.specs.Verdicts.{Settled, both, verdict_of}
 use Rattle.atom_merging.specs.Computed.{is_settled, decided_by}

@@ -2,7 +2,7 @@ use Rattle.std.proofs.Common.{◌≡◌, true, false, refl, rules, not, sym, ap,
 use Rattle.std.specs.Prelude.{FitsSigned}
 use Rattle.std.specs.Int.{w128}
 use Rattle.std.proofs.lemmas.Int.{to_z-of_z}
-use Rattle.formula_meaning.specs.Fold.{Conjunction}
+use Rattle.formula_meaning.specs.declared.junction.Junction.TheVariants.{Conjunction}
 use Rattle.atom_merging.specs.declared.congruence.Class.TheVariants.{Settled}
 use Rattle.atom_merging.specs.Classes.{both_classes}
 use Rattle.atom_merging.specs.Computed.{is_settled_class}

@@ -2,7 +2,7 @@ use Rattle.std.proofs.Common.{◌++◌, List, map, flat_map, take, sym, ap, ◌�
 use Rattle.formula_meaning.specs.Answer.{Place}
 use Rattle.formula_meaning.specs.Form.{coefficient}
 use Rattle.formula_meaning.specs.Atom as meant
-use Rattle.elimination_reference.specs.Limits.{each, place_within}
+use Rattle.formula_meaning.specs.Limits.{each, place_within}
 use Rattle.atom_normal.specs.Atoms.{atom_of}
 use Rattle.test_points.specs.Points.{side_of, place_of}
 use Rattle.cooper_periods.specs.Periods.{IsReached}

@@ -1,5 +1,5 @@
 use Rattle.std.proofs.Common.{◌≡◌, ◌++◌, true, All, map, flat_map, take, unsigned_abs}
-use Rattle.elimination_reference.specs.Limits.{each, place_within}
+use Rattle.formula_meaning.specs.Limits.{each, place_within}
 use Rattle.atom_normal.specs.Atoms.{atom_of}
 use Rattle.test_points.specs.Points.{side_of, place_of, IsPointOf}
 use Rattle.cooper_periods.specs.Starts.{beside_atom}

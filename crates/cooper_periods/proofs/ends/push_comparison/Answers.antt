@@ -9,7 +9,7 @@ use Rattle.formula_meaning.specs.Form.{without}
 use Rattle.formula_meaning.specs.Answer.{Place}
 use Rattle.elimination_theory.specs.IntegersPoints.{next_points, comparison_starts}
 use Rattle.elimination_theory.proofs.LowestTerms.{natural}
-use Rattle.elimination_reference.specs.Limits.{each, place_within}
+use Rattle.formula_meaning.specs.Limits.{each, place_within}
 use Rattle.atom_normal.specs.Atoms.{relation_of}
 use Rattle.test_points.specs.Points.{side_of, place_of}
 use Rattle.cooper_periods.proofs.Steps.{on_map, abs_within}

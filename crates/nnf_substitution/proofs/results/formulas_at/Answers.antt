@@ -2,7 +2,7 @@ use Rattle.std.proofs.Common.{◌≡◌, ◌+◌, List, map, drop, sym, ap, ◌�
 use Rattle.std.proofs.lemmas.List.{at_drop_all}
 use Rattle.formula_meaning.specs.Fold.{append}
 use Rattle.elimination_theory.specs.Steps.{results, trees_left}
-use Rattle.elimination_reference.specs.Limits.{each}
+use Rattle.formula_meaning.specs.Limits.{each}
 use Rattle.linear_forms.specs.declared.form.VarId.{VarId}
 use Rattle.atom_normal.specs.Atoms.{context_of}
 use Rattle.atom_normal.specs.NormalForm.{normal_atom}

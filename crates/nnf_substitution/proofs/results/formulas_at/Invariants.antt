@@ -1,7 +1,7 @@
 use Rattle.std.proofs.Common.{◌≡◌, map, drop}
 use Rattle.formula_meaning.specs.Fold.{append}
 use Rattle.elimination_theory.specs.Steps.{results, trees_left}
-use Rattle.elimination_reference.specs.Limits.{each}
+use Rattle.formula_meaning.specs.Limits.{each}
 use Rattle.atom_normal.specs.Atoms.{context_of}
 use Rattle.atom_normal.specs.NormalForm.{normal_atom}
 use Rattle.formula_tree.specs.Trees.{members}

@@ -1,6 +1,6 @@
 use Rattle.std.proofs.Common.{◌∙◌, sym, ap, subst, map, List}
 use Rattle.std.specs.List.{AllByRecursion}
-use Rattle.formula_meaning.specs.Fold.{Conjunction, Disjunction}
+use Rattle.formula_meaning.specs.declared.junction.Junction.TheVariants.{Conjunction, Disjunction}
 use Rattle.formula_tree.specs.declared.shape.Shape.{Shape}
 use Rattle.formula_tree.specs.Shapes.{AllIds, tree_over}
 use Rattle.formula_store.specs.declared.id.FormulaId.{FormulaId}

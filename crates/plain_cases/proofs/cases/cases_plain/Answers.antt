@@ -1,6 +1,6 @@
 use Rattle.std.proofs.Common.{map, sym, ap, ◌∙◌, subst}
 use Rattle.atom_normal.specs.Atoms.{context_of}
-use Rattle.elimination_reference.specs.Measured.{done, Gives}
+use Rattle.formula_meaning.specs.Measured.{done, Gives}
 use Rattle.elimination_reference.specs.Theorems.{AreExactCases}
 use Rattle.elimination_reference.proofs.CasesExact.{cases_exact}
 use Rattle.formula_tree.specs.Trees.{tree_of}

@@ -1,11 +1,12 @@
 use Rattle.std.proofs.Common.{◌≡◌, List, All, true, map, sym, ap, ◌∙◌, subst}
 use Rattle.formula_meaning.specs.Answer.{Place}
 use Rattle.formula_meaning.specs.Tree.{Tree}
-use Rattle.elimination_theory.specs.Side.{Lower}
+use Rattle.elimination_theory.specs.declared.side.Side.TheVariants.{Lower}
 use Rattle.elimination_theory.specs.Atoms.{atoms_of}
 use Rattle.elimination_theory.specs.BothTheories.{IsPlaceIn, test_points}
-use Rattle.elimination_reference.specs.Limits.{each, step_within}
-use Rattle.elimination_reference.specs.Measured.{done}
+use Rattle.formula_meaning.specs.Limits.{each}
+use Rattle.elimination_reference.specs.Limits.{step_within}
+use Rattle.formula_meaning.specs.Measured.{done}
 use Rattle.elimination_reference.specs.Reference.{full_step}
 use Rattle.atom_normal.specs.Atoms.{context_of}
 use Rattle.nnf_trees.specs.Nnfs.{nnf_of}

@@ -1,8 +1,9 @@
 use Rattle.std.proofs.Common.{rules, ◌≡◌, ◌≤◌, false, true, [], List, ◌∙◌, sym, ap, subst}
-use Rattle.formula_meaning.specs.Fold.{Disjunction, fold_list}
+use Rattle.formula_meaning.specs.Fold.{fold_list}
+use Rattle.formula_meaning.specs.declared.junction.Junction.TheVariants.{Disjunction}
 use Rattle.formula_meaning.specs.Sizes.{nodes}
 use Rattle.atom_normal.specs.Atoms.{context_of}
-use Rattle.elimination_reference.specs.Measured.{done}
+use Rattle.formula_meaning.specs.Measured.{done}
 use Rattle.elimination_reference.specs.Reference.{branches, normal_tree, reference}
 use Rattle.elimination_reference.specs.Theorems.{IsAnswerTo}
 use Rattle.formula_tree.specs.Trees.{tree_of}

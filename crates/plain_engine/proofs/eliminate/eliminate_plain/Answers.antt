@@ -1,7 +1,7 @@
 use Rattle.std.proofs.Common.{◌≡◌, ◌≤◌, ◌∙◌, sym, ap, subst}
 use Rattle.formula_meaning.specs.Sizes.{nodes}
 use Rattle.atom_normal.specs.Atoms.{context_of}
-use Rattle.elimination_reference.specs.Measured.{done}
+use Rattle.formula_meaning.specs.Measured.{done}
 use Rattle.elimination_reference.specs.Theorems.{IsAnswerTo}
 use Rattle.formula_tree.specs.Trees.{tree_of}
 use Rattle.nnf_trees.specs.Nnfs.{nnf_of}

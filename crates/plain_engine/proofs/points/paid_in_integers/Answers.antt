@@ -11,11 +11,12 @@ use Rattle.std.specs.Prelude.{List, Option}
 use Rattle.exact_numbers.specs.Limit.{InLimit}
 use Rattle.formula_meaning.specs.Context.{Integers}
 use Rattle.formula_meaning.specs.Sizes.{nodes}
-use Rattle.elimination_theory.specs.Side.{Lower}
+use Rattle.elimination_theory.specs.declared.side.Side.TheVariants.{Lower}
 use Rattle.elimination_theory.specs.Atoms.{atoms_of}
 use Rattle.elimination_theory.specs.IntegersPoints.{own_span, integer_count, integer_count_of, integer_points_of}
-use Rattle.elimination_reference.specs.Limits.{each, place_within, atom_within, span_within}
-use Rattle.elimination_reference.specs.Measured.{done, pay}
+use Rattle.formula_meaning.specs.Limits.{each, place_within}
+use Rattle.elimination_reference.specs.Limits.{atom_within, span_within}
+use Rattle.formula_meaning.specs.Measured.{done, pay}
 use Rattle.nnf_trees.specs.Forms.{limited}
 use Rattle.nnf_trees.specs.Nnfs.{nnf_of}
 use Rattle.test_points.specs.declared.error.PointError.TheVariants as error

@@ -1,6 +1,6 @@
 use Rattle.std.proofs.Common.{rules, ◌≡◌, false, Err, sym, ap, ◌∙◌}
 use Rattle.formula_meaning.specs.Sizes.{nodes}
-use Rattle.elimination_reference.specs.Measured.{done}
+use Rattle.formula_meaning.specs.Measured.{done}
 use Rattle.elimination_reference.specs.Reference.{reference}
 use Rattle.elimination_reference.specs.Sample.{reference_at}
 use Rattle.atom_normal.specs.Atoms.{context_of}

@@ -5,7 +5,7 @@ use Rattle.atom_normal.specs.Atoms.{context_of}
 use Rattle.formula_store.specs.Nodes.{tree}
 use Rattle.nnf_pnf.proofs.Kept.{keeps_then}
 use Rattle.nnf_trees.specs.Nnfs.{nnf_of}
-use Rattle.redlog_printer.specs.Within.{IsTreeWithin}
+use Rattle.formula_meaning.specs.Within.{IsTreeWithin}
 use Rattle.prenex_theory.specs.NewNames.{AddsNewNames}
 use Rattle.prenex_theory.specs.Renaming.{new_count}
 use Rattle.prenex_theory.proofs.Whole.{free_below}

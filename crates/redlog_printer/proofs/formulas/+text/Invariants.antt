@@ -2,7 +2,7 @@ use Rattle.std.proofs.Common.{◌≡◌, ◌≤◌, ◌+◌, ◌*◌, ◌++◌, 
 use Rattle.formula_meaning.specs.Sizes.{nodes, all_nodes}
 use Rattle.formula_tree.specs.Trees.{members, tree_of, trees_of}
 use Rattle.redlog_printer.specs.Text.{members_text, more_text}
-use Rattle.redlog_printer.specs.Within.{AreTreesWithin}
+use Rattle.formula_meaning.specs.Within.{AreTreesWithin}
 use Rattle.redlog_printer.proofs.formulas.+text.Given as goal
 
 abbrev pub decreases-put_tree : goal.decreases-put_tree

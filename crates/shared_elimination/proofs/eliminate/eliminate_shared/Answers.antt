@@ -4,7 +4,7 @@ use Rattle.std.specs.declared.result.Result.TheVariants.{Err}
 use Rattle.formula_meaning.specs.Every.{Every}
 use Rattle.atom_normal.specs.Atoms.{context_of}
 use Rattle.atom_normal.specs.NormalForm.{IsNormal}
-use Rattle.elimination_reference.specs.Measured.{done}
+use Rattle.formula_meaning.specs.Measured.{done}
 use Rattle.elimination_reference.specs.Theorems.{IsAnswerTo}
 use Rattle.elimination_reference.proofs.Sound.{normal_normal_tree}
 use Rattle.elimination_reference.proofs.Turning.{from_normal}

@@ -6,7 +6,7 @@ use Rattle.formula_meaning.proofs.Iff.{both_ways, turn_round}
 use Rattle.linear_forms.specs.Values.{point_of}
 use Rattle.atom_normal.specs.Atoms.{context_of}
 use Rattle.atom_normal.specs.NormalForm.{IsNormal, constant_tree}
-use Rattle.elimination_reference.specs.Measured.{done}
+use Rattle.formula_meaning.specs.Measured.{done}
 use Rattle.elimination_reference.proofs.Sound.{normal_normal_tree}
 use Rattle.elimination_reference.proofs.Turning.{normal_inside, normal_truths}
 use Rattle.formula_tree.specs.Trees.{tree_of}

@@ -1,5 +1,5 @@
 use Rattle.std.proofs.Common.{◌≡◌, [], ◌∷◌, ◌++◌, map, sym, ap, subst, ◌∙◌}
-use Rattle.formula_meaning.specs.Fold.{Conjunction}
+use Rattle.formula_meaning.specs.declared.junction.Junction.TheVariants.{Conjunction}
 use Rattle.atom_normal.specs.Atoms.{atom_of}
 use Rattle.theory_simplifier.specs.declared.known.Frame.TheVariants.{Beside}
 use Rattle.theory_simplifier.specs.Known.{known_atoms, AreNormalFrames}

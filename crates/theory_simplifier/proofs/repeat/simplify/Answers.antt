@@ -13,7 +13,7 @@ use Rattle.simplified_formulas.specs.Trees.{IsSimplifiable, AreAssumable, IsRedu
 use Rattle.simplified_formulas.proofs.TreeLaws.{keeps_truth, is_reduced, keeps_shape, brings_no_name, brings_no_node, brings_no_atom}
 use Rattle.simplified_texts.proofs.Longer.{no_longer}
 use Rattle.redlog_printer.specs.Text.{tree_text}
-use Rattle.redlog_printer.specs.Within.{IsAtomWithin}
+use Rattle.formula_meaning.specs.Within.{IsAtomWithin}
 use Rattle.formula_store.specs.Nodes.{tree}
 use Rattle.theory_simplifier.proofs.Assuming.{each_within, simplifiable, orderly_normal, every_normal}
 use Rattle.theory_simplifier.proofs.Keeping.{if_ok_map}

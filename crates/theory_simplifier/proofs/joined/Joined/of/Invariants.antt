@@ -1,5 +1,5 @@
 use Rattle.std.proofs.Common.{◌≡◌, map, take}
-use Rattle.formula_meaning.specs.Fold.{Conjunction}
+use Rattle.formula_meaning.specs.declared.junction.Junction.TheVariants.{Conjunction}
 use Rattle.atom_normal.specs.Atoms.{atom_of}
 use Rattle.theory_simplifier.proofs.joined.Joined.of.Given as goal
 

@@ -1,7 +1,7 @@
 use Rattle.std.proofs.Common.{◌≡◌, ◌<◌, ℕ, sym, ap, ◌∙◌, subst, get_or, arith, false, true≢false}
 use Rattle.formula_meaning.specs.Form.{Form}
 use Rattle.formula_meaning.specs.Some.{EachOf}
-use Rattle.formula_meaning.specs.Fold.{Junction}
+use Rattle.formula_meaning.specs.declared.junction.Junction.{Junction}
 use Rattle.linear_forms.specs.Equality.{form_eq}
 use Rattle.atom_normal.specs.Atoms.{context_of, atom_of}
 use Rattle.atom_merging.specs.declared.answers.Merged.TheVariants.{Keep}

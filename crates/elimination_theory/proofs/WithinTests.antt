@@ -13,7 +13,7 @@ use Rattle.formula_meaning.specs.Answer.{Place, Exact, AboveBy, BelowBy, PlusInf
 use Rattle.formula_meaning.proofs.Same.{and_left, and_right, both_true}
 use Rattle.elimination_theory.specs.Overflow.{FormWithin, PlaceWithin}
 use Rattle.elimination_theory.proofs.SomeListed.{each_left, each_right}
-use Rattle.elimination_reference.specs.Limits.{each, is_within, form_within, place_within, sum_within, combination_within}
+use Rattle.formula_meaning.specs.Limits.{each, is_within, form_within, place_within, sum_within, combination_within}
 
 -- the test is true exactly where P holds
 abbrev pub Tests : Bool → Type 0 → Type 0
