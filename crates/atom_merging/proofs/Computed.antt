@@ -29,11 +29,9 @@ use Rattle.atom_merging.specs.Merging.{variable_part, SamePart, MergesInto, IsKe
 use Rattle.atom_merging.specs.Merged.{IsDecision}
 use Rattle.atom_merging.specs.Verdicts as verdicts
 use Rattle.atom_merging.specs.Verdicts.{Verdict, verdict, both, normal_comparison, IsDecisive}
-use Rattle.atom_merging.specs.declared.junction.Junction as code
-use Rattle.atom_merging.specs.declared.junction.Junction.TheVariants as code_is
 use Rattle.atom_merging.specs.declared.answers.Merged as answers
 use Rattle.atom_merging.specs.declared.answers.Merged.TheVariants as answer_is
-use Rattle.atom_merging.specs.Junctions.{junction_of, absorbing, is_and}
+use Rattle.atom_merging.specs.Junctions.{absorbing}
 use Rattle.atom_merging.specs.Answered.{IsOne, IsOneOrKept}
 use Rattle.atom_merging.specs.Classes.{class, both_classes}
 use Rattle.atom_merging.specs.Computed.{Merging, Settled, Into, Kept, is_next, placed, position, into_within, of_verdict, is_settled, is_told, of_class, is_settled_class, answer, is_same_part, merged_part, merged, decided_part, decided_by, IsRight, IsNormalWithin, merging_of}
@@ -142,7 +140,7 @@ module _ (c : Context) (r : Relation) (f : Form) (s : Relation) (g : Form) (x : 
 
 -- ---- congruences
 
-flip_told : (j : Junction) → flip j (is_told j) ≡ true
+pub flip_told : (j : Junction) → flip j (is_told j) ≡ true
 flip_told Conjunction = refl
 flip_told Disjunction = refl
 
@@ -341,9 +339,9 @@ unsettled_of verdicts.Kept h = refl
 unsettled_of (verdicts.First q) h = refl
 unsettled_of (verdicts.Second q) h = refl
 
-pub absorbing_is : (j : code.Junction) → merging_of (absorbing j) ≡ Settled
-absorbing_is code_is.And = refl
-absorbing_is code_is.Or = refl
+pub absorbing_is : (j : Junction) → merging_of (absorbing j) ≡ Settled
+absorbing_is Conjunction = refl
+absorbing_is Disjunction = refl
 
 within_is : (a : Atom) → InLimit (form_of a).constant → Into a ≡ into_within a
 within_is a h = ap (λ (t : Bool). if t then Into a else Kept) (sym (lt-ltb (unsigned_abs (form_of a).constant) (2 ^ 127) h))
@@ -362,10 +360,6 @@ one_is a answer_is.True h = absurd h
 one_is a answer_is.False h = absurd h
 one_is a (answer_is.One e) h = ap Into h.0
 one_is a answer_is.Keep h = absurd h
-
-pub told_is : (j : code.Junction) → is_and j ≡ is_told (junction_of j)
-told_is code_is.And = refl
-told_is code_is.Or = refl
 
 -- congruences of one modulus k and the same terms; k is the program's number
 class_part : (j : Junction) (m : ℕ) (b : Bool) (f : Form) (d : Bool) (g : Form) → f.terms ≡ g.terms → is_same_part (Congruent b m f) (Congruent d m g) ≡ true

@@ -1,24 +1,22 @@
 -- From what is owed to the program's answers.
-use Rattle.std.proofs.Common.{◌≡◌, true, sym, subst, refl}
+use Rattle.std.proofs.Common.{◌≡◌, sym, subst, refl}
 use Rattle.exact_numbers.specs.Limit.{PastLimit}
 use Rattle.formula_meaning.specs.Context.{Context}
 use Rattle.formula_meaning.specs.Atom.{Atom, form_of}
 use Rattle.formula_meaning.specs.declared.junction.Junction.{Junction}
+use Rattle.formula_meaning.specs.declared.junction.Junction.TheVariants.{Conjunction, Disjunction}
 use Rattle.linear_forms.specs.Terms.{IsLinear}
-use Rattle.atom_merging.specs.declared.junction.Junction as code
-use Rattle.atom_merging.specs.declared.junction.Junction.TheVariants.{And, Or}
 use Rattle.atom_merging.specs.declared.answers.Merged.{Merged}
 use Rattle.atom_merging.specs.declared.answers.Merged.TheVariants.{True, False, One, Keep}
-use Rattle.atom_merging.specs.Junctions.{junction_of, absorbing, is_and}
+use Rattle.atom_merging.specs.Junctions.{absorbing}
 use Rattle.atom_merging.specs.Merging.{Settles, MergesInto, IsKept}
 use Rattle.atom_merging.specs.Merged.{IsMerging}
 use Rattle.atom_merging.specs.Answered.{IsOne, IsOneOrKept}
-use Rattle.atom_merging.proofs.Sets.{flip}
 use Rattle.atom_merging.specs.Verdicts.{Verdict, Settled, Kept, First, Second, IsDecisive}
 
-pub settled_answer : (c : Context) (j : code.Junction) (a b : Atom) → Settles c (junction_of j) a b → IsMerging c (junction_of j) a b (absorbing j)
-settled_answer c And a b h = h
-settled_answer c Or a b h = h
+pub settled_answer : (c : Context) (j : Junction) (a b : Atom) → Settles c j a b → IsMerging c j a b (absorbing j)
+settled_answer c Conjunction a b h = h
+settled_answer c Disjunction a b h = h
 
 pub one_answer : (c : Context) (j : Junction) (a b e : Atom) (m : Merged) → MergesInto c j a b e → (PastLimit (form_of e).constant → IsKept c j a b) → IsOneOrKept e m → IsMerging c j a b m
 one_answer c j a b e True h k w = absurd w
@@ -31,10 +29,6 @@ exact_answer c j a b e True h w = absurd w
 exact_answer c j a b e False h w = absurd w
 exact_answer c j a b e (One o) h w = (subst (MergesInto c j a b) (sym w.0) h, w.1, subst (λ x. IsLinear (form_of x)) (sym w.0) w.2)
 exact_answer c j a b e Keep h w = absurd w
-
-pub and_is_told : (j : code.Junction) → flip (junction_of j) (is_and j) ≡ true
-and_is_told And = refl
-and_is_told Or = refl
 
 pub decisive : (v : Verdict) → IsDecisive v → v ≡ Settled
 decisive Settled h = refl

@@ -1,5 +1,5 @@
 // Two comparisons with one variable part.
-ghost use Rattle.std.specs.Prelude.{◌≡◌, pos, ◌<ℤ◌, ◌*ℤ◌, MatchBool, MatchOption, IfOk, IfErr};
+ghost use Rattle.std.specs.Prelude.{◌≡◌, pos, ◌<ℤ◌, ◌*ℤ◌, MatchBool, MatchOption, IfOk};
 ghost use Rattle.std.specs.Ordering.{int_cmp};
 ghost use Rattle.exact_numbers.specs.Limit.{InLimit};
 ghost use Rattle.exact_numbers.specs.Divides.{content_of};
@@ -13,15 +13,15 @@ ghost use Rattle.atom_merging.specs.Positions.{IsContentIn, IsNextBelow, IsPosit
 ghost use Rattle.atom_merging.specs.Verdicts.{at_one, with_answers, apart, next_to, both, verdict, verdict_of, swapped, opposed, normal_comparison, IsDecisive};
 ghost use Rattle.atom_merging.specs.Computed.{placed, position, merged, merging_of, decided_by};
 ghost use Rattle.atom_merging.specs.Answered.{IsOneOrKept};
-ghost use Rattle.atom_merging.specs.Junctions.{junction_of};
 
 use crate::answers::Merged;
-use crate::junction::{Junction, absorbing};
+use crate::junction::absorbing;
 use crate::quotients;
-use atom_normal::{Atom, AtomError, Context, Rel, holds, opposite};
+use atom_normal::{Atom, Context, Rel, holds, opposite};
 use exact_numbers::sum;
+use formula_meaning::Junction;
 use linear_forms::{Linear, compare_fractions};
-use std::alloc::Global;
+use std::alloc::{AllocError, Global};
 use std::cmp::Ordering;
 
 // Where the threshold of one comparison lies, seen from that of another: over the integers, also whether it is the number
@@ -187,11 +187,11 @@ fn opposed(verdict: Verdict) -> Verdict
 
 // The verdict on two comparisons joined. Joined by `or` their opposites are joined by `and`.
 fn verdict_on(junction: Junction, position: Position, relation: Rel, other: Rel) -> Verdict
-    ensures { verdict_of result ≡ verdict (junction_of junction) position (relation_of relation) (relation_of other) }
+    ensures { verdict_of result ≡ verdict junction position (relation_of relation) (relation_of other) }
 {
     match junction {
-        Junction::And => both(position, relation, other),
-        Junction::Or => opposed(both(position, opposite(relation), opposite(other))),
+        Junction::Conjunction => both(position, relation, other),
+        Junction::Disjunction => opposed(both(position, opposite(relation), opposite(other))),
     }
 }
 
@@ -202,33 +202,29 @@ fn is_settled(verdict: Verdict) -> bool
     matches!(verdict, Verdict::Settled)
 }
 
-// The form with a constant, compared. The only error is `Memory`.
+// The form with a constant, compared.
 fn compared(
     alloc: Global,
     relation: Rel,
     form: &Linear,
     constant: i128,
-) -> Result<Merged, AtomError>
+) -> Result<Merged, AllocError>
     requires { InLimit constant }
-    ensures one { IfOk result (IsOneOrKept (Compare (relation_of relation) (record { terms = form.now.terms; constant = constant }))) }
-    ensures memory { IfErr result (λ e. e ≡ AtomError.Memory) }
+    ensures { IfOk result (IsOneOrKept (Compare (relation_of relation) (record { terms = form.now.terms; constant = constant }))) }
 {
-    match form.copy(alloc) {
-        Ok(form) => Ok(Merged::One(Atom::Compare(relation, form.with_constant(constant)))),
-        Err(_) => Err(AtomError::Memory),
-    }
+    let form = form.copy(alloc)?;
+    Ok(Merged::One(Atom::Compare(relation, form.with_constant(constant))))
 }
 
-// The comparison as a normal atom, or `Keep` where its constant passes the limit. The only error is `Memory`.
+// The comparison as a normal atom, or `Keep` where its constant passes the limit.
 fn normal_comparison(
     alloc: Global,
     context: Context,
     relation: Rel,
     form: &Linear,
-) -> Result<Merged, AtomError>
+) -> Result<Merged, AllocError>
     ensures one { IfOk result (IsOneOrKept (normal_comparison (context_of context) (relation_of relation) form.now)) }
     ensures given { IsLinear form.now }
-    ensures memory { IfErr result (λ e. e ≡ AtomError.Memory) }
 {
     let constant = form.constant_part();
     let moved = match (context, relation) {
@@ -242,7 +238,7 @@ fn normal_comparison(
     }
 }
 
-// Two comparisons joined. The only error is `Memory`.
+// Two comparisons joined.
 pub(crate) fn merged(
     alloc: Global,
     context: Context,
@@ -251,12 +247,11 @@ pub(crate) fn merged(
     form: &Linear,
     other_relation: Rel,
     other: &Linear,
-) -> Result<Merged, AtomError>
+) -> Result<Merged, AllocError>
     requires normal { IsNormal (context_of context) (Compare (relation_of relation) form.now) }
     requires other_normal { IsNormal (context_of context) (Compare (relation_of other_relation) other.now) }
-    ensures merged { IfOk result (IsMerging (context_of context) (junction_of junction) (Compare (relation_of relation) form.now) (Compare (relation_of other_relation) other.now)) }
-    ensures computed { IfOk result (λ m. merging_of m ≡ merged (context_of context) (junction_of junction) (Compare (relation_of relation) form.now) (Compare (relation_of other_relation) other.now)) }
-    ensures memory { IfErr result (λ e. e ≡ AtomError.Memory) }
+    ensures merged { IfOk result (IsMerging (context_of context) junction (Compare (relation_of relation) form.now) (Compare (relation_of other_relation) other.now)) }
+    ensures computed { IfOk result (λ m. merging_of m ≡ merged (context_of context) junction (Compare (relation_of relation) form.now) (Compare (relation_of other_relation) other.now)) }
 {
     let Some(position) = position_of(context, form, other) else {
         return Ok(Merged::Keep);

@@ -1,5 +1,5 @@
 // Two congruences of one modulus and the same terms.
-ghost use Rattle.std.specs.Prelude.{◌≡◌, ℤ, pos, ◌<ℤ◌, ◌≤ℤ◌, ◌-ℤ◌, unsigned_abs, MatchBool, IfOk, IfErr};
+ghost use Rattle.std.specs.Prelude.{◌≡◌, ℤ, pos, ◌<ℤ◌, ◌≤ℤ◌, ◌-ℤ◌, unsigned_abs, MatchBool, IfOk};
 ghost use Rattle.exact_numbers.specs.Limit.{InLimit};
 ghost use Rattle.formula_meaning.specs.Context.{Integers};
 ghost use Rattle.formula_meaning.specs.Atom.{Congruent};
@@ -8,14 +8,14 @@ ghost use Rattle.atom_merging.specs.Merged.{IsMerging, IsDecision};
 ghost use Rattle.atom_merging.specs.Computed.{merged, merging_of, decided_by};
 ghost use Rattle.atom_merging.specs.Answered.{IsOne};
 ghost use Rattle.atom_merging.specs.Classes.{left_by_two, different_classes, same_class, both_classes, class};
-ghost use Rattle.atom_merging.specs.Junctions.{junction_of};
 
 use crate::answers::Merged;
-use crate::junction::{Junction, absorbing, is_and};
+use crate::junction::{absorbing, is_and};
 use crate::quotients;
-use atom_normal::{Atom, AtomError};
+use atom_normal::Atom;
+use formula_meaning::Junction;
 use linear_forms::Linear;
-use std::alloc::Global;
+use std::alloc::{AllocError, Global};
 
 // Whether two congruences have one modulus and the same terms.
 pub(crate) fn is_same_part(
@@ -90,11 +90,11 @@ fn class_of(
     other: bool,
     other_constant: i128,
 ) -> Class
-    ensures { result ≡ class (junction_of junction) modulus holds constant other other_constant }
+    ensures { result ≡ class junction modulus holds constant other other_constant }
 {
     match junction {
-        Junction::And => both_classes(modulus, holds, constant, other, other_constant),
-        Junction::Or => both_classes(modulus, !holds, constant, !other, other_constant),
+        Junction::Conjunction => both_classes(modulus, holds, constant, other, other_constant),
+        Junction::Disjunction => both_classes(modulus, !holds, constant, !other, other_constant),
     }
 }
 
@@ -116,31 +116,28 @@ fn third_class(number: i128, other: i128) -> i128
     3 - number - other
 }
 
-// The congruence of the terms of a form with a constant. The only error is `Memory`.
+// The congruence of the terms of a form with a constant.
 fn congruence(
     alloc: Global,
     holds: bool,
     modulus: i128,
     form: &Linear,
     constant: i128,
-) -> Result<Merged, AtomError>
+) -> Result<Merged, AllocError>
     requires positive { pos 0 <ℤ modulus }
     requires within { InLimit modulus }
     requires constant_within { InLimit constant }
-    ensures one { IfOk result (IsOne (Congruent holds (unsigned_abs modulus) (record { terms = form.now.terms; constant = constant }))) }
-    ensures memory { IfErr result (λ e. e ≡ AtomError.Memory) }
+    ensures { IfOk result (IsOne (Congruent holds (unsigned_abs modulus) (record { terms = form.now.terms; constant = constant }))) }
 {
-    match form.copy(alloc) {
-        Ok(form) => Ok(Merged::One(Atom::Congruent {
-            holds,
-            modulus,
-            form: form.with_constant(constant),
-        })),
-        Err(_) => Err(AtomError::Memory),
-    }
+    let form = form.copy(alloc)?;
+    Ok(Merged::One(Atom::Congruent {
+        holds,
+        modulus,
+        form: form.with_constant(constant),
+    }))
 }
 
-// Two congruences of the same terms joined. The only error is `Memory`.
+// Two congruences of the same terms joined.
 pub(crate) fn merged(
     alloc: Global,
     junction: Junction,
@@ -149,15 +146,14 @@ pub(crate) fn merged(
     form: &Linear,
     other_holds: bool,
     other: &Linear,
-) -> Result<Merged, AtomError>
+) -> Result<Merged, AllocError>
     requires positive { pos 0 <ℤ modulus }
     requires within { InLimit modulus }
     requires same_terms { form.now.terms ≡ other.now.terms }
     requires normal { IsNormalCongruence holds (unsigned_abs modulus) form.now }
     requires other_normal { IsNormalCongruence other_holds (unsigned_abs modulus) other.now }
-    ensures merged { IfOk result (IsMerging Integers (junction_of junction) (Congruent holds (unsigned_abs modulus) form.now) (Congruent other_holds (unsigned_abs modulus) other.now)) }
-    ensures computed { IfOk result (λ m. merging_of m ≡ merged Integers (junction_of junction) (Congruent holds (unsigned_abs modulus) form.now) (Congruent other_holds (unsigned_abs modulus) other.now)) }
-    ensures memory { IfErr result (λ e. e ≡ AtomError.Memory) }
+    ensures merged { IfOk result (IsMerging Integers junction (Congruent holds (unsigned_abs modulus) form.now) (Congruent other_holds (unsigned_abs modulus) other.now)) }
+    ensures computed { IfOk result (λ m. merging_of m ≡ merged Integers junction (Congruent holds (unsigned_abs modulus) form.now) (Congruent other_holds (unsigned_abs modulus) other.now)) }
 {
     let number = form.constant_part();
     let other_number = other.constant_part();

@@ -1,21 +1,16 @@
 // How two atoms are joined, and what their join is where it is settled.
 ghost use Rattle.std.specs.Prelude.{◌≡◌};
-ghost use Rattle.atom_merging.specs.Junctions.{absorbing, is_and};
+ghost use Rattle.atom_merging.specs.Computed.{is_told};
+ghost use Rattle.atom_merging.specs.Junctions.{absorbing};
 
 use crate::answers::Merged;
-
-// Joined by `and`, or by `or`.
-#[derive(Clone, Copy)]
-pub(crate) enum Junction {
-    And,
-    Or,
-}
+use formula_meaning::Junction;
 
 // Whether they are joined by `and`.
 pub(crate) fn is_and(junction: Junction) -> bool
-    ensures { result ≡ is_and junction }
+    ensures { result ≡ is_told junction }
 {
-    matches!(junction, Junction::And)
+    matches!(junction, Junction::Conjunction)
 }
 
 // An intersection that is empty is false, a union that is everything is true.
@@ -23,7 +18,7 @@ pub(crate) fn absorbing(junction: Junction) -> Merged
     ensures { result ≡ absorbing junction }
 {
     match junction {
-        Junction::And => Merged::False,
-        Junction::Or => Merged::True,
+        Junction::Conjunction => Merged::False,
+        Junction::Disjunction => Merged::True,
     }
 }

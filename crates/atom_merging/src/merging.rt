@@ -5,29 +5,27 @@ ghost use Rattle.atom_normal.specs.NormalForm.{IsNormal};
 ghost use Rattle.atom_normal.specs.Atoms.{context_of, atom_of, IsWellFormed};
 ghost use Rattle.atom_merging.specs.Merged.{IsMerging, IsDecision};
 ghost use Rattle.atom_merging.specs.Computed.{merged, merging_of, decided_by};
-ghost use Rattle.atom_merging.specs.Junctions.{junction_of};
 
 use crate::answers::Merged;
-use crate::junction::Junction;
 use crate::{comparison, congruence};
 use atom_normal::{Atom, AtomError, Context};
-use std::alloc::Global;
+use formula_meaning::Junction;
+use std::alloc::{AllocError, Global};
 
-// Two normal atoms joined. The only error is `Memory`.
+// Two normal atoms joined.
 fn merged(
     alloc: Global,
     context: Context,
     junction: Junction,
     a: &Atom,
     b: &Atom,
-) -> Result<Merged, AtomError>
+) -> Result<Merged, AllocError>
     requires well_formed { IsWellFormed a.now }
     requires other_well_formed { IsWellFormed b.now }
     requires normal { IsNormal (context_of context) (atom_of a.now) }
     requires other_normal { IsNormal (context_of context) (atom_of b.now) }
-    ensures merged { IfOk result (IsMerging (context_of context) (junction_of junction) (atom_of a.now) (atom_of b.now)) }
-    ensures computed { IfOk result (λ m. merging_of m ≡ merged (context_of context) (junction_of junction) (atom_of a.now) (atom_of b.now)) }
-    ensures memory { IfErr result (λ e. e ≡ AtomError.Memory) }
+    ensures merged { IfOk result (IsMerging (context_of context) junction (atom_of a.now) (atom_of b.now)) }
+    ensures computed { IfOk result (λ m. merging_of m ≡ merged (context_of context) junction (atom_of a.now) (atom_of b.now)) }
 {
     match (a, b) {
         (Atom::Compare(relation, form), Atom::Compare(other_relation, other)) => {
@@ -71,7 +69,7 @@ pub fn merge_and(alloc: Global, context: Context, a: &Atom, b: &Atom) -> Result<
     ensures computed { IfOk result (λ m. merging_of m ≡ merged (context_of context) Conjunction (atom_of a.now) (atom_of b.now)) }
     ensures memory { IfErr result (λ e. e ≡ AtomError.Memory) }
 {
-    merged(alloc, context, Junction::And, a, b)
+    Ok(merged(alloc, context, Junction::Conjunction, a, b)?)
 }
 
 /// What two normal atoms joined by `or` become: `True` where each number meets one of them, the normal atom that stands for
@@ -86,7 +84,7 @@ pub fn merge_or(alloc: Global, context: Context, a: &Atom, b: &Atom) -> Result<M
     ensures computed { IfOk result (λ m. merging_of m ≡ merged (context_of context) Disjunction (atom_of a.now) (atom_of b.now)) }
     ensures memory { IfErr result (λ e. e ≡ AtomError.Memory) }
 {
-    merged(alloc, context, Junction::Or, a, b)
+    Ok(merged(alloc, context, Junction::Disjunction, a, b)?)
 }
 
 /// Whether the normal atom `theory` decides another: `Some(true)` where both have one variable part and each number that

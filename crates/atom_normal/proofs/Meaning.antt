@@ -1,10 +1,9 @@
 -- Well-formed atoms are determined by what they mean.
-use Rattle.std.proofs.Common.{◌≡◌, Bool, ap, sym, ◌∙◌, refl, arith}
+use Rattle.std.proofs.Common.{◌≡◌, ap, sym, ◌∙◌, refl, arith}
 use Rattle.std.proofs.Math.IntN.{ℤ, pos}
 use Rattle.std.specs.Prelude.{◌<ℤ◌, unsigned_abs}
 use Rattle.std.proofs.lemmas.Int.{ints}
 use Rattle.formula_meaning.specs.Atom as meant
-use Rattle.formula_meaning.specs.Form.{Form}
 use Rattle.atom_normal.specs.declared.atoms.Rel.{Rel}
 use Rattle.atom_normal.specs.declared.atoms.Rel.TheVariants.{Equal, Differs, Less, AtMost, Greater, AtLeast}
 use Rattle.atom_normal.specs.declared.atoms.Atom.{Atom}

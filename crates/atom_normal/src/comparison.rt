@@ -1,5 +1,5 @@
 // Comparisons in normal form.
-ghost use Rattle.std.specs.Prelude.{◌≡◌, ℤ, pos, List, neg_ℤ, ◌-ℤ◌, ◌<ℤ◌, if◌then◌else◌, IfOk, IfErr, IsErrOf, MatchOption};
+ghost use Rattle.std.specs.Prelude.{◌≡◌, ℤ, pos, List, neg_ℤ, ◌-ℤ◌, ◌<ℤ◌, if◌then◌else◌, IfOk, IsErrOf, MatchOption};
 ghost use Rattle.exact_numbers.specs.Limit.{InLimit, PastLimit};
 ghost use Rattle.std.specs.Ordering.{int_eq};
 ghost use Rattle.exact_numbers.specs.Divides.{floor_of, residue_of};
@@ -16,15 +16,14 @@ use crate::error::AtomError;
 use crate::parts::{constant, divided, facing, first_coefficient, holds, turned};
 use exact_numbers::{floor_div, gcd, residue};
 use linear_forms::Linear;
-use std::alloc::Global;
+use std::alloc::{AllocError, Global};
 
 // Over the fields all numbers are divided by their greatest common divisor, and the first coefficient becomes positive.
-pub(crate) fn in_fields(alloc: Global, relation: Rel, form: Linear) -> Result<Normal, AtomError>
+pub(crate) fn in_fields(alloc: Global, relation: Rel, form: Linear) -> Result<Normal, AllocError>
     ensures normal { IfOk result (λ n. tree_of n ≡ compared_in_fields (relation_of relation) form.terms form.constant) }
     ensures well_formed { IfOk result IsWellFormedNormal }
     ensures linear { IfOk result (λ n. Every (λ a. IsLinear (form_of a)) (tree_of n)) }
     ensures given { IsLinear form }
-    ensures memory { IfErr result (λ e. e ≡ AtomError.Memory) }
 {
     let first = first_coefficient(&form);
     let number = form.constant_part();
@@ -118,7 +117,7 @@ pub(crate) fn over_integers(alloc: Global, relation: Rel, form: Linear) -> Resul
         Some(Bound::At(relation, number)) => {
             match divided(alloc, form.with_constant(0), turned(first, content)) {
                 Ok(form) => Ok(Normal::One(Atom::Compare(relation, form.with_constant(number)))),
-                Err(error) => Err(error),
+                Err(error) => Err(AtomError::from(error)),
             }
         }
     }

@@ -1,5 +1,5 @@
 // Congruences in normal form.
-ghost use Rattle.std.specs.Prelude.{◌≡◌, ℤ, pos, negsuc, ◌<ℤ◌, ◌≤ℤ◌, ◌-ℤ◌, ◌∷◌, unsigned_abs, int_div, IfOk, IfErr};
+ghost use Rattle.std.specs.Prelude.{◌≡◌, ℤ, pos, negsuc, ◌<ℤ◌, ◌≤ℤ◌, ◌-ℤ◌, ◌∷◌, unsigned_abs, int_div, IfOk};
 ghost use Rattle.std.specs.Ordering.{int_cmp, int_eq, is_gt};
 ghost use Rattle.exact_numbers.specs.Limit.{InLimit};
 ghost use Rattle.exact_numbers.specs.Divides.{Divides, DividesAll, content_of, residue_of};
@@ -12,11 +12,10 @@ ghost use Rattle.atom_normal.specs.NormalForm.{first, smaller, congruence, copri
 ghost use Rattle.atom_normal.specs.Atoms.{atom_of, tree_of, IsWellFormed, IsWellFormedNormal};
 
 use crate::atoms::{Atom, Normal};
-use crate::error::AtomError;
 use crate::parts::{constant, divided, first_coefficient};
 use exact_numbers::{gcd, residue};
 use linear_forms::Linear;
-use std::alloc::Global;
+use std::alloc::{AllocError, Global};
 
 // The congruence, or its negation; modulo 2 the negation is the congruence of the form with the other constant.
 pub(crate) fn told(holds: bool, modulus: i128, form: Linear) -> Atom
@@ -57,40 +56,25 @@ fn is_larger(modulus: i128, form: &Linear) -> bool
     first.cmp(&(modulus - first)).is_gt()
 }
 
-// The negative of a form. The only error is `Memory`.
-fn negative(alloc: Global, form: &Linear) -> Result<Linear, AtomError>
-    ensures value { IfOk result (λ r. r ≡ scale (negsuc 0) form.now) }
-    ensures memory { IfErr result (λ e. e ≡ AtomError.Memory) }
+// The negative of a form.
+fn negative(alloc: Global, form: &Linear) -> Result<Linear, AllocError>
+    ensures { IfOk result (λ r. r ≡ scale (negsuc 0) form.now) }
 {
     match form.divide_exact(alloc, -1) {
         Ok(form) => Ok(form),
-        Err(_) => Err(AtomError::Memory),
+        Err(_) => Err(AllocError),
     }
 }
 
-// The form modulo a number. The only error is `Memory`.
-fn residues(alloc: Global, modulus: i128, form: &Linear) -> Result<Linear, AtomError>
-    requires { pos 0 <ℤ modulus }
-    ensures value { IfOk result (λ r. r ≡ residue_form form.now modulus) }
-    ensures linear { IfOk result IsLinear }
-    ensures memory { IfErr result (λ e. e ≡ AtomError.Memory) }
-{
-    match form.residues(alloc, modulus) {
-        Ok(form) => Ok(form),
-        Err(_) => Err(AtomError::Memory),
-    }
-}
-
-// Of a form and its negative modulo a number, the one whose first coefficient is the smaller. The only error is `Memory`.
-fn smaller(alloc: Global, modulus: i128, form: Linear) -> Result<Linear, AtomError>
+// Of a form and its negative modulo a number, the one whose first coefficient is the smaller.
+fn smaller(alloc: Global, modulus: i128, form: Linear) -> Result<Linear, AllocError>
     requires positive { pos 0 <ℤ modulus }
     requires reduced { pos 0 ≤ℤ first form.terms }
-    ensures value { IfOk result (λ r. r ≡ smaller modulus form) }
-    ensures memory { IfErr result (λ e. e ≡ AtomError.Memory) }
+    ensures { IfOk result (λ r. r ≡ smaller modulus form) }
 {
     if is_larger(modulus, &form) {
         let negative = negative(alloc, &form)?;
-        residues(alloc, modulus, &negative)
+        negative.residues(alloc, modulus)
     } else {
         Ok(form)
     }
@@ -127,14 +111,13 @@ fn quotient(number: i128, divisor: i128) -> i128
     number / divisor
 }
 
-// A congruence whose coefficients have no common divisor with the modulus. The only error is `Memory`.
-fn coprime(alloc: Global, holds: bool, modulus: i128, form: Linear) -> Result<Normal, AtomError>
+// A congruence whose coefficients have no common divisor with the modulus.
+fn coprime(alloc: Global, holds: bool, modulus: i128, form: Linear) -> Result<Normal, AllocError>
     requires positive { pos 0 <ℤ modulus }
     requires reduced { pos 0 ≤ℤ first form.terms }
     ensures normal { IfOk result (λ n. tree_of n ≡ coprime_congruence holds modulus form) }
     ensures well_formed { IfOk result IsWellFormedNormal }
     ensures linear { IfOk result (λ n. Every (λ a. IsLinear (form_of a)) (tree_of n)) }
-    ensures memory { IfErr result (λ e. e ≡ AtomError.Memory) }
 {
     if modulus.cmp(&1).is_eq() {
         return Ok(constant(holds));
@@ -146,22 +129,21 @@ fn coprime(alloc: Global, holds: bool, modulus: i128, form: Linear) -> Result<No
 }
 
 // The numbers are reduced modulo the modulus, and all are divided by the greatest common divisor of the modulus and the
-// coefficients. The only error is `Memory`.
+// coefficients.
 pub(crate) fn congruent(
     alloc: Global,
     holds: bool,
     modulus: i128,
     form: Linear,
-) -> Result<Normal, AtomError>
+) -> Result<Normal, AllocError>
     requires { pos 0 <ℤ modulus }
     ensures normal { IfOk result (λ n. tree_of n ≡ congruent holds modulus form) }
     ensures well_formed { IfOk result IsWellFormedNormal }
     ensures linear { IfOk result (λ n. Every (λ a. IsLinear (form_of a)) (tree_of n)) }
-    ensures memory { IfErr result (λ e. e ≡ AtomError.Memory) }
     ensures given { IsLinear form }
 {
     let _number = form.constant_part();
-    let reduced = residues(alloc, modulus, &form)?;
+    let reduced = form.residues(alloc, modulus)?;
     let divisor = common_divisor(modulus, &reduced);
     if divides(divisor, reduced.constant_part()) {
         let form = divided(alloc, reduced, divisor)?;

@@ -1,4 +1,8 @@
 // The errors of atoms.
+ghost use Rattle.std.specs.Prelude.{◌≡◌};
+ghost use Rattle.atom_normal.specs.declared.error.AtomError.TheVariants.{Memory};
+
+use std::alloc::AllocError;
 use thiserror::Error;
 
 /// Why an atom could not be made.
@@ -10,4 +14,12 @@ pub enum AtomError {
     /// There is no memory left.
     #[error("out of memory")]
     Memory,
+}
+
+impl From<AllocError> for AtomError {
+    ghost from_gives = { λ _ e. e ≡ Memory };
+
+    fn from(_error: AllocError) -> AtomError {
+        AtomError::Memory
+    }
 }

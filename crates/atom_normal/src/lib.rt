@@ -17,6 +17,3 @@ pub use laws::{
 };
 pub use normal_form::{negate, normal, truth};
 pub use parts::{holds, opposite};
-
-#[cfg(test)]
-mod tests;

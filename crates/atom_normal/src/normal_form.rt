@@ -32,25 +32,14 @@ pub fn normal(alloc: Global, context: Context, atom: Atom) -> Result<Normal, Ato
 {
     match atom {
         Atom::Compare(relation, form) => match context {
-            Context::Fields => in_fields(alloc, relation, form),
+            Context::Fields => Ok(in_fields(alloc, relation, form)?),
             Context::Integers => over_integers(alloc, relation, form),
         },
         Atom::Congruent {
             holds,
             modulus,
             form,
-        } => congruent(alloc, holds, modulus, form),
-    }
-}
-
-// An equal form. The only error is `Memory`.
-fn copy(alloc: Global, form: &Linear) -> Result<Linear, AtomError>
-    ensures same { IfOk result (λ r. r ≡ form.now) }
-    ensures memory { IfErr result (λ e. e ≡ AtomError.Memory) }
-{
-    match form.copy(alloc) {
-        Ok(form) => Ok(form),
-        Err(_) => Err(AtomError::Memory),
+        } => Ok(congruent(alloc, holds, modulus, form)?),
     }
 }
 
@@ -63,7 +52,7 @@ pub fn negate(alloc: Global, atom: &Atom) -> Result<Atom, AtomError>
 {
     match atom {
         Atom::Compare(relation, form) => {
-            let form = copy(alloc, form)?;
+            let form = form.copy(alloc)?;
             Ok(Atom::Compare(opposite(*relation), form))
         }
         Atom::Congruent {
@@ -71,7 +60,7 @@ pub fn negate(alloc: Global, atom: &Atom) -> Result<Atom, AtomError>
             modulus,
             form,
         } => {
-            let form = copy(alloc, form)?;
+            let form = form.copy(alloc)?;
             Ok(told(!*holds, *modulus, form))
         }
     }

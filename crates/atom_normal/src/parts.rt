@@ -1,5 +1,5 @@
 // Relations, and the first coefficient of a form with what its sign turns.
-ghost use Rattle.std.specs.Prelude.{◌≡◌, ℤ, pos, ◌∷◌, neg_ℤ, IfOk, IfErr};
+ghost use Rattle.std.specs.Prelude.{◌≡◌, ℤ, pos, ◌∷◌, neg_ℤ, IfOk};
 ghost use Rattle.std.specs.Ordering.{int_cmp};
 ghost use Rattle.exact_numbers.specs.Limit.{InLimit};
 ghost use Rattle.exact_numbers.specs.Divides.{DividesAll};
@@ -10,9 +10,8 @@ ghost use Rattle.atom_normal.specs.NormalForm.{constant_tree, holds, first, turn
 ghost use Rattle.atom_normal.specs.Atoms.{relation_of, tree_of, IsWellFormedNormal};
 
 use crate::atoms::{Normal, Rel};
-use crate::error::AtomError;
 use linear_forms::Linear;
-use std::alloc::Global;
+use std::alloc::{AllocError, Global};
 use std::cmp::Ordering;
 
 /// Whether a number has the relation to another, by the order of the two.
@@ -96,13 +95,12 @@ pub(crate) fn turned(first: i128, number: i128) -> i128
     if first < 0 { -number } else { number }
 }
 
-// The form with each number divided by `by`. The only error is `Memory`, and by 1 no memory is taken.
-pub(crate) fn divided(alloc: Global, form: Linear, by: i128) -> Result<Linear, AtomError>
+// The form with each number divided by `by`. By 1 no memory is taken.
+pub(crate) fn divided(alloc: Global, form: Linear, by: i128) -> Result<Linear, AllocError>
     requires nonzero { ¬ (by ≡ pos 0) }
     requires divides { DividesAll by (form.constant ∷ coefficients form.terms) }
     ensures value { IfOk result (λ r. r ≡ quotient form by) }
     ensures linear { IfOk result IsLinear }
-    ensures memory { IfErr result (λ e. e ≡ AtomError.Memory) }
 {
     let _number = form.constant_part();
     if by == 1 {
@@ -110,6 +108,6 @@ pub(crate) fn divided(alloc: Global, form: Linear, by: i128) -> Result<Linear, A
     }
     match form.divide_exact(alloc, by) {
         Ok(quotient) => Ok(quotient),
-        Err(_) => Err(AtomError::Memory),
+        Err(_) => Err(AllocError),
     }
 }

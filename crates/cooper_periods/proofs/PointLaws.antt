@@ -18,14 +18,14 @@ use Rattle.elimination_reference.proofs.Tidy.{normaliser}
 use Rattle.atom_normal.specs.NormalForm.{normal_atom}
 use Rattle.atom_normal.specs.Atoms.{atom_of}
 use Rattle.test_points.specs.declared.points.TestPoint.{TestPoint}
-use Rattle.test_points.specs.Points.{side_of, place_of}
+use Rattle.test_points.specs.Points.{place_of}
 use Rattle.test_points.proofs.PutLaws.{put_equivalent, put_names, some_point}
 use Rattle.cooper_periods.specs.Laws.{PointsSuffice, PointsSuit, PointsKeepNames, SubstitutionHolds, SubstitutionKeepsNames}
 
 pub suffice : PointsSuffice
 suffice side x atoms points f p are plain inside o =
-    let list = are.listed ∙ ap (integer_points_of (side_of side) x.number) are.formula in
-    let e = integer_points_suffice (side_of side) x.number f p plain inside o in
+    let list = are.listed ∙ ap (integer_points_of side x.number) are.formula in
+    let e = integer_points_suffice side x.number f p plain inside o in
     let s = some_point _ points _ list in
     (λ h. s.0 (e.0 h), λ h. e.1 (s.1 h))
 
@@ -35,13 +35,13 @@ among points places t e h = subst (SomeOf (λ s. s ≡ place_of t)) e (some_mapp
 
 pub suit : PointsSuit
 suit side x atoms points f t are inside h =
-    let list = are.listed ∙ ap (integer_points_of (side_of side) x.number) are.formula in
-    points_suit (side_of side) x.number f (place_of t) inside (among points _ t list h)
+    let list = are.listed ∙ ap (integer_points_of side x.number) are.formula in
+    points_suit side x.number f (place_of t) inside (among points _ t list h)
 
 pub keep_names : PointsKeepNames
 keep_names side x atoms points f t y are plain h mentions =
-    let list = are.listed ∙ ap (integer_points_of (side_of side) x.number) are.formula in
-    integer_point_names (side_of side) x.number f (place_of t) y plain mentions (among points _ t list h)
+    let list = are.listed ∙ ap (integer_points_of side x.number) are.formula in
+    integer_point_names side x.number f (place_of t) y plain mentions (among points _ t list h)
 
 pub holds : SubstitutionHolds
 holds a t n g p inside place suits made o =

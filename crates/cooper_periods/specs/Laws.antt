@@ -21,13 +21,13 @@ use Rattle.atom_normal.specs.NormalForm.{normal_atom}
 use Rattle.atom_normal.specs.Atoms.{atom_of, tree_of}
 use Rattle.atom_normal.specs.declared.atoms.Atom.{Atom}
 use Rattle.atom_normal.specs.declared.atoms.Normal.{Normal}
-use Rattle.test_points.specs.declared.points.Side.{Side}
+use Rattle.elimination_theory.specs.declared.side.Side.{Side}
 use Rattle.test_points.specs.declared.points.TestPoint.{TestPoint}
-use Rattle.test_points.specs.Points.{side_of, place_of}
+use Rattle.test_points.specs.Points.{place_of}
 
 -- the points are those of x in the atoms, and these are the atoms of f, each once
 pub record AreIntegerPoints (side : Side) (x : VarId) (atoms : List Atom) (points : List TestPoint) (f : Tree) : Type 0 where
-  pub listed : map place_of points ≡ integer_points_of (side_of side) x.number (map atom_of atoms)
+  pub listed : map place_of points ≡ integer_points_of side x.number (map atom_of atoms)
   pub formula : map atom_of atoms ≡ atoms_of f
 
 -- ex(x, f) is true exactly where some point of the list makes f true, for f built by and and or

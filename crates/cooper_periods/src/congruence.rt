@@ -80,16 +80,14 @@ pub(crate) fn in_class(
     let Some(constant) = constant_at(form, point.name, point.form.constant_part()) else {
         return Err(PointError::Overflow);
     };
-    match rest(alloc, form, point.name, false) {
-        Ok(rest) => in_normal_form(
-            alloc,
-            Context::Integers,
-            Atom::Congruent {
-                holds,
-                modulus,
-                form: rest.with_constant(constant),
-            },
-        ),
-        Err(_) => Err(PointError::Memory),
-    }
+    let rest = rest(alloc, form, point.name, false)?;
+    in_normal_form(
+        alloc,
+        Context::Integers,
+        Atom::Congruent {
+            holds,
+            modulus,
+            form: rest.with_constant(constant),
+        },
+    )
 }

@@ -7,7 +7,7 @@ ghost use Rattle.formula_meaning.specs.Atom.{Compare, form_of};
 ghost use Rattle.elimination_theory.specs.IntegersPoints.{next_points, starts_of, atom_starts};
 ghost use Rattle.formula_meaning.specs.Limits.{each, place_within};
 ghost use Rattle.atom_normal.specs.Atoms.{atom_of, relation_of};
-ghost use Rattle.test_points.specs.Points.{side_of, place_of, IsPointOf};
+ghost use Rattle.test_points.specs.Points.{place_of, IsPointOf};
 ghost use Rattle.cooper_periods.specs.Periods.{IsReached, IsUsable};
 ghost use Rattle.cooper_periods.specs.Starts.{beside_end, beside_atom};
 
@@ -36,11 +36,11 @@ fn push_end(
     requires within { InLimit factor }
     requires usable { IsUsable period.now }
     requires well_formed { All (IsPointOf x) points.old.items }
-    ensures places { OnOk result (map place_of points.new.items ≡ map place_of points.old.items ++ beside_end (side_of side) (unsigned_abs period.now.scale) (unsigned_abs period.now.span) (relation_of relation) (scale factor end)) }
+    ensures places { OnOk result (map place_of points.new.items ≡ map place_of points.old.items ++ beside_end side (unsigned_abs period.now.scale) (unsigned_abs period.now.span) (relation_of relation) (scale factor end)) }
     ensures well_formed { OnOk result (All (IsPointOf x) points.new.items) }
-    ensures within { OnOk result (each place_within (beside_end (side_of side) (unsigned_abs period.now.scale) (unsigned_abs period.now.span) (relation_of relation) (scale factor end)) ≡ true) }
-    ensures overflow { IsErrOf result PointError.Overflow → each place_within (beside_end (side_of side) (unsigned_abs period.now.scale) (unsigned_abs period.now.span) (relation_of relation) (scale factor end)) ≡ false }
-    ensures many { IsErrOf result PointError.Nodes → 2 ^ 64 ≤ length (beside_end (side_of side) (unsigned_abs period.now.scale) (unsigned_abs period.now.span) (relation_of relation) (scale factor end)) }
+    ensures within { OnOk result (each place_within (beside_end side (unsigned_abs period.now.scale) (unsigned_abs period.now.span) (relation_of relation) (scale factor end)) ≡ true) }
+    ensures overflow { IsErrOf result PointError.Overflow → each place_within (beside_end side (unsigned_abs period.now.scale) (unsigned_abs period.now.span) (relation_of relation) (scale factor end)) ≡ false }
+    ensures many { IsErrOf result PointError.Nodes → 2 ^ 64 ≤ length (beside_end side (unsigned_abs period.now.scale) (unsigned_abs period.now.span) (relation_of relation) (scale factor end)) }
 {
     let number = signed(side, end.constant_part());
     let Some(step) = first_step(relation) else {
@@ -56,7 +56,7 @@ fn push_end(
         return Err(PointError::Overflow);
     };
     match scaled(alloc, end, factor) {
-        Ok(form) => push_run(alloc, points, x, side, &form, first, count, period.scale),
+        Ok(form) => Ok(push_run(alloc, points, x, side, &form, first, count, period.scale)?),
         Err(LinError::Overflow) => Err(PointError::Overflow),
         Err(LinError::Memory) => Err(PointError::Memory),
     }
@@ -75,30 +75,20 @@ fn push_comparison(
     requires usable { IsUsable period.now }
     requires reached { IsReached (unsigned_abs period.now.scale) (coefficient x.number form.now) }
     requires well_formed { All (IsPointOf x) points.old.items }
-    ensures places { OnOk result (map place_of points.new.items ≡ map place_of points.old.items ++ beside_atom (side_of side) (unsigned_abs period.now.scale) (unsigned_abs period.now.span) x.number (Compare (relation_of relation) form.now)) }
+    ensures places { OnOk result (map place_of points.new.items ≡ map place_of points.old.items ++ beside_atom side (unsigned_abs period.now.scale) (unsigned_abs period.now.span) x.number (Compare (relation_of relation) form.now)) }
     ensures well_formed { OnOk result (All (IsPointOf x) points.new.items) }
-    ensures within { OnOk result (each place_within (beside_atom (side_of side) (unsigned_abs period.now.scale) (unsigned_abs period.now.span) x.number (Compare (relation_of relation) form.now)) ≡ true) }
-    ensures overflow { IsErrOf result PointError.Overflow → each place_within (beside_atom (side_of side) (unsigned_abs period.now.scale) (unsigned_abs period.now.span) x.number (Compare (relation_of relation) form.now)) ≡ false }
-    ensures many { IsErrOf result PointError.Nodes → 2 ^ 64 ≤ length (beside_atom (side_of side) (unsigned_abs period.now.scale) (unsigned_abs period.now.span) x.number (Compare (relation_of relation) form.now)) }
+    ensures within { OnOk result (each place_within (beside_atom side (unsigned_abs period.now.scale) (unsigned_abs period.now.span) x.number (Compare (relation_of relation) form.now)) ≡ true) }
+    ensures overflow { IsErrOf result PointError.Overflow → each place_within (beside_atom side (unsigned_abs period.now.scale) (unsigned_abs period.now.span) x.number (Compare (relation_of relation) form.now)) ≡ false }
+    ensures many { IsErrOf result PointError.Nodes → 2 ^ 64 ≤ length (beside_atom side (unsigned_abs period.now.scale) (unsigned_abs period.now.span) x.number (Compare (relation_of relation) form.now)) }
 {
     let times = form.coefficient(x);
     if times == 0 {
         return Ok(());
     }
     let factor = quotient(period.scale, times.abs());
-    match rest(alloc, form, x, 0 < times) {
-        Ok(end) => push_end(
-            alloc,
-            points,
-            x,
-            side,
-            seen(side, relation, times < 0),
-            end,
-            factor,
-            period,
-        ),
-        Err(_) => Err(PointError::Memory),
-    }
+    let end = rest(alloc, form, x, 0 < times)?;
+    let relation = seen(side, relation, times < 0);
+    push_end(alloc, points, x, side, relation, end, factor, period)
 }
 
 // Puts the numbers beside the end of an atom's interval last, if there is one that lies to the side. `Nodes` comes only where
@@ -114,11 +104,11 @@ pub(crate) fn push_atom(
     requires usable { IsUsable period.now }
     requires reached { IsReached (unsigned_abs period.now.scale) (coefficient x.number (form_of (atom_of atom.now))) }
     requires well_formed { All (IsPointOf x) points.old.items }
-    ensures places { OnOk result (map place_of points.new.items ≡ map place_of points.old.items ++ beside_atom (side_of side) (unsigned_abs period.now.scale) (unsigned_abs period.now.span) x.number (atom_of atom.now)) }
+    ensures places { OnOk result (map place_of points.new.items ≡ map place_of points.old.items ++ beside_atom side (unsigned_abs period.now.scale) (unsigned_abs period.now.span) x.number (atom_of atom.now)) }
     ensures well_formed { OnOk result (All (IsPointOf x) points.new.items) }
-    ensures within { OnOk result (each place_within (beside_atom (side_of side) (unsigned_abs period.now.scale) (unsigned_abs period.now.span) x.number (atom_of atom.now)) ≡ true) }
-    ensures overflow { IsErrOf result PointError.Overflow → each place_within (beside_atom (side_of side) (unsigned_abs period.now.scale) (unsigned_abs period.now.span) x.number (atom_of atom.now)) ≡ false }
-    ensures many { IsErrOf result PointError.Nodes → 2 ^ 64 ≤ length (beside_atom (side_of side) (unsigned_abs period.now.scale) (unsigned_abs period.now.span) x.number (atom_of atom.now)) }
+    ensures within { OnOk result (each place_within (beside_atom side (unsigned_abs period.now.scale) (unsigned_abs period.now.span) x.number (atom_of atom.now)) ≡ true) }
+    ensures overflow { IsErrOf result PointError.Overflow → each place_within (beside_atom side (unsigned_abs period.now.scale) (unsigned_abs period.now.span) x.number (atom_of atom.now)) ≡ false }
+    ensures many { IsErrOf result PointError.Nodes → 2 ^ 64 ≤ length (beside_atom side (unsigned_abs period.now.scale) (unsigned_abs period.now.span) x.number (atom_of atom.now)) }
 {
     match atom {
         Atom::Compare(relation, form) => {
@@ -140,11 +130,11 @@ pub(crate) fn push_atoms(
     requires usable { IsUsable period.now }
     requires reached { EachOf (λ a. IsReached (unsigned_abs period.now.scale) (coefficient x.number (form_of a))) (map atom_of atoms.now) }
     requires well_formed { All (IsPointOf x) points.old.items }
-    ensures places { OnOk result (map place_of points.new.items ≡ map place_of points.old.items ++ flat_map (beside_atom (side_of side) (unsigned_abs period.now.scale) (unsigned_abs period.now.span) x.number) (map atom_of atoms.now)) }
+    ensures places { OnOk result (map place_of points.new.items ≡ map place_of points.old.items ++ flat_map (beside_atom side (unsigned_abs period.now.scale) (unsigned_abs period.now.span) x.number) (map atom_of atoms.now)) }
     ensures well_formed { OnOk result (All (IsPointOf x) points.new.items) }
-    ensures within { OnOk result (each place_within (flat_map (beside_atom (side_of side) (unsigned_abs period.now.scale) (unsigned_abs period.now.span) x.number) (map atom_of atoms.now)) ≡ true) }
-    ensures overflow { IsErrOf result PointError.Overflow → each place_within (flat_map (beside_atom (side_of side) (unsigned_abs period.now.scale) (unsigned_abs period.now.span) x.number) (map atom_of atoms.now)) ≡ false }
-    ensures many { IsErrOf result PointError.Nodes → 2 ^ 64 ≤ length (flat_map (beside_atom (side_of side) (unsigned_abs period.now.scale) (unsigned_abs period.now.span) x.number) (map atom_of atoms.now)) }
+    ensures within { OnOk result (each place_within (flat_map (beside_atom side (unsigned_abs period.now.scale) (unsigned_abs period.now.span) x.number) (map atom_of atoms.now)) ≡ true) }
+    ensures overflow { IsErrOf result PointError.Overflow → each place_within (flat_map (beside_atom side (unsigned_abs period.now.scale) (unsigned_abs period.now.span) x.number) (map atom_of atoms.now)) ≡ false }
+    ensures many { IsErrOf result PointError.Nodes → 2 ^ 64 ≤ length (flat_map (beside_atom side (unsigned_abs period.now.scale) (unsigned_abs period.now.span) x.number) (map atom_of atoms.now)) }
 {
     for atom in atoms {
         match push_atom(alloc, points, atom, x, side, period) {

@@ -3,7 +3,7 @@ ghost use Rattle.std.specs.Prelude.{◌≡◌, pos, ◌<ℤ◌, ◌<◌, ◌≤�
 ghost use Rattle.elimination_theory.specs.IntegersPoints.{integer_points_of, integer_count_of};
 ghost use Rattle.formula_meaning.specs.Limits.{each, place_within};
 ghost use Rattle.atom_normal.specs.Atoms.{atom_of, IsWellFormed};
-ghost use Rattle.test_points.specs.Points.{side_of, place_of, IsPointOf};
+ghost use Rattle.test_points.specs.Points.{place_of, IsPointOf};
 ghost use Rattle.cooper_periods.specs.Starts.{has_end};
 ghost use Rattle.cooper_periods.specs.Periods.{IsPeriodOf};
 
@@ -18,7 +18,7 @@ use test_points::{PointError, Side, TestPoint, distinct_points, quotient};
 
 // How many of the atoms have an end that lies to the side.
 fn ends_count(atoms: &[Atom], x: VarId, side: Side) -> usize
-    ensures { result ≡ count_by (λ a. has_end (side_of side) x.number (atom_of a)) atoms.now }
+    ensures { result ≡ count_by (λ a. has_end side x.number (atom_of a)) atoms.now }
 {
     atoms.iter().filter(|atom| has_end(atom, x, side)).count()
 }
@@ -40,7 +40,7 @@ fn total(ends: usize, span: i128, scale: i128) -> Option<u64>
 pub fn points_count(atoms: &[Atom], x: VarId, period: &Period, side: Side) -> Option<u64>
     requires well_formed { All IsWellFormed atoms.now }
     requires period { IsPeriodOf x.number (map atom_of atoms.now) period.now }
-    ensures { MatchOption result (2 ^ 64 ≤ integer_count_of (side_of side) x.number (map atom_of atoms.now)) (λ n. n ≡ integer_count_of (side_of side) x.number (map atom_of atoms.now)) }
+    ensures { MatchOption result (2 ^ 64 ≤ integer_count_of side x.number (map atom_of atoms.now)) (λ n. n ≡ integer_count_of side x.number (map atom_of atoms.now)) }
 {
     total(ends_count(atoms, x, side), period.span, period.scale)
 }
@@ -60,13 +60,13 @@ pub fn integer_points(
 ) -> Result<Vec<TestPoint>, PointError>
     requires well_formed { All IsWellFormed atoms.now }
     requires period { IsPeriodOf x.number (map atom_of atoms.now) period.now }
-    ensures points { IfOk result (λ v. map place_of v.items ≡ integer_points_of (side_of side) x.number (map atom_of atoms.now)) }
+    ensures points { IfOk result (λ v. map place_of v.items ≡ integer_points_of side x.number (map atom_of atoms.now)) }
     ensures well_formed { IfOk result (λ v. All (IsPointOf x) v.items) }
-    ensures few { IfOk result (λ v. integer_count_of (side_of side) x.number (map atom_of atoms.now) ≤ limit) }
-    ensures within { IfOk result (λ v. each place_within (integer_points_of (side_of side) x.number (map atom_of atoms.now)) ≡ true) }
-    ensures many { IsErrOf result PointError.Nodes → limit < integer_count_of (side_of side) x.number (map atom_of atoms.now) }
-    ensures few_first { IsErrOf result PointError.Overflow → integer_count_of (side_of side) x.number (map atom_of atoms.now) ≤ limit }
-    ensures overflow { IsErrOf result PointError.Overflow → each place_within (integer_points_of (side_of side) x.number (map atom_of atoms.now)) ≡ false }
+    ensures few { IfOk result (λ v. integer_count_of side x.number (map atom_of atoms.now) ≤ limit) }
+    ensures within { IfOk result (λ v. each place_within (integer_points_of side x.number (map atom_of atoms.now)) ≡ true) }
+    ensures many { IsErrOf result PointError.Nodes → limit < integer_count_of side x.number (map atom_of atoms.now) }
+    ensures few_first { IsErrOf result PointError.Overflow → integer_count_of side x.number (map atom_of atoms.now) ≤ limit }
+    ensures overflow { IsErrOf result PointError.Overflow → each place_within (integer_points_of side x.number (map atom_of atoms.now)) ≡ false }
 {
     match points_count(atoms, x, period, side) {
         Some(count) if count <= limit => {}
@@ -76,12 +76,9 @@ pub fn integer_points(
         return Err(PointError::Nodes);
     };
     let mut points = Vec::new(alloc);
-    match push_classes(alloc, &mut points, x, side, classes) {
-        Ok(()) => {}
-        Err(error) => return Err(error),
-    }
+    push_classes(alloc, &mut points, x, side, classes)?;
     match push_atoms(alloc, &mut points, atoms, x, side, period) {
-        Ok(()) => distinct_points(alloc, x, points),
+        Ok(()) => Ok(distinct_points(alloc, x, points)?),
         Err(error) => Err(error),
     }
 }

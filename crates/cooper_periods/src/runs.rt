@@ -1,22 +1,22 @@
 // Runs of test points of the integers: residue classes, and the numbers that follow an end.
-ghost use Rattle.std.specs.Prelude.{◌≡◌, ℕ, ℤ, pos, neg_ℤ, ◌+ℤ◌, ◌*ℤ◌, ◌<ℤ◌, ◌≤ℤ◌, ◌<◌, ◌++◌, All, map, unsigned_abs, OnOk, IfOk, IfErr, IsErrOf, MatchOption};
+ghost use Rattle.std.specs.Prelude.{◌≡◌, ℕ, ℤ, pos, neg_ℤ, ◌+ℤ◌, ◌*ℤ◌, ◌<ℤ◌, ◌≤ℤ◌, ◌<◌, ◌++◌, All, map, unsigned_abs, OnOk, IfOk, IsErrOf, MatchOption};
 ghost use Rattle.exact_numbers.specs.Limit.{InLimit, PastLimit};
 ghost use Rattle.formula_meaning.specs.Form.{Form, coefficient, scale};
 ghost use Rattle.formula_meaning.specs.Answer.{Exact, Periodic};
 ghost use Rattle.elimination_theory.specs.IntegersPoints.{signed, class_points};
 ghost use Rattle.linear_forms.specs.Terms.{IsLinear};
-ghost use Rattle.test_points.specs.Points.{side_of, place_of, IsPointOf};
+ghost use Rattle.test_points.specs.Points.{place_of, IsPointOf};
 ghost use Rattle.cooper_periods.specs.Starts.{run_of};
 
 use exact_numbers::sum;
 use linear_forms::{LinError, Linear, VarId};
-use std::alloc::Global;
-use test_points::{Place, PointError, Side, TestPoint, push_point};
+use std::alloc::{AllocError, Global};
+use test_points::{Place, Side, TestPoint, push_point};
 
 // The number as the side sees it.
 pub(crate) fn signed(side: Side, number: i128) -> i128
     requires { InLimit number }
-    ensures value { result ≡ signed (side_of side) number }
+    ensures value { result ≡ signed side number }
     ensures within { InLimit result }
 {
     match side {
@@ -42,18 +42,17 @@ fn class(alloc: Global, x: VarId, number: i128, period: i128) -> TestPoint
     }
 }
 
-// Puts the residue classes of a period towards the infinity of the side last. The only error is `Memory`.
+// Puts the residue classes of a period towards the infinity of the side last.
 pub(crate) fn push_classes(
     alloc: Global,
     points: &mut Vec<TestPoint>,
     x: VarId,
     side: Side,
     period: u64,
-) -> Result<(), PointError>
+) -> Result<(), AllocError>
     requires { All (IsPointOf x) points.old.items }
-    ensures places { OnOk result (map place_of points.new.items ≡ map place_of points.old.items ++ class_points (side_of side) period) }
+    ensures places { OnOk result (map place_of points.new.items ≡ map place_of points.old.items ++ class_points side period) }
     ensures well_formed { OnOk result (All (IsPointOf x) points.new.items) }
-    ensures memory { IfErr result (λ e. e ≡ PointError.Memory) }
 {
     let step = signed(side, -i128::from(period));
     for before in 0..period {
@@ -63,34 +62,31 @@ pub(crate) fn push_classes(
     Ok(())
 }
 
-// A form's terms with a constant over the scale, as a test point. The only error is `Memory`.
+// A form's terms with a constant over the scale, as a test point.
 fn over_scale(
     alloc: Global,
     x: VarId,
     form: &Linear,
     constant: i128,
     scale: i128,
-) -> Result<TestPoint, PointError>
+) -> Result<TestPoint, AllocError>
     requires within { InLimit constant }
     requires positive { pos 0 <ℤ scale }
     requires scale_within { InLimit scale }
     ensures place { IfOk result (λ t. place_of t ≡ Exact (record { terms = form.now.terms; constant = constant }) (unsigned_abs scale)) }
     ensures well_formed { IfOk result (IsPointOf x) }
-    ensures memory { IfErr result (λ e. e ≡ PointError.Memory) }
 {
-    match form.copy(alloc) {
-        Ok(form) => Ok(TestPoint {
-            name: x,
-            place: Place::Exact,
-            form: form.with_constant(constant),
-            over: scale,
-            period: 0,
-        }),
-        Err(_) => Err(PointError::Memory),
-    }
+    let form = form.copy(alloc)?;
+    Ok(TestPoint {
+        name: x,
+        place: Place::Exact,
+        form: form.with_constant(constant),
+        over: scale,
+        period: 0,
+    })
 }
 
-// Puts a form's terms last with so many constants from the first on, as the side sees them. The only error is `Memory`.
+// Puts a form's terms last with so many constants from the first on, as the side sees them.
 pub(crate) fn push_run(
     alloc: Global,
     points: &mut Vec<TestPoint>,
@@ -100,14 +96,13 @@ pub(crate) fn push_run(
     first: i128,
     count: u64,
     scale: i128,
-) -> Result<(), PointError>
+) -> Result<(), AllocError>
     requires within { (k : ℕ) → k < count → InLimit (first +ℤ pos k) }
     requires positive { pos 0 <ℤ scale }
     requires scale_within { InLimit scale }
     requires well_formed { All (IsPointOf x) points.old.items }
-    ensures places { OnOk result (map place_of points.new.items ≡ map place_of points.old.items ++ run_of (side_of side) (unsigned_abs scale) form.now first count) }
+    ensures places { OnOk result (map place_of points.new.items ≡ map place_of points.old.items ++ run_of side (unsigned_abs scale) form.now first count) }
     ensures well_formed { OnOk result (All (IsPointOf x) points.new.items) }
-    ensures memory { IfErr result (λ e. e ≡ PointError.Memory) }
 {
     for after in 0..count {
         let constant = signed(side, first + i128::from(after));

@@ -1,7 +1,6 @@
 // The ends of intervals over the integers, as the sides see them.
 ghost use Rattle.std.specs.Prelude.{◌≡◌};
 ghost use Rattle.atom_normal.specs.Atoms.{atom_of, relation_of};
-ghost use Rattle.test_points.specs.Points.{side_of};
 ghost use Rattle.cooper_periods.specs.Starts.{first_step, has_end};
 
 use atom_normal::{Atom, Rel};
@@ -22,7 +21,7 @@ pub(crate) fn first_step(relation: Rel) -> Option<i128>
 
 // Whether the atom has an end that lies to the side.
 pub(crate) fn has_end(atom: &Atom, x: VarId, side: Side) -> bool
-    ensures { result ≡ has_end (side_of side) x.number (atom_of atom.now) }
+    ensures { result ≡ has_end side x.number (atom_of atom.now) }
 {
     match atom {
         Atom::Compare(relation, form) => {

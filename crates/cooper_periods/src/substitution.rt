@@ -43,7 +43,7 @@ pub fn substitute_integer(
             Place::Periodic => in_class(alloc, *holds, *modulus, form, point),
             _ => unreachable!(),
         },
-        _ => unchanged(alloc, atom),
+        _ => Ok(unchanged(alloc, atom)?),
     }
 }
 
@@ -59,10 +59,7 @@ pub fn guard(alloc: Global, point: &TestPoint) -> Result<Normal, PointError>
     if matches!(point.place, Place::Periodic) || point.over == 1 {
         return Ok(Normal::True);
     }
-    let form = match point.form.copy(alloc) {
-        Ok(form) => form,
-        Err(_) => return Err(PointError::Memory),
-    };
+    let form = point.form.copy(alloc)?;
     let atom = Atom::Congruent {
         holds: true,
         modulus: point.over,

@@ -13,6 +13,3 @@ pub use laws::{
     greatest_common_divisor, least_common_multiple_divides,
 };
 pub use limit::{product, sum};
-
-#[cfg(test)]
-mod tests;

@@ -15,7 +15,7 @@ use crate::merge::{merge, place};
 use crate::terms;
 use crate::values::{Values, total};
 use exact_numbers::{product, residue, sum};
-use std::alloc::Global;
+use std::alloc::{AllocError, Global};
 use std::hash::{Hash, Hasher};
 use std::marker::Model;
 
@@ -83,19 +83,16 @@ impl Linear {
         Linear { terms, constant }
     }
 
-    /// An equal form. Its only error is `Memory`.
-    pub fn copy(&self, alloc: Global) -> Result<Linear, LinError>
-        ensures same { IfOk result (λ r. r ≡ self.now) }
-        ensures memory { IfErr result (λ e. e ≡ LinError.Memory) }
+    /// An equal form.
+    pub fn copy(&self, alloc: Global) -> Result<Linear, AllocError>
+        ensures { IfOk result (λ r. r ≡ self.now) }
     {
         let mut terms = Vec::new(alloc);
-        match terms.extend_from_slice(&self.terms) {
-            Ok(()) => Ok(Linear {
-                terms,
-                constant: self.constant,
-            }),
-            Err(_) => Err(LinError::Memory),
-        }
+        terms.extend_from_slice(&self.terms)?;
+        Ok(Linear {
+            terms,
+            constant: self.constant,
+        })
     }
 
     /// The same terms with another constant. It takes no memory.
@@ -170,20 +167,16 @@ impl Linear {
     }
 
     /// The form with each number modulo `modulus`, which is positive, and without the names whose coefficient becomes 0.
-    /// Its only error is `Memory`.
-    pub fn residues(&self, alloc: Global, modulus: i128) -> Result<Linear, LinError>
+    pub fn residues(&self, alloc: Global, modulus: i128) -> Result<Linear, AllocError>
         requires { pos 0 <ℤ modulus }
         ensures value { IfOk result (λ r. r ≡ residue_form self.now modulus) }
         ensures linear { IfOk result IsLinear }
-        ensures memory { IfErr result (λ e. e ≡ LinError.Memory) }
     {
-        match terms::residues(alloc, &self.terms, modulus) {
-            Ok(terms) => Ok(Linear {
-                terms,
-                constant: residue(self.constant, modulus),
-            }),
-            Err(_) => Err(LinError::Memory),
-        }
+        let terms = terms::residues(alloc, &self.terms, modulus)?;
+        Ok(Linear {
+            terms,
+            constant: residue(self.constant, modulus),
+        })
     }
 
     /// The coefficient of `v`, 0 where `v` does not stand in the form: a binary search.

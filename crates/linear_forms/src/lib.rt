@@ -13,6 +13,3 @@ pub use exact_numbers::{compare_fractions, floor_div, gcd, lcm};
 pub use form::{Linear, VarId};
 pub use laws::{form_is_determined, form_splits, terms_have_coefficients};
 pub use values::Values;
-
-#[cfg(test)]
-mod tests;

@@ -7,8 +7,6 @@ mod copy;
 mod memory;
 mod steady;
 mod streams;
-#[cfg(test)]
-mod tests;
 
 ghost use Rattle.std.specs.Prelude.{ℕ, ◌≡◌, ◌≤◌, ◌<◌, ◌↔◌, List, Option, length, take, IfOk, OnOk, OnErr};
 ghost use Rattle.qe_io.specs.Streams.{Gave, IsAtEnd, Took, Rose};

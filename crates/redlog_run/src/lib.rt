@@ -13,6 +13,3 @@ pub use laws::scripts_without_formulas;
 pub use process::{WordsError, finish, run_process};
 pub use program::run;
 pub use status::Status;
-
-#[cfg(test)]
-mod tests;

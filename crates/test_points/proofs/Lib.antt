@@ -1,4 +1,3 @@
-pub mod Outcomes
 pub mod Forms
 pub mod Ended
 pub mod SamePoints

@@ -22,7 +22,7 @@ use Rattle.elimination_reference.proofs.Tidy.{normaliser}
 use Rattle.atom_normal.specs.NormalForm.{normal_atom}
 use Rattle.atom_normal.specs.Atoms.{atom_of}
 use Rattle.test_points.specs.declared.points.TestPoint.{TestPoint}
-use Rattle.test_points.specs.Points.{side_of, place_of}
+use Rattle.test_points.specs.Points.{place_of}
 use Rattle.test_points.specs.Laws.{FieldPointsSuffice, FieldPointsKeepNames, FieldSubstitutionHolds, FieldSubstitutionKeepsNames}
 
 -- an atom at a place, brought to normal form or left as it is
@@ -52,15 +52,15 @@ some_point P points places e = (λ h. some_of_mapped P place_of points (subst (S
 
 pub points_suffice : FieldPointsSuffice
 points_suffice side x atoms points f p are plain inside o =
-    let list = are.listed ∙ ap (field_points_of (side_of side) x.number) are.formula in
-    let e = suffice.field_points_suffice (side_of side) x.number f p plain inside o in
+    let list = are.listed ∙ ap (field_points_of side x.number) are.formula in
+    let e = suffice.field_points_suffice side x.number f p plain inside o in
     let s = some_point _ points _ list in
     (λ h. s.0 (e.0 h), λ h. e.1 (s.1 h))
 
 pub points_keep_names : FieldPointsKeepNames
 points_keep_names side x atoms points f t y are plain among mentions =
-    let list = are.listed ∙ ap (field_points_of (side_of side) x.number) are.formula in
-    (point_names (side_of side) x.number f (place_of t) y plain mentions).0
+    let list = are.listed ∙ ap (field_points_of side x.number) are.formula in
+    (point_names side x.number f (place_of t) y plain mentions).0
     (subst (SomeOf (λ s. s ≡ place_of t)) list (some_mapped (λ s. s ≡ place_of t) place_of points (weaker points among)))
   where
     weaker : (us : List TestPoint) → SomeOf (λ u. u ≡ t) us → SomeOf (λ u. place_of u ≡ place_of t) us

@@ -3,19 +3,11 @@ use Rattle.std.specs.Prelude.{◌≡◌, ℕ, ℤ, pos, ◌<ℤ◌, [], unsigned
 use Rattle.exact_numbers.specs.Limit.{InLimit}
 use Rattle.formula_meaning.specs.Form.{Form}
 use Rattle.formula_meaning.specs.Answer as meaning
-use Rattle.elimination_theory.specs.Side as theory
 use Rattle.linear_forms.specs.declared.form.VarId.{VarId}
 use Rattle.linear_forms.specs.Terms.{IsLinear}
 use Rattle.test_points.specs.declared.points.Place.{Place}
 use Rattle.test_points.specs.declared.points.Place.TheVariants.{Exact, AboveBy, BelowBy, MinusInfinity, PlusInfinity, Periodic}
-use Rattle.test_points.specs.declared.points.Side.{Side}
-use Rattle.test_points.specs.declared.points.Side.TheVariants.{Lower, Upper}
 use Rattle.test_points.specs.declared.points.TestPoint.{TestPoint}
-
--- the side
-abbrev pub side_of : Side → theory.Side
-side_of Lower = theory.Lower
-side_of Upper = theory.Upper
 
 -- the place: a form over a number, a number and a period, or an infinity
 abbrev pub place_at : Place → Form → ℕ → ℤ → meaning.Place

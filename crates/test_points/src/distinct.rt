@@ -1,40 +1,37 @@
 // Lists of test points, with and without repeats.
-ghost use Rattle.std.specs.Prelude.{◌≡◌, [], ◌∷◌, ◌++◌, All, map, is_ok, if◌then◌else◌, IfOk, IfErr};
+ghost use Rattle.std.specs.Prelude.{◌≡◌, [], ◌∷◌, ◌++◌, All, map, is_ok, if◌then◌else◌, IfOk};
 ghost use Rattle.formula_meaning.specs.Answer.{same_place};
 ghost use Rattle.formula_meaning.specs.Distinct.{distinct};
 ghost use Rattle.test_points.specs.Points.{place_of, IsPointOf};
 
-use crate::error::PointError;
 use crate::points::TestPoint;
 use indexmap::IndexSet;
 use linear_forms::VarId;
-use std::alloc::Global;
+use std::alloc::{AllocError, Global};
 
-/// Puts a test point last. Its only error is `Memory`, after which the list is as before.
-pub fn push_point(points: &mut Vec<TestPoint>, point: TestPoint) -> Result<(), PointError>
-    ensures items { points.new.items ≡ (if is_ok result then points.old.items ++ point ∷ [] else points.old.items) }
-    ensures memory { IfErr result (λ e. e ≡ PointError.Memory) }
+/// Puts a test point last. After an error the list is as before.
+pub fn push_point(points: &mut Vec<TestPoint>, point: TestPoint) -> Result<(), AllocError>
+    ensures { points.new.items ≡ (if is_ok result then points.old.items ++ point ∷ [] else points.old.items) }
 {
-    points.push(point).map_err(|_| PointError::Memory)
+    points.push(point).map_err(|_| AllocError)
 }
 
-/// The test points of a name, each once, at its first place: in time linear in their number. Its only error is `Memory`.
+/// The test points of a name, each once, at its first place: in time linear in their number.
 pub fn distinct_points(
     alloc: Global,
     x: VarId,
     points: Vec<TestPoint>,
-) -> Result<Vec<TestPoint>, PointError>
+) -> Result<Vec<TestPoint>, AllocError>
     requires { All (IsPointOf x) points.items }
     ensures places { IfOk result (λ v. map place_of v.items ≡ distinct same_place (map place_of points.items)) }
     ensures well_formed { IfOk result (λ v. All (IsPointOf x) v.items) }
-    ensures memory { IfErr result (λ e. e ≡ PointError.Memory) }
 {
     let set: IndexSet<TestPoint> = match points.into_iter().collect(alloc) {
         Ok(set) => set,
-        Err(_) => return Err(PointError::Memory),
+        Err(_) => return Err(AllocError),
     };
     match set.into_iter().collect(alloc) {
         Ok(points) => Ok(points),
-        Err(_) => Err(PointError::Memory),
+        Err(_) => Err(AllocError),
     }
 }

@@ -1,5 +1,5 @@
 // The ends of intervals over the ordered fields, as test points.
-ghost use Rattle.std.specs.Prelude.{◌≡◌, ℕ, ℤ, pos, ◌/◌, ◌<ℤ◌, int_div, unsigned_abs, ◌∷◌, map, if◌then◌else◌, IfOk, IfErr, IfSome};
+ghost use Rattle.std.specs.Prelude.{◌≡◌, ℕ, ℤ, pos, ◌/◌, ◌<ℤ◌, int_div, unsigned_abs, ◌∷◌, map, if◌then◌else◌, IfOk, IfSome};
 ghost use Rattle.std.specs.Option.{option_to_list};
 ghost use Rattle.exact_numbers.specs.Limit.{InLimit};
 ghost use Rattle.exact_numbers.specs.Divides.{Divides, DividesAll};
@@ -8,15 +8,15 @@ ghost use Rattle.formula_meaning.specs.Atom.{mirrored};
 ghost use Rattle.elimination_theory.specs.Side.{turned};
 ghost use Rattle.elimination_theory.specs.FieldsPoints.{divisor_of, form_over, ends_of, comparison_points, atom_points};
 ghost use Rattle.atom_normal.specs.Atoms.{atom_of, relation_of};
-ghost use Rattle.test_points.specs.Points.{side_of, place_at, place_of, IsShaped, IsPointOf};
+ghost use Rattle.test_points.specs.Points.{place_at, place_of, IsShaped, IsPointOf};
 
-use crate::error::PointError;
 use crate::parts::rest;
-use crate::points::{Place, Side, TestPoint};
+use crate::points::{Place, TestPoint};
 use atom_normal::{Atom, Rel};
+use elimination_theory::Side;
 use exact_numbers::gcd;
 use linear_forms::{Linear, VarId};
-use std::alloc::Global;
+use std::alloc::{AllocError, Global};
 
 // The relation of two numbers that change places, where they do.
 fn turned(relation: Rel, turn: bool) -> Rel
@@ -33,7 +33,7 @@ fn turned(relation: Rel, turn: bool) -> Rel
 
 /// The relation of a multiple of a name to a number, as the side sees that of the name; a negative multiple turns it round.
 pub fn seen(side: Side, relation: Rel, negative: bool) -> Rel
-    ensures { relation_of result ≡ turned (side_of side) (if negative then mirrored (relation_of relation) else relation_of relation) }
+    ensures { relation_of result ≡ turned side (if negative then mirrored (relation_of relation) else relation_of relation) }
 {
     match side {
         Side::Lower => turned(relation, negative),
@@ -43,7 +43,7 @@ pub fn seen(side: Side, relation: Rel, negative: bool) -> Rel
 
 // How the end of an interval that lies to the side is taken, for the relation as the side sees it.
 fn end_place(side: Side, relation: Rel) -> Option<Place>
-    ensures place { (e : Form) (d : ℕ) → map (λ p. place_at p (form_over (divisor_of e d) e) (d / divisor_of e d) (pos 0)) (option_to_list result) ≡ ends_of (side_of side) (relation_of relation) e d }
+    ensures place { (e : Form) (d : ℕ) → map (λ p. place_at p (form_over (divisor_of e d) e) (d / divisor_of e d) (pos 0)) (option_to_list result) ≡ ends_of side (relation_of relation) e d }
     ensures shaped { IfSome result (λ p. (e : Form) (d : ℤ) → IsShaped p e d (pos 0)) }
 {
     match relation {
@@ -84,20 +84,19 @@ fn common_divisor(form: &Linear, over: i128) -> i128
     gcd(over, shared)
 }
 
-// The form over a positive number in lowest terms, as a test point. The only error is `Memory`.
+// The form over a positive number in lowest terms, as a test point.
 fn in_lowest_terms(
     alloc: Global,
     x: VarId,
     place: Place,
     form: &Linear,
     over: i128,
-) -> Result<TestPoint, PointError>
+) -> Result<TestPoint, AllocError>
     requires positive { pos 0 <ℤ over }
     requires within { InLimit over }
     requires shaped { (e : Form) (d : ℤ) → IsShaped place e d (pos 0) }
     ensures place { IfOk result (λ t. place_of t ≡ place_at place (form_over (divisor_of form.now (unsigned_abs over)) form.now) (unsigned_abs over / divisor_of form.now (unsigned_abs over)) (pos 0)) }
     ensures well_formed { IfOk result (IsPointOf x) }
-    ensures memory { IfErr result (λ e. e ≡ PointError.Memory) }
 {
     let divisor = common_divisor(form, over);
     match form.divide_exact(alloc, divisor) {
@@ -108,21 +107,20 @@ fn in_lowest_terms(
             over: quotient(over, divisor),
             period: 0,
         }),
-        Err(_) => Err(PointError::Memory),
+        Err(_) => Err(AllocError),
     }
 }
 
-// The end of a comparison's interval that lies to the side, if there is one. The only error is `Memory`.
+// The end of a comparison's interval that lies to the side, if there is one.
 fn end_of(
     alloc: Global,
     relation: Rel,
     form: &Linear,
     x: VarId,
     side: Side,
-) -> Result<Option<TestPoint>, PointError>
-    ensures points { IfOk result (λ o. map place_of (option_to_list o) ≡ comparison_points (side_of side) (coefficient x.number form.now) (relation_of relation) (without x.number form.now)) }
+) -> Result<Option<TestPoint>, AllocError>
+    ensures points { IfOk result (λ o. map place_of (option_to_list o) ≡ comparison_points side (coefficient x.number form.now) (relation_of relation) (without x.number form.now)) }
     ensures well_formed { IfOk result (λ o. IfSome o (IsPointOf x)) }
-    ensures memory { IfErr result (λ e. e ≡ PointError.Memory) }
 {
     let times = form.coefficient(x);
     if times == 0 {
@@ -130,26 +128,23 @@ fn end_of(
     }
     match end_place(side, seen(side, relation, times < 0)) {
         None => Ok(None),
-        Some(place) => match rest(alloc, form, x, 0 < times) {
-            Ok(end) => match in_lowest_terms(alloc, x, place, &end, times.abs()) {
-                Ok(point) => Ok(Some(point)),
-                Err(error) => Err(error),
-            },
-            Err(_) => Err(PointError::Memory),
-        },
+        Some(place) => {
+            let end = rest(alloc, form, x, 0 < times)?;
+            let point = in_lowest_terms(alloc, x, place, &end, times.abs())?;
+            Ok(Some(point))
+        }
     }
 }
 
-// The end of an atom's interval that lies to the side, if there is one. The only error is `Memory`.
+// The end of an atom's interval that lies to the side, if there is one.
 pub(crate) fn atom_end(
     alloc: Global,
     atom: &Atom,
     x: VarId,
     side: Side,
-) -> Result<Option<TestPoint>, PointError>
-    ensures points { IfOk result (λ o. map place_of (option_to_list o) ≡ atom_points (side_of side) x.number (atom_of atom.now)) }
+) -> Result<Option<TestPoint>, AllocError>
+    ensures points { IfOk result (λ o. map place_of (option_to_list o) ≡ atom_points side x.number (atom_of atom.now)) }
     ensures well_formed { IfOk result (λ o. IfSome o (IsPointOf x)) }
-    ensures memory { IfErr result (λ e. e ≡ PointError.Memory) }
 {
     match atom {
         Atom::Compare(relation, form) => end_of(alloc, *relation, form, x, side),

@@ -1,4 +1,8 @@
 // The errors of test points.
+ghost use Rattle.std.specs.Prelude.{◌≡◌};
+ghost use Rattle.test_points.specs.declared.error.PointError.TheVariants.{Memory};
+
+use std::alloc::AllocError;
 use thiserror::Error;
 
 /// Why a list of test points, or what an atom becomes at one, could not be made.
@@ -13,4 +17,12 @@ pub enum PointError {
     /// There is no memory left.
     #[error("out of memory")]
     Memory,
+}
+
+impl From<AllocError> for PointError {
+    ghost from_gives = { λ _ e. e ≡ Memory };
+
+    fn from(_error: AllocError) -> PointError {
+        PointError::Memory
+    }
 }

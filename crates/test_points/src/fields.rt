@@ -2,19 +2,20 @@
 ghost use Rattle.std.specs.Prelude.{◌≡◌, All, map, IfOk, IfErr};
 ghost use Rattle.elimination_theory.specs.FieldsPoints.{infinity_of, field_points_of};
 ghost use Rattle.atom_normal.specs.Atoms.{atom_of};
-ghost use Rattle.test_points.specs.Points.{side_of, place_of, IsPointOf};
+ghost use Rattle.test_points.specs.Points.{place_of, IsPointOf};
 
 use crate::distinct::{distinct_points, push_point};
 use crate::ends::atom_end;
 use crate::error::PointError;
-use crate::points::{Place, Side, TestPoint};
+use crate::points::{Place, TestPoint};
 use atom_normal::Atom;
+use elimination_theory::Side;
 use linear_forms::{Linear, VarId};
 use std::alloc::Global;
 
 // The infinity of the side.
 fn infinity(alloc: Global, x: VarId, side: Side) -> TestPoint
-    ensures place { place_of result ≡ infinity_of (side_of side) }
+    ensures place { place_of result ≡ infinity_of side }
     ensures well_formed { IsPointOf x result }
 {
     TestPoint {
@@ -37,7 +38,7 @@ pub fn field_points(
     x: VarId,
     side: Side,
 ) -> Result<Vec<TestPoint>, PointError>
-    ensures points { IfOk result (λ v. map place_of v.items ≡ field_points_of (side_of side) x.number (map atom_of atoms.now)) }
+    ensures points { IfOk result (λ v. map place_of v.items ≡ field_points_of side x.number (map atom_of atoms.now)) }
     ensures well_formed { IfOk result (λ v. All (IsPointOf x) v.items) }
     ensures memory { IfErr result (λ e. e ≡ PointError.Memory) }
 {
@@ -48,5 +49,5 @@ pub fn field_points(
             push_point(&mut points, point)?;
         }
     }
-    distinct_points(alloc, x, points)
+    Ok(distinct_points(alloc, x, points)?)
 }

@@ -14,13 +14,11 @@ mod verdict;
 
 pub use comparing::{comparison_at, in_normal_form};
 pub use distinct::{distinct_points, push_point};
+pub use elimination_theory::Side;
 pub use ends::{quotient, seen};
 pub use error::PointError;
 pub use fields::field_points;
 pub use laws::{field_points_suffice, field_substitution_is_exact};
 pub use parts::{form_at, rest};
-pub use points::{Place, Side, TestPoint};
+pub use points::{Place, TestPoint};
 pub use substitution::{substitute_field, unchanged};
-
-#[cfg(test)]
-mod tests;

@@ -1,11 +1,11 @@
 // Forms with a name put at a form over a number.
-ghost use Rattle.std.specs.Prelude.{◌≡◌, negsuc, neg_ℤ, if◌then◌else◌, IfOk, IfErr, IsErrOf};
+ghost use Rattle.std.specs.Prelude.{◌≡◌, negsuc, neg_ℤ, if◌then◌else◌, IfOk, IsErrOf};
 ghost use Rattle.exact_numbers.specs.Limit.{InLimit};
 ghost use Rattle.formula_meaning.specs.Form.{coefficient, without, scale};
 ghost use Rattle.linear_forms.specs.Terms.{IsLinear, IsCombination, CombinePasses};
 
 use linear_forms::{LinError, Linear, VarId};
-use std::alloc::Global;
+use std::alloc::{AllocError, Global};
 
 // The number with the other sign.
 fn opposite(number: i128) -> i128
@@ -16,19 +16,38 @@ fn opposite(number: i128) -> i128
     -number
 }
 
-/// The form without the terms of a name, or the negative of that. Its only error is `Memory`.
-pub fn rest(alloc: Global, form: &Linear, x: VarId, negative: bool) -> Result<Linear, LinError>
+// The sum of two multiples of forms in which no number passes the limit.
+fn formed(
+    alloc: Global,
+    a: i128,
+    form: &Linear,
+    b: i128,
+    other: &Linear,
+) -> Result<Linear, AllocError>
+    requires { ¬ (CombinePasses a form.now b other.now) }
+    ensures { IfOk result (IsCombination a form.now b other.now) }
+{
+    match form.combine(alloc, a, other, b) {
+        Ok(form) => Ok(form),
+        Err(LinError::Memory) => Err(AllocError),
+        Err(LinError::Overflow) => unreachable!(),
+    }
+}
+
+/// The form without the terms of a name, or the negative of that.
+pub fn rest(alloc: Global, form: &Linear, x: VarId, negative: bool) -> Result<Linear, AllocError>
     ensures value { IfOk result (λ r. r ≡ (if negative then scale (negsuc 0) (without x.number form.now) else without x.number form.now)) }
     ensures linear { IfOk result IsLinear }
-    ensures memory { IfErr result (λ e. e ≡ LinError.Memory) }
 {
     let _constant = form.constant_part();
     let times = form.coefficient(x);
-    let variable = Linear::variable(alloc, x)?;
+    let Ok(variable) = Linear::variable(alloc, x) else {
+        return Err(AllocError);
+    };
     if negative {
-        form.combine(alloc, -1, &variable, times)
+        formed(alloc, -1, form, times, &variable)
     } else {
-        form.combine(alloc, 1, &variable, opposite(times))
+        formed(alloc, 1, form, opposite(times), &variable)
     }
 }
 

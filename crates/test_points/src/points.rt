@@ -1,9 +1,8 @@
 // Test points: where a name is put.
-ghost use Rattle.std.specs.Prelude.{◌≡◌, IfOk, IfErr};
+ghost use Rattle.std.specs.Prelude.{◌≡◌, IfOk};
 
-use crate::error::PointError;
 use linear_forms::{Linear, VarId};
-use std::alloc::Global;
+use std::alloc::{AllocError, Global};
 
 /// How a test point lies: at a form over a number, infinitesimally above or below it, beyond all numbers, or beyond all
 /// numbers in a residue class.
@@ -15,13 +14,6 @@ pub enum Place {
     MinusInfinity,
     PlusInfinity,
     Periodic,
-}
-
-/// The side of the intervals on which a formula is true from which test points are taken.
-#[derive(Clone, Copy, Debug, PartialEq, Eq, Hash)]
-pub enum Side {
-    Lower,
-    Upper,
 }
 
 /// A name and where it is put. The form of an infinity is 0, and that of a Periodic point is the constant at which it stands.
@@ -37,20 +29,17 @@ pub struct TestPoint {
 }
 
 impl TestPoint {
-    /// An equal test point. Its only error is `Memory`.
-    pub fn copy(&self, alloc: Global) -> Result<TestPoint, PointError>
-        ensures same { IfOk result (λ t. t ≡ self.now) }
-        ensures memory { IfErr result (λ e. e ≡ PointError.Memory) }
+    /// An equal test point.
+    pub fn copy(&self, alloc: Global) -> Result<TestPoint, AllocError>
+        ensures { IfOk result (λ t. t ≡ self.now) }
     {
-        match self.form.copy(alloc) {
-            Ok(form) => Ok(TestPoint {
-                name: self.name,
-                place: self.place,
-                form,
-                over: self.over,
-                period: self.period,
-            }),
-            Err(_) => Err(PointError::Memory),
-        }
+        let form = self.form.copy(alloc)?;
+        Ok(TestPoint {
+            name: self.name,
+            place: self.place,
+            form,
+            over: self.over,
+            period: self.period,
+        })
     }
 }

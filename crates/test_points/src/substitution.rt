@@ -1,5 +1,5 @@
 // An atom with a name put at a test point of the ordered fields.
-ghost use Rattle.std.specs.Prelude.{◌≡◌, true, false, IfOk, IfErr, IsErrOf};
+ghost use Rattle.std.specs.Prelude.{◌≡◌, true, false, IfOk, IsErrOf};
 ghost use Rattle.formula_meaning.specs.Context.{Fields};
 ghost use Rattle.formula_meaning.specs.Atom.{AtomIn};
 ghost use Rattle.elimination_theory.specs.FieldsSubstitution.{IsFieldPlace};
@@ -13,16 +13,15 @@ use crate::comparing::comparison_at;
 use crate::error::PointError;
 use crate::points::TestPoint;
 use atom_normal::{Atom, Context, Normal};
-use std::alloc::Global;
+use std::alloc::{AllocError, Global};
 
-/// The atom as it is. Its only error is `Memory`.
-pub fn unchanged(alloc: Global, atom: &Atom) -> Result<Normal, PointError>
-    ensures same { IfOk result (λ n. n ≡ Normal.One atom.now) }
-    ensures memory { IfErr result (λ e. e ≡ PointError.Memory) }
+/// The atom as it is.
+pub fn unchanged(alloc: Global, atom: &Atom) -> Result<Normal, AllocError>
+    ensures { IfOk result (λ n. n ≡ Normal.One atom.now) }
 {
     match atom.copy(alloc) {
         Ok(atom) => Ok(Normal::One(atom)),
-        Err(_) => Err(PointError::Memory),
+        Err(_) => Err(AllocError),
     }
 }
 
@@ -43,7 +42,7 @@ pub fn substitute_field(alloc: Global, atom: &Atom, point: &TestPoint) -> Result
         Atom::Compare(relation, form) if form.coefficient(point.name) != 0 => {
             comparison_at(alloc, Context::Fields, *relation, form, point)
         }
-        Atom::Compare(..) => unchanged(alloc, atom),
+        Atom::Compare(..) => Ok(unchanged(alloc, atom)?),
         Atom::Congruent { .. } => unreachable!(),
     }
 }

@@ -5,7 +5,6 @@ use Rattle.atom_merging.proofs.Computed.{compared_apart, compared_so, absorbing_
 use Rattle.atom_normal.specs.Atoms.{context_of, relation_of}
 use Rattle.atom_normal.proofs.Stepped.{ok_map}
 use Rattle.formula_meaning.specs.Atom.{Compare}
-use Rattle.atom_merging.specs.Junctions.{junction_of}
 use Rattle.atom_merging.specs.Verdicts.{Settled, Kept, First, Second, normal_comparison}
 use Rattle.atom_merging.specs.Merged.{IsMerging}
 use Rattle.atom_merging.proofs.JoinedComparisons.{normal_content, judged_verdict, settles, stays_kept, merges_at, kept_at}
@@ -21,7 +20,7 @@ position_of-requires-clause-other_content c = normal_content (context_of c.args.
 pub returns-in-Settled-clause-merged : goal.returns-in-Settled-clause-merged
 returns-in-Settled-clause-merged c =
     let t = context_of c.args.context in
-    let j = junction_of c.args.junction in
+    let j = c.args.junction in
     let r = relation_of c.args.relation in
     let s = relation_of c.args.other_relation in
     let f = c.args.form.now in
@@ -34,7 +33,7 @@ returns-in-Settled-clause-merged c =
 pub returns-in-First-clause-merged : goal.returns-in-First-clause-merged
 returns-in-First-clause-merged c =
     let t = context_of c.args.context in
-    let j = junction_of c.args.junction in
+    let j = c.args.junction in
     let r = relation_of c.args.relation in
     let s = relation_of c.args.other_relation in
     let q = relation_of c.in-First.relation in
@@ -53,7 +52,7 @@ returns-in-First-clause-merged c =
 pub returns-in-Second-clause-merged : goal.returns-in-Second-clause-merged
 returns-in-Second-clause-merged c =
     let t = context_of c.args.context in
-    let j = junction_of c.args.junction in
+    let j = c.args.junction in
     let r = relation_of c.args.relation in
     let s = relation_of c.args.other_relation in
     let q = relation_of c.in-Second.relation in
@@ -72,7 +71,7 @@ returns-in-Second-clause-merged c =
 pub returns-in-Kept-clause-merged : goal.returns-in-Kept-clause-merged
 returns-in-Kept-clause-merged c =
     let t = context_of c.args.context in
-    let j = junction_of c.args.junction in
+    let j = c.args.junction in
     let r = relation_of c.args.relation in
     let s = relation_of c.args.other_relation in
     let f = c.args.form.now in
@@ -83,12 +82,12 @@ returns-in-Kept-clause-merged c =
     stays_kept t r f s g x y p j (judged_verdict t r f s g x y p j c.in-Some.position c.in-Some.ensures.1 Kept c.in-Kept.ensures)
 
 pub returns-in_default-clause-computed : goal.returns-in_default-clause-computed
-returns-in_default-clause-computed c = compared_apart (context_of c.args.context) (junction_of c.args.junction) (relation_of c.args.relation) c.args.form.now (relation_of c.args.other_relation) c.args.other.now c.in_default.ensures
+returns-in_default-clause-computed c = compared_apart (context_of c.args.context) c.args.junction (relation_of c.args.relation) c.args.form.now (relation_of c.args.other_relation) c.args.other.now c.in_default.ensures
 
 pub returns-in-Settled-clause-computed : goal.returns-in-Settled-clause-computed
 returns-in-Settled-clause-computed c =
     let t = context_of c.args.context in
-    let j = junction_of c.args.junction in
+    let j = c.args.junction in
     let r = relation_of c.args.relation in
     let s = relation_of c.args.other_relation in
     let f = c.args.form.now in
@@ -98,7 +97,7 @@ returns-in-Settled-clause-computed c =
 pub returns-in-First-clause-computed : goal.returns-in-First-clause-computed
 returns-in-First-clause-computed c =
     let t = context_of c.args.context in
-    let j = junction_of c.args.junction in
+    let j = c.args.junction in
     let r = relation_of c.args.relation in
     let s = relation_of c.args.other_relation in
     let q = relation_of c.in-First.relation in
@@ -111,7 +110,7 @@ returns-in-First-clause-computed c =
 pub returns-in-Second-clause-computed : goal.returns-in-Second-clause-computed
 returns-in-Second-clause-computed c =
     let t = context_of c.args.context in
-    let j = junction_of c.args.junction in
+    let j = c.args.junction in
     let r = relation_of c.args.relation in
     let s = relation_of c.args.other_relation in
     let q = relation_of c.in-Second.relation in
@@ -124,7 +123,7 @@ returns-in-Second-clause-computed c =
 pub returns-in-Kept-clause-computed : goal.returns-in-Kept-clause-computed
 returns-in-Kept-clause-computed c =
     let t = context_of c.args.context in
-    let j = junction_of c.args.junction in
+    let j = c.args.junction in
     let r = relation_of c.args.relation in
     let s = relation_of c.args.other_relation in
     let f = c.args.form.now in

@@ -7,15 +7,14 @@ use Rattle.formula_meaning.specs.Atom.{Atom, Congruent}
 use Rattle.atom_normal.proofs.Stepped.{ok_map}
 use Rattle.atom_merging.specs.declared.congruence.Class.TheVariants.{Settled, First, Second, Third, Kept}
 use Rattle.atom_merging.specs.Classes.{class}
-use Rattle.atom_merging.specs.Junctions.{junction_of}
 use Rattle.atom_merging.specs.Answered.{IsOne}
 use Rattle.atom_merging.specs.Merged.{IsMerging}
 use Rattle.atom_merging.proofs.JoinedCongruences.{judged_class, classes_settle, classes_kept, merges_first, merges_second, merges_third, third_atom}
 use Rattle.atom_merging.specs.Computed.{merging_of, is_told}
 use Rattle.atom_merging.specs.Computed as merging
-use Rattle.atom_merging.proofs.Computed.{class_so, absorbing_is, one_is, told_is}
+use Rattle.atom_merging.proofs.Computed.{class_so, absorbing_is, one_is, flip_told}
 use Rattle.atom_merging.proofs.Sets.{flip}
-use Rattle.atom_merging.proofs.MergedAnswers.{settled_answer, exact_answer, and_is_told}
+use Rattle.atom_merging.proofs.MergedAnswers.{settled_answer, exact_answer}
 use Rattle.atom_merging.proofs.congruence.merged.Goals as goal
 
 pub returns-in-Settled-clause-merged : goal.returns-in-Settled-clause-merged
@@ -29,7 +28,7 @@ returns-in-Settled-clause-merged c =
     let x = c.requires.normal in
     let y = c.requires.other_normal in
     let s = c.requires.same_terms in
-    let j = junction_of c.args.junction in
+    let j = c.args.junction in
     let fa : FitsSigned w128 c.constant_part-number.result = search rules in
     let fb : FitsSigned w128 c.constant_part-other_number.result = search rules in
     let rm = to_z-of_z w128 m c.ranges.modulus in
@@ -51,7 +50,7 @@ returns-in-First-clause-merged c =
     let x = c.requires.normal in
     let y = c.requires.other_normal in
     let s = c.requires.same_terms in
-    let j = junction_of c.args.junction in
+    let j = c.args.junction in
     let fa : FitsSigned w128 c.constant_part-number.result = search rules in
     let fb : FitsSigned w128 c.constant_part-other_number.result = search rules in
     let rm = to_z-of_z w128 m c.ranges.modulus in
@@ -62,7 +61,7 @@ returns-in-First-clause-merged c =
     ok_map c.congruence.result
     (λ o w. exact_answer Integers j (Congruent b (unsigned_abs m) f) (Congruent d (unsigned_abs m) g) (Congruent b (unsigned_abs m) f) o (merges_first m p b f d g x y s j h)
     (subst (λ (a : Atom). IsOne a o) (λ i. Congruent b (unsigned_abs (rm i)) (record { terms = f.terms; constant = ra i })) w))
-    c.congruence.ensures.one
+    c.congruence.ensures
 
 pub returns-in-Second-clause-merged : goal.returns-in-Second-clause-merged
 returns-in-Second-clause-merged c =
@@ -75,7 +74,7 @@ returns-in-Second-clause-merged c =
     let x = c.requires.normal in
     let y = c.requires.other_normal in
     let s = c.requires.same_terms in
-    let j = junction_of c.args.junction in
+    let j = c.args.junction in
     let fa : FitsSigned w128 c.constant_part-number.result = search rules in
     let fb : FitsSigned w128 c.constant_part-other_number.result = search rules in
     let rm = to_z-of_z w128 m c.ranges.modulus in
@@ -86,7 +85,7 @@ returns-in-Second-clause-merged c =
     ok_map c.congruence-in-Second.result
     (λ o w. exact_answer Integers j (Congruent b (unsigned_abs m) f) (Congruent d (unsigned_abs m) g) (Congruent d (unsigned_abs m) g) o (merges_second m p b f d g x y s j h)
     (subst (λ (a : Atom). IsOne a o) (λ i. Congruent d (unsigned_abs (rm i)) (record { terms = g.terms; constant = rb i })) w))
-    c.congruence-in-Second.ensures.one
+    c.congruence-in-Second.ensures
 
 pub returns-in-Kept-clause-merged : goal.returns-in-Kept-clause-merged
 returns-in-Kept-clause-merged c =
@@ -99,7 +98,7 @@ returns-in-Kept-clause-merged c =
     let x = c.requires.normal in
     let y = c.requires.other_normal in
     let s = c.requires.same_terms in
-    let j = junction_of c.args.junction in
+    let j = c.args.junction in
     let fa : FitsSigned w128 c.constant_part-number.result = search rules in
     let fb : FitsSigned w128 c.constant_part-other_number.result = search rules in
     let rm = to_z-of_z w128 m c.ranges.modulus in
@@ -120,7 +119,7 @@ returns-in-Third-clause-merged c =
     let x = c.requires.normal in
     let y = c.requires.other_normal in
     let s = c.requires.same_terms in
-    let j = junction_of c.args.junction in
+    let j = c.args.junction in
     let fa : FitsSigned w128 c.constant_part-number.result = search rules in
     let fb : FitsSigned w128 c.constant_part-other_number.result = search rules in
     let rm = to_z-of_z w128 m c.ranges.modulus in
@@ -132,11 +131,11 @@ returns-in-Third-clause-merged c =
     let ft : FitsSigned w128 third = search rules in
     let rt = to_z-of_z w128 third ft ∙ c.third_class-third.ensures ∙ (λ i. (pos 3 -ℤ ra i) -ℤ rb i) in
     let q = c.is_and.result in
-    let u = ap (flip j) c.is_and.ensures ∙ and_is_told c.args.junction in
+    let u = ap (flip j) c.is_and.ensures ∙ flip_told c.args.junction in
     ok_map c.congruence-in-Third.result
     (λ o w. exact_answer Integers j (Congruent b (unsigned_abs m) f) (Congruent d (unsigned_abs m) g) (third_atom m p b f d g x y s j q) o (merges_third m p b f d g x y s j q u h)
     (subst (λ (a : Atom). IsOne a o) (λ i. Congruent q (unsigned_abs (rm i)) (record { terms = f.terms; constant = rt i })) w))
-    c.congruence-in-Third.ensures.one
+    c.congruence-in-Third.ensures
 
 pub returns-in-Settled-clause-computed : goal.returns-in-Settled-clause-computed
 returns-in-Settled-clause-computed c =
@@ -147,7 +146,7 @@ returns-in-Settled-clause-computed c =
     let f = c.args.form.now in
     let g = c.args.other.now in
     let s = c.requires.same_terms in
-    let j = junction_of c.args.junction in
+    let j = c.args.junction in
     let fa : FitsSigned w128 c.constant_part-number.result = search rules in
     let fb : FitsSigned w128 c.constant_part-other_number.result = search rules in
     let rm = to_z-of_z w128 m c.ranges.modulus in
@@ -165,7 +164,7 @@ returns-in-First-clause-computed c =
     let f = c.args.form.now in
     let g = c.args.other.now in
     let s = c.requires.same_terms in
-    let j = junction_of c.args.junction in
+    let j = c.args.junction in
     let fa : FitsSigned w128 c.constant_part-number.result = search rules in
     let fb : FitsSigned w128 c.constant_part-other_number.result = search rules in
     let rm = to_z-of_z w128 m c.ranges.modulus in
@@ -175,7 +174,7 @@ returns-in-First-clause-computed c =
     ok_map c.congruence.result
     (λ o w. class_so j m p b f d g s First e (merging_of o)
     (one_is (Congruent b (unsigned_abs m) f) o (subst (λ (a : Atom). IsOne a o) (λ i. Congruent b (unsigned_abs (rm i)) (record { terms = f.terms; constant = ra i })) w)))
-    c.congruence.ensures.one
+    c.congruence.ensures
 
 pub returns-in-Second-clause-computed : goal.returns-in-Second-clause-computed
 returns-in-Second-clause-computed c =
@@ -186,7 +185,7 @@ returns-in-Second-clause-computed c =
     let f = c.args.form.now in
     let g = c.args.other.now in
     let s = c.requires.same_terms in
-    let j = junction_of c.args.junction in
+    let j = c.args.junction in
     let fa : FitsSigned w128 c.constant_part-number.result = search rules in
     let fb : FitsSigned w128 c.constant_part-other_number.result = search rules in
     let rm = to_z-of_z w128 m c.ranges.modulus in
@@ -196,7 +195,7 @@ returns-in-Second-clause-computed c =
     ok_map c.congruence-in-Second.result
     (λ o w. class_so j m p b f d g s Second e (merging_of o)
     (one_is (Congruent d (unsigned_abs m) g) o (subst (λ (a : Atom). IsOne a o) (λ i. Congruent d (unsigned_abs (rm i)) (record { terms = g.terms; constant = rb i })) w)))
-    c.congruence-in-Second.ensures.one
+    c.congruence-in-Second.ensures
 
 pub returns-in-Kept-clause-computed : goal.returns-in-Kept-clause-computed
 returns-in-Kept-clause-computed c =
@@ -207,7 +206,7 @@ returns-in-Kept-clause-computed c =
     let f = c.args.form.now in
     let g = c.args.other.now in
     let s = c.requires.same_terms in
-    let j = junction_of c.args.junction in
+    let j = c.args.junction in
     let fa : FitsSigned w128 c.constant_part-number.result = search rules in
     let fb : FitsSigned w128 c.constant_part-other_number.result = search rules in
     let rm = to_z-of_z w128 m c.ranges.modulus in
@@ -225,7 +224,7 @@ returns-in-Third-clause-computed c =
     let f = c.args.form.now in
     let g = c.args.other.now in
     let s = c.requires.same_terms in
-    let j = junction_of c.args.junction in
+    let j = c.args.junction in
     let fa : FitsSigned w128 c.constant_part-number.result = search rules in
     let fb : FitsSigned w128 c.constant_part-other_number.result = search rules in
     let rm = to_z-of_z w128 m c.ranges.modulus in
@@ -235,9 +234,9 @@ returns-in-Third-clause-computed c =
     let third = c.third_class-third.result in
     let ft : FitsSigned w128 third = search rules in
     let rt = to_z-of_z w128 third ft ∙ c.third_class-third.ensures ∙ (λ i. (pos 3 -ℤ ra i) -ℤ rb i) in
-    let q = c.is_and.ensures ∙ told_is c.args.junction in
+    let q = c.is_and.ensures in
     ok_map c.congruence-in-Third.result
     (λ o w. class_so j m p b f d g s Third e (merging_of o)
     (one_is (Congruent (is_told j) (unsigned_abs m) (record { terms = f.terms; constant = (pos 3 -ℤ f.constant) -ℤ g.constant })) o
     (subst (λ (a : Atom). IsOne a o) (λ i. Congruent (q i) (unsigned_abs (rm i)) (record { terms = f.terms; constant = rt i })) w)))
-    c.congruence-in-Third.ensures.one
+    c.congruence-in-Third.ensures

@@ -4,7 +4,6 @@ use Rattle.std.specs.Int.{w128}
 use Rattle.std.proofs.lemmas.Int.{to_z-of_z}
 use Rattle.atom_normal.specs.Atoms.{context_of, atom_of, IsWellFormed}
 use Rattle.atom_normal.specs.declared.atoms.Atom.TheVariants as program
-use Rattle.atom_merging.specs.Junctions.{junction_of}
 use Rattle.atom_merging.specs.Computed.{Kept, merged}
 use Rattle.atom_merging.proofs.Computed.{merged_classes_apart}
 use Rattle.atom_merging.proofs.merging.merged.Goals.{in_default-via-in-Compare+in_default, in_default-via-in-Congruent-Congruent+else-is_same_part, in_default-via-in-Congruent+in_default}
@@ -13,7 +12,7 @@ use Rattle.atom_merging.proofs.merging.merged.Goals as goal
 pub returns-in_default-clause-computed : goal.returns-in_default-clause-computed
 returns-in_default-clause-computed c =
     let t = context_of c.args.context in
-    let j = junction_of c.args.junction in
+    let j = c.args.junction in
     elim c.in_default.branch [
       | in_default-via-in-Compare+in_default w ↦ let u = w.in_default in (λ i. merged t j (atom_of (sym u.is-0 i)) (atom_of (sym u.is-1 i)))
       | in_default-via-in-Congruent-Congruent+else-is_same_part w ↦ let u = w.in-Congruent-Congruent in

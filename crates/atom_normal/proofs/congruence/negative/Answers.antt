@@ -12,5 +12,5 @@ minus_divides (x ∷ xs) = (neg_divides (one_divides x), minus_divides xs)
 pub divide_exact-requires-clause-divides : goal.divide_exact-requires-clause-divides
 divide_exact-requires-clause-divides c = minus_divides (c.args.form.now.constant ∷ coefficients c.args.form.now.terms)
 
-pub returns-in-Ok-clause-value : goal.returns-in-Ok-clause-value
-returns-in-Ok-clause-value c = c.in-Ok.ensures.value ∙ quotient_minus_one c.args.form.now
+pub returns-in-Ok : goal.returns-in-Ok
+returns-in-Ok c = c.in-Ok.ensures.value ∙ quotient_minus_one c.args.form.now

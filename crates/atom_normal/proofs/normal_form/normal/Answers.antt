@@ -16,11 +16,11 @@ use Rattle.atom_normal.proofs.normal_form.normal.Goals as goal
 known : (x y : Context) (a b : Atom) (t : Tree) → x ≡ y → a ≡ b → t ≡ normal_atom (context_of y) (atom_of b) → t ≡ normal_atom (context_of x) (atom_of a)
 known x y a b t e h k = k ∙ sym (λ i. normal_atom (context_of (e i)) (atom_of (h i)))
 
-pub returns-in-Fields-clause-normal : goal.returns-in-Fields-clause-normal
-returns-in-Fields-clause-normal c =
+pub returns-in_ok-in_fields-in-Fields-clause-normal : goal.returns-in_ok-in_fields-in-Fields-clause-normal
+returns-in_ok-in_fields-in-Fields-clause-normal c =
     let f = c.in-Compare.form in let r = relation_of c.in-Compare.relation in
-    let k = known c.args.context Fields c.args.atom (Compare c.in-Compare.relation f) (compared_in_fields r f.terms f.constant) c.in-Fields.is c.in-Compare.is (normal_in_fields r f c.in_fields.ensures.given.sorted) in
-    ok_map c.in_fields.result (λ x e. e ∙ k) c.in_fields.ensures.normal
+    let k = known c.args.context Fields c.args.atom (Compare c.in-Compare.relation f) (compared_in_fields r f.terms f.constant) c.in-Fields.is c.in-Compare.is (normal_in_fields r f c.in_ok-in_fields-in-Fields.ensures.given.sorted) in
+    c.in_ok-in_fields-in-Fields.ensures.normal ∙ k
 
 pub returns-in-Integers-clause-normal : goal.returns-in-Integers-clause-normal
 returns-in-Integers-clause-normal c =
@@ -34,11 +34,11 @@ returns-in-Integers-clause-overflow c =
     let k = known c.args.context Integers c.args.atom (Compare c.in-Compare.relation f) (compared_over_integers r f.terms f.constant) c.in-Integers.is c.in-Compare.is (normal_over_integers r f c.over_integers.ensures.given.sorted) in
     λ h. subst ConstantPasses k (c.over_integers.ensures.overflow h)
 
-pub returns-in-Congruent-clause-normal : goal.returns-in-Congruent-clause-normal
-returns-in-Congruent-clause-normal c =
+pub returns-in_ok-congruent-in-Congruent-clause-normal : goal.returns-in_ok-congruent-in-Congruent-clause-normal
+returns-in_ok-congruent-in-Congruent-clause-normal c =
     let q = c.in-Congruent in
     let w = subst IsWellFormed q.is c.requires.well_formed in
     let fm = fits q.modulus w.1 in
-    let e = simp to_z-of_z at c.congruent.ensures.normal in
-    let k = known c.args.context c.args.context c.args.atom (Congruent q.holds q.modulus q.form) _ refl q.is (normal_congruent (context_of c.args.context) q.holds q.modulus q.form w.0 c.congruent.ensures.given.sorted) in
-    ok_map c.congruent.result (λ x h. h ∙ k) e
+    let e = simp to_z-of_z at c.in_ok-congruent-in-Congruent.ensures.normal in
+    let k = known c.args.context c.args.context c.args.atom (Congruent q.holds q.modulus q.form) _ refl q.is (normal_congruent (context_of c.args.context) q.holds q.modulus q.form w.0 c.in_ok-congruent-in-Congruent.ensures.given.sorted) in
+    e ∙ k

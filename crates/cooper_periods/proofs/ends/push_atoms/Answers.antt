@@ -4,7 +4,7 @@ use Rattle.formula_meaning.specs.Form.{coefficient}
 use Rattle.formula_meaning.specs.Atom as meant
 use Rattle.formula_meaning.specs.Limits.{each, place_within}
 use Rattle.atom_normal.specs.Atoms.{atom_of}
-use Rattle.test_points.specs.Points.{side_of, place_of}
+use Rattle.test_points.specs.Points.{place_of}
 use Rattle.cooper_periods.specs.Periods.{IsReached}
 use Rattle.cooper_periods.specs.Starts.{beside_atom}
 use Rattle.cooper_periods.proofs.Collected.{images_more, length_of_one, one_fails, both_within, each_at}
@@ -16,7 +16,7 @@ push_atom-requires-clause-reached c =
 
 pub loop-atom-preserved : goal.loop-atom-preserved
 loop-atom-preserved c =
-    let g = beside_atom (side_of c.args.side) (unsigned_abs c.args.period.now.scale) (unsigned_abs c.args.period.now.span) c.args.x.number in
+    let g = beside_atom c.args.side (unsigned_abs c.args.period.now.scale) (unsigned_abs c.args.period.now.span) c.args.x.number in
     let atoms = c.args.atoms.now in let i = c.loop-atom.atom-index in
     let more = images_more atom_of g atoms i c.atom-item.result c.loop-atom-test.true c.atom-item.is in
     record {
@@ -29,12 +29,12 @@ loop-atom-preserved c =
 
 pub returns-in-Err-clause-overflow : goal.returns-in-Err-clause-overflow
 returns-in-Err-clause-overflow c k =
-    let g = beside_atom (side_of c.args.side) (unsigned_abs c.args.period.now.scale) (unsigned_abs c.args.period.now.span) c.args.x.number in
+    let g = beside_atom c.args.side (unsigned_abs c.args.period.now.scale) (unsigned_abs c.args.period.now.span) c.args.x.number in
     one_fails atom_of g c.args.atoms.now c.loop-atom.atom-index c.atom-item.result c.loop-atom-test.true c.atom-item.is (c.push_atom.ensures.overflow (c.in-Err.is ∙ k))
 
 pub returns-in-Err-clause-many : goal.returns-in-Err-clause-many
 returns-in-Err-clause-many c k =
-    let g = beside_atom (side_of c.args.side) (unsigned_abs c.args.period.now.scale) (unsigned_abs c.args.period.now.span) c.args.x.number in
+    let g = beside_atom c.args.side (unsigned_abs c.args.period.now.scale) (unsigned_abs c.args.period.now.span) c.args.x.number in
     let a = length_of_one atom_of g c.args.atoms.now c.loop-atom.atom-index c.atom-item.result c.loop-atom-test.true c.atom-item.is in
     let b = c.push_atom.ensures.many (c.in-Err.is ∙ k) in
     omega arith

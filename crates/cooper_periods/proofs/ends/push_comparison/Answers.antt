@@ -11,7 +11,7 @@ use Rattle.elimination_theory.specs.IntegersPoints.{next_points, comparison_star
 use Rattle.elimination_theory.proofs.LowestTerms.{natural}
 use Rattle.formula_meaning.specs.Limits.{each, place_within}
 use Rattle.atom_normal.specs.Atoms.{relation_of}
-use Rattle.test_points.specs.Points.{side_of, place_of}
+use Rattle.test_points.specs.Points.{place_of}
 use Rattle.cooper_periods.proofs.Steps.{on_map, abs_within}
 use Rattle.cooper_periods.proofs.Beside.{starts_same}
 use Rattle.cooper_periods.proofs.ends.push_comparison.Goals as goal
@@ -25,14 +25,14 @@ factor_passed s t f a h ws wt wf e g =
 nonzero : (t c : ℤ) → t ≡ c → (of_z w128 t ≡ 0 → ⊥) → ¬ (c ≡ pos 0)
 nonzero t c e n z = n (ap (of_z w128) (e ∙ z))
 
-pub returns-in-Ok : goal.returns-in-Ok
-returns-in-Ok c =
-    let s = side_of c.args.side in let l = unsigned_abs c.args.period.now.scale in let d = unsigned_abs c.args.period.now.span in
+pub returns : goal.returns
+returns c =
+    let s = c.args.side in let l = unsigned_abs c.args.period.now.scale in let d = unsigned_abs c.args.period.now.span in
     let x = c.args.x.number in let f = c.args.form.now in let u = c.requires.usable in
     let t = c.coefficient-times.result in let v = c.coefficient-times.ensures.value in let w = c.coefficient-times.ensures.within in
     let back = read_back t w in
     let factor = factor_passed c.args.period.now.scale t c.quotient-factor.result c.abs.result u.scale u.scale_within w c.quotient-factor.ensures.within c.abs.ensures.value c.quotient-factor.ensures.value in
-    let same = starts_same s l _ _ (relation_of c.args.relation) (relation_of c.seen.result) (without x f) c.in-Ok.end (nonzero t _ (sym back) c.if-times-eq0.false) c.seen.ensures c.in-Ok.ensures.value (factor ∙ ap (λ (z : ℤ). pos (l / unsigned_abs z)) (sym back)) in
+    let same = starts_same s l _ _ (relation_of c.args.relation) (relation_of c.seen-relation.result) (without x f) c.in_ok-end.end (nonzero t _ (sym back) c.if-times-eq0.false) c.seen-relation.ensures c.in_ok-end.ensures.value (factor ∙ ap (λ (z : ℤ). pos (l / unsigned_abs z)) (sym back)) in
     let all = ap (flat_map (next_points s l d)) (same ∙ ap (λ (z : ℤ). comparison_starts s l z (relation_of c.args.relation) (without x f)) (back ∙ v)) in
     record {
       places = on_map c.push_end.result (λ q. q ∙ ap (λ (ps : List Place). map place_of c.args.points.now.items ++ ps) all) c.push_end.ensures.places;

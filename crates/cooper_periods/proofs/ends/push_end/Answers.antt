@@ -9,10 +9,9 @@ use Rattle.exact_numbers.proofs.Casts.{read_back}
 use Rattle.formula_meaning.specs.Form.{coefficient, scale}
 use Rattle.elimination_theory.proofs.LowestTerms.{natural}
 use Rattle.atom_normal.specs.Atoms.{relation_of}
-use Rattle.linear_forms.proofs.Lookups.{on_ok}
-use Rattle.test_points.specs.Points.{side_of, place_of}
+use Rattle.test_points.specs.Points.{place_of}
 use Rattle.cooper_periods.specs.Starts.{run_of}
-use Rattle.cooper_periods.proofs.Steps.{positive_abs, on_map, abs_within}
+use Rattle.cooper_periods.proofs.Steps.{positive_abs, abs_within}
 use Rattle.cooper_periods.proofs.Beside.{first_fails, last_fails, coefficient_fails, end_within, end_places, end_counted, passed_first, passed_before, formed_terms, formed_within, between}
 use Rattle.cooper_periods.proofs.ends.push_end.Goals as goal
 
@@ -32,14 +31,14 @@ last_passes x y first before f g p = subst PastLimit (ap (λ (t : ℤ). t +ℤ y
 
 pub returns-in_default-try_from-clause-many : goal.returns-in_default-try_from-clause-many
 returns-in_default-try_from-clause-many c k =
-    let u = c.requires.usable in let s = side_of c.args.side in let l = unsigned_abs c.args.period.now.scale in let d = unsigned_abs c.args.period.now.span in
+    let u = c.requires.usable in let s = c.args.side in let l = unsigned_abs c.args.period.now.scale in let d = unsigned_abs c.args.period.now.span in
     let n = end_counted s l d (relation_of c.args.relation) c.args.factor c.in-Some.step c.args.end (sym c.in-Some.ensures) (positive_abs c.args.period.now.span u.span) in
     let m = too_large c.args.period.now.span u.span u.span_within c.in_default-try_from.ensures in
     omega arith
 
 pub returns-in_default-first_number-clause-overflow : goal.returns-in_default-first_number-clause-overflow
 returns-in_default-first_number-clause-overflow c k =
-    let u = c.requires.usable in let s = side_of c.args.side in let l = unsigned_abs c.args.period.now.scale in let d = unsigned_abs c.args.period.now.span in
+    let u = c.requires.usable in let s = c.args.side in let l = unsigned_abs c.args.period.now.scale in let d = unsigned_abs c.args.period.now.span in
     let r = relation_of c.args.relation in let e = c.args.end in let p = c.constant_part.ensures in
     let wc : InLimit c.constant_part.result = subst InLimit (sym p.value) p.linear.constant_within in
     let f = passed_first s r c.args.factor c.in-Some.step c.signed-number.result _ e (sym c.in-Some.ensures) c.requires.within c.signed-number.ensures.value c.signed-number.ensures.within (read_back c.constant_part.result wc ∙ p.value) in
@@ -47,7 +46,7 @@ returns-in_default-first_number-clause-overflow c k =
 
 pub returns-in_default-sum-clause-overflow : goal.returns-in_default-sum-clause-overflow
 returns-in_default-sum-clause-overflow c k =
-    let u = c.requires.usable in let s = side_of c.args.side in let l = unsigned_abs c.args.period.now.scale in let d = unsigned_abs c.args.period.now.span in
+    let u = c.requires.usable in let s = c.args.side in let l = unsigned_abs c.args.period.now.scale in let d = unsigned_abs c.args.period.now.span in
     let r = relation_of c.args.relation in let e = c.args.end in let p = c.constant_part.ensures in
     let wc : InLimit c.constant_part.result = subst InLimit (sym p.value) p.linear.constant_within in
     let f = passed_first s r c.args.factor c.in-Some.step c.signed-number.result _ e (sym c.in-Some.ensures) c.requires.within c.signed-number.ensures.value c.signed-number.ensures.within (read_back c.constant_part.result wc ∙ p.value) in
@@ -68,9 +67,9 @@ push_run-requires-clause-within c j lt =
     let n : c.in-Ok.count ≡ d = c.in-Ok.ensures.1 ∙ ap unsigned_abs (read_back c.args.period.now.span u.span_within) in
     subst (λ (z : ℤ). InLimit (z +ℤ pos j)) (sym back) (between first d j a.1 w (subst (λ (m : ℕ). j < m) n lt))
 
-pub returns-in-Ok-scaled-clause-places : goal.returns-in-Ok-scaled-clause-places
-returns-in-Ok-scaled-clause-places c =
-    let u = c.requires.usable in let s = side_of c.args.side in let l = unsigned_abs c.args.period.now.scale in let d = unsigned_abs c.args.period.now.span in
+pub returns-in_ok-push_run-in-Ok-scaled-clause-places : goal.returns-in_ok-push_run-in-Ok-scaled-clause-places
+returns-in_ok-push_run-in-Ok-scaled-clause-places c =
+    let u = c.requires.usable in let s = c.args.side in let l = unsigned_abs c.args.period.now.scale in let d = unsigned_abs c.args.period.now.span in
     let r = relation_of c.args.relation in let e = c.args.end in let p = c.constant_part.ensures in
     let wc : InLimit c.constant_part.result = subst InLimit (sym p.value) p.linear.constant_within in
     let f = passed_first s r c.args.factor c.in-Some.step c.signed-number.result _ e (sym c.in-Some.ensures) c.requires.within c.signed-number.ensures.value c.signed-number.ensures.within (read_back c.constant_part.result wc ∙ p.value) in
@@ -79,23 +78,22 @@ returns-in-Ok-scaled-clause-places c =
     let t = formed_terms _ c.args.factor e c.in-Ok-scaled.form c.in-Ok-scaled.ensures.value (read_back c.args.factor c.requires.within) in
     let g = end_places s l d r c.args.factor c.in-Some.step e (sym c.in-Some.ensures) (positive_abs c.args.period.now.span u.span) first c.in-Ok-scaled.form c.in-Ok.count (a.0 ∙ f) t n in
     let o = ap (λ (z : ℤ). run_of s (unsigned_abs z) c.in-Ok-scaled.form (to_z w128 (of_z w128 first)) c.in-Ok.count) (read_back c.args.period.now.scale u.scale_within) ∙ ap (λ (z : ℤ). run_of s l c.in-Ok-scaled.form z c.in-Ok.count) (read_back first a.1) ∙ g in
-    on_map c.push_run.result (λ q. q ∙ ap (λ ps. map place_of c.args.points.now.items ++ ps) o) c.push_run.ensures.places
+    c.in_ok-push_run-in-Ok-scaled.ensures.places ∙ ap (λ ps. map place_of c.args.points.now.items ++ ps) o
 
-pub returns-in-Ok-scaled-clause-within : goal.returns-in-Ok-scaled-clause-within
-returns-in-Ok-scaled-clause-within c =
-    let u = c.requires.usable in let s = side_of c.args.side in let l = unsigned_abs c.args.period.now.scale in let d = unsigned_abs c.args.period.now.span in
+pub returns-in_ok-push_run-in-Ok-scaled-clause-within : goal.returns-in_ok-push_run-in-Ok-scaled-clause-within
+returns-in_ok-push_run-in-Ok-scaled-clause-within c =
+    let u = c.requires.usable in let s = c.args.side in let l = unsigned_abs c.args.period.now.scale in let d = unsigned_abs c.args.period.now.span in
     let r = relation_of c.args.relation in let e = c.args.end in let p = c.constant_part.ensures in
     let wc : InLimit c.constant_part.result = subst InLimit (sym p.value) p.linear.constant_within in
     let f = passed_first s r c.args.factor c.in-Some.step c.signed-number.result _ e (sym c.in-Some.ensures) c.requires.within c.signed-number.ensures.value c.signed-number.ensures.within (read_back c.constant_part.result wc ∙ p.value) in
     let first = c.in-Some-first_number.first in let a = c.in-Some-first_number.ensures in
     let w = last_within _ _ c.in-Some-sum._last first (pos d -ℤ pos 1) c.in-Some-sum.ensures.value.0 (read_back first a.1) (passed_before c.args.period.now.span u.span u.span_within) c.in-Some-sum.ensures.value.1 in
     let t = formed_terms _ c.args.factor e c.in-Ok-scaled.form c.in-Ok-scaled.ensures.value (read_back c.args.factor c.requires.within) in
-    on_ok c.push_run.result
-    (end_within s l d r c.args.factor c.in-Some.step e (sym c.in-Some.ensures) (positive_abs c.args.period.now.span u.span) first (a.0 ∙ f) (formed_within c.in-Ok-scaled.form (scale c.args.factor e) t c.in-Ok-scaled.ensures.linear) (abs_within c.args.period.now.scale u.scale_within) a.1 w)
+    end_within s l d r c.args.factor c.in-Some.step e (sym c.in-Some.ensures) (positive_abs c.args.period.now.span u.span) first (a.0 ∙ f) (formed_within c.in-Ok-scaled.form (scale c.args.factor e) t c.in-Ok-scaled.ensures.linear) (abs_within c.args.period.now.scale u.scale_within) a.1 w
 
 pub returns-in-Err-Overflow-clause-overflow : goal.returns-in-Err-Overflow-clause-overflow
 returns-in-Err-Overflow-clause-overflow c k =
-    let u = c.requires.usable in let s = side_of c.args.side in let l = unsigned_abs c.args.period.now.scale in let d = unsigned_abs c.args.period.now.span in
+    let u = c.requires.usable in let s = c.args.side in let l = unsigned_abs c.args.period.now.scale in let d = unsigned_abs c.args.period.now.span in
     let r = relation_of c.args.relation in let e = c.args.end in
     let p = c.in-Err-Overflow.ensures.overflow (ap Err c.in-Err-Overflow.field-0-is) in
     coefficient_fails s l d r c.args.factor c.in-Some.step e (sym c.in-Some.ensures) (positive_abs c.args.period.now.span u.span) p.0 (subst (λ (z : ℤ). PastLimit (z *ℤ coefficient p.0 e)) (read_back c.args.factor c.requires.within) p.1)

@@ -4,8 +4,7 @@ use Rattle.exact_numbers.proofs.Casts.{read_back}
 use Rattle.formula_meaning.specs.Answer.{same_place}
 use Rattle.formula_meaning.specs.Distinct.{distinct}
 use Rattle.elimination_theory.specs.IntegersPoints.{class_points}
-use Rattle.atom_normal.proofs.Stepped.{ok_map}
-use Rattle.test_points.specs.Points.{side_of, place_of}
+use Rattle.test_points.specs.Points.{place_of}
 use Rattle.cooper_periods.proofs.Steps.{scale_is_positive, span_is_positive}
 use Rattle.cooper_periods.proofs.Whole.{each_reached, scale_divides, passed_classes, too_many, whole, all_within, some_fails, many_ends, many_classes, same_error}
 use Rattle.cooper_periods.proofs.points.integer_points.Goals as goal
@@ -41,31 +40,30 @@ returns-in_default-try_from-clause-many c k =
     let p = c.requires.period in let n = c.args.period.now in let x = c.args.x.number in let atoms = c.args.atoms.now in
     let q = passed_classes c.quotient.result n.scale n.span _ _ c.quotient.ensures.within p.scale_within p.span_within c.quotient.ensures.value p.scale p.span in
     let fits = c.ranges.limit.fits in
-    many_classes (side_of c.args.side) x atoms c.args.limit (omega arith) (too_many _ _ q c.in_default-try_from.ensures)
+    many_classes c.args.side x atoms c.args.limit (omega arith) (too_many _ _ q c.in_default-try_from.ensures)
 
-pub returns-in-Ok-push_atoms-clause-points : goal.returns-in-Ok-push_atoms-clause-points
-returns-in-Ok-push_atoms-clause-points c =
+pub returns-in_ok-distinct_points-in-Ok-push_atoms-clause-points : goal.returns-in_ok-distinct_points-in-Ok-push_atoms-clause-points
+returns-in_ok-distinct_points-in-Ok-push_atoms-clause-points c =
     let p = c.requires.period in let n = c.args.period.now in let x = c.args.x.number in let atoms = c.args.atoms.now in
     let q = passed_classes c.quotient.result n.scale n.span _ _ c.quotient.ensures.within p.scale_within p.span_within c.quotient.ensures.value p.scale p.span in
     let m = c.in-Ok.ensures.1 ∙ ap unsigned_abs q in
-    let w = whole (side_of c.args.side) x atoms (map place_of c.push_atoms.new.points.items) (map place_of c.push_classes.new.points.items) c.in-Ok.classes n.scale n.span p.scale p.span m
-    (c.in-Ok-push_classes.ensures.places ∙ ap (λ ts. map place_of ts ++ class_points (side_of c.args.side) c.in-Ok.classes) c.new-points.ensures.items) c.in-Ok-push_atoms.ensures.places in
-    ok_map c.distinct_points.result (λ v h. h ∙ ap (distinct same_place) w) c.distinct_points.ensures.places
+    let w = whole c.args.side x atoms (map place_of c.push_atoms.new.points.items) (map place_of c.push_classes.new.points.items) c.in-Ok.classes n.scale n.span p.scale p.span m
+    (c.in_ok-push_classes.ensures.places ∙ ap (λ ts. map place_of ts ++ class_points c.args.side c.in-Ok.classes) c.new-points.ensures.items) c.in-Ok-push_atoms.ensures.places in
+    c.in_ok-distinct_points-in-Ok-push_atoms.ensures.places ∙ ap (distinct same_place) w
 
-pub returns-in-Ok-push_atoms-clause-within : goal.returns-in-Ok-push_atoms-clause-within
-returns-in-Ok-push_atoms-clause-within c =
+pub returns-in_ok-distinct_points-in-Ok-push_atoms-clause-within : goal.returns-in_ok-distinct_points-in-Ok-push_atoms-clause-within
+returns-in_ok-distinct_points-in-Ok-push_atoms-clause-within c =
     let p = c.requires.period in let n = c.args.period.now in let x = c.args.x.number in let atoms = c.args.atoms.now in
     let q = passed_classes c.quotient.result n.scale n.span _ _ c.quotient.ensures.within p.scale_within p.span_within c.quotient.ensures.value p.scale p.span in
     let w = subst InLimit (sym (read_back c.quotient.result c.quotient.ensures.within) ∙ q) c.quotient.ensures.within in
-    let a = all_within (side_of c.args.side) x atoms n.scale n.span p.scale p.span w c.in-Ok-push_atoms.ensures.within in
-    ok_map c.distinct_points.result (λ v h. a) c.distinct_points.ensures.places
+    all_within c.args.side x atoms n.scale n.span p.scale p.span w c.in-Ok-push_atoms.ensures.within
 
-pub returns-in-Err-push_atoms-clause-many : goal.returns-in-Err-push_atoms-clause-many
-returns-in-Err-push_atoms-clause-many c k =
+pub returns-in-Err-clause-many : goal.returns-in-Err-clause-many
+returns-in-Err-clause-many c k =
     let p = c.requires.period in let n = c.args.period.now in let fits = c.ranges.limit.fits in
-    many_ends (side_of c.args.side) c.args.x.number c.args.atoms.now n.scale n.span c.args.limit p.scale p.span (omega arith) (c.push_atoms.ensures.many (c.in-Err-push_atoms.is ∙ same_error c.in-Err-push_atoms.error _ k))
+    many_ends c.args.side c.args.x.number c.args.atoms.now n.scale n.span c.args.limit p.scale p.span (omega arith) (c.push_atoms.ensures.many (c.in-Err.is ∙ same_error c.in-Err.error _ k))
 
-pub returns-in-Err-push_atoms-clause-overflow : goal.returns-in-Err-push_atoms-clause-overflow
-returns-in-Err-push_atoms-clause-overflow c k =
+pub returns-in-Err-clause-overflow : goal.returns-in-Err-clause-overflow
+returns-in-Err-clause-overflow c k =
     let p = c.requires.period in let n = c.args.period.now in
-    some_fails (side_of c.args.side) c.args.x.number c.args.atoms.now n.scale n.span p.scale p.span (c.push_atoms.ensures.overflow (c.in-Err-push_atoms.is ∙ same_error c.in-Err-push_atoms.error _ k))
+    some_fails c.args.side c.args.x.number c.args.atoms.now n.scale n.span p.scale p.span (c.push_atoms.ensures.overflow (c.in-Err.is ∙ same_error c.in-Err.error _ k))

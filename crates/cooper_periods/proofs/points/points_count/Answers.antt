@@ -2,7 +2,6 @@ use Rattle.std.proofs.Common.{◌≡◌, ℕ, ◌≤◌, ◌^◌, ◌∙◌, sub
 use Rattle.std.specs.Int.{w128}
 use Rattle.std.specs.Option.{MatchOption}
 use Rattle.exact_numbers.proofs.Casts.{read_back}
-use Rattle.test_points.specs.Points.{side_of}
 use Rattle.cooper_periods.proofs.Steps.{span_is_positive, scale_is_positive}
 use Rattle.cooper_periods.proofs.Counts.{points_counted}
 use Rattle.cooper_periods.proofs.points.points_count.Goals as goal
@@ -11,7 +10,7 @@ pub returns : goal.returns
 returns c =
     let p = c.requires.period in let n = c.args.period.now in
     subst (λ (k : ℕ). MatchOption c.total.result (2 ^ 64 ≤ k) (λ m. m ≡ k))
-    (points_counted (side_of c.args.side) c.args.x.number c.args.atoms.now (to_z w128 (of_z w128 n.span)) (to_z w128 (of_z w128 n.scale)) c.ends_count.result (read_back n.span p.span_within ∙ p.span) (read_back n.scale p.scale_within ∙ p.scale) c.ends_count.ensures)
+    (points_counted c.args.side c.args.x.number c.args.atoms.now (to_z w128 (of_z w128 n.span)) (to_z w128 (of_z w128 n.scale)) c.ends_count.result (read_back n.span p.span_within ∙ p.span) (read_back n.scale p.scale_within ∙ p.scale) c.ends_count.ensures)
     c.total.ensures
 
 pub total-requires-clause-span : goal.total-requires-clause-span

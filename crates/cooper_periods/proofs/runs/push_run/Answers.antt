@@ -7,7 +7,7 @@ use Rattle.exact_numbers.specs.Limit.{InLimit}
 use Rattle.exact_numbers.proofs.Casts.{read_back}
 use Rattle.formula_meaning.specs.Answer.{Exact}
 use Rattle.elimination_theory.specs.IntegersPoints.{signed}
-use Rattle.test_points.specs.Points.{side_of, place_of, IsPointOf}
+use Rattle.test_points.specs.Points.{place_of, IsPointOf}
 use Rattle.cooper_periods.proofs.Rows.{run_more, passed_signed, passed_sum}
 use Rattle.cooper_periods.proofs.runs.push_run.Goals as goal
 
@@ -19,7 +19,7 @@ none_before k = omega arith
 
 pub loop-after-preserved : goal.loop-after-preserved
 loop-after-preserved c =
-    let s = side_of c.args.side in
+    let s = c.args.side in
     let k = c.loop-after.after in
     let fits = c.ranges.count.fits in
     let small = c.loop-after-test.true in
@@ -29,7 +29,7 @@ loop-after-preserved c =
     let o = to_z w128 (of_z w128 c.args.first) in
     let sc = unsigned_abs (to_z w128 (of_z w128 c.args.scale)) in
     let there = constant ∙ ap (λ (z : ℤ). signed s (z +ℤ pos k)) (sym (read_back c.args.first w)) in
-    let items = c.in_ok-push_point.ensures.items in
+    let items = c.in_ok-push_point.ensures in
     let f = c.args.form.now in
     record {
       places = run_more place_of (λ (j : ℕ). Exact (record { terms = f.terms; constant = signed s (o +ℤ pos j) }) sc) 0 k c.args.points.now.items c.loop-after.points.items _ c.in_ok-point.point items

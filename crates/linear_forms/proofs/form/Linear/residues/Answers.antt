@@ -10,22 +10,22 @@ pub invariant_of-result : goal.invariant_of-result
 invariant_of-result c =
     let s = c.self.inside in let m = c.args.modulus in
     let fm = c.ranges.modulus in let fk = fits s.constant c.self.invariant.constant_within in let fr = fits c.residue.result c.residue.ensures.within in
-    let e : terms_of c.in-Ok.terms.items ≡ residues m (terms_of s.terms.items) = rw c.deref.ensures.value at (simp to_z-of_z at c.in-Ok.ensures) in
+    let e : terms_of c.in_ok-terms.terms.items ≡ residues m (terms_of s.terms.items) = rw c.deref.ensures.value at (simp to_z-of_z at c.in_ok-terms.ensures) in
     let q = simp to_z-of_z at c.residue.ensures.value in
-    simp to_z-of_z (reduced_linear m s.terms.items c.in-Ok.terms.items s.constant c.residue.result c.requires fm c.self.invariant e q)
+    simp to_z-of_z (reduced_linear m s.terms.items c.in_ok-terms.terms.items s.constant c.residue.result c.requires fm c.self.invariant e q)
 
-pub returns-in-Ok-clause-value : goal.returns-in-Ok-clause-value
-returns-in-Ok-clause-value c =
+pub returns-clause-value : goal.returns-clause-value
+returns-clause-value c =
     let s = c.self.inside in let m = c.args.modulus in
     let fm = c.ranges.modulus in let fk = fits s.constant c.self.invariant.constant_within in let fr = fits c.residue.result c.residue.ensures.within in
-    let e : terms_of c.in-Ok.terms.items ≡ residues m (terms_of s.terms.items) = rw c.deref.ensures.value at (simp to_z-of_z at c.in-Ok.ensures) in
+    let e : terms_of c.in_ok-terms.terms.items ≡ residues m (terms_of s.terms.items) = rw c.deref.ensures.value at (simp to_z-of_z at c.in_ok-terms.ensures) in
     let q = simp to_z-of_z at c.residue.ensures.value in
-    simp to_z-of_z (reduced_form m s.terms.items c.in-Ok.terms.items s.constant c.residue.result c.args.self.now e q c.self.view_is)
+    simp to_z-of_z (reduced_form m s.terms.items c.in_ok-terms.terms.items s.constant c.residue.result c.args.self.now e q c.self.view_is)
 
-pub returns-in-Ok-clause-linear : goal.returns-in-Ok-clause-linear
-returns-in-Ok-clause-linear c =
+pub returns-clause-linear : goal.returns-clause-linear
+returns-clause-linear c =
     let s = c.self.inside in let m = c.args.modulus in
     let fm = c.ranges.modulus in let fk = fits s.constant c.self.invariant.constant_within in let fr = fits c.residue.result c.residue.ensures.within in
-    let e : terms_of c.in-Ok.terms.items ≡ residues m (terms_of s.terms.items) = rw c.deref.ensures.value at (simp to_z-of_z at c.in-Ok.ensures) in
+    let e : terms_of c.in_ok-terms.terms.items ≡ residues m (terms_of s.terms.items) = rw c.deref.ensures.value at (simp to_z-of_z at c.in_ok-terms.ensures) in
     let q = simp to_z-of_z at c.residue.ensures.value in
-    simp to_z-of_z (reduced_linear m s.terms.items c.in-Ok.terms.items s.constant c.residue.result c.requires fm c.self.invariant e q)
+    simp to_z-of_z (reduced_linear m s.terms.items c.in_ok-terms.terms.items s.constant c.residue.result c.requires fm c.self.invariant e q)
