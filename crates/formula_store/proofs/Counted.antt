@@ -147,10 +147,10 @@ module _ (nodes : List (Shape FormulaId)) (are : AreNodes nodes) where
       member_some (i ∷ ids) m (inl p) k = inl (subst (λ j. Among (subtrees (tree nodes j)) (tree nodes b)) (sym p) k)
       member_some (i ∷ ids) m (inr p) k = inr (member_some ids m p k)
 
-  record Found (a : FormulaId) (f : Tree) : Type 0 where
-    id : FormulaId
-    stands : Within nodes a id
-    same : tree nodes id ≡ f
+  pub record Found (a : FormulaId) (f : Tree) : Type 0 where
+    pub id : FormulaId
+    pub stands : Within nodes a id
+    pub same : tree nodes id ≡ f
 
   subtree_below : (bound : ℕ) (a : FormulaId) → a.number < bound → IsId nodes a → (f : Tree) → Among (subtrees (tree nodes a)) f → Found a f
   subtree_below zero a l h f m = absurd (omega arith)
@@ -165,7 +165,7 @@ module _ (nodes : List (Shape FormulaId)) (are : AreNodes nodes) where
       record { id = q.id; stands = inside n there r.3 q.stands; same = q.same })
       (over_subtrees (tree nodes) n f (subst (λ g. Among (subtrees g) f) t m))
 
-  subtree_found : (a : FormulaId) → IsId nodes a → (f : Tree) → Among (subtrees (tree nodes a)) f → Found a f
+  pub subtree_found : (a : FormulaId) → IsId nodes a → (f : Tree) → Among (subtrees (tree nodes a)) f → Found a f
   subtree_found a h f m = subtree_below (suc a.number) a (omega arith) h f m
 
   map_among : (ids : List FormulaId) (f : Tree) → Among (map (tree nodes) ids) f → (x : FormulaId) × Among ids x × (tree nodes x ≡ f)
@@ -210,7 +210,7 @@ module _ (nodes : List (Shape FormulaId)) (are : AreNodes nodes) where
       let r = some_has (λ i. i ≡ m) (λ (id : FormulaId). id.number < a.number) (ids_of n) s (all_listed (λ (id : FormulaId). id.number < a.number) n (are.below a.number n e)) in
       within_id m b (let k : m.number < a.number = subst (λ (y : FormulaId). y.number < a.number) r.1 r.2 in omega arith) w
 
-  each_within : (root : FormulaId) (ids : List FormulaId) → AllByRecursion (WithinSome nodes (root ∷ [])) ids → (x : FormulaId) → Among ids x → Within nodes root x
+  pub each_within : (root : FormulaId) (ids : List FormulaId) → AllByRecursion (WithinSome nodes (root ∷ [])) ids → (x : FormulaId) → Among ids x → Within nodes root x
   each_within root [] h x m = absurd m
   each_within root (i ∷ ids) h x (inl e) = subst (λ y. Within nodes root y) e (⊎_elim (λ w. w) (λ w. absurd w) h.0)
   each_within root (i ∷ ids) h x (inr m) = each_within root ids h.1 x m

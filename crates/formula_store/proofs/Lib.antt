@@ -8,7 +8,7 @@ pub mod Makes
 pub mod Adds
 pub mod Marked
 pub mod Ordered
-pub mod Collected
+pub mod Added
 pub mod Counted
 pub mod Before
 pub mod Tables

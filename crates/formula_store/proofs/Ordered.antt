@@ -1,6 +1,6 @@
--- Marking downwards from a formula marks what stands in it.
-use Rattle.std.proofs.Common.{◌≡◌, ℕ, zero, suc, ◌<◌, ◌≤◌, ◌⊎◌, inl, inr, ⊎_elim, Bool, false, List, [], ◌∷◌, Some, slice_get, length, refl, ap, sym, ◌∙◌, subst, arith, true≢false, replicate}
-use Rattle.std.proofs.Math.ListN.{length-replicate}
+-- Walking downwards from a formula meets what stands in it.
+use Rattle.std.proofs.Common.{◌≡◌, ℕ, zero, suc, ◌<◌, ◌≤◌, ◌⊎◌, inl, inr, ⊎_elim, Bool, true, false, List, [], ◌∷◌, Some, slice_get, length, refl, ap, sym, ◌∙◌, subst, arith, true≢false}
+use Rattle.std.proofs.lemmas.Bool.{cases_eq}
 use Rattle.std.proofs.lemmas.Option.{slice_get_within}
 use Rattle.std.specs.List.{AllByRecursion}
 use Rattle.formula_meaning.specs.Some.{SomeOf}
@@ -9,8 +9,8 @@ use Rattle.formula_tree.specs.Shapes.{ids_of}
 use Rattle.formula_tree.proofs.Shapes.{all_listed}
 use Rattle.formula_store.specs.declared.id.FormulaId.{FormulaId}
 use Rattle.formula_store.specs.Nodes.{AreNodes}
-use Rattle.formula_store.specs.Order.{Within, WithinSome, itself, inside, IsMarked, Marks, MarksFrom, AreMarked}
-use Rattle.formula_store.proofs.Marked.{all_on, equal_or_not}
+use Rattle.formula_store.specs.Order.{Within, WithinSome, itself, inside, RisesFrom, IsOrder, Adds, Takes, IsMet, Walks}
+use Rattle.formula_store.proofs.Marked.{all_on}
 
 pub same_id : (x y : FormulaId) → x.number ≡ y.number → x ≡ y
 same_id x y e = λ i. record { number = e i }
@@ -38,58 +38,94 @@ module _ (nodes : List (Shape FormulaId)) where
   own_root (r ∷ roots) x (inr h) = inr (own_root roots x h)
 
   module _ (roots : List FormulaId) where
-    unmarked : (k i : ℕ) → ¬ (IsMarked (replicate k false) i)
-    unmarked zero i h = true≢false (sym h)
-    unmarked (suc k) zero h = true≢false (sym h)
-    unmarked (suc k) (suc i) h = unmarked k i h
-
-    -- the formulas themselves are marked
-    pub start : (marks : List Bool) → Marks roots (replicate (length nodes) false) marks → MarksFrom nodes roots (length nodes) marks
-    start marks m = record {
-      size = m.same_length ∙ length-replicate (length nodes) false;
-      roots_marked = m.added;
-      sound = λ x h. ⊎_elim (λ p. absurd (unmarked (length nodes) x.number p)) (λ p. own_root roots x p) (m.none_else x.number h);
-      closed = λ x n l e h. absurd (let k = slice_get_within nodes x.number n e in omega arith);
+    -- the formulas themselves wait
+    pub start : AllByRecursion (λ (r : FormulaId). r.number < length nodes) roots → (none new : ℕ → Bool) → ((k : ℕ) → none k ≡ false) → Adds roots none new → Walks nodes roots new []
+    start are none new empty a = record {
+      rises = tt;
+      above = λ k h. tt;
+      places = λ k h. place k (from k h);
+      sound = λ x h. own_root roots x (from x.number h);
+      only = tt;
+      roots_met = all_on (λ r. new r.number ≡ true) (IsMet new []) (λ r h. inl h) roots a.added;
+      closed = λ x n h e. absurd h;
     }
+      where
+        from : (k : ℕ) → new k ≡ true → SomeOf (λ (r : FormulaId). r.number ≡ k) roots
+        from k h = ⊎_elim (λ p. absurd (true≢false (sym p ∙ empty k))) (λ p. p) (a.none_else k h)
+
+        place : (k : ℕ) → SomeOf (λ (r : FormulaId). r.number ≡ k) roots → k < length nodes
+        place k p = let r = some_has (λ (r : FormulaId). r.number ≡ k) (λ (r : FormulaId). r.number < length nodes) roots p are in omega (arith, r.1, r.2)
 
     -- one node further down, which has the number k
-    module _ (are : AreNodes nodes) (k : ℕ) (n : Shape FormulaId) (here : slice_get nodes k ≡ Some n) (old new : List Bool) (m : Marks (ids_of n) old new) (top : IsMarked old k) (h : MarksFrom nodes roots (suc k) old) where
+    module _ (are : AreNodes nodes) (k : ℕ) (n : Shape FormulaId) (here : slice_get nodes k ≡ Some n) (old less new : ℕ → Bool) (found : List FormulaId) (t : Takes k old less) (a : Adds (ids_of n) less new) (h : Walks nodes roots old found) where
+      top : FormulaId
+      top = record { number = k }
+
       members_below : AllByRecursion (λ (id : FormulaId). id.number < k) (ids_of n)
       members_below = all_listed (λ (id : FormulaId). id.number < k) n (are.below k n here)
 
-      step_sound : (x : FormulaId) → IsMarked old x.number ⊎ SomeOf (λ (id : FormulaId). id.number ≡ x.number) (ids_of n) → WithinSome nodes roots x
-      step_sound x (inl p) = h.sound x p
-      step_sound x (inr p) =
-          let r = some_has (λ (id : FormulaId). id.number ≡ x.number) (λ (id : FormulaId). id.number < k) (ids_of n) p members_below in
-          subst (λ y. WithinSome nodes roots y) (same_id r.0 x r.1) (some_then roots (record { number = k }) r.0 n (h.sound (record { number = k }) top) here r.3)
+      member : (i : ℕ) → SomeOf (λ (id : FormulaId). id.number ≡ i) (ids_of n) → (x : FormulaId) × (x.number ≡ i) × (x.number < k) × SomeOf (λ y. y ≡ x) (ids_of n)
+      member i p = some_has (λ (id : FormulaId). id.number ≡ i) (λ (id : FormulaId). id.number < k) (ids_of n) p members_below
 
-      step_closed : (x : FormulaId) (o : Shape FormulaId) → k ≤ x.number → slice_get nodes x.number ≡ Some o → IsMarked old x.number ⊎ SomeOf (λ (id : FormulaId). id.number ≡ x.number) (ids_of n)
-          → (x.number ≡ k) ⊎ (¬ (x.number ≡ k)) → AllByRecursion (λ (y : FormulaId). IsMarked new y.number) (ids_of o)
-      step_closed x o l e p (inl q) =
-          let same : n ≡ o = (let s : Some n ≡ Some o = sym here ∙ ap (λ i. slice_get nodes i) (sym q) ∙ e in cc) in
-          subst (λ s. AllByRecursion (λ (y : FormulaId). IsMarked new y.number) (ids_of s)) same m.added
-      step_closed x o l e (inl p) (inr q) = all_on (λ y. IsMarked old y.number) (λ y. IsMarked new y.number) (λ y s. m.kept y.number s) (ids_of o) (h.closed x o (omega arith) e p)
-      step_closed x o l e (inr p) (inr q) =
-          let r = some_has (λ (id : FormulaId). id.number ≡ x.number) (λ (id : FormulaId). id.number < k) (ids_of n) p members_below in absurd (omega (arith, r.1, r.2))
+      old_or_member : (i : ℕ) → new i ≡ true → ((old i ≡ true) × (i < k)) ⊎ SomeOf (λ (id : FormulaId). id.number ≡ i) (ids_of n)
+      old_or_member i w = ⊎_elim (λ p. inl (⊎_elim (λ (e : i ≡ k). absurd (true≢false (sym (subst (λ j. less j ≡ true) e p) ∙ t.gone))) (λ (e : ¬ (i ≡ k)). let o : old i ≡ true = sym (t.others i e) ∙ p in (o, (let l = t.greatest i o in omega arith))) (cases_eq i k))) (λ p. inr p) (a.none_else i w)
 
-      pub step : MarksFrom nodes roots k new
+      below_top : (i : ℕ) → new i ≡ true → i < k
+      below_top i w = ⊎_elim (λ p. p.1) (λ p. let r = member i p in omega (arith, r.1, r.2)) (old_or_member i w)
+
+      step_sound : (x : FormulaId) → new x.number ≡ true → WithinSome nodes roots x
+      unfolding top
+      step_sound x w = ⊎_elim (λ p. h.sound x p.0) (λ p. let r = member x.number p in subst (λ y. WithinSome nodes roots y) (same_id r.0 x r.1) (some_then roots top r.0 n (h.sound top t.was) here r.3)) (old_or_member x.number w)
+
+      -- what was met is met
+      still : (x : FormulaId) → IsMet old found x → IsMet new (top ∷ found) x
+      unfolding top
+      still x (inr p) = inr (inr p)
+      still x (inl p) = ⊎_elim (λ (e : x.number ≡ k). inr (inl (same_id top x (sym e)))) (λ (e : ¬ (x.number ≡ k)). inl (a.kept x.number (t.others x.number e ∙ p))) (cases_eq x.number k)
+
+      step_closed : (x : FormulaId) (o : Shape FormulaId) → (top ≡ x) ⊎ SomeOf (λ i. i ≡ x) found → slice_get nodes x.number ≡ Some o → AllByRecursion (IsMet new (top ∷ found)) (ids_of o)
+      unfolding top
+      step_closed x o (inl q) e =
+          let same : n ≡ o = (let s : Some n ≡ Some o = sym here ∙ ap (λ (y : FormulaId). slice_get nodes y.number) q ∙ e in cc) in
+          subst (λ s. AllByRecursion (IsMet new (top ∷ found)) (ids_of s)) same (all_on (λ id. new id.number ≡ true) (IsMet new (top ∷ found)) (λ id w. inl w) (ids_of n) a.added)
+      step_closed x o (inr p) e = all_on (IsMet old found) (IsMet new (top ∷ found)) still (ids_of o) (h.closed x o p e)
+
+      pub step : Walks nodes roots new (record { number = k } ∷ found)
+      unfolding top
       step = record {
-        size = m.same_length ∙ h.size;
-        roots_marked = all_on (λ (r : FormulaId). IsMarked old r.number) (λ (r : FormulaId). IsMarked new r.number) (λ r s. m.kept r.number s) roots h.roots_marked;
-        sound = λ x s. step_sound x (m.none_else x.number s);
-        closed = λ x o l e s. step_closed x o l e (m.none_else x.number s) (equal_or_not x.number k);
+        rises = h.above k t.was;
+        above = λ i w. (below_top i w, h.above k t.was);
+        places = λ i w. let l = below_top i w in let p = h.places k t.was in omega arith;
+        sound = step_sound;
+        only = (h.sound top t.was, h.only);
+        roots_met = all_on (IsMet old found) (IsMet new (top ∷ found)) still roots h.roots_met;
+        closed = step_closed;
       }
 
-    all_marked : (marks : List Bool) → MarksFrom nodes roots 0 marks → (a x : FormulaId) → IsMarked marks a.number → Within nodes a x → IsMarked marks x.number
-    all_marked marks h a x m itself = m
-    all_marked marks h a x m (inside {m = b} n e s w) =
-        let r = some_has (λ (i : FormulaId). i ≡ b) (λ (y : FormulaId). IsMarked marks y.number) (ids_of n) s (h.closed a n (omega arith) e m) in
-        all_marked marks h b x (subst (λ (y : FormulaId). IsMarked marks y.number) r.1 r.2) w
+    -- where nothing waits any more
+    module _ (waiting : ℕ → Bool) (found : List FormulaId) (empty : (k : ℕ) → waiting k ≡ false) (h : Walks nodes roots waiting found) where
+      is_found : (x : FormulaId) → IsMet waiting found x → SomeOf (λ i. i ≡ x) found
+      is_found x m = ⊎_elim (λ p. absurd (true≢false (sym p ∙ empty x.number))) (λ p. p) m
 
-    some_marked : (marks : List Bool) → MarksFrom nodes roots 0 marks → (rs : List FormulaId) → AllByRecursion (λ (r : FormulaId). IsMarked marks r.number) rs → (x : FormulaId) → WithinSome nodes rs x → IsMarked marks x.number
-    some_marked marks h [] k x w = absurd w
-    some_marked marks h (r ∷ rs) k x (inl w) = all_marked marks h r x k.0 w
-    some_marked marks h (r ∷ rs) k x (inr w) = some_marked marks h rs k.1 x w
+      all_found : (a x : FormulaId) → SomeOf (λ i. i ≡ a) found → Within nodes a x → SomeOf (λ i. i ≡ x) found
+      all_found a x m itself = m
+      all_found a x m (inside {m = b} n e s w) =
+          let r = some_has (λ (i : FormulaId). i ≡ b) (IsMet waiting found) (ids_of n) s (h.closed a n m e) in
+          all_found b x (is_found b (subst (IsMet waiting found) r.1 r.2)) w
 
-    pub finish : (marks : List Bool) → MarksFrom nodes roots 0 marks → AreMarked nodes roots marks
-    finish marks h = record { all = λ x w. some_marked marks h roots h.roots_marked x w; only = h.sound }
+      some_found : (rs : List FormulaId) → AllByRecursion (IsMet waiting found) rs → (x : FormulaId) → WithinSome nodes rs x → SomeOf (λ i. i ≡ x) found
+      some_found [] k x w = absurd w
+      some_found (r ∷ rs) k x (inl w) = all_found r x (is_found r k.0) w
+      some_found (r ∷ rs) k x (inr w) = some_found rs k.1 x w
+
+      pub finish : IsOrder nodes roots found
+      finish = record { rises = h.rises; all = λ x w. some_found roots h.roots_met x w; only = h.only }
+
+-- the number of the first id, or this one where there is none
+abbrev pub first_number : ℕ → List FormulaId → ℕ
+first_number n [] = n
+first_number n (a ∷ ids) = a.number
+
+pub first_falls : (n k : ℕ) (ids : List FormulaId) → k < n → RisesFrom k ids → k < first_number n ids
+first_falls n k [] h r = h
+first_falls n k (a ∷ ids) h r = r.0

@@ -1,5 +1,7 @@
 -- Which nodes stand in a formula, and lists of them.
-use Rattle.std.specs.Prelude.{◌≡◌, ℕ, ◌<◌, ◌≤◌, Bool, true, List, [], ◌∷◌, Some, slice_get, get_or, false, length, ◌⊎◌}
+use Rattle.std.specs.BTreeSet.{BTreeSet, contains}
+use Rattle.std.specs.Ordering.{nat_cmp}
+use Rattle.std.specs.Prelude.{◌≡◌, ℕ, ◌<◌, ◌≤◌, Bool, true, false, List, [], ◌∷◌, Some, slice_get, length, ◌⊎◌}
 use Rattle.std.specs.List.{AllByRecursion}
 use Rattle.formula_meaning.specs.Some.{SomeOf}
 use Rattle.formula_tree.specs.declared.shape.Shape.{Shape}
@@ -31,33 +33,34 @@ pub record IsOrder (nodes : List (Shape FormulaId)) (roots ids : List FormulaId)
   pub all : (x : FormulaId) → WithinSome nodes roots x → SomeOf (λ i. i ≡ x) ids
   pub only : AllByRecursion (WithinSome nodes roots) ids
 
--- the mark of a place
-abbrev pub IsMarked : List Bool → ℕ → Type 0
-IsMarked marks i = get_or marks i false ≡ true
+-- the numbers in a set, each of which is met once it is taken out
+abbrev pub waits : BTreeSet ℕ → ℕ → Bool
+waits set k = contains nat_cmp set k
 
--- the ids are marked as well, and nothing else
-pub record Marks (ids : List FormulaId) (old new : List Bool) : Type 0 where
-  pub same_length : length new ≡ length old
-  pub kept : (i : ℕ) → IsMarked old i → IsMarked new i
-  pub added : AllByRecursion (λ id. IsMarked new id.number) ids
-  pub none_else : (i : ℕ) → IsMarked new i → IsMarked old i ⊎ SomeOf (λ id. id.number ≡ i) ids
+-- the ids wait as well, and nothing else
+pub record Adds (ids : List FormulaId) (old new : ℕ → Bool) : Type 0 where
+  pub kept : (k : ℕ) → old k ≡ true → new k ≡ true
+  pub added : AllByRecursion (λ id. new id.number ≡ true) ids
+  pub none_else : (k : ℕ) → new k ≡ true → (old k ≡ true) ⊎ SomeOf (λ id. id.number ≡ k) ids
 
--- the nodes of some formulas are marked, and no others
-pub record AreMarked (nodes : List (Shape FormulaId)) (roots : List FormulaId) (marks : List Bool) : Type 0 where
-  pub all : (x : FormulaId) → WithinSome nodes roots x → IsMarked marks x.number
-  pub only : (x : FormulaId) → IsMarked marks x.number → WithinSome nodes roots x
+-- the number waits no more
+pub record Takes (k : ℕ) (old new : ℕ → Bool) : Type 0 where
+  pub was : old k ≡ true
+  pub greatest : (i : ℕ) → old i ≡ true → i ≤ k
+  pub others : (i : ℕ) → ¬ (i ≡ k) → new i ≡ old i
+  pub gone : new k ≡ false
 
--- The nodes from this number on have marked their members: what is marked stands in one of the formulas, and the members
--- of what is marked from here on are marked.
-pub record MarksFrom (nodes : List (Shape FormulaId)) (roots : List FormulaId) (from : ℕ) (marks : List Bool) : Type 0 where
-  pub size : length marks ≡ length nodes
-  pub roots_marked : AllByRecursion (λ (r : FormulaId). IsMarked marks r.number) roots
-  pub sound : (x : FormulaId) → IsMarked marks x.number → WithinSome nodes roots x
-  pub closed : (x : FormulaId) (n : Shape FormulaId) → from ≤ x.number → slice_get nodes x.number ≡ Some n → IsMarked marks x.number → AllByRecursion (λ (m : FormulaId). IsMarked marks m.number) (ids_of n)
+-- the node waits, or is found
+abbrev pub IsMet : (ℕ → Bool) → List FormulaId → FormulaId → Type 0
+IsMet waiting found x = (waiting x.number ≡ true) ⊎ SomeOf (λ i. i ≡ x) found
 
--- the ids are the marked places below a number, in order
-pub record Collects (marks : List Bool) (upto : ℕ) (ids : List FormulaId) : Type 0 where
-  pub rises : Rises ids
-  pub below : AllByRecursion (λ (id : FormulaId). id.number < upto) ids
-  pub all : (x : FormulaId) → x.number < upto → IsMarked marks x.number → SomeOf (λ i. i ≡ x) ids
-  pub only : AllByRecursion (λ (id : FormulaId). IsMarked marks id.number) ids
+-- Downwards from some formulas: what waits or is found stands in them, what is found is above what waits, and the
+-- formulas and the members of what is found are met.
+pub record Walks (nodes : List (Shape FormulaId)) (roots : List FormulaId) (waiting : ℕ → Bool) (found : List FormulaId) : Type 0 where
+  pub rises : Rises found
+  pub above : (k : ℕ) → waiting k ≡ true → RisesFrom k found
+  pub places : (k : ℕ) → waiting k ≡ true → k < length nodes
+  pub sound : (x : FormulaId) → waiting x.number ≡ true → WithinSome nodes roots x
+  pub only : AllByRecursion (WithinSome nodes roots) found
+  pub roots_met : AllByRecursion (IsMet waiting found) roots
+  pub closed : (x : FormulaId) (n : Shape FormulaId) → SomeOf (λ i. i ≡ x) found → slice_get nodes x.number ≡ Some n → AllByRecursion (IsMet waiting found) (ids_of n)

@@ -1,3 +1,9 @@
+ghost use Rattle.std.specs.Prelude.{◌≡◌};
+ghost use Rattle.formula_store.specs.declared.error.StoreError.TheVariants as store;
+ghost use Rattle.formula_store.specs.declared.error.EvalStop.TheVariants as stop;
+ghost use Rattle.formula_store.specs.declared.error.Unfold.TheVariants as large;
+
+use std::alloc::AllocError;
 use thiserror::Error;
 
 /// Why a call on a store gave nothing.
@@ -6,6 +12,14 @@ pub enum StoreError {
     /// There is no memory left.
     #[error("out of memory")]
     Memory,
+}
+
+impl From<AllocError> for StoreError {
+    ghost from_gives = { λ _ e. e ≡ store.Memory };
+
+    fn from(_error: AllocError) -> StoreError {
+        StoreError::Memory
+    }
 }
 
 /// Why the truth of a formula was not told.
@@ -19,6 +33,14 @@ pub enum EvalStop {
     Memory,
 }
 
+impl From<AllocError> for EvalStop {
+    ghost from_gives = { λ _ e. e ≡ stop.Memory };
+
+    fn from(_error: AllocError) -> EvalStop {
+        EvalStop::Memory
+    }
+}
+
 /// Why a formula was not unfolded.
 #[derive(Clone, Copy, Debug, PartialEq, Eq, Drop, Error)]
 pub enum Unfold {
@@ -28,4 +50,12 @@ pub enum Unfold {
     /// There is no memory left.
     #[error("out of memory")]
     Memory,
+}
+
+impl From<AllocError> for Unfold {
+    ghost from_gives = { λ _ e. e ≡ large.Memory };
+
+    fn from(_error: AllocError) -> Unfold {
+        Unfold::Memory
+    }
 }

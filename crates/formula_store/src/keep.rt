@@ -10,12 +10,11 @@ ghost use Rattle.formula_store.specs.Nodes.{tree, IsId, AreNodes};
 ghost use Rattle.formula_store.specs.Order.{IsOrder};
 ghost use Rattle.formula_store.specs.Copies.{first_id, Copied};
 
-use crate::error::StoreError;
 use crate::id::FormulaId;
 use crate::order::subformulas;
 use crate::store::Store;
 use formula_tree::{Ids, Maker, Shape};
-use std::alloc::Global;
+use std::alloc::{AllocError, Global};
 
 // The id of the first formula, where a table has no other yet.
 const FIRST: FormulaId = FormulaId { number: 0 };
@@ -26,16 +25,14 @@ pub(crate) fn copied(
     store: &Store,
     roots: &[FormulaId],
     into: &mut Store,
-) -> Result<Vec<FormulaId>, StoreError>
+) -> Result<Vec<FormulaId>, AllocError>
     requires { AllByRecursion (IsId store.now) roots.now }
     ensures made { IfOk result (λ ids. AreMade (IsId into.new) (tree into.new) ids.items (map (tree store.now) roots.now)) }
     ensures few { OnOk result ((needed : List FormulaId) → IsOrder store.now roots.now needed → length into.new ≤ length into.old + length needed) }
 {
     let ids = subformulas(alloc, store, roots)?;
     let mut table = Vec::new(alloc);
-    table
-        .resize(store.len(), FIRST)
-        .map_err(|_| StoreError::Memory)?;
+    table.resize(store.len(), FIRST)?;
     for id in &ids {
         let copy = copied_node(alloc, store, *id, &table, into)?;
         table[id.number] = copy;
@@ -51,7 +48,7 @@ fn copied_node(
     id: FormulaId,
     table: &Vec<FormulaId>,
     into: &mut Store,
-) -> Result<FormulaId, StoreError>
+) -> Result<FormulaId, AllocError>
     requires id { IsId store.now id }
     requires size { length table.now.items ≡ length store.now }
     requires members { (n : Shape FormulaId) → slice_get store.now id.number ≡ Some n → AllIds (λ m. Copied store.now into.old m (get_or table.now.items m.number first_id)) n }
@@ -60,7 +57,7 @@ fn copied_node(
     ensures few { length into.new ≤ length into.old + 1 }
 {
     let shape = with_ids(alloc, store.shape(id), table)?;
-    let copy = into.make(shape).map_err(|_| StoreError::Memory)?;
+    let copy = into.make(shape).map_err(|_| AllocError)?;
     Ok(copy)
 }
 
@@ -69,14 +66,14 @@ fn with_ids(
     alloc: Global,
     shape: &Shape<FormulaId>,
     table: &Vec<FormulaId>,
-) -> Result<Shape<FormulaId>, StoreError>
+) -> Result<Shape<FormulaId>, AllocError>
     requires { AllIds (λ id. id.number < length table.now.items) shape.now }
     ensures { IfOk result (λ s. s ≡ moved (λ id. get_or table.now.items id.number first_id) shape.now) }
 {
     match shape {
         Shape::True => Ok(Shape::True),
         Shape::False => Ok(Shape::False),
-        Shape::One(atom) => Ok(Shape::One(atom.copy(alloc).map_err(|_| StoreError::Memory)?)),
+        Shape::One(atom) => Ok(Shape::One(atom.copy(alloc).map_err(|_| AllocError)?)),
         Shape::And(ids) => Ok(Shape::And(Ids::of(looked_up(alloc, ids.items(), table)?))),
         Shape::Or(ids) => Ok(Shape::Or(Ids::of(looked_up(alloc, ids.items(), table)?))),
         Shape::Not(member) => Ok(Shape::Not(table[member.number])),
@@ -93,15 +90,13 @@ fn looked_up(
     alloc: Global,
     ids: &[FormulaId],
     table: &Vec<FormulaId>,
-) -> Result<Vec<FormulaId>, StoreError>
+) -> Result<Vec<FormulaId>, AllocError>
     requires { AllByRecursion (λ id. id.number < length table.now.items) ids.now }
     ensures { IfOk result (λ v. v.items ≡ map (λ id. get_or table.now.items id.number first_id) ids.now) }
 {
     let mut found = Vec::new(alloc);
     for id in ids {
-        found
-            .push(table[id.number])
-            .map_err(|_| StoreError::Memory)?;
+        found.push(table[id.number])?;
     }
     Ok(found)
 }

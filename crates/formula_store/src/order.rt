@@ -1,97 +1,79 @@
 //! The distinct subformulas of a formula, in a flat list.
 
-ghost use Rattle.std.specs.Prelude.{◌≡◌, ◌≤◌, ◌<◌, ℕ, ◌⊎◌, ◌++◌, ◌∷◌, [], true, false, replicate, IfOk, OnOk, ◌+◌, length};
+ghost use Rattle.std.specs.Prelude.{◌≡◌, ◌∷◌, [], false, replicate, IfOk, OnOk};
 ghost use Rattle.std.specs.List.{AllByRecursion};
-ghost use Rattle.formula_meaning.specs.Some.{SomeOf};
-ghost use Rattle.formula_tree.specs.Shapes.{AllIds, ids_of};
+ghost use Rattle.formula_tree.specs.Shapes.{ids_of};
 ghost use Rattle.formula_store.specs.Nodes.{IsId};
-ghost use Rattle.formula_store.specs.Order.{IsOrder, IsMarked, Marks, AreMarked, Collects};
+ghost use Rattle.formula_store.specs.Order.{IsOrder, Adds, waits};
 
-use crate::error::StoreError;
 use crate::id::FormulaId;
 use crate::store::Store;
 use formula_tree::Shape;
-use std::alloc::Global;
+use std::alloc::{AllocError, Global};
+use std::collections::BTreeSet;
 
-// The distinct subformulas of some formulas: each once, its members before it.
+// The distinct subformulas of some formulas: each once, its members before it. The members of the greatest that waits have
+// smaller numbers, so each is taken out once, and the time is that of the subformulas alone.
 pub(crate) fn subformulas(
     alloc: Global,
     store: &Store,
     roots: &[FormulaId],
-) -> Result<Vec<FormulaId>, StoreError>
+) -> Result<Vec<FormulaId>, AllocError>
     requires { AllByRecursion (IsId store.now) roots.now }
     ensures { IfOk result (λ ids. IsOrder store.now roots.now ids.items) }
 {
-    let marks = marked(alloc, store, roots)?;
+    let mut waiting = BTreeSet::new(alloc);
+    add_all(roots, &mut waiting)?;
     let mut ids = Vec::new(alloc);
-    for number in 0..marks.len() {
-        collect(&marks, number, &mut ids)?;
+    while let Some(number) = waiting.pop_last() {
+        let id = FormulaId { number };
+        ids.push(id)?;
+        add_members(store.shape(id), &mut waiting)?;
     }
+    ids.reverse();
     Ok(ids)
 }
 
-// Adds the number to the marked ones below it, if it is marked.
-fn collect(marks: &Vec<bool>, number: usize, ids: &mut Vec<FormulaId>) -> Result<(), StoreError>
-    requires within { number < length marks.now.items }
-    requires below { Collects marks.now.items number ids.old.items }
-    ensures { OnOk result (Collects marks.now.items (number + 1) ids.new.items) }
+// Adds the members of a formula.
+fn add_members(shape: &Shape<FormulaId>, waiting: &mut BTreeSet<usize>) -> Result<(), AllocError>
+    ensures { OnOk result (Adds (ids_of shape.now) (waits waiting.old) (waits waiting.new)) }
 {
-    if !marks[number] {
-        return Ok(());
+    match shape {
+        Shape::True | Shape::False | Shape::One(_) => Ok(()),
+        Shape::And(ids) | Shape::Or(ids) => add_all(ids.items(), waiting),
+        Shape::Not(member) | Shape::Ex(_, member) | Shape::All(_, member) => add(*member, waiting),
+        Shape::Impl(left, right) | Shape::Repl(left, right) | Shape::Equiv(left, right) => {
+            add(*left, waiting)?;
+            add(*right, waiting)
+        }
     }
-    ids.push(FormulaId { number })
-        .map_err(|_| StoreError::Memory)?;
+}
+
+// Adds each of the ids.
+fn add_all(ids: &[FormulaId], waiting: &mut BTreeSet<usize>) -> Result<(), AllocError>
+    ensures { OnOk result (Adds ids.now (waits waiting.old) (waits waiting.new)) }
+{
+    for id in ids {
+        add(*id, waiting)?;
+    }
     Ok(())
 }
 
-// A mark at the number of each subformula, downwards from the formulas themselves.
-fn marked(alloc: Global, store: &Store, roots: &[FormulaId]) -> Result<Vec<bool>, StoreError>
-    requires { AllByRecursion (IsId store.now) roots.now }
-    ensures { IfOk result (λ marks. AreMarked store.now roots.now marks.items) }
+// Adds an id.
+fn add(id: FormulaId, waiting: &mut BTreeSet<usize>) -> Result<(), AllocError>
+    ensures { OnOk result (Adds (id ∷ []) (waits waiting.old) (waits waiting.new)) }
 {
-    let mut marks = unmarked(alloc, store.len())?;
-    mark_all(roots, &mut marks);
-    for number in (0..marks.len()).rev() {
-        if marks[number] {
-            mark_members(store.shape(FormulaId { number }), &mut marks);
-        }
+    match waiting.insert(id.number) {
+        Ok(_) => Ok(()),
+        Err(_) => Err(AllocError),
     }
-    Ok(marks)
 }
 
 // So many places without a mark.
-pub(crate) fn unmarked(alloc: Global, places: usize) -> Result<Vec<bool>, StoreError>
+pub(crate) fn unmarked(alloc: Global, places: usize) -> Result<Vec<bool>, AllocError>
     ensures { IfOk result (λ marks. marks.items ≡ replicate places false) }
 {
     let mut marks = Vec::new(alloc);
-    marks.resize(places, false).map_err(|_| StoreError::Memory)?;
+    marks.resize(places, false)?;
     Ok(marks)
-}
-
-// Marks the members of a formula.
-fn mark_members(shape: &Shape<FormulaId>, marks: &mut Vec<bool>)
-    requires { AllIds (λ member. member.number < length marks.old.items) shape.now }
-    ensures { Marks (ids_of shape.now) marks.old.items marks.new.items }
-{
-    match shape {
-        Shape::True | Shape::False | Shape::One(_) => (),
-        Shape::And(ids) | Shape::Or(ids) => mark_all(ids.items(), marks),
-        Shape::Not(member) | Shape::Ex(_, member) | Shape::All(_, member) => {
-            marks[member.number] = true;
-        }
-        Shape::Impl(left, right) | Shape::Repl(left, right) | Shape::Equiv(left, right) => {
-            marks[left.number] = true;
-            marks[right.number] = true;
-        }
-    }
-}
-
-// Marks each of the ids.
-fn mark_all(ids: &[FormulaId], marks: &mut Vec<bool>)
-    requires { AllByRecursion (λ id. id.number < length marks.old.items) ids.now }
-    ensures { Marks ids.now marks.old.items marks.new.items }
-{
-    for id in ids {
-        marks[id.number] = true;
-    }
 }

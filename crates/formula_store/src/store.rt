@@ -93,14 +93,14 @@ impl Store {
         self.nodes.len()
     }
 
-    /// The distinct subformulas of a formula: each once, its members before it, the formula itself last. It takes time
-    /// linear in the number of formulas of the store. Its only error is `Memory`.
+    /// The distinct subformulas of a formula: each once, its members before it, the formula itself last. Its time is that of
+    /// the subformulas, however many formulas the store has. Its only error is `Memory`.
     pub fn subformulas(&self, id: FormulaId) -> Result<Vec<FormulaId>, StoreError>
         requires { IsId self.now id }
         ensures order { IfOk result (λ ids. IsOrder self.now (id ∷ []) ids.items) }
         ensures nodes { AreNodes self.now }
     {
-        subformulas(self.alloc, self, &[id])
+        Ok(subformulas(self.alloc, self, &[id])?)
     }
 
     /// How many distinct subformulas a formula has. Its only error is `Memory`.
@@ -155,10 +155,7 @@ impl Store {
         if facts.nodes == u64::MAX {
             return Err(Unfold::Memory);
         }
-        match unfolded(self.alloc, self, id) {
-            Ok(tree) => Ok(tree),
-            Err(_) => Err(Unfold::Memory),
-        }
+        Ok(unfolded(self.alloc, self, id)?)
     }
 
     /// Keeps the formulas with these ids and what stands in them, gives up all others, and gives the new ids in order. Old

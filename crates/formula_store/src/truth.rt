@@ -39,12 +39,8 @@ pub(crate) fn truth_shared<L: Ledger>(
     ensures steps { steps.new ≤ steps.old + distinct_count same_atom nat_eq (tree store.now root) }
     ensures overflow { IsErrOf result EvalStop.Overflow → SomeAtomPasses (tree store.now root) at.now }
 {
-    let Ok(ids) = subformulas(alloc, store, &[root]) else {
-        return Err(EvalStop::Memory);
-    };
-    let Ok(mut table) = unmarked(alloc, store.len()) else {
-        return Err(EvalStop::Memory);
-    };
+    let ids = subformulas(alloc, store, &[root])?;
+    let mut table = unmarked(alloc, store.len())?;
     for id in &ids {
         steps.tick();
         let Some(truth) = node_truth(store, *id, &table, at) else {

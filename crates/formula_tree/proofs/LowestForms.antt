@@ -26,7 +26,7 @@ use Rattle.formula_tree.proofs.FormSteps.{Stands, number_ok, content_not_zero, i
 use Rattle.formula_tree.proofs.FormValues.{forms_keep}
 use Rattle.formula_tree.proofs.FormNames.{origin, numbered_origin}
 
-lowest_lowest : (f : Form) (d : ℤ) → pos 0 <ℤ d → IsLowestForm (lowest_form f d)
+pub lowest_lowest : (f : Form) (d : ℤ) → pos 0 <ℤ d → IsLowestForm (lowest_form f d)
 unfolding lowest_form quotient
 lowest_lowest f d h =
     let xs = d ∷ numbers_of f in
@@ -38,13 +38,13 @@ lowest_lowest f d h =
 content_one : (xs : List ℤ) → Divides (content_of xs) (pos 1) → content_of xs ≡ pos 1
 content_one xs h = divides_both (content_is xs).not_negative (omega (arith, ints)) h (one_divides (content_of xs))
 
-constant_lowest : (u : Frac) → IsLowest u → IsLowestForm (constant_form u)
+pub constant_lowest : (u : Frac) → IsLowest u → IsLowestForm (constant_form u)
 constant_lowest u l =
     let xs = u.denominator ∷ u.numerator ∷ [] in
     let c = content_is xs in
     content_one xs (l.greatest (content_of xs) c.divides.1.0 c.divides.0)
 
-sum_lowest : (a b r : RationalForm) → pos 0 <ℤ a.denominator → pos 0 <ℤ b.denominator → sum_of_forms a b ≡ Ok r → IsLowestForm r
+pub sum_lowest : (a b r : RationalForm) → pos 0 <ℤ a.denominator → pos 0 <ℤ b.denominator → sum_of_forms a b ≡ Ok r → IsLowestForm r
 unfolding sum_of_forms
 sum_lowest a b r ha hb e =
     let d = a.denominator in let k = b.denominator in

@@ -1,6 +1,6 @@
 -- Coefficients by name, and the terms that they are.
 use Rattle.std.proofs.Common.{◌≡◌, inl, inr, ◌<◌, ◌+◌, ℕ, zero, suc, Bool, true, false, List, [], ◌∷◌, ◌++◌, take, Some, None, ap, sym, ◌∙◌, subst, refl, arith, nat_eq, nat_cmp, eq-eqb, Less, append_assoc, if◌then◌else◌}
-use Rattle.std.proofs.Math.IntN.{ℤ, pos, negsuc, ◌+ℤ◌}
+use Rattle.std.proofs.Math.IntN.{ℤ, pos, negsuc, ◌+ℤ◌, ◌*ℤ◌}
 use Rattle.std.specs.Prelude.{slice_get, unwrap_or, Result, Ok, Err, OnOk, OnErr}
 use Rattle.std.specs.Map.{lookup, keys_of}
 use Rattle.std.specs.List.{AllByRecursion}
@@ -9,6 +9,8 @@ use Rattle.std.proofs.lemmas.Bool.{ne_eqb, cases_eq, cond-true, cond-false}
 use Rattle.std.proofs.lemmas.Bool.Decides.{nat_tests}
 use Rattle.std.proofs.lemmas.Int.{ints}
 use Rattle.exact_numbers.specs.Limit.{InLimit}
+use Rattle.exact_numbers.proofs.Ring.{mul_add, mul_zero}
+use Rattle.formula_meaning.specs.Combining.{AddWithin}
 use Rattle.formula_meaning.specs.Form.{Term, multiple}
 use Rattle.formula_meaning.specs.Sorted.{AllAbove, IsRising, AllNonzero, with_term}
 use Rattle.formula_meaning.proofs.Sorted.{here, elsewhere}
@@ -147,6 +149,12 @@ multiple_take x (suc i) (s ∷ ts) t e = ap (multiple x) (take_next i s ts) ∙ 
     go true h = omega (arith, ints)
     go false h = h
 
+at_same : (v x : ℕ) (t : ℤ) → v ≡ x → at_name x (record { times = t; name = v }) ≡ t
+at_same v x t p = cond-true (nat_eq x v) t (pos 0) (eq-eqb x v (sym p))
+
+at_other : (v x : ℕ) (t : ℤ) → ¬ (v ≡ x) → at_name x (record { times = t; name = v }) ≡ pos 0
+at_other v x t p = cond-false (nat_eq x v) t (pos 0) (ne_eqb x v (λ q. p (sym q)))
+
 above_at : (x : ℕ) (ts : List Term) (i : ℕ) (t : Term) → AllAbove x ts → slice_get ts i ≡ Some t → x < t.name
 above_at x [] i t a e = absurd (cc)
 above_at x (s ∷ ts) zero t a e = let k : s ≡ t = cc in subst (λ (u : Term). x < u.name) k a.0
@@ -182,30 +190,51 @@ chosen false n m h k = k
 pub put_within : (old new : List (ℕ × ℤ)) (v : ℕ) (n : ℤ) → ((x : ℕ) → coefficient_at new x ≡ (if nat_eq v x then n else coefficient_at old x)) → InLimit n → ((x : ℕ) → InLimit (coefficient_at old x)) → (x : ℕ) → InLimit (coefficient_at new x)
 put_within old new v n u h w x = subst (λ (z : ℤ). InLimit z) (sym (u x)) (chosen (nat_eq v x) n (coefficient_at old x) h (w x))
 
--- one term more is added
-pub added_more : (old now new : List (ℕ × ℤ)) (ts : List Term) (i v : ℕ) (k n : ℤ) → ((x : ℕ) → coefficient_at new x ≡ (if nat_eq v x then n else coefficient_at now x)) → n ≡ coefficient_at now v +ℤ k
-    → slice_get ts i ≡ Some (record { times = k; name = v }) → ((x : ℕ) → coefficient_at now x ≡ coefficient_at old x +ℤ multiple x (take i ts))
-    → (x : ℕ) → coefficient_at new x ≡ coefficient_at old x +ℤ multiple x (take (i + 1) ts)
-added_more old now new ts i v k n u e t h x =
-    let m = multiple_take x i ts (record { times = k; name = v }) t in
-    let g = h x in
+-- k times one term more is added
+pub added_more : (old now new : List (ℕ × ℤ)) (ts : List Term) (i v : ℕ) (k t n : ℤ) → ((x : ℕ) → coefficient_at new x ≡ (if nat_eq v x then n else coefficient_at now x)) → n ≡ coefficient_at now v +ℤ k *ℤ t
+    → slice_get ts i ≡ Some (record { times = t; name = v }) → ((x : ℕ) → coefficient_at now x ≡ coefficient_at old x +ℤ k *ℤ multiple x (take i ts))
+    → (x : ℕ) → coefficient_at new x ≡ coefficient_at old x +ℤ k *ℤ multiple x (take (i + 1) ts)
+added_more old now new ts i v k t n u e at h x =
+    let m = multiple_take x i ts (record { times = t; name = v }) at in
     elim (cases_eq v x) [
       | inl p ↦
           let a : coefficient_at new x ≡ n = u x ∙ cond-true (nat_eq v x) n (coefficient_at now x) (eq-eqb v x p) in
-          let b : at_name x (record { times = k; name = v }) ≡ k = cond-true (nat_eq x v) k (pos 0) (eq-eqb x v (sym p)) in
-          let c : n ≡ coefficient_at now x +ℤ k = e ∙ ap (λ y. coefficient_at now y +ℤ k) p in
-          together (coefficient_at new x) n (coefficient_at now x) (coefficient_at old x) (multiple x (take i ts)) (multiple x (take (i + 1) ts)) (at_name x (record { times = k; name = v })) k a c g m b
+          let b = at_same v x t p in
+          let c : n ≡ coefficient_at now x +ℤ k *ℤ t = e ∙ ap (λ y. coefficient_at now y +ℤ k *ℤ t) p in
+          together (coefficient_at now x) (coefficient_at old x) (multiple x (take i ts)) (multiple x (take (i + 1) ts)) t (coefficient_at new x) (k *ℤ t) (a ∙ c) refl (h x) (m ∙ ap (λ z. multiple x (take i ts) +ℤ z) b)
       | inr p ↦
           let a : coefficient_at new x ≡ coefficient_at now x = u x ∙ cond-false (nat_eq v x) n (coefficient_at now x) (ne_eqb v x p) in
-          let b : at_name x (record { times = k; name = v }) ≡ pos 0 = cond-false (nat_eq x v) k (pos 0) (ne_eqb x v (λ q. p (sym q))) in
-          together (coefficient_at new x) (coefficient_at now x) (coefficient_at now x) (coefficient_at old x) (multiple x (take i ts)) (multiple x (take (i + 1) ts)) (at_name x (record { times = k; name = v })) (pos 0) a (nothing (coefficient_at now x)) g m b
+          let b = at_other v x t p in
+          together (coefficient_at now x) (coefficient_at old x) (multiple x (take i ts)) (multiple x (take (i + 1) ts)) (pos 0) (coefficient_at new x) (pos 0) (a ∙ nothing (coefficient_at now x)) (sym (mul_zero k)) (h x) (m ∙ ap (λ z. multiple x (take i ts) +ℤ z) b)
     ]
   where
     nothing : (z : ℤ) → z ≡ z +ℤ pos 0
     nothing z = omega (arith, ints)
 
-    together : (new n now old m more at k : ℤ) → new ≡ n → n ≡ now +ℤ k → now ≡ old +ℤ m → more ≡ m +ℤ at → at ≡ k → new ≡ old +ℤ more
-    together new n now old m more at k a b c d e = omega (arith, ints)
+    sums : (new now old m d r : ℤ) → new ≡ now +ℤ d → now ≡ old +ℤ m → r ≡ m +ℤ d → new ≡ old +ℤ r
+    sums new now old m d r a b c = omega (arith, ints)
+
+    together : (now old m more at new d : ℤ) → new ≡ now +ℤ d → d ≡ k *ℤ at → now ≡ old +ℤ k *ℤ m → more ≡ m +ℤ at → new ≡ old +ℤ k *ℤ more
+    together now old m more at new d a b c f = sums new now old (k *ℤ m) d (k *ℤ more) a c (ap (λ z. k *ℤ z) f ∙ mul_add k m at ∙ ap (λ z. k *ℤ m +ℤ z) (sym b))
+
+-- k times one term more may be added
+pub within_more : (es : List (ℕ × ℤ)) (k : ℤ) (ts : List Term) (i v : ℕ) (t : ℤ) → IsRising ts → slice_get ts i ≡ Some (record { times = t; name = v }) → AddWithin (coefficient_at es v) (k *ℤ t)
+    → ((x : ℕ) → AddWithin (coefficient_at es x) (k *ℤ multiple x (take i ts))) → (x : ℕ) → AddWithin (coefficient_at es x) (k *ℤ multiple x (take (i + 1) ts))
+within_more es k ts i v t r at w h x =
+    let m = multiple_take x i ts (record { times = t; name = v }) at in
+    elim (cases_eq v x) [
+      | inl p ↦
+          let z : multiple x (take i ts) ≡ pos 0 = ap (λ y. multiple y (take i ts)) (sym p) ∙ none_before ts i (record { times = t; name = v }) r at in
+          let e : multiple x (take (i + 1) ts) ≡ t = only _ _ _ _ m z (at_same v x t p) in
+          subst (λ (n : ℤ). AddWithin (coefficient_at es x) (k *ℤ n)) (sym e) (subst (λ (y : ℕ). AddWithin (coefficient_at es y) (k *ℤ t)) p w)
+      | inr p ↦ subst (λ (n : ℤ). AddWithin (coefficient_at es x) (k *ℤ n)) (sym (same _ _ _ m (at_other v x t p))) (h x)
+    ]
+  where
+    only : (more m at t : ℤ) → more ≡ m +ℤ at → m ≡ pos 0 → at ≡ t → more ≡ t
+    only more m at t a b c = omega (arith, ints)
+
+    same : (more m at : ℤ) → more ≡ m +ℤ at → at ≡ pos 0 → more ≡ m
+    same more m at a b = omega (arith, ints)
 
 -- ---- terms made one after another
 

@@ -5,4 +5,5 @@ pub mod Readings
 pub mod TermSizes
 pub mod AtomsRead
 pub mod EntryTerms
-pub mod WholeSums
+pub mod Multiples
+pub mod SharedSums

@@ -20,8 +20,10 @@ pub(crate) struct Rational {
 // Each step of the fraction rule is `None` exactly where the rule gives no form, and its only error is want of memory.
 impl Rational {
     ghost use Rattle.std.specs.Prelude.{◌∷◌, int_div, IfOk, option_map};
+    ghost use Rattle.std.specs.Option.{ForSome};
     ghost use Rattle.exact_numbers.specs.Divides.{Divides, DividesAll, content_of};
     ghost use Rattle.exact_numbers.specs.Fraction.{frac_of};
+    ghost use Rattle.linear_forms.specs.Terms.{IsLinear};
     ghost use Rattle.qe_syntax.specs.Proper.{IsNumeral};
     ghost use Rattle.atom_normal.specs.Atoms.{context_of};
     ghost use Rattle.formula_tree.specs.RationalForms.{numbers_of, is_constant, constant_form, constant_of, variable_form, lowest_form, IsLowestForm, sum_of_forms, multiple_of_form, product_of_forms, quotient_of_forms, power_of_form, opposite_form};
@@ -34,17 +36,6 @@ impl Rational {
         Rational {
             form: Linear::constant(alloc, value.numerator),
             denominator: value.denominator,
-        }
-    }
-
-    /// The form over the denominator 1.
-    pub(crate) fn whole(form: Linear) -> Rational
-        ensures { rational_of result ≡ record { form = form; denominator = pos 1 } }
-    {
-        let _number = form.constant_part();
-        Rational {
-            form,
-            denominator: 1,
         }
     }
 
@@ -87,12 +78,13 @@ impl Rational {
         ensures denominator { Divides result denominator }
         ensures numbers { DividesAll result (numbers_of form.now) }
         ensures within { InLimit result }
+        ensures linear { IsLinear form.now }
     {
         gcd(denominator, gcd(form.constant_part(), form.content()))
     }
 
-    // The quotient of a number by a positive one.
-    fn quotient(number: i128, divisor: i128) -> i128
+    /// The quotient of a number by a positive one.
+    pub(crate) fn quotient(number: i128, divisor: i128) -> i128
         requires positive { pos 0 <ℤ divisor }
         requires within { InLimit number }
         ensures value { result ≡ int_div number divisor }
@@ -101,11 +93,16 @@ impl Rational {
         number / divisor
     }
 
-    // The form over the denominator, all numbers divided by their greatest common divisor.
-    fn lowest(alloc: Global, form: Linear, denominator: i128) -> Result<Rational, AllocError>
+    /// The form over the denominator, all numbers divided by their greatest common divisor.
+    pub(crate) fn lowest(
+        alloc: Global,
+        form: Linear,
+        denominator: i128,
+    ) -> Result<Rational, AllocError>
         requires positive { pos 0 <ℤ denominator }
         requires within { InLimit denominator }
-        ensures { IfOk result (λ r. rational_of r ≡ lowest_form form denominator) }
+        ensures rule { IfOk result (λ r. rational_of r ≡ lowest_form form denominator) }
+        ensures linear { IfOk result (λ r. IsLinear r.form) }
     {
         let divisor = Rational::common_divisor(&form, denominator);
         if divisor == 1 {
@@ -126,7 +123,8 @@ impl Rational {
         alloc: Global,
         other: &Rational,
     ) -> Result<Option<Rational>, AllocError>
-        ensures { IfOk result (λ r. option_map rational_of r ≡ there (sum_of_forms (rational_of self.now) (rational_of other.now))) }
+        ensures rule { IfOk result (λ r. option_map rational_of r ≡ there (sum_of_forms (rational_of self.now) (rational_of other.now))) }
+        ensures linear { IfOk result (λ r. ForSome r (λ v. IsLinear v.form)) }
     {
         let _numbers = (self.form.constant_part(), other.form.constant_part());
         let Some(multiple) = lcm(self.denominator, other.denominator) else {

@@ -20,4 +20,4 @@ returns c =
     let k = common_divisor d f c.constant_part.result c.content.result c.gcd.result c.gcd-2.result c.requires.positive c.constant_part.ensures.value c.content.ensures.value g r in
     let e = sym (to_z-of_z w128 c.gcd-2.result fr) in
     let m = subst (λ (z : ℤ). IsCommonDivisor d f z) e k in
-    record { value = m.value; positive = m.positive; denominator = m.denominator; numbers = m.numbers; within = subst (λ (z : ℤ). InLimit z) e c.gcd-2.ensures.within }
+    record { value = m.value; positive = m.positive; denominator = m.denominator; numbers = m.numbers; within = subst (λ (z : ℤ). InLimit z) e c.gcd-2.ensures.within; linear = c.constant_part.ensures.linear }

@@ -17,7 +17,7 @@ returns-then-divisor-eq1 c =
     let g = c.common_divisor-divisor.result in
     let one : g ≡ pos 1 = same_bits g (pos 1) c.common_divisor-divisor.ensures.within (omega arith) c.if-divisor-eq1.true in
     let e : g ≡ content_of (d ∷ numbers_of f) = simp to_z-of_z at c.common_divisor-divisor.ensures.value in
-    simp to_z-of_z (lowest_already d f g e one)
+    record { rule = simp to_z-of_z (lowest_already d f g e one); linear = c.common_divisor-divisor.ensures.linear }
 
 pub invariant_of-result-in-Ok : goal.invariant_of-result-in-Ok
 invariant_of-result-in-Ok c =
@@ -41,4 +41,4 @@ returns-in-Ok c =
     let e : g ≡ content_of (d ∷ numbers_of f) = simp to_z-of_z at c.common_divisor-divisor.ensures.value in
     let q : k ≡ int_div d g = simp to_z-of_z at c.quotient.ensures.value in
     let r : c.in-Ok.form ≡ quotient f g = simp to_z-of_z at c.in-Ok.ensures.value in
-    simp to_z-of_z (lowest_divided d f c.in-Ok.form g k e r q)
+    record { rule = simp to_z-of_z (lowest_divided d f c.in-Ok.form g k e r q); linear = c.in-Ok.ensures.divided.linear }

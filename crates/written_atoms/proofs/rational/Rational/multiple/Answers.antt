@@ -37,7 +37,7 @@ returns-in-Ok c =
     let d = c.in-Some.denominator in
     let e : d ≡ v.denominator *ℤ k.denominator = simp to_z-of_z at c.in-Some.ensures.value.0 in
     let fd = fits d c.in-Some.ensures.value.1 in
-    let r : rational_of c.in_ok-lowest-in-Ok.field-0 ≡ lowest_form c.in-Ok.form d = simp to_z-of_z at c.in_ok-lowest-in-Ok.ensures in
+    let r : rational_of c.in_ok-lowest-in-Ok.field-0 ≡ lowest_form c.in-Ok.form d = simp to_z-of_z at c.in_ok-lowest-in-Ok.ensures.rule in
     let j : IsCombination k.numerator v.form (pos 0) (record { terms = []; constant = pos 0 }) c.in-Ok.form =
     subst (λ (g : Form). IsCombination k.numerator v.form (pos 0) g c.in-Ok.form) c.constant-nothing.ensures.form (simp to_z-of_z at c.in-Ok.ensures.combined) in
     let h : InLimit (v.denominator *ℤ k.denominator) = subst (λ (z : ℤ). InLimit z) e c.in-Some.ensures.value.1 in

@@ -9,14 +9,14 @@ use Rattle.formula_meaning.specs.Sorted.{with_term}
 use Rattle.linear_forms.specs.Linear.{terms_of}
 use Rattle.written_atoms.specs.Sum.{IsSumOf}
 use Rattle.written_atoms.proofs.EntryTerms.{nonzero_terms, AreInOrder, AreTermsOf, order_first, order_rest, with_nothing, terms_of_entries, terms_pushed, form_of_entries}
-use Rattle.written_atoms.proofs.sum.WholeSum.into_form.Goals as goal
+use Rattle.written_atoms.proofs.sum.WholeSum.form.Goals as goal
 
 pub loop-name-init : goal.loop-name-init
 loop-name-init c =
     let e = c.into_iter-name-iterator.ensures.into_iter_gives ∙ c.iter-name-items.ensures.rest in
     record {
       terms = ap (λ xs. terms_of xs ++ nonzero_terms c.into_iter-name-iterator.result) c.new-terms.ensures.items ∙ ap nonzero_terms e;
-      order = subst AreInOrder (sym e) (record { sorted = c.iter-name-items.ensures.ordered; within = c.args.self.coefficients_within });
+      order = subst AreInOrder (sym e) (record { sorted = c.iter-name-items.ensures.ordered; within = c.args.self.now.coefficients_within });
     }
 
 pub loop-name-preserved-in-Continue-1 : goal.loop-name-preserved-in-Continue-1
@@ -50,18 +50,18 @@ loop-name-preserved c =
 
 pub of-requires : goal.of-requires
 of-requires c =
-    let k = c.args.self.constant in
+    let k = c.args.self.now.constant in
     let e = sym (append-nil (terms_of c.loop-name.terms.items)) ∙ ap (λ es. terms_of c.loop-name.terms.items ++ nonzero_terms es) (sym c.in-None.ensures.steps.0) ∙ c.loop-name.invariant.terms in
-    let o : AreInOrder c.args.self.coefficients.entries = record { sorted = c.iter-name-items.ensures.ordered; within = c.args.self.coefficients_within } in
-    form_of_entries c.args.self.coefficients.entries _ _ o (subst (λ (z : ℤ). InLimit z) (sym (to_z-of_z w128 k (fits k c.args.self.constant_within))) c.args.self.constant_within) e
+    let o : AreInOrder c.args.self.now.coefficients.entries = record { sorted = c.iter-name-items.ensures.ordered; within = c.args.self.now.coefficients_within } in
+    form_of_entries c.args.self.now.coefficients.entries _ _ o (subst (λ (z : ℤ). InLimit z) (sym (to_z-of_z w128 k (fits k c.args.self.now.constant_within))) c.args.self.now.constant_within) e
 
 pub returns : goal.returns
 unfolding coefficient
 returns c =
-    let k = c.args.self.constant in
+    let k = c.args.self.now.constant in
     let e = sym (append-nil (terms_of c.loop-name.terms.items)) ∙ ap (λ es. terms_of c.loop-name.terms.items ++ nonzero_terms es) (sym c.in-None.ensures.steps.0) ∙ c.loop-name.invariant.terms in
-    let o : AreInOrder c.args.self.coefficients.entries = record { sorted = c.iter-name-items.ensures.ordered; within = c.args.self.coefficients_within } in
-    let t = subst (AreTermsOf c.args.self.coefficients.entries) (sym e) (terms_of_entries c.args.self.coefficients.entries o) in
-    let sum : IsSumOf c.args.self (record { terms = terms_of c.loop-name.terms.items; constant = to_z w128 (of_z w128 k) }) =
-    record { sorted = record { rising = t.rising; nonzero = t.nonzero }; coefficients = t.coefficients; constant = to_z-of_z w128 k (fits k c.args.self.constant_within) } in
-    (subst (IsSumOf c.args.self) (sym c.of.ensures.form) sum, c.of.ensures.linear)
+    let o : AreInOrder c.args.self.now.coefficients.entries = record { sorted = c.iter-name-items.ensures.ordered; within = c.args.self.now.coefficients_within } in
+    let t = subst (AreTermsOf c.args.self.now.coefficients.entries) (sym e) (terms_of_entries c.args.self.now.coefficients.entries o) in
+    let sum : IsSumOf c.args.self.now (record { terms = terms_of c.loop-name.terms.items; constant = to_z w128 (of_z w128 k) }) =
+    record { sorted = record { rising = t.rising; nonzero = t.nonzero }; coefficients = t.coefficients; constant = to_z-of_z w128 k (fits k c.args.self.now.constant_within) } in
+    (subst (IsSumOf c.args.self.now) (sym c.of.ensures.form) sum, c.of.ensures.linear)
