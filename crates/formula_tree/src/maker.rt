@@ -1,10 +1,12 @@
 ghost use Rattle.std.specs.Prelude.{◌≡◌, IfOk, IfErr};
 ghost use Rattle.formula_meaning.specs.Sizes.{height};
 ghost use Rattle.formula_meaning.specs.Tree.{Tree};
+ghost use Rattle.formula_tree.specs.declared.maker.MakeError.TheVariants.{Memory};
 ghost use Rattle.formula_tree.specs.Shapes.{AllIds, IsProperShape, tree_over};
 ghost use Rattle.formula_tree.specs.Makers.{IsMade, Keeps};
 
 use crate::shape::Shape;
+use std::alloc::AllocError;
 use thiserror::Error;
 
 /// Why a formula could not be made.
@@ -13,6 +15,20 @@ pub enum MakeError {
     /// There is no memory left.
     #[error("out of memory")]
     Memory,
+}
+
+impl From<AllocError> for MakeError {
+    ghost from_gives = { λ _ e. e ≡ Memory };
+
+    fn from(_error: AllocError) -> MakeError {
+        MakeError::Memory
+    }
+}
+
+impl From<MakeError> for AllocError {
+    fn from(_error: MakeError) -> AllocError {
+        AllocError
+    }
 }
 
 /// What makes formulas and names them by ids. An id's tree never changes.

@@ -3,6 +3,10 @@ use Rattle.std.proofs.Common.{◌≡◌, Bool, true, false, not, List, [], ◌�
 use Rattle.std.specs.Prelude.{if◌then◌else◌}
 use Rattle.std.specs.List.{AllByRecursion}
 use Rattle.formula_meaning.specs.Formula.{Yes, No, One, Not, And, Or, Impl, Repl, Equiv, Ex, All, also}
+use Rattle.formula_meaning.specs.declared.junction.Junction.TheVariants.{Conjunction, Disjunction}
+use Rattle.formula_meaning.specs.declared.quantifier.Quantifier.TheVariants.{Exists, ForAll}
+use Rattle.formula_meaning.specs.Fold.{turned_junction}
+use Rattle.formula_meaning.specs.Shape.{turned_quantifier}
 use Rattle.formula_meaning.specs.NegationNormal.{normal_forms, normal_forms_of_not, both}
 use Rattle.atom_normal.specs.declared.atoms.Atom.{Atom}
 use Rattle.atom_normal.specs.Atoms.{atom_of, IsWellFormed}
@@ -17,7 +21,7 @@ use Rattle.formula_store.specs.Nodes.{tree, IsId}
 use Rattle.nnf_pnf.specs.declared.plan.Plan.{Plan}
 use Rattle.nnf_pnf.specs.declared.plan.Plan.TheVariants.{Ready, Make, Cases}
 use Rattle.nnf_pnf.specs.Forms.{form, form_at, Table, Known}
-use Rattle.nnf_pnf.specs.Plans.{Plans}
+use Rattle.nnf_pnf.specs.Plans.{Plans, joined_shape, quantified_shape}
 
 -- the node's shape is s, and its members have their forms in the table
 module _ (nodes : List (Shape FormulaId)) (table : Table) (id : FormulaId) (n s : Shape FormulaId) (here : slice_get nodes id.number ≡ Some n) (t : tree nodes id ≡ tree_over (tree nodes) n) (is : n ≡ s) where
@@ -53,12 +57,12 @@ module _ (nodes : List (Shape FormulaId)) (table : Table) where
   plans_one true a c e w = record { ids = tt; proper = w; same = ap One e }
 
   pub plans_and : (b : Bool) (ids : List FormulaId) → AllByRecursion (Known nodes table) ids
-      → Plans nodes (form b (And (members (map (tree nodes) ids)))) (Make (if b then shape.Or (map (form_at table b) ids) else shape.And (map (form_at table b) ids)))
+      → Plans nodes (form b (And (members (map (tree nodes) ids)))) (Make (joined_shape (turned_junction b Conjunction) (map (form_at table b) ids)))
   plans_and false ids h = record { ids = all_ids false ids h; proper = tt; same = ap And (forms_of ids h) }
   plans_and true ids h = record { ids = all_ids true ids h; proper = tt; same = ap Or (forms_of_not ids h) }
 
   pub plans_or : (b : Bool) (ids : List FormulaId) → AllByRecursion (Known nodes table) ids
-      → Plans nodes (form b (Or (members (map (tree nodes) ids)))) (Make (if not b then shape.Or (map (form_at table b) ids) else shape.And (map (form_at table b) ids)))
+      → Plans nodes (form b (Or (members (map (tree nodes) ids)))) (Make (joined_shape (turned_junction b Disjunction) (map (form_at table b) ids)))
   plans_or false ids h = record { ids = all_ids false ids h; proper = tt; same = ap Or (forms_of ids h) }
   plans_or true ids h = record { ids = all_ids true ids h; proper = tt; same = ap And (forms_of_not ids h) }
 
@@ -68,13 +72,13 @@ module _ (nodes : List (Shape FormulaId)) (table : Table) where
 
   pub plans_impl : (b : Bool) (f g : FormulaId) → Known nodes table f → Known nodes table g
       → Plans nodes (form b (Impl (tree nodes f) (tree nodes g)))
-      (Make (if not b then shape.Or (form_at table (not b) f ∷ form_at table b g ∷ []) else shape.And (form_at table (not b) f ∷ form_at table b g ∷ [])))
+      (Make (joined_shape (turned_junction b Disjunction) (form_at table (not b) f ∷ form_at table b g ∷ [])))
   plans_impl false f g h k = record { ids = ((h.made true).is, ((k.made false).is, tt)); proper = tt; same = λ i. Or (both ((h.made true).same i) ((k.made false).same i)) }
   plans_impl true f g h k = record { ids = ((h.made false).is, ((k.made true).is, tt)); proper = tt; same = λ i. And (both ((h.made false).same i) ((k.made true).same i)) }
 
   pub plans_repl : (b : Bool) (f g : FormulaId) → Known nodes table f → Known nodes table g
       → Plans nodes (form b (Repl (tree nodes f) (tree nodes g)))
-      (Make (if not b then shape.Or (form_at table b f ∷ form_at table (not b) g ∷ []) else shape.And (form_at table b f ∷ form_at table (not b) g ∷ [])))
+      (Make (joined_shape (turned_junction b Disjunction) (form_at table b f ∷ form_at table (not b) g ∷ [])))
   plans_repl false f g h k = record { ids = ((h.made false).is, ((k.made true).is, tt)); proper = tt; same = λ i. Or (both ((h.made false).same i) ((k.made true).same i)) }
   plans_repl true f g h k = record { ids = ((h.made true).is, ((k.made false).is, tt)); proper = tt; same = λ i. And (both ((h.made true).same i) ((k.made false).same i)) }
 
@@ -92,11 +96,11 @@ module _ (nodes : List (Shape FormulaId)) (table : Table) where
   }
 
   pub plans_ex : (b : Bool) (x : VarId) (f : FormulaId) → Known nodes table f
-      → Plans nodes (form b (Ex x.number (tree nodes f))) (Make (if b then shape.All x (form_at table b f) else shape.Ex x (form_at table b f)))
+      → Plans nodes (form b (Ex x.number (tree nodes f))) (Make (quantified_shape (turned_quantifier b Exists) x (form_at table b f)))
   plans_ex false x f h = record { ids = (h.made false).is; proper = tt; same = ap (Ex x.number) (h.made false).same }
   plans_ex true x f h = record { ids = (h.made true).is; proper = tt; same = ap (All x.number) (h.made true).same }
 
   pub plans_all : (b : Bool) (x : VarId) (f : FormulaId) → Known nodes table f
-      → Plans nodes (form b (All x.number (tree nodes f))) (Make (if not b then shape.All x (form_at table b f) else shape.Ex x (form_at table b f)))
+      → Plans nodes (form b (All x.number (tree nodes f))) (Make (quantified_shape (turned_quantifier b ForAll) x (form_at table b f)))
   plans_all false x f h = record { ids = (h.made false).is; proper = tt; same = ap (All x.number) (h.made false).same }
   plans_all true x f h = record { ids = (h.made true).is; proper = tt; same = ap (Ex x.number) (h.made true).same }

@@ -1,9 +1,15 @@
 -- What is to be made for a form, over formulas that are there already.
 use Rattle.std.specs.Prelude.{◌≡◌, List}
+use Rattle.formula_meaning.specs.declared.junction.Junction.{Junction}
+use Rattle.formula_meaning.specs.declared.junction.Junction.TheVariants.{Conjunction, Disjunction}
+use Rattle.formula_meaning.specs.declared.quantifier.Quantifier.{Quantifier}
+use Rattle.formula_meaning.specs.declared.quantifier.Quantifier.TheVariants.{Exists, ForAll}
 use Rattle.formula_meaning.specs.Formula.{And, Or}
 use Rattle.formula_meaning.specs.Tree.{Tree}
 use Rattle.formula_meaning.specs.NegationNormal.{both}
 use Rattle.formula_tree.specs.declared.shape.Shape.{Shape}
+use Rattle.formula_tree.specs.declared.shape.Shape.TheVariants as shape
+use Rattle.linear_forms.specs.declared.form.VarId.{VarId}
 use Rattle.formula_tree.specs.Shapes.{tree_over, AllIds, IsProperShape}
 use Rattle.formula_store.specs.declared.id.FormulaId.{FormulaId}
 use Rattle.formula_store.specs.Nodes.{tree, IsId}
@@ -15,6 +21,16 @@ abbrev pub planned_tree : (FormulaId → Tree) → Plan → Tree
 planned_tree t (Ready id) = t id
 planned_tree t (Make shape) = tree_over t shape
 planned_tree t (Cases a b c d) = Or (both (And (both (t a) (t b))) (And (both (t c) (t d))))
+
+-- the formulas joined
+abbrev pub joined_shape : Junction → List FormulaId → Shape FormulaId
+joined_shape Conjunction ids = shape.And ids
+joined_shape Disjunction ids = shape.Or ids
+
+-- the formula under a quantifier
+abbrev pub quantified_shape : Quantifier → VarId → FormulaId → Shape FormulaId
+quantified_shape Exists x id = shape.Ex x id
+quantified_shape ForAll x id = shape.All x id
 
 -- each id of the plan has P
 abbrev pub AllPlanned : (FormulaId → Type 0) → Plan → Type 0

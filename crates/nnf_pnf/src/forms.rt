@@ -1,13 +1,13 @@
 //! The forms of a formula and of its negation, and a table of them.
 
-ghost use Rattle.std.specs.Prelude.{◌≡◌, IsSome, IfOk, IfErr, map};
+ghost use Rattle.std.specs.Prelude.{◌≡◌, IsSome, IfOk, map};
 ghost use Rattle.std.specs.List.{AllByRecursion};
 ghost use Rattle.std.specs.HashMap.{get};
 ghost use Rattle.nnf_pnf.specs.Forms.{form_at, same_id};
 
 use formula_store::FormulaId;
-use formula_tree::{FormError, Ids};
-use std::alloc::Global;
+use formula_tree::Ids;
+use std::alloc::{AllocError, Global};
 use std::collections::HashMap;
 
 /// The negation normal forms of a formula and of its negation.
@@ -29,22 +29,19 @@ pub(crate) fn form(table: &Table, id: FormulaId, negated: bool) -> FormulaId
     if negated { forms.negated } else { forms.plain }
 }
 
-/// The forms that a table has for some formulas, or for their negations. Its only error is `Memory`.
+/// The forms that a table has for some formulas, or for their negations.
 pub(crate) fn all_forms(
     alloc: Global,
     table: &Table,
     ids: &[FormulaId],
     negated: bool,
-) -> Result<Ids<FormulaId>, FormError>
+) -> Result<Ids<FormulaId>, AllocError>
     requires { AllByRecursion (λ id. IsSome (get same_id table.now id)) ids.now }
-    ensures forms { IfOk result (λ forms. forms ≡ map (form_at table.now negated) ids.now) }
-    ensures memory { IfErr result (λ e. e ≡ FormError.Memory) }
+    ensures { IfOk result (λ forms. forms ≡ map (form_at table.now negated) ids.now) }
 {
     let mut forms = Vec::new(alloc);
     for id in ids {
-        forms
-            .push(form(table, *id, negated))
-            .map_err(|_| FormError::Memory)?;
+        forms.push(form(table, *id, negated))?;
     }
     Ok(Ids::of(forms))
 }

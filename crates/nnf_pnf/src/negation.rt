@@ -17,7 +17,7 @@ use crate::forms::{Forms, Table, form};
 use crate::plan::{performed, planned};
 use formula_store::{FormulaId, Store};
 use formula_tree::FormError;
-use std::alloc::Global;
+use std::alloc::{AllocError, Global};
 use std::collections::HashMap;
 
 /// The negation normal form of a formula, whose atoms are negated in normal form. It makes at most 6 formulas for each
@@ -51,16 +51,15 @@ pub fn nnf(
 }
 
 // The distinct subformulas, members first.
-fn subformulas(store: &Store, id: FormulaId) -> Result<Vec<FormulaId>, FormError>
+fn subformulas(store: &Store, id: FormulaId) -> Result<Vec<FormulaId>, AllocError>
     requires { IsId store.now id }
     ensures order { IfOk result (λ ids. IsOrder store.now (id ∷ []) ids.items) }
     ensures count { IfOk result (λ ids. length ids.items ≡ distinct_count same_atom nat_eq (tree store.now id)) }
     ensures nodes { AreNodes store.now }
-    ensures memory { IfErr result (λ e. e ≡ FormError.Memory) }
 {
     match store.subformulas(id) {
         Ok(ids) => Ok(ids),
-        Err(_) => Err(FormError::Memory),
+        Err(_) => Err(AllocError),
     }
 }
 
@@ -80,7 +79,7 @@ fn node_forms(
     store: &mut Store,
     id: FormulaId,
     table: &Table,
-) -> Result<Forms, FormError>
+) -> Result<Forms, AllocError>
     requires id { IsId store.old id }
     requires members { (n : Shape FormulaId) → slice_get store.old id.number ≡ Some n → AllIds (Known store.old table.now) n }
     ensures plain { IfOk result (λ forms. IsMade (IsId store.new) (tree store.new) forms.plain (form false (tree store.old id))) }
@@ -88,7 +87,6 @@ fn node_forms(
     ensures kept { Keeps (IsId store.old) (tree store.old) (IsId store.new) (tree store.new) }
     ensures front { Front store.old store.new }
     ensures few { length store.new ≤ length store.old + 6 }
-    ensures memory { IfErr result (λ e. e ≡ FormError.Memory) }
 {
     let plain = node_form(alloc, store, id, table, false)?;
     let negated = node_form(alloc, store, id, table, true)?;
@@ -102,14 +100,13 @@ fn node_form(
     id: FormulaId,
     table: &Table,
     negated: bool,
-) -> Result<FormulaId, FormError>
+) -> Result<FormulaId, AllocError>
     requires id { IsId store.old id }
     requires members { (n : Shape FormulaId) → slice_get store.old id.number ≡ Some n → AllIds (Known store.old table.now) n }
     ensures made { IfOk result (λ r. IsMade (IsId store.new) (tree store.new) r (form negated (tree store.old id))) }
     ensures kept { Keeps (IsId store.old) (tree store.old) (IsId store.new) (tree store.new) }
     ensures front { Front store.old store.new }
     ensures few { length store.new ≤ length store.old + 3 }
-    ensures memory { IfErr result (λ e. e ≡ FormError.Memory) }
 {
     let plan = planned(alloc, store, id, table, negated)?;
     performed(alloc, store, plan)
