@@ -1,6 +1,9 @@
 -- The atoms of a formula, and each of them once.
 use Rattle.std.proofs.Common.{◌≡◌, ℕ, Bool, true, false, [], refl, sym, subst}
-use Rattle.formula_meaning.specs.Fold as folding
+use Rattle.formula_meaning.specs.Fold.{joined}
+use Rattle.formula_meaning.specs.Shape.{quantified}
+use Rattle.formula_meaning.specs.declared.quantifier.Quantifier.TheVariants.{Exists, ForAll}
+use Rattle.formula_meaning.specs.declared.junction.Junction.TheVariants.{Conjunction, Disjunction}
 use Rattle.formula_meaning.specs.Same.{same_atom}
 use Rattle.formula_meaning.specs.Tree.{Tree, Trees}
 use Rattle.formula_meaning.proofs.Same.{atom_same, atom_alike}
@@ -11,11 +14,8 @@ use Rattle.atom_normal.specs.Atoms.{atom_of, IsWellFormed}
 use Rattle.atom_normal.specs.NormalForm.{constant_tree}
 use Rattle.atom_normal.proofs.Meaning.{meaning_determines}
 use Rattle.formula_tree.proofs.Decided as decided
-use Rattle.nnf_trees.specs.declared.nnf.Junction.{Junction}
-use Rattle.nnf_trees.specs.declared.nnf.Junction.TheVariants as junction
-use Rattle.nnf_trees.specs.declared.nnf.Quantifier.{Quantifier}
-use Rattle.nnf_trees.specs.declared.nnf.Quantifier.TheVariants as quantifier
-use Rattle.nnf_trees.specs.Nnfs.{junction_of, quantified}
+use Rattle.formula_meaning.specs.declared.junction.Junction.{Junction}
+use Rattle.formula_meaning.specs.declared.quantifier.Quantifier.{Quantifier}
 
 -- equality of atoms, as the program computes it
 abbrev pub atom_eq : Atom → Atom → Bool
@@ -37,13 +37,13 @@ pub atoms_in_constant : (b : Bool) → atoms_in (constant_tree b) ≡ []
 atoms_in_constant true = refl
 atoms_in_constant false = refl
 
-pub atoms_in_joined : (j : Junction) (fs : Trees) → atoms_in (folding.joined (junction_of j) fs) ≡ atoms_in_all fs
-atoms_in_joined junction.And fs = refl
-atoms_in_joined junction.Or fs = refl
+pub atoms_in_joined : (j : Junction) (fs : Trees) → atoms_in (joined j fs) ≡ atoms_in_all fs
+atoms_in_joined Conjunction fs = refl
+atoms_in_joined Disjunction fs = refl
 
 pub atoms_in_quantified : (q : Quantifier) (y : ℕ) (f : Tree) → atoms_in (quantified q y f) ≡ atoms_in f
-atoms_in_quantified quantifier.Ex y f = refl
-atoms_in_quantified quantifier.All y f = refl
+atoms_in_quantified Exists y f = refl
+atoms_in_quantified ForAll y f = refl
 
 -- the atoms of a formula at each way to make one
 pub ruleset listed_atoms = (atoms_in_constant, atoms_in_joined, atoms_in_quantified)

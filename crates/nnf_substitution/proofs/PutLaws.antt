@@ -1,9 +1,11 @@
 -- A formula with a name at a place, at each way to make one.
 use Rattle.std.proofs.Common.{◌≡◌, ℕ, Bool, true, false, ◌&&◌, List, [], ◌∷◌, ◌++◌, refl, sym, ap, ◌∙◌, subst}
+use Rattle.formula_meaning.specs.Shape.{quantified}
+use Rattle.formula_meaning.specs.declared.quantifier.Quantifier.TheVariants.{Exists, ForAll}
+use Rattle.formula_meaning.specs.declared.junction.Junction.TheVariants.{Conjunction, Disjunction}
 use Rattle.formula_meaning.specs.Context.{Context}
 use Rattle.formula_meaning.specs.Formula.{none, also}
-use Rattle.formula_meaning.specs.Fold.{append, folded, fold_list}
-use Rattle.formula_meaning.specs.Fold as folding
+use Rattle.formula_meaning.specs.Fold.{joined, append, folded, fold_list}
 use Rattle.formula_meaning.specs.Every.{EveryOf}
 use Rattle.formula_meaning.specs.Atom.{AtomIn}
 use Rattle.formula_meaning.specs.Answer.{Place}
@@ -15,12 +17,10 @@ use Rattle.atom_normal.specs.Atoms.{tree_of}
 use Rattle.atom_normal.specs.NormalForm.{constant_tree}
 use Rattle.atom_normal.specs.declared.atoms.Normal.{Normal}
 use Rattle.atom_normal.specs.declared.atoms.Normal.TheVariants as normal
-use Rattle.nnf_trees.specs.declared.nnf.Junction.{Junction}
-use Rattle.nnf_trees.specs.declared.nnf.Junction.TheVariants as junction
-use Rattle.nnf_trees.specs.declared.nnf.Quantifier.{Quantifier}
-use Rattle.nnf_trees.specs.declared.nnf.Quantifier.TheVariants as quantifier
+use Rattle.formula_meaning.specs.declared.junction.Junction.{Junction}
+use Rattle.formula_meaning.specs.declared.quantifier.Quantifier.{Quantifier}
 use Rattle.nnf_trees.specs.declared.nnf.Nnf.{Nnf}
-use Rattle.nnf_trees.specs.Nnfs.{junction_of, quantified, nnf_of}
+use Rattle.nnf_trees.specs.Nnfs.{nnf_of}
 use Rattle.nnf_trees.proofs.Pieces.{Formulas_of, lists_joined, append_none, append_thrice}
 use Rattle.test_points.specs.declared.error.PointError.{PointError}
 use Rattle.test_points.specs.declared.error.PointError.TheVariants.{Overflow, Nodes, Memory}
@@ -65,21 +65,21 @@ module _ (c : Context) (x : ℕ) (s : Place) where
   constant_within true = refl
   constant_within false = refl
 
-  pub put_joined : (j : Junction) (fs : Trees) → put c x s (folding.joined (junction_of j) fs) ≡ fold_list (junction_of j) (put_all c x s fs)
-  put_joined junction.And fs = refl
-  put_joined junction.Or fs = refl
+  pub put_joined : (j : Junction) (fs : Trees) → put c x s (joined j fs) ≡ fold_list j (put_all c x s fs)
+  put_joined Conjunction fs = refl
+  put_joined Disjunction fs = refl
 
-  pub joined_within : (j : Junction) (fs : Trees) → all_within c x s (folding.joined (junction_of j) fs) ≡ each_within c x s fs
-  joined_within junction.And fs = refl
-  joined_within junction.Or fs = refl
+  pub joined_within : (j : Junction) (fs : Trees) → all_within c x s (joined j fs) ≡ each_within c x s fs
+  joined_within Conjunction fs = refl
+  joined_within Disjunction fs = refl
 
   pub put_quantified : (q : Quantifier) (y : ℕ) (f : Tree) → put c x s (quantified q y f) ≡ quantified q y (put c x s f)
-  put_quantified quantifier.Ex y f = refl
-  put_quantified quantifier.All y f = refl
+  put_quantified Exists y f = refl
+  put_quantified ForAll y f = refl
 
   pub quantified_within : (q : Quantifier) (y : ℕ) (f : Tree) → all_within c x s (quantified q y f) ≡ all_within c x s f
-  quantified_within quantifier.Ex y f = refl
-  quantified_within quantifier.All y f = refl
+  quantified_within Exists y f = refl
+  quantified_within ForAll y f = refl
 
   pub also_within : (f : Tree) (fs : Trees) → each_within c x s (also f fs) ≡ (all_within c x s f && each_within c x s fs)
   also_within f fs = each_append (atom_within c x s) (atoms_in f) (atoms_in_all fs)
@@ -95,13 +95,13 @@ module _ (c : Context) (x : ℕ) (s : Place) where
   all_put made rest all h e = sym (append_none (Formulas_of made)) ∙ ap (append (Formulas_of made)) (sym (ap (put_all c x s) e)) ∙ h
 
 -- which atoms stand in a formula of one layer
-pub in_joined : (c : Context) (j : Junction) (fs : Trees) → InContext c (folding.joined (junction_of j) fs) → EveryOf (AtomIn c) fs
-in_joined c junction.And fs h = h
-in_joined c junction.Or fs h = h
+pub in_joined : (c : Context) (j : Junction) (fs : Trees) → InContext c (joined j fs) → EveryOf (AtomIn c) fs
+in_joined c Conjunction fs h = h
+in_joined c Disjunction fs h = h
 
 pub in_quantified : (c : Context) (q : Quantifier) (y : ℕ) (f : Tree) → InContext c (quantified q y f) → InContext c f
-in_quantified c quantifier.Ex y f h = h
-in_quantified c quantifier.All y f h = h
+in_quantified c Exists y f h = h
+in_quantified c ForAll y f h = h
 
 -- a formula with a name at a place, at each way to make one
 pub ruleset puts = (put_constant, constant_within, put_joined, joined_within, put_quantified, quantified_within)

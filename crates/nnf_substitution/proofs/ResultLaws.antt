@@ -3,13 +3,14 @@ use Rattle.std.proofs.Common.{◌≡◌, ℕ, Bool, true, false, not, ◌&&◌, 
 use Rattle.std.proofs.Math.IntN.{ℤ, pos}
 use Rattle.std.specs.Ordering.{int_eq}
 use Rattle.std.specs.Prelude.{if◌then◌else◌}
+use Rattle.formula_meaning.specs.Shape.{quantified}
+use Rattle.formula_meaning.specs.declared.quantifier.Quantifier.TheVariants.{Exists, ForAll}
 use Rattle.formula_meaning.specs.Context.{Context, Fields, Integers}
 use Rattle.formula_meaning.specs.Formula.{Yes, No, One, none, also}
 use Rattle.formula_meaning.specs.Form.{coefficient}
 use Rattle.formula_meaning.specs.Atom.{Atom, form_of}
-use Rattle.formula_meaning.specs.Fold.{append, folded, fold_list}
-use Rattle.formula_meaning.specs.declared.junction.Junction.TheVariants.{Conjunction}
-use Rattle.formula_meaning.specs.Fold as folding
+use Rattle.formula_meaning.specs.Fold.{joined, append, folded, fold_list}
+use Rattle.formula_meaning.specs.declared.junction.Junction.TheVariants.{Conjunction, Disjunction}
 use Rattle.formula_meaning.specs.NegationNormal.{both}
 use Rattle.formula_meaning.specs.Distinct.{without_same, distinct}
 use Rattle.formula_meaning.specs.Same.{same_atom}
@@ -24,12 +25,10 @@ use Rattle.formula_meaning.specs.Limits.{each, place_within}
 use Rattle.elimination_reference.specs.Limits.{atom_within}
 use Rattle.elimination_reference.specs.Reference.{stands_among}
 use Rattle.atom_normal.specs.NormalForm.{constant_tree, normal_atom}
-use Rattle.nnf_trees.specs.declared.nnf.Junction.{Junction}
-use Rattle.nnf_trees.specs.declared.nnf.Junction.TheVariants as junction
-use Rattle.nnf_trees.specs.declared.nnf.Quantifier.{Quantifier}
-use Rattle.nnf_trees.specs.declared.nnf.Quantifier.TheVariants as quantifier
+use Rattle.formula_meaning.specs.declared.junction.Junction.{Junction}
+use Rattle.formula_meaning.specs.declared.quantifier.Quantifier.{Quantifier}
 use Rattle.nnf_trees.specs.declared.nnf.Nnf.{Nnf}
-use Rattle.nnf_trees.specs.Nnfs.{junction_of, quantified, nnf_of, IsProper}
+use Rattle.nnf_trees.specs.Nnfs.{nnf_of, IsProper}
 use Rattle.nnf_trees.proofs.Pieces.{Formulas_of, lists_joined, append_none, append_thrice}
 use Rattle.test_points.specs.declared.error.PointError.{PointError}
 use Rattle.test_points.specs.declared.error.PointError.TheVariants.{Overflow, Nodes, Memory}
@@ -58,13 +57,13 @@ pub no_constant : (b : Bool) → is_no (constant_tree b) ≡ not b
 no_constant true = refl
 no_constant false = refl
 
-pub no_joined : (j : Junction) (fs : Trees) → is_no (folding.joined (junction_of j) fs) ≡ false
-no_joined junction.And fs = refl
-no_joined junction.Or fs = refl
+pub no_joined : (j : Junction) (fs : Trees) → is_no (joined j fs) ≡ false
+no_joined Conjunction fs = refl
+no_joined Disjunction fs = refl
 
 pub no_quantified : (q : Quantifier) (y : ℕ) (f : Tree) → is_no (quantified q y f) ≡ false
-no_quantified quantifier.Ex y f = refl
-no_quantified quantifier.All y f = refl
+no_quantified Exists y f = refl
+no_quantified ForAll y f = refl
 
 pub ruleset falses = (no_constant, no_joined, no_quantified)
 

@@ -33,7 +33,7 @@ fn guarded(alloc: Global, f: Nnf, point: &TestPoint) -> Result<Nnf, PointError>
 {
     let condition = of_normal(guard(alloc, point)?);
     let pair = vec![in alloc; condition, f].map_err(|_| PointError::Memory)?;
-    fold(alloc, Junction::And, pair).map_err(|_| PointError::Memory)
+    fold(alloc, Junction::Conjunction, pair).map_err(|_| PointError::Memory)
 }
 
 /// What a step of elimination leaves of the formula at the point (Loos and Weispfenning 1993, Cooper 1972): each atom with the

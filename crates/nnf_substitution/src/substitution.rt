@@ -1,12 +1,13 @@
 // A formula with a name put at a test point, in both theories.
 ghost use Rattle.std.specs.Prelude.{◌≡◌, IfOk, MatchResult};
+ghost use Rattle.formula_meaning.specs.Shape.{quantified};
 ghost use Rattle.formula_meaning.specs.Formula.{One as Single};
 ghost use Rattle.formula_meaning.specs.Every.{EveryOf};
 ghost use Rattle.formula_meaning.specs.Atom.{AtomIn};
 ghost use Rattle.formula_meaning.specs.Tree.{InContext};
 ghost use Rattle.elimination_theory.specs.BothTheories.{IsPlaceIn};
 ghost use Rattle.atom_normal.specs.Atoms.{atom_of, context_of, tree_of, IsWellFormed, IsWellFormedNormal};
-ghost use Rattle.nnf_trees.specs.Nnfs.{nnf_of, nnfs_of, nnfs_atoms, quantified, IsProper};
+ghost use Rattle.nnf_trees.specs.Nnfs.{nnf_of, nnfs_of, nnfs_atoms, IsProper};
 ghost use Rattle.test_points.specs.Points.{place_of, IsTestPoint};
 ghost use Rattle.nnf_substitution.specs.Placed.{Fails, IsPut, ArePut, all_within, each_within};
 

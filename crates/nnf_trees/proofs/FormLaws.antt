@@ -1,21 +1,22 @@
 -- The negation normal form at each way to make a formula.
 use Rattle.std.proofs.Common.{◌≡◌, refl, ap, ◌∙◌, sym, Bool, true, false, not, List, [], ◌∷◌, ◌++◌, map, ℕ, suc}
 use Rattle.std.specs.Prelude.{if◌then◌else◌}
+use Rattle.formula_meaning.specs.Shape.{quantified, turned_quantifier}
+use Rattle.formula_meaning.specs.declared.quantifier.Quantifier.TheVariants.{Exists, ForAll}
+use Rattle.formula_meaning.specs.declared.junction.Junction.TheVariants.{Conjunction, Disjunction}
 use Rattle.formula_meaning.specs.Formula.{Yes, No, One, Not, And, Or, Impl, Repl, Equiv, Ex, All, none, also}
-use Rattle.formula_meaning.specs.Fold.{joined, append}
+use Rattle.formula_meaning.specs.Fold.{joined, append, turned_junction}
 use Rattle.formula_meaning.specs.NegationNormal.{both}
 use Rattle.formula_meaning.specs.Tree.{Tree, Trees}
 use Rattle.atom_normal.specs.NormalForm.{constant_tree, negated_normal}
 use Rattle.formula_meaning.specs.Sizes.{nodes, all_nodes}
-use Rattle.nnf_trees.specs.declared.nnf.Junction.{Junction}
-use Rattle.nnf_trees.specs.declared.nnf.Quantifier.{Quantifier}
-use Rattle.nnf_trees.specs.declared.nnf.Junction.TheVariants as junction
-use Rattle.nnf_trees.specs.declared.nnf.Quantifier.TheVariants as quantifier
+use Rattle.formula_meaning.specs.declared.junction.Junction.{Junction}
+use Rattle.formula_meaning.specs.declared.quantifier.Quantifier.{Quantifier}
 use Rattle.formula_tree.specs.Trees.{members}
 use Rattle.nnf_trees.specs.declared.nnf.Nnf.{Nnf}
-use Rattle.nnf_trees.specs.Nnfs.{junction_of, quantified, nnf_of}
+use Rattle.nnf_trees.specs.Nnfs.{nnf_of}
 use Rattle.nnf_trees.proofs.Pieces.{Formulas_of, members_joined, lists_joined, append_none, append_thrice}
-use Rattle.nnf_trees.specs.Forms.{form, forms, turned_junction, turned_quantifier}
+use Rattle.nnf_trees.specs.Forms.{form, forms}
 
 pub form_yes : (n : Bool) → constant_tree (not n) ≡ form n Yes
 form_yes false = refl
@@ -29,11 +30,11 @@ pub form_one : (n : Bool) (a : _) → One (if n then negated_normal a else a) �
 form_one false a = refl
 form_one true a = refl
 
-pub form_and : (n : Bool) (fs : Trees) → joined (junction_of (turned_junction n junction.And)) (forms n fs) ≡ form n (And fs)
+pub form_and : (n : Bool) (fs : Trees) → joined (turned_junction n Conjunction) (forms n fs) ≡ form n (And fs)
 form_and false fs = refl
 form_and true fs = refl
 
-pub form_or : (n : Bool) (fs : Trees) → joined (junction_of (turned_junction n junction.Or)) (forms n fs) ≡ form n (Or fs)
+pub form_or : (n : Bool) (fs : Trees) → joined (turned_junction n Disjunction) (forms n fs) ≡ form n (Or fs)
 form_or false fs = refl
 form_or true fs = refl
 
@@ -41,11 +42,11 @@ pub form_not : (n : Bool) (f : Tree) → form (not n) f ≡ form n (Not f)
 form_not false f = refl
 form_not true f = refl
 
-pub form_impl : (n : Bool) (f g : Tree) → joined (junction_of (turned_junction n junction.Or)) (both (form (not n) f) (form n g)) ≡ form n (Impl f g)
+pub form_impl : (n : Bool) (f g : Tree) → joined (turned_junction n Disjunction) (both (form (not n) f) (form n g)) ≡ form n (Impl f g)
 form_impl false f g = refl
 form_impl true f g = refl
 
-pub form_repl : (n : Bool) (f g : Tree) → joined (junction_of (turned_junction n junction.Or)) (both (form n f) (form (not n) g)) ≡ form n (Repl f g)
+pub form_repl : (n : Bool) (f g : Tree) → joined (turned_junction n Disjunction) (both (form n f) (form (not n) g)) ≡ form n (Repl f g)
 form_repl false f g = refl
 form_repl true f g = refl
 
@@ -53,11 +54,11 @@ pub form_equiv : (n : Bool) (f g : Tree) → Or (both (And (both (form false f) 
 form_equiv false f g = refl
 form_equiv true f g = refl
 
-pub form_ex : (n : Bool) (x : _) (f : Tree) → quantified (turned_quantifier n quantifier.Ex) x (form n f) ≡ form n (Ex x f)
+pub form_ex : (n : Bool) (x : _) (f : Tree) → quantified (turned_quantifier n Exists) x (form n f) ≡ form n (Ex x f)
 form_ex false x f = refl
 form_ex true x f = refl
 
-pub form_all : (n : Bool) (x : _) (f : Tree) → quantified (turned_quantifier n quantifier.All) x (form n f) ≡ form n (All x f)
+pub form_all : (n : Bool) (x : _) (f : Tree) → quantified (turned_quantifier n ForAll) x (form n f) ≡ form n (All x f)
 form_all false x f = refl
 form_all true x f = refl
 
@@ -85,24 +86,24 @@ pub negated_constant : (b : Bool) → constant_tree (not b) ≡ form true (const
 negated_constant false = refl
 negated_constant true = refl
 
-pub negated_joined : (j : Junction) (fs : Trees) → joined (junction_of (turned_junction true j)) (forms true fs) ≡ form true (joined (junction_of j) fs)
-negated_joined junction.And fs = refl
-negated_joined junction.Or fs = refl
+pub negated_joined : (j : Junction) (fs : Trees) → joined (turned_junction true j) (forms true fs) ≡ form true (joined j fs)
+negated_joined Conjunction fs = refl
+negated_joined Disjunction fs = refl
 
 pub negated_quantified : (q : Quantifier) (x : _) (f : Tree) → quantified (turned_quantifier true q) x (form true f) ≡ form true (quantified q x f)
-negated_quantified quantifier.Ex x f = refl
-negated_quantified quantifier.All x f = refl
+negated_quantified Exists x f = refl
+negated_quantified ForAll x f = refl
 
 pub ruleset negations = (negated_constant, negated_joined, negated_quantified)
 
 -- the nodes of parts
-pub joined_nodes : (j : Junction) (fs : Trees) → nodes (joined (junction_of j) fs) ≡ suc (all_nodes fs)
-joined_nodes junction.And fs = refl
-joined_nodes junction.Or fs = refl
+pub joined_nodes : (j : Junction) (fs : Trees) → nodes (joined j fs) ≡ suc (all_nodes fs)
+joined_nodes Conjunction fs = refl
+joined_nodes Disjunction fs = refl
 
 pub quantified_nodes : (q : Quantifier) (x : ℕ) (f : Tree) → nodes (quantified q x f) ≡ suc (nodes f)
-quantified_nodes quantifier.Ex x f = refl
-quantified_nodes quantifier.All x f = refl
+quantified_nodes Exists x f = refl
+quantified_nodes ForAll x f = refl
 
 -- one formula more is made, whatever stands for the formulas
 module _ {X : Type 0} (t : X → Tree) where

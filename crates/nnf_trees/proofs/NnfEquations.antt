@@ -4,20 +4,21 @@ use Rattle.std.specs.Prelude.{map}
 use Rattle.std.specs.declared.boxed.Box.{Box}
 use Rattle.std.specs.declared.alloc.Global.{Global}
 use Rattle.std.specs.declared.vec.Vec.{Vec}
+use Rattle.formula_meaning.specs.Fold.{joined}
+use Rattle.formula_meaning.specs.Shape.{quantified}
 use Rattle.formula_meaning.specs.Formula.{Yes, One, And}
-use Rattle.formula_meaning.specs.Fold as folding
 use Rattle.linear_forms.specs.declared.form.VarId.{VarId}
 use Rattle.atom_normal.specs.declared.atoms.Atom.{Atom}
 use Rattle.atom_normal.specs.Atoms.{atom_of}
 use Rattle.atom_normal.specs.NormalForm.{constant_tree}
 use Rattle.formula_tree.specs.Trees.{members}
-use Rattle.nnf_trees.specs.declared.nnf.Junction.{Junction}
-use Rattle.nnf_trees.specs.declared.nnf.Quantifier.{Quantifier}
+use Rattle.formula_meaning.specs.declared.junction.Junction.{Junction}
+use Rattle.formula_meaning.specs.declared.quantifier.Quantifier.{Quantifier}
 use Rattle.nnf_trees.specs.declared.nnf.Nnf as code
 use Rattle.nnf_trees.specs.declared.nnf.Nnf.TheVariants as nnf
 use Rattle.nnf_trees.specs.declared.nnf.Nnf.TheOpen as layer
 use Rattle.nnf_trees.specs.declared.nnf.Members as codes
-use Rattle.nnf_trees.specs.Nnfs.{junction_of, quantified, nnf_step, nnfs_step, nnf_of, nnfs_of, listed, atoms_step, all_atoms_step, nnf_atoms, nnfs_atoms}
+use Rattle.nnf_trees.specs.Nnfs.{nnf_step, nnfs_step, nnf_of, nnfs_of, listed, atoms_step, all_atoms_step, nnf_atoms, nnfs_atoms}
 
 pub nnf-Constant : (b : Bool) → nnf_of (nnf.Constant b) ≡ constant_tree b
 unfolding nnf_of nnfs_of
@@ -27,7 +28,7 @@ pub nnf-One : (a : Atom) → nnf_of (nnf.One a) ≡ One (atom_of a)
 unfolding nnf_of nnfs_of
 nnf-One a = ap nnf_of (sym (nnf.rolls-One a)) ∙ code.fold-roll-Nnf _ _ nnf_step nnfs_step (layer.One a)
 
-pub nnf-Joined : (j : Junction) (fs : codes.Members) → nnf_of (nnf.Joined j fs) ≡ folding.joined (junction_of j) (nnfs_of fs)
+pub nnf-Joined : (j : Junction) (fs : codes.Members) → nnf_of (nnf.Joined j fs) ≡ joined j (nnfs_of fs)
 unfolding nnf_of nnfs_of
 nnf-Joined j fs = ap nnf_of (sym (nnf.rolls-Joined j fs)) ∙ code.fold-roll-Nnf _ _ nnf_step nnfs_step (layer.Joined j fs)
 

@@ -1,20 +1,19 @@
 -- What a member gives to the pieces of a fold.
 use Rattle.std.proofs.Common.{◌≡◌, sym, ap, ◌∙◌, subst, refl, Bool, true, false, List, [], ◌∷◌, ◌++◌, map, Some, None, Option, length, ◌<◌, arith}
 use Rattle.std.specs.Prelude.{if◌then◌else◌}
+use Rattle.formula_meaning.specs.Shape.{quantified}
+use Rattle.formula_meaning.specs.declared.quantifier.Quantifier.TheVariants.{Exists, ForAll}
 use Rattle.formula_meaning.specs.Formula.{One, none, also}
 use Rattle.formula_meaning.specs.Fold.{joined, append, pieces_of, put_together, neutral, absorbing, all_pieces, from_pieces, fold_list}
 use Rattle.formula_meaning.specs.declared.junction.Junction.TheVariants.{Conjunction, Disjunction}
-use Rattle.formula_meaning.specs.Fold as folding
 use Rattle.formula_meaning.specs.Tree.{Tree, Trees}
 use Rattle.atom_normal.specs.NormalForm.{constant_tree}
 use Rattle.formula_tree.specs.Trees.{members}
-use Rattle.nnf_trees.specs.contracts.nnf.Junction.{the_type}
-use Rattle.nnf_trees.specs.declared.nnf.Junction.{Junction}
-use Rattle.nnf_trees.specs.declared.nnf.Junction.TheVariants as junction
-use Rattle.nnf_trees.specs.declared.nnf.Quantifier.{Quantifier}
-use Rattle.nnf_trees.specs.declared.nnf.Quantifier.TheVariants as quantifier
+use Rattle.formula_meaning.specs.contracts.junction.Junction.{the_type}
+use Rattle.formula_meaning.specs.declared.junction.Junction.{Junction}
+use Rattle.formula_meaning.specs.declared.quantifier.Quantifier.{Quantifier}
 use Rattle.nnf_trees.specs.declared.nnf.Nnf.{Nnf}
-use Rattle.nnf_trees.specs.Nnfs.{junction_of, quantified, nnf_of, AreProper, IsProper}
+use Rattle.nnf_trees.specs.Nnfs.{nnf_of, AreProper, IsProper}
 use denote.Enum.Bare.{sameb}
 use mathlib.Core.Bool.{beq}
 
@@ -43,46 +42,46 @@ append_none (also f fs) = ap (also f) (append_none fs)
 
 -- a constant decides the whole, or gives nothing
 pub constant_gives : (j : Junction) (b : Bool) (made : Trees)
-    → put_together (Some made) (pieces_of (junction_of j) (constant_tree b)) ≡ (if beq b (sameb the_type j junction.And) then Some made else None)
-constant_gives junction.And true made = ap Some (append_none made)
-constant_gives junction.And false made = refl
-constant_gives junction.Or true made = refl
-constant_gives junction.Or false made = ap Some (append_none made)
+    → put_together (Some made) (pieces_of j (constant_tree b)) ≡ (if beq b (sameb the_type j Conjunction) then Some made else None)
+constant_gives Conjunction true made = ap Some (append_none made)
+constant_gives Conjunction false made = refl
+constant_gives Disjunction true made = refl
+constant_gives Disjunction false made = ap Some (append_none made)
 
 -- what is not of the junction gives itself
 abbrev pub GivesItself : Junction → Tree → Type 0
-GivesItself j f = pieces_of (junction_of j) f ≡ Some (also f none)
+GivesItself j f = pieces_of j f ≡ Some (also f none)
 
 pub atom_gives : (j : Junction) (a : _) → GivesItself j (One a)
-atom_gives junction.And a = refl
-atom_gives junction.Or a = refl
+atom_gives Conjunction a = refl
+atom_gives Disjunction a = refl
 
 pub quantified_gives : (j : Junction) (q : Quantifier) (x : _) (f : Tree) → GivesItself j (quantified q x f)
-quantified_gives junction.And quantifier.Ex x f = refl
-quantified_gives junction.And quantifier.All x f = refl
-quantified_gives junction.Or quantifier.Ex x f = refl
-quantified_gives junction.Or quantifier.All x f = refl
+quantified_gives Conjunction Exists x f = refl
+quantified_gives Conjunction ForAll x f = refl
+quantified_gives Disjunction Exists x f = refl
+quantified_gives Disjunction ForAll x f = refl
 
-pub other_gives : (j o : Junction) (fs : Trees) → sameb the_type o j ≡ false → GivesItself j (joined (junction_of o) fs)
-other_gives junction.And junction.And fs e = cc
-other_gives junction.And junction.Or fs e = refl
-other_gives junction.Or junction.And fs e = refl
-other_gives junction.Or junction.Or fs e = cc
+pub other_gives : (j o : Junction) (fs : Trees) → sameb the_type o j ≡ false → GivesItself j (joined o fs)
+other_gives Conjunction Conjunction fs e = cc
+other_gives Conjunction Disjunction fs e = refl
+other_gives Disjunction Conjunction fs e = refl
+other_gives Disjunction Disjunction fs e = cc
 
-pub same_gives : (j o : Junction) (fs : Trees) → sameb the_type o j ≡ true → pieces_of (junction_of j) (joined (junction_of o) fs) ≡ Some fs
-same_gives junction.And junction.And fs e = refl
-same_gives junction.And junction.Or fs e = cc
-same_gives junction.Or junction.And fs e = cc
-same_gives junction.Or junction.Or fs e = refl
+pub same_gives : (j o : Junction) (fs : Trees) → sameb the_type o j ≡ true → pieces_of j (joined o fs) ≡ Some fs
+same_gives Conjunction Conjunction fs e = refl
+same_gives Conjunction Disjunction fs e = cc
+same_gives Disjunction Conjunction fs e = cc
+same_gives Disjunction Disjunction fs e = refl
 
 pub itself_put : (j : Junction) (f : Nnf) (t : Tree) (made made2 : List Nnf) → nnf_of f ≡ t → GivesItself j t → made2 ≡ made ++ f ∷ []
-    → put_together (Some (Formulas_of made)) (pieces_of (junction_of j) (nnf_of f)) ≡ Some (Formulas_of made2)
+    → put_together (Some (Formulas_of made)) (pieces_of j (nnf_of f)) ≡ Some (Formulas_of made2)
 itself_put j f t made made2 e g m =
     let g2 : GivesItself j (nnf_of f) = subst (GivesItself j) (sym e) g in
     ap (put_together (Some (Formulas_of made))) g2 ∙ ap Some (sym (lists_joined made (f ∷ [])) ∙ ap Formulas_of (sym m))
 
-pub members_put : (j : Junction) (f : Nnf) (fs : List Nnf) (made made2 : List Nnf) → pieces_of (junction_of j) (nnf_of f) ≡ Some (Formulas_of fs) → made2 ≡ made ++ fs
-    → put_together (Some (Formulas_of made)) (pieces_of (junction_of j) (nnf_of f)) ≡ Some (Formulas_of made2)
+pub members_put : (j : Junction) (f : Nnf) (fs : List Nnf) (made made2 : List Nnf) → pieces_of j (nnf_of f) ≡ Some (Formulas_of fs) → made2 ≡ made ++ fs
+    → put_together (Some (Formulas_of made)) (pieces_of j (nnf_of f)) ≡ Some (Formulas_of made2)
 members_put j f fs made made2 g m = ap (put_together (Some (Formulas_of made))) g ∙ ap Some (sym (lists_joined made fs) ∙ ap Formulas_of (sym m))
 
 pub itself_proper : (f : Nnf) (made made2 : List Nnf) → AreProper made → IsProper f → made2 ≡ made ++ f ∷ [] → AreProper made2
@@ -102,7 +101,7 @@ put_thrice (Some fs) (Some gs) None = refl
 put_thrice (Some fs) (Some gs) (Some hs) = ap Some (append_thrice fs gs hs)
 
 -- one member more is put to the pieces, or decides the whole
-module _ (j : folding.Junction) (goes : Bool) (f : Nnf) (made made2 rest left : List Nnf) (all : Option Trees)
+module _ (j : Junction) (goes : Bool) (f : Nnf) (made made2 rest left : List Nnf) (all : Option Trees)
     (put : put_together (Some (Formulas_of made)) (pieces_of j (nnf_of f)) ≡ (if goes then Some (Formulas_of made2) else None))
     (split : left ≡ f ∷ rest) (before : put_together (Some (Formulas_of made)) (all_pieces j (Formulas_of left)) ≡ all) where
   after : put_together (if goes then Some (Formulas_of made2) else None) (all_pieces j (Formulas_of rest)) ≡ all
@@ -116,14 +115,14 @@ module _ (j : folding.Junction) (goes : Bool) (f : Nnf) (made made2 rest left : 
   pub decided : goes ≡ false → all ≡ None
   decided e = sym (subst (λ b. put_together (if b then Some (Formulas_of made2) else None) (all_pieces j (Formulas_of rest)) ≡ all) e after)
 
-pub all_put : (j : folding.Junction) (made rest : List Nnf) (all : Option Trees) → rest ≡ [] → put_together (Some (Formulas_of made)) (all_pieces j (Formulas_of rest)) ≡ all → Some (Formulas_of made) ≡ all
+pub all_put : (j : Junction) (made rest : List Nnf) (all : Option Trees) → rest ≡ [] → put_together (Some (Formulas_of made)) (all_pieces j (Formulas_of rest)) ≡ all → Some (Formulas_of made) ≡ all
 all_put j made rest all e h = ap Some (sym (append_none (Formulas_of made))) ∙ ap (λ xs. put_together (Some (Formulas_of made)) (all_pieces j (Formulas_of xs))) (sym e) ∙ h
 
-pub absorbing_is : (j : Junction) → constant_tree (sameb the_type j junction.Or) ≡ absorbing (junction_of j)
-absorbing_is junction.And = refl
-absorbing_is junction.Or = refl
+pub absorbing_is : (j : Junction) → constant_tree (sameb the_type j Disjunction) ≡ absorbing j
+absorbing_is Conjunction = refl
+absorbing_is Disjunction = refl
 
-pub two_pieces : (j : folding.Junction) (fs : List Nnf) → 1 < length fs → joined j (Formulas_of fs) ≡ from_pieces j (Some (Formulas_of fs))
+pub two_pieces : (j : Junction) (fs : List Nnf) → 1 < length fs → joined j (Formulas_of fs) ≡ from_pieces j (Some (Formulas_of fs))
 two_pieces j [] h = absurd (omega (arith, h))
 two_pieces j (f ∷ []) h = absurd (omega (arith, h))
 two_pieces j (f ∷ (g ∷ fs)) h = refl

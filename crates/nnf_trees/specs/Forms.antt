@@ -3,10 +3,6 @@ use Rattle.std.specs.Prelude.{ℕ, ◌+◌, ◌^◌, nat_lt, Bool, true, false, 
 use Rattle.formula_meaning.specs.NegationNormal.{normal_form, normal_form_of_not, normal_forms, normal_forms_of_not}
 use Rattle.formula_meaning.specs.Tree.{Tree, Trees}
 use Rattle.atom_normal.specs.NormalForm.{negated_normal}
-use Rattle.nnf_trees.specs.declared.nnf.Junction.{Junction}
-use Rattle.nnf_trees.specs.declared.nnf.Junction.TheVariants as junction
-use Rattle.nnf_trees.specs.declared.nnf.Quantifier.{Quantifier}
-use Rattle.nnf_trees.specs.declared.nnf.Quantifier.TheVariants as quantifier
 
 -- the negation normal form of the formula (false), or of its negation (true)
 abbrev pub form : Bool → Tree → Tree
@@ -16,17 +12,6 @@ form true f = normal_form_of_not negated_normal f
 abbrev pub forms : Bool → Trees → Trees
 forms false fs = normal_forms negated_normal fs
 forms true fs = normal_forms_of_not negated_normal fs
-
--- what a negation makes of them
-abbrev pub turned_junction : Bool → Junction → Junction
-turned_junction false j = j
-turned_junction true junction.And = junction.Or
-turned_junction true junction.Or = junction.And
-
-abbrev pub turned_quantifier : Bool → Quantifier → Quantifier
-turned_quantifier false q = q
-turned_quantifier true quantifier.Ex = quantifier.All
-turned_quantifier true quantifier.All = quantifier.Ex
 
 -- the number, if it is below 2 ^ 64
 abbrev pub limited : ℕ → Option ℕ

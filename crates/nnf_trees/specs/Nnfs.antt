@@ -1,7 +1,8 @@
 -- The formula that a tree in negation normal form stands for, and what is known of its atoms.
 use Rattle.std.specs.Prelude.{ℕ, ◌<◌, ◌^◌, List, [], ◌∷◌, map}
-use Rattle.formula_meaning.specs.Formula.{Formula, Formulas, Yes, One, And, Ex, All, none, also}
-use Rattle.formula_meaning.specs.Fold as folding
+use Rattle.formula_meaning.specs.Formula.{Formula, Formulas, Yes, One, And, none, also}
+use Rattle.formula_meaning.specs.Fold.{joined}
+use Rattle.formula_meaning.specs.Shape.{quantified}
 use Rattle.formula_meaning.specs.Every.{Every, EveryOf}
 use Rattle.formula_meaning.specs.Atom as meant
 use Rattle.formula_meaning.specs.Tree as meaning
@@ -9,28 +10,15 @@ use Rattle.atom_normal.specs.declared.atoms.Atom.{Atom}
 use Rattle.atom_normal.specs.Atoms.{atom_of, IsWellFormed}
 use Rattle.atom_normal.specs.NormalForm.{constant_tree}
 use Rattle.formula_tree.specs.Trees.{members}
-use Rattle.nnf_trees.specs.declared.nnf.Junction.{Junction}
-use Rattle.nnf_trees.specs.declared.nnf.Junction.TheVariants as junction
-use Rattle.nnf_trees.specs.declared.nnf.Quantifier.{Quantifier}
-use Rattle.nnf_trees.specs.declared.nnf.Quantifier.TheVariants as quantifier
 use Rattle.nnf_trees.specs.declared.nnf.Nnf as code
 use Rattle.nnf_trees.specs.declared.nnf.Nnf.TheOpen as layer
 use Rattle.nnf_trees.specs.declared.nnf.Members as codes
-
-abbrev pub junction_of : Junction → folding.Junction
-junction_of junction.And = folding.Conjunction
-junction_of junction.Or = folding.Disjunction
-
--- ex or all
-abbrev pub quantified : {A N : Type 0} → Quantifier → N → Formula A N → Formula A N
-quantified quantifier.Ex x f = Ex x f
-quantified quantifier.All x f = All x f
 
 -- one layer of a formula, with those of its parts in their places
 abbrev pub nnf_step : layer.Nnf-F meaning.Tree meaning.Trees → meaning.Tree
 nnf_step (layer.Constant b) = constant_tree b
 nnf_step (layer.One a) = One (atom_of a)
-nnf_step (layer.Joined j fs) = folding.joined (junction_of j) fs
+nnf_step (layer.Joined j fs) = joined j fs
 nnf_step (layer.Quantified q x f) = quantified q x.number f.value
 
 abbrev pub nnfs_step : layer.Members-F meaning.Tree meaning.Trees → meaning.Trees

@@ -5,11 +5,12 @@ ghost use Rattle.formula_meaning.specs.NegationNormal.{both};
 ghost use Rattle.atom_normal.specs.Atoms.{atom_of, IsWellFormed};
 ghost use Rattle.atom_normal.specs.NormalForm.{negated_normal};
 ghost use Rattle.formula_tree.specs.Trees.{tree_of, trees_of};
-ghost use Rattle.nnf_trees.specs.Nnfs.{nnf_of, nnfs_of, nnfs_atoms, junction_of, IsProper, HasModulus};
+ghost use Rattle.nnf_trees.specs.Nnfs.{nnf_of, nnfs_of, nnfs_atoms, IsProper, HasModulus};
 ghost use Rattle.nnf_trees.specs.Forms.{form, forms};
 
-use crate::nnf::{Junction, Members, Nnf, Quantifier};
+use crate::nnf::{Members, Nnf};
 use atom_normal::{Atom, negate};
+use formula_meaning::{Junction, Quantifier};
 use formula_tree::{Tree, Trees};
 use std::alloc::{AllocError, Global};
 
@@ -27,39 +28,39 @@ pub fn normal_form(alloc: Global, f: &Tree, negated: bool) -> Result<Nnf, AllocE
         Tree::One(atom) => Ok(Nnf::One(signed(alloc, atom, negated)?)),
         Tree::And(fs) => {
             let members = normal_forms(alloc, fs, negated)?;
-            Ok(Nnf::Joined(Junction::And.turned(negated), members))
+            Ok(Nnf::Joined(Junction::Conjunction.turned(negated), members))
         }
         Tree::Or(fs) => {
             let members = normal_forms(alloc, fs, negated)?;
-            Ok(Nnf::Joined(Junction::Or.turned(negated), members))
+            Ok(Nnf::Joined(Junction::Disjunction.turned(negated), members))
         }
         Tree::Not(g) => normal_form(alloc, g, !negated),
         Tree::Impl(g, h) => {
             let left = normal_form(alloc, g, !negated)?;
             let right = normal_form(alloc, h, negated)?;
-            pair(alloc, Junction::Or.turned(negated), left, right)
+            pair(alloc, Junction::Disjunction.turned(negated), left, right)
         }
         Tree::Repl(g, h) => {
             let left = normal_form(alloc, g, negated)?;
             let right = normal_form(alloc, h, !negated)?;
-            pair(alloc, Junction::Or.turned(negated), left, right)
+            pair(alloc, Junction::Disjunction.turned(negated), left, right)
         }
         Tree::Equiv(g, h) => {
             let left = normal_form(alloc, g, false)?;
             let right = normal_form(alloc, h, negated)?;
-            let first = pair(alloc, Junction::And, left, right)?;
+            let first = pair(alloc, Junction::Conjunction, left, right)?;
             let left = normal_form(alloc, g, true)?;
             let right = normal_form(alloc, h, !negated)?;
-            let second = pair(alloc, Junction::And, left, right)?;
-            pair(alloc, Junction::Or, first, second)
+            let second = pair(alloc, Junction::Conjunction, left, right)?;
+            pair(alloc, Junction::Disjunction, first, second)
         }
         Tree::Ex(x, g) => {
             let inner = Box::new(alloc, normal_form(alloc, g, negated)?)?;
-            Ok(Nnf::Quantified(Quantifier::Ex.turned(negated), *x, inner))
+            Ok(Nnf::Quantified(Quantifier::Exists.turned(negated), *x, inner))
         }
         Tree::All(x, g) => {
             let inner = Box::new(alloc, normal_form(alloc, g, negated)?)?;
-            Ok(Nnf::Quantified(Quantifier::All.turned(negated), *x, inner))
+            Ok(Nnf::Quantified(Quantifier::ForAll.turned(negated), *x, inner))
         }
     }
 }
@@ -123,7 +124,7 @@ fn well_formed(alloc: Global, atom: &Atom) -> Result<Atom, AllocError>
 fn pair(alloc: Global, junction: Junction, f: Nnf, g: Nnf) -> Result<Nnf, AllocError>
     requires first { IsProper f }
     requires second { IsProper g }
-    ensures joined { IfOk result (λ r. nnf_of r ≡ joined (junction_of junction) (both (nnf_of f) (nnf_of g))) }
+    ensures joined { IfOk result (λ r. nnf_of r ≡ joined junction (both (nnf_of f) (nnf_of g))) }
     ensures proper { IfOk result IsProper }
 {
     let list = vec![in alloc; f, g]?;

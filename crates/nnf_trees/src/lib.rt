@@ -10,7 +10,8 @@ mod trees;
 
 pub use folding::fold;
 pub use forms::normal_form;
+pub use formula_meaning::{Junction, Quantifier};
 pub use negation::negated;
-pub use nnf::{Junction, Members, Nnf, Quantifier};
+pub use nnf::{Members, Nnf};
 pub use sizes::{Sizes, form_sizes, nodes};
 pub use trees::into_tree;

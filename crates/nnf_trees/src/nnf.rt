@@ -1,48 +1,10 @@
 ghost use Rattle.std.specs.Prelude.{◌≡◌, map};
 ghost use Rattle.formula_tree.specs.Trees.{members};
 ghost use Rattle.nnf_trees.specs.Nnfs.{nnf_of, nnfs_of, listed, nnf_atoms, nnfs_atoms};
-ghost use Rattle.nnf_trees.specs.Forms.{turned_junction, turned_quantifier};
 
 use atom_normal::Atom;
+use formula_meaning::{Junction, Quantifier};
 use linear_forms::VarId;
-
-/// What joins the members of a list.
-#[derive(Clone, Copy, Debug, PartialEq, Eq)]
-pub enum Junction {
-    And,
-    Or,
-}
-
-impl Junction {
-    /// What the junction becomes in the negation normal form of a negation.
-    pub fn turned(self, negated: bool) -> Junction
-        ensures { result ≡ turned_junction negated self }
-    {
-        match (self, negated) {
-            (Junction::And, false) | (Junction::Or, true) => Junction::And,
-            (Junction::Or, false) | (Junction::And, true) => Junction::Or,
-        }
-    }
-}
-
-/// For some value, or for all.
-#[derive(Clone, Copy, Debug, PartialEq, Eq)]
-pub enum Quantifier {
-    Ex,
-    All,
-}
-
-impl Quantifier {
-    /// What the quantifier becomes in the negation normal form of a negation.
-    pub fn turned(self, negated: bool) -> Quantifier
-        ensures { result ≡ turned_quantifier negated self }
-    {
-        match (self, negated) {
-            (Quantifier::Ex, false) | (Quantifier::All, true) => Quantifier::Ex,
-            (Quantifier::All, false) | (Quantifier::Ex, true) => Quantifier::All,
-        }
-    }
-}
 
 /// A resolved formula in negation normal form.
 #[derive(Drop)]

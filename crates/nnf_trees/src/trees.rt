@@ -1,9 +1,11 @@
 ghost use Rattle.std.specs.Prelude.{◌≡◌, IfOk};
+ghost use Rattle.formula_meaning.specs.Shape.{quantified};
 ghost use Rattle.formula_tree.specs.Trees.{tree_of, trees_of};
 ghost use Rattle.formula_meaning.specs.Fold.{joined};
-ghost use Rattle.nnf_trees.specs.Nnfs.{nnf_of, nnfs_of, junction_of, quantified};
+ghost use Rattle.nnf_trees.specs.Nnfs.{nnf_of, nnfs_of};
 
-use crate::nnf::{Junction, Members, Nnf, Quantifier};
+use crate::nnf::{Members, Nnf};
+use formula_meaning::{Junction, Quantifier};
 use formula_tree::{Tree, Trees};
 use linear_forms::VarId;
 use std::alloc::{AllocError, Global};
@@ -41,11 +43,11 @@ fn into_trees(alloc: Global, fs: Members) -> Result<Trees, AllocError>
 // The formulas joined.
 #[tactic(auto, using(formula_tree::proofs::TreeEquations::trees))]
 fn joined(junction: Junction, members: Trees) -> Tree
-    ensures { tree_of result ≡ joined (junction_of junction) (trees_of members) }
+    ensures { tree_of result ≡ joined junction (trees_of members) }
 {
     match junction {
-        Junction::And => Tree::And(members),
-        Junction::Or => Tree::Or(members),
+        Junction::Conjunction => Tree::And(members),
+        Junction::Disjunction => Tree::Or(members),
     }
 }
 
@@ -61,7 +63,7 @@ fn quantified(
 {
     let inner = Box::new(alloc, inner)?;
     match quantifier {
-        Quantifier::Ex => Ok(Tree::Ex(x, inner)),
-        Quantifier::All => Ok(Tree::All(x, inner)),
+        Quantifier::Exists => Ok(Tree::Ex(x, inner)),
+        Quantifier::ForAll => Ok(Tree::All(x, inner)),
     }
 }

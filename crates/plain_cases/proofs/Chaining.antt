@@ -1,22 +1,19 @@
 -- The branches of the leading chain of quantifiers.
 use Rattle.std.proofs.Common.{◌≡◌, ℕ, Bool, true, false, not, List, [], ◌∷◌, refl, sym, ap, ◌∙◌, nat_eq}
 use Rattle.std.specs.Prelude.{if◌then◌else◌}
+use Rattle.formula_meaning.specs.declared.quantifier.Quantifier.TheVariants.{Exists, ForAll}
 use Rattle.formula_meaning.specs.Context.{Context}
 use Rattle.formula_meaning.specs.Formula.{Yes, No, One, Not, And, Or, Impl, Repl, Equiv, Ex, All}
-use Rattle.formula_meaning.specs.Fold.{fold_list}
-use Rattle.formula_meaning.specs.Shape.{is_in}
+use Rattle.formula_meaning.specs.Fold.{fold_list, joined}
+use Rattle.formula_meaning.specs.Shape.{is_in, quantified}
 use Rattle.formula_meaning.specs.Tree.{Tree, Trees}
 use Rattle.atom_normal.specs.NormalForm.{constant_tree}
 use Rattle.elimination_reference.specs.Cases.{Case, case_sign, cases_of, reference_cases}
 use Rattle.formula_meaning.specs.Measured.{Outcome, stopped, done, then_of, Counted, ◌>>=◌, pay}
 use Rattle.elimination_reference.specs.Reference.{Branch, normal_tree, alone, together, turned, signed_junction, steps, closed, branches, members}
 use Rattle.formula_meaning.specs.declared.junction.Junction.TheVariants.{Conjunction, Disjunction}
-use Rattle.formula_meaning.specs.Fold as folding
-use Rattle.nnf_trees.specs.declared.nnf.Junction.{Junction}
-use Rattle.nnf_trees.specs.declared.nnf.Junction.TheVariants as junction
-use Rattle.nnf_trees.specs.declared.nnf.Quantifier.{Quantifier}
-use Rattle.nnf_trees.specs.declared.nnf.Quantifier.TheVariants as quantifier
-use Rattle.nnf_trees.specs.Nnfs.{junction_of, quantified}
+use Rattle.formula_meaning.specs.declared.junction.Junction.{Junction}
+use Rattle.formula_meaning.specs.declared.quantifier.Quantifier.{Quantifier}
 use Rattle.plain_engine.specs.Told.{is_ex, seen, all_bare}
 use Rattle.formula_meaning.specs.Sizes.{nodes}
 use Rattle.plain_cases.specs.declared.branch.Leaf.{Leaf}
@@ -32,7 +29,7 @@ abbrev told_cases : Outcome (List Branch × ℕ) → Outcome (List Case × ℕ)
 told_cases o = then_of o (λ r. done (cases_of r.0, r.1))
 
 module _ (c : Context) (limit : ℕ) where
-  bare_joined : (j : folding.Junction) (o : Outcome (Trees × ℕ)) → then_of {B = List Branch × ℕ} o (λ r. done (alone (fold_list j r.0), r.1)) ≡ bared (then_of o (λ r. done (alone (fold_list j r.0), r.1)))
+  bare_joined : (j : Junction) (o : Outcome (Trees × ℕ)) → then_of {B = List Branch × ℕ} o (λ r. done (alone (fold_list j r.0), r.1)) ≡ bared (then_of o (λ r. done (alone (fold_list j r.0), r.1)))
   bare_joined j (stopped s) = refl
   bare_joined j (done r) = refl
 
@@ -82,10 +79,10 @@ module _ (c : Context) (limit : ℕ) where
   -- the chain goes on
   pub chain_on : (names : List ℕ) (sign : Bool) (q : Quantifier) (x : ℕ) (f : Tree) (cost : ℕ) → beq (is_ex q) sign ≡ true → is_in nat_eq x names ≡ false →
       branches c limit names sign (quantified q x f) cost ≡ then_of (branches c limit (x ∷ names) sign f cost) (λ r. steps c limit x r.0 r.1)
-  chain_on names true quantifier.Ex x f cost e n = ap (λ t. (if t then closed c limit true x (branches c limit (x ∷ []) true f) else (branches c limit (x ∷ names) true f >>= steps c limit x)) cost) n
-  chain_on names false quantifier.Ex x f cost e n = cc
-  chain_on names true quantifier.All x f cost e n = cc
-  chain_on names false quantifier.All x f cost e n = ap (λ t. (if t then closed c limit true x (branches c limit (x ∷ []) false f) else (branches c limit (x ∷ names) false f >>= steps c limit x)) cost) n
+  chain_on names true Exists x f cost e n = ap (λ t. (if t then closed c limit true x (branches c limit (x ∷ []) true f) else (branches c limit (x ∷ names) true f >>= steps c limit x)) cost) n
+  chain_on names false Exists x f cost e n = cc
+  chain_on names true ForAll x f cost e n = cc
+  chain_on names false ForAll x f cost e n = ap (λ t. (if t then closed c limit true x (branches c limit (x ∷ []) false f) else (branches c limit (x ∷ names) false f >>= steps c limit x)) cost) n
 
   -- and so from the program's parts
   pub chain_step : (names names2 : List ℕ) (sign : Bool) (q : Quantifier) (x : ℕ) (f g : Tree) (cost : ℕ) → f ≡ quantified q x g → names2 ≡ x ∷ names → beq (is_ex q) sign ≡ true → is_in nat_eq x names ≡ false →
@@ -106,16 +103,16 @@ pub constant_begun : (sign : Bool) (names : List ℕ) (b : Bool) → goes_on sig
 constant_begun sign names true = refl
 constant_begun sign names false = refl
 
-pub joined_begun : (sign : Bool) (names : List ℕ) (j : Junction) (fs : Trees) → goes_on sign names (folding.joined (junction_of j) fs) ≡ false
-joined_begun sign names junction.And fs = refl
-joined_begun sign names junction.Or fs = refl
+pub joined_begun : (sign : Bool) (names : List ℕ) (j : Junction) (fs : Trees) → goes_on sign names (joined j fs) ≡ false
+joined_begun sign names Conjunction fs = refl
+joined_begun sign names Disjunction fs = refl
 
 -- the other quantifier, or a name of the chain
 pub quantified_begun : (sign : Bool) (names : List ℕ) (q : Quantifier) (x : ℕ) (f : Tree) → (beq (is_ex q) sign ≡ true → is_in nat_eq x names ≡ true) → goes_on sign names (quantified q x f) ≡ false
-quantified_begun true names quantifier.Ex x f h = ap (λ t. not t) (h refl)
-quantified_begun false names quantifier.Ex x f h = refl
-quantified_begun true names quantifier.All x f h = refl
-quantified_begun false names quantifier.All x f h = ap (λ t. not t) (h refl)
+quantified_begun true names Exists x f h = ap (λ t. not t) (h refl)
+quantified_begun false names Exists x f h = refl
+quantified_begun true names ForAll x f h = refl
+quantified_begun false names ForAll x f h = ap (λ t. not t) (h refl)
 
 pub ruleset begins = (constant_begun, joined_begun)
 
@@ -124,12 +121,12 @@ pub constant_sign : (b : Bool) → case_sign (constant_tree b) ≡ true
 constant_sign true = refl
 constant_sign false = refl
 
-pub joined_sign : (j : Junction) (fs : Trees) → case_sign (folding.joined (junction_of j) fs) ≡ true
-joined_sign junction.And fs = refl
-joined_sign junction.Or fs = refl
+pub joined_sign : (j : Junction) (fs : Trees) → case_sign (joined j fs) ≡ true
+joined_sign Conjunction fs = refl
+joined_sign Disjunction fs = refl
 
 pub quantified_sign : (q : Quantifier) (x : ℕ) (f : Tree) → case_sign (quantified q x f) ≡ is_ex q
-quantified_sign quantifier.Ex x f = refl
-quantified_sign quantifier.All x f = refl
+quantified_sign Exists x f = refl
+quantified_sign ForAll x f = refl
 
 pub ruleset signs = (constant_sign, joined_sign, quantified_sign)

@@ -1,6 +1,6 @@
 -- Leaves and the branches for which they stand.
 use Rattle.std.proofs.Common.{◌≡◌, ℕ, List, [], ◌∷◌, ◌++◌, length, append_assoc, All, map, refl, sym, ap, ◌∙◌, subst}
-use Rattle.std.specs.Prelude.{Result, IfOk, IfErr}
+use Rattle.std.specs.Prelude.{Result}
 use Rattle.std.specs.declared.vec.Vec.{Vec}
 use Rattle.std.specs.declared.alloc.Global.{Global}
 use Rattle.std.specs.declared.result.Result.TheVariants.{Ok, Err}
@@ -21,7 +21,6 @@ use Rattle.test_points.specs.Points.{answer_of, IsTestPoint}
 use Rattle.plain_engine.specs.declared.measured.Measured.{Measured}
 use Rattle.plain_engine.specs.declared.measured.Measured.TheVariants as measured
 use Rattle.plain_engine.specs.Told.{StopsWith, bare, all_bare, formulas_of, seen}
-use Rattle.plain_engine.proofs.Seen.{only_memory}
 use Rattle.plain_cases.specs.declared.branch.Leaf.{Leaf}
 use Rattle.plain_cases.specs.declared.cases.PlainCase.{PlainCase}
 use Rattle.plain_cases.specs.Stand.{StandsFor, StandFor, IsSound, AreSound, AreInside, TellsOf, Tells}
@@ -67,11 +66,6 @@ tells_of ls bs cost o e h = subst (TellsOf ls cost) (sym e) (h, refl)
 
 pub tells_along : (r : Result (Vec Leaf Global) Measured) (cost : ℕ) (o p : Outcome (List Branch × ℕ)) → o ≡ p → Tells r cost o → Tells r cost p
 tells_along r cost o p e h = subst (Tells r cost) e h
-
--- a result that stands for known branches, where its only error is want of memory
-pub tells_known : (r : Result (Vec Leaf Global) Measured) (bs : List Branch) (cost : ℕ) (o : Outcome (List Branch × ℕ)) → o ≡ done (bs, cost) → IfOk r (λ v. StandFor v.items bs) → IfErr r (λ e. e ≡ measured.Memory) → Tells r cost o
-tells_known (Ok v) bs cost o e h m = tells_of v.items bs cost o e h
-tells_known (Err x) bs cost o e h m = only_memory x o m
 
 -- what is done, of which something is told
 pub record IsDone (ls : List Leaf) (cost : ℕ) (o : Outcome (List Branch × ℕ)) : Type 0 where

@@ -1,14 +1,13 @@
 // A formula that is left, and the test points that led to it.
-ghost use Rattle.std.specs.Prelude.{◌≡◌, ◌∷◌, IfOk, IfErr};
+ghost use Rattle.std.specs.Prelude.{◌≡◌, ◌∷◌, IfOk};
 ghost use Rattle.nnf_trees.specs.Nnfs.{AreProper};
 ghost use Rattle.plain_engine.specs.Told.{formulas_of, all_bare};
 ghost use Rattle.plain_cases.specs.Stand.{StandFor, AreSound, IsZeroPoint};
 
 use linear_forms::{Linear, VarId};
 use nnf_trees::Nnf;
-use plain_engine::Measured;
-use std::alloc::Global;
-use test_points::{Place, PointError, TestPoint};
+use std::alloc::{AllocError, Global};
+use test_points::{Place, TestPoint};
 
 /// A formula that is left, and the test points that led to it, the last one first.
 #[derive(Drop)]
@@ -17,20 +16,19 @@ pub struct Leaf {
     pub points: Vec<TestPoint>,
 }
 
-/// A point before others, all copied. The only error is `Memory`.
+/// A point before others, all copied.
 pub(crate) fn with_point(
     alloc: Global,
     point: &TestPoint,
     points: &[TestPoint],
-) -> Result<Vec<TestPoint>, PointError>
-    ensures items { IfOk result (λ v. v.items ≡ point.now ∷ points.now) }
-    ensures memory { IfErr result (λ e. e ≡ PointError.Memory) }
+) -> Result<Vec<TestPoint>, AllocError>
+    ensures { IfOk result (λ v. v.items ≡ point.now ∷ points.now) }
 {
-    let first = point.copy(alloc)?;
-    let mut all = vec![in alloc; first].map_err(|_| PointError::Memory)?;
+    let first = point.copy(alloc).map_err(|_| AllocError)?;
+    let mut all = vec![in alloc; first]?;
     for other in points {
-        let copy = other.copy(alloc)?;
-        all.push(copy).map_err(|_| PointError::Memory)?;
+        let copy = other.copy(alloc).map_err(|_| AllocError)?;
+        all.push(copy)?;
     }
     Ok(all)
 }
@@ -48,12 +46,11 @@ pub(crate) fn zero_point(alloc: Global, name: VarId) -> TestPoint
     }
 }
 
-/// The formulas, to which no point has led. The only error is `Memory`.
-pub fn without_points(alloc: Global, formulas: Vec<Nnf>) -> Result<Vec<Leaf>, Measured>
+/// The formulas, to which no point has led.
+pub fn without_points(alloc: Global, formulas: Vec<Nnf>) -> Result<Vec<Leaf>, AllocError>
     requires { AreProper formulas.items }
     ensures stand { IfOk result (λ v. StandFor v.items (all_bare (formulas_of formulas.items))) }
     ensures sound { IfOk result (λ v. AreSound v.items) }
-    ensures memory { IfErr result (λ e. e ≡ Measured.Memory) }
 {
     let mut leaves = Vec::new(alloc);
     for formula in formulas {
@@ -61,7 +58,7 @@ pub fn without_points(alloc: Global, formulas: Vec<Nnf>) -> Result<Vec<Leaf>, Me
             formula,
             points: Vec::new(alloc),
         };
-        leaves.push(leaf).map_err(|_| Measured::Memory)?;
+        leaves.push(leaf)?;
     }
     Ok(leaves)
 }

@@ -1,9 +1,12 @@
 // The cases of the leading block.
 ghost use Rattle.std.specs.Prelude.{◌≡◌, ℕ, map, IfOk, IfErr};
 ghost use Rattle.formula_meaning.specs.Every.{Every};
+ghost use Rattle.formula_meaning.specs.Some.{EachOf};
+ghost use Rattle.formula_meaning.specs.Tree.{IsFree};
 ghost use Rattle.atom_normal.specs.Atoms.{context_of};
 ghost use Rattle.atom_normal.specs.NormalForm.{IsNormal};
-ghost use Rattle.elimination_reference.specs.Cases.{case_sign, reference_cases};
+ghost use Rattle.elimination_reference.specs.Cases.{Case, case_sign, reference_cases};
+ghost use Rattle.elimination_reference.specs.Over.{AreAnswersOver};
 ghost use Rattle.formula_meaning.specs.Measured.{done};
 ghost use Rattle.elimination_reference.specs.Theorems.{AreExactCases};
 ghost use Rattle.formula_tree.specs.Trees.{tree_of};
@@ -18,7 +21,7 @@ use atom_normal::Context;
 use formula_tree::Tree;
 use nnf_trees::{Nnf, form_sizes, into_tree, normal_form};
 use plain_engine::{Measured, Setting, is_ex, pay};
-use std::alloc::Global;
+use std::alloc::{AllocError, Global};
 use test_points::TestPoint;
 
 /// Where the guard is true, the answers make the matrix behind the leading block true.
@@ -39,29 +42,30 @@ pub fn is_asked(f: &Nnf) -> bool
     }
 }
 
-// The leaves as cases. The only error is `Memory`.
-fn told(alloc: Global, leaves: Vec<Leaf>) -> Result<Vec<PlainCase>, Measured>
+// The leaves as cases.
+fn told(alloc: Global, leaves: Vec<Leaf>) -> Result<Vec<PlainCase>, AllocError>
     requires { AreSound leaves.items }
     ensures cases { IfOk result (λ v. map case_seen v.items ≡ map leaf_case leaves.items) }
     ensures points { IfOk result (λ v. HavePoints v.items) }
-    ensures memory { IfErr result (λ e. e ≡ Measured.Memory) }
 {
     let mut cases = Vec::new(alloc);
     for leaf in leaves {
         let Leaf { formula, points } = leaf;
-        let guard = into_tree(alloc, formula).map_err(|_| Measured::Memory)?;
+        let guard = into_tree(alloc, formula)?;
         let case = PlainCase {
             guard,
             answers: points,
         };
-        cases.push(case).map_err(|_| Measured::Memory)?;
+        cases.push(case)?;
     }
     Ok(cases)
 }
 
 /// The cases of the leading block of `ex`, or of `all` for the negation, by the reference elimination, in its order: each guard
-/// is true exactly where its answers make the matrix true, and together they are the tree, or its negation. `Nodes` comes exactly
-/// where that costs more than `limit` nodes, and `Overflow` exactly where a number passes 2^127 - 1 before that, else `Memory`.
+/// is true exactly where its answers make the matrix true, and together they are the tree, or its negation. Each answer has a
+/// place of the theory whose form is sorted, over the free names of the tree and names answered before it, with numbers within
+/// 2^127 - 1. `Nodes` comes exactly where that costs more than `limit` nodes, and `Overflow` exactly where a number passes
+/// 2^127 - 1 before that, else `Memory`.
 ///
 /// The recursion is as deep as the tree is high.
 pub fn cases_plain(
@@ -74,11 +78,12 @@ pub fn cases_plain(
     requires normal { Every (IsNormal (context_of context)) (tree_of tree.now) }
     ensures cases { IfOk result (λ v. (cost : ℕ) × (reference_cases (context_of context) limit (tree_of tree.now) ≡ done (map case_seen v.items, cost))) }
     ensures exact { IfOk result (λ v. AreExactCases (context_of context) (tree_of tree.now) (map case_seen v.items)) }
+    ensures answers { IfOk result (λ v. EachOf (λ (k : Case). AreAnswersOver (context_of context) (IsFree (tree_of tree.now)) k.answers) (map case_seen v.items)) }
     ensures points { IfOk result (λ v. HavePoints v.items) }
     ensures stops { IfErr result (λ e. StopsWith e (reference_cases (context_of context) limit (tree_of tree.now))) }
 {
     let left = case_leaves(alloc, tree, context, limit)?;
-    told(alloc, left)
+    Ok(told(alloc, left)?)
 }
 
 /// The same cases as leaves: the guards in negation normal form, to be worked on without a copy, and the points that answer.
@@ -101,7 +106,7 @@ pub fn case_leaves(
     };
     let mut cost = 0;
     pay(limit, &mut cost, form_sizes(tree).plain)?;
-    let form = normal_form(alloc, tree, false).map_err(|_| Measured::Memory)?;
+    let form = normal_form(alloc, tree, false)?;
     let left = leaves(setting, &mut cost, Vec::new(alloc), is_asked(&form), &form)?;
     Ok(left)
 }

@@ -29,7 +29,7 @@ fn begun(
     ensures sound { IfOk result (λ v. AreSound v.items) }
 {
     let formulas = branches(setting, cost, names, sign, f)?;
-    without_points(setting.alloc, formulas)
+    Ok(without_points(setting.alloc, formulas)?)
 }
 
 /// The leaves of the formula, or for false those of its negation: the names are those of the chain of quantifiers in which it

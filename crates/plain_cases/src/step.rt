@@ -16,7 +16,7 @@ use atom_normal::Atom;
 use linear_forms::VarId;
 use nnf_substitution::{distinct_atoms, formula_at, is_false, stands_in_some};
 use plain_engine::{Measured, Setting, paid_points, stopped};
-use std::alloc::Global;
+use std::alloc::{AllocError, Global};
 use test_points::{PointError, TestPoint};
 
 /// One step for `x` of each leaf, in their order.
@@ -34,7 +34,7 @@ pub fn case_steps(
     let mut left = Vec::new(setting.alloc);
     for leaf in leaves {
         let mut made = one_step(setting, cost, x, leaf)?;
-        left.append(&mut made).map_err(|_| Measured::Memory)?;
+        left.append(&mut made)?;
     }
     Ok(left)
 }
@@ -46,27 +46,24 @@ fn one_step(setting: Setting, cost: &mut u64, x: VarId, leaf: Leaf) -> Result<Ve
     ensures told { (b : Branch) → StandsFor leaf b → Tells result cost.new (one_step (context_of setting.context) setting.limit x.number b cost.old) }
     ensures sound { IfOk result (λ v. AreSound v.items) }
 {
-    let atoms = distinct_atoms(setting.alloc, &leaf.formula).map_err(|_| Measured::Memory)?;
+    let atoms = distinct_atoms(setting.alloc, &leaf.formula)?;
     if stands_in_some(&atoms, x) {
         full_step(setting, cost, x, &atoms, &leaf)
     } else {
-        at_zero(setting.alloc, x, leaf)
+        Ok(at_zero(setting.alloc, x, leaf)?)
     }
 }
 
-// The leaf with a name at 0 that stands in no atom. The only error is `Memory`.
-fn at_zero(alloc: Global, x: VarId, leaf: Leaf) -> Result<Vec<Leaf>, Measured>
+// The leaf with a name at 0 that stands in no atom.
+fn at_zero(alloc: Global, x: VarId, leaf: Leaf) -> Result<Vec<Leaf>, AllocError>
     requires sound { IsSound leaf }
     ensures stand { IfOk result (λ v. (b : Branch) → StandsFor leaf b → StandFor v.items (kept_at_zero x.number b ∷ [])) }
     ensures sound { IfOk result (λ v. AreSound v.items) }
-    ensures memory { IfErr result (λ e. e ≡ Measured.Memory) }
 {
     let Leaf { formula, points } = leaf;
     let zero = zero_point(alloc, x);
-    match with_point(alloc, &zero, &points) {
-        Ok(points) => vec![in alloc; Leaf { formula, points }].map_err(|_| Measured::Memory),
-        Err(error) => Err(stopped(error)),
-    }
+    let points = with_point(alloc, &zero, &points)?;
+    Ok(vec![in alloc; Leaf { formula, points }]?)
 }
 
 // One step for `x` of a leaf in which it stands, once its test points are paid for.
@@ -110,7 +107,9 @@ fn leaves_at(
     for point in points {
         let formula = formula_at(setting.alloc, setting.context, &leaf.formula, point)?;
         if !is_false(&formula) {
-            let points = with_point(setting.alloc, point, &leaf.points)?;
+            let points = with_point(setting.alloc, point, &leaf.points).map_err(
+                |_| PointError::Memory,
+            )?;
             let next = Leaf { formula, points };
             left.push(next).map_err(|_| PointError::Memory)?;
         }

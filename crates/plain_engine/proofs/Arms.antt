@@ -2,12 +2,13 @@
 use Rattle.std.proofs.Common.{◌≡◌, ℕ, ◌≤◌, arith, refl, sym, ap, ◌∙◌, subst, Bool, true, false, not, List, [], ◌∷◌, nat_eq}
 use Rattle.std.specs.Prelude.{if◌then◌else◌, Result, IfOk}
 use Rattle.std.specs.declared.result.Result.TheVariants.{Ok, Err}
+use Rattle.formula_meaning.specs.declared.quantifier.Quantifier.TheVariants.{Exists, ForAll}
 use Rattle.formula_meaning.specs.Context.{Context}
 use Rattle.formula_meaning.specs.Formula.{One, none, also}
-use Rattle.formula_meaning.specs.Fold.{append, joined, fold_list}
+use Rattle.formula_meaning.specs.Fold.{append, joined, fold_list, turned_junction}
 use Rattle.formula_meaning.specs.declared.junction.Junction.{Junction}
-use Rattle.formula_meaning.specs.declared.junction.Junction.TheVariants.{Disjunction}
-use Rattle.formula_meaning.specs.Shape.{is_in}
+use Rattle.formula_meaning.specs.declared.junction.Junction.TheVariants.{Disjunction, Conjunction}
+use Rattle.formula_meaning.specs.Shape.{is_in, quantified}
 use Rattle.formula_meaning.specs.Sizes.{nodes}
 use Rattle.formula_meaning.specs.Tree.{Tree, Trees}
 use Rattle.atom_normal.specs.NormalForm.{constant_tree, negated_normal, IsNormal}
@@ -17,12 +18,7 @@ use Rattle.elimination_reference.specs.Theorems.{IsAnswerTo}
 use Rattle.elimination_reference.proofs.Sound.{reference_exact}
 use Rattle.elimination_reference.proofs.Bounded.{cost_bounds}
 use Rattle.elimination_reference.specs.Reference.{Branch, alone, together, turned, steps, closed, branches, members, normal_tree, leading_branches, reference}
-use Rattle.nnf_trees.specs.declared.nnf.Junction as code
-use Rattle.nnf_trees.specs.declared.nnf.Junction.TheVariants as junction
-use Rattle.nnf_trees.specs.declared.nnf.Quantifier.{Quantifier}
-use Rattle.nnf_trees.specs.declared.nnf.Quantifier.TheVariants as quantifier
-use Rattle.nnf_trees.specs.Nnfs.{junction_of, quantified}
-use Rattle.nnf_trees.specs.Forms.{turned_junction}
+use Rattle.formula_meaning.specs.declared.quantifier.Quantifier.{Quantifier}
 use Rattle.plain_engine.specs.declared.measured.Measured.{Measured}
 use Rattle.plain_engine.specs.Told.{StopsWith, seen, prefixed, only, joined_after, is_ex, stepped, made_one, chained_branches, closed_branches}
 use Rattle.plain_engine.proofs.Seen.{stops_then, stops_along, steps_after}
@@ -46,12 +42,12 @@ module _ (c : Context) (limit : ℕ) where
   see_joined j (stopped s) = refl
   see_joined j (done r) = refl
 
-  pub joined_branch : (names : List ℕ) (sign : Bool) (j : code.Junction) (fs : Trees) (cost : ℕ) →
-      seen (branches c limit names sign (joined (junction_of j) fs) cost) ≡ joined_after (junction_of (turned_junction (not sign) j)) (members c limit sign fs cost)
-  joined_branch names true junction.And fs cost = see_joined (junction_of junction.And) (members c limit true fs cost)
-  joined_branch names true junction.Or fs cost = see_joined (junction_of junction.Or) (members c limit true fs cost)
-  joined_branch names false junction.And fs cost = see_joined (junction_of junction.Or) (members c limit false fs cost)
-  joined_branch names false junction.Or fs cost = see_joined (junction_of junction.And) (members c limit false fs cost)
+  pub joined_branch : (names : List ℕ) (sign : Bool) (j : Junction) (fs : Trees) (cost : ℕ) →
+      seen (branches c limit names sign (joined j fs) cost) ≡ joined_after (turned_junction (not sign) j) (members c limit sign fs cost)
+  joined_branch names true Conjunction fs cost = see_joined Conjunction (members c limit true fs cost)
+  joined_branch names true Disjunction fs cost = see_joined Disjunction (members c limit true fs cost)
+  joined_branch names false Conjunction fs cost = see_joined Disjunction (members c limit false fs cost)
+  joined_branch names false Disjunction fs cost = see_joined Conjunction (members c limit false fs cost)
 
   -- ---- quantifiers
 
@@ -75,18 +71,18 @@ module _ (c : Context) (limit : ℕ) where
   -- the chain goes on
   pub goes_on : (names : List ℕ) (sign : Bool) (q : Quantifier) (x : ℕ) (f : Tree) (cost : ℕ) → beq (is_ex q) sign ≡ true → is_in nat_eq x names ≡ false →
       seen (branches c limit names sign (quantified q x f) cost) ≡ chained_branches c limit names sign x f cost
-  goes_on names true quantifier.Ex x f cost e n = chain names true x f cost (is_in nat_eq x names) ∙ ap (λ t. if t then closed_branches c limit true true x f cost else chained_branches c limit names true x f cost) n
-  goes_on names false quantifier.Ex x f cost e n = cc
-  goes_on names true quantifier.All x f cost e n = cc
-  goes_on names false quantifier.All x f cost e n = chain names false x f cost (is_in nat_eq x names) ∙ ap (λ t. if t then closed_branches c limit true false x f cost else chained_branches c limit names false x f cost) n
+  goes_on names true Exists x f cost e n = chain names true x f cost (is_in nat_eq x names) ∙ ap (λ t. if t then closed_branches c limit true true x f cost else chained_branches c limit names true x f cost) n
+  goes_on names false Exists x f cost e n = cc
+  goes_on names true ForAll x f cost e n = cc
+  goes_on names false ForAll x f cost e n = chain names false x f cost (is_in nat_eq x names) ∙ ap (λ t. if t then closed_branches c limit true false x f cost else chained_branches c limit names false x f cost) n
 
   -- the chain ends: its names are those of x alone
   pub ends : (names : List ℕ) (sign : Bool) (q : Quantifier) (x : ℕ) (f : Tree) (cost : ℕ) → (beq (is_ex q) sign ≡ true → is_in nat_eq x names ≡ true) →
       seen (branches c limit names sign (quantified q x f) cost) ≡ closed_branches c limit (beq (is_ex q) sign) (is_ex q) x f cost
-  ends names true quantifier.Ex x f cost n = chain names true x f cost (is_in nat_eq x names) ∙ ap (λ t. if t then closed_branches c limit true true x f cost else chained_branches c limit names true x f cost) (n refl)
-  ends names false quantifier.Ex x f cost n = close false x (branches c limit (x ∷ []) true f) cost
-  ends names true quantifier.All x f cost n = close false x (branches c limit (x ∷ []) false f) cost
-  ends names false quantifier.All x f cost n = chain names false x f cost (is_in nat_eq x names) ∙ ap (λ t. if t then closed_branches c limit true false x f cost else chained_branches c limit names false x f cost) (n refl)
+  ends names true Exists x f cost n = chain names true x f cost (is_in nat_eq x names) ∙ ap (λ t. if t then closed_branches c limit true true x f cost else chained_branches c limit names true x f cost) (n refl)
+  ends names false Exists x f cost n = close false x (branches c limit (x ∷ []) true f) cost
+  ends names true ForAll x f cost n = close false x (branches c limit (x ∷ []) false f) cost
+  ends names false ForAll x f cost n = chain names false x f cost (is_in nat_eq x names) ∙ ap (λ t. if t then closed_branches c limit true false x f cost else chained_branches c limit names false x f cost) (n refl)
 
   -- ---- members
 

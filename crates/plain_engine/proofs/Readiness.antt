@@ -1,5 +1,8 @@
 -- The branches of a formula that is ready are formulas of the theory.
 use Rattle.std.proofs.Common.{◌≡◌, ℕ, Bool, List, [], ◌∷◌, sym, subst}
+use Rattle.formula_meaning.specs.Shape.{quantified}
+use Rattle.formula_meaning.specs.declared.quantifier.Quantifier.TheVariants.{Exists, ForAll}
+use Rattle.formula_meaning.specs.declared.junction.Junction.TheVariants.{Conjunction, Disjunction}
 use Rattle.formula_meaning.specs.Context.{Context}
 use Rattle.formula_meaning.specs.Every.{Every, EveryOf}
 use Rattle.formula_meaning.specs.Fold.{joined}
@@ -14,11 +17,8 @@ use Rattle.elimination_reference.proofs.Always.{gives_then}
 use Rattle.elimination_reference.proofs.Branches.{IsBranch}
 use Rattle.elimination_reference.proofs.Sound.{Good, branches_are, normal_normal_tree}
 use Rattle.elimination_reference.proofs.Tidy.{tidy_in}
-use Rattle.nnf_trees.specs.declared.nnf.Junction.{Junction}
-use Rattle.nnf_trees.specs.declared.nnf.Junction.TheVariants as junction
-use Rattle.nnf_trees.specs.declared.nnf.Quantifier.{Quantifier}
-use Rattle.nnf_trees.specs.declared.nnf.Quantifier.TheVariants as quantifier
-use Rattle.nnf_trees.specs.Nnfs.{junction_of, quantified}
+use Rattle.formula_meaning.specs.declared.junction.Junction.{Junction}
+use Rattle.formula_meaning.specs.declared.quantifier.Quantifier.{Quantifier}
 use Rattle.plain_engine.specs.Told.{seen}
 use Rattle.plain_engine.specs.Ready.{IsReady, AreReady}
 
@@ -35,13 +35,13 @@ branches_inside c limit names sign f cost after ts h e =
 
 -- ---- the parts of a formula that is ready
 
-pub joined_ready : (c : Context) (j : Junction) (fs : Trees) → IsReady c (joined (junction_of j) fs) → AreReady c fs
-joined_ready c junction.And fs h = h
-joined_ready c junction.Or fs h = h
+pub joined_ready : (c : Context) (j : Junction) (fs : Trees) → IsReady c (joined j fs) → AreReady c fs
+joined_ready c Conjunction fs h = h
+joined_ready c Disjunction fs h = h
 
 pub quantified_ready : (c : Context) (q : Quantifier) (x : ℕ) (f : Tree) → IsReady c (quantified q x f) → IsReady c f
-quantified_ready c quantifier.Ex x f h = h
-quantified_ready c quantifier.All x f h = h
+quantified_ready c Exists x f h = h
+quantified_ready c ForAll x f h = h
 
 -- the negation normal form of a formula over normal atoms is ready
 pub form_ready : (c : Context) (limit : ℕ) (f : Tree) → Every (IsNormal c) f → IsReady c (normal_tree f)

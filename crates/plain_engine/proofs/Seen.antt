@@ -16,7 +16,7 @@ use Rattle.elimination_reference.specs.Reference.{Branch, branch_trees, next_bra
 use Rattle.elimination_reference.proofs.Branches.{next_trees}
 use Rattle.plain_engine.specs.declared.measured.Measured.{Measured}
 use Rattle.plain_engine.specs.declared.measured.Measured.TheVariants as measured
-use Rattle.std.specs.Prelude.{Result, IfOk, IfErr}
+use Rattle.std.specs.Prelude.{Result}
 use Rattle.std.specs.declared.result.Result.TheVariants.{Ok, Err}
 use Rattle.plain_engine.specs.Told.{StopsWith, Told, bare, all_bare, seen, prefixed}
 
@@ -28,9 +28,6 @@ stops_then measured.Memory o k h = tt
 
 pub stops_along : {A : Type 0} (e : Measured) (o p : Outcome A) → o ≡ p → StopsWith e o → StopsWith e p
 stops_along e o p h = subst (StopsWith e) h
-
-pub only_memory : {A : Type 0} (e : Measured) (o : Outcome A) → e ≡ measured.Memory → StopsWith e o
-only_memory e o h = subst (λ f. StopsWith f o) (sym h) tt
 
 then_alike : {A B : Type 0} (o : Outcome A) (k l : A → Outcome B) → ((a : A) → k a ≡ l a) → then_of o k ≡ then_of o l
 then_alike (stopped s) k l h = refl
@@ -119,9 +116,9 @@ module _ (c : Context) (limit x : ℕ) where
 pub err_told : {A B : Type 0} (view : A → B) (r : Result A Measured) (e : Measured) (cost : ℕ) (o : Outcome (B × ℕ)) → r ≡ Err e → StopsWith e o → Told view r cost o
 err_told view r e cost o h s = subst (λ q. Told view q cost o) (sym h) s
 
-pub ok_told : {A B : Type 0} (view : A → B) (r : Result A Measured) (v : B) (cost : ℕ) (o : Outcome (B × ℕ)) → IfOk r (λ a. view a ≡ v) → IfErr r (λ e. e ≡ measured.Memory) → o ≡ done (v, cost) → Told view r cost o
-ok_told view (Ok a) v cost o h k e = e ∙ ap (λ w. done (w, cost)) (sym h)
-ok_told view (Err e) v cost o h k f = only_memory e o k
+-- a value that is viewed as that of the computation
+pub told_as : {A B : Type 0} (view : A → B) (a : A) (v : B) (cost : ℕ) (o : Outcome (B × ℕ)) → view a ≡ v → o ≡ done (v, cost) → o ≡ done (view a, cost)
+told_as view a v cost o h e = e ∙ ap (λ w. done (w, cost)) (sym h)
 
 -- a call after a computation that is done
 pub told_then : {A B C : Type 0} (view : A → B) (r : Result A Measured) (cost cost2 : ℕ) (o : Outcome (C × ℕ)) (v : C) (k : C × ℕ → Outcome (B × ℕ)) → o ≡ done (v, cost) → Told view r cost2 (k (v, cost)) → Told view r cost2 (then_of o k)

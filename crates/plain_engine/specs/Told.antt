@@ -1,5 +1,6 @@
 -- What a measured call says about the computation that defines it.
 use Rattle.std.specs.Prelude.{◌≡◌, ℕ, Bool, true, false, List, [], ◌∷◌, map, Result}
+use Rattle.formula_meaning.specs.declared.quantifier.Quantifier.TheVariants.{Exists, ForAll}
 use Rattle.formula_meaning.specs.Context.{Context}
 use Rattle.std.specs.declared.result.Result.TheVariants.{Ok, Err}
 use Rattle.formula_meaning.specs.Formula.{none, also}
@@ -13,8 +14,7 @@ use Rattle.elimination_reference.specs.Reference.{Branch, branch_trees, turned, 
 use Rattle.formula_tree.specs.Trees.{members}
 use Rattle.linear_forms.specs.declared.form.VarId.{VarId}
 use Rattle.nnf_trees.specs.declared.nnf.Nnf.{Nnf}
-use Rattle.nnf_trees.specs.declared.nnf.Quantifier.{Quantifier}
-use Rattle.nnf_trees.specs.declared.nnf.Quantifier.TheVariants as quantifier
+use Rattle.formula_meaning.specs.declared.quantifier.Quantifier.{Quantifier}
 use Rattle.nnf_trees.specs.Nnfs.{nnf_of}
 use Rattle.plain_engine.specs.declared.measured.Measured.{Measured}
 use Rattle.plain_engine.specs.declared.measured.Measured.TheVariants.{Overflow, Nodes, Memory}
@@ -65,8 +65,8 @@ abbrev pub joined_after : Junction → Outcome (Trees × ℕ) → Outcome (Trees
 joined_after j o = then_of o (λ r. done (only (fold_list j r.0), r.1))
 
 abbrev pub is_ex : Quantifier → Bool
-is_ex quantifier.Ex = true
-is_ex quantifier.All = false
+is_ex Exists = true
+is_ex ForAll = false
 
 -- joined by or into one formula, which is negated for false
 abbrev pub made_one : Bool → Outcome (Trees × ℕ) → Outcome (Trees × ℕ)

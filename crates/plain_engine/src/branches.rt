@@ -1,16 +1,17 @@
 ghost use Rattle.std.specs.Prelude.{IfOk};
+ghost use Rattle.formula_meaning.specs.Shape.{quantified};
 ghost use Rattle.formula_meaning.specs.Every.{EveryOf};
 ghost use Rattle.atom_normal.specs.Atoms.{context_of, IsWellFormed};
 ghost use Rattle.elimination_reference.specs.Reference.{branches, members};
-ghost use Rattle.nnf_trees.specs.Nnfs.{nnf_of, nnfs_of, nnfs_atoms, quantified, IsProper, AreProper};
+ghost use Rattle.nnf_trees.specs.Nnfs.{nnf_of, nnfs_of, nnfs_atoms, IsProper, AreProper};
 ghost use Rattle.plain_engine.specs.Ready.{IsReady, AreReady};
 ghost use Rattle.plain_engine.specs.Told.{Told, seen, formulas_of, numbers, chained_branches, closed_branches};
 
 use crate::measured::{Measured, Setting};
-use crate::parts::{alone, before, folded, is_ex, signed, stands_in, turned};
+use crate::parts::{alone, before, is_ex, signed, stands_in, turned};
 use crate::steps::steps;
 use linear_forms::VarId;
-use nnf_trees::{Junction, Members, Nnf, Quantifier};
+use nnf_trees::{Junction, Members, Nnf, Quantifier, fold};
 
 /// The branches of the formula, or for false those of its negation. The names are those of the chain of quantifiers in which the
 /// formula stands, the last first. The recursion is as deep as the formula is high.
@@ -29,14 +30,15 @@ pub fn branches(
     ensures proper { IfOk result (λ v. AreProper v.items) }
 {
     match f {
-        Nnf::Constant(truth) => alone(setting.alloc, Nnf::Constant(*truth == sign)),
-        Nnf::One(atom) => alone(setting.alloc, Nnf::One(signed(setting.alloc, atom, sign)?)),
+        Nnf::Constant(truth) => Ok(alone(setting.alloc, Nnf::Constant(*truth == sign))?),
+        Nnf::One(atom) => {
+            let atom = signed(setting.alloc, atom, sign)?;
+            Ok(alone(setting.alloc, Nnf::One(atom))?)
+        }
         Nnf::Joined(junction, members) => {
             let list = all_together(setting, cost, sign, members)?;
-            alone(
-                setting.alloc,
-                folded(setting.alloc, junction.turned(!sign), list)?,
-            )
+            let whole = fold(setting.alloc, junction.turned(!sign), list)?;
+            Ok(alone(setting.alloc, whole)?)
         }
         Nnf::Quantified(quantifier, x, inner) => {
             quantified(setting, cost, names, sign, *quantifier, *x, inner)
@@ -104,8 +106,9 @@ fn closed(
     ensures proper { IfOk result (λ v. AreProper v.items) }
 {
     let left = chained(setting, cost, Vec::new(setting.alloc), inner_sign, x, f)?;
-    let whole = folded(setting.alloc, Junction::Or, left)?;
-    alone(setting.alloc, turned(setting.alloc, sign, whole)?)
+    let whole = fold(setting.alloc, Junction::Disjunction, left)?;
+    let whole = turned(setting.alloc, sign, whole)?;
+    Ok(alone(setting.alloc, whole)?)
 }
 
 // Each member, or for false its negation, without quantifiers.
@@ -124,8 +127,8 @@ fn all_together(
     let mut made = Vec::new(setting.alloc);
     for f in fs.items() {
         let left = branches(setting, cost, Vec::new(setting.alloc), sign, f)?;
-        let whole = folded(setting.alloc, Junction::Or, left)?;
-        made.push(whole).map_err(|_| Measured::Memory)?;
+        let whole = fold(setting.alloc, Junction::Disjunction, left)?;
+        made.push(whole)?;
     }
     Ok(made)
 }

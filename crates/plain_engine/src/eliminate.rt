@@ -12,10 +12,9 @@ ghost use Rattle.plain_engine.specs.Told.{StopsWith};
 
 use crate::branches::branches;
 use crate::measured::{Measured, Setting, pay};
-use crate::parts::{folded, resolved};
 use atom_normal::Context;
 use formula_tree::Tree;
-use nnf_trees::{Junction, Nnf, form_sizes, normal_form};
+use nnf_trees::{Junction, Nnf, fold, form_sizes, into_tree, normal_form};
 use std::alloc::Global;
 
 /// The reference elimination of a tree over normal atoms: a formula without quantifiers that is equivalent to the tree, has no
@@ -37,7 +36,7 @@ pub fn eliminate_plain(
     ensures stops { IfErr result (λ e. StopsWith e (reference (context_of context) limit (tree_of tree.now))) }
 {
     let answer = eliminate_form(alloc, tree, context, limit)?;
-    resolved(alloc, answer)
+    Ok(into_tree(alloc, answer)?)
 }
 
 /// As `eliminate_plain`, the answer in negation normal form, whose atoms are well formed.
@@ -62,7 +61,7 @@ pub fn eliminate_form(
     };
     let mut cost = 0;
     pay(limit, &mut cost, form_sizes(tree).plain)?;
-    let form = normal_form(alloc, tree, false).map_err(|_| Measured::Memory)?;
+    let form = normal_form(alloc, tree, false)?;
     let left = branches(setting, &mut cost, Vec::new(alloc), true, &form)?;
-    folded(alloc, Junction::Or, left)
+    Ok(fold(alloc, Junction::Disjunction, left)?)
 }

@@ -2,9 +2,10 @@ ghost use Rattle.std.specs.Prelude.{ℕ, SomeIff, ◌<◌, ◌^◌, ◌≡◌};
 ghost use Rattle.formula_meaning.specs.Measured.{pay};
 ghost use Rattle.nnf_trees.specs.Forms.{limited};
 ghost use Rattle.plain_engine.specs.Told.{Told, the_unit};
+ghost use Rattle.plain_engine.specs.declared.measured.Measured.TheVariants.{Memory};
 
 use atom_normal::Context;
-use std::alloc::{AllocError, Global};
+use std::alloc::{AllocError, AllocFailed, Global};
 use thiserror::Error;
 
 /// What stops a measured computation.
@@ -19,6 +20,22 @@ pub enum Measured {
     /// There is no memory left.
     #[error("out of memory")]
     Memory,
+}
+
+impl From<AllocError> for Measured {
+    ghost from_gives = { λ _ e. e ≡ Memory };
+
+    fn from(_error: AllocError) -> Measured {
+        Measured::Memory
+    }
+}
+
+impl<T: Drop> From<AllocFailed<T>> for Measured {
+    ghost from_gives = { λ _ e. e ≡ Memory };
+
+    fn from(_error: AllocFailed<T>) -> Measured {
+        Measured::Memory
+    }
 }
 
 /// What stays the same during a computation.

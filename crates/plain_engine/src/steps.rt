@@ -31,7 +31,7 @@ pub(crate) fn steps(
     let mut left = Vec::new(setting.alloc);
     for branch in branches {
         let mut made = one_step(setting, cost, x, branch)?;
-        left.append(&mut made).map_err(|_| Measured::Memory)?;
+        left.append(&mut made)?;
     }
     Ok(left)
 }
@@ -43,11 +43,11 @@ fn one_step(setting: Setting, cost: &mut u64, x: VarId, branch: Nnf) -> Result<V
     ensures told { Told (λ v. formulas_of v.items) result cost.new (seen (one_step (context_of setting.context) setting.limit x.number (bare (nnf_of branch)) cost.old)) }
     ensures proper { IfOk result (λ v. AreProper v.items) }
 {
-    let atoms = distinct_atoms(setting.alloc, &branch).map_err(|_| Measured::Memory)?;
+    let atoms = distinct_atoms(setting.alloc, &branch)?;
     if stands_in_some(&atoms, x) {
         full_step(setting, cost, x, &atoms, &branch)
     } else {
-        alone(setting.alloc, branch)
+        Ok(alone(setting.alloc, branch)?)
     }
 }
 

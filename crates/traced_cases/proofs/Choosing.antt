@@ -1,18 +1,19 @@
 -- The first leaf that is true.
 use Rattle.std.proofs.Common.{◌≡◌, ℕ, Bool, true, false, List, [], ◌∷◌, Some, None, refl, sym, ap, ◌∙◌, subst, inl, inr}
+use Rattle.formula_meaning.specs.Fold.{joined}
+use Rattle.formula_meaning.specs.Shape.{quantified}
+use Rattle.formula_meaning.specs.declared.quantifier.Quantifier.TheVariants.{Exists, ForAll}
+use Rattle.formula_meaning.specs.declared.junction.Junction.TheVariants.{Conjunction, Disjunction}
 use Rattle.formula_meaning.specs.Formula.{Yes}
-use Rattle.formula_meaning.specs.Fold as folding
 use Rattle.formula_meaning.specs.Some.{Among}
 use Rattle.formula_meaning.specs.Tree.{Tree, Trees}
 use Rattle.elimination_theory.specs.Answers.{Step}
 use Rattle.elimination_reference.specs.Reference.{Branch}
 use Rattle.elimination_reference.specs.Sample.{if_true, first_true}
 use Rattle.atom_normal.specs.NormalForm.{constant_tree}
-use Rattle.nnf_trees.specs.declared.nnf.Junction.{Junction}
-use Rattle.nnf_trees.specs.declared.nnf.Junction.TheVariants as junction
-use Rattle.nnf_trees.specs.declared.nnf.Quantifier.{Quantifier}
-use Rattle.nnf_trees.specs.declared.nnf.Quantifier.TheVariants as quantifier
-use Rattle.nnf_trees.specs.Nnfs.{nnf_of, junction_of, quantified}
+use Rattle.formula_meaning.specs.declared.junction.Junction.{Junction}
+use Rattle.formula_meaning.specs.declared.quantifier.Quantifier.{Quantifier}
+use Rattle.nnf_trees.specs.Nnfs.{nnf_of}
 use Rattle.plain_cases.specs.declared.branch.Leaf.{Leaf}
 use Rattle.plain_cases.specs.Stand.{StandFor}
 use Rattle.traced_cases.specs.First.{is_yes, IsFirst}
@@ -25,13 +26,13 @@ pub yes_constant : (b : Bool) → is_yes (constant_tree b) ≡ b
 yes_constant true = refl
 yes_constant false = refl
 
-pub yes_joined : (j : Junction) (fs : Trees) → is_yes (folding.joined (junction_of j) fs) ≡ false
-yes_joined junction.And fs = refl
-yes_joined junction.Or fs = refl
+pub yes_joined : (j : Junction) (fs : Trees) → is_yes (joined j fs) ≡ false
+yes_joined Conjunction fs = refl
+yes_joined Disjunction fs = refl
 
 pub yes_quantified : (q : Quantifier) (y : ℕ) (f : Tree) → is_yes (quantified q y f) ≡ false
-yes_quantified quantifier.Ex y f = refl
-yes_quantified quantifier.All y f = refl
+yes_quantified Exists y f = refl
+yes_quantified ForAll y f = refl
 
 pub ruleset trues = (yes_constant, yes_joined, yes_quantified)
 

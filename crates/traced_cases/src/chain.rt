@@ -1,5 +1,5 @@
 // The leading quantifiers, from the inside out, with the formula in which they begin.
-ghost use Rattle.std.specs.Prelude.{◌≡◌, ℕ, List, false, IfOk, IfErr};
+ghost use Rattle.std.specs.Prelude.{◌≡◌, ℕ, List, false, IfOk};
 ghost use Rattle.formula_meaning.specs.Some.{EachOf};
 ghost use Rattle.atom_normal.specs.Atoms.{context_of};
 ghost use Rattle.elimination_reference.specs.Reference.{Branch, branches, steps};
@@ -16,7 +16,7 @@ use nnf_trees::Nnf;
 use plain_cases::{Leaf, case_steps, without_points};
 use plain_engine::branches::branches;
 use plain_engine::{Measured, Setting, before, is_ex, stands_in};
-use std::alloc::Global;
+use std::alloc::{AllocError, Global};
 
 /// Leaves, and the formula behind the leading quantifiers from which their points led to them.
 #[derive(Drop)]
@@ -25,15 +25,14 @@ pub(crate) struct Rooted {
     pub leaves: Vec<Leaf>,
 }
 
-// A copy of the first formula, true where there is none. The only error is `Memory`.
-fn first_copied(alloc: Global, formulas: &[Nnf]) -> Result<Nnf, Measured>
+// A copy of the first formula, true where there is none.
+fn first_copied(alloc: Global, formulas: &[Nnf]) -> Result<Nnf, AllocError>
     requires { AreProper formulas.now }
     ensures formula { IfOk result (λ f. nnf_of f ≡ first_or_yes (formulas_of formulas.now)) }
     ensures proper { IfOk result IsProper }
-    ensures memory { IfErr result (λ e. e ≡ Measured.Memory) }
 {
     match formulas.first() {
-        Some(formula) => copied(alloc, formula).map_err(|_| Measured::Memory),
+        Some(formula) => copied(alloc, formula),
         None => Ok(Nnf::Constant(true)),
     }
 }

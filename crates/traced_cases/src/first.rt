@@ -111,6 +111,6 @@ pub fn first_true_steps(
         limit,
     };
     pay(limit, cost, form_sizes(tree).plain)?;
-    let form = normal_form(alloc, tree, false).map_err(|_| Measured::Memory)?;
+    let form = normal_form(alloc, tree, false)?;
     true_steps(setting, cost, is_asked(&form), &form)
 }

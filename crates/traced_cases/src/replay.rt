@@ -1,5 +1,5 @@
 // Steps taken again.
-ghost use Rattle.std.specs.Prelude.{◌≡◌, true, All, reverse, IfOk, IfErr};
+ghost use Rattle.std.specs.Prelude.{◌≡◌, true, All, reverse, IfOk};
 ghost use Rattle.formula_meaning.specs.Tree.{InContext};
 ghost use Rattle.elimination_theory.specs.BothTheories.{IsPlaceIn};
 ghost use Rattle.elimination_theory.specs.Steps.{result_at};
@@ -17,12 +17,11 @@ use crate::step::Step;
 use atom_normal::Context;
 use nnf_substitution::{distinct_atoms, formula_at, stands_in_some};
 use nnf_trees::Nnf;
-use plain_engine::{Measured, stopped};
-use std::alloc::Global;
+use std::alloc::{AllocError, Global};
 use test_points::TestPoint;
 
-// What a step of elimination leaves of the formula at the point, where no number passes the limit. The only error is `Memory`.
-fn put(alloc: Global, context: Context, f: &Nnf, point: &TestPoint) -> Result<Nnf, Measured>
+// What a step of elimination leaves of the formula at the point, where no number passes the limit.
+fn put(alloc: Global, context: Context, f: &Nnf, point: &TestPoint) -> Result<Nnf, AllocError>
     requires proper { IsProper f.now }
     requires in_context { InContext (context_of context) (nnf_of f.now) }
     requires test_point { IsTestPoint point.now }
@@ -30,42 +29,36 @@ fn put(alloc: Global, context: Context, f: &Nnf, point: &TestPoint) -> Result<Nn
     requires within { point_within (context_of context) point.now.name.number (nnf_of f.now) (place_of point.now) ≡ true }
     ensures formula { IfOk result (λ g. nnf_of g ≡ result_at (context_of context) (normal_atom (context_of context)) point.now.name.number (place_of point.now) (nnf_of f.now)) }
     ensures proper { IfOk result IsProper }
-    ensures memory { IfErr result (λ e. e ≡ Measured.Memory) }
 {
-    match formula_at(alloc, context, f, point) {
-        Ok(left) => Ok(left),
-        Err(error) => Err(stopped(error)),
-    }
+    formula_at(alloc, context, f, point).map_err(|_| AllocError)
 }
 
-// What the step leaves of the formula; where the point's name stands in no atom it stays. The only error is `Memory`.
-fn after(alloc: Global, context: Context, f: &Nnf, point: &TestPoint) -> Result<Nnf, Measured>
+// What the step leaves of the formula; where the point's name stands in no atom it stays.
+fn after(alloc: Global, context: Context, f: &Nnf, point: &TestPoint) -> Result<Nnf, AllocError>
     requires proper { IsProper f.now }
     requires takable { IsTakable (context_of context) (nnf_of f.now) point.now }
     ensures formula { IfOk result (λ g. nnf_of g ≡ after_step (context_of context) (taken (nnf_of f.now) point.now)) }
     ensures proper { IfOk result IsProper }
-    ensures memory { IfErr result (λ e. e ≡ Measured.Memory) }
 {
-    let atoms = distinct_atoms(alloc, f).map_err(|_| Measured::Memory)?;
+    let atoms = distinct_atoms(alloc, f)?;
     if stands_in_some(&atoms, point.name) {
         put(alloc, context, f, point)
     } else {
-        copied(alloc, f).map_err(|_| Measured::Memory)
+        copied(alloc, f)
     }
 }
 
-// The steps that the points take from the formula, the first one first. The only error is `Memory`.
+// The steps that the points take from the formula, the first one first.
 fn steps_along(
     alloc: Global,
     context: Context,
     root: Nnf,
     points: Vec<TestPoint>,
-) -> Result<Vec<Step>, Measured>
+) -> Result<Vec<Step>, AllocError>
     requires proper { IsProper root }
     requires takable { AreTakable (context_of context) (nnf_of root) points.items }
     ensures steps { IfOk result (λ v. steps_of v.items ≡ taken_from (context_of context) (nnf_of root) points.items) }
     ensures sound { IfOk result (λ v. All (IsStep (context_of context)) v.items) }
-    ensures memory { IfErr result (λ e. e ≡ Measured.Memory) }
 {
     let mut steps = Vec::new(alloc);
     let mut formula = root;
@@ -75,24 +68,23 @@ fn steps_along(
             point,
             branch: formula,
         };
-        steps.push(step).map_err(|_| Measured::Memory)?;
+        steps.push(step)?;
         formula = left;
     }
     Ok(steps)
 }
 
-/// The steps that the points take from the formula, the last one first, as the points stand. The only error is `Memory`.
+/// The steps that the points take from the formula, the last one first, as the points stand.
 pub(crate) fn steps_back(
     alloc: Global,
     context: Context,
     root: Nnf,
     points: Vec<TestPoint>,
-) -> Result<Vec<Step>, Measured>
+) -> Result<Vec<Step>, AllocError>
     requires proper { IsProper root }
     requires takable { AreTakable (context_of context) (nnf_of root) (reverse points.items) }
     ensures steps { IfOk result (λ v. steps_of v.items ≡ reverse (taken_from (context_of context) (nnf_of root) (reverse points.items))) }
     ensures sound { IfOk result (λ v. All (IsStep (context_of context)) v.items) }
-    ensures memory { IfErr result (λ e. e ≡ Measured.Memory) }
 {
     let mut points = points;
     points.reverse();

@@ -3,7 +3,7 @@ use Rattle.formula_meaning.specs.Fold.{pieces_of}
 use Rattle.formula_meaning.specs.Every.{Every, EveryOf}
 use Rattle.atom_normal.specs.Atoms.{IsWellFormed}
 use Rattle.nnf_trees.specs.declared.nnf.Nnf.{Nnf}
-use Rattle.nnf_trees.specs.Nnfs.{nnf_of, junction_of, nnf_atoms}
+use Rattle.nnf_trees.specs.Nnfs.{nnf_of, nnf_atoms}
 use Rattle.nnf_trees.proofs.NnfEquations.{nnf-Constant, nnf-One, nnf-Joined, nnf-Quantified, atoms-Joined}
 use Rattle.nnf_trees.proofs.Pieces.{Formulas_of, constant_gives, atom_gives, quantified_gives, other_gives, same_gives, itself_put, members_put, itself_proper, members_proper}
 use Rattle.nnf_trees.proofs.folding.gather.Goals as goal
@@ -35,7 +35,7 @@ returns-in_ok-push-in-Quantified-clause-proper c =
 pub returns-in_ok-append-in-Joined-clause-pieces : goal.returns-in_ok-append-in-Joined-clause-pieces
 returns-in_ok-append-in-Joined-clause-pieces c =
     members_put c.args.junction c.args.member c.into_items.result.items c.args.pieces.now.items c.append.new.self.items
-    (ap (λ (f : Nnf). pieces_of (junction_of c.args.junction) (nnf_of f)) c.in-Joined.is ∙ ap (pieces_of (junction_of c.args.junction)) (nnf-Joined _ _)
+    (ap (λ (f : Nnf). pieces_of c.args.junction (nnf_of f)) c.in-Joined.is ∙ ap (pieces_of c.args.junction) (nnf-Joined _ _)
     ∙ same_gives c.args.junction c.in-Joined.other _ (sym c.eq-in-Joined.ensures ∙ c.if-eq.true) ∙ ap Some c.into_items.ensures.formulas)
     c.in_ok-append-in-Joined.ensures.items
 

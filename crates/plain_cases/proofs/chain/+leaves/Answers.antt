@@ -1,13 +1,13 @@
 use Rattle.std.proofs.Common.{rules, arith, ◌≡◌, ◌∷◌, true, false, List, Err, suc, nat_eq, sym, ap, ◌∙◌, subst}
 use Rattle.formula_meaning.specs.Every.{Every}
-use Rattle.formula_meaning.specs.Shape.{is_in}
+use Rattle.formula_meaning.specs.Shape.{is_in, quantified}
 use Rattle.formula_meaning.specs.Sizes.{nodes}
 use Rattle.atom_normal.specs.Atoms.{context_of, IsWellFormed}
 use Rattle.formula_meaning.specs.Measured.{then_of}
 use Rattle.elimination_reference.specs.Reference.{branches, branch_trees, steps}
 use Rattle.linear_forms.specs.declared.form.VarId.{VarId}
 use Rattle.nnf_trees.specs.declared.nnf.Nnf.{Nnf}
-use Rattle.nnf_trees.specs.Nnfs.{nnf_of, nnf_atoms, quantified, IsProper}
+use Rattle.nnf_trees.specs.Nnfs.{nnf_of, nnf_atoms, IsProper}
 use Rattle.nnf_trees.proofs.NnfEquations.{nnf-Quantified, atoms-Quantified}
 use Rattle.nnf_trees.proofs.FormLaws.{quantified_nodes}
 use Rattle.plain_engine.specs.Ready.{IsReady}

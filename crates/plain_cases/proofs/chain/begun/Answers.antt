@@ -4,7 +4,7 @@ use Rattle.formula_meaning.specs.Measured.{done, then_of}
 use Rattle.elimination_reference.specs.Reference.{branches}
 use Rattle.nnf_trees.specs.Nnfs.{nnf_of}
 use Rattle.plain_engine.specs.Told.{numbers, formulas_of, all_bare}
-use Rattle.plain_cases.proofs.Standing.{tells_known}
+use Rattle.plain_cases.proofs.Standing.{tells_of}
 use Rattle.plain_cases.proofs.Chaining.{begun_bare}
 use Rattle.plain_cases.proofs.chain.begun.Goals as goal
 
@@ -16,4 +16,4 @@ returns-clause-told c =
     let fs = formulas_of c.in_ok-formulas.formulas.items in
     let is : branches o c.args.setting.limit names c.args.sign f c.args.cost.now ≡ done (all_bare fs, c.branches.new.cost)
     = begun_bare o c.args.setting.limit names c.args.sign f c.args.cost.now c.requires.begins ∙ ap (λ q. then_of q (λ r. done (all_bare r.0, r.1))) c.in_ok-formulas.ensures.told in
-    tells_known c.without_points.result (all_bare fs) c.branches.new.cost (branches o c.args.setting.limit names c.args.sign f c.args.cost.now) is c.without_points.ensures.stand c.without_points.ensures.memory
+    tells_of c.in_ok-without_points.field-0.items (all_bare fs) c.branches.new.cost (branches o c.args.setting.limit names c.args.sign f c.args.cost.now) is c.in_ok-without_points.ensures.stand

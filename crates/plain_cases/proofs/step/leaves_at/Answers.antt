@@ -46,7 +46,8 @@ loop-point-preserved c =
       | then-not-is_false+in_ok-points+in_ok-map_err w ↦
           let next : Leaf = record { formula = formula; points = w.in_ok-points.points } in
           let pushed : w.push.new.self.items ≡ made ++ next ∷ [] = search rules in
-          let items : w.in_ok-points.points.items ≡ t ∷ leaf.points.items = w.in_ok-points.ensures.items ∙ ap (λ (ts : List TestPoint). t ∷ ts) w.deref.ensures.value in
+          let copied : w.in_ok-points.points.items ≡ t ∷ w.deref.result.now = search rules in
+          let items : w.in_ok-points.points.items ≡ t ∷ leaf.points.items = copied ∙ ap (λ (ts : List TestPoint). t ∷ ts) w.deref.ensures.value in
           subst (λ (v : Vec Leaf Global). Keeps c v.items) (sym w.left-is)
           (record {
             left = left_with o leaf x made w.push.new.self.items next t rest points before at.formula (sym c.is_false.ensures ∙ w.if-not-is_false.true) at.within is items pushed;

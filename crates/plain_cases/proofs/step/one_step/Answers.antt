@@ -6,9 +6,7 @@ use Rattle.atom_normal.specs.declared.atoms.Atom.{Atom}
 use Rattle.atom_normal.specs.Atoms.{atom_of, context_of}
 use Rattle.nnf_trees.specs.Nnfs.{nnf_of}
 use Rattle.nnf_substitution.proofs.ResultLaws.{stands_once}
-use Rattle.plain_engine.proofs.Arms.{if_ok_also}
-use Rattle.plain_cases.specs.Stand.{StandFor}
-use Rattle.plain_cases.proofs.Standing.{tells_along, tells_known}
+use Rattle.plain_cases.proofs.Standing.{tells_along, tells_of}
 use Rattle.plain_cases.proofs.Stepping.{one_full, one_kept}
 use Rattle.plain_cases.proofs.step.one_step.Goals as goal
 
@@ -23,14 +21,14 @@ returns-then-stands_in_some-clause-told c = λ b h.
     tells_along c.full_step.result c.full_step.new.cost (full_step o c.args.setting.limit x b c.args.cost.now) (one_step o c.args.setting.limit x b c.args.cost.now)
     (sym (one_full o c.args.setting.limit x b c.args.cost.now (subst (λ (g : Tree). stands_among x (atoms_in g) ≡ true) h.formula stands))) (c.full_step.ensures.told b h)
 
-pub returns-else-stands_in_some-clause-told : goal.returns-else-stands_in_some-clause-told
-returns-else-stands_in_some-clause-told c = λ b h.
+pub returns-in_ok-at_zero-clause-told : goal.returns-in_ok-at_zero-clause-told
+returns-in_ok-at_zero-clause-told c = λ b h.
     let o = context_of c.args.setting.context in
     let x = c.args.x.number in
     let f = nnf_of c.args.leaf.formula in
     let listed : map atom_of c.in_ok-atoms.atoms.items ≡ atoms_of f = search rules in
     let stands : stands_among x (atoms_in f) ≡ false
     = sym (ap (λ (bs : List Atom). stands_among x (map atom_of bs)) c.deref.ensures.value ∙ ap (stands_among x) listed ∙ stands_once x f) ∙ sym c.stands_in_some.ensures ∙ c.if-stands_in_some.false in
-    tells_known c.at_zero.result (kept_at_zero x b ∷ []) c.args.cost.now (one_step o c.args.setting.limit x b c.args.cost.now)
+    tells_of c.in_ok-at_zero.field-0.items (kept_at_zero x b ∷ []) c.args.cost.now (one_step o c.args.setting.limit x b c.args.cost.now)
     (one_kept o c.args.setting.limit x b c.args.cost.now (subst (λ (g : Tree). stands_among x (atoms_in g) ≡ false) h.formula stands))
-    (if_ok_also c.at_zero.result _ (λ v. StandFor v.items (kept_at_zero x b ∷ [])) c.at_zero.ensures.stand (λ v k. k b h)) c.at_zero.ensures.memory
+    (c.in_ok-at_zero.ensures.stand b h)

@@ -2,7 +2,7 @@ use Rattle.std.proofs.Common.{rules, ◌≡◌, ◌≤◌, ◌+◌, ◌∷◌, �
 use Rattle.std.proofs.lemmas.List.{at_drop_all}
 use Rattle.std.specs.declared.vec.Vec.{Vec}
 use Rattle.std.specs.declared.alloc.Global.{Global}
-use Rattle.formula_meaning.specs.Fold.{append, fold_list}
+use Rattle.formula_meaning.specs.Fold.{append, fold_list, turned_junction}
 use Rattle.formula_meaning.specs.declared.junction.Junction.TheVariants.{Disjunction}
 use Rattle.formula_meaning.specs.Formula.{One}
 use Rattle.formula_meaning.specs.Shape.{is_in}
@@ -11,16 +11,15 @@ use Rattle.atom_normal.specs.Atoms.{context_of, atom_of}
 use Rattle.formula_meaning.specs.Measured.{done}
 use Rattle.elimination_reference.specs.Reference.{branches, members}
 use Rattle.nnf_trees.specs.declared.nnf.Nnf.{Nnf}
-use Rattle.nnf_trees.specs.Nnfs.{nnf_of, nnfs_of, AreProper, junction_of}
+use Rattle.nnf_trees.specs.Nnfs.{nnf_of, nnfs_of, AreProper}
 use Rattle.nnf_trees.proofs.Counting.{drop_at}
 use Rattle.nnf_trees.proofs.Pieces.{itself_proper, lists_joined}
 use Rattle.nnf_trees.proofs.NnfEquations.{nnf-Constant, nnf-One, nnf-Joined}
 use Rattle.linear_forms.specs.declared.form.VarId.{VarId}
-use Rattle.nnf_trees.specs.declared.nnf.Junction.{Junction}
-use Rattle.nnf_trees.specs.Forms.{turned_junction}
+use Rattle.formula_meaning.specs.declared.junction.Junction.{Junction}
 use Rattle.plain_engine.specs.Ready.{AreReady}
 use Rattle.plain_engine.specs.Told.{closed_branches, Told, seen, formulas_of, numbers, prefixed, only, joined_after, is_ex}
-use Rattle.plain_engine.proofs.Seen.{stops_then, stops_along, err_told, ok_told, append_none}
+use Rattle.plain_engine.proofs.Seen.{stops_then, stops_along, err_told, told_as, append_none}
 use Rattle.plain_engine.proofs.Arms.{constant_branch, atom_branch, joined_branch, goes_on, ends, one_member_more}
 use Rattle.plain_engine.proofs.Arms.{true_is_not_false}
 use Rattle.plain_engine.proofs.Readiness.{branches_inside}
@@ -50,19 +49,19 @@ quantified-returns-else-exists-sign-clause-told t c =
     subst (Told (λ (v : Vec Nnf Global). formulas_of v.items) c.closed.result c.closed.new.cost)
     (sym (ends (context_of c.args.setting.context) c.args.setting.limit (numbers c.args.names.items) c.args.sign c.args.quantifier c.args.x.number (nnf_of c.args.f.now) c.args.cost.now stands)) told
 
-pub branches-returns-in-Constant-clause-told : goal.branches-returns-in-Constant-clause-told
-branches-returns-in-Constant-clause-told t c =
-    ok_told (λ (v : Vec Nnf Global). formulas_of v.items) c.alone.result _ c.args.cost.now _ c.alone.ensures.alone c.alone.ensures.memory
+pub branches-returns-in_ok-alone-in-Constant-clause-told : goal.branches-returns-in_ok-alone-in-Constant-clause-told
+branches-returns-in_ok-alone-in-Constant-clause-told t c =
+    told_as (λ (v : Vec Nnf Global). formulas_of v.items) c.in_ok-alone-in-Constant.field-0 _ c.args.cost.now _ c.in_ok-alone-in-Constant.ensures.alone
     (ap (λ f. seen (branches (context_of c.args.setting.context) c.args.setting.limit (numbers c.args.names.items) c.args.sign f c.args.cost.now)) (ap nnf_of c.in-Constant.is ∙ nnf-Constant c.in-Constant.truth)
     ∙ constant_branch (context_of c.args.setting.context) c.args.setting.limit (numbers c.args.names.items) c.args.sign c.in-Constant.truth c.args.cost.now
     ∙ ap (λ f. done (only f, c.args.cost.now)) (sym (nnf-Constant (beq c.in-Constant.truth c.args.sign))))
 
-pub branches-returns-in_ok-signed-in-One-clause-told : goal.branches-returns-in_ok-signed-in-One-clause-told
-branches-returns-in_ok-signed-in-One-clause-told t c =
-    ok_told (λ (v : Vec Nnf Global). formulas_of v.items) c.alone-in-One.result _ c.args.cost.now _ c.alone-in-One.ensures.alone c.alone-in-One.ensures.memory
+pub branches-returns-in_ok-alone-in-One-clause-told : goal.branches-returns-in_ok-alone-in-One-clause-told
+branches-returns-in_ok-alone-in-One-clause-told t c =
+    told_as (λ (v : Vec Nnf Global). formulas_of v.items) c.in_ok-alone-in-One.field-0 _ c.args.cost.now _ c.in_ok-alone-in-One.ensures.alone
     (ap (λ f. seen (branches (context_of c.args.setting.context) c.args.setting.limit (numbers c.args.names.items) c.args.sign f c.args.cost.now)) (ap nnf_of c.in-One.is ∙ nnf-One c.in-One.atom)
     ∙ atom_branch (context_of c.args.setting.context) c.args.setting.limit (numbers c.args.names.items) c.args.sign (atom_of c.in-One.atom) c.args.cost.now
-    ∙ ap (λ f. done (only f, c.args.cost.now)) (ap One (sym c.in_ok-signed-in-One.ensures.atom) ∙ sym (nnf-One c.in_ok-signed-in-One.field-0)))
+    ∙ ap (λ f. done (only f, c.args.cost.now)) (ap One (sym c.in_ok-atom-in-One.ensures.atom) ∙ sym (nnf-One c.in_ok-atom-in-One.atom)))
 
 pub branches-returns-in_err-list-in-Joined-clause-told : goal.branches-returns-in_err-list-in-Joined-clause-told
 branches-returns-in_err-list-in-Joined-clause-told t c =
@@ -74,15 +73,15 @@ branches-returns-in_err-list-in-Joined-clause-told t c =
     ∙ joined_branch (context_of c.args.setting.context) c.args.setting.limit (numbers c.args.names.items) c.args.sign c.in-Joined.junction (nnfs_of c.in-Joined.members) c.args.cost.now))
     (stops_then e (members (context_of c.args.setting.context) c.args.setting.limit c.args.sign (nnfs_of c.in-Joined.members) c.args.cost.now) _ c.in_err-list-in-Joined.ensures.told))
 
-pub branches-returns-in_ok-folded-in-Joined-clause-told : goal.branches-returns-in_ok-folded-in-Joined-clause-told
-branches-returns-in_ok-folded-in-Joined-clause-told t c =
+pub branches-returns-in_ok-alone-in-Joined-clause-told : goal.branches-returns-in_ok-alone-in-Joined-clause-told
+branches-returns-in_ok-alone-in-Joined-clause-told t c =
     let j = turned_junction (not c.args.sign) c.in-Joined.junction in
-    let whole : nnf_of c.in_ok-folded-in-Joined.field-0 ≡ fold_list (junction_of j) (formulas_of c.in_ok-list-in-Joined.list.items)
-    = c.in_ok-folded-in-Joined.ensures.folded ∙ ap (λ (k : Junction). fold_list (junction_of k) (formulas_of c.in_ok-list-in-Joined.list.items)) c.turned.ensures in
-    ok_told (λ (v : Vec Nnf Global). formulas_of v.items) c.alone-in-Joined.result _ c.all_together.new.cost _ c.alone-in-Joined.ensures.alone c.alone-in-Joined.ensures.memory
+    let whole : nnf_of c.in_ok-whole-in-Joined.whole ≡ fold_list j (formulas_of c.in_ok-list-in-Joined.list.items)
+    = c.in_ok-whole-in-Joined.ensures.folded ∙ ap (λ (k : Junction). fold_list k (formulas_of c.in_ok-list-in-Joined.list.items)) c.turned.ensures in
+    told_as (λ (v : Vec Nnf Global). formulas_of v.items) c.in_ok-alone-in-Joined.field-0 _ c.all_together.new.cost _ c.in_ok-alone-in-Joined.ensures.alone
     (ap (λ f. seen (branches (context_of c.args.setting.context) c.args.setting.limit (numbers c.args.names.items) c.args.sign f c.args.cost.now)) (ap nnf_of c.in-Joined.is ∙ nnf-Joined c.in-Joined.junction c.in-Joined.members)
     ∙ joined_branch (context_of c.args.setting.context) c.args.setting.limit (numbers c.args.names.items) c.args.sign c.in-Joined.junction (nnfs_of c.in-Joined.members) c.args.cost.now
-    ∙ ap (joined_after (junction_of j)) c.in_ok-list-in-Joined.ensures.told ∙ ap (λ f. done (only f, c.all_together.new.cost)) (sym whole))
+    ∙ ap (joined_after j) c.in_ok-list-in-Joined.ensures.told ∙ ap (λ f. done (only f, c.all_together.new.cost)) (sym whole))
 
 pub all_together-loop-f-preserved : goal.all_together-loop-f-preserved
 all_together-loop-f-preserved t c =

@@ -18,27 +18,23 @@ use Rattle.plain_engine.proofs.Arms.{reference_is, if_ok_also, answer_exact}
 use Rattle.plain_engine.proofs.eliminate.eliminate_form.Goals as goal
 
 -- the formula of the reference
-is_reference : (c : goal.Joined-form-3) (t : Nnf) → nnf_of t ≡ fold_list Disjunction (formulas_of c.in_ok-left.left.items) → reference (context_of c.args.context) c.args.limit (tree_of c.args.tree.now) ≡ done (nnf_of t, c.branches.new.cost)
-is_reference c t e =
+is_reference : (c : goal.Joined-form-5) → reference (context_of c.args.context) c.args.limit (tree_of c.args.tree.now) ≡ done (nnf_of c.in_ok-fold.field-0, c.branches.new.cost)
+is_reference c =
     let f = tree_of c.args.tree.now in
     let made : nnf_of c.in_ok-form.form ≡ form false f = search rules in
     let told : seen (branches (context_of c.args.context) c.args.limit [] true (normal_tree f) c.pay.new.cost) ≡ done (formulas_of c.in_ok-left.left.items, c.branches.new.cost)
     = ap (λ g. seen (branches (context_of c.args.context) c.args.limit [] true g c.pay.new.cost)) (sym made)
     ∙ ap (λ (xs : List VarId). seen (branches (context_of c.args.context) c.args.limit (numbers xs) true (nnf_of c.in_ok-form.form) c.pay.new.cost)) (sym c.new.ensures.items) ∙ c.in_ok-left.ensures.told in
-    reference_is (context_of c.args.context) c.args.limit f (nnf_of t) c.pay.new.cost c.branches.new.cost (formulas_of c.in_ok-left.left.items) (c.in_ok-pay.ensures (nodes (form false f)) c.form_sizes.ensures.plain) told e
+    reference_is (context_of c.args.context) c.args.limit f (nnf_of c.in_ok-fold.field-0) c.pay.new.cost c.branches.new.cost (formulas_of c.in_ok-left.left.items) (c.in_ok-pay.ensures (nodes (form false f)) c.form_sizes.ensures.plain) told c.in_ok-fold.ensures.folded
 
 pub returns-clause-answer : goal.returns-clause-answer
-returns-clause-answer c = if_ok_also c.folded.result (λ t. nnf_of t ≡ fold_list Disjunction (formulas_of c.in_ok-left.left.items)) _ c.folded.ensures.folded (λ t e. (c.branches.new.cost, is_reference c t e))
+returns-clause-answer c = (c.branches.new.cost, is_reference c)
 
 pub returns-clause-exact : goal.returns-clause-exact
-returns-clause-exact c =
-    if_ok_also c.folded.result (λ t. nnf_of t ≡ fold_list Disjunction (formulas_of c.in_ok-left.left.items)) (λ t. IsAnswerTo (context_of c.args.context) (tree_of c.args.tree.now) (nnf_of t)) c.folded.ensures.folded
-    (λ t e. (answer_exact (context_of c.args.context) c.args.limit (tree_of c.args.tree.now) (nnf_of t) c.branches.new.cost (is_reference c t e) c.requires.normal).0)
+returns-clause-exact c = (answer_exact (context_of c.args.context) c.args.limit (tree_of c.args.tree.now) (nnf_of c.in_ok-fold.field-0) c.branches.new.cost (is_reference c) c.requires.normal).0
 
 pub returns-clause-small : goal.returns-clause-small
-returns-clause-small c =
-    if_ok_also c.folded.result (λ t. nnf_of t ≡ fold_list Disjunction (formulas_of c.in_ok-left.left.items)) (λ t. nodes (nnf_of t) ≤ c.args.limit) c.folded.ensures.folded
-    (λ t e. (answer_exact (context_of c.args.context) c.args.limit (tree_of c.args.tree.now) (nnf_of t) c.branches.new.cost (is_reference c t e) c.requires.normal).1)
+returns-clause-small c = (answer_exact (context_of c.args.context) c.args.limit (tree_of c.args.tree.now) (nnf_of c.in_ok-fold.field-0) c.branches.new.cost (is_reference c) c.requires.normal).1
 
 pub branches-requires-clause-ready : goal.branches-requires-clause-ready
 branches-requires-clause-ready c =

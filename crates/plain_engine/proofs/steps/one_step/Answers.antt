@@ -9,7 +9,7 @@ use Rattle.nnf_substitution.proofs.ResultLaws.{stands_once}
 use Rattle.nnf_trees.specs.declared.nnf.Nnf.{Nnf}
 use Rattle.nnf_trees.specs.Nnfs.{nnf_of}
 use Rattle.plain_engine.specs.Told.{Told, formulas_of}
-use Rattle.plain_engine.proofs.Seen.{ok_told}
+use Rattle.plain_engine.proofs.Seen.{told_as}
 use Rattle.plain_engine.proofs.Paying.{one_full, one_kept}
 use Rattle.plain_engine.proofs.steps.one_step.Goals as goal
 
@@ -21,10 +21,10 @@ returns-then-stands_in_some-clause-told c =
     = sym (ap (λ (bs : List Atom). stands_among c.args.x.number (map atom_of bs)) c.deref.ensures.value ∙ ap (stands_among c.args.x.number) listed ∙ stands_once c.args.x.number f) ∙ sym c.stands_in_some.ensures ∙ c.if-stands_in_some.true in
     subst (Told (λ (v : Vec Nnf Global). formulas_of v.items) c.full_step.result c.full_step.new.cost) (sym (one_full (context_of c.args.setting.context) c.args.setting.limit c.args.x.number f c.args.cost.now stands)) c.full_step.ensures.told
 
-pub returns-else-stands_in_some-clause-told : goal.returns-else-stands_in_some-clause-told
-returns-else-stands_in_some-clause-told c =
+pub returns-in_ok-alone-clause-told : goal.returns-in_ok-alone-clause-told
+returns-in_ok-alone-clause-told c =
     let f = nnf_of c.args.branch in
     let listed : map atom_of c.in_ok-atoms.atoms.items ≡ atoms_of f = search rules in
     let stands : stands_among c.args.x.number (atoms_in f) ≡ false
     = sym (ap (λ (bs : List Atom). stands_among c.args.x.number (map atom_of bs)) c.deref.ensures.value ∙ ap (stands_among c.args.x.number) listed ∙ stands_once c.args.x.number f) ∙ sym c.stands_in_some.ensures ∙ c.if-stands_in_some.false in
-    ok_told (λ (v : Vec Nnf Global). formulas_of v.items) c.alone.result _ c.args.cost.now _ c.alone.ensures.alone c.alone.ensures.memory (one_kept (context_of c.args.setting.context) c.args.setting.limit c.args.x.number f c.args.cost.now stands)
+    told_as (λ (v : Vec Nnf Global). formulas_of v.items) c.in_ok-alone.field-0 _ c.args.cost.now _ c.in_ok-alone.ensures.alone (one_kept (context_of c.args.setting.context) c.args.setting.limit c.args.x.number f c.args.cost.now stands)

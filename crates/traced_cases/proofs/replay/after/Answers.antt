@@ -1,4 +1,4 @@
-use Rattle.std.proofs.Common.{rules, ◌≡◌, List, true, false, map, IfOk, sym, ap, ◌∙◌}
+use Rattle.std.proofs.Common.{rules, ◌≡◌, List, true, false, map, sym, ap, ◌∙◌}
 use Rattle.elimination_theory.specs.Atoms.{atoms_in, atoms_of}
 use Rattle.elimination_theory.specs.Steps.{result_at}
 use Rattle.elimination_reference.specs.Reference.{stands_among}
@@ -43,5 +43,4 @@ returns-clause-formula c =
     let listed : map atom_of c.in_ok-atoms.atoms.items ≡ atoms_of f = search rules in
     let stands : stands_among x (atoms_in f) ≡ false
     = sym (ap (λ (bs : List Atom). stands_among x (map atom_of bs)) c.deref.ensures.value ∙ ap (stands_among x) listed ∙ stands_once x f) ∙ sym c.stands_in_some.ensures ∙ c.if-stands_in_some.false in
-    let kept : IfOk c.map_err-else-stands_in_some.result (λ g. nnf_of g ≡ f) = search rules in
-    if_ok_also c.map_err-else-stands_in_some.result (λ g. nnf_of g ≡ f) (λ g. nnf_of g ≡ after_step o (taken f t)) kept (λ g e. e ∙ after_kept o (taken f t) stands)
+    if_ok_also c.copied.result (λ g. nnf_of g ≡ f) (λ g. nnf_of g ≡ after_step o (taken f t)) c.copied.ensures.formula (λ g e. e ∙ after_kept o (taken f t) stands)
