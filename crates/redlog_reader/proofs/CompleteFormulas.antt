@@ -1,18 +1,20 @@
 -- Each formula that the grammar spells is read.
-use Rattle.std.proofs.Common.{◌≡◌, ℕ, ◌<◌, ◌≤◌, Bool, true, false, List, [], ◌∷◌, ◌++◌, sym, refl, ap, ◌∙◌, arith, append_assoc}
+use Rattle.std.proofs.Common.{◌≡◌, ℕ, ◌<◌, ◌≤◌, true, false, List, [], ◌∷◌, ◌++◌, sym, refl, ap, ◌∙◌, arith, append_assoc}
 use Rattle.std.specs.Prelude.{Some, None}
 use Rattle.formula_meaning.specs.Formula.{Yes, No, One, Not, Impl, Repl, Equiv}
+use Rattle.formula_meaning.specs.declared.junction.Junction.TheVariants.{Conjunction, Disjunction}
+use Rattle.formula_meaning.specs.declared.quantifier.Quantifier.{Quantifier}
+use Rattle.formula_meaning.specs.declared.quantifier.Quantifier.TheVariants.{Exists, ForAll}
 use Rattle.qe_syntax.specs.declared.tree.Relation.{Relation}
 use Rattle.qe_syntax.specs.Trees.{Compare, Cong, Ncong, FormulaTree}
 use Rattle.redlog_tokens.specs.declared.terminal.Terminal.{Terminal}
 use Rattle.redlog_tokens.specs.declared.terminal.Terminal.TheVariants as terminal
 use Rattle.redlog_tokens.specs.declared.terminal.Mark.TheVariants as mark
 use Rattle.redlog_tokens.specs.declared.terminal.Word.TheVariants as word
-use Rattle.redlog_reader.specs.declared.pending.Connective.TheVariants as connective
 use Rattle.redlog_reader.specs.declared.pending.Arrow.TheVariants as arrow
-use Rattle.redlog_reader.specs.Machine.{Reading, Formula, Bare, formula_of, Frame, Group, Quantifier, Congruence, Negation, Compares, Listed, Arrows}
+use Rattle.redlog_reader.specs.Machine.{Reading, Formula, Bare, formula_of, Frame, Group, Quantified, Congruence, Negation, Compares, Listed, Arrows}
 use Rattle.redlog_reader.specs.Machine.{Wants, Fresh, Held, Binding, NameWanted, NameRead, Fails, Moves, strength, takes, listed, grouped, pushed, compares, congruence_of, operated, held, run}
-use Rattle.redlog_reader.specs.Grammar.{conjunction_of, disjunction_of, quantified}
+use Rattle.redlog_reader.specs.Grammar.{conjunction_of, disjunction_of, quantified_names}
 use Rattle.redlog_reader.specs.Grammar.{IsRelation, relation_sign, relation_word, SpellsComparison, comparison, SpellsCongruence, congruent, incongruent, Names, last_name, more_names, SpellsNames, one_name, many_names}
 use Rattle.redlog_reader.specs.Grammar.{SpellsPrime, truth, falsity, named_formula, congruence, inner_formula, exists, for_all, SpellsNegation, negation, compared, prime, SpellsConjunction, conjunction, Conjuncts, no_conjunct, conjunct, SpellsDisjunction, disjunction, Disjuncts, no_disjunct, disjunct}
 use Rattle.redlog_reader.specs.Grammar.{SpellsImplication, no_implication, implication, SpellsReplication, replication, Repls, no_repl, repl, SpellsFormula, equivalence, Equivs, no_equiv, equiv}
@@ -66,50 +68,50 @@ complete_congruence goal fs {rest = rest} (incongruent {us = us} {vs = vs} {s = 
           ∙ moves goal (terminal.Mark mark.Close) rest (Congruence false (s ∷ t ∷ []) ∷ fs) (Held three.reading) (is_term three.reading (λ x. Moves fs (Fresh (Formula (congruence_of false s t x)))) Fails three.is);
     }
 
-names_read : (goal : ℕ) (fs : List Frame) (universal : Bool) {ts rest : List Terminal} {xs : List (List ℕ)} → Names ts xs rest → (ys : List (List ℕ))
-    → run goal ts fs (NameWanted universal ys) ≡ run goal rest fs (NameRead universal (ys ++ xs))
-names_read goal fs universal last_name ys = refl
-names_read goal fs universal {rest = rest} (more_names {x = x} {xs = xs} p) ys =
-    names_read goal fs universal p (ys ++ x ∷ []) ∙ ap (λ zs. run goal rest fs (NameRead universal zs)) (append_assoc ys (x ∷ []) xs)
+names_read : (goal : ℕ) (fs : List Frame) (quantifier : Quantifier) {ts rest : List Terminal} {xs : List (List ℕ)} → Names ts xs rest → (ys : List (List ℕ))
+    → run goal ts fs (NameWanted quantifier ys) ≡ run goal rest fs (NameRead quantifier (ys ++ xs))
+names_read goal fs quantifier last_name ys = refl
+names_read goal fs quantifier {rest = rest} (more_names {x = x} {xs = xs} p) ys =
+    names_read goal fs quantifier p (ys ++ x ∷ []) ∙ ap (λ zs. run goal rest fs (NameRead quantifier zs)) (append_assoc ys (x ∷ []) xs)
 
-binding : (goal : ℕ) (fs : List Frame) (universal : Bool) {ts us : List Terminal} {xs : List (List ℕ)} → SpellsNames ts xs (terminal.Mark mark.Comma ∷ us)
-    → run goal ts fs (Binding universal) ≡ run goal us (Quantifier universal xs ∷ fs) Wants
-binding goal fs universal one_name = refl
-binding goal fs universal (many_names p) = names_read goal fs universal p []
+binding : (goal : ℕ) (fs : List Frame) (quantifier : Quantifier) {ts us : List Terminal} {xs : List (List ℕ)} → SpellsNames ts xs (terminal.Mark mark.Comma ∷ us)
+    → run goal ts fs (Binding quantifier) ≡ run goal us (Quantified quantifier xs ∷ fs) Wants
+binding goal fs quantifier one_name = refl
+binding goal fs quantifier (many_names p) = names_read goal fs quantifier p []
 
 -- the members that have been read so far, with the last one held
 data HoldsConjuncts (fs : List Frame) : List FormulaTree → List Frame → Reading → Type 0 where
   HoldsConjuncts_alone : {h : Reading} {f : FormulaTree} → formula_of h ≡ Some f → HoldsConjuncts fs (f ∷ []) fs h
-  HoldsConjuncts_after : {h : Reading} {f : FormulaTree} {gs : List FormulaTree} → formula_of h ≡ Some f → HoldsConjuncts fs (gs ++ f ∷ []) (Listed connective.And gs ∷ fs) h
+  HoldsConjuncts_after : {h : Reading} {f : FormulaTree} {gs : List FormulaTree} → formula_of h ≡ Some f → HoldsConjuncts fs (gs ++ f ∷ []) (Listed Conjunction gs ∷ fs) h
 
-listed_and : (goal : ℕ) (fs : List Frame) (f : FormulaTree) → 4 ≤ takes goal fs → listed connective.And fs f ≡ (f ∷ [], fs)
-listed_and goal (Listed connective.And gs ∷ fs) f le = absurd (omega (arith, le))
+listed_and : (goal : ℕ) (fs : List Frame) (f : FormulaTree) → 4 ≤ takes goal fs → listed Conjunction fs f ≡ (f ∷ [], fs)
+listed_and goal (Listed Conjunction gs ∷ fs) f le = absurd (omega (arith, le))
 listed_and goal fs f le = refl
 
 and_more : (goal : ℕ) {fs gs : List Frame} {h : Reading} {before : List FormulaTree} → 4 ≤ takes goal fs → HoldsConjuncts fs before gs h
-    → held goal (terminal.Word word.And) gs h ≡ Moves (Listed connective.And before ∷ fs) Wants
+    → held goal (terminal.Word word.And) gs h ≡ Moves (Listed Conjunction before ∷ fs) Wants
 and_more goal {fs = fs} {h = h} le (HoldsConjuncts_alone {f = f} e) =
-    within goal (terminal.Word word.And) fs h le ∙ is_formula h (λ f. pushed goal (Listed connective.And (listed connective.And fs f).0) (listed connective.And fs f).1) Fails e
-    ∙ ap (λ p. pushed goal (Listed connective.And p.0) p.1) (listed_and goal fs f le) ∙ put goal (Listed connective.And (f ∷ [])) fs le
+    within goal (terminal.Word word.And) fs h le ∙ is_formula h (λ f. pushed goal (Listed Conjunction (listed Conjunction fs f).0) (listed Conjunction fs f).1) Fails e
+    ∙ ap (λ p. pushed goal (Listed Conjunction p.0) p.1) (listed_and goal fs f le) ∙ put goal (Listed Conjunction (f ∷ [])) fs le
 and_more goal {fs = fs} {h = h} le (HoldsConjuncts_after {f = f} {gs = gs} e) =
-    is_formula h (λ f. pushed goal (Listed connective.And (gs ++ f ∷ [])) fs) Fails e ∙ put goal (Listed connective.And (gs ++ f ∷ [])) fs le
+    is_formula h (λ f. pushed goal (Listed Conjunction (gs ++ f ∷ [])) fs) Fails e ∙ put goal (Listed Conjunction (gs ++ f ∷ [])) fs le
 
 -- the members that have been read so far, with the last one held
 data HoldsDisjuncts (fs : List Frame) : List FormulaTree → List Frame → Reading → Type 0 where
   HoldsDisjuncts_alone : {h : Reading} {f : FormulaTree} → formula_of h ≡ Some f → HoldsDisjuncts fs (f ∷ []) fs h
-  HoldsDisjuncts_after : {h : Reading} {f : FormulaTree} {gs : List FormulaTree} → formula_of h ≡ Some f → HoldsDisjuncts fs (gs ++ f ∷ []) (Listed connective.Or gs ∷ fs) h
+  HoldsDisjuncts_after : {h : Reading} {f : FormulaTree} {gs : List FormulaTree} → formula_of h ≡ Some f → HoldsDisjuncts fs (gs ++ f ∷ []) (Listed Disjunction gs ∷ fs) h
 
-listed_or : (goal : ℕ) (fs : List Frame) (f : FormulaTree) → 5 ≤ takes goal fs → listed connective.Or fs f ≡ (f ∷ [], fs)
-listed_or goal (Listed connective.Or gs ∷ fs) f le = absurd (omega (arith, le))
+listed_or : (goal : ℕ) (fs : List Frame) (f : FormulaTree) → 5 ≤ takes goal fs → listed Disjunction fs f ≡ (f ∷ [], fs)
+listed_or goal (Listed Disjunction gs ∷ fs) f le = absurd (omega (arith, le))
 listed_or goal fs f le = refl
 
 or_more : (goal : ℕ) {fs gs : List Frame} {h : Reading} {before : List FormulaTree} → 5 ≤ takes goal fs → HoldsDisjuncts fs before gs h
-    → held goal (terminal.Word word.Or) gs h ≡ Moves (Listed connective.Or before ∷ fs) Wants
+    → held goal (terminal.Word word.Or) gs h ≡ Moves (Listed Disjunction before ∷ fs) Wants
 or_more goal {fs = fs} {h = h} le (HoldsDisjuncts_alone {f = f} e) =
-    within goal (terminal.Word word.Or) fs h le ∙ is_formula h (λ f. pushed goal (Listed connective.Or (listed connective.Or fs f).0) (listed connective.Or fs f).1) Fails e
-    ∙ ap (λ p. pushed goal (Listed connective.Or p.0) p.1) (listed_or goal fs f le) ∙ put goal (Listed connective.Or (f ∷ [])) fs le
+    within goal (terminal.Word word.Or) fs h le ∙ is_formula h (λ f. pushed goal (Listed Disjunction (listed Disjunction fs f).0) (listed Disjunction fs f).1) Fails e
+    ∙ ap (λ p. pushed goal (Listed Disjunction p.0) p.1) (listed_or goal fs f le) ∙ put goal (Listed Disjunction (f ∷ [])) fs le
 or_more goal {fs = fs} {h = h} le (HoldsDisjuncts_after {f = f} {gs = gs} e) =
-    is_formula h (λ f. pushed goal (Listed connective.Or (gs ++ f ∷ [])) fs) Fails e ∙ put goal (Listed connective.Or (gs ++ f ∷ [])) fs le
+    is_formula h (λ f. pushed goal (Listed Disjunction (gs ++ f ∷ [])) fs) Fails e ∙ put goal (Listed Disjunction (gs ++ f ∷ [])) fs le
 
 -- the formula that has been read so far, with its right part held
 data HoldsRepls (fs : List Frame) : FormulaTree → List Frame → Reading → Type 0 where
@@ -171,20 +173,20 @@ mutual
       let inner = complete_formula goal (Group ∷ fs) p (omega arith) (omega arith) in
       record { reading = inner.reading; is = inner.is; runs = inner.runs }
   complete_prime goal fs {rest = rest} (exists {xs = xs} {f = f} p q is) =
-      let inner = complete_formula goal (Quantifier false xs ∷ fs) q (omega arith) (omega arith) in
+      let inner = complete_formula goal (Quantified Exists xs ∷ fs) q (omega arith) (omega arith) in
       record {
-        reading = Formula (quantified false xs f);
+        reading = Formula (quantified_names Exists xs f);
         is = ap Some (sym is);
-        runs = binding goal fs false p ∙ inner.runs
-            ∙ moves goal (terminal.Mark mark.Close) rest (Quantifier false xs ∷ fs) (Held inner.reading) (is_formula inner.reading (λ x. Moves fs (Fresh (Formula (quantified false xs x)))) Fails inner.is);
+        runs = binding goal fs Exists p ∙ inner.runs
+            ∙ moves goal (terminal.Mark mark.Close) rest (Quantified Exists xs ∷ fs) (Held inner.reading) (is_formula inner.reading (λ x. Moves fs (Fresh (Formula (quantified_names Exists xs x)))) Fails inner.is);
       }
   complete_prime goal fs {rest = rest} (for_all {xs = xs} {f = f} p q is) =
-      let inner = complete_formula goal (Quantifier true xs ∷ fs) q (omega arith) (omega arith) in
+      let inner = complete_formula goal (Quantified ForAll xs ∷ fs) q (omega arith) (omega arith) in
       record {
-        reading = Formula (quantified true xs f);
+        reading = Formula (quantified_names ForAll xs f);
         is = ap Some (sym is);
-        runs = binding goal fs true p ∙ inner.runs
-            ∙ moves goal (terminal.Mark mark.Close) rest (Quantifier true xs ∷ fs) (Held inner.reading) (is_formula inner.reading (λ x. Moves fs (Fresh (Formula (quantified true xs x)))) Fails inner.is);
+        runs = binding goal fs ForAll p ∙ inner.runs
+            ∙ moves goal (terminal.Mark mark.Close) rest (Quantified ForAll xs ∷ fs) (Held inner.reading) (is_formula inner.reading (λ x. Moves fs (Fresh (Formula (quantified_names ForAll xs x)))) Fails inner.is);
       }
 
   complete_negation : (goal : ℕ) (fs : List Frame) {ts rest : List Terminal} {f : FormulaTree} → SpellsNegation ts f rest → 3 ≤ takes goal fs → 3 < strength_at rest → ReadsFormula goal ts fs Wants Held rest fs f
@@ -213,10 +215,10 @@ mutual
   complete_conjuncts goal fs le {rest = rest} (no_conjunct is) less {h = h} (HoldsConjuncts_after {f = f} {gs = gs} e) = record {
     reading = Formula (conjunction_of (gs ++ f ∷ []));
     is = ap Some (sym is);
-    runs = ends goal rest (Listed connective.And gs) fs h (Formula (conjunction_of (gs ++ f ∷ []))) less (is_formula h (λ x. Some (Formula (conjunction_of (gs ++ x ∷ [])))) None e);
+    runs = ends goal rest (Listed Conjunction gs) fs h (Formula (conjunction_of (gs ++ f ∷ []))) less (is_formula h (λ x. Some (Formula (conjunction_of (gs ++ x ∷ [])))) None e);
   }
   complete_conjuncts goal fs le {before = before} (conjunct {us = us} p m) less {gs = gs} {h = h} holds =
-      let next = complete_negation goal (Listed connective.And before ∷ fs) p (omega arith) (conjuncts_strength m less) in
+      let next = complete_negation goal (Listed Conjunction before ∷ fs) p (omega arith) (conjuncts_strength m less) in
       let more = complete_conjuncts goal fs le m less (HoldsConjuncts_after {gs = before} next.is) in
       record {
         reading = more.reading;
@@ -236,10 +238,10 @@ mutual
   complete_disjuncts goal fs le {rest = rest} (no_disjunct is) less {h = h} (HoldsDisjuncts_after {f = f} {gs = gs} e) = record {
     reading = Formula (disjunction_of (gs ++ f ∷ []));
     is = ap Some (sym is);
-    runs = ends goal rest (Listed connective.Or gs) fs h (Formula (disjunction_of (gs ++ f ∷ []))) less (is_formula h (λ x. Some (Formula (disjunction_of (gs ++ x ∷ [])))) None e);
+    runs = ends goal rest (Listed Disjunction gs) fs h (Formula (disjunction_of (gs ++ f ∷ []))) less (is_formula h (λ x. Some (Formula (disjunction_of (gs ++ x ∷ [])))) None e);
   }
   complete_disjuncts goal fs le {before = before} (disjunct {us = us} p m) less {gs = gs} {h = h} holds =
-      let next = complete_conjunction goal (Listed connective.Or before ∷ fs) p (omega arith) (disjuncts_strength m less) in
+      let next = complete_conjunction goal (Listed Disjunction before ∷ fs) p (omega arith) (disjuncts_strength m less) in
       let more = complete_disjuncts goal fs le m less (HoldsDisjuncts_after {gs = before} next.is) in
       record {
         reading = more.reading;

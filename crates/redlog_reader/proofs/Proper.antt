@@ -1,6 +1,9 @@
 -- What proper terminals spell can be written, and leaves proper terminals.
-use Rattle.std.proofs.Common.{lit<, ◌^◌, ◌≡◌, ℕ, zero, suc, ◌<◌, Bool, true, false, List, [], ◌∷◌, ◌++◌, sym, refl, subst, arith}
+use Rattle.std.proofs.Common.{lit<, ◌^◌, ◌≡◌, ℕ, zero, suc, ◌<◌, List, [], ◌∷◌, ◌++◌, sym, refl, subst, arith}
 use Rattle.std.specs.Prelude.{ℤ, negsuc, neg_ℤ, unsigned_abs, pos}
+use Rattle.formula_meaning.specs.Shape.{quantified}
+use Rattle.formula_meaning.specs.declared.quantifier.Quantifier.{Quantifier}
+use Rattle.formula_meaning.specs.declared.quantifier.Quantifier.TheVariants.{Exists, ForAll}
 use Rattle.qe_syntax.specs.declared.tree.Literal.{Literal}
 use Rattle.qe_syntax.specs.declared.tree.Literal.TheVariants.{Fits, Past}
 use Rattle.qe_syntax.specs.declared.tree.Relation.{Relation}
@@ -19,7 +22,7 @@ use Rattle.qe_syntax.specs.Names.{IsVariable}
 use Rattle.qe_syntax.specs.Trees.{Negative, terms_of}
 use Rattle.qe_syntax.specs.Proper.{IsNumeral, IsSigned}
 use Rattle.qe_syntax.specs.Writable.{IsWritableEntry, AreWritableEntries, IsWritableTerm, AreWritableTerms, IsWritableFormula, AreWritableFormulas, IsWritableCommand, IsWritableAction, IsWritable}
-use Rattle.redlog_reader.specs.Grammar.{product_of, sum_of, conjunction_of, disjunction_of, quantifier, quantified, Factors, no_factor, times, over, Members, no_member, plus, minus, Names, last_name, more_names, SpellsNames, one_name, many_names}
+use Rattle.redlog_reader.specs.Grammar.{product_of, sum_of, conjunction_of, disjunction_of, quantified_names, Factors, no_factor, times, over, Members, no_member, plus, minus, Names, last_name, more_names, SpellsNames, one_name, many_names}
 use Rattle.redlog_tokens.proofs.ProperTokens.{AreProperTerminals}
 use Rattle.redlog_reader.specs.Grammar.{SpellsNegation, negation, compared, prime, SpellsConjunction, conjunction, Conjuncts, no_conjunct, conjunct, SpellsDisjunction, disjunction, Disjuncts, no_disjunct, disjunct, SpellsImplication, no_implication, implication, SpellsReplication, replication, Repls, no_repl, repl, equivalence, Equivs, no_equiv, equiv}
 
@@ -97,13 +100,13 @@ proper_names : {ts r : List Terminal} {xs : List (List ℕ)} → SpellsNames ts 
 proper_names one_name h = ((h.0, tt), h.1)
 proper_names (many_names p) h = let a = proper_list p h in (a.0, a.1)
 
-proper_quantifier : (universal : Bool) (x : List ℕ) (f : FormulaTree) → IsVariable x → IsWritableFormula f → IsWritableFormula (quantifier universal x f)
-proper_quantifier true x f v h = (v, h)
-proper_quantifier false x f v h = (v, h)
+proper_quantifier : (quantifier : Quantifier) (x : List ℕ) (f : FormulaTree) → IsVariable x → IsWritableFormula f → IsWritableFormula (quantified quantifier x f)
+proper_quantifier ForAll x f v h = (v, h)
+proper_quantifier Exists x f v h = (v, h)
 
-proper_quantified : (universal : Bool) (xs : List (List ℕ)) (f : FormulaTree) → AllByRecursion IsVariable xs → IsWritableFormula f → IsWritableFormula (quantified universal xs f)
-proper_quantified universal [] f v h = h
-proper_quantified universal (x ∷ xs) f v h = proper_quantifier universal x (quantified universal xs f) v.0 (proper_quantified universal xs f v.1 h)
+proper_quantified : (quantifier : Quantifier) (xs : List (List ℕ)) (f : FormulaTree) → AllByRecursion IsVariable xs → IsWritableFormula f → IsWritableFormula (quantified_names quantifier xs f)
+proper_quantified quantifier [] f v h = h
+proper_quantified quantifier (x ∷ xs) f v h = proper_quantifier quantifier x (quantified_names quantifier xs f) v.0 (proper_quantified quantifier xs f v.1 h)
 
 abbrev ProperFormulas : List FormulaTree → Type 0
 ProperFormulas [] = ⊥
@@ -134,8 +137,8 @@ mutual
   proper_prime named_formula h = (h.0, h.1)
   proper_prime (congruence p) h = proper_congruence p h
   proper_prime (inner_formula p) h = let a = proper_formula p h in (a.0, a.1)
-  proper_prime (exists {xs = xs} {f = f} p q is) h = let a = proper_names p h in let b = proper_formula q a.1 in (subst IsWritableFormula (sym is) (proper_quantified false xs f a.0 b.0), b.1)
-  proper_prime (for_all {xs = xs} {f = f} p q is) h = let a = proper_names p h in let b = proper_formula q a.1 in (subst IsWritableFormula (sym is) (proper_quantified true xs f a.0 b.0), b.1)
+  proper_prime (exists {xs = xs} {f = f} p q is) h = let a = proper_names p h in let b = proper_formula q a.1 in (subst IsWritableFormula (sym is) (proper_quantified Exists xs f a.0 b.0), b.1)
+  proper_prime (for_all {xs = xs} {f = f} p q is) h = let a = proper_names p h in let b = proper_formula q a.1 in (subst IsWritableFormula (sym is) (proper_quantified ForAll xs f a.0 b.0), b.1)
 
   proper_negation : {ts r : List Terminal} {f : FormulaTree} → SpellsNegation ts f r → AreProperTerminals ts → IsWritableFormula f × AreProperTerminals r
   proper_negation (negation p) h = let a = proper_negation p h in (a.0, a.1)

@@ -3,6 +3,8 @@ use Rattle.std.proofs.Common.{◌≡◌, ℕ, ◌<◌, ◌≤◌, Bool, true, fa
 use Rattle.std.specs.Prelude.{Option, Some, None, nat_lt, nat_le, if◌then◌else◌}
 use Rattle.std.proofs.lemmas.Bool.{ltb-true, leb-true}
 use Rattle.formula_meaning.specs.Formula.{Yes, No, One}
+use Rattle.formula_meaning.specs.declared.junction.Junction.TheVariants.{Conjunction, Disjunction}
+use Rattle.formula_meaning.specs.declared.quantifier.Quantifier.TheVariants.{Exists, ForAll}
 use Rattle.qe_syntax.specs.declared.tree.Relation.{Relation}
 use Rattle.qe_syntax.specs.declared.tree.Relation.TheVariants.{Differs}
 use Rattle.qe_syntax.specs.Trees.{TermTree, Number, Power, Cong, Ncong, FormulaTree}
@@ -10,11 +12,10 @@ use Rattle.redlog_tokens.specs.declared.terminal.Terminal.{Terminal}
 use Rattle.redlog_tokens.specs.declared.terminal.Terminal.TheVariants as terminal
 use Rattle.redlog_tokens.specs.declared.terminal.Mark.TheVariants as mark
 use Rattle.redlog_tokens.specs.declared.terminal.Word.TheVariants as word
-use Rattle.redlog_reader.specs.declared.pending.Connective.TheVariants as connective
 use Rattle.redlog_reader.specs.declared.pending.Arrow.TheVariants as arrow
-use Rattle.redlog_reader.specs.Machine.{Reading, term_of, formula_of, Frame, Group, Quantifier, Congruence, Negation, Compares, Added, Multiplied, Listed, Arrows}
+use Rattle.redlog_reader.specs.Machine.{Reading, term_of, formula_of, Frame, Group, Quantified, Congruence, Negation, Compares, Added, Multiplied, Listed, Arrows}
 use Rattle.redlog_reader.specs.Machine.{Mode, Wants, Fresh, Held, Raised, Binder, Binding, NameWanted, NameRead, Scoped, Congruent, Outcome, Fails, Stops, Moves, strength, level, takes, on_term, on_formula, folded, continued, factors, members, listed, grouped, pushed, multiplies, adds, compares, joins, implies, closed, separated, operated, joined, held, fresh, wanted, step, run}
-use Rattle.redlog_reader.specs.Grammar.{quantified, quantifier_word, SpellsFactor, number, inner_sum, raised, SpellsProduct, product, Factors, times, over, SpellsSum, sum, plus_sum, minus_sum, Members, plus, minus}
+use Rattle.redlog_reader.specs.Grammar.{quantified_names, quantifier_word, SpellsFactor, number, inner_sum, raised, SpellsProduct, product, Factors, times, over, SpellsSum, sum, plus_sum, minus_sum, Members, plus, minus}
 use Rattle.redlog_reader.specs.Grammar.{IsRelation, relation_sign, relation_word, congruent, incongruent, Names, last_name, more_names, SpellsNames, one_name, many_names}
 use Rattle.redlog_reader.specs.Grammar.{SpellsPrime, truth, falsity, congruence, inner_formula, exists, for_all, SpellsConjunction, conjunction, Conjuncts, conjunct, SpellsDisjunction, disjunction, Disjuncts, disjunct}
 use Rattle.redlog_reader.specs.Grammar.{SpellsReplication, replication, Repls, repl, SpellsFormula, equivalence, Equivs, equiv}
@@ -27,16 +28,16 @@ State goal start Wants fs us = Begun goal start fs us
 State goal start (Fresh h) fs us = (mid : List Terminal) × Begun goal start fs mid × SaidFresh mid h us
 State goal start (Held h) fs us = (mid : List Terminal) × Begun goal start fs mid × Said 0 mid h us
 State goal start (Raised t) fs us = (mid : List Terminal) × Begun goal start fs mid × SpellsFactor mid t (terminal.Mark mark.Power ∷ us)
-State goal start (Binder universal) fs us = Begun goal start fs (terminal.Word (quantifier_word universal) ∷ us)
-State goal start (Binding universal) fs us = Begun goal start fs (terminal.Word (quantifier_word universal) ∷ terminal.Mark mark.Open ∷ us)
-State goal start (NameWanted universal xs) fs us =
-    (vs : List Terminal) × Begun goal start fs (terminal.Word (quantifier_word universal) ∷ terminal.Mark mark.Open ∷ terminal.Mark mark.OpenBrace ∷ vs)
+State goal start (Binder quantifier) fs us = Begun goal start fs (terminal.Word (quantifier_word quantifier) ∷ us)
+State goal start (Binding quantifier) fs us = Begun goal start fs (terminal.Word (quantifier_word quantifier) ∷ terminal.Mark mark.Open ∷ us)
+State goal start (NameWanted quantifier xs) fs us =
+    (vs : List Terminal) × Begun goal start fs (terminal.Word (quantifier_word quantifier) ∷ terminal.Mark mark.Open ∷ terminal.Mark mark.OpenBrace ∷ vs)
     × ((ys : List (List ℕ)) (rest : List Terminal) → Names us ys rest → Names vs (xs ++ ys) rest)
-State goal start (NameRead universal xs) fs us =
-    (vs : List Terminal) × Begun goal start fs (terminal.Word (quantifier_word universal) ∷ terminal.Mark mark.Open ∷ terminal.Mark mark.OpenBrace ∷ vs)
+State goal start (NameRead quantifier xs) fs us =
+    (vs : List Terminal) × Begun goal start fs (terminal.Word (quantifier_word quantifier) ∷ terminal.Mark mark.Open ∷ terminal.Mark mark.OpenBrace ∷ vs)
     × Names vs xs us × ((ys : List (List ℕ)) (ws rest : List Terminal) → us ≡ terminal.Mark mark.Comma ∷ ws → Names ws ys rest → Names vs (xs ++ ys) rest)
-State goal start (Scoped universal xs) fs us =
-    (vs : List Terminal) × Begun goal start fs (terminal.Word (quantifier_word universal) ∷ terminal.Mark mark.Open ∷ vs) × SpellsNames vs xs us
+State goal start (Scoped quantifier xs) fs us =
+    (vs : List Terminal) × Begun goal start fs (terminal.Word (quantifier_word quantifier) ∷ terminal.Mark mark.Open ∷ vs) × SpellsNames vs xs us
 State goal start (Congruent positive) fs us = Begun goal start fs (terminal.Word (congruence_word positive) ∷ us)
 
 -- what a step from before t and us says
@@ -77,14 +78,14 @@ module _ (goal : ℕ) (start us : List Terminal) where
 
   -- the list, with what is held as its last part
   conjuncts_onward : (fs : List Frame) {mid : List Terminal} (n : ℕ) (f : FormulaTree) → Begun goal start fs mid → FormulaAt n mid f us → n ≤ takes goal fs → n ≤ 3
-      → (ts : List Terminal) × Begun goal start (listed connective.And fs f).1 ts × ((s : FormulaTree) (rest : List Terminal) → Conjuncts (listed connective.And fs f).0 us s rest → SpellsConjunction ts s rest)
-  conjuncts_onward (Listed connective.And before ∷ fs) n f (above {ts = ts} begun fits on) p le small = (ts, begun, λ s rest m. on f us (formula_raise n 3 _ us f small p) s rest m)
+      → (ts : List Terminal) × Begun goal start (listed Conjunction fs f).1 ts × ((s : FormulaTree) (rest : List Terminal) → Conjuncts (listed Conjunction fs f).0 us s rest → SpellsConjunction ts s rest)
+  conjuncts_onward (Listed Conjunction before ∷ fs) n f (above {ts = ts} begun fits on) p le small = (ts, begun, λ s rest m. on f us (formula_raise n 3 _ us f small p) s rest m)
   conjuncts_onward fs {mid = mid} n f begun p le small = (mid, begun, λ s rest m. conjunction (formula_raise n 3 mid us f small p) m)
 
   -- the list, with what is held as its last part
   disjuncts_onward : (fs : List Frame) {mid : List Terminal} (n : ℕ) (f : FormulaTree) → Begun goal start fs mid → FormulaAt n mid f us → n ≤ takes goal fs → n ≤ 4
-      → (ts : List Terminal) × Begun goal start (listed connective.Or fs f).1 ts × ((s : FormulaTree) (rest : List Terminal) → Disjuncts (listed connective.Or fs f).0 us s rest → SpellsDisjunction ts s rest)
-  disjuncts_onward (Listed connective.Or before ∷ fs) n f (above {ts = ts} begun fits on) p le small = (ts, begun, λ s rest m. on f us (formula_raise n 4 _ us f small p) s rest m)
+      → (ts : List Terminal) × Begun goal start (listed Disjunction fs f).1 ts × ((s : FormulaTree) (rest : List Terminal) → Disjuncts (listed Disjunction fs f).0 us s rest → SpellsDisjunction ts s rest)
+  disjuncts_onward (Listed Disjunction before ∷ fs) n f (above {ts = ts} begun fits on) p le small = (ts, begun, λ s rest m. on f us (formula_raise n 4 _ us f small p) s rest m)
   disjuncts_onward fs {mid = mid} n f begun p le small = (mid, begun, λ s rest m. disjunction (formula_raise n 4 mid us f small p) m)
 
   -- the list, with what is held as its last part
@@ -121,15 +122,15 @@ module _ (goal : ℕ) (start : List Terminal) (us : List Terminal) where
         let list = members_onward goal start (terminal.Mark mark.Minus ∷ us) fs at.n s at.begun (at.said.term s e) at.within at.tighter in
         pushed_fine goal start (terminal.Mark mark.Minus) us (Added true (members fs s).0) (members fs s).1 list.1 (λ x vs p y rest m. list.2 y rest (minus p m)) refl)
 
-    and_fine : HeldAt goal start 4 (terminal.Word word.And ∷ us) fs h → Fine goal start (terminal.Word word.And) us (joins goal connective.And fs h)
+    and_fine : HeldAt goal start 4 (terminal.Word word.And ∷ us) fs h → Fine goal start (terminal.Word word.And) us (joins goal Conjunction fs h)
     and_fine at = on_formula_fine goal start (terminal.Word word.And) us (formula_of h) _ (λ f e.
         let list = conjuncts_onward goal start (terminal.Word word.And ∷ us) fs at.n f at.begun (at.said.formula f e) at.within at.tighter in
-        pushed_fine goal start (terminal.Word word.And) us (Listed connective.And (listed connective.And fs f).0) (listed connective.And fs f).1 list.1 (λ x vs p y rest m. list.2 y rest (conjunct p m)) refl)
+        pushed_fine goal start (terminal.Word word.And) us (Listed Conjunction (listed Conjunction fs f).0) (listed Conjunction fs f).1 list.1 (λ x vs p y rest m. list.2 y rest (conjunct p m)) refl)
 
-    or_fine : HeldAt goal start 5 (terminal.Word word.Or ∷ us) fs h → Fine goal start (terminal.Word word.Or) us (joins goal connective.Or fs h)
+    or_fine : HeldAt goal start 5 (terminal.Word word.Or ∷ us) fs h → Fine goal start (terminal.Word word.Or) us (joins goal Disjunction fs h)
     or_fine at = on_formula_fine goal start (terminal.Word word.Or) us (formula_of h) _ (λ f e.
         let list = disjuncts_onward goal start (terminal.Word word.Or ∷ us) fs at.n f at.begun (at.said.formula f e) at.within at.tighter in
-        pushed_fine goal start (terminal.Word word.Or) us (Listed connective.Or (listed connective.Or fs f).0) (listed connective.Or fs f).1 list.1 (λ x vs p y rest m. list.2 y rest (disjunct p m)) refl)
+        pushed_fine goal start (terminal.Word word.Or) us (Listed Disjunction (listed Disjunction fs f).0) (listed Disjunction fs f).1 list.1 (λ x vs p y rest m. list.2 y rest (disjunct p m)) refl)
 
     repl_fine : HeldAt goal start 7 (terminal.Word word.Repl ∷ us) fs h → Fine goal start (terminal.Word word.Repl) us (implies goal arrow.Repl fs h)
     repl_fine at = on_formula_fine goal start (terminal.Word word.Repl) us (formula_of h) _ (λ f e.
@@ -159,10 +160,10 @@ module _ (goal : ℕ) (start : List Terminal) (us : List Terminal) where
       formula = λ f e. subst (λ v. SpellsPrime v f us) (sym on) (inner_formula (formula_raise n 8 mid (terminal.Mark mark.Close ∷ us) f le (said.formula f e)));
     },
   )
-  closed_fine (Quantifier true xs ∷ fs) h {mid = mid} (above {ts = ts} begun fits on) n said le = on_formula_fine goal start (terminal.Mark mark.Close) us (formula_of h) _ (λ f e.
-      (ts, begun, fresh_formula (quantified true xs f) (subst (λ v. SpellsPrime v (quantified true xs f) us) (sym on.1) (for_all on.2 (formula_raise n 8 mid (terminal.Mark mark.Close ∷ us) f le (said.formula f e)) refl))))
-  closed_fine (Quantifier false xs ∷ fs) h {mid = mid} (above {ts = ts} begun fits on) n said le = on_formula_fine goal start (terminal.Mark mark.Close) us (formula_of h) _ (λ f e.
-      (ts, begun, fresh_formula (quantified false xs f) (subst (λ v. SpellsPrime v (quantified false xs f) us) (sym on.1) (exists on.2 (formula_raise n 8 mid (terminal.Mark mark.Close ∷ us) f le (said.formula f e)) refl))))
+  closed_fine (Quantified ForAll xs ∷ fs) h {mid = mid} (above {ts = ts} begun fits on) n said le = on_formula_fine goal start (terminal.Mark mark.Close) us (formula_of h) _ (λ f e.
+      (ts, begun, fresh_formula (quantified_names ForAll xs f) (subst (λ v. SpellsPrime v (quantified_names ForAll xs f) us) (sym on.1) (for_all on.2 (formula_raise n 8 mid (terminal.Mark mark.Close ∷ us) f le (said.formula f e)) refl))))
+  closed_fine (Quantified Exists xs ∷ fs) h {mid = mid} (above {ts = ts} begun fits on) n said le = on_formula_fine goal start (terminal.Mark mark.Close) us (formula_of h) _ (λ f e.
+      (ts, begun, fresh_formula (quantified_names Exists xs f) (subst (λ v. SpellsPrime v (quantified_names Exists xs f) us) (sym on.1) (exists on.2 (formula_raise n 8 mid (terminal.Mark mark.Close ∷ us) f le (said.formula f e)) refl))))
   closed_fine (Congruence true (x ∷ y ∷ []) ∷ fs) h {mid = mid} (above {ts = ts} begun fits on) n said le = on_term_fine goal start (terminal.Mark mark.Close) us (term_of h) _ (λ m e.
       (ts, begun, fresh_formula (One (Cong x y m)) (subst (λ v. SpellsPrime v (One (Cong x y m)) us) (sym on.1) (congruence (congruent on.2.1 on.2.2 (term_raise n 2 mid (terminal.Mark mark.Close ∷ us) m le (said.term m e)))))))
   closed_fine (Congruence false (x ∷ y ∷ []) ∷ fs) h {mid = mid} (above {ts = ts} begun fits on) n said le = on_term_fine goal start (terminal.Mark mark.Close) us (term_of h) _ (λ m e.
@@ -236,19 +237,19 @@ module _ (goal : ℕ) (start : List Terminal) (us : List Terminal) where
   step_fine (Fresh h) t fs s = fresh_fine t fs h s.1 s.2
   step_fine (Held h) t fs s = held_fine t fs h s.1 s.2
   step_fine (Raised x) (terminal.Number n) fs s = (s.0, s.1, said_term 0 (Power x n) (raised s.2))
-  step_fine (Binder universal) (terminal.Mark mark.Open) fs s = s
-  step_fine (Binding universal) (terminal.Name x) fs s = (terminal.Name x ∷ us, s, one_name)
-  step_fine (Binding universal) (terminal.Mark mark.OpenBrace) fs s = (us, s, λ ys rest p. p)
-  step_fine (NameWanted universal xs) (terminal.Name x) fs s = (
+  step_fine (Binder quantifier) (terminal.Mark mark.Open) fs s = s
+  step_fine (Binding quantifier) (terminal.Name x) fs s = (terminal.Name x ∷ us, s, one_name)
+  step_fine (Binding quantifier) (terminal.Mark mark.OpenBrace) fs s = (us, s, λ ys rest p. p)
+  step_fine (NameWanted quantifier xs) (terminal.Name x) fs s = (
     s.0,
     s.1,
     s.2 (x ∷ []) us last_name,
     λ ys ws rest at p.
         subst (λ zs. Names s.0 zs rest) (sym (append_assoc xs (x ∷ []) ys)) (s.2 (x ∷ ys) rest (subst (λ vs. Names (terminal.Name x ∷ vs) (x ∷ ys) rest) (sym at) (more_names p))),
   )
-  step_fine (NameRead universal xs) (terminal.Mark mark.Comma) fs s = (s.0, s.1, λ ys rest p. s.3 ys us rest refl p)
-  step_fine (NameRead universal xs) (terminal.Mark mark.CloseBrace) fs s = (terminal.Mark mark.OpenBrace ∷ s.0, s.1, many_names s.2)
-  step_fine (Scoped universal xs) (terminal.Mark mark.Comma) fs s = above s.1 (omega arith) (s.0, refl, s.2)
+  step_fine (NameRead quantifier xs) (terminal.Mark mark.Comma) fs s = (s.0, s.1, λ ys rest p. s.3 ys us rest refl p)
+  step_fine (NameRead quantifier xs) (terminal.Mark mark.CloseBrace) fs s = (terminal.Mark mark.OpenBrace ∷ s.0, s.1, many_names s.2)
+  step_fine (Scoped quantifier xs) (terminal.Mark mark.Comma) fs s = above s.1 (omega arith) (s.0, refl, s.2)
   step_fine (Congruent positive) (terminal.Mark mark.Open) fs s = above s (omega arith) (us, refl, refl)
   step_fine _ t fs s = tt
 

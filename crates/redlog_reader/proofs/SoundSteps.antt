@@ -3,15 +3,15 @@ use Rattle.std.proofs.Common.{◌≡◌, ℕ, zero, suc, ◌+◌, ◌≤◌, Boo
 use Rattle.std.specs.Prelude.{◌-◌, Option, Some, None, nat_lt, if◌then◌else◌}
 use Rattle.std.proofs.lemmas.Bool.{ltb-true}
 use Rattle.formula_meaning.specs.Formula.{One, Not, Impl, Repl, Equiv}
+use Rattle.formula_meaning.specs.declared.junction.Junction.TheVariants.{Conjunction, Disjunction}
 use Rattle.qe_syntax.specs.Trees.{TermTree, Named, Compare, Bound, FormulaTree}
 use Rattle.redlog_tokens.specs.declared.terminal.Terminal.{Terminal}
 use Rattle.redlog_tokens.specs.declared.terminal.Terminal.TheVariants as terminal
 use Rattle.redlog_tokens.specs.declared.terminal.Mark.TheVariants as mark
 use Rattle.redlog_tokens.specs.declared.terminal.Word.TheVariants as word
 use Rattle.redlog_tokens.specs.declared.terminal.Word.{Word}
-use Rattle.redlog_reader.specs.declared.pending.Connective.TheVariants as connective
 use Rattle.redlog_reader.specs.declared.pending.Arrow.TheVariants as arrow
-use Rattle.redlog_reader.specs.Machine.{Reading, Term, Formula, Bare, term_of, formula_of, Frame, Group, Quantifier, Congruence, Negation, Compares, Added, Multiplied, Listed, Arrows}
+use Rattle.redlog_reader.specs.Machine.{Reading, Term, Formula, Bare, term_of, formula_of, Frame, Group, Quantified, Congruence, Negation, Compares, Added, Multiplied, Listed, Arrows}
 use Rattle.redlog_reader.specs.Machine.{level, takes_last, takes, signed_term, multiplied, on_term, on_formula, ended, folded}
 use Rattle.redlog_reader.specs.Grammar.{product_of, sum_of, conjunction_of, disjunction_of, quantifier_word, SpellsFactor, variable, SpellsPower, first_power, SpellsProduct, product, Factors, no_factor, SpellsSum, sum, Members, no_member}
 use Rattle.redlog_reader.specs.Grammar.{IsRelation, comparison, SpellsNames}
@@ -111,8 +111,8 @@ Arguments ts _ us = ⊥
 -- from ts on the frame has begun, and its last part stands from us on
 abbrev pub Onward : Frame → List Terminal → List Terminal → Type 0
 Onward Group ts us = ts ≡ terminal.Mark mark.Open ∷ us
-Onward (Quantifier universal xs) ts us =
-    (vs : List Terminal) × (ts ≡ terminal.Word (quantifier_word universal) ∷ terminal.Mark mark.Open ∷ vs) × SpellsNames vs xs (terminal.Mark mark.Comma ∷ us)
+Onward (Quantified quantifier xs) ts us =
+    (vs : List Terminal) × (ts ≡ terminal.Word (quantifier_word quantifier) ∷ terminal.Mark mark.Open ∷ vs) × SpellsNames vs xs (terminal.Mark mark.Comma ∷ us)
 Onward (Congruence positive done) ts us = (vs : List Terminal) × (ts ≡ terminal.Word (congruence_word positive) ∷ terminal.Mark mark.Open ∷ vs) × Arguments vs done us
 Onward Negation ts us = ts ≡ terminal.Word word.Not ∷ us
 Onward (Compares r s) ts us = (sign : Terminal) × SpellsSum ts s (sign ∷ us) × IsRelation sign r
@@ -120,9 +120,9 @@ Onward (Added flag before) ts us =
     (t : TermTree) (vs : List Terminal) → SpellsProduct us t vs → (s : TermTree) (rest : List Terminal) → Members (before ++ signed_term flag t ∷ []) vs s rest → SpellsSum ts s rest
 Onward (Multiplied flag before) ts us =
     (t : TermTree) (vs : List Terminal) → SpellsPower us t vs → (s : TermTree) (rest : List Terminal) → Factors (multiplied flag before t) vs s rest → SpellsProduct ts s rest
-Onward (Listed connective.And before) ts us =
+Onward (Listed Conjunction before) ts us =
     (f : FormulaTree) (vs : List Terminal) → SpellsNegation us f vs → (g : FormulaTree) (rest : List Terminal) → Conjuncts (before ++ f ∷ []) vs g rest → SpellsConjunction ts g rest
-Onward (Listed connective.Or before) ts us =
+Onward (Listed Disjunction before) ts us =
     (f : FormulaTree) (vs : List Terminal) → SpellsConjunction us f vs → (g : FormulaTree) (rest : List Terminal) → Disjuncts (before ++ f ∷ []) vs g rest → SpellsDisjunction ts g rest
 Onward (Arrows arrow.Impl before) ts us = SpellsDisjunction ts before (terminal.Word word.Impl ∷ us)
 Onward (Arrows arrow.Repl before) ts us =
@@ -133,7 +133,7 @@ Onward (Arrows arrow.Equiv before) ts us =
 -- how loosely what the frame makes binds
 abbrev pub yields : Frame → ℕ
 yields Group = 0
-yields (Quantifier universal xs) = 0
+yields (Quantified quantifier xs) = 0
 yields (Congruence positive ts) = 0
 yields frame = level frame
 
@@ -153,7 +153,7 @@ from_formula (Some f) make g e = (f, refl, cc)
 -- an ended frame
 ended_said : (frame : Frame) (ts us rest : List Terminal) (h g : Reading) → Onward frame ts us → (n : ℕ) → Said n us h rest → n ≤ takes_last frame → ended frame h ≡ Some g → Said (level frame) ts g rest
 ended_said Group ts us rest h g on n s le e = absurd (let no : ⊥ = cc in no)
-ended_said (Quantifier universal xs) ts us rest h g on n s le e = absurd (let no : ⊥ = cc in no)
+ended_said (Quantified quantifier xs) ts us rest h g on n s le e = absurd (let no : ⊥ = cc in no)
 ended_said (Congruence positive xs) ts us rest h g on n s le e = absurd (let no : ⊥ = cc in no)
 ended_said Negation ts us rest h g on n s le e =
     let made = from_formula (formula_of h) (λ f. Formula (Not f)) g e in
@@ -171,11 +171,11 @@ ended_said (Multiplied flag before) ts us rest h g on n s le e =
     let made = from_term (term_of h) (λ t. Term (product_of (multiplied flag before t))) g e in
     subst (λ k. Said 1 ts k rest) made.2
     (said_term 1 (product_of (multiplied flag before made.0)) (on made.0 rest (term_raise n 0 us rest made.0 le (s.term made.0 made.1)) _ rest (no_factor refl)))
-ended_said (Listed connective.And before) ts us rest h g on n s le e =
+ended_said (Listed Conjunction before) ts us rest h g on n s le e =
     let made = from_formula (formula_of h) (λ f. Formula (conjunction_of (before ++ f ∷ []))) g e in
     subst (λ k. Said 4 ts k rest) made.2
     (said_formula 4 (conjunction_of (before ++ made.0 ∷ [])) (on made.0 rest (formula_raise n 3 us rest made.0 le (s.formula made.0 made.1)) _ rest (no_conjunct refl)))
-ended_said (Listed connective.Or before) ts us rest h g on n s le e =
+ended_said (Listed Disjunction before) ts us rest h g on n s le e =
     let made = from_formula (formula_of h) (λ f. Formula (disjunction_of (before ++ f ∷ []))) g e in
     subst (λ k. Said 5 ts k rest) made.2
     (said_formula 5 (disjunction_of (before ++ made.0 ∷ [])) (on made.0 rest (formula_raise n 4 us rest made.0 le (s.formula made.0 made.1)) _ rest (no_disjunct refl)))
@@ -207,7 +207,7 @@ FoldedAt goal start s rest (Some p) = HeldAt goal start s rest p.0 p.1
 
 yields_level : (frame : Frame) (h g : Reading) → ended frame h ≡ Some g → yields frame ≡ level frame
 yields_level Group h g e = absurd (let no : ⊥ = cc in no)
-yields_level (Quantifier universal xs) h g e = absurd (let no : ⊥ = cc in no)
+yields_level (Quantified quantifier xs) h g e = absurd (let no : ⊥ = cc in no)
 yields_level (Congruence positive xs) h g e = absurd (let no : ⊥ = cc in no)
 yields_level frame h g e = refl
 

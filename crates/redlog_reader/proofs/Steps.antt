@@ -2,13 +2,13 @@
 use Rattle.std.proofs.Common.{◌≡◌, ℕ, ◌<◌, ◌≤◌, List, [], ◌∷◌, refl, ap, ◌∙◌, arith}
 use Rattle.std.specs.Prelude.{Option, Some, None, if◌then◌else◌}
 use Rattle.std.proofs.lemmas.Bool.{lt-ltb, le-ltb, le-leb}
+use Rattle.formula_meaning.specs.declared.junction.Junction.TheVariants.{Conjunction, Disjunction}
 use Rattle.qe_syntax.specs.Trees.{TermTree, FormulaTree}
 use Rattle.redlog_tokens.specs.declared.terminal.Terminal.{Terminal}
 use Rattle.redlog_tokens.specs.declared.terminal.Terminal.TheVariants as terminal
 use Rattle.redlog_tokens.specs.declared.terminal.Mark.TheVariants as mark
-use Rattle.redlog_reader.specs.declared.pending.Connective.TheVariants as connective
 use Rattle.redlog_reader.specs.declared.pending.Arrow.TheVariants as arrow
-use Rattle.redlog_reader.specs.Machine.{Reading, term_of, formula_of, Frame, Group, Quantifier, Congruence, Negation, Compares, Added, Multiplied, Listed, Arrows}
+use Rattle.redlog_reader.specs.Machine.{Reading, term_of, formula_of, Frame, Group, Quantified, Congruence, Negation, Compares, Added, Multiplied, Listed, Arrows}
 use Rattle.redlog_reader.specs.Machine.{Mode, Wants, Fresh, Held, Outcome, Fails, Stops, Moves, strength, level, takes_last, takes, on_term, on_formula, ended, folded, continued, pushed, operated, joined, held, step, run}
 
 -- how loosely what comes next binds
@@ -46,14 +46,14 @@ is_formula h f other e = ap (λ o. on_formula o f other) e
 
 pub takes_level : (frame : Frame) → takes_last frame ≤ level frame
 takes_level Group = omega arith
-takes_level (Quantifier universal xs) = omega arith
+takes_level (Quantified quantifier xs) = omega arith
 takes_level (Congruence positive ts) = omega arith
 takes_level Negation = omega arith
 takes_level (Compares r t) = omega arith
 takes_level (Added flag ts) = omega arith
 takes_level (Multiplied flag ts) = omega arith
-takes_level (Listed connective.And fs) = omega arith
-takes_level (Listed connective.Or fs) = omega arith
+takes_level (Listed Conjunction fs) = omega arith
+takes_level (Listed Disjunction fs) = omega arith
 takes_level (Arrows arrow.Impl f) = omega arith
 takes_level (Arrows arrow.Repl f) = omega arith
 takes_level (Arrows arrow.Equiv f) = omega arith

@@ -4,6 +4,9 @@
 use Rattle.std.specs.Prelude.{◌≡◌, ℕ, Bool, true, false, List, [], ◌∷◌, ◌++◌, map, codes, bytes_eq, ◌||◌, if◌then◌else◌, Option, Some, None, pos, neg_ℤ}
 use Rattle.std.specs.Char.{to_ascii_lowercase}
 use Rattle.formula_meaning.specs.Formula.{Yes, No, One, Not, And, Or, Impl, Repl, Equiv, Ex, All}
+use Rattle.formula_meaning.specs.Shape.{quantified}
+use Rattle.formula_meaning.specs.declared.quantifier.Quantifier.{Quantifier}
+use Rattle.formula_meaning.specs.declared.quantifier.Quantifier.TheVariants.{Exists, ForAll}
 use Rattle.qe_syntax.specs.declared.tree.Literal.{Literal}
 use Rattle.qe_syntax.specs.declared.tree.Literal.TheVariants.{Fits, Past}
 use Rattle.qe_syntax.specs.declared.tree.Relation.{Relation}
@@ -44,20 +47,15 @@ disjunction_of [] = Or (formulas_of [])
 disjunction_of (f ∷ []) = f
 disjunction_of (f ∷ g ∷ more) = Or (formulas_of (f ∷ g ∷ more))
 
--- all, or ex
-abbrev pub quantifier : Bool → List ℕ → FormulaTree → FormulaTree
-quantifier true x f = All x f
-quantifier false x f = Ex x f
-
 -- a quantifier for each name, the first one outermost
-abbrev pub quantified : Bool → List (List ℕ) → FormulaTree → FormulaTree
-quantified universal [] f = f
-quantified universal (x ∷ xs) f = quantifier universal x (quantified universal xs f)
+abbrev pub quantified_names : Quantifier → List (List ℕ) → FormulaTree → FormulaTree
+quantified_names quantifier [] f = f
+quantified_names quantifier (x ∷ xs) f = quantified quantifier x (quantified_names quantifier xs f)
 
 -- the word of the quantifier: all, or ex
-abbrev pub quantifier_word : Bool → Word
-quantifier_word true = word.All
-quantifier_word false = word.Ex
+abbrev pub quantifier_word : Quantifier → Word
+quantifier_word ForAll = word.All
+quantifier_word Exists = word.Ex
 
 mutual
   -- factor = number | name | "(" sum ")"
@@ -137,9 +135,9 @@ mutual
     congruence : {ts rest : List Terminal} {f : FormulaTree} → SpellsCongruence ts f rest → SpellsPrime ts f rest
     inner_formula : {ts rest : List Terminal} {f : FormulaTree} → SpellsFormula ts f (terminal.Mark mark.Close ∷ rest) → SpellsPrime (terminal.Mark mark.Open ∷ ts) f rest
     exists : {ts us rest : List Terminal} {xs : List (List ℕ)} {f g : FormulaTree}
-        → SpellsNames ts xs (terminal.Mark mark.Comma ∷ us) → SpellsFormula us f (terminal.Mark mark.Close ∷ rest) → g ≡ quantified false xs f → SpellsPrime (terminal.Word word.Ex ∷ terminal.Mark mark.Open ∷ ts) g rest
+        → SpellsNames ts xs (terminal.Mark mark.Comma ∷ us) → SpellsFormula us f (terminal.Mark mark.Close ∷ rest) → g ≡ quantified_names Exists xs f → SpellsPrime (terminal.Word word.Ex ∷ terminal.Mark mark.Open ∷ ts) g rest
     for_all : {ts us rest : List Terminal} {xs : List (List ℕ)} {f g : FormulaTree}
-        → SpellsNames ts xs (terminal.Mark mark.Comma ∷ us) → SpellsFormula us f (terminal.Mark mark.Close ∷ rest) → g ≡ quantified true xs f → SpellsPrime (terminal.Word word.All ∷ terminal.Mark mark.Open ∷ ts) g rest
+        → SpellsNames ts xs (terminal.Mark mark.Comma ∷ us) → SpellsFormula us f (terminal.Mark mark.Close ∷ rest) → g ≡ quantified_names ForAll xs f → SpellsPrime (terminal.Word word.All ∷ terminal.Mark mark.Open ∷ ts) g rest
 
   -- notf = "not" notf | comparison | prime
   pub data SpellsNegation : List Terminal → FormulaTree → List Terminal → Type 0 where

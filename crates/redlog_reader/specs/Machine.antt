@@ -2,6 +2,10 @@
 -- It is a function, so what it reads is determined.
 use Rattle.std.specs.Prelude.{ℕ, Bool, true, false, List, [], ◌∷◌, ◌++◌, Option, Some, None, nat_lt, nat_le, if◌then◌else◌}
 use Rattle.formula_meaning.specs.Formula.{Yes, No, One, Not, Impl, Repl, Equiv}
+use Rattle.formula_meaning.specs.declared.junction.Junction.{Junction}
+use Rattle.formula_meaning.specs.declared.junction.Junction.TheVariants.{Conjunction, Disjunction}
+use Rattle.formula_meaning.specs.declared.quantifier.Quantifier.{Quantifier}
+use Rattle.formula_meaning.specs.declared.quantifier.Quantifier.TheVariants.{Exists, ForAll}
 use Rattle.qe_syntax.specs.declared.tree.Relation.{Relation}
 use Rattle.qe_syntax.specs.declared.tree.Relation.TheVariants.{Differs}
 use Rattle.qe_syntax.specs.Trees.{TermTree, Number, Named, Quotient, Power, Negative, Compare, Cong, Ncong, Bound, FormulaTree}
@@ -9,11 +13,9 @@ use Rattle.redlog_tokens.specs.declared.terminal.Terminal.{Terminal}
 use Rattle.redlog_tokens.specs.declared.terminal.Terminal.TheVariants as terminal
 use Rattle.redlog_tokens.specs.declared.terminal.Mark.TheVariants as mark
 use Rattle.redlog_tokens.specs.declared.terminal.Word.TheVariants as word
-use Rattle.redlog_reader.specs.declared.pending.Connective.{Connective}
-use Rattle.redlog_reader.specs.declared.pending.Connective.TheVariants as connective
 use Rattle.redlog_reader.specs.declared.pending.Arrow.{Arrow}
 use Rattle.redlog_reader.specs.declared.pending.Arrow.TheVariants as arrow
-use Rattle.redlog_reader.specs.Grammar.{product_of, sum_of, conjunction_of, disjunction_of, quantified}
+use Rattle.redlog_reader.specs.Grammar.{product_of, sum_of, conjunction_of, disjunction_of, quantified_names}
 
 -- What has been read. A name alone, in brackets or not, is a term and a formula.
 pub data Reading : Type 0 where
@@ -33,17 +35,17 @@ formula_of (Term t) = None
 formula_of (Formula f) = Some f
 formula_of (Bare x) = Some (One (Bound x))
 
--- What has begun. A quantifier is all where the test is true, and a congruence cong. The last sign of a sum is - and
+-- What has begun. A congruence is cong where the test is true. The last sign of a sum is - and
 -- of a product / where the test is true.
 pub data Frame : Type 0 where
   Group : Frame
-  Quantifier : Bool → List (List ℕ) → Frame
+  Quantified : Quantifier → List (List ℕ) → Frame
   Congruence : Bool → List TermTree → Frame
   Negation : Frame
   Compares : Relation → TermTree → Frame
   Added : Bool → List TermTree → Frame
   Multiplied : Bool → List TermTree → Frame
-  Listed : Connective → List FormulaTree → Frame
+  Listed : Junction → List FormulaTree → Frame
   Arrows : Arrow → FormulaTree → Frame
 
 -- What comes next: an operand, what may follow an operand (after Fresh a power may follow), the exponent of a power, or a part
@@ -53,11 +55,11 @@ pub data Mode : Type 0 where
   Fresh : Reading → Mode
   Held : Reading → Mode
   Raised : TermTree → Mode
-  Binder : Bool → Mode
-  Binding : Bool → Mode
-  NameWanted : Bool → List (List ℕ) → Mode
-  NameRead : Bool → List (List ℕ) → Mode
-  Scoped : Bool → List (List ℕ) → Mode
+  Binder : Quantifier → Mode
+  Binding : Quantifier → Mode
+  NameWanted : Quantifier → List (List ℕ) → Mode
+  NameRead : Quantifier → List (List ℕ) → Mode
+  Scoped : Quantifier → List (List ℕ) → Mode
   Congruent : Bool → Mode
 
 -- A terminal fails, ends what is read, or moves on.
@@ -86,14 +88,14 @@ strength _ = 9
 -- how loosely what the frame makes binds; only its bracket ends a frame with 9
 abbrev pub level : Frame → ℕ
 level Group = 9
-level (Quantifier universal xs) = 9
+level (Quantified quantifier xs) = 9
 level (Congruence positive ts) = 9
 level Negation = 3
 level (Compares r t) = 3
 level (Added minus ts) = 2
 level (Multiplied over ts) = 1
-level (Listed connective.And fs) = 4
-level (Listed connective.Or fs) = 5
+level (Listed Conjunction fs) = 4
+level (Listed Disjunction fs) = 5
 level (Arrows arrow.Impl f) = 6
 level (Arrows arrow.Repl f) = 7
 level (Arrows arrow.Equiv f) = 8
@@ -101,14 +103,14 @@ level (Arrows arrow.Equiv f) = 8
 -- how loosely its last part may bind
 abbrev pub takes_last : Frame → ℕ
 takes_last Group = 8
-takes_last (Quantifier universal xs) = 8
+takes_last (Quantified quantifier xs) = 8
 takes_last (Congruence positive ts) = 2
 takes_last Negation = 3
 takes_last (Compares r t) = 2
 takes_last (Added minus ts) = 1
 takes_last (Multiplied over ts) = 0
-takes_last (Listed connective.And fs) = 3
-takes_last (Listed connective.Or fs) = 4
+takes_last (Listed Conjunction fs) = 3
+takes_last (Listed Disjunction fs) = 4
 takes_last (Arrows arrow.Impl f) = 6
 takes_last (Arrows arrow.Repl f) = 6
 takes_last (Arrows arrow.Equiv f) = 7
@@ -128,9 +130,9 @@ multiplied true ts t = Quotient (product_of ts) t ∷ []
 multiplied false ts t = ts ++ t ∷ []
 
 -- the conjunction or disjunction of the members
-abbrev pub list_of : Connective → List FormulaTree → FormulaTree
-list_of connective.And fs = conjunction_of fs
-list_of connective.Or fs = disjunction_of fs
+abbrev pub list_of : Junction → List FormulaTree → FormulaTree
+list_of Conjunction fs = conjunction_of fs
+list_of Disjunction fs = disjunction_of fs
 
 abbrev pub arrow_of : Arrow → FormulaTree → FormulaTree → FormulaTree
 arrow_of arrow.Impl f g = Impl f g
@@ -148,7 +150,7 @@ on_formula (Some t) f other = f t
 -- what the frame makes with its last part
 abbrev pub ended : Frame → Reading → Option Reading
 ended Group h = None
-ended (Quantifier universal xs) h = None
+ended (Quantified quantifier xs) h = None
 ended (Congruence positive ts) h = None
 ended Negation h = on_formula (formula_of h) (λ f. Some (Formula (Not f))) None
 ended (Compares r s) h = on_term (term_of h) (λ t. Some (Formula (One (Compare r s t)))) None
@@ -173,9 +175,9 @@ abbrev pub members : List Frame → TermTree → List TermTree × List Frame
 members (Added minus ts ∷ fs) t = (ts ++ signed_term minus t ∷ [], fs)
 members fs t = (t ∷ [], fs)
 
-abbrev pub listed : Connective → List Frame → FormulaTree → List FormulaTree × List Frame
-listed connective.And (Listed connective.And gs ∷ fs) f = (gs ++ f ∷ [], fs)
-listed connective.Or (Listed connective.Or gs ∷ fs) f = (gs ++ f ∷ [], fs)
+abbrev pub listed : Junction → List Frame → FormulaTree → List FormulaTree × List Frame
+listed Conjunction (Listed Conjunction gs ∷ fs) f = (gs ++ f ∷ [], fs)
+listed Disjunction (Listed Disjunction gs ∷ fs) f = (gs ++ f ∷ [], fs)
 listed c fs f = (f ∷ [], fs)
 
 -- repl and equiv group to the left
@@ -197,7 +199,7 @@ adds goal minus fs h = on_term (term_of h) (λ t. pushed goal (Added minus (memb
 abbrev pub compares : ℕ → Relation → List Frame → Reading → Outcome
 compares goal r fs h = on_term (term_of h) (λ t. pushed goal (Compares r t) fs) Fails
 
-abbrev pub joins : ℕ → Connective → List Frame → Reading → Outcome
+abbrev pub joins : ℕ → Junction → List Frame → Reading → Outcome
 joins goal c fs h = on_formula (formula_of h) (λ f. pushed goal (Listed c (listed c fs f).0) (listed c fs f).1) Fails
 
 abbrev pub implies : ℕ → Arrow → List Frame → Reading → Outcome
@@ -210,7 +212,7 @@ congruence_of false s t m = One (Ncong s t m)
 -- after a closing bracket
 abbrev pub closed : List Frame → Reading → Outcome
 closed (Group ∷ fs) h = Moves fs (Fresh h)
-closed (Quantifier universal xs ∷ fs) h = on_formula (formula_of h) (λ f. Moves fs (Fresh (Formula (quantified universal xs f)))) Fails
+closed (Quantified quantifier xs ∷ fs) h = on_formula (formula_of h) (λ f. Moves fs (Fresh (Formula (quantified_names quantifier xs f)))) Fails
 closed (Congruence positive (s ∷ t ∷ []) ∷ fs) h = on_term (term_of h) (λ m. Moves fs (Fresh (Formula (congruence_of positive s t m)))) Fails
 closed _ h = Fails
 
@@ -228,8 +230,8 @@ operated goal (terminal.Mark mark.Plus) fs h = adds goal false fs h
 operated goal (terminal.Mark mark.Minus) fs h = adds goal true fs h
 operated goal (terminal.Relation r) fs h = compares goal r fs h
 operated goal (terminal.Word word.Neq) fs h = compares goal Differs fs h
-operated goal (terminal.Word word.And) fs h = joins goal connective.And fs h
-operated goal (terminal.Word word.Or) fs h = joins goal connective.Or fs h
+operated goal (terminal.Word word.And) fs h = joins goal Conjunction fs h
+operated goal (terminal.Word word.Or) fs h = joins goal Disjunction fs h
 operated goal (terminal.Word word.Impl) fs h = implies goal arrow.Impl fs h
 operated goal (terminal.Word word.Repl) fs h = implies goal arrow.Repl fs h
 operated goal (terminal.Word word.Equiv) fs h = implies goal arrow.Equiv fs h
@@ -265,8 +267,8 @@ wanted goal (terminal.Mark mark.Minus) fs = pushed goal (Added true []) fs
 wanted goal (terminal.Word word.True) fs = Moves fs (Fresh (Formula Yes))
 wanted goal (terminal.Word word.False) fs = Moves fs (Fresh (Formula No))
 wanted goal (terminal.Word word.Not) fs = pushed goal Negation fs
-wanted goal (terminal.Word word.Ex) fs = Moves fs (Binder false)
-wanted goal (terminal.Word word.All) fs = Moves fs (Binder true)
+wanted goal (terminal.Word word.Ex) fs = Moves fs (Binder Exists)
+wanted goal (terminal.Word word.All) fs = Moves fs (Binder ForAll)
 wanted goal (terminal.Word word.Cong) fs = Moves fs (Congruent true)
 wanted goal (terminal.Word word.Ncong) fs = Moves fs (Congruent false)
 wanted goal _ fs = Fails
@@ -277,31 +279,31 @@ raised_to s (terminal.Number n) fs = Moves fs (Held (Term (Power s n)))
 raised_to s _ fs = Fails
 
 -- the bracket of a quantifier
-abbrev pub binds : Bool → Terminal → List Frame → Outcome
-binds universal (terminal.Mark mark.Open) fs = Moves fs (Binding universal)
-binds universal _ fs = Fails
+abbrev pub binds : Quantifier → Terminal → List Frame → Outcome
+binds quantifier (terminal.Mark mark.Open) fs = Moves fs (Binding quantifier)
+binds quantifier _ fs = Fails
 
 -- the first terminal of the names of a quantifier
-abbrev pub first_bound : Bool → Terminal → List Frame → Outcome
-first_bound universal (terminal.Name x) fs = Moves fs (Scoped universal (x ∷ []))
-first_bound universal (terminal.Mark mark.OpenBrace) fs = Moves fs (NameWanted universal [])
-first_bound universal _ fs = Fails
+abbrev pub first_bound : Quantifier → Terminal → List Frame → Outcome
+first_bound quantifier (terminal.Name x) fs = Moves fs (Scoped quantifier (x ∷ []))
+first_bound quantifier (terminal.Mark mark.OpenBrace) fs = Moves fs (NameWanted quantifier [])
+first_bound quantifier _ fs = Fails
 
 -- one more name
-abbrev pub next_bound : Bool → List (List ℕ) → Terminal → List Frame → Outcome
-next_bound universal xs (terminal.Name x) fs = Moves fs (NameRead universal (xs ++ x ∷ []))
-next_bound universal xs _ fs = Fails
+abbrev pub next_bound : Quantifier → List (List ℕ) → Terminal → List Frame → Outcome
+next_bound quantifier xs (terminal.Name x) fs = Moves fs (NameRead quantifier (xs ++ x ∷ []))
+next_bound quantifier xs _ fs = Fails
 
 -- what stands after a name
-abbrev pub after_bound : Bool → List (List ℕ) → Terminal → List Frame → Outcome
-after_bound universal xs (terminal.Mark mark.Comma) fs = Moves fs (NameWanted universal xs)
-after_bound universal xs (terminal.Mark mark.CloseBrace) fs = Moves fs (Scoped universal xs)
-after_bound universal xs _ fs = Fails
+abbrev pub after_bound : Quantifier → List (List ℕ) → Terminal → List Frame → Outcome
+after_bound quantifier xs (terminal.Mark mark.Comma) fs = Moves fs (NameWanted quantifier xs)
+after_bound quantifier xs (terminal.Mark mark.CloseBrace) fs = Moves fs (Scoped quantifier xs)
+after_bound quantifier xs _ fs = Fails
 
 -- the comma before the formula of a quantifier
-abbrev pub scoped : Bool → List (List ℕ) → Terminal → List Frame → Outcome
-scoped universal xs (terminal.Mark mark.Comma) fs = Moves (Quantifier universal xs ∷ fs) Wants
-scoped universal xs _ fs = Fails
+abbrev pub scoped : Quantifier → List (List ℕ) → Terminal → List Frame → Outcome
+scoped quantifier xs (terminal.Mark mark.Comma) fs = Moves (Quantified quantifier xs ∷ fs) Wants
+scoped quantifier xs _ fs = Fails
 
 -- the bracket of a congruence
 abbrev pub opens : Bool → Terminal → List Frame → Outcome
@@ -314,11 +316,11 @@ step goal fs Wants t = wanted goal t fs
 step goal fs (Fresh h) t = fresh goal t fs h
 step goal fs (Held h) t = held goal t fs h
 step goal fs (Raised s) t = raised_to s t fs
-step goal fs (Binder universal) t = binds universal t fs
-step goal fs (Binding universal) t = first_bound universal t fs
-step goal fs (NameWanted universal xs) t = next_bound universal xs t fs
-step goal fs (NameRead universal xs) t = after_bound universal xs t fs
-step goal fs (Scoped universal xs) t = scoped universal xs t fs
+step goal fs (Binder quantifier) t = binds quantifier t fs
+step goal fs (Binding quantifier) t = first_bound quantifier t fs
+step goal fs (NameWanted quantifier xs) t = next_bound quantifier xs t fs
+step goal fs (NameRead quantifier xs) t = after_bound quantifier xs t fs
+step goal fs (Scoped quantifier xs) t = scoped quantifier xs t fs
 step goal fs (Congruent positive) t = opens positive t fs
 
 -- what is read of these terminals, with what is left

@@ -11,7 +11,7 @@ use Rattle.redlog_reader.specs.declared.pending.Expects as expected
 use Rattle.redlog_reader.specs.declared.pending.Expects.TheVariants as expects
 use Rattle.redlog_reader.specs.declared.pending.Step as steps
 use Rattle.redlog_reader.specs.declared.pending.Step.TheVariants as taken
-use Rattle.redlog_reader.specs.Machine.{Reading, Term, Formula, Bare, Frame, Group, Quantifier, Congruence, Negation, Compares, Added, Multiplied, Listed, Arrows, Mode, Wants, Fresh, Held, Raised, Binder, Binding, NameWanted, NameRead, Scoped, Congruent, Outcome, Stops, Moves}
+use Rattle.redlog_reader.specs.Machine.{Reading, Term, Formula, Bare, Frame, Group, Quantified, Congruence, Negation, Compares, Added, Multiplied, Listed, Arrows, Mode, Wants, Fresh, Held, Raised, Binder, Binding, NameWanted, NameRead, Scoped, Congruent, Outcome, Stops, Moves}
 
 abbrev pub reading_of : operands.Operand → Reading
 reading_of (operand.Term t) = Term (term_tree t)
@@ -25,7 +25,7 @@ arguments_of (argument.Third s t) = term_tree s ∷ term_tree t ∷ []
 
 abbrev pub frame_of : begins.Pending → Frame
 frame_of pending.Group = Group
-frame_of (pending.Quantifier universal names) = Quantifier universal names.items
+frame_of (pending.Quantified quantifier names) = Quantified quantifier names.items
 frame_of (pending.Congruence positive terms) = Congruence positive (arguments_of terms)
 frame_of pending.Negation = Negation
 frame_of (pending.Compares r t) = Compares r (term_tree t)
@@ -43,11 +43,11 @@ mode_of expects.Operand = Wants
 mode_of (expects.Power o) = Fresh (reading_of o)
 mode_of (expects.Operator o) = Held (reading_of o)
 mode_of (expects.Exponent t) = Raised (term_tree t)
-mode_of (expects.Binder universal) = Binder universal
-mode_of (expects.Binding universal) = Binding universal
-mode_of (expects.Name universal names) = NameWanted universal names.items
-mode_of (expects.NameEnd universal names) = NameRead universal names.items
-mode_of (expects.Scope universal names) = Scoped universal names.items
+mode_of (expects.Binder quantifier) = Binder quantifier
+mode_of (expects.Binding quantifier) = Binding quantifier
+mode_of (expects.Name quantifier names) = NameWanted quantifier names.items
+mode_of (expects.NameEnd quantifier names) = NameRead quantifier names.items
+mode_of (expects.Scope quantifier names) = Scoped quantifier names.items
 mode_of (expects.Terms positive) = Congruent positive
 
 -- what a step says, with what has begun then

@@ -1,5 +1,5 @@
-ghost use Rattle.std.specs.Prelude.{◌≡◌, [], map, IfOk, IfErr, Some, None};
-ghost use Rattle.qe_syntax.specs.Trees.{term_tree, formula_tree, formulas_of};
+ghost use Rattle.std.specs.Prelude.{◌≡◌, map, IfOk, IfErr, Some, None};
+ghost use Rattle.qe_syntax.specs.Trees.{term_tree, formula_tree};
 ghost use Rattle.redlog_tokens.specs.Terminals.{terminals};
 ghost use Rattle.redlog_reader.specs.Reader.{formula_read, sum_read, comparison_read, begins_congruence, atom_read, items_read, braced_read, argument_read};
 ghost use Rattle.redlog_reader.specs.Reading.{Refuses};
@@ -8,8 +8,8 @@ use crate::ending::put;
 use crate::machine::read;
 use crate::operand::{formula_of, term_of};
 use crate::peek::{after, next, relation};
-use redlog_tokens::{Mark, ReadError, Terminal, Token, Word};
 use qe_syntax::{Formula, Term, comparison as comparison_of};
+use redlog_tokens::{Mark, ReadError, Terminal, Token, Word};
 use std::alloc::Global;
 
 /// How loosely what is read may bind: a prime formula.

@@ -1,17 +1,18 @@
-ghost use Rattle.std.specs.Prelude.{◌≡◌, List, [], ◌∷◌, ◌++◌, map, IfOk, IfErr, OnOk};
+ghost use Rattle.std.specs.Prelude.{◌≡◌, [], ◌∷◌, ◌++◌, map, IfOk, IfErr, OnOk};
 ghost use Rattle.qe_syntax.specs.Trees.{term_tree, formula_tree};
-ghost use Rattle.redlog_reader.specs.Grammar.{sum_of, product_of, conjunction_of, disjunction_of};
+ghost use Rattle.redlog_reader.specs.Grammar.{sum_of, product_of};
 ghost use Rattle.redlog_reader.specs.Machine.{Negation, Compares, Added, Multiplied, Listed, Arrows, signed_term, multiplied, list_of, arrow_of, ended};
 ghost use Rattle.redlog_reader.specs.Reading.{Refuses};
 ghost use Rattle.redlog_reader.specs.View.{reading_of, frame_of};
 
 use crate::operand::{Operand, formula_of, term_of};
-use crate::pending::{Arrow, Connective, Pending};
-use redlog_tokens::ReadError;
+use crate::pending::{Arrow, Pending};
+use formula_meaning::Junction;
 use qe_syntax::{
     Formula, Formulas, Relation, Term, Terms, comparison, equivalence, implication, negation,
     negative, quotient, replication,
 };
+use redlog_tokens::ReadError;
 use std::alloc::{AllocError, Global};
 
 /// What has begun, with the operand as its last part.
@@ -21,13 +22,13 @@ pub fn ended(alloc: Global, pending: Pending, operand: Operand) -> Result<Operan
 {
     match pending {
         Pending::Group => Err(ReadError::Syntax),
-        Pending::Quantifier(_, _names) => Err(ReadError::Syntax),
+        Pending::Quantified(_, _names) => Err(ReadError::Syntax),
         Pending::Congruence(_, _terms) => Err(ReadError::Syntax),
         Pending::Negation => negated(alloc, operand),
         Pending::Compares(relation, left) => compared(alloc, relation, left, operand),
         Pending::Added(minus, members) => summed(alloc, minus, members, operand),
         Pending::Multiplied(over, factors) => product(alloc, over, factors, operand),
-        Pending::Listed(connective, members) => joined(connective, members, operand),
+        Pending::Listed(junction, members) => joined(junction, members, operand),
         Pending::Arrows(arrow, left) => implied(alloc, arrow, left, operand),
     }
 }
@@ -154,18 +155,18 @@ fn product_of(mut factors: Vec<Term>) -> Term
 
 #[tactic(auto, using(crate::proofs::Steps::choices))]
 fn joined(
-    connective: Connective,
+    junction: Junction,
     mut members: Vec<Formula>,
     operand: Operand,
 ) -> Result<Operand, ReadError>
-    ensures ended { IfOk result (λ o. ended (Listed connective (map formula_tree members.items)) (reading_of operand) ≡ Some (reading_of o)) }
-    ensures refused { IfErr result (λ e. Refuses e (ended (Listed connective (map formula_tree members.items)) (reading_of operand) ≡ None)) }
+    ensures ended { IfOk result (λ o. ended (Listed junction (map formula_tree members.items)) (reading_of operand) ≡ Some (reading_of o)) }
+    ensures refused { IfErr result (λ e. Refuses e (ended (Listed junction (map formula_tree members.items)) (reading_of operand) ≡ None)) }
 {
     let Some(formula) = formula_of(operand) else {
         return Err(ReadError::Syntax);
     };
     put(&mut members, formula)?;
-    Ok(Operand::Formula(list_of(connective, members)))
+    Ok(Operand::Formula(list_of(junction, members)))
 }
 
 /// Puts a formula at the end of a list.
@@ -178,15 +179,15 @@ pub fn put(members: &mut Vec<Formula>, formula: Formula) -> Result<(), AllocErro
 
 /// The conjunction or disjunction of the members, or the member where there is one alone.
 #[tactic(auto, using(qe_syntax::proofs::TreeEquations::trees))]
-fn list_of(connective: Connective, mut members: Vec<Formula>) -> Formula
-    ensures { formula_tree result ≡ list_of connective (map formula_tree members.items) }
+fn list_of(junction: Junction, mut members: Vec<Formula>) -> Formula
+    ensures { formula_tree result ≡ list_of junction (map formula_tree members.items) }
 {
     if members.len() == 1 {
         return members.remove(0);
     }
-    match connective {
-        Connective::And => Formula::And(Formulas::of(members)),
-        Connective::Or => Formula::Or(Formulas::of(members)),
+    match junction {
+        Junction::Conjunction => Formula::And(Formulas::of(members)),
+        Junction::Disjunction => Formula::Or(Formulas::of(members)),
     }
 }
 

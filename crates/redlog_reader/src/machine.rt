@@ -1,21 +1,24 @@
-ghost use Rattle.std.specs.Prelude.{◌≡◌, [], ◌∷◌, ◌++◌, map, IfOk, IfErr, OnOk};
+ghost use Rattle.std.specs.Prelude.{◌≡◌, Bool, List, [], ◌∷◌, ◌++◌, map, IfOk, IfErr, OnOk};
+ghost use Rattle.formula_meaning.specs.Shape.{quantified};
 ghost use Rattle.qe_syntax.specs.Trees.{term_tree, formula_tree};
 ghost use Rattle.redlog_tokens.specs.declared.terminal.Terminal.{Terminal};
 ghost use Rattle.redlog_tokens.specs.Terminals.{terminals};
-ghost use Rattle.redlog_reader.specs.Machine.{Wants, Fails, raised_to, binds, first_bound, next_bound, after_bound, scoped, opens, strength, Added, takes, folded, factors, members, listed, grouped, pushed, multiplies, adds, compares, joins, implies, congruence_of, closed, separated, operated, joined, held, fresh, wanted, step, run};
-ghost use Rattle.redlog_reader.specs.Grammar.{quantified, quantifier};
+ghost use Rattle.redlog_reader.specs.Machine.{Frame, Quantified, Congruence, Wants, Fresh, Moves, Fails, raised_to, binds, first_bound, next_bound, after_bound, scoped, opens, strength, Added, takes, folded, factors, members, listed, grouped, pushed, multiplies, adds, compares, joins, implies, congruence_of, closed, separated, operated, joined, held, fresh, wanted, step, run};
+ghost use Rattle.redlog_reader.specs.Grammar.{quantified_names};
+ghost use Rattle.redlog_reader.specs.Machine as reading;
 ghost use Rattle.redlog_reader.specs.Reading.{Refuses};
-ghost use Rattle.redlog_reader.specs.View.{reading_of, frame_of, frames, mode_of, outcome_of};
+ghost use Rattle.redlog_reader.specs.View.{reading_of, arguments_of, frame_of, frames, mode_of, outcome_of};
 
 use crate::ending::{added, ended, multiplied, put};
 use crate::operand::{Operand, formula_of, term_of};
 use crate::peek::next;
-use crate::pending::{Arguments, Arrow, Connective, Expects, Pending, Step, level, takes_last};
-use redlog_tokens::{Mark, ReadError, Terminal, Token, Word};
+use crate::pending::{Arguments, Arrow, Expects, Pending, Step, level, takes_last};
+use formula_meaning::{Junction, Quantifier};
 use qe_syntax::{
     Formula, Name, Relation, Term, congruence, equivalence, existential, incongruence, power,
-    replication, universal as universal_of,
+    replication, universal,
 };
+use redlog_tokens::{Mark, ReadError, Terminal, Token, Word};
 use std::alloc::{AllocError, Global};
 
 /// What is read at the front of the tokens, and the tokens after it: as much as binds at most as loosely as the goal,
@@ -53,11 +56,11 @@ fn step(
         Expects::Power(operand) => raise(alloc, goal, pending, terminal, operand),
         Expects::Operator(operand) => go_on(alloc, goal, pending, terminal, operand),
         Expects::Exponent(base) => exponent(alloc, pending, terminal, base),
-        Expects::Binder(universal) => binder(pending, terminal, universal),
-        Expects::Binding(universal) => binding(alloc, pending, terminal, universal),
-        Expects::Name(universal, names) => name(pending, terminal, universal, names),
-        Expects::NameEnd(universal, names) => name_end(pending, terminal, universal, names),
-        Expects::Scope(universal, names) => scope(pending, terminal, universal, names),
+        Expects::Binder(quantifier) => binder(pending, terminal, quantifier),
+        Expects::Binding(quantifier) => binding(alloc, pending, terminal, quantifier),
+        Expects::Name(quantifier, names) => name(pending, terminal, quantifier, names),
+        Expects::NameEnd(quantifier, names) => name_end(pending, terminal, quantifier, names),
+        Expects::Scope(quantifier, names) => scope(pending, terminal, quantifier, names),
         Expects::Terms(positive) => terms(pending, terminal, positive),
     }
 }
@@ -80,7 +83,7 @@ fn begin(
         }
         Terminal::Name(name) => Ok(Step::Moves(Expects::Power(Operand::Name(*name)))),
         Terminal::Mark(Mark::Open) => {
-            pending.push(Pending::Group)?;
+            put_pending(pending, Pending::Group)?;
             Ok(Step::Moves(Expects::Operand))
         }
         Terminal::Mark(Mark::Plus) => sign(alloc, goal, pending, false),
@@ -114,8 +117,8 @@ fn begin_with(goal: usize, pending: &mut Vec<Pending>, word: Word) -> Result<Ste
         Word::True => Ok(Step::Moves(Expects::Power(Operand::Formula(Formula::True)))),
         Word::False => Ok(Step::Moves(Expects::Power(Operand::Formula(Formula::False)))),
         Word::Not => push(goal, pending, Pending::Negation),
-        Word::Ex => Ok(Step::Moves(Expects::Binder(false))),
-        Word::All => Ok(Step::Moves(Expects::Binder(true))),
+        Word::Ex => Ok(Step::Moves(Expects::Binder(Quantifier::Exists))),
+        Word::All => Ok(Step::Moves(Expects::Binder(Quantifier::ForAll))),
         Word::Cong => Ok(Step::Moves(Expects::Terms(true))),
         Word::Ncong => Ok(Step::Moves(Expects::Terms(false))),
         _ => Err(ReadError::Syntax),
@@ -170,13 +173,13 @@ fn exponent(
 fn binder(
     pending: &mut Vec<Pending>,
     terminal: &Terminal,
-    universal: bool,
+    quantifier: Quantifier,
 ) -> Result<Step, ReadError>
-    ensures taken { IfOk result (λ s. binds universal terminal.now (frames pending.old.items) ≡ outcome_of s (frames pending.new.items)) }
-    ensures refused { IfErr result (λ e. Refuses e (binds universal terminal.now (frames pending.old.items) ≡ Fails)) }
+    ensures taken { IfOk result (λ s. binds quantifier terminal.now (frames pending.old.items) ≡ outcome_of s (frames pending.new.items)) }
+    ensures refused { IfErr result (λ e. Refuses e (binds quantifier terminal.now (frames pending.old.items) ≡ Fails)) }
 {
     match terminal {
-        Terminal::Mark(Mark::Open) => Ok(Step::Moves(Expects::Binding(universal))),
+        Terminal::Mark(Mark::Open) => Ok(Step::Moves(Expects::Binding(quantifier))),
         _ => Err(ReadError::Syntax),
     }
 }
@@ -187,19 +190,19 @@ fn binding(
     alloc: Global,
     pending: &mut Vec<Pending>,
     terminal: &Terminal,
-    universal: bool,
+    quantifier: Quantifier,
 ) -> Result<Step, ReadError>
-    ensures taken { IfOk result (λ s. first_bound universal terminal.now (frames pending.old.items) ≡ outcome_of s (frames pending.new.items)) }
-    ensures refused { IfErr result (λ e. Refuses e (first_bound universal terminal.now (frames pending.old.items) ≡ Fails)) }
+    ensures taken { IfOk result (λ s. first_bound quantifier terminal.now (frames pending.old.items) ≡ outcome_of s (frames pending.new.items)) }
+    ensures refused { IfErr result (λ e. Refuses e (first_bound quantifier terminal.now (frames pending.old.items) ≡ Fails)) }
 {
     match terminal {
         Terminal::Name(name) => {
             let mut names = Vec::new(alloc);
             names.push(*name)?;
-            Ok(Step::Moves(Expects::Scope(universal, names)))
+            Ok(Step::Moves(Expects::Scope(quantifier, names)))
         }
         Terminal::Mark(Mark::OpenBrace) => {
-            Ok(Step::Moves(Expects::Name(universal, Vec::new(alloc))))
+            Ok(Step::Moves(Expects::Name(quantifier, Vec::new(alloc))))
         }
         _ => Err(ReadError::Syntax),
     }
@@ -210,16 +213,16 @@ fn binding(
 fn name(
     pending: &mut Vec<Pending>,
     terminal: &Terminal,
-    universal: bool,
+    quantifier: Quantifier,
     mut names: Vec<Name>,
 ) -> Result<Step, ReadError>
-    ensures taken { IfOk result (λ s. next_bound universal names.items terminal.now (frames pending.old.items) ≡ outcome_of s (frames pending.new.items)) }
-    ensures refused { IfErr result (λ e. Refuses e (next_bound universal names.items terminal.now (frames pending.old.items) ≡ Fails)) }
+    ensures taken { IfOk result (λ s. next_bound quantifier names.items terminal.now (frames pending.old.items) ≡ outcome_of s (frames pending.new.items)) }
+    ensures refused { IfErr result (λ e. Refuses e (next_bound quantifier names.items terminal.now (frames pending.old.items) ≡ Fails)) }
 {
     match terminal {
         Terminal::Name(name) => {
             names.push(*name)?;
-            Ok(Step::Moves(Expects::NameEnd(universal, names)))
+            Ok(Step::Moves(Expects::NameEnd(quantifier, names)))
         }
         _ => Err(ReadError::Syntax),
     }
@@ -230,15 +233,15 @@ fn name(
 fn name_end(
     pending: &mut Vec<Pending>,
     terminal: &Terminal,
-    universal: bool,
+    quantifier: Quantifier,
     names: Vec<Name>,
 ) -> Result<Step, ReadError>
-    ensures taken { IfOk result (λ s. after_bound universal names.items terminal.now (frames pending.old.items) ≡ outcome_of s (frames pending.new.items)) }
-    ensures refused { IfErr result (λ e. Refuses e (after_bound universal names.items terminal.now (frames pending.old.items) ≡ Fails)) }
+    ensures taken { IfOk result (λ s. after_bound quantifier names.items terminal.now (frames pending.old.items) ≡ outcome_of s (frames pending.new.items)) }
+    ensures refused { IfErr result (λ e. Refuses e (after_bound quantifier names.items terminal.now (frames pending.old.items) ≡ Fails)) }
 {
     match terminal {
-        Terminal::Mark(Mark::Comma) => Ok(Step::Moves(Expects::Name(universal, names))),
-        Terminal::Mark(Mark::CloseBrace) => Ok(Step::Moves(Expects::Scope(universal, names))),
+        Terminal::Mark(Mark::Comma) => Ok(Step::Moves(Expects::Name(quantifier, names))),
+        Terminal::Mark(Mark::CloseBrace) => Ok(Step::Moves(Expects::Scope(quantifier, names))),
         _ => Err(ReadError::Syntax),
     }
 }
@@ -248,15 +251,15 @@ fn name_end(
 fn scope(
     pending: &mut Vec<Pending>,
     terminal: &Terminal,
-    universal: bool,
+    quantifier: Quantifier,
     names: Vec<Name>,
 ) -> Result<Step, ReadError>
-    ensures taken { IfOk result (λ s. scoped universal names.items terminal.now (frames pending.old.items) ≡ outcome_of s (frames pending.new.items)) }
-    ensures refused { IfErr result (λ e. Refuses e (scoped universal names.items terminal.now (frames pending.old.items) ≡ Fails)) }
+    ensures taken { IfOk result (λ s. scoped quantifier names.items terminal.now (frames pending.old.items) ≡ outcome_of s (frames pending.new.items)) }
+    ensures refused { IfErr result (λ e. Refuses e (scoped quantifier names.items terminal.now (frames pending.old.items) ≡ Fails)) }
 {
     match terminal {
         Terminal::Mark(Mark::Comma) => {
-            pending.push(Pending::Quantifier(universal, names))?;
+            put_pending(pending, Pending::Quantified(quantifier, names))?;
             Ok(Step::Moves(Expects::Operand))
         }
         _ => Err(ReadError::Syntax),
@@ -271,7 +274,7 @@ fn terms(pending: &mut Vec<Pending>, terminal: &Terminal, positive: bool) -> Res
 {
     match terminal {
         Terminal::Mark(Mark::Open) => {
-            pending.push(Pending::Congruence(positive, Arguments::First))?;
+            put_pending(pending, Pending::Congruence(positive, Arguments::First))?;
             Ok(Step::Moves(Expects::Operand))
         }
         _ => Err(ReadError::Syntax),
@@ -349,7 +352,7 @@ fn join(
 {
     match pending.pop() {
         Some(top) => {
-            pending.push(top)?;
+            put_pending(pending, top)?;
             operate(alloc, goal, pending, terminal, operand)
         }
         None if goal < strength(terminal) => Ok(Step::Stops(operand)),
@@ -392,8 +395,8 @@ fn operate_word(
 {
     match word {
         Word::Neq => compare(goal, pending, Relation::Differs, operand),
-        Word::And => list(alloc, goal, pending, Connective::And, operand),
-        Word::Or => list(alloc, goal, pending, Connective::Or, operand),
+        Word::And => list(alloc, goal, pending, Junction::Conjunction, operand),
+        Word::Or => list(alloc, goal, pending, Junction::Disjunction, operand),
         Word::Impl => imply(alloc, goal, pending, Arrow::Impl, operand),
         Word::Repl => imply(alloc, goal, pending, Arrow::Repl, operand),
         Word::Equiv => imply(alloc, goal, pending, Arrow::Equiv, operand),
@@ -407,26 +410,31 @@ fn push(goal: usize, pending: &mut Vec<Pending>, next: Pending) -> Result<Step, 
     ensures taken { IfOk result (λ s. pushed goal (frame_of next) (frames pending.old.items) ≡ outcome_of s (frames pending.new.items)) }
     ensures refused { IfErr result (λ e. Refuses e (pushed goal (frame_of next) (frames pending.old.items) ≡ Fails)) }
 {
-    let takes = takes(goal, pending)?;
-    if level(&next) > takes {
+    if level(&next) > takes(goal, pending) {
         return Err(ReadError::Syntax);
     }
-    pending.push(next)?;
+    put_pending(pending, next)?;
     Ok(Step::Moves(Expects::Operand))
 }
 
 /// How loosely what is read next may bind.
-#[tactic(auto, using(crate::proofs::Frames::steps))]
-fn takes(goal: usize, pending: &mut Vec<Pending>) -> Result<usize, AllocError>
-    ensures takes { IfOk result (λ n. n ≡ takes goal (frames pending.old.items)) }
-    ensures same { OnOk result (frames pending.new.items ≡ frames pending.old.items) }
+#[tactic(auto, using(crate::proofs::Frames::tops))]
+fn takes(goal: usize, pending: &[Pending]) -> usize
+    ensures { result ≡ takes goal (frames pending.now) }
 {
-    let Some(top) = pending.pop() else {
-        return Ok(goal);
-    };
-    let takes = takes_last(&top);
-    pending.push(top)?;
-    Ok(takes)
+    match pending.last() {
+        Some(top) => takes_last(top),
+        None => goal,
+    }
+}
+
+/// Puts what has begun on the others.
+#[tactic(auto, using(crate::proofs::Frames::steps))]
+fn put_pending(pending: &mut Vec<Pending>, next: Pending) -> Result<(), AllocError>
+    ensures { OnOk result (frames pending.new.items ≡ frame_of next ∷ frames pending.old.items) }
+{
+    pending.push(next)?;
+    Ok(())
 }
 
 #[tactic(auto, using(crate::proofs::Frames::steps))]
@@ -455,7 +463,7 @@ fn factors(alloc: Global, pending: &mut Vec<Pending>, term: Term) -> Result<Vec<
     match pending.pop() {
         Some(Pending::Multiplied(over, factors)) => multiplied(alloc, over, factors, term),
         Some(other) => {
-            pending.push(other)?;
+            put_pending(pending, other)?;
             multiplied(alloc, false, Vec::new(alloc), term)
         }
         None => multiplied(alloc, false, Vec::new(alloc), term),
@@ -488,7 +496,7 @@ fn members(alloc: Global, pending: &mut Vec<Pending>, term: Term) -> Result<Vec<
     match pending.pop() {
         Some(Pending::Added(minus, members)) => added(alloc, minus, members, term),
         Some(other) => {
-            pending.push(other)?;
+            put_pending(pending, other)?;
             added(alloc, false, Vec::new(alloc), term)
         }
         None => added(alloc, false, Vec::new(alloc), term),
@@ -516,17 +524,17 @@ fn list(
     alloc: Global,
     goal: usize,
     pending: &mut Vec<Pending>,
-    connective: Connective,
+    junction: Junction,
     operand: Operand,
 ) -> Result<Step, ReadError>
-    ensures taken { IfOk result (λ s. joins goal connective (frames pending.old.items) (reading_of operand) ≡ outcome_of s (frames pending.new.items)) }
-    ensures refused { IfErr result (λ e. Refuses e (joins goal connective (frames pending.old.items) (reading_of operand) ≡ Fails)) }
+    ensures taken { IfOk result (λ s. joins goal junction (frames pending.old.items) (reading_of operand) ≡ outcome_of s (frames pending.new.items)) }
+    ensures refused { IfErr result (λ e. Refuses e (joins goal junction (frames pending.old.items) (reading_of operand) ≡ Fails)) }
 {
     let Some(formula) = formula_of(operand) else {
         return Err(ReadError::Syntax);
     };
-    let members = listed(alloc, pending, connective, formula)?;
-    push(goal, pending, Pending::Listed(connective, members))
+    let members = listed(alloc, pending, junction, formula)?;
+    push(goal, pending, Pending::Listed(junction, members))
 }
 
 /// The members so far, with the formula as the last one. A list of this kind that they stand in is taken away.
@@ -534,18 +542,20 @@ fn list(
 fn listed(
     alloc: Global,
     pending: &mut Vec<Pending>,
-    connective: Connective,
+    junction: Junction,
     formula: Formula,
 ) -> Result<Vec<Formula>, AllocError>
-    ensures { IfOk result (λ fs. listed connective (frames pending.old.items) (formula_tree formula) ≡ (map formula_tree fs.items, frames pending.new.items)) }
+    ensures { IfOk result (λ fs. listed junction (frames pending.old.items) (formula_tree formula) ≡ (map formula_tree fs.items, frames pending.new.items)) }
 {
-    match (connective, pending.pop()) {
-        (Connective::And, Some(Pending::Listed(Connective::And, members))) => {
+    match (junction, pending.pop()) {
+        (Junction::Conjunction, Some(Pending::Listed(Junction::Conjunction, members))) => {
             with(members, formula)
         }
-        (Connective::Or, Some(Pending::Listed(Connective::Or, members))) => with(members, formula),
+        (Junction::Disjunction, Some(Pending::Listed(Junction::Disjunction, members))) => with(
+            members, formula,
+        ),
         (_, Some(other)) => {
-            pending.push(other)?;
+            put_pending(pending, other)?;
             with(Vec::new(alloc), formula)
         }
         (_, None) => with(Vec::new(alloc), formula),
@@ -596,7 +606,7 @@ fn grouped(
             equivalence(alloc, left, formula)
         }
         (_, Some(other)) => {
-            pending.push(other)?;
+            put_pending(pending, other)?;
             Ok(formula)
         }
         (_, None) => Ok(formula),
@@ -611,53 +621,85 @@ fn close(alloc: Global, pending: &mut Vec<Pending>, operand: Operand) -> Result<
 {
     match pending.pop() {
         Some(Pending::Group) => Ok(Step::Moves(Expects::Power(operand))),
-        Some(Pending::Quantifier(universal, names)) => {
-            let Some(formula) = formula_of(operand) else {
-                return Err(ReadError::Syntax);
-            };
-            let quantified = quantified(alloc, universal, names, formula)?;
-            Ok(Step::Moves(Expects::Power(Operand::Formula(quantified))))
+        Some(Pending::Quantified(quantifier, names)) => {
+            let formula = close_quantifier(alloc, quantifier, names, operand)?;
+            Ok(Step::Moves(Expects::Power(Operand::Formula(formula))))
         }
-        Some(Pending::Congruence(positive, Arguments::Third(left, right))) => {
-            let Some(modulus) = term_of(operand) else {
-                return Err(ReadError::Syntax);
-            };
-            let formula = congruence_of(alloc, positive, left, right, modulus)?;
+        Some(Pending::Congruence(positive, terms)) => {
+            let formula = close_congruence(alloc, positive, terms, operand)?;
             Ok(Step::Moves(Expects::Power(Operand::Formula(formula))))
         }
         _ => Err(ReadError::Syntax),
     }
 }
 
+/// What a quantifier makes with its formula.
+#[tactic(auto, using(crate::proofs::Frames::steps))]
+fn close_quantifier(
+    alloc: Global,
+    quantifier: Quantifier,
+    names: Vec<Name>,
+    operand: Operand,
+) -> Result<Formula, ReadError>
+    ensures made { IfOk result (λ f. (fs : List Frame) → closed (Quantified quantifier names.items ∷ fs) (reading_of operand) ≡ Moves fs (Fresh (reading.Formula (formula_tree f)))) }
+    ensures refused { IfErr result (λ e. (fs : List Frame) → Refuses e (closed (Quantified quantifier names.items ∷ fs) (reading_of operand) ≡ Fails)) }
+{
+    let Some(formula) = formula_of(operand) else {
+        return Err(ReadError::Syntax);
+    };
+    let quantified = quantified(alloc, quantifier, names, formula)?;
+    Ok(quantified)
+}
+
+/// What a congruence makes with its third term.
+#[tactic(auto, using(crate::proofs::Frames::steps))]
+fn close_congruence(
+    alloc: Global,
+    positive: bool,
+    terms: Arguments,
+    operand: Operand,
+) -> Result<Formula, ReadError>
+    ensures made { IfOk result (λ f. (fs : List Frame) → closed (Congruence positive (arguments_of terms) ∷ fs) (reading_of operand) ≡ Moves fs (Fresh (reading.Formula (formula_tree f)))) }
+    ensures refused { IfErr result (λ e. (fs : List Frame) → Refuses e (closed (Congruence positive (arguments_of terms) ∷ fs) (reading_of operand) ≡ Fails)) }
+{
+    let Arguments::Third(left, right) = terms else {
+        return Err(ReadError::Syntax);
+    };
+    let Some(modulus) = term_of(operand) else {
+        return Err(ReadError::Syntax);
+    };
+    let formula = congruence_of(alloc, positive, left, right, modulus)?;
+    Ok(formula)
+}
+
 /// A quantifier for each name, the first one outermost.
 #[tactic(auto, using(crate::proofs::Frames::quantified_more))]
 fn quantified(
     alloc: Global,
-    universal: bool,
+    quantifier: Quantifier,
     mut names: Vec<Name>,
     formula: Formula,
 ) -> Result<Formula, AllocError>
-    ensures { IfOk result (λ f. formula_tree f ≡ quantified universal names.items (formula_tree formula)) }
+    ensures { IfOk result (λ f. formula_tree f ≡ quantified_names quantifier names.items (formula_tree formula)) }
 {
     let mut whole = formula;
     'names: while let Some(name) = names.pop() {
-        whole = quantifier(alloc, universal, name, whole)?;
+        whole = bound(alloc, quantifier, name, whole)?;
     }
     Ok(whole)
 }
 
-fn quantifier(
+fn bound(
     alloc: Global,
-    universal: bool,
+    quantifier: Quantifier,
     name: Name,
     formula: Formula,
 ) -> Result<Formula, AllocError>
-    ensures { IfOk result (λ f. formula_tree f ≡ quantifier universal name (formula_tree formula)) }
+    ensures { IfOk result (λ f. formula_tree f ≡ quantified quantifier name (formula_tree formula)) }
 {
-    if universal {
-        universal_of(alloc, name, formula)
-    } else {
-        existential(alloc, name, formula)
+    match quantifier {
+        Quantifier::Exists => existential(alloc, name, formula),
+        Quantifier::ForAll => universal(alloc, name, formula),
     }
 }
 
@@ -685,20 +727,34 @@ fn separate(pending: &mut Vec<Pending>, operand: Operand) -> Result<Step, ReadEr
     ensures refused { IfErr result (λ e. Refuses e (separated (frames pending.old.items) (reading_of operand) ≡ Fails)) }
 {
     match pending.pop() {
-        Some(Pending::Congruence(positive, Arguments::First)) => {
-            let Some(first) = term_of(operand) else {
-                return Err(ReadError::Syntax);
-            };
-            pending.push(Pending::Congruence(positive, Arguments::Second(first)))?;
-            Ok(Step::Moves(Expects::Operand))
-        }
-        Some(Pending::Congruence(positive, Arguments::Second(first))) => {
-            let Some(second) = term_of(operand) else {
-                return Err(ReadError::Syntax);
-            };
-            pending.push(Pending::Congruence(positive, Arguments::Third(first, second)))?;
+        Some(Pending::Congruence(positive, terms)) => {
+            let terms = one_more(terms, operand)?;
+            put_pending(pending, Pending::Congruence(positive, terms))?;
             Ok(Step::Moves(Expects::Operand))
         }
         _ => Err(ReadError::Syntax),
+    }
+}
+
+/// The terms of a congruence with one more, which stands before a comma.
+#[tactic(auto, using(crate::proofs::Frames::steps))]
+fn one_more(terms: Arguments, operand: Operand) -> Result<Arguments, ReadError>
+    ensures made { IfOk result (λ more. (positive : Bool) (fs : List Frame) → separated (Congruence positive (arguments_of terms) ∷ fs) (reading_of operand) ≡ Moves (Congruence positive (arguments_of more) ∷ fs) Wants) }
+    ensures refused { IfErr result (λ e. (positive : Bool) (fs : List Frame) → Refuses e (separated (Congruence positive (arguments_of terms) ∷ fs) (reading_of operand) ≡ Fails)) }
+{
+    match terms {
+        Arguments::First => {
+            let Some(first) = term_of(operand) else {
+                return Err(ReadError::Syntax);
+            };
+            Ok(Arguments::Second(first))
+        }
+        Arguments::Second(first) => {
+            let Some(second) = term_of(operand) else {
+                return Err(ReadError::Syntax);
+            };
+            Ok(Arguments::Third(first, second))
+        }
+        Arguments::Third(_first, _second) => Err(ReadError::Syntax),
     }
 }

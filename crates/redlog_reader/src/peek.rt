@@ -2,8 +2,8 @@ ghost use Rattle.std.specs.Prelude.{◌≡◌, ◌∷◌, [], ◌<◌, length, I
 ghost use Rattle.redlog_tokens.specs.Terminals.{terminals};
 ghost use Rattle.redlog_reader.specs.Reader.{after_mark, number_read, name_read, after_equal, relation_of, relation_read};
 
-use redlog_tokens::{Mark, Terminal, Token, Word, terminal_of};
 use qe_syntax::{Literal, Name, Relation};
+use redlog_tokens::{Mark, Terminal, Token, Word, terminal_of};
 
 /// The first terminal, and the tokens after it.
 #[tactic(auto, unfolding(redlog_tokens::specs::Terminals::terminals))]

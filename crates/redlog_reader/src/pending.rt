@@ -3,14 +3,8 @@ ghost use Rattle.redlog_reader.specs.Machine.{level, takes_last};
 ghost use Rattle.redlog_reader.specs.View.{frame_of};
 
 use crate::operand::Operand;
+use formula_meaning::{Junction, Quantifier};
 use qe_syntax::{Formula, Name, Relation, Term};
-
-/// `and` or `or`.
-#[derive(Clone, Copy, Debug, PartialEq, Eq)]
-pub enum Connective {
-    And,
-    Or,
-}
 
 /// An implication: `impl`, `repl` or `equiv`.
 #[derive(Clone, Copy, Debug, PartialEq, Eq)]
@@ -28,18 +22,18 @@ pub enum Arguments {
     Third(Term, Term),
 }
 
-/// What has begun and waits for its last part. A quantifier is `all` where the test is true, and a congruence `cong`.
-/// The last sign of a sum is `-`, and that of a product `/`, where the test is true.
+/// What has begun and waits for its last part. A congruence is `cong` where the test is true. The last sign of a sum is
+/// `-`, and that of a product `/`, where the test is true.
 #[derive(Drop)]
 pub enum Pending {
     Group,
-    Quantifier(bool, Vec<Name>),
+    Quantified(Quantifier, Vec<Name>),
     Congruence(bool, Arguments),
     Negation,
     Compares(Relation, Term),
     Added(bool, Vec<Term>),
     Multiplied(bool, Vec<Term>),
-    Listed(Connective, Vec<Formula>),
+    Listed(Junction, Vec<Formula>),
     Arrows(Arrow, Formula),
 }
 
@@ -51,11 +45,11 @@ pub enum Expects {
     Power(Operand),
     Operator(Operand),
     Exponent(Term),
-    Binder(bool),
-    Binding(bool),
-    Name(bool, Vec<Name>),
-    NameEnd(bool, Vec<Name>),
-    Scope(bool, Vec<Name>),
+    Binder(Quantifier),
+    Binding(Quantifier),
+    Name(Quantifier, Vec<Name>),
+    NameEnd(Quantifier, Vec<Name>),
+    Scope(Quantifier, Vec<Name>),
     Terms(bool),
 }
 
@@ -71,12 +65,12 @@ pub fn level(pending: &Pending) -> usize
     ensures { result ≡ level (frame_of pending.now) }
 {
     match pending {
-        Pending::Group | Pending::Quantifier(_, _) | Pending::Congruence(_, _) => 9,
+        Pending::Group | Pending::Quantified(_, _) | Pending::Congruence(_, _) => 9,
         Pending::Multiplied(_, _) => 1,
         Pending::Added(_, _) => 2,
         Pending::Compares(_, _) | Pending::Negation => 3,
-        Pending::Listed(Connective::And, _) => 4,
-        Pending::Listed(Connective::Or, _) => 5,
+        Pending::Listed(Junction::Conjunction, _) => 4,
+        Pending::Listed(Junction::Disjunction, _) => 5,
         Pending::Arrows(Arrow::Impl, _) => 6,
         Pending::Arrows(Arrow::Repl, _) => 7,
         Pending::Arrows(Arrow::Equiv, _) => 8,
@@ -88,12 +82,12 @@ pub fn takes_last(pending: &Pending) -> usize
     ensures { result ≡ takes_last (frame_of pending.now) }
 {
     match pending {
-        Pending::Group | Pending::Quantifier(_, _) => 8,
+        Pending::Group | Pending::Quantified(_, _) => 8,
         Pending::Multiplied(_, _) => 0,
         Pending::Added(_, _) => 1,
         Pending::Congruence(_, _) | Pending::Compares(_, _) => 2,
-        Pending::Negation | Pending::Listed(Connective::And, _) => 3,
-        Pending::Listed(Connective::Or, _) => 4,
+        Pending::Negation | Pending::Listed(Junction::Conjunction, _) => 3,
+        Pending::Listed(Junction::Disjunction, _) => 4,
         Pending::Arrows(Arrow::Impl | Arrow::Repl, _) => 6,
         Pending::Arrows(Arrow::Equiv, _) => 7,
     }

@@ -4,8 +4,8 @@ ghost use Rattle.redlog_reader.specs.Reader.{entry_read, items_read, braced_read
 ghost use Rattle.redlog_reader.specs.Reading.{Refuses};
 
 use crate::peek::{after, after_equal, name, number};
-use redlog_tokens::{Mark, ReadError, Token};
 use qe_syntax::{Entries, Literal, PointEntry};
+use redlog_tokens::{Mark, ReadError, Token};
 use std::alloc::Global;
 
 /// The entries of a point, in braces.

@@ -1,18 +1,18 @@
 ghost use Rattle.std.specs.Prelude.{◌≡◌, ◌∷◌, IfOk, IfErr, MatchOption, Some, None};
-ghost use Rattle.qe_syntax.specs.Trees.{formula_tree, formulas_of};
+ghost use Rattle.qe_syntax.specs.Trees.{formula_tree};
 ghost use Rattle.qe_syntax.specs.Statements.{statement_tree, action_tree, command_tree, Say, Assign};
 ghost use Rattle.redlog_tokens.specs.declared.terminal.Terminal.{Terminal};
 ghost use Rattle.redlog_tokens.specs.Terminals.{terminals};
 ghost use Rattle.redlog_reader.specs.Grammar.{setting_of};
-ghost use Rattle.redlog_reader.specs.Reader.{formula_read, pointed_read, result_from, result_read, is_any, anys_read, context_read, ignored_read, said, action_from, named_from, action_read, alone, ending, statement_read};
+ghost use Rattle.redlog_reader.specs.Reader.{pointed_read, result_from, result_read, is_any, anys_read, context_read, ignored_read, action_from, named_from, action_read, alone, ending, statement_read};
 ghost use Rattle.redlog_reader.specs.Reading.{Refuses};
 
 use crate::argument::{FORMULA, PRIME, argument, formula};
 use crate::peek::{after, name, next};
 use crate::point::point;
 use crate::setting::setting_of;
-use redlog_tokens::{Mark, ReadError, Terminal, Token, Word};
 use qe_syntax::{Action, Command, Entries, Formula, Formulas, Name, Statement};
+use redlog_tokens::{Mark, ReadError, Terminal, Token, Word};
 use std::alloc::{AllocError, Global};
 
 /// The statement that the tokens spell, with no token after it.

@@ -1,6 +1,6 @@
 -- The words of one length are all that a text of that length can be.
 use Rattle.std.proofs.Common.{◌≡◌, ℕ, Bool, true, false, List, [], ◌∷◌, length, map, sym, refl, ap, ◌∙◌, subst, arith}
-use Rattle.std.specs.Prelude.{◌==◌, ◌||◌, Option, Some, None, is_some, filter, bytes_eq, if◌then◌else◌}
+use Rattle.std.specs.Prelude.{◌==◌, ◌||◌, Option, Some, is_some, filter, bytes_eq, if◌then◌else◌}
 use Rattle.std.proofs.lemmas.Slice.Eq.{bytes_eq-Decides}
 use Rattle.qe_syntax.specs.Names.{is_one_of, keywords}
 use Rattle.redlog_tokens.specs.declared.terminal.Word.{Word}
