@@ -1,7 +1,7 @@
 -- The names of a state are ones that a script can write, after each statement.
 use Rattle.std.proofs.Common.{ℕ, List, ◌++◌, Bool, sym, subst}
 use Rattle.qe_syntax.specs.Statements.{CommandTree, Echo, Nnf, Pnf, Dnf, Cnf, Simpl, Qe, Qea, Holds, Sample, ActionTree, Empty, Ignored, Finish, Choose, Say, Assign, StatementTree}
-use Rattle.qe_syntax.specs.Proper.{IsProperFormula, AreProperFormulas, AreProperEntries, IsProperCommand, IsProper}
+use Rattle.qe_syntax.specs.Writable.{IsWritableFormula, AreWritableFormulas, AreWritableEntries, IsWritableCommand, IsWritable}
 use Rattle.formula_tree.specs.Resolving.{formula_variables, all_variables}
 use Rattle.formula_tree.proofs.PlaceLaws.{after_distinct}
 use Rattle.redlog_reader.specs.Statement.{Spells}
@@ -17,7 +17,7 @@ use Rattle.session_commands.proofs.NewNameLemmas.{answer_names_distinct, answer_
 use Rattle.session_commands.proofs.VariableLemmas.{AllVariables, both, variables_of_formula, variables_of_all, names_of_entries, all_put_in}
 use Rattle.lines_read_back.specs.ReadBack.{NamesStayWritable}
 
-pub proper_formula : (c : CommandTree) → IsProperCommand c → IsProperFormula (formula_of c)
+pub proper_formula : (c : CommandTree) → IsWritableCommand c → IsWritableFormula (formula_of c)
 proper_formula (Echo f) h = h
 proper_formula (Nnf f) h = h
 proper_formula (Pnf f) h = h
@@ -29,7 +29,7 @@ proper_formula (Qea f given) h = h.0
 proper_formula (Holds f es) h = h.0
 proper_formula (Sample f es) h = h.0
 
-proper_entries : (c : CommandTree) → IsProperCommand c → AreProperEntries (entries_of c)
+proper_entries : (c : CommandTree) → IsWritableCommand c → AreWritableEntries (entries_of c)
 proper_entries (Echo f) h = tt
 proper_entries (Nnf f) h = tt
 proper_entries (Pnf f) h = tt
@@ -41,7 +41,7 @@ proper_entries (Qea f given) h = tt
 proper_entries (Holds f es) h = h.1
 proper_entries (Sample f es) h = h.1
 
-pub proper_given : (c : CommandTree) → IsProperCommand c → AreProperFormulas (given_of c)
+pub proper_given : (c : CommandTree) → IsWritableCommand c → AreWritableFormulas (given_of c)
 proper_given (Echo f) h = tt
 proper_given (Nnf f) h = tt
 proper_given (Pnf f) h = tt
@@ -53,13 +53,13 @@ proper_given (Qea f given) h = h.1
 proper_given (Holds f es) h = tt
 proper_given (Sample f es) h = tt
 
-variables_of_command : (c : CommandTree) → IsProperCommand c → AllVariables (command_variables c)
+variables_of_command : (c : CommandTree) → IsWritableCommand c → AllVariables (command_variables c)
 variables_of_command c h =
     both (formula_variables (formula_of c)) (all_variables (given_of c) ++ entry_names (entries_of c)) (variables_of_formula (formula_of c) (proper_formula c h))
     (both (all_variables (given_of c)) (entry_names (entries_of c)) (variables_of_all (given_of c) (proper_given c h)) (names_of_entries (entries_of c) (proper_entries c h)))
 
 -- the state in which the variables of a command have their numbers
-pub named_variables : (s : State) (c : CommandTree) → IsProperCommand c → AreVariables s.names → AreVariables (named s c).names
+pub named_variables : (s : State) (c : CommandTree) → IsWritableCommand c → AreVariables s.names → AreVariables (named s c).names
 named_variables s c h v = record {
   distinct = after_distinct (command_variables c) s.names v.distinct;
   variables = all_put_in s.names (command_variables c) v.variables (variables_of_command c h);
@@ -72,13 +72,13 @@ answer_variables s c names v h = record { distinct = answer_names_distinct s c n
 -- ---- statements
 
 -- what is spelled is proper
-pub spelled_proper : {piece : List ℕ} {t : StatementTree} → Spells piece t → IsProper t
+pub spelled_proper : {piece : List ℕ} {t : StatementTree} → Spells piece t → IsWritable t
 spelled_proper h = proper_statement h.spelled (lexed_proper h.kinds h.tokens.lexes h.tokens.good)
 
 abbrev HasVariables : State → Type 0
 HasVariables s = AreVariables s.names
 
-after_action : (s : State) (limit : ℕ) (printed : Bool) (a : ActionTree) (answer : Line) (next : State) → IsProper (record { action = a; printed = printed }) → AreVariables s.names
+after_action : (s : State) (limit : ℕ) (printed : Bool) (a : ActionTree) (answer : Line) (next : State) → IsWritable (record { action = a; printed = printed }) → AreVariables s.names
     → Answers s limit printed a answer next → AreVariables next.names
 after_action s limit printed Empty answer next p v h = subst HasVariables (sym h.1) v
 after_action s limit printed Ignored answer next p v h = subst HasVariables (sym h.1) v

@@ -30,7 +30,7 @@ use Rattle.atom_normal.proofs.Sorted.{normal_in_fields, normal_over_integers}
 use Rattle.qe_syntax.specs.declared.tree.Literal.{Literal}
 use Rattle.qe_syntax.specs.declared.tree.Literal.TheVariants.{Fits, Past}
 use Rattle.qe_syntax.specs.declared.tree.Relation as sign
-use Rattle.qe_syntax.specs.Proper.{IsProperTerm, IsProperAtom, IsProperFormula, AreProperFormulas}
+use Rattle.qe_syntax.specs.Writable.{IsWritableTerm, IsWritableAtom, IsWritableFormula, AreWritableFormulas}
 use Rattle.qe_syntax.specs.Trees as term
 use Rattle.qe_syntax.specs.Trees.{TermTree, TermTrees, Number, Named, Sum, Product, Quotient, Power, Negative, WrittenAtom, Compare, Cong, Ncong, Bound, FormulaTree, FormulaTrees}
 use Rattle.qe_syntax.specs.Value.{relation_of}
@@ -192,7 +192,7 @@ opposite_within : (a : RationalForm) → Within a → Within (opposite_form a)
 unfolding scale
 opposite_within a h = record { terms = opposite_terms a.form.terms h.terms; constant = opposite_number a.form.constant h.constant }
 
-literal_within : (n : Literal) (v : RationalForm) → IsProperTerm (Number n) → literal_form n ≡ Ok v → Within v
+literal_within : (n : Literal) (v : RationalForm) → IsWritableTerm (Number n) → literal_form n ≡ Ok v → Within v
 literal_within (Fits z) v h e = subst Within (ok_same _ _ e) (constant_within (whole_frac z) h.1)
 literal_within Past v h e = absurd (cc)
 
@@ -212,7 +212,7 @@ module _ (c : Context) (number : List ℕ → ℕ) where
       multiplied_within e1.0 ts v (product_within total e0.0 e1.0 e1.1) e1.2
 
   -- the numbers of a term's form
-  term_within : (t : TermTree) → IsProperTerm t → (v : RationalForm) → formed c number t ≡ Ok v → Within v
+  term_within : (t : TermTree) → IsWritableTerm t → (v : RationalForm) → formed c number t ≡ Ok v → Within v
   term_within (Number n) h v e = literal_within n v h e
   term_within (Named x) h v e = subst Within (ok_same _ _ e) (record { terms = (omega arith, tt); constant = omega arith })
   term_within (Sum ts) h v e = added_within (constant_form (whole_frac (pos 0))) ts v (constant_within (whole_frac (pos 0)) (omega arith)) e
@@ -339,7 +339,7 @@ module _ (bound : BoundTrees) (names : List (List ℕ)) (unbound : bound ≡ [])
       (compared_fits c (relation_of rel) d.0.form (difference_sorted c number s t d.0 d.1) (difference_within c number s t d.0 d.1)
       (λ k. p.within (inr (subst (λ r. ConstantPasses (compared c rel r)) (sym d.1) k))))
 
-  cong_fits : (b : Bool) (s t m : TermTree) → IsProperTerm m → ¬ (IsMissing (formed_difference Integers number s t)) → ¬ (IsMissing (formed Integers number m)) → ¬ (IsNoDivisor (formed Integers number m))
+  cong_fits : (b : Bool) (s t m : TermTree) → IsWritableTerm m → ¬ (IsMissing (formed_difference Integers number s t)) → ¬ (IsMissing (formed Integers number m)) → ¬ (IsNoDivisor (formed Integers number m))
       → Every AtomFits (resolving.congruent Integers b (formed_difference Integers number s t) (formed Integers number m))
   cong_fits b s t m proper here modulus divisor =
       let d = there (formed_difference Integers number s t) here in
@@ -350,7 +350,7 @@ module _ (bound : BoundTrees) (names : List (List ℕ)) (unbound : bound ≡ [])
       (subst (λ y. Every AtomFits (resolving.congruent Integers b (Ok d.0) y)) (sym r.1)
       (congruent_fits b (unsigned_abs r.0.form.constant) d.0.form (above_zero r.0.form.constant k.1) small))
 
-  atom_fits : (c : Context) (a : WrittenAtom) → IsPlain c bound names a × IsProperAtom a → Every AtomFits (resolved_atom c bound number a)
+  atom_fits : (c : Context) (a : WrittenAtom) → IsPlain c bound names a × IsWritableAtom a → Every AtomFits (resolved_atom c bound number a)
   atom_fits c (Compare rel s t) p = compare_fits c rel s t p.0
   atom_fits Fields (Cong s t m) p = absurd (p.0.theory (refl, tt))
   atom_fits Integers (Cong s t m) p = cong_fits true s t m p.1.2 (λ k. p.0.within (inl k)) (λ k. p.0.within (inr (inl k))) p.0.modulus
@@ -359,7 +359,7 @@ module _ (bound : BoundTrees) (names : List (List ℕ)) (unbound : bound ≡ [])
   atom_fits c (Bound x) p = subst (λ bs. Every AtomFits (unwrap_or (bound_to bs x) No)) (sym unbound) tt
 
 mutual
-  proper_atoms : (f : FormulaTree) → IsProperFormula f → Every IsProperAtom f
+  proper_atoms : (f : FormulaTree) → IsWritableFormula f → Every IsWritableAtom f
   proper_atoms Yes h = tt
   proper_atoms No h = tt
   proper_atoms (One a) h = h
@@ -372,18 +372,18 @@ mutual
   proper_atoms (Ex x f) h = proper_atoms f h.1
   proper_atoms (All x f) h = proper_atoms f h.1
 
-  all_proper_atoms : (fs : FormulaTrees) → AreProperFormulas fs → EveryOf IsProperAtom fs
+  all_proper_atoms : (fs : FormulaTrees) → AreWritableFormulas fs → EveryOf IsWritableAtom fs
   all_proper_atoms plain.none h = tt
   all_proper_atoms (plain.also f fs) h = (proper_atoms f h.0, all_proper_atoms fs h.1)
 
 -- an accepted formula, where nothing is bound
-pub resolved_fits : (c : Context) (bound : BoundTrees) (names : List (List ℕ)) (f : FormulaTree) → bound ≡ [] → names_after names f ≡ names → IsProperFormula f → IsResolvable c bound names f
+pub resolved_fits : (c : Context) (bound : BoundTrees) (names : List (List ℕ)) (f : FormulaTree) → bound ≡ [] → names_after names f ≡ names → IsWritableFormula f → IsResolvable c bound names f
     → Every AtomFits (resolve c bound names f)
 resolved_fits c bound names f unbound numbers proper accepted =
     let by = resolved_atom c bound (place names) in
     let atoms = subst (λ ns. Every (IsPlain c bound ns) f) numbers (all_plain c bound names f accepted) in
     every_replaced by (place names) AtomFits f
-    (every_map _ (λ a. Every AtomFits (by a)) (atom_fits bound names unbound c) f (every_both (IsPlain c bound names) IsProperAtom f atoms (proper_atoms f proper)))
+    (every_map _ (λ a. Every AtomFits (by a)) (atom_fits bound names unbound c) f (every_both (IsPlain c bound names) IsWritableAtom f atoms (proper_atoms f proper)))
 
 -- ---- negation normal form
 

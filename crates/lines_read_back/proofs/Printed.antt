@@ -10,7 +10,7 @@ use Rattle.formula_meaning.specs.Sizes.{height}
 use Rattle.formula_meaning.specs.Tree.{Tree}
 use Rattle.qe_syntax.specs.Trees.{FormulaTree, FormulaTrees}
 use Rattle.qe_syntax.specs.Statements.{CommandTree, Echo, Nnf, Pnf, Dnf, Cnf, Simpl, Qe, Qea, Holds, Sample, Say, StatementTree}
-use Rattle.qe_syntax.specs.Proper.{IsProperCommand, IsProperFormula}
+use Rattle.qe_syntax.specs.Writable.{IsWritableCommand, IsWritableFormula}
 use Rattle.formula_tree.specs.Resolving.{BoundTrees, place, names_after, all_variables}
 use Rattle.formula_tree.specs.Causes.{most_height, IsAccepted as IsResolvable, IsUnbound, NamesFormulaAsTerm, IsNonlinear, Divides, CongruenceInFields, IsBadModulus, IsTooDeep, OverflowsInReading}
 use Rattle.formula_tree.proofs.ResolvedHeight.{resolving_keeps_height}
@@ -48,7 +48,7 @@ none_bound : (c : Context) (n : ℕ) (bound : BoundTrees) → bound ≡ [] → A
 none_bound c n bound e = subst (AreSessionFormulas c n) (sym e) (λ x t h. absurd (cc))
 
 -- a state in which the variables of the command have their numbers, and which accepts it
-module _ (z : State) (limit : ℕ) (u : Use) (c : CommandTree) (numbers : names_after z.names (formula_of c) ≡ z.names) (proper : IsProperFormula (formula_of c))
+module _ (z : State) (limit : ℕ) (u : Use) (c : CommandTree) (numbers : names_after z.names (formula_of c) ≡ z.names) (proper : IsWritableFormula (formula_of c))
     (unbound : z.bound ≡ []) (accepted : IsAccepted z limit u c) where
   abbrev f : FormulaTree
   f = formula_of c
@@ -126,7 +126,7 @@ module _ (z next : State) (limit : ℕ) (u : Use) (context : next.context ≡ z.
   same_formula : next.names ≡ z.names → IsSessionFormula z.context (length z.names) t → IsSessionFormula next.context (length next.names) t
   same_formula n h = subst (λ c. IsSessionFormula c (length next.names) t) (sym context) (subst (λ ns. IsSessionFormula z.context (length ns) t) (sym n) h)
 
-  given_formula : (c : CommandTree) → GivesFormula c → names_after z.names (formula_of c) ≡ z.names → IsProperFormula (formula_of c) → z.bound ≡ [] → IsAccepted z limit u c
+  given_formula : (c : CommandTree) → GivesFormula c → names_after z.names (formula_of c) ≡ z.names → IsWritableFormula (formula_of c) → z.bound ≡ [] → IsAccepted z limit u c
       → MayGive z limit c t → HasAnswerNames z c next.names → IsPrinted z limit c text next
   given_formula (Echo f) b numbers proper unbound accepted given n = record {
     tree = t;
@@ -206,7 +206,7 @@ pub printed_is_formula : PrintedIsFormula
 printed_is_formula s limit piece c bytes next bare built spelled r =
     let a = subst (λ (u : StatementTree). Answers s limit u.printed u.action (line.Printed bytes) next) (spells_once piece r.statement (record { action = Say c; printed = true }) r.spelled spelled) r.answered in
     let z = named s c in
-    let proper : IsProperCommand c = spelled_proper spelled in
+    let proper : IsWritableCommand c = spelled_proper spelled in
     let names : next.names ≡ a.names = ap (λ (y : State). y.names) a.after in
     let told = told_formula z limit c a.names a.answered.1.0 built a.answered.1.1 in
     let text_is : bytes.items ≡ tree_text next.names told.0 = a.answered.1.2.1 ∙ told.2 ∙ ap (λ ns. tree_text ns told.0) (sym names) in

@@ -6,7 +6,8 @@ ghost use Rattle.atom_normal.specs.Atoms.{context_of};
 ghost use Rattle.atom_normal.specs.NormalForm.{IsNormal};
 ghost use Rattle.formula_tree.specs.Trees.{tree_of};
 ghost use Rattle.nnf_trees.specs.Nnfs.{HasModulus};
-ghost use Rattle.qe_syntax.specs.Proper.{IsProper, IsProperFormula};
+ghost use Rattle.qe_syntax.specs.Proper.{IsProperFormula};
+ghost use Rattle.qe_syntax.specs.Writable.{IsWritable};
 ghost use Rattle.qe_syntax.specs.Statements.{statement_tree};
 ghost use Rattle.qe_syntax.specs.Trees.{formula_tree};
 
@@ -22,8 +23,9 @@ use std::alloc::Global;
 pub(crate) const LIMIT: u64 = 1000;
 
 /// The formula that the statement asks for as it is.
+#[tactic(auto, using(qe_syntax::proofs::WritableLemmas::writable))]
 pub(crate) fn formula_of(statement: &Statement) -> Option<&Formula>
-    requires { IsProper (statement_tree statement.now) }
+    requires { IsWritable (statement_tree statement.now) }
     ensures { IfSome result (λ f. IsProperFormula (formula_tree f.now)) }
 {
     let Action::Say(command) = &statement.action else {
@@ -37,7 +39,7 @@ pub(crate) fn formula_of(statement: &Statement) -> Option<&Formula>
 
 /// The tree of the negation normal form of that formula.
 pub(crate) fn form_of(alloc: Global, context: Context, statement: &Statement) -> Option<Tree>
-    requires { IsProper (statement_tree statement.now) }
+    requires { IsWritable (statement_tree statement.now) }
     ensures moduli { IfSome result (λ t. Every HasModulus (tree_of t)) }
     ensures normal { IfSome result (λ t. Every (IsNormal (context_of context)) (tree_of t)) }
 {

@@ -8,7 +8,7 @@ pub mod ValueLaw
 pub mod CongruenceLaw
 pub mod TruthLaw
 pub mod Quantified
-pub mod LinearSearch
+pub mod WritableLemmas
 pub mod NameSearch
 pub mod OnePoint
 pub mod Examples

@@ -10,4 +10,4 @@ pub mod Rule
 pub mod Testable
 pub mod Evaluates
 pub mod Valued
-pub mod Linear
+pub mod Writable

@@ -1,15 +1,14 @@
--- What the reader gives: numbers within the limit, names that a script can write, and lists of two members at least.
-use Rattle.std.specs.Prelude.{pos, ◌≤ℤ◌, List}
+-- What calls ask of terms, formulas and points: numbers within the limit, and lists of two members at least. What the reader
+-- gives is proper in this sense, and each name is one that a script can write.
+use Rattle.std.specs.Prelude.{ℕ, pos, ◌≤ℤ◌, List}
 use Rattle.std.specs.List.{AllByRecursion}
 use Rattle.exact_numbers.specs.Limit.{InLimit}
-use Rattle.formula_meaning.specs.Formula.{Formula, Formulas, Yes, No, One, Not, And, Or, Impl, Repl, Equiv, Ex, All}
+use Rattle.formula_meaning.specs.Formula.{Yes, No, One, Not, And, Or, Impl, Repl, Equiv, Ex, All}
 use Rattle.formula_meaning.specs.Formula as plain
-use Rattle.qe_syntax.specs.Names.{IsVariable}
 use Rattle.qe_syntax.specs.declared.tree.Literal.{Literal}
 use Rattle.qe_syntax.specs.declared.tree.Literal.TheVariants.{Fits, Past}
 use Rattle.qe_syntax.specs.declared.statement.PointEntry.{PointEntry}
 use Rattle.qe_syntax.specs.Trees.{TermTree, TermTrees, Number, Named, Sum, Product, Quotient, Power, Negative, none, also, WrittenAtom, Compare, Cong, Ncong, Bound, FormulaTree, FormulaTrees}
-use Rattle.qe_syntax.specs.Statements.{CommandTree, Echo, Nnf, Pnf, Dnf, Cnf, Simpl, Qe, Qea, Holds, Sample, ActionTree, Empty, Ignored, Finish, Choose, Say, Assign, StatementTree}
 
 -- a number from 0 to the limit, where it fits
 abbrev pub IsNumeral : Literal → Type 0
@@ -20,14 +19,6 @@ IsNumeral Past = Unit {0}
 abbrev pub IsSigned : Literal → Type 0
 IsSigned (Fits n) = InLimit n
 IsSigned Past = Unit {0}
-
--- an entry whose literals are within the limit, with no sign below, and whose name is one of a variable
-abbrev pub IsProperEntry : PointEntry → Type 0
-IsProperEntry e = IsSigned e.above × IsNumeral e.below × IsVariable e.name
-
--- each entry is proper
-abbrev pub AreProperEntries : List PointEntry → Type 0
-AreProperEntries = AllByRecursion IsProperEntry
 
 -- the list has two members at least
 abbrev pub AreTerms : TermTrees → Type 0
@@ -41,71 +32,77 @@ AreFormulas plain.none = ⊥
 AreFormulas (plain.also f plain.none) = ⊥
 AreFormulas (plain.also f (plain.also g fs)) = Unit {0}
 
-abbrev mutual
-  -- each number of the term is within the limit, each name is one of a variable, and each list has two members at least
-  pub IsProperTerm : TermTree → Type 0
-  IsProperTerm (Number n) = IsNumeral n
-  IsProperTerm (Named x) = IsVariable x
-  IsProperTerm (Sum ts) = AreTerms ts × AreProperTerms ts
-  IsProperTerm (Product ts) = AreTerms ts × AreProperTerms ts
-  IsProperTerm (Quotient s t) = IsProperTerm s × IsProperTerm t
-  IsProperTerm (Power t n) = IsProperTerm t × IsNumeral n
-  IsProperTerm (Negative t) = IsProperTerm t
+module _ (K : List ℕ → Type 0) where
+  -- an entry whose literals are within the limit, with no sign below, and whose name has K
+  abbrev pub IsEntryOver : PointEntry → Type 0
+  IsEntryOver e = IsSigned e.above × IsNumeral e.below × K e.name
 
-  -- each of the terms is proper
-  pub AreProperTerms : TermTrees → Type 0
-  AreProperTerms none = Unit {0}
-  AreProperTerms (also t ts) = IsProperTerm t × AreProperTerms ts
+  abbrev mutual
+    -- each number of the term is within the limit, each name has K, and each list has two members at least
+    pub IsTermOver : TermTree → Type 0
+    IsTermOver (Number n) = IsNumeral n
+    IsTermOver (Named x) = K x
+    IsTermOver (Sum ts) = AreTerms ts × AreTermsOver ts
+    IsTermOver (Product ts) = AreTerms ts × AreTermsOver ts
+    IsTermOver (Quotient s t) = IsTermOver s × IsTermOver t
+    IsTermOver (Power t n) = IsTermOver t × IsNumeral n
+    IsTermOver (Negative t) = IsTermOver t
 
--- each term of the atom is proper, and so is its name
+    -- the same of each of the terms
+    pub AreTermsOver : TermTrees → Type 0
+    AreTermsOver none = Unit {0}
+    AreTermsOver (also t ts) = IsTermOver t × AreTermsOver ts
+
+  -- the same of each term of the atom, and its name has K
+  abbrev pub IsAtomOver : WrittenAtom → Type 0
+  IsAtomOver (Compare rel s t) = IsTermOver s × IsTermOver t
+  IsAtomOver (Cong s t m) = IsTermOver s × IsTermOver t × IsTermOver m
+  IsAtomOver (Ncong s t m) = IsTermOver s × IsTermOver t × IsTermOver m
+  IsAtomOver (Bound x) = K x
+
+  abbrev mutual
+    -- the same of each atom and each name of the formula, and each list has two members at least
+    pub IsFormulaOver : FormulaTree → Type 0
+    IsFormulaOver Yes = Unit {0}
+    IsFormulaOver No = Unit {0}
+    IsFormulaOver (One a) = IsAtomOver a
+    IsFormulaOver (Not f) = IsFormulaOver f
+    IsFormulaOver (And fs) = AreFormulas fs × AreFormulasOver fs
+    IsFormulaOver (Or fs) = AreFormulas fs × AreFormulasOver fs
+    IsFormulaOver (Impl f g) = IsFormulaOver f × IsFormulaOver g
+    IsFormulaOver (Repl f g) = IsFormulaOver f × IsFormulaOver g
+    IsFormulaOver (Equiv f g) = IsFormulaOver f × IsFormulaOver g
+    IsFormulaOver (Ex x f) = K x × IsFormulaOver f
+    IsFormulaOver (All x f) = K x × IsFormulaOver f
+
+    -- the same of each of the formulas
+    pub AreFormulasOver : FormulaTrees → Type 0
+    AreFormulasOver plain.none = Unit {0}
+    AreFormulasOver (plain.also f fs) = IsFormulaOver f × AreFormulasOver fs
+
+-- any name
+abbrev pub IsAnyName : List ℕ → Type 0
+IsAnyName x = Unit {0}
+
+-- numbers within the limit, with no sign below
+abbrev pub IsProperEntry : PointEntry → Type 0
+IsProperEntry = IsEntryOver IsAnyName
+
+abbrev pub AreProperEntries : List PointEntry → Type 0
+AreProperEntries = AllByRecursion IsProperEntry
+
+-- numbers within the limit, and lists of two members at least
+abbrev pub IsProperTerm : TermTree → Type 0
+IsProperTerm = IsTermOver IsAnyName
+
+abbrev pub AreProperTerms : TermTrees → Type 0
+AreProperTerms = AreTermsOver IsAnyName
+
 abbrev pub IsProperAtom : WrittenAtom → Type 0
-IsProperAtom (Compare rel s t) = IsProperTerm s × IsProperTerm t
-IsProperAtom (Cong s t m) = IsProperTerm s × IsProperTerm t × IsProperTerm m
-IsProperAtom (Ncong s t m) = IsProperTerm s × IsProperTerm t × IsProperTerm m
-IsProperAtom (Bound x) = IsVariable x
+IsProperAtom = IsAtomOver IsAnyName
 
-abbrev mutual
-  -- each atom and each name of the formula is proper, and each list has two members at least
-  pub IsProperFormula : FormulaTree → Type 0
-  IsProperFormula Yes = Unit {0}
-  IsProperFormula No = Unit {0}
-  IsProperFormula (One a) = IsProperAtom a
-  IsProperFormula (Not f) = IsProperFormula f
-  IsProperFormula (And fs) = AreFormulas fs × AreProperFormulas fs
-  IsProperFormula (Or fs) = AreFormulas fs × AreProperFormulas fs
-  IsProperFormula (Impl f g) = IsProperFormula f × IsProperFormula g
-  IsProperFormula (Repl f g) = IsProperFormula f × IsProperFormula g
-  IsProperFormula (Equiv f g) = IsProperFormula f × IsProperFormula g
-  IsProperFormula (Ex x f) = IsVariable x × IsProperFormula f
-  IsProperFormula (All x f) = IsVariable x × IsProperFormula f
+abbrev pub IsProperFormula : FormulaTree → Type 0
+IsProperFormula = IsFormulaOver IsAnyName
 
-  -- each of the formulas is proper
-  pub AreProperFormulas : FormulaTrees → Type 0
-  AreProperFormulas plain.none = Unit {0}
-  AreProperFormulas (plain.also f fs) = IsProperFormula f × AreProperFormulas fs
-
--- each formula and each entry of the command is proper
-abbrev pub IsProperCommand : CommandTree → Type 0
-IsProperCommand (Echo f) = IsProperFormula f
-IsProperCommand (Nnf f) = IsProperFormula f
-IsProperCommand (Pnf f) = IsProperFormula f
-IsProperCommand (Dnf f) = IsProperFormula f
-IsProperCommand (Cnf f) = IsProperFormula f
-IsProperCommand (Simpl f given) = IsProperFormula f × AreProperFormulas given
-IsProperCommand (Qe f given) = IsProperFormula f × AreProperFormulas given
-IsProperCommand (Qea f given) = IsProperFormula f × AreProperFormulas given
-IsProperCommand (Holds f entries) = IsProperFormula f × AreProperEntries entries
-IsProperCommand (Sample f entries) = IsProperFormula f × AreProperEntries entries
-
--- the command of the action is proper, if it has one, and so is its name
-abbrev pub IsProperAction : ActionTree → Type 0
-IsProperAction Empty = Unit {0}
-IsProperAction Ignored = Unit {0}
-IsProperAction Finish = Unit {0}
-IsProperAction (Choose setting) = Unit {0}
-IsProperAction (Say c) = IsProperCommand c
-IsProperAction (Assign x c) = IsVariable x × IsProperCommand c
-
--- the action of the statement is proper
-abbrev pub IsProper : StatementTree → Type 0
-IsProper s = IsProperAction s.action
+abbrev pub AreProperFormulas : FormulaTrees → Type 0
+AreProperFormulas = AreFormulasOver IsAnyName

@@ -2,7 +2,6 @@
 #![tactic(auto)]
 
 mod laws;
-mod linear;
 mod name;
 mod point;
 mod statement;
@@ -13,7 +12,6 @@ mod valued;
 
 pub use exact_numbers::Fraction;
 pub use laws::one_point;
-pub use linear::is_linear;
 pub use name::Name;
 pub use point::{Point, PointFault};
 pub use statement::{Action, Command, Entries, PointEntry, Setting, Statement};

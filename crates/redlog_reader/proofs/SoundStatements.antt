@@ -7,7 +7,7 @@ use Rattle.qe_syntax.specs.declared.tree.Relation.{Relation}
 use Rattle.qe_syntax.specs.declared.tree.Relation.TheVariants.{Equal}
 use Rattle.qe_syntax.specs.declared.statement.PointEntry.{PointEntry}
 use Rattle.qe_syntax.specs.Trees.{TermTree, FormulaTree}
-use Rattle.qe_syntax.specs.Statements.{CommandTree, Echo, Holds, Sample, ActionTree, Ignored, Finish, Choose, Say, StatementTree}
+use Rattle.qe_syntax.specs.Statements.{CommandTree, Echo, Nnf, Pnf, Dnf, Cnf, Holds, Sample, ActionTree, Ignored, Finish, Choose, Say, StatementTree}
 use Rattle.redlog_tokens.specs.declared.terminal.Terminal.{Terminal}
 use Rattle.redlog_tokens.specs.declared.terminal.Terminal.TheVariants as terminal
 use Rattle.redlog_tokens.specs.declared.terminal.Mark.TheVariants as mark
@@ -289,34 +289,23 @@ pointed_sound ts rest f es good e =
       subst (λ gs. SpellsPoint comma.0 gs (terminal.Mark mark.Close ∷ rest)) parts.1 (subst (λ v. SpellsPoint comma.0 point.0.0 v) ended (entries_sound comma.0 point.0.1 point.0.0 left point.1)),
     )
 
-echo_sound : (ts rest : List Terminal) (c : CommandTree) → on_some {Y = Option (CommandTree × List Terminal)} (formula_read 8 ts) (λ p. Some (Echo p.0, p.1)) None ≡ Some (c, rest) → SpellsResult ts c rest
-echo_sound ts rest c e =
-    let form = some_of (formula_read 8 ts) _ (c, rest) e in
+-- a command of one formula
+form_sound : (goal : ℕ) (make : FormulaTree → CommandTree) (ts rest : List Terminal) (c : CommandTree)
+    → on_some {Y = Option (CommandTree × List Terminal)} (formula_read goal ts) (λ p. Some (make p.0, p.1)) None ≡ Some (c, rest) → (f : FormulaTree) × FormulaAt goal ts f rest × (make f ≡ c)
+form_sound goal make ts rest c e =
+    let form = some_of (formula_read goal ts) _ (c, rest) e in
     let same = pair_of form.2 in
-    let spelled : SpellsFormula ts form.0.0 form.0.1 = formula_sound 8 ts form.0.1 form.0.0 form.1 in
-    subst (λ d. SpellsResult ts d rest) same.0 (echo (subst (λ v. SpellsFormula ts form.0.0 v) same.1 spelled))
+    let spelled : FormulaAt goal ts form.0.0 form.0.1 = formula_sound goal ts form.0.1 form.0.0 form.1 in
+    (form.0.0, subst (λ v. FormulaAt goal ts form.0.0 v) same.1 spelled, same.0)
+
+echo_sound : (ts rest : List Terminal) (c : CommandTree) → on_some {Y = Option (CommandTree × List Terminal)} (formula_read 8 ts) (λ p. Some (Echo p.0, p.1)) None ≡ Some (c, rest) → SpellsResult ts c rest
+echo_sound ts rest c e = let form = form_sound 8 Echo ts rest c e in subst (λ d. SpellsResult ts d rest) form.2 (echo form.1)
 
 result_from_sound : (w : Word) (ts rest : List Terminal) (c : CommandTree) → result_from w ts ≡ Some (c, rest) → SpellsResult (terminal.Word w ∷ ts) c rest
-result_from_sound word.Nnf ts rest c e =
-    let form = some_of (formula_read 0 ts) _ (c, rest) e in
-    let same = pair_of form.2 in
-    let spelled : SpellsPrime ts form.0.0 form.0.1 = formula_sound 0 ts form.0.1 form.0.0 form.1 in
-    subst (λ d. SpellsResult (terminal.Word word.Nnf ∷ ts) d rest) same.0 (nnf (subst (λ v. SpellsPrime ts form.0.0 v) same.1 spelled))
-result_from_sound word.Pnf ts rest c e =
-    let form = some_of (formula_read 0 ts) _ (c, rest) e in
-    let same = pair_of form.2 in
-    let spelled : SpellsPrime ts form.0.0 form.0.1 = formula_sound 0 ts form.0.1 form.0.0 form.1 in
-    subst (λ d. SpellsResult (terminal.Word word.Pnf ∷ ts) d rest) same.0 (pnf (subst (λ v. SpellsPrime ts form.0.0 v) same.1 spelled))
-result_from_sound word.Dnf ts rest c e =
-    let form = some_of (formula_read 0 ts) _ (c, rest) e in
-    let same = pair_of form.2 in
-    let spelled : SpellsPrime ts form.0.0 form.0.1 = formula_sound 0 ts form.0.1 form.0.0 form.1 in
-    subst (λ d. SpellsResult (terminal.Word word.Dnf ∷ ts) d rest) same.0 (dnf (subst (λ v. SpellsPrime ts form.0.0 v) same.1 spelled))
-result_from_sound word.Cnf ts rest c e =
-    let form = some_of (formula_read 0 ts) _ (c, rest) e in
-    let same = pair_of form.2 in
-    let spelled : SpellsPrime ts form.0.0 form.0.1 = formula_sound 0 ts form.0.1 form.0.0 form.1 in
-    subst (λ d. SpellsResult (terminal.Word word.Cnf ∷ ts) d rest) same.0 (cnf (subst (λ v. SpellsPrime ts form.0.0 v) same.1 spelled))
+result_from_sound word.Nnf ts rest c e = let form = form_sound 0 Nnf ts rest c e in subst (λ d. SpellsResult (terminal.Word word.Nnf ∷ ts) d rest) form.2 (nnf form.1)
+result_from_sound word.Pnf ts rest c e = let form = form_sound 0 Pnf ts rest c e in subst (λ d. SpellsResult (terminal.Word word.Pnf ∷ ts) d rest) form.2 (pnf form.1)
+result_from_sound word.Dnf ts rest c e = let form = form_sound 0 Dnf ts rest c e in subst (λ d. SpellsResult (terminal.Word word.Dnf ∷ ts) d rest) form.2 (dnf form.1)
+result_from_sound word.Cnf ts rest c e = let form = form_sound 0 Cnf ts rest c e in subst (λ d. SpellsResult (terminal.Word word.Cnf ∷ ts) d rest) form.2 (cnf form.1)
 result_from_sound word.Simpl ts rest c e =
     let found = some_of (argument_read ts) _ (c, rest) e in
     let same = pair_of found.2 in

@@ -15,7 +15,7 @@ use Rattle.redlog_reader.specs.declared.read.TheConstants.{BYTE_LIMIT}
 use Rattle.redlog_tokens.specs.declared.level.TheConstants.{LEVEL_LIMIT}
 use Rattle.redlog_tokens.specs.declared.token.ReadError.{ReadError}
 use Rattle.redlog_tokens.specs.declared.token.ReadError.TheVariants as cause
-use Rattle.qe_syntax.specs.Proper.{IsProper}
+use Rattle.qe_syntax.specs.Writable.{IsWritable}
 use Rattle.redlog_reader.proofs.CompleteStatements.{statement_done}
 use Rattle.redlog_reader.proofs.SoundStatements.{statement_sound}
 use Rattle.redlog_reader.proofs.Proper.{proper_statement}
@@ -83,7 +83,7 @@ module _ (bytes : List ℕ) (ts : List Token) (are : AreTokens bytes ts) (short 
       spelled = subst (λ us. SpellsStatement us s) (terminals_of ts) (statement_sound (terminals ts) s (tokens_proper bytes ts are) e);
     }
 
-  pub read_proper : (s : StatementTree) → statement_read (terminals ts) ≡ Some s → IsProper s
+  pub read_proper : (s : StatementTree) → statement_read (terminals ts) ≡ Some s → IsWritable s
   read_proper s e = let good = tokens_proper bytes ts are in proper_statement (statement_sound (terminals ts) s good e) good
 
 -- bytes that spell a statement are not refused

@@ -1,5 +1,5 @@
 ghost use Rattle.std.specs.Prelude.{◌≡◌, ℕ, List, IfOk, IfErr};
-ghost use Rattle.qe_syntax.specs.Proper.{IsProper};
+ghost use Rattle.qe_syntax.specs.Writable.{IsWritable};
 ghost use Rattle.qe_syntax.specs.Statements.{StatementTree, statement_tree};
 ghost use Rattle.redlog_reader.specs.Statement.{Spells, Unread};
 
@@ -16,7 +16,7 @@ pub const BYTE_LIMIT: usize = 1_048_576;
 /// spell no statement.
 pub fn read_statement(alloc: Global, bytes: &[u8]) -> Result<Statement, ReadError>
     ensures spelled { IfOk result (λ s. Spells bytes.now (statement_tree s)) }
-    ensures proper { IfOk result (λ s. IsProper (statement_tree s)) }
+    ensures writable { IfOk result (λ s. IsWritable (statement_tree s)) }
     ensures refused { IfErr result (Unread bytes.now) }
 {
     if bytes.len() > BYTE_LIMIT {

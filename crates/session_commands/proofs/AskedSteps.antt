@@ -10,7 +10,7 @@ use Rattle.atom_normal.specs.Atoms.{context_of}
 use Rattle.atom_normal.specs.NormalForm.{IsNormal}
 use Rattle.qe_syntax.specs.declared.statement.PointEntry.{PointEntry}
 use Rattle.qe_syntax.specs.Point.{Numbers, PassesLimit, IsPointOf, point_of}
-use Rattle.qe_syntax.specs.Proper.{IsProperFormula, AreProperEntries}
+use Rattle.qe_syntax.specs.Writable.{IsWritableFormula, AreWritableEntries}
 use Rattle.qe_syntax.specs.Statements.{Holds}
 use Rattle.qe_syntax.specs.Trees.{FormulaTree}
 use Rattle.qe_syntax.specs.Value.{same_name}
@@ -81,7 +81,7 @@ module _ (old new : Desk) (f : FormulaTree) (es : List PointEntry) (desk : IsDes
         pub no_numbers : ((q : Numbers) → ¬ (point ≡ Some q)) → RefusesBoth s f es error.Overflow
         no_numbers none = point_passes s f es numbers read.clear means here (there_not _ _ point none meant.numbers)
 
-        pub all_asked : (i : FormulaId) (q : Numbers) → id ≡ Some i → point ≡ Some q → AreProperEntries es → IsAsked s f es new i q
+        pub all_asked : (i : FormulaId) (q : Numbers) → id ≡ Some i → point ≡ Some q → AreWritableEntries es → IsAsked s f es new i q
         all_asked i q id_is point_is proper =
             let formula : IsReadable s f × IsMade (IsId new.store) (tree new.store) i (resolve s.context s.bound s.names f)
             = subst (λ o. MatchOption o (OverflowsInReading s.context s.bound (place s.names) f) (λ j. IsReadable s f × IsMade (IsId new.store) (tree new.store) j (resolve s.context s.bound s.names f))) id_is read.formula in
@@ -119,7 +119,7 @@ each_entry [] P h = tt
 each_entry (e ∷ es) P h = (h e (inl refl), each_entry es P (λ d k. h d (inr k)))
 
 module _ (desk : Desk) (names : List (List ℕ)) (f : FormulaTree) (es : List PointEntry) (h : IsDesk desk) (grown : Grows desk.names names)
-    (is : names ≡ fold with_name desk.names (formula_variables f ++ entry_names es)) (proper : IsProperFormula f) (proper_entries : AreProperEntries es) where
+    (is : names ≡ fold with_name desk.names (formula_variables f ++ entry_names es)) (proper : IsWritableFormula f) (proper_entries : AreWritableEntries es) where
   -- the desk where the variables of the command have their numbers
   abbrev pub named_desk : Desk
   named_desk = record { alloc = desk.alloc; context = desk.context; names = names; bindings = desk.bindings; store = desk.store; kept = desk.kept }

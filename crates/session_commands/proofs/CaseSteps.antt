@@ -18,7 +18,7 @@ use Rattle.elimination_reference.specs.Theorems.{answer_names, guards_of}
 use Rattle.elimination_reference.specs.Over.{AreOver}
 use Rattle.plain_cases.specs.declared.cases.PlainCase.{PlainCase}
 use Rattle.plain_cases.specs.Case.{case_seen, HavePoints}
-use Rattle.qe_syntax.specs.Proper.{IsProperFormula, AreProperFormulas}
+use Rattle.qe_syntax.specs.Writable.{IsWritableFormula, AreWritableFormulas}
 use Rattle.qe_syntax.specs.Statements.{CommandTree, Qea}
 use Rattle.qe_syntax.specs.Trees.{FormulaTree, FormulaTrees}
 use Rattle.qe_syntax.specs.Value.{NamedPoint, same_name}
@@ -160,7 +160,7 @@ module _ (s : State) (f : FormulaTree) (gs : FormulaTrees) (numbers : ArePartsNu
 -- ---- after the formula and its assumptions were resolved
 
 module _ (old read : Desk) (f : FormulaTree) (gs : FormulaTrees) (h : IsDesk old) (numbers : ArePartsNumbered old.names f gs) (readable : ArePartsReadable (state_of old) f gs) (kept : KeepsDesk old read)
-    (proper : IsProperFormula f) (proper_given : AreProperFormulas gs) where
+    (proper : IsWritableFormula f) (proper_given : AreWritableFormulas gs) where
   abbrev s : State
   s = state_of old
 
@@ -195,7 +195,7 @@ unread_there r s f gs numbers limit h = err_map r (λ e d printed. cases_unread 
 -- ---- the names of the command
 
 module _ (desk : Desk) (names : List (List ℕ)) (f : FormulaTree) (gs : FormulaTrees) (h : IsDesk desk) (grown : Grows desk.names names)
-    (is : names ≡ fold with_name desk.names (formula_variables f ++ all_variables gs)) (proper : IsProperFormula f) (proper_given : AreProperFormulas gs) where
+    (is : names ≡ fold with_name desk.names (formula_variables f ++ all_variables gs)) (proper : IsWritableFormula f) (proper_given : AreWritableFormulas gs) where
   -- the desk where the variables of the command have their numbers
   abbrev pub named_desk : Desk
   named_desk = record { alloc = desk.alloc; context = desk.context; names = names; bindings = desk.bindings; store = desk.store; kept = desk.kept }

@@ -9,7 +9,7 @@ use Rattle.formula_meaning.specs.Tree.{Tree, TrueAt}
 use Rattle.formula_meaning.proofs.Sizes.{distinct_count_within}
 use Rattle.qe_syntax.specs.Trees.{FormulaTree, FormulaTrees, formula_trees}
 use Rattle.qe_syntax.specs.Statements.{CommandTree, Pnf}
-use Rattle.qe_syntax.specs.Proper.{IsProperFormula, AreProperFormulas}
+use Rattle.qe_syntax.specs.Writable.{IsWritableFormula, AreWritableFormulas}
 use Rattle.qe_syntax.specs.Valued.{IsIn}
 use Rattle.qe_syntax.specs.Value.{NamedPoint}
 use Rattle.formula_tree.proofs.PlaceLaws.{after_has, in_either}
@@ -391,11 +391,11 @@ module _ (w : Wanted) (f : FormulaTree) (s : State) (numbers : ArePartsNumbered 
     }
 
 -- the resolved formula is one of the session, and so is the one that is given
-pub readable_formula : (f : FormulaTree) (s : State) → HasNumbers s.names f → IsSound s → IsProperFormula f → IsReadable s f → IsSessionFormula s.context (length s.names) (resolve s.context s.bound s.names f)
+pub readable_formula : (f : FormulaTree) (s : State) → HasNumbers s.names f → IsSound s → IsWritableFormula f → IsReadable s f → IsSessionFormula s.context (length s.names) (resolve s.context s.bound s.names f)
 readable_formula f s numbers sound proper h = resolved_formula s.context s.bound s.names f sound.formulas numbers proper h
 
 -- the assumptions are normal atoms
-pub assumed_normal : (s : State) → IsSound s → (f : FormulaTree) (gs : FormulaTrees) → ArePartsNumbered s.names f gs → ArePartsReadable s f gs → AreProperFormulas gs → EachOf (IsNormal s.context) (assumed s gs)
+pub assumed_normal : (s : State) → IsSound s → (f : FormulaTree) (gs : FormulaTrees) → ArePartsNumbered s.names f gs → ArePartsReadable s f gs → AreWritableFormulas gs → EachOf (IsNormal s.context) (assumed s gs)
 assumed_normal s sound f none numbers readable proper = tt
 assumed_normal s sound f (also g gs) numbers readable proper =
     each_both (IsNormal s.context) (atoms_alone (resolve s.context s.bound s.names g)) (assumed s gs)

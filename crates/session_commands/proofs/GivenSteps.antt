@@ -11,7 +11,7 @@ use Rattle.atom_normal.specs.Atoms.{context_of}
 use Rattle.atom_normal.specs.NormalForm.{IsNormal}
 use Rattle.qe_syntax.specs.declared.tree.Formula.{Formula}
 use Rattle.qe_syntax.specs.Trees.{FormulaTree, FormulaTrees, formula_tree, formulas_of}
-use Rattle.qe_syntax.specs.Proper.{IsProperFormula, AreProperFormulas}
+use Rattle.qe_syntax.specs.Writable.{IsWritableFormula, AreWritableFormulas}
 use Rattle.qe_syntax.specs.Value.{same_name}
 use Rattle.formula_tree.specs.Bindings.{bind}
 use Rattle.formula_tree.specs.Names.{with_name}
@@ -57,7 +57,7 @@ pub names_are : (w : Wanted) (f : FormulaTree) (desk : Desk) (names : List (List
     → names ≡ fold with_name desk.names (formula_variables f ++ all_variables (given_trees w))
 names_are w f desk names gs e g = e ∙ ap (λ hs. fold with_name desk.names (formula_variables f ++ all_variables hs)) g
 
-pub proper_items : (gs : List Formula) → AreProperFormulas (formulas_of (map formula_tree gs)) → AllByRecursion (λ g. IsProperFormula (formula_tree g)) gs
+pub proper_items : (gs : List Formula) → AreWritableFormulas (formulas_of (map formula_tree gs)) → AllByRecursion (λ g. IsWritableFormula (formula_tree g)) gs
 proper_items [] h = tt
 proper_items (g ∷ gs) h = (h.0, proper_items gs h.1)
 
@@ -87,7 +87,7 @@ if_err (Err e) h p = h e p
 
 -- ---- the wanted formula, on a desk where the variables have their numbers
 
-module _ (w : Wanted) (f : FormulaTree) (desk : Desk) (numbers : ArePartsNumbered desk.names f (given_trees w)) (h : IsDesk desk) (proper : IsProperFormula f) where
+module _ (w : Wanted) (f : FormulaTree) (desk : Desk) (numbers : ArePartsNumbered desk.names f (given_trees w)) (h : IsDesk desk) (proper : IsWritableFormula f) where
   -- the resolved formula
   abbrev resolution : Tree
   resolution = resolve (state_of desk).context (state_of desk).bound desk.names f
@@ -121,7 +121,7 @@ module _ (w : Wanted) (f : FormulaTree) (desk : Desk) (numbers : ArePartsNumbere
     pub read_free : IsDistributed w → IsQuantifierFree t
     read_free d = subst (λ (u : Tree). IsQuantifierFree u) (sym same) (resolved_free (state_of desk).context (state_of desk).bound desk.names f (free_here (state_of desk) f w d ready.plain))
 
-    pub read_atoms : AreProperFormulas (given_trees w) → EachOf (IsNormal (context_of read.context)) ks
+    pub read_atoms : AreWritableFormulas (given_trees w) → EachOf (IsNormal (context_of read.context)) ks
     read_atoms given =
         subst (λ c. EachOf (IsNormal c) ks) (sym theory)
         (subst (EachOf (IsNormal (state_of desk).context)) (sym same_atoms) (assumed_normal (state_of desk) h.sound f (given_trees w) numbers ready.readable given))
@@ -233,7 +233,7 @@ module _ (w : Wanted) (f : FormulaTree) (desk : Desk) (names : List (List ℕ)) 
   pub numbers_there : ArePartsNumbered names f (given_trees w)
   numbers_there = subst (λ ms. ArePartsNumbered ms f (given_trees w)) (sym is) (numbers_of f (given_trees w) desk.names)
 
-  pub numbered_desk : IsDesk desk → Grows desk.names names → IsProperFormula f → AreProperFormulas (given_trees w) → IsDesk numbered
+  pub numbered_desk : IsDesk desk → Grows desk.names names → IsWritableFormula f → AreWritableFormulas (given_trees w) → IsDesk numbered
   numbered_desk h g proper proper_given =
       let xs = formula_variables f ++ all_variables (given_trees w) in
       let variables = both (formula_variables f) (all_variables (given_trees w)) (variables_of_formula f proper) (variables_of_all (given_trees w) proper_given) in

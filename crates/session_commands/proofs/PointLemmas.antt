@@ -37,7 +37,7 @@ use Rattle.qe_syntax.specs.declared.tree.Literal.TheVariants.{Fits, Past}
 use Rattle.qe_syntax.specs.Point.{HasEntry, IsZeroBelow, IsBroken, lowest_terms, IsCommonMultiple, IsPointOf}
 use Rattle.qe_syntax.specs.declared.tree.Relation.{Relation}
 use Rattle.qe_syntax.specs.Trees.{WrittenAtom, Compare, Cong, Ncong, Bound, FormulaTree}
-use Rattle.qe_syntax.specs.Proper.{AreProperEntries}
+use Rattle.qe_syntax.specs.Writable.{AreWritableEntries}
 use Rattle.qe_syntax.specs.Value.{NamedPoint, same_name}
 use Rattle.qe_syntax.specs.Valued.{IsIn}
 use Rattle.qe_syntax.proofs.EntryLists.{some_left, some_right, some_split, some_one}
@@ -131,10 +131,10 @@ whole_terms (Fits a) (Fits b) positive whole =
 whole_terms (Fits a) Past positive whole = divides_same (pos 1)
 whole_terms Past below positive whole = divides_same (pos 1)
 
-whole_entries : (es : List PointEntry) → AreProperEntries es → ¬ (SomeOf IsZeroBelow es) → ¬ (SomeOf IsBroken es) → IsCommonMultiple es (pos 1)
+whole_entries : (es : List PointEntry) → AreWritableEntries es → ¬ (SomeOf IsZeroBelow es) → ¬ (SomeOf IsBroken es) → IsCommonMultiple es (pos 1)
 whole_entries [] proper divided whole = tt
 whole_entries (e ∷ es) proper divided whole = (
-  whole_terms e.above e.below (λ b is. below_positive e b proper.0 (λ z. divided (inl z)) is) (λ a b p q no. whole (inl (a, b, p, q, no))),
+  whole_terms e.above e.below (λ b is. below_positive e b (proper.0.0, proper.0.1, tt) (λ z. divided (inl z)) is) (λ a b p q no. whole (inl (a, b, p, q, no))),
   whole_entries es proper.1 (λ h. divided (inr h)) (λ h. whole (inr h)),
 )
 
@@ -145,7 +145,7 @@ one_only : (n : ℕ) → pos 0 <ℤ pos n → Divides (pos n) (pos 1) → n ≡ 
 one_only n h d = let l = divisor_at_most {d = pos n} {a = pos 1} (omega (arith, ints)) d in omega (arith, ints, l)
 
 -- the point that the entries mean is one of the theory
-pub of_theory : (c : Context) (es : List PointEntry) (p : NamedPoint) → AreProperEntries es → ¬ (MeanNoPoint c es) → IsPointOf es p → Of c p
+pub of_theory : (c : Context) (es : List PointEntry) (p : NamedPoint) → AreWritableEntries es → ¬ (MeanNoPoint c es) → IsPointOf es p → Of c p
 of_theory Fields es p proper means meant = above_none p.below meant.least.positive
 of_theory Integers es p proper means meant =
     one_only p.below meant.least.positive (meant.least.least (pos 1) (whole_entries es proper (λ h. means (inr (inl h))) (λ h. means (inr (inr h)))))

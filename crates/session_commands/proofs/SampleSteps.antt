@@ -29,7 +29,7 @@ use Rattle.sample_reference.specs.Seen.{sample_of}
 use Rattle.sample_reference.specs.Values.{Value, with_values}
 use Rattle.qe_syntax.specs.declared.statement.PointEntry.{PointEntry}
 use Rattle.qe_syntax.specs.Point.{Numbers, point_of}
-use Rattle.qe_syntax.specs.Proper.{IsProperFormula, AreProperEntries}
+use Rattle.qe_syntax.specs.Writable.{IsWritableFormula, AreWritableEntries}
 use Rattle.qe_syntax.specs.Statements.{Sample}
 use Rattle.qe_syntax.specs.Trees.{FormulaTree}
 use Rattle.formula_tree.specs.Causes.{most_height}
@@ -120,7 +120,7 @@ module _ (old new : Desk) (f : FormulaTree) (es : List PointEntry) (desk : IsDes
   low : height t ≤ most_height
   low = let e = resolving_keeps_height s.context s.bound s.names f in let flat : ¬ (most_height < height t) = (λ h. a.readable.flat (subst (λ n. most_height < n) e h)) in omega arith
 
-  wanted : IsProperFormula f → (limit : ℕ) (o : Option (Vec (VarId × Fraction) Global)) → IsTrueSample s.context t (at_names s.names (point_of p)) (sample_of o) → IsWantedSample s limit f es (sample_of o)
+  wanted : IsWritableFormula f → (limit : ℕ) (o : Option (Vec (VarId × Fraction) Global)) → IsTrueSample s.context t (at_names s.names (point_of p)) (sample_of o) → IsWantedSample s limit f es (sample_of o)
   wanted proper limit o h = record {
     clear = λ printed. (a.clear limit printed).1;
     answer = record {
@@ -133,7 +133,7 @@ module _ (old new : Desk) (f : FormulaTree) (es : List PointEntry) (desk : IsDes
   }
 
   module _ (r : Result (Option (Vec (VarId × Fraction) Global)) StatementError) (limit : ℕ) where
-    pub sample_told : IsProperFormula f → IfOk r (λ o. IsTrueSample (context_of new.context) (tree new.store i) (at_names new.names (point_of p)) (sample_of o)) → IfOk r (λ o. IsWantedSample s limit f es (sample_of o))
+    pub sample_told : IsWritableFormula f → IfOk r (λ o. IsTrueSample (context_of new.context) (tree new.store i) (at_names new.names (point_of p)) (sample_of o)) → IfOk r (λ o. IsWantedSample s limit f es (sample_of o))
     sample_told proper h = ok_map r (λ o u. wanted proper limit o (here (λ c v ns. IsTrueSample c v (at_names ns (point_of p)) (sample_of o)) u)) h
 
     pub sample_stopped : IfErr r (SampleStop (context_of new.context) limit (tree new.store i) (at_names new.names (point_of p))) → IfErr r (RefusesSample s limit f es)
@@ -142,7 +142,7 @@ module _ (old new : Desk) (f : FormulaTree) (es : List PointEntry) (desk : IsDes
 -- ---- the names of the command
 
 module _ (desk : Desk) (names : List (List ℕ)) (f : FormulaTree) (es : List PointEntry) (h : IsDesk desk) (grown : Grows desk.names names)
-    (is : names ≡ fold with_name desk.names (formula_variables f ++ entry_names es)) (proper : IsProperFormula f) (proper_entries : AreProperEntries es) (limit : ℕ) (printed : Bool) where
+    (is : names ≡ fold with_name desk.names (formula_variables f ++ entry_names es)) (proper : IsWritableFormula f) (proper_entries : AreWritableEntries es) (limit : ℕ) (printed : Bool) where
   abbrev first : Desk
   first = named_desk desk names f es h grown is proper proper_entries
 

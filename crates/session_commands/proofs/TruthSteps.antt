@@ -8,7 +8,7 @@ use Rattle.atom_normal.specs.Atoms.{context_of}
 use Rattle.atom_normal.proofs.Stepped.{ok_map}
 use Rattle.qe_syntax.specs.declared.statement.PointEntry.{PointEntry}
 use Rattle.qe_syntax.specs.Point.{Numbers, point_of}
-use Rattle.qe_syntax.specs.Proper.{IsProperFormula, AreProperEntries}
+use Rattle.qe_syntax.specs.Writable.{IsWritableFormula, AreWritableEntries}
 use Rattle.qe_syntax.specs.Statements.{Holds}
 use Rattle.qe_syntax.specs.Trees.{FormulaTree}
 use Rattle.formula_tree.specs.Names.{with_name}
@@ -89,7 +89,7 @@ module _ (old new : Desk) (f : FormulaTree) (es : List PointEntry) (desk : IsDes
 -- ---- the names of the command
 
 module _ (desk : Desk) (names : List (List ℕ)) (f : FormulaTree) (es : List PointEntry) (h : IsDesk desk) (grown : Grows desk.names names)
-    (is : names ≡ fold with_name desk.names (formula_variables f ++ entry_names es)) (proper : IsProperFormula f) (proper_entries : AreProperEntries es) where
+    (is : names ≡ fold with_name desk.names (formula_variables f ++ entry_names es)) (proper : IsWritableFormula f) (proper_entries : AreWritableEntries es) where
   pub truth_refused : {E : Type 0} (r : Result E StatementError) (limit : ℕ) (printed : Bool) → IfErr r (RefusesTruth (state_of (named_desk desk names f es h grown is proper proper_entries)) limit f es)
       → IfErr r (Refuses (named (state_of desk) (Holds f es)) limit (use_of None printed) (Holds f es))
   truth_refused r limit printed k = err_map r (λ e t. subst (λ s. Refuses s limit (use_of None printed) (Holds f es) e) (start desk names f es h grown is proper proper_entries) (t printed)) k

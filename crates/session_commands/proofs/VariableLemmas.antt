@@ -8,7 +8,7 @@ use Rattle.formula_meaning.specs.Some.{EachOf}
 use Rattle.qe_syntax.specs.declared.statement.PointEntry.{PointEntry}
 use Rattle.qe_syntax.specs.Names.{IsVariable}
 use Rattle.qe_syntax.specs.Trees.{TermTree, TermTrees, Number, Named, Sum, Product, Quotient, Power, Negative, none, also, WrittenAtom, Compare, Cong, Ncong, Bound, FormulaTree, FormulaTrees}
-use Rattle.qe_syntax.specs.Proper.{IsProperTerm, AreProperTerms, IsProperAtom, IsProperFormula, AreProperFormulas, AreProperEntries}
+use Rattle.qe_syntax.specs.Writable.{IsWritableTerm, AreWritableTerms, IsWritableAtom, IsWritableFormula, AreWritableFormulas, AreWritableEntries}
 use Rattle.qe_syntax.specs.Value.{same_name}
 use Rattle.formula_tree.specs.Names.{with_name}
 use Rattle.formula_tree.specs.Resolving.{variables_of, variables_in, atom_variables, formula_variables, all_variables}
@@ -22,7 +22,7 @@ both [] ys h k = k
 both (x ∷ xs) ys h k = (h.0, both xs ys h.1 k)
 
 mutual
-  term_variables : (t : TermTree) → IsProperTerm t → AllVariables (variables_of t)
+  term_variables : (t : TermTree) → IsWritableTerm t → AllVariables (variables_of t)
   term_variables (Number n) h = tt
   term_variables (Named x) h = (h, tt)
   term_variables (Sum ts) h = terms_variables ts h.1
@@ -31,21 +31,21 @@ mutual
   term_variables (Power t n) h = term_variables t h.0
   term_variables (Negative t) h = term_variables t h
 
-  terms_variables : (ts : TermTrees) → AreProperTerms ts → AllVariables (variables_in ts)
+  terms_variables : (ts : TermTrees) → AreWritableTerms ts → AllVariables (variables_in ts)
   terms_variables none h = tt
   terms_variables (also t ts) h = both (variables_of t) (variables_in ts) (term_variables t h.0) (terms_variables ts h.1)
 
-three : (s t m : TermTree) → IsProperTerm s → IsProperTerm t → IsProperTerm m → AllVariables (variables_of s ++ (variables_of t ++ variables_of m))
+three : (s t m : TermTree) → IsWritableTerm s → IsWritableTerm t → IsWritableTerm m → AllVariables (variables_of s ++ (variables_of t ++ variables_of m))
 three s t m h k l = both (variables_of s) (variables_of t ++ variables_of m) (term_variables s h) (both (variables_of t) (variables_of m) (term_variables t k) (term_variables m l))
 
-variables_of_atom : (a : WrittenAtom) → IsProperAtom a → AllVariables (atom_variables a)
+variables_of_atom : (a : WrittenAtom) → IsWritableAtom a → AllVariables (atom_variables a)
 variables_of_atom (Compare r s t) h = both (variables_of s) (variables_of t) (term_variables s h.0) (term_variables t h.1)
 variables_of_atom (Cong s t m) h = three s t m h.0 h.1 h.2
 variables_of_atom (Ncong s t m) h = three s t m h.0 h.1 h.2
 variables_of_atom (Bound x) h = tt
 
 mutual
-  pub variables_of_formula : (f : FormulaTree) → IsProperFormula f → AllVariables (formula_variables f)
+  pub variables_of_formula : (f : FormulaTree) → IsWritableFormula f → AllVariables (formula_variables f)
   variables_of_formula Yes h = tt
   variables_of_formula No h = tt
   variables_of_formula (One a) h = variables_of_atom a h
@@ -58,11 +58,11 @@ mutual
   variables_of_formula (Ex x f) h = (h.0, variables_of_formula f h.1)
   variables_of_formula (All x f) h = (h.0, variables_of_formula f h.1)
 
-  pub variables_of_all : (fs : FormulaTrees) → AreProperFormulas fs → AllVariables (all_variables fs)
+  pub variables_of_all : (fs : FormulaTrees) → AreWritableFormulas fs → AllVariables (all_variables fs)
   variables_of_all plain.none h = tt
   variables_of_all (plain.also f fs) h = both (formula_variables f) (all_variables fs) (variables_of_formula f h.0) (variables_of_all fs h.1)
 
-pub names_of_entries : (es : List PointEntry) → AreProperEntries es → AllVariables (entry_names es)
+pub names_of_entries : (es : List PointEntry) → AreWritableEntries es → AllVariables (entry_names es)
 names_of_entries [] h = tt
 names_of_entries (e ∷ es) h = (h.0.2, names_of_entries es h.1)
 

@@ -9,7 +9,7 @@ ghost use Rattle.formula_tree.specs.Resolving.{resolve, formula_variables, all_v
 ghost use Rattle.formula_resolving.specs.Numbering.{Grows};
 ghost use Rattle.formula_resolving.specs.Refusals.{AreIds, rank};
 ghost use Rattle.formula_store.specs.Nodes.{tree, IsId};
-ghost use Rattle.qe_syntax.specs.Proper.{IsProperFormula};
+ghost use Rattle.qe_syntax.specs.Writable.{IsWritableFormula};
 ghost use Rattle.qe_syntax.specs.Trees.{formula_tree, formulas_of};
 ghost use Rattle.session_commands.specs.Assumptions.{atoms_alone, assumed};
 ghost use Rattle.session_commands.specs.Keeping.{state_of};
@@ -73,8 +73,8 @@ pub(crate) fn read_parts(
     formula: &Formula,
     given: &[Formula],
 ) -> Result<Premised, StatementError>
-    requires proper { IsProperFormula (formula_tree formula.now) }
-    requires proper_given { AllByRecursion (λ g. IsProperFormula (formula_tree g)) given.now }
+    requires proper { IsWritableFormula (formula_tree formula.now) }
+    requires proper_given { AllByRecursion (λ g. IsWritableFormula (formula_tree g)) given.now }
     requires ids { AreIds (IsId desk.old.store) desk.old.bindings }
     requires numbered { ArePartsNumbered desk.old.names (formula_tree formula.now) (formulas_of (map formula_tree given.now)) }
     ensures made { IfOk result (λ r. IsMade (IsId desk.new.store) (tree desk.new.store) r.formula (resolve (state_of desk.old).context (state_of desk.old).bound desk.old.names (formula_tree formula.now))) }
@@ -104,7 +104,7 @@ fn read_assumptions(
     given: &[Formula],
     atoms: &mut Vec<Atom>,
 ) -> Result<Option<StaticError>, StatementError>
-    requires proper { AllByRecursion (λ g. IsProperFormula (formula_tree g)) given.now }
+    requires proper { AllByRecursion (λ g. IsWritableFormula (formula_tree g)) given.now }
     requires ids { AreIds (IsId desk.old.store) desk.old.bindings }
     requires numbered { AllByRecursion (λ g. HasNumbers desk.old.names (formula_tree g)) given.now }
     requires well_formed { AllByRecursion IsWellFormed atoms.old.items }
@@ -128,7 +128,7 @@ fn read_assumption(
     atoms: &mut Vec<Atom>,
     stop: Option<StaticError>,
 ) -> Result<Option<StaticError>, StatementError>
-    requires proper { IsProperFormula (formula_tree assumption.now) }
+    requires proper { IsWritableFormula (formula_tree assumption.now) }
     requires ids { AreIds (IsId desk.old.store) desk.old.bindings }
     requires numbered { HasNumbers desk.old.names (formula_tree assumption.now) }
     requires well_formed { AllByRecursion IsWellFormed atoms.old.items }

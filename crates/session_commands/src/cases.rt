@@ -20,7 +20,7 @@ ghost use Rattle.formula_tree.specs.Resolving.{resolve};
 ghost use Rattle.formula_store.specs.Nodes.{tree, IsId};
 ghost use Rattle.answer_texts.specs.Answers.{cases_text as text_of_cases};
 ghost use Rattle.answer_texts.specs.Within.{AreCasesWithin};
-ghost use Rattle.qe_syntax.specs.Proper.{IsProperFormula, AreProperFormulas};
+ghost use Rattle.qe_syntax.specs.Writable.{IsWritableFormula, AreWritableFormulas};
 ghost use Rattle.qe_syntax.specs.Statements.{Qea};
 ghost use Rattle.qe_syntax.specs.Trees.{formula_tree, formulas_of};
 ghost use Rattle.session_commands.specs.Assumptions.{assumed};
@@ -54,8 +54,8 @@ pub(crate) fn answer_cases(
     given: &[Formula],
     printed: bool,
 ) -> Result<Line, StatementError>
-    requires proper { IsProperFormula (formula_tree formula.now) }
-    requires given { AreProperFormulas (formulas_of (map formula_tree given.now)) }
+    requires proper { IsWritableFormula (formula_tree formula.now) }
+    requires given { AreWritableFormulas (formulas_of (map formula_tree given.now)) }
     requires desk { IsDesk desk.old }
     ensures desk { OnOk result (IsDesk desk.new) }
     ensures answer { IfOk result (AnswersCommand (named (state_of desk.old) (Qea (formula_tree formula.now) (formulas_of (map formula_tree given.now)))) limit printed (Qea (formula_tree formula.now) (formulas_of (map formula_tree given.now))) (state_of desk.new).names) }
@@ -75,8 +75,8 @@ fn cases_of(
     formula: &Formula,
     given: &[Formula],
 ) -> Result<Vec<PlainCase>, StatementError>
-    requires proper { IsProperFormula (formula_tree formula.now) }
-    requires given { AreProperFormulas (formulas_of (map formula_tree given.now)) }
+    requires proper { IsWritableFormula (formula_tree formula.now) }
+    requires given { AreWritableFormulas (formulas_of (map formula_tree given.now)) }
     requires desk { IsDesk desk.old }
     requires numbered { ArePartsNumbered desk.old.names (formula_tree formula.now) (formulas_of (map formula_tree given.now)) }
     ensures cases { IfOk result (λ v. AreWantedCases (state_of desk.old).context (assumed (state_of desk.old) (formulas_of (map formula_tree given.now))) limit (resolve (state_of desk.old).context (state_of desk.old).bound desk.old.names (formula_tree formula.now)) (map case_seen v.items)) }

@@ -13,7 +13,7 @@ ghost use Rattle.redlog_printer.specs.Text.{tree_text};
 ghost use Rattle.formula_meaning.specs.Within.{IsTreeWithin};
 ghost use Rattle.formula_meaning.specs.Members.{HasTwoMembers};
 ghost use Rattle.redlog_printer.specs.Writing.{text_limit};
-ghost use Rattle.qe_syntax.specs.Proper.{IsProperFormula, AreProperFormulas};
+ghost use Rattle.qe_syntax.specs.Writable.{IsWritableFormula, AreWritableFormulas};
 ghost use Rattle.qe_syntax.specs.Statements.{command_tree};
 ghost use Rattle.qe_syntax.specs.Trees.{formula_tree, formulas_of};
 ghost use Rattle.session_commands.specs.Assumptions.{assumed};
@@ -99,8 +99,8 @@ pub(crate) fn answer_formula(
     target: &Option<Name>,
     printed: bool,
 ) -> Result<Line, StatementError>
-    requires proper { IsProperFormula (formula_tree formula.now) }
-    requires given { AreProperFormulas (given_trees wanted) }
+    requires proper { IsWritableFormula (formula_tree formula.now) }
+    requires given { AreWritableFormulas (given_trees wanted) }
     requires desk { IsDesk desk.old }
     ensures desk { OnOk result (IsDesk desk.new) }
     ensures answer { IfOk result (λ line. IsGiven (named (state_of desk.old) (command_of wanted.entry (formula_tree formula.now))) limit (use_of target.now printed) (command_of wanted.entry (formula_tree formula.now)) line (state_of desk.new)) }
@@ -120,8 +120,8 @@ fn wanted_formula(
     wanted: Wanted<'_>,
     formula: &Formula,
 ) -> Result<FormulaId, StatementError>
-    requires proper { IsProperFormula (formula_tree formula.now) }
-    requires given { AreProperFormulas (given_trees wanted) }
+    requires proper { IsWritableFormula (formula_tree formula.now) }
+    requires given { AreWritableFormulas (given_trees wanted) }
     requires desk { IsDesk desk.old }
     requires numbered { ArePartsNumbered desk.old.names (formula_tree formula.now) (given_trees wanted) }
     ensures made { IfOk result (IsId desk.new.store) }
@@ -161,8 +161,8 @@ fn read_wanted(
     wanted: Wanted<'_>,
     formula: &Formula,
 ) -> Result<Premised, StatementError>
-    requires proper { IsProperFormula (formula_tree formula.now) }
-    requires given { AreProperFormulas (given_trees wanted) }
+    requires proper { IsWritableFormula (formula_tree formula.now) }
+    requires given { AreWritableFormulas (given_trees wanted) }
     requires ids { AreIds (IsId desk.old.store) desk.old.bindings }
     requires numbered { ArePartsNumbered desk.old.names (formula_tree formula.now) (given_trees wanted) }
     ensures made { IfOk result (λ r. IsMade (IsId desk.new.store) (tree desk.new.store) r.formula (resolve (state_of desk.old).context (state_of desk.old).bound desk.old.names (formula_tree formula.now))) }
@@ -202,7 +202,7 @@ fn has_unwanted_quantifier(desk: &Desk, wanted: Wanted<'_>, formula: &Formula) -
 
 /// The resolved formula.
 pub(crate) fn resolved(desk: &mut Desk, formula: &Formula) -> Result<FormulaId, StatementError>
-    requires proper { IsProperFormula (formula_tree formula.now) }
+    requires proper { IsWritableFormula (formula_tree formula.now) }
     requires ids { AreIds (IsId desk.old.store) desk.old.bindings }
     requires numbered { HasNumbers desk.old.names (formula_tree formula.now) }
     ensures made { IfOk result (λ id. IsMade (IsId desk.new.store) (tree desk.new.store) id (resolve (state_of desk.old).context (state_of desk.old).bound desk.old.names (formula_tree formula.now))) }
@@ -217,8 +217,9 @@ pub(crate) fn resolved(desk: &mut Desk, formula: &Formula) -> Result<FormulaId, 
 }
 
 /// The resolved formula, or the first cause why there is none.
+#[tactic(auto, using(qe_syntax::proofs::WritableLemmas::writable))]
 pub(crate) fn resolved_part(desk: &mut Desk, formula: &Formula) -> Result<FormulaId, StaticError>
-    requires proper { IsProperFormula (formula_tree formula.now) }
+    requires proper { IsWritableFormula (formula_tree formula.now) }
     requires ids { AreIds (IsId desk.old.store) desk.old.bindings }
     requires numbered { HasNumbers desk.old.names (formula_tree formula.now) }
     ensures made { IfOk result (λ id. IsMade (IsId desk.new.store) (tree desk.new.store) id (resolve (state_of desk.old).context (state_of desk.old).bound desk.old.names (formula_tree formula.now))) }

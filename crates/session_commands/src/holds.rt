@@ -9,7 +9,7 @@ ghost use Rattle.formula_meaning.specs.Tree.{TrueAt};
 ghost use Rattle.atom_normal.specs.Atoms.{context_of};
 ghost use Rattle.atom_normal.specs.NormalForm.{IsNormal};
 ghost use Rattle.qe_syntax.specs.Point.{IsPointOf, point_of};
-ghost use Rattle.qe_syntax.specs.Proper.{IsProperFormula, AreProperEntries};
+ghost use Rattle.qe_syntax.specs.Writable.{IsWritableFormula, AreWritableEntries};
 ghost use Rattle.qe_syntax.specs.Statements.{Holds};
 ghost use Rattle.qe_syntax.specs.Trees.{formula_tree};
 ghost use Rattle.qe_syntax.specs.Value.{same_name};
@@ -44,8 +44,8 @@ pub(crate) fn answer_holds(
     entries: &[PointEntry],
     printed: bool,
 ) -> Result<Line, StatementError>
-    requires proper { IsProperFormula (formula_tree formula.now) }
-    requires entries { AreProperEntries entries.now }
+    requires proper { IsWritableFormula (formula_tree formula.now) }
+    requires entries { AreWritableEntries entries.now }
     requires desk { IsDesk desk.old }
     ensures desk { OnOk result (IsDesk desk.new) }
     ensures answer { IfOk result (AnswersCommand (named (state_of desk.old) (Holds (formula_tree formula.now) entries.now)) limit printed (Holds (formula_tree formula.now) entries.now) (state_of desk.new).names) }
@@ -76,8 +76,8 @@ fn truth(
     formula: &Formula,
     entries: &[PointEntry],
 ) -> Result<bool, StatementError>
-    requires proper { IsProperFormula (formula_tree formula.now) }
-    requires entries { AreProperEntries entries.now }
+    requires proper { IsWritableFormula (formula_tree formula.now) }
+    requires entries { AreWritableEntries entries.now }
     requires desk { IsDesk desk.old }
     requires numbered { HasNumbers desk.old.names (formula_tree formula.now) }
     requires valued { HaveNumbers desk.old.names entries.now }

@@ -7,7 +7,7 @@ ghost use Rattle.atom_normal.specs.Atoms.{context_of};
 ghost use Rattle.linear_forms.specs.Values.{number_at};
 ghost use Rattle.qe_syntax.specs.declared.statement.PointEntry.{PointEntry as Entry};
 ghost use Rattle.qe_syntax.specs.Point.{IsPointOf, point_of};
-ghost use Rattle.qe_syntax.specs.Proper.{IsProperFormula, AreProperEntries};
+ghost use Rattle.qe_syntax.specs.Writable.{IsWritableFormula, AreWritableEntries};
 ghost use Rattle.qe_syntax.specs.Trees.{formula_tree};
 ghost use Rattle.qe_syntax.specs.Value.{same_name};
 ghost use Rattle.formula_tree.specs.Names.{with_name};
@@ -60,8 +60,8 @@ pub(crate) fn asked(
     formula: &Formula,
     entries: &[PointEntry],
 ) -> Result<(FormulaId, Point), StatementError>
-    requires proper { IsProperFormula (formula_tree formula.now) }
-    requires entries { AreProperEntries entries.now }
+    requires proper { IsWritableFormula (formula_tree formula.now) }
+    requires entries { AreWritableEntries entries.now }
     requires desk { IsDesk desk.old }
     requires numbered { HasNumbers desk.old.names (formula_tree formula.now) }
     ensures asked { IfOk result (λ a. IsAsked (state_of desk.old) (formula_tree formula.now) entries.now desk.new a.0 a.1) }
@@ -86,7 +86,7 @@ fn read(
     formula: &Formula,
     entries: &[PointEntry],
 ) -> Result<Option<FormulaId>, StatementError>
-    requires proper { IsProperFormula (formula_tree formula.now) }
+    requires proper { IsWritableFormula (formula_tree formula.now) }
     requires ids { AreIds (IsId desk.old.store) desk.old.bindings }
     requires numbered { HasNumbers desk.old.names (formula_tree formula.now) }
     ensures read { IfOk result (IsReadAs (state_of desk.old) (formula_tree formula.now) entries.now desk.new) }
@@ -133,12 +133,13 @@ fn some_bound(entries: &[PointEntry], bindings: &Bindings<FormulaId>) -> bool
 }
 
 /// The point that the entries mean, or `None` where one of its numbers passes the limit.
+#[tactic(auto, using(qe_syntax::proofs::WritableLemmas::writable))]
 fn meant_point(
     alloc: Global,
     context: Context,
     entries: &[PointEntry],
 ) -> Result<Option<Point>, StatementError>
-    requires { AreProperEntries entries.now }
+    requires { AreWritableEntries entries.now }
     ensures point { IfOk result (IsMeantPoint (context_of context) entries.now) }
     ensures fault { IfErr result (PointStop (context_of context) entries.now) }
 {

@@ -9,7 +9,7 @@ ghost use Rattle.atom_normal.specs.NormalForm.{IsNormal};
 ghost use Rattle.linear_forms.specs.Values.{point_of as numbers_of};
 ghost use Rattle.nnf_trees.specs.Nnfs.{HasModulus};
 ghost use Rattle.qe_syntax.specs.Point.{IsPointOf, point_of};
-ghost use Rattle.qe_syntax.specs.Proper.{IsProperFormula, AreProperEntries};
+ghost use Rattle.qe_syntax.specs.Writable.{IsWritableFormula, AreWritableEntries};
 ghost use Rattle.qe_syntax.specs.Statements.{Sample};
 ghost use Rattle.qe_syntax.specs.Trees.{formula_tree};
 ghost use Rattle.qe_syntax.specs.Value.{same_name};
@@ -51,8 +51,8 @@ pub(crate) fn answer_sample(
     entries: &[PointEntry],
     printed: bool,
 ) -> Result<Line, StatementError>
-    requires proper { IsProperFormula (formula_tree formula.now) }
-    requires entries { AreProperEntries entries.now }
+    requires proper { IsWritableFormula (formula_tree formula.now) }
+    requires entries { AreWritableEntries entries.now }
     requires desk { IsDesk desk.old }
     ensures desk { OnOk result (IsDesk desk.new) }
     ensures answer { IfOk result (AnswersCommand (named (state_of desk.old) (Sample (formula_tree formula.now) entries.now)) limit printed (Sample (formula_tree formula.now) entries.now) (state_of desk.new).names) }
@@ -72,8 +72,8 @@ fn sample(
     formula: &Formula,
     entries: &[PointEntry],
 ) -> Result<Option<Vec<(VarId, Fraction)>>, StatementError>
-    requires proper { IsProperFormula (formula_tree formula.now) }
-    requires entries { AreProperEntries entries.now }
+    requires proper { IsWritableFormula (formula_tree formula.now) }
+    requires entries { AreWritableEntries entries.now }
     requires desk { IsDesk desk.old }
     requires numbered { HasNumbers desk.old.names (formula_tree formula.now) }
     requires valued { HaveNumbers desk.old.names entries.now }

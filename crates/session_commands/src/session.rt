@@ -1,6 +1,6 @@
 ghost use Rattle.std.specs.Prelude.{◌≡◌, ◌≤◌, Some, None, IfOk, IfErr, OnOk, OnErr};
 ghost use Rattle.qe_syntax.specs.Statements.{statement_tree, command_tree};
-ghost use Rattle.qe_syntax.specs.Proper.{IsProper, IsProperCommand};
+ghost use Rattle.qe_syntax.specs.Writable.{IsWritable, IsWritableCommand};
 ghost use Rattle.session_commands.specs.Keeping.{state_of, IsDesk};
 ghost use Rattle.session_commands.specs.Reply.{Reply, IsLine, Answers, AnswersSaid};
 ghost use Rattle.session_commands.specs.Words.{context_text};
@@ -105,7 +105,7 @@ fn refusal_of(error: ReadError) -> StatementError
 
 /// Answers a statement. An `Err` leaves the state as it was.
 fn answer(desk: &mut Desk, limit: u64, statement: &Statement) -> Result<Line, StatementError>
-    requires proper { IsProper (statement_tree statement.now) }
+    requires proper { IsWritable (statement_tree statement.now) }
     requires formula { BindsFormula (statement_tree statement.now).action }
     requires desk { IsDesk desk.old }
     ensures desk { IsDesk desk.new }
@@ -125,7 +125,7 @@ fn answer(desk: &mut Desk, limit: u64, statement: &Statement) -> Result<Line, St
 
 /// Does what the statement says. After an `Err` the names may have grown.
 fn act(desk: &mut Desk, limit: u64, statement: &Statement) -> Result<Line, StatementError>
-    requires proper { IsProper (statement_tree statement.now) }
+    requires proper { IsWritable (statement_tree statement.now) }
     requires formula { BindsFormula (statement_tree statement.now).action }
     requires desk { IsDesk desk.old }
     ensures desk { OnOk result (IsDesk desk.new) }
@@ -172,7 +172,7 @@ fn say(
     command: &Command,
     printed: bool,
 ) -> Result<Line, StatementError>
-    requires proper { IsProperCommand (command_tree command.now) }
+    requires proper { IsWritableCommand (command_tree command.now) }
     requires desk { IsDesk desk.old }
     ensures desk { OnOk result (IsDesk desk.new) }
     ensures answer { IfOk result (λ line. AnswersSaid (named (state_of desk.old) (command_tree command.now)) limit printed (command_tree command.now) line (state_of desk.new)) }
@@ -199,7 +199,7 @@ fn answer_wanted(
     target: &Option<Name>,
     printed: bool,
 ) -> Result<Line, StatementError>
-    requires proper { IsProperCommand (command_tree command.now) }
+    requires proper { IsWritableCommand (command_tree command.now) }
     requires formula { GivesFormula (command_tree command.now) }
     requires desk { IsDesk desk.old }
     ensures desk { OnOk result (IsDesk desk.new) }

@@ -32,8 +32,8 @@ returns-clause-spelled c =
     let shallow : Passes LEVEL_LIMIT [] (terminals c.items-2.result.now) → ⊥ = subst (λ (ts : List Token). Passes LEVEL_LIMIT [] (terminals ts) → ⊥) (c.items.ensures ∙ sym c.items-2.ensures) deep in
     spells c.args.bytes.now c.items-2.result.now are short shallow _ c.in_ok-statement.ensures.read
 
-pub returns-clause-proper : goal.returns-clause-proper
-returns-clause-proper c =
+pub returns-clause-writable : goal.returns-clause-writable
+returns-clause-writable c =
     let are : AreTokens c.args.bytes.now c.items-2.result.now = subst (λ (ts : List Token). AreTokens c.args.bytes.now ts) (sym c.items-2.ensures) c.in_ok-tokens.ensures.tokens in
     let short : length c.args.bytes.now ≤ BYTE_LIMIT = omega (arith, c.if-bytes-gt-BYTE_LIMIT.false) in
     read_proper c.args.bytes.now c.items-2.result.now are short _ c.in_ok-statement.ensures.read

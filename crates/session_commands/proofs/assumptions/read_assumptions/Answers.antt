@@ -1,7 +1,7 @@
 use Rattle.std.proofs.Common.{◌≡◌, ◌∙◌, ◌++◌, sym, ap, subst, map, take, List}
 use Rattle.atom_normal.specs.Atoms.{atom_of}
 use Rattle.qe_syntax.specs.declared.tree.Formula.{Formula}
-use Rattle.qe_syntax.specs.Proper.{IsProperFormula}
+use Rattle.qe_syntax.specs.Writable.{IsWritableFormula}
 use Rattle.qe_syntax.specs.Trees.{formula_tree, formulas_of}
 use Rattle.qe_syntax.proofs.EntryLists.{all_at, more_entries}
 use Rattle.formula_tree.specs.Resolving.{resolve}
@@ -43,7 +43,7 @@ loop-assumption-preserved c =
     let more = more_entries c.args.given.now i g c.loop-assumption-test.true c.assumption-item.is in
     let same = same_state old c.loop-assumption.desk c.requires.ids c.loop-assumption.invariant.kept in
     let with = subst (λ s. IsFirstWith s (formula_tree g) c.loop-assumption.stop c.in_ok-stop.stop) same c.in_ok-stop.ensures.first in
-    let proper = all_at (λ (d : Formula). IsProperFormula (formula_tree d)) c.args.given.now i g c.loop-assumption-test.true c.assumption-item.is c.loop-assumption.invariant.proper in
+    let proper = all_at (λ (d : Formula). IsWritableFormula (formula_tree d)) c.args.given.now i g c.loop-assumption-test.true c.assumption-item.is c.loop-assumption.invariant.proper in
     let numbered = all_at (λ (d : Formula). HasNumbers old.names (formula_tree d)) c.args.given.now i g c.loop-assumption-test.true c.assumption-item.is c.loop-assumption.invariant.numbered in
     let alone = λ (s : State). atoms_alone (resolve s.context s.bound s.names (formula_tree g)) in
     record {

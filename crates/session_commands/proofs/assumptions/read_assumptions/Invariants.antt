@@ -1,7 +1,7 @@
 use Rattle.std.proofs.Common.{◌≡◌, ◌++◌, None, map, take, drop}
 use Rattle.std.specs.List.{AllByRecursion}
 use Rattle.atom_normal.specs.Atoms.{atom_of, IsWellFormed}
-use Rattle.qe_syntax.specs.Proper.{IsProperFormula}
+use Rattle.qe_syntax.specs.Writable.{IsWritableFormula}
 use Rattle.qe_syntax.specs.Trees.{formula_tree, formulas_of}
 use Rattle.session_commands.specs.Assumptions.{assumed}
 use Rattle.session_commands.specs.Keeping.{state_of}
@@ -14,7 +14,7 @@ invariant-loop-assumption l = record {
   first : FirstAmong (AppliesToSome (state_of l.fn.desk) (take l.assumption-index l.given)) l.stop;
   atoms : l.stop ≡ None → map atom_of l.atoms.items ≡ map atom_of l.fn.atoms.items ++ assumed (state_of l.fn.desk) (formulas_of (map formula_tree (take l.assumption-index l.given)));
   well_formed : AllByRecursion IsWellFormed l.atoms.items;
-  proper : AllByRecursion (λ g. IsProperFormula (formula_tree g)) (drop l.assumption-index l.given);
+  proper : AllByRecursion (λ g. IsWritableFormula (formula_tree g)) (drop l.assumption-index l.given);
   numbered : AllByRecursion (λ g. HasNumbers l.fn.desk.names (formula_tree g)) (drop l.assumption-index l.given);
   kept : KeepsDesk l.fn.desk l.desk;
 }

@@ -1,5 +1,5 @@
 use Rattle.std.proofs.Common.{map, sym, subst}
-use Rattle.qe_syntax.specs.Proper.{AreProperFormulas}
+use Rattle.qe_syntax.specs.Writable.{AreWritableFormulas}
 use Rattle.qe_syntax.specs.Trees.{formula_tree, formulas_of}
 use Rattle.session_commands.specs.Keeping.{state_of}
 use Rattle.session_commands.specs.Steps.{given_trees, HasUnwantedQuantifier, ArePartsReadable, ArePartsUnread}
@@ -10,7 +10,7 @@ use Rattle.session_commands.proofs.GivenSteps.{proper_items}
 use Rattle.session_commands.proofs.formulas.read_wanted.Goals as goal
 
 pub read_parts-requires-clause-proper_given : goal.read_parts-requires-clause-proper_given
-read_parts-requires-clause-proper_given c = proper_items c.assumptions.result.now (subst AreProperFormulas (sym c.assumptions.ensures) c.requires.given)
+read_parts-requires-clause-proper_given c = proper_items c.assumptions.result.now (subst AreWritableFormulas (sym c.assumptions.ensures) c.requires.given)
 
 pub has_unwanted_quantifier-requires : goal.has_unwanted_quantifier-requires
 has_unwanted_quantifier-requires c = kept_ids c.args.desk.now c.read_parts.new.desk c.requires.ids c.read_parts.ensures.kept
