@@ -1,12 +1,21 @@
 //! Answers each script of the rows on standard input, and holds its lines and its status against those that the row expects.
-//! The gate runs it.
+//! Then it is the program itself, under the words of its command line, on a script that is refused under them. The gate runs it.
 #![tactic(auto)]
 
+mod ends;
 mod row;
+mod text;
 
 use crate::row::Row;
-use std::alloc::{AllocError, Global};
+use redlog_run::{Status, run_process};
 use std::io;
+use std::process::ExitCode;
+
+/// Answered under the limit of 14 nodes, and refused under that of 13, which the words of the gate give.
+const LAST: &[u8] = b"rlqe ex(x,x=a and x<b);";
+
+/// The program ends with this where the rows were not read or what becomes of them was not written.
+const NOT_TOLD: u8 = 9;
 
 /// What has been counted so far.
 #[derive(Clone, Copy)]
@@ -15,7 +24,15 @@ struct Tally {
     failed: u64,
 }
 
-fn main(rt: HostRuntime) -> io::Result<()> {
+fn main(rt: HostRuntime) -> ExitCode {
+    match answer_rows(&rt) {
+        Ok(()) => run_process(&rt, LAST, rt.stdout()),
+        Err(_) => ExitCode::from(NOT_TOLD),
+    }
+}
+
+/// Answers the rows, and tells how many there are and how many failed.
+fn answer_rows(rt: &HostRuntime) -> io::Result<()> {
     let text = io::read_to_string(rt.alloc(), rt.stdin())?;
     let mut row = Row::new(rt.alloc());
     let mut tally = Tally { rows: 0, failed: 0 };
@@ -23,37 +40,25 @@ fn main(rt: HostRuntime) -> io::Result<()> {
         if let Some(title) = line.strip_prefix("## ") {
             println!(rt; "{title}")?;
         } else if let Some(status) = line.strip_prefix("= ") {
-            count(&rt, &mut tally, &row, status)?;
+            count(rt, &mut tally, &row, status)?;
             row = Row::new(rt.alloc());
         } else {
-            row.take(line)?;
+            row.take(rt, line)?;
         }
     }
     let Tally { rows, failed } = tally;
-    println!(rt; "{rows} rows, {failed} failed")?;
-    Ok(())
+    let memory = Status::Memory.number();
+    println!(rt; "where memory runs out the status is {memory}")?;
+    println!(rt; "{rows} rows, {failed} failed")
 }
 
 /// Counts the row, and prints it where it is not answered as it expects.
 fn count(rt: &HostRuntime, tally: &mut Tally, row: &Row, status: &str) -> io::Result<()> {
     tally.rows = tally.rows.saturating_add(1);
-    let failure = difference(rt.alloc(), row, status)?;
+    let failure = row.failure(rt.alloc(), status)?;
     if let Some(failure) = failure {
         tally.failed = tally.failed.saturating_add(1);
-        println!(rt; "{failure}")?;
+        println!(rt; "failed: {failure}")?;
     }
     Ok(())
-}
-
-/// What differs from the row's expectation, if anything does.
-fn difference(alloc: Global, row: &Row, status: &str) -> Result<Option<String>, AllocError> {
-    let (lines, found) = row.answer(alloc)?;
-    if lines.as_slice() == row.lines() && found.as_str() == status {
-        return Ok(None);
-    }
-    let script = String::from_utf8_lossy(alloc, row.script())?;
-    let lines = String::from_utf8_lossy(alloc, &lines)?;
-    Ok(Some(format!(in alloc;
-        "failed: {script}answered:\n{lines}status {found}, and {status} is expected"
-    )?))
 }

@@ -1,20 +1,32 @@
-//! A row: a script, the words that it is answered under, and what it is to be answered with.
+//! A row: a script, the words and the ends that it is answered under, and what it is to be answered with.
 
-use qe_io::{MemorySink, MemorySource};
-use redlog_run::run;
+use crate::ends::{Answer, Ends};
+use crate::text::{add_line, add_numbered, add_repeated, told};
+use redlog_run::Status;
 use std::alloc::{AllocError, Global};
+use std::{fs, io};
 
-/// The bytes that the lines of a row may have.
-const ROOM: usize = 1_048_576;
+/// The bytes in a read of the tries that are to be answered alike.
+const PIECES: [usize; 4] = [1, 2, 3, 7];
 
-/// The bytes that the source gives in one read.
-const PIECE: usize = 4096;
+/// What is tried with a row's script besides.
+#[derive(Clone, Copy)]
+enum Try {
+    /// Where one of so many reads fails, nothing is written and the status says so.
+    FailingReads(u64),
+    /// Each front of the script is answered alike in pieces of any size.
+    Fronts,
+    /// So is the script with this byte in each place.
+    Replaced(u8),
+}
 
 /// A row, as far as it was read.
 #[derive(Drop)]
 pub(crate) struct Row {
     words: Vec<String>,
     script: Vec<u8>,
+    ends: Ends,
+    tries: Vec<Try>,
     lines: Vec<u8>,
 }
 
@@ -24,53 +36,196 @@ impl Row {
         Row {
             words: Vec::new(alloc),
             script: Vec::new(alloc),
+            ends: Ends::new(alloc),
+            tries: Vec::new(alloc),
             lines: Vec::new(alloc),
         }
     }
 
-    /// The script.
-    pub(crate) fn script(&self) -> &[u8] {
-        &self.script
-    }
-
-    /// The lines that are expected.
-    pub(crate) fn lines(&self) -> &[u8] {
-        &self.lines
-    }
-
-    /// Takes a line of the row: a word after `$ `, a line of the script after `> `, a remark after `#`, or an expected line.
-    pub(crate) fn take(&mut self, line: &str) -> Result<(), AllocError> {
-        if let Some(word) = line.strip_prefix("$ ") {
-            let word = word.to_string(*self.words.allocator())?;
+    /// Takes a line of the row: a word after `$ `, a part of the script after `>` or `< `, what else is so after `& `, a remark
+    /// after `#`, or an expected line. A line that is not of these forms is one that no script is answered with.
+    pub(crate) fn take(&mut self, rt: &HostRuntime, line: &str) -> io::Result<()> {
+        let alloc = rt.alloc();
+        let is_taken = if let Some(word) = line.strip_prefix("$ ") {
+            let word = word.to_string(alloc)?;
             self.words.push(word)?;
-            Ok(())
-        } else if let Some(script) = line.strip_prefix("> ") {
-            with_line(&mut self.script, script)
-        } else if line.is_empty() || line.starts_with('#') {
-            Ok(())
+            true
+        } else if let Some(text) = line.strip_prefix("> ") {
+            add_line(&mut self.script, text)?;
+            true
+        } else if let Some(times) = line.strip_prefix(">* ") {
+            add_repeated(alloc, &mut self.script, times)?
+        } else if let Some(range) = line.strip_prefix(">@ ") {
+            add_numbered(alloc, &mut self.script, range)?
+        } else if let Some(name) = line.strip_prefix("< ") {
+            self.take_files(rt, name)?;
+            true
+        } else if let Some(said) = line.strip_prefix("& ") {
+            self.take_said(said)?
         } else {
-            with_line(&mut self.lines, line)
+            line.is_empty() || line.starts_with('#')
+        };
+        if !is_taken {
+            add_line(&mut self.lines, line)?;
+        }
+        Ok(())
+    }
+
+    /// The script is that of a file, and the lines are those of the file beside it.
+    fn take_files(&mut self, rt: &HostRuntime, name: &str) -> io::Result<()> {
+        let path = format!(in rt.alloc(); "{name}.red")?;
+        let script = fs::read_to_string(rt, path.as_str())?;
+        self.script.extend_from_slice(script.as_bytes())?;
+        let path = format!(in rt.alloc(); "{name}.txt")?;
+        let lines = fs::read_to_string(rt, path.as_str())?;
+        self.lines.extend_from_slice(lines.as_bytes())?;
+        Ok(())
+    }
+
+    /// Takes what is said of the ends and of further tries, or says that it is not of the form.
+    fn take_said(&mut self, said: &str) -> Result<bool, AllocError> {
+        if said == "each front in pieces" {
+            self.tries.push(Try::Fronts)?;
+            return Ok(true);
+        }
+        let Some((what, value)) = said.split_once(": ") else {
+            return Ok(false);
+        };
+        if what == "each byte replaced by" {
+            return self.take_bytes(value);
+        }
+        let Ok(number) = value.parse::<u32>() else {
+            return Ok(false);
+        };
+        self.take_number(what, number)
+    }
+
+    /// Takes the bytes, told by their numbers, by which each byte of the script is replaced.
+    fn take_bytes(&mut self, numbers: &str) -> Result<bool, AllocError> {
+        for number in numbers.split(' ') {
+            let Ok(byte) = number.parse::<u8>() else {
+                return Ok(false);
+            };
+            self.tries.push(Try::Replaced(byte))?;
+        }
+        Ok(true)
+    }
+
+    /// Takes a number that is said of the ends or of further tries.
+    fn take_number(&mut self, what: &str, number: u32) -> Result<bool, AllocError> {
+        match what {
+            "bytes in a read" => self.ends.piece = number as usize,
+            "read that fails" => self.ends.reads.push(number as u64)?,
+            "write that fails" => self.ends.writes.push(number as u64)?,
+            "room" => self.ends.room = number as usize,
+            "reads of which each may fail" => {
+                self.tries.push(Try::FailingReads(number as u64))?;
+            }
+            _ => return Ok(false),
+        }
+        Ok(true)
+    }
+
+    /// What is not as the row expects, if anything is.
+    pub(crate) fn failure(
+        &self,
+        alloc: Global,
+        status: &str,
+    ) -> Result<Option<String>, AllocError> {
+        if let Some(failure) = self.difference(alloc, status)? {
+            return Ok(Some(failure));
+        }
+        for tried in &self.tries {
+            if let Some(failure) = self.tried(alloc, *tried)? {
+                return Ok(Some(failure));
+            }
+        }
+        Ok(None)
+    }
+
+    /// What is found otherwise where this is tried.
+    fn tried(&self, alloc: Global, tried: Try) -> Result<Option<String>, AllocError> {
+        match tried {
+            Try::FailingReads(count) => self.failing_read(alloc, count),
+            Try::Fronts => self.front(alloc),
+            Try::Replaced(byte) => self.replaced(alloc, byte),
         }
     }
 
-    /// The lines and the status that the script is answered with.
-    pub(crate) fn answer(&self, alloc: Global) -> Result<(Vec<u8>, String), AllocError> {
-        let mut source = MemorySource::new(self.script.clone()?, PIECE, Vec::new(alloc));
-        let Ok(mut sink) = MemorySink::new(alloc, ROOM, Vec::new(alloc)) else {
-            return Err(AllocError);
-        };
-        let status = run(alloc, &self.words, &mut source, &mut sink);
-        let number = status.number();
-        Ok((
-            sink.written().to_vec(alloc)?,
-            format!(in alloc; "{number}")?,
-        ))
+    /// The answer, where it is not the expected one.
+    fn difference(&self, alloc: Global, status: &str) -> Result<Option<String>, AllocError> {
+        let answer = self.ends.answer(alloc, &self.words, &self.script)?;
+        let found = answer.status;
+        let number = format!(in alloc; "{found}")?;
+        let lines = told(alloc, &answer.lines)?;
+        let wanted = &self.lines[..self.lines.len().min(self.ends.room)];
+        if lines.as_slice() == wanted && number.as_str() == status {
+            return Ok(None);
+        }
+        let script = told(alloc, &self.script)?;
+        let script = String::from_utf8_lossy(alloc, &script)?;
+        let lines = String::from_utf8_lossy(alloc, &lines)?;
+        Ok(Some(format!(in alloc;
+            "{script}answered:\n{lines}status {found}, and {status} is expected"
+        )?))
     }
-}
 
-/// Adds a line and its end.
-fn with_line(bytes: &mut Vec<u8>, line: &str) -> Result<(), AllocError> {
-    bytes.extend_from_slice(line.as_bytes())?;
-    bytes.push(b'\n')?;
-    Ok(())
+    /// The first read at whose fault the answer is not the status of such faults alone.
+    fn failing_read(&self, alloc: Global, count: u64) -> Result<Option<String>, AllocError> {
+        let silent = Answer {
+            lines: Vec::new(alloc),
+            status: Status::ReadFault.number(),
+        };
+        for read in 0..count {
+            let ends = self.ends.failing_at(read)?;
+            let answer = ends.answer(alloc, &self.words, &self.script)?;
+            if !answer.is_same(&silent) {
+                return Ok(Some(format!(in alloc;
+                    "where the read {read} fails the status is another"
+                )?));
+            }
+        }
+        Ok(None)
+    }
+
+    /// The first front of the script that is answered otherwise in pieces.
+    fn front(&self, alloc: Global) -> Result<Option<String>, AllocError> {
+        for end in 0..self.script.len() {
+            if !self.is_alike(alloc, &self.script[..end])? {
+                return Ok(Some(format!(in alloc;
+                    "the first {end} bytes are answered otherwise in pieces"
+                )?));
+            }
+        }
+        Ok(None)
+    }
+
+    /// The first place at which the script with this byte is answered otherwise in pieces.
+    fn replaced(&self, alloc: Global, byte: u8) -> Result<Option<String>, AllocError> {
+        let mut script = self.script.clone()?;
+        for place in 0..script.len() {
+            let before = script[place];
+            script[place] = byte;
+            if !self.is_alike(alloc, &script)? {
+                return Ok(Some(format!(in alloc;
+                    "with {byte} at {place} it is answered otherwise in pieces"
+                )?));
+            }
+            script[place] = before;
+        }
+        Ok(None)
+    }
+
+    /// Whether the script is answered as it is in each size of pieces.
+    fn is_alike(&self, alloc: Global, script: &[u8]) -> Result<bool, AllocError> {
+        let whole = self.ends.answer(alloc, &self.words, script)?;
+        for piece in PIECES {
+            let ends = self.ends.in_pieces(piece)?;
+            let answer = ends.answer(alloc, &self.words, script)?;
+            if !answer.is_same(&whole) {
+                return Ok(false);
+            }
+        }
+        Ok(true)
+    }
 }
