@@ -3,10 +3,12 @@ use Rattle.std.proofs.Common.{◌≡◌, ℕ, ◌-◌, length, take, length-appe
 use Rattle.std.proofs.lemmas.Int.{ints}
 use Rattle.std.proofs.lemmas.List.{map-append, reverse-append}
 use Rattle.std.proofs.Math.Seq.{take-append_seam}
+use Rattle.formula_meaning.specs.Shape.{quantified}
+use Rattle.formula_meaning.specs.declared.quantifier.Quantifier.TheVariants.{Exists, ForAll}
+use Rattle.formula_meaning.specs.declared.junction.Junction.TheVariants.{Conjunction, Disjunction}
 use Rattle.formula_meaning.specs.Context.{Context}
 use Rattle.formula_meaning.specs.Every.{Every, EveryOf}
-use Rattle.formula_meaning.specs.Fold.{append}
-use Rattle.formula_meaning.specs.Fold as folding
+use Rattle.formula_meaning.specs.Fold.{joined, append}
 use Rattle.formula_meaning.specs.Formula.{One, none, also}
 use Rattle.formula_meaning.specs.Atom as meant
 use Rattle.formula_meaning.specs.Point.{Point}
@@ -18,12 +20,10 @@ use Rattle.atom_normal.specs.declared.atoms.Normal.{Normal}
 use Rattle.atom_normal.specs.declared.atoms.Normal.TheVariants as normal
 use Rattle.atom_normal.specs.Atoms.{atom_of, tree_of, IsWellFormed, IsWellFormedNormal}
 use Rattle.atom_normal.specs.NormalForm.{constant_tree}
-use Rattle.nnf_trees.specs.declared.nnf.Junction.{Junction}
-use Rattle.nnf_trees.specs.declared.nnf.Junction.TheVariants as junction
-use Rattle.nnf_trees.specs.declared.nnf.Quantifier.{Quantifier}
-use Rattle.nnf_trees.specs.declared.nnf.Quantifier.TheVariants as quantifier
+use Rattle.formula_meaning.specs.declared.junction.Junction.{Junction}
+use Rattle.formula_meaning.specs.declared.quantifier.Quantifier.{Quantifier}
 use Rattle.nnf_trees.specs.declared.nnf.Nnf.{Nnf}
-use Rattle.nnf_trees.specs.Nnfs.{nnf_of, junction_of, quantified, HasModulus}
+use Rattle.nnf_trees.specs.Nnfs.{nnf_of, HasModulus}
 use Rattle.nnf_trees.proofs.Pieces.{Formulas_of, lists_joined, append_none, append_thrice}
 use Rattle.linear_forms.specs.declared.form.VarId.{VarId}
 use Rattle.plain_engine.specs.Told.{numbers}
@@ -49,21 +49,21 @@ module _ (c : Context) (p : Point ℕ) (names : List ℕ) where
   pub atom_put_whole : (a : meant.Atom) (n : Normal) → IsAtomPut c p names a n → IsTreePut c p names (One a) (tree_of n)
   atom_put_whole a n h = record { formula = h.atom; moduli = normal_moduli n h.well_formed; within = h.within }
 
-  pub joined_put : (j : Junction) (fs gs : Trees) → AreTreesPut c p names fs gs → IsTreePut c p names (folding.joined (junction_of j) fs) (folding.joined (junction_of j) gs)
-  joined_put junction.And fs gs h = record { formula = ap (folding.joined folding.Conjunction) h.formulas; moduli = h.moduli; within = h.within }
-  joined_put junction.Or fs gs h = record { formula = ap (folding.joined folding.Disjunction) h.formulas; moduli = h.moduli; within = h.within }
+  pub joined_put : (j : Junction) (fs gs : Trees) → AreTreesPut c p names fs gs → IsTreePut c p names (joined j fs) (joined j gs)
+  joined_put Conjunction fs gs h = record { formula = ap (joined Conjunction) h.formulas; moduli = h.moduli; within = h.within }
+  joined_put Disjunction fs gs h = record { formula = ap (joined Disjunction) h.formulas; moduli = h.moduli; within = h.within }
 
-  pub joined_within : (j : Junction) (fs : Trees) → tree_put_within c p names (folding.joined (junction_of j) fs) ≡ trees_put_within c p names fs
-  joined_within junction.And fs = refl
-  joined_within junction.Or fs = refl
+  pub joined_within : (j : Junction) (fs : Trees) → tree_put_within c p names (joined j fs) ≡ trees_put_within c p names fs
+  joined_within Conjunction fs = refl
+  joined_within Disjunction fs = refl
 
   pub quantified_put : (q : Quantifier) (x : ℕ) (f g : Tree) → IsTreePut c p (x ∷ names) f g → IsTreePut c p names (quantified q x f) (quantified q x g)
-  quantified_put quantifier.Ex x f g h = record { formula = ap (quantified quantifier.Ex x) h.formula; moduli = h.moduli; within = h.within }
-  quantified_put quantifier.All x f g h = record { formula = ap (quantified quantifier.All x) h.formula; moduli = h.moduli; within = h.within }
+  quantified_put Exists x f g h = record { formula = ap (quantified Exists x) h.formula; moduli = h.moduli; within = h.within }
+  quantified_put ForAll x f g h = record { formula = ap (quantified ForAll x) h.formula; moduli = h.moduli; within = h.within }
 
   pub quantified_within : (q : Quantifier) (x : ℕ) (f : Tree) → tree_put_within c p names (quantified q x f) ≡ tree_put_within c p (x ∷ names) f
-  quantified_within quantifier.Ex x f = refl
-  quantified_within quantifier.All x f = refl
+  quantified_within Exists x f = refl
+  quantified_within ForAll x f = refl
 
 -- the names of quantifiers, with one more and with one less
 pub one_more_around : (names : List VarId) (x : VarId) → around (names ++ x ∷ []) ≡ x.number ∷ around names

@@ -64,8 +64,9 @@ fn form_put(
     }
 }
 
-// The same of the atom's form, and the whole in normal form.
-pub(crate) fn atom_put(
+/// The atom with the numbers of the point for its names, but for those of the quantifiers around it, the innermost last, and in
+/// normal form. `Overflow` comes exactly where a number that is formed passes 2^127 - 1, else `Memory`.
+pub fn atom_put(
     alloc: Global,
     context: Context,
     names: &[VarId],

@@ -94,7 +94,7 @@ pub fn put_in(alloc: Global, tree: &Tree, context: Context, at: &Values) -> Resu
     ensures within { OnOk result (tree_put_within (context_of context) (point_of at.now) [] (normal_tree (tree_of tree.now)) ≡ true) }
     ensures stops { IfErr result (λ e. Refuses e (tree_put_within (context_of context) (point_of at.now) [] (normal_tree (tree_of tree.now)))) }
 {
-    let form = normal_form(alloc, tree, false).map_err(|_| Measured::Memory)?;
+    let form = normal_form(alloc, tree, false)?;
     let mut names = Vec::new(alloc);
     match formula_put(alloc, context, &mut names, &form, at) {
         Ok(put) => into_tree(alloc, put).map_err(|_| Measured::Memory),

@@ -5,5 +5,6 @@ mod forms;
 mod formulas;
 mod truths;
 
+pub use forms::atom_put;
 pub use formulas::{formula_put, put_in};
 pub use truths::truth_plain;

@@ -1,5 +1,6 @@
 use Rattle.std.proofs.Common.{rules, arith, ℕ, ◌≡◌, ◌≤◌, ◌+◌, ◌∷◌, ◌++◌, [], List, Err, drop, sym, ap, ◌∙◌, subst}
 use Rattle.std.proofs.lemmas.List.{at_drop_all}
+use Rattle.formula_meaning.specs.Shape.{quantified}
 use Rattle.formula_meaning.specs.Atom.{AtomIn}
 use Rattle.formula_meaning.specs.Every.{EveryOf}
 use Rattle.formula_meaning.specs.Fold.{append}
@@ -11,7 +12,7 @@ use Rattle.linear_forms.specs.declared.form.VarId.{VarId}
 use Rattle.linear_forms.specs.Values.{point_of}
 use Rattle.nnf_trees.specs.declared.nnf.Nnf.{Nnf}
 use Rattle.nnf_trees.specs.declared.nnf.Nnf.TheVariants as nnf
-use Rattle.nnf_trees.specs.Nnfs.{nnf_of, nnfs_of, quantified, AreProper, HasModulus}
+use Rattle.nnf_trees.specs.Nnfs.{nnf_of, nnfs_of, AreProper, HasModulus}
 use Rattle.nnf_trees.proofs.Counting.{drop_at}
 use Rattle.nnf_trees.proofs.NnfEquations.{nnf-Quantified}
 use Rattle.nnf_trees.proofs.Pieces.{Formulas_of}

@@ -28,6 +28,6 @@ returns-in-Ok-clause-exact c =
     let made : nnf_of c.in_ok-form.form ≡ form false f = search rules in
     let put : nnf_of c.in-Ok.put ≡ put_in o p f
     = c.in-Ok.ensures.put.formula ∙ ap (λ (xs : List VarId). tree_put o p (around xs) (nnf_of c.in_ok-form.form)) c.new-names.ensures.items ∙ ap (tree_put o p []) made in
-    let tree : IfOk c.map_err-in-Ok.result (λ t. tree_of t ≡ nnf_of c.in-Ok.put) = search rules in
-    if_ok_also c.map_err-in-Ok.result (λ t. tree_of t ≡ nnf_of c.in-Ok.put) (λ t. IsPutIn o f p (tree_of t)) tree
+    let tree : IfOk c.map_err.result (λ t. tree_of t ≡ nnf_of c.in-Ok.put) = search rules in
+    if_ok_also c.map_err.result (λ t. tree_of t ≡ nnf_of c.in-Ok.put) (λ t. IsPutIn o f p (tree_of t)) tree
     (λ t e. subst (IsPutIn o f p) (sym (e ∙ put)) (putting_in_exact o f p c.requires.normal c.requires.point))
