@@ -21,15 +21,13 @@ pub fn ended(alloc: Global, pending: Pending, operand: Operand) -> Result<Operan
     ensures refused { IfErr result (λ e. Refuses e (ended (frame_of pending) (reading_of operand) ≡ None)) }
 {
     match pending {
-        Pending::Group => Err(ReadError::Syntax),
-        Pending::Quantified(_, _names) => Err(ReadError::Syntax),
-        Pending::Congruence(_, _terms) => Err(ReadError::Syntax),
         Pending::Negation => negated(alloc, operand),
         Pending::Compares(relation, left) => compared(alloc, relation, left, operand),
         Pending::Added(minus, members) => summed(alloc, minus, members, operand),
         Pending::Multiplied(over, factors) => product(alloc, over, factors, operand),
         Pending::Listed(junction, members) => joined(junction, members, operand),
         Pending::Arrows(arrow, left) => implied(alloc, arrow, left, operand),
+        _ => Err(ReadError::Syntax),
     }
 }
 
