@@ -22,15 +22,19 @@ use Rattle.formula_resolving.specs.declared.error.StaticError.{StaticError}
 use Rattle.formula_resolving.specs.declared.causes.Causes.{Causes}
 use Rattle.formula_resolving.specs.declared.parts.Part.{Part}
 use Rattle.formula_resolving.specs.declared.parts.Members.{Members}
-use Rattle.formula_resolving.specs.declared.parts.Joint.{Joint}
-use Rattle.formula_resolving.specs.declared.parts.Joint.TheVariants as joint
+use Rattle.formula_meaning.specs.declared.junction.Junction.{Junction}
+use Rattle.formula_meaning.specs.declared.junction.Junction.TheVariants.{Conjunction, Disjunction}
+use Rattle.formula_meaning.specs.declared.quantifier.Quantifier.{Quantifier}
+use Rattle.formula_meaning.specs.declared.quantifier.Quantifier.TheVariants.{Exists, ForAll}
+use Rattle.formula_meaning.specs.Fold.{joined}
+use Rattle.formula_meaning.specs.Shape.{quantified}
 use Rattle.formula_resolving.specs.declared.parts.Pair.{Pair}
 use Rattle.formula_resolving.specs.declared.parts.Pair.TheVariants as pair
-use Rattle.formula_resolving.specs.declared.parts.Quantifier.{Quantifier}
+use Rattle.formula_resolving.specs.declared.parts.Opening.{Opening}
 use Rattle.formula_resolving.specs.MetCauses.{flag, either, IsRefused, StandsIn}
 use Rattle.formula_resolving.specs.Heights.{told, over}
 use Rattle.formula_resolving.specs.Parts.{AreTold, IsPart, AreMembers, IsFinished}
-use Rattle.formula_resolving.specs.Connectives.{joint_shape, pair_shape, quantifier_shape, negated_shape, joined, paired, quantified, quantifier_over}
+use Rattle.formula_resolving.specs.Connectives.{joined_shape, pair_shape, opening_shape, negated_shape, paired, quantified_shape}
 use Rattle.formula_resolving.specs.Refusals.{AreIds, trees_bound}
 use Rattle.formula_resolving.proofs.FirstCause.{flag_either, or_true}
 
@@ -162,22 +166,22 @@ module _ {Id : Type 0} (c : Context) (bound : BoundTrees) (names : List (List �
   beside : (P : Type 0) (k : Causes) (e : StaticError) → (flag k e ≡ true) ↔ P → (flag k e ≡ true) ↔ (⊥ ⊎ P)
   beside P k e h = (λ i. inr (h.0 i), λ s. ⊎_elim (λ n. absurd n) h.1 s)
 
-  pub quantified_part : (P : Id → Type 0) (q : Quantifier) (x : List ℕ) (f : FormulaTree) (p r : Part Id) → place names x ≡ q.name.number → IsPart c bound names P old f p
-      → IsFinished is_id old tree p.causes (over p.height) (quantifier_shape q p.id) r → IsPart c bound names is_id tree (quantified q.universal x f) r
-  quantified_part P q x f p r n h w = go q.universal refl
+  pub quantified_part : (P : Id → Type 0) (q : Opening) (x : List ℕ) (f : FormulaTree) (p r : Part Id) → place names x ≡ q.name.number → IsPart c bound names P old f p
+      → IsFinished is_id old tree p.causes (over p.height) (opening_shape q p.id) r → IsPart c bound names is_id tree (quantified q.quantifier x f) r
+  quantified_part P q x f p r n h w = go q.quantifier refl
     where
-      there : (b : Bool) → q.universal ≡ b → (i : Id) → quantifier_shape q (Some i) ≡ Some (quantifier_over b q.name i)
-      there b e i = ap (λ d. Some (quantifier_over d q.name i)) e
+      there : (b : Quantifier) → q.quantifier ≡ b → (i : Id) → opening_shape q (Some i) ≡ Some (quantified_shape b q.name i)
+      there b e i = ap (λ d. Some (quantified_shape d q.name i)) e
 
-      go : (b : Bool) → q.universal ≡ b → IsPart c bound names is_id tree (quantified b x f) r
-      go true e =
-          finished_part p.causes (over p.height) (quantifier_shape q p.id) r (All x f) w (λ d. beside _ p.causes d (h.causes d)) (one_higher P f p h)
-          (λ y i m. one_shape (quantifier_over true q.name) (All (place names x)) (λ j. ap (λ v. All v (old j)) (sym n)) P f p (quantifier_shape q) (there true e) refl h y i)
-          (one_out (quantifier_over true q.name) P f p (quantifier_shape q) (there true e) h)
-      go false e =
-          finished_part p.causes (over p.height) (quantifier_shape q p.id) r (Ex x f) w (λ d. beside _ p.causes d (h.causes d)) (one_higher P f p h)
-          (λ y i m. one_shape (quantifier_over false q.name) (Ex (place names x)) (λ j. ap (λ v. Ex v (old j)) (sym n)) P f p (quantifier_shape q) (there false e) refl h y i)
-          (one_out (quantifier_over false q.name) P f p (quantifier_shape q) (there false e) h)
+      go : (b : Quantifier) → q.quantifier ≡ b → IsPart c bound names is_id tree (quantified b x f) r
+      go ForAll e =
+          finished_part p.causes (over p.height) (opening_shape q p.id) r (All x f) w (λ d. beside _ p.causes d (h.causes d)) (one_higher P f p h)
+          (λ y i m. one_shape (quantified_shape ForAll q.name) (All (place names x)) (λ j. ap (λ v. All v (old j)) (sym n)) P f p (opening_shape q) (there ForAll e) refl h y i)
+          (one_out (quantified_shape ForAll q.name) P f p (opening_shape q) (there ForAll e) h)
+      go Exists e =
+          finished_part p.causes (over p.height) (opening_shape q p.id) r (Ex x f) w (λ d. beside _ p.causes d (h.causes d)) (one_higher P f p h)
+          (λ y i m. one_shape (quantified_shape Exists q.name) (Ex (place names x)) (λ j. ap (λ v. Ex v (old j)) (sym n)) P f p (opening_shape q) (there Exists e) refl h y i)
+          (one_out (quantified_shape Exists q.name) P f p (opening_shape q) (there Exists e) h)
 
   -- ---- two members
 
@@ -225,8 +229,8 @@ module _ {Id : Type 0} (c : Context) (bound : BoundTrees) (names : List (List �
   all_resolved [] = refl
   all_resolved (f ∷ fs) = ap (also (resolve c bound names f)) (all_resolved fs)
 
-  pub joint_part : (P : Id → Type 0) (fs : List FormulaTree) (m : Members Id) (r : Part Id) (n : Joint) → AreMembers c bound names P old fs m
-      → IsFinished is_id old tree m.causes (over m.height) (Some (joint_shape n m.ids.items)) r → IsPart c bound names is_id tree (joined n (formulas_of fs)) r
+  pub joint_part : (P : Id → Type 0) (fs : List FormulaTree) (m : Members Id) (r : Part Id) (n : Junction) → AreMembers c bound names P old fs m
+      → IsFinished is_id old tree m.causes (over m.height) (Some (joined_shape n m.ids.items)) r → IsPart c bound names is_id tree (joined n (formulas_of fs)) r
   joint_part P fs m r n h w = go n w
     where
       higher : over m.height ≡ told (suc (greatest_height (all_replaced (atom_in_place bound) (λ x. 0) (formulas_of fs))))
@@ -236,11 +240,11 @@ module _ {Id : Type 0} (c : Context) (bound : BoundTrees) (names : List (List �
       lower : (¬ (IsRefused m.causes (over m.height))) → members (map old m.ids.items) ≡ all_replaced (resolved_atom c bound (place names)) (place names) (formulas_of fs)
       lower out = ap members (h.made (λ i. out (refused_over m.causes m.height i))).same ∙ all_resolved fs
 
-      go : (n : Joint) → IsFinished is_id old tree m.causes (over m.height) (Some (joint_shape n m.ids.items)) r → IsPart c bound names is_id tree (joined n (formulas_of fs)) r
-      go joint.And w =
+      go : (n : Junction) → IsFinished is_id old tree m.causes (over m.height) (Some (joined_shape n m.ids.items)) r → IsPart c bound names is_id tree (joined n (formulas_of fs)) r
+      go Conjunction w =
           finished_part _ _ _ r (And (formulas_of fs)) w h.causes higher
           (λ x e out. subst (λ y. tree_over old y ≡ And (all_replaced (resolved_atom c bound (place names)) (place names) (formulas_of fs))) (some_same e) (ap And (lower out))) (λ e. absurd (cc))
-      go joint.Or w =
+      go Disjunction w =
           finished_part _ _ _ r (Or (formulas_of fs)) w h.causes higher
           (λ x e out. subst (λ y. tree_over old y ≡ Or (all_replaced (resolved_atom c bound (place names)) (place names) (formulas_of fs))) (some_same e) (ap Or (lower out))) (λ e. absurd (cc))
 

@@ -15,9 +15,10 @@ use Rattle.qe_syntax.specs.Valued.{matrix_of}
 use Rattle.qe_syntax.specs.Proper.{IsProperFormula, AreProperFormulas}
 use Rattle.qe_syntax.proofs.TreeEquations.{formula-Compare, formula-Cong, formula-Ncong, formula-Not, formula-And, formula-Or, formula-Impl, formula-Repl, formula-Equiv}
 use Rattle.written_atoms.specs.Read.{congruence_tree}
-use Rattle.formula_resolving.specs.declared.parts.Joint.TheVariants as joint
+use Rattle.formula_meaning.specs.declared.junction.Junction.TheVariants.{Conjunction, Disjunction}
+use Rattle.formula_meaning.specs.Fold.{joined}
 use Rattle.formula_resolving.specs.declared.parts.Pair.TheVariants as pair
-use Rattle.formula_resolving.specs.Connectives.{joined, paired}
+use Rattle.formula_resolving.specs.Connectives.{paired}
 
 pub compare_is : (f : written.Formula) (r : Relation) (a b : Box code.Term Global) (x y : code.Term) → f ≡ formula.Compare r a b → x ≡ a.value → y ≡ b.value → formula_tree f ≡ One (Compare r (term_tree x) (term_tree y))
 compare_is f r a b x y e d k = ap formula_tree e ∙ formula-Compare r a b ∙ ap₂ (λ s t. One (Compare r (term_tree s) (term_tree t))) (sym d) (sym k)
@@ -31,10 +32,10 @@ ncong_is f a b m x y z e d k l = ap formula_tree e ∙ formula-Ncong a b m ∙ (
 pub negation_is : (f : written.Formula) (b : Box written.Formula Global) (x : written.Formula) → f ≡ formula.Not b → x ≡ b.value → formula_tree f ≡ Not (formula_tree x)
 negation_is f b x e d = ap formula_tree e ∙ formula-Not b ∙ ap (λ s. Not (formula_tree s)) (sym d)
 
-pub conjunction_is : (f : written.Formula) (fs : writtens.Formulas) (xs : List written.Formula) → f ≡ formula.And fs → formula_trees fs ≡ formulas_of (map formula_tree xs) → formula_tree f ≡ joined joint.And (formulas_of (map formula_tree xs))
+pub conjunction_is : (f : written.Formula) (fs : writtens.Formulas) (xs : List written.Formula) → f ≡ formula.And fs → formula_trees fs ≡ formulas_of (map formula_tree xs) → formula_tree f ≡ joined Conjunction (formulas_of (map formula_tree xs))
 conjunction_is f fs xs e d = ap formula_tree e ∙ formula-And fs ∙ ap plain.And d
 
-pub disjunction_is : (f : written.Formula) (fs : writtens.Formulas) (xs : List written.Formula) → f ≡ formula.Or fs → formula_trees fs ≡ formulas_of (map formula_tree xs) → formula_tree f ≡ joined joint.Or (formulas_of (map formula_tree xs))
+pub disjunction_is : (f : written.Formula) (fs : writtens.Formulas) (xs : List written.Formula) → f ≡ formula.Or fs → formula_trees fs ≡ formulas_of (map formula_tree xs) → formula_tree f ≡ joined Disjunction (formulas_of (map formula_tree xs))
 disjunction_is f fs xs e d = ap formula_tree e ∙ formula-Or fs ∙ ap plain.Or d
 
 pub implication_is : (f : written.Formula) (a b : Box written.Formula Global) (x y : written.Formula) → f ≡ formula.Impl a b → x ≡ a.value → y ≡ b.value → formula_tree f ≡ paired pair.Impl (formula_tree x) (formula_tree y)

@@ -1,6 +1,11 @@
 -- The connectives and quantifiers of a formula, as shapes over ids and as formulas.
-use Rattle.std.specs.Prelude.{◌≡◌, ℕ, List, ◌∷◌, [], Bool, true, false, Option, Some, None}
-use Rattle.formula_meaning.specs.Formula.{Formula, Formulas, And, Or, Impl, Repl, Equiv, Ex, All}
+use Rattle.std.specs.Prelude.{◌≡◌, ℕ, List, ◌∷◌, [], Option, Some, None}
+use Rattle.formula_meaning.specs.declared.junction.Junction.{Junction}
+use Rattle.formula_meaning.specs.declared.junction.Junction.TheVariants.{Conjunction, Disjunction}
+use Rattle.formula_meaning.specs.declared.quantifier.Quantifier.{Quantifier}
+use Rattle.formula_meaning.specs.declared.quantifier.Quantifier.TheVariants.{Exists, ForAll}
+use Rattle.formula_meaning.specs.Formula.{Formula, Impl, Repl, Equiv}
+use Rattle.formula_meaning.specs.Shape.{quantified}
 use Rattle.qe_syntax.specs.Trees.{FormulaTree}
 use Rattle.linear_forms.specs.declared.form.VarId.{VarId}
 use Rattle.atom_normal.specs.declared.atoms.Normal.{Normal}
@@ -8,16 +13,14 @@ use Rattle.atom_normal.specs.declared.atoms.Normal.TheVariants as normal
 use Rattle.formula_tree.specs.declared.shape.Shape.{Shape}
 use Rattle.formula_tree.specs.declared.shape.Shape.TheVariants as shape
 use Rattle.formula_tree.specs.Resolving.{place}
-use Rattle.formula_resolving.specs.declared.parts.Joint.{Joint}
-use Rattle.formula_resolving.specs.declared.parts.Joint.TheVariants as joint
 use Rattle.formula_resolving.specs.declared.parts.Pair.{Pair}
 use Rattle.formula_resolving.specs.declared.parts.Pair.TheVariants as pair
-use Rattle.formula_resolving.specs.declared.parts.Quantifier.{Quantifier}
+use Rattle.formula_resolving.specs.declared.parts.Opening.{Opening}
 
 -- the shapes of the connectives
-abbrev pub joint_shape : {Id : Type 0} → Joint → List Id → Shape Id
-joint_shape joint.And ids = shape.And ids
-joint_shape joint.Or ids = shape.Or ids
+abbrev pub joined_shape : {Id : Type 0} → Junction → List Id → Shape Id
+joined_shape Conjunction ids = shape.And ids
+joined_shape Disjunction ids = shape.Or ids
 
 abbrev pub pair_shape : {Id : Type 0} → Pair → Option Id → Option Id → Option (Shape Id)
 pair_shape pair.Impl (Some f) (Some g) = Some (shape.Impl f g)
@@ -26,13 +29,13 @@ pair_shape pair.Equiv (Some f) (Some g) = Some (shape.Equiv f g)
 pair_shape k None o = None
 pair_shape k (Some f) None = None
 
-abbrev pub quantifier_over : {Id : Type 0} → Bool → VarId → Id → Shape Id
-quantifier_over true x f = shape.All x f
-quantifier_over false x f = shape.Ex x f
+abbrev pub quantified_shape : {Id : Type 0} → Quantifier → VarId → Id → Shape Id
+quantified_shape Exists x f = shape.Ex x f
+quantified_shape ForAll x f = shape.All x f
 
-abbrev pub quantifier_shape : {Id : Type 0} → Quantifier → Option Id → Option (Shape Id)
-quantifier_shape q None = None
-quantifier_shape q (Some f) = Some (quantifier_over q.universal q.name f)
+abbrev pub opening_shape : {Id : Type 0} → Opening → Option Id → Option (Shape Id)
+opening_shape q None = None
+opening_shape q (Some f) = Some (quantified_shape q.quantifier q.name f)
 
 abbrev pub negated_shape : {Id : Type 0} → Option Id → Option (Shape Id)
 negated_shape None = None
@@ -45,20 +48,12 @@ normal_shape (Some normal.False) = Some shape.False
 normal_shape (Some (normal.One a)) = Some (shape.One a)
 
 -- their formulas
-abbrev pub joined : {A N : Type 0} → Joint → Formulas A N → Formula A N
-joined joint.And fs = And fs
-joined joint.Or fs = Or fs
-
 abbrev pub paired : {A N : Type 0} → Pair → Formula A N → Formula A N → Formula A N
 paired pair.Impl f g = Impl f g
 paired pair.Repl f g = Repl f g
 paired pair.Equiv f g = Equiv f g
 
-abbrev pub quantified : {A N : Type 0} → Bool → N → Formula A N → Formula A N
-quantified true x f = All x f
-quantified false x f = Ex x f
-
 -- The formula f is g with these quantifiers before it, the outermost first.
-abbrev pub Opens : List (List ℕ) → List Quantifier → FormulaTree → FormulaTree → Type 0
+abbrev pub Opens : List (List ℕ) → List Opening → FormulaTree → FormulaTree → Type 0
 Opens names [] f g = f ≡ g
-Opens names (q ∷ qs) f g = (x : List ℕ) × (h : FormulaTree) × (f ≡ quantified q.universal x h) × (place names x ≡ q.name.number) × Opens names qs h g
+Opens names (q ∷ qs) f g = (x : List ℕ) × (h : FormulaTree) × (f ≡ quantified q.quantifier x h) × (place names x ≡ q.name.number) × Opens names qs h g

@@ -8,10 +8,11 @@ ghost use Rattle.formula_resolving.specs.Refusals.{AreIds, trees_bound};
 ghost use Rattle.formula_tree.specs.Shapes.{AllIds, IsProperShape};
 ghost use Rattle.formula_resolving.specs.Parts.{IsFinished, IsNamePart};
 ghost use Rattle.formula_resolving.specs.MetCauses.{atom_causes, either, is_fields, no_causes};
-ghost use Rattle.formula_resolving.specs.Connectives.{joint_shape, negated_shape, normal_shape, pair_shape, quantifier_shape};
+ghost use Rattle.formula_resolving.specs.Connectives.{joined_shape, negated_shape, normal_shape, opening_shape, pair_shape};
 
 use crate::causes::{Causes, told};
 use atom_normal::{Context, Normal};
+use formula_meaning::{Junction, Quantifier};
 use formula_tree::{Bindings, Ids, Maker, Shape};
 use linear_forms::VarId;
 use qe_syntax::Name;
@@ -36,21 +37,20 @@ pub(crate) struct Members<Id> {
 
 /// A quantifier, and the number of its name.
 #[derive(Clone, Copy)]
-pub(crate) struct Quantifier {
-    pub universal: bool,
+pub(crate) struct Opening {
+    pub quantifier: Quantifier,
     pub name: VarId,
 }
 
-impl Quantifier {
+impl Opening {
     /// The formula with the quantifier before it; `None` where it is not there.
     pub(crate) fn over<Id: Copy>(self, inner: Option<Id>) -> Option<Shape<Id>>
-        ensures { result ≡ quantifier_shape self inner }
+        ensures { result ≡ opening_shape self inner }
     {
         let inner = inner?;
-        if self.universal {
-            Some(Shape::All(self.name, inner))
-        } else {
-            Some(Shape::Ex(self.name, inner))
+        match self.quantifier {
+            Quantifier::Exists => Some(Shape::Ex(self.name, inner)),
+            Quantifier::ForAll => Some(Shape::All(self.name, inner)),
         }
     }
 }
@@ -75,22 +75,13 @@ fn normal_shape<Id>(normal: Option<Normal>) -> Option<Shape<Id>>
     }
 }
 
-/// What joins the members of a list.
-#[derive(Clone, Copy)]
-pub(crate) enum Joint {
-    And,
-    Or,
-}
-
-impl Joint {
-    /// The list with these members.
-    pub(crate) fn over<Id>(self, ids: Vec<Id>) -> Shape<Id>
-        ensures { result ≡ joint_shape self ids.items }
-    {
-        match self {
-            Joint::And => Shape::And(Ids::of(ids)),
-            Joint::Or => Shape::Or(Ids::of(ids)),
-        }
+/// The list with these members.
+pub(crate) fn joined<Id>(junction: Junction, ids: Vec<Id>) -> Shape<Id>
+    ensures { result ≡ joined_shape junction ids.items }
+{
+    match junction {
+        Junction::Conjunction => Shape::And(Ids::of(ids)),
+        Junction::Disjunction => Shape::Or(Ids::of(ids)),
     }
 }
 

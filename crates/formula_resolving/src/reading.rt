@@ -1,6 +1,7 @@
 //! A written formula is read: the causes of a refusal in it, its height, and its resolved formula.
 
 ghost use Rattle.std.specs.Prelude.{◌≡◌, IfOk, map};
+ghost use Rattle.formula_meaning.specs.Fold.{joined};
 ghost use Rattle.formula_meaning.specs.Formula.{One};
 ghost use Rattle.written_atoms.specs.Read.{congruence_tree};
 ghost use Rattle.qe_syntax.specs.Proper.{IsProperTerm, IsProperFormula, AreProperFormulas};
@@ -11,20 +12,21 @@ ghost use Rattle.formula_tree.specs.Makers.{Keeps};
 ghost use Rattle.formula_tree.specs.Resolving.{place};
 ghost use Rattle.formula_resolving.specs.Refusals.{AreIds, trees_bound};
 ghost use Rattle.formula_resolving.specs.Parts.{IsPart};
-ghost use Rattle.formula_resolving.specs.Connectives.{Opens, joined, paired};
+ghost use Rattle.formula_resolving.specs.Connectives.{Opens, paired};
 
 use crate::causes::{Causes, above};
 use crate::parts::{
-    Joint, Members, Pair, Part, Quantifier, atom_part, finish, is_fields, name_part, negation,
+    Members, Opening, Pair, Part, atom_part, finish, is_fields, joined, name_part, negation,
 };
 use atom_normal::Context;
+use formula_meaning::{Junction, Quantifier};
 use formula_tree::{Bindings, Maker, Names, Shape};
 use qe_syntax::{Formula, Relation, Term, matrix};
 use std::alloc::{AllocError, Global};
 use written_atoms::{read_comparison, read_congruence};
 
 /// The quantifiers with which the formula begins.
-fn prefix(alloc: Global, formula: &Formula, names: &Names) -> Result<Vec<Quantifier>, AllocError>
+fn prefix(alloc: Global, formula: &Formula, names: &Names) -> Result<Vec<Opening>, AllocError>
     ensures { IfOk result (λ v. Opens names.now v.items (formula_tree formula.now) (matrix_of (formula_tree formula.now))) }
 {
     let mut quantifiers = Vec::new(alloc);
@@ -32,15 +34,15 @@ fn prefix(alloc: Global, formula: &Formula, names: &Names) -> Result<Vec<Quantif
     'prefix: loop {
         match inner {
             Formula::Ex(name, body) => {
-                quantifiers.push(Quantifier {
-                    universal: false,
+                quantifiers.push(Opening {
+                    quantifier: Quantifier::Exists,
                     name: names.place(name),
                 })?;
                 inner = body;
             }
             Formula::All(name, body) => {
-                quantifiers.push(Quantifier {
-                    universal: true,
+                quantifiers.push(Opening {
+                    quantifier: Quantifier::ForAll,
                     name: names.place(name),
                 })?;
                 inner = body;
@@ -156,8 +158,8 @@ fn read_matrix<M: Maker>(
             let part = read_formula(scope, inner, maker)?;
             finish(part.causes, above(part.height), negation(part.id), maker)
         }
-        Formula::And(members) => read_joint(scope, Joint::And, members.items(), maker),
-        Formula::Or(members) => read_joint(scope, Joint::Or, members.items(), maker),
+        Formula::And(members) => read_joint(scope, Junction::Conjunction, members.items(), maker),
+        Formula::Or(members) => read_joint(scope, Junction::Disjunction, members.items(), maker),
         Formula::Impl(left, right) => read_pair(scope, Pair::Impl, left, right, maker),
         Formula::Repl(left, right) => read_pair(scope, Pair::Repl, left, right, maker),
         Formula::Equiv(left, right) => read_pair(scope, Pair::Equiv, left, right, maker),
@@ -194,13 +196,13 @@ fn read_pair<M: Maker>(
 #[cycle(reading)]
 fn read_joint<M: Maker>(
     scope: &Scope<'_, M::Id>,
-    joint: Joint,
+    junction: Junction,
     formulas: &[Formula],
     maker: &mut M,
 ) -> Result<Part<M::Id>, AllocError>
     requires proper { AreProperFormulas (formulas_of (map formula_tree formulas.now)) }
     requires ids { AreIds (M.is_id maker.old) scope.now.bound.now }
-    ensures read { IfOk result (IsPart (context_of scope.now.context) (trees_bound (M.tree maker.old) scope.now.bound.now) scope.now.names.now (M.is_id maker.new) (M.tree maker.new) (joined joint (formulas_of (map formula_tree formulas.now)))) }
+    ensures read { IfOk result (IsPart (context_of scope.now.context) (trees_bound (M.tree maker.old) scope.now.bound.now) scope.now.names.now (M.is_id maker.new) (M.tree maker.new) (joined junction (formulas_of (map formula_tree formulas.now)))) }
     ensures kept { Keeps (M.is_id maker.old) (M.tree maker.old) (M.is_id maker.new) (M.tree maker.new) }
 {
     let mut members = Members::none(scope.alloc);
@@ -211,7 +213,7 @@ fn read_joint<M: Maker>(
     finish(
         members.causes,
         above(members.height),
-        Some(joint.over(members.ids)),
+        Some(joined(junction, members.ids)),
         maker,
     )
 }

@@ -10,9 +10,10 @@ use Rattle.qe_syntax.proofs.TreeEquations.{formula-True, formula-False, formula-
 use Rattle.qe_syntax.proofs.Quantified.{matrix_unquantified}
 use Rattle.formula_resolving.specs.Refusals.{trees_bound}
 use Rattle.formula_tree.specs.Resolving.{BoundTrees}
-use Rattle.formula_resolving.specs.declared.parts.Quantifier.{Quantifier}
+use Rattle.formula_resolving.specs.declared.parts.Opening.{Opening}
 use Rattle.formula_resolving.specs.MetCauses.{no_causes}
-use Rattle.formula_resolving.specs.Connectives.{quantified, Opens}
+use Rattle.formula_meaning.specs.Shape.{quantified}
+use Rattle.formula_resolving.specs.Connectives.{Opens}
 use Rattle.formula_resolving.specs.Heights.{over}
 use Rattle.formula_resolving.specs.Parts.{IsPart, AreMembers}
 use Rattle.formula_resolving.proofs.FirstCause.{none_met}
@@ -42,11 +43,11 @@ read_formula-read_matrix-requires g t c = λ κs h. (
 pub read_formula-prefix-preserved : goal.read_formula-prefix-preserved
 read_formula-prefix-preserved g t c =
     let f : FormulaTree = c.prefix.invariant.part.0 in
-    let q : Quantifier = c.in-Some.quantifier in
+    let q : Opening = c.in-Some.quantifier in
     let o = opens_last c.args.scope.now.names.now c.pop.new.self.items q (formula_tree c.args.formula.now) f
-    (subst (λ (qs : List Quantifier). Opens c.args.scope.now.names.now qs (formula_tree c.args.formula.now) f) c.in-Some.ensures.items c.prefix.invariant.part.1) in record {
+    (subst (λ (qs : List Opening). Opens c.args.scope.now.names.now qs (formula_tree c.args.formula.now) f) c.in-Some.ensures.items c.prefix.invariant.part.1) in record {
       part = (
-        quantified q.universal o.0 f,
+        quantified q.quantifier o.0 f,
         o.1,
         quantified_part (context_of c.args.scope.now.context) (trees_bound (g.M.Maker.tree c.args.maker.now) c.args.scope.now.bound.now) c.args.scope.now.names.now (g.M.Maker.is_id c.finish.new.maker) (g.M.Maker.tree c.prefix.maker) (g.M.Maker.tree c.finish.new.maker) (g.M.Maker.is_id c.prefix.maker) q o.0 f c.prefix.part c.in_ok-part-2.part
             o.2 c.prefix.invariant.part.2 (finished_as c.in_ok-part-2.ensures.finished refl c.above.ensures c.over.ensures),
@@ -84,9 +85,9 @@ read_joint-loop-formula-preserved g t c = record {
 pub read_joint-returns-clause-read : goal.read_joint-returns-clause-read
 read_joint-returns-clause-read g t c =
     ok_map c.finish.result
-    (λ r w. joint_part (context_of c.args.scope.now.context) (trees_bound (g.M.Maker.tree c.args.maker.now) c.args.scope.now.bound.now) c.args.scope.now.names.now _ _ _ _ (map formula_tree c.args.formulas.now) c.loop-formula.members r c.args.joint
+    (λ r w. joint_part (context_of c.args.scope.now.context) (trees_bound (g.M.Maker.tree c.args.maker.now) c.args.scope.now.bound.now) c.args.scope.now.names.now _ _ _ _ (map formula_tree c.args.formulas.now) c.loop-formula.members r c.args.junction
     (subst (λ (fs : List Formula). AreMembers (context_of c.args.scope.now.context) (trees_bound (g.M.Maker.tree c.args.maker.now) c.args.scope.now.bound.now) c.args.scope.now.names.now (g.M.Maker.is_id c.loop-formula.maker) (g.M.Maker.tree c.loop-formula.maker) (map formula_tree fs) c.loop-formula.members) (take_all _ _ c.loop-formula-test.false) c.loop-formula.invariant.members)
-    (finished_as w refl c.above.ensures (ap Some c.over.ensures)))
+    (finished_as w refl c.above.ensures (ap Some c.joined.ensures)))
     c.finish.ensures.finished
 
 -- ---- read_matrix
