@@ -15,10 +15,10 @@ ghost use Rattle.nnf_trees.specs.Nnfs.{HasModulus};
 ghost use Rattle.plain_engine.specs.Told.{StopsWith};
 
 use crate::sharing::share;
+use crate::unfolding::unfolded;
 use atom_normal::Context;
 use formula_store::{FormulaId, Store, Unfold};
 use formula_tree::Tree;
-use nnf_pnf::nnf;
 use plain_engine::{Measured, eliminate_form};
 use std::alloc::Global;
 
@@ -64,10 +64,7 @@ pub fn unfolded_form(
     ensures stops { IfErr result (λ e. StopsWith e (pay limit (nodes (normal_tree (tree store.old id))) 0)) }
     ensures kept { Keeps (IsId store.old) (tree store.old) (IsId store.new) (tree store.new) }
 {
-    let form = nnf(alloc, store, id, None).map_err(|_| Measured::Memory)?;
-    // Its clause says that the formulas of the store are proper.
-    let _formulas = store.len();
-    match store.unfold(form, limit) {
+    match unfolded(alloc, store, id, limit) {
         Ok(tree) => Ok(tree),
         Err(Unfold::Large) => Err(Measured::Nodes),
         Err(Unfold::Memory) => Err(Measured::Memory),

@@ -4,7 +4,9 @@
 mod eliminate;
 mod sharing;
 mod truth;
+mod unfolding;
 
 pub use eliminate::{eliminate_shared, unfolded_form};
 pub use sharing::share;
 pub use truth::truth_by_elimination;
+pub use unfolding::unfolded;

@@ -61,8 +61,8 @@ fn joined(junction: Junction, ids: Ids<FormulaId>) -> Shape<FormulaId>
     ensures { result ≡ joined_shape junction ids }
 {
     match junction {
-        Junction::And => Shape::And(ids),
-        Junction::Or => Shape::Or(ids),
+        Junction::Conjunction => Shape::And(ids),
+        Junction::Disjunction => Shape::Or(ids),
     }
 }
 
@@ -71,7 +71,7 @@ fn quantified(quantifier: Quantifier, x: VarId, id: FormulaId) -> Shape<FormulaI
     ensures { result ≡ quantified_shape quantifier x id }
 {
     match quantifier {
-        Quantifier::Ex => Shape::Ex(x, id),
-        Quantifier::All => Shape::All(x, id),
+        Quantifier::Exists => Shape::Ex(x, id),
+        Quantifier::ForAll => Shape::All(x, id),
     }
 }
