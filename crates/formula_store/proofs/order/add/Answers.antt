@@ -1,5 +1,3 @@
-use Rattle.std.proofs.Common.{◌≡◌, ℕ, false, nat_cmp, arith}
-use Rattle.std.specs.BTreeMap.{is_at}
 use Rattle.formula_store.specs.Order.{waits}
 use Rattle.formula_store.proofs.Added.{add_one, elsewhere}
 use Rattle.formula_store.proofs.order.add.Goals as goal
