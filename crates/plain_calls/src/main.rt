@@ -1,8 +1,12 @@
 //! Makes the calls that no statement makes, on formulas worked by hand: a maker of plain trees, a formula unfolded under a
-//! limit, a tree printed by itself, the cases of a tree, and the sample of one without free names. The gate runs it and compares what it prints.
+//! limit, a tree printed by itself, the cases of a tree, and the sample of one without free names; and those of the lowest crates, of
+//! numbers, forms, atoms and test points. The gate runs it and compares what it prints.
 #![tactic(auto)]
 
 mod calls;
+mod forms;
+mod numbers;
+mod points;
 mod reading;
 mod writing;
 
@@ -11,6 +15,12 @@ use atom_normal::Context;
 use std::io;
 
 fn main(rt: HostRuntime) -> io::Result<()> {
+    formulas(&rt)?;
+    lowest(&rt)
+}
+
+/// Calls on formulas.
+fn formulas(rt: &HostRuntime) -> io::Result<()> {
     let alloc = rt.alloc();
     let pair = plain_tree(alloc, Context::Fields, "x>0 and 6<=4*x;");
     let whole = unfolding(alloc, "p>0 or (p>0 and q>0);", 5);
@@ -21,15 +31,40 @@ fn main(rt: HostRuntime) -> io::Result<()> {
     let fifteenth = sample(alloc, Context::Fields, "ex({x,y},3*x=1 and 5*y=x);");
     let below = sample(alloc, Context::Integers, "ex(x,x<0 and cong(x,1,3));");
     let none = sample(alloc, Context::Integers, "ex(x,0<x and x<1);");
-    tell(&rt, "a plain tree", pair)?;
-    tell(&rt, "a tree of 5 nodes, unfolded under the limit 5", whole)?;
-    tell(&rt, "the same under the limit 4", large)?;
-    tell(&rt, "an atom, printed", printed)?;
-    tell(&rt, "cases of a number between two", between)?;
-    tell(&rt, "cases of a half", half)?;
-    tell(&rt, "sample of a third and a fifteenth", fifteenth)?;
-    tell(&rt, "sample of a residue below 0", below)?;
-    tell(&rt, "sample between 0 and 1", none)
+    tell(rt, "a plain tree", pair)?;
+    tell(rt, "a tree of 5 nodes, unfolded under the limit 5", whole)?;
+    tell(rt, "the same under the limit 4", large)?;
+    tell(rt, "an atom, printed", printed)?;
+    tell(rt, "cases of a number between two", between)?;
+    tell(rt, "cases of a half", half)?;
+    tell(rt, "sample of a third and a fifteenth", fifteenth)?;
+    tell(rt, "sample of a residue below 0", below)?;
+    tell(rt, "sample between 0 and 1", none)
+}
+
+/// Calls on numbers, forms, atoms and test points.
+fn lowest(rt: &HostRuntime) -> io::Result<()> {
+    let alloc = rt.alloc();
+    tell(rt, "numbers at the limit", numbers::numbers(alloc))?;
+    tell(rt, "fractions close to 1", numbers::fractions(alloc))?;
+    tell(rt, "a form at a point", numbers::values(alloc))?;
+    tell(
+        rt,
+        "an atom and its negation at a point",
+        numbers::atoms(alloc),
+    )?;
+    tell(
+        rt,
+        "points over the fields",
+        points::points_in_fields(alloc),
+    )?;
+    tell(rt, "an atom at one of them", points::put_in_fields(alloc))?;
+    tell(
+        rt,
+        "points over the integers",
+        points::points_in_integers(alloc),
+    )?;
+    tell(rt, "an atom at one of them", points::put_in_integers(alloc))
 }
 
 /// What a call gives, or that it gives nothing, as where memory ran out.

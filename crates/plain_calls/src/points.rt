@@ -1,0 +1,133 @@
+//! Test points of both theories, and atoms put at them, with what they give as text.
+
+ghost use Rattle.std.specs.Prelude.{IfSome};
+ghost use Rattle.elimination_theory.specs.FieldsSubstitution.{IsFieldPlace};
+ghost use Rattle.elimination_theory.specs.IntegersTheorems.{IsIntegerPlace};
+ghost use Rattle.test_points.specs.Points.{place_of, IsTestPoint};
+
+use crate::forms::{atom_text, form_text};
+use atom_normal::{Atom, Normal, Rel};
+use cooper_periods::{guard, integer_points, period, substitute_integer};
+use linear_forms::{Linear, VarId};
+use std::alloc::{AllocError, Global};
+use test_points::{Place, Side, TestPoint, field_points, substitute_field};
+
+const A: VarId = VarId { number: 0 };
+
+const X: VarId = VarId { number: 1 };
+
+/// The form `times * x + other * a`.
+fn form_of(alloc: Global, times: i128, other: i128) -> Option<Linear> {
+    let x = Linear::variable(alloc, X).ok()?;
+    let a = Linear::variable(alloc, A).ok()?;
+    x.combine(alloc, times, &a, other).ok()
+}
+
+/// What an atom becomes, as text.
+fn normal_text(alloc: Global, found: &Normal) -> Result<String, AllocError> {
+    match found {
+        Normal::True => "true".to_string(alloc),
+        Normal::False => "false".to_string(alloc),
+        Normal::One(atom) => atom_text(alloc, atom),
+    }
+}
+
+/// The test points as text.
+fn points_text(alloc: Global, points: &[TestPoint]) -> Result<String, AllocError> {
+    let mut text = "points".to_string(alloc)?;
+    for point in points {
+        let place = place_text(point.place);
+        let form = form_text(alloc, &point.form)?;
+        let over = point.over;
+        let period = point.period;
+        text.push_str(&format!(in alloc; " {place} ({form})/{over} period {period};")?)?;
+    }
+    Ok(text)
+}
+
+/// How a test point lies.
+pub(crate) fn place_text(place: Place) -> &'static str {
+    match place {
+        Place::Exact => "at",
+        Place::AboveBy => "just above",
+        Place::BelowBy => "just below",
+        Place::MinusInfinity => "far below",
+        Place::PlusInfinity => "far above",
+        Place::Periodic => "in the residue class of",
+    }
+}
+
+/// The test points of `x` in `x - a > 0` over the ordered fields, the atom twice.
+pub(crate) fn points_in_fields(alloc: Global) -> Option<String> {
+    let mut atoms = Vec::new(alloc);
+    atoms
+        .push(Atom::Compare(Rel::Greater, form_of(alloc, 1, -1)?))
+        .ok()?;
+    atoms
+        .push(Atom::Compare(Rel::Greater, form_of(alloc, 1, -1)?))
+        .ok()?;
+    let points = field_points(alloc, &atoms, X, Side::Lower).ok()?;
+    points_text(alloc, &points).ok()
+}
+
+/// The test points of `x` in `2 * x = a` over the integers.
+pub(crate) fn points_in_integers(alloc: Global) -> Option<String> {
+    let mut atoms = Vec::new(alloc);
+    atoms
+        .push(Atom::Compare(Rel::Equal, form_of(alloc, 2, -1)?))
+        .ok()?;
+    let spans = period(&atoms, X).ok()?;
+    let points = integer_points(alloc, &atoms, X, &spans, Side::Lower, 3).ok()?;
+    points_text(alloc, &points).ok()
+}
+
+/// The point of `x` infinitesimally above `a`.
+fn above_a(alloc: Global) -> Option<TestPoint>
+    ensures well_formed { IfSome result IsTestPoint }
+    ensures place { IfSome result (λ t. IsFieldPlace (place_of t)) }
+{
+    let form = Linear::variable(alloc, A).ok()?;
+    let _constant = form.constant_part();
+    Some(TestPoint {
+        name: X,
+        place: Place::AboveBy,
+        form,
+        over: 1,
+        period: 0,
+    })
+}
+
+/// The point of `x` at a half of `a`.
+fn half_of_a(alloc: Global) -> Option<TestPoint>
+    ensures well_formed { IfSome result IsTestPoint }
+    ensures place { IfSome result (λ t. IsIntegerPlace (place_of t)) }
+{
+    let form = Linear::variable(alloc, A).ok()?;
+    let _constant = form.constant_part();
+    Some(TestPoint {
+        name: X,
+        place: Place::Exact,
+        form,
+        over: 2,
+        period: 0,
+    })
+}
+
+/// What `x < 0` becomes where `x` is infinitesimally above `a`.
+pub(crate) fn put_in_fields(alloc: Global) -> Option<String> {
+    let point = above_a(alloc)?;
+    let atom = Atom::Compare(Rel::Less, Linear::variable(alloc, X).ok()?);
+    let found = substitute_field(alloc, &atom, &point).ok()?;
+    normal_text(alloc, &found).ok()
+}
+
+/// What `x - a >= 0` becomes where `x` is a half of `a`, and when that is a whole number.
+pub(crate) fn put_in_integers(alloc: Global) -> Option<String> {
+    let point = half_of_a(alloc)?;
+    let atom = Atom::Compare(Rel::AtLeast, form_of(alloc, 1, -1)?);
+    let found = substitute_integer(alloc, &atom, &point).ok()?;
+    let condition = guard(alloc, &point).ok()?;
+    let found = normal_text(alloc, &found).ok()?;
+    let condition = normal_text(alloc, &condition).ok()?;
+    format!(in alloc; "{found} where {condition}").ok()
+}
