@@ -8,13 +8,11 @@ use Rattle.formula_meaning.specs.declared.quantifier.Quantifier.TheVariants.{Exi
 use Rattle.formula_meaning.specs.Tree.{Tree, Trees}
 use Rattle.linear_forms.specs.declared.form.VarId.{VarId}
 use Rattle.formula_tree.specs.Shapes.{tree_over}
-use Rattle.nnf_trees.specs.declared.nnf.Quantifier as code
-use Rattle.nnf_trees.specs.declared.nnf.Quantifier.TheVariants as quantifier
-use Rattle.shared_elimination.specs.Shared.{quantified_shape}
 use Rattle.prenex_theory.specs.Front.{quantified}
+use Rattle.shared_elimination.specs.Shared.{quantified_shape}
 use Rattle.prenex_theory.specs.Blocks.{other_kind, in_first, joined_blocks, blocks, blocks_of}
 use Rattle.prenex_forms.specs.declared.front.Place.{Place}
-use Rattle.prenex_forms.specs.Places.{kind_of, place_at, placed, placed_in, level_names, levels_of, kind_at}
+use Rattle.prenex_forms.specs.Places.{place_at, placed, placed_in, level_names, levels_of, kind_at}
 
 pub name_here : (l m x : ℕ) (ps : List Place) → l ≡ m → level_names m (place_at l x ∷ ps) ≡ x ∷ level_names m ps
 name_here l m x ps e = ap (λ (b : Bool). if b then x ∷ level_names m ps else level_names m ps) (eq-eqb l m e)
@@ -146,6 +144,6 @@ names_from l i ps d h e =
     ∙ ap (λ (b : Bool). if b then p.name.number ∷ level_names l (drop (suc i) ps) else level_names l (drop (suc i) ps)) (eq-eqb p.level l e)
 
 -- the tree of a formula under a quantifier
-pub quantified_tree : {Id : Type 0} (t : Id → Tree) (q : code.Quantifier) (x : VarId) (f : Id) → tree_over t (quantified_shape q x f) ≡ quantified (kind_of q) x.number (t f)
-quantified_tree t quantifier.Ex x f = refl
-quantified_tree t quantifier.All x f = refl
+pub quantified_tree : {Id : Type 0} (t : Id → Tree) (q : Quantifier) (x : VarId) (f : Id) → tree_over t (quantified_shape q x f) ≡ quantified q x.number (t f)
+quantified_tree t Exists x f = refl
+quantified_tree t ForAll x f = refl

@@ -4,12 +4,12 @@ use Rattle.std.specs.Prelude.{slice_get, slice_set}
 use Rattle.std.proofs.lemmas.Bool.{cases_eq, false≢true}
 use Rattle.std.proofs.lemmas.List.{get_or-set_same, get_or-set_other, set-set, set-get_or, length-set}
 use Rattle.std.proofs.lemmas.Option.{unwrap_or-slice_get}
+use Rattle.formula_meaning.specs.Shape.{quantified}
+use Rattle.formula_meaning.specs.declared.quantifier.Quantifier.TheVariants.{Exists, ForAll}
 use Rattle.formula_meaning.specs.Form.{Term}
 use Rattle.formula_meaning.specs.Some.{Among}
 use Rattle.formula_meaning.specs.Tree.{Tree, IsFree}
-use Rattle.nnf_trees.specs.declared.nnf.Quantifier.{Quantifier}
-use Rattle.nnf_trees.specs.declared.nnf.Quantifier.TheVariants as quantifier
-use Rattle.nnf_trees.specs.Nnfs.{quantified}
+use Rattle.formula_meaning.specs.declared.quantifier.Quantifier.{Quantifier}
 use Rattle.prenex_theory.proofs.NamedAtoms.{names_of}
 use Rattle.prenex_forms.specs.Chosen.{flag}
 use Rattle.prenex_forms.specs.Marks.{Marks}
@@ -70,8 +70,8 @@ shown_again h k n e = ap (λ b. slice_set k n b) (flag_is h n) ∙ ap (λ xs. sl
 -- ---- formulas and forms
 
 pub quantified_marks : (q : Quantifier) (n : ℕ) (f : Tree) (h a b : List Bool) → Marks h a (λ x. (¬ (n ≡ x)) × IsFree f x) b → Marks h a (IsFree (quantified q n f)) b
-quantified_marks quantifier.Ex n f h a b m = m
-quantified_marks quantifier.All n f h a b m = m
+quantified_marks Exists n f h a b m = m
+quantified_marks ForAll n f h a b m = m
 
 -- one name more
 module _ (h a m : List Bool) (n : ℕ) (P Q : ℕ → Type 0) (more : (x : ℕ) → Q x ↔ (P x ⊎ (n ≡ x))) (e : length h ≡ length a) (before : Marks h a P m) where

@@ -5,6 +5,9 @@ use Rattle.std.proofs.Math.Path.{fun_ext}
 use Rattle.std.proofs.lemmas.Bool.{eq-eqb, ne_eqb, cases_eq}
 use Rattle.std.proofs.lemmas.List.{set-set, set-get_or, get_or-set_same, get_or-set_other}
 use Rattle.std.proofs.lemmas.Option.{unwrap_or-slice_get}
+use Rattle.formula_meaning.specs.Shape.{quantified}
+use Rattle.formula_meaning.specs.declared.quantifier.Quantifier.TheVariants.{Exists, ForAll}
+use Rattle.formula_meaning.specs.declared.junction.Junction.TheVariants.{Conjunction, Disjunction}
 use Rattle.formula_meaning.specs.Context.{Context}
 use Rattle.formula_meaning.specs.Formula.{One, And, Or, Ex, All, none, also}
 use Rattle.formula_meaning.specs.Fold.{joined, append}
@@ -17,11 +20,9 @@ use Rattle.formula_meaning.specs.Replaced.{replaced, all_replaced}
 use Rattle.formula_meaning.specs.Tree.{Tree, Trees, IsFree}
 use Rattle.formula_tree.specs.Somewhere.{SomeAtom, SomewhereIn}
 use Rattle.atom_normal.specs.NormalForm.{normal_atom, IsNormal, ConstantPasses, constant_tree}
-use Rattle.nnf_trees.specs.declared.nnf.Junction.{Junction}
-use Rattle.nnf_trees.specs.declared.nnf.Junction.TheVariants as junction
-use Rattle.nnf_trees.specs.declared.nnf.Quantifier.{Quantifier}
-use Rattle.nnf_trees.specs.declared.nnf.Quantifier.TheVariants as quantifier
-use Rattle.nnf_trees.specs.Nnfs.{junction_of, quantified, nnf_of}
+use Rattle.formula_meaning.specs.declared.junction.Junction.{Junction}
+use Rattle.formula_meaning.specs.declared.quantifier.Quantifier.{Quantifier}
+use Rattle.nnf_trees.specs.Nnfs.{nnf_of}
 use Rattle.prenex_theory.specs.Renaming.{Chosen, chosen_name, chosen, after, after_all, renamed, all_renamed, with_now, atom_named}
 use Rattle.prenex_theory.specs.Links.{Links}
 use Rattle.prenex_theory.proofs.Renamed.{links_under}
@@ -37,17 +38,17 @@ module _ (c : Context) where
   constant_renamed true s = record { made = refl; chosen = refl; now = refl; count = refl; fits = λ h. h }
   constant_renamed false s = record { made = refl; chosen = refl; now = refl; count = refl; fits = λ h. h }
 
-  pub joined_ready : (j : Junction) (s : Chooser) (fs : Trees) → CanRename c s (joined (junction_of j) fs) → CanRenameAll c s fs
-  joined_ready junction.And s fs h = record { normal = h.normal; bound = h.bound; links = h.links }
-  joined_ready junction.Or s fs h = record { normal = h.normal; bound = h.bound; links = h.links }
+  pub joined_ready : (j : Junction) (s : Chooser) (fs : Trees) → CanRename c s (joined j fs) → CanRenameAll c s fs
+  joined_ready Conjunction s fs h = record { normal = h.normal; bound = h.bound; links = h.links }
+  joined_ready Disjunction s fs h = record { normal = h.normal; bound = h.bound; links = h.links }
 
-  pub joined_renamed : (j : Junction) (s : Chooser) (fs gs : Trees) (t : Chooser) → AreRenamed c s fs gs t → IsRenamed c s (joined (junction_of j) fs) (joined (junction_of j) gs) t
-  joined_renamed junction.And s fs gs t h = record { made = ap And h.made; chosen = h.chosen; now = h.now; count = h.count; fits = h.fits }
-  joined_renamed junction.Or s fs gs t h = record { made = ap Or h.made; chosen = h.chosen; now = h.now; count = h.count; fits = h.fits }
+  pub joined_renamed : (j : Junction) (s : Chooser) (fs gs : Trees) (t : Chooser) → AreRenamed c s fs gs t → IsRenamed c s (joined j fs) (joined j gs) t
+  joined_renamed Conjunction s fs gs t h = record { made = ap And h.made; chosen = h.chosen; now = h.now; count = h.count; fits = h.fits }
+  joined_renamed Disjunction s fs gs t h = record { made = ap Or h.made; chosen = h.chosen; now = h.now; count = h.count; fits = h.fits }
 
-  pub joined_overflows : (j : Junction) (s : Chooser) (fs : Trees) → SomeOverflows c s fs → Overflows c s (joined (junction_of j) fs)
-  joined_overflows junction.And s fs h = h
-  joined_overflows junction.Or s fs h = h
+  pub joined_overflows : (j : Junction) (s : Chooser) (fs : Trees) → SomeOverflows c s fs → Overflows c s (joined j fs)
+  joined_overflows Conjunction s fs h = h
+  joined_overflows Disjunction s fs h = h
 
   -- ---- quantifiers
 
@@ -79,8 +80,8 @@ module _ (c : Context) where
       }
 
       go : (q : Quantifier) → CanRename c old (quantified q x f) → CanRename c in_it f
-      go quantifier.Ex h = under h.normal h.bound.0 h.bound.1 h.links
-      go quantifier.All h = under h.normal h.bound.0 h.bound.1 h.links
+      go Exists h = under h.normal h.bound.0 h.bound.1 h.links
+      go ForAll h = under h.normal h.bound.0 h.bound.1 h.links
 
   pub quantified_overflows : (q : Quantifier) (old : Chooser) (x y : ℕ) (in_it : Chooser) (f : Tree) → IsInside old x y in_it → Overflows c in_it f → Overflows c old (quantified q x f)
   quantified_overflows q old x y in_it f i h =
@@ -88,8 +89,8 @@ module _ (c : Context) where
       go q k
     where
       go : (q : Quantifier) → SomeAtom (λ a. ConstantPasses (normal_atom c a)) (renamed old.count (with_now (now_of old.now.items) x (chosen_name old.count x (chosen_of old))) f (chosen old.count x (chosen_of old))) → Overflows c old (quantified q x f)
-      go quantifier.Ex k = inr k
-      go quantifier.All k = inr k
+      go Exists k = inr k
+      go ForAll k = inr k
 
   pub quantified_renamed : (q : Quantifier) (old : Chooser) (x y : ℕ) (in_it : Chooser) (f g : Tree) (out new : Chooser) → IsInside old x y in_it → IsRenamed c in_it f g out →
       chosen_of new ≡ chosen_of out → new.count ≡ out.count → new.now.items ≡ old.now.items → IsRenamed c old (quantified q x f) (quantified q y g) new
@@ -105,8 +106,8 @@ module _ (c : Context) where
       fit h = r.fits (subst (λ (g : Tree). SomeAtom (λ a. ConstantPasses (normal_atom c a)) g) (sym (named_inside old x y in_it f i)) h)
 
       go : (q : Quantifier) → IsRenamed c old (quantified q x f) (quantified q y g) new
-      go quantifier.Ex = record { made = ap₂ Ex i.name same; chosen = last; now = d; count = b ∙ r.count ∙ i.count; fits = λ h. ⊎_elim (λ z. z) fit h }
-      go quantifier.All = record { made = ap₂ All i.name same; chosen = last; now = d; count = b ∙ r.count ∙ i.count; fits = λ h. ⊎_elim (λ z. z) fit h }
+      go Exists = record { made = ap₂ Ex i.name same; chosen = last; now = d; count = b ∙ r.count ∙ i.count; fits = λ h. ⊎_elim (λ z. z) fit h }
+      go ForAll = record { made = ap₂ All i.name same; chosen = last; now = d; count = b ∙ r.count ∙ i.count; fits = λ h. ⊎_elim (λ z. z) fit h }
 
   -- ---- atoms
 

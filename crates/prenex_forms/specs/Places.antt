@@ -4,15 +4,8 @@ use Rattle.formula_meaning.specs.Formula.{And, Or, Ex, All, none, also}
 use Rattle.formula_meaning.specs.declared.quantifier.Quantifier.{Quantifier}
 use Rattle.formula_meaning.specs.declared.quantifier.Quantifier.TheVariants.{Exists, ForAll}
 use Rattle.formula_meaning.specs.Tree.{Tree, Trees}
-use Rattle.nnf_trees.specs.declared.nnf.Quantifier as code
-use Rattle.nnf_trees.specs.declared.nnf.Quantifier.TheVariants as quantifier
 use Rattle.prenex_theory.specs.Blocks.{other_kind}
 use Rattle.prenex_forms.specs.declared.front.Place.{Place}
-
--- ex or all
-abbrev pub kind_of : code.Quantifier → Quantifier
-kind_of quantifier.Ex = Exists
-kind_of quantifier.All = ForAll
 
 abbrev pub place_at : ℕ → ℕ → Place
 place_at level x = record { level = level; name = record { number = x } }

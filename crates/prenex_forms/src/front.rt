@@ -6,7 +6,7 @@ ghost use Rattle.formula_meaning.specs.Shape.{blocks_from, most_blocks};
 ghost use Rattle.atom_normal.specs.Atoms.{IsWellFormed};
 ghost use Rattle.nnf_trees.specs.Nnfs.{nnf_of, nnfs_of, nnfs_atoms, IsProper};
 ghost use Rattle.prenex_theory.specs.Blocks.{matrix, matrices};
-ghost use Rattle.prenex_forms.specs.Places.{kind_of, level_behind, placed, placed_in};
+ghost use Rattle.prenex_forms.specs.Places.{level_behind, placed, placed_in};
 
 use linear_forms::VarId;
 use nnf_trees::{Members, Nnf, Quantifier};
@@ -24,7 +24,7 @@ pub(crate) struct Place {
 #[cycle(blocks)]
 #[tactic(auto, using(nnf_trees::proofs::NnfEquations::nnfs, crate::proofs::Fronts::fronts))]
 pub(crate) fn blocks_from(f: &Nnf, kind: Quantifier) -> Option<u64>
-    ensures { IfSome result (λ n. n ≡ blocks_from (nnf_of f.now) (kind_of kind)) }
+    ensures { IfSome result (λ n. n ≡ blocks_from (nnf_of f.now) kind) }
 {
     match f {
         Nnf::Constant(_) | Nnf::One(_) => Some(0),
@@ -43,7 +43,7 @@ pub(crate) fn blocks_from(f: &Nnf, kind: Quantifier) -> Option<u64>
 // The most that a member needs.
 #[cycle(blocks)]
 fn most_blocks(members: &Members, kind: Quantifier) -> Option<u64>
-    ensures { IfSome result (λ n. n ≡ most_blocks (nnfs_of members.now) (kind_of kind)) }
+    ensures { IfSome result (λ n. n ≡ most_blocks (nnfs_of members.now) kind) }
 {
     let mut most: u64 = 0;
     for member in members.items() {
@@ -66,7 +66,7 @@ pub(crate) fn stripped(
     requires { IsProper f }
     ensures matrix { IfOk result (λ m. nnf_of m ≡ matrix (nnf_of f)) }
     ensures proper { IfOk result IsProper }
-    ensures places { OnOk result (places.new.items ≡ places.old.items ++ placed (kind_of kind) level (nnf_of f)) }
+    ensures places { OnOk result (places.new.items ≡ places.old.items ++ placed kind level (nnf_of f)) }
 {
     match f {
         Nnf::Constant(truth) => Ok(Nnf::Constant(truth)),
@@ -95,7 +95,7 @@ fn all_stripped(
     requires { EveryOf IsWellFormed (nnfs_atoms fs) }
     ensures matrices { IfOk result (λ m. nnfs_of m ≡ matrices (nnfs_of fs)) }
     ensures proper { IfOk result (λ m. EveryOf IsWellFormed (nnfs_atoms m)) }
-    ensures places { OnOk result (places.new.items ≡ places.old.items ++ placed_in (kind_of kind) level (nnfs_of fs)) }
+    ensures places { OnOk result (places.new.items ≡ places.old.items ++ placed_in kind level (nnfs_of fs)) }
 {
     let mut made = Vec::new(alloc);
     for f in fs.into_items() {
@@ -106,7 +106,7 @@ fn all_stripped(
 
 // The block of a quantifier behind a block of this kind with this number: that one, or the next.
 fn level_behind(kind: Quantifier, level: usize, quantifier: Quantifier) -> Result<usize, AllocError>
-    ensures { IfOk result (λ l. l ≡ level_behind (kind_of kind) level (kind_of quantifier)) }
+    ensures { IfOk result (λ l. l ≡ level_behind kind level quantifier) }
 {
     if quantifier == kind {
         return Ok(level);

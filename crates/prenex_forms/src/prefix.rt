@@ -5,7 +5,7 @@ ghost use Rattle.formula_tree.specs.Makers.{IsMade, Keeps};
 ghost use Rattle.formula_store.specs.Nodes.{IsId, tree};
 ghost use Rattle.shared_elimination.specs.Shared.{quantified_shape};
 ghost use Rattle.prenex_theory.specs.Front.{block, prefixed};
-ghost use Rattle.prenex_forms.specs.Places.{kind_of, kind_at, level_names, levels_of};
+ghost use Rattle.prenex_forms.specs.Places.{kind_at, level_names, levels_of};
 
 use crate::front::Place;
 use formula_store::{FormulaId, Store};
@@ -18,14 +18,14 @@ fn quantified(quantifier: Quantifier, name: VarId, id: FormulaId) -> Shape<Formu
     ensures { result ≡ quantified_shape quantifier name id }
 {
     match quantifier {
-        Quantifier::Ex => Shape::Ex(name, id),
-        Quantifier::All => Shape::All(name, id),
+        Quantifier::Exists => Shape::Ex(name, id),
+        Quantifier::ForAll => Shape::All(name, id),
     }
 }
 
 // The kind of the block with this number, where the kinds take turns from this one on.
 fn kind_at(kind: Quantifier, level: u64) -> Quantifier
-    ensures { kind_of result ≡ kind_at (kind_of kind) level }
+    ensures { result ≡ kind_at kind level }
 {
     if level % 2 == 0 {
         kind
@@ -43,7 +43,7 @@ fn with_block(
     mut id: FormulaId,
 ) -> Result<FormulaId, MakeError>
     requires { IsId store.old id }
-    ensures made { IfOk result (λ r. IsMade (IsId store.new) (tree store.new) r (block (kind_of quantifier) (level_names level places.now) (tree store.old id))) }
+    ensures made { IfOk result (λ r. IsMade (IsId store.new) (tree store.new) r (block quantifier (level_names level places.now) (tree store.old id))) }
     ensures kept { Keeps (IsId store.old) (tree store.old) (IsId store.new) (tree store.new) }
 {
     let mut left = places.len();
@@ -67,7 +67,7 @@ pub(crate) fn with_prefix(
     mut id: FormulaId,
 ) -> Result<FormulaId, MakeError>
     requires { IsId store.old id }
-    ensures made { IfOk result (λ r. IsMade (IsId store.new) (tree store.new) r (prefixed (kind_of kind) (levels_of 0 blocks places.now) (tree store.old id))) }
+    ensures made { IfOk result (λ r. IsMade (IsId store.new) (tree store.new) r (prefixed kind (levels_of 0 blocks places.now) (tree store.old id))) }
     ensures kept { Keeps (IsId store.old) (tree store.old) (IsId store.new) (tree store.new) }
 {
     let mut level = blocks;

@@ -7,7 +7,6 @@ ghost use Rattle.nnf_trees.specs.Nnfs.{nnf_of, IsProper};
 ghost use Rattle.formula_meaning.specs.Shape.{blocks_from};
 ghost use Rattle.prenex_theory.specs.Blocks.{blocks as blocks_in, matrix};
 ghost use Rattle.prenex_theory.specs.Front.{in_front, prefixed};
-ghost use Rattle.prenex_forms.specs.Places.{kind_of};
 
 use crate::front::{blocks_from, stripped};
 use crate::prefix::with_prefix;
@@ -23,12 +22,12 @@ pub(crate) fn in_front(alloc: Global, store: &mut Store, f: Nnf) -> Result<Formu
     ensures made { IfOk result (λ r. IsMade (IsId store.new) (tree store.new) r (in_front (nnf_of f))) }
     ensures kept { Keeps (IsId store.old) (tree store.old) (IsId store.new) (tree store.new) }
 {
-    let existential = blocks_from(&f, Quantifier::Ex).ok_or(AllocError)?;
-    let universal = blocks_from(&f, Quantifier::All).ok_or(AllocError)?;
+    let existential = blocks_from(&f, Quantifier::Exists).ok_or(AllocError)?;
+    let universal = blocks_from(&f, Quantifier::ForAll).ok_or(AllocError)?;
     if universal < existential {
-        behind(alloc, store, f, Quantifier::All, universal)
+        behind(alloc, store, f, Quantifier::ForAll, universal)
     } else {
-        behind(alloc, store, f, Quantifier::Ex, existential)
+        behind(alloc, store, f, Quantifier::Exists, existential)
     }
 }
 
@@ -41,8 +40,8 @@ fn behind(
     count: u64,
 ) -> Result<FormulaId, AllocError>
     requires proper { IsProper f }
-    requires count { count ≡ blocks_from (nnf_of f) (kind_of kind) }
-    ensures made { IfOk result (λ r. IsMade (IsId store.new) (tree store.new) r (prefixed (kind_of kind) (blocks_in (nnf_of f) (kind_of kind)) (matrix (nnf_of f)))) }
+    requires count { count ≡ blocks_from (nnf_of f) kind }
+    ensures made { IfOk result (λ r. IsMade (IsId store.new) (tree store.new) r (prefixed kind (blocks_in (nnf_of f) kind) (matrix (nnf_of f)))) }
     ensures kept { Keeps (IsId store.old) (tree store.old) (IsId store.new) (tree store.new) }
 {
     let mut places = Vec::new(alloc);

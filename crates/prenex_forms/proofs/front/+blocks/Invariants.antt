@@ -3,7 +3,6 @@ use Rattle.formula_meaning.specs.Shape.{most_blocks}
 use Rattle.formula_meaning.specs.Sizes.{nodes, all_nodes}
 use Rattle.formula_tree.specs.Trees.{members}
 use Rattle.nnf_trees.specs.Nnfs.{nnf_of, nnfs_of}
-use Rattle.prenex_forms.specs.Places.{kind_of}
 use Rattle.prenex_forms.proofs.front.+blocks.Given as goal
 
 abbrev pub decreases-most_blocks : goal.decreases-most_blocks
@@ -15,6 +14,6 @@ decreases-blocks_from l = 2 * nodes (nnf_of l.f.now)
 -- what the members so far need and what those left need
 abbrev pub invariant-most_blocks-loop-member : goal.invariant-most_blocks-loop-member
 invariant-most_blocks-loop-member l = record {
-  left : max l.most (most_blocks (members (map nnf_of (drop l.member-index l.member-items))) (kind_of l.kind)) ≡ most_blocks (nnfs_of l.members) (kind_of l.kind);
+  left : max l.most (most_blocks (members (map nnf_of (drop l.member-index l.member-items))) l.kind) ≡ most_blocks (nnfs_of l.members) l.kind;
   small : all_nodes (members (map nnf_of (drop l.member-index l.member-items))) ≤ all_nodes (nnfs_of l.members);
 }

@@ -4,7 +4,7 @@ use Rattle.formula_meaning.specs.Sizes.{nodes, all_nodes}
 use Rattle.formula_tree.specs.Trees.{members}
 use Rattle.nnf_trees.specs.Nnfs.{nnf_of, nnfs_of, AreProper}
 use Rattle.prenex_theory.specs.Blocks.{matrices}
-use Rattle.prenex_forms.specs.Places.{kind_of, placed_in}
+use Rattle.prenex_forms.specs.Places.{placed_in}
 use Rattle.prenex_forms.proofs.front.+stripped.Given as goal
 
 abbrev pub decreases-all_stripped : goal.decreases-all_stripped
@@ -19,7 +19,7 @@ invariant-all_stripped-loop-f l = record {
   can : (goal.iterator-all_stripped-loop-f).can_next l.f-iterator;
   finite : (goal.iterator-all_stripped-loop-f).is_finite l.f-iterator;
   left : append (members (map nnf_of l.made.items)) (matrices (members (map nnf_of l.f-iterator.rest.items))) ≡ matrices (nnfs_of l.fn.fs);
-  places : l.places.items ++ placed_in (kind_of l.kind) l.level (members (map nnf_of l.f-iterator.rest.items)) ≡ l.initial.places.items ++ placed_in (kind_of l.kind) l.level (nnfs_of l.fn.fs);
+  places : l.places.items ++ placed_in l.kind l.level (members (map nnf_of l.f-iterator.rest.items)) ≡ l.initial.places.items ++ placed_in l.kind l.level (nnfs_of l.fn.fs);
   small : all_nodes (members (map nnf_of l.f-iterator.rest.items)) ≤ all_nodes (nnfs_of l.fn.fs);
   made : AreProper l.made.items;
   rest : AreProper l.f-iterator.rest.items;

@@ -1,10 +1,10 @@
 use Rattle.std.proofs.Common.{◌≡◌, ◌-◌, suc, ◌∷◌, drop, get_or, sym, ap, ◌∙◌, arith}
+use Rattle.prenex_theory.specs.Front.{block, quantified}
 use Rattle.formula_store.specs.Nodes.{tree}
 use Rattle.formula_tree.specs.Shapes.{tree_over}
 use Rattle.nnf_pnf.proofs.Kept.{keeps_then}
-use Rattle.prenex_theory.specs.Front.{block, quantified}
 use Rattle.prenex_forms.specs.declared.front.Place.{Place}
-use Rattle.prenex_forms.specs.Places.{kind_of, level_names}
+use Rattle.prenex_forms.specs.Places.{level_names}
 use Rattle.prenex_forms.proofs.Gathered.{names_from, quantified_tree}
 use Rattle.prenex_forms.proofs.prefix.with_block.Goals as goal
 
@@ -16,7 +16,7 @@ loop-left-preserved-then-place-level c =
     let before = c.loop-left.invariant in
     let within = before.within in
     let l = c.args.level in
-    let q = kind_of c.args.quantifier in
+    let q = c.args.quantifier in
     let p = get_or ps i d in
     let base = tree c.args.store.now c.args.id in
     let up : suc i ≡ c.loop-left.left = omega arith in

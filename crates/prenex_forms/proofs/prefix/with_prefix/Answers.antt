@@ -2,7 +2,7 @@ use Rattle.std.proofs.Common.{◌≡◌, ◌-◌, suc, ◌+◌, ◌∷◌, sym, 
 use Rattle.formula_store.specs.Nodes.{tree}
 use Rattle.nnf_pnf.proofs.Kept.{keeps_then}
 use Rattle.prenex_theory.specs.Front.{block, prefixed}
-use Rattle.prenex_forms.specs.Places.{kind_of, kind_at, level_names, levels_of}
+use Rattle.prenex_forms.specs.Places.{kind_at, level_names, levels_of}
 use Rattle.prenex_forms.proofs.Gathered.{kind_next}
 use Rattle.prenex_forms.proofs.prefix.with_prefix.Goals as goal
 
@@ -12,7 +12,7 @@ returns-in_err-id-clause-kept c = keeps_then c.args.store.now c.loop-level.store
 pub loop-level-preserved : goal.loop-level-preserved
 loop-level-preserved c =
     let l = c.loop-level.level - 1 in
-    let q = kind_of c.args.kind in
+    let q = c.args.kind in
     let ps = c.args.places.now in
     let base = tree c.args.store.now c.args.id in
     let left : c.args.blocks - l ≡ suc (c.args.blocks - c.loop-level.level) = omega arith in
