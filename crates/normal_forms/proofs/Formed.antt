@@ -1,18 +1,17 @@
 -- The formula of clean lists.
 use Rattle.std.proofs.Common.{◌≡◌, ℕ, ◌+◌, ◌≤◌, ◌<◌, Bool, true, false, List, [], ◌∷◌, ◌++◌, map, take, length, get_or, Some, refl, sym, ap, ◌∙◌, arith}
-use Rattle.std.specs.Prelude.{if◌then◌else◌, ◌||◌, Result, Ok, Err, OnOk, min}
+use Rattle.std.specs.Prelude.{◌||◌, Result, Ok, Err, OnOk, min}
 use Rattle.std.specs.List.{AllByRecursion}
 use Rattle.std.proofs.lemmas.List.{take_more, map-append}
 use Rattle.formula_meaning.specs.Context.{Context}
 use Rattle.formula_meaning.specs.Formula.{Formula, Formulas, Yes, No, One, Not, And, Or, Impl, Repl, Equiv, Ex, All, none, also}
 use Rattle.formula_meaning.specs.Atom.{Atom}
-use Rattle.formula_meaning.specs.Fold.{from_pieces}
+use Rattle.formula_meaning.specs.Fold.{turned_junction, from_pieces}
 use Rattle.formula_meaning.specs.declared.junction.Junction.{Junction}
 use Rattle.formula_meaning.specs.declared.junction.Junction.TheVariants.{Conjunction, Disjunction}
 use Rattle.formula_meaning.specs.Shape.{IsQuantifierFree, AreQuantifierFree}
 use Rattle.formula_meaning.specs.Tree.{Tree}
 use Rattle.formula_tree.specs.declared.shape.Shape.{Shape}
-use Rattle.formula_tree.specs.declared.shape.Shape.TheVariants as shape
 use Rattle.formula_tree.specs.Trees.{members}
 use Rattle.formula_tree.specs.Shapes.{tree_over}
 use Rattle.formula_tree.specs.Makers.{IsMade, Keeps}
@@ -21,7 +20,7 @@ use Rattle.formula_store.specs.declared.id.FormulaId.{FormulaId}
 use Rattle.formula_store.specs.Nodes.{tree, IsId}
 use Rattle.formula_store.proofs.Marked.{all_joined}
 use Rattle.simplified_formulas.specs.Pass.{ones}
-use Rattle.clean_forms.specs.Ways.{dual, is_same, line_form, line_forms, form_of_lines}
+use Rattle.clean_forms.specs.Ways.{dual, line_form, line_forms, form_of_lines}
 use Rattle.simplified_formulas.specs.AtomKit.{atom_kit}
 use Rattle.clean_forms.specs.Plain.{literals}
 use Rattle.clean_forms.specs.Lines.{clean_lines}
@@ -29,6 +28,7 @@ use Rattle.clean_forms.specs.Counts.{sizes}
 use Rattle.clean_forms.specs.Laws.{IsDistributable, cleaned}
 use Rattle.clean_forms.proofs.Counts.{sizes_plain}
 use Rattle.normal_forms.specs.declared.sizes.Sizes.{Sizes}
+use Rattle.normal_forms.specs.Shapes.{neutral_shape, joined_shape}
 use Rattle.normal_forms.specs.Sizes.{most, capped}
 use Rattle.normal_forms.specs.Atoms.{AreAtomIds, atoms, AreLineIds, lines, AreLines}
 use Rattle.normal_forms.proofs.Grown.{atoms_stay, ids_stay}
@@ -36,35 +36,26 @@ use Rattle.normal_forms.proofs.LineSteps.{all_get}
 
 -- ---- a list joined
 
-abbrev pub chosen : Bool → Junction
-chosen b = if b then Conjunction else Disjunction
+pub empty_joined : {Id : Type 0} (t : Id → Tree) (ids : List Id) (j : Junction) → length ids ≡ 0 → tree_over t (neutral_shape j) ≡ from_pieces j (Some (members (map t ids)))
+empty_joined t [] Conjunction e = refl
+empty_joined t [] Disjunction e = refl
+empty_joined t (i ∷ ids) j e = absurd (omega arith)
 
-pub empty_joined : {Id : Type 0} (t : Id → Tree) (ids : List Id) (b : Bool) → length ids ≡ 0 → tree_over t (if b then shape.True else shape.False) ≡ from_pieces (chosen b) (Some (members (map t ids)))
-empty_joined t [] true e = refl
-empty_joined t [] false e = refl
-empty_joined t (i ∷ ids) b e = absurd (omega arith)
+pub one_joined : {Id : Type 0} (t : Id → Tree) (ids : List Id) (d : Id) (j : Junction) → length ids ≡ 1 → t (get_or ids 0 d) ≡ from_pieces j (Some (members (map t ids)))
+one_joined t [] d j e = absurd (omega arith)
+one_joined t (i ∷ []) d j e = refl
+one_joined t (i ∷ k ∷ ids) d j e = absurd (omega arith)
 
-pub one_joined : {Id : Type 0} (t : Id → Tree) (ids : List Id) (d : Id) (b : Bool) → length ids ≡ 1 → t (get_or ids 0 d) ≡ from_pieces (chosen b) (Some (members (map t ids)))
-one_joined t [] d b e = absurd (omega arith)
-one_joined t (i ∷ []) d true e = refl
-one_joined t (i ∷ []) d false e = refl
-one_joined t (i ∷ k ∷ ids) d b e = absurd (omega arith)
+pub many_joined : {Id : Type 0} (t : Id → Tree) (ids : List Id) (j : Junction) → ¬ (length ids ≡ 0) → ¬ (length ids ≡ 1) → tree_over t (joined_shape j ids) ≡ from_pieces j (Some (members (map t ids)))
+many_joined t [] j h k = absurd (h refl)
+many_joined t (i ∷ []) j h k = absurd (k refl)
+many_joined t (i ∷ l ∷ ids) Conjunction h k = refl
+many_joined t (i ∷ l ∷ ids) Disjunction h k = refl
 
-pub many_joined : {Id : Type 0} (t : Id → Tree) (ids : List Id) (b : Bool) → ¬ (length ids ≡ 0) → ¬ (length ids ≡ 1) → tree_over t (if b then shape.And ids else shape.Or ids) ≡ from_pieces (chosen b) (Some (members (map t ids)))
-many_joined t [] b h k = absurd (h refl)
-many_joined t (i ∷ []) b h k = absurd (k refl)
-many_joined t (i ∷ l ∷ ids) true h k = refl
-many_joined t (i ∷ l ∷ ids) false h k = refl
-
--- ---- the junctions of the program
-
-pub inner_chosen : (j : Junction) (b : Bool) → b ≡ is_same j Conjunction → chosen b ≡ j
-inner_chosen Conjunction b e = ap chosen e
-inner_chosen Disjunction b e = ap chosen e
-
-pub outer_chosen : (j : Junction) (b : Bool) → b ≡ is_same j Disjunction → chosen b ≡ dual j
-outer_chosen Conjunction b e = ap chosen e
-outer_chosen Disjunction b e = ap chosen e
+-- the other junction is what a negation makes of it
+pub turned_dual : (j : Junction) → turned_junction true j ≡ dual j
+turned_dual Conjunction = refl
+turned_dual Disjunction = refl
 
 -- ---- an inner list
 
@@ -72,11 +63,10 @@ ones_are : (c : Context) (nodes : List (Shape FormulaId)) (us : List FormulaId) 
 ones_are c nodes [] h = refl
 ones_are c nodes (u ∷ us) h = λ i. also (h.0.one i) (ones_are c nodes us h.1 i)
 
-pub line_made : (c : Context) (j : Junction) (old nodes : List (Shape FormulaId)) (us : List FormulaId) (b : Bool) → Keeps (IsId old) (tree old) (IsId nodes) (tree nodes) → AreAtomIds c old us → b ≡ is_same j Conjunction
-    → from_pieces (chosen b) (Some (members (map (tree nodes) us))) ≡ line_form j (atoms old us)
-line_made c j old nodes us b k h e =
-    ap (λ (i : Junction). from_pieces i (Some (members (map (tree nodes) us)))) (inner_chosen j b e)
-    ∙ ap (λ fs. from_pieces j (Some fs)) (ones_are c nodes us (ids_stay c old nodes k us h))
+pub line_made : (c : Context) (j : Junction) (old nodes : List (Shape FormulaId)) (us : List FormulaId) → Keeps (IsId old) (tree old) (IsId nodes) (tree nodes) → AreAtomIds c old us
+    → from_pieces j (Some (members (map (tree nodes) us))) ≡ line_form j (atoms old us)
+line_made c j old nodes us k h =
+    ap (λ fs. from_pieces j (Some fs)) (ones_are c nodes us (ids_stay c old nodes k us h))
     ∙ ap (λ us2. line_form j us2) (atoms_stay c old nodes k us h)
 
 -- ---- all of them
@@ -98,25 +88,25 @@ are_ids_stay : (old new : List (Shape FormulaId)) → Keeps (IsId old) (tree old
 are_ids_stay old new k [] h = tt
 are_ids_stay old new k (u ∷ us) h = (k.is u h.0, are_ids_stay old new k us h.1)
 
-pub form_step : (c : Context) (j : Junction) (old nodes new : List (Shape FormulaId)) (items : List (List FormulaId)) (i : ℕ) (d : List FormulaId) (ids : List FormulaId) (id : FormulaId) (b : Bool) → i < length items
-    → Keeps (IsId old) (tree old) (IsId nodes) (tree nodes) → Keeps (IsId nodes) (tree nodes) (IsId new) (tree new) → AreLineIds c old items → b ≡ is_same j Conjunction
-    → AreForms j nodes (lines old (take i items)) ids → IsMade (IsId new) (tree new) id (from_pieces (chosen b) (Some (members (map (tree nodes) (get_or items i d)))))
+pub form_step : (c : Context) (j : Junction) (old nodes new : List (Shape FormulaId)) (items : List (List FormulaId)) (i : ℕ) (d : List FormulaId) (ids : List FormulaId) (id : FormulaId) → i < length items
+    → Keeps (IsId old) (tree old) (IsId nodes) (tree nodes) → Keeps (IsId nodes) (tree nodes) (IsId new) (tree new) → AreLineIds c old items
+    → AreForms j nodes (lines old (take i items)) ids → IsMade (IsId new) (tree new) id (from_pieces j (Some (members (map (tree nodes) (get_or items i d)))))
     → AreForms j new (lines old (take (i + 1) items)) (ids ++ id ∷ [])
-form_step c j old nodes new items i d ids id b l k m h e s t =
+form_step c j old nodes new items i d ids id l k m h s t =
     let here = all_get (AreAtomIds c old) items i d l h in
     record {
       are = all_joined (IsId new) ids (id ∷ []) (are_ids_stay nodes new m ids s.are) (t.is, tt);
       same = map-append (tree new) ids (id ∷ []) ∙ ap (λ fs. fs ++ tree new id ∷ []) (trees_stay nodes new m ids s.are ∙ s.same)
-          ∙ ap (λ f. map (line_form j) (lines old (take i items)) ++ f ∷ []) (t.same ∙ line_made c j old nodes (get_or items i d) b k here e)
+          ∙ ap (λ f. map (line_form j) (lines old (take i items)) ++ f ∷ []) (t.same ∙ line_made c j old nodes (get_or items i d) k here)
           ∙ sym (map-append (line_form j) (lines old (take i items)) (atoms old (get_or items i d) ∷ []))
           ∙ ap (map (line_form j)) (sym (ap (lines old) (take_more items i d l) ∙ map-append (atoms old) (take i items) (get_or items i d ∷ [])));
     }
 
-pub whole_made : (j : Junction) (old nodes new : List (Shape FormulaId)) (items : List (List FormulaId)) (ids : List FormulaId) (r : FormulaId) (b : Bool) → b ≡ is_same j Disjunction → AreForms j nodes (lines old items) ids
-    → IsMade (IsId new) (tree new) r (from_pieces (chosen b) (Some (members (map (tree nodes) ids)))) → IsMade (IsId new) (tree new) r (form_of_lines j (lines old items))
-whole_made j old nodes new items ids r b e s t = record {
+pub whole_made : (j : Junction) (old nodes new : List (Shape FormulaId)) (items : List (List FormulaId)) (ids : List FormulaId) (r : FormulaId) → AreForms j nodes (lines old items) ids
+    → IsMade (IsId new) (tree new) r (from_pieces (turned_junction true j) (Some (members (map (tree nodes) ids)))) → IsMade (IsId new) (tree new) r (form_of_lines j (lines old items))
+whole_made j old nodes new items ids r s t = record {
   is = t.is;
-  same = t.same ∙ ap (λ (i : Junction). from_pieces i (Some (members (map (tree nodes) ids)))) (outer_chosen j b e) ∙ ap (λ fs. from_pieces (dual j) (Some (members fs))) s.same
+  same = t.same ∙ ap (λ (i : Junction). from_pieces i (Some (members (map (tree nodes) ids)))) (turned_dual j) ∙ ap (λ fs. from_pieces (dual j) (Some (members fs))) s.same
       ∙ ap (λ fs. from_pieces (dual j) (Some fs)) (forms_are j (lines old items));
 }
 

@@ -1,5 +1,5 @@
-pub mod Forms
 pub mod Atoms
 pub mod Merging
 pub mod Sizes
 pub mod Parts
+pub mod Shapes

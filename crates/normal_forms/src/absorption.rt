@@ -4,7 +4,8 @@ ghost use Rattle.std.specs.Prelude.{◌≡◌, false, IsTrue, OnOk, IfErr};
 ghost use Rattle.normal_forms.specs.Atoms.{is_within, some_within, not_above, add};
 
 use formula_store::FormulaId;
-use formula_tree::{FormError, Ids};
+use formula_tree::Ids;
+use std::alloc::AllocError;
 
 /// Lists of atoms.
 pub(crate) type Lines = Vec<Ids<FormulaId>>;
@@ -52,15 +53,14 @@ fn drop_above(lines: &mut Lines, line: &Ids<FormulaId>)
     lines.retain(|other| !is_within(line.items(), other.items()));
 }
 
-/// Adds a list, unless another is within it, and drops the others that it is within. Its only error is `Memory`.
-pub(crate) fn add(lines: &mut Lines, line: Ids<FormulaId>) -> Result<(), FormError>
+/// Adds a list, unless another is within it, and drops the others that it is within.
+pub(crate) fn add(lines: &mut Lines, line: Ids<FormulaId>) -> Result<(), AllocError>
     ensures added { OnOk result (lines.new.items ≡ add lines.old.items line) }
-    ensures memory { IfErr result (λ e. e ≡ FormError.Memory) }
 {
     if some_within(lines, &line) {
         return Ok(());
     }
     drop_above(lines, &line);
-    lines.push(line).map_err(|_| FormError::Memory)?;
+    lines.push(line)?;
     Ok(())
 }

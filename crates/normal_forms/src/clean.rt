@@ -10,19 +10,19 @@ ghost use Rattle.simplified_formulas.specs.AtomKit.{atom_kit};
 ghost use Rattle.clean_forms.specs.Plain.{of_none};
 ghost use Rattle.clean_forms.specs.Lines.{clean_lines, more_clean_lines};
 ghost use Rattle.clean_forms.specs.Laws.{IsDistributable};
-ghost use Rattle.normal_forms.specs.Forms.{inner};
 ghost use Rattle.normal_forms.specs.Atoms.{AreLines};
 ghost use Rattle.normal_forms.specs.Sizes.{IsTold};
 ghost use Rattle.normal_forms.specs.Parts.{IsPart};
 
 use crate::absorption::Lines;
-use crate::form::{Form, conjunctions_inside, disjunctions_inside};
+use crate::inner::is_inner;
 use crate::lines::joined;
 use crate::sizes::Table;
 use atom_normal::Context;
+use formula_meaning::Junction;
 use formula_store::{FormulaId, Store};
-use formula_tree::{FormError, Ids, Shape};
-use std::alloc::Global;
+use formula_tree::{Ids, Shape};
+use std::alloc::{AllocError, Global};
 
 /// What the lists of a formula are made of: those of a constant, one atom, or the lists of its members.
 #[derive(Drop)]
@@ -33,20 +33,19 @@ pub(crate) enum Part {
 }
 
 // What the lists of a formula are made of. Where its plain form has no place of an atom they are those of a constant, and its
-// members are not looked at. Its only error is `Memory`.
+// members are not looked at.
 fn part_of(
     alloc: Global,
     store: &Store,
     context: Context,
-    form: Form,
+    inner: Junction,
     id: FormulaId,
     table: &Table,
-) -> Result<Part, FormError>
+) -> Result<Part, AllocError>
     requires id { IsId store.now id }
     requires distributable { IsDistributable (context_of context) (tree store.now id) }
-    requires told { IsTold (inner form) store.now table.now }
-    ensures part { IfOk result (IsPart (context_of context) (inner form) store.now id) }
-    ensures memory { IfErr result (λ e. e ≡ FormError.Memory) }
+    requires told { IsTold inner store.now table.now }
+    ensures part { IfOk result (IsPart (context_of context) inner store.now id) }
 {
     if let Some(sizes) = table.get(&id) {
         if sizes.places == 0 {
@@ -54,69 +53,61 @@ fn part_of(
         }
     }
     match store.shape(id) {
-        Shape::True => Ok(Part::Constant(conjunctions_inside(form))),
-        Shape::False => Ok(Part::Constant(disjunctions_inside(form))),
+        Shape::True => Ok(Part::Constant(is_inner(inner, Junction::Conjunction))),
+        Shape::False => Ok(Part::Constant(is_inner(inner, Junction::Disjunction))),
         Shape::One(_) => Ok(Part::Atom),
-        Shape::And(ids) => members(alloc, conjunctions_inside(form), ids),
-        Shape::Or(ids) => members(alloc, disjunctions_inside(form), ids),
+        Shape::And(ids) => members(alloc, is_inner(inner, Junction::Conjunction), ids),
+        Shape::Or(ids) => members(alloc, is_inner(inner, Junction::Disjunction), ids),
         _ => unreachable!(),
     }
 }
 
-// The members of a list. Its only error is `Memory`.
-fn members(alloc: Global, each_with_each: bool, ids: &Ids<FormulaId>) -> Result<Part, FormError>
+// The members of a list.
+fn members(alloc: Global, each_with_each: bool, ids: &Ids<FormulaId>) -> Result<Part, AllocError>
     ensures members { IfOk result (λ part. part ≡ Part.Members each_with_each ids.now) }
-    ensures memory { IfErr result (λ e. e ≡ FormError.Memory) }
 {
-    match Vec::from_slice(alloc, ids.items()) {
-        Ok(copy) => Ok(Part::Members(each_with_each, Ids::of(copy))),
-        Err(_) => Err(FormError::Memory),
-    }
+    let copy = Vec::from_slice(alloc, ids.items())?;
+    Ok(Part::Members(each_with_each, Ids::of(copy)))
 }
 
-// The lists of a constant: none, or one without atoms. Its only error is `Memory`.
-fn constant_lines(alloc: Global, bare: bool) -> Result<Lines, FormError>
+// The lists of a constant: none, or one without atoms.
+fn constant_lines(alloc: Global, bare: bool) -> Result<Lines, AllocError>
     ensures lines { IfOk result (λ r. r.items ≡ of_none bare) }
-    ensures memory { IfErr result (λ e. e ≡ FormError.Memory) }
 {
     let mut lines = Vec::new(alloc);
     if bare {
-        lines
-            .push(Ids::of(Vec::new(alloc)))
-            .map_err(|_| FormError::Memory)?;
+        lines.push(Ids::of(Vec::new(alloc)))?;
     }
     Ok(lines)
 }
 
-// The list of one atom. Its only error is `Memory`.
-fn atom_lines(alloc: Global, id: FormulaId) -> Result<Lines, FormError>
+// The list of one atom.
+fn atom_lines(alloc: Global, id: FormulaId) -> Result<Lines, AllocError>
     ensures lines { IfOk result (λ r. r.items ≡ (id ∷ []) ∷ []) }
-    ensures memory { IfErr result (λ e. e ≡ FormError.Memory) }
 {
-    let line = vec![in alloc; id].map_err(|_| FormError::Memory)?;
+    let line = vec![in alloc; id]?;
     let mut lines = Vec::new(alloc);
-    lines.push(Ids::of(line)).map_err(|_| FormError::Memory)?;
+    lines.push(Ids::of(line))?;
     Ok(lines)
 }
 
-/// The clean lists of a formula. The recursion is as deep as the formula is high. Its only error is `Memory`.
+/// The clean lists of a formula. The recursion is as deep as the formula is high.
 #[cycle(clean)]
 pub(crate) fn formula_lines(
     alloc: Global,
     store: &mut Store,
     context: Context,
-    form: Form,
+    inner: Junction,
     id: FormulaId,
     table: &Table,
-) -> Result<Lines, FormError>
+) -> Result<Lines, AllocError>
     requires id { IsId store.old id }
     requires distributable { IsDistributable (context_of context) (tree store.old id) }
-    requires told { IsTold (inner form) store.old table.now }
-    ensures lines { IfOk result (λ r. AreLines (context_of context) store.new (clean_lines (atom_kit (context_of context)) (inner form) (tree store.old id)) r.items) }
+    requires told { IsTold inner store.old table.now }
+    ensures lines { IfOk result (λ r. AreLines (context_of context) store.new (clean_lines (atom_kit (context_of context)) inner (tree store.old id)) r.items) }
     ensures kept { Keeps (IsId store.old) (tree store.old) (IsId store.new) (tree store.new) }
-    ensures memory { IfErr result (λ e. e ≡ FormError.Memory) }
 {
-    match part_of(alloc, store, context, form, id, table)? {
+    match part_of(alloc, store, context, inner, id, table)? {
         Part::Constant(bare) => constant_lines(alloc, bare),
         Part::Atom => atom_lines(alloc, id),
         Part::Members(each_with_each, ids) => {
@@ -124,7 +115,7 @@ pub(crate) fn formula_lines(
                 alloc,
                 store,
                 context,
-                form,
+                inner,
                 id,
                 each_with_each,
                 ids.items(),
@@ -134,30 +125,29 @@ pub(crate) fn formula_lines(
     }
 }
 
-// The clean lists of the members of a formula together. Its only error is `Memory`.
+// The clean lists of the members of a formula together.
 #[cycle(clean)]
 fn member_lines(
     alloc: Global,
     store: &mut Store,
     context: Context,
-    form: Form,
+    inner: Junction,
     above: FormulaId,
     each_with_each: bool,
     ids: &[FormulaId],
     table: &Table,
-) -> Result<Lines, FormError>
+) -> Result<Lines, AllocError>
     requires above { IsId store.old above }
     requires below { AllByRecursion (λ id. id.number < above.number) ids.now }
     requires distributable { AllByRecursion (λ id. IsDistributable (context_of context) (tree store.old id)) ids.now }
-    requires told { IsTold (inner form) store.old table.now }
-    ensures lines { IfOk result (λ r. AreLines (context_of context) store.new (more_clean_lines (atom_kit (context_of context)) (inner form) each_with_each (of_none each_with_each) (members (map (tree store.old) ids.now))) r.items) }
+    requires told { IsTold inner store.old table.now }
+    ensures lines { IfOk result (λ r. AreLines (context_of context) store.new (more_clean_lines (atom_kit (context_of context)) inner each_with_each (of_none each_with_each) (members (map (tree store.old) ids.now))) r.items) }
     ensures kept { Keeps (IsId store.old) (tree store.old) (IsId store.new) (tree store.new) }
-    ensures memory { IfErr result (λ e. e ≡ FormError.Memory) }
 {
     let mut lines = constant_lines(alloc, each_with_each)?;
     for id in ids {
-        let more = formula_lines(alloc, store, context, form, *id, table)?;
-        lines = joined(alloc, store, context, form, each_with_each, lines, more)?;
+        let more = formula_lines(alloc, store, context, inner, *id, table)?;
+        lines = joined(alloc, store, context, inner, each_with_each, lines, more)?;
     }
     Ok(lines)
 }

@@ -3,7 +3,7 @@
 
 mod absorption;
 mod clean;
-mod form;
+mod inner;
 mod insertion;
 mod lines;
 mod merging;

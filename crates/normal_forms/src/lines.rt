@@ -7,35 +7,32 @@ ghost use Rattle.formula_tree.specs.Makers.{Keeps};
 ghost use Rattle.formula_store.specs.Nodes.{tree, IsId};
 ghost use Rattle.simplified_formulas.specs.AtomKit.{atom_kit};
 ghost use Rattle.clean_forms.specs.Lines.{insert_all, add_if, add_line_products, add_products, joined_lines};
-ghost use Rattle.normal_forms.specs.Forms.{inner};
 ghost use Rattle.normal_forms.specs.Atoms.{atoms, lines as atom_lines, IsAtomId, AreLineIds, AreLines, add_all as all_added};
 
 use crate::absorption::{Lines, add};
-use crate::form::Form;
 use crate::insertion::product;
 use atom_normal::Context;
+use formula_meaning::Junction;
 use formula_store::{FormulaId, Store};
-use formula_tree::FormError;
-use std::alloc::Global;
+use std::alloc::{AllocError, Global};
 
-// Adds the atoms of two inner lists in one, unless it is settled. Its only error is `Memory`.
+// Adds the atoms of two inner lists in one, unless it is settled.
 fn add_product(
     alloc: Global,
     store: &mut Store,
     context: Context,
-    form: Form,
+    inner: Junction,
     lines: &mut Lines,
     line: &[FormulaId],
     other: &[FormulaId],
-) -> Result<(), FormError>
+) -> Result<(), AllocError>
     requires lines { AreLineIds (context_of context) store.old lines.old.items }
     requires line { AllByRecursion (IsAtomId (context_of context) store.old) line.now }
     requires other { AllByRecursion (IsAtomId (context_of context) store.old) other.now }
-    ensures added { OnOk result (AreLines (context_of context) store.new (add_if (atom_kit (context_of context)) (inner form) (atom_lines store.old lines.old.items) (insert_all (atom_kit (context_of context)) (inner form) (Some (atoms store.old line.now)) (atoms store.old other.now))) lines.new.items) }
+    ensures added { OnOk result (AreLines (context_of context) store.new (add_if (atom_kit (context_of context)) inner (atom_lines store.old lines.old.items) (insert_all (atom_kit (context_of context)) inner (Some (atoms store.old line.now)) (atoms store.old other.now))) lines.new.items) }
     ensures kept { Keeps (IsId store.old) (tree store.old) (IsId store.new) (tree store.new) }
-    ensures memory { IfErr result (λ e. e ≡ FormError.Memory) }
 {
-    match product(alloc, store, context, form, line, other)? {
+    match product(alloc, store, context, inner, line, other)? {
         Some(product) => {
             let _nodes = store.len();
             add(lines, product)
@@ -44,43 +41,41 @@ fn add_product(
     }
 }
 
-// Adds one inner list with each of the others. Its only error is `Memory`.
+// Adds one inner list with each of the others.
 fn add_line_products(
     alloc: Global,
     store: &mut Store,
     context: Context,
-    form: Form,
+    inner: Junction,
     lines: &mut Lines,
     line: &[FormulaId],
     others: &Lines,
-) -> Result<(), FormError>
+) -> Result<(), AllocError>
     requires lines { AreLineIds (context_of context) store.old lines.old.items }
     requires line { AllByRecursion (IsAtomId (context_of context) store.old) line.now }
     requires others { AreLineIds (context_of context) store.old others.now.items }
-    ensures added { OnOk result (AreLines (context_of context) store.new (add_line_products (atom_kit (context_of context)) (inner form) (atom_lines store.old lines.old.items) (atoms store.old line.now) (atom_lines store.old others.now.items)) lines.new.items) }
+    ensures added { OnOk result (AreLines (context_of context) store.new (add_line_products (atom_kit (context_of context)) inner (atom_lines store.old lines.old.items) (atoms store.old line.now) (atom_lines store.old others.now.items)) lines.new.items) }
     ensures kept { Keeps (IsId store.old) (tree store.old) (IsId store.new) (tree store.new) }
-    ensures memory { IfErr result (λ e. e ≡ FormError.Memory) }
 {
     for other in others {
-        add_product(alloc, store, context, form, lines, line, other.items())?;
+        add_product(alloc, store, context, inner, lines, line, other.items())?;
     }
     Ok(())
 }
 
-// Each inner list of the first with each of the second. Its only error is `Memory`.
+// Each inner list of the first with each of the second.
 fn products(
     alloc: Global,
     store: &mut Store,
     context: Context,
-    form: Form,
+    inner: Junction,
     firsts: &Lines,
     others: &Lines,
-) -> Result<Lines, FormError>
+) -> Result<Lines, AllocError>
     requires firsts { AreLineIds (context_of context) store.old firsts.now.items }
     requires others { AreLineIds (context_of context) store.old others.now.items }
-    ensures products { IfOk result (λ r. AreLines (context_of context) store.new (add_products (atom_kit (context_of context)) (inner form) [] (atom_lines store.old firsts.now.items) (atom_lines store.old others.now.items)) r.items) }
+    ensures products { IfOk result (λ r. AreLines (context_of context) store.new (add_products (atom_kit (context_of context)) inner [] (atom_lines store.old firsts.now.items) (atom_lines store.old others.now.items)) r.items) }
     ensures kept { Keeps (IsId store.old) (tree store.old) (IsId store.new) (tree store.new) }
-    ensures memory { IfErr result (λ e. e ≡ FormError.Memory) }
 {
     let mut lines = Vec::new(alloc);
     for line in firsts {
@@ -88,7 +83,7 @@ fn products(
             alloc,
             store,
             context,
-            form,
+            inner,
             &mut lines,
             line.items(),
             others,
@@ -97,10 +92,9 @@ fn products(
     Ok(lines)
 }
 
-// The inner lists of both. Its only error is `Memory`.
-fn add_all(lines: &mut Lines, more: Lines) -> Result<(), FormError>
+// The inner lists of both.
+fn add_all(lines: &mut Lines, more: Lines) -> Result<(), AllocError>
     ensures added { OnOk result (lines.new.items ≡ all_added lines.old.items more.items) }
-    ensures memory { IfErr result (λ e. e ≡ FormError.Memory) }
 {
     for line in more {
         add(lines, line)?;
@@ -109,24 +103,23 @@ fn add_all(lines: &mut Lines, more: Lines) -> Result<(), FormError>
 }
 
 /// The inner lists of two members together: each with each where the members are joined as the atoms of an inner list,
-/// else all of them. Its only error is `Memory`.
+/// else all of them.
 pub(crate) fn joined(
     alloc: Global,
     store: &mut Store,
     context: Context,
-    form: Form,
+    inner: Junction,
     each_with_each: bool,
     lines: Lines,
     more: Lines,
-) -> Result<Lines, FormError>
+) -> Result<Lines, AllocError>
     requires lines { AreLineIds (context_of context) store.old lines.items }
     requires more { AreLineIds (context_of context) store.old more.items }
-    ensures joined { IfOk result (λ r. AreLines (context_of context) store.new (joined_lines (atom_kit (context_of context)) (inner form) each_with_each (atom_lines store.old lines.items) (atom_lines store.old more.items)) r.items) }
+    ensures joined { IfOk result (λ r. AreLines (context_of context) store.new (joined_lines (atom_kit (context_of context)) inner each_with_each (atom_lines store.old lines.items) (atom_lines store.old more.items)) r.items) }
     ensures kept { Keeps (IsId store.old) (tree store.old) (IsId store.new) (tree store.new) }
-    ensures memory { IfErr result (λ e. e ≡ FormError.Memory) }
 {
     if each_with_each {
-        return products(alloc, store, context, form, &lines, &more);
+        return products(alloc, store, context, inner, &lines, &more);
     }
     let _nodes = store.len();
     let mut lines = lines;

@@ -7,16 +7,15 @@ ghost use Rattle.formula_meaning.specs.Formula.{One};
 ghost use Rattle.formula_meaning.specs.Atom.{form_of};
 ghost use Rattle.formula_store.specs.Nodes.{tree, IsId};
 ghost use Rattle.atom_merging.specs.Computed.{merged, merging_of};
-ghost use Rattle.normal_forms.specs.Forms.{inner};
 ghost use Rattle.normal_forms.specs.Atoms.{atom_at, IsAtomId};
 ghost use Rattle.normal_forms.specs.Merging.{IsWellMerged, MeetsAs, first_name};
 
-use crate::form::Form;
 use atom_merging::{Merged, merge_and, merge_or};
 use atom_normal::{Atom, Context};
+use formula_meaning::Junction;
 use formula_store::{FormulaId, Store};
-use formula_tree::{FormError, Shape};
-use std::alloc::Global;
+use formula_tree::Shape;
+use std::alloc::{AllocError, Global};
 
 /// What becomes of an atom beside others: it merges with none; with the first with which it merges it settles the list; or
 /// with the one at a place it makes one atom.
@@ -53,50 +52,47 @@ fn first_name(atom: &Atom) -> Option<usize>
     }
 }
 
-// What two atoms become in an inner list. Atoms that merge have the same names, so most are told apart by their first one. Its
-// only error is `Memory`.
+// What two atoms become in an inner list. Atoms that merge have the same names, so most are told apart by their first one.
 fn merged(
     alloc: Global,
     store: &Store,
     context: Context,
-    form: Form,
+    inner: Junction,
     first: FormulaId,
     second: FormulaId,
-) -> Result<Merged, FormError>
+) -> Result<Merged, AllocError>
     requires first { IsAtomId (context_of context) store.now first }
     requires second { IsAtomId (context_of context) store.now second }
-    ensures merged { IfOk result (λ m. merging_of m ≡ merged (context_of context) (inner form) (atom_at store.now first) (atom_at store.now second)) }
+    ensures merged { IfOk result (λ m. merging_of m ≡ merged (context_of context) inner (atom_at store.now first) (atom_at store.now second)) }
     ensures well_formed { IfOk result IsWellMerged }
-    ensures memory { IfErr result (λ e. e ≡ FormError.Memory) }
 {
     let first = atom(store, first);
     let second = atom(store, second);
     if first_name(first) != first_name(second) {
         return Ok(Merged::Keep);
     }
-    let merged = match form {
-        Form::Disjunctive => merge_and(alloc, context, first, second),
-        Form::Conjunctive => merge_or(alloc, context, first, second),
+    let merged = match inner {
+        Junction::Conjunction => merge_and(alloc, context, first, second),
+        Junction::Disjunction => merge_or(alloc, context, first, second),
     };
-    merged.map_err(|_| FormError::Memory)
+    merged.map_err(|_| AllocError)
 }
 
-/// What becomes of an atom beside the atoms of an inner list. Its only error is `Memory`.
+/// What becomes of an atom beside the atoms of an inner list.
 pub(crate) fn partner(
     alloc: Global,
     store: &Store,
     context: Context,
-    form: Form,
+    inner: Junction,
     atom: FormulaId,
     line: &[FormulaId],
-) -> Result<Met, FormError>
+) -> Result<Met, AllocError>
     requires atom { IsAtomId (context_of context) store.now atom }
     requires line { AllByRecursion (IsAtomId (context_of context) store.now) line.now }
-    ensures met { IfOk result (MeetsAs (context_of context) (inner form) store.now atom line.now) }
-    ensures memory { IfErr result (λ e. e ≡ FormError.Memory) }
+    ensures met { IfOk result (MeetsAs (context_of context) inner store.now atom line.now) }
 {
     for (place, other) in line.iter().enumerate() {
-        match merged(alloc, store, context, form, *other, atom)? {
+        match merged(alloc, store, context, inner, *other, atom)? {
             Merged::True => return Ok(Met::Void),
             Merged::False => return Ok(Met::Void),
             Merged::One(atom) => return Ok(Met::Meets(atom, place)),

@@ -5,11 +5,10 @@ ghost use Rattle.formula_meaning.specs.Fold.{from_pieces};
 ghost use Rattle.formula_meaning.specs.declared.junction.Junction.TheVariants.{Conjunction, Disjunction};
 ghost use Rattle.formula_tree.specs.Trees.{members};
 ghost use Rattle.formula_tree.specs.Shapes.{AllIds, IsProperShape, tree_over};
+ghost use Rattle.normal_forms.specs.Shapes.{neutral_shape, joined_shape};
 ghost use Rattle.clean_forms.specs.Ways.{form_of_lines};
-ghost use Rattle.normal_forms.specs.Forms.{inner};
 ghost use Rattle.normal_forms.specs.Atoms.{AreLineIds, lines as atom_lines};
 ghost use Rattle.std.specs.List.{AllByRecursion};
-ghost use Rattle.formula_tree.specs.declared.shape.Shape.TheVariants as Shape;
 ghost use Rattle.formula_meaning.specs.Sizes.{nodes};
 ghost use Rattle.formula_meaning.specs.Tree.{Equivalent, IsFree};
 ghost use Rattle.atom_normal.specs.Atoms.{context_of};
@@ -23,17 +22,17 @@ ghost use Rattle.clean_forms.specs.Laws.{IsNoLonger};
 
 use crate::absorption::Lines;
 use crate::clean::formula_lines;
-use crate::form::{Form, conjunctions_inside, disjunctions_inside};
 use crate::insertion::copied;
 use crate::sizes::{all_sizes, table_sizes};
 use atom_normal::Context;
+use formula_meaning::Junction;
 use formula_store::{FormulaId, Store};
 use formula_tree::{FormError, Ids, Maker, Shape};
-use std::alloc::Global;
+use std::alloc::{AllocError, Global};
 
 /// The clean disjunctive form of a formula in negation normal form: a disjunction of conjunctions of atoms, none of which
 /// has two atoms that merge or contains all atoms of another. It has no more tree nodes and no longer text than the plain
-/// form, which only folds constants and distributes `and` over `or`. `Quantified` comes exactly where a quantifier stands in
+/// inner, which only folds constants and distributes `and` over `or`. `Quantified` comes exactly where a quantifier stands in
 /// the formula. `Nodes` comes only where the plain form has more than `limit` places of atoms, which are counted before
 /// anything is multiplied out; else `Memory`. The formulas of the store stay.
 ///
@@ -62,10 +61,10 @@ pub fn dnf(
     ensures limited { OnOk result (literals Conjunction (tree store.old id) ≤ limit) }
     ensures overflow { ¬ (IsErrOf result FormError.Overflow) }
 {
-    normal_form(alloc, store, context, Form::Disjunctive, id, limit)
+    normal_form(alloc, store, context, Junction::Conjunction, id, limit)
 }
 
-/// The clean conjunctive form of a formula in negation normal form, the dual of `dnf`: a conjunction of disjunctions of
+/// The clean conjunctive form of a formula in negation normal inner, the dual of `dnf`: a conjunction of disjunctions of
 /// atoms, none of which has two atoms that merge or contains all atoms of another. Its sizes, its errors and what stays are
 /// as there, with the plain form that distributes `or` over `and`.
 pub fn cnf(
@@ -91,38 +90,38 @@ pub fn cnf(
     ensures limited { OnOk result (literals Disjunction (tree store.old id) ≤ limit) }
     ensures overflow { ¬ (IsErrOf result FormError.Overflow) }
 {
-    normal_form(alloc, store, context, Form::Conjunctive, id, limit)
+    normal_form(alloc, store, context, Junction::Disjunction, id, limit)
 }
 
-// The clean form, of either kind.
+// The clean inner, of either kind.
 fn normal_form(
     alloc: Global,
     store: &mut Store,
     context: Context,
-    form: Form,
+    inner: Junction,
     id: FormulaId,
     limit: u64,
 ) -> Result<FormulaId, FormError>
     requires id { IsId store.old id }
     requires orderly { IsSimplifiable (context_of context) (tree store.old id) }
     ensures made { IfOk result (IsId store.new) }
-    ensures clean { IfOk result (λ r. IsCleanForm (context_of context) (inner form) (tree store.new r)) }
+    ensures clean { IfOk result (λ r. IsCleanForm (context_of context) inner (tree store.new r)) }
     ensures truth { IfOk result (λ r. Equivalent (context_of context) (tree store.new r) (tree store.old id)) }
     ensures names { IfOk result (λ r. (x : ℕ) → IsFree (tree store.new r) x → IsFree (tree store.old id) x) }
     ensures orderly { IfOk result (λ r. IsSimplifiable (context_of context) (tree store.new r)) }
-    ensures nodes_within { IfOk result (λ r. nodes (tree store.new r) ≤ nodes (plain_form (inner form) (tree store.old id))) }
-    ensures text_within { IfOk result (λ r. IsNoLonger (tree store.new r) (plain_form (inner form) (tree store.old id)) (tree store.old id)) }
+    ensures nodes_within { IfOk result (λ r. nodes (tree store.new r) ≤ nodes (plain_form inner (tree store.old id))) }
+    ensures text_within { IfOk result (λ r. IsNoLonger (tree store.new r) (plain_form inner (tree store.old id)) (tree store.old id)) }
     ensures kept { Keeps (IsId store.old) (tree store.old) (IsId store.new) (tree store.new) }
 
     ensures quantified { IsErrOf result FormError.Quantified ↔ (has_quantifier (tree store.old id) ≡ true) }
-    ensures nodes { IsErrOf result FormError.Nodes → limit < literals (inner form) (tree store.old id) }
-    ensures limited { OnOk result (literals (inner form) (tree store.old id) ≤ limit) }
+    ensures nodes { IsErrOf result FormError.Nodes → limit < literals inner (tree store.old id) }
+    ensures limited { OnOk result (literals inner (tree store.old id) ≤ limit) }
     ensures overflow { ¬ (IsErrOf result FormError.Overflow) }
 {
     if store.facts(id).quantified {
         return Err(FormError::Quantified);
     }
-    let table = all_sizes(alloc, store, form, id)?;
+    let table = all_sizes(alloc, store, inner, id)?;
     let places = table_sizes(&table, id).places;
     if limit < places {
         return Err(FormError::Nodes);
@@ -130,79 +129,77 @@ fn normal_form(
     if places == u64::MAX {
         return Err(FormError::Memory);
     }
-    let lines = formula_lines(alloc, store, context, form, id, &table)?;
-    lines_form(alloc, store, context, form, lines)
+    let lines = formula_lines(alloc, store, context, inner, id, &table)?;
+    Ok(lines_form(alloc, store, context, inner, lines)?)
 }
 
-// A list of formulas joined, where one stands for the list, and an empty list for the constant that says nothing in it. Its
-// only error is `Memory`.
-fn joined(store: &mut Store, conjunction: bool, ids: Ids<FormulaId>) -> Result<FormulaId, FormError>
+// A list of formulas joined, where one stands for the list, and an empty list for the constant that says nothing in it.
+fn joined(
+    store: &mut Store,
+    junction: Junction,
+    ids: Ids<FormulaId>,
+) -> Result<FormulaId, AllocError>
     requires { AllByRecursion (IsId store.old) ids }
-    ensures made { IfOk result (λ r. IsMade (IsId store.new) (tree store.new) r (from_pieces (if conjunction then Conjunction else Disjunction) (Some (members (map (tree store.old) ids))))) }
+    ensures made { IfOk result (λ r. IsMade (IsId store.new) (tree store.new) r (from_pieces junction (Some (members (map (tree store.old) ids))))) }
     ensures kept { Keeps (IsId store.old) (tree store.old) (IsId store.new) (tree store.new) }
-    ensures memory { IfErr result (λ e. e ≡ FormError.Memory) }
 {
     let count = ids.items().len();
     if count == 0 {
-        return made(store, constant(conjunction));
+        return made(store, constant(junction));
     }
     if count == 1 {
         return Ok(ids.items()[0]);
     }
-    made(store, list(conjunction, ids))
+    made(store, list(junction, ids))
 }
 
-// Makes the formula of this shape. Its only error is `Memory`.
-fn made(store: &mut Store, shape: Shape<FormulaId>) -> Result<FormulaId, FormError>
+// Makes the formula of this shape.
+fn made(store: &mut Store, shape: Shape<FormulaId>) -> Result<FormulaId, AllocError>
     requires ids { AllIds (IsId store.old) shape }
     requires proper { IsProperShape shape }
     ensures made { IfOk result (λ id. IsMade (IsId store.new) (tree store.new) id (tree_over (tree store.old) shape)) }
     ensures kept { Keeps (IsId store.old) (tree store.old) (IsId store.new) (tree store.new) }
-    ensures memory { IfErr result (λ e. e ≡ FormError.Memory) }
 {
-    store.make(shape).map_err(|_| FormError::Memory)
+    store.make(shape).map_err(|_| AllocError)
 }
 
 // The constant that says nothing in a list.
-fn constant(conjunction: bool) -> Shape<FormulaId>
-    ensures { result ≡ (if conjunction then Shape.True else Shape.False) }
+fn constant(junction: Junction) -> Shape<FormulaId>
+    ensures { result ≡ neutral_shape junction }
 {
-    if conjunction {
-        Shape::True
-    } else {
-        Shape::False
+    match junction {
+        Junction::Conjunction => Shape::True,
+        Junction::Disjunction => Shape::False,
     }
 }
 
 // The list.
-fn list(conjunction: bool, ids: Ids<FormulaId>) -> Shape<FormulaId>
-    ensures { result ≡ (if conjunction then Shape.And ids else Shape.Or ids) }
+fn list(junction: Junction, ids: Ids<FormulaId>) -> Shape<FormulaId>
+    ensures { result ≡ joined_shape junction ids }
 {
-    if conjunction {
-        Shape::And(ids)
-    } else {
-        Shape::Or(ids)
+    match junction {
+        Junction::Conjunction => Shape::And(ids),
+        Junction::Disjunction => Shape::Or(ids),
     }
 }
 
-// The formula of clean lists. Its only error is `Memory`.
+// The formula of clean lists.
 fn lines_form(
     alloc: Global,
     store: &mut Store,
     context: Context,
-    form: Form,
+    inner: Junction,
     lines: Lines,
-) -> Result<FormulaId, FormError>
+) -> Result<FormulaId, AllocError>
     requires { AreLineIds (context_of context) store.old lines.items }
-    ensures made { IfOk result (λ r. IsMade (IsId store.new) (tree store.new) r (form_of_lines (inner form) (atom_lines store.old lines.items))) }
+    ensures made { IfOk result (λ r. IsMade (IsId store.new) (tree store.new) r (form_of_lines inner (atom_lines store.old lines.items))) }
     ensures kept { Keeps (IsId store.old) (tree store.old) (IsId store.new) (tree store.new) }
-    ensures memory { IfErr result (λ e. e ≡ FormError.Memory) }
 {
     let mut ids = Vec::new(alloc);
     for line in &lines {
         let line = copied(alloc, line.items())?;
-        let id = joined(store, conjunctions_inside(form), line)?;
-        ids.push(id).map_err(|_| FormError::Memory)?;
+        let id = joined(store, inner, line)?;
+        ids.push(id)?;
     }
-    joined(store, disjunctions_inside(form), Ids::of(ids))
+    joined(store, inner.turned(true), Ids::of(ids))
 }

@@ -10,16 +10,16 @@ ghost use Rattle.formula_store.specs.Nodes.{IsId, tree, AreNodes};
 ghost use Rattle.formula_store.specs.Order.{IsOrder};
 ghost use Rattle.clean_forms.specs.Ways.{is_same};
 ghost use Rattle.clean_forms.specs.Counts.{nothing_sizes, is_bare, product_sizes, sum_sizes, joined_sizes, sizes};
-ghost use Rattle.normal_forms.specs.Forms.{inner};
 ghost use Rattle.normal_forms.specs.Sizes.{capped, counted, all_joined, sizes_at, IsThere, IsTold};
 
-use crate::form::{Form, conjunctions_inside, disjunctions_inside};
+use crate::inner::is_inner;
+use formula_meaning::Junction;
 use formula_store::{FormulaId, Store};
-use formula_tree::{FormError, Shape};
-use std::alloc::Global;
+use formula_tree::Shape;
+use std::alloc::{AllocError, Global};
 use std::collections::HashMap;
 
-/// The inner lists and the places of atoms of a plain form, 2^64 - 1 where there are more.
+/// The inner lists and the places of atoms of a plain inner, 2^64 - 1 where there are more.
 #[derive(Clone, Copy)]
 pub(crate) struct Sizes {
     pub(crate) lines: u64,
@@ -109,55 +109,53 @@ fn together(table: &Table, each_with_each: bool, ids: &[FormulaId]) -> Sizes
 }
 
 // The sizes of one formula, from those of its members.
-fn node_sizes(store: &Store, form: Form, id: FormulaId, table: &Table) -> Sizes
+fn node_sizes(store: &Store, inner: Junction, id: FormulaId, table: &Table) -> Sizes
     requires id { IsId store.now id }
-    requires told { IsTold (inner form) store.now table.now }
+    requires told { IsTold inner store.now table.now }
     requires members { (n : Shape FormulaId) → slice_get store.now id.number ≡ Some n → AllIds (IsThere table.now) n }
-    ensures { result ≡ capped (sizes (inner form) (tree store.now id)) }
+    ensures { result ≡ capped (sizes inner (tree store.now id)) }
 {
     match store.shape(id) {
-        Shape::True => nothing(conjunctions_inside(form)),
-        Shape::False => nothing(disjunctions_inside(form)),
+        Shape::True => nothing(is_inner(inner, Junction::Conjunction)),
+        Shape::False => nothing(is_inner(inner, Junction::Disjunction)),
         Shape::One(_) => Sizes {
             lines: 1,
             places: 1,
         },
-        Shape::And(ids) => together(table, conjunctions_inside(form), ids.items()),
-        Shape::Or(ids) => together(table, disjunctions_inside(form), ids.items()),
+        Shape::And(ids) => together(table, is_inner(inner, Junction::Conjunction), ids.items()),
+        Shape::Or(ids) => together(table, is_inner(inner, Junction::Disjunction), ids.items()),
         _ => nothing(false),
     }
 }
 
 // The distinct subformulas, members first.
-fn subformulas(store: &Store, id: FormulaId) -> Result<Vec<FormulaId>, FormError>
+fn subformulas(store: &Store, id: FormulaId) -> Result<Vec<FormulaId>, AllocError>
     requires { IsId store.now id }
     ensures order { IfOk result (λ ids. IsOrder store.now (id ∷ []) ids.items) }
     ensures nodes { AreNodes store.now }
-    ensures memory { IfErr result (λ e. e ≡ FormError.Memory) }
 {
     match store.subformulas(id) {
         Ok(ids) => Ok(ids),
-        Err(_) => Err(FormError::Memory),
+        Err(_) => Err(AllocError),
     }
 }
 
-/// The sizes of the plain forms of a formula and of all that stand in it. Its only error is `Memory`.
+/// The sizes of the plain forms of a formula and of all that stand in it.
 pub(crate) fn all_sizes(
     alloc: Global,
     store: &Store,
-    form: Form,
+    inner: Junction,
     id: FormulaId,
-) -> Result<Table, FormError>
+) -> Result<Table, AllocError>
     requires { IsId store.now id }
-    ensures told { IfOk result (IsTold (inner form) store.now) }
+    ensures told { IfOk result (IsTold inner store.now) }
     ensures there { IfOk result (λ table. IsThere table id) }
-    ensures memory { IfErr result (λ e. e ≡ FormError.Memory) }
 {
     let ids = subformulas(store, id)?;
     let mut table = HashMap::new(alloc);
     for id in &ids {
-        let sizes = node_sizes(store, form, *id, &table);
-        table.insert(*id, sizes).map_err(|_| FormError::Memory)?;
+        let sizes = node_sizes(store, inner, *id, &table);
+        table.insert(*id, sizes)?;
     }
     Ok(table)
 }

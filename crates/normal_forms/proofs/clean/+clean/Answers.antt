@@ -4,7 +4,6 @@ use Rattle.formula_store.specs.declared.id.FormulaId.{FormulaId}
 use Rattle.formula_store.specs.Nodes.{tree, IsId}
 use Rattle.formula_store.proofs.Marked.{all_at}
 use Rattle.clean_forms.specs.Laws.{IsDistributable}
-use Rattle.normal_forms.specs.Forms.{inner}
 use Rattle.normal_forms.proofs.Grown.{keeps_then, line_ids_stay}
 use Rattle.normal_forms.proofs.Parts.{member_step}
 use Rattle.normal_forms.proofs.Tables.{told_stays}
@@ -24,7 +23,7 @@ member_lines-formula_lines-requires t c =
         c.loop-id.invariant.kept.is id old,
         (
           subst (IsDistributable (context_of c.args.context)) (sym (c.loop-id.invariant.kept.same id old)) here,
-          told_stays (inner c.args.form) c.args.store.now c.loop-id.store c.args.table.now c.loop-id.invariant.kept c.requires.told,
+          told_stays c.args.inner c.args.store.now c.loop-id.store c.args.table.now c.loop-id.invariant.kept c.requires.told,
         ),
       ),
     )
@@ -48,6 +47,6 @@ member_lines-loop-id-preserved t c =
     let old : IsId c.args.store.now id = omega arith in
     record {
       kept = keeps_then c.args.store.now c.loop-id.store c.joined.new.store c.loop-id.invariant.kept (keeps_then c.loop-id.store c.formula_lines.new.store c.joined.new.store c.formula_lines.ensures.kept c.joined.ensures.kept);
-      so_far = member_step (context_of c.args.context) (inner c.args.form) c.args.each_with_each c.args.store.now c.loop-id.store c.formula_lines.new.store c.joined.new.store c.args.ids.now c.loop-id.id-index d c.loop-id.lines.items
+      so_far = member_step (context_of c.args.context) c.args.inner c.args.each_with_each c.args.store.now c.loop-id.store c.formula_lines.new.store c.joined.new.store c.args.ids.now c.loop-id.id-index d c.loop-id.lines.items
           c.in_ok-more.more.items c.in_ok-lines-2.lines.items c.loop-id-test.true c.loop-id.invariant.kept old c.formula_lines.ensures.kept c.loop-id.invariant.so_far c.in_ok-more.ensures.lines c.in_ok-lines-2.ensures.joined;
     }

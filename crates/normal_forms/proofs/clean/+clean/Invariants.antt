@@ -6,7 +6,6 @@ use Rattle.formula_store.specs.Nodes.{IsId, tree}
 use Rattle.simplified_formulas.specs.AtomKit.{atom_kit}
 use Rattle.clean_forms.specs.Plain.{of_none}
 use Rattle.clean_forms.specs.Lines.{more_clean_lines}
-use Rattle.normal_forms.specs.Forms.{inner}
 use Rattle.normal_forms.specs.Atoms.{AreLines}
 use Rattle.normal_forms.proofs.clean.+clean.Given as goal
 
@@ -19,5 +18,5 @@ decreases-member_lines l = 2 * l.above.number
 abbrev pub invariant-member_lines-loop-id : goal.invariant-member_lines-loop-id
 invariant-member_lines-loop-id l = record {
   kept : Keeps (IsId l.initial.store) (tree l.initial.store) (IsId l.store) (tree l.store);
-  so_far : AreLines (context_of l.context) l.store (more_clean_lines (atom_kit (context_of l.context)) (inner l.form) l.each_with_each (of_none l.each_with_each) (members (map (tree l.initial.store) (take l.id-index l.ids)))) l.lines.items;
+  so_far : AreLines (context_of l.context) l.store (more_clean_lines (atom_kit (context_of l.context)) l.inner l.each_with_each (of_none l.each_with_each) (members (map (tree l.initial.store) (take l.id-index l.ids)))) l.lines.items;
 }

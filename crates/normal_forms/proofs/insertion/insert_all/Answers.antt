@@ -3,7 +3,6 @@ use Rattle.atom_normal.specs.Atoms.{context_of}
 use Rattle.formula_store.specs.declared.id.FormulaId.{FormulaId}
 use Rattle.simplified_formulas.specs.AtomKit.{atom_kit}
 use Rattle.clean_forms.specs.Lines.{insert_into}
-use Rattle.normal_forms.specs.Forms.{inner}
 use Rattle.normal_forms.specs.Atoms.{atom_at, atoms, IsLineIf}
 use Rattle.normal_forms.proofs.Grown.{keeps_then}
 use Rattle.normal_forms.proofs.Inserted.{all_step, all_void}
@@ -15,9 +14,9 @@ returns-in_err-line-clause-kept c = keeps_then c.args.store.now c.loop-atom.stor
 pub returns-in-None-clause-inserted : goal.returns-in-None-clause-inserted
 returns-in-None-clause-inserted c =
     let d : FormulaId = record { number = 0 } in
-    let none = subst (λ (r : Option (List FormulaId)). IsLineIf (context_of c.args.context) c.insert.new.store (insert_into (atom_kit (context_of c.args.context)) (inner c.args.form) (atom_at c.loop-atom.store (get_or c.args.others.now c.loop-atom.atom-index d)) (Some (atoms c.loop-atom.store c.loop-atom.longer))) r) c.in-None.is c.in_ok-line.ensures.inserted in
-    all_void (context_of c.args.context) (inner c.args.form) c.args.store.now c.insert.new.store (Some (atoms c.args.store.now c.args.line)) c.args.others.now (c.loop-atom.atom-index + 1)
-    (all_step (context_of c.args.context) (inner c.args.form) c.args.store.now c.loop-atom.store c.insert.new.store (Some (atoms c.args.store.now c.args.line)) c.args.others.now c.loop-atom.atom-index d c.loop-atom.longer
+    let none = subst (λ (r : Option (List FormulaId)). IsLineIf (context_of c.args.context) c.insert.new.store (insert_into (atom_kit (context_of c.args.context)) c.args.inner (atom_at c.loop-atom.store (get_or c.args.others.now c.loop-atom.atom-index d)) (Some (atoms c.loop-atom.store c.loop-atom.longer))) r) c.in-None.is c.in_ok-line.ensures.inserted in
+    all_void (context_of c.args.context) c.args.inner c.args.store.now c.insert.new.store (Some (atoms c.args.store.now c.args.line)) c.args.others.now (c.loop-atom.atom-index + 1)
+    (all_step (context_of c.args.context) c.args.inner c.args.store.now c.loop-atom.store c.insert.new.store (Some (atoms c.args.store.now c.args.line)) c.args.others.now c.loop-atom.atom-index d c.loop-atom.longer
     c.loop-atom-test.true c.requires.others c.loop-atom.invariant.kept c.loop-atom.invariant.so_far None none)
 
 pub returns-in-None-clause-kept : goal.returns-in-None-clause-kept
@@ -26,9 +25,9 @@ returns-in-None-clause-kept c = keeps_then c.args.store.now c.loop-atom.store c.
 pub loop-atom-preserved : goal.loop-atom-preserved
 loop-atom-preserved c =
     let d : FormulaId = record { number = 0 } in
-    let some = subst (λ (r : Option (List FormulaId)). IsLineIf (context_of c.args.context) c.insert.new.store (insert_into (atom_kit (context_of c.args.context)) (inner c.args.form) (atom_at c.loop-atom.store (get_or c.args.others.now c.loop-atom.atom-index d)) (Some (atoms c.loop-atom.store c.loop-atom.longer))) r) c.in-Some.is c.in_ok-line.ensures.inserted in
+    let some = subst (λ (r : Option (List FormulaId)). IsLineIf (context_of c.args.context) c.insert.new.store (insert_into (atom_kit (context_of c.args.context)) c.args.inner (atom_at c.loop-atom.store (get_or c.args.others.now c.loop-atom.atom-index d)) (Some (atoms c.loop-atom.store c.loop-atom.longer))) r) c.in-Some.is c.in_ok-line.ensures.inserted in
     record {
       kept = keeps_then c.args.store.now c.loop-atom.store c.insert.new.store c.loop-atom.invariant.kept c.insert.ensures.kept;
-      so_far = all_step (context_of c.args.context) (inner c.args.form) c.args.store.now c.loop-atom.store c.insert.new.store (Some (atoms c.args.store.now c.args.line)) c.args.others.now c.loop-atom.atom-index d c.loop-atom.longer
+      so_far = all_step (context_of c.args.context) c.args.inner c.args.store.now c.loop-atom.store c.insert.new.store (Some (atoms c.args.store.now c.args.line)) c.args.others.now c.loop-atom.atom-index d c.loop-atom.longer
           c.loop-atom-test.true c.requires.others c.loop-atom.invariant.kept c.loop-atom.invariant.so_far (Some c.in-Some.line) some;
     }

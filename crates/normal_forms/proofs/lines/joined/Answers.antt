@@ -3,15 +3,14 @@ use Rattle.atom_normal.specs.Atoms.{context_of}
 use Rattle.formula_store.specs.declared.id.FormulaId.{FormulaId}
 use Rattle.simplified_formulas.specs.AtomKit.{atom_kit}
 use Rattle.clean_forms.specs.Lines.{joined_lines}
-use Rattle.normal_forms.specs.Forms.{inner}
 use Rattle.normal_forms.specs.Atoms.{lines, AreLines}
 use Rattle.normal_forms.proofs.LineSteps.{all_added}
 use Rattle.normal_forms.proofs.lines.joined.Goals as goal
 
 pub returns-clause-joined : goal.returns-clause-joined
 returns-clause-joined c =
-    subst (λ (b : Bool). AreLines (context_of c.args.context) c.args.store.now (joined_lines (atom_kit (context_of c.args.context)) (inner c.args.form) b (lines c.args.store.now c.args.lines.items) (lines c.args.store.now c.args.more.items)) c.add_all.new.lines.items)
+    subst (λ (b : Bool). AreLines (context_of c.args.context) c.args.store.now (joined_lines (atom_kit (context_of c.args.context)) c.args.inner b (lines c.args.store.now c.args.lines.items) (lines c.args.store.now c.args.more.items)) c.add_all.new.lines.items)
     (sym c.if-each_with_each.false)
-    (subst (λ (ls : List (List FormulaId)). AreLines (context_of c.args.context) c.args.store.now (joined_lines (atom_kit (context_of c.args.context)) (inner c.args.form) false (lines c.args.store.now c.args.lines.items) (lines c.args.store.now c.args.more.items)) ls)
+    (subst (λ (ls : List (List FormulaId)). AreLines (context_of c.args.context) c.args.store.now (joined_lines (atom_kit (context_of c.args.context)) c.args.inner false (lines c.args.store.now c.args.lines.items) (lines c.args.store.now c.args.more.items)) ls)
     (sym c.in_ok-add_all.ensures.added)
-    (all_added (context_of c.args.context) (inner c.args.form) c.args.store.now c.len-nodes.ensures.nodes c.args.lines.items c.args.more.items c.requires.lines c.requires.more))
+    (all_added (context_of c.args.context) c.args.inner c.args.store.now c.len-nodes.ensures.nodes c.args.lines.items c.args.more.items c.requires.lines c.requires.more))

@@ -4,12 +4,11 @@ use Rattle.formula_tree.specs.Makers.{Keeps}
 use Rattle.formula_store.specs.Nodes.{IsId, tree}
 use Rattle.simplified_formulas.specs.AtomKit.{atom_kit}
 use Rattle.clean_forms.specs.Lines.{add_products}
-use Rattle.normal_forms.specs.Forms.{inner}
 use Rattle.normal_forms.specs.Atoms.{lines, AreLines}
 use Rattle.normal_forms.proofs.lines.products.Given as goal
 
 abbrev pub invariant-loop-line : goal.invariant-loop-line
 invariant-loop-line l = record {
   kept : Keeps (IsId l.initial.store) (tree l.initial.store) (IsId l.store) (tree l.store);
-  so_far : AreLines (context_of l.context) l.store (add_products (atom_kit (context_of l.context)) (inner l.form) [] (lines l.initial.store (take l.line-index l.line-items)) (lines l.initial.store l.others.items)) l.lines.items;
+  so_far : AreLines (context_of l.context) l.store (add_products (atom_kit (context_of l.context)) l.inner [] (lines l.initial.store (take l.line-index l.line-items)) (lines l.initial.store l.others.items)) l.lines.items;
 }

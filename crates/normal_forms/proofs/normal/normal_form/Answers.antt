@@ -2,20 +2,14 @@ use Rattle.std.proofs.Common.{◌≤◌, ℕ, ◌∙◌, sym, subst}
 use Rattle.formula_meaning.specs.Sizes.{nodes}
 use Rattle.formula_meaning.specs.Tree.{Tree, Equivalent, IsFree}
 use Rattle.atom_normal.specs.Atoms.{context_of}
-use Rattle.formula_tree.specs.Makers.{IsMade}
-use Rattle.formula_store.specs.declared.id.FormulaId.{FormulaId}
-use Rattle.formula_store.specs.Nodes.{tree, IsId}
+use Rattle.formula_store.specs.Nodes.{tree}
 use Rattle.simplified_formulas.specs.Trees.{IsSimplifiable}
-use Rattle.clean_forms.specs.Ways.{form_of_lines}
-use Rattle.clean_forms.specs.Plain.{plain_form, literals}
+use Rattle.clean_forms.specs.Plain.{plain_form}
 use Rattle.clean_forms.specs.Clean.{IsCleanForm}
 use Rattle.clean_forms.specs.Laws.{IsDistributable, IsNoLonger}
 use Rattle.clean_forms.proofs.TreeLaws.{is_clean, keeps_truth, keeps_shape, brings_no_name, brings_no_node, lengthens_no_text}
-use Rattle.normal_forms.specs.Forms.{inner}
-use Rattle.normal_forms.specs.Atoms.{lines}
 use Rattle.normal_forms.proofs.Grown.{keeps_then}
-use Rattle.normal_forms.proofs.Parts.{if_ok}
-use Rattle.normal_forms.proofs.Formed.{free_told, clean_made, few_places, on_any}
+use Rattle.normal_forms.proofs.Formed.{free_told, clean_made, few_places}
 use Rattle.normal_forms.proofs.normal.normal_form.Goals as goal
 
 pub formula_lines-requires-clause-distributable : goal.formula_lines-requires-clause-distributable
@@ -26,15 +20,14 @@ returns-then-limit-places-clause-nodes c e =
     let f : Tree = tree c.args.store.now c.args.id in
     let d : IsDistributable (context_of c.args.context) f = record { orderly = c.requires.orderly; free = free_told f (sym c.facts.ensures.facts.quantified_is ∙ c.if-facts.false) } in
     let same = c.table_sizes-places.ensures ∙ c.in_ok-table.ensures.told.told c.args.id c.in_ok-table.ensures.there in
-    (few_places (context_of c.args.context) (inner c.args.form) f c.table_sizes-places.result d same c.args.limit).0 c.if-limit-places.true
+    (few_places (context_of c.args.context) c.args.inner f c.table_sizes-places.result d same c.args.limit).0 c.if-limit-places.true
 
 pub returns-clause-limited : goal.returns-clause-limited
 returns-clause-limited c =
     let f : Tree = tree c.args.store.now c.args.id in
     let d : IsDistributable (context_of c.args.context) f = record { orderly = c.requires.orderly; free = free_told f (sym c.facts.ensures.facts.quantified_is ∙ c.if-facts.false) } in
     let same = c.table_sizes-places.ensures ∙ c.in_ok-table.ensures.told.told c.args.id c.in_ok-table.ensures.there in
-    on_any (literals (inner c.args.form) f ≤ c.args.limit) c.lines_form.result
-    ((few_places (context_of c.args.context) (inner c.args.form) f c.table_sizes-places.result d same c.args.limit).1 c.if-limit-places.false c.if-places.false)
+    (few_places (context_of c.args.context) c.args.inner f c.table_sizes-places.result d same c.args.limit).1 c.if-limit-places.false c.if-places.false
 
 pub returns-clause-kept : goal.returns-clause-kept
 returns-clause-kept c = keeps_then c.args.store.now c.formula_lines.new.store c.lines_form.new.store c.formula_lines.ensures.kept c.lines_form.ensures.kept
@@ -42,65 +35,62 @@ returns-clause-kept c = keeps_then c.args.store.now c.formula_lines.new.store c.
 pub returns-clause-clean : goal.returns-clause-clean
 returns-clause-clean c =
     let ctx = context_of c.args.context in
-    let j = inner c.args.form in
+    let j = c.args.inner in
     let f : Tree = tree c.args.store.now c.args.id in
     let new = c.lines_form.new.store in
     let mid = c.formula_lines.new.store in
     let d : IsDistributable (context_of c.args.context) (tree c.args.store.now c.args.id) = record { orderly = c.requires.orderly; free = free_told (tree c.args.store.now c.args.id) (sym c.facts.ensures.facts.quantified_is ∙ c.if-facts.false) } in
-    if_ok (λ (r : FormulaId). IsMade (IsId new) (tree new) r (form_of_lines j (lines mid c.in_ok-lines.lines.items))) (λ (r : FormulaId). IsCleanForm ctx j (tree new r)) c.lines_form.result c.lines_form.ensures.made
-    (λ r m. subst (λ (g : Tree). IsCleanForm ctx j g) (clean_made ctx j f mid new c.in_ok-lines.lines.items r c.in_ok-lines.ensures.lines m) (is_clean ctx j f d))
+    subst (λ (g : Tree). IsCleanForm ctx j g) (clean_made ctx j f mid new c.in_ok-lines.lines.items c.in_ok-lines_form.field-0 c.in_ok-lines.ensures.lines c.in_ok-lines_form.ensures.made) (is_clean ctx j f d)
 
 pub returns-clause-truth : goal.returns-clause-truth
 returns-clause-truth c =
     let ctx = context_of c.args.context in
-    let j = inner c.args.form in
+    let j = c.args.inner in
     let f : Tree = tree c.args.store.now c.args.id in
     let new = c.lines_form.new.store in
     let mid = c.formula_lines.new.store in
     let d : IsDistributable (context_of c.args.context) (tree c.args.store.now c.args.id) = record { orderly = c.requires.orderly; free = free_told (tree c.args.store.now c.args.id) (sym c.facts.ensures.facts.quantified_is ∙ c.if-facts.false) } in
-    if_ok (λ (r : FormulaId). IsMade (IsId new) (tree new) r (form_of_lines j (lines mid c.in_ok-lines.lines.items))) (λ (r : FormulaId). Equivalent ctx (tree new r) f) c.lines_form.result c.lines_form.ensures.made
-    (λ r m. subst (λ (g : Tree). Equivalent ctx g f) (clean_made ctx j f mid new c.in_ok-lines.lines.items r c.in_ok-lines.ensures.lines m) (keeps_truth ctx j f d))
+    subst (λ (g : Tree). Equivalent ctx g f) (clean_made ctx j f mid new c.in_ok-lines.lines.items c.in_ok-lines_form.field-0 c.in_ok-lines.ensures.lines c.in_ok-lines_form.ensures.made) (keeps_truth ctx j f d)
 
 pub returns-clause-names : goal.returns-clause-names
 returns-clause-names c =
     let ctx = context_of c.args.context in
-    let j = inner c.args.form in
+    let j = c.args.inner in
     let f : Tree = tree c.args.store.now c.args.id in
     let new = c.lines_form.new.store in
     let mid = c.formula_lines.new.store in
     let d : IsDistributable (context_of c.args.context) (tree c.args.store.now c.args.id) = record { orderly = c.requires.orderly; free = free_told (tree c.args.store.now c.args.id) (sym c.facts.ensures.facts.quantified_is ∙ c.if-facts.false) } in
-    if_ok (λ (r : FormulaId). IsMade (IsId new) (tree new) r (form_of_lines j (lines mid c.in_ok-lines.lines.items))) (λ (r : FormulaId). (x : ℕ) → IsFree (tree new r) x → IsFree f x) c.lines_form.result c.lines_form.ensures.made
-    (λ r m. subst (λ (g : Tree). (x : ℕ) → IsFree g x → IsFree f x) (clean_made ctx j f mid new c.in_ok-lines.lines.items r c.in_ok-lines.ensures.lines m) (brings_no_name ctx j f d))
+    subst (λ (g : Tree). (x : ℕ) → IsFree g x → IsFree f x) (clean_made ctx j f mid new c.in_ok-lines.lines.items c.in_ok-lines_form.field-0 c.in_ok-lines.ensures.lines c.in_ok-lines_form.ensures.made) (brings_no_name ctx j f d)
 
 pub returns-clause-orderly : goal.returns-clause-orderly
 returns-clause-orderly c =
     let ctx = context_of c.args.context in
-    let j = inner c.args.form in
+    let j = c.args.inner in
     let f : Tree = tree c.args.store.now c.args.id in
     let new = c.lines_form.new.store in
     let mid = c.formula_lines.new.store in
     let d : IsDistributable (context_of c.args.context) (tree c.args.store.now c.args.id) = record { orderly = c.requires.orderly; free = free_told (tree c.args.store.now c.args.id) (sym c.facts.ensures.facts.quantified_is ∙ c.if-facts.false) } in
-    if_ok (λ (r : FormulaId). IsMade (IsId new) (tree new) r (form_of_lines j (lines mid c.in_ok-lines.lines.items))) (λ (r : FormulaId). IsSimplifiable ctx (tree new r)) c.lines_form.result c.lines_form.ensures.made
-    (λ r m. subst (λ (g : Tree). IsSimplifiable ctx g) (clean_made ctx j f mid new c.in_ok-lines.lines.items r c.in_ok-lines.ensures.lines m) ((keeps_shape ctx j f d).orderly))
+    subst (λ (g : Tree). IsSimplifiable ctx g) (clean_made ctx j f mid new c.in_ok-lines.lines.items c.in_ok-lines_form.field-0 c.in_ok-lines.ensures.lines c.in_ok-lines_form.ensures.made) ((keeps_shape ctx j f d).orderly)
 
 pub returns-clause-nodes_within : goal.returns-clause-nodes_within
 returns-clause-nodes_within c =
     let ctx = context_of c.args.context in
-    let j = inner c.args.form in
+    let j = c.args.inner in
     let f : Tree = tree c.args.store.now c.args.id in
     let new = c.lines_form.new.store in
     let mid = c.formula_lines.new.store in
     let d : IsDistributable (context_of c.args.context) (tree c.args.store.now c.args.id) = record { orderly = c.requires.orderly; free = free_told (tree c.args.store.now c.args.id) (sym c.facts.ensures.facts.quantified_is ∙ c.if-facts.false) } in
-    if_ok (λ (r : FormulaId). IsMade (IsId new) (tree new) r (form_of_lines j (lines mid c.in_ok-lines.lines.items))) (λ (r : FormulaId). nodes (tree new r) ≤ nodes (plain_form j f)) c.lines_form.result c.lines_form.ensures.made
-    (λ r m. subst (λ (g : Tree). nodes g ≤ nodes (plain_form j f)) (clean_made ctx j f mid new c.in_ok-lines.lines.items r c.in_ok-lines.ensures.lines m) (brings_no_node ctx j f d))
+    subst (λ (g : Tree). nodes g ≤ nodes (plain_form j f)) (clean_made ctx j f mid new c.in_ok-lines.lines.items c.in_ok-lines_form.field-0 c.in_ok-lines.ensures.lines c.in_ok-lines_form.ensures.made) (brings_no_node ctx j f d)
 
 pub returns-clause-text_within : goal.returns-clause-text_within
 returns-clause-text_within c =
     let ctx = context_of c.args.context in
-    let j = inner c.args.form in
+    let j = c.args.inner in
     let f : Tree = tree c.args.store.now c.args.id in
     let new = c.lines_form.new.store in
     let mid = c.formula_lines.new.store in
     let d : IsDistributable (context_of c.args.context) (tree c.args.store.now c.args.id) = record { orderly = c.requires.orderly; free = free_told (tree c.args.store.now c.args.id) (sym c.facts.ensures.facts.quantified_is ∙ c.if-facts.false) } in
-    if_ok (λ (r : FormulaId). IsMade (IsId new) (tree new) r (form_of_lines j (lines mid c.in_ok-lines.lines.items))) (λ (r : FormulaId). IsNoLonger (tree new r) (plain_form j f) f) c.lines_form.result c.lines_form.ensures.made
-    (λ r m. subst (λ (g : Tree). IsNoLonger g (plain_form j f) f) (clean_made ctx j f mid new c.in_ok-lines.lines.items r c.in_ok-lines.ensures.lines m) (lengthens_no_text ctx j f d))
+    subst (λ (g : Tree). IsNoLonger g (plain_form j f) f) (clean_made ctx j f mid new c.in_ok-lines.lines.items c.in_ok-lines_form.field-0 c.in_ok-lines.ensures.lines c.in_ok-lines_form.ensures.made) (lengthens_no_text ctx j f d)
+
+pub returns-in_err-lines_form-clause-kept : goal.returns-in_err-lines_form-clause-kept
+returns-in_err-lines_form-clause-kept c = keeps_then c.args.store.now c.formula_lines.new.store c.lines_form.new.store c.formula_lines.ensures.kept c.lines_form.ensures.kept

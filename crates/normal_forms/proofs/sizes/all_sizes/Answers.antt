@@ -7,7 +7,6 @@ use Rattle.formula_store.specs.declared.id.FormulaId.{FormulaId}
 use Rattle.formula_store.specs.Order.{IsOrder, itself}
 use Rattle.formula_store.proofs.Before.{each_id, members_before, among_all}
 use Rattle.formula_store.proofs.Marked.{all_on, all_joined}
-use Rattle.normal_forms.specs.Forms.{inner}
 use Rattle.normal_forms.specs.Atoms.{same_id}
 use Rattle.normal_forms.specs.Sizes.{IsThere}
 use Rattle.normal_forms.proofs.Tables.{there_now, there_more, told_more}
@@ -32,7 +31,7 @@ loop-id-preserved c =
     let id : FormulaId = get_or ids c.loop-id.id-index (record { number = 0 }) in
     let front : List FormulaId = take c.loop-id.id-index ids in
     let nodes = c.args.store.now in
-    let j = inner c.args.form in
+    let j = c.args.inner in
     let o = subst (λ (l : List FormulaId). IsOrder c.args.store.now (c.args.id ∷ []) l) (sym c.deref-id-items.ensures.value) c.in_ok-ids.ensures.order in
     let is = each_id c.args.store.now c.subformulas.ensures.nodes (c.args.id ∷ []) ids o (c.requires, tt) c.loop-id.id-index (record { number = 0 }) c.loop-id-test.true in
     let put : Updates same_id c.loop-id.table c.insert.new.self id (Some c.node_sizes-sizes.result) = search rules in

@@ -7,7 +7,6 @@ use Rattle.formula_store.specs.declared.id.FormulaId.{FormulaId}
 use Rattle.formula_store.specs.Nodes.{tree}
 use Rattle.clean_forms.specs.Ways.{is_same}
 use Rattle.clean_forms.specs.Counts.{nothing_sizes, sizes}
-use Rattle.normal_forms.specs.Forms.{inner}
 use Rattle.normal_forms.specs.Sizes.{capped, all_joined, sizes_at, IsThere}
 use Rattle.normal_forms.proofs.Tables.{list_told}
 use Rattle.normal_forms.proofs.sizes.node_sizes.Goals as goal
@@ -24,16 +23,16 @@ together-requires-in-Or c =
 
 pub returns-in-And : goal.returns-in-And
 returns-in-And c =
-    let b = c.conjunctions_inside-in-And.result in
+    let b = c.is_inner-in-And.result in
     let known = subst (λ (n : Shape FormulaId). AllIds (IsThere c.args.table.now) n) c.in-And.is (c.requires.members c.shape.result.now c.shape.ensures.node) in
     c.together.ensures ∙ ap (λ (ids : List FormulaId). all_joined b (capped (nothing_sizes b)) (map (sizes_at c.args.table.now) ids)) c.items.ensures
-    ∙ list_told (inner c.args.form) c.args.store.now c.args.table.now c.requires.told c.in-And.ids known (is_same (inner c.args.form) Conjunction) b c.conjunctions_inside-in-And.ensures
-    ∙ ap (λ f. capped (sizes (inner c.args.form) f)) (sym (c.shape.ensures.tree ∙ ap (tree_over (tree c.args.store.now)) c.in-And.is))
+    ∙ list_told c.args.inner c.args.store.now c.args.table.now c.requires.told c.in-And.ids known (is_same c.args.inner Conjunction) b c.is_inner-in-And.ensures
+    ∙ ap (λ f. capped (sizes c.args.inner f)) (sym (c.shape.ensures.tree ∙ ap (tree_over (tree c.args.store.now)) c.in-And.is))
 
 pub returns-in-Or : goal.returns-in-Or
 returns-in-Or c =
-    let b = c.disjunctions_inside-in-Or.result in
+    let b = c.is_inner-in-Or.result in
     let known = subst (λ (n : Shape FormulaId). AllIds (IsThere c.args.table.now) n) c.in-Or.is (c.requires.members c.shape.result.now c.shape.ensures.node) in
     c.together-in-Or.ensures ∙ ap (λ (ids : List FormulaId). all_joined b (capped (nothing_sizes b)) (map (sizes_at c.args.table.now) ids)) c.items-in-Or.ensures
-    ∙ list_told (inner c.args.form) c.args.store.now c.args.table.now c.requires.told c.in-Or.ids known (is_same (inner c.args.form) Disjunction) b c.disjunctions_inside-in-Or.ensures
-    ∙ ap (λ f. capped (sizes (inner c.args.form) f)) (sym (c.shape.ensures.tree ∙ ap (tree_over (tree c.args.store.now)) c.in-Or.is))
+    ∙ list_told c.args.inner c.args.store.now c.args.table.now c.requires.told c.in-Or.ids known (is_same c.args.inner Disjunction) b c.is_inner-in-Or.ensures
+    ∙ ap (λ f. capped (sizes c.args.inner f)) (sym (c.shape.ensures.tree ∙ ap (tree_over (tree c.args.store.now)) c.in-Or.is))
