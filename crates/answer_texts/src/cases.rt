@@ -7,7 +7,7 @@ ghost use Rattle.answer_texts.specs.Within.{IsCaseWithin, AreCasesWithin};
 
 use crate::answers::put_answers;
 use formula_tree::Names;
-use plain_cases::PlainCase;
+use plain_cases::PrintedCase;
 use redlog_printer::{Output, PrintError, put_tree};
 use std::alloc::Global;
 
@@ -16,7 +16,7 @@ fn put_case(
     out: &mut Output,
     names: &Names,
     before: &[u8],
-    case: &PlainCase,
+    case: &PrintedCase,
 ) -> Result<(), PrintError>
     requires { IsCaseWithin (length names.now) (case_seen case.now) }
     ensures wrote { OnOk result (out.new ≡ out.old ++ (before.now ++ case_text names.now (case_seen case.now))) }
@@ -31,7 +31,7 @@ fn put_case(
 }
 
 // The cases with commas between them.
-fn put_cases(out: &mut Output, names: &Names, cases: &[PlainCase]) -> Result<(), PrintError>
+fn put_cases(out: &mut Output, names: &Names, cases: &[PrintedCase]) -> Result<(), PrintError>
     requires { AreCasesWithin (length names.now) (map case_seen cases.now) }
     ensures wrote { OnOk result (out.new ≡ out.old ++ separated [] (map (case_text names.now) (map case_seen cases.now))) }
     ensures long { IsErrOf result PrintError.Text → text_limit < length out.old + length (separated [] (map (case_text names.now) (map case_seen cases.now))) }
@@ -45,7 +45,7 @@ fn put_cases(out: &mut Output, names: &Names, cases: &[PlainCase]) -> Result<(),
 }
 
 // The cases in braces.
-fn put_list(out: &mut Output, names: &Names, cases: &[PlainCase]) -> Result<(), PrintError>
+fn put_list(out: &mut Output, names: &Names, cases: &[PrintedCase]) -> Result<(), PrintError>
     requires { AreCasesWithin (length names.now) (map case_seen cases.now) }
     ensures wrote { OnOk result (out.new ≡ out.old ++ cases_text names.now (map case_seen cases.now)) }
     ensures long { IsErrOf result PrintError.Text → text_limit < length out.old + length (cases_text names.now (map case_seen cases.now)) }
@@ -57,7 +57,11 @@ fn put_list(out: &mut Output, names: &Names, cases: &[PlainCase]) -> Result<(), 
 
 /// The text of a case list, where the names of the list are numbered by their places: each case is its guard and the places of its
 /// names, in the order in which they are evaluated. `Text` comes exactly where the text is longer than 32 MiB, else `Memory`.
-pub fn cases_text(alloc: Global, cases: &[PlainCase], names: &Names) -> Result<Vec<u8>, PrintError>
+pub fn cases_text(
+    alloc: Global,
+    cases: &[PrintedCase],
+    names: &Names,
+) -> Result<Vec<u8>, PrintError>
     requires { AreCasesWithin (length names.now) (map case_seen cases.now) }
     ensures text { IfOk result (λ v. v.items ≡ cases_text names.now (map case_seen cases.now)) }
     ensures short { OnOk result (length (cases_text names.now (map case_seen cases.now)) ≤ text_limit) }

@@ -5,7 +5,7 @@ use crate::points::place_text;
 use exact_numbers::Fraction;
 use formula_tree::Tree;
 use linear_forms::VarId;
-use plain_cases::PlainCase;
+use plain_cases::PrintedCase;
 use std::alloc::{AllocError, Global};
 use test_points::TestPoint;
 
@@ -43,7 +43,7 @@ fn leaf_text(alloc: Global, tree: &Tree) -> Result<String, AllocError> {
 }
 
 /// The guards and the answers of the cases.
-pub(crate) fn cases_text(alloc: Global, cases: &[PlainCase]) -> Result<String, AllocError> {
+pub(crate) fn cases_text(alloc: Global, cases: &[PrintedCase]) -> Result<String, AllocError> {
     let mut text = "cases".to_string(alloc)?;
     for case in cases {
         let guard = tree_text(alloc, &case.guard)?;

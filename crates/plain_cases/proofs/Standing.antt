@@ -22,7 +22,7 @@ use Rattle.plain_engine.specs.declared.measured.Measured.{Measured}
 use Rattle.plain_engine.specs.declared.measured.Measured.TheVariants as measured
 use Rattle.plain_engine.specs.Told.{StopsWith, bare, all_bare, formulas_of, seen}
 use Rattle.plain_cases.specs.declared.branch.Leaf.{Leaf}
-use Rattle.plain_cases.specs.declared.cases.PlainCase.{PlainCase}
+use Rattle.plain_cases.specs.declared.cases.PrintedCase.{PrintedCase}
 use Rattle.plain_cases.specs.Stand.{StandsFor, StandFor, IsSound, AreSound, AreInside, TellsOf, Tells}
 use Rattle.plain_cases.specs.Case.{case_seen, leaf_case, HavePoints}
 
@@ -86,10 +86,10 @@ unseen_stops measured.Memory o h = tt
 
 -- ---- cases
 
-pub case_pushed : (ks ms : List PlainCase) (k : PlainCase) → ms ≡ ks ++ k ∷ [] → map case_seen ms ≡ map case_seen ks ++ case_seen k ∷ []
+pub case_pushed : (ks ms : List PrintedCase) (k : PrintedCase) → ms ≡ ks ++ k ∷ [] → map case_seen ms ≡ map case_seen ks ++ case_seen k ∷ []
 case_pushed ks ms k e = ap (map case_seen) e ∙ go ks
   where
-    go : (xs : List PlainCase) → map case_seen (xs ++ k ∷ []) ≡ map case_seen xs ++ case_seen k ∷ []
+    go : (xs : List PrintedCase) → map case_seen (xs ++ k ∷ []) ≡ map case_seen xs ++ case_seen k ∷ []
     go [] = refl
     go (x ∷ xs) = ap (λ ys. case_seen x ∷ ys) (go xs)
 
@@ -101,19 +101,19 @@ leaf_cases (l ∷ ls) [] h = absurd h
 leaf_cases (l ∷ ls) (b ∷ bs) h = λ i. record { guard = h.0.formula i; answers = h.0.answers i } ∷ leaf_cases ls bs h.1 i
 
 -- a leaf becomes a case, after those before it
-pub cases_go_on : (made made2 : List PlainCase) (k : PlainCase) (l : Leaf) (rest : List Leaf) (all : List Case) → map case_seen made ++ map leaf_case (l ∷ rest) ≡ all → tree_of k.guard ≡ nnf_of l.formula → k.answers.items ≡ l.points.items
+pub cases_go_on : (made made2 : List PrintedCase) (k : PrintedCase) (l : Leaf) (rest : List Leaf) (all : List Case) → map case_seen made ++ map leaf_case (l ∷ rest) ≡ all → tree_of k.guard ≡ nnf_of l.formula → k.answers.items ≡ l.points.items
     → made2 ≡ made ++ k ∷ [] → map case_seen made2 ++ map leaf_case rest ≡ all
 cases_go_on made made2 k l rest all w e a m =
     ap (λ ks. ks ++ map leaf_case rest) (case_pushed made made2 k m ∙ (λ i. map case_seen made ++ record { guard = e i; answers = ap (map answer_of) a i } ∷ []))
     ∙ append_assoc (map case_seen made) (leaf_case l ∷ []) (map leaf_case rest) ∙ w
 
-pub cases_end : (made : List PlainCase) (rest : List Leaf) (all : List Case) → map case_seen made ++ map leaf_case rest ≡ all → rest ≡ [] → map case_seen made ≡ all
+pub cases_end : (made : List PrintedCase) (rest : List Leaf) (all : List Case) → map case_seen made ++ map leaf_case rest ≡ all → rest ≡ [] → map case_seen made ≡ all
 cases_end made rest all w e = sym (append-nil (map case_seen made)) ∙ ap (λ ls. map case_seen made ++ map leaf_case ls) (sym e) ∙ w
 
-pub points_pushed : (ks ms : List PlainCase) (k : PlainCase) → HavePoints ks → All IsTestPoint k.answers.items → ms ≡ ks ++ k ∷ [] → HavePoints ms
+pub points_pushed : (ks ms : List PrintedCase) (k : PrintedCase) → HavePoints ks → All IsTestPoint k.answers.items → ms ≡ ks ++ k ∷ [] → HavePoints ms
 points_pushed ks ms k h i e = subst HavePoints (sym e) (go ks h)
   where
-    go : (xs : List PlainCase) → HavePoints xs → HavePoints (xs ++ k ∷ [])
+    go : (xs : List PrintedCase) → HavePoints xs → HavePoints (xs ++ k ∷ [])
     go [] h = (i, tt)
     go (x ∷ xs) h = (h.0, go xs h.1)
 

@@ -5,10 +5,10 @@ use Rattle.formula_tree.specs.Trees.{tree_of}
 use Rattle.nnf_trees.specs.Nnfs.{nnf_of}
 use Rattle.test_points.specs.Points.{answer_of, IsTestPoint}
 use Rattle.plain_cases.specs.declared.branch.Leaf.{Leaf}
-use Rattle.plain_cases.specs.declared.cases.PlainCase.{PlainCase}
+use Rattle.plain_cases.specs.declared.cases.PrintedCase.{PrintedCase}
 
 -- the case
-abbrev pub case_seen : PlainCase → Case
+abbrev pub case_seen : PrintedCase → Case
 case_seen k = record { guard = tree_of k.guard; answers = map answer_of k.answers.items }
 
 -- the case of a leaf: its formula is the guard
@@ -16,6 +16,6 @@ abbrev pub leaf_case : Leaf → Case
 leaf_case l = record { guard = nnf_of l.formula; answers = map answer_of l.points.items }
 
 -- each answer is a well-formed test point
-abbrev pub HavePoints : List PlainCase → Type 0
+abbrev pub HavePoints : List PrintedCase → Type 0
 HavePoints [] = Unit {0}
 HavePoints (k ∷ ks) = All IsTestPoint k.answers.items × HavePoints ks

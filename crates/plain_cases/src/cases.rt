@@ -26,7 +26,7 @@ use test_points::TestPoint;
 
 /// Where the guard is true, the answers make the matrix behind the leading block true.
 #[derive(Drop)]
-pub struct PlainCase {
+pub struct PrintedCase {
     pub guard: Tree,
     pub answers: Vec<TestPoint>,
 }
@@ -43,7 +43,7 @@ pub fn is_asked(f: &Nnf) -> bool
 }
 
 // The leaves as cases.
-fn told(alloc: Global, leaves: Vec<Leaf>) -> Result<Vec<PlainCase>, AllocError>
+fn told(alloc: Global, leaves: Vec<Leaf>) -> Result<Vec<PrintedCase>, AllocError>
     requires { AreSound leaves.items }
     ensures cases { IfOk result (λ v. map case_seen v.items ≡ map leaf_case leaves.items) }
     ensures points { IfOk result (λ v. HavePoints v.items) }
@@ -52,7 +52,7 @@ fn told(alloc: Global, leaves: Vec<Leaf>) -> Result<Vec<PlainCase>, AllocError>
     for leaf in leaves {
         let Leaf { formula, points } = leaf;
         let guard = into_tree(alloc, formula)?;
-        let case = PlainCase {
+        let case = PrintedCase {
             guard,
             answers: points,
         };
@@ -73,7 +73,7 @@ pub fn cases_plain(
     tree: &Tree,
     context: Context,
     limit: u64,
-) -> Result<Vec<PlainCase>, Measured>
+) -> Result<Vec<PrintedCase>, Measured>
     requires moduli { Every HasModulus (tree_of tree.now) }
     requires normal { Every (IsNormal (context_of context)) (tree_of tree.now) }
     ensures cases { IfOk result (λ v. (cost : ℕ) × (reference_cases (context_of context) limit (tree_of tree.now) ≡ done (map case_seen v.items, cost))) }

@@ -7,5 +7,5 @@ mod chain;
 mod step;
 
 pub use branch::{Leaf, without_points};
-pub use cases::{PlainCase, case_leaves, cases_plain, is_asked};
+pub use cases::{PrintedCase, case_leaves, cases_plain, is_asked};
 pub use step::case_steps;

@@ -2,7 +2,7 @@ use Rattle.std.proofs.Common.{rules, ◌≡◌, List, [], ◌∷◌, ◌++◌, m
 use Rattle.formula_tree.specs.Trees.{tree_of}
 use Rattle.nnf_trees.specs.Nnfs.{nnf_of}
 use Rattle.plain_cases.specs.declared.branch.Leaf.{Leaf}
-use Rattle.plain_cases.specs.declared.cases.PlainCase.{PlainCase}
+use Rattle.plain_cases.specs.declared.cases.PrintedCase.{PrintedCase}
 use Rattle.plain_cases.specs.Case.{case_seen, leaf_case}
 use Rattle.plain_cases.specs.Stand.{AreSound}
 use Rattle.plain_cases.proofs.Standing.{cases_go_on, cases_end, points_pushed, nothing}
@@ -12,7 +12,7 @@ pub loop-leaf-preserved : goal.loop-leaf-preserved
 loop-leaf-preserved c =
     let leaf = c.in-Some.leaf in
     let split : c.loop-leaf.leaf-iterator.rest.items ≡ leaf ∷ c.next.new.self.rest.items = search rules in
-    let case : PlainCase = record { guard = c.in_ok-guard.guard; answers = leaf.points } in
+    let case : PrintedCase = record { guard = c.in_ok-guard.guard; answers = leaf.points } in
     let pushed : c.push.new.self.items ≡ c.loop-leaf.cases.items ++ case ∷ [] = search rules in
     let guard : tree_of c.in_ok-guard.guard ≡ nnf_of leaf.formula = search rules in
     let sound : AreSound (leaf ∷ c.next.new.self.rest.items) = subst AreSound split c.loop-leaf.invariant.rest in
