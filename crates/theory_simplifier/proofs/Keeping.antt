@@ -7,6 +7,8 @@ use Rattle.std.specs.declared.result.Result.TheVariants.{Ok, Err}
 use Rattle.std.specs.List.{AllByRecursion}
 use Rattle.formula_meaning.specs.Formula.{One, also}
 use Rattle.formula_meaning.specs.Fold.{from_pieces}
+use Rattle.formula_meaning.specs.declared.junction.Junction.{Junction}
+use Rattle.formula_meaning.specs.declared.junction.Junction.TheVariants.{Conjunction, Disjunction}
 use Rattle.formula_meaning.specs.Atom.{Atom}
 use Rattle.formula_meaning.specs.Tree.{Tree}
 use Rattle.simplified_formulas.specs.Pass.{ones}
@@ -16,9 +18,6 @@ use Rattle.formula_tree.specs.Shapes.{tree_over}
 use Rattle.formula_tree.specs.Trees.{members}
 use Rattle.formula_store.specs.declared.id.FormulaId.{FormulaId}
 use Rattle.formula_store.specs.Nodes.{tree, IsId}
-use Rattle.nnf_trees.specs.declared.nnf.Junction.{Junction}
-use Rattle.nnf_trees.specs.declared.nnf.Junction.TheVariants as junction
-use Rattle.nnf_trees.specs.Nnfs.{junction_of}
 use Rattle.theory_simplifier.specs.declared.joined.Entry.{Entry}
 use Rattle.theory_simplifier.specs.Listed.{entry_atom}
 use Rattle.theory_simplifier.specs.Parts.{one_tree, joined_shape}
@@ -66,8 +65,8 @@ ones_first (u ∷ us) fs = ap (also (One u)) (ones_first us fs)
 pub ones_members : (t : FormulaId → Tree) (ids os : List FormulaId) (us : List Atom) → map t ids ≡ map one_tree us → members (map t (ids ++ os)) ≡ ones us (members (map t os))
 ones_members t ids os us e = ap members (map_append t ids os ∙ ap (λ fs. fs ++ map t os) e) ∙ ones_first us (map t os)
 
-pub whole_joined : (t : FormulaId → Tree) (j : Junction) (ids : List FormulaId) → 1 < length ids → tree_over t (joined_shape j ids) ≡ from_pieces (junction_of j) (Some (members (map t ids)))
+pub whole_joined : (t : FormulaId → Tree) (j : Junction) (ids : List FormulaId) → 1 < length ids → tree_over t (joined_shape j ids) ≡ from_pieces j (Some (members (map t ids)))
 whole_joined t j [] h = absurd (omega arith)
 whole_joined t j (x ∷ []) h = absurd (omega arith)
-whole_joined t junction.And (x ∷ y ∷ ids) h = refl
-whole_joined t junction.Or (x ∷ y ∷ ids) h = refl
+whole_joined t Conjunction (x ∷ y ∷ ids) h = refl
+whole_joined t Disjunction (x ∷ y ∷ ids) h = refl

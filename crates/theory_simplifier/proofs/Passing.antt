@@ -24,9 +24,9 @@ use Rattle.formula_tree.specs.Shapes.{tree_over}
 use Rattle.formula_tree.specs.Trees.{members}
 use Rattle.formula_store.specs.declared.id.FormulaId.{FormulaId}
 use Rattle.formula_store.specs.Nodes.{tree, IsId}
-use Rattle.nnf_trees.specs.declared.nnf.Quantifier.{Quantifier}
-use Rattle.nnf_trees.specs.declared.nnf.Quantifier.TheVariants as quantifier
-use Rattle.nnf_trees.specs.Nnfs.{quantified}
+use Rattle.formula_meaning.specs.Shape.{quantified}
+use Rattle.formula_meaning.specs.declared.quantifier.Quantifier.{Quantifier}
+use Rattle.formula_meaning.specs.declared.quantifier.Quantifier.TheVariants.{Exists, ForAll}
 use Rattle.theory_simplifier.specs.declared.known.Frame.{Frame}
 use Rattle.theory_simplifier.specs.declared.known.Frame.TheVariants.{Beside, Under}
 use Rattle.theory_simplifier.specs.declared.parts.Parts.{Parts}
@@ -133,14 +133,14 @@ module _ (o : Context) where
     inner_same = e ∙ ap (meant.pass (atom_kit o) f) (known_under fs (Under x))
 
     pub stays_quantified : (q : Quantifier) → meant.is_free (atom_kit o) x.number g ≡ true → quantified q x.number g ≡ meant.pass (atom_kit o) (quantified q x.number f) (known_atoms fs)
-    stays_quantified quantifier.Ex h = ap (λ b. meant.quantified (Ex x.number) b g) (sym h) ∙ ap (λ k. meant.quantified (Ex x.number) (meant.is_free (atom_kit o) x.number k) k) inner_same
-    stays_quantified quantifier.All h = ap (λ b. meant.quantified (All x.number) b g) (sym h) ∙ ap (λ k. meant.quantified (All x.number) (meant.is_free (atom_kit o) x.number k) k) inner_same
+    stays_quantified Exists h = ap (λ b. meant.quantified (Ex x.number) b g) (sym h) ∙ ap (λ k. meant.quantified (Ex x.number) (meant.is_free (atom_kit o) x.number k) k) inner_same
+    stays_quantified ForAll h = ap (λ b. meant.quantified (All x.number) b g) (sym h) ∙ ap (λ k. meant.quantified (All x.number) (meant.is_free (atom_kit o) x.number k) k) inner_same
 
     pub loses_quantifier : (q : Quantifier) → meant.is_free (atom_kit o) x.number g ≡ false → g ≡ meant.pass (atom_kit o) (quantified q x.number f) (known_atoms fs)
-    loses_quantifier quantifier.Ex h = ap (λ b. meant.quantified (Ex x.number) b g) (sym h) ∙ ap (λ k. meant.quantified (Ex x.number) (meant.is_free (atom_kit o) x.number k) k) inner_same
-    loses_quantifier quantifier.All h = ap (λ b. meant.quantified (All x.number) b g) (sym h) ∙ ap (λ k. meant.quantified (All x.number) (meant.is_free (atom_kit o) x.number k) k) inner_same
+    loses_quantifier Exists h = ap (λ b. meant.quantified (Ex x.number) b g) (sym h) ∙ ap (λ k. meant.quantified (Ex x.number) (meant.is_free (atom_kit o) x.number k) k) inner_same
+    loses_quantifier ForAll h = ap (λ b. meant.quantified (All x.number) b g) (sym h) ∙ ap (λ k. meant.quantified (All x.number) (meant.is_free (atom_kit o) x.number k) k) inner_same
 
 -- the tree of a quantified formula
 pub over_quantified : (t : FormulaId → Tree) (q : Quantifier) (x : VarId) (id : FormulaId) → tree_over t (quantified_shape q x id) ≡ quantified q x.number (t id)
-over_quantified t quantifier.Ex x id = refl
-over_quantified t quantifier.All x id = refl
+over_quantified t Exists x id = refl
+over_quantified t ForAll x id = refl

@@ -5,6 +5,9 @@ use Rattle.formula_meaning.specs.Context.{Context}
 use Rattle.formula_meaning.specs.Some.{EachOf}
 use Rattle.formula_meaning.specs.Formula.{One, none}
 use Rattle.formula_meaning.specs.declared.junction.Junction.{Junction}
+use Rattle.formula_meaning.specs.declared.junction.Junction.TheVariants.{Conjunction, Disjunction}
+use Rattle.formula_meaning.specs.declared.quantifier.Quantifier.{Quantifier}
+use Rattle.formula_meaning.specs.declared.quantifier.Quantifier.TheVariants.{Exists, ForAll}
 use Rattle.formula_meaning.specs.Atom.{Atom}
 use Rattle.formula_meaning.specs.Tree.{Tree, Trees}
 use Rattle.linear_forms.specs.declared.form.VarId.{VarId}
@@ -16,10 +19,6 @@ use Rattle.formula_tree.specs.declared.shape.Shape.{Shape}
 use Rattle.formula_tree.specs.declared.shape.Shape.TheVariants as shape
 use Rattle.formula_store.specs.declared.id.FormulaId.{FormulaId}
 use Rattle.formula_store.specs.Nodes.{IsId}
-use Rattle.nnf_trees.specs.declared.nnf.Junction as code
-use Rattle.nnf_trees.specs.declared.nnf.Junction.TheVariants as junction
-use Rattle.nnf_trees.specs.declared.nnf.Quantifier.{Quantifier}
-use Rattle.nnf_trees.specs.declared.nnf.Quantifier.TheVariants as quantifier
 use Rattle.theory_simplifier.specs.declared.parts.Parts.{Parts}
 use Rattle.theory_simplifier.specs.declared.parts.Parts.TheVariants.{Closed, Open}
 
@@ -46,14 +45,14 @@ abbrev pub pass_list : Context → Junction → Trees → List Atom → Tree
 pass_list c j fs ks = meant.close j (meant.others (atom_kit c) fs j ks (meant.with_atoms (atom_kit c) j ks fs (meant.Open [] none)))
 
 -- the formulas joined
-abbrev pub joined_shape : {Id : Type 0} → code.Junction → List Id → Shape Id
-joined_shape junction.And ids = shape.And ids
-joined_shape junction.Or ids = shape.Or ids
+abbrev pub joined_shape : {Id : Type 0} → Junction → List Id → Shape Id
+joined_shape Conjunction ids = shape.And ids
+joined_shape Disjunction ids = shape.Or ids
 
 -- the formula under a quantifier
 abbrev pub quantified_shape : {Id : Type 0} → Quantifier → VarId → Id → Shape Id
-quantified_shape quantifier.Ex x f = shape.Ex x f
-quantified_shape quantifier.All x f = shape.All x f
+quantified_shape Exists x f = shape.Ex x f
+quantified_shape ForAll x f = shape.All x f
 
 -- whether the formula is an atom
 abbrev pub is_one : Tree → Bool

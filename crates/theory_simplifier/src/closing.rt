@@ -1,6 +1,6 @@
 //! The formula that a list on the way becomes.
 
-ghost use Rattle.std.specs.Prelude.{◌≡◌, ◌++◌, ◌∷◌, [], Some, map, IfOk, IfErr, length};
+ghost use Rattle.std.specs.Prelude.{◌≡◌, ◌++◌, ◌∷◌, [], Some, map, IfOk, length};
 ghost use Rattle.std.specs.List.{AllByRecursion};
 ghost use Rattle.formula_meaning.specs.Fold.{from_pieces};
 ghost use Rattle.formula_meaning.specs.Formula.{One};
@@ -10,35 +10,31 @@ ghost use Rattle.formula_tree.specs.Makers.{IsMade, Keeps};
 ghost use Rattle.formula_tree.specs.Shapes.{AllIds, IsProperShape, tree_over};
 ghost use Rattle.formula_tree.specs.Trees.{members};
 ghost use Rattle.formula_store.specs.Nodes.{IsId, tree};
-ghost use Rattle.nnf_trees.specs.Nnfs.{junction_of};
 ghost use Rattle.theory_simplifier.specs.Listed.{entry_atom, IsEntry};
 ghost use Rattle.theory_simplifier.specs.Parts.{parts_of, one_tree, HasIds, joined_shape, quantified_shape};
 
-use crate::error::SimplError;
 use crate::joined::Joined;
 use crate::parts::{Parts, settles};
+use formula_meaning::{Junction, Quantifier};
 use formula_store::{FormulaId, Store};
 use formula_tree::{Ids, Maker, Shape};
 use linear_forms::VarId;
-use nnf_trees::{Junction, Quantifier};
-use std::alloc::Global;
+use std::alloc::{AllocError, Global};
 
-/// The formula of this shape. Its only error is `Memory`.
-pub(crate) fn made(store: &mut Store, shape: Shape<FormulaId>) -> Result<FormulaId, SimplError>
+/// The formula of this shape.
+pub(crate) fn made(store: &mut Store, shape: Shape<FormulaId>) -> Result<FormulaId, AllocError>
     requires ids { AllIds (IsId store.old) shape }
     requires proper { IsProperShape shape }
     ensures made { IfOk result (λ id. IsMade (IsId store.new) (tree store.new) id (tree_over (tree store.old) shape)) }
     ensures kept { Keeps (IsId store.old) (tree store.old) (IsId store.new) (tree store.new) }
-    ensures memory { IfErr result (λ e. e ≡ SimplError.Memory) }
 {
-    store.make(shape).map_err(|_| SimplError::Memory)
+    store.make(shape).map_err(|_| AllocError)
 }
 
-/// The constant of this truth. Its only error is `Memory`.
-pub(crate) fn constant(store: &mut Store, truth: bool) -> Result<FormulaId, SimplError>
+/// The constant of this truth.
+pub(crate) fn constant(store: &mut Store, truth: bool) -> Result<FormulaId, AllocError>
     ensures made { IfOk result (λ id. IsMade (IsId store.new) (tree store.new) id (constant truth)) }
     ensures kept { Keeps (IsId store.old) (tree store.old) (IsId store.new) (tree store.new) }
-    ensures memory { IfErr result (λ e. e ≡ SimplError.Memory) }
 {
     if truth {
         made(store, Shape::True)
@@ -52,62 +48,58 @@ pub(crate) fn quantified_over(quantifier: Quantifier, x: VarId, id: FormulaId) -
     ensures { result ≡ quantified_shape quantifier x id }
 {
     match quantifier {
-        Quantifier::Ex => Shape::Ex(x, id),
-        Quantifier::All => Shape::All(x, id),
+        Quantifier::Exists => Shape::Ex(x, id),
+        Quantifier::ForAll => Shape::All(x, id),
     }
 }
 
-/// The list joined; one member stands for the whole. Its only error is `Memory`.
+/// The list joined; one member stands for the whole.
 pub(crate) fn closed(
     alloc: Global,
     store: &mut Store,
     junction: Junction,
     parts: Parts,
-) -> Result<FormulaId, SimplError>
+) -> Result<FormulaId, AllocError>
     requires { HasIds store.old parts }
-    ensures made { IfOk result (λ id. IsMade (IsId store.new) (tree store.new) id (close (junction_of junction) (parts_of (tree store.old) parts))) }
+    ensures made { IfOk result (λ id. IsMade (IsId store.new) (tree store.new) id (close junction (parts_of (tree store.old) parts))) }
     ensures kept { Keeps (IsId store.old) (tree store.old) (IsId store.new) (tree store.new) }
-    ensures memory { IfErr result (λ e. e ≡ SimplError.Memory) }
 {
     let Parts::Open(atoms, others) = parts else {
         return constant(store, settles(junction, true));
     };
     let mut ids = atoms_made(alloc, store, &atoms)?;
-    ids.extend_from_slice(others.items())
-        .map_err(|_| SimplError::Memory)?;
+    ids.extend_from_slice(others.items())?;
     whole(store, junction, ids)
 }
 
-// The atoms as formulas. Its only error is `Memory`.
+// The atoms as formulas.
 fn atoms_made(
     alloc: Global,
     store: &mut Store,
     atoms: &Joined,
-) -> Result<Vec<FormulaId>, SimplError>
+) -> Result<Vec<FormulaId>, AllocError>
     ensures are { IfOk result (λ ids. AllByRecursion (IsId store.new) ids.items) }
     ensures made { IfOk result (λ ids. map (tree store.new) ids.items ≡ map one_tree atoms.now.atoms) }
     ensures kept { Keeps (IsId store.old) (tree store.old) (IsId store.new) (tree store.new) }
-    ensures memory { IfErr result (λ e. e ≡ SimplError.Memory) }
 {
     let mut ids = Vec::new(alloc);
     for entry in atoms.entries() {
-        let atom = entry.atom.copy(alloc).map_err(|_| SimplError::Memory)?;
+        let atom = entry.atom.copy(alloc).map_err(|_| AllocError)?;
         let id = made(store, Shape::One(atom))?;
-        ids.push(id).map_err(|_| SimplError::Memory)?;
+        ids.push(id)?;
     }
     Ok(ids)
 }
 
-// The formulas joined, where one stands for the whole. Its only error is `Memory`.
+// The formulas joined, where one stands for the whole.
 fn whole(
     store: &mut Store,
     junction: Junction,
     ids: Vec<FormulaId>,
-) -> Result<FormulaId, SimplError>
+) -> Result<FormulaId, AllocError>
     requires { AllByRecursion (IsId store.old) ids.items }
-    ensures made { IfOk result (λ id. IsMade (IsId store.new) (tree store.new) id (from_pieces (junction_of junction) (Some (members (map (tree store.old) ids.items))))) }
+    ensures made { IfOk result (λ id. IsMade (IsId store.new) (tree store.new) id (from_pieces junction (Some (members (map (tree store.old) ids.items))))) }
     ensures kept { Keeps (IsId store.old) (tree store.old) (IsId store.new) (tree store.new) }
-    ensures memory { IfErr result (λ e. e ≡ SimplError.Memory) }
 {
     if ids.len() > 1 {
         return made(store, joined(junction, Ids::of(ids)));
@@ -124,7 +116,7 @@ fn joined(junction: Junction, ids: Ids<FormulaId>) -> Shape<FormulaId>
     ensures { result ≡ joined_shape junction ids }
 {
     match junction {
-        Junction::And => Shape::And(ids),
-        Junction::Or => Shape::Or(ids),
+        Junction::Conjunction => Shape::And(ids),
+        Junction::Disjunction => Shape::Or(ids),
     }
 }

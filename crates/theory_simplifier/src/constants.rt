@@ -1,6 +1,6 @@
 //! The constants of atoms, each of which is within the limit, as the program's numbers are.
 
-ghost use Rattle.std.specs.Prelude.{◌≡◌, Some, map, slice_get, OnOk, IfErr};
+ghost use Rattle.std.specs.Prelude.{◌≡◌, Some, map, slice_get, OnOk};
 ghost use Rattle.formula_meaning.specs.Every.{Every};
 ghost use Rattle.formula_meaning.specs.Some.{EachOf};
 ghost use Rattle.atom_normal.specs.Atoms.{atom_of};
@@ -10,20 +10,18 @@ ghost use Rattle.formula_store.specs.declared.id.FormulaId.{FormulaId};
 ghost use Rattle.formula_store.specs.Nodes.{IsId, tree};
 ghost use Rattle.theory_simplifier.specs.Constants.{IsWithin};
 
-use crate::error::SimplError;
 use atom_normal::Atom;
 use formula_store::{FormulaId, Store};
 use formula_tree::Shape;
+use std::alloc::AllocError;
 
-/// Looks at each atom of the formula once: the constants of its atoms are within 2^127 - 1, as all numbers of the program are. Its
-/// only error is `Memory`.
-pub fn see_formula(store: &Store, id: FormulaId) -> Result<(), SimplError>
+/// Looks at each atom of the formula once: the constants of its atoms are within 2^127 - 1, as all numbers of the program are.
+pub fn see_formula(store: &Store, id: FormulaId) -> Result<(), AllocError>
     requires { IsId store.now id }
     ensures within { OnOk result (Every IsWithin (tree store.now id)) }
-    ensures memory { IfErr result (λ e. e ≡ SimplError.Memory) }
 {
     let Ok(ids) = store.subformulas(id) else {
-        return Err(SimplError::Memory);
+        return Err(AllocError);
     };
     for id in &ids {
         see_top(store, *id);

@@ -1,3 +1,7 @@
+ghost use Rattle.std.specs.Prelude.{◌≡◌};
+ghost use Rattle.theory_simplifier.specs.declared.error.SimplError.TheVariants.{Memory};
+
+use std::alloc::AllocError;
 use thiserror::Error;
 
 /// Why a formula was not simplified.
@@ -9,4 +13,12 @@ pub enum SimplError {
     /// There is no memory left.
     #[error("out of memory")]
     Memory,
+}
+
+impl From<AllocError> for SimplError {
+    ghost from_gives = { λ _ e. e ≡ Memory };
+
+    fn from(_error: AllocError) -> SimplError {
+        SimplError::Memory
+    }
 }

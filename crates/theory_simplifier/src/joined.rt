@@ -1,6 +1,6 @@
 //! The atoms of a list, which merge as they come.
 
-ghost use Rattle.std.specs.Prelude.{◌≡◌, ◌<◌, ◌++◌, ◌∷◌, [], IfOk, IfErr, IfSome, OnOk, length, map, set, get_or, option_map};
+ghost use Rattle.std.specs.Prelude.{◌≡◌, ◌<◌, ◌++◌, ◌∷◌, [], IfOk, IfSome, OnOk, length, map, set, get_or, option_map};
 ghost use Rattle.std.specs.List.{AllByRecursion};
 ghost use Rattle.formula_meaning.specs.Some.{EachOf};
 ghost use Rattle.formula_meaning.specs.declared.junction.Junction.TheVariants.{Conjunction};
@@ -9,19 +9,17 @@ ghost use Rattle.atom_normal.specs.NormalForm.{IsNormal};
 ghost use Rattle.atom_merging.specs.Computed.{IsNormalWithin, merged, merging_of};
 ghost use Rattle.simplified_formulas.specs.AtomKit.{atom_kit};
 ghost use Rattle.simplified_formulas.specs.Pass.{decided, with_one};
-ghost use Rattle.nnf_trees.specs.Nnfs.{junction_of};
 ghost use Rattle.theory_simplifier.specs.VariableParts.{part_of};
 ghost use Rattle.theory_simplifier.specs.Listed.{Listed, told_by, entry_atom, IsEntry};
 ghost use Rattle.theory_simplifier.specs.Partners.{IsPartner, IsNormalMerged};
 
-use crate::error::SimplError;
 use crate::part::variable_part;
 use crate::places::{Places, places_at, with_place};
 use atom_merging::{Merged, decides, merge_and, merge_or};
 use atom_normal::{Atom, Context, negate};
+use formula_meaning::Junction;
 use linear_forms::Linear;
-use nnf_trees::Junction;
-use std::alloc::Global;
+use std::alloc::{AllocError, Global};
 use std::collections::HashMap;
 use std::marker::Model;
 
@@ -43,22 +41,21 @@ pub(crate) struct Joined {
 impl Model for Joined {
     ghost use Rattle.std.specs.Prelude.{map};
     ghost use Rattle.std.specs.List.{AllByRecursion};
-    ghost use Rattle.nnf_trees.specs.Nnfs.{junction_of};
     ghost use Rattle.theory_simplifier.specs.Listed.{Listed, entry_atom, IsEntry};
     ghost use Rattle.theory_simplifier.specs.VariableParts.{part_of};
     ghost use Rattle.theory_simplifier.specs.Places.{ArePlaces};
 
     ghost Value = { Listed };
 
-    ghost view = { λ l. record { junction = junction_of l.junction; atoms = map entry_atom l.entries.items } };
+    ghost view = { λ l. record { junction = l.junction; atoms = map entry_atom l.entries.items } };
 
-    ghost invariant = { λ l. AllByRecursion (IsEntry (junction_of l.junction)) l.entries.items × ArePlaces part_of l.places (map entry_atom l.entries.items) };
+    ghost invariant = { λ l. AllByRecursion (IsEntry l.junction) l.entries.items × ArePlaces part_of l.places (map entry_atom l.entries.items) };
 }
 
 impl Joined {
     /// No atoms.
     pub(crate) fn new(alloc: Global, junction: Junction) -> Joined
-        ensures { result ≡ record { junction = junction_of junction; atoms = [] } }
+        ensures { result ≡ record { junction = junction; atoms = [] } }
     {
         Joined {
             junction,
@@ -67,13 +64,12 @@ impl Joined {
         }
     }
 
-    /// The atoms as they are, joined by `and`. Its only error is `Memory`.
-    pub(crate) fn of(alloc: Global, atoms: &[Atom]) -> Result<Joined, SimplError>
+    /// The atoms as they are, joined by `and`.
+    pub(crate) fn of(alloc: Global, atoms: &[Atom]) -> Result<Joined, AllocError>
         requires { AllByRecursion IsWellFormed atoms.now }
         ensures listed { IfOk result (λ l. l ≡ record { junction = Conjunction; atoms = map atom_of atoms.now }) }
-        ensures memory { IfErr result (λ e. e ≡ SimplError.Memory) }
     {
-        let mut list = Joined::new(alloc, Junction::And);
+        let mut list = Joined::new(alloc, Junction::Conjunction);
         for atom in atoms {
             let part = variable_part(alloc, atom)?;
             list = list.with_last(alloc, atom, part)?;
@@ -100,14 +96,14 @@ impl Joined {
     }
 
     /// The list with the atom, which has this variable part: it takes the place of the first with which it merges, else it comes
-    /// last. `None` where the two settle the list. Its only error is `Memory`.
+    /// last. `None` where the two settle the list.
     pub(crate) fn with(
         self,
         alloc: Global,
         context: Context,
         atom: &Atom,
         part: Linear,
-    ) -> Result<Option<Joined>, SimplError>
+    ) -> Result<Option<Joined>, AllocError>
         requires well_formed { IsWellFormed atom.now }
         requires part { part ≡ part_of (atom_of atom.now) }
         requires normal { IsNormalWithin (context_of context) (atom_of atom.now) }
@@ -115,7 +111,6 @@ impl Joined {
         ensures with { IfOk result (λ r. with_one (atom_kit (context_of context)) self.junction (atom_of atom.now) self.atoms ≡ option_map (λ (l : Listed). l.atoms) r) }
         ensures junction { IfOk result (λ r. IfSome r (λ l. l.junction ≡ self.junction)) }
         ensures normal { IfOk result (λ r. IfSome r (λ l. EachOf (IsNormalWithin (context_of context)) l.atoms)) }
-        ensures memory { IfErr result (λ e. e ≡ SimplError.Memory) }
     {
         let Some((place, merged)) = self.partner(alloc, context, atom, &part)? else {
             let list = self.with_last(alloc, atom, part)?;
@@ -138,20 +133,19 @@ impl Joined {
         &self.entries
     }
 
-    // The place of the first atom with which this one merges, and what they become. Its only error is `Memory`.
+    // The place of the first atom with which this one merges, and what they become.
     fn partner(
         &self,
         alloc: Global,
         context: Context,
         atom: &Atom,
         part: &Linear,
-    ) -> Result<Option<(usize, Merged)>, SimplError>
+    ) -> Result<Option<(usize, Merged)>, AllocError>
         requires well_formed { IsWellFormed atom.now }
         requires part { part.now ≡ part_of (atom_of atom.now) }
         requires normal { IsNormalWithin (context_of context) (atom_of atom.now) }
         requires atoms { EachOf (IsNormalWithin (context_of context)) self.now.atoms }
         ensures partner { IfOk result (IsPartner (context_of context) self.now.junction (atom_of atom.now) self.now.atoms) }
-        ensures memory { IfErr result (λ e. e ≡ SimplError.Memory) }
     {
         for place in places_at(&self.places, part) {
             let other = &self.entries[*place].atom;
@@ -163,22 +157,21 @@ impl Joined {
         Ok(None)
     }
 
-    // The list with the atom last, which has this variable part. Its only error is `Memory`.
-    fn with_last(self, alloc: Global, atom: &Atom, part: Linear) -> Result<Joined, SimplError>
+    // The list with the atom last, which has this variable part.
+    fn with_last(self, alloc: Global, atom: &Atom, part: Linear) -> Result<Joined, AllocError>
         requires well_formed { IsWellFormed atom.now }
         requires part { part ≡ part_of (atom_of atom.now) }
         ensures last { IfOk result (λ l. l ≡ record { junction = self.junction; atoms = self.atoms ++ atom_of atom.now ∷ [] }) }
-        ensures memory { IfErr result (λ e. e ≡ SimplError.Memory) }
     {
         let Joined {
             junction,
             mut entries,
             places,
         } = self;
-        let atom = atom.copy(alloc).map_err(|_| SimplError::Memory)?;
+        let atom = atom.copy(alloc).map_err(|_| AllocError)?;
         let entry = told_entry(alloc, junction, atom)?;
         let places = with_place(alloc, places, part, entries.len())?;
-        entries.push(entry).map_err(|_| SimplError::Memory)?;
+        entries.push(entry)?;
         Ok(Joined {
             junction,
             entries,
@@ -186,13 +179,12 @@ impl Joined {
         })
     }
 
-    // The list with the atom at the place of another of its variable part. Its only error is `Memory`.
-    fn with_at(self, alloc: Global, place: usize, atom: Atom) -> Result<Joined, SimplError>
+    // The list with the atom at the place of another of its variable part.
+    fn with_at(self, alloc: Global, place: usize, atom: Atom) -> Result<Joined, AllocError>
         requires well_formed { IsWellFormed atom }
         requires place { place < length self.atoms }
         requires part { part_of (atom_of atom) ≡ part_of (get_or self.atoms place (atom_of atom)) }
         ensures at { IfOk result (λ l. l ≡ record { junction = self.junction; atoms = set self.atoms place (atom_of atom) }) }
-        ensures memory { IfErr result (λ e. e ≡ SimplError.Memory) }
     {
         let Joined {
             junction,
@@ -208,40 +200,37 @@ impl Joined {
     }
 }
 
-// The atom with what it tells. Its only error is `Memory`.
-fn told_entry(alloc: Global, junction: Junction, atom: Atom) -> Result<Entry, SimplError>
+// The atom with what it tells.
+fn told_entry(alloc: Global, junction: Junction, atom: Atom) -> Result<Entry, AllocError>
     requires { IsWellFormed atom }
     ensures atom { IfOk result (λ e. entry_atom e ≡ atom_of atom) }
-    ensures entry { IfOk result (IsEntry (junction_of junction)) }
-    ensures memory { IfErr result (λ e. e ≡ SimplError.Memory) }
+    ensures entry { IfOk result (IsEntry junction) }
 {
     let told = match junction {
-        Junction::And => atom.copy(alloc),
-        Junction::Or => negate(alloc, &atom),
+        Junction::Conjunction => atom.copy(alloc).map_err(|_| AllocError)?,
+        Junction::Disjunction => negate(alloc, &atom).map_err(|_| AllocError)?,
     };
-    let told = told.map_err(|_| SimplError::Memory)?;
     Ok(Entry { atom, told })
 }
 
-// What two atoms of a list become. Its only error is `Memory`.
+// What two atoms of a list become.
 fn merged(
     alloc: Global,
     context: Context,
     junction: Junction,
     a: &Atom,
     b: &Atom,
-) -> Result<Merged, SimplError>
+) -> Result<Merged, AllocError>
     requires well_formed { IsWellFormed a.now }
     requires other_well_formed { IsWellFormed b.now }
     requires normal { IsNormalWithin (context_of context) (atom_of a.now) }
     requires other_normal { IsNormalWithin (context_of context) (atom_of b.now) }
-    ensures merged { IfOk result (λ m. merging_of m ≡ merged (context_of context) (junction_of junction) (atom_of a.now) (atom_of b.now)) }
+    ensures merged { IfOk result (λ m. merging_of m ≡ merged (context_of context) junction (atom_of a.now) (atom_of b.now)) }
     ensures normal { IfOk result (IsNormalMerged (context_of context)) }
-    ensures memory { IfErr result (λ e. e ≡ SimplError.Memory) }
 {
     let merged = match junction {
-        Junction::And => merge_and(alloc, context, a, b),
-        Junction::Or => merge_or(alloc, context, a, b),
+        Junction::Conjunction => merge_and(alloc, context, a, b),
+        Junction::Disjunction => merge_or(alloc, context, a, b),
     };
-    merged.map_err(|_| SimplError::Memory)
+    merged.map_err(|_| AllocError)
 }

@@ -1,6 +1,6 @@
 //! The atoms that are known at a place of a formula.
 
-ghost use Rattle.std.specs.Prelude.{◌≡◌, ◌++◌, ◌∷◌, [], IfOk, IfErr, IfSome, IfNone, OnOk};
+ghost use Rattle.std.specs.Prelude.{◌≡◌, ◌++◌, ◌∷◌, [], IfOk, IfSome, IfNone, OnOk};
 ghost use Rattle.atom_normal.specs.Atoms.{context_of, atom_of, IsWellFormed};
 ghost use Rattle.atom_merging.specs.Computed.{IsNormalWithin};
 ghost use Rattle.simplified_formulas.specs.AtomKit.{atom_kit};
@@ -8,12 +8,11 @@ ghost use Rattle.simplified_formulas.specs.Pass.{decided};
 ghost use Rattle.theory_simplifier.specs.VariableParts.{part_of};
 ghost use Rattle.theory_simplifier.specs.Known.{known_atoms, AreNormalFrames};
 
-use crate::error::SimplError;
 use crate::free::has_name;
 use crate::joined::Joined;
 use atom_normal::{Atom, Context};
 use linear_forms::{Linear, VarId};
-use std::alloc::Global;
+use std::alloc::{AllocError, Global};
 use std::marker::Model;
 
 /// What encloses a place: a list, whose atoms are known beside them, or a quantifier, under which what is known of its name is not.
@@ -48,12 +47,11 @@ impl Known {
         }
     }
 
-    /// Goes inside. Its only error is `Memory`.
-    pub(crate) fn enter(&mut self, frame: Frame) -> Result<(), SimplError>
+    /// Goes inside.
+    pub(crate) fn enter(&mut self, frame: Frame) -> Result<(), AllocError>
         ensures entered { OnOk result (self.new ≡ self.old ++ frame ∷ []) }
-        ensures memory { IfErr result (λ e. e ≡ SimplError.Memory) }
     {
-        self.frames.push(frame).map_err(|_| SimplError::Memory)?;
+        self.frames.push(frame)?;
         Ok(())
     }
 

@@ -1,6 +1,6 @@
 //! A list on the way: its atoms, and its other members, each once.
 
-ghost use Rattle.std.specs.Prelude.{◌≡◌, List, [], map, IfOk, IfErr, OnOk, if◌then◌else◌};
+ghost use Rattle.std.specs.Prelude.{◌≡◌, List, [], map, IfOk, OnOk, if◌then◌else◌};
 ghost use Rattle.std.specs.List.{AllByRecursion};
 ghost use Rattle.indexmap.specs.IndexSet.{insert_key};
 ghost use Rattle.formula_meaning.specs.Context.{Context as Theory};
@@ -18,20 +18,18 @@ ghost use Rattle.formula_tree.specs.declared.shape.Shape.{Shape};
 ghost use Rattle.formula_tree.specs.Trees.{members};
 ghost use Rattle.formula_store.specs.declared.id.FormulaId.{FormulaId};
 ghost use Rattle.formula_store.specs.Nodes.{IsId, tree, AreNodes};
-ghost use Rattle.nnf_trees.specs.Nnfs.{junction_of};
 ghost use Rattle.theory_simplifier.specs.Known.{known_atoms, AreNormalFrames};
 ghost use Rattle.theory_simplifier.specs.Parts.{same_id, parts_of, IsListOf, HasIds};
 
-use crate::error::SimplError;
 use crate::joined::Joined;
 use crate::known::Known;
 use crate::part::variable_part;
 use atom_normal::{Atom, Context};
+use formula_meaning::Junction;
 use formula_store::{FormulaId, Store};
 use formula_tree::Shape;
 use indexmap::IndexSet;
-use nnf_trees::Junction;
-use std::alloc::Global;
+use std::alloc::{AllocError, Global};
 use std::marker::Model;
 
 /// Formulas of a store, each once, in the order in which they came.
@@ -59,12 +57,11 @@ impl Others {
         }
     }
 
-    /// The formula last, unless it is there. Its only error is `Memory`.
-    pub(crate) fn add(&mut self, id: FormulaId) -> Result<(), SimplError>
+    /// The formula last, unless it is there.
+    pub(crate) fn add(&mut self, id: FormulaId) -> Result<(), AllocError>
         ensures added { OnOk result (self.new ≡ insert_key same_id self.old id) }
-        ensures memory { IfErr result (λ e. e ≡ SimplError.Memory) }
     {
-        self.ids.insert(id).map_err(|_| SimplError::Memory)?;
+        self.ids.insert(id)?;
         Ok(())
     }
 
@@ -85,15 +82,15 @@ pub(crate) enum Parts {
 
 /// Whether a member of this truth settles the list.
 pub(crate) fn settles(junction: Junction, truth: bool) -> bool
-    ensures { result ≡ settles (junction_of junction) truth }
+    ensures { result ≡ settles junction truth }
 {
     match junction {
-        Junction::And => !truth,
-        Junction::Or => truth,
+        Junction::Conjunction => !truth,
+        Junction::Disjunction => truth,
     }
 }
 
-/// The list with an atom more, which the known ones may decide. Its only error is `Memory`.
+/// The list with an atom more, which the known ones may decide.
 pub(crate) fn with_atom(
     alloc: Global,
     context: Context,
@@ -101,15 +98,14 @@ pub(crate) fn with_atom(
     known: &Known,
     parts: Parts,
     atom: &Atom,
-) -> Result<Parts, SimplError>
+) -> Result<Parts, AllocError>
     requires well_formed { IsWellFormed atom.now }
     requires normal { IsNormalWithin (context_of context) (atom_of atom.now) }
     requires known { AreNormalFrames (context_of context) known.now }
-    requires list { IsListOf (context_of context) (junction_of junction) parts }
-    ensures with { IfOk result (λ r. (t : FormulaId → Tree) → parts_of t r ≡ with_atom (atom_kit (context_of context)) (junction_of junction) (known_atoms known.now) (atom_of atom.now) (parts_of t parts)) }
-    ensures list { IfOk result (IsListOf (context_of context) (junction_of junction)) }
+    requires list { IsListOf (context_of context) junction parts }
+    ensures with { IfOk result (λ r. (t : FormulaId → Tree) → parts_of t r ≡ with_atom (atom_kit (context_of context)) junction (known_atoms known.now) (atom_of atom.now) (parts_of t parts)) }
+    ensures list { IfOk result (IsListOf (context_of context) junction) }
     ensures ids { IfOk result (λ r. (nodes : List (Shape FormulaId)) → HasIds nodes parts → HasIds nodes r) }
-    ensures memory { IfErr result (λ e. e ≡ SimplError.Memory) }
 {
     let Parts::Open(atoms, others) = parts else {
         return Ok(Parts::Closed);
@@ -127,14 +123,13 @@ pub(crate) fn with_atom(
     }
 }
 
-// The list with a member more that is no atom, unless it is there. Its only error is `Memory`.
-fn with_other(store: &Store, parts: Parts, id: FormulaId) -> Result<Parts, SimplError>
+// The list with a member more that is no atom, unless it is there.
+fn with_other(store: &Store, parts: Parts, id: FormulaId) -> Result<Parts, AllocError>
     requires id { IsId store.now id }
     requires ids { HasIds store.now parts }
     ensures with { IfOk result (λ r. (c : Theory) → parts_of (tree store.now) r ≡ with_other (atom_kit c) (tree store.now id) (parts_of (tree store.now) parts)) }
     ensures list { IfOk result (λ r. (c : Theory) (j : Joint) → IsListOf c j parts → IsListOf c j r) }
     ensures ids { IfOk result (HasIds store.now) }
-    ensures memory { IfErr result (λ e. e ≡ SimplError.Memory) }
 {
     // Its clause says that the formulas of the store are distinct.
     let _formulas = store.len();
@@ -147,7 +142,7 @@ fn with_other(store: &Store, parts: Parts, id: FormulaId) -> Result<Parts, Simpl
     }
 }
 
-// The list with a formula that is no list of its junction and no constant. Its only error is `Memory`.
+// The list with a formula that is no list of its junction and no constant.
 fn with_piece(
     alloc: Global,
     store: &Store,
@@ -156,16 +151,15 @@ fn with_piece(
     known: &Known,
     parts: Parts,
     id: FormulaId,
-) -> Result<Parts, SimplError>
+) -> Result<Parts, AllocError>
     requires id { IsId store.now id }
     requires formula { IsSimplifiable (context_of context) (tree store.now id) }
     requires known { AreNormalFrames (context_of context) known.now }
-    requires list { IsListOf (context_of context) (junction_of junction) parts }
+    requires list { IsListOf (context_of context) junction parts }
     requires ids { HasIds store.now parts }
-    ensures with { IfOk result (λ r. parts_of (tree store.now) r ≡ with_piece (atom_kit (context_of context)) (junction_of junction) (known_atoms known.now) (tree store.now id) (parts_of (tree store.now) parts)) }
-    ensures list { IfOk result (IsListOf (context_of context) (junction_of junction)) }
+    ensures with { IfOk result (λ r. parts_of (tree store.now) r ≡ with_piece (atom_kit (context_of context)) junction (known_atoms known.now) (tree store.now id) (parts_of (tree store.now) parts)) }
+    ensures list { IfOk result (IsListOf (context_of context) junction) }
     ensures ids { IfOk result (HasIds store.now) }
-    ensures memory { IfErr result (λ e. e ≡ SimplError.Memory) }
 {
     match store.shape(id) {
         Shape::One(atom) => with_atom(alloc, context, junction, known, parts, atom),
@@ -173,7 +167,7 @@ fn with_piece(
     }
 }
 
-// The list with the members of another of its junction. Its only error is `Memory`.
+// The list with the members of another of its junction.
 fn with_pieces(
     alloc: Global,
     store: &Store,
@@ -182,16 +176,15 @@ fn with_pieces(
     known: &Known,
     mut parts: Parts,
     ids: &[FormulaId],
-) -> Result<Parts, SimplError>
+) -> Result<Parts, AllocError>
     requires pieces { AllByRecursion (IsId store.now) ids.now }
     requires formulas { AreOrderly (IsNormalWithin (context_of context)) (members (map (tree store.now) ids.now)) }
     requires known { AreNormalFrames (context_of context) known.now }
-    requires list { IsListOf (context_of context) (junction_of junction) parts }
+    requires list { IsListOf (context_of context) junction parts }
     requires ids { HasIds store.now parts }
-    ensures with { IfOk result (λ r. parts_of (tree store.now) r ≡ with_pieces (atom_kit (context_of context)) (junction_of junction) (known_atoms known.now) (members (map (tree store.now) ids.now)) (parts_of (tree store.now) parts)) }
-    ensures list { IfOk result (IsListOf (context_of context) (junction_of junction)) }
+    ensures with { IfOk result (λ r. parts_of (tree store.now) r ≡ with_pieces (atom_kit (context_of context)) junction (known_atoms known.now) (members (map (tree store.now) ids.now)) (parts_of (tree store.now) parts)) }
+    ensures list { IfOk result (IsListOf (context_of context) junction) }
     ensures ids { IfOk result (HasIds store.now) }
-    ensures memory { IfErr result (λ e. e ≡ SimplError.Memory) }
 {
     for id in ids {
         parts = with_piece(alloc, store, context, junction, known, parts, *id)?;
@@ -199,8 +192,7 @@ fn with_pieces(
     Ok(parts)
 }
 
-/// The list with what a member gives: a constant goes or settles the list, a list of the same junction gives its members. Its
-/// only error is `Memory`.
+/// The list with what a member gives: a constant goes or settles the list, a list of the same junction gives its members.
 pub(crate) fn with_member(
     alloc: Global,
     store: &Store,
@@ -209,28 +201,29 @@ pub(crate) fn with_member(
     known: &Known,
     parts: Parts,
     id: FormulaId,
-) -> Result<Parts, SimplError>
+) -> Result<Parts, AllocError>
     requires id { IsId store.now id }
     requires formula { IsSimplifiable (context_of context) (tree store.now id) }
     requires known { AreNormalFrames (context_of context) known.now }
-    requires list { IsListOf (context_of context) (junction_of junction) parts }
+    requires list { IsListOf (context_of context) junction parts }
     requires ids { HasIds store.now parts }
-    ensures with { IfOk result (λ r. parts_of (tree store.now) r ≡ with_member (atom_kit (context_of context)) (junction_of junction) (known_atoms known.now) (pieces_of (junction_of junction) (tree store.now id)) (parts_of (tree store.now) parts)) }
-    ensures list { IfOk result (IsListOf (context_of context) (junction_of junction)) }
+    ensures with { IfOk result (λ r. parts_of (tree store.now) r ≡ with_member (atom_kit (context_of context)) junction (known_atoms known.now) (pieces_of junction (tree store.now id)) (parts_of (tree store.now) parts)) }
+    ensures list { IfOk result (IsListOf (context_of context) junction) }
     ensures ids { IfOk result (HasIds store.now) }
-    ensures memory { IfErr result (λ e. e ≡ SimplError.Memory) }
 {
     match (junction, store.shape(id)) {
-        (Junction::And, Shape::True) | (Junction::Or, Shape::False) => Ok(parts),
-        (Junction::And, Shape::False) | (Junction::Or, Shape::True) => Ok(Parts::Closed),
-        (Junction::And, Shape::And(ids)) | (Junction::Or, Shape::Or(ids)) => {
+        (Junction::Conjunction, Shape::True) | (Junction::Disjunction, Shape::False) => Ok(parts),
+        (Junction::Conjunction, Shape::False) | (Junction::Disjunction, Shape::True) => Ok(
+            Parts::Closed,
+        ),
+        (Junction::Conjunction, Shape::And(ids)) | (Junction::Disjunction, Shape::Or(ids)) => {
             with_pieces(alloc, store, context, junction, known, parts, ids.items())
         }
         _ => with_piece(alloc, store, context, junction, known, parts, id),
     }
 }
 
-/// The list with the atoms among its members. Its only error is `Memory`.
+/// The list with the atoms among its members.
 pub(crate) fn with_atoms(
     alloc: Global,
     store: &Store,
@@ -238,14 +231,13 @@ pub(crate) fn with_atoms(
     junction: Junction,
     known: &Known,
     ids: &[FormulaId],
-) -> Result<Parts, SimplError>
+) -> Result<Parts, AllocError>
     requires members { AllByRecursion (IsId store.now) ids.now }
     requires formulas { AreOrderly (IsNormalWithin (context_of context)) (members (map (tree store.now) ids.now)) }
     requires known { AreNormalFrames (context_of context) known.now }
-    ensures with { IfOk result (λ r. parts_of (tree store.now) r ≡ with_atoms (atom_kit (context_of context)) (junction_of junction) (known_atoms known.now) (members (map (tree store.now) ids.now)) (Open [] none)) }
-    ensures list { IfOk result (IsListOf (context_of context) (junction_of junction)) }
+    ensures with { IfOk result (λ r. parts_of (tree store.now) r ≡ with_atoms (atom_kit (context_of context)) junction (known_atoms known.now) (members (map (tree store.now) ids.now)) (Open [] none)) }
+    ensures list { IfOk result (IsListOf (context_of context) junction) }
     ensures ids { IfOk result (HasIds store.now) }
-    ensures memory { IfErr result (λ e. e ≡ SimplError.Memory) }
 {
     let mut parts = Parts::Open(Joined::new(alloc, junction), Others::new(alloc));
     for id in ids {
@@ -254,7 +246,7 @@ pub(crate) fn with_atoms(
     Ok(parts)
 }
 
-// The list with the member, if that is an atom. Its only error is `Memory`.
+// The list with the member, if that is an atom.
 fn with_atom_first(
     alloc: Global,
     store: &Store,
@@ -263,16 +255,15 @@ fn with_atom_first(
     known: &Known,
     parts: Parts,
     id: FormulaId,
-) -> Result<Parts, SimplError>
+) -> Result<Parts, AllocError>
     requires id { IsId store.now id }
     requires formula { IsSimplifiable (context_of context) (tree store.now id) }
     requires known { AreNormalFrames (context_of context) known.now }
-    requires list { IsListOf (context_of context) (junction_of junction) parts }
+    requires list { IsListOf (context_of context) junction parts }
     requires ids { HasIds store.now parts }
-    ensures with { IfOk result (λ r. parts_of (tree store.now) r ≡ with_atom_first (atom_kit (context_of context)) (junction_of junction) (known_atoms known.now) (tree store.now id) (parts_of (tree store.now) parts)) }
-    ensures list { IfOk result (IsListOf (context_of context) (junction_of junction)) }
+    ensures with { IfOk result (λ r. parts_of (tree store.now) r ≡ with_atom_first (atom_kit (context_of context)) junction (known_atoms known.now) (tree store.now id) (parts_of (tree store.now) parts)) }
+    ensures list { IfOk result (IsListOf (context_of context) junction) }
     ensures ids { IfOk result (HasIds store.now) }
-    ensures memory { IfErr result (λ e. e ≡ SimplError.Memory) }
 {
     match store.shape(id) {
         Shape::One(atom) => with_atom(alloc, context, junction, known, parts, atom),

@@ -1,6 +1,6 @@
 //! One pass down a shared formula, under the atoms that are known.
 
-ghost use Rattle.std.specs.Prelude.{◌≡◌, ◌++◌, ◌∷◌, [], map, IfOk, IfErr, OnOk};
+ghost use Rattle.std.specs.Prelude.{◌≡◌, ◌++◌, ◌∷◌, [], map, IfOk, OnOk};
 ghost use Rattle.std.specs.List.{AllByRecursion};
 ghost use Rattle.formula_meaning.specs.Fold.{from_pieces};
 ghost use Rattle.atom_normal.specs.Atoms.{context_of, atom_of, IsWellFormed};
@@ -12,25 +12,23 @@ ghost use Rattle.simplified_formulas.specs.Trees.{IsSimplifiable};
 ghost use Rattle.formula_tree.specs.Makers.{IsMade, Keeps};
 ghost use Rattle.formula_tree.specs.Trees.{members};
 ghost use Rattle.formula_store.specs.Nodes.{IsId, tree};
-ghost use Rattle.nnf_trees.specs.Nnfs.{junction_of, quantified};
+ghost use Rattle.formula_meaning.specs.Shape.{quantified};
 ghost use Rattle.theory_simplifier.specs.Known.{known_atoms, AreNormalFrames};
 ghost use Rattle.theory_simplifier.specs.Parts.{parts_of, is_one, IsListOf, HasIds, pass_list};
 
 use crate::closing::{closed, constant, made, quantified_over};
-use crate::error::SimplError;
 use crate::free::is_free;
 use crate::known::{Frame, Known};
 use crate::part::variable_part;
 use crate::parts::{Parts, with_atoms, with_member};
 use atom_normal::Context;
+use formula_meaning::{Junction, Quantifier};
 use formula_store::{FormulaId, Store};
 use formula_tree::Shape;
 use linear_forms::VarId;
-use nnf_trees::{Junction, Quantifier};
-use std::alloc::Global;
+use std::alloc::{AllocError, Global};
 
-/// The formula after one pass under the known atoms, which stay. Its only error is `Memory`. The recursion is as deep as the
-/// formula is high.
+/// The formula after one pass under the known atoms, which stay. The recursion is as deep as the formula is high.
 #[cycle(passed)]
 pub(crate) fn passed(
     alloc: Global,
@@ -38,14 +36,13 @@ pub(crate) fn passed(
     context: Context,
     id: FormulaId,
     known: &mut Known,
-) -> Result<FormulaId, SimplError>
+) -> Result<FormulaId, AllocError>
     requires id { IsId store.old id }
     requires formula { IsSimplifiable (context_of context) (tree store.old id) }
     requires known { AreNormalFrames (context_of context) known.old }
     ensures made { IfOk result (λ r. IsMade (IsId store.new) (tree store.new) r (pass (atom_kit (context_of context)) (tree store.old id) (known_atoms known.old))) }
     ensures known { OnOk result (known.new ≡ known.old) }
     ensures kept { Keeps (IsId store.old) (tree store.old) (IsId store.new) (tree store.new) }
-    ensures memory { IfErr result (λ e. e ≡ SimplError.Memory) }
 {
     match store.shape(id) {
         Shape::One(atom) => {
@@ -57,31 +54,30 @@ pub(crate) fn passed(
         }
         Shape::And(ids) => {
             let ids = listed(alloc, ids.items())?;
-            list_passed(alloc, store, context, Junction::And, &ids, known)
+            list_passed(alloc, store, context, Junction::Conjunction, &ids, known)
         }
         Shape::Or(ids) => {
             let ids = listed(alloc, ids.items())?;
-            list_passed(alloc, store, context, Junction::Or, &ids, known)
+            list_passed(alloc, store, context, Junction::Disjunction, &ids, known)
         }
         Shape::Ex(x, f) => {
             let (x, f) = (*x, *f);
-            quantified_passed(alloc, store, context, Quantifier::Ex, x, f, known)
+            quantified_passed(alloc, store, context, Quantifier::Exists, x, f, known)
         }
         Shape::All(x, f) => {
             let (x, f) = (*x, *f);
-            quantified_passed(alloc, store, context, Quantifier::All, x, f, known)
+            quantified_passed(alloc, store, context, Quantifier::ForAll, x, f, known)
         }
         _ => Ok(id),
     }
 }
 
-// These ids, held apart from the store. Its only error is `Memory`.
-fn listed(alloc: Global, ids: &[FormulaId]) -> Result<Vec<FormulaId>, SimplError>
+// These ids, held apart from the store.
+fn listed(alloc: Global, ids: &[FormulaId]) -> Result<Vec<FormulaId>, AllocError>
     ensures same { IfOk result (λ v. v.items ≡ ids.now) }
-    ensures memory { IfErr result (λ e. e ≡ SimplError.Memory) }
 {
     let mut list = Vec::new(alloc);
-    list.extend_from_slice(ids).map_err(|_| SimplError::Memory)?;
+    list.extend_from_slice(ids)?;
     Ok(list)
 }
 
@@ -95,14 +91,13 @@ fn quantified_passed(
     x: VarId,
     id: FormulaId,
     known: &mut Known,
-) -> Result<FormulaId, SimplError>
+) -> Result<FormulaId, AllocError>
     requires id { IsId store.old id }
     requires formula { IsSimplifiable (context_of context) (tree store.old id) }
     requires known { AreNormalFrames (context_of context) known.old }
     ensures made { IfOk result (λ r. IsMade (IsId store.new) (tree store.new) r (pass (atom_kit (context_of context)) (quantified quantifier x.number (tree store.old id)) (known_atoms known.old))) }
     ensures known { OnOk result (known.new ≡ known.old) }
     ensures kept { Keeps (IsId store.old) (tree store.old) (IsId store.new) (tree store.new) }
-    ensures memory { IfErr result (λ e. e ≡ SimplError.Memory) }
 {
     known.enter(Frame::Under(x))?;
     let inner = passed(alloc, store, context, id, known)?;
@@ -123,21 +118,20 @@ fn list_passed(
     junction: Junction,
     ids: &[FormulaId],
     known: &mut Known,
-) -> Result<FormulaId, SimplError>
+) -> Result<FormulaId, AllocError>
     requires ids { AllByRecursion (IsId store.old) ids.now }
     requires formulas { AreOrderly (IsNormalWithin (context_of context)) (members (map (tree store.old) ids.now)) }
     requires known { AreNormalFrames (context_of context) known.old }
-    ensures made { IfOk result (λ r. IsMade (IsId store.new) (tree store.new) r (pass_list (context_of context) (junction_of junction) (members (map (tree store.old) ids.now)) (known_atoms known.old))) }
+    ensures made { IfOk result (λ r. IsMade (IsId store.new) (tree store.new) r (pass_list (context_of context) junction (members (map (tree store.old) ids.now)) (known_atoms known.old))) }
     ensures known { OnOk result (known.new ≡ known.old) }
     ensures kept { Keeps (IsId store.old) (tree store.old) (IsId store.new) (tree store.new) }
-    ensures memory { IfErr result (λ e. e ≡ SimplError.Memory) }
 {
     let parts = with_atoms(alloc, store, context, junction, known, ids)?;
     let parts = others_passed(alloc, store, context, junction, ids, known, parts)?;
     closed(alloc, store, junction, parts)
 }
 
-// The list with its other members, each passed under what is known by then. Its only error is `Memory`.
+// The list with its other members, each passed under what is known by then.
 #[cycle(passed)]
 fn others_passed(
     alloc: Global,
@@ -147,18 +141,17 @@ fn others_passed(
     ids: &[FormulaId],
     known: &mut Known,
     mut parts: Parts,
-) -> Result<Parts, SimplError>
+) -> Result<Parts, AllocError>
     requires members { AllByRecursion (IsId store.old) ids.now }
     requires formulas { AreOrderly (IsNormalWithin (context_of context)) (members (map (tree store.old) ids.now)) }
     requires known { AreNormalFrames (context_of context) known.old }
-    requires list { IsListOf (context_of context) (junction_of junction) parts }
+    requires list { IsListOf (context_of context) junction parts }
     requires ids { HasIds store.old parts }
-    ensures with { IfOk result (λ r. parts_of (tree store.new) r ≡ others (atom_kit (context_of context)) (members (map (tree store.old) ids.now)) (junction_of junction) (known_atoms known.old) (parts_of (tree store.old) parts)) }
-    ensures list { IfOk result (IsListOf (context_of context) (junction_of junction)) }
+    ensures with { IfOk result (λ r. parts_of (tree store.new) r ≡ others (atom_kit (context_of context)) (members (map (tree store.old) ids.now)) junction (known_atoms known.old) (parts_of (tree store.old) parts)) }
+    ensures list { IfOk result (IsListOf (context_of context) junction) }
     ensures ids { IfOk result (HasIds store.new) }
     ensures known { OnOk result (known.new ≡ known.old) }
     ensures kept { Keeps (IsId store.old) (tree store.old) (IsId store.new) (tree store.new) }
-    ensures memory { IfErr result (λ e. e ≡ SimplError.Memory) }
 {
     for id in ids {
         parts = member_passed(alloc, store, context, junction, *id, known, parts)?;
@@ -166,7 +159,7 @@ fn others_passed(
     Ok(parts)
 }
 
-// The list with the member, passed under what is known. An atom is in the list already. Its only error is `Memory`.
+// The list with the member, passed under what is known. An atom is in the list already.
 #[cycle(passed)]
 fn member_passed(
     alloc: Global,
@@ -176,19 +169,18 @@ fn member_passed(
     id: FormulaId,
     known: &mut Known,
     parts: Parts,
-) -> Result<Parts, SimplError>
+) -> Result<Parts, AllocError>
     requires id { IsId store.old id }
     requires formula { IsSimplifiable (context_of context) (tree store.old id) }
     requires known { AreNormalFrames (context_of context) known.old }
-    requires list { IsListOf (context_of context) (junction_of junction) parts }
+    requires list { IsListOf (context_of context) junction parts }
     requires ids { HasIds store.old parts }
-    ensures with { IfOk result (λ r. parts_of (tree store.new) r ≡ with_passed (atom_kit (context_of context)) (junction_of junction) (known_atoms known.old) (tree store.old id)
-        (pass (atom_kit (context_of context)) (tree store.old id) (known_beside (atom_kit (context_of context)) (junction_of junction) (parts_of (tree store.old) parts) (known_atoms known.old))) (parts_of (tree store.old) parts)) }
-    ensures list { IfOk result (IsListOf (context_of context) (junction_of junction)) }
+    ensures with { IfOk result (λ r. parts_of (tree store.new) r ≡ with_passed (atom_kit (context_of context)) junction (known_atoms known.old) (tree store.old id)
+        (pass (atom_kit (context_of context)) (tree store.old id) (known_beside (atom_kit (context_of context)) junction (parts_of (tree store.old) parts) (known_atoms known.old))) (parts_of (tree store.old) parts)) }
+    ensures list { IfOk result (IsListOf (context_of context) junction) }
     ensures ids { IfOk result (HasIds store.new) }
     ensures known { OnOk result (known.new ≡ known.old) }
     ensures kept { Keeps (IsId store.old) (tree store.old) (IsId store.new) (tree store.new) }
-    ensures memory { IfErr result (λ e. e ≡ SimplError.Memory) }
 {
     let Parts::Open(atoms, others) = parts else {
         return Ok(Parts::Closed);

@@ -1,13 +1,12 @@
 //! The places of a list's atoms, by their variable parts.
 
-ghost use Rattle.std.specs.Prelude.{◌≡◌, ◌++◌, ◌∷◌, [], IfOk, IfErr, if◌then◌else◌};
+ghost use Rattle.std.specs.Prelude.{◌≡◌, ◌++◌, ◌∷◌, [], IfOk, if◌then◌else◌};
 ghost use Rattle.formula_meaning.specs.Form.{Form};
 ghost use Rattle.linear_forms.specs.Equality.{form_eq};
 ghost use Rattle.theory_simplifier.specs.Places.{places_at};
 
-use crate::error::SimplError;
 use linear_forms::Linear;
-use std::alloc::Global;
+use std::alloc::{AllocError, Global};
 use std::collections::HashMap;
 
 /// Lists of places by variable parts.
@@ -23,22 +22,21 @@ pub(crate) fn places_at<'a>(places: &'a Places, part: &Linear) -> &'a [usize]
     }
 }
 
-/// The places with one more, the last of a variable part. Its only error is `Memory`.
+/// The places with one more, the last of a variable part.
 pub(crate) fn with_place(
     alloc: Global,
     places: Places,
     part: Linear,
     place: usize,
-) -> Result<Places, SimplError>
+) -> Result<Places, AllocError>
     ensures more { IfOk result (λ r. (p : Form) → places_at r p ≡ (if form_eq part p then places_at places part ++ place ∷ [] else places_at places p)) }
-    ensures memory { IfErr result (λ e. e ≡ SimplError.Memory) }
 {
     let mut places = places;
     let mut list = match places.remove(&part) {
         Some(list) => list,
         None => Vec::new(alloc),
     };
-    list.push(place).map_err(|_| SimplError::Memory)?;
-    places.insert(part, list).map_err(|_| SimplError::Memory)?;
+    list.push(place)?;
+    places.insert(part, list)?;
     Ok(places)
 }

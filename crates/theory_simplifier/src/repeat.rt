@@ -30,7 +30,7 @@ use crate::known::{Frame, Known};
 use crate::pass::passed;
 use atom_normal::{Atom, Context};
 use formula_store::{FormulaId, Store};
-use std::alloc::Global;
+use std::alloc::{AllocError, Global};
 
 /// The shared formula simplified under the assumptions `theory`: it has the formula's truth wherever all of them are true, is
 /// Reduced under them, and has no other free names, no more nodes and atoms and no longer text. `Nodes` comes exactly where the
@@ -81,16 +81,15 @@ pub fn simplify(
     }
     see_formula(store, id)?;
     let mut known = assumed(alloc, theory)?;
-    repeated(alloc, store, context, id, &mut known)
+    Ok(repeated(alloc, store, context, id, &mut known)?)
 }
 
-// The assumptions as what is known at the top. Its only error is `Memory`.
-fn assumed(alloc: Global, theory: &[Atom]) -> Result<Known, SimplError>
+// The assumptions as what is known at the top.
+fn assumed(alloc: Global, theory: &[Atom]) -> Result<Known, AllocError>
     requires { AllByRecursion IsWellFormed theory.now }
     ensures atoms { IfOk result (λ known. known_atoms known ≡ map atom_of theory.now) }
     ensures normal { IfOk result (λ known. (c : Theory) → EachOf (IsNormal c) (map atom_of theory.now) → AreNormalFrames c known) }
     ensures within { EachOf IsWithin (map atom_of theory.now) }
-    ensures memory { IfErr result (λ e. e ≡ SimplError.Memory) }
 {
     see_atoms(theory);
     let mut known = Known::new(alloc);
@@ -98,21 +97,20 @@ fn assumed(alloc: Global, theory: &[Atom]) -> Result<Known, SimplError>
     Ok(known)
 }
 
-// The formula passed again as long as it gets smaller. Its only error is `Memory`.
+// The formula passed again as long as it gets smaller.
 fn repeated(
     alloc: Global,
     store: &mut Store,
     context: Context,
     id: FormulaId,
     known: &mut Known,
-) -> Result<FormulaId, SimplError>
+) -> Result<FormulaId, AllocError>
     requires id { IsId store.old id }
     requires formula { IsSimplifiable (context_of context) (tree store.old id) }
     requires small { nodes (tree store.old id) < most_nodes }
     requires known { AreNormalFrames (context_of context) known.old }
     ensures made { IfOk result (λ r. IsMade (IsId store.new) (tree store.new) r (simplified (atom_kit (context_of context)) (tree store.old id) (known_atoms known.old))) }
     ensures kept { Keeps (IsId store.old) (tree store.old) (IsId store.new) (tree store.new) }
-    ensures memory { IfErr result (λ e. e ≡ SimplError.Memory) }
 {
     let mut formula = id;
     let mut nodes = store.facts(id).nodes;

@@ -9,8 +9,8 @@ use Rattle.theory_simplifier.proofs.closing.atoms_made.Goals as goal
 pub returns-in_err-id-clause-kept : goal.returns-in_err-id-clause-kept
 returns-in_err-id-clause-kept c = keeps_then c.args.store.now c.loop-entry.store c.made.new.store c.loop-entry.invariant.kept c.made.ensures.kept
 
-pub returns-in_err-map_err-clause-kept : goal.returns-in_err-map_err-clause-kept
-returns-in_err-map_err-clause-kept c = keeps_then c.args.store.now c.loop-entry.store c.made.new.store c.loop-entry.invariant.kept c.made.ensures.kept
+pub returns-in_err-push-clause-kept : goal.returns-in_err-push-clause-kept
+returns-in_err-push-clause-kept c = keeps_then c.args.store.now c.loop-entry.store c.made.new.store c.loop-entry.invariant.kept c.made.ensures.kept
 
 pub loop-entry-preserved : goal.loop-entry-preserved
 loop-entry-preserved c =

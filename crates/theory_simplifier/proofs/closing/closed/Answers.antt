@@ -4,7 +4,6 @@ use Rattle.formula_meaning.specs.Fold.{from_pieces}
 use Rattle.simplified_formulas.specs.Pass.{close, ones}
 use Rattle.formula_tree.specs.Trees.{members}
 use Rattle.formula_store.specs.Nodes.{tree, IsId}
-use Rattle.nnf_trees.specs.Nnfs.{junction_of}
 use Rattle.theory_simplifier.specs.Parts.{parts_of, HasIds}
 use Rattle.theory_simplifier.proofs.Keeping.{if_ok_map, keeps_then, still_ids, still_trees, all_joined, ones_members}
 use Rattle.theory_simplifier.proofs.closing.closed.Goals as goal
@@ -20,7 +19,7 @@ pub returns-clause-made : goal.returns-clause-made
 returns-clause-made c =
     let all : c.extend_from_slice.new.self.items ≡ c.in_ok-ids.ids.items ++ c.in-Open.others = search rules in
     let old : AllByRecursion (IsId c.args.store.now) c.in-Open.others = subst (HasIds c.args.store.now) c.in-Open.is c.requires in
-    let j = junction_of c.args.junction in
+    let j = c.args.junction in
     let t = tree c.atoms_made.new.store in
     let list : from_pieces j (Some (members (map t c.extend_from_slice.new.self.items))) ≡ close j (parts_of (tree c.args.store.now) c.args.parts) =
     ap (λ fs. from_pieces j (Some fs))

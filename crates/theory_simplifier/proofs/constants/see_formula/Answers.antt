@@ -21,10 +21,12 @@ see_top-requires-clause-members c n here =
     let o = subst (λ (l : List FormulaId). IsOrder c.args.store.now (c.args.id ∷ []) l) (sym c.deref-id-items.ensures.value) c.in-Ok.ensures.order in
     listed_all P n (members_before c.args.store.now c.subformulas.ensures.nodes (c.args.id ∷ []) c.deref-id-items.result.now o c.loop-id.id-index (record { number = 0 }) c.loop-id-test.true n here P c.loop-id.invariant)
 
-pub returns-clause-within : goal.returns-clause-within
-returns-clause-within c =
+pub returns : goal.returns
+returns c =
     let P : FormulaId → Type 0 = λ id. Every IsWithin (tree c.args.store.now id) in
     let ids : List FormulaId = c.deref-id-items.result.now in
     let o = subst (λ (l : List FormulaId). IsOrder c.args.store.now (c.args.id ∷ []) l) (sym c.deref-id-items.ensures.value) c.in-Ok.ensures.order in
     let whole : take c.loop-id.id-index ids ≡ ids = take_all c.loop-id.id-index ids (omega arith) in
-    among_all P ids c.args.id (subst (λ (l : List FormulaId). AllByRecursion P l) whole c.loop-id.invariant) (o.all c.args.id (inl itself))
+    record {
+      within = among_all P ids c.args.id (subst (λ (l : List FormulaId). AllByRecursion P l) whole c.loop-id.invariant) (o.all c.args.id (inl itself));
+    }

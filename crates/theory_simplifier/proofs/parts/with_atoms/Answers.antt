@@ -5,7 +5,6 @@ use Rattle.atom_merging.specs.Computed.{IsNormalWithin}
 use Rattle.simplified_formulas.specs.AtomKit.{atom_kit}
 use Rattle.simplified_formulas.specs.Pass.{Open, with_atom_first}
 use Rattle.formula_store.specs.Nodes.{tree}
-use Rattle.nnf_trees.specs.Nnfs.{junction_of}
 use Rattle.theory_simplifier.specs.Known.{known_atoms}
 use Rattle.theory_simplifier.proofs.Members.{through_atoms, through_more, through_all, orderly_at}
 use Rattle.theory_simplifier.proofs.parts.with_atoms.Goals as goal
@@ -16,7 +15,7 @@ with_atom_first-requires-clause-formula c = orderly_at (IsNormalWithin (context_
 pub loop-id-preserved : goal.loop-id-preserved
 loop-id-preserved c =
     let o = context_of c.args.context in
-    let j = junction_of c.args.junction in
+    let j = c.args.junction in
     let ks = known_atoms c.args.known.now in
     let t = tree c.args.store.now in
     record {
@@ -29,7 +28,7 @@ loop-id-preserved c =
 pub returns-clause-with : goal.returns-clause-with
 returns-clause-with c =
     let o = context_of c.args.context in
-    let j = junction_of c.args.junction in
+    let j = c.args.junction in
     let ks = known_atoms c.args.known.now in
     let t = tree c.args.store.now in
     c.loop-id.invariant.so_far ∙ through_all (with_atom_first (atom_kit o) j ks) t c.args.ids.now c.loop-id.id-index (Open [] none) (omega arith)

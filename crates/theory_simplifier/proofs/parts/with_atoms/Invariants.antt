@@ -4,7 +4,6 @@ use Rattle.atom_normal.specs.Atoms.{context_of}
 use Rattle.simplified_formulas.specs.AtomKit.{atom_kit}
 use Rattle.simplified_formulas.specs.Pass.{Open, with_atom_first}
 use Rattle.formula_store.specs.Nodes.{tree}
-use Rattle.nnf_trees.specs.Nnfs.{junction_of}
 use Rattle.theory_simplifier.specs.Known.{known_atoms}
 use Rattle.theory_simplifier.specs.Parts.{parts_of, IsListOf, HasIds}
 use Rattle.theory_simplifier.proofs.Members.{through}
@@ -12,7 +11,7 @@ use Rattle.theory_simplifier.proofs.parts.with_atoms.Given as goal
 
 abbrev pub invariant-loop-id : goal.invariant-loop-id
 invariant-loop-id l = record {
-  list : IsListOf (context_of l.context) (junction_of l.junction) l.parts;
+  list : IsListOf (context_of l.context) l.junction l.parts;
   ids : HasIds l.store l.parts;
-  so_far : parts_of (tree l.store) l.parts ≡ through (with_atom_first (atom_kit (context_of l.context)) (junction_of l.junction) (known_atoms l.known)) (map (tree l.store) (take l.id-index l.ids)) (Open [] none);
+  so_far : parts_of (tree l.store) l.parts ≡ through (with_atom_first (atom_kit (context_of l.context)) l.junction (known_atoms l.known)) (map (tree l.store) (take l.id-index l.ids)) (Open [] none);
 }

@@ -9,7 +9,6 @@ use Rattle.formula_tree.specs.Shapes.{tree_over}
 use Rattle.formula_tree.specs.Trees.{members}
 use Rattle.formula_store.specs.Nodes.{tree, IsId}
 use Rattle.formula_store.proofs.Marked.{all_at}
-use Rattle.nnf_trees.specs.Nnfs.{junction_of}
 use Rattle.theory_simplifier.specs.declared.known.Frame.TheVariants.{Beside, Under}
 use Rattle.theory_simplifier.specs.Known.{known_atoms, AreNormalFrames}
 use Rattle.theory_simplifier.specs.Parts.{parts_of, HasIds}
@@ -21,7 +20,7 @@ use Rattle.theory_simplifier.proofs.pass.+passed.Goals as goal
 
 pub member_passed-returns-in_default-clause-with : goal.member_passed-returns-in_default-clause-with
 member_passed-returns-in_default-clause-with t c =
-    next_closed (context_of c.args.context) (junction_of c.args.junction) (known_atoms c.args.known.now) (tree c.args.store.now c.args.id) (tree c.args.store.now) c.args.parts c.in_default.is
+    next_closed (context_of c.args.context) c.args.junction (known_atoms c.args.known.now) (tree c.args.store.now c.args.id) (tree c.args.store.now) c.args.parts c.in_default.is
 
 pub member_passed-with_member-requires-clause-formula : goal.member_passed-with_member-requires-clause-formula
 member_passed-with_member-requires-clause-formula t c =
@@ -33,7 +32,7 @@ member_passed-with_member-requires-clause-ids t c = still_ids c.args.store.now c
 pub member_passed-returns-clause-with : goal.member_passed-returns-clause-with
 member_passed-returns-clause-with t c =
     let o = context_of c.args.context in
-    let j = junction_of c.args.junction in
+    let j = c.args.junction in
     let back = last_same c.leave.new.self c.args.known.now c.in-Some-Beside.field-0 (Beside c.in-Open.atoms) (sym c.in-Some-Beside.ensures.left ∙ c.in_ok-passed.ensures.known ∙ c.in_ok-enter.ensures.entered) in
     let two : Beside c.in-Some-Beside.atoms ≡ Beside c.in-Open.atoms = sym c.in-Some-Beside.field-0-is ∙ back.1 in
     let list : c.in-Some-Beside.atoms ≡ c.in-Open.atoms = cc (two) in
@@ -66,7 +65,7 @@ others_passed-returns-in_err-parts-clause-kept t c = keeps_then c.args.store.now
 pub others_passed-loop-id-preserved : goal.others_passed-loop-id-preserved
 others_passed-loop-id-preserved t c =
     let o = context_of c.args.context in
-    let j = junction_of c.args.junction in
+    let j = c.args.junction in
     let id = get_or c.args.ids.now c.loop-id.id-index (record { number = 0 }) in
     let old : IsId c.args.store.now id = all_at (IsId c.args.store.now) c.args.ids.now c.loop-id.id-index (record { number = 0 }) c.loop-id-test.true c.requires.members in
     record {
@@ -82,7 +81,7 @@ others_passed-loop-id-preserved t c =
 pub others_passed-returns-clause-with : goal.others_passed-returns-clause-with
 others_passed-returns-clause-with t c =
     let o = context_of c.args.context in
-    let j = junction_of c.args.junction in
+    let j = c.args.junction in
     let ks = known_atoms c.args.known.now in
     c.loop-id.invariant.so_far ∙ through_all (with_next o j ks) (tree c.args.store.now) c.args.ids.now c.loop-id.id-index (parts_of (tree c.args.store.now) c.args.parts) (omega arith)
     ∙ through_others o j ks (map (tree c.args.store.now) c.args.ids.now) (parts_of (tree c.args.store.now) c.args.parts)

@@ -4,7 +4,6 @@ use Rattle.atom_normal.specs.Atoms.{context_of}
 use Rattle.formula_tree.specs.Makers.{Keeps}
 use Rattle.formula_tree.specs.Trees.{members}
 use Rattle.formula_store.specs.Nodes.{tree, IsId}
-use Rattle.nnf_trees.specs.Nnfs.{junction_of}
 use Rattle.theory_simplifier.specs.Known.{known_atoms}
 use Rattle.theory_simplifier.specs.Parts.{parts_of, IsListOf, HasIds}
 use Rattle.theory_simplifier.proofs.Members.{through, with_next}
@@ -27,9 +26,9 @@ decreases-member_passed l = 4 * nodes (tree l.store.now l.id) + 1
 
 abbrev pub invariant-others_passed-loop-id : goal.invariant-others_passed-loop-id
 invariant-others_passed-loop-id l = record {
-  list : IsListOf (context_of l.context) (junction_of l.junction) l.parts;
+  list : IsListOf (context_of l.context) l.junction l.parts;
   ids : HasIds l.store l.parts;
   known : l.known ≡ l.initial.known;
   kept : Keeps (IsId l.initial.store) (tree l.initial.store) (IsId l.store) (tree l.store);
-  so_far : parts_of (tree l.store) l.parts ≡ through (with_next (context_of l.context) (junction_of l.junction) (known_atoms l.initial.known)) (map (tree l.initial.store) (take l.id-index l.ids)) (parts_of (tree l.initial.store) l.initial.parts);
+  so_far : parts_of (tree l.store) l.parts ≡ through (with_next (context_of l.context) l.junction (known_atoms l.initial.known)) (map (tree l.initial.store) (take l.id-index l.ids)) (parts_of (tree l.initial.store) l.initial.parts);
 }

@@ -16,7 +16,6 @@ use Rattle.redlog_printer.specs.Text.{tree_text}
 use Rattle.formula_meaning.specs.Within.{IsAtomWithin}
 use Rattle.formula_store.specs.Nodes.{tree}
 use Rattle.theory_simplifier.proofs.Assuming.{each_within, simplifiable, orderly_normal, every_normal}
-use Rattle.theory_simplifier.proofs.Keeping.{if_ok_map}
 use Rattle.theory_simplifier.proofs.repeat.simplify.Goals as goal
 
 pub repeated-requires-clause-formula : goal.repeated-requires-clause-formula
@@ -25,6 +24,12 @@ repeated-requires-clause-formula c = simplifiable (context_of c.args.context) (t
 pub repeated-requires-clause-known : goal.repeated-requires-clause-known
 repeated-requires-clause-known c = c.in_ok-known.ensures.normal (context_of c.args.context) c.requires.theory
 
+pub returns-clause-simplified : goal.returns-clause-simplified
+returns-clause-simplified c =
+    let o = context_of c.args.context in
+    let f = tree c.args.store.now c.args.id in
+    c.in_ok-repeated.ensures.made.same ∙ ap (simplified (atom_kit o) f) c.in_ok-known.ensures.atoms
+
 pub returns-clause-truth : goal.returns-clause-truth
 returns-clause-truth c =
     let o = context_of c.args.context in
@@ -32,7 +37,7 @@ returns-clause-truth c =
     let f = tree c.args.store.now c.args.id in
     let assumed : AreAssumable o ks = each_within o ks c.requires.theory c.in_ok-known.ensures.within in
     let formula : IsSimplifiable o f = simplifiable o f c.requires.formula c.in_ok-see_formula.ensures.within in
-    if_ok_map c.repeated.result _ _ (λ r m. subst (λ g. EquivalentUnder o ks g f) (sym (m.same ∙ ap (simplified (atom_kit o) f) c.in_ok-known.ensures.atoms)) (keeps_truth o ks f assumed formula)) c.repeated.ensures.made
+    subst (λ g. EquivalentUnder o ks g f) (sym (returns-clause-simplified c)) (keeps_truth o ks f assumed formula)
 
 pub returns-clause-reduced : goal.returns-clause-reduced
 returns-clause-reduced c =
@@ -41,7 +46,7 @@ returns-clause-reduced c =
     let f = tree c.args.store.now c.args.id in
     let assumed : AreAssumable o ks = each_within o ks c.requires.theory c.in_ok-known.ensures.within in
     let formula : IsSimplifiable o f = simplifiable o f c.requires.formula c.in_ok-see_formula.ensures.within in
-    if_ok_map c.repeated.result _ _ (λ r m. subst (λ g. IsReduced o g ks) (sym (m.same ∙ ap (simplified (atom_kit o) f) c.in_ok-known.ensures.atoms)) (is_reduced o ks f assumed formula)) c.repeated.ensures.made
+    subst (λ g. IsReduced o g ks) (sym (returns-clause-simplified c)) (is_reduced o ks f assumed formula)
 
 pub returns-clause-shape : goal.returns-clause-shape
 returns-clause-shape c =
@@ -49,7 +54,7 @@ returns-clause-shape c =
     let ks = map atom_of c.args.theory.now in
     let f = tree c.args.store.now c.args.id in
     let formula : IsSimplifiable o f = simplifiable o f c.requires.formula c.in_ok-see_formula.ensures.within in
-    if_ok_map c.repeated.result _ _ (λ r m. subst (λ g. IsOrderly (IsNormal o) g) (sym (m.same ∙ ap (simplified (atom_kit o) f) c.in_ok-known.ensures.atoms)) (orderly_normal o (simplified_under o ks f) (keeps_shape o ks f formula))) c.repeated.ensures.made
+    subst (λ g. IsOrderly (IsNormal o) g) (sym (returns-clause-simplified c)) (orderly_normal o (simplified_under o ks f) (keeps_shape o ks f formula))
 
 pub returns-clause-normal : goal.returns-clause-normal
 returns-clause-normal c =
@@ -57,7 +62,7 @@ returns-clause-normal c =
     let ks = map atom_of c.args.theory.now in
     let f = tree c.args.store.now c.args.id in
     let formula : IsSimplifiable o f = simplifiable o f c.requires.formula c.in_ok-see_formula.ensures.within in
-    if_ok_map c.repeated.result _ _ (λ r m. subst (λ g. Every (IsNormal o) g) (sym (m.same ∙ ap (simplified (atom_kit o) f) c.in_ok-known.ensures.atoms)) (every_normal o (simplified_under o ks f) (orderly_normal o (simplified_under o ks f) (keeps_shape o ks f formula)))) c.repeated.ensures.made
+    subst (λ g. Every (IsNormal o) g) (sym (returns-clause-simplified c)) (every_normal o (simplified_under o ks f) (orderly_normal o (simplified_under o ks f) (keeps_shape o ks f formula)))
 
 pub returns-clause-names : goal.returns-clause-names
 returns-clause-names c =
@@ -65,7 +70,7 @@ returns-clause-names c =
     let ks = map atom_of c.args.theory.now in
     let f = tree c.args.store.now c.args.id in
     let formula : IsSimplifiable o f = simplifiable o f c.requires.formula c.in_ok-see_formula.ensures.within in
-    if_ok_map c.repeated.result _ _ (λ r m. subst (λ g. (x : ℕ) → IsFree g x → IsFree f x) (sym (m.same ∙ ap (simplified (atom_kit o) f) c.in_ok-known.ensures.atoms)) (brings_no_name o ks f formula)) c.repeated.ensures.made
+    subst (λ g. (x : ℕ) → IsFree g x → IsFree f x) (sym (returns-clause-simplified c)) (brings_no_name o ks f formula)
 
 pub returns-clause-nodes : goal.returns-clause-nodes
 returns-clause-nodes c =
@@ -73,7 +78,7 @@ returns-clause-nodes c =
     let ks = map atom_of c.args.theory.now in
     let f = tree c.args.store.now c.args.id in
     let formula : IsSimplifiable o f = simplifiable o f c.requires.formula c.in_ok-see_formula.ensures.within in
-    if_ok_map c.repeated.result _ _ (λ r m. subst (λ g. nodes g ≤ nodes f) (sym (m.same ∙ ap (simplified (atom_kit o) f) c.in_ok-known.ensures.atoms)) (brings_no_node o ks f formula)) c.repeated.ensures.made
+    subst (λ g. nodes g ≤ nodes f) (sym (returns-clause-simplified c)) (brings_no_node o ks f formula)
 
 pub returns-clause-atoms : goal.returns-clause-atoms
 returns-clause-atoms c =
@@ -81,7 +86,7 @@ returns-clause-atoms c =
     let ks = map atom_of c.args.theory.now in
     let f = tree c.args.store.now c.args.id in
     let formula : IsSimplifiable o f = simplifiable o f c.requires.formula c.in_ok-see_formula.ensures.within in
-    if_ok_map c.repeated.result _ _ (λ r m. subst (λ g. size atom_measure g ≤ size atom_measure f) (sym (m.same ∙ ap (simplified (atom_kit o) f) c.in_ok-known.ensures.atoms)) (brings_no_atom o ks f formula)) c.repeated.ensures.made
+    subst (λ g. size atom_measure g ≤ size atom_measure f) (sym (returns-clause-simplified c)) (brings_no_atom o ks f formula)
 
 pub returns-clause-text : goal.returns-clause-text
 returns-clause-text c =
@@ -89,4 +94,4 @@ returns-clause-text c =
     let ks = map atom_of c.args.theory.now in
     let f = tree c.args.store.now c.args.id in
     let formula : IsSimplifiable o f = simplifiable o f c.requires.formula c.in_ok-see_formula.ensures.within in
-    if_ok_map c.repeated.result _ _ (λ r m. subst (λ g. (names : List (List ℕ)) → EachOf (λ name. 0 < length name) names → Every (IsAtomWithin (length names)) f → length (tree_text names g) ≤ length (tree_text names f)) (sym (m.same ∙ ap (simplified (atom_kit o) f) c.in_ok-known.ensures.atoms)) (λ names named h. no_longer names named o ks f formula h)) c.repeated.ensures.made
+    subst (λ g. (names : List (List ℕ)) → EachOf (λ name. 0 < length name) names → Every (IsAtomWithin (length names)) f → length (tree_text names g) ≤ length (tree_text names f)) (sym (returns-clause-simplified c)) (λ names named h. no_longer names named o ks f formula h)

@@ -66,4 +66,4 @@ returns-in_default-merged c =
     let l = c.args.self in
     let a = atom_of c.args.atom.now in
     let found : IsMergedAt o l.junction a l.atoms c.in-Some.place c.in-Some.merged = subst (IsPartner o l.junction a l.atoms) c.in-Some.is c.in_ok-place.ensures.partner in
-    record { with = at_most_settled o l.junction a l.atoms c.in-Some.place c.in-Some.merged found c.in_default-merged.not-One; junction = tt; normal = tt; memory = tt }
+    record { with = at_most_settled o l.junction a l.atoms c.in-Some.place c.in-Some.merged found c.in_default-merged.not-One; junction = tt; normal = tt }

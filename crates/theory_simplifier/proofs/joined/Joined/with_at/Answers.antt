@@ -2,7 +2,6 @@ use Rattle.std.proofs.Common.{◌≡◌, ◌<◌, ℕ, List, length, map, get_or
 use Rattle.std.proofs.Math.ListN.{set}
 use Rattle.formula_meaning.specs.Atom as meant
 use Rattle.atom_normal.specs.Atoms.{atom_of}
-use Rattle.nnf_trees.specs.Nnfs.{junction_of}
 use Rattle.theory_simplifier.specs.Listed.{Listed, entry_atom, IsEntry}
 use Rattle.theory_simplifier.specs.VariableParts.{part_of}
 use Rattle.theory_simplifier.proofs.Entries.{map_set, length_map, all_set}
@@ -15,13 +14,15 @@ invariant_of-result c =
     let x = c.in_ok-entries.field-0 in
     let are : map entry_atom es ≡ c.args.self.atoms = ap (λ (l : Listed). l.atoms) c.self.view_is in
     let within : c.args.place < length es = subst (λ (n : ℕ). c.args.place < n) (ap length (sym are) ∙ length_map entry_atom es) c.requires.place in (
-      all_set (IsEntry (junction_of c.self.inside.junction)) es c.args.place x c.self.invariant.0 c.in_ok-entries.ensures.entry,
+      all_set (IsEntry c.self.inside.junction) es c.args.place x c.self.invariant.0 c.in_ok-entries.ensures.entry,
       index_set es x c.self.inside.places c.self.invariant.1 c.args.place (atom_of c.args.atom) within
           (ap part_of c.in_ok-entries.ensures.atom ∙ c.requires.part ∙ ap (λ (us : List meant.Atom). part_of (get_or us c.args.place (atom_of c.args.atom))) (sym are)),
     )
 
-pub returns-clause-at : goal.returns-clause-at
-returns-clause-at c =
+pub returns : goal.returns
+returns c =
     let put : Listed → Listed = λ l. record { junction = l.junction; atoms = set l.atoms c.args.place (atom_of c.args.atom) } in
-    (λ i. record { junction = junction_of c.self.inside.junction; atoms = (map_set entry_atom c.self.inside.entries.items c.args.place c.in_ok-entries.field-0 ∙ ap (set (map entry_atom c.self.inside.entries.items) c.args.place) c.in_ok-entries.ensures.atom) i })
-    ∙ ap put c.self.view_is
+    record {
+      at = (λ i. record { junction = c.self.inside.junction; atoms = (map_set entry_atom c.self.inside.entries.items c.args.place c.in_ok-entries.field-0 ∙ ap (set (map entry_atom c.self.inside.entries.items) c.args.place) c.in_ok-entries.ensures.atom) i })
+          ∙ ap put c.self.view_is;
+    }
