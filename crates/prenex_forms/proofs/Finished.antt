@@ -25,7 +25,7 @@ use Rattle.formula_meaning.proofs.Iff.{both_ways}
 use Rattle.formula_meaning.proofs.Equivalence.{equivalent_then}
 use Rattle.elimination_theory.proofs.NegationNormal.{negation_normal_keeps_truth}
 use Rattle.elimination_theory.proofs.BothTheories.{decided}
-use Rattle.atom_normal.proofs.NormalLaws.{negated_truth, normal_in}
+use Rattle.atom_normal.proofs.NormalLaws.{negated_truth, normal_in, normal_sorted}
 use Rattle.prenex_theory.specs.Blocks.{block_count}
 use Rattle.prenex_theory.specs.NewNames.{AddsNewNames}
 use Rattle.prenex_theory.proofs.Whole.{is_prenex, has_fewest_blocks, keeps_truth, keeps_names, is_normal}
@@ -35,7 +35,7 @@ use Rattle.prenex_theory.specs.Renaming.{Chosen, nothing_chosen, after, renamed,
 use Rattle.prenex_theory.specs.Links.{Links}
 use Rattle.prenex_theory.specs.Prenex.{prenex_of, HasNamesBelow, HasPrenexForm}
 use Rattle.prenex_theory.proofs.NamedAtoms.{names_of}
-use Rattle.prenex_theory.proofs.AtomNames.{multiple_among, normal_sorted}
+use Rattle.prenex_theory.proofs.AtomNames.{multiple_among}
 use Rattle.prenex_theory.proofs.NamedAtoms.{among_mentions}
 use Rattle.prenex_theory.proofs.Whole.{links, chosen_shape}
 use Rattle.prenex_forms.specs.declared.chooser.Chooser.{Chooser}
