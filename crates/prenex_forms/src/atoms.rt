@@ -41,9 +41,7 @@ pub(crate) fn renamed_atom(
     if !is_changed(now, form(atom)) {
         return Ok(Nnf::One(atom.copy(alloc)?));
     }
-    let Ok(atom) = changed(alloc, now, atom) else {
-        return Err(AtomError::Memory);
-    };
+    let atom = changed(alloc, now, atom)?;
     match normal(alloc, context, atom)? {
         Normal::True => Ok(Nnf::Constant(true)),
         Normal::False => Ok(Nnf::Constant(false)),

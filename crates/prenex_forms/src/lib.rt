@@ -3,7 +3,6 @@
 
 mod atoms;
 mod chooser;
-mod error;
 mod form;
 mod free;
 mod front;
@@ -14,5 +13,4 @@ mod renaming;
 mod start;
 mod whole;
 
-pub use error::PrenexError;
 pub use prenex::pnf;

@@ -9,9 +9,10 @@ ghost use Rattle.prenex_forms.specs.Places.{kind_at, level_names, levels_of};
 
 use crate::front::Place;
 use formula_store::{FormulaId, Store};
-use formula_tree::{MakeError, Maker, Shape};
+use formula_tree::{Maker, Shape};
 use linear_forms::VarId;
 use nnf_trees::Quantifier;
+use std::alloc::AllocError;
 
 // The formula under a quantifier.
 fn quantified(quantifier: Quantifier, name: VarId, id: FormulaId) -> Shape<FormulaId>
@@ -34,14 +35,14 @@ fn kind_at(kind: Quantifier, level: u64) -> Quantifier
     }
 }
 
-// The formula behind one block. Its only error is `Memory`.
+// The formula behind one block.
 fn with_block(
     store: &mut Store,
     places: &[Place],
     level: u64,
     quantifier: Quantifier,
     mut id: FormulaId,
-) -> Result<FormulaId, MakeError>
+) -> Result<FormulaId, AllocError>
     requires { IsId store.old id }
     ensures made { IfOk result (λ r. IsMade (IsId store.new) (tree store.new) r (block quantifier (level_names level places.now) (tree store.old id))) }
     ensures kept { Keeps (IsId store.old) (tree store.old) (IsId store.new) (tree store.new) }
@@ -57,7 +58,7 @@ fn with_block(
     Ok(id)
 }
 
-/// The formula behind so many blocks of these places, of which the first has this kind. Its only error is `Memory`; the
+/// The formula behind so many blocks of these places, of which the first has this kind. Its only error is want of memory; the
 /// formulas of the store stay.
 pub(crate) fn with_prefix(
     store: &mut Store,
@@ -65,7 +66,7 @@ pub(crate) fn with_prefix(
     blocks: u64,
     kind: Quantifier,
     mut id: FormulaId,
-) -> Result<FormulaId, MakeError>
+) -> Result<FormulaId, AllocError>
     requires { IsId store.old id }
     ensures made { IfOk result (λ r. IsMade (IsId store.new) (tree store.new) r (prefixed kind (levels_of 0 blocks places.now) (tree store.old id))) }
     ensures kept { Keeps (IsId store.old) (tree store.old) (IsId store.new) (tree store.new) }

@@ -18,7 +18,6 @@ ghost use Rattle.prenex_theory.specs.NewNames.{AddsNewNames};
 ghost use Rattle.prenex_theory.specs.Prenex.{prenex_of};
 ghost use Rattle.prenex_forms.specs.Forms.{negation_form, OverflowsInRenaming};
 
-use crate::error::PrenexError;
 use crate::form::unfolded_form;
 use crate::new_names::add_new_names;
 use crate::renaming::renamed;
@@ -26,7 +25,7 @@ use crate::start::start;
 use crate::whole::in_front;
 use atom_normal::{AtomError, Context};
 use formula_store::{FormulaId, Store};
-use formula_tree::Names;
+use formula_tree::{FormError, Names};
 use std::alloc::Global;
 
 /// The prenex form of a formula: its negation normal form with the quantifiers in front, each in the earliest block of its kind
@@ -40,7 +39,7 @@ pub fn pnf(
     id: FormulaId,
     names: &mut Names,
     limit: u64,
-) -> Result<FormulaId, PrenexError>
+) -> Result<FormulaId, FormError>
     requires id { IsId store.old id }
     requires normal { Every (IsNormal (context_of context)) (tree store.old id) }
     requires named { IsTreeWithin (length names.old) (tree store.old id) }
@@ -60,25 +59,20 @@ pub fn pnf(
 
     ensures small { OnOk result (nodes (negation_form (tree store.old id)) ≤ limit) }
     ensures fits { OnOk result (¬ (OverflowsInRenaming (context_of context) (length names.old) (negation_form (tree store.old id)))) }
-    ensures nodes { IsErrOf result PrenexError.Nodes → limit < nodes (negation_form (tree store.old id)) }
-    ensures overflow { IsErrOf result PrenexError.Overflow → (nodes (negation_form (tree store.old id)) ≤ limit) × OverflowsInRenaming (context_of context) (length names.old) (negation_form (tree store.old id)) }
+    ensures nodes { IsErrOf result FormError.Nodes → limit < nodes (negation_form (tree store.old id)) }
+    ensures overflow { IsErrOf result FormError.Overflow → (nodes (negation_form (tree store.old id)) ≤ limit) × OverflowsInRenaming (context_of context) (length names.old) (negation_form (tree store.old id)) }
+    ensures quantified { ¬ (IsErrOf result FormError.Quantified) }
     ensures unchanged { OnErr result (names.new ≡ names.old) }
     ensures kept { Keeps (IsId store.old) (tree store.old) (IsId store.new) (tree store.new) }
 {
     let form = unfolded_form(alloc, store, id, limit)?;
-    let Ok(mut chooser) = start(alloc, &form, names.count()) else {
-        return Err(PrenexError::Memory);
-    };
+    let mut chooser = start(alloc, &form, names.count())?;
     let named = match renamed(alloc, context, &mut chooser, &form) {
         Ok(named) => named,
-        Err(AtomError::Overflow) => return Err(PrenexError::Overflow),
-        Err(AtomError::Memory) => return Err(PrenexError::Memory),
+        Err(AtomError::Overflow) => return Err(FormError::Overflow),
+        Err(AtomError::Memory) => return Err(FormError::Memory),
     };
-    let Ok(made) = in_front(alloc, store, named) else {
-        return Err(PrenexError::Memory);
-    };
-    match add_new_names(alloc, names, chooser.made) {
-        Ok(()) => Ok(made),
-        Err(_) => Err(PrenexError::Memory),
-    }
+    let made = in_front(alloc, store, named)?;
+    add_new_names(alloc, names, chooser.made)?;
+    Ok(made)
 }

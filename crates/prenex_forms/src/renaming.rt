@@ -37,17 +37,13 @@ pub(crate) fn renamed(
             Ok(Nnf::Joined(*junction, members))
         }
         Nnf::Quantified(quantifier, name, inner) => {
-            let Ok(number) = chooser.choose(*name) else {
-                return Err(AtomError::Memory);
-            };
+            let number = chooser.choose(*name)?;
             let before = chooser.now[name.number];
             chooser.rename(*name, number);
             let inner = renamed(alloc, context, chooser, inner)?;
             chooser.rename(*name, before);
-            match Box::new(alloc, inner) {
-                Ok(inner) => Ok(Nnf::Quantified(*quantifier, VarId { number }, inner)),
-                Err(_) => Err(AtomError::Memory),
-            }
+            let inner = Box::new(alloc, inner).map_err(|_| AtomError::Memory)?;
+            Ok(Nnf::Quantified(*quantifier, VarId { number }, inner))
         }
     }
 }

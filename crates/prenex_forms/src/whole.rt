@@ -46,11 +46,6 @@ fn behind(
 {
     let mut places = Vec::new(alloc);
     let matrix = stripped(alloc, f, kind, 0, &mut places)?;
-    let Ok(id) = share(alloc, store, matrix) else {
-        return Err(AllocError);
-    };
-    match with_prefix(store, &places, count, kind, id) {
-        Ok(id) => Ok(id),
-        Err(_) => Err(AllocError),
-    }
+    let id = share(alloc, store, matrix)?;
+    with_prefix(store, &places, count, kind, id)
 }

@@ -28,7 +28,7 @@ use formula_tree::FormError;
 use nnf_pnf::nnf;
 use normal_forms::{cnf, dnf};
 use plain_engine::Measured;
-use prenex_forms::{PrenexError, pnf};
+use prenex_forms::pnf;
 use shared_elimination::eliminate_shared;
 use theory_simplifier::{SimplError, see_formula, simplify};
 
@@ -99,9 +99,10 @@ fn prenexed(desk: &mut Desk, limit: u64, id: FormulaId) -> Result<FormulaId, Sta
         limit,
     ) {
         Ok(id) => Ok(id),
-        Err(PrenexError::Nodes) => Err(StatementError::Nodes),
-        Err(PrenexError::Overflow) => Err(StatementError::Overflow),
-        Err(PrenexError::Memory) => Err(StatementError::Memory),
+        Err(FormError::Nodes) => Err(StatementError::Nodes),
+        Err(FormError::Overflow) => Err(StatementError::Overflow),
+        Err(FormError::Memory) => Err(StatementError::Memory),
+        Err(FormError::Quantified) => unreachable!(),
     }
 }
 

@@ -31,4 +31,4 @@ returns-then-not-is_changed-clause-fits c =
 
 pub normal-requires-clause-in_context : goal.normal-requires-clause-in_context
 normal-requires-clause-in_context c =
-    c.in-Ok.ensures.in_context (context_of c.args.context) (normal_in (context_of c.args.context) (atom_of c.args.atom.now) c.requires.normal)
+    c.in_ok-atom.ensures.in_context (context_of c.args.context) (normal_in (context_of c.args.context) (atom_of c.args.atom.now) c.requires.normal)

@@ -26,108 +26,108 @@ renamed-requires-clause-ready c =
     let o = context_of c.args.context in
     let n = length c.args.names.now in
     let f = tree c.args.store.now c.args.id in
-    let s = c.in-Ok.chooser in
+    let s = c.in_ok-chooser.chooser in
     let e = c.in_ok-form.ensures.form in
     let h = has_prenex_form o n f c.requires.normal c.requires.named in
-    let taken = subst (λ (g : Tree). (x : ℕ) → flag s.taken.items x ≡ is_in nat_eq x (tree_names g)) e c.in-Ok.ensures.taken in
-    subst (λ (g : Tree). CanRename o s g) (sym e) (ready o n (negation_form f) s h taken c.in-Ok.ensures.made c.in-Ok.ensures.now (c.in-Ok.ensures.count ∙ c.count.ensures))
+    let taken = subst (λ (g : Tree). (x : ℕ) → flag s.taken.items x ≡ is_in nat_eq x (tree_names g)) e c.in_ok-chooser.ensures.taken in
+    subst (λ (g : Tree). CanRename o s g) (sym e) (ready o n (negation_form f) s h taken c.in_ok-chooser.ensures.made c.in_ok-chooser.ensures.now (c.in_ok-chooser.ensures.count ∙ c.count.ensures))
 
 pub returns-in-Err-Overflow-clause-overflow : goal.returns-in-Err-Overflow-clause-overflow
 returns-in-Err-Overflow-clause-overflow c =
     let o = context_of c.args.context in
     let n = length c.args.names.now in
     let f = tree c.args.store.now c.args.id in
-    let s = c.in-Ok.chooser in
+    let s = c.in_ok-chooser.chooser in
     let e = c.in_ok-form.ensures.form in
     let h = has_prenex_form o n f c.requires.normal c.requires.named in
-    let taken = subst (λ (g : Tree). (x : ℕ) → flag s.taken.items x ≡ is_in nat_eq x (tree_names g)) e c.in-Ok.ensures.taken in
+    let taken = subst (λ (g : Tree). (x : ℕ) → flag s.taken.items x ≡ is_in nat_eq x (tree_names g)) e c.in_ok-chooser.ensures.taken in
     let passes : Overflows o s (nnf_of c.in_ok-form.form) = search rules in
     λ _. (
       c.in_ok-form.ensures.small,
-      overflows_whole o n (negation_form f) s h taken c.in-Ok.ensures.made c.in-Ok.ensures.now (c.in-Ok.ensures.count ∙ c.count.ensures)
+      overflows_whole o n (negation_form f) s h taken c.in_ok-chooser.ensures.made c.in_ok-chooser.ensures.now (c.in_ok-chooser.ensures.count ∙ c.count.ensures)
           (subst (λ (g : Tree). Overflows o s g) e passes),
     )
 
-pub returns-in_default-in_front-clause-kept : goal.returns-in_default-in_front-clause-kept
-returns-in_default-in_front-clause-kept c = keeps_then c.args.store.now c.unfolded_form.new.store c.in_front.new.store c.unfolded_form.ensures.kept c.in_front.ensures.kept
+pub returns-in_err-made-clause-kept : goal.returns-in_err-made-clause-kept
+returns-in_err-made-clause-kept c = keeps_then c.args.store.now c.unfolded_form.new.store c.in_front.new.store c.unfolded_form.ensures.kept c.in_front.ensures.kept
 
-pub returns-in-Ok-add_new_names-clause-made : goal.returns-in-Ok-add_new_names-clause-made
-returns-in-Ok-add_new_names-clause-made c =
+pub returns-in_err-add_new_names-clause-kept : goal.returns-in_err-add_new_names-clause-kept
+returns-in_err-add_new_names-clause-kept c = keeps_then c.args.store.now c.unfolded_form.new.store c.in_front.new.store c.unfolded_form.ensures.kept c.in_front.ensures.kept
+
+pub returns-clause-made : goal.returns-clause-made
+returns-clause-made c =
     let o = context_of c.args.context in
     let n = length c.args.names.now in
     let f = tree c.args.store.now c.args.id in
-    let s = c.in-Ok.chooser in
+    let s = c.in_ok-chooser.chooser in
     let e = c.in_ok-form.ensures.form in
     let h = has_prenex_form o n f c.requires.normal c.requires.named in
-    let taken = subst (λ (g : Tree). (x : ℕ) → flag s.taken.items x ≡ is_in nat_eq x (tree_names g)) e c.in-Ok.ensures.taken in
-    let r = subst (λ (g : Tree). IsRenamed o s g (nnf_of c.in-Ok-renamed.named) c.renamed.new.chooser) e c.in-Ok-renamed.ensures.made in
+    let taken = subst (λ (g : Tree). (x : ℕ) → flag s.taken.items x ≡ is_in nat_eq x (tree_names g)) e c.in_ok-chooser.ensures.taken in
+    let r = subst (λ (g : Tree). IsRenamed o s g (nnf_of c.in-Ok.named) c.renamed.new.chooser) e c.in-Ok.ensures.made in
     record {
-      is = c.in-Ok-in_front.ensures.made.is;
-      same = c.in-Ok-in_front.ensures.made.same ∙ whole_is o n (negation_form f) s h taken c.in-Ok.ensures.made c.in-Ok.ensures.now (c.in-Ok.ensures.count ∙ c.count.ensures) (nnf_of c.in-Ok-renamed.named) c.renamed.new.chooser r;
+      is = c.in_ok-made.ensures.made.is;
+      same = c.in_ok-made.ensures.made.same ∙ whole_is o n (negation_form f) s h taken c.in_ok-chooser.ensures.made c.in_ok-chooser.ensures.now (c.in_ok-chooser.ensures.count ∙ c.count.ensures) (nnf_of c.in-Ok.named) c.renamed.new.chooser r;
     }
 
-pub returns-in-Ok-add_new_names-clause-names : goal.returns-in-Ok-add_new_names-clause-names
-returns-in-Ok-add_new_names-clause-names c =
+pub returns-clause-names : goal.returns-clause-names
+returns-clause-names c =
     let o = context_of c.args.context in
     let n = length c.args.names.now in
     let f = tree c.args.store.now c.args.id in
-    let s = c.in-Ok.chooser in
+    let s = c.in_ok-chooser.chooser in
     let e = c.in_ok-form.ensures.form in
     let h = has_prenex_form o n f c.requires.normal c.requires.named in
-    let taken = subst (λ (g : Tree). (x : ℕ) → flag s.taken.items x ≡ is_in nat_eq x (tree_names g)) e c.in-Ok.ensures.taken in
-    let r = subst (λ (g : Tree). IsRenamed o s g (nnf_of c.in-Ok-renamed.named) c.renamed.new.chooser) e c.in-Ok-renamed.ensures.made in
+    let taken = subst (λ (g : Tree). (x : ℕ) → flag s.taken.items x ≡ is_in nat_eq x (tree_names g)) e c.in_ok-chooser.ensures.taken in
+    let r = subst (λ (g : Tree). IsRenamed o s g (nnf_of c.in-Ok.named) c.renamed.new.chooser) e c.in-Ok.ensures.made in
     subst (λ (k : ℕ). AddsNewNames c.args.names.now k c.add_new_names.new.names)
-    (new_names o n (negation_form f) s h taken c.in-Ok.ensures.made c.in-Ok.ensures.now (c.in-Ok.ensures.count ∙ c.count.ensures) (nnf_of c.in-Ok-renamed.named) c.renamed.new.chooser r) c.in-Ok-add_new_names.ensures.added
+    (new_names o n (negation_form f) s h taken c.in_ok-chooser.ensures.made c.in_ok-chooser.ensures.now (c.in_ok-chooser.ensures.count ∙ c.count.ensures) (nnf_of c.in-Ok.named) c.renamed.new.chooser r) c.in_ok-add_new_names.ensures.added
 
-pub returns-in-Ok-add_new_names-clause-named : goal.returns-in-Ok-add_new_names-clause-named
-returns-in-Ok-add_new_names-clause-named c =
+pub returns-clause-named : goal.returns-clause-named
+returns-clause-named c =
     let o = context_of c.args.context in
     let n = length c.args.names.now in
     let f = tree c.args.store.now c.args.id in
-    let m = returns-in-Ok-add_new_names-clause-made c in
-    let added = returns-in-Ok-add_new_names-clause-names c in
-    subst (λ (k : ℕ). IsTreeWithin k (tree c.in_front.new.store c.in-Ok-in_front.made)) (sym (length_more (new_count n (negation_form f)) c.args.names.now c.add_new_names.new.names added))
-    (finished o n f (tree c.in_front.new.store c.in-Ok-in_front.made) c.requires.normal c.requires.named m.same).named
+    let m = returns-clause-made c in
+    let added = returns-clause-names c in
+    subst (λ (k : ℕ). IsTreeWithin k (tree c.in_front.new.store c.in_ok-made.made)) (sym (length_more (new_count n (negation_form f)) c.args.names.now c.add_new_names.new.names added))
+    (finished o n f (tree c.in_front.new.store c.in_ok-made.made) c.requires.normal c.requires.named m.same).named
 
-pub returns-in-Ok-add_new_names-clause-prenex : goal.returns-in-Ok-add_new_names-clause-prenex
-returns-in-Ok-add_new_names-clause-prenex c =
-    let m = returns-in-Ok-add_new_names-clause-made c in
-    (finished (context_of c.args.context) (length c.args.names.now) (tree c.args.store.now c.args.id) (tree c.in_front.new.store c.in-Ok-in_front.made) c.requires.normal c.requires.named m.same).prenex
+pub returns-clause-prenex : goal.returns-clause-prenex
+returns-clause-prenex c =
+    let m = returns-clause-made c in
+    (finished (context_of c.args.context) (length c.args.names.now) (tree c.args.store.now c.args.id) (tree c.in_front.new.store c.in_ok-made.made) c.requires.normal c.requires.named m.same).prenex
 
-pub returns-in-Ok-add_new_names-clause-fewest : goal.returns-in-Ok-add_new_names-clause-fewest
-returns-in-Ok-add_new_names-clause-fewest c =
-    let m = returns-in-Ok-add_new_names-clause-made c in
-    (finished (context_of c.args.context) (length c.args.names.now) (tree c.args.store.now c.args.id) (tree c.in_front.new.store c.in-Ok-in_front.made) c.requires.normal c.requires.named m.same).fewest
+pub returns-clause-fewest : goal.returns-clause-fewest
+returns-clause-fewest c =
+    let m = returns-clause-made c in
+    (finished (context_of c.args.context) (length c.args.names.now) (tree c.args.store.now c.args.id) (tree c.in_front.new.store c.in_ok-made.made) c.requires.normal c.requires.named m.same).fewest
 
-pub returns-in-Ok-add_new_names-clause-truth : goal.returns-in-Ok-add_new_names-clause-truth
-returns-in-Ok-add_new_names-clause-truth c =
-    let m = returns-in-Ok-add_new_names-clause-made c in
-    (finished (context_of c.args.context) (length c.args.names.now) (tree c.args.store.now c.args.id) (tree c.in_front.new.store c.in-Ok-in_front.made) c.requires.normal c.requires.named m.same).truth
+pub returns-clause-truth : goal.returns-clause-truth
+returns-clause-truth c =
+    let m = returns-clause-made c in
+    (finished (context_of c.args.context) (length c.args.names.now) (tree c.args.store.now c.args.id) (tree c.in_front.new.store c.in_ok-made.made) c.requires.normal c.requires.named m.same).truth
 
-pub returns-in-Ok-add_new_names-clause-free : goal.returns-in-Ok-add_new_names-clause-free
-returns-in-Ok-add_new_names-clause-free c =
-    let m = returns-in-Ok-add_new_names-clause-made c in
-    (finished (context_of c.args.context) (length c.args.names.now) (tree c.args.store.now c.args.id) (tree c.in_front.new.store c.in-Ok-in_front.made) c.requires.normal c.requires.named m.same).free
+pub returns-clause-free : goal.returns-clause-free
+returns-clause-free c =
+    let m = returns-clause-made c in
+    (finished (context_of c.args.context) (length c.args.names.now) (tree c.args.store.now c.args.id) (tree c.in_front.new.store c.in_ok-made.made) c.requires.normal c.requires.named m.same).free
 
-pub returns-in-Ok-add_new_names-clause-normal : goal.returns-in-Ok-add_new_names-clause-normal
-returns-in-Ok-add_new_names-clause-normal c =
-    let m = returns-in-Ok-add_new_names-clause-made c in
-    (finished (context_of c.args.context) (length c.args.names.now) (tree c.args.store.now c.args.id) (tree c.in_front.new.store c.in-Ok-in_front.made) c.requires.normal c.requires.named m.same).normal
+pub returns-clause-normal : goal.returns-clause-normal
+returns-clause-normal c =
+    let m = returns-clause-made c in
+    (finished (context_of c.args.context) (length c.args.names.now) (tree c.args.store.now c.args.id) (tree c.in_front.new.store c.in_ok-made.made) c.requires.normal c.requires.named m.same).normal
 
-pub returns-in-Ok-add_new_names-clause-fits : goal.returns-in-Ok-add_new_names-clause-fits
-returns-in-Ok-add_new_names-clause-fits c =
+pub returns-clause-fits : goal.returns-clause-fits
+returns-clause-fits c =
     let o = context_of c.args.context in
     let n = length c.args.names.now in
     let f = tree c.args.store.now c.args.id in
-    let s = c.in-Ok.chooser in
+    let s = c.in_ok-chooser.chooser in
     let e = c.in_ok-form.ensures.form in
     let h = has_prenex_form o n f c.requires.normal c.requires.named in
-    let taken = subst (λ (g : Tree). (x : ℕ) → flag s.taken.items x ≡ is_in nat_eq x (tree_names g)) e c.in-Ok.ensures.taken in
-    let r = subst (λ (g : Tree). IsRenamed o s g (nnf_of c.in-Ok-renamed.named) c.renamed.new.chooser) e c.in-Ok-renamed.ensures.made in
-    fits_whole o n (negation_form f) s h taken c.in-Ok.ensures.made c.in-Ok.ensures.now (c.in-Ok.ensures.count ∙ c.count.ensures) (nnf_of c.in-Ok-renamed.named) c.renamed.new.chooser r
-
-pub returns-in-Ok-add_new_names-clause-kept : goal.returns-in-Ok-add_new_names-clause-kept
-returns-in-Ok-add_new_names-clause-kept c = keeps_then c.args.store.now c.unfolded_form.new.store c.in_front.new.store c.unfolded_form.ensures.kept c.in_front.ensures.kept
+    let taken = subst (λ (g : Tree). (x : ℕ) → flag s.taken.items x ≡ is_in nat_eq x (tree_names g)) e c.in_ok-chooser.ensures.taken in
+    let r = subst (λ (g : Tree). IsRenamed o s g (nnf_of c.in-Ok.named) c.renamed.new.chooser) e c.in-Ok.ensures.made in
+    fits_whole o n (negation_form f) s h taken c.in_ok-chooser.ensures.made c.in_ok-chooser.ensures.now (c.in_ok-chooser.ensures.count ∙ c.count.ensures) (nnf_of c.in-Ok.named) c.renamed.new.chooser r
 
 pub returns-clause-kept : goal.returns-clause-kept
 returns-clause-kept c = keeps_then c.args.store.now c.unfolded_form.new.store c.in_front.new.store c.unfolded_form.ensures.kept c.in_front.ensures.kept

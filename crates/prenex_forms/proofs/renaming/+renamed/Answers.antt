@@ -99,16 +99,16 @@ renamed-renamed-requires t c =
     let n : nodes (nnf_of c.deref-in-Quantified.result.now) ≡ nodes g = ap nodes d in
     let ready = subst (λ (h : Tree). CanRename o old h) same c.requires.ready in
     let lt : x < length old.now.items = search rules in
-    let inside : IsInside o old x c.in-Ok.number c.rename.new.self = record {
-      name = c.in-Ok.ensures.name;
-      now = ap now_of (c.rename.ensures.now ∙ ap (λ xs. slice_set xs x c.in-Ok.number) c.in-Ok.ensures.now) ∙ now_set old.now.items x c.in-Ok.number lt;
-      chosen = c.rename.ensures.chosen ∙ c.in-Ok.ensures.chosen;
-      count = c.rename.ensures.count ∙ c.in-Ok.ensures.count;
+    let inside : IsInside o old x c.in_ok-number-in-Quantified.number c.rename.new.self = record {
+      name = c.in_ok-number-in-Quantified.ensures.name;
+      now = ap now_of (c.rename.ensures.now ∙ ap (λ xs. slice_set xs x c.in_ok-number-in-Quantified.number) c.in_ok-number-in-Quantified.ensures.now) ∙ now_set old.now.items x c.in_ok-number-in-Quantified.number lt;
+      chosen = c.rename.ensures.chosen ∙ c.in_ok-number-in-Quantified.ensures.chosen;
+      count = c.rename.ensures.count ∙ c.in_ok-number-in-Quantified.ensures.count;
     } in (
       omega (arith, e, n),
       (
         subst (Every IsWellFormed) (ap nnf_atoms c.in-Quantified.is ∙ atoms-Quantified q c.in-Quantified.name c.in-Quantified.inner ∙ ap nnf_atoms (sym c.deref-in-Quantified.ensures)) c.requires.proper,
-        subst (λ (h : Tree). CanRename o c.rename.new.self h) (sym d) (quantified_ready o q old x c.in-Ok.number c.rename.new.self g inside ready),
+        subst (λ (h : Tree). CanRename o c.rename.new.self h) (sym d) (quantified_ready o q old x c.in_ok-number-in-Quantified.number c.rename.new.self g inside ready),
       ),
     )
 
@@ -122,25 +122,25 @@ renamed-returns-in_err-inner-in-Quantified-clause-overflow t c =
     let d : nnf_of c.deref-in-Quantified.result.now ≡ g = ap nnf_of c.deref-in-Quantified.ensures in
     let same : nnf_of c.args.f.now ≡ quantified q x g = ap nnf_of c.in-Quantified.is ∙ nnf-Quantified q c.in-Quantified.name c.in-Quantified.inner in
     let lt : x < length old.now.items = search rules in
-    let inside : IsInside o old x c.in-Ok.number c.rename.new.self = record {
-      name = c.in-Ok.ensures.name;
-      now = ap now_of (c.rename.ensures.now ∙ ap (λ xs. slice_set xs x c.in-Ok.number) c.in-Ok.ensures.now) ∙ now_set old.now.items x c.in-Ok.number lt;
-      chosen = c.rename.ensures.chosen ∙ c.in-Ok.ensures.chosen;
-      count = c.rename.ensures.count ∙ c.in-Ok.ensures.count;
+    let inside : IsInside o old x c.in_ok-number-in-Quantified.number c.rename.new.self = record {
+      name = c.in_ok-number-in-Quantified.ensures.name;
+      now = ap now_of (c.rename.ensures.now ∙ ap (λ xs. slice_set xs x c.in_ok-number-in-Quantified.number) c.in_ok-number-in-Quantified.ensures.now) ∙ now_set old.now.items x c.in_ok-number-in-Quantified.number lt;
+      chosen = c.rename.ensures.chosen ∙ c.in_ok-number-in-Quantified.ensures.chosen;
+      count = c.rename.ensures.count ∙ c.in_ok-number-in-Quantified.ensures.count;
     } in
     let is : c.from_residual-in_err-inner-in-Quantified.result ≡ Err c.in_err-inner-in-Quantified.field-0.0 = search rules in
     λ h.
     let p : c.in_err-inner-in-Quantified.field-0.0 ≡ error.Overflow = cc (is, h) in
-    subst (λ (k : Tree). Overflows o old k) (sym same) (quantified_overflows o q old x c.in-Ok.number c.rename.new.self g inside
+    subst (λ (k : Tree). Overflows o old k) (sym same) (quantified_overflows o q old x c.in_ok-number-in-Quantified.number c.rename.new.self g inside
     (subst (λ (k : Tree). Overflows o c.rename.new.self k) d (c.in_err-inner-in-Quantified.ensures.overflow (ap Err p))))
 
-pub renamed-returns-in-Ok-new-clause-made : goal.renamed-returns-in-Ok-new-clause-made
-renamed-returns-in-Ok-new-clause-made t c =
+pub renamed-returns-in_ok-inner-in-Quantified-2-clause-made : goal.renamed-returns-in_ok-inner-in-Quantified-2-clause-made
+renamed-returns-in_ok-inner-in-Quantified-2-clause-made t c =
     let o = context_of c.args.context in
     let old = c.args.chooser.now in
     let q = c.in-Quantified.quantifier in
     let x = c.in-Quantified.name.number in
-    let y = c.in-Ok.number in
+    let y = c.in_ok-number-in-Quantified.number in
     let g = nnf_of c.in-Quantified.inner.value in
     let r = nnf_of c.in_ok-inner-in-Quantified.inner in
     let out = c.renamed.new.chooser in
@@ -149,16 +149,17 @@ renamed-returns-in-Ok-new-clause-made t c =
     let same : nnf_of c.args.f.now ≡ quantified q x g = ap nnf_of c.in-Quantified.is ∙ nnf-Quantified q c.in-Quantified.name c.in-Quantified.inner in
     let lt : x < length old.now.items = search rules in
     let inside : IsInside o old x y c.rename.new.self = record {
-      name = c.in-Ok.ensures.name;
-      now = ap now_of (c.rename.ensures.now ∙ ap (λ xs. slice_set xs x y) c.in-Ok.ensures.now) ∙ now_set old.now.items x y lt;
-      chosen = c.rename.ensures.chosen ∙ c.in-Ok.ensures.chosen;
-      count = c.rename.ensures.count ∙ c.in-Ok.ensures.count;
+      name = c.in_ok-number-in-Quantified.ensures.name;
+      now = ap now_of (c.rename.ensures.now ∙ ap (λ xs. slice_set xs x y) c.in_ok-number-in-Quantified.ensures.now) ∙ now_set old.now.items x y lt;
+      chosen = c.rename.ensures.chosen ∙ c.in_ok-number-in-Quantified.ensures.chosen;
+      count = c.rename.ensures.count ∙ c.in_ok-number-in-Quantified.ensures.count;
     } in
     let inner : IsRenamed o c.rename.new.self g r out = subst (λ (k : Tree). IsRenamed o c.rename.new.self k r out) d c.in_ok-inner-in-Quantified.ensures.made in
     let start = c.choose.new.self.now.items in
     let kept : new.now.items ≡ old.now.items =
     c.rename-in-Quantified.ensures.now ∙ ap (slice_set out.now.items x) c.index-before.ensures
-    ∙ set_back start out.now.items x y c.index-before.result.now (inner.now ∙ c.rename.ensures.now) ∙ c.in-Ok.ensures.now in
-    let made : nnf_of (nnf.Quantified q (record { number = y }) c.in-Ok-new.inner) ≡ quantified q y r = nnf-Quantified q (record { number = y }) c.in-Ok-new.inner ∙ ap (λ k. quantified q y (nnf_of k)) c.in-Ok-new.ensures.ok in
+    ∙ set_back start out.now.items x y c.index-before.result.now (inner.now ∙ c.rename.ensures.now) ∙ c.in_ok-number-in-Quantified.ensures.now in
+    let held : c.in_ok-inner-in-Quantified-2.inner.value ≡ c.in_ok-inner-in-Quantified.inner = search rules in
+    let made : nnf_of (nnf.Quantified q (record { number = y }) c.in_ok-inner-in-Quantified-2.inner) ≡ quantified q y r = nnf-Quantified q (record { number = y }) c.in_ok-inner-in-Quantified-2.inner ∙ ap (λ k. quantified q y (nnf_of k)) held in
     subst (λ (k : Tree). IsRenamed o old (nnf_of c.args.f.now) k new) (sym made) (subst (λ (k : Tree). IsRenamed o old k (quantified q y r) new) (sym same)
     (quantified_renamed o q old x y c.rename.new.self g r out new inside inner c.rename-in-Quantified.ensures.chosen c.rename-in-Quantified.ensures.count kept))
