@@ -78,6 +78,9 @@ module _ {S : Type 0} (step : Tree → S → S) where
     pub through_more : (ids : List Id) (i : ℕ) (d : Id) (s : S) → i < length ids → through step (map t (take (i + 1) ids)) s ≡ step (t (get_or ids i d)) (through step (map t (take i ids)) s)
     through_more ids i d s h = ap (λ xs. through step (map t xs) s) (take_more ids i d h) ∙ ap (λ fs. through step fs s) (map_last (take i ids) (get_or ids i d)) ∙ through_last (map t (take i ids)) (t (get_or ids i d)) s
 
+    pub through_next : (ids : List Id) (i : ℕ) (d : Id) (s before after : S) → i < length ids → after ≡ step (t (get_or ids i d)) before → before ≡ through step (map t (take i ids)) s → after ≡ through step (map t (take (i + 1) ids)) s
+    through_next ids i d s before after h e f = e ∙ ap (step (t (get_or ids i d))) f ∙ sym (through_more ids i d s h)
+
     pub through_all : (ids : List Id) (i : ℕ) (s : S) → length ids ≤ i → through step (map t (take i ids)) s ≡ through step (map t ids) s
     through_all ids i s h = ap (λ xs. through step (map t xs) s) (take_all i ids h)
 

@@ -67,7 +67,7 @@ impl Joined {
     /// The atoms as they are, joined by `and`.
     pub(crate) fn of(alloc: Global, atoms: &[Atom]) -> Result<Joined, AllocError>
         requires { AllByRecursion IsWellFormed atoms.now }
-        ensures listed { IfOk result (λ l. l ≡ record { junction = Conjunction; atoms = map atom_of atoms.now }) }
+        ensures { IfOk result (λ l. l ≡ record { junction = Conjunction; atoms = map atom_of atoms.now }) }
     {
         let mut list = Joined::new(alloc, Junction::Conjunction);
         for atom in atoms {
@@ -145,7 +145,7 @@ impl Joined {
         requires part { part.now ≡ part_of (atom_of atom.now) }
         requires normal { IsNormalWithin (context_of context) (atom_of atom.now) }
         requires atoms { EachOf (IsNormalWithin (context_of context)) self.now.atoms }
-        ensures partner { IfOk result (IsPartner (context_of context) self.now.junction (atom_of atom.now) self.now.atoms) }
+        ensures { IfOk result (IsPartner (context_of context) self.now.junction (atom_of atom.now) self.now.atoms) }
     {
         for place in places_at(&self.places, part) {
             let other = &self.entries[*place].atom;
@@ -161,7 +161,7 @@ impl Joined {
     fn with_last(self, alloc: Global, atom: &Atom, part: Linear) -> Result<Joined, AllocError>
         requires well_formed { IsWellFormed atom.now }
         requires part { part ≡ part_of (atom_of atom.now) }
-        ensures last { IfOk result (λ l. l ≡ record { junction = self.junction; atoms = self.atoms ++ atom_of atom.now ∷ [] }) }
+        ensures { IfOk result (λ l. l ≡ record { junction = self.junction; atoms = self.atoms ++ atom_of atom.now ∷ [] }) }
     {
         let Joined {
             junction,
@@ -184,7 +184,7 @@ impl Joined {
         requires well_formed { IsWellFormed atom }
         requires place { place < length self.atoms }
         requires part { part_of (atom_of atom) ≡ part_of (get_or self.atoms place (atom_of atom)) }
-        ensures at { IfOk result (λ l. l ≡ record { junction = self.junction; atoms = set self.atoms place (atom_of atom) }) }
+        ensures { IfOk result (λ l. l ≡ record { junction = self.junction; atoms = set self.atoms place (atom_of atom) }) }
     {
         let Joined {
             junction,

@@ -49,7 +49,7 @@ impl Known {
 
     /// Goes inside.
     pub(crate) fn enter(&mut self, frame: Frame) -> Result<(), AllocError>
-        ensures entered { OnOk result (self.new ≡ self.old ++ frame ∷ []) }
+        ensures { OnOk result (self.new ≡ self.old ++ frame ∷ []) }
     {
         self.frames.push(frame)?;
         Ok(())

@@ -15,7 +15,7 @@ use std::alloc::{AllocError, Global};
 /// as the constant.
 pub(crate) fn variable_part(alloc: Global, atom: &Atom) -> Result<Linear, AllocError>
     requires { IsWellFormed atom.now }
-    ensures part { IfOk result (λ p. p ≡ part_of (atom_of atom.now)) }
+    ensures { IfOk result (λ p. p ≡ part_of (atom_of atom.now)) }
 {
     match atom {
         Atom::Compare(_, form) => divided(alloc, form),
@@ -26,7 +26,7 @@ pub(crate) fn variable_part(alloc: Global, atom: &Atom) -> Result<Linear, AllocE
 // The form with another constant.
 fn with_constant(alloc: Global, form: &Linear, constant: i128) -> Result<Linear, AllocError>
     requires { InLimit constant }
-    ensures terms { IfOk result (λ r. r ≡ record { terms = form.now.terms; constant = constant }) }
+    ensures { IfOk result (λ r. r ≡ record { terms = form.now.terms; constant = constant }) }
 {
     let copy = form.copy(alloc).map_err(|_| AllocError)?;
     Ok(copy.with_constant(constant))
@@ -34,16 +34,17 @@ fn with_constant(alloc: Global, form: &Linear, constant: i128) -> Result<Linear,
 
 // The form with the constant 0, divided by its content, if that is not 0.
 fn divided(alloc: Global, form: &Linear) -> Result<Linear, AllocError>
-    ensures terms { IfOk result (λ r. r ≡ record { terms = part_terms form.now.terms; constant = pos 0 }) }
+    ensures { IfOk result (λ r. r ≡ record { terms = part_terms form.now.terms; constant = pos 0 }) }
 {
     let whole = with_constant(alloc, form, 0)?;
     divided_by(alloc, whole, form.content())
 }
+
 // The form divided by its content, if that is not 0.
 fn divided_by(alloc: Global, form: Linear, content: i128) -> Result<Linear, AllocError>
     requires content { content ≡ content_of (coefficients form.terms) }
     requires divides { DividesAll content (form.constant ∷ coefficients form.terms) }
-    ensures terms { IfOk result (λ r. r ≡ record { terms = part_terms form.terms; constant = pos 0 }) }
+    ensures { IfOk result (λ r. r ≡ record { terms = part_terms form.terms; constant = pos 0 }) }
 {
     if content.cmp(&0).is_eq() {
         return Ok(form.with_constant(0));

@@ -59,7 +59,7 @@ impl Others {
 
     /// The formula last, unless it is there.
     pub(crate) fn add(&mut self, id: FormulaId) -> Result<(), AllocError>
-        ensures added { OnOk result (self.new ≡ insert_key same_id self.old id) }
+        ensures { OnOk result (self.new ≡ insert_key same_id self.old id) }
     {
         self.ids.insert(id)?;
         Ok(())

@@ -74,7 +74,7 @@ pub(crate) fn passed(
 
 // These ids, held apart from the store.
 fn listed(alloc: Global, ids: &[FormulaId]) -> Result<Vec<FormulaId>, AllocError>
-    ensures same { IfOk result (λ v. v.items ≡ ids.now) }
+    ensures { IfOk result (λ v. v.items ≡ ids.now) }
 {
     let mut list = Vec::new(alloc);
     list.extend_from_slice(ids)?;

@@ -29,7 +29,7 @@ pub(crate) fn with_place(
     part: Linear,
     place: usize,
 ) -> Result<Places, AllocError>
-    ensures more { IfOk result (λ r. (p : Form) → places_at r p ≡ (if form_eq part p then places_at places part ++ place ∷ [] else places_at places p)) }
+    ensures { IfOk result (λ r. (p : Form) → places_at r p ≡ (if form_eq part p then places_at places part ++ place ∷ [] else places_at places p)) }
 {
     let mut places = places;
     let mut list = match places.remove(&part) {

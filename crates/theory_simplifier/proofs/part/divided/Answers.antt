@@ -12,4 +12,4 @@ pub divided_by-requires-clause-divides : goal.divided_by-requires-clause-divides
 divided_by-requires-clause-divides c =
     let fits : FitsSigned w128 c.content.result = search rules in
     subst (λ (d : ℤ). DividesAll d (c.in_ok-whole.whole.constant ∷ coefficients c.in_ok-whole.whole.terms)) (sym (to_z-of_z w128 c.content.result fits))
-    (subst (λ (f : Form). DividesAll c.content.result (f.constant ∷ coefficients f.terms)) (sym c.in_ok-whole.ensures.terms) (divides_zero c.content.result, c.content.ensures.greatest.divides))
+    (subst (λ (f : Form). DividesAll c.content.result (f.constant ∷ coefficients f.terms)) (sym c.in_ok-whole.ensures) (divides_zero c.content.result, c.content.ensures.greatest.divides))

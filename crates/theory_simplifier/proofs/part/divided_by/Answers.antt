@@ -11,6 +11,4 @@ unfolding quotient
 returns-in-Ok c =
     let nonzero : ¬ (c.args.content ≡ pos 0) = search rules in
     let same : c.in-Ok.quotient.terms ≡ quotients c.args.content c.args.form.terms = ap (λ (f : Form). f.terms) (c.in-Ok.ensures.value ∙ ap (quotient c.args.form) (to_z-of_z w128 c.args.content c.ranges.content)) in
-    record {
-      terms = c.with_constant-in-Ok.ensures.form ∙ (λ i. record { terms = (same ∙ divided_terms c.args.form.terms c.args.content c.requires.content nonzero) i; constant = pos 0 });
-    }
+    c.with_constant-in-Ok.ensures.form ∙ (λ i. record { terms = (same ∙ divided_terms c.args.form.terms c.args.content c.requires.content nonzero) i; constant = pos 0 })

@@ -1,4 +1,4 @@
-use Rattle.std.proofs.Common.{[], map, sym, ap, ◌∙◌, get_or, arith}
+use Rattle.std.proofs.Common.{[], map, ◌∙◌, arith}
 use Rattle.formula_meaning.specs.Formula.{none}
 use Rattle.atom_normal.specs.Atoms.{context_of}
 use Rattle.atom_merging.specs.Computed.{IsNormalWithin}
@@ -6,7 +6,7 @@ use Rattle.simplified_formulas.specs.AtomKit.{atom_kit}
 use Rattle.simplified_formulas.specs.Pass.{Open, with_atom_first}
 use Rattle.formula_store.specs.Nodes.{tree}
 use Rattle.theory_simplifier.specs.Known.{known_atoms}
-use Rattle.theory_simplifier.proofs.Members.{through_atoms, through_more, through_all, orderly_at}
+use Rattle.theory_simplifier.proofs.Members.{through_atoms, through_next, through_all, orderly_at}
 use Rattle.theory_simplifier.proofs.parts.with_atoms.Goals as goal
 
 pub with_atom_first-requires-clause-formula : goal.with_atom_first-requires-clause-formula
@@ -14,15 +14,11 @@ with_atom_first-requires-clause-formula c = orderly_at (IsNormalWithin (context_
 
 pub loop-id-preserved : goal.loop-id-preserved
 loop-id-preserved c =
-    let o = context_of c.args.context in
-    let j = c.args.junction in
-    let ks = known_atoms c.args.known.now in
-    let t = tree c.args.store.now in
     record {
       list = c.in_ok-parts.ensures.list;
       ids = c.in_ok-parts.ensures.ids;
-      so_far = c.in_ok-parts.ensures.with ∙ ap (with_atom_first (atom_kit o) j ks (t (get_or c.args.ids.now c.loop-id.id-index (record { number = 0 })))) c.loop-id.invariant.so_far
-          ∙ sym (through_more (with_atom_first (atom_kit o) j ks) t c.args.ids.now c.loop-id.id-index (record { number = 0 }) (Open [] none) c.loop-id-test.true);
+      so_far = through_next (with_atom_first (atom_kit (context_of c.args.context)) c.args.junction (known_atoms c.args.known.now)) (tree c.args.store.now) c.args.ids.now c.loop-id.id-index (record { number = 0 }) (Open [] none) _ _
+          c.loop-id-test.true c.in_ok-parts.ensures.with c.loop-id.invariant.so_far;
     }
 
 pub returns-clause-with : goal.returns-clause-with

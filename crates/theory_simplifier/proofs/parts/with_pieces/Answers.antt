@@ -1,4 +1,4 @@
-use Rattle.std.proofs.Common.{map, sym, ap, ◌∙◌, get_or, arith}
+use Rattle.std.proofs.Common.{map, ◌∙◌, arith}
 use Rattle.atom_normal.specs.Atoms.{context_of}
 use Rattle.atom_merging.specs.Computed.{IsNormalWithin}
 use Rattle.simplified_formulas.specs.AtomKit.{atom_kit}
@@ -6,7 +6,7 @@ use Rattle.simplified_formulas.specs.Pass.{with_piece}
 use Rattle.formula_store.specs.Nodes.{tree}
 use Rattle.theory_simplifier.specs.Known.{known_atoms}
 use Rattle.theory_simplifier.specs.Parts.{parts_of}
-use Rattle.theory_simplifier.proofs.Members.{through_pieces, through_more, through_all, orderly_at}
+use Rattle.theory_simplifier.proofs.Members.{through_pieces, through_next, through_all, orderly_at}
 use Rattle.theory_simplifier.proofs.parts.with_pieces.Goals as goal
 
 pub with_piece-requires-clause-formula : goal.with_piece-requires-clause-formula
@@ -14,15 +14,11 @@ with_piece-requires-clause-formula c = orderly_at (IsNormalWithin (context_of c.
 
 pub loop-id-preserved : goal.loop-id-preserved
 loop-id-preserved c =
-    let o = context_of c.args.context in
-    let j = c.args.junction in
-    let ks = known_atoms c.args.known.now in
-    let t = tree c.args.store.now in
     record {
       list = c.in_ok-parts.ensures.list;
       ids = c.in_ok-parts.ensures.ids;
-      so_far = c.in_ok-parts.ensures.with ∙ ap (with_piece (atom_kit o) j ks (t (get_or c.args.ids.now c.loop-id.id-index (record { number = 0 })))) c.loop-id.invariant.so_far
-          ∙ sym (through_more (with_piece (atom_kit o) j ks) t c.args.ids.now c.loop-id.id-index (record { number = 0 }) (parts_of (tree c.args.store.now) c.args.parts) c.loop-id-test.true);
+      so_far = through_next (with_piece (atom_kit (context_of c.args.context)) c.args.junction (known_atoms c.args.known.now)) (tree c.args.store.now) c.args.ids.now c.loop-id.id-index (record { number = 0 }) (parts_of (tree c.args.store.now) c.args.parts) _ _
+          c.loop-id-test.true c.in_ok-parts.ensures.with c.loop-id.invariant.so_far;
     }
 
 pub returns-clause-with : goal.returns-clause-with

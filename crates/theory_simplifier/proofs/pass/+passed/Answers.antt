@@ -33,10 +33,10 @@ pub member_passed-returns-clause-with : goal.member_passed-returns-clause-with
 member_passed-returns-clause-with t c =
     let o = context_of c.args.context in
     let j = c.args.junction in
-    let back = last_same c.leave.new.self c.args.known.now c.in-Some-Beside.field-0 (Beside c.in-Open.atoms) (sym c.in-Some-Beside.ensures.left ∙ c.in_ok-passed.ensures.known ∙ c.in_ok-enter.ensures.entered) in
+    let back = last_same c.leave.new.self c.args.known.now c.in-Some-Beside.field-0 (Beside c.in-Open.atoms) (sym c.in-Some-Beside.ensures.left ∙ c.in_ok-passed.ensures.known ∙ c.in_ok-enter.ensures) in
     let two : Beside c.in-Some-Beside.atoms ≡ Beside c.in-Open.atoms = sym c.in-Some-Beside.field-0-is ∙ back.1 in
     let list : c.in-Some-Beside.atoms ≡ c.in-Open.atoms = cc (two) in
-    let made = c.in_ok-passed.ensures.made.same ∙ ap (λ fs. pass (atom_kit o) (tree c.args.store.now c.args.id) (known_atoms fs)) c.in_ok-enter.ensures.entered in
+    let made = c.in_ok-passed.ensures.made.same ∙ ap (λ fs. pass (atom_kit o) (tree c.args.store.now c.args.id) (known_atoms fs)) c.in_ok-enter.ensures in
     if_ok_map c.with_member.result _ _
     (λ r e. e ∙ member_step o j c.args.store.now c.passed.new.store c.passed.ensures.kept c.args.known.now c.in-Open.atoms c.in-Open.others c.args.parts c.in-Open.is c.requires.list c.requires.ids
     (tree c.args.store.now c.args.id) (tree c.passed.new.store c.in_ok-passed.passed) (sym c.is_atom.ensures ∙ c.if-is_atom.false) made c.leave.new.self back.0 c.in-Some-Beside.atoms list)
@@ -89,14 +89,14 @@ others_passed-returns-clause-with t c =
 pub quantified_passed-returns-then-is_free-clause-made : goal.quantified_passed-returns-then-is_free-clause-made
 quantified_passed-returns-then-is_free-clause-made t c =
     let o = context_of c.args.context in
-    let made = c.in_ok-inner.ensures.made.same ∙ ap (λ fs. pass (atom_kit o) (tree c.args.store.now c.args.id) (known_atoms fs)) c.in_ok-enter.ensures.entered in
+    let made = c.in_ok-inner.ensures.made.same ∙ ap (λ fs. pass (atom_kit o) (tree c.args.store.now c.args.id) (known_atoms fs)) c.in_ok-enter.ensures in
     let whole = ap (tree_over (tree c.passed.new.store)) c.quantified_over.ensures ∙ over_quantified (tree c.passed.new.store) c.args.quantifier c.args.x c.in_ok-inner.inner
     ∙ stays_quantified o c.args.x (tree c.args.store.now c.args.id) (tree c.passed.new.store c.in_ok-inner.inner) c.args.known.now made c.args.quantifier (sym (c.is_free.ensures o) ∙ c.if-is_free.true) in
     if_ok_map c.made.result _ _ (λ id m. record { is = m.is; same = m.same ∙ whole }) c.made.ensures.made
 
 pub quantified_passed-returns-then-is_free-clause-known : goal.quantified_passed-returns-then-is_free-clause-known
 quantified_passed-returns-then-is_free-clause-known t c =
-    on_ok c.made.result _ (left_same c.leave.result c.passed.new.known c.leave.new.self c.args.known.now (Under c.args.x) c.leave.ensures.left c.leave.ensures.none (c.in_ok-inner.ensures.known ∙ c.in_ok-enter.ensures.entered))
+    on_ok c.made.result _ (left_same c.leave.result c.passed.new.known c.leave.new.self c.args.known.now (Under c.args.x) c.leave.ensures.left c.leave.ensures.none (c.in_ok-inner.ensures.known ∙ c.in_ok-enter.ensures))
 
 pub quantified_passed-returns-then-is_free-clause-kept : goal.quantified_passed-returns-then-is_free-clause-kept
 quantified_passed-returns-then-is_free-clause-kept t c = keeps_then c.args.store.now c.passed.new.store c.made.new.store c.passed.ensures.kept c.made.ensures.kept
@@ -104,7 +104,7 @@ quantified_passed-returns-then-is_free-clause-kept t c = keeps_then c.args.store
 pub quantified_passed-returns-else-is_free-clause-made : goal.quantified_passed-returns-else-is_free-clause-made
 quantified_passed-returns-else-is_free-clause-made t c =
     let o = context_of c.args.context in
-    let made = c.in_ok-inner.ensures.made.same ∙ ap (λ fs. pass (atom_kit o) (tree c.args.store.now c.args.id) (known_atoms fs)) c.in_ok-enter.ensures.entered in
+    let made = c.in_ok-inner.ensures.made.same ∙ ap (λ fs. pass (atom_kit o) (tree c.args.store.now c.args.id) (known_atoms fs)) c.in_ok-enter.ensures in
     record {
       is = c.in_ok-inner.ensures.made.is;
       same = loses_quantifier o c.args.x (tree c.args.store.now c.args.id) (tree c.passed.new.store c.in_ok-inner.inner) c.args.known.now made c.args.quantifier (sym (c.is_free.ensures o) ∙ c.if-is_free.false);

@@ -6,12 +6,13 @@ use Rattle.theory_simplifier.specs.Known.{known_atoms, AreNormalFrames}
 use Rattle.theory_simplifier.proofs.Assuming.{assumed_atoms, each_within}
 use Rattle.theory_simplifier.proofs.repeat.assumed.Goals as goal
 
+frames : (c : goal.In_ok-enter) → c.enter.new.self ≡ Beside (record { junction = Conjunction; atoms = map atom_of c.args.theory.now }) ∷ []
+frames c = c.in_ok-enter.ensures ∙ (λ i. c.new-known.ensures i ++ Beside (c.in_ok-of.ensures i) ∷ [])
+
 pub returns-clause-atoms : goal.returns-clause-atoms
 returns-clause-atoms c =
-    let frames : c.enter.new.self ≡ Beside (record { junction = Conjunction; atoms = map atom_of c.args.theory.now }) ∷ [] = c.in_ok-enter.ensures.entered ∙ (λ i. c.new-known.ensures i ++ Beside (c.in_ok-of.ensures.listed i) ∷ []) in
-    ap known_atoms frames ∙ assumed_atoms (map atom_of c.args.theory.now)
+    ap known_atoms (frames c) ∙ assumed_atoms (map atom_of c.args.theory.now)
 
 pub returns-clause-normal : goal.returns-clause-normal
 returns-clause-normal c o h =
-    let frames : c.enter.new.self ≡ Beside (record { junction = Conjunction; atoms = map atom_of c.args.theory.now }) ∷ [] = c.in_ok-enter.ensures.entered ∙ (λ i. c.new-known.ensures i ++ Beside (c.in_ok-of.ensures.listed i) ∷ []) in
-    subst (AreNormalFrames o) (sym frames) (each_within o (map atom_of c.args.theory.now) h c.see_atoms.ensures, tt)
+    subst (AreNormalFrames o) (sym (frames c)) (each_within o (map atom_of c.args.theory.now) h c.see_atoms.ensures, tt)

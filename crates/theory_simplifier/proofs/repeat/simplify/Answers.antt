@@ -1,8 +1,8 @@
-use Rattle.std.proofs.Common.{◌≤◌, ◌<◌, ℕ, List, length, map, sym, ap, subst, ◌∙◌}
+use Rattle.std.proofs.Common.{◌≡◌, ◌≤◌, ◌<◌, ℕ, List, length, map, sym, ap, subst, ◌∙◌}
 use Rattle.formula_meaning.specs.Every.{Every}
 use Rattle.formula_meaning.specs.Some.{EachOf}
 use Rattle.formula_meaning.specs.Sizes.{nodes}
-use Rattle.formula_meaning.specs.Tree.{IsFree}
+use Rattle.formula_meaning.specs.Tree.{Tree, IsFree}
 use Rattle.atom_normal.specs.Atoms.{context_of, atom_of}
 use Rattle.atom_normal.specs.NormalForm.{IsNormal}
 use Rattle.simplified_formulas.specs.AtomKit.{atom_kit}
@@ -24,74 +24,47 @@ repeated-requires-clause-formula c = simplifiable (context_of c.args.context) (t
 pub repeated-requires-clause-known : goal.repeated-requires-clause-known
 repeated-requires-clause-known c = c.in_ok-known.ensures.normal (context_of c.args.context) c.requires.theory
 
+same : (c : goal.After-drop-known-inside-2) → tree c.repeated.new.store c.in_ok-repeated.field-0 ≡ simplified_under (context_of c.args.context) (map atom_of c.args.theory.now) (tree c.args.store.now c.args.id)
+same c = c.in_ok-repeated.ensures.made.same ∙ ap (simplified (atom_kit (context_of c.args.context)) (tree c.args.store.now c.args.id)) c.in_ok-known.ensures.atoms
+
+-- what holds of the simplified formula holds of the answer
+carried : (c : goal.After-drop-known-inside-2) (P : Tree → Type 0) → P (simplified_under (context_of c.args.context) (map atom_of c.args.theory.now) (tree c.args.store.now c.args.id)) → P (tree c.repeated.new.store c.in_ok-repeated.field-0)
+carried c P = subst P (sym (same c))
+
+formula_is : (c : goal.After-drop-known-inside-2) → IsSimplifiable (context_of c.args.context) (tree c.args.store.now c.args.id)
+formula_is c = simplifiable (context_of c.args.context) (tree c.args.store.now c.args.id) c.requires.formula c.in_ok-see_formula.ensures.within
+
+assumed_are : (c : goal.After-drop-known-inside-2) → AreAssumable (context_of c.args.context) (map atom_of c.args.theory.now)
+assumed_are c = each_within (context_of c.args.context) (map atom_of c.args.theory.now) c.requires.theory c.in_ok-known.ensures.within
+
+orderly : (c : goal.After-drop-known-inside-2) → IsOrderly (IsNormal (context_of c.args.context)) (simplified_under (context_of c.args.context) (map atom_of c.args.theory.now) (tree c.args.store.now c.args.id))
+orderly c = orderly_normal (context_of c.args.context) (simplified_under (context_of c.args.context) (map atom_of c.args.theory.now) (tree c.args.store.now c.args.id)) (keeps_shape (context_of c.args.context) (map atom_of c.args.theory.now) (tree c.args.store.now c.args.id) (formula_is c))
+
 pub returns-clause-simplified : goal.returns-clause-simplified
-returns-clause-simplified c =
-    let o = context_of c.args.context in
-    let f = tree c.args.store.now c.args.id in
-    c.in_ok-repeated.ensures.made.same ∙ ap (simplified (atom_kit o) f) c.in_ok-known.ensures.atoms
+returns-clause-simplified c = same c
 
 pub returns-clause-truth : goal.returns-clause-truth
-returns-clause-truth c =
-    let o = context_of c.args.context in
-    let ks = map atom_of c.args.theory.now in
-    let f = tree c.args.store.now c.args.id in
-    let assumed : AreAssumable o ks = each_within o ks c.requires.theory c.in_ok-known.ensures.within in
-    let formula : IsSimplifiable o f = simplifiable o f c.requires.formula c.in_ok-see_formula.ensures.within in
-    subst (λ g. EquivalentUnder o ks g f) (sym (returns-clause-simplified c)) (keeps_truth o ks f assumed formula)
+returns-clause-truth c = carried c (λ g. EquivalentUnder (context_of c.args.context) (map atom_of c.args.theory.now) g (tree c.args.store.now c.args.id)) (keeps_truth (context_of c.args.context) (map atom_of c.args.theory.now) (tree c.args.store.now c.args.id) (assumed_are c) (formula_is c))
 
 pub returns-clause-reduced : goal.returns-clause-reduced
-returns-clause-reduced c =
-    let o = context_of c.args.context in
-    let ks = map atom_of c.args.theory.now in
-    let f = tree c.args.store.now c.args.id in
-    let assumed : AreAssumable o ks = each_within o ks c.requires.theory c.in_ok-known.ensures.within in
-    let formula : IsSimplifiable o f = simplifiable o f c.requires.formula c.in_ok-see_formula.ensures.within in
-    subst (λ g. IsReduced o g ks) (sym (returns-clause-simplified c)) (is_reduced o ks f assumed formula)
+returns-clause-reduced c = carried c (λ g. IsReduced (context_of c.args.context) g (map atom_of c.args.theory.now)) (is_reduced (context_of c.args.context) (map atom_of c.args.theory.now) (tree c.args.store.now c.args.id) (assumed_are c) (formula_is c))
 
 pub returns-clause-shape : goal.returns-clause-shape
-returns-clause-shape c =
-    let o = context_of c.args.context in
-    let ks = map atom_of c.args.theory.now in
-    let f = tree c.args.store.now c.args.id in
-    let formula : IsSimplifiable o f = simplifiable o f c.requires.formula c.in_ok-see_formula.ensures.within in
-    subst (λ g. IsOrderly (IsNormal o) g) (sym (returns-clause-simplified c)) (orderly_normal o (simplified_under o ks f) (keeps_shape o ks f formula))
+returns-clause-shape c = carried c (IsOrderly (IsNormal (context_of c.args.context))) (orderly c)
 
 pub returns-clause-normal : goal.returns-clause-normal
-returns-clause-normal c =
-    let o = context_of c.args.context in
-    let ks = map atom_of c.args.theory.now in
-    let f = tree c.args.store.now c.args.id in
-    let formula : IsSimplifiable o f = simplifiable o f c.requires.formula c.in_ok-see_formula.ensures.within in
-    subst (λ g. Every (IsNormal o) g) (sym (returns-clause-simplified c)) (every_normal o (simplified_under o ks f) (orderly_normal o (simplified_under o ks f) (keeps_shape o ks f formula)))
+returns-clause-normal c = carried c (Every (IsNormal (context_of c.args.context))) (every_normal (context_of c.args.context) (simplified_under (context_of c.args.context) (map atom_of c.args.theory.now) (tree c.args.store.now c.args.id)) (orderly c))
 
 pub returns-clause-names : goal.returns-clause-names
-returns-clause-names c =
-    let o = context_of c.args.context in
-    let ks = map atom_of c.args.theory.now in
-    let f = tree c.args.store.now c.args.id in
-    let formula : IsSimplifiable o f = simplifiable o f c.requires.formula c.in_ok-see_formula.ensures.within in
-    subst (λ g. (x : ℕ) → IsFree g x → IsFree f x) (sym (returns-clause-simplified c)) (brings_no_name o ks f formula)
+returns-clause-names c = carried c (λ g. (x : ℕ) → IsFree g x → IsFree (tree c.args.store.now c.args.id) x) (brings_no_name (context_of c.args.context) (map atom_of c.args.theory.now) (tree c.args.store.now c.args.id) (formula_is c))
 
 pub returns-clause-nodes : goal.returns-clause-nodes
-returns-clause-nodes c =
-    let o = context_of c.args.context in
-    let ks = map atom_of c.args.theory.now in
-    let f = tree c.args.store.now c.args.id in
-    let formula : IsSimplifiable o f = simplifiable o f c.requires.formula c.in_ok-see_formula.ensures.within in
-    subst (λ g. nodes g ≤ nodes f) (sym (returns-clause-simplified c)) (brings_no_node o ks f formula)
+returns-clause-nodes c = carried c (λ g. nodes g ≤ nodes (tree c.args.store.now c.args.id)) (brings_no_node (context_of c.args.context) (map atom_of c.args.theory.now) (tree c.args.store.now c.args.id) (formula_is c))
 
 pub returns-clause-atoms : goal.returns-clause-atoms
-returns-clause-atoms c =
-    let o = context_of c.args.context in
-    let ks = map atom_of c.args.theory.now in
-    let f = tree c.args.store.now c.args.id in
-    let formula : IsSimplifiable o f = simplifiable o f c.requires.formula c.in_ok-see_formula.ensures.within in
-    subst (λ g. size atom_measure g ≤ size atom_measure f) (sym (returns-clause-simplified c)) (brings_no_atom o ks f formula)
+returns-clause-atoms c = carried c (λ g. size atom_measure g ≤ size atom_measure (tree c.args.store.now c.args.id)) (brings_no_atom (context_of c.args.context) (map atom_of c.args.theory.now) (tree c.args.store.now c.args.id) (formula_is c))
 
 pub returns-clause-text : goal.returns-clause-text
 returns-clause-text c =
-    let o = context_of c.args.context in
-    let ks = map atom_of c.args.theory.now in
-    let f = tree c.args.store.now c.args.id in
-    let formula : IsSimplifiable o f = simplifiable o f c.requires.formula c.in_ok-see_formula.ensures.within in
-    subst (λ g. (names : List (List ℕ)) → EachOf (λ name. 0 < length name) names → Every (IsAtomWithin (length names)) f → length (tree_text names g) ≤ length (tree_text names f)) (sym (returns-clause-simplified c)) (λ names named h. no_longer names named o ks f formula h)
+    carried c (λ g. (names : List (List ℕ)) → EachOf (λ name. 0 < length name) names → Every (IsAtomWithin (length names)) (tree c.args.store.now c.args.id) → length (tree_text names g) ≤ length (tree_text names (tree c.args.store.now c.args.id)))
+    (λ names named h. no_longer names named (context_of c.args.context) (map atom_of c.args.theory.now) (tree c.args.store.now c.args.id) (formula_is c) h)

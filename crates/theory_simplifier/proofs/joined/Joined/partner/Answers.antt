@@ -41,16 +41,14 @@ returns-then-not-matches c =
     let other : ¬ (c.in_ok-merged.merged ≡ Keep) = elim c.match-matches.branch [ in-Keep w ↦ absurd (true≢false (sym w.matches-is ∙ c.if-not-matches.true)) | in_default w ↦ w.in_default.not-Keep ] in
     let others = subst (λ (p : Form). EachOf (λ x. form_eq (part_of x) p ≡ false → IsApart o l.junction a x) l.atoms) (sym c.requires.part) (others_apart o l.junction a c.requires.normal.normal l.atoms c.requires.atoms) in
     record {
-      partner = record {
-        within = in_atoms j c.self.inside.entries.items l c.self.view_is c.self.invariant.0 c.self.inside.places c.self.invariant.1 c.args.part.now c.places_at-place-items.result.now c.places_at-place-items.ensures c.loop-place.place-index c.loop-place-test.true;
-        apart = before_here j c.self.inside.entries.items l c.self.view_is c.self.invariant.0 c.self.inside.places c.self.invariant.1 c.args.part.now c.places_at-place-items.result.now c.places_at-place-items.ensures (IsApart o l.junction a) a
-            c.loop-place.place-index c.loop-place-test.true others c.loop-place.invariant;
-        become = c.in_ok-merged.ensures.merged ∙ ap (λ (k : Junction). merged o k (atom_of c.index.result.now.atom) a) (ap (λ (m : Listed). m.junction) c.self.view_is)
-            ∙ ap (λ x. merged o l.junction x a) (sym (atom_here j c.self.inside.entries.items l c.self.view_is c.self.invariant.0 c.self.inside.places c.self.invariant.1 c.args.part.now c.places_at-place-items.result.now c.places_at-place-items.ensures
-            c.loop-place.place-index c.loop-place-test.true c.index.result.now c.index.ensures a));
-        merges = other;
-        normal = c.in_ok-merged.ensures.normal;
-      };
+      within = in_atoms j c.self.inside.entries.items l c.self.view_is c.self.invariant.0 c.self.inside.places c.self.invariant.1 c.args.part.now c.places_at-place-items.result.now c.places_at-place-items.ensures c.loop-place.place-index c.loop-place-test.true;
+      apart = before_here j c.self.inside.entries.items l c.self.view_is c.self.invariant.0 c.self.inside.places c.self.invariant.1 c.args.part.now c.places_at-place-items.result.now c.places_at-place-items.ensures (IsApart o l.junction a) a
+          c.loop-place.place-index c.loop-place-test.true others c.loop-place.invariant;
+      become = c.in_ok-merged.ensures.merged ∙ ap (λ (k : Junction). merged o k (atom_of c.index.result.now.atom) a) (ap (λ (m : Listed). m.junction) c.self.view_is)
+          ∙ ap (λ x. merged o l.junction x a) (sym (atom_here j c.self.inside.entries.items l c.self.view_is c.self.invariant.0 c.self.inside.places c.self.invariant.1 c.args.part.now c.places_at-place-items.result.now c.places_at-place-items.ensures
+          c.loop-place.place-index c.loop-place-test.true c.index.result.now c.index.ensures a));
+      merges = other;
+      normal = c.in_ok-merged.ensures.normal;
     }
 
 pub loop-place-preserved : goal.loop-place-preserved
@@ -72,7 +70,5 @@ returns c =
     let l = c.args.self.now in
     let a = atom_of c.args.atom.now in
     let others = subst (λ (p : Form). EachOf (λ x. form_eq (part_of x) p ≡ false → IsApart o l.junction a x) l.atoms) (sym c.requires.part) (others_apart o l.junction a c.requires.normal.normal l.atoms c.requires.atoms) in
-    record {
-      partner = all_here c.self.inside.junction c.self.inside.entries.items l c.self.view_is c.self.invariant.0 c.self.inside.places c.self.invariant.1 c.args.part.now c.places_at-place-items.result.now c.places_at-place-items.ensures (IsApart o l.junction a) a
-          c.loop-place.place-index (omega arith) others c.loop-place.invariant;
-    }
+    all_here c.self.inside.junction c.self.inside.entries.items l c.self.view_is c.self.invariant.0 c.self.inside.places c.self.invariant.1 c.args.part.now c.places_at-place-items.result.now c.places_at-place-items.ensures (IsApart o l.junction a) a
+    c.loop-place.place-index (omega arith) others c.loop-place.invariant

@@ -40,15 +40,15 @@ returns-in_default-clause-with c =
     let o = context_of c.args.context in
     let l = c.args.self in
     let a = atom_of c.args.atom.now in
-    let alone : IsPartner o l.junction a l.atoms None = subst (IsPartner o l.junction a l.atoms) c.in_default.is c.in_ok-place.ensures.partner in
-    with_last o l.junction a l.atoms alone ∙ ap (λ (k : Listed). Some k.atoms) (sym c.in_ok-list.ensures.last)
+    let alone : IsPartner o l.junction a l.atoms None = subst (IsPartner o l.junction a l.atoms) c.in_default.is c.in_ok-place.ensures in
+    with_last o l.junction a l.atoms alone ∙ ap (λ (k : Listed). Some k.atoms) (sym c.in_ok-list.ensures)
 
 pub with_at-requires-clause-part : goal.with_at-requires-clause-part
 with_at-requires-clause-part c =
     let o = context_of c.args.context in
     let l = c.args.self in
     let a = atom_of c.args.atom.now in
-    let found : IsMergedAt o l.junction a l.atoms c.in-Some.place c.in-Some.merged = subst (IsPartner o l.junction a l.atoms) c.in-Some.is c.in_ok-place.ensures.partner in
+    let found : IsMergedAt o l.junction a l.atoms c.in-Some.place c.in-Some.merged = subst (IsPartner o l.junction a l.atoms) c.in-Some.is c.in_ok-place.ensures in
     same_part o l.junction a l.atoms c.in-Some.place c.in-One.both (subst (IsMergedAt o l.junction a l.atoms c.in-Some.place) c.in-One.is found) c.requires.atoms c.requires.normal.normal
 
 pub returns-in_ok-list-in-One-clause-with : goal.returns-in_ok-list-in-One-clause-with
@@ -56,14 +56,14 @@ returns-in_ok-list-in-One-clause-with c =
     let o = context_of c.args.context in
     let l = c.args.self in
     let a = atom_of c.args.atom.now in
-    let found : IsMergedAt o l.junction a l.atoms c.in-Some.place c.in-Some.merged = subst (IsPartner o l.junction a l.atoms) c.in-Some.is c.in_ok-place.ensures.partner in
+    let found : IsMergedAt o l.junction a l.atoms c.in-Some.place c.in-Some.merged = subst (IsPartner o l.junction a l.atoms) c.in-Some.is c.in_ok-place.ensures in
     let into : IsMergedAt o l.junction a l.atoms c.in-Some.place (One c.in-One.both) = subst (IsMergedAt o l.junction a l.atoms c.in-Some.place) c.in-One.is found in
-    with_merged o l.junction a l.atoms c.in-Some.place (atom_of c.in-One.both) into.within into.apart into.become ∙ ap (λ (k : Listed). Some k.atoms) (sym c.in_ok-list-in-One.ensures.at)
+    with_merged o l.junction a l.atoms c.in-Some.place (atom_of c.in-One.both) into.within into.apart into.become ∙ ap (λ (k : Listed). Some k.atoms) (sym c.in_ok-list-in-One.ensures)
 
 pub returns-in_default-merged : goal.returns-in_default-merged
 returns-in_default-merged c =
     let o = context_of c.args.context in
     let l = c.args.self in
     let a = atom_of c.args.atom.now in
-    let found : IsMergedAt o l.junction a l.atoms c.in-Some.place c.in-Some.merged = subst (IsPartner o l.junction a l.atoms) c.in-Some.is c.in_ok-place.ensures.partner in
+    let found : IsMergedAt o l.junction a l.atoms c.in-Some.place c.in-Some.merged = subst (IsPartner o l.junction a l.atoms) c.in-Some.is c.in_ok-place.ensures in
     record { with = at_most_settled o l.junction a l.atoms c.in-Some.place c.in-Some.merged found c.in_default-merged.not-One; junction = tt; normal = tt }

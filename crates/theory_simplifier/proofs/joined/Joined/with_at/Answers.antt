@@ -22,7 +22,5 @@ invariant_of-result c =
 pub returns : goal.returns
 returns c =
     let put : Listed → Listed = λ l. record { junction = l.junction; atoms = set l.atoms c.args.place (atom_of c.args.atom) } in
-    record {
-      at = (λ i. record { junction = c.self.inside.junction; atoms = (map_set entry_atom c.self.inside.entries.items c.args.place c.in_ok-entries.field-0 ∙ ap (set (map entry_atom c.self.inside.entries.items) c.args.place) c.in_ok-entries.ensures.atom) i })
-          ∙ ap put c.self.view_is;
-    }
+    (λ i. record { junction = c.self.inside.junction; atoms = (map_set entry_atom c.self.inside.entries.items c.args.place c.in_ok-entries.field-0 ∙ ap (set (map entry_atom c.self.inside.entries.items) c.args.place) c.in_ok-entries.ensures.atom) i })
+    ∙ ap put c.self.view_is

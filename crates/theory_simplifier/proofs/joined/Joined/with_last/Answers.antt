@@ -18,7 +18,7 @@ invariant_of-result c =
     let atom : entry_atom x ≡ atom_of c.args.atom.now = c.in_ok-entry.ensures.atom ∙ ap atom_of same in (
       subst (AllByRecursion (IsEntry c.self.inside.junction)) (sym pushed) (all_last (IsEntry c.self.inside.junction) es x c.self.invariant.0 c.in_ok-entry.ensures.entry),
       subst (λ (xs : List Entry). ArePlaces part_of c.in_ok-places.places (map entry_atom xs)) (sym pushed)
-          (index_last es x c.self.inside.places c.self.invariant.1 c.in_ok-places.places c.args.part c.len.result (c.requires.part ∙ ap part_of (sym atom)) (c.len.ensures ∙ c.self.inside.entries.ok.0) c.in_ok-places.ensures.more),
+          (index_last es x c.self.inside.places c.self.invariant.1 c.in_ok-places.places c.args.part c.len.result (c.requires.part ∙ ap part_of (sym atom)) (c.len.ensures ∙ c.self.inside.entries.ok.0) c.in_ok-places.ensures),
     )
 
 pub returns : goal.returns
@@ -27,7 +27,5 @@ returns c =
     let same : c.in_ok-atom.atom ≡ c.args.atom.now = search rules in
     let atom : entry_atom c.in_ok-entry.entry ≡ atom_of c.args.atom.now = c.in_ok-entry.ensures.atom ∙ ap atom_of same in
     let longer : Listed → Listed = λ l. record { junction = l.junction; atoms = l.atoms ++ atom_of c.args.atom.now ∷ [] } in
-    record {
-      last = (λ i. record { junction = c.self.inside.junction; atoms = (ap (map entry_atom) pushed ∙ map_append entry_atom c.self.inside.entries.items (c.in_ok-entry.entry ∷ []) ∙ ap (λ a. map entry_atom c.self.inside.entries.items ++ a ∷ []) atom) i })
-          ∙ ap longer c.self.view_is;
-    }
+    (λ i. record { junction = c.self.inside.junction; atoms = (ap (map entry_atom) pushed ∙ map_append entry_atom c.self.inside.entries.items (c.in_ok-entry.entry ∷ []) ∙ ap (λ a. map entry_atom c.self.inside.entries.items ++ a ∷ []) atom) i })
+    ∙ ap longer c.self.view_is
