@@ -1,10 +1,12 @@
 -- What a formula command answers is the answer of its statement.
-use Rattle.std.proofs.Common.{ap, ◌≡◌, ℕ, List, Bool, Some, None, sym, subst, refl}
+use Rattle.std.proofs.Common.{ap, ◌≡◌, ℕ, zero, suc, ◌<◌, ◌≤◌, arith, List, Bool, Some, None, sym, subst, refl}
 use Rattle.std.specs.Prelude.{Result, Ok, Err, IfOk, OnOk, IfErr, OnErr}
 use Rattle.qe_syntax.specs.Statements.{CommandTree, Qea, Holds, Sample, ActionTree, Empty, Ignored, Finish, Choose, Say, Assign, StatementTree}
 use Rattle.redlog_reader.specs.Grammar.{SpellsResult, echo, nnf, pnf, dnf, cnf, simpl, qe, SpellsAction, assign, SpellsStatement, nothing, acting}
 use Rattle.redlog_tokens.specs.declared.terminal.Terminal.{Terminal}
 use Rattle.redlog_reader.specs.Statement.{Spells}
+use Rattle.formula_meaning.specs.Tree.{tree_distinct}
+use Rattle.session_commands.specs.declared.formulas.TheConstants.{MOST_SUBFORMULAS}
 use Rattle.session_commands.specs.declared.line.Line.{Line}
 use Rattle.session_commands.specs.State.{State, with_names}
 use Rattle.session_commands.specs.Commands.{named, HasAnswerNames, GivesFormula, BindsFormula}
@@ -56,12 +58,17 @@ formula_answered (Ok answer) c s next limit printed h = record {
 }
 formula_answered (Err e) c s next limit printed h = tt
 
+at_most : (a b : ℕ) → ¬ (a < b) → b ≤ a
+at_most a zero h = omega arith
+at_most zero (suc b) h = absurd (h (omega arith))
+at_most (suc a) (suc b) h = let k = at_most a b (λ l. h (omega (arith, l))) in omega (arith, k)
+
 -- an assignment, for a command that is known to be this one
 pub formula_assigned : {E : Type 0} (r : Result Line E) (a : ActionTree) (x : List ℕ) (c : CommandTree) (s next : State) (limit : ℕ) (printed : Bool) → a ≡ Assign x c
     → IfOk r (λ answer. IsGiven (named s c) limit (use_of (Some x) printed) c answer next) → IfOk r (λ answer. Answers s limit printed a answer next)
 formula_assigned (Ok answer) a x c s next limit printed e h =
     subst (λ b. Answers s limit printed b answer next) (sym e)
-    (record { accepted = h.accepted; formula = h.formula; given = h.given; names = h.names; named = h.named; line = h.line; binds = h.after })
+    (record { accepted = h.accepted; formula = h.formula; given = h.given; names = h.names; named = h.named; line = h.line; small = at_most MOST_SUBFORMULAS (tree_distinct h.formula) h.small; binds = h.after })
 formula_assigned (Err e) a x c s next limit printed p h = tt
 
 -- a command that gives no formula

@@ -24,8 +24,8 @@ use Rattle.elimination_reference.specs.Reference.{normal_tree, turned, branches}
 use Rattle.elimination_reference.specs.Theorems.{IsTidy, IsExactCase, AreExactCases, Says as SaysOf, guards_of, answer_names}
 use Rattle.elimination_reference.proofs.CasesExact.{cases_exact}
 use Rattle.elimination_reference.proofs.Tidy.{tidy_in}
-use Rattle.elimination_reference.specs.Over.{AreOver}
-use Rattle.elimination_reference.proofs.Over.{cases_over}
+use Rattle.elimination_reference.specs.Over.{AreAnswersOver}
+use Rattle.elimination_reference.proofs.Over.{cases_have_answers}
 use Rattle.test_points.specs.declared.points.Place.{Place}
 use Rattle.test_points.specs.declared.points.Place.TheVariants as place
 use Rattle.test_points.specs.declared.points.TestPoint.{TestPoint}
@@ -33,7 +33,7 @@ use Rattle.test_points.specs.Points.{place_at, answer_of, IsTestPoint}
 use Rattle.plain_engine.specs.declared.measured.Measured.{Measured}
 use Rattle.plain_engine.specs.declared.measured.Measured.TheVariants as measured
 use Rattle.plain_engine.specs.Told.{StopsWith}
-use Rattle.plain_cases.specs.declared.cases.PlainCase.{PlainCase}
+use Rattle.plain_cases.specs.declared.cases.PrintedCase.{PrintedCase}
 use Rattle.plain_cases.specs.Case.{case_seen, HavePoints}
 use Rattle.shared_elimination.proofs.FormAgain.{normal_tree_again}
 use Rattle.simplified_formulas.specs.Orderly.{IsOrderly}
@@ -87,20 +87,20 @@ guard_formula c n t tidy below =
 pub record IsReferenceCase (c : Context) (n : ℕ) (f : Tree) (k : Case) : Type 0 where
   pub exact : IsExactCase c f k
   pub names : (y : ℕ) → IsFree k.guard y → IsFree f y
-  pub over : AreOver (IsFree f) k.answers
+  pub answers : AreAnswersOver c (IsFree f) k.answers
   pub formula : IsSessionFormula c n k.guard
 
 module _ (c : Context) (n : ℕ) (f : Tree) (own : IsSessionFormula c n f) where
   below : (y : ℕ) → IsFree f y → y < n
   below y t = free_below n y f own.within.atoms t
 
-  each_known : (ks : List Case) → EachOf (IsExactCase c f) ks → ((y : ℕ) → FreeInSome Mentions (guards_of ks) y → IsFree f y) → EachOf (λ (k : Case). AreOver (IsFree f) k.answers) ks → EachOf (IsReferenceCase c n f) ks
+  each_known : (ks : List Case) → EachOf (IsExactCase c f) ks → ((y : ℕ) → FreeInSome Mentions (guards_of ks) y → IsFree f y) → EachOf (λ (k : Case). AreAnswersOver c (IsFree f) k.answers) ks → EachOf (IsReferenceCase c n f) ks
   each_known [] exact names over = tt
   each_known (k ∷ ks) exact names over = (
     record {
       exact = exact.0;
       names = λ y t. names y (inl t);
-      over = over.0;
+      answers = over.0;
       formula = guard_formula c n k.guard exact.0.tidy (λ y t. below y (names y (inl t)));
     },
     each_known ks exact.1 (λ y t. names y (inr t)) over.1,
@@ -113,7 +113,7 @@ module _ (c : Context) (n : ℕ) (f : Tree) (own : IsSessionFormula c n f) where
     pub reference_known : EachOf (IsReferenceCase c n f) ks
     reference_known =
         each_known ks exact_here.each exact_here.names
-        (subst (Gives (λ (r : List Case × ℕ). EachOf (λ (k : Case). AreOver (IsFree f) k.answers) r.0)) same (cases_over c limit f own.normal))
+        (subst (Gives (λ (r : List Case × ℕ). EachOf (λ (k : Case). AreAnswersOver c (IsFree f) k.answers) r.0)) same (cases_have_answers c limit f own.normal))
 
 -- each guard can be simplified
 guards_orderly : (c : Context) (f : Tree) (ks : List Case) → EachOf (IsExactCase c f) ks → EachOf (λ (k : Case). IsOrderly (IsNormal c) k.guard) ks
@@ -254,37 +254,37 @@ place_within n place.MinusInfinity e d q l h = tt
 place_within n place.PlusInfinity e d q l h = tt
 place_within n place.Periodic e d q l h = tt
 
-answers_within : (n : ℕ) (ts : List TestPoint) (P : ℕ → Type 0) → ((y : ℕ) → P y → y < n) → AllByRecursion IsTestPoint ts → EachOf (λ x. x < n) (answer_names (map answer_of ts)) → AreOver P (map answer_of ts)
+answers_within : (c : Context) (n : ℕ) (ts : List TestPoint) (P : ℕ → Type 0) → ((y : ℕ) → P y → y < n) → AllByRecursion IsTestPoint ts → EachOf (λ x. x < n) (answer_names (map answer_of ts)) → AreAnswersOver c P (map answer_of ts)
     → AreAnswersWithin n (map answer_of ts)
-answers_within n [] P below points names over = tt
-answers_within n (t ∷ ts) P below points names over = (
-  record { name = names.0; place = place_within n t.place t.form _ t.period points.0.linear (λ y m. below y (over.0 y m)) },
-  answers_within n ts (λ y. P y ⊎ (t.name.number ≡ y)) (λ y. ⊎_elim (λ u. below y u) (λ e. subst (λ x. x < n) e names.0)) points.1 names.1 over.1,
+answers_within c n [] P below points names over = tt
+answers_within c n (t ∷ ts) P below points names over = (
+  record { name = names.0; place = place_within n t.place t.form _ t.period points.0.linear (λ y m. below y (over.0.names y m)) },
+  answers_within c n ts (λ y. P y ⊎ (t.name.number ≡ y)) (λ y. ⊎_elim (λ u. below y u) (λ e. subst (λ x. x < n) e names.0)) points.1 names.1 over.1,
 )
 
 -- what is needed of a case to write it
 pub record IsWritable (c : Context) (n : ℕ) (f : Tree) (k : Case) : Type 0 where
   pub formula : IsSessionFormula c n k.guard
   pub names : EachOf (λ x. x < n) (answer_names k.answers)
-  pub over : AreOver (IsFree f) k.answers
+  pub answers : AreAnswersOver c (IsFree f) k.answers
 
 module _ (c : Context) (n : ℕ) (f : Tree) (own : IsSessionFormula c n f) where
   writable : (ks : List Atom) (k m : Case) → IsReferenceCase c n f k → IsCaseLeft c ks k m → IsWritable c n f m
   writable ks k m r l = record {
     formula = simplified_formula c ks n k.guard m.guard r.formula l.simplified;
     names = subst (EachOf (λ x. x < n)) (sym (ap answer_names l.answers ∙ r.exact.in_order)) (block_below c n f own);
-    over = subst (AreOver (IsFree f)) (sym l.answers) r.over;
+    answers = subst (AreAnswersOver c (IsFree f)) (sym l.answers) r.answers;
   }
 
   pub left_writable : (ks : List Atom) (cases left : List Case) → EachOf (IsReferenceCase c n f) cases → AreLeftOf c ks cases left → EachOf (IsWritable c n f) left
   left_writable ks cases left e h = left_each c ks (IsReferenceCase c n f) (IsWritable c n f) (writable ks) cases left e h
 
-  pub items_within : (items : List PlainCase) → EachOf (IsWritable c n f) (map case_seen items) → HavePoints items → AreCasesWithin n (map case_seen items)
+  pub items_within : (items : List PrintedCase) → EachOf (IsWritable c n f) (map case_seen items) → HavePoints items → AreCasesWithin n (map case_seen items)
   items_within [] e h = tt
   items_within (k ∷ items) e h = (
     record {
       guard = e.0.formula.within;
-      answers = answers_within n k.answers.items (IsFree f) (λ y t. free_below n y f own.within.atoms t) (recursion_from_All IsTestPoint k.answers.items h.0) e.0.names e.0.over;
+      answers = answers_within c n k.answers.items (IsFree f) (λ y t. free_below n y f own.within.atoms t) (recursion_from_All IsTestPoint k.answers.items h.0) e.0.names e.0.answers;
     },
     items_within items e.1 h.1,
   )

@@ -1,7 +1,8 @@
 -- From step to step of a case list.
 use Rattle.std.proofs.Common.{◌≡◌, ◌↔◌, inl, inr, ℕ, List, [], ◌∷◌, ◌++◌, map, length, Bool, None, sym, ap, ◌∙◌, subst, refl, arith}
 use Rattle.std.proofs.lemmas.List.{append-nil}
-use Rattle.std.specs.Prelude.{Result, Ok, Err, IfOk, IfErr, OnOk}
+use Rattle.std.proofs.lemmas.List.Sorted.{IsPermutation-refl}
+use Rattle.std.specs.Prelude.{Result, Ok, Err, IfOk, IfErr, OnOk, IsPermutation}
 use Rattle.std.specs.List.{IsDistinct, fold}
 use Rattle.formula_meaning.specs.Atom.{Atom, Says}
 use Rattle.formula_meaning.specs.Answer.{Holds}
@@ -13,10 +14,10 @@ use Rattle.formula_meaning.specs.Tree.{Tree, IsFree, TrueAt}
 use Rattle.atom_normal.specs.Atoms.{context_of}
 use Rattle.atom_normal.specs.NormalForm.{IsNormal}
 use Rattle.atom_normal.proofs.Stepped.{ok_map}
-use Rattle.elimination_reference.specs.Cases.{Case, case_sign, case_matrix}
+use Rattle.elimination_reference.specs.Cases.{Case, case_sign, case_matrix, case_names}
 use Rattle.elimination_reference.specs.Theorems.{answer_names, guards_of}
-use Rattle.elimination_reference.specs.Over.{AreOver}
-use Rattle.plain_cases.specs.declared.cases.PlainCase.{PlainCase}
+use Rattle.elimination_reference.specs.Over.{AreAnswersOver}
+use Rattle.plain_cases.specs.declared.cases.PrintedCase.{PrintedCase}
 use Rattle.plain_cases.specs.Case.{case_seen, HavePoints}
 use Rattle.qe_syntax.specs.Writable.{IsWritableFormula, AreWritableFormulas}
 use Rattle.qe_syntax.specs.Statements.{CommandTree, Qea}
@@ -118,8 +119,8 @@ module _ (s : State) (f : FormulaTree) (gs : FormulaTrees) (numbers : ArePartsNu
         possible = l.possible;
         normal = l.simplified.normal;
         members = orderly_members (IsNormal s.context) m.guard l.simplified.orderly;
-        in_order = ap answer_names l.answers ∙ r.exact.in_order;
-        over = subst (AreOver (IsFree t)) (sym l.answers) r.over;
+        once = subst (IsPermutation (case_names t)) (sym (ap answer_names l.answers ∙ r.exact.in_order)) (IsPermutation-refl (case_names t));
+        answers = subst (AreAnswersOver s.context (IsFree t)) (sym l.answers) r.answers;
         exact = λ p of hold.
             let q = at_names s.names p in
             let e = r.exact.exact q of in
@@ -153,7 +154,7 @@ module _ (s : State) (f : FormulaTree) (gs : FormulaTrees) (numbers : ArePartsNu
       cases_too_long error.Memory k = tt
       cases_too_long _ k = absurd k
 
-      pub cases_within : (items : List PlainCase) → left ≡ map case_seen items → HavePoints items → AreCasesWithin (length s.names) (map case_seen items)
+      pub cases_within : (items : List PrintedCase) → left ≡ map case_seen items → HavePoints items → AreCasesWithin (length s.names) (map case_seen items)
       cases_within items e h =
           items_within s.context (length s.names) t own items (subst (EachOf (IsWritable s.context (length s.names) t)) e (left_writable s.context (length s.names) t own (assumed s gs) wanted.cases left known wanted.simplified)) h
 
@@ -226,7 +227,7 @@ module _ (desk : Desk) (names : List (List ℕ)) (f : FormulaTree) (gs : Formula
     pub desk_later : {T : Type 0} (r : Result T StatementError) → OnOk r (IsDesk later)
     desk_later r = on_ok r (same_desk named_desk later desk_named k)
 
-    module _ (limit : ℕ) (printed : Bool) (readable : ArePartsReadable (state_of named_desk) f gs) (items : List PlainCase)
+    module _ (limit : ℕ) (printed : Bool) (readable : ArePartsReadable (state_of named_desk) f gs) (items : List PrintedCase)
         (wanted : AreWantedCases (state_of named_desk).context (assumed (state_of named_desk) gs) limit (resolve (state_of named_desk).context (state_of named_desk).bound names f) (map case_seen items)) where
       own : IsSessionFormula (state_of named_desk).context (length names) (resolve (state_of named_desk).context (state_of named_desk).bound names f)
       own = readable_formula f (state_of named_desk) (first_part (HasNumbers names) f gs numbers_there) desk_named.sound proper (first_part (IsReadable (state_of named_desk)) f gs readable)

@@ -29,7 +29,7 @@ use Rattle.session_commands.proofs.PartLemmas.{some_part, no_part}
 
 -- ---- no entries
 
-no_point : (c : Context) → ¬ (MeanNoPoint c [])
+pub no_point : (c : Context) → ¬ (MeanNoPoint c [])
 no_point Fields h = ⊎_elim absurd absurd h
 no_point Integers h = ⊎_elim absurd (⊎_elim absurd absurd) h
 
@@ -116,7 +116,7 @@ one_divides : (n : ℤ) → whole.Divides (pos 1) n
 one_divides n = record { quotient = n; exact = sym (one_mul n) }
 
 -- no number is formed for no entries
-nothing_passes : ¬ (PassesLimit [])
+pub nothing_passes : ¬ (PassesLimit [])
 nothing_passes (inl (inl h)) = absurd h
 nothing_passes (inl (inr h)) =
     let least : IsLeastDenominator [] (pos 1) = record { positive = omega (arith, ints); common = tt; least = λ n k. one_divides n } in

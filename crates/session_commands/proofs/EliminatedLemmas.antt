@@ -12,11 +12,9 @@ use Rattle.formula_meaning.proofs.EachAtom.{every_map}
 use Rattle.formula_meaning.proofs.NormalShape.{normal_form_shape, normal_form_every, normal_form_quantifier_free}
 use Rattle.formula_meaning.specs.Tree.{Tree, Trees, IsFree, Equivalent}
 use Rattle.elimination_reference.specs.Theorems.{IsAnswerTo, IsBranching, AreBranching}
-use Rattle.elimination_reference.specs.Theorems as reference
 use Rattle.atom_normal.specs.NormalForm.{IsNormal, negated_normal}
 use Rattle.atom_normal.proofs.NormalLaws.{negated_normal_is}
 use Rattle.simplified_formulas.specs.Orderly.{IsOrderly, AreOrderly}
-use Rattle.simplified_formulas.specs.Reduced as orderly
 use Rattle.simplified_formulas.specs.AtomKit.{atom_kit}
 use Rattle.simplified_formulas.specs.Trees.{simplified_under}
 use Rattle.simplified_formulas.proofs.Bound.{simplified_bound, free_bound, orderly_free}
@@ -119,19 +117,14 @@ module _ (n x : ℕ) where
     some_free_below plain.none h m = absurd m
     some_free_below (plain.also f fs) h m = ⊎_elim (free_below f h.0) (some_free_below fs h.1) m
 
-two_members : (fs : Trees) → reference.AreTwo fs → AreTwo fs
-two_members plain.none h = absurd h
-two_members (plain.also f plain.none) h = absurd h
-two_members (plain.also f (plain.also g fs)) h = tt
-
 mutual
   pub branching_members : (f : Tree) → IsBranching f → HasTwoMembers f
   branching_members Yes h = tt
   branching_members No h = tt
   branching_members (One a) h = tt
   branching_members (Not f) h = branching_members f h
-  branching_members (And fs) h = (two_members fs h.0, all_branching_members fs h.1)
-  branching_members (Or fs) h = (two_members fs h.0, all_branching_members fs h.1)
+  branching_members (And fs) h = (h.0, all_branching_members fs h.1)
+  branching_members (Or fs) h = (h.0, all_branching_members fs h.1)
   branching_members (Impl f g) h = (branching_members f h.0, branching_members g h.1)
   branching_members (Repl f g) h = (branching_members f h.0, branching_members g h.1)
   branching_members (Equiv f g) h = (branching_members f h.0, branching_members g h.1)
@@ -157,11 +150,6 @@ answer_formula c n f t h a =
 
 -- ---- simplified formulas
 
-two_orderly : {A : Type 0} (fs : Formulas A ℕ) → orderly.AreTwo fs → AreTwo fs
-two_orderly plain.none h = absurd h
-two_orderly (plain.also f plain.none) h = absurd h
-two_orderly (plain.also f (plain.also g fs)) h = tt
-
 module _ {A : Type 0} (P : A → Type 0) where
   mutual
     pub orderly_members : (f : Formula A ℕ) → IsOrderly P f → HasTwoMembers f
@@ -169,8 +157,8 @@ module _ {A : Type 0} (P : A → Type 0) where
     orderly_members No h = tt
     orderly_members (One a) h = tt
     orderly_members (Not f) h = absurd h
-    orderly_members (And fs) h = (two_orderly fs h.0, all_orderly_members fs h.1)
-    orderly_members (Or fs) h = (two_orderly fs h.0, all_orderly_members fs h.1)
+    orderly_members (And fs) h = (h.0, all_orderly_members fs h.1)
+    orderly_members (Or fs) h = (h.0, all_orderly_members fs h.1)
     orderly_members (Impl f g) h = absurd h
     orderly_members (Repl f g) h = absurd h
     orderly_members (Equiv f g) h = absurd h
@@ -199,11 +187,6 @@ module _ {A : Type 0} (P : A → Type 0) where
     all_orderly_every plain.none h = tt
     all_orderly_every (plain.also f fs) h = (orderly_every f h.0, all_orderly_every fs h.1)
 
-  two_in_order : (fs : Formulas A ℕ) → AreTwo fs → orderly.AreTwo fs
-  two_in_order plain.none h = absurd h
-  two_in_order (plain.also f plain.none) h = absurd h
-  two_in_order (plain.also f (plain.also g fs)) h = tt
-
   mutual
     -- a formula in negation normal form with two members at least in each list is orderly
     pub orderly_of : (f : Formula A ℕ) → IsNegationNormal f → HasTwoMembers f → Every P f → IsOrderly P f
@@ -211,8 +194,8 @@ module _ {A : Type 0} (P : A → Type 0) where
     orderly_of No n h k = tt
     orderly_of (One a) n h k = k
     orderly_of (Not f) n h k = absurd n
-    orderly_of (And fs) n h k = (two_in_order fs h.0, all_orderly_of fs n h.1 k)
-    orderly_of (Or fs) n h k = (two_in_order fs h.0, all_orderly_of fs n h.1 k)
+    orderly_of (And fs) n h k = (h.0, all_orderly_of fs n h.1 k)
+    orderly_of (Or fs) n h k = (h.0, all_orderly_of fs n h.1 k)
     orderly_of (Impl f g) n h k = absurd n
     orderly_of (Repl f g) n h k = absurd n
     orderly_of (Equiv f g) n h k = absurd n

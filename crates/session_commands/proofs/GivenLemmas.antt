@@ -387,6 +387,7 @@ module _ (w : Wanted) (f : FormulaTree) (s : State) (numbers : ArePartsNumbered 
       names = names;
       named = named;
       line = line;
+      small = b.small;
       after = refl;
     }
 

@@ -23,3 +23,4 @@ pub mod SampleSteps
 pub mod NewNameLemmas
 pub mod PrenexLemmas
 pub mod TextLemmas
+pub mod Accepted

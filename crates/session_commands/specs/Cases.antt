@@ -1,5 +1,5 @@
 -- The case list of a formula, in a state in which the variables of the command have their numbers.
-use Rattle.std.specs.Prelude.{◌≡◌, ◌≢◌, ◌↔◌, ℕ, Bool, true, false, List}
+use Rattle.std.specs.Prelude.{◌≢◌, ◌↔◌, ℕ, Bool, true, false, List, IsPermutation}
 use Rattle.formula_meaning.specs.Answer.{Holds}
 use Rattle.formula_meaning.specs.Every.{Every}
 use Rattle.formula_meaning.specs.Formula.{No, Or}
@@ -10,7 +10,7 @@ use Rattle.formula_meaning.specs.Tree.{IsFree, TrueAt}
 use Rattle.atom_normal.specs.NormalForm.{IsNormal}
 use Rattle.elimination_reference.specs.Cases.{Case, case_sign, case_matrix, case_names}
 use Rattle.elimination_reference.specs.Theorems.{guards_of, answer_names}
-use Rattle.elimination_reference.specs.Over.{AreOver}
+use Rattle.elimination_reference.specs.Over.{AreAnswersOver}
 use Rattle.qe_syntax.specs.Trees.{FormulaTree, FormulaTrees}
 use Rattle.qe_syntax.specs.Value as written
 use Rattle.formula_tree.specs.Resolving.{resolve, at_names, bound_truth}
@@ -26,9 +26,9 @@ Turned true T = T
 Turned false T = ¬ T
 
 -- The guard has no quantifier and no free name but those of the resolved formula. It is Reduced under the assumptions and not false, with normal atoms and
--- lists of two members at least. The answers are for the names of the leading block, each once and in its order, and their forms have free names of the formula
--- and names answered before alone. At every point of the theory where the assumptions are true, the guard is true exactly where the answers make true what stands
--- behind the block, or for a block of all its negation.
+-- lists of two members at least. The answers are for the names of the leading block, each once, in any order. Each has a place of the theory with a sorted form,
+-- whose numbers are within the limit, over free names of the formula and names answered before. At every point of the theory where the assumptions are true, the
+-- guard is true exactly where the answers make true what stands behind the block, or for a block of all its negation.
 pub record IsCaseOf (s : State) (f : FormulaTree) (given : FormulaTrees) (k : Case) : Type 0 where
   pub free : IsQuantifierFree k.guard
   pub names : (n : ℕ) → IsFree k.guard n → IsFree (resolve s.context s.bound s.names f) n
@@ -36,8 +36,8 @@ pub record IsCaseOf (s : State) (f : FormulaTree) (given : FormulaTrees) (k : Ca
   pub possible : k.guard ≢ No
   pub normal : Every (IsNormal s.context) k.guard
   pub members : HasTwoMembers k.guard
-  pub in_order : answer_names k.answers ≡ case_names (resolve s.context s.bound s.names f)
-  pub over : AreOver (IsFree (resolve s.context s.bound s.names f)) k.answers
+  pub once : IsPermutation (case_names (resolve s.context s.bound s.names f)) (answer_names k.answers)
+  pub answers : AreAnswersOver s.context (IsFree (resolve s.context s.bound s.names f)) k.answers
   pub exact : (p : written.NamedPoint) → Of s.context p → Hold s given p
       → Holds s.context k.answers (case_matrix (resolve s.context s.bound s.names f)) (at_names s.names p) ↔ TrueAt s.context k.guard (at_names s.names p)
 

@@ -8,6 +8,7 @@ pub mod Cases
 pub mod Samples
 pub mod Causes
 pub mod Reply
+pub mod Accepted
 pub mod Keeping
 pub mod Seen
 pub mod Steps

@@ -1,6 +1,6 @@
 -- What a statement is answered with in a state, and the state after it.
-use Rattle.std.specs.Prelude.{◌≡◌, ℕ, List, Bool, true, false, Option, Some, None, Result, Ok, Err}
-use Rattle.formula_meaning.specs.Tree.{Tree}
+use Rattle.std.specs.Prelude.{◌≡◌, ◌≤◌, ℕ, List, length, Bool, true, false, Option, Some, None, Result, Ok, Err}
+use Rattle.formula_meaning.specs.Tree.{Tree, tree_distinct}
 use Rattle.elimination_reference.specs.Cases.{Case}
 use Rattle.sample_reference.specs.Values.{Value}
 use Rattle.answer_texts.specs.Answers.{cases_text}
@@ -8,6 +8,8 @@ use Rattle.qe_syntax.specs.Statements.{CommandTree, Qea, Holds, Sample, ActionTr
 use Rattle.formula_tree.specs.Bindings.{bind}
 use Rattle.redlog_reader.specs.Statement.{Spells, Unread}
 use Rattle.redlog_tokens.specs.declared.token.ReadError.TheVariants as reading
+use Rattle.redlog_printer.specs.Writing.{text_limit}
+use Rattle.session_commands.specs.declared.formulas.TheConstants.{MOST_SUBFORMULAS}
 use Rattle.session_commands.specs.declared.line.Line.{Line}
 use Rattle.session_commands.specs.declared.line.Line.TheVariants as line
 use Rattle.session_commands.specs.declared.line.StatementError.{StatementError}
@@ -20,10 +22,10 @@ use Rattle.session_commands.specs.Cases.{IsCaseAnswer}
 use Rattle.session_commands.specs.Samples.{IsSampleAnswer, sample_text}
 use Rattle.session_commands.specs.Causes.{formula_line, Refuses, IsAccepted}
 
--- the line is this text, where it is printed
+-- the line is this text, where it is printed, and then it is within the limit of a line
 abbrev pub IsLine : Bool → List ℕ → Line → Type 0
 IsLine printed text line.Nothing = printed ≡ false
-IsLine printed text (line.Printed bytes) = (printed ≡ true) × (bytes.items ≡ text)
+IsLine printed text (line.Printed bytes) = (printed ≡ true) × (bytes.items ≡ text) × (length text ≤ text_limit)
 IsLine printed text line.Finished = ⊥
 
 -- the state with the formula bound to the name
@@ -52,7 +54,7 @@ pub record AnswersSaid (s : State) (limit : ℕ) (printed : Bool) (c : CommandTr
   pub answered : AnswersCommand s limit printed c names answer
   pub after : next ≡ with_names s names
 
--- the same of an assignment, which binds the formula of its line
+-- the same of an assignment, which binds the formula of its line; it has no more distinct subformulas than a bound formula may have
 pub record AnswersAssignment (s : State) (limit : ℕ) (printed : Bool) (x : List ℕ) (c : CommandTree) (answer : Line) (next : State) : Type 0 where
   pub accepted : IsAccepted s limit (record { target = Some x; printed = printed }) c
   pub formula : Tree
@@ -60,6 +62,7 @@ pub record AnswersAssignment (s : State) (limit : ℕ) (printed : Bool) (x : Lis
   pub names : List (List ℕ)
   pub named : HasAnswerNames s c names
   pub line : IsLine printed (formula_line (Some x) names formula) answer
+  pub small : tree_distinct formula ≤ MOST_SUBFORMULAS
   pub binds : next ≡ with_bound (with_names s names) x formula
 
 -- the line of an accepted statement, and the state after it

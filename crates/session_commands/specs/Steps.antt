@@ -125,6 +125,7 @@ pub record IsGiven (s : State) (limit : ℕ) (u : Use) (c : CommandTree) (answer
   pub names : List (List ℕ)
   pub named : HasAnswerNames s c names
   pub line : IsLine u.printed (formula_line u.target names formula) answer
+  pub small : ¬ (IsTooLarge u.target formula)
   pub after : next ≡ state_with (with_names s names) u.target formula
 
 -- ---- what a step keeps

@@ -41,7 +41,7 @@ use atom_normal::Atom;
 use formula_store::FormulaId;
 use formula_tree::{Shape, Tree};
 use nnf_trees::Nnf;
-use plain_cases::{Leaf, PlainCase, case_leaves};
+use plain_cases::{Leaf, PrintedCase, case_leaves};
 use qe_syntax::Formula;
 use shared_elimination::{share, unfolded_form};
 use std::alloc::AllocError;
@@ -74,7 +74,7 @@ fn cases_of(
     limit: u64,
     formula: &Formula,
     given: &[Formula],
-) -> Result<Vec<PlainCase>, StatementError>
+) -> Result<Vec<PrintedCase>, StatementError>
     requires proper { IsWritableFormula (formula_tree formula.now) }
     requires given { AreWritableFormulas (formulas_of (map formula_tree given.now)) }
     requires desk { IsDesk desk.old }
@@ -95,7 +95,7 @@ fn wanted_cases(
     desk: &mut Desk,
     limit: u64,
     read: &Premised,
-) -> Result<Vec<PlainCase>, StatementError>
+) -> Result<Vec<PrintedCase>, StatementError>
     requires id { IsId desk.old.store read.now.formula }
     requires normal { Every (IsNormal (context_of desk.old.context)) (tree desk.old.store read.now.formula) }
     requires atoms { EachOf (IsNormal (context_of desk.old.context)) (map atom_of read.now.atoms.items) }
@@ -146,7 +146,7 @@ fn left_cases(
     desk: &mut Desk,
     leaves: Vec<Leaf>,
     atoms: &[Atom],
-) -> Result<Vec<PlainCase>, StatementError>
+) -> Result<Vec<PrintedCase>, StatementError>
     requires sound { AreSound leaves.items }
     requires orderly { EachOf (λ (k : Case). IsOrderly (IsNormal (context_of desk.old.context)) k.guard) (map leaf_case leaves.items) }
     requires well_formed { AllByRecursion IsWellFormed atoms.now }
@@ -167,7 +167,7 @@ fn left_cases(
 }
 
 /// Puts the case, if there is one, behind the others.
-fn push_left(cases: &mut Vec<PlainCase>, case: Option<PlainCase>) -> Result<(), AllocError>
+fn push_left(cases: &mut Vec<PrintedCase>, case: Option<PrintedCase>) -> Result<(), AllocError>
     requires points { HavePoints cases.old.items }
     requires more { IfSome case (λ k. All IsTestPoint k.answers.items) }
     ensures cases { OnOk result (map case_seen cases.new.items ≡ map case_seen cases.old.items ++ put_before (option_map case_seen case) []) }
@@ -184,7 +184,7 @@ fn left_case(
     desk: &mut Desk,
     leaf: Leaf,
     atoms: &[Atom],
-) -> Result<Option<PlainCase>, StatementError>
+) -> Result<Option<PrintedCase>, StatementError>
     requires sound { IsSound leaf }
     requires orderly { IsOrderly (IsNormal (context_of desk.old.context)) (nnf_of leaf.formula) }
     requires well_formed { AllByRecursion IsWellFormed atoms.now }
@@ -200,7 +200,7 @@ fn left_case(
         return Ok(None);
     }
     let guard = unfolded(desk, id)?;
-    Ok(Some(PlainCase {
+    Ok(Some(PrintedCase {
         guard,
         answers: points,
     }))
@@ -256,7 +256,7 @@ fn unfolded(desk: &Desk, id: FormulaId) -> Result<Tree, StatementError>
 }
 
 /// The line of the cases, if it is printed.
-fn line_of_cases(desk: &Desk, cases: &[PlainCase], printed: bool) -> Result<Line, StatementError>
+fn line_of_cases(desk: &Desk, cases: &[PrintedCase], printed: bool) -> Result<Line, StatementError>
     requires { AreCasesWithin (length desk.now.names) (map case_seen cases.now) }
     ensures line { IfOk result (IsLine printed (text_of_cases desk.now.names (map case_seen cases.now))) }
     ensures fault { IfErr result (LineFault printed (text_of_cases desk.now.names (map case_seen cases.now))) }

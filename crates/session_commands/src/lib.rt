@@ -7,6 +7,7 @@ mod desk;
 mod forms;
 mod formulas;
 mod holds;
+mod laws;
 mod line;
 mod lines;
 mod points;
@@ -15,5 +16,6 @@ mod session;
 mod texts;
 
 pub use formulas::MOST_SUBFORMULAS;
+pub use laws::truth_is_never_refused;
 pub use line::{Line, StatementError};
 pub use session::{Limits, Session};

@@ -1,6 +1,7 @@
 //! Lines that are printed or not.
 
-ghost use Rattle.std.specs.Prelude.{◌≡◌, IfOk, IfErr};
+ghost use Rattle.std.specs.Prelude.{◌≡◌, ◌≤◌, length, IfOk, IfErr};
+ghost use Rattle.redlog_printer.specs.Writing.{text_limit};
 ghost use Rattle.session_commands.specs.Reply.{IsLine};
 ghost use Rattle.session_commands.specs.Steps.{print_refusal as refusal_of_print};
 
@@ -14,6 +15,7 @@ pub(crate) fn printed_line(
     text: &[u8],
     printed: bool,
 ) -> Result<Line, StatementError>
+    requires short { length text.now ≤ text_limit }
     ensures line { IfOk result (IsLine printed text.now) }
     ensures memory { IfErr result (λ e. e ≡ StatementError.Memory) }
 {

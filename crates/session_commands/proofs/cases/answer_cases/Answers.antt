@@ -2,7 +2,7 @@ use Rattle.std.proofs.Common.{◌≡◌, List, None, sym, subst, rules, map, len
 use Rattle.std.specs.Prelude.{Result, IfOk, IfErr, OnErr}
 use Rattle.answer_texts.specs.Answers.{cases_text}
 use Rattle.answer_texts.specs.Within.{AreCasesWithin}
-use Rattle.plain_cases.specs.declared.cases.PlainCase.{PlainCase}
+use Rattle.plain_cases.specs.declared.cases.PrintedCase.{PrintedCase}
 use Rattle.plain_cases.specs.Case.{case_seen}
 use Rattle.qe_syntax.specs.Statements.{Qea}
 use Rattle.qe_syntax.specs.Trees.{formula_tree, formulas_of}
@@ -52,7 +52,7 @@ returns-in_err-cases-clause-grown c =
 pub line_of_cases-requires : goal.line_of_cases-requires
 line_of_cases-requires c =
     let same : c.deref.result.now ≡ c.in_ok-cases.cases.items = search rules in
-    subst (λ (xs : List PlainCase). AreCasesWithin (length c.cases_of.new.desk.names) (map case_seen xs)) (sym same)
+    subst (λ (xs : List PrintedCase). AreCasesWithin (length c.cases_of.new.desk.names) (map case_seen xs)) (sym same)
     (within_there c.args.desk.now c.number_parts.new.names (formula_tree c.args.formula.now) (formulas_of (map formula_tree c.args.given.now)) c.requires.desk c.number_parts.ensures.grown c.in_ok-number_parts.ensures.numbered
     c.requires.proper c.requires.given c.cases_of.new.desk c.cases_of.ensures.kept c.args.limit c.args.printed c.in_ok-cases.ensures.readable c.in_ok-cases.cases.items c.in_ok-cases.ensures.cases c.in_ok-cases.ensures.points)
 
@@ -66,7 +66,7 @@ returns-clause-answer c =
     let same : c.deref.result.now ≡ c.in_ok-cases.cases.items = search rules in
     line_answered c.args.desk.now c.number_parts.new.names (formula_tree c.args.formula.now) (formulas_of (map formula_tree c.args.given.now)) c.requires.desk c.number_parts.ensures.grown c.in_ok-number_parts.ensures.numbered
     c.requires.proper c.requires.given c.cases_of.new.desk c.cases_of.ensures.kept c.args.limit c.args.printed c.in_ok-cases.ensures.readable c.in_ok-cases.cases.items c.in_ok-cases.ensures.cases
-    c.line_of_cases.result c.cases_of.new.desk.names (subst (λ (xs : List PlainCase). IfOk c.line_of_cases.result (IsLine c.args.printed (cases_text c.cases_of.new.desk.names (map case_seen xs)))) same c.line_of_cases.ensures.line)
+    c.line_of_cases.result c.cases_of.new.desk.names (subst (λ (xs : List PrintedCase). IfOk c.line_of_cases.result (IsLine c.args.printed (cases_text c.cases_of.new.desk.names (map case_seen xs)))) same c.line_of_cases.ensures.line)
 
 pub returns-clause-next : goal.returns-clause-next
 returns-clause-next c =
@@ -78,4 +78,4 @@ returns-clause-refused c =
     let same : c.deref.result.now ≡ c.in_ok-cases.cases.items = search rules in
     line_refused c.args.desk.now c.number_parts.new.names (formula_tree c.args.formula.now) (formulas_of (map formula_tree c.args.given.now)) c.requires.desk c.number_parts.ensures.grown c.in_ok-number_parts.ensures.numbered
     c.requires.proper c.requires.given c.cases_of.new.desk c.cases_of.ensures.kept c.args.limit c.args.printed c.in_ok-cases.ensures.readable c.in_ok-cases.cases.items c.in_ok-cases.ensures.cases
-    c.line_of_cases.result (subst (λ (xs : List PlainCase). IfErr c.line_of_cases.result (LineFault c.args.printed (cases_text c.cases_of.new.desk.names (map case_seen xs)))) same c.line_of_cases.ensures.fault)
+    c.line_of_cases.result (subst (λ (xs : List PrintedCase). IfErr c.line_of_cases.result (LineFault c.args.printed (cases_text c.cases_of.new.desk.names (map case_seen xs)))) same c.line_of_cases.ensures.fault)

@@ -5,7 +5,7 @@ use Rattle.std.specs.declared.alloc.Global.{Global}
 use Rattle.atom_normal.specs.Atoms.{atom_of}
 use Rattle.atom_normal.proofs.Stepped.{ok_map}
 use Rattle.formula_store.specs.Nodes.{tree}
-use Rattle.plain_cases.specs.declared.cases.PlainCase.{PlainCase}
+use Rattle.plain_cases.specs.declared.cases.PrintedCase.{PrintedCase}
 use Rattle.plain_cases.specs.Case.{case_seen}
 use Rattle.qe_syntax.specs.Statements.{Qea}
 use Rattle.qe_syntax.specs.Trees.{formula_tree, formulas_of}
@@ -27,7 +27,7 @@ returns-in_err-read-clause-refused c =
     let f = formula_tree c.args.formula.now in
     let gs = formulas_of (map formula_tree c.args.given.now) in
     let e : c.from_residual.result ≡ Err c.in_err-read.field-0.0 = search rules in
-    let stop : Result (Vec PlainCase Global) StatementError = Err c.in_err-read.field-0.0 in
+    let stop : Result (Vec PrintedCase Global) StatementError = Err c.in_err-read.field-0.0 in
     subst (λ r. IfErr r (λ e. (printed : Bool) → Refuses s c.args.limit (use_of None printed) (Qea f gs) e)) (sym e)
     (unread_there stop s f gs c.requires.numbered c.args.limit c.in_err-read.ensures.unread)
 
@@ -44,7 +44,7 @@ wanted_cases-requires-clause-atoms c =
 pub returns-clause-cases : goal.returns-clause-cases
 returns-clause-cases c =
     ok_map c.wanted_cases.result
-    (λ (v : Vec PlainCase Global) w.
+    (λ (v : Vec PrintedCase Global) w.
     wanted_there c.args.desk.now c.read_parts.new.desk (formula_tree c.args.formula.now) (formulas_of (map formula_tree c.args.given.now)) c.requires.desk c.requires.numbered c.in_ok-read.ensures.readable c.read_parts.ensures.kept
     c.requires.proper c.requires.given (tree c.read_parts.new.desk.store c.in_ok-read.read.formula) c.in_ok-read.ensures.made.same (map atom_of c.in_ok-read.read.atoms.items) c.in_ok-read.ensures.atoms
     c.args.limit (map case_seen v.items) w) c.wanted_cases.ensures.cases
