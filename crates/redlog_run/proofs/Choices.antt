@@ -1,5 +1,5 @@
 -- A script whose statements have no formula has exactly one run.
-use Rattle.std.proofs.Common.{◌≡◌, ◌≢◌, ℕ, ◌<◌, ◌^◌, Bool, true, false, ◌||◌, List, [], ◌∷◌, ◌++◌, length, refl, sym, ap, ◌∙◌, subst, append-nil, arith, if◌then◌else◌}
+use Rattle.std.proofs.Common.{◌≡◌, ◌≢◌, ℕ, ◌<◌, ◌≤◌, ◌^◌, Bool, true, false, ◌||◌, List, [], ◌∷◌, ◌++◌, length, refl, sym, ap, ◌∙◌, subst, append-nil, arith, if◌then◌else◌}
 use Rattle.std.specs.List.{AllByRecursion}
 use Rattle.std.specs.declared.alloc.Global.{Global}
 use Rattle.std.specs.declared.vec.Vec.{Vec}
@@ -30,6 +30,11 @@ text_of bytes h = record { ptr = null_ptr; len = length bytes; cap = length byte
 context_small : (c : Context) → length (context_text c) < 2 ^ 63
 context_small Fields = omega arith
 context_small Integers = omega arith
+
+-- it is within the limit of a line
+context_short : (c : Context) → length (context_text c) ≤ 33554432
+context_short Fields = omega arith
+context_short Integers = omega arith
 
 -- the statement ends the script
 abbrev ends : ActionTree → Bool
@@ -127,7 +132,7 @@ module _ (s : State) (limit : ℕ) (piece : List ℕ) (offset : ℕ) where
       → AnswersPiece s limit piece offset false (if printed then context_text c ++ newline else []) false (chosen s c)
   theory_chosen true c a h answers =
       let text = line.Printed (text_of (context_text c) (context_small c)) in
-      answered text (λ e. absurd (cc)) (record { statement = record { action = a; printed = true }; spelled = h; answered = answers text (refl, refl) })
+      answered text (λ e. absurd (cc)) (record { statement = record { action = a; printed = true }; spelled = h; answered = answers text (refl, refl, context_short c) })
   theory_chosen false c a h answers =
       answered line.Nothing (λ e. absurd (cc)) (record { statement = record { action = a; printed = false }; spelled = h; answered = answers line.Nothing refl })
 
@@ -143,6 +148,16 @@ module _ (s : State) (limit : ℕ) (piece : List ℕ) (offset : ℕ) where
   made printed (Assign x c) h w = absurd w
 
 -- ---- all pieces
+
+-- one piece stands there, so what is said of it is said of each
+module _ (text : List ℕ) {from start end start2 end2 : ℕ} (p : IsPiece text from start end) (q : IsPiece text from start2 end2) where
+  pub spells_again : (t : StatementTree) → Spells (piece_bytes text start end) t → Spells (piece_bytes text start2 end2) t
+  spells_again t h =
+      let e = same_piece text from start end start2 end2 p q in
+      subst (λ (b : ℕ). Spells (piece_bytes text b end2) t) e.0 (subst (λ (b : ℕ). Spells (piece_bytes text start b) t) e.1 h)
+
+  pub goes_on_again : (ts : List StatementTree) → SpellsFrom text end ts → SpellsFrom text end2 ts
+  goes_on_again ts h = subst (λ (b : ℕ). SpellsFrom text b ts) (same_piece text from start end start2 end2 p q).1 h
 
 abbrev AreWithoutFormulas : List StatementTree → Type 0
 AreWithoutFormulas ts = AllByRecursion (λ (t : StatementTree). IsWithoutFormula t.action) ts
@@ -161,15 +176,6 @@ module _ (limit : ℕ) (text : List ℕ) where
   one_run s (script.then {start = start} {end = end} {t = t} piece h other rest) w =
       run.then piece (ending_as s (piece_bytes text start end) start t false (goes_on t.action other) h w.0) (one_run (after s t.action) rest w.1) refl refl
 
-  module _ {from start end start2 end2 : ℕ} (p : IsPiece text from start end) (q : IsPiece text from start2 end2) where
-    spells_again : (t : StatementTree) → Spells (piece_bytes text start end) t → Spells (piece_bytes text start2 end2) t
-    spells_again t h =
-        let e = same_piece text from start end start2 end2 p q in
-        subst (λ (b : ℕ). Spells (piece_bytes text b end2) t) e.0 (subst (λ (b : ℕ). Spells (piece_bytes text start b) t) e.1 h)
-
-    goes_on_again : (ts : List StatementTree) → SpellsFrom text end ts → SpellsFrom text end2 ts
-    goes_on_again ts h = subst (λ (b : ℕ). SpellsFrom text b ts) (same_piece text from start end start2 end2 p q).1 h
-
   no_other : {s : State} {from : ℕ} {ts : List StatementTree} {others : List ℕ} {refusal : Bool} → SpellsFrom text from ts → AreWithoutFormulas ts → Run limit text from s others refusal
       → (others ≡ choice_lines ts) × (refusal ≡ false)
   no_other (script.over none) w (run.over _) = (refl, refl)
@@ -177,20 +183,20 @@ module _ (limit : ℕ) (text : List ℕ) where
   no_other {from = from} (script.over none) w (run.then {start = start} {end = end} piece a r e f) = absurd (none_or_piece text from start end none piece)
   no_other {from = from} (script.last {start = start} {end = end} piece h finish) w (run.over none) = absurd (none_or_piece text from start end none piece)
   no_other {s = s} (script.last {t = t} piece h finish) w (run.last {start = start} {end = end} piece2 a) =
-      let c = choice s limit (piece_bytes text start end) start t (spells_again piece piece2 t h) w.0 a in
+      let c = choice s limit (piece_bytes text start end) start t (spells_again text piece piece2 t h) w.0 a in
       (c.lines_are ∙ sym (append-nil (choice_line t.printed t.action)), c.unrefused)
   no_other {s = s} (script.last {t = t} piece h finish) w (run.then {start = start} {end = end} piece2 a r e f) =
-      let c = choice s limit (piece_bytes text start end) start t (spells_again piece piece2 t h) w.0 a in
+      let c = choice s limit (piece_bytes text start end) start t (spells_again text piece piece2 t h) w.0 a in
       let wrong : false ≡ true = c.ending_is ∙ ap ends finish in
       absurd (cc)
   no_other {from = from} (script.then {start = start} {end = end} piece h other rest) w (run.over none) = absurd (none_or_piece text from start end none piece)
   no_other {s = s} (script.then {t = t} piece h other rest) w (run.last {start = start} {end = end} piece2 a) =
-      let c = choice s limit (piece_bytes text start end) start t (spells_again piece piece2 t h) w.0 a in
+      let c = choice s limit (piece_bytes text start end) start t (spells_again text piece piece2 t h) w.0 a in
       let wrong : true ≡ false = c.ending_is ∙ goes_on t.action other in
       absurd (cc)
   no_other {s = s} (script.then {t = t} {ts = ts} piece h other rest) w (run.then {start = start} {end = end} {lines = lines} {rest = later} {refusal = refusal} {more = more} piece2 a r e f) =
-      let c = choice s limit (piece_bytes text start end) start t (spells_again piece piece2 t h) w.0 a in
-      let d = no_other (goes_on_again piece piece2 ts rest) w.1 r in (
+      let c = choice s limit (piece_bytes text start end) start t (spells_again text piece piece2 t h) w.0 a in
+      let d = no_other (goes_on_again text piece piece2 ts rest) w.1 r in (
         e ∙ ap (λ (ls : List ℕ). ls ++ later) c.lines_are ∙ ap (λ (ls : List ℕ). choice_line t.printed t.action ++ ls) d.0,
         f ∙ ap (λ (b : Bool). b || more) c.unrefused ∙ d.1,
       )

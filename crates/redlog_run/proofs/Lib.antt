@@ -1,6 +1,10 @@
 pub mod Joined
-pub mod Options
+pub mod Claims
 pub mod Replies
 pub mod Unrefused
 pub mod Choices
 pub mod ChoiceExample
+pub mod Longer
+pub mod Ending
+pub mod Accepted
+pub mod AcceptedExample

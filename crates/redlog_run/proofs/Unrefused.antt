@@ -1,5 +1,5 @@
 -- A piece that spells a statement which has no cause of a refusal is not refused.
-use Rattle.std.proofs.Common.{◌≢◌, ℕ, List, refl, subst}
+use Rattle.std.proofs.Common.{◌≡◌, ◌≢◌, ℕ, Bool, true, false, ◌||◌, List, ◌++◌, refl, ap, ◌∙◌, subst}
 use Rattle.std.specs.Prelude.{Err}
 use Rattle.qe_syntax.specs.Statements.{StatementTree}
 use Rattle.redlog_reader.specs.Statement.{Spells}
@@ -9,6 +9,8 @@ use Rattle.session_commands.specs.declared.line.StatementError.{StatementError}
 use Rattle.session_commands.specs.declared.line.StatementError.TheVariants as error
 use Rattle.session_commands.specs.State.{State}
 use Rattle.session_commands.specs.Reply.{RefusesAction, SpellsRefused, Reply}
+use Rattle.redlog_run.specs.Run.{AnswersPiece, finished, answered, refused, Run, over, last, then, piece_bytes}
+use Rattle.redlog_run.specs.Unrefused.{RunTo, begin, on, IsUnrefusedPiece, IsUnrefused, UnrefusedScriptsHaveNoRefusal}
 
 module _ (s : State) (limit : ℕ) (piece : List ℕ) (t : StatementTree) (h : Spells piece t)
     (none : (e : StatementError) → e ≢ error.Memory → RefusesAction s limit t.printed t.action e → ⊥) where
@@ -22,3 +24,25 @@ module _ (s : State) (limit : ℕ) (piece : List ℕ) (t : StatementTree) (h : S
   never error.Syntax next other r = not_unread piece t reading.Syntax (λ p. absurd (cc)) h r.1
   never error.Memory next other r = other refl
   never e next other r = refused_never e other r.1
+
+-- ---- whole scripts
+
+-- a piece that may not be refused is not refused
+piece_unrefused : (s : State) (limit : ℕ) (piece : List ℕ) (offset : ℕ) {ending refusal : Bool} {lines : List ℕ} {next : State} → IsUnrefusedPiece s limit piece → AnswersPiece s limit piece offset ending lines refusal next → refusal ≡ false
+piece_unrefused s limit piece offset u (finished r) = refl
+piece_unrefused s limit piece offset u (answered line other r) = refl
+piece_unrefused s limit piece offset {next = next} u (refused cause other r) = absurd (never s limit piece u.statement u.spelled u.unrefused cause next other r)
+
+module _ (limit : ℕ) (script : List ℕ) (u : IsUnrefused limit script) where
+  run_unrefused : {from : ℕ} {s : State} {before rest : List ℕ} {refusal : Bool} → RunTo limit script from s before false → Run limit script from s rest refusal → refusal ≡ false
+  run_unrefused t (over none) = refl
+  run_unrefused {from = from} {s = s} {before = before} t (last {start = start} {end = end} p a) =
+      piece_unrefused s limit (piece_bytes script start end) start (u from start end s before t p) a
+  run_unrefused {from = from} {s = s} {before = before} t (then {start = start} {end = end} {next = next} {lines = lines} {refusal = refusal} {more = more} p a r e f) =
+      let fine = piece_unrefused s limit (piece_bytes script start end) start (u from start end s before t p) a in
+      let further : RunTo limit script end next (before ++ lines) false = on t p (subst (λ b. AnswersPiece s limit (piece_bytes script start end) start false lines b next) fine a) refl refl in
+      f ∙ ap (λ b. b || more) fine ∙ run_unrefused further r
+
+-- a script of such pieces has no run with a refusal
+pub unrefused_scripts : UnrefusedScriptsHaveNoRefusal
+unrefused_scripts limit script u r = let wrong : true ≡ false = run_unrefused limit script u begin r.1 in absurd (cc)

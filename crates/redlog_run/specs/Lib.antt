@@ -1,7 +1,12 @@
+pub mod Claim
+pub mod Ends
+pub mod Outcome
+pub mod Run
+pub mod Unrefused
+pub mod Lines
 pub mod Numbers
 pub mod Script
-pub mod Lines
-pub mod Run
-pub mod Outcome
+pub mod Steps
 pub mod Process
 pub mod WithoutFormulas
+pub mod Accepted

@@ -1,6 +1,8 @@
 -- What a script is answered with: piece after piece, each in the state that the one before left.
-use Rattle.std.specs.Prelude.{◌≡◌, ◌≢◌, ℕ, ◌-◌, List, [], ◌++◌, take, drop, Bool, true, false, ◌||◌, Ok, Err}
+use Rattle.std.specs.Prelude.{◌≡◌, ◌≢◌, ℕ, ◌-◌, ◌<◌, ◌≤◌, List, [], ◌++◌, length, take, drop, Bool, true, false, ◌||◌, Ok, Err}
+use Rattle.qe_syntax.specs.Statements.{StatementTree, Finish}
 use Rattle.redlog_tokens.specs.Pieces.{HasNoTokenFrom, IsPiece}
+use Rattle.redlog_reader.specs.Statement.{Spells}
 use Rattle.session_commands.specs.declared.line.Line.{Line}
 use Rattle.session_commands.specs.declared.line.Line.TheVariants.{Finished}
 use Rattle.session_commands.specs.declared.line.StatementError.{StatementError}
@@ -37,9 +39,31 @@ pub data Run (limit : ℕ) (script : List ℕ) : ℕ → State → List ℕ → 
 abbrev pub RunOf : ℕ → List ℕ → List ℕ → Bool → Type 0
 RunOf limit script lines refusal = Run limit script 0 first_state lines refusal
 
--- no run of the script has a refusal
-abbrev pub HasNoRefusal : ℕ → List ℕ → Type 0
-HasNoRefusal limit script = ¬ ((lines : List ℕ) × RunOf limit script lines true)
+-- ---- statements that end a script, within a number of bytes
+
+-- the piece spells `end`, `bye` or `quit`
+abbrev pub SpellsFinish : List ℕ → Type 0
+SpellsFinish piece = (t : StatementTree) × Spells piece t × (t.action ≡ Finish)
+
+-- from this place on, some statement ends the script, and it and those before it end within so many bytes
+pub data HasEnd (longest : ℕ) (script : List ℕ) : ℕ → Type 0 where
+  here : {from start end : ℕ} → IsPiece script from start end → end ≤ longest → SpellsFinish (piece_bytes script start end) → HasEnd longest script from
+  later : {from start end : ℕ} → IsPiece script from start end → end ≤ longest → ¬ (SpellsFinish (piece_bytes script start end)) → HasEnd longest script end → HasEnd longest script from
+
+-- a statement ends the script within so many bytes, so that these lines answer it and every script that begins with it
+pub record IsEndedWith (longest limit : ℕ) (script lines : List ℕ) (refusal : Bool) : Type 0 where
+  pub has_end : HasEnd longest script 0
+  pub answers : (more : List ℕ) → RunOf limit (script ++ more) lines refusal
+
+-- these lines answer the script: it has at most so many bytes, or a statement ends it within these
+pub data AnswersScript (longest limit : ℕ) (script lines : List ℕ) (refusal : Bool) : Type 0 where
+  whole : length script ≤ longest → RunOf limit script lines refusal → AnswersScript longest limit script lines refusal
+  ended : IsEndedWith longest limit script lines refusal → AnswersScript longest limit script lines refusal
+
+-- the script has more bytes, and no statement ends it within so many
+pub record IsTooLong (longest : ℕ) (script : List ℕ) : Type 0 where
+  pub long : longest < length script
+  pub unended : ¬ (HasEnd longest script 0)
 
 -- what one piece adds to the lines and to the flag of a refusal
 pub record Adds (s : State) (limit : ℕ) (piece : List ℕ) (offset : ℕ) (ends : Bool) (next : State) (lines : List ℕ) (refusal : Bool) (all : List ℕ) (some : Bool) : Type 0 where

@@ -1,12 +1,15 @@
-ghost use Rattle.std.specs.Prelude.{◌≡◌, ◌≢◌, ◌++◌, ◌∷◌, [], true, IfOk, OnOk};
+ghost use Rattle.std.specs.Prelude.{◌≡◌, ◌≢◌, ◌++◌, ◌∷◌, [], true, IfOk, IfErr, OnOk};
 ghost use Rattle.session_commands.specs.Seen.{state_in};
 ghost use Rattle.session_commands.specs.Words.{word_of};
 ghost use Rattle.redlog_run.specs.Lines.{refusal_line};
-ghost use Rattle.redlog_run.specs.Run.{RunOf, Adds};
+ghost use Rattle.redlog_run.specs.Run.{Adds, AnswersScript};
+ghost use Rattle.redlog_run.specs.Script.{AnswerCause};
+ghost use Rattle.redlog_run.specs.declared.answer.AnswerStop.TheVariants.{Memory};
 
 use redlog_reader::next_piece;
 use session_commands::{Limits, Line, Session, StatementError};
 use std::alloc::{AllocError, Global};
+use thiserror::Error;
 
 /// How many workers a session may have.
 const WORKERS: usize = 4;
@@ -18,9 +21,33 @@ pub struct Answers {
     pub refused: bool,
 }
 
-/// Answers a script under this limit of nodes: its statements in turn, each in the state that the one before left, until one of them ends it.
-pub fn answer_script(alloc: Global, nodes: u64, script: &[u8]) -> Result<Answers, AllocError>
-    ensures { IfOk result (λ answers. RunOf nodes script.now answers.lines.items answers.refused) }
+/// Why a script is not answered: it is too long and no statement ends it within the limit, or memory ran out.
+#[derive(Clone, Copy, Debug, PartialEq, Eq, Error)]
+pub enum AnswerStop {
+    #[error("the script is too long")]
+    Long,
+    #[error("out of memory")]
+    Memory,
+}
+
+impl From<AllocError> for AnswerStop {
+    ghost from_gives = { λ _ e. e ≡ Memory };
+
+    fn from(_error: AllocError) -> AnswerStop {
+        AnswerStop::Memory
+    }
+}
+
+/// Answers a script of at most `longest` bytes under this limit of nodes: its statements in turn, each in the state that the one before
+/// left, until one of them ends it. A longer script is answered where a statement ends it within these bytes.
+pub fn answer_script(
+    alloc: Global,
+    nodes: u64,
+    longest: usize,
+    script: &[u8],
+) -> Result<Answers, AnswerStop>
+    ensures answers { IfOk result (λ answers. AnswersScript longest nodes script.now answers.lines.items answers.refused) }
+    ensures stop { IfErr result (AnswerCause longest script.now) }
 {
     let limits = Limits {
         nodes,
@@ -33,11 +60,17 @@ pub fn answer_script(alloc: Global, nodes: u64, script: &[u8]) -> Result<Answers
     };
     let mut from = 0;
     'pieces: while let Some(piece) = next_piece(script, from) {
+        if piece.end > longest {
+            return Err(AnswerStop::Long);
+        }
         let bytes = &script[piece.start..piece.end];
         if answer_piece(alloc, &mut session, bytes, piece.start, &mut answers)? {
             return Ok(answers);
         }
         from = piece.end;
+    }
+    if script.len() > longest {
+        return Err(AnswerStop::Long);
     }
     Ok(answers)
 }

@@ -9,7 +9,9 @@ mod read;
 mod status;
 mod write;
 
-pub use laws::scripts_without_formulas;
+pub use laws::{
+    never_refused_is_unrefused, scripts_without_formulas, unrefused_scripts_have_no_refusal,
+};
 pub use process::{WordsError, finish, run_process};
 pub use program::run;
 pub use status::Status;

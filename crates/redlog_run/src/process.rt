@@ -1,10 +1,9 @@
-ghost use Rattle.std.specs.Prelude.{◌≡◌, ◌≢◌, IfOk, IfErr, OnErr};
+ghost use Rattle.std.specs.Prelude.{◌≡◌, ◌≢◌};
 ghost use Rattle.std.specs.IoError.{error_kind};
 ghost use Rattle.std.specs.Process.{exit_status};
-ghost use Rattle.qe_io.specs.Streams.{Rose};
+ghost use Rattle.redlog_run.specs.Ends.{ends};
 ghost use Rattle.redlog_run.specs.Numbers.{number_of};
-ghost use Rattle.redlog_run.specs.Outcome.{Outcome, Completes, MeetsUsage, IsUnused, Faults};
-ghost use Rattle.redlog_run.specs.Process.{EndsWith, words_status};
+ghost use Rattle.redlog_run.specs.Process.{EndsWith, EndsProcess, Finishes};
 
 use crate::program::run;
 use crate::status::Status;
@@ -25,13 +24,14 @@ pub enum WordsError {
 }
 
 /// The whole process: takes the words after the program's name, answers the script that the reader gives on the writer, and
-/// ends with the number of the status.
+/// ends with the number of the status. The claim holds of the words that the process has, over ends that have not failed yet and
+/// that tell nothing of what they give and take.
 pub fn run_process<R: Env + AllocGlobal, I: Read + Drop, O: Write + Drop>(
     rt: &R,
     input: I,
     output: O,
 ) -> ExitCode
-    ensures { EndsWith result (λ _. Unit {0}) }
+    ensures { EndsWith result EndsProcess }
 {
     let mut source = StdSource::new(input);
     let mut sink = StdSink::new(output);
@@ -45,16 +45,9 @@ pub fn finish<S: Source, K: Sink>(
     source: &mut S,
     sink: &mut K,
 ) -> ExitCode
-    // What was read and written, and which faults came, by the status whose number it is.
-    ensures outcome { IfOk words (λ ws. EndsWith result (Outcome ws.items (S.left source.old) (S.left source.new) (K.wrote sink.old) (K.wrote sink.new) (K.faults sink.old) (K.faults sink.new))) }
-    ensures faults { EndsWith result (Faults (S.faults source.old) (S.faults source.new) (K.faults sink.old) (K.faults sink.new)) }
-    ensures words { IfErr words (λ e. exit_status result ≡ number_of (words_status e)) }
-    ensures untaken { OnErr words (IsUnused (S.left source.old) (S.left source.new) (K.wrote sink.old) (K.wrote sink.new)) }
-
-    // What `run` says of usage and of a script without a cause of a refusal.
-    ensures usage { IfOk words (λ ws. EndsWith result (MeetsUsage ws.items)) }
-    ensures unused { exit_status result ≡ number_of Status.Usage → IsUnused (S.left source.old) (S.left source.new) (K.wrote sink.old) (K.wrote sink.new) }
-    ensures complete { IfOk words (λ ws. EndsWith result (λ s. (¬ (Rose (S.faults source.old) (S.faults source.new))) → (¬ (Rose (K.faults sink.old) (K.faults sink.new))) → Completes ws.items (S.left source.old) s)) }
+    ensures { EndsWith result (Finishes words
+        (ends (S.left source.old) (S.faults source.old) (K.wrote sink.old) (K.faults sink.old))
+        (ends (S.left source.new) (S.faults source.new) (K.wrote sink.new) (K.faults sink.new))) }
 {
     let status = answer_words(alloc, words, source, sink);
     exit_code(status)
@@ -74,13 +67,9 @@ fn answer_words<S: Source, K: Sink>(
     source: &mut S,
     sink: &mut K,
 ) -> Status
-    ensures outcome { IfOk words (λ ws. Outcome ws.items (S.left source.old) (S.left source.new) (K.wrote sink.old) (K.wrote sink.new) (K.faults sink.old) (K.faults sink.new) result) }
-    ensures faults { Faults (S.faults source.old) (S.faults source.new) (K.faults sink.old) (K.faults sink.new) result }
-    ensures words { IfErr words (λ e. result ≡ words_status e) }
-    ensures untaken { OnErr words (IsUnused (S.left source.old) (S.left source.new) (K.wrote sink.old) (K.wrote sink.new)) }
-    ensures usage { IfOk words (λ ws. MeetsUsage ws.items result) }
-    ensures unused { result ≡ Status.Usage → IsUnused (S.left source.old) (S.left source.new) (K.wrote sink.old) (K.wrote sink.new) }
-    ensures complete { IfOk words (λ ws. (¬ (Rose (S.faults source.old) (S.faults source.new))) → (¬ (Rose (K.faults sink.old) (K.faults sink.new))) → Completes ws.items (S.left source.old) result) }
+    ensures { Finishes words
+        (ends (S.left source.old) (S.faults source.old) (K.wrote sink.old) (K.faults sink.old))
+        (ends (S.left source.new) (S.faults source.new) (K.wrote sink.new) (K.faults sink.new)) result }
 {
     match words {
         Ok(words) => run(alloc, &words, source, sink),

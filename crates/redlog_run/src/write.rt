@@ -1,11 +1,24 @@
 ghost use Rattle.std.specs.Prelude.{◌≡◌, OnOk, OnErr};
 ghost use Rattle.qe_io.specs.Streams.{Took, Rose};
-ghost use Rattle.redlog_run.specs.Script.{TookFront};
+ghost use Rattle.redlog_run.specs.Ends.{TookFront};
+ghost use Rattle.redlog_run.specs.Script.{Written};
 
+use crate::status::Status;
 use qe_io::{Sink, WriteFailed};
 
+/// Writes the text of an answer. The status is Done, or Refused where some line of the answer is a refusal, or WriteFault.
+pub fn write_answer<K: Sink>(sink: &mut K, text: &[u8], refused: bool) -> Status
+    ensures { Written (K.wrote sink.old) (K.wrote sink.new) (K.faults sink.old) (K.faults sink.new) text.now refused result }
+{
+    match write_all(sink, text) {
+        Ok(()) if refused => Status::Refused,
+        Ok(()) => Status::Done,
+        Err(_) => Status::WriteFault,
+    }
+}
+
 /// Writes all the bytes. After an `Err` some bytes in front were written.
-pub fn write_all<K: Sink>(sink: &mut K, bytes: &[u8]) -> Result<(), WriteFailed>
+fn write_all<K: Sink>(sink: &mut K, bytes: &[u8]) -> Result<(), WriteFailed>
     ensures wrote { OnOk result (Took (K.wrote sink.old) (K.wrote sink.new) bytes.now) }
     ensures no_fault { OnOk result (K.faults sink.new ≡ K.faults sink.old) }
     ensures fault { OnErr result (Rose (K.faults sink.old) (K.faults sink.new)) }

@@ -1,6 +1,6 @@
 use Rattle.std.proofs.Common.{◌≡◌, ◌≤◌, length}
 use Rattle.qe_io.specs.Streams.{Gave}
-use Rattle.redlog_run.specs.Script.{script_limit}
+use Rattle.redlog_run.specs.Outcome.{script_limit}
 use Rattle.redlog_run.proofs.read.read_script.Given as goal
 
 -- the script so far came from the source, is within the limit, and grew in each turn

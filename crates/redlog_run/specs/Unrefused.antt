@@ -1,0 +1,36 @@
+-- Scripts of statements that have no cause of a refusal.
+use Rattle.std.specs.Prelude.{◌≡◌, ◌≢◌, ℕ, List, [], ◌++◌, Bool, true, false, ◌||◌}
+use Rattle.qe_syntax.specs.Statements.{StatementTree}
+use Rattle.redlog_tokens.specs.Pieces.{IsPiece}
+use Rattle.redlog_reader.specs.Statement.{Spells}
+use Rattle.session_commands.specs.declared.line.StatementError.{StatementError}
+use Rattle.session_commands.specs.declared.line.StatementError.TheVariants as error
+use Rattle.session_commands.specs.State.{State, first_state}
+use Rattle.session_commands.specs.Reply.{RefusesAction}
+use Rattle.redlog_run.specs.Run.{AnswersPiece, RunOf, piece_bytes}
+
+-- the pieces up to this place leave this state, and are answered with these lines, of which one is a refusal or none; none of them ends the script
+pub data RunTo (limit : ℕ) (script : List ℕ) : ℕ → State → List ℕ → Bool → Type 0 where
+  begin : RunTo limit script 0 first_state [] false
+  on : {to start end : ℕ} {s next : State} {lines more all : List ℕ} {refusal refused some : Bool} → RunTo limit script to s lines refusal → IsPiece script to start end
+      → AnswersPiece s limit (piece_bytes script start end) start false more refused next → all ≡ lines ++ more → some ≡ (refusal || refused) → RunTo limit script end next all some
+
+-- the piece spells a statement that may not be refused
+pub record IsUnrefusedPiece (s : State) (limit : ℕ) (piece : List ℕ) : Type 0 where
+  pub statement : StatementTree
+  pub spelled : Spells piece statement
+  pub unrefused : (e : StatementError) → e ≢ error.Memory → ¬ (RefusesAction s limit statement.printed statement.action e)
+
+-- each piece is such a one, in each state that the pieces before it may leave
+abbrev pub IsUnrefused : ℕ → List ℕ → Type 0
+IsUnrefused limit script =
+    (to start end : ℕ) (s : State) (lines : List ℕ) → RunTo limit script to s lines false → IsPiece script to start end → IsUnrefusedPiece s limit (piece_bytes script start end)
+
+-- no run of the script has a refusal
+abbrev pub HasNoRefusal : ℕ → List ℕ → Type 0
+HasNoRefusal limit script = ¬ ((lines : List ℕ) × RunOf limit script lines true)
+
+-- ---- what is proved
+
+abbrev pub UnrefusedScriptsHaveNoRefusal : Type 0
+UnrefusedScriptsHaveNoRefusal = (limit : ℕ) (script : List ℕ) → IsUnrefused limit script → HasNoRefusal limit script
