@@ -107,7 +107,7 @@ module _ (s : State) (limit : ℕ) (t : Tree) (bare : IsBare s) (own : IsOwnForm
 
   -- and there is this one
   answers : (bytes : Vec ℕ Global) → bytes.items ≡ tree_text s.names t → AnswersCommand s limit true (Echo w) s.names (line.Printed bytes)
-  answers bytes e = (λ c l. no_cause c, (tree_text s.names t, (t, sym same_tree, refl), (refl, e)))
+  answers bytes e = (λ c l. no_cause c, (tree_text s.names t, (t, sym same_tree, refl), (refl, e, let l = short in omega arith)))
 
   answered : (bytes : Vec ℕ Global) → bytes.items ≡ tree_text s.names t → Reply s limit (line_text s.names t) (Ok (line.Printed bytes)) s
   answered bytes e = record {

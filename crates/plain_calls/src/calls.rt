@@ -1,10 +1,13 @@
 //! The calls, with what they give as text.
 
+ghost use Rattle.std.specs.Prelude.{IfSome};
+ghost use Rattle.formula_store.specs.Nodes.{IsId};
+
 use crate::reading::{LIMIT, form_of, formula_of};
 use crate::writing::{cases_text, sample_text, tree_text};
 use atom_normal::{Atom, Context, Rel};
 use formula_resolving::{PlainMaker, linearise};
-use formula_store::{Store, Unfold};
+use formula_store::{FormulaId, Store, Unfold};
 use formula_tree::{Bindings, Names, Tree};
 use linear_forms::{Linear, Values, VarId};
 use plain_cases::cases_plain;
@@ -26,22 +29,40 @@ pub(crate) fn plain_tree(alloc: Global, context: Context, statement: &str) -> Op
     tree_text(alloc, maker.plain(id)).ok()
 }
 
-/// The tree of the statement's formula over the ordered fields, unfolded under a limit of nodes.
-pub(crate) fn unfolding(alloc: Global, statement: &str, limit: u64) -> Option<String> {
+/// The id of the statement's formula over the ordered fields, in the store.
+fn id_of(
+    alloc: Global,
+    statement: &str,
+    names: &mut Names,
+    store: &mut Store,
+) -> Option<FormulaId>
+    ensures { IfSome result (IsId store.new) }
+{
     let statement = read_statement(alloc, statement.as_bytes()).ok()?;
     let formula = formula_of(&statement)?;
+    let bound = Bindings::new(alloc);
+    linearise(alloc, formula, &bound, Context::Fields, names, store).ok()
+}
+
+/// Whether two statements' formulas have one id in a store.
+pub(crate) fn ids(alloc: Global, first: &str, second: &str) -> Option<String> {
     let mut names = Names::new(alloc);
     let mut store = Store::new(alloc);
-    let bound = Bindings::new(alloc);
-    let id = linearise(
-        alloc,
-        formula,
-        &bound,
-        Context::Fields,
-        &mut names,
-        &mut store,
-    )
-    .ok()?;
+    let first = id_of(alloc, first, &mut names, &mut store)?;
+    let second = id_of(alloc, second, &mut names, &mut store)?;
+    let text = if first == second {
+        "one id"
+    } else {
+        "two ids"
+    };
+    text.to_string(alloc).ok()
+}
+
+/// The tree of the statement's formula over the ordered fields, unfolded under a limit of nodes.
+pub(crate) fn unfolding(alloc: Global, statement: &str, limit: u64) -> Option<String> {
+    let mut names = Names::new(alloc);
+    let mut store = Store::new(alloc);
+    let id = id_of(alloc, statement, &mut names, &mut store)?;
     match store.unfold(id, limit) {
         Ok(tree) => tree_text(alloc, &tree).ok(),
         Err(Unfold::Large) => "large".to_string(alloc).ok(),

@@ -10,7 +10,7 @@ mod points;
 mod reading;
 mod writing;
 
-use crate::calls::{cases, plain_tree, printed_atom, sample, unfolding};
+use crate::calls::{cases, ids, plain_tree, printed_atom, sample, unfolding};
 use atom_normal::Context;
 use std::io;
 
@@ -23,8 +23,10 @@ fn main(rt: HostRuntime) -> io::Result<()> {
 fn formulas(rt: &HostRuntime) -> io::Result<()> {
     let alloc = rt.alloc();
     let pair = plain_tree(alloc, Context::Fields, "x>0 and 6<=4*x;");
-    let whole = unfolding(alloc, "p>0 or (p>0 and q>0);", 5);
-    let large = unfolding(alloc, "p>0 or (p>0 and q>0);", 4);
+    let whole = unfolding(alloc, "p>0 equiv (p>0 impl q>0);", 5);
+    let large = unfolding(alloc, "p>0 equiv (p>0 impl q>0);", 4);
+    let same = ids(alloc, "x>0 or y>0;", "2*x>0 or -y<0;");
+    let other = ids(alloc, "x>0 or y>0;", "y>0 or x>0;");
     let printed = printed_atom(alloc);
     let between = cases(alloc, Context::Fields, "ex(x,x>a and x<b);");
     let half = cases(alloc, Context::Integers, "ex(x,2*x=a);");
@@ -34,6 +36,8 @@ fn formulas(rt: &HostRuntime) -> io::Result<()> {
     tell(rt, "a plain tree", pair)?;
     tell(rt, "a tree of 5 nodes, unfolded under the limit 5", whole)?;
     tell(rt, "the same under the limit 4", large)?;
+    tell(rt, "a formula, written in two ways", same)?;
+    tell(rt, "a formula, and one with its members exchanged", other)?;
     tell(rt, "an atom, printed", printed)?;
     tell(rt, "cases of a number between two", between)?;
     tell(rt, "cases of a half", half)?;

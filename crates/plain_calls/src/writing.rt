@@ -14,6 +14,7 @@ pub(crate) fn tree_text(alloc: Global, tree: &Tree) -> Result<String, AllocError
     match tree {
         Tree::And(members) => joined_text(alloc, "and", members.items()),
         Tree::Or(members) => joined_text(alloc, "or", members.items()),
+        Tree::Equiv(left, right) => pair_text(alloc, "equiv", left, right),
         _ => leaf_text(alloc, tree),
     }
 }
@@ -28,6 +29,13 @@ fn joined_text(alloc: Global, word: &str, members: &[Tree]) -> Result<String, Al
     Ok(text)
 }
 
+/// The texts of two members, after the word that joins them.
+fn pair_text(alloc: Global, word: &str, left: &Tree, right: &Tree) -> Result<String, AllocError> {
+    let left = leaf_text(alloc, left)?;
+    let right = leaf_text(alloc, right)?;
+    format!(in alloc; "{word} [{left}] [{right}]")
+}
+
 /// The text of a constant or an atom.
 fn leaf_text(alloc: Global, tree: &Tree) -> Result<String, AllocError> {
     match tree {
@@ -38,6 +46,7 @@ fn leaf_text(alloc: Global, tree: &Tree) -> Result<String, AllocError> {
             let count = members.items().len();
             format!(in alloc; "and of {count}")
         }
+        Tree::Impl(..) => "impl".to_string(alloc),
         _ => "another formula".to_string(alloc),
     }
 }
