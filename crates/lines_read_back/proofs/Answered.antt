@@ -1,5 +1,5 @@
 -- The text of a formula of the session is answered with the same text.
-use Rattle.std.proofs.Common.{◌≡◌, ◌≢◌, ◌⊎◌, ⊎_elim, ℕ, ◌≤◌, List, [], ◌++◌, true, length, codes, refl, sym, ap, ap₂, ◌∙◌, subst, append-nil, length-append, arith}
+use Rattle.std.proofs.Common.{◌≡◌, ◌≢◌, ⊎_elim, ℕ, ◌≤◌, List, [], ◌++◌, true, length, codes, refl, sym, ap, ap₂, ◌∙◌, subst, append-nil, length-append, arith}
 use Rattle.std.specs.Prelude.{Result, Ok, Err, None}
 use Rattle.std.specs.List.{fold}
 use Rattle.std.specs.declared.alloc.Global.{Global}

@@ -24,7 +24,7 @@ use Rattle.formula_meaning.proofs.NormalShape.{normal_form_every}
 use Rattle.formula_meaning.proofs.ReplacedShape.{every_replaced}
 use Rattle.linear_forms.specs.Reduction.{quotients, quotient, residue_form, AllReduced}
 use Rattle.linear_forms.specs.Terms.{AllInLimit}
-use Rattle.atom_normal.specs.NormalForm.{constant_tree, facing, turned, compared_in_fields, compared_over_integers, bound, rounded, congruence, smaller, coprime_congruence, reduced_congruence, congruent, normal_atom, negated_normal, ConstantPasses, IsNormal}
+use Rattle.atom_normal.specs.NormalForm.{constant_tree, facing, turned, compared_in_fields, compared_over_integers, bound, rounded, congruence, smaller, coprime_congruence, reduced_congruence, normal_atom, negated_normal, ConstantPasses, IsNormal}
 use Rattle.atom_normal.proofs.NormalLaws.{normal_normal}
 use Rattle.atom_normal.proofs.Sorted.{normal_in_fields, normal_over_integers}
 use Rattle.qe_syntax.specs.declared.tree.Literal.{Literal}

@@ -19,7 +19,7 @@ use Rattle.simplified_formulas.specs.AtomKit.{atom_kit}
 use Rattle.simplified_formulas.specs.Trees.{simplified_under}
 use Rattle.simplified_formulas.proofs.Bound.{simplified_bound, free_bound, orderly_free}
 use Rattle.formula_meaning.specs.Within.{IsAtomWithin}
-use Rattle.formula_meaning.specs.Members.{HasTwoMembers, HaveTwoMembers, AreTwo}
+use Rattle.formula_meaning.specs.Members.{HasTwoMembers, HaveTwoMembers}
 use Rattle.clean_forms.specs.Clean.{IsCleanForm}
 use Rattle.clean_forms.specs.Laws.{IsNoLonger}
 use Rattle.clean_forms.specs.Plain.{plain_form}
