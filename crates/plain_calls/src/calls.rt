@@ -30,12 +30,7 @@ pub(crate) fn plain_tree(alloc: Global, context: Context, statement: &str) -> Op
 }
 
 /// The id of the statement's formula over the ordered fields, in the store.
-fn id_of(
-    alloc: Global,
-    statement: &str,
-    names: &mut Names,
-    store: &mut Store,
-) -> Option<FormulaId>
+fn id_of(alloc: Global, statement: &str, names: &mut Names, store: &mut Store) -> Option<FormulaId>
     ensures { IfSome result (IsId store.new) }
 {
     let statement = read_statement(alloc, statement.as_bytes()).ok()?;
@@ -50,11 +45,7 @@ pub(crate) fn ids(alloc: Global, first: &str, second: &str) -> Option<String> {
     let mut store = Store::new(alloc);
     let first = id_of(alloc, first, &mut names, &mut store)?;
     let second = id_of(alloc, second, &mut names, &mut store)?;
-    let text = if first == second {
-        "one id"
-    } else {
-        "two ids"
-    };
+    let text = if first == second { "one id" } else { "two ids" };
     text.to_string(alloc).ok()
 }
 

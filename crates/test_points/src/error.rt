@@ -12,7 +12,7 @@ pub enum PointError {
     #[error("a number passes the limit")]
     Overflow,
     /// There are more test points than the limit that was given.
-    #[error("too many test points")]
+    #[error("too many points")]
     Nodes,
     /// There is no memory left.
     #[error("out of memory")]
