@@ -1,9 +1,14 @@
--- Well-formed atoms are determined by what they mean.
-use Rattle.std.proofs.Common.{◌≡◌, ap, sym, ◌∙◌, refl, arith}
+-- Well-formed atoms: their numbers are within the limit, and they are determined by what they mean.
+use Rattle.std.proofs.Common.{◌≡◌, List, [], ◌∷◌, map, ap, sym, ◌∙◌, refl, arith}
+use Rattle.std.specs.List.{AllByRecursion}
 use Rattle.std.proofs.Math.IntN.{ℤ, pos}
 use Rattle.std.specs.Prelude.{◌<ℤ◌, unsigned_abs}
 use Rattle.std.proofs.lemmas.Int.{ints}
 use Rattle.formula_meaning.specs.Atom as meant
+use Rattle.formula_meaning.specs.Some.{EachOf}
+use Rattle.formula_meaning.specs.Numbers.{IsFormInLimit, IsAtomInLimit}
+use Rattle.linear_forms.specs.Terms.{IsLinear}
+use Rattle.formula_meaning.specs.Form.{Form}
 use Rattle.atom_normal.specs.declared.atoms.Rel.{Rel}
 use Rattle.atom_normal.specs.declared.atoms.Rel.TheVariants.{Equal, Differs, Less, AtMost, Greater, AtLeast}
 use Rattle.atom_normal.specs.declared.atoms.Atom.{Atom}
@@ -48,3 +53,14 @@ meaning_determines (Congruent a m f) (Congruent b n g) h k e =
     let z : unsigned_abs m ≡ unsigned_abs n = cc in
     let q = same_modulus m n h.0 k.0 z in
     λ i. Congruent (x i) (q i) (y i)
+
+form_within : (f : Form) → IsLinear f → IsFormInLimit f
+form_within f l = (l.constant_within, l.within)
+
+pub numbers_within : (a : Atom) → IsWellFormed a → IsAtomInLimit (atom_of a)
+numbers_within (Compare r f) l = form_within f l
+numbers_within (Congruent b m f) w = (w.1, form_within f w.2)
+
+pub all_within : (atoms : List Atom) → AllByRecursion IsWellFormed atoms → EachOf IsAtomInLimit (map atom_of atoms)
+all_within [] w = tt
+all_within (a ∷ atoms) w = (numbers_within a w.0, all_within atoms w.1)

@@ -4,6 +4,8 @@ use Rattle.exact_numbers.specs.Limit.{InLimit}
 use Rattle.formula_meaning.specs.Context as meaning
 use Rattle.formula_meaning.specs.Formula.{Yes, No, One as Single}
 use Rattle.formula_meaning.specs.Atom as meant
+use Rattle.linear_forms.specs.Terms.{IsLinear}
+use Rattle.formula_meaning.specs.Numbers.{IsAtomInLimit}
 use Rattle.formula_meaning.specs.Tree.{Tree}
 use Rattle.atom_normal.specs.declared.atoms.Context.{Context}
 use Rattle.atom_normal.specs.declared.atoms.Context.TheVariants.{Fields, Integers}
@@ -33,10 +35,10 @@ abbrev pub atom_of : Atom → meant.Atom
 atom_of (Compare r f) = meant.Compare (relation_of r) f
 atom_of (Congruent holds modulus form) = meant.Congruent holds (unsigned_abs modulus) form
 
--- the modulus is positive and within the limit
+-- the form is one of the program, so each of its numbers is within the limit, and the modulus is positive and within it
 abbrev pub IsWellFormed : Atom → Type 0
-IsWellFormed (Compare r f) = Unit {0}
-IsWellFormed (Congruent holds modulus form) = (pos 0 <ℤ modulus) × InLimit modulus
+IsWellFormed (Compare r f) = IsLinear f
+IsWellFormed (Congruent holds modulus form) = (pos 0 <ℤ modulus) × InLimit modulus × IsLinear form
 
 -- always true, always false, or one atom
 abbrev pub tree_of : Normal → Tree
@@ -44,7 +46,7 @@ tree_of True = Yes
 tree_of False = No
 tree_of (One a) = Single (atom_of a)
 
--- its modulus is positive and within the limit
+-- the atom, if it is one, is well formed
 abbrev pub IsWellFormedNormal : Normal → Type 0
 IsWellFormedNormal True = Unit {0}
 IsWellFormedNormal False = Unit {0}
@@ -54,6 +56,10 @@ IsWellFormedNormal (One a) = IsWellFormed a
 abbrev pub IsAskedWhole : Atom → ℤ → Type 0
 IsAskedWhole (Compare r f) denominator = Unit {0}
 IsAskedWhole (Congruent holds modulus form) denominator = denominator ≡ pos 1
+
+-- each number of a well-formed atom is within the limit
+abbrev pub NumbersAreWithin : Type 0
+NumbersAreWithin = (a : Atom) → IsWellFormed a → IsAtomInLimit (atom_of a)
 
 -- well-formed atoms of one meaning are one atom
 abbrev pub MeaningDeterminesAtom : Type 0

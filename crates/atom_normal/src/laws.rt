@@ -1,6 +1,6 @@
 // The laws of normal forms and of their negation. Each function does nothing; its contract is a law.
 ghost use Rattle.atom_normal.specs.Laws.{NormalFormKeepsTruth, NormalFormBringsNoName, NormalFormIsNormal, NormalAtomStays, NegationIsOpposite, NegationKeepsNames, NegationOfNormalIsNormal, AtomsAreDecided};
-ghost use Rattle.atom_normal.specs.Atoms.{MeaningDeterminesAtom};
+ghost use Rattle.atom_normal.specs.Atoms.{NumbersAreWithin, MeaningDeterminesAtom};
 
 /// The normal form of an atom has its truth at every point of the theory, brings no name, and is a constant or an atom in normal form.
 pub fn normal_form_keeps_truth()
@@ -26,7 +26,13 @@ pub fn atoms_are_decided()
     ensures { AtomsAreDecided }
 {}
 
-/// Atoms with positive moduli that mean the same are one atom.
+/// Each number of a well-formed atom is within 2^127 - 1.
+#[tactic(auto, using(crate::proofs::Meaning::numbers_within))]
+pub fn atom_numbers_are_within()
+    ensures { NumbersAreWithin }
+{}
+
+/// Well-formed atoms that mean the same are one atom.
 pub fn meaning_determines_atom()
     ensures { MeaningDeterminesAtom }
 {}

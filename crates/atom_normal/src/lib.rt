@@ -12,8 +12,8 @@ mod parts;
 pub use atoms::{Atom, Context, Normal, Rel};
 pub use error::AtomError;
 pub use laws::{
-    atoms_are_decided, meaning_determines_atom, negation_is_opposite, normal_atom_stays,
-    normal_form_keeps_truth,
+    atom_numbers_are_within, atoms_are_decided, meaning_determines_atom, negation_is_opposite,
+    normal_atom_stays, normal_form_keeps_truth,
 };
 pub use normal_form::{negate, normal, truth};
 pub use parts::{holds, opposite};

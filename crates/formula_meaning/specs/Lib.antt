@@ -18,6 +18,7 @@ pub mod NegationNormal
 pub mod Fold
 pub mod Tree
 pub mod Within
+pub mod Numbers
 pub mod Laws
 pub mod Answer
 pub mod Limits

@@ -5,13 +5,9 @@ use Rattle.exact_numbers.specs.Frac.{◌>>=◌}
 use Rattle.formula_meaning.specs.Point.{Point}
 use Rattle.formula_meaning.specs.Sorted.{IsSorted}
 pub use Rattle.formula_meaning.specs.Form.{coefficients}
+pub use Rattle.formula_meaning.specs.Numbers.{AllInLimit}
 pub use Rattle.formula_meaning.specs.Combining.{AddWithin as PlaceWithin, AddPasses as PlacePasses, CombinesWithin, CombinePasses}
 use Rattle.formula_meaning.specs.Form.{Form, Term, total, value, coefficient}
-
--- each coefficient is within the limit
-abbrev pub AllInLimit : List Term → Type 0
-AllInLimit [] = Unit {0}
-AllInLimit (t ∷ ts) = InLimit t.times × AllInLimit ts
 
 -- a form as the program holds it: sorted, and each number within the limit
 pub record IsLinear (f : Form) : Type 0 where

@@ -85,7 +85,8 @@ impl Linear {
 
     /// An equal form.
     pub fn copy(&self, alloc: Global) -> Result<Linear, AllocError>
-        ensures { IfOk result (λ r. r ≡ self.now) }
+        ensures same { IfOk result (λ r. r ≡ self.now) }
+        ensures linear { IsLinear self.now }
     {
         let mut terms = Vec::new(alloc);
         terms.extend_from_slice(&self.terms)?;

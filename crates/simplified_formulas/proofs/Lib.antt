@@ -10,4 +10,5 @@ pub mod Bound
 pub mod AtomLaws
 pub mod Wider
 pub mod TreeLaws
+pub mod Limited
 mod Examples

@@ -18,7 +18,7 @@ pub in_normal_form-requires-clause-well_formed : goal.in_normal_form-requires-cl
 in_normal_form-requires-clause-well_formed c =
     let o = c.args.point.now.over in let n = c.args.modulus in
     let m = multiplied _ _ _ o n (read_back c.in-Some.multiplied c.in-Some.ensures.value.1 ∙ c.in-Some.ensures.value.0) (read_back o c.requires.test_point.over_within) (read_back n c.requires.within) c.requires.test_point.positive c.requires.positive (subst (λ (z : ℤ). InLimit z) (sym (read_back c.in-Some.multiplied c.in-Some.ensures.value.1)) c.in-Some.ensures.value.1) in
-    (m.positive, m.within)
+    (m.positive, m.within, c.in-Ok.ensures.combined.linear)
 
 pub in_normal_form-requires-clause-in_context : goal.in_normal_form-requires-clause-in_context
 in_normal_form-requires-clause-in_context c =
