@@ -27,7 +27,8 @@ use Rattle.linear_forms.proofs.Quotients.{value_quotient, sorted_quotient}
 use Rattle.qe_syntax.specs.declared.tree.Literal.{Literal}
 use Rattle.qe_syntax.specs.declared.tree.Literal.TheVariants.{Fits, Past}
 use Rattle.qe_syntax.specs.Value.{literal_number, true_quotient}
-use Rattle.formula_tree.specs.RationalForms.{RationalForm, Missing, Overflow, Nonlinear, Division, numbers_of, is_within, formed_number, formed_form, lowest_form, is_empty, is_constant, constant_form, constant_of, sum_of_forms, multiple_of_form, product_of_forms, quotient_of_forms, small_power, as_constant, power_of_form, opposite_form}
+use Rattle.formula_meaning.specs.Limits.{is_within}
+use Rattle.formula_tree.specs.RationalForms.{RationalForm, Missing, Overflow, Nonlinear, Division, numbers_of, formed_number, formed_form, lowest_form, is_empty, is_constant, constant_form, constant_of, sum_of_forms, multiple_of_form, product_of_forms, quotient_of_forms, small_power, as_constant, power_of_form, opposite_form}
 use Rattle.formula_tree.specs.ResolvedLaws.{value_at}
 use Rattle.formula_tree.proofs.RuleLaw.{bind_ok, ok_same}
 

@@ -1,5 +1,5 @@
 -- Linear forms over a positive denominator, and what the steps of the fraction rule make of them.
-use Rattle.std.specs.Prelude.{◌≡◌, ◌^◌, ℕ, zero, suc, ℤ, pos, negsuc, ◌*ℤ◌, List, [], ◌∷◌, Bool, true, false, unsigned_abs, int_div, nat_lt, Option, Some, None, Result, Ok, Err, if◌then◌else◌}
+use Rattle.std.specs.Prelude.{◌≡◌, ℕ, zero, suc, ℤ, pos, negsuc, ◌*ℤ◌, List, [], ◌∷◌, Bool, true, false, unsigned_abs, int_div, Option, Some, None, Result, Ok, Err, if◌then◌else◌}
 use Rattle.std.specs.List.{list_all}
 use Rattle.std.specs.Ordering.{int_eq}
 use Rattle.exact_numbers.specs.Divides.{lcm_of, content_of}
@@ -7,6 +7,7 @@ use Rattle.exact_numbers.specs.Frac.{Frac, whole_frac, inverted, power_steps}
 use Rattle.formula_meaning.specs.Context.{Context, Fields, Integers}
 use Rattle.formula_meaning.specs.Form.{Form, Term, coefficients, scale, combine}
 use Rattle.formula_meaning.specs.Sorted.{gathered}
+use Rattle.formula_meaning.specs.Limits.{is_within}
 use Rattle.linear_forms.specs.Reduction.{quotient}
 use Rattle.qe_syntax.specs.declared.tree.Literal.{Literal}
 use Rattle.qe_syntax.specs.declared.tree.Literal.TheVariants.{Fits, Past}
@@ -28,10 +29,6 @@ pub data Missing : Type 0 where
 -- the constant and the coefficients
 abbrev pub numbers_of : Form → List ℤ
 numbers_of f = f.constant ∷ coefficients f.terms
-
--- the number is within the limit
-abbrev pub is_within : ℤ → Bool
-is_within z = nat_lt (unsigned_abs z) (2 ^ 127)
 
 -- a number that is formed
 unfoldable pub formed_number : ℤ → Result ℤ Missing

@@ -1,4 +1,6 @@
 ghost use Rattle.std.specs.Prelude.{◌≡◌, IfOk};
+ghost use Rattle.std.specs.Option.{ForSome};
+ghost use Rattle.linear_forms.specs.Terms.{IsLinear};
 ghost use Rattle.qe_syntax.specs.Proper.{IsProperTerm};
 ghost use Rattle.qe_syntax.specs.Trees.{term_tree, Compare};
 ghost use Rattle.qe_syntax.specs.Value.{relation_of as written_relation};
@@ -70,6 +72,7 @@ fn compared(
     relation: Relation,
     difference: Option<Rational>,
 ) -> Result<Option<Normal>, AllocError>
+    requires { ForSome difference (λ v. IsLinear v.form) }
     ensures { IfOk result (IsCompared (context_of context) relation difference) }
 {
     match difference {
@@ -89,6 +92,7 @@ fn congruent(
     difference: Option<Rational>,
     modulus: Option<Rational>,
 ) -> Result<Option<Normal>, AllocError>
+    requires { ForSome difference (λ v. IsLinear v.form) }
     ensures { IfOk result (IsCongruenceMade (context_of context) holds difference modulus) }
 {
     let (Context::Integers, Some(difference), Some(modulus)) = (context, difference, modulus) else {

@@ -3,6 +3,7 @@ ghost use Rattle.std.specs.Option.{ForSome};
 ghost use Rattle.std.specs.Result.{ForOk};
 ghost use Rattle.exact_numbers.specs.Frac.{whole_frac};
 ghost use Rattle.formula_meaning.specs.Context as meaning;
+ghost use Rattle.linear_forms.specs.Terms.{IsLinear};
 ghost use Rattle.atom_normal.specs.Atoms.{context_of};
 ghost use Rattle.qe_syntax.specs.Proper.{IsNumeral, IsProperTerm, AreProperTerms};
 ghost use Rattle.qe_syntax.specs.Trees.{term_tree, terms_of, Number, Named, Sum, Product};
@@ -84,7 +85,8 @@ impl ReadTerm {
 
     // The sum of two terms.
     fn plus(self, alloc: Global, other: ReadTerm) -> Result<ReadTerm, AllocError>
-        ensures { IfOk result (IsPlus self other) }
+        ensures sum { IfOk result (IsPlus self other) }
+        ensures linear { IfOk result (λ r. ForSome r.form (λ v. IsLinear v.form)) }
     {
         let form = match (&self.form, &other.form) {
             (Some(left), Some(right)) => left.plus(alloc, right)?,
@@ -321,7 +323,8 @@ pub(crate) fn read_difference(
 ) -> Result<ReadTerm, AllocError>
     requires left_proper { IsProperTerm (term_tree left.now) }
     requires right_proper { IsProperTerm (term_tree right.now) }
-    ensures { IfOk result (IsDifferenceRead (context_of context) (place names.now) (term_tree left.now) (term_tree right.now)) }
+    ensures read { IfOk result (IsDifferenceRead (context_of context) (place names.now) (term_tree left.now) (term_tree right.now)) }
+    ensures linear { IfOk result (λ r. ForSome r.form (λ v. IsLinear v.form)) }
 {
     let left = read_term(alloc, context, names, left)?;
     let right = read_term(alloc, context, names, right)?;

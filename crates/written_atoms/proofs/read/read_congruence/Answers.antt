@@ -10,5 +10,5 @@ pub returns : goal.returns
 returns c bound =
     let d = c.in_ok-difference.difference in let r = c.in_ok-modulus.modulus in
     congruence_read (context_of c.args.context) (place c.args.names.now) bound c.args.holds (term_tree c.args.left.now) (term_tree c.args.right.now) (term_tree c.args.modulus.now) d r c.in_ok-normal.normal
-    c.is_no_divisor.result c.is_none.result c.is_none-2.result c.in_ok-difference.ensures c.in_ok-modulus.ensures c.is_no_divisor.ensures (none_told _ _ c.is_none.ensures) (none_told _ _ c.is_none-2.ensures)
+    c.is_no_divisor.result c.is_none.result c.is_none-2.result c.in_ok-difference.ensures.read c.in_ok-modulus.ensures c.is_no_divisor.ensures (none_told _ _ c.is_none.ensures) (none_told _ _ c.is_none-2.ensures)
     (subst (λ f. IsCongruenceMade (context_of c.args.context) c.args.holds f r.form c.in_ok-normal.normal) c.into_form.ensures (subst (λ f. IsCongruenceMade (context_of c.args.context) c.args.holds c.into_form.result f c.in_ok-normal.normal) c.into_form-2.ensures c.in_ok-normal.ensures))
