@@ -48,7 +48,7 @@ module _ (eq : Shape FormulaId → Shape FormulaId → Bool) (same : (a b : Shap
   known_at_absent : (j : ℕ) (e : Shape FormulaId × Facts) → (slice_get old j ≡ Some e) ⊎ ((j ≡ length old) × (e ≡ (node, facts))) → IsFactsOf (tree (keys_of old ++ node ∷ []) (record { number = j })) e.1
   known_at_absent j e (inl p) =
       let within : j < length (keys_of old) = slice_get_within (keys_of old) j e.0 (key_at old j e.0 e.1 p) in
-      subst (λ f. IsFactsOf f e.1) (sym (push_keeps (keys_of old) node (record { number = j }) within)) (store.known j e p)
+      subst (λ f. IsFactsOf f e.1) (sym (push_keeps (keys_of old) node (record { number = j }) (record { below = within; are = store.nodes }))) (store.known j e p)
   known_at_absent j e (inr p) =
       let last : j ≡ length (keys_of old) = p.0 ∙ sym (length-map old (λ e. e.0)) in
       let t : tree (keys_of old ++ node ∷ []) (record { number = j }) ≡ tree_over (tree (keys_of old)) node =

@@ -156,12 +156,12 @@ module _ (nodes : List (Shape FormulaId)) (are : AreNodes nodes) where
   subtree_below zero a l h f m = absurd (omega arith)
   subtree_below (suc bound) a l h f m =
       let n = get_or nodes a.number shape.True in
-      let there : slice_get nodes a.number ≡ Some n = slice_get-get_or nodes a.number shape.True h in
+      let there : slice_get nodes a.number ≡ Some n = slice_get-get_or nodes a.number shape.True h.below in
       let t : tree nodes a ≡ tree_over (tree nodes) n = node_tree nodes a.number n are there in
       ⊎_elim (λ (p : tree_over (tree nodes) n ≡ f). record { id = a; stands = itself; same = t ∙ p })
       (λ p.
       let r = some_has (λ id. Among (subtrees (tree nodes id)) f) (λ (id : FormulaId). id.number < a.number) (ids_of n) p (all_listed (λ (id : FormulaId). id.number < a.number) n (are.below a.number n there)) in
-      let q = subtree_below bound r.0 (omega (arith, r.2)) (omega (arith, r.2)) f r.1 in
+      let q = subtree_below bound r.0 (omega (arith, r.2)) (record { below = omega (arith, r.2); are = are }) f r.1 in
       record { id = q.id; stands = inside n there r.3 q.stands; same = q.same })
       (over_subtrees (tree nodes) n f (subst (λ g. Among (subtrees g) f) t m))
 
@@ -187,7 +187,7 @@ module _ (nodes : List (Shape FormulaId)) (are : AreNodes nodes) where
   not_again : (i : FormulaId) (ids : List FormulaId) → IsId nodes i → ((x : FormulaId) → Among ids x → IsId nodes x) → RisesFrom i.number ids → ¬ (SomeOf (λ f. tree nodes i ≡ f) (map (tree nodes) ids))
   not_again i ids h all r s =
       let m = map_among ids (tree nodes i) (backwards (map (tree nodes) ids) s) in
-      let same : m.0 ≡ i = same_tree nodes are m.0 i (all m.0 m.1) h m.2 in
+      let same : m.0 ≡ i = same_tree nodes m.0 i (all m.0 m.1) h m.2 in
       let k : i.number < m.0.number = above i.number ids m.0 r m.1 in
       omega (arith, ap (λ (y : FormulaId). y.number) same)
     where
@@ -208,7 +208,7 @@ module _ (nodes : List (Shape FormulaId)) (are : AreNodes nodes) where
   within_id a b h itself = h
   within_id a b h (inside {m = m} n e s w) =
       let r = some_has (λ i. i ≡ m) (λ (id : FormulaId). id.number < a.number) (ids_of n) s (all_listed (λ (id : FormulaId). id.number < a.number) n (are.below a.number n e)) in
-      within_id m b (let k : m.number < a.number = subst (λ (y : FormulaId). y.number < a.number) r.1 r.2 in omega arith) w
+      within_id m b (record { below = let k : m.number < a.number = subst (λ (y : FormulaId). y.number < a.number) r.1 r.2 in omega arith; are = are }) w
 
   pub each_within : (root : FormulaId) (ids : List FormulaId) → AllByRecursion (WithinSome nodes (root ∷ [])) ids → (x : FormulaId) → Among ids x → Within nodes root x
   each_within root [] h x m = absurd m

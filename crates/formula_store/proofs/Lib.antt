@@ -1,6 +1,7 @@
 pub mod Trees
 pub mod Same
 pub mod Heights
+pub mod Numbers
 pub mod Keys
 pub mod Joined
 pub mod Inserted

@@ -57,14 +57,20 @@ module _ (old : List (Shape FormulaId)) (node : Shape FormulaId) (id : FormulaId
     stays = λ i n e. ⊎_elim (λ h. subst (λ ns. slice_get ns i ≡ Some n) (sym h.1) e) (λ h. subst (λ ns. slice_get ns i ≡ Some n) (sym h.1) (push_stays old node n i e)) m;
   }
 
-  pub makes_keeps : Makes old node id new → Keeps (IsId old) (tree old) (IsId new) (tree new)
-  makes_keeps m = record {
-    is = λ i h. ⊎_elim (λ k. subst (λ ns. IsId ns i) (sym k.1) h) (λ k. subst (λ ns. IsId ns i) (sym k.1) (simp length-append (omega arith))) m;
+  pub makes_keeps : AreNodes new → Makes old node id new → Keeps (IsId old) (tree old) (IsId new) (tree new)
+  makes_keeps b m = record {
+    is = λ i h. record {
+      below = ⊎_elim (λ k. subst (λ ns. i.number < length ns) (sym k.1) h.below) (λ k. subst (λ ns. i.number < length ns) (sym k.1) (simp length-append (omega arith))) m;
+      are = b;
+    };
     same = λ i h. ⊎_elim (λ k. ap (λ ns. tree ns i) k.1) (λ k. ap (λ ns. tree ns i) k.1 ∙ push_keeps old node i h) m;
   }
 
-  pub makes_made : AreNodes old → Makes old node id new → IsMade (IsId new) (tree new) id (tree_over (tree old) node)
-  makes_made a m = record {
-    is = ⊎_elim (λ k. subst (λ ns. IsId ns id) (sym k.1) (slice_get_within old id.number node k.0)) (λ k. subst (λ ns. IsId ns id) (sym k.1) (simp length-append (omega arith))) m;
+  pub makes_made : AreNodes old → AreNodes new → Makes old node id new → IsMade (IsId new) (tree new) id (tree_over (tree old) node)
+  makes_made a b m = record {
+    is = record {
+      below = ⊎_elim (λ k. subst (λ ns. id.number < length ns) (sym k.1) (slice_get_within old id.number node k.0)) (λ k. subst (λ ns. id.number < length ns) (sym k.1) (simp length-append (omega arith))) m;
+      are = b;
+    };
     same = ⊎_elim (λ k. ap (λ ns. tree ns id) k.1 ∙ node_tree old id.number node a k.0) (λ k. (λ i. tree (k.1 i) (record { number = k.0 i })) ∙ push_makes old node) m;
   }

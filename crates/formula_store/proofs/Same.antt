@@ -8,7 +8,7 @@ use Rattle.formula_tree.proofs.Shapes.{all_ids_map}
 use Rattle.formula_tree.proofs.Tells.{over_tells}
 use Rattle.formula_tree.proofs.AtomsTell.{atoms_tell}
 use Rattle.formula_store.specs.declared.id.FormulaId.{FormulaId}
-use Rattle.formula_store.specs.Nodes.{tree, AreNodes}
+use Rattle.formula_store.specs.Nodes.{tree, IsId, AreNodes}
 use Rattle.formula_store.proofs.Trees.{node_tree}
 
 -- the node of a place
@@ -35,6 +35,6 @@ tells_below nodes a (suc bound) i j hi hj li lj e =
     (over_tells (tree nodes) (λ y. y.number < j) atoms_tell n m (a.proper i n in_i) (a.proper j m in_j) first (a.below j m in_j) trees_meet)
 
 -- two ids with one tree are one
-pub same_tree : (nodes : List (Shape FormulaId)) → AreNodes nodes → (x y : FormulaId) → x.number < length nodes → y.number < length nodes → tree nodes x ≡ tree nodes y → x ≡ y
-same_tree nodes a x y hx hy e =
-    let s : x.number ≡ y.number = tells_below nodes a (length nodes) x.number y.number hx hy hx hy e in λ t. record { number = s t }
+pub same_tree : (nodes : List (Shape FormulaId)) → (x y : FormulaId) → IsId nodes x → IsId nodes y → tree nodes x ≡ tree nodes y → x ≡ y
+same_tree nodes x y hx hy e =
+    let s : x.number ≡ y.number = tells_below nodes hx.are (length nodes) x.number y.number hx.below hy.below hx.below hy.below e in λ t. record { number = s t }

@@ -23,15 +23,16 @@ trees nodes = trees_from [] nodes
 abbrev pub tree : List (Shape FormulaId) → FormulaId → Tree
 tree nodes id = at (trees nodes) id
 
--- the id names a node
-abbrev pub IsId : List (Shape FormulaId) → FormulaId → Type 0
-IsId nodes id = id.number < length nodes
-
 -- nodes that stand for formulas, each once
 pub record AreNodes (nodes : List (Shape FormulaId)) : Type 0 where
   pub below : (i : ℕ) (n : Shape FormulaId) → slice_get nodes i ≡ Some n → AllIds (λ id. id.number < i) n
   pub proper : (i : ℕ) (n : Shape FormulaId) → slice_get nodes i ≡ Some n → IsProperShape n
   pub once : (i j : ℕ) (n : Shape FormulaId) → slice_get nodes i ≡ Some n → slice_get nodes j ≡ Some n → i ≡ j
+
+-- the id names one of such nodes
+pub record IsId (nodes : List (Shape FormulaId)) (id : FormulaId) : Type 0 where
+  pub below : id.number < length nodes
+  pub are : AreNodes nodes
 
 -- each node stays in its place
 pub record Front (old new : List (Shape FormulaId)) : Type 0 where

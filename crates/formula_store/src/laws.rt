@@ -3,10 +3,18 @@
 ghost use Rattle.std.specs.Prelude.{◌≡◌, List};
 ghost use Rattle.formula_tree.specs.declared.shape.Shape.{Shape};
 ghost use Rattle.formula_store.specs.declared.id.FormulaId.{FormulaId};
-ghost use Rattle.formula_store.specs.Nodes.{AreNodes, IsId, tree};
+ghost use Rattle.formula_meaning.specs.Every.{Every};
+ghost use Rattle.formula_meaning.specs.Numbers.{IsAtomInLimit};
+ghost use Rattle.formula_store.specs.Nodes.{IsId, tree};
 
 /// Two ids of one store are equal where their formulas are.
 #[tactic(auto, using(crate::proofs::Same::same_tree))]
 pub fn one_formula_has_one_id()
-    ensures { (nodes : List (Shape FormulaId)) → AreNodes nodes → (x y : FormulaId) → IsId nodes x → IsId nodes y → tree nodes x ≡ tree nodes y → x ≡ y }
+    ensures { (nodes : List (Shape FormulaId)) → (x y : FormulaId) → IsId nodes x → IsId nodes y → tree nodes x ≡ tree nodes y → x ≡ y }
+{}
+
+/// Each number of the atoms of a stored formula, its moduli too, is within 2^127 - 1.
+#[tactic(auto, using(crate::proofs::Numbers::numbers_are_within))]
+pub fn stored_numbers_are_within()
+    ensures { (nodes : List (Shape FormulaId)) → (id : FormulaId) → IsId nodes id → Every IsAtomInLimit (tree nodes id) }
 {}

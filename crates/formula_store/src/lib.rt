@@ -15,6 +15,6 @@ mod unfold;
 pub use error::{EvalStop, StoreError, Unfold};
 pub use facts::Facts;
 pub use id::FormulaId;
-pub use laws::one_formula_has_one_id;
+pub use laws::{one_formula_has_one_id, stored_numbers_are_within};
 pub use steps::Steps;
 pub use store::Store;

@@ -67,6 +67,7 @@ impl Store {
         ensures node { slice_get self.now id.number ≡ Some result.now }
         ensures tree { tree self.now id ≡ tree_over (tree self.now) result.now }
         ensures ids { AllIds (λ member. member.number < id.number) result.now }
+        ensures members { AllIds (IsId self.now) result.now }
         ensures proper { IsProperShape result.now }
         ensures nodes { AreNodes self.now }
     {

@@ -47,7 +47,7 @@ module _ (a b : List (Shape FormulaId)) (k : Keeps (IsId a) (tree a) (IsId b) (t
   pub members_stay : Front a b → (table : Table) (id : FormulaId) → IsId a id → ((n : Shape FormulaId) → slice_get a id.number ≡ Some n → AllIds (Known a table) n)
       → (n : Shape FormulaId) → slice_get b id.number ≡ Some n → AllIds (Known b table) n
   members_stay f table id i h n e =
-      all_ids_map (Known a table) (Known b table) (still_known table) n (h n (front_back a b f id.number n i e))
+      all_ids_map (Known a table) (Known b table) (still_known table) n (h n (front_back a b f id.number n i.below e))
 
   -- the table gets the forms of one formula more
   module _ (table table2 : Table) (id : FormulaId) (forms : Forms) (put : (q : FormulaId) → get same_id table2 q ≡ cond (same_id id q) (Some forms) (get same_id table q)) (is : IsId a id)

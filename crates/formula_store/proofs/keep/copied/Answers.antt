@@ -27,9 +27,8 @@ copied_node-requires-clause-members c n here =
     (members_before c.args.store.now c.len.ensures.nodes c.args.roots.now c.deref-id-items.result.now (order c) c.loop-id.id-index (record { number = 0 }) c.loop-id-test.true n here P c.loop-id.invariant.0)
 
 within : (c : goal.After-table-in-loop-id-2-1) → (get_or c.deref-id-items.result.now c.loop-id.id-index (record { number = 0 })).number < length c.args.store.now
-within c =
-    each_id c.args.store.now c.len.ensures.nodes c.args.roots.now c.deref-id-items.result.now
-    (subst (λ (ids : List FormulaId). IsOrder c.args.store.now c.args.roots.now ids) (sym c.deref-id-items.ensures.value) c.in_ok-ids.ensures) c.requires c.loop-id.id-index (record { number = 0 }) c.loop-id-test.true
+within c = (each_id c.args.store.now c.len.ensures.nodes c.args.roots.now c.deref-id-items.result.now
+    (subst (λ (ids : List FormulaId). IsOrder c.args.store.now c.args.roots.now ids) (sym c.deref-id-items.ensures.value) c.in_ok-ids.ensures) c.requires c.loop-id.id-index (record { number = 0 }) c.loop-id-test.true).below
 
 pub index_mut-requires : goal.index_mut-requires
 index_mut-requires c =
@@ -45,7 +44,7 @@ loop-id-preserved c =
     let ids : List FormulaId = c.deref-id-items.result.now in
     let o : IsOrder c.args.store.now c.args.roots.now ids = subst (λ (l : List FormulaId). IsOrder c.args.store.now c.args.roots.now l) (sym c.deref-id-items.ensures.value) c.in_ok-ids.ensures in
     let in_store : (get_or ids c.loop-id.id-index (record { number = 0 })).number < length c.args.store.now =
-    each_id c.args.store.now c.len.ensures.nodes c.args.roots.now ids o c.requires c.loop-id.id-index (record { number = 0 }) c.loop-id-test.true in (
+    (each_id c.args.store.now c.len.ensures.nodes c.args.roots.now ids o c.requires c.loop-id.id-index (record { number = 0 }) c.loop-id-test.true).below in (
       filled (λ id copy. Copied c.args.store.now c.loop-id.into id copy) (λ id copy. Copied c.args.store.now c.copied_node.new.into id copy) c.loop-id.table.items first_id ids c.loop-id.id-index (record { number = 0 })
           c.in_ok-copy.copy o.rises c.loop-id-test.true (omega (arith, c.loop-id.invariant.1)) (λ x w h. still_copied c.args.store.now c.loop-id.into c.copied_node.new.into c.in_ok-copy.ensures.kept x w h)
           c.in_ok-copy.ensures.copied c.loop-id.invariant.0,

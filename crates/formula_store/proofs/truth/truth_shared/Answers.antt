@@ -49,7 +49,7 @@ index_mut-requires g c =
     let o = subst (λ (ids : List FormulaId). IsOrder c.args.store.now (c.args.root ∷ []) ids) (sym c.deref-id-items.ensures.value) c.in_ok-ids.ensures in
     let size : vec_len c.loop-id.table ≡ length c.loop-id.table.items = search rules in
     let within : (get_or c.deref-id-items.result.now c.loop-id.id-index (record { number = 0 })).number < length c.args.store.now =
-    each_id c.args.store.now c.len.ensures.nodes (c.args.root ∷ []) c.deref-id-items.result.now o (c.requires.id, tt) c.loop-id.id-index (record { number = 0 }) c.loop-id-test.true in
+    (each_id c.args.store.now c.len.ensures.nodes (c.args.root ∷ []) c.deref-id-items.result.now o (c.requires.id, tt) c.loop-id.id-index (record { number = 0 }) c.loop-id-test.true).below in
     omega (arith, c.loop-id.invariant.1)
 
 pub loop-id-preserved : goal.loop-id-preserved
@@ -57,7 +57,7 @@ loop-id-preserved g c =
     let ids : List FormulaId = c.deref-id-items.result.now in
     let o : IsOrder c.args.store.now (c.args.root ∷ []) ids = subst (λ (l : List FormulaId). IsOrder c.args.store.now (c.args.root ∷ []) l) (sym c.deref-id-items.ensures.value) c.in_ok-ids.ensures in
     let in_store : (get_or ids c.loop-id.id-index (record { number = 0 })).number < length c.args.store.now =
-    each_id c.args.store.now c.len.ensures.nodes (c.args.root ∷ []) ids o (c.requires.id, tt) c.loop-id.id-index (record { number = 0 }) c.loop-id-test.true in (
+    (each_id c.args.store.now c.len.ensures.nodes (c.args.root ∷ []) ids o (c.requires.id, tt) c.loop-id.id-index (record { number = 0 }) c.loop-id-test.true).below in (
       filled (λ id b. Tells b (tree c.args.store.now id) (point_of c.args.at.now)) (λ id b. Tells b (tree c.args.store.now id) (point_of c.args.at.now)) c.loop-id.table.items false ids c.loop-id.id-index (record { number = 0 })
           c.in-Some.truth o.rises c.loop-id-test.true (omega (arith, c.loop-id.invariant.1)) (λ x w h. h) c.in-Some.ensures c.loop-id.invariant.0,
       length-set c.loop-id.table.items (get_or ids c.loop-id.id-index (record { number = 0 })).number c.in-Some.truth ∙ c.loop-id.invariant.1,

@@ -27,7 +27,7 @@ node_forms-requires-clause-members c n here =
     let P : FormulaId → Type 0 = Known c.loop-id.store c.loop-id.table in
     listed_all P n
     (members_before c.args.store.now c.subformulas.ensures.nodes (c.args.id ∷ []) c.deref-id-items.result.now (order c) c.loop-id.id-index (record { number = 0 }) c.loop-id-test.true n
-    (front_back c.args.store.now c.loop-id.store c.loop-id.invariant.front _ n (old_id c) here) P c.loop-id.invariant.known)
+    (front_back c.args.store.now c.loop-id.store c.loop-id.invariant.front _ n (old_id c).below here) P c.loop-id.invariant.known)
 
 pub returns-in_err-forms-clause-kept : goal.returns-in_err-forms-clause-kept
 returns-in_err-forms-clause-kept c = keeps_then c.args.store.now c.loop-id.store c.node_forms.new.store c.loop-id.invariant.kept c.node_forms.ensures.kept

@@ -1,3 +1,4 @@
+use Rattle.std.proofs.Common.{◌∙◌}
 use Rattle.nnf_pnf.proofs.Kept.{keeps_then, members_stay}
 use Rattle.nnf_pnf.proofs.negation.node_forms.Goals as goal
 
@@ -9,3 +10,9 @@ returns-in_err-negated-clause-kept c = keeps_then c.args.store.now c.node_form.n
 
 pub returns-clause-kept : goal.returns-clause-kept
 returns-clause-kept c = keeps_then c.args.store.now c.node_form.new.store c.node_form-2.new.store c.node_form.ensures.kept c.node_form-2.ensures.kept
+
+pub returns-clause-plain : goal.returns-clause-plain
+returns-clause-plain c =
+    let made = c.in_ok-plain.ensures.made in
+    let kept = c.node_form-2.ensures.kept in
+    record { is = kept.is c.in_ok-plain.plain made.is; same = kept.same c.in_ok-plain.plain made.is ∙ made.same }

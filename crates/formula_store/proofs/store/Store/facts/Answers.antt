@@ -13,6 +13,6 @@ returns-clause-facts c =
 pub returns-clause-height : goal.returns-clause-height
 returns-clause-height c =
     let nodes : AreNodes c.args.self.now = subst AreNodes c.self.view_is c.self.invariant.nodes in
-    let within : height (tree c.args.self.now c.args.id) ≤ length c.args.self.now = height_within c.args.self.now nodes c.args.id c.requires in
+    let within : height (tree c.args.self.now c.args.id) ≤ length c.args.self.now = height_within c.args.self.now nodes c.args.id c.requires.below in
     let known = returns-clause-facts c in
     omega (arith, known.height_is)

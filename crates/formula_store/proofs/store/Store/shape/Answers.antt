@@ -1,5 +1,7 @@
-use Rattle.std.proofs.Common.{◌≡◌, Some, slice_get, sym, subst}
-use Rattle.formula_store.specs.Nodes.{AreNodes}
+use Rattle.std.proofs.Common.{◌≡◌, ◌<◌, Some, slice_get, length, sym, subst, arith}
+use Rattle.formula_tree.proofs.Shapes.{all_ids_map}
+use Rattle.formula_store.specs.declared.id.FormulaId.{FormulaId}
+use Rattle.formula_store.specs.Nodes.{IsId, AreNodes}
 use Rattle.formula_store.proofs.Keys.{key_at}
 use Rattle.formula_store.proofs.Trees.{node_tree}
 use Rattle.formula_store.proofs.store.Store.shape.Goals as goal
@@ -26,3 +28,9 @@ returns-clause-proper c =
 
 pub returns-clause-nodes : goal.returns-clause-nodes
 returns-clause-nodes c = subst AreNodes c.self.view_is c.self.invariant.nodes
+
+pub returns-clause-members : goal.returns-clause-members
+returns-clause-members c =
+    let nodes : AreNodes c.args.self.now = subst AreNodes c.self.view_is c.self.invariant.nodes in
+    let below : c.args.id.number < length c.args.self.now = c.requires.below in
+    all_ids_map (λ (member : FormulaId). member.number < c.args.id.number) (IsId c.args.self.now) (λ member h. record { below = omega arith; are = nodes }) c.unwrap.result.0.now (returns-clause-ids c)

@@ -37,10 +37,10 @@ returns-clause-node c =
 
 pub returns-clause-made : goal.returns-clause-made
 returns-clause-made c =
-    makes_made c.args.self.now c.args.shape (record { number = c.in-Ok.number }) (keys_of c.insert_full.new.self.entries) (subst AreNodes c.self.view_is c.self.invariant.nodes) (returns-clause-node c)
+    makes_made c.args.self.now c.args.shape (record { number = c.in-Ok.number }) (keys_of c.insert_full.new.self.entries) (subst AreNodes c.self.view_is c.self.invariant.nodes) (invariant_of-self-2 c).nodes (returns-clause-node c)
 
 pub returns-clause-kept : goal.returns-clause-kept
-returns-clause-kept c = makes_keeps c.args.self.now c.args.shape (record { number = c.in-Ok.number }) (keys_of c.insert_full.new.self.entries) (returns-clause-node c)
+returns-clause-kept c = makes_keeps c.args.self.now c.args.shape (record { number = c.in-Ok.number }) (keys_of c.insert_full.new.self.entries) (invariant_of-self-2 c).nodes (returns-clause-node c)
 
 pub returns-clause-front : goal.returns-clause-front
 returns-clause-front c = makes_front c.args.self.now c.args.shape (record { number = c.in-Ok.number }) (keys_of c.insert_full.new.self.entries) (returns-clause-node c)
