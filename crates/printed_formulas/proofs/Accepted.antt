@@ -29,7 +29,9 @@ use Rattle.formula_tree.proofs.ResolvedHeight.{resolving_keeps_height}
 use Rattle.redlog_printer.specs.Text.{name_at}
 use Rattle.formula_meaning.specs.Within.{IsAtomWithin}
 use Rattle.printed_formulas.specs.Written.{number_term, signed_term, factor_term, multiple_term, constant_term, later_constant_terms, member_terms, form_term, written_atom, written_formula}
-use Rattle.printed_formulas.specs.Round.{NumberFits, FormFits, AtomFits, WrittenIsResolved}
+use Rattle.exact_numbers.specs.Limit.{InLimit}
+use Rattle.formula_meaning.specs.Numbers.{IsFormInLimit, IsAtomInLimit}
+use Rattle.printed_formulas.specs.Round.{WrittenIsResolved}
 use Rattle.printed_formulas.proofs.Forms.{whole, form, number_product}
 use Rattle.printed_formulas.proofs.Places.{no_new_name}
 use Rattle.printed_formulas.proofs.Back.{form_fits, Known, difference_is, atom_back, tree_back}
@@ -130,7 +132,7 @@ module _ (c : Context) (number : List ℕ → ℕ) (names : List (List ℕ)) whe
           (⊎_elim (λ p. not_varying (product_of_forms (whole (form [] (pos 1))) (whole (form [] (pos n)))) (whole (form [] (pos n))) (number_product (pos n) small) refl p.0) (λ z. z)))
           (⊎_elim (λ z. z) (⊎_elim (λ z. z) (λ z. z))) h
 
-  multiple_linear : (u : Term) → NumberFits u.times → HasNonlinear c number (multiple_term names u) → ⊥
+  multiple_linear : (u : Term) → InLimit u.times → HasNonlinear c number (multiple_term names u) → ⊥
   multiple_linear u fits h = go u.times h
     where
       go : (z : ℤ) → HasNonlinear c number (signed_term z (factor_term (unsigned_abs u.times) (name_at names u.name))) → ⊥
@@ -155,7 +157,7 @@ module _ (c : Context) (number : List ℕ → ℕ) (names : List (List ℕ)) whe
       go (pos n) h = factor_whole (unsigned_abs u.times) (name_at names u.name) h
       go (negsuc n) h = factor_whole (unsigned_abs u.times) (name_at names u.name) h
 
-  form_linear : (f : Form) → FormFits f → HasNonlinear c number (form_term names f) → ⊥
+  form_linear : (f : Form) → IsFormInLimit f → HasNonlinear c number (form_term names f) → ⊥
   form_linear f h = none_in_form (HasNonlinear c number) (HaveNonlinear c number) (λ z. z) (λ t ts p. p) (λ ts p. p) names constant_linear f (each _ _ multiple_linear f.terms h.1)
 
   form_whole : (f : Form) → HasForbidden c number (form_term names f) → ⊥
@@ -252,7 +254,7 @@ module _ (names : List (List ℕ)) (f : Tree) where
 
 pub written_is_resolved : WrittenIsResolved
 written_is_resolved c names f v p r =
-    let known : Every (Known c names) f = every_both (IsNormal c) (λ a. IsAtomWithin (length names) a × AtomFits a) f r.atoms (every_both (IsAtomWithin (length names)) AtomFits f p.names.atoms p.numbers) in
+    let known : Every (Known c names) f = every_both (IsNormal c) (λ a. IsAtomWithin (length names) a × IsAtomInLimit a) f r.atoms (every_both (IsAtomWithin (length names)) IsAtomInLimit f p.names.atoms p.numbers) in
     let same : names_after names (written_formula names f) ≡ names = no_new_name names f p.names.atoms p.names.quantified in
     let tree : resolve c [] names (written_formula names f) ≡ f = tree_back c names v.distinct f known p.names.quantified in
     let w : FormulaTree = written_formula names f in

@@ -18,7 +18,7 @@ use Rattle.formula_tree.specs.Resolving.{place, compared, congruent, resolved_at
 use Rattle.redlog_printer.specs.Text.{name_at}
 use Rattle.formula_meaning.specs.Within.{IsAtomWithin}
 use Rattle.printed_formulas.specs.Written.{number_term, form_term, relation_sign, written_atom, written_formula}
-use Rattle.printed_formulas.specs.Round.{FormFits, AtomFits}
+use Rattle.formula_meaning.specs.Numbers.{IsFormInLimit, IsAtomInLimit}
 use Rattle.printed_formulas.proofs.Forms.{whole, difference_formed}
 use Rattle.printed_formulas.proofs.Places.{place_back, terms_numbered}
 
@@ -40,13 +40,13 @@ form_sorted Fields (Congruent b m f) n = absurd n
 form_sorted Integers (Congruent b m f) n = n.sorted
 
 -- the numbers of its form are within the limit
-pub form_fits : (a : Atom) → AtomFits a → FormFits (form_of a)
+pub form_fits : (a : Atom) → IsAtomInLimit a → IsFormInLimit (form_of a)
 form_fits (Compare r f) h = h
 form_fits (Congruent b m f) h = h.1
 
 -- what is known of each atom: it is normal, its names stand in the list, and its numbers are within the limit
 abbrev pub Known : Context → List (List ℕ) → Atom → Type 0
-Known c names a = IsNormal c a × (IsAtomWithin (length names) a × AtomFits a)
+Known c names a = IsNormal c a × (IsAtomWithin (length names) a × IsAtomInLimit a)
 
 module _ (c : Context) (names : List (List ℕ)) (d : IsDistinct same_name names) where
   abbrev pub number : List ℕ → ℕ

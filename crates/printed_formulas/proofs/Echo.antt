@@ -14,7 +14,8 @@ use Rattle.formula_meaning.specs.Within.{IsAtomWithin}
 use Rattle.formula_tree.specs.Resolving.{resolve}
 use Rattle.printed_formulas.specs.Written.{written_formula}
 use Rattle.printed_formulas.specs.Printed.{Terminals, tree_terminals, line_terminals}
-use Rattle.printed_formulas.specs.Round.{AreVariables, AtomFits, IsPrintable, IsReadable, line_text, printed_echo, TextSpells, TextIsReadBack, DeepTextIsNesting}
+use Rattle.formula_meaning.specs.Numbers.{IsAtomInLimit}
+use Rattle.printed_formulas.specs.Round.{AreVariables, IsPrintable, IsReadable, line_text, printed_echo, TextSpells, TextIsReadBack, DeepTextIsNesting}
 use Rattle.printed_formulas.proofs.Lexed.{Reads, IsApart, Anything, Adds, reads_nothing, joined, semicolon_adds}
 use Rattle.printed_formulas.proofs.Tokens.{tree_adds}
 use Rattle.printed_formulas.proofs.Spelled.{line_spelled}
@@ -31,7 +32,7 @@ line_reads names f v p =
     let end : Terminals → Terminals = λ ts. terminal.Mark mark.Semicolon ∷ ts in
     let whole : Adds Anything (tree_text names f ++ codes ";") (λ ts. tree_terminals names f (end ts)) =
     joined IsApart Anything (tree_text names f) (codes ";") (tree_terminals names f) end (λ rest q. refl)
-    (tree_adds names v.variables f (every_both (IsAtomWithin (length names)) AtomFits f p.names.atoms p.numbers) p.names.quantified) semicolon_adds in
+    (tree_adds names v.variables f (every_both (IsAtomWithin (length names)) IsAtomInLimit f p.names.atoms p.numbers) p.names.quantified) semicolon_adds in
     subst (λ w. Reads w (line_terminals names f)) (no_bytes (line_text names f)) (whole.reads [] [] tt reads_nothing)
 
 spells : (names : List (List ℕ)) (f : Tree) → AreVariables names → IsPrintable (length names) f → IsReadable names f → Spells (line_text names f) (printed_echo (written_formula names f))

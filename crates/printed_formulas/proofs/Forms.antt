@@ -22,9 +22,11 @@ use Rattle.qe_syntax.specs.Trees.{TermTree, Named, Product, terms_of}
 use Rattle.redlog_reader.specs.Grammar.{sum_of}
 use Rattle.redlog_printer.specs.Text.{name_at}
 use Rattle.formula_tree.specs.FractionRule.{◌>>=◌, added}
-use Rattle.formula_tree.specs.RationalForms.{RationalForm, Overflow, numbers_of, is_within, formed_number, formed_form, lowest_form, sum_of_forms, multiple_of_form, product_of_forms, variable_form, forms, formed, formed_difference}
+use Rattle.formula_meaning.specs.Limits.{is_within}
+use Rattle.formula_tree.specs.RationalForms.{RationalForm, Overflow, numbers_of, formed_number, formed_form, lowest_form, sum_of_forms, multiple_of_form, product_of_forms, variable_form, forms, formed, formed_difference}
 use Rattle.printed_formulas.specs.Written.{number_term, signed_term, factor_term, multiple_term, constant_term, later_constant_terms, member_terms, form_term}
-use Rattle.printed_formulas.specs.Round.{NumberFits, AreMultiplesFit, FormFits}
+use Rattle.exact_numbers.specs.Limit.{InLimit}
+use Rattle.formula_meaning.specs.Numbers.{AllInLimit, IsFormInLimit}
 
 -- a form over the denominator 1
 abbrev pub whole : Form → RationalForm
@@ -42,14 +44,14 @@ follows r x k e = ap (λ s. s >>= k) e
 
 -- ---- numbers within the limit
 
-within_is : (z : ℤ) → NumberFits z → is_within z ≡ true
+within_is : (z : ℤ) → InLimit z → is_within z ≡ true
 within_is z h = lt-ltb (unsigned_abs z) (2 ^ 127) h
 
-all_within : (ts : List Term) → AreMultiplesFit ts → list_all is_within (coefficients ts) ≡ true
+all_within : (ts : List Term) → AllInLimit ts → list_all is_within (coefficients ts) ≡ true
 all_within [] h = refl
 all_within (t ∷ ts) h = and_from _ _ (within_is t.times h.0) (all_within ts h.1)
 
-form_formed : (f : Form) → FormFits f → formed_form f ≡ Ok f
+form_formed : (f : Form) → IsFormInLimit f → formed_form f ≡ Ok f
 unfolding formed_form
 form_formed f h = ap (λ b. if b then Ok f else Err Overflow) (and_from _ _ (within_is f.constant h.0) (all_within f.terms h.1))
 
@@ -86,10 +88,10 @@ one_lcm : formed_number (lcm_of (pos 1) (pos 1)) ≡ Ok (pos 1)
 unfolding formed_number lcm_of gcd_of euclid
 one_lcm = refl
 
-scaled_up : (f : Form) → FormFits f → formed_form (scale (int_div (pos 1) (pos 1)) f) ≡ Ok f
+scaled_up : (f : Form) → IsFormInLimit f → formed_form (scale (int_div (pos 1) (pos 1)) f) ≡ Ok f
 scaled_up f h = ap formed_form (ap (λ k. scale k f) (one_quotient (pos 1)) ∙ scale_one f) ∙ form_formed f h
 
-sum_whole : (f g : Form) → FormFits f → FormFits g → FormFits (both f g) → IsSorted (both f g) → sum_of_forms (whole f) (whole g) ≡ Ok (whole (both f g))
+sum_whole : (f g : Form) → IsFormInLimit f → IsFormInLimit g → IsFormInLimit (both f g) → IsSorted (both f g) → sum_of_forms (whole f) (whole g) ≡ Ok (whole (both f g))
 unfolding sum_of_forms
 sum_whole f g a b h s =
     follows _ _ _ one_lcm ∙ follows _ _ _ (scaled_up f a) ∙ follows _ _ _ (scaled_up g b)
@@ -103,10 +105,10 @@ single_sorted a x c n = record { rising = (tt, tt); nonzero = (n, tt) }
 empty_sorted : (c : ℤ) → IsSorted (form [] c)
 empty_sorted c = record { rising = tt; nonzero = tt }
 
-zero_fits : NumberFits (pos 0)
+zero_fits : InLimit (pos 0)
 zero_fits = omega arith
 
-one_fits : NumberFits (pos 1)
+one_fits : InLimit (pos 1)
 one_fits = omega arith
 
 one_product : formed_number (pos 1 *ℤ pos 1) ≡ Ok (pos 1)
@@ -114,7 +116,7 @@ unfolding formed_number
 one_product = ap formed_number (one_mul (pos 1))
 
 -- a form times a number, where the product is this form
-multiple_whole : (f g : Form) (n : ℤ) → gathered (scale n f) ≡ g → FormFits g → multiple_of_form (whole f) (whole_frac n) ≡ Ok (whole g)
+multiple_whole : (f g : Form) (n : ℤ) → gathered (scale n f) ≡ g → IsFormInLimit g → multiple_of_form (whole f) (whole_frac n) ≡ Ok (whole g)
 unfolding multiple_of_form
 multiple_whole f g n e h =
     follows _ _ _ (ap formed_form e ∙ form_formed g h) ∙ follows _ _ _ one_product ∙ ap Ok (lowest_whole g)
@@ -124,7 +126,7 @@ unfolding gathered scale
 one_scaled n = ap (form []) (mul_one n)
 
 -- 1 times a number
-pub number_product : (n : ℤ) → NumberFits n → product_of_forms (whole (form [] (pos 1))) (whole (form [] n)) ≡ Ok (whole (form [] n))
+pub number_product : (n : ℤ) → InLimit n → product_of_forms (whole (form [] (pos 1))) (whole (form [] n)) ≡ Ok (whole (form [] n))
 unfolding product_of_forms
 number_product n h = multiple_whole (form [] (pos 1)) (form [] n) n (one_scaled n) (h, tt)
 
@@ -136,7 +138,7 @@ name_scaled : (a : ℤ) (x : ℕ) → ¬ (a ≡ pos 0) → gathered (scale a (fo
 name_scaled a x n = ap gathered (scaled_name a x) ∙ sorted_stays (form (term a x ∷ []) (pos 0)) (single_sorted a x (pos 0) n)
 
 -- a number times a name
-name_product : (a : ℤ) (x : ℕ) → NumberFits a → ¬ (a ≡ pos 0) → product_of_forms (whole (form [] a)) (variable_form x) ≡ Ok (whole (form (term a x ∷ []) (pos 0)))
+name_product : (a : ℤ) (x : ℕ) → InLimit a → ¬ (a ≡ pos 0) → product_of_forms (whole (form [] a)) (variable_form x) ≡ Ok (whole (form (term a x ∷ []) (pos 0)))
 unfolding product_of_forms
 name_product a x h n = multiple_whole (form (term (pos 1) x ∷ []) (pos 0)) (form (term a x ∷ []) (pos 0)) a (name_scaled a x n) (zero_fits, (h, tt))
 
@@ -171,7 +173,7 @@ module _ (c : Context) (number : List ℕ → ℕ) where
   signed_formed (pos n) t f g e p q = e ∙ ap (λ h. Ok (whole h)) (p n refl)
   signed_formed (negsuc n) t f g e p q = follows _ _ _ e ∙ ap (λ h. Ok (whole h)) (q n refl)
 
-  multiple_formed : (names : List (List ℕ)) (u : Term) → NumberFits u.times → ¬ (u.times ≡ pos 0) → number (name_at names u.name) ≡ u.name → formed c number (multiple_term names u) ≡ Ok (whole (form (u ∷ []) (pos 0)))
+  multiple_formed : (names : List (List ℕ)) (u : Term) → InLimit u.times → ¬ (u.times ≡ pos 0) → number (name_at names u.name) ≡ u.name → formed c number (multiple_term names u) ≡ Ok (whole (form (u ∷ []) (pos 0)))
   multiple_formed names u h s e =
       signed_formed u.times (factor_term (unsigned_abs u.times) (name_at names u.name)) (form (term (pos (unsigned_abs u.times)) u.name ∷ []) (pos 0)) (form (u ∷ []) (pos 0))
       (factor_formed (unsigned_abs u.times) (name_at names u.name) h (λ (z : unsigned_abs u.times ≡ 0). s (omega (arith, ints))) ∙ ap (λ y. Ok (whole (form (term (pos (unsigned_abs u.times)) y ∷ []) (pos 0)))) e)
@@ -213,7 +215,7 @@ front_nonzero (t ∷ ts) ys h = (h.0, front_nonzero ts ys h.1)
 front_sorted : (xs ys : List Term) (a b : ℤ) → IsSorted (form (xs ++ ys) a) → IsSorted (form xs b)
 front_sorted xs ys a b s = record { rising = front_rising xs ys s.rising; nonzero = front_nonzero xs ys s.nonzero }
 
-fit_both : (xs ys : List Term) → AreMultiplesFit xs → AreMultiplesFit ys → AreMultiplesFit (xs ++ ys)
+fit_both : (xs ys : List Term) → AllInLimit xs → AllInLimit ys → AllInLimit (xs ++ ys)
 fit_both [] ys h k = k
 fit_both (t ∷ ts) ys h k = (h.0, fit_both ts ys h.1 k)
 
@@ -225,20 +227,20 @@ AreNumbered names number us = AllByRecursion (λ (u : Term). number (name_at nam
 
 module _ (c : Context) (number : List ℕ → ℕ) (names : List (List ℕ)) where
   -- a constant added at the end
-  constant_added : (done : List Term) (k : ℤ) → AreMultiplesFit done → NumberFits k → IsSorted (form done k) → added (forms c number) (whole (form done (pos 0))) (terms_of (later_constant_terms k)) ≡ Ok (whole (form done k))
+  constant_added : (done : List Term) (k : ℤ) → AllInLimit done → InLimit k → IsSorted (form done k) → added (forms c number) (whole (form done (pos 0))) (terms_of (later_constant_terms k)) ≡ Ok (whole (form done k))
   constant_added done k h f s = go (int_eq k (pos 0)) refl
     where
       nothing_more : sum_of_forms (whole (form done (pos 0))) (whole (form [] k)) ≡ Ok (whole (form done k))
       nothing_more =
           let same : both (form done (pos 0)) (form [] k) ≡ form done k = λ i. form (append-nil done i) (zero_add k i) in
-          sum_whole (form done (pos 0)) (form [] k) (zero_fits, h) (f, tt) (subst FormFits (sym same) (f, h)) (subst IsSorted (sym same) s) ∙ ap (λ g. Ok (whole g)) same
+          sum_whole (form done (pos 0)) (form [] k) (zero_fits, h) (f, tt) (subst IsFormInLimit (sym same) (f, h)) (subst IsSorted (sym same) s) ∙ ap (λ g. Ok (whole g)) same
 
       go : (b : Bool) → int_eq k (pos 0) ≡ b → added (forms c number) (whole (form done (pos 0))) (terms_of (if b then [] else constant_term k ∷ [])) ≡ Ok (whole (form done k))
       go true e = ap (λ z. Ok (whole (form done z))) (sym (is_zero k e))
       go false e = follows _ _ _ (constant_formed c number k) ∙ follows _ _ _ nothing_more
 
   -- the members behind some that are added up already
-  members_added : (done us : List Term) (k : ℤ) → AreMultiplesFit done → AreMultiplesFit us → NumberFits k → IsSorted (form (done ++ us) k) → AreNumbered names number us
+  members_added : (done us : List Term) (k : ℤ) → AllInLimit done → AllInLimit us → InLimit k → IsSorted (form (done ++ us) k) → AreNumbered names number us
       → added (forms c number) (whole (form done (pos 0))) (terms_of (map (multiple_term names) us ++ later_constant_terms k)) ≡ Ok (whole (form (done ++ us) k))
   members_added done [] k h m f s n =
       let same : done ++ [] ≡ done = append-nil done in
@@ -247,21 +249,21 @@ module _ (c : Context) (number : List ℕ → ℕ) (names : List (List ℕ)) whe
       let assoc : (done ++ u ∷ []) ++ us ≡ done ++ u ∷ us = append_assoc done (u ∷ []) us in
       let sorted : IsSorted (form ((done ++ u ∷ []) ++ us) k) = subst (λ ts. IsSorted (form ts k)) (sym assoc) s in
       let front : IsSorted (form (done ++ u ∷ []) (pos 0)) = front_sorted (done ++ u ∷ []) us k (pos 0) sorted in
-      let fits : AreMultiplesFit (done ++ u ∷ []) = fit_both done (u ∷ []) h (m.0, tt) in
+      let fits : AllInLimit (done ++ u ∷ []) = fit_both done (u ∷ []) h (m.0, tt) in
       follows _ _ _ (multiple_formed c number names u m.0 (last_nonzero done us k u s) n.0)
       ∙ follows _ _ _ (sum_whole (form done (pos 0)) (form (u ∷ []) (pos 0)) (zero_fits, h) (zero_fits, (m.0, tt)) (zero_fits, fits) front)
       ∙ members_added (done ++ u ∷ []) us k fits m.1 f sorted n.1 ∙ ap (λ ts. Ok (whole (form ts k))) assoc
 
-  pub sum_formed : (f : Form) → FormFits f → IsSorted f → AreNumbered names number f.terms → formed c number (form_term names f) ≡ Ok (whole f)
+  pub sum_formed : (f : Form) → IsFormInLimit f → IsSorted f → AreNumbered names number f.terms → formed c number (form_term names f) ≡ Ok (whole f)
   sum_formed f h s n = go f.terms f.constant h s n
     where
-      one : (u : Term) (k : ℤ) (b : Bool) → int_eq k (pos 0) ≡ b → FormFits (form (u ∷ []) k) → IsSorted (form (u ∷ []) k) → AreNumbered names number (u ∷ [])
+      one : (u : Term) (k : ℤ) (b : Bool) → int_eq k (pos 0) ≡ b → IsFormInLimit (form (u ∷ []) k) → IsSorted (form (u ∷ []) k) → AreNumbered names number (u ∷ [])
           → added (forms c number) (whole (form [] (pos 0))) (terms_of (multiple_term names u ∷ (if b then [] else constant_term k ∷ []))) ≡ Ok (whole (form (u ∷ []) k))
           → formed c number (sum_of (multiple_term names u ∷ (if b then [] else constant_term k ∷ []))) ≡ Ok (whole (form (u ∷ []) k))
       one u k true e h s n whole_sum = multiple_formed c number names u h.1.0 s.nonzero.0 n.0 ∙ ap (λ z. Ok (whole (form (u ∷ []) z))) (sym (is_zero k e))
       one u k false e h s n whole_sum = whole_sum
 
-      go : (ts : List Term) (k : ℤ) → FormFits (form ts k) → IsSorted (form ts k) → AreNumbered names number ts → formed c number (sum_of (member_terms names ts k)) ≡ Ok (whole (form ts k))
+      go : (ts : List Term) (k : ℤ) → IsFormInLimit (form ts k) → IsSorted (form ts k) → AreNumbered names number ts → formed c number (sum_of (member_terms names ts k)) ≡ Ok (whole (form ts k))
       go [] k h s n = constant_formed c number k
       go (u ∷ []) k h s n = one u k (int_eq k (pos 0)) refl h s n (members_added [] (u ∷ []) k tt h.1 h.0 s n)
       go (u ∷ w ∷ us) k h s n = members_added [] (u ∷ w ∷ us) k tt h.1 h.0 s n
@@ -271,8 +273,8 @@ module _ (c : Context) (number : List ℕ → ℕ) (names : List (List ℕ)) whe
   opposite_zero = ap (form []) (mul_zero (negsuc 0))
 
   -- the difference of the sum and 0
-  pub difference_formed : (f : Form) → FormFits f → IsSorted f → AreNumbered names number f.terms → formed_difference c number (form_term names f) (number_term 0) ≡ Ok (whole f)
+  pub difference_formed : (f : Form) → IsFormInLimit f → IsSorted f → AreNumbered names number f.terms → formed_difference c number (form_term names f) (number_term 0) ≡ Ok (whole f)
   difference_formed f h s n =
       let same : both f (form [] (pos 0)) ≡ f = λ i. form (append-nil f.terms i) (add_zero f.constant i) in
       follows _ _ _ (sum_formed f h s n) ∙ ap (λ g. sum_of_forms (whole f) (whole g)) opposite_zero
-      ∙ sum_whole f (form [] (pos 0)) h (zero_fits, tt) (subst FormFits (sym same) h) (subst IsSorted (sym same) s) ∙ ap (λ g. Ok (whole g)) same
+      ∙ sum_whole f (form [] (pos 0)) h (zero_fits, tt) (subst IsFormInLimit (sym same) h) (subst IsSorted (sym same) s) ∙ ap (λ g. Ok (whole g)) same

@@ -22,7 +22,9 @@ use Rattle.redlog_printer.specs.Text.{name_at, first_sign, later_sign, multiple_
 use Rattle.formula_meaning.specs.Within.{AreTermsWithin}
 use Rattle.printed_formulas.specs.Written.{relation_sign}
 use Rattle.printed_formulas.specs.Printed.{Terminals, number, first_mark, later_mark, multiple_terminals, later_terminals, constant_terminals, sum_terminals, congruence_word, atom_terminals, bracketed, tree_terminals, members_terminals, more_terminals}
-use Rattle.printed_formulas.specs.Round.{NumberFits, AreMultiplesFit, IsAtomPrintable}
+use Rattle.exact_numbers.specs.Limit.{InLimit}
+use Rattle.formula_meaning.specs.Numbers.{AllInLimit}
+use Rattle.printed_formulas.specs.Round.{IsAtomPrintable}
 use Rattle.printed_formulas.proofs.Lexed.{Reads, IsApart, Anything, BeginsName, Adds, nothing_adds, joined, joined_freely, needs_less, reads_token, drop_front, open_adds, close_adds, comma_adds, minus_adds, plus_adds, blank_adds, times_adds, number_adds, name_adds, word_adds}
 
 -- ---- names
@@ -123,10 +125,10 @@ module _ (names : List (List ℕ)) (v : AllByRecursion IsVariable names) where
       joined BeginsName IsApart (decimal n ++ codes "*") x (λ ts. number n ∷ terminal.Mark mark.Times ∷ ts) (λ ts. terminal.Name x ∷ ts) (λ rest p. begins x rest k)
       (joined IsApart BeginsName (decimal n) (codes "*") (λ ts. number n ∷ ts) (λ ts. terminal.Mark mark.Times ∷ ts) (λ rest p. refl) (number_adds n h) times_adds) (name_adds x k)
 
-  multiple_adds : (t : Term) → NumberFits t.times → t.name < length names → Adds IsApart (multiple_text names t) (multiple_terminals names t)
+  multiple_adds : (t : Term) → InLimit t.times → t.name < length names → Adds IsApart (multiple_text names t) (multiple_terminals names t)
   multiple_adds t h k = factor_adds (unsigned_abs t.times) (name_at names t.name) (nat_eq (unsigned_abs t.times) 1) h (name_of names t.name v k)
 
-  signed_adds : (t : Term) → NumberFits t.times → t.name < length names → Adds IsApart (later_multiple names t) (λ ts. later_mark t.times (multiple_terminals names t ts))
+  signed_adds : (t : Term) → InLimit t.times → t.name < length names → Adds IsApart (later_multiple names t) (λ ts. later_mark t.times (multiple_terminals names t ts))
   signed_adds t h k = joined_freely IsApart (later_sign t.times) (multiple_text names t) (later_mark t.times) (multiple_terminals names t) (later_adds t.times) (multiple_adds t h k)
 
   multiples_apart : (us : List Term) (rest : List ℕ) → IsApart rest → IsApart (flat_map (later_multiple names) us ++ rest)
@@ -137,7 +139,7 @@ module _ (names : List (List ℕ)) (v : AllByRecursion IsVariable names) where
       go (pos n) = refl
       go (negsuc n) = refl
 
-  multiples_add : (us : List Term) → AreMultiplesFit us → AreTermsWithin (length names) us → Adds IsApart (flat_map (later_multiple names) us) (later_terminals names us)
+  multiples_add : (us : List Term) → AllInLimit us → AreTermsWithin (length names) us → Adds IsApart (flat_map (later_multiple names) us) (later_terminals names us)
   multiples_add [] h k = nothing_adds IsApart
   multiples_add (u ∷ us) h k =
       joined IsApart IsApart (later_multiple names u) (flat_map (later_multiple names) us) (λ ts. later_mark u.times (multiple_terminals names u ts)) (later_terminals names us) (multiples_apart us)
@@ -148,11 +150,11 @@ module _ (names : List (List ℕ)) (v : AllByRecursion IsVariable names) where
   constant_apart (pos n) false rest p = refl
   constant_apart (negsuc n) false rest p = refl
 
-  constant_adds : (c : ℤ) (b : Bool) → NumberFits c → Adds IsApart (if b then [] else later_sign c ++ decimal (unsigned_abs c)) (λ ts. if b then ts else later_mark c (number (unsigned_abs c) ∷ ts))
+  constant_adds : (c : ℤ) (b : Bool) → InLimit c → Adds IsApart (if b then [] else later_sign c ++ decimal (unsigned_abs c)) (λ ts. if b then ts else later_mark c (number (unsigned_abs c) ∷ ts))
   constant_adds c true h = nothing_adds IsApart
   constant_adds c false h = joined_freely IsApart (later_sign c) (decimal (unsigned_abs c)) (later_mark c) (λ ts. number (unsigned_abs c) ∷ ts) (later_adds c) (number_adds (unsigned_abs c) h)
 
-  sum_adds : (us : List Term) (c : ℤ) → NumberFits c → AreMultiplesFit us → AreTermsWithin (length names) us → Adds IsApart (sum_text names us c) (sum_terminals names us c)
+  sum_adds : (us : List Term) (c : ℤ) → InLimit c → AllInLimit us → AreTermsWithin (length names) us → Adds IsApart (sum_text names us c) (sum_terminals names us c)
   sum_adds [] c h m k = joined_freely IsApart (first_sign c) (decimal (unsigned_abs c)) (first_mark c) (λ ts. number (unsigned_abs c) ∷ ts) (first_adds c) (number_adds (unsigned_abs c) h)
   sum_adds (u ∷ us) c h m k =
       joined IsApart IsApart (first_sign u.times ++ multiple_text names u ++ flat_map (later_multiple names) us) (later_constant c)

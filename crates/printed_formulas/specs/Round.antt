@@ -1,10 +1,9 @@
 -- Which trees are printed so that they are read back, and what is proved of them.
 use Rattle.std.specs.Prelude.{◌≡◌, ◌<◌, ℕ, ℤ, pos, ◌≤◌, true, List, [], ◌++◌, length, codes}
 use Rattle.std.specs.List.{AllByRecursion, IsDistinct}
-use Rattle.exact_numbers.specs.Limit.{InLimit}
 use Rattle.formula_meaning.specs.Context.{Context}
-use Rattle.formula_meaning.specs.Form.{Form, Term}
-use Rattle.formula_meaning.specs.Atom.{Atom, Compare, Congruent}
+use Rattle.formula_meaning.specs.Atom.{Atom}
+use Rattle.formula_meaning.specs.Numbers.{IsAtomInLimit}
 use Rattle.formula_meaning.specs.Tree.{Tree}
 use Rattle.formula_meaning.specs.Every.{Every}
 use Rattle.formula_meaning.specs.Sizes.{height}
@@ -31,30 +30,15 @@ pub record AreVariables (names : List (List ℕ)) : Type 0 where
   pub distinct : IsDistinct same_name names
   pub variables : AllByRecursion IsVariable names
 
-abbrev pub NumberFits : ℤ → Type 0
-NumberFits = InLimit
-
--- each coefficient is within the limit
-abbrev pub AreMultiplesFit : List Term → Type 0
-AreMultiplesFit ts = AllByRecursion (λ (t : Term). NumberFits t.times) ts
-
-abbrev pub FormFits : Form → Type 0
-FormFits f = NumberFits f.constant × AreMultiplesFit f.terms
-
--- each number of the atom is within the limit
-abbrev pub AtomFits : Atom → Type 0
-AtomFits (Compare r f) = FormFits f
-AtomFits (Congruent b m f) = NumberFits (pos m) × FormFits f
-
 abbrev pub IsAtomPrintable : ℕ → Atom → Type 0
-IsAtomPrintable n a = IsAtomWithin n a × AtomFits a
+IsAtomPrintable n a = IsAtomWithin n a × IsAtomInLimit a
 
 -- ---- trees
 
 -- The numbers of the tree are within the limit, its names stand in a list of n names, and each conjunction and
 -- disjunction has two members at least.
 pub record IsPrintable (n : ℕ) (f : Tree) : Type 0 where
-  pub numbers : Every AtomFits f
+  pub numbers : Every IsAtomInLimit f
   pub names : IsTreeWithin n f
   pub joins : HasTwoMembers f
 

@@ -20,18 +20,18 @@ use Rattle.simplified_formulas.specs.Orderly.{IsOrderly, AreOrderly}
 use Rattle.formula_tree.specs.declared.shape.Shape.{Shape}
 use Rattle.formula_tree.specs.Trees.{members}
 use Rattle.formula_store.specs.declared.id.FormulaId.{FormulaId}
-use Rattle.formula_store.specs.Nodes.{tree, IsId, AreNodes}
+use Rattle.formula_store.specs.Nodes.{tree, IsId}
 use Rattle.formula_store.proofs.Same.{same_tree}
 use Rattle.theory_simplifier.specs.Parts.{same_id}
 use Rattle.theory_simplifier.proofs.Parting.{same_test}
 
 -- ---- a formula is among others exactly where its id is among theirs
 
-module _ (nodes : List (Shape FormulaId)) (are : AreNodes nodes) (x : FormulaId) (is : IsId nodes x) where
+module _ (nodes : List (Shape FormulaId)) (x : FormulaId) (is : IsId nodes x) where
   same_one : (y : FormulaId) → IsId nodes y → same_formula same_atom nat_eq (tree nodes y) (tree nodes x) ≡ same_id x y
   same_one y h =
       same_test (same_formula same_atom nat_eq (tree nodes y) (tree nodes x)) (same_id x y)
-      (λ e. eq-eqb x.number y.number (ap (λ (z : FormulaId). z.number) (sym (same_tree nodes are y x h is (formula_same same_atom nat_eq atom_same (λ a b k. eqb-true a b k) (tree nodes y) (tree nodes x) e)))))
+      (λ e. eq-eqb x.number y.number (ap (λ (z : FormulaId). z.number) (sym (same_tree nodes y x h is (formula_same same_atom nat_eq atom_same (λ a b k. eqb-true a b k) (tree nodes y) (tree nodes x) e)))))
       (λ e.
       let n : y.number ≡ x.number = sym (eqb-true x.number y.number e) in
       let i : y ≡ x = λ k. record { number = n k } in

@@ -2,7 +2,6 @@
 #![tactic(auto)]
 
 mod closing;
-mod constants;
 mod error;
 mod free;
 mod joined;
@@ -13,6 +12,5 @@ mod pass;
 mod places;
 mod repeat;
 
-pub use constants::see_formula;
 pub use error::SimplError;
 pub use repeat::simplify;

@@ -131,8 +131,6 @@ fn with_other(store: &Store, parts: Parts, id: FormulaId) -> Result<Parts, Alloc
     ensures list { IfOk result (λ r. (c : Theory) (j : Joint) → IsListOf c j parts → IsListOf c j r) }
     ensures ids { IfOk result (HasIds store.now) }
 {
-    // Its clause says that the formulas of the store are distinct.
-    let _formulas = store.len();
     match parts {
         Parts::Closed => Ok(Parts::Closed),
         Parts::Open(atoms, mut others) => {

@@ -18,12 +18,10 @@ ghost use Rattle.formula_meaning.specs.Context.{Context as Theory};
 ghost use Rattle.formula_tree.specs.Makers.{IsMade, Keeps};
 ghost use Rattle.formula_store.specs.Facts.{most_nodes};
 ghost use Rattle.theory_simplifier.specs.Known.{known_atoms, AreNormalFrames};
-ghost use Rattle.theory_simplifier.specs.Constants.{IsWithin};
 ghost use Rattle.formula_store.specs.Nodes.{IsId, tree};
 ghost use Rattle.redlog_printer.specs.Text.{tree_text};
 ghost use Rattle.formula_meaning.specs.Within.{IsAtomWithin};
 
-use crate::constants::{see_atoms, see_formula};
 use crate::error::SimplError;
 use crate::joined::Joined;
 use crate::known::{Frame, Known};
@@ -79,7 +77,6 @@ pub fn simplify(
     if nodes == u64::MAX {
         return Err(SimplError::Memory);
     }
-    see_formula(store, id)?;
     let mut known = assumed(alloc, theory)?;
     Ok(repeated(alloc, store, context, id, &mut known)?)
 }
@@ -89,9 +86,7 @@ fn assumed(alloc: Global, theory: &[Atom]) -> Result<Known, AllocError>
     requires { AllByRecursion IsWellFormed theory.now }
     ensures atoms { IfOk result (λ known. known_atoms known ≡ map atom_of theory.now) }
     ensures normal { IfOk result (λ known. (c : Theory) → EachOf (IsNormal c) (map atom_of theory.now) → AreNormalFrames c known) }
-    ensures within { EachOf IsWithin (map atom_of theory.now) }
 {
-    see_atoms(theory);
     let mut known = Known::new(alloc);
     known.enter(Frame::Beside(Joined::of(alloc, theory)?))?;
     Ok(known)

@@ -12,5 +12,5 @@ pub returns-in_ok-add-in-Open-clause-with : goal.returns-in_ok-add-in-Open-claus
 returns-in_ok-add-in-Open-clause-with c o =
     let t = tree c.args.store.now in
     let ids : AllByRecursion (IsId c.args.store.now) c.in-Open.others = subst (HasIds c.args.store.now) c.in-Open.is c.requires.ids in
-    ap (λ gs. Open c.in-Open.atoms.atoms gs) (ap (λ is. members (map t is)) c.in_ok-add-in-Open.ensures ∙ inserted c.args.store.now c.len-formulas.ensures.nodes c.args.id c.requires.id o c.in-Open.others ids)
+    ap (λ gs. Open c.in-Open.atoms.atoms gs) (ap (λ is. members (map t is)) c.in_ok-add-in-Open.ensures ∙ inserted c.args.store.now c.args.id c.requires.id o c.in-Open.others ids)
     ∙ ap (λ s. with_other (atom_kit o) (t c.args.id) (parts_of t s)) (sym c.in-Open.is)

@@ -3,7 +3,9 @@ use Rattle.formula_meaning.specs.declared.junction.Junction.TheVariants.{Conjunc
 use Rattle.atom_normal.specs.Atoms.{atom_of}
 use Rattle.theory_simplifier.specs.declared.known.Frame.TheVariants.{Beside}
 use Rattle.theory_simplifier.specs.Known.{known_atoms, AreNormalFrames}
-use Rattle.theory_simplifier.proofs.Assuming.{assumed_atoms, each_within}
+use Rattle.atom_normal.proofs.Meaning.{all_within}
+use Rattle.simplified_formulas.proofs.Limited.{assumable}
+use Rattle.theory_simplifier.proofs.Assuming.{assumed_atoms}
 use Rattle.theory_simplifier.proofs.repeat.assumed.Goals as goal
 
 frames : (c : goal.In_ok-enter) → c.enter.new.self ≡ Beside (record { junction = Conjunction; atoms = map atom_of c.args.theory.now }) ∷ []
@@ -15,4 +17,4 @@ returns-clause-atoms c =
 
 pub returns-clause-normal : goal.returns-clause-normal
 returns-clause-normal c o h =
-    subst (AreNormalFrames o) (sym (frames c)) (each_within o (map atom_of c.args.theory.now) h c.see_atoms.ensures, tt)
+    subst (AreNormalFrames o) (sym (frames c)) (assumable o (map atom_of c.args.theory.now) h (all_within c.args.theory.now c.requires), tt)

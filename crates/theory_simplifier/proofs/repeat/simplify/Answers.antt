@@ -15,11 +15,14 @@ use Rattle.simplified_texts.proofs.Longer.{no_longer}
 use Rattle.redlog_printer.specs.Text.{tree_text}
 use Rattle.formula_meaning.specs.Within.{IsAtomWithin}
 use Rattle.formula_store.specs.Nodes.{tree}
-use Rattle.theory_simplifier.proofs.Assuming.{each_within, simplifiable, orderly_normal, every_normal}
+use Rattle.atom_normal.proofs.Meaning.{all_within}
+use Rattle.simplified_formulas.proofs.Limited.{assumable, simplifiable}
+use Rattle.formula_store.proofs.Numbers.{numbers_are_within}
+use Rattle.theory_simplifier.proofs.Assuming.{orderly_normal, every_normal}
 use Rattle.theory_simplifier.proofs.repeat.simplify.Goals as goal
 
 pub repeated-requires-clause-formula : goal.repeated-requires-clause-formula
-repeated-requires-clause-formula c = simplifiable (context_of c.args.context) (tree c.args.store.now c.args.id) c.requires.formula c.in_ok-see_formula.ensures.within
+repeated-requires-clause-formula c = simplifiable (context_of c.args.context) (tree c.args.store.now c.args.id) c.requires.formula (numbers_are_within c.args.store.now c.args.id c.requires.id)
 
 pub repeated-requires-clause-known : goal.repeated-requires-clause-known
 repeated-requires-clause-known c = c.in_ok-known.ensures.normal (context_of c.args.context) c.requires.theory
@@ -32,10 +35,10 @@ carried : (c : goal.After-drop-known-inside-2) (P : Tree → Type 0) → P (simp
 carried c P = subst P (sym (same c))
 
 formula_is : (c : goal.After-drop-known-inside-2) → IsSimplifiable (context_of c.args.context) (tree c.args.store.now c.args.id)
-formula_is c = simplifiable (context_of c.args.context) (tree c.args.store.now c.args.id) c.requires.formula c.in_ok-see_formula.ensures.within
+formula_is c = simplifiable (context_of c.args.context) (tree c.args.store.now c.args.id) c.requires.formula (numbers_are_within c.args.store.now c.args.id c.requires.id)
 
 assumed_are : (c : goal.After-drop-known-inside-2) → AreAssumable (context_of c.args.context) (map atom_of c.args.theory.now)
-assumed_are c = each_within (context_of c.args.context) (map atom_of c.args.theory.now) c.requires.theory c.in_ok-known.ensures.within
+assumed_are c = assumable (context_of c.args.context) (map atom_of c.args.theory.now) c.requires.theory (all_within c.args.theory.now c.requires.well_formed)
 
 orderly : (c : goal.After-drop-known-inside-2) → IsOrderly (IsNormal (context_of c.args.context)) (simplified_under (context_of c.args.context) (map atom_of c.args.theory.now) (tree c.args.store.now c.args.id))
 orderly c = orderly_normal (context_of c.args.context) (simplified_under (context_of c.args.context) (map atom_of c.args.theory.now) (tree c.args.store.now c.args.id)) (keeps_shape (context_of c.args.context) (map atom_of c.args.theory.now) (tree c.args.store.now c.args.id) (formula_is c))
