@@ -13,7 +13,7 @@ use Rattle.formula_meaning.proofs.Same.{atom_same, atom_alike}
 use Rattle.formula_tree.specs.declared.shape.Shape.{Shape}
 use Rattle.formula_tree.specs.Makers.{Keeps}
 use Rattle.formula_store.specs.declared.id.FormulaId.{FormulaId}
-use Rattle.formula_store.specs.Nodes.{tree, IsId, AreNodes}
+use Rattle.formula_store.specs.Nodes.{tree, IsId}
 use Rattle.formula_store.proofs.Ordered.{same_id as same_number}
 use Rattle.formula_store.proofs.Same.{same_tree}
 use Rattle.simplified_formulas.specs.Atoms.{Kit}
@@ -24,7 +24,7 @@ use Rattle.normal_forms.specs.Atoms.{atom_at, IsAtomId, AreAtomIds, atoms, AreLi
 use Rattle.normal_forms.proofs.Grown.{atoms_stay, line_ids_stay, lines_stay}
 use Rattle.normal_forms.proofs.Inserted.{some_of, none_of}
 
-module _ (c : Context) (j : Junction) (nodes : List (Shape FormulaId)) (are : AreNodes nodes) where
+module _ (c : Context) (j : Junction) (nodes : List (Shape FormulaId)) where
   -- ids of atoms are equal where the atoms are
   same_told : (a b : FormulaId) → IsAtomId c nodes a → IsAtomId c nodes b → same_id a b ≡ same_atom (atom_at nodes a) (atom_at nodes b)
   same_told a b h k = split (same_id a b) refl (same_atom (atom_at nodes a) (atom_at nodes b)) refl
@@ -37,7 +37,7 @@ module _ (c : Context) (j : Junction) (nodes : List (Shape FormulaId)) (are : Ar
           absurd (cc (w))
       split false e true f =
           let t : tree nodes a ≡ tree nodes b = h.one ∙ ap One (atom_same (atom_at nodes a) (atom_at nodes b) f) ∙ sym k.one in
-          let i : a ≡ b = same_tree nodes are a b h.is k.is t in
+          let i : a ≡ b = same_tree nodes a b h.is k.is t in
           let n : a.number ≡ b.number = ap (λ (x : FormulaId). x.number) i in
           let w : false ≡ true = sym e ∙ eq-eqb a.number b.number n in
           absurd (cc (w))
@@ -92,10 +92,10 @@ module _ (c : Context) (j : Junction) (old new : List (Shape FormulaId)) (k : Ke
   pub nothing_added : (ls : List (List FormulaId)) (o : Option (List Atom)) → AreLineIds c old ls → IsLineIf c new o None → AreLines c new (add_if (atom_kit c) j (lines old ls) o) ls
   nothing_added ls o h n = subst (λ p. AreLines c new (add_if (atom_kit c) j (lines old ls) p) ls) (sym (none_of c j new o n)) (record { are = line_ids_stay c old new k ls h; same = lines_stay c old new k ls h })
 
-  pub something_added : AreNodes new → (ls : List (List FormulaId)) (o : Option (List Atom)) (vs : List FormulaId) → AreLineIds c old ls → IsLineIf c new o (Some vs) → AreLines c new (add_if (atom_kit c) j (lines old ls) o) (add ls vs)
-  something_added are ls o vs h n =
+  pub something_added : (ls : List (List FormulaId)) (o : Option (List Atom)) (vs : List FormulaId) → AreLineIds c old ls → IsLineIf c new o (Some vs) → AreLines c new (add_if (atom_kit c) j (lines old ls) o) (add ls vs)
+  something_added ls o vs h n =
       subst (λ p. AreLines c new (add_if (atom_kit c) j (lines old ls) p) (add ls vs)) (sym (some_of c j new o vs n))
-      (subst (λ ks. AreLines c new (clean.add (atom_kit c) j ks (atoms new vs)) (add ls vs)) (lines_stay c old new k ls h) (added c j new are ls vs (line_ids_stay c old new k ls h) (line_are o n)))
+      (subst (λ ks. AreLines c new (clean.add (atom_kit c) j ks (atoms new vs)) (add ls vs)) (lines_stay c old new k ls h) (added c j new ls vs (line_ids_stay c old new k ls h) (line_are o n)))
     where
       line_are : (p : Option (List Atom)) → IsLineIf c new p (Some vs) → AreAtomIds c new vs
       line_are None m = absurd m

@@ -33,10 +33,7 @@ fn add_product(
     ensures kept { Keeps (IsId store.old) (tree store.old) (IsId store.new) (tree store.new) }
 {
     match product(alloc, store, context, inner, line, other)? {
-        Some(product) => {
-            let _nodes = store.len();
-            add(lines, product)
-        }
+        Some(product) => add(lines, product),
         None => Ok(()),
     }
 }
@@ -121,7 +118,6 @@ pub(crate) fn joined(
     if each_with_each {
         return products(alloc, store, context, inner, &lines, &more);
     }
-    let _nodes = store.len();
     let mut lines = lines;
     add_all(&mut lines, more)?;
     Ok(lines)

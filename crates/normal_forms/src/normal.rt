@@ -15,6 +15,8 @@ ghost use Rattle.atom_normal.specs.Atoms.{context_of};
 ghost use Rattle.formula_tree.specs.Makers.{IsMade, Keeps};
 ghost use Rattle.formula_tree.specs.Quantified.{has_quantifier};
 ghost use Rattle.formula_store.specs.Nodes.{IsId, tree};
+ghost use Rattle.atom_normal.specs.NormalForm.{IsNormal};
+ghost use Rattle.simplified_formulas.specs.Orderly.{IsOrderly};
 ghost use Rattle.simplified_formulas.specs.Trees.{IsSimplifiable};
 ghost use Rattle.clean_forms.specs.Plain.{plain_form, literals};
 ghost use Rattle.clean_forms.specs.Clean.{IsCleanForm};
@@ -46,7 +48,7 @@ pub fn dnf(
     limit: u64,
 ) -> Result<FormulaId, FormError>
     requires id { IsId store.old id }
-    requires orderly { IsSimplifiable (context_of context) (tree store.old id) }
+    requires orderly { IsOrderly (IsNormal (context_of context)) (tree store.old id) }
     ensures made { IfOk result (IsId store.new) }
     ensures clean { IfOk result (λ r. IsCleanForm (context_of context) Conjunction (tree store.new r)) }
     ensures truth { IfOk result (λ r. Equivalent (context_of context) (tree store.new r) (tree store.old id)) }
@@ -75,7 +77,7 @@ pub fn cnf(
     limit: u64,
 ) -> Result<FormulaId, FormError>
     requires id { IsId store.old id }
-    requires orderly { IsSimplifiable (context_of context) (tree store.old id) }
+    requires orderly { IsOrderly (IsNormal (context_of context)) (tree store.old id) }
     ensures made { IfOk result (IsId store.new) }
     ensures clean { IfOk result (λ r. IsCleanForm (context_of context) Disjunction (tree store.new r)) }
     ensures truth { IfOk result (λ r. Equivalent (context_of context) (tree store.new r) (tree store.old id)) }
@@ -103,7 +105,7 @@ fn normal_form(
     limit: u64,
 ) -> Result<FormulaId, FormError>
     requires id { IsId store.old id }
-    requires orderly { IsSimplifiable (context_of context) (tree store.old id) }
+    requires orderly { IsOrderly (IsNormal (context_of context)) (tree store.old id) }
     ensures made { IfOk result (IsId store.new) }
     ensures clean { IfOk result (λ r. IsCleanForm (context_of context) inner (tree store.new r)) }
     ensures truth { IfOk result (λ r. Equivalent (context_of context) (tree store.new r) (tree store.old id)) }

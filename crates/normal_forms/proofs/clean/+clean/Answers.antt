@@ -15,7 +15,7 @@ member_lines-formula_lines-requires t c =
     let id : FormulaId = get_or c.args.ids.now c.loop-id.id-index d in
     let below : id.number < c.args.above.number = all_at (λ (m : FormulaId). m.number < c.args.above.number) c.args.ids.now c.loop-id.id-index d c.loop-id-test.true c.requires.below in
     let above = c.requires.above in
-    let old : IsId c.args.store.now id = omega arith in
+    let old : IsId c.args.store.now id = record { below = omega arith; are = above.are } in
     let here = all_at (λ (m : FormulaId). IsDistributable (context_of c.args.context) (tree c.args.store.now m)) c.args.ids.now c.loop-id.id-index d c.loop-id-test.true c.requires.distributable in
     let falls = c.decreases in (
       omega arith,
@@ -44,7 +44,7 @@ member_lines-loop-id-preserved t c =
     let id : FormulaId = get_or c.args.ids.now c.loop-id.id-index d in
     let below : id.number < c.args.above.number = all_at (λ (m : FormulaId). m.number < c.args.above.number) c.args.ids.now c.loop-id.id-index d c.loop-id-test.true c.requires.below in
     let above = c.requires.above in
-    let old : IsId c.args.store.now id = omega arith in
+    let old : IsId c.args.store.now id = record { below = omega arith; are = above.are } in
     record {
       kept = keeps_then c.args.store.now c.loop-id.store c.joined.new.store c.loop-id.invariant.kept (keeps_then c.loop-id.store c.formula_lines.new.store c.joined.new.store c.formula_lines.ensures.kept c.joined.ensures.kept);
       so_far = member_step (context_of c.args.context) c.args.inner c.args.each_with_each c.args.store.now c.loop-id.store c.formula_lines.new.store c.joined.new.store c.args.ids.now c.loop-id.id-index d c.loop-id.lines.items

@@ -3,10 +3,17 @@ use Rattle.atom_normal.specs.Atoms.{context_of}
 use Rattle.formula_store.specs.declared.id.FormulaId.{FormulaId}
 use Rattle.simplified_formulas.specs.AtomKit.{atom_kit}
 use Rattle.clean_forms.specs.Lines.{insert_into}
-use Rattle.normal_forms.specs.Atoms.{atom_at, atoms, IsLineIf}
-use Rattle.normal_forms.proofs.Grown.{keeps_then}
+use Rattle.normal_forms.specs.Atoms.{atom_at, atoms, IsAtomId, IsLineIf}
+use Rattle.formula_store.proofs.Marked.{all_at}
+use Rattle.normal_forms.proofs.Grown.{keeps_then, atom_id_stays}
 use Rattle.normal_forms.proofs.Inserted.{all_step, all_void}
 use Rattle.normal_forms.proofs.insertion.insert_all.Goals as goal
+
+pub insert-requires-clause-atom : goal.insert-requires-clause-atom
+insert-requires-clause-atom c =
+    let d : FormulaId = record { number = 0 } in
+    atom_id_stays (context_of c.args.context) c.args.store.now c.loop-atom.store c.loop-atom.invariant.kept (get_or c.args.others.now c.loop-atom.atom-index d)
+    (all_at (IsAtomId (context_of c.args.context) c.args.store.now) c.args.others.now c.loop-atom.atom-index d c.loop-atom-test.true c.requires.others)
 
 pub returns-in_err-line-clause-kept : goal.returns-in_err-line-clause-kept
 returns-in_err-line-clause-kept c = keeps_then c.args.store.now c.loop-atom.store c.insert.new.store c.loop-atom.invariant.kept c.insert.ensures.kept

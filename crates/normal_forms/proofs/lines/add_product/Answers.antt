@@ -11,7 +11,7 @@ pub returns-in-Some-clause-added : goal.returns-in-Some-clause-added
 returns-in-Some-clause-added c =
     let made = insert_all (atom_kit (context_of c.args.context)) c.args.inner (Some (atoms c.args.store.now c.args.line.now)) (atoms c.args.store.now c.args.other.now) in
     let some = subst (λ (r : Option (List FormulaId)). IsLineIf (context_of c.args.context) c.product.new.store made r) c.in-Some.is c.in_ok-product.ensures.inserted in
-    let done = something_added (context_of c.args.context) c.args.inner c.args.store.now c.product.new.store c.product.ensures.kept c.len-nodes.ensures.nodes c.args.lines.now.items made c.in-Some.product c.requires.lines some in
+    let done = something_added (context_of c.args.context) c.args.inner c.args.store.now c.product.new.store c.product.ensures.kept c.args.lines.now.items made c.in-Some.product c.requires.lines some in
     on_ok (c.add.new.lines.items ≡ add c.args.lines.now.items c.in-Some.product) _ c.add.result c.add.ensures.added
     (λ e. subst (λ (ls : List (List FormulaId)). AreLines (context_of c.args.context) c.product.new.store (add_if (atom_kit (context_of c.args.context)) c.args.inner (lines c.args.store.now c.args.lines.now.items) made) ls) (sym e) done)
 

@@ -13,4 +13,4 @@ returns-clause-joined c =
     (sym c.if-each_with_each.false)
     (subst (λ (ls : List (List FormulaId)). AreLines (context_of c.args.context) c.args.store.now (joined_lines (atom_kit (context_of c.args.context)) c.args.inner false (lines c.args.store.now c.args.lines.items) (lines c.args.store.now c.args.more.items)) ls)
     (sym c.in_ok-add_all.ensures.added)
-    (all_added (context_of c.args.context) c.args.inner c.args.store.now c.len-nodes.ensures.nodes c.args.lines.items c.args.more.items c.requires.lines c.requires.more))
+    (all_added (context_of c.args.context) c.args.inner c.args.store.now c.args.lines.items c.args.more.items c.requires.lines c.requires.more))

@@ -46,6 +46,9 @@ loop-line-preserved c =
           c.loop-line-test.true c.loop-line.invariant.kept c.joined.ensures.kept valid c.loop-line.invariant.made made);
     }
 
+pub returns-clause-kept : goal.returns-clause-kept
+returns-clause-kept c = keeps_then c.args.store.now c.loop-line.store c.joined-2.new.store c.loop-line.invariant.kept c.joined-2.ensures.kept
+
 pub returns-clause-made : goal.returns-clause-made
 returns-clause-made c =
     let items : List (List FormulaId) = c.deref-line-items.result.now in
