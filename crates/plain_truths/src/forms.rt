@@ -1,8 +1,9 @@
 // Forms and atoms with the numbers of a point for the names that no quantifier around them binds.
-ghost use Rattle.std.specs.Prelude.{◌≡◌, true, pos, ◌<ℤ◌, MatchResult};
+ghost use Rattle.std.specs.Prelude.{◌≡◌, true, pos, ◌<ℤ◌, MatchResult, IfOk};
 ghost use Rattle.formula_meaning.specs.Atom.{AtomIn};
 ghost use Rattle.elimination_reference.specs.PutIn.{form_put_within};
 ghost use Rattle.atom_normal.specs.Atoms.{atom_of, context_of, IsWellFormed};
+ghost use Rattle.linear_forms.specs.Terms.{IsLinear};
 ghost use Rattle.linear_forms.specs.Values.{point_of};
 ghost use Rattle.linear_forms.specs.Linear.{terms_of};
 ghost use Rattle.nnf_substitution.specs.Placed.{Fails};
@@ -54,7 +55,8 @@ fn form_put(
     form: &Linear,
     at: &Values,
 ) -> Result<Linear, PointError>
-    ensures { MatchResult result (IsFormPut (point_of at.now) (around names.now) form.now) (λ e. Fails e (form_put_within (point_of at.now) (around names.now) form.now)) }
+    ensures put { MatchResult result (IsFormPut (point_of at.now) (around names.now) form.now) (λ e. Fails e (form_put_within (point_of at.now) (around names.now) form.now)) }
+    ensures linear { IfOk result IsLinear }
 {
     let Parts { kept, out } = parted(alloc, names, form, at)?;
     let others = Linear::of(out, form.constant_part());

@@ -39,8 +39,8 @@ of-requires c =
     = λ i. record { terms = c.in_ok-kept.ensures.parted.stay i; constant = k i } in
     subst IsLinear (sym e) (kept_linear p ns f n l (below_not_zero v c.parted.ensures.positive) c.in_ok-kept.ensures.parted.within w)
 
-pub returns-in-Some : goal.returns-in-Some
-returns-in-Some c =
+pub returns-in-Some-clause-put : goal.returns-in-Some-clause-put
+returns-in-Some-clause-put c =
     let v = c.args.at.now in
     let p = point_of v in
     let ns = around c.args.names.now in
@@ -55,8 +55,8 @@ returns-in-Some c =
     let e : c.of.result ≡ record { terms = terms_kept p ns f.terms; constant = n } = c.of.ensures.form ∙ (λ i. record { terms = parts.stay i; constant = k i }) in
     subst (IsFormPut p ns f) (sym e) (form_is_put v c.parted.ensures.positive ns f n rule is parts.within)
 
-pub returns-in-None : goal.returns-in-None
-returns-in-None c =
+pub returns-in-None-clause-put : goal.returns-in-None-clause-put
+returns-in-None-clause-put c =
     let v = c.args.at.now in
     let p = point_of v in
     let ns = around c.args.names.now in
