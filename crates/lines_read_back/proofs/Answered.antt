@@ -97,7 +97,7 @@ module _ (s : State) (limit : ℕ) (t : Tree) (bare : IsBare s) (own : IsOwnForm
   answer_is answer next h =
       let a : AnswersSaid s limit true (Echo w) answer next = subst (λ (z : State). AnswersSaid z limit true (Echo w) answer next) same_state h in
       let told = a.answered.1.1 in
-      same_line a.answered.1.0 answer next (told.2 ∙ ap₂ (λ ns g. tree_text ns g) a.named (told.1 ∙ same_tree)) (a.after ∙ ap (with_names s) a.named) a.answered.1.2
+      same_line a.answered.1.0 answer next (told.2 ∙ ap₂ (λ ns g. tree_text ns g) a.named (told.1.asked ∙ same_tree)) (a.after ∙ ap (with_names s) a.named) a.answered.1.2
 
   only : (result : Result Line StatementError) (next : State) → Reply s limit (line_text s.names t) result next → IsSameLine s (tree_text s.names t) result next
   only (Ok answer) next r =
@@ -107,7 +107,7 @@ module _ (s : State) (limit : ℕ) (t : Tree) (bare : IsBare s) (own : IsOwnForm
 
   -- and there is this one
   answers : (bytes : Vec ℕ Global) → bytes.items ≡ tree_text s.names t → AnswersCommand s limit true (Echo w) s.names (line.Printed bytes)
-  answers bytes e = (λ c l. no_cause c, (tree_text s.names t, (t, sym same_tree, refl), (refl, e, let l = short in omega arith)))
+  answers bytes e = (λ c l. no_cause c, (tree_text s.names t, (t, record { asked = sym same_tree; numbers = own.numbers }, refl), (refl, e, let l = short in omega arith)))
 
   answered : (bytes : Vec ℕ Global) → bytes.items ≡ tree_text s.names t → Reply s limit (line_text s.names t) (Ok (line.Printed bytes)) s
   answered bytes e = record {

@@ -1,4 +1,3 @@
-pub mod Numbers
 pub mod Answered
 pub mod Bare
 pub mod Printed

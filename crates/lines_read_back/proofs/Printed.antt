@@ -20,13 +20,14 @@ use Rattle.redlog_reader.specs.declared.read.TheConstants.{BYTE_LIMIT}
 use Rattle.redlog_reader.proofs.Whole.{spells_once}
 use Rattle.redlog_printer.specs.Text.{tree_text}
 use Rattle.printed_formulas.specs.Levels.{tree_level}
-use Rattle.printed_formulas.specs.Round.{AtomFits, IsPrintable, line_text}
+use Rattle.formula_meaning.specs.Numbers.{IsAtomInLimit}
+use Rattle.printed_formulas.specs.Round.{IsPrintable, line_text}
 use Rattle.printed_formulas.proofs.Echo.{deep_text_is_nesting}
 use Rattle.session_commands.specs.declared.line.Line.TheVariants as line
 use Rattle.session_commands.specs.declared.line.StatementError.TheVariants as error
 use Rattle.session_commands.specs.State.{State}
 use Rattle.session_commands.specs.Parts.{given_of}
-use Rattle.session_commands.specs.Commands.{formula_of, entries_of, entry_names, named, resolved, negated_of, IsSimplification, IsCleanAnswer, IsCondition, MayGive, HasAnswerNames, GivesFormula}
+use Rattle.session_commands.specs.Commands.{formula_of, entries_of, entry_names, named, resolved, negated_of, IsSimplification, IsCleanAnswer, IsCondition, IsFormulaFor, MayGive, HasAnswerNames, GivesFormula}
 use Rattle.session_commands.specs.Causes.{Use, InSomePart, IsAccepted}
 use Rattle.session_commands.specs.Keeping.{IsSessionFormula}
 use Rattle.session_commands.specs.Reply.{Tells, Answers}
@@ -36,10 +37,9 @@ use Rattle.session_commands.proofs.EliminatedLemmas.{unquantified_bound, within_
 use Rattle.session_commands.proofs.NameLemmas.{numbers_stay}
 use Rattle.session_commands.proofs.PrenexLemmas.{prenex_formula}
 use Rattle.session_commands.proofs.SoundLemmas.{AreSessionFormulas, resolved_formula, negated_formula}
-use Rattle.lines_read_back.specs.ReadBack.{IsBare, IsOwnFormula, IsPrinted, PrintedIsFormula, IsAnsweredBy, EchoIsAnswered}
+use Rattle.lines_read_back.specs.ReadBack.{IsBare, IsEcho, PrintedIsFormula, IsAnsweredBy, EchoIsAnswered}
 use Rattle.lines_read_back.proofs.Answered.{text_is_answered}
 use Rattle.lines_read_back.proofs.Bare.{proper_formula, named_variables, answer_variables, spelled_proper}
-use Rattle.lines_read_back.proofs.Numbers.{resolved_fits, negated_fits}
 
 -- ---- what is given
 
@@ -73,9 +73,6 @@ module _ (z : State) (limit : ℕ) (u : Use) (c : CommandTree) (numbers : names_
 
   resolved_one : IsSessionFormula z.context (length z.names) (resolved z c)
   resolved_one = resolved_formula z.context z.bound z.names f (none_bound z.context (length z.names) z.bound unbound) numbers proper readable
-
-  resolved_numbers : Every AtomFits (resolved z c)
-  resolved_numbers = resolved_fits z.context z.bound z.names f unbound numbers proper readable
 
   resolved_low : height (resolved z c) ≤ most_height
   resolved_low = let e = resolving_keeps_height z.context z.bound z.names f in let flat : ¬ (most_height < height (resolved z c)) = (λ h. readable.flat (subst (λ n. most_height < n) e h)) in omega arith
@@ -121,74 +118,54 @@ module _ (z : State) (limit : ℕ) (u : Use) (c : CommandTree) (numbers : names_
       }
 
 -- the names after the answer are these, but for a prenex form
-module _ (z next : State) (limit : ℕ) (u : Use) (context : next.context ≡ z.context) (text : List ℕ) (t : Tree) (e : text ≡ tree_text next.names t) where
+module _ (z next : State) (limit : ℕ) (u : Use) (context : next.context ≡ z.context) (t : Tree) where
   -- a formula of the state before is one of the state after
   same_formula : next.names ≡ z.names → IsSessionFormula z.context (length z.names) t → IsSessionFormula next.context (length next.names) t
   same_formula n h = subst (λ c. IsSessionFormula c (length next.names) t) (sym context) (subst (λ ns. IsSessionFormula z.context (length ns) t) (sym n) h)
 
   given_formula : (c : CommandTree) → GivesFormula c → names_after z.names (formula_of c) ≡ z.names → IsWritableFormula (formula_of c) → z.bound ≡ [] → IsAccepted z limit u c
-      → MayGive z limit c t → HasAnswerNames z c next.names → IsPrinted z limit c text next
-  given_formula (Echo f) b numbers proper unbound accepted given n = record {
-    tree = t;
-    given = given;
-    text_is = e;
-    formula = same_formula n (subst (IsSessionFormula z.context (length z.names)) (sym given) (resolved_one z limit u (Echo f) numbers proper unbound accepted));
-    numbers = λ k. subst (Every AtomFits) (sym given) (resolved_numbers z limit u (Echo f) numbers proper unbound accepted);
-    low = λ k. subst (λ (t : Tree). height t ≤ most_height) (sym given) (resolved_low z limit u (Echo f) numbers proper unbound accepted);
-  }
-  given_formula (Nnf f) b numbers proper unbound accepted given n = record {
-    tree = t;
-    given = given;
-    text_is = e;
-    formula = same_formula n (subst (IsSessionFormula z.context (length z.names)) (sym given)
-        (negated_formula z.context (length z.names) (resolved z (Nnf f)) (resolved_one z limit u (Nnf f) numbers proper unbound accepted)));
-    numbers = λ k. subst (Every AtomFits) (sym given) (negated_fits (resolved z (Nnf f)) (resolved_numbers z limit u (Nnf f) numbers proper unbound accepted));
-    low = λ k. absurd k;
-  }
-  given_formula (Pnf f) b numbers proper unbound accepted h n = record {
-    tree = t;
-    given = h;
-    text_is = e;
-    formula = subst (λ c. IsSessionFormula c (length next.names) t) (sym context)
-        (prenex_formula z.context z.names next.names (resolved z (Pnf f)) t (resolved_one z limit u (Pnf f) numbers proper unbound accepted) h.form n);
-    numbers = λ k. absurd k;
-    low = λ k. absurd k;
-  }
-  given_formula (Dnf f) b numbers proper unbound accepted h n = record {
-    tree = t;
-    given = h;
-    text_is = e;
-    formula = same_formula n (clean_one z limit u (Dnf f) numbers proper unbound accepted Conjunction t h);
-    numbers = λ k. absurd k;
-    low = λ k. absurd k;
-  }
-  given_formula (Cnf f) b numbers proper unbound accepted h n = record {
-    tree = t;
-    given = h;
-    text_is = e;
-    formula = same_formula n (clean_one z limit u (Cnf f) numbers proper unbound accepted Disjunction t h);
-    numbers = λ k. absurd k;
-    low = λ k. absurd k;
-  }
-  given_formula (Simpl f given) b numbers proper unbound accepted h n = record {
-    tree = t;
-    given = h;
-    text_is = e;
-    formula = same_formula n (simplified_one z limit u (Simpl f given) numbers proper unbound accepted given t h);
-    numbers = λ k. absurd k;
-    low = λ k. absurd k;
-  }
-  given_formula (Qe f given) b numbers proper unbound accepted h n = record {
-    tree = t;
-    given = h;
-    text_is = e;
-    formula = same_formula n (condition_formula z limit u (Qe f given) numbers proper unbound accepted given t h);
-    numbers = λ k. absurd k;
-    low = λ k. absurd k;
-  }
-  given_formula (Qea f g) b numbers proper unbound accepted given n = absurd b
-  given_formula (Holds f es) b numbers proper unbound accepted given n = absurd b
-  given_formula (Sample f es) b numbers proper unbound accepted given n = absurd b
+      → IsFormulaFor z limit c t → HasAnswerNames z c next.names → IsSessionFormula next.context (length next.names) t
+  given_formula (Echo f) b numbers proper unbound accepted h n =
+      same_formula n (subst (IsSessionFormula z.context (length z.names)) (sym h) (resolved_one z limit u (Echo f) numbers proper unbound accepted))
+  given_formula (Nnf f) b numbers proper unbound accepted h n =
+      same_formula n (subst (IsSessionFormula z.context (length z.names)) (sym h)
+      (negated_formula z.context (length z.names) (resolved z (Nnf f)) (resolved_one z limit u (Nnf f) numbers proper unbound accepted)))
+  given_formula (Pnf f) b numbers proper unbound accepted h n =
+      subst (λ c. IsSessionFormula c (length next.names) t) (sym context)
+      (prenex_formula z.context z.names next.names (resolved z (Pnf f)) t (resolved_one z limit u (Pnf f) numbers proper unbound accepted) h.form n)
+  given_formula (Dnf f) b numbers proper unbound accepted h n = same_formula n (clean_one z limit u (Dnf f) numbers proper unbound accepted Conjunction t h)
+  given_formula (Cnf f) b numbers proper unbound accepted h n = same_formula n (clean_one z limit u (Cnf f) numbers proper unbound accepted Disjunction t h)
+  given_formula (Simpl f given) b numbers proper unbound accepted h n = same_formula n (simplified_one z limit u (Simpl f given) numbers proper unbound accepted given t h)
+  given_formula (Qe f given) b numbers proper unbound accepted h n = same_formula n (condition_formula z limit u (Qe f given) numbers proper unbound accepted given t h)
+  given_formula (Qea f g) b numbers proper unbound accepted h n = absurd b
+  given_formula (Holds f es) b numbers proper unbound accepted h n = absurd b
+  given_formula (Sample f es) b numbers proper unbound accepted h n = absurd b
+
+  given_low : (c : CommandTree) → names_after z.names (formula_of c) ≡ z.names → IsWritableFormula (formula_of c) → z.bound ≡ [] → IsAccepted z limit u c
+      → IsFormulaFor z limit c t → IsEcho c → height t ≤ most_height
+  given_low (Echo f) numbers proper unbound accepted h k =
+      subst (λ (t : Tree). height t ≤ most_height) (sym h) (resolved_low z limit u (Echo f) numbers proper unbound accepted)
+  given_low (Nnf f) numbers proper unbound accepted h k = absurd k
+  given_low (Pnf f) numbers proper unbound accepted h k = absurd k
+  given_low (Dnf f) numbers proper unbound accepted h k = absurd k
+  given_low (Cnf f) numbers proper unbound accepted h k = absurd k
+  given_low (Simpl f given) numbers proper unbound accepted h k = absurd k
+  given_low (Qe f given) numbers proper unbound accepted h k = absurd k
+  given_low (Qea f g) numbers proper unbound accepted h k = absurd k
+  given_low (Holds f es) numbers proper unbound accepted h k = absurd k
+  given_low (Sample f es) numbers proper unbound accepted h k = absurd k
+
+-- ---- a line that is read again
+
+read_again : (next : State) (t : Tree) (text : List ℕ) → IsBare next → IsSessionFormula next.context (length next.names) t → Every IsAtomInLimit t → text ≡ tree_text next.names t
+    → height t ≤ most_height → length (text ++ codes ";") ≤ BYTE_LIMIT → ¬ (IsDeep (text ++ codes ";")) → (more : ℕ) → IsAnsweredBy next more (text ++ codes ";") text
+read_again next t text bare own fits text_is low short shallow more =
+    let printable : IsPrintable (length next.names) t = record { numbers = fits; names = own.within; joins = own.members } in
+    let line_short : length (line_text next.names t) ≤ BYTE_LIMIT = subst (λ ts. length (ts ++ codes ";") ≤ BYTE_LIMIT) text_is short in
+    let line_shallow : ¬ (IsDeep (line_text next.names t)) = subst (λ ts. ¬ (IsDeep (ts ++ codes ";"))) text_is shallow in
+    let level : ¬ (LEVEL_LIMIT < tree_level t) = (λ l. line_shallow (deep_text_is_nesting next.names t bare.names printable line_short l)) in
+    subst (λ ts. IsAnsweredBy next more (ts ++ codes ";") ts) (sym text_is)
+    (text_is_answered next more t bare (record { formula = own; numbers = fits; low = low }) (record { short = line_short; shallow = omega arith }))
 
 told_formula : (z : State) (limit : ℕ) (c : CommandTree) (names : List (List ℕ)) (text : List ℕ) → GivesFormula c → Tells z limit c names text → (t : Tree) × MayGive z limit c t × (text ≡ tree_text names t)
 told_formula z limit (Echo f) names text b h = h
@@ -202,6 +179,9 @@ told_formula z limit (Qea f g) names text b h = absurd b
 told_formula z limit (Holds f es) names text b h = absurd b
 told_formula z limit (Sample f es) names text b h = absurd b
 
+abbrev use_of_line : Use
+use_of_line = record { target = None; printed = true }
+
 pub printed_is_formula : PrintedIsFormula
 printed_is_formula s limit piece c bytes next bare built spelled r =
     let a = subst (λ (u : StatementTree). Answers s limit u.printed u.action (line.Printed bytes) next) (spells_once piece r.statement (record { action = Say c; printed = true }) r.spelled spelled) r.answered in
@@ -212,25 +192,24 @@ printed_is_formula s limit piece c bytes next bare built spelled r =
     let text_is : bytes.items ≡ tree_text next.names told.0 = a.answered.1.2.1 ∙ told.2 ∙ ap (λ ns. tree_text ns told.0) (sym names) in
     let numbers = numbers_stay (formula_of c) s.names (all_variables (given_of c) ++ entry_names (entries_of c)) in
     let after : HasAnswerNames z c next.names = subst (HasAnswerNames z c) (sym names) a.named in
-    let here : IsPrinted z limit c bytes.items next = given_formula z next limit (record { target = None; printed = true }) (ap (λ (y : State). y.context) a.after) bytes.items told.0 text_is c built numbers
-    (proper_formula c proper) bare.unbound a.answered.0 told.1 after in
     let bare_next : IsBare next = record {
       names = answer_variables z c next.names (named_variables s c proper bare.names) after;
       unbound = ap (λ (y : State). y.bound) a.after ∙ bare.unbound;
     } in
-    (bare_next, here)
-
--- ---- a line that is read again
+    let same : next.context ≡ z.context = ap (λ (y : State). y.context) a.after in
+    let own = given_formula z next limit use_of_line same told.0 c built numbers (proper_formula c proper) bare.unbound a.answered.0 told.1.asked after in (
+      bare_next,
+      record {
+        tree = told.0;
+        given = told.1;
+        text_is = text_is;
+        formula = own;
+        low = given_low z next limit use_of_line same told.0 c numbers (proper_formula c proper) bare.unbound a.answered.0 told.1.asked;
+        answered = read_again next told.0 bytes.items bare_next own told.1.numbers text_is;
+      },
+    )
 
 pub echo_is_answered : EchoIsAnswered
 echo_is_answered s limit piece f bytes next bare spelled r short shallow more =
     let p = printed_is_formula s limit piece (Echo f) bytes next bare tt spelled r in
-    let q = p.1 in
-    let fits : Every AtomFits q.tree = q.numbers tt in
-    let printable : IsPrintable (length next.names) q.tree = record { numbers = fits; names = q.formula.within; joins = q.formula.members } in
-    let line_short : length (line_text next.names q.tree) ≤ BYTE_LIMIT = subst (λ text. length (text ++ codes ";") ≤ BYTE_LIMIT) q.text_is short in
-    let line_shallow : ¬ (IsDeep (line_text next.names q.tree)) = subst (λ text. ¬ (IsDeep (text ++ codes ";"))) q.text_is shallow in
-    let level : ¬ (LEVEL_LIMIT < tree_level q.tree) = (λ l. line_shallow (deep_text_is_nesting next.names q.tree p.0.names printable line_short l)) in
-    let own : IsOwnFormula next q.tree = record { formula = q.formula; numbers = fits; low = q.low tt } in
-    subst (λ text. IsAnsweredBy next more (text ++ codes ";") text) (sym q.text_is)
-    (text_is_answered next more q.tree p.0 own (record { short = line_short; shallow = omega arith }))
+    p.1.answered (p.1.low tt) short shallow more

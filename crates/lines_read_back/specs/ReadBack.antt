@@ -6,12 +6,13 @@ use Rattle.formula_meaning.specs.Every.{Every}
 use Rattle.formula_meaning.specs.Sizes.{height}
 use Rattle.formula_meaning.specs.Tree.{Tree}
 use Rattle.qe_syntax.specs.Trees.{FormulaTree}
-use Rattle.qe_syntax.specs.Statements.{CommandTree, Echo, Nnf, Say}
+use Rattle.qe_syntax.specs.Statements.{CommandTree, Echo, Nnf, Pnf, Dnf, Cnf, Simpl, Qe, Qea, Holds, Sample, Say}
 use Rattle.formula_tree.specs.Causes.{most_height}
 use Rattle.redlog_reader.specs.Statement.{Spells, IsDeep}
 use Rattle.redlog_reader.specs.declared.read.TheConstants.{BYTE_LIMIT}
 use Rattle.redlog_printer.specs.Text.{tree_text}
-use Rattle.printed_formulas.specs.Round.{AreVariables, AtomFits, IsReadable, line_text}
+use Rattle.formula_meaning.specs.Numbers.{IsAtomInLimit}
+use Rattle.printed_formulas.specs.Round.{AreVariables, IsReadable, line_text}
 use Rattle.session_commands.specs.declared.line.Line.{Line}
 use Rattle.session_commands.specs.declared.line.Line.TheVariants as line
 use Rattle.session_commands.specs.declared.line.StatementError.{StatementError}
@@ -29,7 +30,7 @@ pub record IsBare (s : State) : Type 0 where
 -- a formula as the session has it, with numbers within the limit, and no higher than a resolved formula may be
 pub record IsOwnFormula (s : State) (t : Tree) : Type 0 where
   pub formula : IsSessionFormula s.context (length s.names) t
-  pub numbers : Every AtomFits t
+  pub numbers : Every IsAtomInLimit t
   pub low : height t ≤ most_height
 
 -- the line with this text is printed, and the state stays; or memory ran out
@@ -57,26 +58,28 @@ NamesStayWritable = (s : State) (limit : ℕ) (piece : List ℕ) (answer : Line)
 -- the command asks for the formula as it is
 abbrev pub IsEcho : CommandTree → Type 0
 IsEcho (Echo f) = Unit {0}
-IsEcho _ = ⊥
-
--- the numbers of the answer are those of the formula as it is read, or of its negation normal form
-abbrev pub KeepsNumbers : CommandTree → Type 0
-KeepsNumbers (Echo f) = Unit {0}
-KeepsNumbers (Nnf f) = Unit {0}
-KeepsNumbers _ = ⊥
+IsEcho (Nnf f) = ⊥
+IsEcho (Pnf f) = ⊥
+IsEcho (Dnf f) = ⊥
+IsEcho (Cnf f) = ⊥
+IsEcho (Simpl f given) = ⊥
+IsEcho (Qe f given) = ⊥
+IsEcho (Qea f given) = ⊥
+IsEcho (Holds f es) = ⊥
+IsEcho (Sample f es) = ⊥
 
 -- The text is that of a formula which the command may give in the state s, in which its variables have their numbers. In the state after it the formula is one as the
--- session has it, and the text has its names. It is no higher than a resolved formula may be where the command asks for the formula as it is, and its numbers are within
--- the limit where the command keeps them.
+-- session has it, and the text has its names. It is no higher than a resolved formula may be where the command asks for the formula as it is. Where it is so low, and the
+-- text no longer and no deeper than the reader takes it, the text is answered with itself.
 pub record IsPrinted (s : State) (limit : ℕ) (c : CommandTree) (text : List ℕ) (next : State) : Type 0 where
   pub tree : Tree
   pub given : MayGive s limit c tree
   pub text_is : text ≡ tree_text next.names tree
   pub formula : IsSessionFormula next.context (length next.names) tree
-  pub numbers : KeepsNumbers c → Every AtomFits tree
   pub low : IsEcho c → height tree ≤ most_height
+  pub answered : height tree ≤ most_height → length (text ++ codes ";") ≤ BYTE_LIMIT → ¬ (IsDeep (text ++ codes ";")) → (more : ℕ) → IsAnsweredBy next more (text ++ codes ";") text
 
--- What a formula command prints in a state in which nothing is bound is such a text, and the state after it is again one in
+-- What each formula command prints in a state in which nothing is bound is such a text, and the state after it is again one in
 -- which nothing is bound.
 abbrev pub PrintedIsFormula : Type 0
 PrintedIsFormula =

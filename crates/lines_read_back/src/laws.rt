@@ -13,14 +13,14 @@ pub fn names_stay_writable()
     ensures { NamesStayWritable }
 {}
 
-/// What a formula command prints in a state in which nothing is bound is the text of a formula as the session has it. Its
-/// numbers are within the limit where it is printed as it is or as a negation normal form, and it is low enough where it is
-/// printed as it is.
+/// What each formula command prints in a state in which nothing is bound is the text of a formula as the session has it, whose
+/// numbers are within the limit. So it is answered with the same line again, where it is no higher than a resolved formula may
+/// be, at most 1 MiB long and 512 levels deep. It is low enough where it is printed as it is.
 pub fn printed_is_formula()
     ensures { PrintedIsFormula }
 {}
 
-/// So a printed formula is answered with the same line again, as long as it is at most 1 MiB long and 512 levels deep.
+/// So a formula that is printed as it is is answered with the same line again, as long as it is at most 1 MiB long and 512 levels deep.
 pub fn echo_is_answered()
     ensures { EchoIsAnswered }
 {}

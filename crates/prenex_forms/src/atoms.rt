@@ -115,7 +115,8 @@ fn changed(alloc: Global, now: &[usize], atom: &Atom) -> Result<Atom, AllocError
 // The form with each name as the list says, where no two become one.
 fn changed_form(alloc: Global, now: &[usize], form: &Linear) -> Result<Linear, AllocError>
     requires { IsOneToOneForm (now_of now.now) form.now }
-    ensures { IfOk result (λ r. gathered r ≡ gathered (form_named (now_of now.now) form.now)) }
+    ensures same { IfOk result (λ r. gathered r ≡ gathered (form_named (now_of now.now) form.now)) }
+    ensures linear { IfOk result IsLinear }
 {
     let mut sum = WholeSum::of(alloc, form.constant_part());
     for place in 0..form.places() {

@@ -1,5 +1,5 @@
 -- Which trees are printed so that they are read back, and what is proved of them.
-use Rattle.std.specs.Prelude.{◌≡◌, ◌<◌, ℕ, ℤ, pos, ◌≤◌, true, List, [], ◌++◌, length, codes}
+use Rattle.std.specs.Prelude.{◌≡◌, ◌<◌, ℕ, ◌≤◌, true, List, [], ◌++◌, length, codes}
 use Rattle.std.specs.List.{AllByRecursion, IsDistinct}
 use Rattle.formula_meaning.specs.Context.{Context}
 use Rattle.formula_meaning.specs.Atom.{Atom}

@@ -119,6 +119,7 @@ module _ (s : State) (f : FormulaTree) (gs : FormulaTrees) (numbers : ArePartsNu
         possible = l.possible;
         normal = l.simplified.normal;
         members = orderly_members (IsNormal s.context) m.guard l.simplified.orderly;
+        numbers = l.numbers;
         once = subst (IsPermutation (case_names t)) (sym (ap answer_names l.answers ∙ r.exact.in_order)) (IsPermutation-refl (case_names t));
         answers = subst (AreAnswersOver s.context (IsFree t)) (sym l.answers) r.answers;
         exact = λ p of hold.

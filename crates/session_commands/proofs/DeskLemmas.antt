@@ -54,6 +54,7 @@ sound_with s names h d v l = record {
   names_once = d;
   variables = v;
   formulas = λ x t e. more_formula s.context (length s.names) (length names) t l (h.formulas x t e);
+  numbers = h.numbers;
 }
 
 -- ---- formulas given up
@@ -97,7 +98,7 @@ pub cleared_desk : (old : Desk) (context : Theory) (bindings : List (List ℕ ×
 unfolding IsDistinct
 cleared_desk old context bindings nodes kept e h =
     subst (λ es. IsDesk (record { alloc = old.alloc; context = context; names = old.names; bindings = es; store = nodes; kept = kept })) (sym e)
-    (record { ids = tt; bound_once = tt; sound = record { names_once = h.sound.names_once; variables = h.sound.variables; formulas = λ x t f. absurd (cc) } })
+    (record { ids = tt; bound_once = tt; sound = record { names_once = h.sound.names_once; variables = h.sound.variables; formulas = λ x t f. absurd (cc); numbers = λ x t f. absurd (cc) } })
 
 -- ---- steps one after another
 

@@ -24,8 +24,7 @@ use Rattle.clean_forms.specs.Clean.{IsCleanForm}
 use Rattle.clean_forms.specs.Laws.{IsNoLonger}
 use Rattle.clean_forms.specs.Plain.{plain_form}
 use Rattle.clean_forms.proofs.FormShapes.{form_free}
-use Rattle.theory_simplifier.specs.Constants.{IsWithin}
-use Rattle.theory_simplifier.proofs.Assuming.{simplifiable, orderly_normal}
+use Rattle.theory_simplifier.proofs.Assuming.{orderly_normal}
 use Rattle.simplified_formulas.specs.Trees.{IsSimplifiable}
 use Rattle.formula_meaning.specs.Sizes.{nodes}
 use Rattle.formula_store.specs.declared.id.FormulaId.{FormulaId}
@@ -328,9 +327,6 @@ cleaned_as c j f t clean truth shape names few short = record {
   nodes = few;
   text = short;
 }
-
-pub can_be_simplified : (c : Context) (f : Tree) → IsOrderly (IsNormal c) f → Every IsWithin f → IsSimplifiable c f
-can_be_simplified c f h k = simplifiable c f h k
 
 pub negation_free : (f : Tree) → IsQuantifierFree f → IsQuantifierFree (normal_form negated_normal f)
 negation_free f h = (normal_form_quantifier_free negated_normal f h).0

@@ -17,6 +17,7 @@ use Rattle.elimination_reference.proofs.Turning.{normal_truths, normal_inside}
 use Rattle.atom_normal.specs.NormalForm.{IsNormal}
 use Rattle.formula_meaning.specs.Atom.{Says}
 use Rattle.formula_meaning.specs.Every.{Every}
+use Rattle.formula_meaning.specs.Numbers.{IsAtomInLimit}
 use Rattle.formula_meaning.specs.Point.{Point}
 use Rattle.formula_meaning.specs.Sizes.{nodes}
 use Rattle.formula_meaning.specs.Some.{EachOf}
@@ -35,7 +36,7 @@ use Rattle.session_commands.specs.declared.formulas.Wanted.TheVariants as wanted
 use Rattle.session_commands.specs.State.{State, with_names}
 use Rattle.session_commands.specs.Parts.{given_of}
 use Rattle.session_commands.specs.Assumptions.{atoms_alone, assumed, Hold}
-use Rattle.session_commands.specs.Commands.{formula_of, named, negated_of, Gives, MayGive, HasAnswerNames, IsPrenexAnswer, IsSimplification, IsCondition}
+use Rattle.session_commands.specs.Commands.{formula_of, named, negated_of, Gives, IsFormulaFor, HasAnswerNames, IsPrenexAnswer, IsSimplification, IsCondition}
 use Rattle.session_commands.specs.Causes.{Use, RenamingPasses, IsCause, rank, HasNoRoom, IsTooLarge, HasManyNodes, formula_line, MayRefuse, HasNoCauseBelow, Refuses}
 use Rattle.session_commands.specs.Keeping.{IsSessionFormula, IsSound}
 use Rattle.session_commands.specs.Reply.{IsLine}
@@ -304,7 +305,7 @@ module _ (f : FormulaTree) (s : State) (limit : ℕ) (t : Tree) where
           members = orderly_members (IsNormal s.context) t h.simplified.orderly;
         }
 
-  gives : (w : Wanted) → IsReady s w f → IsSound s → IsSessionFormula s.context (length s.names) resolution → ArePartsNumbered s.names f (given_trees w) → Given w → MayGive s limit (command_of w f) t
+  gives : (w : Wanted) → IsReady s w f → IsSound s → IsSessionFormula s.context (length s.names) resolution → ArePartsNumbered s.names f (given_trees w) → Given w → IsFormulaFor s limit (command_of w f) t
   gives wanted.Given readable sound own numbers h = h
   gives wanted.NegationNormal readable sound own numbers h = h
   gives wanted.Prenex readable sound own numbers h = prenexing none readable.readable sound numbers own h
@@ -378,12 +379,12 @@ module _ (w : Wanted) (f : FormulaTree) (s : State) (numbers : ArePartsNumbered 
         let here = subst (λ ns. text_limit < length (formula_line target ns long.formula)) same_names long.long in
         short (k.0, subst (λ u. text_limit < length (formula_line target names u)) (one f s limit t w given long.formula long.given) here)
 
-    pub is_given : MayBind s.bound target t → (answer : Line) → IsLine printed (formula_line target names t) answer
+    pub is_given : Every IsAtomInLimit t → MayBind s.bound target t → (answer : Line) → IsLine printed (formula_line target names t) answer
         → ¬ (LineFault printed (formula_line target names t) error.Text) → IsGiven s limit (use_of target printed) (command_of w f) answer (state_with (with_names s names) target t)
-    is_given b answer line short = record {
+    is_given fits b answer line short = record {
       accepted = below_19 s limit (use_of target printed) (command_of w f) (clear_18 b) (not_long short);
       formula = t;
-      given = gives f s limit t w h sound own numbers given;
+      given = record { asked = gives f s limit t w h sound own numbers given; numbers = fits };
       names = names;
       named = named;
       line = line;

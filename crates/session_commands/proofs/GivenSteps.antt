@@ -5,6 +5,7 @@ use Rattle.std.specs.List.{AllByRecursion, fold, IsDistinct}
 use Rattle.std.specs.Map.{keys_of}
 use Rattle.formula_meaning.specs.Atom.{Atom}
 use Rattle.formula_meaning.specs.Every.{Every}
+use Rattle.formula_meaning.specs.Numbers.{IsAtomInLimit}
 use Rattle.formula_meaning.specs.Some.{EachOf}
 use Rattle.formula_meaning.specs.Tree.{Tree}
 use Rattle.atom_normal.specs.Atoms.{context_of}
@@ -21,6 +22,7 @@ use Rattle.formula_resolving.specs.Numbering.{Grows}
 use Rattle.formula_resolving.specs.Refusals.{AreIds}
 use Rattle.formula_store.specs.declared.id.FormulaId.{FormulaId}
 use Rattle.formula_store.specs.Nodes.{tree, IsId}
+use Rattle.formula_store.proofs.Numbers.{numbers_are_within}
 use Rattle.formula_meaning.specs.Within.{IsTreeWithin}
 use Rattle.formula_meaning.specs.Members.{HasTwoMembers}
 use Rattle.session_commands.specs.declared.desk.Desk.{Desk}
@@ -45,11 +47,12 @@ use Rattle.session_commands.proofs.VariableLemmas.{AllVariables, both, variables
 use Rattle.session_commands.proofs.GivenLemmas.{assumed_normal, named_is, numbers_of, refused_unready, refused_form, refused_target, refused_line, is_given, readable_formula, given_formula}
 
 -- a state with one more formula bound is sound
-sound_bound : (s : State) (x : List ℕ) (t : Tree) → IsSound s → IsSessionFormula s.context (length s.names) t → IsSound (state_with s (Some x) t)
-sound_bound s x t h k = record {
+sound_bound : (s : State) (x : List ℕ) (t : Tree) → IsSound s → IsSessionFormula s.context (length s.names) t → Every IsAtomInLimit t → IsSound (state_with s (Some x) t)
+sound_bound s x t h k fits = record {
   names_once = h.names_once;
   variables = h.variables;
   formulas = λ y u e. ⊎_elim (λ old. h.formulas y u old) (λ new. subst (IsSessionFormula s.context (length s.names)) (sym new) k) (bound_there s.bound x y t u e);
+  numbers = λ y u e. ⊎_elim (λ old. h.numbers y u old) (λ new. subst (Every IsAtomInLimit) (sym new) fits) (bound_there s.bound x y t u e);
 }
 
 -- the names with the variables of the formula and of these assumptions, which are those of the wanted form
@@ -190,7 +193,7 @@ module _ (w : Wanted) (f : FormulaTree) (desk : Desk) (numbers : ArePartsNumbere
 
       last_sound : (o : Option (List ℕ)) → IsSound (state_with (with_names (state_of desk) later.names) o (tree later.store id))
       last_sound None = later_sound
-      last_sound (Some x) = sound_bound (with_names (state_of desk) later.names) x (tree later.store id) later_sound session_formula
+      last_sound (Some x) = sound_bound (with_names (state_of desk) later.names) x (tree later.store id) later_sound session_formula (numbers_are_within later.store id made)
 
       last_ids : (o : Option (List ℕ)) → AreIds (IsId later.store) (bound_after later.bindings o id)
       last_ids None = later_desk.ids
@@ -206,7 +209,7 @@ module _ (w : Wanted) (f : FormulaTree) (desk : Desk) (numbers : ArePartsNumbere
       line_given : (answer : Line) → IsLineOf target printed (state_of later) (tree later.store id) answer → IsGiven (state_of desk) limit (use_of target printed) (command_of w f) answer (state_of (last target))
       line_given answer line =
           subst (IsGiven (state_of desk) limit (use_of target printed) (command_of w f) answer) (sym (last_state target))
-          (is_given w f (state_of desk) numbers limit target printed (tree later.store id) is.form is.ready h.sound (own is.ready) later.names is.names (may_bind line.may) answer line.line line.short)
+          (is_given w f (state_of desk) numbers limit target printed (tree later.store id) is.form is.ready h.sound (own is.ready) later.names is.names (numbers_are_within later.store id made) (may_bind line.may) answer line.line line.short)
 
       -- ---- what is given, and the desk after it
 

@@ -10,6 +10,11 @@ use Rattle.atom_normal.specs.NormalForm.{IsNormal}
 use Rattle.elimination_reference.specs.Cases.{case_sign, case_formula}
 use Rattle.elimination_reference.proofs.CasesExact.{says}
 use Rattle.sample_reference.specs.Sample.{IsTrueSample}
+use Rattle.std.specs.declared.vec.Vec.{Vec}
+use Rattle.std.specs.declared.alloc.Global.{Global}
+use Rattle.exact_numbers.specs.declared.fraction.Fraction.{Fraction}
+use Rattle.linear_forms.specs.declared.form.VarId.{VarId}
+use Rattle.sample_reference.specs.Seen.{values_of, sample_of}
 use Rattle.sample_reference.specs.Values.{Value, value_names}
 use Rattle.answer_texts.specs.Within.{AreValuesWithin}
 use Rattle.qe_syntax.specs.declared.statement.PointEntry.{PointEntry}
@@ -25,7 +30,7 @@ use Rattle.session_commands.specs.Asked.{HasNoneBelow}
 use Rattle.session_commands.specs.Causes.{HasNoCauseBelow}
 use Rattle.session_commands.specs.Commands.{negated_of}
 use Rattle.session_commands.specs.Keeping.{IsSessionFormula}
-use Rattle.session_commands.specs.Samples.{HasSample, IsSample}
+use Rattle.session_commands.specs.Samples.{HasSample, IsSample, IsValueInLimit}
 use Rattle.session_commands.specs.SampleSteps.{RefusesSample, SampleStop, IsSampleWithin}
 use Rattle.session_commands.specs.Steps.{use_of, HasNumbers, IsReadable}
 use Rattle.session_commands.proofs.CaseLemmas.{block_below, turned_says, turned_along}
@@ -40,6 +45,11 @@ values_within n (v ∷ vs) h = (h.0, values_within n vs h.1)
 pub sample_within : (c : Context) (n : ℕ) (t : Tree) (q : Point ℕ) → IsSessionFormula c n t → (sample : Option (List Value)) → IsTrueSample c t q sample → IsSampleWithin n sample
 sample_within c n t q own None h = tt
 sample_within c n t q own (Some values) h = values_within n values (subst (EachOf (λ x. x < n)) (sym h.names) (block_below c n t own))
+
+-- the program's values are within the limit
+values_in_limit : (vs : List (VarId × Fraction)) → EachOf IsValueInLimit (values_of vs)
+values_in_limit [] = tt
+values_in_limit (v ∷ vs) = ((v.1.numerator_within, v.1.denominator_within), values_in_limit vs)
 
 module _ (s : State) (f : FormulaTree) (es : List PointEntry) (p : NamedPoint) where
   abbrev t : Tree
@@ -71,6 +81,6 @@ module _ (s : State) (f : FormulaTree) (es : List PointEntry) (p : NamedPoint) w
         let b = turned_says s.context sign t (case_formula t) q of (says s.context t sign (case_formula t) normal (λ r o. (λ h. h, λ h. h))) in
         (λ x. b.0 (a.0 x), λ x. a.1 (b.1 x))
 
-    pub sample_is : (sample : Option (List Value)) → IsTrueSample s.context t q sample → IsSample s f p sample
+    pub sample_is : (o : Option (Vec (VarId × Fraction) Global)) → IsTrueSample s.context t q (sample_of o) → IsSample s f p (sample_of o)
     sample_is None h = λ k. h (there.0 k)
-    sample_is (Some values) h = record { there = there.1 h.asked; in_order = h.names; each = h.each; exact = h.matrix }
+    sample_is (Some values) h = record { there = there.1 h.asked; in_order = h.names; each = h.each; numbers = values_in_limit values.items; exact = h.matrix }

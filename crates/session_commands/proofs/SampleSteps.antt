@@ -126,7 +126,7 @@ module _ (old new : Desk) (f : FormulaTree) (es : List PointEntry) (desk : IsDes
     answer = record {
       point = point_of p;
       meant = a.meant;
-      sampled = sample_is s f es (point_of p) numbers desk.sound.names_once a.readable a.theory (asked_normal old new f es desk numbers k i p a) (sample_of o) h;
+      sampled = sample_is s f es (point_of p) numbers desk.sound.names_once a.readable a.theory (asked_normal old new f es desk numbers k i p a) o h;
     };
     within = sample_within s.context (length s.names) t (at_names s.names (point_of p)) (readable_formula f s numbers desk.sound proper a.readable) (sample_of o) h;
     short = sample_short s.context s.names t (at_names s.names (point_of p)) desk.sound.variables low o h;

@@ -2,7 +2,9 @@
 use Rattle.std.specs.Prelude.{◌≡◌, ◌≢◌, ℕ, List, [], ◌∷◌, Option, Some, None}
 use Rattle.formula_meaning.specs.Context.{Context}
 use Rattle.formula_meaning.specs.Atom.{Atom}
+use Rattle.formula_meaning.specs.Every.{Every}
 use Rattle.formula_meaning.specs.Formula.{No}
+use Rattle.formula_meaning.specs.Numbers.{IsAtomInLimit}
 use Rattle.formula_meaning.specs.Tree.{Tree}
 use Rattle.elimination_reference.specs.Cases.{Case, reference_cases}
 use Rattle.formula_meaning.specs.Measured.{Overflow, Nodes, done, stopped}
@@ -10,10 +12,11 @@ use Rattle.session_commands.specs.declared.line.StatementError.{StatementError}
 use Rattle.session_commands.specs.declared.line.StatementError.TheVariants as error
 use Rattle.session_commands.specs.Steps.{IsSimplifiedAs}
 
--- a case with its guard simplified under the atoms ks, where it has not become false
+-- a case with its guard simplified under the atoms ks, where it has not become false; the numbers of the guard are within the limit
 pub record IsCaseLeft (c : Context) (ks : List Atom) (k left : Case) : Type 0 where
   pub simplified : IsSimplifiedAs c ks k.guard left.guard
   pub possible : left.guard ≢ No
+  pub numbers : Every IsAtomInLimit left.guard
   pub answers : left.answers ≡ k.answers
 
 -- what is left of a case

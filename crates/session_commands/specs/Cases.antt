@@ -2,6 +2,7 @@
 use Rattle.std.specs.Prelude.{◌≢◌, ◌↔◌, ℕ, Bool, true, false, List, IsPermutation}
 use Rattle.formula_meaning.specs.Answer.{Holds}
 use Rattle.formula_meaning.specs.Every.{Every}
+use Rattle.formula_meaning.specs.Numbers.{IsAtomInLimit}
 use Rattle.formula_meaning.specs.Formula.{No, Or}
 use Rattle.formula_meaning.specs.Point.{Of}
 use Rattle.formula_meaning.specs.Shape.{IsQuantifierFree}
@@ -26,7 +27,7 @@ Turned true T = T
 Turned false T = ¬ T
 
 -- The guard has no quantifier and no free name but those of the resolved formula. It is Reduced under the assumptions and not false, with normal atoms and
--- lists of two members at least. The answers are for the names of the leading block, each once, in any order. Each has a place of the theory with a sorted form,
+-- lists of two members at least, and its numbers are within the limit. The answers are for the names of the leading block, each once, in any order. Each has a place of the theory with a sorted form,
 -- whose numbers are within the limit, over free names of the formula and names answered before. At every point of the theory where the assumptions are true, the
 -- guard is true exactly where the answers make true what stands behind the block, or for a block of all its negation.
 pub record IsCaseOf (s : State) (f : FormulaTree) (given : FormulaTrees) (k : Case) : Type 0 where
@@ -36,6 +37,7 @@ pub record IsCaseOf (s : State) (f : FormulaTree) (given : FormulaTrees) (k : Ca
   pub possible : k.guard ≢ No
   pub normal : Every (IsNormal s.context) k.guard
   pub members : HasTwoMembers k.guard
+  pub numbers : Every IsAtomInLimit k.guard
   pub once : IsPermutation (case_names (resolve s.context s.bound s.names f)) (answer_names k.answers)
   pub answers : AreAnswersOver s.context (IsFree (resolve s.context s.bound s.names f)) k.answers
   pub exact : (p : written.NamedPoint) → Of s.context p → Hold s given p

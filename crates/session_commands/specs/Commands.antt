@@ -4,6 +4,7 @@ use Rattle.std.specs.List.{AllByRecursion, fold}
 use Rattle.formula_meaning.specs.declared.junction.Junction.{Junction}
 use Rattle.formula_meaning.specs.declared.junction.Junction.TheVariants.{Conjunction, Disjunction}
 use Rattle.formula_meaning.specs.NegationNormal.{normal_form}
+use Rattle.formula_meaning.specs.Numbers.{IsAtomInLimit}
 use Rattle.formula_meaning.specs.Point.{Of}
 use Rattle.formula_meaning.specs.Every.{Every, EveryBound}
 use Rattle.formula_meaning.specs.Shape.{IsQuantifierFree, IsPrenex, fewest_blocks}
@@ -157,13 +158,20 @@ pub record IsCondition (s : State) (limit : ℕ) (f : FormulaTree) (given : Form
   pub normal : Every (IsNormal s.context) t
   pub members : HasTwoMembers t
 
--- under a limit of nodes the command may give this formula
-abbrev pub MayGive : State → ℕ → CommandTree → Tree → Type 0
-MayGive s limit (Echo f) t = Gives s (Echo f) t
-MayGive s limit (Nnf f) t = Gives s (Nnf f) t
-MayGive s limit (Pnf f) t = IsPrenexAnswer s limit f t
-MayGive s limit (Dnf f) t = IsCleanAnswer s Conjunction f t
-MayGive s limit (Cnf f) t = IsCleanAnswer s Disjunction f t
-MayGive s limit (Simpl f given) t = IsSimplification s f given t
-MayGive s limit (Qe f given) t = IsCondition s limit f given t
-MayGive s limit _ t = ⊥
+-- under a limit of nodes the formula is as the command asks
+abbrev pub IsFormulaFor : State → ℕ → CommandTree → Tree → Type 0
+IsFormulaFor s limit (Echo f) t = Gives s (Echo f) t
+IsFormulaFor s limit (Nnf f) t = Gives s (Nnf f) t
+IsFormulaFor s limit (Pnf f) t = IsPrenexAnswer s limit f t
+IsFormulaFor s limit (Dnf f) t = IsCleanAnswer s Conjunction f t
+IsFormulaFor s limit (Cnf f) t = IsCleanAnswer s Disjunction f t
+IsFormulaFor s limit (Simpl f given) t = IsSimplification s f given t
+IsFormulaFor s limit (Qe f given) t = IsCondition s limit f given t
+IsFormulaFor s limit (Qea f given) t = ⊥
+IsFormulaFor s limit (Holds f es) t = ⊥
+IsFormulaFor s limit (Sample f es) t = ⊥
+
+-- the command may give this formula, each of whose numbers is within the limit of numbers
+pub record MayGive (s : State) (limit : ℕ) (c : CommandTree) (t : Tree) : Type 0 where
+  pub asked : IsFormulaFor s limit c t
+  pub numbers : Every IsAtomInLimit t

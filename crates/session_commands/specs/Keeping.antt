@@ -4,6 +4,7 @@ use Rattle.std.specs.List.{AllByRecursion, IsDistinct}
 use Rattle.std.specs.Map.{keys_of}
 use Rattle.formula_meaning.specs.Context.{Context}
 use Rattle.formula_meaning.specs.Every.{Every}
+use Rattle.formula_meaning.specs.Numbers.{IsAtomInLimit}
 use Rattle.formula_meaning.specs.Tree.{Tree}
 use Rattle.atom_normal.specs.Atoms.{context_of}
 use Rattle.atom_normal.specs.NormalForm.{IsNormal}
@@ -32,11 +33,12 @@ pub record IsSessionFormula (c : Context) (n : ℕ) (t : Tree) : Type 0 where
   pub within : IsTreeWithin n t
   pub members : HasTwoMembers t
 
--- no name has two numbers, each is one that a script can write, and each bound formula is such a one
+-- no name has two numbers, each is one that a script can write, and each bound formula is such a one, with its numbers within the limit
 pub record IsSound (s : State) : Type 0 where
   pub names_once : IsDistinct same_name s.names
   pub variables : AllByRecursion IsVariable s.names
   pub formulas : (x : List ℕ) (t : Tree) → bound_to s.bound x ≡ Some t → IsSessionFormula s.context (length s.names) t
+  pub numbers : (x : List ℕ) (t : Tree) → bound_to s.bound x ≡ Some t → Every IsAtomInLimit t
 
 -- what is bound are ids of the store, no name is bound twice, and the state is sound
 pub record IsDesk (d : Desk) : Type 0 where

@@ -1,5 +1,6 @@
 -- The sample of a formula at a point, in a state in which the variables of the command have their numbers.
 use Rattle.std.specs.Prelude.{◌≡◌, ℕ, List, Option, Some, None, codes}
+use Rattle.exact_numbers.specs.Limit.{InLimit}
 use Rattle.formula_meaning.specs.Some.{EachOf}
 use Rattle.formula_meaning.specs.Tree.{TrueAt}
 use Rattle.elimination_reference.specs.Cases.{case_sign, case_matrix, case_names}
@@ -18,12 +19,17 @@ use Rattle.session_commands.specs.Commands.{negated_of}
 abbrev pub HasSample : State → FormulaTree → written.NamedPoint → Type 0
 HasSample s f p = Turned (case_sign (negated_of s f)) (written.TrueAt (bound_truth s.context s.bound s.names) s.context f p)
 
--- The values are for the names of the leading block, each once and in its order. They are in lowest terms, and over the integers whole. With them, what stands
--- behind the block, or for a block of all its negation, is true at the point.
+-- numerator and denominator of the value are within the limit
+abbrev pub IsValueInLimit : Value → Type 0
+IsValueInLimit v = InLimit v.at.numerator × InLimit v.at.denominator
+
+-- The values are for the names of the leading block, each once and in its order. They are in lowest terms, over the integers whole, and within the limit. With
+-- them, what stands behind the block, or for a block of all its negation, is true at the point.
 pub record AreSampleValues (s : State) (f : FormulaTree) (p : written.NamedPoint) (values : List Value) : Type 0 where
   pub there : HasSample s f p
   pub in_order : value_names values ≡ case_names (resolve s.context s.bound s.names f)
   pub each : EachOf (IsValue s.context) values
+  pub numbers : EachOf IsValueInLimit values
   pub exact : TrueAt s.context (case_matrix (resolve s.context s.bound s.names f)) (with_values (at_names s.names p) values)
 
 -- such values, or none where there are none

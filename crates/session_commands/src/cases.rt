@@ -4,6 +4,7 @@ ghost use Rattle.std.specs.Prelude.{◌≡◌, ◌≢◌, ◌++◌, ℕ, Bool, [
 ghost use Rattle.std.specs.Bool.{MatchBool};
 ghost use Rattle.std.specs.List.{AllByRecursion};
 ghost use Rattle.formula_meaning.specs.Every.{Every};
+ghost use Rattle.formula_meaning.specs.Numbers.{IsAtomInLimit};
 ghost use Rattle.formula_meaning.specs.Formula.{No};
 ghost use Rattle.formula_meaning.specs.Some.{EachOf};
 ghost use Rattle.atom_normal.specs.Atoms.{context_of, atom_of, IsWellFormed};
@@ -243,10 +244,11 @@ fn is_false(desk: &Desk, id: FormulaId) -> bool
     }
 }
 
-/// The formula as a tree. Its only error is `Memory`.
+/// The formula as a tree, whose numbers are within the limit. Its only error is `Memory`.
 fn unfolded(desk: &Desk, id: FormulaId) -> Result<Tree, StatementError>
     requires { IsId desk.now.store id }
     ensures tree { IfOk result (λ t. tree_of t ≡ tree desk.now.store id) }
+    ensures numbers { IfOk result (λ t. Every IsAtomInLimit (tree_of t)) }
     ensures memory { IfErr result (λ e. e ≡ StatementError.Memory) }
 {
     match desk.store.unfold(id, u64::MAX) {

@@ -30,7 +30,7 @@ use normal_forms::{cnf, dnf};
 use plain_engine::Measured;
 use prenex_forms::pnf;
 use shared_elimination::eliminate_shared;
-use theory_simplifier::{SimplError, see_formula, simplify};
+use theory_simplifier::{SimplError, simplify};
 
 /// The wanted form of what was read. The new names of a prenex form stand behind the others.
 pub(crate) fn formed(
@@ -141,9 +141,6 @@ fn cleaned(
     ensures fault { IfErr result (λ e. ((e ≡ StatementError.Nodes) × (limit < literals (junction_of way) (tree desk.old.store id))) ⊎ (e ≡ StatementError.Memory)) }
     ensures kept { KeepsDesk desk.old desk.new }
 {
-    if let Err(_failed) = see_formula(&desk.store, id) {
-        return Err(StatementError::Memory);
-    }
     match way {
         Way::Disjunctive => told(dnf(desk.alloc, &mut desk.store, desk.context, id, limit)),
         Way::Conjunctive => told(cnf(desk.alloc, &mut desk.store, desk.context, id, limit)),

@@ -50,5 +50,5 @@ below nodes a (suc bound) i h l =
     subst (Every HasModulus) (sym (node_tree nodes i n a there)) (over_moduli (tree nodes) n (a.proper i n there) ids)
 
 -- each modulus of a formula of a store is positive and within the limit
-pub store_moduli : (nodes : List (Shape FormulaId)) → AreNodes nodes → (id : FormulaId) → IsId nodes id → Every HasModulus (tree nodes id)
-store_moduli nodes a id h = below nodes a (suc id.number) id.number (omega arith) h
+pub store_moduli : (nodes : List (Shape FormulaId)) → (id : FormulaId) → IsId nodes id → Every HasModulus (tree nodes id)
+store_moduli nodes id h = below nodes h.are (suc id.number) id.number (omega arith) h.below

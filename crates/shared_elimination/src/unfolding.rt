@@ -27,7 +27,5 @@ pub fn unfolded(alloc: Global, store: &mut Store, id: FormulaId, limit: u64) -> 
     let Ok(form) = nnf(alloc, store, id, None) else {
         return Err(Unfold::Memory);
     };
-    // Its clause says that the formulas of the store are proper.
-    let _formulas = store.len();
     store.unfold(form, limit)
 }

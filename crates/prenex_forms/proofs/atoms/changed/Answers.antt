@@ -14,7 +14,7 @@ use Rattle.prenex_forms.proofs.atoms.changed.Goals as goal
 pub returns-in_ok-form-in-Compare-clause-same : goal.returns-in_ok-form-in-Compare-clause-same
 returns-in_ok-form-in-Compare-clause-same c =
     let now = now_of c.args.now.now in
-    λ o. compare_same (relation_of c.in-Compare.relation) c.in_ok-form-in-Compare.form (form_named now c.in-Compare.form) o c.in_ok-form-in-Compare.ensures
+    λ o. compare_same (relation_of c.in-Compare.relation) c.in_ok-form-in-Compare.form (form_named now c.in-Compare.form) o c.in_ok-form-in-Compare.ensures.same
     ∙ ap (λ a. normal_atom o (atom_named now (atom_of a))) (sym c.in-Compare.is)
 
 pub returns-in_ok-form-in-Congruent-clause-same : goal.returns-in_ok-form-in-Congruent-clause-same
@@ -24,5 +24,5 @@ returns-in_ok-form-in-Congruent-clause-same c =
     let g = c.in_ok-form-in-Congruent.form in
     let w = subst IsWellFormed c.in-Congruent.is c.requires.well_formed in
     λ o. ap (λ (k : ℤ). normal_atom o (Congruent c.in-Congruent.holds (unsigned_abs k) g)) (to_z-of_z w128 m (fits m w.1))
-    ∙ congruent_same c.in-Congruent.holds (unsigned_abs m) g (form_named now c.in-Congruent.form) o c.in_ok-form-in-Congruent.ensures
+    ∙ congruent_same c.in-Congruent.holds (unsigned_abs m) g (form_named now c.in-Congruent.form) o c.in_ok-form-in-Congruent.ensures.same
     ∙ ap (λ a. normal_atom o (atom_named now (atom_of a))) (sym c.in-Congruent.is)

@@ -48,9 +48,9 @@ loop-place-preserved c =
       constant = c.in_ok-put.ensures.constant ∙ c.loop-place.invariant.constant;
     }
 
-pub returns : goal.returns
+pub returns-clause-same : goal.returns-clause-same
 unfolding coefficient
-returns c =
+returns-clause-same c =
     let f = c.args.form.now in
     let now = now_of c.args.now.now in
     let fc = fits c.constant_part.result (subst (λ (z : ℤ). InLimit z) (sym c.constant_part.ensures.value) c.constant_part.ensures.linear.constant_within) in
@@ -59,3 +59,6 @@ returns c =
     if_ok_then c.into_form.result (λ g. IsSumOf c.loop-place.sum g × IsLinear g) _ c.into_form.ensures (λ g h.
     gathered_same g (form_named now f) (λ x. h.0.coefficients x ∙ c.loop-place.invariant.coefficients x ∙ ap (multiple x) (whole_named now c.loop-place.place f.terms all))
     (h.0.constant ∙ c.loop-place.invariant.constant ∙ start ∙ c.constant_part.ensures.value))
+
+pub returns-clause-linear : goal.returns-clause-linear
+returns-clause-linear c = if_ok_then c.into_form.result (λ g. IsSumOf c.loop-place.sum g × IsLinear g) _ c.into_form.ensures (λ g h. h.1)

@@ -5,14 +5,8 @@ use Rattle.atom_normal.specs.Atoms.{context_of}
 use Rattle.formula_store.specs.declared.id.FormulaId.{FormulaId}
 use Rattle.formula_store.specs.Nodes.{tree}
 use Rattle.session_commands.specs.Steps.{junction_of, IsCleanedAs}
-use Rattle.session_commands.proofs.EliminatedLemmas.{can_be_simplified, cleaned_result, told_made}
+use Rattle.session_commands.proofs.EliminatedLemmas.{cleaned_result, told_made}
 use Rattle.session_commands.proofs.forms.cleaned.Goals as goal
-
-pub dnf-requires-clause-orderly : goal.dnf-requires-clause-orderly
-dnf-requires-clause-orderly c = can_be_simplified (context_of c.args.desk.now.context) (tree c.args.desk.now.store c.args.id) c.requires.formula c.in_default.ensures.within
-
-pub cnf-requires-clause-orderly : goal.cnf-requires-clause-orderly
-cnf-requires-clause-orderly c = can_be_simplified (context_of c.args.desk.now.context) (tree c.args.desk.now.store c.args.id) c.requires.formula c.in_default.ensures.within
 
 pub returns-in-Disjunctive-clause-cleaned : goal.returns-in-Disjunctive-clause-cleaned
 returns-in-Disjunctive-clause-cleaned c =

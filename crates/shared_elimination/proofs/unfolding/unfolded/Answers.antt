@@ -13,4 +13,4 @@ returns-clause-form c = if_ok_also c.unfold.result (λ t. tree_of t ≡ tree c.n
 pub returns-clause-moduli : goal.returns-clause-moduli
 returns-clause-moduli c =
     if_ok_also c.unfold.result (λ t. tree_of t ≡ tree c.nnf.new.store c.in-Ok.form) (λ t. Every HasModulus (tree_of t)) c.unfold.ensures.tree
-    (λ t e. subst (Every HasModulus) (sym e) (store_moduli c.nnf.new.store c.len-formulas.ensures.nodes c.in-Ok.form c.in-Ok.ensures.made.is))
+    (λ t e. subst (Every HasModulus) (sym e) (store_moduli c.nnf.new.store c.in-Ok.form c.in-Ok.ensures.made.is))
