@@ -22,15 +22,19 @@ use Rattle.redlog_printer.specs.Text.{tree_text}
 use Rattle.printed_formulas.specs.Levels.{tree_level}
 use Rattle.printed_formulas.specs.Round.{AtomFits, IsPrintable, line_text}
 use Rattle.printed_formulas.proofs.Echo.{deep_text_is_nesting}
-use Rattle.session_commands.specs.declared.line.Line.TheVariants as line
-use Rattle.session_commands.specs.declared.line.StatementError.TheVariants as error
-use Rattle.session_commands.specs.State.{State}
+use Rattle.session_meaning.specs.declared.line.Line.TheVariants as line
+use Rattle.session_meaning.specs.declared.line.StatementError.TheVariants as error
+use Rattle.session_meaning.specs.State.{State}
 use Rattle.session_commands.specs.Parts.{given_of}
-use Rattle.session_commands.specs.Commands.{formula_of, entries_of, entry_names, named, resolved, negated_of, IsSimplification, IsCleanAnswer, IsCondition, MayGive, HasAnswerNames, GivesFormula}
-use Rattle.session_commands.specs.Causes.{Use, InSomePart, IsAccepted}
+use Rattle.session_meaning.specs.FormulaAnswers.{negated_of, IsSimplification, IsCleanAnswer, IsCondition}
+use Rattle.session_commands.specs.Commands.{formula_of, entries_of, entry_names, named, resolved, MayGive, HasAnswerNames}
+use Rattle.session_meaning.specs.Meaning.{meaning, GivesFormula}
+use Rattle.session_meaning.specs.Causes.{Use}
+use Rattle.session_commands.specs.Causes.{InSomePart, IsAccepted}
 use Rattle.session_commands.specs.Keeping.{IsSessionFormula}
 use Rattle.session_commands.specs.Reply.{Tells, Answers}
 use Rattle.clean_forms.proofs.FormShapes.{form_free}
+use Rattle.session_commands.proofs.Agreement.{answers_are, numbered_is}
 use Rattle.session_commands.proofs.PartLemmas.{some_first}
 use Rattle.session_commands.proofs.EliminatedLemmas.{unquantified_bound, within_of_names, free_below, none_from, all_below}
 use Rattle.session_commands.proofs.NameLemmas.{numbers_stay}
@@ -126,7 +130,7 @@ module _ (z next : State) (limit : ℕ) (u : Use) (context : next.context ≡ z.
   same_formula : next.names ≡ z.names → IsSessionFormula z.context (length z.names) t → IsSessionFormula next.context (length next.names) t
   same_formula n h = subst (λ c. IsSessionFormula c (length next.names) t) (sym context) (subst (λ ns. IsSessionFormula z.context (length ns) t) (sym n) h)
 
-  given_formula : (c : CommandTree) → GivesFormula c → names_after z.names (formula_of c) ≡ z.names → IsWritableFormula (formula_of c) → z.bound ≡ [] → IsAccepted z limit u c
+  given_formula : (c : CommandTree) → GivesFormula (meaning c).answer → names_after z.names (formula_of c) ≡ z.names → IsWritableFormula (formula_of c) → z.bound ≡ [] → IsAccepted z limit u c
       → MayGive z limit c t → HasAnswerNames z c next.names → IsPrinted z limit c text next
   given_formula (Echo f) b numbers proper unbound accepted given n = record {
     tree = t;
@@ -190,7 +194,7 @@ module _ (z next : State) (limit : ℕ) (u : Use) (context : next.context ≡ z.
   given_formula (Holds f es) b numbers proper unbound accepted given n = absurd b
   given_formula (Sample f es) b numbers proper unbound accepted given n = absurd b
 
-told_formula : (z : State) (limit : ℕ) (c : CommandTree) (names : List (List ℕ)) (text : List ℕ) → GivesFormula c → Tells z limit c names text → (t : Tree) × MayGive z limit c t × (text ≡ tree_text names t)
+told_formula : (z : State) (limit : ℕ) (c : CommandTree) (names : List (List ℕ)) (text : List ℕ) → GivesFormula (meaning c).answer → Tells z limit c names text → (t : Tree) × MayGive z limit c t × (text ≡ tree_text names t)
 told_formula z limit (Echo f) names text b h = h
 told_formula z limit (Nnf f) names text b h = h
 told_formula z limit (Pnf f) names text b h = h
@@ -204,7 +208,8 @@ told_formula z limit (Sample f es) names text b h = absurd b
 
 pub printed_is_formula : PrintedIsFormula
 printed_is_formula s limit piece c bytes next bare built spelled r =
-    let a = subst (λ (u : StatementTree). Answers s limit u.printed u.action (line.Printed bytes) next) (spells_once piece r.statement (record { action = Say c; printed = true }) r.spelled spelled) r.answered in
+    let a = subst (λ (u : StatementTree). Answers s limit u.printed u.action (line.Printed bytes) next) (spells_once piece r.statement (record { action = Say c; printed = true }) r.spelled spelled)
+        ((answers_are s limit r.statement.printed r.statement.action (line.Printed bytes) next).0 r.answered) in
     let z = named s c in
     let proper : IsWritableCommand c = spelled_proper spelled in
     let names : next.names ≡ a.names = ap (λ (y : State). y.names) a.after in
@@ -218,7 +223,7 @@ printed_is_formula s limit piece c bytes next bare built spelled r =
       names = answer_variables z c next.names (named_variables s c proper bare.names) after;
       unbound = ap (λ (y : State). y.bound) a.after ∙ bare.unbound;
     } in
-    (bare_next, here)
+    (bare_next, subst (λ y. IsPrinted y limit c bytes.items next) (sym (numbered_is s c)) here)
 
 -- ---- a line that is read again
 
