@@ -13,14 +13,18 @@ use Rattle.formula_tree.specs.Causes.{IsAccepted as IsResolvable}
 use Rattle.redlog_printer.specs.Text.{tree_text}
 use Rattle.printed_formulas.specs.Round.{IsReadable, line_text, printed_echo, IsReadBack}
 use Rattle.printed_formulas.proofs.Echo.{text_is_read_back}
-use Rattle.session_commands.specs.declared.line.Line.{Line}
-use Rattle.session_commands.specs.declared.line.Line.TheVariants as line
-use Rattle.session_commands.specs.declared.line.StatementError.{StatementError}
-use Rattle.session_commands.specs.declared.line.StatementError.TheVariants as error
-use Rattle.session_commands.specs.State.{State, with_names}
+use Rattle.session_meaning.specs.declared.line.Line.{Line}
+use Rattle.session_meaning.specs.declared.line.Line.TheVariants as line
+use Rattle.session_meaning.specs.declared.line.StatementError.{StatementError}
+use Rattle.session_meaning.specs.declared.line.StatementError.TheVariants as error
+use Rattle.session_meaning.specs.State.{State, with_names}
 use Rattle.session_commands.specs.Commands.{named, resolved}
-use Rattle.session_commands.specs.Causes.{Use, IsCause, HasNoCauseBelow, MayRefuse, Refuses}
-use Rattle.session_commands.specs.Reply.{IsLine, AnswersCommand, AnswersSaid, Answers, Reply}
+use Rattle.session_meaning.specs.Causes.{Use}
+use Rattle.session_commands.specs.Causes.{IsCause, HasNoCauseBelow, MayRefuse, Refuses}
+use Rattle.session_meaning.specs.Reply.{IsLine}
+use Rattle.session_meaning.specs.Reply.{Reply}
+use Rattle.session_commands.specs.Reply.{AnswersCommand, AnswersSaid, Answers}
+use Rattle.session_commands.proofs.Agreement.{answers_are, refuses_are}
 use Rattle.session_commands.proofs.CauseLemmas.{readable_below}
 use Rattle.redlog_run.proofs.Unrefused.{never}
 use Rattle.lines_read_back.specs.ReadBack.{IsBare, IsOwnFormula, IsSameLine, TextIsAnswered}
@@ -97,23 +101,24 @@ module _ (s : State) (limit : ℕ) (t : Tree) (bare : IsBare s) (own : IsOwnForm
   answer_is answer next h =
       let a : AnswersSaid s limit true (Echo w) answer next = subst (λ (z : State). AnswersSaid z limit true (Echo w) answer next) same_state h in
       let told = a.answered.1.1 in
-      same_line a.answered.1.0 answer next (told.2 ∙ ap₂ (λ ns g. tree_text ns g) a.named (told.1.asked ∙ same_tree)) (a.after ∙ ap (with_names s) a.named) a.answered.1.2
+      same_line a.answered.1.0 answer next (told.2 ∙ ap₂ (λ ns g. tree_text ns g) a.named (told.1.0 ∙ same_tree)) (a.after ∙ ap (with_names s) a.named) a.answered.1.2
 
   only : (result : Result Line StatementError) (next : State) → Reply s limit (line_text s.names t) result next → IsSameLine s (tree_text s.names t) result next
   only (Ok answer) next r =
-      answer_is answer next (subst (λ (u : StatementTree). Answers s limit u.printed u.action answer next) (back.spells.alone r.statement r.spelled) r.answered)
+      answer_is answer next (subst (λ (u : StatementTree). Answers s limit u.printed u.action answer next) (back.spells.alone r.statement r.spelled) ((answers_are s limit r.statement.printed r.statement.action answer next).0 r.answered))
   only (Err error.Memory) next r = tt
-  only (Err e) next r = absurd (never s limit (line_text s.names t) (printed_echo w) back.spells.spelled unrefused e next (λ m. absurd (cc)) r)
+  only (Err e) next r = absurd (never s limit (line_text s.names t) (printed_echo w) back.spells.spelled (λ d other h. unrefused d other ((refuses_are s limit true (Say (Echo w)) d other).0 h)) e next (λ m. absurd (cc)) r)
 
   -- and there is this one
   answers : (bytes : Vec ℕ Global) → bytes.items ≡ tree_text s.names t → AnswersCommand s limit true (Echo w) s.names (line.Printed bytes)
-  answers bytes e = (λ c l. no_cause c, (tree_text s.names t, (t, record { asked = sym same_tree; numbers = own.numbers }, refl), (refl, e, let l = short in omega arith)))
+  answers bytes e = (λ c l. no_cause c, (tree_text s.names t, (t, (sym same_tree, own.numbers), refl), (refl, e, let l = short in omega arith)))
 
   answered : (bytes : Vec ℕ Global) → bytes.items ≡ tree_text s.names t → Reply s limit (line_text s.names t) (Ok (line.Printed bytes)) s
   answered bytes e = record {
     statement = printed_echo w;
     spelled = back.spells.spelled;
-    answered = subst (λ (z : State). AnswersSaid z limit true (Echo w) (line.Printed bytes) s) (sym same_state) (record { names = s.names; named = refl; answered = answers bytes e; after = refl });
+    answered = (answers_are s limit true (Say (Echo w)) (line.Printed bytes) s).1
+        (subst (λ (z : State). AnswersSaid z limit true (Echo w) (line.Printed bytes) s) (sym same_state) (record { names = s.names; named = refl; answered = answers bytes e; after = refl }));
   }
 
 pub text_is_answered : TextIsAnswered

@@ -8,11 +8,12 @@ use Rattle.redlog_reader.specs.Statement.{Spells}
 use Rattle.redlog_tokens.proofs.ProperTokens.{lexed_proper}
 use Rattle.redlog_reader.proofs.Proper.{proper_statement}
 use Rattle.printed_formulas.specs.Round.{AreVariables}
-use Rattle.session_commands.specs.declared.line.Line.{Line}
-use Rattle.session_commands.specs.State.{State}
+use Rattle.session_meaning.specs.declared.line.Line.{Line}
+use Rattle.session_meaning.specs.State.{State}
 use Rattle.session_commands.specs.Parts.{given_of}
 use Rattle.session_commands.specs.Commands.{formula_of, entries_of, entry_names, command_variables, named, HasAnswerNames}
 use Rattle.session_commands.specs.Reply.{Answers}
+use Rattle.session_commands.proofs.Agreement.{answers_are}
 use Rattle.session_commands.proofs.NewNameLemmas.{answer_names_distinct, answer_names_variables}
 use Rattle.session_commands.proofs.VariableLemmas.{AllVariables, both, variables_of_formula, variables_of_all, names_of_entries, all_put_in}
 use Rattle.lines_read_back.specs.ReadBack.{NamesStayWritable}
@@ -89,4 +90,4 @@ after_action s limit printed (Assign x c) answer next p v h = subst HasVariables
 
 pub names_stay_writable : NamesStayWritable
 names_stay_writable s limit piece answer next v r =
-    after_action s limit r.statement.printed r.statement.action answer next (spelled_proper r.spelled) v r.answered
+    after_action s limit r.statement.printed r.statement.action answer next (spelled_proper r.spelled) v ((answers_are s limit r.statement.printed r.statement.action answer next).0 r.answered)

@@ -23,21 +23,25 @@ use Rattle.printed_formulas.specs.Levels.{tree_level}
 use Rattle.formula_meaning.specs.Numbers.{IsAtomInLimit}
 use Rattle.printed_formulas.specs.Round.{IsPrintable, line_text}
 use Rattle.printed_formulas.proofs.Echo.{deep_text_is_nesting}
-use Rattle.session_commands.specs.declared.line.Line.TheVariants as line
-use Rattle.session_commands.specs.declared.line.StatementError.TheVariants as error
-use Rattle.session_commands.specs.State.{State}
+use Rattle.session_meaning.specs.declared.line.Line.TheVariants as line
+use Rattle.session_meaning.specs.declared.line.StatementError.TheVariants as error
+use Rattle.session_meaning.specs.State.{State}
 use Rattle.session_commands.specs.Parts.{given_of}
-use Rattle.session_commands.specs.Commands.{formula_of, entries_of, entry_names, named, resolved, negated_of, IsSimplification, IsCleanAnswer, IsCondition, IsFormulaFor, MayGive, HasAnswerNames, GivesFormula}
-use Rattle.session_commands.specs.Causes.{Use, InSomePart, IsAccepted}
+use Rattle.session_meaning.specs.FormulaAnswers.{negated_of, IsSimplification, IsCleanAnswer, IsCondition}
+use Rattle.session_commands.specs.Commands.{formula_of, entries_of, entry_names, named, resolved, IsFormulaFor, MayGive, HasAnswerNames}
+use Rattle.session_meaning.specs.Meaning.{meaning, GivesFormula}
+use Rattle.session_meaning.specs.Causes.{Use}
+use Rattle.session_commands.specs.Causes.{InSomePart, IsAccepted}
 use Rattle.session_commands.specs.Keeping.{IsSessionFormula}
 use Rattle.session_commands.specs.Reply.{Tells, Answers}
 use Rattle.clean_forms.proofs.FormShapes.{form_free}
+use Rattle.session_commands.proofs.Agreement.{allowed_is, answers_are, numbered_is}
 use Rattle.session_commands.proofs.PartLemmas.{some_first}
 use Rattle.session_commands.proofs.EliminatedLemmas.{unquantified_bound, within_of_names, free_below, none_from, all_below}
 use Rattle.session_commands.proofs.NameLemmas.{numbers_stay}
 use Rattle.session_commands.proofs.PrenexLemmas.{prenex_formula}
 use Rattle.session_commands.proofs.SoundLemmas.{AreSessionFormulas, resolved_formula, negated_formula}
-use Rattle.lines_read_back.specs.ReadBack.{IsBare, IsEcho, PrintedIsFormula, IsAnsweredBy, EchoIsAnswered}
+use Rattle.lines_read_back.specs.ReadBack.{IsBare, IsEcho, IsPrinted, PrintedIsFormula, IsAnsweredBy, EchoIsAnswered}
 use Rattle.lines_read_back.proofs.Answered.{text_is_answered}
 use Rattle.lines_read_back.proofs.Bare.{proper_formula, named_variables, answer_variables, spelled_proper}
 
@@ -123,7 +127,7 @@ module _ (z next : State) (limit : ℕ) (u : Use) (context : next.context ≡ z.
   same_formula : next.names ≡ z.names → IsSessionFormula z.context (length z.names) t → IsSessionFormula next.context (length next.names) t
   same_formula n h = subst (λ c. IsSessionFormula c (length next.names) t) (sym context) (subst (λ ns. IsSessionFormula z.context (length ns) t) (sym n) h)
 
-  given_formula : (c : CommandTree) → GivesFormula c → names_after z.names (formula_of c) ≡ z.names → IsWritableFormula (formula_of c) → z.bound ≡ [] → IsAccepted z limit u c
+  given_formula : (c : CommandTree) → GivesFormula (meaning c).answer → names_after z.names (formula_of c) ≡ z.names → IsWritableFormula (formula_of c) → z.bound ≡ [] → IsAccepted z limit u c
       → IsFormulaFor z limit c t → HasAnswerNames z c next.names → IsSessionFormula next.context (length next.names) t
   given_formula (Echo f) b numbers proper unbound accepted h n =
       same_formula n (subst (IsSessionFormula z.context (length z.names)) (sym h) (resolved_one z limit u (Echo f) numbers proper unbound accepted))
@@ -167,7 +171,7 @@ read_again next t text bare own fits text_is low short shallow more =
     subst (λ ts. IsAnsweredBy next more (ts ++ codes ";") ts) (sym text_is)
     (text_is_answered next more t bare (record { formula = own; numbers = fits; low = low }) (record { short = line_short; shallow = omega arith }))
 
-told_formula : (z : State) (limit : ℕ) (c : CommandTree) (names : List (List ℕ)) (text : List ℕ) → GivesFormula c → Tells z limit c names text → (t : Tree) × MayGive z limit c t × (text ≡ tree_text names t)
+told_formula : (z : State) (limit : ℕ) (c : CommandTree) (names : List (List ℕ)) (text : List ℕ) → GivesFormula (meaning c).answer → Tells z limit c names text → (t : Tree) × MayGive z limit c t × (text ≡ tree_text names t)
 told_formula z limit (Echo f) names text b h = h
 told_formula z limit (Nnf f) names text b h = h
 told_formula z limit (Pnf f) names text b h = h
@@ -184,7 +188,8 @@ use_of_line = record { target = None; printed = true }
 
 pub printed_is_formula : PrintedIsFormula
 printed_is_formula s limit piece c bytes next bare built spelled r =
-    let a = subst (λ (u : StatementTree). Answers s limit u.printed u.action (line.Printed bytes) next) (spells_once piece r.statement (record { action = Say c; printed = true }) r.spelled spelled) r.answered in
+    let a = subst (λ (u : StatementTree). Answers s limit u.printed u.action (line.Printed bytes) next) (spells_once piece r.statement (record { action = Say c; printed = true }) r.spelled spelled)
+        ((answers_are s limit r.statement.printed r.statement.action (line.Printed bytes) next).0 r.answered) in
     let z = named s c in
     let proper : IsWritableCommand c = spelled_proper spelled in
     let names : next.names ≡ a.names = ap (λ (y : State). y.names) a.after in
@@ -197,17 +202,16 @@ printed_is_formula s limit piece c bytes next bare built spelled r =
       unbound = ap (λ (y : State). y.bound) a.after ∙ bare.unbound;
     } in
     let same : next.context ≡ z.context = ap (λ (y : State). y.context) a.after in
-    let own = given_formula z next limit use_of_line same told.0 c built numbers (proper_formula c proper) bare.unbound a.answered.0 told.1.asked after in (
-      bare_next,
-      record {
-        tree = told.0;
-        given = told.1;
-        text_is = text_is;
-        formula = own;
-        low = given_low z next limit use_of_line same told.0 c numbers (proper_formula c proper) bare.unbound a.answered.0 told.1.asked;
-        answered = read_again next told.0 bytes.items bare_next own told.1.numbers text_is;
-      },
-    )
+    let own = given_formula z next limit use_of_line same told.0 c built numbers (proper_formula c proper) bare.unbound a.answered.0 told.1.0 after in
+    let here : IsPrinted z limit c bytes.items next = record {
+      tree = told.0;
+      given = (allowed_is z limit c told.0).1 told.1;
+      text_is = text_is;
+      formula = own;
+      low = given_low z next limit use_of_line same told.0 c numbers (proper_formula c proper) bare.unbound a.answered.0 told.1.0;
+      answered = read_again next told.0 bytes.items bare_next own told.1.1 text_is;
+    } in
+    (bare_next, subst (λ y. IsPrinted y limit c bytes.items next) (sym (numbered_is s c)) here)
 
 pub echo_is_answered : EchoIsAnswered
 echo_is_answered s limit piece f bytes next bare spelled r short shallow more =

@@ -13,14 +13,14 @@ use Rattle.redlog_reader.specs.declared.read.TheConstants.{BYTE_LIMIT}
 use Rattle.redlog_printer.specs.Text.{tree_text}
 use Rattle.formula_meaning.specs.Numbers.{IsAtomInLimit}
 use Rattle.printed_formulas.specs.Round.{AreVariables, IsReadable, line_text}
-use Rattle.session_commands.specs.declared.line.Line.{Line}
-use Rattle.session_commands.specs.declared.line.Line.TheVariants as line
-use Rattle.session_commands.specs.declared.line.StatementError.{StatementError}
-use Rattle.session_commands.specs.declared.line.StatementError.TheVariants as error
-use Rattle.session_commands.specs.State.{State}
-use Rattle.session_commands.specs.Commands.{named, MayGive, GivesFormula}
+use Rattle.session_meaning.specs.declared.line.Line.{Line}
+use Rattle.session_meaning.specs.declared.line.Line.TheVariants as line
+use Rattle.session_meaning.specs.declared.line.StatementError.{StatementError}
+use Rattle.session_meaning.specs.declared.line.StatementError.TheVariants as error
+use Rattle.session_meaning.specs.State.{State}
+use Rattle.session_meaning.specs.Meaning.{meaning, numbered, MayGive, GivesFormula}
 use Rattle.session_commands.specs.Keeping.{IsSessionFormula}
-use Rattle.session_commands.specs.Reply.{Reply}
+use Rattle.session_meaning.specs.Reply.{Reply}
 
 -- nothing is bound, no name has two numbers, and each name is one that a script can write
 pub record IsBare (s : State) : Type 0 where
@@ -73,7 +73,7 @@ IsEcho (Sample f es) = ⊥
 -- text no longer and no deeper than the reader takes it, the text is answered with itself.
 pub record IsPrinted (s : State) (limit : ℕ) (c : CommandTree) (text : List ℕ) (next : State) : Type 0 where
   pub tree : Tree
-  pub given : MayGive s limit c tree
+  pub given : MayGive (meaning c).answer s limit tree
   pub text_is : text ≡ tree_text next.names tree
   pub formula : IsSessionFormula next.context (length next.names) tree
   pub low : IsEcho c → height tree ≤ most_height
@@ -83,9 +83,9 @@ pub record IsPrinted (s : State) (limit : ℕ) (c : CommandTree) (text : List �
 -- which nothing is bound.
 abbrev pub PrintedIsFormula : Type 0
 PrintedIsFormula =
-    (s : State) (limit : ℕ) (piece : List ℕ) (c : CommandTree) (bytes : Vec ℕ Global) (next : State) → IsBare s → GivesFormula c →
+    (s : State) (limit : ℕ) (piece : List ℕ) (c : CommandTree) (bytes : Vec ℕ Global) (next : State) → IsBare s → GivesFormula (meaning c).answer →
     Spells piece (record { action = Say c; printed = true }) → Reply s limit piece (Ok (line.Printed bytes)) next →
-    IsBare next × IsPrinted (named s c) limit c bytes.items next
+    IsBare next × IsPrinted (numbered (meaning c) s) limit c bytes.items next
 
 -- So a line that a formula prints is answered with the same line in the state after it, where it is no longer and no deeper
 -- than the reader takes it.

@@ -4,7 +4,7 @@ use Rattle.std.specs.List.{AllByRecursion}
 use Rattle.qe_syntax.specs.Statements.{StatementTree}
 use Rattle.redlog_tokens.specs.Pieces.{IsPiece}
 use Rattle.redlog_tokens.proofs.Cutting.{none_or_piece}
-use Rattle.session_commands.specs.State.{State}
+use Rattle.session_meaning.specs.State.{State}
 use Rattle.session_commands.specs.Accepted.{IsNeverRefused}
 use Rattle.redlog_run.specs.Run.{AnswersPiece, piece_bytes}
 use Rattle.redlog_run.specs.Unrefused.{RunTo, begin, on, IsUnrefusedPiece}

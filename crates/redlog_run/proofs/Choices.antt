@@ -10,12 +10,13 @@ use Rattle.redlog_tokens.specs.Pieces.{IsPiece}
 use Rattle.redlog_reader.specs.Statement.{Spells}
 use Rattle.redlog_tokens.proofs.Cutting.{none_or_piece, same_piece}
 use Rattle.redlog_reader.proofs.Whole.{spells_once}
-use Rattle.session_commands.specs.declared.line.Line.{Line}
-use Rattle.session_commands.specs.declared.line.Line.TheVariants as line
-use Rattle.session_commands.specs.declared.line.StatementError.{StatementError}
-use Rattle.session_commands.specs.Words.{context_text}
-use Rattle.session_commands.specs.State.{State, theory_of, chosen, first_state}
-use Rattle.session_commands.specs.Reply.{IsLine, Answers, RefusesAction}
+use Rattle.session_meaning.specs.declared.line.Line.{Line}
+use Rattle.session_meaning.specs.declared.line.Line.TheVariants as line
+use Rattle.session_meaning.specs.declared.line.StatementError.{StatementError}
+use Rattle.session_meaning.specs.Words.{context_text}
+use Rattle.session_meaning.specs.State.{State, theory_of, chosen, first_state}
+use Rattle.session_meaning.specs.Reply.{IsLine}
+use Rattle.session_meaning.specs.Reply.{Answers, RefusesAction}
 use Rattle.redlog_run.specs.Lines.{newline, lines_of}
 use Rattle.redlog_run.specs.Run as run
 use Rattle.redlog_run.specs.Run.{AnswersPiece, finished, answered, refused, Run, piece_bytes}

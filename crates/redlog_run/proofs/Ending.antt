@@ -4,11 +4,11 @@ use Rattle.qe_syntax.specs.Statements.{ActionTree, Empty, Ignored, Finish, Choos
 use Rattle.redlog_tokens.specs.Pieces.{HasNoTokenFrom, IsPiece}
 use Rattle.redlog_tokens.proofs.Cutting.{none_or_piece, same_piece}
 use Rattle.redlog_reader.proofs.Whole.{spells_once}
-use Rattle.session_commands.specs.declared.line.Line.{Line}
-use Rattle.session_commands.specs.declared.line.Line.TheVariants as line
-use Rattle.session_commands.specs.declared.line.StatementError.{StatementError}
-use Rattle.session_commands.specs.State.{State, first_state}
-use Rattle.session_commands.specs.Reply.{Answers, RefusesAction}
+use Rattle.session_meaning.specs.declared.line.Line.{Line}
+use Rattle.session_meaning.specs.declared.line.Line.TheVariants as line
+use Rattle.session_meaning.specs.declared.line.StatementError.{StatementError}
+use Rattle.session_meaning.specs.State.{State, first_state}
+use Rattle.session_meaning.specs.Reply.{Answers, RefusesAction}
 use Rattle.redlog_run.specs.Run as run
 use Rattle.redlog_run.specs.Run.{AnswersPiece, finished, answered, refused, Run, RunOf, Adds, piece_bytes, SpellsFinish, HasEnd, IsEndedWith, AnswersScript, IsTooLong, here, later}
 use Rattle.redlog_run.proofs.Longer.{piece_stays, bytes_stay}
@@ -22,7 +22,7 @@ finishes s limit printed Empty next r = let e = r.0 in absurd (cc)
 finishes s limit printed Ignored next r = let e = r.0 in absurd (cc)
 finishes s limit printed Finish next r = refl
 finishes s limit printed (Choose setting) next r = absurd r.0
-finishes s limit printed (Say c) next r = absurd (r.answered.1.2)
+finishes s limit printed (Say c) next r = absurd r.line
 finishes s limit printed (Assign x c) next r = absurd r.line
 
 only_finished : (s : State) (limit : ℕ) (printed : Bool) (a : ActionTree) (answer : Line) (next : State) → a ≡ Finish → Answers s limit printed a answer next → answer ≡ line.Finished

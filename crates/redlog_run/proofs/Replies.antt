@@ -4,13 +4,13 @@ use Rattle.std.specs.Prelude.{IfNone}
 use Rattle.std.specs.declared.alloc.Global.{Global}
 use Rattle.std.specs.declared.vec.Vec.{Vec}
 use Rattle.redlog_tokens.specs.Pieces.{HasNoTokenFrom, IsPiece}
-use Rattle.session_commands.specs.declared.line.Line.{Line}
-use Rattle.session_commands.specs.declared.line.Line.TheVariants as line
-use Rattle.session_commands.specs.declared.line.StatementError.{StatementError}
-use Rattle.session_commands.specs.declared.line.StatementError.TheVariants as error
-use Rattle.session_commands.specs.Words.{word_of}
-use Rattle.session_commands.specs.State.{State}
-use Rattle.session_commands.specs.Reply.{Reply}
+use Rattle.session_meaning.specs.declared.line.Line.{Line}
+use Rattle.session_meaning.specs.declared.line.Line.TheVariants as line
+use Rattle.session_meaning.specs.declared.line.StatementError.{StatementError}
+use Rattle.session_meaning.specs.declared.line.StatementError.TheVariants as error
+use Rattle.session_meaning.specs.Words.{word_of}
+use Rattle.session_meaning.specs.State.{State}
+use Rattle.session_meaning.specs.Reply.{Reply}
 use Rattle.redlog_run.specs.Lines.{refusal_line, lines_of}
 use Rattle.redlog_run.specs.Run.{finished, answered, refused, Run, over, last, then, piece_bytes, Adds}
 

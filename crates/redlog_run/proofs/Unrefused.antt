@@ -5,10 +5,10 @@ use Rattle.qe_syntax.specs.Statements.{StatementTree}
 use Rattle.redlog_reader.specs.Statement.{Spells}
 use Rattle.redlog_tokens.specs.declared.token.ReadError.TheVariants as reading
 use Rattle.redlog_reader.proofs.Whole.{spells_once, not_unread}
-use Rattle.session_commands.specs.declared.line.StatementError.{StatementError}
-use Rattle.session_commands.specs.declared.line.StatementError.TheVariants as error
-use Rattle.session_commands.specs.State.{State}
-use Rattle.session_commands.specs.Reply.{RefusesAction, SpellsRefused, Reply}
+use Rattle.session_meaning.specs.declared.line.StatementError.{StatementError}
+use Rattle.session_meaning.specs.declared.line.StatementError.TheVariants as error
+use Rattle.session_meaning.specs.State.{State}
+use Rattle.session_meaning.specs.Reply.{RefusesAction, SpellsRefused, Reply}
 use Rattle.redlog_run.specs.Run.{AnswersPiece, finished, answered, refused, Run, over, last, then, piece_bytes}
 use Rattle.redlog_run.specs.Unrefused.{RunTo, begin, on, IsUnrefusedPiece, IsUnrefused, UnrefusedScriptsHaveNoRefusal}
 

@@ -1,8 +1,8 @@
 -- The lines that are printed. Each ends with a newline.
 use Rattle.std.specs.Prelude.{ℕ, List, [], ◌∷◌, ◌++◌, codes}
 use Rattle.std.specs.Fmt.{decimal}
-use Rattle.session_commands.specs.declared.line.Line.{Line}
-use Rattle.session_commands.specs.declared.line.Line.TheVariants.{Nothing, Printed, Finished}
+use Rattle.session_meaning.specs.declared.line.Line.{Line}
+use Rattle.session_meaning.specs.declared.line.Line.TheVariants.{Nothing, Printed, Finished}
 
 abbrev pub newline : List ℕ
 newline = 10 ∷ []

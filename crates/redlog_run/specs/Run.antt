@@ -3,13 +3,13 @@ use Rattle.std.specs.Prelude.{◌≡◌, ◌≢◌, ℕ, ◌-◌, ◌<◌, ◌�
 use Rattle.qe_syntax.specs.Statements.{StatementTree, Finish}
 use Rattle.redlog_tokens.specs.Pieces.{HasNoTokenFrom, IsPiece}
 use Rattle.redlog_reader.specs.Statement.{Spells}
-use Rattle.session_commands.specs.declared.line.Line.{Line}
-use Rattle.session_commands.specs.declared.line.Line.TheVariants.{Finished}
-use Rattle.session_commands.specs.declared.line.StatementError.{StatementError}
-use Rattle.session_commands.specs.declared.line.StatementError.TheVariants as error
-use Rattle.session_commands.specs.Words.{word_of}
-use Rattle.session_commands.specs.State.{State, first_state}
-use Rattle.session_commands.specs.Reply.{Reply}
+use Rattle.session_meaning.specs.declared.line.Line.{Line}
+use Rattle.session_meaning.specs.declared.line.Line.TheVariants.{Finished}
+use Rattle.session_meaning.specs.declared.line.StatementError.{StatementError}
+use Rattle.session_meaning.specs.declared.line.StatementError.TheVariants as error
+use Rattle.session_meaning.specs.Words.{word_of}
+use Rattle.session_meaning.specs.State.{State, first_state}
+use Rattle.session_meaning.specs.Reply.{Reply}
 use Rattle.redlog_run.specs.Lines.{refusal_line, lines_of}
 
 -- In this state the piece at this offset ends the script or does not, is answered with these lines, and is refused or not; and

@@ -3,10 +3,10 @@ use Rattle.std.specs.Prelude.{◌≡◌, ◌≢◌, ℕ, List, [], ◌++◌, Boo
 use Rattle.qe_syntax.specs.Statements.{StatementTree}
 use Rattle.redlog_tokens.specs.Pieces.{IsPiece}
 use Rattle.redlog_reader.specs.Statement.{Spells}
-use Rattle.session_commands.specs.declared.line.StatementError.{StatementError}
-use Rattle.session_commands.specs.declared.line.StatementError.TheVariants as error
-use Rattle.session_commands.specs.State.{State, first_state}
-use Rattle.session_commands.specs.Reply.{RefusesAction}
+use Rattle.session_meaning.specs.declared.line.StatementError.{StatementError}
+use Rattle.session_meaning.specs.declared.line.StatementError.TheVariants as error
+use Rattle.session_meaning.specs.State.{State, first_state}
+use Rattle.session_meaning.specs.Reply.{RefusesAction}
 use Rattle.redlog_run.specs.Run.{AnswersPiece, RunOf, piece_bytes}
 
 -- the pieces up to this place leave this state, and are answered with these lines, of which one is a refusal or none; none of them ends the script

@@ -4,8 +4,8 @@ use Rattle.std.specs.List.{flat_map, AllByRecursion}
 use Rattle.qe_syntax.specs.Statements.{ActionTree, Empty, Ignored, Finish, Choose, Say, Assign, StatementTree}
 use Rattle.redlog_tokens.specs.Pieces.{HasNoTokenFrom, IsPiece}
 use Rattle.redlog_reader.specs.Statement.{Spells}
-use Rattle.session_commands.specs.State.{theory_of}
-use Rattle.session_commands.specs.Words.{context_text}
+use Rattle.session_meaning.specs.State.{theory_of}
+use Rattle.session_meaning.specs.Words.{context_text}
 use Rattle.redlog_run.specs.Lines.{newline}
 use Rattle.redlog_run.specs.Run.{RunOf, piece_bytes}
 use Rattle.redlog_run.specs.Unrefused.{HasNoRefusal}

@@ -1,6 +1,6 @@
 ghost use Rattle.std.specs.Prelude.{◌≡◌, ◌≢◌, ◌++◌, ◌∷◌, [], true, IfOk, IfErr, OnOk};
 ghost use Rattle.session_commands.specs.Seen.{state_in};
-ghost use Rattle.session_commands.specs.Words.{word_of};
+ghost use Rattle.session_meaning.specs.Words.{word_of};
 ghost use Rattle.redlog_run.specs.Lines.{refusal_line};
 ghost use Rattle.redlog_run.specs.Run.{Adds, AnswersScript};
 ghost use Rattle.redlog_run.specs.Script.{AnswerCause};

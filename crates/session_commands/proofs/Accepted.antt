@@ -4,16 +4,18 @@ use Rattle.std.specs.Prelude.{None}
 use Rattle.formula_meaning.specs.Context.{Context, Fields, Integers}
 use Rattle.formula_meaning.specs.Formula.{Yes}
 use Rattle.formula_meaning.specs.Tree.{Tree}
-use Rattle.qe_syntax.specs.Statements.{Echo}
+use Rattle.qe_syntax.specs.Statements.{Echo, Say}
 use Rattle.formula_tree.specs.Causes.{CongruenceInFields}
 use Rattle.redlog_printer.specs.Text.{tree_text}
-use Rattle.session_commands.specs.declared.line.StatementError.{StatementError}
-use Rattle.session_commands.specs.declared.line.StatementError.TheVariants as error
-use Rattle.session_commands.specs.State.{State}
-use Rattle.session_commands.specs.Causes.{Use, MayRefuse, HasLongLine, Refuses}
+use Rattle.session_meaning.specs.declared.line.StatementError.{StatementError}
+use Rattle.session_meaning.specs.declared.line.StatementError.TheVariants as error
+use Rattle.session_meaning.specs.State.{State}
+use Rattle.session_meaning.specs.Causes.{Use}
+use Rattle.session_commands.specs.Causes.{MayRefuse, HasLongLine, Refuses}
 use Rattle.session_commands.specs.Commands.{named}
 use Rattle.session_commands.specs.Accepted.{TruthIsNeverRefused}
 use Rattle.session_commands.proofs.CauseLemmas.{no_point, nothing_passes}
+use Rattle.session_commands.proofs.Agreement.{refuses_are}
 
 module _ (s : State) (limit : ℕ) (printed : Bool) where
   abbrev said : Use
@@ -83,4 +85,4 @@ module _ (s : State) (limit : ℕ) (printed : Bool) where
   refused_never error.Memory other r = other refl
 
 pub truth_is_never_refused : TruthIsNeverRefused
-truth_is_never_refused printed s limit e other r = refused_never (named s (Echo Yes)) limit printed e other r
+truth_is_never_refused printed s limit e other r = refused_never (named s (Echo Yes)) limit printed e other ((refuses_are s limit printed (Say (Echo Yes)) e other).0 r)

@@ -6,14 +6,15 @@ use Rattle.redlog_reader.specs.Grammar.{SpellsResult, echo, nnf, pnf, dnf, cnf, 
 use Rattle.redlog_tokens.specs.declared.terminal.Terminal.{Terminal}
 use Rattle.redlog_reader.specs.Statement.{Spells}
 use Rattle.formula_meaning.specs.Tree.{tree_distinct}
-use Rattle.session_commands.specs.declared.formulas.TheConstants.{MOST_SUBFORMULAS}
-use Rattle.session_commands.specs.declared.line.Line.{Line}
-use Rattle.session_commands.specs.State.{State, with_names}
+use Rattle.session_meaning.specs.declared.TheConstants.{MOST_SUBFORMULAS}
+use Rattle.session_meaning.specs.declared.line.Line.{Line}
+use Rattle.session_meaning.specs.State.{State, with_names}
 use Rattle.session_commands.specs.Commands.{named, HasAnswerNames, GivesFormula, BindsFormula}
 use Rattle.session_commands.specs.Steps.{use_of, IsGiven, IsStopped}
-use Rattle.session_commands.specs.declared.line.StatementError.{StatementError}
-use Rattle.session_commands.specs.declared.line.StatementError.TheVariants as error
-use Rattle.session_commands.specs.Causes.{Use, formula_line, Refuses}
+use Rattle.session_meaning.specs.declared.line.StatementError.{StatementError}
+use Rattle.session_meaning.specs.declared.line.StatementError.TheVariants as error
+use Rattle.session_meaning.specs.Causes.{Use, formula_line}
+use Rattle.session_commands.specs.Causes.{Refuses}
 use Rattle.session_commands.specs.Reply.{IsFormulaText, Tells, AnswersCommand, AnswersSaid, Answers, RefusesAction, SpellsRefused, Reply}
 
 -- ---- statements bind formulas

@@ -15,10 +15,10 @@ use Rattle.formula_resolving.specs.declared.error.StaticError.{StaticError}
 use Rattle.formula_resolving.specs.declared.error.StaticError.TheVariants as static
 use Rattle.formula_resolving.specs.Refusals as reading
 use Rattle.formula_resolving.specs.Refusals.{trees_bound}
-use Rattle.session_commands.specs.declared.line.StatementError.{StatementError}
-use Rattle.session_commands.specs.declared.line.StatementError.TheVariants as error
-use Rattle.session_commands.specs.State.{State}
-use Rattle.session_commands.specs.Points.{MeanNoPoint}
+use Rattle.session_meaning.specs.declared.line.StatementError.{StatementError}
+use Rattle.session_meaning.specs.declared.line.StatementError.TheVariants as error
+use Rattle.session_meaning.specs.State.{State}
+use Rattle.session_meaning.specs.Points.{MeanNoPoint}
 use Rattle.session_commands.specs.Causes.{IsCause, rank, Refuses, HasNoCauseBelow}
 use Rattle.session_commands.specs.Steps.{static_refusal, use_of, HasNumbers, IsReadable, IsUnread}
 use Rattle.session_commands.specs.Asked.{IsBoundName, RefusesBoth, HasNoneBelow, stop_of, IsClear, IsValued, PointStop, ValuedStop}

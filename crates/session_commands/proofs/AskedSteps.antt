@@ -25,14 +25,14 @@ use Rattle.formula_resolving.specs.Numbering.{Grows}
 use Rattle.formula_resolving.specs.Refusals.{AreIds}
 use Rattle.formula_store.specs.declared.id.FormulaId.{FormulaId}
 use Rattle.formula_store.specs.Nodes.{tree, IsId}
-use Rattle.session_commands.specs.declared.line.StatementError.{StatementError}
-use Rattle.session_commands.specs.declared.line.StatementError.TheVariants as error
+use Rattle.session_meaning.specs.declared.line.StatementError.{StatementError}
+use Rattle.session_meaning.specs.declared.line.StatementError.TheVariants as error
 use Rattle.session_commands.specs.declared.desk.Desk.{Desk}
-use Rattle.session_commands.specs.State.{State}
+use Rattle.session_meaning.specs.State.{State}
 use Rattle.session_commands.specs.Asked.{HaveNumbers, RefusesBoth, IsReadAs, IsMeantPoint, PointStop, IsValued, ValuedStop, IsAsked}
 use Rattle.session_commands.specs.Commands.{named, entry_names}
 use Rattle.session_commands.specs.Keeping.{state_of, IsDesk}
-use Rattle.session_commands.specs.Points.{MeanNoPoint}
+use Rattle.session_meaning.specs.Points.{MeanNoPoint}
 use Rattle.session_commands.specs.Steps.{HasNumbers, KeepsDesk, IsReadable}
 use Rattle.session_commands.proofs.AskedLemmas.{no_point, not_valued, reading_passes, point_passes, all_clear}
 use Rattle.session_commands.proofs.CaseSteps.{on_ok}

@@ -18,10 +18,10 @@ use Rattle.formula_resolving.specs.declared.error.StaticError.TheVariants as sta
 use Rattle.formula_resolving.specs.Refusals as reading
 use Rattle.formula_resolving.specs.Refusals.{IsFirstCause}
 use Rattle.formula_resolving.specs.Refusals.{rank as static_rank}
-use Rattle.session_commands.specs.declared.line.StatementError.{StatementError}
-use Rattle.session_commands.specs.declared.line.StatementError.TheVariants as error
-use Rattle.session_commands.specs.State.{State}
-use Rattle.session_commands.specs.Assumptions.{atoms_alone, assumed, Hold}
+use Rattle.session_meaning.specs.declared.line.StatementError.{StatementError}
+use Rattle.session_meaning.specs.declared.line.StatementError.TheVariants as error
+use Rattle.session_meaning.specs.State.{State}
+use Rattle.session_meaning.specs.Assumptions.{atoms_alone, assumed, Hold}
 use Rattle.session_commands.specs.declared.formulas.Wanted.{Wanted}
 use Rattle.session_commands.specs.Steps.{given_trees, HasUnwantedQuantifier, IsUnready, static_refusal, HasNumbers, IsReadable, ArePartsNumbered, ArePartsReadable, ArePartsUnread, AppliesToPart, AppliesToSome, IsFirstPartCause, FirstAmong, first_of, earlier_of, IsFirstWith}
 use Rattle.session_commands.proofs.PartLemmas.{no_part, some_listed, each_of_list}

@@ -13,7 +13,7 @@ use Rattle.formula_tree.specs.Makers.{Keeps}
 use Rattle.formula_tree.specs.Names.{with_name}
 use Rattle.formula_tree.proofs.PlaceLaws.{same_is, one_place, after_distinct}
 use Rattle.formula_resolving.specs.Refusals.{AreIds, trees_bound}
-use Rattle.session_commands.specs.Causes.{HasNoRoom}
+use Rattle.session_meaning.specs.Causes.{HasNoRoom}
 
 -- ---- lists, place by place
 

@@ -41,9 +41,9 @@ use Rattle.redlog_printer.specs.Text.{tree_text}
 use Rattle.formula_meaning.specs.Within.{IsAtomWithin}
 use Rattle.answer_texts.specs.Answers.{separated, answer_texts, case_text, cases_text}
 use Rattle.answer_texts.specs.Within.{IsPlaceWithin, AreAnswersWithin, AreCasesWithin}
-use Rattle.session_commands.specs.declared.line.StatementError.{StatementError}
-use Rattle.session_commands.specs.declared.line.StatementError.TheVariants as error
-use Rattle.session_commands.specs.Cases.{Turned}
+use Rattle.session_meaning.specs.declared.line.StatementError.{StatementError}
+use Rattle.session_meaning.specs.declared.line.StatementError.TheVariants as error
+use Rattle.session_meaning.specs.Cases.{Turned}
 use Rattle.session_commands.specs.CaseSteps.{IsCaseLeft, IsLeftOf, put_before, AreLeftOf, CasesFault}
 use Rattle.session_commands.specs.Keeping.{IsSessionFormula}
 use Rattle.session_commands.specs.Steps.{measured_refusal}

@@ -31,18 +31,20 @@ use Rattle.formula_resolving.specs.Numbering.{Grows}
 use Rattle.formula_meaning.specs.Within.{IsAtomWithin}
 use Rattle.answer_texts.specs.Answers.{cases_text}
 use Rattle.answer_texts.specs.Within.{AreCasesWithin}
-use Rattle.session_commands.specs.declared.line.Line.{Line}
-use Rattle.session_commands.specs.declared.line.StatementError.{StatementError}
-use Rattle.session_commands.specs.declared.line.StatementError.TheVariants as error
+use Rattle.session_meaning.specs.declared.line.Line.{Line}
+use Rattle.session_meaning.specs.declared.line.StatementError.{StatementError}
+use Rattle.session_meaning.specs.declared.line.StatementError.TheVariants as error
 use Rattle.session_commands.specs.declared.desk.Desk.{Desk}
-use Rattle.session_commands.specs.State.{State}
-use Rattle.session_commands.specs.Assumptions.{Hold, assumed}
-use Rattle.session_commands.specs.Cases.{IsCaseOf, IsCaseAnswer}
+use Rattle.session_meaning.specs.State.{State}
+use Rattle.session_meaning.specs.Assumptions.{Hold, assumed}
+use Rattle.session_meaning.specs.Cases.{IsCaseOf, IsCaseAnswer}
 use Rattle.session_commands.specs.CaseSteps.{IsCaseLeft, AreWantedCases, CasesFault}
 use Rattle.session_commands.specs.Causes.{IsCause, HasNoCauseBelow, IsAccepted, Refuses}
-use Rattle.session_commands.specs.Commands.{named, negated_of}
+use Rattle.session_meaning.specs.FormulaAnswers.{negated_of}
+use Rattle.session_commands.specs.Commands.{named}
 use Rattle.session_commands.specs.Keeping.{state_of, IsSessionFormula, IsSound, IsDesk}
-use Rattle.session_commands.specs.Reply.{IsLine, AnswersCommand}
+use Rattle.session_meaning.specs.Reply.{IsLine}
+use Rattle.session_commands.specs.Reply.{AnswersCommand}
 use Rattle.session_commands.specs.Steps.{use_of, HasNumbers, IsReadable, ArePartsNumbered, ArePartsReadable, ArePartsUnread, KeepsDesk, LineFault}
 use Rattle.session_commands.proofs.AssumptionLemmas.{assumed_hold}
 use Rattle.session_commands.proofs.CauseLemmas.{IsPlainCommand, unread_refuses, readable_below, below_17, below_18, below_19}

@@ -17,13 +17,14 @@ use Rattle.formula_tree.specs.Causes.{IsBound, IsNonlinear, Divides, IsBadModulu
 use Rattle.formula_resolving.specs.declared.error.StaticError.{StaticError}
 use Rattle.formula_resolving.specs.declared.error.StaticError.TheVariants as static
 use Rattle.formula_resolving.specs.Refusals as reading
-use Rattle.session_commands.specs.declared.line.StatementError.{StatementError}
-use Rattle.session_commands.specs.declared.line.StatementError.TheVariants as error
-use Rattle.session_commands.specs.State.{State}
+use Rattle.session_meaning.specs.declared.line.StatementError.{StatementError}
+use Rattle.session_meaning.specs.declared.line.StatementError.TheVariants as error
+use Rattle.session_meaning.specs.State.{State}
 use Rattle.session_commands.specs.Parts.{given_of}
 use Rattle.session_commands.specs.Commands.{formula_of, entries_of}
-use Rattle.session_commands.specs.Points.{MeanNoPoint}
-use Rattle.session_commands.specs.Causes.{Use, AsksAtPoint, InSomePart, RenamingPasses, IsCause, rank, HasNoCauseBelow, Refuses, IsAccepted}
+use Rattle.session_meaning.specs.Points.{MeanNoPoint}
+use Rattle.session_meaning.specs.Causes.{Use}
+use Rattle.session_commands.specs.Causes.{AsksAtPoint, InSomePart, RenamingPasses, IsCause, rank, HasNoCauseBelow, Refuses, IsAccepted}
 use Rattle.session_commands.specs.Steps.{static_refusal, HasNumbers, IsReadable, ArePartsNumbered, ArePartsReadable, ArePartsUnread, AppliesToPart, IsFirstPartCause}
 use Rattle.session_commands.proofs.PartLemmas.{some_part, no_part}
 

@@ -16,7 +16,7 @@ use Rattle.formula_resolving.specs.Refusals.{AreIds, trees_bound}
 use Rattle.formula_store.specs.declared.id.FormulaId.{FormulaId}
 use Rattle.formula_store.specs.Nodes.{tree, IsId}
 use Rattle.session_commands.specs.declared.desk.Desk.{Desk}
-use Rattle.session_commands.specs.State.{State, with_names}
+use Rattle.session_meaning.specs.State.{State, with_names}
 use Rattle.session_commands.specs.Keeping.{state_of, ids_bound, IsSound, IsDesk}
 use Rattle.session_commands.specs.Steps.{KeepsDesk, GrowsDesk}
 use Rattle.session_commands.proofs.BindingLemmas.{trees_kept, ids_kept, trees_by_parts, ids_by_list}

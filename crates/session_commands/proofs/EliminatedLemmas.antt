@@ -29,7 +29,7 @@ use Rattle.simplified_formulas.specs.Trees.{IsSimplifiable}
 use Rattle.formula_meaning.specs.Sizes.{nodes}
 use Rattle.formula_store.specs.declared.id.FormulaId.{FormulaId}
 use Rattle.formula_tree.specs.declared.error.FormError.{FormError}
-use Rattle.session_commands.specs.declared.line.StatementError.{StatementError}
+use Rattle.session_meaning.specs.declared.line.StatementError.{StatementError}
 use Rattle.std.specs.Prelude.{Result, Ok, Err, IfOk}
 use Rattle.session_commands.specs.Keeping.{IsSessionFormula}
 use Rattle.formula_meaning.specs.declared.junction.Junction.{Junction}

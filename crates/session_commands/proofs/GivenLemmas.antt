@@ -28,18 +28,20 @@ use Rattle.session_commands.specs.Steps.{IsWantedAnswer}
 use Rattle.formula_tree.specs.Names.{with_name}
 use Rattle.formula_tree.specs.Resolving.{formula_variables, all_variables, resolve, at_names}
 use Rattle.redlog_printer.specs.Writing.{text_limit}
-use Rattle.session_commands.specs.declared.line.Line.{Line}
-use Rattle.session_commands.specs.declared.line.StatementError.{StatementError}
-use Rattle.session_commands.specs.declared.line.StatementError.TheVariants as error
+use Rattle.session_meaning.specs.declared.line.Line.{Line}
+use Rattle.session_meaning.specs.declared.line.StatementError.{StatementError}
+use Rattle.session_meaning.specs.declared.line.StatementError.TheVariants as error
 use Rattle.session_commands.specs.declared.formulas.Wanted.{Wanted}
 use Rattle.session_commands.specs.declared.formulas.Wanted.TheVariants as wanted
-use Rattle.session_commands.specs.State.{State, with_names}
+use Rattle.session_meaning.specs.State.{State, with_names}
 use Rattle.session_commands.specs.Parts.{given_of}
-use Rattle.session_commands.specs.Assumptions.{atoms_alone, assumed, Hold}
-use Rattle.session_commands.specs.Commands.{formula_of, named, negated_of, Gives, IsFormulaFor, HasAnswerNames, IsPrenexAnswer, IsSimplification, IsCondition}
-use Rattle.session_commands.specs.Causes.{Use, RenamingPasses, IsCause, rank, HasNoRoom, IsTooLarge, HasManyNodes, formula_line, MayRefuse, HasNoCauseBelow, Refuses}
+use Rattle.session_meaning.specs.Assumptions.{atoms_alone, assumed, Hold}
+use Rattle.session_meaning.specs.FormulaAnswers.{negated_of, IsPrenexAnswer, IsSimplification, IsCondition}
+use Rattle.session_commands.specs.Commands.{formula_of, named, Gives, IsFormulaFor, HasAnswerNames}
+use Rattle.session_meaning.specs.Causes.{Use, HasNoRoom, IsTooLarge, HasManyNodes, formula_line}
+use Rattle.session_commands.specs.Causes.{RenamingPasses, IsCause, rank, MayRefuse, HasNoCauseBelow, Refuses}
 use Rattle.session_commands.specs.Keeping.{IsSessionFormula, IsSound}
-use Rattle.session_commands.specs.Reply.{IsLine}
+use Rattle.session_meaning.specs.Reply.{IsLine}
 use Rattle.session_commands.specs.declared.formulas.Way.TheVariants as way
 use Rattle.formula_resolving.specs.declared.error.StaticError.{StaticError}
 use Rattle.formula_resolving.specs.declared.error.StaticError.TheVariants as static
@@ -47,7 +49,7 @@ use Rattle.formula_resolving.specs.Refusals.{rank as static_rank}
 use Rattle.formula_meaning.specs.declared.junction.Junction.{Junction}
 use Rattle.formula_meaning.specs.declared.junction.Junction.TheVariants.{Conjunction, Disjunction}
 use Rattle.clean_forms.specs.Plain.{plain_form}
-use Rattle.session_commands.specs.Commands.{IsCleanAnswer}
+use Rattle.session_meaning.specs.FormulaAnswers.{IsCleanAnswer}
 use Rattle.session_commands.specs.Steps.{static_refusal, HasUnwantedQuantifier, IsReady, IsUnready, IsCleanedAs, AppliesToPart, given_trees, command_of, use_of, IsGiven, HasNumbers, IsReadable, ArePartsNumbered, ArePartsReadable, ArePartsUnread, IsWantedForm, IsPrenexAs, IsSimplifiedAs, PrenexFault, FormFault, MayBind, TargetFault, LineFault, state_with}
 use Rattle.session_commands.proofs.CauseLemmas.{IsPlainCommand, unread_refuses, quantified_refuses, ready_below, readable_below, below_17, below_18, below_19}
 use Rattle.prenex_forms.proofs.Finished.{finished}
@@ -384,7 +386,7 @@ module _ (w : Wanted) (f : FormulaTree) (s : State) (numbers : ArePartsNumbered 
     is_given fits b answer line short = record {
       accepted = below_19 s limit (use_of target printed) (command_of w f) (clear_18 b) (not_long short);
       formula = t;
-      given = record { asked = gives f s limit t w h sound own numbers given; numbers = fits };
+      given = (gives f s limit t w h sound own numbers given, fits);
       names = names;
       named = named;
       line = line;

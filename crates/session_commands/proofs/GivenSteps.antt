@@ -26,17 +26,17 @@ use Rattle.formula_store.proofs.Numbers.{numbers_are_within}
 use Rattle.formula_meaning.specs.Within.{IsTreeWithin}
 use Rattle.formula_meaning.specs.Members.{HasTwoMembers}
 use Rattle.session_commands.specs.declared.desk.Desk.{Desk}
-use Rattle.session_commands.specs.declared.line.Line.{Line}
-use Rattle.session_commands.specs.declared.line.StatementError.{StatementError}
+use Rattle.session_meaning.specs.declared.line.Line.{Line}
+use Rattle.session_meaning.specs.declared.line.StatementError.{StatementError}
 use Rattle.session_commands.specs.declared.formulas.Wanted.{Wanted}
 use Rattle.session_commands.specs.declared.formulas.Wanted.TheVariants as wanted
-use Rattle.session_commands.specs.Points.{IsQuantified}
+use Rattle.session_meaning.specs.Points.{IsQuantified}
 use Rattle.formula_meaning.specs.Shape.{IsQuantifierFree}
-use Rattle.session_commands.specs.State.{State, with_names}
+use Rattle.session_meaning.specs.State.{State, with_names}
 use Rattle.session_commands.specs.Commands.{named}
 use Rattle.session_commands.specs.Causes.{Refuses}
 use Rattle.session_commands.specs.Keeping.{state_of, IsSessionFormula, IsSound, IsDesk}
-use Rattle.session_commands.specs.Assumptions.{assumed}
+use Rattle.session_meaning.specs.Assumptions.{assumed}
 use Rattle.session_commands.specs.Steps.{KeepsDesk, GrowsDesk, HasNumbers, IsReadable, ArePartsNumbered, IsDistributed, HasUnwantedQuantifier, IsReady, IsUnready, given_trees, command_of, use_of, IsGiven, IsWantedForm, IsWantedOf, HasFormNames, FormFault, MayBind, TargetFault, IsLineOf, GiveFault, state_with, bound_after}
 use Rattle.session_commands.proofs.BindingLemmas.{bind_trees, bind_ids, bind_distinct, bound_there}
 use Rattle.session_commands.proofs.DeskLemmas.{state_parts, grown_state, grown_desk, sound_with, length_grows}

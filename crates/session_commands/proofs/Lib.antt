@@ -23,4 +23,5 @@ pub mod SampleSteps
 pub mod NewNameLemmas
 pub mod PrenexLemmas
 pub mod TextLemmas
+pub mod Agreement
 pub mod Accepted

@@ -15,8 +15,9 @@ use Rattle.prenex_forms.proofs.FoundNames.{any_among}
 use Rattle.session_commands.specs.declared.formulas.Wanted.{Wanted}
 use Rattle.session_commands.specs.declared.formulas.Wanted.TheVariants as wanted
 use Rattle.session_commands.specs.declared.formulas.Way.TheVariants as way
-use Rattle.session_commands.specs.State.{State}
-use Rattle.session_commands.specs.Commands.{resolved, HasNewNames, HasAnswerNames}
+use Rattle.session_meaning.specs.State.{State}
+use Rattle.session_meaning.specs.FormulaAnswers.{HasNewNames}
+use Rattle.session_commands.specs.Commands.{resolved, HasAnswerNames}
 use Rattle.session_commands.specs.Steps.{command_of, HasFormNames}
 use Rattle.session_commands.proofs.NameLemmas.{grows_itself, grows_then}
 use Rattle.session_commands.proofs.VariableLemmas.{AllVariables}

@@ -51,7 +51,7 @@ use Rattle.formula_tree.specs.Resolving.{BoundTrees, place, at_names, resolve, r
 use Rattle.formula_tree.proofs.PlaceLaws.{slice_place, one_place, at_place}
 use Rattle.formula_store.specs.Truths.{Tells, SomeAtomPasses, IsWholeWhereAsked}
 use Rattle.free_names.specs.Entries.{HasEntryAt}
-use Rattle.session_commands.specs.Points.{MeanNoPoint, IsQuantified, SomeAtomPassesAt}
+use Rattle.session_meaning.specs.Points.{MeanNoPoint, IsQuantified, SomeAtomPassesAt}
 
 -- ---- numbers put in
 

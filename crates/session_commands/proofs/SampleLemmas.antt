@@ -23,14 +23,14 @@ use Rattle.qe_syntax.specs.Statements.{Sample}
 use Rattle.qe_syntax.specs.Trees.{FormulaTree}
 use Rattle.qe_syntax.specs.Value.{NamedPoint, same_name}
 use Rattle.formula_tree.specs.Resolving.{at_names, resolve}
-use Rattle.session_commands.specs.declared.line.StatementError.{StatementError}
-use Rattle.session_commands.specs.declared.line.StatementError.TheVariants as error
-use Rattle.session_commands.specs.State.{State}
+use Rattle.session_meaning.specs.declared.line.StatementError.{StatementError}
+use Rattle.session_meaning.specs.declared.line.StatementError.TheVariants as error
+use Rattle.session_meaning.specs.State.{State}
 use Rattle.session_commands.specs.Asked.{HasNoneBelow}
 use Rattle.session_commands.specs.Causes.{HasNoCauseBelow}
-use Rattle.session_commands.specs.Commands.{negated_of}
+use Rattle.session_meaning.specs.FormulaAnswers.{negated_of}
 use Rattle.session_commands.specs.Keeping.{IsSessionFormula}
-use Rattle.session_commands.specs.Samples.{HasSample, IsSample, IsValueInLimit}
+use Rattle.session_meaning.specs.Samples.{HasSample, IsSample, IsValueInLimit}
 use Rattle.session_commands.specs.SampleSteps.{RefusesSample, SampleStop, IsSampleWithin}
 use Rattle.session_commands.specs.Steps.{use_of, HasNumbers, IsReadable}
 use Rattle.session_commands.proofs.CaseLemmas.{block_below, turned_says, turned_along}

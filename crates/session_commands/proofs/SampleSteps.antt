@@ -40,17 +40,18 @@ use Rattle.formula_resolving.specs.Numbering.{Grows}
 use Rattle.formula_store.specs.declared.id.FormulaId.{FormulaId}
 use Rattle.formula_store.specs.Nodes.{tree}
 use Rattle.redlog_printer.specs.Writing.{text_limit}
-use Rattle.session_commands.specs.declared.line.Line.{Line}
-use Rattle.session_commands.specs.declared.line.StatementError.{StatementError}
-use Rattle.session_commands.specs.declared.line.StatementError.TheVariants as error
+use Rattle.session_meaning.specs.declared.line.Line.{Line}
+use Rattle.session_meaning.specs.declared.line.StatementError.{StatementError}
+use Rattle.session_meaning.specs.declared.line.StatementError.TheVariants as error
 use Rattle.session_commands.specs.declared.desk.Desk.{Desk}
-use Rattle.session_commands.specs.State.{State}
+use Rattle.session_meaning.specs.State.{State}
 use Rattle.session_commands.specs.Asked.{IsAsked}
 use Rattle.session_commands.specs.Causes.{Refuses}
 use Rattle.session_commands.specs.Commands.{named, entry_names}
 use Rattle.session_commands.specs.Keeping.{state_of, IsDesk}
-use Rattle.session_commands.specs.Reply.{IsLine, AnswersCommand}
-use Rattle.session_commands.specs.Samples.{sample_text}
+use Rattle.session_meaning.specs.Reply.{IsLine}
+use Rattle.session_commands.specs.Reply.{AnswersCommand}
+use Rattle.session_meaning.specs.Samples.{sample_text}
 use Rattle.session_commands.specs.SampleSteps.{RefusesSample, SampleStop, IsSampleWithin, IsWantedSample}
 use Rattle.session_commands.specs.Steps.{use_of, measured_refusal, HasNumbers, KeepsDesk}
 use Rattle.session_commands.proofs.AskedSteps.{theory, asked_normal, named_desk, start}

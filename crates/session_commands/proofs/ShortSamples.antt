@@ -32,7 +32,7 @@ use Rattle.qe_syntax.specs.Names.{IsVariable}
 use Rattle.formula_tree.specs.Causes.{most_height}
 use Rattle.redlog_printer.specs.Text.{name_at, first_sign}
 use Rattle.redlog_printer.specs.Writing.{text_limit}
-use Rattle.session_commands.specs.Samples.{sample_text}
+use Rattle.session_meaning.specs.Samples.{sample_text}
 use Rattle.session_commands.proofs.CaseLemmas.{length_3}
 
 -- ---- the block

@@ -18,11 +18,11 @@ use Rattle.elimination_reference.specs.Sample.{reference_at}
 use Rattle.plain_engine.specs.declared.measured.Measured.{Measured}
 use Rattle.plain_engine.specs.declared.measured.Measured.TheVariants as measured
 use Rattle.plain_engine.specs.Told.{StopsWith}
-use Rattle.session_commands.specs.declared.line.StatementError.{StatementError}
-use Rattle.session_commands.specs.declared.line.StatementError.TheVariants as error
-use Rattle.session_commands.specs.State.{State}
+use Rattle.session_meaning.specs.declared.line.StatementError.{StatementError}
+use Rattle.session_meaning.specs.declared.line.StatementError.TheVariants as error
+use Rattle.session_meaning.specs.State.{State}
 use Rattle.session_commands.specs.Asked.{HasNoneBelow}
-use Rattle.session_commands.specs.Points.{IsQuantified, IsTruth}
+use Rattle.session_meaning.specs.Points.{IsQuantified, IsTruth}
 use Rattle.session_commands.specs.Causes.{HasNoCauseBelow}
 use Rattle.session_commands.specs.Steps.{measured_refusal, use_of, HasNumbers, IsReadable}
 use Rattle.session_commands.specs.Truths.{RefusesTruth, ValueStop, EliminationStop}
@@ -55,7 +55,7 @@ module _ (s : State) (f : FormulaTree) (es : List PointEntry) (p : NamedPoint) (
   -- ---- the truth
 
   pub is_truth : HasNumbers s.names f → (b : Bool) → IsDistinct same_name s.names → IsReadable s f → Of s.context p
-      → (IsTrue b ↔ TrueAt s.context (resolve s.context s.bound s.names f) (at_names s.names p)) → IsTruth s (Holds f es) b
+      → (IsTrue b ↔ TrueAt s.context (resolve s.context s.bound s.names f) (at_names s.names p)) → IsTruth s f es b
   is_truth numbers b distinct readable of told =
       let same = truth_as_written s f numbers distinct readable p of in
       record { point = p; meant = meant; truth = (λ h. same.1 (told.0 h), λ h. told.1 (same.0 h)) }

@@ -17,17 +17,18 @@ use Rattle.formula_resolving.specs.Numbering.{Grows}
 use Rattle.formula_store.specs.declared.id.FormulaId.{FormulaId}
 use Rattle.formula_store.specs.Nodes.{tree}
 use Rattle.formula_store.specs.Truths.{Tells, IsWholeWhereAsked}
-use Rattle.session_commands.specs.declared.line.Line.{Line}
-use Rattle.session_commands.specs.declared.line.StatementError.{StatementError}
+use Rattle.session_meaning.specs.declared.line.Line.{Line}
+use Rattle.session_meaning.specs.declared.line.StatementError.{StatementError}
 use Rattle.session_commands.specs.declared.desk.Desk.{Desk}
-use Rattle.session_commands.specs.State.{State}
+use Rattle.session_meaning.specs.State.{State}
 use Rattle.session_commands.specs.Asked.{HasNoneBelow, IsAsked}
 use Rattle.session_commands.specs.Commands.{named, entry_names}
 use Rattle.session_commands.specs.Causes.{Refuses}
 use Rattle.session_commands.specs.Keeping.{state_of, IsDesk}
-use Rattle.session_commands.specs.Points.{IsQuantified, IsTruth}
-use Rattle.session_commands.specs.Reply.{IsLine, AnswersCommand}
-use Rattle.session_commands.specs.Words.{truth_text}
+use Rattle.session_meaning.specs.Points.{IsQuantified, IsTruth}
+use Rattle.session_meaning.specs.Reply.{IsLine}
+use Rattle.session_commands.specs.Reply.{AnswersCommand}
+use Rattle.session_meaning.specs.Words.{truth_text}
 use Rattle.session_commands.specs.Steps.{use_of, HasNumbers, KeepsDesk}
 use Rattle.session_commands.specs.Truths.{RefusesTruth, ValueStop, EliminationStop}
 use Rattle.session_commands.proofs.AskedSteps.{same, theory, asked_normal, named_desk, start}
@@ -62,13 +63,13 @@ module _ (old new : Desk) (f : FormulaTree) (es : List PointEntry) (desk : IsDes
   here : (P : Tree → List (List ℕ) → Type 0) → P (tree new.store i) new.names → P t s.names
   here P h = subst (P t) k.names (subst (λ (u : Tree). P u new.names) a.made.same h)
 
-  truth_is : (b : Bool) → (IsTrue b ↔ TrueAt s.context t (at_names s.names (point_of q))) → IsTruth s (Holds f es) b
+  truth_is : (b : Bool) → (IsTrue b ↔ TrueAt s.context t (at_names s.names (point_of q))) → IsTruth s f es b
   truth_is b h = is_truth s f es (point_of q) a.meant numbers b desk.sound.names_once a.readable a.theory h
 
-  pub truth_told : (r : Result Bool StatementError) → IfOk r (λ b. Tells b (tree new.store i) (at_names new.names (point_of q))) → IfOk r (IsTruth s (Holds f es))
+  pub truth_told : (r : Result Bool StatementError) → IfOk r (λ b. Tells b (tree new.store i) (at_names new.names (point_of q))) → IfOk r (IsTruth s f es)
   truth_told r h = ok_map r (λ b u. truth_is b (told_in s.context b _ _ (here (λ v ns. Tells b v (at_names ns (point_of q))) u))) h
 
-  pub eliminated_told : (r : Result Bool StatementError) → IfOk r (λ b. IsTrue b ↔ TrueAt (context_of new.context) (tree new.store i) (at_names new.names (point_of q))) → IfOk r (IsTruth s (Holds f es))
+  pub eliminated_told : (r : Result Bool StatementError) → IfOk r (λ b. IsTrue b ↔ TrueAt (context_of new.context) (tree new.store i) (at_names new.names (point_of q))) → IfOk r (IsTruth s f es)
   eliminated_told r h =
       ok_map r (λ b u. truth_is b (here (λ v ns. IsTrue b ↔ TrueAt s.context v (at_names ns (point_of q)))
       (subst (λ c. IsTrue b ↔ TrueAt c (tree new.store i) (at_names new.names (point_of q))) theory_is u))) h
@@ -94,7 +95,7 @@ module _ (desk : Desk) (names : List (List ℕ)) (f : FormulaTree) (es : List Po
       → IfErr r (Refuses (named (state_of desk) (Holds f es)) limit (use_of None printed) (Holds f es))
   truth_refused r limit printed k = err_map r (λ e t. subst (λ s. Refuses s limit (use_of None printed) (Holds f es) e) (start desk names f es h grown is proper proper_entries) (t printed)) k
 
-  pub truth_answered : (r : Result Line StatementError) (limit : ℕ) (printed b : Bool) (text : List ℕ) → IsTruth (state_of (named_desk desk names f es h grown is proper proper_entries)) (Holds f es) b → HasNoneBelow (state_of (named_desk desk names f es h grown is proper proper_entries)) f es 19 → text ≡ truth_text b
+  pub truth_answered : (r : Result Line StatementError) (limit : ℕ) (printed b : Bool) (text : List ℕ) → IsTruth (state_of (named_desk desk names f es h grown is proper proper_entries)) f es b → HasNoneBelow (state_of (named_desk desk names f es h grown is proper proper_entries)) f es 19 → text ≡ truth_text b
       → IfOk r (IsLine printed text) → (after : List (List ℕ)) → IfOk r (AnswersCommand (named (state_of desk) (Holds f es)) limit printed (Holds f es) after)
   truth_answered r limit printed b text truth clear same k after =
       ok_map r (λ line l. subst (λ s. AnswersCommand s limit printed (Holds f es) after line) (start desk names f es h grown is proper proper_entries) ((clear limit printed).0, (text, (b, truth, same), l))) k

@@ -2,10 +2,10 @@
 use Rattle.std.specs.Prelude.{◌≢◌, ℕ, Bool}
 use Rattle.formula_meaning.specs.Formula.{Yes}
 use Rattle.qe_syntax.specs.Statements.{Echo, Say, StatementTree}
-use Rattle.session_commands.specs.declared.line.StatementError.{StatementError}
-use Rattle.session_commands.specs.declared.line.StatementError.TheVariants as error
-use Rattle.session_commands.specs.State.{State}
-use Rattle.session_commands.specs.Reply.{RefusesAction}
+use Rattle.session_meaning.specs.declared.line.StatementError.{StatementError}
+use Rattle.session_meaning.specs.declared.line.StatementError.TheVariants as error
+use Rattle.session_meaning.specs.State.{State}
+use Rattle.session_meaning.specs.Reply.{RefusesAction}
 
 -- in every state and under every limit of nodes there is no cause to refuse the statement; only memory may run out
 abbrev pub IsNeverRefused : StatementTree → Type 0

@@ -18,11 +18,11 @@ use Rattle.formula_resolving.specs.declared.error.StaticError.{StaticError}
 use Rattle.formula_resolving.specs.Refusals.{Applies}
 use Rattle.formula_store.specs.declared.id.FormulaId.{FormulaId}
 use Rattle.formula_store.specs.Nodes.{tree, IsId}
-use Rattle.session_commands.specs.declared.line.StatementError.{StatementError}
-use Rattle.session_commands.specs.declared.line.StatementError.TheVariants as error
+use Rattle.session_meaning.specs.declared.line.StatementError.{StatementError}
+use Rattle.session_meaning.specs.declared.line.StatementError.TheVariants as error
 use Rattle.session_commands.specs.declared.desk.Desk.{Desk}
-use Rattle.session_commands.specs.State.{State}
-use Rattle.session_commands.specs.Points.{MeanNoPoint, HasUnvalued}
+use Rattle.session_meaning.specs.State.{State}
+use Rattle.session_meaning.specs.Points.{MeanNoPoint, HasUnvalued}
 use Rattle.session_commands.specs.Causes.{rank, Refuses, HasNoCauseBelow}
 use Rattle.session_commands.specs.Steps.{static_refusal, use_of, IsReadable}
 

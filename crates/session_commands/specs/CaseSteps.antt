@@ -8,8 +8,8 @@ use Rattle.formula_meaning.specs.Numbers.{IsAtomInLimit}
 use Rattle.formula_meaning.specs.Tree.{Tree}
 use Rattle.elimination_reference.specs.Cases.{Case, reference_cases}
 use Rattle.formula_meaning.specs.Measured.{Overflow, Nodes, done, stopped}
-use Rattle.session_commands.specs.declared.line.StatementError.{StatementError}
-use Rattle.session_commands.specs.declared.line.StatementError.TheVariants as error
+use Rattle.session_meaning.specs.declared.line.StatementError.{StatementError}
+use Rattle.session_meaning.specs.declared.line.StatementError.TheVariants as error
 use Rattle.session_commands.specs.Steps.{IsSimplifiedAs}
 
 -- a case with its guard simplified under the atoms ks, where it has not become false; the numbers of the guard are within the limit

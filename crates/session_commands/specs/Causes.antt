@@ -1,5 +1,5 @@
--- Why a command is refused: each cause on its own, over the whole statement, and their order. The state is one in which the
--- variables of the command have their numbers.
+-- Why a command is refused, by the ranks of the causes, as the private contracts of this crate speak of it. The state is one in which the variables of the command have
+-- their numbers. That this agrees with the causes of `session_meaning` is a step of the law `replies_agree`.
 use Rattle.std.specs.Prelude.{◌≡◌, ◌⊎◌, ◌*◌, ℕ, ◌<◌, ◌≤◌, List, ◌++◌, Bool, true, Option, Some, None, length, codes}
 use Rattle.formula_meaning.specs.declared.junction.Junction.TheVariants.{Conjunction, Disjunction}
 use Rattle.formula_meaning.specs.Some.{SomeOf}
@@ -23,18 +23,15 @@ use Rattle.clean_forms.specs.Plain.{plain_form, literals}
 use Rattle.prenex_forms.specs.Forms.{OverflowsInRenaming}
 use Rattle.redlog_printer.specs.Text.{tree_text}
 use Rattle.redlog_printer.specs.Writing.{text_limit}
-use Rattle.session_commands.specs.declared.line.StatementError.{StatementError}
-use Rattle.session_commands.specs.declared.line.StatementError.TheVariants as error
-use Rattle.session_commands.specs.declared.formulas.TheConstants.{MOST_SUBFORMULAS}
-use Rattle.session_commands.specs.State.{State}
+use Rattle.session_meaning.specs.declared.line.StatementError.{StatementError}
+use Rattle.session_meaning.specs.declared.line.StatementError.TheVariants as error
+use Rattle.session_meaning.specs.declared.TheConstants.{MOST_SUBFORMULAS}
+use Rattle.session_meaning.specs.State.{State}
 use Rattle.session_commands.specs.Parts.{given_of, SomePart}
-use Rattle.session_commands.specs.Commands.{formula_of, entries_of, resolved, negated_of, Gives, HasAnswerNames}
-use Rattle.session_commands.specs.Points.{MeanNoPoint, HasUnvalued, IsQuantified, TruthPasses}
-
--- what is done with what a command gives: a name that it is bound to, and whether its line is printed
-pub record Use : Type 0 where
-  pub target : Option (List ℕ)
-  pub printed : Bool
+use Rattle.session_meaning.specs.FormulaAnswers.{negated_of}
+use Rattle.session_meaning.specs.Causes.{Use, HasNoRoom, IsTooLarge, HasManyNodes, formula_line}
+use Rattle.session_commands.specs.Commands.{formula_of, entries_of, resolved, Gives, HasAnswerNames}
+use Rattle.session_meaning.specs.Points.{MeanNoPoint, HasUnvalued, IsQuantified, TruthPasses}
 
 -- the command asks for the truth at a point
 abbrev pub AsksTruth : CommandTree → Type 0
@@ -57,23 +54,6 @@ AsksPlainForm _ = ⊥
 abbrev pub AsksNegationNormal : CommandTree → Type 0
 AsksNegationNormal (Nnf f) = Unit {0}
 AsksNegationNormal _ = ⊥
-
--- ---- what is bound and printed
-
--- the name, if there is one, is new, and as many names are bound as may be
-abbrev pub HasNoRoom : BoundTrees → Option (List ℕ) → Type 0
-HasNoRoom bound None = ⊥
-HasNoRoom bound (Some x) = (bound_to bound x ≡ None) × (most_bound ≤ length bound)
-
--- the formula is bound, and has more distinct subformulas than a bound formula may have
-abbrev pub IsTooLarge : Option (List ℕ) → Tree → Type 0
-IsTooLarge None t = ⊥
-IsTooLarge (Some x) t = MOST_SUBFORMULAS < tree_distinct t
-
--- the line of a formula: its text, after the name that it is bound to
-abbrev pub formula_line : Option (List ℕ) → List (List ℕ) → Tree → List ℕ
-formula_line None names t = tree_text names t
-formula_line (Some x) names t = x ++ codes " := " ++ tree_text names t
 
 -- the line of the formula that the command determines is past the limit, with the names after the answer
 pub record HasLongLine (s : State) (u : Use) (c : CommandTree) : Type 0 where
@@ -148,12 +128,7 @@ IsOverLimit s limit _ = ⊥
 
 -- a product or a partial sum of the value of an atom passes the limit at the point, in a formula without quantifiers
 abbrev pub ValuePassesAt : State → CommandTree → Type 0
-ValuePassesAt s c = AsksTruth c × (¬ (IsQuantified s.bound (formula_of c))) × TruthPasses s c
-
--- the formula is bound, and has more nodes than a bound formula may have distinct subformulas
-abbrev pub HasManyNodes : Option (List ℕ) → Tree → Type 0
-HasManyNodes None t = ⊥
-HasManyNodes (Some x) t = MOST_SUBFORMULAS < nodes t
+ValuePassesAt s c = AsksTruth c × (¬ (IsQuantified s.bound (formula_of c))) × TruthPasses s (formula_of c) (entries_of c)
 
 -- The command may be refused with the word: its cause applies, or one for which a command may be refused and need not be.
 abbrev pub MayRefuse : State → ℕ → Use → CommandTree → StatementError → Type 0

@@ -1,4 +1,5 @@
--- The parts of a command, and the formula that it gives.
+-- The parts of a command, and the formula that it gives, as the private contracts of this crate speak of them. What a command means is said in `session_meaning`;
+-- that the two agree is the law `replies_agree`.
 use Rattle.std.specs.Prelude.{◌≡◌, ◌↔◌, ◌≤◌, ℕ, List, [], ◌++◌, map, length}
 use Rattle.std.specs.List.{AllByRecursion, fold}
 use Rattle.formula_meaning.specs.declared.junction.Junction.{Junction}
@@ -29,9 +30,9 @@ use Rattle.clean_forms.specs.Clean.{IsCleanForm}
 use Rattle.clean_forms.specs.Plain.{plain_form}
 use Rattle.simplified_formulas.specs.Measure.{size, atom_measure}
 use Rattle.simplified_formulas.specs.Trees.{IsReduced}
-use Rattle.session_commands.specs.State.{State}
+use Rattle.session_meaning.specs.State.{State, with_names}
+use Rattle.session_meaning.specs.FormulaAnswers.{negated_of, IsPrenexAnswer, HasNewNames, IsSimplification, IsCleanAnswer, IsCondition}
 use Rattle.session_commands.specs.Parts.{given_of}
-use Rattle.session_commands.specs.Assumptions.{Hold, assumed}
 
 -- the formula that the command is about
 abbrev pub formula_of : CommandTree → FormulaTree
@@ -73,17 +74,13 @@ command_variables c = formula_variables (formula_of c) ++ (all_variables (given_
 
 -- the state with the new variables of the command after its names
 abbrev pub named : State → CommandTree → State
-named s c = record { context = s.context; names = fold with_name s.names (command_variables c); bound = s.bound }
+named s c = with_names s (fold with_name s.names (command_variables c))
 
 -- What follows is said of a state in which the variables of the command have their numbers.
 
 -- the resolved formula of the command
 abbrev pub resolved : State → CommandTree → Tree
 resolved s c = resolve s.context s.bound s.names (formula_of c)
-
--- the negation normal form of a resolved formula
-abbrev pub negated_of : State → FormulaTree → Tree
-negated_of s f = normal_form negated_normal (resolve s.context s.bound s.names f)
 
 -- the formula that the command determines is this one; a query determines none, and simplification, clean forms and elimination leave a choice
 abbrev pub Gives : State → CommandTree → Tree → Type 0
@@ -92,71 +89,10 @@ Gives s (Nnf f) t = t ≡ normal_form negated_normal (resolved s (Nnf f))
 Gives s (Pnf f) t = t ≡ prenex_of s.context (length s.names) (negated_of s f)
 Gives s _ t = ⊥
 
--- ---- prenex forms
-
--- The formula is the prenex form of the negation normal form. So it is prenex, with the fewest blocks that the nesting of the quantifiers allows, and true exactly
--- where the command's formula is, as it is written, at every point of the theory. Its free names are those of the resolved formula, its atoms are normal, and its lists
--- have two members at least. The negation normal form has no more nodes than the limit, and no number of a renamed atom passes the limit of numbers.
-pub record IsPrenexAnswer (s : State) (limit : ℕ) (f : FormulaTree) (t : Tree) : Type 0 where
-  pub form : Gives s (Pnf f) t
-  pub prenex : IsPrenex t
-  pub fewest : block_count t ≡ fewest_blocks (negated_of s f)
-  pub truth : (p : written.NamedPoint) → Of s.context p → written.TrueAt (bound_truth s.context s.bound s.names) s.context f p ↔ TrueAt s.context t (at_names s.names p)
-  pub names : (n : ℕ) → IsFree t n ↔ IsFree (resolve s.context s.bound s.names f) n
-  pub normal : Every (IsNormal s.context) t
-  pub members : HasTwoMembers t
-  pub small : nodes (negated_of s f) ≤ limit
-  pub fits : ¬ (OverflowsInRenaming s.context (length s.names) (negated_of s f))
-
--- The names with the new ones of the prenex form of a resolved formula behind them. They are ones that a script can write, where the others are.
-pub record HasNewNames (names : List (List ℕ)) (f : Tree) (after : List (List ℕ)) : Type 0 where
-  pub added : AddsNewNames names (new_count (length names) (normal_form negated_normal f)) after
-  pub variables : AllByRecursion IsVariable names → AllByRecursion IsVariable after
-
 -- the names after the answer of a command: those of the state, and the new ones of a prenex form
 abbrev pub HasAnswerNames : State → CommandTree → List (List ℕ) → Type 0
 HasAnswerNames s (Pnf f) names = HasNewNames s.names (resolved s (Pnf f)) names
 HasAnswerNames s _ names = names ≡ s.names
-
--- ---- simplification, clean forms and elimination
-
--- The formula is simplified under the assumptions: it is Reduced under them, and true exactly where the command's formula is, as it is written, at every
--- point of the theory where the assumptions are true. It is no larger than the negation normal form: it has no more nodes, no more places of atoms, no
--- longer text, and no other names, free or quantified. Its atoms are normal, and its lists have two members at least.
-pub record IsSimplification (s : State) (f : FormulaTree) (given : FormulaTrees) (t : Tree) : Type 0 where
-  pub reduced : IsReduced s.context t (assumed s given)
-  pub truth : (p : written.NamedPoint) → Of s.context p → Hold s given p → written.TrueAt (bound_truth s.context s.bound s.names) s.context f p ↔ TrueAt s.context t (at_names s.names p)
-  pub names : (n : ℕ) → IsFree t n → IsFree (negated_of s f) n
-  pub quantified : (n : ℕ) → EveryBound (λ x. ¬ (x ≡ n)) (negated_of s f) → EveryBound (λ x. ¬ (x ≡ n)) t
-  pub nodes : nodes t ≤ nodes (negated_of s f)
-  pub atoms : size atom_measure t ≤ size atom_measure (negated_of s f)
-  pub text : length (tree_text s.names t) ≤ length (tree_text s.names (negated_of s f))
-  pub normal : Every (IsNormal s.context) t
-  pub members : HasTwoMembers t
-
--- The formula is a clean disjunctive form, where j is and, or a clean conjunctive form, and true exactly where the command's formula is, as it is written, at
--- every point of the theory. It has no other free names than the negation normal form, and no more nodes and no longer text than the plain form. Its atoms are
--- normal, and its lists have two members at least.
-pub record IsCleanAnswer (s : State) (j : Junction) (f : FormulaTree) (t : Tree) : Type 0 where
-  pub clean : IsCleanForm s.context j t
-  pub truth : (p : written.NamedPoint) → Of s.context p → written.TrueAt (bound_truth s.context s.bound s.names) s.context f p ↔ TrueAt s.context t (at_names s.names p)
-  pub names : (n : ℕ) → IsFree t n → IsFree (negated_of s f) n
-  pub nodes : nodes t ≤ nodes (plain_form j (negated_of s f))
-  pub text : length (tree_text s.names t) ≤ length (tree_text s.names (plain_form j (negated_of s f)))
-  pub normal : Every (IsNormal s.context) t
-  pub members : HasTwoMembers t
-
--- The formula has no quantifier and no free name but those of the resolved formula. It is Reduced under the assumptions, and true exactly where the command's
--- formula is, as it is written, at every point of the theory where the assumptions are true. It has at most so many nodes, normal atoms, and lists of two members
--- at least.
-pub record IsCondition (s : State) (limit : ℕ) (f : FormulaTree) (given : FormulaTrees) (t : Tree) : Type 0 where
-  pub free : IsQuantifierFree t
-  pub names : (n : ℕ) → IsFree t n → IsFree (resolve s.context s.bound s.names f) n
-  pub reduced : IsReduced s.context t (assumed s given)
-  pub truth : (p : written.NamedPoint) → Of s.context p → Hold s given p → written.TrueAt (bound_truth s.context s.bound s.names) s.context f p ↔ TrueAt s.context t (at_names s.names p)
-  pub small : nodes t ≤ limit
-  pub normal : Every (IsNormal s.context) t
-  pub members : HasTwoMembers t
 
 -- under a limit of nodes the formula is as the command asks
 abbrev pub IsFormulaFor : State → ℕ → CommandTree → Tree → Type 0
@@ -167,11 +103,8 @@ IsFormulaFor s limit (Dnf f) t = IsCleanAnswer s Conjunction f t
 IsFormulaFor s limit (Cnf f) t = IsCleanAnswer s Disjunction f t
 IsFormulaFor s limit (Simpl f given) t = IsSimplification s f given t
 IsFormulaFor s limit (Qe f given) t = IsCondition s limit f given t
-IsFormulaFor s limit (Qea f given) t = ⊥
-IsFormulaFor s limit (Holds f es) t = ⊥
-IsFormulaFor s limit (Sample f es) t = ⊥
+IsFormulaFor s limit _ t = ⊥
 
 -- the command may give this formula, each of whose numbers is within the limit of numbers
-pub record MayGive (s : State) (limit : ℕ) (c : CommandTree) (t : Tree) : Type 0 where
-  pub asked : IsFormulaFor s limit c t
-  pub numbers : Every IsAtomInLimit t
+abbrev pub MayGive : State → ℕ → CommandTree → Tree → Type 0
+MayGive s limit c t = IsFormulaFor s limit c t × Every IsAtomInLimit t

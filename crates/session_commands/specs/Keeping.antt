@@ -17,7 +17,7 @@ use Rattle.formula_store.specs.Nodes.{tree, IsId}
 use Rattle.formula_meaning.specs.Within.{IsTreeWithin}
 use Rattle.formula_meaning.specs.Members.{HasTwoMembers}
 use Rattle.session_commands.specs.declared.desk.Desk.{Desk}
-use Rattle.session_commands.specs.State.{State}
+use Rattle.session_meaning.specs.State.{State}
 
 -- the ids of what is bound, in order
 abbrev pub ids_bound : List (List ℕ × FormulaId) → List FormulaId

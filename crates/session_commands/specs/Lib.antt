@@ -1,14 +1,9 @@
-pub mod Words
-pub mod State
 pub mod Parts
-pub mod Assumptions
 pub mod Commands
-pub mod Points
-pub mod Cases
-pub mod Samples
 pub mod Causes
 pub mod Reply
 pub mod Accepted
+pub mod Agreement
 pub mod Keeping
 pub mod Seen
 pub mod Steps

@@ -1,36 +1,27 @@
--- What a statement is answered with in a state, and the state after it.
+-- What a statement is answered with in a state, and the state after it, as the private contracts of this crate speak of it.
 use Rattle.std.specs.Prelude.{◌≡◌, ◌≤◌, ℕ, List, length, Bool, true, false, Option, Some, None, Result, Ok, Err}
 use Rattle.formula_meaning.specs.Tree.{Tree, tree_distinct}
 use Rattle.elimination_reference.specs.Cases.{Case}
 use Rattle.sample_reference.specs.Values.{Value}
 use Rattle.answer_texts.specs.Answers.{cases_text}
 use Rattle.qe_syntax.specs.Statements.{CommandTree, Qea, Holds, Sample, ActionTree, Empty, Ignored, Finish, Choose, Say, Assign, StatementTree}
-use Rattle.formula_tree.specs.Bindings.{bind}
 use Rattle.redlog_reader.specs.Statement.{Spells, Unread}
 use Rattle.redlog_tokens.specs.declared.token.ReadError.TheVariants as reading
 use Rattle.redlog_printer.specs.Writing.{text_limit}
-use Rattle.session_commands.specs.declared.formulas.TheConstants.{MOST_SUBFORMULAS}
-use Rattle.session_commands.specs.declared.line.Line.{Line}
-use Rattle.session_commands.specs.declared.line.Line.TheVariants as line
-use Rattle.session_commands.specs.declared.line.StatementError.{StatementError}
-use Rattle.session_commands.specs.declared.line.StatementError.TheVariants as error
-use Rattle.session_commands.specs.Words.{truth_text, context_text}
-use Rattle.session_commands.specs.State.{State, with_names, theory_of, chosen}
+use Rattle.session_meaning.specs.declared.TheConstants.{MOST_SUBFORMULAS}
+use Rattle.session_meaning.specs.declared.line.Line.{Line}
+use Rattle.session_meaning.specs.declared.line.Line.TheVariants as line
+use Rattle.session_meaning.specs.declared.line.StatementError.{StatementError}
+use Rattle.session_meaning.specs.declared.line.StatementError.TheVariants as error
+use Rattle.session_meaning.specs.Words.{truth_text, context_text}
+use Rattle.session_meaning.specs.State.{State, with_names, with_bound, theory_of, chosen}
 use Rattle.session_commands.specs.Commands.{named, MayGive, HasAnswerNames}
-use Rattle.session_commands.specs.Points.{IsTruth}
-use Rattle.session_commands.specs.Cases.{IsCaseAnswer}
-use Rattle.session_commands.specs.Samples.{IsSampleAnswer, sample_text}
-use Rattle.session_commands.specs.Causes.{formula_line, Refuses, IsAccepted}
-
--- the line is this text, where it is printed, and then it is within the limit of a line
-abbrev pub IsLine : Bool → List ℕ → Line → Type 0
-IsLine printed text line.Nothing = printed ≡ false
-IsLine printed text (line.Printed bytes) = (printed ≡ true) × (bytes.items ≡ text) × (length text ≤ text_limit)
-IsLine printed text line.Finished = ⊥
-
--- the state with the formula bound to the name
-abbrev pub with_bound : State → List ℕ → Tree → State
-with_bound s x t = record { context = s.context; names = s.names; bound = bind s.bound x t }
+use Rattle.session_meaning.specs.Points.{IsTruth}
+use Rattle.session_meaning.specs.Cases.{IsCaseAnswer}
+use Rattle.session_meaning.specs.Samples.{IsSampleAnswer, sample_text}
+use Rattle.session_meaning.specs.Causes.{formula_line}
+use Rattle.session_meaning.specs.Reply.{IsLine}
+use Rattle.session_commands.specs.Causes.{Refuses, IsAccepted}
 
 -- the text is that of a formula that the command may give, with these names
 abbrev pub IsFormulaText : State → ℕ → CommandTree → List (List ℕ) → List ℕ → Type 0
@@ -39,7 +30,7 @@ IsFormulaText s limit c names text = (t : Tree) × MayGive s limit c t × (text 
 -- The text that a command answers with under a limit of nodes, in a state in which its variables have their numbers. The names are those after the answer.
 abbrev pub Tells : State → ℕ → CommandTree → List (List ℕ) → List ℕ → Type 0
 Tells s limit (Qea f given) names text = (ks : List Case) × IsCaseAnswer s f given ks × (text ≡ cases_text s.names ks)
-Tells s limit (Holds f es) names text = (answer : Bool) × IsTruth s (Holds f es) answer × (text ≡ truth_text answer)
+Tells s limit (Holds f es) names text = (answer : Bool) × IsTruth s f es answer × (text ≡ truth_text answer)
 Tells s limit (Sample f es) names text = (sample : Option (List Value)) × IsSampleAnswer s f es sample × (text ≡ sample_text s.names sample)
 Tells s limit c names text = IsFormulaText s limit c names text
 

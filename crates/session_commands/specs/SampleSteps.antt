@@ -11,10 +11,10 @@ use Rattle.redlog_printer.specs.Writing.{text_limit}
 use Rattle.qe_syntax.specs.declared.statement.PointEntry.{PointEntry}
 use Rattle.qe_syntax.specs.Statements.{Sample}
 use Rattle.qe_syntax.specs.Trees.{FormulaTree}
-use Rattle.session_commands.specs.declared.line.StatementError.{StatementError}
-use Rattle.session_commands.specs.declared.line.StatementError.TheVariants as error
-use Rattle.session_commands.specs.State.{State}
-use Rattle.session_commands.specs.Samples.{IsSampleAnswer, sample_text}
+use Rattle.session_meaning.specs.declared.line.StatementError.{StatementError}
+use Rattle.session_meaning.specs.declared.line.StatementError.TheVariants as error
+use Rattle.session_meaning.specs.State.{State}
+use Rattle.session_meaning.specs.Samples.{IsSampleAnswer, sample_text}
 use Rattle.session_commands.specs.Causes.{Refuses, HasNoCauseBelow}
 use Rattle.session_commands.specs.Steps.{use_of}
 

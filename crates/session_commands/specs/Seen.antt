@@ -8,7 +8,7 @@ use Rattle.formula_resolving.specs.Refusals.{trees_bound}
 use Rattle.formula_store.specs.declared.id.FormulaId.{FormulaId}
 use Rattle.formula_store.specs.Nodes.{tree}
 use Rattle.session_commands.specs.declared.session.Limits.{Limits}
-use Rattle.session_commands.specs.State.{State}
+use Rattle.session_meaning.specs.State.{State}
 
 pub record Seen : Type 0 where
   pub context : Context

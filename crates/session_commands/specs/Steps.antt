@@ -46,21 +46,25 @@ use Rattle.redlog_printer.specs.declared.error.PrintError.TheVariants as print
 use Rattle.redlog_printer.specs.Text.{tree_text}
 use Rattle.formula_meaning.specs.Within.{IsAtomWithin}
 use Rattle.redlog_printer.specs.Writing.{text_limit}
-use Rattle.session_commands.specs.declared.line.Line.{Line}
-use Rattle.session_commands.specs.declared.line.StatementError.{StatementError}
-use Rattle.session_commands.specs.declared.line.StatementError.TheVariants as error
+use Rattle.session_meaning.specs.declared.line.Line.{Line}
+use Rattle.session_meaning.specs.declared.line.StatementError.{StatementError}
+use Rattle.session_meaning.specs.declared.line.StatementError.TheVariants as error
 use Rattle.session_commands.specs.declared.formulas.Wanted.{Wanted}
 use Rattle.session_commands.specs.declared.formulas.Wanted.TheVariants as wanted
 use Rattle.session_commands.specs.declared.formulas.Way.{Way}
 use Rattle.session_commands.specs.declared.formulas.Way.TheVariants as way
 use Rattle.session_commands.specs.declared.desk.Desk.{Desk}
-use Rattle.session_commands.specs.State.{State, with_names}
-use Rattle.session_commands.specs.Assumptions.{assumed}
+use Rattle.session_meaning.specs.State.{State, with_names}
+use Rattle.session_meaning.specs.Assumptions.{assumed}
 use Rattle.session_commands.specs.Parts.{SomePart, EachPart}
-use Rattle.session_commands.specs.Commands.{MayGive, HasNewNames, HasAnswerNames}
-use Rattle.session_commands.specs.Points.{IsQuantified}
-use Rattle.session_commands.specs.Causes.{Use, formula_line, HasNoRoom, IsTooLarge, IsAccepted}
-use Rattle.session_commands.specs.Reply.{with_bound, IsLine, RefusesAction}
+use Rattle.session_meaning.specs.FormulaAnswers.{HasNewNames}
+use Rattle.session_commands.specs.Commands.{MayGive, HasAnswerNames}
+use Rattle.session_meaning.specs.Points.{IsQuantified}
+use Rattle.session_meaning.specs.Causes.{Use, formula_line, HasNoRoom, IsTooLarge}
+use Rattle.session_commands.specs.Causes.{IsAccepted}
+use Rattle.session_meaning.specs.State.{with_bound}
+use Rattle.session_meaning.specs.Reply.{IsLine}
+use Rattle.session_commands.specs.Reply.{RefusesAction}
 
 abbrev pub read_refusal : ReadError → StatementError
 read_refusal reading.Long = error.Long

@@ -11,13 +11,13 @@ ghost use Rattle.formula_resolving.specs.Refusals.{AreIds, rank};
 ghost use Rattle.formula_store.specs.Nodes.{tree, IsId};
 ghost use Rattle.qe_syntax.specs.Writable.{IsWritableFormula};
 ghost use Rattle.qe_syntax.specs.Trees.{formula_tree, formulas_of};
-ghost use Rattle.session_commands.specs.Assumptions.{atoms_alone, assumed};
+ghost use Rattle.session_meaning.specs.Assumptions.{atoms_alone, assumed};
 ghost use Rattle.session_commands.specs.Keeping.{state_of};
 ghost use Rattle.session_commands.specs.Steps.{KeepsDesk, HasNumbers, IsFirstWith, ArePartsNumbered, ArePartsReadable, ArePartsUnread, FirstAmong, first_of, AppliesToSome};
 
 use crate::desk::Desk;
 use crate::formulas::{resolved_part, static_refusal};
-use crate::line::StatementError;
+use session_meaning::StatementError;
 use atom_normal::Atom;
 use formula_resolving::{StaticError, number_formula};
 use formula_store::FormulaId;

@@ -3,9 +3,9 @@
 ghost use Rattle.std.specs.Prelude.{◌≡◌, OnOk, IfOk, IfErr, length};
 ghost use Rattle.std.specs.Map.{keys_of};
 ghost use Rattle.session_commands.specs.Keeping.{state_of, IsDesk, ids_bound};
-ghost use Rattle.session_commands.specs.State.{first_state};
+ghost use Rattle.session_meaning.specs.State.{first_state};
 
-use crate::line::StatementError;
+use session_meaning::StatementError;
 use atom_normal::Context;
 use formula_store::{FormulaId, Store};
 use formula_tree::{Bindings, Names};

@@ -15,13 +15,13 @@ ghost use Rattle.simplified_formulas.specs.Orderly.{IsOrderly};
 ghost use Rattle.formula_store.specs.Nodes.{tree, IsId};
 ghost use Rattle.formula_meaning.specs.Members.{HasTwoMembers};
 ghost use Rattle.formula_meaning.specs.Within.{IsTreeWithin};
-ghost use Rattle.session_commands.specs.Commands.{HasNewNames};
+ghost use Rattle.session_meaning.specs.FormulaAnswers.{HasNewNames};
 ghost use Rattle.session_commands.specs.Steps.{KeepsDesk, GrowsDesk, IsWantedForm, HasFormNames, FormFault, IsPrenexAs, PrenexFault, IsDistributed, junction_of, IsCleanedAs, IsEliminatedAs, IsSimplifiedAs, IsWantedAnswer, EliminationFault, NegationFault, measured_refusal as refusal_of_measured};
 
 use crate::assumptions::Premised;
 use crate::desk::Desk;
 use crate::formulas::{Wanted, Way};
-use crate::line::StatementError;
+use session_meaning::StatementError;
 use atom_normal::Atom;
 use formula_store::FormulaId;
 use formula_tree::FormError;

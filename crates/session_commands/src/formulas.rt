@@ -16,17 +16,18 @@ ghost use Rattle.redlog_printer.specs.Writing.{text_limit};
 ghost use Rattle.qe_syntax.specs.Writable.{IsWritableFormula, AreWritableFormulas};
 ghost use Rattle.qe_syntax.specs.Statements.{command_tree};
 ghost use Rattle.qe_syntax.specs.Trees.{formula_tree, formulas_of};
-ghost use Rattle.session_commands.specs.Assumptions.{assumed};
+ghost use Rattle.session_meaning.specs.Assumptions.{assumed};
 ghost use Rattle.session_commands.specs.Commands.{named, GivesFormula};
-ghost use Rattle.session_commands.specs.Causes.{formula_line, Refuses, HasNoRoom};
+ghost use Rattle.session_meaning.specs.Causes.{formula_line, HasNoRoom};
+ghost use Rattle.session_commands.specs.Causes.{Refuses};
 ghost use Rattle.session_commands.specs.Keeping.{state_of, IsDesk};
-ghost use Rattle.session_commands.specs.Reply.{IsLine};
+ghost use Rattle.session_meaning.specs.Reply.{IsLine};
 ghost use Rattle.session_commands.specs.Steps.{static_refusal as refusal_of_static, HasUnwantedQuantifier, ArePartsNumbered, IsReady, IsUnready, given_trees, command_of, use_of, IsGiven, IsWantedOf, KeepsDesk, GrowsDesk, HasNumbers, IsUnread, IsReadable, MayBind, TargetFault, LineFault, IsLineOf, GiveFault, bound_after};
 
 use crate::assumptions::{Premised, number_parts, read_parts};
 use crate::desk::Desk;
 use crate::forms::formed;
-use crate::line::{Line, StatementError};
+use session_meaning::{Line, MOST_SUBFORMULAS, StatementError};
 use crate::texts::text_of;
 use formula_resolving::{StaticError, linearise};
 use formula_store::FormulaId;
@@ -35,9 +36,6 @@ use free_names::is_quantified;
 use qe_syntax::{Command, Formula, Formulas, Name};
 use redlog_printer::TEXT_LIMIT;
 use std::alloc::Global;
-
-/// A bound formula has at most so many distinct subformulas.
-pub const MOST_SUBFORMULAS: u64 = 100_000;
 
 /// At most so many names are bound.
 const MOST_BOUND: usize = 256;

@@ -20,15 +20,15 @@ ghost use Rattle.session_commands.specs.Asked.{HaveNumbers, HasNoneBelow};
 ghost use Rattle.session_commands.specs.Commands.{named};
 ghost use Rattle.session_commands.specs.Causes.{Refuses};
 ghost use Rattle.session_commands.specs.Keeping.{state_of, IsDesk};
-ghost use Rattle.session_commands.specs.Points.{IsTruth};
+ghost use Rattle.session_meaning.specs.Points.{IsTruth};
 ghost use Rattle.session_commands.specs.Reply.{AnswersCommand};
 ghost use Rattle.session_commands.specs.Steps.{use_of, HasNumbers, KeepsDesk, GrowsDesk};
 ghost use Rattle.session_commands.specs.Truths.{RefusesTruth, ValueStop, EliminationStop};
-ghost use Rattle.session_commands.specs.Words.{truth_text};
+ghost use Rattle.session_meaning.specs.Words.{truth_text};
 
 use crate::desk::Desk;
 use crate::forms::measured_refusal;
-use crate::line::{Line, StatementError};
+use session_meaning::{Line, StatementError};
 use crate::lines::printed_line;
 use crate::points::{asked, number_command, values_of};
 use formula_store::{EvalStop, FormulaId};
@@ -81,7 +81,7 @@ fn truth(
     requires desk { IsDesk desk.old }
     requires numbered { HasNumbers desk.old.names (formula_tree formula.now) }
     requires valued { HaveNumbers desk.old.names entries.now }
-    ensures truth { IfOk result (IsTruth (state_of desk.old) (Holds (formula_tree formula.now) entries.now)) }
+    ensures truth { IfOk result (IsTruth (state_of desk.old) (formula_tree formula.now) entries.now) }
     ensures accepted { OnOk result (HasNoneBelow (state_of desk.old) (formula_tree formula.now) entries.now 19) }
     ensures refused { IfErr result (RefusesTruth (state_of desk.old) limit (formula_tree formula.now) entries.now) }
     ensures kept { KeepsDesk desk.old desk.new }

@@ -8,14 +8,12 @@ mod forms;
 mod formulas;
 mod holds;
 mod laws;
-mod line;
 mod lines;
 mod points;
 mod samples;
 mod session;
 mod texts;
 
-pub use formulas::MOST_SUBFORMULAS;
-pub use laws::truth_is_never_refused;
-pub use line::{Line, StatementError};
+pub use laws::{replies_agree, truth_is_never_refused};
 pub use session::{Limits, Session};
+pub use session_meaning::{Line, StatementError};

@@ -2,10 +2,10 @@
 
 ghost use Rattle.std.specs.Prelude.{◌≡◌, ◌≤◌, length, IfOk, IfErr};
 ghost use Rattle.redlog_printer.specs.Writing.{text_limit};
-ghost use Rattle.session_commands.specs.Reply.{IsLine};
+ghost use Rattle.session_meaning.specs.Reply.{IsLine};
 ghost use Rattle.session_commands.specs.Steps.{print_refusal as refusal_of_print};
 
-use crate::line::{Line, StatementError};
+use session_meaning::{Line, StatementError};
 use redlog_printer::PrintError;
 use std::alloc::Global;
 

@@ -22,7 +22,7 @@ ghost use Rattle.session_commands.specs.Steps.{HasNumbers, KeepsDesk};
 
 use crate::desk::Desk;
 use crate::formulas::resolved;
-use crate::line::StatementError;
+use session_meaning::StatementError;
 use atom_normal::Context;
 use formula_resolving::number_formula;
 use formula_store::FormulaId;

@@ -23,14 +23,15 @@ ghost use Rattle.session_commands.specs.Asked.{HaveNumbers};
 ghost use Rattle.session_commands.specs.Commands.{named};
 ghost use Rattle.session_commands.specs.Causes.{Refuses};
 ghost use Rattle.session_commands.specs.Keeping.{state_of, IsDesk};
-ghost use Rattle.session_commands.specs.Reply.{IsLine, AnswersCommand};
-ghost use Rattle.session_commands.specs.Samples.{sample_text};
+ghost use Rattle.session_meaning.specs.Reply.{IsLine};
+ghost use Rattle.session_commands.specs.Reply.{AnswersCommand};
+ghost use Rattle.session_meaning.specs.Samples.{sample_text};
 ghost use Rattle.session_commands.specs.SampleSteps.{RefusesSample, SampleStop, IsSampleWithin, IsWantedSample};
 ghost use Rattle.session_commands.specs.Steps.{use_of, HasNumbers, KeepsDesk, GrowsDesk};
 
 use crate::desk::Desk;
 use crate::forms::measured_refusal;
-use crate::line::{Line, StatementError};
+use session_meaning::{Line, StatementError};
 use crate::lines::printed_line;
 use crate::points::{asked, number_command, values_of};
 use answer_texts::point_text;

@@ -9,7 +9,7 @@ ghost use Rattle.redlog_printer.specs.Writing.{text_limit};
 ghost use Rattle.session_commands.specs.Texts.{Begins, brackets, IsOpened};
 
 use crate::desk::Desk;
-use crate::line::StatementError;
+use session_meaning::StatementError;
 use crate::lines::print_refusal;
 use formula_store::{FormulaId, Store, Unfold};
 use formula_tree::{Names, Shape};

@@ -3,7 +3,7 @@ use Rattle.std.specs.List.{AllByRecursion}
 use Rattle.atom_normal.specs.Atoms.{atom_of, IsWellFormed}
 use Rattle.qe_syntax.specs.Writable.{IsWritableFormula}
 use Rattle.qe_syntax.specs.Trees.{formula_tree, formulas_of}
-use Rattle.session_commands.specs.Assumptions.{assumed}
+use Rattle.session_meaning.specs.Assumptions.{assumed}
 use Rattle.session_commands.specs.Keeping.{state_of}
 use Rattle.session_commands.specs.Steps.{KeepsDesk, HasNumbers, FirstAmong, AppliesToSome}
 use Rattle.session_commands.proofs.assumptions.read_assumptions.Given as goal

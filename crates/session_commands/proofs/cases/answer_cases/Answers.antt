@@ -6,12 +6,12 @@ use Rattle.plain_cases.specs.declared.cases.PrintedCase.{PrintedCase}
 use Rattle.plain_cases.specs.Case.{case_seen}
 use Rattle.qe_syntax.specs.Statements.{Qea}
 use Rattle.qe_syntax.specs.Trees.{formula_tree, formulas_of}
-use Rattle.session_commands.specs.declared.line.Line.{Line}
-use Rattle.session_commands.specs.declared.line.StatementError.{StatementError}
+use Rattle.session_meaning.specs.declared.line.Line.{Line}
+use Rattle.session_meaning.specs.declared.line.StatementError.{StatementError}
 use Rattle.session_commands.specs.Causes.{Refuses}
 use Rattle.session_commands.specs.Commands.{named}
 use Rattle.session_commands.specs.Keeping.{state_of}
-use Rattle.session_commands.specs.Reply.{IsLine}
+use Rattle.session_meaning.specs.Reply.{IsLine}
 use Rattle.session_commands.specs.Steps.{use_of, GrowsDesk, LineFault}
 use Rattle.session_commands.proofs.DeskLemmas.{keeps_itself, grows_then}
 use Rattle.session_commands.proofs.CaseSteps.{named_desk, desk_named, numbers_there, cases_refused, state_later, desk_later, within_there, line_answered, line_refused}

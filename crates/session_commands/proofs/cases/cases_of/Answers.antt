@@ -9,7 +9,7 @@ use Rattle.plain_cases.specs.declared.cases.PrintedCase.{PrintedCase}
 use Rattle.plain_cases.specs.Case.{case_seen}
 use Rattle.qe_syntax.specs.Statements.{Qea}
 use Rattle.qe_syntax.specs.Trees.{formula_tree, formulas_of}
-use Rattle.session_commands.specs.declared.line.StatementError.{StatementError}
+use Rattle.session_meaning.specs.declared.line.StatementError.{StatementError}
 use Rattle.session_commands.specs.Causes.{Refuses}
 use Rattle.session_commands.specs.Keeping.{state_of}
 use Rattle.session_commands.specs.Steps.{use_of}

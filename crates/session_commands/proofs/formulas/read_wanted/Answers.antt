@@ -3,7 +3,7 @@ use Rattle.qe_syntax.specs.Writable.{AreWritableFormulas}
 use Rattle.qe_syntax.specs.Trees.{formula_tree, formulas_of}
 use Rattle.session_commands.specs.Keeping.{state_of}
 use Rattle.session_commands.specs.Steps.{given_trees, HasUnwantedQuantifier, ArePartsReadable, ArePartsUnread}
-use Rattle.session_commands.specs.declared.line.StatementError.TheVariants as error
+use Rattle.session_meaning.specs.declared.line.StatementError.TheVariants as error
 use Rattle.session_commands.proofs.AssumptionLemmas.{early_readable, early_overflow}
 use Rattle.session_commands.proofs.DeskLemmas.{kept_ids, same_state}
 use Rattle.session_commands.proofs.GivenSteps.{proper_items}

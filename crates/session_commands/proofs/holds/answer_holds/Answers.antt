@@ -2,7 +2,7 @@ use Rattle.std.proofs.Common.{◌≡◌, Bool, None, sym, subst, rules, Err}
 use Rattle.std.specs.Prelude.{Result, IfErr}
 use Rattle.qe_syntax.specs.Statements.{Holds}
 use Rattle.qe_syntax.specs.Trees.{formula_tree}
-use Rattle.session_commands.specs.declared.line.StatementError.{StatementError}
+use Rattle.session_meaning.specs.declared.line.StatementError.{StatementError}
 use Rattle.session_commands.specs.Causes.{Refuses}
 use Rattle.session_commands.specs.Commands.{named}
 use Rattle.session_commands.specs.Keeping.{state_of}

@@ -3,8 +3,8 @@ use Rattle.std.specs.Prelude.{Result, IfErr}
 use Rattle.sample_reference.specs.Seen.{sample_of}
 use Rattle.qe_syntax.specs.Statements.{Sample}
 use Rattle.qe_syntax.specs.Trees.{formula_tree}
-use Rattle.session_commands.specs.declared.line.Line.{Line}
-use Rattle.session_commands.specs.declared.line.StatementError.{StatementError}
+use Rattle.session_meaning.specs.declared.line.Line.{Line}
+use Rattle.session_meaning.specs.declared.line.StatementError.{StatementError}
 use Rattle.session_commands.specs.Causes.{Refuses}
 use Rattle.session_commands.specs.Commands.{named}
 use Rattle.session_commands.specs.Keeping.{state_of}

@@ -4,6 +4,8 @@ use Rattle.std.specs.Prelude.{ℕ, List, [], Bool, true, false, if◌then◌else
 use Rattle.formula_meaning.specs.Context.{Context, Fields, Integers}
 use Rattle.qe_syntax.specs.declared.statement.Setting.{Setting}
 use Rattle.qe_syntax.specs.declared.statement.Setting.TheVariants.{Ofsf, Pasf}
+use Rattle.formula_meaning.specs.Tree.{Tree}
+use Rattle.formula_tree.specs.Bindings.{bind}
 use Rattle.formula_tree.specs.Resolving.{BoundTrees}
 
 pub record State : Type 0 where
@@ -13,7 +15,7 @@ pub record State : Type 0 where
 
 -- the state with these names
 abbrev pub with_names : State → List (List ℕ) → State
-with_names s names = record { context = s.context; names = names; bound = s.bound }
+with_names s names = record s { names = names }
 
 -- a script begins over the ordered fields, without names
 abbrev pub first_state : State
@@ -31,4 +33,8 @@ is_same_theory Integers Integers = true
 
 -- the state where the theory is chosen: another one than before drops what is bound
 abbrev pub chosen : State → Context → State
-chosen s c = record { context = c; names = s.names; bound = if is_same_theory s.context c then s.bound else [] }
+chosen s c = record s { context = c; bound = if is_same_theory s.context c then s.bound else [] }
+
+-- the state with the formula bound to the name
+abbrev pub with_bound : State → List ℕ → Tree → State
+with_bound s x t = record s { bound = bind s.bound x t }

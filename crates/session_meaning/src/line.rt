@@ -1,5 +1,5 @@
 ghost use Rattle.std.specs.Prelude.{◌≡◌};
-ghost use Rattle.session_commands.specs.Words.{word_of};
+ghost use Rattle.session_meaning.specs.Words.{word_of};
 
 use thiserror::Error;
 

@@ -11,9 +11,9 @@ use Rattle.qe_syntax.specs.Point.{IsPointOf}
 use Rattle.qe_syntax.specs.Trees.{FormulaTree}
 use Rattle.qe_syntax.specs.Value as written
 use Rattle.formula_tree.specs.Resolving.{resolve, at_names, bound_truth}
-use Rattle.session_commands.specs.State.{State}
-use Rattle.session_commands.specs.Cases.{Turned}
-use Rattle.session_commands.specs.Commands.{negated_of}
+use Rattle.session_meaning.specs.State.{State}
+use Rattle.session_meaning.specs.Cases.{Turned}
+use Rattle.session_meaning.specs.FormulaAnswers.{negated_of}
 
 -- the formula is true at the point as it is written, or for a leading block of all it is not
 abbrev pub HasSample : State → FormulaTree → written.NamedPoint → Type 0

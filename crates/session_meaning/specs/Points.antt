@@ -1,4 +1,4 @@
--- The point of a command: when it is none, which free names it values, and the truth there.
+-- The entries of a point: when they mean none, which free names they value, and the truth there.
 use Rattle.std.specs.Prelude.{◌≡◌, ◌⊎◌, ◌↔◌, ℕ, pos, List, Bool, true, IsTrue}
 use Rattle.formula_meaning.specs.Context.{Context, Fields, Integers}
 use Rattle.formula_meaning.specs.Point.{Point}
@@ -11,15 +11,13 @@ use Rattle.formula_meaning.specs.Tree.{Tree}
 use Rattle.linear_forms.specs.Terms.{ValuePasses}
 use Rattle.qe_syntax.specs.declared.statement.PointEntry.{PointEntry}
 use Rattle.qe_syntax.specs.Trees.{FormulaTree}
-use Rattle.qe_syntax.specs.Statements.{CommandTree}
 use Rattle.qe_syntax.specs.Point.{NamesTwice, IsZeroBelow, IsBroken, IsPointOf}
 use Rattle.qe_syntax.specs.Value.{NamedPoint, TrueAt}
-use Rattle.formula_tree.specs.Resolving.{BoundTrees, at_names, bound_truth, IsFreeInPlace}
+use Rattle.formula_tree.specs.Resolving.{BoundTrees, resolve, at_names, bound_truth, IsFreeInPlace}
 use Rattle.formula_tree.specs.Causes.{atom_in_place}
 use Rattle.formula_tree.specs.Quantified.{has_quantifier}
 use Rattle.free_names.specs.Entries.{HasEntryAt}
-use Rattle.session_commands.specs.State.{State}
-use Rattle.session_commands.specs.Commands.{formula_of, entries_of, resolved}
+use Rattle.session_meaning.specs.State.{State}
 
 -- the entries mean no point of the theory: a name stands twice, a denominator is 0, or over the integers a value is not whole
 abbrev pub MeanNoPoint : Context → List PointEntry → Type 0
@@ -39,13 +37,13 @@ abbrev pub SomeAtomPassesAt : Tree → Point ℕ → Type 0
 SomeAtomPassesAt f q = (a : Atom) × Among (subtrees f) (One a) × ValuePasses (form_of a) q.at (pos q.below)
 
 -- at the point that the entries mean
-pub record TruthPasses (s : State) (c : CommandTree) : Type 0 where
+pub record TruthPasses (s : State) (f : FormulaTree) (es : List PointEntry) : Type 0 where
   pub point : NamedPoint
-  pub meant : IsPointOf (entries_of c) point
-  pub passes : SomeAtomPassesAt (resolved s c) (at_names s.names point)
+  pub meant : IsPointOf es point
+  pub passes : SomeAtomPassesAt (resolve s.context s.bound s.names f) (at_names s.names point)
 
 -- the answer is the truth of the formula as it is written, at the point that the entries mean
-pub record IsTruth (s : State) (c : CommandTree) (answer : Bool) : Type 0 where
+pub record IsTruth (s : State) (f : FormulaTree) (es : List PointEntry) (answer : Bool) : Type 0 where
   pub point : NamedPoint
-  pub meant : IsPointOf (entries_of c) point
-  pub truth : IsTrue answer ↔ TrueAt (bound_truth s.context s.bound s.names) s.context (formula_of c) point
+  pub meant : IsPointOf es point
+  pub truth : IsTrue answer ↔ TrueAt (bound_truth s.context s.bound s.names) s.context f point

@@ -6,7 +6,7 @@ use Rattle.formula_meaning.specs.Tree.{Tree}
 use Rattle.qe_syntax.specs.Trees.{FormulaTrees}
 use Rattle.qe_syntax.specs.Value.{NamedPoint, TrueAt}
 use Rattle.formula_tree.specs.Resolving.{resolve, bound_truth}
-use Rattle.session_commands.specs.State.{State}
+use Rattle.session_meaning.specs.State.{State}
 
 -- the formula, where it is an atom
 abbrev pub atoms_alone : Tree → List Atom

@@ -17,9 +17,9 @@ use Rattle.qe_syntax.specs.Value as written
 use Rattle.formula_tree.specs.Resolving.{resolve, at_names, bound_truth}
 use Rattle.formula_meaning.specs.Members.{HasTwoMembers}
 use Rattle.simplified_formulas.specs.Trees.{IsReduced}
-use Rattle.session_commands.specs.State.{State}
-use Rattle.session_commands.specs.Assumptions.{Hold, assumed}
-use Rattle.session_commands.specs.Commands.{negated_of}
+use Rattle.session_meaning.specs.State.{State}
+use Rattle.session_meaning.specs.Assumptions.{Hold, assumed}
+use Rattle.session_meaning.specs.FormulaAnswers.{negated_of}
 
 -- what is said, or for false that it is not so
 abbrev pub Turned : Bool → Type 0 → Type 0

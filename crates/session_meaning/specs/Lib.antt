@@ -1,0 +1,10 @@
+pub mod Words
+pub mod State
+pub mod Assumptions
+pub mod FormulaAnswers
+pub mod Points
+pub mod Cases
+pub mod Samples
+pub mod Meaning
+pub mod Causes
+pub mod Reply

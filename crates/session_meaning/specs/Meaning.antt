@@ -1,0 +1,203 @@
+-- What a command means: what it reads, why it may be refused, and what it answers with. `meaning`, at the end, has a line for each command; the causes of a refusal
+-- and the replies are stated once, of any meaning.
+use Rattle.std.specs.Prelude.{◌≡◌, ◌⊎◌, ◌*◌, ◌<◌, ◌≤◌, ℕ, List, [], ◌++◌, Bool, Option, length, map}
+use Rattle.std.specs.List.{fold}
+use Rattle.formula_meaning.specs.declared.junction.Junction.{Junction}
+use Rattle.formula_meaning.specs.declared.junction.Junction.TheVariants.{Conjunction, Disjunction}
+use Rattle.formula_meaning.specs.Every.{Every}
+use Rattle.formula_meaning.specs.Formula.{none, also}
+use Rattle.formula_meaning.specs.Numbers.{IsAtomInLimit}
+use Rattle.formula_meaning.specs.Measured.{Stop, Overflow, Nodes, done, stopped}
+use Rattle.formula_meaning.specs.Sizes.{nodes}
+use Rattle.formula_meaning.specs.Tree.{Tree, tree_distinct}
+use Rattle.prenex_theory.specs.Prenex.{prenex_of}
+use Rattle.elimination_reference.specs.Cases.{Case, reference_cases}
+use Rattle.elimination_reference.specs.Reference.{reference}
+use Rattle.elimination_reference.specs.Sample.{reference_at}
+use Rattle.sample_reference.specs.Sample.{reference_sample}
+use Rattle.sample_reference.specs.Values.{Value}
+use Rattle.qe_syntax.specs.declared.statement.PointEntry.{PointEntry}
+use Rattle.qe_syntax.specs.Point.{PassesLimit, IsPointOf}
+use Rattle.qe_syntax.specs.Statements.{CommandTree, Echo, Nnf, Pnf, Dnf, Cnf, Simpl, Qe, Qea, Holds, Sample}
+use Rattle.qe_syntax.specs.Trees.{FormulaTree, FormulaTrees}
+use Rattle.qe_syntax.specs.Value.{NamedPoint}
+use Rattle.formula_tree.specs.Names.{with_name}
+use Rattle.formula_tree.specs.Resolving.{all_variables, place, resolve, at_names}
+use Rattle.clean_forms.specs.Plain.{plain_form, literals}
+use Rattle.prenex_forms.specs.Forms.{OverflowsInRenaming}
+use Rattle.redlog_printer.specs.Writing.{text_limit}
+use Rattle.answer_texts.specs.Answers.{cases_text}
+use Rattle.session_meaning.specs.Words.{truth_text}
+use Rattle.session_meaning.specs.State.{State, with_names}
+use Rattle.session_meaning.specs.FormulaAnswers.{negated_of, IsPrenexAnswer, HasNewNames, IsSimplification, IsCleanAnswer, IsCondition}
+use Rattle.session_meaning.specs.Points.{MeanNoPoint, HasUnvalued, IsQuantified, TruthPasses, IsTruth}
+use Rattle.session_meaning.specs.Cases.{IsCaseAnswer}
+use Rattle.session_meaning.specs.Samples.{IsSampleAnswer, sample_text}
+
+-- ---- meanings
+
+-- what may hold of a state in which the variables of the command have their numbers, under a limit of nodes
+abbrev pub Fact : Type 1
+Fact = State → ℕ → Type 0
+
+-- the causes of a refusal that are a command's own; `text` is one where the line is printed
+pub record OwnCauses : Type 1 where
+  pub point : Fact
+  pub unvalued : Fact
+  pub quantified : Fact
+  pub overflow : Fact
+  pub nodes : Fact
+  pub text : Fact
+
+-- The formulas that a command may give. Where it determines one, that is the one; else there may be one that those it may give are measured by.
+pub record FormulaAnswer : Type 1 where
+  pub determined : State → Tree → Type 0
+  pub measure : State → ℕ → Tree → Type 0
+  pub allowed : State → ℕ → Tree → Type 0
+
+-- what a command answers with: a formula, which may be bound, or a text
+pub data Answer : Type 1 where
+  OfFormula : FormulaAnswer → Answer
+  OfText : (State → ℕ → List ℕ → Type 0) → Answer
+
+-- The formulas that are read, in the order of the text; the names of variables behind them, which must not be bound; the causes that are answered wherever they apply
+-- and no earlier one does, and those that may be answered there and need not be; the names after the answer; and the answer.
+pub record Meaning : Type 1 where
+  pub formulas : FormulaTrees
+  pub further : List (List ℕ)
+  pub must : OwnCauses
+  pub may : OwnCauses
+  pub names : State → List (List ℕ) → Type 0
+  pub answer : Answer
+
+-- the variables in the order of the text: names in terms, after quantifiers, in assumptions and in a point
+abbrev pub variables : Meaning → List (List ℕ)
+variables m = all_variables m.formulas ++ m.further
+
+-- the state with the new variables after its names
+abbrev pub numbered : Meaning → State → State
+numbered m s = with_names s (fold with_name s.names (variables m))
+
+-- ---- what an answer allows
+
+-- the command gives a formula, which may be bound; each other one is a query
+abbrev pub GivesFormula : Answer → Type 0
+GivesFormula (OfFormula a) = Unit {0}
+GivesFormula (OfText tells) = ⊥
+
+-- the formula that it determines
+abbrev pub Determines : Answer → State → Tree → Type 0
+Determines (OfFormula a) s t = a.determined s t
+Determines (OfText tells) s t = ⊥
+
+-- the formula that a simpler one is measured by
+abbrev pub IsMeasureOf : Answer → State → ℕ → Tree → Type 0
+IsMeasureOf (OfFormula a) s limit t = a.measure s limit t
+IsMeasureOf (OfText tells) s limit t = ⊥
+
+-- a formula that is as the command asks
+abbrev pub IsAllowed : Answer → State → ℕ → Tree → Type 0
+IsAllowed (OfFormula a) s limit t = a.allowed s limit t
+IsAllowed (OfText tells) s limit t = ⊥
+
+-- a formula that it may give: such a one, each of whose numbers is within the limit of numbers
+abbrev pub MayGive : Answer → State → ℕ → Tree → Type 0
+MayGive a s limit t = IsAllowed a s limit t × Every IsAtomInLimit t
+
+-- ---- the parts of meanings
+
+abbrev pub never : Fact
+never s limit = ⊥
+
+abbrev pub no_causes : OwnCauses
+no_causes = record { point = never; unvalued = never; quantified = never; overflow = never; nodes = never; text = never }
+
+-- a computation that stops
+abbrev pub stops : (Stop → Fact) → OwnCauses
+stops P = record no_causes { overflow = P Overflow; nodes = P Nodes }
+
+-- more nodes are counted than the limit
+abbrev pub counts : (State → ℕ) → OwnCauses
+counts count = record no_causes { nodes = λ s limit. limit < count s }
+
+-- this formula and no other
+abbrev pub exactly : (State → Tree) → FormulaAnswer
+exactly form = record { determined = λ s t. t ≡ form s; measure = λ s limit t. ⊥; allowed = λ s limit t. t ≡ form s }
+
+-- one of several, which are measured by another
+abbrev pub measured : (State → ℕ → Tree → Type 0) → (State → ℕ → Tree → Type 0) → FormulaAnswer
+measured measure allowed = record { determined = λ s t. ⊥; measure = measure; allowed = allowed }
+
+-- a command that reads a formula and its assumptions, has no cause of its own that must be answered, and adds no names
+abbrev pub of_formula : FormulaTree → FormulaTrees → OwnCauses → Answer → Meaning
+of_formula f given may answer = record { formulas = also f given; further = []; must = no_causes; may = may; names = λ s names. names ≡ s.names; answer = answer }
+
+-- a command that asks about a formula at a point, which has to value its free names
+abbrev pub at_point : FormulaTree → List PointEntry → OwnCauses → (State → ℕ → List ℕ → Type 0) → Meaning
+at_point f es may tells = record (of_formula f none may (OfText tells)) {
+  further = map (λ (e : PointEntry). e.name) es;
+  must = record no_causes {
+    point = λ s limit. MeanNoPoint s.context es;
+    unvalued = λ s limit. HasUnvalued s.bound (place s.names) f es;
+    overflow = λ s limit. PassesLimit es;
+  };
+}
+
+-- a command that gives a clean form: the places of atoms of the plain form are counted
+abbrev pub clean : Junction → FormulaTree → Meaning
+clean j f = record (of_formula f none (counts (λ s. literals j (negated_of s f))) (OfFormula (measured (λ s limit t. t ≡ plain_form j (negated_of s f)) (λ s limit t. IsCleanAnswer s j f t)))) {
+  must = record no_causes { quantified = λ s limit. IsQuantified s.bound f };
+}
+
+abbrev pub resolved : FormulaTree → State → Tree
+resolved f s = resolve s.context s.bound s.names f
+
+-- the normal form of an atom whose names are chosen passes the limit of numbers, where the negation normal form has no more nodes than the limit
+abbrev pub RenamingPasses : FormulaTree → Fact
+RenamingPasses f s limit = (nodes (negated_of s f) ≤ limit) × OverflowsInRenaming s.context (length s.names) (negated_of s f)
+
+-- the reference elimination stops
+abbrev pub ReferenceStops : FormulaTree → Stop → Fact
+ReferenceStops f e s limit = reference s.context limit (resolved f s) ≡ stopped e
+
+-- the reference elimination gives this formula
+abbrev pub IsReferenceAnswer : FormulaTree → State → ℕ → Tree → Type 0
+IsReferenceAnswer f s limit t = (cost : ℕ) × (reference s.context limit (resolved f s) ≡ done (t, cost))
+
+-- the reference elimination of the leading block stops, or the text of its case list is too long
+abbrev pub CasesStop : FormulaTree → Stop → Fact
+CasesStop f e s limit = reference_cases s.context limit (resolved f s) ≡ stopped e
+
+abbrev pub HasLongCases : FormulaTree → Fact
+HasLongCases f s limit = (ks : List Case) × (cost : ℕ) × (reference_cases s.context limit (resolved f s) ≡ done (ks, cost)) × (text_limit < length (cases_text s.names ks))
+
+-- The reference elimination of a formula with quantifiers stops at the point. Nodes are counted before the point is put in.
+abbrev pub TruthStops : FormulaTree → List PointEntry → Stop → Fact
+TruthStops f es e s limit = IsQuantified s.bound f × ((point : NamedPoint) × IsPointOf es point × (reference_at s.context limit (at_names s.names point) (resolved f s) ≡ stopped e))
+
+-- a number passes the limit where a formula without quantifiers is evaluated at the point
+abbrev pub ValuePasses : FormulaTree → List PointEntry → Fact
+ValuePasses f es s limit = (¬ (IsQuantified s.bound f)) × TruthPasses s f es
+
+-- the reference elimination of the formula of a sample stops at the point, or the sample that it leads to does
+abbrev pub SampleStops : FormulaTree → List PointEntry → Stop → Fact
+SampleStops f es e s limit = (point : NamedPoint) × IsPointOf es point × (reference_sample s.context limit (at_names s.names point) (resolved f s) ≡ stopped e)
+
+-- ---- the table
+
+-- what each command means
+abbrev pub meaning : CommandTree → Meaning
+meaning (Echo f) = of_formula f none no_causes (OfFormula (exactly (resolved f)))
+meaning (Nnf f) = of_formula f none (counts (λ s. 6 * tree_distinct (resolved f s))) (OfFormula (exactly (λ s. negated_of s f)))
+meaning (Pnf f) = record (of_formula f none (counts (λ s. nodes (negated_of s f))) (OfFormula (record (exactly (λ s. prenex_of s.context (length s.names) (negated_of s f))) { allowed = λ s limit t. IsPrenexAnswer s limit f t }))) {
+  must = record no_causes { overflow = RenamingPasses f };
+  names = λ s names. HasNewNames s.names (resolved f s) names;
+}
+meaning (Dnf f) = clean Conjunction f
+meaning (Cnf f) = clean Disjunction f
+meaning (Simpl f given) = of_formula f given (counts (λ s. nodes (negated_of s f))) (OfFormula (measured (λ s limit t. t ≡ negated_of s f) (λ s limit t. IsSimplification s f given t)))
+meaning (Qe f given) = of_formula f given (stops (ReferenceStops f)) (OfFormula (measured (IsReferenceAnswer f) (λ s limit t. IsCondition s limit f given t)))
+meaning (Qea f given) = of_formula f given (record (stops (CasesStop f)) { text = HasLongCases f }) (OfText (λ s limit text. (ks : List Case) × IsCaseAnswer s f given ks × (text ≡ cases_text s.names ks)))
+meaning (Holds f es) = at_point f es (record (stops (TruthStops f es)) { overflow = λ s limit. ValuePasses f es s limit ⊎ TruthStops f es Overflow s limit })
+    (λ s limit text. (answer : Bool) × IsTruth s f es answer × (text ≡ truth_text answer))
+meaning (Sample f es) = at_point f es (stops (SampleStops f es)) (λ s limit text. (sample : Option (List Value)) × IsSampleAnswer s f es sample × (text ≡ sample_text s.names sample))

@@ -1,0 +1,111 @@
+-- What a statement is answered with in a state, and the state after it.
+use Rattle.std.specs.Prelude.{◌≡◌, ◌≤◌, ℕ, List, length, Bool, true, false, Some, None, Result, Ok, Err}
+use Rattle.formula_meaning.specs.Tree.{Tree, tree_distinct}
+use Rattle.qe_syntax.specs.Statements.{ActionTree, Empty, Ignored, Finish, Choose, Say, Assign, StatementTree}
+use Rattle.redlog_reader.specs.Statement.{Spells, Unread}
+use Rattle.redlog_tokens.specs.declared.token.ReadError.TheVariants as reading
+use Rattle.redlog_printer.specs.Writing.{text_limit}
+use Rattle.session_meaning.specs.declared.TheConstants.{MOST_SUBFORMULAS}
+use Rattle.session_meaning.specs.declared.line.Line.{Line}
+use Rattle.session_meaning.specs.declared.line.Line.TheVariants as line
+use Rattle.session_meaning.specs.declared.line.StatementError.{StatementError}
+use Rattle.session_meaning.specs.declared.line.StatementError.TheVariants as error
+use Rattle.session_meaning.specs.Words.{context_text}
+use Rattle.session_meaning.specs.State.{State, with_names, with_bound, theory_of, chosen}
+use Rattle.session_meaning.specs.Meaning.{Meaning, Answer, OfFormula, OfText, MayGive, numbered, meaning}
+use Rattle.session_meaning.specs.Causes.{Use, formula_line, IsFirst, IsAccepted}
+
+-- the line is this text, where it is printed, and then it is within the limit of a line
+abbrev pub IsLine : Bool → List ℕ → Line → Type 0
+IsLine printed text line.Nothing = printed ≡ false
+IsLine printed text (line.Printed bytes) = (printed ≡ true) × (bytes.items ≡ text) × (length text ≤ text_limit)
+IsLine printed text line.Finished = ⊥
+
+-- ---- commands
+
+-- The text that a command answers with under a limit of nodes, in a state in which its variables have their numbers. The names are those after the answer.
+abbrev pub Tells : Answer → State → ℕ → List (List ℕ) → List ℕ → Type 0
+Tells (OfFormula a) s limit names text = (t : Tree) × MayGive (OfFormula a) s limit t × (text ≡ formula_line None names t)
+Tells (OfText tells) s limit names text = tells s limit text
+
+-- No cause of a refusal applies to a command, and it is answered with the line of such a text. The state after it has the names after the answer.
+pub record AnswersSaid (m : Meaning) (s : State) (limit : ℕ) (printed : Bool) (answer : Line) (next : State) : Type 0 where
+  pub accepted : IsAccepted m s limit (record { target = None; printed = printed })
+  pub names : List (List ℕ)
+  pub named : m.names s names
+  pub text : List ℕ
+  pub told : Tells m.answer s limit names text
+  pub line : IsLine printed text answer
+  pub after : next ≡ with_names s names
+
+-- the same of an assignment, which binds the formula of its line; it has no more distinct subformulas than a bound formula may have
+pub record AnswersAssignment (m : Meaning) (s : State) (limit : ℕ) (printed : Bool) (x : List ℕ) (answer : Line) (next : State) : Type 0 where
+  pub accepted : IsAccepted m s limit (record { target = Some x; printed = printed })
+  pub formula : Tree
+  pub allowed : MayGive m.answer s limit formula
+  pub names : List (List ℕ)
+  pub named : m.names s names
+  pub line : IsLine printed (formula_line (Some x) names formula) answer
+  pub small : tree_distinct formula ≤ MOST_SUBFORMULAS
+  pub binds : next ≡ with_bound (with_names s names) x formula
+
+-- ---- statements
+
+-- the line of an accepted statement, and the state after it
+abbrev pub Answers : State → ℕ → Bool → ActionTree → Line → State → Type 0
+Answers s limit printed Empty answer next = (answer ≡ line.Nothing) × (next ≡ s)
+Answers s limit printed Ignored answer next = (answer ≡ line.Nothing) × (next ≡ s)
+Answers s limit printed Finish answer next = (answer ≡ line.Finished) × (next ≡ s)
+Answers s limit printed (Choose setting) answer next = IsLine printed (context_text (theory_of setting)) answer × (next ≡ chosen s (theory_of setting))
+Answers s limit printed (Say c) answer next = AnswersSaid (meaning c) (numbered (meaning c) s) limit printed answer next
+Answers s limit printed (Assign x c) answer next = AnswersAssignment (meaning c) (numbered (meaning c) s) limit printed x answer next
+
+-- the word with which a statement is refused
+abbrev pub RefusesAction : State → ℕ → Bool → ActionTree → StatementError → Type 0
+RefusesAction s limit printed Empty e = ⊥
+RefusesAction s limit printed Ignored e = ⊥
+RefusesAction s limit printed Finish e = ⊥
+RefusesAction s limit printed (Choose setting) e = ⊥
+RefusesAction s limit printed (Say c) e = IsFirst (meaning c) (numbered (meaning c) s) limit (record { target = None; printed = printed }) e
+RefusesAction s limit printed (Assign x c) e = IsFirst (meaning c) (numbered (meaning c) s) limit (record { target = Some x; printed = printed }) e
+
+-- ---- pieces
+
+-- the bytes of a piece spell a statement that is answered with the line
+pub record IsAnswer (s : State) (limit : ℕ) (piece : List ℕ) (answer : Line) (next : State) : Type 0 where
+  pub statement : StatementTree
+  pub spelled : Spells piece statement
+  pub answered : Answers s limit statement.printed statement.action answer next
+
+-- the bytes spell a statement that is refused with the word
+pub record SpellsRefused (s : State) (limit : ℕ) (piece : List ℕ) (e : StatementError) : Type 0 where
+  pub statement : StatementTree
+  pub spelled : Spells piece statement
+  pub refused : RefusesAction s limit statement.printed statement.action e
+
+-- Why a piece is refused. A refusal changes nothing; of want of memory nothing is said.
+abbrev pub IsRefused : State → ℕ → List ℕ → State → StatementError → Type 0
+IsRefused s limit piece next error.Long = (next ≡ s) × Unread piece reading.Long
+IsRefused s limit piece next error.Lexical = (next ≡ s) × Unread piece reading.Lexical
+IsRefused s limit piece next error.Nesting = (next ≡ s) × Unread piece reading.Nesting
+IsRefused s limit piece next error.Syntax = (next ≡ s) × Unread piece reading.Syntax
+IsRefused s limit piece next error.Unbound = (next ≡ s) × SpellsRefused s limit piece error.Unbound
+IsRefused s limit piece next error.FormulaAsTerm = (next ≡ s) × SpellsRefused s limit piece error.FormulaAsTerm
+IsRefused s limit piece next error.Nonlinear = (next ≡ s) × SpellsRefused s limit piece error.Nonlinear
+IsRefused s limit piece next error.Division = (next ≡ s) × SpellsRefused s limit piece error.Division
+IsRefused s limit piece next error.CongruenceContext = (next ≡ s) × SpellsRefused s limit piece error.CongruenceContext
+IsRefused s limit piece next error.Modulus = (next ≡ s) × SpellsRefused s limit piece error.Modulus
+IsRefused s limit piece next error.Depth = (next ≡ s) × SpellsRefused s limit piece error.Depth
+IsRefused s limit piece next error.Point = (next ≡ s) × SpellsRefused s limit piece error.Point
+IsRefused s limit piece next error.Unvalued = (next ≡ s) × SpellsRefused s limit piece error.Unvalued
+IsRefused s limit piece next error.Quantified = (next ≡ s) × SpellsRefused s limit piece error.Quantified
+IsRefused s limit piece next error.Overflow = (next ≡ s) × SpellsRefused s limit piece error.Overflow
+IsRefused s limit piece next error.Nodes = (next ≡ s) × SpellsRefused s limit piece error.Nodes
+IsRefused s limit piece next error.Bindings = (next ≡ s) × SpellsRefused s limit piece error.Bindings
+IsRefused s limit piece next error.Text = (next ≡ s) × SpellsRefused s limit piece error.Text
+IsRefused s limit piece next error.Memory = Unit {0}
+
+-- What a piece is answered with in a state, under a limit of nodes, and the state after it.
+abbrev pub Reply : State → ℕ → List ℕ → Result Line StatementError → State → Type 0
+Reply s limit piece (Ok answer) next = IsAnswer s limit piece answer next
+Reply s limit piece (Err e) next = IsRefused s limit piece next e
