@@ -1,12 +1,19 @@
 //! What is proved of every store.
 
-ghost use Rattle.std.specs.Prelude.{◌≡◌, List};
+ghost use Rattle.std.specs.Prelude.{◌≡◌, ◌≤◌, List, length};
 ghost use Rattle.formula_tree.specs.declared.shape.Shape.{Shape};
 ghost use Rattle.formula_store.specs.declared.id.FormulaId.{FormulaId};
+ghost use Rattle.formula_store.specs.Changes.{Change, Grows, tree_on};
 ghost use Rattle.formula_store.specs.Nodes.{AreNodes, IsId, tree};
 
 /// Two ids of one store are equal where their formulas are.
 #[tactic(auto, using(crate::proofs::Same::same_tree))]
 pub fn one_formula_has_one_id()
     ensures { (nodes : List (Shape FormulaId)) → AreNodes nodes → (x y : FormulaId) → IsId nodes x → IsId nodes y → tree nodes x ≡ tree nodes y → x ≡ y }
+{}
+
+/// What was made beside a store stands for the same formula while nodes are only added to the store.
+#[tactic(auto, using(crate::proofs::Grown::stays_on))]
+pub fn change_stays()
+    ensures { (old now : List (Shape FormulaId)) (d : Change) → d.begun ≤ length old → Grows old now → tree_on now d ≡ tree_on old d }
 {}
