@@ -39,10 +39,14 @@ module _ {Id : Type 0} (t : Id → Tree) where
   free_members (shape.All x f) h = absurd h
 
 module _ (nodes : List (Shape FormulaId)) (are : AreNodes nodes) where
+  -- what passes from a formula to its members passes to all that stands in it
+  pub passes_down : (P : Tree → Type 0) → ((s : Shape FormulaId) → P (tree_over (tree nodes) s) → AllByRecursion (λ id. P (tree nodes id)) (ids_of s)) → (a b : FormulaId) → Within nodes a b → P (tree nodes a) → P (tree nodes b)
+  passes_down P down a b itself h = h
+  passes_down P down a b (inside {m = m} n e s w) h =
+      passes_down P down m b w (among_all (λ id. P (tree nodes id)) (ids_of n) m (down n (subst P (node_tree nodes a.number n are e) h)) s)
+
   pub free_within : (a b : FormulaId) → Within nodes a b → IsQuantifierFree (tree nodes a) → IsQuantifierFree (tree nodes b)
-  free_within a b itself h = h
-  free_within a b (inside {m = m} n e s w) h =
-      free_within m b w (among_all (λ id. IsQuantifierFree (tree nodes id)) (ids_of n) m (free_members (tree nodes) n (subst IsQuantifierFree (node_tree nodes a.number n are e) h)) s)
+  free_within = passes_down IsQuantifierFree (free_members (tree nodes))
 
   member_subtree : (f : Tree) (ids : List FormulaId) (m : FormulaId) → SomeOf (λ i. i ≡ m) ids → Among (subtrees (tree nodes m)) f → SomeOf (λ id. Among (subtrees (tree nodes id)) f) ids
   member_subtree f [] m h k = absurd h

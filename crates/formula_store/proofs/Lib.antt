@@ -1,3 +1,4 @@
+pub mod Places
 pub mod Trees
 pub mod Same
 pub mod Heights
@@ -17,3 +18,10 @@ pub mod Copying
 pub mod Told
 pub mod Evaluated
 pub mod Inner
+pub mod Grown
+pub mod Ported
+pub mod Finding
+pub mod Layered
+pub mod Filling
+pub mod Cut
+pub mod Taking

@@ -1,6 +1,6 @@
 -- What a new node changes: nothing of the old ones.
 use Rattle.std.proofs.Common.{◌≡◌, ℕ, zero, suc, ◌<◌, List, [], ◌∷◌, ◌++◌, Some, slice_get, get_or, length, ◌⊎◌, inl, inr, ⊎_elim, refl, ap, sym, ◌∙◌, subst, arith, length-append}
-use Rattle.std.proofs.lemmas.List.{get_or_append_left}
+use Rattle.std.proofs.lemmas.List.{append-nil}
 use Rattle.std.proofs.lemmas.Option.{slice_get_within}
 use Rattle.std.proofs.Math.Seq.{get_or-append_seam}
 use Rattle.formula_meaning.specs.Formula.{Yes}
@@ -9,11 +9,10 @@ use Rattle.formula_tree.specs.Makers.{IsMade, Keeps}
 use Rattle.formula_tree.specs.Shapes.{tree_over, AllIds, IsProperShape}
 use Rattle.formula_tree.proofs.Shapes.{all_ids_map}
 use Rattle.formula_store.specs.declared.id.FormulaId.{FormulaId}
-use Rattle.formula_store.specs.Nodes.{at, trees, tree, IsId, AreNodes, Front, Makes}
-use Rattle.formula_store.proofs.Trees.{trees_from-push, length-trees_from, node_tree}
-
-length-trees : (nodes : List (Shape FormulaId)) → length (trees nodes) ≡ length nodes
-length-trees nodes = let h = length-trees_from [] nodes in omega arith
+use Rattle.formula_store.specs.Nodes.{trees, tree, IsId, AreNodes, Front, Makes}
+use Rattle.formula_store.proofs.Trees.{trees_from-push, length-trees, tree_front, node_tree}
+use Rattle.formula_store.proofs.Places.{place_left}
+use Rattle.formula_store.specs.Changes.{Grows}
 
 -- a place of a list with one more at its end
 pub at_push : {X : Type 0} (xs : List X) (x y : X) (i : ℕ) → slice_get (xs ++ x ∷ []) i ≡ Some y → (slice_get xs i ≡ Some y) ⊎ ((i ≡ length xs) × (y ≡ x))
@@ -22,17 +21,10 @@ at_push [] x y (suc i) e = cc
 at_push (a ∷ xs) x y zero e = inl e
 at_push (a ∷ xs) x y (suc i) e = ⊎_elim (λ h. inl h) (λ h. inr (ap suc h.0, h.1)) (at_push xs x y i e)
 
-pub push_stays : {X : Type 0} (xs : List X) (x y : X) (i : ℕ) → slice_get xs i ≡ Some y → slice_get (xs ++ x ∷ []) i ≡ Some y
-push_stays [] x y i e = cc
-push_stays (a ∷ xs) x y zero e = e
-push_stays (a ∷ xs) x y (suc i) e = push_stays xs x y i e
-
 module _ (old : List (Shape FormulaId)) (node : Shape FormulaId) where
   -- an old id has its tree
-  pub push_keeps : (id : FormulaId) → IsId old id → tree (old ++ node ∷ []) id ≡ tree old id
-  push_keeps id h =
-      let n = length-trees old in
-      ap (λ ts. at ts id) (trees_from-push [] old node) ∙ get_or_append_left (trees old) (tree_over (tree old) node ∷ []) Yes id.number (omega arith)
+  pub push_keeps : (id : FormulaId) → id.number < length old → tree (old ++ node ∷ []) id ≡ tree old id
+  push_keeps id h = tree_front old (node ∷ []) id h
 
   -- and the new id has the shape over the old trees
   pub push_makes : tree (old ++ node ∷ []) (record { number = length old }) ≡ tree_over (tree old) node
@@ -54,8 +46,11 @@ module _ (old : List (Shape FormulaId)) (node : Shape FormulaId) where
 module _ (old : List (Shape FormulaId)) (node : Shape FormulaId) (id : FormulaId) (new : List (Shape FormulaId)) where
   pub makes_front : Makes old node id new → Front old new
   makes_front m = record {
-    stays = λ i n e. ⊎_elim (λ h. subst (λ ns. slice_get ns i ≡ Some n) (sym h.1) e) (λ h. subst (λ ns. slice_get ns i ≡ Some n) (sym h.1) (push_stays old node n i e)) m;
+    stays = λ i n e. ⊎_elim (λ h. subst (λ ns. slice_get ns i ≡ Some n) (sym h.1) e) (λ h. subst (λ ns. slice_get ns i ≡ Some n) (sym h.1) (place_left old (node ∷ []) i n e)) m;
   }
+
+  pub makes_grows : Makes old node id new → Grows old new
+  makes_grows m = ⊎_elim (λ h. record { more = []; is = h.1 ∙ sym (append-nil old) }) (λ h. record { more = node ∷ []; is = h.1 }) m
 
   pub makes_keeps : AreNodes new → Makes old node id new → Keeps (IsId old) (tree old) (IsId new) (tree new)
   makes_keeps b m = record {
@@ -63,7 +58,7 @@ module _ (old : List (Shape FormulaId)) (node : Shape FormulaId) (id : FormulaId
       below = ⊎_elim (λ k. subst (λ ns. i.number < length ns) (sym k.1) h.below) (λ k. subst (λ ns. i.number < length ns) (sym k.1) (simp length-append (omega arith))) m;
       are = b;
     };
-    same = λ i h. ⊎_elim (λ k. ap (λ ns. tree ns i) k.1) (λ k. ap (λ ns. tree ns i) k.1 ∙ push_keeps old node i h) m;
+    same = λ i h. ⊎_elim (λ k. ap (λ ns. tree ns i) k.1) (λ k. ap (λ ns. tree ns i) k.1 ∙ push_keeps old node i h.below) m;
   }
 
   pub makes_made : AreNodes old → AreNodes new → Makes old node id new → IsMade (IsId new) (tree new) id (tree_over (tree old) node)

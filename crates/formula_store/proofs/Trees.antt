@@ -56,9 +56,26 @@ node_tree_from before (m ∷ ns) (suc i) n e h =
     subst (λ k. get_or (trees_from front ns) k Yes ≡ tree_over (at (trees_from front ns)) n) moved
     (node_tree_from front ns i n e (all_ids_map (λ id. id.number < length before + suc i) (λ id. id.number < length front + i) (λ id k. omega arith) n h))
 
--- a node's tree is the shape over the trees of its ids
-pub node_tree : (nodes : List (Shape FormulaId)) (i : ℕ) (n : Shape FormulaId) → AreNodes nodes → slice_get nodes i ≡ Some n → tree nodes (record { number = i }) ≡ tree_over (tree nodes) n
-node_tree nodes i n a e =
+-- the same of nodes, where the ids of this one are those of nodes before it
+pub node_tree_below : (nodes : List (Shape FormulaId)) (i : ℕ) (n : Shape FormulaId) → AllIds (λ id. id.number < i) n → slice_get nodes i ≡ Some n → tree nodes (record { number = i }) ≡ tree_over (tree nodes) n
+node_tree_below nodes i n b e =
     let z : 0 + i ≡ i = omega arith in
     subst (λ k. get_or (trees nodes) k Yes ≡ tree_over (tree nodes) n) z
-    (node_tree_from [] nodes i n e (all_ids_map (λ id. id.number < i) (λ id. id.number < 0 + i) (λ id k. omega arith) n (a.below i n e)))
+    (node_tree_from [] nodes i n e (all_ids_map (λ id. id.number < i) (λ id. id.number < 0 + i) (λ id k. omega arith) n b))
+
+pub node_tree : (nodes : List (Shape FormulaId)) (i : ℕ) (n : Shape FormulaId) → AreNodes nodes → slice_get nodes i ≡ Some n → tree nodes (record { number = i }) ≡ tree_over (tree nodes) n
+node_tree nodes i n a e = node_tree_below nodes i n (a.below i n e) e
+
+pub length-trees : (nodes : List (Shape FormulaId)) → length (trees nodes) ≡ length nodes
+length-trees nodes = let h = length-trees_from [] nodes in omega arith
+
+trees_from-append : (before : List Tree) (xs ys : List (Shape FormulaId)) → trees_from before (xs ++ ys) ≡ trees_from (trees_from before xs) ys
+unfolding trees_from
+trees_from-append before [] ys = refl
+trees_from-append before (n ∷ xs) ys = trees_from-append (before ++ tree_over (at before) n ∷ []) xs ys
+
+-- nodes that follow leave the trees of the others
+pub tree_front : (nodes more : List (Shape FormulaId)) (id : FormulaId) → id.number < length nodes → tree (nodes ++ more) id ≡ tree nodes id
+tree_front nodes more id h =
+    let n = length-trees nodes in
+    ap (λ ts. at ts id) (trees_from-append [] nodes more) ∙ get_or-trees_from (trees nodes) more id.number (omega arith)

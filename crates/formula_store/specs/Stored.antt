@@ -1,5 +1,5 @@
--- The entries of a store: nodes that stand for formulas, each once, with what is known of each.
-use Rattle.std.specs.Prelude.{◌≡◌, ℕ, List, Some, slice_get}
+-- Entries after some nodes: together they stand for formulas, each once, and something is known of each that has an entry.
+use Rattle.std.specs.Prelude.{◌≡◌, ℕ, ◌+◌, ◌<◌, ◌^◌, List, ◌++◌, Some, slice_get, length}
 use Rattle.std.specs.Map.{keys_of}
 use Rattle.formula_tree.specs.declared.shape.Shape.{Shape}
 use Rattle.formula_store.specs.declared.id.FormulaId.{FormulaId}
@@ -7,6 +7,12 @@ use Rattle.formula_store.specs.declared.facts.Facts.{Facts}
 use Rattle.formula_store.specs.Nodes.{AreNodes, tree}
 use Rattle.formula_store.specs.Facts.{IsFactsOf}
 
-pub record IsStore (entries : List (Shape FormulaId × Facts)) : Type 0 where
-  pub nodes : AreNodes (keys_of entries)
-  pub known : (i : ℕ) (e : Shape FormulaId × Facts) → slice_get entries i ≡ Some e → IsFactsOf (tree (keys_of entries) (record { number = i })) e.1
+pub record AreStored (below : List (Shape FormulaId)) (entries : List (Shape FormulaId × Facts)) : Type 0 where
+  pub nodes : AreNodes (below ++ keys_of entries)
+  pub known : (i : ℕ) (e : Shape FormulaId × Facts) (id : FormulaId) → slice_get entries i ≡ Some e → id.number ≡ length below + i → IsFactsOf (tree (below ++ keys_of entries) id) e.1
+
+-- entries made beside a store with these nodes, whose number is known
+pub record IsOverlay (below : List (Shape FormulaId)) (begun : ℕ) (entries : List (Shape FormulaId × Facts)) : Type 0 where
+  pub size : begun ≡ length below
+  pub small : begun < 2 ^ 63
+  pub stored : AreStored below entries

@@ -1,10 +1,11 @@
 //! What is proved of every store.
 
-ghost use Rattle.std.specs.Prelude.{◌≡◌, List};
+ghost use Rattle.std.specs.Prelude.{◌≡◌, ◌≤◌, List, length};
 ghost use Rattle.formula_tree.specs.declared.shape.Shape.{Shape};
 ghost use Rattle.formula_store.specs.declared.id.FormulaId.{FormulaId};
 ghost use Rattle.formula_meaning.specs.Every.{Every};
 ghost use Rattle.formula_meaning.specs.Numbers.{IsAtomInLimit};
+ghost use Rattle.formula_store.specs.Changes.{Change, Grows, tree_on};
 ghost use Rattle.formula_store.specs.Nodes.{IsId, tree};
 
 /// Two ids of one store are equal where their formulas are.
@@ -17,4 +18,10 @@ pub fn one_formula_has_one_id()
 #[tactic(auto, using(crate::proofs::Numbers::numbers_are_within))]
 pub fn stored_numbers_are_within()
     ensures { (nodes : List (Shape FormulaId)) → (id : FormulaId) → IsId nodes id → Every IsAtomInLimit (tree nodes id) }
+{}
+
+/// What was made beside a store stands for the same formula while nodes are only added to the store.
+#[tactic(auto, using(crate::proofs::Grown::stays_on))]
+pub fn change_stays()
+    ensures { (old now : List (Shape FormulaId)) (d : Change) → d.begun ≤ length old → Grows old now → tree_on now d ≡ tree_on old d }
 {}

@@ -1,20 +1,29 @@
 //! Shared formulas: each distinct formula is kept once, under one id.
 #![tactic(auto)]
 
+mod absorb;
+mod delta;
 mod error;
 mod facts;
+mod formulas;
 mod id;
 mod keep;
+mod known;
 mod laws;
 mod order;
+mod overlay;
+mod port;
 mod steps;
 mod store;
 mod truth;
 mod unfold;
 
+pub use delta::Delta;
 pub use error::{EvalStop, StoreError, Unfold};
 pub use facts::Facts;
+pub use formulas::Formulas;
 pub use id::FormulaId;
-pub use laws::{one_formula_has_one_id, stored_numbers_are_within};
+pub use laws::{change_stays, one_formula_has_one_id, stored_numbers_are_within};
+pub use overlay::Overlay;
 pub use steps::Steps;
 pub use store::Store;

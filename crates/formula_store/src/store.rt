@@ -1,21 +1,25 @@
-ghost use Rattle.std.specs.Prelude.{◌≡◌, ◌≤◌, ◌<◌, ◌+◌, ◌^◌, [], ◌∷◌, List, Some, IfOk, IfErr, OnOk, OnErr, IsErrOf, length, map, nat_eq, slice_get};
+ghost use Rattle.std.specs.Prelude.{◌≡◌, ◌≤◌, ◌<◌, ◌+◌, ◌^◌, ℕ, [], ◌∷◌, List, Some, MatchOption, take, IfOk, IfErr, OnOk, OnErr, IsErrOf, length, map, nat_eq, slice_get};
 ghost use Rattle.std.specs.List.{AllByRecursion};
 ghost use Rattle.formula_meaning.specs.Same.{same_atom};
 ghost use Rattle.formula_meaning.specs.Sizes.{nodes, height, distinct_count};
 ghost use Rattle.formula_meaning.specs.Shape.{IsQuantifierFree};
 ghost use Rattle.linear_forms.specs.Values.{point_of};
 ghost use Rattle.formula_store.specs.Truths.{Tells, SomeAtomPasses, IsWholeWhereAsked};
-ghost use Rattle.formula_tree.specs.Makers.{AreMade};
+ghost use Rattle.formula_tree.specs.Makers.{AreMade, IsMade, Keeps};
 ghost use Rattle.formula_tree.specs.Shapes.{AllIds, IsProperShape, tree_over};
 ghost use Rattle.formula_store.specs.Nodes.{tree, IsId, Makes, AreNodes};
-ghost use Rattle.formula_store.specs.Facts.{IsFactsOf, AreFactsOf};
+ghost use Rattle.formula_store.specs.Facts.{IsFactsOf};
+ghost use Rattle.formula_store.specs.Changes.{tree_on, Grows};
 ghost use Rattle.formula_store.specs.Order.{IsOrder};
-ghost use Rattle.formula_tree.specs.Trees.{members, tree_of};
+ghost use Rattle.formula_tree.specs.Trees.{tree_of};
 
+use crate::absorb::taken_in;
+use crate::delta::Delta;
 use crate::error::{EvalStop, StoreError, Unfold};
 use crate::facts::Facts;
 use crate::id::FormulaId;
 use crate::keep::copied;
+use crate::known::{Known, facts_of};
 use crate::order::subformulas;
 use crate::steps::Steps;
 use crate::truth::{truth_shared, truth_uncounted};
@@ -35,17 +39,17 @@ pub struct Store {
 }
 
 impl Model for Store {
-    ghost use Rattle.std.specs.Prelude.{List};
+    ghost use Rattle.std.specs.Prelude.{List, []};
     ghost use Rattle.std.specs.Map.{keys_of};
     ghost use Rattle.formula_tree.specs.declared.shape.Shape.{Shape as Node};
     ghost use Rattle.formula_store.specs.declared.id.FormulaId.{FormulaId as Id};
-    ghost use Rattle.formula_store.specs.Stored.{IsStore};
+    ghost use Rattle.formula_store.specs.Stored.{AreStored};
 
     ghost Value = { List (Node Id) };
 
     ghost view = { λ s. keys_of s.nodes.entries };
 
-    ghost invariant = { λ s. IsStore s.nodes.entries };
+    ghost invariant = { λ s. AreStored [] s.nodes.entries };
 }
 
 impl Store {
@@ -173,41 +177,58 @@ impl Store {
         Ok(ids)
     }
 
-    // What is known of the formulas together.
-    fn facts_together(&self, ids: &[FormulaId]) -> Facts
-        requires { AllByRecursion (IsId self.now) ids.now }
-        ensures facts { AreFactsOf (members (map (tree self.now) ids.now)) result }
-        ensures height { result.height ≤ length self.now }
+    /// Takes in what was made beside a store, which this one begins like, and gives the id of the formula that is wanted. The
+    /// formulas of this store keep their ids. Its only error is `Memory`, which leaves the store as it was.
+    pub fn absorb(&mut self, delta: Delta) -> Result<FormulaId, StoreError>
+        requires { delta.begun ≤ length self.old }
+        ensures made { IfOk result (λ id. IsMade (IsId self.new) (tree self.new) id (tree_on self.old delta)) }
+        ensures kept { Keeps (IsId self.old) (tree self.old) (IsId self.new) (tree self.new) }
+        ensures few { length self.new ≤ length self.old + length delta.own }
+        ensures grown { Grows self.old self.new }
+        ensures unchanged { OnErr result (self.new ≡ self.old) }
     {
-        let mut facts = Facts::NONE;
-        for id in ids {
-            facts = facts.joined(self.facts(*id));
+        let count = self.len();
+        match taken_in(self.alloc, self, &delta) {
+            Ok(id) => Ok(id),
+            Err(_) => {
+                self.cut(count);
+                Err(StoreError::Memory)
+            }
         }
-        facts
     }
 
-    // What is known of the formula of this shape.
-    fn facts_of(&self, shape: &Shape<FormulaId>) -> Facts
-        requires { AllIds (IsId self.now) shape.now }
-        ensures { IsFactsOf (tree_over (tree self.now) shape.now) result }
+    // Keeps the first so many formulas with their ids. It takes no memory.
+    fn cut(&mut self, count: usize)
+        requires { count ≤ length self.old }
+        ensures { self.new ≡ take count self.old }
     {
-        let _room = self.len();
-        match shape {
-            Shape::True | Shape::False | Shape::One(_) => Facts::NONE.above(),
-            Shape::And(ids) | Shape::Or(ids) => self.facts_together(ids.items()).above(),
-            Shape::Not(member) => self.facts(*member).above(),
-            Shape::Impl(left, right) | Shape::Repl(left, right) | Shape::Equiv(left, right) => {
-                self.facts(*left).joined(self.facts(*right)).above()
-            }
-            Shape::Ex(_, member) | Shape::All(_, member) => {
-                self.facts(*member).above().quantified()
-            }
+        self.nodes.truncate(count);
+    }
+
+    // The id of the formula of this shape, if it is there. It takes no memory.
+    pub(crate) fn find(&self, shape: &Shape<FormulaId>) -> Option<FormulaId>
+        ensures { MatchOption result ((i : ℕ) → ¬ (slice_get self.now i ≡ Some shape.now)) (λ id. slice_get self.now id.number ≡ Some shape.now) }
+    {
+        match self.nodes.get_index_of(shape) {
+            Some(number) => Some(FormulaId { number }),
+            None => None,
         }
     }
 }
 
+impl Known for Store {
+    ghost nodes = { λ s. s };
+
+    fn count(&self) -> usize {
+        self.len()
+    }
+
+    fn known(&self, id: FormulaId) -> Facts {
+        self.facts(id)
+    }
+}
+
 impl Maker for Store {
-    ghost use Rattle.formula_tree.specs.Makers.{IsMade, Keeps};
     ghost use Rattle.formula_store.specs.Nodes.{Front};
 
     type Id = FormulaId;
@@ -228,7 +249,7 @@ impl Maker for Store {
         ensures few { length self.new ≤ length self.old + 1 }
         ensures unchanged { OnErr result (self.new ≡ self.old) }
     {
-        let facts = self.facts_of(&shape);
+        let facts = facts_of(self, &shape);
         let Ok((number, _)) = self.nodes.insert_full(shape, facts) else {
             return Err(MakeError::Memory);
         };

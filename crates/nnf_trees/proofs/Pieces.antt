@@ -32,7 +32,7 @@ pub are_joined : (xs ys : List Nnf) → AreProper xs → AreProper ys → ArePro
 are_joined [] ys h k = k
 are_joined (x ∷ xs) ys h k = (h.0, are_joined xs ys h.1 k)
 
-pub empty : (xs : List Nnf) → length xs ≡ 0 → xs ≡ []
+pub empty : {X : Type 0} (xs : List X) → length xs ≡ 0 → xs ≡ []
 empty [] e = refl
 empty (x ∷ xs) e = cc
 
@@ -74,15 +74,15 @@ same_gives Conjunction Disjunction fs e = cc
 same_gives Disjunction Conjunction fs e = cc
 same_gives Disjunction Disjunction fs e = refl
 
-pub itself_put : (j : Junction) (f : Nnf) (t : Tree) (made made2 : List Nnf) → nnf_of f ≡ t → GivesItself j t → made2 ≡ made ++ f ∷ []
-    → put_together (Some (Formulas_of made)) (pieces_of j (nnf_of f)) ≡ Some (Formulas_of made2)
-itself_put j f t made made2 e g m =
-    let g2 : GivesItself j (nnf_of f) = subst (GivesItself j) (sym e) g in
-    ap (put_together (Some (Formulas_of made))) g2 ∙ ap Some (sym (lists_joined made (f ∷ [])) ∙ ap Formulas_of (sym m))
+pub itself_put : {X : Type 0} (t : X → Tree) (j : Junction) (x : X) (f : Tree) (made made2 : List X) → t x ≡ f → GivesItself j f → made2 ≡ made ++ x ∷ []
+    → put_together (Some (members (map t made))) (pieces_of j (t x)) ≡ Some (members (map t made2))
+itself_put t j x f made made2 e g m =
+    let g2 : GivesItself j (t x) = subst (GivesItself j) (sym e) g in
+    ap (put_together (Some (members (map t made)))) g2 ∙ ap Some (sym (members_joined t made (x ∷ [])) ∙ ap (λ xs. members (map t xs)) (sym m))
 
-pub members_put : (j : Junction) (f : Nnf) (fs : List Nnf) (made made2 : List Nnf) → pieces_of j (nnf_of f) ≡ Some (Formulas_of fs) → made2 ≡ made ++ fs
-    → put_together (Some (Formulas_of made)) (pieces_of j (nnf_of f)) ≡ Some (Formulas_of made2)
-members_put j f fs made made2 g m = ap (put_together (Some (Formulas_of made))) g ∙ ap Some (sym (lists_joined made fs) ∙ ap Formulas_of (sym m))
+pub members_put : {X : Type 0} (t : X → Tree) (j : Junction) (x : X) (xs : List X) (made made2 : List X) → pieces_of j (t x) ≡ Some (members (map t xs)) → made2 ≡ made ++ xs
+    → put_together (Some (members (map t made))) (pieces_of j (t x)) ≡ Some (members (map t made2))
+members_put t j x xs made made2 g m = ap (put_together (Some (members (map t made)))) g ∙ ap Some (sym (members_joined t made xs) ∙ ap (λ ys. members (map t ys)) (sym m))
 
 pub itself_proper : (f : Nnf) (made made2 : List Nnf) → AreProper made → IsProper f → made2 ≡ made ++ f ∷ [] → AreProper made2
 itself_proper f made made2 h k e = subst AreProper (sym e) (are_joined made (f ∷ []) h (k, tt))
@@ -101,28 +101,29 @@ put_thrice (Some fs) (Some gs) None = refl
 put_thrice (Some fs) (Some gs) (Some hs) = ap Some (append_thrice fs gs hs)
 
 -- one member more is put to the pieces, or decides the whole
-module _ (j : Junction) (goes : Bool) (f : Nnf) (made made2 rest left : List Nnf) (all : Option Trees)
-    (put : put_together (Some (Formulas_of made)) (pieces_of j (nnf_of f)) ≡ (if goes then Some (Formulas_of made2) else None))
-    (split : left ≡ f ∷ rest) (before : put_together (Some (Formulas_of made)) (all_pieces j (Formulas_of left)) ≡ all) where
-  after : put_together (if goes then Some (Formulas_of made2) else None) (all_pieces j (Formulas_of rest)) ≡ all
+module _ {X : Type 0} (t : X → Tree) (j : Junction) (goes : Bool) (f : X) (made made2 rest left : List X) (all : Option Trees)
+    (put : put_together (Some (members (map t made))) (pieces_of j (t f)) ≡ (if goes then Some (members (map t made2)) else None))
+    (split : left ≡ f ∷ rest) (before : put_together (Some (members (map t made))) (all_pieces j (members (map t left))) ≡ all) where
+  after : put_together (if goes then Some (members (map t made2)) else None) (all_pieces j (members (map t rest))) ≡ all
   after =
-      ap (λ o. put_together o (all_pieces j (Formulas_of rest))) (sym put) ∙ put_thrice (Some (Formulas_of made)) (pieces_of j (nnf_of f)) (all_pieces j (Formulas_of rest))
-      ∙ ap (λ xs. put_together (Some (Formulas_of made)) (all_pieces j (Formulas_of xs))) (sym split) ∙ before
+      ap (λ o. put_together o (all_pieces j (members (map t rest)))) (sym put) ∙ put_thrice (Some (members (map t made))) (pieces_of j (t f)) (all_pieces j (members (map t rest)))
+      ∙ ap (λ xs. put_together (Some (members (map t made))) (all_pieces j (members (map t xs)))) (sym split) ∙ before
 
-  pub one_more : goes ≡ true → put_together (Some (Formulas_of made2)) (all_pieces j (Formulas_of rest)) ≡ all
-  one_more e = subst (λ b. put_together (if b then Some (Formulas_of made2) else None) (all_pieces j (Formulas_of rest)) ≡ all) e after
+  pub one_more : goes ≡ true → put_together (Some (members (map t made2))) (all_pieces j (members (map t rest))) ≡ all
+  one_more e = subst (λ b. put_together (if b then Some (members (map t made2)) else None) (all_pieces j (members (map t rest))) ≡ all) e after
 
   pub decided : goes ≡ false → all ≡ None
-  decided e = sym (subst (λ b. put_together (if b then Some (Formulas_of made2) else None) (all_pieces j (Formulas_of rest)) ≡ all) e after)
+  decided e = sym (subst (λ b. put_together (if b then Some (members (map t made2)) else None) (all_pieces j (members (map t rest))) ≡ all) e after)
 
-pub all_put : (j : Junction) (made rest : List Nnf) (all : Option Trees) → rest ≡ [] → put_together (Some (Formulas_of made)) (all_pieces j (Formulas_of rest)) ≡ all → Some (Formulas_of made) ≡ all
-all_put j made rest all e h = ap Some (sym (append_none (Formulas_of made))) ∙ ap (λ xs. put_together (Some (Formulas_of made)) (all_pieces j (Formulas_of xs))) (sym e) ∙ h
+pub all_put : {X : Type 0} (t : X → Tree) (j : Junction) (made rest : List X) (all : Option Trees) → rest ≡ [] → put_together (Some (members (map t made))) (all_pieces j (members (map t rest))) ≡ all
+    → Some (members (map t made)) ≡ all
+all_put t j made rest all e h = ap Some (sym (append_none (members (map t made)))) ∙ ap (λ xs. put_together (Some (members (map t made))) (all_pieces j (members (map t xs)))) (sym e) ∙ h
 
 pub absorbing_is : (j : Junction) → constant_tree (sameb the_type j Disjunction) ≡ absorbing j
 absorbing_is Conjunction = refl
 absorbing_is Disjunction = refl
 
-pub two_pieces : (j : Junction) (fs : List Nnf) → 1 < length fs → joined j (Formulas_of fs) ≡ from_pieces j (Some (Formulas_of fs))
-two_pieces j [] h = absurd (omega (arith, h))
-two_pieces j (f ∷ []) h = absurd (omega (arith, h))
-two_pieces j (f ∷ (g ∷ fs)) h = refl
+pub two_pieces : {X : Type 0} (t : X → Tree) (j : Junction) (fs : List X) → 1 < length fs → joined j (members (map t fs)) ≡ from_pieces j (Some (members (map t fs)))
+two_pieces t j [] h = absurd (omega (arith, h))
+two_pieces t j (f ∷ []) h = absurd (omega (arith, h))
+two_pieces t j (f ∷ (g ∷ fs)) h = refl

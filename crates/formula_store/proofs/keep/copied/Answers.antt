@@ -1,12 +1,14 @@
-use Rattle.std.proofs.Common.{rules, ◌≡◌, ◌<◌, ◌≤◌, List, take, length, get_or, map, subst, sym, ◌∙◌, arith, length-set, vec_len}
+use Rattle.std.proofs.Common.{rules, ◌+◌, ◌≡◌, ◌<◌, ◌≤◌, List, take, length, get_or, map, subst, sym, ap, ◌∙◌, arith, length-set, vec_len}
 use Rattle.std.proofs.lemmas.List.{take_all}
+use Rattle.std.proofs.lemmas.Result.{IfOk-weaker}
+use Rattle.linear_forms.proofs.Lookups.{on_ok}
 use Rattle.std.specs.List.{AllByRecursion}
 use Rattle.formula_tree.specs.Makers.{AreMade}
 use Rattle.formula_tree.proofs.Shapes.{listed_all}
 use Rattle.formula_store.specs.declared.id.FormulaId.{FormulaId}
 use Rattle.formula_store.specs.Nodes.{IsId, tree}
 use Rattle.formula_store.specs.Order.{IsOrder}
-use Rattle.formula_store.specs.Copies.{first_id, Copied}
+use Rattle.formula_store.specs.Copies.{first_id, ported, Copied}
 use Rattle.formula_store.proofs.Before.{each_id, members_before, orders_alike}
 use Rattle.formula_store.proofs.Copying.{still_copied, roots_copied, all_roots}
 use Rattle.formula_store.proofs.Marked.{all_on}
@@ -36,8 +38,10 @@ index_mut-requires c =
     let h = within c in
     omega (arith, c.loop-id.invariant.1)
 
-pub looked_up-requires : goal.looked_up-requires
-looked_up-requires c = all_on (IsId c.args.store.now) (λ (id : FormulaId). id.number < length c.loop-id.table.items) (λ id h. omega (arith, c.loop-id.invariant.1)) c.args.roots.now c.requires
+pub ids-requires : goal.ids-requires
+ids-requires c =
+    let size : length c.deref.result.now ≡ length c.args.store.now = ap length c.deref.ensures.value ∙ c.loop-id.invariant.1 in
+    all_on (IsId c.args.store.now) (λ (id : FormulaId). id.number < 0 + length c.deref.result.now) (λ id h. omega arith) c.args.roots.now c.requires
 
 pub loop-id-preserved : goal.loop-id-preserved
 loop-id-preserved c =
@@ -54,19 +58,20 @@ loop-id-preserved c =
 
 pub returns-clause-made : goal.returns-clause-made
 returns-clause-made c =
+    IfOk-weaker c.ids.result (λ copies. copies.items ≡ map (ported 0 c.deref.result.now) c.args.roots.now) (λ copies. AreMade (IsId c.loop-id.into) (tree c.loop-id.into) copies.items (map (tree c.args.store.now) c.args.roots.now)) (λ copies e.
     let ids : List FormulaId = c.deref-id-items.result.now in
     let o : IsOrder c.args.store.now c.args.roots.now ids = subst (λ (l : List FormulaId). IsOrder c.args.store.now c.args.roots.now l) (sym c.deref-id-items.ensures.value) c.in_ok-ids.ensures in
     let P : FormulaId → Type 0 = λ id. Copied c.args.store.now c.loop-id.into id (get_or c.loop-id.table.items id.number first_id) in
     let whole : take c.loop-id.id-index ids ≡ ids = take_all c.loop-id.id-index ids (omega arith) in
     let done : AllByRecursion P ids = subst (λ (l : List FormulaId). AllByRecursion P l) whole c.loop-id.invariant.0 in
-    subst (λ (l : List FormulaId). AreMade (IsId c.loop-id.into) (tree c.loop-id.into) l (map (tree c.args.store.now) c.args.roots.now)) (sym c.in_ok-copies.ensures)
-    (roots_copied c.args.store.now c.loop-id.into c.loop-id.table.items c.args.roots.now (all_roots c.args.store.now c.loop-id.into c.loop-id.table.items c.args.roots.now ids c.args.roots.now (λ r m. m) o P done))
+    subst (λ (l : List FormulaId). AreMade (IsId c.loop-id.into) (tree c.loop-id.into) l (map (tree c.args.store.now) c.args.roots.now)) (sym (e ∙ ap (λ (l : List FormulaId). map (ported 0 l) c.args.roots.now) c.deref.ensures.value))
+    (roots_copied c.args.store.now c.loop-id.into c.loop-id.table.items c.args.roots.now (all_roots c.args.store.now c.loop-id.into c.loop-id.table.items c.args.roots.now ids c.args.roots.now (λ r m. m) o P done))) c.ids.ensures
 
 pub returns-clause-few : goal.returns-clause-few
-returns-clause-few c needed n =
+returns-clause-few c = on_ok c.ids.result (λ needed n.
     let ids : List FormulaId = c.deref-id-items.result.now in
     let o : IsOrder c.args.store.now c.args.roots.now ids = subst (λ (l : List FormulaId). IsOrder c.args.store.now c.args.roots.now l) (sym c.deref-id-items.ensures.value) c.in_ok-ids.ensures in
     let l : length ids ≤ length needed = orders_alike c.args.store.now c.args.roots.now ids needed o n in
     let k = c.loop-id.invariant.2 in
     let i : c.loop-id.id-index ≤ length ids = search rules in
-    omega arith
+    omega arith)

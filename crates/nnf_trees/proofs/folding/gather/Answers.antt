@@ -14,7 +14,7 @@ returns-in-Constant-clause-pieces c =
 
 pub returns-in_ok-push-in-One-clause-pieces : goal.returns-in_ok-push-in-One-clause-pieces
 returns-in_ok-push-in-One-clause-pieces c =
-    itself_put c.args.junction c.args.member _ c.args.pieces.now.items c.push.new.self.items (ap nnf_of c.in-One.is ∙ nnf-One _) (atom_gives c.args.junction _)
+    itself_put nnf_of c.args.junction c.args.member _ c.args.pieces.now.items c.push.new.self.items (ap nnf_of c.in-One.is ∙ nnf-One _) (atom_gives c.args.junction _)
     (c.in_ok-push-in-One.ensures.items ∙ ap (λ (f : Nnf). c.args.pieces.now.items ++ f ∷ []) (sym c.in-One.is))
 
 pub returns-in_ok-push-in-One-clause-proper : goal.returns-in_ok-push-in-One-clause-proper
@@ -24,7 +24,7 @@ returns-in_ok-push-in-One-clause-proper c =
 
 pub returns-in_ok-push-in-Quantified-clause-pieces : goal.returns-in_ok-push-in-Quantified-clause-pieces
 returns-in_ok-push-in-Quantified-clause-pieces c =
-    itself_put c.args.junction c.args.member _ c.args.pieces.now.items c.push-in-Quantified.new.self.items (ap nnf_of c.in-Quantified.is ∙ nnf-Quantified _ _ _)
+    itself_put nnf_of c.args.junction c.args.member _ c.args.pieces.now.items c.push-in-Quantified.new.self.items (ap nnf_of c.in-Quantified.is ∙ nnf-Quantified _ _ _)
     (quantified_gives c.args.junction c.in-Quantified.quantifier _ _) (c.in_ok-push-in-Quantified.ensures.items ∙ ap (λ (f : Nnf). c.args.pieces.now.items ++ f ∷ []) (sym c.in-Quantified.is))
 
 pub returns-in_ok-push-in-Quantified-clause-proper : goal.returns-in_ok-push-in-Quantified-clause-proper
@@ -34,7 +34,7 @@ returns-in_ok-push-in-Quantified-clause-proper c =
 
 pub returns-in_ok-append-in-Joined-clause-pieces : goal.returns-in_ok-append-in-Joined-clause-pieces
 returns-in_ok-append-in-Joined-clause-pieces c =
-    members_put c.args.junction c.args.member c.into_items.result.items c.args.pieces.now.items c.append.new.self.items
+    members_put nnf_of c.args.junction c.args.member c.into_items.result.items c.args.pieces.now.items c.append.new.self.items
     (ap (λ (f : Nnf). pieces_of c.args.junction (nnf_of f)) c.in-Joined.is ∙ ap (pieces_of c.args.junction) (nnf-Joined _ _)
     ∙ same_gives c.args.junction c.in-Joined.other _ (sym c.eq-in-Joined.ensures ∙ c.if-eq.true) ∙ ap Some c.into_items.ensures.formulas)
     c.in_ok-append-in-Joined.ensures.items
@@ -47,7 +47,7 @@ returns-in_ok-append-in-Joined-clause-proper c =
 
 pub returns-in_ok-push-in-Joined-clause-pieces : goal.returns-in_ok-push-in-Joined-clause-pieces
 returns-in_ok-push-in-Joined-clause-pieces c =
-    itself_put c.args.junction c.args.member _ c.args.pieces.now.items c.push-else-eq.new.self.items (ap nnf_of c.in-Joined.is ∙ nnf-Joined _ _)
+    itself_put nnf_of c.args.junction c.args.member _ c.args.pieces.now.items c.push-else-eq.new.self.items (ap nnf_of c.in-Joined.is ∙ nnf-Joined _ _)
     (other_gives c.args.junction c.in-Joined.other _ (sym c.eq-in-Joined.ensures ∙ c.if-eq.false))
     (c.in_ok-push-in-Joined.ensures.items ∙ ap (λ (f : Nnf). c.args.pieces.now.items ++ f ∷ []) (sym c.in-Joined.is))
 

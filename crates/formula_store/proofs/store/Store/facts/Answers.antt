@@ -8,7 +8,7 @@ use Rattle.formula_store.proofs.store.Store.facts.Goals as goal
 pub returns-clause-facts : goal.returns-clause-facts
 returns-clause-facts c =
     let e : slice_get c.self.inside.nodes.entries c.args.id.number ≡ Some (c.unwrap.result.0.now, c.unwrap.result.1.now) = rw c.unwrap.ensures at (sym c.get_index.ensures.entry) in
-    subst (λ s. IsFactsOf (tree s c.args.id) c.unwrap.result.1.now) c.self.view_is (c.self.invariant.known c.args.id.number _ e)
+    subst (λ s. IsFactsOf (tree s c.args.id) c.unwrap.result.1.now) c.self.view_is (c.self.invariant.known c.args.id.number _ c.args.id e (omega arith))
 
 pub returns-clause-height : goal.returns-clause-height
 returns-clause-height c =

@@ -1,9 +1,0 @@
-use Rattle.std.proofs.Common.{◌≤◌, length, map, drop}
-use Rattle.formula_store.specs.Nodes.{tree}
-use Rattle.formula_tree.specs.Trees.{members}
-use Rattle.formula_store.specs.Facts.{most_nodes}
-use Rattle.formula_store.specs.Together.{Join}
-use Rattle.formula_store.proofs.store.Store.facts_together.Given as goal
-
-abbrev pub invariant-loop-id : goal.invariant-loop-id
-invariant-loop-id l = Join l.facts (members (map (tree l.self) (drop l.id-index l.ids))) (members (map (tree l.self) l.ids)) × (l.facts.height ≤ length l.self) × (l.facts.nodes ≤ most_nodes)

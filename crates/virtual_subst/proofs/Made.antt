@@ -1,0 +1,89 @@
+-- A formula at a point over what is made of its members, shape by shape.
+use Rattle.std.proofs.Common.{◌≡◌, ℕ, Bool, true, false, ◌&&◌, List, [], ◌∷◌, map, Some, IsSome, refl, sym, ap, ◌∙◌, subst}
+use Rattle.std.specs.Prelude.{unwrap_or}
+use Rattle.std.specs.HashMap.{get}
+use Rattle.std.specs.List.{AllByRecursion}
+use Rattle.formula_meaning.specs.declared.junction.Junction.{Junction}
+use Rattle.formula_meaning.specs.Fold.{joined, folded, fold_list}
+use Rattle.formula_meaning.specs.Formula.{One, also}
+use Rattle.formula_meaning.specs.Tree.{Tree}
+use Rattle.elimination_reference.specs.Limits.{atom_within}
+use Rattle.atom_normal.specs.declared.atoms.Context.{Context}
+use Rattle.atom_normal.specs.declared.atoms.Normal.{Normal}
+use Rattle.atom_normal.specs.Atoms.{context_of, tree_of}
+use Rattle.formula_meaning.specs.Atom as meant
+use Rattle.formula_tree.specs.declared.shape.Shape.{Shape}
+use Rattle.formula_tree.specs.Makers.{IsMade, Keeps}
+use Rattle.formula_tree.specs.Trees.{members}
+use Rattle.formula_store.specs.declared.id.FormulaId.{FormulaId}
+use Rattle.formula_store.specs.Nodes.{tree, IsId}
+use Rattle.formula_store.specs.Tables.{TableOf, same_id, Has}
+use Rattle.nnf_substitution.specs.Placed.{put, put_all, all_within, each_within}
+use Rattle.nnf_substitution.proofs.PutLaws.{also_within, and_true, put_joined, joined_within, normal_folded}
+use Rattle.test_points.specs.declared.points.TestPoint.{TestPoint}
+use Rattle.test_points.specs.Points.{place_of}
+use Rattle.virtual_subst.specs.Shared.{IsAtomPut, IsNodePut, Held, made_of}
+
+pub both_true : (a b : Bool) → a ≡ true → b ≡ true → (a && b) ≡ true
+both_true a b h k = ap (λ c. c && b) h ∙ k
+
+module _ (c : Context) (t : TestPoint) (nodes made : List (Shape FormulaId)) where
+  -- what was made stays
+  pub still_put : (made2 : List (Shape FormulaId)) → Keeps (IsId made) (tree made) (IsId made2) (tree made2) → (id copy : FormulaId) → IsNodePut c t nodes made id copy → IsNodePut c t nodes made2 id copy
+  still_put made2 k id copy h = record { is = k.is copy h.is; formula = k.same copy h.is ∙ h.formula; within = h.within }
+
+  -- the formula is f
+  pub put_as : (f : Tree) (id copy : FormulaId) → tree nodes id ≡ f → IsMade (IsId made) (tree made) copy (put (context_of c) t.name.number (place_of t) f) → all_within (context_of c) t.name.number (place_of t) f ≡ true
+      → IsNodePut c t nodes made id copy
+  put_as f id copy e m w = record {
+    is = m.is;
+    formula = m.same ∙ ap (put (context_of c) t.name.number (place_of t)) (sym e);
+    within = ap (all_within (context_of c) t.name.number (place_of t)) e ∙ w;
+  }
+
+  -- an atom
+  pub atom_put : (a : meant.Atom) (n : Normal) (id copy : FormulaId) → tree nodes id ≡ One a → IsAtomPut c t a n → IsMade (IsId made) (tree made) copy (tree_of n) → IsNodePut c t nodes made id copy
+  atom_put a n id copy e p m =
+      put_as (One a) id copy e (record { is = m.is; same = m.same ∙ sym (normal_folded n) ∙ ap folded p.formula })
+      (and_true (atom_within (context_of c) t.name.number (place_of t) a) ∙ p.within)
+
+  module _ (table : TableOf FormulaId) where
+    pub value_made : (id : FormulaId) → Held c t nodes made table id → IsNodePut c t nodes made id (made_of table id)
+    value_made id h = subst (IsNodePut c t nodes made id) (sym (ap (λ o. unwrap_or o id) h.there)) h.holds
+
+    pub there_made : (id : FormulaId) → Held c t nodes made table id → IsSome (get same_id table id)
+    there_made id h = subst (λ o. IsSome o) (sym h.there) tt
+
+    pub all_there : (ids : List FormulaId) → AllByRecursion (Held c t nodes made table) ids → AllByRecursion (λ id. IsSome (get same_id table id)) ids
+    all_there [] h = tt
+    all_there (id ∷ ids) h = (there_made id h.0, all_there ids h.1)
+
+    pub all_ids : (ids : List FormulaId) → AllByRecursion (Held c t nodes made table) ids → AllByRecursion (IsId made) (map (made_of table) ids)
+    all_ids [] h = tt
+    all_ids (id ∷ ids) h = let m = value_made id h.0 in (m.is, all_ids ids h.1)
+
+    pub all_put : (ids : List FormulaId) → AllByRecursion (Held c t nodes made table) ids
+        → members (map (tree made) (map (made_of table) ids)) ≡ put_all (context_of c) t.name.number (place_of t) (members (map (tree nodes) ids))
+    all_put [] h = refl
+    all_put (id ∷ ids) h = let m = value_made id h.0 in λ i. also (m.formula i) (all_put ids h.1 i)
+
+    pub all_stay : (ids : List FormulaId) → AllByRecursion (Held c t nodes made table) ids → each_within (context_of c) t.name.number (place_of t) (members (map (tree nodes) ids)) ≡ true
+    all_stay [] h = refl
+    all_stay (id ∷ ids) h =
+        let m = value_made id h.0 in
+        also_within (context_of c) t.name.number (place_of t) (tree nodes id) (members (map (tree nodes) ids))
+        ∙ both_true (all_within (context_of c) t.name.number (place_of t) (tree nodes id)) (each_within (context_of c) t.name.number (place_of t) (members (map (tree nodes) ids))) m.within (all_stay ids h.1)
+
+    -- members joined, which are folded where they are made
+    pub list_put : (j : Junction) (ids : List FormulaId) (id copy : FormulaId) (made2 : List (Shape FormulaId)) → tree nodes id ≡ joined j (members (map (tree nodes) ids)) → AllByRecursion (Held c t nodes made table) ids
+        → IsMade (IsId made2) (tree made2) copy (fold_list j (members (map (tree made) (map (made_of table) ids)))) → IsNodePut c t nodes made2 id copy
+    list_put j ids id copy made2 e h m =
+        let o = context_of c in
+        let x = t.name.number in
+        let s = place_of t in
+        let fs = members (map (tree nodes) ids) in
+        record {
+          is = m.is;
+          formula = m.same ∙ ap (fold_list j) (all_put ids h) ∙ sym (put_joined o x s j fs) ∙ ap (put o x s) (sym e);
+          within = ap (all_within o x s) e ∙ joined_within o x s j fs ∙ all_stay ids h;
+        }

@@ -1,0 +1,57 @@
+-- A formula of a store with a name at a place, made beside the store.
+use Rattle.std.specs.Prelude.{◌≡◌, ℕ, ◌≤◌, Bool, true, false, List, length, unwrap_or}
+use Rattle.std.specs.HashMap.{get}
+use Rattle.formula_meaning.specs.Atom as meant
+use Rattle.elimination_theory.specs.BothTheories.{IsPlaceIn}
+use Rattle.elimination_theory.specs.Steps.{atom_at}
+use Rattle.elimination_reference.specs.Limits.{atom_within}
+use Rattle.atom_normal.specs.declared.atoms.Context.{Context}
+use Rattle.atom_normal.specs.declared.atoms.Normal.{Normal}
+use Rattle.atom_normal.specs.Atoms.{context_of, tree_of, IsWellFormedNormal}
+use Rattle.atom_normal.specs.NormalForm.{normal_atom}
+use Rattle.formula_tree.specs.declared.shape.Shape.{Shape}
+use Rattle.formula_store.specs.declared.id.FormulaId.{FormulaId}
+use Rattle.formula_store.specs.Changes.{Change, tree_on}
+use Rattle.formula_store.specs.Nodes.{tree, IsId}
+use Rattle.formula_store.specs.Tables.{TableOf, same_id, Has}
+use Rattle.nnf_substitution.specs.Placed.{put, all_within}
+use Rattle.test_points.specs.declared.points.TestPoint.{TestPoint}
+use Rattle.test_points.specs.Points.{place_of, IsTestPoint}
+use Rattle.virtual_subst.specs.declared.error.SubstError.{SubstError}
+use Rattle.virtual_subst.specs.declared.error.SubstError.TheVariants.{Overflow, Memory}
+
+-- the point is one of the theory
+pub record IsAtPlace (c : Context) (t : TestPoint) : Type 0 where
+  pub test_point : IsTestPoint t
+  pub place : IsPlaceIn (context_of c) (place_of t)
+
+-- the error says that a number passes the limit, or nothing
+abbrev pub Stops : SubstError → Bool → Type 0
+Stops Overflow within = within ≡ false
+Stops Memory within = Unit {0}
+
+-- the normal form is the atom's at the point, and no number passes the limit
+pub record IsAtomPut (c : Context) (t : TestPoint) (a : meant.Atom) (n : Normal) : Type 0 where
+  pub formula : tree_of n ≡ atom_at (context_of c) (normal_atom (context_of c)) t.name.number (place_of t) a
+  pub well_formed : IsWellFormedNormal n
+  pub within : atom_within (context_of c) t.name.number (place_of t) a ≡ true
+
+-- among the nodes that are made, the copy stands for the formula at the point, and no number passes the limit
+pub record IsNodePut (c : Context) (t : TestPoint) (nodes made : List (Shape FormulaId)) (id copy : FormulaId) : Type 0 where
+  pub is : IsId made copy
+  pub formula : tree made copy ≡ put (context_of c) t.name.number (place_of t) (tree nodes id)
+  pub within : all_within (context_of c) t.name.number (place_of t) (tree nodes id) ≡ true
+
+-- over the nodes, what was made beside them stands for the formula at the point, and no number passes the limit
+pub record IsPutAt (c : Context) (t : TestPoint) (nodes : List (Shape FormulaId)) (id : FormulaId) (d : Change) : Type 0 where
+  pub begun : d.begun ≤ length nodes
+  pub formula : tree_on nodes d ≡ put (context_of c) t.name.number (place_of t) (tree nodes id)
+  pub within : all_within (context_of c) t.name.number (place_of t) (tree nodes id) ≡ true
+
+-- the table has for the formula what stands for it at the point
+abbrev pub Held : Context → TestPoint → List (Shape FormulaId) → List (Shape FormulaId) → TableOf FormulaId → FormulaId → Type 0
+Held c t nodes made table id = Has (IsNodePut c t nodes made) table id
+
+-- the id that the table has for a formula
+abbrev pub made_of : TableOf FormulaId → FormulaId → FormulaId
+made_of table id = unwrap_or (get same_id table id) id

@@ -1,0 +1,42 @@
+//! A test point put into one atom.
+
+ghost use Rattle.std.specs.Prelude.{◌≡◌, MatchResult};
+ghost use Rattle.formula_meaning.specs.Atom.{AtomIn};
+ghost use Rattle.elimination_reference.specs.Limits.{atom_within};
+ghost use Rattle.atom_normal.specs.Atoms.{atom_of, context_of, IsWellFormed};
+ghost use Rattle.virtual_subst.specs.Shared.{Stops, IsAtomPut, IsAtPlace};
+
+use crate::error::SubstError;
+use atom_normal::{Atom, Context, Normal};
+use cooper_periods::substitute_integer;
+use std::alloc::Global;
+use test_points::{PointError, TestPoint, substitute_field};
+
+/// A test point of a theory.
+#[derive(Clone, Copy)]
+pub(crate) struct At<'a> {
+    pub(crate) context: Context,
+    pub(crate) point: &'a TestPoint,
+}
+
+impl At<'_> {
+    /// The atom with the point's name put at the point, in normal form (Loos and Weispfenning 1993, Cooper 1972). `Overflow`
+    /// comes exactly where a number that is formed for it passes 2^127 - 1, else `Memory`.
+    pub(crate) fn atom(&self, alloc: Global, atom: &Atom) -> Result<Normal, SubstError>
+        requires well_formed { IsWellFormed atom.now }
+        requires in_context { AtomIn (context_of self.now.context) (atom_of atom.now) }
+        requires place { IsAtPlace self.now.context self.now.point.now }
+        ensures { MatchResult result (IsAtomPut self.now.context self.now.point.now (atom_of atom.now)) (λ e. Stops e (atom_within (context_of self.now.context) self.now.point.now.name.number (place_of self.now.point.now) (atom_of atom.now))) }
+    {
+        let normal = match self.context {
+            Context::Fields => substitute_field(alloc, atom, self.point),
+            Context::Integers => substitute_integer(alloc, atom, self.point),
+        };
+        match normal {
+            Ok(normal) => Ok(normal),
+            Err(PointError::Overflow) => Err(SubstError::Overflow),
+            Err(PointError::Nodes) => unreachable!(),
+            Err(PointError::Memory) => Err(SubstError::Memory),
+        }
+    }
+}

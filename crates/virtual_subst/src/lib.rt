@@ -1,0 +1,13 @@
+//! Virtual substitution over shared formulas: a test point put into a formula of a store, beside the store.
+#![tactic(auto)]
+
+mod atoms;
+mod error;
+mod folding;
+mod nodes;
+mod substitution;
+mod table;
+
+pub use error::SubstError;
+pub use folding::fold;
+pub use substitution::{substitute_listed, substitute_shared};
