@@ -1,0 +1,12 @@
+pub mod Moved
+pub mod Lists
+pub mod Block
+pub mod Points
+pub mod Without
+pub mod Under
+pub mod Fit
+pub mod Children
+pub mod Pending
+pub mod Worked
+pub mod Leading
+pub mod Ends

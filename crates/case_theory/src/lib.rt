@@ -1,0 +1,11 @@
+//! What elimination by cases promises, and why steps in any order keep the promise, under assumptions. No function does anything;
+//! the contract of each is a theorem.
+#![tactic(auto)]
+
+mod laws;
+
+pub use laws::{
+    answers_fit, answers_hold_under_assumptions, block_has_no_order, block_is_worked,
+    children_are_made, pending_begins, pending_ends, pending_goes_on, root_suffices,
+    side_points_suffice, taking_out_leaves_rest, working_goes_on, zero_suffices,
+};
