@@ -44,7 +44,7 @@ use Rattle.case_theory.proofs.Under.{answers_under}
 -- ---- a multiple of a period
 
 -- the side of infinity is that of the period
-along_times : (q z : ℤ) (d : ℕ) → 0 < d → along (q *ℤ pos d) z ≡ along q z
+pub along_times : (q z : ℤ) (d : ℕ) → 0 < d → along (q *ℤ pos d) z ≡ along q z
 along_times (pos a) z d h = go (pos a *ℤ pos d) refl
   where
     go : (r : ℤ) → pos a *ℤ pos d ≡ r → along r z ≡ neg_ℤ z
@@ -69,11 +69,11 @@ module _ (x : ℕ) (j q : ℤ) (d : ℕ) (h : 0 < d) where
   period_more (Compare r f) p = tt
   period_more (Congruent holds n f) p = divides_along (mul_assoc (coefficient x f) q (pos d)) (divides_mul (pos d) p)
 
-  period_times : (a : Atom) → IsPeriodOf x (pos d) a → IsPeriodOf x (q *ℤ pos d) a
+  pub period_times : (a : Atom) → IsPeriodOf x (pos d) a → IsPeriodOf x (q *ℤ pos d) a
   period_times (Compare r f) p = tt
   period_times (Congruent holds n f) p = divides_along (mul_left_comm q (coefficient x f) (pos d)) (divides_mul_left q p)
 
-  not_zero : ¬ (q ≡ pos 0) → ¬ (q *ℤ pos d ≡ pos 0)
+  pub not_zero : ¬ (q ≡ pos 0) → ¬ (q *ℤ pos d ≡ pos 0)
   not_zero n e = ⊎_elim n (λ (z : pos d ≡ pos 0). omega (arith, ints)) (zero_product q (pos d) e)
 
 fits_period : (x l step : ℕ) (a : Atom) → Fits l step x a → IsPeriodOf x (pos step) a
@@ -81,7 +81,7 @@ fits_period x l step (Compare r f) h = tt
 fits_period x l step (Congruent holds n f) h = record { quotient = h.0; exact = h.1 ∙ mul_comm h.0 (pos n) }
 
 -- some number is a period of each congruence of a formula
-common_period : (x : ℕ) (f : Tree) → InContext Integers f → (d : ℕ) × 0 < d × Every (IsPeriodOf x (pos d)) f
+pub common_period : (x : ℕ) (f : Tree) → InContext Integers f → (d : ℕ) × 0 < d × Every (IsPeriodOf x (pos d)) f
 common_period x f inside =
     let l = integer_scale x f in let d = integer_span x f / integer_scale x f in
     (d, (formula_spanned x f inside).period, every_map (Fits l d x) (IsPeriodOf x (pos d)) (fits_period x l d) f (formula_fits x f inside))

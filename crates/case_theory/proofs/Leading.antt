@@ -1,6 +1,6 @@
 -- The leading block: the formula is the block over the matrix, and each of its names stands once.
-use Rattle.std.proofs.Common.{◌≡◌, ℕ, Bool, true, false, List, [], ◌∷◌, arith, refl, ap, sym, ◌∙◌, subst, inl, inr, nat_eq, eq-eqb, if◌then◌else◌}
-use Rattle.formula_meaning.specs.Context.{Context}
+use Rattle.std.proofs.Common.{◌≡◌, ℕ, Bool, true, false, List, [], ◌∷◌, refl, ap, sym, ◌∙◌, subst, inl, inr, nat_eq, eq-eqb, if◌then◌else◌}
+use Rattle.formula_meaning.specs.Context.{Context, Fields}
 use Rattle.formula_meaning.specs.Formula.{Yes, No, One, Not, And, Or, Impl, Repl, Equiv, Ex, All}
 use Rattle.formula_meaning.specs.Some.{Among}
 use Rattle.formula_meaning.specs.Distinct.{StandsOnce}
@@ -10,6 +10,13 @@ use Rattle.formula_meaning.specs.Tree.{Tree, IsFree}
 use Rattle.elimination_reference.specs.Reference.{normal_tree}
 use Rattle.elimination_reference.specs.Cases.{case_sign, case_formula, case_matrix, case_names}
 use Rattle.elimination_reference.proofs.CasesExact.{free}
+use Rattle.elimination_reference.proofs.Branches.{true_is_not_false}
+use Rattle.elimination_reference.proofs.PutMatrix.{block_turned, matrix_turned}
+use Rattle.elimination_reference.specs.Reference.{turned}
+use Rattle.formula_meaning.specs.Shape.{IsNegationNormal, leading}
+use Rattle.formula_meaning.proofs.NormalShape.{normal_form_shape}
+use Rattle.atom_normal.specs.NormalForm.{negated_normal}
+use Rattle.case_theory.specs.Leading.{LeadingBlockIsSplit}
 use Rattle.case_theory.specs.Block.{ex_all}
 use Rattle.case_theory.proofs.Lists.{once_more}
 
@@ -31,9 +38,6 @@ block_is (Ex x f) chain = go (is_in nat_eq x chain) (block_is f (x ∷ chain))
         ex_all (if b then [] else x ∷ block_of nat_eq f Exists (x ∷ chain)) (if b then Ex x f else matrix_of nat_eq f Exists (x ∷ chain)) ≡ Ex x f
     go true e = refl
     go false e = ap (Ex x) e
-
-true_is_not_false : ¬ (true ≡ false)
-true_is_not_false e = grind arith
 
 in_front : (x : ℕ) (chain : List ℕ) → is_in nat_eq x (x ∷ chain) ≡ true
 in_front x chain = ap (λ (b : Bool). if b then true else is_in nat_eq x chain) (eq-eqb x x refl)
@@ -93,3 +97,40 @@ free_in_all (x ∷ xs) f y t n = (λ e. n (inl e), free_in_all xs f y t (λ m. n
 -- what is free in the matrix, and no name of the block, is free in the formula
 pub matrix_names : (c : Context) (f : Tree) (y : ℕ) → IsFree (case_matrix f) y → ¬ (Among (case_names f) y) → IsFree f y
 matrix_names c f y t n = free c f (case_sign (normal_tree f)) y (subst (λ (g : Tree). IsFree g y) (block_is (case_formula f) []) (free_in_all (case_names f) (case_matrix f) y t n))
+
+-- ---- a formula that begins with all
+
+split_block : (g : Tree) → IsNegationNormal g → block_of nat_eq (turned (case_sign g) g) Exists [] ≡ block_of nat_eq g (leading g) []
+split_block Yes h = refl
+split_block No h = refl
+split_block (One a) h = refl
+split_block (Not f) h = refl
+split_block (And fs) h = refl
+split_block (Or fs) h = refl
+split_block (Impl f g) h = refl
+split_block (Repl f g) h = refl
+split_block (Equiv f g) h = refl
+split_block (Ex x f) h = refl
+split_block (All x f) h = block_turned (All x f) [] h
+
+split_matrix : (g : Tree) → IsNegationNormal g → matrix_of nat_eq (turned (case_sign g) g) Exists [] ≡ turned (case_sign g) (matrix_of nat_eq g (leading g) [])
+split_matrix Yes h = refl
+split_matrix No h = refl
+split_matrix (One a) h = refl
+split_matrix (Not f) h = refl
+split_matrix (And fs) h = refl
+split_matrix (Or fs) h = refl
+split_matrix (Impl f g) h = refl
+split_matrix (Repl f g) h = refl
+split_matrix (Equiv f g) h = refl
+split_matrix (Ex x f) h = refl
+split_matrix (All x f) h = matrix_turned (All x f) [] h
+
+pub leading_split : (f : Tree) → LeadingBlockIsSplit f
+leading_split f = record {
+  names = split_block (normal_tree f) (normal_form_shape negated_normal f).0;
+  matrix = split_matrix (normal_tree f) (normal_form_shape negated_normal f).0;
+  once = names_once f;
+  whole = block_is (case_formula f) [];
+  free = λ y t n. matrix_names Fields f y t n;
+}

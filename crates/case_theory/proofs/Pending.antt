@@ -17,7 +17,7 @@ use Rattle.formula_meaning.proofs.TreeFiner.{tree_finer}
 use Rattle.elimination_theory.specs.BothTheories.{substitution}
 use Rattle.elimination_theory.specs.Steps.{Result}
 use Rattle.elimination_theory.specs.Answers.{answers_of}
-use Rattle.elimination_theory.proofs.SomeListed.{each_left, each_right, each_append, each_among, some_map, some_mapped, some_of_mapped}
+use Rattle.elimination_theory.proofs.SomeListed.{each_left, each_right, each_append, each_among, some_left, some_right, some_either, some_map, some_mapped, some_of_mapped}
 use Rattle.elimination_reference.specs.Over.{AreOver}
 use Rattle.elimination_reference.proofs.Tidy.{tidy_in}
 use Rattle.case_theory.specs.PutThrough.{AreTrue}
@@ -25,7 +25,7 @@ use Rattle.case_theory.specs.Under.{Lack}
 use Rattle.case_theory.specs.Block.{DifferIn, Somewhere}
 use Rattle.case_theory.specs.Points.{IsPointFor, ArePointsFor}
 use Rattle.case_theory.specs.Children.{IsChild, AreChildren}
-use Rattle.case_theory.specs.Pending.{Pending, eliminated, ShareBlock, StaysFree, IsPending, PendingBegins, IsRest, child, children, PendingGoesOn}
+use Rattle.case_theory.specs.Pending.{Pending, eliminated, ShareBlock, StaysFree, IsPending, PendingBegins, IsRest, child, children, PendingGoesOn, CoveredMayGo, OtherMayCover}
 use Rattle.case_theory.proofs.Moved.{below_allowed}
 use Rattle.case_theory.proofs.Lists.{once_fewer, once_apart, once_more, some_middle}
 use Rattle.case_theory.proofs.Block.{block_somewhere, somewhere_more, one_taken}
@@ -161,3 +161,30 @@ pending_goes_on c ks matrix block before b rest x left points rs a m r ps cs =
           (some_middle (λ (d : Pending). Somewhere c (Among d.left) d.tree p) before b (children x b left rs) rest
           (replaced_by c ks matrix block a.lack b later.0 x left m r points ps rs cs p o t));
     }
+
+-- ---- a branch that others cover
+
+some_without : {X : Type 0} (P : X → Type 0) (before : List X) (x : X) (rest : List X) → (P x → SomeOf P (before ++ rest)) → SomeOf P (before ++ x ∷ rest) ↔ SomeOf P (before ++ rest)
+some_without P before x rest h = (
+  λ s. ⊎_elim (some_left P before rest) (⊎_elim h (some_right P before rest)) (some_either P before (x ∷ rest) s),
+  λ s. ⊎_elim (some_left P before (x ∷ rest)) (λ t. some_right P before (x ∷ rest) (inr t)) (some_either P before rest s),
+)
+
+pub covered_goes : (c : Context) → CoveredMayGo c
+covered_goes c ks matrix block before b rest a covered =
+    let P = IsPending c ks matrix block in
+    record {
+      lack = a.lack;
+      each = each_append P before rest (each_left P before (b ∷ rest) a.each) (each_right P before (b ∷ rest) a.each).1;
+      together = λ p o t. both_ways (a.together p o t) (some_without (λ (d : Pending). Somewhere c (Among d.left) d.tree p) before b rest (covered p o t));
+    }
+
+pub other_covers : (c : Context) → OtherMayCover c
+other_covers c ks b others d m = record {
+  equal = λ e left p o t s.
+      among_some (λ (d : Pending). Somewhere c (Among d.left) d.tree p) others d m
+      (somewhere_more c (Among b.left) (Among d.left) d.tree p left (subst (λ (f : Tree). Somewhere c (Among b.left) f p) (sym e) s));
+  true_one = λ e p o t s.
+      among_some (λ (d : Pending). Somewhere c (Among d.left) d.tree p) others d m
+      (subst (λ (f : Tree). Somewhere c (Among d.left) f p) (sym e) (p, o, record { elsewhere = λ y n. refl }, tt));
+}

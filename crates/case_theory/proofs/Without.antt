@@ -1,5 +1,5 @@
 -- Assumptions without the names of a block.
-use Rattle.std.proofs.Common.{◌≡◌, ℕ, Bool, true, false, not, arith, List, [], ◌∷◌, refl, sym, if◌then◌else◌}
+use Rattle.std.proofs.Common.{◌≡◌, ℕ, Bool, true, false, not, List, [], ◌∷◌, refl, if◌then◌else◌}
 use Rattle.std.proofs.Math.IntN.{pos}
 use Rattle.std.specs.Ordering.{int_eq}
 use Rattle.std.specs.Cmp.{signed_Decides}
@@ -8,12 +8,10 @@ use Rattle.formula_meaning.specs.Atom.{Atom, Mentions, form_of}
 use Rattle.formula_meaning.specs.Some.{EachOf}
 use Rattle.simplified_formulas.specs.Atoms.{without}
 use Rattle.simplified_formulas.specs.AtomKit.{contains}
+use Rattle.elimination_reference.proofs.Branches.{true_is_not_false}
 use Rattle.case_theory.specs.CaseTree.{without_all}
 use Rattle.case_theory.specs.Under.{Lack}
 use Rattle.elimination_theory.proofs.SomeListed.{each_map}
-
-false_is_not_true : ¬ (false ≡ true)
-false_is_not_true e = grind arith
 
 -- what the test leaves out has not the name
 not_there : (a : Atom) (x : ℕ) → contains a x ≡ false → ¬ (Mentions a x)
@@ -21,7 +19,7 @@ not_there a x e m = go (int_eq (coefficient x (form_of a)) (pos 0)) refl e
   where
     go : (b : Bool) → int_eq (coefficient x (form_of a)) (pos 0) ≡ b → not b ≡ false → ⊥
     go true h i = m ((signed_Decides (coefficient x (form_of a)) (pos 0)).0 h)
-    go false h i = false_is_not_true (sym i)
+    go false h i = true_is_not_false i
 
 module _ (P : Atom → Type 0) where
   without_each : (x : ℕ) (ks : List Atom) → EachOf P ks → EachOf P (without contains x ks)

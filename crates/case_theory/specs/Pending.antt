@@ -3,7 +3,7 @@ use Rattle.std.specs.Prelude.{◌≡◌, ℕ, ◌↔◌, List, [], ◌∷◌, �
 use Rattle.formula_meaning.specs.Context.{Context}
 use Rattle.formula_meaning.specs.Point.{Point, Of}
 use Rattle.formula_meaning.specs.Every.{Every}
-use Rattle.formula_meaning.specs.Formula.{none, also}
+use Rattle.formula_meaning.specs.Formula.{Yes, none, also}
 use Rattle.formula_meaning.specs.Fold.{fold_list}
 use Rattle.formula_meaning.specs.declared.junction.Junction.TheVariants.{Disjunction}
 use Rattle.formula_meaning.specs.Some.{SomeOf, Among, EachOf}
@@ -92,6 +92,26 @@ abbrev pub PendingGoesOn : Context → Type 0
 PendingGoesOn c = (ks : List Atom) (matrix : Tree) (block : List ℕ) (before : List Pending) (b : Pending) (rest : List Pending) (x : ℕ) (left : List ℕ) (points : List Place) (rs : List Result) →
     ArePending c ks matrix block (before ++ b ∷ rest) → Among b.left x → IsRest x b.left left → ArePointsFor c x b.tree points → AreChildren c ks x b.tree points rs →
     ArePending c ks matrix block ((before ++ children x b left rs) ++ rest)
+
+-- ---- a branch that others cover
+
+-- where the atoms are true, the branch is true somewhere only where some other is
+abbrev pub IsCovered : Context → List Atom → Pending → List Pending → Type 0
+IsCovered c ks b others =
+    (p : Point ℕ) → Of c p → AreTrue ks p → Somewhere c (Among b.left) b.tree p → SomeOf (λ (d : Pending). Somewhere c (Among d.left) d.tree p) others
+
+-- Such a branch may go.
+abbrev pub CoveredMayGo : Context → Type 0
+CoveredMayGo c = (ks : List Atom) (matrix : Tree) (block : List ℕ) (before : List Pending) (b : Pending) (rest : List Pending) → ArePending c ks matrix block (before ++ b ∷ rest) →
+    IsCovered c ks b (before ++ rest) → ArePending c ks matrix block (before ++ rest)
+
+-- It is one where another has the same formula, and its names that are left, or is true.
+pub record OneCovers (c : Context) (ks : List Atom) (b : Pending) (others : List Pending) (d : Pending) : Type 0 where
+  pub equal : d.tree ≡ b.tree → ((y : ℕ) → Among b.left y → Among d.left y) → IsCovered c ks b others
+  pub true_one : d.tree ≡ Yes → IsCovered c ks b others
+
+abbrev pub OtherMayCover : Context → Type 0
+OtherMayCover c = (ks : List Atom) (b : Pending) (others : List Pending) (d : Pending) → Among others d → OneCovers c ks b others d
 
 -- ---- its end
 

@@ -7,7 +7,12 @@ ghost use Rattle.case_theory.specs.Block.{BlockHasNoOrder};
 ghost use Rattle.case_theory.specs.Points.{SidePointsSuffice, ZeroSuffices, RootSuffices};
 ghost use Rattle.case_theory.specs.Children.{ChildrenAreMade};
 ghost use Rattle.case_theory.specs.Worked.{WorkingGoesOn};
-ghost use Rattle.case_theory.specs.Pending.{PendingBegins, TakingOutLeavesRest, PendingGoesOn, PendingEnds, BlockIsWorked};
+ghost use Rattle.case_theory.specs.Pending.{PendingBegins, TakingOutLeavesRest, PendingGoesOn, CoveredMayGo, OtherMayCover, PendingEnds, BlockIsWorked};
+ghost use Rattle.case_theory.specs.Leading.{LeadingBlockIsSplit};
+ghost use Rattle.case_theory.specs.Fallback.{ReferenceIsCaseTree, MatrixIsDone, StopsAreOne};
+ghost use Rattle.case_theory.specs.Simplified.{TidyIsSimplifiable, ReducedIsTidy, SimplifyingIsWork};
+ghost use Rattle.case_theory.specs.Direct.{DirectAnswerIsExact};
+ghost use Rattle.case_theory.specs.ClassSample.{ClassSampleIsTrue};
 ghost use Rattle.std.specs.Prelude.{ℕ, List};
 
 /// Where each branch is, under the assumptions, the substitution into the branch before it, the answers make the first formula
@@ -67,6 +72,13 @@ pub fn pending_goes_on()
     ensures { (c : Context) → PendingGoesOn c }
 {}
 
+/// A branch that is true only where some other branch of the list is may go: one with the formula and the names of another, and
+/// each where another is true.
+pub fn covered_branch_may_go()
+    ensures goes { (c : Context) → CoveredMayGo c }
+    ensures covers { (c : Context) → OtherMayCover c }
+{}
+
 /// With no name left the branches are cases as elimination promises them: each guard is true exactly where its answers make the
 /// matrix true, and together the guards say the formula, or its negation where that begins with `all`.
 pub fn pending_ends()
@@ -76,4 +88,46 @@ pub fn pending_ends()
 /// A block of `ex` inside a formula is worked on to the disjunction of its branches.
 pub fn block_is_worked()
     ensures { (c : Context) → BlockIsWorked c }
+{}
+
+/// The leading block of a formula is that of its negation normal form, each name once; where it is one of `all`, the case matrix
+/// is the negation of what stands behind it.
+pub fn leading_block_is_split()
+    ensures { (f : Tree) → LeadingBlockIsSplit f }
+{}
+
+/// The cases of the reference elimination are such cases under every theory, with every tidy matrix that is equivalent to the case
+/// matrix.
+pub fn reference_is_case_tree()
+    ensures { (c : Context) → ReferenceIsCaseTree c }
+{}
+
+/// Where the reference elimination gives cases it eliminates the case matrix too, within the same limit.
+pub fn matrix_is_done()
+    ensures { (c : Context) → MatrixIsDone c }
+{}
+
+/// The case list of a formula and its elimination stop with the same word, if at all.
+pub fn stops_are_one()
+    ensures { (c : Context) → StopsAreOne c }
+{}
+
+/// A tidy formula within the limit can be simplified, and what is reduced and has no quantifier is tidy: simplifying under the
+/// assumptions is one way to work on a formula.
+pub fn simplifying_is_work()
+    ensures simplifiable { (c : Context) → TidyIsSimplifiable c }
+    ensures tidy { (c : Context) → ReducedIsTidy c }
+    ensures work { (c : Context) → SimplifyingIsWork c }
+{}
+
+/// The answer of a direct formula, its conjunction with the name at the root of the first equation, is equivalent to it, tidy and
+/// over its free names.
+pub fn direct_answer_is_exact()
+    ensures { DirectAnswerIsExact }
+{}
+
+/// Where a residue class makes a formula true over the integers, the formula is true at the sample of the class, though the period
+/// is perhaps one of none of its congruences.
+pub fn class_sample_is_true()
+    ensures { ClassSampleIsTrue }
 {}
