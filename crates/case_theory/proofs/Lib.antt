@@ -10,8 +10,11 @@ pub mod Children
 pub mod Pending
 pub mod Leading
 pub mod Ends
+pub mod FitAt
 pub mod Steady
 pub mod Fallback
 pub mod Simplified
 pub mod Direct
 pub mod ClassSample
+mod Examples
+mod Run

@@ -46,7 +46,8 @@ true_elsewhere c P f p q o u d n =
       same_at = λ y h. mul_comm (pos q.below) (p.at y) ∙ sym (d.elsewhere y (n y h)) ∙ mul_comm (q.at y) (pos p.below);
     }
 
-atoms_elsewhere : (c : Context) (P : ℕ → Type 0) (ks : List Atom) (p q : Point ℕ) → Of c p → Of c q → DifferIn P p q → ((y : ℕ) → P y → Lack ks y) → AreTrue ks p → AreTrue ks q
+-- atoms that lack the names stay true
+pub atoms_elsewhere : (c : Context) (P : ℕ → Type 0) (ks : List Atom) (p q : Point ℕ) → Of c p → Of c q → DifferIn P p q → ((y : ℕ) → P y → Lack ks y) → AreTrue ks p → AreTrue ks q
 atoms_elsewhere c P [] p q o u d n t = tt
 atoms_elsewhere c P (k ∷ ks) p q o u d n t = ((true_elsewhere c P (One k) p q o u d (λ y h i. (n y i).0 h)).0 t.0, atoms_elsewhere c P ks p q o u d (λ y i. (n y i).1) t.1)
 

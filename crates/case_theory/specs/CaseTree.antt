@@ -16,7 +16,7 @@ use Rattle.elimination_reference.specs.Reference.{normal_tree}
 use Rattle.elimination_reference.specs.Cases.{Case, case_sign, case_matrix, case_names}
 use Rattle.elimination_reference.specs.Over.{AreOver}
 use Rattle.elimination_reference.specs.Theorems.{IsTidy, guards_of, answer_names}
-use Rattle.case_theory.specs.PutThrough.{AreTrue, Fit}
+use Rattle.case_theory.specs.PutThrough.{AreTrue, Fit, FitAt}
 
 -- the atoms that have no name of the block
 abbrev pub without_all : List ℕ → List Atom → List Atom
@@ -53,3 +53,8 @@ pub record IsCaseTree (c : Context) (theory : List Atom) (f matrix : Tree) (case
   pub tidy : IsTidy c matrix
   pub each : EachOf (IsCaseUnder c (without_all (case_names f) theory) f matrix (case_names f)) cases
   pub together : SaysUnder c (without_all (case_names f) theory) (case_sign (normal_tree f)) f (Or (guards_of cases))
+
+-- Where the whole theory is true at a point, the periods of each case fit the matrix there.
+abbrev pub CasesFitAt : Context → Type 0
+CasesFitAt c = (theory : List Atom) (f matrix : Tree) (cases : List Case) (k : Case) (p : Point ℕ) → IsCaseTree c theory f matrix cases → Among cases k → Of c p → AreTrue theory p →
+    FitAt c k.answers matrix p

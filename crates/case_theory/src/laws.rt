@@ -2,6 +2,7 @@
 ghost use Rattle.formula_meaning.specs.Context.{Context};
 ghost use Rattle.formula_meaning.specs.Atom.{Atom};
 ghost use Rattle.formula_meaning.specs.Tree.{Tree};
+ghost use Rattle.case_theory.specs.CaseTree.{CasesFitAt};
 ghost use Rattle.case_theory.specs.Under.{AnswersHoldUnder, AnswersFit};
 ghost use Rattle.case_theory.specs.Block.{BlockHasNoOrder};
 ghost use Rattle.case_theory.specs.Points.{SidePointsSuffice, ZeroSuffices, RootSuffices};
@@ -83,6 +84,12 @@ pub fn covered_branch_may_go()
 /// matrix true, and together the guards say the formula, or its negation where that begins with `all`.
 pub fn pending_ends()
     ensures { (c : Context) → PendingEnds c }
+{}
+
+/// Where the theory is true at a point, the periods of each case fit the matrix there and at the points that differ from it in
+/// answered names alone.
+pub fn cases_fit_at_points()
+    ensures { (c : Context) → CasesFitAt c }
 {}
 
 /// A block of `ex` inside a formula is worked on to the disjunction of its branches.
