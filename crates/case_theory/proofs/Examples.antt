@@ -1,5 +1,6 @@
 -- Worked examples, by hand. The names x, y and z are 0, 1 and 2.
-use Rattle.std.proofs.Common.{◌≡◌, ℕ, true, false, None, Some, [], ◌∷◌, refl}
+use Rattle.std.proofs.Common.{◌≡◌, ℕ, true, false, None, Some, [], ◌∷◌, refl, arith, inl}
+use Rattle.std.proofs.lemmas.Int.{ints}
 use Rattle.std.proofs.Math.IntN.{ℤ, pos, negsuc}
 use Rattle.exact_numbers.specs.Divides.{content_of, gcd_of, euclid}
 use Rattle.formula_meaning.specs.Context.{Fields, Integers}
@@ -18,6 +19,18 @@ use Rattle.linear_forms.specs.Reduction.{quotient, residue_form}
 use Rattle.atom_normal.specs.NormalForm.{normal_atom}
 use Rattle.elimination_reference.specs.Reference.{reference}
 use Rattle.elimination_reference.specs.Cases.{case_names, case_matrix, reference_cases}
+use Rattle.elimination_reference.specs.Theorems.{IsTidy}
+use Rattle.case_theory.specs.Worked.{IsNeverUnder}
+use Rattle.case_theory.specs.Children.{AreChildren}
+use Rattle.case_theory.proofs.Points.{root_point}
+use Rattle.case_theory.proofs.Children.{children_made}
+use Rattle.elimination_theory.specs.Answers.{answers_of}
+use Rattle.elimination_theory.specs.AnswersExample.{matrix, x_is_y, y_is_far}
+use Rattle.elimination_theory.proofs.AnswersExample.{period_of_the_branch}
+use Rattle.atom_normal.specs.NormalForm.{IsNormal}
+use Rattle.case_theory.specs.PutThrough.{Fit}
+use Rattle.case_theory.proofs.Fit.{answers_fit}
+use Rattle.case_theory.proofs.Fallback.{lead_under}
 use Rattle.case_theory.specs.PutThrough.{put_through}
 use Rattle.case_theory.specs.CaseTree.{without_all}
 use Rattle.case_theory.specs.Points.{IsRoot}
@@ -163,3 +176,71 @@ neither_stops : (stop_of (reference_cases Fields 14 (Ex 0 (And (both (One (Compa
     × (stop_of (reference Fields 14 (Ex 0 (And (both (One (Compare Equals (difference 0 1))) (One (Compare Below (difference 0 2))))))) ≡ None)
 unfolding coefficient without scale combine form_over content_of gcd_of euclid normal_atom gathered quotient
 neither_stops = (refl, refl)
+
+-- ---- what is false under assumptions alone
+
+-- x = y and x < 0
+abbrev equal_and_negative : Tree
+equal_and_negative = And (both (One (Compare Equals (difference 0 1))) (One (Compare Below (named 0))))
+
+equal_and_negative_tidy : IsTidy Fields equal_and_negative
+unfolding content_of gcd_of euclid
+equal_and_negative_tidy = record {
+  is_plain = (tt, (tt, tt));
+  normal = (
+    record { oriented = record { sorted = record { rising = ((omega arith, tt), (tt, tt)); nonzero = (λ (e : pos 1 ≡ pos 0). omega (arith, ints), (λ (e : negsuc 0 ≡ pos 0). omega (arith, ints), tt)) }; positive = omega (arith, ints) }; coprime = refl },
+    (record { oriented = record { sorted = record { rising = (tt, tt); nonzero = (λ (e : pos 1 ≡ pos 0). omega (arith, ints), tt) }; positive = omega (arith, ints) }; coprime = refl }, tt),
+  );
+  two_members = (tt, (tt, tt, (tt, tt, tt)));
+}
+
+-- under y > 0, y < 0 is never true: the point x = y of x = y and x < 0 has no child
+never_below : IsNeverUnder Fields (Compare Above (named 1) ∷ []) (One (Compare Below (named 1)))
+never_below p o t u = let h = t.0 in omega (arith, ints)
+
+point_without_child : AreChildren Fields (Compare Above (named 1) ∷ []) 0 equal_and_negative (Exact (named 1) 1 ∷ []) []
+unfolding coefficient without scale combine form_over content_of gcd_of euclid normal_atom gathered quotient
+point_without_child =
+    let points = root_point Fields 0 equal_and_negative (difference 0 1) (Exact (named 1) 1) (tt, (tt, tt)) (tt, (tt, tt)) (inl refl) refl in
+    let made = children_made Fields (Compare Above (named 1) ∷ []) 0 equal_and_negative in
+    made.no_child (Exact (named 1) 1) [] [] equal_and_negative_tidy points.each.0 never_below made.no_point
+
+-- ---- a period of the branch alone
+
+x_is_y_normal : IsNormal Integers (Compare Equals (difference 0 1))
+unfolding content_of gcd_of euclid
+x_is_y_normal = record {
+  relation = tt;
+  oriented = record { sorted = record { rising = ((omega arith, tt), (tt, tt)); nonzero = (λ (e : pos 1 ≡ pos 0). omega (arith, ints), (λ (e : negsuc 0 ≡ pos 0). omega (arith, ints), tt)) }; positive = omega (arith, ints) };
+  coprime = refl;
+}
+
+by_four_normal : IsNormal Integers (Congruent true 4 (record { terms = multiple_of (pos 1) 0 ∷ multiple_of (pos 1) 1 ∷ []; constant = pos 1 }))
+unfolding content_of gcd_of euclid
+by_four_normal = record {
+  above_one = omega arith;
+  sorted = record { rising = ((omega arith, tt), (tt, tt)); nonzero = (λ (e : pos 1 ≡ pos 0). omega (arith, ints), (λ (e : pos 1 ≡ pos 0). omega (arith, ints), tt)) };
+  reduced = ((omega (arith, ints), omega (arith, ints)), ((omega (arith, ints), omega (arith, ints)), ((omega (arith, ints), omega (arith, ints)), tt)));
+  coprime = refl;
+  small = omega (arith, ints);
+  told = λ e. refl;
+}
+
+by_three_normal : IsNormal Integers (Congruent true 3 (named 1))
+unfolding content_of gcd_of euclid
+by_three_normal = record {
+  above_one = omega arith;
+  sorted = record { rising = (tt, tt); nonzero = (λ (e : pos 1 ≡ pos 0). omega (arith, ints), tt) };
+  reduced = ((omega (arith, ints), omega (arith, ints)), ((omega (arith, ints), omega (arith, ints)), tt));
+  coprime = refl;
+  small = omega (arith, ints);
+  told = λ e. refl;
+}
+
+-- x = y and (4 divides x + y + 1 or 3 divides y): the answers y = 3 - 3 * infinity and x = y fit it, though 3 is no period of the
+-- congruence by 4
+branch_period_fits : Fit Integers [] (answers_of (y_is_far ∷ x_is_y ∷ [])) matrix
+branch_period_fits =
+    answers_fit Integers [] (y_is_far ∷ x_is_y ∷ []) matrix Yes
+    (record { is_plain = (tt, ((tt, (tt, tt)), tt)); normal = (x_is_y_normal, ((by_four_normal, (by_three_normal, tt)), tt)); two_members = (tt, (tt, tt, (tt, (tt, (tt, tt, (tt, tt, tt))), tt))) })
+    (lead_under Integers [] (y_is_far ∷ x_is_y ∷ []) matrix matrix Yes (λ p o. (λ t. t, λ t. t)) (tt, (tt, tt)) period_of_the_branch)

@@ -11,25 +11,27 @@ use Rattle.formula_meaning.specs.declared.quantifier.Quantifier.TheVariants.{Exi
 use Rattle.formula_meaning.specs.Sizes.{nodes, all_nodes}
 use Rattle.formula_meaning.specs.NegationNormal.{normal_form_of_not, normal_forms_of_not}
 use Rattle.formula_meaning.specs.Tree.{Tree, Trees, TrueAt, IsFree, Equivalent}
-use Rattle.formula_meaning.specs.Measured.{Outcome, stopped, done, then_of, Counted, ◌>>=◌, pay, Stop, Nodes}
+use Rattle.formula_meaning.specs.Measured.{Gives, Outcome, stopped, done, then_of, Counted, ◌>>=◌, pay, Stop, Nodes}
 use Rattle.formula_meaning.proofs.Iff.{both_ways}
-use Rattle.formula_meaning.proofs.NormalShape.{normal_form_shape}
+use Rattle.formula_meaning.proofs.NormalShape.{normal_form_shape, normal_form_every}
 use Rattle.elimination_theory.specs.Answers.{Step, Lead, answers_of}
 use Rattle.atom_normal.specs.NormalForm.{IsNormal, negated_normal}
-use Rattle.elimination_reference.specs.Reference.{Branch, branch_trees, alone, together, normal_tree, turned, steps, closed, branches, leading_branches}
+use Rattle.formula_meaning.proofs.EachAtom.{every_map}
+use Rattle.atom_normal.proofs.NormalLaws.{negated_normal_is}
+use Rattle.elimination_reference.specs.Reference.{reference, Branch, branch_trees, alone, together, normal_tree, turned, steps, closed, branches, leading_branches}
 use Rattle.elimination_reference.specs.Cases.{Case, case_of, cases_of, case_sign, case_formula, case_matrix, case_names, reference_cases}
 use Rattle.elimination_reference.specs.Over.{AreOver}
-use Rattle.elimination_reference.specs.Theorems.{IsTidy, guards_of, answer_names}
+use Rattle.elimination_reference.specs.Theorems.{IsAnswerTo, IsTidy, guards_of, answer_names}
 use Rattle.elimination_reference.proofs.Always.{gives_then, gives_both, gives_map}
 use Rattle.elimination_reference.proofs.Branches.{step_names, IsBranch, AreBranches}
-use Rattle.elimination_reference.proofs.Sound.{leading_are, normal_normal_tree}
+use Rattle.elimination_reference.proofs.Sound.{leading_are, normal_normal_tree, reference_exact}
 use Rattle.elimination_reference.proofs.CasesExact.{guards_are, names_are, says, free}
 use Rattle.elimination_reference.proofs.Over.{cases_over}
 use Rattle.elimination_reference.proofs.Turned.{all_negated}
-use Rattle.elimination_reference.proofs.PutMatrix.{normal_stays}
+use Rattle.elimination_reference.proofs.PutMatrix.{normal_stays, every_matrix}
 use Rattle.case_theory.specs.CaseTree.{without_all, NameBlock, IsCaseUnder, IsCaseTree}
 use Rattle.case_theory.specs.Under.{Lack, LeadUnder}
-use Rattle.case_theory.specs.Fallback.{ReferenceIsCaseTree, stop_of, IsDone, MatrixIsDone, StopsAreOne}
+use Rattle.case_theory.specs.Fallback.{MatrixIsNormal, ReferenceGivesMatrix, ReferenceIsCaseTree, stop_of, IsDone, MatrixIsDone, StopsAreOne}
 use Rattle.case_theory.proofs.Without.{without_all_lack}
 use Rattle.case_theory.proofs.Under.{answers_under}
 use Rattle.case_theory.proofs.Fit.{answers_fit}
@@ -40,7 +42,7 @@ use Rattle.case_theory.proofs.Steady.{IsNoDearer, steady_branches}
 -- ---- cases
 
 -- steps that lead from a formula lead from every one that is equivalent to it, under every assumptions without their names
-lead_under : (c : Context) (ks : List Atom) (steps : List Step) (f m g : Tree) → Equivalent c f m → EachOf (Lack ks) (step_names steps) → Lead c steps f g → LeadUnder c ks steps m g
+pub lead_under : (c : Context) (ks : List Atom) (steps : List Step) (f m g : Tree) → Equivalent c f m → EachOf (Lack ks) (step_names steps) → Lead c steps f g → LeadUnder c ks steps m g
 lead_under c ks [] f m g e n l = λ p o t. let i = e p o in both_ways (i.1, i.0) (l p o)
 lead_under c ks (s ∷ rest) f m g e n l = (
   lead_under c ks rest f m s.branch e n.1 l.0,
@@ -87,6 +89,26 @@ reference_tree c limit theory f m n tidy e =
       together = says_under c (without_all (case_names f) theory) sign f (case_formula f) (Or (guards_of (cases_of r.0))) (says c f sign (case_formula f) n (λ p o. (λ u. u, λ u. u)))
           (λ p o t. subst (λ (ts : Trees). TrueAt c (case_formula f) p ↔ TrueAt c (Or ts) p) (sym (guards_are r.0)) (i.equivalent p o));
     })))
+
+turned_normal : (c : Context) (sign : Bool) (g : Tree) → Every (IsNormal c) g → Every (IsNormal c) (turned sign g)
+turned_normal c true g h = h
+turned_normal c false g h = (normal_form_every negated_normal (IsNormal c) g (every_map (IsNormal c) (λ a. IsNormal c a × IsNormal c (negated_normal a)) (λ a n. (n, negated_normal_is c a n)) g h)).1
+
+pub matrix_normal : (c : Context) → MatrixIsNormal c
+matrix_normal c f n =
+    every_matrix (IsNormal c) (case_formula f) Exists [] (turned_normal c (case_sign (normal_tree f)) (normal_tree f)
+    (normal_normal_tree c 0 f n))
+
+pub reference_matrix : (c : Context) → ReferenceGivesMatrix c
+reference_matrix c limit theory f n =
+    go (reference c limit (case_matrix f)) (reference_exact c limit (case_matrix f) (matrix_normal c f n)) (reference_cases c limit f) (λ m tidy e. reference_tree c limit theory f m n tidy e)
+  where
+    go : (o : Outcome (Tree × ℕ)) → Gives (λ (m : Tree × ℕ). IsAnswerTo c (case_matrix f) m.0) o → (u : Outcome (List Case × ℕ)) →
+        ((m : Tree) → IsTidy c m → Equivalent c (case_matrix f) m → Gives (λ (r : List Case × ℕ). IsCaseTree c theory f m r.0) u) →
+        Gives (λ (r : List Case × ℕ). Gives (λ (m : Tree × ℕ). IsCaseTree c theory f m.0 r.0) o) u
+    go o a (stopped s) h = tt
+    go (stopped s) a (done r) h = tt
+    go (done m) a (done r) h = h m.0 a.tidy a.eliminated.equivalent
 
 -- ---- stops
 

@@ -18,6 +18,7 @@ use Rattle.simplified_formulas.specs.Trees.{EquivalentUnder}
 use Rattle.elimination_reference.proofs.Tidy.{AreTidy, tidy_in, tidy_fold_list, tidy_turned}
 use Rattle.elimination_reference.proofs.Turning.{normal_inside, normal_truths, turned_brings, turned_keeps}
 use Rattle.case_theory.specs.Worked.{IsWorked, AreWorked, WorkingGoesOn}
+use Rattle.case_theory.proofs.Without.{without_all_each}
 use Rattle.case_theory.proofs.Under.{under_self, under_then}
 
 module _ (c : Context) (ks : List Atom) where
@@ -90,6 +91,7 @@ module _ (c : Context) (ks : List Atom) where
   working_goes_on = record {
     itself = λ f h. record { equivalent = under_self c ks f; tidy = h; names = λ y u. u };
     further = λ f g h v w. record { equivalent = under_then c ks f g h v.equivalent w.equivalent; tidy = w.tidy; names = λ y u. v.names y (w.names y u) };
+    more_atoms = λ block f g w. record { equivalent = λ p o t. w.equivalent p o (without_all_each (λ k. Says k p) block ks t); tidy = w.tidy; names = w.names };
     of_list = worked_list;
     forth = forth;
     back = back;

@@ -16,6 +16,15 @@ abbrev pub ReferenceIsCaseTree : Context → Type 0
 ReferenceIsCaseTree c = (limit : ℕ) (theory : List Atom) (f matrix : Tree) → Every (IsNormal c) f → IsTidy c matrix → Equivalent c (case_matrix f) matrix →
     Gives (λ r. IsCaseTree c theory f matrix r.0) (reference_cases c limit f)
 
+-- The case matrix has normal atoms where the formula has,
+abbrev pub MatrixIsNormal : Context → Type 0
+MatrixIsNormal c = (f : Tree) → Every (IsNormal c) f → Every (IsNormal c) (case_matrix f)
+
+-- and so the reference gives a matrix for its cases, where it gives both.
+abbrev pub ReferenceGivesMatrix : Context → Type 0
+ReferenceGivesMatrix c = (limit : ℕ) (theory : List Atom) (f : Tree) → Every (IsNormal c) f →
+    Gives (λ r. Gives (λ m. IsCaseTree c theory f m.0 r.0) (reference c limit (case_matrix f))) (reference_cases c limit f)
+
 -- what stops it, if something does
 abbrev pub stop_of : {A : Type 0} → Outcome A → Option Stop
 stop_of (stopped s) = Some s

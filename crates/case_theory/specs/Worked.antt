@@ -13,6 +13,7 @@ use Rattle.atom_normal.specs.NormalForm.{IsNormal, negated_normal}
 use Rattle.simplified_formulas.specs.Trees.{EquivalentUnder}
 use Rattle.elimination_reference.specs.Theorems.{IsTidy}
 use Rattle.case_theory.specs.PutThrough.{AreTrue}
+use Rattle.case_theory.specs.CaseTree.{without_all}
 
 -- the formula is true at no point where the atoms are
 abbrev pub IsNeverUnder : Context → List Atom → Tree → Type 0
@@ -31,11 +32,12 @@ AreWorked c ks (also f fs) (also g gs) = IsWorked c ks f g × AreWorked c ks fs 
 AreWorked c ks none (also g gs) = ⊥
 AreWorked c ks (also f fs) none = ⊥
 
--- A list is worked on member by member and folded; and where a formula over normal atoms is worked on, so is its negation, in
+-- What is worked on under fewer atoms is worked on under all. A list is worked on member by member and folded; and where a formula over normal atoms is worked on, so is its negation, in
 -- negation normal form, and back.
 pub record WorkingGoesOn (c : Context) (ks : List Atom) : Type 0 where
   pub itself : (f : Tree) → IsTidy c f → IsWorked c ks f f
   pub further : (f g h : Tree) → IsWorked c ks f g → IsWorked c ks g h → IsWorked c ks f h
+  pub more_atoms : (block : List ℕ) (f g : Tree) → IsWorked c (without_all block ks) f g → IsWorked c ks f g
   pub of_list : (j : Junction) (fs gs : Trees) → AreWorked c ks fs gs → IsWorked c ks (joined j fs) (fold_list j gs)
   pub forth : (f g : Tree) → Every (IsNormal c) f → IsWorked c ks f g → IsWorked c ks (normal_form_of_not negated_normal f) (normal_form_of_not negated_normal g)
   pub back : (f g : Tree) → Every (IsNormal c) f → IsWorked c ks (normal_form_of_not negated_normal f) g → IsWorked c ks f (normal_form_of_not negated_normal g)

@@ -10,7 +10,7 @@ ghost use Rattle.case_theory.specs.Children.{ChildrenAreMade};
 ghost use Rattle.case_theory.specs.Worked.{WorkingGoesOn};
 ghost use Rattle.case_theory.specs.Pending.{PendingBegins, TakingOutLeavesRest, PendingGoesOn, CoveredMayGo, OtherMayCover, PendingEnds, BlockIsWorked};
 ghost use Rattle.case_theory.specs.Leading.{LeadingBlockIsSplit};
-ghost use Rattle.case_theory.specs.Fallback.{ReferenceIsCaseTree, MatrixIsDone, StopsAreOne};
+ghost use Rattle.case_theory.specs.Fallback.{ReferenceIsCaseTree, MatrixIsNormal, ReferenceGivesMatrix, MatrixIsDone, StopsAreOne};
 ghost use Rattle.case_theory.specs.Simplified.{TidyIsSimplifiable, ReducedIsTidy, SimplifyingIsWork};
 ghost use Rattle.case_theory.specs.Direct.{DirectAnswerIsExact};
 ghost use Rattle.case_theory.specs.ClassSample.{ClassSampleIsTrue};
@@ -104,9 +104,11 @@ pub fn leading_block_is_split()
 {}
 
 /// The cases of the reference elimination are such cases under every theory, with every tidy matrix that is equivalent to the case
-/// matrix.
+/// matrix, as with the one that it gives itself.
 pub fn reference_is_case_tree()
-    ensures { (c : Context) → ReferenceIsCaseTree c }
+    ensures cases { (c : Context) → ReferenceIsCaseTree c }
+    ensures normal { (c : Context) → MatrixIsNormal c }
+    ensures matrix { (c : Context) → ReferenceGivesMatrix c }
 {}
 
 /// Where the reference elimination gives cases it eliminates the case matrix too, within the same limit.
