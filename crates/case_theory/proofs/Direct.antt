@@ -1,8 +1,8 @@
 -- The answer of a direct formula is exact.
-use Rattle.std.proofs.Common.{◌≡◌, ℕ, suc, zero, Option, Some, None, sym, subst, refl, inl, inr, ⊎_elim}
+use Rattle.std.proofs.Common.{◌≡◌, ℕ, suc, zero, Option, Some, None, sym, subst, refl, arith, inl, inr, ⊎_elim}
 use Rattle.std.proofs.Math.IntN.{ℤ, pos, negsuc}
 use Rattle.formula_meaning.specs.Context.{Fields}
-use Rattle.formula_meaning.specs.Formula.{One, And, Ex, none, also}
+use Rattle.formula_meaning.specs.Formula.{Yes, No, One, And, Ex, none, also}
 use Rattle.formula_meaning.specs.Every.{Every}
 use Rattle.formula_meaning.specs.Form.{Form, coefficient}
 use Rattle.formula_meaning.specs.Atom.{Atom, Compare, Congruent, Equals, Differs, Below, AtMost, Above, AtLeast}
@@ -20,8 +20,21 @@ use Rattle.elimination_theory.proofs.Simple.{replaced_plain}
 use Rattle.elimination_theory.proofs.FieldsNames.{field_substitution_names}
 use Rattle.elimination_reference.proofs.Tidy.{normaliser, tidy_folded, put_normal, atom_at_simple}
 use Rattle.elimination_reference.proofs.Turning.{normal_inside}
+use Rattle.std.proofs.lemmas.Int.{ints}
+use Rattle.exact_numbers.specs.Limit.{InLimit}
+use Rattle.formula_meaning.specs.Atom.{form_of}
+use Rattle.formula_meaning.proofs.Fold.{folded_every}
+use Rattle.formula_meaning.proofs.EachAtom.{every_both}
+use Rattle.formula_meaning.proofs.ReplacedShape.{every_replaced}
+use Rattle.elimination_theory.specs.BothTheories.{IsPlaceIn, raw_atom}
+use Rattle.elimination_theory.specs.Steps.{normalised}
+use Rattle.elimination_theory.specs.Overflow.{NumbersWithin}
+use Rattle.elimination_theory.proofs.Simple.{IsSimple, simple_normalised, raw_simple}
+use Rattle.elimination_theory.proofs.SomeListed.{every_of_atoms}
+use Rattle.atom_normal.proofs.NormalLaws.{normal_in}
+use Rattle.elimination_reference.specs.LimitLaws.{ConstantWithin, AtomFormsWithin}
 use Rattle.case_theory.specs.Points.{IsConjunctOfSome, IsRoot}
-use Rattle.case_theory.specs.Direct.{AreAtoms, equation_of, first_of_two, first_equation, direct_answer, DirectAnswerIsExact}
+use Rattle.case_theory.specs.Direct.{AreAtoms, equation_of, first_of_two, first_equation, direct_answer, DirectAnswerIsExact, DirectAnswerIsWithin}
 use Rattle.case_theory.proofs.Points.{root_point}
 
 -- what is said of the form, if there is one
@@ -94,3 +107,45 @@ pub direct_exact : DirectAnswerIsExact
 direct_exact limit f x fs s n d =
     subst (λ (g : Tree). IsAnswerTo Fields g (direct_answer x fs s)) (sym d.is)
     (exact_answer limit x fs s (subst (Every (IsNormal Fields)) d.is n) d.atoms d.equation)
+
+-- ---- its constants
+
+Within : Atom → Type 0
+Within a = InLimit (form_of a).constant
+
+-- of a constant or one atom
+simple_within : (t : Tree) → IsSimple Fields t → ConstantWithin t → Every Within t
+unfolding Within
+simple_within Yes h k = tt
+simple_within No h k = tt
+simple_within (One a) h k = k
+simple_within _ h k = absurd h
+
+atom_within : (x : ℕ) (s : Place) (a : Atom) → IsPlaceIn Fields s → IsNormal Fields a → Within a → AtomFormsWithin Fields x s a → Every Within (atom_at Fields (normal_atom Fields) x s a)
+unfolding Within
+atom_within x s a place n w h = go (coefficient x (form_of a)) h
+  where
+    simple : IsSimple Fields (normalised (normal_atom Fields) (raw_atom Fields x s a))
+    simple = simple_normalised Fields (normal_atom Fields) (normaliser Fields) (raw_atom Fields x s a) (raw_simple Fields x s a place (normal_in Fields a n))
+
+    go : (z : ℤ) → (¬ (z ≡ pos 0) → NumbersWithin x s a × ConstantWithin (normalised (normal_atom Fields) (raw_atom Fields x s a))) →
+        Every Within (where_zero z (One a) (normalised (normal_atom Fields) (raw_atom Fields x s a)))
+    go (pos zero) k = w
+    go (pos (suc n)) k = simple_within _ simple (k (λ (e : pos (suc n) ≡ pos 0). omega (arith, ints))).1
+    go (negsuc n) k = simple_within _ simple (k (λ (e : negsuc n ≡ pos 0). omega (arith, ints))).1
+
+direct_suits : (x : ℕ) (fs : Trees) (s : Place) → Every (IsNormal Fields) (Ex x (And fs)) → AreAtoms fs → (e : Form) × (first_equation x fs ≡ Some e) × IsRoot Fields x e s → IsPlaceIn Fields s
+direct_suits x fs s n atoms equation =
+    (root_point Fields x (And fs) equation.0 s (atoms_plain fs atoms) (normal_inside Fields (And fs) n) (first_is_member x fs equation.0 equation.1) equation.2).each.0.suits
+
+pub direct_within : DirectAnswerIsWithin
+unfolding Within
+direct_within limit f x fs s n w d =
+    let m : Every (IsNormal Fields) (Ex x (And fs)) = subst (Every (IsNormal Fields)) d.is n in
+    let v : Every Within (Ex x (And fs)) = subst (Every Within) d.is w in
+    let place = direct_suits x fs s m d.atoms d.equation in
+    folded_every Within (replaced (atom_at Fields (normal_atom Fields) x s) (λ y. y) (And fs))
+    (every_replaced (atom_at Fields (normal_atom Fields) x s) (λ y. y) Within (And fs)
+    (every_both (λ a. IsNormal Fields a × Within a) (AtomFormsWithin Fields x s) (λ a. Every Within (atom_at Fields (normal_atom Fields) x s a)) (λ a h k. atom_within x s a place h.0 h.1 k) (And fs)
+    (every_both (IsNormal Fields) Within (λ a. IsNormal Fields a × Within a) (λ a h k. (h, k)) (And fs) m v)
+    (every_of_atoms (AtomFormsWithin Fields x s) (And fs) d.within)))

@@ -16,6 +16,7 @@ use Rattle.atom_normal.specs.NormalForm.{IsNormal, normal_atom}
 use Rattle.elimination_reference.specs.LimitLaws.{AtomFormsWithin}
 use Rattle.elimination_reference.specs.Theorems.{IsAnswerTo}
 use Rattle.case_theory.specs.Points.{IsRoot}
+use Rattle.case_theory.specs.Simplified.{HasConstantsWithin}
 
 -- each member is an atom
 abbrev pub AreAtoms : Trees → Type 0
@@ -60,3 +61,7 @@ direct_answer x fs s = result_at Fields (normal_atom Fields) x s (And fs)
 -- Of a formula over normal atoms that is direct, this is an answer.
 abbrev pub DirectAnswerIsExact : Type 0
 DirectAnswerIsExact = (limit : ℕ) (f : Tree) (x : ℕ) (fs : Trees) (s : Place) → Every (IsNormal Fields) f → IsDirect limit f x fs s → IsAnswerTo Fields f (direct_answer x fs s)
+
+-- Its constants are within the limit where those of the formula are, so that it can be simplified.
+abbrev pub DirectAnswerIsWithin : Type 0
+DirectAnswerIsWithin = (limit : ℕ) (f : Tree) (x : ℕ) (fs : Trees) (s : Place) → Every (IsNormal Fields) f → HasConstantsWithin f → IsDirect limit f x fs s → HasConstantsWithin (direct_answer x fs s)

@@ -12,7 +12,7 @@ ghost use Rattle.case_theory.specs.Pending.{PendingBegins, TakingOutLeavesRest, 
 ghost use Rattle.case_theory.specs.Leading.{LeadingBlockIsSplit};
 ghost use Rattle.case_theory.specs.Fallback.{ReferenceIsCaseTree, MatrixIsNormal, ReferenceGivesMatrix, MatrixIsDone, StopsAreOne};
 ghost use Rattle.case_theory.specs.Simplified.{TidyIsSimplifiable, ReducedIsTidy, SimplifyingIsWork};
-ghost use Rattle.case_theory.specs.Direct.{DirectAnswerIsExact};
+ghost use Rattle.case_theory.specs.Direct.{DirectAnswerIsExact, DirectAnswerIsWithin};
 ghost use Rattle.case_theory.specs.ClassSample.{ClassSampleIsTrue};
 ghost use Rattle.std.specs.Prelude.{ℕ, List};
 
@@ -130,9 +130,10 @@ pub fn simplifying_is_work()
 {}
 
 /// The answer of a direct formula, its conjunction with the name at the root of the first equation, is equivalent to it, tidy and
-/// over its free names.
+/// over its free names. Its constants are within the limit where those of the formula are.
 pub fn direct_answer_is_exact()
-    ensures { DirectAnswerIsExact }
+    ensures exact { DirectAnswerIsExact }
+    ensures within { DirectAnswerIsWithin }
 {}
 
 /// Where a residue class makes a formula true over the integers, the formula is true at the sample of the class, though the period
