@@ -30,6 +30,7 @@ use Rattle.elimination_reference.specs.Theorems.{CostBoundsNodes}
 use Rattle.elimination_reference.proofs.Always.{Always, gives_then, gives_both, gives_map}
 use Rattle.elimination_reference.proofs.Tidy.{normaliser, tidy_in}
 use Rattle.elimination_reference.proofs.Branches.{IsBranch, AreBranches, next_trees, together_is, steps_are}
+use Rattle.elimination_reference.proofs.Through.{through_branches}
 use Rattle.elimination_reference.proofs.Sound.{branches_are, normal_normal_tree}
 
 -- ---- nodes
@@ -273,60 +274,8 @@ module _ (limit : ℕ) where
       go true e = leb-true (cost + n) limit e
       go false e = tt
 
-  module _ (c : Context) where
-    keeps_one : (x : ℕ) (b : Branch) → Keeps (one_step c limit x b)
-    keeps_one x b = go (stands_among x (atoms_in b.tree))
-      where
-        go : (test : Bool) → Keeps (if test then full_step c limit x b else give (kept_at_zero x b ∷ []))
-        go true =
-            keeps_then (within (span_within c x b.tree)) _ (keeps_within (span_within c x b.tree)) (λ u.
-            keeps_then (pay limit (point_count c x b.tree * (nodes b.tree + 2))) _ (keeps_pay (point_count c x b.tree * (nodes b.tree + 2))) (λ u.
-            keeps_then (within (step_within c x b.tree)) _ (keeps_within (step_within c x b.tree)) (λ u. keeps_give (map (next_branch x b) (step c (normal_atom c) Lower x b.tree)))))
-        go false = keeps_give (kept_at_zero x b ∷ [])
-
-    keeps_steps : (x : ℕ) (bs : List Branch) → Keeps (steps c limit x bs)
-    keeps_steps x [] = keeps_give []
-    keeps_steps x (b ∷ bs) = keeps_then (one_step c limit x b) _ (keeps_one x b) (λ first. keeps_then (steps c limit x bs) _ (keeps_steps x bs) (λ rest. keeps_give (first ++ rest)))
-
-    keeps_closed : (sign : Bool) (x : ℕ) (inner : Counted (List Branch)) → Keeps inner → Keeps (closed c limit sign x inner)
-    keeps_closed sign x inner h = keeps_then inner _ h (λ bs. keeps_then (steps c limit x bs) _ (keeps_steps x bs) (λ left. keeps_give (alone (turned sign (together left)))))
-
-    keeps_chained : (x : ℕ) (ended going : Counted (List Branch)) (test : Bool) → Keeps ended → Keeps going → Keeps (if test then closed c limit true x ended else (going >>= steps c limit x))
-    keeps_chained x ended going true h k = keeps_closed true x ended h
-    keeps_chained x ended going false h k = keeps_then going (steps c limit x) k (keeps_steps x)
-
-    keeps_folded : (j : Junction) (m : Counted Trees) → Keeps m → Keeps (m >>= λ gs. give (alone (fold_list j gs)))
-    keeps_folded j m h = keeps_then m _ h (λ gs. keeps_give (alone (fold_list j gs)))
-
-    mutual
-      keeps_branches : (names : List ℕ) (sign : Bool) (f : Tree) → Keeps (branches c limit names sign f)
-      keeps_branches names true Yes = keeps_give (alone Yes)
-      keeps_branches names false Yes = keeps_give (alone No)
-      keeps_branches names true No = keeps_give (alone No)
-      keeps_branches names false No = keeps_give (alone Yes)
-      keeps_branches names true (One a) = keeps_give (alone (One a))
-      keeps_branches names false (One a) = keeps_give (alone (One (negated_normal a)))
-      keeps_branches names true (And fs) = keeps_folded Conjunction (members c limit true fs) (keeps_members true fs)
-      keeps_branches names false (And fs) = keeps_folded Disjunction (members c limit false fs) (keeps_members false fs)
-      keeps_branches names true (Or fs) = keeps_folded Disjunction (members c limit true fs) (keeps_members true fs)
-      keeps_branches names false (Or fs) = keeps_folded Conjunction (members c limit false fs) (keeps_members false fs)
-      keeps_branches names true (Ex x f) = keeps_chained x (branches c limit (x ∷ []) true f) (branches c limit (x ∷ names) true f) (is_in nat_eq x names) (keeps_branches (x ∷ []) true f) (keeps_branches (x ∷ names) true f)
-      keeps_branches names false (Ex x f) = keeps_closed false x (branches c limit (x ∷ []) true f) (keeps_branches (x ∷ []) true f)
-      keeps_branches names true (All x f) = keeps_closed false x (branches c limit (x ∷ []) false f) (keeps_branches (x ∷ []) false f)
-      keeps_branches names false (All x f) = keeps_chained x (branches c limit (x ∷ []) false f) (branches c limit (x ∷ names) false f) (is_in nat_eq x names) (keeps_branches (x ∷ []) false f) (keeps_branches (x ∷ names) false f)
-      keeps_branches names true (Not f) = keeps_give []
-      keeps_branches names false (Not f) = keeps_give []
-      keeps_branches names true (Impl f g) = keeps_give []
-      keeps_branches names false (Impl f g) = keeps_give []
-      keeps_branches names true (Repl f g) = keeps_give []
-      keeps_branches names false (Repl f g) = keeps_give []
-      keeps_branches names true (Equiv f g) = keeps_give []
-      keeps_branches names false (Equiv f g) = keeps_give []
-
-      keeps_members : (sign : Bool) (fs : Trees) → Keeps (members c limit sign fs)
-      keeps_members sign none = keeps_give none
-      keeps_members sign (also f fs) =
-          keeps_then (branches c limit [] sign f) _ (keeps_branches [] sign f) (λ bs. keeps_then (members c limit sign fs) _ (keeps_members sign fs) (λ gs. keeps_give (also (together bs) gs)))
+  keeps_branches : (c : Context) (names : List ℕ) (sign : Bool) (f : Tree) → Keeps (branches c limit names sign f)
+  keeps_branches c names sign f = through_branches c limit (λ A m. Keeps m) (λ A B m k. keeps_then m k) (λ A a. keeps_give a) keeps_within keeps_pay names sign f
 
 pub cost_bounds : (c : Context) → CostBoundsNodes c
 unfolding Keeps size

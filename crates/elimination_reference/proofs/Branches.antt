@@ -51,7 +51,7 @@ mutual
   none_free_of x none h t = t
   none_free_of x (also f fs) h t = ⊎_elim (none_free x f h.0) (none_free_of x fs h.1) t
 
-true_is_not_false : ¬ (true ≡ false)
+pub true_is_not_false : ¬ (true ≡ false)
 true_is_not_false e = grind arith
 
 stands_nowhere : (x : ℕ) (atoms : List Atom) → stands_among x atoms ≡ false → EachOf (λ a. coefficient x (form_of a) ≡ pos 0) atoms

@@ -17,11 +17,11 @@ use Rattle.elimination_reference.proofs.Turning.{normal_inside, normal_tree_insi
 use Rattle.elimination_reference.proofs.Branches.{step_names, IsBranch, AreBranches}
 use Rattle.elimination_reference.proofs.Sound.{leading_are}
 
-guards_are : (bs : List Branch) → guards_of (cases_of bs) ≡ branch_trees bs
+pub guards_are : (bs : List Branch) → guards_of (cases_of bs) ≡ branch_trees bs
 guards_are [] = refl
 guards_are (b ∷ bs) = ap (also b.tree) (guards_are bs)
 
-names_are : (steps : List Step) → answer_names (answers_of steps) ≡ step_names steps
+pub names_are : (steps : List Step) → answer_names (answers_of steps) ≡ step_names steps
 names_are [] = refl
 names_are (s ∷ steps) = ap (λ ns. s.name ∷ ns) (names_are steps)
 

@@ -5,6 +5,7 @@ pub mod Turning
 pub mod Branches
 pub mod Sound
 pub mod CasesExact
+pub mod Through
 pub mod Bounded
 pub mod PutIn
 pub mod Periods

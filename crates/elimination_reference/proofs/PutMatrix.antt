@@ -91,7 +91,7 @@ mutual
   all_normal_stay (also f fs) h = let i = normal_stays f h.0 in let j = all_normal_stay fs h.1 in subst (λ (g : Tree). also (normal_tree f) (normal_forms negated_normal fs) ≡ also g fs) i (ap (also (normal_tree f)) j)
 
 -- the matrix of the negation is the negation of that behind the other quantifier
-matrix_turned : (f : Tree) (chain : List ℕ) → IsNegationNormal f → matrix_of nat_eq (normal_form_of_not negated_normal f) Exists chain ≡ normal_form_of_not negated_normal (matrix_of nat_eq f ForAll chain)
+pub matrix_turned : (f : Tree) (chain : List ℕ) → IsNegationNormal f → matrix_of nat_eq (normal_form_of_not negated_normal f) Exists chain ≡ normal_form_of_not negated_normal (matrix_of nat_eq f ForAll chain)
 matrix_turned Yes chain h = refl
 matrix_turned No chain h = refl
 matrix_turned (One a) chain h = refl
@@ -123,7 +123,7 @@ block_turned (Equiv f g) chain h = absurd h
 block_turned (Ex x f) chain h = refl
 block_turned (All x f) chain h = ap (λ ns. if is_in nat_eq x chain then [] else x ∷ ns) (block_turned f (x ∷ chain) h)
 
-every_matrix : (P : Atom → Type 0) (f : Tree) (k : Quantifier) (chain : List ℕ) → Every P f → Every P (matrix_of nat_eq f k chain)
+pub every_matrix : (P : Atom → Type 0) (f : Tree) (k : Quantifier) (chain : List ℕ) → Every P f → Every P (matrix_of nat_eq f k chain)
 every_matrix P Yes k chain h = h
 every_matrix P No k chain h = h
 every_matrix P (One a) k chain h = h

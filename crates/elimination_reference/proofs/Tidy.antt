@@ -196,10 +196,10 @@ module _ (c : Context) where
       where_zero_has (Every (IsNormal c)) (coefficient x (form_of a)) (One a) (normalised (normal_atom c) (raw_atom c x s a)) n
       (normalised_normal (raw_atom c x s a) (raw_simple c x s a p (normal_in c a n)))
 
-  put_normal : (x : ℕ) (s : Place) (f : Tree) → IsPlaceIn c s → Every (IsNormal c) f → Every (IsNormal c) (replaced (atom_at c (normal_atom c) x s) (λ y. y) f)
+  pub put_normal : (x : ℕ) (s : Place) (f : Tree) → IsPlaceIn c s → Every (IsNormal c) f → Every (IsNormal c) (replaced (atom_at c (normal_atom c) x s) (λ y. y) f)
   put_normal x s f p n = every_replaced (atom_at c (normal_atom c) x s) (λ y. y) (IsNormal c) f (every_map _ _ (λ a m. atom_at_normal x s a p m) f n)
 
-  atom_at_simple : (x : ℕ) (s : Place) (a : Atom) → IsPlaceIn c s → AtomIn c a → IsSimple c (atom_at c (normal_atom c) x s a)
+  pub atom_at_simple : (x : ℕ) (s : Place) (a : Atom) → IsPlaceIn c s → AtomIn c a → IsSimple c (atom_at c (normal_atom c) x s a)
   atom_at_simple x s a p i =
       where_zero_has (IsSimple c) (coefficient x (form_of a)) (One a) (normalised (normal_atom c) (raw_atom c x s a)) i
       (simple_normalised c (normal_atom c) (normaliser c) (raw_atom c x s a) (raw_simple c x s a p i))

@@ -1,0 +1,20 @@
+pub mod Moved
+pub mod Lists
+pub mod Block
+pub mod Points
+pub mod Under
+pub mod Without
+pub mod Fit
+pub mod Worked
+pub mod Children
+pub mod Pending
+pub mod Leading
+pub mod Ends
+pub mod FitAt
+pub mod Steady
+pub mod Fallback
+pub mod Simplified
+pub mod Direct
+pub mod ClassSample
+mod Examples
+mod Run

@@ -1,0 +1,13 @@
+pub mod PutThrough
+pub mod CaseTree
+pub mod Under
+pub mod Block
+pub mod Points
+pub mod Worked
+pub mod Children
+pub mod Pending
+pub mod Leading
+pub mod Fallback
+pub mod Simplified
+pub mod Direct
+pub mod ClassSample
