@@ -1,6 +1,7 @@
 // Test points of the integers, and how many there are.
 ghost use Rattle.std.specs.Prelude.{◌≡◌, pos, ◌<ℤ◌, ◌<◌, ◌≤◌, ◌^◌, ◌+◌, ◌*◌, ◌/◌, unsigned_abs, count_by, true, false, All, map, MatchOption, IfOk, IsErrOf};
 ghost use Rattle.elimination_theory.specs.IntegersPoints.{integer_points_of, integer_count_of};
+ghost use Rattle.formula_meaning.specs.Distinct.{StandsOnce};
 ghost use Rattle.formula_meaning.specs.Limits.{each, place_within};
 ghost use Rattle.atom_normal.specs.Atoms.{atom_of, IsWellFormed};
 ghost use Rattle.test_points.specs.Points.{place_of, IsPointOf};
@@ -35,18 +36,20 @@ fn total(ends: usize, span: i128, scale: i128) -> Option<u64>
     u64::try_from(all).ok()
 }
 
-/// How many test points of `x` the atoms give, equal points counted as often as they are formed: `None` exactly where there
-/// are more than `u64::MAX`. No point is formed.
+/// How many test points of `x` the atoms give, each of which stands once; equal points are counted as often as they are
+/// formed. `None` comes exactly where there are more than `u64::MAX`. No point is formed.
 pub fn points_count(atoms: &[Atom], x: VarId, period: &Period, side: Side) -> Option<u64>
     requires well_formed { All IsWellFormed atoms.now }
+    requires once { StandsOnce (map atom_of atoms.now) }
     requires period { IsPeriodOf x.number (map atom_of atoms.now) period.now }
     ensures { MatchOption result (2 ^ 64 ≤ integer_count_of side x.number (map atom_of atoms.now)) (λ n. n ≡ integer_count_of side x.number (map atom_of atoms.now)) }
 {
     total(ends_count(atoms, x, side), period.span, period.scale)
 }
 
-/// The test points of `x` in the atoms, each once (Cooper 1972): the residue classes of the period towards the infinity of
-/// the side, and then the numbers next to the ends of the atoms' intervals that lie to the side, over the scale.
+/// The test points of `x` in the atoms, each of which stands once; so does each point (Cooper 1972): the residue classes of
+/// the period towards the infinity of the side, and then the numbers next to the ends of the atoms' intervals that lie to
+/// the side, over the scale.
 ///
 /// `Nodes` comes exactly where `points_count` gives more than `limit`, before any point is formed; else `Overflow` exactly
 /// where a number of a point passes 2^127 - 1, else `Memory`.
@@ -59,6 +62,7 @@ pub fn integer_points(
     limit: u64,
 ) -> Result<Vec<TestPoint>, PointError>
     requires well_formed { All IsWellFormed atoms.now }
+    requires once { StandsOnce (map atom_of atoms.now) }
     requires period { IsPeriodOf x.number (map atom_of atoms.now) period.now }
     ensures points { IfOk result (λ v. map place_of v.items ≡ integer_points_of side x.number (map atom_of atoms.now)) }
     ensures well_formed { IfOk result (λ v. All (IsPointOf x) v.items) }

@@ -10,6 +10,7 @@ pub mod Lookups
 pub mod Steps
 pub mod Determined
 pub mod Equal
+pub mod Finer
 pub mod Reduced
 pub mod Quotients
 pub mod Residues

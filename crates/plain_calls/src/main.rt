@@ -1,11 +1,12 @@
 //! Makes the calls that no statement makes, on formulas worked by hand: a maker of plain trees, a formula unfolded under a
 //! limit, a tree printed by itself, the cases of a tree, and the sample of one without free names; and those of the lowest crates, of
-//! numbers, forms, atoms and test points. The gate runs it and compares what it prints.
+//! numbers, forms, atoms and test points; and pieces that are shared out to threads. The gate runs it and compares what it prints.
 #![tactic(auto)]
 
 mod calls;
 mod forms;
 mod numbers;
+mod pieces;
 mod points;
 mod reading;
 mod writing;
@@ -13,10 +14,12 @@ mod writing;
 use crate::calls::{cases, ids, plain_tree, printed_atom, sample, unfolding};
 use atom_normal::Context;
 use std::io;
+use std::thread::Threads;
 
 fn main(rt: HostRuntime) -> io::Result<()> {
     formulas(&rt)?;
-    lowest(&rt)
+    lowest(&rt)?;
+    shared(&rt)
 }
 
 /// Calls on formulas.
@@ -71,8 +74,29 @@ fn lowest(rt: &HostRuntime) -> io::Result<()> {
     tell(rt, "an atom at one of them", points::put_in_integers(alloc))
 }
 
+/// Pieces that are shared out to threads.
+fn shared<R: Threads + Sync + Print + AllocGlobal>(rt: &R) -> io::Result<()> {
+    let alloc = rt.alloc();
+    let five = pieces::told(rt, alloc, 5, 2, &[]);
+    let two = pieces::told(rt, alloc, 2, 8, &[]);
+    let three = pieces::told(rt, alloc, 3, 1, &[]);
+    let none = pieces::told(rt, alloc, 0, 4, &[]);
+    let stopped = pieces::told(rt, alloc, 9, 4, &[7, 3]);
+    let at_once = pieces::at_once(rt, alloc);
+    tell(rt, "five pieces by two threads", five)?;
+    tell(rt, "two pieces by eight threads", two)?;
+    tell(rt, "three pieces by one thread", three)?;
+    tell(rt, "no piece", none)?;
+    tell(
+        rt,
+        "nine pieces by four threads, with stops at 7 and 3",
+        stopped,
+    )?;
+    tell(rt, "two pieces by two threads", at_once)
+}
+
 /// What a call gives, or that it gives nothing, as where memory ran out.
-fn tell(rt: &HostRuntime, title: &str, answer: Option<String>) -> io::Result<()> {
+fn tell<R: Print>(rt: &R, title: &str, answer: Option<String>) -> io::Result<()> {
     match answer {
         Some(answer) => println!(rt; "{title}: {answer}"),
         None => println!(rt; "{title}: nothing"),

@@ -1,0 +1,2 @@
+pub mod Fanned
+pub mod Orders
