@@ -16,6 +16,9 @@ use Rattle.shared_elimination.proofs.sharing.+shared.Goals as goal
 pub share-returns-in_ok-id-in-Quantified-clause-kept : goal.share-returns-in_ok-id-in-Quantified-clause-kept
 share-returns-in_ok-id-in-Quantified-clause-kept t c = keeps_then c.args.store.now c.share.new.store c.make-in-Quantified.new.self c.share.ensures.kept c.make-in-Quantified.ensures.kept
 
+pub share-returns-in_ok-ids-in-Joined-clause-kept : goal.share-returns-in_ok-ids-in-Joined-clause-kept
+share-returns-in_ok-ids-in-Joined-clause-kept t c = keeps_then c.args.store.now c.share_all.new.store c.make-in-Joined.new.self c.share_all.ensures.kept c.make-in-Joined.ensures.kept
+
 pub share_all-loop-f-preserved : goal.share_all-loop-f-preserved
 share_all-loop-f-preserved t c =
     let split : c.loop-f.f-iterator.rest.items ≡ c.in-Some.f ∷ c.next.new.self.rest.items = search rules in
