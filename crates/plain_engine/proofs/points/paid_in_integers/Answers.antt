@@ -13,6 +13,8 @@ use Rattle.formula_meaning.specs.Context.{Integers}
 use Rattle.formula_meaning.specs.Sizes.{nodes}
 use Rattle.elimination_theory.specs.declared.side.Side.TheVariants.{Lower}
 use Rattle.elimination_theory.specs.Atoms.{atoms_of}
+use Rattle.elimination_theory.proofs.StandOnce.{points_once}
+use Rattle.formula_meaning.specs.Distinct.{StandsOnce}
 use Rattle.elimination_theory.specs.IntegersPoints.{own_span, integer_count, integer_count_of, integer_points_of}
 use Rattle.formula_meaning.specs.Limits.{each, place_within}
 use Rattle.elimination_reference.specs.Limits.{atom_within, span_within}
@@ -85,3 +87,9 @@ returns-in-Err-integer_points-clause-stops c =
     let k = count_few limit m (nodes f) c.args.cost.now c.pay.new.cost paid in
     omega (arith, many, k) in
     subst (λ (k : Measured). StopsWith k o) (sym c.stopped-in-Err-integer_points.ensures) (error_told o e past few)
+
+pub points_count-count-requires-clause-once : goal.points_count-count-requires-clause-once
+points_count-count-requires-clause-once c = subst StandsOnce (sym c.requires.atoms) (let o = points_once Lower c.args.x.number (nnf_of c.args.branch.now) in o.0)
+
+pub integer_points-requires-clause-once : goal.integer_points-requires-clause-once
+integer_points-requires-clause-once c = subst StandsOnce (sym c.requires.atoms) (let o = points_once Lower c.args.x.number (nnf_of c.args.branch.now) in o.0)
