@@ -29,8 +29,8 @@ use Rattle.session_commands.proofs.CauseLemmas.{readable_below}
 use Rattle.redlog_run.proofs.Unrefused.{never}
 use Rattle.lines_read_back.specs.ReadBack.{IsBare, IsOwnFormula, IsSameLine, TextIsAnswered}
 
-state_parts : (s : State) (names : List (List ℕ)) → names ≡ s.names → (let t : State = record { context = s.context; names = names; bound = s.bound } in t ≡ s)
-state_parts s names p = λ i. record { context = s.context; names = p i; bound = s.bound }
+same_with : (s : State) (names : List (List ℕ)) → names ≡ s.names → with_names s names ≡ s
+same_with s names p = ap (with_names s) p
 
 module _ (s : State) (limit : ℕ) (t : Tree) (bare : IsBare s) (own : IsOwnFormula s t) (readable : IsReadable s.names t) where
   back : IsReadBack s.context s.names (line_text s.names t) t
@@ -49,7 +49,7 @@ module _ (s : State) (limit : ℕ) (t : Tree) (bare : IsBare s) (own : IsOwnForm
   same_names = ap (fold with_name s.names) (append-nil (formula_variables w)) ∙ back.resolved.same_names
 
   same_state : named s (Echo w) ≡ s
-  same_state = state_parts s (fold with_name s.names (formula_variables w ++ [])) same_names
+  same_state = same_with s (fold with_name s.names (formula_variables w ++ [])) same_names
 
   same_tree : resolved s (Echo w) ≡ t
   same_tree = ap (λ bs. resolve s.context bs s.names w) bare.unbound ∙ back.resolved.same_tree

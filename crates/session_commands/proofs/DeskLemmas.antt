@@ -49,7 +49,7 @@ pub length_grows : (old new : List (List ℕ)) → Grows old new → length old 
 length_grows old new g = let e = ap length g.is ∙ length-append old g.more in omega arith
 
 -- more names leave a state sound where they are different
-pub sound_with : (s : State) (names : List (List ℕ)) → IsSound s → IsDistinct same_name names → AllVariables names → length s.names ≤ length names → IsSound (record { context = s.context; names = names; bound = s.bound })
+pub sound_with : (s : State) (names : List (List ℕ)) → IsSound s → IsDistinct same_name names → AllVariables names → length s.names ≤ length names → IsSound (with_names s names)
 sound_with s names h d v l = record {
   names_once = d;
   variables = v;

@@ -89,12 +89,11 @@ plain_command (wanted.Eliminated given) f = record { no_entries = refl; no_point
 
 -- the state with their variables
 abbrev pub with_variables : State → FormulaTree → FormulaTrees → State
-with_variables s f given = record { context = s.context; names = fold with_name s.names (formula_variables f ++ all_variables given); bound = s.bound }
+with_variables s f given = with_names s (fold with_name s.names (formula_variables f ++ all_variables given))
 
 with_them : (s : State) (f : FormulaTree) (xs ys : List (List ℕ)) → xs ≡ ys
-    → (let t : State = record { context = s.context; names = fold with_name s.names (formula_variables f ++ xs); bound = s.bound } in
-    let u : State = record { context = s.context; names = fold with_name s.names (formula_variables f ++ ys); bound = s.bound } in t ≡ u)
-with_them s f xs ys e = ap (λ zs. let t : State = record { context = s.context; names = fold with_name s.names (formula_variables f ++ zs); bound = s.bound } in t) e
+    → with_names s (fold with_name s.names (formula_variables f ++ xs)) ≡ with_names s (fold with_name s.names (formula_variables f ++ ys))
+with_them s f xs ys e = ap (λ zs. with_names s (fold with_name s.names (formula_variables f ++ zs))) e
 
 pub named_is : (w : Wanted) (f : FormulaTree) (s : State) → named s (command_of w f) ≡ with_variables s f (given_trees w)
 named_is wanted.Given f s = refl
