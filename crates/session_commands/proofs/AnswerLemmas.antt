@@ -44,9 +44,9 @@ spelled_binds piece t h = statement_binds h.spelled
 
 -- a command that gives a formula is answered with its text
 formula_told : (c : CommandTree) (s : State) (limit : ℕ) (names : List (List ℕ)) (text : List ℕ) → IsFormulaText s limit c names text → Tells s limit c names text
-formula_told (Qea f given) s limit names text h = absurd h.1
-formula_told (Holds f es) s limit names text h = absurd h.1
-formula_told (Sample f es) s limit names text h = absurd h.1
+formula_told (Qea f given) s limit names text h = absurd h.1.0
+formula_told (Holds f es) s limit names text h = absurd h.1.0
+formula_told (Sample f es) s limit names text h = absurd h.1.0
 formula_told c s limit names text h = h
 
 pub formula_answered : {E : Type 0} (r : Result Line E) (c : CommandTree) (s next : State) (limit : ℕ) (printed : Bool) → IfOk r (λ answer. IsGiven (named s c) limit (use_of None printed) c answer next)
