@@ -33,8 +33,7 @@ loop-place-preserved c =
     let pushed : c.push.new.self.items ≡ ids ++ id ∷ [] = c.in_ok-push.ensures.items in
     let before = c.loop-place.invariant.0 in
     let one : length (ids ++ id ∷ []) ≡ c.loop-place.place + 1 = simp length-append (omega arith) in
-    let made = subst (λ f. IsMade (IsId c.made.new.into) (tree c.made.new.into) id (tree_over (λ m. tree c.loop-place.store (f m)) n)) port c.in_ok-id.ensures.made in
-    (
+    let made = subst (λ f. IsMade (IsId c.made.new.into) (tree c.made.new.into) id (tree_over (λ m. tree c.loop-place.store (f m)) n)) port c.in_ok-id.ensures.made in (
       ap length pushed ∙ one,
       subst (λ (l : List FormulaId). Taken c.args.store.now d l c.made.new.into) (sym pushed)
           (taken_next c.args.store.now d c.requires ids c.loop-place.store c.loop-place.invariant.1 n (subst (λ k. slice_get d.own k ≡ Some n) (sym before) c.shape.ensures.node)

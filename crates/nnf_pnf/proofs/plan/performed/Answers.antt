@@ -1,4 +1,4 @@
-use Rattle.nnf_pnf.proofs.Kept.{keeps_then}
+use Rattle.formula_store.proofs.Makes.{keeps_then}
 use Rattle.nnf_pnf.proofs.plan.performed.Goals as goal
 
 pub returns-in_err-second-in-Cases-clause-kept : goal.returns-in_err-second-in-Cases-clause-kept

@@ -1,5 +1,4 @@
 use Rattle.std.proofs.Common.{◌≡◌, Some, slice_get, sym, subst}
-use Rattle.std.specs.Map.{keys_of}
 use Rattle.formula_store.specs.Changes.{IsChange}
 use Rattle.formula_store.proofs.Keys.{key_at}
 use Rattle.formula_store.proofs.delta.Delta.shape.Goals as goal

@@ -1,4 +1,4 @@
-use Rattle.std.proofs.Common.{◌≡◌, ◌+◌, ◌-◌, Some, length, slice_get, sym, subst, arith}
+use Rattle.std.proofs.Common.{◌≡◌, ◌-◌, Some, slice_get, sym, subst, arith}
 use Rattle.std.specs.Map.{keys_of}
 use Rattle.formula_store.specs.Layers.{all}
 use Rattle.formula_store.specs.Nodes.{AreNodes}

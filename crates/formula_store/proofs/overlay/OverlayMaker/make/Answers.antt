@@ -1,13 +1,12 @@
-use Rattle.std.proofs.Common.{◌≡◌, ◌+◌, ◌++◌, ℕ, List, Some, inl, refl, sym, subst, slice_get, arith}
+use Rattle.std.proofs.Common.{◌≡◌, ◌+◌, ◌++◌, Some, inl, refl, sym, subst, slice_get, arith}
 use Rattle.std.specs.Map.{keys_of}
-use Rattle.formula_tree.specs.declared.shape.Shape.{Shape}
 use Rattle.formula_tree.specs.Shapes.{AllIds, tree_over}
 use Rattle.formula_tree.proofs.Decided.{same_shape, itself_shape}
 use Rattle.formula_store.specs.contracts.id.FormulaId.{the_row}
 use Rattle.formula_store.specs.contracts.id.FormulaIdPartialEq.TheImpl as ids
 use Rattle.formula_store.specs.declared.id.FormulaId.{FormulaId}
 use Rattle.formula_store.specs.Facts.{IsFactsOf}
-use Rattle.formula_store.specs.Layers.{Layers, all}
+use Rattle.formula_store.specs.Layers.{all}
 use Rattle.formula_store.specs.Nodes.{tree, IsId, Makes, AreNodes}
 use Rattle.formula_store.specs.Stored.{AreStored}
 use Rattle.formula_store.proofs.Adds.{adds, stores}
@@ -18,8 +17,11 @@ use Rattle.formula_store.proofs.overlay.OverlayMaker.make.Goals as goal
 
 pub returns-in-Some-clause-node : goal.returns-in-Some-clause-node
 returns-in-Some-clause-node c =
-    inl (subst (λ v. slice_get (all v) c.in-Some.id.number ≡ Some c.args.shape) c.self.view_is
-    (place_left c.self.inside.store.now (keys_of c.self.inside.own.entries) c.in-Some.id.number c.args.shape c.in-Some.ensures), refl)
+    inl (
+      subst (λ v. slice_get (all v) c.in-Some.id.number ≡ Some c.args.shape) c.self.view_is
+          (place_left c.self.inside.store.now (keys_of c.self.inside.own.entries) c.in-Some.id.number c.args.shape c.in-Some.ensures),
+      refl,
+    )
 
 pub returns-in-Some-clause-made : goal.returns-in-Some-clause-made
 returns-in-Some-clause-made c =

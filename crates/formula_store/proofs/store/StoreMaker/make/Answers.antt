@@ -1,4 +1,4 @@
-use Rattle.std.proofs.Common.{◌≡◌, ◌++◌, [], sym, subst, arith}
+use Rattle.std.proofs.Common.{[], sym, subst, arith}
 use Rattle.std.specs.Map.{keys_of}
 use Rattle.formula_tree.specs.Shapes.{AllIds, tree_over}
 use Rattle.formula_tree.proofs.Decided.{same_shape, itself_shape}
