@@ -21,6 +21,10 @@ at_push [] x y (suc i) e = cc
 at_push (a ∷ xs) x y zero e = inl e
 at_push (a ∷ xs) x y (suc i) e = ⊎_elim (λ h. inl h) (λ h. inr (ap suc h.0, h.1)) (at_push xs x y i e)
 
+-- what stays stays as more is made
+pub keeps_then : (a b c : List (Shape FormulaId)) → Keeps (IsId a) (tree a) (IsId b) (tree b) → Keeps (IsId b) (tree b) (IsId c) (tree c) → Keeps (IsId a) (tree a) (IsId c) (tree c)
+keeps_then a b c h k = record { is = λ id i. k.is id (h.is id i); same = λ id i. k.same id (h.is id i) ∙ h.same id i }
+
 module _ (old : List (Shape FormulaId)) (node : Shape FormulaId) where
   -- an old id has its tree
   pub push_keeps : (id : FormulaId) → id.number < length old → tree (old ++ node ∷ []) id ≡ tree old id

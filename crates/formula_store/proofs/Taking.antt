@@ -11,7 +11,8 @@ use Rattle.formula_tree.proofs.Shapes.{over_same, all_ids_map}
 use Rattle.formula_store.specs.declared.id.FormulaId.{FormulaId}
 use Rattle.formula_store.specs.Nodes.{tree, IsId, AreNodes}
 use Rattle.formula_store.specs.Copies.{first_id, ported}
-use Rattle.formula_store.specs.Changes.{Change, Grows, over}
+use Rattle.formula_store.specs.Changes.{Change, Grows, over, tree_on}
+use Rattle.formula_store.proofs.Makes.{keeps_then}
 use Rattle.formula_store.proofs.Places.{place_right}
 use Rattle.formula_store.proofs.Ported.{ported_low, ported_high}
 use Rattle.formula_store.proofs.Trees.{tree_front, node_tree_below}
@@ -23,15 +24,11 @@ pub record Taken (old : List (Shape FormulaId)) (d : Change) (ids : List Formula
   pub grown : Grows old now
   pub few : length now ≤ length old + length ids
 
-module _ (a b : List (Shape FormulaId)) (k : Keeps (IsId a) (tree a) (IsId b) (tree b)) where
-  -- what is made stays made
-  pub made_still : (id : FormulaId) (f : Tree) → IsMade (IsId a) (tree a) id f → IsMade (IsId b) (tree b) id f
-  made_still id f m = record { is = k.is id m.is; same = k.same id m.is ∙ m.same }
+-- what is made stays made
+made_still : (a b : List (Shape FormulaId)) → Keeps (IsId a) (tree a) (IsId b) (tree b) → (id : FormulaId) (f : Tree) → IsMade (IsId a) (tree a) id f → IsMade (IsId b) (tree b) id f
+made_still a b k id f m = record { is = k.is id m.is; same = k.same id m.is ∙ m.same }
 
-  pub keeps_both : (c : List (Shape FormulaId)) → Keeps (IsId b) (tree b) (IsId c) (tree c) → Keeps (IsId a) (tree a) (IsId c) (tree c)
-  keeps_both c l = record { is = λ id h. l.is id (k.is id h); same = λ id h. l.same id (k.is id h) ∙ k.same id h }
-
-pub grows_both : (a b c : List (Shape FormulaId)) → Grows a b → Grows b c → Grows a c
+grows_both : (a b c : List (Shape FormulaId)) → Grows a b → Grows b c → Grows a c
 grows_both a b c g h = record { more = g.more ++ h.more; is = h.is ∙ ap (λ ns. ns ++ h.more) g.is ∙ append_assoc a g.more h.more }
 
 module _ (old : List (Shape FormulaId)) (d : Change) (few : d.begun ≤ length old) (are : AreNodes old) where
@@ -85,7 +82,7 @@ module _ (old : List (Shape FormulaId)) (d : Change) (few : d.begun ≤ length o
                 let at_end : get_or (ids ++ id ∷ []) j first_id ≡ id = ap (λ p. get_or (ids ++ id ∷ []) p first_id) last ∙ get_or-append_seam ids id [] first_id in
                 subst (λ x. IsMade (IsId new) (tree new) x (tree (over old d) i)) (sym at_end) (record { is = m.is; same = m.same ∙ same ∙ sym (next_tree i (omega arith)) }))
                 (cases_lt j (length ids));
-            kept = keeps_both old now taken.kept new k;
+            kept = keeps_then old now new taken.kept k;
             grown = grows_both old now new taken.grown g;
             few = let f = taken.few in simp length-append (omega arith);
           }

@@ -1,4 +1,4 @@
-//! What is proved of every store.
+//! What is proved of every store, of every overlay, and of what was made in one.
 
 ghost use Rattle.std.specs.Prelude.{◌≡◌, ◌≤◌, List, length};
 ghost use Rattle.formula_tree.specs.declared.shape.Shape.{Shape};
@@ -6,6 +6,7 @@ ghost use Rattle.formula_store.specs.declared.id.FormulaId.{FormulaId};
 ghost use Rattle.formula_meaning.specs.Every.{Every};
 ghost use Rattle.formula_meaning.specs.Numbers.{IsAtomInLimit};
 ghost use Rattle.formula_store.specs.Changes.{Change, Grows, tree_on};
+ghost use Rattle.formula_store.specs.Layers.{Layers, all};
 ghost use Rattle.formula_store.specs.Nodes.{IsId, tree};
 
 /// Two ids of one store are equal where their formulas are.
@@ -18,6 +19,12 @@ pub fn one_formula_has_one_id()
 #[tactic(auto, using(crate::proofs::Numbers::numbers_are_within))]
 pub fn stored_numbers_are_within()
     ensures { (nodes : List (Shape FormulaId)) → (id : FormulaId) → IsId nodes id → Every IsAtomInLimit (tree nodes id) }
+{}
+
+/// Two ids of one overlay are equal where their formulas are, whether these stand in the store or beside it.
+#[tactic(auto, using(crate::proofs::Same::same_tree))]
+pub fn one_formula_has_one_id_beside()
+    ensures { (o : Layers) → (x y : FormulaId) → IsId (all o) x → IsId (all o) y → tree (all o) x ≡ tree (all o) y → x ≡ y }
 {}
 
 /// What was made beside a store stands for the same formula while nodes are only added to the store.

@@ -1,4 +1,5 @@
-//! Shared formulas: each distinct formula is kept once, under one id.
+//! Shared formulas: each distinct formula is kept once, under one id. New ones can be made beside a store that is only read, and
+//! taken in later.
 #![tactic(auto)]
 
 mod absorb;
@@ -23,7 +24,9 @@ pub use error::{EvalStop, StoreError, Unfold};
 pub use facts::Facts;
 pub use formulas::Formulas;
 pub use id::FormulaId;
-pub use laws::{change_stays, one_formula_has_one_id, stored_numbers_are_within};
+pub use laws::{
+    change_stays, one_formula_has_one_id, one_formula_has_one_id_beside, stored_numbers_are_within,
+};
 pub use overlay::Overlay;
 pub use steps::Steps;
 pub use store::Store;

@@ -44,6 +44,7 @@ impl<'s> Overlay<'s> {
     pub fn over(alloc: Global, store: &'s Store) -> Overlay<'s>
         ensures below { result.below ≡ store.now }
         ensures own { result.own ≡ [] }
+        ensures nodes { AreNodes store.now }
     {
         Overlay {
             store,
@@ -85,6 +86,7 @@ impl<'s> Overlay<'s> {
     pub fn len(&self) -> usize
         ensures len { result ≡ length (all self.now) }
         ensures small { result + 1 < 2 ^ 64 }
+        ensures nodes { AreNodes (all self.now) }
     {
         self.begun + self.own.len()
     }

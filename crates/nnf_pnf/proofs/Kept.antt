@@ -17,15 +17,8 @@ use Rattle.formula_store.proofs.Marked.{all_on, all_joined}
 use Rattle.nnf_pnf.specs.declared.forms.Forms.{Forms}
 use Rattle.nnf_pnf.specs.Forms.{form, side, Table, same_id, form_at, Known}
 
-module _ (a b c : List (Shape FormulaId)) where
-  pub keeps_then : Keeps (IsId a) (tree a) (IsId b) (tree b) → Keeps (IsId b) (tree b) (IsId c) (tree c) → Keeps (IsId a) (tree a) (IsId c) (tree c)
-  keeps_then h k = record {
-    is = λ id i. k.is id (h.is id i);
-    same = λ id i. k.same id (h.is id i) ∙ h.same id i;
-  }
-
-  pub front_then : Front a b → Front b c → Front a c
-  front_then h k = record { stays = λ i n e. k.stays i n (h.stays i n e) }
+pub front_then : (a b c : List (Shape FormulaId)) → Front a b → Front b c → Front a c
+front_then a b c h k = record { stays = λ i n e. k.stays i n (h.stays i n e) }
 
 -- an old node that stays was there before
 pub front_back : (a b : List (Shape FormulaId)) → Front a b → (i : ℕ) (n : Shape FormulaId) → i < length a → slice_get b i ≡ Some n → slice_get a i ≡ Some n

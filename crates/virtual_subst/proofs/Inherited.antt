@@ -1,5 +1,6 @@
 -- What is known of a formula built by and and or holds of what stands in it.
-use Rattle.std.proofs.Common.{◌≡◌, ℕ, Bool, true, false, ◌&&◌, List, [], ◌∷◌, map, refl, sym, ◌∙◌, subst}
+use Rattle.std.proofs.Common.{◌≡◌, ℕ, ◌<◌, ⊎_elim, Bool, true, false, ◌&&◌, List, [], ◌∷◌, length, get_or, map, refl, sym, ◌∙◌, subst}
+use Rattle.std.specs.Cmp.{first_so, second_so}
 use Rattle.std.specs.List.{AllByRecursion}
 use Rattle.formula_meaning.specs.Answer.{Place}
 use Rattle.formula_meaning.specs.Atom.{AtomIn}
@@ -13,8 +14,9 @@ use Rattle.formula_tree.specs.Trees.{members}
 use Rattle.formula_tree.specs.Shapes.{tree_over, ids_of}
 use Rattle.formula_store.specs.declared.id.FormulaId.{FormulaId}
 use Rattle.formula_store.specs.Nodes.{tree, AreNodes}
-use Rattle.formula_store.specs.Order.{Within}
+use Rattle.formula_store.specs.Order.{Within, WithinSome}
 use Rattle.formula_store.proofs.Inner.{passes_down}
+use Rattle.formula_store.proofs.Marked.{all_at}
 use Rattle.nnf_substitution.specs.Placed.{all_within, each_within}
 use Rattle.nnf_substitution.proofs.PutLaws.{also_within}
 use Rattle.virtual_subst.specs.declared.error.SubstError.{SubstError}
@@ -47,20 +49,12 @@ module _ {Id : Type 0} (c : Context) (t : Id → Tree) where
   fits_members (shape.Ex x f) h = absurd h.0
   fits_members (shape.All x f) h = absurd h.0
 
-pub first_true : (a b : Bool) → (a && b) ≡ true → a ≡ true
-first_true true b h = refl
-first_true false b h = h
-
-pub second_true : (a b : Bool) → (a && b) ≡ true → b ≡ true
-second_true true b h = h
-second_true false b h = cc
-
 module _ {Id : Type 0} (c : Context) (x : ℕ) (s : Place) (t : Id → Tree) where
   stays_list : (ids : List Id) → ArePlain (members (map t ids)) → each_within c x s (members (map t ids)) ≡ true → AllByRecursion (λ id. Stays c x s (t id)) ids
   stays_list [] p h = tt
   stays_list (id ∷ ids) p h =
       let both : (all_within c x s (t id) && each_within c x s (members (map t ids))) ≡ true = sym (also_within c x s (t id) (members (map t ids))) ∙ h in
-      ((p.0, first_true (all_within c x s (t id)) (each_within c x s (members (map t ids))) both), stays_list ids p.1 (second_true (all_within c x s (t id)) (each_within c x s (members (map t ids))) both))
+      ((p.0, first_so (all_within c x s (t id)) (each_within c x s (members (map t ids))) both), stays_list ids p.1 (second_so (all_within c x s (t id)) (each_within c x s (members (map t ids))) both))
 
   stays_members : (n : Shape Id) → Stays c x s (tree_over t n) → AllByRecursion (λ id. Stays c x s (t id)) (ids_of n)
   stays_members shape.True h = tt
@@ -88,3 +82,7 @@ module _ (c : Context) (nodes : List (Shape FormulaId)) (are : AreNodes nodes) (
     pub stops_within : (e : SubstError) → Stops e (all_within c x s (tree nodes id)) → Stops e (all_within c x s (tree nodes root))
     stops_within Overflow h = falls (all_within c x s (tree nodes root)) refl h
     stops_within Memory h = tt
+
+-- each id of the list stands in the formula
+pub listed_within : (nodes : List (Shape FormulaId)) (root : FormulaId) (ids : List FormulaId) (i : ℕ) (d : FormulaId) → i < length ids → AllByRecursion (WithinSome nodes (root ∷ [])) ids → Within nodes root (get_or ids i d)
+listed_within nodes root ids i d h only = ⊎_elim (λ w. w) (λ w. absurd w) (all_at (WithinSome nodes (root ∷ [])) ids i d h only)

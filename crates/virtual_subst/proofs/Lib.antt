@@ -1,3 +1,2 @@
 pub mod Inherited
 pub mod Made
-pub mod Folds

@@ -52,7 +52,7 @@ module _ (c : Context) (t : TestPoint) (nodes made : List (Shape FormulaId)) whe
     value_made id h = subst (IsNodePut c t nodes made id) (sym (ap (λ o. unwrap_or o id) h.there)) h.holds
 
     pub there_made : (id : FormulaId) → Held c t nodes made table id → IsSome (get same_id table id)
-    there_made id h = subst (λ o. IsSome o) (sym h.there) tt
+    there_made id h = subst (λ o. IsSome o) (sym h.there) refl
 
     pub all_there : (ids : List FormulaId) → AllByRecursion (Held c t nodes made table) ids → AllByRecursion (λ id. IsSome (get same_id table id)) ids
     all_there [] h = tt

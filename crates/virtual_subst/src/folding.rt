@@ -66,7 +66,7 @@ fn gather<M: Formulas>(
     ensures pieces { IfOk result (λ goes. put_together (Some (members (map (tree (M.nodes formulas.now)) pieces.old.items))) (pieces_of junction (tree (M.nodes formulas.now) id)) ≡ (if goes then Some (members (map (tree (M.nodes formulas.now)) pieces.new.items)) else None)) }
     ensures ids { IfOk result (λ goes. AllByRecursion (IsId (M.nodes formulas.now)) pieces.new.items) }
 {
-    match part(formulas.top(id), junction) {
+    match part_of(formulas.top(id), junction) {
         Part::Nothing => Ok(true),
         Part::Whole => Ok(false),
         Part::Members(ids) => {
@@ -89,7 +89,7 @@ enum Part<'a> {
 }
 
 // What the formula of this shape gives.
-fn part<'a>(shape: &'a Shape<FormulaId>, junction: Junction) -> Part<'a>
+fn part_of<'a>(shape: &'a Shape<FormulaId>, junction: Junction) -> Part<'a>
     ensures { Gives junction shape.now result }
 {
     match (shape, junction) {

@@ -38,7 +38,7 @@ pub(crate) fn node_put(
     requires id { IsId store.now id }
     requires plain { IsPlain (tree store.now id) }
     requires in_context { InContext (context_of at.context) (tree store.now id) }
-    requires place { IsAtPlace at.entry.context at.entry.point.now }
+    requires place { IsAtPlace at.context at.point.now }
     requires members { (n : Shape FormulaId) → slice_get store.now id.number ≡ Some n → AllIds (Held at.context at.point.now store.now (all overlay.old) table.now) n }
     ensures put { MatchResult result (IsNodePut at.entry.context at.entry.point.now store.now (all overlay.new) id) (λ e. Stops e (all_within (context_of at.entry.context) at.entry.point.now.name.number (place_of at.entry.point.now) (tree store.now id))) }
     ensures kept { Keeps (IsId (all overlay.old)) (tree (all overlay.old)) (IsId (all overlay.new)) (tree (all overlay.new)) }

@@ -5,7 +5,8 @@ use Rattle.formula_store.specs.declared.id.FormulaId.{FormulaId}
 use Rattle.formula_store.specs.Changes.{tree_on}
 use Rattle.formula_store.specs.Copies.{ported}
 use Rattle.formula_store.specs.Nodes.{IsId, tree}
-use Rattle.formula_store.proofs.Taking.{Taken, taken_none, ported_made, members_are, taken_next, keeps_both}
+use Rattle.formula_store.proofs.Taking.{Taken, taken_none, ported_made, members_are, taken_next}
+use Rattle.formula_store.proofs.Makes.{keeps_then}
 use Rattle.formula_store.proofs.absorb.taken_in.Goals as goal
 
 pub made-requires-clause-ids : goal.made-requires-clause-ids
@@ -50,7 +51,7 @@ returns-clause-made c =
     (ported_made c.args.store.now d c.requires.begun c.requires.nodes ids c.loop-place.store c.loop-place.invariant.1 d.root (omega (arith, c.loop-place.invariant.0, c.len-place-end.ensures)))
 
 pub returns-in_err-id-clause-kept : goal.returns-in_err-id-clause-kept
-returns-in_err-id-clause-kept c = let t = c.loop-place.invariant.1 in keeps_both c.args.store.now c.loop-place.store t.kept c.made.new.into c.in_err-id.ensures.kept
+returns-in_err-id-clause-kept c = let t = c.loop-place.invariant.1 in keeps_then c.args.store.now c.loop-place.store c.made.new.into t.kept c.in_err-id.ensures.kept
 
 pub returns-in_err-push-clause-kept : goal.returns-in_err-push-clause-kept
-returns-in_err-push-clause-kept c = let t = c.loop-place.invariant.1 in keeps_both c.args.store.now c.loop-place.store t.kept c.made.new.into c.made.ensures.kept
+returns-in_err-push-clause-kept c = let t = c.loop-place.invariant.1 in keeps_then c.args.store.now c.loop-place.store c.made.new.into t.kept c.made.ensures.kept

@@ -10,7 +10,8 @@ use Rattle.formula_store.specs.Order.{IsOrder, itself}
 use Rattle.formula_store.proofs.Before.{each_id, members_before, among_all}
 use Rattle.std.specs.HashMap.{Updates}
 use Rattle.nnf_pnf.specs.Forms.{form, same_id, Known}
-use Rattle.nnf_pnf.proofs.Kept.{keeps_then, front_then, front_back, known_more}
+use Rattle.formula_store.proofs.Makes.{keeps_then}
+use Rattle.nnf_pnf.proofs.Kept.{front_then, front_back, known_more}
 use Rattle.nnf_pnf.proofs.negation.nnf.Goals as goal
 
 order : (c : goal.After-table-1) → IsOrder c.args.store.now (c.args.id ∷ []) c.deref-id-items.result.now

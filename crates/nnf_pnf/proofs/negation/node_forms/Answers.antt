@@ -1,5 +1,6 @@
 use Rattle.std.proofs.Common.{◌∙◌}
-use Rattle.nnf_pnf.proofs.Kept.{keeps_then, members_stay}
+use Rattle.formula_store.proofs.Makes.{keeps_then}
+use Rattle.nnf_pnf.proofs.Kept.{members_stay}
 use Rattle.nnf_pnf.proofs.negation.node_forms.Goals as goal
 
 pub node_form-requires-2-clause-members : goal.node_form-requires-2-clause-members

@@ -2,7 +2,8 @@ use Rattle.std.proofs.Common.{subst}
 use Rattle.formula_store.specs.Nodes.{IsId}
 use Rattle.nnf_pnf.specs.declared.plan.Plan.{Plan}
 use Rattle.nnf_pnf.specs.Plans.{AllPlanned}
-use Rattle.nnf_pnf.proofs.Kept.{keeps_then, front_then}
+use Rattle.formula_store.proofs.Makes.{keeps_then}
+use Rattle.nnf_pnf.proofs.Kept.{front_then}
 use Rattle.nnf_pnf.proofs.plan.performed.Goals as goal
 
 pub returns-in_err-second-in-Cases-clause-kept : goal.returns-in_err-second-in-Cases-clause-kept
