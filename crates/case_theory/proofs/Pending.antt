@@ -6,6 +6,7 @@ use Rattle.exact_numbers.proofs.Ring.{mul_comm}
 use Rattle.formula_meaning.specs.Context.{Context}
 use Rattle.formula_meaning.specs.Point.{Point, Of, finer, AgreeOn}
 use Rattle.formula_meaning.specs.Formula.{One, Ex}
+use Rattle.formula_meaning.specs.Distinct.{StandsOnce}
 use Rattle.formula_meaning.specs.Some.{SomeOf, Among, EachOf}
 use Rattle.formula_meaning.specs.Atom.{Atom}
 use Rattle.formula_meaning.specs.Answer.{Answer, Place}
@@ -27,7 +28,7 @@ use Rattle.case_theory.specs.Points.{IsPointFor, ArePointsFor}
 use Rattle.case_theory.specs.Children.{IsChild, AreChildren}
 use Rattle.case_theory.specs.Pending.{Pending, eliminated, ShareBlock, StaysFree, IsPending, PendingBegins, IsRest, child, children, PendingGoesOn, CoveredMayGo, OtherMayCover}
 use Rattle.case_theory.proofs.Moved.{below_allowed}
-use Rattle.case_theory.proofs.Lists.{once_fewer, once_apart, once_more, some_middle}
+use Rattle.case_theory.proofs.Lists.{once_right, once_fewer, once_apart, once_more, some_middle}
 use Rattle.case_theory.proofs.Block.{block_somewhere, somewhere_more, one_taken}
 use Rattle.case_theory.proofs.Under.{under_self}
 
@@ -72,6 +73,10 @@ pending_begins c ks matrix block tidy lack once = record {
   );
   together = λ p o t. let e = block_somewhere c block matrix p o in (λ u. inl (e.0 u), ⊎_elim e.1 absurd);
 }
+
+-- the names that are left stand once
+pub left_once : (block done left : List ℕ) → ShareBlock block done left → StandsOnce left
+left_once block done left s = once_right done left s.once
 
 -- ---- one step
 
