@@ -27,7 +27,7 @@ use Rattle.case_theory.specs.Block.{DifferIn, Somewhere}
 use Rattle.case_theory.specs.Points.{IsPointFor, ArePointsFor}
 use Rattle.case_theory.specs.Children.{IsChild, AreChildren}
 use Rattle.case_theory.specs.Pending.{Pending, eliminated, ShareBlock, StaysFree, IsPending, PendingBegins, IsRest, child, children, PendingGoesOn, CoveredMayGo, OtherMayCover}
-use Rattle.case_theory.proofs.Moved.{below_allowed}
+use Rattle.elimination_reference.proofs.PutIn.{of_allowed}
 use Rattle.case_theory.proofs.Lists.{once_right, once_fewer, once_apart, once_more, some_middle}
 use Rattle.case_theory.proofs.Block.{block_somewhere, somewhere_more, one_taken}
 use Rattle.case_theory.proofs.Under.{under_self}
@@ -38,8 +38,8 @@ use Rattle.case_theory.proofs.Under.{under_self}
 true_elsewhere : (c : Context) (P : ℕ → Type 0) (f : Tree) (p q : Point ℕ) → Of c p → Of c q → DifferIn P p q → ((y : ℕ) → IsFree f y → ¬ (P y)) → TrueAt c f p ↔ TrueAt c f q
 unfolding finer
 true_elsewhere c P f p q o u d n =
-    both_ways (tree_finer c f p q.below (below_allowed c q u))
-    (both_ways (tree_agrees c f (finer p q.below) (finer q p.below) agree) (turn_round (tree_finer c f q p.below (below_allowed c p o))))
+    both_ways (tree_finer c f p q.below (of_allowed c q u))
+    (both_ways (tree_agrees c f (finer p q.below) (finer q p.below) agree) (turn_round (tree_finer c f q p.below (of_allowed c p o))))
   where
     agree : AgreeOn (IsFree f) (finer p q.below) (finer q p.below)
     agree = record {

@@ -132,5 +132,5 @@ z_taken = pending_goes_on Integers ks matrix (0 ∷ 2 ∷ []) [] after [] 2 [] (
 
 -- ---- the case
 
-pub run_ends : IsCaseTree Integers theory formula matrix (only_case ∷ [])
+run_ends : IsCaseTree Integers theory formula matrix (only_case ∷ [])
 run_ends = pending_ends Integers theory formula matrix (child 2 after [] second ∷ []) (twice_normal, (above_normal 0, tt)) ((working_goes_on Integers ks).itself matrix matrix_tidy) z_taken (refl, tt)
