@@ -13,8 +13,9 @@ use Rattle.formula_meaning.specs.Tree.{Tree, TrueAt}
 use Rattle.formula_meaning.proofs.TreeFiner.{allowed_positive, tree_same_point}
 use Rattle.formula_meaning.proofs.TreeReplacing.{moved_of}
 use Rattle.formula_meaning.proofs.Equivalence.{absent_moved}
+use Rattle.elimination_reference.proofs.PutIn.{of_allowed}
 use Rattle.case_theory.specs.Block.{SameValue, DifferIn, Somewhere, BlockHasNoOrder}
-use Rattle.case_theory.proofs.Moved.{moved_here, moved_there, moved_below, below_allowed, exists_here}
+use Rattle.case_theory.proofs.Moved.{moved_here, moved_there, moved_below, exists_here}
 
 -- ---- products
 
@@ -23,9 +24,6 @@ through a b u m q h e = cancel_positive m h (mul_left_comm m a b ∙ ap (λ z. a
 
 along : (a b u m q : ℤ) → a *ℤ b ≡ u *ℤ q → (m *ℤ a) *ℤ b ≡ u *ℤ (q *ℤ m)
 along a b u m q e = mul_assoc m a b ∙ ap (λ z. m *ℤ z) e ∙ mul_left_comm m u q ∙ ap (λ z. u *ℤ z) (mul_comm m q)
-
-back_to : (a b q : ℤ) → (a *ℤ b) *ℤ q ≡ a *ℤ (q *ℤ b)
-back_to a b q = mul_assoc a b q ∙ ap (λ z. a *ℤ z) (mul_comm b q)
 
 -- ---- points that differ in some names
 
@@ -110,7 +108,7 @@ block_somewhere c (x ∷ xs) f p o = (
       let s = (block_somewhere c xs f (move nat_eq p x t.0 t.1) (moved_of c p x t.0 t.1 o t.2)).0 t.3 in
       (s.0, s.1, after_move (Among xs) x c p s.0 t.0 t.1 (allowed_positive c t.1 t.2) s.2, s.3),
   λ s.
-      let a : Allowed c s.0.below = below_allowed c s.0 s.1 in
+      let a : Allowed c s.0.below = of_allowed c s.0 s.1 in
       let k = s.0.at x *ℤ pos p.below in
       (k, s.0.below, a, (block_somewhere c xs f (move nat_eq p x k s.0.below) (moved_of c p x k s.0.below o a)).1 (s.0, s.1, before_move (Among xs) x c p s.0 s.2, s.3)),
 )
@@ -120,7 +118,7 @@ pub one_taken : (c : Context) (P : ℕ → Type 0) (x : ℕ) (f : Tree) (p : Poi
 one_taken c P x f p o h = (
   λ s.
       let k = p.at x *ℤ pos s.0.below in
-      let a : Allowed c p.below = below_allowed c p o in (
+      let a : Allowed c p.below = of_allowed c p o in (
         move nat_eq s.0 x k p.below,
         moved_of c s.0 x k p.below s.1 a,
         brought_back P x c p s.0 s.2,

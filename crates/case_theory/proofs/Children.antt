@@ -1,5 +1,5 @@
 -- The children of a branch, made point by point.
-use Rattle.std.proofs.Common.{ℕ, List, ◌∷◌, ◌++◌, refl, inl, inr, ⊎_elim}
+use Rattle.std.proofs.Common.{ℕ, List, [], ◌∷◌, ◌++◌, refl, sym, subst, inl, inr, ⊎_elim}
 use Rattle.formula_meaning.specs.Context.{Context, Fields, Integers}
 use Rattle.formula_meaning.specs.Formula.{Ex}
 use Rattle.formula_meaning.specs.Some.{Among, EachOf}
@@ -13,6 +13,8 @@ use Rattle.elimination_theory.specs.NamesTheorems.{IsNameOf}
 use Rattle.elimination_theory.specs.BothTheories.{IsPlaceIn, substitution}
 use Rattle.elimination_theory.specs.Steps.{Result, result_at}
 use Rattle.elimination_theory.proofs.SomeListed.{each_map, each_append, some_left, some_right, some_either}
+use Rattle.elimination_theory.specs.Answers.{zero_place}
+use Rattle.elimination_theory.proofs.Answers.{absent_zero}
 use Rattle.elimination_theory.proofs.BothSubstitutions.{place_in}
 use Rattle.elimination_theory.proofs.FieldsNames.{field_substitution_names}
 use Rattle.elimination_theory.proofs.IntegersNames.{integer_substitution_names}
@@ -64,10 +66,20 @@ module _ (c : Context) (ks : List Atom) (x : ℕ) (f : Tree) where
         (some_either (λ s. TrueAt c (substitution c x s f) p) before after u);
   }
 
+  -- a branch without the name
+  unchanged : IsTidy c f → ¬ (IsFree f x) → AreChildren c ks x f (zero_place ∷ []) (record { place = zero_place; tree = f } ∷ [])
+  unchanged tidy n =
+      let e = (absent_zero c x f tidy.is_plain (tidy_in c f tidy) n).equivalent in
+      record {
+        each = (record { listed = inl refl; equivalent = λ p o t. e p o; tidy = tidy; names = λ y u. (λ i. n (subst (IsFree f) (sym i) u), u) }, tt);
+        whole = λ p o t. ⊎_elim (λ u. inl ((e p o).0 u)) absurd;
+      }
+
   pub children_made : ChildrenAreMade c ks x f
   children_made = record {
     no_point = record { each = tt; whole = λ p o t u. u };
     one_child = λ s g points rs h i. one_child s h i g points rs;
     no_child = λ s points rs h i. no_child s h i points rs;
+    unchanged = unchanged;
     joined = joined_children;
   }

@@ -31,6 +31,10 @@ module _ {X : Type 0} where
   once_fewer (x ∷ xs) ys zs o sub h =
       once_more x (xs ++ zs) (λ m. once_head x (xs ++ ys) h (⊎_elim (among_left xs ys x) (λ n. among_right xs ys x (sub x n)) (among_append xs zs x m))) (once_fewer xs ys zs o sub h.1)
 
+  pub once_right : (xs ys : List X) → StandsOnce (xs ++ ys) → StandsOnce ys
+  once_right [] ys o = o
+  once_right (x ∷ xs) ys o = once_right xs ys o.1
+
   -- an element of the second list is none of the first
   pub once_apart : (xs ys : List X) (y : X) → StandsOnce (xs ++ ys) → Among ys y → ¬ (Among xs y)
   once_apart [] ys y o m n = n

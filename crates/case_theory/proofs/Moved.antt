@@ -1,18 +1,17 @@
 -- A point with one name set anew: its numbers, and which points give the same values.
 use Rattle.std.proofs.Common.{◌≡◌, ℕ, Bool, true, false, ap, ap₂, sym, ◌∙◌, subst, refl, arith, List, [], ◌∷◌, inl, inr, nat_eq, eqb-true, eq-eqb, if◌then◌else◌}
 use Rattle.std.proofs.Math.IntN.{ℤ, pos, ◌*ℤ◌}
-use Rattle.std.specs.Prelude.{◌<ℤ◌}
 use Rattle.std.proofs.lemmas.Int.{ints}
 use Rattle.std.proofs.lemmas.Bool.{cases_eq}
 use Rattle.exact_numbers.proofs.Ring.{ring, mul_left_comm, one_mul, mul_one}
-use Rattle.formula_meaning.specs.Context.{Context, Fields, Integers, Allowed}
+use Rattle.formula_meaning.specs.Context.{Context, Allowed}
 use Rattle.formula_meaning.specs.Point.{Point, Of, move, IsSamePoint}
 use Rattle.formula_meaning.specs.Formula.{One, Ex}
 use Rattle.formula_meaning.specs.Some.{EachOf}
 use Rattle.formula_meaning.specs.Atom.{Atom, Mentions, Says}
 use Rattle.formula_meaning.specs.Tree.{Tree, TrueAt}
 use Rattle.formula_meaning.proofs.Values.{at_move, below_move, pos_mul}
-use Rattle.formula_meaning.proofs.TreeFiner.{allowed_positive, tree_same_point}
+use Rattle.formula_meaning.proofs.TreeFiner.{tree_same_point}
 use Rattle.formula_meaning.proofs.TreeReplacing.{moved_of}
 use Rattle.formula_meaning.proofs.Equivalence.{one_allowed, absent_moved}
 use Rattle.case_theory.specs.Block.{SameValue}
@@ -30,14 +29,6 @@ module _ (p : Point ℕ) (x : ℕ) (k : ℤ) (m : ℕ) where
 
   pub moved_below : pos (move nat_eq p x k m).below ≡ pos p.below *ℤ pos m
   moved_below = ap pos (below_move nat_eq p x k m) ∙ pos_mul p.below m
-
--- the denominator of a point of the theory may be a factor
-pub below_allowed : (c : Context) (p : Point ℕ) → Of c p → Allowed c p.below
-below_allowed Fields p o = o
-below_allowed Integers p o = o
-
-pub of_positive : (c : Context) (p : Point ℕ) → Of c p → pos 0 <ℤ pos p.below
-of_positive c p o = allowed_positive c p.below (below_allowed c p o)
 
 cross_here : (k l m n b : ℤ) → k *ℤ n ≡ l *ℤ m → k *ℤ (b *ℤ n) ≡ l *ℤ (b *ℤ m)
 cross_here k l m n b e = mul_left_comm k b n ∙ ap (λ z. b *ℤ z) e ∙ sym (mul_left_comm l b m)

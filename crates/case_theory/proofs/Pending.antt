@@ -6,6 +6,7 @@ use Rattle.exact_numbers.proofs.Ring.{mul_comm}
 use Rattle.formula_meaning.specs.Context.{Context}
 use Rattle.formula_meaning.specs.Point.{Point, Of, finer, AgreeOn}
 use Rattle.formula_meaning.specs.Formula.{One, Ex}
+use Rattle.formula_meaning.specs.Distinct.{StandsOnce}
 use Rattle.formula_meaning.specs.Some.{SomeOf, Among, EachOf}
 use Rattle.formula_meaning.specs.Atom.{Atom}
 use Rattle.formula_meaning.specs.Answer.{Answer, Place}
@@ -26,8 +27,8 @@ use Rattle.case_theory.specs.Block.{DifferIn, Somewhere}
 use Rattle.case_theory.specs.Points.{IsPointFor, ArePointsFor}
 use Rattle.case_theory.specs.Children.{IsChild, AreChildren}
 use Rattle.case_theory.specs.Pending.{Pending, eliminated, ShareBlock, StaysFree, IsPending, PendingBegins, IsRest, child, children, PendingGoesOn, CoveredMayGo, OtherMayCover}
-use Rattle.case_theory.proofs.Moved.{below_allowed}
-use Rattle.case_theory.proofs.Lists.{once_fewer, once_apart, once_more, some_middle}
+use Rattle.elimination_reference.proofs.PutIn.{of_allowed}
+use Rattle.case_theory.proofs.Lists.{once_right, once_fewer, once_apart, once_more, some_middle}
 use Rattle.case_theory.proofs.Block.{block_somewhere, somewhere_more, one_taken}
 use Rattle.case_theory.proofs.Under.{under_self}
 
@@ -37,8 +38,8 @@ use Rattle.case_theory.proofs.Under.{under_self}
 true_elsewhere : (c : Context) (P : ℕ → Type 0) (f : Tree) (p q : Point ℕ) → Of c p → Of c q → DifferIn P p q → ((y : ℕ) → IsFree f y → ¬ (P y)) → TrueAt c f p ↔ TrueAt c f q
 unfolding finer
 true_elsewhere c P f p q o u d n =
-    both_ways (tree_finer c f p q.below (below_allowed c q u))
-    (both_ways (tree_agrees c f (finer p q.below) (finer q p.below) agree) (turn_round (tree_finer c f q p.below (below_allowed c p o))))
+    both_ways (tree_finer c f p q.below (of_allowed c q u))
+    (both_ways (tree_agrees c f (finer p q.below) (finer q p.below) agree) (turn_round (tree_finer c f q p.below (of_allowed c p o))))
   where
     agree : AgreeOn (IsFree f) (finer p q.below) (finer q p.below)
     agree = record {
@@ -72,6 +73,10 @@ pending_begins c ks matrix block tidy lack once = record {
   );
   together = λ p o t. let e = block_somewhere c block matrix p o in (λ u. inl (e.0 u), ⊎_elim e.1 absurd);
 }
+
+-- the names that are left stand once
+pub left_once : (block done left : List ℕ) → ShareBlock block done left → StandsOnce left
+left_once block done left s = once_right done left s.once
 
 -- ---- one step
 

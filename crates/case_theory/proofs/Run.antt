@@ -121,20 +121,16 @@ z_absent n = n refl
 zero : ArePointsFor Integers 2 positive (zero_place ∷ [])
 zero = zero_point Integers 2 positive tt tt z_absent
 
-at_zero : IsWorked Integers ks (result_at Integers (normal_atom Integers) 2 zero_place positive) positive
-unfolding coefficient
-at_zero = (working_goes_on Integers ks).itself positive positive_tidy
-
 abbrev second : Result
 second = record { place = zero_place; tree = positive }
 
 second_children : AreChildren Integers ks 2 positive (zero_place ∷ []) (second ∷ [])
-second_children = let m = children_made Integers ks 2 positive in m.one_child zero_place positive [] [] positive_tidy zero.each.0 at_zero m.no_point
+second_children = (children_made Integers ks 2 positive).unchanged positive_tidy z_absent
 
 z_taken : ArePending Integers ks matrix (0 ∷ 2 ∷ []) (child 2 after [] second ∷ [])
 z_taken = pending_goes_on Integers ks matrix (0 ∷ 2 ∷ []) [] after [] 2 [] (zero_place ∷ []) (second ∷ []) x_taken (inl refl) (taken_out [] [] 2 ((λ m. m), tt)) zero second_children
 
 -- ---- the case
 
-pub run_ends : IsCaseTree Integers theory formula matrix (only_case ∷ [])
+run_ends : IsCaseTree Integers theory formula matrix (only_case ∷ [])
 run_ends = pending_ends Integers theory formula matrix (child 2 after [] second ∷ []) (twice_normal, (above_normal 0, tt)) ((working_goes_on Integers ks).itself matrix matrix_tidy) z_taken (refl, tt)

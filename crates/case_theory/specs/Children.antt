@@ -9,6 +9,7 @@ use Rattle.formula_meaning.specs.Answer.{Place}
 use Rattle.formula_meaning.specs.Tree.{Tree, TrueAt, IsFree}
 use Rattle.elimination_theory.specs.BothTheories.{substitution}
 use Rattle.elimination_theory.specs.Steps.{Result, result_at}
+use Rattle.elimination_theory.specs.Answers.{zero_place}
 use Rattle.atom_normal.specs.NormalForm.{normal_atom}
 use Rattle.simplified_formulas.specs.Trees.{EquivalentUnder}
 use Rattle.elimination_reference.specs.Theorems.{IsTidy}
@@ -29,11 +30,12 @@ pub record AreChildren (c : Context) (ks : List Atom) (x : ℕ) (f : Tree) (poin
   pub whole : (p : Point ℕ) → Of c p → AreTrue ks p → SomeOf (λ s. TrueAt c (substitution c x s f) p) points → SomeOf (λ (r : Result). TrueAt c r.tree p) rs
 
 -- Children are made point by point: no point has none; the child of a point stands before those of the others, and a point where
--- the substitution is never true has none.
+-- the substitution is never true has none; and a branch in which the name does not stand is its own child at 0.
 pub record ChildrenAreMade (c : Context) (ks : List Atom) (x : ℕ) (f : Tree) : Type 0 where
   pub no_point : AreChildren c ks x f [] []
   pub one_child : (s : Place) (g : Tree) (points : List Place) (rs : List Result) → IsTidy c f → IsPointFor c x f s → IsWorked c ks (result_at c (normal_atom c) x s f) g →
       AreChildren c ks x f points rs → AreChildren c ks x f (s ∷ points) (record { place = s; tree = g } ∷ rs)
   pub no_child : (s : Place) (points : List Place) (rs : List Result) → IsTidy c f → IsPointFor c x f s → IsNeverUnder c ks (result_at c (normal_atom c) x s f) →
       AreChildren c ks x f points rs → AreChildren c ks x f (s ∷ points) rs
+  pub unchanged : IsTidy c f → ¬ (IsFree f x) → AreChildren c ks x f (zero_place ∷ []) (record { place = zero_place; tree = f } ∷ [])
   pub joined : (before after : List Place) (rs us : List Result) → AreChildren c ks x f before rs → AreChildren c ks x f after us → AreChildren c ks x f (before ++ after) (rs ++ us)

@@ -77,7 +77,7 @@ below_positive : (c : Context) (p : Point ℕ) → Of c p → pos 0 <ℤ pos p.b
 below_positive Fields p o = omega (arith, ints)
 below_positive Integers p o = omega (arith, ints)
 
-of_allowed : (c : Context) (p : Point ℕ) → Of c p → Allowed c p.below
+pub of_allowed : (c : Context) (p : Point ℕ) → Of c p → Allowed c p.below
 of_allowed Fields p o = o
 of_allowed Integers p o = o
 
