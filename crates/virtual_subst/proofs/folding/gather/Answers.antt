@@ -26,7 +26,7 @@ pub returns-in_ok-extend_from_slice-in-Members-clause-ids : goal.returns-in_ok-e
 returns-in_ok-extend_from_slice-in-Members-clause-ids g c =
     let nodes = g.M.Formulas.nodes c.args.formulas.now in
     let below : AllByRecursion (IsId nodes) (ids_of c.top.result.now) =
-    all_map (λ (m : FormulaId). m.number < c.args.id.number) (IsId nodes) (λ m h. omega (arith, c.requires.id)) (ids_of c.top.result.now) (all_listed (λ (m : FormulaId). m.number < c.args.id.number) c.top.result.now c.top.ensures.ids) in
+    all_map (λ (m : FormulaId). m.number < c.args.id.number) (IsId nodes) (λ m h. record { below = omega (arith, h, c.requires.id.below); are = c.requires.id.are }) (ids_of c.top.result.now) (all_listed (λ (m : FormulaId). m.number < c.args.id.number) c.top.result.now c.top.ensures.ids) in
     let longer : c.extend_from_slice.new.self.items ≡ c.args.pieces.now.items ++ c.in-Members.ids.now = c.in_ok-extend_from_slice-in-Members.ensures.items in
     subst (AllByRecursion (IsId nodes)) (sym longer) (all_joined (IsId nodes) c.args.pieces.now.items c.in-Members.ids.now c.requires.pieces (subst (AllByRecursion (IsId nodes)) (sym c.in-Members.ensures.0) below))
 
