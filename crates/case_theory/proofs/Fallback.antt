@@ -41,7 +41,7 @@ use Rattle.case_theory.proofs.Steady.{IsNoDearer, steady_branches}
 
 -- ---- cases
 
--- steps that lead from a formula lead from every one that is equivalent to it, under every assumptions without their names
+-- steps that lead from a formula lead from every one that is equivalent to it, under all assumptions without their names
 pub lead_under : (c : Context) (ks : List Atom) (steps : List Step) (f m g : Tree) → Equivalent c f m → EachOf (Lack ks) (step_names steps) → Lead c steps f g → LeadUnder c ks steps m g
 lead_under c ks [] f m g e n l = λ p o t. let i = e p o in both_ways (i.1, i.0) (l p o)
 lead_under c ks (s ∷ rest) f m g e n l = (

@@ -45,7 +45,7 @@ abbrev pub StaysFree : Tree → Pending → ℕ → Type 0
 StaysFree matrix b y = IsFree matrix y × ¬ (Among (eliminated b) y)
 
 -- The steps of the branch lead from the matrix to its tree, where the atoms are true. The tree and the places have free names of
--- the matrix that are not eliminated, and a place besides those of the places before it.
+-- the matrix that are not eliminated; a place has also names that are answered before it.
 pub record IsPending (c : Context) (ks : List Atom) (matrix : Tree) (block : List ℕ) (b : Pending) : Type 0 where
   pub lead : LeadUnder c ks b.steps matrix b.tree
   pub tidy : IsTidy c b.tree
