@@ -21,8 +21,7 @@ use Rattle.session_meaning.specs.State.{State, with_names}
 use Rattle.session_commands.specs.Commands.{named, resolved}
 use Rattle.session_meaning.specs.Causes.{Use}
 use Rattle.session_commands.specs.Causes.{IsCause, HasNoCauseBelow, MayRefuse, Refuses}
-use Rattle.session_meaning.specs.Reply.{IsLine}
-use Rattle.session_meaning.specs.Reply.{Reply}
+use Rattle.session_meaning.specs.Reply.{IsLine, Reply}
 use Rattle.session_commands.specs.Reply.{AnswersCommand, AnswersSaid, Answers}
 use Rattle.session_commands.proofs.Agreement.{answers_are, refuses_are}
 use Rattle.session_commands.proofs.CauseLemmas.{readable_below}

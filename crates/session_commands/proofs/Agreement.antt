@@ -1,12 +1,11 @@
 -- The replies by the meanings of commands are those that the private contracts of this crate speak of. Each field of a meaning is held against what these say of its
 -- command; then the causes, word by word; then the order, the answers and the replies.
-use Rattle.std.proofs.Common.{◌≡◌, ◌≢◌, ◌⊎◌, inl, inr, ⊎_elim, ◌↔◌, ℕ, zero, suc, ◌<◌, ◌≤◌, ◌+◌, ◌-◌, List, [], ◌∷◌, ◌++◌, take, map, Bool, true, refl, sym, ap, ◌∙◌, subst, append_assoc, append-nil, arith}
-use Rattle.std.specs.Prelude.{Option, Some, None, Result, Ok, Err}
+use Rattle.std.proofs.Common.{◌≡◌, ◌≢◌, ◌⊎◌, inl, inr, ⊎_elim, ◌↔◌, ℕ, zero, suc, ◌<◌, ◌≤◌, ◌+◌, ◌-◌, List, [], ◌∷◌, ◌++◌, take, Bool, refl, sym, ap, ◌∙◌, subst, append_assoc, arith}
+use Rattle.std.specs.Prelude.{Some, None, Ok, Err}
 use Rattle.std.specs.List.{fold}
 use Rattle.formula_meaning.specs.Formula.{none, also}
 use Rattle.formula_meaning.specs.Some.{SomeOf, EachOf}
 use Rattle.formula_meaning.specs.Tree.{Tree}
-use Rattle.formula_meaning.specs.Measured.{Overflow, Nodes}
 use Rattle.qe_syntax.specs.declared.statement.PointEntry.{PointEntry}
 use Rattle.qe_syntax.specs.Point.{PassesLimit}
 use Rattle.qe_syntax.specs.Statements.{CommandTree, Echo, Nnf, Pnf, Dnf, Cnf, Simpl, Qe, Qea, Holds, Sample, ActionTree, Empty, Ignored, Finish, Choose, Say, Assign}
@@ -21,14 +20,14 @@ use Rattle.session_meaning.specs.Words.{order, before}
 use Rattle.session_meaning.specs.State.{State, with_names}
 use Rattle.session_meaning.specs.Points.{MeanNoPoint}
 use Rattle.session_meaning.specs.Meaning as meant
-use Rattle.session_meaning.specs.Meaning.{Meaning, meaning, numbered}
-use Rattle.session_meaning.specs.Causes.{Use, SomeFormula, HasManyNodes, IsTooLarge, HasNoRoom}
+use Rattle.session_meaning.specs.Meaning.{meaning, numbered}
+use Rattle.session_meaning.specs.Causes.{Use, SomeFormula}
 use Rattle.session_meaning.specs.Causes as cause
 use Rattle.session_meaning.specs.Reply as reply
 use Rattle.session_commands.specs.Parts.{given_of, SomePart}
-use Rattle.session_commands.specs.Commands.{formula_of, entries_of, entry_names, command_variables, named, Gives, MayGive, HasAnswerNames, GivesFormula}
-use Rattle.session_commands.specs.Causes.{AsksAtPoint, InSomePart, HasLongLine, RenamingPasses, IsCause, ReferenceStops, IsMeasureOf, HasLongCases, IsOverLimit, MayRefuse, rank, HasNoCauseBelow, Refuses, IsAccepted}
-use Rattle.session_commands.specs.Reply.{IsFormulaText, Tells, AnswersSaid, AnswersAssignment, Answers, RefusesAction, SpellsRefused, IsAnswer, Reply}
+use Rattle.session_commands.specs.Commands.{formula_of, entries_of, entry_names, command_variables, named, Gives, MayGive, HasAnswerNames}
+use Rattle.session_commands.specs.Causes.{InSomePart, HasLongLine, RenamingPasses, IsCause, IsMeasureOf, HasLongCases, MayRefuse, rank, HasNoCauseBelow, Refuses, IsAccepted}
+use Rattle.session_commands.specs.Reply.{Tells, AnswersSaid, AnswersAssignment, Answers, RefusesAction, SpellsRefused, Reply}
 use Rattle.session_commands.specs.Agreement.{RepliesAgree}
 use Rattle.session_commands.proofs.CauseLemmas.{no_point, nothing_passes}
 

@@ -20,8 +20,7 @@ use Rattle.session_meaning.specs.State.{State, with_names}
 use Rattle.session_commands.specs.Keeping.{state_of, ids_bound, IsSound, IsDesk}
 use Rattle.session_commands.specs.Steps.{KeepsDesk, GrowsDesk}
 use Rattle.session_commands.proofs.BindingLemmas.{trees_kept, ids_kept, trees_by_parts, ids_by_list}
-use Rattle.session_commands.proofs.NameLemmas.{grows_itself}
-use Rattle.session_commands.proofs.NameLemmas.{grows_then as more_names}
+use Rattle.session_commands.proofs.NameLemmas.{grows_itself, grows_then as more_names}
 use Rattle.session_commands.proofs.SoundLemmas.{more_formula}
 use Rattle.session_commands.proofs.VariableLemmas.{AllVariables}
 

@@ -3,7 +3,7 @@ use Rattle.std.proofs.Common.{◌≡◌, inl, inr, ℕ, ◌<◌, List, [], ◌�
 use Rattle.std.proofs.lemmas.List.{length-append}
 use Rattle.std.specs.List.{fold}
 use Rattle.formula_meaning.specs.Formula.{none, also}
-use Rattle.formula_meaning.specs.Point.{Of}
+use Rattle.formula_meaning.specs.Point.{Of, Point}
 use Rattle.formula_meaning.specs.Same.{same_atom}
 use Rattle.formula_meaning.specs.Tree.{Tree, TrueAt}
 use Rattle.formula_meaning.proofs.Sizes.{distinct_count_within}
@@ -18,15 +18,13 @@ use Rattle.atom_normal.specs.NormalForm.{IsNormal}
 use Rattle.formula_meaning.specs.Atom.{Says}
 use Rattle.formula_meaning.specs.Every.{Every}
 use Rattle.formula_meaning.specs.Numbers.{IsAtomInLimit}
-use Rattle.formula_meaning.specs.Point.{Point}
 use Rattle.formula_meaning.specs.Sizes.{nodes}
 use Rattle.formula_meaning.specs.Some.{EachOf}
-use Rattle.formula_tree.specs.Resolving.{bound_truth}
+use Rattle.formula_tree.specs.Resolving.{bound_truth, formula_variables, all_variables, resolve, at_names}
 use Rattle.qe_syntax.specs.Value as written
 use Rattle.redlog_printer.specs.Text.{tree_text}
-use Rattle.session_commands.specs.Steps.{IsWantedAnswer}
+use Rattle.session_commands.specs.Steps.{IsWantedAnswer, static_refusal, HasUnwantedQuantifier, IsReady, IsUnready, IsCleanedAs, AppliesToPart, given_trees, command_of, use_of, IsGiven, HasNumbers, IsReadable, ArePartsNumbered, ArePartsReadable, ArePartsUnread, IsWantedForm, IsPrenexAs, IsSimplifiedAs, PrenexFault, FormFault, MayBind, TargetFault, LineFault, state_with}
 use Rattle.formula_tree.specs.Names.{with_name}
-use Rattle.formula_tree.specs.Resolving.{formula_variables, all_variables, resolve, at_names}
 use Rattle.redlog_printer.specs.Writing.{text_limit}
 use Rattle.session_meaning.specs.declared.line.Line.{Line}
 use Rattle.session_meaning.specs.declared.line.StatementError.{StatementError}
@@ -36,7 +34,7 @@ use Rattle.session_commands.specs.declared.formulas.Wanted.TheVariants as wanted
 use Rattle.session_meaning.specs.State.{State, with_names}
 use Rattle.session_commands.specs.Parts.{given_of}
 use Rattle.session_meaning.specs.Assumptions.{atoms_alone, assumed, Hold}
-use Rattle.session_meaning.specs.FormulaAnswers.{negated_of, IsPrenexAnswer, IsSimplification, IsCondition}
+use Rattle.session_meaning.specs.FormulaAnswers.{negated_of, IsPrenexAnswer, IsSimplification, IsCondition, IsCleanAnswer}
 use Rattle.session_commands.specs.Commands.{formula_of, named, Gives, IsFormulaFor, HasAnswerNames}
 use Rattle.session_meaning.specs.Causes.{Use, HasNoRoom, IsTooLarge, HasManyNodes, formula_line}
 use Rattle.session_commands.specs.Causes.{RenamingPasses, IsCause, rank, MayRefuse, HasNoCauseBelow, Refuses}
@@ -49,8 +47,6 @@ use Rattle.formula_resolving.specs.Refusals.{rank as static_rank}
 use Rattle.formula_meaning.specs.declared.junction.Junction.{Junction}
 use Rattle.formula_meaning.specs.declared.junction.Junction.TheVariants.{Conjunction, Disjunction}
 use Rattle.clean_forms.specs.Plain.{plain_form}
-use Rattle.session_meaning.specs.FormulaAnswers.{IsCleanAnswer}
-use Rattle.session_commands.specs.Steps.{static_refusal, HasUnwantedQuantifier, IsReady, IsUnready, IsCleanedAs, AppliesToPart, given_trees, command_of, use_of, IsGiven, HasNumbers, IsReadable, ArePartsNumbered, ArePartsReadable, ArePartsUnread, IsWantedForm, IsPrenexAs, IsSimplifiedAs, PrenexFault, FormFault, MayBind, TargetFault, LineFault, state_with}
 use Rattle.session_commands.proofs.CauseLemmas.{IsPlainCommand, unread_refuses, quantified_refuses, ready_below, readable_below, below_17, below_18, below_19}
 use Rattle.prenex_forms.proofs.Finished.{finished}
 use Rattle.session_commands.proofs.NameLemmas.{kept_names}

@@ -22,6 +22,5 @@ pub mod ShortSamples
 pub mod SampleSteps
 pub mod NewNameLemmas
 pub mod PrenexLemmas
-pub mod TextLemmas
 pub mod Agreement
 pub mod Accepted

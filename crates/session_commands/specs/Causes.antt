@@ -1,6 +1,6 @@
 -- Why a command is refused, by the ranks of the causes, as the private contracts of this crate speak of it. The state is one in which the variables of the command have
 -- their numbers. That this agrees with the causes of `session_meaning` is a step of the law `replies_agree`.
-use Rattle.std.specs.Prelude.{◌≡◌, ◌⊎◌, ◌*◌, ℕ, ◌<◌, ◌≤◌, List, ◌++◌, Bool, true, Option, Some, None, length, codes}
+use Rattle.std.specs.Prelude.{◌≡◌, ◌⊎◌, ◌*◌, ℕ, ◌<◌, ◌≤◌, List, true, length}
 use Rattle.formula_meaning.specs.declared.junction.Junction.TheVariants.{Conjunction, Disjunction}
 use Rattle.formula_meaning.specs.Some.{SomeOf}
 use Rattle.formula_meaning.specs.Sizes.{nodes}
@@ -15,17 +15,14 @@ use Rattle.qe_syntax.specs.Point.{PassesLimit, IsPointOf}
 use Rattle.qe_syntax.specs.Trees.{FormulaTree}
 use Rattle.qe_syntax.specs.Statements.{CommandTree, Nnf, Pnf, Dnf, Cnf, Simpl, Qe, Qea, Holds, Sample}
 use Rattle.qe_syntax.specs.Value.{NamedPoint}
-use Rattle.formula_tree.specs.Bindings.{bound_to, most_bound}
-use Rattle.formula_tree.specs.Resolving.{BoundTrees, place, at_names}
+use Rattle.formula_tree.specs.Resolving.{place, at_names}
 use Rattle.formula_tree.specs.Causes.{IsUnbound, NamesFormulaAsTerm, IsBound, IsNonlinear, Divides, CongruenceInFields, IsBadModulus, IsTooDeep, OverflowsInReading}
 use Rattle.answer_texts.specs.Answers.{cases_text}
 use Rattle.clean_forms.specs.Plain.{plain_form, literals}
 use Rattle.prenex_forms.specs.Forms.{OverflowsInRenaming}
-use Rattle.redlog_printer.specs.Text.{tree_text}
 use Rattle.redlog_printer.specs.Writing.{text_limit}
 use Rattle.session_meaning.specs.declared.line.StatementError.{StatementError}
 use Rattle.session_meaning.specs.declared.line.StatementError.TheVariants as error
-use Rattle.session_meaning.specs.declared.TheConstants.{MOST_SUBFORMULAS}
 use Rattle.session_meaning.specs.State.{State}
 use Rattle.session_commands.specs.Parts.{given_of, SomePart}
 use Rattle.session_meaning.specs.FormulaAnswers.{negated_of}

@@ -1,35 +1,19 @@
 -- The parts of a command, and the formula that it gives, as the private contracts of this crate speak of them. What a command means is said in `session_meaning`;
 -- that the two agree is the law `replies_agree`.
-use Rattle.std.specs.Prelude.{◌≡◌, ◌↔◌, ◌≤◌, ℕ, List, [], ◌++◌, map, length}
-use Rattle.std.specs.List.{AllByRecursion, fold}
-use Rattle.formula_meaning.specs.declared.junction.Junction.{Junction}
+use Rattle.std.specs.Prelude.{◌≡◌, ℕ, List, [], ◌++◌, map, length}
+use Rattle.std.specs.List.{fold}
 use Rattle.formula_meaning.specs.declared.junction.Junction.TheVariants.{Conjunction, Disjunction}
 use Rattle.formula_meaning.specs.NegationNormal.{normal_form}
 use Rattle.formula_meaning.specs.Numbers.{IsAtomInLimit}
-use Rattle.formula_meaning.specs.Point.{Of}
-use Rattle.formula_meaning.specs.Every.{Every, EveryBound}
-use Rattle.formula_meaning.specs.Shape.{IsQuantifierFree, IsPrenex, fewest_blocks}
-use Rattle.formula_meaning.specs.Sizes.{nodes}
-use Rattle.formula_meaning.specs.Tree.{Tree, IsFree, TrueAt}
-use Rattle.atom_normal.specs.NormalForm.{negated_normal, IsNormal}
-use Rattle.prenex_theory.specs.Blocks.{block_count}
-use Rattle.prenex_theory.specs.NewNames.{AddsNewNames}
+use Rattle.formula_meaning.specs.Every.{Every}
+use Rattle.formula_meaning.specs.Tree.{Tree}
+use Rattle.atom_normal.specs.NormalForm.{negated_normal}
 use Rattle.prenex_theory.specs.Prenex.{prenex_of}
-use Rattle.prenex_theory.specs.Renaming.{new_count}
-use Rattle.prenex_forms.specs.Forms.{OverflowsInRenaming}
 use Rattle.qe_syntax.specs.declared.statement.PointEntry.{PointEntry}
-use Rattle.qe_syntax.specs.Names.{IsVariable}
-use Rattle.qe_syntax.specs.Trees.{FormulaTree, FormulaTrees}
-use Rattle.qe_syntax.specs.Value as written
+use Rattle.qe_syntax.specs.Trees.{FormulaTree}
 use Rattle.qe_syntax.specs.Statements.{CommandTree, Echo, Nnf, Pnf, Dnf, Cnf, Simpl, Qe, Qea, Holds, Sample, ActionTree, Assign}
 use Rattle.formula_tree.specs.Names.{with_name}
-use Rattle.formula_tree.specs.Resolving.{formula_variables, all_variables, resolve, at_names, bound_truth}
-use Rattle.formula_meaning.specs.Members.{HasTwoMembers}
-use Rattle.redlog_printer.specs.Text.{tree_text}
-use Rattle.clean_forms.specs.Clean.{IsCleanForm}
-use Rattle.clean_forms.specs.Plain.{plain_form}
-use Rattle.simplified_formulas.specs.Measure.{size, atom_measure}
-use Rattle.simplified_formulas.specs.Trees.{IsReduced}
+use Rattle.formula_tree.specs.Resolving.{formula_variables, all_variables, resolve}
 use Rattle.session_meaning.specs.State.{State, with_names}
 use Rattle.session_meaning.specs.FormulaAnswers.{negated_of, IsPrenexAnswer, HasNewNames, IsSimplification, IsCleanAnswer, IsCondition}
 use Rattle.session_commands.specs.Parts.{given_of}

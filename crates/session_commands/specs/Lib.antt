@@ -11,4 +11,3 @@ pub mod CaseSteps
 pub mod Asked
 pub mod Truths
 pub mod SampleSteps
-pub mod Texts

@@ -1,5 +1,5 @@
 -- What a statement is answered with in a state, and the state after it, as the private contracts of this crate speak of it.
-use Rattle.std.specs.Prelude.{◌≡◌, ◌≤◌, ℕ, List, length, Bool, true, false, Option, Some, None, Result, Ok, Err}
+use Rattle.std.specs.Prelude.{◌≡◌, ◌≤◌, ℕ, List, Bool, Option, Some, None, Result, Ok, Err}
 use Rattle.formula_meaning.specs.Tree.{Tree, tree_distinct}
 use Rattle.elimination_reference.specs.Cases.{Case}
 use Rattle.sample_reference.specs.Values.{Value}
@@ -7,7 +7,6 @@ use Rattle.answer_texts.specs.Answers.{cases_text}
 use Rattle.qe_syntax.specs.Statements.{CommandTree, Qea, Holds, Sample, ActionTree, Empty, Ignored, Finish, Choose, Say, Assign, StatementTree}
 use Rattle.redlog_reader.specs.Statement.{Spells, Unread}
 use Rattle.redlog_tokens.specs.declared.token.ReadError.TheVariants as reading
-use Rattle.redlog_printer.specs.Writing.{text_limit}
 use Rattle.session_meaning.specs.declared.TheConstants.{MOST_SUBFORMULAS}
 use Rattle.session_meaning.specs.declared.line.Line.{Line}
 use Rattle.session_meaning.specs.declared.line.Line.TheVariants as line

@@ -35,8 +35,7 @@ use Rattle.formula_tree.specs.Causes.{IsAccepted as IsResolvable}
 use Rattle.formula_resolving.specs.declared.error.StaticError.{StaticError}
 use Rattle.formula_resolving.specs.declared.error.StaticError.TheVariants as static
 use Rattle.formula_resolving.specs.Numbering.{Grows}
-use Rattle.formula_resolving.specs.Refusals.{IsFirstCause, Applies}
-use Rattle.formula_resolving.specs.Refusals.{rank as static_rank}
+use Rattle.formula_resolving.specs.Refusals.{IsFirstCause, Applies, rank as static_rank}
 use Rattle.formula_store.specs.declared.id.FormulaId.{FormulaId}
 use Rattle.formula_store.specs.Nodes.{tree, IsId}
 use Rattle.plain_engine.specs.declared.measured.Measured.{Measured}
@@ -54,7 +53,7 @@ use Rattle.session_commands.specs.declared.formulas.Wanted.TheVariants as wanted
 use Rattle.session_commands.specs.declared.formulas.Way.{Way}
 use Rattle.session_commands.specs.declared.formulas.Way.TheVariants as way
 use Rattle.session_commands.specs.declared.desk.Desk.{Desk}
-use Rattle.session_meaning.specs.State.{State, with_names}
+use Rattle.session_meaning.specs.State.{State, with_names, with_bound}
 use Rattle.session_meaning.specs.Assumptions.{assumed}
 use Rattle.session_commands.specs.Parts.{SomePart, EachPart}
 use Rattle.session_meaning.specs.FormulaAnswers.{HasNewNames}
@@ -62,7 +61,6 @@ use Rattle.session_commands.specs.Commands.{MayGive, HasAnswerNames}
 use Rattle.session_meaning.specs.Points.{IsQuantified}
 use Rattle.session_meaning.specs.Causes.{Use, formula_line, HasNoRoom, IsTooLarge}
 use Rattle.session_commands.specs.Causes.{IsAccepted}
-use Rattle.session_meaning.specs.State.{with_bound}
 use Rattle.session_meaning.specs.Reply.{IsLine}
 use Rattle.session_commands.specs.Reply.{RefusesAction}
 

@@ -1,6 +1,6 @@
 //! The forms of a resolved formula that commands give.
 
-ghost use Rattle.std.specs.Prelude.{◌≡◌, ◌⊎◌, ◌<◌, ℕ, Some, Ok, IsErrOf, IfOk, IfErr, OnOk, length, map};
+ghost use Rattle.std.specs.Prelude.{◌≡◌, ◌⊎◌, ◌<◌, Some, Ok, IsErrOf, IfOk, IfErr, OnOk, length, map};
 ghost use Rattle.std.specs.List.{AllByRecursion};
 ghost use Rattle.formula_meaning.specs.Every.{Every};
 ghost use Rattle.formula_meaning.specs.NegationNormal.{normal_form};
@@ -8,7 +8,6 @@ ghost use Rattle.formula_meaning.specs.Shape.{IsQuantifierFree};
 ghost use Rattle.formula_meaning.specs.Sizes.{nodes};
 ghost use Rattle.clean_forms.specs.Plain.{literals};
 ghost use Rattle.formula_meaning.specs.Some.{EachOf};
-ghost use Rattle.formula_meaning.specs.Tree.{tree_distinct};
 ghost use Rattle.atom_normal.specs.Atoms.{context_of, atom_of, IsWellFormed};
 ghost use Rattle.atom_normal.specs.NormalForm.{IsNormal, negated_normal};
 ghost use Rattle.simplified_formulas.specs.Orderly.{IsOrderly};

@@ -9,7 +9,6 @@ ghost use Rattle.formula_tree.specs.Makers.{IsMade};
 ghost use Rattle.formula_tree.specs.Resolving.{resolve};
 ghost use Rattle.formula_resolving.specs.Refusals.{AreIds, IsFirstCause};
 ghost use Rattle.formula_store.specs.Nodes.{tree, IsId};
-ghost use Rattle.redlog_printer.specs.Text.{tree_text};
 ghost use Rattle.formula_meaning.specs.Within.{IsTreeWithin};
 ghost use Rattle.formula_meaning.specs.Members.{HasTwoMembers};
 ghost use Rattle.redlog_printer.specs.Writing.{text_limit};
@@ -27,8 +26,8 @@ ghost use Rattle.session_commands.specs.Steps.{static_refusal as refusal_of_stat
 use crate::assumptions::{Premised, number_parts, read_parts};
 use crate::desk::Desk;
 use crate::forms::formed;
+use crate::lines::text_of;
 use session_meaning::{Line, MOST_SUBFORMULAS, StatementError};
-use crate::texts::text_of;
 use formula_resolving::{StaticError, linearise};
 use formula_store::FormulaId;
 use formula_tree::{BindError, Bindings};

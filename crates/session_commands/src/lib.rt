@@ -12,7 +12,6 @@ mod lines;
 mod points;
 mod samples;
 mod session;
-mod texts;
 
 pub use laws::{replies_agree, truth_is_never_refused};
 pub use session::{Limits, Session};

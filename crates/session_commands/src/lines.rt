@@ -1,13 +1,20 @@
-//! Lines that are printed or not.
+//! Lines that are printed or not, and the texts of formulas in them.
 
-ghost use Rattle.std.specs.Prelude.{◌≡◌, ◌≤◌, length, IfOk, IfErr};
+ghost use Rattle.std.specs.Prelude.{◌≡◌, ◌⊎◌, ◌<◌, ◌≤◌, length, IfOk, IfErr, OnOk};
+ghost use Rattle.formula_meaning.specs.Members.{HasTwoMembers};
+ghost use Rattle.formula_meaning.specs.Within.{IsTreeWithin};
+ghost use Rattle.formula_store.specs.Nodes.{tree, IsId};
+ghost use Rattle.redlog_printer.specs.Text.{tree_text};
 ghost use Rattle.redlog_printer.specs.Writing.{text_limit};
 ghost use Rattle.session_meaning.specs.Reply.{IsLine};
 ghost use Rattle.session_commands.specs.Steps.{print_refusal as refusal_of_print};
 
-use session_meaning::{Line, StatementError};
+use crate::desk::Desk;
+use formula_store::FormulaId;
 use redlog_printer::PrintError;
+use session_meaning::{Line, StatementError};
 use std::alloc::Global;
+use stored_texts::stored_text;
 
 /// The line that is this text, if it is printed.
 pub(crate) fn printed_line(
@@ -35,5 +42,20 @@ pub(crate) fn print_refusal(error: PrintError) -> StatementError
     match error {
         PrintError::Text => StatementError::Text,
         PrintError::Memory => StatementError::Memory,
+    }
+}
+
+/// The text of a formula. `Text` comes exactly where it is longer than 32 MiB, else `Memory`.
+pub(crate) fn text_of(desk: &Desk, id: FormulaId) -> Result<Vec<u8>, StatementError>
+    requires id { IsId desk.now.store id }
+    requires within { IsTreeWithin (length desk.now.names) (tree desk.now.store id) }
+    requires members { HasTwoMembers (tree desk.now.store id) }
+    ensures text { IfOk result (λ v. v.items ≡ tree_text desk.now.names (tree desk.now.store id)) }
+    ensures short { OnOk result (length (tree_text desk.now.names (tree desk.now.store id)) ≤ text_limit) }
+    ensures fault { IfErr result (λ e. ((e ≡ StatementError.Text) × (text_limit < length (tree_text desk.now.names (tree desk.now.store id)))) ⊎ (e ≡ StatementError.Memory)) }
+{
+    match stored_text(desk.alloc, &desk.store, &desk.names, id) {
+        Ok(text) => Ok(text),
+        Err(error) => Err(print_refusal(error)),
     }
 }

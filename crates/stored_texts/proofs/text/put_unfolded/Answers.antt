@@ -1,7 +1,7 @@
 use Rattle.std.proofs.Common.{ap, Err, arith}
 use Rattle.formula_store.specs.Nodes.{tree}
 use Rattle.redlog_printer.proofs.Bounds.{bounded}
-use Rattle.session_commands.proofs.texts.put_unfolded.Goals as goal
+use Rattle.stored_texts.proofs.text.put_unfolded.Goals as goal
 
 pub returns-in-Err-Large-clause-long : goal.returns-in-Err-Large-clause-long
 returns-in-Err-Large-clause-long c = λ _.

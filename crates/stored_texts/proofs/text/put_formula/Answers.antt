@@ -3,8 +3,8 @@ use Rattle.std.specs.Prelude.{IsErrOf}
 use Rattle.formula_store.specs.Nodes.{tree}
 use Rattle.redlog_printer.specs.declared.error.PrintError.TheVariants.{Text}
 use Rattle.redlog_printer.specs.Text.{tree_text}
-use Rattle.session_commands.proofs.TextLemmas.{closed_length}
-use Rattle.session_commands.proofs.texts.put_formula.Goals as goal
+use Rattle.stored_texts.proofs.TextLemmas.{closed_length}
+use Rattle.stored_texts.proofs.text.put_formula.Goals as goal
 
 pub returns-in_err-put_unfolded-clause-long : goal.returns-in_err-put_unfolded-clause-long
 returns-in_err-put_unfolded-clause-long c = λ e.

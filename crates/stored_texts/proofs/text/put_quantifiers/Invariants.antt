@@ -1,7 +1,7 @@
 use Rattle.std.proofs.Common.{◌+◌, ◌≤◌}
 use Rattle.formula_store.specs.Nodes.{tree, IsId}
-use Rattle.session_commands.specs.Texts.{IsOpened}
-use Rattle.session_commands.proofs.texts.put_quantifiers.Given as goal
+use Rattle.stored_texts.specs.Texts.{IsOpened}
+use Rattle.stored_texts.proofs.text.put_quantifiers.Given as goal
 
 abbrev pub invariant-quantifiers : goal.invariant-quantifiers
 invariant-quantifiers l = record {

@@ -1,9 +1,9 @@
 use Rattle.std.proofs.Common.{◌≡◌, ◌+◌, Err, ap, length, sym, subst, rules, arith}
 use Rattle.formula_store.specs.Nodes.{tree}
 use Rattle.redlog_printer.specs.declared.error.PrintError.TheVariants.{Text}
-use Rattle.session_commands.specs.Texts.{IsOpened}
-use Rattle.session_commands.proofs.TextLemmas.{opened_more, opening_within}
-use Rattle.session_commands.proofs.texts.put_quantifiers.Goals as goal
+use Rattle.stored_texts.specs.Texts.{IsOpened}
+use Rattle.stored_texts.proofs.TextLemmas.{opened_more, opening_within}
+use Rattle.stored_texts.proofs.text.put_quantifiers.Goals as goal
 
 pub put_opening-requires : goal.put_opening-requires
 put_opening-requires c = c.in-Some.ensures.begins.named (length c.args.names.now) c.quantifiers.invariant.opened.within

@@ -3,7 +3,7 @@ use Rattle.std.proofs.Common.{◌≡◌, ℕ, ◌+◌, ◌≤◌, List, ◌++◌
 use Rattle.std.proofs.lemmas.List.{replicate-append-replicate, length-replicate}
 use Rattle.formula_meaning.specs.Tree.{Tree}
 use Rattle.redlog_printer.specs.Text.{name_at, tree_text}
-use Rattle.session_commands.specs.Texts.{Begins, brackets, IsOpened}
+use Rattle.stored_texts.specs.Texts.{Begins, brackets, IsOpened}
 
 -- one bracket more, in front and behind
 brackets_front : (n : ℕ) → codes ")" ++ brackets n ≡ brackets (n + 1)

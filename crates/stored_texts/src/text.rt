@@ -1,20 +1,18 @@
 //! The text of a formula of the store.
 
-ghost use Rattle.std.specs.Prelude.{◌≡◌, ◌⊎◌, ◌+◌, ◌<◌, ◌≤◌, ◌++◌, IsErrOf, IfOk, IfErr, IfSome, OnOk, length, codes};
+ghost use Rattle.std.specs.Prelude.{◌≡◌, ◌+◌, ◌<◌, ◌≤◌, ◌++◌, IsErrOf, IfOk, IfSome, OnOk, length, codes};
 ghost use Rattle.formula_store.specs.Nodes.{tree, IsId};
 ghost use Rattle.formula_meaning.specs.Members.{HasTwoMembers};
 ghost use Rattle.redlog_printer.specs.Text.{name_at, tree_text};
 ghost use Rattle.formula_meaning.specs.Within.{IsTreeWithin};
 ghost use Rattle.redlog_printer.specs.Writing.{text_limit};
-ghost use Rattle.session_commands.specs.Texts.{Begins, brackets, IsOpened};
+ghost use Rattle.stored_texts.specs.Texts.{Begins, brackets, IsOpened};
 
-use crate::desk::Desk;
-use session_meaning::StatementError;
-use crate::lines::print_refusal;
 use formula_store::{FormulaId, Store, Unfold};
 use formula_tree::{Names, Shape};
 use linear_forms::VarId;
 use redlog_printer::{Output, PrintError, put_tree};
+use std::alloc::Global;
 
 /// A formula with more nodes has a text that is too long.
 const MOST_PRINTED_NODES: u64 = 8_388_608;
@@ -23,19 +21,22 @@ const MOST_PRINTED_NODES: u64 = 8_388_608;
 ///
 /// The quantifiers that the formula begins with are written in a loop, since a prenex form has as many as its statement; the
 /// recursion is as deep as what stands behind them is high.
-pub(crate) fn text_of(desk: &Desk, id: FormulaId) -> Result<Vec<u8>, StatementError>
-    requires id { IsId desk.now.store id }
-    requires within { IsTreeWithin (length desk.now.names) (tree desk.now.store id) }
-    requires members { HasTwoMembers (tree desk.now.store id) }
-    ensures text { IfOk result (λ v. v.items ≡ tree_text desk.now.names (tree desk.now.store id)) }
-    ensures short { OnOk result (length (tree_text desk.now.names (tree desk.now.store id)) ≤ text_limit) }
-    ensures fault { IfErr result (λ e. ((e ≡ StatementError.Text) × (text_limit < length (tree_text desk.now.names (tree desk.now.store id)))) ⊎ (e ≡ StatementError.Memory)) }
+pub fn stored_text(
+    alloc: Global,
+    store: &Store,
+    names: &Names,
+    id: FormulaId,
+) -> Result<Vec<u8>, PrintError>
+    requires id { IsId store.now id }
+    requires within { IsTreeWithin (length names.now) (tree store.now id) }
+    requires members { HasTwoMembers (tree store.now id) }
+    ensures text { IfOk result (λ v. v.items ≡ tree_text names.now (tree store.now id)) }
+    ensures short { OnOk result (length (tree_text names.now (tree store.now id)) ≤ text_limit) }
+    ensures long { IsErrOf result PrintError.Text → text_limit < length (tree_text names.now (tree store.now id)) }
 {
-    let mut out = Output::new(desk.alloc);
-    match put_formula(&desk.store, &desk.names, &mut out, id) {
-        Ok(()) => Ok(out.into_bytes()),
-        Err(error) => Err(print_refusal(error)),
-    }
+    let mut out = Output::new(alloc);
+    put_formula(store, names, &mut out, id)?;
+    Ok(out.into_bytes())
 }
 
 /// Writes the formula.

@@ -1,0 +1,6 @@
+//! The text of a formula of a store.
+#![tactic(auto)]
+
+mod text;
+
+pub use text::stored_text;
