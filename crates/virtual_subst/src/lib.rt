@@ -5,9 +5,11 @@ mod atoms;
 mod error;
 mod folding;
 mod nodes;
+mod sharing;
 mod substitution;
 mod table;
 
 pub use error::SubstError;
 pub use folding::fold;
+pub use sharing::substitute_all;
 pub use substitution::{substitute_listed, substitute_shared};
