@@ -1,5 +1,5 @@
 -- A formula at a point over what is made of its members, shape by shape.
-use Rattle.std.proofs.Common.{◌≡◌, ℕ, Bool, true, false, ◌&&◌, List, [], ◌∷◌, map, Some, IsSome, refl, sym, ap, ◌∙◌, subst}
+use Rattle.std.proofs.Common.{◌≡◌, Bool, true, ◌&&◌, List, [], ◌∷◌, map, IsSome, refl, sym, ap, ◌∙◌, subst}
 use Rattle.std.specs.Prelude.{unwrap_or}
 use Rattle.std.specs.HashMap.{get}
 use Rattle.std.specs.List.{AllByRecursion}
@@ -17,7 +17,7 @@ use Rattle.formula_tree.specs.Makers.{IsMade, Keeps}
 use Rattle.formula_tree.specs.Trees.{members}
 use Rattle.formula_store.specs.declared.id.FormulaId.{FormulaId}
 use Rattle.formula_store.specs.Nodes.{tree, IsId}
-use Rattle.formula_store.specs.Tables.{TableOf, same_id, Has}
+use Rattle.formula_store.specs.Tables.{TableOf, same_id}
 use Rattle.nnf_substitution.specs.Placed.{put, put_all, all_within, each_within}
 use Rattle.nnf_substitution.proofs.PutLaws.{also_within, and_true, put_joined, joined_within, normal_folded}
 use Rattle.test_points.specs.declared.points.TestPoint.{TestPoint}

@@ -1,5 +1,5 @@
 -- A formula of a store with a name at a place, made beside the store.
-use Rattle.std.specs.Prelude.{◌≡◌, ℕ, ◌≤◌, Bool, true, false, List, length, unwrap_or}
+use Rattle.std.specs.Prelude.{◌≡◌, ◌≤◌, Bool, true, false, List, length, unwrap_or}
 use Rattle.std.specs.HashMap.{get}
 use Rattle.formula_meaning.specs.Atom as meant
 use Rattle.elimination_theory.specs.BothTheories.{IsPlaceIn}
