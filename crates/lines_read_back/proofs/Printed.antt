@@ -209,7 +209,7 @@ told_formula z limit (Sample f es) names text b h = absurd b
 pub printed_is_formula : PrintedIsFormula
 printed_is_formula s limit piece c bytes next bare built spelled r =
     let a = subst (λ (u : StatementTree). Answers s limit u.printed u.action (line.Printed bytes) next) (spells_once piece r.statement (record { action = Say c; printed = true }) r.spelled spelled)
-        ((answers_are s limit r.statement.printed r.statement.action (line.Printed bytes) next).0 r.answered) in
+    ((answers_are s limit r.statement.printed r.statement.action (line.Printed bytes) next).0 r.answered) in
     let z = named s c in
     let proper : IsWritableCommand c = spelled_proper spelled in
     let names : next.names ≡ a.names = ap (λ (y : State). y.names) a.after in
