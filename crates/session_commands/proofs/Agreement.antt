@@ -317,9 +317,10 @@ module _ (P : List ℕ → Type 0) where
 
 module _ (s : State) (limit : ℕ) (u : Use) (c : CommandTree) where
   long_line : (cause.HasLongLine (meaning c) s u ⊎ (meaning c).must.text s limit) ↔ HasLongLine s u c
-  long_line =
-      (λ h. ⊎_elim (λ k. record { formula = k.formula; given = (determined_is s limit c k.formula).0 k.determined; names = k.names; named = (names_are s limit c k.names).0 k.named; long = k.long }) (λ k. absurd (never_text s limit c k)) h,
-      λ k. inl (record { formula = k.formula; determined = (determined_is s limit c k.formula).1 k.given; names = k.names; named = (names_are s limit c k.names).1 k.named; long = k.long }))
+  long_line = (
+    λ h. ⊎_elim (λ k. record { formula = k.formula; given = (determined_is s limit c k.formula).0 k.determined; names = k.names; named = (names_are s limit c k.names).0 k.named; long = k.long }) (λ k. absurd (never_text s limit c k)) h,
+    λ k. inl (record { formula = k.formula; determined = (determined_is s limit c k.formula).1 k.given; names = k.names; named = (names_are s limit c k.names).1 k.named; long = k.long }),
+  )
 
   pub cause_is : (e : StatementError) → cause.IsCause (meaning c) s limit u e ↔ IsCause s limit u c e
   cause_is error.Long = same
@@ -366,9 +367,10 @@ module _ (s : State) (limit : ℕ) (u : Use) (c : CommandTree) where
   may_is error.Nodes = then (back (only_right (never_nodes s limit c))) (may_nodes s limit c u)
   may_is error.Bindings = either (cause_is error.Bindings)
       (λ h. (h.0, (measure_is s limit c h.0).0 h.1, h.2), λ h. (h.0, (measure_is s limit c h.0).1 h.1, h.2))
-  may_is error.Text = either (cause_is error.Text)
-      (λ h. (h.0, ⊎_elim (λ k. inl (k.0, (measure_is s limit c k.0).0 k.1, k.2)) (λ k. inr ((long_cases s limit c).0 k)) h.1),
-      λ h. (h.0, ⊎_elim (λ k. inl (k.0, (measure_is s limit c k.0).1 k.1, k.2)) (λ k. inr ((long_cases s limit c).1 k)) h.1))
+  may_is error.Text = either (cause_is error.Text) (
+    λ h. (h.0, ⊎_elim (λ k. inl (k.0, (measure_is s limit c k.0).0 k.1, k.2)) (λ k. inr ((long_cases s limit c).0 k)) h.1),
+    λ h. (h.0, ⊎_elim (λ k. inl (k.0, (measure_is s limit c k.0).1 k.1, k.2)) (λ k. inr ((long_cases s limit c).1 k)) h.1),
+  )
   may_is error.Memory = exact error.Memory (λ h. h)
 
 -- ---- the order
@@ -475,20 +477,22 @@ module _ (s : State) (limit : ℕ) (u : Use) (c : CommandTree) where
   Clear d = ¬ (cause.IsCause (meaning c) s limit u d)
 
   pub below_is : (e : StatementError) → cause.HasNone (meaning c) s limit u (before e) ↔ HasNoCauseBelow s limit u c (rank e)
-  below_is e =
-      (λ h d l k. let i = rank_within d in let j = rank_within e in
-      at_place Clear order (rank e - 1) (rank d - 1) d (subst (λ ds. EachOf Clear ds) (before_is e) h) (omega arith) (stands_at d (omega arith)) ((cause_is s limit u c d).1 k),
-      λ h. let j = rank_within e in
-      subst (λ ds. EachOf Clear ds) (sym (before_is e)) (front_has Clear order 1 (rank e - 1) order_ranked (λ d l k. h d (omega arith) ((cause_is s limit u c d).0 k))))
+  below_is e = (
+    λ h d l k. let i = rank_within d in let j = rank_within e in
+        at_place Clear order (rank e - 1) (rank d - 1) d (subst (λ ds. EachOf Clear ds) (before_is e) h) (omega arith) (stands_at d (omega arith)) ((cause_is s limit u c d).1 k),
+    λ h. let j = rank_within e in
+        subst (λ ds. EachOf Clear ds) (sym (before_is e)) (front_has Clear order 1 (rank e - 1) order_ranked (λ d l k. h d (omega arith) ((cause_is s limit u c d).0 k))),
+  )
 
   pub accepted_is : cause.IsAccepted (meaning c) s limit u ↔ IsAccepted s limit u c
   accepted_is = below_is error.Memory
 
   pub first_is : (e : StatementError) → e ≢ error.Memory → cause.IsFirst (meaning c) s limit u e ↔ Refuses s limit u c e
   first_is error.Memory other = absurd (other refl)
-  first_is e other =
-      (λ h. record { applies = (may_is s limit u c e).0 h.applies; first = (below_is e).0 h.first },
-      λ h. record { applies = (may_is s limit u c e).1 h.applies; first = (below_is e).1 h.first })
+  first_is e other = (
+    λ h. record { applies = (may_is s limit u c e).0 h.applies; first = (below_is e).0 h.first },
+    λ h. record { applies = (may_is s limit u c e).1 h.applies; first = (below_is e).1 h.first },
+  )
 
 -- ---- statements
 
@@ -503,45 +507,47 @@ numbered_is s c = ap (λ xs. with_names s (fold with_name s.names xs)) (variable
 
 module _ (z : State) (limit : ℕ) (printed : Bool) (c : CommandTree) (answer : Line) (next : State) where
   said_is : reply.AnswersSaid (meaning c) z limit printed answer next ↔ AnswersSaid z limit printed c answer next
-  said_is =
-      (λ h. record {
-        names = h.names;
-        named = (names_are z limit c h.names).0 h.named;
-        answered = ((accepted_is z limit (record { target = None; printed = printed }) c).0 h.accepted, (h.text, (tells_is z limit c h.names h.text).0 h.told, h.line));
-        after = h.after;
-      },
-      λ h. record {
-        accepted = (accepted_is z limit (record { target = None; printed = printed }) c).1 h.answered.0;
-        names = h.names;
-        named = (names_are z limit c h.names).1 h.named;
-        text = h.answered.1.0;
-        told = (tells_is z limit c h.names h.answered.1.0).1 h.answered.1.1;
-        line = h.answered.1.2;
-        after = h.after;
-      })
+  said_is = (
+    λ h. record {
+      names = h.names;
+      named = (names_are z limit c h.names).0 h.named;
+      answered = ((accepted_is z limit (record { target = None; printed = printed }) c).0 h.accepted, (h.text, (tells_is z limit c h.names h.text).0 h.told, h.line));
+      after = h.after;
+    },
+    λ h. record {
+      accepted = (accepted_is z limit (record { target = None; printed = printed }) c).1 h.answered.0;
+      names = h.names;
+      named = (names_are z limit c h.names).1 h.named;
+      text = h.answered.1.0;
+      told = (tells_is z limit c h.names h.answered.1.0).1 h.answered.1.1;
+      line = h.answered.1.2;
+      after = h.after;
+    },
+  )
 
   assignment_is : (x : List ℕ) → reply.AnswersAssignment (meaning c) z limit printed x answer next ↔ AnswersAssignment z limit printed x c answer next
-  assignment_is x =
-      (λ h. record {
-        accepted = (accepted_is z limit (record { target = Some x; printed = printed }) c).0 h.accepted;
-        formula = h.formula;
-        given = (allowed_is z limit c h.formula).0 h.allowed;
-        names = h.names;
-        named = (names_are z limit c h.names).0 h.named;
-        line = h.line;
-        small = h.small;
-        binds = h.binds;
-      },
-      λ h. record {
-        accepted = (accepted_is z limit (record { target = Some x; printed = printed }) c).1 h.accepted;
-        formula = h.formula;
-        allowed = (allowed_is z limit c h.formula).1 h.given;
-        names = h.names;
-        named = (names_are z limit c h.names).1 h.named;
-        line = h.line;
-        small = h.small;
-        binds = h.binds;
-      })
+  assignment_is x = (
+    λ h. record {
+      accepted = (accepted_is z limit (record { target = Some x; printed = printed }) c).0 h.accepted;
+      formula = h.formula;
+      given = (allowed_is z limit c h.formula).0 h.allowed;
+      names = h.names;
+      named = (names_are z limit c h.names).0 h.named;
+      line = h.line;
+      small = h.small;
+      binds = h.binds;
+    },
+    λ h. record {
+      accepted = (accepted_is z limit (record { target = Some x; printed = printed }) c).1 h.accepted;
+      formula = h.formula;
+      allowed = (allowed_is z limit c h.formula).1 h.given;
+      names = h.names;
+      named = (names_are z limit c h.names).1 h.named;
+      line = h.line;
+      small = h.small;
+      binds = h.binds;
+    },
+  )
 
 module _ (s : State) (limit : ℕ) (printed : Bool) where
   pub answers_are : (a : ActionTree) (answer : Line) (next : State) → reply.Answers s limit printed a answer next ↔ Answers s limit printed a answer next
@@ -568,9 +574,10 @@ module _ (s : State) (limit : ℕ) (printed : Bool) where
 
 module _ (s : State) (limit : ℕ) (piece : List ℕ) where
   spelled_refused : (e : StatementError) → e ≢ error.Memory → reply.SpellsRefused s limit piece e ↔ SpellsRefused s limit piece e
-  spelled_refused e other =
-      (λ h. record { statement = h.statement; spelled = h.spelled; refused = (refuses_are s limit h.statement.printed h.statement.action e other).0 h.refused },
-      λ h. record { statement = h.statement; spelled = h.spelled; refused = (refuses_are s limit h.statement.printed h.statement.action e other).1 h.refused })
+  spelled_refused e other = (
+    λ h. record { statement = h.statement; spelled = h.spelled; refused = (refuses_are s limit h.statement.printed h.statement.action e other).0 h.refused },
+    λ h. record { statement = h.statement; spelled = h.spelled; refused = (refuses_are s limit h.statement.printed h.statement.action e other).1 h.refused },
+  )
 
   refusal_is : (e : StatementError) (next : State) → reply.Reply s limit piece (Err e) next ↔ Reply s limit piece (Err e) next
   refusal_is error.Memory next = same
@@ -583,9 +590,10 @@ module _ (s : State) (limit : ℕ) (piece : List ℕ) where
       (λ h. (h.0, (spelled_refused e other).0 h.1), λ h. (h.0, (spelled_refused e other).1 h.1))
 
   answer_is : (answer : Line) (next : State) → reply.Reply s limit piece (Ok answer) next ↔ Reply s limit piece (Ok answer) next
-  answer_is answer next =
-      (λ h. record { statement = h.statement; spelled = h.spelled; answered = (answers_are s limit h.statement.printed h.statement.action answer next).0 h.answered },
-      λ h. record { statement = h.statement; spelled = h.spelled; answered = (answers_are s limit h.statement.printed h.statement.action answer next).1 h.answered })
+  answer_is answer next = (
+    λ h. record { statement = h.statement; spelled = h.spelled; answered = (answers_are s limit h.statement.printed h.statement.action answer next).0 h.answered },
+    λ h. record { statement = h.statement; spelled = h.spelled; answered = (answers_are s limit h.statement.printed h.statement.action answer next).1 h.answered },
+  )
 
 pub replies_agree : RepliesAgree
 replies_agree s limit piece (Ok answer) next = answer_is s limit piece answer next

@@ -17,12 +17,12 @@ ghost use Rattle.session_commands.specs.Steps.{KeepsDesk, HasNumbers, IsFirstWit
 
 use crate::desk::Desk;
 use crate::formulas::{resolved_part, static_refusal};
-use session_meaning::StatementError;
 use atom_normal::Atom;
 use formula_resolving::{StaticError, number_formula};
 use formula_store::FormulaId;
 use formula_tree::{Bindings, Names, Shape};
 use qe_syntax::Formula;
+use session_meaning::StatementError;
 use std::alloc::AllocError;
 
 /// What is read of a command: its formula, and the atoms that its assumptions are.

@@ -36,7 +36,6 @@ ghost use Rattle.session_commands.specs.CaseSteps.{IsLeftOf, AreLeftOf, put_befo
 use crate::assumptions::{Premised, number_parts, read_parts};
 use crate::desk::Desk;
 use crate::forms::{measured_refusal, simplified};
-use session_meaning::{Line, StatementError};
 use crate::lines::print_refusal;
 use answer_texts::cases_text;
 use atom_normal::Atom;
@@ -45,6 +44,7 @@ use formula_tree::{Shape, Tree};
 use nnf_trees::Nnf;
 use plain_cases::{Leaf, PrintedCase, case_leaves};
 use qe_syntax::Formula;
+use session_meaning::{Line, StatementError};
 use shared_elimination::{share, unfolded_form};
 use std::alloc::AllocError;
 

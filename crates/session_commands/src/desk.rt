@@ -5,10 +5,10 @@ ghost use Rattle.std.specs.Map.{keys_of};
 ghost use Rattle.session_commands.specs.Keeping.{state_of, IsDesk, ids_bound};
 ghost use Rattle.session_meaning.specs.State.{first_state};
 
-use session_meaning::StatementError;
 use atom_normal::Context;
 use formula_store::{FormulaId, Store};
 use formula_tree::{Bindings, Names};
+use session_meaning::StatementError;
 use std::alloc::Global;
 
 /// So many formulas may be in the store before any is given up.

@@ -20,7 +20,6 @@ ghost use Rattle.session_commands.specs.Steps.{KeepsDesk, GrowsDesk, IsWantedFor
 use crate::assumptions::Premised;
 use crate::desk::Desk;
 use crate::formulas::{Wanted, Way};
-use session_meaning::StatementError;
 use atom_normal::Atom;
 use formula_store::FormulaId;
 use formula_tree::FormError;
@@ -28,6 +27,7 @@ use nnf_pnf::nnf;
 use normal_forms::{cnf, dnf};
 use plain_engine::Measured;
 use prenex_forms::pnf;
+use session_meaning::StatementError;
 use shared_elimination::eliminate_shared;
 use theory_simplifier::{SimplError, simplify};
 

@@ -27,13 +27,13 @@ use crate::assumptions::{Premised, number_parts, read_parts};
 use crate::desk::Desk;
 use crate::forms::formed;
 use crate::lines::text_of;
-use session_meaning::{Line, MOST_SUBFORMULAS, StatementError};
 use formula_resolving::{StaticError, linearise};
 use formula_store::FormulaId;
 use formula_tree::{BindError, Bindings};
 use free_names::is_quantified;
 use qe_syntax::{Command, Formula, Formulas, Name};
 use redlog_printer::TEXT_LIMIT;
+use session_meaning::{Line, MOST_SUBFORMULAS, StatementError};
 use std::alloc::Global;
 
 /// At most so many names are bound.

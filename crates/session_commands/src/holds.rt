@@ -28,12 +28,12 @@ ghost use Rattle.session_meaning.specs.Words.{truth_text};
 
 use crate::desk::Desk;
 use crate::forms::measured_refusal;
-use session_meaning::{Line, StatementError};
 use crate::lines::printed_line;
 use crate::points::{asked, number_command, values_of};
 use formula_store::{EvalStop, FormulaId};
 use free_names::is_quantified;
 use qe_syntax::{Formula, Point, PointEntry};
+use session_meaning::{Line, StatementError};
 use shared_elimination::truth_by_elimination;
 
 /// Answers whether the formula is true at the point. After an `Err` the names may have grown.

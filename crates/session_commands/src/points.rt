@@ -22,7 +22,6 @@ ghost use Rattle.session_commands.specs.Steps.{HasNumbers, KeepsDesk};
 
 use crate::desk::Desk;
 use crate::formulas::resolved;
-use session_meaning::StatementError;
 use atom_normal::Context;
 use formula_resolving::number_formula;
 use formula_store::FormulaId;
@@ -30,6 +29,7 @@ use formula_tree::{Bindings, Names};
 use free_names::is_valued;
 use linear_forms::Values;
 use qe_syntax::{Formula, Point, PointEntry, PointFault};
+use session_meaning::StatementError;
 use std::alloc::Global;
 
 /// Numbers the variables of the formula and of the point, in the order of the text. After an `Err` the names may have grown.

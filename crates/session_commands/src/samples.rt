@@ -31,7 +31,6 @@ ghost use Rattle.session_commands.specs.Steps.{use_of, HasNumbers, KeepsDesk, Gr
 
 use crate::desk::Desk;
 use crate::forms::measured_refusal;
-use session_meaning::{Line, StatementError};
 use crate::lines::printed_line;
 use crate::points::{asked, number_command, values_of};
 use answer_texts::point_text;
@@ -42,6 +41,7 @@ use linear_forms::{Values, VarId};
 use plain_samples::sample_at;
 use qe_syntax::{Formula, Point, PointEntry};
 use redlog_printer::PrintError;
+use session_meaning::{Line, StatementError};
 use shared_elimination::unfolded_form;
 
 /// Answers with values for the names of the leading block, or with `none`. After an `Err` the names may have grown.

@@ -15,12 +15,12 @@ use crate::cases::answer_cases;
 use crate::desk::Desk;
 use crate::formulas::{answer_formula, wanted_of};
 use crate::holds::answer_holds;
-use session_meaning::{Line, StatementError};
 use crate::lines::printed_line;
 use crate::samples::answer_sample;
 use atom_normal::Context;
 use qe_syntax::{Action, Command, Name, Setting, Statement};
 use redlog_reader::{ReadError, read_statement};
+use session_meaning::{Line, StatementError};
 use std::alloc::Global;
 use std::marker::Model;
 
