@@ -25,7 +25,7 @@ quantifiers-preserved c =
     let first = c.in-Some.first in
     let more = opened_more names c.args.out.now (tree nodes c.args.id) c.quantifiers.out (tree nodes c.quantifiers.id) c.quantifiers.count c.quantifiers.invariant.opened first.word.now first.name.number (tree nodes first.matrix) c.in-Some.ensures.begins in
     record {
-      made = let smaller = c.in-Some.ensures.smaller in let is = c.quantifiers.invariant.made in omega arith;
+      made = let smaller = c.in-Some.ensures.smaller in let is = c.quantifiers.invariant.made in record { below = omega arith; are = is.are };
       opened = subst (λ out. IsOpened names c.args.out.now (tree nodes c.args.id) out (tree nodes first.matrix) (c.quantifiers.count + 1)) (sym c.in_ok-put_opening.ensures.wrote) more;
       few = let smaller = c.in-Some.ensures.smaller in let few = c.quantifiers.invariant.few in omega arith;
     }
