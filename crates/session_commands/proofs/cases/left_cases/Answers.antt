@@ -57,6 +57,9 @@ loop-leaf-preserved c =
       kept = keeps_then c.args.desk.now c.loop-leaf.desk c.left_case.new.desk c.loop-leaf.invariant.kept c.left_case.ensures.kept;
     }
 
+pub returns-in-Err-clause-kept : goal.returns-in-Err-clause-kept
+returns-in-Err-clause-kept c = keeps_then c.args.desk.now c.loop-leaf.desk c.left_case.new.desk c.loop-leaf.invariant.kept c.left_case.ensures.kept
+
 pub returns-clause-left : goal.returns-clause-left
 returns-clause-left c =
     let theory = context_of c.args.desk.now.context in
