@@ -2,7 +2,7 @@ use Rattle.std.proofs.Common.{◌≡◌, ◌-◌, suc, ◌∷◌, drop, get_or, 
 use Rattle.prenex_theory.specs.Front.{block, quantified}
 use Rattle.formula_store.specs.Nodes.{tree}
 use Rattle.formula_tree.specs.Shapes.{tree_over}
-use Rattle.nnf_pnf.proofs.Kept.{keeps_then}
+use Rattle.formula_store.proofs.Makes.{keeps_then}
 use Rattle.prenex_forms.specs.declared.front.Place.{Place}
 use Rattle.prenex_forms.specs.Places.{level_names}
 use Rattle.prenex_forms.proofs.Gathered.{names_from, quantified_tree}

@@ -3,7 +3,7 @@ use Rattle.formula_meaning.specs.Shape.{is_in}
 use Rattle.formula_meaning.specs.Tree.{Tree, IsFree, tree_names}
 use Rattle.atom_normal.specs.Atoms.{context_of}
 use Rattle.formula_store.specs.Nodes.{tree}
-use Rattle.nnf_pnf.proofs.Kept.{keeps_then}
+use Rattle.formula_store.proofs.Makes.{keeps_then}
 use Rattle.nnf_trees.specs.Nnfs.{nnf_of}
 use Rattle.formula_meaning.specs.Within.{IsTreeWithin}
 use Rattle.prenex_theory.specs.NewNames.{AddsNewNames}

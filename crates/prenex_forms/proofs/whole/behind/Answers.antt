@@ -1,7 +1,7 @@
 use Rattle.std.proofs.Common.{◌≡◌, ◌++◌, sym, ap, ap₂, ◌∙◌}
 use Rattle.formula_store.specs.Nodes.{IsId, tree}
 use Rattle.formula_tree.specs.Makers.{IsMade}
-use Rattle.nnf_pnf.proofs.Kept.{keeps_then}
+use Rattle.formula_store.proofs.Makes.{keeps_then}
 use Rattle.nnf_trees.specs.Nnfs.{nnf_of}
 use Rattle.prenex_theory.specs.Blocks.{blocks, matrix}
 use Rattle.prenex_theory.specs.Front.{prefixed}

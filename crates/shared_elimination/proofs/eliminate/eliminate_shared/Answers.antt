@@ -11,7 +11,7 @@ use Rattle.elimination_reference.proofs.Turning.{from_normal}
 use Rattle.formula_tree.specs.Makers.{IsMade}
 use Rattle.formula_tree.specs.Trees.{tree_of}
 use Rattle.formula_store.specs.Nodes.{IsId, tree}
-use Rattle.nnf_pnf.proofs.Kept.{keeps_then}
+use Rattle.formula_store.proofs.Makes.{keeps_then}
 use Rattle.nnf_trees.specs.Nnfs.{nnf_of}
 use Rattle.plain_engine.proofs.Arms.{if_ok_also}
 use Rattle.plain_engine.proofs.Seen.{stops_along}

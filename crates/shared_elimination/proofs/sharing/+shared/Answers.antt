@@ -5,7 +5,7 @@ use Rattle.formula_meaning.specs.Sizes.{nodes, all_nodes}
 use Rattle.formula_tree.specs.Trees.{members}
 use Rattle.formula_store.specs.Nodes.{IsId, tree}
 use Rattle.formula_store.proofs.Marked.{all_joined}
-use Rattle.nnf_pnf.proofs.Kept.{keeps_then}
+use Rattle.formula_store.proofs.Makes.{keeps_then}
 use Rattle.nnf_trees.specs.declared.nnf.Nnf.{Nnf}
 use Rattle.nnf_trees.specs.Nnfs.{nnf_of, nnfs_of, AreProper}
 use Rattle.nnf_trees.proofs.Pieces.{empty}
