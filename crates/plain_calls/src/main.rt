@@ -1,6 +1,6 @@
 //! Makes the calls that no statement makes, on formulas worked by hand: a maker of plain trees, a formula unfolded under a
 //! limit, a tree printed by itself, the cases of a tree, and the sample of one without free names; and those of the lowest crates, of
-//! numbers, forms, atoms and test points; and pieces that are shared out to threads. The gate runs it and compares what it prints.
+//! numbers, forms, atoms and test points, also put into shared formulas; and pieces that are shared out to threads. The gate runs it and compares what it prints.
 #![tactic(auto)]
 
 mod calls;
@@ -9,6 +9,7 @@ mod numbers;
 mod pieces;
 mod points;
 mod reading;
+mod shared;
 mod writing;
 
 use crate::calls::{cases, ids, plain_tree, printed_atom, sample, unfolding};
@@ -19,7 +20,8 @@ use std::thread::Threads;
 fn main(rt: HostRuntime) -> io::Result<()> {
     formulas(&rt)?;
     lowest(&rt)?;
-    shared(&rt)
+    shared_formulas(&rt)?;
+    shared_out(&rt)
 }
 
 /// Calls on formulas.
@@ -74,8 +76,19 @@ fn lowest(rt: &HostRuntime) -> io::Result<()> {
     tell(rt, "an atom at one of them", points::put_in_integers(alloc))
 }
 
+/// Test points put into shared formulas.
+fn shared_formulas<R: Threads + Sync + Print + AllocGlobal>(rt: &R) -> io::Result<()> {
+    let alloc = rt.alloc();
+    let both = shared::put_at_both(alloc);
+    let at_once = shared::put_at_both_at_once(rt, alloc);
+    let large = shared::put_in_large(alloc);
+    tell(rt, "a shared formula at two points", both)?;
+    tell(rt, "the same by two threads", at_once)?;
+    tell(rt, "a large shared formula at a point", large)
+}
+
 /// Pieces that are shared out to threads.
-fn shared<R: Threads + Sync + Print + AllocGlobal>(rt: &R) -> io::Result<()> {
+fn shared_out<R: Threads + Sync + Print + AllocGlobal>(rt: &R) -> io::Result<()> {
     let alloc = rt.alloc();
     let five = pieces::told(rt, alloc, 5, 2, &[]);
     let two = pieces::told(rt, alloc, 2, 8, &[]);

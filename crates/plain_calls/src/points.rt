@@ -12,9 +12,9 @@ use linear_forms::{Linear, VarId};
 use std::alloc::{AllocError, Global};
 use test_points::{Place, Side, TestPoint, field_points, substitute_field};
 
-const A: VarId = VarId { number: 0 };
+pub(crate) const A: VarId = VarId { number: 0 };
 
-const X: VarId = VarId { number: 1 };
+pub(crate) const X: VarId = VarId { number: 1 };
 
 /// The form `times * x + other * a`.
 fn form_of(alloc: Global, times: i128, other: i128) -> Option<Linear> {
@@ -82,7 +82,7 @@ pub(crate) fn points_in_integers(alloc: Global) -> Option<String> {
 }
 
 /// The point of `x` infinitesimally above `a`.
-fn above_a(alloc: Global) -> Option<TestPoint>
+pub(crate) fn above_a(alloc: Global) -> Option<TestPoint>
     ensures well_formed { IfSome result IsTestPoint }
     ensures place { IfSome result (λ t. IsFieldPlace (place_of t)) }
 {
