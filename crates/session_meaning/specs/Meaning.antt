@@ -164,10 +164,11 @@ ReferenceStops f e s limit = reference s.context limit (resolved f s) ≡ stoppe
 abbrev pub IsReferenceAnswer : FormulaTree → State → ℕ → Tree → Type 0
 IsReferenceAnswer f s limit t = (cost : ℕ) × (reference s.context limit (resolved f s) ≡ done (t, cost))
 
--- the reference elimination of the leading block stops, or the text of its case list is too long
+-- the reference elimination of a case list stops
 abbrev pub CasesStop : FormulaTree → Stop → Fact
 CasesStop f e s limit = reference_cases s.context limit (resolved f s) ≡ stopped e
 
+-- the text of the case list that the reference elimination gives passes the limit
 abbrev pub HasLongCases : FormulaTree → Fact
 HasLongCases f s limit = (ks : List Case) × (cost : ℕ) × (reference_cases s.context limit (resolved f s) ≡ done (ks, cost)) × (text_limit < length (cases_text s.names ks))
 
