@@ -1,5 +1,5 @@
 -- Entries that get a shape with its facts stand for formulas still, after the nodes below them.
-use Rattle.std.proofs.Common.{◌≡◌, ℕ, zero, suc, ◌+◌, ◌<◌, Bool, true, List, [], ◌∷◌, ◌++◌, Some, slice_get, length, ◌⊎◌, inl, inr, ⊎_elim, ap, sym, ◌∙◌, subst, true≢false, arith, append_assoc, length-append}
+use Rattle.std.proofs.Common.{◌≡◌, ℕ, zero, suc, ◌+◌, Bool, true, List, [], ◌∷◌, ◌++◌, Some, slice_get, length, ◌⊎◌, inl, inr, ⊎_elim, ap, sym, ◌∙◌, subst, true≢false, arith, append_assoc, length-append}
 use Rattle.std.proofs.lemmas.List.{length-map, map-append}
 use Rattle.std.proofs.lemmas.Option.{slice_get_within}
 use Rattle.std.specs.Map.{keys_of}

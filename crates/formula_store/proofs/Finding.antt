@@ -1,5 +1,5 @@
 -- Where a map finds a key.
-use Rattle.std.proofs.Common.{◌≡◌, ℕ, ◌<◌, Bool, true, false, cond, List, Option, Some, None, slice_get, length, refl, ap, sym, ◌∙◌, subst, true≢false, nat_lt, arith}
+use Rattle.std.proofs.Common.{◌≡◌, ℕ, Bool, true, false, cond, List, Some, None, slice_get, length, refl, sym, ◌∙◌, subst, true≢false, nat_lt, arith}
 use Rattle.std.specs.Prelude.{position}
 use Rattle.std.specs.List.{position_or_len}
 use Rattle.std.specs.Map.{keys_of}

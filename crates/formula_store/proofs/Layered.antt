@@ -1,14 +1,12 @@
 -- What a store knows, and what is made beside it.
-use Rattle.std.proofs.Common.{◌≡◌, ◌≢◌, ℕ, ◌+◌, ◌-◌, ◌<◌, ◌≤◌, List, [], ◌++◌, Some, slice_get, length, refl, ap, sym, ◌∙◌, subst, arith, length-append}
-use Rattle.std.proofs.lemmas.List.{append-nil, length-map}
-use Rattle.std.specs.Map.{keys_of}
+use Rattle.std.proofs.Common.{◌≡◌, ◌+◌, List, [], ◌++◌, length, refl, sym, subst, arith, length-append}
+use Rattle.std.proofs.lemmas.List.{append-nil}
 use Rattle.formula_tree.specs.declared.shape.Shape.{Shape}
-use Rattle.formula_tree.specs.Shapes.{AllIds, IsProperShape}
 use Rattle.formula_store.specs.declared.id.FormulaId.{FormulaId}
 use Rattle.formula_store.specs.declared.facts.Facts.{Facts}
 use Rattle.formula_store.specs.Nodes.{tree, IsId, AreNodes}
 use Rattle.formula_store.specs.Facts.{IsFactsOf}
-use Rattle.formula_store.specs.Changes.{Change, IsChange}
+use Rattle.formula_store.specs.Changes.{IsChange}
 use Rattle.formula_store.specs.Stored.{AreStored}
 use Rattle.formula_store.proofs.Places.{place_right}
 use Rattle.formula_store.proofs.Trees.{tree_front}

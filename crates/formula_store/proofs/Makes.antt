@@ -1,6 +1,6 @@
 -- What a new node changes: nothing of the old ones.
 use Rattle.std.proofs.Common.{◌≡◌, ℕ, zero, suc, ◌<◌, List, [], ◌∷◌, ◌++◌, Some, slice_get, get_or, length, ◌⊎◌, inl, inr, ⊎_elim, refl, ap, sym, ◌∙◌, subst, arith, length-append}
-use Rattle.std.proofs.lemmas.List.{get_or_append_left, append-nil}
+use Rattle.std.proofs.lemmas.List.{append-nil}
 use Rattle.std.proofs.lemmas.Option.{slice_get_within}
 use Rattle.std.proofs.Math.Seq.{get_or-append_seam}
 use Rattle.formula_meaning.specs.Formula.{Yes}
@@ -9,7 +9,7 @@ use Rattle.formula_tree.specs.Makers.{IsMade, Keeps}
 use Rattle.formula_tree.specs.Shapes.{tree_over, AllIds, IsProperShape}
 use Rattle.formula_tree.proofs.Shapes.{all_ids_map}
 use Rattle.formula_store.specs.declared.id.FormulaId.{FormulaId}
-use Rattle.formula_store.specs.Nodes.{at, trees, tree, IsId, AreNodes, Front, Makes}
+use Rattle.formula_store.specs.Nodes.{trees, tree, IsId, AreNodes, Front, Makes}
 use Rattle.formula_store.proofs.Trees.{trees_from-push, length-trees, tree_front, node_tree}
 use Rattle.formula_store.proofs.Places.{place_left}
 use Rattle.formula_store.specs.Changes.{Grows}

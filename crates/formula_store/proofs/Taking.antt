@@ -11,7 +11,7 @@ use Rattle.formula_tree.proofs.Shapes.{over_same, all_ids_map}
 use Rattle.formula_store.specs.declared.id.FormulaId.{FormulaId}
 use Rattle.formula_store.specs.Nodes.{tree, IsId}
 use Rattle.formula_store.specs.Copies.{first_id, ported}
-use Rattle.formula_store.specs.Changes.{Change, Grows, over, tree_on}
+use Rattle.formula_store.specs.Changes.{Change, Grows, over}
 use Rattle.formula_store.proofs.Makes.{keeps_then}
 use Rattle.formula_store.proofs.Places.{place_right}
 use Rattle.formula_store.proofs.Ported.{ported_low, ported_high}
