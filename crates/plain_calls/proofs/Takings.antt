@@ -1,5 +1,5 @@
 -- A test point can be put into what is made of such formulas; what is made at many points is beside their store.
-use Rattle.std.proofs.Common.{arith, ◌≡◌, ◌⊎◌, ⊎_elim, absurd, ◌+◌, ◌<◌, ◌≤◌, List, [], ◌∷◌, map, length, get_or, sym, subst}
+use Rattle.std.proofs.Common.{arith, ◌≡◌, ⊎_elim, ◌+◌, ◌≤◌, List, [], ◌∷◌, map, length, get_or, sym, subst}
 use Rattle.std.proofs.lemmas.Option.{slice_get-get_or, slice_get_cases}
 use Rattle.std.specs.Prelude.{All}
 use Rattle.formula_meaning.specs.Context.{Fields}

@@ -98,8 +98,8 @@ pub(crate) fn put_at_both_at_once<R: Threads + Sync>(rt: &R, alloc: Global) -> O
 
 /// The texts of two formulas that were made beside the store, taken in one after the other.
 fn texts_of_both(alloc: Global, store: Store, low: Delta, high: Delta) -> Option<String>
-    requires low { low.begun ≤ length store.now }
-    requires high { high.begun ≤ length store.now }
+    requires low { low.begun ≤ length store }
+    requires high { high.begun ≤ length store }
 {
     let mut store = store;
     let low = store.absorb(low).ok()?;
