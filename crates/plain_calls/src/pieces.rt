@@ -20,10 +20,13 @@ struct Numbers<'a> {
 
 impl Worker for Numbers<'_> {
     type Out = usize;
+
     type Stop = usize;
 
     ghost pieces = { λ w. w.count };
+
     ghost answers = { λ _ piece out. out ≡ piece };
+
     ghost stops = { λ _ piece stop. stop ≡ piece };
 
     fn answer(&self, piece: usize) -> Result<usize, usize> {
@@ -111,6 +114,10 @@ pub(crate) fn at_once<R: Threads + Sync>(rt: &R, alloc: Global) -> Option<String
         Ok(_) => !gate.missed.load(Ordering::SeqCst),
         Err(_) => return None,
     };
-    let text = if met { "they meet" } else { "they miss each other" };
+    let text = if met {
+        "they meet"
+    } else {
+        "they miss each other"
+    };
     text.to_string(alloc).ok()
 }

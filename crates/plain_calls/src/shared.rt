@@ -89,8 +89,17 @@ pub(crate) fn put_at_both_at_once<R: Threads + Sync>(rt: &R, alloc: Global) -> O
     let mut store = Store::new(alloc);
     let id = between(alloc, &mut store)?;
     let points = vec![in alloc; far_below(alloc), above_a(alloc)?].ok()?;
-    let mut deltas =
-        substitute_all(rt, alloc, &store, Context::Fields, id, &points, 2, &OpenGate).ok()?;
+    let mut deltas = substitute_all(
+        rt,
+        alloc,
+        &store,
+        Context::Fields,
+        id,
+        &points,
+        2,
+        &OpenGate,
+    )
+    .ok()?;
     let high = deltas.pop()?;
     let low = deltas.pop()?;
     texts_of_both(alloc, store, low, high)
