@@ -3,12 +3,14 @@
 ghost use Rattle.std.specs.Prelude.{◌≡◌, Some, None, IfOk, IfSome, map, option_map, if◌then◌else◌};
 ghost use Rattle.std.specs.List.{AllByRecursion};
 ghost use Rattle.formula_meaning.specs.Fold.{fold_list, all_pieces, pieces_of, put_together, from_pieces};
+ghost use Rattle.atom_normal.specs.Atoms.{tree_of, IsWellFormedNormal};
 ghost use Rattle.formula_tree.specs.Makers.{IsMade, Keeps};
 ghost use Rattle.formula_tree.specs.Trees.{members};
 ghost use Rattle.formula_tree.specs.declared.shape.Shape.TheVariants as shape;
 ghost use Rattle.formula_store.specs.Nodes.{tree, IsId, Front};
-ghost use Rattle.virtual_subst.specs.Folding.{Gives};
+ghost use Rattle.virtual_subst.specs.Folding.{Gives, IsGathered};
 
+use atom_normal::Normal;
 use formula_meaning::Junction;
 use formula_store::{FormulaId, Formulas};
 use formula_tree::{Ids, Shape};
@@ -63,8 +65,7 @@ fn gather<M: Formulas>(
 ) -> Result<bool, AllocError>
     requires pieces { AllByRecursion (IsId (M.nodes formulas.now)) pieces.old.items }
     requires id { IsId (M.nodes formulas.now) id }
-    ensures pieces { IfOk result (λ goes. put_together (Some (members (map (tree (M.nodes formulas.now)) pieces.old.items))) (pieces_of junction (tree (M.nodes formulas.now) id)) ≡ (if goes then Some (members (map (tree (M.nodes formulas.now)) pieces.new.items)) else None)) }
-    ensures ids { IfOk result (λ goes. AllByRecursion (IsId (M.nodes formulas.now)) pieces.new.items) }
+    ensures { IfOk result (IsGathered (M.nodes formulas.now) junction id pieces.old.items pieces.new.items) }
 {
     match part_of(formulas.top(id), junction) {
         Part::Nothing => Ok(true),
@@ -104,6 +105,21 @@ fn part_of<'a>(shape: &'a Shape<FormulaId>, junction: Junction) -> Part<'a>
         | (Shape::Or(_), Junction::Conjunction)
         | (Shape::Impl(..) | Shape::Repl(..) | Shape::Equiv(..), _)
         | (Shape::Ex(..) | Shape::All(..), _) => Part::Itself,
+    }
+}
+
+/// The formula of a normal form.
+pub fn normal_made<M: Formulas>(formulas: &mut M, normal: Normal) -> Result<FormulaId, AllocError>
+    requires { IsWellFormedNormal normal }
+    ensures made { IfOk result (λ id. IsMade (IsId (M.nodes formulas.new)) (tree (M.nodes formulas.new)) id (tree_of normal)) }
+    ensures kept { Keeps (IsId (M.nodes formulas.old)) (tree (M.nodes formulas.old)) (IsId (M.nodes formulas.new)) (tree (M.nodes formulas.new)) }
+    ensures front { Front (M.nodes formulas.old) (M.nodes formulas.new) }
+    ensures base { M.base formulas.new ≡ M.base formulas.old }
+{
+    match normal {
+        Normal::True => formulas.add(Shape::True),
+        Normal::False => formulas.add(Shape::False),
+        Normal::One(atom) => formulas.add(Shape::One(atom)),
     }
 }
 

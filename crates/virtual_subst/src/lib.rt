@@ -8,8 +8,10 @@ mod nodes;
 mod sharing;
 mod substitution;
 mod table;
+mod taking;
 
 pub use error::SubstError;
-pub use folding::fold;
+pub use folding::{fold, normal_made};
 pub use sharing::substitute_all;
 pub use substitution::{substitute_listed, substitute_shared};
+pub use taking::put_at_all;

@@ -1,6 +1,8 @@
 //! A test point put into one formula, over what is made of its members.
 
-ghost use Rattle.std.specs.Prelude.{◌≡◌, Some, IfOk, MatchResult, map, slice_get, if◌then◌else◌};
+ghost use Rattle.std.specs.HashMap.{get};
+ghost use Rattle.std.specs.List.{AllByRecursion};
+ghost use Rattle.std.specs.Prelude.{◌≡◌, Some, IsSome, IfOk, MatchResult, map, slice_get};
 ghost use Rattle.formula_meaning.specs.Fold.{fold_list};
 ghost use Rattle.formula_meaning.specs.Shape.{IsPlain};
 ghost use Rattle.formula_meaning.specs.Tree.{InContext};
@@ -8,16 +10,18 @@ ghost use Rattle.atom_normal.specs.Atoms.{context_of, tree_of, IsWellFormedNorma
 ghost use Rattle.formula_tree.specs.declared.shape.Shape.{Shape};
 ghost use Rattle.formula_tree.specs.Makers.{IsMade, Keeps};
 ghost use Rattle.formula_tree.specs.Shapes.{AllIds};
+ghost use Rattle.formula_tree.specs.Trees.{members};
 ghost use Rattle.formula_store.specs.declared.id.FormulaId.{FormulaId};
 ghost use Rattle.formula_store.specs.Layers.{all};
 ghost use Rattle.formula_store.specs.Nodes.{tree, IsId};
+ghost use Rattle.formula_store.specs.Tables.{same_id};
 ghost use Rattle.nnf_substitution.specs.Placed.{all_within};
 ghost use Rattle.test_points.specs.Points.{place_of};
-ghost use Rattle.virtual_subst.specs.Shared.{Stops, Held, IsAtPlace, IsNodePut};
+ghost use Rattle.virtual_subst.specs.Shared.{Stops, Held, IsAtPlace, IsNodePut, made_of};
 
 use crate::atoms::At;
 use crate::error::SubstError;
-use crate::folding::fold;
+use crate::folding::{fold, normal_made};
 use crate::table::{Table, all_made};
 use atom_normal::Normal;
 use formula_meaning::Junction;
@@ -52,12 +56,12 @@ pub(crate) fn node_put(
             Err(error) => Err(error),
         },
         Shape::And(ids) => {
-            let members = all_made(alloc, table, ids.items())?;
-            Ok(fold(alloc, overlay, Junction::Conjunction, &members)?)
+            let members = ids.items();
+            Ok(members_joined(alloc, overlay, table, Junction::Conjunction, members)?)
         }
         Shape::Or(ids) => {
-            let members = all_made(alloc, table, ids.items())?;
-            Ok(fold(alloc, overlay, Junction::Disjunction, &members)?)
+            let members = ids.items();
+            Ok(members_joined(alloc, overlay, table, Junction::Disjunction, members)?)
         }
         Shape::Not(_)
         | Shape::Impl(..)
@@ -68,17 +72,20 @@ pub(crate) fn node_put(
     }
 }
 
-// The id of the formula of a normal form.
-fn normal_made(overlay: &mut Overlay<'_>, normal: Normal) -> Result<FormulaId, AllocError>
-    requires { IsWellFormedNormal normal }
-    ensures made { IfOk result (λ id. IsMade (IsId (all overlay.new)) (tree (all overlay.new)) id (tree_of normal)) }
+// What the table has for these formulas, joined and folded.
+fn members_joined(
+    alloc: Global,
+    overlay: &mut Overlay<'_>,
+    table: &Table,
+    junction: Junction,
+    ids: &[FormulaId],
+) -> Result<FormulaId, AllocError>
+    requires there { AllByRecursion (λ id. IsSome (get same_id table.now id)) ids.now }
+    requires ids { AllByRecursion (IsId (all overlay.old)) (map (made_of table.now) ids.now) }
+    ensures made { IfOk result (λ id. IsMade (IsId (all overlay.new)) (tree (all overlay.new)) id (fold_list junction (members (map (tree (all overlay.old)) (map (made_of table.now) ids.now))))) }
     ensures kept { Keeps (IsId (all overlay.old)) (tree (all overlay.old)) (IsId (all overlay.new)) (tree (all overlay.new)) }
     ensures below { overlay.new.below ≡ overlay.old.below }
 {
-    let shape = match normal {
-        Normal::True => Shape::True,
-        Normal::False => Shape::False,
-        Normal::One(atom) => Shape::One(atom),
-    };
-    overlay.make(shape).map_err(|_| AllocError)
+    let members = all_made(alloc, table, ids)?;
+    fold(alloc, overlay, junction, &members)
 }

@@ -14,72 +14,50 @@ use Rattle.virtual_subst.specs.Shared.{Held, made_of}
 use Rattle.virtual_subst.proofs.Made.{all_there, all_ids, list_put}
 use Rattle.virtual_subst.proofs.nodes.node_put.Goals as goal
 
-pub all_made-requires : goal.all_made-requires
-all_made-requires c =
-    let o = c.args.at.context in
-    let t = c.args.at.point.now in
-    let nodes = c.args.store.now in
-    let table = c.args.table.now in
-    let before = all c.args.overlay.now in
-    let held : AllByRecursion (Held o t nodes before table) c.in-And.ids = subst (AllIds (Held o t nodes before table)) c.in-And.is (c.requires.members c.shape.result.now c.shape.ensures.node) in
-    subst (AllByRecursion (λ id. IsSome (get same_id table id))) (sym c.items.ensures) (all_there o t nodes before table c.in-And.ids held)
+pub members_joined-requires-clause-there : goal.members_joined-requires-clause-there
+members_joined-requires-clause-there c =
+    let P : FormulaId → Type 0 = Held c.args.at.context c.args.at.point.now c.args.store.now (all c.args.overlay.now) c.args.table.now in
+    let held = subst (AllIds P) c.in-And.is (c.requires.members c.shape.result.now c.shape.ensures.node) in
+    subst (AllByRecursion (λ id. IsSome (get same_id c.args.table.now id))) (sym c.items-members.ensures) (all_there c.args.at.context c.args.at.point.now c.args.store.now (all c.args.overlay.now) c.args.table.now c.in-And.ids held)
 
-pub fold-requires : goal.fold-requires
-fold-requires c =
-    let o = c.args.at.context in
-    let t = c.args.at.point.now in
-    let nodes = c.args.store.now in
-    let table = c.args.table.now in
-    let before = all c.args.overlay.now in
-    let held : AllByRecursion (Held o t nodes before table) c.in-And.ids = subst (AllIds (Held o t nodes before table)) c.in-And.is (c.requires.members c.shape.result.now c.shape.ensures.node) in
-    let found : c.deref.result.now ≡ map (made_of table) c.in-And.ids = c.deref.ensures.value ∙ c.in_ok-members-in-And.ensures ∙ ap (map (made_of table)) c.items.ensures in
-    subst (AllByRecursion (IsId before)) (sym found) (all_ids o t nodes before table c.in-And.ids held)
+pub members_joined-requires-clause-ids : goal.members_joined-requires-clause-ids
+members_joined-requires-clause-ids c =
+    let P : FormulaId → Type 0 = Held c.args.at.context c.args.at.point.now c.args.store.now (all c.args.overlay.now) c.args.table.now in
+    let held = subst (AllIds P) c.in-And.is (c.requires.members c.shape.result.now c.shape.ensures.node) in
+    subst (λ (l : List FormulaId). AllByRecursion (IsId (all c.args.overlay.now)) (map (made_of c.args.table.now) l)) (sym c.items-members.ensures)
+    (all_ids c.args.at.context c.args.at.point.now c.args.store.now (all c.args.overlay.now) c.args.table.now c.in-And.ids held)
 
-pub returns-in_ok-fold-in-And-clause-put : goal.returns-in_ok-fold-in-And-clause-put
-returns-in_ok-fold-in-And-clause-put c =
-    let o = c.args.at.context in
-    let t = c.args.at.point.now in
+pub returns-in_ok-members_joined-in-And-clause-put : goal.returns-in_ok-members_joined-in-And-clause-put
+returns-in_ok-members_joined-in-And-clause-put c =
     let nodes = c.args.store.now in
-    let table = c.args.table.now in
     let before = all c.args.overlay.now in
-    let held : AllByRecursion (Held o t nodes before table) c.in-And.ids = subst (AllIds (Held o t nodes before table)) c.in-And.is (c.requires.members c.shape.result.now c.shape.ensures.node) in
-    let found : c.deref.result.now ≡ map (made_of table) c.in-And.ids = c.deref.ensures.value ∙ c.in_ok-members-in-And.ensures ∙ ap (map (made_of table)) c.items.ensures in
-    let new = all c.fold.new.formulas in
-    let id = c.in_ok-fold-in-And.field-0 in
-    list_put o t nodes before table Conjunction c.in-And.ids c.args.id id new (c.shape.ensures.tree ∙ ap (tree_over (tree nodes)) c.in-And.is) held
-    (subst (λ (l : List FormulaId). IsMade (IsId new) (tree new) id (fold_list Conjunction (members (map (tree before) l)))) found c.in_ok-fold-in-And.ensures.made)
+    let P : FormulaId → Type 0 = Held c.args.at.context c.args.at.point.now nodes before c.args.table.now in
+    let held = subst (AllIds P) c.in-And.is (c.requires.members c.shape.result.now c.shape.ensures.node) in
+    let new = all c.members_joined.new.overlay in
+    let id = c.in_ok-members_joined-in-And.field-0 in
+    list_put c.args.at.context c.args.at.point.now nodes before c.args.table.now Conjunction c.in-And.ids c.args.id id new (c.shape.ensures.tree ∙ ap (tree_over (tree nodes)) c.in-And.is) held
+    (subst (λ (l : List FormulaId). IsMade (IsId new) (tree new) id (fold_list Conjunction (members (map (tree before) (map (made_of c.args.table.now) l))))) c.items-members.ensures c.in_ok-members_joined-in-And.ensures.made)
 
-pub all_made-requires-in-Or : goal.all_made-requires-in-Or
-all_made-requires-in-Or c =
-    let o = c.args.at.context in
-    let t = c.args.at.point.now in
-    let nodes = c.args.store.now in
-    let table = c.args.table.now in
-    let before = all c.args.overlay.now in
-    let held : AllByRecursion (Held o t nodes before table) c.in-Or.ids = subst (AllIds (Held o t nodes before table)) c.in-Or.is (c.requires.members c.shape.result.now c.shape.ensures.node) in
-    subst (AllByRecursion (λ id. IsSome (get same_id table id))) (sym c.items-in-Or.ensures) (all_there o t nodes before table c.in-Or.ids held)
+pub members_joined-requires-in-Or-clause-there : goal.members_joined-requires-in-Or-clause-there
+members_joined-requires-in-Or-clause-there c =
+    let P : FormulaId → Type 0 = Held c.args.at.context c.args.at.point.now c.args.store.now (all c.args.overlay.now) c.args.table.now in
+    let held = subst (AllIds P) c.in-Or.is (c.requires.members c.shape.result.now c.shape.ensures.node) in
+    subst (AllByRecursion (λ id. IsSome (get same_id c.args.table.now id))) (sym c.items-members-in-Or.ensures) (all_there c.args.at.context c.args.at.point.now c.args.store.now (all c.args.overlay.now) c.args.table.now c.in-Or.ids held)
 
-pub fold-requires-in-Or : goal.fold-requires-in-Or
-fold-requires-in-Or c =
-    let o = c.args.at.context in
-    let t = c.args.at.point.now in
-    let nodes = c.args.store.now in
-    let table = c.args.table.now in
-    let before = all c.args.overlay.now in
-    let held : AllByRecursion (Held o t nodes before table) c.in-Or.ids = subst (AllIds (Held o t nodes before table)) c.in-Or.is (c.requires.members c.shape.result.now c.shape.ensures.node) in
-    let found : c.deref-in-Or.result.now ≡ map (made_of table) c.in-Or.ids = c.deref-in-Or.ensures.value ∙ c.in_ok-members-in-Or.ensures ∙ ap (map (made_of table)) c.items-in-Or.ensures in
-    subst (AllByRecursion (IsId before)) (sym found) (all_ids o t nodes before table c.in-Or.ids held)
+pub members_joined-requires-in-Or-clause-ids : goal.members_joined-requires-in-Or-clause-ids
+members_joined-requires-in-Or-clause-ids c =
+    let P : FormulaId → Type 0 = Held c.args.at.context c.args.at.point.now c.args.store.now (all c.args.overlay.now) c.args.table.now in
+    let held = subst (AllIds P) c.in-Or.is (c.requires.members c.shape.result.now c.shape.ensures.node) in
+    subst (λ (l : List FormulaId). AllByRecursion (IsId (all c.args.overlay.now)) (map (made_of c.args.table.now) l)) (sym c.items-members-in-Or.ensures)
+    (all_ids c.args.at.context c.args.at.point.now c.args.store.now (all c.args.overlay.now) c.args.table.now c.in-Or.ids held)
 
-pub returns-in_ok-fold-in-Or-clause-put : goal.returns-in_ok-fold-in-Or-clause-put
-returns-in_ok-fold-in-Or-clause-put c =
-    let o = c.args.at.context in
-    let t = c.args.at.point.now in
+pub returns-in_ok-members_joined-in-Or-clause-put : goal.returns-in_ok-members_joined-in-Or-clause-put
+returns-in_ok-members_joined-in-Or-clause-put c =
     let nodes = c.args.store.now in
-    let table = c.args.table.now in
     let before = all c.args.overlay.now in
-    let held : AllByRecursion (Held o t nodes before table) c.in-Or.ids = subst (AllIds (Held o t nodes before table)) c.in-Or.is (c.requires.members c.shape.result.now c.shape.ensures.node) in
-    let found : c.deref-in-Or.result.now ≡ map (made_of table) c.in-Or.ids = c.deref-in-Or.ensures.value ∙ c.in_ok-members-in-Or.ensures ∙ ap (map (made_of table)) c.items-in-Or.ensures in
-    let new = all c.fold-in-Or.new.formulas in
-    let id = c.in_ok-fold-in-Or.field-0 in
-    list_put o t nodes before table Disjunction c.in-Or.ids c.args.id id new (c.shape.ensures.tree ∙ ap (tree_over (tree nodes)) c.in-Or.is) held
-    (subst (λ (l : List FormulaId). IsMade (IsId new) (tree new) id (fold_list Disjunction (members (map (tree before) l)))) found c.in_ok-fold-in-Or.ensures.made)
+    let P : FormulaId → Type 0 = Held c.args.at.context c.args.at.point.now nodes before c.args.table.now in
+    let held = subst (AllIds P) c.in-Or.is (c.requires.members c.shape.result.now c.shape.ensures.node) in
+    let new = all c.members_joined-in-Or.new.overlay in
+    let id = c.in_ok-members_joined-in-Or.field-0 in
+    list_put c.args.at.context c.args.at.point.now nodes before c.args.table.now Disjunction c.in-Or.ids c.args.id id new (c.shape.ensures.tree ∙ ap (tree_over (tree nodes)) c.in-Or.is) held
+    (subst (λ (l : List FormulaId). IsMade (IsId new) (tree new) id (fold_list Disjunction (members (map (tree before) (map (made_of c.args.table.now) l))))) c.items-members-in-Or.ensures c.in_ok-members_joined-in-Or.ensures.made)

@@ -1,0 +1,74 @@
+//! Many test points put into one formula, and what is made taken into the store.
+
+ghost use Rattle.std.specs.Prelude.{◌≡◌, ◌≤◌, All, IfOk, IfErr, length, map, false};
+ghost use Rattle.std.specs.List.{AllByRecursion};
+ghost use Rattle.formula_meaning.specs.Shape.{IsPlain};
+ghost use Rattle.formula_meaning.specs.Some.{SomeOf};
+ghost use Rattle.formula_meaning.specs.Tree.{InContext};
+ghost use Rattle.atom_normal.specs.Atoms.{context_of};
+ghost use Rattle.formula_tree.specs.Makers.{AreMade, Keeps};
+ghost use Rattle.formula_store.specs.Changes.{tree_on};
+ghost use Rattle.formula_store.specs.Nodes.{tree, IsId};
+ghost use Rattle.nnf_substitution.specs.Placed.{put, all_within};
+ghost use Rattle.test_points.specs.Points.{place_of};
+ghost use Rattle.virtual_subst.specs.Shared.{IsAtPlace};
+
+use crate::error::SubstError;
+use crate::sharing::substitute_all;
+use atom_normal::Context;
+use formula_store::{Delta, FormulaId, Store};
+use qe_parallel::{FanError, Gate};
+use std::alloc::{AllocError, Global};
+use std::thread::Threads;
+use test_points::TestPoint;
+
+/// The formula at each of the points, in their order, as `substitute_all` makes it by at most so many threads at once, taken into
+/// the store. `Overflow` comes only where a number that is formed for an atom at some point passes 2^127 - 1, else `Memory`. The
+/// formulas of the store stay.
+pub fn put_at_all<R: Threads + Sync, G: Gate + Sync>(
+    rt: &R,
+    alloc: Global,
+    store: &mut Store,
+    context: Context,
+    branch: FormulaId,
+    points: &[TestPoint],
+    workers: usize,
+    gate: &G,
+) -> Result<Vec<FormulaId>, SubstError>
+    requires id { IsId store.old branch }
+    requires plain { IsPlain (tree store.old branch) }
+    requires in_context { InContext (context_of context) (tree store.old branch) }
+    requires places { All (IsAtPlace context) points.now }
+    requires workers { 1 ≤ workers }
+    ensures made { IfOk result (λ ids. AreMade (IsId store.new) (tree store.new) ids.items (map (λ t. put (context_of context) t.name.number (place_of t) (tree store.old branch)) points.now)) }
+    ensures overflow { IfErr result (λ e. e ≡ SubstError.Overflow → SomeOf (λ t. all_within (context_of context) t.name.number (place_of t) (tree store.old branch) ≡ false) points.now) }
+    ensures kept { Keeps (IsId store.old) (tree store.old) (IsId store.new) (tree store.new) }
+{
+    match substitute_all(
+        rt, alloc, store, context, branch, points, workers, gate,
+    ) {
+        Ok(deltas) => Ok(taken_in(alloc, store, deltas)?),
+        Err(FanError::Piece { stop, .. }) => Err(stop),
+        Err(FanError::Memory) => Err(SubstError::Memory),
+    }
+}
+
+// What was made beside the store, taken in one after the other.
+fn taken_in(
+    alloc: Global,
+    store: &mut Store,
+    deltas: Vec<Delta>,
+) -> Result<Vec<FormulaId>, AllocError>
+    requires { AllByRecursion (λ d. d.begun ≤ length store.old) deltas.items }
+    ensures made { IfOk result (λ ids. AreMade (IsId store.new) (tree store.new) ids.items (map (tree_on store.old) deltas.items)) }
+    ensures kept { Keeps (IsId store.old) (tree store.old) (IsId store.new) (tree store.new) }
+{
+    let mut ids = Vec::new(alloc);
+    for delta in deltas {
+        let Ok(id) = store.absorb(delta) else {
+            return Err(AllocError);
+        };
+        ids.push(id)?;
+    }
+    Ok(ids)
+}
