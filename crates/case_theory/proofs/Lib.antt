@@ -1,6 +1,7 @@
 pub mod Moved
 pub mod Lists
 pub mod Block
+pub mod SameAtoms
 pub mod Points
 pub mod Under
 pub mod Without

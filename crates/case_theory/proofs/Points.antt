@@ -1,5 +1,5 @@
 -- The points at which a name has to be put: those of a side, 0 for a name that stands nowhere, the root of an equation.
-use Rattle.std.proofs.Common.{◌≡◌, ℕ, suc, zero, ◌<◌, ◌/◌, [], ◌∷◌, ap, sym, ◌∙◌, subst, refl, arith, inl, inr, ⊎_elim, ◌⊎◌, ◌↔◌, nat_eq}
+use Rattle.std.proofs.Common.{◌≡◌, ℕ, suc, zero, ◌<◌, ◌/◌, List, [], ◌∷◌, ap, sym, ◌∙◌, subst, refl, arith, inl, inr, ⊎_elim, ◌⊎◌, ◌↔◌, nat_eq}
 use Rattle.std.proofs.Math.IntN.{ℤ, pos, negsuc, ◌+ℤ◌, ◌*ℤ◌, neg_ℤ}
 use Rattle.std.proofs.lemmas.Int.{ints}
 use Rattle.exact_numbers.proofs.Ring.{neg_mul, mul_comm, mul_one, mul_zero, mul_assoc, mul_left_comm}
@@ -14,7 +14,7 @@ use Rattle.formula_meaning.specs.Atom.{Atom, Compare, Equals, Mentions, Says}
 use Rattle.formula_meaning.specs.Shape.{IsPlain}
 use Rattle.formula_meaning.specs.Some.{Among}
 use Rattle.formula_meaning.specs.Answer.{Place, Exact, PlaceMentions, Holds}
-use Rattle.formula_meaning.specs.Tree.{Tree, Trees, TrueAt, IsFree}
+use Rattle.formula_meaning.specs.Tree.{Tree, Trees, TrueAt, InContext, IsFree}
 use Rattle.formula_meaning.proofs.Iff.{both_ways, turn_round}
 use Rattle.formula_meaning.proofs.EachAtom.{every_all}
 use Rattle.formula_meaning.proofs.Values.{value_move, value_scale}
@@ -38,6 +38,7 @@ use Rattle.elimination_theory.proofs.Answers.{absent_zero}
 use Rattle.case_theory.specs.Points.{IsPointFor, ArePointsFor, SidePointsSuffice, ZeroSuffices, IsConjunct, IsConjunctOfSome, root_over, IsRootOf, RootSuffices}
 use Rattle.case_theory.proofs.Moved.{moved_same}
 use Rattle.case_theory.proofs.Lists.{each_from}
+use Rattle.case_theory.proofs.SameAtoms.{each_covered, some_covered, same_test_points}
 
 -- ---- the points of a side
 
@@ -45,8 +46,8 @@ side_names : (c : Context) (side : Side) (x : ℕ) (f : Tree) (s : Place) (y : �
 side_names Fields side x f s y plain m h = field_point_names side x f s y plain m h
 side_names Integers side x f s y plain m h = integer_point_names side x f s y plain m h
 
-pub side_points : (c : Context) → SidePointsSuffice c
-side_points c side x f plain inside =
+own_points : (c : Context) (side : Side) (x : ℕ) (f : Tree) → IsPlain f → InContext c f → ArePointsFor c x f (test_points c side x (atoms_of f))
+own_points c side x f plain inside =
     let points = test_points c side x (atoms_of f) in
     record {
       each = each_from (IsPointFor c x f) points (λ s m. record { suits = point_suits c side x f s inside m; names = λ y h. side_names c side x f s y plain h m });
@@ -54,6 +55,17 @@ side_points c side x f plain inside =
           both_ways (eliminated c side x f plain inside p o)
           (turn_round (some_place c (λ s. substitution c x s f) (λ s. TrueAt c (substitution c x s f) p) p points (λ s m. (λ t. t, λ t. t))));
     }
+
+-- points with the same members
+same_points : (c : Context) (x : ℕ) (f : Tree) (points others : List Place) → ((s : Place) → Among others s ↔ Among points s) → ArePointsFor c x f points → ArePointsFor c x f others
+same_points c x f points others same a = record {
+  each = each_covered (IsPointFor c x f) others points (λ s. (same s).0) a.each;
+  exact = λ p o. both_ways (a.exact p o) (some_covered (λ s. TrueAt c (substitution c x s f) p) points others (λ s. (same s).1), some_covered (λ s. TrueAt c (substitution c x s f) p) others points (λ s. (same s).0));
+}
+
+pub side_points : (c : Context) → SidePointsSuffice c
+side_points c side x f atoms plain inside same =
+    same_points c x f (test_points c side x (atoms_of f)) (test_points c side x atoms) (same_test_points c side x f atoms inside same) (own_points c side x f plain inside)
 
 -- ---- one point
 

@@ -6,7 +6,7 @@ use Rattle.formula_meaning.specs.Formula.{Yes, No, One, Not, And, Or, Impl, Repl
 use Rattle.formula_meaning.specs.Form.{Form, coefficient, without, scale}
 use Rattle.formula_meaning.specs.Atom.{Atom, Compare, Equals}
 use Rattle.formula_meaning.specs.Shape.{IsPlain}
-use Rattle.formula_meaning.specs.Some.{SomeOf, EachOf}
+use Rattle.formula_meaning.specs.Some.{SomeOf, Among, EachOf}
 use Rattle.formula_meaning.specs.Answer.{Place, Exact, PlaceMentions}
 use Rattle.formula_meaning.specs.Tree.{Tree, Trees, TrueAt, InContext, IsFree}
 use Rattle.elimination_theory.specs.declared.side.Side.{Side}
@@ -25,9 +25,10 @@ pub record ArePointsFor (c : Context) (x : ℕ) (f : Tree) (points : List Place)
   pub each : EachOf (IsPointFor c x f) points
   pub exact : (p : Point ℕ) → Of c p → TrueAt c (Ex x f) p ↔ SomeOf (λ s. TrueAt c (substitution c x s f) p) points
 
--- The test points of a side are.
+-- The test points of a side are, in whatever order the atoms of the formula are listed.
 abbrev pub SidePointsSuffice : Context → Type 0
-SidePointsSuffice c = (side : Side) (x : ℕ) (f : Tree) → IsPlain f → InContext c f → ArePointsFor c x f (test_points c side x (atoms_of f))
+SidePointsSuffice c = (side : Side) (x : ℕ) (f : Tree) (atoms : List Atom) → IsPlain f → InContext c f → ((a : Atom) → Among atoms a ↔ Among (atoms_of f) a) →
+    ArePointsFor c x f (test_points c side x atoms)
 
 -- 0 is enough for a name that does not stand in the formula.
 abbrev pub ZeroSuffices : Context → Type 0

@@ -33,7 +33,8 @@ pub fn block_has_no_order()
     ensures { (c : Context) → BlockHasNoOrder c }
 {}
 
-/// The test points of a side are enough for a name (Loos and Weispfenning 1993, Cooper 1972).
+/// The test points of a side are enough for a name, in whatever order the atoms are listed (Loos and Weispfenning 1993, Cooper
+/// 1972).
 pub fn side_points_suffice()
     ensures { (c : Context) → SidePointsSuffice c }
 {}
