@@ -151,7 +151,7 @@ simple_folded c No h = refl
 simple_folded c (One a) h = refl
 simple_folded c _ h = absurd h
 
-guard_folded : (s : meaning.Place) → IsPlaceIn Integers s → folded (normalised (normal_atom Integers) (guard_of Integers s)) ≡ normalised (normal_atom Integers) (guard_of Integers s)
+pub guard_folded : (s : meaning.Place) → IsPlaceIn Integers s → folded (normalised (normal_atom Integers) (guard_of Integers s)) ≡ normalised (normal_atom Integers) (guard_of Integers s)
 guard_folded s p =
     simple_folded Integers (normalised (normal_atom Integers) (guard_of Integers s)) (simple_normalised Integers (normal_atom Integers) (normaliser Integers) (guard_of Integers s) (guard_simple s p))
 

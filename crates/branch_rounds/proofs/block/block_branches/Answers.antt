@@ -1,0 +1,51 @@
+use Rattle.std.proofs.Common.{◌≡◌, ℕ, suc, ◌+◌, List, [], length, drop, sym, subst, refl, arith, length-drop}
+use Rattle.formula_meaning.specs.Some.{EachOf}
+use Rattle.formula_store.specs.Nodes.{tree}
+use Rattle.formula_store.proofs.Makes.{keeps_then}
+use Rattle.branch_rounds.specs.Branches.{Seen, IsOpen, ArePendingOf, numbers}
+use Rattle.branch_rounds.proofs.EachRound.{all_some, all_ended, begun_pending, one_less}
+use Rattle.branch_rounds.proofs.block.block_branches.Goals as goal
+
+pub loop-name-init : goal.loop-name-init
+loop-name-init g c =
+    let w = c.args.work.now in
+    let nodes = c.args.store.now in
+    let is = sym c.in_ok-branches.ensures in
+    record {
+      kept = record { is = λ id h. h; same = λ id h. refl };
+      are_open = subst (λ (l : List Seen). EachOf (IsOpen w nodes) l) is (record { is = c.requires.id; tidy = c.requires.tidy; points = tt; once = c.requires.once }, tt);
+      many = subst (λ (l : List Seen). EachOf (λ (b : Seen). length b.left ≡ length c.args.block.now) l) is (refl, tt);
+      pending = subst (λ (l : List Seen). ArePendingOf w (tree nodes c.args.matrix) (numbers c.args.block.now) nodes l) is (begun_pending w nodes c.args.matrix c.args.block.now c.requires.tidy c.requires.lack c.requires.once);
+    }
+
+pub round-requires-clause-are_open : goal.round-requires-clause-are_open
+round-requires-clause-are_open g c κs within = c.loop-name.invariant.are_open
+
+pub round-requires-clause-some : goal.round-requires-clause-some
+round-requires-clause-some g c κs within =
+    let less = one_less c.args.block.now c.loop-name._name-index c.loop-name-test.true in
+    all_some (length (drop (c.loop-name._name-index + 1) c.args.block.now)) c.loop-name.branches.items
+    (subst (λ (n : ℕ). EachOf (λ (b : Seen). length b.left ≡ n) c.loop-name.branches.items) less c.loop-name.invariant.many)
+
+pub loop-name-preserved : goal.loop-name-preserved
+loop-name-preserved g c =
+    let less = one_less c.args.block.now c.loop-name._name-index c.loop-name-test.true in
+    let round = c.in_ok-branches-2.ensures.round in
+    record {
+      kept = keeps_then c.args.store.now c.loop-name.store c.round.new.store c.loop-name.invariant.kept c.in_ok-branches-2.ensures.kept;
+      are_open = round.are_open;
+      many = round.fewer (length (drop (c.loop-name._name-index + 1) c.args.block.now)) (subst (λ (n : ℕ). EachOf (λ (b : Seen). length b.left ≡ n) c.loop-name.branches.items) less c.loop-name.invariant.many);
+      pending = round.goes_on (tree c.args.store.now c.args.matrix) (numbers c.args.block.now) c.loop-name.invariant.pending;
+    }
+
+pub returns-in_err-branches-2-clause-kept : goal.returns-in_err-branches-2-clause-kept
+returns-in_err-branches-2-clause-kept g c = keeps_then c.args.store.now c.loop-name.store c.round.new.store c.loop-name.invariant.kept c.in_err-branches-2.ensures.kept
+
+pub returns-clause-branches : goal.returns-clause-branches
+returns-clause-branches g c =
+    let over : length (drop c.loop-name._name-index c.args.block.now) ≡ 0 = let a = length-drop c.loop-name._name-index c.args.block.now in omega (arith, a, c.loop-name-test.false) in
+    record {
+      are_open = c.loop-name.invariant.are_open;
+      pending = c.loop-name.invariant.pending;
+      ended = all_ended c.loop-name.branches.items (subst (λ (n : ℕ). EachOf (λ (b : Seen). length b.left ≡ n) c.loop-name.branches.items) over c.loop-name.invariant.many);
+    }

@@ -1,0 +1,15 @@
+use Rattle.std.proofs.Common.{◌≡◌, List, length, drop, map}
+use Rattle.formula_meaning.specs.Some.{EachOf}
+use Rattle.formula_tree.specs.Makers.{Keeps}
+use Rattle.formula_store.specs.Nodes.{tree, IsId}
+use Rattle.branch_rounds.specs.Branches.{Seen, IsOpen, ArePendingOf, numbers}
+use Rattle.branch_rounds.proofs.block.block_branches.Given as goal
+
+-- the branches stand for the block, each with as many names as are to come
+abbrev pub invariant-loop-name : goal.invariant-loop-name
+invariant-loop-name g l = record {
+  kept : Keeps (IsId l.fn.store) (tree l.fn.store) (IsId l.store) (tree l.store);
+  are_open : EachOf (IsOpen l.fn.work l.store) l.branches.items;
+  many : EachOf (λ (b : Seen). length b.left ≡ length (drop l._name-index l.block)) l.branches.items;
+  pending : ArePendingOf l.fn.work (tree l.fn.store l.fn.matrix) (numbers l.block) l.store l.branches.items;
+}

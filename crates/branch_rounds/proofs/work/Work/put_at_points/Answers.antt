@@ -1,0 +1,7 @@
+use Rattle.atom_normal.specs.Atoms.{context_of}
+use Rattle.elimination_reference.proofs.Tidy.{tidy_in}
+use Rattle.formula_store.specs.Nodes.{tree}
+use Rattle.branch_rounds.proofs.work.Work.put_at_points.Goals as goal
+
+pub put_at_all-requires-clause-in_context : goal.put_at_all-requires-clause-in_context
+put_at_all-requires-clause-in_context g c κs within = tidy_in (context_of c.args.self.now.context) (tree c.args.store.now c.args.branch) c.requires.tidy

@@ -1,0 +1,93 @@
+use Rattle.std.proofs.Common.{rules, ◌≡◌, ℕ, suc, ◌<◌, List, [], ◌∷◌, ◌++◌, length, sym, ap, ◌∙◌, subst}
+use Rattle.std.proofs.lemmas.List.{append-nil}
+use Rattle.std.specs.Prelude.{IsTrue}
+use Rattle.formula_meaning.specs.Some.{EachOf}
+use Rattle.formula_store.proofs.Makes.{keeps_then}
+use Rattle.formula_store.specs.Nodes.{IsId}
+use Rattle.nnf_trees.proofs.Pieces.{empty}
+use Rattle.branch_rounds.specs.Branches.{Seen, IsOpen, ArePendingOf}
+use Rattle.branch_rounds.specs.Rounds.{IsRound, IsSettled}
+use Rattle.branch_rounds.proofs.Standing.{all_open_kept}
+use Rattle.branch_rounds.proofs.Going.{one_goes, all_spread, only_true}
+use Rattle.branch_rounds.proofs.EachRound.{each_is, spread_each, all_fewer_by}
+use Rattle.branch_rounds.proofs.work.Work.round.Goals as goal
+
+pub loop-branch-preserved : goal.loop-branch-preserved
+loop-branch-preserved g c =
+    let w = c.args.self.now in
+    let old = c.loop-branch.store in
+    let new = c.step.new.store in
+    let so_far = c.loop-branch.invariant in
+    let step = c.in_ok-next.ensures in
+    let made = c.loop-branch.spread in
+    let b = c.in-Some.branch in
+    let next = c.in_ok-next.next.items in
+    let rest = c.next.new.self.rest.items in
+    let split : c.loop-branch.branch-iterator.rest.items ≡ b ∷ rest = search rules in
+    let left_open = subst (EachOf (IsOpen w old)) split so_far.left_open in
+    record {
+      can = tt;
+      finite = tt;
+      kept = keeps_then c.args.store.now old new so_far.kept step.kept;
+      made_open = spread_each (IsOpen w new) made next c.add_all.new.spread (all_open_kept old new step.kept w made so_far.made_open) step.step.are_open c.in_ok-add_all.ensures;
+      left_open = all_open_kept old new step.kept w rest left_open.1;
+      some = (subst (EachOf (λ (d : Seen). 0 < length d.left)) split so_far.some).1;
+      made_fewer = λ n h.
+          spread_each (λ (d : Seen). length d.left ≡ n) made next c.add_all.new.spread (so_far.made_fewer n h)
+          (all_fewer_by b.left n (subst (EachOf (λ (d : Seen). length d.left ≡ suc n)) split (so_far.left_many n h)).0 next step.step.fewer) c.in_ok-add_all.ensures;
+      left_many = λ n h. (subst (EachOf (λ (d : Seen). length d.left ≡ suc n)) split (so_far.left_many n h)).1;
+      pending = λ matrix block a.
+          all_spread w matrix block new made c.add_all.new.spread rest next c.in_ok-add_all.ensures
+          (one_goes w matrix block old new step.kept made rest b next so_far.made_open left_open.1 step.step (subst (λ (l : List Seen). ArePendingOf w matrix block old (made ++ l)) split (so_far.pending matrix block a)));
+    }
+
+pub returns-in_err-next-clause-kept : goal.returns-in_err-next-clause-kept
+returns-in_err-next-clause-kept g c = keeps_then c.args.store.now c.loop-branch.store c.step.new.store c.loop-branch.invariant.kept c.in_err-next.ensures.kept
+
+pub returns-in_err-add_all-clause-kept : goal.returns-in_err-add_all-clause-kept
+returns-in_err-add_all-clause-kept g c = keeps_then c.args.store.now c.loop-branch.store c.step.new.store c.loop-branch.invariant.kept c.in_ok-next.ensures.kept
+
+pub returns-then-settles-clause-kept : goal.returns-then-settles-clause-kept
+returns-then-settles-clause-kept g c = keeps_then c.args.store.now c.loop-branch.store c.step.new.store c.loop-branch.invariant.kept c.in_ok-next.ensures.kept
+
+pub settles-requires : goal.settles-requires
+settles-requires g c =
+    subst (λ (l : List Seen). EachOf (λ (b : Seen). IsId c.step.new.store b.formula) l) (sym c.deref.ensures.value) (each_is c.args.self.now c.step.new.store c.in_ok-next.next.items c.in_ok-next.ensures.step.are_open)
+
+pub returns-then-settles-clause-round : goal.returns-then-settles-clause-round
+returns-then-settles-clause-round g c =
+    let w = c.args.self.now in
+    let old = c.loop-branch.store in
+    let new = c.step.new.store in
+    let so_far = c.loop-branch.invariant in
+    let step = c.in_ok-next.ensures in
+    let made = c.loop-branch.spread in
+    let b = c.in-Some.branch in
+    let next = c.in_ok-next.next.items in
+    let rest = c.next.new.self.rest.items in
+    let split : c.loop-branch.branch-iterator.rest.items ≡ b ∷ rest = search rules in
+    let left_open = subst (EachOf (IsOpen w old)) split so_far.left_open in
+    let yes : IsTrue c.settles.result = search rules in
+    let settled : IsSettled new next = subst (IsSettled new) c.deref.ensures.value (c.settles.ensures yes) in
+    record {
+      are_open = step.step.are_open;
+      fewer = λ n h. all_fewer_by b.left n (subst (EachOf (λ (d : Seen). length d.left ≡ suc n)) split (so_far.left_many n h)).0 next step.step.fewer;
+      goes_on = λ matrix block a.
+          subst (ArePendingOf w matrix block new) (sym settled.1)
+          (only_true w matrix block new made rest settled.0 settled.2
+              (subst (λ (l : List Seen). ArePendingOf w matrix block new (made ++ (l ++ rest))) settled.1
+                  (one_goes w matrix block old new step.kept made rest b next so_far.made_open left_open.1 step.step (subst (λ (l : List Seen). ArePendingOf w matrix block old (made ++ l)) split (so_far.pending matrix block a)))));
+    }
+
+pub returns-clause-round : goal.returns-clause-round
+returns-clause-round g c =
+    let w = c.args.self.now in
+    let so_far = c.loop-branch.invariant in
+    let none_left : length c.loop-branch.branch-iterator.rest.items ≡ 0 = search rules in
+    let ended : c.loop-branch.branch-iterator.rest.items ≡ [] = empty c.loop-branch.branch-iterator.rest.items none_left in
+    let is : c.into_branches.result.items ≡ c.loop-branch.spread = c.into_branches.ensures in
+    subst (λ (l : List Seen). IsRound w c.args.store.now c.args.branches.items c.loop-branch.store l) (sym is) (record {
+      are_open = so_far.made_open;
+      fewer = so_far.made_fewer;
+      goes_on = λ matrix block a. subst (ArePendingOf w matrix block c.loop-branch.store) (ap (λ (l : List Seen). c.loop-branch.spread ++ l) ended ∙ append-nil c.loop-branch.spread) (so_far.pending matrix block a);
+    })

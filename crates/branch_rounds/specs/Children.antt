@@ -1,0 +1,49 @@
+-- The children of a branch at the points of a name.
+use Rattle.std.specs.Prelude.{◌≡◌, ◌++◌, Bool, List, All, Option, IfSome, IsSomeAnd, IsTrue, map, option_map, option_to_list}
+use Rattle.formula_meaning.specs.Formula.{Yes}
+use Rattle.formula_meaning.specs.Some.{EachOf}
+use Rattle.formula_meaning.specs.Tree.{Tree}
+use Rattle.elimination_theory.specs.BothTheories.{IsPlaceIn}
+use Rattle.elimination_theory.specs.Steps.{Result}
+use Rattle.atom_normal.specs.declared.atoms.Context.{Context}
+use Rattle.atom_normal.specs.Atoms.{context_of, atom_of}
+use Rattle.linear_forms.specs.declared.form.VarId.{VarId}
+use Rattle.formula_tree.specs.declared.shape.Shape.{Shape}
+use Rattle.formula_store.specs.declared.id.FormulaId.{FormulaId}
+use Rattle.formula_store.specs.Nodes.{tree, IsId}
+use Rattle.test_points.specs.Points.{place_of, IsPointOf}
+use Rattle.case_theory.specs.Points.{ArePointsFor}
+use Rattle.case_theory.specs.Children.{AreChildren}
+use Rattle.branch_points.specs.declared.choice.Chosen.{Chosen}
+use Rattle.branch_rounds.specs.declared.work.Work.{Work}
+use Rattle.test_points.specs.declared.points.TestPoint.{TestPoint}
+use Rattle.branch_rounds.specs.declared.children.Child.{Child}
+use Rattle.branch_rounds.specs.Worked.{IsLeft, guarded}
+
+-- the points are those of one name, at places of the theory, and enough for it in the formula
+pub record HasPoints (c : Context) (f : Tree) (ch : Chosen) : Type 0 where
+  pub points : All (IsPointOf ch.name) ch.points.items
+  pub places : All (λ t. IsPlaceIn (context_of c) (place_of t)) ch.points.items
+  pub suffice : ArePointsFor (context_of c) ch.name.number f (map place_of ch.points.items)
+
+-- a child as a result of the theory
+abbrev pub result_seen : List (Shape FormulaId) → Child → Result
+result_seen nodes k = record { place = place_of k.point; tree = tree nodes k.formula }
+
+-- its formula is one of the nodes, and its point one of the name
+pub record IsChildOf (nodes : List (Shape FormulaId)) (x : VarId) (k : Child) : Type 0 where
+  pub is : IsId nodes k.formula
+  pub point : IsPointOf x k.point
+
+-- together they are the children of the formula at the chosen points, under the assumptions
+pub record AreChildrenOf (w : Work) (f : Tree) (ch : Chosen) (nodes : List (Shape FormulaId)) (children : List Child) : Type 0 where
+  pub each : EachOf (IsChildOf nodes ch.name) children
+  pub are : AreChildren (context_of w.context) (map atom_of w.assumed.now) ch.name.number f (map place_of ch.points.items) (map (result_seen nodes) children)
+
+-- To the children comes what is left at the point of the formula that is put in there, if anything; it is true only where that is.
+pub record IsAdded (w : Work) (put : Tree) (t : TestPoint) (nodes : List (Shape FormulaId)) (old new : List Child) (is_true : Bool) : Type 0 where
+  pub added : Option Child
+  pub left : IsLeft (context_of w.context) (map atom_of w.assumed.now) (guarded (context_of w.context) (place_of t) put) nodes (option_map (λ (k : Child). k.formula) added)
+  pub point : IfSome added (λ (k : Child). k.point ≡ t)
+  pub is : new ≡ old ++ option_to_list added
+  pub settled : IsTrue is_true → IsSomeAnd added (λ (k : Child). tree nodes k.formula ≡ Yes)

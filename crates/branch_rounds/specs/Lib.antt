@@ -1,0 +1,4 @@
+pub mod Worked
+pub mod Children
+pub mod Branches
+pub mod Rounds

@@ -1,0 +1,54 @@
+-- One round over the branches of a block.
+use Rattle.std.specs.Prelude.{◌≡◌, ℕ, suc, List, [], ◌∷◌, ◌++◌, length, map}
+use Rattle.formula_meaning.specs.Formula.{Yes}
+use Rattle.formula_meaning.specs.Some.{Among, EachOf}
+use Rattle.formula_meaning.specs.Tree.{Tree}
+use Rattle.formula_meaning.specs.Answer.{Place}
+use Rattle.elimination_theory.specs.Steps.{Result}
+use Rattle.atom_normal.specs.Atoms.{context_of, atom_of}
+use Rattle.linear_forms.specs.declared.form.VarId.{VarId}
+use Rattle.formula_tree.specs.declared.shape.Shape.{Shape}
+use Rattle.formula_store.specs.declared.id.FormulaId.{FormulaId}
+use Rattle.formula_store.specs.Nodes.{tree}
+use Rattle.case_theory.specs.Pending.{Pending, IsRest, children}
+use Rattle.case_theory.specs.Points.{ArePointsFor}
+use Rattle.case_theory.specs.Children.{AreChildren}
+use Rattle.branch_rounds.specs.declared.work.Work.{Work}
+use Rattle.branch_rounds.specs.Branches.{Seen, IsOpen, AllStand, StandsFor, ArePendingOf, Takes}
+
+-- the branches have one name less
+abbrev pub HaveFewer : List VarId → List Seen → Type 0
+HaveFewer left bs = EachOf (λ (b : Seen). suc (length b.left) ≡ length left) bs
+
+-- what the branches stand for is what comes of p at the points of a name that is left in it
+pub record AreChildrenFor (w : Work) (nodes : List (Shape FormulaId)) (p : Pending) (bs : List Seen) : Type 0 where
+  pub name : ℕ
+  pub rest : List ℕ
+  pub points : List Place
+  pub results : List Result
+  pub listed : Among p.left name
+  pub is_rest : IsRest name p.left rest
+  pub suffice : ArePointsFor (context_of w.context) name p.tree points
+  pub are : AreChildren (context_of w.context) (map atom_of w.assumed.now) name p.tree points results
+  pub stand : AllStand nodes bs (children name p rest results)
+
+-- a branch of the old nodes becomes these of the new ones, each of which has one name less
+pub record IsStep (w : Work) (old : List (Shape FormulaId)) (b : Seen) (new : List (Shape FormulaId)) (bs : List Seen) : Type 0 where
+  pub are_open : EachOf (IsOpen w new) bs
+  pub fewer : HaveFewer b.left bs
+  pub goes_on : (p : Pending) → StandsFor old b p → AreChildrenFor w new p bs
+
+-- all branches become these
+pub record IsRound (w : Work) (old : List (Shape FormulaId)) (bs : List Seen) (new : List (Shape FormulaId)) (cs : List Seen) : Type 0 where
+  pub are_open : EachOf (IsOpen w new) cs
+  pub fewer : (n : ℕ) → EachOf (λ (b : Seen). length b.left ≡ suc n) bs → EachOf (λ (b : Seen). length b.left ≡ n) cs
+  pub goes_on : (matrix : Tree) (block : List ℕ) → ArePendingOf w matrix block old bs → ArePendingOf w matrix block new cs
+
+-- one branch alone, which is true
+abbrev pub IsSettled : List (Shape FormulaId) → List Seen → Type 0
+IsSettled nodes bs = (b : Seen) × (bs ≡ b ∷ []) × (tree nodes b.formula ≡ Yes)
+
+-- each of the branches is put last, or is there
+abbrev pub IsSpreadOver : List Seen → List Seen → List Seen → Type 0
+IsSpreadOver old [] new = new ≡ old
+IsSpreadOver old (b ∷ bs) new = (mid : List Seen) × Takes old b mid × IsSpreadOver mid bs new

@@ -1,0 +1,64 @@
+//! All names of a block put, one after the other.
+
+ghost use Rattle.std.specs.Prelude.{◌≡◌, ◌∷◌, [], IfOk, map};
+ghost use Rattle.formula_meaning.specs.Some.{EachOf};
+ghost use Rattle.formula_meaning.specs.Distinct.{StandsOnce};
+ghost use Rattle.elimination_reference.specs.Theorems.{IsTidy};
+ghost use Rattle.atom_normal.specs.Atoms.{context_of, atom_of};
+ghost use Rattle.case_theory.specs.Under.{Lack};
+ghost use Rattle.formula_tree.specs.Makers.{Keeps};
+ghost use Rattle.formula_store.specs.Nodes.{tree, IsId};
+ghost use Rattle.branch_rounds.specs.Worked.{IsWork};
+ghost use Rattle.branch_rounds.specs.Branches.{AreBranchesOf, numbers};
+
+use crate::branch::Branch;
+use crate::budget::Budget;
+use crate::error::RoundError;
+use crate::rounds::all_of;
+use crate::work::Work;
+use formula_store::{FormulaId, Store};
+use linear_forms::VarId;
+use qe_parallel::Gate;
+use std::alloc::{AllocError, Global};
+use std::thread::Threads;
+
+/// The branches of a block of `ex` over the matrix, with no name left (Loos and Weispfenning 1993, Cooper 1972): where the
+/// assumptions are true, the block is true exactly where some branch is, and each branch exactly where its points make the matrix
+/// true. In each round every branch loses a name: one that stands nowhere at 0, else one at the root of the first conjoined equation
+/// that has a name left, else the name and side with the fewest points.
+///
+/// What the steps cost is taken off the budget before anything is put in; `Nodes` comes where it does not suffice, `Overflow` only
+/// where a number passes 2^127 - 1, else `Memory`. The formulas of the store stay.
+pub fn block_branches<R: Threads + Sync, G: Gate + Sync>(
+    rt: &R,
+    work: &Work<'_>,
+    budget: &mut Budget,
+    store: &mut Store,
+    matrix: FormulaId,
+    block: &[VarId],
+    gate: &G,
+) -> Result<Vec<Branch>, RoundError>
+    requires work { IsWork work.now }
+    requires id { IsId store.old matrix }
+    requires tidy { IsTidy (context_of work.now.context) (tree store.old matrix) }
+    requires lack { EachOf (Lack (map atom_of work.now.assumed.now)) (numbers block.now) }
+    requires once { StandsOnce (numbers block.now) }
+    ensures branches { IfOk result (λ v. AreBranchesOf work.now (tree store.old matrix) (numbers block.now) store.new v.items) }
+    ensures kept { Keeps (IsId store.old) (tree store.old) (IsId store.new) (tree store.new) }
+{
+    let mut branches = begun(work.alloc, matrix, block)?;
+    for _name in block {
+        branches = work.round(rt, budget, store, branches, gate)?;
+    }
+    Ok(branches)
+}
+
+// The matrix as the only branch, with every name of the block left.
+fn begun(alloc: Global, matrix: FormulaId, block: &[VarId]) -> Result<Vec<Branch>, AllocError>
+    ensures { IfOk result (λ v. v.items ≡ record { formula = matrix; points = []; left = block.now } ∷ []) }
+{
+    let left = all_of(alloc, block)?;
+    let mut branches = Vec::new(alloc);
+    branches.push(Branch::of(matrix, Vec::new(alloc), left))?;
+    Ok(branches)
+}

@@ -1,0 +1,19 @@
+//! A block of quantifiers, branch by branch: in each round every branch loses one name, and what is left is simplified under the
+//! assumptions.
+#![tactic(auto)]
+
+mod block;
+mod branch;
+mod budget;
+mod children;
+mod error;
+mod rounds;
+mod spread;
+mod work;
+mod worked;
+
+pub use block::block_branches;
+pub use branch::Branch;
+pub use budget::Budget;
+pub use error::RoundError;
+pub use work::Work;

@@ -1,0 +1,164 @@
+//! One name less in every branch.
+
+ghost use Rattle.std.specs.Prelude.{◌≡◌, ◌<◌, ◌++◌, [], ◌∷◌, IfOk, OnOk, IsTrue, ◌↔◌, length, map};
+ghost use Rattle.formula_meaning.specs.Some.{EachOf};
+ghost use Rattle.formula_tree.specs.Makers.{Keeps};
+ghost use Rattle.formula_store.specs.Nodes.{tree, IsId};
+ghost use Rattle.branch_rounds.specs.Worked.{IsWork};
+ghost use Rattle.branch_rounds.specs.Branches.{branch_at, IsOpen, others_of};
+ghost use Rattle.branch_rounds.specs.Rounds.{IsStep, IsRound, IsSettled, IsSpreadOver};
+
+use crate::branch::Branch;
+use crate::budget::Budget;
+use crate::children::{Child, is_true};
+use crate::error::{RoundError, of_choice};
+use crate::spread::Spread;
+use crate::work::Work;
+use branch_points::chosen;
+use formula_store::Store;
+use linear_forms::VarId;
+use qe_parallel::Gate;
+use std::alloc::{AllocError, Global};
+use std::thread::Threads;
+use test_points::TestPoint;
+
+impl Work<'_> {
+    /// The branches without one name of each: for each branch those at the points of a name that is left in it. Branches with one
+    /// formula and the same names left are one; where one is `true`, it alone.
+    pub(crate) fn round<R: Threads + Sync, G: Gate + Sync>(
+        &self,
+        rt: &R,
+        budget: &mut Budget,
+        store: &mut Store,
+        branches: Vec<Branch>,
+        gate: &G,
+    ) -> Result<Vec<Branch>, RoundError>
+        requires work { IsWork self.now }
+        requires are_open { EachOf (IsOpen self.now store.old) branches.items }
+        requires some { EachOf (λ b. 0 < length b.left) branches.items }
+        ensures round { IfOk result (λ v. IsRound self.now store.old branches.items store.new v.items) }
+        ensures kept { Keeps (IsId store.old) (tree store.old) (IsId store.new) (tree store.new) }
+    {
+        let mut spread = Spread::new(self.alloc);
+        for branch in branches {
+            let next = self.step(rt, budget, store, branch, gate)?;
+            if settles(store, &next) {
+                return Ok(next);
+            }
+            add_all(&mut spread, next)?;
+        }
+        Ok(spread.into_branches())
+    }
+
+    // The branches at the points of a name that is left in the branch.
+    fn step<R: Threads + Sync, G: Gate + Sync>(
+        &self,
+        rt: &R,
+        budget: &mut Budget,
+        store: &mut Store,
+        branch: Branch,
+        gate: &G,
+    ) -> Result<Vec<Branch>, RoundError>
+        requires work { IsWork self.now }
+        requires are_open { IsOpen self.now store.old branch }
+        requires some { 0 < length branch.left }
+        ensures step { IfOk result (λ v. IsStep self.now store.old branch store.new v.items) }
+        ensures kept { Keeps (IsId store.old) (tree store.old) (IsId store.new) (tree store.new) }
+    {
+        let formula = branch.formula();
+        let nodes = store.facts(formula).nodes;
+        let most = budget.most(nodes);
+        let choice = match chosen(
+            self.alloc,
+            store,
+            self.context,
+            formula,
+            branch.left(),
+            most,
+        ) {
+            Ok(choice) => choice,
+            Err(error) => return Err(of_choice(error)),
+        };
+        budget.pay(choice.points.len(), nodes)?;
+        let left = others(self.alloc, branch.left(), choice.name)?;
+        let children = self.children(rt, store, formula, &choice, gate)?;
+        Ok(branches_at(self.alloc, branch.points(), children, &left)?)
+    }
+}
+
+// Whether the branches are one that is `true`, whose other names do not matter.
+fn settles(store: &Store, branches: &[Branch]) -> bool
+    requires { EachOf (λ b. IsId store.now b.formula) branches.now }
+    ensures { IsTrue result → IsSettled store.now branches.now }
+{
+    match branches {
+        [only] => is_true(store, only.formula()),
+        _ => false,
+    }
+}
+
+// Puts the branches last, as `Spread::add` does.
+fn add_all(spread: &mut Spread, branches: Vec<Branch>) -> Result<(), AllocError>
+    ensures { OnOk result (IsSpreadOver spread.old branches.items spread.new) }
+{
+    for branch in branches {
+        spread.add(branch)?;
+    }
+    Ok(())
+}
+
+// The names but for one.
+fn others(alloc: Global, names: &[VarId], name: VarId) -> Result<Vec<VarId>, AllocError>
+    ensures { IfOk result (λ v. v.items ≡ others_of name names.now) }
+{
+    let mut others = Vec::new(alloc);
+    for other in names {
+        if other.number != name.number {
+            others.push(*other)?;
+        }
+    }
+    Ok(others)
+}
+
+// A branch for each child, with its point behind these.
+fn branches_at(
+    alloc: Global,
+    points: &[TestPoint],
+    children: Vec<Child>,
+    left: &[VarId],
+) -> Result<Vec<Branch>, AllocError>
+    ensures { IfOk result (λ v. v.items ≡ map (branch_at points.now left.now) children.items) }
+{
+    let mut branches = Vec::new(alloc);
+    for child in children {
+        let points = with_last(alloc, points, child.point)?;
+        let left = all_of(alloc, left)?;
+        branches.push(Branch::of(child.formula, points, left))?;
+    }
+    Ok(branches)
+}
+
+// Copies of the points, and one more behind them.
+fn with_last(
+    alloc: Global,
+    points: &[TestPoint],
+    last: TestPoint,
+) -> Result<Vec<TestPoint>, AllocError>
+    ensures { IfOk result (λ v. v.items ≡ points.now ++ last ∷ []) }
+{
+    let mut copies = Vec::new(alloc);
+    for point in points {
+        copies.push(point.copy(alloc)?)?;
+    }
+    copies.push(last)?;
+    Ok(copies)
+}
+
+// A copy of the names.
+pub(crate) fn all_of(alloc: Global, names: &[VarId]) -> Result<Vec<VarId>, AllocError>
+    ensures { IfOk result (λ v. v.items ≡ names.now) }
+{
+    let mut copies = Vec::new(alloc);
+    copies.extend_from_slice(names)?;
+    Ok(copies)
+}

@@ -1,0 +1,93 @@
+//! What is left of a branch at one point, simplified under the assumptions.
+
+ghost use Rattle.std.specs.Prelude.{◌≡◌, IfOk, IfErr, MatchOption, map};
+ghost use Rattle.formula_meaning.specs.Formula.{No};
+ghost use Rattle.elimination_theory.specs.BothTheories.{IsPlaceIn};
+ghost use Rattle.elimination_reference.specs.Theorems.{IsTidy};
+ghost use Rattle.atom_normal.specs.Atoms.{context_of, atom_of};
+ghost use Rattle.formula_tree.specs.Makers.{IsMade, Keeps};
+ghost use Rattle.formula_store.specs.Nodes.{tree, IsId};
+ghost use Rattle.test_points.specs.Points.{place_of, IsTestPoint};
+ghost use Rattle.branch_rounds.specs.Worked.{guarded, IsWork, IsLeft};
+
+use crate::error::RoundError;
+use crate::work::Work;
+use atom_normal::Context;
+use cooper_periods::guard;
+use formula_meaning::Junction;
+use formula_store::{FormulaId, Store};
+use formula_tree::Shape;
+use std::alloc::{AllocError, Global};
+use test_points::TestPoint;
+use theory_simplifier::{SimplError, simplify};
+use virtual_subst::{fold, normal_made};
+
+impl Work<'_> {
+    /// The formula into which a point was put, over the integers joined with the point's guard (Cooper 1972), and simplified under
+    /// the assumptions; `None` where nothing is left but `false`. Its only error is `Memory`. The formulas of the store stay.
+    pub(crate) fn left_at(
+        &self,
+        store: &mut Store,
+        put: FormulaId,
+        point: &TestPoint,
+    ) -> Result<Option<FormulaId>, RoundError>
+        requires work { IsWork self.now }
+        requires id { IsId store.old put }
+        requires point { IsTestPoint point.now }
+        requires place { IsPlaceIn (context_of self.now.context) (place_of point.now) }
+        requires tidy { IsTidy (context_of self.now.context) (guarded (context_of self.now.context) (place_of point.now) (tree store.old put)) }
+        ensures left { IfOk result (IsLeft (context_of self.now.context) (map atom_of self.now.assumed.now) (guarded (context_of self.now.context) (place_of point.now) (tree store.old put)) store.new) }
+        ensures word { IfErr result (λ e. ¬ (e ≡ RoundError.Overflow)) }
+        ensures kept { Keeps (IsId store.old) (tree store.old) (IsId store.new) (tree store.new) }
+    {
+        let whole = self.with_guard(store, put, point)?;
+        match simplify(
+            self.alloc,
+            store,
+            self.context,
+            whole,
+            self.assumed,
+            u64::MAX,
+        ) {
+            Ok(id) => Ok(unless_false(store, id)),
+            Err(SimplError::Nodes) => Err(RoundError::Nodes),
+            Err(SimplError::Memory) => Err(RoundError::Memory),
+        }
+    }
+
+    // Over the integers the formula joined with the guard of the point, over the fields itself.
+    fn with_guard(
+        &self,
+        store: &mut Store,
+        put: FormulaId,
+        point: &TestPoint,
+    ) -> Result<FormulaId, AllocError>
+        requires id { IsId store.old put }
+        requires point { IsTestPoint point.now }
+        requires place { IsPlaceIn (context_of self.now.context) (place_of point.now) }
+        ensures made { IfOk result (λ id. IsMade (IsId store.new) (tree store.new) id (guarded (context_of self.now.context) (place_of point.now) (tree store.old put))) }
+        ensures kept { Keeps (IsId store.old) (tree store.old) (IsId store.new) (tree store.new) }
+    {
+        match self.context {
+            Context::Fields => Ok(put),
+            Context::Integers => {
+                let Ok(normal) = guard(self.alloc, point) else {
+                    return Err(AllocError);
+                };
+                let condition = normal_made(store, normal)?;
+                fold(self.alloc, store, Junction::Conjunction, &[condition, put])
+            }
+        }
+    }
+}
+
+// The formula, unless it is `false`.
+fn unless_false(store: &Store, id: FormulaId) -> Option<FormulaId>
+    requires { IsId store.now id }
+    ensures { MatchOption result (tree store.now id ≡ No) (λ left. left ≡ id) }
+{
+    match store.shape(id) {
+        Shape::False => None,
+        _ => Some(id),
+    }
+}
