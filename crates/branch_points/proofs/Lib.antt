@@ -1,0 +1,5 @@
+pub mod ListedAtoms
+pub mod Names
+pub mod FirstEquations
+pub mod Choices
+pub mod RootsAmong
