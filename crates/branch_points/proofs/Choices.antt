@@ -11,6 +11,7 @@ use Rattle.formula_meaning.specs.Tree.{Tree, Trees, IsFree}
 use Rattle.elimination_theory.specs.Answers.{zero_place}
 use Rattle.elimination_theory.specs.BothTheories.{IsPlaceIn}
 use Rattle.elimination_theory.proofs.BothSubstitutions.{place_in}
+use Rattle.elimination_theory.proofs.SomeListed.{each_among}
 use Rattle.elimination_reference.specs.Reference.{stands_among}
 use Rattle.elimination_reference.specs.Theorems.{IsTidy}
 use Rattle.elimination_reference.proofs.Tidy.{tidy_in}
@@ -24,9 +25,9 @@ use Rattle.case_theory.specs.Points.{IsPointFor, ArePointsFor, IsRoot}
 use Rattle.case_theory.specs.Direct.{first_equation}
 use Rattle.case_theory.proofs.Points.{zero_point, root_point, side_points}
 use Rattle.branch_points.specs.declared.choice.Chosen.{Chosen}
-use Rattle.branch_points.specs.Chosen.{AreAtomsOf, conjuncts, HasNoEquation, IsRootAmong, IsOnSide, IsChosen, NeedsCounting}
+use Rattle.branch_points.specs.Chosen.{AreAtomsOf, conjuncts, HasNoEquation, IsRootAmong, IsOnSide, IsChosen, IsByRule, NeedsCounting}
 use Rattle.branch_points.proofs.FirstEquations.{conjunct_is}
-use Rattle.branch_points.proofs.Names.{numbers, only_name, among_numbers, each_at, free_where_standing, absent_where_not}
+use Rattle.branch_points.proofs.Names.{numbers, only_name, number_among, among_numbers, free_where_standing, absent_where_not}
 
 each_place : (c : meaning.Context) (x : ℕ) (f : Tree) (points : List TestPoint) → EachOf (IsPointFor c x f) (map place_of points) → AllByRecursion (λ t. IsPlaceIn c (place_of t)) points
 each_place c x f [] e = tt
@@ -80,13 +81,47 @@ module _ (c : Context) (f : Tree) (left : List VarId) (tidy : IsTidy (context_of
         let r : first_equation x (conjuncts f) ≡ Some e = ap (λ g. first_equation x (conjuncts g)) is ∙ first in
         absurd (cc))
 
+    stand_free : EachOf (λ (x : VarId). stands_among x.number (map atom_of atoms) ≡ true) left → (x : VarId) → Among left x → IsFree f x.number
+    stand_free each x m =
+        let P : VarId → Type 0 = λ y. stands_among y.number (map atom_of atoms) ≡ true in
+        free_where_standing f x.number (map atom_of atoms) tidy.is_plain are.same (each_among P left x each m)
+
     -- where neither is there
     pub needs_counting : EachOf (λ (x : VarId). stands_among x.number (map atom_of atoms) ≡ true) left → HasNoEquation (conjuncts f) left → NeedsCounting f (numbers left)
     needs_counting each none n m =
         let r = among_numbers left n m in
-        let P : VarId → Type 0 = λ x. stands_among x.number (map atom_of atoms) ≡ true in
-        subst (λ (k : ℕ). IsFree f k × (first_equation k (conjuncts f) ≡ None)) r.2
-        (free_where_standing f r.0.number (map atom_of atoms) tidy.is_plain are.same (each_at P left r.0 each r.1), none r.0 r.1)
+        subst (λ (k : ℕ). IsFree f k × (first_equation k (conjuncts f) ≡ None)) r.2 (stand_free each r.0 r.1, none r.0 r.1)
+
+    -- ---- by which rule
+
+    pub zero_rule : (ch : Chosen) (t : TestPoint) (x : VarId) → Among left x → stands_among x.number (map atom_of atoms) ≡ false → place_of t ≡ zero_place → IsPointOf x t →
+        ch.name ≡ t.name → ch.points.items ≡ t ∷ [] → IsByRule c f left ch
+    zero_rule ch t x listed absent place well name points =
+        let n = absent_where_not f x.number (map atom_of atoms) tidy.is_plain are.same absent in
+        let same : x ≡ ch.name = sym (name ∙ well.name) in
+        record {
+          absent = λ y m k. (subst (λ (z : VarId). ¬ (IsFree f z.number)) same n, ap (map place_of) points ∙ ap (λ s. s ∷ []) place);
+          equation = λ free. absurd (n (free x listed));
+          counted = λ needs. absurd (n ((needs x.number (number_among left x listed)).0));
+        }
+
+    pub root_rule : EachOf (λ (x : VarId). stands_among x.number (map atom_of atoms) ≡ true) left → (ch : Chosen) (t : TestPoint) → IsRootAmong c (conjuncts f) left t →
+        ch.name ≡ t.name → ch.points.items ≡ t ∷ [] → IsByRule c f left ch
+    root_rule each ch t r name points = record {
+      absent = λ y m n. absurd (n (stand_free each y m));
+      equation = λ free x e m first.
+          subst (λ (z : VarId). (d : Form) × (s : Place) × (first_equation z.number (conjuncts f) ≡ Some d) × IsRoot (context_of c) z.number d s × (map place_of ch.points.items ≡ s ∷ []))
+          (sym name) (r.equation, place_of t, r.first, r.root, ap (map place_of) points);
+      counted = λ needs. let nowhere = (needs t.name.number (number_among left t.name r.listed)).1 in let here = r.first in absurd (cc);
+    }
+
+    pub side_rule : EachOf (λ (x : VarId). stands_among x.number (map atom_of atoms) ≡ true) left → HasNoEquation (conjuncts f) left → (ch : Chosen) → IsOnSide c (map atom_of atoms) left ch →
+        IsByRule c f left ch
+    side_rule each none ch o = record {
+      absent = λ y m n. absurd (n (stand_free each y m));
+      equation = λ free x e m first. let nowhere = none x m in absurd (cc);
+      counted = λ needs. (atoms, are, o);
+    }
 
   -- the root of an equation
   pub root_chosen : (ch : Chosen) (t : TestPoint) → IsRootAmong c (conjuncts f) left t → ch.name ≡ t.name → ch.points.items ≡ t ∷ [] → IsChosen c f left ch

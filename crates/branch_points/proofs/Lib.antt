@@ -3,3 +3,5 @@ pub mod Names
 pub mod FirstEquations
 pub mod Choices
 pub mod RootsAmong
+pub mod FewestPoints
+mod Examples

@@ -4,7 +4,7 @@ use Rattle.std.specs.Prelude.{pos}
 use Rattle.std.specs.Cmp.{signed_Decides}
 use Rattle.formula_meaning.specs.Formula.{Yes, No, One, Not, And, Or, Impl, Repl, Equiv, Ex, All, none, also}
 use Rattle.formula_meaning.specs.Every.{FreeInSome}
-use Rattle.formula_meaning.specs.Some.{Among, EachOf}
+use Rattle.formula_meaning.specs.Some.{Among}
 use Rattle.formula_meaning.specs.Form.{coefficient}
 use Rattle.formula_meaning.specs.Shape.{IsPlain, ArePlain}
 use Rattle.formula_meaning.specs.Atom.{Atom, Mentions, form_of}
@@ -25,11 +25,6 @@ module _ {X : Type 0} where
   at_place [] i d h = absurd (omega arith)
   at_place (x ∷ xs) zero d h = inl refl
   at_place (x ∷ xs) (suc i) d h = inr (at_place xs i d (omega arith))
-
-  pub each_at : (P : X → Type 0) (xs : List X) (x : X) → EachOf P xs → Among xs x → P x
-  each_at P [] x e m = absurd m
-  each_at P (y ∷ xs) x e (inl i) = subst P i e.0
-  each_at P (y ∷ xs) x e (inr m) = each_at P xs x e.1 m
 
 abbrev pub numbers : List VarId → List ℕ
 numbers left = map (λ (x : VarId). x.number) left

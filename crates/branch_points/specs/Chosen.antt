@@ -1,7 +1,7 @@
 -- What is put for a name of a branch.
-use Rattle.std.specs.Prelude.{◌≡◌, ℕ, List, [], ◌∷◌, All as Each, map, Some, None, ◌↔◌}
+use Rattle.std.specs.Prelude.{◌≡◌, ◌⊎◌, ◌≤◌, ℕ, List, [], ◌∷◌, All as Each, map, Some, None, ◌↔◌}
 use Rattle.formula_meaning.specs.Formula.{Yes, No, One, Not, And, Or, Impl, Repl, Equiv, Ex, All, none, also}
-use Rattle.formula_meaning.specs.Some.{Among}
+use Rattle.formula_meaning.specs.Some.{Among, EachOf}
 use Rattle.formula_meaning.specs.Distinct.{StandsOnce}
 use Rattle.formula_meaning.specs.Form.{Form}
 use Rattle.formula_meaning.specs.Atom as meant
@@ -9,6 +9,7 @@ use Rattle.formula_meaning.specs.Answer.{Place}
 use Rattle.formula_meaning.specs.Tree.{Tree, Trees, IsFree}
 use Rattle.elimination_theory.specs.declared.side.Side.{Side}
 use Rattle.elimination_theory.specs.Atoms.{atoms_of}
+use Rattle.elimination_theory.specs.Answers.{zero_place}
 use Rattle.elimination_theory.specs.BothTheories.{IsPlaceIn, test_points}
 use Rattle.linear_forms.specs.declared.form.VarId.{VarId}
 use Rattle.atom_normal.specs.declared.atoms.Context.{Context}
@@ -21,6 +22,7 @@ use Rattle.test_points.specs.Points.{place_of, IsPointOf}
 use Rattle.case_theory.specs.Points.{ArePointsFor, IsRoot}
 use Rattle.case_theory.specs.Direct.{first_equation}
 use Rattle.branch_points.specs.declared.choice.Chosen.{Chosen}
+use Rattle.branch_points.specs.Counts.{SpanPasses, count_of}
 
 -- ---- the atoms of a branch
 
@@ -43,6 +45,10 @@ pub record AreAtomsOf (f : Tree) (atoms : List Atom) : Type 0 where
   pub well_formed : Each IsWellFormed atoms
   pub once : StandsOnce (map atom_of atoms)
   pub same : (a : meant.Atom) → Among (map atom_of atoms) a ↔ Among (atoms_of f) a
+
+-- some order of the atoms of f has this
+abbrev pub InSomeOrder : (List meant.Atom → Type 0) → Tree → Type 0
+InSomeOrder P f = (atoms : List Atom) × AreAtomsOf f atoms × P (map atom_of atoms)
 
 -- ---- its equations
 
@@ -74,12 +80,13 @@ pub record IsRootAmong (c : Context) (fs : Trees) (left : List VarId) (t : TestP
 
 -- ---- the choice
 
--- one of the names, at the points of a side
+-- one of the names, at the points of a side of which no name has fewer on any side, unless its span passes the limit
 pub record IsOnSide (c : Context) (atoms : List meant.Atom) (left : List VarId) (ch : Chosen) : Type 0 where
   pub listed : Among left ch.name
   pub points : Each (IsPointOf ch.name) ch.points.items
   pub side : Side
   pub places : map place_of ch.points.items ≡ test_points (context_of c) side ch.name.number atoms
+  pub fewest : EachOf (λ x. SpanPasses (context_of c) x.number atoms ⊎ ((s : Side) → count_of (context_of c) side ch.name.number atoms ≤ count_of (context_of c) s x.number atoms)) left
 
 -- One of the names that are left, and test points at places of the theory that are enough for it. Of a conjunction of which one
 -- name is left it is the root of the first member that is an equation in it.
@@ -94,3 +101,18 @@ pub record IsChosen (c : Context) (f : Tree) (left : List VarId) (ch : Chosen) :
 -- each of the names stands in the formula, and no conjunct is an equation in it
 abbrev pub NeedsCounting : Tree → List ℕ → Type 0
 NeedsCounting f left = (x : ℕ) → Among left x → IsFree f x × (first_equation x (conjuncts f) ≡ None)
+
+-- the name stands nowhere in f, and its point is 0
+abbrev pub IsAtZero : Tree → Chosen → Type 0
+IsAtZero f ch = ¬ (IsFree f ch.name.number) × (map place_of ch.points.items ≡ zero_place ∷ [])
+
+-- the point is the root of the first conjunct of f that is an equation in the name
+abbrev pub IsAtRoot : Context → Tree → Chosen → Type 0
+IsAtRoot c f ch = (e : Form) × (s : Place) × (first_equation ch.name.number (conjuncts f) ≡ Some e) × IsRoot (context_of c) ch.name.number e s × (map place_of ch.points.items ≡ s ∷ [])
+
+-- Which rule chose: a name that stands nowhere goes first, at 0, then one of an equation, at its root, and else the one with the
+-- fewest points, in some order of the atoms.
+pub record IsByRule (c : Context) (f : Tree) (left : List VarId) (ch : Chosen) : Type 0 where
+  pub absent : (x : VarId) → Among left x → ¬ (IsFree f x.number) → IsAtZero f ch
+  pub equation : ((x : VarId) → Among left x → IsFree f x.number) → (x : VarId) (e : Form) → Among left x → first_equation x.number (conjuncts f) ≡ Some e → IsAtRoot c f ch
+  pub counted : NeedsCounting f (map (λ (x : VarId). x.number) left) → InSomeOrder (λ atoms. IsOnSide c atoms left ch) f

@@ -1,16 +1,17 @@
 //! The choice of a name and of its test points.
 
-ghost use Rattle.std.specs.Prelude.{◌≡◌, ◌<◌, [], ◌∷◌, map, length, All, IfOk, IfErr};
+ghost use Rattle.std.specs.Prelude.{◌≡◌, ◌<◌, [], ◌∷◌, map, length, All, IfOk, IfErr, IsErrOf};
 ghost use Rattle.formula_meaning.specs.Distinct.{StandsOnce};
 ghost use Rattle.elimination_reference.specs.Theorems.{IsTidy};
 ghost use Rattle.atom_normal.specs.Atoms.{atom_of, context_of, IsWellFormed};
 ghost use Rattle.formula_store.specs.Nodes.{tree, IsId};
-ghost use Rattle.branch_points.specs.Chosen.{IsChosen, IsOnSide, NeedsCounting};
+ghost use Rattle.branch_points.specs.Chosen.{IsChosen, IsByRule, IsOnSide, NeedsCounting, InSomeOrder};
+ghost use Rattle.branch_points.specs.Counts.{EachHasMore, NumbersPass};
 
 use crate::absent::{absent_name, at_zero};
 use crate::atoms::branch_atoms;
 use crate::choice::Chosen;
-use crate::counts::{fewest, points_of};
+use crate::counts::{fewest, is_within, points_of};
 use crate::equations::conjoined_root;
 use crate::error::ChoiceError;
 use atom_normal::{Atom, Context};
@@ -38,7 +39,10 @@ pub fn chosen(
     requires tidy { IsTidy (context_of context) (tree store.now id) }
     requires some { 0 < length left.now }
     ensures chosen { IfOk result (IsChosen context (tree store.now id) left.now) }
+    ensures rule { IfOk result (IsByRule context (tree store.now id) left.now) }
     ensures refused { IfErr result (λ e. ¬ (e ≡ ChoiceError.Memory) → NeedsCounting (tree store.now id) (map (λ x. x.number) left.now)) }
+    ensures nodes { IsErrOf result ChoiceError.Nodes → InSomeOrder (λ atoms. EachHasMore context atoms left.now most) (tree store.now id) }
+    ensures overflow { IsErrOf result ChoiceError.Overflow → InSomeOrder (λ atoms. NumbersPass context atoms left.now) (tree store.now id) }
 {
     let atoms = branch_atoms(alloc, store, id)?;
     if let Some(name) = absent_name(&atoms, left) {
@@ -71,17 +75,22 @@ fn counted(
 ) -> Result<Chosen, ChoiceError>
     requires well_formed { All IsWellFormed atoms.now }
     requires once { StandsOnce (map atom_of atoms.now) }
-    ensures { IfOk result (IsOnSide context (map atom_of atoms.now) left.now) }
+    requires some { 0 < length left.now }
+    ensures chosen { IfOk result (IsOnSide context (map atom_of atoms.now) left.now) }
+    ensures nodes { IsErrOf result ChoiceError.Nodes → EachHasMore context (map atom_of atoms.now) left.now most }
+    ensures overflow { IsErrOf result ChoiceError.Overflow → NumbersPass context (map atom_of atoms.now) left.now }
 {
     let Some(fewest) = fewest(context, atoms, left) else {
         return Err(ChoiceError::Overflow);
     };
-    if most < fewest.count {
+    if !is_within(fewest.count, most) {
         return Err(ChoiceError::Nodes);
     }
-    let points = points_of(alloc, context, atoms, fewest, most)?;
-    Ok(Chosen {
-        name: fewest.name,
-        points,
-    })
+    match points_of(alloc, context, atoms, fewest, most) {
+        Ok(points) => Ok(Chosen {
+            name: fewest.name,
+            points,
+        }),
+        Err(error) => Err(error),
+    }
 }

@@ -7,7 +7,7 @@ use Rattle.linear_forms.specs.declared.form.VarId.{VarId}
 use Rattle.formula_tree.specs.Shapes.{tree_over}
 use Rattle.formula_store.specs.Nodes.{tree}
 use Rattle.case_theory.specs.Direct.{first_equation}
-use Rattle.branch_points.proofs.Names.{each_at}
+use Rattle.elimination_theory.proofs.SomeListed.{each_among}
 use Rattle.branch_points.proofs.FirstEquations.{other_equation}
 use Rattle.branch_points.proofs.equations.member_root.Goals as goal
 
@@ -16,4 +16,4 @@ returns-in-None c x m =
     let t = tree c.args.store.now in
     let e = c.in-Some.equation.now in
     let P : VarId → Type 0 = λ y. coefficient y.number e ≡ pos 0 in
-    subst (λ (f : Tree). first_equation x.number (also f none) ≡ None) (sym (c.shape.ensures.tree ∙ ap (tree_over t) c.in-Some.ensures)) (other_equation t e x.number (each_at P c.args.left.now x c.in-None.ensures m))
+    subst (λ (f : Tree). first_equation x.number (also f none) ≡ None) (sym (c.shape.ensures.tree ∙ ap (tree_over t) c.in-Some.ensures)) (other_equation t e x.number (each_among P c.args.left.now x c.in-None.ensures m))
