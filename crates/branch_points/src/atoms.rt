@@ -10,7 +10,11 @@ use formula_tree::Shape;
 use std::alloc::{AllocError, Global};
 
 /// The atoms of the formula, each once, in the order of its distinct subformulas.
-pub fn branch_atoms(alloc: Global, store: &Store, id: FormulaId) -> Result<Vec<Atom>, AllocError>
+pub(crate) fn branch_atoms(
+    alloc: Global,
+    store: &Store,
+    id: FormulaId,
+) -> Result<Vec<Atom>, AllocError>
     requires { IsId store.now id }
     ensures { IfOk result (λ v. AreAtomsOf (tree store.now id) v.items) }
 {

@@ -10,7 +10,6 @@ mod equations;
 mod error;
 mod roots;
 
-pub use atoms::branch_atoms;
 pub use choice::Chosen;
 pub use choosing::chosen;
 pub use error::ChoiceError;
