@@ -1,5 +1,6 @@
 -- The ways to choose a name and its points.
-use Rattle.std.proofs.Common.{◌≡◌, ℕ, true, false, Some, None, List, [], ◌∷◌, All as Each, map, refl, ap, sym, ◌∙◌, subst}
+use Rattle.std.proofs.lemmas.List.{length-map}
+use Rattle.std.proofs.Common.{◌≡◌, ◌≤◌, max, length, arith, ℕ, true, false, Some, None, List, [], ◌∷◌, All as Each, map, refl, ap, sym, ◌∙◌, subst}
 use Rattle.std.specs.List.{AllByRecursion}
 use Rattle.std.proofs.lemmas.List.Elements.{All-from_recursion}
 use Rattle.formula_meaning.specs.Context as meaning
@@ -26,6 +27,7 @@ use Rattle.case_theory.specs.Direct.{first_equation}
 use Rattle.case_theory.proofs.Points.{zero_point, root_point, side_points}
 use Rattle.branch_points.specs.declared.choice.Chosen.{Chosen}
 use Rattle.branch_points.specs.Chosen.{AreAtomsOf, conjuncts, HasNoEquation, IsRootAmong, IsOnSide, IsChosen, IsByRule, NeedsCounting}
+use Rattle.branch_points.proofs.CountedPoints.{points_counted}
 use Rattle.branch_points.proofs.FirstEquations.{conjunct_is}
 use Rattle.branch_points.proofs.Names.{numbers, only_name, number_among, among_numbers, free_where_standing, absent_where_not}
 
@@ -33,7 +35,7 @@ each_place : (c : meaning.Context) (x : ℕ) (f : Tree) (points : List TestPoint
 each_place c x f [] e = tt
 each_place c x f (t ∷ points) e = (place_in c x (place_of t) f e.0.suits, each_place c x f points e.1)
 
-module _ (c : Context) (f : Tree) (left : List VarId) (tidy : IsTidy (context_of c) f) where
+module _ (c : Context) (f : Tree) (left : List VarId) (most : ℕ) (tidy : IsTidy (context_of c) f) where
   -- what a single remaining name owes to a first equation
   abbrev IsDirectTo : List Place → Type 0
   IsDirectTo places =
@@ -71,7 +73,7 @@ module _ (c : Context) (f : Tree) (left : List VarId) (tidy : IsTidy (context_of
         (λ y fs e one is free first. absurd (n (subst (IsFree f) (sym (only_name left x y one listed)) free)))
 
     -- the points of a side
-    pub side_chosen : HasNoEquation (conjuncts f) left → (ch : Chosen) → IsOnSide c (map atom_of atoms) left ch → IsChosen c f left ch
+    pub side_chosen : HasNoEquation (conjuncts f) left → (ch : Chosen) → IsOnSide c (map atom_of atoms) left most ch → IsChosen c f left ch
     side_chosen none ch o =
         points_chosen ch o.listed o.points
         (subst (λ (ps : List Place). ArePointsFor (context_of c) ch.name.number f ps) (sym o.places)
@@ -86,6 +88,15 @@ module _ (c : Context) (f : Tree) (left : List VarId) (tidy : IsTidy (context_of
         let P : VarId → Type 0 = λ y. stands_among y.number (map atom_of atoms) ≡ true in
         free_where_standing f x.number (map atom_of atoms) tidy.is_plain are.same (each_among P left x each m)
 
+    -- the points of a side are no more than were counted
+    pub side_few : (ch : Chosen) → IsOnSide c (map atom_of atoms) left most ch → length ch.points.items ≤ max 1 most
+    side_few ch o =
+        let n = length-map ch.points.items place_of in
+        let m = ap length o.places in
+        let k = points_counted (context_of c) o.side ch.name.number (map atom_of atoms) in
+        let few = o.few in
+        omega arith
+
     -- where neither is there
     pub needs_counting : EachOf (λ (x : VarId). stands_among x.number (map atom_of atoms) ≡ true) left → HasNoEquation (conjuncts f) left → NeedsCounting f (numbers left)
     needs_counting each none n m =
@@ -95,7 +106,7 @@ module _ (c : Context) (f : Tree) (left : List VarId) (tidy : IsTidy (context_of
     -- ---- by which rule
 
     pub zero_rule : (ch : Chosen) (t : TestPoint) (x : VarId) → Among left x → stands_among x.number (map atom_of atoms) ≡ false → place_of t ≡ zero_place → IsPointOf x t →
-        ch.name ≡ t.name → ch.points.items ≡ t ∷ [] → IsByRule c f left ch
+        ch.name ≡ t.name → ch.points.items ≡ t ∷ [] → IsByRule c f left most ch
     zero_rule ch t x listed absent place well name points =
         let n = absent_where_not f x.number (map atom_of atoms) tidy.is_plain are.same absent in
         let same : x ≡ ch.name = sym (name ∙ well.name) in
@@ -106,7 +117,7 @@ module _ (c : Context) (f : Tree) (left : List VarId) (tidy : IsTidy (context_of
         }
 
     pub root_rule : EachOf (λ (x : VarId). stands_among x.number (map atom_of atoms) ≡ true) left → (ch : Chosen) (t : TestPoint) → IsRootAmong c (conjuncts f) left t →
-        ch.name ≡ t.name → ch.points.items ≡ t ∷ [] → IsByRule c f left ch
+        ch.name ≡ t.name → ch.points.items ≡ t ∷ [] → IsByRule c f left most ch
     root_rule each ch t r name points = record {
       absent = λ y m n. absurd (n (stand_free each y m));
       equation = λ free x e m first.
@@ -115,8 +126,8 @@ module _ (c : Context) (f : Tree) (left : List VarId) (tidy : IsTidy (context_of
       counted = λ needs. let nowhere = (needs t.name.number (number_among left t.name r.listed)).1 in let here = r.first in absurd (cc);
     }
 
-    pub side_rule : EachOf (λ (x : VarId). stands_among x.number (map atom_of atoms) ≡ true) left → HasNoEquation (conjuncts f) left → (ch : Chosen) → IsOnSide c (map atom_of atoms) left ch →
-        IsByRule c f left ch
+    pub side_rule : EachOf (λ (x : VarId). stands_among x.number (map atom_of atoms) ≡ true) left → HasNoEquation (conjuncts f) left → (ch : Chosen) → IsOnSide c (map atom_of atoms) left most ch →
+        IsByRule c f left most ch
     side_rule each none ch o = record {
       absent = λ y m n. absurd (n (stand_free each y m));
       equation = λ free x e m first. let nowhere = none x m in absurd (cc);

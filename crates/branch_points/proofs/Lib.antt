@@ -4,4 +4,5 @@ pub mod FirstEquations
 pub mod Choices
 pub mod RootsAmong
 pub mod FewestPoints
+pub mod CountedPoints
 mod Examples

@@ -80,12 +80,13 @@ pub record IsRootAmong (c : Context) (fs : Trees) (left : List VarId) (t : TestP
 
 -- ---- the choice
 
--- one of the names, at the points of a side of which no name has fewer on any side, unless its span passes the limit
-pub record IsOnSide (c : Context) (atoms : List meant.Atom) (left : List VarId) (ch : Chosen) : Type 0 where
+-- one of the names, at the points of a side, so many at most, of which no name has fewer on any side, unless its span passes the limit
+pub record IsOnSide (c : Context) (atoms : List meant.Atom) (left : List VarId) (most : ℕ) (ch : Chosen) : Type 0 where
   pub listed : Among left ch.name
   pub points : Each (IsPointOf ch.name) ch.points.items
   pub side : Side
   pub places : map place_of ch.points.items ≡ test_points (context_of c) side ch.name.number atoms
+  pub few : count_of (context_of c) side ch.name.number atoms ≤ most
   pub fewest : EachOf (λ x. SpanPasses (context_of c) x.number atoms ⊎ ((s : Side) → count_of (context_of c) side ch.name.number atoms ≤ count_of (context_of c) s x.number atoms)) left
 
 -- One of the names that are left, and test points at places of the theory that are enough for it. Of a conjunction of which one
@@ -112,7 +113,7 @@ IsAtRoot c f ch = (e : Form) × (s : Place) × (first_equation ch.name.number (c
 
 -- Which rule chose: a name that stands nowhere goes first, at 0, then one of an equation, at its root, and else the one with the
 -- fewest points, in some order of the atoms.
-pub record IsByRule (c : Context) (f : Tree) (left : List VarId) (ch : Chosen) : Type 0 where
+pub record IsByRule (c : Context) (f : Tree) (left : List VarId) (most : ℕ) (ch : Chosen) : Type 0 where
   pub absent : (x : VarId) → Among left x → ¬ (IsFree f x.number) → IsAtZero f ch
   pub equation : ((x : VarId) → Among left x → IsFree f x.number) → (x : VarId) (e : Form) → Among left x → first_equation x.number (conjuncts f) ≡ Some e → IsAtRoot c f ch
-  pub counted : NeedsCounting f (map (λ (x : VarId). x.number) left) → InSomeOrder (λ atoms. IsOnSide c atoms left ch) f
+  pub counted : NeedsCounting f (map (λ (x : VarId). x.number) left) → InSomeOrder (λ atoms. IsOnSide c atoms left most ch) f

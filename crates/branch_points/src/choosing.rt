@@ -1,6 +1,6 @@
 //! The choice of a name and of its test points.
 
-ghost use Rattle.std.specs.Prelude.{◌≡◌, ◌<◌, [], ◌∷◌, map, length, All, IfOk, IfErr, IsErrOf};
+ghost use Rattle.std.specs.Prelude.{◌≡◌, ◌<◌, ◌≤◌, [], ◌∷◌, map, max, length, All, IfOk, IfErr, IsErrOf};
 ghost use Rattle.formula_meaning.specs.Distinct.{StandsOnce};
 ghost use Rattle.elimination_reference.specs.Theorems.{IsTidy};
 ghost use Rattle.atom_normal.specs.Atoms.{atom_of, context_of, IsWellFormed};
@@ -39,7 +39,8 @@ pub fn chosen(
     requires tidy { IsTidy (context_of context) (tree store.now id) }
     requires some { 0 < length left.now }
     ensures chosen { IfOk result (IsChosen context (tree store.now id) left.now) }
-    ensures rule { IfOk result (IsByRule context (tree store.now id) left.now) }
+    ensures rule { IfOk result (IsByRule context (tree store.now id) left.now most) }
+    ensures few { IfOk result (λ c. length c.points.items ≤ max 1 most) }
     ensures refused { IfErr result (λ e. ¬ (e ≡ ChoiceError.Memory) → NeedsCounting (tree store.now id) (map (λ x. x.number) left.now)) }
     ensures nodes { IsErrOf result ChoiceError.Nodes → InSomeOrder (λ atoms. EachHasMore context atoms left.now most) (tree store.now id) }
     ensures overflow { IsErrOf result ChoiceError.Overflow → InSomeOrder (λ atoms. NumbersPass context atoms left.now) (tree store.now id) }
@@ -76,7 +77,7 @@ fn counted(
     requires well_formed { All IsWellFormed atoms.now }
     requires once { StandsOnce (map atom_of atoms.now) }
     requires some { 0 < length left.now }
-    ensures chosen { IfOk result (IsOnSide context (map atom_of atoms.now) left.now) }
+    ensures chosen { IfOk result (IsOnSide context (map atom_of atoms.now) left.now most) }
     ensures nodes { IsErrOf result ChoiceError.Nodes → EachHasMore context (map atom_of atoms.now) left.now most }
     ensures overflow { IsErrOf result ChoiceError.Overflow → NumbersPass context (map atom_of atoms.now) left.now }
 {

@@ -33,6 +33,7 @@ returns-in-Ok-clause-chosen c =
       points = c.in-Ok.ensures.well_formed;
       side = k.side;
       places = c.in-Ok.ensures.points;
+      few = c.is_within.ensures.within n within c.in-Some.ensures.found.1.count;
       fewest = each_count c.args.context atoms (λ m. n ≤ m) k c.args.left.now (λ m h. c.is_within.ensures.exact n m within c.in-Some.ensures.found.1.count h) c.in-Some.ensures.least;
     }
 
