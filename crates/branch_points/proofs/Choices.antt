@@ -29,6 +29,7 @@ use Rattle.branch_points.specs.declared.choice.Chosen.{Chosen}
 use Rattle.branch_points.specs.Chosen.{AreAtomsOf, conjuncts, HasNoEquation, IsRootAmong, IsOnSide, IsChosen, IsByRule, NeedsCounting}
 use Rattle.branch_points.proofs.CountedPoints.{points_counted}
 use Rattle.branch_points.proofs.FirstEquations.{conjunct_is}
+use Rattle.branch_points.proofs.RootsAmong.{root_first}
 use Rattle.branch_points.proofs.Names.{numbers, only_name, number_among, among_numbers, free_where_standing, absent_where_not}
 
 each_place : (c : meaning.Context) (x : ℕ) (f : Tree) (points : List TestPoint) → EachOf (IsPointFor c x f) (map place_of points) → AllByRecursion (λ t. IsPlaceIn c (place_of t)) points
@@ -120,10 +121,8 @@ module _ (c : Context) (f : Tree) (left : List VarId) (most : ℕ) (tidy : IsTid
         ch.name ≡ t.name → ch.points.items ≡ t ∷ [] → IsByRule c f left most ch
     root_rule each ch t r name points = record {
       absent = λ y m n. absurd (n (stand_free each y m));
-      equation = λ free x e m first.
-          subst (λ (z : VarId). (d : Form) × (s : Place) × (first_equation z.number (conjuncts f) ≡ Some d) × IsRoot (context_of c) z.number d s × (map place_of ch.points.items ≡ s ∷ []))
-          (sym name) (r.equation, place_of t, r.first, r.root, ap (map place_of) points);
-      counted = λ needs. let nowhere = (needs t.name.number (number_among left t.name r.listed)).1 in let here = r.first in absurd (cc);
+      equation = λ free x e m first. (t, r, name, points);
+      counted = λ needs. let nowhere = (needs t.name.number (number_among left t.name r.listed)).1 in let here = root_first c (conjuncts f) left t r in absurd (cc);
     }
 
     pub side_rule : EachOf (λ (x : VarId). stands_among x.number (map atom_of atoms) ≡ true) left → HasNoEquation (conjuncts f) left → (ch : Chosen) → IsOnSide c (map atom_of atoms) left most ch →
@@ -137,10 +136,11 @@ module _ (c : Context) (f : Tree) (left : List VarId) (most : ℕ) (tidy : IsTid
   -- the root of an equation
   pub root_chosen : (ch : Chosen) (t : TestPoint) → IsRootAmong c (conjuncts f) left t → ch.name ≡ t.name → ch.points.items ≡ t ∷ [] → IsChosen c f left ch
   root_chosen ch t r name points =
+      let here = root_first c (conjuncts f) left t r in
       one_chosen ch t name points r.listed r.well_formed
-      (root_point (context_of c) t.name.number f r.equation (place_of t) tidy.is_plain (tidy_in (context_of c) f tidy) (conjunct_is t.name.number f r.equation r.first) r.root)
+      (root_point (context_of c) t.name.number f r.equation (place_of t) tidy.is_plain (tidy_in (context_of c) f tidy) (conjunct_is t.name.number f r.equation here) r.root)
       (λ x fs e one is free first.
       let n = only_name left t.name x one r.listed in
-      let q : first_equation x fs ≡ Some r.equation = subst (λ (k : ℕ). first_equation k fs ≡ Some r.equation) n (ap (λ g. first_equation t.name.number (conjuncts g)) (sym is) ∙ r.first) in
+      let q : first_equation x fs ≡ Some r.equation = subst (λ (k : ℕ). first_equation k fs ≡ Some r.equation) n (ap (λ g. first_equation t.name.number (conjuncts g)) (sym is) ∙ here) in
       let same : r.equation ≡ e = (cc) in
       (place_of t, subst (λ (k : ℕ). IsRoot (context_of c) k e (place_of t)) n (subst (λ (d : Form). IsRoot (context_of c) t.name.number d (place_of t)) same r.root), refl))

@@ -15,44 +15,6 @@ use Rattle.case_theory.specs.Points.{IsConjunct, IsConjunctOfSome}
 use Rattle.case_theory.specs.Direct.{equation_of, first_of_two, first_equation}
 use Rattle.branch_points.specs.Chosen.{conjuncts}
 
--- ---- one formula in front
-
-two_none : (o u : Option Form) → first_of_two o None ≡ None → first_of_two o u ≡ u
-two_none None u e = refl
-two_none (Some d) u e = cc
-
-two_some : (o u : Option Form) (e : Form) → first_of_two o None ≡ Some e → first_of_two o u ≡ Some e
-two_some None u e h = cc
-two_some (Some d) u e h = h
-
--- one that is no equation is passed over,
-pub first_passed : (x : ℕ) (f : Tree) (fs : Trees) → first_equation x (also f none) ≡ None → first_equation x (also f fs) ≡ first_equation x fs
-first_passed x Yes fs h = refl
-first_passed x No fs h = refl
-first_passed x (One a) fs h = two_none (equation_of x a) (first_equation x fs) h
-first_passed x (Not f) fs h = refl
-first_passed x (And gs) fs h = refl
-first_passed x (Or gs) fs h = refl
-first_passed x (Impl f g) fs h = refl
-first_passed x (Repl f g) fs h = refl
-first_passed x (Equiv f g) fs h = refl
-first_passed x (Ex y f) fs h = refl
-first_passed x (All y f) fs h = refl
-
--- and one that is an equation is the first
-pub first_there : (x : ℕ) (f : Tree) (fs : Trees) (e : Form) → first_equation x (also f none) ≡ Some e → first_equation x (also f fs) ≡ Some e
-first_there x Yes fs e h = cc
-first_there x No fs e h = cc
-first_there x (One a) fs e h = two_some (equation_of x a) (first_equation x fs) e h
-first_there x (Not f) fs e h = cc
-first_there x (And gs) fs e h = cc
-first_there x (Or gs) fs e h = cc
-first_there x (Impl f g) fs e h = cc
-first_there x (Repl f g) fs e h = cc
-first_there x (Equiv f g) fs e h = cc
-first_there x (Ex y f) fs e h = cc
-first_there x (All y f) fs e h = cc
-
 -- ---- it is a conjunct
 
 where_some : (z : ℤ) (d e : Form) → where_zero z None (Some d) ≡ Some e → d ≡ e
@@ -124,7 +86,7 @@ zero_none (pos zero) d e = refl
 zero_none (pos (suc n)) d e = cc
 zero_none (negsuc n) d e = cc
 
-other_some : (z : ℤ) (d : Form) → ¬ (z ≡ pos 0) → where_zero z None (Some d) ≡ Some d
+pub other_some : (z : ℤ) (d : Form) → ¬ (z ≡ pos 0) → where_zero z None (Some d) ≡ Some d
 other_some (pos zero) d n = absurd (n refl)
 other_some (pos (suc k)) d n = refl
 other_some (negsuc k) d n = refl
@@ -153,9 +115,6 @@ module _ {Id : Type 0} (t : Id → Tree) where
   no_equation (shape.Ex y f) x h = refl
   no_equation (shape.All y f) x h = refl
 
-  -- an equation without the name, and one with it
+  -- an equation without the name
   pub other_equation : (e : Form) (x : ℕ) → coefficient x e ≡ pos 0 → first_equation x (also (tree_over t (equation_shape e)) none) ≡ None
   other_equation e x z = ap (λ o. first_of_two o None) (zero_none (coefficient x e) e z)
-
-  pub own_equation : (e : Form) (x : ℕ) → ¬ (coefficient x e ≡ pos 0) → first_equation x (also (tree_over t (equation_shape e)) none) ≡ Some e
-  own_equation e x n = ap (λ o. first_of_two o None) (other_some (coefficient x e) e n)

@@ -1,6 +1,7 @@
 -- What is put for a name of a branch.
 use Rattle.std.specs.Prelude.{◌≡◌, ◌⊎◌, ◌≤◌, ℕ, List, [], ◌∷◌, All as Each, map, Some, None, ◌↔◌}
 use Rattle.formula_meaning.specs.Formula.{Yes, No, One, Not, And, Or, Impl, Repl, Equiv, Ex, All, none, also}
+use Rattle.formula_meaning.specs.Fold.{append}
 use Rattle.formula_meaning.specs.Some.{Among, EachOf}
 use Rattle.formula_meaning.specs.Distinct.{StandsOnce}
 use Rattle.formula_meaning.specs.Form.{Form}
@@ -70,13 +71,16 @@ conjuncts (All x f) = also (All x f) none
 abbrev pub HasNoEquation : Trees → List VarId → Type 0
 HasNoEquation fs left = (x : VarId) → Among left x → first_equation x.number fs ≡ None
 
--- one of the names, at the root of the first of the formulas that is an equation in it
+-- one of the names, at the root of the first of the formulas that is an equation in one of the names
 pub record IsRootAmong (c : Context) (fs : Trees) (left : List VarId) (t : TestPoint) : Type 0 where
   pub listed : Among left t.name
   pub well_formed : IsPointOf t.name t
   pub equation : Form
-  pub first : first_equation t.name.number fs ≡ Some equation
   pub root : IsRoot (context_of c) t.name.number equation (place_of t)
+  pub before : Trees
+  pub after : Trees
+  pub split : fs ≡ append before (also (One (meant.Compare meant.Equals equation)) after)
+  pub nowhere : HasNoEquation before left
 
 -- ---- the choice
 
@@ -107,13 +111,13 @@ NeedsCounting f left = (x : ℕ) → Among left x → IsFree f x × (first_equat
 abbrev pub IsAtZero : Tree → Chosen → Type 0
 IsAtZero f ch = ¬ (IsFree f ch.name.number) × (map place_of ch.points.items ≡ zero_place ∷ [])
 
--- the point is the root of the first conjunct of f that is an equation in the name
-abbrev pub IsAtRoot : Context → Tree → Chosen → Type 0
-IsAtRoot c f ch = (e : Form) × (s : Place) × (first_equation ch.name.number (conjuncts f) ≡ Some e) × IsRoot (context_of c) ch.name.number e s × (map place_of ch.points.items ≡ s ∷ [])
+-- the point is the root of the first conjunct of f that is an equation in one of the names
+abbrev pub IsAtRoot : Context → Tree → List VarId → Chosen → Type 0
+IsAtRoot c f left ch = (t : TestPoint) × IsRootAmong c (conjuncts f) left t × (ch.name ≡ t.name) × (ch.points.items ≡ t ∷ [])
 
 -- Which rule chose: a name that stands nowhere goes first, at 0, then one of an equation, at its root, and else the one with the
 -- fewest points, in some order of the atoms.
 pub record IsByRule (c : Context) (f : Tree) (left : List VarId) (most : ℕ) (ch : Chosen) : Type 0 where
   pub absent : (x : VarId) → Among left x → ¬ (IsFree f x.number) → IsAtZero f ch
-  pub equation : ((x : VarId) → Among left x → IsFree f x.number) → (x : VarId) (e : Form) → Among left x → first_equation x.number (conjuncts f) ≡ Some e → IsAtRoot c f ch
+  pub equation : ((x : VarId) → Among left x → IsFree f x.number) → (x : VarId) (e : Form) → Among left x → first_equation x.number (conjuncts f) ≡ Some e → IsAtRoot c f left ch
   pub counted : NeedsCounting f (map (λ (x : VarId). x.number) left) → InSomeOrder (λ atoms. IsOnSide c atoms left most ch) f
