@@ -1,6 +1,6 @@
 //! Names that stand nowhere in a branch.
 
-ghost use Rattle.std.specs.Prelude.{◌≡◌, pos, true, false, map, MatchOption, IfOk, [], ◌∷◌};
+ghost use Rattle.std.specs.Prelude.{◌≡◌, true, false, map, MatchOption};
 ghost use Rattle.formula_meaning.specs.Some.{Among, EachOf};
 ghost use Rattle.elimination_theory.specs.Answers.{zero_place};
 ghost use Rattle.elimination_reference.specs.Reference.{stands_among};

@@ -1,6 +1,6 @@
 //! The equations that a branch has as conjuncts.
 
-ghost use Rattle.std.specs.Prelude.{◌≡◌, pos, [], ◌∷◌, map, MatchOption, IfOk};
+ghost use Rattle.std.specs.Prelude.{◌≡◌, pos, map, MatchOption, IfOk};
 ghost use Rattle.std.specs.List.{AllByRecursion};
 ghost use Rattle.formula_meaning.specs.Some.{Among, EachOf};
 ghost use Rattle.formula_meaning.specs.Form.{Form, coefficient};
