@@ -1,0 +1,8 @@
+pub mod ListedAtoms
+pub mod Names
+pub mod FirstEquations
+pub mod Choices
+pub mod RootsAmong
+pub mod FewestPoints
+pub mod CountedPoints
+mod Examples

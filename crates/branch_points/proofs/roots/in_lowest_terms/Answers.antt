@@ -1,0 +1,21 @@
+use Rattle.std.proofs.Common.{◌≡◌, ◌∙◌, ap, ap₂, unsigned_abs, int_div, arith}
+use Rattle.std.proofs.Math.IntN.{ℤ, pos}
+use Rattle.std.proofs.lemmas.Int.{ints}
+use Rattle.exact_numbers.proofs.Casts.{read_back}
+use Rattle.formula_meaning.specs.Answer.{Exact}
+use Rattle.linear_forms.specs.Reduction.{quotient}
+use Rattle.elimination_theory.specs.FieldsPoints.{divisor_of, form_over}
+use Rattle.elimination_theory.proofs.LowestTerms.{natural}
+use Rattle.test_points.proofs.Lowest.{quotient_is_over}
+use Rattle.branch_points.proofs.roots.in_lowest_terms.Goals as goal
+
+pub returns-in-Ok-clause-place : goal.returns-in-Ok-clause-place
+returns-in-Ok-clause-place c =
+    let f = c.args.form.now in
+    let d = unsigned_abs c.args.over in
+    let g = divisor_of f d in
+    let divisor = read_back c.common_divisor-divisor.result c.common_divisor-divisor.ensures.within ∙ c.common_divisor-divisor.ensures.value ∙ ap (λ (z : ℤ). pos (divisor_of f (unsigned_abs z))) (read_back c.args.over c.requires.within) in
+    let form : c.in-Ok.form ≡ form_over g f = c.in-Ok.ensures.value ∙ ap (quotient f) divisor ∙ quotient_is_over g f in
+    let n = natural c.args.over (omega (arith, ints)) in
+    let over = read_back c.quotient.result c.quotient.ensures.within ∙ c.quotient.ensures.value ∙ ap₂ int_div (read_back c.args.over c.requires.within ∙ n) divisor in
+    c.exact_point.ensures.place ∙ λ i. Exact (form i) (unsigned_abs (over i))

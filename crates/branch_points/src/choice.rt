@@ -1,0 +1,11 @@
+//! A name and its test points.
+
+use linear_forms::VarId;
+use test_points::TestPoint;
+
+/// A name of a branch, and the test points that are to be put for it.
+#[derive(Drop)]
+pub struct Chosen {
+    pub name: VarId,
+    pub points: Vec<TestPoint>,
+}
