@@ -19,7 +19,6 @@ use Rattle.elimination_theory.specs.Answers.{Step, Lead}
 use Rattle.elimination_theory.proofs.SomeListed.{each_append}
 use Rattle.elimination_reference.proofs.Branches.{step_names}
 use Rattle.elimination_reference.proofs.PutIn.{turn_equal, not_both}
-use Rattle.sample_reference.specs.Traced.{IsLower}
 use Rattle.sample_reference.specs.Values.{Value, value_names, with_value, with_values, IsValue, common_denominator, point_over, origin}
 use Rattle.sample_reference.specs.Calculated.{step_value, values_from, place_value}
 use Rattle.sample_reference.proofs.SamePoints.{some_same, some_then, IsCommon, common_is, common_one, abs_above, same_point, moved_same, value_allowed, values_of_theory}
@@ -48,16 +47,16 @@ pub record AreFound (c : Context) (f : Tree) (steps : List Step) (found values :
   pub matrix : TrueAt c f (with_values origin values)
 
 -- the value of one step, after those found before it
-one_found : (c : Context) (s : Step) (g : Tree) (found : List Value) (d : ℤ) (r : Frac) (rest : Lead c (s ∷ []) s.branch g) → EachOf (IsValue c) found → TrueAt c g (with_values origin found) → IsLower s.place → common_denominator found ≡ Some d →
+one_found : (c : Context) (s : Step) (g : Tree) (found : List Value) (d : ℤ) (r : Frac) (rest : Lead c (s ∷ []) s.branch g) → EachOf (IsValue c) found → TrueAt c g (with_values origin found) → common_denominator found ≡ Some d →
     place_value c s.name s.place s.branch (point_over d found) ≡ Some r → IsValue c (record { name = s.name; at = r }) × TrueAt c s.branch (with_values origin (found ++ (record { name = s.name; at = r } ∷ [])))
-one_found c s g found d r rest h t low e y =
+one_found c s g found d r rest h t e y =
     let k = common_is c found d h e in
     let q = with_values origin found in
     let l = point_over d found in
     let oq = values_of_theory c found origin h (origin_of c) in
     let ol = over_of c found d h e k in
     let same = same_point c found d h k in
-    let one = one_value c s g l r ol rest.1 ((tree_same_point c g q l oq ol same).0 t) low y in
+    let one = one_value c s g l r ol rest.1 ((tree_same_point c g q l oq ol same).0 t) y in
     let v : Value = record { name = s.name; at = r } in
     let m = unsigned_abs r.denominator in
     let a = value_allowed c v one.0 in (
@@ -66,21 +65,21 @@ one_found c s g found d r rest h t low e y =
           ((tree_same_point c s.branch (move nat_eq q s.name (r.numerator *ℤ pos q.below) m) (move nat_eq l s.name (r.numerator *ℤ pos l.below) m) (moved_of c q s.name (r.numerator *ℤ pos q.below) m oq a) (moved_of c l s.name (r.numerator *ℤ pos l.below) m ol a) (moved_same q l s.name r.numerator m same)).1 one.1),
     )
 
-pub values_true : (c : Context) (steps : List Step) (f g : Tree) (found values : List Value) → Lead c steps f g → EachOf (λ (s : Step). IsLower s.place) steps → EachOf (IsValue c) found → TrueAt c g (with_values origin found) →
+pub values_true : (c : Context) (steps : List Step) (f g : Tree) (found values : List Value) → Lead c steps f g → EachOf (IsValue c) found → TrueAt c g (with_values origin found) →
     values_from c steps found ≡ Some values → AreFound c f steps found values
-values_true c [] f g found values l low h t e =
+values_true c [] f g found values l h t e =
     let same = some_same found values e in
     record {
       each = subst (EachOf (IsValue c)) same h;
       names = sym (ap value_names same) ∙ sym (append-nil (value_names found));
       matrix = subst (λ vs. TrueAt c f (with_values origin vs)) same ((l (with_values origin found) (values_of_theory c found origin h (origin_of c))).1 t);
     }
-values_true c (s ∷ rest) f g found values l low h t e =
+values_true c (s ∷ rest) f g found values l h t e =
     some_then (step_value c s found) _ values e (λ r u y.
     some_then (common_denominator found) _ r u (λ d w z.
-    let one = one_found c s g found d r (self s.branch, l.1) h t low.0 w z in
+    let one = one_found c s g found d r (self s.branch, l.1) h t w z in
     let v : Value = record { name = s.name; at = r } in
-    let i = values_true c rest f s.branch (found ++ (v ∷ [])) values l.0 low.1 (each_append (IsValue c) found (v ∷ []) h (one.0, tt)) one.1 y in
+    let i = values_true c rest f s.branch (found ++ (v ∷ [])) values l.0 (each_append (IsValue c) found (v ∷ []) h (one.0, tt)) one.1 y in
     record {
       each = i.each;
       names = i.names ∙ ap (λ ns. ns ++ step_names rest) (names_append found (v ∷ [])) ∙ append_assoc (value_names found) (s.name ∷ []) (step_names rest);

@@ -36,7 +36,6 @@ use Rattle.atom_normal.proofs.NormalLaws.{normal_names, normal_within, normal_at
 use Rattle.elimination_reference.specs.PutIn.{terms_kept, form_put, atom_put, tree_put, trees_put}
 use Rattle.elimination_reference.proofs.PutIn.{Mixes, put_in_context, put_true, turn_equal, not_both}
 use Rattle.elimination_reference.proofs.Periods.{normal_keeps_periods}
-use Rattle.sample_reference.specs.Traced.{IsLower}
 use Rattle.sample_reference.specs.Values.{IsValue}
 use Rattle.sample_reference.specs.Calculated.{place_value}
 use Rattle.sample_reference.proofs.SamePoints.{abs_above}
@@ -200,22 +199,22 @@ put_suits x MinusInfinity p f o place plain inside h = absurd place
 
 -- ---- one value
 
-pub one_value : (c : Context) (s : Step) (g : Tree) (p : Point ℕ) (r : Frac) → Of c p → Makes c s g → TrueAt c g p → IsLower s.place → place_value c s.name s.place s.branch p ≡ Some r →
+pub one_value : (c : Context) (s : Step) (g : Tree) (p : Point ℕ) (r : Frac) → Of c p → Makes c s g → TrueAt c g p → place_value c s.name s.place s.branch p ≡ Some r →
     IsValue c (record { name = s.name; at = r }) × TrueAt c s.branch (move nat_eq p s.name (r.numerator *ℤ pos p.below) (unsigned_abs r.denominator))
-one_value Fields s g p r o made t low h =
+one_value Fields s g p r o made t h =
     let x = s.name in
     let w = put_plain Fields x p s.branch made.is_plain made.in_context in
-    let is = field_sample x s.place s.branch p r o low made.suits (atoms_of_every (AtomIn Fields) (tree_put Fields p (x ∷ []) s.branch) w.1) (put_names Fields x p s.branch made.is_plain made.in_context) h in
+    let is = field_sample x s.place s.branch p r o made.suits (atoms_of_every (AtomIn Fields) (tree_put Fields p (x ∷ []) s.branch) w.1) (put_names Fields x p s.branch made.is_plain made.in_context) h in
     let pm = abs_above r.denominator is.0 in (
       record { proper = is.0; lowest_terms = is.1; whole = tt },
       (put_same Fields x p o s.branch made.in_context (r.numerator *ℤ pos p.below) (unsigned_abs r.denominator) pm).1
           (field_sample_is_true x s.place (tree_put Fields p (x ∷ []) s.branch) p (r.numerator *ℤ pos p.below) (unsigned_abs r.denominator) made.suits w.0 w.1 o pm is.2 (put_holds Fields x p o s g refl made t)),
     )
-one_value Integers s g p r o made t low h =
+one_value Integers s g p r o made t h =
     let x = s.name in
     let w = put_plain Integers x p s.branch made.is_plain made.in_context in
     let holds = put_holds Integers x p o s g refl made t in
-    let is = integer_sample x s.place s.branch p r o low made.suits.0 (put_names Integers x p s.branch made.is_plain made.in_context) holds h in
+    let is = integer_sample x s.place s.branch p r o made.suits.0 (put_names Integers x p s.branch made.is_plain made.in_context) holds h in
     let one : unsigned_abs r.denominator ≡ 1 = ap unsigned_abs is.0.one in
     let there : TrueAt Integers (tree_put Integers p (x ∷ []) s.branch) (move nat_eq p x (r.numerator *ℤ pos p.below) 1) =
     integer_sample_is_true x s.place (tree_put Integers p (x ∷ []) s.branch) p (r.numerator *ℤ pos p.below) made.suits.0 (put_suits x s.place p s.branch o made.suits.0 made.is_plain made.in_context made.suits.1) w.0 o holds is.1 in (
