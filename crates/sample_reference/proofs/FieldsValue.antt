@@ -3,7 +3,7 @@ use Rattle.std.proofs.Common.{◌≡◌, ℕ, ◌*◌, ◌<◌, Bool, true, fals
 use Rattle.std.proofs.Math.IntN.{ℤ, pos, negsuc, neg_ℤ, ◌+ℤ◌, ◌-ℤ◌, ◌*ℤ◌}
 use Rattle.std.specs.Prelude.{◌<ℤ◌, ◌≤ℤ◌, MatchOption}
 use Rattle.std.proofs.lemmas.Int.{ints}
-use Rattle.exact_numbers.specs.Frac.{Frac, IsProper, IsLowest, lowest, whole_frac, sum_step, product_step, ◌>>=◌, SumPasses, IsExactSum, ProductPasses, IsExactProduct}
+use Rattle.exact_numbers.specs.Frac.{Frac, IsProper, IsLowest, lowest, whole_frac, sum_step, product_step, SumPasses, IsExactSum, ProductPasses, IsExactProduct}
 use Rattle.exact_numbers.proofs.Ring.{ring, mul_one, one_mul, zero_mul}
 use Rattle.exact_numbers.proofs.Order.{cancel_positive, cancel_less, mul_less}
 use Rattle.exact_numbers.proofs.FractionRule.{lowest_proper, lowest_value, sum_step_gives, product_step_gives, whole_lowest}
@@ -26,7 +26,7 @@ use Rattle.elimination_theory.specs.FieldsSamples.{IsFieldSample, IsLess}
 use Rattle.elimination_theory.proofs.FieldsSample.{twice}
 use Rattle.elimination_theory.proofs.Fractions.{at_most_less, less_at_most}
 use Rattle.elimination_reference.specs.PutIn.{tree_put, tree_put_within}
-use Rattle.sample_reference.specs.Calculated.{critical_values, criticals, least_past, form_value, half, just_past, below_all, seen, value_beside, value_beyond, place_value}
+use Rattle.sample_reference.specs.Calculated.{critical_values, criticals, least_past, form_value, half, just_past, below_all, seen, value_beside, value_beyond, beside_form, beyond_criticals, place_value}
 use Rattle.sample_reference.proofs.SamePoints.{some_same, none_some, some_then, abs_positive, abs_above}
 use Rattle.sample_reference.proofs.Leasts.{Less, AtMost, next_above, none_above, first_of, none_at_all}
 use Rattle.sample_reference.proofs.Critical.{Alone}
@@ -271,7 +271,7 @@ module _ (side : Side) (x : ℕ) (p : Point ℕ) (t : Tree) (pb : 0 < p.below) (
 -- the sample beside a form's value, from the critical values where they are there
 beside_calculated : (side : Side) (x : ℕ) (e : Form) (d : ℕ) (f : Tree) (p : Point ℕ) (r : Frac) → 0 < p.below → 0 < d →
     EachOf (AtomIn Fields) (atoms_of (tree_put Fields p (x ∷ []) f)) → EachOf (λ a. Alone x (form_of a)) (atoms_of (tree_put Fields p (x ∷ []) f)) →
-    (form_value e d p >>= λ v. criticals Fields x f p >>= λ values. value_beside side v values) ≡ Some r →
+    beside_form Fields side x e d f p ≡ Some r →
     IsProper r × IsLowest r × IsBeside x (tree_put Fields p (x ∷ []) f) p side (value e p) d (r.numerator *ℤ pos p.below) (unsigned_abs r.denominator)
 beside_calculated side x e d f p r pb pd inside alone h =
     some_then (form_value e d p) _ r h (λ a g k.
@@ -281,7 +281,7 @@ beside_calculated side x e d f p r pb pd inside alone h =
 
 beyond_calculated : (side : Side) (x : ℕ) (f : Tree) (p : Point ℕ) (r : Frac) → 0 < p.below →
     EachOf (AtomIn Fields) (atoms_of (tree_put Fields p (x ∷ []) f)) → EachOf (λ a. Alone x (form_of a)) (atoms_of (tree_put Fields p (x ∷ []) f)) →
-    (criticals Fields x f p >>= λ values. value_beyond side values) ≡ Some r →
+    beyond_criticals Fields side x f p ≡ Some r →
     IsProper r × IsLowest r × IsBeyond x (tree_put Fields p (x ∷ []) f) p side (r.numerator *ℤ pos p.below) (unsigned_abs r.denominator)
 beyond_calculated side x f p r pb inside alone h =
     some_then (criticals Fields x f p) _ r h (λ values m n.

@@ -5,7 +5,7 @@ use Rattle.std.specs.Prelude.{◌<ℤ◌, ◌≤ℤ◌}
 use Rattle.std.proofs.lemmas.Int.{ints}
 use Rattle.exact_numbers.specs.Limit.{checked}
 use Rattle.exact_numbers.specs.Divides.{Divides, floor_of, residue_of}
-use Rattle.exact_numbers.specs.Frac.{Frac, IsProper, IsLowest, whole_frac, ◌>>=◌}
+use Rattle.exact_numbers.specs.Frac.{Frac, IsProper, IsLowest, whole_frac}
 use Rattle.exact_numbers.proofs.Ring.{ring, mul_one, mul_zero, mul_comm, neg_mul}
 use Rattle.exact_numbers.proofs.Order.{cancel_positive, cancel_less, mul_less, by_less, by_zero}
 use Rattle.exact_numbers.proofs.Divisibility.{divides_same, divides_along, divisor_at_most, divides_neg, divides_sub, neg_divides}
@@ -33,7 +33,7 @@ use Rattle.elimination_theory.specs.IntegersSample.{IsPast, LiesBeyond, HasCriti
 use Rattle.elimination_theory.proofs.IntegerSides.{signed_signed, signed_mul}
 use Rattle.elimination_theory.proofs.SomeListed.{each_among, every_of_atoms, atoms_of_every}
 use Rattle.elimination_reference.specs.PutIn.{tree_put}
-use Rattle.sample_reference.specs.Calculated.{atom_root, critical_values, criticals, least_past, form_value, whole_below, class_member, class_below, seen, value_in_class, place_value}
+use Rattle.sample_reference.specs.Calculated.{atom_root, critical_values, criticals, least_past, form_value, whole_below, class_member, class_below, seen, value_in_class, class_beyond, place_value}
 use Rattle.sample_reference.proofs.SamePoints.{some_same, none_some, some_then}
 use Rattle.sample_reference.proofs.Leasts.{AtMost, first_of, none_at_all}
 use Rattle.sample_reference.proofs.Critical.{Alone, line, root_is, root_there, roots_proper, from_atom, to_atom}
@@ -358,7 +358,7 @@ module _ (x : ℕ) (j : ℤ) (q : ℕ) (p : Point ℕ) (t : Tree) (pb : p.below 
       )
 
 class_calculated : (side : Side) (x : ℕ) (j : ℤ) (q : ℕ) (f : Tree) (p : Point ℕ) (r : Frac) → p.below ≡ 1 → EachOf (λ a. Alone x (form_of a)) (atoms_of (tree_put Integers p (x ∷ []) f)) →
-    (criticals Integers x f p >>= λ values. value_in_class side j (pos (suc q)) values) ≡ Some r →
+    class_beyond Integers side x j (pos (suc q)) f p ≡ Some r →
     IsWholeValue r × IsClassSample x j (period_on side q) (tree_put Integers p (x ∷ []) f) p (r.numerator *ℤ pos p.below)
 class_calculated side x j q f p r pb alone h =
     some_then (criticals Integers x f p) _ r h (λ values m n.

@@ -76,7 +76,7 @@ past (Some e) (a ∷ rest) = if is_less e a then a ∷ past (Some e) rest else p
 abbrev pub least_past : Option Frac → List Frac → Option Frac
 least_past bound values = least_with None (past bound values)
 
--- ---- the value at a place
+-- ---- the numbers of the lower side
 
 -- the form's value at the point, over d
 abbrev pub form_value : Form → ℕ → Point ℕ → Option Frac
@@ -132,15 +132,29 @@ value_beyond side values = seen_from side (λ seen_values. below_all (least_past
 abbrev pub value_in_class : Side → ℤ → ℤ → List Frac → Option Frac
 value_in_class side j q values = seen_from side (λ seen_values. class_below (signed side j) q (least_past None seen_values)) values
 
+-- ---- the value at a place
+
+-- beside the form's value over d
+abbrev pub beside_form : Context → Side → ℕ → Form → ℕ → Tree → Point ℕ → Option Frac
+beside_form c side x e d f p = form_value e d p >>= λ v. criticals c x f p >>= λ values. value_beside side v values
+
+-- beyond all critical values of the branch
+abbrev pub beyond_criticals : Context → Side → ℕ → Tree → Point ℕ → Option Frac
+beyond_criticals c side x f p = criticals c x f p >>= λ values. value_beyond side values
+
+-- there in the class of j modulo q
+abbrev pub class_beyond : Context → Side → ℕ → ℤ → ℤ → Tree → Point ℕ → Option Frac
+class_beyond c side x j q f p = criticals c x f p >>= λ values. value_in_class side j q values
+
 -- the value of x at its place
 abbrev pub place_value : Context → ℕ → Place → Tree → Point ℕ → Option Frac
 place_value c x (Exact e d) f p = form_value e d p
-place_value c x (AboveBy e d) f p = form_value e d p >>= λ v. criticals c x f p >>= λ values. value_beside Lower v values
-place_value c x (BelowBy e d) f p = form_value e d p >>= λ v. criticals c x f p >>= λ values. value_beside Upper v values
-place_value c x MinusInfinity f p = criticals c x f p >>= λ values. value_beyond Lower values
-place_value c x PlusInfinity f p = criticals c x f p >>= λ values. value_beyond Upper values
-place_value c x (Periodic j (negsuc q)) f p = criticals c x f p >>= λ values. value_in_class Lower j (pos (suc q)) values
-place_value c x (Periodic j (pos q)) f p = criticals c x f p >>= λ values. value_in_class Upper j (pos q) values
+place_value c x (AboveBy e d) f p = beside_form c Lower x e d f p
+place_value c x (BelowBy e d) f p = beside_form c Upper x e d f p
+place_value c x MinusInfinity f p = beyond_criticals c Lower x f p
+place_value c x PlusInfinity f p = beyond_criticals c Upper x f p
+place_value c x (Periodic j (negsuc q)) f p = class_beyond c Lower x j (pos (suc q)) f p
+place_value c x (Periodic j (pos q)) f p = class_beyond c Upper x j (pos q) f p
 
 -- ---- one after the other
 
