@@ -28,7 +28,7 @@ pub origin_of : (c : Context) → Of c origin
 origin_of Fields = omega arith
 origin_of Integers = refl
 
-with_append : (xs ys : List Value) (p : Point ℕ) → with_values p (xs ++ ys) ≡ with_values (with_values p xs) ys
+pub with_append : (xs ys : List Value) (p : Point ℕ) → with_values p (xs ++ ys) ≡ with_values (with_values p xs) ys
 with_append [] ys p = refl
 with_append (x ∷ xs) ys p = with_append xs ys (with_value p x)
 

@@ -1,0 +1,6 @@
+pub mod OneValue
+pub mod Moving
+pub mod Found
+pub mod Sampleable
+pub mod Reordered
+pub mod Cases

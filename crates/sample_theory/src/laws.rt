@@ -1,0 +1,36 @@
+// What is proved of samples of answers. Each function does nothing: its contract is the law, and its check is the proof.
+ghost use Rattle.formula_meaning.specs.Context.{Context};
+ghost use Rattle.sample_theory.specs.Samples.{ValueIsTrue, SampleOfAnswersIsTrue, LeadIsSampleable};
+ghost use Rattle.sample_theory.specs.Reordered.{CaseGivesSample, CaseIsSampleable, CaseTreeGivesSample};
+
+/// Where a place makes a formula true, the value calculated for the place makes it true: at every place of the ordered fields, and
+/// of the integers in the residue classes of any period, up or down, though it is perhaps one of none of the formula's congruences.
+pub fn value_is_true()
+    ensures { (c : Context) → ValueIsTrue c }
+{}
+
+/// The values calculated for answers one after the other, each from the formula with the answers after it put in, make the formula
+/// true. Over the integers their periods have to fit the formula where answered names move; over the ordered fields nothing is asked.
+pub fn sample_of_answers_is_true()
+    ensures { (c : Context) → SampleOfAnswersIsTrue c }
+{}
+
+/// Answers found one after the other under assumptions can be sampled where the assumptions and the last branch are true.
+pub fn lead_is_sampleable()
+    ensures { (c : Context) → LeadIsSampleable c }
+{}
+
+/// Values that make the matrix true are a sample of the formula, in the order of its block.
+pub fn case_gives_sample()
+    ensures { (c : Context) → CaseGivesSample c }
+{}
+
+/// A case of a case tree can be sampled where the theory and its guard are true.
+pub fn case_is_sampleable()
+    ensures { (c : Context) → CaseIsSampleable c }
+{}
+
+/// The values calculated for such a case, in the order of the block, are a sample of the formula.
+pub fn case_tree_gives_sample()
+    ensures { (c : Context) → CaseTreeGivesSample c }
+{}
