@@ -4,3 +4,4 @@ pub mod Found
 pub mod Sampleable
 pub mod Reordered
 pub mod Cases
+mod Examples
