@@ -42,7 +42,7 @@ use Rattle.sample_reference.proofs.FieldsValue.{form_value_is, criticals_are}
 
 -- ---- a whole number over a number
 
-divides_one : (n d k : ℤ) → pos 0 <ℤ d → IsLowest (record { numerator = n; denominator = d }) → n ≡ k *ℤ d → d ≡ pos 1
+pub divides_one : (n d k : ℤ) → pos 0 <ℤ d → IsLowest (record { numerator = n; denominator = d }) → n ≡ k *ℤ d → d ≡ pos 1
 divides_one n d k h low e =
     let one : Divides d (pos 1) = low.greatest d (record { quotient = k; exact = e ∙ mul_comm k d }) (divides_same d) in
     let most = divisor_at_most (omega (arith, ints)) one in

@@ -3,5 +3,6 @@ pub mod Moving
 pub mod Found
 pub mod Sampleable
 pub mod Reordered
+pub mod Known
 pub mod Cases
 mod Examples

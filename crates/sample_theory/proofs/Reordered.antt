@@ -31,11 +31,11 @@ use Rattle.sample_theory.proofs.Moving.{below_positive}
 
 -- ---- names in a list
 
-not_both : (b : Bool) → b ≡ true → b ≡ false → ⊥
+pub not_both : (b : Bool) → b ≡ true → b ≡ false → ⊥
 not_both true e f = absurd cc
 not_both false e f = absurd cc
 
-among_listed : (y : ℕ) (xs : List ℕ) → Among xs y → is_in nat_eq y xs ≡ true
+pub among_listed : (y : ℕ) (xs : List ℕ) → Among xs y → is_in nat_eq y xs ≡ true
 among_listed y [] m = absurd m
 among_listed y (x ∷ xs) (inl e) = ap (λ (b : Bool). if b then true else is_in nat_eq y xs) (eq-eqb y x (sym e))
 among_listed y (x ∷ xs) (inr m) = ap (λ (b : Bool). if nat_eq y x then true else b) (among_listed y xs m) ∙ either (nat_eq y x)
@@ -44,7 +44,7 @@ among_listed y (x ∷ xs) (inr m) = ap (λ (b : Bool). if nat_eq y x then true e
     either true = refl
     either false = refl
 
-listed_among : (y : ℕ) (xs : List ℕ) → is_in nat_eq y xs ≡ true → Among xs y
+pub listed_among : (y : ℕ) (xs : List ℕ) → is_in nat_eq y xs ≡ true → Among xs y
 listed_among y [] e = absurd cc
 listed_among y (x ∷ xs) e = go (nat_eq y x) refl e (listed_among y xs)
   where
@@ -75,11 +75,11 @@ one_named (w ∷ vs) u v h (inr m) (inr n) e = one_named vs u v h.1 m n e
 -- ---- the value of a name
 
 -- y has the value of one of the list
-record HasValue (vs : List Value) (p : Point ℕ) (y : ℕ) : Type 0 where
-  value : Value
-  among : Among vs value
-  named : value.name ≡ y
-  here : (with_values p vs).at y *ℤ value.at.denominator ≡ value.at.numerator *ℤ pos (with_values p vs).below
+pub record HasValue (vs : List Value) (p : Point ℕ) (y : ℕ) : Type 0 where
+  pub value : Value
+  pub among : Among vs value
+  pub named : value.name ≡ y
+  pub here : (with_values p vs).at y *ℤ value.at.denominator ≡ value.at.numerator *ℤ pos (with_values p vs).below
 
 set_here : (a b n d e : ℤ) → pos 0 <ℤ b → a *ℤ (b *ℤ d) ≡ (n *ℤ b) *ℤ e → a *ℤ d ≡ n *ℤ e
 set_here a b n d e h f = cancel_positive b h (mul_left_comm b a d ∙ f ∙ ap (λ z. z *ℤ e) (mul_comm n b) ∙ mul_assoc b n e)
@@ -95,7 +95,7 @@ module _ (c : Context) where
       ∙ others_stay c vs (with_value p v) each.1 v.name e
       ∙ ap (λ z. z *ℤ pos (with_values (with_value p v) vs).below) (moved_here p v.name k m))
 
-  has_value : (vs : List Value) (p : Point ℕ) (y : ℕ) → Of c p → EachOf (IsValue c) vs → Among (value_names vs) y → HasValue vs p y
+  pub has_value : (vs : List Value) (p : Point ℕ) (y : ℕ) → Of c p → EachOf (IsValue c) vs → Among (value_names vs) y → HasValue vs p y
   has_value [] p y o each m = absurd m
   has_value (v ∷ vs) p y o each m = go (is_in nat_eq y (value_names vs)) refl (λ n. has_value vs (with_value p v) y (values_of_theory c (v ∷ []) p (each.0, tt) o) each.1 n)
     where
@@ -117,7 +117,7 @@ module _ (c : Context) where
 
   -- ---- one point in two orders
 
-  cross_here : (a s n d b e : ℤ) → pos 0 <ℤ d → a *ℤ d ≡ n *ℤ b → s *ℤ d ≡ n *ℤ e → a *ℤ e ≡ s *ℤ b
+  pub cross_here : (a s n d b e : ℤ) → pos 0 <ℤ d → a *ℤ d ≡ n *ℤ b → s *ℤ d ≡ n *ℤ e → a *ℤ e ≡ s *ℤ b
   cross_here a s n d b e h f g =
       cancel_positive d h
       (mul_left_comm d a e ∙ sym (mul_assoc a d e) ∙ ap (λ z. z *ℤ e) f ∙ mul_assoc n b e ∙ ap (λ z. n *ℤ z) (mul_comm b e) ∙ sym (mul_assoc n e b) ∙ ap (λ z. z *ℤ b) (sym g) ∙ mul_assoc s d b

@@ -1,6 +1,7 @@
 // What is proved of samples of answers. Each function does nothing: its contract is the law, and its check is the proof.
 ghost use Rattle.formula_meaning.specs.Context.{Context};
 ghost use Rattle.sample_theory.specs.Samples.{ValueIsTrue, SampleOfAnswersIsTrue, LeadIsSampleable};
+ghost use Rattle.sample_theory.specs.Known.{KnownAreThePoint};
 ghost use Rattle.sample_theory.specs.Reordered.{CaseGivesSample, CaseIsSampleable, CaseTreeGivesSample};
 
 /// Where a place makes a formula true, the value calculated for the place makes it true: at every place of the ordered fields, and
@@ -18,6 +19,11 @@ pub fn sample_of_answers_is_true()
 /// Answers found one after the other under assumptions can be sampled where the assumptions and the last branch are true.
 pub fn lead_is_sampleable()
     ensures { (c : Context) → LeadIsSampleable c }
+{}
+
+/// The numbers of a point, in lowest terms, are known values, where each other name is at 0.
+pub fn known_are_the_point()
+    ensures { (c : Context) → KnownAreThePoint c }
 {}
 
 /// Values that make the matrix true are a sample of the formula, in the order of its block.
