@@ -1,7 +1,8 @@
 -- The least critical value of a list of atoms: from one part after the other, and with each atom once.
-use Rattle.std.proofs.Common.{◌≡◌, ℕ, Bool, true, false, List, [], ◌∷◌, ◌++◌, Option, Some, None, ◌⊎◌, inl, inr, refl, sym, ap, ◌∙◌, subst, arith, if◌then◌else◌}
+use Rattle.std.proofs.Common.{◌≡◌, ℕ, Bool, true, false, List, [], ◌∷◌, ◌++◌, map, Option, Some, None, ◌⊎◌, inl, inr, refl, sym, ap, ◌∙◌, subst, arith, if◌then◌else◌}
 use Rattle.std.specs.Prelude.{option_map}
 use Rattle.std.proofs.lemmas.Int.{ints}
+use Rattle.std.proofs.lemmas.List.{map-append}
 use Rattle.exact_numbers.specs.declared.fraction.Fraction.{Fraction}
 use Rattle.exact_numbers.specs.Frac.{Frac, IsProper}
 use Rattle.exact_numbers.specs.Fraction.{frac_of}
@@ -13,16 +14,17 @@ use Rattle.formula_meaning.specs.Point.{Point}
 use Rattle.formula_meaning.specs.Some.{EachOf}
 use Rattle.formula_meaning.specs.Tree.{Tree}
 use Rattle.formula_meaning.proofs.Same.{atom_same}
+use Rattle.elimination_theory.specs.declared.side.Side.{Side}
 use Rattle.elimination_theory.specs.Atoms.{atoms_in, atoms_of}
 use Rattle.elimination_theory.proofs.Fractions.{at_most_at_most}
 use Rattle.elimination_reference.specs.PutIn.{tree_put, tree_put_within}
 use Rattle.sample_reference.specs.Values.{origin}
-use Rattle.sample_reference.specs.Calculated.{atom_root, with_root, critical_values, criticals, is_less, lesser, least_with, past, least_past}
+use Rattle.sample_reference.specs.Calculated.{atom_root, with_root, critical_values, criticals, is_less, lesser, least_with, past, least_past, seen}
 use Rattle.sample_reference.proofs.Critical.{roots_proper}
 use Rattle.sample_reference.proofs.Leasts.{Less, AtMost, less_told, not_less}
 use Rattle.sample_reference.proofs.SamePoints.{some_same, none_some}
 use Rattle.plain_truths.specs.Put.{IsTreePut}
-use Rattle.sample_values.specs.Roots.{least_among, IsNextCritical}
+use Rattle.sample_values.specs.Roots.{seen_criticals, least_among, IsNextCritical}
 
 -- ---- one number
 
@@ -100,21 +102,24 @@ critical_append : (x : ℕ) (atoms more : List Atom) → critical_values x (atom
 critical_append x [] more = refl
 critical_append x (a ∷ atoms) more = ap (with_root (atom_root x a)) (critical_append x atoms more) ∙ with_append (atom_root x a) (critical_values x atoms) (critical_values x more)
 
-module _ (x : ℕ) (b : Option Frac) where
-  pub among_append : (o : Option Frac) (atoms more : List Atom) → least_among x b o (atoms ++ more) ≡ least_among x b (least_among x b o atoms) more
+seen_append : (side : Side) (x : ℕ) (atoms more : List Atom) → seen_criticals side x (atoms ++ more) ≡ seen_criticals side x atoms ++ seen_criticals side x more
+seen_append side x atoms more = ap (map (seen side)) (critical_append x atoms more) ∙ map-append (seen side) (critical_values x atoms) (critical_values x more)
+
+module _ (side : Side) (x : ℕ) (b : Option Frac) where
+  pub among_append : (o : Option Frac) (atoms more : List Atom) → least_among side x b o (atoms ++ more) ≡ least_among side x b (least_among side x b o atoms) more
   among_append o atoms more =
-      ap (λ vs. least_with o (past b vs)) (critical_append x atoms more)
-      ∙ ap (least_with o) (past_append b (critical_values x atoms) (critical_values x more))
-      ∙ least_append o (past b (critical_values x atoms)) (past b (critical_values x more))
+      ap (λ vs. least_with o (past b vs)) (seen_append side x atoms more)
+      ∙ ap (least_with o) (past_append b (seen_criticals side x atoms) (seen_criticals side x more))
+      ∙ least_append o (past b (seen_criticals side x atoms)) (past b (seen_criticals side x more))
 
   -- ---- one atom
 
-  -- the atom's critical values above the bound
+  -- the atom's critical values above the bound, as the side sees them
   abbrev own : Atom → List Frac
-  own a = past b (critical_values x (a ∷ []))
+  own a = past b (seen_criticals side x (a ∷ []))
 
   abbrev one : Option Frac → Atom → Option Frac
-  one o a = least_among x b o (a ∷ [])
+  one o a = least_among side x b o (a ∷ [])
 
   -- above the bound an atom has no number, or one
   own_is : (a : Atom) → (own a ≡ []) ⊎ ((v : Frac) × (own a ≡ v ∷ []) × IsProper v)
@@ -128,8 +133,8 @@ module _ (x : ℕ) (b : Option Frac) where
           tested true = inr (v, refl, p)
           tested false = inl refl
 
-      go : (o : Option Frac) → EachOf IsProper (with_root o []) → (past b (with_root o []) ≡ []) ⊎ ((v : Frac) × (past b (with_root o []) ≡ v ∷ []) × IsProper v)
-      go (Some v) p = above b v p.0
+      go : (o : Option Frac) → EachOf IsProper (with_root o []) → (past b (map (seen side) (with_root o [])) ≡ []) ⊎ ((v : Frac) × (past b (map (seen side) (with_root o [])) ≡ v ∷ []) × IsProper v)
+      go (Some v) p = above b (seen side v) p.0
       go None p = inl (none_past b)
         where
           none_past : (b : Option Frac) → past b [] ≡ []
@@ -180,21 +185,21 @@ module _ (x : ℕ) (b : Option Frac) where
 
   -- ---- each atom once
 
-  least_without : (o : Option Frac) (a : Atom) (atoms : List Atom) → IsProperThere o → one o a ≡ o → least_among x b o (without_same same_atom a atoms) ≡ least_among x b o atoms
+  least_without : (o : Option Frac) (a : Atom) (atoms : List Atom) → IsProperThere o → one o a ≡ o → least_among side x b o (without_same same_atom a atoms) ≡ least_among side x b o atoms
   least_without o a [] po k = refl
   least_without o a (c ∷ atoms) po k = go (same_atom a c) refl (least_without o a atoms po k) (least_without (one o c) a atoms (one_proper o c po) (one_on o a c po k))
     where
-      go : (t : Bool) → same_atom a c ≡ t → least_among x b o (without_same same_atom a atoms) ≡ least_among x b o atoms →
-          least_among x b (one o c) (without_same same_atom a atoms) ≡ least_among x b (one o c) atoms → least_among x b o (if t then without_same same_atom a atoms else c ∷ without_same same_atom a atoms) ≡ least_among x b o (c ∷ atoms)
+      go : (t : Bool) → same_atom a c ≡ t → least_among side x b o (without_same same_atom a atoms) ≡ least_among side x b o atoms →
+          least_among side x b (one o c) (without_same same_atom a atoms) ≡ least_among side x b (one o c) atoms → least_among side x b o (if t then without_same same_atom a atoms else c ∷ without_same same_atom a atoms) ≡ least_among side x b o (c ∷ atoms)
       go true e same_here next =
           let same : one o c ≡ o = subst (λ d. one o d ≡ o) (atom_same a c e) k in
-          same_here ∙ sym (among_append o (c ∷ []) atoms ∙ ap (λ p. least_among x b p atoms) same)
+          same_here ∙ sym (among_append o (c ∷ []) atoms ∙ ap (λ p. least_among side x b p atoms) same)
       go false e same_here next =
           among_append o (c ∷ []) (without_same same_atom a atoms)
           ∙ next
           ∙ sym (among_append o (c ∷ []) atoms)
 
-  least_distinct : (o : Option Frac) (atoms : List Atom) → IsProperThere o → least_among x b o (distinct same_atom atoms) ≡ least_among x b o atoms
+  least_distinct : (o : Option Frac) (atoms : List Atom) → IsProperThere o → least_among side x b o (distinct same_atom atoms) ≡ least_among side x b o atoms
   least_distinct o [] po = refl
   least_distinct o (a ∷ atoms) po =
       among_append o (a ∷ []) (without_same same_atom a (distinct same_atom atoms))
@@ -202,16 +207,16 @@ module _ (x : ℕ) (b : Option Frac) where
       ∙ least_distinct (one o a) atoms (one_proper o a po)
       ∙ sym (among_append o (a ∷ []) atoms)
 
-  pub least_of_formula : (f : Tree) → least_among x b None (atoms_in f) ≡ least_past b (critical_values x (atoms_of f))
+  pub least_of_formula : (f : Tree) → least_among side x b None (atoms_in f) ≡ least_past b (seen_criticals side x (atoms_of f))
   least_of_formula f = sym (least_distinct None (atoms_in f) (λ w e. none_some w e))
 
 -- the least in the formula with the point put in is the least of the critical values
-pub next_found : (c : Context) (x : ℕ) (f g : Tree) (p : Point ℕ) (bound : Option Frac) (w : Option Fraction) → IsTreePut c p (x ∷ []) f g → option_map frac_of w ≡ least_among x bound None (atoms_in g) →
-    IsNextCritical bound (criticals c x f p) w
-next_found c x f g p bound w h e = record {
+pub next_found : (c : Context) (side : Side) (x : ℕ) (f g : Tree) (p : Point ℕ) (bound : Option Frac) (w : Option Fraction) → IsTreePut c p (x ∷ []) f g → option_map frac_of w ≡ least_among side x bound None (atoms_in g) →
+    IsNextCritical side bound (criticals c x f p) w
+next_found c side x f g p bound w h e = record {
   values = critical_values x (atoms_of (tree_put c p (x ∷ []) f));
   formed = ap (λ (t : Bool). if t then Some (critical_values x (atoms_of (tree_put c p (x ∷ []) f))) else None) h.within;
-  least = e ∙ least_of_formula x bound g ∙ ap (λ t. least_past bound (critical_values x (atoms_of t))) h.formula;
+  least = e ∙ least_of_formula side x bound g ∙ ap (λ t. least_past bound (seen_criticals side x (atoms_of t))) h.formula;
 }
 
 pub next_refused : (c : Context) (x : ℕ) (f : Tree) (p : Point ℕ) → tree_put_within c p (x ∷ []) f ≡ false → criticals c x f p ≡ None
