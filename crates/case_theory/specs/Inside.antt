@@ -60,8 +60,8 @@ InsideIsSplit c = (ks : List Atom) (matrix : Tree) (block : List ℕ) (before : 
 
 -- A branch that others cover may go.
 abbrev pub InsideCoveredMayGo : Context → Type 0
-InsideCoveredMayGo c = (ks : List Atom) (matrix : Tree) (block : List ℕ) (before : List Pending) (b : Pending) (rest : List Pending) → ArePendingInside c ks matrix block (before ++ b ∷ rest) →
-    IsCovered c ks b (before ++ rest) → ArePendingInside c ks matrix block (before ++ rest)
+InsideCoveredMayGo c = (ks : List Atom) (matrix : Tree) (block : List ℕ) (before : List Pending) (b : Pending) (rest : List Pending) →
+    ArePendingInside c ks matrix block (before ++ b ∷ rest) → IsCovered c ks b (before ++ rest) → ArePendingInside c ks matrix block (before ++ rest)
 
 -- ---- its end
 

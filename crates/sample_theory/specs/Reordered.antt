@@ -25,12 +25,20 @@ pub record AreReordered (values ordered : List Value) : Type 0 where
 -- matrix where the atoms of the theory without a name of the block are true.
 abbrev pub CaseGivesSample : Context → Type 0
 CaseGivesSample c = (theory : List Atom) (f matrix : Tree) (answers : List Answer) (p : Point ℕ) (values ordered : List Value) → Of c p → AreTrue theory p →
-    EquivalentUnder c (without_all (case_names f) theory) (case_matrix f) matrix → AreTrueAnswers c answers matrix p values → AreReordered values ordered → value_names ordered ≡ case_names f →
-    IsTrueSample c f p (Some ordered)
+    EquivalentUnder c (without_all (case_names f) theory) (case_matrix f) matrix → AreTrueAnswers c answers matrix p values →
+    AreReordered values ordered → value_names ordered ≡ case_names f → IsTrueSample c f p (Some ordered)
 
--- A case of a case tree can be sampled where the theory and its guard are true,
+-- a case of a case tree, and a point at which the theory and the guard of the case are true
+pub record IsTrueCase (c : Context) (theory : List Atom) (f matrix : Tree) (cases : List Case) (k : Case) (p : Point ℕ) : Type 0 where
+  pub tree : IsCaseTree c theory f matrix cases
+  pub among : Among cases k
+  pub of_theory : Of c p
+  pub theory_true : AreTrue theory p
+  pub guard_true : TrueAt c k.guard p
+
+-- Such a case can be sampled at the point,
 abbrev pub CaseIsSampleable : Context → Type 0
-CaseIsSampleable c = (theory : List Atom) (f matrix : Tree) (cases : List Case) (k : Case) (p : Point ℕ) → IsCaseTree c theory f matrix cases → Among cases k → Of c p → AreTrue theory p → TrueAt c k.guard p →
+CaseIsSampleable c = (theory : List Atom) (f matrix : Tree) (cases : List Case) (k : Case) (p : Point ℕ) → IsTrueCase c theory f matrix cases k p →
     IsSampleable c k.answers matrix p
 
 -- the values are all those behind the known ones, and the ordered values are these in the order of the block
@@ -42,6 +50,6 @@ pub record IsOrderOf (f : Tree) (known all ordered : List Value) : Type 0 where
 
 -- and its calculated values, in the order of the block, are a sample of the formula.
 abbrev pub CaseTreeGivesSample : Context → Type 0
-CaseTreeGivesSample c = (theory : List Atom) (f matrix : Tree) (cases : List Case) (k : Case) (p : Point ℕ) (known all ordered : List Value) → IsCaseTree c theory f matrix cases → Among cases k →
-    Of c p → AreTrue theory p → TrueAt c k.guard p → AreKnown c known p → values_from c (answer_steps c k.answers matrix) known ≡ Some all → IsOrderOf f known all ordered →
-    IsTrueSample c f p (Some ordered)
+CaseTreeGivesSample c = (theory : List Atom) (f matrix : Tree) (cases : List Case) (k : Case) (p : Point ℕ) (known all ordered : List Value) →
+    IsTrueCase c theory f matrix cases k p → AreKnown c known p → values_from c (answer_steps c k.answers matrix) known ≡ Some all →
+    IsOrderOf f known all ordered → IsTrueSample c f p (Some ordered)
