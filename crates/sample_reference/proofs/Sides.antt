@@ -35,7 +35,7 @@ pub seen_lowest : (side : Side) (a : Frac) → IsLowest a → IsLowest (seen sid
 seen_lowest Lower a h = h
 seen_lowest Upper a h = record { not_negative = h.not_negative; left = divides_neg h.left; right = h.right; greatest = λ d y z. h.greatest d (divides_along (neg_neg a.numerator) (divides_neg y)) z }
 
-seen_seen : (side : Side) (a : Frac) → seen side (seen side a) ≡ a
+pub seen_seen : (side : Side) (a : Frac) → seen side (seen side a) ≡ a
 seen_seen side a = ap (λ n. let r : Frac = record { numerator = n; denominator = a.denominator } in r) (signed_signed side a.numerator)
 
 pub among_seen : (side : Side) (values : List Frac) (w : Frac) → Among (map (seen side) values) w → Among values (seen side w)

@@ -1,4 +1,5 @@
 pub mod OneValue
+pub mod CriticalSet
 pub mod Moving
 pub mod Found
 pub mod Sampleable

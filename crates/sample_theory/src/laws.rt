@@ -1,6 +1,7 @@
 // What is proved of samples of answers. Each function does nothing: its contract is the law, and its check is the proof.
 ghost use Rattle.formula_meaning.specs.Context.{Context};
 ghost use Rattle.sample_theory.specs.Samples.{ValueIsTrue, SampleOfAnswersIsTrue, LeadIsSampleable};
+ghost use Rattle.sample_theory.specs.CriticalSet.{ValueIsOfAtoms};
 ghost use Rattle.sample_theory.specs.Known.{KnownAreThePoint};
 ghost use Rattle.sample_theory.specs.Reordered.{CaseGivesSample, CaseIsSampleable, CaseTreeGivesSample};
 
@@ -8,6 +9,12 @@ ghost use Rattle.sample_theory.specs.Reordered.{CaseGivesSample, CaseIsSampleabl
 /// of the integers in the residue classes of any period, up or down, though it is perhaps one of none of the formula's congruences.
 pub fn value_is_true()
     ensures { (c : Context) → ValueIsTrue c }
+{}
+
+/// The value at a place depends on the set of the branch's atoms alone, with the point put in: so a formula whose parts are shared may
+/// be walked in any order, each part once.
+pub fn value_is_of_atoms()
+    ensures { (c : Context) → ValueIsOfAtoms c }
 {}
 
 /// The values calculated for answers one after the other, each from the formula with the answers after it put in, make the formula
