@@ -3,6 +3,7 @@ pub mod SamePoints
 pub mod Leasts
 pub mod Critical
 pub mod Sides
+pub mod CriticalSets
 pub mod FieldsValue
 pub mod IntegersValue
 pub mod OneValue

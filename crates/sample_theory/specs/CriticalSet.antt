@@ -15,5 +15,6 @@ pub record HaveSameAtoms (c : Context) (x : ℕ) (p : Point ℕ) (f g : Tree) : 
   pub within : tree_put_within c p (x ∷ []) f ≡ tree_put_within c p (x ∷ []) g
   pub same : (a : Atom) → Among (atoms_in (tree_put c p (x ∷ []) f)) a ↔ Among (atoms_in (tree_put c p (x ∷ []) g)) a
 
+-- Then the value at a place is the same.
 abbrev pub ValueIsOfAtoms : Context → Type 0
 ValueIsOfAtoms c = (x : ℕ) (s : Place) (f g : Tree) (p : Point ℕ) → HaveSameAtoms c x p f g → place_value c x s f p ≡ place_value c x s g p
