@@ -175,7 +175,7 @@ module _ (c : Context) (x : ℕ) (p : Point ℕ) where
   put_same : Of c p → (f : Tree) → InContext c f → (k : ℤ) (m : ℕ) → Allowed c m → TrueAt c f (move nat_eq p x k m) ↔ TrueAt c (tree_put c p (x ∷ []) f) (move nat_eq p x k m)
   put_same o f i k m a = let u = moved_of c p x k m o a in put_true c p o (x ∷ []) f (move nat_eq p x k m) (move nat_eq p x k m) i u u (moved_mixes k m)
 
-  put_holds : Of c p → (s : Place) (f : Tree) → IsPlaceIn c s → InContext c f → Holds c (at_place x s) f p → Holds c (at_place x s) (tree_put c p (x ∷ []) f) p
+  pub put_holds : Of c p → (s : Place) (f : Tree) → IsPlaceIn c s → InContext c f → Holds c (at_place x s) f p → Holds c (at_place x s) (tree_put c p (x ∷ []) f) p
   put_holds o s f place i h = meets_map c s x (λ q. TrueAt c f q) (λ q. TrueAt c (tree_put c p (x ∷ []) f) q) p (λ k m a. (put_same o f i k m a).0) place h
 
   -- with the point put in, the formula is true at the sample of the place if the place makes it true
@@ -183,7 +183,7 @@ module _ (c : Context) (x : ℕ) (p : Point ℕ) where
   TruthAtSample s t = IsPlain t → InContext c t → Holds c (at_place x s) t p → (k : ℤ) (m : ℕ) → Allowed c m → IsSample c x s t p k m → TrueAt c t (move nat_eq p x k m)
 
 -- the calculated value is the sample
-sample_value : (c : Context) (x : ℕ) (s : Place) (f : Tree) (p : Point ℕ) (r : Frac) → Of c p → IsPlaceIn c s → IsPlain f → InContext c f → Holds c (at_place x s) (tree_put c p (x ∷ []) f) p → place_value c x s f p ≡ Some r →
+pub sample_value : (c : Context) (x : ℕ) (s : Place) (f : Tree) (p : Point ℕ) (r : Frac) → Of c p → IsPlaceIn c s → IsPlain f → InContext c f → Holds c (at_place x s) (tree_put c p (x ∷ []) f) p → place_value c x s f p ≡ Some r →
     IsValue c (record { name = x; at = r }) × IsSample c x s (tree_put c p (x ∷ []) f) p (r.numerator *ℤ pos p.below) (unsigned_abs r.denominator)
 sample_value Fields x s f p r o place plain inside holds h =
     let w = put_plain Fields x p f plain inside in

@@ -9,8 +9,8 @@ use Rattle.elimination_theory.specs.IntegersTheorems.{Suits}
 use Rattle.elimination_theory.specs.BothTheories.{IsPlaceIn}
 use Rattle.elimination_reference.specs.PutIn.{tree_put}
 use Rattle.case_theory.proofs.ClassSample.{class_sample_true}
-use Rattle.sample_reference.proofs.OneValue.{TruthAtSample, value_from, fields_truth, integers_truth}
-use Rattle.sample_theory.specs.Samples.{ValueIsTrue}
+use Rattle.sample_reference.proofs.OneValue.{TruthAtSample, put_holds, sample_value, value_from, fields_truth, integers_truth}
+use Rattle.sample_theory.specs.Samples.{ValueIsTrue, ValueIsSample}
 
 class_truth : (x : ℕ) (s : Place) (t : Tree) (p : Point ℕ) → Of Integers p → IsPlaceIn Integers s → TruthAtSample Integers x p s t
 class_truth x (Exact e l) t p o place = integers_truth x (Exact e l) t p o place (every_all (Suits x (Exact e l)) (λ a. tt) t)
@@ -24,3 +24,6 @@ class_truth x MinusInfinity t p o place = absurd place
 pub value_true : (c : Context) → ValueIsTrue c
 value_true Fields x s f p r place plain inside o holds h = value_from Fields x s f p r o place plain inside holds h (fields_truth x s (tree_put Fields p (x ∷ []) f) p o place)
 value_true Integers x s f p r place plain inside o holds h = value_from Integers x s f p r o place plain inside holds h (class_truth x s (tree_put Integers p (x ∷ []) f) p o place)
+
+pub value_sample : (c : Context) → ValueIsSample c
+value_sample c x s f p r place plain inside o holds h = (sample_value c x s f p r o place plain inside (put_holds c x p o s f place inside holds) h).1

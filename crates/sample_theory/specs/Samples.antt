@@ -1,5 +1,5 @@
 -- A value for each answered name, calculated from the formula with the answers after it put in.
-use Rattle.std.specs.Prelude.{◌≡◌, ℕ, List, [], ◌∷◌, ◌++◌, Some}
+use Rattle.std.specs.Prelude.{◌≡◌, ℕ, pos, ◌*ℤ◌, unsigned_abs, List, [], ◌∷◌, ◌++◌, Some}
 use Rattle.exact_numbers.specs.Frac.{Frac}
 use Rattle.formula_meaning.specs.Context.{Context, Fields, Integers}
 use Rattle.formula_meaning.specs.Point.{Point, Of, IsSamePoint}
@@ -10,7 +10,9 @@ use Rattle.formula_meaning.specs.Answer.{Place, Answer, Holds}
 use Rattle.formula_meaning.specs.Tree.{Tree, TrueAt, InContext}
 use Rattle.elimination_theory.specs.Substitution.{at_place}
 use Rattle.elimination_theory.specs.BothTheories.{IsPlaceIn}
+use Rattle.elimination_theory.specs.Samples.{IsSample}
 use Rattle.elimination_theory.specs.Answers.{Step, answers_of}
+use Rattle.elimination_reference.specs.PutIn.{tree_put}
 use Rattle.elimination_reference.specs.Theorems.{IsTidy, answer_names}
 use Rattle.case_theory.specs.PutThrough.{AreTrue, put_through, FitAt}
 use Rattle.case_theory.specs.Under.{LeadUnder}
@@ -26,6 +28,12 @@ named_value x r = record { name = x; at = r }
 abbrev pub ValueIsTrue : Context → Type 0
 ValueIsTrue c = (x : ℕ) (s : Place) (f : Tree) (p : Point ℕ) (r : Frac) → IsPlaceIn c s → IsPlain f → InContext c f → Of c p → Holds c (at_place x s) f p →
     place_value c x s f p ≡ Some r → IsValue c (named_value x r) × TrueAt c f (with_value p (named_value x r))
+
+-- It is the place's sample in the branch with the point put in: on the way to the next critical value, beyond all of them, or there
+-- in the residue class.
+abbrev pub ValueIsSample : Context → Type 0
+ValueIsSample c = (x : ℕ) (s : Place) (f : Tree) (p : Point ℕ) (r : Frac) → IsPlaceIn c s → IsPlain f → InContext c f → Of c p → Holds c (at_place x s) f p →
+    place_value c x s f p ≡ Some r → IsSample c x s (tree_put c p (x ∷ []) f) p (r.numerator *ℤ pos p.below) (unsigned_abs r.denominator)
 
 -- ---- answers
 

@@ -1,6 +1,6 @@
 // What is proved of samples of answers. Each function does nothing: its contract is the law, and its check is the proof.
 ghost use Rattle.formula_meaning.specs.Context.{Context};
-ghost use Rattle.sample_theory.specs.Samples.{ValueIsTrue, SampleOfAnswersIsTrue, LeadIsSampleable};
+ghost use Rattle.sample_theory.specs.Samples.{ValueIsTrue, ValueIsSample, SampleOfAnswersIsTrue, LeadIsSampleable};
 ghost use Rattle.sample_theory.specs.CriticalSet.{ValueIsOfAtoms};
 ghost use Rattle.sample_theory.specs.Known.{KnownAreThePoint};
 ghost use Rattle.sample_theory.specs.Reordered.{CaseGivesSample, CaseIsSampleable, CaseTreeGivesSample};
@@ -9,6 +9,12 @@ ghost use Rattle.sample_theory.specs.Reordered.{CaseGivesSample, CaseIsSampleabl
 /// of the integers in the residue classes of any period, up or down, though it is perhaps one of none of the formula's congruences.
 pub fn value_is_true()
     ensures { (c : Context) → ValueIsTrue c }
+{}
+
+/// The value calculated for a place is the place's one sample in the branch with the point put in: half way to the next critical value
+/// or one further, one beyond all critical values, or the first number of the class beyond them.
+pub fn value_is_sample()
+    ensures { (c : Context) → ValueIsSample c }
 {}
 
 /// The value at a place depends on the set of the branch's atoms alone, with the point put in: so a formula whose parts are shared may

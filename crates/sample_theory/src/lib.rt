@@ -6,5 +6,6 @@ mod laws;
 
 pub use laws::{
     case_gives_sample, case_is_sampleable, case_tree_gives_sample, known_are_the_point,
-    lead_is_sampleable, sample_of_answers_is_true, value_is_of_atoms, value_is_true,
+    lead_is_sampleable, sample_of_answers_is_true, value_is_of_atoms, value_is_sample,
+    value_is_true,
 };
