@@ -28,7 +28,8 @@ use Rattle.elimination_reference.proofs.CasesExact.{says}
 use Rattle.case_theory.specs.CaseTree.{without_all, NameBlock, IsCaseUnder, SaysUnder}
 use Rattle.case_theory.specs.Under.{Lack, LeadUnder}
 use Rattle.case_theory.specs.Block.{ex_all, Somewhere}
-use Rattle.case_theory.specs.Pending.{Pending, eliminated, ShareBlock, StaysFree, IsPending, ArePending, AreEnded, case_of_pending, cases_of_pending, PendingEnds, pending_trees, BlockIsWorked}
+use Rattle.case_theory.specs.Pending.{Pending, eliminated, ShareBlock, StaysFree, IsPending, AreTogether, AreEnded, case_of_pending, cases_of_pending, PendingEnds, pending_trees, BlockIsWorked}
+use Rattle.case_theory.specs.Inside.{IsPendingInside, InsideIsWorked}
 use Rattle.case_theory.proofs.Moved.{lacking_stays}
 use Rattle.case_theory.proofs.Without.{without_all_each}
 use Rattle.case_theory.proofs.Block.{somewhere_nowhere}
@@ -36,6 +37,7 @@ use Rattle.case_theory.proofs.Under.{answers_under, under_then}
 use Rattle.case_theory.proofs.Fit.{answers_fit}
 use Rattle.case_theory.proofs.Leading.{block_is, free_in_all, matrix_names}
 use Rattle.case_theory.proofs.Pending.{over_more}
+use Rattle.case_theory.proofs.Inside.{pending_inside}
 
 -- ---- a block under atoms without its names
 
@@ -70,8 +72,8 @@ module _ (c : Context) where
   ended_true (b ∷ bs) p e o = either_iff (ended_one b p e.0 o) (ended_true bs p e.1 o)
 
   -- together they are the block
-  ended_block : (ks : List Atom) (matrix : Tree) (block : List ℕ) (bs : List Pending) → ArePending c ks matrix block bs → AreEnded bs → EquivalentUnder c ks (ex_all block matrix) (Or (pending_trees bs))
-  ended_block ks matrix block bs a e p o t = both_ways (a.together p o t) (ended_true bs p e o)
+  ended_block : (ks : List Atom) (matrix : Tree) (block : List ℕ) (bs : List Pending) → AreTogether c ks matrix block bs → AreEnded bs → EquivalentUnder c ks (ex_all block matrix) (Or (pending_trees bs))
+  ended_block ks matrix block bs a e p o t = both_ways (a p o t) (ended_true bs p e o)
 
   -- all names of the block are eliminated
   ended_share : (ks : List Atom) (matrix : Tree) (block : List ℕ) (b : Pending) → IsPending c ks matrix block b → b.left ≡ [] → ShareBlock block (eliminated b) []
@@ -123,32 +125,33 @@ pending_ends c theory f matrix bs n w a e =
       together = says_under c ks (case_sign (normal_tree f)) f (ex_all (case_names f) (case_matrix f)) (Or (guards_of (cases_of_pending bs))) (says_block c f n)
           (under_then c ks (ex_all (case_names f) (case_matrix f)) (ex_all (case_names f) matrix) (Or (guards_of (cases_of_pending bs)))
           (block_under c ks (case_names f) (case_matrix f) matrix a.lack w.equivalent)
-          (subst (λ (ts : Trees). EquivalentUnder c ks (ex_all (case_names f) matrix) (Or ts)) (sym (trees_are bs)) (ended_block c ks matrix (case_names f) bs a e)));
+          (subst (λ (ts : Trees). EquivalentUnder c ks (ex_all (case_names f) matrix) (Or ts)) (sym (trees_are bs)) (ended_block c ks matrix (case_names f) bs a.together e)));
     }
 
 -- ---- a block inside a formula
 
-module _ (c : Context) (ks : List Atom) (matrix : Tree) (block : List ℕ) where
-  ended_tidy : (bs : List Pending) → EachOf (IsPending c ks matrix block) bs → AreTidy c (pending_trees bs)
+module _ (c : Context) (matrix : Tree) (block : List ℕ) where
+  ended_tidy : (bs : List Pending) → EachOf (IsPendingInside c matrix block) bs → AreTidy c (pending_trees bs)
   ended_tidy [] h = tt
   ended_tidy (b ∷ bs) h = (h.0.tidy, ended_tidy bs h.1)
 
-  ended_free : (bs : List Pending) (y : ℕ) → EachOf (IsPending c ks matrix block) bs → AreEnded bs → FreeInSome Mentions (pending_trees bs) y → IsFree matrix y × ¬ (Among block y)
+  ended_free : (bs : List Pending) (y : ℕ) → EachOf (IsPendingInside c matrix block) bs → AreEnded bs → FreeInSome Mentions (pending_trees bs) y → IsFree matrix y × ¬ (Among block y)
   ended_free [] y h e u = absurd u
-  ended_free (b ∷ bs) y h e (inl u) =
-      let named = all_named block (eliminated b) (ended_share c ks matrix block b h.0 e.0) in
-      let k = h.0.names y u in (k.0, λ m. k.1 ((named.same y).1 m))
+  ended_free (b ∷ bs) y h e (inl u) = let k = h.0.names y u in (k.0, λ m. subst (λ (left : List ℕ). Among left y → ⊥) (sym e.0) (λ n. n) (k.1 m))
   ended_free (b ∷ bs) y h e (inr u) = ended_free bs y h.1 e.1 u
 
-pub block_worked : (c : Context) → BlockIsWorked c
-block_worked c ks block f g bs w a e =
+pub inside_worked : (c : Context) → InsideIsWorked c
+inside_worked c ks block f g bs w a e =
     let ls = without_all block ks in
     record {
       equivalent = λ p o t.
           both_ways (block_under c ls block f g a.lack w.equivalent p o (without_all_each (λ k. Says k p) block ks t))
-          (both_ways (ended_block c ls g block bs a e p o (without_all_each (λ k. Says k p) block ks t)) (fold_list_true Says (move nat_eq) c Disjunction (pending_trees bs) p));
-      tidy = tidy_fold_list c Disjunction (pending_trees bs) (ended_tidy c ls g block bs a.each);
+          (both_ways (ended_block c ls g block bs a.together e p o (without_all_each (λ k. Says k p) block ks t)) (fold_list_true Says (move nat_eq) c Disjunction (pending_trees bs) p));
+      tidy = tidy_fold_list c Disjunction (pending_trees bs) (ended_tidy c g block bs a.each);
       names = λ y.
           fold_list_has (λ h. IsFree h y → IsFree (ex_all block f) y) (λ hs. FreeInSome Mentions hs y → IsFree (ex_all block f) y) (free_of_members Mentions y (IsFree (ex_all block f) y)) Disjunction (pending_trees bs)
-          (λ u. let k = ended_free c ls g block bs y a.each e u in free_in_all block f y (w.names y k.0) k.1);
+          (λ u. let k = ended_free c g block bs y a.each e u in free_in_all block f y (w.names y k.0) k.1);
     }
+
+pub block_worked : (c : Context) → BlockIsWorked c
+block_worked c ks block f g bs w a e = inside_worked c ks block f g bs w (pending_inside c (without_all block ks) g block bs a) e

@@ -9,6 +9,7 @@ pub mod Fit
 pub mod Worked
 pub mod Children
 pub mod Pending
+pub mod Inside
 pub mod Leading
 pub mod Ends
 pub mod FitAt

@@ -26,7 +26,7 @@ use Rattle.case_theory.specs.Under.{Lack}
 use Rattle.case_theory.specs.Block.{DifferIn, Somewhere}
 use Rattle.case_theory.specs.Points.{IsPointFor, ArePointsFor}
 use Rattle.case_theory.specs.Children.{IsChild, AreChildren}
-use Rattle.case_theory.specs.Pending.{Pending, eliminated, ShareBlock, StaysFree, IsPending, PendingBegins, IsRest, child, children, PendingGoesOn, CoveredMayGo, OtherMayCover}
+use Rattle.case_theory.specs.Pending.{Pending, eliminated, ShareBlock, StaysFree, IsPending, PendingBegins, IsRest, child, children, PendingGoesOn, AreTogether, IsCovered, CoveredMayGo, OtherMayCover}
 use Rattle.elimination_reference.proofs.PutIn.{of_allowed}
 use Rattle.case_theory.proofs.Lists.{once_right, once_fewer, once_apart, once_more, some_middle}
 use Rattle.case_theory.proofs.Block.{block_somewhere, somewhere_more, one_taken}
@@ -95,8 +95,39 @@ share_next block done left rest x s m r =
     apart : ¬ (Among (done ++ rest) x)
     apart n = ⊎_elim (once_apart done left x s.once m) (λ i. ((r.same x).0 i).0 refl) (among_append done rest x n)
 
+-- somewhere with the name and those left is somewhere in a child with those left
+module _ (c : Context) (ks : List Atom) (b : Pending) (lacks : (y : ℕ) → Among b.left y → Lack ks y) (x : ℕ) (left : List ℕ) (m : Among b.left x) (rest : IsRest x b.left left) (points : List Place)
+    (ps : ArePointsFor c x b.tree points) (rs : List Result) (cs : AreChildren c ks x b.tree points rs) where
+  module _ (p : Point ℕ) (o : Of c p) (t : AreTrue ks p) where
+    true_at : (q : Point ℕ) → Of c q → DifferIn (Among left) p q → AreTrue ks q
+    true_at q u d = atoms_elsewhere c (Among left) ks p q o u d (λ y n. lacks y (((rest.same y).0 n).1)) t
+
+    -- ex(x, ..) is true somewhere exactly where some child is
+    some_child : Somewhere c (Among left) (Ex x b.tree) p ↔ SomeOf (λ (r : Result). Somewhere c (Among left) r.tree p) rs
+    some_child = (
+      λ s. some_map (λ (r : Result). TrueAt c r.tree s.0) (λ (r : Result). Somewhere c (Among left) r.tree p) rs (λ r u. (s.0, s.1, s.2, u))
+          (cs.whole s.0 s.1 (true_at s.0 s.1 s.2) ((ps.exact s.0 s.1).0 s.3)),
+      λ h.
+          let r = some_among (λ (r : Result). Somewhere c (Among left) r.tree p) rs h in
+          let i = each_among (IsChild c ks x b.tree points) rs r.0 cs.each r.1 in
+          let s = r.2 in
+          (s.0, s.1, s.2, (ps.exact s.0 s.1).1 (among_some (λ v. TrueAt c (substitution c x v b.tree) s.0) points r.0.place i.listed ((i.equivalent s.0 s.1 (true_at s.0 s.1 s.2)).1 s.3))),
+    )
+
+    pub replaced_by : Somewhere c (Among b.left) b.tree p ↔ SomeOf (λ (d : Pending). Somewhere c (Among d.left) d.tree p) (children x b left rs)
+    replaced_by =
+        both_ways (one_taken c (Among b.left) x b.tree p o m)
+        (both_ways (
+          somewhere_more c (λ y. ¬ (x ≡ y) × Among b.left y) (Among left) (Ex x b.tree) p (λ y. (rest.same y).1),
+          somewhere_more c (Among left) (λ y. ¬ (x ≡ y) × Among b.left y) (Ex x b.tree) p (λ y. (rest.same y).0),
+        )
+        (both_ways some_child (
+          some_mapped (λ (d : Pending). Somewhere c (Among d.left) d.tree p) (child x b left) rs,
+          some_of_mapped (λ (d : Pending). Somewhere c (Among d.left) d.tree p) (child x b left) rs,
+        )))
+
 module _ (c : Context) (ks : List Atom) (matrix : Tree) (block : List ℕ) (lack : EachOf (Lack ks) block) (b : Pending) (is : IsPending c ks matrix block b)
-    (x : ℕ) (left : List ℕ) (m : Among b.left x) (rest : IsRest x b.left left) (points : List Place) (ps : ArePointsFor c x b.tree points) (rs : List Result) (cs : AreChildren c ks x b.tree points rs) where
+    (x : ℕ) (left : List ℕ) (m : Among b.left x) (rest : IsRest x b.left left) (points : List Place) (ps : ArePointsFor c x b.tree points) where
   in_block : (y : ℕ) → Among b.left y → Among block y
   in_block y n = (is.share.same y).0 (among_right (eliminated b) b.left y n)
 
@@ -126,49 +157,13 @@ module _ (c : Context) (ks : List Atom) (matrix : Tree) (block : List ℕ) (lack
   children_are [] h = tt
   children_are (r ∷ us) h = (child_is r h.0, children_are us h.1)
 
-  module _ (p : Point ℕ) (o : Of c p) (t : AreTrue ks p) where
-    true_at : (q : Point ℕ) → Of c q → DifferIn (Among left) p q → AreTrue ks q
-    true_at q u d = atoms_elsewhere c (Among left) ks p q o u d (λ y n. lacks y (((rest.same y).0 n).1)) t
+-- ---- a branch of the list replaced, or gone
 
-    -- ex(x, ..) is true somewhere exactly where some child is
-    some_child : Somewhere c (Among left) (Ex x b.tree) p ↔ SomeOf (λ (r : Result). Somewhere c (Among left) r.tree p) rs
-    some_child = (
-      λ s. some_map (λ (r : Result). TrueAt c r.tree s.0) (λ (r : Result). Somewhere c (Among left) r.tree p) rs (λ r u. (s.0, s.1, s.2, u))
-          (cs.whole s.0 s.1 (true_at s.0 s.1 s.2) ((ps.exact s.0 s.1).0 s.3)),
-      λ h.
-          let r = some_among (λ (r : Result). Somewhere c (Among left) r.tree p) rs h in
-          let i = each_among (IsChild c ks x b.tree points) rs r.0 cs.each r.1 in
-          let s = r.2 in
-          (s.0, s.1, s.2, (ps.exact s.0 s.1).1 (among_some (λ v. TrueAt c (substitution c x v b.tree) s.0) points r.0.place i.listed ((i.equivalent s.0 s.1 (true_at s.0 s.1 s.2)).1 s.3))),
-    )
+pub each_replaced : {X : Type 0} (P : X → Type 0) (before : List X) (x : X) (rest xs : List X) → EachOf P (before ++ x ∷ rest) → EachOf P xs → EachOf P ((before ++ xs) ++ rest)
+each_replaced P before x rest xs h k = each_append P (before ++ xs) rest (each_append P before xs (each_left P before (x ∷ rest) h) k) (each_right P before (x ∷ rest) h).1
 
-    replaced_by : Somewhere c (Among b.left) b.tree p ↔ SomeOf (λ (d : Pending). Somewhere c (Among d.left) d.tree p) (children x b left rs)
-    replaced_by =
-        both_ways (one_taken c (Among b.left) x b.tree p o m)
-        (both_ways (
-          somewhere_more c (λ y. ¬ (x ≡ y) × Among b.left y) (Among left) (Ex x b.tree) p (λ y. (rest.same y).1),
-          somewhere_more c (Among left) (λ y. ¬ (x ≡ y) × Among b.left y) (Ex x b.tree) p (λ y. (rest.same y).0),
-        )
-        (both_ways some_child (
-          some_mapped (λ (d : Pending). Somewhere c (Among d.left) d.tree p) (child x b left) rs,
-          some_of_mapped (λ (d : Pending). Somewhere c (Among d.left) d.tree p) (child x b left) rs,
-        )))
-
-pub pending_goes_on : (c : Context) → PendingGoesOn c
-pending_goes_on c ks matrix block before b rest x left points rs a m r ps cs =
-    let P = IsPending c ks matrix block in
-    let later : EachOf P (b ∷ rest) = each_right P before (b ∷ rest) a.each in
-    record {
-      lack = a.lack;
-      each = each_append P (before ++ children x b left rs) rest
-          (each_append P before (children x b left rs) (each_left P before (b ∷ rest) a.each) (children_are c ks matrix block a.lack b later.0 x left m r points ps rs cs rs cs.each)) later.1;
-      together = λ p o t.
-          both_ways (a.together p o t)
-          (some_middle (λ (d : Pending). Somewhere c (Among d.left) d.tree p) before b (children x b left rs) rest
-          (replaced_by c ks matrix block a.lack b later.0 x left m r points ps rs cs p o t));
-    }
-
--- ---- a branch that others cover
+pub each_without : {X : Type 0} (P : X → Type 0) (before : List X) (x : X) (rest : List X) → EachOf P (before ++ x ∷ rest) → EachOf P (before ++ rest)
+each_without P before x rest h = each_append P before rest (each_left P before (x ∷ rest) h) (each_right P before (x ∷ rest) h).1
 
 some_without : {X : Type 0} (P : X → Type 0) (before : List X) (x : X) (rest : List X) → (P x → SomeOf P (before ++ rest)) → SomeOf P (before ++ x ∷ rest) ↔ SomeOf P (before ++ rest)
 some_without P before x rest h = (
@@ -176,14 +171,38 @@ some_without P before x rest h = (
   λ s. ⊎_elim (some_left P before (x ∷ rest)) (λ t. some_right P before (x ∷ rest) (inr t)) (some_either P before rest s),
 )
 
-pub covered_goes : (c : Context) → CoveredMayGo c
-covered_goes c ks matrix block before b rest a covered =
+module _ (c : Context) (ks : List Atom) (matrix : Tree) (block : List ℕ) (before : List Pending) (b : Pending) (rest : List Pending) (a : AreTogether c ks matrix block (before ++ b ∷ rest)) where
+  -- by others that are true together exactly where it is
+  pub together_replaced : (bs : List Pending) → ((p : Point ℕ) → Of c p → AreTrue ks p → Somewhere c (Among b.left) b.tree p ↔ SomeOf (λ (d : Pending). Somewhere c (Among d.left) d.tree p) bs) →
+      AreTogether c ks matrix block ((before ++ bs) ++ rest)
+  together_replaced bs same p o t = both_ways (a p o t) (some_middle (λ (d : Pending). Somewhere c (Among d.left) d.tree p) before b bs rest (same p o t))
+
+  -- where others cover it
+  pub together_without : IsCovered c ks b (before ++ rest) → AreTogether c ks matrix block (before ++ rest)
+  together_without covered p o t = both_ways (a p o t) (some_without (λ (d : Pending). Somewhere c (Among d.left) d.tree p) before b rest (covered p o t))
+
+-- the branch itself
+pub this_one : {X : Type 0} (P : X → Type 0) (before : List X) (x : X) (rest : List X) → EachOf P (before ++ x ∷ rest) → P x
+this_one P before x rest h = (each_right P before (x ∷ rest) h).0
+
+pub pending_goes_on : (c : Context) → PendingGoesOn c
+pending_goes_on c ks matrix block before b rest x left points rs a m r ps cs =
     let P = IsPending c ks matrix block in
+    let is = this_one P before b rest a.each in
     record {
       lack = a.lack;
-      each = each_append P before rest (each_left P before (b ∷ rest) a.each) (each_right P before (b ∷ rest) a.each).1;
-      together = λ p o t. both_ways (a.together p o t) (some_without (λ (d : Pending). Somewhere c (Among d.left) d.tree p) before b rest (covered p o t));
+      each = each_replaced P before b rest (children x b left rs) a.each (children_are c ks matrix block a.lack b is x left m r points ps rs cs.each);
+      together = together_replaced c ks matrix block before b rest a.together (children x b left rs) (replaced_by c ks b (lacks c ks matrix block a.lack b is x left m r points ps) x left m r points ps rs cs);
     }
+
+-- ---- a branch that others cover
+
+pub covered_goes : (c : Context) → CoveredMayGo c
+covered_goes c ks matrix block before b rest a covered = record {
+  lack = a.lack;
+  each = each_without (IsPending c ks matrix block) before b rest a.each;
+  together = together_without c ks matrix block before b rest a.together covered;
+}
 
 pub other_covers : (c : Context) → OtherMayCover c
 other_covers c ks b others d m = record {

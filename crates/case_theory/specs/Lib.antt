@@ -6,6 +6,7 @@ pub mod Points
 pub mod Worked
 pub mod Children
 pub mod Pending
+pub mod Inside
 pub mod Leading
 pub mod Fallback
 pub mod Simplified

@@ -53,11 +53,15 @@ pub record IsPending (c : Context) (ks : List Atom) (matrix : Tree) (block : Lis
   pub names : (y : ℕ) → IsFree b.tree y → StaysFree matrix b y
   pub over : AreOver (StaysFree matrix b) (answers_of b.steps)
 
+-- where the atoms are true, the block of the matrix is true exactly where some branch is, its names that are left moved
+abbrev pub AreTogether : Context → List Atom → Tree → List ℕ → List Pending → Type 0
+AreTogether c ks matrix block bs = (p : Point ℕ) → Of c p → AreTrue ks p → TrueAt c (ex_all block matrix) p ↔ SomeOf (λ (b : Pending). Somewhere c (Among b.left) b.tree p) bs
+
 -- Together the branches are the block of the matrix: each where its names that are left may move.
 pub record ArePending (c : Context) (ks : List Atom) (matrix : Tree) (block : List ℕ) (bs : List Pending) : Type 0 where
   pub lack : EachOf (Lack ks) block
   pub each : EachOf (IsPending c ks matrix block) bs
-  pub together : (p : Point ℕ) → Of c p → AreTrue ks p → TrueAt c (ex_all block matrix) p ↔ SomeOf (λ (b : Pending). Somewhere c (Among b.left) b.tree p) bs
+  pub together : AreTogether c ks matrix block bs
 
 -- ---- how it begins
 

@@ -9,6 +9,7 @@ ghost use Rattle.case_theory.specs.Points.{SidePointsSuffice, ZeroSuffices, Root
 ghost use Rattle.case_theory.specs.Children.{ChildrenAreMade};
 ghost use Rattle.case_theory.specs.Worked.{WorkingGoesOn};
 ghost use Rattle.case_theory.specs.Pending.{PendingBegins, TakingOutLeavesRest, PendingGoesOn, CoveredMayGo, OtherMayCover, PendingEnds, BlockIsWorked};
+ghost use Rattle.case_theory.specs.Inside.{PendingIsInside, InsideGoesOn, InsideIsSplit, InsideCoveredMayGo, InsideIsWorked};
 ghost use Rattle.case_theory.specs.Leading.{LeadingBlockIsSplit};
 ghost use Rattle.case_theory.specs.Fallback.{ReferenceIsCaseTree, MatrixIsNormal, ReferenceGivesMatrix, MatrixIsDone, StopsAreOne};
 ghost use Rattle.case_theory.specs.Simplified.{TidyIsSimplifiable, ReducedIsTidy, SimplifyingIsWork};
@@ -96,6 +97,31 @@ pub fn cases_fit_at_points()
 /// A block of `ex` inside a formula is worked on to the disjunction of its branches.
 pub fn block_is_worked()
     ensures { (c : Context) → BlockIsWorked c }
+{}
+
+/// The branches of a block inside a formula, where no answers are owed: they begin as those whose steps lead from the matrix.
+pub fn inside_begins()
+    ensures { (c : Context) → PendingIsInside c }
+{}
+
+/// Any of them may be replaced by its children at the points of any name that is left in it.
+pub fn inside_goes_on()
+    ensures { (c : Context) → InsideGoesOn c }
+{}
+
+/// One that is a disjunction may be split into its members.
+pub fn inside_is_split()
+    ensures { (c : Context) → InsideIsSplit c }
+{}
+
+/// One that is true only where some other branch of the list is may go.
+pub fn inside_covered_may_go()
+    ensures { (c : Context) → InsideCoveredMayGo c }
+{}
+
+/// With no name left the block is worked on to the disjunction of them.
+pub fn inside_is_worked()
+    ensures { (c : Context) → InsideIsWorked c }
 {}
 
 /// The leading block of a formula is that of its negation normal form, each name once; where it is one of `all`, the case matrix

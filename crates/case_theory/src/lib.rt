@@ -7,7 +7,8 @@ mod laws;
 pub use laws::{
     answers_fit, answers_hold_under_assumptions, block_has_no_order, block_is_worked,
     cases_fit_at_points, children_are_made, class_sample_is_true, covered_branch_may_go,
-    direct_answer_is_exact, leading_block_is_split, matrix_is_done, pending_begins, pending_ends,
+    direct_answer_is_exact, inside_begins, inside_covered_may_go, inside_goes_on, inside_is_split,
+    inside_is_worked, leading_block_is_split, matrix_is_done, pending_begins, pending_ends,
     pending_goes_on, reference_is_case_tree, root_suffices, side_points_suffice,
     simplifying_is_work, stops_are_one, taking_out_leaves_rest, working_goes_on, zero_suffices,
 };

@@ -1,5 +1,5 @@
 -- The calculated values, one after the other, make the first formula true.
-use Rattle.std.proofs.Common.{◌≡◌, ℕ, ◌*◌, Bool, true, false, List, [], ◌∷◌, ◌++◌, Some, ◌⊎◌, inl, inr, refl, sym, ap, ◌∙◌, subst, arith, nat_eq, if◌then◌else◌, unsigned_abs, append_assoc, append-nil, eq-eqb}
+use Rattle.std.proofs.Common.{◌≡◌, ℕ, ◌*◌, Bool, true, false, List, [], ◌∷◌, ◌++◌, Some, ◌⊎◌, inl, inr, ◌↔◌, refl, sym, ap, ◌∙◌, subst, arith, nat_eq, if◌then◌else◌, unsigned_abs, append_assoc, append-nil, eq-eqb}
 use Rattle.std.proofs.Math.IntN.{ℤ, pos, ◌*ℤ◌}
 use Rattle.std.specs.Prelude.{◌<ℤ◌}
 use Rattle.std.proofs.lemmas.Int.{ints}
@@ -15,11 +15,10 @@ use Rattle.formula_meaning.proofs.FreeNames.{tree_agrees}
 use Rattle.formula_meaning.proofs.TreeFiner.{tree_finer, tree_same_point, allowed_positive}
 use Rattle.formula_meaning.proofs.TreeReplacing.{moved_of}
 use Rattle.formula_meaning.proofs.Values.{pos_mul}
-use Rattle.elimination_theory.specs.Answers.{Step, Lead}
+use Rattle.elimination_theory.specs.Answers.{Step, Lead, Makes}
 use Rattle.elimination_theory.proofs.SomeListed.{each_append}
 use Rattle.elimination_reference.proofs.Branches.{step_names}
 use Rattle.elimination_reference.proofs.PutIn.{turn_equal, not_both}
-use Rattle.sample_reference.specs.Traced.{IsLower}
 use Rattle.sample_reference.specs.Values.{Value, value_names, with_value, with_values, IsValue, common_denominator, point_over, origin}
 use Rattle.sample_reference.specs.Calculated.{step_value, values_from, place_value}
 use Rattle.sample_reference.proofs.SamePoints.{some_same, some_then, IsCommon, common_is, common_one, abs_above, same_point, moved_same, value_allowed, values_of_theory}
@@ -29,7 +28,7 @@ pub origin_of : (c : Context) → Of c origin
 origin_of Fields = omega arith
 origin_of Integers = refl
 
-with_append : (xs ys : List Value) (p : Point ℕ) → with_values p (xs ++ ys) ≡ with_values (with_values p xs) ys
+pub with_append : (xs ys : List Value) (p : Point ℕ) → with_values p (xs ++ ys) ≡ with_values (with_values p xs) ys
 with_append [] ys p = refl
 with_append (x ∷ xs) ys p = with_append xs ys (with_value p x)
 
@@ -37,7 +36,7 @@ names_append : (xs ys : List Value) → value_names (xs ++ ys) ≡ value_names x
 names_append [] ys = refl
 names_append (x ∷ xs) ys = ap (λ ns. x.name ∷ ns) (names_append xs ys)
 
-over_of : (c : Context) (found : List Value) (d : ℤ) → EachOf (IsValue c) found → common_denominator found ≡ Some d → IsCommon d found → Of c (point_over d found)
+pub over_of : (c : Context) (found : List Value) (d : ℤ) → EachOf (IsValue c) found → common_denominator found ≡ Some d → IsCommon d found → Of c (point_over d found)
 over_of Fields found d h e k = abs_above d k.positive
 over_of Integers found d h e k = ap unsigned_abs (common_one found d h e)
 
@@ -47,48 +46,53 @@ pub record AreFound (c : Context) (f : Tree) (steps : List Step) (found values :
   pub names : value_names values ≡ value_names found ++ step_names steps
   pub matrix : TrueAt c f (with_values origin values)
 
--- the value of one step, after those found before it
-one_found : (c : Context) (s : Step) (g : Tree) (found : List Value) (d : ℤ) (r : Frac) (rest : Lead c (s ∷ []) s.branch g) → EachOf (IsValue c) found → TrueAt c g (with_values origin found) → IsLower s.place → common_denominator found ≡ Some d →
-    place_value c s.name s.place s.branch (point_over d found) ≡ Some r → IsValue c (record { name = s.name; at = r }) × TrueAt c s.branch (with_values origin (found ++ (record { name = s.name; at = r } ∷ [])))
-one_found c s g found d r rest h t low e y =
+-- a formula is true at the values exactly where it is at the values over one denominator
+pub true_over : (c : Context) (f : Tree) (found : List Value) (d : ℤ) → EachOf (IsValue c) found → common_denominator found ≡ Some d → TrueAt c f (with_values origin found) ↔ TrueAt c f (point_over d found)
+true_over c f found d h e =
+    let k = common_is c found d h e in
+    tree_same_point c f (with_values origin found) (point_over d found) (values_of_theory c found origin h (origin_of c)) (over_of c found d h e k) (same_point c found d h k)
+
+-- one value more
+pub true_more : (c : Context) (f : Tree) (found : List Value) (d : ℤ) (v : Value) → EachOf (IsValue c) found → common_denominator found ≡ Some d → IsValue c v → TrueAt c f (with_value (point_over d found) v) →
+    TrueAt c f (with_values origin (found ++ (v ∷ [])))
+true_more c f found d v h e is t =
     let k = common_is c found d h e in
     let q = with_values origin found in
     let l = point_over d found in
     let oq = values_of_theory c found origin h (origin_of c) in
     let ol = over_of c found d h e k in
-    let same = same_point c found d h k in
-    let one = one_value c s g l r ol rest.1 ((tree_same_point c g q l oq ol same).0 t) low y in
-    let v : Value = record { name = s.name; at = r } in
-    let m = unsigned_abs r.denominator in
-    let a = value_allowed c v one.0 in (
-      one.0,
-      subst (TrueAt c s.branch) (sym (with_append found (v ∷ []) origin))
-          ((tree_same_point c s.branch (move nat_eq q s.name (r.numerator *ℤ pos q.below) m) (move nat_eq l s.name (r.numerator *ℤ pos l.below) m) (moved_of c q s.name (r.numerator *ℤ pos q.below) m oq a) (moved_of c l s.name (r.numerator *ℤ pos l.below) m ol a) (moved_same q l s.name r.numerator m same)).1 one.1),
-    )
+    let m = unsigned_abs v.at.denominator in
+    let a = value_allowed c v is in
+    subst (TrueAt c f) (sym (with_append found (v ∷ []) origin))
+    ((tree_same_point c f (with_value q v) (with_value l v) (moved_of c q v.name (v.at.numerator *ℤ pos q.below) m oq a) (moved_of c l v.name (v.at.numerator *ℤ pos l.below) m ol a) (moved_same q l v.name v.at.numerator m (same_point c found d h k))).1 t)
 
-pub values_true : (c : Context) (steps : List Step) (f g : Tree) (found values : List Value) → Lead c steps f g → EachOf (λ (s : Step). IsLower s.place) steps → EachOf (IsValue c) found → TrueAt c g (with_values origin found) →
+-- the value of one step, after those found before it
+one_found : (c : Context) (s : Step) (g : Tree) (found : List Value) (d : ℤ) (r : Frac) → Makes c s g → EachOf (IsValue c) found → TrueAt c g (with_values origin found) → common_denominator found ≡ Some d →
+    place_value c s.name s.place s.branch (point_over d found) ≡ Some r → IsValue c (record { name = s.name; at = r }) × TrueAt c s.branch (with_values origin (found ++ (record { name = s.name; at = r } ∷ [])))
+one_found c s g found d r made h t e y =
+    let one = one_value c s g (point_over d found) r (over_of c found d h e (common_is c found d h e)) made ((true_over c g found d h e).0 t) y in
+    (one.0, true_more c s.branch found d (record { name = s.name; at = r }) h e one.0 one.1)
+
+pub values_true : (c : Context) (steps : List Step) (f g : Tree) (found values : List Value) → Lead c steps f g → EachOf (IsValue c) found → TrueAt c g (with_values origin found) →
     values_from c steps found ≡ Some values → AreFound c f steps found values
-values_true c [] f g found values l low h t e =
+values_true c [] f g found values l h t e =
     let same = some_same found values e in
     record {
       each = subst (EachOf (IsValue c)) same h;
       names = sym (ap value_names same) ∙ sym (append-nil (value_names found));
       matrix = subst (λ vs. TrueAt c f (with_values origin vs)) same ((l (with_values origin found) (values_of_theory c found origin h (origin_of c))).1 t);
     }
-values_true c (s ∷ rest) f g found values l low h t e =
+values_true c (s ∷ rest) f g found values l h t e =
     some_then (step_value c s found) _ values e (λ r u y.
     some_then (common_denominator found) _ r u (λ d w z.
-    let one = one_found c s g found d r (self s.branch, l.1) h t low.0 w z in
+    let one = one_found c s g found d r l.1 h t w z in
     let v : Value = record { name = s.name; at = r } in
-    let i = values_true c rest f s.branch (found ++ (v ∷ [])) values l.0 low.1 (each_append (IsValue c) found (v ∷ []) h (one.0, tt)) one.1 y in
+    let i = values_true c rest f s.branch (found ++ (v ∷ [])) values l.0 (each_append (IsValue c) found (v ∷ []) h (one.0, tt)) one.1 y in
     record {
       each = i.each;
       names = i.names ∙ ap (λ ns. ns ++ step_names rest) (names_append found (v ∷ [])) ∙ append_assoc (value_names found) (s.name ∷ []) (step_names rest);
       matrix = i.matrix;
     }))
-  where
-    self : (t : Tree) (p : Point ℕ) → Of c p → (TrueAt c t p → TrueAt c t p) × (TrueAt c t p → TrueAt c t p)
-    self t p o = (λ u. u, λ u. u)
 
 -- ---- values put into another point
 

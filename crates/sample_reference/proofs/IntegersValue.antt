@@ -1,5 +1,5 @@
 -- Over the integers the calculated value is the sample of the place.
-use Rattle.std.proofs.Common.{◌≡◌, ℕ, suc, zero, ◌<◌, List, [], ◌∷◌, Option, Some, None, inl, inr, refl, sym, ap, ◌∙◌, subst, arith, nat_eq}
+use Rattle.std.proofs.Common.{◌≡◌, ℕ, suc, zero, ◌<◌, List, [], ◌∷◌, map, Option, Some, None, ◌⊎◌, inl, inr, ◌↔◌, refl, sym, ap, ◌∙◌, subst, subst₂, arith, nat_eq}
 use Rattle.std.proofs.Math.IntN.{ℤ, pos, negsuc, neg_ℤ, ◌+ℤ◌, ◌-ℤ◌, ◌*ℤ◌}
 use Rattle.std.specs.Prelude.{◌<ℤ◌, ◌≤ℤ◌}
 use Rattle.std.proofs.lemmas.Int.{ints}
@@ -8,7 +8,7 @@ use Rattle.exact_numbers.specs.Divides.{Divides, floor_of, residue_of}
 use Rattle.exact_numbers.specs.Frac.{Frac, IsProper, IsLowest, whole_frac}
 use Rattle.exact_numbers.proofs.Ring.{ring, mul_one, mul_zero, mul_comm, neg_mul}
 use Rattle.exact_numbers.proofs.Order.{cancel_positive, cancel_less, mul_less, by_less, by_zero}
-use Rattle.exact_numbers.proofs.Divisibility.{divides_same, divides_along, divisor_at_most, divides_sub, neg_divides}
+use Rattle.exact_numbers.proofs.Divisibility.{divides_same, divides_along, divisor_at_most, divides_neg, divides_sub, neg_divides}
 use Rattle.exact_numbers.proofs.Floor.{floor_is, residue_is, at_most_floor, from_at_most_floor}
 use Rattle.exact_numbers.proofs.FractionRule.{whole_lowest}
 use Rattle.exact_numbers.proofs.Limits.{checked_some}
@@ -21,23 +21,28 @@ use Rattle.formula_meaning.specs.Atom.{Atom, Compare, Congruent, form_of}
 use Rattle.formula_meaning.specs.Answer.{Place, Exact, AboveBy, BelowBy, PlusInfinity, MinusInfinity, Periodic, Holds}
 use Rattle.formula_meaning.specs.Tree.{Tree}
 use Rattle.formula_meaning.proofs.Listed.{among_some, some_among}
+use Rattle.elimination_theory.specs.declared.side.Side.{Side}
+use Rattle.elimination_theory.specs.declared.side.Side.TheVariants.{Lower, Upper}
 use Rattle.elimination_theory.specs.Atoms.{atoms_of}
+use Rattle.elimination_theory.specs.IntegersPoints.{signed}
+use Rattle.elimination_theory.specs.IntegersSubstitution.{along}
 use Rattle.elimination_theory.specs.Substitution.{at_place}
 use Rattle.elimination_theory.specs.IntegersTheorems.{IsIntegerPlace}
 use Rattle.elimination_theory.proofs.Fractions.{less_at_most}
 use Rattle.elimination_theory.specs.IntegersSample.{IsPast, LiesBeyond, HasCriticalValue, IsClassSample, IsIntegerSample}
+use Rattle.elimination_theory.proofs.IntegerSides.{signed_signed, signed_mul}
 use Rattle.elimination_theory.proofs.SomeListed.{each_among, every_of_atoms, atoms_of_every}
 use Rattle.elimination_reference.specs.PutIn.{tree_put}
-use Rattle.sample_reference.specs.Traced.{IsLower}
-use Rattle.sample_reference.specs.Calculated.{atom_root, critical_values, criticals, least_past, form_value, whole_below, class_member, class_below, place_value}
+use Rattle.sample_reference.specs.Calculated.{atom_root, critical_values, criticals, least_past, form_value, whole_below, class_member, class_below, seen, value_in_class, class_beyond, place_value}
 use Rattle.sample_reference.proofs.SamePoints.{some_same, none_some, some_then}
 use Rattle.sample_reference.proofs.Leasts.{AtMost, first_of, none_at_all}
 use Rattle.sample_reference.proofs.Critical.{Alone, line, root_is, root_there, roots_proper, from_atom, to_atom}
+use Rattle.sample_reference.proofs.Sides.{neg_neg, seen_lowest, among_seen, seen_among, each_seen, seen_back}
 use Rattle.sample_reference.proofs.FieldsValue.{form_value_is, criticals_are}
 
 -- ---- a whole number over a number
 
-divides_one : (n d k : ℤ) → pos 0 <ℤ d → IsLowest (record { numerator = n; denominator = d }) → n ≡ k *ℤ d → d ≡ pos 1
+pub divides_one : (n d k : ℤ) → pos 0 <ℤ d → IsLowest (record { numerator = n; denominator = d }) → n ≡ k *ℤ d → d ≡ pos 1
 divides_one n d k h low e =
     let one : Divides d (pos 1) = low.greatest d (record { quotient = k; exact = e ∙ mul_comm k d }) (divides_same d) in
     let most = divisor_at_most (omega (arith, ints)) one in
@@ -142,51 +147,91 @@ less_too k n d c e h g less most =
     let m = less_at_most k (pos 1) n d c e (omega (arith, ints)) h g (subst (λ z. (k *ℤ d) <ℤ z) (sym (mul_one n)) less) most in
     subst (λ z. (k *ℤ e) <ℤ z) (mul_one c) m
 
-module _ (x : ℕ) (j : ℤ) (q : ℕ) (p : Point ℕ) (t : Tree) (pb : p.below ≡ 1) (alone : EachOf (λ a. Alone x (form_of a)) (atoms_of t)) where
+-- ---- beyond the critical values, as a side sees it
+
+-- the period of a side
+abbrev pub period_on : Side → ℕ → ℤ
+period_on Lower q = negsuc q
+period_on Upper q = pos (suc q)
+
+along_is : (side : Side) (q : ℕ) (c : ℤ) → along (period_on side q) c ≡ signed side c
+along_is Lower q c = refl
+along_is Upper q c = refl
+
+signed_zero : (side : Side) (c : ℤ) → c ≡ pos 0 → signed side c ≡ pos 0
+signed_zero Lower c e = e
+signed_zero Upper c e = ap neg_ℤ e
+
+signed_not_zero : (side : Side) (c : ℤ) → ¬ (c ≡ pos 0) → ¬ (signed side c ≡ pos 0)
+signed_not_zero side c h e = h (sym (signed_signed side c) ∙ signed_zero side (signed side c) e)
+
+-- a root of a * x + t, as the side sees it
+signed_root : (side : Side) (a n t d : ℤ) → a *ℤ signed side n +ℤ t *ℤ d ≡ pos 0 → signed side a *ℤ n +ℤ t *ℤ d ≡ pos 0
+signed_root side a n t d e = ap (λ z. z +ℤ t *ℤ d) (sym (signed_mul side a n)) ∙ e
+
+seen_root : (side : Side) (a n t d : ℤ) → a *ℤ n +ℤ t *ℤ d ≡ pos 0 → signed side a *ℤ signed side n +ℤ t *ℤ d ≡ pos 0
+seen_root side a n t d e = signed_root side a (signed side n) t d (ap (λ z. a *ℤ z +ℤ t *ℤ d) (signed_signed side n) ∙ e)
+
+module _ (side : Side) (x : ℕ) (q : ℕ) (p : Point ℕ) (t : Tree) (pb : p.below ≡ 1) (alone : EachOf (λ a. Alone x (form_of a)) (atoms_of t)) where
   abbrev values : List Frac
-  values = critical_values x (atoms_of t)
+  values = map (seen side) (critical_values x (atoms_of t))
 
-  line_one : (f : Form) (k : ℤ) → Alone x f → value f (move nat_eq p x k 1) ≡ coefficient x f *ℤ k +ℤ f.constant
-  line_one f k h = line x p f k 1 h ∙ ap (λ z. coefficient x f *ℤ k +ℤ z) (mul_one (f.constant *ℤ pos p.below) ∙ ap (λ z. f.constant *ℤ pos z) pb ∙ mul_one f.constant)
+  -- k, as the side sees it, lies beyond all critical values
+  abbrev Beyond : ℤ → Type 0
+  Beyond k = Every (LiesBeyond x (period_on side q) p (signed side k)) t
 
-  among_values : (a : Atom) (w : Frac) → Among (atoms_of t) a → atom_root x a ≡ Some w → Among values w
-  among_values a w m e = to_atom x p (atoms_of t) w (among_some (λ b. atom_root x b ≡ Some w) (atoms_of t) a m e)
+  line_one : (f : Form) (k : ℤ) → Alone x f → value f (move nat_eq p x (signed side k) 1) ≡ signed side (coefficient x f) *ℤ k +ℤ f.constant
+  line_one f k h =
+      line x p f (signed side k) 1 h ∙ ap (λ z. coefficient x f *ℤ signed side k +ℤ z) (mul_one (f.constant *ℤ pos p.below) ∙ ap (λ z. f.constant *ℤ pos z) pb ∙ mul_one f.constant)
+      ∙ ap (λ z. z +ℤ f.constant) (signed_mul side (coefficient x f) k)
+
+  among_values : (a : Atom) (w : Frac) → Among (atoms_of t) a → atom_root x a ≡ Some w → Among values (seen side w)
+  among_values a w m e = seen_among side (critical_values x (atoms_of t)) w (to_atom x p (atoms_of t) w (among_some (λ b. atom_root x b ≡ Some w) (atoms_of t) a m e))
+
+  -- beyond the critical value of a comparison is past its zero
+  past_is : (f : Form) (k : ℤ) → Alone x f → IsPast (signed side (coefficient x f)) (signed side (coefficient x f) *ℤ k +ℤ f.constant)
+      ↔ IsPast (along (period_on side q) (coefficient x f)) (value f (move nat_eq p x (signed side k) 1))
+  past_is f k h = (
+    subst₂ IsPast (sym (along_is side q (coefficient x f))) (sym (line_one f k h)),
+    subst₂ IsPast (along_is side q (coefficient x f)) (line_one f k h),
+  )
 
   -- a number below the least critical value lies beyond all
-  all_beyond : (w : Frac) (k : ℤ) → IsProper w → ((v : Frac) → Among values v → AtMost w v) → (k *ℤ w.denominator) <ℤ w.numerator → Every (LiesBeyond x (negsuc q) p k) t
-  all_beyond w k pw first less = every_of_atoms (LiesBeyond x (negsuc q) p k) t (each_member (LiesBeyond x (negsuc q) p k) (atoms_of t) one)
+  all_beyond : (w : Frac) (k : ℤ) → IsProper w → ((v : Frac) → Among values v → AtMost w v) → (k *ℤ w.denominator) <ℤ w.numerator → Beyond k
+  all_beyond w k pw first less = every_of_atoms (LiesBeyond x (period_on side q) p (signed side k)) t (each_member (LiesBeyond x (period_on side q) p (signed side k)) (atoms_of t) one)
     where
-      one : (a : Atom) → Among (atoms_of t) a → LiesBeyond x (negsuc q) p k a
+      one : (a : Atom) → Among (atoms_of t) a → LiesBeyond x (period_on side q) p (signed side k) a
       one (Congruent holds n f) m = tt
       one (Compare r f) m =
-          by_zero (coefficient x f) (λ e. zero_past (coefficient x f) _ e) (λ moves.
+          (past_is f k (each_among (λ a. Alone x (form_of a)) (atoms_of t) (Compare r f) alone m)).0
+          (by_zero (coefficient x f) (λ e. zero_past (signed side (coefficient x f)) _ (signed_zero side (coefficient x f) e)) (λ moves.
           let v = root_there (coefficient x f) f.constant moves in
           let is = root_is (coefficient x f) f.constant v.0 v.1 in
-          subst (IsPast (coefficient x f)) (sym (line_one f k (each_among (λ a. Alone x (form_of a)) (atoms_of t) (Compare r f) alone m)))
-          (past_root (coefficient x f) f.constant k v.0.numerator v.0.denominator is.proper is.zero_there
-          (less_too k w.numerator w.denominator v.0.numerator v.0.denominator pw is.proper less (first v.0 (among_values (Compare r f) v.0 m v.1)))))
+          past_root (signed side (coefficient x f)) f.constant k (signed side v.0.numerator) v.0.denominator is.proper (seen_root side (coefficient x f) v.0.numerator f.constant v.0.denominator is.zero_there)
+          (less_too k w.numerator w.denominator (signed side v.0.numerator) v.0.denominator pw is.proper less (first (seen side v.0) (among_values (Compare r f) v.0 m v.1)))))
 
   -- the atom of a critical value
   record HasAtom (w : Frac) : Type 0 where
     critical : SomeOf (HasCriticalValue x) (atoms_of t)
-    below : (k : ℤ) → Every (LiesBeyond x (negsuc q) p k) t → (k *ℤ w.denominator) <ℤ w.numerator
+    below : (k : ℤ) → Beyond k → (k *ℤ w.denominator) <ℤ w.numerator
 
   has_atom : (w : Frac) → Among values w → HasAtom w
-  has_atom w m = go (some_among (λ b. atom_root x b ≡ Some w) (atoms_of t) (from_atom x p (atoms_of t) w m))
+  has_atom w m = go (some_among (λ b. atom_root x b ≡ Some (seen side w)) (atoms_of t) (from_atom x p (atoms_of t) (seen side w) (among_seen side (critical_values x (atoms_of t)) w m)))
     where
-      of : (a : Atom) → Among (atoms_of t) a → atom_root x a ≡ Some w → HasAtom w
-      of (Congruent holds n f) s e = none_some w e
+      of : (a : Atom) → Among (atoms_of t) a → atom_root x a ≡ Some (seen side w) → HasAtom w
+      of (Congruent holds n f) s e = none_some (seen side w) e
       of (Compare r f) s e =
-          let is = root_is (coefficient x f) f.constant w e in
+          let is = root_is (coefficient x f) f.constant (seen side w) e in
           record {
             critical = among_some (HasCriticalValue x) (atoms_of t) (Compare r f) s is.moves;
             below = λ k every.
-                below_root (coefficient x f) f.constant k w.numerator w.denominator is.proper is.moves is.zero_there
-                (subst (IsPast (coefficient x f)) (line_one f k (each_among (λ a. Alone x (form_of a)) (atoms_of t) (Compare r f) alone s))
-                (each_among (LiesBeyond x (negsuc q) p k) (atoms_of t) (Compare r f) (atoms_of_every (LiesBeyond x (negsuc q) p k) t every) s));
+                below_root (signed side (coefficient x f)) f.constant k w.numerator w.denominator is.proper (signed_not_zero side (coefficient x f) is.moves)
+                (signed_root side (coefficient x f) w.numerator f.constant w.denominator is.zero_there)
+                ((past_is f k (each_among (λ a. Alone x (form_of a)) (atoms_of t) (Compare r f) alone s)).1
+                (each_among (LiesBeyond x (period_on side q) p (signed side k)) (atoms_of t) (Compare r f) (atoms_of_every (LiesBeyond x (period_on side q) p (signed side k)) t every) s));
           }
 
-      go : (a : Atom) × Among (atoms_of t) a × (atom_root x a ≡ Some w) → HasAtom w
+      go : (a : Atom) × Among (atoms_of t) a × (atom_root x a ≡ Some (seen side w)) → HasAtom w
       go r = of r.0 r.1 r.2
 
   none_critical : least_past None values ≡ None → ¬ (SomeOf (HasCriticalValue x) (atoms_of t))
@@ -194,16 +239,14 @@ module _ (x : ℕ) (j : ℤ) (q : ℕ) (p : Point ℕ) (t : Tree) (pb : p.below 
     where
       of : (a : Atom) → Among (atoms_of t) a → HasCriticalValue x a → ⊥
       of (Congruent holds n f) s h = h
-      of (Compare r f) s h = let v = root_there (coefficient x f) f.constant h in none_at_all values v.0 e (among_values (Compare r f) v.0 s v.1)
+      of (Compare r f) s h = let v = root_there (coefficient x f) f.constant h in none_at_all values (seen side v.0) e (among_values (Compare r f) v.0 s v.1)
 
       go : (a : Atom) × Among (atoms_of t) a × HasCriticalValue x a → ⊥
       go r = of r.0 r.1 r.2
 
-  -- ---- the member of the class
+-- ---- the member of the class
 
-  step : ℤ
-  step = pos (suc q)
-
+module _ (j : ℤ) (q : ℕ) where
   member_divides : (m : ℤ) → Divides (negsuc q) (class_member j (pos (suc q)) m -ℤ j)
   member_divides m =
       let r = residue_is (m -ℤ j) (pos (suc q)) (omega (arith, ints)) in
@@ -238,40 +281,99 @@ module _ (x : ℕ) (j : ℤ) (q : ℕ) (p : Point ℕ) (t : Tree) (pb : p.below 
       under : (m r : ℤ) → pos 0 ≤ℤ r → (m -ℤ r) ≤ℤ m
       under m r h = omega (arith, ints)
 
-  class_sample : (r : Frac) → class_below j (pos (suc q)) (least_past None values) ≡ Some r → IsWholeValue r × IsClassSample x j (negsuc q) t p r.numerator
-  class_sample r h = go (least_past None values) refl h
+-- ---- the class beyond the critical values
+
+module _ (side : Side) (x : ℕ) (j : ℤ) (q : ℕ) (p : Point ℕ) (t : Tree) (pb : p.below ≡ 1) (alone : EachOf (λ a. Alone x (form_of a)) (atoms_of t)) where
+  abbrev seen_values : List Frac
+  seen_values = map (seen side) (critical_values x (atoms_of t))
+
+  abbrev IsFar : ℤ → Type 0
+  IsFar k = Divides (negsuc q) (k -ℤ signed side j) × Beyond side x q p t pb alone k
+
+  -- k, as the side sees it, is the first number of the class beyond all critical values; j where there is none
+  abbrev IsFirstFar : ℤ → Type 0
+  IsFirstFar k =
+      (¬ (SomeOf (HasCriticalValue x) (atoms_of t)) × k ≡ signed side j)
+      ⊎ (SomeOf (HasCriticalValue x) (atoms_of t) × IsFar k × ((w : ℤ) → IsFar w → w ≤ℤ k))
+
+  first_far : (r : Frac) → class_below (signed side j) (pos (suc q)) (least_past None seen_values) ≡ Some r → IsWholeValue r × IsFirstFar r.numerator
+  first_far r h = go (least_past None seen_values) refl h
     where
       whole : (k : ℤ) → IsWholeValue (whole_frac k)
       whole k = record { proper = omega (arith, ints); lowest_terms = whole_lowest k; one = refl }
 
-      go : (o : Option Frac) → least_past None values ≡ o → class_below j (pos (suc q)) o ≡ Some r → IsWholeValue r × IsClassSample x j (negsuc q) t p r.numerator
+      go : (o : Option Frac) → least_past None seen_values ≡ o → class_below (signed side j) (pos (suc q)) o ≡ Some r → IsWholeValue r × IsFirstFar r.numerator
       go None f g =
-          subst (λ (a : Frac). IsWholeValue a × IsClassSample x j (negsuc q) t p a.numerator) (some_same (whole_frac j) r g) (whole j, inl (none_critical f, refl))
-      go (Some w) f g = some_then (checked (class_member j (pos (suc q)) (whole_below w))) _ r g (λ k u y.
+          subst (λ (a : Frac). IsWholeValue a × IsFirstFar a.numerator) (some_same (whole_frac (signed side j)) r g) (whole (signed side j), inl (none_critical side x q p t pb alone f, refl))
+      go (Some w) f g = some_then (checked (class_member (signed side j) (pos (suc q)) (whole_below w))) _ r g (λ k u y.
           let m = whole_below w in
-          let n = first_of values w (roots_proper x p (atoms_of t)) f in
-          let has = has_atom w n.among in
-          let is : class_member j (pos (suc q)) m ≡ k = (checked_some (class_member j (pos (suc q)) m) k u).0 in
-          subst (λ (a : Frac). IsWholeValue a × IsClassSample x j (negsuc q) t p a.numerator) (ap whole_frac is ∙ some_same (whole_frac k) r y) (
-            whole (class_member j (pos (suc q)) m),
+          let i = signed side j in
+          let n = first_of seen_values w (each_seen side (critical_values x (atoms_of t)) (roots_proper x p (atoms_of t))) f in
+          let has = has_atom side x q p t pb alone w n.among in
+          let is : class_member i (pos (suc q)) m ≡ k = (checked_some (class_member i (pos (suc q)) m) k u).0 in
+          subst (λ (a : Frac). IsWholeValue a × IsFirstFar a.numerator) (ap whole_frac is ∙ some_same (whole_frac k) r y) (
+            whole (class_member i (pos (suc q)) m),
             inr (
               has.critical,
-              (member_divides m, all_beyond w (class_member j (pos (suc q)) m) n.proper n.first (below_whole w.numerator w.denominator (class_member j (pos (suc q)) m) n.proper (member_at_most m))),
-              λ v other. member_first m v other.0 (whole_up w.numerator w.denominator v n.proper (has.below v other.1)),
+              (member_divides i q m, all_beyond side x q p t pb alone w (class_member i (pos (suc q)) m) n.proper n.first (below_whole w.numerator w.denominator (class_member i (pos (suc q)) m) n.proper (member_at_most i q m))),
+              λ v other. member_first i q m v other.0 (whole_up w.numerator w.denominator v n.proper (has.below v other.1)),
             ),
           ))
 
+module _ (x : ℕ) (j : ℤ) (q : ℕ) (p : Point ℕ) (t : Tree) (pb : p.below ≡ 1) (alone : EachOf (λ a. Alone x (form_of a)) (atoms_of t)) where
+  -- the first far number of a side is the sample of the class
+  class_from : (side : Side) (k : ℤ) → IsFirstFar side x j q p t pb alone k → IsClassSample x j (period_on side q) t p (signed side k)
+  class_from Lower k h = h
+  class_from Upper k (inl (none, e)) = inl (none, ap neg_ℤ e ∙ neg_neg j)
+  class_from Upper k (inr (some, far, first)) = inr (
+    some,
+    (class_turned k far.0, far.1),
+    λ w other.
+        at_most_turned k w
+        (first (neg_ℤ w) (class_back w other.0, subst (λ z. Every (LiesBeyond x (pos (suc q)) p z) t) (sym (neg_neg w)) other.1)),
+  )
+    where
+      class_turned : (k : ℤ) → Divides (negsuc q) (k -ℤ neg_ℤ j) → Divides (pos (suc q)) (neg_ℤ k -ℤ j)
+      class_turned k d = neg_divides (divides_along (apart k) (divides_neg d))
+        where
+          apart : (k : ℤ) → neg_ℤ (k -ℤ neg_ℤ j) ≡ neg_ℤ k -ℤ j
+          apart k = omega (arith, ints)
+
+      class_back : (w : ℤ) → Divides (pos (suc q)) (w -ℤ j) → Divides (negsuc q) (neg_ℤ w -ℤ neg_ℤ j)
+      class_back w d = neg_divides (divides_along (apart w) (divides_neg d))
+        where
+          apart : (w : ℤ) → neg_ℤ (w -ℤ j) ≡ neg_ℤ w -ℤ neg_ℤ j
+          apart w = omega (arith, ints)
+
+      at_most_turned : (k w : ℤ) → neg_ℤ w ≤ℤ k → neg_ℤ k ≤ℤ w
+      at_most_turned k w h = omega (arith, ints)
+
+  class_sample : (side : Side) (r : Frac) → value_in_class side j (pos (suc q)) (critical_values x (atoms_of t)) ≡ Some r → IsWholeValue r × IsClassSample x j (period_on side q) t p r.numerator
+  class_sample side r h =
+      let s = seen_back side (class_below (signed side j) (pos (suc q)) (least_past None (map (seen side) (critical_values x (atoms_of t))))) r h in
+      let g = first_far side x j q p t pb alone s.found s.is in
+      subst (λ (a : Frac). IsWholeValue a × IsClassSample x j (period_on side q) t p a.numerator) s.back (
+        record { proper = g.0.proper; lowest_terms = seen_lowest side s.found g.0.lowest_terms; one = g.0.one },
+        class_from side s.found.numerator g.1,
+      )
+
+class_calculated : (side : Side) (x : ℕ) (j : ℤ) (q : ℕ) (f : Tree) (p : Point ℕ) (r : Frac) → p.below ≡ 1 → EachOf (λ a. Alone x (form_of a)) (atoms_of (tree_put Integers p (x ∷ []) f)) →
+    class_beyond Integers side x j (pos (suc q)) f p ≡ Some r →
+    IsWholeValue r × IsClassSample x j (period_on side q) (tree_put Integers p (x ∷ []) f) p (r.numerator *ℤ pos p.below)
+class_calculated side x j q f p r pb alone h =
+    some_then (criticals Integers x f p) _ r h (λ values m n.
+    let g = class_sample x j q p (tree_put Integers p (x ∷ []) f) pb alone side r (ap (value_in_class side j (pos (suc q))) (criticals_are Integers x f p values m) ∙ n) in
+    (g.0, subst (IsClassSample x j (period_on side q) (tree_put Integers p (x ∷ []) f) p) (sym (ap (λ z. r.numerator *ℤ pos z) pb ∙ mul_one r.numerator)) g.1))
+
 -- ---- all places
 
-pub integer_sample : (x : ℕ) (s : Place) (f : Tree) (p : Point ℕ) (r : Frac) → p.below ≡ 1 → IsLower s → IsIntegerPlace s → EachOf (λ a. Alone x (form_of a)) (atoms_of (tree_put Integers p (x ∷ []) f)) →
+pub integer_sample : (x : ℕ) (s : Place) (f : Tree) (p : Point ℕ) (r : Frac) → p.below ≡ 1 → IsIntegerPlace s → EachOf (λ a. Alone x (form_of a)) (atoms_of (tree_put Integers p (x ∷ []) f)) →
     Holds Integers (at_place x s) (tree_put Integers p (x ∷ []) f) p → place_value Integers x s f p ≡ Some r → IsWholeValue r × IsIntegerSample x s (tree_put Integers p (x ∷ []) f) p (r.numerator *ℤ pos p.below)
-integer_sample x (Exact e l) f p r pb low place alone (k, is, holds) h = exact_whole e l p r k place pb h is
-integer_sample x (Periodic j (negsuc q)) f p r pb low place alone holds h =
-    some_then (criticals Integers x f p) _ r h (λ values m n.
-    let g = class_sample x j q p (tree_put Integers p (x ∷ []) f) pb alone r (ap (λ vs. class_below j (pos (suc q)) (least_past None vs)) (criticals_are Integers x f p values m) ∙ n) in
-    (g.0, subst (IsClassSample x j (negsuc q) (tree_put Integers p (x ∷ []) f) p) (sym (ap (λ z. r.numerator *ℤ pos z) pb ∙ mul_one r.numerator)) g.1))
-integer_sample x (Periodic j (pos q)) f p r pb low place alone holds h = absurd low
-integer_sample x (AboveBy e l) f p r pb low place alone holds h = absurd place
-integer_sample x (BelowBy e l) f p r pb low place alone holds h = absurd low
-integer_sample x PlusInfinity f p r pb low place alone holds h = absurd low
-integer_sample x MinusInfinity f p r pb low place alone holds h = absurd place
+integer_sample x (Exact e l) f p r pb place alone (k, is, holds) h = exact_whole e l p r k place pb h is
+integer_sample x (Periodic j (negsuc q)) f p r pb place alone holds h = class_calculated Lower x j q f p r pb alone h
+integer_sample x (Periodic j (pos (suc q))) f p r pb place alone holds h = class_calculated Upper x j q f p r pb alone h
+integer_sample x (Periodic j (pos zero)) f p r pb place alone holds h = absurd (place refl)
+integer_sample x (AboveBy e l) f p r pb place alone holds h = absurd place
+integer_sample x (BelowBy e l) f p r pb place alone holds h = absurd place
+integer_sample x PlusInfinity f p r pb place alone holds h = absurd place
+integer_sample x MinusInfinity f p r pb place alone holds h = absurd place

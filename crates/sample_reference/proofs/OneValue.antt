@@ -22,6 +22,8 @@ use Rattle.formula_meaning.proofs.TreeReplacing.{moved_of}
 use Rattle.formula_meaning.proofs.Values.{pos_mul}
 use Rattle.elimination_theory.specs.Substitution.{at_place}
 use Rattle.elimination_theory.specs.IntegersTheorems.{IsIntegerPlace, IsPeriodOf, Suits}
+use Rattle.elimination_theory.specs.BothTheories.{IsPlaceIn, IsPlaceFor}
+use Rattle.elimination_theory.specs.Samples.{IsSample}
 use Rattle.elimination_theory.specs.Answers.{Step, Makes}
 use Rattle.elimination_theory.specs.Atoms.{atoms_of}
 use Rattle.elimination_theory.proofs.Meets.{meets_map}
@@ -36,10 +38,9 @@ use Rattle.atom_normal.proofs.NormalLaws.{normal_names, normal_within, normal_at
 use Rattle.elimination_reference.specs.PutIn.{terms_kept, form_put, atom_put, tree_put, trees_put}
 use Rattle.elimination_reference.proofs.PutIn.{Mixes, put_in_context, put_true, turn_equal, not_both}
 use Rattle.elimination_reference.proofs.Periods.{normal_keeps_periods}
-use Rattle.sample_reference.specs.Traced.{IsLower}
-use Rattle.sample_reference.specs.Values.{IsValue}
+use Rattle.sample_reference.specs.Values.{with_value, IsValue}
 use Rattle.sample_reference.specs.Calculated.{place_value}
-use Rattle.sample_reference.proofs.SamePoints.{abs_above}
+use Rattle.sample_reference.proofs.SamePoints.{value_allowed}
 use Rattle.sample_reference.proofs.Critical.{Alone}
 use Rattle.sample_reference.proofs.FieldsValue.{field_sample}
 use Rattle.sample_reference.proofs.IntegersValue.{integer_sample}
@@ -174,12 +175,35 @@ module _ (c : Context) (x : ℕ) (p : Point ℕ) where
   put_same : Of c p → (f : Tree) → InContext c f → (k : ℤ) (m : ℕ) → Allowed c m → TrueAt c f (move nat_eq p x k m) ↔ TrueAt c (tree_put c p (x ∷ []) f) (move nat_eq p x k m)
   put_same o f i k m a = let u = moved_of c p x k m o a in put_true c p o (x ∷ []) f (move nat_eq p x k m) (move nat_eq p x k m) i u u (moved_mixes k m)
 
-  put_holds : Of c p → (s : Step) (g : Tree) → s.name ≡ x → Makes c s g → TrueAt c g p → Holds c (at_place x s.place) (tree_put c p (x ∷ []) s.branch) p
-  put_holds o s g e made t =
-      subst (λ y. Holds c (at_place y s.place) (tree_put c p (x ∷ []) s.branch) p) e
-      (meets_map c s.place s.name (λ q. TrueAt c s.branch q) (λ q. TrueAt c (tree_put c p (x ∷ []) s.branch) q) p
-      (λ k m a. subst (λ y. TrueAt c s.branch (move nat_eq p y k m) → TrueAt c (tree_put c p (x ∷ []) s.branch) (move nat_eq p y k m)) (sym e) (put_same o s.branch made.in_context k m a).0)
-      (place_in c s.name s.place s.branch made.suits) ((step_holds c s g p made o).1 t))
+  pub put_holds : Of c p → (s : Place) (f : Tree) → IsPlaceIn c s → InContext c f → Holds c (at_place x s) f p → Holds c (at_place x s) (tree_put c p (x ∷ []) f) p
+  put_holds o s f place i h = meets_map c s x (λ q. TrueAt c f q) (λ q. TrueAt c (tree_put c p (x ∷ []) f) q) p (λ k m a. (put_same o f i k m a).0) place h
+
+  -- with the point put in, the formula is true at the sample of the place if the place makes it true
+  abbrev pub TruthAtSample : Place → Tree → Type 0
+  TruthAtSample s t = IsPlain t → InContext c t → Holds c (at_place x s) t p → (k : ℤ) (m : ℕ) → Allowed c m → IsSample c x s t p k m → TrueAt c t (move nat_eq p x k m)
+
+-- the calculated value is the sample
+pub sample_value : (c : Context) (x : ℕ) (s : Place) (f : Tree) (p : Point ℕ) (r : Frac) → Of c p → IsPlaceIn c s → IsPlain f → InContext c f → Holds c (at_place x s) (tree_put c p (x ∷ []) f) p → place_value c x s f p ≡ Some r →
+    IsValue c (record { name = x; at = r }) × IsSample c x s (tree_put c p (x ∷ []) f) p (r.numerator *ℤ pos p.below) (unsigned_abs r.denominator)
+sample_value Fields x s f p r o place plain inside holds h =
+    let w = put_plain Fields x p f plain inside in
+    let is = field_sample x s f p r o place (atoms_of_every (AtomIn Fields) (tree_put Fields p (x ∷ []) f) w.1) (put_names Fields x p f plain inside) h in
+    (record { proper = is.0; lowest_terms = is.1; whole = tt }, is.2)
+sample_value Integers x s f p r o place plain inside holds h =
+    let is = integer_sample x s f p r o place (put_names Integers x p f plain inside) holds h in
+    (record { proper = is.0.proper; lowest_terms = is.0.lowest_terms; whole = is.0.one }, is.1)
+
+-- and so it makes the formula true
+pub value_from : (c : Context) (x : ℕ) (s : Place) (f : Tree) (p : Point ℕ) (r : Frac) → Of c p → IsPlaceIn c s → IsPlain f → InContext c f → Holds c (at_place x s) f p → place_value c x s f p ≡ Some r →
+    TruthAtSample c x p s (tree_put c p (x ∷ []) f) → IsValue c (record { name = x; at = r }) × TrueAt c f (with_value p (record { name = x; at = r }))
+value_from c x s f p r o place plain inside holds h truth =
+    let w = put_plain c x p f plain inside in
+    let there = put_holds c x p o s f place inside holds in
+    let is = sample_value c x s f p r o place plain inside there h in
+    let k = r.numerator *ℤ pos p.below in
+    let m = unsigned_abs r.denominator in
+    let a = value_allowed c (record { name = x; at = r }) is.0 in
+    (is.0, (put_same c x p o f inside k m a).1 (truth w.0 w.1 there k m a is.1))
 
 -- ---- periods
 
@@ -200,26 +224,22 @@ put_suits x MinusInfinity p f o place plain inside h = absurd place
 
 -- ---- one value
 
-pub one_value : (c : Context) (s : Step) (g : Tree) (p : Point ℕ) (r : Frac) → Of c p → Makes c s g → TrueAt c g p → IsLower s.place → place_value c s.name s.place s.branch p ≡ Some r →
-    IsValue c (record { name = s.name; at = r }) × TrueAt c s.branch (move nat_eq p s.name (r.numerator *ℤ pos p.below) (unsigned_abs r.denominator))
-one_value Fields s g p r o made t low h =
-    let x = s.name in
-    let w = put_plain Fields x p s.branch made.is_plain made.in_context in
-    let is = field_sample x s.place s.branch p r o low made.suits (atoms_of_every (AtomIn Fields) (tree_put Fields p (x ∷ []) s.branch) w.1) (put_names Fields x p s.branch made.is_plain made.in_context) h in
-    let pm = abs_above r.denominator is.0 in (
-      record { proper = is.0; lowest_terms = is.1; whole = tt },
-      (put_same Fields x p o s.branch made.in_context (r.numerator *ℤ pos p.below) (unsigned_abs r.denominator) pm).1
-          (field_sample_is_true x s.place (tree_put Fields p (x ∷ []) s.branch) p (r.numerator *ℤ pos p.below) (unsigned_abs r.denominator) made.suits w.0 w.1 o pm is.2 (put_holds Fields x p o s g refl made t)),
-    )
-one_value Integers s g p r o made t low h =
-    let x = s.name in
-    let w = put_plain Integers x p s.branch made.is_plain made.in_context in
-    let holds = put_holds Integers x p o s g refl made t in
-    let is = integer_sample x s.place s.branch p r o low made.suits.0 (put_names Integers x p s.branch made.is_plain made.in_context) holds h in
-    let one : unsigned_abs r.denominator ≡ 1 = ap unsigned_abs is.0.one in
-    let there : TrueAt Integers (tree_put Integers p (x ∷ []) s.branch) (move nat_eq p x (r.numerator *ℤ pos p.below) 1) =
-    integer_sample_is_true x s.place (tree_put Integers p (x ∷ []) s.branch) p (r.numerator *ℤ pos p.below) made.suits.0 (put_suits x s.place p s.branch o made.suits.0 made.is_plain made.in_context made.suits.1) w.0 o holds is.1 in (
-      record { proper = is.0.proper; lowest_terms = is.0.lowest_terms; whole = is.0.one },
-      (put_same Integers x p o s.branch made.in_context (r.numerator *ℤ pos p.below) (unsigned_abs r.denominator) one).1
-          (subst (λ (n : ℕ). TrueAt Integers (tree_put Integers p (x ∷ []) s.branch) (move nat_eq p x (r.numerator *ℤ pos p.below) n)) (sym one) there),
-    )
+pub fields_truth : (x : ℕ) (s : Place) (t : Tree) (p : Point ℕ) → Of Fields p → IsPlaceIn Fields s → TruthAtSample Fields x p s t
+fields_truth x s t p o place plain inside holds k m a sample = field_sample_is_true x s t p k m place plain inside o a sample holds
+
+-- where the periods suit
+pub integers_truth : (x : ℕ) (s : Place) (t : Tree) (p : Point ℕ) → Of Integers p → IsPlaceIn Integers s → Every (Suits x s) t → TruthAtSample Integers x p s t
+integers_truth x s t p o place suits plain inside holds k m a sample =
+    subst (λ (n : ℕ). TrueAt Integers t (move nat_eq p x k n)) (sym a) (integer_sample_is_true x s t p k place suits plain o holds sample)
+
+-- the truth at the sample of a step
+step_truth : (c : Context) (s : Step) (p : Point ℕ) → Of c p → IsPlaceFor c s.name s.place s.branch → IsPlain s.branch → InContext c s.branch → TruthAtSample c s.name p s.place (tree_put c p (s.name ∷ []) s.branch)
+step_truth Fields s p o suits plain inside = fields_truth s.name s.place (tree_put Fields p (s.name ∷ []) s.branch) p o suits
+step_truth Integers s p o suits plain inside =
+    integers_truth s.name s.place (tree_put Integers p (s.name ∷ []) s.branch) p o suits.0 (put_suits s.name s.place p s.branch o suits.0 plain inside suits.1)
+
+pub one_value : (c : Context) (s : Step) (g : Tree) (p : Point ℕ) (r : Frac) → Of c p → Makes c s g → TrueAt c g p → place_value c s.name s.place s.branch p ≡ Some r →
+    IsValue c (record { name = s.name; at = r }) × TrueAt c s.branch (with_value p (record { name = s.name; at = r }))
+one_value c s g p r o made t h =
+    value_from c s.name s.place s.branch p r o (place_in c s.name s.place s.branch made.suits) made.is_plain made.in_context ((step_holds c s g p made o).1 t) h
+    (step_truth c s p o made.suits made.is_plain made.in_context)

@@ -16,25 +16,23 @@ use Rattle.elimination_theory.specs.Answers.{Step, Lead}
 use Rattle.atom_normal.specs.NormalForm.{IsNormal, normal_atom, negated_normal}
 use Rattle.atom_normal.proofs.NormalLaws.{normal_atomic}
 use Rattle.formula_meaning.specs.Measured.{Outcome, stopped, done, then_of, Gives, pay, within}
-use Rattle.elimination_reference.specs.Reference.{Branch, normal_tree, turned, branches}
+use Rattle.elimination_reference.specs.Reference.{Branch, normal_tree, turned}
 use Rattle.elimination_reference.specs.Cases.{case_sign, case_formula, case_names}
 use Rattle.elimination_reference.specs.PutIn.{atom_put, tree_put, tree_put_within, put_in}
 use Rattle.elimination_reference.specs.Sample.{if_true, first_true, branches_at}
 use Rattle.elimination_reference.specs.Theorems.{IsChoice}
-use Rattle.elimination_reference.proofs.Always.{gives_both, always_then, always_pay, always_within}
+use Rattle.elimination_reference.proofs.Always.{always_then, always_pay, always_within}
 use Rattle.elimination_reference.proofs.Branches.{step_names, IsBranch}
 use Rattle.elimination_reference.proofs.PutIn.{turn_equal, putting_in_exact}
 use Rattle.elimination_reference.proofs.PutMatrix.{put_shape, atomic_block, block_turned, matrix_same}
 use Rattle.elimination_reference.proofs.Sample.{samples_exact}
 use Rattle.elimination_reference.proofs.Sound.{Good, branches_are}
 use Rattle.elimination_reference.proofs.Turning.{normal_inside, normal_tree_inside, turned_brings}
-use Rattle.sample_reference.specs.Traced.{IsLower, IsTraced}
 use Rattle.sample_reference.specs.Values.{Value, value_names, with_values}
 use Rattle.sample_reference.specs.Calculated.{values_from}
 use Rattle.sample_reference.specs.Sample.{evaluated, sampled, AreTrueValues, IsTrueSample}
 use Rattle.sample_reference.specs.Theorems.{SampleIsTrue}
 use Rattle.sample_reference.proofs.SamePoints.{some_same, none_some, values_of_theory}
-use Rattle.sample_reference.proofs.Tracing.{FromOne, branches_from, lower_steps}
 use Rattle.sample_reference.proofs.Chain.{AreFound, values_true, values_anywhere, others_stay}
 
 -- ---- the leading block
@@ -93,17 +91,15 @@ matrix_free (Ex x f) chain y h = go (is_in nat_eq x chain) (matrix_free f (x ∷
 pub record IsChosen (c : Context) (matrix : Tree) (names : List ℕ) (steps : List Step) : Type 0 where
   pub lead : Lead c steps matrix Yes
   pub in_order : step_names steps ≡ names
-  pub lower : EachOf (λ (s : Step). IsLower s.place) steps
 
-pub first_chosen : (c : Context) (matrix : Tree) (names : List ℕ) (root : Tree) (bs : List Branch) (steps : List Step) → EachOf (IsBranch c matrix names) bs → EachOf (IsTraced c root) bs → first_true bs ≡ Some steps → IsChosen c matrix names steps
-first_chosen c matrix names root [] steps h k e = none_some steps e
-first_chosen c matrix names root (b ∷ bs) steps h k e = go b.tree refl (first_chosen c matrix names root bs steps h.1 k.1) e
+pub first_chosen : (c : Context) (matrix : Tree) (names : List ℕ) (bs : List Branch) (steps : List Step) → EachOf (IsBranch c matrix names) bs → first_true bs ≡ Some steps → IsChosen c matrix names steps
+first_chosen c matrix names [] steps h e = none_some steps e
+first_chosen c matrix names (b ∷ bs) steps h e = go b.tree refl (first_chosen c matrix names bs steps h.1) e
   where
     here : b.tree ≡ Yes → b.steps ≡ steps → IsChosen c matrix names steps
     here is same = subst (IsChosen c matrix names) same (record {
       lead = subst (Lead c b.steps matrix) is h.0.lead;
       in_order = h.0.in_order;
-      lower = lower_steps c root b.steps b.tree k.0;
     })
 
     go : (t : Tree) → b.tree ≡ t → (first_true bs ≡ Some steps → IsChosen c matrix names steps) → if_true t b.steps (first_true bs) ≡ Some steps → IsChosen c matrix names steps
@@ -155,7 +151,7 @@ module _ (c : Context) (f : Tree) (p : Point ℕ) (n : Every (IsNormal c) f) (o 
   values_are : (steps : List Step) (values : List Value) → TrueAt c (case_formula f) p → IsChosen c (matrix_of nat_eq asked Exists []) (block_of nat_eq asked Exists []) steps → values_from c steps [] ≡ Some values → AreTrueValues c f p values
   values_are steps values t chosen e =
       let matrix = matrix_of nat_eq asked Exists [] in
-      let found : AreFound c matrix steps [] values = values_true c steps matrix Yes [] values chosen.lead chosen.lower tt tt e in
+      let found : AreFound c matrix steps [] values = values_true c steps matrix Yes [] values chosen.lead tt tt e in
       let names : value_names values ≡ block_of nat_eq asked Exists [] = found.names ∙ chosen.in_order in
       let q = with_values p values in
       let there : TrueAt c matrix q = values_anywhere c matrix values p o (λ y free. ⊎_elim (λ u. absurd (asked_closed y u)) (λ u. ap (is_in nat_eq y) names ∙ u) (matrix_free asked [] y free)) found.matrix in
@@ -167,24 +163,22 @@ module _ (c : Context) (f : Tree) (p : Point ℕ) (n : Every (IsNormal c) f) (o 
             (λ y u. others_stay c values p found.each y (ap (is_in nat_eq y) names ∙ u))).1 there;
       }
 
-  both_are : (limit : ℕ) (s : Bool) → Gives (λ (r : List Branch × ℕ). Good c limit [] s (put_in c p f) r.0 × FromOne c limit r.0) (branches_at c limit p s f 0)
-  both_are limit s =
-      let Q = λ (bs : List Branch). Good c limit [] s (put_in c p f) bs × FromOne c limit bs in
+  branches_good : (limit : ℕ) (s : Bool) → Gives (λ (r : List Branch × ℕ). Good c limit [] s (put_in c p f) r.0) (branches_at c limit p s f 0)
+  branches_good limit s =
+      let Q = Good c limit [] s (put_in c p f) in
       always_then (λ u. Unit {0}) Q (pay limit (nodes (normal_tree f))) _ (always_pay limit (nodes (normal_tree f))) (λ u v.
       always_then (λ u. Unit {0}) Q (within (tree_put_within c p [] (normal_tree f))) _ (always_within (tree_put_within c p [] (normal_tree f))) (λ u v.
-      λ cost. gives_both (λ (r : List Branch × ℕ). Good c limit [] s (put_in c p f) r.0) (λ (r : List Branch × ℕ). FromOne c limit r.0) (branches c limit [] s (put_in c p f) cost)
-      (branches_are c limit [] s (put_in c p f) (put_shape c p o [] (normal_tree f) shape) (putting_in_exact c f p n o).normal cost)
-      (branches_from c limit [] s (put_in c p f) cost))) 0
+      branches_are c limit [] s (put_in c p f) (put_shape c p o [] (normal_tree f) shape) (putting_in_exact c f p n o).normal)) 0
 
   choice_is : (u : Option (List Step)) (cost : ℕ) → IsChoice c f p u → ((steps : List Step) → u ≡ Some steps → IsChosen c (matrix_of nat_eq asked Exists []) (block_of nat_eq asked Exists []) steps) → Gives (λ r. IsTrueSample c f p r.0) (sampled c cost u)
   choice_is None cost h k = h
   choice_is (Some steps) cost h k = gives_values c cost steps (IsTrueSample c f p) (λ values e. values_are steps values h.0 (k steps refl) e)
 
 pub sample_true : (c : Context) → SampleIsTrue c
-sample_true c limit f p n o = go (branches_at c limit p (case_sign (normal_tree f)) f 0) (both_are c f p n o limit (case_sign (normal_tree f))) (samples_exact c limit f p n o)
+sample_true c limit f p n o = go (branches_at c limit p (case_sign (normal_tree f)) f 0) (branches_good c f p n o limit (case_sign (normal_tree f))) (samples_exact c limit f p n o)
   where
-    go : (u : Outcome (List Branch × ℕ)) → Gives (λ (r : List Branch × ℕ). Good c limit [] (case_sign (normal_tree f)) (put_in c p f) r.0 × FromOne c limit r.0) u →
+    go : (u : Outcome (List Branch × ℕ)) → Gives (λ (r : List Branch × ℕ). Good c limit [] (case_sign (normal_tree f)) (put_in c p f) r.0) u →
         Gives (λ (r : Option (List Step) × ℕ). IsChoice c f p r.0) (then_of u (λ r. done (first_true r.0, r.1))) →
         Gives (λ (r : Option (List Value) × ℕ). IsTrueSample c f p r.0) (then_of (then_of {B = Option (List Step) × ℕ} u (λ r. done (first_true r.0, r.1))) (λ r. sampled c r.1 r.0))
     go (stopped s) b h = tt
-    go (done r) b h = choice_is c f p n o (first_true r.0) r.1 h (λ steps e. first_chosen c _ _ b.1.0 r.0 steps b.0.each b.1.1 e)
+    go (done r) b h = choice_is c f p n o (first_true r.0) r.1 h (λ steps e. first_chosen c _ _ r.0 steps b.each e)

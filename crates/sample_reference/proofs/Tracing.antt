@@ -1,30 +1,25 @@
--- Each step of a branch is one of the lower side, and leaves the branch of the next.
-use Rattle.std.proofs.Common.{◌≡◌, ℕ, suc, zero, ◌+◌, ◌*◌, ◌/◌, Bool, true, false, ◌&&◌, List, [], ◌∷◌, ◌++◌, map, flat_map, refl, sym, ap, ◌∙◌, nat_eq, if◌then◌else◌, arith}
-use Rattle.std.proofs.Math.IntN.{ℤ, pos, negsuc}
-use Rattle.formula_meaning.specs.Context.{Context, Fields, Integers}
+-- Each step of a branch leaves the branch of the next.
+use Rattle.std.proofs.Common.{◌≡◌, ℕ, ◌+◌, ◌*◌, Bool, true, false, ◌&&◌, List, [], ◌∷◌, ◌++◌, map, refl, sym, ap, ◌∙◌, nat_eq, if◌then◌else◌, arith}
+use Rattle.formula_meaning.specs.Context.{Context}
 use Rattle.formula_meaning.specs.Formula.{Yes, No, One, Not, And, Or, Impl, Repl, Equiv, Ex, All}
 use Rattle.formula_meaning.specs.Some.{EachOf}
 use Rattle.formula_meaning.specs.Shape.{is_in}
 use Rattle.formula_meaning.specs.Sizes.{nodes}
-use Rattle.formula_meaning.specs.Form.{Form, coefficient, without}
-use Rattle.formula_meaning.specs.Atom.{Atom, Compare, Congruent, Relation, Equals, Differs, Below, AtMost, Above, AtLeast, mirrored}
-use Rattle.formula_meaning.specs.Answer.{Place, same_place}
+use Rattle.formula_meaning.specs.Answer.{Place}
 use Rattle.formula_meaning.specs.Tree.{Tree}
 use Rattle.elimination_theory.specs.Answers.{Step, zero_place}
 use Rattle.elimination_theory.specs.Atoms.{atoms_in, atoms_of}
 use Rattle.elimination_theory.specs.declared.side.Side.TheVariants.{Lower}
 use Rattle.elimination_theory.specs.BothTheories.{test_points}
-use Rattle.elimination_theory.specs.FieldsPoints.{ends_of, comparison_points, atom_points, infinity_of}
-use Rattle.elimination_theory.specs.IntegersPoints.{counted, class_points, next_points, points_with, scale_of, own_span, atom_starts}
 use Rattle.elimination_theory.specs.Steps.{Result, kept, results, result_at, step}
-use Rattle.elimination_theory.proofs.SomeListed.{each_append, each_distinct, each_mapped, each_flat_map}
+use Rattle.elimination_theory.proofs.SomeListed.{each_append}
 use Rattle.atom_normal.specs.NormalForm.{normal_atom, negated_normal}
 use Rattle.formula_meaning.specs.Limits.{each, place_within}
 use Rattle.elimination_reference.specs.Limits.{atom_within, span_within, step_within}
 use Rattle.formula_meaning.specs.Measured.{Outcome, stopped, done, Gives, Counted, ◌>>=◌, give, pay, within}
 use Rattle.elimination_reference.specs.Reference.{Branch, stands_among, kept_at_zero, next_branch, alone, together, turned, point_count, full_step, one_step, steps, closed, branches, members}
 use Rattle.elimination_reference.proofs.Always.{Always, always_then, always_map, always_give, always_pay, always_within}
-use Rattle.sample_reference.specs.Traced.{IsLower, Leaves, Trace, IsTraced}
+use Rattle.sample_reference.specs.Traced.{Leaves, IsTraced}
 
 -- ---- lists
 
@@ -37,42 +32,6 @@ both_true false false e = absurd (grind arith)
 pub each_true : {X : Type 0} (test : X → Bool) (xs : List X) → each test xs ≡ true → EachOf (λ x. test x ≡ true) xs
 each_true test [] e = tt
 each_true test (x ∷ xs) e = let b = both_true (test x) (each test xs) e in (b.0, each_true test xs b.1)
-
-each_pair : {X : Type 0} (P Q : X → Type 0) (xs : List X) → EachOf P xs → EachOf Q xs → EachOf (λ x. P x × Q x) xs
-each_pair P Q [] h k = tt
-each_pair P Q (x ∷ xs) h k = ((h.0, k.0), each_pair P Q xs h.1 k.1)
-
--- ---- test points of the lower side
-
-lower_ends : (r : Relation) (e : Form) (d : ℕ) → EachOf IsLower (ends_of Lower r e d)
-lower_ends Equals e d = (tt, tt)
-lower_ends Differs e d = (tt, tt)
-lower_ends Below e d = tt
-lower_ends AtMost e d = tt
-lower_ends Above e d = (tt, tt)
-lower_ends AtLeast e d = (tt, tt)
-
-lower_comparison : (a : ℤ) (r : Relation) (t : Form) → EachOf IsLower (comparison_points Lower a r t)
-lower_comparison (pos zero) r t = tt
-lower_comparison (pos (suc n)) r t = lower_ends r _ (suc n)
-lower_comparison (negsuc n) r t = lower_ends (mirrored r) t (suc n)
-
-lower_atom : (x : ℕ) (a : Atom) → EachOf IsLower (atom_points Lower x a)
-lower_atom x (Compare r f) = lower_comparison (coefficient x f) r (without x f)
-lower_atom x (Congruent holds n f) = tt
-
-lower_classes : (period : ℕ) → EachOf IsLower (class_points Lower period)
-lower_classes zero = tt
-lower_classes (suc n) = each_mapped IsLower _ (counted 1 (suc n)) (λ j. tt)
-
-lower_with : (l d x : ℕ) (atoms : List Atom) → EachOf IsLower (points_with Lower l d x atoms)
-lower_with l d x atoms =
-    each_append IsLower (class_points Lower (d / l)) _ (lower_classes (d / l))
-    (each_flat_map IsLower (next_points Lower l d) (flat_map (atom_starts Lower l x) atoms) (λ b. each_mapped IsLower _ (counted 1 d) (λ j. tt)))
-
-lower_points : (c : Context) (x : ℕ) (atoms : List Atom) → EachOf IsLower (test_points c Lower x atoms)
-lower_points Fields x atoms = each_distinct same_place IsLower (infinity_of Lower ∷ flat_map (atom_points Lower x) atoms) (tt, each_flat_map IsLower (atom_points Lower x) atoms (lower_atom x))
-lower_points Integers x atoms = each_distinct same_place IsLower _ (lower_with (scale_of x atoms) (own_span x atoms) x atoms)
 
 -- ---- one step
 
@@ -101,19 +60,18 @@ module _ (c : Context) (root : Tree) where
     abbrev step_at : Place → Step
     step_at s = record { name = x; place = s; branch = b.tree }
 
-    leaves_at : (s : Place) → IsLower s → (place_within s && each (atom_within c x s) (atoms_of b.tree)) ≡ true → Leaves c (step_at s) (result_at c (normal_atom c) x s b.tree)
-    leaves_at s low e = record {
-      lower = low;
+    leaves_at : (s : Place) → (place_within s && each (atom_within c x s) (atoms_of b.tree)) ≡ true → Leaves c (step_at s) (result_at c (normal_atom c) x s b.tree)
+    leaves_at s e = record {
       tree = sym (ap (λ (t : Bool). if t then result_at c (normal_atom c) x s b.tree else b.tree) stands);
       within = ap (λ (t : Bool). if t then (place_within s && each (atom_within c x s) (atoms_of b.tree)) else true) stands ∙ e;
     }
 
-    results_left : (places : List Place) → EachOf (λ s. IsLower s × ((place_within s && each (atom_within c x s) (atoms_of b.tree)) ≡ true)) places →
+    results_left : (places : List Place) → EachOf (λ s. (place_within s && each (atom_within c x s) (atoms_of b.tree)) ≡ true) places →
         EachOf (λ (r : Result). Leaves c (step_at r.place) r.tree) (results c (normal_atom c) x b.tree places)
     results_left [] h = tt
     results_left (s ∷ places) h =
         each_kept (λ (r : Result). Leaves c (step_at r.place) r.tree) s (result_at c (normal_atom c) x s b.tree) (results c (normal_atom c) x b.tree places)
-        (leaves_at s h.0.0 h.0.1) (results_left places h.1)
+        (leaves_at s h.0) (results_left places h.1)
 
     next_traced : (rs : List Result) → EachOf (λ (r : Result). Leaves c (step_at r.place) r.tree) rs → Traced (map (next_branch x b) rs)
     next_traced [] h = tt
@@ -122,7 +80,6 @@ module _ (c : Context) (root : Tree) where
   kept_traced : (x : ℕ) (b : Branch) → IsTraced c root b → stands_among x (atoms_in b.tree) ≡ false → IsTraced c root (kept_at_zero x b)
   kept_traced x b here e = (
     record {
-      lower = tt;
       tree = sym (ap (λ (t : Bool). if t then result_at c (normal_atom c) x zero_place b.tree else b.tree) e);
       within = ap (λ (t : Bool). if t then (place_within zero_place && each (atom_within c x zero_place) (atoms_of b.tree)) else true) e;
     },
@@ -139,8 +96,7 @@ module _ (c : Context) (root : Tree) where
             always_then (λ u. Unit {0}) Traced (pay limit (point_count c x b.tree * (nodes b.tree + 2))) _ (always_pay limit (point_count c x b.tree * (nodes b.tree + 2))) (λ u v.
             always_tested (step_within c x b.tree) Traced _ (λ w.
             always_give Traced (map (next_branch x b) (step c (normal_atom c) Lower x b.tree))
-            (next_traced x b here e _ (results_left x b here e (test_points c Lower x (atoms_of b.tree))
-            (each_pair IsLower _ (test_points c Lower x (atoms_of b.tree)) (lower_points c x (atoms_of b.tree)) (each_true _ (test_points c Lower x (atoms_of b.tree)) w)))))))
+            (next_traced x b here e _ (results_left x b here e (test_points c Lower x (atoms_of b.tree)) (each_true _ (test_points c Lower x (atoms_of b.tree)) w))))))
         go false e = always_give Traced (kept_at_zero x b ∷ []) (kept_traced x b here e, tt)
 
     -- steps keep the trace
@@ -201,8 +157,3 @@ module _ (c : Context) (limit : ℕ) where
   branches_from names false (Repl f g) = always_give FromOne [] (Yes, tt)
   branches_from names true (Equiv f g) = always_give FromOne [] (Yes, tt)
   branches_from names false (Equiv f g) = always_give FromOne [] (Yes, tt)
-
--- the steps of a traced branch are of the lower side
-pub lower_steps : (c : Context) (root : Tree) (steps : List Step) (t : Tree) → Trace c root steps t → EachOf (λ (s : Step). IsLower s.place) steps
-lower_steps c root [] t h = tt
-lower_steps c root (s ∷ rest) t h = (h.0.lower, lower_steps c root rest s.branch h.1)

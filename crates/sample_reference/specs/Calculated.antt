@@ -6,7 +6,8 @@
 --   where critical values are asked, those of the branch with these numbers, and its atoms in normal form;
 --   the numbers of the sum and of the product that give the value, and over the integers the value itself.
 -- Critical values are asked where the place is not exact. They are numbers of an atom divided, and so within the limit.
-use Rattle.std.specs.Prelude.{ℕ, zero, suc, ℤ, pos, negsuc, neg_ℤ, ◌-ℤ◌, ◌*ℤ◌, int_lt, Bool, List, [], ◌∷◌, ◌++◌, Option, Some, None, if◌then◌else◌}
+-- Places of the upper side are those of the lower side among the negatives.
+use Rattle.std.specs.Prelude.{ℕ, zero, suc, ℤ, pos, negsuc, neg_ℤ, ◌-ℤ◌, ◌*ℤ◌, int_lt, Bool, List, [], ◌∷◌, ◌++◌, map, Option, Some, None, option_map, if◌then◌else◌}
 use Rattle.exact_numbers.specs.Limit.{checked}
 use Rattle.exact_numbers.specs.Divides.{floor_of, residue_of}
 use Rattle.exact_numbers.specs.Frac.{Frac, whole_frac, lowest, sum_step, product_step, ◌>>=◌}
@@ -18,7 +19,10 @@ use Rattle.formula_meaning.specs.Answer.{Place, Exact, AboveBy, BelowBy, PlusInf
 use Rattle.formula_meaning.specs.Tree.{Tree}
 use Rattle.linear_forms.specs.Terms.{value_steps}
 use Rattle.elimination_theory.specs.Atoms.{atoms_of}
+use Rattle.elimination_theory.specs.declared.side.Side.{Side}
+use Rattle.elimination_theory.specs.declared.side.Side.TheVariants.{Lower, Upper}
 use Rattle.elimination_theory.specs.Answers.{Step}
+use Rattle.elimination_theory.specs.IntegersPoints.{signed}
 use Rattle.elimination_reference.specs.PutIn.{tree_put, tree_put_within}
 use Rattle.sample_reference.specs.Values.{Value, common_denominator, point_over}
 
@@ -72,7 +76,7 @@ past (Some e) (a ∷ rest) = if is_less e a then a ∷ past (Some e) rest else p
 abbrev pub least_past : Option Frac → List Frac → Option Frac
 least_past bound values = least_with None (past bound values)
 
--- ---- the value at a place
+-- ---- the numbers of the lower side
 
 -- the form's value at the point, over d
 abbrev pub form_value : Form → ℕ → Point ℕ → Option Frac
@@ -104,15 +108,53 @@ abbrev pub class_below : ℤ → ℤ → Option Frac → Option Frac
 class_below j q (Some w) = checked (class_member j q (whole_below w)) >>= λ k. Some (whole_frac k)
 class_below j q None = Some (whole_frac j)
 
--- the value of x at a place of the lower side; other places have none, and are not asked
+-- ---- the two sides
+
+-- the number as the side sees it: itself, or on the upper side its negative
+abbrev pub seen : Side → Frac → Frac
+seen side a = record { numerator = signed side a.numerator; denominator = a.denominator }
+
+-- what is found among the critical values as the side sees them, seen back
+abbrev pub seen_from : Side → (List Frac → Option Frac) → List Frac → Option Frac
+seen_from side find values = option_map (seen side) (find (map (seen side) values))
+
+-- half way from v to the next critical value above it, one more where there is none; on the upper side half way to the next below
+-- it, or one less
+abbrev pub value_beside : Side → Frac → List Frac → Option Frac
+value_beside side v values = seen_from side (λ seen_values. just_past (seen side v) (least_past (Some (seen side v)) seen_values)) values
+
+-- one less than the least critical value, on the upper side one more than the greatest; 0 where there is none
+abbrev pub value_beyond : Side → List Frac → Option Frac
+value_beyond side values = seen_from side (λ seen_values. below_all (least_past None seen_values)) values
+
+-- the greatest number of the class of j modulo q below all critical values, on the upper side the least above all; j where there is
+-- none
+abbrev pub value_in_class : Side → ℤ → ℤ → List Frac → Option Frac
+value_in_class side j q values = seen_from side (λ seen_values. class_below (signed side j) q (least_past None seen_values)) values
+
+-- ---- the value at a place
+
+-- beside the form's value over d
+abbrev pub beside_form : Context → Side → ℕ → Form → ℕ → Tree → Point ℕ → Option Frac
+beside_form c side x e d f p = form_value e d p >>= λ v. criticals c x f p >>= λ values. value_beside side v values
+
+-- beyond all critical values of the branch
+abbrev pub beyond_criticals : Context → Side → ℕ → Tree → Point ℕ → Option Frac
+beyond_criticals c side x f p = criticals c x f p >>= λ values. value_beyond side values
+
+-- there in the class of j modulo q
+abbrev pub class_beyond : Context → Side → ℕ → ℤ → ℤ → Tree → Point ℕ → Option Frac
+class_beyond c side x j q f p = criticals c x f p >>= λ values. value_in_class side j q values
+
+-- the value of x at its place
 abbrev pub place_value : Context → ℕ → Place → Tree → Point ℕ → Option Frac
 place_value c x (Exact e d) f p = form_value e d p
-place_value c x (AboveBy e d) f p = form_value e d p >>= λ v. criticals c x f p >>= λ values. just_past v (least_past (Some v) values)
-place_value c x MinusInfinity f p = criticals c x f p >>= λ values. below_all (least_past None values)
-place_value c x (Periodic j (negsuc q)) f p = criticals c x f p >>= λ values. class_below j (pos (suc q)) (least_past None values)
-place_value c x (Periodic j (pos q)) f p = Some (whole_frac (pos 0))
-place_value c x (BelowBy e d) f p = Some (whole_frac (pos 0))
-place_value c x PlusInfinity f p = Some (whole_frac (pos 0))
+place_value c x (AboveBy e d) f p = beside_form c Lower x e d f p
+place_value c x (BelowBy e d) f p = beside_form c Upper x e d f p
+place_value c x MinusInfinity f p = beyond_criticals c Lower x f p
+place_value c x PlusInfinity f p = beyond_criticals c Upper x f p
+place_value c x (Periodic j (negsuc q)) f p = class_beyond c Lower x j (pos (suc q)) f p
+place_value c x (Periodic j (pos q)) f p = class_beyond c Upper x j (pos q) f p
 
 -- ---- one after the other
 

@@ -1,7 +1,6 @@
 -- Branches come from one formula by the steps that they name.
-use Rattle.std.specs.Prelude.{◌≡◌, pos, negsuc, Bool, true, ◌&&◌, List, [], ◌∷◌, if◌then◌else◌}
+use Rattle.std.specs.Prelude.{◌≡◌, Bool, true, ◌&&◌, List, [], ◌∷◌, if◌then◌else◌}
 use Rattle.formula_meaning.specs.Context.{Context}
-use Rattle.formula_meaning.specs.Answer.{Place, Exact, AboveBy, BelowBy, PlusInfinity, MinusInfinity, Periodic}
 use Rattle.formula_meaning.specs.Tree.{Tree}
 use Rattle.elimination_theory.specs.Answers.{Step}
 use Rattle.elimination_theory.specs.Atoms.{atoms_in, atoms_of}
@@ -10,16 +9,6 @@ use Rattle.atom_normal.specs.NormalForm.{normal_atom}
 use Rattle.formula_meaning.specs.Limits.{each, place_within}
 use Rattle.elimination_reference.specs.Limits.{atom_within}
 use Rattle.elimination_reference.specs.Reference.{Branch, stands_among}
-
--- the places of the lower side
-abbrev pub IsLower : Place → Type 0
-IsLower (Exact e d) = Unit {0}
-IsLower (AboveBy e d) = Unit {0}
-IsLower (BelowBy e d) = ⊥
-IsLower PlusInfinity = ⊥
-IsLower MinusInfinity = Unit {0}
-IsLower (Periodic j (negsuc q)) = Unit {0}
-IsLower (Periodic j (pos q)) = ⊥
 
 -- what a step leaves of its branch; a branch without the name stays
 abbrev pub after_step : Context → Step → Tree
@@ -31,7 +20,6 @@ after_within c s = if stands_among s.name (atoms_in s.branch) then (place_within
 
 -- the step leaves the formula
 pub record Leaves (c : Context) (s : Step) (t : Tree) : Type 0 where
-  pub lower : IsLower s.place
   pub tree : t ≡ after_step c s
   pub within : after_within c s ≡ true
 

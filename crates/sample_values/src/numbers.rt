@@ -1,12 +1,23 @@
-// Which of two fractions is less, and the numbers beside a critical value.
+// Fractions as a side sees them, which of two is less, and the numbers beside a critical value.
 ghost use Rattle.std.specs.Prelude.{◌≡◌, ℤ, pos, ◌<ℤ◌, option_map};
 ghost use Rattle.exact_numbers.specs.Fraction.{frac_of};
 ghost use Rattle.exact_numbers.specs.Limit.{InLimit, checked};
-ghost use Rattle.sample_reference.specs.Calculated.{is_less, lesser, just_past, below_all, whole_below, class_member, class_below};
+ghost use Rattle.sample_reference.specs.Calculated.{is_less, lesser, just_past, below_all, whole_below, class_member, class_below, seen};
 ghost use Rattle.sample_values.specs.Roots.{is_above};
 
+use elimination_theory::Side;
 use exact_numbers::{Fraction, compare_fractions, floor_div, residue, sum};
 use std::cmp::Ordering;
+
+// The number as the side sees it: itself, or on the upper side its negative.
+pub(crate) fn seen(side: Side, a: Fraction) -> Fraction
+    ensures { frac_of result ≡ seen side (frac_of a) }
+{
+    match side {
+        Side::Lower => a,
+        Side::Upper => a.negate(),
+    }
+}
 
 // Whether the first number is less.
 fn is_less(a: Fraction, b: Fraction) -> bool

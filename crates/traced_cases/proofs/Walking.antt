@@ -17,7 +17,7 @@ use Rattle.elimination_reference.specs.Reference.{stands_among}
 use Rattle.atom_normal.specs.NormalForm.{normal_atom}
 use Rattle.nnf_trees.specs.Nnfs.{nnf_of, IsProper}
 use Rattle.nnf_substitution.specs.Placed.{point_within}
-use Rattle.sample_reference.specs.Traced.{IsLower, Trace, after_step, after_within}
+use Rattle.sample_reference.specs.Traced.{Trace, after_step, after_within}
 use Rattle.test_points.specs.declared.points.TestPoint.{TestPoint}
 use Rattle.test_points.specs.Points.{answer_of, place_of, IsTestPoint}
 use Rattle.traced_cases.specs.declared.step.Step as code
@@ -57,7 +57,6 @@ module _ (c : Context) (root : Tree) where
       let place : s.place ≡ place_of u = ap (λ (a : Answer). a.place) (sym answer) in
       let here : IsTakable c s.branch u = record {
         point = p.0;
-        lower = subst IsLower place h.0.lower;
         place = subst (IsPlaceIn c) place i.0.0;
         inside = i.0.1;
         within = subst (λ q. after_within c q ≡ true) (sym same) h.0.within;
@@ -101,7 +100,7 @@ steps_more c made made2 s g rest all h e m =
 
 pub sound_more : (c : Context) (made made2 : List code.Step) (s : code.Step) → All (IsStep c) made → IsTakable c (nnf_of s.branch) s.point → IsProper s.branch → made2 ≡ made ++ s ∷ [] → All (IsStep c) made2
 sound_more c made made2 s h t p m =
-    let step : IsStep c s = record { point = t.point; lower = t.lower; place = t.place; proper = p; inside = t.inside } in
+    let step : IsStep c s = record { point = t.point; place = t.place; proper = p; inside = t.inside } in
     subst (All (IsStep c)) (sym m) (All-push (IsStep c) made s h step)
 
 -- in the other order

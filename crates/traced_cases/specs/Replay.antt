@@ -4,7 +4,7 @@ use Rattle.formula_meaning.specs.Context.{Context}
 use Rattle.formula_meaning.specs.Tree.{Tree, InContext}
 use Rattle.elimination_theory.specs.Answers.{Step}
 use Rattle.elimination_theory.specs.BothTheories.{IsPlaceIn}
-use Rattle.sample_reference.specs.Traced.{IsLower, after_step, after_within}
+use Rattle.sample_reference.specs.Traced.{after_step, after_within}
 use Rattle.test_points.specs.declared.points.TestPoint.{TestPoint}
 use Rattle.test_points.specs.Points.{place_of, IsTestPoint}
 
@@ -17,11 +17,10 @@ abbrev pub taken_from : Context → Tree → List TestPoint → List Step
 taken_from c f [] = []
 taken_from c f (t ∷ ts) = taken f t ∷ taken_from c (after_step c (taken f t)) ts
 
--- The point is well formed, its place is one of the theory, of the lower side, and the formula is one of the theory. No number that
--- the step forms passes the limit.
+-- The point is well formed, its place is one of the theory, and the formula is one of the theory. No number that the step forms passes
+-- the limit.
 pub record IsTakable (c : Context) (f : Tree) (t : TestPoint) : Type 0 where
   pub point : IsTestPoint t
-  pub lower : IsLower (place_of t)
   pub place : IsPlaceIn c (place_of t)
   pub inside : InContext c f
   pub within : after_within c (taken f t) ≡ true

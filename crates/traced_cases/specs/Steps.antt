@@ -6,7 +6,6 @@ use Rattle.formula_meaning.specs.Context.{Context}
 use Rattle.formula_meaning.specs.Tree.{InContext}
 use Rattle.elimination_theory.specs.Answers as meaning
 use Rattle.elimination_theory.specs.BothTheories.{IsPlaceIn}
-use Rattle.sample_reference.specs.Traced.{IsLower}
 use Rattle.nnf_trees.specs.Nnfs.{nnf_of, IsProper}
 use Rattle.test_points.specs.Points.{place_of, IsTestPoint}
 use Rattle.traced_cases.specs.declared.step.Step.{Step}
@@ -23,10 +22,9 @@ abbrev pub steps_seen : Option (Vec Step Global) → Option (List meaning.Step)
 steps_seen (Some v) = Some (steps_of v.items)
 steps_seen None = None
 
--- a well-formed test point whose place is one of the theory, of the lower side, and a branch of the theory with well-formed atoms
+-- a well-formed test point whose place is one of the theory, and a branch of the theory with well-formed atoms
 pub record IsStep (c : Context) (s : Step) : Type 0 where
   pub point : IsTestPoint s.point
-  pub lower : IsLower (place_of s.point)
   pub place : IsPlaceIn c (place_of s.point)
   pub proper : IsProper s.branch
   pub inside : InContext c (nnf_of s.branch)

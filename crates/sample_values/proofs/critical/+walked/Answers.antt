@@ -12,6 +12,7 @@ use Rattle.sample_values.proofs.critical.+walked.Goals as goal
 
 pub least_in_members-loop-f-preserved : goal.least_in_members-loop-f-preserved
 least_in_members-loop-f-preserved t c =
+    let side = c.args.side in
     let x = c.args.x.number in
     let b = option_map frac_of c.args.bound in
     let least = option_map frac_of c.loop-f.least in
@@ -20,9 +21,9 @@ least_in_members-loop-f-preserved t c =
     let rest : List Nnf = drop (c.loop-f.f-index + 1) c.items-f-items.result.now in
     let split = drop_at c.items-f-items.result.now c.loop-f.f-index f c.loop-f-test.true c.f-item.is in
     let few : nodes (nnf_of f) + all_nodes (Formulas_of rest) ≤ all_nodes all = subst (λ (xs : List Nnf). all_nodes (Formulas_of xs) ≤ all_nodes all) split c.loop-f.invariant.small in
-    let left : least_among x b least (atoms_in_all (Formulas_of (f ∷ rest))) ≡ least_among x b (option_map frac_of c.args.before) (atoms_in_all all)
-    = subst (λ (xs : List Nnf). least_among x b least (atoms_in_all (Formulas_of xs)) ≡ least_among x b (option_map frac_of c.args.before) (atoms_in_all all)) split c.loop-f.invariant.left in
+    let left : least_among side x b least (atoms_in_all (Formulas_of (f ∷ rest))) ≡ least_among side x b (option_map frac_of c.args.before) (atoms_in_all all)
+    = subst (λ (xs : List Nnf). least_among side x b least (atoms_in_all (Formulas_of xs)) ≡ least_among side x b (option_map frac_of c.args.before) (atoms_in_all all)) split c.loop-f.invariant.left in
     record {
-      left = ap (λ o. least_among x b o (atoms_in_all (Formulas_of rest))) c.least_in-least.ensures ∙ sym (among_append x b least (atoms_in (nnf_of f)) (atoms_in_all (Formulas_of rest))) ∙ left;
+      left = ap (λ o. least_among side x b o (atoms_in_all (Formulas_of rest))) c.least_in-least.ensures ∙ sym (among_append side x b least (atoms_in (nnf_of f)) (atoms_in_all (Formulas_of rest))) ∙ left;
       small = omega (arith, few);
     }

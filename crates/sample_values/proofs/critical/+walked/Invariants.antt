@@ -16,7 +16,7 @@ decreases-least_in_members l = 2 * all_nodes (nnfs_of l.fs.now) + 1
 -- the least with the atoms of the members left is that with all atoms
 abbrev pub invariant-least_in_members-loop-f : goal.invariant-least_in_members-loop-f
 invariant-least_in_members-loop-f l = record {
-  left : least_among l.x.number (option_map frac_of l.bound) (option_map frac_of l.least) (atoms_in_all (Formulas_of (drop l.f-index l.f-items)))
-      ≡ least_among l.x.number (option_map frac_of l.bound) (option_map frac_of l.fn.before) (atoms_in_all (nnfs_of l.fs));
+  left : least_among l.side l.x.number (option_map frac_of l.bound) (option_map frac_of l.least) (atoms_in_all (Formulas_of (drop l.f-index l.f-items)))
+      ≡ least_among l.side l.x.number (option_map frac_of l.bound) (option_map frac_of l.fn.before) (atoms_in_all (nnfs_of l.fs));
   small : all_nodes (Formulas_of (drop l.f-index l.f-items)) ≤ all_nodes (nnfs_of l.fs);
 }

@@ -15,4 +15,4 @@ returns c =
     let x = c.args.x in
     let alone : c.in_ok-names.names.items ≡ x ∷ [] = search rules in
     let put : IsTreePut o p (x.number ∷ []) f g = subst (λ (xs : List ℕ). IsTreePut o p xs f g) (ap around alone) c.in_ok-put.ensures.put in
-    next_found o x.number f g p _ c.least_in.result put c.least_in.ensures
+    next_found o c.args.side x.number f g p _ c.least_in.result put c.least_in.ensures

@@ -1,0 +1,9 @@
+pub mod OneValue
+pub mod CriticalSet
+pub mod Moving
+pub mod Found
+pub mod Sampleable
+pub mod Reordered
+pub mod Known
+pub mod Cases
+mod Examples

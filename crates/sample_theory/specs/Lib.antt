@@ -1,0 +1,4 @@
+pub mod Samples
+pub mod CriticalSet
+pub mod Known
+pub mod Reordered
