@@ -4,7 +4,7 @@ pub mod VariableLemmas
 pub mod SoundLemmas
 pub mod EliminatedLemmas
 pub mod BindingLemmas
-pub mod DeskLemmas
+pub mod StateLemmas
 pub mod CauseLemmas
 pub mod AssumptionLemmas
 pub mod GivenLemmas

@@ -12,9 +12,9 @@ use Rattle.formula_tree.proofs.PlaceLaws.{after_distinct}
 use Rattle.formula_resolving.specs.Numbering.{Grows}
 use Rattle.prenex_theory.specs.NewNames.{new_text, IsFirstNew, AddsNewNames}
 use Rattle.prenex_forms.proofs.FoundNames.{any_among}
-use Rattle.session_commands.specs.declared.formulas.Wanted.{Wanted}
-use Rattle.session_commands.specs.declared.formulas.Wanted.TheVariants as wanted
-use Rattle.session_commands.specs.declared.formulas.Way.TheVariants as way
+use Rattle.session_commands.specs.declared.formulas.FormCommand.{FormCommand}
+use Rattle.session_commands.specs.declared.formulas.FormCommand.TheVariants as wanted
+use Rattle.session_commands.specs.declared.formulas.ClauseForm.TheVariants as clause_form
 use Rattle.session_meaning.specs.State.{State}
 use Rattle.session_meaning.specs.FormulaAnswers.{HasNewNames}
 use Rattle.session_commands.specs.Commands.{resolved, HasAnswerNames}
@@ -88,11 +88,11 @@ pub answer_names_variables : (s : State) (c : CommandTree) (names : List (List �
 answer_names_variables s c names v = answer_names s c (λ R. R names → AllVariables names) (λ h. subst AllVariables (sym h) v) (λ h. h.variables v)
 
 -- the names after the wanted form was made
-pub form_names : (w : Wanted) (f : FormulaTree) (s : State) (names : List (List ℕ)) → HasFormNames w s.names (resolve s.context s.bound s.names f) names → HasAnswerNames s (command_of w f) names
-form_names wanted.Given f s names h = h
+pub form_names : (w : FormCommand) (f : FormulaTree) (s : State) (names : List (List ℕ)) → HasFormNames w s.names (resolve s.context s.bound s.names f) names → HasAnswerNames s (command_of w f) names
+form_names wanted.Resolved f s names h = h
 form_names wanted.NegationNormal f s names h = h
 form_names wanted.Prenex f s names h = h
-form_names (wanted.Distributed way.Disjunctive) f s names h = h
-form_names (wanted.Distributed way.Conjunctive) f s names h = h
+form_names (wanted.Distributed clause_form.Disjunctive) f s names h = h
+form_names (wanted.Distributed clause_form.Conjunctive) f s names h = h
 form_names (wanted.Simplified given) f s names h = h
 form_names (wanted.Eliminated given) f s names h = h

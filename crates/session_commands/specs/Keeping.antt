@@ -16,7 +16,7 @@ use Rattle.formula_store.specs.declared.id.FormulaId.{FormulaId}
 use Rattle.formula_store.specs.Nodes.{tree, IsId}
 use Rattle.formula_meaning.specs.Within.{IsTreeWithin}
 use Rattle.formula_meaning.specs.Members.{HasTwoMembers}
-use Rattle.session_commands.specs.declared.desk.Desk.{Desk}
+use Rattle.session_commands.specs.declared.state.SessionState.{SessionState}
 use Rattle.session_meaning.specs.State.{State}
 
 -- the ids of what is bound, in order
@@ -24,7 +24,7 @@ abbrev pub ids_bound : List (List ℕ × FormulaId) → List FormulaId
 ids_bound entries = map (λ e. e.1) entries
 
 -- the state that is kept
-abbrev pub state_of : Desk → State
+abbrev pub state_of : SessionState → State
 state_of d = record { context = context_of d.context; names = d.names; bound = trees_bound (tree d.store) d.bindings }
 
 -- a formula as a session has it: its atoms are normal, its names have numbers below n, its lists have two members at least
@@ -41,7 +41,7 @@ pub record IsSound (s : State) : Type 0 where
   pub numbers : (x : List ℕ) (t : Tree) → bound_to s.bound x ≡ Some t → Every IsAtomInLimit t
 
 -- what is bound are ids of the store, no name is bound twice, and the state is sound
-pub record IsDesk (d : Desk) : Type 0 where
+pub record IsSessionState (d : SessionState) : Type 0 where
   pub ids : AreIds (IsId d.store) d.bindings
   pub bound_once : IsDistinct same_name (keys_of d.bindings)
   pub sound : IsSound (state_of d)

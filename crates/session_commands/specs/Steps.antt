@@ -48,11 +48,11 @@ use Rattle.redlog_printer.specs.Writing.{text_limit}
 use Rattle.session_meaning.specs.declared.line.Line.{Line}
 use Rattle.session_meaning.specs.declared.line.StatementError.{StatementError}
 use Rattle.session_meaning.specs.declared.line.StatementError.TheVariants as error
-use Rattle.session_commands.specs.declared.formulas.Wanted.{Wanted}
-use Rattle.session_commands.specs.declared.formulas.Wanted.TheVariants as wanted
-use Rattle.session_commands.specs.declared.formulas.Way.{Way}
-use Rattle.session_commands.specs.declared.formulas.Way.TheVariants as way
-use Rattle.session_commands.specs.declared.desk.Desk.{Desk}
+use Rattle.session_commands.specs.declared.formulas.FormCommand.{FormCommand}
+use Rattle.session_commands.specs.declared.formulas.FormCommand.TheVariants as wanted
+use Rattle.session_commands.specs.declared.formulas.ClauseForm.{ClauseForm}
+use Rattle.session_commands.specs.declared.formulas.ClauseForm.TheVariants as clause_form
+use Rattle.session_commands.specs.declared.state.SessionState.{SessionState}
 use Rattle.session_meaning.specs.State.{State, with_names, with_bound}
 use Rattle.session_meaning.specs.Assumptions.{assumed}
 use Rattle.session_commands.specs.Parts.{SomePart, EachPart}
@@ -93,23 +93,23 @@ print_refusal print.Text = error.Text
 print_refusal print.Memory = error.Memory
 
 -- the assumptions
-abbrev pub given_trees : Wanted → FormulaTrees
+abbrev pub given_trees : FormCommand → FormulaTrees
 given_trees (wanted.Simplified given) = formula_trees given.now
 given_trees (wanted.Eliminated given) = formula_trees given.now
 given_trees _ = none
 
 -- what the lists of a clean form are joined by
-abbrev pub junction_of : Way → Junction
-junction_of way.Disjunctive = Conjunction
-junction_of way.Conjunctive = Disjunction
+abbrev pub junction_of : ClauseForm → Junction
+junction_of clause_form.Disjunctive = Conjunction
+junction_of clause_form.Conjunctive = Disjunction
 
 -- the command that gives the wanted formula
-abbrev pub command_of : Wanted → FormulaTree → CommandTree
-command_of wanted.Given f = Echo f
+abbrev pub command_of : FormCommand → FormulaTree → CommandTree
+command_of wanted.Resolved f = Echo f
 command_of wanted.NegationNormal f = Nnf f
 command_of wanted.Prenex f = Pnf f
-command_of (wanted.Distributed way.Disjunctive) f = Dnf f
-command_of (wanted.Distributed way.Conjunctive) f = Cnf f
+command_of (wanted.Distributed clause_form.Disjunctive) f = Dnf f
+command_of (wanted.Distributed clause_form.Conjunctive) f = Cnf f
 command_of (wanted.Simplified given) f = Simpl f (formula_trees given.now)
 command_of (wanted.Eliminated given) f = Qe f (formula_trees given.now)
 
@@ -120,7 +120,7 @@ state_with s (Some x) t = with_bound s x t
 
 -- The command is accepted, and its line and the next state are those of the formula that it gives. The state is one in which
 -- its variables have their numbers.
-pub record IsGiven (s : State) (limit : ℕ) (u : Use) (c : CommandTree) (answer : Line) (next : State) : Type 0 where
+pub record IsFormulaAnswer (s : State) (limit : ℕ) (u : Use) (c : CommandTree) (answer : Line) (next : State) : Type 0 where
   pub accepted : IsAccepted s limit u c
   pub formula : Tree
   pub given : MayGive s limit c formula
@@ -133,14 +133,14 @@ pub record IsGiven (s : State) (limit : ℕ) (u : Use) (c : CommandTree) (answer
 -- ---- what a step keeps
 
 -- the formulas of the store stay, and so does all else
-pub record KeepsDesk (old new : Desk) : Type 0 where
+pub record KeepsState (old new : SessionState) : Type 0 where
   pub context : new.context ≡ old.context
   pub names : new.names ≡ old.names
   pub bindings : new.bindings ≡ old.bindings
   pub store : Keeps (IsId old.store) (tree old.store) (IsId new.store) (tree new.store)
 
 -- the same, but for new names after the old ones
-pub record GrowsDesk (old new : Desk) : Type 0 where
+pub record GrowsState (old new : SessionState) : Type 0 where
   pub context : new.context ≡ old.context
   pub names : Grows old.names new.names
   pub bindings : new.bindings ≡ old.bindings
@@ -208,22 +208,22 @@ pub record IsFirstWith (s : State) (g : FormulaTree) (stop after : Option Static
   pub joined : after ≡ earlier_of stop cause
 
 -- a disjunctive or conjunctive form is wanted
-abbrev pub IsDistributed : Wanted → Type 0
-IsDistributed (wanted.Distributed way) = Unit {0}
+abbrev pub IsDistributed : FormCommand → Type 0
+IsDistributed (wanted.Distributed clause_form) = Unit {0}
 IsDistributed _ = ⊥
 
 -- a quantifier stands in a formula that is asked for its disjunctive or conjunctive form
-abbrev pub HasUnwantedQuantifier : State → Wanted → FormulaTree → Type 0
-HasUnwantedQuantifier s (wanted.Distributed way) f = IsQuantified s.bound f
+abbrev pub HasUnwantedQuantifier : State → FormCommand → FormulaTree → Type 0
+HasUnwantedQuantifier s (wanted.Distributed clause_form) f = IsQuantified s.bound f
 HasUnwantedQuantifier s _ f = ⊥
 
 -- no cause in reading applies, nor is there a quantifier where none may be
-pub record IsReady (s : State) (w : Wanted) (f : FormulaTree) : Type 0 where
+pub record IsReady (s : State) (w : FormCommand) (f : FormulaTree) : Type 0 where
   pub readable : ArePartsReadable s f (given_trees w)
   pub plain : ¬ (HasUnwantedQuantifier s w f)
 
 -- why that is not so: the quantifier comes before an overflow, and after all other causes
-abbrev pub IsUnready : State → Wanted → FormulaTree → StatementError → Type 0
+abbrev pub IsUnready : State → FormCommand → FormulaTree → StatementError → Type 0
 IsUnready s w f error.Quantified = HasUnwantedQuantifier s w f × ((d : StaticError) → static_rank d < 7 → ¬ (AppliesToPart s f (given_trees w) d))
 IsUnready s w f error.Overflow = ArePartsUnread s f (given_trees w) error.Overflow × (¬ (HasUnwantedQuantifier s w f))
 IsUnready s w f e = ArePartsUnread s f (given_trees w) e
@@ -274,21 +274,21 @@ pub record IsPrenexAs (c : Context) (count limit : ℕ) (f t : Tree) : Type 0 wh
   pub fits : ¬ (OverflowsInRenaming c count (normal_form negated_normal f))
 
 -- t is the wanted form of a resolved formula f under the assumptions ks, where count names are known
-abbrev pub IsWantedForm : Context → ℕ → List Atom → ℕ → Wanted → Tree → Tree → Type 0
-IsWantedForm c count ks limit wanted.Given f t = t ≡ f
+abbrev pub IsWantedForm : Context → ℕ → List Atom → ℕ → FormCommand → Tree → Tree → Type 0
+IsWantedForm c count ks limit wanted.Resolved f t = t ≡ f
 IsWantedForm c count ks limit wanted.NegationNormal f t = t ≡ normal_form negated_normal f
 IsWantedForm c count ks limit wanted.Prenex f t = IsPrenexAs c count limit f t
-IsWantedForm c count ks limit (wanted.Distributed way) f t = IsCleanedAs c (junction_of way) (normal_form negated_normal f) t
+IsWantedForm c count ks limit (wanted.Distributed clause_form) f t = IsCleanedAs c (junction_of clause_form) (normal_form negated_normal f) t
 IsWantedForm c count ks limit (wanted.Simplified given) f t = IsSimplifiedAs c ks (normal_form negated_normal f) t
 IsWantedForm c count ks limit (wanted.Eliminated given) f t = IsWantedAnswer c ks limit f t
 
 -- the names after the wanted form of a resolved formula f was made
-abbrev pub HasFormNames : Wanted → List (List ℕ) → Tree → List (List ℕ) → Type 0
+abbrev pub HasFormNames : FormCommand → List (List ℕ) → Tree → List (List ℕ) → Type 0
 HasFormNames wanted.Prenex names f after = HasNewNames names f after
 HasFormNames _ names f after = after ≡ names
 
 -- t is the wanted form of a formula that is read in a state in which its variables have their numbers, and these are the names after it
-pub record IsWantedOf (s : State) (limit : ℕ) (w : Wanted) (f : FormulaTree) (t : Tree) (after : List (List ℕ)) : Type 0 where
+pub record IsWantedOf (s : State) (limit : ℕ) (w : FormCommand) (f : FormulaTree) (t : Tree) (after : List (List ℕ)) : Type 0 where
   pub ready : IsReady s w f
   pub form : IsWantedForm s.context (length s.names) (assumed s (given_trees w)) limit w (resolve s.context s.bound s.names f) t
   pub names : HasAnswerNames s (command_of w f) after
@@ -314,10 +314,10 @@ PrenexFault c count limit f error.Memory = Unit {0}
 PrenexFault c count limit f _ = ⊥
 
 -- why the wanted form is not made, where count names are known
-abbrev pub FormFault : Context → ℕ → ℕ → Wanted → Tree → StatementError → Type 0
+abbrev pub FormFault : Context → ℕ → ℕ → FormCommand → Tree → StatementError → Type 0
 FormFault c count limit wanted.NegationNormal f error.Nodes = limit < 6 * tree_distinct f
 FormFault c count limit wanted.Prenex f e = PrenexFault c count limit f e
-FormFault c count limit (wanted.Distributed way) f error.Nodes = limit < literals (junction_of way) (normal_form negated_normal f)
+FormFault c count limit (wanted.Distributed clause_form) f error.Nodes = limit < literals (junction_of clause_form) (normal_form negated_normal f)
 FormFault c count limit (wanted.Simplified given) f error.Nodes = limit < nodes (normal_form negated_normal f)
 FormFault c count limit (wanted.Eliminated given) f error.Nodes = reference c limit f ≡ stopped Nodes
 FormFault c count limit (wanted.Eliminated given) f error.Overflow = reference c limit f ≡ stopped Overflow

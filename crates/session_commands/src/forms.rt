@@ -15,11 +15,11 @@ ghost use Rattle.formula_store.specs.Nodes.{tree, IsId};
 ghost use Rattle.formula_meaning.specs.Members.{HasTwoMembers};
 ghost use Rattle.formula_meaning.specs.Within.{IsTreeWithin};
 ghost use Rattle.session_meaning.specs.FormulaAnswers.{HasNewNames};
-ghost use Rattle.session_commands.specs.Steps.{KeepsDesk, GrowsDesk, IsWantedForm, HasFormNames, FormFault, IsPrenexAs, PrenexFault, IsDistributed, junction_of, IsCleanedAs, IsEliminatedAs, IsSimplifiedAs, IsWantedAnswer, EliminationFault, NegationFault, measured_refusal as refusal_of_measured};
+ghost use Rattle.session_commands.specs.Steps.{KeepsState, GrowsState, IsWantedForm, HasFormNames, FormFault, IsPrenexAs, PrenexFault, IsDistributed, junction_of, IsCleanedAs, IsEliminatedAs, IsSimplifiedAs, IsWantedAnswer, EliminationFault, NegationFault, measured_refusal as refusal_of_measured};
 
 use crate::assumptions::Premised;
-use crate::desk::Desk;
-use crate::formulas::{Wanted, Way};
+use crate::formulas::{ClauseForm, FormCommand};
+use crate::state::SessionState;
 use atom_normal::Atom;
 use formula_store::FormulaId;
 use formula_tree::FormError;
@@ -33,43 +33,47 @@ use theory_simplifier::{SimplError, simplify};
 
 /// The wanted form of what was read. The new names of a prenex form stand behind the others.
 pub(crate) fn formed(
-    desk: &mut Desk,
+    state: &mut SessionState,
     limit: u64,
-    wanted: Wanted<'_>,
+    wanted: FormCommand<'_>,
     read: &Premised,
 ) -> Result<FormulaId, StatementError>
-    requires id { IsId desk.old.store read.now.formula }
-    requires normal { Every (IsNormal (context_of desk.old.context)) (tree desk.old.store read.now.formula) }
-    requires members { HasTwoMembers (tree desk.old.store read.now.formula) }
-    requires within { IsTreeWithin (length desk.old.names) (tree desk.old.store read.now.formula) }
-    requires free { IsDistributed wanted → IsQuantifierFree (tree desk.old.store read.now.formula) }
-    requires atoms { EachOf (IsNormal (context_of desk.old.context)) (map atom_of read.now.atoms.items) }
+    requires id { IsId state.old.store read.now.formula }
+    requires normal { Every (IsNormal (context_of state.old.context)) (tree state.old.store read.now.formula) }
+    requires members { HasTwoMembers (tree state.old.store read.now.formula) }
+    requires within { IsTreeWithin (length state.old.names) (tree state.old.store read.now.formula) }
+    requires free { IsDistributed wanted → IsQuantifierFree (tree state.old.store read.now.formula) }
+    requires atoms { EachOf (IsNormal (context_of state.old.context)) (map atom_of read.now.atoms.items) }
     requires well_formed { AllByRecursion IsWellFormed read.now.atoms.items }
-    ensures made { IfOk result (IsId desk.new.store) }
-    ensures wanted { IfOk result (λ r. IsWantedForm (context_of desk.old.context) (length desk.old.names) (map atom_of read.now.atoms.items) limit wanted.entry (tree desk.old.store read.now.formula) (tree desk.new.store r)) }
-    ensures names { OnOk result (HasFormNames wanted.entry desk.old.names (tree desk.old.store read.now.formula) desk.new.names) }
-    ensures fault { IfErr result (FormFault (context_of desk.old.context) (length desk.old.names) limit wanted.entry (tree desk.old.store read.now.formula)) }
-    ensures grown { GrowsDesk desk.old desk.new }
+    ensures made { IfOk result (IsId state.new.store) }
+    ensures wanted { IfOk result (λ r. IsWantedForm (context_of state.old.context) (length state.old.names) (map atom_of read.now.atoms.items) limit wanted.entry (tree state.old.store read.now.formula) (tree state.new.store r)) }
+    ensures names { OnOk result (HasFormNames wanted.entry state.old.names (tree state.old.store read.now.formula) state.new.names) }
+    ensures fault { IfErr result (FormFault (context_of state.old.context) (length state.old.names) limit wanted.entry (tree state.old.store read.now.formula)) }
+    ensures grown { GrowsState state.old state.new }
 {
     match wanted {
-        Wanted::Given => Ok(read.formula),
-        Wanted::NegationNormal => negated(desk, Some(limit), read.formula),
-        Wanted::Prenex => prenexed(desk, limit, read.formula),
-        Wanted::Distributed(way) => distributed(desk, limit, way, read),
-        Wanted::Simplified(_) => simplified_negation(desk, limit, read),
-        Wanted::Eliminated(_) => simplified_answer(desk, limit, read),
+        FormCommand::Resolved => Ok(read.formula),
+        FormCommand::NegationNormal => negated(state, Some(limit), read.formula),
+        FormCommand::Prenex => prenexed(state, limit, read.formula),
+        FormCommand::Distributed(clause_form) => distributed(state, limit, clause_form, read),
+        FormCommand::Simplified(_) => simplified_negation(state, limit, read),
+        FormCommand::Eliminated(_) => simplified_answer(state, limit, read),
     }
 }
 
 /// The negation normal form. `Nodes` comes exactly where there is a limit and 6 times the distinct subformulas are above it.
-fn negated(desk: &mut Desk, limit: Option<u64>, id: FormulaId) -> Result<FormulaId, StatementError>
-    requires { IsId desk.old.store id }
-    ensures made { IfOk result (IsId desk.new.store) }
-    ensures form { IfOk result (λ r. tree desk.new.store r ≡ normal_form negated_normal (tree desk.old.store id)) }
-    ensures fault { IfErr result (NegationFault limit (tree desk.old.store id)) }
-    ensures kept { KeepsDesk desk.old desk.new }
+fn negated(
+    state: &mut SessionState,
+    limit: Option<u64>,
+    id: FormulaId,
+) -> Result<FormulaId, StatementError>
+    requires { IsId state.old.store id }
+    ensures made { IfOk result (IsId state.new.store) }
+    ensures form { IfOk result (λ r. tree state.new.store r ≡ normal_form negated_normal (tree state.old.store id)) }
+    ensures fault { IfErr result (NegationFault limit (tree state.old.store id)) }
+    ensures kept { KeepsState state.old state.new }
 {
-    match nnf(desk.alloc, &mut desk.store, id, limit) {
+    match nnf(state.alloc, &mut state.store, id, limit) {
         Ok(id) => Ok(id),
         Err(FormError::Nodes) => Err(StatementError::Nodes),
         Err(_) => Err(StatementError::Memory),
@@ -79,22 +83,26 @@ fn negated(desk: &mut Desk, limit: Option<u64>, id: FormulaId) -> Result<Formula
 /// The prenex form, with its new names behind the others. `Nodes` comes exactly where the negation normal form has more nodes
 /// than the limit, and `Overflow` exactly where it has not and a number of a renamed atom passes the limit of numbers. After an
 /// `Err` the names are as before.
-fn prenexed(desk: &mut Desk, limit: u64, id: FormulaId) -> Result<FormulaId, StatementError>
-    requires id { IsId desk.old.store id }
-    requires normal { Every (IsNormal (context_of desk.old.context)) (tree desk.old.store id) }
-    requires within { IsTreeWithin (length desk.old.names) (tree desk.old.store id) }
-    ensures made { IfOk result (IsId desk.new.store) }
-    ensures form { IfOk result (λ r. IsPrenexAs (context_of desk.old.context) (length desk.old.names) limit (tree desk.old.store id) (tree desk.new.store r)) }
-    ensures names { OnOk result (HasNewNames desk.old.names (tree desk.old.store id) desk.new.names) }
-    ensures fault { IfErr result (PrenexFault (context_of desk.old.context) (length desk.old.names) limit (tree desk.old.store id)) }
-    ensures grown { GrowsDesk desk.old desk.new }
+fn prenexed(
+    state: &mut SessionState,
+    limit: u64,
+    id: FormulaId,
+) -> Result<FormulaId, StatementError>
+    requires id { IsId state.old.store id }
+    requires normal { Every (IsNormal (context_of state.old.context)) (tree state.old.store id) }
+    requires within { IsTreeWithin (length state.old.names) (tree state.old.store id) }
+    ensures made { IfOk result (IsId state.new.store) }
+    ensures form { IfOk result (λ r. IsPrenexAs (context_of state.old.context) (length state.old.names) limit (tree state.old.store id) (tree state.new.store r)) }
+    ensures names { OnOk result (HasNewNames state.old.names (tree state.old.store id) state.new.names) }
+    ensures fault { IfErr result (PrenexFault (context_of state.old.context) (length state.old.names) limit (tree state.old.store id)) }
+    ensures grown { GrowsState state.old state.new }
 {
     match pnf(
-        desk.alloc,
-        &mut desk.store,
-        desk.context,
+        state.alloc,
+        &mut state.store,
+        state.context,
         id,
-        &mut desk.names,
+        &mut state.names,
         limit,
     ) {
         Ok(id) => Ok(id),
@@ -107,42 +115,54 @@ fn prenexed(desk: &mut Desk, limit: u64, id: FormulaId) -> Result<FormulaId, Sta
 
 /// A clean form of the negation normal form. `Nodes` comes only where the plain form has more places of atoms than the limit.
 fn distributed(
-    desk: &mut Desk,
+    state: &mut SessionState,
     limit: u64,
-    way: Way,
+    clause_form: ClauseForm,
     read: &Premised,
 ) -> Result<FormulaId, StatementError>
-    requires id { IsId desk.old.store read.now.formula }
-    requires normal { Every (IsNormal (context_of desk.old.context)) (tree desk.old.store read.now.formula) }
-    requires members { HasTwoMembers (tree desk.old.store read.now.formula) }
-    requires free { IsQuantifierFree (tree desk.old.store read.now.formula) }
-    ensures made { IfOk result (IsId desk.new.store) }
-    ensures cleaned { IfOk result (λ r. IsCleanedAs (context_of desk.old.context) (junction_of way) (normal_form negated_normal (tree desk.old.store read.now.formula)) (tree desk.new.store r)) }
-    ensures fault { IfErr result (λ e. ((e ≡ StatementError.Nodes) × (limit < literals (junction_of way) (normal_form negated_normal (tree desk.old.store read.now.formula)))) ⊎ (e ≡ StatementError.Memory)) }
-    ensures kept { KeepsDesk desk.old desk.new }
+    requires id { IsId state.old.store read.now.formula }
+    requires normal { Every (IsNormal (context_of state.old.context)) (tree state.old.store read.now.formula) }
+    requires members { HasTwoMembers (tree state.old.store read.now.formula) }
+    requires free { IsQuantifierFree (tree state.old.store read.now.formula) }
+    ensures made { IfOk result (IsId state.new.store) }
+    ensures cleaned { IfOk result (λ r. IsCleanedAs (context_of state.old.context) (junction_of clause_form) (normal_form negated_normal (tree state.old.store read.now.formula)) (tree state.new.store r)) }
+    ensures fault { IfErr result (λ e. ((e ≡ StatementError.Nodes) × (limit < literals (junction_of clause_form) (normal_form negated_normal (tree state.old.store read.now.formula)))) ⊎ (e ≡ StatementError.Memory)) }
+    ensures kept { KeepsState state.old state.new }
 {
-    let form = negated(desk, None, read.formula)?;
-    cleaned(desk, limit, way, form)
+    let form = negated(state, None, read.formula)?;
+    cleaned(state, limit, clause_form, form)
 }
 
 /// A clean form of a formula in negation normal form without quantifiers.
 fn cleaned(
-    desk: &mut Desk,
+    state: &mut SessionState,
     limit: u64,
-    way: Way,
+    clause_form: ClauseForm,
     id: FormulaId,
 ) -> Result<FormulaId, StatementError>
-    requires id { IsId desk.old.store id }
-    requires formula { IsOrderly (IsNormal (context_of desk.old.context)) (tree desk.old.store id) }
-    requires free { IsQuantifierFree (tree desk.old.store id) }
-    ensures made { IfOk result (IsId desk.new.store) }
-    ensures cleaned { IfOk result (λ r. IsCleanedAs (context_of desk.old.context) (junction_of way) (tree desk.old.store id) (tree desk.new.store r)) }
-    ensures fault { IfErr result (λ e. ((e ≡ StatementError.Nodes) × (limit < literals (junction_of way) (tree desk.old.store id))) ⊎ (e ≡ StatementError.Memory)) }
-    ensures kept { KeepsDesk desk.old desk.new }
+    requires id { IsId state.old.store id }
+    requires formula { IsOrderly (IsNormal (context_of state.old.context)) (tree state.old.store id) }
+    requires free { IsQuantifierFree (tree state.old.store id) }
+    ensures made { IfOk result (IsId state.new.store) }
+    ensures cleaned { IfOk result (λ r. IsCleanedAs (context_of state.old.context) (junction_of clause_form) (tree state.old.store id) (tree state.new.store r)) }
+    ensures fault { IfErr result (λ e. ((e ≡ StatementError.Nodes) × (limit < literals (junction_of clause_form) (tree state.old.store id))) ⊎ (e ≡ StatementError.Memory)) }
+    ensures kept { KeepsState state.old state.new }
 {
-    match way {
-        Way::Disjunctive => told(dnf(desk.alloc, &mut desk.store, desk.context, id, limit)),
-        Way::Conjunctive => told(cnf(desk.alloc, &mut desk.store, desk.context, id, limit)),
+    match clause_form {
+        ClauseForm::Disjunctive => told(dnf(
+            state.alloc,
+            &mut state.store,
+            state.context,
+            id,
+            limit,
+        )),
+        ClauseForm::Conjunctive => told(cnf(
+            state.alloc,
+            &mut state.store,
+            state.context,
+            id,
+            limit,
+        )),
     }
 }
 
@@ -160,56 +180,60 @@ fn told(made: Result<FormulaId, FormError>) -> Result<FormulaId, StatementError>
 
 /// The negation normal form, simplified under the assumptions.
 fn simplified_negation(
-    desk: &mut Desk,
+    state: &mut SessionState,
     limit: u64,
     read: &Premised,
 ) -> Result<FormulaId, StatementError>
-    requires id { IsId desk.old.store read.now.formula }
-    requires normal { Every (IsNormal (context_of desk.old.context)) (tree desk.old.store read.now.formula) }
-    requires members { HasTwoMembers (tree desk.old.store read.now.formula) }
-    requires atoms { EachOf (IsNormal (context_of desk.old.context)) (map atom_of read.now.atoms.items) }
+    requires id { IsId state.old.store read.now.formula }
+    requires normal { Every (IsNormal (context_of state.old.context)) (tree state.old.store read.now.formula) }
+    requires members { HasTwoMembers (tree state.old.store read.now.formula) }
+    requires atoms { EachOf (IsNormal (context_of state.old.context)) (map atom_of read.now.atoms.items) }
     requires well_formed { AllByRecursion IsWellFormed read.now.atoms.items }
-    ensures made { IfOk result (IsId desk.new.store) }
-    ensures simplified { IfOk result (λ r. IsSimplifiedAs (context_of desk.old.context) (map atom_of read.now.atoms.items) (normal_form negated_normal (tree desk.old.store read.now.formula)) (tree desk.new.store r)) }
-    ensures fault { IfErr result (λ e. ((e ≡ StatementError.Nodes) × (limit < nodes (normal_form negated_normal (tree desk.old.store read.now.formula)))) ⊎ (e ≡ StatementError.Memory)) }
-    ensures kept { KeepsDesk desk.old desk.new }
+    ensures made { IfOk result (IsId state.new.store) }
+    ensures simplified { IfOk result (λ r. IsSimplifiedAs (context_of state.old.context) (map atom_of read.now.atoms.items) (normal_form negated_normal (tree state.old.store read.now.formula)) (tree state.new.store r)) }
+    ensures fault { IfErr result (λ e. ((e ≡ StatementError.Nodes) × (limit < nodes (normal_form negated_normal (tree state.old.store read.now.formula)))) ⊎ (e ≡ StatementError.Memory)) }
+    ensures kept { KeepsState state.old state.new }
 {
-    let form = negated(desk, None, read.formula)?;
-    simplified(desk, limit, form, &read.atoms)
+    let form = negated(state, None, read.formula)?;
+    simplified(state, limit, form, &read.atoms)
 }
 
 /// An equivalent formula without quantifiers, simplified under the assumptions.
 fn simplified_answer(
-    desk: &mut Desk,
+    state: &mut SessionState,
     limit: u64,
     read: &Premised,
 ) -> Result<FormulaId, StatementError>
-    requires id { IsId desk.old.store read.now.formula }
-    requires normal { Every (IsNormal (context_of desk.old.context)) (tree desk.old.store read.now.formula) }
-    requires atoms { EachOf (IsNormal (context_of desk.old.context)) (map atom_of read.now.atoms.items) }
+    requires id { IsId state.old.store read.now.formula }
+    requires normal { Every (IsNormal (context_of state.old.context)) (tree state.old.store read.now.formula) }
+    requires atoms { EachOf (IsNormal (context_of state.old.context)) (map atom_of read.now.atoms.items) }
     requires well_formed { AllByRecursion IsWellFormed read.now.atoms.items }
-    ensures made { IfOk result (IsId desk.new.store) }
-    ensures answer { IfOk result (λ r. IsWantedAnswer (context_of desk.old.context) (map atom_of read.now.atoms.items) limit (tree desk.old.store read.now.formula) (tree desk.new.store r)) }
-    ensures fault { IfErr result (EliminationFault (context_of desk.old.context) limit (tree desk.old.store read.now.formula)) }
-    ensures kept { KeepsDesk desk.old desk.new }
+    ensures made { IfOk result (IsId state.new.store) }
+    ensures answer { IfOk result (λ r. IsWantedAnswer (context_of state.old.context) (map atom_of read.now.atoms.items) limit (tree state.old.store read.now.formula) (tree state.new.store r)) }
+    ensures fault { IfErr result (EliminationFault (context_of state.old.context) limit (tree state.old.store read.now.formula)) }
+    ensures kept { KeepsState state.old state.new }
 {
-    let answer = eliminated(desk, limit, read.formula)?;
-    match simplified(desk, limit, answer, &read.atoms) {
+    let answer = eliminated(state, limit, read.formula)?;
+    match simplified(state, limit, answer, &read.atoms) {
         Ok(id) => Ok(id),
         Err(_) => Err(StatementError::Memory),
     }
 }
 
 /// What the reference elimination gives.
-fn eliminated(desk: &mut Desk, limit: u64, id: FormulaId) -> Result<FormulaId, StatementError>
-    requires id { IsId desk.old.store id }
-    requires normal { Every (IsNormal (context_of desk.old.context)) (tree desk.old.store id) }
-    ensures made { IfOk result (IsId desk.new.store) }
-    ensures answer { IfOk result (λ r. IsEliminatedAs (context_of desk.old.context) limit (tree desk.old.store id) (tree desk.new.store r)) }
-    ensures fault { IfErr result (EliminationFault (context_of desk.old.context) limit (tree desk.old.store id)) }
-    ensures kept { KeepsDesk desk.old desk.new }
+fn eliminated(
+    state: &mut SessionState,
+    limit: u64,
+    id: FormulaId,
+) -> Result<FormulaId, StatementError>
+    requires id { IsId state.old.store id }
+    requires normal { Every (IsNormal (context_of state.old.context)) (tree state.old.store id) }
+    ensures made { IfOk result (IsId state.new.store) }
+    ensures answer { IfOk result (λ r. IsEliminatedAs (context_of state.old.context) limit (tree state.old.store id) (tree state.new.store r)) }
+    ensures fault { IfErr result (EliminationFault (context_of state.old.context) limit (tree state.old.store id)) }
+    ensures kept { KeepsState state.old state.new }
 {
-    match eliminate_shared(desk.alloc, &mut desk.store, desk.context, id, limit) {
+    match eliminate_shared(state.alloc, &mut state.store, state.context, id, limit) {
         Ok(id) => Ok(id),
         Err(error) => Err(measured_refusal(error)),
     }
@@ -217,21 +241,28 @@ fn eliminated(desk: &mut Desk, limit: u64, id: FormulaId) -> Result<FormulaId, S
 
 /// A formula in negation normal form, simplified under the assumptions. `Nodes` comes only where it has more nodes than the limit.
 pub(crate) fn simplified(
-    desk: &mut Desk,
+    state: &mut SessionState,
     limit: u64,
     id: FormulaId,
     atoms: &[Atom],
 ) -> Result<FormulaId, StatementError>
-    requires id { IsId desk.old.store id }
-    requires formula { IsOrderly (IsNormal (context_of desk.old.context)) (tree desk.old.store id) }
+    requires id { IsId state.old.store id }
+    requires formula { IsOrderly (IsNormal (context_of state.old.context)) (tree state.old.store id) }
     requires well_formed { AllByRecursion IsWellFormed atoms.now }
-    requires atoms { EachOf (IsNormal (context_of desk.old.context)) (map atom_of atoms.now) }
-    ensures made { IfOk result (IsId desk.new.store) }
-    ensures simplified { IfOk result (λ r. IsSimplifiedAs (context_of desk.old.context) (map atom_of atoms.now) (tree desk.old.store id) (tree desk.new.store r)) }
-    ensures fault { IfErr result (λ e. ((e ≡ StatementError.Nodes) × (limit < nodes (tree desk.old.store id))) ⊎ (e ≡ StatementError.Memory)) }
-    ensures kept { KeepsDesk desk.old desk.new }
+    requires atoms { EachOf (IsNormal (context_of state.old.context)) (map atom_of atoms.now) }
+    ensures made { IfOk result (IsId state.new.store) }
+    ensures simplified { IfOk result (λ r. IsSimplifiedAs (context_of state.old.context) (map atom_of atoms.now) (tree state.old.store id) (tree state.new.store r)) }
+    ensures fault { IfErr result (λ e. ((e ≡ StatementError.Nodes) × (limit < nodes (tree state.old.store id))) ⊎ (e ≡ StatementError.Memory)) }
+    ensures kept { KeepsState state.old state.new }
 {
-    match simplify(desk.alloc, &mut desk.store, desk.context, id, atoms, limit) {
+    match simplify(
+        state.alloc,
+        &mut state.store,
+        state.context,
+        id,
+        atoms,
+        limit,
+    ) {
         Ok(id) => Ok(id),
         Err(SimplError::Nodes) => Err(StatementError::Nodes),
         Err(SimplError::Memory) => Err(StatementError::Memory),

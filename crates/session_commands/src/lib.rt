@@ -3,7 +3,6 @@
 
 mod assumptions;
 mod cases;
-mod desk;
 mod forms;
 mod formulas;
 mod holds;
@@ -12,6 +11,7 @@ mod lines;
 mod points;
 mod samples;
 mod session;
+mod state;
 
 pub use laws::{replies_agree, truth_is_never_refused};
 pub use session::{Limits, Session};

@@ -9,7 +9,7 @@ ghost use Rattle.redlog_printer.specs.Writing.{text_limit};
 ghost use Rattle.session_meaning.specs.Reply.{IsLine};
 ghost use Rattle.session_commands.specs.Steps.{print_refusal as refusal_of_print};
 
-use crate::desk::Desk;
+use crate::state::SessionState;
 use formula_store::FormulaId;
 use redlog_printer::PrintError;
 use session_meaning::{Line, StatementError};
@@ -46,15 +46,15 @@ pub(crate) fn print_refusal(error: PrintError) -> StatementError
 }
 
 /// The text of a formula. `Text` comes exactly where it is longer than 32 MiB, else `Memory`.
-pub(crate) fn text_of(desk: &Desk, id: FormulaId) -> Result<Vec<u8>, StatementError>
-    requires id { IsId desk.now.store id }
-    requires within { IsTreeWithin (length desk.now.names) (tree desk.now.store id) }
-    requires members { HasTwoMembers (tree desk.now.store id) }
-    ensures text { IfOk result (λ v. v.items ≡ tree_text desk.now.names (tree desk.now.store id)) }
-    ensures short { OnOk result (length (tree_text desk.now.names (tree desk.now.store id)) ≤ text_limit) }
-    ensures fault { IfErr result (λ e. ((e ≡ StatementError.Text) × (text_limit < length (tree_text desk.now.names (tree desk.now.store id)))) ⊎ (e ≡ StatementError.Memory)) }
+pub(crate) fn text_of(state: &SessionState, id: FormulaId) -> Result<Vec<u8>, StatementError>
+    requires id { IsId state.now.store id }
+    requires within { IsTreeWithin (length state.now.names) (tree state.now.store id) }
+    requires members { HasTwoMembers (tree state.now.store id) }
+    ensures text { IfOk result (λ v. v.items ≡ tree_text state.now.names (tree state.now.store id)) }
+    ensures short { OnOk result (length (tree_text state.now.names (tree state.now.store id)) ≤ text_limit) }
+    ensures fault { IfErr result (λ e. ((e ≡ StatementError.Text) × (text_limit < length (tree_text state.now.names (tree state.now.store id)))) ⊎ (e ≡ StatementError.Memory)) }
 {
-    match stored_text(desk.alloc, &desk.store, &desk.names, id) {
+    match stored_text(state.alloc, &state.store, &state.names, id) {
         Ok(text) => Ok(text),
         Err(error) => Err(print_refusal(error)),
     }

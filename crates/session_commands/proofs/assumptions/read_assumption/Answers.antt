@@ -7,6 +7,6 @@ use Rattle.session_commands.proofs.assumptions.read_assumption.Goals as goal
 pub returns-in_ok-error-in-Err-clause-first : goal.returns-in_ok-error-in-Err-clause-first
 returns-in_ok-error-in-Err-clause-first c = record {
   cause = Some c.in-Err.error;
-  first = first_unread (state_of c.args.desk.now) (formula_tree c.args.assumption.now) c.in-Err.error c.in_ok-error-in-Err.ensures.cause c.in-Err.ensures.unread;
+  first = first_unread (state_of c.args.state.now) (formula_tree c.args.assumption.now) c.in-Err.error c.in_ok-error-in-Err.ensures.cause c.in-Err.ensures.unread;
   joined = ap Some c.in_ok-error-in-Err.ensures.earlier;
 }

@@ -13,7 +13,7 @@ use Rattle.session_meaning.specs.declared.line.StatementError.{StatementError}
 use Rattle.session_commands.specs.Causes.{Refuses}
 use Rattle.session_commands.specs.Keeping.{state_of}
 use Rattle.session_commands.specs.Steps.{use_of}
-use Rattle.session_commands.proofs.DeskLemmas.{keeps_then}
+use Rattle.session_commands.proofs.StateLemmas.{keeps_then}
 use Rattle.session_commands.proofs.GivenSteps.{proper_items}
 use Rattle.session_commands.proofs.CaseSteps.{normal_there, atoms_there, wanted_there, stopped_there, unread_there, on_ok}
 use Rattle.session_commands.proofs.cases.cases_of.Goals as goal
@@ -23,7 +23,7 @@ read_parts-requires-clause-proper_given c = proper_items c.args.given.now c.requ
 
 pub returns-in_err-read-clause-refused : goal.returns-in_err-read-clause-refused
 returns-in_err-read-clause-refused c =
-    let s = state_of c.args.desk.now in
+    let s = state_of c.args.state.now in
     let f = formula_tree c.args.formula.now in
     let gs = formulas_of (map formula_tree c.args.given.now) in
     let e : c.from_residual.result ≡ Err c.in_err-read.field-0.0 = search rules in
@@ -33,20 +33,20 @@ returns-in_err-read-clause-refused c =
 
 pub wanted_cases-requires-clause-normal : goal.wanted_cases-requires-clause-normal
 wanted_cases-requires-clause-normal c =
-    normal_there c.args.desk.now c.read_parts.new.desk (formula_tree c.args.formula.now) (formulas_of (map formula_tree c.args.given.now)) c.requires.desk c.requires.numbered c.in_ok-read.ensures.readable c.read_parts.ensures.kept
-    c.requires.proper c.requires.given (tree c.read_parts.new.desk.store c.in_ok-read.read.formula) c.in_ok-read.ensures.made.same
+    normal_there c.args.state.now c.read_parts.new.state (formula_tree c.args.formula.now) (formulas_of (map formula_tree c.args.given.now)) c.requires.session c.requires.numbered c.in_ok-read.ensures.readable c.read_parts.ensures.kept
+    c.requires.proper c.requires.given (tree c.read_parts.new.state.store c.in_ok-read.read.formula) c.in_ok-read.ensures.made.same
 
 pub wanted_cases-requires-clause-atoms : goal.wanted_cases-requires-clause-atoms
 wanted_cases-requires-clause-atoms c =
-    atoms_there c.args.desk.now c.read_parts.new.desk (formula_tree c.args.formula.now) (formulas_of (map formula_tree c.args.given.now)) c.requires.desk c.requires.numbered c.in_ok-read.ensures.readable c.read_parts.ensures.kept
-    c.requires.proper c.requires.given (tree c.read_parts.new.desk.store c.in_ok-read.read.formula) c.in_ok-read.ensures.made.same (map atom_of c.in_ok-read.read.atoms.items) c.in_ok-read.ensures.atoms
+    atoms_there c.args.state.now c.read_parts.new.state (formula_tree c.args.formula.now) (formulas_of (map formula_tree c.args.given.now)) c.requires.session c.requires.numbered c.in_ok-read.ensures.readable c.read_parts.ensures.kept
+    c.requires.proper c.requires.given (tree c.read_parts.new.state.store c.in_ok-read.read.formula) c.in_ok-read.ensures.made.same (map atom_of c.in_ok-read.read.atoms.items) c.in_ok-read.ensures.atoms
 
 pub returns-clause-cases : goal.returns-clause-cases
 returns-clause-cases c =
     ok_map c.wanted_cases.result
     (λ (v : Vec PrintedCase Global) w.
-    wanted_there c.args.desk.now c.read_parts.new.desk (formula_tree c.args.formula.now) (formulas_of (map formula_tree c.args.given.now)) c.requires.desk c.requires.numbered c.in_ok-read.ensures.readable c.read_parts.ensures.kept
-    c.requires.proper c.requires.given (tree c.read_parts.new.desk.store c.in_ok-read.read.formula) c.in_ok-read.ensures.made.same (map atom_of c.in_ok-read.read.atoms.items) c.in_ok-read.ensures.atoms
+    wanted_there c.args.state.now c.read_parts.new.state (formula_tree c.args.formula.now) (formulas_of (map formula_tree c.args.given.now)) c.requires.session c.requires.numbered c.in_ok-read.ensures.readable c.read_parts.ensures.kept
+    c.requires.proper c.requires.given (tree c.read_parts.new.state.store c.in_ok-read.read.formula) c.in_ok-read.ensures.made.same (map atom_of c.in_ok-read.read.atoms.items) c.in_ok-read.ensures.atoms
     c.args.limit (map case_seen v.items) w) c.wanted_cases.ensures.cases
 
 pub returns-clause-readable : goal.returns-clause-readable
@@ -54,8 +54,8 @@ returns-clause-readable c = on_ok c.wanted_cases.result c.in_ok-read.ensures.rea
 
 pub returns-clause-refused : goal.returns-clause-refused
 returns-clause-refused c =
-    stopped_there c.args.desk.now c.read_parts.new.desk (formula_tree c.args.formula.now) (formulas_of (map formula_tree c.args.given.now)) c.requires.desk c.requires.numbered c.in_ok-read.ensures.readable c.read_parts.ensures.kept
-    c.requires.proper c.requires.given (tree c.read_parts.new.desk.store c.in_ok-read.read.formula) c.in_ok-read.ensures.made.same c.wanted_cases.result c.args.limit c.wanted_cases.ensures.fault
+    stopped_there c.args.state.now c.read_parts.new.state (formula_tree c.args.formula.now) (formulas_of (map formula_tree c.args.given.now)) c.requires.session c.requires.numbered c.in_ok-read.ensures.readable c.read_parts.ensures.kept
+    c.requires.proper c.requires.given (tree c.read_parts.new.state.store c.in_ok-read.read.formula) c.in_ok-read.ensures.made.same c.wanted_cases.result c.args.limit c.wanted_cases.ensures.fault
 
 pub returns-clause-kept : goal.returns-clause-kept
-returns-clause-kept c = keeps_then c.args.desk.now c.read_parts.new.desk c.wanted_cases.new.desk c.read_parts.ensures.kept c.wanted_cases.ensures.kept
+returns-clause-kept c = keeps_then c.args.state.now c.read_parts.new.state c.wanted_cases.new.state c.read_parts.ensures.kept c.wanted_cases.ensures.kept

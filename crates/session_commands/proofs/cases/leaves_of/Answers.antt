@@ -7,6 +7,6 @@ use Rattle.session_commands.proofs.cases.leaves_of.Goals as goal
 
 pub returns-in-Err-clause-fault : goal.returns-in-Err-clause-fault
 returns-in-Err-clause-fault c =
-    let theory = context_of c.args.desk.now.context in
+    let theory = context_of c.args.state.now.context in
     let f = tree_of c.args.form.now in
     subst (CasesFault theory c.args.limit f) (sym c.measured_refusal.ensures) (cases_fault theory c.args.limit f c.in-Err.error c.in-Err.ensures.stops)

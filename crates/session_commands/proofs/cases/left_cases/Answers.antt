@@ -11,7 +11,7 @@ use Rattle.plain_cases.specs.Stand.{AreSound}
 use Rattle.plain_cases.proofs.Standing.{nothing}
 use Rattle.simplified_formulas.specs.Orderly.{IsOrderly}
 use Rattle.session_commands.specs.CaseSteps.{IsLeftOf}
-use Rattle.session_commands.proofs.DeskLemmas.{keeps_then}
+use Rattle.session_commands.proofs.StateLemmas.{keeps_then}
 use Rattle.session_commands.proofs.CaseLemmas.{LeavesAll, leaves_more, leaves_end}
 use Rattle.session_commands.proofs.cases.left_cases.Goals as goal
 
@@ -23,7 +23,7 @@ left_case-requires-clause-sound c =
 
 pub left_case-requires-clause-orderly : goal.left_case-requires-clause-orderly
 left_case-requires-clause-orderly c =
-    let theory = context_of c.args.desk.now.context in
+    let theory = context_of c.args.state.now.context in
     let split : c.loop-leaf.leaf-iterator.rest.items ≡ c.in-Some.leaf ∷ c.next.new.self.rest.items = search rules in
     let orderly : EachOf (λ (k : Case). IsOrderly (IsNormal theory) k.guard) (map leaf_case (c.in-Some.leaf ∷ c.next.new.self.rest.items)) =
     subst (λ (xs : List Leaf). EachOf (λ (k : Case). IsOrderly (IsNormal theory) k.guard) (map leaf_case xs)) split c.loop-leaf.invariant.orderly in
@@ -34,7 +34,7 @@ left_case-requires-clause-atoms c = subst (λ o. EachOf (IsNormal o) (map atom_o
 
 pub loop-leaf-preserved : goal.loop-leaf-preserved
 loop-leaf-preserved c =
-    let theory = context_of c.args.desk.now.context in
+    let theory = context_of c.args.state.now.context in
     let ks = map atom_of c.args.atoms.now in
     let leaf = c.in-Some.leaf in
     let rest = c.next.new.self.rest.items in
@@ -54,15 +54,15 @@ loop-leaf-preserved c =
       points = c.push_left.ensures.points;
       sound = sound.1;
       orderly = orderly.1;
-      kept = keeps_then c.args.desk.now c.loop-leaf.desk c.left_case.new.desk c.loop-leaf.invariant.kept c.left_case.ensures.kept;
+      kept = keeps_then c.args.state.now c.loop-leaf.state c.left_case.new.state c.loop-leaf.invariant.kept c.left_case.ensures.kept;
     }
 
 pub returns-in-Err-clause-kept : goal.returns-in-Err-clause-kept
-returns-in-Err-clause-kept c = keeps_then c.args.desk.now c.loop-leaf.desk c.left_case.new.desk c.loop-leaf.invariant.kept c.left_case.ensures.kept
+returns-in-Err-clause-kept c = keeps_then c.args.state.now c.loop-leaf.state c.left_case.new.state c.loop-leaf.invariant.kept c.left_case.ensures.kept
 
 pub returns-clause-left : goal.returns-clause-left
 returns-clause-left c =
-    let theory = context_of c.args.desk.now.context in
+    let theory = context_of c.args.state.now.context in
     let ks = map atom_of c.args.atoms.now in
     let none_left : length c.loop-leaf.leaf-iterator.rest.items ≡ 0 = search rules in
     leaves_end theory ks (map case_seen c.loop-leaf.cases.items) (map leaf_case c.args.leaves.items)

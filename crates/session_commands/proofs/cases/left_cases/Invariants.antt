@@ -6,7 +6,7 @@ use Rattle.elimination_reference.specs.Cases.{Case}
 use Rattle.plain_cases.specs.Case.{case_seen, leaf_case, HavePoints}
 use Rattle.plain_cases.specs.Stand.{AreSound}
 use Rattle.simplified_formulas.specs.Orderly.{IsOrderly}
-use Rattle.session_commands.specs.Steps.{KeepsDesk}
+use Rattle.session_commands.specs.Steps.{KeepsState}
 use Rattle.session_commands.proofs.CaseLemmas.{LeavesAll}
 use Rattle.session_commands.proofs.cases.left_cases.Given as goal
 
@@ -15,9 +15,9 @@ abbrev pub invariant-loop-leaf : goal.invariant-loop-leaf
 invariant-loop-leaf l = record {
   can : (goal.iterator-loop-leaf).can_next l.leaf-iterator;
   finite : (goal.iterator-loop-leaf).is_finite l.leaf-iterator;
-  left : LeavesAll (context_of l.fn.desk.context) (map atom_of l.atoms) (map case_seen l.cases.items) (map leaf_case l.leaf-iterator.rest.items) (map leaf_case l.fn.leaves.items);
+  left : LeavesAll (context_of l.fn.state.context) (map atom_of l.atoms) (map case_seen l.cases.items) (map leaf_case l.leaf-iterator.rest.items) (map leaf_case l.fn.leaves.items);
   points : HavePoints l.cases.items;
   sound : AreSound l.leaf-iterator.rest.items;
-  orderly : EachOf (λ (k : Case). IsOrderly (IsNormal (context_of l.fn.desk.context)) k.guard) (map leaf_case l.leaf-iterator.rest.items);
-  kept : KeepsDesk l.fn.desk l.desk;
+  orderly : EachOf (λ (k : Case). IsOrderly (IsNormal (context_of l.fn.state.context)) k.guard) (map leaf_case l.leaf-iterator.rest.items);
+  kept : KeepsState l.fn.state l.state;
 }

@@ -5,4 +5,4 @@ use Rattle.formula_store.proofs.Numbers.{numbers_are_within}
 use Rattle.session_commands.proofs.cases.unfolded.Goals as goal
 
 pub returns-in-Ok-clause-numbers : goal.returns-in-Ok-clause-numbers
-returns-in-Ok-clause-numbers c = subst (Every IsAtomInLimit) (sym c.in-Ok.ensures.tree) (numbers_are_within c.args.desk.now.store c.args.id c.requires)
+returns-in-Ok-clause-numbers c = subst (Every IsAtomInLimit) (sym c.in-Ok.ensures.tree) (numbers_are_within c.args.state.now.store c.args.id c.requires)

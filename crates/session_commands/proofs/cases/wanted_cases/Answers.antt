@@ -8,24 +8,24 @@ use Rattle.formula_store.specs.Nodes.{tree}
 use Rattle.plain_cases.specs.Case.{case_seen, leaf_case}
 use Rattle.simplified_formulas.specs.Orderly.{IsOrderly}
 use Rattle.session_commands.specs.CaseSteps.{AreLeftOf}
-use Rattle.session_commands.proofs.DeskLemmas.{keeps_then}
+use Rattle.session_commands.proofs.StateLemmas.{keeps_then}
 use Rattle.session_commands.proofs.CaseLemmas.{cases_orderly}
 use Rattle.session_commands.proofs.cases.wanted_cases.Goals as goal
 
 pub left_cases-requires-clause-orderly : goal.left_cases-requires-clause-orderly
 left_cases-requires-clause-orderly c =
-    let theory = context_of c.args.desk.now.context in
+    let theory = context_of c.args.state.now.context in
     let told = c.in_ok-leaves.ensures.cases in
     let ks = map leaf_case c.in_ok-leaves.leaves.items in
     subst (λ o. EachOf (λ (k : Case). IsOrderly (IsNormal o) k.guard) ks) (sym (ap context_of c.reference_leaves.ensures.kept.context))
-    (cases_orderly theory c.args.limit (tree c.args.desk.now.store c.args.read.now.formula) c.requires.normal ks told.0 told.1)
+    (cases_orderly theory c.args.limit (tree c.args.state.now.store c.args.read.now.formula) c.requires.normal ks told.0 told.1)
 
 pub returns-in-Ok-clause-cases : goal.returns-in-Ok-clause-cases
 returns-in-Ok-clause-cases c =
     let told = c.in_ok-leaves.ensures.cases in
     let ks = map leaf_case c.in_ok-leaves.leaves.items in
     let atoms : c.deref.result.now ≡ c.args.read.now.atoms.items = search rules in
-    let left = subst (λ (xs : List Atom). AreLeftOf (context_of c.reference_leaves.new.desk.context) (map atom_of xs) ks (map case_seen c.in-Ok.cases.items)) atoms c.in-Ok.ensures.left in
+    let left = subst (λ (xs : List Atom). AreLeftOf (context_of c.reference_leaves.new.state.context) (map atom_of xs) ks (map case_seen c.in-Ok.cases.items)) atoms c.in-Ok.ensures.left in
     record {
       cases = ks;
       cost = told.0;
@@ -34,7 +34,7 @@ returns-in-Ok-clause-cases c =
     }
 
 pub returns-in-Ok-clause-kept : goal.returns-in-Ok-clause-kept
-returns-in-Ok-clause-kept c = keeps_then c.args.desk.now c.reference_leaves.new.desk c.left_cases.new.desk c.reference_leaves.ensures.kept c.left_cases.ensures.kept
+returns-in-Ok-clause-kept c = keeps_then c.args.state.now c.reference_leaves.new.state c.left_cases.new.state c.reference_leaves.ensures.kept c.left_cases.ensures.kept
 
 pub returns-in-Err-clause-kept : goal.returns-in-Err-clause-kept
-returns-in-Err-clause-kept c = keeps_then c.args.desk.now c.reference_leaves.new.desk c.left_cases.new.desk c.reference_leaves.ensures.kept c.left_cases.ensures.kept
+returns-in-Err-clause-kept c = keeps_then c.args.state.now c.reference_leaves.new.state c.left_cases.new.state c.reference_leaves.ensures.kept c.left_cases.ensures.kept

@@ -10,16 +10,16 @@ use Rattle.session_commands.proofs.forms.cleaned.Goals as goal
 
 pub returns-in-Disjunctive-clause-cleaned : goal.returns-in-Disjunctive-clause-cleaned
 returns-in-Disjunctive-clause-cleaned c =
-    let theory = context_of c.args.desk.now.context in
-    let f = tree c.args.desk.now.store c.args.id in
+    let theory = context_of c.args.state.now.context in
+    let f = tree c.args.state.now.store c.args.id in
     let t = λ (r : FormulaId). tree c.dnf.new.store r in
     let made = cleaned_result theory Conjunction f t c.dnf.result c.dnf.ensures.clean c.dnf.ensures.truth c.dnf.ensures.orderly c.dnf.ensures.names c.dnf.ensures.nodes_within c.dnf.ensures.text_within in
     subst (λ w. IfOk c.told.result (λ r. IsCleanedAs theory (junction_of w) f (t r))) (sym c.in-Disjunctive.is) (told_made (λ r. IsCleanedAs theory Conjunction f (t r)) c.told.result c.dnf.result c.told.ensures.made made)
 
 pub returns-in-Conjunctive-clause-cleaned : goal.returns-in-Conjunctive-clause-cleaned
 returns-in-Conjunctive-clause-cleaned c =
-    let theory = context_of c.args.desk.now.context in
-    let f = tree c.args.desk.now.store c.args.id in
+    let theory = context_of c.args.state.now.context in
+    let f = tree c.args.state.now.store c.args.id in
     let t = λ (r : FormulaId). tree c.cnf.new.store r in
     let made = cleaned_result theory Disjunction f t c.cnf.result c.cnf.ensures.clean c.cnf.ensures.truth c.cnf.ensures.orderly c.cnf.ensures.names c.cnf.ensures.nodes_within c.cnf.ensures.text_within in
     subst (λ w. IfOk c.told-in-Conjunctive.result (λ r. IsCleanedAs theory (junction_of w) f (t r))) (sym c.in-Conjunctive.is) (told_made (λ r. IsCleanedAs theory Disjunction f (t r)) c.told-in-Conjunctive.result c.cnf.result c.told-in-Conjunctive.ensures.made made)

@@ -6,9 +6,9 @@ use Rattle.session_commands.proofs.forms.simplified.Goals as goal
 
 pub returns-in-Ok-clause-simplified : goal.returns-in-Ok-clause-simplified
 returns-in-Ok-clause-simplified c =
-    let theory = context_of c.args.desk.now.context in
+    let theory = context_of c.args.state.now.context in
     let ks = map atom_of c.args.atoms.now in
-    let f = tree c.args.desk.now.store c.args.id in
+    let f = tree c.args.state.now.store c.args.id in
     let t = tree c.simplify.new.store c.in-Ok.id in
     let h = c.in-Ok.ensures in
     record {

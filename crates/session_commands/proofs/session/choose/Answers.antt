@@ -1,11 +1,11 @@
 use Rattle.std.proofs.Common.{sym, subst}
-use Rattle.session_commands.specs.Keeping.{IsDesk}
-use Rattle.session_commands.proofs.DeskLemmas.{cleared_desk}
+use Rattle.session_commands.specs.Keeping.{IsSessionState}
+use Rattle.session_commands.proofs.StateLemmas.{cleared_session}
 use Rattle.session_commands.proofs.session.choose.Goals.{then-ne, else-ne}
 use Rattle.session_commands.proofs.session.choose.Goals as goal
 
-pub returns-clause-desk : goal.returns-clause-desk
-returns-clause-desk c = elim c.if-ne.branch [
-  | then-ne w ↦ subst IsDesk (sym w.desk-is) (cleared_desk c.args.desk.now c.match-setting.context.0 w.clear.new.self c.args.desk.now.store c.args.desk.now.kept w.clear.ensures c.requires)
-  | else-ne w ↦ subst IsDesk (sym w.desk-is) c.requires
+pub returns-clause-session : goal.returns-clause-session
+returns-clause-session c = elim c.if-ne.branch [
+  | then-ne w ↦ subst IsSessionState (sym w.state-is) (cleared_session c.args.state.now c.match-setting.context.0 w.clear.new.self c.args.state.now.store c.args.state.now.kept w.clear.ensures c.requires)
+  | else-ne w ↦ subst IsSessionState (sym w.state-is) c.requires
 ]

@@ -2,7 +2,7 @@
 
 ghost use Rattle.std.specs.Prelude.{◌≡◌, OnOk, IfOk, IfErr, length};
 ghost use Rattle.std.specs.Map.{keys_of};
-ghost use Rattle.session_commands.specs.Keeping.{state_of, IsDesk, ids_bound};
+ghost use Rattle.session_commands.specs.Keeping.{state_of, IsSessionState, ids_bound};
 ghost use Rattle.session_meaning.specs.State.{first_state};
 
 use atom_normal::Context;
@@ -16,7 +16,7 @@ const FEW_FORMULAS: usize = 4096;
 
 /// The theory, the names, what is bound, and the formulas.
 #[derive(Drop)]
-pub(crate) struct Desk {
+pub(crate) struct SessionState {
     pub(crate) alloc: Global,
     pub(crate) context: Context,
     pub(crate) names: Names,
@@ -26,13 +26,13 @@ pub(crate) struct Desk {
     pub(crate) kept: usize,
 }
 
-impl Desk {
+impl SessionState {
     /// Over the ordered fields, without names.
-    pub(crate) fn new(alloc: Global) -> Desk
+    pub(crate) fn new(alloc: Global) -> SessionState
         ensures state { state_of result ≡ first_state }
-        ensures desk { IsDesk result }
+        ensures session { IsSessionState result }
     {
-        Desk {
+        SessionState {
             alloc,
             context: Context::Fields,
             names: Names::new(alloc),
@@ -45,8 +45,8 @@ impl Desk {
     /// Gives up the formulas that nothing bound needs, where the store has more than twice those that it had the last time.
     /// After an `Err` nothing is bound.
     pub(crate) fn tidy(&mut self) -> Result<(), StatementError>
-        requires { IsDesk self.old }
-        ensures desk { IsDesk self.new }
+        requires { IsSessionState self.old }
+        ensures session { IsSessionState self.new }
         ensures state { OnOk result (state_of self.new ≡ state_of self.old) }
         ensures memory { IfErr result (λ e. e ≡ StatementError.Memory) }
     {

@@ -1,4 +1,4 @@
--- What is kept on the desk while the store grows, and when its formulas are given up.
+-- What is kept of the state while the store grows, and when its formulas are given up.
 use Rattle.std.proofs.Common.{◌≡◌, ℕ, ◌≤◌, List, [], ◌∷◌, ◌++◌, sym, ap, ◌∙◌, subst, refl, length, take, map, arith}
 use Rattle.std.proofs.lemmas.List.{length-map, length-append}
 use Rattle.std.specs.List.{AllByRecursion, IsDistinct}
@@ -15,10 +15,10 @@ use Rattle.formula_resolving.specs.Numbering.{Grows}
 use Rattle.formula_resolving.specs.Refusals.{AreIds, trees_bound}
 use Rattle.formula_store.specs.declared.id.FormulaId.{FormulaId}
 use Rattle.formula_store.specs.Nodes.{tree, IsId}
-use Rattle.session_commands.specs.declared.desk.Desk.{Desk}
+use Rattle.session_commands.specs.declared.state.SessionState.{SessionState}
 use Rattle.session_meaning.specs.State.{State, with_names}
-use Rattle.session_commands.specs.Keeping.{state_of, ids_bound, IsSound, IsDesk}
-use Rattle.session_commands.specs.Steps.{KeepsDesk, GrowsDesk}
+use Rattle.session_commands.specs.Keeping.{state_of, ids_bound, IsSound, IsSessionState}
+use Rattle.session_commands.specs.Steps.{KeepsState, GrowsState}
 use Rattle.session_commands.proofs.BindingLemmas.{trees_kept, ids_kept, trees_by_parts, ids_by_list}
 use Rattle.session_commands.proofs.NameLemmas.{grows_itself, grows_then as more_names}
 use Rattle.session_commands.proofs.SoundLemmas.{more_formula}
@@ -29,16 +29,16 @@ pub state_parts : (c d : Context) (ns ms : List (List ℕ)) (bs es : BoundTrees)
 state_parts c d ns ms bs es p q r = λ j. record { context = p j; names = q j; bound = r j }
 
 -- the state is the same where the store alone grew
-pub same_state : (old new : Desk) → AreIds (IsId old.store) old.bindings → KeepsDesk old new → state_of new ≡ state_of old
+pub same_state : (old new : SessionState) → AreIds (IsId old.store) old.bindings → KeepsState old new → state_of new ≡ state_of old
 same_state old new ids k =
     state_parts _ _ _ _ _ _ (ap context_of k.context) k.names
     (ap (trees_bound (tree new.store)) k.bindings ∙ trees_kept (IsId old.store) (tree old.store) (IsId new.store) (tree new.store) old.bindings k.store ids)
 
-pub kept_ids : (old new : Desk) → AreIds (IsId old.store) old.bindings → KeepsDesk old new → AreIds (IsId new.store) new.bindings
+pub kept_ids : (old new : SessionState) → AreIds (IsId old.store) old.bindings → KeepsState old new → AreIds (IsId new.store) new.bindings
 kept_ids old new ids k = subst (AreIds (IsId new.store)) (sym k.bindings) (ids_kept (IsId old.store) (tree old.store) (IsId new.store) (tree new.store) old.bindings k.store ids)
 
-pub same_desk : (old new : Desk) → IsDesk old → KeepsDesk old new → IsDesk new
-same_desk old new h k = record {
+pub same_session : (old new : SessionState) → IsSessionState old → KeepsState old new → IsSessionState new
+same_session old new h k = record {
   ids = kept_ids old new h.ids k;
   bound_once = subst (λ es. IsDistinct same_name (keys_of es)) (sym k.bindings) h.bound_once;
   sound = subst IsSound (sym (same_state old new h.ids k)) h.sound;
@@ -58,9 +58,9 @@ sound_with s names h d v l = record {
 
 -- ---- formulas given up
 
-module _ (old : Desk) (bindings : List (List ℕ × FormulaId)) (nodes : List (Shape FormulaId)) (kept : ℕ) (ids : List FormulaId)
+module _ (old : SessionState) (bindings : List (List ℕ × FormulaId)) (nodes : List (Shape FormulaId)) (kept : ℕ) (ids : List FormulaId)
     (keys : keys_of bindings ≡ keys_of old.bindings) (bound : ids_bound bindings ≡ ids) (made : AreMade (IsId nodes) (tree nodes) ids (map (tree old.store) (ids_bound old.bindings))) where
-  abbrev after : Desk
+  abbrev after : SessionState
   after = record { alloc = old.alloc; context = old.context; names = old.names; bindings = bindings; store = nodes; kept = kept }
 
   pub rebound_state : state_of after ≡ state_of old
@@ -68,8 +68,8 @@ module _ (old : Desk) (bindings : List (List ℕ × FormulaId)) (nodes : List (S
       state_parts _ _ _ _ _ _ refl refl
       (trees_by_parts (tree old.store) (tree nodes) old.bindings bindings keys (ap (map (tree nodes)) bound ∙ made.same))
 
-  pub rebound_desk : IsDesk old → IsDesk after
-  rebound_desk h = record {
+  pub rebound_session : IsSessionState old → IsSessionState after
+  rebound_session h = record {
     ids = ids_by_list (IsId nodes) bindings (subst (AllByRecursion (IsId nodes)) (sym bound) made.are);
     bound_once = subst (IsDistinct same_name) (sym keys) h.bound_once;
     sound = subst IsSound (sym rebound_state) h.sound;
@@ -79,33 +79,33 @@ pub ids_as_many : (t u : FormulaId → Tree) (roots ids : List FormulaId) → ma
 ids_as_many t u roots ids e = sym (length-map ids u) ∙ ap length e ∙ length-map roots t
 
 -- where the store and the names grew, the state has the new names
-pub grown_state : (old new : Desk) → AreIds (IsId old.store) old.bindings → GrowsDesk old new → state_of new ≡ with_names (state_of old) new.names
+pub grown_state : (old new : SessionState) → AreIds (IsId old.store) old.bindings → GrowsState old new → state_of new ≡ with_names (state_of old) new.names
 grown_state old new ids g =
     state_parts _ _ _ _ _ _ (ap context_of g.context) refl
     (ap (trees_bound (tree new.store)) g.bindings ∙ trees_kept (IsId old.store) (tree old.store) (IsId new.store) (tree new.store) old.bindings g.store ids)
 
-pub grown_desk : (old new : Desk) → IsDesk old → GrowsDesk old new → IsDistinct same_name new.names → AllVariables new.names → IsDesk new
-grown_desk old new h g d v = record {
+pub grown_session : (old new : SessionState) → IsSessionState old → GrowsState old new → IsDistinct same_name new.names → AllVariables new.names → IsSessionState new
+grown_session old new h g d v = record {
   ids = subst (AreIds (IsId new.store)) (sym g.bindings) (ids_kept (IsId old.store) (tree old.store) (IsId new.store) (tree new.store) old.bindings g.store h.ids);
   bound_once = subst (λ es. IsDistinct same_name (keys_of es)) (sym g.bindings) h.bound_once;
   sound = subst IsSound (sym (grown_state old new h.ids g)) (sound_with (state_of old) new.names h.sound d v (length_grows old.names new.names g.names));
 }
 
 -- with nothing bound, in any theory
-pub cleared_desk : (old : Desk) (context : Theory) (bindings : List (List ℕ × FormulaId)) (nodes : List (Shape FormulaId)) (kept : ℕ) → bindings ≡ [] → IsDesk old
-    → IsDesk (record { alloc = old.alloc; context = context; names = old.names; bindings = bindings; store = nodes; kept = kept })
+pub cleared_session : (old : SessionState) (context : Theory) (bindings : List (List ℕ × FormulaId)) (nodes : List (Shape FormulaId)) (kept : ℕ) → bindings ≡ [] → IsSessionState old
+    → IsSessionState (record { alloc = old.alloc; context = context; names = old.names; bindings = bindings; store = nodes; kept = kept })
 unfolding IsDistinct
-cleared_desk old context bindings nodes kept e h =
-    subst (λ es. IsDesk (record { alloc = old.alloc; context = context; names = old.names; bindings = es; store = nodes; kept = kept })) (sym e)
+cleared_session old context bindings nodes kept e h =
+    subst (λ es. IsSessionState (record { alloc = old.alloc; context = context; names = old.names; bindings = es; store = nodes; kept = kept })) (sym e)
     (record { ids = tt; bound_once = tt; sound = record { names_once = h.sound.names_once; variables = h.sound.variables; formulas = λ x t f. absurd (cc); numbers = λ x t f. absurd (cc) } })
 
 -- ---- steps one after another
 
-pub keeps_itself : (old : Desk) (names : List (List ℕ)) → Grows old.names names
-    → GrowsDesk old (record { alloc = old.alloc; context = old.context; names = names; bindings = old.bindings; store = old.store; kept = old.kept })
+pub keeps_itself : (old : SessionState) (names : List (List ℕ)) → Grows old.names names
+    → GrowsState old (record { alloc = old.alloc; context = old.context; names = names; bindings = old.bindings; store = old.store; kept = old.kept })
 keeps_itself old names g = record { context = refl; names = g; bindings = refl; store = record { is = λ id h. h; same = λ id h. refl } }
 
-pub grows_then : (first second third : Desk) → GrowsDesk first second → KeepsDesk second third → GrowsDesk first third
+pub grows_then : (first second third : SessionState) → GrowsState first second → KeepsState second third → GrowsState first third
 grows_then first second third g k = record {
   context = k.context ∙ g.context;
   names = subst (Grows first.names) (sym k.names) g.names;
@@ -114,10 +114,10 @@ grows_then first second third g k = record {
 }
 
 -- what keeps all grows by nothing
-pub kept_grows : (old new : Desk) → KeepsDesk old new → GrowsDesk old new
+pub kept_grows : (old new : SessionState) → KeepsState old new → GrowsState old new
 kept_grows old new k = record { context = k.context; names = subst (Grows old.names) (sym k.names) (grows_itself old.names); bindings = k.bindings; store = k.store }
 
-pub keeps_then_grows : (first second third : Desk) → KeepsDesk first second → GrowsDesk second third → GrowsDesk first third
+pub keeps_then_grows : (first second third : SessionState) → KeepsState first second → GrowsState second third → GrowsState first third
 keeps_then_grows first second third k g = record {
   context = g.context ∙ k.context;
   names = subst (λ ns. Grows ns third.names) k.names g.names;
@@ -125,7 +125,7 @@ keeps_then_grows first second third k g = record {
   store = record { is = λ id h. g.store.is id (k.store.is id h); same = λ id h. g.store.same id (k.store.is id h) ∙ k.store.same id h };
 }
 
-pub grows_then_grows : (first second third : Desk) → GrowsDesk first second → GrowsDesk second third → GrowsDesk first third
+pub grows_then_grows : (first second third : SessionState) → GrowsState first second → GrowsState second third → GrowsState first third
 grows_then_grows first second third g k = record {
   context = k.context ∙ g.context;
   names = more_names first.names second.names third.names g.names k.names;
@@ -133,10 +133,10 @@ grows_then_grows first second third g k = record {
   store = record { is = λ id h. k.store.is id (g.store.is id h); same = λ id h. k.store.same id (g.store.is id h) ∙ g.store.same id h };
 }
 
-pub keeps_self : (old : Desk) → KeepsDesk old old
+pub keeps_self : (old : SessionState) → KeepsState old old
 keeps_self old = record { context = refl; names = refl; bindings = refl; store = record { is = λ id h. h; same = λ id h. refl } }
 
-pub keeps_then : (first second third : Desk) → KeepsDesk first second → KeepsDesk second third → KeepsDesk first third
+pub keeps_then : (first second third : SessionState) → KeepsState first second → KeepsState second third → KeepsState first third
 keeps_then first second third g k = record {
   context = k.context ∙ g.context;
   names = k.names ∙ g.names;
@@ -149,15 +149,15 @@ take_front [] ys = refl
 take_front (x ∷ xs) ys = ap (λ zs. x ∷ zs) (take_front xs ys)
 
 -- the names taken back
-module _ (old new : Desk) (g : GrowsDesk old new) where
-  abbrev back : Desk
+module _ (old new : SessionState) (g : GrowsState old new) where
+  abbrev back : SessionState
   back = record { alloc = new.alloc; context = new.context; names = take (length old.names) new.names; bindings = new.bindings; store = new.store; kept = new.kept }
 
-  taken_back : KeepsDesk old back
+  taken_back : KeepsState old back
   taken_back = record { context = g.context; names = ap (take (length old.names)) g.names.is ∙ take_front old.names g.names.more; bindings = g.bindings; store = g.store }
 
-  pub back_desk : IsDesk old → IsDesk back
-  back_desk h = same_desk old back h taken_back
+  pub back_session : IsSessionState old → IsSessionState back
+  back_session h = same_session old back h taken_back
 
-  pub back_state : IsDesk old → state_of back ≡ state_of old
+  pub back_state : IsSessionState old → state_of back ≡ state_of old
   back_state h = same_state old back h.ids taken_back
