@@ -27,19 +27,21 @@ use Rattle.formula_store.specs.declared.id.FormulaId.{FormulaId}
 use Rattle.formula_store.specs.Nodes.{tree, IsId}
 use Rattle.session_meaning.specs.declared.line.StatementError.{StatementError}
 use Rattle.session_meaning.specs.declared.line.StatementError.TheVariants as error
-use Rattle.session_commands.specs.declared.state.SessionState.{SessionState}
+use Rattle.session_state.specs.declared.state.SessionState.{SessionState}
 use Rattle.session_meaning.specs.State.{State}
 use Rattle.session_commands.specs.Asked.{HaveNumbers, RefusesBoth, IsReadAs, IsMeantPoint, PointStop, IsValued, ValuedStop, IsAsked}
 use Rattle.session_commands.specs.Commands.{named, entry_names}
-use Rattle.session_commands.specs.Keeping.{state_of, IsSessionState}
+use Rattle.session_state.specs.Keeping.{state_of, IsSessionState}
 use Rattle.session_meaning.specs.Points.{MeanNoPoint}
-use Rattle.session_commands.specs.Steps.{HasNumbers, KeepsState, IsReadable}
+use Rattle.session_commands.specs.Steps.{HasNumbers, IsReadable}
+use Rattle.session_state.specs.Growth.{KeepsState}
 use Rattle.session_commands.proofs.AskedLemmas.{no_point, not_valued, reading_passes, point_passes, all_clear}
 use Rattle.session_commands.proofs.CaseSteps.{on_ok}
-use Rattle.session_commands.proofs.StateLemmas.{state_parts, same_state, same_session, length_grows, sound_with}
-use Rattle.session_commands.proofs.NameLemmas.{numbers_stay}
+use Rattle.session_state.proofs.StateLemmas.{state_parts, same_state, same_session, length_grows, sound_with}
+use Rattle.session_state.proofs.NameLemmas.{numbers_stay}
 use Rattle.session_commands.proofs.PointLemmas.{of_theory}
-use Rattle.session_commands.proofs.VariableLemmas.{AllVariables, both, variables_of_formula, names_of_entries, all_put_in}
+use Rattle.session_state.proofs.VariableLemmas.{AllVariables, both, variables_of_formula, all_put_in}
+use Rattle.session_commands.proofs.EntryLemmas.{names_of_entries}
 
 -- ---- what is looked at
 

@@ -45,10 +45,10 @@ use Rattle.session_meaning.specs.declared.line.StatementError.{StatementError}
 use Rattle.session_meaning.specs.declared.line.StatementError.TheVariants as error
 use Rattle.session_meaning.specs.Cases.{Turned}
 use Rattle.session_commands.specs.CaseSteps.{IsCaseLeft, IsLeftOf, put_before, AreLeftOf, CasesFault}
-use Rattle.session_commands.specs.Keeping.{IsSessionFormula}
+use Rattle.session_state.specs.Keeping.{IsSessionFormula}
 use Rattle.session_commands.specs.Steps.{measured_refusal}
 use Rattle.prenex_forms.proofs.Finished.{bound_normal_form}
-use Rattle.session_commands.proofs.SoundLemmas.{terms_within, negated_formula}
+use Rattle.session_state.proofs.SoundLemmas.{terms_within, negated_formula}
 use Rattle.session_commands.proofs.EliminatedLemmas.{plain_free, free_below, answer_orderly, orderly_members, within_of_names, unquantified_bound, simplified_formula}
 
 -- ---- the names of the leading block

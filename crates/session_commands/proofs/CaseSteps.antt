@@ -34,7 +34,7 @@ use Rattle.answer_texts.specs.Within.{AreCasesWithin}
 use Rattle.session_meaning.specs.declared.line.Line.{Line}
 use Rattle.session_meaning.specs.declared.line.StatementError.{StatementError}
 use Rattle.session_meaning.specs.declared.line.StatementError.TheVariants as error
-use Rattle.session_commands.specs.declared.state.SessionState.{SessionState}
+use Rattle.session_state.specs.declared.state.SessionState.{SessionState}
 use Rattle.session_meaning.specs.State.{State}
 use Rattle.session_meaning.specs.Assumptions.{Hold, assumed}
 use Rattle.session_meaning.specs.Cases.{IsCaseOf, IsCaseAnswer}
@@ -42,19 +42,20 @@ use Rattle.session_commands.specs.CaseSteps.{IsCaseLeft, AreWantedCases, CasesFa
 use Rattle.session_commands.specs.Causes.{IsCause, HasNoCauseBelow, IsAccepted, Refuses}
 use Rattle.session_meaning.specs.FormulaAnswers.{negated_of}
 use Rattle.session_commands.specs.Commands.{named}
-use Rattle.session_commands.specs.Keeping.{state_of, IsSessionFormula, IsSound, IsSessionState}
+use Rattle.session_state.specs.Keeping.{state_of, IsSessionFormula, IsSound, IsSessionState}
 use Rattle.session_meaning.specs.Reply.{IsLine}
 use Rattle.session_commands.specs.Reply.{AnswersCommand}
-use Rattle.session_commands.specs.Steps.{use_of, HasNumbers, IsReadable, ArePartsNumbered, ArePartsReadable, ArePartsUnread, KeepsState, LineFault}
+use Rattle.session_commands.specs.Steps.{use_of, HasNumbers, IsReadable, ArePartsNumbered, ArePartsReadable, ArePartsUnread, LineFault}
+use Rattle.session_state.specs.Growth.{KeepsState}
 use Rattle.session_commands.proofs.AssumptionLemmas.{assumed_hold}
 use Rattle.session_commands.proofs.CauseLemmas.{IsPlainCommand, unread_refuses, readable_below, below_17, below_18, below_19}
 use Rattle.session_commands.proofs.CaseLemmas.{IsReferenceCase, IsWritable, exact_here, reference_known, left_each, left_true, left_no_longer, left_writable, items_within, turned_says, turned_along}
-use Rattle.session_commands.proofs.StateLemmas.{state_parts, same_state, same_session, length_grows, sound_with}
+use Rattle.session_state.proofs.StateLemmas.{state_parts, same_state, same_session, length_grows, sound_with}
 use Rattle.session_commands.proofs.EliminatedLemmas.{plain_free, orderly_members}
 use Rattle.session_commands.proofs.GivenLemmas.{numbers_of, readable_formula, assumed_normal}
 use Rattle.session_commands.proofs.PartLemmas.{first_part}
 use Rattle.session_commands.proofs.TruthLemmas.{truth_as_written}
-use Rattle.session_commands.proofs.VariableLemmas.{AllVariables, both, not_empty, variables_of_formula, variables_of_all, all_put_in}
+use Rattle.session_state.proofs.VariableLemmas.{AllVariables, both, not_empty, variables_of_formula, variables_of_all, all_put_in}
 
 -- ---- results
 

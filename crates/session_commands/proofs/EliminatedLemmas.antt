@@ -31,10 +31,10 @@ use Rattle.formula_store.specs.declared.id.FormulaId.{FormulaId}
 use Rattle.formula_tree.specs.declared.error.FormError.{FormError}
 use Rattle.session_meaning.specs.declared.line.StatementError.{StatementError}
 use Rattle.std.specs.Prelude.{Result, Ok, Err, IfOk}
-use Rattle.session_commands.specs.Keeping.{IsSessionFormula}
+use Rattle.session_state.specs.Keeping.{IsSessionFormula}
 use Rattle.formula_meaning.specs.declared.junction.Junction.{Junction}
 use Rattle.session_commands.specs.Steps.{IsSimplifiedAs, IsCleanedAs}
-use Rattle.session_commands.proofs.SoundLemmas.{atom_within, atom_mentions, members_of_negation}
+use Rattle.session_state.proofs.SoundLemmas.{atom_within, atom_mentions, members_of_negation}
 
 module _ {A N : Type 0} where
   mutual

@@ -38,7 +38,7 @@ use Rattle.session_meaning.specs.FormulaAnswers.{negated_of, IsPrenexAnswer, IsS
 use Rattle.session_commands.specs.Commands.{formula_of, named, Gives, IsFormulaFor, HasAnswerNames}
 use Rattle.session_meaning.specs.Causes.{Use, HasNoRoom, IsTooLarge, HasManyNodes, formula_line}
 use Rattle.session_commands.specs.Causes.{RenamingPasses, IsCause, rank, MayRefuse, HasNoCauseBelow, Refuses}
-use Rattle.session_commands.specs.Keeping.{IsSessionFormula, IsSound}
+use Rattle.session_state.specs.Keeping.{IsSessionFormula, IsSound}
 use Rattle.session_meaning.specs.Reply.{IsLine}
 use Rattle.session_commands.specs.declared.formulas.ClauseForm.TheVariants as clause_form
 use Rattle.formula_resolving.specs.declared.error.StaticError.{StaticError}
@@ -49,14 +49,14 @@ use Rattle.formula_meaning.specs.declared.junction.Junction.TheVariants.{Conjunc
 use Rattle.clean_forms.specs.Plain.{plain_form}
 use Rattle.session_commands.proofs.CauseLemmas.{IsPlainCommand, unread_refuses, quantified_refuses, ready_below, readable_below, below_17, below_18, below_19}
 use Rattle.prenex_forms.proofs.Finished.{finished}
-use Rattle.session_commands.proofs.NameLemmas.{kept_names}
+use Rattle.session_state.proofs.NameLemmas.{kept_names}
 use Rattle.session_commands.proofs.NewNameLemmas.{answer_names_once}
 use Rattle.session_commands.proofs.PrenexLemmas.{prenex_form_members, prenex_formula}
 use Rattle.session_commands.proofs.PartLemmas.{first_part}
 use Rattle.session_commands.proofs.AssumptionLemmas.{assumed_hold, each_both, alone_has}
-use Rattle.session_commands.proofs.VariableLemmas.{not_empty}
+use Rattle.session_state.proofs.VariableLemmas.{not_empty}
 use Rattle.session_commands.proofs.EliminatedLemmas.{plain_free, answer_formula, orderly_members, orderly_every, simplified_formula, cleaned_formula}
-use Rattle.session_commands.proofs.SoundLemmas.{resolved_formula, negated_formula}
+use Rattle.session_state.proofs.SoundLemmas.{resolved_formula, negated_formula}
 use Rattle.session_commands.proofs.TruthLemmas.{truth_as_written}
 
 append_nil : (xs : List (List ℕ)) → xs ++ [] ≡ xs

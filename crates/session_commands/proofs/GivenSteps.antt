@@ -25,7 +25,7 @@ use Rattle.formula_store.specs.Nodes.{tree, IsId}
 use Rattle.formula_store.proofs.Numbers.{numbers_are_within}
 use Rattle.formula_meaning.specs.Within.{IsTreeWithin}
 use Rattle.formula_meaning.specs.Members.{HasTwoMembers}
-use Rattle.session_commands.specs.declared.state.SessionState.{SessionState}
+use Rattle.session_state.specs.declared.state.SessionState.{SessionState}
 use Rattle.session_meaning.specs.declared.line.Line.{Line}
 use Rattle.session_meaning.specs.declared.line.StatementError.{StatementError}
 use Rattle.session_commands.specs.declared.formulas.FormCommand.{FormCommand}
@@ -35,15 +35,16 @@ use Rattle.formula_meaning.specs.Shape.{IsQuantifierFree}
 use Rattle.session_meaning.specs.State.{State, with_names}
 use Rattle.session_commands.specs.Commands.{named}
 use Rattle.session_commands.specs.Causes.{Refuses}
-use Rattle.session_commands.specs.Keeping.{state_of, IsSessionFormula, IsSound, IsSessionState}
+use Rattle.session_state.specs.Keeping.{state_of, IsSessionFormula, IsSound, IsSessionState}
 use Rattle.session_meaning.specs.Assumptions.{assumed}
-use Rattle.session_commands.specs.Steps.{KeepsState, GrowsState, HasNumbers, IsReadable, ArePartsNumbered, IsDistributed, HasUnwantedQuantifier, IsReady, IsUnready, given_trees, command_of, use_of, IsFormulaAnswer, IsWantedForm, IsWantedOf, HasFormNames, FormFault, MayBind, TargetFault, IsLineOf, GiveFault, state_with, bound_after}
-use Rattle.session_commands.proofs.BindingLemmas.{bind_trees, bind_ids, bind_distinct, bound_there}
-use Rattle.session_commands.proofs.StateLemmas.{state_parts, grown_state, grown_session, sound_with, length_grows}
+use Rattle.session_commands.specs.Steps.{HasNumbers, IsReadable, ArePartsNumbered, IsDistributed, HasUnwantedQuantifier, IsReady, IsUnready, given_trees, command_of, use_of, IsFormulaAnswer, IsWantedForm, IsWantedOf, HasFormNames, FormFault, MayBind, TargetFault, IsLineOf, GiveFault, state_with, bound_after}
+use Rattle.session_state.specs.Growth.{KeepsState, GrowsState}
+use Rattle.session_state.proofs.BindingLemmas.{bind_trees, bind_ids, bind_distinct, bound_there}
+use Rattle.session_state.proofs.StateLemmas.{state_parts, grown_state, grown_session, sound_with, length_grows}
 use Rattle.session_commands.proofs.NewNameLemmas.{form_names, answer_names_distinct, answer_names_variables}
 use Rattle.session_commands.proofs.PartLemmas.{first_part}
 use Rattle.session_commands.proofs.PointLemmas.{resolved_free}
-use Rattle.session_commands.proofs.VariableLemmas.{AllVariables, both, variables_of_formula, variables_of_all, all_put_in}
+use Rattle.session_state.proofs.VariableLemmas.{AllVariables, both, variables_of_formula, variables_of_all, all_put_in}
 use Rattle.session_commands.proofs.GivenLemmas.{assumed_normal, named_is, numbers_of, refused_unready, refused_form, refused_target, refused_line, is_given, readable_formula, given_formula}
 
 -- a state with one more formula bound is sound

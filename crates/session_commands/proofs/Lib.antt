@@ -1,10 +1,6 @@
 pub mod PartLemmas
-pub mod NameLemmas
-pub mod VariableLemmas
-pub mod SoundLemmas
+pub mod EntryLemmas
 pub mod EliminatedLemmas
-pub mod BindingLemmas
-pub mod StateLemmas
 pub mod CauseLemmas
 pub mod AssumptionLemmas
 pub mod GivenLemmas

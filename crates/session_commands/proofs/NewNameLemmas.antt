@@ -19,8 +19,8 @@ use Rattle.session_meaning.specs.State.{State}
 use Rattle.session_meaning.specs.FormulaAnswers.{HasNewNames}
 use Rattle.session_commands.specs.Commands.{resolved, HasAnswerNames}
 use Rattle.session_commands.specs.Steps.{command_of, HasFormNames}
-use Rattle.session_commands.proofs.NameLemmas.{grows_itself, grows_then}
-use Rattle.session_commands.proofs.VariableLemmas.{AllVariables}
+use Rattle.session_state.proofs.NameLemmas.{grows_itself, grows_then}
+use Rattle.session_state.proofs.VariableLemmas.{AllVariables}
 
 -- ---- new names
 

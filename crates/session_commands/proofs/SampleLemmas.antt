@@ -29,7 +29,7 @@ use Rattle.session_meaning.specs.State.{State}
 use Rattle.session_commands.specs.Asked.{HasNoneBelow}
 use Rattle.session_commands.specs.Causes.{HasNoCauseBelow}
 use Rattle.session_meaning.specs.FormulaAnswers.{negated_of}
-use Rattle.session_commands.specs.Keeping.{IsSessionFormula}
+use Rattle.session_state.specs.Keeping.{IsSessionFormula}
 use Rattle.session_meaning.specs.Samples.{HasSample, IsSample, IsValueInLimit}
 use Rattle.session_commands.specs.SampleSteps.{RefusesSample, SampleStop, IsSampleWithin}
 use Rattle.session_commands.specs.Steps.{use_of, HasNumbers, IsReadable}

@@ -43,17 +43,18 @@ use Rattle.redlog_printer.specs.Writing.{text_limit}
 use Rattle.session_meaning.specs.declared.line.Line.{Line}
 use Rattle.session_meaning.specs.declared.line.StatementError.{StatementError}
 use Rattle.session_meaning.specs.declared.line.StatementError.TheVariants as error
-use Rattle.session_commands.specs.declared.state.SessionState.{SessionState}
+use Rattle.session_state.specs.declared.state.SessionState.{SessionState}
 use Rattle.session_meaning.specs.State.{State}
 use Rattle.session_commands.specs.Asked.{IsAsked}
 use Rattle.session_commands.specs.Causes.{Refuses}
 use Rattle.session_commands.specs.Commands.{named, entry_names}
-use Rattle.session_commands.specs.Keeping.{state_of, IsSessionState}
+use Rattle.session_state.specs.Keeping.{state_of, IsSessionState}
 use Rattle.session_meaning.specs.Reply.{IsLine}
 use Rattle.session_commands.specs.Reply.{AnswersCommand}
 use Rattle.session_meaning.specs.Samples.{sample_text}
 use Rattle.session_commands.specs.SampleSteps.{RefusesSample, SampleStop, IsSampleWithin, IsWantedSample}
-use Rattle.session_commands.specs.Steps.{use_of, measured_refusal, HasNumbers, KeepsState}
+use Rattle.session_commands.specs.Steps.{use_of, measured_refusal, HasNumbers}
+use Rattle.session_state.specs.Growth.{KeepsState}
 use Rattle.session_commands.proofs.AskedSteps.{theory, asked_normal, named_session, start}
 use Rattle.session_commands.proofs.CaseSteps.{err_map}
 use Rattle.session_commands.proofs.GivenLemmas.{readable_formula}

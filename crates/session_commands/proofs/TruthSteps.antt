@@ -19,17 +19,18 @@ use Rattle.formula_store.specs.Nodes.{tree}
 use Rattle.formula_store.specs.Truths.{Tells, IsWholeWhereAsked}
 use Rattle.session_meaning.specs.declared.line.Line.{Line}
 use Rattle.session_meaning.specs.declared.line.StatementError.{StatementError}
-use Rattle.session_commands.specs.declared.state.SessionState.{SessionState}
+use Rattle.session_state.specs.declared.state.SessionState.{SessionState}
 use Rattle.session_meaning.specs.State.{State}
 use Rattle.session_commands.specs.Asked.{HasNoneBelow, IsAsked}
 use Rattle.session_commands.specs.Commands.{named, entry_names}
 use Rattle.session_commands.specs.Causes.{Refuses}
-use Rattle.session_commands.specs.Keeping.{state_of, IsSessionState}
+use Rattle.session_state.specs.Keeping.{state_of, IsSessionState}
 use Rattle.session_meaning.specs.Points.{IsQuantified, IsTruth}
 use Rattle.session_meaning.specs.Reply.{IsLine}
 use Rattle.session_commands.specs.Reply.{AnswersCommand}
 use Rattle.session_meaning.specs.Words.{truth_text}
-use Rattle.session_commands.specs.Steps.{use_of, HasNumbers, KeepsState}
+use Rattle.session_commands.specs.Steps.{use_of, HasNumbers}
+use Rattle.session_state.specs.Growth.{KeepsState}
 use Rattle.session_commands.specs.Truths.{RefusesTruth, ValueStop, EliminationStop}
 use Rattle.session_commands.proofs.AskedSteps.{same, theory, asked_normal, named_session, start}
 use Rattle.session_commands.proofs.CaseSteps.{err_map, on_ok}

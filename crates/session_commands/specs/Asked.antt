@@ -20,7 +20,7 @@ use Rattle.formula_store.specs.declared.id.FormulaId.{FormulaId}
 use Rattle.formula_store.specs.Nodes.{tree, IsId}
 use Rattle.session_meaning.specs.declared.line.StatementError.{StatementError}
 use Rattle.session_meaning.specs.declared.line.StatementError.TheVariants as error
-use Rattle.session_commands.specs.declared.state.SessionState.{SessionState}
+use Rattle.session_state.specs.declared.state.SessionState.{SessionState}
 use Rattle.session_meaning.specs.State.{State}
 use Rattle.session_meaning.specs.Points.{MeanNoPoint, HasUnvalued}
 use Rattle.session_commands.specs.Causes.{rank, Refuses, HasNoCauseBelow}

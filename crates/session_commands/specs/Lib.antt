@@ -4,7 +4,6 @@ pub mod Causes
 pub mod Reply
 pub mod Accepted
 pub mod Agreement
-pub mod Keeping
 pub mod Seen
 pub mod Steps
 pub mod CaseSteps

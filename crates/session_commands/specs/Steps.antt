@@ -52,7 +52,7 @@ use Rattle.session_commands.specs.declared.formulas.FormCommand.{FormCommand}
 use Rattle.session_commands.specs.declared.formulas.FormCommand.TheVariants as wanted
 use Rattle.session_commands.specs.declared.formulas.ClauseForm.{ClauseForm}
 use Rattle.session_commands.specs.declared.formulas.ClauseForm.TheVariants as clause_form
-use Rattle.session_commands.specs.declared.state.SessionState.{SessionState}
+use Rattle.session_state.specs.declared.state.SessionState.{SessionState}
 use Rattle.session_meaning.specs.State.{State, with_names, with_bound}
 use Rattle.session_meaning.specs.Assumptions.{assumed}
 use Rattle.session_commands.specs.Parts.{SomePart, EachPart}
@@ -130,21 +130,7 @@ pub record IsFormulaAnswer (s : State) (limit : ℕ) (u : Use) (c : CommandTree)
   pub small : ¬ (IsTooLarge u.target formula)
   pub after : next ≡ state_with (with_names s names) u.target formula
 
--- ---- what a step keeps
-
--- the formulas of the store stay, and so does all else
-pub record KeepsState (old new : SessionState) : Type 0 where
-  pub context : new.context ≡ old.context
-  pub names : new.names ≡ old.names
-  pub bindings : new.bindings ≡ old.bindings
-  pub store : Keeps (IsId old.store) (tree old.store) (IsId new.store) (tree new.store)
-
--- the same, but for new names after the old ones
-pub record GrowsState (old new : SessionState) : Type 0 where
-  pub context : new.context ≡ old.context
-  pub names : Grows old.names new.names
-  pub bindings : new.bindings ≡ old.bindings
-  pub store : Keeps (IsId old.store) (tree old.store) (IsId new.store) (tree new.store)
+-- ---- what is read
 
 -- each variable of the formula has its number
 abbrev pub HasNumbers : List (List ℕ) → FormulaTree → Type 0

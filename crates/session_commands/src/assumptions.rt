@@ -12,17 +12,18 @@ ghost use Rattle.formula_store.specs.Nodes.{tree, IsId};
 ghost use Rattle.qe_syntax.specs.Writable.{IsWritableFormula};
 ghost use Rattle.qe_syntax.specs.Trees.{formula_tree, formulas_of};
 ghost use Rattle.session_meaning.specs.Assumptions.{atoms_alone, assumed};
-ghost use Rattle.session_commands.specs.Keeping.{state_of};
-ghost use Rattle.session_commands.specs.Steps.{KeepsState, HasNumbers, IsFirstWith, ArePartsNumbered, ArePartsReadable, ArePartsUnread, FirstAmong, first_of, AppliesToSome};
+ghost use Rattle.session_state.specs.Keeping.{state_of};
+ghost use Rattle.session_commands.specs.Steps.{HasNumbers, IsFirstWith, ArePartsNumbered, ArePartsReadable, ArePartsUnread, FirstAmong, first_of, AppliesToSome};
+ghost use Rattle.session_state.specs.Growth.{KeepsState};
 
 use crate::formulas::{resolved_part, static_refusal};
-use crate::state::SessionState;
 use atom_normal::Atom;
 use formula_resolving::{StaticError, number_formula};
 use formula_store::FormulaId;
 use formula_tree::{Bindings, Names, Shape};
 use qe_syntax::Formula;
 use session_meaning::StatementError;
+use session_state::SessionState;
 use std::alloc::AllocError;
 
 /// What is read of a command: its formula, and the atoms that its assumptions are.

@@ -27,16 +27,16 @@ ghost use Rattle.qe_syntax.specs.Trees.{formula_tree, formulas_of};
 ghost use Rattle.session_meaning.specs.Assumptions.{assumed};
 ghost use Rattle.session_commands.specs.Commands.{named};
 ghost use Rattle.session_commands.specs.Causes.{Refuses};
-ghost use Rattle.session_commands.specs.Keeping.{state_of, IsSessionState};
+ghost use Rattle.session_state.specs.Keeping.{state_of, IsSessionState};
 ghost use Rattle.session_meaning.specs.Reply.{IsLine};
 ghost use Rattle.session_commands.specs.Reply.{AnswersCommand};
-ghost use Rattle.session_commands.specs.Steps.{use_of, KeepsState, GrowsState, ArePartsNumbered, ArePartsReadable, IsSimplifiedAs, LineFault};
+ghost use Rattle.session_commands.specs.Steps.{use_of, ArePartsNumbered, ArePartsReadable, IsSimplifiedAs, LineFault};
+ghost use Rattle.session_state.specs.Growth.{KeepsState, GrowsState};
 ghost use Rattle.session_commands.specs.CaseSteps.{IsLeftOf, AreLeftOf, put_before, AreWantedCases, CasesFault};
 
 use crate::assumptions::{Premised, number_parts, read_parts};
 use crate::forms::{measured_refusal, simplified};
 use crate::lines::print_refusal;
-use crate::state::SessionState;
 use answer_texts::cases_text;
 use atom_normal::Atom;
 use formula_store::FormulaId;
@@ -45,6 +45,7 @@ use nnf_trees::Nnf;
 use plain_cases::{Leaf, PrintedCase, case_leaves};
 use qe_syntax::Formula;
 use session_meaning::{Line, StatementError};
+use session_state::SessionState;
 use shared_elimination::{share, unfolded_form};
 use std::alloc::AllocError;
 

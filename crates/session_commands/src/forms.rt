@@ -15,11 +15,11 @@ ghost use Rattle.formula_store.specs.Nodes.{tree, IsId};
 ghost use Rattle.formula_meaning.specs.Members.{HasTwoMembers};
 ghost use Rattle.formula_meaning.specs.Within.{IsTreeWithin};
 ghost use Rattle.session_meaning.specs.FormulaAnswers.{HasNewNames};
-ghost use Rattle.session_commands.specs.Steps.{KeepsState, GrowsState, IsWantedForm, HasFormNames, FormFault, IsPrenexAs, PrenexFault, IsDistributed, junction_of, IsCleanedAs, IsEliminatedAs, IsSimplifiedAs, IsWantedAnswer, EliminationFault, NegationFault, measured_refusal as refusal_of_measured};
+ghost use Rattle.session_commands.specs.Steps.{IsWantedForm, HasFormNames, FormFault, IsPrenexAs, PrenexFault, IsDistributed, junction_of, IsCleanedAs, IsEliminatedAs, IsSimplifiedAs, IsWantedAnswer, EliminationFault, NegationFault, measured_refusal as refusal_of_measured};
+ghost use Rattle.session_state.specs.Growth.{KeepsState, GrowsState};
 
 use crate::assumptions::Premised;
 use crate::formulas::{ClauseForm, FormCommand};
-use crate::state::SessionState;
 use atom_normal::Atom;
 use formula_store::FormulaId;
 use formula_tree::FormError;
@@ -28,6 +28,7 @@ use normal_forms::{cnf, dnf};
 use plain_engine::Measured;
 use prenex_forms::pnf;
 use session_meaning::StatementError;
+use session_state::SessionState;
 use shared_elimination::eliminate_shared;
 use theory_simplifier::{SimplError, simplify};
 

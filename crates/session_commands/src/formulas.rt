@@ -19,14 +19,14 @@ ghost use Rattle.session_meaning.specs.Assumptions.{assumed};
 ghost use Rattle.session_commands.specs.Commands.{named, GivesFormula};
 ghost use Rattle.session_meaning.specs.Causes.{formula_line, HasNoRoom};
 ghost use Rattle.session_commands.specs.Causes.{Refuses};
-ghost use Rattle.session_commands.specs.Keeping.{state_of, IsSessionState};
+ghost use Rattle.session_state.specs.Keeping.{state_of, IsSessionState};
 ghost use Rattle.session_meaning.specs.Reply.{IsLine};
-ghost use Rattle.session_commands.specs.Steps.{static_refusal as refusal_of_static, HasUnwantedQuantifier, ArePartsNumbered, IsReady, IsUnready, given_trees, command_of, use_of, IsFormulaAnswer, IsWantedOf, KeepsState, GrowsState, HasNumbers, IsUnread, IsReadable, MayBind, TargetFault, LineFault, IsLineOf, GiveFault, bound_after};
+ghost use Rattle.session_commands.specs.Steps.{static_refusal as refusal_of_static, HasUnwantedQuantifier, ArePartsNumbered, IsReady, IsUnready, given_trees, command_of, use_of, IsFormulaAnswer, IsWantedOf, HasNumbers, IsUnread, IsReadable, MayBind, TargetFault, LineFault, IsLineOf, GiveFault, bound_after};
+ghost use Rattle.session_state.specs.Growth.{KeepsState, GrowsState};
 
 use crate::assumptions::{Premised, number_parts, read_parts};
 use crate::forms::formed;
 use crate::lines::text_of;
-use crate::state::SessionState;
 use formula_resolving::{StaticError, linearise};
 use formula_store::FormulaId;
 use formula_tree::{BindError, Bindings};
@@ -34,6 +34,7 @@ use free_names::is_quantified;
 use qe_syntax::{Command, Formula, Formulas, Name};
 use redlog_printer::TEXT_LIMIT;
 use session_meaning::{Line, MOST_SUBFORMULAS, StatementError};
+use session_state::SessionState;
 use std::alloc::Global;
 
 /// At most so many names are bound.

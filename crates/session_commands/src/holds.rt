@@ -19,21 +19,22 @@ ghost use Rattle.formula_store.specs.Truths.{Tells, IsWholeWhereAsked};
 ghost use Rattle.session_commands.specs.Asked.{HaveNumbers, HasNoneBelow};
 ghost use Rattle.session_commands.specs.Commands.{named};
 ghost use Rattle.session_commands.specs.Causes.{Refuses};
-ghost use Rattle.session_commands.specs.Keeping.{state_of, IsSessionState};
+ghost use Rattle.session_state.specs.Keeping.{state_of, IsSessionState};
 ghost use Rattle.session_meaning.specs.Points.{IsTruth};
 ghost use Rattle.session_commands.specs.Reply.{AnswersCommand};
-ghost use Rattle.session_commands.specs.Steps.{use_of, HasNumbers, KeepsState, GrowsState};
+ghost use Rattle.session_commands.specs.Steps.{use_of, HasNumbers};
+ghost use Rattle.session_state.specs.Growth.{KeepsState, GrowsState};
 ghost use Rattle.session_commands.specs.Truths.{RefusesTruth, ValueStop, EliminationStop};
 ghost use Rattle.session_meaning.specs.Words.{truth_text};
 
 use crate::forms::measured_refusal;
 use crate::lines::printed_line;
 use crate::points::{asked, number_command, values_of};
-use crate::state::SessionState;
 use formula_store::{EvalStop, FormulaId};
 use free_names::is_quantified;
 use qe_syntax::{Formula, Point, PointEntry};
 use session_meaning::{Line, StatementError};
+use session_state::SessionState;
 use shared_elimination::truth_by_elimination;
 
 /// Answers whether the formula is true at the point. After an `Err` the names may have grown.

@@ -11,7 +11,6 @@ mod lines;
 mod points;
 mod samples;
 mod session;
-mod state;
 
 pub use laws::{replies_agree, truth_is_never_refused};
 pub use session::{Limits, Session};

@@ -9,10 +9,10 @@ ghost use Rattle.redlog_printer.specs.Writing.{text_limit};
 ghost use Rattle.session_meaning.specs.Reply.{IsLine};
 ghost use Rattle.session_commands.specs.Steps.{print_refusal as refusal_of_print};
 
-use crate::state::SessionState;
 use formula_store::FormulaId;
 use redlog_printer::PrintError;
 use session_meaning::{Line, StatementError};
+use session_state::SessionState;
 use std::alloc::Global;
 use stored_texts::stored_text;
 

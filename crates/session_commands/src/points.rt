@@ -17,11 +17,11 @@ ghost use Rattle.formula_resolving.specs.Refusals.{AreIds};
 ghost use Rattle.formula_store.specs.Nodes.{IsId};
 ghost use Rattle.session_commands.specs.Asked.{HaveNumbers, IsBoundName, is_whole_theory, RefusesBoth, stop_of, IsReadAs, IsMeantPoint, PointStop, IsValued, ValuedStop, IsAsked};
 ghost use Rattle.session_commands.specs.Commands.{entry_names};
-ghost use Rattle.session_commands.specs.Keeping.{state_of, IsSessionState};
-ghost use Rattle.session_commands.specs.Steps.{HasNumbers, KeepsState};
+ghost use Rattle.session_state.specs.Keeping.{state_of, IsSessionState};
+ghost use Rattle.session_commands.specs.Steps.{HasNumbers};
+ghost use Rattle.session_state.specs.Growth.{KeepsState};
 
 use crate::formulas::resolved;
-use crate::state::SessionState;
 use atom_normal::Context;
 use formula_resolving::number_formula;
 use formula_store::FormulaId;
@@ -30,6 +30,7 @@ use free_names::is_valued;
 use linear_forms::Values;
 use qe_syntax::{Formula, Point, PointEntry, PointFault};
 use session_meaning::StatementError;
+use session_state::SessionState;
 use std::alloc::Global;
 
 /// Numbers the variables of the formula and of the point, in the order of the text. After an `Err` the names may have grown.

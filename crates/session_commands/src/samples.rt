@@ -22,17 +22,17 @@ ghost use Rattle.redlog_printer.specs.Writing.{text_limit};
 ghost use Rattle.session_commands.specs.Asked.{HaveNumbers};
 ghost use Rattle.session_commands.specs.Commands.{named};
 ghost use Rattle.session_commands.specs.Causes.{Refuses};
-ghost use Rattle.session_commands.specs.Keeping.{state_of, IsSessionState};
+ghost use Rattle.session_state.specs.Keeping.{state_of, IsSessionState};
 ghost use Rattle.session_meaning.specs.Reply.{IsLine};
 ghost use Rattle.session_commands.specs.Reply.{AnswersCommand};
 ghost use Rattle.session_meaning.specs.Samples.{sample_text};
 ghost use Rattle.session_commands.specs.SampleSteps.{RefusesSample, SampleStop, IsSampleWithin, IsWantedSample};
-ghost use Rattle.session_commands.specs.Steps.{use_of, HasNumbers, KeepsState, GrowsState};
+ghost use Rattle.session_commands.specs.Steps.{use_of, HasNumbers};
+ghost use Rattle.session_state.specs.Growth.{KeepsState, GrowsState};
 
 use crate::forms::measured_refusal;
 use crate::lines::printed_line;
 use crate::points::{asked, number_command, values_of};
-use crate::state::SessionState;
 use answer_texts::point_text;
 use exact_numbers::Fraction;
 use formula_store::FormulaId;
@@ -42,6 +42,7 @@ use plain_samples::sample_at;
 use qe_syntax::{Formula, Point, PointEntry};
 use redlog_printer::PrintError;
 use session_meaning::{Line, StatementError};
+use session_state::SessionState;
 use shared_elimination::unfolded_form;
 
 /// Answers with values for the names of the leading block, or with `none`. After an `Err` the names may have grown.

@@ -1,13 +1,14 @@
 ghost use Rattle.std.specs.Prelude.{◌≡◌, ◌≤◌, Some, None, IfOk, IfErr, OnOk, OnErr};
 ghost use Rattle.qe_syntax.specs.Statements.{statement_tree, command_tree};
 ghost use Rattle.qe_syntax.specs.Writable.{IsWritable, IsWritableCommand};
-ghost use Rattle.session_commands.specs.Keeping.{state_of, IsSessionState};
+ghost use Rattle.session_state.specs.Keeping.{state_of, IsSessionState};
 ghost use Rattle.session_meaning.specs.Reply.{IsLine, Reply};
 ghost use Rattle.session_commands.specs.Reply.{Answers, AnswersSaid};
 ghost use Rattle.session_meaning.specs.Words.{context_text};
 ghost use Rattle.session_commands.specs.Seen.{state_in};
 ghost use Rattle.session_meaning.specs.State.{first_state, theory_of, chosen};
-ghost use Rattle.session_commands.specs.Steps.{read_refusal, use_of, IsStopped, IsFormulaAnswer, GrowsState};
+ghost use Rattle.session_commands.specs.Steps.{read_refusal, use_of, IsStopped, IsFormulaAnswer};
+ghost use Rattle.session_state.specs.Growth.{GrowsState};
 ghost use Rattle.session_commands.specs.Causes.{Refuses};
 ghost use Rattle.session_commands.specs.Commands.{named, GivesFormula, BindsFormula};
 
@@ -16,11 +17,11 @@ use crate::formulas::{answer_formula, form_command_of};
 use crate::holds::answer_holds;
 use crate::lines::printed_line;
 use crate::samples::answer_sample;
-use crate::state::SessionState;
 use atom_normal::Context;
 use qe_syntax::{Action, Command, Name, Setting, Statement};
 use redlog_reader::{ReadError, read_statement};
 use session_meaning::{Line, StatementError};
+use session_state::SessionState;
 use std::alloc::Global;
 use std::marker::Model;
 
@@ -39,7 +40,7 @@ pub struct Session {
 }
 
 impl Model for Session {
-    ghost use Rattle.session_commands.specs.Keeping.{IsSessionState};
+    ghost use Rattle.session_state.specs.Keeping.{IsSessionState};
     ghost use Rattle.session_commands.specs.Seen.{Seen};
 
     ghost Value = { Seen };
@@ -74,7 +75,9 @@ impl Session {
         ensures reply { Reply (state_in self.old) self.old.limits.nodes bytes.now result (state_in self.new) }
         ensures limits { self.new.limits ≡ self.old.limits }
     {
-        self.state.tidy()?;
+        if let Err(_failed) = self.state.tidy() {
+            return Err(StatementError::Memory);
+        }
         reply_to(&mut self.state, self.limits.nodes, bytes)
     }
 }
@@ -163,10 +166,7 @@ fn choose(state: &mut SessionState, setting: Setting, printed: bool) -> Result<L
         Setting::Pasf => (Context::Integers, b"pasf".as_slice()),
     };
     let line = printed_line(state.alloc, word, printed)?;
-    if state.context != context {
-        state.bindings.clear();
-        state.context = context;
-    }
+    state.choose(context);
     Ok(line)
 }
 

@@ -1,6 +1,6 @@
 use Rattle.std.proofs.Common.{Some, ap}
 use Rattle.qe_syntax.specs.Trees.{formula_tree}
-use Rattle.session_commands.specs.Keeping.{state_of}
+use Rattle.session_state.specs.Keeping.{state_of}
 use Rattle.session_commands.proofs.AssumptionLemmas.{first_unread}
 use Rattle.session_commands.proofs.assumptions.read_assumption.Goals as goal
 

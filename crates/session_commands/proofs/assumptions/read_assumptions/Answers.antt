@@ -6,11 +6,11 @@ use Rattle.qe_syntax.specs.Trees.{formula_tree, formulas_of}
 use Rattle.qe_syntax.proofs.EntryLists.{all_at, more_entries}
 use Rattle.formula_tree.specs.Resolving.{resolve}
 use Rattle.session_meaning.specs.Assumptions.{atoms_alone, assumed}
-use Rattle.session_commands.specs.Keeping.{state_of}
+use Rattle.session_state.specs.Keeping.{state_of}
 use Rattle.session_meaning.specs.State.{State}
 use Rattle.session_commands.specs.Steps.{HasNumbers, FirstAmong, AppliesToSome, IsFirstWith}
 use Rattle.session_commands.proofs.AssumptionLemmas.{nothing_more, first_of_more, assumed_more, atoms_more, none_before}
-use Rattle.session_commands.proofs.StateLemmas.{same_state, kept_ids, keeps_self, keeps_then}
+use Rattle.session_state.proofs.StateLemmas.{same_state, kept_ids, keeps_self, keeps_then}
 use Rattle.session_commands.proofs.assumptions.read_assumptions.Goals as goal
 
 pub loop-assumption-init : goal.loop-assumption-init

@@ -4,8 +4,9 @@ use Rattle.atom_normal.specs.Atoms.{atom_of, IsWellFormed}
 use Rattle.qe_syntax.specs.Writable.{IsWritableFormula}
 use Rattle.qe_syntax.specs.Trees.{formula_tree, formulas_of}
 use Rattle.session_meaning.specs.Assumptions.{assumed}
-use Rattle.session_commands.specs.Keeping.{state_of}
-use Rattle.session_commands.specs.Steps.{KeepsState, HasNumbers, FirstAmong, AppliesToSome}
+use Rattle.session_state.specs.Keeping.{state_of}
+use Rattle.session_commands.specs.Steps.{HasNumbers, FirstAmong, AppliesToSome}
+use Rattle.session_state.specs.Growth.{KeepsState}
 use Rattle.session_commands.proofs.assumptions.read_assumptions.Given as goal
 
 -- the first cause in the assumptions so far, and where there is none, their atoms

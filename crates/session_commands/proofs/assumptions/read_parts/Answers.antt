@@ -5,12 +5,12 @@ use Rattle.formula_tree.specs.Makers.{IsMade}
 use Rattle.formula_tree.specs.Resolving.{resolve}
 use Rattle.formula_resolving.specs.Refusals.{IsFirstCause}
 use Rattle.formula_store.specs.Nodes.{tree, IsId}
-use Rattle.session_commands.specs.Keeping.{state_of}
+use Rattle.session_state.specs.Keeping.{state_of}
 use Rattle.session_meaning.specs.State.{State}
 use Rattle.session_commands.specs.Steps.{HasNumbers, IsReadable, ArePartsUnread, IsFirstPartCause, FirstAmong, AppliesToSome}
 use Rattle.session_commands.proofs.PartLemmas.{each_listed}
 use Rattle.session_commands.proofs.AssumptionLemmas.{first_unread, none_unread, list_unread, both_unread, memory_unread, parts_readable}
-use Rattle.session_commands.proofs.StateLemmas.{same_state, kept_ids, keeps_then}
+use Rattle.session_state.proofs.StateLemmas.{same_state, kept_ids, keeps_then}
 use Rattle.session_commands.proofs.assumptions.read_parts.Goals as goal
 
 pub read_assumptions-requires-clause-numbered : goal.read_assumptions-requires-clause-numbered

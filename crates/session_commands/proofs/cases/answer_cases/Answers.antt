@@ -10,10 +10,11 @@ use Rattle.session_meaning.specs.declared.line.Line.{Line}
 use Rattle.session_meaning.specs.declared.line.StatementError.{StatementError}
 use Rattle.session_commands.specs.Causes.{Refuses}
 use Rattle.session_commands.specs.Commands.{named}
-use Rattle.session_commands.specs.Keeping.{state_of}
+use Rattle.session_state.specs.Keeping.{state_of}
 use Rattle.session_meaning.specs.Reply.{IsLine}
-use Rattle.session_commands.specs.Steps.{use_of, GrowsState, LineFault}
-use Rattle.session_commands.proofs.StateLemmas.{keeps_itself, grows_then}
+use Rattle.session_commands.specs.Steps.{use_of, LineFault}
+use Rattle.session_state.specs.Growth.{GrowsState}
+use Rattle.session_state.proofs.StateLemmas.{keeps_itself, grows_then}
 use Rattle.session_commands.proofs.CaseSteps.{named_session, session_named, numbers_there, cases_refused, state_later, session_later, within_there, line_answered, line_refused}
 use Rattle.session_commands.proofs.cases.answer_cases.Goals as goal
 

@@ -11,7 +11,7 @@ use Rattle.plain_cases.specs.Stand.{AreSound}
 use Rattle.plain_cases.proofs.Standing.{nothing}
 use Rattle.simplified_formulas.specs.Orderly.{IsOrderly}
 use Rattle.session_commands.specs.CaseSteps.{IsLeftOf}
-use Rattle.session_commands.proofs.StateLemmas.{keeps_then}
+use Rattle.session_state.proofs.StateLemmas.{keeps_then}
 use Rattle.session_commands.proofs.CaseLemmas.{LeavesAll, leaves_more, leaves_end}
 use Rattle.session_commands.proofs.cases.left_cases.Goals as goal
 

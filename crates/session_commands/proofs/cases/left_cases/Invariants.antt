@@ -6,7 +6,7 @@ use Rattle.elimination_reference.specs.Cases.{Case}
 use Rattle.plain_cases.specs.Case.{case_seen, leaf_case, HavePoints}
 use Rattle.plain_cases.specs.Stand.{AreSound}
 use Rattle.simplified_formulas.specs.Orderly.{IsOrderly}
-use Rattle.session_commands.specs.Steps.{KeepsState}
+use Rattle.session_state.specs.Growth.{KeepsState}
 use Rattle.session_commands.proofs.CaseLemmas.{LeavesAll}
 use Rattle.session_commands.proofs.cases.left_cases.Given as goal
 

@@ -3,8 +3,8 @@ use Rattle.formula_meaning.specs.Tree.{Tree}
 use Rattle.atom_normal.specs.Atoms.{context_of}
 use Rattle.atom_normal.specs.NormalForm.{IsNormal}
 use Rattle.simplified_formulas.specs.Orderly.{IsOrderly}
-use Rattle.session_commands.specs.declared.state.SessionState.{SessionState}
-use Rattle.session_commands.proofs.StateLemmas.{keeps_then}
+use Rattle.session_state.specs.declared.state.SessionState.{SessionState}
+use Rattle.session_state.proofs.StateLemmas.{keeps_then}
 use Rattle.session_commands.proofs.cases.simplified_guard.Goals as goal
 
 pub simplified-requires-clause-formula : goal.simplified-requires-clause-formula

@@ -8,7 +8,7 @@ use Rattle.formula_store.specs.Nodes.{tree}
 use Rattle.plain_cases.specs.Case.{case_seen, leaf_case}
 use Rattle.simplified_formulas.specs.Orderly.{IsOrderly}
 use Rattle.session_commands.specs.CaseSteps.{AreLeftOf}
-use Rattle.session_commands.proofs.StateLemmas.{keeps_then}
+use Rattle.session_state.proofs.StateLemmas.{keeps_then}
 use Rattle.session_commands.proofs.CaseLemmas.{cases_orderly}
 use Rattle.session_commands.proofs.cases.wanted_cases.Goals as goal
 

@@ -5,7 +5,7 @@ use Rattle.formula_meaning.specs.Shape.{IsQuantifierFree}
 use Rattle.formula_meaning.specs.Tree.{Tree}
 use Rattle.simplified_formulas.specs.Orderly.{IsOrderly}
 use Rattle.formula_store.specs.Nodes.{tree}
-use Rattle.session_commands.proofs.StateLemmas.{keeps_then}
+use Rattle.session_state.proofs.StateLemmas.{keeps_then}
 use Rattle.session_commands.proofs.EliminatedLemmas.{negation_orderly, negation_free}
 use Rattle.session_commands.proofs.forms.distributed.Goals as goal
 

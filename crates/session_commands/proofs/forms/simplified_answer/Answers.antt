@@ -3,7 +3,7 @@ use Rattle.atom_normal.specs.Atoms.{context_of}
 use Rattle.atom_normal.specs.NormalForm.{IsNormal}
 use Rattle.simplified_formulas.specs.Orderly.{IsOrderly}
 use Rattle.formula_store.specs.Nodes.{tree}
-use Rattle.session_commands.proofs.StateLemmas.{keeps_then}
+use Rattle.session_state.proofs.StateLemmas.{keeps_then}
 use Rattle.session_commands.proofs.EliminatedLemmas.{answer_orderly}
 use Rattle.session_commands.proofs.forms.simplified_answer.Goals as goal
 

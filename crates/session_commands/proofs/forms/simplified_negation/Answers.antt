@@ -4,7 +4,7 @@ use Rattle.atom_normal.specs.NormalForm.{IsNormal}
 use Rattle.formula_meaning.specs.Tree.{Tree}
 use Rattle.simplified_formulas.specs.Orderly.{IsOrderly}
 use Rattle.formula_store.specs.Nodes.{tree}
-use Rattle.session_commands.proofs.StateLemmas.{keeps_then}
+use Rattle.session_state.proofs.StateLemmas.{keeps_then}
 use Rattle.session_commands.proofs.EliminatedLemmas.{negation_orderly}
 use Rattle.session_commands.proofs.forms.simplified_negation.Goals as goal
 

@@ -2,9 +2,10 @@ use Rattle.std.proofs.Common.{◌≡◌, Err, sym, subst, rules}
 use Rattle.std.specs.Prelude.{IfOk, IfErr, OnErr}
 use Rattle.qe_syntax.specs.Trees.{formula_tree}
 use Rattle.session_commands.specs.Causes.{Refuses}
-use Rattle.session_commands.specs.Keeping.{state_of}
-use Rattle.session_commands.specs.Steps.{command_of, use_of, GrowsState, IsFormulaAnswer}
-use Rattle.session_commands.proofs.StateLemmas.{keeps_itself, grows_then_grows}
+use Rattle.session_state.specs.Keeping.{state_of}
+use Rattle.session_commands.specs.Steps.{command_of, use_of, IsFormulaAnswer}
+use Rattle.session_state.specs.Growth.{GrowsState}
+use Rattle.session_state.proofs.StateLemmas.{keeps_itself, grows_then_grows}
 use Rattle.session_commands.proofs.GivenSteps.{names_are, numbered, numbered_state, numbers_there, numbered_session, later_within, later_members, answered_session, given_answer, given_refused, on_err}
 use Rattle.session_commands.proofs.formulas.answer_formula.Goals as goal
 

@@ -2,7 +2,7 @@ use Rattle.std.proofs.Common.{inl, sym, subst, arith}
 use Rattle.formula_resolving.specs.Refusals.{trees_bound}
 use Rattle.formula_store.specs.Nodes.{tree}
 use Rattle.session_meaning.specs.Causes.{HasNoRoom, IsTooLarge}
-use Rattle.session_commands.proofs.BindingLemmas.{no_room, room_here}
+use Rattle.session_state.proofs.BindingLemmas.{no_room, room_here}
 use Rattle.session_commands.proofs.formulas.check_target.Goals as goal
 
 pub returns-then-has_no_room-clause-fault : goal.returns-then-has_no_room-clause-fault

@@ -1,11 +1,11 @@
 use Rattle.std.proofs.Common.{map, sym, subst}
 use Rattle.qe_syntax.specs.Writable.{AreWritableFormulas}
 use Rattle.qe_syntax.specs.Trees.{formula_tree, formulas_of}
-use Rattle.session_commands.specs.Keeping.{state_of}
+use Rattle.session_state.specs.Keeping.{state_of}
 use Rattle.session_commands.specs.Steps.{given_trees, HasUnwantedQuantifier, ArePartsReadable, ArePartsUnread}
 use Rattle.session_meaning.specs.declared.line.StatementError.TheVariants as error
 use Rattle.session_commands.proofs.AssumptionLemmas.{early_readable, early_overflow}
-use Rattle.session_commands.proofs.StateLemmas.{kept_ids, same_state}
+use Rattle.session_state.proofs.StateLemmas.{kept_ids, same_state}
 use Rattle.session_commands.proofs.GivenSteps.{proper_items}
 use Rattle.session_commands.proofs.formulas.read_wanted.Goals as goal
 

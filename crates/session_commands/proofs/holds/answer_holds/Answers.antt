@@ -5,7 +5,7 @@ use Rattle.qe_syntax.specs.Trees.{formula_tree}
 use Rattle.session_meaning.specs.declared.line.StatementError.{StatementError}
 use Rattle.session_commands.specs.Causes.{Refuses}
 use Rattle.session_commands.specs.Commands.{named}
-use Rattle.session_commands.specs.Keeping.{state_of}
+use Rattle.session_state.specs.Keeping.{state_of}
 use Rattle.session_commands.specs.Steps.{use_of}
 use Rattle.session_commands.specs.Truths.{RefusesTruth}
 use Rattle.session_commands.proofs.AskedSteps.{named_session, session_named, numbers_there, entries_there, state_later, session_later}

@@ -3,7 +3,7 @@ use Rattle.std.proofs.lemmas.Bool.{false≢true}
 use Rattle.std.proofs.lemmas.Result.{err_from_is_err_and}
 use Rattle.qe_syntax.specs.Trees.{formula_tree}
 use Rattle.session_commands.proofs.AskedSteps.{ids_there, normal_there}
-use Rattle.session_commands.proofs.StateLemmas.{keeps_then}
+use Rattle.session_state.proofs.StateLemmas.{keeps_then}
 use Rattle.session_commands.proofs.TruthSteps.{free_there, whole_there, truth_told, truth_stops, eliminated_told, eliminated_stops}
 use Rattle.session_commands.proofs.holds.truth.Goals as goal
 

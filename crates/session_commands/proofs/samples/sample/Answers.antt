@@ -1,7 +1,7 @@
 use Rattle.std.proofs.lemmas.Result.{err_from_is_err_and}
 use Rattle.qe_syntax.specs.Trees.{formula_tree}
 use Rattle.session_commands.proofs.AskedSteps.{normal_there}
-use Rattle.session_commands.proofs.StateLemmas.{keeps_then}
+use Rattle.session_state.proofs.StateLemmas.{keeps_then}
 use Rattle.session_commands.proofs.SampleSteps.{sample_told, sample_stopped}
 use Rattle.session_commands.proofs.samples.sample.Goals as goal
 

@@ -1,7 +1,7 @@
 use Rattle.std.proofs.Common.{◌≡◌, take}
 use Rattle.std.specs.Map.{keys_of}
-use Rattle.session_commands.specs.Keeping.{ids_bound}
-use Rattle.session_commands.proofs.state.rebound.Given as goal
+use Rattle.session_state.specs.Keeping.{ids_bound}
+use Rattle.session_state.proofs.state.rebound.Given as goal
 
 -- the names before the place, with their new ids
 abbrev pub invariant-loop-place : goal.invariant-loop-place

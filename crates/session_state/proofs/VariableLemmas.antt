@@ -5,14 +5,12 @@ use Rattle.std.specs.List.{AllByRecursion, fold, list_any}
 use Rattle.formula_meaning.specs.Formula.{Yes, No, One, Not, And, Or, Impl, Repl, Equiv, Ex, All}
 use Rattle.formula_meaning.specs.Formula as plain
 use Rattle.formula_meaning.specs.Some.{EachOf}
-use Rattle.qe_syntax.specs.declared.statement.PointEntry.{PointEntry}
 use Rattle.qe_syntax.specs.Names.{IsVariable}
 use Rattle.qe_syntax.specs.Trees.{TermTree, TermTrees, Number, Named, Sum, Product, Quotient, Power, Negative, none, also, WrittenAtom, Compare, Cong, Ncong, Bound, FormulaTree, FormulaTrees}
-use Rattle.qe_syntax.specs.Writable.{IsWritableTerm, AreWritableTerms, IsWritableAtom, IsWritableFormula, AreWritableFormulas, AreWritableEntries}
+use Rattle.qe_syntax.specs.Writable.{IsWritableTerm, AreWritableTerms, IsWritableAtom, IsWritableFormula, AreWritableFormulas}
 use Rattle.qe_syntax.specs.Value.{same_name}
 use Rattle.formula_tree.specs.Names.{with_name}
 use Rattle.formula_tree.specs.Resolving.{variables_of, variables_in, atom_variables, formula_variables, all_variables}
-use Rattle.session_commands.specs.Commands.{entry_names}
 
 abbrev pub AllVariables : List (List ℕ) → Type 0
 AllVariables xs = AllByRecursion IsVariable xs
@@ -61,10 +59,6 @@ mutual
   pub variables_of_all : (fs : FormulaTrees) → AreWritableFormulas fs → AllVariables (all_variables fs)
   variables_of_all plain.none h = tt
   variables_of_all (plain.also f fs) h = both (formula_variables f) (all_variables fs) (variables_of_formula f h.0) (variables_of_all fs h.1)
-
-pub names_of_entries : (es : List PointEntry) → AreWritableEntries es → AllVariables (entry_names es)
-names_of_entries [] h = tt
-names_of_entries (e ∷ es) h = (h.0.2, names_of_entries es h.1)
 
 -- ---- names that are put in
 

@@ -1,34 +1,35 @@
 //! What the statements of a script share, as the session keeps it.
 
-ghost use Rattle.std.specs.Prelude.{◌≡◌, OnOk, IfOk, IfErr, length};
+ghost use Rattle.std.specs.Prelude.{◌≡◌, OnOk, IfOk, length};
 ghost use Rattle.std.specs.Map.{keys_of};
-ghost use Rattle.session_commands.specs.Keeping.{state_of, IsSessionState, ids_bound};
-ghost use Rattle.session_meaning.specs.State.{first_state};
+ghost use Rattle.atom_normal.specs.Atoms.{context_of};
+ghost use Rattle.session_state.specs.Keeping.{state_of, IsSessionState, ids_bound};
+ghost use Rattle.session_meaning.specs.State.{first_state, chosen};
 
 use atom_normal::Context;
 use formula_store::{FormulaId, Store};
 use formula_tree::{Bindings, Names};
-use session_meaning::StatementError;
-use std::alloc::Global;
+use std::alloc::{AllocError, Global};
 
 /// So many formulas may be in the store before any is given up.
 const FEW_FORMULAS: usize = 4096;
 
-/// The theory, the names, what is bound, and the formulas.
+/// The theory, the names, what is bound, and the formulas. Its invariant is the record `IsSessionState` and no model's: the engines
+/// borrow the store and the names at once, and until a statement is answered the names may have grown.
 #[derive(Drop)]
-pub(crate) struct SessionState {
-    pub(crate) alloc: Global,
-    pub(crate) context: Context,
-    pub(crate) names: Names,
-    pub(crate) bindings: Bindings<FormulaId>,
-    pub(crate) store: Store,
+pub struct SessionState {
+    pub alloc: Global,
+    pub context: Context,
+    pub names: Names,
+    pub bindings: Bindings<FormulaId>,
+    pub store: Store,
     /// How many formulas the store had when some were given up last.
     pub(crate) kept: usize,
 }
 
 impl SessionState {
     /// Over the ordered fields, without names.
-    pub(crate) fn new(alloc: Global) -> SessionState
+    pub fn new(alloc: Global) -> SessionState
         ensures state { state_of result ≡ first_state }
         ensures session { IsSessionState result }
     {
@@ -42,20 +43,31 @@ impl SessionState {
         }
     }
 
+    /// Chooses the theory. Another one than before drops what is bound.
+    pub fn choose(&mut self, context: Context)
+        requires { IsSessionState self.old }
+        ensures session { IsSessionState self.new }
+        ensures chosen { state_of self.new ≡ chosen (state_of self.old) (context_of context) }
+    {
+        if self.context != context {
+            self.bindings.clear();
+            self.context = context;
+        }
+    }
+
     /// Gives up the formulas that nothing bound needs, where the store has more than twice those that it had the last time.
     /// After an `Err` nothing is bound.
-    pub(crate) fn tidy(&mut self) -> Result<(), StatementError>
+    pub fn tidy(&mut self) -> Result<(), AllocError>
         requires { IsSessionState self.old }
         ensures session { IsSessionState self.new }
         ensures state { OnOk result (state_of self.new ≡ state_of self.old) }
-        ensures memory { IfErr result (λ e. e ≡ StatementError.Memory) }
     {
         if self.store.len() / 2 <= self.kept.saturating_add(FEW_FORMULAS) {
             return Ok(());
         }
         let roots = bound_ids(self.alloc, &self.bindings)?;
         let Ok(ids) = self.store.keep_only(&roots) else {
-            return Err(StatementError::Memory);
+            return Err(AllocError);
         };
         match rebound(self.alloc, &self.bindings, &ids) {
             Ok(bindings) => {
@@ -72,21 +84,15 @@ impl SessionState {
 }
 
 /// The ids of what is bound, in order.
-fn bound_ids(
-    alloc: Global,
-    bindings: &Bindings<FormulaId>,
-) -> Result<Vec<FormulaId>, StatementError>
+fn bound_ids(alloc: Global, bindings: &Bindings<FormulaId>) -> Result<Vec<FormulaId>, AllocError>
     ensures ids { IfOk result (λ ids. ids.items ≡ ids_bound bindings.now) }
-    ensures memory { IfErr result (λ e. e ≡ StatementError.Memory) }
 {
     let mut ids = Vec::new(alloc);
     for place in 0..bindings.len() {
         let Some(id) = bindings.bound_at(place) else {
             unreachable!()
         };
-        if let Err(_failed) = ids.push(id) {
-            return Err(StatementError::Memory);
-        }
+        ids.push(id)?;
     }
     Ok(ids)
 }
@@ -96,11 +102,10 @@ fn rebound(
     alloc: Global,
     bindings: &Bindings<FormulaId>,
     ids: &[FormulaId],
-) -> Result<Bindings<FormulaId>, StatementError>
+) -> Result<Bindings<FormulaId>, AllocError>
     requires { length ids.now ≡ length bindings.now }
     ensures names { IfOk result (λ new. keys_of new ≡ keys_of bindings.now) }
     ensures ids { IfOk result (λ new. ids_bound new ≡ ids.now) }
-    ensures memory { IfErr result (λ e. e ≡ StatementError.Memory) }
 {
     let mut new = Bindings::new(alloc);
     for place in 0..bindings.len() {
@@ -108,7 +113,7 @@ fn rebound(
             unreachable!()
         };
         if let Err(_failed) = new.put(&name, ids[place]) {
-            return Err(StatementError::Memory);
+            return Err(AllocError);
         }
     }
     Ok(new)

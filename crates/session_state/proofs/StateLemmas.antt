@@ -15,14 +15,14 @@ use Rattle.formula_resolving.specs.Numbering.{Grows}
 use Rattle.formula_resolving.specs.Refusals.{AreIds, trees_bound}
 use Rattle.formula_store.specs.declared.id.FormulaId.{FormulaId}
 use Rattle.formula_store.specs.Nodes.{tree, IsId}
-use Rattle.session_commands.specs.declared.state.SessionState.{SessionState}
+use Rattle.session_state.specs.declared.state.SessionState.{SessionState}
 use Rattle.session_meaning.specs.State.{State, with_names}
-use Rattle.session_commands.specs.Keeping.{state_of, ids_bound, IsSound, IsSessionState}
-use Rattle.session_commands.specs.Steps.{KeepsState, GrowsState}
-use Rattle.session_commands.proofs.BindingLemmas.{trees_kept, ids_kept, trees_by_parts, ids_by_list}
-use Rattle.session_commands.proofs.NameLemmas.{grows_itself, grows_then as more_names}
-use Rattle.session_commands.proofs.SoundLemmas.{more_formula}
-use Rattle.session_commands.proofs.VariableLemmas.{AllVariables}
+use Rattle.session_state.specs.Keeping.{state_of, ids_bound, IsSound, IsSessionState}
+use Rattle.session_state.specs.Growth.{KeepsState, GrowsState}
+use Rattle.session_state.proofs.BindingLemmas.{trees_kept, ids_kept, trees_by_parts, ids_by_list}
+use Rattle.session_state.proofs.NameLemmas.{grows_itself, grows_then as more_names}
+use Rattle.session_state.proofs.SoundLemmas.{more_formula}
+use Rattle.session_state.proofs.VariableLemmas.{AllVariables}
 
 pub state_parts : (c d : Context) (ns ms : List (List ℕ)) (bs es : BoundTrees) → c ≡ d → ns ≡ ms → bs ≡ es
     → (let s : State = record { context = c; names = ns; bound = bs } in let t : State = record { context = d; names = ms; bound = es } in s ≡ t)

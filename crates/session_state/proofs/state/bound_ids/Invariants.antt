@@ -1,6 +1,6 @@
 use Rattle.std.proofs.Common.{◌≡◌, take}
-use Rattle.session_commands.specs.Keeping.{ids_bound}
-use Rattle.session_commands.proofs.state.bound_ids.Given as goal
+use Rattle.session_state.specs.Keeping.{ids_bound}
+use Rattle.session_state.proofs.state.bound_ids.Given as goal
 
 -- the ids before the place
 abbrev pub invariant-loop-place : goal.invariant-loop-place

@@ -1,8 +1,8 @@
 use Rattle.std.proofs.Common.{◌<◌, sym, length, get_or, arith}
 use Rattle.formula_store.specs.declared.id.FormulaId.{FormulaId}
-use Rattle.session_commands.specs.Keeping.{ids_bound}
-use Rattle.session_commands.proofs.BindingLemmas.{names_step, list_step}
-use Rattle.session_commands.proofs.state.rebound.Goals as goal
+use Rattle.session_state.specs.Keeping.{ids_bound}
+use Rattle.session_state.proofs.BindingLemmas.{names_step, list_step}
+use Rattle.session_state.proofs.state.rebound.Goals as goal
 
 pub loop-place-preserved : goal.loop-place-preserved
 loop-place-preserved c =

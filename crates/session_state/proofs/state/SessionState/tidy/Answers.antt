@@ -3,9 +3,9 @@ use Rattle.std.proofs.lemmas.List.{length-map}
 use Rattle.std.specs.List.{AllByRecursion}
 use Rattle.formula_store.specs.Nodes.{tree, IsId}
 use Rattle.formula_tree.specs.Makers.{AreMade}
-use Rattle.session_commands.proofs.BindingLemmas.{list_by_ids}
-use Rattle.session_commands.proofs.StateLemmas.{rebound_session, rebound_state, ids_as_many, cleared_session}
-use Rattle.session_commands.proofs.state.SessionState.tidy.Goals as goal
+use Rattle.session_state.proofs.BindingLemmas.{list_by_ids}
+use Rattle.session_state.proofs.StateLemmas.{rebound_session, rebound_state, ids_as_many, cleared_session}
+use Rattle.session_state.proofs.state.SessionState.tidy.Goals as goal
 
 pub keep_only-requires : goal.keep_only-requires
 keep_only-requires c =
