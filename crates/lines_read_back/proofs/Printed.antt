@@ -37,9 +37,9 @@ use Rattle.session_commands.specs.Reply.{Tells, Answers}
 use Rattle.clean_forms.proofs.FormShapes.{form_free}
 use Rattle.session_commands.proofs.Agreement.{allowed_is, answers_are, numbered_is}
 use Rattle.session_commands.proofs.PartLemmas.{some_first}
-use Rattle.session_commands.proofs.EliminatedLemmas.{unquantified_bound, within_of_names, free_below, none_from, all_below}
+use Rattle.shared_forms.proofs.EliminatedLemmas.{unquantified_bound, within_of_names, free_below, none_from, all_below}
 use Rattle.session_state.proofs.NameLemmas.{numbers_stay}
-use Rattle.session_commands.proofs.PrenexLemmas.{prenex_formula}
+use Rattle.shared_forms.proofs.PrenexLemmas.{prenex_formula}
 use Rattle.session_state.proofs.SoundLemmas.{AreSessionFormulas, resolved_formula, negated_formula}
 use Rattle.lines_read_back.specs.ReadBack.{IsBare, IsEcho, IsPrinted, PrintedIsFormula, IsAnsweredBy, EchoIsAnswered}
 use Rattle.lines_read_back.proofs.Answered.{text_is_answered}

@@ -38,30 +38,29 @@ use Rattle.session_state.specs.declared.state.SessionState.{SessionState}
 use Rattle.session_meaning.specs.State.{State}
 use Rattle.session_meaning.specs.Assumptions.{Hold, assumed}
 use Rattle.session_meaning.specs.Cases.{IsCaseOf, IsCaseAnswer}
-use Rattle.session_commands.specs.CaseSteps.{IsCaseLeft, AreWantedCases, CasesFault}
+use Rattle.shared_forms.specs.declared.error.FormsError.{FormsError}
+use Rattle.shared_forms.specs.declared.error.FormsError.TheVariants as forms
+use Rattle.shared_forms.specs.Faults.{CasesFault}
+use Rattle.shared_forms.specs.Cases.{IsCaseLeft, AreWantedCases}
 use Rattle.session_commands.specs.Causes.{IsCause, HasNoCauseBelow, IsAccepted, Refuses}
 use Rattle.session_meaning.specs.FormulaAnswers.{negated_of}
 use Rattle.session_commands.specs.Commands.{named}
 use Rattle.session_state.specs.Keeping.{state_of, IsSessionFormula, IsSound, IsSessionState}
 use Rattle.session_meaning.specs.Reply.{IsLine}
 use Rattle.session_commands.specs.Reply.{AnswersCommand}
-use Rattle.session_commands.specs.Steps.{use_of, HasNumbers, IsReadable, ArePartsNumbered, ArePartsReadable, ArePartsUnread, LineFault}
+use Rattle.session_commands.specs.Steps.{forms_refusal, use_of, HasNumbers, IsReadable, ArePartsNumbered, ArePartsReadable, ArePartsUnread, LineFault}
 use Rattle.session_state.specs.Growth.{KeepsState}
 use Rattle.session_commands.proofs.AssumptionLemmas.{assumed_hold}
 use Rattle.session_commands.proofs.CauseLemmas.{IsPlainCommand, unread_refuses, readable_below, below_17, below_18, below_19}
-use Rattle.session_commands.proofs.CaseLemmas.{IsReferenceCase, IsWritable, exact_here, reference_known, left_each, left_true, left_no_longer, left_writable, items_within, turned_says, turned_along}
+use Rattle.shared_forms.proofs.CaseLemmas.{err_map, IsReferenceCase, IsWritable, exact_here, reference_known, left_each, left_true, left_no_longer, left_writable, items_within, turned_says, turned_along}
 use Rattle.session_state.proofs.StateLemmas.{state_parts, same_state, same_session, length_grows, sound_with}
-use Rattle.session_commands.proofs.EliminatedLemmas.{plain_free, orderly_members}
+use Rattle.shared_forms.proofs.EliminatedLemmas.{plain_free, orderly_members}
 use Rattle.session_commands.proofs.GivenLemmas.{numbers_of, readable_formula, assumed_normal}
 use Rattle.session_commands.proofs.PartLemmas.{first_part}
 use Rattle.session_commands.proofs.TruthLemmas.{truth_as_written}
 use Rattle.session_state.proofs.VariableLemmas.{AllVariables, both, not_empty, variables_of_formula, variables_of_all, all_put_in}
 
 -- ---- results
-
-pub err_map : {T E : Type 0} {P Q : E → Type 0} (r : Result T E) → ((e : E) → P e → Q e) → IfErr r P → IfErr r Q
-err_map (Ok x) f h = tt
-err_map (Err e) f h = f e h
 
 pub on_ok : {T E : Type 0} {P : Type 0} (r : Result T E) → P → OnOk r P
 on_ok (Ok x) p = p
@@ -92,11 +91,10 @@ module _ (s : State) (f : FormulaTree) (gs : FormulaTrees) (numbers : ArePartsNu
     clear_19 : IsAccepted s limit (use_of None printed) command
     clear_19 = below_19 s limit (use_of None printed) command clear_18 (λ k. k.1.given)
 
-    pub cases_stopped : (e : StatementError) → CasesFault s.context limit (resolve s.context s.bound s.names f) e → Refuses s limit (use_of None printed) command e
-    cases_stopped error.Nodes k = record { applies = inr (inr k); first = clear_16 }
-    cases_stopped error.Overflow k = record { applies = inr (inr k); first = λ e l. clear_16 e (omega arith) }
-    cases_stopped error.Memory k = tt
-    cases_stopped _ k = absurd k
+    pub cases_stopped : (e : FormsError) → CasesFault s.context limit (resolve s.context s.bound s.names f) e → Refuses s limit (use_of None printed) command (forms_refusal e)
+    cases_stopped forms.Nodes k = record { applies = inr (inr k); first = clear_16 }
+    cases_stopped forms.Overflow k = record { applies = inr (inr k); first = λ e l. clear_16 e (omega arith) }
+    cases_stopped forms.Memory k = tt
 
     -- ---- the case list
 
@@ -179,10 +177,8 @@ module _ (old read : SessionState) (f : FormulaTree) (gs : FormulaTrees) (h : Is
     pub normal_there : Every (IsNormal (context_of read.context)) t
     normal_there = subst (λ c. Every (IsNormal c) t) (sym theory) (subst (Every (IsNormal s.context)) (sym same) own_formula.normal)
 
-    pub stopped_there : {T : Type 0} (r : Result T StatementError) (limit : ℕ) → IfErr r (CasesFault (context_of read.context) limit t)
-        → IfErr r (λ e. (printed : Bool) → Refuses s limit (use_of None printed) (Qea f gs) e)
-    stopped_there r limit k =
-        err_map r (λ e d printed. cases_stopped s f gs numbers limit printed readable e (subst (λ u. CasesFault s.context limit u e) same (subst (λ c. CasesFault c limit t e) theory d))) k
+    pub stopped_there : (limit : ℕ) (e : FormsError) → CasesFault (context_of read.context) limit t e → (printed : Bool) → Refuses s limit (use_of None printed) (Qea f gs) (forms_refusal e)
+    stopped_there limit e d printed = cases_stopped s f gs numbers limit printed readable e (subst (λ u. CasesFault s.context limit u e) same (subst (λ c. CasesFault c limit t e) theory d))
 
     module _ (ks : List Atom) (same_atoms : ks ≡ assumed s gs) where
       pub atoms_there : EachOf (IsNormal (context_of read.context)) ks

@@ -23,7 +23,11 @@ use Rattle.formula_meaning.specs.Some.{EachOf}
 use Rattle.formula_tree.specs.Resolving.{bound_truth, formula_variables, all_variables, resolve, at_names}
 use Rattle.qe_syntax.specs.Value as written
 use Rattle.redlog_printer.specs.Text.{tree_text}
-use Rattle.session_commands.specs.Steps.{IsWantedAnswer, static_refusal, HasUnwantedQuantifier, IsReady, IsUnready, IsCleanedAs, AppliesToPart, given_trees, command_of, use_of, IsFormulaAnswer, HasNumbers, IsReadable, ArePartsNumbered, ArePartsReadable, ArePartsUnread, IsWantedForm, IsPrenexAs, IsSimplifiedAs, PrenexFault, FormFault, MayBind, TargetFault, LineFault, state_with}
+use Rattle.session_commands.specs.Steps.{static_refusal, forms_refusal, form_of, HasUnwantedQuantifier, IsReady, IsUnready, AppliesToPart, given_trees, command_of, use_of, IsFormulaAnswer, HasNumbers, IsReadable, ArePartsNumbered, ArePartsReadable, ArePartsUnread, MayBind, TargetFault, LineFault, state_with}
+use Rattle.shared_forms.specs.Forms.{IsFormOf, IsSimplifiedAnswer, IsCleanedAs, IsPrenexAs, IsSimplifiedAs}
+use Rattle.shared_forms.specs.declared.error.FormsError.{FormsError}
+use Rattle.shared_forms.specs.declared.error.FormsError.TheVariants as forms
+use Rattle.shared_forms.specs.Faults.{PrenexFault, FormFault}
 use Rattle.formula_tree.specs.Names.{with_name}
 use Rattle.redlog_printer.specs.Writing.{text_limit}
 use Rattle.session_meaning.specs.declared.line.Line.{Line}
@@ -40,7 +44,7 @@ use Rattle.session_meaning.specs.Causes.{Use, HasNoRoom, IsTooLarge, HasManyNode
 use Rattle.session_commands.specs.Causes.{RenamingPasses, IsCause, rank, MayRefuse, HasNoCauseBelow, Refuses}
 use Rattle.session_state.specs.Keeping.{IsSessionFormula, IsSound}
 use Rattle.session_meaning.specs.Reply.{IsLine}
-use Rattle.session_commands.specs.declared.formulas.ClauseForm.TheVariants as clause_form
+use Rattle.shared_forms.specs.declared.forms.ClauseForm.TheVariants as clause_form
 use Rattle.formula_resolving.specs.declared.error.StaticError.{StaticError}
 use Rattle.formula_resolving.specs.declared.error.StaticError.TheVariants as static
 use Rattle.formula_resolving.specs.Refusals.{rank as static_rank}
@@ -51,11 +55,11 @@ use Rattle.session_commands.proofs.CauseLemmas.{IsPlainCommand, unread_refuses, 
 use Rattle.prenex_forms.proofs.Finished.{finished}
 use Rattle.session_state.proofs.NameLemmas.{kept_names}
 use Rattle.session_commands.proofs.NewNameLemmas.{answer_names_once}
-use Rattle.session_commands.proofs.PrenexLemmas.{prenex_form_members, prenex_formula}
+use Rattle.shared_forms.proofs.PrenexLemmas.{prenex_form_members, prenex_formula}
 use Rattle.session_commands.proofs.PartLemmas.{first_part}
 use Rattle.session_commands.proofs.AssumptionLemmas.{assumed_hold, each_both, alone_has}
 use Rattle.session_state.proofs.VariableLemmas.{not_empty}
-use Rattle.session_commands.proofs.EliminatedLemmas.{plain_free, answer_formula, orderly_members, orderly_every, simplified_formula, cleaned_formula}
+use Rattle.shared_forms.proofs.EliminatedLemmas.{plain_free, answer_formula, orderly_members, orderly_every, simplified_formula, cleaned_formula}
 use Rattle.session_state.proofs.SoundLemmas.{resolved_formula, negated_formula}
 use Rattle.session_commands.proofs.TruthLemmas.{truth_as_written}
 
@@ -200,7 +204,7 @@ module _ (f : FormulaTree) (s : State) (limit : ℕ) (t : Tree) where
   resolution = resolve s.context s.bound s.names f
 
   abbrev Given : FormCommand → Type 0
-  Given w = IsWantedForm s.context (length s.names) (assumed s (given_trees w)) limit w resolution t
+  Given w = IsFormOf s.context (length s.names) (assumed s (given_trees w)) limit (form_of w) resolution t
 
   -- no renamed atom passes the limit of numbers
   given_fits : (w : FormCommand) → Given w → ¬ (RenamingPasses s limit (command_of w f))
@@ -282,7 +286,7 @@ module _ (f : FormulaTree) (s : State) (limit : ℕ) (t : Tree) where
           fits = h.fits;
         }
 
-    condition : IsWantedAnswer s.context (assumed s gs) limit resolution t → IsCondition s limit f gs t
+    condition : IsSimplifiedAnswer s.context (assumed s gs) limit resolution t → IsCondition s limit f gs t
     condition h =
         let exact = h.eliminated.exact in
         let small = h.eliminated.small in
@@ -347,7 +351,7 @@ module _ (f : FormulaTree) (s : State) (limit : ℕ) (t : Tree) where
   no_room w u k = inl (inl k)
 
 module _ (w : FormCommand) (f : FormulaTree) (s : State) (numbers : ArePartsNumbered s.names f (given_trees w)) (limit : ℕ) (target : Option (List ℕ)) (printed : Bool) (t : Tree)
-    (given : IsWantedForm s.context (length s.names) (assumed s (given_trees w)) limit w (resolve s.context s.bound s.names f) t) (h : IsReady s w f) where
+    (given : IsFormOf s.context (length s.names) (assumed s (given_trees w)) limit (form_of w) (resolve s.context s.bound s.names f) t) (h : IsReady s w f) where
   clear : HasNoCauseBelow s limit (use_of target printed) (command_of w f) 16
   clear = clear_16 w f s numbers limit target printed h (given_fits f s limit t w given)
 
@@ -404,7 +408,7 @@ assumed_normal s sound f (also g gs) numbers readable proper =
 same_names : (s : State) (t : Tree) (names : List (List ℕ)) → names ≡ s.names → IsSessionFormula s.context (length s.names) t → IsSessionFormula s.context (length names) t
 same_names s t names e h = subst (λ ns. IsSessionFormula s.context (length ns) t) (sym e) h
 
-pub given_formula : (w : FormCommand) (f : FormulaTree) (s : State) (limit : ℕ) (t : Tree) (names : List (List ℕ)) → IsWantedForm s.context (length s.names) (assumed s (given_trees w)) limit w (resolve s.context s.bound s.names f) t
+pub given_formula : (w : FormCommand) (f : FormulaTree) (s : State) (limit : ℕ) (t : Tree) (names : List (List ℕ)) → IsFormOf s.context (length s.names) (assumed s (given_trees w)) limit (form_of w) (resolve s.context s.bound s.names f) t
     → HasAnswerNames s (command_of w f) names → IsSessionFormula s.context (length s.names) (resolve s.context s.bound s.names f) → IsSessionFormula s.context (length names) t
 given_formula wanted.Resolved f s limit t names given named own = same_names s t names named (subst (IsSessionFormula s.context (length s.names)) (sym given) own)
 given_formula wanted.NegationNormal f s limit t names given named own = same_names s t names named (subst (IsSessionFormula s.context (length s.names)) (sym given) (negated_formula s.context (length s.names) _ own))
@@ -438,6 +442,10 @@ refused_unready w f s numbers limit target printed error.Nodes h = unread_early 
 refused_unready w f s numbers limit target printed error.Bindings h = unread_early w f s numbers limit target printed error.Bindings (λ e. absurd (cc (e))) h
 refused_unready w f s numbers limit target printed error.Text h = unread_early w f s numbers limit target printed error.Text (λ e. absurd (cc (e))) h
 
+-- the limit that is given is the one that is passed
+past_one : (limit count : ℕ) → (n : ℕ) × (Some limit ≡ Some n) × (n < count) → limit < count
+past_one limit count h = let e : limit ≡ h.0 = cc (h.1) in subst (λ n. n < count) (sym e) h.2
+
 -- the form is not made
 module _ (w : FormCommand) (f : FormulaTree) (s : State) (numbers : ArePartsNumbered s.names f (given_trees w)) (limit : ℕ) (target : Option (List ℕ)) (printed : Bool) (h : IsReady s w f) where
   first_16 : ¬ (RenamingPasses s limit (command_of w f)) → HasNoCauseBelow s limit (use_of target printed) (command_of w f) 16
@@ -448,37 +456,37 @@ module _ (w : FormCommand) (f : FormulaTree) (s : State) (numbers : ArePartsNumb
 
 -- a prenex form has too many nodes, or a number of a renamed atom passes the limit
 refused_prenex : (f : FormulaTree) (s : State) (numbers : ArePartsNumbered s.names f none) (limit : ℕ) (target : Option (List ℕ)) (printed : Bool) → IsReady s wanted.Prenex f
-    → (e : StatementError) → PrenexFault s.context (length s.names) limit (resolve s.context s.bound s.names f) e → Refuses s limit (use_of target printed) (Pnf f) e
-refused_prenex f s numbers limit target printed h error.Nodes k = record {
+    → (e : FormsError) → PrenexFault s.context (length s.names) limit (resolve s.context s.bound s.names f) e → Refuses s limit (use_of target printed) (Pnf f) (forms_refusal e)
+refused_prenex f s numbers limit target printed h forms.Nodes k = record {
   applies = inr (inl k);
   first = first_16 wanted.Prenex f s numbers limit target printed h (λ p. let few = p.0 in absurd (omega arith));
 }
-refused_prenex f s numbers limit target printed h error.Overflow k = record { applies = inl (inr (inr k)); first = first_15 wanted.Prenex f s numbers limit target printed h }
-refused_prenex f s numbers limit target printed h error.Memory k = tt
-refused_prenex f s numbers limit target printed h _ k = absurd k
+refused_prenex f s numbers limit target printed h forms.Overflow k = record { applies = inl (inr (inr k)); first = first_15 wanted.Prenex f s numbers limit target printed h }
+refused_prenex f s numbers limit target printed h forms.Memory k = tt
 
 pub refused_form : (w : FormCommand) (f : FormulaTree) (s : State) (numbers : ArePartsNumbered s.names f (given_trees w)) (limit : ℕ) (target : Option (List ℕ)) (printed : Bool) → IsReady s w f
-    → (e : StatementError) → FormFault s.context (length s.names) limit w (resolve s.context s.bound s.names f) e → Refuses s limit (use_of target printed) (command_of w f) e
-refused_form wanted.NegationNormal f s numbers limit target printed h error.Nodes k = record { applies = inl (tt, k); first = first_16 wanted.NegationNormal f s numbers limit target printed h (λ p. p) }
+    → (e : FormsError) → FormFault s.context (length s.names) limit (form_of w) (resolve s.context s.bound s.names f) e → Refuses s limit (use_of target printed) (command_of w f) (forms_refusal e)
 refused_form wanted.Prenex f s numbers limit target printed h e k = refused_prenex f s numbers limit target printed h e k
-refused_form (wanted.Distributed clause_form.Disjunctive) f s numbers limit target printed h error.Nodes k = record {
+refused_form wanted.Resolved f s numbers limit target printed h forms.Overflow k = absurd k
+refused_form wanted.Resolved f s numbers limit target printed h forms.Nodes k = absurd k
+refused_form wanted.Resolved f s numbers limit target printed h forms.Memory k = tt
+refused_form wanted.NegationNormal f s numbers limit target printed h forms.Overflow k = absurd k
+refused_form wanted.NegationNormal f s numbers limit target printed h forms.Nodes k =
+    record { applies = inl (tt, past_one limit _ k); first = first_16 wanted.NegationNormal f s numbers limit target printed h (λ p. p) }
+refused_form wanted.NegationNormal f s numbers limit target printed h forms.Memory k = tt
+refused_form (wanted.Distributed clauses) f s numbers limit target printed h forms.Overflow k = absurd k
+refused_form (wanted.Distributed clause_form.Disjunctive) f s numbers limit target printed h forms.Nodes k = record {
   applies = inr (inl k);
   first = first_16 (wanted.Distributed clause_form.Disjunctive) f s numbers limit target printed h (λ p. p);
 }
-refused_form (wanted.Distributed clause_form.Conjunctive) f s numbers limit target printed h error.Nodes k = record {
+refused_form (wanted.Distributed clause_form.Conjunctive) f s numbers limit target printed h forms.Nodes k = record {
   applies = inr (inl k);
   first = first_16 (wanted.Distributed clause_form.Conjunctive) f s numbers limit target printed h (λ p. p);
 }
-refused_form (wanted.Simplified g) f s numbers limit target printed h error.Nodes k = record { applies = inr (inl k); first = first_16 (wanted.Simplified g) f s numbers limit target printed h (λ p. p) }
-refused_form (wanted.Eliminated g) f s numbers limit target printed h error.Nodes k = record { applies = inr (inr k); first = first_16 (wanted.Eliminated g) f s numbers limit target printed h (λ p. p) }
-refused_form (wanted.Eliminated g) f s numbers limit target printed h error.Overflow k = record { applies = inr (inr k); first = first_15 (wanted.Eliminated g) f s numbers limit target printed h }
-refused_form wanted.Resolved f s numbers limit target printed h error.Memory k = tt
-refused_form wanted.NegationNormal f s numbers limit target printed h error.Memory k = tt
-refused_form (wanted.Distributed clause_form) f s numbers limit target printed h error.Memory k = tt
-refused_form (wanted.Simplified g) f s numbers limit target printed h error.Memory k = tt
-refused_form (wanted.Eliminated g) f s numbers limit target printed h error.Memory k = tt
-refused_form wanted.Resolved f s numbers limit target printed h _ k = absurd k
-refused_form wanted.NegationNormal f s numbers limit target printed h _ k = absurd k
-refused_form (wanted.Distributed clause_form) f s numbers limit target printed h _ k = absurd k
-refused_form (wanted.Simplified g) f s numbers limit target printed h _ k = absurd k
-refused_form (wanted.Eliminated g) f s numbers limit target printed h _ k = absurd k
+refused_form (wanted.Distributed clauses) f s numbers limit target printed h forms.Memory k = tt
+refused_form (wanted.Simplified g) f s numbers limit target printed h forms.Overflow k = absurd k
+refused_form (wanted.Simplified g) f s numbers limit target printed h forms.Nodes k = record { applies = inr (inl k); first = first_16 (wanted.Simplified g) f s numbers limit target printed h (λ p. p) }
+refused_form (wanted.Simplified g) f s numbers limit target printed h forms.Memory k = tt
+refused_form (wanted.Eliminated g) f s numbers limit target printed h forms.Overflow k = record { applies = inr (inr k); first = first_15 (wanted.Eliminated g) f s numbers limit target printed h }
+refused_form (wanted.Eliminated g) f s numbers limit target printed h forms.Nodes k = record { applies = inr (inr k); first = first_16 (wanted.Eliminated g) f s numbers limit target printed h (λ p. p) }
+refused_form (wanted.Eliminated g) f s numbers limit target printed h forms.Memory k = tt

@@ -37,7 +37,10 @@ use Rattle.session_commands.specs.Commands.{named}
 use Rattle.session_commands.specs.Causes.{Refuses}
 use Rattle.session_state.specs.Keeping.{state_of, IsSessionFormula, IsSound, IsSessionState}
 use Rattle.session_meaning.specs.Assumptions.{assumed}
-use Rattle.session_commands.specs.Steps.{HasNumbers, IsReadable, ArePartsNumbered, IsDistributed, HasUnwantedQuantifier, IsReady, IsUnready, given_trees, command_of, use_of, IsFormulaAnswer, IsWantedForm, IsWantedOf, HasFormNames, FormFault, MayBind, TargetFault, IsLineOf, GiveFault, state_with, bound_after}
+use Rattle.session_commands.specs.Steps.{forms_refusal, form_of, HasNumbers, IsReadable, ArePartsNumbered, HasUnwantedQuantifier, IsReady, IsUnready, given_trees, command_of, use_of, IsFormulaAnswer, IsWantedOf, MayBind, TargetFault, IsLineOf, GiveFault, state_with, bound_after}
+use Rattle.shared_forms.specs.declared.error.FormsError.{FormsError}
+use Rattle.shared_forms.specs.Forms.{IsDistributed, IsFormOf, HasFormNames}
+use Rattle.shared_forms.specs.Faults.{FormFault}
 use Rattle.session_state.specs.Growth.{KeepsState, GrowsState}
 use Rattle.session_state.proofs.BindingLemmas.{bind_trees, bind_ids, bind_distinct, bound_there}
 use Rattle.session_state.proofs.StateLemmas.{state_parts, grown_state, grown_session, sound_with, length_grows}
@@ -65,11 +68,11 @@ pub proper_items : (gs : List Formula) → AreWritableFormulas (formulas_of (map
 proper_items [] h = tt
 proper_items (g ∷ gs) h = (h.0, proper_items gs h.1)
 
-free_here : (s : State) (f : FormulaTree) (w : FormCommand) → IsDistributed w → ¬ (HasUnwantedQuantifier s w f) → ¬ (IsQuantified s.bound f)
+free_here : (s : State) (f : FormulaTree) (w : FormCommand) → IsDistributed (form_of w) → ¬ (HasUnwantedQuantifier s w f) → ¬ (IsQuantified s.bound f)
 free_here s f wanted.Resolved d h = absurd d
 free_here s f wanted.NegationNormal d h = absurd d
 free_here s f wanted.Prenex d h = absurd d
-free_here s f (wanted.Distributed clause_form) d h = h
+free_here s f (wanted.Distributed clauses) d h = h
 free_here s f (wanted.Simplified given) d h = absurd d
 free_here s f (wanted.Eliminated given) d h = absurd d
 
@@ -107,11 +110,12 @@ module _ (w : FormCommand) (f : FormulaTree) (state : SessionState) (numbers : A
     theory : context_of read.context ≡ (state_of state).context
     theory = ap context_of kept.context
 
-    pub form_refused : (limit : ℕ) (e : StatementError) → FormFault (context_of read.context) (length read.names) limit w t e → (target : Option (List ℕ)) (printed : Bool) → Refuses (state_of state) limit (use_of target printed) (command_of w f) e
+    pub form_refused : (limit : ℕ) (e : FormsError) → FormFault (context_of read.context) (length read.names) limit (form_of w) t e → (target : Option (List ℕ)) (printed : Bool)
+        → Refuses (state_of state) limit (use_of target printed) (command_of w f) (forms_refusal e)
     form_refused limit e fault target printed =
         refused_form w f (state_of state) numbers limit target printed ready e
-        (subst (λ u. FormFault (state_of state).context (length state.names) limit w u e) same
-        (subst (λ c. FormFault c (length state.names) limit w t e) theory (subst (λ ns. FormFault (context_of read.context) (length ns) limit w t e) kept.names fault)))
+        (subst (λ u. FormFault (state_of state).context (length state.names) limit (form_of w) u e) same
+        (subst (λ c. FormFault c (length state.names) limit (form_of w) t e) theory (subst (λ ns. FormFault (context_of read.context) (length ns) limit (form_of w) t e) kept.names fault)))
 
     pub read_normal : Every (IsNormal (context_of read.context)) t
     read_normal = subst (λ c. Every (IsNormal c) t) (sym theory) (subst (Every (IsNormal (state_of state).context)) (sym same) (own ready).normal)
@@ -122,7 +126,7 @@ module _ (w : FormCommand) (f : FormulaTree) (state : SessionState) (numbers : A
     pub read_within : IsTreeWithin (length read.names) t
     read_within = subst (λ ns. IsTreeWithin (length ns) t) (sym kept.names) (subst (IsTreeWithin (length state.names)) (sym same) (own ready).within)
 
-    pub read_free : IsDistributed w → IsQuantifierFree t
+    pub read_free : IsDistributed (form_of w) → IsQuantifierFree t
     read_free d = subst (λ (u : Tree). IsQuantifierFree u) (sym same) (resolved_free (state_of state).context (state_of state).bound state.names f (free_here (state_of state) f w d ready.plain))
 
     pub read_atoms : AreWritableFormulas (given_trees w) → EachOf (IsNormal (context_of read.context)) ks
@@ -130,19 +134,19 @@ module _ (w : FormCommand) (f : FormulaTree) (state : SessionState) (numbers : A
         subst (λ c. EachOf (IsNormal c) ks) (sym theory)
         (subst (EachOf (IsNormal (state_of state).context)) (sym same_atoms) (assumed_normal (state_of state) h.sound f (given_trees w) numbers ready.readable given))
 
-    form_there : (limit : ℕ) (u : Tree) → IsWantedForm (context_of read.context) (length read.names) ks limit w t u
-        → IsWantedForm (state_of state).context (length state.names) (assumed (state_of state) (given_trees w)) limit w resolution u
+    form_there : (limit : ℕ) (u : Tree) → IsFormOf (context_of read.context) (length read.names) ks limit (form_of w) t u
+        → IsFormOf (state_of state).context (length state.names) (assumed (state_of state) (given_trees w)) limit (form_of w) resolution u
     form_there limit u form =
-        subst (λ ls. IsWantedForm (state_of state).context (length state.names) ls limit w resolution u) same_atoms
-        (subst (λ v. IsWantedForm (state_of state).context (length state.names) ks limit w v u) same
-        (subst (λ c. IsWantedForm c (length state.names) ks limit w t u) theory (subst (λ ns. IsWantedForm (context_of read.context) (length ns) ks limit w t u) kept.names form)))
+        subst (λ ls. IsFormOf (state_of state).context (length state.names) ls limit (form_of w) resolution u) same_atoms
+        (subst (λ v. IsFormOf (state_of state).context (length state.names) ks limit (form_of w) v u) same
+        (subst (λ c. IsFormOf c (length state.names) ks limit (form_of w) t u) theory (subst (λ ns. IsFormOf (context_of read.context) (length ns) ks limit (form_of w) t u) kept.names form)))
 
-    pub form_wanted : (limit : ℕ) (u : Tree) (after : List (List ℕ)) → IsWantedForm (context_of read.context) (length read.names) ks limit w t u → HasFormNames w read.names t after
+    pub form_wanted : (limit : ℕ) (u : Tree) (after : List (List ℕ)) → IsFormOf (context_of read.context) (length read.names) ks limit (form_of w) t u → HasFormNames (form_of w) read.names t after
         → IsWantedOf (state_of state) limit w f u after
     form_wanted limit u after form more = record {
       ready = ready;
       form = form_there limit u form;
-      names = form_names w f (state_of state) after (subst (λ v. HasFormNames w state.names v after) same (subst (λ ns. HasFormNames w ns t after) kept.names more));
+      names = form_names w f (state_of state) after (subst (λ v. HasFormNames (form_of w) state.names v after) same (subst (λ ns. HasFormNames (form_of w) ns t after) kept.names more));
     }
 
   -- ---- the line of the wanted formula, which is bound

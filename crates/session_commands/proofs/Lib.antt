@@ -1,11 +1,9 @@
 pub mod PartLemmas
 pub mod EntryLemmas
-pub mod EliminatedLemmas
 pub mod CauseLemmas
 pub mod AssumptionLemmas
 pub mod GivenLemmas
 pub mod GivenSteps
-pub mod CaseLemmas
 pub mod CaseSteps
 pub mod AnswerLemmas
 pub mod AskedLemmas
@@ -17,6 +15,5 @@ pub mod SampleLemmas
 pub mod ShortSamples
 pub mod SampleSteps
 pub mod NewNameLemmas
-pub mod PrenexLemmas
 pub mod Agreement
 pub mod Accepted

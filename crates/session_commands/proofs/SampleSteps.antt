@@ -56,7 +56,7 @@ use Rattle.session_commands.specs.SampleSteps.{RefusesSample, SampleStop, IsSamp
 use Rattle.session_commands.specs.Steps.{use_of, measured_refusal, HasNumbers}
 use Rattle.session_state.specs.Growth.{KeepsState}
 use Rattle.session_commands.proofs.AskedSteps.{theory, asked_normal, named_session, start}
-use Rattle.session_commands.proofs.CaseSteps.{err_map}
+use Rattle.shared_forms.proofs.CaseLemmas.{err_map}
 use Rattle.session_commands.proofs.GivenLemmas.{readable_formula}
 use Rattle.session_commands.proofs.SampleLemmas.{sample_stops, sample_is, sample_within}
 use Rattle.session_commands.proofs.ShortSamples.{sample_short}

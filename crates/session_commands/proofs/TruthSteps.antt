@@ -33,7 +33,8 @@ use Rattle.session_commands.specs.Steps.{use_of, HasNumbers}
 use Rattle.session_state.specs.Growth.{KeepsState}
 use Rattle.session_commands.specs.Truths.{RefusesTruth, ValueStop, EliminationStop}
 use Rattle.session_commands.proofs.AskedSteps.{same, theory, asked_normal, named_session, start}
-use Rattle.session_commands.proofs.CaseSteps.{err_map, on_ok}
+use Rattle.shared_forms.proofs.CaseLemmas.{err_map}
+use Rattle.session_commands.proofs.CaseSteps.{on_ok}
 use Rattle.session_commands.proofs.PointLemmas.{resolved_free, whole_where_asked}
 use Rattle.session_commands.proofs.TruthLemmas.{truth_passes, elimination_stops, is_truth, told_in}
 

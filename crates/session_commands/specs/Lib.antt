@@ -6,7 +6,6 @@ pub mod Accepted
 pub mod Agreement
 pub mod Seen
 pub mod Steps
-pub mod CaseSteps
 pub mod Asked
 pub mod Truths
 pub mod SampleSteps

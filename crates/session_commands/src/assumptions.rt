@@ -24,14 +24,8 @@ use formula_tree::{Bindings, Names, Shape};
 use qe_syntax::Formula;
 use session_meaning::StatementError;
 use session_state::SessionState;
+use shared_forms::Premised;
 use std::alloc::AllocError;
-
-/// What is read of a command: its formula, and the atoms that its assumptions are.
-#[derive(Drop)]
-pub(crate) struct Premised {
-    pub(crate) formula: FormulaId,
-    pub(crate) atoms: Vec<Atom>,
-}
 
 /// Numbers the variables of the formula and of its assumptions, in the order of the text. After an `Err` the names may have
 /// grown.

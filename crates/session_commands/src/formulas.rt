@@ -21,11 +21,10 @@ ghost use Rattle.session_meaning.specs.Causes.{formula_line, HasNoRoom};
 ghost use Rattle.session_commands.specs.Causes.{Refuses};
 ghost use Rattle.session_state.specs.Keeping.{state_of, IsSessionState};
 ghost use Rattle.session_meaning.specs.Reply.{IsLine};
-ghost use Rattle.session_commands.specs.Steps.{static_refusal as refusal_of_static, HasUnwantedQuantifier, ArePartsNumbered, IsReady, IsUnready, given_trees, command_of, use_of, IsFormulaAnswer, IsWantedOf, HasNumbers, IsUnread, IsReadable, MayBind, TargetFault, LineFault, IsLineOf, GiveFault, bound_after};
+ghost use Rattle.session_commands.specs.Steps.{static_refusal as refusal_of_static, forms_refusal as refusal_of_forms, form_of, HasUnwantedQuantifier, ArePartsNumbered, IsReady, IsUnready, given_trees, command_of, use_of, IsFormulaAnswer, IsWantedOf, HasNumbers, IsUnread, IsReadable, MayBind, TargetFault, LineFault, IsLineOf, GiveFault, bound_after};
 ghost use Rattle.session_state.specs.Growth.{KeepsState, GrowsState};
 
-use crate::assumptions::{Premised, number_parts, read_parts};
-use crate::forms::formed;
+use crate::assumptions::{number_parts, read_parts};
 use crate::lines::text_of;
 use formula_resolving::{StaticError, linearise};
 use formula_store::FormulaId;
@@ -35,17 +34,11 @@ use qe_syntax::{Command, Formula, Formulas, Name};
 use redlog_printer::TEXT_LIMIT;
 use session_meaning::{Line, MOST_SUBFORMULAS, StatementError};
 use session_state::SessionState;
+use shared_forms::{ClauseForm, Form, FormsError, Premised, formed};
 use std::alloc::Global;
 
 /// At most so many names are bound.
 const MOST_BOUND: usize = 256;
-
-/// Which clean form is wanted.
-#[derive(Clone, Copy, Debug, PartialEq, Eq)]
-pub(crate) enum ClauseForm {
-    Disjunctive,
-    Conjunctive,
-}
 
 /// The formula that a command gives: as it is, its negation normal form, its prenex form, a clean form, one that is simplified
 /// under assumptions, or one without quantifiers, simplified under assumptions.
@@ -60,6 +53,20 @@ pub(crate) enum FormCommand<'a> {
 }
 
 impl<'a> FormCommand<'a> {
+    /// The form that is wanted.
+    fn form(self) -> Form
+        ensures { result ≡ form_of self.entry }
+    {
+        match self {
+            FormCommand::Resolved => Form::AsRead,
+            FormCommand::NegationNormal => Form::NegationNormal,
+            FormCommand::Prenex => Form::Prenex,
+            FormCommand::Distributed(clauses) => Form::Distributed(clauses),
+            FormCommand::Simplified(_) => Form::Simplified,
+            FormCommand::Eliminated(_) => Form::Eliminated,
+        }
+    }
+
     /// The assumptions.
     fn assumptions(self) -> &'a [Formula]
         ensures { formulas_of (map formula_tree result.now) ≡ given_trees self.entry }
@@ -131,7 +138,30 @@ fn wanted_formula(
     ensures grown { GrowsState state.old state.new }
 {
     let read = read_wanted(state, wanted, formula)?;
-    formed(state, limit, wanted, &read)
+    let form = wanted.form();
+    match formed(
+        state.alloc,
+        &mut state.store,
+        &mut state.names,
+        state.context,
+        limit,
+        form,
+        &read,
+    ) {
+        Ok(id) => Ok(id),
+        Err(error) => Err(forms_refusal(error)),
+    }
+}
+
+/// A refusal of a form that is not made.
+pub(crate) fn forms_refusal(error: FormsError) -> StatementError
+    ensures { result ≡ refusal_of_forms error }
+{
+    match error {
+        FormsError::Overflow => StatementError::Overflow,
+        FormsError::Nodes => StatementError::Nodes,
+        FormsError::Memory => StatementError::Memory,
+    }
 }
 
 /// Binds the formula to the name, if there is one, and gives its line, if it is printed. An `Err` leaves all as it was.

@@ -27,8 +27,7 @@ ghost use Rattle.session_state.specs.Growth.{KeepsState, GrowsState};
 ghost use Rattle.session_commands.specs.Truths.{RefusesTruth, ValueStop, EliminationStop};
 ghost use Rattle.session_meaning.specs.Words.{truth_text};
 
-use crate::forms::measured_refusal;
-use crate::lines::printed_line;
+use crate::lines::{measured_refusal, printed_line};
 use crate::points::{asked, number_command, values_of};
 use formula_store::{EvalStop, FormulaId};
 use free_names::is_quantified;

@@ -3,7 +3,6 @@
 
 mod assumptions;
 mod cases;
-mod forms;
 mod formulas;
 mod holds;
 mod laws;

@@ -7,9 +7,10 @@ ghost use Rattle.formula_store.specs.Nodes.{tree, IsId};
 ghost use Rattle.redlog_printer.specs.Text.{tree_text};
 ghost use Rattle.redlog_printer.specs.Writing.{text_limit};
 ghost use Rattle.session_meaning.specs.Reply.{IsLine};
-ghost use Rattle.session_commands.specs.Steps.{print_refusal as refusal_of_print};
+ghost use Rattle.session_commands.specs.Steps.{print_refusal as refusal_of_print, measured_refusal as refusal_of_measured};
 
 use formula_store::FormulaId;
+use plain_engine::Measured;
 use redlog_printer::PrintError;
 use session_meaning::{Line, StatementError};
 use session_state::SessionState;
@@ -42,6 +43,17 @@ pub(crate) fn print_refusal(error: PrintError) -> StatementError
     match error {
         PrintError::Text => StatementError::Text,
         PrintError::Memory => StatementError::Memory,
+    }
+}
+
+/// A refusal of an elimination.
+pub(crate) fn measured_refusal(error: Measured) -> StatementError
+    ensures { result ≡ refusal_of_measured error }
+{
+    match error {
+        Measured::Overflow => StatementError::Overflow,
+        Measured::Nodes => StatementError::Nodes,
+        Measured::Memory => StatementError::Memory,
     }
 }
 

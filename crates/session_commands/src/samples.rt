@@ -30,8 +30,7 @@ ghost use Rattle.session_commands.specs.SampleSteps.{RefusesSample, SampleStop, 
 ghost use Rattle.session_commands.specs.Steps.{use_of, HasNumbers};
 ghost use Rattle.session_state.specs.Growth.{KeepsState, GrowsState};
 
-use crate::forms::measured_refusal;
-use crate::lines::printed_line;
+use crate::lines::{measured_refusal, printed_line};
 use crate::points::{asked, number_command, values_of};
 use answer_texts::point_text;
 use exact_numbers::Fraction;

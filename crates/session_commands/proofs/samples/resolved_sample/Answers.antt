@@ -16,7 +16,7 @@ use Rattle.formula_tree.specs.Resolving.{at_names}
 use Rattle.formula_tree.specs.Trees.{tree_of}
 use Rattle.formula_store.specs.Nodes.{tree}
 use Rattle.session_commands.specs.SampleSteps.{SampleStop}
-use Rattle.session_commands.proofs.CaseSteps.{err_map}
+use Rattle.shared_forms.proofs.CaseLemmas.{err_map}
 use Rattle.session_commands.proofs.PointLemmas.{same_point}
 use Rattle.session_commands.proofs.SampleSteps.{true_along, stop_along}
 use Rattle.session_commands.proofs.samples.resolved_sample.Goals as goal
