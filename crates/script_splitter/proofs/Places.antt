@@ -1,5 +1,7 @@
 -- Where the next piece begins and ends, by the bytes alone.
-use Rattle.std.proofs.Common.{◌≡◌, ℕ, ◌+◌, ◌<◌, ◌≤◌, true, false, List, [], ◌∷◌, length, drop, sym, refl, ◌∙◌, subst, arith, length-drop}
+use Rattle.std.proofs.Common.{◌≡◌, ℕ, ◌+◌, ◌<◌, ◌≤◌, true, false, List, [], ◌∷◌, length, drop, sym, refl, ◌∙◌, subst, inl, inr, arith, length-drop}
+use Rattle.std.proofs.Math.Nat.{eq-or-lt_of_le}
+use Rattle.std.specs.Prelude.{◌⊎◌}
 use Rattle.redlog_tokens.specs.declared.lexer.Lexeme.{Lexeme}
 use Rattle.redlog_tokens.specs.Lexing.{Lexes, over, spaced, taken}
 use Rattle.redlog_tokens.specs.Pieces.{Cuts, last, marked, inside, HasNoTokenFrom, IsPiece}
@@ -73,6 +75,16 @@ place script from start end within p =
       marked = ends.marked;
       unmarked = λ e. let k = ends.unmarked e in omega (arith, k, within, length-drop from script);
     }
+
+within_by : (script : List ℕ) (from start end : ℕ) → from ≤ length script → IsPlace script from start end
+    → (span Inside false (drop from script) ≡ length (drop from script)) ⊎ (span Inside false (drop from script) < length (drop from script)) → end ≤ length script
+within_by script from start end within p (inl h) = omega (arith, p.unmarked h)
+within_by script from start end within p (inr h) = omega (arith, p.marked h, h, within, length-drop from script)
+
+-- a piece ends in the script
+pub piece_within : (script : List ℕ) (from start end : ℕ) → from ≤ length script → IsPiece script from start end → end ≤ length script
+piece_within script from start end within p =
+    within_by script from start end within (place script from start end within p) (eq-or-lt_of_le (span_within Inside false (drop from script)))
 
 pub no_token : (script : List ℕ) (from : ℕ) → HasNoTokenFrom script from → span Between false (drop from script) ≡ length (drop from script)
 no_token script from l = begins l

@@ -124,10 +124,11 @@ impl Splitter {
         Some(Cut { offset, bytes })
     }
 
-    /// Takes a buffer back, so that the next piece needs none of its own.
-    pub fn reuse(&mut self, mut buffer: Vec<u8>)
+    /// Takes the buffer of a cut back, so that the next piece needs none of its own. It takes no memory.
+    pub fn reuse(&mut self, cut: Cut)
         ensures { self.new ≡ self.old }
     {
+        let Some(mut buffer) = cut.bytes else { return };
         if self.bytes.is_empty() {
             buffer.clear();
             self.bytes = buffer;
