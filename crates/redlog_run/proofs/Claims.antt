@@ -22,7 +22,7 @@ use Rattle.redlog_run.specs.Claim.{Claim, ClaimUnder}
 use Rattle.redlog_run.specs.Ends.{Ends, ends, HasFailed, TookFront}
 use Rattle.redlog_run.specs.Outcome.{script_limit, read_size, node_limit, Given, IsWhole, Answered, OutcomeOfSource, outcome_of, completes_of, Faults}
 use Rattle.redlog_run.specs.Run.{RunOf, begin, RunsSo, RunsAll, IsEndedWith}
-use Rattle.redlog_run.specs.Script.{Stands, IsWritten, Front, EndsIn, Answers, AnswersLast, AnswerCause, stream_status}
+use Rattle.redlog_run.specs.Script.{IsWritten, Part, EndsIn, AnswersBytes, AnswersLast, AnswerCause, stream_status}
 use Rattle.redlog_run.specs.Steps.{ClaimOfSource, ClaimOfGenerated}
 use Rattle.redlog_run.proofs.Joined.{gave_none, took_none, gave_joined, still_at_end}
 use Rattle.redlog_run.proofs.Reaching.{too_long}
@@ -36,10 +36,6 @@ pub record Reading (limit : ℕ) (left later wrote after : Option (List ℕ)) (r
   pub gave : Gave left later given
   pub count : length given + room ≡ script_limit
   pub written : IsWritten limit given wrote after a
-
--- nothing was read
-pub reading_first : (limit : ℕ) (left wrote : Option (List ℕ)) (a : Answering) → Stands limit [] [] a → Reading limit left left wrote wrote script_limit a
-reading_first limit left wrote a h = record { given = []; gave = gave_none left; count = omega arith; written = record { lines = []; stands = h; took = took_none wrote } }
 
 -- a read gave bytes after others
 module _ (left mid later : Option (List ℕ)) (before read : List ℕ) (few : ℕ) (first : Gave left mid before) (next : Gave mid later read) where
@@ -92,7 +88,7 @@ some_ahead into room count few h less = omega (arith, less, length-drop few (tak
 
 -- the bytes of a read, of which these in front were taken
 module _ (before bytes rest : List ℕ) (left later : Option (List ℕ)) (reads counted : ℕ) (wrote after : Option (List ℕ)) (writes failed : ℕ) where
-  abbrev pub given_in : (p : Front bytes) → Gave left later (before ++ (bytes ++ rest)) → length (before ++ bytes) ≤ script_limit → length (bytes ++ rest) ≤ read_size → Given (ends left reads wrote writes) (ends later counted after failed)
+  abbrev pub given_in : (p : Part bytes) → Gave left later (before ++ (bytes ++ rest)) → length (before ++ bytes) ≤ script_limit → length (bytes ++ rest) ≤ read_size → Given (ends left reads wrote writes) (ends later counted after failed)
   given_in p gave within few =
       let parts : (before ++ p.front) ++ (p.rest ++ rest) ≡ before ++ (bytes ++ rest) =
       append_assoc before p.front (p.rest ++ rest) ∙ ap (λ xs. before ++ xs) (sym (append_assoc p.front p.rest rest) ∙ ap (λ xs. xs ++ rest) (sym p.whole)) in
@@ -106,7 +102,7 @@ module _ (before bytes rest : List ℕ) (left later : Option (List ℕ)) (reads 
       }
 
 -- all bytes are taken
-abbrev pub all_front : (bytes : List ℕ) → Front bytes
+abbrev pub all_front : (bytes : List ℕ) → Part bytes
 all_front bytes = record { front = bytes; rest = []; whole = sym (append-nil bytes) }
 
 module _ (limit : ℕ) (left later : Option (List ℕ)) (reads counted : ℕ) (wrote after : Option (List ℕ)) (writes failed : ℕ) where
@@ -183,7 +179,7 @@ module _ (limit : ℕ) (left later : Option (List ℕ)) (reads counted : ℕ) (w
         let given = given_in before bytes rest left later reads counted wrote after writes failed e.part gave within few in
         answered_claim refusal e.lines (record { given = given; answered = inr (e.ended.ends script_limit given.within) }) e.took r w
 
-    pub stopped_claim : (stop : AnswerStop) (a : Answering) → Answers limit before bytes wrote after a (Err stop) → AnswerCause writes failed stop
+    pub stopped_claim : (stop : AnswerStop) (a : Answering) → AnswersBytes limit before bytes wrote after a (Err stop) → AnswerCause writes failed stop
         → ClaimOfSource limit (ends left reads wrote writes) (ends later counted after failed) (stream_status (Err (streams.Answer stop)))
     stopped_claim answer.Memory a e w = memory_claim (given_in before bytes rest left later reads counted wrote after writes failed e.part gave within few) e.lines e.runs e.took r w
     stopped_claim answer.Write a e w = unwritten_claim (given_in before bytes rest left later reads counted wrote after writes failed e.part gave within few) e.lines (inl e.runs) e.took r w
@@ -265,15 +261,6 @@ claim_under words found before after s h c = record {
   faults = c.faults;
   outcome = for_each words found h (λ o. outcome_of (node_limit o) o.generate before after s) c.outcome;
   complete = λ sound. for_each words found h (λ o. completes_of (node_limit o) o.generate before s) (c.complete sound);
-}
-
-pub claim_usage : (words : List (String Global)) (e : Ends) → ¬ ((options : Options) × Spells words options) → Claim words e e status.Usage
-claim_usage words e none = record {
-  usage = (λ _. none, λ _. refl);
-  unused = λ _. refl;
-  faults = (refl, refl);
-  outcome = λ options k. absurd (none (options, k));
-  complete = λ sound options k. absurd (none (options, k));
 }
 
 unwritten : (limit : ℕ) (o : Option ℕ) (e : Ends) → outcome_of limit o e e status.Memory

@@ -1,5 +1,5 @@
 -- What stands after each step of a script that is answered while it is read.
-use Rattle.std.proofs.Common.{◌≡◌, ℕ, ◌+◌, ◌-◌, Bool, true, false, List, [], ◌++◌, length, take, drop, refl, sym, ap, ◌∙◌, subst, append-nil, append_assoc, arith, length-append, take-add, Option, None}
+use Rattle.std.proofs.Common.{◌≡◌, ℕ, ◌+◌, ◌-◌, Bool, true, false, List, [], ◌++◌, length, take, drop, refl, sym, ap, ◌∙◌, subst, append-nil, append_assoc, arith, take-add, Option, None}
 use Rattle.std.proofs.lemmas.List.{take-append-drop}
 use Rattle.std.specs.declared.alloc.Global.{Global}
 use Rattle.std.specs.declared.vec.Vec.{Vec}
@@ -17,7 +17,7 @@ use Rattle.redlog_run.specs.Lines.{refusal_line}
 use Rattle.redlog_run.specs.Run.{AnswersPiece, finished, RunOf, RunTo, begin, RunsTo, RunsSo, Adds}
 use Rattle.qe_io.specs.Streams.{Took}
 use Rattle.redlog_run.specs.Ends.{TookFront}
-use Rattle.redlog_run.specs.Script.{Stands, IsEnded, StandsOrEnds, IsWritten, Front, EndsIn, RunsOut, FailsIn}
+use Rattle.redlog_run.specs.Script.{Stands, IsEnded, StandsOrEnds, IsWritten, Part, EndsIn, RunsOut, FailsIn}
 use Rattle.redlog_run.proofs.Joined.{rest_whole, took_joined, front_after}
 use Rattle.redlog_run.proofs.Replies.{adds_refusal}
 use Rattle.redlog_run.proofs.Reaching.{runs_longer, runs_on, run_stops, run_whole, run_over}
@@ -57,16 +57,6 @@ none_held limit bytes lines a quiet h = subst (λ xs. Stands limit bytes xs a) (
 -- the lines of the pieces so far
 pub runs_so : (limit : ℕ) (bytes lines : List ℕ) (a : Answering) → Stands limit bytes lines a → RunsSo limit bytes lines
 runs_so limit bytes lines a h = record { to = h.to; within = h.follows.within; state = state_in a.session; refusal = a.answers.refused; runs = h.runs }
-
--- so they are where more bytes come, and where the pieces end the script
-pub so_longer : (limit : ℕ) (bytes more lines : List ℕ) → RunsSo limit bytes lines → RunsSo limit (bytes ++ more) lines
-so_longer limit bytes more lines r = record {
-  to = r.to;
-  within = omega (arith, r.within, length-append bytes more);
-  state = r.state;
-  refusal = r.refusal;
-  runs = runs_longer limit bytes more r.to r.state lines r.refusal r.runs;
-}
 
 -- lines in front of those that a piece adds to
 adds_after : (written : List ℕ) (s next : State) (limit : ℕ) (piece : List ℕ) (offset : ℕ) (b : Bool) (lines all : List ℕ) (refusal some : Bool) → Adds s limit piece offset b next lines refusal all some
@@ -155,7 +145,7 @@ ended_run limit script lines taken n refusal e =
     let h = subst (λ xs. IsEnded limit xs lines refusal) (taken_next script taken n) e in
     subst (λ xs. RunOf limit xs lines refusal) (take-append-drop (taken + n) script) ((h.ends (length (take (taken + n) script)) (omega arith)).answers (drop (taken + n) script))
 
-abbrev pub front_of : (bytes : List ℕ) (n : ℕ) → Front bytes
+abbrev pub front_of : (bytes : List ℕ) (n : ℕ) → Part bytes
 front_of bytes n = record { front = take n bytes; rest = drop n bytes; whole = sym (take-append-drop n bytes) }
 
 module _ (limit : ℕ) (before bytes : List ℕ) (taken n : ℕ) (first now : Option (List ℕ)) (a : Answering) (h : IsWritten limit (before ++ take taken bytes) first now a) where

@@ -37,38 +37,38 @@ pub record IsWritten (limit : ℕ) (bytes : List ℕ) (first now : Option (List 
   pub took : Took first now lines
 
 -- the bytes in front, up to some place
-pub record Front (bytes : List ℕ) : Type 0 where
+pub record Part (bytes : List ℕ) : Type 0 where
   pub front : List ℕ
   pub rest : List ℕ
   pub whole : bytes ≡ front ++ rest
 
 -- a statement ended the script within these bytes after others, and the lines were written
 pub record EndsIn (limit : ℕ) (before bytes : List ℕ) (first now : Option (List ℕ)) (refusal : Bool) : Type 0 where
-  pub part : Front bytes
+  pub part : Part bytes
   pub lines : List ℕ
   pub ended : IsEnded limit (before ++ part.front) lines refusal
   pub took : Took first now lines
 
 -- memory ran out, and the lines of the pieces up to some place were written
 pub record RunsOut (limit : ℕ) (before bytes : List ℕ) (first now : Option (List ℕ)) : Type 0 where
-  pub part : Front bytes
+  pub part : Part bytes
   pub lines : List ℕ
   pub runs : RunsSo limit (before ++ part.front) lines
   pub took : Took first now lines
 
 -- a write failed, and the lines of the pieces up to some place were written in front
 pub record FailsIn (limit : ℕ) (before bytes : List ℕ) (first now : Option (List ℕ)) : Type 0 where
-  pub part : Front bytes
+  pub part : Part bytes
   pub lines : List ℕ
   pub runs : RunsSo limit (before ++ part.front) lines
   pub took : TookFront first now lines
 
 -- what becomes of bytes that come after others: they end the script or do not
-abbrev pub Answers : ℕ → List ℕ → List ℕ → Option (List ℕ) → Option (List ℕ) → Answering → Result Bool AnswerStop → Type 0
-Answers limit before bytes first now a (Ok false) = IsWritten limit (before ++ bytes) first now a
-Answers limit before bytes first now a (Ok true) = EndsIn limit before bytes first now a.answers.refused
-Answers limit before bytes first now a (Err answer.Memory) = RunsOut limit before bytes first now
-Answers limit before bytes first now a (Err answer.Write) = FailsIn limit before bytes first now
+abbrev pub AnswersBytes : ℕ → List ℕ → List ℕ → Option (List ℕ) → Option (List ℕ) → Answering → Result Bool AnswerStop → Type 0
+AnswersBytes limit before bytes first now a (Ok false) = IsWritten limit (before ++ bytes) first now a
+AnswersBytes limit before bytes first now a (Ok true) = EndsIn limit before bytes first now a.answers.refused
+AnswersBytes limit before bytes first now a (Err answer.Memory) = RunsOut limit before bytes first now
+AnswersBytes limit before bytes first now a (Err answer.Write) = FailsIn limit before bytes first now
 
 -- what becomes of the last bytes of a script
 abbrev pub AnswersLast : ℕ → List ℕ → Option (List ℕ) → Option (List ℕ) → Result Bool AnswerStop → Type 0

@@ -1,6 +1,6 @@
 ghost use Rattle.std.specs.Prelude.{◌≡◌, ℕ, ◌+◌, ◌<◌, ◌^◌, List, [], false, length, Option, IfOk, IfErr, OnOk};
 ghost use Rattle.redlog_run.specs.Ends.{ends};
-ghost use Rattle.redlog_run.specs.Script.{IsWritten, Answers, AnswersLast, AnswerCause, stream_status};
+ghost use Rattle.redlog_run.specs.Script.{IsWritten, AnswersBytes, AnswersLast, AnswerCause, stream_status};
 ghost use Rattle.redlog_run.specs.Steps.{ClaimOfSource};
 
 use crate::answer::{Answering, answer_last, answer_next, begin};
@@ -73,7 +73,7 @@ fn answer_bytes<K: Sink>(
     requires few { answering.old.splitter.fed + length bytes.now < 2 ^ 64 }
     requires quiet { answering.old.answers.lines.items ≡ [] }
     ensures answers { (limit : ℕ) (before : List ℕ) (first : Option (List ℕ)) → IsWritten limit before first (K.wrote sink.old) answering.old
-        → Answers limit before bytes.now first (K.wrote sink.new) answering.new result }
+        → AnswersBytes limit before bytes.now first (K.wrote sink.new) answering.new result }
     ensures none { OnOk result (answering.new.splitter.whole ≡ false) }
     ensures count { IfOk result (λ ended. ended ≡ false → answering.new.splitter.fed ≡ answering.old.splitter.fed + length bytes.now) }
     ensures quiet { OnOk result (answering.new.answers.lines.items ≡ []) }

@@ -43,11 +43,6 @@ module _ (script : List ℕ) (from : ℕ) (within : from ≤ length script) wher
   pub none_begun : span Between false (drop from script) ≡ length (drop from script) → HasNoTokenFrom script from
   none_begun h = none_by (piece_or_none script from) h
 
--- ---- nothing fed
-
-pub nothing_fed : Follows [] 0 (record { bytes = []; fed = 0; start = 0; comment = false; whole = false })
-nothing_fed = record { count = refl; within = omega arith; comment = refl; mark = refl; start = refl; kept = record { within = λ h. refl; past = λ h. refl } }
-
 -- ---- fed
 
 -- so many bytes are taken, of which so many stand before the first end mark
@@ -112,9 +107,6 @@ not_whole : (w : Bool) (bytes : List ℕ) → w ≡ false → IsMarked bytes w �
 not_whole true bytes e h = absurd (cc)
 not_whole false bytes e h = h
 
-begun_or_not : (a b : ℕ) → a ≤ b → (a ≡ b) ⊎ (a < b)
-begun_or_not a b h = eq-or-lt_of_le h
-
 -- more bytes in the front of a text from a place on
 more_from : (fed front : List ℕ) (from : ℕ) → from ≤ length fed → drop from (fed ++ front) ≡ drop from fed ++ front
 more_from fed front from h = drop-append-le from fed front h
@@ -164,7 +156,7 @@ fed_follows fed bytes held from m n k s c w after quiet order spans is t blanks 
     let more : drop from (fed ++ front) ≡ begun_piece ++ front = more_from fed front from f.within in
     let rest : s.fed ≡ from + length begun_piece = omega (arith, f.count, f.within, length-drop from fed) in
     let inside = not_whole s.whole begun_piece quiet f.mark in
-    let begun = begun_or_not s.start s.fed order in
+    let begun = eq-or-lt_of_le order in
     let piece = drop s.start fed in
     let kept = keeps piece (omega (arith, f.count, order, length-drop s.start fed)) f.kept in
     record {
@@ -249,5 +241,5 @@ module _ (fed : List ℕ) (from : ℕ) (s : Held) (f : Follows fed from s) where
         let size = ap length longer ∙ length-append (drop from fed) (b ∷ more) in
         let all = length-append fed (b ∷ more) in
         ends_later (fed ++ b ∷ more) end x (length (b ∷ more)) spans size all (omega arith)
-        (begun_or_not x (length (b ∷ more)) (span_within Inside (comment_after false (drop from fed)) (b ∷ more))) start
+        (eq-or-lt_of_le (span_within Inside (comment_after false (drop from fed)) (b ∷ more))) start
         (place (fed ++ b ∷ more) from start end (omega (arith, f.within, all)) p)

@@ -88,9 +88,6 @@ pub one_more : (p : Passed) (c : Bool) (bs : List ℕ) (i : ℕ) → i < length 
 one_more p c bs i h e =
     ap (span p c) (drop-cons bs i 0 h) ∙ span_more p c (get_or bs i 0) (drop (suc i) bs) e ∙ ap (λ j. 1 + span p (commented c (get_or bs i 0)) (drop j bs)) (sym (add-one i))
 
-pub no_more : (p : Passed) (c : Bool) (bs : List ℕ) (i : ℕ) → i < length bs → passes p c (get_or bs i 0) ≡ false → span p c (drop i bs) ≡ 0
-no_more p c bs i h e = ap (span p c) (drop-cons bs i 0 h) ∙ span_stops p c (get_or bs i 0) (drop (suc i) bs) e
-
 comment_of_next : (c : Bool) (bs : List ℕ) (i : ℕ) → i < length bs → comment_after c (take (suc i) bs) ≡ commented (comment_after c (take i bs)) (get_or bs i 0)
 comment_of_next c [] i h = absurd (omega arith)
 comment_of_next c (b ∷ bs) zero h = refl

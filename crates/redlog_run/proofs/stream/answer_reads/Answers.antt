@@ -3,7 +3,7 @@ use Rattle.std.proofs.lemmas.Result.{err_from_is_err_and}
 use Rattle.qe_io.specs.Streams.{Gave, IsAtEnd, Rose}
 use Rattle.redlog_run.specs.declared.stop.StreamStop.TheVariants as streams
 use Rattle.redlog_run.specs.Ends.{ends}
-use Rattle.redlog_run.specs.Script.{Answers, AnswerCause, stream_status}
+use Rattle.redlog_run.specs.Script.{AnswersBytes, AnswerCause, stream_status}
 use Rattle.redlog_run.specs.Steps.{ClaimOfSource}
 use Rattle.redlog_run.proofs.Claims.{Reading, IsFew, length_few, gave_parts, gave_end, within_few, one_read_few, reading_more, full_few, some_ahead, unread_claim, whole_claim, last_claim, ended_claim, stopped_claim, past_claim}
 use Rattle.redlog_run.proofs.stream.answer_reads.Goals as goal
@@ -118,7 +118,7 @@ returns-then-branch g c =
     ended_claim c.args.nodes (source.left first) (source.left new) (source.faults first) (source.faults new) (sink.wrote c.args.sink.now) (sink.wrote now) (sink.faults c.args.sink.now) (sink.faults now)
     inv.reading.given (take few (take count into)) (drop few (take count into)) (gave_parts (source.left first) (source.left old) (source.left new) inv.reading.given (take count into) few inv.reading.gave gave)
     (within_few inv.reading.given into c.loop-turn.left count few inv.reading.count h) (one_read_few into c.loop-turn.left count few h) r a.answers.refused
-    (subst (λ b. Answers c.args.nodes inv.reading.given (take few (take count into)) (sink.wrote c.args.sink.now) (sink.wrote now) a (Ok b)) c.if-branch.true answers) w
+    (subst (λ b. AnswersBytes c.args.nodes inv.reading.given (take few (take count into)) (sink.wrote c.args.sink.now) (sink.wrote now) a (Ok b)) c.if-branch.true answers) w
 
 pub returns-then-few-count : goal.returns-then-few-count
 returns-then-few-count g c =
@@ -146,7 +146,7 @@ returns-then-few-count g c =
     inv.reading.given (take few (take count into)) (drop few (take count into)) (gave_parts (source.left first) (source.left old) (source.left new) inv.reading.given (take count into) few inv.reading.gave gave)
     (within_few inv.reading.given into c.loop-turn.left count few inv.reading.count h) (one_read_few into c.loop-turn.left count few h) r a
     (full_few inv.reading.given into c.loop-turn.left count few inv.reading.count h c.if-few-count.true) (some_ahead into c.loop-turn.left count few h c.if-few-count.true)
-    (subst (λ b. Answers c.args.nodes inv.reading.given (take few (take count into)) (sink.wrote c.args.sink.now) (sink.wrote now) a (Ok b)) c.if-branch.false answers) quiet w
+    (subst (λ b. AnswersBytes c.args.nodes inv.reading.given (take few (take count into)) (sink.wrote c.args.sink.now) (sink.wrote now) a (Ok b)) c.if-branch.false answers) quiet w
 
 pub loop-turn-preserved : goal.loop-turn-preserved
 loop-turn-preserved g c =
@@ -167,7 +167,7 @@ loop-turn-preserved g c =
     let gave : Gave (source.left old) (source.left new) (take count into) = search rules in
     let a = c.answer_bytes.new.answering in
     let answers = c.in_ok-answer_bytes.ensures.answers c.args.nodes inv.reading.given (sink.wrote c.args.sink.now) inv.reading.written in
-    let written = subst (λ b. Answers c.args.nodes inv.reading.given (take few (take count into)) (sink.wrote c.args.sink.now) (sink.wrote now) a (Ok b)) c.if-branch.false answers in
+    let written = subst (λ b. AnswersBytes c.args.nodes inv.reading.given (take few (take count into)) (sink.wrote c.args.sink.now) (sink.wrote now) a (Ok b)) c.if-branch.false answers in
     let long = length_few c.loop-turn.left count few into h in
     let fed : a.splitter.fed ≡ c.loop-turn.answering.splitter.fed + length (take few (take count into)) = search rules in
     record {
