@@ -1,8 +1,8 @@
 ghost use Rattle.std.specs.Prelude.{◌≡◌};
 ghost use Rattle.redlog_run.specs.declared.stop.AnswerStop.TheVariants.{Memory, Write};
-ghost use Rattle.redlog_run.specs.declared.stop.StreamStop.TheVariants.{Answer};
+ghost use Rattle.redlog_run.specs.declared.stop.StreamStop.TheVariants.{Answer, Read};
 
-use qe_io::WriteFailed;
+use qe_io::{ReadFailed, WriteFailed};
 use std::alloc::AllocError;
 use thiserror::Error;
 
@@ -40,6 +40,14 @@ pub enum StreamStop {
     Long,
     #[error("the answers stop")]
     Answer(AnswerStop),
+}
+
+impl From<ReadFailed> for StreamStop {
+    ghost from_gives = { λ _ e. e ≡ Read };
+
+    fn from(_error: ReadFailed) -> StreamStop {
+        StreamStop::Read
+    }
 }
 
 impl From<AnswerStop> for StreamStop {

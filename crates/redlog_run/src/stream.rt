@@ -45,7 +45,7 @@ fn answer_reads<S: Source, K: Sink>(
     let mut buffer = [0u8; READ_SIZE];
     let mut left = SCRIPT_LIMIT;
     for _turn in 0..SCRIPT_LIMIT + 1 {
-        let count = source.read(&mut buffer).map_err(|_| StreamStop::Read)?;
+        let count = source.read(&mut buffer)?;
         if count == 0 {
             let refused = answer_end(sink, answering)?;
             return Ok(refused);
