@@ -6,8 +6,8 @@ use Rattle.redlog_tokens.specs.Pieces.{IsPiece}
 use Rattle.redlog_tokens.proofs.Cutting.{none_or_piece}
 use Rattle.session_meaning.specs.State.{State}
 use Rattle.session_commands.specs.Accepted.{IsNeverRefused}
-use Rattle.redlog_run.specs.Run.{AnswersPiece, piece_bytes}
-use Rattle.redlog_run.specs.Unrefused.{RunTo, begin, on, IsUnrefusedPiece}
+use Rattle.redlog_run.specs.Run.{AnswersPiece, RunTo, begin, on, piece_bytes}
+use Rattle.redlog_run.specs.Unrefused.{IsUnrefusedPiece}
 use Rattle.redlog_run.specs.WithoutFormulas as script
 use Rattle.redlog_run.specs.WithoutFormulas.{SpellsFrom}
 use Rattle.redlog_run.specs.Accepted.{NeverRefusedIsUnrefused}

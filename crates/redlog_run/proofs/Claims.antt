@@ -1,85 +1,207 @@
 -- What holds of the program, from what holds of its steps.
-use Rattle.std.proofs.Common.{◌≡◌, ◌≢◌, inl, inr, ℕ, ◌≤◌, Bool, true, List, [], ◌++◌, length, refl, sym, ap, ◌∙◌, subst, append-nil, arith, length-append}
-use Rattle.std.specs.Prelude.{Option, Some, None}
+use Rattle.std.proofs.Common.{◌≡◌, ◌≢◌, inl, inr, ℕ, ◌+◌, ◌-◌, ◌<◌, ◌≤◌, Bool, true, false, List, [], ◌++◌, length, take, drop, refl, sym, ap, ◌∙◌, subst, append-nil, append_assoc, arith, length-append, length-drop}
+use Rattle.std.proofs.lemmas.List.{take-append-drop, take_all, length-take-le}
+use Rattle.std.specs.Prelude.{◌⊎◌, Option, Some, None, Ok, Err}
 use Rattle.std.specs.declared.alloc.Global.{Global}
 use Rattle.std.specs.declared.string.String.{String}
 use Rattle.command_words.specs.declared.options.Options.{Options}
 use Rattle.command_words.specs.Words.{Spells}
 use Rattle.command_words.proofs.Spelling.{words_spell_once}
 use Rattle.generated_scripts.specs.Generated.{generated}
-use Rattle.qe_io.specs.Streams.{Gave, IsAtEnd}
-use Rattle.redlog_run.specs.declared.answer.AnswerStop.{AnswerStop}
-use Rattle.redlog_run.specs.declared.answer.AnswerStop.TheVariants as answer
-use Rattle.redlog_run.specs.declared.read.ReadStop.{ReadStop}
-use Rattle.redlog_run.specs.declared.read.ReadStop.TheVariants as read
+use Rattle.qe_io.specs.Streams.{Gave, IsAtEnd, Took, Rose}
+use Rattle.script_splitter.proofs.Following.{still_open}
+use Rattle.session_meaning.specs.State.{first_state}
+use Rattle.session_commands.specs.Seen.{state_in}
+use Rattle.redlog_run.specs.declared.answer.Answering.{Answering}
+use Rattle.redlog_run.specs.declared.stop.AnswerStop.{AnswerStop}
+use Rattle.redlog_run.specs.declared.stop.AnswerStop.TheVariants as answer
+use Rattle.redlog_run.specs.declared.stop.StreamStop.TheVariants as streams
 use Rattle.redlog_run.specs.declared.status.Status.{Status}
 use Rattle.redlog_run.specs.declared.status.Status.TheVariants as status
 use Rattle.redlog_run.specs.Claim.{Claim, ClaimUnder}
-use Rattle.redlog_run.specs.Ends.{Ends, ends, HasFailed}
-use Rattle.redlog_run.specs.Outcome.{script_limit, node_limit, Answered, OutcomeOfSource, outcome_of, completes_of, Faults}
-use Rattle.redlog_run.specs.Run as run
-use Rattle.redlog_run.specs.Run.{RunOf, AnswersScript}
-use Rattle.redlog_run.specs.Script.{IsScript, ReadCause, AnswerCause, Written, read_status, answer_status}
+use Rattle.redlog_run.specs.Ends.{Ends, ends, HasFailed, TookFront}
+use Rattle.redlog_run.specs.Outcome.{script_limit, read_size, node_limit, Given, IsWhole, Answered, OutcomeOfSource, outcome_of, completes_of, Faults}
+use Rattle.redlog_run.specs.Run.{RunOf, begin, RunsSo, RunsAll, IsEndedWith}
+use Rattle.redlog_run.specs.Script.{IsWritten, Part, EndsIn, AnswersBytes, AnswersLast, AnswerCause, stream_status}
 use Rattle.redlog_run.specs.Steps.{ClaimOfSource, ClaimOfGenerated}
+use Rattle.redlog_run.proofs.Joined.{gave_none, took_none, gave_joined, still_at_end}
+use Rattle.redlog_run.proofs.Reaching.{too_long}
 use Rattle.redlog_run.proofs.Unrefused.{unrefused_scripts}
 
 -- ---- a script of the source
 
--- a source that tells a script within the limit gave all of it
-all_given : (left later : Option (List ℕ)) (script whole : List ℕ) → IsScript left later script → left ≡ Some whole → length whole ≤ script_limit → script ≡ whole
-all_given left later script whole s e h =
-    let gave = subst (λ from. Gave from later script) e s.gave in
-    let rest = gave.0 in
-    let small : length script ≤ script_limit = omega (arith, ap length gave.1 ∙ length-append script rest) in
-    let none : rest ≡ [] = subst IsAtEnd gave.2 (s.end small) in
-    sym (append-nil script) ∙ ap (λ xs. script ++ xs) (sym none) ∙ sym gave.1
+-- the source gave bytes, the pieces that end in them were answered and their lines written, and there is room for so many more
+pub record Reading (limit : ℕ) (left later wrote after : Option (List ℕ)) (room : ℕ) (a : Answering) : Type 0 where
+  pub given : List ℕ
+  pub gave : Gave left later given
+  pub count : length given + room ≡ script_limit
+  pub written : IsWritten limit given wrote after a
 
--- an answer to a script is an answer to it as a whole
-pub run_of : (longest limit : ℕ) (script lines : List ℕ) (refusal : Bool) → AnswersScript longest limit script lines refusal → RunOf limit script lines refusal
-run_of longest limit script lines refusal (run.whole h r) = r
-run_of longest limit script lines refusal (run.ended e) = subst (λ s. RunOf limit s lines refusal) (append-nil script) (e.answers [])
+-- a read gave bytes after others
+module _ (left mid later : Option (List ℕ)) (before read : List ℕ) (few : ℕ) (first : Gave left mid before) (next : Gave mid later read) where
+  pub gave_parts : Gave left later (before ++ (take few read ++ drop few read))
+  gave_parts = subst (λ xs. Gave left later (before ++ xs)) (sym (take-append-drop few read)) (gave_joined left mid later before read first next)
 
-module _ (limit : ℕ) (left later : Option (List ℕ)) (reads counted : ℕ) (wrote : Option (List ℕ)) (writes : ℕ) where
-  -- no script was read
-  pub unread_claim : (stop : ReadStop) → ReadCause reads counted stop → ClaimOfSource limit (ends left reads wrote writes) (ends later counted wrote writes) (read_status stop)
-  unread_claim read.Fault cause = record { faults = (cause, refl); outcome = refl; complete = λ sound. absurd (sound (inl cause)) }
-  unread_claim read.Memory cause = record { faults = (cause, refl); outcome = refl; complete = λ sound script e h u. inr refl }
+-- a read gave nothing
+pub gave_end : (left mid later : Option (List ℕ)) (given : List ℕ) → Gave left mid given → Gave mid later [] → IsAtEnd mid → Gave left later given × IsAtEnd later
+gave_end left mid later given first next end = (subst (Gave left later) (append-nil given) (gave_joined left mid later given [] first next), still_at_end mid later [] next end refl)
 
-  module _ (script : List ℕ) (s : IsScript left later script) (same : counted ≡ reads) where
-    -- it was not answered
-    pub unanswered_claim : (stop : AnswerStop) → AnswerCause script_limit script stop → ClaimOfSource limit (ends left reads wrote writes) (ends later counted wrote writes) (answer_status stop)
-    unanswered_claim answer.Memory cause = record { faults = (same, refl); outcome = refl; complete = λ sound whole e h u. inr refl }
-    unanswered_claim answer.Long cause = record {
-      faults = (same, refl);
-      outcome = (record { script = script; gave = s.gave; too_long = cause }, refl);
-      complete = λ sound whole e h u. let k = all_given left later script whole s e h in let long = cause.long in absurd (omega (arith, ap length k));
+-- the number of bytes that are taken of a read
+pub record IsFew (room count few : ℕ) (into : List ℕ) : Type 0 where
+  pub of_read : few ≤ count
+  pub of_room : few ≤ room
+  pub least : few < count → few ≡ room
+  pub read : count ≤ length into
+  pub small : length into ≤ read_size
+
+pub length_few : (room count few : ℕ) (into : List ℕ) → IsFew room count few into → length (take few (take count into)) ≡ few
+length_few room count few into h =
+    let all : length (take count into) ≡ count = length-take-le count into h.read in
+    length-take-le few (take count into) (omega (arith, all, h.of_read))
+
+-- what is taken is within the limit, and of one read
+pub within_few : (given into : List ℕ) (room count few : ℕ) → length given + room ≡ script_limit → IsFew room count few into → length (given ++ take few (take count into)) ≤ script_limit
+within_few given into room count few e h = omega (arith, e, h.of_room, length-append given (take few (take count into)), length_few room count few into h)
+
+pub one_read_few : (into : List ℕ) (room count few : ℕ) → IsFew room count few into → length (take few (take count into) ++ drop few (take count into)) ≤ read_size
+one_read_few into room count few h = omega (arith, ap length (take-append-drop few (take count into)), length-take-le count into h.read, h.read, h.small)
+
+-- all of a read was taken
+pub reading_more : (limit : ℕ) (left mid later wrote now after : Option (List ℕ)) (room count few : ℕ) (into : List ℕ) (a b : Answering) (r : Reading limit left mid wrote now room a) → Gave mid later (take count into) → IsFew room count few into
+    → count ≤ few → IsWritten limit (r.given ++ take few (take count into)) wrote after b → Reading limit left later wrote after (room - few) b
+reading_more limit left mid later wrote now after room count few into a b r next h all written =
+    let size = length_few room count few into h in
+    let same : take few (take count into) ≡ take count into = take_all few (take count into) (omega (arith, all, length-take-le count into h.read)) in
+    record {
+      given = r.given ++ take few (take count into);
+      gave = subst (λ xs. Gave left later (r.given ++ xs)) (sym same) (gave_joined left mid later r.given (take count into) r.gave next);
+      count = omega (arith, r.count, size, h.of_room, length-append r.given (take few (take count into)));
+      written = written;
     }
 
-    module _ (lines : List ℕ) (after : Option (List ℕ)) (failed : ℕ) where
-      answered : {refusal : Bool} → AnswersScript script_limit limit script lines refusal → Answered limit (ends left reads wrote writes) (ends later counted after failed) lines refusal
-      answered a = record { script = script; gave = s.gave; read = s.end; answered = a }
+-- there is room for no more
+pub full_few : (given into : List ℕ) (room count few : ℕ) → length given + room ≡ script_limit → IsFew room count few into → few < count → length (given ++ take few (take count into)) ≡ script_limit
+full_few given into room count few e h less = omega (arith, e, h.least less, length-append given (take few (take count into)), length_few room count few into h)
 
-      -- its answer was written
-      pub written_claim : (refusal : Bool) (t : Status) → AnswersScript script_limit limit script lines refusal → Written wrote after writes failed lines refusal t
-          → ClaimOfSource limit (ends left reads wrote writes) (ends later counted after failed) t
-      written_claim refusal status.Done a w = record {
-        faults = (same, w.2);
-        outcome = (lines, answered (subst (AnswersScript script_limit limit script lines) w.0 a), w.1);
-        complete = λ sound whole e h u. inl refl;
+pub some_ahead : (into : List ℕ) (room count few : ℕ) → IsFew room count few into → few < count → 0 < length (drop few (take count into))
+some_ahead into room count few h less = omega (arith, less, length-drop few (take count into), length-take-le count into h.read)
+
+-- the bytes of a read, of which these in front were taken
+module _ (before bytes rest : List ℕ) (left later : Option (List ℕ)) (reads counted : ℕ) (wrote after : Option (List ℕ)) (writes failed : ℕ) where
+  abbrev pub given_in : (p : Part bytes) → Gave left later (before ++ (bytes ++ rest)) → length (before ++ bytes) ≤ script_limit → length (bytes ++ rest) ≤ read_size → Given (ends left reads wrote writes) (ends later counted after failed)
+  given_in p gave within few =
+      let parts : (before ++ p.front) ++ (p.rest ++ rest) ≡ before ++ (bytes ++ rest) =
+      append_assoc before p.front (p.rest ++ rest) ∙ ap (λ xs. before ++ xs) (sym (append_assoc p.front p.rest rest) ∙ ap (λ xs. xs ++ rest) (sym p.whole)) in
+      let size : length bytes ≡ length p.front + length p.rest = ap length p.whole ∙ length-append p.front p.rest in
+      record {
+        script = before ++ p.front;
+        ahead = p.rest ++ rest;
+        gave = subst (Gave left later) (sym parts) gave;
+        within = omega (arith, within, size, length-append before bytes, length-append before p.front);
+        one_read = omega (arith, few, size, length-append bytes rest, length-append p.rest rest);
       }
-      written_claim refusal status.Refused a w = record {
-        faults = (same, w.2);
-        outcome = (lines, answered (subst (AnswersScript script_limit limit script lines) w.0 a), w.1);
+
+-- all bytes are taken
+abbrev pub all_front : (bytes : List ℕ) → Part bytes
+all_front bytes = record { front = bytes; rest = []; whole = sym (append-nil bytes) }
+
+module _ (limit : ℕ) (left later : Option (List ℕ)) (reads counted : ℕ) (wrote after : Option (List ℕ)) (writes failed : ℕ) where
+  -- with an answer that is a refusal a script of a source that tells it has a cause of one
+  refused_whole : (given : Given (ends left reads wrote writes) (ends later counted after failed)) (lines whole : List ℕ)
+      → IsWhole limit (ends later counted after failed) given.script given.ahead lines true ⊎ IsEndedWith script_limit limit given.script lines true → left ≡ Some whole → RunOf limit whole lines true
+  refused_whole given lines whole (inl w) e =
+      let gave = subst (λ from. Gave from later (given.script ++ given.ahead)) e given.gave in
+      let none : gave.0 ≡ [] = subst IsAtEnd gave.2 w.at_end in
+      let same : whole ≡ given.script = gave.1 ∙ ap (λ xs. (given.script ++ given.ahead) ++ xs) none ∙ append-nil (given.script ++ given.ahead) ∙ ap (λ xs. given.script ++ xs) w.none_ahead ∙ append-nil given.script in
+      subst (λ xs. RunOf limit xs lines true) (sym same) w.answered
+  refused_whole given lines whole (inr d) e =
+      let gave = subst (λ from. Gave from later (given.script ++ given.ahead)) e given.gave in
+      subst (λ xs. RunOf limit xs lines true) (sym (gave.1 ∙ append_assoc given.script given.ahead gave.0)) (d.answers (given.ahead ++ gave.0))
+
+  -- it was answered
+  pub answered_claim : (refusal : Bool) (lines : List ℕ) → Answered limit (ends left reads wrote writes) (ends later counted after failed) lines refusal → Took wrote after lines → counted ≡ reads → failed ≡ writes
+      → ClaimOfSource limit (ends left reads wrote writes) (ends later counted after failed) (stream_status (Ok refusal))
+  answered_claim false lines a took r w = record { faults = (r, w); outcome = (lines, a, took); complete = λ sound whole e h u. inl refl }
+  answered_claim true lines a took r w = record {
+    faults = (r, w);
+    outcome = (lines, a, took);
+    complete = λ sound whole e h u. absurd (unrefused_scripts limit whole u (lines, refused_whole a.given lines whole a.answered e));
+  }
+
+  pub unread_claim : (room : ℕ) (a : Answering) → Reading limit left later wrote after room a → a.splitter.whole ≡ false → Rose reads counted → failed ≡ writes
+      → ClaimOfSource limit (ends left reads wrote writes) (ends later counted after failed) status.ReadFault
+  unread_claim room a g quiet rose w =
+      let stands = g.written.stands in
+      record {
+        faults = (rose, w);
+        outcome = (
+          g.written.lines,
+          record {
+            given = record { script = g.given; ahead = []; gave = subst (Gave left later) (sym (append-nil g.given)) g.gave; within = omega (arith, g.count); one_read = omega arith };
+            none_ahead = refl;
+            answered = record { to = stands.to; state = state_in a.session; refusal = a.answers.refused; runs = stands.runs; no_more = still_open g.given stands.to a.splitter stands.follows quiet };
+          },
+          g.written.took,
+        );
+        complete = λ sound. absurd (sound (inl rose));
+      }
+
+  -- there is no room for all bytes of a read
+  pub long_claim : (a : Answering) (given : Given (ends left reads wrote writes) (ends later counted after failed)) → length given.script ≡ script_limit → 0 < length given.ahead → IsWritten limit given.script wrote after a
+      → a.splitter.whole ≡ false → counted ≡ reads → failed ≡ writes → ClaimOfSource limit (ends left reads wrote writes) (ends later counted after failed) status.ScriptLong
+  long_claim a given full some written quiet r w =
+      let stands = written.stands in
+      let all : RunsAll limit given.script written.lines =
+      record { to = stands.to; state = state_in a.session; refusal = a.answers.refused; runs = stands.runs; no_more = still_open given.script stands.to a.splitter stands.follows quiet } in
+      record {
+        faults = (r, w);
+        outcome = (written.lines, record { given = given; full = full; too_long = too_long script_limit limit given.script given.ahead written.lines full some all; answered = all }, written.took);
         complete = λ sound whole e h u.
-            let given = all_given left later script whole s e h in
-            let refused = run_of script_limit limit script lines true (subst (AnswersScript script_limit limit script lines) w.0 a) in
-            absurd (unrefused_scripts limit whole u (lines, subst (λ xs. RunOf limit xs lines true) given refused));
+            let gave = subst (λ from. Gave from later (given.script ++ given.ahead)) e given.gave in
+            absurd (omega (arith, h, full, some, ap length gave.1, length-append (given.script ++ given.ahead) gave.0, length-append given.script given.ahead));
       }
-      written_claim refusal status.WriteFault a w = record { faults = (same, w.1); outcome = (lines, refusal, answered a, w.0); complete = λ sound. absurd (sound (inr w.1)) }
-      written_claim refusal status.Usage a w = absurd w
-      written_claim refusal status.ReadFault a w = absurd w
-      written_claim refusal status.Memory a w = absurd w
-      written_claim refusal status.ScriptLong a w = absurd w
+
+  -- memory ran out
+  pub memory_claim : (given : Given (ends left reads wrote writes) (ends later counted after failed)) (lines : List ℕ) → RunsSo limit given.script lines → Took wrote after lines → counted ≡ reads → failed ≡ writes
+      → ClaimOfSource limit (ends left reads wrote writes) (ends later counted after failed) status.Memory
+  memory_claim given lines runs took r w = record { faults = (r, w); outcome = (lines, record { given = given; answered = runs }, took); complete = λ sound whole e h u. inr refl }
+
+  -- a write failed
+  pub unwritten_claim : (given : Given (ends left reads wrote writes) (ends later counted after failed)) (lines : List ℕ)
+      → RunsSo limit given.script lines ⊎ ((refusal : Bool) × IsWhole limit (ends later counted after failed) given.script given.ahead lines refusal) → TookFront wrote after lines → counted ≡ reads → Rose writes failed
+      → ClaimOfSource limit (ends left reads wrote writes) (ends later counted after failed) status.WriteFault
+  unwritten_claim given lines runs took r w = record { faults = (r, w); outcome = (lines, record { given = given; answered = runs }, took); complete = λ sound. absurd (sound (inr w)) }
+
+  -- what becomes of the bytes of a read where they are the last that are looked at
+  module _ (before bytes rest : List ℕ) (gave : Gave left later (before ++ (bytes ++ rest))) (within : length (before ++ bytes) ≤ script_limit) (few : length (bytes ++ rest) ≤ read_size) (r : counted ≡ reads) where
+    pub ended_claim : (refusal : Bool) → EndsIn limit before bytes wrote after refusal → failed ≡ writes → ClaimOfSource limit (ends left reads wrote writes) (ends later counted after failed) (stream_status (Ok refusal))
+    ended_claim refusal e w =
+        let given = given_in before bytes rest left later reads counted wrote after writes failed e.part gave within few in
+        answered_claim refusal e.lines (record { given = given; answered = inr (e.ended.ends script_limit given.within) }) e.took r w
+
+    pub stopped_claim : (stop : AnswerStop) (a : Answering) → AnswersBytes limit before bytes wrote after a (Err stop) → AnswerCause writes failed stop
+        → ClaimOfSource limit (ends left reads wrote writes) (ends later counted after failed) (stream_status (Err (streams.Answer stop)))
+    stopped_claim answer.Memory a e w = memory_claim (given_in before bytes rest left later reads counted wrote after writes failed e.part gave within few) e.lines e.runs e.took r w
+    stopped_claim answer.Write a e w = unwritten_claim (given_in before bytes rest left later reads counted wrote after writes failed e.part gave within few) e.lines (inl e.runs) e.took r w
+
+    pub past_claim : (a : Answering) → length (before ++ bytes) ≡ script_limit → 0 < length rest → IsWritten limit (before ++ bytes) wrote after a → a.splitter.whole ≡ false → failed ≡ writes
+        → ClaimOfSource limit (ends left reads wrote writes) (ends later counted after failed) status.ScriptLong
+    past_claim a full some written quiet w = long_claim a (given_in before bytes rest left later reads counted wrote after writes failed (all_front bytes) gave within few) full some written quiet r w
+
+  -- the last bytes of the source
+  module _ (script : List ℕ) (gave : Gave left later script) (end : IsAtEnd later) (within : length script ≤ script_limit) (r : counted ≡ reads) where
+    abbrev given_all : Given (ends left reads wrote writes) (ends later counted after failed)
+    given_all = record { script = script; ahead = []; gave = subst (Gave left later) (sym (append-nil script)) gave; within = within; one_read = omega arith }
+
+    whole_as : (refusal : Bool) (lines : List ℕ) → RunOf limit script lines refusal → IsWhole limit (ends later counted after failed) script [] lines refusal
+    whole_as refusal lines h = record { none_ahead = refl; at_end = end; answered = h }
+
+    pub whole_claim : (refusal : Bool) → AnswersLast limit script wrote after (Ok refusal) → failed ≡ writes → ClaimOfSource limit (ends left reads wrote writes) (ends later counted after failed) (stream_status (Ok refusal))
+    whole_claim refusal e w = answered_claim refusal e.0 (record { given = given_all; answered = inl (whole_as refusal e.0 e.1) }) e.2 r w
+
+    pub last_claim : (stop : AnswerStop) → AnswersLast limit script wrote after (Err stop) → AnswerCause writes failed stop → ClaimOfSource limit (ends left reads wrote writes) (ends later counted after failed) (stream_status (Err (streams.Answer stop)))
+    last_claim answer.Memory e w = memory_claim given_all e.0 e.1 e.2 r w
+    last_claim answer.Write e w = unwritten_claim given_all e.0 (inr ((e.1).0, whole_as ((e.1).0) e.0 ((e.1).1))) e.2 r w
 
 -- ---- a generated script
 
@@ -141,17 +263,15 @@ claim_under words found before after s h c = record {
   complete = λ sound. for_each words found h (λ o. completes_of (node_limit o) o.generate before s) (c.complete sound);
 }
 
-pub claim_usage : (words : List (String Global)) (e : Ends) → ¬ ((options : Options) × Spells words options) → Claim words e e status.Usage
-claim_usage words e none = record {
-  usage = (λ _. none, λ _. refl);
-  unused = λ _. refl;
-  faults = (refl, refl);
-  outcome = λ options k. absurd (none (options, k));
-  complete = λ sound options k. absurd (none (options, k));
-}
-
 unwritten : (limit : ℕ) (o : Option ℕ) (e : Ends) → outcome_of limit o e e status.Memory
-unwritten limit None e = refl
+unwritten limit None e = (
+  [],
+  record {
+    given = record { script = []; ahead = []; gave = gave_none e.left; within = omega arith; one_read = omega arith };
+    answered = record { to = 0; within = omega arith; state = first_state; refusal = false; runs = λ more. begin };
+  },
+  took_none e.wrote,
+)
 unwritten limit (Some n) e = (refl, refl)
 
 out_of_memory : (limit : ℕ) (o : Option ℕ) (e : Ends) → completes_of limit o e status.Memory

@@ -4,7 +4,8 @@ pub mod Replies
 pub mod Unrefused
 pub mod Choices
 pub mod ChoiceExample
-pub mod Longer
 pub mod Ending
+pub mod Reaching
+pub mod Standing
 pub mod Accepted
 pub mod AcceptedExample

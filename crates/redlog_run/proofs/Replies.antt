@@ -1,6 +1,5 @@
 -- What the pieces of a script add to the lines, one after another.
-use Rattle.std.proofs.Common.{◌≡◌, ◌≢◌, sym, ap, ◌∙◌, subst, refl, ℕ, List, [], ◌++◌, Bool, true, false, ◌||◌, Ok, Err, append_assoc, append-nil, Option, Some, None}
-use Rattle.std.specs.Prelude.{IfNone}
+use Rattle.std.proofs.Common.{◌≡◌, ◌≢◌, sym, ap, ◌∙◌, subst, refl, ℕ, List, [], ◌++◌, Bool, true, false, ◌||◌, Ok, Err, append_assoc, append-nil}
 use Rattle.std.specs.declared.alloc.Global.{Global}
 use Rattle.std.specs.declared.vec.Vec.{Vec}
 use Rattle.redlog_tokens.specs.Pieces.{HasNoTokenFrom, IsPiece}
@@ -76,7 +75,3 @@ nothing_goes_on e = absurd (cc)
 
 pub printed_goes_on : (text : Vec ℕ Global) → line.Printed text ≢ line.Finished
 printed_goes_on text e = absurd (cc)
-
-pub no_piece_left : {X P : Type 0} (o : Option X) → ((x : X) → ¬ (o ≡ Some x)) → IfNone o P → P
-no_piece_left None n h = h
-no_piece_left (Some x) n h = absurd (n x refl)

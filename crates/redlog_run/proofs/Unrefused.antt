@@ -9,8 +9,8 @@ use Rattle.session_meaning.specs.declared.line.StatementError.{StatementError}
 use Rattle.session_meaning.specs.declared.line.StatementError.TheVariants as error
 use Rattle.session_meaning.specs.State.{State}
 use Rattle.session_meaning.specs.Reply.{RefusesAction, SpellsRefused, Reply}
-use Rattle.redlog_run.specs.Run.{AnswersPiece, finished, answered, refused, Run, over, last, then, piece_bytes}
-use Rattle.redlog_run.specs.Unrefused.{RunTo, begin, on, IsUnrefusedPiece, IsUnrefused, UnrefusedScriptsHaveNoRefusal}
+use Rattle.redlog_run.specs.Run.{AnswersPiece, finished, answered, refused, Run, over, last, then, RunTo, begin, on, piece_bytes}
+use Rattle.redlog_run.specs.Unrefused.{IsUnrefusedPiece, IsUnrefused, UnrefusedScriptsHaveNoRefusal}
 
 module _ (s : State) (limit : ℕ) (piece : List ℕ) (t : StatementTree) (h : Spells piece t)
     (none : (e : StatementError) → e ≢ error.Memory → RefusesAction s limit t.printed t.action e → ⊥) where

@@ -1,17 +1,21 @@
 -- What was read and written, by the status that the program ends with.
-use Rattle.std.specs.Prelude.{◌≡◌, ℕ, ◌≤◌, ◌⊎◌, List, length, Option, Some, None, unwrap_or, Bool, true, false}
+use Rattle.std.specs.Prelude.{◌≡◌, ℕ, ◌^◌, ◌≤◌, ◌⊎◌, List, [], ◌++◌, length, Option, Some, None, unwrap_or, Bool, true, false}
 use Rattle.command_words.specs.declared.options.Options.{Options}
 use Rattle.qe_io.specs.Streams.{Gave, IsAtEnd, Took, Rose}
 use Rattle.generated_scripts.specs.Generated.{generated, tally}
 use Rattle.redlog_run.specs.declared.status.Status.{Status}
 use Rattle.redlog_run.specs.declared.status.Status.TheVariants as status
 use Rattle.redlog_run.specs.Ends.{Ends, TookFront}
-use Rattle.redlog_run.specs.Run.{RunOf, AnswersScript, IsTooLong}
+use Rattle.redlog_run.specs.Run.{RunOf, RunsSo, RunsAll, IsEndedWith, IsTooLong}
 use Rattle.redlog_run.specs.Unrefused.{IsUnrefused}
 
 -- a script is at most so long, in bytes
 abbrev pub script_limit : ℕ
-script_limit = 16777216
+script_limit = 2 ^ 40
+
+-- at most so many bytes are read at once
+abbrev pub read_size : ℕ
+read_size = 16384
 
 -- the limit of nodes of the session that these options give
 abbrev pub node_limit : Options → ℕ
@@ -19,27 +23,56 @@ node_limit options = unwrap_or options.nodes 1000000
 
 -- ---- a script of the source
 
--- The source gave a script, and these lines answer it: it was read to the end of the source, or a statement ends it.
-pub record Answered (limit : ℕ) (before after : Ends) (lines : List ℕ) (refusal : Bool) : Type 0 where
+-- What the source gave: a script within the limit, and the bytes of one read at most that were not looked at.
+pub record Given (before after : Ends) : Type 0 where
   pub script : List ℕ
-  pub gave : Gave before.left after.left script
-  pub read : (length script ≤ script_limit) → IsAtEnd after.left
-  pub answered : AnswersScript script_limit limit script lines refusal
+  pub ahead : List ℕ
+  pub gave : Gave before.left after.left (script ++ ahead)
+  pub within : length script ≤ script_limit
+  pub one_read : length ahead ≤ read_size
 
--- the source gave a script that is too long
-pub record GaveTooMany (before after : Ends) : Type 0 where
-  pub script : List ℕ
-  pub gave : Gave before.left after.left script
-  pub too_long : IsTooLong script_limit script
+-- the script was read to the end of the source, and these lines answer it
+pub record IsWhole (limit : ℕ) (after : Ends) (script ahead lines : List ℕ) (refusal : Bool) : Type 0 where
+  pub none_ahead : ahead ≡ []
+  pub at_end : IsAtEnd after.left
+  pub answered : RunOf limit script lines refusal
+
+-- The lines answer the script: it was read to the end of the source, or a statement ends it.
+pub record Answered (limit : ℕ) (before after : Ends) (lines : List ℕ) (refusal : Bool) : Type 0 where
+  pub given : Given before after
+  pub answered : IsWhole limit after given.script given.ahead lines refusal ⊎ IsEndedWith script_limit limit given.script lines refusal
+
+-- the lines are those of every piece that ends in what was read
+pub record AnsweredAll (limit : ℕ) (before after : Ends) (lines : List ℕ) : Type 0 where
+  pub given : Given before after
+  pub none_ahead : given.ahead ≡ []
+  pub answered : RunsAll limit given.script lines
+
+-- The source gave a script that is too long, and the lines are those of every piece that ends within the limit.
+pub record GaveTooMany (limit : ℕ) (before after : Ends) (lines : List ℕ) : Type 0 where
+  pub given : Given before after
+  pub full : length given.script ≡ script_limit
+  pub too_long : IsTooLong script_limit (given.script ++ given.ahead)
+  pub answered : RunsAll limit given.script lines
+
+-- the lines are those of the pieces up to some place in what was read
+pub record AnsweredSo (limit : ℕ) (before after : Ends) (lines : List ℕ) : Type 0 where
+  pub given : Given before after
+  pub answered : RunsSo limit given.script lines
+
+-- the same, or they are the lines of the whole script
+pub record AnsweredSome (limit : ℕ) (before after : Ends) (lines : List ℕ) : Type 0 where
+  pub given : Given before after
+  pub answered : RunsSo limit given.script lines ⊎ ((refusal : Bool) × IsWhole limit after given.script given.ahead lines refusal)
 
 -- under a limit of nodes
 abbrev pub OutcomeOfSource : ℕ → Ends → Ends → Status → Type 0
 OutcomeOfSource limit before after status.Done = (lines : List ℕ) × Answered limit before after lines false × Took before.wrote after.wrote lines
 OutcomeOfSource limit before after status.Refused = (lines : List ℕ) × Answered limit before after lines true × Took before.wrote after.wrote lines
-OutcomeOfSource limit before after status.WriteFault = (lines : List ℕ) × (refusal : Bool) × Answered limit before after lines refusal × TookFront before.wrote after.wrote lines
-OutcomeOfSource limit before after status.ReadFault = after.wrote ≡ before.wrote
-OutcomeOfSource limit before after status.Memory = after.wrote ≡ before.wrote
-OutcomeOfSource limit before after status.ScriptLong = GaveTooMany before after × (after.wrote ≡ before.wrote)
+OutcomeOfSource limit before after status.ReadFault = (lines : List ℕ) × AnsweredAll limit before after lines × Took before.wrote after.wrote lines
+OutcomeOfSource limit before after status.ScriptLong = (lines : List ℕ) × GaveTooMany limit before after lines × Took before.wrote after.wrote lines
+OutcomeOfSource limit before after status.Memory = (lines : List ℕ) × AnsweredSo limit before after lines × Took before.wrote after.wrote lines
+OutcomeOfSource limit before after status.WriteFault = (lines : List ℕ) × AnsweredSome limit before after lines × TookFront before.wrote after.wrote lines
 OutcomeOfSource limit before after status.Usage = ⊥
 
 -- ---- a generated script: nothing is read, and one line is written, which counts the lines of the answer to the generated script of n

@@ -3,6 +3,7 @@ use Rattle.std.specs.Prelude.{◌≡◌, ◌≢◌, ℕ, ◌-◌, ◌<◌, ◌�
 use Rattle.qe_syntax.specs.Statements.{StatementTree, Finish}
 use Rattle.redlog_tokens.specs.Pieces.{HasNoTokenFrom, IsPiece}
 use Rattle.redlog_reader.specs.Statement.{Spells}
+use Rattle.script_splitter.specs.Pieces.{IsOpen}
 use Rattle.session_meaning.specs.declared.line.Line.{Line}
 use Rattle.session_meaning.specs.declared.line.Line.TheVariants.{Finished}
 use Rattle.session_meaning.specs.declared.line.StatementError.{StatementError}
@@ -39,6 +40,32 @@ pub data Run (limit : ℕ) (script : List ℕ) : ℕ → State → List ℕ → 
 abbrev pub RunOf : ℕ → List ℕ → List ℕ → Bool → Type 0
 RunOf limit script lines refusal = Run limit script 0 first_state lines refusal
 
+-- the pieces up to this place leave this state, and are answered with these lines, of which one is a refusal or none; none of them ends the script
+pub data RunTo (limit : ℕ) (script : List ℕ) : ℕ → State → List ℕ → Bool → Type 0 where
+  begin : RunTo limit script 0 first_state [] false
+  on : {to start end : ℕ} {s next : State} {lines more all : List ℕ} {refusal refused some : Bool} → RunTo limit script to s lines refusal → IsPiece script to start end
+      → AnswersPiece s limit (piece_bytes script start end) start false more refused next → all ≡ lines ++ more → some ≡ (refusal || refused) → RunTo limit script end next all some
+
+-- the same in every script that begins with these bytes
+abbrev pub RunsTo : ℕ → List ℕ → ℕ → State → List ℕ → Bool → Type 0
+RunsTo limit bytes to s lines refusal = (more : List ℕ) → RunTo limit (bytes ++ more) to s lines refusal
+
+-- these are the lines of the pieces up to some place in the bytes, whatever comes after them
+pub record RunsSo (limit : ℕ) (bytes lines : List ℕ) : Type 0 where
+  pub to : ℕ
+  pub within : to ≤ length bytes
+  pub state : State
+  pub refusal : Bool
+  pub runs : RunsTo limit bytes to state lines refusal
+
+-- these are the lines of every piece that ends in the bytes where more come
+pub record RunsAll (limit : ℕ) (bytes lines : List ℕ) : Type 0 where
+  pub to : ℕ
+  pub state : State
+  pub refusal : Bool
+  pub runs : RunsTo limit bytes to state lines refusal
+  pub no_more : IsOpen bytes to
+
 -- ---- statements that end a script, within a number of bytes
 
 -- the piece spells `end`, `bye` or `quit`
@@ -54,11 +81,6 @@ pub data HasEnd (longest : ℕ) (script : List ℕ) : ℕ → Type 0 where
 pub record IsEndedWith (longest limit : ℕ) (script lines : List ℕ) (refusal : Bool) : Type 0 where
   pub has_end : HasEnd longest script 0
   pub answers : (more : List ℕ) → RunOf limit (script ++ more) lines refusal
-
--- these lines answer the script: it has at most so many bytes, or a statement ends it within these
-pub data AnswersScript (longest limit : ℕ) (script lines : List ℕ) (refusal : Bool) : Type 0 where
-  whole : length script ≤ longest → RunOf limit script lines refusal → AnswersScript longest limit script lines refusal
-  ended : IsEndedWith longest limit script lines refusal → AnswersScript longest limit script lines refusal
 
 -- the script has more bytes, and no statement ends it within so many
 pub record IsTooLong (longest : ℕ) (script : List ℕ) : Type 0 where

@@ -1,35 +1,97 @@
--- How a script is read and answered, step by step.
-use Rattle.std.specs.Prelude.{◌≡◌, ℕ, ◌≤◌, List, ◌++◌, length, Option, Bool, true, false}
-use Rattle.qe_io.specs.Streams.{Gave, IsAtEnd, Took, Rose}
-use Rattle.redlog_run.specs.declared.answer.AnswerStop.{AnswerStop}
-use Rattle.redlog_run.specs.declared.answer.AnswerStop.TheVariants as answer
-use Rattle.redlog_run.specs.declared.read.ReadStop.{ReadStop}
-use Rattle.redlog_run.specs.declared.read.ReadStop.TheVariants.{Fault, Memory}
+-- How a script is answered while it is read, step by step.
+use Rattle.std.specs.Prelude.{◌≡◌, ℕ, ◌≤◌, List, ◌++◌, length, Option, Result, Ok, Err, Bool, true, false}
+use Rattle.qe_io.specs.Streams.{Took, Rose}
+use Rattle.script_splitter.specs.Pieces.{Follows}
+use Rattle.session_commands.specs.Seen.{state_in}
+use Rattle.redlog_run.specs.declared.answer.Answering.{Answering}
+use Rattle.redlog_run.specs.declared.stop.StreamStop.{StreamStop}
+use Rattle.redlog_run.specs.declared.stop.StreamStop.TheVariants as stop
+use Rattle.redlog_run.specs.declared.stop.AnswerStop.{AnswerStop}
+use Rattle.redlog_run.specs.declared.stop.AnswerStop.TheVariants as answer
 use Rattle.redlog_run.specs.declared.status.Status.{Status}
 use Rattle.redlog_run.specs.declared.status.Status.TheVariants as status
 use Rattle.redlog_run.specs.Ends.{TookFront}
-use Rattle.redlog_run.specs.Outcome.{script_limit}
-use Rattle.redlog_run.specs.Run.{IsTooLong}
+use Rattle.redlog_run.specs.Run.{RunOf, RunsTo, RunsSo, IsEndedWith}
 
--- the source gave the script, to its end where it is within the limit
-pub record IsScript (old new : Option (List ℕ)) (script : List ℕ) : Type 0 where
-  pub gave : Gave old new script
-  pub end : length script ≤ script_limit → IsAtEnd new
+-- The splitter was fed these bytes, and these are the lines of the pieces that it handed out, which leave the state of the session.
+pub record Stands (limit : ℕ) (bytes lines : List ℕ) (a : Answering) : Type 0 where
+  pub to : ℕ
+  pub follows : Follows bytes to a.splitter
+  pub runs : RunsTo limit bytes to (state_in a.session) lines a.answers.refused
+  pub limits : a.session.limits.nodes ≡ limit
 
--- why no script was read, by the count of faults of the source, before and after
-abbrev pub ReadCause : ℕ → ℕ → ReadStop → Type 0
-ReadCause faults later Fault = Rose faults later
-ReadCause faults later Memory = later ≡ faults
+-- A statement ends the script within the bytes, so that these are the lines of every script that begins with them. It has no line itself.
+pub record IsEnded (limit : ℕ) (bytes lines : List ℕ) (refusal : Bool) : Type 0 where
+  pub ends : (longest : ℕ) → length bytes ≤ longest → IsEndedWith longest limit bytes lines refusal
+  pub runs : RunsSo limit bytes lines
 
--- so many bytes came from the source onto the end of the script; none only at the end of the source
-abbrev pub ReadsPiece : Option (List ℕ) → Option (List ℕ) → List ℕ → List ℕ → ℕ → Type 0
-ReadsPiece old new script longer count =
-    (piece : List ℕ) × Gave old new piece × (longer ≡ script ++ piece) × (length piece ≡ count) × (count ≡ 0 → IsAtEnd old)
+-- after a step, which ends the script or does not
+abbrev pub StandsOrEnds : Bool → ℕ → List ℕ → List ℕ → Answering → Type 0
+StandsOrEnds false limit bytes lines a = Stands limit bytes lines a
+StandsOrEnds true limit bytes lines a = IsEnded limit bytes lines a.answers.refused
 
--- why a script is not answered
-abbrev pub AnswerCause : ℕ → List ℕ → AnswerStop → Type 0
-AnswerCause longest script answer.Memory = Unit {0}
-AnswerCause longest script answer.Long = IsTooLong longest script
+-- the same, and the lines so far were written onto what the sink had taken first
+pub record IsWritten (limit : ℕ) (bytes : List ℕ) (first now : Option (List ℕ)) (a : Answering) : Type 0 where
+  pub lines : List ℕ
+  pub stands : Stands limit bytes lines a
+  pub took : Took first now lines
+
+-- the bytes in front, up to some place
+pub record Part (bytes : List ℕ) : Type 0 where
+  pub front : List ℕ
+  pub rest : List ℕ
+  pub whole : bytes ≡ front ++ rest
+
+-- a statement ended the script within these bytes after others, and the lines were written
+pub record EndsIn (limit : ℕ) (before bytes : List ℕ) (first now : Option (List ℕ)) (refusal : Bool) : Type 0 where
+  pub part : Part bytes
+  pub lines : List ℕ
+  pub ended : IsEnded limit (before ++ part.front) lines refusal
+  pub took : Took first now lines
+
+-- memory ran out, and the lines of the pieces up to some place were written
+pub record RunsOut (limit : ℕ) (before bytes : List ℕ) (first now : Option (List ℕ)) : Type 0 where
+  pub part : Part bytes
+  pub lines : List ℕ
+  pub runs : RunsSo limit (before ++ part.front) lines
+  pub took : Took first now lines
+
+-- a write failed, and the lines of the pieces up to some place were written in front
+pub record FailsIn (limit : ℕ) (before bytes : List ℕ) (first now : Option (List ℕ)) : Type 0 where
+  pub part : Part bytes
+  pub lines : List ℕ
+  pub runs : RunsSo limit (before ++ part.front) lines
+  pub took : TookFront first now lines
+
+-- what becomes of bytes that come after others: they end the script or do not
+abbrev pub AnswersBytes : ℕ → List ℕ → List ℕ → Option (List ℕ) → Option (List ℕ) → Answering → Result Bool AnswerStop → Type 0
+AnswersBytes limit before bytes first now a (Ok false) = IsWritten limit (before ++ bytes) first now a
+AnswersBytes limit before bytes first now a (Ok true) = EndsIn limit before bytes first now a.answers.refused
+AnswersBytes limit before bytes first now a (Err answer.Memory) = RunsOut limit before bytes first now
+AnswersBytes limit before bytes first now a (Err answer.Write) = FailsIn limit before bytes first now
+
+-- what becomes of the last bytes of a script
+abbrev pub AnswersLast : ℕ → List ℕ → Option (List ℕ) → Option (List ℕ) → Result Bool AnswerStop → Type 0
+AnswersLast limit script first now (Ok refusal) = (lines : List ℕ) × RunOf limit script lines refusal × Took first now lines
+AnswersLast limit script first now (Err answer.Memory) = (lines : List ℕ) × RunsSo limit script lines × Took first now lines
+AnswersLast limit script first now (Err answer.Write) = (lines : List ℕ) × ((refusal : Bool) × RunOf limit script lines refusal) × TookFront first now lines
+
+-- why answers stop, by the count of faults of the sink, before and after
+abbrev pub AnswerCause : ℕ → ℕ → AnswerStop → Type 0
+AnswerCause faults later answer.Write = Rose faults later
+AnswerCause faults later answer.Memory = later ≡ faults
+
+-- the status with which a script of the source ends
+abbrev pub stop_status : StreamStop → Status
+stop_status stop.Read = status.ReadFault
+stop_status stop.Long = status.ScriptLong
+stop_status (stop.Answer answer.Write) = status.WriteFault
+stop_status (stop.Answer answer.Memory) = status.Memory
+
+abbrev pub stream_status : Result Bool StreamStop → Status
+stream_status (Ok false) = status.Done
+stream_status (Ok true) = status.Refused
+stream_status (Err e) = stop_status e
 
 -- what becomes of an answer that is written, by what the sink had taken and its count of faults, before and after
 abbrev pub Written : Option (List ℕ) → Option (List ℕ) → ℕ → ℕ → List ℕ → Bool → Status → Type 0
@@ -40,12 +102,3 @@ Written wrote after writes later text refused status.Usage = ⊥
 Written wrote after writes later text refused status.ReadFault = ⊥
 Written wrote after writes later text refused status.Memory = ⊥
 Written wrote after writes later text refused status.ScriptLong = ⊥
-
--- the status where a script was not read, or not answered
-abbrev pub read_status : ReadStop → Status
-read_status Fault = status.ReadFault
-read_status Memory = status.Memory
-
-abbrev pub answer_status : AnswerStop → Status
-answer_status answer.Long = status.ScriptLong
-answer_status answer.Memory = status.Memory

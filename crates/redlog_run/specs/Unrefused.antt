@@ -1,19 +1,13 @@
 -- Scripts of statements that have no cause of a refusal.
-use Rattle.std.specs.Prelude.{◌≡◌, ◌≢◌, ℕ, List, [], ◌++◌, Bool, true, false, ◌||◌}
+use Rattle.std.specs.Prelude.{◌≢◌, ℕ, List, true, false}
 use Rattle.qe_syntax.specs.Statements.{StatementTree}
 use Rattle.redlog_tokens.specs.Pieces.{IsPiece}
 use Rattle.redlog_reader.specs.Statement.{Spells}
 use Rattle.session_meaning.specs.declared.line.StatementError.{StatementError}
 use Rattle.session_meaning.specs.declared.line.StatementError.TheVariants as error
-use Rattle.session_meaning.specs.State.{State, first_state}
+use Rattle.session_meaning.specs.State.{State}
 use Rattle.session_meaning.specs.Reply.{RefusesAction}
-use Rattle.redlog_run.specs.Run.{AnswersPiece, RunOf, piece_bytes}
-
--- the pieces up to this place leave this state, and are answered with these lines, of which one is a refusal or none; none of them ends the script
-pub data RunTo (limit : ℕ) (script : List ℕ) : ℕ → State → List ℕ → Bool → Type 0 where
-  begin : RunTo limit script 0 first_state [] false
-  on : {to start end : ℕ} {s next : State} {lines more all : List ℕ} {refusal refused some : Bool} → RunTo limit script to s lines refusal → IsPiece script to start end
-      → AnswersPiece s limit (piece_bytes script start end) start false more refused next → all ≡ lines ++ more → some ≡ (refusal || refused) → RunTo limit script end next all some
+use Rattle.redlog_run.specs.Run.{RunOf, RunTo, piece_bytes}
 
 -- the piece spells a statement that may not be refused
 pub record IsUnrefusedPiece (s : State) (limit : ℕ) (piece : List ℕ) : Type 0 where

@@ -1,15 +1,14 @@
-ghost use Rattle.std.specs.Prelude.{◌≡◌, ◌≢◌, ◌++◌, ◌∷◌, [], true, IfOk, IfErr, OnOk};
+ghost use Rattle.std.specs.Prelude.{◌≡◌, ◌≢◌, ℕ, ◌+◌, ◌<◌, ◌≤◌, ◌^◌, List, ◌++◌, ◌∷◌, [], true, false, length, take, IfOk, IfErr, OnOk};
+ghost use Rattle.script_splitter.specs.Pieces.{HasBytes};
 ghost use Rattle.session_commands.specs.Seen.{state_in};
 ghost use Rattle.session_meaning.specs.Words.{word_of};
 ghost use Rattle.redlog_run.specs.Lines.{refusal_line};
-ghost use Rattle.redlog_run.specs.Run.{Adds, AnswersScript};
-ghost use Rattle.redlog_run.specs.Script.{AnswerCause};
-ghost use Rattle.redlog_run.specs.declared.answer.AnswerStop.TheVariants.{Memory};
+ghost use Rattle.redlog_run.specs.Run.{RunOf, Adds};
+ghost use Rattle.redlog_run.specs.Script.{Stands, StandsOrEnds};
 
-use redlog_reader::next_piece;
+use script_splitter::{Cut, Splitter};
 use session_commands::{Limits, Line, Session, StatementError};
 use std::alloc::{AllocError, Global};
-use thiserror::Error;
 
 /// How many workers a session may have.
 const WORKERS: usize = 4;
@@ -21,58 +20,123 @@ pub struct Answers {
     pub refused: bool,
 }
 
-/// Why a script is not answered: it is too long and no statement ends it within the limit, or memory ran out.
-#[derive(Clone, Copy, Debug, PartialEq, Eq, Error)]
-pub enum AnswerStop {
-    #[error("the script is too long")]
-    Long,
-    #[error("out of memory")]
-    Memory,
+/// A script that is answered while its bytes come.
+#[derive(Drop)]
+pub struct Answering {
+    pub alloc: Global,
+    pub session: Session,
+    pub splitter: Splitter,
+    pub answers: Answers,
 }
 
-impl From<AllocError> for AnswerStop {
-    ghost from_gives = { λ _ e. e ≡ Memory };
-
-    fn from(_error: AllocError) -> AnswerStop {
-        AnswerStop::Memory
-    }
+/// A step: how many bytes it took, and whether a statement ended the script.
+#[derive(Clone, Copy)]
+pub struct Step {
+    pub taken: usize,
+    pub ends: bool,
 }
 
-/// Answers a script of at most `longest` bytes under this limit of nodes: its statements in turn, each in the state that the one before
-/// left, until one of them ends it. A longer script is answered where a statement ends it within these bytes.
-pub fn answer_script(
-    alloc: Global,
-    nodes: u64,
-    longest: usize,
-    script: &[u8],
-) -> Result<Answers, AnswerStop>
-    ensures answers { IfOk result (λ answers. AnswersScript longest nodes script.now answers.lines.items answers.refused) }
-    ensures stop { IfErr result (AnswerCause longest script.now) }
+/// A script of which nothing has come yet, under this limit of nodes.
+pub fn begin(alloc: Global, nodes: u64) -> Answering
+    ensures stands { Stands nodes [] [] result }
+    ensures none { result.splitter.whole ≡ false }
+    ensures fed { result.splitter.fed ≡ 0 }
+    ensures quiet { result.answers.lines.items ≡ [] }
 {
     let limits = Limits {
         nodes,
         workers: WORKERS,
     };
-    let mut session = Session::new(alloc, limits);
-    let mut answers = Answers {
-        lines: Vec::new(alloc),
-        refused: false,
+    Answering {
+        alloc,
+        session: Session::new(alloc, limits),
+        splitter: Splitter::new(alloc),
+        answers: Answers {
+            lines: Vec::new(alloc),
+            refused: false,
+        },
+    }
+}
+
+/// Takes bytes through the first end mark, or all of them, and adds what the piece that ends there is answered with.
+pub fn answer_next(answering: &mut Answering, bytes: &[u8]) -> Result<Step, AllocError>
+    requires none { answering.old.splitter.whole ≡ false }
+    requires few { answering.old.splitter.fed + length bytes.now < 2 ^ 64 }
+    ensures stands { IfOk result (λ step. (limit : ℕ) (given written : List ℕ) → Stands limit given (written ++ answering.old.answers.lines.items) answering.old
+        → StandsOrEnds step.ends limit (given ++ take step.taken bytes.now) (written ++ answering.new.answers.lines.items) answering.new) }
+    ensures none { OnOk result (answering.new.splitter.whole ≡ false) }
+    ensures some { IfOk result (λ step. 0 < length bytes.now → 0 < step.taken) }
+    ensures within { IfOk result (λ step. step.taken ≤ length bytes.now) }
+    ensures count { IfOk result (λ step. answering.new.splitter.fed ≡ answering.old.splitter.fed + step.taken) }
+{
+    let taken = answering.splitter.feed(bytes)?;
+    let Some(cut) = answering.splitter.next() else {
+        return Ok(Step { taken, ends: false });
     };
-    let mut from = 0;
-    'pieces: while let Some(piece) = next_piece(script, from) {
-        if piece.end > longest {
-            return Err(AnswerStop::Long);
-        }
-        let bytes = &script[piece.start..piece.end];
-        if answer_piece(alloc, &mut session, bytes, piece.start, &mut answers)? {
-            return Ok(answers);
-        }
-        from = piece.end;
-    }
-    if script.len() > longest {
-        return Err(AnswerStop::Long);
-    }
+    let ends = answer_cut(
+        answering.alloc,
+        &mut answering.session,
+        &cut,
+        &mut answering.answers,
+    )?;
+    answering.splitter.reuse(cut);
+    Ok(Step { taken, ends })
+}
+
+/// Adds what the last piece is answered with, which no end mark ends, and gives the answers.
+pub fn answer_last(answering: Answering) -> Result<Answers, AllocError>
+    requires none { answering.splitter.whole ≡ false }
+    ensures { IfOk result (λ answers. (limit : ℕ) (given written : List ℕ) → Stands limit given (written ++ answering.answers.lines.items) answering
+        → RunOf limit given (written ++ answers.lines.items) answers.refused) }
+{
+    let Answering {
+        alloc,
+        mut session,
+        splitter,
+        mut answers,
+    } = answering;
+    let Some(cut) = splitter.finish() else {
+        return Ok(answers);
+    };
+    let _ends = answer_cut(alloc, &mut session, &cut, &mut answers)?;
     Ok(answers)
+}
+
+/// Answers a whole script under this limit of nodes: its statements in turn, each in the state that the one before left, until one of them
+/// ends it.
+pub fn answer_script(alloc: Global, nodes: u64, script: &[u8]) -> Result<Answers, AllocError>
+    ensures { IfOk result (λ answers. RunOf nodes script.now answers.lines.items answers.refused) }
+{
+    let mut answering = begin(alloc, nodes);
+    let mut taken = 0;
+    while taken < script.len() {
+        let step = answer_next(&mut answering, &script[taken..])?;
+        if step.ends {
+            return Ok(answering.answers);
+        }
+        taken += step.taken;
+    }
+    answer_last(answering)
+}
+
+/// Adds what a cut is answered with, and says whether it ends the script. A piece past the limit of the splitter is refused.
+fn answer_cut(
+    alloc: Global,
+    session: &mut Session,
+    cut: &Cut,
+    answers: &mut Answers,
+) -> Result<bool, AllocError>
+    ensures adds { IfOk result (λ ends. (piece : List ℕ) → HasBytes piece cut.now.bytes
+        → Adds (state_in session.old) session.old.limits.nodes piece cut.now.offset ends (state_in session.new) answers.old.lines.items answers.old.refused answers.new.lines.items answers.new.refused) }
+    ensures limits { OnOk result (session.new.limits ≡ session.old.limits) }
+{
+    match &cut.bytes {
+        Some(bytes) => answer_piece(alloc, session, bytes, cut.offset, answers),
+        None => {
+            add_refusal(alloc, StatementError::Long, cut.offset, answers)?;
+            Ok(false)
+        }
+    }
 }
 
 /// Adds what a piece at this offset is answered with, and says whether it ends the script.
@@ -80,7 +144,7 @@ fn answer_piece(
     alloc: Global,
     session: &mut Session,
     piece: &[u8],
-    offset: usize,
+    offset: u64,
     answers: &mut Answers,
 ) -> Result<bool, AllocError>
     ensures adds { IfOk result (λ ends. Adds (state_in session.old) session.old.limits.nodes piece.now offset ends (state_in session.new) answers.old.lines.items answers.old.refused answers.new.lines.items answers.new.refused) }
@@ -109,7 +173,7 @@ fn add_line(text: &[u8], answers: &mut Answers) -> Result<(), AllocError>
 fn add_refusal(
     alloc: Global,
     error: StatementError,
-    offset: usize,
+    offset: u64,
     answers: &mut Answers,
 ) -> Result<(), AllocError>
     ensures lines { OnOk result (answers.new.lines.items ≡ answers.old.lines.items ++ refusal_line (word_of error) offset) }

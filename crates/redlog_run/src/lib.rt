@@ -5,8 +5,9 @@ mod answer;
 mod laws;
 mod process;
 mod program;
-mod read;
 mod status;
+mod stop;
+mod stream;
 mod write;
 
 pub use laws::{

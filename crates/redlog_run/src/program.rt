@@ -2,12 +2,11 @@ ghost use Rattle.std.specs.Prelude.{◌≡◌, IfOk};
 ghost use Rattle.redlog_run.specs.Claim.{Claim, ClaimUnder};
 ghost use Rattle.redlog_run.specs.Ends.{ends};
 ghost use Rattle.redlog_run.specs.Outcome.{node_limit};
-ghost use Rattle.redlog_run.specs.Steps.{ClaimOfSource, ClaimOfGenerated, IsTally};
-ghost use Rattle.redlog_run.specs.Script.{read_status, answer_status};
+ghost use Rattle.redlog_run.specs.Steps.{ClaimOfGenerated, IsTally};
 
-use crate::answer::{AnswerStop, answer_script};
-use crate::read::{ReadStop, SCRIPT_LIMIT, read_script};
+use crate::answer::answer_script;
 use crate::status::Status;
+use crate::stream::answer_source;
 use crate::write::write_answer;
 use command_words::{Options, are_valid, options_of};
 use generated_scripts::{generated, tally};
@@ -64,27 +63,6 @@ fn node_limit(options: Options) -> u64
     }
 }
 
-/// Answers the script of the source.
-fn answer_source<S: Source, K: Sink>(
-    alloc: Global,
-    nodes: u64,
-    source: &mut S,
-    sink: &mut K,
-) -> Status
-    ensures { ClaimOfSource nodes
-        (ends (S.left source.old) (S.faults source.old) (K.wrote sink.old) (K.faults sink.old))
-        (ends (S.left source.new) (S.faults source.new) (K.wrote sink.new) (K.faults sink.new)) result }
-{
-    let script = match read_script(alloc, source) {
-        Ok(script) => script,
-        Err(stop) => return read_status(stop),
-    };
-    match answer_script(alloc, nodes, SCRIPT_LIMIT, &script) {
-        Ok(answers) => write_answer(sink, &answers.lines, answers.refused),
-        Err(stop) => answer_status(stop),
-    }
-}
-
 /// Answers the generated script with this number of statements in each theory, and writes the line that counts its answers.
 fn answer_generated<K: Sink>(alloc: Global, nodes: u64, count: u32, sink: &mut K) -> Status
     ensures { ClaimOfGenerated nodes count (K.wrote sink.old) (K.wrote sink.new) (K.faults sink.old) (K.faults sink.new) result }
@@ -100,27 +78,7 @@ fn tallied(alloc: Global, nodes: u64, count: u32) -> Result<(Vec<u8>, bool), All
     ensures { IfOk result (λ r. IsTally nodes count r.0.items r.1) }
 {
     let script = generated(alloc, count)?;
-    let answers = answer_script(alloc, nodes, script.len(), &script).map_err(|_| AllocError)?;
+    let answers = answer_script(alloc, nodes, &script)?;
     let line = tally(alloc, &answers.lines)?;
     Ok((line, answers.refused))
-}
-
-/// The status where a script was not read.
-fn read_status(stop: ReadStop) -> Status
-    ensures { result ≡ read_status stop }
-{
-    match stop {
-        ReadStop::Fault => Status::ReadFault,
-        ReadStop::Memory => Status::Memory,
-    }
-}
-
-/// The status where a script was not answered.
-fn answer_status(stop: AnswerStop) -> Status
-    ensures { result ≡ answer_status stop }
-{
-    match stop {
-        AnswerStop::Long => Status::ScriptLong,
-        AnswerStop::Memory => Status::Memory,
-    }
 }

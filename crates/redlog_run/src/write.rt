@@ -1,8 +1,9 @@
-ghost use Rattle.std.specs.Prelude.{◌≡◌, OnOk, OnErr};
+ghost use Rattle.std.specs.Prelude.{◌≡◌, [], OnOk, OnErr};
 ghost use Rattle.qe_io.specs.Streams.{Took, Rose};
 ghost use Rattle.redlog_run.specs.Ends.{TookFront};
 ghost use Rattle.redlog_run.specs.Script.{Written};
 
+use crate::answer::Answers;
 use crate::status::Status;
 use qe_io::{Sink, WriteFailed};
 
@@ -17,8 +18,22 @@ pub fn write_answer<K: Sink>(sink: &mut K, text: &[u8], refused: bool) -> Status
     }
 }
 
+/// Writes the lines, and holds none after. After an `Err` some bytes in front were written.
+pub fn write_lines<K: Sink>(sink: &mut K, answers: &mut Answers) -> Result<(), WriteFailed>
+    ensures wrote { OnOk result (Took (K.wrote sink.old) (K.wrote sink.new) answers.old.lines.items) }
+    ensures quiet { OnOk result (answers.new.lines.items ≡ []) }
+    ensures refused { answers.new.refused ≡ answers.old.refused }
+    ensures no_fault { OnOk result (K.faults sink.new ≡ K.faults sink.old) }
+    ensures fault { OnErr result (Rose (K.faults sink.old) (K.faults sink.new)) }
+    ensures front { OnErr result (TookFront (K.wrote sink.old) (K.wrote sink.new) answers.old.lines.items) }
+{
+    write_all(sink, &answers.lines)?;
+    answers.lines.clear();
+    Ok(())
+}
+
 /// Writes all the bytes. After an `Err` some bytes in front were written.
-fn write_all<K: Sink>(sink: &mut K, bytes: &[u8]) -> Result<(), WriteFailed>
+pub fn write_all<K: Sink>(sink: &mut K, bytes: &[u8]) -> Result<(), WriteFailed>
     ensures wrote { OnOk result (Took (K.wrote sink.old) (K.wrote sink.new) bytes.now) }
     ensures no_fault { OnOk result (K.faults sink.new ≡ K.faults sink.old) }
     ensures fault { OnErr result (Rose (K.faults sink.old) (K.faults sink.new)) }

@@ -1,13 +1,15 @@
-use Rattle.std.proofs.Common.{◌≡◌, ◌-◌, length}
-use Rattle.session_commands.specs.Seen.{state_in}
-use Rattle.redlog_run.proofs.Ending.{Answering}
+use Rattle.std.proofs.Common.{◌≡◌, ◌≤◌, ◌-◌, false, length, take}
+use Rattle.redlog_run.specs.Script.{Stands}
 use Rattle.redlog_run.proofs.answer.answer_script.Given as goal
 
-abbrev pub invariant-pieces : goal.invariant-pieces
-invariant-pieces l = record {
-  limits : l.session.limits.nodes ≡ l.nodes;
-  so_far : Answering l.longest l.nodes l.script l.from (state_in l.session) l.answers.lines.items l.answers.refused;
+-- the bytes in front were taken, and the lines are those of their pieces
+abbrev pub invariant-loop-taken : goal.invariant-loop-taken
+invariant-loop-taken l = record {
+  stands : Stands l.nodes (take l.taken l.script) l.answering.answers.lines.items l.answering;
+  none : l.answering.splitter.whole ≡ false;
+  count : l.answering.splitter.fed ≡ l.taken;
+  within : l.taken ≤ length l.script;
 }
 
-abbrev pub decreases-pieces : goal.decreases-pieces
-decreases-pieces l = length l.script - l.from
+abbrev pub decreases-loop-taken : goal.decreases-loop-taken
+decreases-loop-taken l = length l.script - l.taken
