@@ -12,7 +12,7 @@ use Rattle.formula_store.specs.Nodes.{tree, IsId}
 use Rattle.case_theory.specs.Pending.{Pending, ArePending, IsCovered, children}
 use Rattle.case_theory.proofs.Pending.{pending_goes_on, covered_goes, other_covers}
 use Rattle.branch_rounds.specs.declared.work.Work.{Work}
-use Rattle.branch_rounds.specs.Branches.{Seen, IsOpen, StandsFor, AllStand, ArePendingOf, Takes, numbers}
+use Rattle.branch_rounds.specs.Branches.{Seen, IsOpen, IsAlike, StandsFor, AllStand, ArePendingOf, Takes, numbers}
 use Rattle.branch_rounds.specs.Rounds.{IsStep, IsSpreadOver}
 use Rattle.branch_rounds.proofs.Standing.{all_stand_kept, stand_together, stand_apart, stand_first, some_stands}
 
@@ -58,14 +58,14 @@ module _ (w : Work) (matrix : Tree) (block : List ℕ) where
         }
 
     -- one that stands there already goes
-    again_goes : (made rest : List Seen) (d : Seen) → SomeOf (λ (e : Seen). (e.formula ≡ d.formula) × (e.left ≡ d.left)) made → ArePendingOf w matrix block nodes (made ++ d ∷ rest) → ArePendingOf w matrix block nodes (made ++ rest)
+    again_goes : (made rest : List Seen) (d : Seen) → SomeOf (IsAlike d) made → ArePendingOf w matrix block nodes (made ++ d ∷ rest) → ArePendingOf w matrix block nodes (made ++ rest)
     again_goes made rest d there a =
         one_may_go made rest d
         (λ p others h hs.
         let q = found_in (λ (q : Pending). (q.tree ≡ p.tree) × (q.left ≡ p.left)) others
-        (some_stands nodes (λ (e : Seen). (e.formula ≡ d.formula) × (e.left ≡ d.left)) (λ (q : Pending). (q.tree ≡ p.tree) × (q.left ≡ p.left))
+        (some_stands nodes (IsAlike d) (λ (q : Pending). (q.tree ≡ p.tree) × (q.left ≡ p.left))
         (λ e q k u. (sym k.formula ∙ ap (tree nodes) u.0 ∙ h.formula, sym k.left ∙ ap numbers u.1 ∙ h.left)) (made ++ rest) others hs
-        (some_left (λ (e : Seen). (e.formula ≡ d.formula) × (e.left ≡ d.left)) made rest there)) in
+        (some_left (IsAlike d) made rest there)) in
         (other_covers (context_of w.context) (map atom_of w.assumed.now) p others q.0 q.1).equal q.2.0 (λ y m. subst (λ l. Among l y) (sym q.2.1) m))
         a
 

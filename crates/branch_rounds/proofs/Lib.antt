@@ -5,3 +5,5 @@ pub mod Grown
 pub mod Left
 pub mod Childs
 pub mod EachRound
+pub mod Places
+pub mod Ended

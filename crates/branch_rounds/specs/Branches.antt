@@ -1,5 +1,6 @@
 -- Branches of a block over the nodes of a store, and what they stand for.
-use Rattle.std.specs.Prelude.{◌≡◌, ◌⊎◌, ℕ, List, [], ◌∷◌, ◌++◌, map, reverse, nat_eq, if◌then◌else◌}
+use Rattle.std.specs.HashMap.{get}
+use Rattle.std.specs.Prelude.{◌≡◌, ◌⊎◌, ℕ, List, [], ◌∷◌, ◌++◌, Some, slice_get, map, reverse, nat_eq, if◌then◌else◌}
 use Rattle.formula_meaning.specs.Distinct.{StandsOnce}
 use Rattle.formula_meaning.specs.Some.{SomeOf, EachOf}
 use Rattle.formula_meaning.specs.Atom.{Atom}
@@ -11,6 +12,7 @@ use Rattle.linear_forms.specs.declared.form.VarId.{VarId}
 use Rattle.formula_tree.specs.declared.shape.Shape.{Shape}
 use Rattle.formula_store.specs.declared.id.FormulaId.{FormulaId}
 use Rattle.formula_store.specs.Nodes.{tree, IsId}
+use Rattle.formula_store.specs.Tables.{TableOf, same_id}
 use Rattle.test_points.specs.declared.points.TestPoint.{TestPoint}
 use Rattle.test_points.specs.Points.{answer_of, IsTestPoint}
 use Rattle.case_theory.specs.Pending.{Pending, ArePending, AreEnded}
@@ -36,9 +38,17 @@ others_of x (y ∷ names) = if nat_eq y.number x.number then others_of x names e
 abbrev pub branch_at : List TestPoint → List VarId → Child → Seen
 branch_at points left k = record { formula = k.formula; points = points ++ k.point ∷ []; left = left }
 
--- the branches with one more at their end, unless its formula with its names left is among them
+-- the second has the formula of the first, and the same names left
+abbrev pub IsAlike : Seen → Seen → Type 0
+IsAlike b d = (d.formula ≡ b.formula) × (d.left ≡ b.left)
+
+-- the branches with one more at their end, unless one like it is among them
 abbrev pub Takes : List Seen → Seen → List Seen → Type 0
-Takes old b new = (new ≡ old ++ b ∷ []) ⊎ ((new ≡ old) × SomeOf (λ (d : Seen). (d.formula ≡ b.formula) × (d.left ≡ b.left)) old)
+Takes old b new = (new ≡ old ++ b ∷ []) ⊎ ((new ≡ old) × SomeOf (IsAlike b) old)
+
+-- a branch with the formula stands at each place that the table has for one
+abbrev pub ArePlaces : List Seen → TableOf ℕ → Type 0
+ArePlaces bs table = (id : FormulaId) (p : ℕ) → get same_id table id ≡ Some p → (b : Seen) × (slice_get bs p ≡ Some b) × (b.formula ≡ id)
 
 -- a branch that can be worked on: a tidy formula of the nodes, well-formed points, and each name that is left once
 pub record IsOpen (w : Work) (nodes : List (Shape FormulaId)) (b : Seen) : Type 0 where

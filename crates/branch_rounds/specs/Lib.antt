@@ -2,3 +2,4 @@ pub mod Worked
 pub mod Children
 pub mod Branches
 pub mod Rounds
+pub mod Cases

@@ -23,8 +23,8 @@ use std::thread::Threads;
 use test_points::TestPoint;
 
 impl Work<'_> {
-    /// The branches without one name of each: for each branch those at the points of a name that is left in it. Branches with one
-    /// formula and the same names left are one; where one is `true`, it alone.
+    /// The branches without one name of each: for each branch those at the points of a name that is left in it. A branch that has
+    /// the names left of the last one with its formula is not made again; where one is `true`, it stands alone.
     pub(crate) fn round<R: Threads + Sync, G: Gate + Sync>(
         &self,
         rt: &R,
