@@ -1,5 +1,5 @@
 -- Commands that give a formula: what they give, when they are accepted, and why they are refused.
-use Rattle.std.proofs.Common.{◌≡◌, inl, inr, ℕ, ◌<◌, List, [], ◌∷◌, ◌++◌, Bool, true, Option, Some, None, sym, ap, ◌∙◌, subst, refl, length, codes, nat_eq, arith, ◌↔◌, ◌≤◌}
+use Rattle.std.proofs.Common.{◌≡◌, ◌⊎◌, inl, inr, ℕ, ◌<◌, List, [], ◌∷◌, ◌++◌, Bool, true, Option, Some, None, sym, ap, ◌∙◌, subst, refl, length, codes, nat_eq, arith, ◌↔◌, ◌≤◌}
 use Rattle.std.proofs.lemmas.List.{length-append}
 use Rattle.std.specs.List.{fold}
 use Rattle.formula_meaning.specs.Formula.{none, also}
@@ -427,7 +427,7 @@ refused_prenex f s numbers limit target printed h forms.Memory k other = absurd 
 -- the form is not made
 pub refused_form : (w : FormCommand) (f : FormulaTree) (s : State) (numbers : AreNumbered s.names (also f (given_trees w))) (limit : ℕ) (target : Option (List ℕ)) (printed : Bool) → IsReady s w f
     → (e : FormsError) → FormFault s.context (length s.names) limit (form_of w) (resolve s.context s.bound s.names f) e → Refuses s limit (use_of target printed) (command_of w f) (forms_refusal e)
-refused_form wanted.Prenex f s numbers limit target printed h e k = refused_prenex f s numbers limit target printed h e k
+refused_form wanted.Prenex f s numbers limit target printed h e k other = refused_prenex f s numbers limit target printed h e k other
 refused_form wanted.Resolved f s numbers limit target printed h forms.Overflow k other = absurd k
 refused_form wanted.Resolved f s numbers limit target printed h forms.Nodes k other = absurd k
 refused_form wanted.Resolved f s numbers limit target printed h forms.Memory k other = absurd (other refl)

@@ -1,5 +1,5 @@
 -- The sample at a point, and why it is refused.
-use Rattle.std.proofs.Common.{◌↔◌, inr, ℕ, ◌<◌, List, [], ◌∷◌, Bool, None, Some, Option, subst, sym}
+use Rattle.std.proofs.Common.{◌↔◌, inr, ℕ, ◌<◌, List, [], ◌∷◌, Bool, None, Some, Option, subst, sym, refl}
 use Rattle.std.specs.List.{IsDistinct}
 use Rattle.formula_meaning.specs.Context.{Context}
 use Rattle.formula_meaning.specs.Every.{Every}

@@ -1,5 +1,5 @@
 -- What a command is refused and answered with, by its meaning.
-use Rattle.std.specs.Prelude.{◌≢◌, ℕ, List, Bool, Option, Some, None}
+use Rattle.std.specs.Prelude.{◌≡◌, ◌≢◌, ℕ, List, Bool, Option, Some, None}
 use Rattle.formula_meaning.specs.Tree.{Tree}
 use Rattle.qe_syntax.specs.Statements.{CommandTree, ActionTree, Empty, Ignored, Finish, Choose, Say, Assign, StatementTree}
 use Rattle.session_meaning.specs.declared.line.Line.{Line}

@@ -1,5 +1,6 @@
 //! The formula of a command and its assumptions: numbered, and resolved together.
 
+ghost use Rattle.formula_meaning.specs.Formula.{also};
 ghost use Rattle.std.specs.Prelude.{◌≡◌, ◌≢◌, ◌++◌, None, IfOk, IfErr, OnOk, map};
 ghost use Rattle.std.specs.List.{AllByRecursion, fold};
 ghost use Rattle.atom_normal.specs.Atoms.{atom_of, IsWellFormed};

@@ -1,5 +1,6 @@
 //! The case list of a formula.
 
+ghost use Rattle.formula_meaning.specs.Formula.{also};
 ghost use Rattle.std.specs.Prelude.{◌≡◌, Bool, None, map, IfOk, IfErr, OnOk, OnErr, length};
 ghost use Rattle.plain_cases.specs.Case.{case_seen, HavePoints};
 ghost use Rattle.formula_tree.specs.Resolving.{resolve};

@@ -1,3 +1,4 @@
+use Rattle.formula_meaning.specs.Formula.{also}
 use Rattle.std.proofs.Common.{◌≡◌, sym, subst, rules, map, Err}
 use Rattle.std.specs.Prelude.{IfErr}
 use Rattle.qe_syntax.specs.Trees.{formula_tree, formulas_of}
