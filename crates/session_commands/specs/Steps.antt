@@ -3,7 +3,6 @@ use Rattle.std.specs.Prelude.{◌≡◌, ◌≢◌, ◌⊎◌, ◌<◌, ℕ, Lis
 use Rattle.formula_meaning.specs.Formula.{none, also}
 use Rattle.formula_meaning.specs.Some.{SomeOf}
 use Rattle.formula_meaning.specs.Tree.{Tree}
-use Rattle.formula_meaning.specs.Measured.{Overflow, Nodes}
 use Rattle.qe_syntax.specs.declared.tree.Formula.{Formula}
 use Rattle.qe_syntax.specs.Trees.{FormulaTree, FormulaTrees, formula_tree, formula_trees}
 use Rattle.qe_syntax.specs.Statements.{CommandTree, Echo, Nnf, Pnf, Dnf, Cnf, Simpl, Qe}

@@ -9,8 +9,6 @@ use Rattle.session_meaning.specs.Assumptions.{atoms_alone, assumed}
 use Rattle.session_state.specs.Keeping.{state_of}
 use Rattle.session_meaning.specs.State.{State}
 use Rattle.session_commands.specs.Steps.{HasNumbers, FirstAmong, AppliesToSome, IsFirstWith}
-use Rattle.session_meaning.specs.Meaning.{numbered}
-use Rattle.session_meaning.specs.Words.{before}
 use Rattle.session_commands.proofs.AssumptionLemmas.{nothing_more, first_of_more, assumed_more, atoms_more, none_before}
 use Rattle.session_state.proofs.StateLemmas.{same_state, kept_ids, keeps_self, keeps_then}
 use Rattle.session_commands.proofs.assumptions.read_assumptions.Goals as goal

@@ -9,7 +9,6 @@ use Rattle.formula_store.specs.Nodes.{tree, IsId}
 use Rattle.session_state.specs.Keeping.{state_of}
 use Rattle.session_meaning.specs.State.{State}
 use Rattle.session_commands.specs.Steps.{HasNumbers, IsReadable, IsFirstCauseAmong, AreUnread, FirstAmong, AppliesToSome}
-use Rattle.session_meaning.specs.Meaning.{numbered}
 use Rattle.session_commands.proofs.PartLemmas.{each_listed}
 use Rattle.session_commands.proofs.AssumptionLemmas.{first_unread, none_unread, list_unread, both_unread, memory_unread, parts_readable}
 use Rattle.session_state.proofs.StateLemmas.{same_state, kept_ids, keeps_then}

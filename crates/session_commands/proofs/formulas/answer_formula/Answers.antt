@@ -4,7 +4,6 @@ use Rattle.qe_syntax.specs.Trees.{formula_tree}
 use Rattle.session_state.specs.Keeping.{state_of}
 use Rattle.session_commands.specs.Replies.{use_of, Refuses, IsFormulaAnswer}
 use Rattle.session_commands.specs.Steps.{command_of}
-use Rattle.session_meaning.specs.Meaning.{numbered}
 use Rattle.session_state.specs.Growth.{GrowsState}
 use Rattle.session_state.proofs.StateLemmas.{keeps_itself, grows_then_grows}
 use Rattle.session_commands.proofs.GivenSteps.{names_are, with_numbers, numbered_state, numbers_there, numbered_session, later_within, later_members, answered_session, given_answer, given_refused, on_err}

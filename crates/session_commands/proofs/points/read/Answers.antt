@@ -1,4 +1,4 @@
-use Rattle.std.proofs.Common.{sym, ◌∙◌, Some, None, ◌≢◌}
+use Rattle.std.proofs.Common.{sym, ◌∙◌, Some, None}
 use Rattle.std.proofs.lemmas.Bool.{false≢true}
 use Rattle.qe_syntax.specs.Trees.{formula_tree}
 use Rattle.formula_store.specs.Nodes.{tree}

@@ -1,4 +1,4 @@
-use Rattle.std.proofs.Common.{refl, ◌∙◌, sym, ◌≢◌}
+use Rattle.std.proofs.Common.{refl, ◌∙◌, sym}
 use Rattle.std.proofs.lemmas.Bool.{false≢true}
 use Rattle.qe_syntax.specs.declared.statement.PointEntry.{PointEntry}
 use Rattle.qe_syntax.proofs.EntryLists.{unfound_start, unfound_more, unfound_here, unfound_end}
