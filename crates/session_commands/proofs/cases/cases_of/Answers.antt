@@ -1,4 +1,6 @@
-use Rattle.std.proofs.Common.{◌≡◌, Bool, None, sym, subst, rules, map, Err}
+use Rattle.session_state.specs.declared.state.SessionState.{SessionState}
+use Rattle.session_state.proofs.StateLemmas.{keeps_then}
+use Rattle.std.proofs.Common.{◌≡◌, Bool, None, refl, sym, subst, rules, map, Err}
 use Rattle.std.specs.Prelude.{Result, IfErr}
 use Rattle.std.specs.declared.vec.Vec.{Vec}
 use Rattle.std.specs.declared.alloc.Global.{Global}
@@ -9,9 +11,8 @@ use Rattle.plain_cases.specs.Case.{case_seen}
 use Rattle.qe_syntax.specs.Statements.{Qea}
 use Rattle.qe_syntax.specs.Trees.{formula_tree, formulas_of}
 use Rattle.session_meaning.specs.declared.line.StatementError.{StatementError}
-use Rattle.session_commands.specs.Causes.{Refuses}
+use Rattle.session_commands.specs.Replies.{use_of, Refuses}
 use Rattle.session_state.specs.Keeping.{state_of}
-use Rattle.session_commands.specs.Steps.{use_of}
 use Rattle.session_commands.proofs.GivenSteps.{proper_items}
 use Rattle.session_commands.proofs.CaseSteps.{normal_there, atoms_there, wanted_there, stopped_there, unread_there}
 use Rattle.session_commands.proofs.cases.cases_of.Goals as goal
@@ -45,7 +46,23 @@ returns-in-Ok-clause-cases c =
     c.requires.proper c.requires.given (tree c.read_parts.new.state.store c.in_ok-read.read.formula) c.in_ok-read.ensures.made.same (map atom_of c.in_ok-read.read.atoms.items) c.in_ok-read.ensures.atoms
     c.args.limit (map case_seen c.in-Ok.cases.items) c.in-Ok.ensures.cases
 
-pub returns-in-Err-clause-refused : goal.returns-in-Err-clause-refused
-returns-in-Err-clause-refused c =
-    stopped_there c.args.state.now c.read_parts.new.state (formula_tree c.args.formula.now) (formulas_of (map formula_tree c.args.given.now)) c.requires.session c.requires.numbered c.in_ok-read.ensures.readable c.read_parts.ensures.kept
-    c.requires.proper c.requires.given (tree c.read_parts.new.state.store c.in_ok-read.read.formula) c.in_ok-read.ensures.made.same c.args.limit c.in-Err.error c.in-Err.ensures.fault
+pub returns-clause-refused : goal.returns-clause-refused
+returns-clause-refused c =
+    let s = state_of c.args.state.now in
+    let f = formula_tree c.args.formula.now in
+    let gs = formulas_of (map formula_tree c.args.given.now) in
+    subst (λ e. (printed : Bool) → Refuses s c.args.limit (use_of None printed) (Qea f gs) e) (sym c.forms_refusal.ensures)
+    (stopped_there c.args.state.now c.read_parts.new.state f gs c.requires.session c.requires.numbered c.in_ok-read.ensures.readable c.read_parts.ensures.kept
+    c.requires.proper c.requires.given (tree c.read_parts.new.state.store c.in_ok-read.read.formula) c.in_ok-read.ensures.made.same c.args.limit c.in-Err.error c.in-Err.ensures.fault)
+
+pub returns-in-Ok-clause-kept : goal.returns-in-Ok-clause-kept
+returns-in-Ok-clause-kept c =
+    let m = c.read_parts.new.state in
+    let later : SessionState = record { alloc = m.alloc; context = m.context; names = m.names; bindings = m.bindings; store = c.wanted_cases.new.store; kept = m.kept } in
+    keeps_then c.args.state.now m later c.read_parts.ensures.kept (record { context = refl; names = refl; bindings = refl; store = c.wanted_cases.ensures.kept })
+
+pub returns-clause-kept : goal.returns-clause-kept
+returns-clause-kept c =
+    let m = c.read_parts.new.state in
+    let later : SessionState = record { alloc = m.alloc; context = m.context; names = m.names; bindings = m.bindings; store = c.wanted_cases.new.store; kept = m.kept } in
+    keeps_then c.args.state.now m later c.read_parts.ensures.kept (record { context = refl; names = refl; bindings = refl; store = c.wanted_cases.ensures.kept })

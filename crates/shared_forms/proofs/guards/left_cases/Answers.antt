@@ -50,8 +50,8 @@ loop-leaf-preserved c =
       kept = keeps_then c.args.store.now c.loop-leaf.store c.left_case.new.store c.loop-leaf.invariant.kept c.left_case.ensures.kept;
     }
 
-pub returns-in-Err-clause-kept : goal.returns-in-Err-clause-kept
-returns-in-Err-clause-kept c = keeps_then c.args.store.now c.loop-leaf.store c.left_case.new.store c.loop-leaf.invariant.kept c.left_case.ensures.kept
+pub returns-in_err-push_left-clause-kept : goal.returns-in_err-push_left-clause-kept
+returns-in_err-push_left-clause-kept c = keeps_then c.args.store.now c.loop-leaf.store c.left_case.new.store c.loop-leaf.invariant.kept c.left_case.ensures.kept
 
 pub returns-clause-left : goal.returns-clause-left
 returns-clause-left c =
