@@ -1,6 +1,6 @@
 -- The children of a branch, one point after the other.
-use Rattle.std.proofs.Common.{◌≡◌, ℕ, zero, suc, ◌<◌, ◌+◌, List, [], ◌∷◌, ◌++◌, map, length, take, get_or, Some, refl, sym, ap, ◌∙◌, subst, arith, add-one, inl, inr}
-use Rattle.std.specs.Prelude.{All, Bool, Option, None, IfSome, IsSomeAnd, IsTrue, option_map, option_to_list}
+use Rattle.std.proofs.Common.{◌≡◌, ℕ, zero, suc, ◌<◌, List, [], ◌∷◌, ◌++◌, map, length, get_or, Some, refl, sym, ap, ◌∙◌, subst, arith, inl, inr}
+use Rattle.std.specs.Prelude.{Bool, Option, None, IfSome, IsSomeAnd, IsTrue, option_map, option_to_list}
 use Rattle.formula_meaning.specs.Context.{Context, Fields, Integers}
 use Rattle.formula_meaning.specs.Atom.{Atom}
 use Rattle.formula_meaning.specs.Answer.{Place}
@@ -12,7 +12,7 @@ use Rattle.formula_meaning.specs.Some.{Among, EachOf}
 use Rattle.formula_meaning.specs.Tree.{Tree, TrueAt}
 use Rattle.std.proofs.lemmas.List.{append-nil, map-append, same_from_push}
 use Rattle.elimination_theory.specs.BothTheories.{IsPlaceIn}
-use Rattle.elimination_theory.specs.Steps.{Result, result_at}
+use Rattle.elimination_theory.specs.Steps.{result_at}
 use Rattle.elimination_theory.proofs.SomeListed.{each_append}
 use Rattle.elimination_reference.specs.Theorems.{IsTidy}
 use Rattle.elimination_reference.proofs.Tidy.{result_tidy}

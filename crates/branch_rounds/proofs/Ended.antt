@@ -2,8 +2,8 @@
 use Rattle.std.proofs.Common.{◌≡◌, List, [], ◌∷◌, map, refl, sym, ap, ◌∙◌, subst}
 use Rattle.formula_meaning.specs.Atom.{Atom}
 use Rattle.formula_meaning.specs.Some.{EachOf}
-use Rattle.elimination_reference.specs.Cases.{Case, case_matrix, case_names}
-use Rattle.atom_normal.specs.Atoms.{context_of, atom_of}
+use Rattle.elimination_reference.specs.Cases.{case_matrix, case_names}
+use Rattle.atom_normal.specs.Atoms.{context_of}
 use Rattle.formula_tree.specs.declared.shape.Shape.{Shape}
 use Rattle.formula_store.specs.declared.id.FormulaId.{FormulaId}
 use Rattle.formula_store.specs.Nodes.{tree}
@@ -34,4 +34,4 @@ branches_are_cases w theory f nodes matrix bs n same worked h =
     let p = h.pending in
     subst (IsCaseTree c theory f (tree nodes matrix)) (sym (same_cases nodes bs p.meant p.stand))
     (pending_ends c theory f (tree nodes matrix) p.meant n (subst (λ (ks : List Atom). IsWorked c ks (case_matrix f) (tree nodes matrix)) same worked)
-        (subst (λ (ks : List Atom). ArePending c ks (tree nodes matrix) (case_names f) p.meant) same p.pending) (all_end nodes bs p.meant p.stand h.ended))
+    (subst (λ (ks : List Atom). ArePending c ks (tree nodes matrix) (case_names f) p.meant) same p.pending) (all_end nodes bs p.meant p.stand h.ended))

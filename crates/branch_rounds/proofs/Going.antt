@@ -12,7 +12,7 @@ use Rattle.formula_store.specs.Nodes.{tree, IsId}
 use Rattle.case_theory.specs.Pending.{Pending, ArePending, IsCovered, children}
 use Rattle.case_theory.proofs.Pending.{pending_goes_on, covered_goes, other_covers}
 use Rattle.branch_rounds.specs.declared.work.Work.{Work}
-use Rattle.branch_rounds.specs.Branches.{Seen, IsOpen, IsAlike, StandsFor, AllStand, ArePendingOf, Takes, numbers}
+use Rattle.branch_rounds.specs.Branches.{Seen, IsOpen, IsAlike, StandsFor, AllStand, ArePendingOf, numbers}
 use Rattle.branch_rounds.specs.Rounds.{IsStep, IsSpreadOver}
 use Rattle.branch_rounds.proofs.Standing.{all_stand_kept, stand_together, stand_apart, stand_first, some_stands}
 

@@ -1,9 +1,8 @@
 -- The branches at the points of a name, from what is left of the formula there.
-use Rattle.std.proofs.Common.{◌≡◌, ℕ, suc, List, [], ◌∷◌, ◌++◌, map, length, refl, sym, ap, ◌∙◌, subst}
+use Rattle.std.proofs.Common.{◌≡◌, ℕ, suc, List, [], ◌∷◌, ◌++◌, map, length, refl, ap, ◌∙◌, subst}
 use Rattle.std.proofs.lemmas.List.{reverse-append}
 use Rattle.std.specs.Prelude.{reverse}
 use Rattle.formula_meaning.specs.Answer.{Answer}
-use Rattle.formula_meaning.specs.Context.{Context}
 use Rattle.formula_meaning.specs.Atom.{Atom}
 use Rattle.formula_meaning.specs.Distinct.{StandsOnce}
 use Rattle.formula_meaning.specs.Some.{Among, EachOf}
@@ -14,7 +13,7 @@ use Rattle.atom_normal.specs.Atoms.{context_of, atom_of}
 use Rattle.linear_forms.specs.declared.form.VarId.{VarId}
 use Rattle.formula_tree.specs.declared.shape.Shape.{Shape}
 use Rattle.formula_store.specs.declared.id.FormulaId.{FormulaId}
-use Rattle.formula_store.specs.Nodes.{tree, IsId}
+use Rattle.formula_store.specs.Nodes.{tree}
 use Rattle.elimination_theory.proofs.SomeListed.{each_append}
 use Rattle.test_points.specs.declared.points.TestPoint.{TestPoint}
 use Rattle.test_points.specs.Points.{answer_of, place_of, IsTestPoint, IsPointOf}
@@ -25,7 +24,7 @@ use Rattle.branch_points.specs.declared.choice.Chosen.{Chosen}
 use Rattle.branch_points.specs.Chosen.{IsChosen}
 use Rattle.branch_rounds.specs.declared.children.Child.{Child}
 use Rattle.branch_rounds.specs.declared.work.Work.{Work}
-use Rattle.branch_rounds.specs.Branches.{Seen, IsOpen, StandsFor, AllStand, branch_at, others_of, numbers}
+use Rattle.branch_rounds.specs.Branches.{Seen, IsOpen, AllStand, branch_at, others_of, numbers}
 use Rattle.branch_rounds.specs.Children.{IsChildOf, AreChildrenOf, result_seen}
 use Rattle.branch_rounds.specs.Rounds.{HaveFewer, IsStep}
 use Rattle.branch_rounds.proofs.Names.{left_rest, left_once, one_fewer, among_numbers}

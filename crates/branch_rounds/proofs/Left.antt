@@ -1,5 +1,5 @@
 -- What is left of a formula of the store once it is simplified under the assumptions.
-use Rattle.std.proofs.Common.{◌≡◌, List, map, Option, Some, None, ap, subst, sym}
+use Rattle.std.proofs.Common.{◌≡◌, List, map, Option, Some, None, subst, sym}
 use Rattle.std.specs.Prelude.{MatchOption}
 use Rattle.exact_numbers.specs.Limit.{InLimit}
 use Rattle.formula_meaning.specs.Context.{Context}
@@ -45,7 +45,7 @@ simplified_worked w h old new f whole r i e tidy s =
     let ks = map atom_of w.assumed.now in
     subst (λ g. IsWorked c ks g (tree new r)) e
     (subst (IsWorked c ks (tree old whole)) (sym s)
-        (simplifying_works c ks (tree old whole) (assumable c ks h.normal (all_within w.assumed.now h.well_formed)) (subst (IsTidy c) (sym e) tidy) (constants_within old whole i)))
+    (simplifying_works c ks (tree old whole) (assumable c ks h.normal (all_within w.assumed.now h.well_formed)) (subst (IsTidy c) (sym e) tidy) (constants_within old whole i)))
 
 -- nothing is left only of what is never true
 pub left_is : (c : Context) (ks : List Atom) (f : Tree) (nodes : List (Shape FormulaId)) (id : FormulaId) (r : Option FormulaId) → IsId nodes id → IsWorked c ks f (tree nodes id) → MatchOption r (tree nodes id ≡ No) (λ l. l ≡ id) →

@@ -2,7 +2,7 @@
 use Rattle.std.proofs.Common.{◌≡◌, ℕ, suc, Bool, true, false, List, [], ◌∷◌, length, refl, sym, ap, ◌∙◌, subst, inl, inr, ⊎_elim, eqb-true}
 use Rattle.std.proofs.lemmas.Bool.{eqb-false}
 use Rattle.std.specs.Prelude.{nat_eq, if◌then◌else◌}
-use Rattle.formula_meaning.specs.Some.{Among, SomeOf}
+use Rattle.formula_meaning.specs.Some.{Among}
 use Rattle.formula_meaning.specs.Distinct.{StandsOnce}
 use Rattle.linear_forms.specs.declared.form.VarId.{VarId}
 use Rattle.case_theory.specs.Pending.{IsRest}

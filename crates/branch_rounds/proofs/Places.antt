@@ -8,7 +8,7 @@ use Rattle.linear_forms.specs.declared.form.VarId.{VarId}
 use Rattle.formula_store.specs.declared.id.FormulaId.{FormulaId}
 use Rattle.formula_store.specs.Tables.{TableOf, same_id}
 use Rattle.formula_store.proofs.Keys.{same_id as one_id}
-use Rattle.branch_rounds.specs.Branches.{Seen, IsAlike, ArePlaces}
+use Rattle.branch_rounds.specs.Branches.{Seen, ArePlaces}
 
 at_end : {X : Type 0} (xs : List X) (x : X) → slice_get (xs ++ x ∷ []) (length xs) ≡ Some x
 at_end [] x = refl

@@ -3,7 +3,6 @@ use Rattle.std.specs.HashMap.{get}
 use Rattle.std.specs.Prelude.{◌≡◌, ◌⊎◌, ℕ, List, [], ◌∷◌, ◌++◌, Some, slice_get, map, reverse, nat_eq, if◌then◌else◌}
 use Rattle.formula_meaning.specs.Distinct.{StandsOnce}
 use Rattle.formula_meaning.specs.Some.{SomeOf, EachOf}
-use Rattle.formula_meaning.specs.Atom.{Atom}
 use Rattle.formula_meaning.specs.Tree.{Tree}
 use Rattle.elimination_theory.specs.Answers.{answers_of}
 use Rattle.elimination_reference.specs.Theorems.{IsTidy}
@@ -15,7 +14,7 @@ use Rattle.formula_store.specs.Nodes.{tree, IsId}
 use Rattle.formula_store.specs.Tables.{TableOf, same_id}
 use Rattle.test_points.specs.declared.points.TestPoint.{TestPoint}
 use Rattle.test_points.specs.Points.{answer_of, IsTestPoint}
-use Rattle.case_theory.specs.Pending.{Pending, ArePending, AreEnded}
+use Rattle.case_theory.specs.Pending.{Pending, ArePending}
 use Rattle.branch_rounds.specs.declared.children.Child.{Child}
 use Rattle.branch_rounds.specs.declared.work.Work.{Work}
 

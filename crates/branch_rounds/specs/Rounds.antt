@@ -1,11 +1,17 @@
 -- One round over the branches of a block.
-use Rattle.std.specs.Prelude.{◌≡◌, ℕ, suc, List, [], ◌∷◌, ◌++◌, length, map}
+use Rattle.std.specs.Prelude.{◌≡◌, ◌⊎◌, false, ℕ, suc, List, [], ◌∷◌, length, map}
 use Rattle.formula_meaning.specs.Formula.{Yes}
-use Rattle.formula_meaning.specs.Some.{Among, EachOf}
+use Rattle.formula_meaning.specs.Some.{Among, SomeOf, EachOf}
 use Rattle.formula_meaning.specs.Tree.{Tree}
 use Rattle.formula_meaning.specs.Answer.{Place}
 use Rattle.elimination_theory.specs.Steps.{Result}
+use Rattle.atom_normal.specs.declared.atoms.Context.{Context}
 use Rattle.atom_normal.specs.Atoms.{context_of, atom_of}
+use Rattle.nnf_substitution.specs.Placed.{all_within}
+use Rattle.test_points.specs.declared.points.TestPoint.{TestPoint}
+use Rattle.test_points.specs.Points.{place_of}
+use Rattle.branch_points.specs.declared.choice.Chosen.{Chosen}
+use Rattle.branch_points.specs.Chosen.{IsChosen, NeedsCounting}
 use Rattle.linear_forms.specs.declared.form.VarId.{VarId}
 use Rattle.formula_tree.specs.declared.shape.Shape.{Shape}
 use Rattle.formula_store.specs.declared.id.FormulaId.{FormulaId}
@@ -14,7 +20,7 @@ use Rattle.case_theory.specs.Pending.{Pending, IsRest, children}
 use Rattle.case_theory.specs.Points.{ArePointsFor}
 use Rattle.case_theory.specs.Children.{AreChildren}
 use Rattle.branch_rounds.specs.declared.work.Work.{Work}
-use Rattle.branch_rounds.specs.Branches.{Seen, IsOpen, AllStand, StandsFor, ArePendingOf, Takes}
+use Rattle.branch_rounds.specs.Branches.{Seen, IsOpen, AllStand, StandsFor, ArePendingOf, Takes, numbers}
 
 -- the branches have one name less
 abbrev pub HaveFewer : List VarId → List Seen → Type 0
@@ -52,3 +58,8 @@ IsSettled nodes bs = (b : Seen) × (bs ≡ b ∷ []) × (tree nodes b.formula �
 abbrev pub IsSpreadOver : List Seen → List Seen → List Seen → Type 0
 IsSpreadOver old [] new = new ≡ old
 IsSpreadOver old (b ∷ bs) new = (mid : List Seen) × Takes old b mid × IsSpreadOver mid bs new
+
+-- A number passes the limit at the points of a name that is left, or each of the names has to be counted.
+abbrev pub PassesAt : Context → Tree → List VarId → Type 0
+PassesAt c f left =
+    NeedsCounting f (numbers left) ⊎ ((ch : Chosen) × IsChosen c f left ch × SomeOf (λ (t : TestPoint). all_within (context_of c) t.name.number (place_of t) f ≡ false) ch.points.items)

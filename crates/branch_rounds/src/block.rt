@@ -1,6 +1,6 @@
 //! All names of a block put, one after the other.
 
-ghost use Rattle.std.specs.Prelude.{◌≡◌, ◌∷◌, [], IfOk, map};
+ghost use Rattle.std.specs.Prelude.{◌≡◌, ◌∷◌, [], IfOk, IfErr, map};
 ghost use Rattle.formula_meaning.specs.Some.{EachOf};
 ghost use Rattle.formula_meaning.specs.Distinct.{StandsOnce};
 ghost use Rattle.elimination_reference.specs.Theorems.{IsTidy};
@@ -9,7 +9,9 @@ ghost use Rattle.case_theory.specs.Under.{Lack};
 ghost use Rattle.formula_tree.specs.Makers.{Keeps};
 ghost use Rattle.formula_store.specs.Nodes.{tree, IsId};
 ghost use Rattle.branch_rounds.specs.Worked.{IsWork};
+ghost use Rattle.linear_forms.specs.declared.form.VarId.{VarId};
 ghost use Rattle.branch_rounds.specs.Branches.{AreBranchesOf, numbers};
+ghost use Rattle.branch_rounds.specs.Rounds.{PassesAt};
 
 use crate::branch::Branch;
 use crate::budget::Budget;
@@ -28,7 +30,8 @@ use std::thread::Threads;
 /// that has a name left, else the name and side with the fewest points.
 ///
 /// What the steps cost is taken off the budget before anything is put in; `Nodes` comes where it does not suffice, `Overflow` only
-/// where a number passes 2^127 - 1, else `Memory`. The formulas of the store stay.
+/// where a number passes 2^127 - 1, else `Memory`. Of a block of one name `Overflow` comes only where its points have to be counted,
+/// or where a number that is formed for an atom at the root of an equation or at 0 passes. The formulas of the store stay.
 pub fn block_branches<R: Threads + Sync, G: Gate + Sync>(
     rt: &R,
     work: &Work<'_>,
@@ -44,11 +47,15 @@ pub fn block_branches<R: Threads + Sync, G: Gate + Sync>(
     requires lack { EachOf (Lack (map atom_of work.now.assumed.now)) (numbers block.now) }
     requires once { StandsOnce (numbers block.now) }
     ensures branches { IfOk result (λ v. AreBranchesOf work.now (tree store.old matrix) (numbers block.now) store.new v.items) }
+    ensures one_name { (x : VarId) → block.now ≡ x ∷ [] → IfErr result (λ e. e ≡ RoundError.Overflow → PassesAt work.now.context (tree store.old matrix) block.now) }
     ensures kept { Keeps (IsId store.old) (tree store.old) (IsId store.new) (tree store.new) }
 {
     let mut branches = begun(work.alloc, matrix, block)?;
     for _name in block {
-        branches = work.round(rt, budget, store, branches, gate)?;
+        branches = match work.round(rt, budget, store, branches, gate) {
+            Ok(branches) => branches,
+            Err(error) => return Err(error),
+        };
     }
     Ok(branches)
 }

@@ -124,7 +124,9 @@ impl Work<'_> {
             Ok(None) => Ok(false),
             Ok(Some(formula)) => {
                 let point = point.copy(self.alloc).map_err(|_| RoundError::Memory)?;
-                children.push(Child { point, formula }).map_err(|_| RoundError::Memory)?;
+                children
+                    .push(Child { point, formula })
+                    .map_err(|_| RoundError::Memory)?;
                 Ok(is_true(store, formula))
             }
             Err(error) => Err(error),

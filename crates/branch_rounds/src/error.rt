@@ -1,12 +1,10 @@
 ghost use Rattle.std.specs.Prelude.{◌≡◌};
 ghost use Rattle.branch_rounds.specs.declared.error.RoundError.TheVariants.{Overflow, Nodes, Memory};
 ghost use Rattle.branch_points.specs.declared.error.ChoiceError.TheVariants as choice;
-ghost use Rattle.virtual_subst.specs.declared.error.SubstError.TheVariants as subst;
 
 use branch_points::ChoiceError;
 use std::alloc::AllocError;
 use thiserror::Error;
-use virtual_subst::SubstError;
 
 /// Why the branches of a block are not told.
 #[derive(Clone, Copy, Debug, PartialEq, Eq, Drop, Error)]
@@ -32,6 +30,8 @@ impl From<AllocError> for RoundError {
 
 // The word of a choice of points.
 pub(crate) fn of_choice(error: ChoiceError) -> RoundError
+    ensures overflow { result ≡ Overflow → error ≡ choice.Overflow }
+    ensures nodes { result ≡ Nodes → error ≡ choice.Nodes }
     ensures memory { result ≡ Memory → error ≡ choice.Memory }
 {
     match error {

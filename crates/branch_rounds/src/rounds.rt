@@ -1,12 +1,12 @@
 //! One name less in every branch.
 
-ghost use Rattle.std.specs.Prelude.{◌≡◌, ◌<◌, ◌++◌, [], ◌∷◌, IfOk, OnOk, IsTrue, ◌↔◌, length, map};
-ghost use Rattle.formula_meaning.specs.Some.{EachOf};
+ghost use Rattle.std.specs.Prelude.{◌≡◌, ◌<◌, ◌++◌, [], ◌∷◌, IfOk, IfErr, OnOk, IsTrue, ◌↔◌, length, map};
+ghost use Rattle.formula_meaning.specs.Some.{EachOf, SomeOf};
 ghost use Rattle.formula_tree.specs.Makers.{Keeps};
 ghost use Rattle.formula_store.specs.Nodes.{tree, IsId};
 ghost use Rattle.branch_rounds.specs.Worked.{IsWork};
 ghost use Rattle.branch_rounds.specs.Branches.{branch_at, IsOpen, others_of};
-ghost use Rattle.branch_rounds.specs.Rounds.{IsStep, IsRound, IsSettled, IsSpreadOver};
+ghost use Rattle.branch_rounds.specs.Rounds.{IsStep, IsRound, IsSettled, IsSpreadOver, PassesAt};
 
 use crate::branch::Branch;
 use crate::budget::Budget;
@@ -37,11 +37,15 @@ impl Work<'_> {
         requires are_open { EachOf (IsOpen self.now store.old) branches.items }
         requires some { EachOf (λ b. 0 < length b.left) branches.items }
         ensures round { IfOk result (λ v. IsRound self.now store.old branches.items store.new v.items) }
+        ensures overflow { IfErr result (λ e. e ≡ RoundError.Overflow → SomeOf (λ b. PassesAt self.now.context (tree store.old b.formula) b.left) branches.items) }
         ensures kept { Keeps (IsId store.old) (tree store.old) (IsId store.new) (tree store.new) }
     {
         let mut spread = Spread::new(self.alloc);
         for branch in branches {
-            let next = self.step(rt, budget, store, branch, gate)?;
+            let next = match self.step(rt, budget, store, branch, gate) {
+                Ok(next) => next,
+                Err(error) => return Err(error),
+            };
             if settles(store, &next) {
                 return Ok(next);
             }
@@ -63,6 +67,7 @@ impl Work<'_> {
         requires are_open { IsOpen self.now store.old branch }
         requires some { 0 < length branch.left }
         ensures step { IfOk result (λ v. IsStep self.now store.old branch store.new v.items) }
+        ensures overflow { IfErr result (λ e. e ≡ RoundError.Overflow → PassesAt self.now.context (tree store.old branch.formula) branch.left) }
         ensures kept { Keeps (IsId store.old) (tree store.old) (IsId store.new) (tree store.new) }
     {
         let formula = branch.formula();
@@ -79,9 +84,14 @@ impl Work<'_> {
             Ok(choice) => choice,
             Err(error) => return Err(of_choice(error)),
         };
-        budget.pay(choice.points.len(), nodes)?;
+        if let Err(error) = budget.pay(choice.points.len(), nodes) {
+            return Err(error);
+        }
         let left = others(self.alloc, branch.left(), choice.name)?;
-        let children = self.children(rt, store, formula, &choice, gate)?;
+        let children = match self.children(rt, store, formula, &choice, gate) {
+            Ok(children) => children,
+            Err(error) => return Err(error),
+        };
         Ok(branches_at(self.alloc, branch.points(), children, &left)?)
     }
 }

@@ -44,9 +44,7 @@ pub fn put_at_all<R: Threads + Sync, G: Gate + Sync>(
     ensures overflow { IfErr result (λ e. e ≡ SubstError.Overflow → SomeOf (λ t. all_within (context_of context) t.name.number (place_of t) (tree store.old branch) ≡ false) points.now) }
     ensures kept { Keeps (IsId store.old) (tree store.old) (IsId store.new) (tree store.new) }
 {
-    match substitute_all(
-        rt, alloc, store, context, branch, points, workers, gate,
-    ) {
+    match substitute_all(rt, alloc, store, context, branch, points, workers, gate) {
         Ok(deltas) => Ok(taken_in(alloc, store, deltas)?),
         Err(FanError::Piece { stop, .. }) => Err(stop),
         Err(FanError::Memory) => Err(SubstError::Memory),

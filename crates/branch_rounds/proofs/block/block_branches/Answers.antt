@@ -1,8 +1,9 @@
-use Rattle.std.proofs.Common.{◌≡◌, ℕ, suc, ◌+◌, List, [], length, drop, sym, subst, refl, arith, length-drop}
-use Rattle.formula_meaning.specs.Some.{EachOf}
+use Rattle.std.proofs.Common.{◌≡◌, ℕ, ◌+◌, List, length, drop, sym, ap, subst, refl, arith, length-drop, ⊎_elim}
+use Rattle.formula_meaning.specs.Some.{EachOf, SomeOf}
 use Rattle.formula_store.specs.Nodes.{tree}
 use Rattle.formula_store.proofs.Makes.{keeps_then}
 use Rattle.branch_rounds.specs.Branches.{Seen, IsOpen, ArePendingOf, numbers}
+use Rattle.branch_rounds.specs.Rounds.{PassesAt}
 use Rattle.branch_rounds.proofs.EachRound.{all_some, all_ended, begun_pending, one_less}
 use Rattle.branch_rounds.proofs.block.block_branches.Goals as goal
 
@@ -15,6 +16,7 @@ loop-name-init g c =
       kept = record { is = λ id h. h; same = λ id h. refl };
       are_open = subst (λ (l : List Seen). EachOf (IsOpen w nodes) l) is (record { is = c.requires.id; tidy = c.requires.tidy; points = tt; once = c.requires.once }, tt);
       many = subst (λ (l : List Seen). EachOf (λ (b : Seen). length b.left ≡ length c.args.block.now) l) is (refl, tt);
+      first = λ e. c.in_ok-branches.ensures;
       pending = subst (λ (l : List Seen). ArePendingOf w (tree nodes c.args.matrix) (numbers c.args.block.now) nodes l) is (begun_pending w nodes c.args.matrix c.args.block.now c.requires.tidy c.requires.lack c.requires.once);
     }
 
@@ -30,16 +32,17 @@ round-requires-clause-some g c κs within =
 pub loop-name-preserved : goal.loop-name-preserved
 loop-name-preserved g c =
     let less = one_less c.args.block.now c.loop-name._name-index c.loop-name-test.true in
-    let round = c.in_ok-branches-2.ensures.round in
+    let round = c.in-Ok.ensures.round in
     record {
-      kept = keeps_then c.args.store.now c.loop-name.store c.round.new.store c.loop-name.invariant.kept c.in_ok-branches-2.ensures.kept;
+      kept = keeps_then c.args.store.now c.loop-name.store c.round.new.store c.loop-name.invariant.kept c.in-Ok.ensures.kept;
       are_open = round.are_open;
+      first = λ e. absurd (omega (arith, e));
       many = round.fewer (length (drop (c.loop-name._name-index + 1) c.args.block.now)) (subst (λ (n : ℕ). EachOf (λ (b : Seen). length b.left ≡ n) c.loop-name.branches.items) less c.loop-name.invariant.many);
       pending = round.goes_on (tree c.args.store.now c.args.matrix) (numbers c.args.block.now) c.loop-name.invariant.pending;
     }
 
-pub returns-in_err-branches-2-clause-kept : goal.returns-in_err-branches-2-clause-kept
-returns-in_err-branches-2-clause-kept g c = keeps_then c.args.store.now c.loop-name.store c.round.new.store c.loop-name.invariant.kept c.in_err-branches-2.ensures.kept
+pub returns-in-Err-clause-kept : goal.returns-in-Err-clause-kept
+returns-in-Err-clause-kept g c = keeps_then c.args.store.now c.loop-name.store c.round.new.store c.loop-name.invariant.kept c.in-Err.ensures.kept
 
 pub returns-clause-branches : goal.returns-clause-branches
 returns-clause-branches g c =
@@ -49,3 +52,11 @@ returns-clause-branches g c =
       pending = c.loop-name.invariant.pending;
       ended = all_ended c.loop-name.branches.items (subst (λ (n : ℕ). EachOf (λ (b : Seen). length b.left ≡ n) c.loop-name.branches.items) over c.loop-name.invariant.many);
     }
+
+pub returns-in-Err-clause-one_name : goal.returns-in-Err-clause-one_name
+returns-in-Err-clause-one_name g c x e h =
+    let w = c.args.work.now in
+    let one : length c.args.block.now ≡ 1 = ap length e in
+    let zero : c.loop-name._name-index ≡ 0 = omega (arith, one, c.loop-name-test.true) in
+    let passes = subst (SomeOf (λ (b : Seen). PassesAt w.context (tree c.loop-name.store b.formula) b.left)) (c.loop-name.invariant.first zero) (c.in-Err.ensures.overflow h) in
+    subst (λ f. PassesAt w.context f c.args.block.now) (c.loop-name.invariant.kept.same c.args.matrix c.requires.id) (⊎_elim (λ p. p) (λ p. absurd p) passes)

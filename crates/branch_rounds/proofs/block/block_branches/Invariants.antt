@@ -1,4 +1,4 @@
-use Rattle.std.proofs.Common.{◌≡◌, List, length, drop, map}
+use Rattle.std.proofs.Common.{◌≡◌, [], ◌∷◌, length, drop}
 use Rattle.formula_meaning.specs.Some.{EachOf}
 use Rattle.formula_tree.specs.Makers.{Keeps}
 use Rattle.formula_store.specs.Nodes.{tree, IsId}
@@ -11,5 +11,6 @@ invariant-loop-name g l = record {
   kept : Keeps (IsId l.fn.store) (tree l.fn.store) (IsId l.store) (tree l.store);
   are_open : EachOf (IsOpen l.fn.work l.store) l.branches.items;
   many : EachOf (λ (b : Seen). length b.left ≡ length (drop l._name-index l.block)) l.branches.items;
+  first : l._name-index ≡ 0 → l.branches.items ≡ record { formula = l.fn.matrix; points = []; left = l.block } ∷ [];
   pending : ArePendingOf l.fn.work (tree l.fn.store l.fn.matrix) (numbers l.block) l.store l.branches.items;
 }

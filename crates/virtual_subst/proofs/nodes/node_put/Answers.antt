@@ -1,4 +1,4 @@
-use Rattle.std.proofs.Common.{◌≡◌, List, IsSome, map, sym, ap, ◌∙◌, subst}
+use Rattle.std.proofs.Common.{List, IsSome, map, sym, ap, ◌∙◌, subst}
 use Rattle.std.specs.HashMap.{get}
 use Rattle.std.specs.List.{AllByRecursion}
 use Rattle.formula_meaning.specs.declared.junction.Junction.TheVariants.{Conjunction, Disjunction}

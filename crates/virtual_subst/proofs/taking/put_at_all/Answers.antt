@@ -1,4 +1,4 @@
-use Rattle.std.proofs.Common.{◌≡◌, false, List, map, length, sym, ◌∙◌, subst}
+use Rattle.std.proofs.Common.{◌≡◌, false, List, length, sym, ◌∙◌, subst}
 use Rattle.formula_meaning.specs.Tree.{Tree}
 use Rattle.atom_normal.specs.Atoms.{context_of}
 use Rattle.formula_tree.specs.Makers.{AreMade}

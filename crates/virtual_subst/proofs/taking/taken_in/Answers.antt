@@ -30,7 +30,7 @@ loop-delta-preserved c =
       kept = keeps_then old mid new so_far.kept step.kept;
       made = subst (λ (l : List FormulaId). AreMade (IsId new) (tree new) l (map (tree_on old) (c.loop-delta.yielded ++ c.in-Some.delta ∷ []))) (sym c.in_ok-push.ensures.items)
           (subst (λ (fs : List Tree). AreMade (IsId new) (tree new) (ids ++ id ∷ []) fs) (sym (map-append (tree_on old) c.loop-delta.yielded (c.in-Some.delta ∷ [])))
-              (made_more mid new step.kept id (tree_on old c.in-Some.delta) here ids (map (tree_on old) c.loop-delta.yielded) so_far.made));
+          (made_more mid new step.kept id (tree_on old c.in-Some.delta) here ids (map (tree_on old) c.loop-delta.yielded) so_far.made));
       begun = begun.1;
     }
 

@@ -1,5 +1,4 @@
 use Rattle.std.proofs.Common.{rules, ◌≡◌, ◌++◌, [], ◌∷◌, Option, Some, map, subst}
-use Rattle.std.specs.Prelude.{option_map}
 use Rattle.atom_normal.specs.Atoms.{context_of, atom_of}
 use Rattle.formula_store.specs.declared.id.FormulaId.{FormulaId}
 use Rattle.formula_store.specs.Nodes.{tree}

@@ -1,4 +1,4 @@
-use Rattle.std.proofs.Common.{rules, ◌≡◌, ◌<◌, ◌++◌, List, [], ◌∷◌, map, take, length, sym, subst, arith, ◌∙◌, ap, get_or}
+use Rattle.std.proofs.Common.{rules, ◌≡◌, ◌<◌, ◌++◌, List, [], ◌∷◌, map, take, sym, subst, arith, ◌∙◌, ap, get_or}
 use Rattle.std.proofs.lemmas.List.{map_more, take_all}
 use Rattle.formula_meaning.specs.Answer.{Place}
 use Rattle.atom_normal.specs.Atoms.{context_of, atom_of}
@@ -46,7 +46,7 @@ loop-place-preserved g c =
       each = more.each;
       are = subst (λ (l : List Place). AreChildren o ks x.number f l (map (result_seen new) c.add_child.new.children.items))
           (sym (map_more place_of c.args.chosen.now.points.items c.loop-place.place c.index-point.result.now (subst (λ n. c.loop-place.place < n) (as_many c.args.self.now.context (tree c.args.store.now c.args.branch) c.args.chosen.now c.requires.points c.put_at_points.new.store c.loop-place.store c.loop-place.invariant.since c.in-Ok.put.items (subst (λ (l : List TestPoint). AreMade (IsId c.put_at_points.new.store) (tree c.put_at_points.new.store) c.in-Ok.put.items (map (λ (t : TestPoint). put (context_of c.args.self.now.context) t.name.number (place_of t) (tree c.args.store.now c.args.branch)) l)) c.deref.ensures.value c.in-Ok.ensures.made)) (omega (arith, c.loop-place-test.true, c.len-place-end.ensures)))
-              ∙ ap (λ (t : TestPoint). map place_of (take c.loop-place.place c.args.chosen.now.points.items) ++ place_of t ∷ []) point_is)) more.are;
+          ∙ ap (λ (t : TestPoint). map place_of (take c.loop-place.place c.args.chosen.now.points.items) ++ place_of t ∷ []) point_is)) more.are;
     }
 
 pub returns-clause-children : goal.returns-clause-children

@@ -1,4 +1,4 @@
-use Rattle.std.proofs.Common.{◌≡◌, List, map, take}
+use Rattle.std.proofs.Common.{map, take}
 use Rattle.formula_meaning.specs.Some.{EachOf}
 use Rattle.atom_normal.specs.Atoms.{context_of, atom_of}
 use Rattle.formula_tree.specs.Makers.{Keeps}

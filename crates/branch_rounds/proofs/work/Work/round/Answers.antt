@@ -1,12 +1,12 @@
-use Rattle.std.proofs.Common.{rules, ◌≡◌, ℕ, suc, ◌<◌, List, [], ◌∷◌, ◌++◌, length, sym, ap, ◌∙◌, subst}
+use Rattle.std.proofs.Common.{rules, ◌≡◌, suc, ◌<◌, List, [], ◌∷◌, ◌++◌, length, sym, ap, ◌∙◌, subst, inl, inr}
 use Rattle.std.proofs.lemmas.List.{append-nil}
 use Rattle.std.specs.Prelude.{IsTrue}
-use Rattle.formula_meaning.specs.Some.{EachOf}
+use Rattle.formula_meaning.specs.Some.{EachOf, SomeOf}
 use Rattle.formula_store.proofs.Makes.{keeps_then}
-use Rattle.formula_store.specs.Nodes.{IsId}
+use Rattle.formula_store.specs.Nodes.{tree, IsId}
 use Rattle.nnf_trees.proofs.Pieces.{empty}
 use Rattle.branch_rounds.specs.Branches.{Seen, IsOpen, ArePendingOf}
-use Rattle.branch_rounds.specs.Rounds.{IsRound, IsSettled}
+use Rattle.branch_rounds.specs.Rounds.{IsRound, IsSettled, PassesAt}
 use Rattle.branch_rounds.proofs.Standing.{all_open_kept}
 use Rattle.branch_rounds.proofs.Going.{one_goes, all_spread, only_true}
 use Rattle.branch_rounds.proofs.EachRound.{each_is, spread_each, all_fewer_by}
@@ -18,10 +18,10 @@ loop-branch-preserved g c =
     let old = c.loop-branch.store in
     let new = c.step.new.store in
     let so_far = c.loop-branch.invariant in
-    let step = c.in_ok-next.ensures in
+    let step = c.in-Ok.ensures in
     let made = c.loop-branch.spread in
     let b = c.in-Some.branch in
-    let next = c.in_ok-next.next.items in
+    let next = c.in-Ok.next.items in
     let rest = c.next.new.self.rest.items in
     let split : c.loop-branch.branch-iterator.rest.items ≡ b ∷ rest = search rules in
     let left_open = subst (EachOf (IsOpen w old)) split so_far.left_open in
@@ -31,6 +31,8 @@ loop-branch-preserved g c =
       kept = keeps_then c.args.store.now old new so_far.kept step.kept;
       made_open = spread_each (IsOpen w new) made next c.add_all.new.spread (all_open_kept old new step.kept w made so_far.made_open) step.step.are_open c.in_ok-add_all.ensures;
       left_open = all_open_kept old new step.kept w rest left_open.1;
+      as_first = (subst (EachOf (IsOpen w c.args.store.now)) split so_far.as_first).1;
+      among = λ s. so_far.among (subst (SomeOf (λ (d : Seen). PassesAt w.context (tree c.args.store.now d.formula) d.left)) (sym split) (inr s));
       some = (subst (EachOf (λ (d : Seen). 0 < length d.left)) split so_far.some).1;
       made_fewer = λ n h.
           spread_each (λ (d : Seen). length d.left ≡ n) made next c.add_all.new.spread (so_far.made_fewer n h)
@@ -41,18 +43,18 @@ loop-branch-preserved g c =
           (one_goes w matrix block old new step.kept made rest b next so_far.made_open left_open.1 step.step (subst (λ (l : List Seen). ArePendingOf w matrix block old (made ++ l)) split (so_far.pending matrix block a)));
     }
 
-pub returns-in_err-next-clause-kept : goal.returns-in_err-next-clause-kept
-returns-in_err-next-clause-kept g c = keeps_then c.args.store.now c.loop-branch.store c.step.new.store c.loop-branch.invariant.kept c.in_err-next.ensures.kept
+pub returns-in-Err-clause-kept : goal.returns-in-Err-clause-kept
+returns-in-Err-clause-kept g c = keeps_then c.args.store.now c.loop-branch.store c.step.new.store c.loop-branch.invariant.kept c.in-Err.ensures.kept
 
 pub returns-in_err-add_all-clause-kept : goal.returns-in_err-add_all-clause-kept
-returns-in_err-add_all-clause-kept g c = keeps_then c.args.store.now c.loop-branch.store c.step.new.store c.loop-branch.invariant.kept c.in_ok-next.ensures.kept
+returns-in_err-add_all-clause-kept g c = keeps_then c.args.store.now c.loop-branch.store c.step.new.store c.loop-branch.invariant.kept c.in-Ok.ensures.kept
 
 pub returns-then-settles-clause-kept : goal.returns-then-settles-clause-kept
-returns-then-settles-clause-kept g c = keeps_then c.args.store.now c.loop-branch.store c.step.new.store c.loop-branch.invariant.kept c.in_ok-next.ensures.kept
+returns-then-settles-clause-kept g c = keeps_then c.args.store.now c.loop-branch.store c.step.new.store c.loop-branch.invariant.kept c.in-Ok.ensures.kept
 
 pub settles-requires : goal.settles-requires
 settles-requires g c =
-    subst (λ (l : List Seen). EachOf (λ (b : Seen). IsId c.step.new.store b.formula) l) (sym c.deref.ensures.value) (each_is c.args.self.now c.step.new.store c.in_ok-next.next.items c.in_ok-next.ensures.step.are_open)
+    subst (λ (l : List Seen). EachOf (λ (b : Seen). IsId c.step.new.store b.formula) l) (sym c.deref.ensures.value) (each_is c.args.self.now c.step.new.store c.in-Ok.next.items c.in-Ok.ensures.step.are_open)
 
 pub returns-then-settles-clause-round : goal.returns-then-settles-clause-round
 returns-then-settles-clause-round g c =
@@ -60,10 +62,10 @@ returns-then-settles-clause-round g c =
     let old = c.loop-branch.store in
     let new = c.step.new.store in
     let so_far = c.loop-branch.invariant in
-    let step = c.in_ok-next.ensures in
+    let step = c.in-Ok.ensures in
     let made = c.loop-branch.spread in
     let b = c.in-Some.branch in
-    let next = c.in_ok-next.next.items in
+    let next = c.in-Ok.next.items in
     let rest = c.next.new.self.rest.items in
     let split : c.loop-branch.branch-iterator.rest.items ≡ b ∷ rest = search rules in
     let left_open = subst (EachOf (IsOpen w old)) split so_far.left_open in
@@ -75,8 +77,8 @@ returns-then-settles-clause-round g c =
       goes_on = λ matrix block a.
           subst (ArePendingOf w matrix block new) (sym settled.1)
           (only_true w matrix block new made rest settled.0 settled.2
-              (subst (λ (l : List Seen). ArePendingOf w matrix block new (made ++ (l ++ rest))) settled.1
-                  (one_goes w matrix block old new step.kept made rest b next so_far.made_open left_open.1 step.step (subst (λ (l : List Seen). ArePendingOf w matrix block old (made ++ l)) split (so_far.pending matrix block a)))));
+          (subst (λ (l : List Seen). ArePendingOf w matrix block new (made ++ (l ++ rest))) settled.1
+          (one_goes w matrix block old new step.kept made rest b next so_far.made_open left_open.1 step.step (subst (λ (l : List Seen). ArePendingOf w matrix block old (made ++ l)) split (so_far.pending matrix block a)))));
     }
 
 pub returns-clause-round : goal.returns-clause-round
@@ -91,3 +93,13 @@ returns-clause-round g c =
       fewer = so_far.made_fewer;
       goes_on = λ matrix block a. subst (ArePendingOf w matrix block c.loop-branch.store) (ap (λ (l : List Seen). c.loop-branch.spread ++ l) ended ∙ append-nil c.loop-branch.spread) (so_far.pending matrix block a);
     })
+
+pub returns-in-Err-clause-overflow : goal.returns-in-Err-clause-overflow
+returns-in-Err-clause-overflow g c e =
+    let w = c.args.self.now in
+    let first = c.args.store.now in
+    let so_far = c.loop-branch.invariant in
+    let b = c.in-Some.branch in
+    let split : c.loop-branch.branch-iterator.rest.items ≡ b ∷ c.next.new.self.rest.items = search rules in
+    let is = (subst (EachOf (IsOpen w first)) split so_far.as_first).0.is in
+    so_far.among (subst (SomeOf (λ (d : Seen). PassesAt w.context (tree first d.formula) d.left)) (sym split) (inl (subst (λ f. PassesAt w.context f b.left) (so_far.kept.same b.formula is) (c.in-Err.ensures.overflow e))))

@@ -1,9 +1,10 @@
 use Rattle.std.proofs.Common.{◌≡◌, ℕ, suc, ◌<◌, List, ◌++◌, length}
-use Rattle.formula_meaning.specs.Some.{EachOf}
+use Rattle.formula_meaning.specs.Some.{EachOf, SomeOf}
 use Rattle.formula_meaning.specs.Tree.{Tree}
 use Rattle.formula_tree.specs.Makers.{Keeps}
 use Rattle.formula_store.specs.Nodes.{tree, IsId}
 use Rattle.branch_rounds.specs.Branches.{Seen, IsOpen, ArePendingOf}
+use Rattle.branch_rounds.specs.Rounds.{PassesAt}
 use Rattle.branch_rounds.proofs.work.Work.round.Given as goal
 
 -- what is made and what is to come stand for what all did
@@ -14,6 +15,8 @@ invariant-loop-branch g l = record {
   kept : Keeps (IsId l.fn.store) (tree l.fn.store) (IsId l.store) (tree l.store);
   made_open : EachOf (IsOpen l.self l.store) l.spread;
   left_open : EachOf (IsOpen l.self l.store) l.branch-iterator.rest.items;
+  as_first : EachOf (IsOpen l.self l.fn.store) l.branch-iterator.rest.items;
+  among : SomeOf (λ (b : Seen). PassesAt l.self.context (tree l.fn.store b.formula) b.left) l.branch-iterator.rest.items → SomeOf (λ (b : Seen). PassesAt l.self.context (tree l.fn.store b.formula) b.left) l.fn.branches.items;
   some : EachOf (λ (b : Seen). 0 < length b.left) l.branch-iterator.rest.items;
   made_fewer : (n : ℕ) → EachOf (λ (b : Seen). length b.left ≡ suc n) l.fn.branches.items → EachOf (λ (b : Seen). length b.left ≡ n) l.spread;
   left_many : (n : ℕ) → EachOf (λ (b : Seen). length b.left ≡ suc n) l.fn.branches.items → EachOf (λ (b : Seen). length b.left ≡ suc n) l.branch-iterator.rest.items;
