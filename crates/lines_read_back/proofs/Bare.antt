@@ -15,7 +15,8 @@ use Rattle.session_commands.specs.Commands.{formula_of, entries_of, entry_names,
 use Rattle.session_commands.specs.Reply.{Answers}
 use Rattle.session_commands.proofs.Agreement.{answers_are}
 use Rattle.session_commands.proofs.NewNameLemmas.{answer_names_distinct, answer_names_variables}
-use Rattle.session_commands.proofs.VariableLemmas.{AllVariables, both, variables_of_formula, variables_of_all, names_of_entries, all_put_in}
+use Rattle.session_state.proofs.VariableLemmas.{AllVariables, both, variables_of_formula, variables_of_all, all_put_in}
+use Rattle.session_commands.proofs.EntryLemmas.{names_of_entries}
 use Rattle.lines_read_back.specs.ReadBack.{NamesStayWritable}
 
 pub proper_formula : (c : CommandTree) → IsWritableCommand c → IsWritableFormula (formula_of c)

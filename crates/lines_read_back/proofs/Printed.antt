@@ -32,15 +32,15 @@ use Rattle.session_commands.specs.Commands.{formula_of, entries_of, entry_names,
 use Rattle.session_meaning.specs.Meaning.{meaning, GivesFormula}
 use Rattle.session_meaning.specs.Causes.{Use}
 use Rattle.session_commands.specs.Causes.{InSomePart, IsAccepted}
-use Rattle.session_commands.specs.Keeping.{IsSessionFormula}
+use Rattle.session_state.specs.Keeping.{IsSessionFormula}
 use Rattle.session_commands.specs.Reply.{Tells, Answers}
 use Rattle.clean_forms.proofs.FormShapes.{form_free}
 use Rattle.session_commands.proofs.Agreement.{allowed_is, answers_are, numbered_is}
 use Rattle.session_commands.proofs.PartLemmas.{some_first}
-use Rattle.session_commands.proofs.EliminatedLemmas.{unquantified_bound, within_of_names, free_below, none_from, all_below}
-use Rattle.session_commands.proofs.NameLemmas.{numbers_stay}
-use Rattle.session_commands.proofs.PrenexLemmas.{prenex_formula}
-use Rattle.session_commands.proofs.SoundLemmas.{AreSessionFormulas, resolved_formula, negated_formula}
+use Rattle.shared_forms.proofs.EliminatedLemmas.{unquantified_bound, within_of_names, free_below, none_from, all_below}
+use Rattle.session_state.proofs.NameLemmas.{numbers_stay}
+use Rattle.shared_forms.proofs.PrenexLemmas.{prenex_formula}
+use Rattle.session_state.proofs.SoundLemmas.{AreSessionFormulas, resolved_formula, negated_formula}
 use Rattle.lines_read_back.specs.ReadBack.{IsBare, IsEcho, IsPrinted, PrintedIsFormula, IsAnsweredBy, EchoIsAnswered}
 use Rattle.lines_read_back.proofs.Answered.{text_is_answered}
 use Rattle.lines_read_back.proofs.Bare.{proper_formula, named_variables, answer_variables, spelled_proper}

@@ -19,7 +19,7 @@ use Rattle.session_meaning.specs.declared.line.StatementError.{StatementError}
 use Rattle.session_meaning.specs.declared.line.StatementError.TheVariants as error
 use Rattle.session_meaning.specs.State.{State}
 use Rattle.session_meaning.specs.Meaning.{meaning, numbered, MayGive, GivesFormula}
-use Rattle.session_commands.specs.Keeping.{IsSessionFormula}
+use Rattle.session_state.specs.Keeping.{IsSessionFormula}
 use Rattle.session_meaning.specs.Reply.{Reply}
 
 -- nothing is bound, no name has two numbers, and each name is one that a script can write

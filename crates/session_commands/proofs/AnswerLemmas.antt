@@ -10,7 +10,7 @@ use Rattle.session_meaning.specs.declared.TheConstants.{MOST_SUBFORMULAS}
 use Rattle.session_meaning.specs.declared.line.Line.{Line}
 use Rattle.session_meaning.specs.State.{State, with_names}
 use Rattle.session_commands.specs.Commands.{named, HasAnswerNames, GivesFormula, BindsFormula}
-use Rattle.session_commands.specs.Steps.{use_of, IsGiven, IsStopped}
+use Rattle.session_commands.specs.Steps.{use_of, IsFormulaAnswer, IsStopped}
 use Rattle.session_meaning.specs.declared.line.StatementError.{StatementError}
 use Rattle.session_meaning.specs.declared.line.StatementError.TheVariants as error
 use Rattle.session_meaning.specs.Causes.{Use, formula_line}
@@ -49,7 +49,7 @@ formula_told (Holds f es) s limit names text h = absurd h.1.0
 formula_told (Sample f es) s limit names text h = absurd h.1.0
 formula_told c s limit names text h = h
 
-pub formula_answered : {E : Type 0} (r : Result Line E) (c : CommandTree) (s next : State) (limit : ℕ) (printed : Bool) → IfOk r (λ answer. IsGiven (named s c) limit (use_of None printed) c answer next)
+pub formula_answered : {E : Type 0} (r : Result Line E) (c : CommandTree) (s next : State) (limit : ℕ) (printed : Bool) → IfOk r (λ answer. IsFormulaAnswer (named s c) limit (use_of None printed) c answer next)
     → IfOk r (λ answer. AnswersSaid (named s c) limit printed c answer next)
 formula_answered (Ok answer) c s next limit printed h = record {
   names = h.names;
@@ -66,7 +66,7 @@ at_most (suc a) (suc b) h = let k = at_most a b (λ l. h (omega (arith, l))) in 
 
 -- an assignment, for a command that is known to be this one
 pub formula_assigned : {E : Type 0} (r : Result Line E) (a : ActionTree) (x : List ℕ) (c : CommandTree) (s next : State) (limit : ℕ) (printed : Bool) → a ≡ Assign x c
-    → IfOk r (λ answer. IsGiven (named s c) limit (use_of (Some x) printed) c answer next) → IfOk r (λ answer. Answers s limit printed a answer next)
+    → IfOk r (λ answer. IsFormulaAnswer (named s c) limit (use_of (Some x) printed) c answer next) → IfOk r (λ answer. Answers s limit printed a answer next)
 formula_assigned (Ok answer) a x c s next limit printed e h =
     subst (λ b. Answers s limit printed b answer next) (sym e)
     (record { accepted = h.accepted; formula = h.formula; given = h.given; names = h.names; named = h.named; line = h.line; small = at_most MOST_SUBFORMULAS (tree_distinct h.formula) h.small; binds = h.after })

@@ -22,7 +22,7 @@ use Rattle.session_meaning.specs.Points.{MeanNoPoint}
 use Rattle.session_commands.specs.Causes.{IsCause, rank, Refuses, HasNoCauseBelow}
 use Rattle.session_commands.specs.Steps.{static_refusal, use_of, HasNumbers, IsReadable, IsUnread}
 use Rattle.session_commands.specs.Asked.{IsBoundName, RefusesBoth, HasNoneBelow, stop_of, IsClear, IsValued, PointStop, ValuedStop}
-use Rattle.session_commands.proofs.BindingLemmas.{trees_find}
+use Rattle.session_state.proofs.BindingLemmas.{trees_find}
 use Rattle.session_commands.proofs.CauseLemmas.{earlier, cause_of_reading, none_below, below_17, below_18, below_19}
 
 -- ---- names that are bound

@@ -27,19 +27,21 @@ use Rattle.formula_store.specs.declared.id.FormulaId.{FormulaId}
 use Rattle.formula_store.specs.Nodes.{tree, IsId}
 use Rattle.session_meaning.specs.declared.line.StatementError.{StatementError}
 use Rattle.session_meaning.specs.declared.line.StatementError.TheVariants as error
-use Rattle.session_commands.specs.declared.desk.Desk.{Desk}
+use Rattle.session_state.specs.declared.state.SessionState.{SessionState}
 use Rattle.session_meaning.specs.State.{State}
 use Rattle.session_commands.specs.Asked.{HaveNumbers, RefusesBoth, IsReadAs, IsMeantPoint, PointStop, IsValued, ValuedStop, IsAsked}
 use Rattle.session_commands.specs.Commands.{named, entry_names}
-use Rattle.session_commands.specs.Keeping.{state_of, IsDesk}
+use Rattle.session_state.specs.Keeping.{state_of, IsSessionState}
 use Rattle.session_meaning.specs.Points.{MeanNoPoint}
-use Rattle.session_commands.specs.Steps.{HasNumbers, KeepsDesk, IsReadable}
+use Rattle.session_commands.specs.Steps.{HasNumbers, IsReadable}
+use Rattle.session_state.specs.Growth.{KeepsState}
 use Rattle.session_commands.proofs.AskedLemmas.{no_point, not_valued, reading_passes, point_passes, all_clear}
 use Rattle.session_commands.proofs.CaseSteps.{on_ok}
-use Rattle.session_commands.proofs.DeskLemmas.{state_parts, same_state, same_desk, length_grows, sound_with}
-use Rattle.session_commands.proofs.NameLemmas.{numbers_stay}
+use Rattle.session_state.proofs.StateLemmas.{state_parts, same_state, same_session, length_grows, sound_with}
+use Rattle.session_state.proofs.NameLemmas.{numbers_stay}
 use Rattle.session_commands.proofs.PointLemmas.{of_theory}
-use Rattle.session_commands.proofs.VariableLemmas.{AllVariables, both, variables_of_formula, names_of_entries, all_put_in}
+use Rattle.session_state.proofs.VariableLemmas.{AllVariables, both, variables_of_formula, all_put_in}
+use Rattle.session_commands.proofs.EntryLemmas.{names_of_entries}
 
 -- ---- what is looked at
 
@@ -47,18 +49,18 @@ there_not : {X : Type 0} (P : Type 0) (Q : X → Type 0) (o : Option X) → ((x 
 there_not P Q None none h = h
 there_not P Q (Some x) none h = absurd (none x refl)
 
-module _ (old new : Desk) (f : FormulaTree) (es : List PointEntry) (desk : IsDesk old) (numbers : HasNumbers old.names f) (k : KeepsDesk old new) where
+module _ (old new : SessionState) (f : FormulaTree) (es : List PointEntry) (state : IsSessionState old) (numbers : HasNumbers old.names f) (k : KeepsState old new) where
   abbrev s : State
   s = state_of old
 
   pub same : state_of new ≡ s
-  same = same_state old new desk.ids k
+  same = same_state old new state.ids k
 
   pub theory : context_of new.context ≡ s.context
   theory = ap context_of k.context
 
   pub ids_there : AreIds (IsId new.store) new.bindings
-  ids_there = (same_desk old new desk k).ids
+  ids_there = (same_session old new state k).ids
 
   module _ (id : Option FormulaId) (read : IsReadAs (state_of old) f es new id) where
     pub point_stops : (e : StatementError) → PointStop (context_of new.context) es e → RefusesBoth s f es e
@@ -99,7 +101,7 @@ module _ (old new : Desk) (f : FormulaTree) (es : List PointEntry) (desk : IsDes
 
   module _ (i : FormulaId) (q : Numbers) (a : IsAsked (state_of old) f es new i q) where
     pub asked_normal : Every (IsNormal s.context) (resolve s.context s.bound s.names f)
-    asked_normal = subst (λ ns. Every (IsNormal s.context) (resolve s.context s.bound ns f)) numbers (resolving_is_normal s.context s.bound s.names f (λ x t e. (desk.sound.formulas x t e).normal) a.readable)
+    asked_normal = subst (λ ns. Every (IsNormal s.context) (resolve s.context s.bound ns f)) numbers (resolving_is_normal s.context s.bound s.names f (λ x t e. (state.sound.formulas x t e).normal) a.readable)
 
     pub normal_there : Every (IsNormal (context_of new.context)) (tree new.store i)
     normal_there = subst (λ c. Every (IsNormal c) (tree new.store i)) (sym theory) (subst (λ (t : Tree). Every (IsNormal s.context) t) (sym a.made.same) asked_normal)
@@ -118,35 +120,35 @@ each_entry : (es : List PointEntry) (P : PointEntry → Type 0) → ((e : PointE
 each_entry [] P h = tt
 each_entry (e ∷ es) P h = (h e (inl refl), each_entry es P (λ d k. h d (inr k)))
 
-module _ (desk : Desk) (names : List (List ℕ)) (f : FormulaTree) (es : List PointEntry) (h : IsDesk desk) (grown : Grows desk.names names)
-    (is : names ≡ fold with_name desk.names (formula_variables f ++ entry_names es)) (proper : IsWritableFormula f) (proper_entries : AreWritableEntries es) where
-  -- the desk where the variables of the command have their numbers
-  abbrev pub named_desk : Desk
-  named_desk = record { alloc = desk.alloc; context = desk.context; names = names; bindings = desk.bindings; store = desk.store; kept = desk.kept }
+module _ (state : SessionState) (names : List (List ℕ)) (f : FormulaTree) (es : List PointEntry) (h : IsSessionState state) (grown : Grows state.names names)
+    (is : names ≡ fold with_name state.names (formula_variables f ++ entry_names es)) (proper : IsWritableFormula f) (proper_entries : AreWritableEntries es) where
+  -- the state where the variables of the command have their numbers
+  abbrev pub named_session : SessionState
+  named_session = record { alloc = state.alloc; context = state.context; names = names; bindings = state.bindings; store = state.store; kept = state.kept }
 
-  pub start : state_of named_desk ≡ named (state_of desk) (Holds f es)
+  pub start : state_of named_session ≡ named (state_of state) (Holds f es)
   start = state_parts _ _ _ _ _ _ refl is refl
 
-  pub desk_named : IsDesk named_desk
-  desk_named = record {
+  pub session_named : IsSessionState named_session
+  session_named = record {
     ids = h.ids;
     bound_once = h.bound_once;
-    sound = sound_with (state_of desk) names h.sound (subst (λ ms. IsDistinct same_name ms) (sym is) (after_distinct (formula_variables f ++ entry_names es) desk.names h.sound.names_once))
-        (subst AllVariables (sym is) (all_put_in desk.names (formula_variables f ++ entry_names es) h.sound.variables (both (formula_variables f) (entry_names es) (variables_of_formula f proper) (names_of_entries es proper_entries))))
-        (length_grows desk.names names grown);
+    sound = sound_with (state_of state) names h.sound (subst (λ ms. IsDistinct same_name ms) (sym is) (after_distinct (formula_variables f ++ entry_names es) state.names h.sound.names_once))
+        (subst AllVariables (sym is) (all_put_in state.names (formula_variables f ++ entry_names es) h.sound.variables (both (formula_variables f) (entry_names es) (variables_of_formula f proper) (names_of_entries es proper_entries))))
+        (length_grows state.names names grown);
   }
 
   pub numbers_there : HasNumbers names f
-  numbers_there = subst (λ ms. HasNumbers ms f) (sym is) (numbers_stay f desk.names (entry_names es))
+  numbers_there = subst (λ ms. HasNumbers ms f) (sym is) (numbers_stay f state.names (entry_names es))
 
   pub entries_there : HaveNumbers names es
   entries_there =
       subst (λ ms. HaveNumbers ms es) (sym is)
-      (each_entry es _ (λ e k. after_has (formula_variables f ++ entry_names es) desk.names e.name (inr (in_either e.name (formula_variables f) (entry_names es) (inr (entry_name e.name es k))))))
+      (each_entry es _ (λ e k. after_has (formula_variables f ++ entry_names es) state.names e.name (inr (in_either e.name (formula_variables f) (entry_names es) (inr (entry_name e.name es k))))))
 
-  module _ (later : Desk) (k : KeepsDesk named_desk later) where
-    pub state_later : {E : Type 0} (r : Result E StatementError) → OnOk r (state_of later ≡ named (state_of desk) (Holds f es))
-    state_later r = on_ok r (same_state named_desk later h.ids k ∙ start)
+  module _ (later : SessionState) (k : KeepsState named_session later) where
+    pub state_later : {E : Type 0} (r : Result E StatementError) → OnOk r (state_of later ≡ named (state_of state) (Holds f es))
+    state_later r = on_ok r (same_state named_session later h.ids k ∙ start)
 
-    pub desk_later : {E : Type 0} (r : Result E StatementError) → OnOk r (IsDesk later)
-    desk_later r = on_ok r (same_desk named_desk later desk_named k)
+    pub session_later : {E : Type 0} (r : Result E StatementError) → OnOk r (IsSessionState later)
+    session_later r = on_ok r (same_session named_session later session_named k)

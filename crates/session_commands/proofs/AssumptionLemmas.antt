@@ -22,7 +22,7 @@ use Rattle.session_meaning.specs.declared.line.StatementError.{StatementError}
 use Rattle.session_meaning.specs.declared.line.StatementError.TheVariants as error
 use Rattle.session_meaning.specs.State.{State}
 use Rattle.session_meaning.specs.Assumptions.{atoms_alone, assumed, Hold}
-use Rattle.session_commands.specs.declared.formulas.Wanted.{Wanted}
+use Rattle.session_commands.specs.declared.formulas.FormCommand.{FormCommand}
 use Rattle.session_commands.specs.Steps.{given_trees, HasUnwantedQuantifier, IsUnready, static_refusal, HasNumbers, IsReadable, ArePartsNumbered, ArePartsReadable, ArePartsUnread, AppliesToPart, AppliesToSome, IsFirstPartCause, FirstAmong, first_of, earlier_of, IsFirstWith}
 use Rattle.session_commands.proofs.PartLemmas.{no_part, some_listed, each_of_list}
 use Rattle.session_commands.proofs.TruthLemmas.{truth_as_written}
@@ -270,7 +270,7 @@ never_quantified static.Depth p = absurd (cc (p))
 never_quantified static.Memory p = absurd (cc (p))
 
 -- what is not read is not ready
-pub unready_of : (s : State) (w : Wanted) (f : FormulaTree) (e : StatementError) → ArePartsUnread s f (given_trees w) e → (e ≡ error.Overflow → ¬ (HasUnwantedQuantifier s w f)) → IsUnready s w f e
+pub unready_of : (s : State) (w : FormCommand) (f : FormulaTree) (e : StatementError) → ArePartsUnread s f (given_trees w) e → (e ≡ error.Overflow → ¬ (HasUnwantedQuantifier s w f)) → IsUnready s w f e
 unready_of s w f error.Quantified h k = absurd (never_quantified h.0 h.1)
 unready_of s w f error.Overflow h k = (h, k refl)
 unready_of s w f error.Unbound h k = h

@@ -34,33 +34,33 @@ use Rattle.answer_texts.specs.Within.{AreCasesWithin}
 use Rattle.session_meaning.specs.declared.line.Line.{Line}
 use Rattle.session_meaning.specs.declared.line.StatementError.{StatementError}
 use Rattle.session_meaning.specs.declared.line.StatementError.TheVariants as error
-use Rattle.session_commands.specs.declared.desk.Desk.{Desk}
+use Rattle.session_state.specs.declared.state.SessionState.{SessionState}
 use Rattle.session_meaning.specs.State.{State}
 use Rattle.session_meaning.specs.Assumptions.{Hold, assumed}
 use Rattle.session_meaning.specs.Cases.{IsCaseOf, IsCaseAnswer}
-use Rattle.session_commands.specs.CaseSteps.{IsCaseLeft, AreWantedCases, CasesFault}
+use Rattle.shared_forms.specs.declared.error.FormsError.{FormsError}
+use Rattle.shared_forms.specs.declared.error.FormsError.TheVariants as forms
+use Rattle.shared_forms.specs.Faults.{CasesFault}
+use Rattle.shared_forms.specs.Cases.{IsCaseLeft, AreWantedCases}
 use Rattle.session_commands.specs.Causes.{IsCause, HasNoCauseBelow, IsAccepted, Refuses}
 use Rattle.session_meaning.specs.FormulaAnswers.{negated_of}
 use Rattle.session_commands.specs.Commands.{named}
-use Rattle.session_commands.specs.Keeping.{state_of, IsSessionFormula, IsSound, IsDesk}
+use Rattle.session_state.specs.Keeping.{state_of, IsSessionFormula, IsSound, IsSessionState}
 use Rattle.session_meaning.specs.Reply.{IsLine}
 use Rattle.session_commands.specs.Reply.{AnswersCommand}
-use Rattle.session_commands.specs.Steps.{use_of, HasNumbers, IsReadable, ArePartsNumbered, ArePartsReadable, ArePartsUnread, KeepsDesk, LineFault}
+use Rattle.session_commands.specs.Steps.{forms_refusal, use_of, HasNumbers, IsReadable, ArePartsNumbered, ArePartsReadable, ArePartsUnread, LineFault}
+use Rattle.session_state.specs.Growth.{KeepsState}
 use Rattle.session_commands.proofs.AssumptionLemmas.{assumed_hold}
 use Rattle.session_commands.proofs.CauseLemmas.{IsPlainCommand, unread_refuses, readable_below, below_17, below_18, below_19}
-use Rattle.session_commands.proofs.CaseLemmas.{IsReferenceCase, IsWritable, exact_here, reference_known, left_each, left_true, left_no_longer, left_writable, items_within, turned_says, turned_along}
-use Rattle.session_commands.proofs.DeskLemmas.{state_parts, same_state, same_desk, length_grows, sound_with}
-use Rattle.session_commands.proofs.EliminatedLemmas.{plain_free, orderly_members}
+use Rattle.shared_forms.proofs.CaseLemmas.{err_map, IsReferenceCase, IsWritable, exact_here, reference_known, left_each, left_true, left_no_longer, left_writable, items_within, turned_says, turned_along}
+use Rattle.session_state.proofs.StateLemmas.{state_parts, same_state, same_session, length_grows, sound_with}
+use Rattle.shared_forms.proofs.EliminatedLemmas.{plain_free, orderly_members}
 use Rattle.session_commands.proofs.GivenLemmas.{numbers_of, readable_formula, assumed_normal}
 use Rattle.session_commands.proofs.PartLemmas.{first_part}
 use Rattle.session_commands.proofs.TruthLemmas.{truth_as_written}
-use Rattle.session_commands.proofs.VariableLemmas.{AllVariables, both, not_empty, variables_of_formula, variables_of_all, all_put_in}
+use Rattle.session_state.proofs.VariableLemmas.{AllVariables, both, not_empty, variables_of_formula, variables_of_all, all_put_in}
 
 -- ---- results
-
-pub err_map : {T E : Type 0} {P Q : E → Type 0} (r : Result T E) → ((e : E) → P e → Q e) → IfErr r P → IfErr r Q
-err_map (Ok x) f h = tt
-err_map (Err e) f h = f e h
 
 pub on_ok : {T E : Type 0} {P : Type 0} (r : Result T E) → P → OnOk r P
 on_ok (Ok x) p = p
@@ -91,11 +91,10 @@ module _ (s : State) (f : FormulaTree) (gs : FormulaTrees) (numbers : ArePartsNu
     clear_19 : IsAccepted s limit (use_of None printed) command
     clear_19 = below_19 s limit (use_of None printed) command clear_18 (λ k. k.1.given)
 
-    pub cases_stopped : (e : StatementError) → CasesFault s.context limit (resolve s.context s.bound s.names f) e → Refuses s limit (use_of None printed) command e
-    cases_stopped error.Nodes k = record { applies = inr (inr k); first = clear_16 }
-    cases_stopped error.Overflow k = record { applies = inr (inr k); first = λ e l. clear_16 e (omega arith) }
-    cases_stopped error.Memory k = tt
-    cases_stopped _ k = absurd k
+    pub cases_stopped : (e : FormsError) → CasesFault s.context limit (resolve s.context s.bound s.names f) e → Refuses s limit (use_of None printed) command (forms_refusal e)
+    cases_stopped forms.Nodes k = record { applies = inr (inr k); first = clear_16 }
+    cases_stopped forms.Overflow k = record { applies = inr (inr k); first = λ e l. clear_16 e (omega arith) }
+    cases_stopped forms.Memory k = tt
 
     -- ---- the case list
 
@@ -163,7 +162,7 @@ module _ (s : State) (f : FormulaTree) (gs : FormulaTrees) (numbers : ArePartsNu
 
 -- ---- after the formula and its assumptions were resolved
 
-module _ (old read : Desk) (f : FormulaTree) (gs : FormulaTrees) (h : IsDesk old) (numbers : ArePartsNumbered old.names f gs) (readable : ArePartsReadable (state_of old) f gs) (kept : KeepsDesk old read)
+module _ (old read : SessionState) (f : FormulaTree) (gs : FormulaTrees) (h : IsSessionState old) (numbers : ArePartsNumbered old.names f gs) (readable : ArePartsReadable (state_of old) f gs) (kept : KeepsState old read)
     (proper : IsWritableFormula f) (proper_given : AreWritableFormulas gs) where
   abbrev s : State
   s = state_of old
@@ -178,10 +177,8 @@ module _ (old read : Desk) (f : FormulaTree) (gs : FormulaTrees) (h : IsDesk old
     pub normal_there : Every (IsNormal (context_of read.context)) t
     normal_there = subst (λ c. Every (IsNormal c) t) (sym theory) (subst (Every (IsNormal s.context)) (sym same) own_formula.normal)
 
-    pub stopped_there : {T : Type 0} (r : Result T StatementError) (limit : ℕ) → IfErr r (CasesFault (context_of read.context) limit t)
-        → IfErr r (λ e. (printed : Bool) → Refuses s limit (use_of None printed) (Qea f gs) e)
-    stopped_there r limit k =
-        err_map r (λ e d printed. cases_stopped s f gs numbers limit printed readable e (subst (λ u. CasesFault s.context limit u e) same (subst (λ c. CasesFault c limit t e) theory d))) k
+    pub stopped_there : (limit : ℕ) (e : FormsError) → CasesFault (context_of read.context) limit t e → (printed : Bool) → Refuses s limit (use_of None printed) (Qea f gs) (forms_refusal e)
+    stopped_there limit e d printed = cases_stopped s f gs numbers limit printed readable e (subst (λ u. CasesFault s.context limit u e) same (subst (λ c. CasesFault c limit t e) theory d))
 
     module _ (ks : List Atom) (same_atoms : ks ≡ assumed s gs) where
       pub atoms_there : EachOf (IsNormal (context_of read.context)) ks
@@ -198,54 +195,54 @@ unread_there r s f gs numbers limit h = err_map r (λ e d printed. cases_unread 
 
 -- ---- the names of the command
 
-module _ (desk : Desk) (names : List (List ℕ)) (f : FormulaTree) (gs : FormulaTrees) (h : IsDesk desk) (grown : Grows desk.names names)
-    (is : names ≡ fold with_name desk.names (formula_variables f ++ all_variables gs)) (proper : IsWritableFormula f) (proper_given : AreWritableFormulas gs) where
-  -- the desk where the variables of the command have their numbers
-  abbrev pub named_desk : Desk
-  named_desk = record { alloc = desk.alloc; context = desk.context; names = names; bindings = desk.bindings; store = desk.store; kept = desk.kept }
+module _ (state : SessionState) (names : List (List ℕ)) (f : FormulaTree) (gs : FormulaTrees) (h : IsSessionState state) (grown : Grows state.names names)
+    (is : names ≡ fold with_name state.names (formula_variables f ++ all_variables gs)) (proper : IsWritableFormula f) (proper_given : AreWritableFormulas gs) where
+  -- the state where the variables of the command have their numbers
+  abbrev pub named_session : SessionState
+  named_session = record { alloc = state.alloc; context = state.context; names = names; bindings = state.bindings; store = state.store; kept = state.kept }
 
-  start : state_of named_desk ≡ named (state_of desk) (Qea f gs)
-  start = state_parts _ _ _ _ _ _ refl (is ∙ ap (λ xs. fold with_name desk.names (formula_variables f ++ xs)) (sym (append-nil (all_variables gs)))) refl
+  start : state_of named_session ≡ named (state_of state) (Qea f gs)
+  start = state_parts _ _ _ _ _ _ refl (is ∙ ap (λ xs. fold with_name state.names (formula_variables f ++ xs)) (sym (append-nil (all_variables gs)))) refl
 
-  pub desk_named : IsDesk named_desk
-  desk_named = record {
+  pub session_named : IsSessionState named_session
+  session_named = record {
     ids = h.ids;
     bound_once = h.bound_once;
-    sound = sound_with (state_of desk) names h.sound (subst (λ ms. IsDistinct same_name ms) (sym is) (after_distinct (formula_variables f ++ all_variables gs) desk.names h.sound.names_once))
-        (subst AllVariables (sym is) (all_put_in desk.names (formula_variables f ++ all_variables gs) h.sound.variables (both (formula_variables f) (all_variables gs) (variables_of_formula f proper) (variables_of_all gs proper_given))))
-        (length_grows desk.names names grown);
+    sound = sound_with (state_of state) names h.sound (subst (λ ms. IsDistinct same_name ms) (sym is) (after_distinct (formula_variables f ++ all_variables gs) state.names h.sound.names_once))
+        (subst AllVariables (sym is) (all_put_in state.names (formula_variables f ++ all_variables gs) h.sound.variables (both (formula_variables f) (all_variables gs) (variables_of_formula f proper) (variables_of_all gs proper_given))))
+        (length_grows state.names names grown);
   }
 
   pub numbers_there : ArePartsNumbered names f gs
-  numbers_there = subst (λ ms. ArePartsNumbered ms f gs) (sym is) (numbers_of f gs desk.names)
+  numbers_there = subst (λ ms. ArePartsNumbered ms f gs) (sym is) (numbers_of f gs state.names)
 
-  pub cases_refused : {T : Type 0} (r : Result T StatementError) (limit : ℕ) (printed : Bool) → IfErr r (λ e. (printed : Bool) → Refuses (state_of named_desk) limit (use_of None printed) (Qea f gs) e)
-      → IfErr r (Refuses (named (state_of desk) (Qea f gs)) limit (use_of None printed) (Qea f gs))
+  pub cases_refused : {T : Type 0} (r : Result T StatementError) (limit : ℕ) (printed : Bool) → IfErr r (λ e. (printed : Bool) → Refuses (state_of named_session) limit (use_of None printed) (Qea f gs) e)
+      → IfErr r (Refuses (named (state_of state) (Qea f gs)) limit (use_of None printed) (Qea f gs))
   cases_refused r limit printed k = err_map r (λ e t. subst (λ s. Refuses s limit (use_of None printed) (Qea f gs) e) start (t printed)) k
 
-  module _ (later : Desk) (k : KeepsDesk named_desk later) where
-    pub state_later : {T : Type 0} (r : Result T StatementError) → OnOk r (state_of later ≡ named (state_of desk) (Qea f gs))
-    state_later r = on_ok r (same_state named_desk later h.ids k ∙ start)
+  module _ (later : SessionState) (k : KeepsState named_session later) where
+    pub state_later : {T : Type 0} (r : Result T StatementError) → OnOk r (state_of later ≡ named (state_of state) (Qea f gs))
+    state_later r = on_ok r (same_state named_session later h.ids k ∙ start)
 
-    pub desk_later : {T : Type 0} (r : Result T StatementError) → OnOk r (IsDesk later)
-    desk_later r = on_ok r (same_desk named_desk later desk_named k)
+    pub session_later : {T : Type 0} (r : Result T StatementError) → OnOk r (IsSessionState later)
+    session_later r = on_ok r (same_session named_session later session_named k)
 
-    module _ (limit : ℕ) (printed : Bool) (readable : ArePartsReadable (state_of named_desk) f gs) (items : List PrintedCase)
-        (wanted : AreWantedCases (state_of named_desk).context (assumed (state_of named_desk) gs) limit (resolve (state_of named_desk).context (state_of named_desk).bound names f) (map case_seen items)) where
-      own : IsSessionFormula (state_of named_desk).context (length names) (resolve (state_of named_desk).context (state_of named_desk).bound names f)
-      own = readable_formula f (state_of named_desk) (first_part (HasNumbers names) f gs numbers_there) desk_named.sound proper (first_part (IsReadable (state_of named_desk)) f gs readable)
+    module _ (limit : ℕ) (printed : Bool) (readable : ArePartsReadable (state_of named_session) f gs) (items : List PrintedCase)
+        (wanted : AreWantedCases (state_of named_session).context (assumed (state_of named_session) gs) limit (resolve (state_of named_session).context (state_of named_session).bound names f) (map case_seen items)) where
+      own : IsSessionFormula (state_of named_session).context (length names) (resolve (state_of named_session).context (state_of named_session).bound names f)
+      own = readable_formula f (state_of named_session) (first_part (HasNumbers names) f gs numbers_there) session_named.sound proper (first_part (IsReadable (state_of named_session)) f gs readable)
 
       pub within_there : HavePoints items → AreCasesWithin (length later.names) (map case_seen items)
       within_there points =
           subst (λ ns. AreCasesWithin (length ns) (map case_seen items)) (sym k.names)
-          (cases_within (state_of named_desk) f gs numbers_there limit printed readable desk_named.sound own (map case_seen items) wanted items refl points)
+          (cases_within (state_of named_session) f gs numbers_there limit printed readable session_named.sound own (map case_seen items) wanted items refl points)
 
-      pub line_answered : (r : Result Line StatementError) (after : List (List ℕ)) → IfOk r (IsLine printed (cases_text later.names (map case_seen items))) → IfOk r (AnswersCommand (named (state_of desk) (Qea f gs)) limit printed (Qea f gs) after)
+      pub line_answered : (r : Result Line StatementError) (after : List (List ℕ)) → IfOk r (IsLine printed (cases_text later.names (map case_seen items))) → IfOk r (AnswersCommand (named (state_of state) (Qea f gs)) limit printed (Qea f gs) after)
       line_answered r after l =
           ok_map r (λ line i. subst (λ s. AnswersCommand s limit printed (Qea f gs) after line) start
-          (cases_answered (state_of named_desk) f gs numbers_there limit printed readable desk_named.sound own (map case_seen items) wanted line after (subst (λ ns. IsLine printed (cases_text ns (map case_seen items)) line) k.names i))) l
+          (cases_answered (state_of named_session) f gs numbers_there limit printed readable session_named.sound own (map case_seen items) wanted line after (subst (λ ns. IsLine printed (cases_text ns (map case_seen items)) line) k.names i))) l
 
-      pub line_refused : (r : Result Line StatementError) → IfErr r (LineFault printed (cases_text later.names (map case_seen items))) → IfErr r (Refuses (named (state_of desk) (Qea f gs)) limit (use_of None printed) (Qea f gs))
+      pub line_refused : (r : Result Line StatementError) → IfErr r (LineFault printed (cases_text later.names (map case_seen items))) → IfErr r (Refuses (named (state_of state) (Qea f gs)) limit (use_of None printed) (Qea f gs))
       line_refused r l =
           err_map r (λ e i. subst (λ s. Refuses s limit (use_of None printed) (Qea f gs) e) start
-          (cases_too_long (state_of named_desk) f gs numbers_there limit printed readable desk_named.sound own (map case_seen items) wanted e (subst (λ ns. LineFault printed (cases_text ns (map case_seen items)) e) k.names i))) l
+          (cases_too_long (state_of named_session) f gs numbers_there limit printed readable session_named.sound own (map case_seen items) wanted e (subst (λ ns. LineFault printed (cases_text ns (map case_seen items)) e) k.names i))) l

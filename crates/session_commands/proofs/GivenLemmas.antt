@@ -23,14 +23,18 @@ use Rattle.formula_meaning.specs.Some.{EachOf}
 use Rattle.formula_tree.specs.Resolving.{bound_truth, formula_variables, all_variables, resolve, at_names}
 use Rattle.qe_syntax.specs.Value as written
 use Rattle.redlog_printer.specs.Text.{tree_text}
-use Rattle.session_commands.specs.Steps.{IsWantedAnswer, static_refusal, HasUnwantedQuantifier, IsReady, IsUnready, IsCleanedAs, AppliesToPart, given_trees, command_of, use_of, IsGiven, HasNumbers, IsReadable, ArePartsNumbered, ArePartsReadable, ArePartsUnread, IsWantedForm, IsPrenexAs, IsSimplifiedAs, PrenexFault, FormFault, MayBind, TargetFault, LineFault, state_with}
+use Rattle.session_commands.specs.Steps.{static_refusal, forms_refusal, form_of, HasUnwantedQuantifier, IsReady, IsUnready, AppliesToPart, given_trees, command_of, use_of, IsFormulaAnswer, HasNumbers, IsReadable, ArePartsNumbered, ArePartsReadable, ArePartsUnread, MayBind, TargetFault, LineFault, state_with}
+use Rattle.shared_forms.specs.Forms.{IsFormOf, IsSimplifiedAnswer, IsCleanedAs, IsPrenexAs, IsSimplifiedAs}
+use Rattle.shared_forms.specs.declared.error.FormsError.{FormsError}
+use Rattle.shared_forms.specs.declared.error.FormsError.TheVariants as forms
+use Rattle.shared_forms.specs.Faults.{PrenexFault, FormFault}
 use Rattle.formula_tree.specs.Names.{with_name}
 use Rattle.redlog_printer.specs.Writing.{text_limit}
 use Rattle.session_meaning.specs.declared.line.Line.{Line}
 use Rattle.session_meaning.specs.declared.line.StatementError.{StatementError}
 use Rattle.session_meaning.specs.declared.line.StatementError.TheVariants as error
-use Rattle.session_commands.specs.declared.formulas.Wanted.{Wanted}
-use Rattle.session_commands.specs.declared.formulas.Wanted.TheVariants as wanted
+use Rattle.session_commands.specs.declared.formulas.FormCommand.{FormCommand}
+use Rattle.session_commands.specs.declared.formulas.FormCommand.TheVariants as wanted
 use Rattle.session_meaning.specs.State.{State, with_names}
 use Rattle.session_commands.specs.Parts.{given_of}
 use Rattle.session_meaning.specs.Assumptions.{atoms_alone, assumed, Hold}
@@ -38,9 +42,9 @@ use Rattle.session_meaning.specs.FormulaAnswers.{negated_of, IsPrenexAnswer, IsS
 use Rattle.session_commands.specs.Commands.{formula_of, named, Gives, IsFormulaFor, HasAnswerNames}
 use Rattle.session_meaning.specs.Causes.{Use, HasNoRoom, IsTooLarge, HasManyNodes, formula_line}
 use Rattle.session_commands.specs.Causes.{RenamingPasses, IsCause, rank, MayRefuse, HasNoCauseBelow, Refuses}
-use Rattle.session_commands.specs.Keeping.{IsSessionFormula, IsSound}
+use Rattle.session_state.specs.Keeping.{IsSessionFormula, IsSound}
 use Rattle.session_meaning.specs.Reply.{IsLine}
-use Rattle.session_commands.specs.declared.formulas.Way.TheVariants as way
+use Rattle.shared_forms.specs.declared.forms.ClauseForm.TheVariants as clause_form
 use Rattle.formula_resolving.specs.declared.error.StaticError.{StaticError}
 use Rattle.formula_resolving.specs.declared.error.StaticError.TheVariants as static
 use Rattle.formula_resolving.specs.Refusals.{rank as static_rank}
@@ -49,14 +53,14 @@ use Rattle.formula_meaning.specs.declared.junction.Junction.TheVariants.{Conjunc
 use Rattle.clean_forms.specs.Plain.{plain_form}
 use Rattle.session_commands.proofs.CauseLemmas.{IsPlainCommand, unread_refuses, quantified_refuses, ready_below, readable_below, below_17, below_18, below_19}
 use Rattle.prenex_forms.proofs.Finished.{finished}
-use Rattle.session_commands.proofs.NameLemmas.{kept_names}
+use Rattle.session_state.proofs.NameLemmas.{kept_names}
 use Rattle.session_commands.proofs.NewNameLemmas.{answer_names_once}
-use Rattle.session_commands.proofs.PrenexLemmas.{prenex_form_members, prenex_formula}
+use Rattle.shared_forms.proofs.PrenexLemmas.{prenex_form_members, prenex_formula}
 use Rattle.session_commands.proofs.PartLemmas.{first_part}
 use Rattle.session_commands.proofs.AssumptionLemmas.{assumed_hold, each_both, alone_has}
-use Rattle.session_commands.proofs.VariableLemmas.{not_empty}
-use Rattle.session_commands.proofs.EliminatedLemmas.{plain_free, answer_formula, orderly_members, orderly_every, simplified_formula, cleaned_formula}
-use Rattle.session_commands.proofs.SoundLemmas.{resolved_formula, negated_formula}
+use Rattle.session_state.proofs.VariableLemmas.{not_empty}
+use Rattle.shared_forms.proofs.EliminatedLemmas.{plain_free, answer_formula, orderly_members, orderly_every, simplified_formula, cleaned_formula}
+use Rattle.session_state.proofs.SoundLemmas.{resolved_formula, negated_formula}
 use Rattle.session_commands.proofs.TruthLemmas.{truth_as_written}
 
 append_nil : (xs : List (List ℕ)) → xs ++ [] ≡ xs
@@ -65,21 +69,21 @@ append_nil (x ∷ xs) = ap (λ z. x ∷ z) (append_nil xs)
 
 -- ---- the formula and the assumptions of the command
 
-pub parts_are : (w : Wanted) (f : FormulaTree) (X : FormulaTree → FormulaTrees → Type 0) → X f (given_trees w) → X (formula_of (command_of w f)) (given_of (command_of w f))
-parts_are wanted.Given f X h = h
+pub parts_are : (w : FormCommand) (f : FormulaTree) (X : FormulaTree → FormulaTrees → Type 0) → X f (given_trees w) → X (formula_of (command_of w f)) (given_of (command_of w f))
+parts_are wanted.Resolved f X h = h
 parts_are wanted.NegationNormal f X h = h
 parts_are wanted.Prenex f X h = h
-parts_are (wanted.Distributed way.Disjunctive) f X h = h
-parts_are (wanted.Distributed way.Conjunctive) f X h = h
+parts_are (wanted.Distributed clause_form.Disjunctive) f X h = h
+parts_are (wanted.Distributed clause_form.Conjunctive) f X h = h
 parts_are (wanted.Simplified given) f X h = h
 parts_are (wanted.Eliminated given) f X h = h
 
-plain_command : (w : Wanted) (f : FormulaTree) → IsPlainCommand (command_of w f)
-plain_command wanted.Given f = record { no_entries = refl; no_point = λ h. h }
+plain_command : (w : FormCommand) (f : FormulaTree) → IsPlainCommand (command_of w f)
+plain_command wanted.Resolved f = record { no_entries = refl; no_point = λ h. h }
 plain_command wanted.NegationNormal f = record { no_entries = refl; no_point = λ h. h }
 plain_command wanted.Prenex f = record { no_entries = refl; no_point = λ h. h }
-plain_command (wanted.Distributed way.Disjunctive) f = record { no_entries = refl; no_point = λ h. h }
-plain_command (wanted.Distributed way.Conjunctive) f = record { no_entries = refl; no_point = λ h. h }
+plain_command (wanted.Distributed clause_form.Disjunctive) f = record { no_entries = refl; no_point = λ h. h }
+plain_command (wanted.Distributed clause_form.Conjunctive) f = record { no_entries = refl; no_point = λ h. h }
 plain_command (wanted.Simplified given) f = record { no_entries = refl; no_point = λ h. h }
 plain_command (wanted.Eliminated given) f = record { no_entries = refl; no_point = λ h. h }
 
@@ -91,12 +95,12 @@ with_them : (s : State) (f : FormulaTree) (xs ys : List (List ℕ)) → xs ≡ y
     → with_names s (fold with_name s.names (formula_variables f ++ xs)) ≡ with_names s (fold with_name s.names (formula_variables f ++ ys))
 with_them s f xs ys e = ap (λ zs. with_names s (fold with_name s.names (formula_variables f ++ zs))) e
 
-pub named_is : (w : Wanted) (f : FormulaTree) (s : State) → named s (command_of w f) ≡ with_variables s f (given_trees w)
-named_is wanted.Given f s = refl
+pub named_is : (w : FormCommand) (f : FormulaTree) (s : State) → named s (command_of w f) ≡ with_variables s f (given_trees w)
+named_is wanted.Resolved f s = refl
 named_is wanted.NegationNormal f s = refl
 named_is wanted.Prenex f s = refl
-named_is (wanted.Distributed way.Disjunctive) f s = refl
-named_is (wanted.Distributed way.Conjunctive) f s = refl
+named_is (wanted.Distributed clause_form.Disjunctive) f s = refl
+named_is (wanted.Distributed clause_form.Conjunctive) f s = refl
 named_is (wanted.Simplified given) f s = with_them s f _ _ (append_nil (all_variables (formula_trees given.now)))
 named_is (wanted.Eliminated given) f s = with_them s f _ _ (append_nil (all_variables (formula_trees given.now)))
 
@@ -127,25 +131,25 @@ longer (Some x) names t u l h =
     goal
 
 -- a quantifier where none may be is the cause of that name
-unwanted : (w : Wanted) (f : FormulaTree) (s : State) (limit : ℕ) (u : Use) → IsCause s limit u (command_of w f) error.Quantified → HasUnwantedQuantifier s w f
-unwanted wanted.Given f s limit u h = h.0
+unwanted : (w : FormCommand) (f : FormulaTree) (s : State) (limit : ℕ) (u : Use) → IsCause s limit u (command_of w f) error.Quantified → HasUnwantedQuantifier s w f
+unwanted wanted.Resolved f s limit u h = h.0
 unwanted wanted.NegationNormal f s limit u h = h.0
 unwanted wanted.Prenex f s limit u h = h.0
-unwanted (wanted.Distributed way.Disjunctive) f s limit u h = h.1
-unwanted (wanted.Distributed way.Conjunctive) f s limit u h = h.1
+unwanted (wanted.Distributed clause_form.Disjunctive) f s limit u h = h.1
+unwanted (wanted.Distributed clause_form.Conjunctive) f s limit u h = h.1
 unwanted (wanted.Simplified given) f s limit u h = h.0
 unwanted (wanted.Eliminated given) f s limit u h = h.0
 
-wanted_no_quantifier : (w : Wanted) (f : FormulaTree) (s : State) (limit : ℕ) (u : Use) → HasUnwantedQuantifier s w f → IsCause s limit u (command_of w f) error.Quantified
-wanted_no_quantifier wanted.Given f s limit u h = absurd h
+wanted_no_quantifier : (w : FormCommand) (f : FormulaTree) (s : State) (limit : ℕ) (u : Use) → HasUnwantedQuantifier s w f → IsCause s limit u (command_of w f) error.Quantified
+wanted_no_quantifier wanted.Resolved f s limit u h = absurd h
 wanted_no_quantifier wanted.NegationNormal f s limit u h = absurd h
 wanted_no_quantifier wanted.Prenex f s limit u h = absurd h
-wanted_no_quantifier (wanted.Distributed way.Disjunctive) f s limit u h = (tt, h)
-wanted_no_quantifier (wanted.Distributed way.Conjunctive) f s limit u h = (tt, h)
+wanted_no_quantifier (wanted.Distributed clause_form.Disjunctive) f s limit u h = (tt, h)
+wanted_no_quantifier (wanted.Distributed clause_form.Conjunctive) f s limit u h = (tt, h)
 wanted_no_quantifier (wanted.Simplified given) f s limit u h = absurd h
 wanted_no_quantifier (wanted.Eliminated given) f s limit u h = absurd h
 
-module _ (w : Wanted) (f : FormulaTree) (s : State) (numbers : ArePartsNumbered s.names f (given_trees w)) (limit : ℕ) (target : Option (List ℕ)) (printed : Bool) where
+module _ (w : FormCommand) (f : FormulaTree) (s : State) (numbers : ArePartsNumbered s.names f (given_trees w)) (limit : ℕ) (target : Option (List ℕ)) (printed : Bool) where
   abbrev command : CommandTree
   command = command_of w f
 
@@ -199,25 +203,25 @@ module _ (f : FormulaTree) (s : State) (limit : ℕ) (t : Tree) where
   abbrev resolution : Tree
   resolution = resolve s.context s.bound s.names f
 
-  abbrev Given : Wanted → Type 0
-  Given w = IsWantedForm s.context (length s.names) (assumed s (given_trees w)) limit w resolution t
+  abbrev Given : FormCommand → Type 0
+  Given w = IsFormOf s.context (length s.names) (assumed s (given_trees w)) limit (form_of w) resolution t
 
   -- no renamed atom passes the limit of numbers
-  given_fits : (w : Wanted) → Given w → ¬ (RenamingPasses s limit (command_of w f))
-  given_fits wanted.Given h k = k
+  given_fits : (w : FormCommand) → Given w → ¬ (RenamingPasses s limit (command_of w f))
+  given_fits wanted.Resolved h k = k
   given_fits wanted.NegationNormal h k = k
   given_fits wanted.Prenex h k = h.fits k.1
-  given_fits (wanted.Distributed way.Disjunctive) h k = k
-  given_fits (wanted.Distributed way.Conjunctive) h k = k
+  given_fits (wanted.Distributed clause_form.Disjunctive) h k = k
+  given_fits (wanted.Distributed clause_form.Conjunctive) h k = k
   given_fits (wanted.Simplified given) h k = k
   given_fits (wanted.Eliminated given) h k = k
 
-  one : (w : Wanted) → Given w → (other : Tree) → Gives s (command_of w f) other → other ≡ t
-  one wanted.Given h other k = k ∙ sym h
+  one : (w : FormCommand) → Given w → (other : Tree) → Gives s (command_of w f) other → other ≡ t
+  one wanted.Resolved h other k = k ∙ sym h
   one wanted.NegationNormal h other k = k ∙ sym h
   one wanted.Prenex h other k = k ∙ sym h.form
-  one (wanted.Distributed way.Disjunctive) h other k = absurd k
-  one (wanted.Distributed way.Conjunctive) h other k = absurd k
+  one (wanted.Distributed clause_form.Disjunctive) h other k = absurd k
+  one (wanted.Distributed clause_form.Conjunctive) h other k = absurd k
   one (wanted.Simplified given) h other k = absurd k
   one (wanted.Eliminated given) h other k = absurd k
 
@@ -282,7 +286,7 @@ module _ (f : FormulaTree) (s : State) (limit : ℕ) (t : Tree) where
           fits = h.fits;
         }
 
-    condition : IsWantedAnswer s.context (assumed s gs) limit resolution t → IsCondition s limit f gs t
+    condition : IsSimplifiedAnswer s.context (assumed s gs) limit resolution t → IsCondition s limit f gs t
     condition h =
         let exact = h.eliminated.exact in
         let small = h.eliminated.small in
@@ -302,21 +306,21 @@ module _ (f : FormulaTree) (s : State) (limit : ℕ) (t : Tree) where
           members = orderly_members (IsNormal s.context) t h.simplified.orderly;
         }
 
-  gives : (w : Wanted) → IsReady s w f → IsSound s → IsSessionFormula s.context (length s.names) resolution → ArePartsNumbered s.names f (given_trees w) → Given w → IsFormulaFor s limit (command_of w f) t
-  gives wanted.Given readable sound own numbers h = h
+  gives : (w : FormCommand) → IsReady s w f → IsSound s → IsSessionFormula s.context (length s.names) resolution → ArePartsNumbered s.names f (given_trees w) → Given w → IsFormulaFor s limit (command_of w f) t
+  gives wanted.Resolved readable sound own numbers h = h
   gives wanted.NegationNormal readable sound own numbers h = h
   gives wanted.Prenex readable sound own numbers h = prenexing none readable.readable sound numbers own h
-  gives (wanted.Distributed way.Disjunctive) readable sound own numbers h = cleaning none readable.readable sound numbers own Conjunction h
-  gives (wanted.Distributed way.Conjunctive) readable sound own numbers h = cleaning none readable.readable sound numbers own Disjunction h
+  gives (wanted.Distributed clause_form.Disjunctive) readable sound own numbers h = cleaning none readable.readable sound numbers own Conjunction h
+  gives (wanted.Distributed clause_form.Conjunctive) readable sound own numbers h = cleaning none readable.readable sound numbers own Disjunction h
   gives (wanted.Simplified given) readable sound own numbers h = simplification (formula_trees given.now) readable.readable sound numbers own h
   gives (wanted.Eliminated given) readable sound own numbers h = condition (formula_trees given.now) readable.readable sound numbers own h
 
-  too_large : (w : Wanted) → Given w → (u : Use) → IsTooLarge u.target t → MayRefuse s limit u (command_of w f) error.Bindings
-  too_large wanted.Given h u k = inl (inr (t, h, k))
+  too_large : (w : FormCommand) → Given w → (u : Use) → IsTooLarge u.target t → MayRefuse s limit u (command_of w f) error.Bindings
+  too_large wanted.Resolved h u k = inl (inr (t, h, k))
   too_large wanted.NegationNormal h u k = inl (inr (t, h, k))
   too_large wanted.Prenex h u k = inl (inr (t, h.form, k))
-  too_large (wanted.Distributed way.Disjunctive) h u k = inr (plain_form Conjunction (negated_of s f), refl, many_nodes u.target t (plain_form Conjunction (negated_of s f)) h.nodes k)
-  too_large (wanted.Distributed way.Conjunctive) h u k = inr (plain_form Disjunction (negated_of s f), refl, many_nodes u.target t (plain_form Disjunction (negated_of s f)) h.nodes k)
+  too_large (wanted.Distributed clause_form.Disjunctive) h u k = inr (plain_form Conjunction (negated_of s f), refl, many_nodes u.target t (plain_form Conjunction (negated_of s f)) h.nodes k)
+  too_large (wanted.Distributed clause_form.Conjunctive) h u k = inr (plain_form Disjunction (negated_of s f), refl, many_nodes u.target t (plain_form Disjunction (negated_of s f)) h.nodes k)
   too_large (wanted.Simplified given) h u k = inr (negated_of s f, refl, many_nodes u.target t (negated_of s f) h.nodes k)
   too_large (wanted.Eliminated given) h u k = inr (h.answer, (h.eliminated.cost, h.eliminated.same), many_nodes u.target t h.answer h.simplified.nodes k)
 
@@ -325,14 +329,14 @@ module _ (f : FormulaTree) (s : State) (limit : ℕ) (t : Tree) where
     long_here : names ≡ s.names → text_limit < length (formula_line u.target s.names t)
     long_here e = subst (λ ns. text_limit < length (formula_line u.target ns t)) e k
 
-    too_long : (w : Wanted) → Given w → HasAnswerNames s (command_of w f) names → MayRefuse s limit u (command_of w f) error.Text
-    too_long wanted.Given h n = inl (p, record { formula = t; given = h; names = names; named = n; long = k })
+    too_long : (w : FormCommand) → Given w → HasAnswerNames s (command_of w f) names → MayRefuse s limit u (command_of w f) error.Text
+    too_long wanted.Resolved h n = inl (p, record { formula = t; given = h; names = names; named = n; long = k })
     too_long wanted.NegationNormal h n = inl (p, record { formula = t; given = h; names = names; named = n; long = k })
     too_long wanted.Prenex h n = inl (p, record { formula = t; given = h.form; names = names; named = n; long = k })
-    too_long (wanted.Distributed way.Disjunctive) h n =
+    too_long (wanted.Distributed clause_form.Disjunctive) h n =
         let short = h.text s.names (not_empty s.names sound.variables) (negated_formula s.context (length s.names) resolution own).within.atoms in
         inr (p, inl (plain_form Conjunction (negated_of s f), refl, longer u.target s.names t (plain_form Conjunction (negated_of s f)) short (long_here n)))
-    too_long (wanted.Distributed way.Conjunctive) h n =
+    too_long (wanted.Distributed clause_form.Conjunctive) h n =
         let short = h.text s.names (not_empty s.names sound.variables) (negated_formula s.context (length s.names) resolution own).within.atoms in
         inr (p, inl (plain_form Disjunction (negated_of s f), refl, longer u.target s.names t (plain_form Disjunction (negated_of s f)) short (long_here n)))
     too_long (wanted.Simplified given) h n =
@@ -343,11 +347,11 @@ module _ (f : FormulaTree) (s : State) (limit : ℕ) (t : Tree) where
         let short = h.simplified.text s.names (not_empty s.names sound.variables) answered.within.atoms in
         inr (p, inl (h.answer, (h.eliminated.cost, h.eliminated.same), longer u.target s.names t h.answer short (long_here n)))
 
-  no_room : (w : Wanted) (u : Use) → HasNoRoom s.bound u.target → MayRefuse s limit u (command_of w f) error.Bindings
+  no_room : (w : FormCommand) (u : Use) → HasNoRoom s.bound u.target → MayRefuse s limit u (command_of w f) error.Bindings
   no_room w u k = inl (inl k)
 
-module _ (w : Wanted) (f : FormulaTree) (s : State) (numbers : ArePartsNumbered s.names f (given_trees w)) (limit : ℕ) (target : Option (List ℕ)) (printed : Bool) (t : Tree)
-    (given : IsWantedForm s.context (length s.names) (assumed s (given_trees w)) limit w (resolve s.context s.bound s.names f) t) (h : IsReady s w f) where
+module _ (w : FormCommand) (f : FormulaTree) (s : State) (numbers : ArePartsNumbered s.names f (given_trees w)) (limit : ℕ) (target : Option (List ℕ)) (printed : Bool) (t : Tree)
+    (given : IsFormOf s.context (length s.names) (assumed s (given_trees w)) limit (form_of w) (resolve s.context s.bound s.names f) t) (h : IsReady s w f) where
   clear : HasNoCauseBelow s limit (use_of target printed) (command_of w f) 16
   clear = clear_16 w f s numbers limit target printed h (given_fits f s limit t w given)
 
@@ -377,7 +381,7 @@ module _ (w : Wanted) (f : FormulaTree) (s : State) (numbers : ArePartsNumbered 
         short (k.0, subst (λ u. text_limit < length (formula_line target names u)) (one f s limit t w given long.formula long.given) here)
 
     pub is_given : Every IsAtomInLimit t → MayBind s.bound target t → (answer : Line) → IsLine printed (formula_line target names t) answer
-        → ¬ (LineFault printed (formula_line target names t) error.Text) → IsGiven s limit (use_of target printed) (command_of w f) answer (state_with (with_names s names) target t)
+        → ¬ (LineFault printed (formula_line target names t) error.Text) → IsFormulaAnswer s limit (use_of target printed) (command_of w f) answer (state_with (with_names s names) target t)
     is_given fits b answer line short = record {
       accepted = below_19 s limit (use_of target printed) (command_of w f) (clear_18 b) (not_long short);
       formula = t;
@@ -404,19 +408,19 @@ assumed_normal s sound f (also g gs) numbers readable proper =
 same_names : (s : State) (t : Tree) (names : List (List ℕ)) → names ≡ s.names → IsSessionFormula s.context (length s.names) t → IsSessionFormula s.context (length names) t
 same_names s t names e h = subst (λ ns. IsSessionFormula s.context (length ns) t) (sym e) h
 
-pub given_formula : (w : Wanted) (f : FormulaTree) (s : State) (limit : ℕ) (t : Tree) (names : List (List ℕ)) → IsWantedForm s.context (length s.names) (assumed s (given_trees w)) limit w (resolve s.context s.bound s.names f) t
+pub given_formula : (w : FormCommand) (f : FormulaTree) (s : State) (limit : ℕ) (t : Tree) (names : List (List ℕ)) → IsFormOf s.context (length s.names) (assumed s (given_trees w)) limit (form_of w) (resolve s.context s.bound s.names f) t
     → HasAnswerNames s (command_of w f) names → IsSessionFormula s.context (length s.names) (resolve s.context s.bound s.names f) → IsSessionFormula s.context (length names) t
-given_formula wanted.Given f s limit t names given named own = same_names s t names named (subst (IsSessionFormula s.context (length s.names)) (sym given) own)
+given_formula wanted.Resolved f s limit t names given named own = same_names s t names named (subst (IsSessionFormula s.context (length s.names)) (sym given) own)
 given_formula wanted.NegationNormal f s limit t names given named own = same_names s t names named (subst (IsSessionFormula s.context (length s.names)) (sym given) (negated_formula s.context (length s.names) _ own))
 given_formula wanted.Prenex f s limit t names given named own = prenex_formula s.context s.names names _ t own given.form named
-given_formula (wanted.Distributed way.Disjunctive) f s limit t names given named own = same_names s t names named (cleaned_formula s.context Conjunction (length s.names) _ t (negated_formula s.context (length s.names) _ own) given)
-given_formula (wanted.Distributed way.Conjunctive) f s limit t names given named own = same_names s t names named (cleaned_formula s.context Disjunction (length s.names) _ t (negated_formula s.context (length s.names) _ own) given)
+given_formula (wanted.Distributed clause_form.Disjunctive) f s limit t names given named own = same_names s t names named (cleaned_formula s.context Conjunction (length s.names) _ t (negated_formula s.context (length s.names) _ own) given)
+given_formula (wanted.Distributed clause_form.Conjunctive) f s limit t names given named own = same_names s t names named (cleaned_formula s.context Disjunction (length s.names) _ t (negated_formula s.context (length s.names) _ own) given)
 given_formula (wanted.Simplified g) f s limit t names given named own = same_names s t names named (simplified_formula s.context _ (length s.names) _ t (negated_formula s.context (length s.names) _ own) given)
 given_formula (wanted.Eliminated g) f s limit t names given named own =
     same_names s t names named (simplified_formula s.context _ (length s.names) given.answer t (answer_formula s.context (length s.names) _ given.answer own given.eliminated.exact) given.simplified)
 
 -- a command that is not ready is refused
-pub refused_unready : (w : Wanted) (f : FormulaTree) (s : State) (numbers : ArePartsNumbered s.names f (given_trees w)) (limit : ℕ) (target : Option (List ℕ)) (printed : Bool) (e : StatementError) → IsUnready s w f e
+pub refused_unready : (w : FormCommand) (f : FormulaTree) (s : State) (numbers : ArePartsNumbered s.names f (given_trees w)) (limit : ℕ) (target : Option (List ℕ)) (printed : Bool) (e : StatementError) → IsUnready s w f e
     → Refuses s limit (use_of target printed) (command_of w f) e
 refused_unready w f s numbers limit target printed error.Quantified h = refused_quantified w f s numbers limit target printed h.0 h.1
 refused_unready w f s numbers limit target printed error.Overflow h = refused_unread w f s numbers limit target printed h.1 error.Overflow h.0
@@ -438,8 +442,12 @@ refused_unready w f s numbers limit target printed error.Nodes h = unread_early 
 refused_unready w f s numbers limit target printed error.Bindings h = unread_early w f s numbers limit target printed error.Bindings (λ e. absurd (cc (e))) h
 refused_unready w f s numbers limit target printed error.Text h = unread_early w f s numbers limit target printed error.Text (λ e. absurd (cc (e))) h
 
+-- the limit that is given is the one that is passed
+past_one : (limit count : ℕ) → (n : ℕ) × (Some limit ≡ Some n) × (n < count) → limit < count
+past_one limit count h = let e : limit ≡ h.0 = cc (h.1) in subst (λ n. n < count) (sym e) h.2
+
 -- the form is not made
-module _ (w : Wanted) (f : FormulaTree) (s : State) (numbers : ArePartsNumbered s.names f (given_trees w)) (limit : ℕ) (target : Option (List ℕ)) (printed : Bool) (h : IsReady s w f) where
+module _ (w : FormCommand) (f : FormulaTree) (s : State) (numbers : ArePartsNumbered s.names f (given_trees w)) (limit : ℕ) (target : Option (List ℕ)) (printed : Bool) (h : IsReady s w f) where
   first_16 : ¬ (RenamingPasses s limit (command_of w f)) → HasNoCauseBelow s limit (use_of target printed) (command_of w f) 16
   first_16 fits = clear_16 w f s numbers limit target printed h fits
 
@@ -448,37 +456,37 @@ module _ (w : Wanted) (f : FormulaTree) (s : State) (numbers : ArePartsNumbered 
 
 -- a prenex form has too many nodes, or a number of a renamed atom passes the limit
 refused_prenex : (f : FormulaTree) (s : State) (numbers : ArePartsNumbered s.names f none) (limit : ℕ) (target : Option (List ℕ)) (printed : Bool) → IsReady s wanted.Prenex f
-    → (e : StatementError) → PrenexFault s.context (length s.names) limit (resolve s.context s.bound s.names f) e → Refuses s limit (use_of target printed) (Pnf f) e
-refused_prenex f s numbers limit target printed h error.Nodes k = record {
+    → (e : FormsError) → PrenexFault s.context (length s.names) limit (resolve s.context s.bound s.names f) e → Refuses s limit (use_of target printed) (Pnf f) (forms_refusal e)
+refused_prenex f s numbers limit target printed h forms.Nodes k = record {
   applies = inr (inl k);
   first = first_16 wanted.Prenex f s numbers limit target printed h (λ p. let few = p.0 in absurd (omega arith));
 }
-refused_prenex f s numbers limit target printed h error.Overflow k = record { applies = inl (inr (inr k)); first = first_15 wanted.Prenex f s numbers limit target printed h }
-refused_prenex f s numbers limit target printed h error.Memory k = tt
-refused_prenex f s numbers limit target printed h _ k = absurd k
+refused_prenex f s numbers limit target printed h forms.Overflow k = record { applies = inl (inr (inr k)); first = first_15 wanted.Prenex f s numbers limit target printed h }
+refused_prenex f s numbers limit target printed h forms.Memory k = tt
 
-pub refused_form : (w : Wanted) (f : FormulaTree) (s : State) (numbers : ArePartsNumbered s.names f (given_trees w)) (limit : ℕ) (target : Option (List ℕ)) (printed : Bool) → IsReady s w f
-    → (e : StatementError) → FormFault s.context (length s.names) limit w (resolve s.context s.bound s.names f) e → Refuses s limit (use_of target printed) (command_of w f) e
-refused_form wanted.NegationNormal f s numbers limit target printed h error.Nodes k = record { applies = inl (tt, k); first = first_16 wanted.NegationNormal f s numbers limit target printed h (λ p. p) }
+pub refused_form : (w : FormCommand) (f : FormulaTree) (s : State) (numbers : ArePartsNumbered s.names f (given_trees w)) (limit : ℕ) (target : Option (List ℕ)) (printed : Bool) → IsReady s w f
+    → (e : FormsError) → FormFault s.context (length s.names) limit (form_of w) (resolve s.context s.bound s.names f) e → Refuses s limit (use_of target printed) (command_of w f) (forms_refusal e)
 refused_form wanted.Prenex f s numbers limit target printed h e k = refused_prenex f s numbers limit target printed h e k
-refused_form (wanted.Distributed way.Disjunctive) f s numbers limit target printed h error.Nodes k = record {
+refused_form wanted.Resolved f s numbers limit target printed h forms.Overflow k = absurd k
+refused_form wanted.Resolved f s numbers limit target printed h forms.Nodes k = absurd k
+refused_form wanted.Resolved f s numbers limit target printed h forms.Memory k = tt
+refused_form wanted.NegationNormal f s numbers limit target printed h forms.Overflow k = absurd k
+refused_form wanted.NegationNormal f s numbers limit target printed h forms.Nodes k =
+    record { applies = inl (tt, past_one limit _ k); first = first_16 wanted.NegationNormal f s numbers limit target printed h (λ p. p) }
+refused_form wanted.NegationNormal f s numbers limit target printed h forms.Memory k = tt
+refused_form (wanted.Distributed clauses) f s numbers limit target printed h forms.Overflow k = absurd k
+refused_form (wanted.Distributed clause_form.Disjunctive) f s numbers limit target printed h forms.Nodes k = record {
   applies = inr (inl k);
-  first = first_16 (wanted.Distributed way.Disjunctive) f s numbers limit target printed h (λ p. p);
+  first = first_16 (wanted.Distributed clause_form.Disjunctive) f s numbers limit target printed h (λ p. p);
 }
-refused_form (wanted.Distributed way.Conjunctive) f s numbers limit target printed h error.Nodes k = record {
+refused_form (wanted.Distributed clause_form.Conjunctive) f s numbers limit target printed h forms.Nodes k = record {
   applies = inr (inl k);
-  first = first_16 (wanted.Distributed way.Conjunctive) f s numbers limit target printed h (λ p. p);
+  first = first_16 (wanted.Distributed clause_form.Conjunctive) f s numbers limit target printed h (λ p. p);
 }
-refused_form (wanted.Simplified g) f s numbers limit target printed h error.Nodes k = record { applies = inr (inl k); first = first_16 (wanted.Simplified g) f s numbers limit target printed h (λ p. p) }
-refused_form (wanted.Eliminated g) f s numbers limit target printed h error.Nodes k = record { applies = inr (inr k); first = first_16 (wanted.Eliminated g) f s numbers limit target printed h (λ p. p) }
-refused_form (wanted.Eliminated g) f s numbers limit target printed h error.Overflow k = record { applies = inr (inr k); first = first_15 (wanted.Eliminated g) f s numbers limit target printed h }
-refused_form wanted.Given f s numbers limit target printed h error.Memory k = tt
-refused_form wanted.NegationNormal f s numbers limit target printed h error.Memory k = tt
-refused_form (wanted.Distributed way) f s numbers limit target printed h error.Memory k = tt
-refused_form (wanted.Simplified g) f s numbers limit target printed h error.Memory k = tt
-refused_form (wanted.Eliminated g) f s numbers limit target printed h error.Memory k = tt
-refused_form wanted.Given f s numbers limit target printed h _ k = absurd k
-refused_form wanted.NegationNormal f s numbers limit target printed h _ k = absurd k
-refused_form (wanted.Distributed way) f s numbers limit target printed h _ k = absurd k
-refused_form (wanted.Simplified g) f s numbers limit target printed h _ k = absurd k
-refused_form (wanted.Eliminated g) f s numbers limit target printed h _ k = absurd k
+refused_form (wanted.Distributed clauses) f s numbers limit target printed h forms.Memory k = tt
+refused_form (wanted.Simplified g) f s numbers limit target printed h forms.Overflow k = absurd k
+refused_form (wanted.Simplified g) f s numbers limit target printed h forms.Nodes k = record { applies = inr (inl k); first = first_16 (wanted.Simplified g) f s numbers limit target printed h (λ p. p) }
+refused_form (wanted.Simplified g) f s numbers limit target printed h forms.Memory k = tt
+refused_form (wanted.Eliminated g) f s numbers limit target printed h forms.Overflow k = record { applies = inr (inr k); first = first_15 (wanted.Eliminated g) f s numbers limit target printed h }
+refused_form (wanted.Eliminated g) f s numbers limit target printed h forms.Nodes k = record { applies = inr (inr k); first = first_16 (wanted.Eliminated g) f s numbers limit target printed h (λ p. p) }
+refused_form (wanted.Eliminated g) f s numbers limit target printed h forms.Memory k = tt

@@ -1,4 +1,4 @@
--- The steps of a command that gives a formula, on the desk.
+-- The steps of a command that gives a formula, on the state.
 use Rattle.std.specs.Prelude.{Result, Ok, Err, OnOk, OnErr, IfOk, IfErr}
 use Rattle.std.proofs.Common.{◌≡◌, ⊎_elim, inl, inr, ℕ, List, [], ◌∷◌, ◌++◌, map, Bool, Option, Some, None, sym, ap, ◌∙◌, subst, refl, length}
 use Rattle.std.specs.List.{AllByRecursion, fold, IsDistinct}
@@ -25,25 +25,29 @@ use Rattle.formula_store.specs.Nodes.{tree, IsId}
 use Rattle.formula_store.proofs.Numbers.{numbers_are_within}
 use Rattle.formula_meaning.specs.Within.{IsTreeWithin}
 use Rattle.formula_meaning.specs.Members.{HasTwoMembers}
-use Rattle.session_commands.specs.declared.desk.Desk.{Desk}
+use Rattle.session_state.specs.declared.state.SessionState.{SessionState}
 use Rattle.session_meaning.specs.declared.line.Line.{Line}
 use Rattle.session_meaning.specs.declared.line.StatementError.{StatementError}
-use Rattle.session_commands.specs.declared.formulas.Wanted.{Wanted}
-use Rattle.session_commands.specs.declared.formulas.Wanted.TheVariants as wanted
+use Rattle.session_commands.specs.declared.formulas.FormCommand.{FormCommand}
+use Rattle.session_commands.specs.declared.formulas.FormCommand.TheVariants as wanted
 use Rattle.session_meaning.specs.Points.{IsQuantified}
 use Rattle.formula_meaning.specs.Shape.{IsQuantifierFree}
 use Rattle.session_meaning.specs.State.{State, with_names}
 use Rattle.session_commands.specs.Commands.{named}
 use Rattle.session_commands.specs.Causes.{Refuses}
-use Rattle.session_commands.specs.Keeping.{state_of, IsSessionFormula, IsSound, IsDesk}
+use Rattle.session_state.specs.Keeping.{state_of, IsSessionFormula, IsSound, IsSessionState}
 use Rattle.session_meaning.specs.Assumptions.{assumed}
-use Rattle.session_commands.specs.Steps.{KeepsDesk, GrowsDesk, HasNumbers, IsReadable, ArePartsNumbered, IsDistributed, HasUnwantedQuantifier, IsReady, IsUnready, given_trees, command_of, use_of, IsGiven, IsWantedForm, IsWantedOf, HasFormNames, FormFault, MayBind, TargetFault, IsLineOf, GiveFault, state_with, bound_after}
-use Rattle.session_commands.proofs.BindingLemmas.{bind_trees, bind_ids, bind_distinct, bound_there}
-use Rattle.session_commands.proofs.DeskLemmas.{state_parts, grown_state, grown_desk, sound_with, length_grows}
+use Rattle.session_commands.specs.Steps.{forms_refusal, form_of, HasNumbers, IsReadable, ArePartsNumbered, HasUnwantedQuantifier, IsReady, IsUnready, given_trees, command_of, use_of, IsFormulaAnswer, IsWantedOf, MayBind, TargetFault, IsLineOf, GiveFault, state_with, bound_after}
+use Rattle.shared_forms.specs.declared.error.FormsError.{FormsError}
+use Rattle.shared_forms.specs.Forms.{IsDistributed, IsFormOf, HasFormNames}
+use Rattle.shared_forms.specs.Faults.{FormFault}
+use Rattle.session_state.specs.Growth.{KeepsState, GrowsState}
+use Rattle.session_state.proofs.BindingLemmas.{bind_trees, bind_ids, bind_distinct, bound_there}
+use Rattle.session_state.proofs.StateLemmas.{state_parts, grown_state, grown_session, sound_with, length_grows}
 use Rattle.session_commands.proofs.NewNameLemmas.{form_names, answer_names_distinct, answer_names_variables}
 use Rattle.session_commands.proofs.PartLemmas.{first_part}
 use Rattle.session_commands.proofs.PointLemmas.{resolved_free}
-use Rattle.session_commands.proofs.VariableLemmas.{AllVariables, both, variables_of_formula, variables_of_all, all_put_in}
+use Rattle.session_state.proofs.VariableLemmas.{AllVariables, both, variables_of_formula, variables_of_all, all_put_in}
 use Rattle.session_commands.proofs.GivenLemmas.{assumed_normal, named_is, numbers_of, refused_unready, refused_form, refused_target, refused_line, is_given, readable_formula, given_formula}
 
 -- a state with one more formula bound is sound
@@ -56,19 +60,19 @@ sound_bound s x t h k fits = record {
 }
 
 -- the names with the variables of the formula and of these assumptions, which are those of the wanted form
-pub names_are : (w : Wanted) (f : FormulaTree) (desk : Desk) (names : List (List ℕ)) (gs : FormulaTrees) → names ≡ fold with_name desk.names (formula_variables f ++ all_variables gs) → gs ≡ given_trees w
-    → names ≡ fold with_name desk.names (formula_variables f ++ all_variables (given_trees w))
-names_are w f desk names gs e g = e ∙ ap (λ hs. fold with_name desk.names (formula_variables f ++ all_variables hs)) g
+pub names_are : (w : FormCommand) (f : FormulaTree) (state : SessionState) (names : List (List ℕ)) (gs : FormulaTrees) → names ≡ fold with_name state.names (formula_variables f ++ all_variables gs) → gs ≡ given_trees w
+    → names ≡ fold with_name state.names (formula_variables f ++ all_variables (given_trees w))
+names_are w f state names gs e g = e ∙ ap (λ hs. fold with_name state.names (formula_variables f ++ all_variables hs)) g
 
 pub proper_items : (gs : List Formula) → AreWritableFormulas (formulas_of (map formula_tree gs)) → AllByRecursion (λ g. IsWritableFormula (formula_tree g)) gs
 proper_items [] h = tt
 proper_items (g ∷ gs) h = (h.0, proper_items gs h.1)
 
-free_here : (s : State) (f : FormulaTree) (w : Wanted) → IsDistributed w → ¬ (HasUnwantedQuantifier s w f) → ¬ (IsQuantified s.bound f)
-free_here s f wanted.Given d h = absurd d
+free_here : (s : State) (f : FormulaTree) (w : FormCommand) → IsDistributed (form_of w) → ¬ (HasUnwantedQuantifier s w f) → ¬ (IsQuantified s.bound f)
+free_here s f wanted.Resolved d h = absurd d
 free_here s f wanted.NegationNormal d h = absurd d
 free_here s f wanted.Prenex d h = absurd d
-free_here s f (wanted.Distributed way) d h = h
+free_here s f (wanted.Distributed clauses) d h = h
 free_here s f (wanted.Simplified given) d h = absurd d
 free_here s f (wanted.Eliminated given) d h = absurd d
 
@@ -88,74 +92,75 @@ pub if_err : {T : Type 0} {P Q : StatementError → Type 0} (r : Result T Statem
 if_err (Ok x) h p = tt
 if_err (Err e) h p = h e p
 
--- ---- the wanted formula, on a desk where the variables have their numbers
+-- ---- the wanted formula, on a state where the variables have their numbers
 
-module _ (w : Wanted) (f : FormulaTree) (desk : Desk) (numbers : ArePartsNumbered desk.names f (given_trees w)) (h : IsDesk desk) (proper : IsWritableFormula f) where
+module _ (w : FormCommand) (f : FormulaTree) (state : SessionState) (numbers : ArePartsNumbered state.names f (given_trees w)) (h : IsSessionState state) (proper : IsWritableFormula f) where
   -- the resolved formula
   abbrev resolution : Tree
-  resolution = resolve (state_of desk).context (state_of desk).bound desk.names f
+  resolution = resolve (state_of state).context (state_of state).bound state.names f
 
-  pub unready_refused : (limit : ℕ) (e : StatementError) → IsUnready (state_of desk) w f e → (target : Option (List ℕ)) (printed : Bool) → Refuses (state_of desk) limit (use_of target printed) (command_of w f) e
-  unready_refused limit e u target printed = refused_unready w f (state_of desk) numbers limit target printed e u
+  pub unready_refused : (limit : ℕ) (e : StatementError) → IsUnready (state_of state) w f e → (target : Option (List ℕ)) (printed : Bool) → Refuses (state_of state) limit (use_of target printed) (command_of w f) e
+  unready_refused limit e u target printed = refused_unready w f (state_of state) numbers limit target printed e u
 
-  own : IsReady (state_of desk) w f → IsSessionFormula (state_of desk).context (length desk.names) resolution
-  own ready = readable_formula f (state_of desk) (first_part (HasNumbers desk.names) f (given_trees w) numbers) h.sound proper (first_part (IsReadable (state_of desk)) f (given_trees w) ready.readable)
+  own : IsReady (state_of state) w f → IsSessionFormula (state_of state).context (length state.names) resolution
+  own ready = readable_formula f (state_of state) (first_part (HasNumbers state.names) f (given_trees w) numbers) h.sound proper (first_part (IsReadable (state_of state)) f (given_trees w) ready.readable)
 
-  -- the desk after the formula and its assumptions were read, the formula's tree, and the atoms
-  module _ (ready : IsReady (state_of desk) w f) (read : Desk) (kept : KeepsDesk desk read) (t : Tree) (same : t ≡ resolution) (ks : List Atom) (same_atoms : ks ≡ assumed (state_of desk) (given_trees w)) where
-    theory : context_of read.context ≡ (state_of desk).context
+  -- the state after the formula and its assumptions were read, the formula's tree, and the atoms
+  module _ (ready : IsReady (state_of state) w f) (read : SessionState) (kept : KeepsState state read) (t : Tree) (same : t ≡ resolution) (ks : List Atom) (same_atoms : ks ≡ assumed (state_of state) (given_trees w)) where
+    theory : context_of read.context ≡ (state_of state).context
     theory = ap context_of kept.context
 
-    pub form_refused : (limit : ℕ) (e : StatementError) → FormFault (context_of read.context) (length read.names) limit w t e → (target : Option (List ℕ)) (printed : Bool) → Refuses (state_of desk) limit (use_of target printed) (command_of w f) e
+    pub form_refused : (limit : ℕ) (e : FormsError) → FormFault (context_of read.context) (length read.names) limit (form_of w) t e → (target : Option (List ℕ)) (printed : Bool)
+        → Refuses (state_of state) limit (use_of target printed) (command_of w f) (forms_refusal e)
     form_refused limit e fault target printed =
-        refused_form w f (state_of desk) numbers limit target printed ready e
-        (subst (λ u. FormFault (state_of desk).context (length desk.names) limit w u e) same
-        (subst (λ c. FormFault c (length desk.names) limit w t e) theory (subst (λ ns. FormFault (context_of read.context) (length ns) limit w t e) kept.names fault)))
+        refused_form w f (state_of state) numbers limit target printed ready e
+        (subst (λ u. FormFault (state_of state).context (length state.names) limit (form_of w) u e) same
+        (subst (λ c. FormFault c (length state.names) limit (form_of w) t e) theory (subst (λ ns. FormFault (context_of read.context) (length ns) limit (form_of w) t e) kept.names fault)))
 
     pub read_normal : Every (IsNormal (context_of read.context)) t
-    read_normal = subst (λ c. Every (IsNormal c) t) (sym theory) (subst (Every (IsNormal (state_of desk).context)) (sym same) (own ready).normal)
+    read_normal = subst (λ c. Every (IsNormal c) t) (sym theory) (subst (Every (IsNormal (state_of state).context)) (sym same) (own ready).normal)
 
     pub read_members : HasTwoMembers t
     read_members = subst (λ (u : Tree). HasTwoMembers u) (sym same) (own ready).members
 
     pub read_within : IsTreeWithin (length read.names) t
-    read_within = subst (λ ns. IsTreeWithin (length ns) t) (sym kept.names) (subst (IsTreeWithin (length desk.names)) (sym same) (own ready).within)
+    read_within = subst (λ ns. IsTreeWithin (length ns) t) (sym kept.names) (subst (IsTreeWithin (length state.names)) (sym same) (own ready).within)
 
-    pub read_free : IsDistributed w → IsQuantifierFree t
-    read_free d = subst (λ (u : Tree). IsQuantifierFree u) (sym same) (resolved_free (state_of desk).context (state_of desk).bound desk.names f (free_here (state_of desk) f w d ready.plain))
+    pub read_free : IsDistributed (form_of w) → IsQuantifierFree t
+    read_free d = subst (λ (u : Tree). IsQuantifierFree u) (sym same) (resolved_free (state_of state).context (state_of state).bound state.names f (free_here (state_of state) f w d ready.plain))
 
     pub read_atoms : AreWritableFormulas (given_trees w) → EachOf (IsNormal (context_of read.context)) ks
     read_atoms given =
         subst (λ c. EachOf (IsNormal c) ks) (sym theory)
-        (subst (EachOf (IsNormal (state_of desk).context)) (sym same_atoms) (assumed_normal (state_of desk) h.sound f (given_trees w) numbers ready.readable given))
+        (subst (EachOf (IsNormal (state_of state).context)) (sym same_atoms) (assumed_normal (state_of state) h.sound f (given_trees w) numbers ready.readable given))
 
-    form_there : (limit : ℕ) (u : Tree) → IsWantedForm (context_of read.context) (length read.names) ks limit w t u
-        → IsWantedForm (state_of desk).context (length desk.names) (assumed (state_of desk) (given_trees w)) limit w resolution u
+    form_there : (limit : ℕ) (u : Tree) → IsFormOf (context_of read.context) (length read.names) ks limit (form_of w) t u
+        → IsFormOf (state_of state).context (length state.names) (assumed (state_of state) (given_trees w)) limit (form_of w) resolution u
     form_there limit u form =
-        subst (λ ls. IsWantedForm (state_of desk).context (length desk.names) ls limit w resolution u) same_atoms
-        (subst (λ v. IsWantedForm (state_of desk).context (length desk.names) ks limit w v u) same
-        (subst (λ c. IsWantedForm c (length desk.names) ks limit w t u) theory (subst (λ ns. IsWantedForm (context_of read.context) (length ns) ks limit w t u) kept.names form)))
+        subst (λ ls. IsFormOf (state_of state).context (length state.names) ls limit (form_of w) resolution u) same_atoms
+        (subst (λ v. IsFormOf (state_of state).context (length state.names) ks limit (form_of w) v u) same
+        (subst (λ c. IsFormOf c (length state.names) ks limit (form_of w) t u) theory (subst (λ ns. IsFormOf (context_of read.context) (length ns) ks limit (form_of w) t u) kept.names form)))
 
-    pub form_wanted : (limit : ℕ) (u : Tree) (after : List (List ℕ)) → IsWantedForm (context_of read.context) (length read.names) ks limit w t u → HasFormNames w read.names t after
-        → IsWantedOf (state_of desk) limit w f u after
+    pub form_wanted : (limit : ℕ) (u : Tree) (after : List (List ℕ)) → IsFormOf (context_of read.context) (length read.names) ks limit (form_of w) t u → HasFormNames (form_of w) read.names t after
+        → IsWantedOf (state_of state) limit w f u after
     form_wanted limit u after form more = record {
       ready = ready;
       form = form_there limit u form;
-      names = form_names w f (state_of desk) after (subst (λ v. HasFormNames w desk.names v after) same (subst (λ ns. HasFormNames w ns t after) kept.names more));
+      names = form_names w f (state_of state) after (subst (λ v. HasFormNames (form_of w) state.names v after) same (subst (λ ns. HasFormNames (form_of w) ns t after) kept.names more));
     }
 
   -- ---- the line of the wanted formula, which is bound
 
-  -- the desk after the formula was made, which has this id there
-  module _ (limit : ℕ) (later : Desk) (k : GrowsDesk desk later) (id : FormulaId) (made : IsId later.store id) (is : IsWantedOf (state_of desk) limit w f (tree later.store id) later.names) where
-    later_state : state_of later ≡ with_names (state_of desk) later.names
-    later_state = grown_state desk later h.ids k
+  -- the state after the formula was made, which has this id there
+  module _ (limit : ℕ) (later : SessionState) (k : GrowsState state later) (id : FormulaId) (made : IsId later.store id) (is : IsWantedOf (state_of state) limit w f (tree later.store id) later.names) where
+    later_state : state_of later ≡ with_names (state_of state) later.names
+    later_state = grown_state state later h.ids k
 
-    bound_same : (state_of later).bound ≡ (state_of desk).bound
+    bound_same : (state_of later).bound ≡ (state_of state).bound
     bound_same = ap (λ (s : State). s.bound) later_state
 
-    session_formula : IsSessionFormula (state_of desk).context (length later.names) (tree later.store id)
-    session_formula = given_formula w f (state_of desk) limit (tree later.store id) later.names is.form is.names (own is.ready)
+    session_formula : IsSessionFormula (state_of state).context (length later.names) (tree later.store id)
+    session_formula = given_formula w f (state_of state) limit (tree later.store id) later.names is.form is.names (own is.ready)
 
     pub later_within : IsTreeWithin (length later.names) (tree later.store id)
     later_within = session_formula.within
@@ -164,85 +169,85 @@ module _ (w : Wanted) (f : FormulaTree) (desk : Desk) (numbers : ArePartsNumbere
     later_members = session_formula.members
 
     module _ (target : Option (List ℕ)) (printed : Bool) where
-      may_bind : MayBind (state_of later).bound target (tree later.store id) → MayBind (state_of desk).bound target (tree later.store id)
+      may_bind : MayBind (state_of later).bound target (tree later.store id) → MayBind (state_of state).bound target (tree later.store id)
       may_bind b = subst (λ c. MayBind c target (tree later.store id)) bound_same b
 
-      fault_refused : (e : StatementError) → GiveFault target printed (state_of later) (tree later.store id) e → Refuses (state_of desk) limit (use_of target printed) (command_of w f) e
+      fault_refused : (e : StatementError) → GiveFault target printed (state_of later) (tree later.store id) e → Refuses (state_of state) limit (use_of target printed) (command_of w f) e
       fault_refused e (inl t) =
-          refused_target w f (state_of desk) numbers limit target printed (tree later.store id) is.form is.ready e
+          refused_target w f (state_of state) numbers limit target printed (tree later.store id) is.form is.ready e
           (subst (λ b. TargetFault b target (tree later.store id) e) bound_same t)
-      fault_refused e (inr t) = refused_line w f (state_of desk) numbers limit target printed (tree later.store id) is.form is.ready h.sound (own is.ready) later.names is.names (may_bind t.0) e t.1
+      fault_refused e (inr t) = refused_line w f (state_of state) numbers limit target printed (tree later.store id) is.form is.ready h.sound (own is.ready) later.names is.names (may_bind t.0) e t.1
 
-      -- the desk with the formula bound
-      abbrev last : Option (List ℕ) → Desk
+      -- the state with the formula bound
+      abbrev last : Option (List ℕ) → SessionState
       last o = record { alloc = later.alloc; context = later.context; names = later.names; bindings = bound_after later.bindings o id; store = later.store; kept = later.kept }
 
-      last_state : (o : Option (List ℕ)) → state_of (last o) ≡ state_with (with_names (state_of desk) later.names) o (tree later.store id)
+      last_state : (o : Option (List ℕ)) → state_of (last o) ≡ state_with (with_names (state_of state) later.names) o (tree later.store id)
       last_state None = later_state
       last_state (Some x) =
           state_parts _ _ _ _ _ _ (ap (λ (s : State). s.context) later_state) refl
           (sym (bind_trees (tree later.store) later.bindings x id) ∙ ap (λ b. bind b x (tree later.store id)) bound_same)
 
-      later_desk : IsDesk later
-      later_desk =
-          grown_desk desk later h k (answer_names_distinct (state_of desk) (command_of w f) later.names h.sound.names_once is.names)
-          (answer_names_variables (state_of desk) (command_of w f) later.names h.sound.variables is.names)
+      later_session : IsSessionState later
+      later_session =
+          grown_session state later h k (answer_names_distinct (state_of state) (command_of w f) later.names h.sound.names_once is.names)
+          (answer_names_variables (state_of state) (command_of w f) later.names h.sound.variables is.names)
 
-      later_sound : IsSound (with_names (state_of desk) later.names)
-      later_sound = subst IsSound later_state later_desk.sound
+      later_sound : IsSound (with_names (state_of state) later.names)
+      later_sound = subst IsSound later_state later_session.sound
 
-      last_sound : (o : Option (List ℕ)) → IsSound (state_with (with_names (state_of desk) later.names) o (tree later.store id))
+      last_sound : (o : Option (List ℕ)) → IsSound (state_with (with_names (state_of state) later.names) o (tree later.store id))
       last_sound None = later_sound
-      last_sound (Some x) = sound_bound (with_names (state_of desk) later.names) x (tree later.store id) later_sound session_formula (numbers_are_within later.store id made)
+      last_sound (Some x) = sound_bound (with_names (state_of state) later.names) x (tree later.store id) later_sound session_formula (numbers_are_within later.store id made)
 
       last_ids : (o : Option (List ℕ)) → AreIds (IsId later.store) (bound_after later.bindings o id)
-      last_ids None = later_desk.ids
-      last_ids (Some x) = bind_ids (IsId later.store) later.bindings x id later_desk.ids made
+      last_ids None = later_session.ids
+      last_ids (Some x) = bind_ids (IsId later.store) later.bindings x id later_session.ids made
 
       last_once : (o : Option (List ℕ)) → IsDistinct same_name (keys_of (bound_after later.bindings o id))
-      last_once None = later_desk.bound_once
-      last_once (Some x) = bind_distinct later.bindings x id later_desk.bound_once
+      last_once None = later_session.bound_once
+      last_once (Some x) = bind_distinct later.bindings x id later_session.bound_once
 
-      last_desk : IsDesk (last target)
-      last_desk = record { ids = last_ids target; bound_once = last_once target; sound = subst IsSound (sym (last_state target)) (last_sound target) }
+      last_session : IsSessionState (last target)
+      last_session = record { ids = last_ids target; bound_once = last_once target; sound = subst IsSound (sym (last_state target)) (last_sound target) }
 
-      line_given : (answer : Line) → IsLineOf target printed (state_of later) (tree later.store id) answer → IsGiven (state_of desk) limit (use_of target printed) (command_of w f) answer (state_of (last target))
+      line_given : (answer : Line) → IsLineOf target printed (state_of later) (tree later.store id) answer → IsFormulaAnswer (state_of state) limit (use_of target printed) (command_of w f) answer (state_of (last target))
       line_given answer line =
-          subst (IsGiven (state_of desk) limit (use_of target printed) (command_of w f) answer) (sym (last_state target))
-          (is_given w f (state_of desk) numbers limit target printed (tree later.store id) is.form is.ready h.sound (own is.ready) later.names is.names (numbers_are_within later.store id made) (may_bind line.may) answer line.line line.short)
+          subst (IsFormulaAnswer (state_of state) limit (use_of target printed) (command_of w f) answer) (sym (last_state target))
+          (is_given w f (state_of state) numbers limit target printed (tree later.store id) is.form is.ready h.sound (own is.ready) later.names is.names (numbers_are_within later.store id made) (may_bind line.may) answer line.line line.short)
 
-      -- ---- what is given, and the desk after it
+      -- ---- what is given, and the state after it
 
-      module _ (r : Result Line StatementError) (after : Desk) where
-        pub given_desk : OnOk r (after ≡ last target) → OnOk r (IsDesk after)
-        given_desk e = on_ok r (λ p. subst IsDesk (sym p) last_desk) e
+      module _ (r : Result Line StatementError) (after : SessionState) where
+        pub answered_session : OnOk r (after ≡ last target) → OnOk r (IsSessionState after)
+        answered_session e = on_ok r (λ p. subst IsSessionState (sym p) last_session) e
 
         pub given_answer : OnOk r (after ≡ last target) → IfOk r (IsLineOf target printed (state_of later) (tree later.store id))
-            → IfOk r (λ answer. IsGiven (state_of desk) limit (use_of target printed) (command_of w f) answer (state_of after))
-        given_answer e line = if_ok r (λ answer p l. subst (λ d. IsGiven (state_of desk) limit (use_of target printed) (command_of w f) answer (state_of d)) (sym p) (line_given answer l)) e line
+            → IfOk r (λ answer. IsFormulaAnswer (state_of state) limit (use_of target printed) (command_of w f) answer (state_of after))
+        given_answer e line = if_ok r (λ answer p l. subst (λ d. IsFormulaAnswer (state_of state) limit (use_of target printed) (command_of w f) answer (state_of d)) (sym p) (line_given answer l)) e line
 
-        pub given_refused : IfErr r (GiveFault target printed (state_of later) (tree later.store id)) → IfErr r (Refuses (state_of desk) limit (use_of target printed) (command_of w f))
+        pub given_refused : IfErr r (GiveFault target printed (state_of later) (tree later.store id)) → IfErr r (Refuses (state_of state) limit (use_of target printed) (command_of w f))
         given_refused fault = if_err r (λ e t. fault_refused e t) fault
 
--- ---- the desk where the variables have their numbers
+-- ---- the state where the variables have their numbers
 
-module _ (w : Wanted) (f : FormulaTree) (desk : Desk) (names : List (List ℕ)) (is : names ≡ fold with_name desk.names (formula_variables f ++ all_variables (given_trees w))) where
-  abbrev pub numbered : Desk
-  numbered = record { alloc = desk.alloc; context = desk.context; names = names; bindings = desk.bindings; store = desk.store; kept = desk.kept }
+module _ (w : FormCommand) (f : FormulaTree) (state : SessionState) (names : List (List ℕ)) (is : names ≡ fold with_name state.names (formula_variables f ++ all_variables (given_trees w))) where
+  abbrev pub numbered : SessionState
+  numbered = record { alloc = state.alloc; context = state.context; names = names; bindings = state.bindings; store = state.store; kept = state.kept }
 
-  pub numbered_state : state_of numbered ≡ named (state_of desk) (command_of w f)
-  numbered_state = sym (named_is w f (state_of desk) ∙ state_parts _ _ _ _ _ _ refl (sym is) refl)
+  pub numbered_state : state_of numbered ≡ named (state_of state) (command_of w f)
+  numbered_state = sym (named_is w f (state_of state) ∙ state_parts _ _ _ _ _ _ refl (sym is) refl)
 
   pub numbers_there : ArePartsNumbered names f (given_trees w)
-  numbers_there = subst (λ ms. ArePartsNumbered ms f (given_trees w)) (sym is) (numbers_of f (given_trees w) desk.names)
+  numbers_there = subst (λ ms. ArePartsNumbered ms f (given_trees w)) (sym is) (numbers_of f (given_trees w) state.names)
 
-  pub numbered_desk : IsDesk desk → Grows desk.names names → IsWritableFormula f → AreWritableFormulas (given_trees w) → IsDesk numbered
-  numbered_desk h g proper proper_given =
+  pub numbered_session : IsSessionState state → Grows state.names names → IsWritableFormula f → AreWritableFormulas (given_trees w) → IsSessionState numbered
+  numbered_session h g proper proper_given =
       let xs = formula_variables f ++ all_variables (given_trees w) in
       let variables = both (formula_variables f) (all_variables (given_trees w)) (variables_of_formula f proper) (variables_of_all (given_trees w) proper_given) in
       record {
         ids = h.ids;
         bound_once = h.bound_once;
-        sound = sound_with (state_of desk) names h.sound (subst (λ ms. IsDistinct same_name ms) (sym is) (after_distinct xs desk.names h.sound.names_once))
-            (subst AllVariables (sym is) (all_put_in desk.names xs h.sound.variables variables)) (length_grows desk.names names g);
+        sound = sound_with (state_of state) names h.sound (subst (λ ms. IsDistinct same_name ms) (sym is) (after_distinct xs state.names h.sound.names_once))
+            (subst AllVariables (sym is) (all_put_in state.names xs h.sound.variables variables)) (length_grows state.names names g);
       }

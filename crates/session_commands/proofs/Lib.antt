@@ -1,15 +1,9 @@
 pub mod PartLemmas
-pub mod NameLemmas
-pub mod VariableLemmas
-pub mod SoundLemmas
-pub mod EliminatedLemmas
-pub mod BindingLemmas
-pub mod DeskLemmas
+pub mod EntryLemmas
 pub mod CauseLemmas
 pub mod AssumptionLemmas
 pub mod GivenLemmas
 pub mod GivenSteps
-pub mod CaseLemmas
 pub mod CaseSteps
 pub mod AnswerLemmas
 pub mod AskedLemmas
@@ -21,6 +15,5 @@ pub mod SampleLemmas
 pub mod ShortSamples
 pub mod SampleSteps
 pub mod NewNameLemmas
-pub mod PrenexLemmas
 pub mod Agreement
 pub mod Accepted

@@ -29,11 +29,11 @@ use Rattle.session_meaning.specs.State.{State}
 use Rattle.session_commands.specs.Asked.{HasNoneBelow}
 use Rattle.session_commands.specs.Causes.{HasNoCauseBelow}
 use Rattle.session_meaning.specs.FormulaAnswers.{negated_of}
-use Rattle.session_commands.specs.Keeping.{IsSessionFormula}
+use Rattle.session_state.specs.Keeping.{IsSessionFormula}
 use Rattle.session_meaning.specs.Samples.{HasSample, IsSample, IsValueInLimit}
 use Rattle.session_commands.specs.SampleSteps.{RefusesSample, SampleStop, IsSampleWithin}
 use Rattle.session_commands.specs.Steps.{use_of, HasNumbers, IsReadable}
-use Rattle.session_commands.proofs.CaseLemmas.{block_below, turned_says, turned_along}
+use Rattle.shared_forms.proofs.CaseLemmas.{block_below, turned_says, turned_along}
 use Rattle.session_commands.proofs.TruthLemmas.{truth_as_written}
 
 -- ---- the names of the values

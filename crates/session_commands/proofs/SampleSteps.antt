@@ -43,19 +43,20 @@ use Rattle.redlog_printer.specs.Writing.{text_limit}
 use Rattle.session_meaning.specs.declared.line.Line.{Line}
 use Rattle.session_meaning.specs.declared.line.StatementError.{StatementError}
 use Rattle.session_meaning.specs.declared.line.StatementError.TheVariants as error
-use Rattle.session_commands.specs.declared.desk.Desk.{Desk}
+use Rattle.session_state.specs.declared.state.SessionState.{SessionState}
 use Rattle.session_meaning.specs.State.{State}
 use Rattle.session_commands.specs.Asked.{IsAsked}
 use Rattle.session_commands.specs.Causes.{Refuses}
 use Rattle.session_commands.specs.Commands.{named, entry_names}
-use Rattle.session_commands.specs.Keeping.{state_of, IsDesk}
+use Rattle.session_state.specs.Keeping.{state_of, IsSessionState}
 use Rattle.session_meaning.specs.Reply.{IsLine}
 use Rattle.session_commands.specs.Reply.{AnswersCommand}
 use Rattle.session_meaning.specs.Samples.{sample_text}
 use Rattle.session_commands.specs.SampleSteps.{RefusesSample, SampleStop, IsSampleWithin, IsWantedSample}
-use Rattle.session_commands.specs.Steps.{use_of, measured_refusal, HasNumbers, KeepsDesk}
-use Rattle.session_commands.proofs.AskedSteps.{theory, asked_normal, named_desk, start}
-use Rattle.session_commands.proofs.CaseSteps.{err_map}
+use Rattle.session_commands.specs.Steps.{use_of, measured_refusal, HasNumbers}
+use Rattle.session_state.specs.Growth.{KeepsState}
+use Rattle.session_commands.proofs.AskedSteps.{theory, asked_normal, named_session, start}
+use Rattle.shared_forms.proofs.CaseLemmas.{err_map}
 use Rattle.session_commands.proofs.GivenLemmas.{readable_formula}
 use Rattle.session_commands.proofs.SampleLemmas.{sample_stops, sample_is, sample_within}
 use Rattle.session_commands.proofs.ShortSamples.{sample_short}
@@ -105,7 +106,7 @@ module _ (c : Context) (limit : ℕ) (q : Point ℕ) where
 
 -- ---- after the formula and the point were read
 
-module _ (old new : Desk) (f : FormulaTree) (es : List PointEntry) (desk : IsDesk old) (numbers : HasNumbers old.names f) (k : KeepsDesk old new) (i : FormulaId) (p : Numbers)
+module _ (old new : SessionState) (f : FormulaTree) (es : List PointEntry) (state : IsSessionState old) (numbers : HasNumbers old.names f) (k : KeepsState old new) (i : FormulaId) (p : Numbers)
     (a : IsAsked (state_of old) f es new i p) where
   abbrev s : State
   s = state_of old
@@ -115,7 +116,7 @@ module _ (old new : Desk) (f : FormulaTree) (es : List PointEntry) (desk : IsDes
 
   -- what is said of the formula of the store, in the theory and at the names there
   here : (P : Context → Tree → List (List ℕ) → Type 0) → P (context_of new.context) (tree new.store i) new.names → P s.context t s.names
-  here P h = subst (P s.context t) k.names (subst (λ (u : Tree). P s.context u new.names) a.made.same (subst (λ c. P c (tree new.store i) new.names) (theory old new f es desk numbers k) h))
+  here P h = subst (P s.context t) k.names (subst (λ (u : Tree). P s.context u new.names) a.made.same (subst (λ c. P c (tree new.store i) new.names) (theory old new f es state numbers k) h))
 
   -- the formula is at most 512 high
   low : height t ≤ most_height
@@ -127,10 +128,10 @@ module _ (old new : Desk) (f : FormulaTree) (es : List PointEntry) (desk : IsDes
     answer = record {
       point = point_of p;
       meant = a.meant;
-      sampled = sample_is s f es (point_of p) numbers desk.sound.names_once a.readable a.theory (asked_normal old new f es desk numbers k i p a) o h;
+      sampled = sample_is s f es (point_of p) numbers state.sound.names_once a.readable a.theory (asked_normal old new f es state numbers k i p a) o h;
     };
-    within = sample_within s.context (length s.names) t (at_names s.names (point_of p)) (readable_formula f s numbers desk.sound proper a.readable) (sample_of o) h;
-    short = sample_short s.context s.names t (at_names s.names (point_of p)) desk.sound.variables low o h;
+    within = sample_within s.context (length s.names) t (at_names s.names (point_of p)) (readable_formula f s numbers state.sound proper a.readable) (sample_of o) h;
+    short = sample_short s.context s.names t (at_names s.names (point_of p)) state.sound.variables low o h;
   }
 
   module _ (r : Result (Option (Vec (VarId × Fraction) Global)) StatementError) (limit : ℕ) where
@@ -142,23 +143,23 @@ module _ (old new : Desk) (f : FormulaTree) (es : List PointEntry) (desk : IsDes
 
 -- ---- the names of the command
 
-module _ (desk : Desk) (names : List (List ℕ)) (f : FormulaTree) (es : List PointEntry) (h : IsDesk desk) (grown : Grows desk.names names)
-    (is : names ≡ fold with_name desk.names (formula_variables f ++ entry_names es)) (proper : IsWritableFormula f) (proper_entries : AreWritableEntries es) (limit : ℕ) (printed : Bool) where
-  abbrev first : Desk
-  first = named_desk desk names f es h grown is proper proper_entries
+module _ (state : SessionState) (names : List (List ℕ)) (f : FormulaTree) (es : List PointEntry) (h : IsSessionState state) (grown : Grows state.names names)
+    (is : names ≡ fold with_name state.names (formula_variables f ++ entry_names es)) (proper : IsWritableFormula f) (proper_entries : AreWritableEntries es) (limit : ℕ) (printed : Bool) where
+  abbrev first : SessionState
+  first = named_session state names f es h grown is proper proper_entries
 
   -- what is said of the state where the variables have their numbers
-  begun : (P : State → Type 0) → P (state_of first) → P (named (state_of desk) (Sample f es))
-  begun P k = subst P (start desk names f es h grown is proper proper_entries) k
+  begun : (P : State → Type 0) → P (state_of first) → P (named (state_of state) (Sample f es))
+  begun P k = subst P (start state names f es h grown is proper proper_entries) k
 
-  pub sample_refused : {E : Type 0} (r : Result E StatementError) → IfErr r (RefusesSample (state_of first) limit f es) → IfErr r (Refuses (named (state_of desk) (Sample f es)) limit (use_of None printed) (Sample f es))
+  pub sample_refused : {E : Type 0} (r : Result E StatementError) → IfErr r (RefusesSample (state_of first) limit f es) → IfErr r (Refuses (named (state_of state) (Sample f es)) limit (use_of None printed) (Sample f es))
   sample_refused r k = err_map r (λ e u. begun (λ s. Refuses s limit (use_of None printed) (Sample f es) e) (u printed)) k
 
-  module _ (later : Desk) (k : KeepsDesk first later) (sample : Option (List Value)) (w : IsWantedSample (state_of first) limit f es sample) (r : Result Line StatementError) where
+  module _ (later : SessionState) (k : KeepsState first later) (sample : Option (List Value)) (w : IsWantedSample (state_of first) limit f es sample) (r : Result Line StatementError) where
     pub within_there : IsSampleWithin (length later.names) sample
     within_there = subst (λ ns. IsSampleWithin (length ns) sample) (sym k.names) w.within
 
-    pub sample_answered : (after : List (List ℕ)) → IfOk r (IsLine printed (sample_text later.names sample)) → IfOk r (AnswersCommand (named (state_of desk) (Sample f es)) limit printed (Sample f es) after)
+    pub sample_answered : (after : List (List ℕ)) → IfOk r (IsLine printed (sample_text later.names sample)) → IfOk r (AnswersCommand (named (state_of state) (Sample f es)) limit printed (Sample f es) after)
     sample_answered after l =
         ok_map r (λ line i. begun (λ s. AnswersCommand s limit printed (Sample f es) after line)
         (w.clear printed, (sample_text names sample, (sample, w.answer, refl), subst (λ ns. IsLine printed (sample_text ns sample) line) k.names i))) l

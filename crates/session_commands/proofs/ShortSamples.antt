@@ -33,7 +33,7 @@ use Rattle.formula_tree.specs.Causes.{most_height}
 use Rattle.redlog_printer.specs.Text.{name_at, first_sign}
 use Rattle.redlog_printer.specs.Writing.{text_limit}
 use Rattle.session_meaning.specs.Samples.{sample_text}
-use Rattle.session_commands.proofs.CaseLemmas.{length_3}
+use Rattle.shared_forms.proofs.CaseLemmas.{length_3}
 
 -- ---- the block
 

@@ -19,24 +19,26 @@ use Rattle.formula_store.specs.Nodes.{tree}
 use Rattle.formula_store.specs.Truths.{Tells, IsWholeWhereAsked}
 use Rattle.session_meaning.specs.declared.line.Line.{Line}
 use Rattle.session_meaning.specs.declared.line.StatementError.{StatementError}
-use Rattle.session_commands.specs.declared.desk.Desk.{Desk}
+use Rattle.session_state.specs.declared.state.SessionState.{SessionState}
 use Rattle.session_meaning.specs.State.{State}
 use Rattle.session_commands.specs.Asked.{HasNoneBelow, IsAsked}
 use Rattle.session_commands.specs.Commands.{named, entry_names}
 use Rattle.session_commands.specs.Causes.{Refuses}
-use Rattle.session_commands.specs.Keeping.{state_of, IsDesk}
+use Rattle.session_state.specs.Keeping.{state_of, IsSessionState}
 use Rattle.session_meaning.specs.Points.{IsQuantified, IsTruth}
 use Rattle.session_meaning.specs.Reply.{IsLine}
 use Rattle.session_commands.specs.Reply.{AnswersCommand}
 use Rattle.session_meaning.specs.Words.{truth_text}
-use Rattle.session_commands.specs.Steps.{use_of, HasNumbers, KeepsDesk}
+use Rattle.session_commands.specs.Steps.{use_of, HasNumbers}
+use Rattle.session_state.specs.Growth.{KeepsState}
 use Rattle.session_commands.specs.Truths.{RefusesTruth, ValueStop, EliminationStop}
-use Rattle.session_commands.proofs.AskedSteps.{same, theory, asked_normal, named_desk, start}
-use Rattle.session_commands.proofs.CaseSteps.{err_map, on_ok}
+use Rattle.session_commands.proofs.AskedSteps.{same, theory, asked_normal, named_session, start}
+use Rattle.shared_forms.proofs.CaseLemmas.{err_map}
+use Rattle.session_commands.proofs.CaseSteps.{on_ok}
 use Rattle.session_commands.proofs.PointLemmas.{resolved_free, whole_where_asked}
 use Rattle.session_commands.proofs.TruthLemmas.{truth_passes, elimination_stops, is_truth, told_in}
 
-module _ (old new : Desk) (f : FormulaTree) (es : List PointEntry) (desk : IsDesk old) (numbers : HasNumbers old.names f) (k : KeepsDesk old new) (i : FormulaId) (q : Numbers)
+module _ (old new : SessionState) (f : FormulaTree) (es : List PointEntry) (state : IsSessionState old) (numbers : HasNumbers old.names f) (k : KeepsState old new) (i : FormulaId) (q : Numbers)
     (a : IsAsked (state_of old) f es new i q) where
   abbrev s : State
   s = state_of old
@@ -45,26 +47,26 @@ module _ (old new : Desk) (f : FormulaTree) (es : List PointEntry) (desk : IsDes
   t = resolve s.context s.bound s.names f
 
   theory_is : context_of new.context ≡ s.context
-  theory_is = theory old new f es desk numbers k
+  theory_is = theory old new f es state numbers k
 
   quantified_here : IsQuantified (state_of new).bound f → IsQuantified s.bound f
-  quantified_here h = subst (λ (u : State). IsQuantified u.bound f) (same old new f es desk numbers k) h
+  quantified_here h = subst (λ (u : State). IsQuantified u.bound f) (same old new f es state numbers k) h
 
   free_here : ¬ (IsQuantified (state_of new).bound f) → ¬ (IsQuantified s.bound f)
-  free_here h = subst (λ (u : State). ¬ (IsQuantified u.bound f)) (same old new f es desk numbers k) h
+  free_here h = subst (λ (u : State). ¬ (IsQuantified u.bound f)) (same old new f es state numbers k) h
 
   pub free_there : ¬ (IsQuantified (state_of new).bound f) → IsQuantifierFree (tree new.store i)
   free_there h = subst (λ (u : Tree). IsQuantifierFree u) (sym a.made.same) (resolved_free s.context s.bound s.names f (free_here h))
 
   pub whole_there : IsWholeWhereAsked (tree new.store i) q.denominator
-  whole_there = subst (λ (u : Tree). IsWholeWhereAsked u q.denominator) (sym a.made.same) (whole_where_asked s.context t q.denominator (asked_normal old new f es desk numbers k i q a) q.positive a.theory)
+  whole_there = subst (λ (u : Tree). IsWholeWhereAsked u q.denominator) (sym a.made.same) (whole_where_asked s.context t q.denominator (asked_normal old new f es state numbers k i q a) q.positive a.theory)
 
   -- what is said of the formula of the store at the names there
   here : (P : Tree → List (List ℕ) → Type 0) → P (tree new.store i) new.names → P t s.names
   here P h = subst (P t) k.names (subst (λ (u : Tree). P u new.names) a.made.same h)
 
   truth_is : (b : Bool) → (IsTrue b ↔ TrueAt s.context t (at_names s.names (point_of q))) → IsTruth s f es b
-  truth_is b h = is_truth s f es (point_of q) a.meant numbers b desk.sound.names_once a.readable a.theory h
+  truth_is b h = is_truth s f es (point_of q) a.meant numbers b state.sound.names_once a.readable a.theory h
 
   pub truth_told : (r : Result Bool StatementError) → IfOk r (λ b. Tells b (tree new.store i) (at_names new.names (point_of q))) → IfOk r (IsTruth s f es)
   truth_told r h = ok_map r (λ b u. truth_is b (told_in s.context b _ _ (here (λ v ns. Tells b v (at_names ns (point_of q))) u))) h
@@ -89,13 +91,13 @@ module _ (old new : Desk) (f : FormulaTree) (es : List PointEntry) (desk : IsDes
 
 -- ---- the names of the command
 
-module _ (desk : Desk) (names : List (List ℕ)) (f : FormulaTree) (es : List PointEntry) (h : IsDesk desk) (grown : Grows desk.names names)
-    (is : names ≡ fold with_name desk.names (formula_variables f ++ entry_names es)) (proper : IsWritableFormula f) (proper_entries : AreWritableEntries es) where
-  pub truth_refused : {E : Type 0} (r : Result E StatementError) (limit : ℕ) (printed : Bool) → IfErr r (RefusesTruth (state_of (named_desk desk names f es h grown is proper proper_entries)) limit f es)
-      → IfErr r (Refuses (named (state_of desk) (Holds f es)) limit (use_of None printed) (Holds f es))
-  truth_refused r limit printed k = err_map r (λ e t. subst (λ s. Refuses s limit (use_of None printed) (Holds f es) e) (start desk names f es h grown is proper proper_entries) (t printed)) k
+module _ (state : SessionState) (names : List (List ℕ)) (f : FormulaTree) (es : List PointEntry) (h : IsSessionState state) (grown : Grows state.names names)
+    (is : names ≡ fold with_name state.names (formula_variables f ++ entry_names es)) (proper : IsWritableFormula f) (proper_entries : AreWritableEntries es) where
+  pub truth_refused : {E : Type 0} (r : Result E StatementError) (limit : ℕ) (printed : Bool) → IfErr r (RefusesTruth (state_of (named_session state names f es h grown is proper proper_entries)) limit f es)
+      → IfErr r (Refuses (named (state_of state) (Holds f es)) limit (use_of None printed) (Holds f es))
+  truth_refused r limit printed k = err_map r (λ e t. subst (λ s. Refuses s limit (use_of None printed) (Holds f es) e) (start state names f es h grown is proper proper_entries) (t printed)) k
 
-  pub truth_answered : (r : Result Line StatementError) (limit : ℕ) (printed b : Bool) (text : List ℕ) → IsTruth (state_of (named_desk desk names f es h grown is proper proper_entries)) f es b → HasNoneBelow (state_of (named_desk desk names f es h grown is proper proper_entries)) f es 19 → text ≡ truth_text b
-      → IfOk r (IsLine printed text) → (after : List (List ℕ)) → IfOk r (AnswersCommand (named (state_of desk) (Holds f es)) limit printed (Holds f es) after)
+  pub truth_answered : (r : Result Line StatementError) (limit : ℕ) (printed b : Bool) (text : List ℕ) → IsTruth (state_of (named_session state names f es h grown is proper proper_entries)) f es b → HasNoneBelow (state_of (named_session state names f es h grown is proper proper_entries)) f es 19 → text ≡ truth_text b
+      → IfOk r (IsLine printed text) → (after : List (List ℕ)) → IfOk r (AnswersCommand (named (state_of state) (Holds f es)) limit printed (Holds f es) after)
   truth_answered r limit printed b text truth clear same k after =
-      ok_map r (λ line l. subst (λ s. AnswersCommand s limit printed (Holds f es) after line) (start desk names f es h grown is proper proper_entries) ((clear limit printed).0, (text, (b, truth, same), l))) k
+      ok_map r (λ line l. subst (λ s. AnswersCommand s limit printed (Holds f es) after line) (start state names f es h grown is proper proper_entries) ((clear limit printed).0, (text, (b, truth, same), l))) k

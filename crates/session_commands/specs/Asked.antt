@@ -20,7 +20,7 @@ use Rattle.formula_store.specs.declared.id.FormulaId.{FormulaId}
 use Rattle.formula_store.specs.Nodes.{tree, IsId}
 use Rattle.session_meaning.specs.declared.line.StatementError.{StatementError}
 use Rattle.session_meaning.specs.declared.line.StatementError.TheVariants as error
-use Rattle.session_commands.specs.declared.desk.Desk.{Desk}
+use Rattle.session_state.specs.declared.state.SessionState.{SessionState}
 use Rattle.session_meaning.specs.State.{State}
 use Rattle.session_meaning.specs.Points.{MeanNoPoint, HasUnvalued}
 use Rattle.session_commands.specs.Causes.{rank, Refuses, HasNoCauseBelow}
@@ -62,7 +62,7 @@ pub record IsClear (s : State) (f : FormulaTree) (es : List PointEntry) : Type 0
   pub entries : ¬ (SomeOf (λ (e : PointEntry). IsBound s.bound e.name) es)
 
 -- the resolved formula, or none where the reading overflows
-pub record IsReadAs (s : State) (f : FormulaTree) (es : List PointEntry) (after : Desk) (id : Option FormulaId) : Type 0 where
+pub record IsReadAs (s : State) (f : FormulaTree) (es : List PointEntry) (after : SessionState) (id : Option FormulaId) : Type 0 where
   pub clear : IsClear s f es
   pub formula : MatchOption id (OverflowsInReading s.context s.bound (place s.names) f) (λ id. IsReadable s f × IsMade (IsId after.store) (tree after.store) id (resolve s.context s.bound s.names f))
 
@@ -88,7 +88,7 @@ ValuedStop s f es error.Memory = Unit {0}
 ValuedStop s f es _ = ⊥
 
 -- The formula is read as this id, and the entries mean this point, which is one of the theory. Nothing is wrong with either, and each free name has an entry.
-pub record IsAsked (s : State) (f : FormulaTree) (es : List PointEntry) (after : Desk) (id : FormulaId) (point : Numbers) : Type 0 where
+pub record IsAsked (s : State) (f : FormulaTree) (es : List PointEntry) (after : SessionState) (id : FormulaId) (point : Numbers) : Type 0 where
   pub readable : IsReadable s f
   pub made : IsMade (IsId after.store) (tree after.store) id (resolve s.context s.bound s.names f)
   pub meant : IsPointOf es (point_of point)

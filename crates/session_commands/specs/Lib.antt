@@ -4,10 +4,8 @@ pub mod Causes
 pub mod Reply
 pub mod Accepted
 pub mod Agreement
-pub mod Keeping
 pub mod Seen
 pub mod Steps
-pub mod CaseSteps
 pub mod Asked
 pub mod Truths
 pub mod SampleSteps

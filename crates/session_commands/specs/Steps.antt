@@ -1,62 +1,40 @@
 -- What the steps of an answer give one another.
-use Rattle.std.specs.Prelude.{◌≡◌, ◌⊎◌, ◌*◌, ◌<◌, ◌≤◌, ℕ, List, Bool, true, Option, Some, None, length, nat_lt, if◌then◌else◌}
-use Rattle.formula_meaning.specs.Context.{Context}
+use Rattle.std.specs.Prelude.{◌≡◌, ◌⊎◌, ◌<◌, ℕ, List, Bool, true, Option, Some, None, length, nat_lt, if◌then◌else◌}
 use Rattle.formula_meaning.specs.Formula.{none}
-use Rattle.formula_meaning.specs.Sizes.{nodes}
-use Rattle.formula_meaning.specs.Every.{Every, EveryBound}
-use Rattle.formula_meaning.specs.Shape.{IsQuantifierFree}
-use Rattle.formula_meaning.specs.Some.{SomeOf, EachOf}
-use Rattle.formula_meaning.specs.Atom.{Atom}
-use Rattle.formula_meaning.specs.declared.junction.Junction.{Junction}
-use Rattle.formula_meaning.specs.declared.junction.Junction.TheVariants.{Conjunction, Disjunction}
-use Rattle.formula_meaning.specs.Tree.{Tree, IsFree, Equivalent, tree_distinct}
-use Rattle.clean_forms.specs.Clean.{IsCleanForm}
-use Rattle.clean_forms.specs.Laws.{IsNoLonger}
-use Rattle.clean_forms.specs.Plain.{plain_form, literals}
-use Rattle.simplified_formulas.specs.Measure.{size, atom_measure}
-use Rattle.simplified_formulas.specs.Orderly.{IsOrderly}
-use Rattle.simplified_formulas.specs.Trees.{IsReduced, EquivalentUnder}
-use Rattle.formula_meaning.specs.Measured.{Overflow, Nodes, done, stopped}
-use Rattle.elimination_reference.specs.Reference.{reference}
-use Rattle.elimination_reference.specs.Theorems.{IsAnswerTo}
-use Rattle.formula_meaning.specs.NegationNormal.{normal_form}
-use Rattle.atom_normal.specs.NormalForm.{negated_normal, IsNormal}
-use Rattle.prenex_theory.specs.Prenex.{prenex_of}
-use Rattle.prenex_forms.specs.Forms.{OverflowsInRenaming}
+use Rattle.formula_meaning.specs.Some.{SomeOf}
+use Rattle.formula_meaning.specs.Tree.{Tree}
+use Rattle.formula_meaning.specs.Measured.{Overflow, Nodes}
 use Rattle.qe_syntax.specs.declared.tree.Formula.{Formula}
 use Rattle.qe_syntax.specs.Trees.{FormulaTree, FormulaTrees, formula_tree, formula_trees}
 use Rattle.qe_syntax.specs.Statements.{CommandTree, Echo, Nnf, Pnf, Dnf, Cnf, Simpl, Qe, StatementTree}
 use Rattle.redlog_tokens.specs.declared.token.ReadError.{ReadError}
 use Rattle.redlog_tokens.specs.declared.token.ReadError.TheVariants as reading
 use Rattle.formula_tree.specs.Bindings.{bind}
-use Rattle.formula_tree.specs.Makers.{Keeps}
 use Rattle.formula_tree.specs.Resolving.{BoundTrees, names_after, resolve}
 use Rattle.formula_tree.specs.Causes.{IsAccepted as IsResolvable}
 use Rattle.formula_resolving.specs.declared.error.StaticError.{StaticError}
 use Rattle.formula_resolving.specs.declared.error.StaticError.TheVariants as static
-use Rattle.formula_resolving.specs.Numbering.{Grows}
 use Rattle.formula_resolving.specs.Refusals.{IsFirstCause, Applies, rank as static_rank}
 use Rattle.formula_store.specs.declared.id.FormulaId.{FormulaId}
-use Rattle.formula_store.specs.Nodes.{tree, IsId}
 use Rattle.plain_engine.specs.declared.measured.Measured.{Measured}
 use Rattle.plain_engine.specs.declared.measured.Measured.TheVariants as measured
 use Rattle.redlog_printer.specs.declared.error.PrintError.{PrintError}
 use Rattle.redlog_printer.specs.declared.error.PrintError.TheVariants as print
-use Rattle.redlog_printer.specs.Text.{tree_text}
-use Rattle.formula_meaning.specs.Within.{IsAtomWithin}
 use Rattle.redlog_printer.specs.Writing.{text_limit}
 use Rattle.session_meaning.specs.declared.line.Line.{Line}
 use Rattle.session_meaning.specs.declared.line.StatementError.{StatementError}
 use Rattle.session_meaning.specs.declared.line.StatementError.TheVariants as error
-use Rattle.session_commands.specs.declared.formulas.Wanted.{Wanted}
-use Rattle.session_commands.specs.declared.formulas.Wanted.TheVariants as wanted
-use Rattle.session_commands.specs.declared.formulas.Way.{Way}
-use Rattle.session_commands.specs.declared.formulas.Way.TheVariants as way
-use Rattle.session_commands.specs.declared.desk.Desk.{Desk}
+use Rattle.shared_forms.specs.declared.error.FormsError.{FormsError}
+use Rattle.shared_forms.specs.declared.error.FormsError.TheVariants as forms
+use Rattle.shared_forms.specs.declared.forms.Form.{Form}
+use Rattle.shared_forms.specs.declared.forms.Form.TheVariants as form
+use Rattle.shared_forms.specs.Forms.{IsFormOf}
+use Rattle.session_commands.specs.declared.formulas.FormCommand.{FormCommand}
+use Rattle.session_commands.specs.declared.formulas.FormCommand.TheVariants as wanted
+use Rattle.shared_forms.specs.declared.forms.ClauseForm.TheVariants as clause_form
 use Rattle.session_meaning.specs.State.{State, with_names, with_bound}
 use Rattle.session_meaning.specs.Assumptions.{assumed}
 use Rattle.session_commands.specs.Parts.{SomePart, EachPart}
-use Rattle.session_meaning.specs.FormulaAnswers.{HasNewNames}
 use Rattle.session_commands.specs.Commands.{MayGive, HasAnswerNames}
 use Rattle.session_meaning.specs.Points.{IsQuantified}
 use Rattle.session_meaning.specs.Causes.{Use, formula_line, HasNoRoom, IsTooLarge}
@@ -87,29 +65,39 @@ measured_refusal measured.Overflow = error.Overflow
 measured_refusal measured.Nodes = error.Nodes
 measured_refusal measured.Memory = error.Memory
 
+-- the refusal of a form that is not made
+abbrev pub forms_refusal : FormsError → StatementError
+forms_refusal forms.Overflow = error.Overflow
+forms_refusal forms.Nodes = error.Nodes
+forms_refusal forms.Memory = error.Memory
+
 -- the refusal of a text that is not written
 abbrev pub print_refusal : PrintError → StatementError
 print_refusal print.Text = error.Text
 print_refusal print.Memory = error.Memory
 
 -- the assumptions
-abbrev pub given_trees : Wanted → FormulaTrees
+abbrev pub given_trees : FormCommand → FormulaTrees
 given_trees (wanted.Simplified given) = formula_trees given.now
 given_trees (wanted.Eliminated given) = formula_trees given.now
 given_trees _ = none
 
--- what the lists of a clean form are joined by
-abbrev pub junction_of : Way → Junction
-junction_of way.Disjunctive = Conjunction
-junction_of way.Conjunctive = Disjunction
+-- the form that is wanted
+abbrev pub form_of : FormCommand → Form
+form_of wanted.Resolved = form.AsRead
+form_of wanted.NegationNormal = form.NegationNormal
+form_of wanted.Prenex = form.Prenex
+form_of (wanted.Distributed clauses) = form.Distributed clauses
+form_of (wanted.Simplified given) = form.Simplified
+form_of (wanted.Eliminated given) = form.Eliminated
 
 -- the command that gives the wanted formula
-abbrev pub command_of : Wanted → FormulaTree → CommandTree
-command_of wanted.Given f = Echo f
+abbrev pub command_of : FormCommand → FormulaTree → CommandTree
+command_of wanted.Resolved f = Echo f
 command_of wanted.NegationNormal f = Nnf f
 command_of wanted.Prenex f = Pnf f
-command_of (wanted.Distributed way.Disjunctive) f = Dnf f
-command_of (wanted.Distributed way.Conjunctive) f = Cnf f
+command_of (wanted.Distributed clause_form.Disjunctive) f = Dnf f
+command_of (wanted.Distributed clause_form.Conjunctive) f = Cnf f
 command_of (wanted.Simplified given) f = Simpl f (formula_trees given.now)
 command_of (wanted.Eliminated given) f = Qe f (formula_trees given.now)
 
@@ -120,7 +108,7 @@ state_with s (Some x) t = with_bound s x t
 
 -- The command is accepted, and its line and the next state are those of the formula that it gives. The state is one in which
 -- its variables have their numbers.
-pub record IsGiven (s : State) (limit : ℕ) (u : Use) (c : CommandTree) (answer : Line) (next : State) : Type 0 where
+pub record IsFormulaAnswer (s : State) (limit : ℕ) (u : Use) (c : CommandTree) (answer : Line) (next : State) : Type 0 where
   pub accepted : IsAccepted s limit u c
   pub formula : Tree
   pub given : MayGive s limit c formula
@@ -130,21 +118,7 @@ pub record IsGiven (s : State) (limit : ℕ) (u : Use) (c : CommandTree) (answer
   pub small : ¬ (IsTooLarge u.target formula)
   pub after : next ≡ state_with (with_names s names) u.target formula
 
--- ---- what a step keeps
-
--- the formulas of the store stay, and so does all else
-pub record KeepsDesk (old new : Desk) : Type 0 where
-  pub context : new.context ≡ old.context
-  pub names : new.names ≡ old.names
-  pub bindings : new.bindings ≡ old.bindings
-  pub store : Keeps (IsId old.store) (tree old.store) (IsId new.store) (tree new.store)
-
--- the same, but for new names after the old ones
-pub record GrowsDesk (old new : Desk) : Type 0 where
-  pub context : new.context ≡ old.context
-  pub names : Grows old.names new.names
-  pub bindings : new.bindings ≡ old.bindings
-  pub store : Keeps (IsId old.store) (tree old.store) (IsId new.store) (tree new.store)
+-- ---- what is read
 
 -- each variable of the formula has its number
 abbrev pub HasNumbers : List (List ℕ) → FormulaTree → Type 0
@@ -207,122 +181,29 @@ pub record IsFirstWith (s : State) (g : FormulaTree) (stop after : Option Static
   pub first : FirstAmong (λ d. Applies s.context s.bound s.names g d) cause
   pub joined : after ≡ earlier_of stop cause
 
--- a disjunctive or conjunctive form is wanted
-abbrev pub IsDistributed : Wanted → Type 0
-IsDistributed (wanted.Distributed way) = Unit {0}
-IsDistributed _ = ⊥
-
 -- a quantifier stands in a formula that is asked for its disjunctive or conjunctive form
-abbrev pub HasUnwantedQuantifier : State → Wanted → FormulaTree → Type 0
-HasUnwantedQuantifier s (wanted.Distributed way) f = IsQuantified s.bound f
+abbrev pub HasUnwantedQuantifier : State → FormCommand → FormulaTree → Type 0
+HasUnwantedQuantifier s (wanted.Distributed clause_form) f = IsQuantified s.bound f
 HasUnwantedQuantifier s _ f = ⊥
 
 -- no cause in reading applies, nor is there a quantifier where none may be
-pub record IsReady (s : State) (w : Wanted) (f : FormulaTree) : Type 0 where
+pub record IsReady (s : State) (w : FormCommand) (f : FormulaTree) : Type 0 where
   pub readable : ArePartsReadable s f (given_trees w)
   pub plain : ¬ (HasUnwantedQuantifier s w f)
 
 -- why that is not so: the quantifier comes before an overflow, and after all other causes
-abbrev pub IsUnready : State → Wanted → FormulaTree → StatementError → Type 0
+abbrev pub IsUnready : State → FormCommand → FormulaTree → StatementError → Type 0
 IsUnready s w f error.Quantified = HasUnwantedQuantifier s w f × ((d : StaticError) → static_rank d < 7 → ¬ (AppliesToPart s f (given_trees w) d))
 IsUnready s w f error.Overflow = ArePartsUnread s f (given_trees w) error.Overflow × (¬ (HasUnwantedQuantifier s w f))
 IsUnready s w f e = ArePartsUnread s f (given_trees w) e
 
 -- ---- forms
 
--- the reference elimination gives t of f, and it is an answer to f
-pub record IsEliminatedAs (c : Context) (limit : ℕ) (f t : Tree) : Type 0 where
-  pub cost : ℕ
-  pub same : reference c limit f ≡ done (t, cost)
-  pub exact : IsAnswerTo c f t
-  pub small : nodes t ≤ limit
-
--- t is f simplified under the atoms ks
-pub record IsSimplifiedAs (c : Context) (ks : List Atom) (f t : Tree) : Type 0 where
-  pub truth : EquivalentUnder c ks t f
-  pub reduced : IsReduced c t ks
-  pub orderly : IsOrderly (IsNormal c) t
-  pub normal : Every (IsNormal c) t
-  pub free : IsQuantifierFree f → IsQuantifierFree t
-  pub bound : (n : ℕ) → EveryBound (λ x. x < n) f → EveryBound (λ x. x < n) t
-  pub quantified : (n : ℕ) → EveryBound (λ x. ¬ (x ≡ n)) f → EveryBound (λ x. ¬ (x ≡ n)) t
-  pub names : (x : ℕ) → IsFree t x → IsFree f x
-  pub nodes : nodes t ≤ nodes f
-  pub atoms : size atom_measure t ≤ size atom_measure f
-  pub text : (names : List (List ℕ)) → EachOf (λ name. 0 < length name) names → Every (IsAtomWithin (length names)) f → length (tree_text names t) ≤ length (tree_text names f)
-
--- t is a clean form of f
-pub record IsCleanedAs (c : Context) (j : Junction) (f t : Tree) : Type 0 where
-  pub clean : IsCleanForm c j t
-  pub truth : Equivalent c t f
-  pub orderly : IsOrderly (IsNormal c) t
-  pub free : IsQuantifierFree t
-  pub names : (x : ℕ) → IsFree t x → IsFree f x
-  pub nodes : nodes t ≤ nodes (plain_form j f)
-  pub text : IsNoLonger t (plain_form j f) f
-
--- t is what the reference elimination gives of f, simplified under the atoms ks
-pub record IsWantedAnswer (c : Context) (ks : List Atom) (limit : ℕ) (f t : Tree) : Type 0 where
-  pub answer : Tree
-  pub eliminated : IsEliminatedAs c limit f answer
-  pub simplified : IsSimplifiedAs c ks answer t
-
--- t is the prenex form of f, where count names are known: few nodes are counted, and no number of a renamed atom passes the limit
-pub record IsPrenexAs (c : Context) (count limit : ℕ) (f t : Tree) : Type 0 where
-  pub form : t ≡ prenex_of c count (normal_form negated_normal f)
-  pub small : nodes (normal_form negated_normal f) ≤ limit
-  pub fits : ¬ (OverflowsInRenaming c count (normal_form negated_normal f))
-
--- t is the wanted form of a resolved formula f under the assumptions ks, where count names are known
-abbrev pub IsWantedForm : Context → ℕ → List Atom → ℕ → Wanted → Tree → Tree → Type 0
-IsWantedForm c count ks limit wanted.Given f t = t ≡ f
-IsWantedForm c count ks limit wanted.NegationNormal f t = t ≡ normal_form negated_normal f
-IsWantedForm c count ks limit wanted.Prenex f t = IsPrenexAs c count limit f t
-IsWantedForm c count ks limit (wanted.Distributed way) f t = IsCleanedAs c (junction_of way) (normal_form negated_normal f) t
-IsWantedForm c count ks limit (wanted.Simplified given) f t = IsSimplifiedAs c ks (normal_form negated_normal f) t
-IsWantedForm c count ks limit (wanted.Eliminated given) f t = IsWantedAnswer c ks limit f t
-
--- the names after the wanted form of a resolved formula f was made
-abbrev pub HasFormNames : Wanted → List (List ℕ) → Tree → List (List ℕ) → Type 0
-HasFormNames wanted.Prenex names f after = HasNewNames names f after
-HasFormNames _ names f after = after ≡ names
-
 -- t is the wanted form of a formula that is read in a state in which its variables have their numbers, and these are the names after it
-pub record IsWantedOf (s : State) (limit : ℕ) (w : Wanted) (f : FormulaTree) (t : Tree) (after : List (List ℕ)) : Type 0 where
+pub record IsWantedOf (s : State) (limit : ℕ) (w : FormCommand) (f : FormulaTree) (t : Tree) (after : List (List ℕ)) : Type 0 where
   pub ready : IsReady s w f
-  pub form : IsWantedForm s.context (length s.names) (assumed s (given_trees w)) limit w (resolve s.context s.bound s.names f) t
+  pub form : IsFormOf s.context (length s.names) (assumed s (given_trees w)) limit (form_of w) (resolve s.context s.bound s.names f) t
   pub names : HasAnswerNames s (command_of w f) after
-
--- why a negation normal form is not made
-abbrev pub NegationFault : Option ℕ → Tree → StatementError → Type 0
-NegationFault limit f error.Nodes = (n : ℕ) × (limit ≡ Some n) × (n < 6 * tree_distinct f)
-NegationFault limit f error.Memory = Unit {0}
-NegationFault limit f _ = ⊥
-
--- why quantifiers are not eliminated
-abbrev pub EliminationFault : Context → ℕ → Tree → StatementError → Type 0
-EliminationFault c limit f error.Nodes = reference c limit f ≡ stopped Nodes
-EliminationFault c limit f error.Overflow = reference c limit f ≡ stopped Overflow
-EliminationFault c limit f error.Memory = Unit {0}
-EliminationFault c limit f _ = ⊥
-
--- why a prenex form is not made
-abbrev pub PrenexFault : Context → ℕ → ℕ → Tree → StatementError → Type 0
-PrenexFault c count limit f error.Nodes = limit < nodes (normal_form negated_normal f)
-PrenexFault c count limit f error.Overflow = (nodes (normal_form negated_normal f) ≤ limit) × OverflowsInRenaming c count (normal_form negated_normal f)
-PrenexFault c count limit f error.Memory = Unit {0}
-PrenexFault c count limit f _ = ⊥
-
--- why the wanted form is not made, where count names are known
-abbrev pub FormFault : Context → ℕ → ℕ → Wanted → Tree → StatementError → Type 0
-FormFault c count limit wanted.NegationNormal f error.Nodes = limit < 6 * tree_distinct f
-FormFault c count limit wanted.Prenex f e = PrenexFault c count limit f e
-FormFault c count limit (wanted.Distributed way) f error.Nodes = limit < literals (junction_of way) (normal_form negated_normal f)
-FormFault c count limit (wanted.Simplified given) f error.Nodes = limit < nodes (normal_form negated_normal f)
-FormFault c count limit (wanted.Eliminated given) f error.Nodes = reference c limit f ≡ stopped Nodes
-FormFault c count limit (wanted.Eliminated given) f error.Overflow = reference c limit f ≡ stopped Overflow
-FormFault c count limit w f error.Memory = Unit {0}
-FormFault c count limit w f _ = ⊥
 
 -- the formula may be bound to the name, if there is one
 pub record MayBind (bound : BoundTrees) (target : Option (List ℕ)) (t : Tree) : Type 0 where

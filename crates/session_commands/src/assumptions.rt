@@ -12,10 +12,10 @@ ghost use Rattle.formula_store.specs.Nodes.{tree, IsId};
 ghost use Rattle.qe_syntax.specs.Writable.{IsWritableFormula};
 ghost use Rattle.qe_syntax.specs.Trees.{formula_tree, formulas_of};
 ghost use Rattle.session_meaning.specs.Assumptions.{atoms_alone, assumed};
-ghost use Rattle.session_commands.specs.Keeping.{state_of};
-ghost use Rattle.session_commands.specs.Steps.{KeepsDesk, HasNumbers, IsFirstWith, ArePartsNumbered, ArePartsReadable, ArePartsUnread, FirstAmong, first_of, AppliesToSome};
+ghost use Rattle.session_state.specs.Keeping.{state_of};
+ghost use Rattle.session_commands.specs.Steps.{HasNumbers, IsFirstWith, ArePartsNumbered, ArePartsReadable, ArePartsUnread, FirstAmong, first_of, AppliesToSome};
+ghost use Rattle.session_state.specs.Growth.{KeepsState};
 
-use crate::desk::Desk;
 use crate::formulas::{resolved_part, static_refusal};
 use atom_normal::Atom;
 use formula_resolving::{StaticError, number_formula};
@@ -23,14 +23,9 @@ use formula_store::FormulaId;
 use formula_tree::{Bindings, Names, Shape};
 use qe_syntax::Formula;
 use session_meaning::StatementError;
+use session_state::SessionState;
+use shared_forms::Premised;
 use std::alloc::AllocError;
-
-/// What is read of a command: its formula, and the atoms that its assumptions are.
-#[derive(Drop)]
-pub(crate) struct Premised {
-    pub(crate) formula: FormulaId,
-    pub(crate) atoms: Vec<Atom>,
-}
 
 /// Numbers the variables of the formula and of its assumptions, in the order of the text. After an `Err` the names may have
 /// grown.
@@ -69,24 +64,24 @@ pub(crate) fn number_part(
 
 /// The resolved formula and the atoms of its assumptions, or the first cause of a refusal in any of them.
 pub(crate) fn read_parts(
-    desk: &mut Desk,
+    state: &mut SessionState,
     formula: &Formula,
     given: &[Formula],
 ) -> Result<Premised, StatementError>
     requires proper { IsWritableFormula (formula_tree formula.now) }
     requires proper_given { AllByRecursion (λ g. IsWritableFormula (formula_tree g)) given.now }
-    requires ids { AreIds (IsId desk.old.store) desk.old.bindings }
-    requires numbered { ArePartsNumbered desk.old.names (formula_tree formula.now) (formulas_of (map formula_tree given.now)) }
-    ensures made { IfOk result (λ r. IsMade (IsId desk.new.store) (tree desk.new.store) r.formula (resolve (state_of desk.old).context (state_of desk.old).bound desk.old.names (formula_tree formula.now))) }
-    ensures atoms { IfOk result (λ r. map atom_of r.atoms.items ≡ assumed (state_of desk.old) (formulas_of (map formula_tree given.now))) }
+    requires ids { AreIds (IsId state.old.store) state.old.bindings }
+    requires numbered { ArePartsNumbered state.old.names (formula_tree formula.now) (formulas_of (map formula_tree given.now)) }
+    ensures made { IfOk result (λ r. IsMade (IsId state.new.store) (tree state.new.store) r.formula (resolve (state_of state.old).context (state_of state.old).bound state.old.names (formula_tree formula.now))) }
+    ensures atoms { IfOk result (λ r. map atom_of r.atoms.items ≡ assumed (state_of state.old) (formulas_of (map formula_tree given.now))) }
     ensures well_formed { IfOk result (λ r. AllByRecursion IsWellFormed r.atoms.items) }
-    ensures readable { OnOk result (ArePartsReadable (state_of desk.old) (formula_tree formula.now) (formulas_of (map formula_tree given.now))) }
-    ensures unread { IfErr result (ArePartsUnread (state_of desk.old) (formula_tree formula.now) (formulas_of (map formula_tree given.now))) }
-    ensures kept { KeepsDesk desk.old desk.new }
+    ensures readable { OnOk result (ArePartsReadable (state_of state.old) (formula_tree formula.now) (formulas_of (map formula_tree given.now))) }
+    ensures unread { IfErr result (ArePartsUnread (state_of state.old) (formula_tree formula.now) (formulas_of (map formula_tree given.now))) }
+    ensures kept { KeepsState state.old state.new }
 {
-    let mut atoms = Vec::new(desk.alloc);
-    let stop = read_assumptions(desk, given, &mut atoms)?;
-    match resolved_part(desk, formula) {
+    let mut atoms = Vec::new(state.alloc);
+    let stop = read_assumptions(state, given, &mut atoms)?;
+    match resolved_part(state, formula) {
         Ok(formula) => match stop {
             None => Ok(Premised { formula, atoms }),
             Some(error) => Err(static_refusal(error)),
@@ -100,46 +95,46 @@ pub(crate) fn read_parts(
 
 /// The first cause of a refusal in the assumptions, if there is one; else their atoms are put behind the others.
 fn read_assumptions(
-    desk: &mut Desk,
+    state: &mut SessionState,
     given: &[Formula],
     atoms: &mut Vec<Atom>,
 ) -> Result<Option<StaticError>, StatementError>
     requires proper { AllByRecursion (λ g. IsWritableFormula (formula_tree g)) given.now }
-    requires ids { AreIds (IsId desk.old.store) desk.old.bindings }
-    requires numbered { AllByRecursion (λ g. HasNumbers desk.old.names (formula_tree g)) given.now }
+    requires ids { AreIds (IsId state.old.store) state.old.bindings }
+    requires numbered { AllByRecursion (λ g. HasNumbers state.old.names (formula_tree g)) given.now }
     requires well_formed { AllByRecursion IsWellFormed atoms.old.items }
-    ensures first { IfOk result (FirstAmong (AppliesToSome (state_of desk.old) given.now)) }
-    ensures atoms { IfOk result (λ stop. stop ≡ None → map atom_of atoms.new.items ≡ map atom_of atoms.old.items ++ assumed (state_of desk.old) (formulas_of (map formula_tree given.now))) }
+    ensures first { IfOk result (FirstAmong (AppliesToSome (state_of state.old) given.now)) }
+    ensures atoms { IfOk result (λ stop. stop ≡ None → map atom_of atoms.new.items ≡ map atom_of atoms.old.items ++ assumed (state_of state.old) (formulas_of (map formula_tree given.now))) }
     ensures well_formed { AllByRecursion IsWellFormed atoms.new.items }
     ensures memory { IfErr result (λ e. e ≡ StatementError.Memory) }
-    ensures kept { KeepsDesk desk.old desk.new }
+    ensures kept { KeepsState state.old state.new }
 {
     let mut stop = None;
     for assumption in given {
-        stop = read_assumption(desk, assumption, atoms, stop)?;
+        stop = read_assumption(state, assumption, atoms, stop)?;
     }
     Ok(stop)
 }
 
 /// The earlier of this cause and the first one in the assumption.
 fn read_assumption(
-    desk: &mut Desk,
+    state: &mut SessionState,
     assumption: &Formula,
     atoms: &mut Vec<Atom>,
     stop: Option<StaticError>,
 ) -> Result<Option<StaticError>, StatementError>
     requires proper { IsWritableFormula (formula_tree assumption.now) }
-    requires ids { AreIds (IsId desk.old.store) desk.old.bindings }
-    requires numbered { HasNumbers desk.old.names (formula_tree assumption.now) }
+    requires ids { AreIds (IsId state.old.store) state.old.bindings }
+    requires numbered { HasNumbers state.old.names (formula_tree assumption.now) }
     requires well_formed { AllByRecursion IsWellFormed atoms.old.items }
-    ensures first { IfOk result (IsFirstWith (state_of desk.old) (formula_tree assumption.now) stop) }
-    ensures atoms { IfOk result (λ r. r ≡ None → map atom_of atoms.new.items ≡ map atom_of atoms.old.items ++ atoms_alone (resolve (state_of desk.old).context (state_of desk.old).bound desk.old.names (formula_tree assumption.now))) }
+    ensures first { IfOk result (IsFirstWith (state_of state.old) (formula_tree assumption.now) stop) }
+    ensures atoms { IfOk result (λ r. r ≡ None → map atom_of atoms.new.items ≡ map atom_of atoms.old.items ++ atoms_alone (resolve (state_of state.old).context (state_of state.old).bound state.old.names (formula_tree assumption.now))) }
     ensures well_formed { AllByRecursion IsWellFormed atoms.new.items }
     ensures memory { IfErr result (λ e. e ≡ StatementError.Memory) }
-    ensures kept { KeepsDesk desk.old desk.new }
+    ensures kept { KeepsState state.old state.new }
 {
-    match resolved_part(desk, assumption) {
-        Ok(id) => match add_atom(desk, id, atoms) {
+    match resolved_part(state, assumption) {
+        Ok(id) => match add_atom(state, id, atoms) {
             Ok(()) => Ok(stop),
             Err(_) => Err(StatementError::Memory),
         },
@@ -151,14 +146,14 @@ fn read_assumption(
 }
 
 /// Adds the formula to the atoms, where it is one.
-fn add_atom(desk: &Desk, id: FormulaId, atoms: &mut Vec<Atom>) -> Result<(), AllocError>
-    requires id { IsId desk.now.store id }
+fn add_atom(state: &SessionState, id: FormulaId, atoms: &mut Vec<Atom>) -> Result<(), AllocError>
+    requires id { IsId state.now.store id }
     requires well_formed { AllByRecursion IsWellFormed atoms.old.items }
-    ensures atoms { OnOk result (map atom_of atoms.new.items ≡ map atom_of atoms.old.items ++ atoms_alone (tree desk.now.store id)) }
+    ensures atoms { OnOk result (map atom_of atoms.new.items ≡ map atom_of atoms.old.items ++ atoms_alone (tree state.now.store id)) }
     ensures well_formed { AllByRecursion IsWellFormed atoms.new.items }
 {
-    if let Shape::One(atom) = desk.store.shape(id) {
-        let atom = atom.copy(desk.alloc).map_err(|_| AllocError)?;
+    if let Shape::One(atom) = state.store.shape(id) {
+        let atom = atom.copy(state.alloc).map_err(|_| AllocError)?;
         atoms.push(atom)?;
     }
     Ok(())

@@ -19,13 +19,12 @@ ghost use Rattle.session_meaning.specs.Assumptions.{assumed};
 ghost use Rattle.session_commands.specs.Commands.{named, GivesFormula};
 ghost use Rattle.session_meaning.specs.Causes.{formula_line, HasNoRoom};
 ghost use Rattle.session_commands.specs.Causes.{Refuses};
-ghost use Rattle.session_commands.specs.Keeping.{state_of, IsDesk};
+ghost use Rattle.session_state.specs.Keeping.{state_of, IsSessionState};
 ghost use Rattle.session_meaning.specs.Reply.{IsLine};
-ghost use Rattle.session_commands.specs.Steps.{static_refusal as refusal_of_static, HasUnwantedQuantifier, ArePartsNumbered, IsReady, IsUnready, given_trees, command_of, use_of, IsGiven, IsWantedOf, KeepsDesk, GrowsDesk, HasNumbers, IsUnread, IsReadable, MayBind, TargetFault, LineFault, IsLineOf, GiveFault, bound_after};
+ghost use Rattle.session_commands.specs.Steps.{static_refusal as refusal_of_static, forms_refusal as refusal_of_forms, form_of, HasUnwantedQuantifier, ArePartsNumbered, IsReady, IsUnready, given_trees, command_of, use_of, IsFormulaAnswer, IsWantedOf, HasNumbers, IsUnread, IsReadable, MayBind, TargetFault, LineFault, IsLineOf, GiveFault, bound_after};
+ghost use Rattle.session_state.specs.Growth.{KeepsState, GrowsState};
 
-use crate::assumptions::{Premised, number_parts, read_parts};
-use crate::desk::Desk;
-use crate::forms::formed;
+use crate::assumptions::{number_parts, read_parts};
 use crate::lines::text_of;
 use formula_resolving::{StaticError, linearise};
 use formula_store::FormulaId;
@@ -34,150 +33,185 @@ use free_names::is_quantified;
 use qe_syntax::{Command, Formula, Formulas, Name};
 use redlog_printer::TEXT_LIMIT;
 use session_meaning::{Line, MOST_SUBFORMULAS, StatementError};
+use session_state::SessionState;
+use shared_forms::{ClauseForm, Form, FormsError, Premised, formed};
 use std::alloc::Global;
 
 /// At most so many names are bound.
 const MOST_BOUND: usize = 256;
 
-/// Which clean form is wanted.
-#[derive(Clone, Copy, Debug, PartialEq, Eq)]
-pub(crate) enum Way {
-    Disjunctive,
-    Conjunctive,
-}
-
 /// The formula that a command gives: as it is, its negation normal form, its prenex form, a clean form, one that is simplified
 /// under assumptions, or one without quantifiers, simplified under assumptions.
 #[derive(Clone, Copy)]
-pub(crate) enum Wanted<'a> {
-    Given,
+pub(crate) enum FormCommand<'a> {
+    Resolved,
     NegationNormal,
     Prenex,
-    Distributed(Way),
+    Distributed(ClauseForm),
     Simplified(&'a Formulas),
     Eliminated(&'a Formulas),
 }
 
-impl<'a> Wanted<'a> {
+impl<'a> FormCommand<'a> {
+    /// The form that is wanted.
+    fn form(self) -> Form
+        ensures { result ≡ form_of self.entry }
+    {
+        match self {
+            FormCommand::Resolved => Form::AsRead,
+            FormCommand::NegationNormal => Form::NegationNormal,
+            FormCommand::Prenex => Form::Prenex,
+            FormCommand::Distributed(clauses) => Form::Distributed(clauses),
+            FormCommand::Simplified(_) => Form::Simplified,
+            FormCommand::Eliminated(_) => Form::Eliminated,
+        }
+    }
+
     /// The assumptions.
     fn assumptions(self) -> &'a [Formula]
         ensures { formulas_of (map formula_tree result.now) ≡ given_trees self.entry }
     {
         match self {
-            Wanted::Given | Wanted::NegationNormal | Wanted::Prenex | Wanted::Distributed(_) => &[],
-            Wanted::Simplified(given) | Wanted::Eliminated(given) => given.items(),
+            FormCommand::Resolved
+            | FormCommand::NegationNormal
+            | FormCommand::Prenex
+            | FormCommand::Distributed(_) => &[],
+            FormCommand::Simplified(given) | FormCommand::Eliminated(given) => given.items(),
         }
     }
 }
 
 /// What formula the command asks for, and of which one; `None` of a query.
-pub(crate) fn wanted_of(command: &Command) -> Option<(Wanted<'_>, &Formula)>
+pub(crate) fn form_command_of(command: &Command) -> Option<(FormCommand<'_>, &Formula)>
     ensures asked { IfSome result (λ r. command_tree command.now ≡ command_of r.0 (formula_tree r.1.now)) }
     ensures query { IfNone result (¬ (GivesFormula (command_tree command.now))) }
 {
     match command {
-        Command::Echo(formula) => Some((Wanted::Given, formula)),
-        Command::Nnf(formula) => Some((Wanted::NegationNormal, formula)),
-        Command::Pnf(formula) => Some((Wanted::Prenex, formula)),
-        Command::Dnf(formula) => Some((Wanted::Distributed(Way::Disjunctive), formula)),
-        Command::Cnf(formula) => Some((Wanted::Distributed(Way::Conjunctive), formula)),
-        Command::Simpl(formula, given) => Some((Wanted::Simplified(given), formula)),
-        Command::Qe(formula, given) => Some((Wanted::Eliminated(given), formula)),
+        Command::Echo(formula) => Some((FormCommand::Resolved, formula)),
+        Command::Nnf(formula) => Some((FormCommand::NegationNormal, formula)),
+        Command::Pnf(formula) => Some((FormCommand::Prenex, formula)),
+        Command::Dnf(formula) => Some((FormCommand::Distributed(ClauseForm::Disjunctive), formula)),
+        Command::Cnf(formula) => Some((FormCommand::Distributed(ClauseForm::Conjunctive), formula)),
+        Command::Simpl(formula, given) => Some((FormCommand::Simplified(given), formula)),
+        Command::Qe(formula, given) => Some((FormCommand::Eliminated(given), formula)),
         Command::Qea(..) | Command::Holds(..) | Command::Sample(..) => None,
     }
 }
 
 /// Answers a command that gives a formula. After an `Err` the names may have grown.
 pub(crate) fn answer_formula(
-    desk: &mut Desk,
+    state: &mut SessionState,
     limit: u64,
-    wanted: Wanted<'_>,
+    wanted: FormCommand<'_>,
     formula: &Formula,
     target: &Option<Name>,
     printed: bool,
 ) -> Result<Line, StatementError>
     requires proper { IsWritableFormula (formula_tree formula.now) }
     requires given { AreWritableFormulas (given_trees wanted) }
-    requires desk { IsDesk desk.old }
-    ensures desk { OnOk result (IsDesk desk.new) }
-    ensures answer { IfOk result (λ line. IsGiven (named (state_of desk.old) (command_of wanted.entry (formula_tree formula.now))) limit (use_of target.now printed) (command_of wanted.entry (formula_tree formula.now)) line (state_of desk.new)) }
-    ensures refused { IfErr result (Refuses (named (state_of desk.old) (command_of wanted.entry (formula_tree formula.now))) limit (use_of target.now printed) (command_of wanted.entry (formula_tree formula.now))) }
-    ensures grown { OnErr result (GrowsDesk desk.old desk.new) }
+    requires session { IsSessionState state.old }
+    ensures session { OnOk result (IsSessionState state.new) }
+    ensures answer { IfOk result (λ line. IsFormulaAnswer (named (state_of state.old) (command_of wanted.entry (formula_tree formula.now))) limit (use_of target.now printed) (command_of wanted.entry (formula_tree formula.now)) line (state_of state.new)) }
+    ensures refused { IfErr result (Refuses (named (state_of state.old) (command_of wanted.entry (formula_tree formula.now))) limit (use_of target.now printed) (command_of wanted.entry (formula_tree formula.now))) }
+    ensures grown { OnErr result (GrowsState state.old state.new) }
 {
     let assumptions = wanted.assumptions();
-    number_parts(formula, assumptions, &desk.bindings, &mut desk.names)?;
-    let id = wanted_formula(desk, limit, wanted, formula)?;
-    give(desk, target, printed, id)
+    number_parts(formula, assumptions, &state.bindings, &mut state.names)?;
+    let id = wanted_formula(state, limit, wanted, formula)?;
+    give(state, target, printed, id)
 }
 
 /// The formula that is wanted, or the first cause of a refusal in reading or in making it. The names may have grown.
 fn wanted_formula(
-    desk: &mut Desk,
+    state: &mut SessionState,
     limit: u64,
-    wanted: Wanted<'_>,
+    wanted: FormCommand<'_>,
     formula: &Formula,
 ) -> Result<FormulaId, StatementError>
     requires proper { IsWritableFormula (formula_tree formula.now) }
     requires given { AreWritableFormulas (given_trees wanted) }
-    requires desk { IsDesk desk.old }
-    requires numbered { ArePartsNumbered desk.old.names (formula_tree formula.now) (given_trees wanted) }
-    ensures made { IfOk result (IsId desk.new.store) }
-    ensures wanted { IfOk result (λ id. IsWantedOf (state_of desk.old) limit wanted.entry (formula_tree formula.now) (tree desk.new.store id) desk.new.names) }
-    ensures refused { IfErr result (λ e. (target : Option (List ℕ)) (printed : Bool) → Refuses (state_of desk.old) limit (use_of target printed) (command_of wanted.entry (formula_tree formula.now)) e) }
-    ensures grown { GrowsDesk desk.old desk.new }
+    requires session { IsSessionState state.old }
+    requires numbered { ArePartsNumbered state.old.names (formula_tree formula.now) (given_trees wanted) }
+    ensures made { IfOk result (IsId state.new.store) }
+    ensures wanted { IfOk result (λ id. IsWantedOf (state_of state.old) limit wanted.entry (formula_tree formula.now) (tree state.new.store id) state.new.names) }
+    ensures refused { IfErr result (λ e. (target : Option (List ℕ)) (printed : Bool) → Refuses (state_of state.old) limit (use_of target printed) (command_of wanted.entry (formula_tree formula.now)) e) }
+    ensures grown { GrowsState state.old state.new }
 {
-    let read = read_wanted(desk, wanted, formula)?;
-    formed(desk, limit, wanted, &read)
+    let read = read_wanted(state, wanted, formula)?;
+    let form = wanted.form();
+    match formed(
+        state.alloc,
+        &mut state.store,
+        &mut state.names,
+        state.context,
+        limit,
+        form,
+        &read,
+    ) {
+        Ok(id) => Ok(id),
+        Err(error) => Err(forms_refusal(error)),
+    }
+}
+
+/// A refusal of a form that is not made.
+pub(crate) fn forms_refusal(error: FormsError) -> StatementError
+    ensures { result ≡ refusal_of_forms error }
+{
+    match error {
+        FormsError::Overflow => StatementError::Overflow,
+        FormsError::Nodes => StatementError::Nodes,
+        FormsError::Memory => StatementError::Memory,
+    }
 }
 
 /// Binds the formula to the name, if there is one, and gives its line, if it is printed. An `Err` leaves all as it was.
 fn give(
-    desk: &mut Desk,
+    state: &mut SessionState,
     target: &Option<Name>,
     printed: bool,
     id: FormulaId,
 ) -> Result<Line, StatementError>
-    requires id { IsId desk.old.store id }
-    requires within { IsTreeWithin (length desk.old.names) (tree desk.old.store id) }
-    requires members { HasTwoMembers (tree desk.old.store id) }
-    ensures bound { OnOk result (desk.new ≡ record desk.old { bindings = bound_after desk.old.bindings target.now id }) }
-    ensures line { IfOk result (IsLineOf target.now printed (state_of desk.old) (tree desk.old.store id)) }
-    ensures fault { IfErr result (GiveFault target.now printed (state_of desk.old) (tree desk.old.store id)) }
-    ensures unchanged { OnErr result (desk.new ≡ desk.old) }
+    requires id { IsId state.old.store id }
+    requires within { IsTreeWithin (length state.old.names) (tree state.old.store id) }
+    requires members { HasTwoMembers (tree state.old.store id) }
+    ensures bound { OnOk result (state.new ≡ record state.old { bindings = bound_after state.old.bindings target.now id }) }
+    ensures line { IfOk result (IsLineOf target.now printed (state_of state.old) (tree state.old.store id)) }
+    ensures fault { IfErr result (GiveFault target.now printed (state_of state.old) (tree state.old.store id)) }
+    ensures unchanged { OnErr result (state.new ≡ state.old) }
 {
-    check_target(desk, target, id)?;
-    let line = line_of(desk, target, printed, id)?;
-    bind(desk, target, id)?;
+    check_target(state, target, id)?;
+    let line = line_of(state, target, printed, id)?;
+    bind(state, target, id)?;
     Ok(line)
 }
 
 /// What is read of the formula and its assumptions. A disjunctive or conjunctive form is refused where a quantifier stands in the
 /// formula, also where reading it overflows.
 fn read_wanted(
-    desk: &mut Desk,
-    wanted: Wanted<'_>,
+    state: &mut SessionState,
+    wanted: FormCommand<'_>,
     formula: &Formula,
 ) -> Result<Premised, StatementError>
     requires proper { IsWritableFormula (formula_tree formula.now) }
     requires given { AreWritableFormulas (given_trees wanted) }
-    requires ids { AreIds (IsId desk.old.store) desk.old.bindings }
-    requires numbered { ArePartsNumbered desk.old.names (formula_tree formula.now) (given_trees wanted) }
-    ensures made { IfOk result (λ r. IsMade (IsId desk.new.store) (tree desk.new.store) r.formula (resolve (state_of desk.old).context (state_of desk.old).bound desk.old.names (formula_tree formula.now))) }
-    ensures atoms { IfOk result (λ r. map atom_of r.atoms.items ≡ assumed (state_of desk.old) (given_trees wanted.entry)) }
+    requires ids { AreIds (IsId state.old.store) state.old.bindings }
+    requires numbered { ArePartsNumbered state.old.names (formula_tree formula.now) (given_trees wanted) }
+    ensures made { IfOk result (λ r. IsMade (IsId state.new.store) (tree state.new.store) r.formula (resolve (state_of state.old).context (state_of state.old).bound state.old.names (formula_tree formula.now))) }
+    ensures atoms { IfOk result (λ r. map atom_of r.atoms.items ≡ assumed (state_of state.old) (given_trees wanted.entry)) }
     ensures well_formed { IfOk result (λ r. AllByRecursion IsWellFormed r.atoms.items) }
-    ensures ready { OnOk result (IsReady (state_of desk.old) wanted.entry (formula_tree formula.now)) }
-    ensures unready { IfErr result (IsUnready (state_of desk.old) wanted.entry (formula_tree formula.now)) }
-    ensures kept { KeepsDesk desk.old desk.new }
+    ensures ready { OnOk result (IsReady (state_of state.old) wanted.entry (formula_tree formula.now)) }
+    ensures unready { IfErr result (IsUnready (state_of state.old) wanted.entry (formula_tree formula.now)) }
+    ensures kept { KeepsState state.old state.new }
 {
-    match read_parts(desk, formula, wanted.assumptions()) {
+    match read_parts(state, formula, wanted.assumptions()) {
         Ok(read) => {
-            if has_unwanted_quantifier(desk, wanted, formula) {
+            if has_unwanted_quantifier(state, wanted, formula) {
                 return Err(StatementError::Quantified);
             }
             Ok(read)
         }
         Err(StatementError::Overflow) => {
-            if has_unwanted_quantifier(desk, wanted, formula) {
+            if has_unwanted_quantifier(state, wanted, formula) {
                 return Err(StatementError::Quantified);
             }
             Err(StatementError::Overflow)
@@ -187,27 +221,30 @@ fn read_wanted(
 }
 
 /// Whether a quantifier stands in a formula that is asked for its disjunctive or conjunctive form.
-fn has_unwanted_quantifier(desk: &Desk, wanted: Wanted<'_>, formula: &Formula) -> bool
-    requires { AreIds (IsId desk.now.store) desk.now.bindings }
-    ensures { IsTrue result ↔ HasUnwantedQuantifier (state_of desk.now) wanted.entry (formula_tree formula.now) }
+fn has_unwanted_quantifier(state: &SessionState, wanted: FormCommand<'_>, formula: &Formula) -> bool
+    requires { AreIds (IsId state.now.store) state.now.bindings }
+    ensures { IsTrue result ↔ HasUnwantedQuantifier (state_of state.now) wanted.entry (formula_tree formula.now) }
 {
     match wanted {
-        Wanted::Distributed(_) => is_quantified(formula, &desk.bindings, &desk.store),
+        FormCommand::Distributed(_) => is_quantified(formula, &state.bindings, &state.store),
         _ => false,
     }
 }
 
 /// The resolved formula.
-pub(crate) fn resolved(desk: &mut Desk, formula: &Formula) -> Result<FormulaId, StatementError>
+pub(crate) fn resolved(
+    state: &mut SessionState,
+    formula: &Formula,
+) -> Result<FormulaId, StatementError>
     requires proper { IsWritableFormula (formula_tree formula.now) }
-    requires ids { AreIds (IsId desk.old.store) desk.old.bindings }
-    requires numbered { HasNumbers desk.old.names (formula_tree formula.now) }
-    ensures made { IfOk result (λ id. IsMade (IsId desk.new.store) (tree desk.new.store) id (resolve (state_of desk.old).context (state_of desk.old).bound desk.old.names (formula_tree formula.now))) }
-    ensures readable { OnOk result (IsReadable (state_of desk.old) (formula_tree formula.now)) }
-    ensures unread { IfErr result (IsUnread (state_of desk.old) (formula_tree formula.now)) }
-    ensures kept { KeepsDesk desk.old desk.new }
+    requires ids { AreIds (IsId state.old.store) state.old.bindings }
+    requires numbered { HasNumbers state.old.names (formula_tree formula.now) }
+    ensures made { IfOk result (λ id. IsMade (IsId state.new.store) (tree state.new.store) id (resolve (state_of state.old).context (state_of state.old).bound state.old.names (formula_tree formula.now))) }
+    ensures readable { OnOk result (IsReadable (state_of state.old) (formula_tree formula.now)) }
+    ensures unread { IfErr result (IsUnread (state_of state.old) (formula_tree formula.now)) }
+    ensures kept { KeepsState state.old state.new }
 {
-    match resolved_part(desk, formula) {
+    match resolved_part(state, formula) {
         Ok(id) => Ok(id),
         Err(error) => Err(static_refusal(error)),
     }
@@ -215,22 +252,25 @@ pub(crate) fn resolved(desk: &mut Desk, formula: &Formula) -> Result<FormulaId, 
 
 /// The resolved formula, or the first cause why there is none.
 #[tactic(auto, using(qe_syntax::proofs::WritableLemmas::writable))]
-pub(crate) fn resolved_part(desk: &mut Desk, formula: &Formula) -> Result<FormulaId, StaticError>
+pub(crate) fn resolved_part(
+    state: &mut SessionState,
+    formula: &Formula,
+) -> Result<FormulaId, StaticError>
     requires proper { IsWritableFormula (formula_tree formula.now) }
-    requires ids { AreIds (IsId desk.old.store) desk.old.bindings }
-    requires numbered { HasNumbers desk.old.names (formula_tree formula.now) }
-    ensures made { IfOk result (λ id. IsMade (IsId desk.new.store) (tree desk.new.store) id (resolve (state_of desk.old).context (state_of desk.old).bound desk.old.names (formula_tree formula.now))) }
-    ensures readable { OnOk result (IsReadable (state_of desk.old) (formula_tree formula.now)) }
-    ensures unread { IfErr result (IsFirstCause (state_of desk.old).context (state_of desk.old).bound desk.old.names (formula_tree formula.now)) }
-    ensures kept { KeepsDesk desk.old desk.new }
+    requires ids { AreIds (IsId state.old.store) state.old.bindings }
+    requires numbered { HasNumbers state.old.names (formula_tree formula.now) }
+    ensures made { IfOk result (λ id. IsMade (IsId state.new.store) (tree state.new.store) id (resolve (state_of state.old).context (state_of state.old).bound state.old.names (formula_tree formula.now))) }
+    ensures readable { OnOk result (IsReadable (state_of state.old) (formula_tree formula.now)) }
+    ensures unread { IfErr result (IsFirstCause (state_of state.old).context (state_of state.old).bound state.old.names (formula_tree formula.now)) }
+    ensures kept { KeepsState state.old state.new }
 {
     linearise(
-        desk.alloc,
+        state.alloc,
         formula,
-        &desk.bindings,
-        desk.context,
-        &mut desk.names,
-        &mut desk.store,
+        &state.bindings,
+        state.context,
+        &mut state.names,
+        &mut state.store,
     )
 }
 
@@ -252,18 +292,22 @@ pub(crate) fn static_refusal(error: StaticError) -> StatementError
 }
 
 /// Whether the formula may be bound to the name, if there is one.
-fn check_target(desk: &Desk, target: &Option<Name>, id: FormulaId) -> Result<(), StatementError>
-    requires { IsId desk.now.store id }
-    ensures ok { OnOk result (MayBind (state_of desk.now).bound target.now (tree desk.now.store id)) }
-    ensures fault { IfErr result (TargetFault (state_of desk.now).bound target.now (tree desk.now.store id)) }
+fn check_target(
+    state: &SessionState,
+    target: &Option<Name>,
+    id: FormulaId,
+) -> Result<(), StatementError>
+    requires { IsId state.now.store id }
+    ensures ok { OnOk result (MayBind (state_of state.now).bound target.now (tree state.now.store id)) }
+    ensures fault { IfErr result (TargetFault (state_of state.now).bound target.now (tree state.now.store id)) }
 {
     let Some(name) = target else {
         return Ok(());
     };
-    if has_no_room(&desk.bindings, name) {
+    if has_no_room(&state.bindings, name) {
         return Err(StatementError::Bindings);
     }
-    let Ok(count) = desk.store.distinct(id) else {
+    let Ok(count) = state.store.distinct(id) else {
         return Err(StatementError::Memory);
     };
     if count > MOST_SUBFORMULAS {
@@ -283,25 +327,25 @@ fn has_no_room(bindings: &Bindings<FormulaId>, name: &Name) -> bool
 
 /// The line of a formula, if it is printed.
 fn line_of(
-    desk: &Desk,
+    state: &SessionState,
     target: &Option<Name>,
     printed: bool,
     id: FormulaId,
 ) -> Result<Line, StatementError>
-    requires id { IsId desk.now.store id }
-    requires within { IsTreeWithin (length desk.now.names) (tree desk.now.store id) }
-    requires members { HasTwoMembers (tree desk.now.store id) }
-    ensures line { IfOk result (IsLine printed (formula_line target.now desk.now.names (tree desk.now.store id))) }
-    ensures short { OnOk result (¬ (LineFault printed (formula_line target.now desk.now.names (tree desk.now.store id)) StatementError.Text)) }
-    ensures fault { IfErr result (LineFault printed (formula_line target.now desk.now.names (tree desk.now.store id))) }
+    requires id { IsId state.now.store id }
+    requires within { IsTreeWithin (length state.now.names) (tree state.now.store id) }
+    requires members { HasTwoMembers (tree state.now.store id) }
+    ensures line { IfOk result (IsLine printed (formula_line target.now state.now.names (tree state.now.store id))) }
+    ensures short { OnOk result (¬ (LineFault printed (formula_line target.now state.now.names (tree state.now.store id)) StatementError.Text)) }
+    ensures fault { IfErr result (LineFault printed (formula_line target.now state.now.names (tree state.now.store id))) }
 {
     if !printed {
         return Ok(Line::Nothing);
     }
-    let text = text_of(desk, id)?;
+    let text = text_of(state, id)?;
     match target {
         None => Ok(Line::Printed(text)),
-        Some(name) => assignment_line(desk.alloc, name, &text),
+        Some(name) => assignment_line(state.alloc, name, &text),
     }
 }
 
@@ -333,16 +377,20 @@ fn joined(alloc: Global, name: &[u8], text: &[u8]) -> Result<Vec<u8>, std::alloc
 }
 
 /// Binds the formula to the name, if there is one.
-fn bind(desk: &mut Desk, target: &Option<Name>, id: FormulaId) -> Result<(), StatementError>
-    requires { ¬ (HasNoRoom (state_of desk.old).bound target.now) }
-    ensures bound { OnOk result (desk.new ≡ record desk.old { bindings = bound_after desk.old.bindings target.now id }) }
+fn bind(
+    state: &mut SessionState,
+    target: &Option<Name>,
+    id: FormulaId,
+) -> Result<(), StatementError>
+    requires { ¬ (HasNoRoom (state_of state.old).bound target.now) }
+    ensures bound { OnOk result (state.new ≡ record state.old { bindings = bound_after state.old.bindings target.now id }) }
     ensures memory { IfErr result (λ e. e ≡ StatementError.Memory) }
-    ensures unchanged { OnErr result (desk.new ≡ desk.old) }
+    ensures unchanged { OnErr result (state.new ≡ state.old) }
 {
     let Some(name) = target else {
         return Ok(());
     };
-    match desk.bindings.put(name, id) {
+    match state.bindings.put(name, id) {
         Ok(()) => Ok(()),
         Err(BindError::Full) => unreachable!(),
         Err(BindError::Memory) => Err(StatementError::Memory),

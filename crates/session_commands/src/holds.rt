@@ -19,26 +19,26 @@ ghost use Rattle.formula_store.specs.Truths.{Tells, IsWholeWhereAsked};
 ghost use Rattle.session_commands.specs.Asked.{HaveNumbers, HasNoneBelow};
 ghost use Rattle.session_commands.specs.Commands.{named};
 ghost use Rattle.session_commands.specs.Causes.{Refuses};
-ghost use Rattle.session_commands.specs.Keeping.{state_of, IsDesk};
+ghost use Rattle.session_state.specs.Keeping.{state_of, IsSessionState};
 ghost use Rattle.session_meaning.specs.Points.{IsTruth};
 ghost use Rattle.session_commands.specs.Reply.{AnswersCommand};
-ghost use Rattle.session_commands.specs.Steps.{use_of, HasNumbers, KeepsDesk, GrowsDesk};
+ghost use Rattle.session_commands.specs.Steps.{use_of, HasNumbers};
+ghost use Rattle.session_state.specs.Growth.{KeepsState, GrowsState};
 ghost use Rattle.session_commands.specs.Truths.{RefusesTruth, ValueStop, EliminationStop};
 ghost use Rattle.session_meaning.specs.Words.{truth_text};
 
-use crate::desk::Desk;
-use crate::forms::measured_refusal;
-use crate::lines::printed_line;
+use crate::lines::{measured_refusal, printed_line};
 use crate::points::{asked, number_command, values_of};
 use formula_store::{EvalStop, FormulaId};
 use free_names::is_quantified;
 use qe_syntax::{Formula, Point, PointEntry};
 use session_meaning::{Line, StatementError};
+use session_state::SessionState;
 use shared_elimination::truth_by_elimination;
 
 /// Answers whether the formula is true at the point. After an `Err` the names may have grown.
 pub(crate) fn answer_holds(
-    desk: &mut Desk,
+    state: &mut SessionState,
     limit: u64,
     formula: &Formula,
     entries: &[PointEntry],
@@ -46,16 +46,16 @@ pub(crate) fn answer_holds(
 ) -> Result<Line, StatementError>
     requires proper { IsWritableFormula (formula_tree formula.now) }
     requires entries { AreWritableEntries entries.now }
-    requires desk { IsDesk desk.old }
-    ensures desk { OnOk result (IsDesk desk.new) }
-    ensures answer { IfOk result (AnswersCommand (named (state_of desk.old) (Holds (formula_tree formula.now) entries.now)) limit printed (Holds (formula_tree formula.now) entries.now) (state_of desk.new).names) }
-    ensures next { OnOk result (state_of desk.new ≡ named (state_of desk.old) (Holds (formula_tree formula.now) entries.now)) }
-    ensures refused { IfErr result (Refuses (named (state_of desk.old) (Holds (formula_tree formula.now) entries.now)) limit (use_of None printed) (Holds (formula_tree formula.now) entries.now)) }
-    ensures grown { OnErr result (GrowsDesk desk.old desk.new) }
+    requires session { IsSessionState state.old }
+    ensures session { OnOk result (IsSessionState state.new) }
+    ensures answer { IfOk result (AnswersCommand (named (state_of state.old) (Holds (formula_tree formula.now) entries.now)) limit printed (Holds (formula_tree formula.now) entries.now) (state_of state.new).names) }
+    ensures next { OnOk result (state_of state.new ≡ named (state_of state.old) (Holds (formula_tree formula.now) entries.now)) }
+    ensures refused { IfErr result (Refuses (named (state_of state.old) (Holds (formula_tree formula.now) entries.now)) limit (use_of None printed) (Holds (formula_tree formula.now) entries.now)) }
+    ensures grown { OnErr result (GrowsState state.old state.new) }
 {
-    number_command(formula, entries, &desk.bindings, &mut desk.names)?;
-    let truth = truth(desk, limit, formula, entries)?;
-    printed_line(desk.alloc, text_of_truth(truth), printed)
+    number_command(formula, entries, &state.bindings, &mut state.names)?;
+    let truth = truth(state, limit, formula, entries)?;
+    printed_line(state.alloc, text_of_truth(truth), printed)
 }
 
 /// The text of a truth.
@@ -71,52 +71,52 @@ fn text_of_truth(truth: bool) -> &'static [u8]
 
 /// Whether the formula is true at the point, or the first cause of a refusal.
 fn truth(
-    desk: &mut Desk,
+    state: &mut SessionState,
     limit: u64,
     formula: &Formula,
     entries: &[PointEntry],
 ) -> Result<bool, StatementError>
     requires proper { IsWritableFormula (formula_tree formula.now) }
     requires entries { AreWritableEntries entries.now }
-    requires desk { IsDesk desk.old }
-    requires numbered { HasNumbers desk.old.names (formula_tree formula.now) }
-    requires valued { HaveNumbers desk.old.names entries.now }
-    ensures truth { IfOk result (IsTruth (state_of desk.old) (formula_tree formula.now) entries.now) }
-    ensures accepted { OnOk result (HasNoneBelow (state_of desk.old) (formula_tree formula.now) entries.now 19) }
-    ensures refused { IfErr result (RefusesTruth (state_of desk.old) limit (formula_tree formula.now) entries.now) }
-    ensures kept { KeepsDesk desk.old desk.new }
+    requires session { IsSessionState state.old }
+    requires numbered { HasNumbers state.old.names (formula_tree formula.now) }
+    requires valued { HaveNumbers state.old.names entries.now }
+    ensures truth { IfOk result (IsTruth (state_of state.old) (formula_tree formula.now) entries.now) }
+    ensures accepted { OnOk result (HasNoneBelow (state_of state.old) (formula_tree formula.now) entries.now 19) }
+    ensures refused { IfErr result (RefusesTruth (state_of state.old) limit (formula_tree formula.now) entries.now) }
+    ensures kept { KeepsState state.old state.new }
 {
-    let (id, point) = asked(desk, formula, entries)?;
-    if is_quantified(formula, &desk.bindings, &desk.store) {
-        eliminated_truth(desk, limit, id, entries, &point)
+    let (id, point) = asked(state, formula, entries)?;
+    if is_quantified(formula, &state.bindings, &state.store) {
+        eliminated_truth(state, limit, id, entries, &point)
     } else {
-        truth_at(desk, id, entries, &point)
+        truth_at(state, id, entries, &point)
     }
 }
 
 /// The truth of a resolved formula at the point, by elimination.
 fn eliminated_truth(
-    desk: &mut Desk,
+    state: &mut SessionState,
     limit: u64,
     id: FormulaId,
     entries: &[PointEntry],
     point: &Point,
 ) -> Result<bool, StatementError>
-    requires id { IsId desk.old.store id }
-    requires normal { Every (IsNormal (context_of desk.old.context)) (tree desk.old.store id) }
-    requires theory { Of (context_of desk.old.context) (point_of point.now) }
-    requires distinct { IsDistinct same_name desk.old.names }
-    requires numbered { HaveNumbers desk.old.names entries.now }
+    requires id { IsId state.old.store id }
+    requires normal { Every (IsNormal (context_of state.old.context)) (tree state.old.store id) }
+    requires theory { Of (context_of state.old.context) (point_of point.now) }
+    requires distinct { IsDistinct same_name state.old.names }
+    requires numbered { HaveNumbers state.old.names entries.now }
     requires point { IsPointOf entries.now (point_of point.now) }
-    ensures truth { IfOk result (λ b. IsTrue b ↔ TrueAt (context_of desk.old.context) (tree desk.old.store id) (at_names desk.old.names (point_of point.now))) }
-    ensures fault { IfErr result (EliminationStop (context_of desk.old.context) limit (tree desk.old.store id) (at_names desk.old.names (point_of point.now))) }
-    ensures kept { KeepsDesk desk.old desk.new }
+    ensures truth { IfOk result (λ b. IsTrue b ↔ TrueAt (context_of state.old.context) (tree state.old.store id) (at_names state.old.names (point_of point.now))) }
+    ensures fault { IfErr result (EliminationStop (context_of state.old.context) limit (tree state.old.store id) (at_names state.old.names (point_of point.now))) }
+    ensures kept { KeepsState state.old state.new }
 {
-    let values = values_of(desk.alloc, &desk.names, entries, point)?;
+    let values = values_of(state.alloc, &state.names, entries, point)?;
     match truth_by_elimination(
-        desk.alloc,
-        &mut desk.store,
-        desk.context,
+        state.alloc,
+        &mut state.store,
+        state.context,
         id,
         &values,
         limit,
@@ -128,22 +128,22 @@ fn eliminated_truth(
 
 /// The truth of a resolved formula without quantifiers at the point.
 fn truth_at(
-    desk: &Desk,
+    state: &SessionState,
     id: FormulaId,
     entries: &[PointEntry],
     point: &Point,
 ) -> Result<bool, StatementError>
-    requires id { IsId desk.now.store id }
-    requires free { IsQuantifierFree (tree desk.now.store id) }
-    requires whole { IsWholeWhereAsked (tree desk.now.store id) point.now.denominator }
-    requires distinct { IsDistinct same_name desk.now.names }
-    requires numbered { HaveNumbers desk.now.names entries.now }
+    requires id { IsId state.now.store id }
+    requires free { IsQuantifierFree (tree state.now.store id) }
+    requires whole { IsWholeWhereAsked (tree state.now.store id) point.now.denominator }
+    requires distinct { IsDistinct same_name state.now.names }
+    requires numbered { HaveNumbers state.now.names entries.now }
     requires point { IsPointOf entries.now (point_of point.now) }
-    ensures truth { IfOk result (λ b. Tells b (tree desk.now.store id) (at_names desk.now.names (point_of point.now))) }
-    ensures fault { IfErr result (ValueStop (tree desk.now.store id) (at_names desk.now.names (point_of point.now))) }
+    ensures truth { IfOk result (λ b. Tells b (tree state.now.store id) (at_names state.now.names (point_of point.now))) }
+    ensures fault { IfErr result (ValueStop (tree state.now.store id) (at_names state.now.names (point_of point.now))) }
 {
-    let values = values_of(desk.alloc, &desk.names, entries, point)?;
-    match desk.store.truth(id, &values) {
+    let values = values_of(state.alloc, &state.names, entries, point)?;
+    match state.store.truth(id, &values) {
         Ok(truth) => Ok(truth),
         Err(EvalStop::Overflow) => Err(StatementError::Overflow),
         Err(EvalStop::Memory) => Err(StatementError::Memory),

@@ -3,8 +3,6 @@
 
 mod assumptions;
 mod cases;
-mod desk;
-mod forms;
 mod formulas;
 mod holds;
 mod laws;

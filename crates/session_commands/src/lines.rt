@@ -7,12 +7,13 @@ ghost use Rattle.formula_store.specs.Nodes.{tree, IsId};
 ghost use Rattle.redlog_printer.specs.Text.{tree_text};
 ghost use Rattle.redlog_printer.specs.Writing.{text_limit};
 ghost use Rattle.session_meaning.specs.Reply.{IsLine};
-ghost use Rattle.session_commands.specs.Steps.{print_refusal as refusal_of_print};
+ghost use Rattle.session_commands.specs.Steps.{print_refusal as refusal_of_print, measured_refusal as refusal_of_measured};
 
-use crate::desk::Desk;
 use formula_store::FormulaId;
+use plain_engine::Measured;
 use redlog_printer::PrintError;
 use session_meaning::{Line, StatementError};
+use session_state::SessionState;
 use std::alloc::Global;
 use stored_texts::stored_text;
 
@@ -45,16 +46,27 @@ pub(crate) fn print_refusal(error: PrintError) -> StatementError
     }
 }
 
-/// The text of a formula. `Text` comes exactly where it is longer than 32 MiB, else `Memory`.
-pub(crate) fn text_of(desk: &Desk, id: FormulaId) -> Result<Vec<u8>, StatementError>
-    requires id { IsId desk.now.store id }
-    requires within { IsTreeWithin (length desk.now.names) (tree desk.now.store id) }
-    requires members { HasTwoMembers (tree desk.now.store id) }
-    ensures text { IfOk result (λ v. v.items ≡ tree_text desk.now.names (tree desk.now.store id)) }
-    ensures short { OnOk result (length (tree_text desk.now.names (tree desk.now.store id)) ≤ text_limit) }
-    ensures fault { IfErr result (λ e. ((e ≡ StatementError.Text) × (text_limit < length (tree_text desk.now.names (tree desk.now.store id)))) ⊎ (e ≡ StatementError.Memory)) }
+/// A refusal of an elimination.
+pub(crate) fn measured_refusal(error: Measured) -> StatementError
+    ensures { result ≡ refusal_of_measured error }
 {
-    match stored_text(desk.alloc, &desk.store, &desk.names, id) {
+    match error {
+        Measured::Overflow => StatementError::Overflow,
+        Measured::Nodes => StatementError::Nodes,
+        Measured::Memory => StatementError::Memory,
+    }
+}
+
+/// The text of a formula. `Text` comes exactly where it is longer than 32 MiB, else `Memory`.
+pub(crate) fn text_of(state: &SessionState, id: FormulaId) -> Result<Vec<u8>, StatementError>
+    requires id { IsId state.now.store id }
+    requires within { IsTreeWithin (length state.now.names) (tree state.now.store id) }
+    requires members { HasTwoMembers (tree state.now.store id) }
+    ensures text { IfOk result (λ v. v.items ≡ tree_text state.now.names (tree state.now.store id)) }
+    ensures short { OnOk result (length (tree_text state.now.names (tree state.now.store id)) ≤ text_limit) }
+    ensures fault { IfErr result (λ e. ((e ≡ StatementError.Text) × (text_limit < length (tree_text state.now.names (tree state.now.store id)))) ⊎ (e ≡ StatementError.Memory)) }
+{
+    match stored_text(state.alloc, &state.store, &state.names, id) {
         Ok(text) => Ok(text),
         Err(error) => Err(print_refusal(error)),
     }

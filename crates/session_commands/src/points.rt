@@ -17,10 +17,10 @@ ghost use Rattle.formula_resolving.specs.Refusals.{AreIds};
 ghost use Rattle.formula_store.specs.Nodes.{IsId};
 ghost use Rattle.session_commands.specs.Asked.{HaveNumbers, IsBoundName, is_whole_theory, RefusesBoth, stop_of, IsReadAs, IsMeantPoint, PointStop, IsValued, ValuedStop, IsAsked};
 ghost use Rattle.session_commands.specs.Commands.{entry_names};
-ghost use Rattle.session_commands.specs.Keeping.{state_of, IsDesk};
-ghost use Rattle.session_commands.specs.Steps.{HasNumbers, KeepsDesk};
+ghost use Rattle.session_state.specs.Keeping.{state_of, IsSessionState};
+ghost use Rattle.session_commands.specs.Steps.{HasNumbers};
+ghost use Rattle.session_state.specs.Growth.{KeepsState};
 
-use crate::desk::Desk;
 use crate::formulas::resolved;
 use atom_normal::Context;
 use formula_resolving::number_formula;
@@ -30,6 +30,7 @@ use free_names::is_valued;
 use linear_forms::Values;
 use qe_syntax::{Formula, Point, PointEntry, PointFault};
 use session_meaning::StatementError;
+use session_state::SessionState;
 use std::alloc::Global;
 
 /// Numbers the variables of the formula and of the point, in the order of the text. After an `Err` the names may have grown.
@@ -56,21 +57,21 @@ pub(crate) fn number_command(
 
 /// The resolved formula and the point, or the first cause of a refusal.
 pub(crate) fn asked(
-    desk: &mut Desk,
+    state: &mut SessionState,
     formula: &Formula,
     entries: &[PointEntry],
 ) -> Result<(FormulaId, Point), StatementError>
     requires proper { IsWritableFormula (formula_tree formula.now) }
     requires entries { AreWritableEntries entries.now }
-    requires desk { IsDesk desk.old }
-    requires numbered { HasNumbers desk.old.names (formula_tree formula.now) }
-    ensures asked { IfOk result (λ a. IsAsked (state_of desk.old) (formula_tree formula.now) entries.now desk.new a.0 a.1) }
-    ensures refused { IfErr result (RefusesBoth (state_of desk.old) (formula_tree formula.now) entries.now) }
-    ensures kept { KeepsDesk desk.old desk.new }
+    requires session { IsSessionState state.old }
+    requires numbered { HasNumbers state.old.names (formula_tree formula.now) }
+    ensures asked { IfOk result (λ a. IsAsked (state_of state.old) (formula_tree formula.now) entries.now state.new a.0 a.1) }
+    ensures refused { IfErr result (RefusesBoth (state_of state.old) (formula_tree formula.now) entries.now) }
+    ensures kept { KeepsState state.old state.new }
 {
-    let id = read(desk, formula, entries)?;
-    let point = meant_point(desk.alloc, desk.context, entries)?;
-    check_valued(desk, formula, entries)?;
+    let id = read(state, formula, entries)?;
+    let point = meant_point(state.alloc, state.context, entries)?;
+    check_valued(state, formula, entries)?;
     let Some(id) = id else {
         return Err(StatementError::Overflow);
     };
@@ -82,19 +83,19 @@ pub(crate) fn asked(
 
 /// The resolved formula, or `None` where its reading overflows.
 fn read(
-    desk: &mut Desk,
+    state: &mut SessionState,
     formula: &Formula,
     entries: &[PointEntry],
 ) -> Result<Option<FormulaId>, StatementError>
     requires proper { IsWritableFormula (formula_tree formula.now) }
-    requires ids { AreIds (IsId desk.old.store) desk.old.bindings }
-    requires numbered { HasNumbers desk.old.names (formula_tree formula.now) }
-    ensures read { IfOk result (IsReadAs (state_of desk.old) (formula_tree formula.now) entries.now desk.new) }
-    ensures refused { IfErr result (RefusesBoth (state_of desk.old) (formula_tree formula.now) entries.now) }
-    ensures kept { KeepsDesk desk.old desk.new }
+    requires ids { AreIds (IsId state.old.store) state.old.bindings }
+    requires numbered { HasNumbers state.old.names (formula_tree formula.now) }
+    ensures read { IfOk result (IsReadAs (state_of state.old) (formula_tree formula.now) entries.now state.new) }
+    ensures refused { IfErr result (RefusesBoth (state_of state.old) (formula_tree formula.now) entries.now) }
+    ensures kept { KeepsState state.old state.new }
 {
-    let met = some_bound(entries, &desk.bindings);
-    match resolved(desk, formula) {
+    let met = some_bound(entries, &state.bindings);
+    match resolved(state, formula) {
         Ok(id) => {
             if met {
                 return Err(StatementError::FormulaAsTerm);
@@ -163,21 +164,21 @@ fn is_whole(context: Context) -> bool
 
 /// Whether each free name of the formula has an entry.
 fn check_valued(
-    desk: &Desk,
+    state: &SessionState,
     formula: &Formula,
     entries: &[PointEntry],
 ) -> Result<(), StatementError>
-    requires { AreIds (IsId desk.now.store) desk.now.bindings }
-    ensures valued { OnOk result (IsValued (state_of desk.now) (formula_tree formula.now) entries.now) }
-    ensures fault { IfErr result (ValuedStop (state_of desk.now) (formula_tree formula.now) entries.now) }
+    requires { AreIds (IsId state.now.store) state.now.bindings }
+    ensures valued { OnOk result (IsValued (state_of state.now) (formula_tree formula.now) entries.now) }
+    ensures fault { IfErr result (ValuedStop (state_of state.now) (formula_tree formula.now) entries.now) }
 {
     match is_valued(
-        desk.alloc,
+        state.alloc,
         formula,
         entries,
-        &desk.bindings,
-        &desk.names,
-        &desk.store,
+        &state.bindings,
+        &state.names,
+        &state.store,
     ) {
         Ok(true) => Ok(()),
         Ok(false) => Err(StatementError::Unvalued),

@@ -22,16 +22,15 @@ ghost use Rattle.redlog_printer.specs.Writing.{text_limit};
 ghost use Rattle.session_commands.specs.Asked.{HaveNumbers};
 ghost use Rattle.session_commands.specs.Commands.{named};
 ghost use Rattle.session_commands.specs.Causes.{Refuses};
-ghost use Rattle.session_commands.specs.Keeping.{state_of, IsDesk};
+ghost use Rattle.session_state.specs.Keeping.{state_of, IsSessionState};
 ghost use Rattle.session_meaning.specs.Reply.{IsLine};
 ghost use Rattle.session_commands.specs.Reply.{AnswersCommand};
 ghost use Rattle.session_meaning.specs.Samples.{sample_text};
 ghost use Rattle.session_commands.specs.SampleSteps.{RefusesSample, SampleStop, IsSampleWithin, IsWantedSample};
-ghost use Rattle.session_commands.specs.Steps.{use_of, HasNumbers, KeepsDesk, GrowsDesk};
+ghost use Rattle.session_commands.specs.Steps.{use_of, HasNumbers};
+ghost use Rattle.session_state.specs.Growth.{KeepsState, GrowsState};
 
-use crate::desk::Desk;
-use crate::forms::measured_refusal;
-use crate::lines::printed_line;
+use crate::lines::{measured_refusal, printed_line};
 use crate::points::{asked, number_command, values_of};
 use answer_texts::point_text;
 use exact_numbers::Fraction;
@@ -42,11 +41,12 @@ use plain_samples::sample_at;
 use qe_syntax::{Formula, Point, PointEntry};
 use redlog_printer::PrintError;
 use session_meaning::{Line, StatementError};
+use session_state::SessionState;
 use shared_elimination::unfolded_form;
 
 /// Answers with values for the names of the leading block, or with `none`. After an `Err` the names may have grown.
 pub(crate) fn answer_sample(
-    desk: &mut Desk,
+    state: &mut SessionState,
     limit: u64,
     formula: &Formula,
     entries: &[PointEntry],
@@ -54,77 +54,77 @@ pub(crate) fn answer_sample(
 ) -> Result<Line, StatementError>
     requires proper { IsWritableFormula (formula_tree formula.now) }
     requires entries { AreWritableEntries entries.now }
-    requires desk { IsDesk desk.old }
-    ensures desk { OnOk result (IsDesk desk.new) }
-    ensures answer { IfOk result (AnswersCommand (named (state_of desk.old) (Sample (formula_tree formula.now) entries.now)) limit printed (Sample (formula_tree formula.now) entries.now) (state_of desk.new).names) }
-    ensures next { OnOk result (state_of desk.new ≡ named (state_of desk.old) (Sample (formula_tree formula.now) entries.now)) }
-    ensures refused { IfErr result (Refuses (named (state_of desk.old) (Sample (formula_tree formula.now) entries.now)) limit (use_of None printed) (Sample (formula_tree formula.now) entries.now)) }
-    ensures grown { OnErr result (GrowsDesk desk.old desk.new) }
+    requires session { IsSessionState state.old }
+    ensures session { OnOk result (IsSessionState state.new) }
+    ensures answer { IfOk result (AnswersCommand (named (state_of state.old) (Sample (formula_tree formula.now) entries.now)) limit printed (Sample (formula_tree formula.now) entries.now) (state_of state.new).names) }
+    ensures next { OnOk result (state_of state.new ≡ named (state_of state.old) (Sample (formula_tree formula.now) entries.now)) }
+    ensures refused { IfErr result (Refuses (named (state_of state.old) (Sample (formula_tree formula.now) entries.now)) limit (use_of None printed) (Sample (formula_tree formula.now) entries.now)) }
+    ensures grown { OnErr result (GrowsState state.old state.new) }
 {
-    number_command(formula, entries, &desk.bindings, &mut desk.names)?;
-    let sample = sample(desk, limit, formula, entries)?;
-    line_of_sample(desk, &sample, printed)
+    number_command(formula, entries, &state.bindings, &mut state.names)?;
+    let sample = sample(state, limit, formula, entries)?;
+    line_of_sample(state, &sample, printed)
 }
 
 /// The sample of the formula at the point, or the first cause of a refusal.
 fn sample(
-    desk: &mut Desk,
+    state: &mut SessionState,
     limit: u64,
     formula: &Formula,
     entries: &[PointEntry],
 ) -> Result<Option<Vec<(VarId, Fraction)>>, StatementError>
     requires proper { IsWritableFormula (formula_tree formula.now) }
     requires entries { AreWritableEntries entries.now }
-    requires desk { IsDesk desk.old }
-    requires numbered { HasNumbers desk.old.names (formula_tree formula.now) }
-    requires valued { HaveNumbers desk.old.names entries.now }
-    ensures sample { IfOk result (λ o. IsWantedSample (state_of desk.old) limit (formula_tree formula.now) entries.now (sample_of o)) }
-    ensures refused { IfErr result (RefusesSample (state_of desk.old) limit (formula_tree formula.now) entries.now) }
-    ensures kept { KeepsDesk desk.old desk.new }
+    requires session { IsSessionState state.old }
+    requires numbered { HasNumbers state.old.names (formula_tree formula.now) }
+    requires valued { HaveNumbers state.old.names entries.now }
+    ensures sample { IfOk result (λ o. IsWantedSample (state_of state.old) limit (formula_tree formula.now) entries.now (sample_of o)) }
+    ensures refused { IfErr result (RefusesSample (state_of state.old) limit (formula_tree formula.now) entries.now) }
+    ensures kept { KeepsState state.old state.new }
 {
-    let (id, point) = asked(desk, formula, entries)?;
-    resolved_sample(desk, limit, id, entries, &point)
+    let (id, point) = asked(state, formula, entries)?;
+    resolved_sample(state, limit, id, entries, &point)
 }
 
 /// The sample of a resolved formula at the point.
 fn resolved_sample(
-    desk: &mut Desk,
+    state: &mut SessionState,
     limit: u64,
     id: FormulaId,
     entries: &[PointEntry],
     point: &Point,
 ) -> Result<Option<Vec<(VarId, Fraction)>>, StatementError>
-    requires id { IsId desk.old.store id }
-    requires normal { Every (IsNormal (context_of desk.old.context)) (tree desk.old.store id) }
-    requires theory { Of (context_of desk.old.context) (point_of point.now) }
-    requires distinct { IsDistinct same_name desk.old.names }
-    requires numbered { HaveNumbers desk.old.names entries.now }
+    requires id { IsId state.old.store id }
+    requires normal { Every (IsNormal (context_of state.old.context)) (tree state.old.store id) }
+    requires theory { Of (context_of state.old.context) (point_of point.now) }
+    requires distinct { IsDistinct same_name state.old.names }
+    requires numbered { HaveNumbers state.old.names entries.now }
     requires point { IsPointOf entries.now (point_of point.now) }
-    ensures sample { IfOk result (λ o. IsTrueSample (context_of desk.old.context) (tree desk.old.store id) (at_names desk.old.names (point_of point.now)) (sample_of o)) }
-    ensures fault { IfErr result (SampleStop (context_of desk.old.context) limit (tree desk.old.store id) (at_names desk.old.names (point_of point.now))) }
-    ensures kept { KeepsDesk desk.old desk.new }
+    ensures sample { IfOk result (λ o. IsTrueSample (context_of state.old.context) (tree state.old.store id) (at_names state.old.names (point_of point.now)) (sample_of o)) }
+    ensures fault { IfErr result (SampleStop (context_of state.old.context) limit (tree state.old.store id) (at_names state.old.names (point_of point.now))) }
+    ensures kept { KeepsState state.old state.new }
 {
-    let values = values_of(desk.alloc, &desk.names, entries, point)?;
-    match unfolded_form(desk.alloc, &mut desk.store, id, limit) {
-        Ok(form) => form_sample(desk, limit, &form, &values),
+    let values = values_of(state.alloc, &state.names, entries, point)?;
+    match unfolded_form(state.alloc, &mut state.store, id, limit) {
+        Ok(form) => form_sample(state, limit, &form, &values),
         Err(error) => Err(measured_refusal(error)),
     }
 }
 
 /// The sample of a formula that is unfolded, at these values.
 fn form_sample(
-    desk: &Desk,
+    state: &SessionState,
     limit: u64,
     form: &Tree,
     values: &Values,
 ) -> Result<Option<Vec<(VarId, Fraction)>>, StatementError>
     requires moduli { Every HasModulus (tree_of form.now) }
-    requires normal { Every (IsNormal (context_of desk.now.context)) (tree_of form.now) }
-    requires theory { Of (context_of desk.now.context) (numbers_of values.now) }
-    ensures sample { IfOk result (λ o. IsTrueSample (context_of desk.now.context) (tree_of form.now) (numbers_of values.now) (sample_of o)) }
-    ensures fault { IfErr result (SampleStop (context_of desk.now.context) limit (tree_of form.now) (numbers_of values.now)) }
+    requires normal { Every (IsNormal (context_of state.now.context)) (tree_of form.now) }
+    requires theory { Of (context_of state.now.context) (numbers_of values.now) }
+    ensures sample { IfOk result (λ o. IsTrueSample (context_of state.now.context) (tree_of form.now) (numbers_of values.now) (sample_of o)) }
+    ensures fault { IfErr result (SampleStop (context_of state.now.context) limit (tree_of form.now) (numbers_of values.now)) }
 {
-    match sample_at(desk.alloc, form, desk.context, values, limit) {
+    match sample_at(state.alloc, form, state.context, values, limit) {
         Ok(sample) => Ok(sample),
         Err(error) => Err(measured_refusal(error)),
     }
@@ -132,22 +132,22 @@ fn form_sample(
 
 /// The line of a sample, if it is printed.
 fn line_of_sample(
-    desk: &Desk,
+    state: &SessionState,
     sample: &Option<Vec<(VarId, Fraction)>>,
     printed: bool,
 ) -> Result<Line, StatementError>
-    requires within { IsSampleWithin (length desk.now.names) (sample_of sample.now) }
-    requires short { length (sample_text desk.now.names (sample_of sample.now)) ≤ text_limit }
-    ensures line { IfOk result (IsLine printed (sample_text desk.now.names (sample_of sample.now))) }
+    requires within { IsSampleWithin (length state.now.names) (sample_of sample.now) }
+    requires short { length (sample_text state.now.names (sample_of sample.now)) ≤ text_limit }
+    ensures line { IfOk result (IsLine printed (sample_text state.now.names (sample_of sample.now))) }
     ensures memory { IfErr result (λ e. e ≡ StatementError.Memory) }
 {
     let Some(values) = sample else {
-        return printed_line(desk.alloc, b"none", printed);
+        return printed_line(state.alloc, b"none", printed);
     };
     if !printed {
         return Ok(Line::Nothing);
     }
-    match point_text(desk.alloc, values, &desk.names) {
+    match point_text(state.alloc, values, &state.names) {
         Ok(text) => Ok(Line::Printed(text)),
         Err(PrintError::Text) => unreachable!(),
         Err(PrintError::Memory) => Err(StatementError::Memory),

@@ -5,7 +5,7 @@ use Rattle.formula_tree.specs.Resolving.{formula_variables, all_variables}
 use Rattle.qe_syntax.specs.Trees.{formula_tree, formulas_of}
 use Rattle.qe_syntax.proofs.EntryLists.{more_entries}
 use Rattle.session_commands.proofs.AssumptionLemmas.{variables_more, folded_more, assoc_names}
-use Rattle.session_commands.proofs.NameLemmas.{grows_then}
+use Rattle.session_state.proofs.NameLemmas.{grows_then}
 use Rattle.session_commands.proofs.assumptions.number_parts.Goals as goal
 
 pub loop-assumption-preserved : goal.loop-assumption-preserved

@@ -1,12 +1,12 @@
 use Rattle.std.proofs.Common.{Some, ap}
 use Rattle.qe_syntax.specs.Trees.{formula_tree}
-use Rattle.session_commands.specs.Keeping.{state_of}
+use Rattle.session_state.specs.Keeping.{state_of}
 use Rattle.session_commands.proofs.AssumptionLemmas.{first_unread}
 use Rattle.session_commands.proofs.assumptions.read_assumption.Goals as goal
 
 pub returns-in_ok-error-in-Err-clause-first : goal.returns-in_ok-error-in-Err-clause-first
 returns-in_ok-error-in-Err-clause-first c = record {
   cause = Some c.in-Err.error;
-  first = first_unread (state_of c.args.desk.now) (formula_tree c.args.assumption.now) c.in-Err.error c.in_ok-error-in-Err.ensures.cause c.in-Err.ensures.unread;
+  first = first_unread (state_of c.args.state.now) (formula_tree c.args.assumption.now) c.in-Err.error c.in_ok-error-in-Err.ensures.cause c.in-Err.ensures.unread;
   joined = ap Some c.in_ok-error-in-Err.ensures.earlier;
 }

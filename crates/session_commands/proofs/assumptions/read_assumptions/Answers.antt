@@ -6,11 +6,11 @@ use Rattle.qe_syntax.specs.Trees.{formula_tree, formulas_of}
 use Rattle.qe_syntax.proofs.EntryLists.{all_at, more_entries}
 use Rattle.formula_tree.specs.Resolving.{resolve}
 use Rattle.session_meaning.specs.Assumptions.{atoms_alone, assumed}
-use Rattle.session_commands.specs.Keeping.{state_of}
+use Rattle.session_state.specs.Keeping.{state_of}
 use Rattle.session_meaning.specs.State.{State}
 use Rattle.session_commands.specs.Steps.{HasNumbers, FirstAmong, AppliesToSome, IsFirstWith}
 use Rattle.session_commands.proofs.AssumptionLemmas.{nothing_more, first_of_more, assumed_more, atoms_more, none_before}
-use Rattle.session_commands.proofs.DeskLemmas.{same_state, kept_ids, keeps_self, keeps_then}
+use Rattle.session_state.proofs.StateLemmas.{same_state, kept_ids, keeps_self, keeps_then}
 use Rattle.session_commands.proofs.assumptions.read_assumptions.Goals as goal
 
 pub loop-assumption-init : goal.loop-assumption-init
@@ -20,28 +20,28 @@ loop-assumption-init c = record {
   well_formed = c.requires.well_formed;
   proper = c.requires.proper;
   numbered = c.requires.numbered;
-  kept = keeps_self c.args.desk.now;
+  kept = keeps_self c.args.state.now;
 }
 
 pub read_assumption-requires-clause-ids : goal.read_assumption-requires-clause-ids
-read_assumption-requires-clause-ids c = kept_ids c.args.desk.now c.loop-assumption.desk c.requires.ids c.loop-assumption.invariant.kept
+read_assumption-requires-clause-ids c = kept_ids c.args.state.now c.loop-assumption.state c.requires.ids c.loop-assumption.invariant.kept
 
 pub read_assumption-requires-clause-numbered : goal.read_assumption-requires-clause-numbered
 read_assumption-requires-clause-numbered c =
-    let here = all_at (λ (g : Formula). HasNumbers c.args.desk.now.names (formula_tree g)) c.args.given.now c.loop-assumption.assumption-index c.assumption-item.result c.loop-assumption-test.true c.assumption-item.is c.loop-assumption.invariant.numbered in
+    let here = all_at (λ (g : Formula). HasNumbers c.args.state.now.names (formula_tree g)) c.args.given.now c.loop-assumption.assumption-index c.assumption-item.result c.loop-assumption-test.true c.assumption-item.is c.loop-assumption.invariant.numbered in
     subst (λ ns. HasNumbers ns (formula_tree c.assumption-item.result)) (sym c.loop-assumption.invariant.kept.names) here.0
 
 pub returns-in_err-stop-clause-kept : goal.returns-in_err-stop-clause-kept
-returns-in_err-stop-clause-kept c = keeps_then c.args.desk.now c.loop-assumption.desk c.read_assumption.new.desk c.loop-assumption.invariant.kept c.read_assumption.ensures.kept
+returns-in_err-stop-clause-kept c = keeps_then c.args.state.now c.loop-assumption.state c.read_assumption.new.state c.loop-assumption.invariant.kept c.read_assumption.ensures.kept
 
 pub loop-assumption-preserved : goal.loop-assumption-preserved
 loop-assumption-preserved c =
-    let old = c.args.desk.now in
+    let old = c.args.state.now in
     let i = c.loop-assumption.assumption-index in
     let g = c.assumption-item.result in
     let gs : List Formula = take i c.args.given.now in
     let more = more_entries c.args.given.now i g c.loop-assumption-test.true c.assumption-item.is in
-    let same = same_state old c.loop-assumption.desk c.requires.ids c.loop-assumption.invariant.kept in
+    let same = same_state old c.loop-assumption.state c.requires.ids c.loop-assumption.invariant.kept in
     let with = subst (λ s. IsFirstWith s (formula_tree g) c.loop-assumption.stop c.in_ok-stop.stop) same c.in_ok-stop.ensures.first in
     let proper = all_at (λ (d : Formula). IsWritableFormula (formula_tree d)) c.args.given.now i g c.loop-assumption-test.true c.assumption-item.is c.loop-assumption.invariant.proper in
     let numbered = all_at (λ (d : Formula). HasNumbers old.names (formula_tree d)) c.args.given.now i g c.loop-assumption-test.true c.assumption-item.is c.loop-assumption.invariant.numbered in
@@ -57,5 +57,5 @@ loop-assumption-preserved c =
       well_formed = c.in_ok-stop.ensures.well_formed;
       proper = proper.1;
       numbered = numbered.1;
-      kept = keeps_then old c.loop-assumption.desk c.read_assumption.new.desk c.loop-assumption.invariant.kept c.read_assumption.ensures.kept;
+      kept = keeps_then old c.loop-assumption.state c.read_assumption.new.state c.loop-assumption.invariant.kept c.read_assumption.ensures.kept;
     }

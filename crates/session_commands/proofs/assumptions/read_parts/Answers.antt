@@ -5,35 +5,35 @@ use Rattle.formula_tree.specs.Makers.{IsMade}
 use Rattle.formula_tree.specs.Resolving.{resolve}
 use Rattle.formula_resolving.specs.Refusals.{IsFirstCause}
 use Rattle.formula_store.specs.Nodes.{tree, IsId}
-use Rattle.session_commands.specs.Keeping.{state_of}
+use Rattle.session_state.specs.Keeping.{state_of}
 use Rattle.session_meaning.specs.State.{State}
 use Rattle.session_commands.specs.Steps.{HasNumbers, IsReadable, ArePartsUnread, IsFirstPartCause, FirstAmong, AppliesToSome}
 use Rattle.session_commands.proofs.PartLemmas.{each_listed}
 use Rattle.session_commands.proofs.AssumptionLemmas.{first_unread, none_unread, list_unread, both_unread, memory_unread, parts_readable}
-use Rattle.session_commands.proofs.DeskLemmas.{same_state, kept_ids, keeps_then}
+use Rattle.session_state.proofs.StateLemmas.{same_state, kept_ids, keeps_then}
 use Rattle.session_commands.proofs.assumptions.read_parts.Goals as goal
 
 pub read_assumptions-requires-clause-numbered : goal.read_assumptions-requires-clause-numbered
-read_assumptions-requires-clause-numbered c = (each_listed (HasNumbers c.args.desk.now.names) (formula_tree c.args.formula.now) c.args.given.now c.requires.numbered).1
+read_assumptions-requires-clause-numbered c = (each_listed (HasNumbers c.args.state.now.names) (formula_tree c.args.formula.now) c.args.given.now c.requires.numbered).1
 
 pub returns-in_err-stop-clause-unread : goal.returns-in_err-stop-clause-unread
 returns-in_err-stop-clause-unread c =
-    let s = state_of c.args.desk.now in
+    let s = state_of c.args.state.now in
     let f = formula_tree c.args.formula.now in
     let e : c.from_residual.result ≡ Err c.in_err-stop.field-0.0 = search rules in
     subst (λ r. IfErr r (ArePartsUnread s f (formulas_of (map formula_tree c.args.given.now)))) (sym e) (memory_unread s f c.args.given.now c.in_err-stop.field-0.0 c.in_err-stop.ensures.memory)
 
 pub resolved_part-requires-clause-ids : goal.resolved_part-requires-clause-ids
-resolved_part-requires-clause-ids c = kept_ids c.args.desk.now c.read_assumptions.new.desk c.requires.ids c.read_assumptions.ensures.kept
+resolved_part-requires-clause-ids c = kept_ids c.args.state.now c.read_assumptions.new.state c.requires.ids c.read_assumptions.ensures.kept
 
 pub resolved_part-requires-clause-numbered : goal.resolved_part-requires-clause-numbered
 resolved_part-requires-clause-numbered c =
     subst (λ ns. HasNumbers ns (formula_tree c.args.formula.now)) (sym c.read_assumptions.ensures.kept.names)
-    (each_listed (HasNumbers c.args.desk.now.names) (formula_tree c.args.formula.now) c.args.given.now c.requires.numbered).0
+    (each_listed (HasNumbers c.args.state.now.names) (formula_tree c.args.formula.now) c.args.given.now c.requires.numbered).0
 
 pub returns-in_err-error-in-Err-clause-unread : goal.returns-in_err-error-in-Err-clause-unread
 returns-in_err-error-in-Err-clause-unread c =
-    let s = state_of c.args.desk.now in
+    let s = state_of c.args.state.now in
     let f = formula_tree c.args.formula.now in
     let e : c.from_residual-in_err-error-in-Err.result ≡ Err c.in_err-error-in-Err.field-0.0 = search rules in
     subst (λ r. IfErr r (ArePartsUnread s f (formulas_of (map formula_tree c.args.given.now)))) (sym e) (memory_unread s f c.args.given.now c.in_err-error-in-Err.field-0.0 c.in_err-error-in-Err.ensures.memory)
@@ -41,38 +41,38 @@ returns-in_err-error-in-Err-clause-unread c =
 pub returns-in-None-clause-made : goal.returns-in-None-clause-made
 returns-in-None-clause-made c =
     let f = formula_tree c.args.formula.now in
-    let later = c.resolved_part.new.desk in
+    let later = c.resolved_part.new.state in
     subst (λ (s : State). IsMade (IsId later.store) (tree later.store) c.in-Ok.formula (resolve s.context s.bound s.names f))
-    (same_state c.args.desk.now c.read_assumptions.new.desk c.requires.ids c.read_assumptions.ensures.kept) c.in-Ok.ensures.made
+    (same_state c.args.state.now c.read_assumptions.new.state c.requires.ids c.read_assumptions.ensures.kept) c.in-Ok.ensures.made
 
 pub returns-in-None-clause-readable : goal.returns-in-None-clause-readable
 returns-in-None-clause-readable c =
-    let old = c.args.desk.now in
+    let old = c.args.state.now in
     let f = formula_tree c.args.formula.now in
-    let same = same_state old c.read_assumptions.new.desk c.requires.ids c.read_assumptions.ensures.kept in
+    let same = same_state old c.read_assumptions.new.state c.requires.ids c.read_assumptions.ensures.kept in
     parts_readable (state_of old) f c.args.given.now (subst (λ s. IsReadable s f) same c.in-Ok.ensures.readable)
     (subst (FirstAmong (AppliesToSome (state_of old) c.args.given.now)) c.in-None.is c.in_ok-stop.ensures.first)
 
 pub returns-in-None-clause-kept : goal.returns-in-None-clause-kept
-returns-in-None-clause-kept c = keeps_then c.args.desk.now c.read_assumptions.new.desk c.resolved_part.new.desk c.read_assumptions.ensures.kept c.resolved_part.ensures.kept
+returns-in-None-clause-kept c = keeps_then c.args.state.now c.read_assumptions.new.state c.resolved_part.new.state c.read_assumptions.ensures.kept c.resolved_part.ensures.kept
 
 pub returns-in-Some-clause-unread : goal.returns-in-Some-clause-unread
 returns-in-Some-clause-unread c =
-    let old = c.args.desk.now in
+    let old = c.args.state.now in
     let f = formula_tree c.args.formula.now in
-    let same = same_state old c.read_assumptions.new.desk c.requires.ids c.read_assumptions.ensures.kept in
+    let same = same_state old c.read_assumptions.new.state c.requires.ids c.read_assumptions.ensures.kept in
     let here = none_unread (state_of old) f (subst (λ s. IsReadable s f) same c.in-Ok.ensures.readable) in
     let there = subst (FirstAmong (AppliesToSome (state_of old) c.args.given.now)) c.in-Some.is c.in_ok-stop.ensures.first in
     (c.in-Some.error, c.static_refusal.ensures, list_unread (state_of old) f c.args.given.now c.in-Some.error here there)
 
 pub returns-in-Some-clause-kept : goal.returns-in-Some-clause-kept
-returns-in-Some-clause-kept c = keeps_then c.args.desk.now c.read_assumptions.new.desk c.resolved_part.new.desk c.read_assumptions.ensures.kept c.resolved_part.ensures.kept
+returns-in-Some-clause-kept c = keeps_then c.args.state.now c.read_assumptions.new.state c.resolved_part.new.state c.read_assumptions.ensures.kept c.resolved_part.ensures.kept
 
 pub returns-in_ok-error-in-Err-clause-unread : goal.returns-in_ok-error-in-Err-clause-unread
 returns-in_ok-error-in-Err-clause-unread c =
-    let old = c.args.desk.now in
+    let old = c.args.state.now in
     let f = formula_tree c.args.formula.now in
-    let same = same_state old c.read_assumptions.new.desk c.requires.ids c.read_assumptions.ensures.kept in
+    let same = same_state old c.read_assumptions.new.state c.requires.ids c.read_assumptions.ensures.kept in
     let first = subst (λ (s : State). IsFirstCause s.context s.bound s.names f c.in-Err.error) same c.in-Err.ensures.unread in
     let here = first_unread (state_of old) f c.in-Err.error c.in_ok-error-in-Err.ensures.cause first in
     let both = both_unread (state_of old) f c.args.given.now c.in_ok-stop.stop c.in-Err.error here c.in_ok-stop.ensures.first in

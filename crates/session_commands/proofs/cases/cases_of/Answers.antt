@@ -1,9 +1,10 @@
-use Rattle.std.proofs.Common.{◌≡◌, Bool, None, sym, subst, rules, map, Err}
+use Rattle.session_state.specs.declared.state.SessionState.{SessionState}
+use Rattle.session_state.proofs.StateLemmas.{keeps_then}
+use Rattle.std.proofs.Common.{◌≡◌, Bool, None, refl, sym, subst, rules, map, Err}
 use Rattle.std.specs.Prelude.{Result, IfErr}
 use Rattle.std.specs.declared.vec.Vec.{Vec}
 use Rattle.std.specs.declared.alloc.Global.{Global}
 use Rattle.atom_normal.specs.Atoms.{atom_of}
-use Rattle.atom_normal.proofs.Stepped.{ok_map}
 use Rattle.formula_store.specs.Nodes.{tree}
 use Rattle.plain_cases.specs.declared.cases.PrintedCase.{PrintedCase}
 use Rattle.plain_cases.specs.Case.{case_seen}
@@ -11,11 +12,10 @@ use Rattle.qe_syntax.specs.Statements.{Qea}
 use Rattle.qe_syntax.specs.Trees.{formula_tree, formulas_of}
 use Rattle.session_meaning.specs.declared.line.StatementError.{StatementError}
 use Rattle.session_commands.specs.Causes.{Refuses}
-use Rattle.session_commands.specs.Keeping.{state_of}
+use Rattle.session_state.specs.Keeping.{state_of}
 use Rattle.session_commands.specs.Steps.{use_of}
-use Rattle.session_commands.proofs.DeskLemmas.{keeps_then}
 use Rattle.session_commands.proofs.GivenSteps.{proper_items}
-use Rattle.session_commands.proofs.CaseSteps.{normal_there, atoms_there, wanted_there, stopped_there, unread_there, on_ok}
+use Rattle.session_commands.proofs.CaseSteps.{normal_there, atoms_there, wanted_there, stopped_there, unread_there}
 use Rattle.session_commands.proofs.cases.cases_of.Goals as goal
 
 pub read_parts-requires-clause-proper_given : goal.read_parts-requires-clause-proper_given
@@ -23,7 +23,7 @@ read_parts-requires-clause-proper_given c = proper_items c.args.given.now c.requ
 
 pub returns-in_err-read-clause-refused : goal.returns-in_err-read-clause-refused
 returns-in_err-read-clause-refused c =
-    let s = state_of c.args.desk.now in
+    let s = state_of c.args.state.now in
     let f = formula_tree c.args.formula.now in
     let gs = formulas_of (map formula_tree c.args.given.now) in
     let e : c.from_residual.result ≡ Err c.in_err-read.field-0.0 = search rules in
@@ -33,29 +33,37 @@ returns-in_err-read-clause-refused c =
 
 pub wanted_cases-requires-clause-normal : goal.wanted_cases-requires-clause-normal
 wanted_cases-requires-clause-normal c =
-    normal_there c.args.desk.now c.read_parts.new.desk (formula_tree c.args.formula.now) (formulas_of (map formula_tree c.args.given.now)) c.requires.desk c.requires.numbered c.in_ok-read.ensures.readable c.read_parts.ensures.kept
-    c.requires.proper c.requires.given (tree c.read_parts.new.desk.store c.in_ok-read.read.formula) c.in_ok-read.ensures.made.same
+    normal_there c.args.state.now c.read_parts.new.state (formula_tree c.args.formula.now) (formulas_of (map formula_tree c.args.given.now)) c.requires.session c.requires.numbered c.in_ok-read.ensures.readable c.read_parts.ensures.kept
+    c.requires.proper c.requires.given (tree c.read_parts.new.state.store c.in_ok-read.read.formula) c.in_ok-read.ensures.made.same
 
 pub wanted_cases-requires-clause-atoms : goal.wanted_cases-requires-clause-atoms
 wanted_cases-requires-clause-atoms c =
-    atoms_there c.args.desk.now c.read_parts.new.desk (formula_tree c.args.formula.now) (formulas_of (map formula_tree c.args.given.now)) c.requires.desk c.requires.numbered c.in_ok-read.ensures.readable c.read_parts.ensures.kept
-    c.requires.proper c.requires.given (tree c.read_parts.new.desk.store c.in_ok-read.read.formula) c.in_ok-read.ensures.made.same (map atom_of c.in_ok-read.read.atoms.items) c.in_ok-read.ensures.atoms
+    atoms_there c.args.state.now c.read_parts.new.state (formula_tree c.args.formula.now) (formulas_of (map formula_tree c.args.given.now)) c.requires.session c.requires.numbered c.in_ok-read.ensures.readable c.read_parts.ensures.kept
+    c.requires.proper c.requires.given (tree c.read_parts.new.state.store c.in_ok-read.read.formula) c.in_ok-read.ensures.made.same (map atom_of c.in_ok-read.read.atoms.items) c.in_ok-read.ensures.atoms
 
-pub returns-clause-cases : goal.returns-clause-cases
-returns-clause-cases c =
-    ok_map c.wanted_cases.result
-    (λ (v : Vec PrintedCase Global) w.
-    wanted_there c.args.desk.now c.read_parts.new.desk (formula_tree c.args.formula.now) (formulas_of (map formula_tree c.args.given.now)) c.requires.desk c.requires.numbered c.in_ok-read.ensures.readable c.read_parts.ensures.kept
-    c.requires.proper c.requires.given (tree c.read_parts.new.desk.store c.in_ok-read.read.formula) c.in_ok-read.ensures.made.same (map atom_of c.in_ok-read.read.atoms.items) c.in_ok-read.ensures.atoms
-    c.args.limit (map case_seen v.items) w) c.wanted_cases.ensures.cases
-
-pub returns-clause-readable : goal.returns-clause-readable
-returns-clause-readable c = on_ok c.wanted_cases.result c.in_ok-read.ensures.readable
+pub returns-in-Ok-clause-cases : goal.returns-in-Ok-clause-cases
+returns-in-Ok-clause-cases c =
+    wanted_there c.args.state.now c.read_parts.new.state (formula_tree c.args.formula.now) (formulas_of (map formula_tree c.args.given.now)) c.requires.session c.requires.numbered c.in_ok-read.ensures.readable c.read_parts.ensures.kept
+    c.requires.proper c.requires.given (tree c.read_parts.new.state.store c.in_ok-read.read.formula) c.in_ok-read.ensures.made.same (map atom_of c.in_ok-read.read.atoms.items) c.in_ok-read.ensures.atoms
+    c.args.limit (map case_seen c.in-Ok.cases.items) c.in-Ok.ensures.cases
 
 pub returns-clause-refused : goal.returns-clause-refused
 returns-clause-refused c =
-    stopped_there c.args.desk.now c.read_parts.new.desk (formula_tree c.args.formula.now) (formulas_of (map formula_tree c.args.given.now)) c.requires.desk c.requires.numbered c.in_ok-read.ensures.readable c.read_parts.ensures.kept
-    c.requires.proper c.requires.given (tree c.read_parts.new.desk.store c.in_ok-read.read.formula) c.in_ok-read.ensures.made.same c.wanted_cases.result c.args.limit c.wanted_cases.ensures.fault
+    let s = state_of c.args.state.now in
+    let f = formula_tree c.args.formula.now in
+    let gs = formulas_of (map formula_tree c.args.given.now) in
+    subst (λ e. (printed : Bool) → Refuses s c.args.limit (use_of None printed) (Qea f gs) e) (sym c.forms_refusal.ensures)
+    (stopped_there c.args.state.now c.read_parts.new.state f gs c.requires.session c.requires.numbered c.in_ok-read.ensures.readable c.read_parts.ensures.kept
+    c.requires.proper c.requires.given (tree c.read_parts.new.state.store c.in_ok-read.read.formula) c.in_ok-read.ensures.made.same c.args.limit c.in-Err.error c.in-Err.ensures.fault)
+
+pub returns-in-Ok-clause-kept : goal.returns-in-Ok-clause-kept
+returns-in-Ok-clause-kept c =
+    let m = c.read_parts.new.state in
+    let later : SessionState = record { alloc = m.alloc; context = m.context; names = m.names; bindings = m.bindings; store = c.wanted_cases.new.store; kept = m.kept } in
+    keeps_then c.args.state.now m later c.read_parts.ensures.kept (record { context = refl; names = refl; bindings = refl; store = c.wanted_cases.ensures.kept })
 
 pub returns-clause-kept : goal.returns-clause-kept
-returns-clause-kept c = keeps_then c.args.desk.now c.read_parts.new.desk c.wanted_cases.new.desk c.read_parts.ensures.kept c.wanted_cases.ensures.kept
+returns-clause-kept c =
+    let m = c.read_parts.new.state in
+    let later : SessionState = record { alloc = m.alloc; context = m.context; names = m.names; bindings = m.bindings; store = c.wanted_cases.new.store; kept = m.kept } in
+    keeps_then c.args.state.now m later c.read_parts.ensures.kept (record { context = refl; names = refl; bindings = refl; store = c.wanted_cases.ensures.kept })

@@ -1,11 +1,11 @@
 use Rattle.std.proofs.Common.{map, sym, subst}
 use Rattle.qe_syntax.specs.Writable.{AreWritableFormulas}
 use Rattle.qe_syntax.specs.Trees.{formula_tree, formulas_of}
-use Rattle.session_commands.specs.Keeping.{state_of}
+use Rattle.session_state.specs.Keeping.{state_of}
 use Rattle.session_commands.specs.Steps.{given_trees, HasUnwantedQuantifier, ArePartsReadable, ArePartsUnread}
 use Rattle.session_meaning.specs.declared.line.StatementError.TheVariants as error
 use Rattle.session_commands.proofs.AssumptionLemmas.{early_readable, early_overflow}
-use Rattle.session_commands.proofs.DeskLemmas.{kept_ids, same_state}
+use Rattle.session_state.proofs.StateLemmas.{kept_ids, same_state}
 use Rattle.session_commands.proofs.GivenSteps.{proper_items}
 use Rattle.session_commands.proofs.formulas.read_wanted.Goals as goal
 
@@ -13,43 +13,43 @@ pub read_parts-requires-clause-proper_given : goal.read_parts-requires-clause-pr
 read_parts-requires-clause-proper_given c = proper_items c.assumptions.result.now (subst AreWritableFormulas (sym c.assumptions.ensures) c.requires.given)
 
 pub has_unwanted_quantifier-requires : goal.has_unwanted_quantifier-requires
-has_unwanted_quantifier-requires c = kept_ids c.args.desk.now c.read_parts.new.desk c.requires.ids c.read_parts.ensures.kept
+has_unwanted_quantifier-requires c = kept_ids c.args.state.now c.read_parts.new.state c.requires.ids c.read_parts.ensures.kept
 
 pub has_unwanted_quantifier-requires-in-Err-Overflow : goal.has_unwanted_quantifier-requires-in-Err-Overflow
-has_unwanted_quantifier-requires-in-Err-Overflow c = kept_ids c.args.desk.now c.read_parts.new.desk c.requires.ids c.read_parts.ensures.kept
+has_unwanted_quantifier-requires-in-Err-Overflow c = kept_ids c.args.state.now c.read_parts.new.state c.requires.ids c.read_parts.ensures.kept
 
 pub returns-then-has_unwanted_quantifier-clause-unready : goal.returns-then-has_unwanted_quantifier-clause-unready
 returns-then-has_unwanted_quantifier-clause-unready c =
-    let s = state_of c.args.desk.now in
+    let s = state_of c.args.state.now in
     let f = formula_tree c.args.formula.now in (
-      subst (λ t. HasUnwantedQuantifier t c.args.wanted f) (same_state c.args.desk.now c.read_parts.new.desk c.requires.ids c.read_parts.ensures.kept) (c.has_unwanted_quantifier.ensures.0 c.if-has_unwanted_quantifier.true),
+      subst (λ t. HasUnwantedQuantifier t c.args.wanted f) (same_state c.args.state.now c.read_parts.new.state c.requires.ids c.read_parts.ensures.kept) (c.has_unwanted_quantifier.ensures.0 c.if-has_unwanted_quantifier.true),
       early_readable s f (given_trees c.args.wanted) (subst (ArePartsReadable s f) c.assumptions.ensures c.in-Ok.ensures.readable),
     )
 
 pub returns-else-has_unwanted_quantifier-clause-ready : goal.returns-else-has_unwanted_quantifier-clause-ready
 returns-else-has_unwanted_quantifier-clause-ready c = record {
-  readable = subst (ArePartsReadable (state_of c.args.desk.now) (formula_tree c.args.formula.now)) c.assumptions.ensures c.in-Ok.ensures.readable;
+  readable = subst (ArePartsReadable (state_of c.args.state.now) (formula_tree c.args.formula.now)) c.assumptions.ensures c.in-Ok.ensures.readable;
   plain = λ h. absurd (cc (
     c.if-has_unwanted_quantifier.false,
     c.has_unwanted_quantifier.ensures.1
-        (subst (λ t. HasUnwantedQuantifier t c.args.wanted (formula_tree c.args.formula.now)) (sym (same_state c.args.desk.now c.read_parts.new.desk c.requires.ids c.read_parts.ensures.kept)) h),
+        (subst (λ t. HasUnwantedQuantifier t c.args.wanted (formula_tree c.args.formula.now)) (sym (same_state c.args.state.now c.read_parts.new.state c.requires.ids c.read_parts.ensures.kept)) h),
   ));
 }
 
 pub returns-then-has_unwanted_quantifier-2-clause-unready : goal.returns-then-has_unwanted_quantifier-2-clause-unready
 returns-then-has_unwanted_quantifier-2-clause-unready c =
-    let s = state_of c.args.desk.now in
+    let s = state_of c.args.state.now in
     let f = formula_tree c.args.formula.now in (
-      subst (λ t. HasUnwantedQuantifier t c.args.wanted f) (same_state c.args.desk.now c.read_parts.new.desk c.requires.ids c.read_parts.ensures.kept) (c.has_unwanted_quantifier-in-Err-Overflow.ensures.0 c.if-has_unwanted_quantifier-2.true),
-      early_overflow s f (given_trees c.args.wanted) (subst (λ gs. ArePartsUnread s f gs error.Overflow) c.assumptions.ensures (subst (λ e. ArePartsUnread (state_of c.args.desk.now) (formula_tree c.args.formula.now) (formulas_of (map formula_tree c.assumptions.result.now)) e) c.in-Err-Overflow.field-0-is c.in-Err-Overflow.ensures.unread)),
+      subst (λ t. HasUnwantedQuantifier t c.args.wanted f) (same_state c.args.state.now c.read_parts.new.state c.requires.ids c.read_parts.ensures.kept) (c.has_unwanted_quantifier-in-Err-Overflow.ensures.0 c.if-has_unwanted_quantifier-2.true),
+      early_overflow s f (given_trees c.args.wanted) (subst (λ gs. ArePartsUnread s f gs error.Overflow) c.assumptions.ensures (subst (λ e. ArePartsUnread (state_of c.args.state.now) (formula_tree c.args.formula.now) (formulas_of (map formula_tree c.assumptions.result.now)) e) c.in-Err-Overflow.field-0-is c.in-Err-Overflow.ensures.unread)),
     )
 
 pub returns-else-has_unwanted_quantifier-2-clause-unready : goal.returns-else-has_unwanted_quantifier-2-clause-unready
 returns-else-has_unwanted_quantifier-2-clause-unready c = (
-  subst (λ gs. ArePartsUnread (state_of c.args.desk.now) (formula_tree c.args.formula.now) gs error.Overflow) c.assumptions.ensures (subst (λ e. ArePartsUnread (state_of c.args.desk.now) (formula_tree c.args.formula.now) (formulas_of (map formula_tree c.assumptions.result.now)) e) c.in-Err-Overflow.field-0-is c.in-Err-Overflow.ensures.unread),
+  subst (λ gs. ArePartsUnread (state_of c.args.state.now) (formula_tree c.args.formula.now) gs error.Overflow) c.assumptions.ensures (subst (λ e. ArePartsUnread (state_of c.args.state.now) (formula_tree c.args.formula.now) (formulas_of (map formula_tree c.assumptions.result.now)) e) c.in-Err-Overflow.field-0-is c.in-Err-Overflow.ensures.unread),
   λ h. absurd (cc (
     c.if-has_unwanted_quantifier-2.false,
     c.has_unwanted_quantifier-in-Err-Overflow.ensures.1
-        (subst (λ t. HasUnwantedQuantifier t c.args.wanted (formula_tree c.args.formula.now)) (sym (same_state c.args.desk.now c.read_parts.new.desk c.requires.ids c.read_parts.ensures.kept)) h),
+        (subst (λ t. HasUnwantedQuantifier t c.args.wanted (formula_tree c.args.formula.now)) (sym (same_state c.args.state.now c.read_parts.new.state c.requires.ids c.read_parts.ensures.kept)) h),
   )),
 )

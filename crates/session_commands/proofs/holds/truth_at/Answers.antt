@@ -11,10 +11,10 @@ truth-requires-clause-whole c = λ holds n e m. c.in_ok-values.ensures.below ∙
 
 pub returns-in-Ok-clause-truth : goal.returns-in-Ok-clause-truth
 returns-in-Ok-clause-truth c =
-    tells_there c.in_ok-values.values (at_names c.args.desk.now.names (point_of c.args.point.now)) c.in_ok-values.ensures.at c.in-Ok.truth (tree c.args.desk.now.store c.args.id)
+    tells_there c.in_ok-values.values (at_names c.args.state.now.names (point_of c.args.point.now)) c.in_ok-values.ensures.at c.in-Ok.truth (tree c.args.state.now.store c.args.id)
     (ap unsigned_abs c.in_ok-values.ensures.below) c.in-Ok.ensures.truth
 
 pub returns-in-Err-Overflow-clause-fault : goal.returns-in-Err-Overflow-clause-fault
 returns-in-Err-Overflow-clause-fault c =
-    passes_there c.in_ok-values.values (at_names c.args.desk.now.names (point_of c.args.point.now)) c.in_ok-values.ensures.at (tree c.args.desk.now.store c.args.id)
+    passes_there c.in_ok-values.values (at_names c.args.state.now.names (point_of c.args.point.now)) c.in_ok-values.ensures.at (tree c.args.state.now.store c.args.id)
     (c.in_ok-values.ensures.below ∙ sym (abs_is c.args.point.now.denominator c.args.point.now.positive)) (c.in-Err-Overflow.ensures.overflow (ap Err c.in-Err-Overflow.field-0-is))

@@ -1,16 +1,16 @@
 use Rattle.std.proofs.Common.{◌∙◌, ap, sym}
 use Rattle.qe_syntax.specs.Statements.{action_tree, command_tree, Say, Assign}
-use Rattle.session_commands.specs.Keeping.{state_of}
+use Rattle.session_state.specs.Keeping.{state_of}
 use Rattle.session_commands.proofs.AnswerLemmas.{say_answered, formula_assigned}
 use Rattle.session_commands.proofs.session.act.Goals as goal
 
 pub returns-in-Say-clause-answer : goal.returns-in-Say-clause-answer
 returns-in-Say-clause-answer c =
-    say_answered c.say.result (action_tree c.args.statement.now.action) (command_tree c.deref.result.now) (state_of c.args.desk.now) (state_of c.say.new.desk) c.args.limit c.args.statement.now.printed
+    say_answered c.say.result (action_tree c.args.statement.now.action) (command_tree c.deref.result.now) (state_of c.args.state.now) (state_of c.say.new.state) c.args.limit c.args.statement.now.printed
     (ap action_tree c.in-Say.is ∙ ap (λ d. Say (command_tree d)) (sym c.deref.ensures)) c.say.ensures.answer
 
 pub returns-in-Assign-clause-answer : goal.returns-in-Assign-clause-answer
 returns-in-Assign-clause-answer c =
     let d = c.deref-in-Assign.result.now in
-    formula_assigned c.answer_wanted.result (action_tree c.args.statement.now.action) c.in-Assign.name (command_tree d) (state_of c.args.desk.now) (state_of c.answer_wanted.new.desk) c.args.limit c.args.statement.now.printed
-    (ap action_tree c.in-Assign.is ∙ ap (λ b. Assign c.in-Assign.name (command_tree b)) (sym c.deref-in-Assign.ensures)) c.answer_wanted.ensures.answer
+    formula_assigned c.answer_form_command.result (action_tree c.args.statement.now.action) c.in-Assign.name (command_tree d) (state_of c.args.state.now) (state_of c.answer_form_command.new.state) c.args.limit c.args.statement.now.printed
+    (ap action_tree c.in-Assign.is ∙ ap (λ b. Assign c.in-Assign.name (command_tree b)) (sym c.deref-in-Assign.ensures)) c.answer_form_command.ensures.answer

@@ -1,19 +1,19 @@
 use Rattle.std.proofs.Common.{◌∙◌, sym, ap, subst, take}
-use Rattle.session_commands.specs.Keeping.{state_of, IsDesk}
-use Rattle.session_commands.specs.declared.desk.Desk.{Desk}
-use Rattle.session_commands.proofs.DeskLemmas.{back_desk, back_state}
+use Rattle.session_state.specs.Keeping.{state_of, IsSessionState}
+use Rattle.session_state.specs.declared.state.SessionState.{SessionState}
+use Rattle.session_state.proofs.StateLemmas.{back_session, back_state}
 use Rattle.session_commands.proofs.session.answer.Goals as goal
 
-pub returns-in-Err-clause-desk : goal.returns-in-Err-clause-desk
-returns-in-Err-clause-desk c =
-    let d = c.act.new.desk in
+pub returns-in-Err-clause-session : goal.returns-in-Err-clause-session
+returns-in-Err-clause-session c =
+    let d = c.act.new.state in
     let names = c.keep_first.ensures ∙ ap (λ n. take n d.names) c.count-count.ensures in
-    subst (λ ns. IsDesk (record { alloc = d.alloc; context = d.context; names = ns; bindings = d.bindings; store = d.store; kept = d.kept })) (sym names)
-    (back_desk c.args.desk.now d c.in-Err.ensures.grown c.requires.desk)
+    subst (λ ns. IsSessionState (record { alloc = d.alloc; context = d.context; names = ns; bindings = d.bindings; store = d.store; kept = d.kept })) (sym names)
+    (back_session c.args.state.now d c.in-Err.ensures.grown c.requires.session)
 
 pub returns-in-Err-clause-unchanged : goal.returns-in-Err-clause-unchanged
 returns-in-Err-clause-unchanged c =
-    let d = c.act.new.desk in
+    let d = c.act.new.state in
     let names = c.keep_first.ensures ∙ ap (λ n. take n d.names) c.count-count.ensures in
-    ap (λ ns. let e : Desk = record { alloc = d.alloc; context = d.context; names = ns; bindings = d.bindings; store = d.store; kept = d.kept } in state_of e) names
-    ∙ back_state c.args.desk.now d c.in-Err.ensures.grown c.requires.desk
+    ap (λ ns. let e : SessionState = record { alloc = d.alloc; context = d.context; names = ns; bindings = d.bindings; store = d.store; kept = d.kept } in state_of e) names
+    ∙ back_state c.args.state.now d c.in-Err.ensures.grown c.requires.session

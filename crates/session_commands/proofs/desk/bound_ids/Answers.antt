@@ -1,6 +1,0 @@
-use Rattle.std.proofs.Common.{sym}
-use Rattle.session_commands.proofs.BindingLemmas.{ids_step}
-use Rattle.session_commands.proofs.desk.bound_ids.Goals as goal
-
-pub loop-place-preserved : goal.loop-place-preserved
-loop-place-preserved c = ids_step c.args.bindings.now c.loop-place.place c.in-Some.id c.loop-place.ids.items c.push.new.self.items c.loop-place.invariant (sym c.in-Some.ensures) c.in_default-push.ensures.items

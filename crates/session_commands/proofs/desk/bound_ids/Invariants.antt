@@ -1,7 +1,0 @@
-use Rattle.std.proofs.Common.{◌≡◌, take}
-use Rattle.session_commands.specs.Keeping.{ids_bound}
-use Rattle.session_commands.proofs.desk.bound_ids.Given as goal
-
--- the ids before the place
-abbrev pub invariant-loop-place : goal.invariant-loop-place
-invariant-loop-place l = l.ids.items ≡ take l.place (ids_bound l.bindings)

@@ -1,0 +1,5 @@
+pub mod NameLemmas
+pub mod VariableLemmas
+pub mod SoundLemmas
+pub mod BindingLemmas
+pub mod StateLemmas

@@ -1,0 +1,163 @@
+-- What is kept of the state while the store grows, and when its formulas are given up.
+use Rattle.std.proofs.Common.{◌≡◌, ℕ, ◌≤◌, List, [], ◌∷◌, ◌++◌, sym, ap, ◌∙◌, subst, refl, length, take, map, arith}
+use Rattle.std.proofs.lemmas.List.{length-map, length-append}
+use Rattle.std.specs.List.{AllByRecursion, IsDistinct}
+use Rattle.std.specs.Map.{keys_of}
+use Rattle.formula_meaning.specs.Context.{Context}
+use Rattle.formula_meaning.specs.Tree.{Tree}
+use Rattle.atom_normal.specs.declared.atoms.Context.{Context as Theory}
+use Rattle.atom_normal.specs.Atoms.{context_of}
+use Rattle.qe_syntax.specs.Value.{same_name}
+use Rattle.formula_tree.specs.declared.shape.Shape.{Shape}
+use Rattle.formula_tree.specs.Makers.{AreMade}
+use Rattle.formula_tree.specs.Resolving.{BoundTrees}
+use Rattle.formula_resolving.specs.Numbering.{Grows}
+use Rattle.formula_resolving.specs.Refusals.{AreIds, trees_bound}
+use Rattle.formula_store.specs.declared.id.FormulaId.{FormulaId}
+use Rattle.formula_store.specs.Nodes.{tree, IsId}
+use Rattle.session_state.specs.declared.state.SessionState.{SessionState}
+use Rattle.session_meaning.specs.State.{State, with_names}
+use Rattle.session_state.specs.Keeping.{state_of, ids_bound, IsSound, IsSessionState}
+use Rattle.session_state.specs.Growth.{KeepsState, GrowsState}
+use Rattle.session_state.proofs.BindingLemmas.{trees_kept, ids_kept, trees_by_parts, ids_by_list}
+use Rattle.session_state.proofs.NameLemmas.{grows_itself, grows_then as more_names}
+use Rattle.session_state.proofs.SoundLemmas.{more_formula}
+use Rattle.session_state.proofs.VariableLemmas.{AllVariables}
+
+pub state_parts : (c d : Context) (ns ms : List (List ℕ)) (bs es : BoundTrees) → c ≡ d → ns ≡ ms → bs ≡ es
+    → (let s : State = record { context = c; names = ns; bound = bs } in let t : State = record { context = d; names = ms; bound = es } in s ≡ t)
+state_parts c d ns ms bs es p q r = λ j. record { context = p j; names = q j; bound = r j }
+
+-- the state is the same where the store alone grew
+pub same_state : (old new : SessionState) → AreIds (IsId old.store) old.bindings → KeepsState old new → state_of new ≡ state_of old
+same_state old new ids k =
+    state_parts _ _ _ _ _ _ (ap context_of k.context) k.names
+    (ap (trees_bound (tree new.store)) k.bindings ∙ trees_kept (IsId old.store) (tree old.store) (IsId new.store) (tree new.store) old.bindings k.store ids)
+
+pub kept_ids : (old new : SessionState) → AreIds (IsId old.store) old.bindings → KeepsState old new → AreIds (IsId new.store) new.bindings
+kept_ids old new ids k = subst (AreIds (IsId new.store)) (sym k.bindings) (ids_kept (IsId old.store) (tree old.store) (IsId new.store) (tree new.store) old.bindings k.store ids)
+
+pub same_session : (old new : SessionState) → IsSessionState old → KeepsState old new → IsSessionState new
+same_session old new h k = record {
+  ids = kept_ids old new h.ids k;
+  bound_once = subst (λ es. IsDistinct same_name (keys_of es)) (sym k.bindings) h.bound_once;
+  sound = subst IsSound (sym (same_state old new h.ids k)) h.sound;
+}
+
+pub length_grows : (old new : List (List ℕ)) → Grows old new → length old ≤ length new
+length_grows old new g = let e = ap length g.is ∙ length-append old g.more in omega arith
+
+-- more names leave a state sound where they are different
+pub sound_with : (s : State) (names : List (List ℕ)) → IsSound s → IsDistinct same_name names → AllVariables names → length s.names ≤ length names → IsSound (with_names s names)
+sound_with s names h d v l = record {
+  names_once = d;
+  variables = v;
+  formulas = λ x t e. more_formula s.context (length s.names) (length names) t l (h.formulas x t e);
+  numbers = h.numbers;
+}
+
+-- ---- formulas given up
+
+module _ (old : SessionState) (bindings : List (List ℕ × FormulaId)) (nodes : List (Shape FormulaId)) (kept : ℕ) (ids : List FormulaId)
+    (keys : keys_of bindings ≡ keys_of old.bindings) (bound : ids_bound bindings ≡ ids) (made : AreMade (IsId nodes) (tree nodes) ids (map (tree old.store) (ids_bound old.bindings))) where
+  abbrev after : SessionState
+  after = record { alloc = old.alloc; context = old.context; names = old.names; bindings = bindings; store = nodes; kept = kept }
+
+  pub rebound_state : state_of after ≡ state_of old
+  rebound_state =
+      state_parts _ _ _ _ _ _ refl refl
+      (trees_by_parts (tree old.store) (tree nodes) old.bindings bindings keys (ap (map (tree nodes)) bound ∙ made.same))
+
+  pub rebound_session : IsSessionState old → IsSessionState after
+  rebound_session h = record {
+    ids = ids_by_list (IsId nodes) bindings (subst (AllByRecursion (IsId nodes)) (sym bound) made.are);
+    bound_once = subst (IsDistinct same_name) (sym keys) h.bound_once;
+    sound = subst IsSound (sym rebound_state) h.sound;
+  }
+
+pub ids_as_many : (t u : FormulaId → Tree) (roots ids : List FormulaId) → map u ids ≡ map t roots → length ids ≡ length roots
+ids_as_many t u roots ids e = sym (length-map ids u) ∙ ap length e ∙ length-map roots t
+
+-- where the store and the names grew, the state has the new names
+pub grown_state : (old new : SessionState) → AreIds (IsId old.store) old.bindings → GrowsState old new → state_of new ≡ with_names (state_of old) new.names
+grown_state old new ids g =
+    state_parts _ _ _ _ _ _ (ap context_of g.context) refl
+    (ap (trees_bound (tree new.store)) g.bindings ∙ trees_kept (IsId old.store) (tree old.store) (IsId new.store) (tree new.store) old.bindings g.store ids)
+
+pub grown_session : (old new : SessionState) → IsSessionState old → GrowsState old new → IsDistinct same_name new.names → AllVariables new.names → IsSessionState new
+grown_session old new h g d v = record {
+  ids = subst (AreIds (IsId new.store)) (sym g.bindings) (ids_kept (IsId old.store) (tree old.store) (IsId new.store) (tree new.store) old.bindings g.store h.ids);
+  bound_once = subst (λ es. IsDistinct same_name (keys_of es)) (sym g.bindings) h.bound_once;
+  sound = subst IsSound (sym (grown_state old new h.ids g)) (sound_with (state_of old) new.names h.sound d v (length_grows old.names new.names g.names));
+}
+
+-- with nothing bound, in any theory
+pub cleared_session : (old : SessionState) (context : Theory) (bindings : List (List ℕ × FormulaId)) (nodes : List (Shape FormulaId)) (kept : ℕ) → bindings ≡ [] → IsSessionState old
+    → IsSessionState (record { alloc = old.alloc; context = context; names = old.names; bindings = bindings; store = nodes; kept = kept })
+unfolding IsDistinct
+cleared_session old context bindings nodes kept e h =
+    subst (λ es. IsSessionState (record { alloc = old.alloc; context = context; names = old.names; bindings = es; store = nodes; kept = kept })) (sym e)
+    (record { ids = tt; bound_once = tt; sound = record { names_once = h.sound.names_once; variables = h.sound.variables; formulas = λ x t f. absurd (cc); numbers = λ x t f. absurd (cc) } })
+
+-- ---- steps one after another
+
+pub keeps_itself : (old : SessionState) (names : List (List ℕ)) → Grows old.names names
+    → GrowsState old (record { alloc = old.alloc; context = old.context; names = names; bindings = old.bindings; store = old.store; kept = old.kept })
+keeps_itself old names g = record { context = refl; names = g; bindings = refl; store = record { is = λ id h. h; same = λ id h. refl } }
+
+pub grows_then : (first second third : SessionState) → GrowsState first second → KeepsState second third → GrowsState first third
+grows_then first second third g k = record {
+  context = k.context ∙ g.context;
+  names = subst (Grows first.names) (sym k.names) g.names;
+  bindings = k.bindings ∙ g.bindings;
+  store = record { is = λ id h. k.store.is id (g.store.is id h); same = λ id h. k.store.same id (g.store.is id h) ∙ g.store.same id h };
+}
+
+-- what keeps all grows by nothing
+pub kept_grows : (old new : SessionState) → KeepsState old new → GrowsState old new
+kept_grows old new k = record { context = k.context; names = subst (Grows old.names) (sym k.names) (grows_itself old.names); bindings = k.bindings; store = k.store }
+
+pub keeps_then_grows : (first second third : SessionState) → KeepsState first second → GrowsState second third → GrowsState first third
+keeps_then_grows first second third k g = record {
+  context = g.context ∙ k.context;
+  names = subst (λ ns. Grows ns third.names) k.names g.names;
+  bindings = g.bindings ∙ k.bindings;
+  store = record { is = λ id h. g.store.is id (k.store.is id h); same = λ id h. g.store.same id (k.store.is id h) ∙ k.store.same id h };
+}
+
+pub grows_then_grows : (first second third : SessionState) → GrowsState first second → GrowsState second third → GrowsState first third
+grows_then_grows first second third g k = record {
+  context = k.context ∙ g.context;
+  names = more_names first.names second.names third.names g.names k.names;
+  bindings = k.bindings ∙ g.bindings;
+  store = record { is = λ id h. k.store.is id (g.store.is id h); same = λ id h. k.store.same id (g.store.is id h) ∙ g.store.same id h };
+}
+
+pub keeps_self : (old : SessionState) → KeepsState old old
+keeps_self old = record { context = refl; names = refl; bindings = refl; store = record { is = λ id h. h; same = λ id h. refl } }
+
+pub keeps_then : (first second third : SessionState) → KeepsState first second → KeepsState second third → KeepsState first third
+keeps_then first second third g k = record {
+  context = k.context ∙ g.context;
+  names = k.names ∙ g.names;
+  bindings = k.bindings ∙ g.bindings;
+  store = record { is = λ id h. k.store.is id (g.store.is id h); same = λ id h. k.store.same id (g.store.is id h) ∙ g.store.same id h };
+}
+
+take_front : (xs ys : List (List ℕ)) → take (length xs) (xs ++ ys) ≡ xs
+take_front [] ys = refl
+take_front (x ∷ xs) ys = ap (λ zs. x ∷ zs) (take_front xs ys)
+
+-- the names taken back
+module _ (old new : SessionState) (g : GrowsState old new) where
+  abbrev back : SessionState
+  back = record { alloc = new.alloc; context = new.context; names = take (length old.names) new.names; bindings = new.bindings; store = new.store; kept = new.kept }
+
+  taken_back : KeepsState old back
+  taken_back = record { context = g.context; names = ap (take (length old.names)) g.names.is ∙ take_front old.names g.names.more; bindings = g.bindings; store = g.store }
+
+  pub back_session : IsSessionState old → IsSessionState back
+  back_session h = same_session old back h taken_back
+
+  pub back_state : IsSessionState old → state_of back ≡ state_of old
+  back_state h = same_state old back h.ids taken_back

@@ -1,0 +1,4 @@
+pub mod NewNames
+pub mod EliminatedLemmas
+pub mod PrenexLemmas
+pub mod CaseLemmas

@@ -1,0 +1,77 @@
+-- Why a form is not made.
+use Rattle.std.specs.Prelude.{◌≡◌, ◌*◌, ◌<◌, ◌≤◌, ℕ, Option, Some}
+use Rattle.formula_meaning.specs.Context.{Context}
+use Rattle.formula_meaning.specs.Sizes.{nodes}
+use Rattle.formula_meaning.specs.Tree.{Tree, tree_distinct}
+use Rattle.formula_meaning.specs.Measured.{Overflow, Nodes, stopped}
+use Rattle.formula_meaning.specs.NegationNormal.{normal_form}
+use Rattle.atom_normal.specs.NormalForm.{negated_normal}
+use Rattle.elimination_reference.specs.Reference.{reference}
+use Rattle.elimination_reference.specs.Cases.{reference_cases}
+use Rattle.prenex_forms.specs.Forms.{OverflowsInRenaming}
+use Rattle.clean_forms.specs.Plain.{literals}
+use Rattle.plain_engine.specs.declared.measured.Measured.{Measured}
+use Rattle.plain_engine.specs.declared.measured.Measured.TheVariants as measured
+use Rattle.shared_forms.specs.declared.error.FormsError.{FormsError}
+use Rattle.shared_forms.specs.declared.error.FormsError.TheVariants as error
+use Rattle.shared_forms.specs.declared.forms.Form.{Form}
+use Rattle.shared_forms.specs.declared.forms.Form.TheVariants as form
+use Rattle.shared_forms.specs.declared.forms.ClauseForm.{ClauseForm}
+use Rattle.shared_forms.specs.Forms.{junction_of}
+
+-- what stops an elimination
+abbrev pub measured_error : Measured → FormsError
+measured_error measured.Overflow = error.Overflow
+measured_error measured.Nodes = error.Nodes
+measured_error measured.Memory = error.Memory
+
+-- why a formula stays as it is read
+abbrev pub NoFault : FormsError → Type 0
+NoFault error.Overflow = ⊥
+NoFault error.Nodes = ⊥
+NoFault error.Memory = Unit {0}
+
+-- why a negation normal form is not made
+abbrev pub NegationFault : Option ℕ → Tree → FormsError → Type 0
+NegationFault limit f error.Overflow = ⊥
+NegationFault limit f error.Nodes = (n : ℕ) × (limit ≡ Some n) × (n < 6 * tree_distinct f)
+NegationFault limit f error.Memory = Unit {0}
+
+-- why a prenex form is not made, where count names are known
+abbrev pub PrenexFault : Context → ℕ → ℕ → Tree → FormsError → Type 0
+PrenexFault c count limit f error.Overflow = (nodes (normal_form negated_normal f) ≤ limit) × OverflowsInRenaming c count (normal_form negated_normal f)
+PrenexFault c count limit f error.Nodes = limit < nodes (normal_form negated_normal f)
+PrenexFault c count limit f error.Memory = Unit {0}
+
+-- why a negation normal form has no clean form
+abbrev pub ClauseFault : ℕ → ClauseForm → Tree → FormsError → Type 0
+ClauseFault limit clauses f error.Overflow = ⊥
+ClauseFault limit clauses f error.Nodes = limit < literals (junction_of clauses) f
+ClauseFault limit clauses f error.Memory = Unit {0}
+
+-- why a negation normal form is not simplified
+abbrev pub SimplificationFault : ℕ → Tree → FormsError → Type 0
+SimplificationFault limit f error.Overflow = ⊥
+SimplificationFault limit f error.Nodes = limit < nodes f
+SimplificationFault limit f error.Memory = Unit {0}
+
+-- why quantifiers are not eliminated
+abbrev pub EliminationFault : Context → ℕ → Tree → FormsError → Type 0
+EliminationFault c limit f error.Overflow = reference c limit f ≡ stopped Overflow
+EliminationFault c limit f error.Nodes = reference c limit f ≡ stopped Nodes
+EliminationFault c limit f error.Memory = Unit {0}
+
+-- why the form of f is not made, where count names are known
+abbrev pub FormFault : Context → ℕ → ℕ → Form → Tree → FormsError → Type 0
+FormFault c count limit form.AsRead f e = NoFault e
+FormFault c count limit form.NegationNormal f e = NegationFault (Some limit) f e
+FormFault c count limit form.Prenex f e = PrenexFault c count limit f e
+FormFault c count limit (form.Distributed clauses) f e = ClauseFault limit clauses (normal_form negated_normal f) e
+FormFault c count limit form.Simplified f e = SimplificationFault limit (normal_form negated_normal f) e
+FormFault c count limit form.Eliminated f e = EliminationFault c limit f e
+
+-- why there are no cases
+abbrev pub CasesFault : Context → ℕ → Tree → FormsError → Type 0
+CasesFault c limit f error.Overflow = reference_cases c limit f ≡ stopped Overflow
+CasesFault c limit f error.Nodes = reference_cases c limit f ≡ stopped Nodes
+CasesFault c limit f error.Memory = Unit {0}

@@ -1,0 +1,146 @@
+//! The guards of cases, simplified under atoms.
+
+ghost use Rattle.std.specs.Prelude.{◌≡◌, ◌≢◌, ◌++◌, [], All, map, IfOk, IfSome, OnOk, option_map};
+ghost use Rattle.std.specs.Bool.{MatchBool};
+ghost use Rattle.std.specs.List.{AllByRecursion};
+ghost use Rattle.formula_meaning.specs.Every.{Every};
+ghost use Rattle.formula_meaning.specs.Numbers.{IsAtomInLimit};
+ghost use Rattle.formula_meaning.specs.Formula.{No};
+ghost use Rattle.formula_meaning.specs.Some.{EachOf};
+ghost use Rattle.atom_normal.specs.Atoms.{context_of, atom_of, IsWellFormed};
+ghost use Rattle.atom_normal.specs.NormalForm.{IsNormal};
+ghost use Rattle.elimination_reference.specs.Cases.{Case};
+ghost use Rattle.test_points.specs.Points.{IsTestPoint};
+ghost use Rattle.nnf_trees.specs.Nnfs.{nnf_of, IsProper};
+ghost use Rattle.plain_cases.specs.Case.{case_seen, leaf_case, HavePoints};
+ghost use Rattle.plain_cases.specs.Stand.{IsSound, AreSound};
+ghost use Rattle.simplified_formulas.specs.Orderly.{IsOrderly};
+ghost use Rattle.formula_tree.specs.Trees.{tree_of};
+ghost use Rattle.formula_tree.specs.Makers.{Keeps};
+ghost use Rattle.formula_store.specs.Nodes.{tree, IsId};
+ghost use Rattle.shared_forms.specs.Forms.{IsSimplifiedAs};
+ghost use Rattle.shared_forms.specs.Cases.{IsLeftOf, AreLeftOf, put_before};
+
+use crate::forms::simplified;
+use atom_normal::{Atom, Context};
+use formula_store::{FormulaId, Store};
+use formula_tree::{Shape, Tree};
+use nnf_trees::Nnf;
+use plain_cases::{Leaf, PrintedCase};
+use shared_elimination::share;
+use std::alloc::{AllocError, Global};
+
+/// The cases with their guards simplified under the atoms, in order, without those whose guard becomes false.
+pub(crate) fn left_cases(
+    alloc: Global,
+    store: &mut Store,
+    context: Context,
+    leaves: Vec<Leaf>,
+    atoms: &[Atom],
+) -> Result<Vec<PrintedCase>, AllocError>
+    requires sound { AreSound leaves.items }
+    requires orderly { EachOf (λ (k : Case). IsOrderly (IsNormal (context_of context)) k.guard) (map leaf_case leaves.items) }
+    requires well_formed { AllByRecursion IsWellFormed atoms.now }
+    requires atoms { EachOf (IsNormal (context_of context)) (map atom_of atoms.now) }
+    ensures left { IfOk result (λ v. AreLeftOf (context_of context) (map atom_of atoms.now) (map leaf_case leaves.items) (map case_seen v.items)) }
+    ensures points { IfOk result (λ v. HavePoints v.items) }
+    ensures kept { Keeps (IsId store.old) (tree store.old) (IsId store.new) (tree store.new) }
+{
+    let mut cases = Vec::new(alloc);
+    for leaf in leaves {
+        let case = left_case(alloc, store, context, leaf, atoms)?;
+        push_left(&mut cases, case)?;
+    }
+    Ok(cases)
+}
+
+/// Puts the case, if there is one, behind the others.
+fn push_left(cases: &mut Vec<PrintedCase>, case: Option<PrintedCase>) -> Result<(), AllocError>
+    requires points { HavePoints cases.old.items }
+    requires more { IfSome case (λ k. All IsTestPoint k.answers.items) }
+    ensures cases { OnOk result (map case_seen cases.new.items ≡ map case_seen cases.old.items ++ put_before (option_map case_seen case) []) }
+    ensures points { HavePoints cases.new.items }
+{
+    if let Some(case) = case {
+        cases.push(case)?;
+    }
+    Ok(())
+}
+
+/// The case with its guard simplified under the atoms, or `None` where it becomes false.
+fn left_case(
+    alloc: Global,
+    store: &mut Store,
+    context: Context,
+    leaf: Leaf,
+    atoms: &[Atom],
+) -> Result<Option<PrintedCase>, AllocError>
+    requires sound { IsSound leaf }
+    requires orderly { IsOrderly (IsNormal (context_of context)) (nnf_of leaf.formula) }
+    requires well_formed { AllByRecursion IsWellFormed atoms.now }
+    requires atoms { EachOf (IsNormal (context_of context)) (map atom_of atoms.now) }
+    ensures left { IfOk result (λ o. IsLeftOf (context_of context) (map atom_of atoms.now) (leaf_case leaf) (option_map case_seen o)) }
+    ensures points { IfOk result (λ o. IfSome o (λ k. All IsTestPoint k.answers.items)) }
+    ensures kept { Keeps (IsId store.old) (tree store.old) (IsId store.new) (tree store.new) }
+{
+    let Leaf { formula, points } = leaf;
+    let id = simplified_guard(alloc, store, context, formula, atoms)?;
+    if is_false(store, id) {
+        return Ok(None);
+    }
+    let guard = unfolded(store, id)?;
+    Ok(Some(PrintedCase {
+        guard,
+        answers: points,
+    }))
+}
+
+/// The guard, simplified under the atoms.
+fn simplified_guard(
+    alloc: Global,
+    store: &mut Store,
+    context: Context,
+    guard: Nnf,
+    atoms: &[Atom],
+) -> Result<FormulaId, AllocError>
+    requires proper { IsProper guard }
+    requires orderly { IsOrderly (IsNormal (context_of context)) (nnf_of guard) }
+    requires well_formed { AllByRecursion IsWellFormed atoms.now }
+    requires atoms { EachOf (IsNormal (context_of context)) (map atom_of atoms.now) }
+    ensures made { IfOk result (IsId store.new) }
+    ensures simplified { IfOk result (λ r. IsSimplifiedAs (context_of context) (map atom_of atoms.now) (nnf_of guard) (tree store.new r)) }
+    ensures kept { Keeps (IsId store.old) (tree store.old) (IsId store.new) (tree store.new) }
+{
+    let Ok(id) = share(alloc, store, guard) else {
+        return Err(AllocError);
+    };
+    match simplified(alloc, store, context, u64::MAX, id, atoms) {
+        Ok(id) => Ok(id),
+        Err(_) => Err(AllocError),
+    }
+}
+
+/// Whether the formula is `false`.
+fn is_false(store: &Store, id: FormulaId) -> bool
+    requires { IsId store.now id }
+    ensures { MatchBool result (tree store.now id ≡ No) (tree store.now id ≢ No) }
+{
+    match store.shape(id) {
+        Shape::False => true,
+        Shape::True | Shape::One(_) | Shape::And(_) | Shape::Or(_) | Shape::Not(_) => false,
+        Shape::Impl(..) | Shape::Repl(..) | Shape::Equiv(..) => false,
+        Shape::Ex(..) | Shape::All(..) => false,
+    }
+}
+
+/// The formula as a tree, whose numbers are within the limit.
+fn unfolded(store: &Store, id: FormulaId) -> Result<Tree, AllocError>
+    requires { IsId store.now id }
+    ensures tree { IfOk result (λ t. tree_of t ≡ tree store.now id) }
+    ensures numbers { IfOk result (λ t. Every IsAtomInLimit (tree_of t)) }
+{
+    match store.unfold(id, u64::MAX) {
+        Ok(tree) => Ok(tree),
+        Err(_) => Err(AllocError),
+    }
+}

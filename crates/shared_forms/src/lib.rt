@@ -1,0 +1,12 @@
+//! The forms of a formula that commands ask for, from an id of a store to an id of it, and its case list, under atoms and a limit of
+//! nodes.
+#![tactic(auto)]
+
+mod cases;
+mod error;
+mod forms;
+mod guards;
+
+pub use cases::wanted_cases;
+pub use error::FormsError;
+pub use forms::{ClauseForm, Form, Premised, formed};
