@@ -18,13 +18,11 @@ use Rattle.session_meaning.specs.declared.line.Line.TheVariants as line
 use Rattle.session_meaning.specs.declared.line.StatementError.{StatementError}
 use Rattle.session_meaning.specs.declared.line.StatementError.TheVariants as error
 use Rattle.session_meaning.specs.State.{State, with_names}
-use Rattle.session_commands.specs.Commands.{named, resolved}
-use Rattle.session_meaning.specs.Causes.{Use}
-use Rattle.session_commands.specs.Causes.{IsCause, HasNoCauseBelow, MayRefuse, Refuses}
-use Rattle.session_meaning.specs.Reply.{IsLine, Reply}
-use Rattle.session_commands.specs.Reply.{AnswersCommand, AnswersSaid, Answers}
-use Rattle.session_commands.proofs.Agreement.{answers_are, refuses_are}
-use Rattle.session_commands.proofs.CauseLemmas.{readable_below}
+use Rattle.session_meaning.specs.Words.{before}
+use Rattle.session_meaning.specs.Meaning.{Meaning, variables, numbered, meaning}
+use Rattle.session_meaning.specs.Causes.{Use, HasLongLine, MayBeCause, HasNone, IsFirst, IsAccepted}
+use Rattle.session_meaning.specs.Reply.{IsLine, AnswersSaid, Answers, Reply}
+use Rattle.session_commands.proofs.CauseLemmas.{no_cause, then_clear, readable_below}
 use Rattle.redlog_run.proofs.Unrefused.{never}
 use Rattle.lines_read_back.specs.ReadBack.{IsBare, IsOwnFormula, IsSameLine, TextIsAnswered}
 
@@ -44,50 +42,52 @@ module _ (s : State) (limit : ℕ) (t : Tree) (bare : IsBare s) (own : IsOwnForm
   use_of_line = record { target = None; printed = true }
 
   -- its variables have their numbers
-  same_names : fold with_name s.names (formula_variables w ++ []) ≡ s.names
-  same_names = ap (fold with_name s.names) (append-nil (formula_variables w)) ∙ back.resolved.same_names
+  same_names : fold with_name s.names (variables (meaning (Echo w))) ≡ s.names
+  same_names = ap (fold with_name s.names) (append-nil (formula_variables w ++ []) ∙ append-nil (formula_variables w)) ∙ back.resolved.same_names
 
-  same_state : named s (Echo w) ≡ s
-  same_state = same_with s (fold with_name s.names (formula_variables w ++ [])) same_names
+  same_state : numbered (meaning (Echo w)) s ≡ s
+  same_state = same_with s (fold with_name s.names (variables (meaning (Echo w)))) same_names
 
-  same_tree : resolved s (Echo w) ≡ t
+  same_tree : resolve s.context s.bound s.names w ≡ t
   same_tree = ap (λ bs. resolve s.context bs s.names w) bare.unbound ∙ back.resolved.same_tree
 
   accepted : IsResolvable s.context s.bound s.names w
   accepted = subst (λ bs. IsResolvable s.context bs s.names w) (sym bare.unbound) back.resolved.accepted
 
-  readable_here : HasNoCauseBelow s limit use_of_line (Echo w) 16
-  readable_here = readable_below s limit use_of_line (Echo w) back.resolved.same_names (record { no_entries = refl; no_point = λ h. h }) accepted (λ h. h.0) (λ h. h)
-
   -- the text is shorter than a text may be
   short : length (tree_text s.names t) ≤ 1048576
   short = let l = readable.short in let e = length-append (tree_text s.names t) (codes ";") in omega arith
 
-  no_cause : (e : StatementError) → IsCause s limit use_of_line (Echo w) e → ⊥
-  no_cause error.Nodes h = h
-  no_cause error.Bindings h = ⊎_elim absurd (λ k. k.2) h
-  no_cause error.Text h =
-      let k = h.1 in
-      let same : length (tree_text k.names k.formula) ≡ length (tree_text s.names t) = ap₂ (λ ns g. length (tree_text ns g)) k.named (k.given ∙ same_tree) in
+  abbrev of_line : Meaning
+  of_line = meaning (Echo w)
+
+  no_long_line : ¬ (HasLongLine of_line s use_of_line)
+  no_long_line k =
+      let same : length (tree_text k.names k.formula) ≡ length (tree_text s.names t) = ap₂ (λ ns g. length (tree_text ns g)) k.named (k.determined ∙ same_tree) in
       let long = k.long in
       let l = short in
       omega arith
-  no_cause error.Memory h = h
-  no_cause e h = readable_here e (omega arith) h
 
-  may_not : (e : StatementError) → MayRefuse s limit use_of_line (Echo w) e → ⊥
-  may_not error.Overflow h = ⊎_elim (no_cause error.Overflow) (⊎_elim (λ k. k.0) absurd) h
-  may_not error.Nodes h = ⊎_elim (λ k. k.0) (⊎_elim absurd absurd) h
-  may_not error.Bindings h = ⊎_elim (no_cause error.Bindings) (λ k. k.1) h
-  may_not error.Text h = ⊎_elim (no_cause error.Text) (λ k. ⊎_elim (λ m. m.1) absurd k.1) h
-  may_not e h = no_cause e h
+  none_counted : HasNone of_line s limit use_of_line (before error.Nodes)
+  none_counted =
+      readable_below of_line s limit use_of_line (back.resolved.same_names, tt) (record { further = refl; point = λ h. h; unvalued = λ h. h; nodes = λ h. h; text = λ h. h }) (accepted, tt) (λ h. h) (λ h. h)
 
-  refuses_not : (e : StatementError) → e ≢ error.Memory → Refuses s limit use_of_line (Echo w) e → ⊥
-  refuses_not error.Memory other h = other refl
-  refuses_not e other h = may_not e h.applies
+  none_applies : IsAccepted of_line s limit use_of_line
+  none_applies =
+      let bindings = then_clear of_line s limit use_of_line error.Nodes error.Bindings refl none_counted (λ h. h) in
+      let text = then_clear of_line s limit use_of_line error.Bindings error.Text refl bindings (λ h. ⊎_elim (λ k. k) (λ k. absurd k.2) h) in
+      then_clear of_line s limit use_of_line error.Text error.Memory refl text (λ h. ⊎_elim no_long_line (λ k. k) h.1)
 
-  unrefused : (e : StatementError) → e ≢ error.Memory → Refuses (named s (Echo w)) limit use_of_line (Echo w) e → ⊥
-  unrefused e other h = refuses_not e other (subst (λ (z : State). Refuses z limit use_of_line (Echo w) e) same_state h)
+  may_not : (e : StatementError) → MayBeCause of_line s limit use_of_line e → ⊥
+  may_not error.Bindings h = absurd h.1
+  may_not error.Text h = ⊎_elim (λ k. absurd k.1) (λ k. k) h.1
+  may_not _ h = h
+
+  refuses_not : (e : StatementError) → e ≢ error.Memory → IsFirst of_line s limit use_of_line e → ⊥
+  refuses_not e other h = ⊎_elim (no_cause of_line s limit use_of_line none_applies e) (may_not e) h.applies
+
+  unrefused : (e : StatementError) → e ≢ error.Memory → IsFirst of_line (numbered of_line s) limit use_of_line e → ⊥
+  unrefused e other h = refuses_not e other (subst (λ (z : State). IsFirst of_line z limit use_of_line e) same_state h)
 
   -- ---- the answer
 
@@ -98,26 +98,32 @@ module _ (s : State) (limit : ℕ) (t : Tree) (bare : IsBare s) (own : IsOwnForm
 
   answer_is : (answer : Line) (next : State) → Answers s limit true (Say (Echo w)) answer next → IsSameLine s (tree_text s.names t) (Ok answer) next
   answer_is answer next h =
-      let a : AnswersSaid s limit true (Echo w) answer next = subst (λ (z : State). AnswersSaid z limit true (Echo w) answer next) same_state h in
-      let told = a.answered.1.1 in
-      same_line a.answered.1.0 answer next (told.2 ∙ ap₂ (λ ns g. tree_text ns g) a.named (told.1.0 ∙ same_tree)) (a.after ∙ ap (with_names s) a.named) a.answered.1.2
+      let a : AnswersSaid of_line s limit true answer next = subst (λ (z : State). AnswersSaid of_line z limit true answer next) same_state h in
+      let told = a.told in
+      same_line a.text answer next (told.2 ∙ ap₂ (λ ns g. tree_text ns g) a.named (told.1.0 ∙ same_tree)) (a.after ∙ ap (with_names s) a.named) a.line
 
   only : (result : Result Line StatementError) (next : State) → Reply s limit (line_text s.names t) result next → IsSameLine s (tree_text s.names t) result next
-  only (Ok answer) next r =
-      answer_is answer next (subst (λ (u : StatementTree). Answers s limit u.printed u.action answer next) (back.spells.alone r.statement r.spelled) ((answers_are s limit r.statement.printed r.statement.action answer next).0 r.answered))
+  only (Ok answer) next r = answer_is answer next (subst (λ (u : StatementTree). Answers s limit u.printed u.action answer next) (back.spells.alone r.statement r.spelled) r.answered)
   only (Err error.Memory) next r = tt
-  only (Err e) next r = absurd (never s limit (line_text s.names t) (printed_echo w) back.spells.spelled (λ d other h. unrefused d other ((refuses_are s limit true (Say (Echo w)) d other).0 h)) e next (λ m. absurd (cc)) r)
+  only (Err e) next r = absurd (never s limit (line_text s.names t) (printed_echo w) back.spells.spelled (λ d other h. unrefused d other h) e next (λ m. absurd (cc)) r)
 
   -- and there is this one
-  answers : (bytes : Vec ℕ Global) → bytes.items ≡ tree_text s.names t → AnswersCommand s limit true (Echo w) s.names (line.Printed bytes)
-  answers bytes e = (λ c l. no_cause c, (tree_text s.names t, (t, (sym same_tree, own.numbers), refl), (refl, e, let l = short in omega arith)))
+  answers : (bytes : Vec ℕ Global) → bytes.items ≡ tree_text s.names t → AnswersSaid of_line s limit true (line.Printed bytes) s
+  answers bytes e = record {
+    accepted = none_applies;
+    names = s.names;
+    named = refl;
+    text = tree_text s.names t;
+    told = (t, (sym same_tree, own.numbers), refl);
+    line = (refl, e, let l = short in omega arith);
+    after = refl;
+  }
 
   answered : (bytes : Vec ℕ Global) → bytes.items ≡ tree_text s.names t → Reply s limit (line_text s.names t) (Ok (line.Printed bytes)) s
   answered bytes e = record {
     statement = printed_echo w;
     spelled = back.spells.spelled;
-    answered = (answers_are s limit true (Say (Echo w)) (line.Printed bytes) s).1
-        (subst (λ (z : State). AnswersSaid z limit true (Echo w) (line.Printed bytes) s) (sym same_state) (record { names = s.names; named = refl; answered = answers bytes e; after = refl }));
+    answered = subst (λ (z : State). AnswersSaid of_line z limit true (line.Printed bytes) s) (sym same_state) (answers bytes e);
   }
 
 pub text_is_answered : TextIsAnswered

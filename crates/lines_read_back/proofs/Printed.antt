@@ -1,8 +1,9 @@
 -- What a formula command prints in a state in which nothing is bound is the text of a formula of the session.
-use Rattle.std.proofs.Common.{◌≡◌, inl, ℕ, ◌<◌, ◌≤◌, List, [], ◌++◌, true, length, codes, sym, ap, ◌∙◌, subst, arith}
+use Rattle.std.proofs.Common.{◌≡◌, refl, inl, inr, ℕ, ◌<◌, ◌≤◌, List, [], ◌++◌, true, length, codes, sym, ap, ◌∙◌, subst, arith}
 use Rattle.std.specs.Prelude.{None}
 use Rattle.formula_meaning.specs.Context.{Context}
 use Rattle.formula_meaning.specs.Every.{Every}
+use Rattle.formula_meaning.specs.Formula.{none, also}
 use Rattle.formula_meaning.specs.declared.junction.Junction.{Junction}
 use Rattle.formula_meaning.specs.declared.junction.Junction.TheVariants.{Conjunction, Disjunction}
 use Rattle.formula_meaning.specs.Shape.{IsQuantifierFree}
@@ -10,8 +11,8 @@ use Rattle.formula_meaning.specs.Sizes.{height}
 use Rattle.formula_meaning.specs.Tree.{Tree}
 use Rattle.qe_syntax.specs.Trees.{FormulaTree, FormulaTrees}
 use Rattle.qe_syntax.specs.Statements.{CommandTree, Echo, Nnf, Pnf, Dnf, Cnf, Simpl, Qe, Qea, Holds, Sample, Say, StatementTree}
-use Rattle.qe_syntax.specs.Writable.{IsWritableCommand, IsWritableFormula}
-use Rattle.formula_tree.specs.Resolving.{BoundTrees, place, names_after, all_variables}
+use Rattle.qe_syntax.specs.Writable.{IsWritableCommand, IsWritableFormula, AreWritableFormulas}
+use Rattle.formula_tree.specs.Resolving.{BoundTrees, place, names_after, all_variables, resolve}
 use Rattle.formula_tree.specs.Causes.{most_height, IsAccepted as IsResolvable, IsUnbound, NamesFormulaAsTerm, IsNonlinear, Divides, CongruenceInFields, IsBadModulus, IsTooDeep, OverflowsInReading}
 use Rattle.formula_tree.proofs.ResolvedHeight.{resolving_keeps_height}
 use Rattle.redlog_reader.specs.Statement.{IsDeep}
@@ -26,24 +27,22 @@ use Rattle.printed_formulas.proofs.Echo.{deep_text_is_nesting}
 use Rattle.session_meaning.specs.declared.line.Line.TheVariants as line
 use Rattle.session_meaning.specs.declared.line.StatementError.TheVariants as error
 use Rattle.session_meaning.specs.State.{State}
-use Rattle.session_commands.specs.Parts.{given_of}
 use Rattle.session_meaning.specs.FormulaAnswers.{negated_of, IsSimplification, IsCleanAnswer, IsCondition}
-use Rattle.session_commands.specs.Commands.{formula_of, entries_of, entry_names, named, resolved, IsFormulaFor, MayGive, HasAnswerNames}
-use Rattle.session_meaning.specs.Meaning.{meaning, GivesFormula}
-use Rattle.session_meaning.specs.Causes.{Use}
-use Rattle.session_commands.specs.Causes.{InSomePart, IsAccepted}
+use Rattle.session_meaning.specs.Meaning.{Meaning, Answer, OfFormula, OfText, GivesFormula, IsAllowed, MayGive, numbered, meaning}
+use Rattle.session_meaning.specs.Causes.{Use, SomeFormula, IsAccepted}
+use Rattle.session_meaning.specs.Reply.{Tells, Answers}
+use Rattle.session_commands.specs.Steps.{AreNumbered}
 use Rattle.session_state.specs.Keeping.{IsSessionFormula}
-use Rattle.session_commands.specs.Reply.{Tells, Answers}
 use Rattle.clean_forms.proofs.FormShapes.{form_free}
-use Rattle.session_commands.proofs.Agreement.{allowed_is, answers_are, numbered_is}
-use Rattle.session_commands.proofs.PartLemmas.{some_first}
+use Rattle.session_commands.proofs.CauseLemmas.{no_cause}
+use Rattle.session_commands.proofs.GivenLemmas.{numbered_in}
+use Rattle.formula_tree.proofs.PlaceLaws.{after_has, in_either}
 use Rattle.shared_forms.proofs.EliminatedLemmas.{unquantified_bound, within_of_names, free_below, none_from, all_below}
-use Rattle.session_state.proofs.NameLemmas.{numbers_stay}
 use Rattle.shared_forms.proofs.PrenexLemmas.{prenex_formula}
 use Rattle.session_state.proofs.SoundLemmas.{AreSessionFormulas, resolved_formula, negated_formula}
 use Rattle.lines_read_back.specs.ReadBack.{IsBare, IsEcho, IsPrinted, PrintedIsFormula, IsAnsweredBy, EchoIsAnswered}
 use Rattle.lines_read_back.proofs.Answered.{text_is_answered}
-use Rattle.lines_read_back.proofs.Bare.{proper_formula, named_variables, answer_variables, spelled_proper}
+use Rattle.lines_read_back.proofs.Bare.{proper_formulas, named_variables, answer_variables, spelled_proper}
 
 -- ---- what is given
 
@@ -52,37 +51,37 @@ none_bound : (c : Context) (n : ℕ) (bound : BoundTrees) → bound ≡ [] → A
 none_bound c n bound e = subst (AreSessionFormulas c n) (sym e) (λ x t h. absurd (cc))
 
 -- a state in which the variables of the command have their numbers, and which accepts it
-module _ (z : State) (limit : ℕ) (u : Use) (c : CommandTree) (numbers : names_after z.names (formula_of c) ≡ z.names) (proper : IsWritableFormula (formula_of c))
-    (unbound : z.bound ≡ []) (accepted : IsAccepted z limit u c) where
-  abbrev f : FormulaTree
-  f = formula_of c
-
+module _ (z : State) (limit : ℕ) (u : Use) (m : Meaning) (f : FormulaTree) (gs : FormulaTrees) (formulas : m.formulas ≡ also f gs) (numbers : names_after z.names f ≡ z.names) (proper : IsWritableFormula f)
+    (unbound : z.bound ≡ []) (accepted : IsAccepted m z limit u) where
   at_names : (P : (List ℕ → ℕ) → Type 0) → P (place (names_after z.names f)) → P (place z.names)
   at_names P h = subst (λ ns. P (place ns)) numbers h
 
-  some : (P : FormulaTree → Type 0) → P f → InSomePart c P
-  some P h = some_first P f (given_of c) h
+  some : (P : FormulaTree → Type 0) → P f → SomeFormula P m.formulas
+  some P h = subst (SomeFormula P) (sym formulas) (inl h)
 
   readable : IsResolvable z.context z.bound z.names f
   readable = record {
-    bound_names = λ h. accepted error.Unbound (omega arith) (some (IsUnbound z.bound) h);
-    variables = λ h. accepted error.FormulaAsTerm (omega arith) (inl (some (NamesFormulaAsTerm z.bound) h));
-    linear = λ h. accepted error.Nonlinear (omega arith) (some (IsNonlinear z.context (place z.names)) (at_names (λ p. IsNonlinear z.context p f) h));
-    undivided = λ h. accepted error.Division (omega arith) (some (Divides z.context (place z.names)) (at_names (λ p. Divides z.context p f) h));
-    congruences = λ h. accepted error.CongruenceContext (omega arith) (some (CongruenceInFields z.context) h);
-    moduli = λ h. accepted error.Modulus (omega arith) (some (IsBadModulus z.context (place z.names)) (at_names (λ p. IsBadModulus z.context p f) h));
-    flat = λ h. accepted error.Depth (omega arith) (some (IsTooDeep z.bound) h);
-    within = λ h. accepted error.Overflow (omega arith) (inl (some (OverflowsInReading z.context z.bound (place z.names)) (at_names (λ p. OverflowsInReading z.context z.bound p f) h)));
+    bound_names = λ h. no_cause m z limit u accepted error.Unbound (some (IsUnbound z.bound) h);
+    variables = λ h. no_cause m z limit u accepted error.FormulaAsTerm (inl (some (NamesFormulaAsTerm z.bound) h));
+    linear = λ h. no_cause m z limit u accepted error.Nonlinear (some (IsNonlinear z.context (place z.names)) (at_names (λ p. IsNonlinear z.context p f) h));
+    undivided = λ h. no_cause m z limit u accepted error.Division (some (Divides z.context (place z.names)) (at_names (λ p. Divides z.context p f) h));
+    congruences = λ h. no_cause m z limit u accepted error.CongruenceContext (some (CongruenceInFields z.context) h);
+    moduli = λ h. no_cause m z limit u accepted error.Modulus (some (IsBadModulus z.context (place z.names)) (at_names (λ p. IsBadModulus z.context p f) h));
+    flat = λ h. no_cause m z limit u accepted error.Depth (some (IsTooDeep z.bound) h);
+    within = λ h. no_cause m z limit u accepted error.Overflow (inl (some (OverflowsInReading z.context z.bound (place z.names)) (at_names (λ p. OverflowsInReading z.context z.bound p f) h)));
   }
 
-  resolved_one : IsSessionFormula z.context (length z.names) (resolved z c)
+  abbrev read : Tree
+  read = resolve z.context z.bound z.names f
+
+  resolved_one : IsSessionFormula z.context (length z.names) (read)
   resolved_one = resolved_formula z.context z.bound z.names f (none_bound z.context (length z.names) z.bound unbound) numbers proper readable
 
-  resolved_low : height (resolved z c) ≤ most_height
-  resolved_low = let e = resolving_keeps_height z.context z.bound z.names f in let flat : ¬ (most_height < height (resolved z c)) = (λ h. readable.flat (subst (λ n. most_height < n) e h)) in omega arith
+  resolved_low : height (read) ≤ most_height
+  resolved_low = let e = resolving_keeps_height z.context z.bound z.names f in let flat : ¬ (most_height < height (read)) = (λ h. readable.flat (subst (λ n. most_height < n) e h)) in omega arith
 
   negated_one : IsSessionFormula z.context (length z.names) (negated_of z f)
-  negated_one = negated_formula z.context (length z.names) (resolved z c) resolved_one
+  negated_one = negated_formula z.context (length z.names) (read) resolved_one
 
   condition_formula : (gs : FormulaTrees) (t : Tree) → IsCondition z limit f gs t → IsSessionFormula z.context (length z.names) t
   condition_formula gs t h =
@@ -90,7 +89,7 @@ module _ (z : State) (limit : ℕ) (u : Use) (c : CommandTree) (numbers : names_
       record {
         normal = h.normal;
         within = record {
-          atoms = within_of_names z.context (length z.names) t h.normal bound (λ x m. free_below (length z.names) x (resolved z c) resolved_one.within.atoms (h.names x m));
+          atoms = within_of_names z.context (length z.names) t h.normal bound (λ x m. free_below (length z.names) x (read) resolved_one.within.atoms (h.names x m));
           quantified = bound;
         };
         members = h.members;
@@ -127,28 +126,28 @@ module _ (z next : State) (limit : ℕ) (u : Use) (context : next.context ≡ z.
   same_formula : next.names ≡ z.names → IsSessionFormula z.context (length z.names) t → IsSessionFormula next.context (length next.names) t
   same_formula n h = subst (λ c. IsSessionFormula c (length next.names) t) (sym context) (subst (λ ns. IsSessionFormula z.context (length ns) t) (sym n) h)
 
-  given_formula : (c : CommandTree) → GivesFormula (meaning c).answer → names_after z.names (formula_of c) ≡ z.names → IsWritableFormula (formula_of c) → z.bound ≡ [] → IsAccepted z limit u c
-      → IsFormulaFor z limit c t → HasAnswerNames z c next.names → IsSessionFormula next.context (length next.names) t
+  given_formula : (c : CommandTree) → GivesFormula (meaning c).answer → AreNumbered z.names (meaning c).formulas → AreWritableFormulas (meaning c).formulas → z.bound ≡ [] → IsAccepted (meaning c) z limit u
+      → IsAllowed (meaning c).answer z limit t → (meaning c).names z next.names → IsSessionFormula next.context (length next.names) t
   given_formula (Echo f) b numbers proper unbound accepted h n =
-      same_formula n (subst (IsSessionFormula z.context (length z.names)) (sym h) (resolved_one z limit u (Echo f) numbers proper unbound accepted))
+      same_formula n (subst (IsSessionFormula z.context (length z.names)) (sym h) (resolved_one z limit u (meaning (Echo f)) f none refl numbers.0 proper.0 unbound accepted))
   given_formula (Nnf f) b numbers proper unbound accepted h n =
       same_formula n (subst (IsSessionFormula z.context (length z.names)) (sym h)
-      (negated_formula z.context (length z.names) (resolved z (Nnf f)) (resolved_one z limit u (Nnf f) numbers proper unbound accepted)))
+      (negated_formula z.context (length z.names) (resolve z.context z.bound z.names f) (resolved_one z limit u (meaning (Nnf f)) f none refl numbers.0 proper.0 unbound accepted)))
   given_formula (Pnf f) b numbers proper unbound accepted h n =
       subst (λ c. IsSessionFormula c (length next.names) t) (sym context)
-      (prenex_formula z.context z.names next.names (resolved z (Pnf f)) t (resolved_one z limit u (Pnf f) numbers proper unbound accepted) h.form n)
-  given_formula (Dnf f) b numbers proper unbound accepted h n = same_formula n (clean_one z limit u (Dnf f) numbers proper unbound accepted Conjunction t h)
-  given_formula (Cnf f) b numbers proper unbound accepted h n = same_formula n (clean_one z limit u (Cnf f) numbers proper unbound accepted Disjunction t h)
-  given_formula (Simpl f given) b numbers proper unbound accepted h n = same_formula n (simplified_one z limit u (Simpl f given) numbers proper unbound accepted given t h)
-  given_formula (Qe f given) b numbers proper unbound accepted h n = same_formula n (condition_formula z limit u (Qe f given) numbers proper unbound accepted given t h)
+      (prenex_formula z.context z.names next.names (resolve z.context z.bound z.names f) t (resolved_one z limit u (meaning (Pnf f)) f none refl numbers.0 proper.0 unbound accepted) h.form n)
+  given_formula (Dnf f) b numbers proper unbound accepted h n = same_formula n (clean_one z limit u (meaning (Dnf f)) f none refl numbers.0 proper.0 unbound accepted Conjunction t h)
+  given_formula (Cnf f) b numbers proper unbound accepted h n = same_formula n (clean_one z limit u (meaning (Cnf f)) f none refl numbers.0 proper.0 unbound accepted Disjunction t h)
+  given_formula (Simpl f given) b numbers proper unbound accepted h n = same_formula n (simplified_one z limit u (meaning (Simpl f given)) f given refl numbers.0 proper.0 unbound accepted given t h)
+  given_formula (Qe f given) b numbers proper unbound accepted h n = same_formula n (condition_formula z limit u (meaning (Qe f given)) f given refl numbers.0 proper.0 unbound accepted given t h)
   given_formula (Qea f g) b numbers proper unbound accepted h n = absurd b
   given_formula (Holds f es) b numbers proper unbound accepted h n = absurd b
   given_formula (Sample f es) b numbers proper unbound accepted h n = absurd b
 
-  given_low : (c : CommandTree) → names_after z.names (formula_of c) ≡ z.names → IsWritableFormula (formula_of c) → z.bound ≡ [] → IsAccepted z limit u c
-      → IsFormulaFor z limit c t → IsEcho c → height t ≤ most_height
+  given_low : (c : CommandTree) → AreNumbered z.names (meaning c).formulas → AreWritableFormulas (meaning c).formulas → z.bound ≡ [] → IsAccepted (meaning c) z limit u
+      → IsAllowed (meaning c).answer z limit t → IsEcho c → height t ≤ most_height
   given_low (Echo f) numbers proper unbound accepted h k =
-      subst (λ (t : Tree). height t ≤ most_height) (sym h) (resolved_low z limit u (Echo f) numbers proper unbound accepted)
+      subst (λ (t : Tree). height t ≤ most_height) (sym h) (resolved_low z limit u (meaning (Echo f)) f none refl numbers.0 proper.0 unbound accepted)
   given_low (Nnf f) numbers proper unbound accepted h k = absurd k
   given_low (Pnf f) numbers proper unbound accepted h k = absurd k
   given_low (Dnf f) numbers proper unbound accepted h k = absurd k
@@ -171,47 +170,39 @@ read_again next t text bare own fits text_is low short shallow more =
     subst (λ ts. IsAnsweredBy next more (ts ++ codes ";") ts) (sym text_is)
     (text_is_answered next more t bare (record { formula = own; numbers = fits; low = low }) (record { short = line_short; shallow = omega arith }))
 
-told_formula : (z : State) (limit : ℕ) (c : CommandTree) (names : List (List ℕ)) (text : List ℕ) → GivesFormula (meaning c).answer → Tells z limit c names text → (t : Tree) × MayGive z limit c t × (text ≡ tree_text names t)
-told_formula z limit (Echo f) names text b h = h
-told_formula z limit (Nnf f) names text b h = h
-told_formula z limit (Pnf f) names text b h = h
-told_formula z limit (Qe f given) names text b h = h
-told_formula z limit (Dnf f) names text b h = h
-told_formula z limit (Cnf f) names text b h = h
-told_formula z limit (Simpl f g) names text b h = h
-told_formula z limit (Qea f g) names text b h = absurd b
-told_formula z limit (Holds f es) names text b h = absurd b
-told_formula z limit (Sample f es) names text b h = absurd b
+told_formula : (a : Answer) (z : State) (limit : ℕ) (names : List (List ℕ)) (text : List ℕ) → GivesFormula a → Tells a z limit names text → (t : Tree) × MayGive a z limit t × (text ≡ tree_text names t)
+told_formula (OfFormula a) z limit names text b h = h
+told_formula (OfText tells) z limit names text b h = absurd b
 
 abbrev use_of_line : Use
 use_of_line = record { target = None; printed = true }
 
 pub printed_is_formula : PrintedIsFormula
 printed_is_formula s limit piece c bytes next bare built spelled r =
-    let a = subst (λ (u : StatementTree). Answers s limit u.printed u.action (line.Printed bytes) next) (spells_once piece r.statement (record { action = Say c; printed = true }) r.spelled spelled)
-    ((answers_are s limit r.statement.printed r.statement.action (line.Printed bytes) next).0 r.answered) in
-    let z = named s c in
+    let m = meaning c in
+    let a = subst (λ (u : StatementTree). Answers s limit u.printed u.action (line.Printed bytes) next) (spells_once piece r.statement (record { action = Say c; printed = true }) r.spelled spelled) r.answered in
+    let z = numbered m s in
     let proper : IsWritableCommand c = spelled_proper spelled in
     let names : next.names ≡ a.names = ap (λ (y : State). y.names) a.after in
-    let told = told_formula z limit c a.names a.answered.1.0 built a.answered.1.1 in
-    let text_is : bytes.items ≡ tree_text next.names told.0 = a.answered.1.2.1 ∙ told.2 ∙ ap (λ ns. tree_text ns told.0) (sym names) in
-    let numbers = numbers_stay (formula_of c) s.names (all_variables (given_of c) ++ entry_names (entries_of c)) in
-    let after : HasAnswerNames z c next.names = subst (HasAnswerNames z c) (sym names) a.named in
+    let told = told_formula m.answer z limit a.names a.text built a.told in
+    let text_is : bytes.items ≡ tree_text next.names told.0 = a.line.1 ∙ told.2 ∙ ap (λ ns. tree_text ns told.0) (sym names) in
+    let numbers : AreNumbered z.names m.formulas = numbered_in m.formulas z.names (λ x i. after_has (all_variables m.formulas ++ m.further) s.names x (inr (in_either x (all_variables m.formulas) m.further (inl i)))) in
+    let after : m.names z next.names = subst (m.names z) (sym names) a.named in
     let bare_next : IsBare next = record {
       names = answer_variables z c next.names (named_variables s c proper bare.names) after;
       unbound = ap (λ (y : State). y.bound) a.after ∙ bare.unbound;
     } in
     let same : next.context ≡ z.context = ap (λ (y : State). y.context) a.after in
-    let own = given_formula z next limit use_of_line same told.0 c built numbers (proper_formula c proper) bare.unbound a.answered.0 told.1.0 after in
+    let own = given_formula z next limit use_of_line same told.0 c built numbers (proper_formulas c proper) bare.unbound a.accepted told.1.0 after in
     let here : IsPrinted z limit c bytes.items next = record {
       tree = told.0;
-      given = (allowed_is z limit c told.0).1 told.1;
+      given = told.1;
       text_is = text_is;
       formula = own;
-      low = given_low z next limit use_of_line same told.0 c numbers (proper_formula c proper) bare.unbound a.answered.0 told.1.0;
+      low = given_low z next limit use_of_line same told.0 c numbers (proper_formulas c proper) bare.unbound a.accepted told.1.0;
       answered = read_again next told.0 bytes.items bare_next own told.1.1 text_is;
     } in
-    (bare_next, subst (λ y. IsPrinted y limit c bytes.items next) (sym (numbered_is s c)) here)
+    (bare_next, here)
 
 pub echo_is_answered : EchoIsAnswered
 echo_is_answered s limit piece f bytes next bare spelled r short shallow more =

@@ -1,7 +1,8 @@
 -- What a formula command answers is the answer of its statement.
-use Rattle.std.proofs.Common.{ap, ◌≡◌, ℕ, zero, suc, ◌<◌, ◌≤◌, arith, List, Bool, Some, None, sym, subst, refl}
+use Rattle.formula_meaning.specs.Tree.{Tree}
+use Rattle.std.proofs.Common.{⊎_elim, ap, ◌≡◌, ℕ, zero, suc, ◌<◌, ◌≤◌, arith, List, Bool, Some, None, sym, subst, refl}
 use Rattle.std.specs.Prelude.{Result, Ok, Err, IfOk, OnOk, IfErr, OnErr}
-use Rattle.qe_syntax.specs.Statements.{CommandTree, Qea, Holds, Sample, ActionTree, Empty, Ignored, Finish, Choose, Say, Assign, StatementTree}
+use Rattle.qe_syntax.specs.Statements.{CommandTree, ActionTree, Empty, Ignored, Finish, Choose, Say, Assign, StatementTree}
 use Rattle.redlog_reader.specs.Grammar.{SpellsResult, echo, nnf, pnf, dnf, cnf, simpl, qe, SpellsAction, assign, SpellsStatement, nothing, acting}
 use Rattle.redlog_tokens.specs.declared.terminal.Terminal.{Terminal}
 use Rattle.redlog_reader.specs.Statement.{Spells}
@@ -9,17 +10,16 @@ use Rattle.formula_meaning.specs.Tree.{tree_distinct}
 use Rattle.session_meaning.specs.declared.TheConstants.{MOST_SUBFORMULAS}
 use Rattle.session_meaning.specs.declared.line.Line.{Line}
 use Rattle.session_meaning.specs.State.{State, with_names}
-use Rattle.session_commands.specs.Commands.{named, HasAnswerNames, GivesFormula, BindsFormula}
-use Rattle.session_commands.specs.Steps.{use_of, IsFormulaAnswer, IsStopped}
+use Rattle.session_commands.specs.Replies.{use_of, Refuses, IsStopped, IsFormulaAnswer, IsQueryAnswer, BindsFormula}
+use Rattle.session_meaning.specs.Meaning.{Answer, OfFormula, OfText, meaning, numbered, Meaning, MayGive, GivesFormula}
+use Rattle.session_meaning.specs.Causes.{Use, formula_line, IsFirst}
+use Rattle.session_meaning.specs.Reply.{Tells, AnswersSaid, Answers, RefusesAction, SpellsRefused, Reply}
 use Rattle.session_meaning.specs.declared.line.StatementError.{StatementError}
 use Rattle.session_meaning.specs.declared.line.StatementError.TheVariants as error
-use Rattle.session_meaning.specs.Causes.{Use, formula_line}
-use Rattle.session_commands.specs.Causes.{Refuses}
-use Rattle.session_commands.specs.Reply.{IsFormulaText, Tells, AnswersCommand, AnswersSaid, Answers, RefusesAction, SpellsRefused, Reply}
 
 -- ---- statements bind formulas
 
-result_gives : {ts rest : List Terminal} {c : CommandTree} → SpellsResult ts c rest → GivesFormula c
+result_gives : {ts rest : List Terminal} {c : CommandTree} → SpellsResult ts c rest → GivesFormula (meaning c).answer
 result_gives (echo f) = tt
 result_gives (nnf f) = tt
 result_gives (pnf f) = tt
@@ -43,18 +43,19 @@ spelled_binds piece t h = statement_binds h.spelled
 -- ---- commands
 
 -- a command that gives a formula is answered with its text
-formula_told : (c : CommandTree) (s : State) (limit : ℕ) (names : List (List ℕ)) (text : List ℕ) → IsFormulaText s limit c names text → Tells s limit c names text
-formula_told (Qea f given) s limit names text h = absurd h.1.0
-formula_told (Holds f es) s limit names text h = absurd h.1.0
-formula_told (Sample f es) s limit names text h = absurd h.1.0
-formula_told c s limit names text h = h
+formula_text : (a : Answer) (s : State) (limit : ℕ) (names : List (List ℕ)) (t : Tree) → MayGive a s limit t → Tells a s limit names (formula_line None names t)
+formula_text (OfFormula a) s limit names t h = (t, h, refl)
+formula_text (OfText tells) s limit names t h = absurd h.0
 
-pub formula_answered : {E : Type 0} (r : Result Line E) (c : CommandTree) (s next : State) (limit : ℕ) (printed : Bool) → IfOk r (λ answer. IsFormulaAnswer (named s c) limit (use_of None printed) c answer next)
-    → IfOk r (λ answer. AnswersSaid (named s c) limit printed c answer next)
+pub formula_answered : {E : Type 0} (r : Result Line E) (c : CommandTree) (s next : State) (limit : ℕ) (printed : Bool) → IfOk r (λ answer. IsFormulaAnswer (numbered (meaning c) s) limit (use_of None printed) c answer next)
+    → IfOk r (λ answer. AnswersSaid (meaning c) (numbered (meaning c) s) limit printed answer next)
 formula_answered (Ok answer) c s next limit printed h = record {
+  accepted = h.accepted;
   names = h.names;
   named = h.named;
-  answered = (h.accepted, (formula_line None h.names h.formula, formula_told c (named s c) limit h.names _ (h.formula, h.given, refl), h.line));
+  text = formula_line None h.names h.formula;
+  told = formula_text (meaning c).answer (numbered (meaning c) s) limit h.names h.formula h.allowed;
+  line = h.line;
   after = h.after;
 }
 formula_answered (Err e) c s next limit printed h = tt
@@ -66,44 +67,47 @@ at_most (suc a) (suc b) h = let k = at_most a b (λ l. h (omega (arith, l))) in 
 
 -- an assignment, for a command that is known to be this one
 pub formula_assigned : {E : Type 0} (r : Result Line E) (a : ActionTree) (x : List ℕ) (c : CommandTree) (s next : State) (limit : ℕ) (printed : Bool) → a ≡ Assign x c
-    → IfOk r (λ answer. IsFormulaAnswer (named s c) limit (use_of (Some x) printed) c answer next) → IfOk r (λ answer. Answers s limit printed a answer next)
+    → IfOk r (λ answer. IsFormulaAnswer (numbered (meaning c) s) limit (use_of (Some x) printed) c answer next) → IfOk r (λ answer. Answers s limit printed a answer next)
 formula_assigned (Ok answer) a x c s next limit printed e h =
     subst (λ b. Answers s limit printed b answer next) (sym e)
-    (record { accepted = h.accepted; formula = h.formula; given = h.given; names = h.names; named = h.named; line = h.line; small = at_most MOST_SUBFORMULAS (tree_distinct h.formula) h.small; binds = h.after })
+    (record { accepted = h.accepted; formula = h.formula; allowed = h.allowed; names = h.names; named = h.named; line = h.line; small = at_most MOST_SUBFORMULAS (tree_distinct h.formula) h.small; binds = h.after })
 formula_assigned (Err e) a x c s next limit printed p h = tt
 
 -- a command that gives no formula
-pub query_answered : {E : Type 0} (r : Result Line E) (d c : CommandTree) (s next : State) (limit : ℕ) (printed : Bool) → c ≡ d → HasAnswerNames (named s d) d (named s d).names
-    → IfOk r (AnswersCommand (named s d) limit printed d next.names) → OnOk r (next ≡ named s d) → IfOk r (λ answer. AnswersSaid (named s c) limit printed c answer next)
+pub query_answered : {E : Type 0} (r : Result Line E) (d c : CommandTree) (s next : State) (limit : ℕ) (printed : Bool) → c ≡ d → (meaning d).names (numbered (meaning d) s) (numbered (meaning d) s).names
+    → IfOk r (IsQueryAnswer (numbered (meaning d) s) limit printed d next.names) → OnOk r (next ≡ numbered (meaning d) s) → IfOk r (λ answer. AnswersSaid (meaning c) (numbered (meaning c) s) limit printed answer next)
 query_answered (Ok answer) d c s next limit printed e same h k =
-    subst (λ x. AnswersSaid (named s x) limit printed x answer next) (sym e) (record {
+    subst (λ x. AnswersSaid (meaning x) (numbered (meaning x) s) limit printed answer next) (sym e) (record {
+      accepted = h.accepted;
       names = next.names;
-      named = subst (λ (ns : List (List ℕ)). HasAnswerNames (named s d) d ns) (sym (ap (λ (u : State). u.names) k)) same;
-      answered = h;
-      after = subst (λ (u : State). u ≡ with_names (named s d) u.names) (sym k) refl;
+      named = subst (λ (ns : List (List ℕ)). (meaning d).names (numbered (meaning d) s) ns) (sym (ap (λ (u : State). u.names) k)) same;
+      text = h.text;
+      told = h.told;
+      line = h.line;
+      after = subst (λ (u : State). u ≡ with_names (numbered (meaning d) s) u.names) (sym k) refl;
     })
 query_answered (Err e) d c s next limit printed p same h k = tt
 
 -- a command that is refused, which is known to be this one
-pub refused_as : {T : Type 0} (r : Result T StatementError) (d c : CommandTree) (s : State) (limit : ℕ) (u : Use) → c ≡ d → IfErr r (Refuses (named s d) limit u d)
-    → IfErr r (Refuses (named s c) limit u c)
-refused_as r d c s limit u e h = subst (λ x. IfErr r (Refuses (named s x) limit u x)) (sym e) h
+pub refused_as : {T : Type 0} (r : Result T StatementError) (d c : CommandTree) (s : State) (limit : ℕ) (u : Use) → c ≡ d → IfErr r (Refuses (numbered (meaning d) s) limit u d)
+    → IfErr r (Refuses (numbered (meaning c) s) limit u c)
+refused_as r d c s limit u e h = subst (λ x. IfErr r (Refuses (numbered (meaning x) s) limit u x)) (sym e) h
 
 -- a command that is the statement
-pub say_answered : {E : Type 0} (r : Result Line E) (a : ActionTree) (c : CommandTree) (s next : State) (limit : ℕ) (printed : Bool) → a ≡ Say c → IfOk r (λ answer. AnswersSaid (named s c) limit printed c answer next)
+pub say_answered : {E : Type 0} (r : Result Line E) (a : ActionTree) (c : CommandTree) (s next : State) (limit : ℕ) (printed : Bool) → a ≡ Say c → IfOk r (λ answer. AnswersSaid (meaning c) (numbered (meaning c) s) limit printed answer next)
     → IfOk r (λ answer. Answers s limit printed a answer next)
 say_answered r a c s next limit printed e h = subst (λ b. IfOk r (λ answer. Answers s limit printed b answer next)) (sym e) h
 
 -- ---- the reply
 
--- where no command is refused with the word, no statement is
-no_word : (e : StatementError) → ((s : State) (limit : ℕ) (u : Use) (c : CommandTree) → ¬ (Refuses s limit u c e)) → (s : State) (limit : ℕ) (printed : Bool) (a : ActionTree) → ¬ (RefusesAction s limit printed a e)
+-- the words of what is wrong with the text are no causes of a command
+no_word : (e : StatementError) → ((m : Meaning) (s : State) (limit : ℕ) (u : Use) → ¬ (IsFirst m s limit u e)) → (s : State) (limit : ℕ) (printed : Bool) (a : ActionTree) → ¬ (RefusesAction s limit printed a e)
 no_word e none s limit printed Empty h = h
 no_word e none s limit printed Ignored h = h
 no_word e none s limit printed Finish h = h
 no_word e none s limit printed (Choose w) h = h
-no_word e none s limit printed (Say c) h = none (named s c) limit (use_of None printed) c h
-no_word e none s limit printed (Assign x c) h = none (named s c) limit (use_of (Some x) printed) c h
+no_word e none s limit printed (Say c) h = none (meaning c) (numbered (meaning c) s) limit (use_of None printed) h
+no_word e none s limit printed (Assign x c) h = none (meaning c) (numbered (meaning c) s) limit (use_of (Some x) printed) h
 
 module _ (s next : State) (limit : ℕ) (piece : List ℕ) (t : StatementTree) (spelled : Spells piece t) where
   spelled_refused : (e : StatementError) → RefusesAction s limit t.printed t.action e → SpellsRefused s limit piece e
@@ -111,11 +115,24 @@ module _ (s next : State) (limit : ℕ) (piece : List ℕ) (t : StatementTree) (
 
   reply_to_stop : (e : StatementError) → next ≡ s → IsStopped s limit t e → Reply s limit piece (Err e) next
   reply_to_stop error.Memory p h = tt
-  reply_to_stop error.Syntax p h = absurd (no_word error.Syntax (λ s l u c k. k.applies) s limit t.printed t.action h)
-  reply_to_stop error.Long p h = absurd (no_word error.Long (λ s l u c k. k.applies) s limit t.printed t.action h)
-  reply_to_stop error.Lexical p h = absurd (no_word error.Lexical (λ s l u c k. k.applies) s limit t.printed t.action h)
-  reply_to_stop error.Nesting p h = absurd (no_word error.Nesting (λ s l u c k. k.applies) s limit t.printed t.action h)
-  reply_to_stop e p h = (p, spelled_refused e h)
+  reply_to_stop error.Syntax p h = absurd (no_word error.Syntax (λ m s l u k. ⊎_elim (λ x. x) (λ x. x) k.applies) s limit t.printed t.action (h (λ q. absurd (cc (q)))))
+  reply_to_stop error.Long p h = absurd (no_word error.Long (λ m s l u k. ⊎_elim (λ x. x) (λ x. x) k.applies) s limit t.printed t.action (h (λ q. absurd (cc (q)))))
+  reply_to_stop error.Lexical p h = absurd (no_word error.Lexical (λ m s l u k. ⊎_elim (λ x. x) (λ x. x) k.applies) s limit t.printed t.action (h (λ q. absurd (cc (q)))))
+  reply_to_stop error.Nesting p h = absurd (no_word error.Nesting (λ m s l u k. ⊎_elim (λ x. x) (λ x. x) k.applies) s limit t.printed t.action (h (λ q. absurd (cc (q)))))
+  reply_to_stop error.Unbound p h = (p, spelled_refused error.Unbound (h (λ q. absurd (cc (q)))))
+  reply_to_stop error.FormulaAsTerm p h = (p, spelled_refused error.FormulaAsTerm (h (λ q. absurd (cc (q)))))
+  reply_to_stop error.Nonlinear p h = (p, spelled_refused error.Nonlinear (h (λ q. absurd (cc (q)))))
+  reply_to_stop error.Division p h = (p, spelled_refused error.Division (h (λ q. absurd (cc (q)))))
+  reply_to_stop error.CongruenceContext p h = (p, spelled_refused error.CongruenceContext (h (λ q. absurd (cc (q)))))
+  reply_to_stop error.Modulus p h = (p, spelled_refused error.Modulus (h (λ q. absurd (cc (q)))))
+  reply_to_stop error.Depth p h = (p, spelled_refused error.Depth (h (λ q. absurd (cc (q)))))
+  reply_to_stop error.Point p h = (p, spelled_refused error.Point (h (λ q. absurd (cc (q)))))
+  reply_to_stop error.Unvalued p h = (p, spelled_refused error.Unvalued (h (λ q. absurd (cc (q)))))
+  reply_to_stop error.Quantified p h = (p, spelled_refused error.Quantified (h (λ q. absurd (cc (q)))))
+  reply_to_stop error.Overflow p h = (p, spelled_refused error.Overflow (h (λ q. absurd (cc (q)))))
+  reply_to_stop error.Nodes p h = (p, spelled_refused error.Nodes (h (λ q. absurd (cc (q)))))
+  reply_to_stop error.Bindings p h = (p, spelled_refused error.Bindings (h (λ q. absurd (cc (q)))))
+  reply_to_stop error.Text p h = (p, spelled_refused error.Text (h (λ q. absurd (cc (q)))))
 
   pub reply_to : (r : Result Line StatementError) → IfOk r (λ answer. Answers s limit t.printed t.action answer next) → IfErr r (IsStopped s limit t) → OnErr r (next ≡ s) → Reply s limit piece r next
   reply_to (Ok answer) a b k = record { statement = t; spelled = spelled; answered = a }

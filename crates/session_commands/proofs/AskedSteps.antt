@@ -1,6 +1,7 @@
 -- From step to step of what is asked at a point.
 use Rattle.std.proofs.Common.{◌≡◌, inl, inr, ℕ, List, [], ◌∷◌, ◌++◌, Option, Some, None, MatchOption, sym, ap, ◌∙◌, subst, refl}
 use Rattle.std.specs.Prelude.{Result, OnOk}
+use Rattle.std.proofs.lemmas.List.{append-nil}
 use Rattle.std.specs.List.{IsDistinct, AllByRecursion, fold}
 use Rattle.formula_meaning.specs.Every.{Every}
 use Rattle.formula_meaning.specs.Point.{Of}
@@ -29,11 +30,11 @@ use Rattle.session_meaning.specs.declared.line.StatementError.{StatementError}
 use Rattle.session_meaning.specs.declared.line.StatementError.TheVariants as error
 use Rattle.session_state.specs.declared.state.SessionState.{SessionState}
 use Rattle.session_meaning.specs.State.{State}
-use Rattle.session_commands.specs.Asked.{HaveNumbers, RefusesBoth, IsReadAs, IsMeantPoint, PointStop, IsValued, ValuedStop, IsAsked}
-use Rattle.session_commands.specs.Commands.{named, entry_names}
+use Rattle.session_commands.specs.Steps.{HasNumbers, IsReadable}
+use Rattle.session_commands.specs.Asked.{HaveNumbers, RefusesBoth, entry_names, IsReadAs, IsMeantPoint, PointStop, IsValued, ValuedStop, IsAsked}
+use Rattle.session_meaning.specs.Meaning.{meaning, numbered}
 use Rattle.session_state.specs.Keeping.{state_of, IsSessionState}
 use Rattle.session_meaning.specs.Points.{MeanNoPoint}
-use Rattle.session_commands.specs.Steps.{HasNumbers, IsReadable}
 use Rattle.session_state.specs.Growth.{KeepsState}
 use Rattle.session_commands.proofs.AskedLemmas.{no_point, not_valued, reading_passes, point_passes, all_clear}
 use Rattle.session_commands.proofs.CaseSteps.{on_ok}
@@ -87,14 +88,14 @@ module _ (old new : SessionState) (f : FormulaTree) (es : List PointEntry) (stat
         all_asked i q id_is point_is proper =
             let formula : IsReadable s f × IsMade (IsId new.store) (tree new.store) i (resolve s.context s.bound s.names f)
             = subst (λ o. MatchOption o (OverflowsInReading s.context s.bound (place s.names) f) (λ j. IsReadable s f × IsMade (IsId new.store) (tree new.store) j (resolve s.context s.bound s.names f))) id_is read.formula in
-            let numbered : IsPointOf es (point_of q) × (¬ (PassesLimit es))
+            let with_numbers : IsPointOf es (point_of q) × (¬ (PassesLimit es))
             = subst (λ o. MatchOption o (PassesLimit es) (λ p. IsPointOf es (point_of p) × (¬ (PassesLimit es)))) point_is meant.numbers in
             record {
               readable = formula.0;
               made = formula.1;
-              meant = numbered.0;
-              theory = of_theory s.context es (point_of q) proper means numbered.0;
-              clear = all_clear s f es numbers read.clear means here numbered.1 formula.0;
+              meant = with_numbers.0;
+              theory = of_theory s.context es (point_of q) proper means with_numbers.0;
+              clear = all_clear s f es numbers read.clear means here with_numbers.1 formula.0;
             }
 
   -- ---- what is asked
@@ -126,8 +127,8 @@ module _ (state : SessionState) (names : List (List ℕ)) (f : FormulaTree) (es 
   abbrev pub named_session : SessionState
   named_session = record { alloc = state.alloc; context = state.context; names = names; bindings = state.bindings; store = state.store; kept = state.kept }
 
-  pub start : state_of named_session ≡ named (state_of state) (Holds f es)
-  start = state_parts _ _ _ _ _ _ refl is refl
+  pub start : state_of named_session ≡ numbered (meaning (Holds f es)) (state_of state)
+  start = state_parts _ _ _ _ _ _ refl (is ∙ ap (λ xs. fold with_name state.names (xs ++ entry_names es)) (sym (append-nil (formula_variables f)))) refl
 
   pub session_named : IsSessionState named_session
   session_named = record {
@@ -147,7 +148,7 @@ module _ (state : SessionState) (names : List (List ℕ)) (f : FormulaTree) (es 
       (each_entry es _ (λ e k. after_has (formula_variables f ++ entry_names es) state.names e.name (inr (in_either e.name (formula_variables f) (entry_names es) (inr (entry_name e.name es k))))))
 
   module _ (later : SessionState) (k : KeepsState named_session later) where
-    pub state_later : {E : Type 0} (r : Result E StatementError) → OnOk r (state_of later ≡ named (state_of state) (Holds f es))
+    pub state_later : {E : Type 0} (r : Result E StatementError) → OnOk r (state_of later ≡ numbered (meaning (Holds f es)) (state_of state))
     state_later r = on_ok r (same_state named_session later h.ids k ∙ start)
 
     pub session_later : {E : Type 0} (r : Result E StatementError) → OnOk r (IsSessionState later)

@@ -22,9 +22,10 @@ use Rattle.session_meaning.specs.declared.line.StatementError.{StatementError}
 use Rattle.session_meaning.specs.declared.line.StatementError.TheVariants as error
 use Rattle.session_meaning.specs.State.{State}
 use Rattle.session_meaning.specs.Assumptions.{atoms_alone, assumed, Hold}
-use Rattle.session_commands.specs.declared.formulas.FormCommand.{FormCommand}
-use Rattle.session_commands.specs.Steps.{given_trees, HasUnwantedQuantifier, IsUnready, static_refusal, HasNumbers, IsReadable, ArePartsNumbered, ArePartsReadable, ArePartsUnread, AppliesToPart, AppliesToSome, IsFirstPartCause, FirstAmong, first_of, earlier_of, IsFirstWith}
-use Rattle.session_commands.proofs.PartLemmas.{no_part, some_listed, each_of_list}
+use Rattle.session_commands.specs.Steps.{static_refusal, HasNumbers, IsReadable, AreNumbered, AreReadable, AppliesAmong, IsFirstCauseAmong, AreUnread, FirstAmong, first_of, earlier_of, AppliesToSome, IsFirstWith}
+use Rattle.session_meaning.specs.Words.{before}
+use Rattle.session_commands.proofs.PartLemmas.{no_formula, some_listed, each_of_list}
+use Rattle.session_commands.proofs.CauseLemmas.{readable_part}
 use Rattle.session_commands.proofs.TruthLemmas.{truth_as_written}
 
 module _ (F : Atom → Type 0) where
@@ -64,17 +65,15 @@ module _ (s : State) (distinct : IsDistinct same_name s.names) (p : NamedPoint) 
   one_says : (g : FormulaTree) → HasNumbers s.names g → IsReadable s g → Hold s (also g none) p → EachOf (λ k. Says k (at_names s.names p)) (atoms_alone (resolve s.context s.bound s.names g))
   one_says g numbers readable h = alone_says s (resolve s.context s.bound s.names g) (at_names s.names p) ((truth_as_written s g numbers distinct readable p of).0 h.0)
 
-  all_say : (f : FormulaTree) (gs : FormulaTrees) → ArePartsReadable s f gs → ArePartsNumbered s.names f gs → Hold s gs p → EachOf (λ k. Says k (at_names s.names p)) (assumed s gs)
-  all_say f none readable numbers h = tt
-  all_say f (also g none) readable numbers h =
-      each_both (λ k. Says k (at_names s.names p)) (atoms_alone (resolve s.context s.bound s.names g)) [] (one_says g numbers.1 readable.1 (h.0, tt)) tt
-  all_say f (also g (also d gs)) readable numbers h =
-      each_both (λ k. Says k (at_names s.names p)) (atoms_alone (resolve s.context s.bound s.names g)) (assumed s (also d gs)) (one_says g numbers.1.0 readable.1.0 (h.0, tt))
-      (all_say g (also d gs) readable.1 numbers.1 h.1)
+  all_say : (gs : FormulaTrees) → AreReadable s gs → AreNumbered s.names gs → Hold s gs p → EachOf (λ k. Says k (at_names s.names p)) (assumed s gs)
+  all_say none readable numbers h = tt
+  all_say (also g gs) readable numbers h =
+      each_both (λ k. Says k (at_names s.names p)) (atoms_alone (resolve s.context s.bound s.names g)) (assumed s gs) (one_says g numbers.0 readable.0 (h.0, tt))
+      (all_say gs readable.1 numbers.1 h.1)
 
-pub assumed_hold : (s : State) (f : FormulaTree) (gs : FormulaTrees) → ArePartsReadable s f gs → IsDistinct same_name s.names → ArePartsNumbered s.names f gs → (p : NamedPoint) → Of s.context p → Hold s gs p
+pub assumed_hold : (s : State) (f : FormulaTree) (gs : FormulaTrees) → AreReadable s (also f gs) → IsDistinct same_name s.names → AreNumbered s.names (also f gs) → (p : NamedPoint) → Of s.context p → Hold s gs p
     → EachOf (λ k. Says k (at_names s.names p)) (assumed s gs)
-assumed_hold s f gs readable distinct numbers p of h = all_say s distinct p of f gs readable numbers h
+assumed_hold s f gs readable distinct numbers p of h = all_say s distinct p of gs readable.1 numbers.1 h
 
 -- ---- the first cause among several formulas
 
@@ -108,15 +107,7 @@ first_unread s g static.Memory n h = absurd (n refl)
 
 -- one that is
 pub none_unread : (s : State) (g : FormulaTree) → IsReadable s g → FirstAmong (λ d. reading.Applies s.context s.bound s.names g d) None
-none_unread s g h static.Unbound l k = h.bound_names k
-none_unread s g h static.FormulaAsTerm l k = h.variables k
-none_unread s g h static.Nonlinear l k = h.linear k
-none_unread s g h static.Division l k = h.undivided k
-none_unread s g h static.CongruenceContext l k = h.congruences k
-none_unread s g h static.Modulus l k = h.moduli k
-none_unread s g h static.Depth l k = h.flat k
-none_unread s g h static.Overflow l k = h.within k
-none_unread s g h static.Memory l k = absurd (omega arith)
+none_unread s g h = readable_part s g h
 
 -- a formula to which no cause applies is resolved
 pub readable_where_none : (s : State) (g : FormulaTree) → ((d : StaticError) → static_rank d < 8 → ¬ (reading.Applies s.context s.bound s.names g d)) → IsReadable s g
@@ -197,35 +188,27 @@ module _ (s : State) (f : FormulaTree) (gs : List Formula) where
   abbrev Here : StaticError → Type 0
   Here d = reading.Applies s.context s.bound s.names f d
 
-  parts : (o : Option StaticError) → FirstAmong (λ d. Here d ⊎ AppliesToSome s gs d) o → FirstAmong (AppliesToPart s f given) o
-  parts o h = first_same (λ d. Here d ⊎ AppliesToSome s gs d) (AppliesToPart s f given) (λ d. let r = some_listed (λ g. reading.Applies s.context s.bound s.names g d) f gs in (r.1, r.0)) o h
+  parts : (o : Option StaticError) → FirstAmong (λ d. Here d ⊎ AppliesToSome s gs d) o → FirstAmong (AppliesAmong s (also f given)) o
+  parts o h = first_same (λ d. Here d ⊎ AppliesToSome s gs d) (AppliesAmong s (also f given)) (λ d. let r = some_listed (λ g. reading.Applies s.context s.bound s.names g d) f gs in (r.1, r.0)) o h
 
-  first_part_cause : (e : StaticError) → FirstAmong (AppliesToPart s f given) (Some e) → IsFirstPartCause s f given e
-  first_part_cause static.Memory h = tt
-  first_part_cause static.Unbound h = record { applies = h.1; first = h.2 }
-  first_part_cause static.FormulaAsTerm h = record { applies = h.1; first = h.2 }
-  first_part_cause static.Nonlinear h = record { applies = h.1; first = h.2 }
-  first_part_cause static.Division h = record { applies = h.1; first = h.2 }
-  first_part_cause static.CongruenceContext h = record { applies = h.1; first = h.2 }
-  first_part_cause static.Modulus h = record { applies = h.1; first = h.2 }
-  first_part_cause static.Depth h = record { applies = h.1; first = h.2 }
-  first_part_cause static.Overflow h = record { applies = h.1; first = h.2 }
+  first_part_cause : (e : StaticError) → FirstAmong (AppliesAmong s (also f given)) (Some e) → IsFirstCauseAmong s (also f given) e
+  first_part_cause e h = λ other. record { applies = h.1; first = h.2 }
 
   -- a cause in the assumptions alone
-  pub list_unread : (e : StaticError) → FirstAmong Here None → FirstAmong (AppliesToSome s gs) (Some e) → IsFirstPartCause s f given e
+  pub list_unread : (e : StaticError) → FirstAmong Here None → FirstAmong (AppliesToSome s gs) (Some e) → IsFirstCauseAmong s (also f given) e
   list_unread e h k = first_part_cause e (parts (Some e) (first_of_both Here (AppliesToSome s gs) None (Some e) h k))
 
   -- a cause in the formula, and what the assumptions say
-  pub both_unread : (b : Option StaticError) (e : StaticError) → FirstAmong Here (Some e) → FirstAmong (AppliesToSome s gs) b → IsFirstPartCause s f given (first_of e b)
+  pub both_unread : (b : Option StaticError) (e : StaticError) → FirstAmong Here (Some e) → FirstAmong (AppliesToSome s gs) b → IsFirstCauseAmong s (also f given) (first_of e b)
   both_unread b e h k =
       first_part_cause (first_of e b)
       (parts (Some (first_of e b)) (first_same (λ d. AppliesToSome s gs d ⊎ Here d) (λ d. Here d ⊎ AppliesToSome s gs d) (λ d. (λ x. ⊎_elim inr inl x, λ x. ⊎_elim inr inl x)) (Some (first_of e b))
       (first_of_both (AppliesToSome s gs) Here b (Some e) k h)))
 
-  pub memory_unread : (e : StatementError) → e ≡ error.Memory → ArePartsUnread s f given e
-  memory_unread e p = (static.Memory, p, tt)
+  pub memory_unread : (e : StatementError) → e ≡ error.Memory → AreUnread s (also f given) e
+  memory_unread e p = (static.Memory, p, λ other. absurd (other refl))
 
-  pub parts_readable : IsReadable s f → FirstAmong (AppliesToSome s gs) None → ArePartsReadable s f given
+  pub parts_readable : IsReadable s f → FirstAmong (AppliesToSome s gs) None → AreReadable s (also f given)
   parts_readable h k =
       each_of_list (IsReadable s) f gs h
       (each_listed_none gs k)
@@ -237,18 +220,15 @@ module _ (s : State) (f : FormulaTree) (gs : List Formula) where
 -- ---- a quantifier where none may be
 
 -- no earlier cause applies to what is resolved
-early_none : (s : State) (g : FormulaTree) (d : StaticError) → static_rank d < 7 → IsReadable s g → ¬ (reading.Applies s.context s.bound s.names g d)
-early_none s g d l h = none_unread s g h d (omega arith)
-
-pub early_readable : (s : State) (f : FormulaTree) (gs : FormulaTrees) → ArePartsReadable s f gs → (d : StaticError) → static_rank d < 7 → ¬ (AppliesToPart s f gs d)
-early_readable s f gs h d l = no_part (IsReadable s) (λ g. reading.Applies s.context s.bound s.names g d) (λ g k. early_none s g d l k) f gs h
+pub early_readable : (s : State) (f : FormulaTree) (gs : FormulaTrees) → AreReadable s (also f gs) → (d : StaticError) → static_rank d < 7 → ¬ (AppliesAmong s (also f gs) d)
+early_readable s f gs h d l = no_formula (IsReadable s) (λ g. reading.Applies s.context s.bound s.names g d) (λ g k. readable_part s g k d (omega (arith, l))) (also f gs) h
 
 -- nor where the reading overflows
-pub early_overflow : (s : State) (f : FormulaTree) (gs : FormulaTrees) → ArePartsUnread s f gs error.Overflow → (d : StaticError) → static_rank d < 7 → ¬ (AppliesToPart s f gs d)
+pub early_overflow : (s : State) (f : FormulaTree) (gs : FormulaTrees) → AreUnread s (also f gs) error.Overflow → (d : StaticError) → static_rank d < 7 → ¬ (AppliesAmong s (also f gs) d)
 early_overflow s f gs h = split h.0 h.1 h.2
   where
-    split : (e : StaticError) → error.Overflow ≡ static_refusal e → IsFirstPartCause s f gs e → (d : StaticError) → static_rank d < 7 → ¬ (AppliesToPart s f gs d)
-    split static.Overflow p k d l = k.first d l
+    split : (e : StaticError) → error.Overflow ≡ static_refusal e → IsFirstCauseAmong s (also f gs) e → (d : StaticError) → static_rank d < 7 → ¬ (AppliesAmong s (also f gs) d)
+    split static.Overflow p k d l = (k (λ e. absurd (cc (e)))).first d l
     split static.Unbound p k d l = absurd (cc (p))
     split static.FormulaAsTerm p k d l = absurd (cc (p))
     split static.Nonlinear p k d l = absurd (cc (p))
@@ -257,36 +237,3 @@ early_overflow s f gs h = split h.0 h.1 h.2
     split static.Modulus p k d l = absurd (cc (p))
     split static.Depth p k d l = absurd (cc (p))
     split static.Memory p k d l = absurd (cc (p))
-
-never_quantified : (e : StaticError) → ¬ (error.Quantified ≡ static_refusal e)
-never_quantified static.Overflow p = absurd (cc (p))
-never_quantified static.Unbound p = absurd (cc (p))
-never_quantified static.FormulaAsTerm p = absurd (cc (p))
-never_quantified static.Nonlinear p = absurd (cc (p))
-never_quantified static.Division p = absurd (cc (p))
-never_quantified static.CongruenceContext p = absurd (cc (p))
-never_quantified static.Modulus p = absurd (cc (p))
-never_quantified static.Depth p = absurd (cc (p))
-never_quantified static.Memory p = absurd (cc (p))
-
--- what is not read is not ready
-pub unready_of : (s : State) (w : FormCommand) (f : FormulaTree) (e : StatementError) → ArePartsUnread s f (given_trees w) e → (e ≡ error.Overflow → ¬ (HasUnwantedQuantifier s w f)) → IsUnready s w f e
-unready_of s w f error.Quantified h k = absurd (never_quantified h.0 h.1)
-unready_of s w f error.Overflow h k = (h, k refl)
-unready_of s w f error.Unbound h k = h
-unready_of s w f error.FormulaAsTerm h k = h
-unready_of s w f error.Nonlinear h k = h
-unready_of s w f error.Division h k = h
-unready_of s w f error.CongruenceContext h k = h
-unready_of s w f error.Modulus h k = h
-unready_of s w f error.Depth h k = h
-unready_of s w f error.Memory h k = h
-unready_of s w f error.Long h k = h
-unready_of s w f error.Lexical h k = h
-unready_of s w f error.Nesting h k = h
-unready_of s w f error.Syntax h k = h
-unready_of s w f error.Point h k = h
-unready_of s w f error.Unvalued h k = h
-unready_of s w f error.Nodes h k = h
-unready_of s w f error.Bindings h k = h
-unready_of s w f error.Text h k = h

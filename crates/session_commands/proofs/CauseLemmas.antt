@@ -1,16 +1,6 @@
--- Causes of refusals, in their order.
-use Rattle.std.proofs.Common.{◌≡◌, ◌⊎◌, inl, inr, ⊎_elim, ℕ, ◌+◌, ◌-◌, ◌*◌, ◌<◌, ◌≤◌, List, [], sym, ap, ◌∙◌, subst, refl, arith}
-use Rattle.std.proofs.Math.IntN.{ℤ, pos}
-use Rattle.std.proofs.lemmas.Int.{ints}
-use Rattle.exact_numbers.specs.Limit.{PastLimit}
-use Rattle.exact_numbers.specs.Divides as whole
-use Rattle.exact_numbers.proofs.Ring.{one_mul}
-use Rattle.formula_meaning.specs.Context.{Context, Fields, Integers}
-use Rattle.formula_meaning.specs.Some.{SomeOf}
-use Rattle.qe_syntax.specs.declared.statement.PointEntry.{PointEntry}
-use Rattle.qe_syntax.specs.Statements.{CommandTree}
-use Rattle.qe_syntax.specs.Point.{PassesLimit, IsLeastDenominator}
-use Rattle.qe_syntax.proofs.EntryNumbers.{least_unique}
+-- Causes of refusals, in their order: the list is walked from its front, one cause after another.
+use Rattle.std.proofs.Common.{◌≡◌, ◌≢◌, inl, inr, ⊎_elim, ℕ, ◌<◌, ◌≤◌, List, [], ◌∷◌, ◌++◌, sym, ap, ◌∙◌, subst, refl, arith, lit<}
+use Rattle.formula_meaning.specs.Some.{SomeOf, EachOf}
 use Rattle.qe_syntax.specs.Trees.{FormulaTree}
 use Rattle.formula_tree.specs.Resolving.{place, names_after}
 use Rattle.formula_tree.specs.Causes.{IsBound, IsNonlinear, Divides, IsBadModulus, OverflowsInReading}
@@ -19,244 +9,213 @@ use Rattle.formula_resolving.specs.declared.error.StaticError.TheVariants as sta
 use Rattle.formula_resolving.specs.Refusals as reading
 use Rattle.session_meaning.specs.declared.line.StatementError.{StatementError}
 use Rattle.session_meaning.specs.declared.line.StatementError.TheVariants as error
+use Rattle.session_commands.specs.Steps.{static_refusal, HasNumbers, IsReadable, AreNumbered, AreReadable, AppliesAmong, HasNoEarlier, IsFirstAmong, AreUnread}
+use Rattle.session_meaning.specs.Meaning.{Meaning}
+use Rattle.session_meaning.specs.Causes.{Use, SomeFormula, IsCause, HasNone, IsAccepted, IsFirst}
+use Rattle.session_meaning.specs.Words.{before, order}
 use Rattle.session_meaning.specs.State.{State}
-use Rattle.session_commands.specs.Parts.{given_of}
-use Rattle.session_commands.specs.Commands.{formula_of, entries_of}
-use Rattle.session_meaning.specs.Points.{MeanNoPoint}
-use Rattle.session_meaning.specs.Causes.{Use}
-use Rattle.session_commands.specs.Causes.{AsksAtPoint, InSomePart, RenamingPasses, IsCause, rank, HasNoCauseBelow, Refuses, IsAccepted}
-use Rattle.session_commands.specs.Steps.{static_refusal, HasNumbers, IsReadable, ArePartsNumbered, ArePartsReadable, ArePartsUnread, AppliesToPart, IsFirstPartCause}
-use Rattle.session_commands.proofs.PartLemmas.{some_part, no_part}
+use Rattle.session_commands.proofs.PartLemmas.{some_formula, no_formula}
 
--- ---- no entries
+-- ---- lists
 
-pub no_point : (c : Context) → ¬ (MeanNoPoint c [])
-no_point Fields h = ⊎_elim absurd absurd h
-no_point Integers h = ⊎_elim absurd (⊎_elim absurd absurd) h
+each_last : {X : Type 0} (P : X → Type 0) (xs : List X) (x : X) → EachOf P xs → P x → EachOf P (xs ++ x ∷ [])
+each_last P [] x h p = (p, tt)
+each_last P (y ∷ ys) x h p = (h.0, each_last P ys x h.1 p)
 
--- the order of the causes in reading is theirs among all
-rank_is : (d : StaticError) → rank (static_refusal d) ≡ reading.rank d + 5 + 3 * (reading.rank d - 6)
-rank_is static.Unbound = refl
-rank_is static.FormulaAsTerm = refl
-rank_is static.Nonlinear = refl
-rank_is static.Division = refl
-rank_is static.CongruenceContext = refl
-rank_is static.Modulus = refl
-rank_is static.Depth = refl
-rank_is static.Overflow = refl
-rank_is static.Memory = refl
+each_front : {X : Type 0} (P : X → Type 0) (xs ys : List X) → EachOf P (xs ++ ys) → EachOf P xs
+each_front P [] ys h = tt
+each_front P (x ∷ xs) ys h = (h.0, each_front P xs ys h.1)
 
-pub earlier : (d e : StaticError) → rank (static_refusal d) < rank (static_refusal e) → reading.rank d < reading.rank e
-earlier d e h = let p = rank_is d in let q = rank_is e in omega arith
+-- ---- one cause after another
 
-module _ (s : State) (limit : ℕ) (u : Use) (c : CommandTree) (numbers : ArePartsNumbered s.names (formula_of c) (given_of c)) where
-  abbrev Applies : StaticError → Type 0
-  Applies d = AppliesToPart s (formula_of c) (given_of c) d
+module _ (m : Meaning) (s : State) (limit : ℕ) (u : Use) where
+  abbrev Clear : StatementError → Type 0
+  Clear d = ¬ (IsCause m s limit u d)
 
-  -- a cause that speaks of the names of the state is one of the names after the formula, and the other way round
-  module _ (P : List (List ℕ) → FormulaTree → Type 0) where
-    after_here : InSomePart c (P s.names) → InSomePart c (λ g. P (names_after s.names g) g)
-    after_here h = some_part (HasNumbers s.names) (P s.names) (λ g. P (names_after s.names g) g) (λ g n p. subst (λ ns. P ns g) (sym n) p) (formula_of c) (given_of c) numbers h
+  -- where none before a cause applies, and it does not, none before the next one does
+  pub then_clear : (e after : StatementError) → before after ≡ before e ++ e ∷ [] → HasNone m s limit u (before e) → ¬ (IsCause m s limit u e) → HasNone m s limit u (before after)
+  then_clear e after p h n = subst (λ ds. EachOf Clear ds) (sym p) (each_last Clear (before e) e h n)
 
-    here_after : InSomePart c (λ g. P (names_after s.names g) g) → InSomePart c (P s.names)
-    here_after h = some_part (HasNumbers s.names) (λ g. P (names_after s.names g) g) (P s.names) (λ g n p. subst (λ ns. P ns g) n p) (formula_of c) (given_of c) numbers h
+  -- where none applies, none before a cause does
+  pub none_before : (e : StatementError) (rest : List StatementError) → order ≡ before e ++ rest → IsAccepted m s limit u → HasNone m s limit u (before e)
+  none_before e rest p h = each_front Clear (before e) rest (subst (λ ds. EachOf Clear ds) p h)
 
-  linear_here : InSomePart c (IsNonlinear s.context (place s.names)) → Applies static.Nonlinear
-  linear_here h = after_here (λ ns. IsNonlinear s.context (place ns)) h
+  -- where no cause applies, this one does not
+  pub no_cause : IsAccepted m s limit u → (e : StatementError) → ¬ (IsCause m s limit u e)
+  no_cause h error.Long k = h.0 k
+  no_cause h error.Lexical k = h.1.0 k
+  no_cause h error.Nesting k = h.1.1.0 k
+  no_cause h error.Syntax k = h.1.1.1.0 k
+  no_cause h error.Unbound k = h.1.1.1.1.0 k
+  no_cause h error.FormulaAsTerm k = h.1.1.1.1.1.0 k
+  no_cause h error.Nonlinear k = h.1.1.1.1.1.1.0 k
+  no_cause h error.Division k = h.1.1.1.1.1.1.1.0 k
+  no_cause h error.CongruenceContext k = h.1.1.1.1.1.1.1.1.0 k
+  no_cause h error.Modulus k = h.1.1.1.1.1.1.1.1.1.0 k
+  no_cause h error.Depth k = h.1.1.1.1.1.1.1.1.1.1.0 k
+  no_cause h error.Point k = h.1.1.1.1.1.1.1.1.1.1.1.0 k
+  no_cause h error.Unvalued k = h.1.1.1.1.1.1.1.1.1.1.1.1.0 k
+  no_cause h error.Quantified k = h.1.1.1.1.1.1.1.1.1.1.1.1.1.0 k
+  no_cause h error.Overflow k = h.1.1.1.1.1.1.1.1.1.1.1.1.1.1.0 k
+  no_cause h error.Nodes k = h.1.1.1.1.1.1.1.1.1.1.1.1.1.1.1.0 k
+  no_cause h error.Bindings k = h.1.1.1.1.1.1.1.1.1.1.1.1.1.1.1.1.0 k
+  no_cause h error.Text k = h.1.1.1.1.1.1.1.1.1.1.1.1.1.1.1.1.1.0 k
+  no_cause h error.Memory k = k
 
-  divides_here : InSomePart c (Divides s.context (place s.names)) → Applies static.Division
-  divides_here h = after_here (λ ns. Divides s.context (place ns)) h
+  to_long : HasNone m s limit u (before error.Long)
+  to_long = let p : before error.Long ≡ [] = refl in subst (λ ds. EachOf Clear ds) (sym p) tt
 
-  modulus_here : InSomePart c (IsBadModulus s.context (place s.names)) → Applies static.Modulus
-  modulus_here h = after_here (λ ns. IsBadModulus s.context (place ns)) h
+  -- what is wrong with the text comes first, and is no cause of a command
+  to_unbound : HasNone m s limit u (before error.Unbound)
+  to_unbound =
+      let lexical = then_clear error.Long error.Lexical refl to_long (λ h. h) in
+      let nesting = then_clear error.Lexical error.Nesting refl lexical (λ h. h) in
+      let syntax = then_clear error.Nesting error.Syntax refl nesting (λ h. h) in
+      then_clear error.Syntax error.Unbound refl syntax (λ h. h)
 
-  overflow_here : InSomePart c (OverflowsInReading s.context s.bound (place s.names)) → Applies static.Overflow
-  overflow_here h = after_here (λ ns. OverflowsInReading s.context s.bound (place ns)) h
+  -- ---- causes in reading
 
-  -- a cause in reading is one of the command
-  pub cause_of_reading : (d : StaticError) → Applies d → (d ≡ static.Memory) ⊎ IsCause s limit u c (static_refusal d)
-  cause_of_reading static.Unbound h = inr h
-  cause_of_reading static.FormulaAsTerm h = inr (inl h)
-  cause_of_reading static.Nonlinear h = inr (here_after (λ ns. IsNonlinear s.context (place ns)) h)
-  cause_of_reading static.Division h = inr (here_after (λ ns. Divides s.context (place ns)) h)
-  cause_of_reading static.CongruenceContext h = inr h
-  cause_of_reading static.Modulus h = inr (here_after (λ ns. IsBadModulus s.context (place ns)) h)
-  cause_of_reading static.Depth h = inr h
-  cause_of_reading static.Overflow h = inr (inl (here_after (λ ns. OverflowsInReading s.context s.bound (place ns)) h))
-  cause_of_reading static.Memory h = inl refl
+  less : (n k : ℕ) → n ≤ k → HasNoEarlier s m.formulas k → HasNoEarlier s m.formulas n
+  less n k b first d l = first d (omega (arith, l, b))
 
-  -- where no cause in reading applies below a place of the order, nor one of the point or of free names, none does
-  pub none_below : (m : ℕ) → m ≤ 16 → ((d : StaticError) → rank (static_refusal d) < m → ¬ (Applies d)) → (6 < m → ¬ (SomeOf (λ (e : PointEntry). IsBound s.bound e.name) (entries_of c)))
-      → (12 < m → ¬ (MeanNoPoint s.context (entries_of c))) → (13 < m → ¬ (IsCause s limit u c error.Unvalued)) → (14 < m → ¬ (IsCause s limit u c error.Quantified)) → (15 < m → ¬ (PassesLimit (entries_of c))) → (15 < m → ¬ (RenamingPasses s limit c)) → HasNoCauseBelow s limit u c m
-  none_below m b first bound point valued plain within fits error.Unbound l k = first static.Unbound l k
-  none_below m b first bound point valued plain within fits error.FormulaAsTerm l (inl k) = first static.FormulaAsTerm l k
-  none_below m b first bound point valued plain within fits error.FormulaAsTerm l (inr k) = bound l k
-  none_below m b first bound point valued plain within fits error.Nonlinear l k = first static.Nonlinear l (linear_here k)
-  none_below m b first bound point valued plain within fits error.Division l k = first static.Division l (divides_here k)
-  none_below m b first bound point valued plain within fits error.CongruenceContext l k = first static.CongruenceContext l k
-  none_below m b first bound point valued plain within fits error.Modulus l k = first static.Modulus l (modulus_here k)
-  none_below m b first bound point valued plain within fits error.Depth l k = first static.Depth l k
-  none_below m b first bound point valued plain within fits error.Point l k = point l k
-  none_below m b first bound point valued plain within fits error.Unvalued l k = valued l k
-  none_below m b first bound point valued plain within fits error.Quantified l k = plain l k
-  none_below m b first bound point valued plain within fits error.Overflow l (inl k) = first static.Overflow l (overflow_here k)
-  none_below m b first bound point valued plain within fits error.Overflow l (inr (inl k)) = within l k
-  none_below m b first bound point valued plain within fits error.Overflow l (inr (inr k)) = fits l k
-  none_below m b first bound point valued plain within fits error.Bindings l k = absurd (omega arith)
-  none_below m b first bound point valued plain within fits error.Text l k = absurd (omega arith)
-  none_below m b first bound point valued plain within fits error.Long l k = k
-  none_below m b first bound point valued plain within fits error.Lexical l k = k
-  none_below m b first bound point valued plain within fits error.Nesting l k = k
-  none_below m b first bound point valued plain within fits error.Syntax l k = k
-  none_below m b first bound point valued plain within fits error.Nodes l k = k
-  none_below m b first bound point valued plain within fits error.Memory l k = k
+  module _ (numbers : AreNumbered s.names m.formulas) where
+    -- a cause that speaks of the names of the state is one of the names after the formula, and the other way round
+    module _ (P : List (List ℕ) → FormulaTree → Type 0) where
+      after_here : SomeFormula (P s.names) m.formulas → SomeFormula (λ g. P (names_after s.names g) g) m.formulas
+      after_here h = some_formula (HasNumbers s.names) (P s.names) (λ g. P (names_after s.names g) g) (λ g n p. subst (λ ns. P ns g) (sym n) p) m.formulas numbers h
+
+      here_after : SomeFormula (λ g. P (names_after s.names g) g) m.formulas → SomeFormula (P s.names) m.formulas
+      here_after h = some_formula (HasNumbers s.names) (λ g. P (names_after s.names g) g) (P s.names) (λ g n p. subst (λ ns. P ns g) n p) m.formulas numbers h
+
+    -- a cause in reading is one of the command
+    pub cause_of_reading : (d : StaticError) → AppliesAmong s m.formulas d → d ≢ static.Memory → IsCause m s limit u (static_refusal d)
+    cause_of_reading static.Unbound h other = h
+    cause_of_reading static.FormulaAsTerm h other = inl h
+    cause_of_reading static.Nonlinear h other = here_after (λ ns. IsNonlinear s.context (place ns)) h
+    cause_of_reading static.Division h other = here_after (λ ns. Divides s.context (place ns)) h
+    cause_of_reading static.CongruenceContext h other = h
+    cause_of_reading static.Modulus h other = here_after (λ ns. IsBadModulus s.context (place ns)) h
+    cause_of_reading static.Depth h other = h
+    cause_of_reading static.Overflow h other = inl (here_after (λ ns. OverflowsInReading s.context s.bound (place ns)) h)
+    cause_of_reading static.Memory h other = absurd (other refl)
+
+    pub overflow_here : SomeFormula (OverflowsInReading s.context s.bound (place s.names)) m.formulas → AppliesAmong s m.formulas static.Overflow
+    overflow_here h = after_here (λ ns. OverflowsInReading s.context s.bound (place ns)) h
+
+    abbrev Further : Type 0
+    Further = SomeOf (IsBound s.bound) m.further
+
+    to_term : HasNoEarlier s m.formulas 1 → HasNone m s limit u (before error.FormulaAsTerm)
+    to_term first = then_clear error.Unbound error.FormulaAsTerm refl to_unbound (first static.Unbound (lit< tt))
+
+    module _ (free : ¬ Further) where
+      to_nonlinear : HasNoEarlier s m.formulas 2 → HasNone m s limit u (before error.Nonlinear)
+      to_nonlinear first = then_clear error.FormulaAsTerm error.Nonlinear refl (to_term (less 1 2 (omega arith) first)) (λ h. ⊎_elim (first static.FormulaAsTerm (lit< tt)) free h)
+
+      to_division : HasNoEarlier s m.formulas 3 → HasNone m s limit u (before error.Division)
+      to_division first =
+          then_clear error.Nonlinear error.Division refl (to_nonlinear (less 2 3 (omega arith) first))
+          (λ h. first static.Nonlinear (lit< tt) (after_here (λ ns. IsNonlinear s.context (place ns)) h))
+
+      to_congruence : HasNoEarlier s m.formulas 4 → HasNone m s limit u (before error.CongruenceContext)
+      to_congruence first =
+          then_clear error.Division error.CongruenceContext refl (to_division (less 3 4 (omega arith) first))
+          (λ h. first static.Division (lit< tt) (after_here (λ ns. Divides s.context (place ns)) h))
+
+      to_modulus : HasNoEarlier s m.formulas 5 → HasNone m s limit u (before error.Modulus)
+      to_modulus first = then_clear error.CongruenceContext error.Modulus refl (to_congruence (less 4 5 (omega arith) first)) (first static.CongruenceContext (lit< tt))
+
+      to_depth : HasNoEarlier s m.formulas 6 → HasNone m s limit u (before error.Depth)
+      to_depth first =
+          then_clear error.Modulus error.Depth refl (to_modulus (less 5 6 (omega arith) first))
+          (λ h. first static.Modulus (lit< tt) (after_here (λ ns. IsBadModulus s.context (place ns)) h))
+
+      -- where no cause in reading applies but an overflow, none before the point does
+      pub to_point : HasNoEarlier s m.formulas 7 → HasNone m s limit u (before error.Point)
+      to_point first = then_clear error.Depth error.Point refl (to_depth (less 6 7 (omega arith) first)) (first static.Depth (lit< tt))
+
+    -- the first cause in reading is the first of all, where it is no overflow, and from the second on no further name is bound
+    pub first_in_reading : (d : StaticError) → reading.rank d < 7 → IsFirstAmong s m.formulas d → (1 < reading.rank d → ¬ Further) → IsFirst m s limit u (static_refusal d)
+    first_in_reading static.Unbound l h free = record { applies = inl (cause_of_reading static.Unbound h.applies (λ e. absurd (cc (e)))); first = to_unbound }
+    first_in_reading static.FormulaAsTerm l h free = record { applies = inl (cause_of_reading static.FormulaAsTerm h.applies (λ e. absurd (cc (e)))); first = to_term h.first }
+    first_in_reading static.Nonlinear l h free = record { applies = inl (cause_of_reading static.Nonlinear h.applies (λ e. absurd (cc (e)))); first = to_nonlinear (free (lit< tt)) h.first }
+    first_in_reading static.Division l h free = record { applies = inl (cause_of_reading static.Division h.applies (λ e. absurd (cc (e)))); first = to_division (free (lit< tt)) h.first }
+    first_in_reading static.CongruenceContext l h free = record { applies = inl (cause_of_reading static.CongruenceContext h.applies (λ e. absurd (cc (e)))); first = to_congruence (free (lit< tt)) h.first }
+    first_in_reading static.Modulus l h free = record { applies = inl (cause_of_reading static.Modulus h.applies (λ e. absurd (cc (e)))); first = to_modulus (free (lit< tt)) h.first }
+    first_in_reading static.Depth l h free = record { applies = inl (cause_of_reading static.Depth h.applies (λ e. absurd (cc (e)))); first = to_depth (free (lit< tt)) h.first }
+    first_in_reading static.Overflow l h free = absurd (omega arith)
+    first_in_reading static.Memory l h free = absurd (omega arith)
+
+    -- a further name that is bound is a cause beside the formulas that are named as terms
+    pub bound_first : HasNoEarlier s m.formulas 1 → Further → IsFirst m s limit u error.FormulaAsTerm
+    bound_first first h = record { applies = inl (inr h); first = to_term first }
+
+-- no cause applies to a formula that is resolved
+pub readable_part : (s : State) (g : FormulaTree) → IsReadable s g → (d : StaticError) → reading.rank d < 8 → ¬ (reading.Applies s.context s.bound s.names g d)
+readable_part s g h static.Unbound l k = h.bound_names k
+readable_part s g h static.FormulaAsTerm l k = h.variables k
+readable_part s g h static.Nonlinear l k = h.linear k
+readable_part s g h static.Division l k = h.undivided k
+readable_part s g h static.CongruenceContext l k = h.congruences k
+readable_part s g h static.Modulus l k = h.moduli k
+readable_part s g h static.Depth l k = h.flat k
+readable_part s g h static.Overflow l k = h.within k
+readable_part s g h static.Memory l k = absurd (omega arith)
 
 -- ---- commands without a point
 
-one_divides : (n : ℤ) → whole.Divides (pos 1) n
-one_divides n = record { quotient = n; exact = sym (one_mul n) }
+-- the command has no point, and is refused neither for what is counted nor for a text of its own wherever that applies
+pub record HasNoPoint (m : Meaning) (s : State) (limit : ℕ) : Type 0 where
+  pub further : m.further ≡ []
+  pub point : ¬ (m.must.point s limit)
+  pub unvalued : ¬ (m.must.unvalued s limit)
+  pub nodes : ¬ (m.must.nodes s limit)
+  pub text : ¬ (m.must.text s limit)
 
--- no number is formed for no entries
-pub nothing_passes : ¬ (PassesLimit [])
-nothing_passes (inl (inl h)) = absurd h
-nothing_passes (inl (inr h)) =
-    let least : IsLeastDenominator [] (pos 1) = record { positive = omega (arith, ints); common = tt; least = λ n k. one_divides n } in
-    let d : h.0 ≡ pos 1 = least_unique h.1 least in
-    let past = subst PastLimit d h.2 in
-    absurd (omega (arith, past))
-nothing_passes (inr h) = absurd h.2
+module _ (m : Meaning) (s : State) (limit : ℕ) (u : Use) (numbers : AreNumbered s.names m.formulas) (plain : HasNoPoint m s limit) where
+  no_further : ¬ (SomeOf (IsBound s.bound) m.further)
+  no_further h = let k = subst (SomeOf (IsBound s.bound)) plain.further h in absurd k
 
--- no cause applies to a formula that is resolved
-readable_part : (s : State) (g : FormulaTree) (d : StaticError) → rank (static_refusal d) < 16 → IsReadable s g → ¬ (reading.Applies s.context s.bound s.names g d)
-readable_part s g static.Unbound l h k = h.bound_names k
-readable_part s g static.FormulaAsTerm l h k = h.variables k
-readable_part s g static.Nonlinear l h k = h.linear k
-readable_part s g static.Division l h k = h.undivided k
-readable_part s g static.CongruenceContext l h k = h.congruences k
-readable_part s g static.Modulus l h k = h.moduli k
-readable_part s g static.Depth l h k = h.flat k
-readable_part s g static.Overflow l h k = h.within k
-readable_part s g static.Memory l h k = absurd (omega arith)
+  to_quantified : HasNoEarlier s m.formulas 7 → HasNone m s limit u (before error.Quantified)
+  to_quantified first =
+      let point = to_point m s limit u numbers no_further first in
+      let unvalued = then_clear m s limit u error.Point error.Unvalued refl point plain.point in
+      then_clear m s limit u error.Unvalued error.Quantified refl unvalued plain.unvalued
 
--- the command has no point, and asks for no truth
-pub record IsPlainCommand (c : CommandTree) : Type 0 where
-  pub no_entries : entries_of c ≡ []
-  pub no_point : ¬ (AsksAtPoint c)
-
-module _ (s : State) (limit : ℕ) (u : Use) (c : CommandTree) (numbers : ArePartsNumbered s.names (formula_of c) (given_of c)) (single : IsPlainCommand c) where
-  no_bound : ¬ (SomeOf (λ (e : PointEntry). IsBound s.bound e.name) (entries_of c))
-  no_bound h = let k = subst (SomeOf (λ (e : PointEntry). IsBound s.bound e.name)) single.no_entries h in absurd k
-
-  no_meaning : ¬ (MeanNoPoint s.context (entries_of c))
-  no_meaning h = no_point s.context (subst (MeanNoPoint s.context) single.no_entries h)
-
-  no_past : ¬ (PassesLimit (entries_of c))
-  no_past h = nothing_passes (subst PassesLimit single.no_entries h)
-
-  plain_below : (m : ℕ) → m ≤ 16 → (14 < m → ¬ (IsCause s limit u c error.Quantified)) → (15 < m → ¬ (RenamingPasses s limit c)) → ((d : StaticError) → rank (static_refusal d) < m → ¬ (AppliesToPart s (formula_of c) (given_of c) d)) → HasNoCauseBelow s limit u c m
-  plain_below m b plain fits first = none_below s limit u c numbers m b first (λ l. no_bound) (λ l. no_meaning) (λ l k. single.no_point k.0) plain (λ l. no_past) fits
-
-  unread_one : (d : StaticError) → (d ≡ static.Overflow → ¬ (IsCause s limit u c error.Quantified)) → IsFirstPartCause s (formula_of c) (given_of c) d → Refuses s limit u c (static_refusal d)
-  unread_one static.Memory plain h = tt
-  unread_one static.Unbound plain h = record { applies = h.applies; first = plain_below 5 (omega arith) (λ l. absurd (omega arith)) (λ l. absurd (omega arith)) (λ e l. h.first e (earlier e static.Unbound l)) }
-  unread_one static.FormulaAsTerm plain h = record { applies = inl h.applies; first = plain_below 6 (omega arith) (λ l. absurd (omega arith)) (λ l. absurd (omega arith)) (λ e l. h.first e (earlier e static.FormulaAsTerm l)) }
-  unread_one static.Nonlinear plain h = record {
-    applies = here_after s limit u c numbers (λ ns. IsNonlinear s.context (place ns)) h.applies;
-    first = plain_below 7 (omega arith) (λ l. absurd (omega arith)) (λ l. absurd (omega arith)) (λ e l. h.first e (earlier e static.Nonlinear l));
-  }
-  unread_one static.Division plain h = record {
-    applies = here_after s limit u c numbers (λ ns. Divides s.context (place ns)) h.applies;
-    first = plain_below 8 (omega arith) (λ l. absurd (omega arith)) (λ l. absurd (omega arith)) (λ e l. h.first e (earlier e static.Division l));
-  }
-  unread_one static.CongruenceContext plain h = record { applies = h.applies; first = plain_below 9 (omega arith) (λ l. absurd (omega arith)) (λ l. absurd (omega arith)) (λ e l. h.first e (earlier e static.CongruenceContext l)) }
-  unread_one static.Modulus plain h = record {
-    applies = here_after s limit u c numbers (λ ns. IsBadModulus s.context (place ns)) h.applies;
-    first = plain_below 10 (omega arith) (λ l. absurd (omega arith)) (λ l. absurd (omega arith)) (λ e l. h.first e (earlier e static.Modulus l));
-  }
-  unread_one static.Depth plain h = record { applies = h.applies; first = plain_below 11 (omega arith) (λ l. absurd (omega arith)) (λ l. absurd (omega arith)) (λ e l. h.first e (earlier e static.Depth l)) }
-  unread_one static.Overflow plain h = record {
-    applies = inl (inl (here_after s limit u c numbers (λ ns. OverflowsInReading s.context s.bound (place ns)) h.applies));
-    first = plain_below 15 (omega arith) (λ l. plain refl) (λ l. absurd (omega arith)) (λ e l. h.first e (earlier e static.Overflow l));
-  }
-
-  pub unread_refuses : (e : StatementError) → (e ≡ error.Overflow → ¬ (IsCause s limit u c error.Quantified)) → ArePartsUnread s (formula_of c) (given_of c) e → Refuses s limit u c e
-  unread_refuses e plain h = subst (Refuses s limit u c) (sym h.1) (unread_one h.0 (λ o. plain (h.1 ∙ ap static_refusal o)) h.2)
+  to_overflow : HasNoEarlier s m.formulas 7 → ¬ (m.must.quantified s limit) → HasNone m s limit u (before error.Overflow)
+  to_overflow first free = then_clear m s limit u error.Quantified error.Overflow refl (to_quantified first) free
 
   -- a quantifier stands in the formula, where nothing else is wrong but that its reading may overflow
-  pub quantified_refuses : IsCause s limit u c error.Quantified → ((d : StaticError) → rank (static_refusal d) < 14 → ¬ (AppliesToPart s (formula_of c) (given_of c) d)) → Refuses s limit u c error.Quantified
-  quantified_refuses h first = record { applies = h; first = plain_below 14 (omega arith) (λ l. absurd (omega arith)) (λ l. absurd (omega arith)) first }
+  pub quantified_refuses : m.must.quantified s limit → HasNoEarlier s m.formulas 7 → IsFirst m s limit u error.Quantified
+  quantified_refuses h first = record { applies = inl h; first = to_quantified first }
 
-  readable_applies : ArePartsReadable s (formula_of c) (given_of c) → (d : StaticError) → rank (static_refusal d) < 16 → ¬ (AppliesToPart s (formula_of c) (given_of c) d)
-  readable_applies h d l = no_part (IsReadable s) (λ g. reading.Applies s.context s.bound s.names g d) (λ g k. readable_part s g d l k) (formula_of c) (given_of c) h
+  unread_one : (d : StaticError) → d ≢ static.Memory → (d ≡ static.Overflow → ¬ (m.must.quantified s limit)) → IsFirstAmong s m.formulas d → IsFirst m s limit u (static_refusal d)
+  unread_one static.Unbound other free h = first_in_reading m s limit u numbers static.Unbound (lit< tt) h (λ l. no_further)
+  unread_one static.FormulaAsTerm other free h = first_in_reading m s limit u numbers static.FormulaAsTerm (lit< tt) h (λ l. no_further)
+  unread_one static.Nonlinear other free h = first_in_reading m s limit u numbers static.Nonlinear (lit< tt) h (λ l. no_further)
+  unread_one static.Division other free h = first_in_reading m s limit u numbers static.Division (lit< tt) h (λ l. no_further)
+  unread_one static.CongruenceContext other free h = first_in_reading m s limit u numbers static.CongruenceContext (lit< tt) h (λ l. no_further)
+  unread_one static.Modulus other free h = first_in_reading m s limit u numbers static.Modulus (lit< tt) h (λ l. no_further)
+  unread_one static.Depth other free h = first_in_reading m s limit u numbers static.Depth (lit< tt) h (λ l. no_further)
+  unread_one static.Overflow other free h = record { applies = inl (cause_of_reading m s limit u numbers static.Overflow h.applies other); first = to_overflow h.first (free refl) }
+  unread_one static.Memory other free h = absurd (other refl)
 
-  pub ready_below : ArePartsReadable s (formula_of c) (given_of c) → ¬ (IsCause s limit u c error.Quantified) → HasNoCauseBelow s limit u c 15
-  ready_below h plain = plain_below 15 (omega arith) (λ l. plain) (λ l. absurd (omega arith)) (λ d l. readable_applies h d (omega arith))
+  -- the first cause in reading refuses the command, where an overflow has no quantifier before it
+  pub unread_refuses : (e : StatementError) → (e ≡ error.Overflow → ¬ (m.must.quantified s limit)) → AreUnread s m.formulas e → e ≢ error.Memory → IsFirst m s limit u e
+  unread_refuses e free h other =
+      let no_memory : h.0 ≢ static.Memory = (λ p. other (h.1 ∙ ap static_refusal p)) in
+      subst (IsFirst m s limit u) (sym h.1) (unread_one h.0 no_memory (λ p. free (h.1 ∙ ap static_refusal p)) (h.2 no_memory))
 
-  pub readable_below : ArePartsReadable s (formula_of c) (given_of c) → ¬ (IsCause s limit u c error.Quantified) → ¬ (RenamingPasses s limit c) → HasNoCauseBelow s limit u c 16
-  readable_below h plain fits = plain_below 16 (omega arith) (λ l. plain) (λ l. fits) (readable_applies h)
+  readable_applies : AreReadable s m.formulas → HasNoEarlier s m.formulas 8
+  readable_applies h d l = no_formula (IsReadable s) (λ g. reading.Applies s.context s.bound s.names g d) (λ g k. readable_part s g k d l) m.formulas h
 
--- ---- the later causes
+  pub ready_below : AreReadable s m.formulas → ¬ (m.must.quantified s limit) → HasNone m s limit u (before error.Overflow)
+  ready_below h free = to_overflow (λ d l. readable_applies h d (omega (arith, l))) free
 
-module _ (s : State) (limit : ℕ) (u : Use) (c : CommandTree) where
-  pub below_17 : HasNoCauseBelow s limit u c 16 → HasNoCauseBelow s limit u c 17
-  below_17 h error.Long l k = k
-  below_17 h error.Lexical l k = k
-  below_17 h error.Nesting l k = k
-  below_17 h error.Syntax l k = k
-  below_17 h error.Unbound l k = h error.Unbound (omega arith) k
-  below_17 h error.FormulaAsTerm l k = h error.FormulaAsTerm (omega arith) k
-  below_17 h error.Nonlinear l k = h error.Nonlinear (omega arith) k
-  below_17 h error.Division l k = h error.Division (omega arith) k
-  below_17 h error.CongruenceContext l k = h error.CongruenceContext (omega arith) k
-  below_17 h error.Modulus l k = h error.Modulus (omega arith) k
-  below_17 h error.Depth l k = h error.Depth (omega arith) k
-  below_17 h error.Point l k = h error.Point (omega arith) k
-  below_17 h error.Unvalued l k = h error.Unvalued (omega arith) k
-  below_17 h error.Quantified l k = h error.Quantified (omega arith) k
-  below_17 h error.Overflow l k = h error.Overflow (omega arith) k
-  below_17 h error.Nodes l k = k
-  below_17 h error.Bindings l k = absurd (omega arith)
-  below_17 h error.Text l k = absurd (omega arith)
-  below_17 h error.Memory l k = k
+  pub readable_below : AreReadable s m.formulas → ¬ (m.must.quantified s limit) → ¬ (m.must.overflow s limit) → HasNone m s limit u (before error.Nodes)
+  readable_below h free fits =
+      then_clear m s limit u error.Overflow error.Nodes refl (ready_below h free) (λ k. ⊎_elim (λ p. readable_applies h static.Overflow (lit< tt) (overflow_here m s limit u numbers p)) fits k)
 
-  pub below_18 : HasNoCauseBelow s limit u c 17 → ¬ (IsCause s limit u c error.Bindings) → HasNoCauseBelow s limit u c 18
-  below_18 h b error.Long l k = k
-  below_18 h b error.Lexical l k = k
-  below_18 h b error.Nesting l k = k
-  below_18 h b error.Syntax l k = k
-  below_18 h b error.Unbound l k = h error.Unbound (omega arith) k
-  below_18 h b error.FormulaAsTerm l k = h error.FormulaAsTerm (omega arith) k
-  below_18 h b error.Nonlinear l k = h error.Nonlinear (omega arith) k
-  below_18 h b error.Division l k = h error.Division (omega arith) k
-  below_18 h b error.CongruenceContext l k = h error.CongruenceContext (omega arith) k
-  below_18 h b error.Modulus l k = h error.Modulus (omega arith) k
-  below_18 h b error.Depth l k = h error.Depth (omega arith) k
-  below_18 h b error.Point l k = h error.Point (omega arith) k
-  below_18 h b error.Unvalued l k = h error.Unvalued (omega arith) k
-  below_18 h b error.Quantified l k = h error.Quantified (omega arith) k
-  below_18 h b error.Overflow l k = h error.Overflow (omega arith) k
-  below_18 h b error.Nodes l k = k
-  below_18 h b error.Bindings l k = b k
-  below_18 h b error.Text l k = absurd (omega arith)
-  below_18 h b error.Memory l k = k
-
-  pub below_19 : HasNoCauseBelow s limit u c 18 → ¬ (IsCause s limit u c error.Text) → IsAccepted s limit u c
-  below_19 h b error.Long l k = k
-  below_19 h b error.Lexical l k = k
-  below_19 h b error.Nesting l k = k
-  below_19 h b error.Syntax l k = k
-  below_19 h b error.Unbound l k = h error.Unbound (omega arith) k
-  below_19 h b error.FormulaAsTerm l k = h error.FormulaAsTerm (omega arith) k
-  below_19 h b error.Nonlinear l k = h error.Nonlinear (omega arith) k
-  below_19 h b error.Division l k = h error.Division (omega arith) k
-  below_19 h b error.CongruenceContext l k = h error.CongruenceContext (omega arith) k
-  below_19 h b error.Modulus l k = h error.Modulus (omega arith) k
-  below_19 h b error.Depth l k = h error.Depth (omega arith) k
-  below_19 h b error.Point l k = h error.Point (omega arith) k
-  below_19 h b error.Unvalued l k = h error.Unvalued (omega arith) k
-  below_19 h b error.Quantified l k = h error.Quantified (omega arith) k
-  below_19 h b error.Overflow l k = h error.Overflow (omega arith) k
-  below_19 h b error.Nodes l k = k
-  below_19 h b error.Bindings l k = h error.Bindings (omega arith) k
-  below_19 h b error.Text l k = b k
-  below_19 h b error.Memory l k = k
+  -- nothing is counted that is refused wherever it applies
+  pub below_bindings : HasNone m s limit u (before error.Nodes) → HasNone m s limit u (before error.Bindings)
+  below_bindings h = then_clear m s limit u error.Nodes error.Bindings refl h plain.nodes

@@ -2,7 +2,7 @@
 use Rattle.std.proofs.Common.{List, [], ◌∷◌}
 use Rattle.qe_syntax.specs.declared.statement.PointEntry.{PointEntry}
 use Rattle.qe_syntax.specs.Writable.{AreWritableEntries}
-use Rattle.session_commands.specs.Commands.{entry_names}
+use Rattle.session_commands.specs.Asked.{entry_names}
 use Rattle.session_state.proofs.VariableLemmas.{AllVariables}
 
 pub names_of_entries : (es : List PointEntry) → AreWritableEntries es → AllVariables (entry_names es)

@@ -1,5 +1,5 @@
 -- Commands that give a formula: what they give, when they are accepted, and why they are refused.
-use Rattle.std.proofs.Common.{◌≡◌, inl, inr, ℕ, ◌<◌, List, [], ◌∷◌, ◌++◌, Bool, true, Option, Some, None, sym, ap, ◌∙◌, subst, refl, length, codes, nat_eq, arith, lit<, ◌↔◌, ◌≤◌}
+use Rattle.std.proofs.Common.{◌≡◌, ◌⊎◌, inl, inr, ℕ, ◌<◌, List, [], ◌∷◌, ◌++◌, Bool, true, Option, Some, None, sym, ap, ◌∙◌, subst, refl, length, codes, nat_eq, arith, ◌↔◌, ◌≤◌}
 use Rattle.std.proofs.lemmas.List.{length-append}
 use Rattle.std.specs.List.{fold}
 use Rattle.formula_meaning.specs.Formula.{none, also}
@@ -23,7 +23,12 @@ use Rattle.formula_meaning.specs.Some.{EachOf}
 use Rattle.formula_tree.specs.Resolving.{bound_truth, formula_variables, all_variables, resolve, at_names}
 use Rattle.qe_syntax.specs.Value as written
 use Rattle.redlog_printer.specs.Text.{tree_text}
-use Rattle.session_commands.specs.Steps.{static_refusal, forms_refusal, form_of, HasUnwantedQuantifier, IsReady, IsUnready, AppliesToPart, given_trees, command_of, use_of, IsFormulaAnswer, HasNumbers, IsReadable, ArePartsNumbered, ArePartsReadable, ArePartsUnread, MayBind, TargetFault, LineFault, state_with}
+use Rattle.session_commands.specs.Replies.{use_of, Refuses, state_with, IsFormulaAnswer}
+use Rattle.session_commands.specs.Steps.{forms_refusal, given_trees, form_of, command_of, HasNumbers, IsReadable, AreNumbered, AreReadable, HasNoEarlier, AreUnread, HasUnwantedQuantifier, IsReady, IsUnready, MayBind, TargetFault, LineFault}
+use Rattle.session_meaning.specs.Meaning.{meaning, numbered, Meaning, Determines, IsAllowed}
+use Rattle.session_meaning.specs.Causes.{Use, HasNoRoom, IsTooLarge, HasManyNodes, formula_line, IsCause, MayBeCause, HasNone, IsFirst}
+use Rattle.session_meaning.specs.Reply.{IsLine}
+use Rattle.session_meaning.specs.Words.{before}
 use Rattle.shared_forms.specs.Forms.{IsFormOf, IsSimplifiedAnswer, IsCleanedAs, IsPrenexAs, IsSimplifiedAs}
 use Rattle.shared_forms.specs.declared.error.FormsError.{FormsError}
 use Rattle.shared_forms.specs.declared.error.FormsError.TheVariants as forms
@@ -36,27 +41,18 @@ use Rattle.session_meaning.specs.declared.line.StatementError.TheVariants as err
 use Rattle.session_commands.specs.declared.formulas.FormCommand.{FormCommand}
 use Rattle.session_commands.specs.declared.formulas.FormCommand.TheVariants as wanted
 use Rattle.session_meaning.specs.State.{State, with_names}
-use Rattle.session_commands.specs.Parts.{given_of}
 use Rattle.session_meaning.specs.Assumptions.{atoms_alone, assumed, Hold}
 use Rattle.session_meaning.specs.FormulaAnswers.{negated_of, IsPrenexAnswer, IsSimplification, IsCondition, IsCleanAnswer}
-use Rattle.session_commands.specs.Commands.{formula_of, named, Gives, IsFormulaFor, HasAnswerNames}
-use Rattle.session_meaning.specs.Causes.{Use, HasNoRoom, IsTooLarge, HasManyNodes, formula_line}
-use Rattle.session_commands.specs.Causes.{RenamingPasses, IsCause, rank, MayRefuse, HasNoCauseBelow, Refuses}
 use Rattle.session_state.specs.Keeping.{IsSessionFormula, IsSound}
-use Rattle.session_meaning.specs.Reply.{IsLine}
 use Rattle.shared_forms.specs.declared.forms.ClauseForm.TheVariants as clause_form
-use Rattle.formula_resolving.specs.declared.error.StaticError.{StaticError}
-use Rattle.formula_resolving.specs.declared.error.StaticError.TheVariants as static
-use Rattle.formula_resolving.specs.Refusals.{rank as static_rank}
 use Rattle.formula_meaning.specs.declared.junction.Junction.{Junction}
 use Rattle.formula_meaning.specs.declared.junction.Junction.TheVariants.{Conjunction, Disjunction}
 use Rattle.clean_forms.specs.Plain.{plain_form}
-use Rattle.session_commands.proofs.CauseLemmas.{IsPlainCommand, unread_refuses, quantified_refuses, ready_below, readable_below, below_17, below_18, below_19}
+use Rattle.session_commands.proofs.CauseLemmas.{HasNoPoint, then_clear, unread_refuses, quantified_refuses, ready_below, readable_below, below_bindings}
 use Rattle.prenex_forms.proofs.Finished.{finished}
 use Rattle.session_state.proofs.NameLemmas.{kept_names}
 use Rattle.session_commands.proofs.NewNameLemmas.{answer_names_once}
 use Rattle.shared_forms.proofs.PrenexLemmas.{prenex_form_members, prenex_formula}
-use Rattle.session_commands.proofs.PartLemmas.{first_part}
 use Rattle.session_commands.proofs.AssumptionLemmas.{assumed_hold, each_both, alone_has}
 use Rattle.session_state.proofs.VariableLemmas.{not_empty}
 use Rattle.shared_forms.proofs.EliminatedLemmas.{plain_free, answer_formula, orderly_members, orderly_every, simplified_formula, cleaned_formula}
@@ -69,7 +65,7 @@ append_nil (x ∷ xs) = ap (λ z. x ∷ z) (append_nil xs)
 
 -- ---- the formula and the assumptions of the command
 
-pub parts_are : (w : FormCommand) (f : FormulaTree) (X : FormulaTree → FormulaTrees → Type 0) → X f (given_trees w) → X (formula_of (command_of w f)) (given_of (command_of w f))
+pub parts_are : (w : FormCommand) (f : FormulaTree) (X : FormulaTrees → Type 0) → X (also f (given_trees w)) → X (meaning (command_of w f)).formulas
 parts_are wanted.Resolved f X h = h
 parts_are wanted.NegationNormal f X h = h
 parts_are wanted.Prenex f X h = h
@@ -78,41 +74,40 @@ parts_are (wanted.Distributed clause_form.Conjunctive) f X h = h
 parts_are (wanted.Simplified given) f X h = h
 parts_are (wanted.Eliminated given) f X h = h
 
-plain_command : (w : FormCommand) (f : FormulaTree) → IsPlainCommand (command_of w f)
-plain_command wanted.Resolved f = record { no_entries = refl; no_point = λ h. h }
-plain_command wanted.NegationNormal f = record { no_entries = refl; no_point = λ h. h }
-plain_command wanted.Prenex f = record { no_entries = refl; no_point = λ h. h }
-plain_command (wanted.Distributed clause_form.Disjunctive) f = record { no_entries = refl; no_point = λ h. h }
-plain_command (wanted.Distributed clause_form.Conjunctive) f = record { no_entries = refl; no_point = λ h. h }
-plain_command (wanted.Simplified given) f = record { no_entries = refl; no_point = λ h. h }
-plain_command (wanted.Eliminated given) f = record { no_entries = refl; no_point = λ h. h }
+plain_command : (w : FormCommand) (f : FormulaTree) (s : State) (limit : ℕ) → HasNoPoint (meaning (command_of w f)) s limit
+plain_command wanted.Resolved f s limit = record { further = refl; point = λ h. h; unvalued = λ h. h; nodes = λ h. h; text = λ h. h }
+plain_command wanted.NegationNormal f s limit = record { further = refl; point = λ h. h; unvalued = λ h. h; nodes = λ h. h; text = λ h. h }
+plain_command wanted.Prenex f s limit = record { further = refl; point = λ h. h; unvalued = λ h. h; nodes = λ h. h; text = λ h. h }
+plain_command (wanted.Distributed clause_form.Disjunctive) f s limit = record { further = refl; point = λ h. h; unvalued = λ h. h; nodes = λ h. h; text = λ h. h }
+plain_command (wanted.Distributed clause_form.Conjunctive) f s limit = record { further = refl; point = λ h. h; unvalued = λ h. h; nodes = λ h. h; text = λ h. h }
+plain_command (wanted.Simplified given) f s limit = record { further = refl; point = λ h. h; unvalued = λ h. h; nodes = λ h. h; text = λ h. h }
+plain_command (wanted.Eliminated given) f s limit = record { further = refl; point = λ h. h; unvalued = λ h. h; nodes = λ h. h; text = λ h. h }
 
 -- the state with their variables
 abbrev pub with_variables : State → FormulaTree → FormulaTrees → State
 with_variables s f given = with_names s (fold with_name s.names (formula_variables f ++ all_variables given))
 
-with_them : (s : State) (f : FormulaTree) (xs ys : List (List ℕ)) → xs ≡ ys
-    → with_names s (fold with_name s.names (formula_variables f ++ xs)) ≡ with_names s (fold with_name s.names (formula_variables f ++ ys))
-with_them s f xs ys e = ap (λ zs. with_names s (fold with_name s.names (formula_variables f ++ zs))) e
+with_them : (s : State) (xs : List (List ℕ)) → with_names s (fold with_name s.names (xs ++ [])) ≡ with_names s (fold with_name s.names xs)
+with_them s xs = ap (λ zs. with_names s (fold with_name s.names zs)) (append_nil xs)
 
-pub named_is : (w : FormCommand) (f : FormulaTree) (s : State) → named s (command_of w f) ≡ with_variables s f (given_trees w)
-named_is wanted.Resolved f s = refl
-named_is wanted.NegationNormal f s = refl
-named_is wanted.Prenex f s = refl
-named_is (wanted.Distributed clause_form.Disjunctive) f s = refl
-named_is (wanted.Distributed clause_form.Conjunctive) f s = refl
-named_is (wanted.Simplified given) f s = with_them s f _ _ (append_nil (all_variables (formula_trees given.now)))
-named_is (wanted.Eliminated given) f s = with_them s f _ _ (append_nil (all_variables (formula_trees given.now)))
+pub named_is : (w : FormCommand) (f : FormulaTree) (s : State) → numbered (meaning (command_of w f)) s ≡ with_variables s f (given_trees w)
+named_is wanted.Resolved f s = with_them s (formula_variables f ++ all_variables none)
+named_is wanted.NegationNormal f s = with_them s (formula_variables f ++ all_variables none)
+named_is wanted.Prenex f s = with_them s (formula_variables f ++ all_variables none)
+named_is (wanted.Distributed clause_form.Disjunctive) f s = with_them s (formula_variables f ++ all_variables none)
+named_is (wanted.Distributed clause_form.Conjunctive) f s = with_them s (formula_variables f ++ all_variables none)
+named_is (wanted.Simplified given) f s = with_them s (formula_variables f ++ all_variables (formula_trees given.now))
+named_is (wanted.Eliminated given) f s = with_them s (formula_variables f ++ all_variables (formula_trees given.now))
 
-numbered_in : (f : FormulaTree) (gs : FormulaTrees) (names : List (List ℕ)) → ((x : List ℕ) → IsIn x (formula_variables f ++ all_variables gs) → IsIn x names) → ArePartsNumbered names f gs
-numbered_in f none names h = kept_names (formula_variables f) names (λ x i. h x (in_either x (formula_variables f) [] (inl i)))
-numbered_in f (also g gs) names h = (
-  kept_names (formula_variables f) names (λ x i. h x (in_either x (formula_variables f) (formula_variables g ++ all_variables gs) (inl i))),
-  numbered_in g gs names (λ x i. h x (in_either x (formula_variables f) (formula_variables g ++ all_variables gs) (inr i))),
+pub numbered_in : (fs : FormulaTrees) (names : List (List ℕ)) → ((x : List ℕ) → IsIn x (all_variables fs) → IsIn x names) → AreNumbered names fs
+numbered_in none names h = tt
+numbered_in (also g gs) names h = (
+  kept_names (formula_variables g) names (λ x i. h x (in_either x (formula_variables g) (all_variables gs) (inl i))),
+  numbered_in gs names (λ x i. h x (in_either x (formula_variables g) (all_variables gs) (inr i))),
 )
 
-pub numbers_of : (f : FormulaTree) (gs : FormulaTrees) (names : List (List ℕ)) → ArePartsNumbered (fold with_name names (formula_variables f ++ all_variables gs)) f gs
-numbers_of f gs names = numbered_in f gs (fold with_name names (formula_variables f ++ all_variables gs)) (λ x i. after_has (formula_variables f ++ all_variables gs) names x (inr i))
+pub numbers_of : (f : FormulaTree) (gs : FormulaTrees) (names : List (List ℕ)) → AreNumbered (fold with_name names (formula_variables f ++ all_variables gs)) (also f gs)
+numbers_of f gs names = numbered_in (also f gs) (fold with_name names (formula_variables f ++ all_variables gs)) (λ x i. after_has (formula_variables f ++ all_variables gs) names x (inr i))
 
 -- ---- refusals in reading
 
@@ -131,63 +126,53 @@ longer (Some x) names t u l h =
     goal
 
 -- a quantifier where none may be is the cause of that name
-unwanted : (w : FormCommand) (f : FormulaTree) (s : State) (limit : ℕ) (u : Use) → IsCause s limit u (command_of w f) error.Quantified → HasUnwantedQuantifier s w f
-unwanted wanted.Resolved f s limit u h = h.0
-unwanted wanted.NegationNormal f s limit u h = h.0
-unwanted wanted.Prenex f s limit u h = h.0
-unwanted (wanted.Distributed clause_form.Disjunctive) f s limit u h = h.1
-unwanted (wanted.Distributed clause_form.Conjunctive) f s limit u h = h.1
-unwanted (wanted.Simplified given) f s limit u h = h.0
-unwanted (wanted.Eliminated given) f s limit u h = h.0
+unwanted : (w : FormCommand) (f : FormulaTree) (s : State) (limit : ℕ) → (meaning (command_of w f)).must.quantified s limit → HasUnwantedQuantifier s w f
+unwanted wanted.Resolved f s limit h = h
+unwanted wanted.NegationNormal f s limit h = h
+unwanted wanted.Prenex f s limit h = h
+unwanted (wanted.Distributed clause_form.Disjunctive) f s limit h = h
+unwanted (wanted.Distributed clause_form.Conjunctive) f s limit h = h
+unwanted (wanted.Simplified given) f s limit h = h
+unwanted (wanted.Eliminated given) f s limit h = h
 
-wanted_no_quantifier : (w : FormCommand) (f : FormulaTree) (s : State) (limit : ℕ) (u : Use) → HasUnwantedQuantifier s w f → IsCause s limit u (command_of w f) error.Quantified
-wanted_no_quantifier wanted.Resolved f s limit u h = absurd h
-wanted_no_quantifier wanted.NegationNormal f s limit u h = absurd h
-wanted_no_quantifier wanted.Prenex f s limit u h = absurd h
-wanted_no_quantifier (wanted.Distributed clause_form.Disjunctive) f s limit u h = (tt, h)
-wanted_no_quantifier (wanted.Distributed clause_form.Conjunctive) f s limit u h = (tt, h)
-wanted_no_quantifier (wanted.Simplified given) f s limit u h = absurd h
-wanted_no_quantifier (wanted.Eliminated given) f s limit u h = absurd h
+wanted_no_quantifier : (w : FormCommand) (f : FormulaTree) (s : State) (limit : ℕ) → HasUnwantedQuantifier s w f → (meaning (command_of w f)).must.quantified s limit
+wanted_no_quantifier wanted.Resolved f s limit h = h
+wanted_no_quantifier wanted.NegationNormal f s limit h = h
+wanted_no_quantifier wanted.Prenex f s limit h = h
+wanted_no_quantifier (wanted.Distributed clause_form.Disjunctive) f s limit h = h
+wanted_no_quantifier (wanted.Distributed clause_form.Conjunctive) f s limit h = h
+wanted_no_quantifier (wanted.Simplified given) f s limit h = h
+wanted_no_quantifier (wanted.Eliminated given) f s limit h = h
 
-module _ (w : FormCommand) (f : FormulaTree) (s : State) (numbers : ArePartsNumbered s.names f (given_trees w)) (limit : ℕ) (target : Option (List ℕ)) (printed : Bool) where
+module _ (w : FormCommand) (f : FormulaTree) (s : State) (numbers : AreNumbered s.names (also f (given_trees w))) (limit : ℕ) (target : Option (List ℕ)) (printed : Bool) where
   abbrev command : CommandTree
   command = command_of w f
+
+  abbrev asked : Meaning
+  asked = meaning (command_of w f)
 
   abbrev done : Use
   done = use_of target printed
 
-  numbers_here : ArePartsNumbered s.names (formula_of command) (given_of command)
-  numbers_here = parts_are w f (λ g gs. ArePartsNumbered s.names g gs) numbers
+  numbers_here : AreNumbered s.names asked.formulas
+  numbers_here = parts_are w f (AreNumbered s.names) numbers
 
-  module _ (plain : ¬ (HasUnwantedQuantifier s w f)) where
-    no_quantifier : ¬ (IsCause s limit done command error.Quantified)
-    no_quantifier h = plain (unwanted w f s limit done h)
+  no_quantifier : ¬ (HasUnwantedQuantifier s w f) → ¬ (asked.must.quantified s limit)
+  no_quantifier plain h = plain (unwanted w f s limit h)
 
-    pub refused_unread : (e : StatementError) → ArePartsUnread s f (given_trees w) e → Refuses s limit done command e
-    refused_unread e h = unread_refuses s limit done command numbers_here (plain_command w f) e (λ o. no_quantifier) (parts_are w f (λ g gs. ArePartsUnread s g gs e) h)
+  -- a command that is not ready is refused
+  pub refused_unready : (e : StatementError) → IsUnready s w f e → Refuses s limit done command e
+  refused_unready e (inl h) other =
+      subst (IsFirst asked s limit done) (sym h.word)
+      (quantified_refuses asked s limit done numbers_here (plain_command w f s limit) (wanted_no_quantifier w f s limit h.quantified) (parts_are w f (λ fs. HasNoEarlier s fs 7) h.first))
+  refused_unready e (inr h) other =
+      unread_refuses asked s limit done numbers_here (plain_command w f s limit) e (λ o. no_quantifier (h.plain o)) (parts_are w f (λ fs. AreUnread s fs e) h.unread) other
 
-  pub unread_early : (e : StatementError) → ¬ (e ≡ error.Overflow) → ArePartsUnread s f (given_trees w) e → Refuses s limit done command e
-  unread_early e early h = unread_refuses s limit done command numbers_here (plain_command w f) e (λ o. absurd (early o)) (parts_are w f (λ g gs. ArePartsUnread s g gs e) h)
+  pub clear_to_nodes : IsReady s w f → ¬ (asked.must.overflow s limit) → HasNone asked s limit done (before error.Nodes)
+  clear_to_nodes h fits = readable_below asked s limit done numbers_here (plain_command w f s limit) (parts_are w f (AreReadable s) h.readable) (no_quantifier h.plain) fits
 
-  below_quantified : ((d : StaticError) → static_rank d < 7 → ¬ (AppliesToPart s f (given_trees w) d)) → (d : StaticError) → rank (static_refusal d) < 14 → ¬ (AppliesToPart s (formula_of command) (given_of command) d)
-  below_quantified first static.Unbound l = parts_are w f (λ g gs. ¬ (AppliesToPart s g gs static.Unbound)) (first static.Unbound (lit< tt))
-  below_quantified first static.FormulaAsTerm l = parts_are w f (λ g gs. ¬ (AppliesToPart s g gs static.FormulaAsTerm)) (first static.FormulaAsTerm (lit< tt))
-  below_quantified first static.Nonlinear l = parts_are w f (λ g gs. ¬ (AppliesToPart s g gs static.Nonlinear)) (first static.Nonlinear (lit< tt))
-  below_quantified first static.Division l = parts_are w f (λ g gs. ¬ (AppliesToPart s g gs static.Division)) (first static.Division (lit< tt))
-  below_quantified first static.CongruenceContext l = parts_are w f (λ g gs. ¬ (AppliesToPart s g gs static.CongruenceContext)) (first static.CongruenceContext (lit< tt))
-  below_quantified first static.Modulus l = parts_are w f (λ g gs. ¬ (AppliesToPart s g gs static.Modulus)) (first static.Modulus (lit< tt))
-  below_quantified first static.Depth l = parts_are w f (λ g gs. ¬ (AppliesToPart s g gs static.Depth)) (first static.Depth (lit< tt))
-  below_quantified first static.Overflow l = absurd (omega arith)
-  below_quantified first static.Memory l = absurd (omega arith)
-
-  pub refused_quantified : HasUnwantedQuantifier s w f → ((d : StaticError) → static_rank d < 7 → ¬ (AppliesToPart s f (given_trees w) d)) → Refuses s limit done command error.Quantified
-  refused_quantified h first = quantified_refuses s limit done command numbers_here (plain_command w f) (wanted_no_quantifier w f s limit done h) (below_quantified first)
-
-  pub clear_16 : IsReady s w f → ¬ (RenamingPasses s limit command) → HasNoCauseBelow s limit done command 16
-  clear_16 h fits = readable_below s limit done command numbers_here (plain_command w f) (parts_are w f (λ g gs. ArePartsReadable s g gs) h.readable) (no_quantifier h.plain) fits
-
-  pub clear_15 : IsReady s w f → HasNoCauseBelow s limit done command 15
-  clear_15 h = ready_below s limit done command numbers_here (plain_command w f) (parts_are w f (λ g gs. ArePartsReadable s g gs) h.readable) (no_quantifier h.plain)
+  pub clear_to_overflow : IsReady s w f → HasNone asked s limit done (before error.Overflow)
+  clear_to_overflow h = ready_below asked s limit done numbers_here (plain_command w f s limit) (parts_are w f (AreReadable s) h.readable) (no_quantifier h.plain)
 
 -- ---- what is given
 
@@ -207,7 +192,7 @@ module _ (f : FormulaTree) (s : State) (limit : ℕ) (t : Tree) where
   Given w = IsFormOf s.context (length s.names) (assumed s (given_trees w)) limit (form_of w) resolution t
 
   -- no renamed atom passes the limit of numbers
-  given_fits : (w : FormCommand) → Given w → ¬ (RenamingPasses s limit (command_of w f))
+  given_fits : (w : FormCommand) → Given w → ¬ ((meaning (command_of w f)).must.overflow s limit)
   given_fits wanted.Resolved h k = k
   given_fits wanted.NegationNormal h k = k
   given_fits wanted.Prenex h k = h.fits k.1
@@ -216,7 +201,7 @@ module _ (f : FormulaTree) (s : State) (limit : ℕ) (t : Tree) where
   given_fits (wanted.Simplified given) h k = k
   given_fits (wanted.Eliminated given) h k = k
 
-  one : (w : FormCommand) → Given w → (other : Tree) → Gives s (command_of w f) other → other ≡ t
+  one : (w : FormCommand) → Given w → (other : Tree) → Determines (meaning (command_of w f)).answer s other → other ≡ t
   one wanted.Resolved h other k = k ∙ sym h
   one wanted.NegationNormal h other k = k ∙ sym h
   one wanted.Prenex h other k = k ∙ sym h.form
@@ -227,9 +212,9 @@ module _ (f : FormulaTree) (s : State) (limit : ℕ) (t : Tree) where
 
   -- ---- simplified
 
-  module _ (gs : FormulaTrees) (readable : ArePartsReadable s f gs) (sound : IsSound s) (numbers : ArePartsNumbered s.names f gs) (own : IsSessionFormula s.context (length s.names) resolution) where
+  module _ (gs : FormulaTrees) (readable : AreReadable s (also f gs)) (sound : IsSound s) (numbers : AreNumbered s.names (also f gs)) (own : IsSessionFormula s.context (length s.names) resolution) where
     same_here : (p : NamedPoint) → Of s.context p → written.TrueAt (bound_truth s.context s.bound s.names) s.context f p ↔ TrueAt s.context resolution (at_names s.names p)
-    same_here p of = truth_as_written s f (first_part (HasNumbers s.names) f gs numbers) sound.names_once (first_part (IsReadable s) f gs readable) p of
+    same_here p of = truth_as_written s f (numbers.0) sound.names_once (readable.0) p of
 
     assumptions_say : (p : NamedPoint) → Of s.context p → Hold s gs p → EachOf (λ k. Says k (at_names s.names p)) (assumed s gs)
     assumptions_say p of hold = assumed_hold s f gs readable sound.names_once numbers p of hold
@@ -306,7 +291,7 @@ module _ (f : FormulaTree) (s : State) (limit : ℕ) (t : Tree) where
           members = orderly_members (IsNormal s.context) t h.simplified.orderly;
         }
 
-  gives : (w : FormCommand) → IsReady s w f → IsSound s → IsSessionFormula s.context (length s.names) resolution → ArePartsNumbered s.names f (given_trees w) → Given w → IsFormulaFor s limit (command_of w f) t
+  gives : (w : FormCommand) → IsReady s w f → IsSound s → IsSessionFormula s.context (length s.names) resolution → AreNumbered s.names (also f (given_trees w)) → Given w → IsAllowed (meaning (command_of w f)).answer s limit t
   gives wanted.Resolved readable sound own numbers h = h
   gives wanted.NegationNormal readable sound own numbers h = h
   gives wanted.Prenex readable sound own numbers h = prenexing none readable.readable sound numbers own h
@@ -315,7 +300,7 @@ module _ (f : FormulaTree) (s : State) (limit : ℕ) (t : Tree) where
   gives (wanted.Simplified given) readable sound own numbers h = simplification (formula_trees given.now) readable.readable sound numbers own h
   gives (wanted.Eliminated given) readable sound own numbers h = condition (formula_trees given.now) readable.readable sound numbers own h
 
-  too_large : (w : FormCommand) → Given w → (u : Use) → IsTooLarge u.target t → MayRefuse s limit u (command_of w f) error.Bindings
+  too_large : (w : FormCommand) → Given w → (u : Use) → IsTooLarge u.target t → IsCause (meaning (command_of w f)) s limit u error.Bindings ⊎ MayBeCause (meaning (command_of w f)) s limit u error.Bindings
   too_large wanted.Resolved h u k = inl (inr (t, h, k))
   too_large wanted.NegationNormal h u k = inl (inr (t, h, k))
   too_large wanted.Prenex h u k = inl (inr (t, h.form, k))
@@ -329,10 +314,10 @@ module _ (f : FormulaTree) (s : State) (limit : ℕ) (t : Tree) where
     long_here : names ≡ s.names → text_limit < length (formula_line u.target s.names t)
     long_here e = subst (λ ns. text_limit < length (formula_line u.target ns t)) e k
 
-    too_long : (w : FormCommand) → Given w → HasAnswerNames s (command_of w f) names → MayRefuse s limit u (command_of w f) error.Text
-    too_long wanted.Resolved h n = inl (p, record { formula = t; given = h; names = names; named = n; long = k })
-    too_long wanted.NegationNormal h n = inl (p, record { formula = t; given = h; names = names; named = n; long = k })
-    too_long wanted.Prenex h n = inl (p, record { formula = t; given = h.form; names = names; named = n; long = k })
+    too_long : (w : FormCommand) → Given w → (meaning (command_of w f)).names s names → IsCause (meaning (command_of w f)) s limit u error.Text ⊎ MayBeCause (meaning (command_of w f)) s limit u error.Text
+    too_long wanted.Resolved h n = inl (p, inl record { formula = t; determined = h; names = names; named = n; long = k })
+    too_long wanted.NegationNormal h n = inl (p, inl record { formula = t; determined = h; names = names; named = n; long = k })
+    too_long wanted.Prenex h n = inl (p, inl record { formula = t; determined = h.form; names = names; named = n; long = k })
     too_long (wanted.Distributed clause_form.Disjunctive) h n =
         let short = h.text s.names (not_empty s.names sound.variables) (negated_formula s.context (length s.names) resolution own).within.atoms in
         inr (p, inl (plain_form Conjunction (negated_of s f), refl, longer u.target s.names t (plain_form Conjunction (negated_of s f)) short (long_here n)))
@@ -347,45 +332,48 @@ module _ (f : FormulaTree) (s : State) (limit : ℕ) (t : Tree) where
         let short = h.simplified.text s.names (not_empty s.names sound.variables) answered.within.atoms in
         inr (p, inl (h.answer, (h.eliminated.cost, h.eliminated.same), longer u.target s.names t h.answer short (long_here n)))
 
-  no_room : (w : FormCommand) (u : Use) → HasNoRoom s.bound u.target → MayRefuse s limit u (command_of w f) error.Bindings
+  no_room : (w : FormCommand) (u : Use) → HasNoRoom s.bound u.target → IsCause (meaning (command_of w f)) s limit u error.Bindings ⊎ MayBeCause (meaning (command_of w f)) s limit u error.Bindings
   no_room w u k = inl (inl k)
 
-module _ (w : FormCommand) (f : FormulaTree) (s : State) (numbers : ArePartsNumbered s.names f (given_trees w)) (limit : ℕ) (target : Option (List ℕ)) (printed : Bool) (t : Tree)
+module _ (w : FormCommand) (f : FormulaTree) (s : State) (numbers : AreNumbered s.names (also f (given_trees w))) (limit : ℕ) (target : Option (List ℕ)) (printed : Bool) (t : Tree)
     (given : IsFormOf s.context (length s.names) (assumed s (given_trees w)) limit (form_of w) (resolve s.context s.bound s.names f) t) (h : IsReady s w f) where
-  clear : HasNoCauseBelow s limit (use_of target printed) (command_of w f) 16
-  clear = clear_16 w f s numbers limit target printed h (given_fits f s limit t w given)
+  abbrev given_use : Use
+  given_use = use_of target printed
 
-  pub refused_target : (e : StatementError) → TargetFault s.bound target t e → Refuses s limit (use_of target printed) (command_of w f) e
-  refused_target error.Bindings (inl k) = record { applies = no_room f s limit t w (use_of target printed) k; first = below_17 s limit (use_of target printed) (command_of w f) clear }
-  refused_target error.Bindings (inr k) = record { applies = too_large f s limit t w given (use_of target printed) k; first = below_17 s limit (use_of target printed) (command_of w f) clear }
-  refused_target error.Memory k = tt
+  clear : HasNone (meaning (command_of w f)) s limit given_use (before error.Bindings)
+  clear = below_bindings (meaning (command_of w f)) s limit given_use (parts_are w f (AreNumbered s.names) numbers) (plain_command w f s limit) (clear_to_nodes w f s numbers limit target printed h (given_fits f s limit t w given))
+
+  pub refused_target : (e : StatementError) → TargetFault s.bound target t e → Refuses s limit given_use (command_of w f) e
+  refused_target error.Bindings (inl k) = λ other. record { applies = no_room f s limit t w given_use k; first = clear }
+  refused_target error.Bindings (inr k) = λ other. record { applies = too_large f s limit t w given given_use k; first = clear }
+  refused_target error.Memory k = λ other. absurd (other refl)
   refused_target _ k = absurd k
 
-  clear_18 : MayBind s.bound target t → HasNoCauseBelow s limit (use_of target printed) (command_of w f) 18
-  clear_18 b =
-      below_18 s limit (use_of target printed) (command_of w f) (below_17 s limit (use_of target printed) (command_of w f) clear)
+  clear_to_text : MayBind s.bound target t → HasNone (meaning (command_of w f)) s limit given_use (before error.Text)
+  clear_to_text b =
+      then_clear (meaning (command_of w f)) s limit given_use error.Bindings error.Text refl clear
       (λ k. elim k [ inl r ↦ b.room r | inr m ↦ b.small (subst (IsTooLarge target) (one f s limit t w given m.0 m.1) m.2) ])
 
-  module _ (sound : IsSound s) (own : IsSessionFormula s.context (length s.names) (resolve s.context s.bound s.names f)) (names : List (List ℕ)) (named : HasAnswerNames s (command_of w f) names) where
+  module _ (sound : IsSound s) (own : IsSessionFormula s.context (length s.names) (resolve s.context s.bound s.names f)) (names : List (List ℕ)) (named : (meaning (command_of w f)).names s names) where
     pub refused_line : MayBind s.bound target t → (e : StatementError) → LineFault printed (formula_line target names t) e → Refuses s limit (use_of target printed) (command_of w f) e
-    refused_line b error.Text k = record { applies = too_long f s limit t sound own names (use_of target printed) k.0 k.1 w given named; first = clear_18 b }
-    refused_line b error.Memory k = tt
+    refused_line b error.Text k = λ other. record { applies = too_long f s limit t sound own names given_use k.0 k.1 w given named; first = clear_to_text b }
+    refused_line b error.Memory k = λ other. absurd (other refl)
     refused_line b _ k = absurd k
 
     -- a line that is past the limit would be this one
-    not_long : ¬ (LineFault printed (formula_line target names t) error.Text) → ¬ (IsCause s limit (use_of target printed) (command_of w f) error.Text)
-    not_long short k =
-        let long = k.1 in
+    not_long : ¬ (LineFault printed (formula_line target names t) error.Text) → ¬ (IsCause (meaning (command_of w f)) s limit given_use error.Text)
+    not_long short (p, inl long) =
         let same_names = answer_names_once s (command_of w f) long.names names long.named named in
         let here = subst (λ ns. text_limit < length (formula_line target ns long.formula)) same_names long.long in
-        short (k.0, subst (λ u. text_limit < length (formula_line target names u)) (one f s limit t w given long.formula long.given) here)
+        short (p, subst (λ u. text_limit < length (formula_line target names u)) (one f s limit t w given long.formula long.determined) here)
+    not_long short (p, inr own_text) = (plain_command w f s limit).text own_text
 
     pub is_given : Every IsAtomInLimit t → MayBind s.bound target t → (answer : Line) → IsLine printed (formula_line target names t) answer
         → ¬ (LineFault printed (formula_line target names t) error.Text) → IsFormulaAnswer s limit (use_of target printed) (command_of w f) answer (state_with (with_names s names) target t)
     is_given fits b answer line short = record {
-      accepted = below_19 s limit (use_of target printed) (command_of w f) (clear_18 b) (not_long short);
+      accepted = then_clear (meaning (command_of w f)) s limit given_use error.Text error.Memory refl (clear_to_text b) (not_long short);
       formula = t;
-      given = (gives f s limit t w h sound own numbers given, fits);
+      allowed = (gives f s limit t w h sound own numbers given, fits);
       names = names;
       named = named;
       line = line;
@@ -398,18 +386,21 @@ pub readable_formula : (f : FormulaTree) (s : State) → HasNumbers s.names f �
 readable_formula f s numbers sound proper h = resolved_formula s.context s.bound s.names f sound.formulas numbers proper h
 
 -- the assumptions are normal atoms
-pub assumed_normal : (s : State) → IsSound s → (f : FormulaTree) (gs : FormulaTrees) → ArePartsNumbered s.names f gs → ArePartsReadable s f gs → AreWritableFormulas gs → EachOf (IsNormal s.context) (assumed s gs)
-assumed_normal s sound f none numbers readable proper = tt
-assumed_normal s sound f (also g gs) numbers readable proper =
+each_normal : (s : State) → IsSound s → (gs : FormulaTrees) → AreNumbered s.names gs → AreReadable s gs → AreWritableFormulas gs → EachOf (IsNormal s.context) (assumed s gs)
+each_normal s sound none numbers readable proper = tt
+each_normal s sound (also g gs) numbers readable proper =
     each_both (IsNormal s.context) (atoms_alone (resolve s.context s.bound s.names g)) (assumed s gs)
-    (alone_has (IsNormal s.context) (resolve s.context s.bound s.names g) (readable_formula g s (first_part (HasNumbers s.names) g gs numbers.1) sound proper.0 (first_part (IsReadable s) g gs readable.1)).normal)
-    (assumed_normal s sound g gs numbers.1 readable.1 proper.1)
+    (alone_has (IsNormal s.context) (resolve s.context s.bound s.names g) (readable_formula g s numbers.0 sound proper.0 readable.0).normal)
+    (each_normal s sound gs numbers.1 readable.1 proper.1)
+
+pub assumed_normal : (s : State) → IsSound s → (f : FormulaTree) (gs : FormulaTrees) → AreNumbered s.names (also f gs) → AreReadable s (also f gs) → AreWritableFormulas gs → EachOf (IsNormal s.context) (assumed s gs)
+assumed_normal s sound f gs numbers readable proper = each_normal s sound gs numbers.1 readable.1 proper
 
 same_names : (s : State) (t : Tree) (names : List (List ℕ)) → names ≡ s.names → IsSessionFormula s.context (length s.names) t → IsSessionFormula s.context (length names) t
 same_names s t names e h = subst (λ ns. IsSessionFormula s.context (length ns) t) (sym e) h
 
 pub given_formula : (w : FormCommand) (f : FormulaTree) (s : State) (limit : ℕ) (t : Tree) (names : List (List ℕ)) → IsFormOf s.context (length s.names) (assumed s (given_trees w)) limit (form_of w) (resolve s.context s.bound s.names f) t
-    → HasAnswerNames s (command_of w f) names → IsSessionFormula s.context (length s.names) (resolve s.context s.bound s.names f) → IsSessionFormula s.context (length names) t
+    → (meaning (command_of w f)).names s names → IsSessionFormula s.context (length s.names) (resolve s.context s.bound s.names f) → IsSessionFormula s.context (length names) t
 given_formula wanted.Resolved f s limit t names given named own = same_names s t names named (subst (IsSessionFormula s.context (length s.names)) (sym given) own)
 given_formula wanted.NegationNormal f s limit t names given named own = same_names s t names named (subst (IsSessionFormula s.context (length s.names)) (sym given) (negated_formula s.context (length s.names) _ own))
 given_formula wanted.Prenex f s limit t names given named own = prenex_formula s.context s.names names _ t own given.form named
@@ -419,74 +410,39 @@ given_formula (wanted.Simplified g) f s limit t names given named own = same_nam
 given_formula (wanted.Eliminated g) f s limit t names given named own =
     same_names s t names named (simplified_formula s.context _ (length s.names) given.answer t (answer_formula s.context (length s.names) _ given.answer own given.eliminated.exact) given.simplified)
 
--- a command that is not ready is refused
-pub refused_unready : (w : FormCommand) (f : FormulaTree) (s : State) (numbers : ArePartsNumbered s.names f (given_trees w)) (limit : ℕ) (target : Option (List ℕ)) (printed : Bool) (e : StatementError) → IsUnready s w f e
-    → Refuses s limit (use_of target printed) (command_of w f) e
-refused_unready w f s numbers limit target printed error.Quantified h = refused_quantified w f s numbers limit target printed h.0 h.1
-refused_unready w f s numbers limit target printed error.Overflow h = refused_unread w f s numbers limit target printed h.1 error.Overflow h.0
-refused_unready w f s numbers limit target printed error.Unbound h = unread_early w f s numbers limit target printed error.Unbound (λ e. absurd (cc (e))) h
-refused_unready w f s numbers limit target printed error.FormulaAsTerm h = unread_early w f s numbers limit target printed error.FormulaAsTerm (λ e. absurd (cc (e))) h
-refused_unready w f s numbers limit target printed error.Nonlinear h = unread_early w f s numbers limit target printed error.Nonlinear (λ e. absurd (cc (e))) h
-refused_unready w f s numbers limit target printed error.Division h = unread_early w f s numbers limit target printed error.Division (λ e. absurd (cc (e))) h
-refused_unready w f s numbers limit target printed error.CongruenceContext h = unread_early w f s numbers limit target printed error.CongruenceContext (λ e. absurd (cc (e))) h
-refused_unready w f s numbers limit target printed error.Modulus h = unread_early w f s numbers limit target printed error.Modulus (λ e. absurd (cc (e))) h
-refused_unready w f s numbers limit target printed error.Depth h = unread_early w f s numbers limit target printed error.Depth (λ e. absurd (cc (e))) h
-refused_unready w f s numbers limit target printed error.Memory h = tt
-refused_unready w f s numbers limit target printed error.Long h = unread_early w f s numbers limit target printed error.Long (λ e. absurd (cc (e))) h
-refused_unready w f s numbers limit target printed error.Lexical h = unread_early w f s numbers limit target printed error.Lexical (λ e. absurd (cc (e))) h
-refused_unready w f s numbers limit target printed error.Nesting h = unread_early w f s numbers limit target printed error.Nesting (λ e. absurd (cc (e))) h
-refused_unready w f s numbers limit target printed error.Syntax h = unread_early w f s numbers limit target printed error.Syntax (λ e. absurd (cc (e))) h
-refused_unready w f s numbers limit target printed error.Point h = unread_early w f s numbers limit target printed error.Point (λ e. absurd (cc (e))) h
-refused_unready w f s numbers limit target printed error.Unvalued h = unread_early w f s numbers limit target printed error.Unvalued (λ e. absurd (cc (e))) h
-refused_unready w f s numbers limit target printed error.Nodes h = unread_early w f s numbers limit target printed error.Nodes (λ e. absurd (cc (e))) h
-refused_unready w f s numbers limit target printed error.Bindings h = unread_early w f s numbers limit target printed error.Bindings (λ e. absurd (cc (e))) h
-refused_unready w f s numbers limit target printed error.Text h = unread_early w f s numbers limit target printed error.Text (λ e. absurd (cc (e))) h
-
 -- the limit that is given is the one that is passed
 past_one : (limit count : ℕ) → (n : ℕ) × (Some limit ≡ Some n) × (n < count) → limit < count
 past_one limit count h = let e : limit ≡ h.0 = cc (h.1) in subst (λ n. n < count) (sym e) h.2
 
--- the form is not made
-module _ (w : FormCommand) (f : FormulaTree) (s : State) (numbers : ArePartsNumbered s.names f (given_trees w)) (limit : ℕ) (target : Option (List ℕ)) (printed : Bool) (h : IsReady s w f) where
-  first_16 : ¬ (RenamingPasses s limit (command_of w f)) → HasNoCauseBelow s limit (use_of target printed) (command_of w f) 16
-  first_16 fits = clear_16 w f s numbers limit target printed h fits
-
-  first_15 : HasNoCauseBelow s limit (use_of target printed) (command_of w f) 15
-  first_15 = clear_15 w f s numbers limit target printed h
-
 -- a prenex form has too many nodes, or a number of a renamed atom passes the limit
-refused_prenex : (f : FormulaTree) (s : State) (numbers : ArePartsNumbered s.names f none) (limit : ℕ) (target : Option (List ℕ)) (printed : Bool) → IsReady s wanted.Prenex f
+refused_prenex : (f : FormulaTree) (s : State) (numbers : AreNumbered s.names (also f none)) (limit : ℕ) (target : Option (List ℕ)) (printed : Bool) → IsReady s wanted.Prenex f
     → (e : FormsError) → PrenexFault s.context (length s.names) limit (resolve s.context s.bound s.names f) e → Refuses s limit (use_of target printed) (Pnf f) (forms_refusal e)
-refused_prenex f s numbers limit target printed h forms.Nodes k = record {
-  applies = inr (inl k);
-  first = first_16 wanted.Prenex f s numbers limit target printed h (λ p. let few = p.0 in absurd (omega arith));
+refused_prenex f s numbers limit target printed h forms.Nodes k other = record {
+  applies = inr k;
+  first = clear_to_nodes wanted.Prenex f s numbers limit target printed h (λ p. let few = p.0 in absurd (omega arith));
 }
-refused_prenex f s numbers limit target printed h forms.Overflow k = record { applies = inl (inr (inr k)); first = first_15 wanted.Prenex f s numbers limit target printed h }
-refused_prenex f s numbers limit target printed h forms.Memory k = tt
+refused_prenex f s numbers limit target printed h forms.Overflow k other = record { applies = inl (inr k); first = clear_to_overflow wanted.Prenex f s numbers limit target printed h }
+refused_prenex f s numbers limit target printed h forms.Memory k other = absurd (other refl)
 
-pub refused_form : (w : FormCommand) (f : FormulaTree) (s : State) (numbers : ArePartsNumbered s.names f (given_trees w)) (limit : ℕ) (target : Option (List ℕ)) (printed : Bool) → IsReady s w f
+-- the form is not made
+pub refused_form : (w : FormCommand) (f : FormulaTree) (s : State) (numbers : AreNumbered s.names (also f (given_trees w))) (limit : ℕ) (target : Option (List ℕ)) (printed : Bool) → IsReady s w f
     → (e : FormsError) → FormFault s.context (length s.names) limit (form_of w) (resolve s.context s.bound s.names f) e → Refuses s limit (use_of target printed) (command_of w f) (forms_refusal e)
-refused_form wanted.Prenex f s numbers limit target printed h e k = refused_prenex f s numbers limit target printed h e k
-refused_form wanted.Resolved f s numbers limit target printed h forms.Overflow k = absurd k
-refused_form wanted.Resolved f s numbers limit target printed h forms.Nodes k = absurd k
-refused_form wanted.Resolved f s numbers limit target printed h forms.Memory k = tt
-refused_form wanted.NegationNormal f s numbers limit target printed h forms.Overflow k = absurd k
-refused_form wanted.NegationNormal f s numbers limit target printed h forms.Nodes k =
-    record { applies = inl (tt, past_one limit _ k); first = first_16 wanted.NegationNormal f s numbers limit target printed h (λ p. p) }
-refused_form wanted.NegationNormal f s numbers limit target printed h forms.Memory k = tt
-refused_form (wanted.Distributed clauses) f s numbers limit target printed h forms.Overflow k = absurd k
-refused_form (wanted.Distributed clause_form.Disjunctive) f s numbers limit target printed h forms.Nodes k = record {
-  applies = inr (inl k);
-  first = first_16 (wanted.Distributed clause_form.Disjunctive) f s numbers limit target printed h (λ p. p);
-}
-refused_form (wanted.Distributed clause_form.Conjunctive) f s numbers limit target printed h forms.Nodes k = record {
-  applies = inr (inl k);
-  first = first_16 (wanted.Distributed clause_form.Conjunctive) f s numbers limit target printed h (λ p. p);
-}
-refused_form (wanted.Distributed clauses) f s numbers limit target printed h forms.Memory k = tt
-refused_form (wanted.Simplified g) f s numbers limit target printed h forms.Overflow k = absurd k
-refused_form (wanted.Simplified g) f s numbers limit target printed h forms.Nodes k = record { applies = inr (inl k); first = first_16 (wanted.Simplified g) f s numbers limit target printed h (λ p. p) }
-refused_form (wanted.Simplified g) f s numbers limit target printed h forms.Memory k = tt
-refused_form (wanted.Eliminated g) f s numbers limit target printed h forms.Overflow k = record { applies = inr (inr k); first = first_15 (wanted.Eliminated g) f s numbers limit target printed h }
-refused_form (wanted.Eliminated g) f s numbers limit target printed h forms.Nodes k = record { applies = inr (inr k); first = first_16 (wanted.Eliminated g) f s numbers limit target printed h (λ p. p) }
-refused_form (wanted.Eliminated g) f s numbers limit target printed h forms.Memory k = tt
+refused_form wanted.Prenex f s numbers limit target printed h e k other = refused_prenex f s numbers limit target printed h e k other
+refused_form wanted.Resolved f s numbers limit target printed h forms.Overflow k other = absurd k
+refused_form wanted.Resolved f s numbers limit target printed h forms.Nodes k other = absurd k
+refused_form wanted.Resolved f s numbers limit target printed h forms.Memory k other = absurd (other refl)
+refused_form wanted.NegationNormal f s numbers limit target printed h forms.Overflow k other = absurd k
+refused_form wanted.NegationNormal f s numbers limit target printed h forms.Nodes k other = record { applies = inr (past_one limit _ k); first = clear_to_nodes wanted.NegationNormal f s numbers limit target printed h (λ p. p) }
+refused_form wanted.NegationNormal f s numbers limit target printed h forms.Memory k other = absurd (other refl)
+refused_form (wanted.Distributed clause_form.Disjunctive) f s numbers limit target printed h forms.Overflow k other = absurd k
+refused_form (wanted.Distributed clause_form.Disjunctive) f s numbers limit target printed h forms.Nodes k other = record { applies = inr k; first = clear_to_nodes (wanted.Distributed clause_form.Disjunctive) f s numbers limit target printed h (λ p. p) }
+refused_form (wanted.Distributed clause_form.Disjunctive) f s numbers limit target printed h forms.Memory k other = absurd (other refl)
+refused_form (wanted.Distributed clause_form.Conjunctive) f s numbers limit target printed h forms.Overflow k other = absurd k
+refused_form (wanted.Distributed clause_form.Conjunctive) f s numbers limit target printed h forms.Nodes k other = record { applies = inr k; first = clear_to_nodes (wanted.Distributed clause_form.Conjunctive) f s numbers limit target printed h (λ p. p) }
+refused_form (wanted.Distributed clause_form.Conjunctive) f s numbers limit target printed h forms.Memory k other = absurd (other refl)
+refused_form (wanted.Simplified g) f s numbers limit target printed h forms.Overflow k other = absurd k
+refused_form (wanted.Simplified g) f s numbers limit target printed h forms.Nodes k other = record { applies = inr k; first = clear_to_nodes (wanted.Simplified g) f s numbers limit target printed h (λ p. p) }
+refused_form (wanted.Simplified g) f s numbers limit target printed h forms.Memory k other = absurd (other refl)
+refused_form (wanted.Eliminated g) f s numbers limit target printed h forms.Overflow k other = record { applies = inr k; first = clear_to_overflow (wanted.Eliminated g) f s numbers limit target printed h }
+refused_form (wanted.Eliminated g) f s numbers limit target printed h forms.Nodes k other = record { applies = inr k; first = clear_to_nodes (wanted.Eliminated g) f s numbers limit target printed h (λ p. p) }
+refused_form (wanted.Eliminated g) f s numbers limit target printed h forms.Memory k other = absurd (other refl)

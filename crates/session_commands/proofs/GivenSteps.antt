@@ -1,6 +1,7 @@
 -- The steps of a command that gives a formula, on the state.
 use Rattle.std.specs.Prelude.{Result, Ok, Err, OnOk, OnErr, IfOk, IfErr}
 use Rattle.std.proofs.Common.{◌≡◌, ⊎_elim, inl, inr, ℕ, List, [], ◌∷◌, ◌++◌, map, Bool, Option, Some, None, sym, ap, ◌∙◌, subst, refl, length}
+use Rattle.formula_meaning.specs.Formula.{also}
 use Rattle.std.specs.List.{AllByRecursion, fold, IsDistinct}
 use Rattle.std.specs.Map.{keys_of}
 use Rattle.formula_meaning.specs.Atom.{Atom}
@@ -33,11 +34,11 @@ use Rattle.session_commands.specs.declared.formulas.FormCommand.TheVariants as w
 use Rattle.session_meaning.specs.Points.{IsQuantified}
 use Rattle.formula_meaning.specs.Shape.{IsQuantifierFree}
 use Rattle.session_meaning.specs.State.{State, with_names}
-use Rattle.session_commands.specs.Commands.{named}
-use Rattle.session_commands.specs.Causes.{Refuses}
+use Rattle.session_commands.specs.Replies.{use_of, Refuses, state_with, IsFormulaAnswer}
+use Rattle.session_commands.specs.Steps.{forms_refusal, given_trees, form_of, command_of, AreNumbered, HasUnwantedQuantifier, IsReady, IsUnready, IsWantedOf, MayBind, TargetFault, IsLineOf, GiveFault, bound_after}
+use Rattle.session_meaning.specs.Meaning.{meaning, numbered}
 use Rattle.session_state.specs.Keeping.{state_of, IsSessionFormula, IsSound, IsSessionState}
 use Rattle.session_meaning.specs.Assumptions.{assumed}
-use Rattle.session_commands.specs.Steps.{forms_refusal, form_of, HasNumbers, IsReadable, ArePartsNumbered, HasUnwantedQuantifier, IsReady, IsUnready, given_trees, command_of, use_of, IsFormulaAnswer, IsWantedOf, MayBind, TargetFault, IsLineOf, GiveFault, state_with, bound_after}
 use Rattle.shared_forms.specs.declared.error.FormsError.{FormsError}
 use Rattle.shared_forms.specs.Forms.{IsDistributed, IsFormOf, HasFormNames}
 use Rattle.shared_forms.specs.Faults.{FormFault}
@@ -45,7 +46,6 @@ use Rattle.session_state.specs.Growth.{KeepsState, GrowsState}
 use Rattle.session_state.proofs.BindingLemmas.{bind_trees, bind_ids, bind_distinct, bound_there}
 use Rattle.session_state.proofs.StateLemmas.{state_parts, grown_state, grown_session, sound_with, length_grows}
 use Rattle.session_commands.proofs.NewNameLemmas.{form_names, answer_names_distinct, answer_names_variables}
-use Rattle.session_commands.proofs.PartLemmas.{first_part}
 use Rattle.session_commands.proofs.PointLemmas.{resolved_free}
 use Rattle.session_state.proofs.VariableLemmas.{AllVariables, both, variables_of_formula, variables_of_all, all_put_in}
 use Rattle.session_commands.proofs.GivenLemmas.{assumed_normal, named_is, numbers_of, refused_unready, refused_form, refused_target, refused_line, is_given, readable_formula, given_formula}
@@ -94,7 +94,7 @@ if_err (Err e) h p = h e p
 
 -- ---- the wanted formula, on a state where the variables have their numbers
 
-module _ (w : FormCommand) (f : FormulaTree) (state : SessionState) (numbers : ArePartsNumbered state.names f (given_trees w)) (h : IsSessionState state) (proper : IsWritableFormula f) where
+module _ (w : FormCommand) (f : FormulaTree) (state : SessionState) (numbers : AreNumbered state.names (also f (given_trees w))) (h : IsSessionState state) (proper : IsWritableFormula f) where
   -- the resolved formula
   abbrev resolution : Tree
   resolution = resolve (state_of state).context (state_of state).bound state.names f
@@ -103,7 +103,7 @@ module _ (w : FormCommand) (f : FormulaTree) (state : SessionState) (numbers : A
   unready_refused limit e u target printed = refused_unready w f (state_of state) numbers limit target printed e u
 
   own : IsReady (state_of state) w f → IsSessionFormula (state_of state).context (length state.names) resolution
-  own ready = readable_formula f (state_of state) (first_part (HasNumbers state.names) f (given_trees w) numbers) h.sound proper (first_part (IsReadable (state_of state)) f (given_trees w) ready.readable)
+  own ready = readable_formula f (state_of state) (numbers.0) h.sound proper (ready.readable.0)
 
   -- the state after the formula and its assumptions were read, the formula's tree, and the atoms
   module _ (ready : IsReady (state_of state) w f) (read : SessionState) (kept : KeepsState state read) (t : Tree) (same : t ≡ resolution) (ks : List Atom) (same_atoms : ks ≡ assumed (state_of state) (given_trees w)) where
@@ -232,16 +232,16 @@ module _ (w : FormCommand) (f : FormulaTree) (state : SessionState) (numbers : A
 -- ---- the state where the variables have their numbers
 
 module _ (w : FormCommand) (f : FormulaTree) (state : SessionState) (names : List (List ℕ)) (is : names ≡ fold with_name state.names (formula_variables f ++ all_variables (given_trees w))) where
-  abbrev pub numbered : SessionState
-  numbered = record { alloc = state.alloc; context = state.context; names = names; bindings = state.bindings; store = state.store; kept = state.kept }
+  abbrev pub with_numbers : SessionState
+  with_numbers = record { alloc = state.alloc; context = state.context; names = names; bindings = state.bindings; store = state.store; kept = state.kept }
 
-  pub numbered_state : state_of numbered ≡ named (state_of state) (command_of w f)
+  pub numbered_state : state_of with_numbers ≡ numbered (meaning (command_of w f)) (state_of state)
   numbered_state = sym (named_is w f (state_of state) ∙ state_parts _ _ _ _ _ _ refl (sym is) refl)
 
-  pub numbers_there : ArePartsNumbered names f (given_trees w)
-  numbers_there = subst (λ ms. ArePartsNumbered ms f (given_trees w)) (sym is) (numbers_of f (given_trees w) state.names)
+  pub numbers_there : AreNumbered names (also f (given_trees w))
+  numbers_there = subst (λ ms. AreNumbered ms (also f (given_trees w))) (sym is) (numbers_of f (given_trees w) state.names)
 
-  pub numbered_session : IsSessionState state → Grows state.names names → IsWritableFormula f → AreWritableFormulas (given_trees w) → IsSessionState numbered
+  pub numbered_session : IsSessionState state → Grows state.names names → IsWritableFormula f → AreWritableFormulas (given_trees w) → IsSessionState with_numbers
   numbered_session h g proper proper_given =
       let xs = formula_variables f ++ all_variables (given_trees w) in
       let variables = both (formula_variables f) (all_variables (given_trees w)) (variables_of_formula f proper) (variables_of_all (given_trees w) proper_given) in

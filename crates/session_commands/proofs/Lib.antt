@@ -15,5 +15,4 @@ pub mod SampleLemmas
 pub mod ShortSamples
 pub mod SampleSteps
 pub mod NewNameLemmas
-pub mod Agreement
 pub mod Accepted

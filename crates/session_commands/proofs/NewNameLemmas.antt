@@ -1,6 +1,7 @@
 -- The names after an answer: which they are, and that the others stay.
 use Rattle.std.proofs.Common.{◌≡◌, ℕ, List, sym, ◌∙◌, subst}
 use Rattle.std.specs.List.{IsDistinct}
+use Rattle.formula_meaning.specs.Tree.{Tree}
 use Rattle.qe_syntax.specs.Statements.{CommandTree, Echo, Nnf, Pnf, Dnf, Cnf, Simpl, Qe, Qea, Holds, Sample}
 use Rattle.qe_syntax.specs.Trees.{FormulaTree}
 use Rattle.qe_syntax.specs.Value.{same_name}
@@ -11,8 +12,8 @@ use Rattle.session_commands.specs.declared.formulas.FormCommand.TheVariants as w
 use Rattle.shared_forms.specs.declared.forms.ClauseForm.TheVariants as clause_form
 use Rattle.session_meaning.specs.State.{State}
 use Rattle.session_meaning.specs.FormulaAnswers.{HasNewNames}
-use Rattle.session_commands.specs.Commands.{resolved, HasAnswerNames}
 use Rattle.session_commands.specs.Steps.{form_of, command_of}
+use Rattle.session_meaning.specs.Meaning.{meaning}
 use Rattle.shared_forms.specs.Forms.{HasFormNames}
 use Rattle.session_state.proofs.NameLemmas.{grows_itself}
 use Rattle.shared_forms.proofs.NewNames.{adds_once, adds_grows, adds_distinct}
@@ -21,10 +22,10 @@ use Rattle.session_state.proofs.VariableLemmas.{AllVariables}
 -- ---- the names after an answer
 
 -- what holds where there are no new names, and where there are those of a prenex form, holds of each command
-answer_names : (s : State) (c : CommandTree) (P : (List (List ℕ) → Type 0) → Type 0) → P (λ names. names ≡ s.names) → P (HasNewNames s.names (resolved s c)) → P (HasAnswerNames s c)
+answer_names : (s : State) (c : CommandTree) (P : (List (List ℕ) → Type 0) → Type 0) → P (λ names. names ≡ s.names) → ((f : Tree) → P (HasNewNames s.names f)) → P ((meaning c).names s)
 answer_names s (Echo f) P old new = old
 answer_names s (Nnf f) P old new = old
-answer_names s (Pnf f) P old new = new
+answer_names s (Pnf f) P old new = new (resolve s.context s.bound s.names f)
 answer_names s (Dnf f) P old new = old
 answer_names s (Cnf f) P old new = old
 answer_names s (Simpl f given) P old new = old
@@ -33,23 +34,23 @@ answer_names s (Qea f given) P old new = old
 answer_names s (Holds f es) P old new = old
 answer_names s (Sample f es) P old new = old
 
-pub answer_names_once : (s : State) (c : CommandTree) (a b : List (List ℕ)) → HasAnswerNames s c a → HasAnswerNames s c b → a ≡ b
+pub answer_names_once : (s : State) (c : CommandTree) (a b : List (List ℕ)) → (meaning c).names s a → (meaning c).names s b → a ≡ b
 answer_names_once s c =
-    answer_names s c (λ R. (a b : List (List ℕ)) → R a → R b → a ≡ b) (λ a b h k. h ∙ sym k) (λ a b h k. adds_once _ s.names a b h.added k.added)
+    answer_names s c (λ R. (a b : List (List ℕ)) → R a → R b → a ≡ b) (λ a b h k. h ∙ sym k) (λ f a b h k. adds_once _ s.names a b h.added k.added)
 
-pub answer_names_grow : (s : State) (c : CommandTree) (names : List (List ℕ)) → HasAnswerNames s c names → Grows s.names names
+pub answer_names_grow : (s : State) (c : CommandTree) (names : List (List ℕ)) → (meaning c).names s names → Grows s.names names
 answer_names_grow s c =
-    answer_names s c (λ R. (names : List (List ℕ)) → R names → Grows s.names names) (λ names h. subst (Grows s.names) (sym h) (grows_itself s.names)) (λ names h. adds_grows _ s.names names h.added)
+    answer_names s c (λ R. (names : List (List ℕ)) → R names → Grows s.names names) (λ names h. subst (Grows s.names) (sym h) (grows_itself s.names)) (λ f names h. adds_grows _ s.names names h.added)
 
-pub answer_names_distinct : (s : State) (c : CommandTree) (names : List (List ℕ)) → IsDistinct same_name s.names → HasAnswerNames s c names → IsDistinct same_name names
+pub answer_names_distinct : (s : State) (c : CommandTree) (names : List (List ℕ)) → IsDistinct same_name s.names → (meaning c).names s names → IsDistinct same_name names
 answer_names_distinct s c names d =
-    answer_names s c (λ R. R names → IsDistinct same_name names) (λ h. subst (IsDistinct same_name) (sym h) d) (λ h. adds_distinct _ s.names names d h.added)
+    answer_names s c (λ R. R names → IsDistinct same_name names) (λ h. subst (IsDistinct same_name) (sym h) d) (λ f h. adds_distinct _ s.names names d h.added)
 
-pub answer_names_variables : (s : State) (c : CommandTree) (names : List (List ℕ)) → AllVariables s.names → HasAnswerNames s c names → AllVariables names
-answer_names_variables s c names v = answer_names s c (λ R. R names → AllVariables names) (λ h. subst AllVariables (sym h) v) (λ h. h.variables v)
+pub answer_names_variables : (s : State) (c : CommandTree) (names : List (List ℕ)) → AllVariables s.names → (meaning c).names s names → AllVariables names
+answer_names_variables s c names v = answer_names s c (λ R. R names → AllVariables names) (λ h. subst AllVariables (sym h) v) (λ f h. h.variables v)
 
 -- the names after the wanted form was made
-pub form_names : (w : FormCommand) (f : FormulaTree) (s : State) (names : List (List ℕ)) → HasFormNames (form_of w) s.names (resolve s.context s.bound s.names f) names → HasAnswerNames s (command_of w f) names
+pub form_names : (w : FormCommand) (f : FormulaTree) (s : State) (names : List (List ℕ)) → HasFormNames (form_of w) s.names (resolve s.context s.bound s.names f) names → (meaning (command_of w f)).names s names
 form_names wanted.Resolved f s names h = h
 form_names wanted.NegationNormal f s names h = h
 form_names wanted.Prenex f s names h = h

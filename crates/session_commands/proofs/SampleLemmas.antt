@@ -1,5 +1,5 @@
 -- The sample at a point, and why it is refused.
-use Rattle.std.proofs.Common.{◌↔◌, inr, ℕ, ◌<◌, ◌≤◌, List, [], ◌∷◌, Bool, None, Some, Option, subst, lit≤, arith, sym}
+use Rattle.std.proofs.Common.{◌↔◌, inr, ℕ, ◌<◌, List, [], ◌∷◌, Bool, None, Some, Option, subst, sym, refl}
 use Rattle.std.specs.List.{IsDistinct}
 use Rattle.formula_meaning.specs.Context.{Context}
 use Rattle.formula_meaning.specs.Every.{Every}
@@ -26,13 +26,17 @@ use Rattle.formula_tree.specs.Resolving.{at_names, resolve}
 use Rattle.session_meaning.specs.declared.line.StatementError.{StatementError}
 use Rattle.session_meaning.specs.declared.line.StatementError.TheVariants as error
 use Rattle.session_meaning.specs.State.{State}
-use Rattle.session_commands.specs.Asked.{HasNoneBelow}
-use Rattle.session_commands.specs.Causes.{HasNoCauseBelow}
+use Rattle.session_commands.specs.Replies.{use_of}
+use Rattle.session_commands.specs.Steps.{HasNumbers, IsReadable}
+use Rattle.session_commands.specs.Asked.{AcceptsBoth}
+use Rattle.session_meaning.specs.Meaning.{meaning}
+use Rattle.session_meaning.specs.Causes.{HasNone}
+use Rattle.session_meaning.specs.Words.{before}
 use Rattle.session_meaning.specs.FormulaAnswers.{negated_of}
 use Rattle.session_state.specs.Keeping.{IsSessionFormula}
 use Rattle.session_meaning.specs.Samples.{HasSample, IsSample, IsValueInLimit}
 use Rattle.session_commands.specs.SampleSteps.{RefusesSample, SampleStop, IsSampleWithin}
-use Rattle.session_commands.specs.Steps.{use_of, HasNumbers, IsReadable}
+use Rattle.session_commands.proofs.CauseLemmas.{none_before}
 use Rattle.shared_forms.proofs.CaseLemmas.{block_below, turned_says, turned_along}
 use Rattle.session_commands.proofs.TruthLemmas.{truth_as_written}
 
@@ -60,14 +64,17 @@ module _ (s : State) (f : FormulaTree) (es : List PointEntry) (p : NamedPoint) w
 
   -- ---- refusals
 
-  module _ (meant : IsPointOf es p) (clear : HasNoneBelow s f es 19) (limit : ℕ) where
-    below : (printed : Bool) (n : ℕ) → n ≤ 19 → HasNoCauseBelow s limit (use_of None printed) (Sample f es) n
-    below printed n b e l = (clear limit printed).1 e (omega arith)
+  module _ (meant : IsPointOf es p) (clear : AcceptsBoth s f es) (limit : ℕ) where
+    before_overflow : (printed : Bool) → HasNone (meaning (Sample f es)) s limit (use_of None printed) (before error.Overflow)
+    before_overflow printed = none_before (meaning (Sample f es)) s limit (use_of None printed) error.Overflow (error.Overflow ∷ error.Nodes ∷ error.Bindings ∷ error.Text ∷ []) refl (clear limit printed).1
+
+    before_nodes : (printed : Bool) → HasNone (meaning (Sample f es)) s limit (use_of None printed) (before error.Nodes)
+    before_nodes printed = none_before (meaning (Sample f es)) s limit (use_of None printed) error.Nodes (error.Nodes ∷ error.Bindings ∷ error.Text ∷ []) refl (clear limit printed).1
 
     pub sample_stops : (e : StatementError) → SampleStop s.context limit t q e → RefusesSample s limit f es e
-    sample_stops error.Overflow h = λ printed. record { applies = inr (inr (p, meant, h)); first = below printed 15 (lit≤ tt) }
-    sample_stops error.Nodes h = λ printed. record { applies = inr (inr (p, meant, h)); first = below printed 16 (lit≤ tt) }
-    sample_stops error.Memory h = λ printed. tt
+    sample_stops error.Overflow h = λ printed other. record { applies = inr (p, meant, h); first = before_overflow printed }
+    sample_stops error.Nodes h = λ printed other. record { applies = inr (p, meant, h); first = before_nodes printed }
+    sample_stops error.Memory h = λ printed other. absurd (other refl)
     sample_stops _ h = absurd h
 
   -- ---- the sample

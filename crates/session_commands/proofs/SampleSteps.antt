@@ -45,15 +45,14 @@ use Rattle.session_meaning.specs.declared.line.StatementError.{StatementError}
 use Rattle.session_meaning.specs.declared.line.StatementError.TheVariants as error
 use Rattle.session_state.specs.declared.state.SessionState.{SessionState}
 use Rattle.session_meaning.specs.State.{State}
-use Rattle.session_commands.specs.Asked.{IsAsked}
-use Rattle.session_commands.specs.Causes.{Refuses}
-use Rattle.session_commands.specs.Commands.{named, entry_names}
-use Rattle.session_state.specs.Keeping.{state_of, IsSessionState}
+use Rattle.session_commands.specs.Replies.{use_of, Refuses, IsQueryAnswer}
+use Rattle.session_commands.specs.Steps.{measured_refusal, HasNumbers}
+use Rattle.session_commands.specs.Asked.{entry_names, IsAsked}
+use Rattle.session_meaning.specs.Meaning.{meaning, numbered}
 use Rattle.session_meaning.specs.Reply.{IsLine}
-use Rattle.session_commands.specs.Reply.{AnswersCommand}
+use Rattle.session_state.specs.Keeping.{state_of, IsSessionState}
 use Rattle.session_meaning.specs.Samples.{sample_text}
 use Rattle.session_commands.specs.SampleSteps.{RefusesSample, SampleStop, IsSampleWithin, IsWantedSample}
-use Rattle.session_commands.specs.Steps.{use_of, measured_refusal, HasNumbers}
 use Rattle.session_state.specs.Growth.{KeepsState}
 use Rattle.session_commands.proofs.AskedSteps.{theory, asked_normal, named_session, start}
 use Rattle.shared_forms.proofs.CaseLemmas.{err_map}
@@ -149,20 +148,20 @@ module _ (state : SessionState) (names : List (List ℕ)) (f : FormulaTree) (es 
   first = named_session state names f es h grown is proper proper_entries
 
   -- what is said of the state where the variables have their numbers
-  begun : (P : State → Type 0) → P (state_of first) → P (named (state_of state) (Sample f es))
+  begun : (P : State → Type 0) → P (state_of first) → P (numbered (meaning (Sample f es)) (state_of state))
   begun P k = subst P (start state names f es h grown is proper proper_entries) k
 
-  pub sample_refused : {E : Type 0} (r : Result E StatementError) → IfErr r (RefusesSample (state_of first) limit f es) → IfErr r (Refuses (named (state_of state) (Sample f es)) limit (use_of None printed) (Sample f es))
+  pub sample_refused : {E : Type 0} (r : Result E StatementError) → IfErr r (RefusesSample (state_of first) limit f es) → IfErr r (Refuses (numbered (meaning (Sample f es)) (state_of state)) limit (use_of None printed) (Sample f es))
   sample_refused r k = err_map r (λ e u. begun (λ s. Refuses s limit (use_of None printed) (Sample f es) e) (u printed)) k
 
   module _ (later : SessionState) (k : KeepsState first later) (sample : Option (List Value)) (w : IsWantedSample (state_of first) limit f es sample) (r : Result Line StatementError) where
     pub within_there : IsSampleWithin (length later.names) sample
     within_there = subst (λ ns. IsSampleWithin (length ns) sample) (sym k.names) w.within
 
-    pub sample_answered : (after : List (List ℕ)) → IfOk r (IsLine printed (sample_text later.names sample)) → IfOk r (AnswersCommand (named (state_of state) (Sample f es)) limit printed (Sample f es) after)
+    pub sample_answered : (after : List (List ℕ)) → IfOk r (IsLine printed (sample_text later.names sample)) → IfOk r (IsQueryAnswer (numbered (meaning (Sample f es)) (state_of state)) limit printed (Sample f es) after)
     sample_answered after l =
-        ok_map r (λ line i. begun (λ s. AnswersCommand s limit printed (Sample f es) after line)
-        (w.clear printed, (sample_text names sample, (sample, w.answer, refl), subst (λ ns. IsLine printed (sample_text ns sample) line) k.names i))) l
+        ok_map r (λ line i. begun (λ s. IsQueryAnswer s limit printed (Sample f es) after line)
+        (record { accepted = w.clear printed; text = sample_text names sample; told = (sample, w.answer, refl); line = subst (λ ns. IsLine printed (sample_text ns sample) line) k.names i })) l
 
     pub short_there : length (sample_text later.names sample) ≤ text_limit
     short_there = subst (λ ns. length (sample_text ns sample) ≤ text_limit) (sym k.names) w.short

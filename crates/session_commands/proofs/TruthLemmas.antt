@@ -1,5 +1,5 @@
 -- The truth at a point, and why it is refused.
-use Rattle.std.proofs.Common.{◌≡◌, inl, inr, ℕ, List, ◌≤◌, Bool, true, false, IsTrue, ◌↔◌, None, sym, subst, refl, arith, lit≤}
+use Rattle.std.proofs.Common.{◌≡◌, inl, inr, ℕ, List, [], ◌∷◌, Bool, true, false, IsTrue, ◌↔◌, None, sym, subst, refl}
 use Rattle.std.proofs.lemmas.Bool.{false≢true}
 use Rattle.std.specs.List.{IsDistinct}
 use Rattle.formula_meaning.specs.Context.{Context}
@@ -21,10 +21,14 @@ use Rattle.plain_engine.specs.Told.{StopsWith}
 use Rattle.session_meaning.specs.declared.line.StatementError.{StatementError}
 use Rattle.session_meaning.specs.declared.line.StatementError.TheVariants as error
 use Rattle.session_meaning.specs.State.{State}
-use Rattle.session_commands.specs.Asked.{HasNoneBelow}
+use Rattle.session_commands.specs.Replies.{use_of}
+use Rattle.session_commands.specs.Steps.{measured_refusal, HasNumbers, IsReadable}
+use Rattle.session_commands.specs.Asked.{AcceptsBoth}
+use Rattle.session_meaning.specs.Meaning.{meaning}
+use Rattle.session_meaning.specs.Causes.{HasNone}
+use Rattle.session_meaning.specs.Words.{before}
 use Rattle.session_meaning.specs.Points.{IsQuantified, IsTruth}
-use Rattle.session_commands.specs.Causes.{HasNoCauseBelow}
-use Rattle.session_commands.specs.Steps.{measured_refusal, use_of, HasNumbers, IsReadable}
+use Rattle.session_commands.proofs.CauseLemmas.{none_before}
 use Rattle.session_commands.specs.Truths.{RefusesTruth, ValueStop, EliminationStop}
 
 -- the resolved formula has the truth of the written one
@@ -37,19 +41,22 @@ truth_as_written s f numbers distinct readable p of =
 module _ (s : State) (f : FormulaTree) (es : List PointEntry) (p : NamedPoint) (meant : IsPointOf es p) where
   -- ---- refusals
 
-  module _ (clear : HasNoneBelow s f es 19) (limit : ℕ) where
-    below : (printed : Bool) (n : ℕ) → n ≤ 19 → HasNoCauseBelow s limit (use_of None printed) (Holds f es) n
-    below printed n b e l = (clear limit printed).0 e (omega arith)
+  module _ (clear : AcceptsBoth s f es) (limit : ℕ) where
+    before_overflow : (printed : Bool) → HasNone (meaning (Holds f es)) s limit (use_of None printed) (before error.Overflow)
+    before_overflow printed = none_before (meaning (Holds f es)) s limit (use_of None printed) error.Overflow (error.Overflow ∷ error.Nodes ∷ error.Bindings ∷ error.Text ∷ []) refl (clear limit printed).0
+
+    before_nodes : (printed : Bool) → HasNone (meaning (Holds f es)) s limit (use_of None printed) (before error.Nodes)
+    before_nodes printed = none_before (meaning (Holds f es)) s limit (use_of None printed) error.Nodes (error.Nodes ∷ error.Bindings ∷ error.Text ∷ []) refl (clear limit printed).0
 
     pub truth_passes : ¬ (IsQuantified s.bound f) → (e : StatementError) → ValueStop (resolve s.context s.bound s.names f) (at_names s.names p) e → RefusesTruth s limit f es e
-    truth_passes free error.Overflow h = λ printed. record { applies = inr (inl (tt, free, record { point = p; meant = meant; passes = h })); first = below printed 15 (lit≤ tt) }
-    truth_passes free error.Memory h = λ printed. tt
+    truth_passes free error.Overflow h = λ printed other. record { applies = inr (inl (free, record { point = p; meant = meant; passes = h })); first = before_overflow printed }
+    truth_passes free error.Memory h = λ printed other. absurd (other refl)
     truth_passes free _ h = absurd h
 
     pub elimination_stops : IsQuantified s.bound f → (e : StatementError) → EliminationStop s.context limit (resolve s.context s.bound s.names f) (at_names s.names p) e → RefusesTruth s limit f es e
-    elimination_stops quantified error.Overflow h = λ printed. record { applies = inr (inr (quantified, (p, meant, h))); first = below printed 15 (lit≤ tt) }
-    elimination_stops quantified error.Nodes h = λ printed. record { applies = inr (inr (quantified, (p, meant, h))); first = below printed 16 (lit≤ tt) }
-    elimination_stops quantified error.Memory h = λ printed. tt
+    elimination_stops quantified error.Overflow h = λ printed other. record { applies = inr (inr (quantified, (p, meant, h))); first = before_overflow printed }
+    elimination_stops quantified error.Nodes h = λ printed other. record { applies = inr (quantified, (p, meant, h)); first = before_nodes printed }
+    elimination_stops quantified error.Memory h = λ printed other. absurd (other refl)
     elimination_stops quantified _ h = absurd h
 
   -- ---- the truth

@@ -21,15 +21,14 @@ use Rattle.session_meaning.specs.declared.line.Line.{Line}
 use Rattle.session_meaning.specs.declared.line.StatementError.{StatementError}
 use Rattle.session_state.specs.declared.state.SessionState.{SessionState}
 use Rattle.session_meaning.specs.State.{State}
-use Rattle.session_commands.specs.Asked.{HasNoneBelow, IsAsked}
-use Rattle.session_commands.specs.Commands.{named, entry_names}
-use Rattle.session_commands.specs.Causes.{Refuses}
+use Rattle.session_commands.specs.Replies.{use_of, Refuses, IsQueryAnswer}
+use Rattle.session_commands.specs.Steps.{HasNumbers}
+use Rattle.session_commands.specs.Asked.{AcceptsBoth, entry_names, IsAsked}
+use Rattle.session_meaning.specs.Meaning.{meaning, numbered}
+use Rattle.session_meaning.specs.Reply.{IsLine}
+use Rattle.session_meaning.specs.Words.{truth_text}
 use Rattle.session_state.specs.Keeping.{state_of, IsSessionState}
 use Rattle.session_meaning.specs.Points.{IsQuantified, IsTruth}
-use Rattle.session_meaning.specs.Reply.{IsLine}
-use Rattle.session_commands.specs.Reply.{AnswersCommand}
-use Rattle.session_meaning.specs.Words.{truth_text}
-use Rattle.session_commands.specs.Steps.{use_of, HasNumbers}
 use Rattle.session_state.specs.Growth.{KeepsState}
 use Rattle.session_commands.specs.Truths.{RefusesTruth, ValueStop, EliminationStop}
 use Rattle.session_commands.proofs.AskedSteps.{same, theory, asked_normal, named_session, start}
@@ -76,7 +75,7 @@ module _ (old new : SessionState) (f : FormulaTree) (es : List PointEntry) (stat
       ok_map r (λ b u. truth_is b (here (λ v ns. IsTrue b ↔ TrueAt s.context v (at_names ns (point_of q)))
       (subst (λ c. IsTrue b ↔ TrueAt c (tree new.store i) (at_names new.names (point_of q))) theory_is u))) h
 
-  pub truth_clear : (r : Result Bool StatementError) → OnOk r (HasNoneBelow s f es 19)
+  pub truth_clear : (r : Result Bool StatementError) → OnOk r (AcceptsBoth s f es)
   truth_clear r = on_ok r a.clear
 
   module _ (r : Result Bool StatementError) (limit : ℕ) where
@@ -94,10 +93,10 @@ module _ (old new : SessionState) (f : FormulaTree) (es : List PointEntry) (stat
 module _ (state : SessionState) (names : List (List ℕ)) (f : FormulaTree) (es : List PointEntry) (h : IsSessionState state) (grown : Grows state.names names)
     (is : names ≡ fold with_name state.names (formula_variables f ++ entry_names es)) (proper : IsWritableFormula f) (proper_entries : AreWritableEntries es) where
   pub truth_refused : {E : Type 0} (r : Result E StatementError) (limit : ℕ) (printed : Bool) → IfErr r (RefusesTruth (state_of (named_session state names f es h grown is proper proper_entries)) limit f es)
-      → IfErr r (Refuses (named (state_of state) (Holds f es)) limit (use_of None printed) (Holds f es))
+      → IfErr r (Refuses (numbered (meaning (Holds f es)) (state_of state)) limit (use_of None printed) (Holds f es))
   truth_refused r limit printed k = err_map r (λ e t. subst (λ s. Refuses s limit (use_of None printed) (Holds f es) e) (start state names f es h grown is proper proper_entries) (t printed)) k
 
-  pub truth_answered : (r : Result Line StatementError) (limit : ℕ) (printed b : Bool) (text : List ℕ) → IsTruth (state_of (named_session state names f es h grown is proper proper_entries)) f es b → HasNoneBelow (state_of (named_session state names f es h grown is proper proper_entries)) f es 19 → text ≡ truth_text b
-      → IfOk r (IsLine printed text) → (after : List (List ℕ)) → IfOk r (AnswersCommand (named (state_of state) (Holds f es)) limit printed (Holds f es) after)
+  pub truth_answered : (r : Result Line StatementError) (limit : ℕ) (printed b : Bool) (text : List ℕ) → IsTruth (state_of (named_session state names f es h grown is proper proper_entries)) f es b → AcceptsBoth (state_of (named_session state names f es h grown is proper proper_entries)) f es → text ≡ truth_text b
+      → IfOk r (IsLine printed text) → (after : List (List ℕ)) → IfOk r (IsQueryAnswer (numbered (meaning (Holds f es)) (state_of state)) limit printed (Holds f es) after)
   truth_answered r limit printed b text truth clear same k after =
-      ok_map r (λ line l. subst (λ s. AnswersCommand s limit printed (Holds f es) after line) (start state names f es h grown is proper proper_entries) ((clear limit printed).0, (text, (b, truth, same), l))) k
+      ok_map r (λ line l. subst (λ s. IsQueryAnswer s limit printed (Holds f es) after line) (start state names f es h grown is proper proper_entries) (record { accepted = (clear limit printed).0; text = text; told = (b, truth, same); line = l })) k

@@ -1,8 +1,9 @@
 -- What is looked at before anything is answered at a point: the formula, the point, and whether the free names have entries. The state is one in which the
 -- variables of the command have their numbers.
-use Rattle.std.specs.Prelude.{◌≡◌, ℕ, ◌<◌, List, Bool, true, false, Option, Some, None, MatchOption}
+use Rattle.std.specs.Prelude.{◌≡◌, ℕ, List, Bool, true, false, Option, Some, None, MatchOption, map}
 use Rattle.std.specs.List.{AllByRecursion}
 use Rattle.formula_meaning.specs.Context.{Context, Fields, Integers}
+use Rattle.formula_meaning.specs.Formula.{none, also}
 use Rattle.formula_meaning.specs.Point.{Of}
 use Rattle.formula_meaning.specs.Some.{SomeOf}
 use Rattle.qe_syntax.specs.declared.statement.PointEntry.{PointEntry}
@@ -14,8 +15,6 @@ use Rattle.formula_tree.specs.Bindings.{bound_to}
 use Rattle.formula_tree.specs.Causes.{IsBound, OverflowsInReading}
 use Rattle.formula_tree.specs.Makers.{IsMade}
 use Rattle.formula_tree.specs.Resolving.{place, resolve}
-use Rattle.formula_resolving.specs.declared.error.StaticError.{StaticError}
-use Rattle.formula_resolving.specs.Refusals.{Applies}
 use Rattle.formula_store.specs.declared.id.FormulaId.{FormulaId}
 use Rattle.formula_store.specs.Nodes.{tree, IsId}
 use Rattle.session_meaning.specs.declared.line.StatementError.{StatementError}
@@ -23,8 +22,10 @@ use Rattle.session_meaning.specs.declared.line.StatementError.TheVariants as err
 use Rattle.session_state.specs.declared.state.SessionState.{SessionState}
 use Rattle.session_meaning.specs.State.{State}
 use Rattle.session_meaning.specs.Points.{MeanNoPoint, HasUnvalued}
-use Rattle.session_commands.specs.Causes.{rank, Refuses, HasNoCauseBelow}
-use Rattle.session_commands.specs.Steps.{static_refusal, use_of, IsReadable}
+use Rattle.session_commands.specs.Replies.{use_of, Refuses}
+use Rattle.session_commands.specs.Steps.{IsReadable, HasNoEarlier}
+use Rattle.session_meaning.specs.Meaning.{meaning}
+use Rattle.session_meaning.specs.Causes.{IsAccepted}
 
 -- the names of the entries stand in the list
 abbrev pub HaveNumbers : List (List ℕ) → List PointEntry → Type 0
@@ -34,9 +35,13 @@ HaveNumbers names es = AllByRecursion (λ e. IsIn e.name names) es
 abbrev pub RefusesBoth : State → FormulaTree → List PointEntry → StatementError → Type 0
 RefusesBoth s f es e = (limit : ℕ) (printed : Bool) → Refuses s limit (use_of None printed) (Holds f es) e × Refuses s limit (use_of None printed) (Sample f es) e
 
--- and none of the causes that come before a place of the order applies to them
-abbrev pub HasNoneBelow : State → FormulaTree → List PointEntry → ℕ → Type 0
-HasNoneBelow s f es n = (limit : ℕ) (printed : Bool) → HasNoCauseBelow s limit (use_of None printed) (Holds f es) n × HasNoCauseBelow s limit (use_of None printed) (Sample f es) n
+-- and no cause applies to them
+abbrev pub AcceptsBoth : State → FormulaTree → List PointEntry → Type 0
+AcceptsBoth s f es = (limit : ℕ) (printed : Bool) → IsAccepted (meaning (Holds f es)) s limit (use_of None printed) × IsAccepted (meaning (Sample f es)) s limit (use_of None printed)
+
+-- the names of the entries
+abbrev pub entry_names : List PointEntry → List (List ℕ)
+entry_names es = map (λ (e : PointEntry). e.name) es
 
 -- The word for a formula that is not resolved, where it is told whether something is bound to the name of an entry. There is
 -- none where the reading overflows, since other causes come before that.
@@ -58,8 +63,8 @@ is_whole_theory Integers = true
 
 -- none of the causes that are looked for before the point applies
 pub record IsClear (s : State) (f : FormulaTree) (es : List PointEntry) : Type 0 where
-  pub reading : (d : StaticError) → rank (static_refusal d) < 12 → ¬ (Applies s.context s.bound s.names f d)
-  pub entries : ¬ (SomeOf (λ (e : PointEntry). IsBound s.bound e.name) es)
+  pub reading : HasNoEarlier s (also f none) 7
+  pub entries : ¬ (SomeOf (IsBound s.bound) (entry_names es))
 
 -- the resolved formula, or none where the reading overflows
 pub record IsReadAs (s : State) (f : FormulaTree) (es : List PointEntry) (after : SessionState) (id : Option FormulaId) : Type 0 where
@@ -93,4 +98,4 @@ pub record IsAsked (s : State) (f : FormulaTree) (es : List PointEntry) (after :
   pub made : IsMade (IsId after.store) (tree after.store) id (resolve s.context s.bound s.names f)
   pub meant : IsPointOf es (point_of point)
   pub theory : Of s.context (point_of point)
-  pub clear : HasNoneBelow s f es 19
+  pub clear : AcceptsBoth s f es

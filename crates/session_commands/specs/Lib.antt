@@ -1,11 +1,8 @@
 pub mod Parts
-pub mod Commands
-pub mod Causes
-pub mod Reply
-pub mod Accepted
-pub mod Agreement
-pub mod Seen
+pub mod Replies
 pub mod Steps
 pub mod Asked
 pub mod Truths
 pub mod SampleSteps
+pub mod Accepted
+pub mod Seen

@@ -15,8 +15,9 @@ use Rattle.session_meaning.specs.declared.line.StatementError.{StatementError}
 use Rattle.session_meaning.specs.declared.line.StatementError.TheVariants as error
 use Rattle.session_meaning.specs.State.{State}
 use Rattle.session_meaning.specs.Samples.{IsSampleAnswer, sample_text}
-use Rattle.session_commands.specs.Causes.{Refuses, HasNoCauseBelow}
-use Rattle.session_commands.specs.Steps.{use_of}
+use Rattle.session_commands.specs.Replies.{use_of, Refuses}
+use Rattle.session_meaning.specs.Meaning.{meaning}
+use Rattle.session_meaning.specs.Causes.{IsAccepted}
 
 -- the command is refused with the word under a limit of nodes, whether its line is printed or not
 abbrev pub RefusesSample : State → ℕ → FormulaTree → List PointEntry → StatementError → Type 0
@@ -36,7 +37,7 @@ IsSampleWithin n None = Unit {0}
 
 -- No cause of a refusal applies, and the sample answers the formula as it is written. The names of its values have numbers, and its text is within the limit.
 pub record IsWantedSample (s : State) (limit : ℕ) (f : FormulaTree) (es : List PointEntry) (sample : Option (List Value)) : Type 0 where
-  pub clear : (printed : Bool) → HasNoCauseBelow s limit (use_of None printed) (Sample f es) 19
+  pub clear : (printed : Bool) → IsAccepted (meaning (Sample f es)) s limit (use_of None printed)
   pub answer : IsSampleAnswer s f es sample
   pub within : IsSampleWithin (length s.names) sample
   pub short : length (sample_text s.names sample) ≤ text_limit

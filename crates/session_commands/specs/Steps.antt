@@ -1,12 +1,11 @@
 -- What the steps of an answer give one another.
-use Rattle.std.specs.Prelude.{◌≡◌, ◌⊎◌, ◌<◌, ℕ, List, Bool, true, Option, Some, None, length, nat_lt, if◌then◌else◌}
-use Rattle.formula_meaning.specs.Formula.{none}
+use Rattle.std.specs.Prelude.{◌≡◌, ◌≢◌, ◌⊎◌, ◌<◌, ℕ, List, Bool, true, Option, Some, None, length, nat_lt, if◌then◌else◌}
+use Rattle.formula_meaning.specs.Formula.{none, also}
 use Rattle.formula_meaning.specs.Some.{SomeOf}
 use Rattle.formula_meaning.specs.Tree.{Tree}
-use Rattle.formula_meaning.specs.Measured.{Overflow, Nodes}
 use Rattle.qe_syntax.specs.declared.tree.Formula.{Formula}
 use Rattle.qe_syntax.specs.Trees.{FormulaTree, FormulaTrees, formula_tree, formula_trees}
-use Rattle.qe_syntax.specs.Statements.{CommandTree, Echo, Nnf, Pnf, Dnf, Cnf, Simpl, Qe, StatementTree}
+use Rattle.qe_syntax.specs.Statements.{CommandTree, Echo, Nnf, Pnf, Dnf, Cnf, Simpl, Qe}
 use Rattle.redlog_tokens.specs.declared.token.ReadError.{ReadError}
 use Rattle.redlog_tokens.specs.declared.token.ReadError.TheVariants as reading
 use Rattle.formula_tree.specs.Bindings.{bind}
@@ -32,15 +31,13 @@ use Rattle.shared_forms.specs.Forms.{IsFormOf}
 use Rattle.session_commands.specs.declared.formulas.FormCommand.{FormCommand}
 use Rattle.session_commands.specs.declared.formulas.FormCommand.TheVariants as wanted
 use Rattle.shared_forms.specs.declared.forms.ClauseForm.TheVariants as clause_form
-use Rattle.session_meaning.specs.State.{State, with_names, with_bound}
+use Rattle.session_meaning.specs.State.{State}
 use Rattle.session_meaning.specs.Assumptions.{assumed}
-use Rattle.session_commands.specs.Parts.{SomePart, EachPart}
-use Rattle.session_commands.specs.Commands.{MayGive, HasAnswerNames}
-use Rattle.session_meaning.specs.Points.{IsQuantified}
-use Rattle.session_meaning.specs.Causes.{Use, formula_line, HasNoRoom, IsTooLarge}
-use Rattle.session_commands.specs.Causes.{IsAccepted}
+use Rattle.session_commands.specs.Parts.{EachFormula}
+use Rattle.session_meaning.specs.Meaning.{meaning}
+use Rattle.session_meaning.specs.Causes.{HasNoRoom, IsTooLarge, formula_line, SomeFormula}
 use Rattle.session_meaning.specs.Reply.{IsLine}
-use Rattle.session_commands.specs.Reply.{RefusesAction}
+use Rattle.session_meaning.specs.Points.{IsQuantified}
 
 abbrev pub read_refusal : ReadError → StatementError
 read_refusal reading.Long = error.Long
@@ -78,9 +75,12 @@ print_refusal print.Memory = error.Memory
 
 -- the assumptions
 abbrev pub given_trees : FormCommand → FormulaTrees
+given_trees wanted.Resolved = none
+given_trees wanted.NegationNormal = none
+given_trees wanted.Prenex = none
+given_trees (wanted.Distributed clauses) = none
 given_trees (wanted.Simplified given) = formula_trees given.now
 given_trees (wanted.Eliminated given) = formula_trees given.now
-given_trees _ = none
 
 -- the form that is wanted
 abbrev pub form_of : FormCommand → Form
@@ -101,23 +101,6 @@ command_of (wanted.Distributed clause_form.Conjunctive) f = Cnf f
 command_of (wanted.Simplified given) f = Simpl f (formula_trees given.now)
 command_of (wanted.Eliminated given) f = Qe f (formula_trees given.now)
 
--- the state after a formula was given
-abbrev pub state_with : State → Option (List ℕ) → Tree → State
-state_with s None t = s
-state_with s (Some x) t = with_bound s x t
-
--- The command is accepted, and its line and the next state are those of the formula that it gives. The state is one in which
--- its variables have their numbers.
-pub record IsFormulaAnswer (s : State) (limit : ℕ) (u : Use) (c : CommandTree) (answer : Line) (next : State) : Type 0 where
-  pub accepted : IsAccepted s limit u c
-  pub formula : Tree
-  pub given : MayGive s limit c formula
-  pub names : List (List ℕ)
-  pub named : HasAnswerNames s c names
-  pub line : IsLine u.printed (formula_line u.target names formula) answer
-  pub small : ¬ (IsTooLarge u.target formula)
-  pub after : next ≡ state_with (with_names s names) u.target formula
-
 -- ---- what is read
 
 -- each variable of the formula has its number
@@ -132,30 +115,34 @@ IsUnread s f e = (d : StaticError) × (e ≡ static_refusal d) × IsFirstCause s
 abbrev pub IsReadable : State → FormulaTree → Type 0
 IsReadable s f = IsResolvable s.context s.bound s.names f
 
--- ---- the formula and its assumptions
+-- ---- the formulas of a command, looked at together
 
-abbrev pub ArePartsNumbered : List (List ℕ) → FormulaTree → FormulaTrees → Type 0
-ArePartsNumbered names f given = EachPart (HasNumbers names) f given
+abbrev pub AreNumbered : List (List ℕ) → FormulaTrees → Type 0
+AreNumbered names fs = EachFormula (HasNumbers names) fs
 
-abbrev pub ArePartsReadable : State → FormulaTree → FormulaTrees → Type 0
-ArePartsReadable s f given = EachPart (IsReadable s) f given
+abbrev pub AreReadable : State → FormulaTrees → Type 0
+AreReadable s fs = EachFormula (IsReadable s) fs
 
 -- the cause applies to some of them
-abbrev pub AppliesToPart : State → FormulaTree → FormulaTrees → StaticError → Type 0
-AppliesToPart s f given d = SomePart (λ g. Applies s.context s.bound s.names g d) f given
+abbrev pub AppliesAmong : State → FormulaTrees → StaticError → Type 0
+AppliesAmong s fs d = SomeFormula (λ g. Applies s.context s.bound s.names g d) fs
 
--- it is the first that applies to some of them; of want of memory nothing is said
-pub record IsFirstPart (s : State) (f : FormulaTree) (given : FormulaTrees) (d : StaticError) : Type 0 where
-  pub applies : AppliesToPart s f given d
-  pub first : (e : StaticError) → static_rank e < static_rank d → ¬ (AppliesToPart s f given e)
+-- no cause in reading that comes before this place of their order applies to one of them
+abbrev pub HasNoEarlier : State → FormulaTrees → ℕ → Type 0
+HasNoEarlier s fs n = (d : StaticError) → static_rank d < n → ¬ (AppliesAmong s fs d)
 
-abbrev pub IsFirstPartCause : State → FormulaTree → FormulaTrees → StaticError → Type 0
-IsFirstPartCause s f given static.Memory = Unit {0}
-IsFirstPartCause s f given d = IsFirstPart s f given d
+-- it is the first that applies to some of them
+pub record IsFirstAmong (s : State) (fs : FormulaTrees) (d : StaticError) : Type 0 where
+  pub applies : AppliesAmong s fs d
+  pub first : HasNoEarlier s fs (static_rank d)
+
+-- the same, where of want of memory nothing is said
+abbrev pub IsFirstCauseAmong : State → FormulaTrees → StaticError → Type 0
+IsFirstCauseAmong s fs d = d ≢ static.Memory → IsFirstAmong s fs d
 
 -- the first cause why one of them is not resolved is this word's
-abbrev pub ArePartsUnread : State → FormulaTree → FormulaTrees → StatementError → Type 0
-ArePartsUnread s f given e = (d : StaticError) × (e ≡ static_refusal d) × IsFirstPartCause s f given d
+abbrev pub AreUnread : State → FormulaTrees → StatementError → Type 0
+AreUnread s fs e = (d : StaticError) × (e ≡ static_refusal d) × IsFirstCauseAmong s fs d
 
 -- The first cause for which P holds, or None where there is none. Want of memory is no cause.
 abbrev pub FirstAmong : (StaticError → Type 0) → Option StaticError → Type 0
@@ -183,19 +170,32 @@ pub record IsFirstWith (s : State) (g : FormulaTree) (stop after : Option Static
 
 -- a quantifier stands in a formula that is asked for its disjunctive or conjunctive form
 abbrev pub HasUnwantedQuantifier : State → FormCommand → FormulaTree → Type 0
-HasUnwantedQuantifier s (wanted.Distributed clause_form) f = IsQuantified s.bound f
-HasUnwantedQuantifier s _ f = ⊥
+HasUnwantedQuantifier s wanted.Resolved f = ⊥
+HasUnwantedQuantifier s wanted.NegationNormal f = ⊥
+HasUnwantedQuantifier s wanted.Prenex f = ⊥
+HasUnwantedQuantifier s (wanted.Distributed clauses) f = IsQuantified s.bound f
+HasUnwantedQuantifier s (wanted.Simplified given) f = ⊥
+HasUnwantedQuantifier s (wanted.Eliminated given) f = ⊥
 
 -- no cause in reading applies, nor is there a quantifier where none may be
 pub record IsReady (s : State) (w : FormCommand) (f : FormulaTree) : Type 0 where
-  pub readable : ArePartsReadable s f (given_trees w)
+  pub readable : AreReadable s (also f (given_trees w))
   pub plain : ¬ (HasUnwantedQuantifier s w f)
 
--- why that is not so: the quantifier comes before an overflow, and after all other causes
+-- the word is that of such a quantifier, and no cause in reading applies but an overflow
+pub record IsQuantifiedFirst (s : State) (w : FormCommand) (f : FormulaTree) (e : StatementError) : Type 0 where
+  pub word : e ≡ error.Quantified
+  pub quantified : HasUnwantedQuantifier s w f
+  pub first : HasNoEarlier s (also f (given_trees w)) 7
+
+-- the word is that of the first cause in reading, and no such quantifier comes before an overflow
+pub record IsUnreadFirst (s : State) (w : FormCommand) (f : FormulaTree) (e : StatementError) : Type 0 where
+  pub unread : AreUnread s (also f (given_trees w)) e
+  pub plain : e ≡ error.Overflow → ¬ (HasUnwantedQuantifier s w f)
+
+-- why a formula and its assumptions are not ready
 abbrev pub IsUnready : State → FormCommand → FormulaTree → StatementError → Type 0
-IsUnready s w f error.Quantified = HasUnwantedQuantifier s w f × ((d : StaticError) → static_rank d < 7 → ¬ (AppliesToPart s f (given_trees w) d))
-IsUnready s w f error.Overflow = ArePartsUnread s f (given_trees w) error.Overflow × (¬ (HasUnwantedQuantifier s w f))
-IsUnready s w f e = ArePartsUnread s f (given_trees w) e
+IsUnready s w f e = IsQuantifiedFirst s w f e ⊎ IsUnreadFirst s w f e
 
 -- ---- forms
 
@@ -203,7 +203,7 @@ IsUnready s w f e = ArePartsUnread s f (given_trees w) e
 pub record IsWantedOf (s : State) (limit : ℕ) (w : FormCommand) (f : FormulaTree) (t : Tree) (after : List (List ℕ)) : Type 0 where
   pub ready : IsReady s w f
   pub form : IsFormOf s.context (length s.names) (assumed s (given_trees w)) limit (form_of w) (resolve s.context s.bound s.names f) t
-  pub names : HasAnswerNames s (command_of w f) after
+  pub names : (meaning (command_of w f)).names s after
 
 -- the formula may be bound to the name, if there is one
 pub record MayBind (bound : BoundTrees) (target : Option (List ℕ)) (t : Tree) : Type 0 where
@@ -234,18 +234,7 @@ GiveFault target printed s t e = TargetFault s.bound target t e ⊎ (MayBind s.b
 
 -- ---- bindings
 
--- what is done with what a command gives
-abbrev pub use_of : Option (List ℕ) → Bool → Use
-use_of target printed = record { target = target; printed = printed }
-
 -- the bindings with the id bound to the name, if there is one
 abbrev pub bound_after : List (List ℕ × FormulaId) → Option (List ℕ) → FormulaId → List (List ℕ × FormulaId)
 bound_after entries None id = entries
 bound_after entries (Some x) id = bind entries x id
-
--- ---- statements
-
--- why a statement is not answered; of want of memory nothing is said
-abbrev pub IsStopped : State → ℕ → StatementTree → StatementError → Type 0
-IsStopped s limit t error.Memory = Unit {0}
-IsStopped s limit t e = RefusesAction s limit t.printed t.action e

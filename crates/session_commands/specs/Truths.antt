@@ -12,8 +12,7 @@ use Rattle.session_meaning.specs.declared.line.StatementError.{StatementError}
 use Rattle.session_meaning.specs.declared.line.StatementError.TheVariants as error
 use Rattle.session_meaning.specs.State.{State}
 use Rattle.session_meaning.specs.Points.{SomeAtomPassesAt}
-use Rattle.session_commands.specs.Causes.{Refuses}
-use Rattle.session_commands.specs.Steps.{use_of}
+use Rattle.session_commands.specs.Replies.{use_of, Refuses}
 
 -- the command is refused with the word under a limit of nodes, whether its line is printed or not
 abbrev pub RefusesTruth : State → ℕ → FormulaTree → List PointEntry → StatementError → Type 0

@@ -1,5 +1,6 @@
 //! The case list of a formula.
 
+ghost use Rattle.formula_meaning.specs.Formula.{also};
 ghost use Rattle.std.specs.Prelude.{◌≡◌, Bool, None, map, IfOk, IfErr, OnOk, OnErr, length};
 ghost use Rattle.plain_cases.specs.Case.{case_seen, HavePoints};
 ghost use Rattle.formula_tree.specs.Resolving.{resolve};
@@ -9,12 +10,11 @@ ghost use Rattle.qe_syntax.specs.Writable.{IsWritableFormula, AreWritableFormula
 ghost use Rattle.qe_syntax.specs.Statements.{Qea};
 ghost use Rattle.qe_syntax.specs.Trees.{formula_tree, formulas_of};
 ghost use Rattle.session_meaning.specs.Assumptions.{assumed};
-ghost use Rattle.session_commands.specs.Commands.{named};
-ghost use Rattle.session_commands.specs.Causes.{Refuses};
-ghost use Rattle.session_state.specs.Keeping.{state_of, IsSessionState};
+ghost use Rattle.session_commands.specs.Replies.{use_of, Refuses, IsQueryAnswer};
+ghost use Rattle.session_commands.specs.Steps.{AreNumbered, AreReadable, LineFault};
+ghost use Rattle.session_meaning.specs.Meaning.{meaning, numbered};
 ghost use Rattle.session_meaning.specs.Reply.{IsLine};
-ghost use Rattle.session_commands.specs.Reply.{AnswersCommand};
-ghost use Rattle.session_commands.specs.Steps.{use_of, ArePartsNumbered, ArePartsReadable, LineFault};
+ghost use Rattle.session_state.specs.Keeping.{state_of, IsSessionState};
 ghost use Rattle.session_state.specs.Growth.{KeepsState, GrowsState};
 ghost use Rattle.shared_forms.specs.Cases.{AreWantedCases};
 
@@ -40,9 +40,9 @@ pub(crate) fn answer_cases(
     requires given { AreWritableFormulas (formulas_of (map formula_tree given.now)) }
     requires session { IsSessionState state.old }
     ensures session { OnOk result (IsSessionState state.new) }
-    ensures answer { IfOk result (AnswersCommand (named (state_of state.old) (Qea (formula_tree formula.now) (formulas_of (map formula_tree given.now)))) limit printed (Qea (formula_tree formula.now) (formulas_of (map formula_tree given.now))) (state_of state.new).names) }
-    ensures next { OnOk result (state_of state.new ≡ named (state_of state.old) (Qea (formula_tree formula.now) (formulas_of (map formula_tree given.now)))) }
-    ensures refused { IfErr result (Refuses (named (state_of state.old) (Qea (formula_tree formula.now) (formulas_of (map formula_tree given.now)))) limit (use_of None printed) (Qea (formula_tree formula.now) (formulas_of (map formula_tree given.now)))) }
+    ensures answer { IfOk result (IsQueryAnswer (numbered (meaning (Qea (formula_tree formula.now) (formulas_of (map formula_tree given.now)))) (state_of state.old)) limit printed (Qea (formula_tree formula.now) (formulas_of (map formula_tree given.now))) (state_of state.new).names) }
+    ensures next { OnOk result (state_of state.new ≡ numbered (meaning (Qea (formula_tree formula.now) (formulas_of (map formula_tree given.now)))) (state_of state.old)) }
+    ensures refused { IfErr result (Refuses (numbered (meaning (Qea (formula_tree formula.now) (formulas_of (map formula_tree given.now)))) (state_of state.old)) limit (use_of None printed) (Qea (formula_tree formula.now) (formulas_of (map formula_tree given.now)))) }
     ensures grown { OnErr result (GrowsState state.old state.new) }
 {
     number_parts(formula, given, &state.bindings, &mut state.names)?;
@@ -60,10 +60,10 @@ fn cases_of(
     requires proper { IsWritableFormula (formula_tree formula.now) }
     requires given { AreWritableFormulas (formulas_of (map formula_tree given.now)) }
     requires session { IsSessionState state.old }
-    requires numbered { ArePartsNumbered state.old.names (formula_tree formula.now) (formulas_of (map formula_tree given.now)) }
+    requires numbered { AreNumbered state.old.names (also (formula_tree formula.now) (formulas_of (map formula_tree given.now))) }
     ensures cases { IfOk result (λ v. AreWantedCases (state_of state.old).context (assumed (state_of state.old) (formulas_of (map formula_tree given.now))) limit (resolve (state_of state.old).context (state_of state.old).bound state.old.names (formula_tree formula.now)) (map case_seen v.items)) }
     ensures points { IfOk result (λ v. HavePoints v.items) }
-    ensures readable { OnOk result (ArePartsReadable (state_of state.old) (formula_tree formula.now) (formulas_of (map formula_tree given.now))) }
+    ensures readable { OnOk result (AreReadable (state_of state.old) (also (formula_tree formula.now) (formulas_of (map formula_tree given.now)))) }
     ensures refused { IfErr result (λ e. (printed : Bool) → Refuses (state_of state.old) limit (use_of None printed) (Qea (formula_tree formula.now) (formulas_of (map formula_tree given.now))) e) }
     ensures kept { KeepsState state.old state.new }
 {

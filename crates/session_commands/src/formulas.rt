@@ -1,5 +1,6 @@
 //! Commands that give a formula: it is printed, or bound to a name.
 
+ghost use Rattle.formula_meaning.specs.Formula.{also};
 ghost use Rattle.std.specs.Prelude.{◌≡◌, ◌⊎◌, ◌↔◌, ◌<◌, ◌≤◌, ◌++◌, ℕ, List, Bool, true, IsTrue, Option, IfOk, IfErr, IfSome, IfNone, OnOk, OnErr, length, codes, map};
 ghost use Rattle.std.specs.Bool.{MatchBool};
 ghost use Rattle.std.specs.List.{AllByRecursion};
@@ -16,12 +17,12 @@ ghost use Rattle.qe_syntax.specs.Writable.{IsWritableFormula, AreWritableFormula
 ghost use Rattle.qe_syntax.specs.Statements.{command_tree};
 ghost use Rattle.qe_syntax.specs.Trees.{formula_tree, formulas_of};
 ghost use Rattle.session_meaning.specs.Assumptions.{assumed};
-ghost use Rattle.session_commands.specs.Commands.{named, GivesFormula};
-ghost use Rattle.session_meaning.specs.Causes.{formula_line, HasNoRoom};
-ghost use Rattle.session_commands.specs.Causes.{Refuses};
-ghost use Rattle.session_state.specs.Keeping.{state_of, IsSessionState};
+ghost use Rattle.session_commands.specs.Replies.{use_of, Refuses, IsFormulaAnswer};
+ghost use Rattle.session_commands.specs.Steps.{given_trees, form_of, command_of, HasNumbers, IsUnread, IsReadable, AreNumbered, HasUnwantedQuantifier, IsReady, IsUnready, IsWantedOf, MayBind, TargetFault, LineFault, IsLineOf, GiveFault, bound_after, static_refusal as refusal_of_static, forms_refusal as refusal_of_forms};
+ghost use Rattle.session_meaning.specs.Meaning.{meaning, numbered, GivesFormula};
+ghost use Rattle.session_meaning.specs.Causes.{HasNoRoom, formula_line};
 ghost use Rattle.session_meaning.specs.Reply.{IsLine};
-ghost use Rattle.session_commands.specs.Steps.{static_refusal as refusal_of_static, forms_refusal as refusal_of_forms, form_of, HasUnwantedQuantifier, ArePartsNumbered, IsReady, IsUnready, given_trees, command_of, use_of, IsFormulaAnswer, IsWantedOf, HasNumbers, IsUnread, IsReadable, MayBind, TargetFault, LineFault, IsLineOf, GiveFault, bound_after};
+ghost use Rattle.session_state.specs.Keeping.{state_of, IsSessionState};
 ghost use Rattle.session_state.specs.Growth.{KeepsState, GrowsState};
 
 use crate::assumptions::{number_parts, read_parts};
@@ -84,7 +85,7 @@ impl<'a> FormCommand<'a> {
 /// What formula the command asks for, and of which one; `None` of a query.
 pub(crate) fn form_command_of(command: &Command) -> Option<(FormCommand<'_>, &Formula)>
     ensures asked { IfSome result (λ r. command_tree command.now ≡ command_of r.0 (formula_tree r.1.now)) }
-    ensures query { IfNone result (¬ (GivesFormula (command_tree command.now))) }
+    ensures query { IfNone result (¬ (GivesFormula (meaning (command_tree command.now)).answer)) }
 {
     match command {
         Command::Echo(formula) => Some((FormCommand::Resolved, formula)),
@@ -111,8 +112,8 @@ pub(crate) fn answer_formula(
     requires given { AreWritableFormulas (given_trees wanted) }
     requires session { IsSessionState state.old }
     ensures session { OnOk result (IsSessionState state.new) }
-    ensures answer { IfOk result (λ line. IsFormulaAnswer (named (state_of state.old) (command_of wanted.entry (formula_tree formula.now))) limit (use_of target.now printed) (command_of wanted.entry (formula_tree formula.now)) line (state_of state.new)) }
-    ensures refused { IfErr result (Refuses (named (state_of state.old) (command_of wanted.entry (formula_tree formula.now))) limit (use_of target.now printed) (command_of wanted.entry (formula_tree formula.now))) }
+    ensures answer { IfOk result (λ line. IsFormulaAnswer (numbered (meaning (command_of wanted.entry (formula_tree formula.now))) (state_of state.old)) limit (use_of target.now printed) (command_of wanted.entry (formula_tree formula.now)) line (state_of state.new)) }
+    ensures refused { IfErr result (Refuses (numbered (meaning (command_of wanted.entry (formula_tree formula.now))) (state_of state.old)) limit (use_of target.now printed) (command_of wanted.entry (formula_tree formula.now))) }
     ensures grown { OnErr result (GrowsState state.old state.new) }
 {
     let assumptions = wanted.assumptions();
@@ -131,7 +132,7 @@ fn wanted_formula(
     requires proper { IsWritableFormula (formula_tree formula.now) }
     requires given { AreWritableFormulas (given_trees wanted) }
     requires session { IsSessionState state.old }
-    requires numbered { ArePartsNumbered state.old.names (formula_tree formula.now) (given_trees wanted) }
+    requires numbered { AreNumbered state.old.names (also (formula_tree formula.now) (given_trees wanted)) }
     ensures made { IfOk result (IsId state.new.store) }
     ensures wanted { IfOk result (λ id. IsWantedOf (state_of state.old) limit wanted.entry (formula_tree formula.now) (tree state.new.store id) state.new.names) }
     ensures refused { IfErr result (λ e. (target : Option (List ℕ)) (printed : Bool) → Refuses (state_of state.old) limit (use_of target printed) (command_of wanted.entry (formula_tree formula.now)) e) }
@@ -195,7 +196,7 @@ fn read_wanted(
     requires proper { IsWritableFormula (formula_tree formula.now) }
     requires given { AreWritableFormulas (given_trees wanted) }
     requires ids { AreIds (IsId state.old.store) state.old.bindings }
-    requires numbered { ArePartsNumbered state.old.names (formula_tree formula.now) (given_trees wanted) }
+    requires numbered { AreNumbered state.old.names (also (formula_tree formula.now) (given_trees wanted)) }
     ensures made { IfOk result (λ r. IsMade (IsId state.new.store) (tree state.new.store) r.formula (resolve (state_of state.old).context (state_of state.old).bound state.old.names (formula_tree formula.now))) }
     ensures atoms { IfOk result (λ r. map atom_of r.atoms.items ≡ assumed (state_of state.old) (given_trees wanted.entry)) }
     ensures well_formed { IfOk result (λ r. AllByRecursion IsWellFormed r.atoms.items) }
@@ -227,7 +228,8 @@ fn has_unwanted_quantifier(state: &SessionState, wanted: FormCommand<'_>, formul
 {
     match wanted {
         FormCommand::Distributed(_) => is_quantified(formula, &state.bindings, &state.store),
-        _ => false,
+        FormCommand::Resolved | FormCommand::NegationNormal | FormCommand::Prenex => false,
+        FormCommand::Simplified(_) | FormCommand::Eliminated(_) => false,
     }
 }
 

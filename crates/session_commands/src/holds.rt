@@ -16,16 +16,15 @@ ghost use Rattle.qe_syntax.specs.Value.{same_name};
 ghost use Rattle.formula_tree.specs.Resolving.{at_names};
 ghost use Rattle.formula_store.specs.Nodes.{tree, IsId};
 ghost use Rattle.formula_store.specs.Truths.{Tells, IsWholeWhereAsked};
-ghost use Rattle.session_commands.specs.Asked.{HaveNumbers, HasNoneBelow};
-ghost use Rattle.session_commands.specs.Commands.{named};
-ghost use Rattle.session_commands.specs.Causes.{Refuses};
+ghost use Rattle.session_commands.specs.Replies.{use_of, Refuses, IsQueryAnswer};
+ghost use Rattle.session_commands.specs.Steps.{HasNumbers};
+ghost use Rattle.session_commands.specs.Asked.{HaveNumbers, AcceptsBoth};
+ghost use Rattle.session_meaning.specs.Meaning.{meaning, numbered};
+ghost use Rattle.session_meaning.specs.Words.{truth_text};
 ghost use Rattle.session_state.specs.Keeping.{state_of, IsSessionState};
 ghost use Rattle.session_meaning.specs.Points.{IsTruth};
-ghost use Rattle.session_commands.specs.Reply.{AnswersCommand};
-ghost use Rattle.session_commands.specs.Steps.{use_of, HasNumbers};
 ghost use Rattle.session_state.specs.Growth.{KeepsState, GrowsState};
 ghost use Rattle.session_commands.specs.Truths.{RefusesTruth, ValueStop, EliminationStop};
-ghost use Rattle.session_meaning.specs.Words.{truth_text};
 
 use crate::lines::{measured_refusal, printed_line};
 use crate::points::{asked, number_command, values_of};
@@ -48,9 +47,9 @@ pub(crate) fn answer_holds(
     requires entries { AreWritableEntries entries.now }
     requires session { IsSessionState state.old }
     ensures session { OnOk result (IsSessionState state.new) }
-    ensures answer { IfOk result (AnswersCommand (named (state_of state.old) (Holds (formula_tree formula.now) entries.now)) limit printed (Holds (formula_tree formula.now) entries.now) (state_of state.new).names) }
-    ensures next { OnOk result (state_of state.new ≡ named (state_of state.old) (Holds (formula_tree formula.now) entries.now)) }
-    ensures refused { IfErr result (Refuses (named (state_of state.old) (Holds (formula_tree formula.now) entries.now)) limit (use_of None printed) (Holds (formula_tree formula.now) entries.now)) }
+    ensures answer { IfOk result (IsQueryAnswer (numbered (meaning (Holds (formula_tree formula.now) entries.now)) (state_of state.old)) limit printed (Holds (formula_tree formula.now) entries.now) (state_of state.new).names) }
+    ensures next { OnOk result (state_of state.new ≡ numbered (meaning (Holds (formula_tree formula.now) entries.now)) (state_of state.old)) }
+    ensures refused { IfErr result (Refuses (numbered (meaning (Holds (formula_tree formula.now) entries.now)) (state_of state.old)) limit (use_of None printed) (Holds (formula_tree formula.now) entries.now)) }
     ensures grown { OnErr result (GrowsState state.old state.new) }
 {
     number_command(formula, entries, &state.bindings, &mut state.names)?;
@@ -82,7 +81,7 @@ fn truth(
     requires numbered { HasNumbers state.old.names (formula_tree formula.now) }
     requires valued { HaveNumbers state.old.names entries.now }
     ensures truth { IfOk result (IsTruth (state_of state.old) (formula_tree formula.now) entries.now) }
-    ensures accepted { OnOk result (HasNoneBelow (state_of state.old) (formula_tree formula.now) entries.now 19) }
+    ensures accepted { OnOk result (AcceptsBoth (state_of state.old) (formula_tree formula.now) entries.now) }
     ensures refused { IfErr result (RefusesTruth (state_of state.old) limit (formula_tree formula.now) entries.now) }
     ensures kept { KeepsState state.old state.new }
 {

@@ -11,6 +11,6 @@ mod points;
 mod samples;
 mod session;
 
-pub use laws::{replies_agree, truth_is_never_refused};
+pub use laws::truth_is_never_refused;
 pub use session::{Limits, Session};
 pub use session_meaning::{Line, StatementError};

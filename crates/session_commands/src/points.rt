@@ -15,10 +15,9 @@ ghost use Rattle.formula_tree.specs.Resolving.{formula_variables, at_names};
 ghost use Rattle.formula_resolving.specs.Numbering.{Grows};
 ghost use Rattle.formula_resolving.specs.Refusals.{AreIds};
 ghost use Rattle.formula_store.specs.Nodes.{IsId};
-ghost use Rattle.session_commands.specs.Asked.{HaveNumbers, IsBoundName, is_whole_theory, RefusesBoth, stop_of, IsReadAs, IsMeantPoint, PointStop, IsValued, ValuedStop, IsAsked};
-ghost use Rattle.session_commands.specs.Commands.{entry_names};
-ghost use Rattle.session_state.specs.Keeping.{state_of, IsSessionState};
 ghost use Rattle.session_commands.specs.Steps.{HasNumbers};
+ghost use Rattle.session_commands.specs.Asked.{HaveNumbers, RefusesBoth, entry_names, stop_of, IsBoundName, is_whole_theory, IsReadAs, IsMeantPoint, PointStop, IsValued, ValuedStop, IsAsked};
+ghost use Rattle.session_state.specs.Keeping.{state_of, IsSessionState};
 ghost use Rattle.session_state.specs.Growth.{KeepsState};
 
 use crate::formulas::resolved;

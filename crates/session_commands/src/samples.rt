@@ -19,15 +19,14 @@ ghost use Rattle.formula_store.specs.Nodes.{tree, IsId};
 ghost use Rattle.sample_reference.specs.Sample.{IsTrueSample};
 ghost use Rattle.sample_reference.specs.Seen.{sample_of};
 ghost use Rattle.redlog_printer.specs.Writing.{text_limit};
+ghost use Rattle.session_commands.specs.Replies.{use_of, Refuses, IsQueryAnswer};
+ghost use Rattle.session_commands.specs.Steps.{HasNumbers};
 ghost use Rattle.session_commands.specs.Asked.{HaveNumbers};
-ghost use Rattle.session_commands.specs.Commands.{named};
-ghost use Rattle.session_commands.specs.Causes.{Refuses};
-ghost use Rattle.session_state.specs.Keeping.{state_of, IsSessionState};
+ghost use Rattle.session_meaning.specs.Meaning.{meaning, numbered};
 ghost use Rattle.session_meaning.specs.Reply.{IsLine};
-ghost use Rattle.session_commands.specs.Reply.{AnswersCommand};
+ghost use Rattle.session_state.specs.Keeping.{state_of, IsSessionState};
 ghost use Rattle.session_meaning.specs.Samples.{sample_text};
 ghost use Rattle.session_commands.specs.SampleSteps.{RefusesSample, SampleStop, IsSampleWithin, IsWantedSample};
-ghost use Rattle.session_commands.specs.Steps.{use_of, HasNumbers};
 ghost use Rattle.session_state.specs.Growth.{KeepsState, GrowsState};
 
 use crate::lines::{measured_refusal, printed_line};
@@ -56,9 +55,9 @@ pub(crate) fn answer_sample(
     requires entries { AreWritableEntries entries.now }
     requires session { IsSessionState state.old }
     ensures session { OnOk result (IsSessionState state.new) }
-    ensures answer { IfOk result (AnswersCommand (named (state_of state.old) (Sample (formula_tree formula.now) entries.now)) limit printed (Sample (formula_tree formula.now) entries.now) (state_of state.new).names) }
-    ensures next { OnOk result (state_of state.new ≡ named (state_of state.old) (Sample (formula_tree formula.now) entries.now)) }
-    ensures refused { IfErr result (Refuses (named (state_of state.old) (Sample (formula_tree formula.now) entries.now)) limit (use_of None printed) (Sample (formula_tree formula.now) entries.now)) }
+    ensures answer { IfOk result (IsQueryAnswer (numbered (meaning (Sample (formula_tree formula.now) entries.now)) (state_of state.old)) limit printed (Sample (formula_tree formula.now) entries.now) (state_of state.new).names) }
+    ensures next { OnOk result (state_of state.new ≡ numbered (meaning (Sample (formula_tree formula.now) entries.now)) (state_of state.old)) }
+    ensures refused { IfErr result (Refuses (numbered (meaning (Sample (formula_tree formula.now) entries.now)) (state_of state.old)) limit (use_of None printed) (Sample (formula_tree formula.now) entries.now)) }
     ensures grown { OnErr result (GrowsState state.old state.new) }
 {
     number_command(formula, entries, &state.bindings, &mut state.names)?;

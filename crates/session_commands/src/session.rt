@@ -2,15 +2,14 @@ ghost use Rattle.std.specs.Prelude.{◌≡◌, ◌≤◌, Some, None, IfOk, IfEr
 ghost use Rattle.qe_syntax.specs.Statements.{statement_tree, command_tree};
 ghost use Rattle.qe_syntax.specs.Writable.{IsWritable, IsWritableCommand};
 ghost use Rattle.session_state.specs.Keeping.{state_of, IsSessionState};
-ghost use Rattle.session_meaning.specs.Reply.{IsLine, Reply};
-ghost use Rattle.session_commands.specs.Reply.{Answers, AnswersSaid};
+ghost use Rattle.session_commands.specs.Replies.{use_of, Refuses, IsStopped, IsFormulaAnswer, BindsFormula};
+ghost use Rattle.session_commands.specs.Steps.{read_refusal};
+ghost use Rattle.session_meaning.specs.Meaning.{meaning, numbered, GivesFormula};
+ghost use Rattle.session_meaning.specs.Reply.{IsLine, AnswersSaid, Answers, Reply};
 ghost use Rattle.session_meaning.specs.Words.{context_text};
 ghost use Rattle.session_commands.specs.Seen.{state_in};
 ghost use Rattle.session_meaning.specs.State.{first_state, theory_of, chosen};
-ghost use Rattle.session_commands.specs.Steps.{read_refusal, use_of, IsStopped, IsFormulaAnswer};
 ghost use Rattle.session_state.specs.Growth.{GrowsState};
-ghost use Rattle.session_commands.specs.Causes.{Refuses};
-ghost use Rattle.session_commands.specs.Commands.{named, GivesFormula, BindsFormula};
 
 use crate::cases::answer_cases;
 use crate::formulas::{answer_formula, form_command_of};
@@ -180,8 +179,8 @@ fn say(
     requires proper { IsWritableCommand (command_tree command.now) }
     requires session { IsSessionState state.old }
     ensures session { OnOk result (IsSessionState state.new) }
-    ensures answer { IfOk result (λ line. AnswersSaid (named (state_of state.old) (command_tree command.now)) limit printed (command_tree command.now) line (state_of state.new)) }
-    ensures refusal { IfErr result (Refuses (named (state_of state.old) (command_tree command.now)) limit (use_of None printed) (command_tree command.now)) }
+    ensures answer { IfOk result (λ line. AnswersSaid (meaning (command_tree command.now)) (numbered (meaning (command_tree command.now)) (state_of state.old)) limit printed line (state_of state.new)) }
+    ensures refusal { IfErr result (Refuses (numbered (meaning (command_tree command.now)) (state_of state.old)) limit (use_of None printed) (command_tree command.now)) }
     ensures grown { OnErr result (GrowsState state.old state.new) }
 {
     match command {
@@ -192,7 +191,13 @@ fn say(
         Command::Sample(formula, entries) => {
             answer_sample(state, limit, formula, entries.items(), printed)
         }
-        _ => answer_form_command(state, limit, command, &None, printed),
+        Command::Echo(_)
+        | Command::Nnf(_)
+        | Command::Pnf(_)
+        | Command::Dnf(_)
+        | Command::Cnf(_)
+        | Command::Simpl(..)
+        | Command::Qe(..) => answer_form_command(state, limit, command, &None, printed),
     }
 }
 
@@ -205,11 +210,11 @@ fn answer_form_command(
     printed: bool,
 ) -> Result<Line, StatementError>
     requires proper { IsWritableCommand (command_tree command.now) }
-    requires formula { GivesFormula (command_tree command.now) }
+    requires formula { GivesFormula (meaning (command_tree command.now)).answer }
     requires session { IsSessionState state.old }
     ensures session { OnOk result (IsSessionState state.new) }
-    ensures answer { IfOk result (λ line. IsFormulaAnswer (named (state_of state.old) (command_tree command.now)) limit (use_of target.now printed) (command_tree command.now) line (state_of state.new)) }
-    ensures refusal { IfErr result (Refuses (named (state_of state.old) (command_tree command.now)) limit (use_of target.now printed) (command_tree command.now)) }
+    ensures answer { IfOk result (λ line. IsFormulaAnswer (numbered (meaning (command_tree command.now)) (state_of state.old)) limit (use_of target.now printed) (command_tree command.now) line (state_of state.new)) }
+    ensures refusal { IfErr result (Refuses (numbered (meaning (command_tree command.now)) (state_of state.old)) limit (use_of target.now printed) (command_tree command.now)) }
     ensures grown { OnErr result (GrowsState state.old state.new) }
 {
     let Some((wanted, formula)) = form_command_of(command) else {

@@ -1,3 +1,4 @@
+use Rattle.formula_meaning.specs.Formula.{also}
 use Rattle.std.proofs.Common.{◌≡◌, sym, subst, rules, map, Err}
 use Rattle.std.specs.Prelude.{IfErr}
 use Rattle.qe_syntax.specs.Trees.{formula_tree, formulas_of}
@@ -7,7 +8,7 @@ use Rattle.formula_resolving.specs.Refusals.{IsFirstCause}
 use Rattle.formula_store.specs.Nodes.{tree, IsId}
 use Rattle.session_state.specs.Keeping.{state_of}
 use Rattle.session_meaning.specs.State.{State}
-use Rattle.session_commands.specs.Steps.{HasNumbers, IsReadable, ArePartsUnread, IsFirstPartCause, FirstAmong, AppliesToSome}
+use Rattle.session_commands.specs.Steps.{HasNumbers, IsReadable, IsFirstCauseAmong, AreUnread, FirstAmong, AppliesToSome}
 use Rattle.session_commands.proofs.PartLemmas.{each_listed}
 use Rattle.session_commands.proofs.AssumptionLemmas.{first_unread, none_unread, list_unread, both_unread, memory_unread, parts_readable}
 use Rattle.session_state.proofs.StateLemmas.{same_state, kept_ids, keeps_then}
@@ -21,7 +22,7 @@ returns-in_err-stop-clause-unread c =
     let s = state_of c.args.state.now in
     let f = formula_tree c.args.formula.now in
     let e : c.from_residual.result ≡ Err c.in_err-stop.field-0.0 = search rules in
-    subst (λ r. IfErr r (ArePartsUnread s f (formulas_of (map formula_tree c.args.given.now)))) (sym e) (memory_unread s f c.args.given.now c.in_err-stop.field-0.0 c.in_err-stop.ensures.memory)
+    subst (λ r. IfErr r (AreUnread s (also f (formulas_of (map formula_tree c.args.given.now))))) (sym e) (memory_unread s f c.args.given.now c.in_err-stop.field-0.0 c.in_err-stop.ensures.memory)
 
 pub resolved_part-requires-clause-ids : goal.resolved_part-requires-clause-ids
 resolved_part-requires-clause-ids c = kept_ids c.args.state.now c.read_assumptions.new.state c.requires.ids c.read_assumptions.ensures.kept
@@ -36,7 +37,7 @@ returns-in_err-error-in-Err-clause-unread c =
     let s = state_of c.args.state.now in
     let f = formula_tree c.args.formula.now in
     let e : c.from_residual-in_err-error-in-Err.result ≡ Err c.in_err-error-in-Err.field-0.0 = search rules in
-    subst (λ r. IfErr r (ArePartsUnread s f (formulas_of (map formula_tree c.args.given.now)))) (sym e) (memory_unread s f c.args.given.now c.in_err-error-in-Err.field-0.0 c.in_err-error-in-Err.ensures.memory)
+    subst (λ r. IfErr r (AreUnread s (also f (formulas_of (map formula_tree c.args.given.now))))) (sym e) (memory_unread s f c.args.given.now c.in_err-error-in-Err.field-0.0 c.in_err-error-in-Err.ensures.memory)
 
 pub returns-in-None-clause-made : goal.returns-in-None-clause-made
 returns-in-None-clause-made c =
@@ -77,4 +78,4 @@ returns-in_ok-error-in-Err-clause-unread c =
     let here = first_unread (state_of old) f c.in-Err.error c.in_ok-error-in-Err.ensures.cause first in
     let both = both_unread (state_of old) f c.args.given.now c.in_ok-stop.stop c.in-Err.error here c.in_ok-stop.ensures.first in
     let is = c.in_ok-error-in-Err.ensures.earlier in
-    (c.in_ok-error-in-Err.error, c.static_refusal-in-Err.ensures, subst (λ e. IsFirstPartCause (state_of old) f (formulas_of (map formula_tree c.args.given.now)) e) (sym is) both)
+    (c.in_ok-error-in-Err.error, c.static_refusal-in-Err.ensures, subst (λ e. IsFirstCauseAmong (state_of old) (also f (formulas_of (map formula_tree c.args.given.now))) e) (sym is) both)

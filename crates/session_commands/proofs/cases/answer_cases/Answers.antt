@@ -8,11 +8,11 @@ use Rattle.qe_syntax.specs.Statements.{Qea}
 use Rattle.qe_syntax.specs.Trees.{formula_tree, formulas_of}
 use Rattle.session_meaning.specs.declared.line.Line.{Line}
 use Rattle.session_meaning.specs.declared.line.StatementError.{StatementError}
-use Rattle.session_commands.specs.Causes.{Refuses}
-use Rattle.session_commands.specs.Commands.{named}
-use Rattle.session_state.specs.Keeping.{state_of}
+use Rattle.session_commands.specs.Replies.{use_of, Refuses}
+use Rattle.session_commands.specs.Steps.{LineFault}
+use Rattle.session_meaning.specs.Meaning.{meaning, numbered}
 use Rattle.session_meaning.specs.Reply.{IsLine}
-use Rattle.session_commands.specs.Steps.{use_of, LineFault}
+use Rattle.session_state.specs.Keeping.{state_of}
 use Rattle.session_state.specs.Growth.{GrowsState}
 use Rattle.session_state.proofs.StateLemmas.{keeps_itself, grows_then}
 use Rattle.session_commands.proofs.CaseSteps.{named_session, session_named, numbers_there, cases_refused, state_later, session_later, within_there, line_answered, line_refused}
@@ -35,7 +35,7 @@ returns-in_err-cases-clause-refused c =
     let gs = formulas_of (map formula_tree c.args.given.now) in
     let e : c.from_residual-in_err-cases.result ≡ Err c.in_err-cases.field-0.0 = search rules in
     let stop : Result Line StatementError = Err c.in_err-cases.field-0.0 in
-    subst (λ r. IfErr r (Refuses (named (state_of d) (Qea f gs)) c.args.limit (use_of None c.args.printed) (Qea f gs))) (sym e)
+    subst (λ r. IfErr r (Refuses (numbered (meaning (Qea f gs)) (state_of d)) c.args.limit (use_of None c.args.printed) (Qea f gs))) (sym e)
     (cases_refused d c.number_parts.new.names f gs c.requires.session c.number_parts.ensures.grown c.in_ok-number_parts.ensures.numbered c.requires.proper c.requires.given
     stop c.args.limit c.args.printed c.in_err-cases.ensures.refused)
 

@@ -11,9 +11,8 @@ use Rattle.plain_cases.specs.Case.{case_seen}
 use Rattle.qe_syntax.specs.Statements.{Qea}
 use Rattle.qe_syntax.specs.Trees.{formula_tree, formulas_of}
 use Rattle.session_meaning.specs.declared.line.StatementError.{StatementError}
-use Rattle.session_commands.specs.Causes.{Refuses}
+use Rattle.session_commands.specs.Replies.{use_of, Refuses}
 use Rattle.session_state.specs.Keeping.{state_of}
-use Rattle.session_commands.specs.Steps.{use_of}
 use Rattle.session_commands.proofs.GivenSteps.{proper_items}
 use Rattle.session_commands.proofs.CaseSteps.{normal_there, atoms_there, wanted_there, stopped_there, unread_there}
 use Rattle.session_commands.proofs.cases.cases_of.Goals as goal

@@ -1,12 +1,12 @@
 use Rattle.std.proofs.Common.{◌≡◌, Err, sym, subst, rules}
 use Rattle.std.specs.Prelude.{IfOk, IfErr, OnErr}
 use Rattle.qe_syntax.specs.Trees.{formula_tree}
-use Rattle.session_commands.specs.Causes.{Refuses}
 use Rattle.session_state.specs.Keeping.{state_of}
-use Rattle.session_commands.specs.Steps.{command_of, use_of, IsFormulaAnswer}
+use Rattle.session_commands.specs.Replies.{use_of, Refuses, IsFormulaAnswer}
+use Rattle.session_commands.specs.Steps.{command_of}
 use Rattle.session_state.specs.Growth.{GrowsState}
 use Rattle.session_state.proofs.StateLemmas.{keeps_itself, grows_then_grows}
-use Rattle.session_commands.proofs.GivenSteps.{names_are, numbered, numbered_state, numbers_there, numbered_session, later_within, later_members, answered_session, given_answer, given_refused, on_err}
+use Rattle.session_commands.proofs.GivenSteps.{names_are, with_numbers, numbered_state, numbers_there, numbered_session, later_within, later_members, answered_session, given_answer, given_refused, on_err}
 use Rattle.session_commands.proofs.formulas.answer_formula.Goals as goal
 
 pub wanted_formula-requires-clause-session : goal.wanted_formula-requires-clause-session
@@ -16,7 +16,7 @@ wanted_formula-requires-clause-session c =
     let w = c.args.wanted in
     let names = c.number_parts.new.names in
     let is = names_are w f d names _ c.in_ok-number_parts.ensures.numbered c.assumptions-assumptions.ensures in
-    let n = numbered w f d names is in
+    let n = with_numbers w f d names is in
     let numbers = numbers_there w f d names is in
     let h = numbered_session w f d names is c.requires.session c.number_parts.ensures.grown c.requires.proper c.requires.given in
     h
@@ -28,7 +28,7 @@ wanted_formula-requires-clause-numbered c =
     let w = c.args.wanted in
     let names = c.number_parts.new.names in
     let is = names_are w f d names _ c.in_ok-number_parts.ensures.numbered c.assumptions-assumptions.ensures in
-    let n = numbered w f d names is in
+    let n = with_numbers w f d names is in
     let numbers = numbers_there w f d names is in
     numbers
 
@@ -39,7 +39,7 @@ returns-in_err-id-clause-refused c =
     let w = c.args.wanted in
     let names = c.number_parts.new.names in
     let is = names_are w f d names _ c.in_ok-number_parts.ensures.numbered c.assumptions-assumptions.ensures in
-    let n = numbered w f d names is in
+    let n = with_numbers w f d names is in
     let numbers = numbers_there w f d names is in
     let e : c.from_residual-in_err-id.result ≡ Err c.in_err-id.field-0.0 = search rules in
     subst (λ s. IfErr c.from_residual-in_err-id.result (Refuses s c.args.limit (use_of c.args.target.now c.args.printed) (command_of w f))) (numbered_state w f d names is)
@@ -52,7 +52,7 @@ returns-in_err-id-clause-grown c =
     let w = c.args.wanted in
     let names = c.number_parts.new.names in
     let is = names_are w f d names _ c.in_ok-number_parts.ensures.numbered c.assumptions-assumptions.ensures in
-    let n = numbered w f d names is in
+    let n = with_numbers w f d names is in
     let numbers = numbers_there w f d names is in
     let e : c.from_residual-in_err-id.result ≡ Err c.in_err-id.field-0.0 = search rules in
     subst (λ r. OnErr r (GrowsState d c.wanted_formula.new.state)) (sym e)
@@ -65,7 +65,7 @@ give-requires-clause-within c =
     let w = c.args.wanted in
     let names = c.number_parts.new.names in
     let is = names_are w f d names _ c.in_ok-number_parts.ensures.numbered c.assumptions-assumptions.ensures in
-    let n = numbered w f d names is in
+    let n = with_numbers w f d names is in
     let numbers = numbers_there w f d names is in
     let h = numbered_session w f d names is c.requires.session c.number_parts.ensures.grown c.requires.proper c.requires.given in
     let later = c.wanted_formula.new.state in
@@ -79,7 +79,7 @@ give-requires-clause-members c =
     let w = c.args.wanted in
     let names = c.number_parts.new.names in
     let is = names_are w f d names _ c.in_ok-number_parts.ensures.numbered c.assumptions-assumptions.ensures in
-    let n = numbered w f d names is in
+    let n = with_numbers w f d names is in
     let numbers = numbers_there w f d names is in
     let h = numbered_session w f d names is c.requires.session c.number_parts.ensures.grown c.requires.proper c.requires.given in
     let later = c.wanted_formula.new.state in
@@ -93,7 +93,7 @@ returns-clause-session c =
     let w = c.args.wanted in
     let names = c.number_parts.new.names in
     let is = names_are w f d names _ c.in_ok-number_parts.ensures.numbered c.assumptions-assumptions.ensures in
-    let n = numbered w f d names is in
+    let n = with_numbers w f d names is in
     let numbers = numbers_there w f d names is in
     let h = numbered_session w f d names is c.requires.session c.number_parts.ensures.grown c.requires.proper c.requires.given in
     let later = c.wanted_formula.new.state in
@@ -107,7 +107,7 @@ returns-clause-answer c =
     let w = c.args.wanted in
     let names = c.number_parts.new.names in
     let is = names_are w f d names _ c.in_ok-number_parts.ensures.numbered c.assumptions-assumptions.ensures in
-    let n = numbered w f d names is in
+    let n = with_numbers w f d names is in
     let numbers = numbers_there w f d names is in
     let h = numbered_session w f d names is c.requires.session c.number_parts.ensures.grown c.requires.proper c.requires.given in
     let later = c.wanted_formula.new.state in
@@ -122,7 +122,7 @@ returns-clause-refused c =
     let w = c.args.wanted in
     let names = c.number_parts.new.names in
     let is = names_are w f d names _ c.in_ok-number_parts.ensures.numbered c.assumptions-assumptions.ensures in
-    let n = numbered w f d names is in
+    let n = with_numbers w f d names is in
     let numbers = numbers_there w f d names is in
     let h = numbered_session w f d names is c.requires.session c.number_parts.ensures.grown c.requires.proper c.requires.given in
     let later = c.wanted_formula.new.state in
@@ -137,7 +137,7 @@ returns-clause-grown c =
     let w = c.args.wanted in
     let names = c.number_parts.new.names in
     let is = names_are w f d names _ c.in_ok-number_parts.ensures.numbered c.assumptions-assumptions.ensures in
-    let n = numbered w f d names is in
+    let n = with_numbers w f d names is in
     let numbers = numbers_there w f d names is in
     let grown = grows_then_grows d n c.wanted_formula.new.state (keeps_itself d names c.number_parts.ensures.grown) c.wanted_formula.ensures.grown in
     on_err c.give.result (λ p. subst (GrowsState d) (sym p) grown) c.give.ensures.unchanged

@@ -1,8 +1,9 @@
-use Rattle.std.proofs.Common.{map, sym, subst}
+use Rattle.std.proofs.Common.{inl, inr, map, refl, sym, subst}
+use Rattle.formula_meaning.specs.Formula.{also}
 use Rattle.qe_syntax.specs.Writable.{AreWritableFormulas}
 use Rattle.qe_syntax.specs.Trees.{formula_tree, formulas_of}
 use Rattle.session_state.specs.Keeping.{state_of}
-use Rattle.session_commands.specs.Steps.{given_trees, HasUnwantedQuantifier, ArePartsReadable, ArePartsUnread}
+use Rattle.session_commands.specs.Steps.{given_trees, AreReadable, AreUnread, HasUnwantedQuantifier}
 use Rattle.session_meaning.specs.declared.line.StatementError.TheVariants as error
 use Rattle.session_commands.proofs.AssumptionLemmas.{early_readable, early_overflow}
 use Rattle.session_state.proofs.StateLemmas.{kept_ids, same_state}
@@ -21,35 +22,45 @@ has_unwanted_quantifier-requires-in-Err-Overflow c = kept_ids c.args.state.now c
 pub returns-then-has_unwanted_quantifier-clause-unready : goal.returns-then-has_unwanted_quantifier-clause-unready
 returns-then-has_unwanted_quantifier-clause-unready c =
     let s = state_of c.args.state.now in
-    let f = formula_tree c.args.formula.now in (
-      subst (λ t. HasUnwantedQuantifier t c.args.wanted f) (same_state c.args.state.now c.read_parts.new.state c.requires.ids c.read_parts.ensures.kept) (c.has_unwanted_quantifier.ensures.0 c.if-has_unwanted_quantifier.true),
-      early_readable s f (given_trees c.args.wanted) (subst (ArePartsReadable s f) c.assumptions.ensures c.in-Ok.ensures.readable),
-    )
+    let f = formula_tree c.args.formula.now in
+    inl (record {
+      word = refl;
+      quantified = subst (λ t. HasUnwantedQuantifier t c.args.wanted f) (same_state c.args.state.now c.read_parts.new.state c.requires.ids c.read_parts.ensures.kept) (c.has_unwanted_quantifier.ensures.0 c.if-has_unwanted_quantifier.true);
+      first = early_readable s f (given_trees c.args.wanted) (subst (λ gs. AreReadable s (also f gs)) c.assumptions.ensures c.in-Ok.ensures.readable);
+    })
 
 pub returns-else-has_unwanted_quantifier-clause-ready : goal.returns-else-has_unwanted_quantifier-clause-ready
-returns-else-has_unwanted_quantifier-clause-ready c = record {
-  readable = subst (ArePartsReadable (state_of c.args.state.now) (formula_tree c.args.formula.now)) c.assumptions.ensures c.in-Ok.ensures.readable;
-  plain = λ h. absurd (cc (
-    c.if-has_unwanted_quantifier.false,
-    c.has_unwanted_quantifier.ensures.1
-        (subst (λ t. HasUnwantedQuantifier t c.args.wanted (formula_tree c.args.formula.now)) (sym (same_state c.args.state.now c.read_parts.new.state c.requires.ids c.read_parts.ensures.kept)) h),
-  ));
-}
+returns-else-has_unwanted_quantifier-clause-ready c =
+    let f = formula_tree c.args.formula.now in
+    record {
+      readable = subst (λ gs. AreReadable (state_of c.args.state.now) (also f gs)) c.assumptions.ensures c.in-Ok.ensures.readable;
+      plain = λ h. absurd (cc (
+        c.if-has_unwanted_quantifier.false,
+        c.has_unwanted_quantifier.ensures.1
+            (subst (λ t. HasUnwantedQuantifier t c.args.wanted f) (sym (same_state c.args.state.now c.read_parts.new.state c.requires.ids c.read_parts.ensures.kept)) h),
+      ));
+    }
 
 pub returns-then-has_unwanted_quantifier-2-clause-unready : goal.returns-then-has_unwanted_quantifier-2-clause-unready
 returns-then-has_unwanted_quantifier-2-clause-unready c =
     let s = state_of c.args.state.now in
-    let f = formula_tree c.args.formula.now in (
-      subst (λ t. HasUnwantedQuantifier t c.args.wanted f) (same_state c.args.state.now c.read_parts.new.state c.requires.ids c.read_parts.ensures.kept) (c.has_unwanted_quantifier-in-Err-Overflow.ensures.0 c.if-has_unwanted_quantifier-2.true),
-      early_overflow s f (given_trees c.args.wanted) (subst (λ gs. ArePartsUnread s f gs error.Overflow) c.assumptions.ensures (subst (λ e. ArePartsUnread (state_of c.args.state.now) (formula_tree c.args.formula.now) (formulas_of (map formula_tree c.assumptions.result.now)) e) c.in-Err-Overflow.field-0-is c.in-Err-Overflow.ensures.unread)),
-    )
+    let f = formula_tree c.args.formula.now in
+    inl (record {
+      word = refl;
+      quantified = subst (λ t. HasUnwantedQuantifier t c.args.wanted f) (same_state c.args.state.now c.read_parts.new.state c.requires.ids c.read_parts.ensures.kept) (c.has_unwanted_quantifier-in-Err-Overflow.ensures.0 c.if-has_unwanted_quantifier-2.true);
+      first = early_overflow s f (given_trees c.args.wanted)
+          (subst (λ gs. AreUnread s (also f gs) error.Overflow) c.assumptions.ensures (subst (λ e. AreUnread s (also f (formulas_of (map formula_tree c.assumptions.result.now))) e) c.in-Err-Overflow.field-0-is c.in-Err-Overflow.ensures.unread));
+    })
 
 pub returns-else-has_unwanted_quantifier-2-clause-unready : goal.returns-else-has_unwanted_quantifier-2-clause-unready
-returns-else-has_unwanted_quantifier-2-clause-unready c = (
-  subst (λ gs. ArePartsUnread (state_of c.args.state.now) (formula_tree c.args.formula.now) gs error.Overflow) c.assumptions.ensures (subst (λ e. ArePartsUnread (state_of c.args.state.now) (formula_tree c.args.formula.now) (formulas_of (map formula_tree c.assumptions.result.now)) e) c.in-Err-Overflow.field-0-is c.in-Err-Overflow.ensures.unread),
-  λ h. absurd (cc (
-    c.if-has_unwanted_quantifier-2.false,
-    c.has_unwanted_quantifier-in-Err-Overflow.ensures.1
-        (subst (λ t. HasUnwantedQuantifier t c.args.wanted (formula_tree c.args.formula.now)) (sym (same_state c.args.state.now c.read_parts.new.state c.requires.ids c.read_parts.ensures.kept)) h),
-  )),
-)
+returns-else-has_unwanted_quantifier-2-clause-unready c =
+    let s = state_of c.args.state.now in
+    let f = formula_tree c.args.formula.now in
+    inr (record {
+      unread = subst (λ gs. AreUnread s (also f gs) error.Overflow) c.assumptions.ensures (subst (λ e. AreUnread s (also f (formulas_of (map formula_tree c.assumptions.result.now))) e) c.in-Err-Overflow.field-0-is c.in-Err-Overflow.ensures.unread);
+      plain = λ e h. absurd (cc (
+        c.if-has_unwanted_quantifier-2.false,
+        c.has_unwanted_quantifier-in-Err-Overflow.ensures.1
+            (subst (λ t. HasUnwantedQuantifier t c.args.wanted f) (sym (same_state c.args.state.now c.read_parts.new.state c.requires.ids c.read_parts.ensures.kept)) h),
+      ));
+    })

@@ -4,9 +4,9 @@ use Rattle.atom_normal.specs.Atoms.{context_of, atom_of}
 use Rattle.formula_meaning.specs.Shape.{IsQuantifierFree}
 use Rattle.formula_store.specs.Nodes.{tree}
 use Rattle.qe_syntax.specs.Trees.{formula_tree}
-use Rattle.session_commands.specs.Causes.{Refuses}
+use Rattle.session_commands.specs.Replies.{use_of, Refuses}
+use Rattle.session_commands.specs.Steps.{command_of}
 use Rattle.session_state.specs.Keeping.{state_of}
-use Rattle.session_commands.specs.Steps.{command_of, use_of}
 use Rattle.session_state.specs.declared.state.SessionState.{SessionState}
 use Rattle.session_state.proofs.StateLemmas.{keeps_then_grows}
 use Rattle.shared_forms.specs.Forms.{IsDistributed, IsFormed}

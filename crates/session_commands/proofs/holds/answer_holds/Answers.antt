@@ -3,10 +3,9 @@ use Rattle.std.specs.Prelude.{Result, IfErr}
 use Rattle.qe_syntax.specs.Statements.{Holds}
 use Rattle.qe_syntax.specs.Trees.{formula_tree}
 use Rattle.session_meaning.specs.declared.line.StatementError.{StatementError}
-use Rattle.session_commands.specs.Causes.{Refuses}
-use Rattle.session_commands.specs.Commands.{named}
+use Rattle.session_commands.specs.Replies.{use_of, Refuses}
+use Rattle.session_meaning.specs.Meaning.{meaning, numbered}
 use Rattle.session_state.specs.Keeping.{state_of}
-use Rattle.session_commands.specs.Steps.{use_of}
 use Rattle.session_commands.specs.Truths.{RefusesTruth}
 use Rattle.session_commands.proofs.AskedSteps.{named_session, session_named, numbers_there, entries_there, state_later, session_later}
 use Rattle.session_commands.proofs.TruthSteps.{truth_refused, truth_answered}
@@ -29,7 +28,7 @@ returns-in_err-truth-clause-refused c =
     let e : c.from_residual-in_err-truth.result ≡ Err c.in_err-truth.field-0.0 = search rules in
     let stop : Result Bool StatementError = Err c.in_err-truth.field-0.0 in
     let refused : IfErr stop (RefusesTruth (state_of (named_session state c.number_command.new.names f es c.requires.session c.in_ok-number_command.ensures.grown c.in_ok-number_command.ensures.numbered c.requires.proper c.requires.entries)) c.args.limit f es) = c.in_err-truth.ensures.refused in
-    subst (λ r. IfErr r (Refuses (named (state_of state) (Holds f es)) c.args.limit (use_of None c.args.printed) (Holds f es))) (sym e)
+    subst (λ r. IfErr r (Refuses (numbered (meaning (Holds f es)) (state_of state)) c.args.limit (use_of None c.args.printed) (Holds f es))) (sym e)
     (truth_refused state c.number_command.new.names f es c.requires.session c.in_ok-number_command.ensures.grown c.in_ok-number_command.ensures.numbered c.requires.proper c.requires.entries stop c.args.limit c.args.printed refused)
 
 pub returns-clause-session : goal.returns-clause-session

@@ -4,7 +4,7 @@ use Rattle.qe_syntax.specs.Trees.{formula_tree}
 use Rattle.formula_tree.specs.Names.{with_name}
 use Rattle.formula_tree.specs.Resolving.{formula_variables}
 use Rattle.formula_resolving.specs.Numbering.{Grows}
-use Rattle.session_commands.specs.Commands.{entry_names}
+use Rattle.session_commands.specs.Asked.{entry_names}
 use Rattle.session_commands.proofs.points.number_command.Given as goal
 
 -- the names of the entries so far come after those of the formula

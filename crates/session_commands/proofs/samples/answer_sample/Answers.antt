@@ -5,10 +5,9 @@ use Rattle.qe_syntax.specs.Statements.{Sample}
 use Rattle.qe_syntax.specs.Trees.{formula_tree}
 use Rattle.session_meaning.specs.declared.line.Line.{Line}
 use Rattle.session_meaning.specs.declared.line.StatementError.{StatementError}
-use Rattle.session_commands.specs.Causes.{Refuses}
-use Rattle.session_commands.specs.Commands.{named}
+use Rattle.session_commands.specs.Replies.{use_of, Refuses}
+use Rattle.session_meaning.specs.Meaning.{meaning, numbered}
 use Rattle.session_state.specs.Keeping.{state_of}
-use Rattle.session_commands.specs.Steps.{use_of}
 use Rattle.session_commands.proofs.AskedSteps.{session_named, numbers_there, entries_there, state_later, session_later}
 use Rattle.session_commands.proofs.SampleSteps.{sample_refused, sample_answered}
 use Rattle.session_commands.proofs.samples.answer_sample.Goals as goal
@@ -38,7 +37,7 @@ returns-in_err-sample-clause-refused c =
     let es = c.args.entries.now in
     let e : c.from_residual-in_err-sample.result ≡ Err c.in_err-sample.field-0.0 = search rules in
     let stop : Result Line StatementError = Err c.in_err-sample.field-0.0 in
-    subst (λ r. IfErr r (Refuses (named (state_of c.args.state.now) (Sample f es)) c.args.limit (use_of None c.args.printed) (Sample f es))) (sym e)
+    subst (λ r. IfErr r (Refuses (numbered (meaning (Sample f es)) (state_of c.args.state.now)) c.args.limit (use_of None c.args.printed) (Sample f es))) (sym e)
     (sample_refused c.args.state.now c.number_command.new.names (formula_tree c.args.formula.now) c.args.entries.now c.requires.session c.in_ok-number_command.ensures.grown c.in_ok-number_command.ensures.numbered c.requires.proper c.requires.entries
     c.args.limit c.args.printed stop c.in_err-sample.ensures.refused)
 

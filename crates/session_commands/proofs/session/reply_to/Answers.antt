@@ -1,7 +1,6 @@
 use Rattle.qe_syntax.specs.Statements.{statement_tree}
 use Rattle.session_state.specs.Keeping.{state_of}
 use Rattle.session_commands.proofs.AnswerLemmas.{reply_to, spelled_binds}
-use Rattle.session_commands.proofs.Agreement.{replies_agree}
 use Rattle.session_commands.proofs.session.reply_to.Goals as goal
 
 pub answer-requires-clause-formula : goal.answer-requires-clause-formula
@@ -9,6 +8,5 @@ answer-requires-clause-formula c = spelled_binds c.args.bytes.now (statement_tre
 
 pub returns-in-Ok-clause-reply : goal.returns-in-Ok-clause-reply
 returns-in-Ok-clause-reply c =
-    (replies_agree (state_of c.args.state.now) c.args.limit c.args.bytes.now c.answer.result (state_of c.answer.new.state)).1
-    (reply_to (state_of c.args.state.now) (state_of c.answer.new.state) c.args.limit c.args.bytes.now (statement_tree c.in-Ok.statement) c.in-Ok.ensures.spelled c.answer.result
-    c.answer.ensures.answer c.answer.ensures.refusal c.answer.ensures.unchanged)
+    reply_to (state_of c.args.state.now) (state_of c.answer.new.state) c.args.limit c.args.bytes.now (statement_tree c.in-Ok.statement) c.in-Ok.ensures.spelled c.answer.result
+    c.answer.ensures.answer c.answer.ensures.refusal c.answer.ensures.unchanged

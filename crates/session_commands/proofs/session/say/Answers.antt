@@ -2,12 +2,12 @@ use Rattle.std.proofs.Common.{ap, refl, sym, ◌∙◌, map, None}
 use Rattle.qe_syntax.specs.Trees.{formula_tree, formulas_of}
 use Rattle.qe_syntax.specs.Statements.{command_tree, Qea, Holds, Sample}
 use Rattle.session_state.specs.Keeping.{state_of}
-use Rattle.session_commands.specs.Steps.{use_of}
+use Rattle.session_commands.specs.Replies.{use_of}
 use Rattle.session_commands.proofs.AnswerLemmas.{formula_answered, query_answered, refused_as}
 use Rattle.session_commands.proofs.session.say.Goals as goal
 
-pub returns-in_default-clause-answer : goal.returns-in_default-clause-answer
-returns-in_default-clause-answer c =
+pub returns-in-Echo-clause-answer : goal.returns-in-Echo-clause-answer
+returns-in-Echo-clause-answer c =
     formula_answered c.answer_form_command.result (command_tree c.args.command.now) (state_of c.args.state.now) (state_of c.answer_form_command.new.state) c.args.limit c.args.printed c.answer_form_command.ensures.answer
 
 pub returns-in-Holds-clause-answer : goal.returns-in-Holds-clause-answer
