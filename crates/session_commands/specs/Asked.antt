@@ -43,7 +43,7 @@ AcceptsBoth s f es = (limit : ℕ) (printed : Bool) → IsAccepted (meaning (Hol
 abbrev pub entry_names : List PointEntry → List (List ℕ)
 entry_names es = map (λ (e : PointEntry). e.name) es
 
--- The word for a formula that is not resolved, where it is told whether something is bound to the name of an entry. There is
+-- The word for a formula that is not resolved, where it is known whether something is bound to the name of an entry. There is
 -- none where the reading overflows, since other causes come before that.
 abbrev pub stop_of : StatementError → Bool → Option StatementError
 stop_of error.Unbound met = Some error.Unbound

@@ -1,8 +1,14 @@
 -- What the steps of an answer give one another.
-use Rattle.std.specs.Prelude.{◌≡◌, ◌≢◌, ◌⊎◌, ◌<◌, ℕ, List, Bool, true, Option, Some, None, length, nat_lt, if◌then◌else◌}
+use Rattle.std.specs.Prelude.{◌≡◌, ◌≢◌, ◌⊎◌, ◌<◌, ℕ, List, Bool, true, Option, Some, None, length, nat_lt, if◌then◌else◌, map}
 use Rattle.formula_meaning.specs.Formula.{none, also}
 use Rattle.formula_meaning.specs.Some.{SomeOf}
 use Rattle.formula_meaning.specs.Tree.{Tree}
+use Rattle.std.specs.List.{AllByRecursion}
+use Rattle.atom_normal.specs.Atoms.{atom_of, IsWellFormed}
+use Rattle.formula_tree.specs.Makers.{IsMade}
+use Rattle.formula_store.specs.Nodes.{tree, IsId}
+use Rattle.session_state.specs.declared.state.SessionState.{SessionState}
+use Rattle.shared_forms.specs.declared.forms.Premised.{Premised}
 use Rattle.qe_syntax.specs.declared.tree.Formula.{Formula}
 use Rattle.qe_syntax.specs.Trees.{FormulaTree, FormulaTrees, formula_tree, formula_trees}
 use Rattle.qe_syntax.specs.Statements.{CommandTree, Echo, Nnf, Pnf, Dnf, Cnf, Simpl, Qe}
@@ -143,6 +149,13 @@ IsFirstCauseAmong s fs d = d ≢ static.Memory → IsFirstAmong s fs d
 -- the first cause why one of them is not resolved is this word's
 abbrev pub AreUnread : State → FormulaTrees → StatementError → Type 0
 AreUnread s fs e = (d : StaticError) × (e ≡ static_refusal d) × IsFirstCauseAmong s fs d
+
+-- The formula and its assumptions are read: this is the id of the formula, these are the atoms of the assumptions, and no cause in reading applies.
+pub record AreRead (s : State) (f : FormulaTree) (given : FormulaTrees) (after : SessionState) (read : Premised) : Type 0 where
+  pub made : IsMade (IsId after.store) (tree after.store) read.formula (resolve s.context s.bound s.names f)
+  pub atoms : map atom_of read.atoms.items ≡ assumed s given
+  pub well_formed : AllByRecursion IsWellFormed read.atoms.items
+  pub readable : AreReadable s (also f given)
 
 -- The first cause for which P holds, or None where there is none. Want of memory is no cause.
 abbrev pub FirstAmong : (StaticError → Type 0) → Option StaticError → Type 0

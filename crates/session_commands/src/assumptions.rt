@@ -4,7 +4,6 @@ ghost use Rattle.formula_meaning.specs.Formula.{also};
 ghost use Rattle.std.specs.Prelude.{◌≡◌, ◌≢◌, ◌++◌, None, IfOk, IfErr, OnOk, map};
 ghost use Rattle.std.specs.List.{AllByRecursion, fold};
 ghost use Rattle.atom_normal.specs.Atoms.{atom_of, IsWellFormed};
-ghost use Rattle.formula_tree.specs.Makers.{IsMade};
 ghost use Rattle.formula_tree.specs.Names.{with_name};
 ghost use Rattle.formula_tree.specs.Resolving.{resolve, formula_variables, all_variables};
 ghost use Rattle.formula_resolving.specs.Numbering.{Grows};
@@ -14,7 +13,7 @@ ghost use Rattle.qe_syntax.specs.Writable.{IsWritableFormula};
 ghost use Rattle.qe_syntax.specs.Trees.{formula_tree, formulas_of};
 ghost use Rattle.session_meaning.specs.Assumptions.{atoms_alone, assumed};
 ghost use Rattle.session_state.specs.Keeping.{state_of};
-ghost use Rattle.session_commands.specs.Steps.{HasNumbers, AreNumbered, AreReadable, AreUnread, FirstAmong, first_of, AppliesToSome, IsFirstWith};
+ghost use Rattle.session_commands.specs.Steps.{HasNumbers, AreNumbered, AreUnread, AreRead, FirstAmong, first_of, AppliesToSome, IsFirstWith};
 ghost use Rattle.session_state.specs.Growth.{KeepsState};
 
 use crate::formulas::{resolved_part, static_refusal};
@@ -73,10 +72,7 @@ pub(crate) fn read_parts(
     requires proper_given { AllByRecursion (λ g. IsWritableFormula (formula_tree g)) given.now }
     requires ids { AreIds (IsId state.old.store) state.old.bindings }
     requires numbered { AreNumbered state.old.names (also (formula_tree formula.now) (formulas_of (map formula_tree given.now))) }
-    ensures made { IfOk result (λ r. IsMade (IsId state.new.store) (tree state.new.store) r.formula (resolve (state_of state.old).context (state_of state.old).bound state.old.names (formula_tree formula.now))) }
-    ensures atoms { IfOk result (λ r. map atom_of r.atoms.items ≡ assumed (state_of state.old) (formulas_of (map formula_tree given.now))) }
-    ensures well_formed { IfOk result (λ r. AllByRecursion IsWellFormed r.atoms.items) }
-    ensures readable { OnOk result (AreReadable (state_of state.old) (also (formula_tree formula.now) (formulas_of (map formula_tree given.now)))) }
+    ensures read { IfOk result (AreRead (state_of state.old) (formula_tree formula.now) (formulas_of (map formula_tree given.now)) state.new) }
     ensures unread { IfErr result (AreUnread (state_of state.old) (also (formula_tree formula.now) (formulas_of (map formula_tree given.now)))) }
     ensures kept { KeepsState state.old state.new }
 {

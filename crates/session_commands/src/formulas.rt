@@ -3,8 +3,6 @@
 ghost use Rattle.formula_meaning.specs.Formula.{also};
 ghost use Rattle.std.specs.Prelude.{◌≡◌, ◌⊎◌, ◌↔◌, ◌<◌, ◌≤◌, ◌++◌, ℕ, List, Bool, true, IsTrue, Option, IfOk, IfErr, IfSome, IfNone, OnOk, OnErr, length, codes, map};
 ghost use Rattle.std.specs.Bool.{MatchBool};
-ghost use Rattle.std.specs.List.{AllByRecursion};
-ghost use Rattle.atom_normal.specs.Atoms.{atom_of, IsWellFormed};
 ghost use Rattle.formula_tree.specs.Bindings.{bound_to, most_bound};
 ghost use Rattle.formula_tree.specs.Makers.{IsMade};
 ghost use Rattle.formula_tree.specs.Resolving.{resolve};
@@ -16,9 +14,8 @@ ghost use Rattle.redlog_printer.specs.Writing.{text_limit};
 ghost use Rattle.qe_syntax.specs.Writable.{IsWritableFormula, AreWritableFormulas};
 ghost use Rattle.qe_syntax.specs.Statements.{command_tree};
 ghost use Rattle.qe_syntax.specs.Trees.{formula_tree, formulas_of};
-ghost use Rattle.session_meaning.specs.Assumptions.{assumed};
 ghost use Rattle.session_commands.specs.Replies.{use_of, Refuses, IsFormulaAnswer};
-ghost use Rattle.session_commands.specs.Steps.{given_trees, form_of, command_of, HasNumbers, IsUnread, IsReadable, AreNumbered, HasUnwantedQuantifier, IsReady, IsUnready, IsWantedOf, MayBind, TargetFault, LineFault, IsLineOf, GiveFault, bound_after, static_refusal as refusal_of_static, forms_refusal as refusal_of_forms};
+ghost use Rattle.session_commands.specs.Steps.{given_trees, form_of, command_of, HasNumbers, IsUnread, IsReadable, AreNumbered, HasUnwantedQuantifier, IsReady, IsUnready, IsWantedOf, MayBind, TargetFault, LineFault, IsLineOf, GiveFault, bound_after, static_refusal as refusal_of_static, forms_refusal as refusal_of_forms, AreRead};
 ghost use Rattle.session_meaning.specs.Meaning.{meaning, numbered, GivesFormula};
 ghost use Rattle.session_meaning.specs.Causes.{HasNoRoom, formula_line};
 ghost use Rattle.session_meaning.specs.Reply.{IsLine};
@@ -197,9 +194,7 @@ fn read_wanted(
     requires given { AreWritableFormulas (given_trees wanted) }
     requires ids { AreIds (IsId state.old.store) state.old.bindings }
     requires numbered { AreNumbered state.old.names (also (formula_tree formula.now) (given_trees wanted)) }
-    ensures made { IfOk result (λ r. IsMade (IsId state.new.store) (tree state.new.store) r.formula (resolve (state_of state.old).context (state_of state.old).bound state.old.names (formula_tree formula.now))) }
-    ensures atoms { IfOk result (λ r. map atom_of r.atoms.items ≡ assumed (state_of state.old) (given_trees wanted.entry)) }
-    ensures well_formed { IfOk result (λ r. AllByRecursion IsWellFormed r.atoms.items) }
+    ensures read { IfOk result (AreRead (state_of state.old) (formula_tree formula.now) (given_trees wanted.entry) state.new) }
     ensures ready { OnOk result (IsReady (state_of state.old) wanted.entry (formula_tree formula.now)) }
     ensures unready { IfErr result (IsUnready (state_of state.old) wanted.entry (formula_tree formula.now)) }
     ensures kept { KeepsState state.old state.new }

@@ -1,6 +1,6 @@
 //! The forms of a formula of a store.
 
-ghost use Rattle.std.specs.Prelude.{◌≡◌, ◌⊎◌, ◌<◌, Ok, IsErrOf, IfOk, IfErr, OnOk, length, map};
+ghost use Rattle.std.specs.Prelude.{◌≡◌, ◌⊎◌, ◌<◌, Ok, IsErrOf, IfOk, IfErr, OnOk, OnErr, length, map};
 ghost use Rattle.std.specs.List.{AllByRecursion};
 ghost use Rattle.formula_meaning.specs.Every.{Every};
 ghost use Rattle.formula_meaning.specs.NegationNormal.{normal_form};
@@ -55,11 +55,13 @@ pub struct Premised {
     pub atoms: Vec<Atom>,
 }
 
-/// The form of what was read. The new names of a prenex form stand behind the others. `Nodes` comes exactly where a prenex form's
-/// negation normal form has more nodes than the limit, or 6 times the distinct subformulas are above it where a negation normal form
-/// is asked for, and only where the plain form of a clean form, or the negation normal form that is simplified, is larger than the
-/// limit; `Overflow` exactly where a renamed atom of a prenex form passes the limit of numbers. Of an elimination both come exactly
-/// where the reference elimination stops so. After an `Err` the formulas stay, and so do the names.
+/// The form of what was read. The new names of a prenex form stand behind the others. After an `Err` the formulas and the names stay.
+///
+/// A prenex form gives `Nodes` exactly where the negation normal form has more nodes than the limit, and `Overflow` exactly where it
+/// has not and a renamed atom passes the limit of numbers. A form without quantifiers gives either exactly where the reference
+/// elimination stops with it. The others give `Nodes` alone: a negation normal form only where 6 times the distinct subformulas are
+/// above the limit, a clean form only where the plain form has more places of atoms, and a simplified one only where the negation
+/// normal form has more nodes.
 pub fn formed(
     alloc: Global,
     store: &mut Store,
@@ -73,6 +75,7 @@ pub fn formed(
     requires free { IsDistributed form → IsQuantifierFree (tree store.old read.now.formula) }
     ensures formed { IfOk result (IsFormed (context_of context) (map atom_of read.now.atoms.items) limit form names.old (tree store.old read.now.formula) names.new store.new) }
     ensures fault { IfErr result (FormFault (context_of context) (length names.old) limit form (tree store.old read.now.formula)) }
+    ensures unchanged { OnErr result (names.new ≡ names.old) }
     ensures grown { Grows names.old names.new }
     ensures kept { Keeps (IsId store.old) (tree store.old) (IsId store.new) (tree store.new) }
 {
@@ -123,6 +126,7 @@ fn prenexed(
     ensures form { IfOk result (λ r. IsPrenexAs (context_of context) (length names.old) limit (tree store.old id) (tree store.new r)) }
     ensures names { OnOk result (HasNewNames names.old (tree store.old id) names.new) }
     ensures fault { IfErr result (PrenexFault (context_of context) (length names.old) limit (tree store.old id)) }
+    ensures unchanged { OnErr result (names.new ≡ names.old) }
     ensures grown { Grows names.old names.new }
     ensures kept { Keeps (IsId store.old) (tree store.old) (IsId store.new) (tree store.new) }
 {

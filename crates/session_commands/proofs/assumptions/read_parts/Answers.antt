@@ -39,20 +39,19 @@ returns-in_err-error-in-Err-clause-unread c =
     let e : c.from_residual-in_err-error-in-Err.result ≡ Err c.in_err-error-in-Err.field-0.0 = search rules in
     subst (λ r. IfErr r (AreUnread s (also f (formulas_of (map formula_tree c.args.given.now))))) (sym e) (memory_unread s f c.args.given.now c.in_err-error-in-Err.field-0.0 c.in_err-error-in-Err.ensures.memory)
 
-pub returns-in-None-clause-made : goal.returns-in-None-clause-made
-returns-in-None-clause-made c =
-    let f = formula_tree c.args.formula.now in
-    let later = c.resolved_part.new.state in
-    subst (λ (s : State). IsMade (IsId later.store) (tree later.store) c.in-Ok.formula (resolve s.context s.bound s.names f))
-    (same_state c.args.state.now c.read_assumptions.new.state c.requires.ids c.read_assumptions.ensures.kept) c.in-Ok.ensures.made
-
-pub returns-in-None-clause-readable : goal.returns-in-None-clause-readable
-returns-in-None-clause-readable c =
+pub returns-in-None-clause-read : goal.returns-in-None-clause-read
+returns-in-None-clause-read c =
     let old = c.args.state.now in
     let f = formula_tree c.args.formula.now in
+    let later = c.resolved_part.new.state in
     let same = same_state old c.read_assumptions.new.state c.requires.ids c.read_assumptions.ensures.kept in
-    parts_readable (state_of old) f c.args.given.now (subst (λ s. IsReadable s f) same c.in-Ok.ensures.readable)
-    (subst (FirstAmong (AppliesToSome (state_of old) c.args.given.now)) c.in-None.is c.in_ok-stop.ensures.first)
+    record {
+      made = subst (λ (s : State). IsMade (IsId later.store) (tree later.store) c.in-Ok.formula (resolve s.context s.bound s.names f)) same c.in-Ok.ensures.made;
+      atoms = search rules;
+      well_formed = search rules;
+      readable = parts_readable (state_of old) f c.args.given.now (subst (λ s. IsReadable s f) same c.in-Ok.ensures.readable)
+          (subst (FirstAmong (AppliesToSome (state_of old) c.args.given.now)) c.in-None.is c.in_ok-stop.ensures.first);
+    }
 
 pub returns-in-None-clause-kept : goal.returns-in-None-clause-kept
 returns-in-None-clause-kept c = keeps_then c.args.state.now c.read_assumptions.new.state c.resolved_part.new.state c.read_assumptions.ensures.kept c.resolved_part.ensures.kept

@@ -32,18 +32,18 @@ returns-in_err-read-clause-refused c =
 
 pub wanted_cases-requires-clause-normal : goal.wanted_cases-requires-clause-normal
 wanted_cases-requires-clause-normal c =
-    normal_there c.args.state.now c.read_parts.new.state (formula_tree c.args.formula.now) (formulas_of (map formula_tree c.args.given.now)) c.requires.session c.requires.numbered c.in_ok-read.ensures.readable c.read_parts.ensures.kept
-    c.requires.proper c.requires.given (tree c.read_parts.new.state.store c.in_ok-read.read.formula) c.in_ok-read.ensures.made.same
+    normal_there c.args.state.now c.read_parts.new.state (formula_tree c.args.formula.now) (formulas_of (map formula_tree c.args.given.now)) c.requires.session c.requires.numbered c.in_ok-read.ensures.read.readable c.read_parts.ensures.kept
+    c.requires.proper c.requires.given (tree c.read_parts.new.state.store c.in_ok-read.read.formula) c.in_ok-read.ensures.read.made.same
 
 pub wanted_cases-requires-clause-atoms : goal.wanted_cases-requires-clause-atoms
 wanted_cases-requires-clause-atoms c =
-    atoms_there c.args.state.now c.read_parts.new.state (formula_tree c.args.formula.now) (formulas_of (map formula_tree c.args.given.now)) c.requires.session c.requires.numbered c.in_ok-read.ensures.readable c.read_parts.ensures.kept
-    c.requires.proper c.requires.given (tree c.read_parts.new.state.store c.in_ok-read.read.formula) c.in_ok-read.ensures.made.same (map atom_of c.in_ok-read.read.atoms.items) c.in_ok-read.ensures.atoms
+    atoms_there c.args.state.now c.read_parts.new.state (formula_tree c.args.formula.now) (formulas_of (map formula_tree c.args.given.now)) c.requires.session c.requires.numbered c.in_ok-read.ensures.read.readable c.read_parts.ensures.kept
+    c.requires.proper c.requires.given (tree c.read_parts.new.state.store c.in_ok-read.read.formula) c.in_ok-read.ensures.read.made.same (map atom_of c.in_ok-read.read.atoms.items) c.in_ok-read.ensures.read.atoms
 
 pub returns-in-Ok-clause-cases : goal.returns-in-Ok-clause-cases
 returns-in-Ok-clause-cases c =
-    wanted_there c.args.state.now c.read_parts.new.state (formula_tree c.args.formula.now) (formulas_of (map formula_tree c.args.given.now)) c.requires.session c.requires.numbered c.in_ok-read.ensures.readable c.read_parts.ensures.kept
-    c.requires.proper c.requires.given (tree c.read_parts.new.state.store c.in_ok-read.read.formula) c.in_ok-read.ensures.made.same (map atom_of c.in_ok-read.read.atoms.items) c.in_ok-read.ensures.atoms
+    wanted_there c.args.state.now c.read_parts.new.state (formula_tree c.args.formula.now) (formulas_of (map formula_tree c.args.given.now)) c.requires.session c.requires.numbered c.in_ok-read.ensures.read.readable c.read_parts.ensures.kept
+    c.requires.proper c.requires.given (tree c.read_parts.new.state.store c.in_ok-read.read.formula) c.in_ok-read.ensures.read.made.same (map atom_of c.in_ok-read.read.atoms.items) c.in_ok-read.ensures.read.atoms
     c.args.limit (map case_seen c.in-Ok.cases.items) c.in-Ok.ensures.cases
 
 pub returns-clause-refused : goal.returns-clause-refused
@@ -52,8 +52,8 @@ returns-clause-refused c =
     let f = formula_tree c.args.formula.now in
     let gs = formulas_of (map formula_tree c.args.given.now) in
     subst (λ e. (printed : Bool) → Refuses s c.args.limit (use_of None printed) (Qea f gs) e) (sym c.forms_refusal.ensures)
-    (stopped_there c.args.state.now c.read_parts.new.state f gs c.requires.session c.requires.numbered c.in_ok-read.ensures.readable c.read_parts.ensures.kept
-    c.requires.proper c.requires.given (tree c.read_parts.new.state.store c.in_ok-read.read.formula) c.in_ok-read.ensures.made.same c.args.limit c.in-Err.error c.in-Err.ensures.fault)
+    (stopped_there c.args.state.now c.read_parts.new.state f gs c.requires.session c.requires.numbered c.in_ok-read.ensures.read.readable c.read_parts.ensures.kept
+    c.requires.proper c.requires.given (tree c.read_parts.new.state.store c.in_ok-read.read.formula) c.in_ok-read.ensures.read.made.same c.args.limit c.in-Err.error c.in-Err.ensures.fault)
 
 pub returns-in-Ok-clause-kept : goal.returns-in-Ok-clause-kept
 returns-in-Ok-clause-kept c =
@@ -66,3 +66,12 @@ returns-clause-kept c =
     let m = c.read_parts.new.state in
     let later : SessionState = record { alloc = m.alloc; context = m.context; names = m.names; bindings = m.bindings; store = c.wanted_cases.new.store; kept = m.kept } in
     keeps_then c.args.state.now m later c.read_parts.ensures.kept (record { context = refl; names = refl; bindings = refl; store = c.wanted_cases.ensures.kept })
+
+pub returns-in-Ok-clause-readable : goal.returns-in-Ok-clause-readable
+returns-in-Ok-clause-readable c = c.in_ok-read.ensures.read.readable
+
+pub wanted_cases-requires-clause-id : goal.wanted_cases-requires-clause-id
+wanted_cases-requires-clause-id c = c.in_ok-read.ensures.read.made.is
+
+pub wanted_cases-requires-clause-well_formed : goal.wanted_cases-requires-clause-well_formed
+wanted_cases-requires-clause-well_formed c = c.in_ok-read.ensures.read.well_formed

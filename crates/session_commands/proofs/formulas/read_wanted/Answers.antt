@@ -3,7 +3,7 @@ use Rattle.formula_meaning.specs.Formula.{also}
 use Rattle.qe_syntax.specs.Writable.{AreWritableFormulas}
 use Rattle.qe_syntax.specs.Trees.{formula_tree, formulas_of}
 use Rattle.session_state.specs.Keeping.{state_of}
-use Rattle.session_commands.specs.Steps.{given_trees, AreReadable, AreUnread, HasUnwantedQuantifier}
+use Rattle.session_commands.specs.Steps.{given_trees, AreReadable, AreUnread, HasUnwantedQuantifier, AreRead}
 use Rattle.session_meaning.specs.declared.line.StatementError.TheVariants as error
 use Rattle.session_commands.proofs.AssumptionLemmas.{early_readable, early_overflow}
 use Rattle.session_state.proofs.StateLemmas.{kept_ids, same_state}
@@ -26,14 +26,14 @@ returns-then-has_unwanted_quantifier-clause-unready c =
     inl (record {
       word = refl;
       quantified = subst (λ t. HasUnwantedQuantifier t c.args.wanted f) (same_state c.args.state.now c.read_parts.new.state c.requires.ids c.read_parts.ensures.kept) (c.has_unwanted_quantifier.ensures.0 c.if-has_unwanted_quantifier.true);
-      first = early_readable s f (given_trees c.args.wanted) (subst (λ gs. AreReadable s (also f gs)) c.assumptions.ensures c.in-Ok.ensures.readable);
+      first = early_readable s f (given_trees c.args.wanted) (subst (λ gs. AreReadable s (also f gs)) c.assumptions.ensures c.in-Ok.ensures.read.readable);
     })
 
 pub returns-else-has_unwanted_quantifier-clause-ready : goal.returns-else-has_unwanted_quantifier-clause-ready
 returns-else-has_unwanted_quantifier-clause-ready c =
     let f = formula_tree c.args.formula.now in
     record {
-      readable = subst (λ gs. AreReadable (state_of c.args.state.now) (also f gs)) c.assumptions.ensures c.in-Ok.ensures.readable;
+      readable = subst (λ gs. AreReadable (state_of c.args.state.now) (also f gs)) c.assumptions.ensures c.in-Ok.ensures.read.readable;
       plain = λ h. absurd (cc (
         c.if-has_unwanted_quantifier.false,
         c.has_unwanted_quantifier.ensures.1
@@ -64,3 +64,7 @@ returns-else-has_unwanted_quantifier-2-clause-unready c =
             (subst (λ t. HasUnwantedQuantifier t c.args.wanted f) (sym (same_state c.args.state.now c.read_parts.new.state c.requires.ids c.read_parts.ensures.kept)) h),
       ));
     })
+
+pub returns-else-has_unwanted_quantifier-clause-read : goal.returns-else-has_unwanted_quantifier-clause-read
+returns-else-has_unwanted_quantifier-clause-read c =
+    subst (λ gs. AreRead (state_of c.args.state.now) (formula_tree c.args.formula.now) gs c.read_parts.new.state c.in-Ok.read) c.assumptions.ensures c.in-Ok.ensures.read

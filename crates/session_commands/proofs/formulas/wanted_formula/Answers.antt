@@ -35,12 +35,12 @@ formed-requires-clause-read c =
     let ks = map atom_of read.atoms.items in
     let kept = c.read_wanted.ensures.kept in
     record {
-      id = h.made.is;
-      normal = read_normal w f d c.requires.numbered c.requires.session c.requires.proper h.ready m kept t h.made.same ks h.atoms;
-      members = read_members w f d c.requires.numbered c.requires.session c.requires.proper h.ready m kept t h.made.same ks h.atoms;
-      within = read_within w f d c.requires.numbered c.requires.session c.requires.proper h.ready m kept t h.made.same ks h.atoms;
-      atoms = read_atoms w f d c.requires.numbered c.requires.session c.requires.proper h.ready m kept t h.made.same ks h.atoms c.requires.given;
-      well_formed = h.well_formed;
+      id = h.read.made.is;
+      normal = read_normal w f d c.requires.numbered c.requires.session c.requires.proper h.ready m kept t h.read.made.same ks h.read.atoms;
+      members = read_members w f d c.requires.numbered c.requires.session c.requires.proper h.ready m kept t h.read.made.same ks h.read.atoms;
+      within = read_within w f d c.requires.numbered c.requires.session c.requires.proper h.ready m kept t h.read.made.same ks h.read.atoms;
+      atoms = read_atoms w f d c.requires.numbered c.requires.session c.requires.proper h.ready m kept t h.read.made.same ks h.read.atoms c.requires.given;
+      well_formed = h.read.well_formed;
     }
 
 pub formed-requires-clause-free : goal.formed-requires-clause-free
@@ -49,7 +49,7 @@ formed-requires-clause-free c =
     let m = c.read_wanted.new.state in
     let read = c.in_ok-read.read in
     let h = c.in_ok-read.ensures in
-    let free = read_free c.args.wanted (formula_tree c.args.formula.now) d c.requires.numbered c.requires.session c.requires.proper h.ready m c.read_wanted.ensures.kept (tree m.store read.formula) h.made.same (map atom_of read.atoms.items) h.atoms in
+    let free = read_free c.args.wanted (formula_tree c.args.formula.now) d c.requires.numbered c.requires.session c.requires.proper h.ready m c.read_wanted.ensures.kept (tree m.store read.formula) h.read.made.same (map atom_of read.atoms.items) h.read.atoms in
     subst (λ o. IsDistributed o → IsQuantifierFree (tree m.store read.formula)) (sym c.form-form.ensures) free
 
 pub returns-in-Ok-clause-wanted : goal.returns-in-Ok-clause-wanted
@@ -61,7 +61,7 @@ returns-in-Ok-clause-wanted c =
     let ks = map atom_of read.atoms.items in
     let t = tree m.store read.formula in
     let made = subst (λ o. IsFormed (context_of m.context) ks c.args.limit o m.names t c.formed.new.names c.formed.new.store c.in-Ok.id) c.form-form.ensures c.in-Ok.ensures.formed in
-    form_wanted c.args.wanted (formula_tree c.args.formula.now) d c.requires.numbered c.requires.session c.requires.proper h.ready m c.read_wanted.ensures.kept t h.made.same ks h.atoms
+    form_wanted c.args.wanted (formula_tree c.args.formula.now) d c.requires.numbered c.requires.session c.requires.proper h.ready m c.read_wanted.ensures.kept t h.read.made.same ks h.read.atoms
     c.args.limit (tree c.formed.new.store c.in-Ok.id) c.formed.new.names made.is made.names_after
 
 pub returns-clause-refused : goal.returns-clause-refused
@@ -75,7 +75,7 @@ returns-clause-refused c =
     let t = tree m.store read.formula in
     let fault = subst (λ o. FormFault (context_of m.context) (length m.names) c.args.limit o t c.in-Err.error) c.form-form.ensures c.in-Err.ensures.fault in
     subst (λ e. (target : Option (List ℕ)) (printed : Bool) → Refuses (state_of d) c.args.limit (use_of target printed) (command_of w f) e) (sym c.forms_refusal.ensures)
-    (form_refused w f d c.requires.numbered c.requires.session c.requires.proper h.ready m c.read_wanted.ensures.kept t h.made.same (map atom_of read.atoms.items) h.atoms c.args.limit c.in-Err.error fault)
+    (form_refused w f d c.requires.numbered c.requires.session c.requires.proper h.ready m c.read_wanted.ensures.kept t h.read.made.same (map atom_of read.atoms.items) h.read.atoms c.args.limit c.in-Err.error fault)
 
 pub returns-in-Ok-clause-grown : goal.returns-in-Ok-clause-grown
 returns-in-Ok-clause-grown c =
