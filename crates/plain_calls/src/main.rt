@@ -1,10 +1,12 @@
 //! Makes the calls that no statement makes, on formulas worked by hand: a maker of plain trees, a formula unfolded under a
 //! limit, a tree printed by itself, the cases of a tree, and the sample of one without free names; and those of the lowest crates, of
-//! numbers, forms, atoms and test points, also put into shared formulas; and pieces that are shared out to threads. The gate runs it and compares what it prints.
+//! numbers, forms, atoms and test points, also put into shared formulas; blocks branch by branch, and guards together; and pieces that are shared out to threads. The gate runs it and compares what it prints.
 #![tactic(auto)]
 
+mod blocks;
 mod calls;
 mod forms;
+mod guards;
 mod numbers;
 mod pieces;
 mod points;
@@ -21,6 +23,7 @@ fn main(rt: HostRuntime) -> io::Result<()> {
     formulas(&rt)?;
     lowest(&rt)?;
     shared_formulas(&rt)?;
+    eliminated(&rt)?;
     shared_out(&rt)
 }
 
@@ -85,6 +88,23 @@ fn shared_formulas<R: Threads + Sync + Print + AllocGlobal>(rt: &R) -> io::Resul
     tell(rt, "a shared formula at two points", both)?;
     tell(rt, "the same by two threads", at_once)?;
     tell(rt, "a large shared formula at a point", large)
+}
+
+/// Blocks branch by branch, and the guards of cases.
+fn eliminated<R: Threads + Sync + Print + AllocGlobal>(rt: &R) -> io::Result<()> {
+    let alloc = rt.alloc();
+    let equations = blocks::equations(rt, alloc);
+    let parity = blocks::parity(rt, alloc);
+    let absent = blocks::absent(rt, alloc);
+    let between = blocks::between(rt, alloc);
+    let chain = blocks::chain(rt, alloc);
+    let guards = guards::together(alloc);
+    tell(rt, "a block with an equation for each name", equations)?;
+    tell(rt, "a half above another number", parity)?;
+    tell(rt, "a block with a name that stands nowhere", absent)?;
+    tell(rt, "a block of a number between two", between)?;
+    tell(rt, "a chain of 20 names", chain)?;
+    tell(rt, "the guards of no case, of one and of two", guards)
 }
 
 /// Pieces that are shared out to threads.

@@ -4,7 +4,9 @@ ghost use Rattle.std.specs.Prelude.{IfSome};
 ghost use Rattle.formula_meaning.specs.Every.{Every};
 ghost use Rattle.atom_normal.specs.Atoms.{context_of};
 ghost use Rattle.atom_normal.specs.NormalForm.{IsNormal};
+ghost use Rattle.elimination_reference.specs.Theorems.{IsTidy};
 ghost use Rattle.formula_tree.specs.Trees.{tree_of};
+ghost use Rattle.formula_store.specs.Nodes.{tree, IsId};
 ghost use Rattle.nnf_trees.specs.Nnfs.{HasModulus};
 ghost use Rattle.qe_syntax.specs.Proper.{IsProperFormula};
 ghost use Rattle.qe_syntax.specs.Writable.{IsWritable};
@@ -13,10 +15,11 @@ ghost use Rattle.qe_syntax.specs.Trees.{formula_tree};
 
 use atom_normal::Context;
 use formula_resolving::linearise;
-use formula_store::Store;
+use formula_store::{FormulaId, Store};
 use formula_tree::{Bindings, Names, Tree};
 use qe_syntax::{Action, Command, Formula, Statement};
-use shared_elimination::unfolded_form;
+use redlog_reader::read_statement;
+use shared_elimination::{eliminate_shared, unfolded_form};
 use std::alloc::Global;
 
 /// The limit of nodes of each call.
@@ -53,12 +56,42 @@ fn resolved_form(alloc: Global, context: Context, formula: &Formula) -> Option<T
     ensures moduli { IfSome result (λ t. Every HasModulus (tree_of t)) }
     ensures normal { IfSome result (λ t. Every (IsNormal (context_of context)) (tree_of t)) }
 {
-    let mut names = Names::new(alloc);
     let mut store = Store::new(alloc);
+    let id = resolved_id(alloc, context, formula, &mut store)?;
+    unfolded_form(alloc, &mut store, id, LIMIT).ok()
+}
+
+/// The id of the formula, whose names have numbers in the order of the text.
+fn resolved_id(
+    alloc: Global,
+    context: Context,
+    formula: &Formula,
+    store: &mut Store,
+) -> Option<FormulaId>
+    requires { IsProperFormula (formula_tree formula.now) }
+    ensures is { IfSome result (IsId store.new) }
+    ensures normal { IfSome result (λ id. Every (IsNormal (context_of context)) (tree store.new id)) }
+{
+    let mut names = Names::new(alloc);
     let bound = Bindings::new(alloc);
-    let id = linearise(alloc, formula, &bound, context, &mut names, &mut store);
-    match id {
-        Ok(id) => unfolded_form(alloc, &mut store, id, LIMIT).ok(),
+    match linearise(alloc, formula, &bound, context, &mut names, store) {
+        Ok(id) => Some(id),
         Err(_) => None,
     }
+}
+
+/// The id of the statement's formula without quantifiers, as the reference elimination gives it.
+pub(crate) fn tidy_id(
+    alloc: Global,
+    context: Context,
+    statement: &str,
+    store: &mut Store,
+) -> Option<FormulaId>
+    ensures is { IfSome result (IsId store.new) }
+    ensures tidy { IfSome result (λ id. IsTidy (context_of context) (tree store.new id)) }
+{
+    let statement = read_statement(alloc, statement.as_bytes()).ok()?;
+    let formula = formula_of(&statement)?;
+    let id = resolved_id(alloc, context, formula, store)?;
+    eliminate_shared(alloc, store, context, id, LIMIT).ok()
 }

@@ -19,7 +19,7 @@ use std::thread::Threads;
 use test_points::{Place, TestPoint};
 use virtual_subst::{substitute_all, substitute_shared};
 
-const B: VarId = VarId { number: 2 };
+pub(crate) const B: VarId = VarId { number: 2 };
 
 /// The point of `x` below all numbers.
 fn far_below(alloc: Global) -> TestPoint
@@ -36,7 +36,12 @@ fn far_below(alloc: Global) -> TestPoint
 }
 
 /// The id of the comparison of `x - name` with 0.
-fn compared(alloc: Global, store: &mut Store, relation: Rel, name: VarId) -> Option<FormulaId>
+pub(crate) fn compared(
+    alloc: Global,
+    store: &mut Store,
+    relation: Rel,
+    name: VarId,
+) -> Option<FormulaId>
     ensures made { IfSome result (Takes store.new) }
     ensures kept { StillTakes store.old store.new }
 {
@@ -119,7 +124,7 @@ fn texts_of_both(alloc: Global, store: Store, low: Delta, high: Delta) -> Option
 }
 
 /// The text of a formula of few nodes.
-fn unfolded_text(alloc: Global, store: &Store, id: FormulaId) -> Option<String>
+pub(crate) fn unfolded_text(alloc: Global, store: &Store, id: FormulaId) -> Option<String>
     requires { IsId store.now id }
 {
     let tree = store.unfold(id, 10).ok()?;

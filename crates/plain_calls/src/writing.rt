@@ -63,7 +63,7 @@ pub(crate) fn cases_text(alloc: Global, cases: &[PrintedCase]) -> Result<String,
 }
 
 /// The answers of a case.
-fn answers_text(alloc: Global, answers: &[TestPoint]) -> Result<String, AllocError> {
+pub(crate) fn answers_text(alloc: Global, answers: &[TestPoint]) -> Result<String, AllocError> {
     let mut text = String::new(alloc);
     for answer in answers {
         let number = answer.name.number;
