@@ -76,7 +76,7 @@ fn block_text<R: Threads + Sync>(
 }
 
 /// The branches, over formulas of the store.
-fn branches_of<R: Threads + Sync>(
+pub(crate) fn branches_of<R: Threads + Sync>(
     rt: &R,
     alloc: Global,
     context: Context,
@@ -123,24 +123,24 @@ fn points_text(alloc: Global, points: &[TestPoint], told: Told) -> Result<String
     }
 }
 
-/// A chain of 20 names, each less than the next, with all of them in the block: each but the last goes far below the next one,
+/// A chain of 100 names, each less than the next, with all of them in the block: each but the last goes far below the next one,
 /// which leaves `true`, and the last goes to 0.
 pub(crate) fn chain<R: Threads + Sync>(rt: &R, alloc: Global) -> Option<String> {
     let mut text = String::new(alloc);
     let mut before = 0;
-    for number in 1..20 {
+    for number in 1..100 {
         let word = if before > 0 { " and " } else { "" };
         text.push_str(&format!(in alloc; "{word}x{before}<x{number}").ok()?)
             .ok()?;
         before = number;
     }
     text.push(';').ok()?;
-    let block = first_names(alloc, 20)?;
+    let block = first_names(alloc, 100)?;
     block_text(rt, alloc, Context::Fields, &text, &block, Told::Number)
 }
 
 /// The first of all names, so many.
-fn first_names(alloc: Global, count: usize) -> Option<Vec<VarId>>
+pub(crate) fn first_names(alloc: Global, count: usize) -> Option<Vec<VarId>>
     ensures { IfSome result (λ v. StandsOnce (numbers v.items)) }
 {
     let mut names = Vec::new(alloc);

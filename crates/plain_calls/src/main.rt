@@ -1,10 +1,12 @@
 //! Makes the calls that no statement makes, on formulas worked by hand: a maker of plain trees, a formula unfolded under a
-//! limit, a tree printed by itself, the cases of a tree, and the sample of one without free names; and those of the lowest crates, of
-//! numbers, forms, atoms and test points, also put into shared formulas; blocks branch by branch, and guards together; and pieces that are shared out to threads. The gate runs it and compares what it prints.
+//! limit, a tree printed by itself, the cases of a tree, and the sample of one without free names; those of the lowest crates, of
+//! numbers, forms, atoms and test points, also put into shared formulas; blocks branch by branch, and guards together; and pieces
+//! that are shared out to threads. The gate runs it and compares what it prints.
 #![tactic(auto)]
 
 mod blocks;
 mod calls;
+mod families;
 mod forms;
 mod guards;
 mod numbers;
@@ -24,6 +26,7 @@ fn main(rt: HostRuntime) -> io::Result<()> {
     lowest(&rt)?;
     shared_formulas(&rt)?;
     eliminated(&rt)?;
+    counted(&rt)?;
     shared_out(&rt)
 }
 
@@ -103,8 +106,25 @@ fn eliminated<R: Threads + Sync + Print + AllocGlobal>(rt: &R) -> io::Result<()>
     tell(rt, "a half above another number", parity)?;
     tell(rt, "a block with a name that stands nowhere", absent)?;
     tell(rt, "a block of a number between two", between)?;
-    tell(rt, "a chain of 20 names", chain)?;
+    tell(rt, "a chain of 100 names", chain)?;
     tell(rt, "the guards of no case, of one and of two", guards)
+}
+
+/// How much blocks of ordinary questions leave.
+fn counted<R: Threads + Sync + Print + AllocGlobal>(rt: &R) -> io::Result<()> {
+    let alloc = rt.alloc();
+    let fields = families::half_planes(rt, alloc, Context::Fields);
+    let integers = families::half_planes(rt, alloc, Context::Integers);
+    let spaces = families::half_spaces(rt, alloc);
+    let schedule = families::schedule(rt, alloc);
+    let coins = families::coins(rt, alloc);
+    let residues = families::residues(rt, alloc);
+    tell(rt, "ten half planes over the fields", fields)?;
+    tell(rt, "the same over the integers", integers)?;
+    tell(rt, "eight half spaces around a point", spaces)?;
+    tell(rt, "five jobs in the time they take", schedule)?;
+    tell(rt, "coins of 11, 13 and 17", coins)?;
+    tell(rt, "residues modulo 4, 6 and 7", residues)
 }
 
 /// Pieces that are shared out to threads.

@@ -23,7 +23,7 @@ use shared_elimination::{eliminate_shared, unfolded_form};
 use std::alloc::Global;
 
 /// The limit of nodes of each call.
-pub(crate) const LIMIT: u64 = 1000;
+pub(crate) const LIMIT: u64 = 1_000_000;
 
 /// The formula that the statement asks for as it is.
 #[tactic(auto, using(qe_syntax::proofs::WritableLemmas::writable))]

@@ -1,0 +1,82 @@
+//! Blocks of ordinary questions, with how many branches and nodes they leave.
+
+ghost use Rattle.std.specs.Prelude.{All};
+ghost use Rattle.formula_store.specs.Nodes.{IsId};
+
+use crate::blocks::{branches_of, first_names};
+use atom_normal::Context;
+use branch_rounds::Branch;
+use formula_store::Store;
+use std::alloc::Global;
+use std::fmt::Write;
+use std::thread::Threads;
+
+/// The region of ten half planes, its last coordinate at most `a`. Upper points of `x` are the fewest: `a-y`, `y+2` and 10; and
+/// then the lower ones of `y`. The first gives `1<=a<=2` (at 0), `2<=a<=18` (at `(a-2)/2`), `a=1` (at `1-a`) and `18<=a<=20` (at
+/// `a-10`), the second `a>=2` and the third `a>=18`. Over the integers `(a-2)/2` is two points, each with its guard modulo 2.
+pub(crate) fn half_planes<R: Threads + Sync>(
+    rt: &R,
+    alloc: Global,
+    context: Context,
+) -> Option<String> {
+    let sides = "x>=0 and y>=0 and x+y<=a and x-y<=2 and y-x<=2";
+    let corners = "x+2*y>=1 and 2*x+y>=1 and x<=10 and y<=10 and x+y>=1";
+    let statement = format!(in alloc; "{sides} and {corners};").ok()?;
+    size_text(rt, alloc, context, &statement, 2)
+}
+
+/// Half spaces that all hold in (1, 2, 3), so that the whole is `true`.
+pub(crate) fn half_spaces<R: Threads + Sync>(rt: &R, alloc: Global) -> Option<String> {
+    let first = "x+y+z<=7 and x-y+2*z<=6 and 3*x-2*y-z<=-4 and 2*z-x-y<=3";
+    let second = "y-3*x-2*z<=-7 and -x-y-z<=-5 and 2*x+3*y-3*z<=0 and z-2*y<=-1";
+    let statement = format!(in alloc; "{first} and {second};").ok()?;
+    size_text(rt, alloc, Context::Fields, &statement, 3)
+}
+
+/// Jobs of lengths 1 to 5 one after another within 15: each begins where the one before ends, which leaves `true`.
+pub(crate) fn schedule<R: Threads + Sync>(rt: &R, alloc: Global) -> Option<String> {
+    let order = "p>=0 and q>=p+1 and r>=q+2 and s>=r+3 and t>=s+4";
+    let ends = "p+1<=15 and q+2<=15 and r+3<=15 and s+4<=15 and t+5<=15";
+    let statement = format!(in alloc; "{order} and {ends};").ok()?;
+    size_text(rt, alloc, Context::Fields, &statement, 5)
+}
+
+/// An amount `n` paid in coins: `x` goes to an eleventh of the rest, and then `y` and `z` each to 0 to 10. Each of the 121 pairs
+/// leaves a congruence and a comparison with `n`.
+pub(crate) fn coins<R: Threads + Sync>(rt: &R, alloc: Global) -> Option<String> {
+    let statement = "x>=0 and y>=0 and z>=0 and 11*x+13*y+17*z=n;";
+    size_text(rt, alloc, Context::Integers, statement, 3)
+}
+
+/// A number with three residues: it goes through the 84 classes of the least common multiple, each of which leaves three congruences.
+pub(crate) fn residues<R: Threads + Sync>(rt: &R, alloc: Global) -> Option<String> {
+    let statement = "cong(x,a,4) and cong(x,b,6) and cong(x,c,7);";
+    size_text(rt, alloc, Context::Integers, statement, 1)
+}
+
+/// How many branches the block of the first names leaves over the statement's formula, and how many nodes they have together.
+fn size_text<R: Threads + Sync>(
+    rt: &R,
+    alloc: Global,
+    context: Context,
+    statement: &str,
+    names: usize,
+) -> Option<String> {
+    let block = first_names(alloc, names)?;
+    let mut store = Store::new(alloc);
+    let branches = branches_of(rt, alloc, context, statement, &block, &mut store)?;
+    let count = branches.len();
+    let nodes = nodes_of(&store, &branches);
+    format!(in alloc; "branches {count}, nodes {nodes}").ok()
+}
+
+/// The nodes of the branches' formulas.
+fn nodes_of(store: &Store, branches: &[Branch]) -> u64
+    requires { All (λ b. IsId store.now b.formula) branches.now }
+{
+    let mut nodes: u64 = 0;
+    for branch in branches {
+        nodes = nodes.saturating_add(store.facts(branch.formula()).nodes);
+    }
+    nodes
+}
