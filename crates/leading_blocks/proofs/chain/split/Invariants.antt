@@ -1,0 +1,16 @@
+use Rattle.std.proofs.Common.{◌≡◌, ◌++◌, [], reverse, nat_eq}
+use Rattle.formula_meaning.specs.Shape.{block_of, matrix_of}
+use Rattle.formula_store.specs.Nodes.{tree, IsId}
+use Rattle.leading_blocks.proofs.Chains.{numbers}
+use Rattle.leading_blocks.proofs.chain.split.Given as goal
+
+-- the names so far, and those of the chain that goes on behind them
+abbrev pub invariant-loop-name : goal.invariant-loop-name
+invariant-loop-name l = record {
+  is : IsId l.store l.inner;
+  chain : numbers l.names.keys ++ block_of nat_eq (tree l.store l.inner) l.quantifier (reverse (numbers l.names.keys)) ≡ block_of nat_eq (tree l.store l.fn.form) l.quantifier [];
+  matrix : matrix_of nat_eq (tree l.store l.inner) l.quantifier (reverse (numbers l.names.keys)) ≡ matrix_of nat_eq (tree l.store l.fn.form) l.quantifier [];
+}
+
+abbrev pub decreases-loop-name : goal.decreases-loop-name
+decreases-loop-name l = l.inner.number
