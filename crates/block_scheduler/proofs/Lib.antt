@@ -1,0 +1,4 @@
+mod Lacking
+mod OneMore
+mod Stops
+mod Trees

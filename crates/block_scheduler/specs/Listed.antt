@@ -1,0 +1,36 @@
+-- Branches and leaves as the cases of a store.
+use Rattle.std.specs.Prelude.{◌≡◌, List, [], ◌∷◌, All as Each, reverse, if◌then◌else◌}
+use Rattle.std.specs.List.{list_any}
+use Rattle.formula_meaning.specs.Some.{EachOf}
+use Rattle.simplified_formulas.specs.AtomKit.{contains}
+use Rattle.elimination_reference.specs.Cases as reference
+use Rattle.atom_normal.specs.declared.atoms.Atom.{Atom}
+use Rattle.atom_normal.specs.Atoms.{atom_of}
+use Rattle.linear_forms.specs.declared.form.VarId.{VarId}
+use Rattle.formula_tree.specs.declared.shape.Shape.{Shape}
+use Rattle.formula_store.specs.declared.id.FormulaId.{FormulaId}
+use Rattle.formula_store.specs.Nodes.{IsId}
+use Rattle.test_points.specs.declared.points.TestPoint.{TestPoint}
+use Rattle.test_points.specs.Points.{IsTestPoint}
+use Rattle.branch_rounds.specs.Branches.{Seen}
+use Rattle.case_trees.specs.declared.case_tree.Case.{Case}
+use Rattle.case_trees.specs.CaseTrees.{cases_seen}
+
+-- the atoms that have none of the names
+abbrev pub lacking : List VarId → List Atom → List Atom
+lacking names [] = []
+lacking names (a ∷ ks) = if list_any (λ (x : VarId). contains (atom_of a) x.number) names then lacking names ks else a ∷ lacking names ks
+
+-- the guard and the answers, the last one first
+abbrev pub told_case : Case → FormulaId × List TestPoint
+told_case k = (k.guard, k.answers.items)
+
+-- what is left of the branch, and the points that led to it, the last one first
+abbrev pub told_branch : Seen → FormulaId × List TestPoint
+told_branch b = (b.formula, reverse b.points)
+
+-- the cases are those of the reference elimination, with their guards among the formulas of the store
+pub record AreShared (nodes : List (Shape FormulaId)) (meant : List reference.Case) (cases : List Case) : Type 0 where
+  pub guards : EachOf (λ (k : Case). IsId nodes k.guard) cases
+  pub points : EachOf (λ (k : Case). Each IsTestPoint k.answers.items) cases
+  pub same : cases_seen nodes cases ≡ meant

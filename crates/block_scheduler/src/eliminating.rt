@@ -1,0 +1,61 @@
+//! The cases of a formula, in the one way or in the other.
+
+ghost use Rattle.std.specs.Prelude.{◌≤◌, IfOk, IfErr, map};
+ghost use Rattle.std.specs.List.{AllByRecursion};
+ghost use Rattle.formula_meaning.specs.Every.{Every};
+ghost use Rattle.formula_meaning.specs.Some.{EachOf};
+ghost use Rattle.atom_normal.specs.Atoms.{context_of, atom_of, IsWellFormed};
+ghost use Rattle.atom_normal.specs.NormalForm.{IsNormal};
+ghost use Rattle.elimination_reference.specs.Reference.{reference};
+ghost use Rattle.formula_tree.specs.Makers.{Keeps};
+ghost use Rattle.formula_store.specs.Nodes.{tree, IsId};
+ghost use Rattle.plain_engine.specs.Told.{StopsWith};
+ghost use Rattle.case_trees.specs.CaseTrees.{IsCaseTreeOf};
+
+use crate::limits::Limits;
+use crate::task::Task;
+use atom_normal::{Atom, Context};
+use branch_rounds::RoundError;
+use case_trees::CaseTree;
+use formula_store::{FormulaId, Store};
+use plain_engine::Measured;
+use qe_parallel::Gate;
+use std::alloc::Global;
+use std::thread::Threads;
+
+/// The cases of the leading block of a formula under a theory (Loos and Weispfenning 1993, Cooper 1972), of which the members
+/// without a name of the block are used. Blocks inside the matrix are eliminated by the reference elimination.
+///
+/// Where the engine's own way would pass a limit the reference elimination answers: so `Overflow` and `Nodes` come only where it
+/// stops with that word within the limit of nodes, else `Memory`. The formulas of the store stay.
+pub fn eliminate<R: Threads + Sync, G: Gate + Sync>(
+    rt: &R,
+    alloc: Global,
+    store: &mut Store,
+    context: Context,
+    id: FormulaId,
+    theory: &[Atom],
+    limits: Limits,
+    gate: &G,
+) -> Result<CaseTree, Measured>
+    requires id { IsId store.old id }
+    requires normal { Every (IsNormal (context_of context)) (tree store.old id) }
+    requires well_formed { AllByRecursion IsWellFormed theory.now }
+    requires theory { EachOf (IsNormal (context_of context)) (map atom_of theory.now) }
+    requires workers { 1 ≤ limits.workers }
+    ensures cases { IfOk result (IsCaseTreeOf (context_of context) (map atom_of theory.now) (tree store.old id) store.new) }
+    ensures stops { IfErr result (λ e. StopsWith e (reference (context_of context) limits.nodes (tree store.old id))) }
+    ensures kept { Keeps (IsId store.old) (tree store.old) (IsId store.new) (tree store.new) }
+{
+    let task = Task {
+        alloc,
+        context,
+        theory,
+        limits,
+    };
+    match task.by_branches(rt, store, id, gate) {
+        Ok(case_tree) => Ok(case_tree),
+        Err(RoundError::Memory) => Err(Measured::Memory),
+        Err(RoundError::Overflow | RoundError::Nodes) => task.by_reference(store, id),
+    }
+}
