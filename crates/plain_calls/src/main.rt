@@ -1,11 +1,12 @@
 //! Makes the calls that no statement makes, on formulas worked by hand: a maker of plain trees, a formula unfolded under a
 //! limit, a tree printed by itself, the cases of a tree, and the sample of one without free names; those of the lowest crates, of
-//! numbers, forms, atoms and test points, also put into shared formulas; blocks branch by branch, and guards together; and pieces
-//! that are shared out to threads. The gate runs it and compares what it prints.
+//! numbers, forms, atoms and test points, also put into shared formulas; blocks branch by branch, guards together, and
+//! formulas eliminated by cases; and pieces that are shared out to threads. The gate runs it and compares what it prints.
 #![tactic(auto)]
 
 mod blocks;
 mod calls;
+mod elimination;
 mod families;
 mod forms;
 mod guards;
@@ -27,6 +28,7 @@ fn main(rt: HostRuntime) -> io::Result<()> {
     shared_formulas(&rt)?;
     eliminated(&rt)?;
     counted(&rt)?;
+    by_cases(&rt)?;
     shared_out(&rt)
 }
 
@@ -125,6 +127,21 @@ fn counted<R: Threads + Sync + Print + AllocGlobal>(rt: &R) -> io::Result<()> {
     tell(rt, "five jobs in the time they take", schedule)?;
     tell(rt, "coins of 11, 13 and 17", coins)?;
     tell(rt, "residues modulo 4, 6 and 7", residues)
+}
+
+/// Formulas eliminated by cases.
+fn by_cases<R: Threads + Sync + Print + AllocGlobal>(rt: &R) -> io::Result<()> {
+    let alloc = rt.alloc();
+    let of_all = elimination::of_all(rt, alloc);
+    let inner = elimination::with_inner(rt, alloc);
+    let refused = elimination::within_two_nodes(rt, alloc);
+    tell(rt, "no number between two", of_all)?;
+    tell(
+        rt,
+        "a number above another, and none between it and a third",
+        inner,
+    )?;
+    tell(rt, "four nodes under the limit 2", refused)
 }
 
 /// Pieces that are shared out to threads.

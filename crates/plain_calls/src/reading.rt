@@ -80,6 +80,21 @@ fn resolved_id(
     }
 }
 
+/// The id of the statement's formula, over normal atoms.
+pub(crate) fn normal_id(
+    alloc: Global,
+    context: Context,
+    statement: &str,
+    store: &mut Store,
+) -> Option<FormulaId>
+    ensures is { IfSome result (IsId store.new) }
+    ensures normal { IfSome result (λ id. Every (IsNormal (context_of context)) (tree store.new id)) }
+{
+    let statement = read_statement(alloc, statement.as_bytes()).ok()?;
+    let formula = formula_of(&statement)?;
+    resolved_id(alloc, context, formula, store)
+}
+
 /// The id of the statement's formula without quantifiers, as the reference elimination gives it.
 pub(crate) fn tidy_id(
     alloc: Global,
@@ -90,8 +105,6 @@ pub(crate) fn tidy_id(
     ensures is { IfSome result (IsId store.new) }
     ensures tidy { IfSome result (λ id. IsTidy (context_of context) (tree store.new id)) }
 {
-    let statement = read_statement(alloc, statement.as_bytes()).ok()?;
-    let formula = formula_of(&statement)?;
-    let id = resolved_id(alloc, context, formula, store)?;
+    let id = normal_id(alloc, context, statement, store)?;
     eliminate_shared(alloc, store, context, id, LIMIT).ok()
 }
