@@ -1,4 +1,1 @@
 pub mod Leasts
-pub mod Classes
-pub mod OneDenominator
-pub mod Placing

@@ -2,10 +2,6 @@
 #![tactic(auto)]
 
 mod critical;
-mod denominators;
-mod numbers;
-mod places;
-mod roots;
 mod steps;
 
 pub use steps::step_values;

@@ -3,14 +3,14 @@ ghost use Rattle.std.specs.Prelude.{◌≡◌, [], All, IfOk};
 ghost use Rattle.atom_normal.specs.Atoms.{context_of};
 ghost use Rattle.sample_reference.specs.Calculated.{step_value, values_from};
 ghost use Rattle.sample_reference.specs.Seen.{values_of, sample_of};
-ghost use Rattle.sample_values.specs.Told.{Tells};
+ghost use Rattle.sample_numbers.specs.Told.{Tells};
 ghost use Rattle.traced_cases.specs.Steps.{step_of, steps_of, IsStep};
 
-use crate::denominators::point_of_values;
-use crate::places::place_value;
+use crate::critical::PlainBranch;
 use atom_normal::Context;
 use exact_numbers::Fraction;
 use linear_forms::VarId;
+use sample_numbers::{place_value, point_of_values};
 use std::alloc::{AllocError, Global};
 use test_points::PointError;
 use traced_cases::Step;
@@ -27,7 +27,11 @@ fn step_value(
     ensures { Tells result (step_value (context_of context) (step_of step.now) (values_of found.now)) }
 {
     let at = point_of_values(alloc, found)?;
-    place_value(alloc, context, &step.point, &step.branch, &at)
+    let branch = PlainBranch {
+        context,
+        formula: &step.branch,
+    };
+    place_value(alloc, &step.point, &branch, &at)
 }
 
 /// The values of the names of the steps, the first step first: each is calculated from its branch and the values before it.

@@ -6,8 +6,8 @@ use Rattle.nnf_trees.specs.declared.nnf.Nnf.{Nnf}
 use Rattle.nnf_trees.specs.Nnfs.{nnf_of, nnfs_of}
 use Rattle.nnf_trees.proofs.Counting.{drop_at}
 use Rattle.nnf_trees.proofs.Pieces.{Formulas_of}
-use Rattle.sample_values.specs.Roots.{least_among}
-use Rattle.sample_values.proofs.Leasts.{among_append}
+use Rattle.sample_numbers.specs.Roots.{least_among}
+use Rattle.sample_numbers.proofs.Leasts.{among_append}
 use Rattle.sample_values.proofs.critical.+walked.Goals as goal
 
 pub least_in_members-loop-f-preserved : goal.least_in_members-loop-f-preserved

@@ -4,7 +4,7 @@ use Rattle.formula_meaning.specs.Sizes.{nodes, all_nodes}
 use Rattle.elimination_theory.specs.Atoms.{atoms_in_all}
 use Rattle.nnf_trees.specs.Nnfs.{nnf_of, nnfs_of}
 use Rattle.nnf_trees.proofs.Pieces.{Formulas_of}
-use Rattle.sample_values.specs.Roots.{least_among}
+use Rattle.sample_numbers.specs.Roots.{least_among}
 use Rattle.sample_values.proofs.critical.+walked.Given as goal
 
 abbrev pub decreases-least_in : goal.decreases-least_in

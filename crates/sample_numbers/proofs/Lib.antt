@@ -1,0 +1,4 @@
+pub mod Leasts
+pub mod Classes
+pub mod OneDenominator
+pub mod Placing
