@@ -1,5 +1,5 @@
 -- The children of a branch, one point after the other.
-use Rattle.std.proofs.Common.{◌≡◌, ℕ, zero, suc, ◌<◌, List, [], ◌∷◌, ◌++◌, map, length, get_or, Some, refl, sym, ap, ◌∙◌, subst, arith, inl, inr}
+use Rattle.std.proofs.Common.{◌≡◌, ℕ, zero, suc, ◌<◌, ◌≤◌, ◌+◌, length-append, List, [], ◌∷◌, ◌++◌, map, length, get_or, Some, refl, sym, ap, ◌∙◌, subst, arith, inl, inr}
 use Rattle.std.specs.Prelude.{Bool, Option, None, IfSome, IsSomeAnd, IsTrue, option_map, option_to_list}
 use Rattle.formula_meaning.specs.Context.{Context, Fields, Integers}
 use Rattle.formula_meaning.specs.Atom.{Atom}
@@ -37,7 +37,8 @@ use Rattle.formula_store.proofs.Marked.{all_at}
 use Rattle.branch_points.specs.declared.choice.Chosen.{Chosen}
 use Rattle.branch_rounds.specs.declared.work.Work.{Work}
 use Rattle.branch_rounds.specs.Children.{HasPoints, IsChildOf, IsAdded, result_seen}
-use Rattle.branch_rounds.specs.Worked.{guarded, IsLeft, IsWorkedTo}
+use Rattle.simplified_formulas.specs.Trees.{simplified_under}
+use Rattle.branch_rounds.specs.Worked.{guarded, IsLeft, IsWorkedTo, IsSimplifiedTo, left_of}
 
 -- ---- lists
 
@@ -73,17 +74,17 @@ module _ (c : Context) (ks : List Atom) (name : VarId) (f : Tree) (tidy : IsTidy
   put_tidy s t p e = subst (λ g. IsTidy c (guarded c s g)) (sym e) (subst (IsTidy c) (sym (guarded_result c name.number s f p)) (result_tidy c name.number s f p tidy))
 
   module _ (old new : List (Shape FormulaId)) (k : Keeps (IsId old) (tree old) (IsId new) (tree new)) where
-    pub each_kept : (children : List Child) → EachOf (IsChildOf old name) children → EachOf (IsChildOf new name) children
+    pub each_kept : (children : List Child) → EachOf (IsChildOf c ks f old name) children → EachOf (IsChildOf c ks f new name) children
     each_kept [] h = tt
-    each_kept (a ∷ children) h = (record { is = k.is a.formula h.0.is; point = h.0.point }, each_kept children h.1)
+    each_kept (a ∷ children) h = (record { is = k.is a.formula h.0.is; point = h.0.point; left = k.same a.formula h.0.is ∙ h.0.left }, each_kept children h.1)
 
-    seen_kept : (children : List Child) → EachOf (IsChildOf old name) children → map (result_seen new) children ≡ map (result_seen old) children
+    seen_kept : (children : List Child) → EachOf (IsChildOf c ks f old name) children → map (result_seen new) children ≡ map (result_seen old) children
     seen_kept [] h = refl
     seen_kept (a ∷ children) h = λ i. record { place = place_of a.point; tree = k.same a.formula h.0.is i } ∷ seen_kept children h.1 i
 
     module _ (before : List Place) (s : Place) (t : Tree) (place : IsPlaceIn c s) (point : IsPointFor c name.number f s) (is_put : t ≡ put c name.number s f) where
       -- nothing at this point
-      pub none_more : (children : List Child) → EachOf (IsChildOf old name) children → AreChildren c ks name.number f before (map (result_seen old) children) → IsNeverUnder c ks (guarded c s t) →
+      pub none_more : (children : List Child) → EachOf (IsChildOf c ks f old name) children → AreChildren c ks name.number f before (map (result_seen old) children) → IsNeverUnder c ks (guarded c s t) →
           AreChildren c ks name.number f (before ++ s ∷ []) (map (result_seen new) children)
       none_more children e a n =
           let is : guarded c s t ≡ result_at c (normal_atom c) name.number s f = ap (guarded c s) is_put ∙ guarded_result c name.number s f place in
@@ -91,6 +92,10 @@ module _ (c : Context) (ks : List Atom) (name : VarId) (f : Tree) (tidy : IsTidy
           let here = made.no_child s [] [] tidy point (subst (IsNeverUnder c ks) is n) made.no_point in
           subst (λ rs. AreChildren c ks name.number f (before ++ s ∷ []) rs) (append-nil (map (result_seen old) children) ∙ sym (seen_kept children e))
           (made.joined before (s ∷ []) (map (result_seen old) children) [] a here)
+
+      -- what is left here
+      pub left_here : (a : Child) → place_of a.point ≡ s → IsSimplifiedTo c ks (guarded c s t) new a.formula → tree new a.formula ≡ left_of c ks name.number (place_of a.point) f
+      left_here a e w = w.simplified ∙ ap (λ g. simplified_under c ks (guarded c s g)) is_put ∙ ap (simplified_under c ks) (guarded_result c name.number s f place) ∙ ap (λ q. left_of c ks name.number q f) (sym e)
 
       -- one child at this point
       only_here : (a : Child) → place_of a.point ≡ s → IsWorkedTo c ks (guarded c s t) new a.formula → AreChildren c ks name.number f (s ∷ []) (result_seen new a ∷ [])
@@ -100,7 +105,7 @@ module _ (c : Context) (ks : List Atom) (name : VarId) (f : Tree) (tidy : IsTidy
           subst (λ (q : Place). AreChildren c ks name.number f (s ∷ []) (record { place = q; tree = tree new a.formula } ∷ [])) (sym e)
           (made.one_child s (tree new a.formula) [] [] tidy point (subst (λ g. IsWorked c ks g (tree new a.formula)) is w.worked) made.no_point)
 
-      pub child_more : (children : List Child) → EachOf (IsChildOf old name) children → AreChildren c ks name.number f before (map (result_seen old) children) →
+      pub child_more : (children : List Child) → EachOf (IsChildOf c ks f old name) children → AreChildren c ks name.number f before (map (result_seen old) children) →
           (a : Child) → place_of a.point ≡ s → IsWorkedTo c ks (guarded c s t) new a.formula → AreChildren c ks name.number f (before ++ s ∷ []) (map (result_seen new) (children ++ a ∷ []))
       child_more children e h a p w =
           subst (λ rs. AreChildren c ks name.number f (before ++ s ∷ []) rs)
@@ -158,33 +163,41 @@ among_at (u ∷ points) (suc i) t lt e = inr (among_at points i t (omega (arith,
 module _ (w : Work) (f : Tree) (tidy : IsTidy (context_of w.context) f) (name : VarId) (old new : List (Shape FormulaId)) (k : Keeps (IsId old) (tree old) (IsId new) (tree new)) (id : FormulaId) (t : TestPoint)
     (at : IsAtPoint (context_of w.context) name f old id t) where
   -- with what is left at the point they are the children at one point more
-  pub record AreMore (before : List Place) (children : List Child) : Type 0 where
-    pub each : EachOf (IsChildOf new name) children
+  pub record AreMore (before : List Place) (some children : List Child) : Type 0 where
+    pub each : EachOf (IsChildOf (context_of w.context) (map atom_of w.assumed.now) f new name) children
+    pub few : length children ≤ length some + 1
     pub are : AreChildren (context_of w.context) (map atom_of w.assumed.now) name.number f (before ++ place_of t ∷ []) (map (result_seen new) children)
 
-  more_of : (before : List Place) (children more : List Child) → EachOf (IsChildOf old name) children → AreChildren (context_of w.context) (map atom_of w.assumed.now) name.number f before (map (result_seen old) children) →
+  left_at : (before : List Place) (child : Child) → child.point ≡ t → IsSimplifiedTo (context_of w.context) (map atom_of w.assumed.now) (guarded (context_of w.context) (place_of t) (tree old id)) new child.formula →
+      tree new child.formula ≡ left_of (context_of w.context) (map atom_of w.assumed.now) name.number (place_of child.point) f
+  left_at before child p left =
+      left_here (context_of w.context) (map atom_of w.assumed.now) name f tidy old new k before (place_of t) (tree old id) at.place at.suits at.formula child (ap place_of p) left
+
+  more_of : (before : List Place) (children more : List Child) → EachOf (IsChildOf (context_of w.context) (map atom_of w.assumed.now) f old name) children → AreChildren (context_of w.context) (map atom_of w.assumed.now) name.number f before (map (result_seen old) children) →
       (o : Option Child) → IsLeft (context_of w.context) (map atom_of w.assumed.now) (guarded (context_of w.context) (place_of t) (tree old id)) new (option_map (λ (a : Child). a.formula) o) → IfSome o (λ (a : Child). a.point ≡ t) →
-      more ≡ children ++ option_to_list o → AreMore before more
+      more ≡ children ++ option_to_list o → AreMore before children more
   more_of before children more e a None left p is =
       let same : more ≡ children = is ∙ append-nil children in
-      subst (AreMore before) (sym same) (record {
+      subst (AreMore before children) (sym same) (record {
         each = each_kept (context_of w.context) (map atom_of w.assumed.now) name f tidy old new k children e;
+        few = omega arith;
         are = none_more (context_of w.context) (map atom_of w.assumed.now) name f tidy old new k before (place_of t) (tree old id) at.place at.suits at.formula children e a left;
       })
   more_of before children more e a (Some child) left p is =
-      subst (AreMore before) (sym is) (record {
-        each = each_append (IsChildOf new name) children (child ∷ []) (each_kept (context_of w.context) (map atom_of w.assumed.now) name f tidy old new k children e)
-            (record { is = left.is; point = subst (IsPointOf name) (sym p) at.point }, tt);
-        are = child_more (context_of w.context) (map atom_of w.assumed.now) name f tidy old new k before (place_of t) (tree old id) at.place at.suits at.formula children e a child (ap place_of p) left;
+      subst (AreMore before children) (sym is) (record {
+        each = each_append (IsChildOf (context_of w.context) (map atom_of w.assumed.now) f new name) children (child ∷ []) (each_kept (context_of w.context) (map atom_of w.assumed.now) name f tidy old new k children e)
+            (record { is = left.to.is; point = subst (IsPointOf name) (sym p) at.point; left = left_at before child p left }, tt);
+        few = omega (arith, length-append children (child ∷ []));
+        are = child_more (context_of w.context) (map atom_of w.assumed.now) name f tidy old new k before (place_of t) (tree old id) at.place at.suits at.formula children e a child (ap place_of p) left.to;
       })
 
-  pub added_more : (before : List Place) (children more : List Child) (b : Bool) → EachOf (IsChildOf old name) children →
-      AreChildren (context_of w.context) (map atom_of w.assumed.now) name.number f before (map (result_seen old) children) → IsAdded w (tree old id) t new children more b → AreMore before more
+  pub added_more : (before : List Place) (children more : List Child) (b : Bool) → EachOf (IsChildOf (context_of w.context) (map atom_of w.assumed.now) f old name) children →
+      AreChildren (context_of w.context) (map atom_of w.assumed.now) name.number f before (map (result_seen old) children) → IsAdded w (tree old id) t new children more b → AreMore before children more
   added_more before children more b e a h = more_of before children more e a h.added h.left h.point h.is
 
   -- where it is true it is enough, alone
   pub record IsEnough (points : List Place) (child : Child) : Type 0 where
-    pub is : IsChildOf new name child
+    pub is : IsChildOf (context_of w.context) (map atom_of w.assumed.now) f new name child
     pub are : AreChildren (context_of w.context) (map atom_of w.assumed.now) name.number f points (result_seen new child ∷ [])
 
   enough_of : (points : List Place) → Among points (place_of t) → (children more front : List Child) (last : Child) →
@@ -194,8 +207,8 @@ module _ (w : Work) (f : Tree) (tidy : IsTidy (context_of w.context) f) (name : 
   enough_of points m children more front last (Some child) left p is y e =
       let same : child ≡ last = (same_from_push children front child last (sym is ∙ e)).1 in
       subst (IsEnough points) same (record {
-        is = record { is = left.is; point = subst (IsPointOf name) (sym p) at.point };
-        are = true_alone (context_of w.context) (map atom_of w.assumed.now) name f tidy old new k [] (place_of t) (tree old id) at.place at.suits at.formula points m child (ap place_of p) left y;
+        is = record { is = left.to.is; point = subst (IsPointOf name) (sym p) at.point; left = left_at [] child p left };
+        are = true_alone (context_of w.context) (map atom_of w.assumed.now) name f tidy old new k [] (place_of t) (tree old id) at.place at.suits at.formula points m child (ap place_of p) left.to y;
       })
 
   pub added_enough : (points : List Place) → Among points (place_of t) → (children more front : List Child) (last : Child) (b : Bool) → IsAdded w (tree old id) t new children more b → IsTrue b → more ≡ front ++ last ∷ [] → IsEnough points last

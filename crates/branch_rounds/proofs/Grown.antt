@@ -4,6 +4,7 @@ use Rattle.std.proofs.lemmas.List.{reverse-append}
 use Rattle.std.specs.Prelude.{reverse}
 use Rattle.formula_meaning.specs.Answer.{Answer}
 use Rattle.formula_meaning.specs.Atom.{Atom}
+use Rattle.formula_meaning.specs.Context.{Context}
 use Rattle.formula_meaning.specs.Distinct.{StandsOnce}
 use Rattle.formula_meaning.specs.Some.{Among, EachOf}
 use Rattle.formula_meaning.specs.Tree.{Tree}
@@ -36,13 +37,13 @@ module _ (nodes : List (Shape FormulaId)) (x : VarId) (ps : List TestPoint) (lef
       ap (map answer_of) (reverse-append ps (t ∷ [])) ∙ ap (λ cs. answer_of t ∷ cs) e ∙ ap (λ (y : VarId). record { name = y.number; place = place_of t } ∷ bs) h.name
 
   -- they stand for the children of what the branch stands for
-  pub all_children : (p : Pending) → map answer_of (reverse ps) ≡ answers_of p.steps → (kids : List Child) → EachOf (IsChildOf nodes x) kids →
+  pub all_children : (c : Context) (ks : List Atom) (f : Tree) (p : Pending) → map answer_of (reverse ps) ≡ answers_of p.steps → (kids : List Child) → EachOf (IsChildOf c ks f nodes x) kids →
       AllStand nodes (map (branch_at ps left) kids) (children x.number p (numbers left) (map (result_seen nodes) kids))
-  all_children p e [] h = tt
-  all_children p e (k ∷ kids) h = (record { formula = refl; answers = last_first k.point h.0.point (answers_of p.steps) e; left = refl }, all_children p e kids h.1)
+  all_children c ks f p e [] h = tt
+  all_children c ks f p e (k ∷ kids) h = (record { formula = refl; answers = last_first k.point h.0.point (answers_of p.steps) e; left = refl }, all_children c ks f p e kids h.1)
 
   -- they can be worked on
-  pub all_open : (w : Work) (ks : List Atom) (f : Tree) (points : List Place) → EachOf IsTestPoint ps → StandsOnce (numbers left) → (kids : List Child) → EachOf (IsChildOf nodes x) kids →
+  pub all_open : (w : Work) (ks : List Atom) (f : Tree) (points : List Place) → EachOf IsTestPoint ps → StandsOnce (numbers left) → (kids : List Child) → EachOf (IsChildOf (context_of w.context) ks f nodes x) kids →
       EachOf (IsChild (context_of w.context) ks x.number f points) (map (result_seen nodes) kids) → EachOf (IsOpen w nodes) (map (branch_at ps left) kids)
   all_open w ks f points a o [] h c = tt
   all_open w ks f points a o (k ∷ kids) h c =
@@ -76,6 +77,6 @@ step_is w old new b o ch is kids are =
         is_rest = subst (λ (l : List ℕ). IsRest x.number l (numbers left)) h.left (left_rest x b.left o.once);
         suffice = subst (λ g. ArePointsFor c x.number g points) h.formula is.suffice;
         are = subst (λ g. AreChildren c ks x.number g points results) h.formula are.are;
-        stand = all_children new x b.points left p h.answers kids are.each;
+        stand = all_children new x b.points left c ks (tree old b.formula) p h.answers kids are.each;
       };
     }

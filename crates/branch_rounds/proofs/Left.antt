@@ -30,7 +30,7 @@ constant_within : (a : Atom) → IsAtomInLimit a → InLimit (form_of a).constan
 constant_within (Compare r f) h = h.0
 constant_within (Congruent b m f) h = h.1.0
 
-constants_within : (nodes : List (Shape FormulaId)) (id : FormulaId) → IsId nodes id → HasConstantsWithin (tree nodes id)
+pub constants_within : (nodes : List (Shape FormulaId)) (id : FormulaId) → IsId nodes id → HasConstantsWithin (tree nodes id)
 constants_within nodes id i = every_map IsAtomInLimit (λ (a : Atom). InLimit (form_of a).constant) constant_within (tree nodes id) (numbers_are_within nodes id i)
 
 module _ (c : Context) (nodes : List (Shape FormulaId)) (id : FormulaId) (i : IsId nodes id) (tidy : IsTidy c (tree nodes id)) where
@@ -48,7 +48,7 @@ simplified_worked w h old new f whole r i e tidy s =
     (simplifying_works c ks (tree old whole) (assumable c ks h.normal (all_within w.assumed.now h.well_formed)) (subst (IsTidy c) (sym e) tidy) (constants_within old whole i)))
 
 -- nothing is left only of what is never true
-pub left_is : (c : Context) (ks : List Atom) (f : Tree) (nodes : List (Shape FormulaId)) (id : FormulaId) (r : Option FormulaId) → IsId nodes id → IsWorked c ks f (tree nodes id) → MatchOption r (tree nodes id ≡ No) (λ l. l ≡ id) →
-    IsLeft c ks f nodes r
-left_is c ks f nodes id None i w m = λ p o t u. subst (λ g. TrueAt c g p) m ((w.equivalent p o t).0 u)
-left_is c ks f nodes id (Some l) i w m = subst (λ k. IsLeft c ks f nodes (Some k)) (sym m) (record { is = i; worked = w })
+pub left_is : (c : Context) (ks : List Atom) (f : Tree) (nodes : List (Shape FormulaId)) (id : FormulaId) (r : Option FormulaId) → IsId nodes id → tree nodes id ≡ simplified_under c ks f → IsWorked c ks f (tree nodes id) →
+    MatchOption r (tree nodes id ≡ No) (λ l. l ≡ id) → IsLeft c ks f nodes r
+left_is c ks f nodes id None i s w m = λ p o t u. subst (λ g. TrueAt c g p) m ((w.equivalent p o t).0 u)
+left_is c ks f nodes id (Some l) i s w m = subst (λ k. IsLeft c ks f nodes (Some k)) (sym m) (record { to = record { is = i; worked = w }; simplified = s })

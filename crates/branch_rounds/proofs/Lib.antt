@@ -7,3 +7,4 @@ pub mod Childs
 pub mod EachRound
 pub mod Places
 pub mod Ended
+pub mod Alone

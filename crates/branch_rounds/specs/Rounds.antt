@@ -1,7 +1,11 @@
 -- One round over the branches of a block.
-use Rattle.std.specs.Prelude.{◌≡◌, ◌⊎◌, false, ℕ, suc, List, [], ◌∷◌, length, map}
+use Rattle.std.specs.Prelude.{◌≡◌, ◌⊎◌, ◌+◌, ◌≤◌, true, false, ℕ, suc, Some, List, [], ◌∷◌, length, map}
 use Rattle.formula_meaning.specs.Formula.{Yes}
 use Rattle.formula_meaning.specs.Some.{Among, SomeOf, EachOf}
+use Rattle.formula_meaning.specs.Context as meaning
+use Rattle.formula_meaning.specs.Atom.{Atom}
+use Rattle.formula_meaning.specs.Form.{Form}
+use Rattle.formula_meaning.specs.Sizes.{nodes}
 use Rattle.formula_meaning.specs.Tree.{Tree}
 use Rattle.formula_meaning.specs.Answer.{Place}
 use Rattle.elimination_theory.specs.Steps.{Result}
@@ -11,15 +15,17 @@ use Rattle.nnf_substitution.specs.Placed.{all_within}
 use Rattle.test_points.specs.declared.points.TestPoint.{TestPoint}
 use Rattle.test_points.specs.Points.{place_of}
 use Rattle.branch_points.specs.declared.choice.Chosen.{Chosen}
-use Rattle.branch_points.specs.Chosen.{IsChosen, NeedsCounting}
+use Rattle.branch_points.specs.Chosen.{IsChosen, NeedsCounting, conjuncts}
 use Rattle.linear_forms.specs.declared.form.VarId.{VarId}
 use Rattle.formula_tree.specs.declared.shape.Shape.{Shape}
 use Rattle.formula_store.specs.declared.id.FormulaId.{FormulaId}
 use Rattle.formula_store.specs.Nodes.{tree}
 use Rattle.case_theory.specs.Pending.{Pending, IsRest, children}
-use Rattle.case_theory.specs.Points.{ArePointsFor}
+use Rattle.case_theory.specs.Points.{ArePointsFor, IsRoot}
+use Rattle.case_theory.specs.Direct.{first_equation}
 use Rattle.case_theory.specs.Children.{AreChildren}
 use Rattle.branch_rounds.specs.declared.work.Work.{Work}
+use Rattle.branch_rounds.specs.Worked.{left_of}
 use Rattle.branch_rounds.specs.Branches.{Seen, IsOpen, AllStand, StandsFor, ArePendingOf, Takes, numbers}
 
 -- the branches have one name less
@@ -63,3 +69,18 @@ IsSpreadOver old (b ∷ bs) new = (mid : List Seen) × Takes old b mid × IsSpre
 abbrev pub PassesAt : Context → Tree → List VarId → Type 0
 PassesAt c f left =
     NeedsCounting f (numbers left) ⊎ ((ch : Chosen) × IsChosen c f left ch × SomeOf (λ (t : TestPoint). all_within (context_of c) t.name.number (place_of t) f ≡ false) ch.points.items)
+
+-- ---- one point alone
+
+-- x alone is left, and one point is enough: s, the root of the first conjunct of f that is an equation in x. No number that is formed
+-- for an atom there passes the limit, and the nodes that are left pay for it.
+pub record IsDirectAt (c : meaning.Context) (left : ℕ) (f : Tree) (names : List VarId) (x : VarId) (s : Place) : Type 0 where
+  pub alone : names ≡ x ∷ []
+  pub equation : (e : Form) × (first_equation x.number (conjuncts f) ≡ Some e) × IsRoot c x.number e s
+  pub within : all_within c x.number s f ≡ true
+  pub paid : nodes f + 2 ≤ left
+
+-- there is no more than one branch, and it is what is left of f with x at the place
+pub record IsLeftAlone (c : meaning.Context) (ks : List Atom) (x : ℕ) (s : Place) (f : Tree) (nodes : List (Shape FormulaId)) (bs : List Seen) : Type 0 where
+  pub few : length bs ≤ 1
+  pub left : EachOf (λ (b : Seen). tree nodes b.formula ≡ left_of c ks x s f) bs

@@ -1,6 +1,7 @@
 //! All names of a block put, one after the other.
 
-ghost use Rattle.std.specs.Prelude.{◌≡◌, ◌∷◌, [], IfOk, IfErr, map};
+ghost use Rattle.std.specs.Prelude.{◌≡◌, ◌∷◌, [], IfOk, IfErr, MatchResult, map};
+ghost use Rattle.formula_meaning.specs.Answer.{Place};
 ghost use Rattle.formula_meaning.specs.Some.{EachOf};
 ghost use Rattle.formula_meaning.specs.Distinct.{StandsOnce};
 ghost use Rattle.elimination_reference.specs.Theorems.{IsTidy};
@@ -11,7 +12,7 @@ ghost use Rattle.formula_store.specs.Nodes.{tree, IsId};
 ghost use Rattle.branch_rounds.specs.Worked.{IsWork};
 ghost use Rattle.linear_forms.specs.declared.form.VarId.{VarId};
 ghost use Rattle.branch_rounds.specs.Branches.{AreBranchesOf, numbers};
-ghost use Rattle.branch_rounds.specs.Rounds.{PassesAt};
+ghost use Rattle.branch_rounds.specs.Rounds.{PassesAt, IsDirectAt, IsLeftAlone};
 
 use crate::branch::Branch;
 use crate::budget::Budget;
@@ -31,7 +32,11 @@ use std::thread::Threads;
 ///
 /// What the steps cost is taken off the budget before anything is put in; `Nodes` comes where it does not suffice, `Overflow` only
 /// where a number passes 2^127 - 1, else `Memory`. Of a block of one name `Overflow` comes only where its points have to be counted,
-/// or where a number that is formed for an atom at the root of an equation or at 0 passes. The formulas of the store stay.
+/// or where a number that is formed for an atom at the root of an equation or at 0 passes. Where one point is enough for it and is
+/// paid (`IsDirectAt`), there is at most one branch, which is what is left at that point, and the only error is `Memory`.
+///
+/// The points of the first step, and of each that is large enough, are put in by as many threads as `Work` has. The formulas of the
+/// store stay.
 pub fn block_branches<R: Threads + Sync, G: Gate + Sync>(
     rt: &R,
     work: &Work<'_>,
@@ -48,6 +53,8 @@ pub fn block_branches<R: Threads + Sync, G: Gate + Sync>(
     requires once { StandsOnce (numbers block.now) }
     ensures branches { IfOk result (λ v. AreBranchesOf work.now (tree store.old matrix) (numbers block.now) store.new v.items) }
     ensures one_name { (x : VarId) → block.now ≡ x ∷ [] → IfErr result (λ e. e ≡ RoundError.Overflow → PassesAt work.now.context (tree store.old matrix) block.now) }
+    ensures direct { (x : VarId) (s : Place) → IsDirectAt (context_of work.now.context) budget.old.nodes (tree store.old matrix) block.now x s →
+        MatchResult result (λ v. IsLeftAlone (context_of work.now.context) (map atom_of work.now.assumed.now) x.number s (tree store.old matrix) store.new v.items) (λ e. e ≡ RoundError.Memory) }
     ensures kept { Keeps (IsId store.old) (tree store.old) (IsId store.new) (tree store.new) }
 {
     let mut branches = begun(work.alloc, matrix, block)?;

@@ -1,6 +1,6 @@
 //! What becomes of a branch at each of the points of a name.
 
-ghost use Rattle.std.specs.Prelude.{◌≡◌, ◌↔◌, ◌<◌, ◌++◌, ◌∷◌, [], List, All, IfOk, IfErr, IsTrue, length, map, false};
+ghost use Rattle.std.specs.Prelude.{◌≡◌, ◌↔◌, ◌<◌, ◌≤◌, ◌++◌, ◌∷◌, [], List, All, IfOk, IfErr, IsTrue, length, map, false};
 ghost use Rattle.formula_meaning.specs.Formula.{Yes};
 ghost use Rattle.formula_meaning.specs.Some.{SomeOf};
 ghost use Rattle.elimination_theory.specs.BothTheories.{IsPlaceIn};
@@ -33,48 +33,50 @@ pub(crate) struct Child {
 }
 
 impl Work<'_> {
-    /// What is left of the branch at the chosen points, each simplified under the assumptions, without what is `false`; where one
-    /// of them is `true`, that one alone. `Overflow` comes only where a number that is formed for an atom at some point passes
-    /// 2^127 - 1, else `Memory`. The formulas of the store stay.
+    /// What is left of the branch at the chosen points, put in by at most so many threads and each simplified under the assumptions,
+    /// without what is `false`; where one of them is `true`, that one alone. `Overflow` comes only where a number that is formed for
+    /// an atom at some point passes 2^127 - 1, else `Memory`. The formulas of the store stay.
     pub(crate) fn children<R: Threads + Sync, G: Gate + Sync>(
         &self,
         rt: &R,
         store: &mut Store,
         branch: FormulaId,
         chosen: &Chosen,
+        workers: usize,
         gate: &G,
     ) -> Result<Vec<Child>, RoundError>
         requires work { IsWork self.now }
         requires id { IsId store.old branch }
         requires tidy { IsTidy (context_of self.now.context) (tree store.old branch) }
         requires points { HasPoints self.now.context (tree store.old branch) chosen.now }
+        requires workers { 1 ≤ workers }
         ensures children { IfOk result (λ v. AreChildrenOf self.now (tree store.old branch) chosen.now store.new v.items) }
         ensures overflow { IfErr result (λ e. e ≡ RoundError.Overflow → SomeOf (λ t. all_within (context_of self.now.context) t.name.number (place_of t) (tree store.old branch) ≡ false) chosen.now.points.items) }
+        ensures word { IfErr result (λ e. ¬ (e ≡ RoundError.Nodes)) }
         ensures kept { Keeps (IsId store.old) (tree store.old) (IsId store.new) (tree store.new) }
     {
-        let put = match self.put_at_points(rt, store, branch, &chosen.points, gate) {
+        let put = match self.put_at_points(rt, store, branch, &chosen.points, workers, gate) {
             Ok(put) => put,
             Err(error) => return Err(error),
         };
         let mut children = Vec::new(self.alloc);
         for place in 0..put.len() {
             let point = &chosen.points[place];
-            match self.add_child(store, &mut children, put[place], point) {
-                Ok(false) => {}
-                Ok(true) => return Ok(last_alone(self.alloc, children)?),
-                Err(error) => return Err(error),
+            if self.add_child(store, &mut children, put[place], point)? {
+                return Ok(last_alone(self.alloc, children)?);
             }
         }
         Ok(children)
     }
 
-    // The formula with the name at each of the points.
+    // The formula with the name at each of the points, by at most so many threads.
     fn put_at_points<R: Threads + Sync, G: Gate + Sync>(
         &self,
         rt: &R,
         store: &mut Store,
         branch: FormulaId,
         points: &[TestPoint],
+        workers: usize,
         gate: &G,
     ) -> Result<Vec<FormulaId>, RoundError>
         requires work { IsWork self.now }
@@ -82,6 +84,7 @@ impl Work<'_> {
         requires tidy { IsTidy (context_of self.now.context) (tree store.old branch) }
         requires points { All IsTestPoint points.now }
         requires places { All (λ t. IsPlaceIn (context_of self.now.context) (place_of t)) points.now }
+        requires workers { 1 ≤ workers }
         ensures made { IfOk result (λ ids. AreMade (IsId store.new) (tree store.new) ids.items (map (λ t. put (context_of self.now.context) t.name.number (place_of t) (tree store.old branch)) points.now)) }
         ensures overflow { IfErr result (λ e. e ≡ RoundError.Overflow → SomeOf (λ t. all_within (context_of self.now.context) t.name.number (place_of t) (tree store.old branch) ≡ false) points.now) }
         ensures word { IfErr result (λ e. ¬ (e ≡ RoundError.Nodes)) }
@@ -94,7 +97,7 @@ impl Work<'_> {
             self.context,
             branch,
             points,
-            self.workers,
+            workers,
             gate,
         ) {
             Ok(put) => Ok(put),
@@ -110,27 +113,21 @@ impl Work<'_> {
         children: &mut Vec<Child>,
         put: FormulaId,
         point: &TestPoint,
-    ) -> Result<bool, RoundError>
+    ) -> Result<bool, AllocError>
         requires work { IsWork self.now }
         requires id { IsId store.old put }
         requires point { IsTestPoint point.now }
         requires place { IsPlaceIn (context_of self.now.context) (place_of point.now) }
         requires tidy { IsTidy (context_of self.now.context) (guarded (context_of self.now.context) (place_of point.now) (tree store.old put)) }
         ensures added { IfOk result (IsAdded self.now (tree store.old put) point.now store.new children.old.items children.new.items) }
-        ensures word { IfErr result (λ e. ¬ (e ≡ RoundError.Overflow)) }
         ensures kept { Keeps (IsId store.old) (tree store.old) (IsId store.new) (tree store.new) }
     {
-        match self.left_at(store, put, point) {
-            Ok(None) => Ok(false),
-            Ok(Some(formula)) => {
-                let point = point.copy(self.alloc).map_err(|_| RoundError::Memory)?;
-                children
-                    .push(Child { point, formula })
-                    .map_err(|_| RoundError::Memory)?;
-                Ok(is_true(store, formula))
-            }
-            Err(error) => Err(error),
-        }
+        let Some(formula) = self.left_at(store, put, point)? else {
+            return Ok(false);
+        };
+        let point = point.copy(self.alloc)?;
+        children.push(Child { point, formula })?;
+        Ok(is_true(store, formula))
     }
 }
 

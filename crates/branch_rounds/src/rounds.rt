@@ -1,12 +1,15 @@
 //! One name less in every branch.
 
-ghost use Rattle.std.specs.Prelude.{◌≡◌, ◌<◌, ◌++◌, [], ◌∷◌, IfOk, IfErr, OnOk, IsTrue, ◌↔◌, length, map};
+ghost use Rattle.std.specs.Prelude.{◌≡◌, ◌<◌, ◌++◌, [], ◌∷◌, IfOk, IfErr, OnOk, MatchResult, IsTrue, ◌↔◌, length, map};
+ghost use Rattle.formula_meaning.specs.Answer.{Place};
 ghost use Rattle.formula_meaning.specs.Some.{EachOf, SomeOf};
+ghost use Rattle.atom_normal.specs.Atoms.{context_of, atom_of};
+ghost use Rattle.linear_forms.specs.declared.form.VarId.{VarId};
 ghost use Rattle.formula_tree.specs.Makers.{Keeps};
 ghost use Rattle.formula_store.specs.Nodes.{tree, IsId};
 ghost use Rattle.branch_rounds.specs.Worked.{IsWork};
-ghost use Rattle.branch_rounds.specs.Branches.{branch_at, IsOpen, others_of};
-ghost use Rattle.branch_rounds.specs.Rounds.{IsStep, IsRound, IsSettled, IsSpreadOver, PassesAt};
+ghost use Rattle.branch_rounds.specs.Branches.{branch_at, IsOpen, Seen, others_of};
+ghost use Rattle.branch_rounds.specs.Rounds.{IsStep, IsRound, IsSettled, IsSpreadOver, PassesAt, IsDirectAt, IsLeftAlone};
 
 use crate::branch::Branch;
 use crate::budget::Budget;
@@ -38,6 +41,8 @@ impl Work<'_> {
         requires some { EachOf (λ b. 0 < length b.left) branches.items }
         ensures round { IfOk result (λ v. IsRound self.now store.old branches.items store.new v.items) }
         ensures overflow { IfErr result (λ e. e ≡ RoundError.Overflow → SomeOf (λ b. PassesAt self.now.context (tree store.old b.formula) b.left) branches.items) }
+        ensures direct { (b : Seen) (x : VarId) (s : Place) → branches.items ≡ b ∷ [] → IsDirectAt (context_of self.now.context) budget.old.nodes (tree store.old b.formula) b.left x s →
+            MatchResult result (λ v. IsLeftAlone (context_of self.now.context) (map atom_of self.now.assumed.now) x.number s (tree store.old b.formula) store.new v.items) (λ e. e ≡ RoundError.Memory) }
         ensures kept { Keeps (IsId store.old) (tree store.old) (IsId store.new) (tree store.new) }
     {
         let mut spread = Spread::new(self.alloc);
@@ -68,6 +73,8 @@ impl Work<'_> {
         requires some { 0 < length branch.left }
         ensures step { IfOk result (λ v. IsStep self.now store.old branch store.new v.items) }
         ensures overflow { IfErr result (λ e. e ≡ RoundError.Overflow → PassesAt self.now.context (tree store.old branch.formula) branch.left) }
+        ensures direct { (x : VarId) (s : Place) → IsDirectAt (context_of self.now.context) budget.old.nodes (tree store.old branch.formula) branch.left x s →
+            MatchResult result (λ v. IsLeftAlone (context_of self.now.context) (map atom_of self.now.assumed.now) x.number s (tree store.old branch.formula) store.new v.items) (λ e. e ≡ RoundError.Memory) }
         ensures kept { Keeps (IsId store.old) (tree store.old) (IsId store.new) (tree store.new) }
     {
         let formula = branch.formula();
@@ -84,11 +91,12 @@ impl Work<'_> {
             Ok(choice) => choice,
             Err(error) => return Err(of_choice(error)),
         };
+        let workers = budget.threads(self.workers, choice.points.len(), nodes);
         if let Err(error) = budget.pay(choice.points.len(), nodes) {
             return Err(error);
         }
         let left = others(self.alloc, branch.left(), choice.name)?;
-        let children = match self.children(rt, store, formula, &choice, gate) {
+        let children = match self.children(rt, store, formula, &choice, workers, gate) {
             Ok(children) => children,
             Err(error) => return Err(error),
         };

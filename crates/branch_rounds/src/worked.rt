@@ -1,6 +1,6 @@
 //! What is left of a branch at one point, simplified under the assumptions.
 
-ghost use Rattle.std.specs.Prelude.{◌≡◌, IfOk, IfErr, MatchOption, map};
+ghost use Rattle.std.specs.Prelude.{◌≡◌, IfOk, MatchOption, map};
 ghost use Rattle.formula_meaning.specs.Formula.{No};
 ghost use Rattle.elimination_theory.specs.BothTheories.{IsPlaceIn};
 ghost use Rattle.elimination_reference.specs.Theorems.{IsTidy};
@@ -10,7 +10,6 @@ ghost use Rattle.formula_store.specs.Nodes.{tree, IsId};
 ghost use Rattle.test_points.specs.Points.{place_of, IsTestPoint};
 ghost use Rattle.branch_rounds.specs.Worked.{guarded, IsWork, IsLeft};
 
-use crate::error::RoundError;
 use crate::work::Work;
 use atom_normal::Context;
 use cooper_periods::guard;
@@ -24,20 +23,19 @@ use virtual_subst::{fold, normal_made};
 
 impl Work<'_> {
     /// The formula into which a point was put, over the integers joined with the point's guard (Cooper 1972), and simplified under
-    /// the assumptions; `None` where nothing is left but `false`. Its only error is `Memory`. The formulas of the store stay.
+    /// the assumptions; `None` where nothing is left but `false`. Its only error is want of memory. The formulas of the store stay.
     pub(crate) fn left_at(
         &self,
         store: &mut Store,
         put: FormulaId,
         point: &TestPoint,
-    ) -> Result<Option<FormulaId>, RoundError>
+    ) -> Result<Option<FormulaId>, AllocError>
         requires work { IsWork self.now }
         requires id { IsId store.old put }
         requires point { IsTestPoint point.now }
         requires place { IsPlaceIn (context_of self.now.context) (place_of point.now) }
         requires tidy { IsTidy (context_of self.now.context) (guarded (context_of self.now.context) (place_of point.now) (tree store.old put)) }
         ensures left { IfOk result (IsLeft (context_of self.now.context) (map atom_of self.now.assumed.now) (guarded (context_of self.now.context) (place_of point.now) (tree store.old put)) store.new) }
-        ensures word { IfErr result (λ e. ¬ (e ≡ RoundError.Overflow)) }
         ensures kept { Keeps (IsId store.old) (tree store.old) (IsId store.new) (tree store.new) }
     {
         let whole = self.with_guard(store, put, point)?;
@@ -50,8 +48,7 @@ impl Work<'_> {
             u64::MAX,
         ) {
             Ok(id) => Ok(unless_false(store, id)),
-            Err(SimplError::Nodes) => Err(RoundError::Nodes),
-            Err(SimplError::Memory) => Err(RoundError::Memory),
+            Err(SimplError::Nodes | SimplError::Memory) => Err(AllocError),
         }
     }
 

@@ -1,9 +1,11 @@
-use Rattle.std.proofs.Common.{◌≡◌, ℕ, ◌+◌, List, length, drop, sym, ap, subst, refl, arith, length-drop, ⊎_elim}
+use Rattle.std.proofs.Common.{◌≡◌, ℕ, ◌+◌, List, [], map, length, drop, sym, ap, subst, refl, arith, length-drop, ⊎_elim}
 use Rattle.formula_meaning.specs.Some.{EachOf, SomeOf}
 use Rattle.formula_store.specs.Nodes.{tree}
 use Rattle.formula_store.proofs.Makes.{keeps_then}
 use Rattle.branch_rounds.specs.Branches.{Seen, IsOpen, ArePendingOf, numbers}
 use Rattle.branch_rounds.specs.Rounds.{PassesAt}
+use Rattle.atom_normal.specs.Atoms.{context_of, atom_of}
+use Rattle.branch_rounds.proofs.Alone.{direct_over, alone_over}
 use Rattle.branch_rounds.proofs.EachRound.{all_some, all_ended, begun_pending, one_less}
 use Rattle.branch_rounds.proofs.block.block_branches.Goals as goal
 
@@ -17,6 +19,8 @@ loop-name-init g c =
       are_open = subst (λ (l : List Seen). EachOf (IsOpen w nodes) l) is (record { is = c.requires.id; tidy = c.requires.tidy; points = tt; once = c.requires.once }, tt);
       many = subst (λ (l : List Seen). EachOf (λ (b : Seen). length b.left ≡ length c.args.block.now) l) is (refl, tt);
       first = λ e. c.in_ok-branches.ensures;
+      budget = λ e. refl;
+      alone = λ x s d e. absurd (omega (arith, e));
       pending = subst (λ (l : List Seen). ArePendingOf w (tree nodes c.args.matrix) (numbers c.args.block.now) nodes l) is (begun_pending w nodes c.args.matrix c.args.block.now c.requires.tidy c.requires.lack c.requires.once);
     }
 
@@ -37,6 +41,14 @@ loop-name-preserved g c =
       kept = keeps_then c.args.store.now c.loop-name.store c.round.new.store c.loop-name.invariant.kept c.in-Ok.ensures.kept;
       are_open = round.are_open;
       first = λ e. absurd (omega (arith, e));
+      budget = λ e. absurd (omega (arith, e));
+      alone = λ x s d e.
+          let one : length c.args.block.now ≡ 1 = ap length d.alone in
+          let zero : c.loop-name._name-index ≡ 0 = omega (arith, one, c.loop-name-test.true) in
+          let is = sym (c.loop-name.invariant.kept.same c.args.matrix c.requires.id) in
+          let here = direct_over (context_of c.args.work.now.context) x s c.args.block.now (tree c.args.store.now c.args.matrix) (tree c.loop-name.store c.args.matrix) c.args.budget.now.nodes c.loop-name.budget.nodes is (c.loop-name.invariant.budget zero) d in
+          alone_over (context_of c.args.work.now.context) (map atom_of c.args.work.now.assumed.now) x s (tree c.args.store.now c.args.matrix) (tree c.loop-name.store c.args.matrix) is c.round.new.store c.in-Ok.branches.items
+          (c.in-Ok.ensures.direct (record { formula = c.args.matrix; points = []; left = c.args.block.now }) x s (c.loop-name.invariant.first zero) here);
       many = round.fewer (length (drop (c.loop-name._name-index + 1) c.args.block.now)) (subst (λ (n : ℕ). EachOf (λ (b : Seen). length b.left ≡ n) c.loop-name.branches.items) less c.loop-name.invariant.many);
       pending = round.goes_on (tree c.args.store.now c.args.matrix) (numbers c.args.block.now) c.loop-name.invariant.pending;
     }
@@ -60,3 +72,16 @@ returns-in-Err-clause-one_name g c x e h =
     let zero : c.loop-name._name-index ≡ 0 = omega (arith, one, c.loop-name-test.true) in
     let passes = subst (SomeOf (λ (b : Seen). PassesAt w.context (tree c.loop-name.store b.formula) b.left)) (c.loop-name.invariant.first zero) (c.in-Err.ensures.overflow h) in
     subst (λ f. PassesAt w.context f c.args.block.now) (c.loop-name.invariant.kept.same c.args.matrix c.requires.id) (⊎_elim (λ p. p) (λ p. absurd p) passes)
+
+pub returns-in-Err-clause-direct : goal.returns-in-Err-clause-direct
+returns-in-Err-clause-direct g c x s d =
+    let one : length c.args.block.now ≡ 1 = ap length d.alone in
+    let zero : c.loop-name._name-index ≡ 0 = omega (arith, one, c.loop-name-test.true) in
+    let is = sym (c.loop-name.invariant.kept.same c.args.matrix c.requires.id) in
+    c.in-Err.ensures.direct (record { formula = c.args.matrix; points = []; left = c.args.block.now }) x s (c.loop-name.invariant.first zero)
+    (direct_over (context_of c.args.work.now.context) x s c.args.block.now (tree c.args.store.now c.args.matrix) (tree c.loop-name.store c.args.matrix) c.args.budget.now.nodes c.loop-name.budget.nodes is (c.loop-name.invariant.budget zero) d)
+
+pub returns-clause-direct : goal.returns-clause-direct
+returns-clause-direct g c x s d =
+    let one : length c.args.block.now ≡ 1 = ap length d.alone in
+    c.loop-name.invariant.alone x s d (omega (arith, one, c.loop-name-test.false))

@@ -1,4 +1,4 @@
-use Rattle.std.proofs.Common.{rules, ◌≡◌, suc, ◌<◌, List, [], ◌∷◌, ◌++◌, length, sym, ap, ◌∙◌, subst, inl, inr}
+use Rattle.std.proofs.Common.{rules, ◌≡◌, suc, ◌<◌, List, [], ◌∷◌, ◌++◌, length, map, sym, ap, ◌∙◌, subst, inl, inr, ⊎_elim}
 use Rattle.std.proofs.lemmas.List.{append-nil}
 use Rattle.std.specs.Prelude.{IsTrue}
 use Rattle.formula_meaning.specs.Some.{EachOf, SomeOf}
@@ -6,7 +6,9 @@ use Rattle.formula_store.proofs.Makes.{keeps_then}
 use Rattle.formula_store.specs.Nodes.{tree, IsId}
 use Rattle.nnf_trees.proofs.Pieces.{empty}
 use Rattle.branch_rounds.specs.Branches.{Seen, IsOpen, ArePendingOf}
-use Rattle.branch_rounds.specs.Rounds.{IsRound, IsSettled, PassesAt}
+use Rattle.branch_rounds.specs.Rounds.{IsRound, IsSettled, IsSpreadOver, PassesAt, IsLeftAlone}
+use Rattle.branch_rounds.proofs.Alone.{direct_here, alone_here, spread_alone, only_branch, some_branch}
+use Rattle.atom_normal.specs.Atoms.{context_of, atom_of}
 use Rattle.branch_rounds.proofs.Standing.{all_open_kept}
 use Rattle.branch_rounds.proofs.Going.{one_goes, all_spread, only_true}
 use Rattle.branch_rounds.proofs.EachRound.{each_is, spread_each, all_fewer_by}
@@ -38,6 +40,20 @@ loop-branch-preserved g c =
           spread_each (λ (d : Seen). length d.left ≡ n) made next c.add_all.new.spread (so_far.made_fewer n h)
           (all_fewer_by b.left n (subst (EachOf (λ (d : Seen). length d.left ≡ suc n)) split (so_far.left_many n h)).0 next step.step.fewer) c.in_ok-add_all.ensures;
       left_many = λ n h. (subst (EachOf (λ (d : Seen). length d.left ≡ suc n)) split (so_far.left_many n h)).1;
+      alone = λ d x s e h.
+          ⊎_elim
+          (λ y.
+          let one = only_branch b d rest (sym split ∙ y.0) in
+          let is = (subst (EachOf (IsOpen w c.args.store.now)) e c.requires.are_open).0.is in
+          let left = step.direct x s (direct_here w c.args.store.now old so_far.kept b d one.0 is x s c.args.budget.now.nodes c.loop-branch.budget.nodes y.2 h) in
+          let all : c.add_all.new.spread ≡ next = spread_alone c.add_all.new.spread next left.few (subst (λ (l : List Seen). IsSpreadOver l next c.add_all.new.spread) y.1 c.in_ok-add_all.ensures) in
+          inr (
+            one.1,
+            subst (λ (l : List Seen). IsLeftAlone (context_of w.context) (map atom_of w.assumed.now) x.number s (tree c.args.store.now d.formula) new l) (sym all)
+                (alone_here w c.args.store.now old so_far.kept b d one.0 is x s new next left),
+          ))
+          (λ z. some_branch b rest (sym split ∙ z.0))
+          (so_far.alone d x s e h);
       pending = λ matrix block a.
           all_spread w matrix block new made c.add_all.new.spread rest next c.in_ok-add_all.ensures
           (one_goes w matrix block old new step.kept made rest b next so_far.made_open left_open.1 step.step (subst (λ (l : List Seen). ArePendingOf w matrix block old (made ++ l)) split (so_far.pending matrix block a)));
@@ -103,3 +119,45 @@ returns-in-Err-clause-overflow g c e =
     let split : c.loop-branch.branch-iterator.rest.items ≡ b ∷ c.next.new.self.rest.items = search rules in
     let is = (subst (EachOf (IsOpen w first)) split so_far.as_first).0.is in
     so_far.among (subst (SomeOf (λ (d : Seen). PassesAt w.context (tree first d.formula) d.left)) (sym split) (inl (subst (λ f. PassesAt w.context f b.left) (so_far.kept.same b.formula is) (c.in-Err.ensures.overflow e))))
+
+pub returns-in-Err-clause-direct : goal.returns-in-Err-clause-direct
+returns-in-Err-clause-direct g c d x s e h =
+    let w = c.args.self.now in
+    let old = c.loop-branch.store in
+    let so_far = c.loop-branch.invariant in
+    let b = c.in-Some.branch in
+    let rest = c.next.new.self.rest.items in
+    let split : c.loop-branch.branch-iterator.rest.items ≡ b ∷ rest = search rules in
+    ⊎_elim
+    (λ y.
+    let one = only_branch b d rest (sym split ∙ y.0) in
+    let is = (subst (EachOf (IsOpen w c.args.store.now)) e c.requires.are_open).0.is in
+    c.in-Err.ensures.direct x s (direct_here w c.args.store.now old so_far.kept b d one.0 is x s c.args.budget.now.nodes c.loop-branch.budget.nodes y.2 h))
+    (λ z. some_branch b rest (sym split ∙ z.0))
+    (so_far.alone d x s e h)
+
+pub returns-then-settles-clause-direct : goal.returns-then-settles-clause-direct
+returns-then-settles-clause-direct g c d x s e h =
+    let w = c.args.self.now in
+    let old = c.loop-branch.store in
+    let so_far = c.loop-branch.invariant in
+    let b = c.in-Some.branch in
+    let rest = c.next.new.self.rest.items in
+    let split : c.loop-branch.branch-iterator.rest.items ≡ b ∷ rest = search rules in
+    ⊎_elim
+    (λ y.
+    let one = only_branch b d rest (sym split ∙ y.0) in
+    let is = (subst (EachOf (IsOpen w c.args.store.now)) e c.requires.are_open).0.is in
+    alone_here w c.args.store.now old so_far.kept b d one.0 is x s c.step.new.store c.in-Ok.next.items
+    (c.in-Ok.ensures.direct x s (direct_here w c.args.store.now old so_far.kept b d one.0 is x s c.args.budget.now.nodes c.loop-branch.budget.nodes y.2 h)))
+    (λ z. some_branch b rest (sym split ∙ z.0))
+    (so_far.alone d x s e h)
+
+pub returns-clause-direct : goal.returns-clause-direct
+returns-clause-direct g c d x s e h =
+    let w = c.args.self.now in
+    let so_far = c.loop-branch.invariant in
+    let none_left : length c.loop-branch.branch-iterator.rest.items ≡ 0 = search rules in
+    let ended : c.loop-branch.branch-iterator.rest.items ≡ [] = empty c.loop-branch.branch-iterator.rest.items none_left in
+    subst (λ (l : List Seen). IsLeftAlone (context_of w.context) (map atom_of w.assumed.now) x.number s (tree c.args.store.now d.formula) c.loop-branch.store l) (sym c.into_branches.ensures)
+    (⊎_elim (λ y. some_branch d [] (sym y.0 ∙ ended)) (λ z. z.1) (so_far.alone d x s e h))

@@ -1,6 +1,7 @@
-use Rattle.std.proofs.Common.{◌≡◌, false, List, map, sym, ap, ◌∙◌, subst, inl, inr}
+use Rattle.std.proofs.Common.{◌≡◌, ◌<◌, ◌≤◌, ◌+◌, ◌*◌, false, length, List, map, sym, ap, ◌∙◌, subst, inl, inr, arith}
+use Rattle.formula_meaning.specs.Sizes.{nodes}
 use Rattle.formula_meaning.specs.Some.{SomeOf}
-use Rattle.atom_normal.specs.Atoms.{context_of}
+use Rattle.atom_normal.specs.Atoms.{context_of, atom_of}
 use Rattle.nnf_substitution.specs.Placed.{all_within}
 use Rattle.test_points.specs.declared.points.TestPoint.{TestPoint}
 use Rattle.test_points.specs.Points.{place_of}
@@ -8,15 +9,19 @@ use Rattle.linear_forms.specs.declared.form.VarId.{VarId}
 use Rattle.formula_store.specs.declared.id.FormulaId.{FormulaId}
 use Rattle.formula_store.specs.Nodes.{tree}
 use Rattle.branch_points.specs.declared.error.ChoiceError.TheVariants as choice
-use Rattle.branch_points.specs.Chosen.{IsChosen, NeedsCounting}
+use Rattle.branch_points.specs.Chosen.{IsByRule, IsChosen, NeedsCounting}
 use Rattle.branch_rounds.specs.Branches.{Seen, branch_at, others_of, numbers}
 use Rattle.branch_rounds.specs.Children.{AreChildrenOf}
-use Rattle.branch_rounds.specs.Rounds.{IsStep}
+use Rattle.branch_rounds.specs.Rounds.{IsStep, IsLeftAlone}
+use Rattle.branch_rounds.proofs.Alone.{only_memory, never_counted, chosen_alone, never_passes, one_point, left_alone}
 use Rattle.branch_rounds.proofs.Grown.{step_is}
 use Rattle.branch_rounds.proofs.work.Work.step.Goals as goal
 
 no_memory : choice.Overflow ≡ choice.Memory → ⊥
 no_memory h = cc
+
+not_memory : choice.Nodes ≡ choice.Memory → ⊥
+not_memory h = cc
 
 pub returns-clause-step : goal.returns-clause-step
 returns-clause-step g c =
@@ -52,3 +57,61 @@ returns-in-Err-children-clause-overflow g c e =
       chosen,
       subst (λ (i : FormulaId). SomeOf (λ (t : TestPoint). all_within (context_of w.context) t.name.number (place_of t) (tree old i) ≡ false) c.in-Ok.choice.points.items) c.formula-formula.ensures (c.in-Err-children.ensures.overflow e),
     )
+
+pub returns-in-Err-clause-direct : goal.returns-in-Err-clause-direct
+returns-in-Err-clause-direct g c x s d =
+    let w = c.args.self.now in
+    let f = tree c.args.store.now c.args.branch.formula in
+    let counted : ¬ (c.in-Err.error ≡ choice.Memory) → NeedsCounting f (numbers c.args.branch.left) =
+    λ n. subst (λ (l : List VarId). NeedsCounting f (numbers l)) c.left.ensures (subst (λ (i : FormulaId). NeedsCounting (tree c.args.store.now i) (numbers c.left.result.now)) c.formula-formula.ensures (c.in-Err.ensures.refused n)) in
+    let never = never_counted w f c.args.branch.left x s c.args.budget.now.nodes d in
+    only_memory c.of_choice.result
+    (λ e. let over : c.in-Err.error ≡ choice.Overflow = c.of_choice.ensures.overflow e in never (counted (λ h. no_memory (sym over ∙ h))))
+    (λ e. let dear : c.in-Err.error ≡ choice.Nodes = c.of_choice.ensures.nodes e in never (counted (λ h. not_memory (sym dear ∙ h))))
+
+pub returns-in-Err-pay-clause-direct : goal.returns-in-Err-pay-clause-direct
+returns-in-Err-pay-clause-direct g c x s d =
+    let w = c.args.self.now in
+    let b = c.args.branch in
+    let f = tree c.args.store.now b.formula in
+    let rule : IsByRule w.context f b.left c.most-most.result c.in-Ok.choice =
+    subst (λ (l : List VarId). IsByRule w.context f l c.most-most.result c.in-Ok.choice) c.left.ensures (subst (λ (i : FormulaId). IsByRule w.context (tree c.args.store.now i) c.left.result.now c.most-most.result c.in-Ok.choice) c.formula-formula.ensures c.in-Ok.ensures.rule) in
+    let alone = chosen_alone w f b.left x s c.args.budget.now.nodes d c.most-most.result c.in-Ok.choice rule in
+    let one : length c.in-Ok.choice.points.items ≡ 1 = one_point w f b.left x s c.args.budget.now.nodes d c.in-Ok.choice alone in
+    let point : c.len-2.result ≡ 1 = omega (arith, one, c.len-2.ensures) in
+    let same : nodes (tree c.args.store.now c.formula-formula.result) ≡ nodes f = ap (λ (i : FormulaId). nodes (tree c.args.store.now i)) c.formula-formula.ensures in
+    let counted = c.facts-nodes.ensures.facts.nodes_are in
+    let cheap : c.facts-nodes.result.nodes ≤ nodes f = omega (arith, same, counted) in
+    let paid = d.paid in
+    let dear : c.args.budget.now.nodes < 1 * (c.facts-nodes.result.nodes + 2) = subst (λ n. c.args.budget.now.nodes < n * (c.facts-nodes.result.nodes + 2)) point c.in-Err-pay.ensures.dear in
+    absurd (omega (arith, cheap, paid, dear))
+
+pub returns-in-Err-children-clause-direct : goal.returns-in-Err-children-clause-direct
+returns-in-Err-children-clause-direct g c x s d =
+    let w = c.args.self.now in
+    let b = c.args.branch in
+    let f = tree c.args.store.now b.formula in
+    let rule : IsByRule w.context f b.left c.most-most.result c.in-Ok.choice =
+    subst (λ (l : List VarId). IsByRule w.context f l c.most-most.result c.in-Ok.choice) c.left.ensures (subst (λ (i : FormulaId). IsByRule w.context (tree c.args.store.now i) c.left.result.now c.most-most.result c.in-Ok.choice) c.formula-formula.ensures c.in-Ok.ensures.rule) in
+    let alone = chosen_alone w f b.left x s c.args.budget.now.nodes d c.most-most.result c.in-Ok.choice rule in
+    only_memory c.in-Err-children.error
+    (λ e. never_passes w f b.left x s c.args.budget.now.nodes d c.in-Ok.choice alone
+    (subst (λ (i : FormulaId). SomeOf (λ (t : TestPoint). all_within (context_of w.context) t.name.number (place_of t) (tree c.args.store.now i) ≡ false) c.in-Ok.choice.points.items) c.formula-formula.ensures (c.in-Err-children.ensures.overflow e)))
+    c.in-Err-children.ensures.word
+
+pub returns-clause-direct : goal.returns-clause-direct
+returns-clause-direct g c x s d =
+    let w = c.args.self.now in
+    let o = context_of w.context in
+    let ks = map atom_of w.assumed.now in
+    let old = c.args.store.now in
+    let new = c.children.new.store in
+    let b = c.args.branch in
+    let f = tree old b.formula in
+    let kids = c.in-Ok-children.children.items in
+    let rule : IsByRule w.context f b.left c.most-most.result c.in-Ok.choice =
+    subst (λ (l : List VarId). IsByRule w.context f l c.most-most.result c.in-Ok.choice) c.left.ensures (subst (λ (i : FormulaId). IsByRule w.context (tree old i) c.left.result.now c.most-most.result c.in-Ok.choice) c.formula-formula.ensures c.in-Ok.ensures.rule) in
+    let alone = chosen_alone w f b.left x s c.args.budget.now.nodes d c.most-most.result c.in-Ok.choice rule in
+    let are : AreChildrenOf w f c.in-Ok.choice new kids = subst (λ (i : FormulaId). AreChildrenOf w (tree old i) c.in-Ok.choice new kids) c.formula-formula.ensures c.in-Ok-children.ensures.children in
+    subst (λ (bs : List Seen). IsLeftAlone o ks x.number s f new bs) (sym c.in_ok-branches_at.ensures)
+    (left_alone w f b.left x s c.args.budget.now.nodes d c.in-Ok.choice alone new kids are c.points.result.now c.deref.result.now)
