@@ -1,5 +1,5 @@
 -- The names of a chain: as they stand in a list, the last one last, and as the definition of the block has them, the last one first.
-use Rattle.std.proofs.Common.{◌≡◌, ℕ, Bool, true, false, nat_eq, not, ◌||◌, List, [], ◌∷◌, ◌++◌, map, reverse, refl, ap, sym, ◌∙◌, if◌then◌else◌}
+use Rattle.std.proofs.Common.{◌≡◌, ℕ, ◌+◌, Bool, true, false, nat_eq, not, ◌||◌, List, [], ◌∷◌, ◌++◌, length, length-append, map, reverse, refl, ap, sym, ◌∙◌, if◌then◌else◌}
 use Rattle.std.proofs.lemmas.List.{reverse-append, append-nil, append_assoc}
 use mathlib.Core.List.{reverse-cons}
 use Rattle.std.specs.List.{list_any}
@@ -109,6 +109,9 @@ module _ (q : Quantifier) (x : VarId) (names new : List VarId) (f g : Tree) (e :
     longer_list : new ≡ names ++ x ∷ []
     longer_list = k ∙ taken x names false (is_new r (list_any (same x) names) a h)
 
+    pub next_length : length new ≡ length names + 1
+    next_length = ap length longer_list ∙ length-append names (x ∷ [])
+
     pub next_block : numbers new ++ block_of nat_eq g q (reverse (numbers new)) ≡ numbers names ++ block_of nat_eq f q (reverse (numbers names))
     next_block = ap (λ ns. numbers ns ++ block_of nat_eq g q (reverse (numbers ns))) longer_list ∙ block_goes_on q x names f g e (is_new r (list_any (same x) names) a h)
 
@@ -116,6 +119,9 @@ module _ (q : Quantifier) (x : VarId) (names new : List VarId) (f g : Tree) (e :
     next_matrix = ap (λ ns. matrix_of nat_eq g q (reverse (numbers ns))) longer_list ∙ matrix_goes_on q x names f g e (is_new r (list_any (same x) names) a h)
 
   module _ (h : r ≡ false) where
+    pub last_length : length new ≡ length names
+    last_length = ap length (k ∙ taken x names true (stands r (list_any (same x) names) a h))
+
     pub last_block : numbers new ≡ numbers names ++ block_of nat_eq f q (reverse (numbers names))
     last_block =
         let old = stands r (list_any (same x) names) a h in

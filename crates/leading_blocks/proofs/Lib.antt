@@ -1,2 +1,2 @@
 mod Chains
-mod Leading
+pub mod Leading

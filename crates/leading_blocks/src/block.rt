@@ -4,10 +4,10 @@ ghost use Rattle.std.specs.Prelude.{◌≡◌, IfOk};
 ghost use Rattle.formula_meaning.specs.Formula.{Not};
 ghost use Rattle.formula_meaning.specs.NegationNormal.{normal_form_of_not};
 ghost use Rattle.atom_normal.specs.NormalForm.{negated_normal};
-ghost use Rattle.elimination_reference.specs.Reference.{normal_tree};
+ghost use Rattle.elimination_reference.specs.Reference.{normal_tree, turned};
 ghost use Rattle.formula_tree.specs.Makers.{IsMade, Keeps};
 ghost use Rattle.formula_store.specs.Nodes.{tree, IsId};
-ghost use Rattle.leading_blocks.specs.Blocks.{IsLeadingBlock};
+ghost use Rattle.leading_blocks.specs.Blocks.{is_asked, IsLeadingBlock};
 
 use crate::chain::{leading, split};
 use formula_meaning::Quantifier;
@@ -42,10 +42,7 @@ pub fn leading_block(
     let (chain, inner) = split(alloc, store, form, quantifier)?;
     let mut names = Vec::new(alloc);
     names.extend_from_slice(chain.as_slice())?;
-    let matrix = match quantifier {
-        Quantifier::Exists => inner,
-        Quantifier::ForAll => negation(alloc, store, inner)?,
-    };
+    let matrix = asked(alloc, store, quantifier, inner)?;
     Ok(LeadingBlock {
         quantifier,
         names,
@@ -60,6 +57,24 @@ fn normal(alloc: Global, store: &mut Store, id: FormulaId) -> Result<FormulaId, 
     ensures kept { Keeps (IsId store.old) (tree store.old) (IsId store.new) (tree store.new) }
 {
     nnf(alloc, store, id, None).map_err(|_| AllocError)
+}
+
+/// The formula for a block of `ex`; for one of `all`, whose cases are those of its negation, the negation normal form of the
+/// formula's negation. Its only error is want of memory. The formulas of the store stay.
+pub fn asked(
+    alloc: Global,
+    store: &mut Store,
+    quantifier: Quantifier,
+    id: FormulaId,
+) -> Result<FormulaId, AllocError>
+    requires { IsId store.old id }
+    ensures made { IfOk result (λ r. IsMade (IsId store.new) (tree store.new) r (turned (is_asked quantifier) (tree store.old id))) }
+    ensures kept { Keeps (IsId store.old) (tree store.old) (IsId store.new) (tree store.new) }
+{
+    match quantifier {
+        Quantifier::Exists => Ok(id),
+        Quantifier::ForAll => negation(alloc, store, id),
+    }
 }
 
 // The negation normal form of the formula's negation.

@@ -1,6 +1,6 @@
 //! A chain of one quantifier, split from the formula behind it.
 
-ghost use Rattle.std.specs.Prelude.{◌≡◌, [], IfOk, MatchOption, map, nat_eq};
+ghost use Rattle.std.specs.Prelude.{◌≡◌, ◌≤◌, ◌+◌, [], IfOk, MatchOption, length, map, nat_eq};
 ghost use Rattle.formula_meaning.specs.Shape.{block_of, matrix_of, leading};
 ghost use Rattle.formula_store.specs.Nodes.{tree, IsId};
 ghost use Rattle.leading_blocks.specs.Chains.{Ends, IsUnder, IsSplit};
@@ -23,16 +23,18 @@ pub(crate) fn leading(store: &Store, id: FormulaId) -> Quantifier
     }
 }
 
-// The names of the chain of this quantifier with which the formula begins, each once, and the formula behind them. The chain stops
-// before a name that already stands in it.
-pub(crate) fn split(
+/// The names of the chain of this quantifier with which the formula begins, each once, and the formula behind them, whose number is
+/// smaller by one at least for each name. The chain stops before a name that already stands in it. Its only error is want of
+/// memory.
+pub fn split(
     alloc: Global,
     store: &Store,
     form: FormulaId,
     quantifier: Quantifier,
 ) -> Result<(IndexSet<VarId>, FormulaId), AllocError>
     requires { IsId store.now form }
-    ensures { IfOk result (λ r. IsSplit store.now quantifier (tree store.now form) r.0.keys r.1) }
+    ensures split { IfOk result (λ r. IsSplit store.now quantifier (tree store.now form) r.0.keys r.1) }
+    ensures below { IfOk result (λ r. r.1.number + length r.0.keys ≤ form.number) }
 {
     let mut names = IndexSet::new(alloc);
     let mut inner = form;

@@ -4,4 +4,5 @@
 mod block;
 mod chain;
 
-pub use block::{LeadingBlock, leading_block};
+pub use block::{LeadingBlock, asked, leading_block};
+pub use chain::split;

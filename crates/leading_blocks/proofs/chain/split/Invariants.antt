@@ -1,4 +1,4 @@
-use Rattle.std.proofs.Common.{◌≡◌, ◌++◌, [], reverse, nat_eq}
+use Rattle.std.proofs.Common.{◌≡◌, ◌≤◌, ◌+◌, ◌++◌, [], length, reverse, nat_eq}
 use Rattle.formula_meaning.specs.Shape.{block_of, matrix_of}
 use Rattle.formula_store.specs.Nodes.{tree, IsId}
 use Rattle.leading_blocks.proofs.Chains.{numbers}
@@ -8,6 +8,7 @@ use Rattle.leading_blocks.proofs.chain.split.Given as goal
 abbrev pub invariant-loop-name : goal.invariant-loop-name
 invariant-loop-name l = record {
   is : IsId l.store l.inner;
+  below : l.inner.number + length l.names.keys ≤ l.fn.form.number;
   chain : numbers l.names.keys ++ block_of nat_eq (tree l.store l.inner) l.quantifier (reverse (numbers l.names.keys)) ≡ block_of nat_eq (tree l.store l.fn.form) l.quantifier [];
   matrix : matrix_of nat_eq (tree l.store l.inner) l.quantifier (reverse (numbers l.names.keys)) ≡ matrix_of nat_eq (tree l.store l.fn.form) l.quantifier [];
 }
