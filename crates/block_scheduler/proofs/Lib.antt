@@ -1,4 +1,6 @@
-mod Lacking
 mod OneMore
 mod Stops
 mod Trees
+mod Working
+mod DirectForms
+mod DirectTrees

@@ -5,7 +5,6 @@ use mathlib.Core.List.{reverse-cons}
 use Rattle.std.specs.List.{AllByRecursion}
 use Rattle.std.specs.declared.vec.Vec.{Vec}
 use Rattle.std.specs.declared.alloc.Global.{Global}
-use Rattle.formula_meaning.specs.Context.{Context}
 use Rattle.formula_meaning.specs.Atom as meant
 use Rattle.formula_meaning.specs.Every.{Every}
 use Rattle.formula_meaning.specs.Measured.{Gives, done}
@@ -28,15 +27,17 @@ use Rattle.case_theory.specs.Worked.{IsWorked}
 use Rattle.case_theory.proofs.Fallback.{reference_tree}
 use Rattle.leading_blocks.specs.declared.block.LeadingBlock.{LeadingBlock}
 use Rattle.leading_blocks.specs.Blocks.{is_asked, IsLeadingBlock}
+use Rattle.branch_rounds.specs.declared.work.Work.{Work}
 use Rattle.branch_rounds.specs.Branches.{Seen, IsOpen, AreBranchesOf, numbers}
 use Rattle.branch_rounds.specs.Cases.{case_of}
+use Rattle.branch_rounds.specs.Worked.{IsWorkedTo}
 use Rattle.branch_rounds.proofs.Ended.{branches_are_cases}
+use Rattle.inner_blocks.specs.Blocks.{IsUnder}
 use Rattle.case_trees.specs.declared.case_tree.Case.{Case}
-use Rattle.case_trees.specs.declared.case_tree.CaseTree.{CaseTree}
 use Rattle.case_trees.specs.CaseTrees.{case_seen, cases_seen, IsCaseTreeOf}
 use Rattle.block_scheduler.specs.declared.task.Task.{Task}
 use Rattle.block_scheduler.specs.Listed.{told_case, told_branch, AreShared}
-use Rattle.block_scheduler.specs.Tasks.{AreBlockBranches}
+use Rattle.block_scheduler.proofs.Working.{whole_work}
 
 -- ---- lists under a function
 
@@ -69,53 +70,49 @@ branches_told : (nodes : List (Shape FormulaId)) (bs : List Seen) → map (told_
 branches_told nodes [] = refl
 branches_told nodes (b ∷ bs) = ap (◌∷◌ (case_of nodes b)) (branches_told nodes bs)
 
--- what the reference makes of the matrix is worked on under all atoms
-matrix_worked : (c : Context) (f : Tree) (ks : List meant.Atom) (g h n : Tree) → g ≡ case_matrix f → n ≡ h → IsAnswerTo c g h → IsWorked c ks (case_matrix f) n
-matrix_worked c f ks g h n e d exact =
-    subst (IsWorked c ks (case_matrix f)) (sym d) (subst (λ t. IsWorked c ks t h) e (record { equivalent = λ p o t. exact.eliminated.equivalent p o; tidy = exact.tidy; names = exact.eliminated.names }))
-
--- ---- the trees
-
 module _ (t : Task) (f : Tree) (n : Every (IsNormal (context_of t.context)) f) (one two nodes : List (Shape FormulaId)) (block : LeadingBlock) (b : IsLeadingBlock f one block)
-    (m : FormulaId) (made : IsId two m) (exact : IsAnswerTo (context_of t.context) (tree one block.matrix) (tree two m)) (kept : Keeps (IsId two) (tree two) (IsId nodes) (tree nodes)) (cases : Vec Case Global) where
+    (m : FormulaId) (kept : Keeps (IsId two) (tree two) (IsId nodes) (tree nodes)) (cases : Vec Case Global) where
   abbrev theory : List meant.Atom
   theory = map atom_of t.theory.now
 
-  abbrev whole : CaseTree
-  whole = record { universal = not (is_asked block.quantifier); block = block.names; matrix = m; cases = cases }
-
-  worked : (ks : List meant.Atom) → IsWorked (context_of t.context) ks (case_matrix f) (tree nodes m)
-  worked ks = matrix_worked (context_of t.context) f ks (tree one block.matrix) (tree two m) (tree nodes m) b.matrix.same (kept.same m made) exact
-
-  module _ (bs : List Seen) (are : AreBlockBranches t (tree two m) (numbers block.names.items) nodes bs) (told : map told_case cases.items ≡ map told_branch bs) where
-    each_told : (P : FormulaId × List TestPoint → Type 0) → ((d : Seen) → IsOpen are.work nodes d → P (told_branch d)) → EachOf (λ (k : Case). P (told_case k)) cases.items
+  -- the branches of the leading block, over what the matrix was worked on to under the members of the theory without its names
+  module _ (u : Work) (under : IsUnder (whole_work t) (numbers block.names.items) u) (worked : IsWorkedTo (context_of u.context) (map atom_of u.assumed.now) (tree one block.matrix) two m)
+      (bs : List Seen) (are : AreBranchesOf u (tree two m) (numbers block.names.items) nodes bs) (told : map told_case cases.items ≡ map told_branch bs) where
+    each_told : (P : FormulaId × List TestPoint → Type 0) → ((d : Seen) → IsOpen u nodes d → P (told_branch d)) → EachOf (λ (k : Case). P (told_case k)) cases.items
     each_told P gives =
-        from_mapped P told_case cases.items (subst (EachOf P) (sym told) (to_mapped P told_branch bs (each_map (IsOpen are.work nodes) (λ (d : Seen). P (told_branch d)) gives bs are.are.are_open)))
+        from_mapped P told_case cases.items (subst (EachOf P) (sym told) (to_mapped P told_branch bs (each_map (IsOpen u nodes) (λ (d : Seen). P (told_branch d)) gives bs are.are_open)))
+
+    matrix_there : IsWorked (context_of u.context) (map atom_of u.assumed.now) (case_matrix f) (tree nodes m)
+    matrix_there =
+        let c = context_of u.context in
+        let ks = map atom_of u.assumed.now in
+        subst (IsWorked c ks (case_matrix f)) (sym (kept.same m worked.is)) (subst (λ g. IsWorked c ks g (tree two m)) b.matrix.same worked.worked)
 
     tree_of_cases : IsCaseTree (context_of t.context) theory f (tree nodes m) (map (case_of nodes) bs)
     tree_of_cases =
-        let w = are.work in
-        let ks = map atom_of w.assumed.now in
-        subst (λ d. IsCaseTree (context_of d) theory f (tree nodes m) (map (case_of nodes) bs)) are.context
-        (branches_are_cases w theory f nodes m bs (subst (λ d. Every (IsNormal (context_of d)) f) (sym are.context) n) (are.assumed ∙ ap (λ xs. without_all xs theory) b.names)
-        (subst (λ d. IsWorked (context_of d) ks (case_matrix f) (tree nodes m)) (sym are.context) (worked ks))
-        (subst (λ xs. AreBranchesOf w (tree nodes m) xs nodes bs) b.names (subst (λ g. AreBranchesOf w g (numbers block.names.items) nodes bs) (sym (kept.same m made)) are.are)))
+        subst (λ d. IsCaseTree (context_of d) theory f (tree nodes m) (map (case_of nodes) bs)) under.context
+        (branches_are_cases u theory f nodes m bs (subst (λ d. Every (IsNormal (context_of d)) f) (sym under.context) n) (under.assumed ∙ ap (λ xs. without_all xs theory) b.names) matrix_there
+        (subst (λ xs. AreBranchesOf u (tree nodes m) xs nodes bs) b.names (subst (λ g. AreBranchesOf u g (numbers block.names.items) nodes bs) (sym (kept.same m worked.is)) are)))
 
     pub tree_of_branches : IsCaseTreeOf (context_of t.context) (map atom_of t.theory.now) f nodes (record { universal = not (is_asked block.quantifier); block = block.names; matrix = m; cases = cases })
     tree_of_branches = record {
       universal = ap not b.quantifier;
       block = b.names;
-      matrix = kept.is m made;
+      matrix = kept.is m worked.is;
       guards = each_told (λ q. IsId nodes q.0) (λ d o. o.is);
       points = each_told (λ q. Each IsTestPoint q.1) (λ d o. All-from_recursion IsTestPoint (reverse d.points) (by_recursion IsTestPoint (reverse d.points) (each_reversed IsTestPoint d.points o.points)));
       cases = subst (IsCaseTree (context_of t.context) theory f (tree nodes m)) (sym (sym (cases_told nodes cases.items) ∙ ap (map (told_as nodes)) told ∙ branches_told nodes bs)) tree_of_cases;
     }
 
-  module _ (limit cost : ℕ) (listed : List reference.Case) (same : reference_cases (context_of t.context) limit f ≡ done (listed, cost)) (shared : AreShared nodes listed cases.items) where
+  -- the cases of the reference elimination, over what it makes of the matrix
+  module _ (made : IsId two m) (exact : IsAnswerTo (context_of t.context) (tree one block.matrix) (tree two m)) (limit cost : ℕ) (listed : List reference.Case)
+      (same : reference_cases (context_of t.context) limit f ≡ done (listed, cost)) (shared : AreShared nodes listed cases.items) where
+    answer_there : IsAnswerTo (context_of t.context) (case_matrix f) (tree nodes m)
+    answer_there = subst (IsAnswerTo (context_of t.context) (case_matrix f)) (sym (kept.same m made)) (subst (λ g. IsAnswerTo (context_of t.context) g (tree two m)) b.matrix.same exact)
+
     pub tree_of_leaves : IsCaseTreeOf (context_of t.context) (map atom_of t.theory.now) f nodes (record { universal = not (is_asked block.quantifier); block = block.names; matrix = m; cases = cases })
     tree_of_leaves =
         let c = context_of t.context in
-        let w = worked [] in
         record {
           universal = ap not b.quantifier;
           block = b.names;
@@ -123,5 +120,5 @@ module _ (t : Task) (f : Tree) (n : Every (IsNormal (context_of t.context)) f) (
           guards = shared.guards;
           points = shared.points;
           cases = subst (IsCaseTree c theory f (tree nodes m)) (sym shared.same)
-              (subst (Gives (λ (r : List reference.Case × ℕ). IsCaseTree c theory f (tree nodes m) r.0)) same (reference_tree c limit theory f (tree nodes m) n w.tidy (λ p o. w.equivalent p o tt)));
+              (subst (Gives (λ (r : List reference.Case × ℕ). IsCaseTree c theory f (tree nodes m) r.0)) same (reference_tree c limit theory f (tree nodes m) n answer_there.tidy answer_there.eliminated.equivalent));
         }

@@ -1,12 +1,7 @@
 -- Branches and leaves as the cases of a store.
-use Rattle.std.specs.Prelude.{◌≡◌, List, [], ◌∷◌, All as Each, reverse, if◌then◌else◌}
-use Rattle.std.specs.List.{list_any}
+use Rattle.std.specs.Prelude.{◌≡◌, List, All as Each, reverse}
 use Rattle.formula_meaning.specs.Some.{EachOf}
-use Rattle.simplified_formulas.specs.AtomKit.{contains}
 use Rattle.elimination_reference.specs.Cases as reference
-use Rattle.atom_normal.specs.declared.atoms.Atom.{Atom}
-use Rattle.atom_normal.specs.Atoms.{atom_of}
-use Rattle.linear_forms.specs.declared.form.VarId.{VarId}
 use Rattle.formula_tree.specs.declared.shape.Shape.{Shape}
 use Rattle.formula_store.specs.declared.id.FormulaId.{FormulaId}
 use Rattle.formula_store.specs.Nodes.{IsId}
@@ -15,11 +10,6 @@ use Rattle.test_points.specs.Points.{IsTestPoint}
 use Rattle.branch_rounds.specs.Branches.{Seen}
 use Rattle.case_trees.specs.declared.case_tree.Case.{Case}
 use Rattle.case_trees.specs.CaseTrees.{cases_seen}
-
--- the atoms that have none of the names
-abbrev pub lacking : List VarId → List Atom → List Atom
-lacking names [] = []
-lacking names (a ∷ ks) = if list_any (λ (x : VarId). contains (atom_of a) x.number) names then lacking names ks else a ∷ lacking names ks
 
 -- the guard and the answers, the last one first
 abbrev pub told_case : Case → FormulaId × List TestPoint

@@ -1,32 +1,37 @@
 //! The engine's own way: the branches of the leading block.
 
-ghost use Rattle.std.specs.Prelude.{◌≡◌, IfOk, map};
+ghost use Rattle.std.specs.Prelude.{◌≡◌, ◌≤◌, ◌<◌, ◌+◌, ℕ, IfOk, IsTrue, MatchResult, length, map};
+ghost use Rattle.formula_meaning.specs.Answer.{Place};
 ghost use Rattle.formula_meaning.specs.Every.{Every};
-ghost use Rattle.formula_meaning.specs.Distinct.{StandsOnce};
+ghost use Rattle.formula_meaning.specs.Fold.{folded};
+ghost use Rattle.formula_meaning.specs.Shape.{IsNegationNormal, IsQuantifierFree};
+ghost use Rattle.formula_meaning.specs.Sizes.{nodes};
+ghost use Rattle.formula_meaning.specs.Tree.{Trees};
 ghost use Rattle.atom_normal.specs.Atoms.{context_of, atom_of};
 ghost use Rattle.atom_normal.specs.NormalForm.{IsNormal};
-ghost use Rattle.elimination_reference.specs.Theorems.{IsTidy, IsAnswerTo};
+ghost use Rattle.elimination_reference.specs.Reference.{normal_tree};
+ghost use Rattle.case_theory.specs.Direct.{IsDirect};
 ghost use Rattle.formula_tree.specs.Makers.{Keeps};
 ghost use Rattle.formula_store.specs.Nodes.{tree, IsId};
-ghost use Rattle.branch_rounds.specs.Branches.{numbers};
+ghost use Rattle.branch_rounds.specs.Worked.{IsWork, IsWorkedTo};
 ghost use Rattle.case_trees.specs.CaseTrees.{IsCaseTreeOf};
-ghost use Rattle.block_scheduler.specs.Tasks.{IsTask, AreBlockBranches};
+ghost use Rattle.block_scheduler.specs.Direct.{IsDirectTree};
+ghost use Rattle.block_scheduler.specs.Tasks.{IsTask};
 
-use crate::assumed::without_names;
 use crate::listed::{case_tree, of_branches};
 use crate::task::Task;
-use branch_rounds::{Branch, Budget, RoundError, Work, block_branches};
+use atom_normal::Context;
+use branch_rounds::{Budget, RoundError, Work, block_branches};
 use case_trees::CaseTree;
 use formula_store::{FormulaId, Store};
-use leading_blocks::leading_block;
-use linear_forms::VarId;
-use plain_engine::Measured;
+use inner_blocks::{without_names, worked};
+use leading_blocks::{LeadingBlock, leading_block};
 use qe_parallel::Gate;
-use shared_elimination::eliminate_shared;
 use std::thread::Threads;
 
 impl Task<'_> {
-    /// The cases of the leading block by its branches, whatever stops them. The formulas of the store stay.
+    /// The cases of the leading block by its branches, whatever stops them; blocks inside the matrix are eliminated in the same way,
+    /// and paid from one budget. A direct formula is stopped by want of memory alone. The formulas of the store stay.
     pub(crate) fn by_branches<R: Threads + Sync, G: Gate + Sync>(
         &self,
         rt: &R,
@@ -38,53 +43,12 @@ impl Task<'_> {
         requires id { IsId store.old id }
         requires normal { Every (IsNormal (context_of self.now.context)) (tree store.old id) }
         ensures cases { IfOk result (IsCaseTreeOf (context_of self.now.context) (map atom_of self.now.theory.now) (tree store.old id) store.new) }
+        ensures direct { (x : ℕ) (fs : Trees) (s : Place) → self.now.context ≡ Context.Fields → IsDirect self.now.limits.nodes (normal_tree (tree store.old id)) x fs s →
+            MatchResult result (IsDirectTree x fs s store.new) (λ e. e ≡ RoundError.Memory) }
         ensures kept { Keeps (IsId store.old) (tree store.old) (IsId store.new) (tree store.new) }
     {
         let block = leading_block(self.alloc, store, id)?;
-        let matrix = match self.matrix_worked(store, block.matrix) {
-            Ok(matrix) => matrix,
-            Err(error) => return Err(of_measured(error)),
-        };
-        let branches = match self.branches(rt, store, matrix, &block.names, gate) {
-            Ok(branches) => branches,
-            Err(error) => return Err(error),
-        };
-        let cases = of_branches(self.alloc, branches)?;
-        Ok(case_tree(block, matrix, cases))
-    }
-
-    /// The matrix without its quantifiers. The formulas of the store stay.
-    pub(crate) fn matrix_worked(
-        &self,
-        store: &mut Store,
-        matrix: FormulaId,
-    ) -> Result<FormulaId, Measured>
-        requires id { IsId store.old matrix }
-        requires normal { Every (IsNormal (context_of self.now.context)) (tree store.old matrix) }
-        ensures made { IfOk result (λ r. IsId store.new r) }
-        ensures exact { IfOk result (λ r. IsAnswerTo (context_of self.now.context) (tree store.old matrix) (tree store.new r)) }
-        ensures kept { Keeps (IsId store.old) (tree store.old) (IsId store.new) (tree store.new) }
-    {
-        eliminate_shared(self.alloc, store, self.context, matrix, self.limits.nodes)
-    }
-
-    // The branches of the block over the matrix, under the members of the theory without its names.
-    fn branches<R: Threads + Sync, G: Gate + Sync>(
-        &self,
-        rt: &R,
-        store: &mut Store,
-        matrix: FormulaId,
-        names: &[VarId],
-        gate: &G,
-    ) -> Result<Vec<Branch>, RoundError>
-        requires task { IsTask self.now }
-        requires id { IsId store.old matrix }
-        requires tidy { IsTidy (context_of self.now.context) (tree store.old matrix) }
-        requires once { StandsOnce (numbers names.now) }
-        ensures branches { IfOk result (λ v. AreBlockBranches self.now (tree store.old matrix) (numbers names.now) store.new v.items) }
-        ensures kept { Keeps (IsId store.old) (tree store.old) (IsId store.new) (tree store.new) }
-    {
-        let assumed = without_names(self.alloc, self.theory, names)?;
+        let assumed = without_names(self.alloc, self.theory, &block.names)?;
         let work = Work {
             alloc: self.alloc,
             context: self.context,
@@ -92,15 +56,59 @@ impl Task<'_> {
             workers: self.limits.workers,
         };
         let mut budget = Budget::of_limit(self.limits.nodes);
-        block_branches(rt, &work, &mut budget, store, matrix, names, gate)
+        let matrix = match self.matrix_worked(rt, &work, &mut budget, store, &block, gate) {
+            Ok(matrix) => matrix,
+            Err(error) => return Err(error),
+        };
+        let branches = match block_branches(
+            rt,
+            &work,
+            &mut budget,
+            store,
+            matrix,
+            &block.names,
+            gate,
+        ) {
+            Ok(branches) => branches,
+            Err(error) => return Err(error),
+        };
+        let cases = of_branches(self.alloc, branches)?;
+        Ok(case_tree(block, matrix, cases))
+    }
+
+    /// The matrix without its quantifiers, under the assumptions: one without quantifiers is folded only. `Nodes` comes at once where
+    /// the negation normal form of the whole formula has more nodes than the limit. The formulas of the store stay.
+    pub(crate) fn matrix_worked<R: Threads + Sync, G: Gate + Sync>(
+        &self,
+        rt: &R,
+        work: &Work<'_>,
+        budget: &mut Budget,
+        store: &mut Store,
+        block: &LeadingBlock,
+        gate: &G,
+    ) -> Result<FormulaId, RoundError>
+        requires work { IsWork work.now }
+        requires id { IsId store.old block.now.matrix }
+        requires normal { Every (IsNormal (context_of work.now.context)) (tree store.old block.now.matrix) }
+        requires form { IsNegationNormal (tree store.old block.now.matrix) }
+        ensures worked { IfOk result (IsWorkedTo (context_of work.now.context) (map atom_of work.now.assumed.now) (tree store.old block.now.matrix) store.new) }
+        ensures plain { nodes (tree store.old block.now.matrix) + length block.now.names.items ≤ self.now.limits.nodes → IsQuantifierFree (tree store.old block.now.matrix) →
+            MatchResult result (λ r. tree store.new r ≡ folded (tree store.old block.now.matrix)) (λ e. e ≡ RoundError.Memory) }
+        ensures unpaid { IsQuantifierFree (tree store.old block.now.matrix) → budget.new ≡ budget.old }
+        ensures kept { Keeps (IsId store.old) (tree store.old) (IsId store.new) (tree store.new) }
+    {
+        if passes(store, block, self.limits.nodes) {
+            return Err(RoundError::Nodes);
+        }
+        worked(rt, work, budget, store, block.matrix, gate)
     }
 }
 
-// What stops the matrix, as what stops the block.
-fn of_measured(error: Measured) -> RoundError {
-    match error {
-        Measured::Overflow => RoundError::Overflow,
-        Measured::Nodes => RoundError::Nodes,
-        Measured::Memory => RoundError::Memory,
-    }
+// Whether the matrix and the quantifiers of the block have more nodes than the limit.
+fn passes(store: &Store, block: &LeadingBlock, limit: u64) -> bool
+    requires { IsId store.now block.now.matrix }
+    ensures { IsTrue result → limit < nodes (tree store.now block.now.matrix) + length block.now.names.items }
+{
+    let nodes = store.facts(block.matrix).nodes;
+    limit < nodes.saturating_add(block.names.len() as u64)
 }

@@ -1,16 +1,20 @@
 //! The cases of a formula, in the one way or in the other.
 
-ghost use Rattle.std.specs.Prelude.{◌≤◌, IfOk, IfErr, map};
+ghost use Rattle.std.specs.Prelude.{◌≡◌, ◌≤◌, ℕ, IfOk, IfErr, MatchResult, map};
+ghost use Rattle.formula_meaning.specs.Answer.{Place};
 ghost use Rattle.std.specs.List.{AllByRecursion};
 ghost use Rattle.formula_meaning.specs.Every.{Every};
 ghost use Rattle.formula_meaning.specs.Some.{EachOf};
+ghost use Rattle.formula_meaning.specs.Tree.{Trees};
 ghost use Rattle.atom_normal.specs.Atoms.{context_of, atom_of, IsWellFormed};
 ghost use Rattle.atom_normal.specs.NormalForm.{IsNormal};
-ghost use Rattle.elimination_reference.specs.Reference.{reference};
+ghost use Rattle.elimination_reference.specs.Reference.{normal_tree, reference};
+ghost use Rattle.case_theory.specs.Direct.{IsDirect};
 ghost use Rattle.formula_tree.specs.Makers.{Keeps};
 ghost use Rattle.formula_store.specs.Nodes.{tree, IsId};
 ghost use Rattle.plain_engine.specs.Told.{StopsWith};
 ghost use Rattle.case_trees.specs.CaseTrees.{IsCaseTreeOf};
+ghost use Rattle.block_scheduler.specs.Direct.{IsDirectTree};
 
 use crate::limits::Limits;
 use crate::task::Task;
@@ -24,10 +28,12 @@ use std::alloc::Global;
 use std::thread::Threads;
 
 /// The cases of the leading block of a formula under a theory (Loos and Weispfenning 1993, Cooper 1972), of which the members
-/// without a name of the block are used. Blocks inside the matrix are eliminated by the reference elimination.
+/// without a name of the block are used. Blocks inside the matrix are eliminated in the same way, from the innermost out.
 ///
 /// Where the engine's own way would pass a limit the reference elimination answers: so `Overflow` and `Nodes` come only where it
-/// stops with that word within the limit of nodes, else `Memory`. The formulas of the store stay.
+/// stops with that word within the limit of nodes, else `Memory`. Over the fields a formula whose negation normal form is direct
+/// (`IsDirect`) is stopped by `Memory` alone, and has at most one case, whose guard is no larger than the direct answer in nodes and
+/// in text. The formulas of the store stay.
 pub fn eliminate<R: Threads + Sync, G: Gate + Sync>(
     rt: &R,
     alloc: Global,
@@ -44,6 +50,8 @@ pub fn eliminate<R: Threads + Sync, G: Gate + Sync>(
     requires theory { EachOf (IsNormal (context_of context)) (map atom_of theory.now) }
     requires workers { 1 ≤ limits.workers }
     ensures cases { IfOk result (IsCaseTreeOf (context_of context) (map atom_of theory.now) (tree store.old id) store.new) }
+    ensures direct { (x : ℕ) (fs : Trees) (s : Place) → context ≡ Context.Fields → IsDirect limits.nodes (normal_tree (tree store.old id)) x fs s →
+        MatchResult result (IsDirectTree x fs s store.new) (λ e. e ≡ Measured.Memory) }
     ensures stops { IfErr result (λ e. StopsWith e (reference (context_of context) limits.nodes (tree store.old id))) }
     ensures kept { Keeps (IsId store.old) (tree store.old) (IsId store.new) (tree store.new) }
 {
@@ -55,7 +63,9 @@ pub fn eliminate<R: Threads + Sync, G: Gate + Sync>(
     };
     match task.by_branches(rt, store, id, gate) {
         Ok(case_tree) => Ok(case_tree),
-        Err(RoundError::Memory) => Err(Measured::Memory),
-        Err(RoundError::Overflow | RoundError::Nodes) => task.by_reference(store, id),
+        Err(error) => match error {
+            RoundError::Memory => Err(Measured::Memory),
+            RoundError::Overflow | RoundError::Nodes => task.by_reference(store, id),
+        },
     }
 }

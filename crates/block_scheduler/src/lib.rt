@@ -1,7 +1,6 @@
 //! Elimination by cases: the leading block of a formula branch by branch, with the reference elimination behind it.
 #![tactic(auto)]
 
-mod assumed;
 mod branched;
 mod eliminating;
 mod limits;

@@ -63,7 +63,7 @@ returns-clause-cases c =
     let told = c.in_ok-leaves.ensures.cases in
     let is = subst (λ g. IsLeadingBlock g one block) (c.leaves.ensures.kept.same c.args.id c.requires.id) c.in_ok-block.ensures.block in
     subst (IsCaseTreeOf (context_of task.context) (map atom_of task.theory.now) f nodes) (sym c.case_tree.ensures)
-    (tree_of_leaves task f c.requires.normal one two nodes block is c.in_ok-matrix.matrix c.in_ok-matrix.ensures.made c.in_ok-matrix.ensures.exact c.of_leaves.ensures.kept c.in_ok-cases.cases
+    (tree_of_leaves task f c.requires.normal one two nodes block is c.in_ok-matrix.matrix c.of_leaves.ensures.kept c.in_ok-cases.cases c.in_ok-matrix.ensures.made c.in_ok-matrix.ensures.exact
     task.limits.nodes told.0 (map leaf_case c.in_ok-leaves.leaves.items) told.1 c.in_ok-cases.ensures.shared)
 
 pub returns-clause-kept : goal.returns-clause-kept

@@ -3,7 +3,7 @@ use Rattle.std.specs.List.{list_any}
 use Rattle.atom_normal.specs.Atoms.{atom_of}
 use Rattle.simplified_formulas.specs.AtomKit.{contains}
 use Rattle.linear_forms.specs.declared.form.VarId.{VarId}
-use Rattle.block_scheduler.proofs.assumed.has_some.Given as goal
+use Rattle.inner_blocks.proofs.assumed.has_some.Given as goal
 
 -- none of the names so far
 abbrev pub invariant-loop-name : goal.invariant-loop-name

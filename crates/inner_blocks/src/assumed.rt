@@ -1,17 +1,17 @@
-//! The members of a theory without the names of a block.
+//! Assumptions without the names of a block.
 
 ghost use Rattle.std.specs.Prelude.{◌≡◌, IfOk};
 ghost use Rattle.std.specs.List.{list_any};
 ghost use Rattle.atom_normal.specs.Atoms.{atom_of};
 ghost use Rattle.simplified_formulas.specs.AtomKit.{contains};
-ghost use Rattle.block_scheduler.specs.Listed.{lacking};
+ghost use Rattle.inner_blocks.specs.Assumed.{lacking};
 
 use atom_normal::Atom;
 use linear_forms::VarId;
 use std::alloc::{AllocError, Global};
 
-/// Copies of the atoms that have none of the names, in their order.
-pub(crate) fn without_names(
+/// Copies of the atoms that have none of the names, in their order. Its only error is want of memory.
+pub fn without_names(
     alloc: Global,
     theory: &[Atom],
     names: &[VarId],

@@ -1,6 +1,6 @@
 use Rattle.std.proofs.Common.{◌≡◌, ◌++◌, drop}
-use Rattle.block_scheduler.specs.Listed.{lacking}
-use Rattle.block_scheduler.proofs.assumed.without_names.Given as goal
+use Rattle.inner_blocks.specs.Assumed.{lacking}
+use Rattle.inner_blocks.proofs.assumed.without_names.Given as goal
 
 -- the atoms so far and those of what is left are those of all
 abbrev pub invariant-loop-atom : goal.invariant-loop-atom

@@ -9,7 +9,7 @@ use Rattle.atom_normal.specs.Atoms.{atom_of, IsWellFormed}
 use Rattle.linear_forms.specs.declared.form.VarId.{VarId}
 use Rattle.case_theory.specs.CaseTree.{without_all}
 use Rattle.branch_rounds.specs.Branches.{numbers}
-use Rattle.block_scheduler.specs.Listed.{lacking}
+use Rattle.inner_blocks.specs.Assumed.{lacking}
 
 -- an atom more at the front
 without_more : (names : List VarId) (a : meant.Atom) (ks : List meant.Atom) →

@@ -1,7 +1,7 @@
 use Rattle.std.proofs.Common.{rules, ◌≡◌, ◌++◌, ◌∷◌, [], sym, ◌∙◌}
-use Rattle.block_scheduler.specs.Listed.{lacking}
-use Rattle.block_scheduler.proofs.Lacking.{left_out, taken}
-use Rattle.block_scheduler.proofs.assumed.without_names.Goals as goal
+use Rattle.inner_blocks.specs.Assumed.{lacking}
+use Rattle.inner_blocks.proofs.Lacking.{left_out, taken}
+use Rattle.inner_blocks.proofs.assumed.without_names.Goals as goal
 
 pub loop-atom-preserved-then-has_some : goal.loop-atom-preserved-then-has_some
 loop-atom-preserved-then-has_some c =

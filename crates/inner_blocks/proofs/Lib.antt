@@ -1,0 +1,6 @@
+pub mod Lacking
+pub mod Under
+pub mod Chains
+mod Closing
+mod Members
+mod Remembered

@@ -1,0 +1,108 @@
+//! One block inside a formula.
+
+ghost use Rattle.std.specs.Prelude.{◌≡◌, IfOk, map};
+ghost use Rattle.formula_meaning.specs.Fold.{fold_list};
+ghost use Rattle.formula_meaning.specs.Some.{EachOf};
+ghost use Rattle.atom_normal.specs.Atoms.{context_of, atom_of};
+ghost use Rattle.elimination_reference.specs.Theorems.{IsTidy};
+ghost use Rattle.formula_tree.specs.Makers.{IsMade, Keeps};
+ghost use Rattle.formula_tree.specs.Trees.{members};
+ghost use Rattle.formula_store.specs.Nodes.{tree, IsId};
+ghost use Rattle.branch_rounds.specs.Worked.{IsWork, IsWorkedTo};
+ghost use Rattle.inner_blocks.specs.Blocks.{IsBlock, ClosesBlock};
+
+use branch_rounds::{Branch, Budget, RoundError, Work, block_branches};
+use formula_meaning::{Junction, Quantifier};
+use formula_store::{FormulaId, Store};
+use leading_blocks::asked;
+use linear_forms::VarId;
+use qe_parallel::Gate;
+use std::alloc::{AllocError, Global};
+use std::thread::Threads;
+use theory_simplifier::{SimplError, simplify};
+use virtual_subst::fold;
+
+/// A block of one quantifier inside a formula, with what is worked on outside of it and under it: there the assumptions without the
+/// names of the block are used.
+#[derive(Clone, Copy)]
+pub(crate) struct Block<'a> {
+    pub(crate) work: &'a Work<'a>,
+    pub(crate) under: &'a Work<'a>,
+    pub(crate) quantifier: Quantifier,
+    pub(crate) names: &'a [VarId],
+}
+
+impl Block<'_> {
+    /// The block over the formula inside, of which this was made: the disjunction of its branches, simplified under the assumptions.
+    /// A block of `all` is the negation of one of `ex` over the negated formula. What the branches cost is taken off the budget:
+    /// `Nodes` comes where it does not suffice, `Overflow` only where a number passes 2^127 - 1, else `Memory`. The formulas of
+    /// the store stay.
+    pub(crate) fn closed<R: Threads + Sync, G: Gate + Sync>(
+        &self,
+        rt: &R,
+        budget: &mut Budget,
+        store: &mut Store,
+        inner: FormulaId,
+        gate: &G,
+    ) -> Result<FormulaId, RoundError>
+        requires block { IsBlock self.now }
+        requires id { IsId store.old inner }
+        requires tidy { IsTidy (context_of self.now.work.now.context) (tree store.old inner) }
+        ensures closes { IfOk result (ClosesBlock self.now (tree store.old inner) store.new) }
+        ensures kept { Keeps (IsId store.old) (tree store.old) (IsId store.new) (tree store.new) }
+    {
+        let alloc = self.work.alloc;
+        let matrix = asked(alloc, store, self.quantifier, inner)?;
+        let branches = match block_branches(
+            rt, self.under, budget, store, matrix, self.names, gate,
+        ) {
+            Ok(branches) => branches,
+            Err(error) => return Err(error),
+        };
+        let together = disjunction(alloc, store, &branches)?;
+        let small = match simplified(self.work, store, together) {
+            Ok(small) => small,
+            Err(error) => return Err(error),
+        };
+        Ok(asked(alloc, store, self.quantifier, small)?)
+    }
+}
+
+// The disjunction of what is left of the branches, folded.
+fn disjunction(
+    alloc: Global,
+    store: &mut Store,
+    branches: &[Branch],
+) -> Result<FormulaId, AllocError>
+    requires { EachOf (λ b. IsId store.old b.formula) branches.now }
+    ensures made { IfOk result (λ r. IsMade (IsId store.new) (tree store.new) r (fold_list Junction.Disjunction (members (map (λ b. tree store.old b.formula) branches.now)))) }
+    ensures kept { Keeps (IsId store.old) (tree store.old) (IsId store.new) (tree store.new) }
+{
+    let formulas = formulas_of(alloc, branches)?;
+    fold(alloc, store, Junction::Disjunction, &formulas)
+}
+
+// What is left of the branches, in their order.
+fn formulas_of(alloc: Global, branches: &[Branch]) -> Result<Vec<FormulaId>, AllocError>
+    ensures { IfOk result (λ v. v.items ≡ map (λ b. b.formula) branches.now) }
+{
+    branches
+        .iter()
+        .map(|branch| branch.formula())
+        .collect(alloc)
+}
+
+// The formula simplified under the assumptions. Its only error is `Memory`, or `Nodes` where the formula has 2^64 nodes or more.
+fn simplified(work: &Work<'_>, store: &mut Store, id: FormulaId) -> Result<FormulaId, RoundError>
+    requires work { IsWork work.now }
+    requires id { IsId store.old id }
+    requires tidy { IsTidy (context_of work.now.context) (tree store.old id) }
+    ensures worked { IfOk result (IsWorkedTo (context_of work.now.context) (map atom_of work.now.assumed.now) (tree store.old id) store.new) }
+    ensures kept { Keeps (IsId store.old) (tree store.old) (IsId store.new) (tree store.new) }
+{
+    match simplify(work.alloc, store, work.context, id, work.assumed, u64::MAX) {
+        Ok(id) => Ok(id),
+        Err(SimplError::Nodes) => Err(RoundError::Nodes),
+        Err(SimplError::Memory) => Err(RoundError::Memory),
+    }
+}
