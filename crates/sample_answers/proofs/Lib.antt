@@ -1,0 +1,5 @@
+pub mod Searching
+pub mod Pointing
+pub mod Branching
+pub mod Answering
+pub mod Sampled

@@ -1,0 +1,26 @@
+-- Where a number of the calculation of a concrete sample passes the limit.
+use Rattle.std.specs.Prelude.{◌≡◌, ◌⊎◌, false, List, [], ◌∷◌, None}
+use Rattle.formula_meaning.specs.Context.{Context}
+use Rattle.formula_meaning.specs.Answer.{Answer}
+use Rattle.formula_meaning.specs.Some.{SomeOf}
+use Rattle.formula_meaning.specs.Tree.{Tree}
+use Rattle.elimination_theory.specs.Answers.{Step}
+use Rattle.linear_forms.specs.Values.{Numbers}
+use Rattle.nnf_substitution.specs.Placed.{all_within}
+use Rattle.sample_reference.specs.Calculated.{values_from}
+use Rattle.sample_theory.specs.Samples.{answer_steps}
+use Rattle.sample_answers.specs.Points.{known_of, HasNumberPastLimit}
+
+-- a number that an atom of the step's branch forms at the step's place passes the limit
+abbrev pub SubstitutionPasses : Context → Step → Type 0
+SubstitutionPasses c s = all_within c s.name s.place s.branch ≡ false
+
+-- all steps but the first
+abbrev pub after_first : List Step → List Step
+after_first [] = []
+after_first (s ∷ rest) = rest
+
+-- A number passes the limit: one of the point, one that is formed where an answer after the first one is put into its branch, or one
+-- that is formed for the values. The first answer is put into no branch.
+pub record CalculationPasses (c : Context) (answers : List Answer) (f : Tree) (at : Numbers) : Type 0 where
+  pub cause : HasNumberPastLimit at ⊎ (SomeOf (SubstitutionPasses c) (after_first (answer_steps c answers f)) ⊎ (values_from c (answer_steps c answers f) (known_of at) ≡ None))

@@ -1,0 +1,4 @@
+pub mod Searches
+pub mod Points
+pub mod Branches
+pub mod Calculation

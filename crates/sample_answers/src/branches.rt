@@ -1,0 +1,58 @@
+//! The branch of each answer: the matrix with the answers after it put in.
+
+ghost use Rattle.std.specs.Prelude.{◌≡◌, IfOk, IfErr, All, map};
+ghost use Rattle.formula_meaning.specs.Answer.{Answer};
+ghost use Rattle.formula_meaning.specs.Some.{SomeOf, EachOf};
+ghost use Rattle.elimination_theory.specs.BothTheories.{IsPlaceIn};
+ghost use Rattle.atom_normal.specs.Atoms.{context_of};
+ghost use Rattle.formula_store.specs.Nodes.{tree, IsId};
+ghost use Rattle.formula_tree.specs.Makers.{Keeps};
+ghost use Rattle.test_points.specs.Points.{answer_of, IsTestPoint};
+ghost use Rattle.sample_theory.specs.Samples.{answer_steps};
+ghost use Rattle.sample_answers.specs.Searches.{IsSharedTree};
+ghost use Rattle.sample_answers.specs.Branches.{AreBranches};
+ghost use Rattle.sample_answers.specs.Calculation.{SubstitutionPasses, after_first};
+
+use crate::error::SampleError;
+use atom_normal::Context;
+use formula_store::{FormulaId, Store};
+use shared_results::result_shared;
+use std::alloc::Global;
+use test_points::TestPoint;
+use virtual_subst::SubstError;
+
+/// The matrix with the answers after each one put in, the last one first. `Overflow` comes only where a number that is formed for
+/// an atom passes 2^127 - 1 where an answer after the first one is put in, else `Memory`. The formulas of the store stay.
+pub(crate) fn branches_of(
+    alloc: Global,
+    store: &mut Store,
+    context: Context,
+    answers: &[TestPoint],
+    matrix: FormulaId,
+) -> Result<Vec<FormulaId>, SampleError>
+    requires matrix { IsSharedTree (context_of context) store.old matrix }
+    requires points { All IsTestPoint answers.now }
+    requires places { EachOf (λ (a : Answer). IsPlaceIn (context_of context) a.place) (map answer_of answers.now) }
+    ensures branches { IfOk result (λ ids. AreBranches (context_of context) store.new answers.now (tree store.old matrix) ids.items) }
+    ensures overflow { IfErr result (λ e. e ≡ SampleError.Overflow → SomeOf (SubstitutionPasses (context_of context)) (after_first (answer_steps (context_of context) (map answer_of answers.now) (tree store.old matrix)))) }
+    ensures kept { Keeps (IsId store.old) (tree store.old) (IsId store.new) (tree store.new) }
+{
+    let mut ids = Vec::new(alloc);
+    if answers.is_empty() {
+        return Ok(ids);
+    }
+    ids.push(matrix).map_err(|_| SampleError::Memory)?;
+    let mut branch = matrix;
+    let mut place = answers.len() - 1;
+    while place > 0 {
+        match result_shared(alloc, store, context, branch, &answers[place]) {
+            Ok(put) => branch = put,
+            Err(SubstError::Overflow) => return Err(SampleError::Overflow),
+            Err(SubstError::Memory) => return Err(SampleError::Memory),
+        }
+        ids.push(branch).map_err(|_| SampleError::Memory)?;
+        place -= 1;
+    }
+    ids.reverse();
+    Ok(ids)
+}
