@@ -18,35 +18,60 @@ use std::thread::Threads;
 /// `all(x, x<a or x>b)`: its negation has two points on each side, so the lower ones. Far below nothing is left, at `a` it is
 /// `a - b <= 0`.
 pub(crate) fn of_all<R: Threads + Sync>(rt: &R, alloc: Global) -> Option<String> {
-    told(rt, alloc, "all(x,x<a or x>b);", LIMIT)
+    told(rt, alloc, Context::Fields, "all(x,x<a or x>b);", LIMIT)
 }
 
 /// `ex(x, x>a and all(y, y<x or y>=b))`: the inner block leaves `x - b >= 0`. The upper side has one point, far above, which leaves
 /// `true`.
 pub(crate) fn with_inner<R: Threads + Sync>(rt: &R, alloc: Global) -> Option<String> {
-    told(rt, alloc, "ex(x,x>a and all(y,y<x or y>=b));", LIMIT)
+    let statement = "ex(x,x>a and all(y,y<x or y>=b));";
+    told(rt, alloc, Context::Fields, statement, LIMIT)
+}
+
+/// `ex(x, all(y, y<x or y>a))`: the negation of the inner block has two points on each side; far below nothing is left, at `x` it is
+/// `x - a <= 0`, so the block leaves `x - a > 0`. The upper side has one point, far above, which leaves `true`.
+pub(crate) fn of_inner<R: Threads + Sync>(rt: &R, alloc: Global) -> Option<String> {
+    let statement = "ex(x,all(y,y<x or y>a));";
+    told(rt, alloc, Context::Fields, statement, LIMIT)
+}
+
+/// `all(x, ex(y, x=2*y or x=2*y+1))` over the integers: the inner block leaves that 2 divides `x` or `x - 1`, which is `true`. So
+/// the matrix, its negation, is `false`, and there is no case.
+pub(crate) fn of_halves<R: Threads + Sync>(rt: &R, alloc: Global) -> Option<String> {
+    let statement = "all(x,ex(y,x=2*y or x=2*y+1));";
+    told(rt, alloc, Context::Integers, statement, LIMIT)
+}
+
+/// `ex(x, x<a and all(y, y<=x or ex(z, z<y and all(u, u<z or u>=b))))`: from the inside out the blocks leave `z - b >= 0`, at `b`
+/// `y - b > 0`, and the negation of `x - b < 0`, which is left just above `x`. At `b` the outer block leaves `a - b > 0`.
+pub(crate) fn of_four<R: Threads + Sync>(rt: &R, alloc: Global) -> Option<String> {
+    let statement = "ex(x,x<a and all(y,y<=x or ex(z,z<y and all(u,u<z or u>=b))));";
+    told(rt, alloc, Context::Fields, statement, LIMIT)
+}
+
+/// `ex(x, x>0 and all(x, x<1))`: the inner block speaks of another number and is `false`, so that the matrix is `false`.
+pub(crate) fn of_one_name<R: Threads + Sync>(rt: &R, alloc: Global) -> Option<String> {
+    let statement = "ex(x,x>0 and all(x,x<1));";
+    told(rt, alloc, Context::Fields, statement, LIMIT)
 }
 
 /// `ex(x, x>a and x<b)` has four nodes, three of them in its matrix.
 pub(crate) fn within_two_nodes<R: Threads + Sync>(rt: &R, alloc: Global) -> Option<String> {
-    told(rt, alloc, "ex(x,x>a and x<b);", 2)
+    told(rt, alloc, Context::Fields, "ex(x,x>a and x<b);", 2)
 }
 
-/// The case tree of the statement's formula over the fields, or why there is none.
-fn told<R: Threads + Sync>(rt: &R, alloc: Global, statement: &str, nodes: u64) -> Option<String> {
+/// The case tree of the statement's formula, or why there is none.
+fn told<R: Threads + Sync>(
+    rt: &R,
+    alloc: Global,
+    context: Context,
+    statement: &str,
+    nodes: u64,
+) -> Option<String> {
     let mut store = Store::new(alloc);
-    let id = normal_id(alloc, Context::Fields, statement, &mut store)?;
+    let id = normal_id(alloc, context, statement, &mut store)?;
     let limits = Limits { nodes, workers: 2 };
-    match eliminate(
-        rt,
-        alloc,
-        &mut store,
-        Context::Fields,
-        id,
-        &[],
-        limits,
-        &OpenGate,
-    ) {
+    match eliminate(rt, alloc, &mut store, context, id, &[], limits, &OpenGate) {
         Ok(case_tree) => tree_text(alloc, &mut store, &case_tree),
         Err(error) => format!(in alloc; "{error}").ok(),
     }

@@ -134,6 +134,10 @@ fn by_cases<R: Threads + Sync + Print + AllocGlobal>(rt: &R) -> io::Result<()> {
     let alloc = rt.alloc();
     let of_all = elimination::of_all(rt, alloc);
     let inner = elimination::with_inner(rt, alloc);
+    let above = elimination::of_inner(rt, alloc);
+    let halves = elimination::of_halves(rt, alloc);
+    let four = elimination::of_four(rt, alloc);
+    let one_name = elimination::of_one_name(rt, alloc);
     let refused = elimination::within_two_nodes(rt, alloc);
     tell(rt, "no number between two", of_all)?;
     tell(
@@ -141,6 +145,10 @@ fn by_cases<R: Threads + Sync + Print + AllocGlobal>(rt: &R) -> io::Result<()> {
         "a number above another, and none between it and a third",
         inner,
     )?;
+    tell(rt, "a number with none between it and another", above)?;
+    tell(rt, "each whole number halved", halves)?;
+    tell(rt, "four blocks one in the other", four)?;
+    tell(rt, "a name bound in its own block", one_name)?;
     tell(rt, "four nodes under the limit 2", refused)
 }
 
