@@ -1,5 +1,5 @@
 mod OneMore
-mod Stops
+pub mod Stops
 mod Trees
 mod Working
 mod DirectForms

@@ -22,7 +22,7 @@ err_map (Ok x) f h = tt
 err_map (Err e) f h = f e h
 
 -- two that stop with one word
-stopped_so : {A B : Type 0} (s : stop.Stop) (o : Outcome A) (p : Outcome B) → stop_of o ≡ stop_of p → o ≡ stopped s → p ≡ stopped s
+pub stopped_so : {A B : Type 0} (s : stop.Stop) (o : Outcome A) (p : Outcome B) → stop_of o ≡ stop_of p → o ≡ stopped s → p ≡ stopped s
 stopped_so s (stopped t) (stopped u) e h = ap stopped (one (sym e ∙ ap stop_of h))
   where
     one : {x y : stop.Stop} → Some x ≡ Some y → x ≡ y

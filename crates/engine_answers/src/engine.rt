@@ -1,0 +1,62 @@
+//! Elimination by cases, as commands ask it.
+
+ghost use Rattle.std.specs.Prelude.{◌≤◌, IfOk, IfErr, map};
+ghost use Rattle.std.specs.List.{AllByRecursion};
+ghost use Rattle.formula_meaning.specs.Every.{Every};
+ghost use Rattle.formula_meaning.specs.Some.{EachOf};
+ghost use Rattle.atom_normal.specs.Atoms.{context_of, atom_of, IsWellFormed};
+ghost use Rattle.atom_normal.specs.NormalForm.{IsNormal};
+ghost use Rattle.elimination_reference.specs.Reference.{reference};
+ghost use Rattle.formula_tree.specs.Makers.{Keeps};
+ghost use Rattle.formula_store.specs.Nodes.{tree, IsId};
+ghost use Rattle.plain_engine.specs.Told.{StopsWith};
+ghost use Rattle.case_trees.specs.CaseTrees.{IsCaseTreeOf};
+
+use atom_normal::{Atom, Context};
+use block_scheduler::{Limits, eliminate};
+use case_trees::CaseTree;
+use formula_store::{FormulaId, Store};
+use plain_engine::Measured;
+use qe_parallel::Gate;
+use std::alloc::Global;
+use std::thread::Threads;
+
+/// What an elimination is worked with: the theory of the numbers, the limits, and a runtime whose threads a gate lets through.
+#[derive(Drop)]
+pub struct Engine<'a, R, G> {
+    pub rt: &'a R,
+    pub alloc: Global,
+    pub context: Context,
+    pub limits: Limits,
+    pub gate: &'a G,
+}
+
+impl<R: Threads + Sync, G: Gate + Sync> Engine<'_, R, G> {
+    /// The cases of the formula under the atoms.
+    pub(crate) fn cases(
+        &self,
+        store: &mut Store,
+        id: FormulaId,
+        atoms: &[Atom],
+    ) -> Result<CaseTree, Measured>
+        requires id { IsId store.old id }
+        requires normal { Every (IsNormal (context_of self.now.context)) (tree store.old id) }
+        requires atoms { EachOf (IsNormal (context_of self.now.context)) (map atom_of atoms.now) }
+        requires well_formed { AllByRecursion IsWellFormed atoms.now }
+        requires workers { 1 ≤ self.now.limits.workers }
+        ensures cases { IfOk result (IsCaseTreeOf (context_of self.now.context) (map atom_of atoms.now) (tree store.old id) store.new) }
+        ensures stops { IfErr result (λ e. StopsWith e (reference (context_of self.now.context) self.now.limits.nodes (tree store.old id))) }
+        ensures kept { Keeps (IsId store.old) (tree store.old) (IsId store.new) (tree store.new) }
+    {
+        eliminate(
+            self.rt,
+            self.alloc,
+            store,
+            self.context,
+            id,
+            atoms,
+            self.limits,
+            self.gate,
+        )
+    }
+}
