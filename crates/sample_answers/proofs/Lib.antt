@@ -3,3 +3,4 @@ pub mod Pointing
 pub mod Branching
 pub mod Answering
 pub mod Sampled
+pub mod Lowest

@@ -9,7 +9,7 @@ use Rattle.linear_forms.specs.Values.{Numbers}
 use Rattle.nnf_substitution.specs.Placed.{all_within}
 use Rattle.sample_reference.specs.Calculated.{values_from}
 use Rattle.sample_theory.specs.Samples.{answer_steps}
-use Rattle.sample_answers.specs.Points.{known_of, HasNumberPastLimit}
+use Rattle.sample_answers.specs.Points.{known_of, HasValuePastLimit}
 
 -- a number that an atom of the step's branch forms at the step's place passes the limit
 abbrev pub SubstitutionPasses : Context → Step → Type 0
@@ -20,7 +20,7 @@ abbrev pub after_first : List Step → List Step
 after_first [] = []
 after_first (s ∷ rest) = rest
 
--- A number passes the limit: one of the point, one that is formed where an answer after the first one is put into its branch, or one
+-- A number passes the limit: one of the point in lowest terms, one that is formed where an answer after the first one is put into its branch, or one
 -- that is formed for the values. The first answer is put into no branch.
 pub record CalculationPasses (c : Context) (answers : List Answer) (f : Tree) (at : Numbers) : Type 0 where
-  pub cause : HasNumberPastLimit at ⊎ (SomeOf (SubstitutionPasses c) (after_first (answer_steps c answers f)) ⊎ (values_from c (answer_steps c answers f) (known_of at) ≡ None))
+  pub cause : HasValuePastLimit at ⊎ (SomeOf (SubstitutionPasses c) (after_first (answer_steps c answers f)) ⊎ (values_from c (answer_steps c answers f) (known_of at) ≡ None))

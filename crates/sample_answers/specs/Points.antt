@@ -1,7 +1,7 @@
 -- Values and their numbers over the least common denominator.
 use Rattle.std.specs.Prelude.{◌≡◌, ℕ, true, false, List, Option, Some, None, nat_eq, if◌then◌else◌}
 use Rattle.std.specs.Map.{keys_of}
-use Rattle.exact_numbers.specs.Frac.{scaled}
+use Rattle.exact_numbers.specs.Frac.{scaled, lowest}
 use Rattle.exact_numbers.specs.Limit.{PastLimit}
 use Rattle.formula_meaning.specs.Limits.{is_within}
 use Rattle.linear_forms.specs.Values.{Numbers, number_at, point_of}
@@ -13,9 +13,9 @@ use Rattle.sample_numbers.specs.Told.{IsPointOver}
 abbrev pub known_of : Numbers → List Value
 known_of v = known_at (keys_of v.entries) (point_of v)
 
--- a number passes the limit
-abbrev pub HasNumberPastLimit : Numbers → Type 0
-HasNumberPastLimit v = (x : ℕ) × PastLimit (number_at v x)
+-- one of the names has a value whose numerator passes the limit in lowest terms
+abbrev pub HasValuePastLimit : Numbers → Type 0
+HasValuePastLimit v = (x : ℕ) × PastLimit (lowest (number_at v x) v.denominator).numerator
 
 -- the numbers are those of the values over their least common denominator; there are none where one passes the limit
 abbrev pub IsCommonPoint : List Value → Option Numbers → Type 0

@@ -1,40 +1,53 @@
 //! Values that are known, and their numbers over the least common denominator.
 
-ghost use Rattle.std.specs.Prelude.{◌≡◌, ◌∷◌, [], ◌++◌, List, Some, IfOk, IfErr, IsTrue, ◌↔◌};
+ghost use Rattle.std.specs.Prelude.{◌≡◌, ◌∷◌, [], ◌++◌, List, pos, ◌<ℤ◌, Some, IfOk, IfErr, MatchOption, IsTrue, ◌↔◌};
 ghost use Rattle.exact_numbers.specs.Divides.{lcm_of};
-ghost use Rattle.exact_numbers.specs.Limit.{checked};
+ghost use Rattle.exact_numbers.specs.Frac.{lowest};
+ghost use Rattle.exact_numbers.specs.Fraction.{frac_of};
+ghost use Rattle.exact_numbers.specs.Limit.{checked, PastLimit};
 ghost use Rattle.sample_reference.specs.Seen.{value_of, values_of};
 ghost use Rattle.sample_reference.specs.Values.{Value};
 ghost use Rattle.sample_numbers.specs.Told.{IsPointOver};
-ghost use Rattle.sample_answers.specs.Points.{IsCommonPoint, IsWithNumber, known_of, HasNumberPastLimit};
+ghost use Rattle.sample_answers.specs.Points.{IsCommonPoint, IsWithNumber, known_of, HasValuePastLimit};
 
 use crate::error::SampleError;
-use exact_numbers::{Fraction, lcm};
+use exact_numbers::{Fraction, lcm, residue};
 use linear_forms::{Values, VarId};
 use sample_numbers::point_of_values;
 use std::alloc::{AllocError, Global};
 use test_points::PointError;
 
-/// The values of the names of a point, in lowest terms. `Overflow` comes only where a number of the point passes 2^127 - 1, else
-/// `Memory`.
+/// The values of the names of a point, in lowest terms. `Overflow` comes only where one of them passes 2^127 - 1, else `Memory`.
 pub(crate) fn known_values(
     alloc: Global,
     at: &Values,
 ) -> Result<Vec<(VarId, Fraction)>, SampleError>
     ensures known { IfOk result (λ v. values_of v.items ≡ known_of at.now) }
-    ensures overflow { IfErr result (λ e. e ≡ SampleError.Overflow → HasNumberPastLimit at.now) }
+    ensures overflow { IfErr result (λ e. e ≡ SampleError.Overflow → HasValuePastLimit at.now) }
 {
     let denominator = at.denominator();
     let mut known = Vec::new(alloc);
     for name in &at.names(alloc)? {
-        let number = at.get(*name);
-        if number == i128::MIN {
+        let Some(value) = lowest_value(at.get(*name), denominator) else {
             return Err(SampleError::Overflow);
-        }
-        let value = Fraction::reduced(number, denominator);
+        };
         known.push((*name, value)).map_err(|_| SampleError::Memory)?;
     }
     Ok(known)
+}
+
+// The fraction in lowest terms; `None` exactly where its numerator passes 2^127 - 1, as only -2^127 over an odd number does.
+fn lowest_value(number: i128, denominator: i128) -> Option<Fraction>
+    requires { pos 0 <ℤ denominator }
+    ensures { MatchOption result (PastLimit (lowest number denominator).numerator) (λ r. frac_of r ≡ lowest number denominator) }
+{
+    if number != i128::MIN {
+        Some(Fraction::reduced(number, denominator))
+    } else if residue(denominator, 2) == 0 {
+        Some(Fraction::reduced(number / 2, denominator / 2))
+    } else {
+        None
+    }
 }
 
 /// The numbers of the values over their least common denominator; `None` exactly where it or a number over it passes 2^127 - 1.

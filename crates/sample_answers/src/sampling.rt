@@ -26,8 +26,8 @@ use std::alloc::Global;
 /// values before it: between an infinitesimal's form and the next critical value, beyond all critical values, or beyond them in the
 /// residue class (Loos and Weispfenning 1993, Cooper 1972).
 ///
-/// `Overflow` comes only where a number of this calculation passes 2^127 - 1: one of the point, one that is formed where an answer
-/// after the first one is put in, or one that is formed for a value. Else the error is `Memory`. The formulas of the store stay.
+/// `Overflow` comes only where a number of this calculation passes 2^127 - 1: one of the point in lowest terms, one that is formed
+/// where an answer after the first one is put in, or one that is formed for a value. Else the error is `Memory`. The formulas of the store stay.
 pub fn concrete(
     alloc: Global,
     store: &mut Store,
