@@ -1,5 +1,5 @@
 -- The critical values of a name in a formula of a store.
-use Rattle.std.specs.Prelude.{◌≡◌, ℕ, true, List, [], ◌∷◌, Option, option_map}
+use Rattle.std.specs.Prelude.{◌≡◌, ℕ, Bool, true, List, [], ◌∷◌, Option, option_map}
 use Rattle.std.specs.List.{flat_map}
 use Rattle.exact_numbers.specs.declared.fraction.Fraction.{Fraction}
 use Rattle.exact_numbers.specs.Frac.{Frac}
@@ -9,7 +9,7 @@ use Rattle.formula_meaning.specs.Atom.{Atom}
 use Rattle.formula_meaning.specs.Limits.{each}
 use Rattle.formula_meaning.specs.Point.{Point}
 use Rattle.formula_meaning.specs.Shape.{IsPlain}
-use Rattle.formula_meaning.specs.Tree.{InContext}
+use Rattle.formula_meaning.specs.Tree.{Tree, InContext}
 use Rattle.elimination_theory.specs.Atoms.{atoms_in}
 use Rattle.elimination_reference.specs.PutIn.{atom_put}
 use Rattle.atom_normal.specs.Atoms.{context_of}
@@ -19,6 +19,7 @@ use Rattle.formula_store.specs.declared.id.FormulaId.{FormulaId}
 use Rattle.formula_store.specs.Nodes.{tree, IsId}
 use Rattle.linear_forms.specs.Values.{point_of}
 use Rattle.plain_truths.specs.Put.{atom_put_within}
+use Rattle.sample_reference.specs.Calculated.{criticals}
 use Rattle.sample_numbers.specs.Roots.{least_among}
 use Rattle.sample_answers.specs.declared.search.Search.{Search}
 
@@ -32,7 +33,15 @@ pub record IsSharedTree (c : Context) (nodes : List (Shape FormulaId)) (root : F
 abbrev pub atoms_put : Context → Point ℕ → ℕ → List Atom → List Atom
 atoms_put c p x atoms = flat_map (λ a. atoms_in (normal_atom c (atom_put p (x ∷ []) a))) atoms
 
+-- the critical values that are looked for in the formula
+abbrev pub criticals_sought : Search → Tree → Option (List Frac)
+criticals_sought s f = criticals (context_of s.context) s.x.number f (point_of s.at.now)
+
+-- no number that the atoms form at the point passes the limit
+abbrev pub are_within : Search → List Atom → Bool
+are_within s atoms = each (atom_put_within (context_of s.context) (point_of s.at.now) (s.x.number ∷ [])) atoms
+
 -- w is the least of what may be there before and of the atoms' critical values that are looked for, and no number passes the limit
 pub record IsLeastWith (s : Search) (before : Option Frac) (atoms : List Atom) (w : Option Fraction) : Type 0 where
   pub least : option_map frac_of w ≡ least_among s.side s.x.number (option_map frac_of s.bound) before (atoms_put (context_of s.context) (point_of s.at.now) s.x.number atoms)
-  pub within : each (atom_put_within (context_of s.context) (point_of s.at.now) (s.x.number ∷ [])) atoms ≡ true
+  pub within : are_within s atoms ≡ true

@@ -1,9 +1,8 @@
 //! The critical values of a name in a formula of a store, each distinct subformula once.
 
-ghost use Rattle.std.specs.Prelude.{◌≡◌, ◌∷◌, [], map, option_map, MatchResult};
+ghost use Rattle.std.specs.Prelude.{map, option_map, MatchResult};
 ghost use Rattle.exact_numbers.specs.Fraction.{frac_of};
 ghost use Rattle.formula_meaning.specs.Atom.{AtomIn};
-ghost use Rattle.formula_meaning.specs.Limits.{each};
 ghost use Rattle.formula_meaning.specs.Shape.{IsPlain};
 ghost use Rattle.formula_meaning.specs.Some.{EachOf};
 ghost use Rattle.formula_meaning.specs.Tree.{InContext};
@@ -11,13 +10,10 @@ ghost use Rattle.atom_normal.specs.Atoms.{atom_of, context_of};
 ghost use Rattle.branch_points.specs.Chosen.{shape_atoms};
 ghost use Rattle.formula_store.specs.Nodes.{tree, IsId};
 ghost use Rattle.formula_tree.specs.Shapes.{IsProperShape};
-ghost use Rattle.linear_forms.specs.Values.{point_of};
 ghost use Rattle.nnf_substitution.specs.Placed.{Fails};
-ghost use Rattle.plain_truths.specs.Put.{atom_put_within};
 ghost use Rattle.sample_numbers.specs.Roots.{IsNextCritical};
 ghost use Rattle.sample_numbers.specs.Told.{Lacks};
-ghost use Rattle.sample_reference.specs.Calculated.{criticals};
-ghost use Rattle.sample_answers.specs.Searches.{IsLeastWith, IsSharedTree};
+ghost use Rattle.sample_answers.specs.Searches.{IsLeastWith, IsSharedTree, are_within, criticals_sought};
 
 use atom_normal::{Context, Normal};
 use elimination_theory::Side;
@@ -83,7 +79,7 @@ impl Search<'_> {
         requires id { IsId store.now root }
         requires plain { IsPlain (tree store.now root) }
         requires inside { InContext (context_of self.now.context) (tree store.now root) }
-        ensures { MatchResult result (IsNextCritical self.now.side (option_map frac_of self.now.bound) (criticals (context_of self.now.context) self.now.x.number (tree store.now root) (point_of self.now.at.now))) (λ e. Lacks e (criticals (context_of self.now.context) self.now.x.number (tree store.now root) (point_of self.now.at.now))) }
+        ensures { MatchResult result (IsNextCritical self.now.side (option_map frac_of self.now.bound) (criticals_sought self.now (tree store.now root))) (λ e. Lacks e (criticals_sought self.now (tree store.now root))) }
     {
         let ids = match store.subformulas(root) {
             Ok(ids) => ids,
@@ -108,7 +104,7 @@ impl Search<'_> {
     ) -> Result<Option<Fraction>, PointError>
         requires proper { IsProperShape shape.now }
         requires inside { EachOf (AtomIn (context_of self.now.context)) (map atom_of (shape_atoms shape.now)) }
-        ensures { MatchResult result (IsLeastWith self.now (option_map frac_of least) (map atom_of (shape_atoms shape.now))) (λ e. Fails e (each (atom_put_within (context_of self.now.context) (point_of self.now.at.now) (self.now.x.number ∷ [])) (map atom_of (shape_atoms shape.now)))) }
+        ensures { MatchResult result (IsLeastWith self.now (option_map frac_of least) (map atom_of (shape_atoms shape.now))) (λ e. Fails e (are_within self.now (map atom_of (shape_atoms shape.now)))) }
     {
         let Shape::One(atom) = shape else {
             return Ok(least);
