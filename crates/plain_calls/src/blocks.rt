@@ -126,17 +126,23 @@ fn points_text(alloc: Global, points: &[TestPoint], told: Told) -> Result<String
 /// A chain of 100 names, each less than the next, with all of them in the block: each but the last goes far below the next one,
 /// which leaves `true`, and the last goes to 0.
 pub(crate) fn chain<R: Threads + Sync>(rt: &R, alloc: Global) -> Option<String> {
+    let mut text = chain_text(alloc, 100)?;
+    text.push(';').ok()?;
+    let block = first_names(alloc, 100)?;
+    block_text(rt, alloc, Context::Fields, &text, &block, Told::Number)
+}
+
+/// The chain of so many names, as text: each is less than the next.
+pub(crate) fn chain_text(alloc: Global, count: usize) -> Option<String> {
     let mut text = String::new(alloc);
     let mut before = 0;
-    for number in 1..100 {
+    for number in 1..count {
         let word = if before > 0 { " and " } else { "" };
         text.push_str(&format!(in alloc; "{word}x{before}<x{number}").ok()?)
             .ok()?;
         before = number;
     }
-    text.push(';').ok()?;
-    let block = first_names(alloc, 100)?;
-    block_text(rt, alloc, Context::Fields, &text, &block, Told::Number)
+    Some(text)
 }
 
 /// The first of all names, so many.

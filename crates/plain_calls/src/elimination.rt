@@ -55,6 +55,31 @@ pub(crate) fn of_one_name<R: Threads + Sync>(rt: &R, alloc: Global) -> Option<St
     told(rt, alloc, Context::Fields, statement, LIMIT)
 }
 
+/// `ex(x, x=a and x<b)`: `x` goes to `a`, which leaves `a - b < 0`. The formula has the form in which one root is enough, so that
+/// the reference elimination, which costs 14 nodes, is not asked.
+pub(crate) fn within_thirteen_nodes<R: Threads + Sync>(rt: &R, alloc: Global) -> Option<String> {
+    told(rt, alloc, Context::Fields, "ex(x,x=a and x<b);", 13)
+}
+
+/// `ex({x,y}, x=a and y=b and x+y<c)`: `x` goes to `a` and `y` to `b`, which leaves `a + b - c < 0`. The reference elimination costs
+/// 28 nodes, and is not asked.
+pub(crate) fn within_27_nodes<R: Threads + Sync>(rt: &R, alloc: Global) -> Option<String> {
+    let statement = "ex({x,y},x=a and y=b and x+y<c);";
+    told(rt, alloc, Context::Fields, statement, 27)
+}
+
+/// `all(x, x<a)`: its negation has one point on the upper side, far above, which leaves `true`.
+pub(crate) fn of_no_end<R: Threads + Sync>(rt: &R, alloc: Global) -> Option<String> {
+    told(rt, alloc, Context::Fields, "all(x,x<a);", LIMIT)
+}
+
+/// `ex(x, M*x>=3*a and 5*x<=M*b)` with M = 2^127 - 1: each number that is formed passes M, also in the reference elimination.
+pub(crate) fn past_the_limit<R: Threads + Sync>(rt: &R, alloc: Global) -> Option<String> {
+    let most = i128::MAX;
+    let statement = format!(in alloc; "ex(x,{most}*x>=3*a and 5*x<={most}*b);").ok()?;
+    told(rt, alloc, Context::Fields, &statement, LIMIT)
+}
+
 /// `ex(x, x>a and x<b)` has four nodes, three of them in its matrix.
 pub(crate) fn within_two_nodes<R: Threads + Sync>(rt: &R, alloc: Global) -> Option<String> {
     told(rt, alloc, Context::Fields, "ex(x,x>a and x<b);", 2)

@@ -14,6 +14,7 @@ mod numbers;
 mod pieces;
 mod points;
 mod reading;
+mod samples;
 mod shared;
 mod writing;
 
@@ -29,6 +30,7 @@ fn main(rt: HostRuntime) -> io::Result<()> {
     eliminated(&rt)?;
     counted(&rt)?;
     by_cases(&rt)?;
+    answered_by_cases(&rt)?;
     shared_out(&rt)
 }
 
@@ -138,6 +140,10 @@ fn by_cases<R: Threads + Sync + Print + AllocGlobal>(rt: &R) -> io::Result<()> {
     let halves = elimination::of_halves(rt, alloc);
     let four = elimination::of_four(rt, alloc);
     let one_name = elimination::of_one_name(rt, alloc);
+    let direct = elimination::within_thirteen_nodes(rt, alloc);
+    let two = elimination::within_27_nodes(rt, alloc);
+    let no_end = elimination::of_no_end(rt, alloc);
+    let past = elimination::past_the_limit(rt, alloc);
     let refused = elimination::within_two_nodes(rt, alloc);
     tell(rt, "no number between two", of_all)?;
     tell(
@@ -149,7 +155,34 @@ fn by_cases<R: Threads + Sync + Print + AllocGlobal>(rt: &R) -> io::Result<()> {
     tell(rt, "each whole number halved", halves)?;
     tell(rt, "four blocks one in the other", four)?;
     tell(rt, "a name bound in its own block", one_name)?;
+    tell(rt, "a root that is enough, under the limit 13", direct)?;
+    tell(rt, "two roots that are enough, under the limit 27", two)?;
+    tell(rt, "each number below another", no_end)?;
+    tell(rt, "numbers past the limit", past)?;
     tell(rt, "four nodes under the limit 2", refused)
+}
+
+/// Samples and truths of formulas by their cases.
+fn answered_by_cases<R: Threads + Sync + Print + AllocGlobal>(rt: &R) -> io::Result<()> {
+    let alloc = rt.alloc();
+    let between = samples::between(rt, alloc);
+    let below = samples::below(rt, alloc);
+    let above = samples::above(rt, alloc);
+    let nowhere = samples::nowhere(rt, alloc);
+    let residue = samples::residue_below(rt, alloc);
+    let even = samples::even_above(rt, alloc);
+    let chain = samples::chain(rt, alloc);
+    let unbounded = samples::unbounded(rt, alloc);
+    let nothing = samples::nothing_between(rt, alloc);
+    tell(rt, "sample between 0 and 1, by cases", between)?;
+    tell(rt, "sample below 3", below)?;
+    tell(rt, "sample above 3", above)?;
+    tell(rt, "sample between 0 and 0", nowhere)?;
+    tell(rt, "sample of a residue below 0, by cases", residue)?;
+    tell(rt, "sample of an even number above 3", even)?;
+    tell(rt, "sample of a chain of 200 names", chain)?;
+    tell(rt, "whether each number has a greater one", unbounded)?;
+    tell(rt, "whether a number lies between 0 and 0", nothing)
 }
 
 /// Pieces that are shared out to threads.
