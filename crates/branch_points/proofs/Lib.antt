@@ -5,4 +5,5 @@ pub mod Choices
 pub mod RootsAmong
 pub mod FewestPoints
 pub mod CountedPoints
+pub mod CountedEnds
 mod Examples

@@ -1,24 +1,27 @@
 //! Names that stand nowhere in a branch.
 
-ghost use Rattle.std.specs.Prelude.{◌≡◌, true, false, map, MatchOption};
+ghost use Rattle.std.specs.Prelude.{◌≡◌, true, false, nat_eq, map, MatchOption};
+ghost use Rattle.std.specs.HashMap.{get};
 ghost use Rattle.formula_meaning.specs.Some.{Among, EachOf};
 ghost use Rattle.elimination_theory.specs.Answers.{zero_place};
 ghost use Rattle.elimination_reference.specs.Reference.{stands_among};
 ghost use Rattle.atom_normal.specs.Atoms.{atom_of};
 ghost use Rattle.test_points.specs.Points.{place_of, IsPointOf};
+ghost use Rattle.branch_points.specs.Ends.{AreEnds};
 
+use crate::ends::{Table, stands};
 use atom_normal::Atom;
 use linear_forms::{Linear, VarId};
-use nnf_substitution::stands_in_some;
 use std::alloc::Global;
 use test_points::{Place, TestPoint};
 
 /// The first of the names that stands in none of the atoms.
-pub(crate) fn absent_name(atoms: &[Atom], left: &[VarId]) -> Option<VarId>
+pub(crate) fn absent_name(atoms: &[Atom], table: &Table, left: &[VarId]) -> Option<VarId>
+    requires { AreEnds (map atom_of atoms.now) (get nat_eq table.now) }
     ensures { MatchOption result (EachOf (λ x. stands_among x.number (map atom_of atoms.now) ≡ true) left.now) (λ x. Among left.now x × (stands_among x.number (map atom_of atoms.now) ≡ false)) }
 {
     for name in left {
-        if !stands_in_some(atoms, *name) {
+        if !stands(table, *name) {
             return Some(*name);
         }
     }

@@ -1,17 +1,20 @@
 //! The choice of a name and of its test points.
 
-ghost use Rattle.std.specs.Prelude.{◌≡◌, ◌<◌, ◌≤◌, [], ◌∷◌, map, max, length, All, IfOk, IfErr, IsErrOf};
+ghost use Rattle.std.specs.Prelude.{◌≡◌, ◌<◌, ◌≤◌, [], ◌∷◌, nat_eq, map, max, length, All, IfOk, IfErr, IsErrOf};
+ghost use Rattle.std.specs.HashMap.{get};
 ghost use Rattle.formula_meaning.specs.Distinct.{StandsOnce};
 ghost use Rattle.elimination_reference.specs.Theorems.{IsTidy};
 ghost use Rattle.atom_normal.specs.Atoms.{atom_of, context_of, IsWellFormed};
 ghost use Rattle.formula_store.specs.Nodes.{tree, IsId};
 ghost use Rattle.branch_points.specs.Chosen.{IsChosen, IsByRule, IsOnSide, NeedsCounting, InSomeOrder};
 ghost use Rattle.branch_points.specs.Counts.{EachHasMore, NumbersPass};
+ghost use Rattle.branch_points.specs.Ends.{AreEnds};
 
 use crate::absent::{absent_name, at_zero};
 use crate::atoms::branch_atoms;
 use crate::choice::Chosen;
 use crate::counts::{fewest, is_within, points_of};
+use crate::ends::{Table, ends_of};
 use crate::equations::conjoined_root;
 use crate::error::ChoiceError;
 use atom_normal::{Atom, Context};
@@ -46,13 +49,14 @@ pub fn chosen(
     ensures overflow { IsErrOf result ChoiceError.Overflow → InSomeOrder (λ atoms. NumbersPass context atoms left.now) (tree store.now id) }
 {
     let atoms = branch_atoms(alloc, store, id)?;
-    if let Some(name) = absent_name(&atoms, left) {
+    let table = ends_of(alloc, &atoms)?;
+    if let Some(name) = absent_name(&atoms, &table, left) {
         return Ok(alone(alloc, at_zero(alloc, name))?);
     }
     if let Some(root) = conjoined_root(alloc, context, store, id, left)? {
         return Ok(alone(alloc, root)?);
     }
-    counted(alloc, context, &atoms, left, most)
+    counted(alloc, context, &atoms, &table, left, most)
 }
 
 // The name of a point, and the point alone.
@@ -71,17 +75,19 @@ fn counted(
     alloc: Global,
     context: Context,
     atoms: &[Atom],
+    table: &Table,
     left: &[VarId],
     most: u64,
 ) -> Result<Chosen, ChoiceError>
     requires well_formed { All IsWellFormed atoms.now }
     requires once { StandsOnce (map atom_of atoms.now) }
+    requires ends { AreEnds (map atom_of atoms.now) (get nat_eq table.now) }
     requires some { 0 < length left.now }
     ensures chosen { IfOk result (IsOnSide context (map atom_of atoms.now) left.now most) }
     ensures nodes { IsErrOf result ChoiceError.Nodes → EachHasMore context (map atom_of atoms.now) left.now most }
     ensures overflow { IsErrOf result ChoiceError.Overflow → NumbersPass context (map atom_of atoms.now) left.now }
 {
-    let Some(fewest) = fewest(context, atoms, left) else {
+    let Some(fewest) = fewest(context, atoms, table, left) else {
         return Err(ChoiceError::Overflow);
     };
     if !is_within(fewest.count, most) {

@@ -1,22 +1,24 @@
 //! How many test points a name has on a side, and the name and the side with the fewest.
 
-ghost use Rattle.std.specs.Prelude.{◌≡◌, ◌⊎◌, ◌<◌, ◌≤◌, ℕ, false, count_by, map, All, MatchOption, IfOk, IfSome, IsErrOf, IsSome, IsTrue, Some, ◌↔◌};
+ghost use Rattle.std.specs.Prelude.{◌≡◌, ◌⊎◌, ◌<◌, ◌≤◌, ℕ, false, nat_eq, map, All, MatchOption, IfOk, IfSome, IsErrOf, IsTrue, Some};
+ghost use Rattle.std.specs.HashMap.{get};
 ghost use Rattle.formula_meaning.specs.Some.{Among, EachOf};
 ghost use Rattle.formula_meaning.specs.Limits.{each, place_within};
 ghost use Rattle.formula_meaning.specs.Distinct.{StandsOnce};
 ghost use Rattle.elimination_theory.specs.BothTheories.{test_points};
 ghost use Rattle.elimination_theory.specs.IntegersPoints.{integer_points_of};
-ghost use Rattle.atom_normal.specs.Atoms.{atom_of, context_of, relation_of, IsWellFormed};
+ghost use Rattle.atom_normal.specs.Atoms.{atom_of, context_of, IsWellFormed};
 ghost use Rattle.test_points.specs.Points.{place_of, IsPointOf};
-ghost use Rattle.cooper_periods.specs.Starts.{first_step, has_end};
 ghost use Rattle.branch_points.specs.Counts.{SpanPasses, IsGridOf, IsCount, IsCandidate, CountsAtMost, HasAtMost, IsBeaten, count_of};
+ghost use Rattle.branch_points.specs.Ends.{AreEnds};
 
+use crate::ends::{Table, end_count};
 use crate::error::ChoiceError;
-use atom_normal::{Atom, Context, Rel};
+use atom_normal::{Atom, Context};
 use cooper_periods::{Period, integer_points, period, points_count};
 use linear_forms::VarId;
 use std::alloc::Global;
-use test_points::{Side, TestPoint, field_points, seen};
+use test_points::{Side, TestPoint, field_points};
 
 /// What the points of a name lie on: over the integers its scale and its span.
 #[derive(Clone, Copy)]
@@ -35,15 +37,21 @@ pub(crate) struct Candidate {
 }
 
 /// The first of the names, and of its sides, with the fewest points, or `None` where the span of each name passes 2^127 - 1.
-pub(crate) fn fewest(context: Context, atoms: &[Atom], left: &[VarId]) -> Option<Candidate>
+pub(crate) fn fewest(
+    context: Context,
+    atoms: &[Atom],
+    table: &Table,
+    left: &[VarId],
+) -> Option<Candidate>
     requires well_formed { All IsWellFormed atoms.now }
     requires once { StandsOnce (map atom_of atoms.now) }
+    requires ends { AreEnds (map atom_of atoms.now) (get nat_eq table.now) }
     ensures found { IfSome result (λ k. Among left.now k.name × IsCandidate context (map atom_of atoms.now) k) }
     ensures least { EachOf (IsBeaten context (map atom_of atoms.now) result) left.now }
 {
     let mut best = None;
     for name in left {
-        best = fewer(best, cheaper_side(context, atoms, *name));
+        best = fewer(best, cheaper_side(context, atoms, table, *name));
     }
     best
 }
@@ -74,15 +82,16 @@ fn is_below(first: Option<u64>, second: Option<u64>) -> bool
 
 // The name with the side on which it has fewer points, the lower where both have as many, or `None` where its span passes
 // 2^127 - 1.
-fn cheaper_side(context: Context, atoms: &[Atom], x: VarId) -> Option<Candidate>
+fn cheaper_side(context: Context, atoms: &[Atom], table: &Table, x: VarId) -> Option<Candidate>
     requires well_formed { All IsWellFormed atoms.now }
     requires once { StandsOnce (map atom_of atoms.now) }
+    requires ends { AreEnds (map atom_of atoms.now) (get nat_eq table.now) }
     ensures found { IfSome result (λ k. (k.name ≡ x) × IsCandidate context (map atom_of atoms.now) k) }
     ensures least { IsBeaten context (map atom_of atoms.now) result x }
 {
     let grid = grid_of(context, atoms, x)?;
-    let lower = on_side(context, atoms, x, grid, Side::Lower);
-    let upper = on_side(context, atoms, x, grid, Side::Upper);
+    let lower = on_side(context, atoms, table, x, grid, Side::Lower);
+    let upper = on_side(context, atoms, table, x, grid, Side::Upper);
     fewer(Some(lower), Some(upper))
 }
 
@@ -101,16 +110,24 @@ fn grid_of(context: Context, atoms: &[Atom], x: VarId) -> Option<Grid>
 }
 
 // The name with a side.
-fn on_side(context: Context, atoms: &[Atom], x: VarId, grid: Grid, side: Side) -> Candidate
+fn on_side(
+    context: Context,
+    atoms: &[Atom],
+    table: &Table,
+    x: VarId,
+    grid: Grid,
+    side: Side,
+) -> Candidate
     requires well_formed { All IsWellFormed atoms.now }
     requires once { StandsOnce (map atom_of atoms.now) }
+    requires ends { AreEnds (map atom_of atoms.now) (get nat_eq table.now) }
     requires grid { IsGridOf context x.number (map atom_of atoms.now) grid }
     ensures name { result.name ≡ x }
     ensures side { result.side ≡ side }
     ensures candidate { IsCandidate context (map atom_of atoms.now) result }
 {
     let count = match grid {
-        Grid::Fields => (ends_count(atoms, x, side) as u64).checked_add(1),
+        Grid::Fields => (end_count(table, x, side) as u64).checked_add(1),
         Grid::Integers(period) => points_count(atoms, x, &period, side),
     };
     Candidate {
@@ -118,36 +135,6 @@ fn on_side(context: Context, atoms: &[Atom], x: VarId, grid: Grid, side: Side) -
         side,
         grid,
         count,
-    }
-}
-
-// How many of the atoms have an end that lies to the side.
-fn ends_count(atoms: &[Atom], x: VarId, side: Side) -> usize
-    ensures { result ≡ count_by (λ a. has_end side x.number (atom_of a)) atoms.now }
-{
-    atoms.iter().filter(|atom| has_end(atom, x, side)).count()
-}
-
-// Whether the atom has an end that lies to the side.
-fn has_end(atom: &Atom, x: VarId, side: Side) -> bool
-    ensures { result ≡ has_end side x.number (atom_of atom.now) }
-{
-    match atom {
-        Atom::Compare(relation, form) => {
-            let times = form.coefficient(x);
-            times != 0 && begins(seen(side, *relation, times < 0))
-        }
-        Atom::Congruent { .. } => false,
-    }
-}
-
-// Whether the relation, as the side sees it, begins to be true at a number.
-fn begins(relation: Rel) -> bool
-    ensures { IsTrue result ↔ IsSome (first_step (relation_of relation)) }
-{
-    match relation {
-        Rel::Equal | Rel::Differs | Rel::Greater | Rel::AtLeast => true,
-        Rel::Less | Rel::AtMost => false,
     }
 }
 

@@ -6,6 +6,7 @@ mod atoms;
 mod choice;
 mod choosing;
 mod counts;
+mod ends;
 mod equations;
 mod error;
 mod roots;

@@ -2,7 +2,7 @@ use Rattle.std.proofs.Common.{rules, ◌≡◌, false, sym, ◌∙◌}
 use Rattle.branch_points.proofs.Names.{at_place}
 use Rattle.branch_points.proofs.absent.absent_name.Goals as goal
 
-pub returns-then-not-stands_in_some : goal.returns-then-not-stands_in_some
-returns-then-not-stands_in_some c =
-    let e : c.stands_in_some.result ≡ false = search rules in
-    (at_place c.args.left.now c.loop-name.name-index (record { number = 0 }) c.loop-name-test.true, sym c.stands_in_some.ensures ∙ e)
+pub returns-then-not-stands : goal.returns-then-not-stands
+returns-then-not-stands c =
+    let e : c.stands.result ≡ false = search rules in
+    (at_place c.args.left.now c.loop-name.name-index (record { number = 0 }) c.loop-name-test.true, sym (c.requires.stands _) ∙ sym c.stands.ensures ∙ e)

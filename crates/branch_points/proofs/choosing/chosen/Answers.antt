@@ -17,24 +17,24 @@ use Rattle.branch_points.proofs.choosing.chosen.Goals as goal
 pub returns-in-Some-clause-chosen : goal.returns-in-Some-clause-chosen
 returns-in-Some-clause-chosen c =
     let f = tree c.args.store.now c.args.id in
-    let are = subst (AreAtomsOf f) (sym c.deref.ensures.value) c.in_ok-atoms.ensures in
-    zero_chosen c.args.context f c.args.left.now c.args.most c.requires.tidy c.deref.result.now are c.in_ok-alone.field-0 c.at_zero.result c.in-Some.name c.in-Some.ensures.0 c.in-Some.ensures.1
+    let are = subst (AreAtomsOf f) (sym c.deref-2.ensures.value) c.in_ok-atoms.ensures in
+    zero_chosen c.args.context f c.args.left.now c.args.most c.requires.tidy c.deref-2.result.now are c.in_ok-alone.field-0 c.at_zero.result c.in-Some.name c.in-Some.ensures.0 c.in-Some.ensures.1
     c.at_zero.ensures.place c.at_zero.ensures.well_formed c.in_ok-alone.ensures.name c.in_ok-alone.ensures.points
 
 pub returns-in-Some-clause-rule : goal.returns-in-Some-clause-rule
 returns-in-Some-clause-rule c =
     let f = tree c.args.store.now c.args.id in
-    let are = subst (AreAtomsOf f) (sym c.deref.ensures.value) c.in_ok-atoms.ensures in
-    zero_rule c.args.context f c.args.left.now c.args.most c.requires.tidy c.deref.result.now are c.in_ok-alone.field-0 c.at_zero.result c.in-Some.name c.in-Some.ensures.0 c.in-Some.ensures.1
+    let are = subst (AreAtomsOf f) (sym c.deref-2.ensures.value) c.in_ok-atoms.ensures in
+    zero_rule c.args.context f c.args.left.now c.args.most c.requires.tidy c.deref-2.result.now are c.in_ok-alone.field-0 c.at_zero.result c.in-Some.name c.in-Some.ensures.0 c.in-Some.ensures.1
     c.at_zero.ensures.place c.at_zero.ensures.well_formed c.in_ok-alone.ensures.name c.in_ok-alone.ensures.points
 
 pub returns-in-Some-2-clause-rule : goal.returns-in-Some-2-clause-rule
 returns-in-Some-2-clause-rule c =
     let f = tree c.args.store.now c.args.id in
-    let are = subst (AreAtomsOf f) (sym c.deref.ensures.value) c.in_ok-atoms.ensures in
+    let are = subst (AreAtomsOf f) (sym c.deref-2.ensures.value) c.in_ok-atoms.ensures in
     let r : IsRootAmong c.args.context (conjuncts f) c.args.left.now c.in-Some-2.root =
     MatchOption-at_some (HasNoEquation (conjuncts f) c.args.left.now) (IsRootAmong c.args.context (conjuncts f) c.args.left.now) c.in-Some-2.root c.in-Some-2.is c.in_ok-root.ensures in
-    root_rule c.args.context f c.args.left.now c.args.most c.requires.tidy c.deref.result.now are c.in_default.ensures c.in_ok-alone-2.field-0 c.in-Some-2.root r c.in_ok-alone-2.ensures.name c.in_ok-alone-2.ensures.points
+    root_rule c.args.context f c.args.left.now c.args.most c.requires.tidy c.deref-2.result.now are c.in_default.ensures c.in_ok-alone-2.field-0 c.in-Some-2.root r c.in_ok-alone-2.ensures.name c.in_ok-alone-2.ensures.points
 
 pub returns-in-Some-2-clause-chosen : goal.returns-in-Some-2-clause-chosen
 returns-in-Some-2-clause-chosen c =
@@ -50,34 +50,34 @@ if_err (Err e) A Q q = λ a. q
 pub returns-clause-chosen : goal.returns-clause-chosen
 returns-clause-chosen c =
     let f = tree c.args.store.now c.args.id in
-    let are = subst (AreAtomsOf f) (sym c.deref-2.ensures.value) c.in_ok-atoms.ensures in
+    let are = subst (AreAtomsOf f) (sym c.deref-3.ensures.value) c.in_ok-atoms.ensures in
     let nowhere : HasNoEquation (conjuncts f) c.args.left.now =
     MatchOption-at_none (HasNoEquation (conjuncts f) c.args.left.now) (IsRootAmong c.args.context (conjuncts f) c.args.left.now) c.in_default-2.is c.in_ok-root.ensures in
-    IfOk-weaker c.counted.result (IsOnSide c.args.context (map atom_of c.deref-2.result.now) c.args.left.now c.args.most) (IsChosen c.args.context f c.args.left.now)
-    (λ ch o. side_chosen c.args.context f c.args.left.now c.args.most c.requires.tidy c.deref-2.result.now are nowhere ch o) c.counted.ensures.chosen
+    IfOk-weaker c.counted.result (IsOnSide c.args.context (map atom_of c.deref-3.result.now) c.args.left.now c.args.most) (IsChosen c.args.context f c.args.left.now)
+    (λ ch o. side_chosen c.args.context f c.args.left.now c.args.most c.requires.tidy c.deref-3.result.now are nowhere ch o) c.counted.ensures.chosen
 
 pub returns-clause-refused : goal.returns-clause-refused
 returns-clause-refused c =
     let f = tree c.args.store.now c.args.id in
-    let are = subst (AreAtomsOf f) (sym c.deref.ensures.value) c.in_ok-atoms.ensures in
+    let are = subst (AreAtomsOf f) (sym c.deref-2.ensures.value) c.in_ok-atoms.ensures in
     let nowhere : HasNoEquation (conjuncts f) c.args.left.now =
     MatchOption-at_none (HasNoEquation (conjuncts f) c.args.left.now) (IsRootAmong c.args.context (conjuncts f) c.args.left.now) c.in_default-2.is c.in_ok-root.ensures in
-    if_err c.counted.result (λ e. ¬ (e ≡ Memory)) (NeedsCounting f (numbers c.args.left.now)) (needs_counting c.args.context f c.args.left.now c.args.most c.requires.tidy c.deref.result.now are c.in_default.ensures nowhere)
+    if_err c.counted.result (λ e. ¬ (e ≡ Memory)) (NeedsCounting f (numbers c.args.left.now)) (needs_counting c.args.context f c.args.left.now c.args.most c.requires.tidy c.deref-2.result.now are c.in_default.ensures nowhere)
 
 pub returns-clause-rule : goal.returns-clause-rule
 returns-clause-rule c =
     let f = tree c.args.store.now c.args.id in
-    let first : c.deref.result.now ≡ c.deref-2.result.now = c.deref.ensures.value ∙ sym c.deref-2.ensures.value in
-    let are = subst (AreAtomsOf f) (sym c.deref-2.ensures.value) c.in_ok-atoms.ensures in
+    let first : c.deref-2.result.now ≡ c.deref-3.result.now = c.deref-2.ensures.value ∙ sym c.deref-3.ensures.value in
+    let are = subst (AreAtomsOf f) (sym c.deref-3.ensures.value) c.in_ok-atoms.ensures in
     let each = subst (λ (atoms : List Atom). EachOf (λ (x : VarId). stands_among x.number (map atom_of atoms) ≡ true) c.args.left.now) first c.in_default.ensures in
     let nowhere : HasNoEquation (conjuncts f) c.args.left.now =
     MatchOption-at_none (HasNoEquation (conjuncts f) c.args.left.now) (IsRootAmong c.args.context (conjuncts f) c.args.left.now) c.in_default-2.is c.in_ok-root.ensures in
-    IfOk-weaker c.counted.result (IsOnSide c.args.context (map atom_of c.deref-2.result.now) c.args.left.now c.args.most) (IsByRule c.args.context f c.args.left.now c.args.most)
-    (λ ch o. side_rule c.args.context f c.args.left.now c.args.most c.requires.tidy c.deref-2.result.now are each nowhere ch o) c.counted.ensures.chosen
+    IfOk-weaker c.counted.result (IsOnSide c.args.context (map atom_of c.deref-3.result.now) c.args.left.now c.args.most) (IsByRule c.args.context f c.args.left.now c.args.most)
+    (λ ch o. side_rule c.args.context f c.args.left.now c.args.most c.requires.tidy c.deref-3.result.now are each nowhere ch o) c.counted.ensures.chosen
 
 pub returns-clause-few : goal.returns-clause-few
 returns-clause-few c =
     let f = tree c.args.store.now c.args.id in
-    let are = subst (AreAtomsOf f) (sym c.deref-2.ensures.value) c.in_ok-atoms.ensures in
-    IfOk-weaker c.counted.result (IsOnSide c.args.context (map atom_of c.deref-2.result.now) c.args.left.now c.args.most) (λ ch. length ch.points.items ≤ max 1 c.args.most)
-    (λ ch o. side_few c.args.context f c.args.left.now c.args.most c.requires.tidy c.deref-2.result.now are ch o) c.counted.ensures.chosen
+    let are = subst (AreAtomsOf f) (sym c.deref-3.ensures.value) c.in_ok-atoms.ensures in
+    IfOk-weaker c.counted.result (IsOnSide c.args.context (map atom_of c.deref-3.result.now) c.args.left.now c.args.most) (λ ch. length ch.points.items ≤ max 1 c.args.most)
+    (λ ch o. side_few c.args.context f c.args.left.now c.args.most c.requires.tidy c.deref-3.result.now are ch o) c.counted.ensures.chosen

@@ -1,0 +1,133 @@
+//! How many ends the names of a branch have on each side, from one pass over its atoms.
+
+ghost use Rattle.std.specs.Prelude.{◌≡◌, ◌+◌, ◌<◌, ◌^◌, ℕ, nat_eq, is_some, map, IfOk, OnOk, IsTrue, IsSome, ◌↔◌};
+ghost use Rattle.std.specs.HashMap.{get};
+ghost use Rattle.formula_meaning.specs.Form.{coefficient};
+ghost use Rattle.formula_meaning.specs.Atom.{form_of};
+ghost use Rattle.atom_normal.specs.Atoms.{atom_of, relation_of};
+ghost use Rattle.cooper_periods.specs.Starts.{first_step};
+ghost use Rattle.branch_points.specs.Ends.{once, ends_with, ends_or_none, end_count, AreEnds, HaveMore, HaveTerm, HasRoom};
+
+use atom_normal::{Atom, Rel};
+use linear_forms::{Linear, VarId};
+use std::alloc::{AllocError, Global};
+use std::collections::HashMap;
+use test_points::{Side, seen};
+
+/// How many atoms have an end of a name on each side.
+#[derive(Clone, Copy)]
+pub(crate) struct Ends {
+    pub(crate) lower: usize,
+    pub(crate) upper: usize,
+}
+
+/// The ends of the names that stand in some atom, by the numbers of the names.
+pub(crate) type Table = HashMap<usize, Ends>;
+
+/// The ends of each name that stands in some of the atoms: each atom is looked at once, and the names that stand in it alone.
+pub(crate) fn ends_of(alloc: Global, atoms: &[Atom]) -> Result<Table, AllocError>
+    ensures { IfOk result (λ t. AreEnds (map atom_of atoms.now) (get nat_eq t)) }
+{
+    let mut table = HashMap::new(alloc);
+    for atom in atoms {
+        count_atom(&mut table, atom)?;
+    }
+    Ok(table)
+}
+
+// Counts the ends of the names that stand in the atom.
+fn count_atom(table: &mut Table, atom: &Atom) -> Result<(), AllocError>
+    requires { (x : ℕ) → HasRoom (get nat_eq table.old x) }
+    ensures { OnOk result (HaveMore (atom_of atom.now) (λ x. coefficient x (form_of (atom_of atom.now))) (get nat_eq table.old) (get nat_eq table.new)) }
+{
+    let form = form_of(atom);
+    let _sorted = form.constant_part();
+    for place in 0..form.places() {
+        if let Some((name, times)) = form.term(place) {
+            count_term(table, atom, name, times)?;
+        }
+    }
+    Ok(())
+}
+
+// The linear form of the atom.
+fn form_of(atom: &Atom) -> &Linear
+    ensures { result.now ≡ form_of (atom_of atom.now) }
+{
+    match atom {
+        Atom::Compare(_, form) | Atom::Congruent { form, .. } => form,
+    }
+}
+
+// Counts the ends of a name that has this coefficient in the atom.
+fn count_term(table: &mut Table, atom: &Atom, name: VarId, times: i128) -> Result<(), AllocError>
+    requires { HasRoom (get nat_eq table.old name.number) }
+    ensures { OnOk result (HaveTerm (atom_of atom.now) name.number times (get nat_eq table.old) (get nat_eq table.new)) }
+{
+    let lower = ends_with(atom, times, Side::Lower);
+    let upper = ends_with(atom, times, Side::Upper);
+    let ends = table
+        .entry(name.number)?
+        .or_insert(Ends { lower: 0, upper: 0 });
+    *ends = Ends {
+        lower: raised(ends.lower, lower),
+        upper: raised(ends.upper, upper),
+    };
+    Ok(())
+}
+
+// The ends of a name, none where the table has no entry.
+fn ends_in(table: &Table, name: VarId) -> Ends
+    ensures { result ≡ ends_or_none (get nat_eq table.now name.number) }
+{
+    match table.get(&name.number) {
+        Some(ends) => *ends,
+        None => Ends { lower: 0, upper: 0 },
+    }
+}
+
+// The count, or one more.
+fn raised(count: usize, more: bool) -> usize
+    requires { count + 1 < 2 ^ 64 }
+    ensures { result ≡ count + once more }
+{
+    if more { count + 1 } else { count }
+}
+
+/// How many ends of the name lie to the side.
+pub(crate) fn end_count(table: &Table, name: VarId, side: Side) -> usize
+    ensures { result ≡ end_count side (get nat_eq table.now name.number) }
+{
+    let ends = ends_in(table, name);
+    match side {
+        Side::Lower => ends.lower,
+        Side::Upper => ends.upper,
+    }
+}
+
+/// Whether the name stands in some atom.
+pub(crate) fn stands(table: &Table, name: VarId) -> bool
+    ensures { result ≡ is_some (get nat_eq table.now name.number) }
+{
+    table.contains_key(&name.number)
+}
+
+// Whether the atom has an end that lies to the side, of a name with this coefficient.
+fn ends_with(atom: &Atom, times: i128, side: Side) -> bool
+    ensures { result ≡ ends_with side (atom_of atom.now) times }
+{
+    match atom {
+        Atom::Compare(relation, _) => times != 0 && begins(seen(side, *relation, times < 0)),
+        Atom::Congruent { .. } => false,
+    }
+}
+
+// Whether the relation, as the side sees it, begins to be true at a number.
+fn begins(relation: Rel) -> bool
+    ensures { IsTrue result ↔ IsSome (first_step (relation_of relation)) }
+{
+    match relation {
+        Rel::Equal | Rel::Differs | Rel::Greater | Rel::AtLeast => true,
+        Rel::Less | Rel::AtMost => false,
+    }
+}
