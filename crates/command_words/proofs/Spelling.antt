@@ -1,14 +1,14 @@
 -- Words give at most one choice of options.
-use Rattle.std.proofs.Common.{◌≡◌, ℕ, suc, ◌+◌, ◌-◌, ◌<◌, ◌≤◌, List, [], ◌∷◌, ◌++◌, length, get_or, drop, refl, sym, ap, ◌∙◌, subst, length-drop, take, inl, inr, ◌⊎◌, ⊎_elim, arith}
+use Rattle.std.proofs.Common.{◌≡◌, ℕ, suc, ◌+◌, ◌-◌, ◌<◌, ◌≤◌, List, [], ◌∷◌, ◌++◌, length, get_or, drop, slice_index_or, refl, sym, ap, ◌∙◌, subst, length-drop, take, inl, inr, ◌⊎◌, ⊎_elim, arith, nat_eq, eq-eqb}
 use Rattle.std.proofs.lemmas.List.{drop-drop}
 use Rattle.std.proofs.Math.Seq.{take-length}
 use Rattle.std.specs.Prelude.{Option, Some, None, MatchOption, is_some, true, false, string_bytes}
 use Rattle.std.specs.declared.alloc.Global.{Global}
 use Rattle.std.specs.declared.string.String.{String}
 use Rattle.command_words.specs.declared.options.Choice.{Choice}
-use Rattle.command_words.specs.declared.options.Choice.TheVariants.{Nodes, Generate}
+use Rattle.command_words.specs.declared.options.Choice.TheVariants.{Nodes, Workers, Generate}
 use Rattle.command_words.specs.declared.options.Options.{Options}
-use Rattle.command_words.specs.declared.words.First.{First}
+use Rattle.command_words.specs.declared.options.TheConstants.{CHOICES}
 use Rattle.command_words.specs.Value.{value_of}
 use Rattle.command_words.specs.Words.{name_of, greatest_of, given, with_value, Gives, apart, joined, Begins, SpellsAfter, over, option, Spells, SpellOnce}
 
@@ -27,13 +27,21 @@ record SameName (c d : Choice) (s t : List ℕ) : Type 0 where
   tail : s ≡ t
 
 -- the names differ in the third letter
-other_letter : (m n : ℕ) → m ≡ n → m ≡ 110 → n ≡ 103 → ⊥
-other_letter m n e a b = omega arith
+third_letter : {s t : List ℕ} → s ≡ t → get_or s 2 0 ≡ get_or t 2 0
+third_letter e = ap (λ (xs : List ℕ). get_or xs 2 0) e
+
+differ : (m n : ℕ) → nat_eq m n ≡ false → m ≡ n → ⊥
+differ m n d e = let same : nat_eq m n ≡ true = eq-eqb m n e in absurd (cc)
 
 same_name : (c d : Choice) (s t : List ℕ) → name_of c ++ s ≡ name_of d ++ t → SameName c d s t
 same_name Nodes Nodes s t e = record { choice = refl; tail = ap (λ (xs : List ℕ). drop 7 xs) e }
-same_name Nodes Generate s t e = absurd (other_letter 110 103 (ap (λ (xs : List ℕ). get_or xs 2 0) e) refl refl)
-same_name Generate Nodes s t e = absurd (other_letter 110 103 (sym (ap (λ (xs : List ℕ). get_or xs 2 0) e)) refl refl)
+same_name Nodes Workers s t e = absurd (differ 110 119 refl (third_letter e))
+same_name Nodes Generate s t e = absurd (differ 110 103 refl (third_letter e))
+same_name Workers Nodes s t e = absurd (differ 119 110 refl (third_letter e))
+same_name Workers Workers s t e = record { choice = refl; tail = ap (λ (xs : List ℕ). drop 9 xs) e }
+same_name Workers Generate s t e = absurd (differ 119 103 refl (third_letter e))
+same_name Generate Nodes s t e = absurd (differ 103 110 refl (third_letter e))
+same_name Generate Workers s t e = absurd (differ 103 119 refl (third_letter e))
 same_name Generate Generate s t e = record { choice = refl; tail = ap (λ (xs : List ℕ). drop 10 xs) e }
 
 record SameGift (m n : ℕ) (these those : List (String Global)) : Type 0 where
@@ -174,16 +182,15 @@ begun choice n k words others word tail e w h g =
       },
     )
 
-pub neither : (words : List (String Global)) → ((n : ℕ) (rest : List (String Global)) → ¬ Begins Nodes words n rest) → ((n : ℕ) (rest : List (String Global)) → ¬ Begins Generate words n rest)
-    → (choice : Choice) (n : ℕ) (rest : List (String Global)) → ¬ Begins choice words n rest
-neither words a b Nodes = a
-neither words a b Generate = b
+-- the words begin with none of the options at the places below this one
+abbrev pub BeginsNoneBelow : List (String Global) → ℕ → Type 0
+BeginsNoneBelow words i = (k : ℕ) → k < i → (n : ℕ) (rest : List (String Global)) → ¬ Begins (slice_index_or CHOICES k Nodes) words n rest
 
-pub second : (words : List (String Global)) (Q : First → Type 0) (r : Option First) → ((n : ℕ) (rest : List (String Global)) → ¬ Begins Nodes words n rest)
-    → MatchOption r ((n : ℕ) (rest : List (String Global)) → ¬ Begins Generate words n rest) Q
-    → MatchOption r ((choice : Choice) (n : ℕ) (rest : List (String Global)) → ¬ Begins choice words n rest) Q
-second words Q None a h = neither words a h
-second words Q (Some x) a h = h
+-- each option has a place
+pub none_of_all : (words : List (String Global)) → BeginsNoneBelow words 3 → (choice : Choice) (n : ℕ) (rest : List (String Global)) → ¬ Begins choice words n rest
+none_of_all words none Nodes = none 0 (omega arith)
+none_of_all words none Workers = none 1 (omega arith)
+none_of_all words none Generate = none 2 (omega arith)
 
 -- a range that goes to the end
 pub to_end : (i : ℕ) (words : List (String Global)) → take (length words - i) (drop i words) ≡ drop i words

@@ -9,7 +9,7 @@ use Rattle.clap.specs.Simple.{Shape, built}
 use Rattle.clap.specs.Takes.{react_passes, settle_passes, turn_passes, use_passes}
 use Rattle.clap.specs.declared.builder.value_parser.ValueParser.TheVariants as vp
 use Rattle.command_words.specs.declared.options.Choice.{Choice}
-use Rattle.command_words.specs.declared.options.Choice.TheVariants.{Nodes, Generate}
+use Rattle.command_words.specs.declared.options.Choice.TheVariants.{Nodes, Workers, Generate}
 use Rattle.command_words.specs.Value.{value_of, are_digits, is_digit, number_after}
 use Rattle.command_words.specs.Reading.{app, rule_for}
 use Rattle.command_words.specs.Words.{name_of, id_of}
@@ -34,11 +34,13 @@ pub joined_walks : (choice : Choice) (text : Text) (h : Held)
     → walked shape.rules [] (walk_from h) (name_of choice ++ 61 ∷ text) ≡ walk_from (reacted shape.rules (built_rule choice) (text ∷ []) h)
 unfolding walked
 joined_walks Nodes text h = refl
+joined_walks Workers text h = refl
 joined_walks Generate text h = refl
 
 pub joined_passes : (choice : Choice) (text : Text) (h : Held)
     → turn_passes shape [] (walk_from h) (name_of choice ++ 61 ∷ text) ≡ react_passes shape.rules false (built_rule choice) (text ∷ []) h
 joined_passes Nodes text h = and_true _
+joined_passes Workers text h = and_true _
 joined_passes Generate text h = and_true _
 
 -- what is held while an option waits for its value, and when it has it
@@ -55,10 +57,12 @@ waiting_walk choice h = record (walk_from (waiting_held choice h)) { waiting = o
 pub alone_walks : (choice : Choice) (h : Held) → walked shape.rules [] (walk_from h) (name_of choice) ≡ waiting_walk choice h
 unfolding walked
 alone_walks Nodes h = refl
+alone_walks Workers h = refl
 alone_walks Generate h = refl
 
 pub alone_passes : (choice : Choice) (h : Held) → turn_passes shape [] (walk_from h) (name_of choice) ≡ settle_passes shape.rules false h
 alone_passes Nodes h = and_true _
+alone_passes Workers h = and_true _
 alone_passes Generate h = and_true _
 
 -- a word that begins with no hyphen is the value of the option that waits, and is taken
@@ -66,10 +70,12 @@ value_walks_at : (choice : Choice) (h : Held) (d : ℕ) (ds : Text) → nat_eq d
     → walked shape.rules [] (waiting_walk choice h) (d ∷ ds) ≡ walk_from (filled_held choice (d ∷ ds) h)
 unfolding walked
 value_walks_at Nodes h d ds e = rw e (rw e refl)
+value_walks_at Workers h d ds e = rw e (rw e refl)
 value_walks_at Generate h d ds e = rw e (rw e refl)
 
 value_passes_at : (choice : Choice) (h : Held) (d : ℕ) (ds : Text) → nat_eq d 45 ≡ false → turn_passes shape [] (waiting_walk choice h) (d ∷ ds) ≡ true
 value_passes_at Nodes h d ds e = rw e (rw e refl)
+value_passes_at Workers h d ds e = rw e (rw e refl)
 value_passes_at Generate h d ds e = rw e (rw e refl)
 
 -- a value is digits
@@ -105,9 +111,11 @@ module _ (choice : Choice) (h : Held) (greatest n : ℕ) where
 pub filled_settles : (choice : Choice) (text : Text) (h : Held)
     → settle_passes shape.rules false (filled_held choice text h) ≡ use_passes false (built_rule choice) (text ∷ []) (settled shape.rules h).rows
 filled_settles Nodes text h = refl
+filled_settles Workers text h = refl
 filled_settles Generate text h = refl
 
 pub filled_rows : (choice : Choice) (text : Text) (h : Held)
     → (settled shape.rules (filled_held choice text h)).rows ≡ used (built_rule choice) (text ∷ []) (settled shape.rules h).rows
 filled_rows Nodes text h = refl
+filled_rows Workers text h = refl
 filled_rows Generate text h = refl

@@ -15,7 +15,7 @@ use Rattle.command_words.specs.Words.{name_of, id_of, greatest_of, given, with_v
 use Rattle.command_words.specs.Reading.{app}
 use Rattle.command_words.proofs.Spelling.{InNext, InTail, stands}
 use Rattle.command_words.proofs.Steps.{shape, built_rule, joined_walks, joined_passes, alone_walks, alone_passes, value_walks, value_passes, filled_held, filled_settles, filled_rows}
-use Rattle.command_words.proofs.Rows.{Rowed, no_row, Says, used_rowed, use_taken, rows_give, rows_stay}
+use Rattle.command_words.proofs.Rows.{Rowed, no_row, Says, used_rowed, use_taken, rows_stay}
 
 -- between two options, what is held is what the options so far give
 pub record Holds (before : Options) (h : Held) : Type 0 where
@@ -32,7 +32,7 @@ pub record Reads (all : Options) (words : List Text) (h : Held) : Type 0 where
 module _ {before : Options} {h : Held} (holds : Holds before h) (choice : Choice) (text : Text) (n : ℕ) (free : given choice before ≡ None) (says : Says choice text n) where
   -- after an option with its value after =
   joined_holds : Holds (with_value choice n before) (reacted shape.rules (built_rule choice) (text ∷ []) h)
-  joined_holds = record { settles = refl; rowed = used_rowed holds.rowed choice text n free says }
+  joined_holds = record { settles = refl; rowed = used_rowed holds.rowed choice text free n says }
 
   -- `clap` takes such a word
   joined_taken : react_passes shape.rules false (built_rule choice) (text ∷ []) h ≡ true
@@ -42,7 +42,7 @@ module _ {before : Options} {h : Held} (holds : Holds before h) (choice : Choice
   filled_holds : Holds (with_value choice n before) (filled_held choice text h)
   filled_holds = record {
     settles = filled_settles choice text h ∙ use_taken holds.rowed choice text free;
-    rowed = subst (Rowed (with_value choice n before)) (sym (filled_rows choice text h)) (used_rowed holds.rowed choice text n free says);
+    rowed = subst (Rowed (with_value choice n before)) (sym (filled_rows choice text h)) (used_rowed holds.rowed choice text free n says);
   }
 
   -- a word with its value after =, and the words that follow
@@ -128,5 +128,5 @@ module _ (words : List (String Global)) (all : Options) (spells : Spells words a
   pub values_found : (choice : Choice) → option_and_then (value_of (greatest_of choice)) (first_of (id_of choice) (matches_of app (map string_bytes words))) ≡ given choice all
   values_found choice =
       ap (λ (w : Walk). option_and_then (value_of (greatest_of choice)) (first_of (id_of choice) (finished shape.rules w.held))) reads.ends
-      ∙ ap (λ (rs : List Row). option_and_then (value_of (greatest_of choice)) (first_of (id_of choice) rs)) (rows_stay reads.holds.rowed)
-      ∙ rows_give reads.holds.rowed choice
+      ∙ ap (λ (rs : List Row). option_and_then (value_of (greatest_of choice)) (first_of (id_of choice) rs)) (rows_stay (settled shape.rules reads.end).rows)
+      ∙ reads.holds.rowed.gives choice

@@ -5,7 +5,7 @@ use Rattle.clap.specs.Simple.{on_top}
 use Rattle.clap.specs.declared.builder.ArgAction.TheVariants.{Set}
 use Rattle.clap.specs.declared.parser.matches.ArgMatches.{ArgMatches}
 use Rattle.command_words.specs.declared.options.Choice.{Choice}
-use Rattle.command_words.specs.declared.options.Choice.TheVariants.{Nodes, Generate}
+use Rattle.command_words.specs.declared.options.Choice.TheVariants.{Nodes, Workers, Generate}
 use Rattle.command_words.specs.declared.options.Options.{Options}
 use Rattle.command_words.specs.Value.{value_of}
 use Rattle.command_words.specs.Words.{given, greatest_of, id_of}
@@ -16,9 +16,9 @@ rule_for choice = record (new_rule (id_of choice)) { long = Some (id_of choice);
 
 -- the options in words that begin with no program's name, with no help and no version
 abbrev pub app : App
-app = with_rule (with_rule
+app = with_rule (with_rule (with_rule
     (on_top (λ s. record s { no_binary_name = true; disable_help_flag = true; disable_version_flag = true }) (new_app (codes "redlog")))
-    (rule_for Nodes)) (rule_for Generate)
+    (rule_for Nodes)) (rule_for Workers)) (rule_for Generate)
 
 -- the texts found for the options say the values of these
 abbrev pub HasValues : ArgMatches → Options → Type 0

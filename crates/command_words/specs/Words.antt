@@ -1,38 +1,43 @@
 -- Which words a command line may have, and the options that they give.
-use Rattle.std.specs.Prelude.{◌≡◌, ℕ, List, [], ◌∷◌, ◌++◌, codes, Option, Some, None, string_bytes}
+use Rattle.std.specs.Prelude.{◌≡◌, ℕ, ◌≤◌, List, [], ◌∷◌, ◌++◌, codes, Option, Some, None, IfSome, string_bytes}
 use Rattle.std.specs.declared.alloc.Global.{Global}
 use Rattle.std.specs.declared.string.String.{String}
 use Rattle.command_words.specs.declared.options.Choice.{Choice}
-use Rattle.command_words.specs.declared.options.Choice.TheVariants.{Nodes, Generate}
+use Rattle.command_words.specs.declared.options.Choice.TheVariants.{Nodes, Workers, Generate}
 use Rattle.command_words.specs.declared.options.Options.{Options}
 use Rattle.command_words.specs.Value.{value_of}
 
 abbrev pub name_of : Choice → List ℕ
 name_of Nodes = codes "--nodes"
+name_of Workers = codes "--workers"
 name_of Generate = codes "--generate"
 
 -- the name without its hyphens
 abbrev pub id_of : Choice → List ℕ
 id_of Nodes = codes "nodes"
+id_of Workers = codes "workers"
 id_of Generate = codes "generate"
 
 -- the greatest value of an option
 abbrev pub greatest_of : Choice → ℕ
 greatest_of Nodes = 4000000
+greatest_of Workers = 64
 greatest_of Generate = 100000
 
 -- the value that an option has
 abbrev pub given : Choice → Options → Option ℕ
 given Nodes options = options.nodes
+given Workers options = options.workers
 given Generate options = options.generate
 
 -- these options, and this value of one
 abbrev pub with_value : Choice → ℕ → Options → Options
 with_value Nodes n options = record options { nodes = Some n }
+with_value Workers n options = record options { workers = Some n }
 with_value Generate n options = record options { generate = Some n }
 
 abbrev pub no_options : Options
-no_options = record { nodes = None; generate = None }
+no_options = record { nodes = None; workers = None; generate = None }
 
 -- What stands after the option's name in its word, and the words that follow, give this value, and leave these words: the value is the
 -- next word where nothing stands there, or stands there itself after =.
@@ -58,6 +63,10 @@ pub data SpellsAfter : Options → List (String Global) → Options → Type 0 w
 -- the words are of the form of a command line, each option at most once and in any order, and give these options
 abbrev pub Spells : List (String Global) → Options → Type 0
 Spells words options = SpellsAfter no_options words options
+
+-- each value is from 1 to the greatest of its option
+abbrev pub AreInRange : Options → Type 0
+AreInRange options = (choice : Choice) → IfSome (given choice options) (λ n. (1 ≤ n) × (n ≤ greatest_of choice))
 
 -- words give at most one choice of options
 abbrev pub SpellOnce : Type 0

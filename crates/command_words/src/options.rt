@@ -5,13 +5,18 @@ ghost use Rattle.command_words.specs.Words.{name_of, id_of, greatest_of, given, 
 #[derive(Clone, Copy, Debug, PartialEq, Eq)]
 pub enum Choice {
     Nodes,
+    Workers,
     Generate,
 }
+
+/// The options, in the order of the form.
+pub const CHOICES: [Choice; 3] = [Choice::Nodes, Choice::Workers, Choice::Generate];
 
 /// The values of the options, where they are given.
 #[derive(Clone, Copy, Debug, PartialEq, Eq)]
 pub struct Options {
     pub nodes: Option<u32>,
+    pub workers: Option<u32>,
     pub generate: Option<u32>,
 }
 
@@ -22,6 +27,7 @@ impl Choice {
     {
         match self {
             Choice::Nodes => "--nodes",
+            Choice::Workers => "--workers",
             Choice::Generate => "--generate",
         }
     }
@@ -32,6 +38,7 @@ impl Choice {
     {
         match self {
             Choice::Nodes => "nodes",
+            Choice::Workers => "workers",
             Choice::Generate => "generate",
         }
     }
@@ -42,6 +49,7 @@ impl Choice {
     {
         match self {
             Choice::Nodes => 4_000_000,
+            Choice::Workers => 64,
             Choice::Generate => 100_000,
         }
     }
@@ -54,6 +62,7 @@ impl Options {
     {
         match choice {
             Choice::Nodes => self.nodes.is_some(),
+            Choice::Workers => self.workers.is_some(),
             Choice::Generate => self.generate.is_some(),
         }
     }
@@ -62,14 +71,19 @@ impl Options {
     pub fn with(self, choice: Choice, value: u32) -> Options
         ensures { result ≡ with_value choice value self }
     {
+        let value = Some(value);
         match choice {
             Choice::Nodes => Options {
-                nodes: Some(value),
-                generate: self.generate,
+                nodes: value,
+                ..self
+            },
+            Choice::Workers => Options {
+                workers: value,
+                ..self
             },
             Choice::Generate => Options {
-                nodes: self.nodes,
-                generate: Some(value),
+                generate: value,
+                ..self
             },
         }
     }

@@ -4,7 +4,7 @@ ghost use Rattle.command_words.specs.declared.options.Choice.{Choice};
 ghost use Rattle.command_words.specs.declared.options.Options.{Options};
 ghost use Rattle.command_words.specs.Reading.{HasValues, app, rule_for};
 ghost use Rattle.command_words.specs.Value.{value_of};
-ghost use Rattle.command_words.specs.Words.{greatest_of, id_of, Spells};
+ghost use Rattle.command_words.specs.Words.{greatest_of, id_of, AreInRange, Spells};
 
 use crate::options::{Choice, Options};
 use crate::value::value_of;
@@ -12,14 +12,17 @@ use clap::error::ErrorKind;
 use clap::{Arg, ArgAction, ArgMatches, Command, Error};
 use std::alloc::{AllocError, Global};
 
-/// The options that valid words give, read by `clap`. Its only error is want of memory.
+/// The options that valid words give, read by `clap`: each value is from 1 to the greatest of its option. Its only error is want of
+/// memory.
 pub fn options_of(alloc: Global, words: &[String]) -> Result<Options, AllocError>
     requires { (options : Options) × Spells words.now options }
-    ensures { IfOk result (λ options. Spells words.now options) }
+    ensures spelled { IfOk result (λ options. Spells words.now options) }
+    ensures in_range { IfOk result (λ options. AreInRange options) }
 {
     match matches_of(alloc, words) {
         Ok(matches) => Ok(Options {
             nodes: value_given(&matches, Choice::Nodes),
+            workers: value_given(&matches, Choice::Workers),
             generate: value_given(&matches, Choice::Generate),
         }),
         Err(_) => Err(AllocError),
@@ -36,7 +39,7 @@ fn matches_of<'a>(alloc: Global, words: &'a [String]) -> Result<ArgMatches<'a>, 
     command.try_get_matches_from(words)
 }
 
-/// The command line as `clap` is told of it: the two options, no help and no version.
+/// The command line as `clap` is told of it: the three options, no help and no version.
 fn command_of<'a>(alloc: Global) -> Result<Command<'a>, AllocError>
     ensures { IfOk result (λ command. app_of command ≡ app) }
 {
@@ -45,6 +48,7 @@ fn command_of<'a>(alloc: Global) -> Result<Command<'a>, AllocError>
         .disable_help_flag(true)
         .disable_version_flag(true)
         .arg(arg_of(alloc, Choice::Nodes))?
+        .arg(arg_of(alloc, Choice::Workers))?
         .arg(arg_of(alloc, Choice::Generate))
 }
 

@@ -5,11 +5,11 @@ ghost use Rattle.command_words.specs.declared.options.Choice.{Choice};
 ghost use Rattle.command_words.specs.declared.options.Options.{Options};
 ghost use Rattle.command_words.specs.Words.{Gives, Begins, Spells};
 
-use crate::options::{Choice, Options};
+use crate::options::{CHOICES, Choice, Options};
 use crate::value::value_of;
 
-/// Whether the words of a command line are of the form `[--nodes n] [--generate n]`: each option at most once, in any
-/// order, its value in the next word or after `=`. It takes no memory.
+/// Whether the words of a command line are of the form `[--nodes n] [--workers n] [--generate n]`: each option at
+/// most once, in any order, its value in the next word or after `=`. It takes no memory.
 pub fn are_valid(words: &[String]) -> bool
     ensures { IsTrue result ↔ ((options : Options) × Spells words.now options) }
 {
@@ -22,6 +22,7 @@ fn spelled(words: &[String]) -> Option<Options>
 {
     let mut options = Options {
         nodes: None,
+        workers: None,
         generate: None,
     };
     let mut from = 0;
@@ -50,10 +51,12 @@ fn first_option(words: &[String]) -> Option<First>
         ((choice : Choice) (n : ℕ) (rest : List (String Global)) → ¬ Begins choice words.now n rest)
         (λ first. (0 < first.words) × (first.words ≤ length words.now) × Begins first.choice words.now first.value (drop first.words words.now)) }
 {
-    match option_at(words, Choice::Nodes) {
-        None => option_at(words, Choice::Generate),
-        first => first,
+    'choices: for choice in CHOICES {
+        if let Some(first) = option_at(words, choice) {
+            return Some(first);
+        }
     }
+    None
 }
 
 /// The option that the words begin with, where it is this one.

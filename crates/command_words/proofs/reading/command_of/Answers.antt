@@ -32,4 +32,5 @@ returns c =
     ∙ ap versionless (helpless_is c.no_binary_name.result c.disable_help_flag.result c.disable_help_flag.ensures)
     ∙ ap versionless (ap helpless (unnamed_is c.new.result c.no_binary_name.result c.no_binary_name.ensures ∙ ap unnamed c.new.ensures.app)) in
     let one = c.in_ok-arg.ensures.shape c.arg_of.ensures.local ∙ ap₂ with_rule set c.arg_of.ensures.rule in
-    IfOk-weaker c.arg-2.result _ _ (λ command adds. adds.shape c.arg_of-2.ensures.local ∙ ap₂ with_rule one c.arg_of-2.ensures.rule) c.arg-2.ensures
+    let two = c.in_ok-arg-2.ensures.shape c.arg_of-2.ensures.local ∙ ap₂ with_rule one c.arg_of-2.ensures.rule in
+    IfOk-weaker c.arg-3.result _ _ (λ command adds. adds.shape c.arg_of-3.ensures.local ∙ ap₂ with_rule two c.arg_of-3.ensures.rule) c.arg-3.ensures

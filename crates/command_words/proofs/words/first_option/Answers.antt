@@ -1,9 +1,16 @@
-use Rattle.std.proofs.Common.{◌<◌, ◌≤◌, length, drop}
+use Rattle.std.proofs.Common.{ℕ, List, slice_index_or, arith}
+use borrow.Author.Count.{below_more}
+use Rattle.std.specs.declared.alloc.Global.{Global}
+use Rattle.std.specs.declared.string.String.{String}
+use Rattle.command_words.specs.declared.options.Choice.TheVariants.{Nodes}
+use Rattle.command_words.specs.declared.options.TheConstants.{CHOICES}
 use Rattle.command_words.specs.Words.{Begins}
-use Rattle.command_words.proofs.Spelling.{second}
+use Rattle.command_words.proofs.Spelling.{none_of_all}
 use Rattle.command_words.proofs.words.first_option.Goals as goal
 
-pub returns-in-None : goal.returns-in-None
-returns-in-None c =
-    let words = c.args.words.now in
-    second words (λ first. (0 < first.words) × (first.words ≤ length words) × Begins first.choice words first.value (drop first.words words)) c.option_at-in-None.result c.in-None.ensures c.option_at-in-None.ensures
+pub choices-preserved : goal.choices-preserved
+choices-preserved c =
+    below_more (λ (k : ℕ). (n : ℕ) (rest : List (String Global)) → ¬ Begins (slice_index_or CHOICES k Nodes) c.args.words.now n rest) c.choices.choice-index c.choices.invariant c.in_default.ensures
+
+pub returns : goal.returns
+returns c = none_of_all c.args.words.now (λ k below. c.choices.invariant k (omega arith))
