@@ -1,16 +1,20 @@
 //! Elimination by cases, as commands ask it.
 
-ghost use Rattle.std.specs.Prelude.{◌≤◌, IfOk, IfErr, map};
+ghost use Rattle.std.specs.Prelude.{◌≡◌, ◌≤◌, ℕ, IfOk, IfErr, MatchResult, map};
 ghost use Rattle.std.specs.List.{AllByRecursion};
+ghost use Rattle.formula_meaning.specs.Answer.{Place};
 ghost use Rattle.formula_meaning.specs.Every.{Every};
 ghost use Rattle.formula_meaning.specs.Some.{EachOf};
+ghost use Rattle.formula_meaning.specs.Tree.{Trees};
 ghost use Rattle.atom_normal.specs.Atoms.{context_of, atom_of, IsWellFormed};
 ghost use Rattle.atom_normal.specs.NormalForm.{IsNormal};
-ghost use Rattle.elimination_reference.specs.Reference.{reference};
+ghost use Rattle.elimination_reference.specs.Reference.{reference, normal_tree};
 ghost use Rattle.formula_tree.specs.Makers.{Keeps};
 ghost use Rattle.formula_store.specs.Nodes.{tree, IsId};
 ghost use Rattle.plain_engine.specs.Told.{StopsWith};
+ghost use Rattle.case_theory.specs.Direct.{IsDirect};
 ghost use Rattle.case_trees.specs.CaseTrees.{IsCaseTreeOf};
+ghost use Rattle.block_scheduler.specs.Direct.{IsDirectTree};
 
 use atom_normal::{Atom, Context};
 use block_scheduler::{Limits, eliminate};
@@ -32,8 +36,8 @@ pub struct Engine<'a, R, G> {
 }
 
 impl<R: Threads + Sync, G: Gate + Sync> Engine<'_, R, G> {
-    /// The cases of the formula under the atoms.
-    pub(crate) fn cases(
+    /// The cases of the leading block of the formula under the atoms, as `block_scheduler::eliminate` gives them.
+    pub fn cases(
         &self,
         store: &mut Store,
         id: FormulaId,
@@ -45,6 +49,8 @@ impl<R: Threads + Sync, G: Gate + Sync> Engine<'_, R, G> {
         requires well_formed { AllByRecursion IsWellFormed atoms.now }
         requires workers { 1 ≤ self.now.limits.workers }
         ensures cases { IfOk result (IsCaseTreeOf (context_of self.now.context) (map atom_of atoms.now) (tree store.old id) store.new) }
+        ensures direct { (x : ℕ) (fs : Trees) (s : Place) → self.now.context ≡ Context.Fields → IsDirect self.now.limits.nodes (normal_tree (tree store.old id)) x fs s →
+            MatchResult result (IsDirectTree x fs s store.new) (λ e. e ≡ Measured.Memory) }
         ensures stops { IfErr result (λ e. StopsWith e (reference (context_of self.now.context) self.now.limits.nodes (tree store.old id))) }
         ensures kept { Keeps (IsId store.old) (tree store.old) (IsId store.new) (tree store.new) }
     {

@@ -20,7 +20,8 @@ use Rattle.session_meaning.specs.declared.line.StatementError.TheVariants as err
 use Rattle.session_meaning.specs.State.{State, with_names}
 use Rattle.session_meaning.specs.Words.{before}
 use Rattle.session_meaning.specs.Meaning.{Meaning, variables, numbered, meaning}
-use Rattle.session_meaning.specs.Causes.{Use, HasLongLine, MayBeCause, HasNone, IsFirst, IsAccepted}
+use Rattle.session_meaning.specs.Uses.{Use}
+use Rattle.session_meaning.specs.Causes.{HasLongLine, MayBeCause, HasNone, IsFirst, IsAccepted}
 use Rattle.session_meaning.specs.Reply.{IsLine, AnswersSaid, Answers, Reply}
 use Rattle.session_commands.proofs.CauseLemmas.{no_cause, then_clear, readable_below}
 use Rattle.redlog_run.proofs.Unrefused.{never}
@@ -79,8 +80,10 @@ module _ (s : State) (limit : ℕ) (t : Tree) (bare : IsBare s) (own : IsOwnForm
       then_clear of_line s limit use_of_line error.Text error.Memory refl text (λ h. ⊎_elim no_long_line (λ k. k) h.1)
 
   may_not : (e : StatementError) → MayBeCause of_line s limit use_of_line e → ⊥
-  may_not error.Bindings h = absurd h.1
-  may_not error.Text h = ⊎_elim (λ k. absurd k.1) (λ k. k) h.1
+  may_not error.Overflow h = h.1
+  may_not error.Nodes h = h.1
+  may_not error.Bindings h = absurd h.2
+  may_not error.Text h = ⊎_elim (λ k. absurd k.1) (λ k. k) h.2
   may_not _ h = h
 
   refuses_not : (e : StatementError) → e ≢ error.Memory → IsFirst of_line s limit use_of_line e → ⊥

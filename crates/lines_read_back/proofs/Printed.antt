@@ -29,7 +29,8 @@ use Rattle.session_meaning.specs.declared.line.StatementError.TheVariants as err
 use Rattle.session_meaning.specs.State.{State}
 use Rattle.session_meaning.specs.FormulaAnswers.{negated_of, IsSimplification, IsCleanAnswer, IsCondition}
 use Rattle.session_meaning.specs.Meaning.{Meaning, Answer, OfFormula, OfText, GivesFormula, IsAllowed, MayGive, numbered, meaning}
-use Rattle.session_meaning.specs.Causes.{Use, SomeFormula, IsAccepted}
+use Rattle.session_meaning.specs.Uses.{Use}
+use Rattle.session_meaning.specs.Causes.{SomeFormula, IsAccepted}
 use Rattle.session_meaning.specs.Reply.{Tells, Answers}
 use Rattle.session_commands.specs.Steps.{AreNumbered}
 use Rattle.session_state.specs.Keeping.{IsSessionFormula}

@@ -3,7 +3,7 @@ use Rattle.std.proofs.Common.{◌≡◌, ℕ, ◌+◌, ◌-◌, Bool, true, fals
 use Rattle.std.proofs.lemmas.List.{take-append-drop}
 use Rattle.std.specs.declared.alloc.Global.{Global}
 use Rattle.std.specs.declared.vec.Vec.{Vec}
-use Rattle.session_commands.specs.declared.session.Limits.{Limits}
+use Rattle.block_scheduler.specs.declared.limits.Limits.{Limits}
 use Rattle.script_splitter.specs.declared.splitter.Cut.{Cut}
 use Rattle.script_splitter.specs.Pieces.{Held, Follows, HasBytes, CutsOff, IsLast}
 use Rattle.redlog_tokens.specs.Pieces.{HasNoTokenFrom}

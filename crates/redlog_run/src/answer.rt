@@ -6,12 +6,12 @@ ghost use Rattle.redlog_run.specs.Lines.{refusal_line};
 ghost use Rattle.redlog_run.specs.Run.{RunOf, Adds};
 ghost use Rattle.redlog_run.specs.Script.{Stands, StandsOrEnds};
 
+use crate::team::Team;
+use qe_parallel::Gate;
 use script_splitter::{Cut, Splitter};
 use session_commands::{Limits, Line, Session, StatementError};
 use std::alloc::{AllocError, Global};
-
-/// How many workers a session may have.
-const WORKERS: usize = 4;
+use std::thread::Threads;
 
 /// What a script is answered with: its lines, and whether one of them is a refusal.
 #[derive(Drop)]
@@ -36,17 +36,14 @@ pub struct Step {
     pub ends: bool,
 }
 
-/// A script of which nothing has come yet, under this limit of nodes.
-pub fn begin(alloc: Global, nodes: u64) -> Answering
-    ensures stands { Stands nodes [] [] result }
+/// A script of which nothing has come yet, under these limits.
+pub fn begin(alloc: Global, limits: Limits) -> Answering
+    requires { 1 ≤ limits.workers }
+    ensures stands { Stands limits.nodes [] [] result }
     ensures none { result.splitter.whole ≡ false }
     ensures fed { result.splitter.fed ≡ 0 }
     ensures quiet { result.answers.lines.items ≡ [] }
 {
-    let limits = Limits {
-        nodes,
-        workers: WORKERS,
-    };
     Answering {
         alloc,
         session: Session::new(alloc, limits),
@@ -59,7 +56,11 @@ pub fn begin(alloc: Global, nodes: u64) -> Answering
 }
 
 /// Takes bytes through the first end mark, or all of them, and adds what the piece that ends there is answered with.
-pub fn answer_next(answering: &mut Answering, bytes: &[u8]) -> Result<Step, AllocError>
+pub fn answer_next<R: Threads + Sync, G: Gate + Sync>(
+    team: &Team<'_, R, G>,
+    answering: &mut Answering,
+    bytes: &[u8],
+) -> Result<Step, AllocError>
     requires none { answering.old.splitter.whole ≡ false }
     requires few { answering.old.splitter.fed + length bytes.now < 2 ^ 64 }
     ensures stands { IfOk result (λ step. (limit : ℕ) (given written : List ℕ) → Stands limit given (written ++ answering.old.answers.lines.items) answering.old
@@ -74,6 +75,7 @@ pub fn answer_next(answering: &mut Answering, bytes: &[u8]) -> Result<Step, Allo
         return Ok(Step { taken, ends: false });
     };
     let ends = answer_cut(
+        team,
         answering.alloc,
         &mut answering.session,
         &cut,
@@ -84,7 +86,10 @@ pub fn answer_next(answering: &mut Answering, bytes: &[u8]) -> Result<Step, Allo
 }
 
 /// Adds what the last piece is answered with, which no end mark ends, and gives the answers.
-pub fn answer_last(answering: Answering) -> Result<Answers, AllocError>
+pub fn answer_last<R: Threads + Sync, G: Gate + Sync>(
+    team: &Team<'_, R, G>,
+    answering: Answering,
+) -> Result<Answers, AllocError>
     requires none { answering.splitter.whole ≡ false }
     ensures { IfOk result (λ answers. (limit : ℕ) (given written : List ℕ) → Stands limit given (written ++ answering.answers.lines.items) answering
         → RunOf limit given (written ++ answers.lines.items) answers.refused) }
@@ -98,29 +103,36 @@ pub fn answer_last(answering: Answering) -> Result<Answers, AllocError>
     let Some(cut) = splitter.finish() else {
         return Ok(answers);
     };
-    let _ends = answer_cut(alloc, &mut session, &cut, &mut answers)?;
+    let _ends = answer_cut(team, alloc, &mut session, &cut, &mut answers)?;
     Ok(answers)
 }
 
-/// Answers a whole script under this limit of nodes: its statements in turn, each in the state that the one before left, until one of them
+/// Answers a whole script under these limits: its statements in turn, each in the state that the one before left, until one of them
 /// ends it.
-pub fn answer_script(alloc: Global, nodes: u64, script: &[u8]) -> Result<Answers, AllocError>
-    ensures { IfOk result (λ answers. RunOf nodes script.now answers.lines.items answers.refused) }
+pub fn answer_script<R: Threads + Sync, G: Gate + Sync>(
+    team: &Team<'_, R, G>,
+    alloc: Global,
+    limits: Limits,
+    script: &[u8],
+) -> Result<Answers, AllocError>
+    requires { 1 ≤ limits.workers }
+    ensures { IfOk result (λ answers. RunOf limits.nodes script.now answers.lines.items answers.refused) }
 {
-    let mut answering = begin(alloc, nodes);
+    let mut answering = begin(alloc, limits);
     let mut taken = 0;
     while taken < script.len() {
-        let step = answer_next(&mut answering, &script[taken..])?;
+        let step = answer_next(team, &mut answering, &script[taken..])?;
         if step.ends {
             return Ok(answering.answers);
         }
         taken += step.taken;
     }
-    answer_last(answering)
+    answer_last(team, answering)
 }
 
 /// Adds what a cut is answered with, and says whether it ends the script. A piece past the limit of the splitter is refused.
-fn answer_cut(
+fn answer_cut<R: Threads + Sync, G: Gate + Sync>(
+    team: &Team<'_, R, G>,
     alloc: Global,
     session: &mut Session,
     cut: &Cut,
@@ -131,7 +143,7 @@ fn answer_cut(
     ensures limits { OnOk result (session.new.limits ≡ session.old.limits) }
 {
     match &cut.bytes {
-        Some(bytes) => answer_piece(alloc, session, bytes, cut.offset, answers),
+        Some(bytes) => answer_piece(team, alloc, session, bytes, cut.offset, answers),
         None => {
             add_refusal(alloc, StatementError::Long, cut.offset, answers)?;
             Ok(false)
@@ -140,7 +152,8 @@ fn answer_cut(
 }
 
 /// Adds what a piece at this offset is answered with, and says whether it ends the script.
-fn answer_piece(
+fn answer_piece<R: Threads + Sync, G: Gate + Sync>(
+    team: &Team<'_, R, G>,
     alloc: Global,
     session: &mut Session,
     piece: &[u8],
@@ -150,7 +163,7 @@ fn answer_piece(
     ensures adds { IfOk result (λ ends. Adds (state_in session.old) session.old.limits.nodes piece.now offset ends (state_in session.new) answers.old.lines.items answers.old.refused answers.new.lines.items answers.new.refused) }
     ensures limits { session.new.limits ≡ session.old.limits }
 {
-    match session.statement(piece) {
+    match session.statement(team.rt, piece, team.gate) {
         Ok(Line::Finished) => return Ok(true),
         Ok(Line::Nothing) => (),
         Ok(Line::Printed(text)) => add_line(&text, answers)?,

@@ -8,11 +8,12 @@ mod program;
 mod status;
 mod stop;
 mod stream;
+mod team;
 mod write;
 
 pub use laws::{
     never_refused_is_unrefused, scripts_without_formulas, unrefused_scripts_have_no_refusal,
 };
 pub use process::{WordsError, finish, run_process};
-pub use program::run;
+pub use program::{run, run_gated};
 pub use status::Status;

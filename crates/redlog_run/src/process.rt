@@ -12,6 +12,7 @@ use std::alloc::Global;
 use std::env::{self, Env};
 use std::io::{self, ErrorKind, Read, Write};
 use std::process::ExitCode;
+use std::thread::Threads;
 use thiserror::Error;
 
 /// Why the words of the process were not taken.
@@ -26,7 +27,7 @@ pub enum WordsError {
 /// The whole process: takes the words after the program's name, answers the script that the reader gives on the writer, and
 /// ends with the number of the status. The claim holds of the words that the process has, over ends that have not failed yet and
 /// that tell nothing of what they give and take.
-pub fn run_process<R: Env + AllocGlobal, I: Read + Drop, O: Write + Drop>(
+pub fn run_process<R: Env + AllocGlobal + Threads + Sync, I: Read + Drop, O: Write + Drop>(
     rt: &R,
     input: I,
     output: O,
@@ -35,11 +36,12 @@ pub fn run_process<R: Env + AllocGlobal, I: Read + Drop, O: Write + Drop>(
 {
     let mut source = StdSource::new(input);
     let mut sink = StdSink::new(output);
-    finish(rt.alloc(), words(rt), &mut source, &mut sink)
+    finish(rt, rt.alloc(), words(rt), &mut source, &mut sink)
 }
 
 /// Answers the script of the source, under these words, and gives what the process ends with: the number of the status.
-pub fn finish<S: Source, K: Sink>(
+pub fn finish<R: Threads + Sync, S: Source, K: Sink>(
+    rt: &R,
     alloc: Global,
     words: Result<Vec<String>, WordsError>,
     source: &mut S,
@@ -49,7 +51,7 @@ pub fn finish<S: Source, K: Sink>(
         (ends (S.left source.old) (S.faults source.old) (K.wrote sink.old) (K.faults sink.old))
         (ends (S.left source.new) (S.faults source.new) (K.wrote sink.new) (K.faults sink.new))) }
 {
-    let status = answer_words(alloc, words, source, sink);
+    let status = answer_words(rt, alloc, words, source, sink);
     exit_code(status)
 }
 
@@ -61,7 +63,8 @@ fn exit_code(status: Status) -> ExitCode
 }
 
 /// Runs under these words.
-fn answer_words<S: Source, K: Sink>(
+fn answer_words<R: Threads + Sync, S: Source, K: Sink>(
+    rt: &R,
     alloc: Global,
     words: Result<Vec<String>, WordsError>,
     source: &mut S,
@@ -72,7 +75,7 @@ fn answer_words<S: Source, K: Sink>(
         (ends (S.left source.new) (S.faults source.new) (K.wrote sink.new) (K.faults sink.new)) result }
 {
     match words {
-        Ok(words) => run(alloc, &words, source, sink),
+        Ok(words) => run(rt, alloc, &words, source, sink),
         Err(WordsError::NoText) => Status::Usage,
         Err(WordsError::Memory) => Status::Memory,
     }

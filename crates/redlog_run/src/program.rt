@@ -1,22 +1,35 @@
-ghost use Rattle.std.specs.Prelude.{◌≡◌, IfOk};
+ghost use Rattle.std.specs.Prelude.{◌≡◌, ◌≤◌, IfOk};
+ghost use Rattle.command_words.specs.Words.{AreInRange};
 ghost use Rattle.redlog_run.specs.Claim.{Claim, ClaimUnder};
 ghost use Rattle.redlog_run.specs.Ends.{ends};
-ghost use Rattle.redlog_run.specs.Outcome.{node_limit};
+ghost use Rattle.redlog_run.specs.Outcome.{node_limit, worker_limit};
 ghost use Rattle.redlog_run.specs.Steps.{ClaimOfGenerated, IsTally};
 
 use crate::answer::answer_script;
 use crate::status::Status;
 use crate::stream::answer_source;
+use crate::team::Team;
 use crate::write::write_answer;
 use command_words::{Options, are_valid, options_of};
 use generated_scripts::{generated, tally};
 use qe_io::{Sink, Source};
+use qe_parallel::{Gate, OpenGate};
+use session_commands::Limits;
 use std::alloc::{AllocError, Global};
+use std::thread::Threads;
+
+/// The limit of nodes where none is given.
+const NODES: u64 = 1_000_000;
+
+/// How many threads work on an elimination where no number is given.
+const WORKERS: usize = 4;
 
 /// Reads a script from the source and writes the lines of its answers to the sink, under the words
-/// `[--nodes n] [--generate n]`: the first gives the limit of nodes, and under the second the script is a generated one, nothing is
-/// read, and one line says how many of its answers are true, false and refusals. What is promised is the claim of `specs/Claim.antt`.
-pub fn run<S: Source, K: Sink>(
+/// `[--nodes n] [--workers n] [--generate n]`: the first gives the limit of nodes; the second how many threads work on an
+/// elimination, at most, which changes no line; and under the third the script is a generated one, nothing is read, and one line says how
+/// many of its answers are true, false and refusals. What is promised is the claim of `specs/Claim.antt`.
+pub fn run<R: Threads + Sync, S: Source, K: Sink>(
+    rt: &R,
     alloc: Global,
     words: &[String],
     source: &mut S,
@@ -26,59 +39,98 @@ pub fn run<S: Source, K: Sink>(
         (ends (S.left source.old) (S.faults source.old) (K.wrote sink.old) (K.faults sink.old))
         (ends (S.left source.new) (S.faults source.new) (K.wrote sink.new) (K.faults sink.new)) result }
 {
+    run_gated(rt, alloc, words, source, sink, &OpenGate)
+}
+
+/// The same, where the gate is passed before each piece of an elimination that is shared out to threads.
+pub fn run_gated<R: Threads + Sync, S: Source, K: Sink, G: Gate + Sync>(
+    rt: &R,
+    alloc: Global,
+    words: &[String],
+    source: &mut S,
+    sink: &mut K,
+    gate: &G,
+) -> Status
+    ensures { Claim words.now
+        (ends (S.left source.old) (S.faults source.old) (K.wrote sink.old) (K.faults sink.old))
+        (ends (S.left source.new) (S.faults source.new) (K.wrote sink.new) (K.faults sink.new)) result }
+{
     if !are_valid(words) {
         return Status::Usage;
     }
     match options_of(alloc, words) {
-        Ok(options) => answer_under(alloc, options, source, sink),
+        Ok(options) => answer_under(&Team { rt, gate }, alloc, options, source, sink),
         Err(_) => Status::Memory,
     }
 }
 
 /// Answers under these options.
-fn answer_under<S: Source, K: Sink>(
+fn answer_under<R: Threads + Sync, S: Source, K: Sink, G: Gate + Sync>(
+    team: &Team<'_, R, G>,
     alloc: Global,
     options: Options,
     source: &mut S,
     sink: &mut K,
 ) -> Status
+    requires { AreInRange options }
     ensures { ClaimUnder options
         (ends (S.left source.old) (S.faults source.old) (K.wrote sink.old) (K.faults sink.old))
         (ends (S.left source.new) (S.faults source.new) (K.wrote sink.new) (K.faults sink.new)) result }
 {
-    let nodes = node_limit(options);
+    let limits = limits_of(options);
     match options.generate {
-        Some(count) => answer_generated(alloc, nodes, count, sink),
-        None => answer_source(alloc, nodes, source, sink),
+        Some(count) => answer_generated(team, alloc, limits, count, sink),
+        None => answer_source(team, alloc, limits, source, sink),
     }
 }
 
-/// The limit of nodes of the session.
-fn node_limit(options: Options) -> u64
-    ensures { result ≡ node_limit options }
+/// The limits of the session.
+fn limits_of(options: Options) -> Limits
+    requires { AreInRange options }
+    ensures nodes { result.nodes ≡ node_limit options }
+    ensures workers { result.workers ≡ worker_limit options }
+    ensures some { 1 ≤ result.workers }
 {
-    match options.nodes {
+    let nodes = match options.nodes {
         Some(nodes) => nodes as u64,
-        None => 1_000_000,
-    }
+        None => NODES,
+    };
+    let workers = match options.workers {
+        Some(workers) => workers as usize,
+        None => WORKERS,
+    };
+    Limits { nodes, workers }
 }
 
 /// Answers the generated script with this number of statements in each theory, and writes the line that counts its answers.
-fn answer_generated<K: Sink>(alloc: Global, nodes: u64, count: u32, sink: &mut K) -> Status
-    ensures { ClaimOfGenerated nodes count (K.wrote sink.old) (K.wrote sink.new) (K.faults sink.old) (K.faults sink.new) result }
+fn answer_generated<R: Threads + Sync, K: Sink, G: Gate + Sync>(
+    team: &Team<'_, R, G>,
+    alloc: Global,
+    limits: Limits,
+    count: u32,
+    sink: &mut K,
+) -> Status
+    requires { 1 ≤ limits.workers }
+    ensures { ClaimOfGenerated limits.nodes count (K.wrote sink.old) (K.wrote sink.new) (K.faults sink.old) (K.faults sink.new) result }
 {
-    match tallied(alloc, nodes, count) {
+    match tallied(team, alloc, limits, count) {
         Ok((line, refused)) => write_answer(sink, &line, refused),
         Err(_) => Status::Memory,
     }
 }
 
 /// The line that counts the answers of the generated script, and whether one of them is a refusal.
-fn tallied(alloc: Global, nodes: u64, count: u32) -> Result<(Vec<u8>, bool), AllocError>
-    ensures { IfOk result (λ r. IsTally nodes count r.0.items r.1) }
+fn tallied<R: Threads + Sync, G: Gate + Sync>(
+    team: &Team<'_, R, G>,
+    alloc: Global,
+    limits: Limits,
+    count: u32,
+) -> Result<(Vec<u8>, bool), AllocError>
+    requires { 1 ≤ limits.workers }
+    ensures { IfOk result (λ r. IsTally limits.nodes count r.0.items r.1) }
 {
     let script = generated(alloc, count)?;
-    let answers = answer_script(alloc, nodes, &script)?;
+    let answers = answer_script(team, alloc, limits, &script)?;
     let line = tally(alloc, &answers.lines)?;
     Ok((line, answers.refused))
 }

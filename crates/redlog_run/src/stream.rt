@@ -1,4 +1,4 @@
-ghost use Rattle.std.specs.Prelude.{◌≡◌, ℕ, ◌+◌, ◌<◌, ◌^◌, List, [], false, length, Option, IfOk, IfErr, OnOk};
+ghost use Rattle.std.specs.Prelude.{◌≡◌, ℕ, ◌+◌, ◌<◌, ◌≤◌, ◌^◌, List, [], false, length, Option, IfOk, IfErr, OnOk};
 ghost use Rattle.redlog_run.specs.Ends.{ends};
 ghost use Rattle.redlog_run.specs.Script.{IsWritten, AnswersBytes, AnswersLast, AnswerCause, stream_status};
 ghost use Rattle.redlog_run.specs.Steps.{ClaimOfSource};
@@ -6,9 +6,13 @@ ghost use Rattle.redlog_run.specs.Steps.{ClaimOfSource};
 use crate::answer::{Answering, answer_last, answer_next, begin};
 use crate::status::Status;
 use crate::stop::{AnswerStop, StreamStop};
+use crate::team::Team;
 use crate::write::{write_all, write_lines};
 use qe_io::{Sink, Source};
+use qe_parallel::Gate;
+use session_commands::Limits;
 use std::alloc::Global;
+use std::thread::Threads;
 
 /// A script is at most so long, in bytes.
 const SCRIPT_LIMIT: usize = 1_099_511_627_776;
@@ -17,42 +21,46 @@ const SCRIPT_LIMIT: usize = 1_099_511_627_776;
 const READ_SIZE: usize = 16_384;
 
 /// Answers the script of the source: each piece as soon as it is read.
-pub fn answer_source<S: Source, K: Sink>(
+pub fn answer_source<R: Threads + Sync, S: Source, K: Sink, G: Gate + Sync>(
+    team: &Team<'_, R, G>,
     alloc: Global,
-    nodes: u64,
+    limits: Limits,
     source: &mut S,
     sink: &mut K,
 ) -> Status
-    ensures { ClaimOfSource nodes
+    requires { 1 ≤ limits.workers }
+    ensures { ClaimOfSource limits.nodes
         (ends (S.left source.old) (S.faults source.old) (K.wrote sink.old) (K.faults sink.old))
         (ends (S.left source.new) (S.faults source.new) (K.wrote sink.new) (K.faults sink.new)) result }
 {
-    stream_status(answer_reads(alloc, nodes, source, sink))
+    stream_status(answer_reads(team, alloc, limits, source, sink))
 }
 
 /// Answers what one read after another gives, to the end of the source or of the script, and says whether some line is a refusal.
-fn answer_reads<S: Source, K: Sink>(
+fn answer_reads<R: Threads + Sync, S: Source, K: Sink, G: Gate + Sync>(
+    team: &Team<'_, R, G>,
     alloc: Global,
-    nodes: u64,
+    limits: Limits,
     source: &mut S,
     sink: &mut K,
 ) -> Result<bool, StreamStop>
-    ensures { ClaimOfSource nodes
+    requires { 1 ≤ limits.workers }
+    ensures { ClaimOfSource limits.nodes
         (ends (S.left source.old) (S.faults source.old) (K.wrote sink.old) (K.faults sink.old))
         (ends (S.left source.new) (S.faults source.new) (K.wrote sink.new) (K.faults sink.new)) (stream_status result) }
 {
-    let mut answering = begin(alloc, nodes);
+    let mut answering = begin(alloc, limits);
     let mut buffer = [0u8; READ_SIZE];
     let mut left = SCRIPT_LIMIT;
     for _turn in 0..SCRIPT_LIMIT + 1 {
         let count = source.read(&mut buffer)?;
         if count == 0 {
-            let refused = answer_end(sink, answering)?;
+            let refused = answer_end(team, sink, answering)?;
             return Ok(refused);
         }
         let given = &buffer[..count];
         let few = count.min(left);
-        if answer_bytes(sink, &mut answering, &given[..few])? {
+        if answer_bytes(team, sink, &mut answering, &given[..few])? {
             return Ok(answering.answers.refused);
         }
         if few < count {
@@ -64,7 +72,8 @@ fn answer_reads<S: Source, K: Sink>(
 }
 
 /// Answers the pieces that end in these bytes and writes their lines, and says whether a statement ended the script.
-fn answer_bytes<K: Sink>(
+fn answer_bytes<R: Threads + Sync, K: Sink, G: Gate + Sync>(
+    team: &Team<'_, R, G>,
     sink: &mut K,
     answering: &mut Answering,
     bytes: &[u8],
@@ -82,7 +91,7 @@ fn answer_bytes<K: Sink>(
 {
     let mut taken = 0;
     while taken < bytes.len() {
-        let step = answer_next(answering, &bytes[taken..])?;
+        let step = answer_next(team, answering, &bytes[taken..])?;
         write_lines(sink, &mut answering.answers)?;
         if step.ends {
             return Ok(true);
@@ -93,7 +102,11 @@ fn answer_bytes<K: Sink>(
 }
 
 /// Answers the last piece, and writes its line.
-fn answer_end<K: Sink>(sink: &mut K, answering: Answering) -> Result<bool, AnswerStop>
+fn answer_end<R: Threads + Sync, K: Sink, G: Gate + Sync>(
+    team: &Team<'_, R, G>,
+    sink: &mut K,
+    answering: Answering,
+) -> Result<bool, AnswerStop>
     requires none { answering.splitter.whole ≡ false }
     requires quiet { answering.answers.lines.items ≡ [] }
     ensures answers { (limit : ℕ) (script : List ℕ) (first : Option (List ℕ)) → IsWritten limit script first (K.wrote sink.old) answering
@@ -101,7 +114,7 @@ fn answer_end<K: Sink>(sink: &mut K, answering: Answering) -> Result<bool, Answe
     ensures no_fault { OnOk result (K.faults sink.new ≡ K.faults sink.old) }
     ensures stop { IfErr result (AnswerCause (K.faults sink.old) (K.faults sink.new)) }
 {
-    let answers = answer_last(answering)?;
+    let answers = answer_last(team, answering)?;
     write_all(sink, &answers.lines)?;
     Ok(answers.refused)
 }

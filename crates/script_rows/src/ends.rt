@@ -3,6 +3,7 @@
 use qe_io::{MemorySink, MemorySource};
 use redlog_run::run;
 use std::alloc::{AllocError, Global};
+use std::thread::Threads;
 
 /// How the script comes and its lines go.
 #[derive(Drop)]
@@ -53,18 +54,19 @@ impl Ends {
     }
 
     /// What the script is answered with between these ends, under the words.
-    pub(crate) fn answer(
+    pub(crate) fn answer<R: Threads + Sync + AllocGlobal>(
         &self,
-        alloc: Global,
+        rt: &R,
         words: &[String],
         script: &[u8],
     ) -> Result<Answer, AllocError> {
+        let alloc = rt.alloc();
         let bytes = script.to_vec(alloc)?;
         let mut source = MemorySource::new(bytes, self.piece.max(1), self.reads.clone()?);
         let Ok(mut sink) = MemorySink::new(alloc, self.room, self.writes.clone()?) else {
             return Err(AllocError);
         };
-        let status = run(alloc, words, &mut source, &mut sink);
+        let status = run(rt, alloc, words, &mut source, &mut sink);
         Ok(Answer {
             lines: sink.written().to_vec(alloc)?,
             status: status.number(),

@@ -3,15 +3,19 @@
 #![tactic(auto)]
 
 mod ends;
+mod meeting;
 mod row;
 mod text;
 
+use crate::meeting::at_once;
 use crate::row::Row;
 use redlog_run::{Status, run_process};
+use std::fs::Files;
 use std::io;
 use std::process::ExitCode;
+use std::thread::Threads;
 
-/// Answered under the limit of 14 nodes, and refused under that of 13, which the words of the gate give.
+/// A formula of four nodes: answered under the limit of 4 nodes, and refused under that of 3, which the words of the gate give.
 const LAST: &[u8] = b"rlqe ex(x,x=a and x<b);";
 
 /// The program ends with this where the rows were not read or what becomes of them was not written.
@@ -31,9 +35,9 @@ fn main(rt: HostRuntime) -> ExitCode {
     }
 }
 
-/// Answers the rows, and tells how many there are and how many failed.
-fn answer_rows(rt: &HostRuntime) -> io::Result<()> {
-    let text = io::read_to_string(rt.alloc(), rt.stdin())?;
+/// Answers the rows, and tells whether threads work at once, how many rows there are and how many failed.
+fn answer_rows<R: Threads + Sync + Input + Print + Files + AllocGlobal>(rt: &R) -> io::Result<()> {
+    let text = io::read_to_string(rt.alloc(), rt.reader())?;
     let mut row = Row::new(rt.alloc());
     let mut tally = Tally { rows: 0, failed: 0 };
     for line in text.lines() {
@@ -49,13 +53,28 @@ fn answer_rows(rt: &HostRuntime) -> io::Result<()> {
     let Tally { rows, failed } = tally;
     let memory = Status::Memory.number();
     println!(rt; "where memory runs out the status is {memory}")?;
+    let threads = threads_told(rt)?;
+    println!(rt; "{threads}")?;
     println!(rt; "{rows} rows, {failed} failed")
 }
 
+/// Whether two threads work on an elimination at once.
+fn threads_told<R: Threads + Sync + AllocGlobal>(rt: &R) -> io::Result<&'static str> {
+    if at_once(rt)? {
+        return Ok("two threads at once");
+    }
+    Ok("not at once")
+}
+
 /// Counts the row, and prints it where it is not answered as it expects.
-fn count(rt: &HostRuntime, tally: &mut Tally, row: &Row, status: &str) -> io::Result<()> {
+fn count<R: Threads + Sync + Print + AllocGlobal>(
+    rt: &R,
+    tally: &mut Tally,
+    row: &Row,
+    status: &str,
+) -> io::Result<()> {
     tally.rows = tally.rows.saturating_add(1);
-    let failure = row.failure(rt.alloc(), status)?;
+    let failure = row.failure(rt, status)?;
     if let Some(failure) = failure {
         tally.failed = tally.failed.saturating_add(1);
         println!(rt; "failed: {failure}")?;

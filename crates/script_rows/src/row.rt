@@ -4,7 +4,9 @@ use crate::ends::{Answer, Ends};
 use crate::text::{add_line, add_numbered, add_repeated, told};
 use redlog_run::Status;
 use std::alloc::{AllocError, Global};
-use std::{fs, io};
+use std::fs::{self, Files};
+use std::io;
+use std::thread::Threads;
 
 /// The bytes in a read of the tries that are to be answered alike.
 const PIECES: [usize; 4] = [1, 2, 3, 7];
@@ -44,7 +46,7 @@ impl Row {
 
     /// Takes a line of the row: a word after `$ `, a part of the script after `>` or `< `, what else is so after `& `, a remark
     /// after `#`, or an expected line. A line that is not of these forms is one that no script is answered with.
-    pub(crate) fn take(&mut self, rt: &HostRuntime, line: &str) -> io::Result<()> {
+    pub(crate) fn take<R: Files + AllocGlobal>(&mut self, rt: &R, line: &str) -> io::Result<()> {
         let alloc = rt.alloc();
         let is_taken = if let Some(word) = line.strip_prefix("$ ") {
             let word = word.to_string(alloc)?;
@@ -72,7 +74,7 @@ impl Row {
     }
 
     /// The script is that of a file, and the lines are those of the file beside it.
-    fn take_files(&mut self, rt: &HostRuntime, name: &str) -> io::Result<()> {
+    fn take_files<R: Files + AllocGlobal>(&mut self, rt: &R, name: &str) -> io::Result<()> {
         let path = format!(in rt.alloc(); "{name}.red")?;
         let script = fs::read_to_string(rt, path.as_str())?;
         self.script.extend_from_slice(script.as_bytes())?;
@@ -127,16 +129,16 @@ impl Row {
     }
 
     /// What is not as the row expects, if anything is.
-    pub(crate) fn failure(
+    pub(crate) fn failure<R: Threads + Sync + AllocGlobal>(
         &self,
-        alloc: Global,
+        rt: &R,
         status: &str,
     ) -> Result<Option<String>, AllocError> {
-        if let Some(failure) = self.difference(alloc, status)? {
+        if let Some(failure) = self.difference(rt, status)? {
             return Ok(Some(failure));
         }
         for tried in &self.tries {
-            if let Some(failure) = self.tried(alloc, *tried)? {
+            if let Some(failure) = self.tried(rt, *tried)? {
                 return Ok(Some(failure));
             }
         }
@@ -144,17 +146,26 @@ impl Row {
     }
 
     /// What is found otherwise where this is tried.
-    fn tried(&self, alloc: Global, tried: Try) -> Result<Option<String>, AllocError> {
+    fn tried<R: Threads + Sync + AllocGlobal>(
+        &self,
+        rt: &R,
+        tried: Try,
+    ) -> Result<Option<String>, AllocError> {
         match tried {
-            Try::FailingReads(count) => self.failing_read(alloc, count),
-            Try::Fronts => self.front(alloc),
-            Try::Replaced(byte) => self.replaced(alloc, byte),
+            Try::FailingReads(count) => self.failing_read(rt, count),
+            Try::Fronts => self.front(rt),
+            Try::Replaced(byte) => self.replaced(rt, byte),
         }
     }
 
     /// The answer, where it is not the expected one.
-    fn difference(&self, alloc: Global, status: &str) -> Result<Option<String>, AllocError> {
-        let answer = self.ends.answer(alloc, &self.words, &self.script)?;
+    fn difference<R: Threads + Sync + AllocGlobal>(
+        &self,
+        rt: &R,
+        status: &str,
+    ) -> Result<Option<String>, AllocError> {
+        let alloc = rt.alloc();
+        let answer = self.ends.answer(rt, &self.words, &self.script)?;
         let found = answer.status;
         let number = format!(in alloc; "{found}")?;
         let lines = told(alloc, &answer.lines)?;
@@ -171,14 +182,19 @@ impl Row {
     }
 
     /// The first read at whose fault the answer is not the status of such faults alone.
-    fn failing_read(&self, alloc: Global, count: u64) -> Result<Option<String>, AllocError> {
+    fn failing_read<R: Threads + Sync + AllocGlobal>(
+        &self,
+        rt: &R,
+        count: u64,
+    ) -> Result<Option<String>, AllocError> {
+        let alloc = rt.alloc();
         let silent = Answer {
             lines: Vec::new(alloc),
             status: Status::ReadFault.number(),
         };
         for read in 0..count {
             let ends = self.ends.failing_at(read)?;
-            let answer = ends.answer(alloc, &self.words, &self.script)?;
+            let answer = ends.answer(rt, &self.words, &self.script)?;
             if !answer.is_same(&silent) {
                 return Ok(Some(format!(in alloc;
                     "where the read {read} fails the status is another"
@@ -189,9 +205,10 @@ impl Row {
     }
 
     /// The first front of the script that is answered otherwise in pieces.
-    fn front(&self, alloc: Global) -> Result<Option<String>, AllocError> {
+    fn front<R: Threads + Sync + AllocGlobal>(&self, rt: &R) -> Result<Option<String>, AllocError> {
+        let alloc = rt.alloc();
         for end in 0..self.script.len() {
-            if !self.is_alike(alloc, &self.script[..end])? {
+            if !self.is_alike(rt, &self.script[..end])? {
                 return Ok(Some(format!(in alloc;
                     "the first {end} bytes are answered otherwise in pieces"
                 )?));
@@ -201,12 +218,17 @@ impl Row {
     }
 
     /// The first place at which the script with this byte is answered otherwise in pieces.
-    fn replaced(&self, alloc: Global, byte: u8) -> Result<Option<String>, AllocError> {
+    fn replaced<R: Threads + Sync + AllocGlobal>(
+        &self,
+        rt: &R,
+        byte: u8,
+    ) -> Result<Option<String>, AllocError> {
+        let alloc = rt.alloc();
         let mut script = self.script.clone()?;
         for place in 0..script.len() {
             let before = script[place];
             script[place] = byte;
-            if !self.is_alike(alloc, &script)? {
+            if !self.is_alike(rt, &script)? {
                 return Ok(Some(format!(in alloc;
                     "with {byte} at {place} it is answered otherwise in pieces"
                 )?));
@@ -217,11 +239,15 @@ impl Row {
     }
 
     /// Whether the script is answered as it is in each size of pieces.
-    fn is_alike(&self, alloc: Global, script: &[u8]) -> Result<bool, AllocError> {
-        let whole = self.ends.answer(alloc, &self.words, script)?;
+    fn is_alike<R: Threads + Sync + AllocGlobal>(
+        &self,
+        rt: &R,
+        script: &[u8],
+    ) -> Result<bool, AllocError> {
+        let whole = self.ends.answer(rt, &self.words, script)?;
         for piece in PIECES {
             let ends = self.ends.in_pieces(piece)?;
-            let answer = ends.answer(alloc, &self.words, script)?;
+            let answer = ends.answer(rt, &self.words, script)?;
             if !answer.is_same(&whole) {
                 return Ok(false);
             }

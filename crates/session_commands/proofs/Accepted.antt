@@ -49,8 +49,10 @@ module _ (s : State) (limit : ℕ) (printed : Bool) where
   no_cause error.Memory h = h
 
   no_other : (e : StatementError) → MayBeCause of_true s limit (use_of None printed) e → ⊥
-  no_other error.Bindings h = absurd h.1
-  no_other error.Text h = ⊎_elim (λ k. absurd k.1) (λ k. k) h.1
+  no_other error.Overflow h = h.1
+  no_other error.Nodes h = h.1
+  no_other error.Bindings h = absurd h.2
+  no_other error.Text h = ⊎_elim (λ k. absurd k.1) (λ k. k) h.2
   no_other _ h = h
 
 pub truth_is_never_refused : TruthIsNeverRefused

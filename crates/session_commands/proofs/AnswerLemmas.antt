@@ -12,7 +12,8 @@ use Rattle.session_meaning.specs.declared.line.Line.{Line}
 use Rattle.session_meaning.specs.State.{State, with_names}
 use Rattle.session_commands.specs.Replies.{use_of, Refuses, IsStopped, IsFormulaAnswer, IsQueryAnswer, BindsFormula}
 use Rattle.session_meaning.specs.Meaning.{Answer, OfFormula, OfText, meaning, numbered, Meaning, MayGive, GivesFormula}
-use Rattle.session_meaning.specs.Causes.{Use, formula_line, IsFirst}
+use Rattle.session_meaning.specs.Uses.{Use, formula_line}
+use Rattle.session_meaning.specs.Causes.{IsFirst}
 use Rattle.session_meaning.specs.Reply.{Tells, AnswersSaid, Answers, RefusesAction, SpellsRefused, Reply}
 use Rattle.session_meaning.specs.declared.line.StatementError.{StatementError}
 use Rattle.session_meaning.specs.declared.line.StatementError.TheVariants as error

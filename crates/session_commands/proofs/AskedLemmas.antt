@@ -24,7 +24,8 @@ use Rattle.session_commands.specs.Replies.{use_of, Refuses}
 use Rattle.session_commands.specs.Steps.{static_refusal, HasNumbers, IsUnread, IsReadable, AreNumbered, HasNoEarlier, IsFirstAmong}
 use Rattle.session_commands.specs.Asked.{RefusesBoth, AcceptsBoth, entry_names, stop_of, IsBoundName, IsClear, PointStop, IsValued, ValuedStop}
 use Rattle.session_meaning.specs.Meaning.{meaning, Meaning}
-use Rattle.session_meaning.specs.Causes.{Use, IsCause, HasNone}
+use Rattle.session_meaning.specs.Uses.{Use}
+use Rattle.session_meaning.specs.Causes.{IsCause, HasNone}
 use Rattle.session_meaning.specs.Words.{before, order}
 use Rattle.session_state.proofs.BindingLemmas.{trees_find}
 use Rattle.session_commands.proofs.CauseLemmas.{then_clear, overflow_here, to_point, first_in_reading, bound_first, readable_part}

@@ -11,7 +11,8 @@ use Rattle.session_meaning.specs.declared.line.StatementError.{StatementError}
 use Rattle.session_meaning.specs.declared.line.StatementError.TheVariants as error
 use Rattle.session_commands.specs.Steps.{static_refusal, HasNumbers, IsReadable, AreNumbered, AreReadable, AppliesAmong, HasNoEarlier, IsFirstAmong, AreUnread}
 use Rattle.session_meaning.specs.Meaning.{Meaning}
-use Rattle.session_meaning.specs.Causes.{Use, SomeFormula, IsCause, HasNone, IsAccepted, IsFirst}
+use Rattle.session_meaning.specs.Uses.{Use}
+use Rattle.session_meaning.specs.Causes.{SomeFormula, IsCause, HasNone, IsAccepted, IsFirst}
 use Rattle.session_meaning.specs.Words.{before, order}
 use Rattle.session_meaning.specs.State.{State}
 use Rattle.session_commands.proofs.PartLemmas.{some_formula, no_formula}

@@ -1,8 +1,9 @@
 -- Commands that give a formula: what they give, when they are accepted, and why they are refused.
-use Rattle.std.proofs.Common.{◌≡◌, ◌⊎◌, inl, inr, ℕ, ◌<◌, List, [], ◌∷◌, ◌++◌, Bool, true, Option, Some, None, sym, ap, ◌∙◌, subst, refl, length, codes, nat_eq, arith, ◌↔◌, ◌≤◌}
+use Rattle.std.proofs.Common.{◌≡◌, ◌⊎◌, inl, inr, ⊎_elim, ℕ, ◌<◌, List, [], ◌∷◌, ◌++◌, Bool, true, Option, Some, None, sym, ap, ◌∙◌, subst, refl, length, codes, nat_eq, arith, ◌↔◌, ◌≤◌}
 use Rattle.std.proofs.lemmas.List.{length-append}
 use Rattle.std.specs.List.{fold}
-use Rattle.formula_meaning.specs.Formula.{none, also}
+use Rattle.case_theory.specs.Direct.{direct_answer}
+use Rattle.formula_meaning.specs.Formula.{No, none, also}
 use Rattle.formula_meaning.specs.Point.{Of, Point}
 use Rattle.formula_meaning.specs.Same.{same_atom}
 use Rattle.formula_meaning.specs.Tree.{Tree, TrueAt}
@@ -20,16 +21,21 @@ use Rattle.formula_meaning.specs.Every.{Every}
 use Rattle.formula_meaning.specs.Numbers.{IsAtomInLimit}
 use Rattle.formula_meaning.specs.Sizes.{nodes}
 use Rattle.formula_meaning.specs.Some.{EachOf}
-use Rattle.formula_tree.specs.Resolving.{bound_truth, formula_variables, all_variables, resolve, at_names}
+use Rattle.formula_tree.specs.Resolving.{BoundTrees, bound_truth, formula_variables, all_variables, resolve, at_names}
 use Rattle.qe_syntax.specs.Value as written
 use Rattle.redlog_printer.specs.Text.{tree_text}
 use Rattle.session_commands.specs.Replies.{use_of, Refuses, state_with, IsFormulaAnswer}
-use Rattle.session_commands.specs.Steps.{forms_refusal, given_trees, form_of, command_of, HasNumbers, IsReadable, AreNumbered, AreReadable, HasNoEarlier, AreUnread, HasUnwantedQuantifier, IsReady, IsUnready, MayBind, TargetFault, LineFault}
+use Rattle.session_commands.specs.Steps.{forms_refusal, given_trees, form_of, command_of, HasNumbers, IsReadable, AreNumbered, AreReadable, HasNoEarlier, AreUnread, HasUnwantedQuantifier, IsReady, IsUnready, MayBind, TargetFault, LineFault, HasFewBytes, IsForSize, IsUnfit, IsUnspared, MayAsk, static_refusal}
 use Rattle.session_meaning.specs.Meaning.{meaning, numbered, Meaning, Determines, IsAllowed}
-use Rattle.session_meaning.specs.Causes.{Use, HasNoRoom, IsTooLarge, HasManyNodes, formula_line, IsCause, MayBeCause, HasNone, IsFirst}
+use Rattle.formula_resolving.specs.declared.error.StaticError.{StaticError}
+use Rattle.formula_resolving.specs.declared.error.StaticError.TheVariants as static
+use Rattle.session_meaning.specs.Uses.{IsDirectUse, Use, HasManyNodes, formula_line}
+use Rattle.session_meaning.specs.Causes.{HasNoRoom, IsTooLarge, IsCause, MayBeCause, HasNone, IsFirst}
 use Rattle.session_meaning.specs.Reply.{IsLine}
 use Rattle.session_meaning.specs.Words.{before}
-use Rattle.shared_forms.specs.Forms.{IsFormOf, IsSimplifiedAnswer, IsCleanedAs, IsPrenexAs, IsSimplifiedAs}
+use Rattle.shared_forms.specs.Conditions.{IsConditionFor, IsConditionByCases}
+use Rattle.shared_forms.specs.declared.way.Way.TheVariants as way
+use Rattle.shared_forms.specs.Forms.{IsFormOf, IsCleanedAs, IsPrenexAs, IsSimplifiedAs}
 use Rattle.shared_forms.specs.declared.error.FormsError.{FormsError}
 use Rattle.shared_forms.specs.declared.error.FormsError.TheVariants as forms
 use Rattle.shared_forms.specs.Faults.{PrenexFault, FormFault}
@@ -55,7 +61,8 @@ use Rattle.session_commands.proofs.NewNameLemmas.{answer_names_once}
 use Rattle.shared_forms.proofs.PrenexLemmas.{prenex_form_members, prenex_formula}
 use Rattle.session_commands.proofs.AssumptionLemmas.{assumed_hold, each_both, alone_has}
 use Rattle.session_state.proofs.VariableLemmas.{not_empty}
-use Rattle.shared_forms.proofs.EliminatedLemmas.{plain_free, answer_formula, orderly_members, orderly_every, simplified_formula, cleaned_formula}
+use Rattle.shared_forms.proofs.ConditionsFor.{eliminated_for, condition_formula}
+use Rattle.shared_forms.proofs.EliminatedLemmas.{answer_formula, orderly_members, orderly_every, simplified_formula, cleaned_formula}
 use Rattle.session_state.proofs.SoundLemmas.{resolved_formula, negated_formula}
 use Rattle.session_commands.proofs.TruthLemmas.{truth_as_written}
 
@@ -72,7 +79,7 @@ parts_are wanted.Prenex f X h = h
 parts_are (wanted.Distributed clause_form.Disjunctive) f X h = h
 parts_are (wanted.Distributed clause_form.Conjunctive) f X h = h
 parts_are (wanted.Simplified given) f X h = h
-parts_are (wanted.Eliminated given) f X h = h
+parts_are (wanted.Eliminated found given) f X h = h
 
 plain_command : (w : FormCommand) (f : FormulaTree) (s : State) (limit : ℕ) → HasNoPoint (meaning (command_of w f)) s limit
 plain_command wanted.Resolved f s limit = record { further = refl; point = λ h. h; unvalued = λ h. h; nodes = λ h. h; text = λ h. h }
@@ -81,7 +88,7 @@ plain_command wanted.Prenex f s limit = record { further = refl; point = λ h. h
 plain_command (wanted.Distributed clause_form.Disjunctive) f s limit = record { further = refl; point = λ h. h; unvalued = λ h. h; nodes = λ h. h; text = λ h. h }
 plain_command (wanted.Distributed clause_form.Conjunctive) f s limit = record { further = refl; point = λ h. h; unvalued = λ h. h; nodes = λ h. h; text = λ h. h }
 plain_command (wanted.Simplified given) f s limit = record { further = refl; point = λ h. h; unvalued = λ h. h; nodes = λ h. h; text = λ h. h }
-plain_command (wanted.Eliminated given) f s limit = record { further = refl; point = λ h. h; unvalued = λ h. h; nodes = λ h. h; text = λ h. h }
+plain_command (wanted.Eliminated found given) f s limit = record { further = refl; point = λ h. h; unvalued = λ h. h; nodes = λ h. h; text = λ h. h }
 
 -- the state with their variables
 abbrev pub with_variables : State → FormulaTree → FormulaTrees → State
@@ -97,7 +104,7 @@ named_is wanted.Prenex f s = with_them s (formula_variables f ++ all_variables n
 named_is (wanted.Distributed clause_form.Disjunctive) f s = with_them s (formula_variables f ++ all_variables none)
 named_is (wanted.Distributed clause_form.Conjunctive) f s = with_them s (formula_variables f ++ all_variables none)
 named_is (wanted.Simplified given) f s = with_them s (formula_variables f ++ all_variables (formula_trees given.now))
-named_is (wanted.Eliminated given) f s = with_them s (formula_variables f ++ all_variables (formula_trees given.now))
+named_is (wanted.Eliminated found given) f s = with_them s (formula_variables f ++ all_variables (formula_trees given.now))
 
 pub numbered_in : (fs : FormulaTrees) (names : List (List ℕ)) → ((x : List ℕ) → IsIn x (all_variables fs) → IsIn x names) → AreNumbered names fs
 numbered_in none names h = tt
@@ -125,6 +132,24 @@ longer (Some x) names t u l h =
     let goal : text_limit < length ((x ++ codes " := ") ++ tree_text names u) = omega arith in
     goal
 
+-- false is small, and so is its line
+small_false : (target : Option (List ℕ)) → ¬ (IsTooLarge target No)
+small_false None k = k
+small_false (Some x) k = absurd (omega (arith, k))
+
+short_false : (target : Option (List ℕ)) (names : List (List ℕ)) (t : Tree) → t ≡ No → text_limit < length (formula_line target names t) → ¬ (HasFewBytes target ⊎ (text_limit < length (tree_text names t)))
+short_false target names t e k (inr long) = let five : text_limit < length (tree_text names No) = subst (λ u. text_limit < length (tree_text names u)) e long in absurd (omega (arith, five))
+short_false None names t e k (inl few) = let five : text_limit < length (tree_text names No) = subst (λ u. text_limit < length (tree_text names u)) e k in absurd (omega (arith, five))
+short_false (Some x) names t e k (inl few) =
+    let line : text_limit < length ((x ++ codes " := ") ++ tree_text names No) = subst (λ u. text_limit < length (formula_line (Some x) names u)) e k in
+    let a = length-append (x ++ codes " := ") (tree_text names No) in
+    let b = length-append x (codes " := ") in
+    absurd (omega (arith, line, a, b, few))
+
+-- a length is not within a limit and past it
+past_limit : {n limit : ℕ} → n ≤ limit → ¬ (limit < n)
+past_limit h k = absurd (omega (arith, h, k))
+
 -- a quantifier where none may be is the cause of that name
 unwanted : (w : FormCommand) (f : FormulaTree) (s : State) (limit : ℕ) → (meaning (command_of w f)).must.quantified s limit → HasUnwantedQuantifier s w f
 unwanted wanted.Resolved f s limit h = h
@@ -133,7 +158,7 @@ unwanted wanted.Prenex f s limit h = h
 unwanted (wanted.Distributed clause_form.Disjunctive) f s limit h = h
 unwanted (wanted.Distributed clause_form.Conjunctive) f s limit h = h
 unwanted (wanted.Simplified given) f s limit h = h
-unwanted (wanted.Eliminated given) f s limit h = h
+unwanted (wanted.Eliminated found given) f s limit h = h
 
 wanted_no_quantifier : (w : FormCommand) (f : FormulaTree) (s : State) (limit : ℕ) → HasUnwantedQuantifier s w f → (meaning (command_of w f)).must.quantified s limit
 wanted_no_quantifier wanted.Resolved f s limit h = h
@@ -142,7 +167,7 @@ wanted_no_quantifier wanted.Prenex f s limit h = h
 wanted_no_quantifier (wanted.Distributed clause_form.Disjunctive) f s limit h = h
 wanted_no_quantifier (wanted.Distributed clause_form.Conjunctive) f s limit h = h
 wanted_no_quantifier (wanted.Simplified given) f s limit h = h
-wanted_no_quantifier (wanted.Eliminated given) f s limit h = h
+wanted_no_quantifier (wanted.Eliminated found given) f s limit h = h
 
 module _ (w : FormCommand) (f : FormulaTree) (s : State) (numbers : AreNumbered s.names (also f (given_trees w))) (limit : ℕ) (target : Option (List ℕ)) (printed : Bool) where
   abbrev command : CommandTree
@@ -199,7 +224,7 @@ module _ (f : FormulaTree) (s : State) (limit : ℕ) (t : Tree) where
   given_fits (wanted.Distributed clause_form.Disjunctive) h k = k
   given_fits (wanted.Distributed clause_form.Conjunctive) h k = k
   given_fits (wanted.Simplified given) h k = k
-  given_fits (wanted.Eliminated given) h k = k
+  given_fits (wanted.Eliminated found given) h k = k
 
   one : (w : FormCommand) → Given w → (other : Tree) → Determines (meaning (command_of w f)).answer s other → other ≡ t
   one wanted.Resolved h other k = k ∙ sym h
@@ -208,7 +233,7 @@ module _ (f : FormulaTree) (s : State) (limit : ℕ) (t : Tree) where
   one (wanted.Distributed clause_form.Disjunctive) h other k = absurd k
   one (wanted.Distributed clause_form.Conjunctive) h other k = absurd k
   one (wanted.Simplified given) h other k = absurd k
-  one (wanted.Eliminated given) h other k = absurd k
+  one (wanted.Eliminated found given) h other k = absurd k
 
   -- ---- simplified
 
@@ -271,25 +296,20 @@ module _ (f : FormulaTree) (s : State) (limit : ℕ) (t : Tree) where
           fits = h.fits;
         }
 
-    condition : IsSimplifiedAnswer s.context (assumed s gs) limit resolution t → IsCondition s limit f gs t
-    condition h =
-        let exact = h.eliminated.exact in
-        let small = h.eliminated.small in
-        let fewer = h.simplified.nodes in
-        record {
-          free = h.simplified.free (plain_free h.answer exact.tidy.is_plain);
-          names = λ n m. exact.eliminated.names n (h.simplified.names n m);
-          reduced = h.simplified.reduced;
-          truth = λ p of hold.
-              let q = at_names s.names p in
-              let a = same_here p of in
-              let b = exact.eliminated.equivalent q of in
-              let c = h.simplified.truth q of (assumptions_say p of hold) in
-              (λ x. c.1 (b.0 (a.0 x)), λ x. a.1 (b.1 (c.0 x)));
-          small = omega arith;
-          normal = h.simplified.normal;
-          members = orderly_members (IsNormal s.context) t h.simplified.orderly;
-        }
+    condition : IsConditionFor s.context (assumed s gs) limit resolution t → IsCondition s limit f gs t
+    condition h = record {
+      free = h.free;
+      names = h.names;
+      reduced = h.reduced;
+      truth = λ p of hold.
+          let q = at_names s.names p in
+          let a = same_here p of in
+          let c = h.truth q of (assumptions_say p of hold) in
+          (λ x. c.1 (a.0 x), λ x. a.1 (c.0 x));
+      small = h.small;
+      normal = h.normal;
+      members = orderly_members (IsNormal s.context) t h.orderly;
+    }
 
   gives : (w : FormCommand) → IsReady s w f → IsSound s → IsSessionFormula s.context (length s.names) resolution → AreNumbered s.names (also f (given_trees w)) → Given w → IsAllowed (meaning (command_of w f)).answer s limit t
   gives wanted.Resolved readable sound own numbers h = h
@@ -298,42 +318,73 @@ module _ (f : FormulaTree) (s : State) (limit : ℕ) (t : Tree) where
   gives (wanted.Distributed clause_form.Disjunctive) readable sound own numbers h = cleaning none readable.readable sound numbers own Conjunction h
   gives (wanted.Distributed clause_form.Conjunctive) readable sound own numbers h = cleaning none readable.readable sound numbers own Disjunction h
   gives (wanted.Simplified given) readable sound own numbers h = simplification (formula_trees given.now) readable.readable sound numbers own h
-  gives (wanted.Eliminated given) readable sound own numbers h = condition (formula_trees given.now) readable.readable sound numbers own h
+  gives (wanted.Eliminated found given) readable sound own numbers h =
+      condition (formula_trees given.now) readable.readable sound numbers own (eliminated_for found s.context (length s.names) (assumed s (formula_trees given.now)) limit resolution t h)
 
-  too_large : (w : FormCommand) → Given w → (u : Use) → IsTooLarge u.target t → IsCause (meaning (command_of w f)) s limit u error.Bindings ⊎ MayBeCause (meaning (command_of w f)) s limit u error.Bindings
-  too_large wanted.Resolved h u k = inl (inr (t, h, k))
-  too_large wanted.NegationNormal h u k = inl (inr (t, h, k))
-  too_large wanted.Prenex h u k = inl (inr (t, h.form, k))
-  too_large (wanted.Distributed clause_form.Disjunctive) h u k = inr (plain_form Conjunction (negated_of s f), refl, many_nodes u.target t (plain_form Conjunction (negated_of s f)) h.nodes k)
-  too_large (wanted.Distributed clause_form.Conjunctive) h u k = inr (plain_form Disjunction (negated_of s f), refl, many_nodes u.target t (plain_form Disjunction (negated_of s f)) h.nodes k)
-  too_large (wanted.Simplified given) h u k = inr (negated_of s f, refl, many_nodes u.target t (negated_of s f) h.nodes k)
-  too_large (wanted.Eliminated given) h u k = inr (h.answer, (h.eliminated.cost, h.eliminated.same), many_nodes u.target t h.answer h.simplified.nodes k)
+  -- a direct answer has no more nodes than a bound formula may have, and its line is short; so is false
+  module _ (gs : FormulaTrees) (found : IsConditionByCases s.context (assumed s gs) limit resolution t) where
+    unspared_large : (u : Use) → IsTooLarge u.target t → ¬ (IsDirectUse f s limit u)
+    unspared_large u k d =
+        ⊎_elim (λ n. d.small (many_nodes u.target t (direct_answer d.name d.members d.root) n.nodes k)) (λ e. small_false u.target (subst (IsTooLarge u.target) e k))
+        (found.direct d.name d.members d.root d.fields d.direct)
+
+    unspared_long : IsSound s → IsSessionFormula s.context (length s.names) resolution → (u : Use) → text_limit < length (formula_line u.target s.names t)
+        → HasFewBytes u.target ⊎ (text_limit < length (tree_text s.names t)) → ¬ (IsDirectUse f s limit u)
+    unspared_long sound own u k few d =
+        ⊎_elim (λ n. past_limit d.short (longer u.target s.names t (direct_answer d.name d.members d.root) (n.text s.names (not_empty s.names sound.variables) own.within.atoms) k)) (λ e. short_false u.target s.names t e k few)
+        (found.direct d.name d.members d.root d.fields d.direct)
+
+  -- the command stops with the word: a condition by cases is unfit and the command not spared, or the word is that of a cause
+  abbrev Stops : Use → StatementError → FormCommand → Type 0
+  Stops u e w = (IsUnfit s.bound u.target w e × IsUnspared s limit u w f) ⊎ ((¬ (IsUnfit s.bound u.target w e)) × (IsCause (meaning (command_of w f)) s limit u e ⊎ MayBeCause (meaning (command_of w f)) s limit u e))
+
+  too_large : (w : FormCommand) → Given w → (u : Use) → MayAsk s limit u w f → ¬ (HasNoRoom s.bound u.target) → IsTooLarge u.target t → Stops u error.Bindings w
+  too_large wanted.Resolved h u ask room k = inr (λ x. x.0, inl (inr (t, h, k)))
+  too_large wanted.NegationNormal h u ask room k = inr (λ x. x.0, inl (inr (t, h, k)))
+  too_large wanted.Prenex h u ask room k = inr (λ x. x.0, inl (inr (t, h.form, k)))
+  too_large (wanted.Distributed clause_form.Disjunctive) h u ask room k = inr (λ x. x.0, inr (λ x. x, plain_form Conjunction (negated_of s f), refl, many_nodes u.target t (plain_form Conjunction (negated_of s f)) h.nodes k))
+  too_large (wanted.Distributed clause_form.Conjunctive) h u ask room k = inr (λ x. x.0, inr (λ x. x, plain_form Disjunction (negated_of s f), refl, many_nodes u.target t (plain_form Disjunction (negated_of s f)) h.nodes k))
+  too_large (wanted.Simplified given) h u ask room k = inr (λ x. x.0, inr (λ x. x, negated_of s f, refl, many_nodes u.target t (negated_of s f) h.nodes k))
+  too_large (wanted.Eliminated way.ByCases given) h u ask room k = inl ((tt, inl refl, room), unspared_large (formula_trees given.now) h u k)
+  too_large (wanted.Eliminated way.ByReference given) h u ask room k = inr (λ x. x.0, inr (ask, h.answer, (h.eliminated.cost, h.eliminated.same), many_nodes u.target t h.answer h.simplified.nodes k))
+
+  no_room : (w : FormCommand) (u : Use) → HasNoRoom s.bound u.target → Stops u error.Bindings w
+  no_room w u k = inr (λ x. x.2 k, inl (inl k))
 
   -- The line is past the limit with the names after the answer. None of the names is empty, and those of the resolved formula have numbers.
-  module _ (sound : IsSound s) (own : IsSessionFormula s.context (length s.names) resolution) (names : List (List ℕ)) (u : Use) (p : u.printed ≡ true) (k : text_limit < length (formula_line u.target names t)) where
+  module _ (sound : IsSound s) (own : IsSessionFormula s.context (length s.names) resolution) (names : List (List ℕ)) (u : Use) (room : ¬ (HasNoRoom s.bound u.target)) (p : u.printed ≡ true)
+      (k : text_limit < length (formula_line u.target names t)) (few : HasFewBytes u.target ⊎ (text_limit < length (tree_text names t))) where
     long_here : names ≡ s.names → text_limit < length (formula_line u.target s.names t)
     long_here e = subst (λ ns. text_limit < length (formula_line u.target ns t)) e k
 
-    too_long : (w : FormCommand) → Given w → (meaning (command_of w f)).names s names → IsCause (meaning (command_of w f)) s limit u error.Text ⊎ MayBeCause (meaning (command_of w f)) s limit u error.Text
-    too_long wanted.Resolved h n = inl (p, inl record { formula = t; determined = h; names = names; named = n; long = k })
-    too_long wanted.NegationNormal h n = inl (p, inl record { formula = t; determined = h; names = names; named = n; long = k })
-    too_long wanted.Prenex h n = inl (p, inl record { formula = t; determined = h.form; names = names; named = n; long = k })
-    too_long (wanted.Distributed clause_form.Disjunctive) h n =
+    few_here : names ≡ s.names → HasFewBytes u.target ⊎ (text_limit < length (tree_text s.names t))
+    few_here e = subst (λ ns. HasFewBytes u.target ⊎ (text_limit < length (tree_text ns t))) e few
+
+    too_long : (w : FormCommand) → Given w → MayAsk s limit u w f → (meaning (command_of w f)).names s names → Stops u error.Text w
+    too_long wanted.Resolved h ask n = inr (λ x. x.0, inl (p, inl record { formula = t; determined = h; names = names; named = n; long = k }))
+    too_long wanted.NegationNormal h ask n = inr (λ x. x.0, inl (p, inl record { formula = t; determined = h; names = names; named = n; long = k }))
+    too_long wanted.Prenex h ask n = inr (λ x. x.0, inl (p, inl record { formula = t; determined = h.form; names = names; named = n; long = k }))
+    too_long (wanted.Distributed clause_form.Disjunctive) h ask n =
         let short = h.text s.names (not_empty s.names sound.variables) (negated_formula s.context (length s.names) resolution own).within.atoms in
-        inr (p, inl (plain_form Conjunction (negated_of s f), refl, longer u.target s.names t (plain_form Conjunction (negated_of s f)) short (long_here n)))
-    too_long (wanted.Distributed clause_form.Conjunctive) h n =
+        inr (λ x. x.0, inr (λ x. x, p, inl (plain_form Conjunction (negated_of s f), refl, longer u.target s.names t (plain_form Conjunction (negated_of s f)) short (long_here n))))
+    too_long (wanted.Distributed clause_form.Conjunctive) h ask n =
         let short = h.text s.names (not_empty s.names sound.variables) (negated_formula s.context (length s.names) resolution own).within.atoms in
-        inr (p, inl (plain_form Disjunction (negated_of s f), refl, longer u.target s.names t (plain_form Disjunction (negated_of s f)) short (long_here n)))
-    too_long (wanted.Simplified given) h n =
+        inr (λ x. x.0, inr (λ x. x, p, inl (plain_form Disjunction (negated_of s f), refl, longer u.target s.names t (plain_form Disjunction (negated_of s f)) short (long_here n))))
+    too_long (wanted.Simplified given) h ask n =
         let short = h.text s.names (not_empty s.names sound.variables) (negated_formula s.context (length s.names) resolution own).within.atoms in
-        inr (p, inl (negated_of s f, refl, longer u.target s.names t (negated_of s f) short (long_here n)))
-    too_long (wanted.Eliminated given) h n =
+        inr (λ x. x.0, inr (λ x. x, p, inl (negated_of s f, refl, longer u.target s.names t (negated_of s f) short (long_here n))))
+    too_long (wanted.Eliminated way.ByCases given) h ask n = inl ((tt, inr refl, room), unspared_long (formula_trees given.now) h sound own u (long_here n) (few_here n))
+    too_long (wanted.Eliminated way.ByReference given) h ask n =
         let answered = answer_formula s.context (length s.names) resolution h.answer own h.eliminated.exact in
         let short = h.simplified.text s.names (not_empty s.names sound.variables) answered.within.atoms in
-        inr (p, inl (h.answer, (h.eliminated.cost, h.eliminated.same), longer u.target s.names t h.answer short (long_here n)))
+        inr (λ x. x.0, inr (ask, p, inl (h.answer, (h.eliminated.cost, h.eliminated.same), longer u.target s.names t h.answer short (long_here n))))
 
-  no_room : (w : FormCommand) (u : Use) → HasNoRoom s.bound u.target → IsCause (meaning (command_of w f)) s limit u error.Bindings ⊎ MayBeCause (meaning (command_of w f)) s limit u error.Bindings
-  no_room w u k = inl (inl k)
+-- a condition is unfit only where it is refused for its size
+pub fits_other : (w : FormCommand) (bound : BoundTrees) (target : Option (List ℕ)) (e : StatementError) → ¬ (IsForSize e) → ¬ (IsUnfit bound target w e)
+fits_other w bound target e n x = n x.1
+
+memory_other : ¬ (IsForSize error.Memory)
+memory_other x = ⊎_elim (λ e. absurd (cc (e))) (λ e. absurd (cc (e))) x
 
 module _ (w : FormCommand) (f : FormulaTree) (s : State) (numbers : AreNumbered s.names (also f (given_trees w))) (limit : ℕ) (target : Option (List ℕ)) (printed : Bool) (t : Tree)
     (given : IsFormOf s.context (length s.names) (assumed s (given_trees w)) limit (form_of w) (resolve s.context s.bound s.names f) t) (h : IsReady s w f) where
@@ -343,11 +394,21 @@ module _ (w : FormCommand) (f : FormulaTree) (s : State) (numbers : AreNumbered 
   clear : HasNone (meaning (command_of w f)) s limit given_use (before error.Bindings)
   clear = below_bindings (meaning (command_of w f)) s limit given_use (parts_are w f (AreNumbered s.names) numbers) (plain_command w f s limit) (clear_to_nodes w f s numbers limit target printed h (given_fits f s limit t w given))
 
-  pub refused_target : (e : StatementError) → TargetFault s.bound target t e → Refuses s limit given_use (command_of w f) e
-  refused_target error.Bindings (inl k) = λ other. record { applies = no_room f s limit t w given_use k; first = clear }
-  refused_target error.Bindings (inr k) = λ other. record { applies = too_large f s limit t w given given_use k; first = clear }
-  refused_target error.Memory k = λ other. absurd (other refl)
-  refused_target _ k = absurd k
+  -- why an attempt at the command fails
+  abbrev Fails : StatementError → Type 0
+  Fails e = (IsUnfit s.bound target w e × IsUnspared s limit given_use w f) ⊎ ((¬ (IsUnfit s.bound target w e)) × Refuses s limit given_use (command_of w f) e)
+
+  failed : (e : StatementError) → HasNone (meaning (command_of w f)) s limit given_use (before e) → Stops f s limit t given_use e w → Fails e
+  failed e first stops = elim stops [ inl x ↦ inl x | inr r ↦ inr (r.0, λ other. record { applies = r.1; first = first }) ]
+
+  failed_memory : Fails error.Memory
+  failed_memory = inr (fits_other w s.bound target error.Memory memory_other, λ other. absurd (other refl))
+
+  pub refused_target : MayAsk s limit given_use w f → (e : StatementError) → TargetFault s.bound target t e → Fails e
+  refused_target ask error.Bindings (inl k) = failed error.Bindings clear (no_room f s limit t w given_use k)
+  refused_target ask error.Bindings (inr k) = failed error.Bindings clear (too_large f s limit t w given given_use ask k.0 k.1)
+  refused_target ask error.Memory k = failed_memory
+  refused_target ask _ k = absurd k
 
   clear_to_text : MayBind s.bound target t → HasNone (meaning (command_of w f)) s limit given_use (before error.Text)
   clear_to_text b =
@@ -355,10 +416,11 @@ module _ (w : FormCommand) (f : FormulaTree) (s : State) (numbers : AreNumbered 
       (λ k. elim k [ inl r ↦ b.room r | inr m ↦ b.small (subst (IsTooLarge target) (one f s limit t w given m.0 m.1) m.2) ])
 
   module _ (sound : IsSound s) (own : IsSessionFormula s.context (length s.names) (resolve s.context s.bound s.names f)) (names : List (List ℕ)) (named : (meaning (command_of w f)).names s names) where
-    pub refused_line : MayBind s.bound target t → (e : StatementError) → LineFault printed (formula_line target names t) e → Refuses s limit (use_of target printed) (command_of w f) e
-    refused_line b error.Text k = λ other. record { applies = too_long f s limit t sound own names given_use k.0 k.1 w given named; first = clear_to_text b }
-    refused_line b error.Memory k = λ other. absurd (other refl)
-    refused_line b _ k = absurd k
+    pub refused_line : MayAsk s limit given_use w f → MayBind s.bound target t → (e : StatementError) → LineFault printed (formula_line target names t) e
+        → (e ≡ error.Text → HasFewBytes target ⊎ (text_limit < length (tree_text names t))) → Fails e
+    refused_line ask b error.Text k few = failed error.Text (clear_to_text b) (too_long f s limit t sound own names given_use b.room k.0 k.1 (few refl) w given ask named)
+    refused_line ask b error.Memory k few = failed_memory
+    refused_line ask b _ k few = absurd k
 
     -- a line that is past the limit would be this one
     not_long : ¬ (LineFault printed (formula_line target names t) error.Text) → ¬ (IsCause (meaning (command_of w f)) s limit given_use error.Text)
@@ -407,8 +469,8 @@ given_formula wanted.Prenex f s limit t names given named own = prenex_formula s
 given_formula (wanted.Distributed clause_form.Disjunctive) f s limit t names given named own = same_names s t names named (cleaned_formula s.context Conjunction (length s.names) _ t (negated_formula s.context (length s.names) _ own) given)
 given_formula (wanted.Distributed clause_form.Conjunctive) f s limit t names given named own = same_names s t names named (cleaned_formula s.context Disjunction (length s.names) _ t (negated_formula s.context (length s.names) _ own) given)
 given_formula (wanted.Simplified g) f s limit t names given named own = same_names s t names named (simplified_formula s.context _ (length s.names) _ t (negated_formula s.context (length s.names) _ own) given)
-given_formula (wanted.Eliminated g) f s limit t names given named own =
-    same_names s t names named (simplified_formula s.context _ (length s.names) given.answer t (answer_formula s.context (length s.names) _ given.answer own given.eliminated.exact) given.simplified)
+given_formula (wanted.Eliminated found g) f s limit t names given named own =
+    same_names s t names named (condition_formula s.context (assumed s (formula_trees g.now)) (length s.names) limit _ t own (eliminated_for found s.context (length s.names) (assumed s (formula_trees g.now)) limit _ t given))
 
 -- the limit that is given is the one that is passed
 past_one : (limit count : ℕ) → (n : ℕ) × (Some limit ≡ Some n) × (n < count) → limit < count
@@ -418,31 +480,66 @@ past_one limit count h = let e : limit ≡ h.0 = cc (h.1) in subst (λ n. n < co
 refused_prenex : (f : FormulaTree) (s : State) (numbers : AreNumbered s.names (also f none)) (limit : ℕ) (target : Option (List ℕ)) (printed : Bool) → IsReady s wanted.Prenex f
     → (e : FormsError) → PrenexFault s.context (length s.names) limit (resolve s.context s.bound s.names f) e → Refuses s limit (use_of target printed) (Pnf f) (forms_refusal e)
 refused_prenex f s numbers limit target printed h forms.Nodes k other = record {
-  applies = inr k;
+  applies = inr (λ x. x, k);
   first = clear_to_nodes wanted.Prenex f s numbers limit target printed h (λ p. let few = p.0 in absurd (omega arith));
 }
 refused_prenex f s numbers limit target printed h forms.Overflow k other = record { applies = inl (inr k); first = clear_to_overflow wanted.Prenex f s numbers limit target printed h }
 refused_prenex f s numbers limit target printed h forms.Memory k other = absurd (other refl)
 
 -- the form is not made
-pub refused_form : (w : FormCommand) (f : FormulaTree) (s : State) (numbers : AreNumbered s.names (also f (given_trees w))) (limit : ℕ) (target : Option (List ℕ)) (printed : Bool) → IsReady s w f
+pub refused_form : (w : FormCommand) (f : FormulaTree) (s : State) (numbers : AreNumbered s.names (also f (given_trees w))) (limit : ℕ) (target : Option (List ℕ)) (printed : Bool) → IsReady s w f → MayAsk s limit (use_of target printed) w f
     → (e : FormsError) → FormFault s.context (length s.names) limit (form_of w) (resolve s.context s.bound s.names f) e → Refuses s limit (use_of target printed) (command_of w f) (forms_refusal e)
-refused_form wanted.Prenex f s numbers limit target printed h e k other = refused_prenex f s numbers limit target printed h e k other
-refused_form wanted.Resolved f s numbers limit target printed h forms.Overflow k other = absurd k
-refused_form wanted.Resolved f s numbers limit target printed h forms.Nodes k other = absurd k
-refused_form wanted.Resolved f s numbers limit target printed h forms.Memory k other = absurd (other refl)
-refused_form wanted.NegationNormal f s numbers limit target printed h forms.Overflow k other = absurd k
-refused_form wanted.NegationNormal f s numbers limit target printed h forms.Nodes k other = record { applies = inr (past_one limit _ k); first = clear_to_nodes wanted.NegationNormal f s numbers limit target printed h (λ p. p) }
-refused_form wanted.NegationNormal f s numbers limit target printed h forms.Memory k other = absurd (other refl)
-refused_form (wanted.Distributed clause_form.Disjunctive) f s numbers limit target printed h forms.Overflow k other = absurd k
-refused_form (wanted.Distributed clause_form.Disjunctive) f s numbers limit target printed h forms.Nodes k other = record { applies = inr k; first = clear_to_nodes (wanted.Distributed clause_form.Disjunctive) f s numbers limit target printed h (λ p. p) }
-refused_form (wanted.Distributed clause_form.Disjunctive) f s numbers limit target printed h forms.Memory k other = absurd (other refl)
-refused_form (wanted.Distributed clause_form.Conjunctive) f s numbers limit target printed h forms.Overflow k other = absurd k
-refused_form (wanted.Distributed clause_form.Conjunctive) f s numbers limit target printed h forms.Nodes k other = record { applies = inr k; first = clear_to_nodes (wanted.Distributed clause_form.Conjunctive) f s numbers limit target printed h (λ p. p) }
-refused_form (wanted.Distributed clause_form.Conjunctive) f s numbers limit target printed h forms.Memory k other = absurd (other refl)
-refused_form (wanted.Simplified g) f s numbers limit target printed h forms.Overflow k other = absurd k
-refused_form (wanted.Simplified g) f s numbers limit target printed h forms.Nodes k other = record { applies = inr k; first = clear_to_nodes (wanted.Simplified g) f s numbers limit target printed h (λ p. p) }
-refused_form (wanted.Simplified g) f s numbers limit target printed h forms.Memory k other = absurd (other refl)
-refused_form (wanted.Eliminated g) f s numbers limit target printed h forms.Overflow k other = record { applies = inr k; first = clear_to_overflow (wanted.Eliminated g) f s numbers limit target printed h }
-refused_form (wanted.Eliminated g) f s numbers limit target printed h forms.Nodes k other = record { applies = inr k; first = clear_to_nodes (wanted.Eliminated g) f s numbers limit target printed h (λ p. p) }
-refused_form (wanted.Eliminated g) f s numbers limit target printed h forms.Memory k other = absurd (other refl)
+refused_form wanted.Prenex f s numbers limit target printed h ask e k other = refused_prenex f s numbers limit target printed h e k other
+refused_form wanted.Resolved f s numbers limit target printed h ask forms.Overflow k other = absurd k
+refused_form wanted.Resolved f s numbers limit target printed h ask forms.Nodes k other = absurd k
+refused_form wanted.Resolved f s numbers limit target printed h ask forms.Memory k other = absurd (other refl)
+refused_form wanted.NegationNormal f s numbers limit target printed h ask forms.Overflow k other = absurd k
+refused_form wanted.NegationNormal f s numbers limit target printed h ask forms.Nodes k other = record { applies = inr (λ x. x, past_one limit _ k); first = clear_to_nodes wanted.NegationNormal f s numbers limit target printed h (λ p. p) }
+refused_form wanted.NegationNormal f s numbers limit target printed h ask forms.Memory k other = absurd (other refl)
+refused_form (wanted.Distributed clause_form.Disjunctive) f s numbers limit target printed h ask forms.Overflow k other = absurd k
+refused_form (wanted.Distributed clause_form.Disjunctive) f s numbers limit target printed h ask forms.Nodes k other = record { applies = inr (λ x. x, k); first = clear_to_nodes (wanted.Distributed clause_form.Disjunctive) f s numbers limit target printed h (λ p. p) }
+refused_form (wanted.Distributed clause_form.Disjunctive) f s numbers limit target printed h ask forms.Memory k other = absurd (other refl)
+refused_form (wanted.Distributed clause_form.Conjunctive) f s numbers limit target printed h ask forms.Overflow k other = absurd k
+refused_form (wanted.Distributed clause_form.Conjunctive) f s numbers limit target printed h ask forms.Nodes k other = record { applies = inr (λ x. x, k); first = clear_to_nodes (wanted.Distributed clause_form.Conjunctive) f s numbers limit target printed h (λ p. p) }
+refused_form (wanted.Distributed clause_form.Conjunctive) f s numbers limit target printed h ask forms.Memory k other = absurd (other refl)
+refused_form (wanted.Simplified g) f s numbers limit target printed h ask forms.Overflow k other = absurd k
+refused_form (wanted.Simplified g) f s numbers limit target printed h ask forms.Nodes k other = record { applies = inr (λ x. x, k); first = clear_to_nodes (wanted.Simplified g) f s numbers limit target printed h (λ p. p) }
+refused_form (wanted.Simplified g) f s numbers limit target printed h ask forms.Memory k other = absurd (other refl)
+refused_form (wanted.Eliminated way.ByCases g) f s numbers limit target printed h ask forms.Overflow k other = record {
+  applies = inr (λ d. absurd (cc (k.direct d.name d.members d.root d.fields d.direct)), k.stops);
+  first = clear_to_overflow (wanted.Eliminated way.ByCases g) f s numbers limit target printed h;
+}
+refused_form (wanted.Eliminated way.ByCases g) f s numbers limit target printed h ask forms.Nodes k other = record {
+  applies = inr (λ d. absurd (cc (k.direct d.name d.members d.root d.fields d.direct)), k.stops);
+  first = clear_to_nodes (wanted.Eliminated way.ByCases g) f s numbers limit target printed h (λ p. p);
+}
+refused_form (wanted.Eliminated way.ByCases g) f s numbers limit target printed h ask forms.Memory k other = absurd (other refl)
+refused_form (wanted.Eliminated way.ByReference g) f s numbers limit target printed h ask forms.Overflow k other = record { applies = inr (ask, k); first = clear_to_overflow (wanted.Eliminated way.ByReference g) f s numbers limit target printed h }
+refused_form (wanted.Eliminated way.ByReference g) f s numbers limit target printed h ask forms.Nodes k other = record { applies = inr (ask, k); first = clear_to_nodes (wanted.Eliminated way.ByReference g) f s numbers limit target printed h (λ p. p) }
+refused_form (wanted.Eliminated way.ByReference g) f s numbers limit target printed h ask forms.Memory k other = absurd (other refl)
+
+-- ---- words that are not for size
+
+other_static : (d : StaticError) → ¬ (IsForSize (static_refusal d))
+other_static static.Unbound x = ⊎_elim (λ e. absurd (cc (e))) (λ e. absurd (cc (e))) x
+other_static static.FormulaAsTerm x = ⊎_elim (λ e. absurd (cc (e))) (λ e. absurd (cc (e))) x
+other_static static.Nonlinear x = ⊎_elim (λ e. absurd (cc (e))) (λ e. absurd (cc (e))) x
+other_static static.Division x = ⊎_elim (λ e. absurd (cc (e))) (λ e. absurd (cc (e))) x
+other_static static.CongruenceContext x = ⊎_elim (λ e. absurd (cc (e))) (λ e. absurd (cc (e))) x
+other_static static.Modulus x = ⊎_elim (λ e. absurd (cc (e))) (λ e. absurd (cc (e))) x
+other_static static.Depth x = ⊎_elim (λ e. absurd (cc (e))) (λ e. absurd (cc (e))) x
+other_static static.Overflow x = ⊎_elim (λ e. absurd (cc (e))) (λ e. absurd (cc (e))) x
+other_static static.Memory x = ⊎_elim (λ e. absurd (cc (e))) (λ e. absurd (cc (e))) x
+
+quantified_other : ¬ (IsForSize error.Quantified)
+quantified_other x = ⊎_elim (λ e. absurd (cc (e))) (λ e. absurd (cc (e))) x
+
+-- nothing is refused for its size before it is made
+pub unready_other : (s : State) (w : FormCommand) (f : FormulaTree) (e : StatementError) → IsUnready s w f e → ¬ (IsForSize e)
+unready_other s w f e (inl h) = subst (λ x. ¬ (IsForSize x)) (sym h.word) quantified_other
+unready_other s w f e (inr h) = subst (λ x. ¬ (IsForSize x)) (sym h.unread.1) (other_static h.unread.0)
+
+pub form_other : (e : FormsError) → ¬ (IsForSize (forms_refusal e))
+form_other forms.Overflow x = ⊎_elim (λ e. absurd (cc (e))) (λ e. absurd (cc (e))) x
+form_other forms.Nodes x = ⊎_elim (λ e. absurd (cc (e))) (λ e. absurd (cc (e))) x
+form_other forms.Memory x = ⊎_elim (λ e. absurd (cc (e))) (λ e. absurd (cc (e))) x

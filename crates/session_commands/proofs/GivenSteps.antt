@@ -1,6 +1,6 @@
 -- The steps of a command that gives a formula, on the state.
 use Rattle.std.specs.Prelude.{Result, Ok, Err, OnOk, OnErr, IfOk, IfErr}
-use Rattle.std.proofs.Common.{◌≡◌, ⊎_elim, inl, inr, ℕ, List, [], ◌∷◌, ◌++◌, map, Bool, Option, Some, None, sym, ap, ◌∙◌, subst, refl, length}
+use Rattle.std.proofs.Common.{◌≡◌, ◌⊎◌, ⊎_elim, inl, inr, ℕ, ◌<◌, List, [], ◌∷◌, ◌++◌, map, Bool, Option, Some, None, sym, ap, ◌∙◌, subst, refl, length}
 use Rattle.formula_meaning.specs.Formula.{also}
 use Rattle.std.specs.List.{AllByRecursion, fold, IsDistinct}
 use Rattle.std.specs.Map.{keys_of}
@@ -9,7 +9,9 @@ use Rattle.formula_meaning.specs.Every.{Every}
 use Rattle.formula_meaning.specs.Numbers.{IsAtomInLimit}
 use Rattle.formula_meaning.specs.Some.{EachOf}
 use Rattle.formula_meaning.specs.Tree.{Tree}
+use Rattle.atom_normal.specs.declared.atoms.Context as atoms
 use Rattle.atom_normal.specs.Atoms.{context_of}
+use Rattle.block_scheduler.specs.declared.limits.Limits.{Limits}
 use Rattle.atom_normal.specs.NormalForm.{IsNormal}
 use Rattle.qe_syntax.specs.declared.tree.Formula.{Formula}
 use Rattle.qe_syntax.specs.Trees.{FormulaTree, FormulaTrees, formula_tree, formulas_of}
@@ -21,6 +23,7 @@ use Rattle.formula_tree.specs.Resolving.{formula_variables, all_variables, resol
 use Rattle.formula_tree.proofs.PlaceLaws.{after_distinct}
 use Rattle.formula_resolving.specs.Numbering.{Grows}
 use Rattle.formula_resolving.specs.Refusals.{AreIds}
+use Rattle.formula_tree.specs.declared.shape.Shape.{Shape}
 use Rattle.formula_store.specs.declared.id.FormulaId.{FormulaId}
 use Rattle.formula_store.specs.Nodes.{tree, IsId}
 use Rattle.formula_store.proofs.Numbers.{numbers_are_within}
@@ -29,22 +32,27 @@ use Rattle.formula_meaning.specs.Members.{HasTwoMembers}
 use Rattle.session_state.specs.declared.state.SessionState.{SessionState}
 use Rattle.session_meaning.specs.declared.line.Line.{Line}
 use Rattle.session_meaning.specs.declared.line.StatementError.{StatementError}
+use Rattle.session_meaning.specs.declared.line.StatementError.TheVariants as error
+use Rattle.redlog_printer.specs.Text.{tree_text}
+use Rattle.redlog_printer.specs.Writing.{text_limit}
 use Rattle.session_commands.specs.declared.formulas.FormCommand.{FormCommand}
 use Rattle.session_commands.specs.declared.formulas.FormCommand.TheVariants as wanted
 use Rattle.session_meaning.specs.Points.{IsQuantified}
 use Rattle.formula_meaning.specs.Shape.{IsQuantifierFree}
 use Rattle.session_meaning.specs.State.{State, with_names}
 use Rattle.session_commands.specs.Replies.{use_of, Refuses, state_with, IsFormulaAnswer}
-use Rattle.session_commands.specs.Steps.{forms_refusal, given_trees, form_of, command_of, AreNumbered, HasUnwantedQuantifier, IsReady, IsUnready, IsWantedOf, MayBind, TargetFault, IsLineOf, GiveFault, bound_after}
+use Rattle.session_commands.specs.Steps.{forms_refusal, given_trees, form_of, command_of, AreNumbered, HasUnwantedQuantifier, IsReady, IsUnready, IsWantedOf, MayBind, TargetFault, IsLineOf, GiveFault, HasFewBytes, MayAsk, AttemptRefuses, KeepsWhereEliminated, bound_after}
 use Rattle.session_meaning.specs.Meaning.{meaning, numbered}
 use Rattle.session_state.specs.Keeping.{state_of, IsSessionFormula, IsSound, IsSessionState}
 use Rattle.session_meaning.specs.Assumptions.{assumed}
 use Rattle.shared_forms.specs.declared.error.FormsError.{FormsError}
-use Rattle.shared_forms.specs.Forms.{IsDistributed, IsFormOf, HasFormNames}
+use Rattle.shared_forms.specs.declared.forms.Form.{Form}
+use Rattle.shared_forms.specs.declared.forms.Premised.{Premised}
+use Rattle.shared_forms.specs.Forms.{IsPremised, IsDistributed, IsFormOf, IsFormed, HasFormNames}
 use Rattle.shared_forms.specs.Faults.{FormFault}
 use Rattle.session_state.specs.Growth.{KeepsState, GrowsState}
 use Rattle.session_state.proofs.BindingLemmas.{bind_trees, bind_ids, bind_distinct, bound_there}
-use Rattle.session_state.proofs.StateLemmas.{state_parts, grown_state, grown_session, sound_with, length_grows}
+use Rattle.session_state.proofs.StateLemmas.{state_parts, grown_state, grown_session, keeps_then, sound_with, length_grows}
 use Rattle.session_commands.proofs.NewNameLemmas.{form_names, answer_names_distinct, answer_names_variables}
 use Rattle.session_commands.proofs.PointLemmas.{resolved_free}
 use Rattle.session_state.proofs.VariableLemmas.{AllVariables, both, variables_of_formula, variables_of_all, all_put_in}
@@ -74,7 +82,7 @@ free_here s f wanted.NegationNormal d h = absurd d
 free_here s f wanted.Prenex d h = absurd d
 free_here s f (wanted.Distributed clauses) d h = h
 free_here s f (wanted.Simplified given) d h = absurd d
-free_here s f (wanted.Eliminated given) d h = absurd d
+free_here s f (wanted.Eliminated found given) d h = absurd d
 
 on_ok : {T P Q : Type 0} (r : Result T StatementError) → (P → Q) → OnOk r P → OnOk r Q
 on_ok (Ok x) h p = h p
@@ -91,6 +99,47 @@ on_err (Err e) h p = h p
 pub if_err : {T : Type 0} {P Q : StatementError → Type 0} (r : Result T StatementError) → ((e : StatementError) → P e → Q e) → IfErr r P → IfErr r Q
 if_err (Ok x) h p = tt
 if_err (Err e) h p = h e p
+
+pub if_err_with : {T : Type 0} {P Q R : StatementError → Type 0} (r : Result T StatementError) → ((e : StatementError) → P e → Q e → R e) → IfErr r P → IfErr r Q → IfErr r R
+if_err_with (Ok x) h p q = tt
+if_err_with (Err e) h p q = h e p q
+
+-- ---- an engine for the theory of the state, and under its limits
+
+module _ (c d : atoms.Context) (is : d ≡ c) where
+  pub premised_there : (n : ℕ) (store : List (Shape FormulaId)) (read : Premised) → IsPremised (context_of c) n store read → IsPremised (context_of d) n store read
+  premised_there n store read h = subst (λ (x : atoms.Context). IsPremised (context_of x) n store read) (sym is) h
+
+  module _ (l m : Limits) (limits : m ≡ l) where
+    pub formed_there : (ks : List Atom) (o p : Form) → o ≡ p → (names : List (List ℕ)) (t : Tree) (after : List (List ℕ)) (store : List (Shape FormulaId)) (id : FormulaId)
+        → IsFormed (context_of d) ks m.nodes o names t after store id → IsFormed (context_of c) ks l.nodes p names t after store id
+    formed_there ks o p e names t after store id h =
+        subst (λ (x : atoms.Context). IsFormed (context_of x) ks l.nodes p names t after store id) is
+        (subst (λ (y : Limits). IsFormed (context_of d) ks y.nodes p names t after store id) limits (subst (λ q. IsFormed (context_of d) ks m.nodes q names t after store id) e h))
+
+    pub unformed_there : (n : ℕ) (o p : Form) → o ≡ p → (t : Tree) (x : FormsError) → FormFault (context_of d) n m.nodes o t x → FormFault (context_of c) n l.nodes p t x
+    unformed_there n o p e t x h =
+        subst (λ (y : atoms.Context). FormFault (context_of y) n l.nodes p t x) is
+        (subst (λ (y : Limits). FormFault (context_of d) n y.nodes p t x) limits (subst (λ q. FormFault (context_of d) n m.nodes q t x) e h))
+
+-- ---- what a command that eliminates keeps
+
+pub keeps_still : (w : FormCommand) (old new : SessionState) → KeepsState old new → KeepsWhereEliminated w old new
+keeps_still wanted.Resolved old new k = tt
+keeps_still wanted.NegationNormal old new k = tt
+keeps_still wanted.Prenex old new k = tt
+keeps_still (wanted.Distributed clauses) old new k = tt
+keeps_still (wanted.Simplified given) old new k = tt
+keeps_still (wanted.Eliminated found given) old new k = k
+
+-- the names after the form was made are those before
+pub keeps_formed : (w : FormCommand) (old read later : SessionState) (t : Tree) → KeepsState old read → GrowsState read later → HasFormNames (form_of w) read.names t later.names → KeepsWhereEliminated w old later
+keeps_formed wanted.Resolved old read later t k g n = tt
+keeps_formed wanted.NegationNormal old read later t k g n = tt
+keeps_formed wanted.Prenex old read later t k g n = tt
+keeps_formed (wanted.Distributed clauses) old read later t k g n = tt
+keeps_formed (wanted.Simplified given) old read later t k g n = tt
+keeps_formed (wanted.Eliminated found given) old read later t k g n = keeps_then old read later k (record { context = g.context; names = n; bindings = g.bindings; store = g.store })
 
 -- ---- the wanted formula, on a state where the variables have their numbers
 
@@ -111,9 +160,9 @@ module _ (w : FormCommand) (f : FormulaTree) (state : SessionState) (numbers : A
     theory = ap context_of kept.context
 
     pub form_refused : (limit : ℕ) (e : FormsError) → FormFault (context_of read.context) (length read.names) limit (form_of w) t e → (target : Option (List ℕ)) (printed : Bool)
-        → Refuses (state_of state) limit (use_of target printed) (command_of w f) (forms_refusal e)
-    form_refused limit e fault target printed =
-        refused_form w f (state_of state) numbers limit target printed ready e
+        → MayAsk (state_of state) limit (use_of target printed) w f → Refuses (state_of state) limit (use_of target printed) (command_of w f) (forms_refusal e)
+    form_refused limit e fault target printed ask =
+        refused_form w f (state_of state) numbers limit target printed ready ask e
         (subst (λ u. FormFault (state_of state).context (length state.names) limit (form_of w) u e) same
         (subst (λ c. FormFault c (length state.names) limit (form_of w) t e) theory (subst (λ ns. FormFault (context_of read.context) (length ns) limit (form_of w) t e) kept.names fault)))
 
@@ -172,11 +221,12 @@ module _ (w : FormCommand) (f : FormulaTree) (state : SessionState) (numbers : A
       may_bind : MayBind (state_of later).bound target (tree later.store id) → MayBind (state_of state).bound target (tree later.store id)
       may_bind b = subst (λ c. MayBind c target (tree later.store id)) bound_same b
 
-      fault_refused : (e : StatementError) → GiveFault target printed (state_of later) (tree later.store id) e → Refuses (state_of state) limit (use_of target printed) (command_of w f) e
-      fault_refused e (inl t) =
-          refused_target w f (state_of state) numbers limit target printed (tree later.store id) is.form is.ready e
+      fault_refused : (e : StatementError) → GiveFault target printed (state_of later) (tree later.store id) e
+          → (e ≡ error.Text → HasFewBytes target ⊎ (text_limit < length (tree_text later.names (tree later.store id)))) → AttemptRefuses (state_of state) limit (use_of target printed) w f e
+      fault_refused e (inl t) few ask =
+          refused_target w f (state_of state) numbers limit target printed (tree later.store id) is.form is.ready ask e
           (subst (λ b. TargetFault b target (tree later.store id) e) bound_same t)
-      fault_refused e (inr t) = refused_line w f (state_of state) numbers limit target printed (tree later.store id) is.form is.ready h.sound (own is.ready) later.names is.names (may_bind t.0) e t.1
+      fault_refused e (inr t) few ask = refused_line w f (state_of state) numbers limit target printed (tree later.store id) is.form is.ready h.sound (own is.ready) later.names is.names ask (may_bind t.0) e t.1 few
 
       -- the state with the formula bound
       abbrev last : Option (List ℕ) → SessionState
@@ -226,8 +276,9 @@ module _ (w : FormCommand) (f : FormulaTree) (state : SessionState) (numbers : A
             → IfOk r (λ answer. IsFormulaAnswer (state_of state) limit (use_of target printed) (command_of w f) answer (state_of after))
         given_answer e line = if_ok r (λ answer p l. subst (λ d. IsFormulaAnswer (state_of state) limit (use_of target printed) (command_of w f) answer (state_of d)) (sym p) (line_given answer l)) e line
 
-        pub given_refused : IfErr r (GiveFault target printed (state_of later) (tree later.store id)) → IfErr r (Refuses (state_of state) limit (use_of target printed) (command_of w f))
-        given_refused fault = if_err r (λ e t. fault_refused e t) fault
+        pub given_refused : IfErr r (GiveFault target printed (state_of later) (tree later.store id))
+            → IfErr r (λ e. e ≡ error.Text → HasFewBytes target ⊎ (text_limit < length (tree_text later.names (tree later.store id)))) → IfErr r (AttemptRefuses (state_of state) limit (use_of target printed) w f)
+        given_refused fault few = if_err_with r (λ e t s. fault_refused e t s) fault few
 
 -- ---- the state where the variables have their numbers
 

@@ -16,3 +16,5 @@ pub mod ShortSamples
 pub mod SampleSteps
 pub mod NewNameLemmas
 pub mod Accepted
+mod RoomLemmas
+mod Retries

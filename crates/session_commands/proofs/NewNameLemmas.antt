@@ -57,4 +57,4 @@ form_names wanted.Prenex f s names h = h
 form_names (wanted.Distributed clause_form.Disjunctive) f s names h = h
 form_names (wanted.Distributed clause_form.Conjunctive) f s names h = h
 form_names (wanted.Simplified given) f s names h = h
-form_names (wanted.Eliminated given) f s names h = h
+form_names (wanted.Eliminated found given) f s names h = h

@@ -25,6 +25,8 @@ use Rattle.formula_meaning.specs.Sizes.{subtrees, all_subtrees}
 use Rattle.formula_meaning.specs.Tree.{Tree}
 use Rattle.formula_meaning.proofs.Listed.{among_append}
 use Rattle.formula_meaning.proofs.SamePoint.{point_same}
+use Rattle.atom_normal.specs.declared.atoms.Context as atoms
+use Rattle.atom_normal.specs.Atoms.{context_of}
 use Rattle.atom_normal.specs.NormalForm.{IsNormal}
 use Rattle.atom_normal.proofs.NormalLaws.{normal_atomic}
 use Rattle.linear_forms.specs.Terms.{ValuePasses}
@@ -160,6 +162,10 @@ fold_more (x ∷ xs) ys names = fold_more xs ys (with_name names x)
 
 pub abs_is : (d : ℤ) → pos 0 <ℤ d → pos (unsigned_abs d) ≡ d
 abs_is d h = omega (arith, ints, h)
+
+-- the same point is one of the theory of an engine for the state
+pub point_there : (p q : Point ℕ) → p ≡ q → (c d : atoms.Context) → d ≡ c → Of (context_of c) q → Of (context_of d) p
+point_there p q same c d is of = subst (λ r. Of (context_of d) r) (sym same) (subst (λ (x : atoms.Context). Of (context_of x) q) (sym is) of)
 
 module _ (v : Numbers) (q : Point ℕ) (at : (n : ℕ) → number_at v n ≡ q.at n) where
   pub same_point : unsigned_abs v.denominator ≡ q.below → point_of v ≡ q

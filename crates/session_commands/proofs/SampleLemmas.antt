@@ -72,8 +72,8 @@ module _ (s : State) (f : FormulaTree) (es : List PointEntry) (p : NamedPoint) w
     before_nodes printed = none_before (meaning (Sample f es)) s limit (use_of None printed) error.Nodes (error.Nodes ∷ error.Bindings ∷ error.Text ∷ []) refl (clear limit printed).1
 
     pub sample_stops : (e : StatementError) → SampleStop s.context limit t q e → RefusesSample s limit f es e
-    sample_stops error.Overflow h = λ printed other. record { applies = inr (p, meant, h); first = before_overflow printed }
-    sample_stops error.Nodes h = λ printed other. record { applies = inr (p, meant, h); first = before_nodes printed }
+    sample_stops error.Overflow h = λ printed other. record { applies = inr (λ k. k, (p, meant, h)); first = before_overflow printed }
+    sample_stops error.Nodes h = λ printed other. record { applies = inr (λ k. k, (p, meant, h)); first = before_nodes printed }
     sample_stops error.Memory h = λ printed other. absurd (other refl)
     sample_stops _ h = absurd h
 

@@ -1,5 +1,5 @@
 -- From step to step of a sample.
-use Rattle.std.proofs.Common.{◌≡◌, ℕ, List, [], ◌++◌, ◌<◌, ◌≤◌, Bool, Option, Some, None, sym, ap, ◌∙◌, subst, refl, length, nat_eq, arith}
+use Rattle.std.proofs.Common.{◌≡◌, ℕ, List, ◌++◌, ◌<◌, ◌≤◌, Bool, Option, None, sym, subst, refl, length, arith}
 use Rattle.std.specs.Prelude.{Result, IfOk, IfErr}
 use Rattle.std.specs.List.{fold}
 use Rattle.std.specs.declared.vec.Vec.{Vec}
@@ -7,26 +7,19 @@ use Rattle.std.specs.declared.alloc.Global.{Global}
 use Rattle.exact_numbers.specs.declared.fraction.Fraction.{Fraction}
 use Rattle.formula_meaning.specs.Context.{Context}
 use Rattle.formula_meaning.specs.Point.{Point}
-use Rattle.formula_meaning.specs.Shape.{block_of, matrix_of}
-use Rattle.formula_meaning.specs.declared.quantifier.Quantifier.TheVariants.{Exists}
-use Rattle.formula_meaning.specs.Sizes.{nodes, height}
-use Rattle.formula_meaning.specs.Tree.{Tree, TrueAt}
+use Rattle.formula_meaning.specs.Sizes.{height}
+use Rattle.formula_meaning.specs.Tree.{Tree}
+use Rattle.atom_normal.specs.declared.atoms.Context as atoms
 use Rattle.atom_normal.specs.Atoms.{context_of}
+use Rattle.block_scheduler.specs.declared.limits.Limits.{Limits}
 use Rattle.atom_normal.proofs.Stepped.{ok_map}
-use Rattle.elimination_theory.specs.Answers.{Step}
-use Rattle.elimination_reference.specs.Cases.{case_sign}
-use Rattle.formula_meaning.specs.Measured.{Outcome, pay, within, then_of, done}
-use Rattle.elimination_reference.specs.PutIn.{tree_put, tree_put_within}
-use Rattle.elimination_reference.specs.Reference.{normal_tree, turned, branches}
-use Rattle.elimination_reference.specs.Sample.{first_true}
 use Rattle.linear_forms.specs.declared.form.VarId.{VarId}
 use Rattle.plain_engine.specs.declared.measured.Measured.{Measured}
 use Rattle.plain_engine.specs.declared.measured.Measured.TheVariants as measured
 use Rattle.plain_engine.specs.Told.{StopsWith}
-use Rattle.shared_elimination.proofs.FormAgain.{normal_tree_again}
-use Rattle.sample_reference.specs.Sample.{sampled, reference_sample, IsTrueSample}
+use Rattle.sample_reference.specs.Sample.{reference_sample, IsTrueSample}
 use Rattle.sample_reference.specs.Seen.{sample_of}
-use Rattle.sample_reference.specs.Values.{Value, with_values}
+use Rattle.sample_reference.specs.Values.{Value}
 use Rattle.qe_syntax.specs.declared.statement.PointEntry.{PointEntry}
 use Rattle.qe_syntax.specs.Point.{Numbers, point_of}
 use Rattle.qe_syntax.specs.Writable.{IsWritableFormula, AreWritableEntries}
@@ -42,7 +35,6 @@ use Rattle.formula_store.specs.Nodes.{tree}
 use Rattle.redlog_printer.specs.Writing.{text_limit}
 use Rattle.session_meaning.specs.declared.line.Line.{Line}
 use Rattle.session_meaning.specs.declared.line.StatementError.{StatementError}
-use Rattle.session_meaning.specs.declared.line.StatementError.TheVariants as error
 use Rattle.session_state.specs.declared.state.SessionState.{SessionState}
 use Rattle.session_meaning.specs.State.{State}
 use Rattle.session_commands.specs.Replies.{use_of, Refuses, IsQueryAnswer}
@@ -60,48 +52,27 @@ use Rattle.session_commands.proofs.GivenLemmas.{readable_formula}
 use Rattle.session_commands.proofs.SampleLemmas.{sample_stops, sample_is, sample_within}
 use Rattle.session_commands.proofs.ShortSamples.{sample_short}
 
--- ---- the formula in negation normal form
+-- what stops the reference sample refuses the command
+stop_of_sample : (c : Context) (limit : ℕ) (q : Point ℕ) (t : Tree) (e : Measured) → StopsWith e (reference_sample c limit q t) → SampleStop c limit t q (measured_refusal e)
+stop_of_sample c limit q t measured.Overflow h = h
+stop_of_sample c limit q t measured.Nodes h = h
+stop_of_sample c limit q t measured.Memory h = tt
 
-module _ (c : Context) (q : Point ℕ) (t g : Tree) (e : g ≡ normal_tree t) where
-  form_is : normal_tree g ≡ normal_tree t
-  form_is = ap normal_tree e ∙ normal_tree_again t
+-- ---- the sample that an engine gives
 
-  -- a sample of the negation normal form is one of the formula
-  pub true_along : (sample : Option (List Value)) → IsTrueSample c g q sample → IsTrueSample c t q sample
-  true_along None h = λ k. h (subst (λ n. TrueAt c (turned (case_sign n) n) q) (sym form_is) k)
-  true_along (Some values) h = record {
-    asked = subst (λ n. TrueAt c (turned (case_sign n) n) q) form_is h.asked;
-    names = h.names ∙ ap (λ n. block_of nat_eq (turned (case_sign n) n) Exists []) form_is;
-    each = h.each;
-    matrix = subst (λ n. TrueAt c (matrix_of nat_eq (turned (case_sign n) n) Exists []) (with_values q values)) form_is h.matrix;
-  }
+module _ (t : Tree) (p q : Point ℕ) (same : p ≡ q) (c d : atoms.Context) (is : d ≡ c) where
+  -- an engine for the theory of the state gives a sample in it
+  pub sample_there : (o : Option (Vec (VarId × Fraction) Global)) → IsTrueSample (context_of d) t p (sample_of o) → IsTrueSample (context_of c) t q (sample_of o)
+  sample_there o h = subst (λ (x : atoms.Context). IsTrueSample (context_of x) t q (sample_of o)) is (subst (λ r. IsTrueSample (context_of d) t r (sample_of o)) same h)
 
-module _ (c : Context) (limit : ℕ) (q : Point ℕ) where
-  -- the sample of a formula with this negation normal form, from where its nodes are counted
-  abbrev from_form : Tree → Outcome (Unit {0} × ℕ) → Outcome (Option (List Value) × ℕ)
-  from_form g o =
-      then_of (then_of {B = Option (List Step) × ℕ} (then_of o (λ r. then_of (within (tree_put_within c q [] g) r.1) (λ s. branches c limit [] (case_sign g) (tree_put c q [] g) s.1))) (λ r. done (first_true r.0, r.1)))
-      (λ r. sampled c r.1 r.0)
-
-  sample_along : (t g : Tree) → g ≡ normal_tree t → reference_sample c limit q g ≡ reference_sample c limit q t
-  sample_along t g e = ap (λ n. from_form n (pay limit (nodes n) 0)) (form_is c q t g e)
-
-  pub stop_along : (t g : Tree) → g ≡ normal_tree t → (e : StatementError) → SampleStop c limit g q e → SampleStop c limit t q e
-  stop_along t g e error.Overflow h = sym (sample_along t g e) ∙ h
-  stop_along t g e error.Nodes h = sym (sample_along t g e) ∙ h
-  stop_along t g e error.Memory h = tt
-  stop_along t g e _ h = absurd h
-
-  pub sample_fault : (t : Tree) (e : Measured) → StopsWith e (reference_sample c limit q t) → SampleStop c limit t q (measured_refusal e)
-  sample_fault t measured.Overflow h = h
-  sample_fault t measured.Nodes h = h
-  sample_fault t measured.Memory h = tt
-
-  -- what stops the count stops the sample
-  pub paid_stops : (t : Tree) (e : Measured) → StopsWith e (pay limit (nodes (normal_tree t)) 0) → StopsWith e (reference_sample c limit q t)
-  paid_stops t measured.Overflow h = ap (from_form (normal_tree t)) h
-  paid_stops t measured.Nodes h = ap (from_form (normal_tree t)) h
-  paid_stops t measured.Memory h = tt
+  -- and what stops the reference sample there refuses it
+  pub sample_stopped_there : (l m : Limits) → m ≡ l → (e : Measured) → StopsWith e (reference_sample (context_of d) m.nodes p t) → (x : StatementError) → x ≡ measured_refusal e → SampleStop (context_of c) l.nodes t q x
+  sample_stopped_there l m limits e h x word =
+      subst (SampleStop (context_of c) l.nodes t q) (sym word)
+      (stop_of_sample (context_of c) l.nodes q t e
+      (subst (λ (y : atoms.Context). StopsWith e (reference_sample (context_of y) l.nodes q t)) is
+      (subst (λ (y : Limits). StopsWith e (reference_sample (context_of d) y.nodes q t)) limits
+      (subst (λ r. StopsWith e (reference_sample (context_of d) m.nodes r t)) same h))))
 
 -- ---- after the formula and the point were read
 

@@ -5,6 +5,9 @@ use Rattle.std.specs.List.{IsDistinct}
 use Rattle.formula_meaning.specs.Context.{Context}
 use Rattle.formula_meaning.specs.Point.{Point, Of}
 use Rattle.formula_meaning.specs.Tree.{Tree, TrueAt}
+use Rattle.atom_normal.specs.declared.atoms.Context as atoms
+use Rattle.atom_normal.specs.Atoms.{context_of}
+use Rattle.block_scheduler.specs.declared.limits.Limits.{Limits}
 use Rattle.qe_syntax.specs.declared.statement.PointEntry.{PointEntry}
 use Rattle.qe_syntax.specs.Point.{IsPointOf}
 use Rattle.qe_syntax.specs.Statements.{Holds}
@@ -49,13 +52,13 @@ module _ (s : State) (f : FormulaTree) (es : List PointEntry) (p : NamedPoint) (
     before_nodes printed = none_before (meaning (Holds f es)) s limit (use_of None printed) error.Nodes (error.Nodes ∷ error.Bindings ∷ error.Text ∷ []) refl (clear limit printed).0
 
     pub truth_passes : ¬ (IsQuantified s.bound f) → (e : StatementError) → ValueStop (resolve s.context s.bound s.names f) (at_names s.names p) e → RefusesTruth s limit f es e
-    truth_passes free error.Overflow h = λ printed other. record { applies = inr (inl (free, record { point = p; meant = meant; passes = h })); first = before_overflow printed }
+    truth_passes free error.Overflow h = λ printed other. record { applies = inr (λ k. k, inl (free, record { point = p; meant = meant; passes = h })); first = before_overflow printed }
     truth_passes free error.Memory h = λ printed other. absurd (other refl)
     truth_passes free _ h = absurd h
 
     pub elimination_stops : IsQuantified s.bound f → (e : StatementError) → EliminationStop s.context limit (resolve s.context s.bound s.names f) (at_names s.names p) e → RefusesTruth s limit f es e
-    elimination_stops quantified error.Overflow h = λ printed other. record { applies = inr (inr (quantified, (p, meant, h))); first = before_overflow printed }
-    elimination_stops quantified error.Nodes h = λ printed other. record { applies = inr (quantified, (p, meant, h)); first = before_nodes printed }
+    elimination_stops quantified error.Overflow h = λ printed other. record { applies = inr (λ k. k, inr (quantified, (p, meant, h))); first = before_overflow printed }
+    elimination_stops quantified error.Nodes h = λ printed other. record { applies = inr (λ k. k, (quantified, (p, meant, h))); first = before_nodes printed }
     elimination_stops quantified error.Memory h = λ printed other. absurd (other refl)
     elimination_stops quantified _ h = absurd h
 
@@ -73,10 +76,21 @@ told_in c true t q h = (λ _. h c, λ _. refl)
 told_in c false t q h = (λ e. absurd (false≢true e), λ k. absurd (h c k))
 
 -- what stops the reference elimination at a point refuses the truth there
-pub elimination_stopped : (c : Context) (limit : ℕ) (t : Tree) (p q : Point ℕ) → p ≡ q → (e : Measured) → StopsWith e (reference_at c limit p t) → (d : StatementError) → d ≡ measured_refusal e → EliminationStop c limit t q d
-elimination_stopped c limit t p q same e h d is = subst (EliminationStop c limit t q) (sym is) (subst (λ r. EliminationStop c limit t r (measured_refusal e)) same (go e h))
-  where
-    go : (m : Measured) → StopsWith m (reference_at c limit p t) → EliminationStop c limit t p (measured_refusal m)
-    go measured.Overflow k = k
-    go measured.Nodes k = k
-    go measured.Memory k = tt
+stop_of_truth : (c : Context) (limit : ℕ) (q : Point ℕ) (t : Tree) (e : Measured) → StopsWith e (reference_at c limit q t) → EliminationStop c limit t q (measured_refusal e)
+stop_of_truth c limit q t measured.Overflow h = h
+stop_of_truth c limit q t measured.Nodes h = h
+stop_of_truth c limit q t measured.Memory h = tt
+
+module _ (t : Tree) (p q : Point ℕ) (same : p ≡ q) (c d : atoms.Context) (is : d ≡ c) where
+  -- an engine for the theory of the state tells the truth in it
+  pub truth_there : (b : Bool) → (IsTrue b ↔ TrueAt (context_of d) t p) → IsTrue b ↔ TrueAt (context_of c) t q
+  truth_there b h = subst (λ (x : atoms.Context). IsTrue b ↔ TrueAt (context_of x) t q) is (subst (λ r. IsTrue b ↔ TrueAt (context_of d) t r) same h)
+
+  -- and what stops the reference there refuses it
+  pub truth_stopped : (l m : Limits) → m ≡ l → (e : Measured) → StopsWith e (reference_at (context_of d) m.nodes p t) → (x : StatementError) → x ≡ measured_refusal e → EliminationStop (context_of c) l.nodes t q x
+  truth_stopped l m limits e h x word =
+      subst (EliminationStop (context_of c) l.nodes t q) (sym word)
+      (stop_of_truth (context_of c) l.nodes q t e
+      (subst (λ (y : atoms.Context). StopsWith e (reference_at (context_of y) l.nodes q t)) is
+      (subst (λ (y : Limits). StopsWith e (reference_at (context_of d) y.nodes q t)) limits
+      (subst (λ r. StopsWith e (reference_at (context_of d) m.nodes r t)) same h))))

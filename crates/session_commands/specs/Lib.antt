@@ -1,6 +1,7 @@
 pub mod Parts
 pub mod Replies
 pub mod Steps
+pub mod CaseLists
 pub mod Asked
 pub mod Truths
 pub mod SampleSteps

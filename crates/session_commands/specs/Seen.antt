@@ -7,7 +7,7 @@ use Rattle.formula_tree.specs.declared.shape.Shape.{Shape}
 use Rattle.formula_resolving.specs.Refusals.{trees_bound}
 use Rattle.formula_store.specs.declared.id.FormulaId.{FormulaId}
 use Rattle.formula_store.specs.Nodes.{tree}
-use Rattle.session_commands.specs.declared.session.Limits.{Limits}
+use Rattle.block_scheduler.specs.declared.limits.Limits.{Limits}
 use Rattle.session_meaning.specs.State.{State}
 
 pub record Seen : Type 0 where

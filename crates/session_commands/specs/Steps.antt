@@ -1,5 +1,5 @@
 -- What the steps of an answer give one another.
-use Rattle.std.specs.Prelude.{◌≡◌, ◌≢◌, ◌⊎◌, ◌<◌, ℕ, List, Bool, true, Option, Some, None, length, nat_lt, if◌then◌else◌, map}
+use Rattle.std.specs.Prelude.{◌≡◌, ◌≢◌, ◌⊎◌, ◌<◌, ◌≤◌, ℕ, List, Bool, true, Option, Some, None, length, nat_lt, if◌then◌else◌, map}
 use Rattle.formula_meaning.specs.Formula.{none, also}
 use Rattle.formula_meaning.specs.Some.{SomeOf}
 use Rattle.formula_meaning.specs.Tree.{Tree}
@@ -37,11 +37,15 @@ use Rattle.shared_forms.specs.Forms.{IsFormOf}
 use Rattle.session_commands.specs.declared.formulas.FormCommand.{FormCommand}
 use Rattle.session_commands.specs.declared.formulas.FormCommand.TheVariants as wanted
 use Rattle.shared_forms.specs.declared.forms.ClauseForm.TheVariants as clause_form
+use Rattle.shared_forms.specs.declared.way.Way.TheVariants as way
 use Rattle.session_meaning.specs.State.{State}
 use Rattle.session_meaning.specs.Assumptions.{assumed}
+use Rattle.session_state.specs.Growth.{KeepsState}
+use Rattle.session_commands.specs.Replies.{Refuses}
 use Rattle.session_commands.specs.Parts.{EachFormula}
 use Rattle.session_meaning.specs.Meaning.{meaning}
-use Rattle.session_meaning.specs.Causes.{HasNoRoom, IsTooLarge, formula_line, SomeFormula}
+use Rattle.session_meaning.specs.Uses.{Use, formula_line}
+use Rattle.session_meaning.specs.Causes.{HasNoRoom, IsTooLarge, SomeFormula}
 use Rattle.session_meaning.specs.Reply.{IsLine}
 use Rattle.session_meaning.specs.Points.{IsQuantified}
 
@@ -86,7 +90,7 @@ given_trees wanted.NegationNormal = none
 given_trees wanted.Prenex = none
 given_trees (wanted.Distributed clauses) = none
 given_trees (wanted.Simplified given) = formula_trees given.now
-given_trees (wanted.Eliminated given) = formula_trees given.now
+given_trees (wanted.Eliminated found given) = formula_trees given.now
 
 -- the form that is wanted
 abbrev pub form_of : FormCommand → Form
@@ -95,7 +99,7 @@ form_of wanted.NegationNormal = form.NegationNormal
 form_of wanted.Prenex = form.Prenex
 form_of (wanted.Distributed clauses) = form.Distributed clauses
 form_of (wanted.Simplified given) = form.Simplified
-form_of (wanted.Eliminated given) = form.Eliminated
+form_of (wanted.Eliminated found given) = form.Eliminated found
 
 -- the command that gives the wanted formula
 abbrev pub command_of : FormCommand → FormulaTree → CommandTree
@@ -105,7 +109,7 @@ command_of wanted.Prenex f = Pnf f
 command_of (wanted.Distributed clause_form.Disjunctive) f = Dnf f
 command_of (wanted.Distributed clause_form.Conjunctive) f = Cnf f
 command_of (wanted.Simplified given) f = Simpl f (formula_trees given.now)
-command_of (wanted.Eliminated given) f = Qe f (formula_trees given.now)
+command_of (wanted.Eliminated found given) f = Qe f (formula_trees given.now)
 
 -- ---- what is read
 
@@ -188,7 +192,7 @@ HasUnwantedQuantifier s wanted.NegationNormal f = ⊥
 HasUnwantedQuantifier s wanted.Prenex f = ⊥
 HasUnwantedQuantifier s (wanted.Distributed clauses) f = IsQuantified s.bound f
 HasUnwantedQuantifier s (wanted.Simplified given) f = ⊥
-HasUnwantedQuantifier s (wanted.Eliminated given) f = ⊥
+HasUnwantedQuantifier s (wanted.Eliminated found given) f = ⊥
 
 -- no cause in reading applies, nor is there a quantifier where none may be
 pub record IsReady (s : State) (w : FormCommand) (f : FormulaTree) : Type 0 where
@@ -225,7 +229,7 @@ pub record MayBind (bound : BoundTrees) (target : Option (List ℕ)) (t : Tree) 
 
 -- why it may not
 abbrev pub TargetFault : BoundTrees → Option (List ℕ) → Tree → StatementError → Type 0
-TargetFault bound target t error.Bindings = HasNoRoom bound target ⊎ IsTooLarge target t
+TargetFault bound target t error.Bindings = HasNoRoom bound target ⊎ ((¬ (HasNoRoom bound target)) × IsTooLarge target t)
 TargetFault bound target t error.Memory = Unit {0}
 TargetFault bound target t _ = ⊥
 
@@ -244,6 +248,77 @@ pub record IsLineOf (target : Option (List ℕ)) (printed : Bool) (s : State) (t
 -- why it is not bound, or where it may be, not printed
 abbrev pub GiveFault : Option (List ℕ) → Bool → State → Tree → StatementError → Type 0
 GiveFault target printed s t e = TargetFault s.bound target t e ⊎ (MayBind s.bound target t × LineFault printed (formula_line target s.names t) e)
+
+-- the name, if there is one, is as long as a name may be
+abbrev pub HasFewBytes : Option (List ℕ) → Type 0
+HasFewBytes None = Unit {0}
+HasFewBytes (Some x) = length x ≤ 64
+
+-- ---- conditions by cases, and the reference after them
+
+-- it is asked by cases first
+abbrev pub IsFirstAttempt : FormCommand → Type 0
+IsFirstAttempt wanted.Resolved = Unit {0}
+IsFirstAttempt wanted.NegationNormal = Unit {0}
+IsFirstAttempt wanted.Prenex = Unit {0}
+IsFirstAttempt (wanted.Distributed clauses) = Unit {0}
+IsFirstAttempt (wanted.Simplified given) = Unit {0}
+IsFirstAttempt (wanted.Eliminated way.ByCases given) = Unit {0}
+IsFirstAttempt (wanted.Eliminated way.ByReference given) = ⊥
+
+-- it asks for a condition by cases
+abbrev pub IsByCases : FormCommand → Type 0
+IsByCases wanted.Resolved = ⊥
+IsByCases wanted.NegationNormal = ⊥
+IsByCases wanted.Prenex = ⊥
+IsByCases (wanted.Distributed clauses) = ⊥
+IsByCases (wanted.Simplified given) = ⊥
+IsByCases (wanted.Eliminated way.ByCases given) = Unit {0}
+IsByCases (wanted.Eliminated way.ByReference given) = ⊥
+
+-- the same command by the reference elimination alone
+abbrev pub plain_of : FormCommand → FormCommand
+plain_of wanted.Resolved = wanted.Resolved
+plain_of wanted.NegationNormal = wanted.NegationNormal
+plain_of wanted.Prenex = wanted.Prenex
+plain_of (wanted.Distributed clauses) = wanted.Distributed clauses
+plain_of (wanted.Simplified given) = wanted.Simplified given
+plain_of (wanted.Eliminated found given) = wanted.Eliminated way.ByReference given
+
+-- the refusal is for the size of what is given
+abbrev pub IsForSize : StatementError → Type 0
+IsForSize e = (e ≡ error.Bindings) ⊎ (e ≡ error.Text)
+
+-- a condition by cases is refused for its size, though there is room for its name
+abbrev pub IsUnfit : BoundTrees → Option (List ℕ) → FormCommand → StatementError → Type 0
+IsUnfit bound target w e = IsByCases w × IsForSize e × (¬ (HasNoRoom bound target))
+
+-- the command is not spared its refusals
+abbrev pub IsUnspared : State → ℕ → Use → FormCommand → FormulaTree → Type 0
+IsUnspared s limit u w f = ¬ ((meaning (command_of w f)).spared s limit u)
+
+-- what has to be known where the reference elimination is asked alone
+abbrev pub MayAsk : State → ℕ → Use → FormCommand → FormulaTree → Type 0
+MayAsk s limit u wanted.Resolved f = Unit {0}
+MayAsk s limit u wanted.NegationNormal f = Unit {0}
+MayAsk s limit u wanted.Prenex f = Unit {0}
+MayAsk s limit u (wanted.Distributed clauses) f = Unit {0}
+MayAsk s limit u (wanted.Simplified given) f = Unit {0}
+MayAsk s limit u (wanted.Eliminated way.ByCases given) f = Unit {0}
+MayAsk s limit u (wanted.Eliminated way.ByReference given) f = IsUnspared s limit u (wanted.Eliminated way.ByReference given) f
+
+-- Why an attempt fails: a condition by cases is unfit, and then the command is not spared; or else the command is refused.
+abbrev pub AttemptRefuses : State → ℕ → Use → FormCommand → FormulaTree → StatementError → Type 0
+AttemptRefuses s limit u w f e = MayAsk s limit u w f → (IsUnfit s.bound u.target w e × IsUnspared s limit u w f) ⊎ ((¬ (IsUnfit s.bound u.target w e)) × Refuses s limit u (command_of w f) e)
+
+-- a command that eliminates leaves the names as they are
+abbrev pub KeepsWhereEliminated : FormCommand → SessionState → SessionState → Type 0
+KeepsWhereEliminated wanted.Resolved old new = Unit {0}
+KeepsWhereEliminated wanted.NegationNormal old new = Unit {0}
+KeepsWhereEliminated wanted.Prenex old new = Unit {0}
+KeepsWhereEliminated (wanted.Distributed clauses) old new = Unit {0}
+KeepsWhereEliminated (wanted.Simplified given) old new = Unit {0}
+KeepsWhereEliminated (wanted.Eliminated found given) old new = KeepsState old new
 
 -- ---- bindings
 

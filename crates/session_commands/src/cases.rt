@@ -1,7 +1,7 @@
 //! The case list of a formula.
 
 ghost use Rattle.formula_meaning.specs.Formula.{also};
-ghost use Rattle.std.specs.Prelude.{◌≡◌, Bool, None, map, IfOk, IfErr, OnOk, OnErr, length};
+ghost use Rattle.std.specs.Prelude.{◌≡◌, ◌≤◌, Bool, None, map, IfOk, IfErr, OnOk, OnErr, length};
 ghost use Rattle.plain_cases.specs.Case.{case_seen, HavePoints};
 ghost use Rattle.formula_tree.specs.Resolving.{resolve};
 ghost use Rattle.answer_texts.specs.Answers.{cases_text as text_of_cases};
@@ -16,59 +16,115 @@ ghost use Rattle.session_meaning.specs.Meaning.{meaning, numbered};
 ghost use Rattle.session_meaning.specs.Reply.{IsLine};
 ghost use Rattle.session_state.specs.Keeping.{state_of, IsSessionState};
 ghost use Rattle.session_state.specs.Growth.{KeepsState, GrowsState};
-ghost use Rattle.shared_forms.specs.Cases.{AreWantedCases};
+ghost use Rattle.shared_forms.specs.Cases.{AreCasesBy};
+ghost use Rattle.session_commands.specs.CaseLists.{CasesRefuse};
 
 use crate::assumptions::{number_parts, read_parts};
 use crate::formulas::forms_refusal;
 use crate::lines::print_refusal;
+use crate::workshop::Workshop;
 use answer_texts::cases_text;
 use plain_cases::PrintedCase;
+use qe_parallel::Gate;
 use qe_syntax::Formula;
 use session_meaning::{Line, StatementError};
 use session_state::SessionState;
-use shared_forms::wanted_cases;
+use shared_forms::{Way, wanted_cases};
+use std::thread::Threads;
 
 /// Answers with the cases of the formula, their guards simplified under the assumptions. After an `Err` the names may have grown.
-pub(crate) fn answer_cases(
+pub(crate) fn answer_cases<R: Threads + Sync, G: Gate + Sync>(
+    workshop: &Workshop<'_, R, G>,
     state: &mut SessionState,
-    limit: u64,
     formula: &Formula,
     given: &[Formula],
     printed: bool,
 ) -> Result<Line, StatementError>
+    requires workers { 1 ≤ workshop.now.limits.workers }
     requires proper { IsWritableFormula (formula_tree formula.now) }
     requires given { AreWritableFormulas (formulas_of (map formula_tree given.now)) }
     requires session { IsSessionState state.old }
     ensures session { OnOk result (IsSessionState state.new) }
-    ensures answer { IfOk result (IsQueryAnswer (numbered (meaning (Qea (formula_tree formula.now) (formulas_of (map formula_tree given.now)))) (state_of state.old)) limit printed (Qea (formula_tree formula.now) (formulas_of (map formula_tree given.now))) (state_of state.new).names) }
+    ensures answer { IfOk result (IsQueryAnswer (numbered (meaning (Qea (formula_tree formula.now) (formulas_of (map formula_tree given.now)))) (state_of state.old)) workshop.now.limits.nodes printed (Qea (formula_tree formula.now) (formulas_of (map formula_tree given.now))) (state_of state.new).names) }
     ensures next { OnOk result (state_of state.new ≡ numbered (meaning (Qea (formula_tree formula.now) (formulas_of (map formula_tree given.now)))) (state_of state.old)) }
-    ensures refused { IfErr result (Refuses (numbered (meaning (Qea (formula_tree formula.now) (formulas_of (map formula_tree given.now)))) (state_of state.old)) limit (use_of None printed) (Qea (formula_tree formula.now) (formulas_of (map formula_tree given.now)))) }
+    ensures refused { IfErr result (Refuses (numbered (meaning (Qea (formula_tree formula.now) (formulas_of (map formula_tree given.now)))) (state_of state.old)) workshop.now.limits.nodes (use_of None printed) (Qea (formula_tree formula.now) (formulas_of (map formula_tree given.now)))) }
     ensures grown { OnErr result (GrowsState state.old state.new) }
 {
     number_parts(formula, given, &state.bindings, &mut state.names)?;
-    let cases = cases_of(state, limit, formula, given)?;
-    line_of_cases(state, &cases, printed)
+    answer_numbered(workshop, state, formula, given, printed)
 }
 
-/// The cases of the formula under the assumptions, or the first cause of a refusal.
-fn cases_of(
+/// Answers the command, whose variables have their numbers. A case list that is too long to be printed gives way to that of the reference
+/// elimination.
+fn answer_numbered<R: Threads + Sync, G: Gate + Sync>(
+    workshop: &Workshop<'_, R, G>,
     state: &mut SessionState,
-    limit: u64,
     formula: &Formula,
     given: &[Formula],
-) -> Result<Vec<PrintedCase>, StatementError>
+    printed: bool,
+) -> Result<Line, StatementError>
+    requires workers { 1 ≤ workshop.now.limits.workers }
     requires proper { IsWritableFormula (formula_tree formula.now) }
     requires given { AreWritableFormulas (formulas_of (map formula_tree given.now)) }
     requires session { IsSessionState state.old }
     requires numbered { AreNumbered state.old.names (also (formula_tree formula.now) (formulas_of (map formula_tree given.now))) }
-    ensures cases { IfOk result (λ v. AreWantedCases (state_of state.old).context (assumed (state_of state.old) (formulas_of (map formula_tree given.now))) limit (resolve (state_of state.old).context (state_of state.old).bound state.old.names (formula_tree formula.now)) (map case_seen v.items)) }
+    ensures answer { IfOk result (IsQueryAnswer (state_of state.old) workshop.now.limits.nodes printed (Qea (formula_tree formula.now) (formulas_of (map formula_tree given.now))) state.new.names) }
+    ensures refused { IfErr result (Refuses (state_of state.old) workshop.now.limits.nodes (use_of None printed) (Qea (formula_tree formula.now) (formulas_of (map formula_tree given.now)))) }
+    ensures kept { KeepsState state.old state.new }
+{
+    match attempt(workshop, state, Way::ByCases, formula, given, printed) {
+        Ok(line) => Ok(line),
+        Err(StatementError::Text) => {
+            attempt(workshop, state, Way::ByReference, formula, given, printed)
+        }
+        Err(error) => Err(error),
+    }
+}
+
+/// Answers with the cases that are found in this way, or says why there are none.
+fn attempt<R: Threads + Sync, G: Gate + Sync>(
+    workshop: &Workshop<'_, R, G>,
+    state: &mut SessionState,
+    way: Way,
+    formula: &Formula,
+    given: &[Formula],
+    printed: bool,
+) -> Result<Line, StatementError>
+    requires workers { 1 ≤ workshop.now.limits.workers }
+    requires proper { IsWritableFormula (formula_tree formula.now) }
+    requires given { AreWritableFormulas (formulas_of (map formula_tree given.now)) }
+    requires session { IsSessionState state.old }
+    requires numbered { AreNumbered state.old.names (also (formula_tree formula.now) (formulas_of (map formula_tree given.now))) }
+    ensures answer { IfOk result (IsQueryAnswer (state_of state.old) workshop.now.limits.nodes printed (Qea (formula_tree formula.now) (formulas_of (map formula_tree given.now))) state.new.names) }
+    ensures refused { IfErr result (CasesRefuse way (state_of state.old) workshop.now.limits.nodes printed (formula_tree formula.now) (formulas_of (map formula_tree given.now))) }
+    ensures kept { KeepsState state.old state.new }
+{
+    let cases = cases_of(workshop, state, way, formula, given)?;
+    line_of_cases(state, &cases, printed)
+}
+
+/// The cases of the formula under the assumptions, found in this way, or the first cause of a refusal.
+fn cases_of<R: Threads + Sync, G: Gate + Sync>(
+    workshop: &Workshop<'_, R, G>,
+    state: &mut SessionState,
+    way: Way,
+    formula: &Formula,
+    given: &[Formula],
+) -> Result<Vec<PrintedCase>, StatementError>
+    requires workers { 1 ≤ workshop.now.limits.workers }
+    requires proper { IsWritableFormula (formula_tree formula.now) }
+    requires given { AreWritableFormulas (formulas_of (map formula_tree given.now)) }
+    requires session { IsSessionState state.old }
+    requires numbered { AreNumbered state.old.names (also (formula_tree formula.now) (formulas_of (map formula_tree given.now))) }
+    ensures cases { IfOk result (λ v. AreCasesBy way (state_of state.old).context (assumed (state_of state.old) (formulas_of (map formula_tree given.now))) workshop.now.limits.nodes (resolve (state_of state.old).context (state_of state.old).bound state.old.names (formula_tree formula.now)) (map case_seen v.items)) }
     ensures points { IfOk result (λ v. HavePoints v.items) }
     ensures readable { OnOk result (AreReadable (state_of state.old) (also (formula_tree formula.now) (formulas_of (map formula_tree given.now)))) }
-    ensures refused { IfErr result (λ e. (printed : Bool) → Refuses (state_of state.old) limit (use_of None printed) (Qea (formula_tree formula.now) (formulas_of (map formula_tree given.now))) e) }
+    ensures refused { IfErr result (λ e. (printed : Bool) → Refuses (state_of state.old) workshop.now.limits.nodes (use_of None printed) (Qea (formula_tree formula.now) (formulas_of (map formula_tree given.now))) e) }
     ensures kept { KeepsState state.old state.new }
 {
     let read = read_parts(state, formula, given)?;
-    match wanted_cases(state.alloc, &mut state.store, state.context, limit, &read) {
+    let engine = workshop.engine(state);
+    match wanted_cases(&engine, &mut state.store, way, &read) {
         Ok(cases) => Ok(cases),
         Err(error) => Err(forms_refusal(error)),
     }

@@ -1,7 +1,7 @@
 //! Commands that give a formula: it is printed, or bound to a name.
 
 ghost use Rattle.formula_meaning.specs.Formula.{also};
-ghost use Rattle.std.specs.Prelude.{◌≡◌, ◌⊎◌, ◌↔◌, ◌<◌, ◌≤◌, ◌++◌, ℕ, List, Bool, true, IsTrue, Option, IfOk, IfErr, IfSome, IfNone, OnOk, OnErr, length, codes, map};
+ghost use Rattle.std.specs.Prelude.{◌≡◌, ◌⊎◌, ◌↔◌, ◌<◌, ◌≤◌, ◌++◌, ℕ, List, Bool, true, IsTrue, Option, IfOk, IfErr, IfSome, IfNone, MatchOption, OnOk, OnErr, length, codes, map};
 ghost use Rattle.std.specs.Bool.{MatchBool};
 ghost use Rattle.formula_tree.specs.Bindings.{bound_to, most_bound};
 ghost use Rattle.formula_tree.specs.Makers.{IsMade};
@@ -10,30 +10,37 @@ ghost use Rattle.formula_resolving.specs.Refusals.{AreIds, IsFirstCause};
 ghost use Rattle.formula_store.specs.Nodes.{tree, IsId};
 ghost use Rattle.formula_meaning.specs.Within.{IsTreeWithin};
 ghost use Rattle.formula_meaning.specs.Members.{HasTwoMembers};
+ghost use Rattle.redlog_printer.specs.Text.{tree_text};
 ghost use Rattle.redlog_printer.specs.Writing.{text_limit};
 ghost use Rattle.qe_syntax.specs.Writable.{IsWritableFormula, AreWritableFormulas};
 ghost use Rattle.qe_syntax.specs.Statements.{command_tree};
 ghost use Rattle.qe_syntax.specs.Trees.{formula_tree, formulas_of};
 ghost use Rattle.session_commands.specs.Replies.{use_of, Refuses, IsFormulaAnswer};
-ghost use Rattle.session_commands.specs.Steps.{given_trees, form_of, command_of, HasNumbers, IsUnread, IsReadable, AreNumbered, HasUnwantedQuantifier, IsReady, IsUnready, IsWantedOf, MayBind, TargetFault, LineFault, IsLineOf, GiveFault, bound_after, static_refusal as refusal_of_static, forms_refusal as refusal_of_forms, AreRead};
+ghost use Rattle.session_commands.specs.Steps.{given_trees, form_of, command_of, HasNumbers, IsUnread, IsReadable, AreNumbered, HasUnwantedQuantifier, IsReady, IsUnready, IsWantedOf, MayBind, TargetFault, LineFault, IsLineOf, GiveFault, bound_after, IsFirstAttempt, IsByCases, IsForSize, IsUnfit, plain_of, MayAsk, AttemptRefuses, KeepsWhereEliminated, HasFewBytes, static_refusal as refusal_of_static, forms_refusal as refusal_of_forms, AreRead};
 ghost use Rattle.session_meaning.specs.Meaning.{meaning, numbered, GivesFormula};
-ghost use Rattle.session_meaning.specs.Causes.{HasNoRoom, formula_line};
+ghost use Rattle.session_meaning.specs.Uses.{formula_line};
+ghost use Rattle.formula_meaning.specs.Tree.{tree_distinct};
+ghost use Rattle.session_meaning.specs.declared.TheConstants.{MOST_SUBFORMULAS};
+ghost use Rattle.session_meaning.specs.Causes.{HasNoRoom};
 ghost use Rattle.session_meaning.specs.Reply.{IsLine};
 ghost use Rattle.session_state.specs.Keeping.{state_of, IsSessionState};
 ghost use Rattle.session_state.specs.Growth.{KeepsState, GrowsState};
 
 use crate::assumptions::{number_parts, read_parts};
 use crate::lines::text_of;
+use crate::workshop::Workshop;
 use formula_resolving::{StaticError, linearise};
 use formula_store::FormulaId;
 use formula_tree::{BindError, Bindings};
 use free_names::is_quantified;
+use qe_parallel::Gate;
 use qe_syntax::{Command, Formula, Formulas, Name};
 use redlog_printer::TEXT_LIMIT;
 use session_meaning::{Line, MOST_SUBFORMULAS, StatementError};
 use session_state::SessionState;
-use shared_forms::{ClauseForm, Form, FormsError, Premised, formed};
+use shared_forms::{ClauseForm, Form, FormsError, Premised, Way, formed};
 use std::alloc::Global;
+use std::thread::Threads;
 
 /// At most so many names are bound.
 const MOST_BOUND: usize = 256;
@@ -47,7 +54,7 @@ pub(crate) enum FormCommand<'a> {
     Prenex,
     Distributed(ClauseForm),
     Simplified(&'a Formulas),
-    Eliminated(&'a Formulas),
+    Eliminated(Way, &'a Formulas),
 }
 
 impl<'a> FormCommand<'a> {
@@ -61,7 +68,24 @@ impl<'a> FormCommand<'a> {
             FormCommand::Prenex => Form::Prenex,
             FormCommand::Distributed(clauses) => Form::Distributed(clauses),
             FormCommand::Simplified(_) => Form::Simplified,
-            FormCommand::Eliminated(_) => Form::Eliminated,
+            FormCommand::Eliminated(way, _) => Form::Eliminated(way),
+        }
+    }
+
+    /// The same command by the reference elimination alone, where it is one by cases.
+    fn by_reference(self) -> Option<FormCommand<'a>>
+        ensures { MatchOption result (¬ (IsByCases self.entry)) (λ plain. (plain ≡ plain_of self.entry) × IsByCases self.entry) }
+    {
+        match self {
+            FormCommand::Eliminated(Way::ByCases, given) => {
+                Some(FormCommand::Eliminated(Way::ByReference, given))
+            }
+            FormCommand::Eliminated(Way::ByReference, _)
+            | FormCommand::Resolved
+            | FormCommand::NegationNormal
+            | FormCommand::Prenex
+            | FormCommand::Distributed(_)
+            | FormCommand::Simplified(_) => None,
         }
     }
 
@@ -74,7 +98,7 @@ impl<'a> FormCommand<'a> {
             | FormCommand::NegationNormal
             | FormCommand::Prenex
             | FormCommand::Distributed(_) => &[],
-            FormCommand::Simplified(given) | FormCommand::Eliminated(given) => given.items(),
+            FormCommand::Simplified(given) | FormCommand::Eliminated(_, given) => given.items(),
         }
     }
 }
@@ -82,6 +106,7 @@ impl<'a> FormCommand<'a> {
 /// What formula the command asks for, and of which one; `None` of a query.
 pub(crate) fn form_command_of(command: &Command) -> Option<(FormCommand<'_>, &Formula)>
     ensures asked { IfSome result (λ r. command_tree command.now ≡ command_of r.0 (formula_tree r.1.now)) }
+    ensures first { IfSome result (λ r. IsFirstAttempt r.0) }
     ensures query { IfNone result (¬ (GivesFormula (meaning (command_tree command.now)).answer)) }
 {
     match command {
@@ -91,61 +116,139 @@ pub(crate) fn form_command_of(command: &Command) -> Option<(FormCommand<'_>, &Fo
         Command::Dnf(formula) => Some((FormCommand::Distributed(ClauseForm::Disjunctive), formula)),
         Command::Cnf(formula) => Some((FormCommand::Distributed(ClauseForm::Conjunctive), formula)),
         Command::Simpl(formula, given) => Some((FormCommand::Simplified(given), formula)),
-        Command::Qe(formula, given) => Some((FormCommand::Eliminated(given), formula)),
+        Command::Qe(formula, given) => {
+            Some((FormCommand::Eliminated(Way::ByCases, given), formula))
+        }
         Command::Qea(..) | Command::Holds(..) | Command::Sample(..) => None,
     }
 }
 
 /// Answers a command that gives a formula. After an `Err` the names may have grown.
-pub(crate) fn answer_formula(
+pub(crate) fn answer_formula<R: Threads + Sync, G: Gate + Sync>(
+    workshop: &Workshop<'_, R, G>,
     state: &mut SessionState,
-    limit: u64,
     wanted: FormCommand<'_>,
     formula: &Formula,
     target: &Option<Name>,
     printed: bool,
 ) -> Result<Line, StatementError>
+    requires workers { 1 ≤ workshop.now.limits.workers }
     requires proper { IsWritableFormula (formula_tree formula.now) }
     requires given { AreWritableFormulas (given_trees wanted) }
     requires session { IsSessionState state.old }
+    requires first { IsFirstAttempt wanted }
     ensures session { OnOk result (IsSessionState state.new) }
-    ensures answer { IfOk result (λ line. IsFormulaAnswer (numbered (meaning (command_of wanted.entry (formula_tree formula.now))) (state_of state.old)) limit (use_of target.now printed) (command_of wanted.entry (formula_tree formula.now)) line (state_of state.new)) }
-    ensures refused { IfErr result (Refuses (numbered (meaning (command_of wanted.entry (formula_tree formula.now))) (state_of state.old)) limit (use_of target.now printed) (command_of wanted.entry (formula_tree formula.now))) }
+    ensures answer { IfOk result (λ line. IsFormulaAnswer (numbered (meaning (command_of wanted.entry (formula_tree formula.now))) (state_of state.old)) workshop.now.limits.nodes (use_of target.now printed) (command_of wanted.entry (formula_tree formula.now)) line (state_of state.new)) }
+    ensures refused { IfErr result (Refuses (numbered (meaning (command_of wanted.entry (formula_tree formula.now))) (state_of state.old)) workshop.now.limits.nodes (use_of target.now printed) (command_of wanted.entry (formula_tree formula.now))) }
     ensures grown { OnErr result (GrowsState state.old state.new) }
 {
     let assumptions = wanted.assumptions();
     number_parts(formula, assumptions, &state.bindings, &mut state.names)?;
-    let id = wanted_formula(state, limit, wanted, formula)?;
+    answer_numbered(workshop, state, wanted, formula, target, printed)
+}
+
+/// Answers the command, whose variables have their numbers. A condition by cases that is too large to be bound or to be printed gives way to
+/// that of the reference elimination.
+fn answer_numbered<R: Threads + Sync, G: Gate + Sync>(
+    workshop: &Workshop<'_, R, G>,
+    state: &mut SessionState,
+    wanted: FormCommand<'_>,
+    formula: &Formula,
+    target: &Option<Name>,
+    printed: bool,
+) -> Result<Line, StatementError>
+    requires workers { 1 ≤ workshop.now.limits.workers }
+    requires proper { IsWritableFormula (formula_tree formula.now) }
+    requires given { AreWritableFormulas (given_trees wanted) }
+    requires session { IsSessionState state.old }
+    requires numbered { AreNumbered state.old.names (also (formula_tree formula.now) (given_trees wanted)) }
+    requires first { IsFirstAttempt wanted }
+    ensures session { OnOk result (IsSessionState state.new) }
+    ensures answer { IfOk result (λ line. IsFormulaAnswer (state_of state.old) workshop.now.limits.nodes (use_of target.now printed) (command_of wanted.entry (formula_tree formula.now)) line (state_of state.new)) }
+    ensures refused { IfErr result (Refuses (state_of state.old) workshop.now.limits.nodes (use_of target.now printed) (command_of wanted.entry (formula_tree formula.now))) }
+    ensures grown { OnErr result (GrowsState state.old state.new) }
+{
+    let error = match attempt(workshop, state, wanted, formula, target, printed) {
+        Ok(line) => return Ok(line),
+        Err(error) => error,
+    };
+    match instead(state, wanted, target, error) {
+        Some(plain) => attempt(workshop, state, plain, formula, target, printed),
+        None => Err(error),
+    }
+}
+
+/// The same command by the reference elimination alone, where its condition by cases is too large to be bound or to be printed, and there is
+/// room for its name.
+fn instead<'a>(
+    state: &SessionState,
+    wanted: FormCommand<'a>,
+    target: &Option<Name>,
+    error: StatementError,
+) -> Option<FormCommand<'a>>
+    ensures { MatchOption result (¬ (IsUnfit (state_of state.now).bound target.now wanted.entry error)) (λ plain. (plain ≡ plain_of wanted.entry) × IsUnfit (state_of state.now).bound target.now wanted.entry error) }
+{
+    if !is_size(error) || lacks_room(state, target) {
+        return None;
+    }
+    wanted.by_reference()
+}
+
+/// Whether the refusal is for the size of what is given.
+fn is_size(error: StatementError) -> bool
+    ensures { MatchBool result (IsForSize error) (¬ (IsForSize error)) }
+{
+    matches!(error, StatementError::Bindings | StatementError::Text)
+}
+
+/// Gives the formula that is wanted, or says why there is none. After an `Err` the names may have grown, but not those of a command that
+/// eliminates.
+fn attempt<R: Threads + Sync, G: Gate + Sync>(
+    workshop: &Workshop<'_, R, G>,
+    state: &mut SessionState,
+    wanted: FormCommand<'_>,
+    formula: &Formula,
+    target: &Option<Name>,
+    printed: bool,
+) -> Result<Line, StatementError>
+    requires workers { 1 ≤ workshop.now.limits.workers }
+    requires proper { IsWritableFormula (formula_tree formula.now) }
+    requires given { AreWritableFormulas (given_trees wanted) }
+    requires session { IsSessionState state.old }
+    requires numbered { AreNumbered state.old.names (also (formula_tree formula.now) (given_trees wanted)) }
+    ensures session { OnOk result (IsSessionState state.new) }
+    ensures answer { IfOk result (λ line. IsFormulaAnswer (state_of state.old) workshop.now.limits.nodes (use_of target.now printed) (command_of wanted.entry (formula_tree formula.now)) line (state_of state.new)) }
+    ensures refused { IfErr result (AttemptRefuses (state_of state.old) workshop.now.limits.nodes (use_of target.now printed) wanted.entry (formula_tree formula.now)) }
+    ensures grown { OnErr result (GrowsState state.old state.new) }
+    ensures kept { OnErr result (KeepsWhereEliminated wanted.entry state.old state.new) }
+{
+    let id = wanted_formula(workshop, state, wanted, formula)?;
     give(state, target, printed, id)
 }
 
 /// The formula that is wanted, or the first cause of a refusal in reading or in making it. The names may have grown.
-fn wanted_formula(
+fn wanted_formula<R: Threads + Sync, G: Gate + Sync>(
+    workshop: &Workshop<'_, R, G>,
     state: &mut SessionState,
-    limit: u64,
     wanted: FormCommand<'_>,
     formula: &Formula,
 ) -> Result<FormulaId, StatementError>
+    requires workers { 1 ≤ workshop.now.limits.workers }
     requires proper { IsWritableFormula (formula_tree formula.now) }
     requires given { AreWritableFormulas (given_trees wanted) }
     requires session { IsSessionState state.old }
     requires numbered { AreNumbered state.old.names (also (formula_tree formula.now) (given_trees wanted)) }
     ensures made { IfOk result (IsId state.new.store) }
-    ensures wanted { IfOk result (λ id. IsWantedOf (state_of state.old) limit wanted.entry (formula_tree formula.now) (tree state.new.store id) state.new.names) }
-    ensures refused { IfErr result (λ e. (target : Option (List ℕ)) (printed : Bool) → Refuses (state_of state.old) limit (use_of target printed) (command_of wanted.entry (formula_tree formula.now)) e) }
+    ensures wanted { IfOk result (λ id. IsWantedOf (state_of state.old) workshop.now.limits.nodes wanted.entry (formula_tree formula.now) (tree state.new.store id) state.new.names) }
+    ensures refused { IfErr result (λ e. (target : Option (List ℕ)) (printed : Bool) → MayAsk (state_of state.old) workshop.now.limits.nodes (use_of target printed) wanted.entry (formula_tree formula.now) → Refuses (state_of state.old) workshop.now.limits.nodes (use_of target printed) (command_of wanted.entry (formula_tree formula.now)) e) }
     ensures grown { GrowsState state.old state.new }
+    ensures other { IfErr result (λ e. ¬ (IsForSize e)) }
+    ensures kept { KeepsWhereEliminated wanted.entry state.old state.new }
 {
     let read = read_wanted(state, wanted, formula)?;
     let form = wanted.form();
-    match formed(
-        state.alloc,
-        &mut state.store,
-        &mut state.names,
-        state.context,
-        limit,
-        form,
-        &read,
-    ) {
+    let engine = workshop.engine(state);
+    match formed(&engine, &mut state.store, &mut state.names, form, &read) {
         Ok(id) => Ok(id),
         Err(error) => Err(forms_refusal(error)),
     }
@@ -175,6 +278,7 @@ fn give(
     ensures bound { OnOk result (state.new ≡ record state.old { bindings = bound_after state.old.bindings target.now id }) }
     ensures line { IfOk result (IsLineOf target.now printed (state_of state.old) (tree state.old.store id)) }
     ensures fault { IfErr result (GiveFault target.now printed (state_of state.old) (tree state.old.store id)) }
+    ensures few { IfErr result (λ e. e ≡ StatementError.Text → HasFewBytes target.now ⊎ (text_limit < length (tree_text state.old.names (tree state.old.store id)))) }
     ensures unchanged { OnErr result (state.new ≡ state.old) }
 {
     check_target(state, target, id)?;
@@ -224,7 +328,7 @@ fn has_unwanted_quantifier(state: &SessionState, wanted: FormCommand<'_>, formul
     match wanted {
         FormCommand::Distributed(_) => is_quantified(formula, &state.bindings, &state.store),
         FormCommand::Resolved | FormCommand::NegationNormal | FormCommand::Prenex => false,
-        FormCommand::Simplified(_) | FormCommand::Eliminated(_) => false,
+        FormCommand::Simplified(_) | FormCommand::Eliminated(..) => false,
     }
 }
 
@@ -298,12 +402,21 @@ fn check_target(
     ensures ok { OnOk result (MayBind (state_of state.now).bound target.now (tree state.now.store id)) }
     ensures fault { IfErr result (TargetFault (state_of state.now).bound target.now (tree state.now.store id)) }
 {
-    let Some(name) = target else {
-        return Ok(());
-    };
-    if has_no_room(&state.bindings, name) {
+    if lacks_room(state, target) {
         return Err(StatementError::Bindings);
     }
+    match target {
+        Some(_) => check_size(state, id),
+        None => Ok(()),
+    }
+}
+
+/// Whether the formula has no more distinct subformulas than a bound formula may have.
+fn check_size(state: &SessionState, id: FormulaId) -> Result<(), StatementError>
+    requires { IsId state.now.store id }
+    ensures few { OnOk result (tree_distinct (tree state.now.store id) ≤ MOST_SUBFORMULAS) }
+    ensures fault { IfErr result (λ e. ((e ≡ StatementError.Bindings) × (MOST_SUBFORMULAS < tree_distinct (tree state.now.store id))) ⊎ (e ≡ StatementError.Memory)) }
+{
     let Ok(count) = state.store.distinct(id) else {
         return Err(StatementError::Memory);
     };
@@ -313,8 +426,18 @@ fn check_target(
     Ok(())
 }
 
+/// Whether the name, if there is one, is new, and as many names are bound as may be.
+fn lacks_room(state: &SessionState, target: &Option<Name>) -> bool
+    ensures { MatchBool result (HasNoRoom (state_of state.now).bound target.now) (¬ (HasNoRoom (state_of state.now).bound target.now)) }
+{
+    match target {
+        Some(name) => is_full_without(&state.bindings, name),
+        None => false,
+    }
+}
+
 /// Whether the name is new, and as many names are bound as may be.
-fn has_no_room(bindings: &Bindings<FormulaId>, name: &Name) -> bool
+fn is_full_without(bindings: &Bindings<FormulaId>, name: &Name) -> bool
     ensures { MatchBool result
         ((bound_to bindings.now name.now ≡ None) × (most_bound ≤ length bindings.now))
         (¬ ((bound_to bindings.now name.now ≡ None) × (most_bound ≤ length bindings.now))) }
@@ -335,6 +458,7 @@ fn line_of(
     ensures line { IfOk result (IsLine printed (formula_line target.now state.now.names (tree state.now.store id))) }
     ensures short { OnOk result (¬ (LineFault printed (formula_line target.now state.now.names (tree state.now.store id)) StatementError.Text)) }
     ensures fault { IfErr result (LineFault printed (formula_line target.now state.now.names (tree state.now.store id))) }
+    ensures few { IfErr result (λ e. e ≡ StatementError.Text → HasFewBytes target.now ⊎ (text_limit < length (tree_text state.now.names (tree state.now.store id)))) }
 {
     if !printed {
         return Ok(Line::Nothing);
@@ -348,6 +472,7 @@ fn line_of(
 
 /// The line of an assignment.
 fn assignment_line(alloc: Global, name: &Name, text: &[u8]) -> Result<Line, StatementError>
+    ensures few { length name.now ≤ 64 }
     ensures line { IfOk result (IsLine true (name.now ++ codes " := " ++ text.now)) }
     ensures short { OnOk result (length (name.now ++ codes " := " ++ text.now) ≤ text_limit) }
     ensures fault { IfErr result (λ e. ((e ≡ StatementError.Text) × (text_limit < length (name.now ++ codes " := " ++ text.now))) ⊎ (e ≡ StatementError.Memory)) }

@@ -1,6 +1,6 @@
 //! The truth of a formula at a point.
 
-ghost use Rattle.std.specs.Prelude.{◌≡◌, ◌↔◌, None, IfOk, IfErr, OnOk, OnErr, IsTrue};
+ghost use Rattle.std.specs.Prelude.{◌≡◌, ◌≤◌, ◌↔◌, None, IfOk, IfErr, OnOk, OnErr, IsTrue};
 ghost use Rattle.std.specs.List.{IsDistinct};
 ghost use Rattle.formula_meaning.specs.Every.{Every};
 ghost use Rattle.formula_meaning.specs.Point.{Of};
@@ -28,32 +28,35 @@ ghost use Rattle.session_commands.specs.Truths.{RefusesTruth, ValueStop, Elimina
 
 use crate::lines::{measured_refusal, printed_line};
 use crate::points::{asked, number_command, values_of};
+use crate::workshop::Workshop;
 use formula_store::{EvalStop, FormulaId};
 use free_names::is_quantified;
+use qe_parallel::Gate;
 use qe_syntax::{Formula, Point, PointEntry};
 use session_meaning::{Line, StatementError};
 use session_state::SessionState;
-use shared_elimination::truth_by_elimination;
+use std::thread::Threads;
 
 /// Answers whether the formula is true at the point. After an `Err` the names may have grown.
-pub(crate) fn answer_holds(
+pub(crate) fn answer_holds<R: Threads + Sync, G: Gate + Sync>(
+    workshop: &Workshop<'_, R, G>,
     state: &mut SessionState,
-    limit: u64,
     formula: &Formula,
     entries: &[PointEntry],
     printed: bool,
 ) -> Result<Line, StatementError>
+    requires workers { 1 ≤ workshop.now.limits.workers }
     requires proper { IsWritableFormula (formula_tree formula.now) }
     requires entries { AreWritableEntries entries.now }
     requires session { IsSessionState state.old }
     ensures session { OnOk result (IsSessionState state.new) }
-    ensures answer { IfOk result (IsQueryAnswer (numbered (meaning (Holds (formula_tree formula.now) entries.now)) (state_of state.old)) limit printed (Holds (formula_tree formula.now) entries.now) (state_of state.new).names) }
+    ensures answer { IfOk result (IsQueryAnswer (numbered (meaning (Holds (formula_tree formula.now) entries.now)) (state_of state.old)) workshop.now.limits.nodes printed (Holds (formula_tree formula.now) entries.now) (state_of state.new).names) }
     ensures next { OnOk result (state_of state.new ≡ numbered (meaning (Holds (formula_tree formula.now) entries.now)) (state_of state.old)) }
-    ensures refused { IfErr result (Refuses (numbered (meaning (Holds (formula_tree formula.now) entries.now)) (state_of state.old)) limit (use_of None printed) (Holds (formula_tree formula.now) entries.now)) }
+    ensures refused { IfErr result (Refuses (numbered (meaning (Holds (formula_tree formula.now) entries.now)) (state_of state.old)) workshop.now.limits.nodes (use_of None printed) (Holds (formula_tree formula.now) entries.now)) }
     ensures grown { OnErr result (GrowsState state.old state.new) }
 {
     number_command(formula, entries, &state.bindings, &mut state.names)?;
-    let truth = truth(state, limit, formula, entries)?;
+    let truth = truth(workshop, state, formula, entries)?;
     printed_line(state.alloc, text_of_truth(truth), printed)
 }
 
@@ -69,12 +72,13 @@ fn text_of_truth(truth: bool) -> &'static [u8]
 }
 
 /// Whether the formula is true at the point, or the first cause of a refusal.
-fn truth(
+fn truth<R: Threads + Sync, G: Gate + Sync>(
+    workshop: &Workshop<'_, R, G>,
     state: &mut SessionState,
-    limit: u64,
     formula: &Formula,
     entries: &[PointEntry],
 ) -> Result<bool, StatementError>
+    requires workers { 1 ≤ workshop.now.limits.workers }
     requires proper { IsWritableFormula (formula_tree formula.now) }
     requires entries { AreWritableEntries entries.now }
     requires session { IsSessionState state.old }
@@ -82,25 +86,26 @@ fn truth(
     requires valued { HaveNumbers state.old.names entries.now }
     ensures truth { IfOk result (IsTruth (state_of state.old) (formula_tree formula.now) entries.now) }
     ensures accepted { OnOk result (AcceptsBoth (state_of state.old) (formula_tree formula.now) entries.now) }
-    ensures refused { IfErr result (RefusesTruth (state_of state.old) limit (formula_tree formula.now) entries.now) }
+    ensures refused { IfErr result (RefusesTruth (state_of state.old) workshop.now.limits.nodes (formula_tree formula.now) entries.now) }
     ensures kept { KeepsState state.old state.new }
 {
     let (id, point) = asked(state, formula, entries)?;
     if is_quantified(formula, &state.bindings, &state.store) {
-        eliminated_truth(state, limit, id, entries, &point)
+        eliminated_truth(workshop, state, id, entries, &point)
     } else {
         truth_at(state, id, entries, &point)
     }
 }
 
 /// The truth of a resolved formula at the point, by elimination.
-fn eliminated_truth(
+fn eliminated_truth<R: Threads + Sync, G: Gate + Sync>(
+    workshop: &Workshop<'_, R, G>,
     state: &mut SessionState,
-    limit: u64,
     id: FormulaId,
     entries: &[PointEntry],
     point: &Point,
 ) -> Result<bool, StatementError>
+    requires workers { 1 ≤ workshop.now.limits.workers }
     requires id { IsId state.old.store id }
     requires normal { Every (IsNormal (context_of state.old.context)) (tree state.old.store id) }
     requires theory { Of (context_of state.old.context) (point_of point.now) }
@@ -108,18 +113,12 @@ fn eliminated_truth(
     requires numbered { HaveNumbers state.old.names entries.now }
     requires point { IsPointOf entries.now (point_of point.now) }
     ensures truth { IfOk result (λ b. IsTrue b ↔ TrueAt (context_of state.old.context) (tree state.old.store id) (at_names state.old.names (point_of point.now))) }
-    ensures fault { IfErr result (EliminationStop (context_of state.old.context) limit (tree state.old.store id) (at_names state.old.names (point_of point.now))) }
+    ensures fault { IfErr result (EliminationStop (context_of state.old.context) workshop.now.limits.nodes (tree state.old.store id) (at_names state.old.names (point_of point.now))) }
     ensures kept { KeepsState state.old state.new }
 {
     let values = values_of(state.alloc, &state.names, entries, point)?;
-    match truth_by_elimination(
-        state.alloc,
-        &mut state.store,
-        state.context,
-        id,
-        &values,
-        limit,
-    ) {
+    let engine = workshop.engine(state);
+    match engine.truth(&mut state.store, id, &values) {
         Ok(holds) => Ok(holds),
         Err(error) => Err(measured_refusal(error)),
     }

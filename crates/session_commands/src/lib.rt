@@ -10,7 +10,9 @@ mod lines;
 mod points;
 mod samples;
 mod session;
+mod workshop;
 
+pub use block_scheduler::Limits;
 pub use laws::truth_is_never_refused;
-pub use session::{Limits, Session};
+pub use session::Session;
 pub use session_meaning::{Line, StatementError};

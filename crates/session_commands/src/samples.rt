@@ -6,15 +6,12 @@ ghost use Rattle.formula_meaning.specs.Every.{Every};
 ghost use Rattle.formula_meaning.specs.Point.{Of};
 ghost use Rattle.atom_normal.specs.Atoms.{context_of};
 ghost use Rattle.atom_normal.specs.NormalForm.{IsNormal};
-ghost use Rattle.linear_forms.specs.Values.{point_of as numbers_of};
-ghost use Rattle.nnf_trees.specs.Nnfs.{HasModulus};
 ghost use Rattle.qe_syntax.specs.Point.{IsPointOf, point_of};
 ghost use Rattle.qe_syntax.specs.Writable.{IsWritableFormula, AreWritableEntries};
 ghost use Rattle.qe_syntax.specs.Statements.{Sample};
 ghost use Rattle.qe_syntax.specs.Trees.{formula_tree};
 ghost use Rattle.qe_syntax.specs.Value.{same_name};
 ghost use Rattle.formula_tree.specs.Resolving.{at_names};
-ghost use Rattle.formula_tree.specs.Trees.{tree_of};
 ghost use Rattle.formula_store.specs.Nodes.{tree, IsId};
 ghost use Rattle.sample_reference.specs.Sample.{IsTrueSample};
 ghost use Rattle.sample_reference.specs.Seen.{sample_of};
@@ -31,68 +28,71 @@ ghost use Rattle.session_state.specs.Growth.{KeepsState, GrowsState};
 
 use crate::lines::{measured_refusal, printed_line};
 use crate::points::{asked, number_command, values_of};
+use crate::workshop::Workshop;
 use answer_texts::point_text;
 use exact_numbers::Fraction;
 use formula_store::FormulaId;
-use formula_tree::Tree;
-use linear_forms::{Values, VarId};
-use plain_samples::sample_at;
+use linear_forms::VarId;
+use qe_parallel::Gate;
 use qe_syntax::{Formula, Point, PointEntry};
 use redlog_printer::PrintError;
 use session_meaning::{Line, StatementError};
 use session_state::SessionState;
-use shared_elimination::unfolded_form;
+use std::thread::Threads;
 
 /// Answers with values for the names of the leading block, or with `none`. After an `Err` the names may have grown.
-pub(crate) fn answer_sample(
+pub(crate) fn answer_sample<R: Threads + Sync, G: Gate + Sync>(
+    workshop: &Workshop<'_, R, G>,
     state: &mut SessionState,
-    limit: u64,
     formula: &Formula,
     entries: &[PointEntry],
     printed: bool,
 ) -> Result<Line, StatementError>
+    requires workers { 1 ≤ workshop.now.limits.workers }
     requires proper { IsWritableFormula (formula_tree formula.now) }
     requires entries { AreWritableEntries entries.now }
     requires session { IsSessionState state.old }
     ensures session { OnOk result (IsSessionState state.new) }
-    ensures answer { IfOk result (IsQueryAnswer (numbered (meaning (Sample (formula_tree formula.now) entries.now)) (state_of state.old)) limit printed (Sample (formula_tree formula.now) entries.now) (state_of state.new).names) }
+    ensures answer { IfOk result (IsQueryAnswer (numbered (meaning (Sample (formula_tree formula.now) entries.now)) (state_of state.old)) workshop.now.limits.nodes printed (Sample (formula_tree formula.now) entries.now) (state_of state.new).names) }
     ensures next { OnOk result (state_of state.new ≡ numbered (meaning (Sample (formula_tree formula.now) entries.now)) (state_of state.old)) }
-    ensures refused { IfErr result (Refuses (numbered (meaning (Sample (formula_tree formula.now) entries.now)) (state_of state.old)) limit (use_of None printed) (Sample (formula_tree formula.now) entries.now)) }
+    ensures refused { IfErr result (Refuses (numbered (meaning (Sample (formula_tree formula.now) entries.now)) (state_of state.old)) workshop.now.limits.nodes (use_of None printed) (Sample (formula_tree formula.now) entries.now)) }
     ensures grown { OnErr result (GrowsState state.old state.new) }
 {
     number_command(formula, entries, &state.bindings, &mut state.names)?;
-    let sample = sample(state, limit, formula, entries)?;
+    let sample = sample(workshop, state, formula, entries)?;
     line_of_sample(state, &sample, printed)
 }
 
 /// The sample of the formula at the point, or the first cause of a refusal.
-fn sample(
+fn sample<R: Threads + Sync, G: Gate + Sync>(
+    workshop: &Workshop<'_, R, G>,
     state: &mut SessionState,
-    limit: u64,
     formula: &Formula,
     entries: &[PointEntry],
 ) -> Result<Option<Vec<(VarId, Fraction)>>, StatementError>
+    requires workers { 1 ≤ workshop.now.limits.workers }
     requires proper { IsWritableFormula (formula_tree formula.now) }
     requires entries { AreWritableEntries entries.now }
     requires session { IsSessionState state.old }
     requires numbered { HasNumbers state.old.names (formula_tree formula.now) }
     requires valued { HaveNumbers state.old.names entries.now }
-    ensures sample { IfOk result (λ o. IsWantedSample (state_of state.old) limit (formula_tree formula.now) entries.now (sample_of o)) }
-    ensures refused { IfErr result (RefusesSample (state_of state.old) limit (formula_tree formula.now) entries.now) }
+    ensures sample { IfOk result (λ o. IsWantedSample (state_of state.old) workshop.now.limits.nodes (formula_tree formula.now) entries.now (sample_of o)) }
+    ensures refused { IfErr result (RefusesSample (state_of state.old) workshop.now.limits.nodes (formula_tree formula.now) entries.now) }
     ensures kept { KeepsState state.old state.new }
 {
     let (id, point) = asked(state, formula, entries)?;
-    resolved_sample(state, limit, id, entries, &point)
+    resolved_sample(workshop, state, id, entries, &point)
 }
 
 /// The sample of a resolved formula at the point.
-fn resolved_sample(
+fn resolved_sample<R: Threads + Sync, G: Gate + Sync>(
+    workshop: &Workshop<'_, R, G>,
     state: &mut SessionState,
-    limit: u64,
     id: FormulaId,
     entries: &[PointEntry],
     point: &Point,
 ) -> Result<Option<Vec<(VarId, Fraction)>>, StatementError>
+    requires workers { 1 ≤ workshop.now.limits.workers }
     requires id { IsId state.old.store id }
     requires normal { Every (IsNormal (context_of state.old.context)) (tree state.old.store id) }
     requires theory { Of (context_of state.old.context) (point_of point.now) }
@@ -100,30 +100,12 @@ fn resolved_sample(
     requires numbered { HaveNumbers state.old.names entries.now }
     requires point { IsPointOf entries.now (point_of point.now) }
     ensures sample { IfOk result (λ o. IsTrueSample (context_of state.old.context) (tree state.old.store id) (at_names state.old.names (point_of point.now)) (sample_of o)) }
-    ensures fault { IfErr result (SampleStop (context_of state.old.context) limit (tree state.old.store id) (at_names state.old.names (point_of point.now))) }
+    ensures fault { IfErr result (SampleStop (context_of state.old.context) workshop.now.limits.nodes (tree state.old.store id) (at_names state.old.names (point_of point.now))) }
     ensures kept { KeepsState state.old state.new }
 {
     let values = values_of(state.alloc, &state.names, entries, point)?;
-    match unfolded_form(state.alloc, &mut state.store, id, limit) {
-        Ok(form) => form_sample(state, limit, &form, &values),
-        Err(error) => Err(measured_refusal(error)),
-    }
-}
-
-/// The sample of a formula that is unfolded, at these values.
-fn form_sample(
-    state: &SessionState,
-    limit: u64,
-    form: &Tree,
-    values: &Values,
-) -> Result<Option<Vec<(VarId, Fraction)>>, StatementError>
-    requires moduli { Every HasModulus (tree_of form.now) }
-    requires normal { Every (IsNormal (context_of state.now.context)) (tree_of form.now) }
-    requires theory { Of (context_of state.now.context) (numbers_of values.now) }
-    ensures sample { IfOk result (λ o. IsTrueSample (context_of state.now.context) (tree_of form.now) (numbers_of values.now) (sample_of o)) }
-    ensures fault { IfErr result (SampleStop (context_of state.now.context) limit (tree_of form.now) (numbers_of values.now)) }
-{
-    match sample_at(state.alloc, form, state.context, values, limit) {
+    let engine = workshop.engine(state);
+    match engine.sample(&mut state.store, id, &values) {
         Ok(sample) => Ok(sample),
         Err(error) => Err(measured_refusal(error)),
     }

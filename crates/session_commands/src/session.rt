@@ -16,20 +16,17 @@ use crate::formulas::{answer_formula, form_command_of};
 use crate::holds::answer_holds;
 use crate::lines::printed_line;
 use crate::samples::answer_sample;
+use crate::workshop::Workshop;
 use atom_normal::Context;
+use block_scheduler::Limits;
+use qe_parallel::Gate;
 use qe_syntax::{Action, Command, Name, Setting, Statement};
 use redlog_reader::{ReadError, read_statement};
 use session_meaning::{Line, StatementError};
 use session_state::SessionState;
 use std::alloc::Global;
 use std::marker::Model;
-
-/// The limits that a session keeps: nodes of an elimination, and workers of its parallel phase.
-#[derive(Clone, Copy, Debug)]
-pub struct Limits {
-    pub nodes: u64,
-    pub workers: usize,
-}
+use std::thread::Threads;
 
 /// What the statements of a script share. It is seen as its state and its limits.
 #[derive(Drop)]
@@ -39,6 +36,7 @@ pub struct Session {
 }
 
 impl Model for Session {
+    ghost use Rattle.std.specs.Prelude.{◌≤◌};
     ghost use Rattle.session_state.specs.Keeping.{IsSessionState};
     ghost use Rattle.session_commands.specs.Seen.{Seen};
 
@@ -46,7 +44,7 @@ impl Model for Session {
 
     ghost view = { λ s. record { context = s.state.context; names = s.state.names; bindings = s.state.bindings; formulas = s.state.store; limits = s.limits } };
 
-    ghost invariant = { λ s. IsSessionState s.state };
+    ghost invariant = { λ s. IsSessionState s.state × (1 ≤ s.limits.workers) };
 }
 
 impl Session {
@@ -70,25 +68,41 @@ impl Session {
     }
 
     /// Answers the statement that these bytes spell, or says the first cause of its refusal, which changes nothing.
-    pub fn statement(&mut self, bytes: &[u8]) -> Result<Line, StatementError>
+    /// An elimination is worked on by as many threads of the runtime as the session has workers; each passes the gate before a piece.
+    pub fn statement<R: Threads + Sync, G: Gate + Sync>(
+        &mut self,
+        rt: &R,
+        bytes: &[u8],
+        gate: &G,
+    ) -> Result<Line, StatementError>
         ensures reply { Reply (state_in self.old) self.old.limits.nodes bytes.now result (state_in self.new) }
         ensures limits { self.new.limits ≡ self.old.limits }
     {
         if let Err(_failed) = self.state.tidy() {
             return Err(StatementError::Memory);
         }
-        reply_to(&mut self.state, self.limits.nodes, bytes)
+        let workshop = Workshop {
+            rt,
+            limits: self.limits,
+            gate,
+        };
+        reply_to(&workshop, &mut self.state, bytes)
     }
 }
 
 /// Reads a statement and answers it.
-fn reply_to(state: &mut SessionState, limit: u64, bytes: &[u8]) -> Result<Line, StatementError>
-    requires { IsSessionState state.old }
+fn reply_to<R: Threads + Sync, G: Gate + Sync>(
+    workshop: &Workshop<'_, R, G>,
+    state: &mut SessionState,
+    bytes: &[u8],
+) -> Result<Line, StatementError>
+    requires workers { 1 ≤ workshop.now.limits.workers }
+    requires session { IsSessionState state.old }
     ensures session { IsSessionState state.new }
-    ensures reply { Reply (state_of state.old) limit bytes.now result (state_of state.new) }
+    ensures reply { Reply (state_of state.old) workshop.now.limits.nodes bytes.now result (state_of state.new) }
 {
     match read_statement(state.alloc, bytes) {
-        Ok(statement) => answer(state, limit, &statement),
+        Ok(statement) => answer(workshop, state, &statement),
         Err(error) => Err(refusal_of(error)),
     }
 }
@@ -107,21 +121,22 @@ fn refusal_of(error: ReadError) -> StatementError
 }
 
 /// Answers a statement. An `Err` leaves the state as it was.
-fn answer(
+fn answer<R: Threads + Sync, G: Gate + Sync>(
+    workshop: &Workshop<'_, R, G>,
     state: &mut SessionState,
-    limit: u64,
     statement: &Statement,
 ) -> Result<Line, StatementError>
+    requires workers { 1 ≤ workshop.now.limits.workers }
     requires proper { IsWritable (statement_tree statement.now) }
     requires formula { BindsFormula (statement_tree statement.now).action }
     requires session { IsSessionState state.old }
     ensures session { IsSessionState state.new }
-    ensures answer { IfOk result (λ line. Answers (state_of state.old) limit statement.now.printed (statement_tree statement.now).action line (state_of state.new)) }
-    ensures refusal { IfErr result (IsStopped (state_of state.old) limit (statement_tree statement.now)) }
+    ensures answer { IfOk result (λ line. Answers (state_of state.old) workshop.now.limits.nodes statement.now.printed (statement_tree statement.now).action line (state_of state.new)) }
+    ensures refusal { IfErr result (IsStopped (state_of state.old) workshop.now.limits.nodes (statement_tree statement.now)) }
     ensures unchanged { OnErr result (state_of state.new ≡ state_of state.old) }
 {
     let count = state.names.count();
-    match act(state, limit, statement) {
+    match act(workshop, state, statement) {
         Ok(line) => Ok(line),
         Err(error) => {
             state.names.keep_first(count);
@@ -131,22 +146,27 @@ fn answer(
 }
 
 /// Does what the statement says. After an `Err` the names may have grown.
-fn act(state: &mut SessionState, limit: u64, statement: &Statement) -> Result<Line, StatementError>
+fn act<R: Threads + Sync, G: Gate + Sync>(
+    workshop: &Workshop<'_, R, G>,
+    state: &mut SessionState,
+    statement: &Statement,
+) -> Result<Line, StatementError>
+    requires workers { 1 ≤ workshop.now.limits.workers }
     requires proper { IsWritable (statement_tree statement.now) }
     requires formula { BindsFormula (statement_tree statement.now).action }
     requires session { IsSessionState state.old }
     ensures session { OnOk result (IsSessionState state.new) }
-    ensures answer { IfOk result (λ line. Answers (state_of state.old) limit statement.now.printed (statement_tree statement.now).action line (state_of state.new)) }
-    ensures refusal { IfErr result (IsStopped (state_of state.old) limit (statement_tree statement.now)) }
+    ensures answer { IfOk result (λ line. Answers (state_of state.old) workshop.now.limits.nodes statement.now.printed (statement_tree statement.now).action line (state_of state.new)) }
+    ensures refusal { IfErr result (IsStopped (state_of state.old) workshop.now.limits.nodes (statement_tree statement.now)) }
     ensures grown { OnErr result (GrowsState state.old state.new) }
 {
     match &statement.action {
         Action::Empty | Action::Ignored => Ok(Line::Nothing),
         Action::Finish => Ok(Line::Finished),
         Action::Choose(setting) => choose(state, *setting, statement.printed),
-        Action::Say(command) => say(state, limit, command, statement.printed),
+        Action::Say(command) => say(workshop, state, command, statement.printed),
         Action::Assign(name, command) => {
-            answer_form_command(state, limit, command, &Some(*name), statement.printed)
+            answer_form_command(workshop, state, command, &Some(*name), statement.printed)
         }
     }
 }
@@ -170,26 +190,33 @@ fn choose(state: &mut SessionState, setting: Setting, printed: bool) -> Result<L
 }
 
 /// Answers a command. After an `Err` the names may have grown.
-fn say(
+fn say<R: Threads + Sync, G: Gate + Sync>(
+    workshop: &Workshop<'_, R, G>,
     state: &mut SessionState,
-    limit: u64,
     command: &Command,
     printed: bool,
 ) -> Result<Line, StatementError>
+    requires workers { 1 ≤ workshop.now.limits.workers }
     requires proper { IsWritableCommand (command_tree command.now) }
     requires session { IsSessionState state.old }
     ensures session { OnOk result (IsSessionState state.new) }
-    ensures answer { IfOk result (λ line. AnswersSaid (meaning (command_tree command.now)) (numbered (meaning (command_tree command.now)) (state_of state.old)) limit printed line (state_of state.new)) }
-    ensures refusal { IfErr result (Refuses (numbered (meaning (command_tree command.now)) (state_of state.old)) limit (use_of None printed) (command_tree command.now)) }
+    ensures answer { IfOk result (λ line. AnswersSaid (meaning (command_tree command.now)) (numbered (meaning (command_tree command.now)) (state_of state.old)) workshop.now.limits.nodes printed line (state_of state.new)) }
+    ensures refusal { IfErr result (Refuses (numbered (meaning (command_tree command.now)) (state_of state.old)) workshop.now.limits.nodes (use_of None printed) (command_tree command.now)) }
     ensures grown { OnErr result (GrowsState state.old state.new) }
 {
     match command {
-        Command::Qea(formula, given) => answer_cases(state, limit, formula, given.items(), printed),
+        Command::Qea(formula, given) => answer_cases(
+            workshop,
+            state,
+            formula,
+            given.items(),
+            printed,
+        ),
         Command::Holds(formula, entries) => {
-            answer_holds(state, limit, formula, entries.items(), printed)
+            answer_holds(workshop, state, formula, entries.items(), printed)
         }
         Command::Sample(formula, entries) => {
-            answer_sample(state, limit, formula, entries.items(), printed)
+            answer_sample(workshop, state, formula, entries.items(), printed)
         }
         Command::Echo(_)
         | Command::Nnf(_)
@@ -197,28 +224,29 @@ fn say(
         | Command::Dnf(_)
         | Command::Cnf(_)
         | Command::Simpl(..)
-        | Command::Qe(..) => answer_form_command(state, limit, command, &None, printed),
+        | Command::Qe(..) => answer_form_command(workshop, state, command, &None, printed),
     }
 }
 
 /// Answers a command that gives a formula, and binds it to the name, if there is one. After an `Err` the names may have grown.
-fn answer_form_command(
+fn answer_form_command<R: Threads + Sync, G: Gate + Sync>(
+    workshop: &Workshop<'_, R, G>,
     state: &mut SessionState,
-    limit: u64,
     command: &Command,
     target: &Option<Name>,
     printed: bool,
 ) -> Result<Line, StatementError>
+    requires workers { 1 ≤ workshop.now.limits.workers }
     requires proper { IsWritableCommand (command_tree command.now) }
     requires formula { GivesFormula (meaning (command_tree command.now)).answer }
     requires session { IsSessionState state.old }
     ensures session { OnOk result (IsSessionState state.new) }
-    ensures answer { IfOk result (λ line. IsFormulaAnswer (numbered (meaning (command_tree command.now)) (state_of state.old)) limit (use_of target.now printed) (command_tree command.now) line (state_of state.new)) }
-    ensures refusal { IfErr result (Refuses (numbered (meaning (command_tree command.now)) (state_of state.old)) limit (use_of target.now printed) (command_tree command.now)) }
+    ensures answer { IfOk result (λ line. IsFormulaAnswer (numbered (meaning (command_tree command.now)) (state_of state.old)) workshop.now.limits.nodes (use_of target.now printed) (command_tree command.now) line (state_of state.new)) }
+    ensures refusal { IfErr result (Refuses (numbered (meaning (command_tree command.now)) (state_of state.old)) workshop.now.limits.nodes (use_of target.now printed) (command_tree command.now)) }
     ensures grown { OnErr result (GrowsState state.old state.new) }
 {
     let Some((wanted, formula)) = form_command_of(command) else {
         unreachable!()
     };
-    answer_formula(state, limit, wanted, formula, target, printed)
+    answer_formula(workshop, state, wanted, formula, target, printed)
 }

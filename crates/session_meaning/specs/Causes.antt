@@ -1,27 +1,21 @@
 -- Why a command is refused: each cause on its own, over the whole statement, and which comes first. The state is one in which the variables of the command have their
 -- numbers.
-use Rattle.std.specs.Prelude.{◌≡◌, ◌⊎◌, ℕ, ◌<◌, ◌≤◌, List, ◌++◌, Bool, true, Option, Some, None, length, codes}
+use Rattle.std.specs.Prelude.{◌≡◌, ◌⊎◌, ℕ, ◌<◌, ◌≤◌, List, Bool, true, Option, Some, None, length}
 use Rattle.formula_meaning.specs.Formula.{none, also}
-use Rattle.formula_meaning.specs.Sizes.{nodes}
 use Rattle.formula_meaning.specs.Some.{SomeOf, EachOf}
 use Rattle.formula_meaning.specs.Tree.{Tree, tree_distinct}
 use Rattle.qe_syntax.specs.Trees.{FormulaTree, FormulaTrees}
 use Rattle.formula_tree.specs.Bindings.{bound_to, most_bound}
 use Rattle.formula_tree.specs.Resolving.{BoundTrees, place}
 use Rattle.formula_tree.specs.Causes.{IsUnbound, NamesFormulaAsTerm, IsBound, IsNonlinear, Divides, CongruenceInFields, IsBadModulus, IsTooDeep, OverflowsInReading}
-use Rattle.redlog_printer.specs.Text.{tree_text}
 use Rattle.redlog_printer.specs.Writing.{text_limit}
 use Rattle.session_meaning.specs.declared.TheConstants.{MOST_SUBFORMULAS}
 use Rattle.session_meaning.specs.declared.line.StatementError.{StatementError}
 use Rattle.session_meaning.specs.declared.line.StatementError.TheVariants as error
 use Rattle.session_meaning.specs.Words.{order, before}
 use Rattle.session_meaning.specs.State.{State}
+use Rattle.session_meaning.specs.Uses.{Use, HasManyNodes, formula_line}
 use Rattle.session_meaning.specs.Meaning.{Meaning, Determines, IsMeasureOf}
-
--- what is done with what a command gives: a name that it is bound to, and whether its line is printed
-pub record Use : Type 0 where
-  pub target : Option (List ℕ)
-  pub printed : Bool
 
 -- ---- what is bound and printed
 
@@ -34,16 +28,6 @@ HasNoRoom bound (Some x) = (bound_to bound x ≡ None) × (most_bound ≤ length
 abbrev pub IsTooLarge : Option (List ℕ) → Tree → Type 0
 IsTooLarge None t = ⊥
 IsTooLarge (Some x) t = MOST_SUBFORMULAS < tree_distinct t
-
--- the formula is bound, and has more nodes than a bound formula may have distinct subformulas
-abbrev pub HasManyNodes : Option (List ℕ) → Tree → Type 0
-HasManyNodes None t = ⊥
-HasManyNodes (Some x) t = MOST_SUBFORMULAS < nodes t
-
--- the line of a formula: its text, after the name that it is bound to
-abbrev pub formula_line : Option (List ℕ) → List (List ℕ) → Tree → List ℕ
-formula_line None names t = tree_text names t
-formula_line (Some x) names t = x ++ codes " := " ++ tree_text names t
 
 -- the line of the formula that the command determines is past the limit, with the names after the answer
 pub record HasLongLine (m : Meaning) (s : State) (u : Use) : Type 0 where
@@ -83,7 +67,7 @@ module _ (m : Meaning) (s : State) (limit : ℕ) (u : Use) where
   IsCause error.Text = (u.printed ≡ true) × (HasLongLine m s u ⊎ m.must.text s limit)
   IsCause error.Memory = ⊥
 
-  -- A cause applies for which the command may be refused and need not be.
+  -- A cause applies for which the command may be refused and need not be. Where the command is spared there is none.
   abbrev pub MayBeCause : StatementError → Type 0
   MayBeCause error.Long = ⊥
   MayBeCause error.Lexical = ⊥
@@ -99,10 +83,10 @@ module _ (m : Meaning) (s : State) (limit : ℕ) (u : Use) where
   MayBeCause error.Point = m.may.point s limit
   MayBeCause error.Unvalued = m.may.unvalued s limit
   MayBeCause error.Quantified = m.may.quantified s limit
-  MayBeCause error.Overflow = m.may.overflow s limit
-  MayBeCause error.Nodes = m.may.nodes s limit
-  MayBeCause error.Bindings = (t : Tree) × IsMeasureOf m.answer s limit t × HasManyNodes u.target t
-  MayBeCause error.Text = (u.printed ≡ true) × (((t : Tree) × IsMeasureOf m.answer s limit t × (text_limit < length (formula_line u.target s.names t))) ⊎ m.may.text s limit)
+  MayBeCause error.Overflow = (¬ (m.spared s limit u)) × m.may.overflow s limit
+  MayBeCause error.Nodes = (¬ (m.spared s limit u)) × m.may.nodes s limit
+  MayBeCause error.Bindings = (¬ (m.spared s limit u)) × (t : Tree) × IsMeasureOf m.answer s limit t × HasManyNodes u.target t
+  MayBeCause error.Text = (¬ (m.spared s limit u)) × (u.printed ≡ true) × (((t : Tree) × IsMeasureOf m.answer s limit t × (text_limit < length (formula_line u.target s.names t))) ⊎ m.may.text s limit)
   MayBeCause error.Memory = ⊥
 
   -- none of these causes applies

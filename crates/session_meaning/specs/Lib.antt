@@ -5,6 +5,7 @@ pub mod FormulaAnswers
 pub mod Points
 pub mod Cases
 pub mod Samples
+pub mod Uses
 pub mod Meaning
 pub mod Causes
 pub mod Reply

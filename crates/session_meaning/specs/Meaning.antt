@@ -29,6 +29,7 @@ use Rattle.redlog_printer.specs.Writing.{text_limit}
 use Rattle.answer_texts.specs.Answers.{cases_text}
 use Rattle.session_meaning.specs.Words.{truth_text}
 use Rattle.session_meaning.specs.State.{State, with_names}
+use Rattle.session_meaning.specs.Uses.{Use, IsDirectUse}
 use Rattle.session_meaning.specs.FormulaAnswers.{negated_of, IsPrenexAnswer, HasNewNames, IsSimplification, IsCleanAnswer, IsCondition}
 use Rattle.session_meaning.specs.Points.{MeanNoPoint, HasUnvalued, IsQuantified, TruthPasses, IsTruth}
 use Rattle.session_meaning.specs.Cases.{IsCaseAnswer}
@@ -61,12 +62,14 @@ pub data Answer : Type 1 where
   OfText : (State → ℕ → List ℕ → Type 0) → Answer
 
 -- The formulas that are read, in the order of the text; the names of variables behind them, which must not be bound; the causes that are answered wherever they apply
--- and no earlier one does, and those that may be answered there and need not be; the names after the answer; and the answer.
+-- and no earlier one does, and those that may be answered there and need not be; the uses in which it is spared the latter, and a refusal for the size of what it gives; the
+-- names after the answer; and the answer.
 pub record Meaning : Type 1 where
   pub formulas : FormulaTrees
   pub further : List (List ℕ)
   pub must : OwnCauses
   pub may : OwnCauses
+  pub spared : State → ℕ → Use → Type 0
   pub names : State → List (List ℕ) → Type 0
   pub answer : Answer
 
@@ -130,7 +133,7 @@ measured measure allowed = record { determined = λ s t. ⊥; measure = measure;
 
 -- a command that reads a formula and its assumptions, has no cause of its own that must be answered, and adds no names
 abbrev pub of_formula : FormulaTree → FormulaTrees → OwnCauses → Answer → Meaning
-of_formula f given may answer = record { formulas = also f given; further = []; must = no_causes; may = may; names = λ s names. names ≡ s.names; answer = answer }
+of_formula f given may answer = record { formulas = also f given; further = []; must = no_causes; may = may; spared = λ s limit u. ⊥; names = λ s names. names ≡ s.names; answer = answer }
 
 -- a command that asks about a formula at a point, which has to value its free names
 abbrev pub at_point : FormulaTree → List PointEntry → OwnCauses → (State → ℕ → List ℕ → Type 0) → Meaning
@@ -197,7 +200,7 @@ meaning (Pnf f) = record (of_formula f none (counts (λ s. nodes (negated_of s f
 meaning (Dnf f) = clean Conjunction f
 meaning (Cnf f) = clean Disjunction f
 meaning (Simpl f given) = of_formula f given (counts (λ s. nodes (negated_of s f))) (OfFormula (measured (λ s limit t. t ≡ negated_of s f) (λ s limit t. IsSimplification s f given t)))
-meaning (Qe f given) = of_formula f given (stops (ReferenceStops f)) (OfFormula (measured (IsReferenceAnswer f) (λ s limit t. IsCondition s limit f given t)))
+meaning (Qe f given) = record (of_formula f given (stops (ReferenceStops f)) (OfFormula (measured (IsReferenceAnswer f) (λ s limit t. IsCondition s limit f given t)))) { spared = IsDirectUse f }
 meaning (Qea f given) = of_formula f given (record (stops (CasesStop f)) { text = HasLongCases f }) (OfText (λ s limit text. (ks : List Case) × IsCaseAnswer s f given ks × (text ≡ cases_text s.names ks)))
 meaning (Holds f es) = at_point f es (record (stops (TruthStops f es)) { overflow = λ s limit. ValuePasses f es s limit ⊎ TruthStops f es Overflow s limit })
     (λ s limit text. (answer : Bool) × IsTruth s f es answer × (text ≡ truth_text answer))

@@ -13,7 +13,8 @@ use Rattle.session_meaning.specs.declared.line.StatementError.TheVariants as err
 use Rattle.session_meaning.specs.Words.{context_text}
 use Rattle.session_meaning.specs.State.{State, with_names, with_bound, theory_of, chosen}
 use Rattle.session_meaning.specs.Meaning.{Meaning, Answer, OfFormula, OfText, MayGive, numbered, meaning}
-use Rattle.session_meaning.specs.Causes.{formula_line, IsFirst, IsAccepted}
+use Rattle.session_meaning.specs.Uses.{formula_line}
+use Rattle.session_meaning.specs.Causes.{IsFirst, IsAccepted}
 
 -- the line is this text, where it is printed, and then it is within the limit of a line
 abbrev pub IsLine : Bool → List ℕ → Line → Type 0

@@ -42,6 +42,8 @@ use Rattle.redlog_printer.specs.Text.{tree_text}
 use Rattle.formula_meaning.specs.Within.{IsAtomWithin}
 use Rattle.answer_texts.specs.Answers.{separated, answer_texts, case_text, cases_text}
 use Rattle.answer_texts.specs.Within.{IsPlaceWithin, AreAnswersWithin, AreCasesWithin}
+use Rattle.case_theory.specs.CaseTree.{SaysUnder}
+use Rattle.case_theory.specs.PutThrough.{AreTrue}
 use Rattle.shared_forms.specs.declared.error.FormsError.{FormsError}
 use Rattle.shared_forms.specs.declared.error.FormsError.TheVariants as error
 use Rattle.session_meaning.specs.Cases.{Turned}
@@ -49,7 +51,7 @@ use Rattle.shared_forms.specs.Faults.{measured_error, CasesFault}
 use Rattle.shared_forms.specs.Cases.{IsCaseLeft, IsLeftOf, put_before, AreLeftOf}
 use Rattle.session_state.specs.Keeping.{IsSessionFormula}
 use Rattle.prenex_forms.proofs.Finished.{bound_normal_form}
-use Rattle.session_state.proofs.SoundLemmas.{terms_within, negated_formula}
+use Rattle.session_state.proofs.SoundLemmas.{terms_within}
 use Rattle.shared_forms.proofs.EliminatedLemmas.{plain_free, free_below, answer_orderly, orderly_members, within_of_names, unquantified_bound, simplified_formula}
 
 -- ---- results
@@ -72,13 +74,16 @@ turned_bound : (K : ℕ → Type 0) (sign : Bool) (f : Tree) → EveryBound K f 
 turned_bound K true f h = h
 turned_bound K false f h = (bound_normal_form K negated_normal f h).1
 
+pub names_below : (n : ℕ) (f : Tree) → EveryBound (λ x. x < n) f → EachOf (λ x. x < n) (case_names f)
+names_below n f h = block_names (λ x. x < n) (case_formula f) [] (turned_bound (λ x. x < n) (case_sign (normal_tree f)) (normal_tree f) (bound_normal_form (λ x. x < n) negated_normal f h).0)
+
 pub block_below : (c : Context) (n : ℕ) (f : Tree) → IsSessionFormula c n f → EachOf (λ x. x < n) (case_names f)
-block_below c n f own = block_names (λ x. x < n) (case_formula f) [] (turned_bound (λ x. x < n) (case_sign (normal_tree f)) (normal_tree f) (negated_formula c n f own).within.quantified)
+block_below c n f own = names_below n f own.within.quantified
 
 -- ---- the cases of the reference elimination
 
 -- a guard can be simplified
-guard_orderly : (c : Context) (t : Tree) → IsTidy c t → IsOrderly (IsNormal c) t
+pub guard_orderly : (c : Context) (t : Tree) → IsTidy c t → IsOrderly (IsNormal c) t
 guard_orderly c t tidy = answer_orderly c t t (record { eliminated = becomes_itself c t tidy.is_plain (tidy_in c t tidy); tidy = tidy })
 
 -- a guard is a formula of the session
@@ -300,6 +305,11 @@ module _ (c : Context) (n : ℕ) (f : Tree) (own : IsSessionFormula c n f) where
 pub turned_says : (c : Context) (sign : Bool) (f g : Tree) (p : Point ℕ) → Of c p → SaysOf c sign f g → Turned sign (TrueAt c f p) ↔ TrueAt c g p
 turned_says c true f g p of h = h p of
 turned_says c false f g p of h = h p of
+
+-- under atoms
+pub turned_under : (c : Context) (ks : List Atom) (sign : Bool) (f g : Tree) (p : Point ℕ) → Of c p → AreTrue ks p → SaysUnder c ks sign f g → Turned sign (TrueAt c f p) ↔ TrueAt c g p
+turned_under c ks true f g p of t h = h p of t
+turned_under c ks false f g p of t h = h p of t
 
 pub turned_along : (sign : Bool) (A B : Type 0) → A ↔ B → Turned sign A ↔ Turned sign B
 turned_along true A B e = e

@@ -1,13 +1,15 @@
 -- Why a form is not made.
 use Rattle.std.specs.Prelude.{◌≡◌, ◌*◌, ◌<◌, ◌≤◌, ℕ, Option, Some}
-use Rattle.formula_meaning.specs.Context.{Context}
+use Rattle.formula_meaning.specs.Answer.{Place}
+use Rattle.formula_meaning.specs.Context.{Context, Fields}
 use Rattle.formula_meaning.specs.Sizes.{nodes}
-use Rattle.formula_meaning.specs.Tree.{Tree, tree_distinct}
+use Rattle.formula_meaning.specs.Tree.{Tree, Trees, tree_distinct}
 use Rattle.formula_meaning.specs.Measured.{Overflow, Nodes, stopped}
 use Rattle.formula_meaning.specs.NegationNormal.{normal_form}
 use Rattle.atom_normal.specs.NormalForm.{negated_normal}
-use Rattle.elimination_reference.specs.Reference.{reference}
+use Rattle.elimination_reference.specs.Reference.{normal_tree, reference}
 use Rattle.elimination_reference.specs.Cases.{reference_cases}
+use Rattle.case_theory.specs.Direct.{IsDirect}
 use Rattle.prenex_forms.specs.Forms.{OverflowsInRenaming}
 use Rattle.clean_forms.specs.Plain.{literals}
 use Rattle.plain_engine.specs.declared.measured.Measured.{Measured}
@@ -17,6 +19,7 @@ use Rattle.shared_forms.specs.declared.error.FormsError.TheVariants as error
 use Rattle.shared_forms.specs.declared.forms.Form.{Form}
 use Rattle.shared_forms.specs.declared.forms.Form.TheVariants as form
 use Rattle.shared_forms.specs.declared.forms.ClauseForm.{ClauseForm}
+use Rattle.shared_forms.specs.declared.way.Way.TheVariants as way
 use Rattle.shared_forms.specs.Forms.{junction_of}
 
 -- what stops an elimination
@@ -61,6 +64,12 @@ EliminationFault c limit f error.Overflow = reference c limit f ≡ stopped Over
 EliminationFault c limit f error.Nodes = reference c limit f ≡ stopped Nodes
 EliminationFault c limit f error.Memory = Unit {0}
 
+-- why there is no condition by cases: the reference elimination stops so, and for a direct formula there is no reason but want of
+-- memory
+pub record ConditionFault (c : Context) (limit : ℕ) (f : Tree) (e : FormsError) : Type 0 where
+  pub stops : EliminationFault c limit f e
+  pub direct : (x : ℕ) (fs : Trees) (s : Place) → c ≡ Fields → IsDirect limit (normal_tree f) x fs s → e ≡ error.Memory
+
 -- why the form of f is not made, where count names are known
 abbrev pub FormFault : Context → ℕ → ℕ → Form → Tree → FormsError → Type 0
 FormFault c count limit form.AsRead f e = NoFault e
@@ -68,7 +77,8 @@ FormFault c count limit form.NegationNormal f e = NegationFault (Some limit) f e
 FormFault c count limit form.Prenex f e = PrenexFault c count limit f e
 FormFault c count limit (form.Distributed clauses) f e = ClauseFault limit clauses (normal_form negated_normal f) e
 FormFault c count limit form.Simplified f e = SimplificationFault limit (normal_form negated_normal f) e
-FormFault c count limit form.Eliminated f e = EliminationFault c limit f e
+FormFault c count limit (form.Eliminated way.ByCases) f e = ConditionFault c limit f e
+FormFault c count limit (form.Eliminated way.ByReference) f e = EliminationFault c limit f e
 
 -- why there are no cases
 abbrev pub CasesFault : Context → ℕ → Tree → FormsError → Type 0

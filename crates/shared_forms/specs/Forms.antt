@@ -18,7 +18,7 @@ use Rattle.atom_normal.specs.Atoms.{atom_of, IsWellFormed}
 use Rattle.atom_normal.specs.NormalForm.{negated_normal, IsNormal}
 use Rattle.simplified_formulas.specs.Measure.{size, atom_measure}
 use Rattle.simplified_formulas.specs.Orderly.{IsOrderly}
-use Rattle.simplified_formulas.specs.Trees.{IsReduced, EquivalentUnder}
+use Rattle.simplified_formulas.specs.Trees.{IsReduced, EquivalentUnder, simplified_under}
 use Rattle.elimination_reference.specs.Reference.{reference}
 use Rattle.elimination_reference.specs.Theorems.{IsAnswerTo}
 use Rattle.prenex_theory.specs.Prenex.{prenex_of}
@@ -36,6 +36,8 @@ use Rattle.shared_forms.specs.declared.forms.Form.{Form}
 use Rattle.shared_forms.specs.declared.forms.Form.TheVariants as form
 use Rattle.shared_forms.specs.declared.forms.ClauseForm.{ClauseForm}
 use Rattle.shared_forms.specs.declared.forms.ClauseForm.TheVariants as clause_form
+use Rattle.shared_forms.specs.declared.way.Way.TheVariants as way
+use Rattle.shared_forms.specs.Conditions.{IsConditionByCases}
 
 -- ---- what is read
 
@@ -55,7 +57,7 @@ IsDistributed form.NegationNormal = ⊥
 IsDistributed form.Prenex = ⊥
 IsDistributed (form.Distributed clauses) = Unit {0}
 IsDistributed form.Simplified = ⊥
-IsDistributed form.Eliminated = ⊥
+IsDistributed (form.Eliminated way) = ⊥
 
 -- what the lists of a clean form are joined by
 abbrev pub junction_of : ClauseForm → Junction
@@ -73,6 +75,7 @@ pub record IsEliminatedAs (c : Context) (limit : ℕ) (f t : Tree) : Type 0 wher
 
 -- t is f simplified under the atoms ks
 pub record IsSimplifiedAs (c : Context) (ks : List Atom) (f t : Tree) : Type 0 where
+  pub form : t ≡ simplified_under c ks f
   pub truth : EquivalentUnder c ks t f
   pub reduced : IsReduced c t ks
   pub orderly : IsOrderly (IsNormal c) t
@@ -114,7 +117,8 @@ IsFormOf c count ks limit form.NegationNormal f t = t ≡ normal_form negated_no
 IsFormOf c count ks limit form.Prenex f t = IsPrenexAs c count limit f t
 IsFormOf c count ks limit (form.Distributed clauses) f t = IsCleanedAs c (junction_of clauses) (normal_form negated_normal f) t
 IsFormOf c count ks limit form.Simplified f t = IsSimplifiedAs c ks (normal_form negated_normal f) t
-IsFormOf c count ks limit form.Eliminated f t = IsSimplifiedAnswer c ks limit f t
+IsFormOf c count ks limit (form.Eliminated way.ByCases) f t = IsConditionByCases c ks limit f t
+IsFormOf c count ks limit (form.Eliminated way.ByReference) f t = IsSimplifiedAnswer c ks limit f t
 
 -- the names after the form of f was made
 abbrev pub HasFormNames : Form → List (List ℕ) → Tree → List (List ℕ) → Type 0
@@ -123,7 +127,7 @@ HasFormNames form.NegationNormal names f after = after ≡ names
 HasFormNames form.Prenex names f after = HasNewNames names f after
 HasFormNames (form.Distributed clauses) names f after = after ≡ names
 HasFormNames form.Simplified names f after = after ≡ names
-HasFormNames form.Eliminated names f after = after ≡ names
+HasFormNames (form.Eliminated way) names f after = after ≡ names
 
 -- the form of f under the atoms ks is the formula with this id of the store, and these are the names after it was made
 pub record IsFormed (c : Context) (ks : List Atom) (limit : ℕ) (form : Form) (names : List (List ℕ)) (f : Tree) (after : List (List ℕ)) (store : List (Shape FormulaId)) (id : FormulaId) : Type 0 where

@@ -1,3 +1,4 @@
+pub mod Conditions
 pub mod Forms
 pub mod Faults
 pub mod Cases

@@ -1,10 +1,11 @@
 //! The forms of a formula of a store.
 
-ghost use Rattle.std.specs.Prelude.{◌≡◌, ◌⊎◌, ◌<◌, Ok, IsErrOf, IfOk, IfErr, OnOk, OnErr, length, map};
+ghost use Rattle.std.specs.Prelude.{◌≡◌, ◌⊎◌, ◌<◌, ◌≤◌, Ok, IsErrOf, IfOk, IfErr, OnOk, OnErr, length, map};
 ghost use Rattle.std.specs.List.{AllByRecursion};
 ghost use Rattle.formula_meaning.specs.Every.{Every};
 ghost use Rattle.formula_meaning.specs.NegationNormal.{normal_form};
 ghost use Rattle.formula_meaning.specs.Shape.{IsQuantifierFree};
+ghost use Rattle.formula_meaning.specs.Sizes.{nodes};
 ghost use Rattle.formula_meaning.specs.Some.{EachOf};
 ghost use Rattle.formula_meaning.specs.Members.{HasTwoMembers};
 ghost use Rattle.formula_meaning.specs.Within.{IsTreeWithin};
@@ -18,15 +19,20 @@ ghost use Rattle.session_meaning.specs.FormulaAnswers.{HasNewNames};
 ghost use Rattle.shared_forms.specs.Forms.{junction_of, IsPremised, IsDistributed, IsEliminatedAs, IsSimplifiedAs, IsCleanedAs, IsSimplifiedAnswer, IsPrenexAs, IsFormed};
 ghost use Rattle.shared_forms.specs.Faults.{NegationFault, PrenexFault, ClauseFault, SimplificationFault, EliminationFault, FormFault};
 
+use crate::conditions::condition_by_cases;
 use crate::error::{FormsError, measured_error};
+use crate::way::Way;
 use atom_normal::{Atom, Context};
+use engine_answers::Engine;
 use formula_store::{FormulaId, Store};
 use formula_tree::{FormError, Names};
 use nnf_pnf::nnf;
 use normal_forms::{cnf, dnf};
 use prenex_forms::pnf;
+use qe_parallel::Gate;
 use shared_elimination::eliminate_shared;
 use std::alloc::Global;
+use std::thread::Threads;
 use theory_simplifier::{SimplError, simplify};
 
 /// Which clean form is wanted.
@@ -37,7 +43,7 @@ pub enum ClauseForm {
 }
 
 /// A form of a formula: as it is, its negation normal form, its prenex form, a clean form, one that is simplified under atoms, or one
-/// without quantifiers, simplified under atoms.
+/// without quantifiers, simplified under atoms, which is found in one of two ways.
 #[derive(Clone, Copy, Debug, PartialEq, Eq)]
 pub enum Form {
     AsRead,
@@ -45,7 +51,7 @@ pub enum Form {
     Prenex,
     Distributed(ClauseForm),
     Simplified,
-    Eliminated,
+    Eliminated(Way),
 }
 
 /// A formula, and atoms under which it is looked at.
@@ -58,27 +64,27 @@ pub struct Premised {
 /// The form of what was read. The new names of a prenex form stand behind the others. After an `Err` the formulas and the names stay.
 ///
 /// A prenex form gives `Nodes` exactly where the negation normal form has more nodes than the limit, and `Overflow` exactly where it
-/// has not and a renamed atom passes the limit of numbers. A form without quantifiers gives either exactly where the reference
-/// elimination stops with it. The others give `Nodes` alone: a negation normal form only where 6 times the distinct subformulas are
-/// above the limit, a clean form only where the plain form has more places of atoms, and a simplified one only where the negation
-/// normal form has more nodes.
-pub fn formed(
-    alloc: Global,
+/// has not and a renamed atom passes the limit of numbers. A form without quantifiers gives either only where the reference
+/// elimination stops with it; by cases it gives neither for a formula over the fields whose negation normal form is direct. The others
+/// give `Nodes` alone: a negation normal form only where 6 times the distinct subformulas are above the limit, a clean form only where
+/// the plain form has more places of atoms, and a simplified one only where the negation normal form has more nodes.
+pub fn formed<R: Threads + Sync, G: Gate + Sync>(
+    engine: &Engine<'_, R, G>,
     store: &mut Store,
     names: &mut Names,
-    context: Context,
-    limit: u64,
     form: Form,
     read: &Premised,
 ) -> Result<FormulaId, FormsError>
-    requires read { IsPremised (context_of context) (length names.old) store.old read.now }
+    requires workers { 1 ≤ engine.now.limits.workers }
+    requires read { IsPremised (context_of engine.now.context) (length names.old) store.old read.now }
     requires free { IsDistributed form → IsQuantifierFree (tree store.old read.now.formula) }
-    ensures formed { IfOk result (IsFormed (context_of context) (map atom_of read.now.atoms.items) limit form names.old (tree store.old read.now.formula) names.new store.new) }
-    ensures fault { IfErr result (FormFault (context_of context) (length names.old) limit form (tree store.old read.now.formula)) }
+    ensures formed { IfOk result (IsFormed (context_of engine.now.context) (map atom_of read.now.atoms.items) engine.now.limits.nodes form names.old (tree store.old read.now.formula) names.new store.new) }
+    ensures fault { IfErr result (FormFault (context_of engine.now.context) (length names.old) engine.now.limits.nodes form (tree store.old read.now.formula)) }
     ensures unchanged { OnErr result (names.new ≡ names.old) }
     ensures grown { Grows names.old names.new }
     ensures kept { Keeps (IsId store.old) (tree store.old) (IsId store.new) (tree store.new) }
 {
+    let (alloc, context, limit) = (engine.alloc, engine.context, engine.limits.nodes);
     let id = read.formula;
     match form {
         Form::AsRead => Ok(id),
@@ -86,12 +92,15 @@ pub fn formed(
         Form::Prenex => prenexed(alloc, store, names, context, limit, id),
         Form::Distributed(clauses) => distributed(alloc, store, context, limit, clauses, id),
         Form::Simplified => simplified_negation(alloc, store, context, limit, id, &read.atoms),
-        Form::Eliminated => simplified_answer(alloc, store, context, limit, id, &read.atoms),
+        Form::Eliminated(Way::ByCases) => condition_by_cases(engine, store, id, &read.atoms),
+        Form::Eliminated(Way::ByReference) => {
+            simplified_answer(alloc, store, context, limit, id, &read.atoms)
+        }
     }
 }
 
 /// The negation normal form. `Nodes` comes exactly where there is a limit and 6 times the distinct subformulas are above it.
-fn negated(
+pub(crate) fn negated(
     alloc: Global,
     store: &mut Store,
     limit: Option<u64>,
@@ -219,8 +228,8 @@ fn simplified_negation(
     simplified(alloc, store, context, limit, form, atoms)
 }
 
-/// An equivalent formula without quantifiers, simplified under the atoms.
-fn simplified_answer(
+/// What the reference elimination gives, simplified under the atoms.
+pub(crate) fn simplified_answer(
     alloc: Global,
     store: &mut Store,
     context: Context,
@@ -280,6 +289,7 @@ pub(crate) fn simplified(
     requires atoms { EachOf (IsNormal (context_of context)) (map atom_of atoms.now) }
     ensures made { IfOk result (IsId store.new) }
     ensures simplified { IfOk result (λ r. IsSimplifiedAs (context_of context) (map atom_of atoms.now) (tree store.old id) (tree store.new r)) }
+    ensures small { OnOk result (nodes (tree store.old id) ≤ limit) }
     ensures fault { IfErr result (SimplificationFault limit (tree store.old id)) }
     ensures kept { Keeps (IsId store.old) (tree store.old) (IsId store.new) (tree store.new) }
 {

@@ -9,9 +9,10 @@ ghost use Rattle.formula_meaning.specs.Formula.{No};
 ghost use Rattle.formula_meaning.specs.Some.{EachOf};
 ghost use Rattle.atom_normal.specs.Atoms.{context_of, atom_of, IsWellFormed};
 ghost use Rattle.atom_normal.specs.NormalForm.{IsNormal};
-ghost use Rattle.elimination_reference.specs.Cases.{Case};
-ghost use Rattle.test_points.specs.Points.{IsTestPoint};
-ghost use Rattle.nnf_trees.specs.Nnfs.{nnf_of, IsProper};
+ghost use Rattle.elimination_reference.specs.Cases.{Case as ReferenceCase};
+ghost use Rattle.test_points.specs.Points.{answer_of, IsTestPoint};
+ghost use Rattle.case_trees.specs.CaseTrees.{cases_seen};
+ghost use Rattle.nnf_trees.specs.Nnfs.{nnf_of};
 ghost use Rattle.plain_cases.specs.Case.{case_seen, leaf_case, HavePoints};
 ghost use Rattle.plain_cases.specs.Stand.{IsSound, AreSound};
 ghost use Rattle.simplified_formulas.specs.Orderly.{IsOrderly};
@@ -23,12 +24,13 @@ ghost use Rattle.shared_forms.specs.Cases.{IsLeftOf, AreLeftOf, put_before};
 
 use crate::forms::simplified;
 use atom_normal::{Atom, Context};
+use case_trees::Case;
 use formula_store::{FormulaId, Store};
 use formula_tree::{Shape, Tree};
-use nnf_trees::Nnf;
 use plain_cases::{Leaf, PrintedCase};
 use shared_elimination::share;
 use std::alloc::{AllocError, Global};
+use test_points::TestPoint;
 
 /// The cases with their guards simplified under the atoms, in order, without those whose guard becomes false.
 pub(crate) fn left_cases(
@@ -39,7 +41,7 @@ pub(crate) fn left_cases(
     atoms: &[Atom],
 ) -> Result<Vec<PrintedCase>, AllocError>
     requires sound { AreSound leaves.items }
-    requires orderly { EachOf (λ (k : Case). IsOrderly (IsNormal (context_of context)) k.guard) (map leaf_case leaves.items) }
+    requires orderly { EachOf (λ (k : ReferenceCase). IsOrderly (IsNormal (context_of context)) k.guard) (map leaf_case leaves.items) }
     requires well_formed { AllByRecursion IsWellFormed atoms.now }
     requires atoms { EachOf (IsNormal (context_of context)) (map atom_of atoms.now) }
     ensures left { IfOk result (λ v. AreLeftOf (context_of context) (map atom_of atoms.now) (map leaf_case leaves.items) (map case_seen v.items)) }
@@ -50,6 +52,33 @@ pub(crate) fn left_cases(
     for leaf in leaves {
         let case = left_case(alloc, store, context, leaf, atoms)?;
         push_left(&mut cases, case)?;
+    }
+    Ok(cases)
+}
+
+/// The cases over formulas of the store with their guards simplified under the atoms, in order, without those whose guard becomes
+/// false.
+pub(crate) fn left_guards(
+    alloc: Global,
+    store: &mut Store,
+    context: Context,
+    found: Vec<Case>,
+    atoms: &[Atom],
+) -> Result<Vec<PrintedCase>, AllocError>
+    requires guards { EachOf (λ (k : Case). IsId store.old k.guard) found.items }
+    requires well_formed_points { EachOf (λ (k : Case). All IsTestPoint k.answers.items) found.items }
+    requires orderly { EachOf (λ (k : ReferenceCase). IsOrderly (IsNormal (context_of context)) k.guard) (cases_seen store.old found.items) }
+    requires well_formed { AllByRecursion IsWellFormed atoms.now }
+    requires atoms { EachOf (IsNormal (context_of context)) (map atom_of atoms.now) }
+    ensures left { IfOk result (λ v. AreLeftOf (context_of context) (map atom_of atoms.now) (cases_seen store.old found.items) (map case_seen v.items)) }
+    ensures points { IfOk result (λ v. HavePoints v.items) }
+    ensures kept { Keeps (IsId store.old) (tree store.old) (IsId store.new) (tree store.new) }
+{
+    let mut cases = Vec::new(alloc);
+    for case in found {
+        let Case { guard, answers } = case;
+        let left = left_guard(alloc, store, context, guard, answers, atoms)?;
+        push_left(&mut cases, left)?;
     }
     Ok(cases)
 }
@@ -67,7 +96,7 @@ fn push_left(cases: &mut Vec<PrintedCase>, case: Option<PrintedCase>) -> Result<
     Ok(())
 }
 
-/// The case with its guard simplified under the atoms, or `None` where it becomes false.
+/// What is left of the case of a leaf.
 fn left_case(
     alloc: Global,
     store: &mut Store,
@@ -84,15 +113,36 @@ fn left_case(
     ensures kept { Keeps (IsId store.old) (tree store.old) (IsId store.new) (tree store.new) }
 {
     let Leaf { formula, points } = leaf;
-    let id = simplified_guard(alloc, store, context, formula, atoms)?;
+    let Ok(guard) = share(alloc, store, formula) else {
+        return Err(AllocError);
+    };
+    left_guard(alloc, store, context, guard, points, atoms)
+}
+
+/// The case with its guard simplified under the atoms, or `None` where it becomes false.
+fn left_guard(
+    alloc: Global,
+    store: &mut Store,
+    context: Context,
+    guard: FormulaId,
+    answers: Vec<TestPoint>,
+    atoms: &[Atom],
+) -> Result<Option<PrintedCase>, AllocError>
+    requires id { IsId store.old guard }
+    requires well_formed_points { All IsTestPoint answers.items }
+    requires orderly { IsOrderly (IsNormal (context_of context)) (tree store.old guard) }
+    requires well_formed { AllByRecursion IsWellFormed atoms.now }
+    requires atoms { EachOf (IsNormal (context_of context)) (map atom_of atoms.now) }
+    ensures left { IfOk result (λ o. IsLeftOf (context_of context) (map atom_of atoms.now) (record { guard = tree store.old guard; answers = map answer_of answers.items }) (option_map case_seen o)) }
+    ensures points { IfOk result (λ o. IfSome o (λ k. All IsTestPoint k.answers.items)) }
+    ensures kept { Keeps (IsId store.old) (tree store.old) (IsId store.new) (tree store.new) }
+{
+    let id = simplified_guard(alloc, store, context, guard, atoms)?;
     if is_false(store, id) {
         return Ok(None);
     }
     let guard = unfolded(store, id)?;
-    Ok(Some(PrintedCase {
-        guard,
-        answers: points,
-    }))
+    Ok(Some(PrintedCase { guard, answers }))
 }
 
 /// The guard, simplified under the atoms.
@@ -100,21 +150,18 @@ fn simplified_guard(
     alloc: Global,
     store: &mut Store,
     context: Context,
-    guard: Nnf,
+    guard: FormulaId,
     atoms: &[Atom],
 ) -> Result<FormulaId, AllocError>
-    requires proper { IsProper guard }
-    requires orderly { IsOrderly (IsNormal (context_of context)) (nnf_of guard) }
+    requires id { IsId store.old guard }
+    requires orderly { IsOrderly (IsNormal (context_of context)) (tree store.old guard) }
     requires well_formed { AllByRecursion IsWellFormed atoms.now }
     requires atoms { EachOf (IsNormal (context_of context)) (map atom_of atoms.now) }
     ensures made { IfOk result (IsId store.new) }
-    ensures simplified { IfOk result (λ r. IsSimplifiedAs (context_of context) (map atom_of atoms.now) (nnf_of guard) (tree store.new r)) }
+    ensures simplified { IfOk result (λ r. IsSimplifiedAs (context_of context) (map atom_of atoms.now) (tree store.old guard) (tree store.new r)) }
     ensures kept { Keeps (IsId store.old) (tree store.old) (IsId store.new) (tree store.new) }
 {
-    let Ok(id) = share(alloc, store, guard) else {
-        return Err(AllocError);
-    };
-    match simplified(alloc, store, context, u64::MAX, id, atoms) {
+    match simplified(alloc, store, context, u64::MAX, guard, atoms) {
         Ok(id) => Ok(id),
         Err(_) => Err(AllocError),
     }

@@ -3,10 +3,14 @@
 #![tactic(auto)]
 
 mod cases;
+mod conditions;
 mod error;
 mod forms;
 mod guards;
+mod references;
+mod way;
 
 pub use cases::wanted_cases;
 pub use error::FormsError;
 pub use forms::{ClauseForm, Form, Premised, formed};
+pub use way::Way;

@@ -4,7 +4,7 @@ use Rattle.redlog_run.proofs.Standing.{stands_fed, stands_cut}
 use Rattle.redlog_run.proofs.answer.answer_next.Goals as goal
 
 pub returns-clause-stands : goal.returns-clause-stands
-returns-clause-stands c = λ limit given written h.
+returns-clause-stands g c = λ limit given written h.
     let a = c.args.answering.now in
     let bytes = given ++ take c.in_ok-taken.taken c.args.bytes.now in
     let fed = stands_fed limit given (take c.in_ok-taken.taken c.args.bytes.now) (written ++ a.answers.lines.items) a c.feed.new.self c.in_ok-taken.ensures.follows h in

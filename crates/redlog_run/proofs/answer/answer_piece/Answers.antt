@@ -7,7 +7,7 @@ use Rattle.redlog_run.proofs.Replies.{adds_finished, adds_line, adds_refusal, no
 use Rattle.redlog_run.proofs.answer.answer_piece.Goals as goal
 
 pub returns-in-Ok-Finished-clause-adds : goal.returns-in-Ok-Finished-clause-adds
-returns-in-Ok-Finished-clause-adds c =
+returns-in-Ok-Finished-clause-adds g c =
     let s = state_in c.args.session.now in
     let limit = c.args.session.now.limits.nodes in
     let next = state_in c.statement.new.self in
@@ -15,7 +15,7 @@ returns-in-Ok-Finished-clause-adds c =
     (subst (λ (l : Line). Reply s limit c.args.piece.now (Ok l) next) c.in-Ok-Finished.field-0-is c.in-Ok-Finished.ensures.reply)
 
 pub returns-in-Ok-Nothing-clause-adds : goal.returns-in-Ok-Nothing-clause-adds
-returns-in-Ok-Nothing-clause-adds c =
+returns-in-Ok-Nothing-clause-adds g c =
     let s = state_in c.args.session.now in
     let limit = c.args.session.now.limits.nodes in
     let next = state_in c.statement.new.self in
@@ -23,7 +23,7 @@ returns-in-Ok-Nothing-clause-adds c =
     (subst (λ (l : Line). Reply s limit c.args.piece.now (Ok l) next) c.in-Ok-Nothing.field-0-is c.in-Ok-Nothing.ensures.reply) (sym (append-nil c.args.answers.now.lines.items)) refl
 
 pub returns-in_ok-add_line-in-Ok-Printed-clause-adds : goal.returns-in_ok-add_line-in-Ok-Printed-clause-adds
-returns-in_ok-add_line-in-Ok-Printed-clause-adds c =
+returns-in_ok-add_line-in-Ok-Printed-clause-adds g c =
     let s = state_in c.args.session.now in
     let limit = c.args.session.now.limits.nodes in
     let next = state_in c.statement.new.self in
@@ -31,10 +31,10 @@ returns-in_ok-add_line-in-Ok-Printed-clause-adds c =
     adds_line s limit c.args.piece.now c.args.offset next c.args.answers.now.lines.items c.args.answers.now.refused (line.Printed c.in-Ok-Printed.text) c.add_line.new.answers.lines.items c.add_line.new.answers.refused
     (printed_goes_on c.in-Ok-Printed.text)
     (subst (λ (l : Line). Reply s limit c.args.piece.now (Ok l) next) c.in-Ok-Printed.field-0-is c.in-Ok-Printed.ensures.reply)
-    (c.in_ok-add_line-in-Ok-Printed.ensures.lines ∙ ap (λ (bytes : List ℕ). c.args.answers.now.lines.items ++ (bytes ++ 10 ∷ [])) text) c.add_line.ensures.refused
+    (◌∙◌ {A = List ℕ} c.in_ok-add_line-in-Ok-Printed.ensures.lines (ap (λ (bytes : List ℕ). c.args.answers.now.lines.items ++ (bytes ++ 10 ∷ [])) text)) c.add_line.ensures.refused
 
 pub returns-in_ok-add_refusal-in-Err-clause-adds : goal.returns-in_ok-add_refusal-in-Err-clause-adds
-returns-in_ok-add_refusal-in-Err-clause-adds c =
+returns-in_ok-add_refusal-in-Err-clause-adds g c =
     let s = state_in c.args.session.now in
     let limit = c.args.session.now.limits.nodes in
     let next = state_in c.statement.new.self in

@@ -1,7 +1,7 @@
 use Rattle.std.proofs.Common.{refl, ap}
-use Rattle.session_commands.specs.declared.session.Limits.{Limits}
+use Rattle.block_scheduler.specs.declared.limits.Limits.{Limits}
 use Rattle.redlog_run.proofs.Standing.{stands_first}
 use Rattle.redlog_run.proofs.answer.begin.Goals as goal
 
 pub returns-clause-stands : goal.returns-clause-stands
-returns-clause-stands c = stands_first c.args.nodes _ c.new-2.ensures.follows c.new.ensures.state refl (ap (λ (l : Limits). l.nodes) c.new.ensures.limits)
+returns-clause-stands c = stands_first c.args.limits.nodes _ c.new-2.ensures.follows c.new.ensures.state refl (ap (λ (l : Limits). l.nodes) c.new.ensures.limits)

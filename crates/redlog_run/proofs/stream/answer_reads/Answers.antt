@@ -20,11 +20,11 @@ returns-in_err-count g c =
     let same : source.left new ≡ source.left old = c.in_err-count.ensures.err in
     let p = err_from_is_err_and c.from_residual.result c.from_residual.ensures.1 in
     let is : c.from_residual.result ≡ Err streams.Read = p.1 ∙ ap Err p.2 in
-    subst (λ r. ClaimOfSource c.args.nodes (ends (source.left first) (source.faults first) (sink.wrote c.args.sink.now) (sink.faults c.args.sink.now))
+    subst (λ r. ClaimOfSource c.args.limits.nodes (ends (source.left first) (source.faults first) (sink.wrote c.args.sink.now) (sink.faults c.args.sink.now))
     (ends (source.left new) (source.faults new) (sink.wrote c.loop-turn.sink) (sink.faults c.loop-turn.sink)) (stream_status r)) (sym is)
-    (unread_claim c.args.nodes (source.left first) (source.left new) (source.faults first) (source.faults new) (sink.wrote c.args.sink.now) (sink.wrote c.loop-turn.sink) (sink.faults c.args.sink.now) (sink.faults c.loop-turn.sink)
+    (unread_claim c.args.limits.nodes (source.left first) (source.left new) (source.faults first) (source.faults new) (sink.wrote c.args.sink.now) (sink.wrote c.loop-turn.sink) (sink.faults c.args.sink.now) (sink.faults c.loop-turn.sink)
     c.loop-turn.left c.loop-turn.answering
-    (subst (λ x. Reading c.args.nodes (source.left first) x (sink.wrote c.args.sink.now) (sink.wrote c.loop-turn.sink) c.loop-turn.left c.loop-turn.answering) (sym same) inv.reading)
+    (subst (λ x. Reading c.args.limits.nodes (source.left first) x (sink.wrote c.args.sink.now) (sink.wrote c.loop-turn.sink) c.loop-turn.left c.loop-turn.answering) (sym same) inv.reading)
     inv.none (subst (λ n. Rose n (source.faults new)) inv.no_read_fault rose) inv.no_write_fault)
 
 pub returns-in_err-refused : goal.returns-in_err-refused
@@ -43,10 +43,10 @@ returns-in_err-refused g c =
     let all = gave_end (source.left first) (source.left old) (source.left new) inv.reading.given inv.reading.gave (subst (λ n. Gave (source.left old) (source.left new) (take n c.read.new.into)) c.if-count-eq0.true gave) end in
     let p = err_from_is_err_and c.from_residual-in_err-refused.result c.from_residual-in_err-refused.ensures.1 in
     let is : c.from_residual-in_err-refused.result ≡ Err (streams.Answer stop) = p.1 ∙ ap Err p.2 in
-    subst (λ r. ClaimOfSource c.args.nodes (ends (source.left first) (source.faults first) (sink.wrote c.args.sink.now) (sink.faults c.args.sink.now))
+    subst (λ r. ClaimOfSource c.args.limits.nodes (ends (source.left first) (source.faults first) (sink.wrote c.args.sink.now) (sink.faults c.args.sink.now))
     (ends (source.left new) (source.faults new) (sink.wrote now) (sink.faults now)) (stream_status r)) (sym is)
-    (last_claim c.args.nodes (source.left first) (source.left new) (source.faults first) (source.faults new) (sink.wrote c.args.sink.now) (sink.wrote now) (sink.faults c.args.sink.now) (sink.faults now)
-    inv.reading.given all.0 all.1 (omega (arith, inv.reading.count)) r stop (c.in_err-refused.ensures.answers c.args.nodes inv.reading.given (sink.wrote c.args.sink.now) inv.reading.written)
+    (last_claim c.args.limits.nodes (source.left first) (source.left new) (source.faults first) (source.faults new) (sink.wrote c.args.sink.now) (sink.wrote now) (sink.faults c.args.sink.now) (sink.faults now)
+    inv.reading.given all.0 all.1 (omega (arith, inv.reading.count)) r stop (c.in_err-refused.ensures.answers c.args.limits.nodes inv.reading.given (sink.wrote c.args.sink.now) inv.reading.written)
     (subst (λ n. AnswerCause n (sink.faults now) stop) inv.no_write_fault c.in_err-refused.ensures.stop))
 
 pub returns-then-count-eq0 : goal.returns-then-count-eq0
@@ -63,8 +63,8 @@ returns-then-count-eq0 g c =
     let r : source.faults new ≡ source.faults first = c.in_ok-count.ensures.no_fault ∙ inv.no_read_fault in
     let w : sink.faults now ≡ sink.faults c.args.sink.now = search rules in
     let all = gave_end (source.left first) (source.left old) (source.left new) inv.reading.given inv.reading.gave (subst (λ n. Gave (source.left old) (source.left new) (take n c.read.new.into)) c.if-count-eq0.true gave) end in
-    whole_claim c.args.nodes (source.left first) (source.left new) (source.faults first) (source.faults new) (sink.wrote c.args.sink.now) (sink.wrote now) (sink.faults c.args.sink.now) (sink.faults now)
-    inv.reading.given all.0 all.1 (omega (arith, inv.reading.count)) r c.in_ok-refused.refused (c.in_ok-refused.ensures.answers c.args.nodes inv.reading.given (sink.wrote c.args.sink.now) inv.reading.written) w
+    whole_claim c.args.limits.nodes (source.left first) (source.left new) (source.faults first) (source.faults new) (sink.wrote c.args.sink.now) (sink.wrote now) (sink.faults c.args.sink.now) (sink.faults now)
+    inv.reading.given all.0 all.1 (omega (arith, inv.reading.count)) r c.in_ok-refused.refused (c.in_ok-refused.ensures.answers c.args.limits.nodes inv.reading.given (sink.wrote c.args.sink.now) inv.reading.written) w
 
 pub returns-in_err-answer_bytes : goal.returns-in_err-answer_bytes
 returns-in_err-answer_bytes g c =
@@ -87,12 +87,12 @@ returns-in_err-answer_bytes g c =
     let r : source.faults new ≡ source.faults first = c.in_ok-count.ensures.no_fault ∙ inv.no_read_fault in
     let p = err_from_is_err_and c.from_residual-in_err-answer_bytes.result c.from_residual-in_err-answer_bytes.ensures.1 in
     let is : c.from_residual-in_err-answer_bytes.result ≡ Err (streams.Answer stop) = p.1 ∙ ap Err p.2 in
-    subst (λ r. ClaimOfSource c.args.nodes (ends (source.left first) (source.faults first) (sink.wrote c.args.sink.now) (sink.faults c.args.sink.now))
+    subst (λ r. ClaimOfSource c.args.limits.nodes (ends (source.left first) (source.faults first) (sink.wrote c.args.sink.now) (sink.faults c.args.sink.now))
     (ends (source.left new) (source.faults new) (sink.wrote now) (sink.faults now)) (stream_status r)) (sym is)
-    (stopped_claim c.args.nodes (source.left first) (source.left new) (source.faults first) (source.faults new) (sink.wrote c.args.sink.now) (sink.wrote now) (sink.faults c.args.sink.now) (sink.faults now)
+    (stopped_claim c.args.limits.nodes (source.left first) (source.left new) (source.faults first) (source.faults new) (sink.wrote c.args.sink.now) (sink.wrote now) (sink.faults c.args.sink.now) (sink.faults now)
     inv.reading.given (take few (take count into)) (drop few (take count into)) (gave_parts (source.left first) (source.left old) (source.left new) inv.reading.given (take count into) few inv.reading.gave gave)
     (within_few inv.reading.given into c.loop-turn.left count few inv.reading.count h) (one_read_few into c.loop-turn.left count few h) r stop c.answer_bytes.new.answering
-    (c.in_err-answer_bytes.ensures.answers c.args.nodes inv.reading.given (sink.wrote c.args.sink.now) inv.reading.written)
+    (c.in_err-answer_bytes.ensures.answers c.args.limits.nodes inv.reading.given (sink.wrote c.args.sink.now) inv.reading.written)
     (subst (λ n. AnswerCause n (sink.faults now) stop) inv.no_write_fault c.in_err-answer_bytes.ensures.stop))
 
 pub returns-then-branch : goal.returns-then-branch
@@ -115,11 +115,11 @@ returns-then-branch g c =
     let r : source.faults new ≡ source.faults first = c.in_ok-count.ensures.no_fault ∙ inv.no_read_fault in
     let w : sink.faults now ≡ sink.faults c.args.sink.now = search rules in
     let a = c.answer_bytes.new.answering in
-    let answers = c.in_ok-answer_bytes.ensures.answers c.args.nodes inv.reading.given (sink.wrote c.args.sink.now) inv.reading.written in
-    ended_claim c.args.nodes (source.left first) (source.left new) (source.faults first) (source.faults new) (sink.wrote c.args.sink.now) (sink.wrote now) (sink.faults c.args.sink.now) (sink.faults now)
+    let answers = c.in_ok-answer_bytes.ensures.answers c.args.limits.nodes inv.reading.given (sink.wrote c.args.sink.now) inv.reading.written in
+    ended_claim c.args.limits.nodes (source.left first) (source.left new) (source.faults first) (source.faults new) (sink.wrote c.args.sink.now) (sink.wrote now) (sink.faults c.args.sink.now) (sink.faults now)
     inv.reading.given (take few (take count into)) (drop few (take count into)) (gave_parts (source.left first) (source.left old) (source.left new) inv.reading.given (take count into) few inv.reading.gave gave)
     (within_few inv.reading.given into c.loop-turn.left count few inv.reading.count h) (one_read_few into c.loop-turn.left count few h) r a.answers.refused
-    (subst (λ b. AnswersBytes c.args.nodes inv.reading.given (take few (take count into)) (sink.wrote c.args.sink.now) (sink.wrote now) a (Ok b)) c.if-branch.true answers) w
+    (subst (λ b. AnswersBytes c.args.limits.nodes inv.reading.given (take few (take count into)) (sink.wrote c.args.sink.now) (sink.wrote now) a (Ok b)) c.if-branch.true answers) w
 
 pub returns-then-few-count : goal.returns-then-few-count
 returns-then-few-count g c =
@@ -142,12 +142,12 @@ returns-then-few-count g c =
     let w : sink.faults now ≡ sink.faults c.args.sink.now = search rules in
     let quiet : c.answer_bytes.new.answering.splitter.whole ≡ false = search rules in
     let a = c.answer_bytes.new.answering in
-    let answers = c.in_ok-answer_bytes.ensures.answers c.args.nodes inv.reading.given (sink.wrote c.args.sink.now) inv.reading.written in
-    past_claim c.args.nodes (source.left first) (source.left new) (source.faults first) (source.faults new) (sink.wrote c.args.sink.now) (sink.wrote now) (sink.faults c.args.sink.now) (sink.faults now)
+    let answers = c.in_ok-answer_bytes.ensures.answers c.args.limits.nodes inv.reading.given (sink.wrote c.args.sink.now) inv.reading.written in
+    past_claim c.args.limits.nodes (source.left first) (source.left new) (source.faults first) (source.faults new) (sink.wrote c.args.sink.now) (sink.wrote now) (sink.faults c.args.sink.now) (sink.faults now)
     inv.reading.given (take few (take count into)) (drop few (take count into)) (gave_parts (source.left first) (source.left old) (source.left new) inv.reading.given (take count into) few inv.reading.gave gave)
     (within_few inv.reading.given into c.loop-turn.left count few inv.reading.count h) (one_read_few into c.loop-turn.left count few h) r a
     (full_few inv.reading.given into c.loop-turn.left count few inv.reading.count h c.if-few-count.true) (some_ahead into c.loop-turn.left count few h c.if-few-count.true)
-    (subst (λ b. AnswersBytes c.args.nodes inv.reading.given (take few (take count into)) (sink.wrote c.args.sink.now) (sink.wrote now) a (Ok b)) c.if-branch.false answers) quiet w
+    (subst (λ b. AnswersBytes c.args.limits.nodes inv.reading.given (take few (take count into)) (sink.wrote c.args.sink.now) (sink.wrote now) a (Ok b)) c.if-branch.false answers) quiet w
 
 pub loop-turn-preserved : goal.loop-turn-preserved
 loop-turn-preserved g c =
@@ -167,12 +167,12 @@ loop-turn-preserved g c =
     record { of_read = omega (arith, c.min-few.ensures); of_room = omega (arith, c.min-few.ensures); least = λ k. omega (arith, k, c.min-few.ensures); read = read; small = size } in
     let gave : Gave (source.left old) (source.left new) (take count into) = c.in_ok-count.ensures.bytes in
     let a = c.answer_bytes.new.answering in
-    let answers = c.in_ok-answer_bytes.ensures.answers c.args.nodes inv.reading.given (sink.wrote c.args.sink.now) inv.reading.written in
-    let written = subst (λ b. AnswersBytes c.args.nodes inv.reading.given (take few (take count into)) (sink.wrote c.args.sink.now) (sink.wrote now) a (Ok b)) c.if-branch.false answers in
+    let answers = c.in_ok-answer_bytes.ensures.answers c.args.limits.nodes inv.reading.given (sink.wrote c.args.sink.now) inv.reading.written in
+    let written = subst (λ b. AnswersBytes c.args.limits.nodes inv.reading.given (take few (take count into)) (sink.wrote c.args.sink.now) (sink.wrote now) a (Ok b)) c.if-branch.false answers in
     let long = length_few c.loop-turn.left count few into h in
     let fed : a.splitter.fed ≡ c.loop-turn.answering.splitter.fed + length (take few (take count into)) = search rules in
     record {
-      reading = reading_more c.args.nodes (source.left first) (source.left old) (source.left new) (sink.wrote c.args.sink.now) (sink.wrote c.loop-turn.sink) (sink.wrote now) c.loop-turn.left count few into c.loop-turn.answering a
+      reading = reading_more c.args.limits.nodes (source.left first) (source.left old) (source.left new) (sink.wrote c.args.sink.now) (sink.wrote c.loop-turn.sink) (sink.wrote now) c.loop-turn.left count few into c.loop-turn.answering a
           inv.reading gave h c.if-few-count.false written;
       none = search rules;
       quiet = search rules;

@@ -9,7 +9,7 @@ invariant-loop-turn g l =
     let source = g.S.Source in
     let sink = g.K.Sink in
     record {
-      reading : Reading l.nodes (source.left l.fn.source) (source.left l.source) (sink.wrote l.fn.sink) (sink.wrote l.sink) l.left l.answering;
+      reading : Reading l.fn.limits.nodes (source.left l.fn.source) (source.left l.source) (sink.wrote l.fn.sink) (sink.wrote l.sink) l.left l.answering;
       none : l.answering.splitter.whole ≡ false;
       quiet : l.answering.answers.lines.items ≡ [];
       count : l.answering.splitter.fed + l.left ≡ script_limit;

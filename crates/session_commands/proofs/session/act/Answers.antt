@@ -5,12 +5,12 @@ use Rattle.session_commands.proofs.AnswerLemmas.{say_answered, formula_assigned}
 use Rattle.session_commands.proofs.session.act.Goals as goal
 
 pub returns-in-Say-clause-answer : goal.returns-in-Say-clause-answer
-returns-in-Say-clause-answer c =
-    say_answered c.say.result (action_tree c.args.statement.now.action) (command_tree c.deref.result.now) (state_of c.args.state.now) (state_of c.say.new.state) c.args.limit c.args.statement.now.printed
+returns-in-Say-clause-answer g c =
+    say_answered c.say.result (action_tree c.args.statement.now.action) (command_tree c.deref.result.now) (state_of c.args.state.now) (state_of c.say.new.state) c.args.workshop.now.limits.nodes c.args.statement.now.printed
     (ap action_tree c.in-Say.is ∙ ap (λ d. Say (command_tree d)) (sym c.deref.ensures)) c.say.ensures.answer
 
 pub returns-in-Assign-clause-answer : goal.returns-in-Assign-clause-answer
-returns-in-Assign-clause-answer c =
+returns-in-Assign-clause-answer g c =
     let d = c.deref-in-Assign.result.now in
-    formula_assigned c.answer_form_command.result (action_tree c.args.statement.now.action) c.in-Assign.name (command_tree d) (state_of c.args.state.now) (state_of c.answer_form_command.new.state) c.args.limit c.args.statement.now.printed
+    formula_assigned c.answer_form_command.result (action_tree c.args.statement.now.action) c.in-Assign.name (command_tree d) (state_of c.args.state.now) (state_of c.answer_form_command.new.state) c.args.workshop.now.limits.nodes c.args.statement.now.printed
     (ap action_tree c.in-Assign.is ∙ ap (λ b. Assign c.in-Assign.name (command_tree b)) (sym c.deref-in-Assign.ensures)) c.answer_form_command.ensures.answer

@@ -4,9 +4,9 @@ use Rattle.session_commands.proofs.AnswerLemmas.{reply_to, spelled_binds}
 use Rattle.session_commands.proofs.session.reply_to.Goals as goal
 
 pub answer-requires-clause-formula : goal.answer-requires-clause-formula
-answer-requires-clause-formula c = spelled_binds c.args.bytes.now (statement_tree c.in-Ok.statement) c.in-Ok.ensures.spelled
+answer-requires-clause-formula g c _ _ = spelled_binds c.args.bytes.now (statement_tree c.in-Ok.statement) c.in-Ok.ensures.spelled
 
 pub returns-in-Ok-clause-reply : goal.returns-in-Ok-clause-reply
-returns-in-Ok-clause-reply c =
-    reply_to (state_of c.args.state.now) (state_of c.answer.new.state) c.args.limit c.args.bytes.now (statement_tree c.in-Ok.statement) c.in-Ok.ensures.spelled c.answer.result
+returns-in-Ok-clause-reply g c =
+    reply_to (state_of c.args.state.now) (state_of c.answer.new.state) c.args.workshop.now.limits.nodes c.args.bytes.now (statement_tree c.in-Ok.statement) c.in-Ok.ensures.spelled c.answer.result
     c.answer.ensures.answer c.answer.ensures.refusal c.answer.ensures.unchanged

@@ -7,35 +7,35 @@ use Rattle.session_commands.proofs.AnswerLemmas.{formula_answered, query_answere
 use Rattle.session_commands.proofs.session.say.Goals as goal
 
 pub returns-in-Echo-clause-answer : goal.returns-in-Echo-clause-answer
-returns-in-Echo-clause-answer c =
-    formula_answered c.answer_form_command.result (command_tree c.args.command.now) (state_of c.args.state.now) (state_of c.answer_form_command.new.state) c.args.limit c.args.printed c.answer_form_command.ensures.answer
+returns-in-Echo-clause-answer g c =
+    formula_answered c.answer_form_command.result (command_tree c.args.command.now) (state_of c.args.state.now) (state_of c.answer_form_command.new.state) c.args.workshop.now.limits.nodes c.args.printed c.answer_form_command.ensures.answer
 
 pub returns-in-Holds-clause-answer : goal.returns-in-Holds-clause-answer
-returns-in-Holds-clause-answer c =
-    query_answered c.answer_holds.result (Holds (formula_tree c.in-Holds.formula) c.items-in-Holds.result.now) (command_tree c.args.command.now) (state_of c.args.state.now) (state_of c.answer_holds.new.state) c.args.limit c.args.printed
+returns-in-Holds-clause-answer g c =
+    query_answered c.answer_holds.result (Holds (formula_tree c.in-Holds.formula) c.items-in-Holds.result.now) (command_tree c.args.command.now) (state_of c.args.state.now) (state_of c.answer_holds.new.state) c.args.workshop.now.limits.nodes c.args.printed
     (ap command_tree c.in-Holds.is ∙ ap (Holds (formula_tree c.in-Holds.formula)) (sym c.items-in-Holds.ensures)) refl c.answer_holds.ensures.answer c.answer_holds.ensures.next
 
 pub returns-in-Holds-clause-refusal : goal.returns-in-Holds-clause-refusal
-returns-in-Holds-clause-refusal c =
-    refused_as c.answer_holds.result (Holds (formula_tree c.in-Holds.formula) c.items-in-Holds.result.now) (command_tree c.args.command.now) (state_of c.args.state.now) c.args.limit (use_of None c.args.printed)
+returns-in-Holds-clause-refusal g c =
+    refused_as c.answer_holds.result (Holds (formula_tree c.in-Holds.formula) c.items-in-Holds.result.now) (command_tree c.args.command.now) (state_of c.args.state.now) c.args.workshop.now.limits.nodes (use_of None c.args.printed)
     (ap command_tree c.in-Holds.is ∙ ap (Holds (formula_tree c.in-Holds.formula)) (sym c.items-in-Holds.ensures)) c.answer_holds.ensures.refused
 
 pub returns-in-Qea-clause-answer : goal.returns-in-Qea-clause-answer
-returns-in-Qea-clause-answer c =
-    query_answered c.answer_cases.result (Qea (formula_tree c.in-Qea.formula) (formulas_of (map formula_tree c.items.result.now))) (command_tree c.args.command.now) (state_of c.args.state.now) (state_of c.answer_cases.new.state) c.args.limit c.args.printed
+returns-in-Qea-clause-answer g c =
+    query_answered c.answer_cases.result (Qea (formula_tree c.in-Qea.formula) (formulas_of (map formula_tree c.items.result.now))) (command_tree c.args.command.now) (state_of c.args.state.now) (state_of c.answer_cases.new.state) c.args.workshop.now.limits.nodes c.args.printed
     (ap command_tree c.in-Qea.is ∙ ap (Qea (formula_tree c.in-Qea.formula)) c.items.ensures) refl c.answer_cases.ensures.answer c.answer_cases.ensures.next
 
 pub returns-in-Qea-clause-refusal : goal.returns-in-Qea-clause-refusal
-returns-in-Qea-clause-refusal c =
-    refused_as c.answer_cases.result (Qea (formula_tree c.in-Qea.formula) (formulas_of (map formula_tree c.items.result.now))) (command_tree c.args.command.now) (state_of c.args.state.now) c.args.limit (use_of None c.args.printed)
+returns-in-Qea-clause-refusal g c =
+    refused_as c.answer_cases.result (Qea (formula_tree c.in-Qea.formula) (formulas_of (map formula_tree c.items.result.now))) (command_tree c.args.command.now) (state_of c.args.state.now) c.args.workshop.now.limits.nodes (use_of None c.args.printed)
     (ap command_tree c.in-Qea.is ∙ ap (Qea (formula_tree c.in-Qea.formula)) c.items.ensures) c.answer_cases.ensures.refused
 
 pub returns-in-Sample-clause-answer : goal.returns-in-Sample-clause-answer
-returns-in-Sample-clause-answer c =
-    query_answered c.answer_sample.result (Sample (formula_tree c.in-Sample.formula) c.items-in-Sample.result.now) (command_tree c.args.command.now) (state_of c.args.state.now) (state_of c.answer_sample.new.state) c.args.limit c.args.printed
+returns-in-Sample-clause-answer g c =
+    query_answered c.answer_sample.result (Sample (formula_tree c.in-Sample.formula) c.items-in-Sample.result.now) (command_tree c.args.command.now) (state_of c.args.state.now) (state_of c.answer_sample.new.state) c.args.workshop.now.limits.nodes c.args.printed
     (ap command_tree c.in-Sample.is ∙ ap (Sample (formula_tree c.in-Sample.formula)) (sym c.items-in-Sample.ensures)) refl c.answer_sample.ensures.answer c.answer_sample.ensures.next
 
 pub returns-in-Sample-clause-refusal : goal.returns-in-Sample-clause-refusal
-returns-in-Sample-clause-refusal c =
-    refused_as c.answer_sample.result (Sample (formula_tree c.in-Sample.formula) c.items-in-Sample.result.now) (command_tree c.args.command.now) (state_of c.args.state.now) c.args.limit (use_of None c.args.printed)
+returns-in-Sample-clause-refusal g c =
+    refused_as c.answer_sample.result (Sample (formula_tree c.in-Sample.formula) c.items-in-Sample.result.now) (command_tree c.args.command.now) (state_of c.args.state.now) c.args.workshop.now.limits.nodes (use_of None c.args.printed)
     (ap command_tree c.in-Sample.is ∙ ap (Sample (formula_tree c.in-Sample.formula)) (sym c.items-in-Sample.ensures)) c.answer_sample.ensures.refused

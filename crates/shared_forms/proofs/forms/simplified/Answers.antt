@@ -12,6 +12,7 @@ returns-in-Ok-clause-simplified c =
     let t = tree c.simplify.new.store c.in-Ok.id in
     let h = c.in-Ok.ensures in
     record {
+      form = h.simplified;
       truth = h.truth;
       reduced = h.reduced;
       orderly = h.shape;

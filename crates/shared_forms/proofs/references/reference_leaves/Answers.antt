@@ -11,7 +11,7 @@ use Rattle.formula_tree.specs.Trees.{tree_of}
 use Rattle.plain_cases.specs.declared.branch.Leaf.{Leaf}
 use Rattle.shared_forms.specs.Faults.{CasesFault}
 use Rattle.shared_forms.proofs.CaseLemmas.{cases_along, cases_fault, err_map, fault_along, paid_stops}
-use Rattle.shared_forms.proofs.cases.reference_leaves.Goals as goal
+use Rattle.shared_forms.proofs.references.reference_leaves.Goals as goal
 
 pub leaves_of-requires-clause-normal : goal.leaves_of-requires-clause-normal
 leaves_of-requires-clause-normal c =

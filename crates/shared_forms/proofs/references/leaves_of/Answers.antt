@@ -3,7 +3,7 @@ use Rattle.atom_normal.specs.Atoms.{context_of}
 use Rattle.formula_tree.specs.Trees.{tree_of}
 use Rattle.shared_forms.specs.Faults.{CasesFault}
 use Rattle.shared_forms.proofs.CaseLemmas.{cases_fault}
-use Rattle.shared_forms.proofs.cases.leaves_of.Goals as goal
+use Rattle.shared_forms.proofs.references.leaves_of.Goals as goal
 
 pub returns-in-Err-clause-fault : goal.returns-in-Err-clause-fault
 returns-in-Err-clause-fault c =
