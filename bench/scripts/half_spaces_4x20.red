@@ -1,0 +1,2 @@
+rlset ofsf$
+rlqe ex({x,y,z,u},(y+z+2*u-4*x <= 0*a+1 and 4*y+z+3*u-4*x <= 0*a and 4*x+y+2*z+u <= a+1 and x+u-2*y-3*z <= 0*a+7 and 3*x+3*u-3*y-z <= a and 4*y-3*x-4*z-4*u <= 0*a+8 and y+4*u-2*x-2*z <= a and 2*y-3*x-4*z-4*u <= 0*a+3 and 2*x+3*y+4*u-z <= a+6 and 4*z+3*u-2*x-4*y <= 0*a+7 and 3*x+3*y-z-4*u <= a+3 and x+4*y+4*z+u <= 0*a+9 and 3*y+2*z+3*u-2*x <= 0*a+3 and x+z-y-4*u <= 0*a+4 and z-2*x-4*y-3*u <= a+8 and 3*x-4*y-z-u <= 0*a+3 and 4*x+u-y-2*z <= 0*a+3 and 2*y+2*z-x-2*u <= a+7 and y+z+u-3*x <= 0*a+2 and 4*x+2*y+4*z-u <= 0*a+8));

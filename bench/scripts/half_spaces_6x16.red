@@ -1,0 +1,2 @@
+rlset ofsf$
+rlqe ex({x,y,z,u,v,w},(3*y+4*z+4*u+w-4*x-2*v <= 0*a+8 and z+4*u-x-y-v-3*w <= a+2 and z+u+2*w-x-y-4*v <= 0*a+9 and 3*w-3*x-3*y-z-2*u-3*v <= a+8 and y+4*z+3*w-3*x-3*u-v <= 0*a+6 and y+v+4*w-4*x-3*z-u <= 0*a+8 and x+4*z+4*v+w-2*y-4*u <= 0*a and u+2*v+w-3*x-y-4*z <= 0*a+1 and 3*x+y+2*z+4*v+4*w-4*u <= 0*a+8 and 3*x+3*y+2*w-3*z-3*u-3*v <= 0*a+8 and 2*y+z+v-3*x-2*u-4*w <= 0*a+3 and 4*w-3*x-3*y-3*z-4*u-4*v <= 0*a+2 and 3*x+z+v-4*y-u-2*w <= 0*a+2 and 4*x+2*z-3*y-u-2*v-2*w <= a+7 and 4*w-x-y-4*z-2*u-2*v <= 0*a+7 and 4*u+v+3*w-3*x-4*y-2*z <= a+9));

@@ -1,0 +1,2 @@
+rlset ofsf$
+rlqe ex({s1,s2,s3,s4,s5},(s1 >= 0 and s2 >= 0 and s3 >= 0 and s4 >= 0 and s5 >= 0 and s1+1 <= 15 and s2+2 <= 15 and s3+3 <= 15 and s4+4 <= 15 and s5+5 <= 15 and (s1+1 <= s2 or s2+2 <= s1) and (s1+1 <= s3 or s3+3 <= s1) and (s1+1 <= s4 or s4+4 <= s1) and (s1+1 <= s5 or s5+5 <= s1) and (s2+2 <= s3 or s3+3 <= s2) and (s2+2 <= s4 or s4+4 <= s2) and (s2+2 <= s5 or s5+5 <= s2) and (s3+3 <= s4 or s4+4 <= s3) and (s3+3 <= s5 or s5+5 <= s3) and (s4+4 <= s5 or s5+5 <= s4)));
