@@ -14,7 +14,7 @@ use Rattle.session_meaning.specs.Meaning.{variables, numbered, meaning}
 use Rattle.session_meaning.specs.Reply.{Answers}
 use Rattle.session_commands.proofs.NewNameLemmas.{answer_names_distinct, answer_names_variables}
 use Rattle.session_state.proofs.VariableLemmas.{AllVariables, both, variables_of_all, all_put_in}
-use Rattle.session_commands.proofs.EntryLemmas.{names_of_entries}
+use Rattle.point_queries.proofs.EntryLemmas.{names_of_entries}
 use Rattle.lines_read_back.specs.ReadBack.{NamesStayWritable}
 
 pub proper_formulas : (c : CommandTree) → IsWritableCommand c → AreWritableFormulas (meaning c).formulas

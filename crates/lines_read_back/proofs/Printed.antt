@@ -32,11 +32,11 @@ use Rattle.session_meaning.specs.Meaning.{Meaning, Answer, OfFormula, OfText, Gi
 use Rattle.session_meaning.specs.Uses.{Use}
 use Rattle.session_meaning.specs.Causes.{SomeFormula, IsAccepted}
 use Rattle.session_meaning.specs.Reply.{Tells, Answers}
-use Rattle.session_commands.specs.Steps.{AreNumbered}
+use Rattle.problem_reading.specs.Reading.{AreNumbered}
 use Rattle.session_state.specs.Keeping.{IsSessionFormula}
 use Rattle.clean_forms.proofs.FormShapes.{form_free}
-use Rattle.session_commands.proofs.CauseLemmas.{no_cause}
-use Rattle.session_commands.proofs.GivenLemmas.{numbered_in}
+use Rattle.problem_reading.proofs.CauseLemmas.{no_cause}
+use Rattle.problem_reading.proofs.ReadLemmas.{numbered_in}
 use Rattle.formula_tree.proofs.PlaceLaws.{after_has, in_either}
 use Rattle.shared_forms.proofs.EliminatedLemmas.{unquantified_bound, within_of_names, free_below, none_from, all_below}
 use Rattle.shared_forms.proofs.PrenexLemmas.{prenex_formula}

@@ -10,7 +10,7 @@ use Rattle.formula_meaning.specs.Tree.{tree_distinct}
 use Rattle.session_meaning.specs.declared.TheConstants.{MOST_SUBFORMULAS}
 use Rattle.session_meaning.specs.declared.line.Line.{Line}
 use Rattle.session_meaning.specs.State.{State, with_names}
-use Rattle.session_commands.specs.Replies.{use_of, Refuses, IsStopped, IsFormulaAnswer, IsQueryAnswer, BindsFormula}
+use Rattle.command_tools.specs.Replies.{use_of, Refuses, IsStopped, IsFormulaAnswer, IsQueryAnswer, BindsFormula}
 use Rattle.session_meaning.specs.Meaning.{Answer, OfFormula, OfText, meaning, numbered, Meaning, MayGive, GivesFormula}
 use Rattle.session_meaning.specs.Uses.{Use, formula_line}
 use Rattle.session_meaning.specs.Causes.{IsFirst}

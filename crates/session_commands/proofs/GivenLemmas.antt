@@ -10,10 +10,7 @@ use Rattle.formula_meaning.specs.Tree.{Tree, TrueAt}
 use Rattle.formula_meaning.proofs.Sizes.{distinct_count_within}
 use Rattle.qe_syntax.specs.Trees.{FormulaTree, FormulaTrees, formula_trees}
 use Rattle.qe_syntax.specs.Statements.{CommandTree, Pnf}
-use Rattle.qe_syntax.specs.Writable.{IsWritableFormula, AreWritableFormulas}
-use Rattle.qe_syntax.specs.Valued.{IsIn}
 use Rattle.qe_syntax.specs.Value.{NamedPoint}
-use Rattle.formula_tree.proofs.PlaceLaws.{after_has, in_either}
 use Rattle.elimination_reference.proofs.Turning.{normal_truths, normal_inside}
 use Rattle.atom_normal.specs.NormalForm.{IsNormal}
 use Rattle.formula_meaning.specs.Atom.{Says}
@@ -24,8 +21,10 @@ use Rattle.formula_meaning.specs.Some.{EachOf}
 use Rattle.formula_tree.specs.Resolving.{BoundTrees, bound_truth, formula_variables, all_variables, resolve, at_names}
 use Rattle.qe_syntax.specs.Value as written
 use Rattle.redlog_printer.specs.Text.{tree_text}
-use Rattle.session_commands.specs.Replies.{use_of, Refuses, state_with, IsFormulaAnswer}
-use Rattle.session_commands.specs.Steps.{forms_refusal, given_trees, form_of, command_of, HasNumbers, IsReadable, AreNumbered, AreReadable, HasNoEarlier, AreUnread, HasUnwantedQuantifier, IsReady, IsUnready, MayBind, TargetFault, LineFault, HasFewBytes, IsForSize, IsUnfit, IsUnspared, MayAsk, static_refusal}
+use Rattle.command_tools.specs.Replies.{use_of, Refuses, state_with, IsFormulaAnswer}
+use Rattle.command_tools.specs.Refusals.{forms_refusal, LineFault, static_refusal}
+use Rattle.session_commands.specs.Steps.{given_trees, form_of, command_of, HasUnwantedQuantifier, IsReady, IsUnready, MayBind, TargetFault, HasFewBytes, IsForSize, IsUnfit, IsUnspared, MayAsk}
+use Rattle.problem_reading.specs.Reading.{AreNumbered, AreReadable, HasNoEarlier, AreUnread}
 use Rattle.session_meaning.specs.Meaning.{meaning, numbered, Meaning, Determines, IsAllowed}
 use Rattle.formula_resolving.specs.declared.error.StaticError.{StaticError}
 use Rattle.formula_resolving.specs.declared.error.StaticError.TheVariants as static
@@ -47,24 +46,23 @@ use Rattle.session_meaning.specs.declared.line.StatementError.TheVariants as err
 use Rattle.session_commands.specs.declared.formulas.FormCommand.{FormCommand}
 use Rattle.session_commands.specs.declared.formulas.FormCommand.TheVariants as wanted
 use Rattle.session_meaning.specs.State.{State, with_names}
-use Rattle.session_meaning.specs.Assumptions.{atoms_alone, assumed, Hold}
+use Rattle.session_meaning.specs.Assumptions.{assumed, Hold}
 use Rattle.session_meaning.specs.FormulaAnswers.{negated_of, IsPrenexAnswer, IsSimplification, IsCondition, IsCleanAnswer}
 use Rattle.session_state.specs.Keeping.{IsSessionFormula, IsSound}
 use Rattle.shared_forms.specs.declared.forms.ClauseForm.TheVariants as clause_form
 use Rattle.formula_meaning.specs.declared.junction.Junction.{Junction}
 use Rattle.formula_meaning.specs.declared.junction.Junction.TheVariants.{Conjunction, Disjunction}
 use Rattle.clean_forms.specs.Plain.{plain_form}
-use Rattle.session_commands.proofs.CauseLemmas.{HasNoPoint, then_clear, unread_refuses, quantified_refuses, ready_below, readable_below, below_bindings}
+use Rattle.problem_reading.proofs.CauseLemmas.{HasNoPoint, then_clear, unread_refuses, quantified_refuses, ready_below, readable_below, below_bindings}
 use Rattle.prenex_forms.proofs.Finished.{finished}
-use Rattle.session_state.proofs.NameLemmas.{kept_names}
 use Rattle.session_commands.proofs.NewNameLemmas.{answer_names_once}
 use Rattle.shared_forms.proofs.PrenexLemmas.{prenex_form_members, prenex_formula}
-use Rattle.session_commands.proofs.AssumptionLemmas.{assumed_hold, each_both, alone_has}
+use Rattle.problem_reading.proofs.AssumptionLemmas.{assumed_hold}
 use Rattle.session_state.proofs.VariableLemmas.{not_empty}
 use Rattle.shared_forms.proofs.ConditionsFor.{eliminated_for, condition_formula}
 use Rattle.shared_forms.proofs.EliminatedLemmas.{answer_formula, orderly_members, orderly_every, simplified_formula, cleaned_formula}
-use Rattle.session_state.proofs.SoundLemmas.{resolved_formula, negated_formula}
-use Rattle.session_commands.proofs.TruthLemmas.{truth_as_written}
+use Rattle.session_state.proofs.SoundLemmas.{negated_formula}
+use Rattle.problem_reading.proofs.ReadTruth.{truth_as_written}
 
 append_nil : (xs : List (List ℕ)) → xs ++ [] ≡ xs
 append_nil [] = refl
@@ -105,16 +103,6 @@ named_is (wanted.Distributed clause_form.Disjunctive) f s = with_them s (formula
 named_is (wanted.Distributed clause_form.Conjunctive) f s = with_them s (formula_variables f ++ all_variables none)
 named_is (wanted.Simplified given) f s = with_them s (formula_variables f ++ all_variables (formula_trees given.now))
 named_is (wanted.Eliminated found given) f s = with_them s (formula_variables f ++ all_variables (formula_trees given.now))
-
-pub numbered_in : (fs : FormulaTrees) (names : List (List ℕ)) → ((x : List ℕ) → IsIn x (all_variables fs) → IsIn x names) → AreNumbered names fs
-numbered_in none names h = tt
-numbered_in (also g gs) names h = (
-  kept_names (formula_variables g) names (λ x i. h x (in_either x (formula_variables g) (all_variables gs) (inl i))),
-  numbered_in gs names (λ x i. h x (in_either x (formula_variables g) (all_variables gs) (inr i))),
-)
-
-pub numbers_of : (f : FormulaTree) (gs : FormulaTrees) (names : List (List ℕ)) → AreNumbered (fold with_name names (formula_variables f ++ all_variables gs)) (also f gs)
-numbers_of f gs names = numbered_in (also f gs) (fold with_name names (formula_variables f ++ all_variables gs)) (λ x i. after_has (formula_variables f ++ all_variables gs) names x (inr i))
 
 -- ---- refusals in reading
 
@@ -442,21 +430,6 @@ module _ (w : FormCommand) (f : FormulaTree) (s : State) (numbers : AreNumbered 
       small = b.small;
       after = refl;
     }
-
--- the resolved formula is one of the session, and so is the one that is given
-pub readable_formula : (f : FormulaTree) (s : State) → HasNumbers s.names f → IsSound s → IsWritableFormula f → IsReadable s f → IsSessionFormula s.context (length s.names) (resolve s.context s.bound s.names f)
-readable_formula f s numbers sound proper h = resolved_formula s.context s.bound s.names f sound.formulas numbers proper h
-
--- the assumptions are normal atoms
-each_normal : (s : State) → IsSound s → (gs : FormulaTrees) → AreNumbered s.names gs → AreReadable s gs → AreWritableFormulas gs → EachOf (IsNormal s.context) (assumed s gs)
-each_normal s sound none numbers readable proper = tt
-each_normal s sound (also g gs) numbers readable proper =
-    each_both (IsNormal s.context) (atoms_alone (resolve s.context s.bound s.names g)) (assumed s gs)
-    (alone_has (IsNormal s.context) (resolve s.context s.bound s.names g) (readable_formula g s numbers.0 sound proper.0 readable.0).normal)
-    (each_normal s sound gs numbers.1 readable.1 proper.1)
-
-pub assumed_normal : (s : State) → IsSound s → (f : FormulaTree) (gs : FormulaTrees) → AreNumbered s.names (also f gs) → AreReadable s (also f gs) → AreWritableFormulas gs → EachOf (IsNormal s.context) (assumed s gs)
-assumed_normal s sound f gs numbers readable proper = each_normal s sound gs numbers.1 readable.1 proper
 
 same_names : (s : State) (t : Tree) (names : List (List ℕ)) → names ≡ s.names → IsSessionFormula s.context (length s.names) t → IsSessionFormula s.context (length names) t
 same_names s t names e h = subst (λ ns. IsSessionFormula s.context (length ns) t) (sym e) h

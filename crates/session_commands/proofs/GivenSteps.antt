@@ -1,8 +1,8 @@
 -- The steps of a command that gives a formula, on the state.
 use Rattle.std.specs.Prelude.{Result, Ok, Err, OnOk, OnErr, IfOk, IfErr}
-use Rattle.std.proofs.Common.{◌≡◌, ◌⊎◌, ⊎_elim, inl, inr, ℕ, ◌<◌, List, [], ◌∷◌, ◌++◌, map, Bool, Option, Some, None, sym, ap, ◌∙◌, subst, refl, length}
+use Rattle.std.proofs.Common.{◌≡◌, ◌⊎◌, ⊎_elim, inl, inr, ℕ, ◌<◌, List, ◌++◌, Bool, Option, Some, None, sym, ap, ◌∙◌, subst, refl, length}
 use Rattle.formula_meaning.specs.Formula.{also}
-use Rattle.std.specs.List.{AllByRecursion, fold, IsDistinct}
+use Rattle.std.specs.List.{fold, IsDistinct}
 use Rattle.std.specs.Map.{keys_of}
 use Rattle.formula_meaning.specs.Atom.{Atom}
 use Rattle.formula_meaning.specs.Every.{Every}
@@ -13,8 +13,7 @@ use Rattle.atom_normal.specs.declared.atoms.Context as atoms
 use Rattle.atom_normal.specs.Atoms.{context_of}
 use Rattle.block_scheduler.specs.declared.limits.Limits.{Limits}
 use Rattle.atom_normal.specs.NormalForm.{IsNormal}
-use Rattle.qe_syntax.specs.declared.tree.Formula.{Formula}
-use Rattle.qe_syntax.specs.Trees.{FormulaTree, FormulaTrees, formula_tree, formulas_of}
+use Rattle.qe_syntax.specs.Trees.{FormulaTree, FormulaTrees}
 use Rattle.qe_syntax.specs.Writable.{IsWritableFormula, AreWritableFormulas}
 use Rattle.qe_syntax.specs.Value.{same_name}
 use Rattle.formula_tree.specs.Bindings.{bind}
@@ -40,8 +39,10 @@ use Rattle.session_commands.specs.declared.formulas.FormCommand.TheVariants as w
 use Rattle.session_meaning.specs.Points.{IsQuantified}
 use Rattle.formula_meaning.specs.Shape.{IsQuantifierFree}
 use Rattle.session_meaning.specs.State.{State, with_names}
-use Rattle.session_commands.specs.Replies.{use_of, Refuses, state_with, IsFormulaAnswer}
-use Rattle.session_commands.specs.Steps.{forms_refusal, given_trees, form_of, command_of, AreNumbered, HasUnwantedQuantifier, IsReady, IsUnready, IsWantedOf, MayBind, TargetFault, IsLineOf, GiveFault, HasFewBytes, MayAsk, AttemptRefuses, KeepsWhereEliminated, bound_after}
+use Rattle.command_tools.specs.Replies.{use_of, Refuses, state_with, IsFormulaAnswer}
+use Rattle.command_tools.specs.Refusals.{forms_refusal}
+use Rattle.session_commands.specs.Steps.{given_trees, form_of, command_of, HasUnwantedQuantifier, IsReady, IsUnready, IsWantedOf, MayBind, TargetFault, IsLineOf, GiveFault, HasFewBytes, MayAsk, AttemptRefuses, KeepsWhereEliminated, bound_after}
+use Rattle.problem_reading.specs.Reading.{AreNumbered}
 use Rattle.session_meaning.specs.Meaning.{meaning, numbered}
 use Rattle.session_state.specs.Keeping.{state_of, IsSessionFormula, IsSound, IsSessionState}
 use Rattle.session_meaning.specs.Assumptions.{assumed}
@@ -54,9 +55,10 @@ use Rattle.session_state.specs.Growth.{KeepsState, GrowsState}
 use Rattle.session_state.proofs.BindingLemmas.{bind_trees, bind_ids, bind_distinct, bound_there}
 use Rattle.session_state.proofs.StateLemmas.{state_parts, grown_state, grown_session, keeps_then, sound_with, length_grows}
 use Rattle.session_commands.proofs.NewNameLemmas.{form_names, answer_names_distinct, answer_names_variables}
-use Rattle.session_commands.proofs.PointLemmas.{resolved_free}
+use Rattle.point_queries.proofs.PointLemmas.{resolved_free}
 use Rattle.session_state.proofs.VariableLemmas.{AllVariables, both, variables_of_formula, variables_of_all, all_put_in}
-use Rattle.session_commands.proofs.GivenLemmas.{assumed_normal, named_is, numbers_of, refused_unready, refused_form, refused_target, refused_line, is_given, readable_formula, given_formula}
+use Rattle.problem_reading.proofs.ReadLemmas.{assumed_normal, numbers_of, readable_formula}
+use Rattle.session_commands.proofs.GivenLemmas.{named_is, refused_unready, refused_form, refused_target, refused_line, is_given, given_formula}
 
 -- a state with one more formula bound is sound
 sound_bound : (s : State) (x : List ℕ) (t : Tree) → IsSound s → IsSessionFormula s.context (length s.names) t → Every IsAtomInLimit t → IsSound (state_with s (Some x) t)
@@ -71,10 +73,6 @@ sound_bound s x t h k fits = record {
 pub names_are : (w : FormCommand) (f : FormulaTree) (state : SessionState) (names : List (List ℕ)) (gs : FormulaTrees) → names ≡ fold with_name state.names (formula_variables f ++ all_variables gs) → gs ≡ given_trees w
     → names ≡ fold with_name state.names (formula_variables f ++ all_variables (given_trees w))
 names_are w f state names gs e g = e ∙ ap (λ hs. fold with_name state.names (formula_variables f ++ all_variables hs)) g
-
-pub proper_items : (gs : List Formula) → AreWritableFormulas (formulas_of (map formula_tree gs)) → AllByRecursion (λ g. IsWritableFormula (formula_tree g)) gs
-proper_items [] h = tt
-proper_items (g ∷ gs) h = (h.0, proper_items gs h.1)
 
 free_here : (s : State) (f : FormulaTree) (w : FormCommand) → IsDistributed (form_of w) → ¬ (HasUnwantedQuantifier s w f) → ¬ (IsQuantified s.bound f)
 free_here s f wanted.Resolved d h = absurd d

@@ -15,7 +15,7 @@ use Rattle.session_state.specs.Keeping.{state_of, IsSessionState}
 use Rattle.session_state.proofs.StateLemmas.{same_state, same_session, keeps_then_grows}
 use Rattle.session_commands.specs.declared.formulas.FormCommand.{FormCommand}
 use Rattle.session_commands.specs.declared.formulas.FormCommand.TheVariants as wanted
-use Rattle.session_commands.specs.Replies.{use_of, Refuses, IsFormulaAnswer}
+use Rattle.command_tools.specs.Replies.{use_of, Refuses, IsFormulaAnswer}
 use Rattle.session_commands.specs.Steps.{command_of, plain_of, IsFirstAttempt, IsByCases, IsForSize, IsUnfit, IsUnspared, MayAsk, AttemptRefuses, KeepsWhereEliminated}
 use Rattle.session_commands.proofs.GivenSteps.{if_err, on_err}
 

@@ -1,9 +1,3 @@
-pub mod Parts
-pub mod Replies
 pub mod Steps
-pub mod CaseLists
-pub mod Asked
-pub mod Truths
-pub mod SampleSteps
 pub mod Accepted
 pub mod Seen

@@ -1,36 +1,16 @@
 -- What the steps of an answer give one another.
-use Rattle.std.specs.Prelude.{◌≡◌, ◌≢◌, ◌⊎◌, ◌<◌, ◌≤◌, ℕ, List, Bool, true, Option, Some, None, length, nat_lt, if◌then◌else◌, map}
+use Rattle.std.specs.Prelude.{◌≡◌, ◌⊎◌, ◌≤◌, ℕ, List, Bool, Option, Some, None, length}
 use Rattle.formula_meaning.specs.Formula.{none, also}
-use Rattle.formula_meaning.specs.Some.{SomeOf}
 use Rattle.formula_meaning.specs.Tree.{Tree}
-use Rattle.std.specs.List.{AllByRecursion}
-use Rattle.atom_normal.specs.Atoms.{atom_of, IsWellFormed}
-use Rattle.formula_tree.specs.Makers.{IsMade}
-use Rattle.formula_store.specs.Nodes.{tree, IsId}
 use Rattle.session_state.specs.declared.state.SessionState.{SessionState}
-use Rattle.shared_forms.specs.declared.forms.Premised.{Premised}
-use Rattle.qe_syntax.specs.declared.tree.Formula.{Formula}
-use Rattle.qe_syntax.specs.Trees.{FormulaTree, FormulaTrees, formula_tree, formula_trees}
+use Rattle.qe_syntax.specs.Trees.{FormulaTree, FormulaTrees, formula_trees}
 use Rattle.qe_syntax.specs.Statements.{CommandTree, Echo, Nnf, Pnf, Dnf, Cnf, Simpl, Qe}
-use Rattle.redlog_tokens.specs.declared.token.ReadError.{ReadError}
-use Rattle.redlog_tokens.specs.declared.token.ReadError.TheVariants as reading
 use Rattle.formula_tree.specs.Bindings.{bind}
-use Rattle.formula_tree.specs.Resolving.{BoundTrees, names_after, resolve}
-use Rattle.formula_tree.specs.Causes.{IsAccepted as IsResolvable}
-use Rattle.formula_resolving.specs.declared.error.StaticError.{StaticError}
-use Rattle.formula_resolving.specs.declared.error.StaticError.TheVariants as static
-use Rattle.formula_resolving.specs.Refusals.{IsFirstCause, Applies, rank as static_rank}
+use Rattle.formula_tree.specs.Resolving.{BoundTrees, resolve}
 use Rattle.formula_store.specs.declared.id.FormulaId.{FormulaId}
-use Rattle.plain_engine.specs.declared.measured.Measured.{Measured}
-use Rattle.plain_engine.specs.declared.measured.Measured.TheVariants as measured
-use Rattle.redlog_printer.specs.declared.error.PrintError.{PrintError}
-use Rattle.redlog_printer.specs.declared.error.PrintError.TheVariants as print
-use Rattle.redlog_printer.specs.Writing.{text_limit}
 use Rattle.session_meaning.specs.declared.line.Line.{Line}
 use Rattle.session_meaning.specs.declared.line.StatementError.{StatementError}
 use Rattle.session_meaning.specs.declared.line.StatementError.TheVariants as error
-use Rattle.shared_forms.specs.declared.error.FormsError.{FormsError}
-use Rattle.shared_forms.specs.declared.error.FormsError.TheVariants as forms
 use Rattle.shared_forms.specs.declared.forms.Form.{Form}
 use Rattle.shared_forms.specs.declared.forms.Form.TheVariants as form
 use Rattle.shared_forms.specs.Forms.{IsFormOf}
@@ -41,47 +21,14 @@ use Rattle.shared_forms.specs.declared.way.Way.TheVariants as way
 use Rattle.session_meaning.specs.State.{State}
 use Rattle.session_meaning.specs.Assumptions.{assumed}
 use Rattle.session_state.specs.Growth.{KeepsState}
-use Rattle.session_commands.specs.Replies.{Refuses}
-use Rattle.session_commands.specs.Parts.{EachFormula}
+use Rattle.command_tools.specs.Replies.{Refuses}
 use Rattle.session_meaning.specs.Meaning.{meaning}
 use Rattle.session_meaning.specs.Uses.{Use, formula_line}
-use Rattle.session_meaning.specs.Causes.{HasNoRoom, IsTooLarge, SomeFormula}
+use Rattle.session_meaning.specs.Causes.{HasNoRoom, IsTooLarge}
 use Rattle.session_meaning.specs.Reply.{IsLine}
 use Rattle.session_meaning.specs.Points.{IsQuantified}
-
-abbrev pub read_refusal : ReadError → StatementError
-read_refusal reading.Long = error.Long
-read_refusal reading.Lexical = error.Lexical
-read_refusal reading.Nesting = error.Nesting
-read_refusal reading.Syntax = error.Syntax
-read_refusal reading.Memory = error.Memory
-
-abbrev pub static_refusal : StaticError → StatementError
-static_refusal static.Unbound = error.Unbound
-static_refusal static.FormulaAsTerm = error.FormulaAsTerm
-static_refusal static.Nonlinear = error.Nonlinear
-static_refusal static.Division = error.Division
-static_refusal static.CongruenceContext = error.CongruenceContext
-static_refusal static.Modulus = error.Modulus
-static_refusal static.Depth = error.Depth
-static_refusal static.Overflow = error.Overflow
-static_refusal static.Memory = error.Memory
-
-abbrev pub measured_refusal : Measured → StatementError
-measured_refusal measured.Overflow = error.Overflow
-measured_refusal measured.Nodes = error.Nodes
-measured_refusal measured.Memory = error.Memory
-
--- the refusal of a form that is not made
-abbrev pub forms_refusal : FormsError → StatementError
-forms_refusal forms.Overflow = error.Overflow
-forms_refusal forms.Nodes = error.Nodes
-forms_refusal forms.Memory = error.Memory
-
--- the refusal of a text that is not written
-abbrev pub print_refusal : PrintError → StatementError
-print_refusal print.Text = error.Text
-print_refusal print.Memory = error.Memory
+use Rattle.command_tools.specs.Refusals.{LineFault}
+use Rattle.problem_reading.specs.Reading.{AreReadable, HasNoEarlier, AreUnread}
 
 -- the assumptions
 abbrev pub given_trees : FormCommand → FormulaTrees
@@ -110,80 +57,6 @@ command_of (wanted.Distributed clause_form.Disjunctive) f = Dnf f
 command_of (wanted.Distributed clause_form.Conjunctive) f = Cnf f
 command_of (wanted.Simplified given) f = Simpl f (formula_trees given.now)
 command_of (wanted.Eliminated found given) f = Qe f (formula_trees given.now)
-
--- ---- what is read
-
--- each variable of the formula has its number
-abbrev pub HasNumbers : List (List ℕ) → FormulaTree → Type 0
-HasNumbers names f = names_after names f ≡ names
-
--- the first cause why a formula is not resolved is this word's
-abbrev pub IsUnread : State → FormulaTree → StatementError → Type 0
-IsUnread s f e = (d : StaticError) × (e ≡ static_refusal d) × IsFirstCause s.context s.bound s.names f d
-
--- the formula is resolved in the state
-abbrev pub IsReadable : State → FormulaTree → Type 0
-IsReadable s f = IsResolvable s.context s.bound s.names f
-
--- ---- the formulas of a command, looked at together
-
-abbrev pub AreNumbered : List (List ℕ) → FormulaTrees → Type 0
-AreNumbered names fs = EachFormula (HasNumbers names) fs
-
-abbrev pub AreReadable : State → FormulaTrees → Type 0
-AreReadable s fs = EachFormula (IsReadable s) fs
-
--- the cause applies to some of them
-abbrev pub AppliesAmong : State → FormulaTrees → StaticError → Type 0
-AppliesAmong s fs d = SomeFormula (λ g. Applies s.context s.bound s.names g d) fs
-
--- no cause in reading that comes before this place of their order applies to one of them
-abbrev pub HasNoEarlier : State → FormulaTrees → ℕ → Type 0
-HasNoEarlier s fs n = (d : StaticError) → static_rank d < n → ¬ (AppliesAmong s fs d)
-
--- it is the first that applies to some of them
-pub record IsFirstAmong (s : State) (fs : FormulaTrees) (d : StaticError) : Type 0 where
-  pub applies : AppliesAmong s fs d
-  pub first : HasNoEarlier s fs (static_rank d)
-
--- the same, where of want of memory nothing is said
-abbrev pub IsFirstCauseAmong : State → FormulaTrees → StaticError → Type 0
-IsFirstCauseAmong s fs d = d ≢ static.Memory → IsFirstAmong s fs d
-
--- the first cause why one of them is not resolved is this word's
-abbrev pub AreUnread : State → FormulaTrees → StatementError → Type 0
-AreUnread s fs e = (d : StaticError) × (e ≡ static_refusal d) × IsFirstCauseAmong s fs d
-
--- The formula and its assumptions are read: this is the id of the formula, these are the atoms of the assumptions, and no cause in reading applies.
-pub record AreRead (s : State) (f : FormulaTree) (given : FormulaTrees) (after : SessionState) (read : Premised) : Type 0 where
-  pub made : IsMade (IsId after.store) (tree after.store) read.formula (resolve s.context s.bound s.names f)
-  pub atoms : map atom_of read.atoms.items ≡ assumed s given
-  pub well_formed : AllByRecursion IsWellFormed read.atoms.items
-  pub readable : AreReadable s (also f given)
-
--- The first cause for which P holds, or None where there is none. Want of memory is no cause.
-abbrev pub FirstAmong : (StaticError → Type 0) → Option StaticError → Type 0
-FirstAmong P None = (d : StaticError) → static_rank d < 8 → ¬ (P d)
-FirstAmong P (Some e) = (static_rank e < 8) × P e × ((d : StaticError) → static_rank d < static_rank e → ¬ (P d))
-
--- the earlier of two causes
-abbrev pub first_of : StaticError → Option StaticError → StaticError
-first_of e None = e
-first_of e (Some d) = if nat_lt (static_rank d) (static_rank e) then d else e
-
-abbrev pub earlier_of : Option StaticError → Option StaticError → Option StaticError
-earlier_of stop None = stop
-earlier_of stop (Some e) = Some (first_of e stop)
-
--- the cause applies to some formula of the list
-abbrev pub AppliesToSome : State → List Formula → StaticError → Type 0
-AppliesToSome s gs d = SomeOf (λ g. Applies s.context s.bound s.names (formula_tree g) d) gs
-
--- the first cause in the formula, or None where it is resolved, joined to an earlier one
-pub record IsFirstWith (s : State) (g : FormulaTree) (stop after : Option StaticError) : Type 0 where
-  pub cause : Option StaticError
-  pub first : FirstAmong (λ d. Applies s.context s.bound s.names g d) cause
-  pub joined : after ≡ earlier_of stop cause
 
 -- a quantifier stands in a formula that is asked for its disjunctive or conjunctive form
 abbrev pub HasUnwantedQuantifier : State → FormCommand → FormulaTree → Type 0
@@ -232,12 +105,6 @@ abbrev pub TargetFault : BoundTrees → Option (List ℕ) → Tree → Statement
 TargetFault bound target t error.Bindings = HasNoRoom bound target ⊎ ((¬ (HasNoRoom bound target)) × IsTooLarge target t)
 TargetFault bound target t error.Memory = Unit {0}
 TargetFault bound target t _ = ⊥
-
--- why a text is not written
-abbrev pub LineFault : Bool → List ℕ → StatementError → Type 0
-LineFault printed text error.Text = (printed ≡ true) × (text_limit < length text)
-LineFault printed text error.Memory = Unit {0}
-LineFault printed text _ = ⊥
 
 -- the formula may be bound, and this is its line
 pub record IsLineOf (target : Option (List ℕ)) (printed : Bool) (s : State) (t : Tree) (answer : Line) : Type 0 where

@@ -4,9 +4,7 @@ ghost use Rattle.formula_meaning.specs.Formula.{also};
 ghost use Rattle.std.specs.Prelude.{◌≡◌, ◌⊎◌, ◌↔◌, ◌<◌, ◌≤◌, ◌++◌, ℕ, List, Bool, true, IsTrue, Option, IfOk, IfErr, IfSome, IfNone, MatchOption, OnOk, OnErr, length, codes, map};
 ghost use Rattle.std.specs.Bool.{MatchBool};
 ghost use Rattle.formula_tree.specs.Bindings.{bound_to, most_bound};
-ghost use Rattle.formula_tree.specs.Makers.{IsMade};
-ghost use Rattle.formula_tree.specs.Resolving.{resolve};
-ghost use Rattle.formula_resolving.specs.Refusals.{AreIds, IsFirstCause};
+ghost use Rattle.formula_resolving.specs.Refusals.{AreIds};
 ghost use Rattle.formula_store.specs.Nodes.{tree, IsId};
 ghost use Rattle.formula_meaning.specs.Within.{IsTreeWithin};
 ghost use Rattle.formula_meaning.specs.Members.{HasTwoMembers};
@@ -15,8 +13,10 @@ ghost use Rattle.redlog_printer.specs.Writing.{text_limit};
 ghost use Rattle.qe_syntax.specs.Writable.{IsWritableFormula, AreWritableFormulas};
 ghost use Rattle.qe_syntax.specs.Statements.{command_tree};
 ghost use Rattle.qe_syntax.specs.Trees.{formula_tree, formulas_of};
-ghost use Rattle.session_commands.specs.Replies.{use_of, Refuses, IsFormulaAnswer};
-ghost use Rattle.session_commands.specs.Steps.{given_trees, form_of, command_of, HasNumbers, IsUnread, IsReadable, AreNumbered, HasUnwantedQuantifier, IsReady, IsUnready, IsWantedOf, MayBind, TargetFault, LineFault, IsLineOf, GiveFault, bound_after, IsFirstAttempt, IsByCases, IsForSize, IsUnfit, plain_of, MayAsk, AttemptRefuses, KeepsWhereEliminated, HasFewBytes, static_refusal as refusal_of_static, forms_refusal as refusal_of_forms, AreRead};
+ghost use Rattle.command_tools.specs.Replies.{use_of, Refuses, IsFormulaAnswer};
+ghost use Rattle.session_commands.specs.Steps.{given_trees, form_of, command_of, HasUnwantedQuantifier, IsReady, IsUnready, IsWantedOf, MayBind, TargetFault, IsLineOf, GiveFault, bound_after, IsFirstAttempt, IsByCases, IsForSize, IsUnfit, plain_of, MayAsk, AttemptRefuses, KeepsWhereEliminated, HasFewBytes};
+ghost use Rattle.problem_reading.specs.Reading.{AreNumbered, AreRead};
+ghost use Rattle.command_tools.specs.Refusals.{LineFault};
 ghost use Rattle.session_meaning.specs.Meaning.{meaning, numbered, GivesFormula};
 ghost use Rattle.session_meaning.specs.Uses.{formula_line};
 ghost use Rattle.formula_meaning.specs.Tree.{tree_distinct};
@@ -26,19 +26,17 @@ ghost use Rattle.session_meaning.specs.Reply.{IsLine};
 ghost use Rattle.session_state.specs.Keeping.{state_of, IsSessionState};
 ghost use Rattle.session_state.specs.Growth.{KeepsState, GrowsState};
 
-use crate::assumptions::{number_parts, read_parts};
-use crate::lines::text_of;
-use crate::workshop::Workshop;
-use formula_resolving::{StaticError, linearise};
+use command_tools::{Workshop, forms_refusal, text_of};
 use formula_store::FormulaId;
 use formula_tree::{BindError, Bindings};
 use free_names::is_quantified;
+use problem_reading::{number_parts, read_parts};
 use qe_parallel::Gate;
 use qe_syntax::{Command, Formula, Formulas, Name};
 use redlog_printer::TEXT_LIMIT;
 use session_meaning::{Line, MOST_SUBFORMULAS, StatementError};
 use session_state::SessionState;
-use shared_forms::{ClauseForm, Form, FormsError, Premised, Way, formed};
+use shared_forms::{ClauseForm, Form, Premised, Way, formed};
 use std::alloc::Global;
 use std::thread::Threads;
 
@@ -254,17 +252,6 @@ fn wanted_formula<R: Threads + Sync, G: Gate + Sync>(
     }
 }
 
-/// A refusal of a form that is not made.
-pub(crate) fn forms_refusal(error: FormsError) -> StatementError
-    ensures { result ≡ refusal_of_forms error }
-{
-    match error {
-        FormsError::Overflow => StatementError::Overflow,
-        FormsError::Nodes => StatementError::Nodes,
-        FormsError::Memory => StatementError::Memory,
-    }
-}
-
 /// Binds the formula to the name, if there is one, and gives its line, if it is printed. An `Err` leaves all as it was.
 fn give(
     state: &mut SessionState,
@@ -329,66 +316,6 @@ fn has_unwanted_quantifier(state: &SessionState, wanted: FormCommand<'_>, formul
         FormCommand::Distributed(_) => is_quantified(formula, &state.bindings, &state.store),
         FormCommand::Resolved | FormCommand::NegationNormal | FormCommand::Prenex => false,
         FormCommand::Simplified(_) | FormCommand::Eliminated(..) => false,
-    }
-}
-
-/// The resolved formula.
-pub(crate) fn resolved(
-    state: &mut SessionState,
-    formula: &Formula,
-) -> Result<FormulaId, StatementError>
-    requires proper { IsWritableFormula (formula_tree formula.now) }
-    requires ids { AreIds (IsId state.old.store) state.old.bindings }
-    requires numbered { HasNumbers state.old.names (formula_tree formula.now) }
-    ensures made { IfOk result (λ id. IsMade (IsId state.new.store) (tree state.new.store) id (resolve (state_of state.old).context (state_of state.old).bound state.old.names (formula_tree formula.now))) }
-    ensures readable { OnOk result (IsReadable (state_of state.old) (formula_tree formula.now)) }
-    ensures unread { IfErr result (IsUnread (state_of state.old) (formula_tree formula.now)) }
-    ensures kept { KeepsState state.old state.new }
-{
-    match resolved_part(state, formula) {
-        Ok(id) => Ok(id),
-        Err(error) => Err(static_refusal(error)),
-    }
-}
-
-/// The resolved formula, or the first cause why there is none.
-#[tactic(auto, using(qe_syntax::proofs::WritableLemmas::writable))]
-pub(crate) fn resolved_part(
-    state: &mut SessionState,
-    formula: &Formula,
-) -> Result<FormulaId, StaticError>
-    requires proper { IsWritableFormula (formula_tree formula.now) }
-    requires ids { AreIds (IsId state.old.store) state.old.bindings }
-    requires numbered { HasNumbers state.old.names (formula_tree formula.now) }
-    ensures made { IfOk result (λ id. IsMade (IsId state.new.store) (tree state.new.store) id (resolve (state_of state.old).context (state_of state.old).bound state.old.names (formula_tree formula.now))) }
-    ensures readable { OnOk result (IsReadable (state_of state.old) (formula_tree formula.now)) }
-    ensures unread { IfErr result (IsFirstCause (state_of state.old).context (state_of state.old).bound state.old.names (formula_tree formula.now)) }
-    ensures kept { KeepsState state.old state.new }
-{
-    linearise(
-        state.alloc,
-        formula,
-        &state.bindings,
-        state.context,
-        &mut state.names,
-        &mut state.store,
-    )
-}
-
-/// A refusal of a formula that is not resolved.
-pub(crate) fn static_refusal(error: StaticError) -> StatementError
-    ensures { result ≡ refusal_of_static error }
-{
-    match error {
-        StaticError::Unbound => StatementError::Unbound,
-        StaticError::FormulaAsTerm => StatementError::FormulaAsTerm,
-        StaticError::Nonlinear => StatementError::Nonlinear,
-        StaticError::Division => StatementError::Division,
-        StaticError::CongruenceContext => StatementError::CongruenceContext,
-        StaticError::Modulus => StatementError::Modulus,
-        StaticError::Depth => StatementError::Depth,
-        StaticError::Overflow => StatementError::Overflow,
-        StaticError::Memory => StatementError::Memory,
     }
 }
 

@@ -1,16 +1,9 @@
 //! Answers one statement of a script with one line, or with the word of its refusal.
 #![tactic(auto)]
 
-mod assumptions;
-mod cases;
 mod formulas;
-mod holds;
 mod laws;
-mod lines;
-mod points;
-mod samples;
 mod session;
-mod workshop;
 
 pub use block_scheduler::Limits;
 pub use laws::truth_is_never_refused;

@@ -2,8 +2,8 @@ ghost use Rattle.std.specs.Prelude.{◌≡◌, ◌≤◌, Some, None, IfOk, IfEr
 ghost use Rattle.qe_syntax.specs.Statements.{statement_tree, command_tree};
 ghost use Rattle.qe_syntax.specs.Writable.{IsWritable, IsWritableCommand};
 ghost use Rattle.session_state.specs.Keeping.{state_of, IsSessionState};
-ghost use Rattle.session_commands.specs.Replies.{use_of, Refuses, IsStopped, IsFormulaAnswer, BindsFormula};
-ghost use Rattle.session_commands.specs.Steps.{read_refusal};
+ghost use Rattle.command_tools.specs.Replies.{use_of, Refuses, IsStopped, IsFormulaAnswer, BindsFormula};
+ghost use Rattle.command_tools.specs.Refusals.{read_refusal};
 ghost use Rattle.session_meaning.specs.Meaning.{meaning, numbered, GivesFormula};
 ghost use Rattle.session_meaning.specs.Reply.{IsLine, AnswersSaid, Answers, Reply};
 ghost use Rattle.session_meaning.specs.Words.{context_text};
@@ -11,14 +11,11 @@ ghost use Rattle.session_commands.specs.Seen.{state_in};
 ghost use Rattle.session_meaning.specs.State.{first_state, theory_of, chosen};
 ghost use Rattle.session_state.specs.Growth.{GrowsState};
 
-use crate::cases::answer_cases;
 use crate::formulas::{answer_formula, form_command_of};
-use crate::holds::answer_holds;
-use crate::lines::printed_line;
-use crate::samples::answer_sample;
-use crate::workshop::Workshop;
 use atom_normal::Context;
 use block_scheduler::Limits;
+use command_tools::{Workshop, printed_line};
+use point_queries::{answer_cases, answer_holds, answer_sample};
 use qe_parallel::Gate;
 use qe_syntax::{Action, Command, Name, Setting, Statement};
 use redlog_reader::{ReadError, read_statement};

@@ -3,7 +3,7 @@ use Rattle.std.specs.Prelude.{IfErr, OnErr}
 use Rattle.qe_syntax.specs.Trees.{formula_tree}
 use Rattle.session_state.specs.Keeping.{state_of}
 use Rattle.session_state.specs.Growth.{GrowsState}
-use Rattle.session_commands.specs.Replies.{use_of}
+use Rattle.command_tools.specs.Replies.{use_of}
 use Rattle.session_commands.specs.Steps.{AttemptRefuses, KeepsWhereEliminated}
 use Rattle.session_commands.proofs.GivenLemmas.{fits_other}
 use Rattle.session_commands.proofs.GivenSteps.{later_within, later_members, answered_session, given_answer, given_refused, on_err}

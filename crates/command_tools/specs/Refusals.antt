@@ -1,0 +1,55 @@
+-- The words of refusals, and why a line is not written.
+use Rattle.std.specs.Prelude.{◌≡◌, ◌<◌, ℕ, List, Bool, true, length}
+use Rattle.redlog_tokens.specs.declared.token.ReadError.{ReadError}
+use Rattle.redlog_tokens.specs.declared.token.ReadError.TheVariants as reading
+use Rattle.formula_resolving.specs.declared.error.StaticError.{StaticError}
+use Rattle.formula_resolving.specs.declared.error.StaticError.TheVariants as static
+use Rattle.plain_engine.specs.declared.measured.Measured.{Measured}
+use Rattle.plain_engine.specs.declared.measured.Measured.TheVariants as measured
+use Rattle.redlog_printer.specs.declared.error.PrintError.{PrintError}
+use Rattle.redlog_printer.specs.declared.error.PrintError.TheVariants as print
+use Rattle.redlog_printer.specs.Writing.{text_limit}
+use Rattle.session_meaning.specs.declared.line.StatementError.{StatementError}
+use Rattle.session_meaning.specs.declared.line.StatementError.TheVariants as error
+use Rattle.shared_forms.specs.declared.error.FormsError.{FormsError}
+use Rattle.shared_forms.specs.declared.error.FormsError.TheVariants as forms
+
+abbrev pub read_refusal : ReadError → StatementError
+read_refusal reading.Long = error.Long
+read_refusal reading.Lexical = error.Lexical
+read_refusal reading.Nesting = error.Nesting
+read_refusal reading.Syntax = error.Syntax
+read_refusal reading.Memory = error.Memory
+
+abbrev pub static_refusal : StaticError → StatementError
+static_refusal static.Unbound = error.Unbound
+static_refusal static.FormulaAsTerm = error.FormulaAsTerm
+static_refusal static.Nonlinear = error.Nonlinear
+static_refusal static.Division = error.Division
+static_refusal static.CongruenceContext = error.CongruenceContext
+static_refusal static.Modulus = error.Modulus
+static_refusal static.Depth = error.Depth
+static_refusal static.Overflow = error.Overflow
+static_refusal static.Memory = error.Memory
+
+abbrev pub measured_refusal : Measured → StatementError
+measured_refusal measured.Overflow = error.Overflow
+measured_refusal measured.Nodes = error.Nodes
+measured_refusal measured.Memory = error.Memory
+
+-- the refusal of a form that is not made
+abbrev pub forms_refusal : FormsError → StatementError
+forms_refusal forms.Overflow = error.Overflow
+forms_refusal forms.Nodes = error.Nodes
+forms_refusal forms.Memory = error.Memory
+
+-- the refusal of a text that is not written
+abbrev pub print_refusal : PrintError → StatementError
+print_refusal print.Text = error.Text
+print_refusal print.Memory = error.Memory
+
+-- why a text is not written
+abbrev pub LineFault : Bool → List ℕ → StatementError → Type 0
+LineFault printed text error.Text = (printed ≡ true) × (text_limit < length text)
+LineFault printed text error.Memory = Unit {0}
+LineFault printed text _ = ⊥

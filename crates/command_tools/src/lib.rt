@@ -1,0 +1,10 @@
+//! What the commands of a session share: the words of their refusals, lines, and what eliminations are worked with.
+#![tactic(auto)]
+
+mod lines;
+mod refusals;
+mod workshop;
+
+pub use lines::{printed_line, text_of};
+pub use refusals::{forms_refusal, measured_refusal, print_refusal, static_refusal};
+pub use workshop::Workshop;

@@ -1,0 +1,206 @@
+-- Why a command about a point is refused before anything is answered, and when it is not.
+use Rattle.std.proofs.Common.{◌≡◌, inl, inr, ⊎_elim, ℕ, ◌<◌, List, [], ◌∷◌, Bool, true, false, IsTrue, ◌↔◌, MatchOption, Option, Some, None, sym, ap, ◌∙◌, subst, refl, arith, lit<}
+use Rattle.std.proofs.lemmas.Bool.{false≢true}
+use Rattle.std.specs.Prelude.{option_map, is_some}
+use Rattle.formula_meaning.specs.Formula.{none, also}
+use Rattle.formula_meaning.specs.Some.{SomeOf}
+use Rattle.formula_meaning.specs.Tree.{Tree}
+use Rattle.qe_syntax.specs.declared.statement.PointEntry.{PointEntry}
+use Rattle.qe_syntax.specs.Point.{PassesLimit}
+use Rattle.qe_syntax.specs.Statements.{Holds, Sample}
+use Rattle.qe_syntax.specs.Trees.{FormulaTree}
+use Rattle.formula_tree.specs.Bindings.{bound_to}
+use Rattle.formula_tree.specs.Causes.{IsBound, OverflowsInReading}
+use Rattle.formula_tree.specs.Resolving.{place}
+use Rattle.formula_resolving.specs.declared.error.StaticError.{StaticError}
+use Rattle.formula_resolving.specs.declared.error.StaticError.TheVariants as static
+use Rattle.formula_resolving.specs.Refusals as reading
+use Rattle.formula_resolving.specs.Refusals.{trees_bound}
+use Rattle.session_meaning.specs.declared.line.StatementError.{StatementError}
+use Rattle.session_meaning.specs.declared.line.StatementError.TheVariants as error
+use Rattle.session_meaning.specs.State.{State}
+use Rattle.session_meaning.specs.Points.{MeanNoPoint}
+use Rattle.command_tools.specs.Replies.{use_of, Refuses}
+use Rattle.command_tools.specs.Refusals.{static_refusal}
+use Rattle.problem_reading.specs.Reading.{HasNumbers, IsUnread, IsReadable, AreNumbered, HasNoEarlier, IsFirstAmong}
+use Rattle.point_queries.specs.Asked.{RefusesBoth, AcceptsBoth, entry_names, stop_of, IsBoundName, IsClear, PointStop, IsValued, ValuedStop}
+use Rattle.session_meaning.specs.Meaning.{meaning, Meaning}
+use Rattle.session_meaning.specs.Uses.{Use}
+use Rattle.session_meaning.specs.Causes.{IsCause, HasNone}
+use Rattle.session_meaning.specs.Words.{before, order}
+use Rattle.session_state.proofs.BindingLemmas.{trees_find}
+use Rattle.problem_reading.proofs.CauseLemmas.{then_clear, overflow_here, to_point, first_in_reading, bound_first, readable_part}
+
+-- ---- names that are bound
+
+module _ {I : Type 0} (t : I → Tree) (bound : List (List ℕ × I)) where
+  there : (x : List ℕ) (o : Option I) (f : Tree) → option_map t o ≡ Some f → (i : I) × (o ≡ Some i)
+  there x None f e = absurd (cc)
+  there x (Some i) f e = (i, refl)
+
+  -- something is bound to some entry's name exactly where a tree is
+  pub bound_entries : (es : List PointEntry) → SomeOf (λ (e : PointEntry). IsBoundName bound e.name) es ↔ SomeOf (IsBound (trees_bound t bound)) (entry_names es)
+  bound_entries [] = (λ h. h, λ h. h)
+  bound_entries (e ∷ es) =
+      let r = bound_entries es in (
+        λ h. ⊎_elim (λ p. inl (t p.0, trees_find t bound e.name ∙ ap (option_map t) p.1)) (λ q. inr (r.0 q)) h,
+        λ h. ⊎_elim (λ p. inl (there e.name (bound_to bound e.name) p.0 (sym (trees_find t bound e.name) ∙ p.1))) (λ q. inr (r.1 q)) h,
+      )
+
+pub met_entries : {I : Type 0} (t : I → Tree) (bound : List (List ℕ × I)) (es : List PointEntry) (b : Bool) → IsTrue b ↔ SomeOf (λ (e : PointEntry). IsBoundName bound e.name) es
+    → IsTrue b ↔ SomeOf (IsBound (trees_bound t bound)) (entry_names es)
+met_entries t bound es b h = let r = bound_entries t bound es in (λ x. r.0 (h.0 x), λ x. h.1 (r.1 x))
+
+pub some_found : {I : Type 0} (bound : List (List ℕ × I)) (x : List ℕ) (o : Option I) → o ≡ bound_to bound x → is_some o ≡ true → IsBoundName bound x
+some_found bound x None e h = absurd (false≢true h)
+some_found bound x (Some i) e h = (i, sym e)
+
+pub none_found : {I : Type 0} (bound : List (List ℕ × I)) (x : List ℕ) (o : Option I) → o ≡ bound_to bound x → is_some o ≡ false → ¬ (IsBoundName bound x)
+none_found bound x None e h k = let q = e ∙ k.1 in absurd (cc)
+none_found bound x (Some i) e h k = false≢true (sym h)
+
+-- ---- both commands
+
+module _ (s : State) (f : FormulaTree) (es : List PointEntry) (limit : ℕ) (printed : Bool) where
+  abbrev asked : Use
+  asked = use_of None printed
+
+  abbrev of_truth : Meaning
+  of_truth = meaning (Holds f es)
+
+  abbrev of_sample : Meaning
+  of_sample = meaning (Sample f es)
+
+  -- a cause of one of the two commands is one of the other
+  cause_of_truth : (e : StatementError) → IsCause of_sample s limit asked e → IsCause of_truth s limit asked e
+  cause_of_truth error.Text h = (h.0, ⊎_elim (λ k. absurd k.determined) inr h.1)
+  cause_of_truth _ h = h
+
+  clear_of_sample : (ds : List StatementError) → HasNone of_truth s limit asked ds → HasNone of_sample s limit asked ds
+  clear_of_sample [] h = tt
+  clear_of_sample (d ∷ ds) h = (λ k. h.0 (cause_of_truth d k), clear_of_sample ds h.1)
+
+  abbrev AreRefused : StatementError → Type 0
+  AreRefused e = Refuses s limit asked (Holds f es) e × Refuses s limit asked (Sample f es) e
+
+  -- so the first cause of one refuses both
+  both_refused : (e : StatementError) → IsCause of_sample s limit asked e → HasNone of_truth s limit asked (before e) → AreRefused e
+  both_refused e h first = (λ other. record { applies = inl (cause_of_truth e h); first = first }, λ other. record { applies = inl h; first = clear_of_sample (before e) first })
+
+  out_of_memory : AreRefused error.Memory
+  out_of_memory = (λ other. absurd (other refl), λ other. absurd (other refl))
+
+module _ (s : State) (f : FormulaTree) (es : List PointEntry) (numbers : HasNumbers s.names f) where
+  abbrev Bound : Type 0
+  Bound = SomeOf (IsBound s.bound) (entry_names es)
+
+  listed : AreNumbered s.names (also f none)
+  listed = (numbers, tt)
+
+  -- ---- what is clear
+
+  abbrev IsTruthClear : StatementError → Type 0
+  IsTruthClear e = (limit : ℕ) (printed : Bool) → HasNone (meaning (Holds f es)) s limit (use_of None printed) (before e)
+
+  -- nothing comes before the point, the free names, the quantifiers or the numbers that pass the limit
+  below_point : IsClear s f es → IsTruthClear error.Point
+  below_point clear limit printed = to_point (meaning (Holds f es)) s limit (use_of None printed) listed clear.entries clear.reading
+
+  below_unvalued : IsClear s f es → ¬ (MeanNoPoint s.context es) → IsTruthClear error.Unvalued
+  below_unvalued clear point limit printed = then_clear (meaning (Holds f es)) s limit (use_of None printed) error.Point error.Unvalued refl (below_point clear limit printed) point
+
+  below_overflow : IsClear s f es → ¬ (MeanNoPoint s.context es) → IsValued s f es → IsTruthClear error.Overflow
+  below_overflow clear point valued limit printed =
+      let quantified = then_clear (meaning (Holds f es)) s limit (use_of None printed) error.Unvalued error.Quantified refl (below_unvalued clear point limit printed) valued in
+      then_clear (meaning (Holds f es)) s limit (use_of None printed) error.Quantified error.Overflow refl quantified (λ h. h)
+
+  below_nodes : IsClear s f es → ¬ (MeanNoPoint s.context es) → IsValued s f es → ¬ (PassesLimit es) → IsReadable s f → IsTruthClear error.Nodes
+  below_nodes clear point valued within readable limit printed =
+      then_clear (meaning (Holds f es)) s limit (use_of None printed) error.Overflow error.Nodes refl (below_overflow clear point valued limit printed)
+      (λ k. ⊎_elim (λ p. ⊎_elim readable.within absurd (overflow_here (meaning (Holds f es)) s limit (use_of None printed) listed p)) within k)
+
+  -- a truth has no formula to bind or to print
+  pub all_clear : IsClear s f es → ¬ (MeanNoPoint s.context es) → IsValued s f es → ¬ (PassesLimit es) → IsReadable s f → AcceptsBoth s f es
+  all_clear clear point valued within readable limit printed =
+      let m = meaning (Holds f es) in
+      let u = use_of None printed in
+      let bindings = then_clear m s limit u error.Nodes error.Bindings refl (below_nodes clear point valued within readable limit printed) (λ h. h) in
+      let text = then_clear m s limit u error.Bindings error.Text refl bindings (λ k. ⊎_elim (λ p. p) (λ g. g.1) k) in
+      let accepted = then_clear m s limit u error.Text error.Memory refl text (λ k. ⊎_elim (λ l. l.determined) (λ n. n) k.1) in
+      (accepted, clear_of_sample s f es limit printed order accepted)
+
+  -- ---- refusals
+
+  pub no_point : IsClear s f es → (e : StatementError) → PointStop s.context es e → RefusesBoth s f es e
+  no_point clear error.Point h = λ limit printed. both_refused s f es limit printed error.Point h (below_point clear limit printed)
+  no_point clear error.Memory h = λ limit printed. out_of_memory s f es limit printed
+  no_point clear _ h = absurd h
+
+  pub not_valued : IsClear s f es → ¬ (MeanNoPoint s.context es) → (e : StatementError) → ValuedStop s f es e → RefusesBoth s f es e
+  not_valued clear point error.Unvalued h = λ limit printed. both_refused s f es limit printed error.Unvalued h (below_unvalued clear point limit printed)
+  not_valued clear point error.Memory h = λ limit printed. out_of_memory s f es limit printed
+  not_valued clear point _ h = absurd h
+
+  pub reading_passes : IsClear s f es → ¬ (MeanNoPoint s.context es) → IsValued s f es → OverflowsInReading s.context s.bound (place s.names) f → RefusesBoth s f es error.Overflow
+  reading_passes clear point valued h = λ limit printed. both_refused s f es limit printed error.Overflow (inl (inl h)) (below_overflow clear point valued limit printed)
+
+  pub point_passes : IsClear s f es → ¬ (MeanNoPoint s.context es) → IsValued s f es → PassesLimit es → RefusesBoth s f es error.Overflow
+  point_passes clear point valued h = λ limit printed. both_refused s f es limit printed error.Overflow (inr h) (below_overflow clear point valued limit printed)
+
+  -- ---- a formula that is not read
+
+  -- no cause before a place applies to the formula alone
+  alone : (n : ℕ) → ((d : StaticError) → reading.rank d < n → ¬ (reading.Applies s.context s.bound s.names f d)) → HasNoEarlier s (also f none) n
+  alone n first d l k = ⊎_elim (first d l) absurd k
+
+  -- the first cause is the one of the reading
+  reading_first : (d : StaticError) → reading.rank d < 7 → reading.IsFirst s.context s.bound s.names f d → (1 < reading.rank d → ¬ Bound) → RefusesBoth s f es (static_refusal d)
+  reading_first d l first free = λ limit printed.
+      let among : IsFirstAmong s (also f none) d = record { applies = inl first.applies; first = alone (reading.rank d) first.first } in (
+        λ other. first_in_reading (meaning (Holds f es)) s limit (use_of None printed) listed d l among free,
+        λ other. first_in_reading (meaning (Sample f es)) s limit (use_of None printed) listed d l among free,
+      )
+
+  name_bound : HasNoEarlier s (also f none) 1 → Bound → RefusesBoth s f es error.FormulaAsTerm
+  name_bound first h = λ limit printed. (
+    λ other. bound_first (meaning (Holds f es)) s limit (use_of None printed) listed first h,
+    λ other. bound_first (meaning (Sample f es)) s limit (use_of None printed) listed first h,
+  )
+
+  bound_before : (d : StaticError) → reading.IsFirst s.context s.bound s.names f d → 0 < reading.rank d → Bound → RefusesBoth s f es error.FormulaAsTerm
+  bound_before d first l h = name_bound (alone 1 (λ e m. first.first e (omega (arith, m, l)))) h
+
+  abbrev Stopped : Option StatementError → Type 0
+  Stopped o = MatchOption o (IsClear s f es × OverflowsInReading s.context s.bound (place s.names) f) (RefusesBoth s f es)
+
+  not_read : (d : StaticError) (met : Bool) → (IsTrue met ↔ Bound) → reading.IsFirstCause s.context s.bound s.names f d → Stopped (stop_of (static_refusal d) met)
+  not_read static.Unbound met is first = reading_first static.Unbound (lit< tt) first (λ l. absurd (omega arith))
+  not_read static.Memory met is first = λ limit printed. out_of_memory s f es limit printed
+  not_read static.FormulaAsTerm true is first = bound_before static.FormulaAsTerm first (lit< tt) (is.0 refl)
+  not_read static.Nonlinear true is first = bound_before static.Nonlinear first (lit< tt) (is.0 refl)
+  not_read static.Division true is first = bound_before static.Division first (lit< tt) (is.0 refl)
+  not_read static.CongruenceContext true is first = bound_before static.CongruenceContext first (lit< tt) (is.0 refl)
+  not_read static.Modulus true is first = bound_before static.Modulus first (lit< tt) (is.0 refl)
+  not_read static.Depth true is first = bound_before static.Depth first (lit< tt) (is.0 refl)
+  not_read static.Overflow true is first = bound_before static.Overflow first (lit< tt) (is.0 refl)
+  not_read static.FormulaAsTerm false is first = reading_first static.FormulaAsTerm (lit< tt) first (λ l. absurd (omega arith))
+  not_read static.Nonlinear false is first = reading_first static.Nonlinear (lit< tt) first (λ l h. false≢true (is.1 h))
+  not_read static.Division false is first = reading_first static.Division (lit< tt) first (λ l h. false≢true (is.1 h))
+  not_read static.CongruenceContext false is first = reading_first static.CongruenceContext (lit< tt) first (λ l h. false≢true (is.1 h))
+  not_read static.Modulus false is first = reading_first static.Modulus (lit< tt) first (λ l h. false≢true (is.1 h))
+  not_read static.Depth false is first = reading_first static.Depth (lit< tt) first (λ l h. false≢true (is.1 h))
+  not_read static.Overflow false is first = (
+    record { reading = alone 7 first.first; entries = λ h. false≢true (is.1 h) },
+    subst (λ ns. OverflowsInReading s.context s.bound (place ns) f) numbers first.applies,
+  )
+
+  pub unread_stops : (e : StatementError) (met : Bool) → (IsTrue met ↔ Bound) → IsUnread s f e → (o : Option StatementError) → o ≡ stop_of e met → Stopped o
+  unread_stops e met is h o same = subst Stopped (sym (same ∙ ap (λ w. stop_of w met) h.1)) (not_read h.0 met is h.2)
+
+  -- ---- a formula that is read
+
+  pub read_clear : IsReadable s f → ¬ Bound → IsClear s f es
+  read_clear a h = record { reading = alone 7 (λ d l. readable_part s f a d (omega (arith, l))); entries = h }
+
+  pub read_bound : IsReadable s f → Bound → RefusesBoth s f es error.FormulaAsTerm
+  read_bound a h = name_bound (alone 1 (λ d l. readable_part s f a d (omega (arith, l)))) h

@@ -1,0 +1,10 @@
+pub mod EntryLemmas
+pub mod AskedLemmas
+pub mod TruthLemmas
+pub mod PointLemmas
+pub mod CaseSteps
+pub mod AskedSteps
+pub mod TruthSteps
+pub mod SampleLemmas
+pub mod ShortSamples
+pub mod SampleSteps

@@ -1,0 +1,32 @@
+use Rattle.std.proofs.Common.{ap, sym, subst}
+use Rattle.std.specs.Prelude.{unsigned_abs}
+use Rattle.formula_meaning.specs.Every.{Every}
+use Rattle.atom_normal.specs.declared.atoms.Context.{Context}
+use Rattle.atom_normal.specs.Atoms.{context_of}
+use Rattle.atom_normal.specs.NormalForm.{IsNormal}
+use Rattle.qe_syntax.specs.Point.{point_of}
+use Rattle.formula_tree.specs.Resolving.{at_names}
+use Rattle.formula_store.specs.Nodes.{tree}
+use Rattle.point_queries.proofs.PointLemmas.{same_point, point_there}
+use Rattle.point_queries.proofs.SampleSteps.{sample_there, sample_stopped_there}
+use Rattle.point_queries.proofs.samples.resolved_sample.Goals as goal
+
+pub sample-requires-clause-normal : goal.sample-requires-clause-normal
+sample-requires-clause-normal g c _ _ =
+    subst (λ (x : Context). Every (IsNormal (context_of x)) (tree c.args.state.now.store c.args.id)) (sym c.engine-engine.ensures.context) c.requires.normal
+
+pub sample-requires-clause-point : goal.sample-requires-clause-point
+sample-requires-clause-point g c _ _ =
+    let same = same_point c.in_ok-values.values (at_names c.args.state.now.names (point_of c.args.point.now)) c.in_ok-values.ensures.at (ap unsigned_abs c.in_ok-values.ensures.below) in
+    point_there _ _ same c.args.state.now.context c.engine-engine.result.context c.engine-engine.ensures.context c.requires.theory
+
+pub returns-in-Ok-clause-sample : goal.returns-in-Ok-clause-sample
+returns-in-Ok-clause-sample g c =
+    let same = same_point c.in_ok-values.values (at_names c.args.state.now.names (point_of c.args.point.now)) c.in_ok-values.ensures.at (ap unsigned_abs c.in_ok-values.ensures.below) in
+    sample_there (tree c.args.state.now.store c.args.id) _ _ same c.args.state.now.context c.engine-engine.result.context c.engine-engine.ensures.context c.in-Ok.sample c.in-Ok.ensures.truth
+
+pub returns-clause-fault : goal.returns-clause-fault
+returns-clause-fault g c =
+    let same = same_point c.in_ok-values.values (at_names c.args.state.now.names (point_of c.args.point.now)) c.in_ok-values.ensures.at (ap unsigned_abs c.in_ok-values.ensures.below) in
+    sample_stopped_there (tree c.args.state.now.store c.args.id) _ _ same c.args.state.now.context c.engine-engine.result.context c.engine-engine.ensures.context
+    c.args.workshop.now.limits c.engine-engine.result.limits c.engine-engine.ensures.limits c.in-Err.error c.in-Err.ensures.stops c.measured_refusal.result c.measured_refusal.ensures

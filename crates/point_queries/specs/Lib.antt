@@ -1,0 +1,4 @@
+pub mod CaseLists
+pub mod Asked
+pub mod Truths
+pub mod SampleSteps

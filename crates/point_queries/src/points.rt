@@ -1,0 +1,210 @@
+//! What is looked at before anything is answered at a point.
+
+ghost use Rattle.std.specs.Prelude.{◌≡◌, ◌↔◌, ◌++◌, ℕ, IfOk, IfErr, OnOk, IsTrue};
+ghost use Rattle.std.specs.List.{IsDistinct, fold};
+ghost use Rattle.formula_meaning.specs.Some.{SomeOf};
+ghost use Rattle.atom_normal.specs.Atoms.{context_of};
+ghost use Rattle.linear_forms.specs.Values.{number_at};
+ghost use Rattle.qe_syntax.specs.declared.statement.PointEntry.{PointEntry as Entry};
+ghost use Rattle.qe_syntax.specs.Point.{IsPointOf, point_of};
+ghost use Rattle.qe_syntax.specs.Writable.{IsWritableFormula, AreWritableEntries};
+ghost use Rattle.qe_syntax.specs.Trees.{formula_tree};
+ghost use Rattle.qe_syntax.specs.Value.{same_name};
+ghost use Rattle.formula_tree.specs.Names.{with_name};
+ghost use Rattle.formula_tree.specs.Resolving.{formula_variables, at_names};
+ghost use Rattle.formula_resolving.specs.Numbering.{Grows};
+ghost use Rattle.formula_resolving.specs.Refusals.{AreIds};
+ghost use Rattle.formula_store.specs.Nodes.{IsId};
+ghost use Rattle.problem_reading.specs.Reading.{HasNumbers};
+ghost use Rattle.point_queries.specs.Asked.{HaveNumbers, RefusesBoth, entry_names, stop_of, IsBoundName, is_whole_theory, IsReadAs, IsMeantPoint, PointStop, IsValued, ValuedStop, IsAsked};
+ghost use Rattle.session_state.specs.Keeping.{state_of, IsSessionState};
+ghost use Rattle.session_state.specs.Growth.{KeepsState};
+
+use atom_normal::Context;
+use formula_resolving::number_formula;
+use formula_store::FormulaId;
+use formula_tree::{Bindings, Names};
+use free_names::is_valued;
+use linear_forms::Values;
+use problem_reading::resolved;
+use qe_syntax::{Formula, Point, PointEntry, PointFault};
+use session_meaning::StatementError;
+use session_state::SessionState;
+use std::alloc::Global;
+
+/// Numbers the variables of the formula and of the point, in the order of the text. After an `Err` the names may have grown.
+pub fn number_command(
+    formula: &Formula,
+    entries: &[PointEntry],
+    bindings: &Bindings<FormulaId>,
+    names: &mut Names,
+) -> Result<(), StatementError>
+    ensures numbered { OnOk result (names.new ≡ fold with_name names.old (formula_variables (formula_tree formula.now) ++ entry_names entries.now)) }
+    ensures grown { Grows names.old names.new }
+    ensures memory { IfErr result (λ e. e ≡ StatementError.Memory) }
+{
+    if let Err(_failed) = number_formula(formula, bindings, names) {
+        return Err(StatementError::Memory);
+    }
+    for entry in entries {
+        if let Err(_failed) = names.number(&entry.name) {
+            return Err(StatementError::Memory);
+        }
+    }
+    Ok(())
+}
+
+/// The resolved formula and the point, or the first cause of a refusal.
+pub fn asked(
+    state: &mut SessionState,
+    formula: &Formula,
+    entries: &[PointEntry],
+) -> Result<(FormulaId, Point), StatementError>
+    requires proper { IsWritableFormula (formula_tree formula.now) }
+    requires entries { AreWritableEntries entries.now }
+    requires session { IsSessionState state.old }
+    requires numbered { HasNumbers state.old.names (formula_tree formula.now) }
+    ensures asked { IfOk result (λ a. IsAsked (state_of state.old) (formula_tree formula.now) entries.now state.new a.0 a.1) }
+    ensures refused { IfErr result (RefusesBoth (state_of state.old) (formula_tree formula.now) entries.now) }
+    ensures kept { KeepsState state.old state.new }
+{
+    let id = read(state, formula, entries)?;
+    let point = meant_point(state.alloc, state.context, entries)?;
+    check_valued(state, formula, entries)?;
+    let Some(id) = id else {
+        return Err(StatementError::Overflow);
+    };
+    let Some(point) = point else {
+        return Err(StatementError::Overflow);
+    };
+    Ok((id, point))
+}
+
+/// The resolved formula, or `None` where its reading overflows.
+fn read(
+    state: &mut SessionState,
+    formula: &Formula,
+    entries: &[PointEntry],
+) -> Result<Option<FormulaId>, StatementError>
+    requires proper { IsWritableFormula (formula_tree formula.now) }
+    requires ids { AreIds (IsId state.old.store) state.old.bindings }
+    requires numbered { HasNumbers state.old.names (formula_tree formula.now) }
+    ensures read { IfOk result (IsReadAs (state_of state.old) (formula_tree formula.now) entries.now state.new) }
+    ensures refused { IfErr result (RefusesBoth (state_of state.old) (formula_tree formula.now) entries.now) }
+    ensures kept { KeepsState state.old state.new }
+{
+    let met = some_bound(entries, &state.bindings);
+    match resolved(state, formula) {
+        Ok(id) => {
+            if met {
+                return Err(StatementError::FormulaAsTerm);
+            }
+            Ok(Some(id))
+        }
+        Err(error) => match stop(error, met) {
+            Some(error) => Err(error),
+            None => Ok(None),
+        },
+    }
+}
+
+/// The word for a formula that is not resolved, or `None` where its reading overflows and no entry names something bound.
+fn stop(error: StatementError, met: bool) -> Option<StatementError>
+    ensures { result ≡ stop_of error met }
+{
+    match error {
+        StatementError::Unbound | StatementError::Memory => Some(error),
+        _ if met => Some(StatementError::FormulaAsTerm),
+        StatementError::Overflow => None,
+        _ => Some(error),
+    }
+}
+
+/// Whether something is bound to the name of an entry.
+fn some_bound(entries: &[PointEntry], bindings: &Bindings<FormulaId>) -> bool
+    ensures { IsTrue result ↔ SomeOf (λ (e : Entry). IsBoundName bindings.now e.name) entries.now }
+{
+    for entry in entries {
+        if bindings.get(&entry.name).is_some() {
+            return true;
+        }
+    }
+    false
+}
+
+/// The point that the entries mean, or `None` where one of its numbers passes the limit.
+#[tactic(auto, using(qe_syntax::proofs::WritableLemmas::writable))]
+fn meant_point(
+    alloc: Global,
+    context: Context,
+    entries: &[PointEntry],
+) -> Result<Option<Point>, StatementError>
+    requires { AreWritableEntries entries.now }
+    ensures point { IfOk result (IsMeantPoint (context_of context) entries.now) }
+    ensures fault { IfErr result (PointStop (context_of context) entries.now) }
+{
+    match Point::of(alloc, entries, is_whole(context)) {
+        Ok(point) => Ok(Some(point)),
+        Err(PointFault::Overflow) => Ok(None),
+        Err(PointFault::Memory) => Err(StatementError::Memory),
+        Err(_) => Err(StatementError::Point),
+    }
+}
+
+/// Whether the values of a point of the theory are whole.
+fn is_whole(context: Context) -> bool
+    ensures { result ≡ is_whole_theory (context_of context) }
+{
+    match context {
+        Context::Fields => false,
+        Context::Integers => true,
+    }
+}
+
+/// Whether each free name of the formula has an entry.
+fn check_valued(
+    state: &SessionState,
+    formula: &Formula,
+    entries: &[PointEntry],
+) -> Result<(), StatementError>
+    requires { AreIds (IsId state.now.store) state.now.bindings }
+    ensures valued { OnOk result (IsValued (state_of state.now) (formula_tree formula.now) entries.now) }
+    ensures fault { IfErr result (ValuedStop (state_of state.now) (formula_tree formula.now) entries.now) }
+{
+    match is_valued(
+        state.alloc,
+        formula,
+        entries,
+        &state.bindings,
+        &state.names,
+        &state.store,
+    ) {
+        Ok(true) => Ok(()),
+        Ok(false) => Err(StatementError::Unvalued),
+        Err(_) => Err(StatementError::Memory),
+    }
+}
+
+/// The numbers of the point for the numbered names.
+pub fn values_of(
+    alloc: Global,
+    names: &Names,
+    entries: &[PointEntry],
+    point: &Point,
+) -> Result<Values, StatementError>
+    requires distinct { IsDistinct same_name names.now }
+    requires numbered { HaveNumbers names.now entries.now }
+    requires point { IsPointOf entries.now (point_of point.now) }
+    ensures at { IfOk result (λ v. (n : ℕ) → number_at v n ≡ (at_names names.now (point_of point.now)).at n) }
+    ensures below { IfOk result (λ v. v.denominator ≡ point.now.denominator) }
+    ensures memory { IfErr result (λ e. e ≡ StatementError.Memory) }
+{
+    let mut values = Values::new(alloc, point.denominator());
+    for entry in entries {
+        let number = point.numerator(&entry.name);
+        if let Err(_failed) = values.put(names.place(&entry.name), number) {
+            return Err(StatementError::Memory);
+        }
+    }
+    Ok(values)
+}

@@ -1,0 +1,240 @@
+-- Assumptions that are true as they are written are true as atoms.
+use Rattle.std.proofs.Common.{◌≡◌, ◌⊎◌, inl, inr, ⊎_elim, ◌↔◌, ℕ, ◌<◌, List, [], ◌∷◌, ◌++◌, Bool, true, false, Option, Some, None, nat_lt, if◌then◌else◌, map, sym, ap, ◌∙◌, subst, refl, arith, lit<}
+use Rattle.std.proofs.lemmas.Bool.{ltb-true, ltb-false}
+use Rattle.std.specs.List.{AllByRecursion, IsDistinct, fold}
+use Rattle.formula_meaning.specs.Formula.{Yes, No, One, Not, And, Or, Impl, Repl, Equiv, Ex, All, none, also}
+use Rattle.formula_meaning.specs.Atom.{Atom, Says}
+use Rattle.formula_meaning.specs.Every.{Every}
+use Rattle.formula_meaning.specs.Point.{Point, Of}
+use Rattle.formula_meaning.specs.Some.{SomeOf, EachOf}
+use Rattle.formula_meaning.specs.Tree.{Tree, TrueAt}
+use Rattle.qe_syntax.specs.declared.tree.Formula.{Formula}
+use Rattle.qe_syntax.specs.Trees.{FormulaTree, FormulaTrees, formula_tree, formulas_of}
+use Rattle.qe_syntax.specs.Value.{NamedPoint, same_name}
+use Rattle.formula_tree.specs.Names.{with_name}
+use Rattle.formula_tree.specs.Resolving.{resolve, at_names, formula_variables, all_variables}
+use Rattle.formula_resolving.specs.declared.error.StaticError.{StaticError}
+use Rattle.formula_resolving.specs.declared.error.StaticError.TheVariants as static
+use Rattle.formula_resolving.specs.Refusals as reading
+use Rattle.formula_resolving.specs.Refusals.{IsFirstCause}
+use Rattle.formula_resolving.specs.Refusals.{rank as static_rank}
+use Rattle.session_meaning.specs.declared.line.StatementError.{StatementError}
+use Rattle.session_meaning.specs.declared.line.StatementError.TheVariants as error
+use Rattle.session_meaning.specs.State.{State}
+use Rattle.session_meaning.specs.Assumptions.{atoms_alone, assumed, Hold}
+use Rattle.command_tools.specs.Refusals.{static_refusal}
+use Rattle.problem_reading.specs.Reading.{HasNumbers, IsReadable, AreNumbered, AreReadable, AppliesAmong, IsFirstCauseAmong, AreUnread, FirstAmong, first_of, earlier_of, AppliesToSome, IsFirstWith}
+use Rattle.session_meaning.specs.Words.{before}
+use Rattle.problem_reading.proofs.PartLemmas.{no_formula, some_listed, each_of_list}
+use Rattle.problem_reading.proofs.CauseLemmas.{readable_part}
+use Rattle.problem_reading.proofs.ReadTruth.{truth_as_written}
+
+module _ (F : Atom → Type 0) where
+  pub each_both : (xs ys : List Atom) → EachOf F xs → EachOf F ys → EachOf F (xs ++ ys)
+  each_both [] ys h k = k
+  each_both (a ∷ xs) ys h k = (h.0, each_both xs ys h.1 k)
+
+-- an atom that is alone has what each atom has
+pub alone_has : (F : Atom → Type 0) (t : Tree) → Every F t → EachOf F (atoms_alone t)
+alone_has F Yes h = tt
+alone_has F No h = tt
+alone_has F (One a) h = (h, tt)
+alone_has F (Not f) h = tt
+alone_has F (And fs) h = tt
+alone_has F (Or fs) h = tt
+alone_has F (Impl f g) h = tt
+alone_has F (Repl f g) h = tt
+alone_has F (Equiv f g) h = tt
+alone_has F (Ex x f) h = tt
+alone_has F (All x f) h = tt
+
+alone_says : (s : State) (t : Tree) (p : Point ℕ) → TrueAt s.context t p → EachOf (λ k. Says k p) (atoms_alone t)
+alone_says s Yes p h = tt
+alone_says s No p h = tt
+alone_says s (One a) p h = (h, tt)
+alone_says s (Not f) p h = tt
+alone_says s (And fs) p h = tt
+alone_says s (Or fs) p h = tt
+alone_says s (Impl f g) p h = tt
+alone_says s (Repl f g) p h = tt
+alone_says s (Equiv f g) p h = tt
+alone_says s (Ex x f) p h = tt
+alone_says s (All x f) p h = tt
+
+module _ (s : State) (distinct : IsDistinct same_name s.names) (p : NamedPoint) (of : Of s.context p) where
+  -- the assumption's atom is true
+  one_says : (g : FormulaTree) → HasNumbers s.names g → IsReadable s g → Hold s (also g none) p → EachOf (λ k. Says k (at_names s.names p)) (atoms_alone (resolve s.context s.bound s.names g))
+  one_says g numbers readable h = alone_says s (resolve s.context s.bound s.names g) (at_names s.names p) ((truth_as_written s g numbers distinct readable p of).0 h.0)
+
+  all_say : (gs : FormulaTrees) → AreReadable s gs → AreNumbered s.names gs → Hold s gs p → EachOf (λ k. Says k (at_names s.names p)) (assumed s gs)
+  all_say none readable numbers h = tt
+  all_say (also g gs) readable numbers h =
+      each_both (λ k. Says k (at_names s.names p)) (atoms_alone (resolve s.context s.bound s.names g)) (assumed s gs) (one_says g numbers.0 readable.0 (h.0, tt))
+      (all_say gs readable.1 numbers.1 h.1)
+
+pub assumed_hold : (s : State) (f : FormulaTree) (gs : FormulaTrees) → AreReadable s (also f gs) → IsDistinct same_name s.names → AreNumbered s.names (also f gs) → (p : NamedPoint) → Of s.context p → Hold s gs p
+    → EachOf (λ k. Says k (at_names s.names p)) (assumed s gs)
+assumed_hold s f gs readable distinct numbers p of h = all_say s distinct p of gs readable.1 numbers.1 h
+
+-- ---- the first cause among several formulas
+
+module _ (P Q : StaticError → Type 0) where
+  -- the earlier of the first causes of two is the first of both
+  pub first_of_both : (a b : Option StaticError) → FirstAmong P a → FirstAmong Q b → FirstAmong (λ d. P d ⊎ Q d) (earlier_of a b)
+  first_of_both None None h k = λ d l x. ⊎_elim (h d l) (k d l) x
+  first_of_both (Some e) None h k = (h.0, inl h.1, λ d l x. ⊎_elim (h.2 d l) (k d (omega (arith, h.0))) x)
+  first_of_both None (Some e) h k = (k.0, inr k.1, λ d l x. ⊎_elim (h d (omega (arith, k.0))) (k.2 d l) x)
+  first_of_both (Some a) (Some e) h k = split (nat_lt (static_rank a) (static_rank e)) refl
+    where
+      split : (b : Bool) → nat_lt (static_rank a) (static_rank e) ≡ b → FirstAmong (λ d. P d ⊎ Q d) (Some (if b then a else e))
+      split true l = let m = ltb-true (static_rank a) (static_rank e) l in (h.0, inl h.1, λ d n x. ⊎_elim (h.2 d n) (k.2 d (omega arith)) x)
+      split false l = let m = ltb-false (static_rank a) (static_rank e) l in (k.0, inr k.1, λ d n x. ⊎_elim (h.2 d (omega arith)) (k.2 d n) x)
+
+pub first_same : (P Q : StaticError → Type 0) → ((d : StaticError) → P d ↔ Q d) → (o : Option StaticError) → FirstAmong P o → FirstAmong Q o
+first_same P Q same None h = λ d l x. h d l ((same d).1 x)
+first_same P Q same (Some e) h = (h.0, (same e).0 h.1, λ d l x. h.2 d l ((same d).1 x))
+
+-- a formula that is not resolved
+pub first_unread : (s : State) (g : FormulaTree) (e : StaticError) → ¬ (e ≡ static.Memory) → IsFirstCause s.context s.bound s.names g e → FirstAmong (λ d. reading.Applies s.context s.bound s.names g d) (Some e)
+first_unread s g static.Unbound n h = (lit< tt, h.applies, h.first)
+first_unread s g static.FormulaAsTerm n h = (lit< tt, h.applies, h.first)
+first_unread s g static.Nonlinear n h = (lit< tt, h.applies, h.first)
+first_unread s g static.Division n h = (lit< tt, h.applies, h.first)
+first_unread s g static.CongruenceContext n h = (lit< tt, h.applies, h.first)
+first_unread s g static.Modulus n h = (lit< tt, h.applies, h.first)
+first_unread s g static.Depth n h = (lit< tt, h.applies, h.first)
+first_unread s g static.Overflow n h = (lit< tt, h.applies, h.first)
+first_unread s g static.Memory n h = absurd (n refl)
+
+-- one that is
+pub none_unread : (s : State) (g : FormulaTree) → IsReadable s g → FirstAmong (λ d. reading.Applies s.context s.bound s.names g d) None
+none_unread s g h = readable_part s g h
+
+-- a formula to which no cause applies is resolved
+pub readable_where_none : (s : State) (g : FormulaTree) → ((d : StaticError) → static_rank d < 8 → ¬ (reading.Applies s.context s.bound s.names g d)) → IsReadable s g
+readable_where_none s g h = record {
+  bound_names = h static.Unbound (lit< tt);
+  variables = h static.FormulaAsTerm (lit< tt);
+  linear = h static.Nonlinear (lit< tt);
+  undivided = h static.Division (lit< tt);
+  congruences = h static.CongruenceContext (lit< tt);
+  moduli = h static.Modulus (lit< tt);
+  flat = h static.Depth (lit< tt);
+  within = h static.Overflow (lit< tt);
+}
+
+-- ---- a list of assumptions, one after the other
+
+some_last : {X : Type 0} (F : X → Type 0) (xs : List X) (x : X) → SomeOf F (xs ++ x ∷ []) ↔ (SomeOf F xs ⊎ F x)
+some_last F [] x = (λ h. ⊎_elim inr absurd h, λ h. ⊎_elim absurd inl h)
+some_last F (y ∷ ys) x =
+    let r = some_last F ys x in
+    (λ h. ⊎_elim (λ k. inl (inl k)) (λ k. ⊎_elim (λ p. inl (inr p)) inr (r.0 k)) h, λ h. ⊎_elim (λ k. ⊎_elim inl (λ p. inr (r.1 (inl p))) k) (λ k. inr (r.1 (inr k))) h)
+
+pub first_of_more : (s : State) (gs : List Formula) (g : Formula) (stop after : Option StaticError) → FirstAmong (AppliesToSome s gs) stop → IsFirstWith s (formula_tree g) stop after → FirstAmong (AppliesToSome s (gs ++ g ∷ [])) after
+first_of_more s gs g stop after h k =
+    subst (FirstAmong (AppliesToSome s (gs ++ g ∷ []))) (sym k.joined)
+    (first_same (λ d. AppliesToSome s gs d ⊎ reading.Applies s.context s.bound s.names (formula_tree g) d) (AppliesToSome s (gs ++ g ∷ []))
+    (λ d. let r = some_last (λ e. reading.Applies s.context s.bound s.names (formula_tree e) d) gs g in (r.1, r.0)) (earlier_of stop k.cause)
+    (first_of_both (AppliesToSome s gs) (λ d. reading.Applies s.context s.bound s.names (formula_tree g) d) stop k.cause h k.first))
+
+append_assoc : {X : Type 0} (xs ys zs : List X) → (xs ++ ys) ++ zs ≡ xs ++ (ys ++ zs)
+append_assoc [] ys zs = refl
+append_assoc (x ∷ xs) ys zs = ap (λ t. x ∷ t) (append_assoc xs ys zs)
+
+append_nil : {X : Type 0} (xs : List X) → xs ++ [] ≡ xs
+append_nil [] = refl
+append_nil (x ∷ xs) = ap (λ t. x ∷ t) (append_nil xs)
+
+pub nothing_more : (xs : List Atom) → xs ++ [] ≡ xs
+nothing_more xs = append_nil xs
+
+-- where there is no first cause there was none before
+pub none_before : (s : State) (g : FormulaTree) (stop after : Option StaticError) → IsFirstWith s g stop after → after ≡ None → stop ≡ None
+none_before s g stop after h e = split h.cause (sym h.joined ∙ e)
+  where
+    split : (o : Option StaticError) → earlier_of stop o ≡ None → stop ≡ None
+    split None p = p
+    split (Some d) p = absurd (cc (p))
+
+pub assumed_more : (s : State) (gs : List Formula) (g : Formula) → assumed s (formulas_of (map formula_tree (gs ++ g ∷ []))) ≡ assumed s (formulas_of (map formula_tree gs)) ++ atoms_alone (resolve s.context s.bound s.names (formula_tree g))
+assumed_more s [] g = append_nil (atoms_alone (resolve s.context s.bound s.names (formula_tree g)))
+assumed_more s (d ∷ gs) g =
+    ap (λ t. atoms_alone (resolve s.context s.bound s.names (formula_tree d)) ++ t) (assumed_more s gs g)
+    ∙ sym (append_assoc (atoms_alone (resolve s.context s.bound s.names (formula_tree d))) (assumed s (formulas_of (map formula_tree gs))) (atoms_alone (resolve s.context s.bound s.names (formula_tree g))))
+
+pub variables_more : (gs : List Formula) (g : Formula) → all_variables (formulas_of (map formula_tree (gs ++ g ∷ []))) ≡ all_variables (formulas_of (map formula_tree gs)) ++ formula_variables (formula_tree g)
+variables_more [] g = append_nil (formula_variables (formula_tree g))
+variables_more (d ∷ gs) g =
+    ap (λ t. formula_variables (formula_tree d) ++ t) (variables_more gs g)
+    ∙ sym (append_assoc (formula_variables (formula_tree d)) (all_variables (formulas_of (map formula_tree gs))) (formula_variables (formula_tree g)))
+
+-- atoms put behind others, one assumption after another
+pub atoms_more : (first before after alone xs ys : List Atom) → before ≡ first ++ xs → after ≡ before ++ alone → ys ≡ xs ++ alone → after ≡ first ++ ys
+atoms_more first before after alone xs ys p q r = q ∙ ap (λ t. t ++ alone) p ∙ append_assoc first xs alone ∙ ap (λ t. first ++ t) (sym r)
+
+pub folded_more : (names : List (List ℕ)) (xs ys : List (List ℕ)) → fold with_name (fold with_name names xs) ys ≡ fold with_name names (xs ++ ys)
+folded_more names [] ys = refl
+folded_more names (x ∷ xs) ys = folded_more (with_name names x) xs ys
+
+pub assoc_names : (xs ys zs : List (List ℕ)) → (xs ++ ys) ++ zs ≡ xs ++ (ys ++ zs)
+assoc_names xs ys zs = append_assoc xs ys zs
+
+-- ---- the formula and its assumptions together
+
+module _ (s : State) (f : FormulaTree) (gs : List Formula) where
+  abbrev given : FormulaTrees
+  given = formulas_of (map formula_tree gs)
+
+  abbrev Here : StaticError → Type 0
+  Here d = reading.Applies s.context s.bound s.names f d
+
+  parts : (o : Option StaticError) → FirstAmong (λ d. Here d ⊎ AppliesToSome s gs d) o → FirstAmong (AppliesAmong s (also f given)) o
+  parts o h = first_same (λ d. Here d ⊎ AppliesToSome s gs d) (AppliesAmong s (also f given)) (λ d. let r = some_listed (λ g. reading.Applies s.context s.bound s.names g d) f gs in (r.1, r.0)) o h
+
+  first_part_cause : (e : StaticError) → FirstAmong (AppliesAmong s (also f given)) (Some e) → IsFirstCauseAmong s (also f given) e
+  first_part_cause e h = λ other. record { applies = h.1; first = h.2 }
+
+  -- a cause in the assumptions alone
+  pub list_unread : (e : StaticError) → FirstAmong Here None → FirstAmong (AppliesToSome s gs) (Some e) → IsFirstCauseAmong s (also f given) e
+  list_unread e h k = first_part_cause e (parts (Some e) (first_of_both Here (AppliesToSome s gs) None (Some e) h k))
+
+  -- a cause in the formula, and what the assumptions say
+  pub both_unread : (b : Option StaticError) (e : StaticError) → FirstAmong Here (Some e) → FirstAmong (AppliesToSome s gs) b → IsFirstCauseAmong s (also f given) (first_of e b)
+  both_unread b e h k =
+      first_part_cause (first_of e b)
+      (parts (Some (first_of e b)) (first_same (λ d. AppliesToSome s gs d ⊎ Here d) (λ d. Here d ⊎ AppliesToSome s gs d) (λ d. (λ x. ⊎_elim inr inl x, λ x. ⊎_elim inr inl x)) (Some (first_of e b))
+      (first_of_both (AppliesToSome s gs) Here b (Some e) k h)))
+
+  pub memory_unread : (e : StatementError) → e ≡ error.Memory → AreUnread s (also f given) e
+  memory_unread e p = (static.Memory, p, λ other. absurd (other refl))
+
+  pub parts_readable : IsReadable s f → FirstAmong (AppliesToSome s gs) None → AreReadable s (also f given)
+  parts_readable h k =
+      each_of_list (IsReadable s) f gs h
+      (each_listed_none gs k)
+    where
+      each_listed_none : (ds : List Formula) → FirstAmong (AppliesToSome s ds) None → AllByRecursion (λ g. IsReadable s (formula_tree g)) ds
+      each_listed_none [] k = tt
+      each_listed_none (d ∷ ds) k = (readable_where_none s (formula_tree d) (λ e l x. k e l (inl x)), each_listed_none ds (λ e l x. k e l (inr x)))
+
+-- ---- a quantifier where none may be
+
+-- no earlier cause applies to what is resolved
+pub early_readable : (s : State) (f : FormulaTree) (gs : FormulaTrees) → AreReadable s (also f gs) → (d : StaticError) → static_rank d < 7 → ¬ (AppliesAmong s (also f gs) d)
+early_readable s f gs h d l = no_formula (IsReadable s) (λ g. reading.Applies s.context s.bound s.names g d) (λ g k. readable_part s g k d (omega (arith, l))) (also f gs) h
+
+-- nor where the reading overflows
+pub early_overflow : (s : State) (f : FormulaTree) (gs : FormulaTrees) → AreUnread s (also f gs) error.Overflow → (d : StaticError) → static_rank d < 7 → ¬ (AppliesAmong s (also f gs) d)
+early_overflow s f gs h = split h.0 h.1 h.2
+  where
+    split : (e : StaticError) → error.Overflow ≡ static_refusal e → IsFirstCauseAmong s (also f gs) e → (d : StaticError) → static_rank d < 7 → ¬ (AppliesAmong s (also f gs) d)
+    split static.Overflow p k d l = (k (λ e. absurd (cc (e)))).first d l
+    split static.Unbound p k d l = absurd (cc (p))
+    split static.FormulaAsTerm p k d l = absurd (cc (p))
+    split static.Nonlinear p k d l = absurd (cc (p))
+    split static.Division p k d l = absurd (cc (p))
+    split static.CongruenceContext p k d l = absurd (cc (p))
+    split static.Modulus p k d l = absurd (cc (p))
+    split static.Depth p k d l = absurd (cc (p))
+    split static.Memory p k d l = absurd (cc (p))

@@ -1,0 +1,5 @@
+pub mod PartLemmas
+pub mod CauseLemmas
+pub mod ReadTruth
+pub mod AssumptionLemmas
+pub mod ReadLemmas

@@ -1,0 +1,57 @@
+-- What is read is a formula of the session, and its assumptions are normal atoms.
+use Rattle.std.proofs.Common.{inl, inr, ℕ, List, [], ◌∷◌}
+use Rattle.atom_normal.specs.declared.atoms.Context as atoms
+use Rattle.qe_syntax.specs.Trees.{FormulaTree}
+use Rattle.formula_tree.specs.Resolving.{resolve}
+use Rattle.session_meaning.specs.State.{State}
+use Rattle.problem_reading.specs.Reading.{HasNumbers, IsReadable}
+use Rattle.std.proofs.Common.{◌++◌, length}
+use Rattle.std.specs.List.{fold}
+use Rattle.formula_meaning.specs.Formula.{none, also}
+use Rattle.qe_syntax.specs.Trees.{FormulaTrees}
+use Rattle.qe_syntax.specs.Writable.{IsWritableFormula, AreWritableFormulas}
+use Rattle.qe_syntax.specs.Valued.{IsIn}
+use Rattle.formula_tree.proofs.PlaceLaws.{after_has, in_either}
+use Rattle.atom_normal.specs.NormalForm.{IsNormal}
+use Rattle.formula_meaning.specs.Some.{EachOf}
+use Rattle.formula_tree.specs.Resolving.{formula_variables, all_variables}
+use Rattle.problem_reading.specs.Reading.{AreNumbered, AreReadable}
+use Rattle.formula_tree.specs.Names.{with_name}
+use Rattle.session_meaning.specs.Assumptions.{atoms_alone, assumed}
+use Rattle.session_state.specs.Keeping.{IsSessionFormula, IsSound}
+use Rattle.session_state.proofs.NameLemmas.{kept_names}
+use Rattle.problem_reading.proofs.AssumptionLemmas.{each_both, alone_has}
+use Rattle.session_state.proofs.SoundLemmas.{resolved_formula}
+use Rattle.std.proofs.Common.{map}
+use Rattle.std.specs.List.{AllByRecursion}
+use Rattle.qe_syntax.specs.declared.tree.Formula.{Formula}
+use Rattle.qe_syntax.specs.Trees.{formula_tree, formulas_of}
+
+pub numbered_in : (fs : FormulaTrees) (names : List (List ℕ)) → ((x : List ℕ) → IsIn x (all_variables fs) → IsIn x names) → AreNumbered names fs
+numbered_in none names h = tt
+numbered_in (also g gs) names h = (
+  kept_names (formula_variables g) names (λ x i. h x (in_either x (formula_variables g) (all_variables gs) (inl i))),
+  numbered_in gs names (λ x i. h x (in_either x (formula_variables g) (all_variables gs) (inr i))),
+)
+
+pub numbers_of : (f : FormulaTree) (gs : FormulaTrees) (names : List (List ℕ)) → AreNumbered (fold with_name names (formula_variables f ++ all_variables gs)) (also f gs)
+numbers_of f gs names = numbered_in (also f gs) (fold with_name names (formula_variables f ++ all_variables gs)) (λ x i. after_has (formula_variables f ++ all_variables gs) names x (inr i))
+
+-- the resolved formula is one of the session
+pub readable_formula : (f : FormulaTree) (s : State) → HasNumbers s.names f → IsSound s → IsWritableFormula f → IsReadable s f → IsSessionFormula s.context (length s.names) (resolve s.context s.bound s.names f)
+readable_formula f s numbers sound proper h = resolved_formula s.context s.bound s.names f sound.formulas numbers proper h
+
+-- the assumptions are normal atoms
+each_normal : (s : State) → IsSound s → (gs : FormulaTrees) → AreNumbered s.names gs → AreReadable s gs → AreWritableFormulas gs → EachOf (IsNormal s.context) (assumed s gs)
+each_normal s sound none numbers readable proper = tt
+each_normal s sound (also g gs) numbers readable proper =
+    each_both (IsNormal s.context) (atoms_alone (resolve s.context s.bound s.names g)) (assumed s gs)
+    (alone_has (IsNormal s.context) (resolve s.context s.bound s.names g) (readable_formula g s numbers.0 sound proper.0 readable.0).normal)
+    (each_normal s sound gs numbers.1 readable.1 proper.1)
+
+pub assumed_normal : (s : State) → IsSound s → (f : FormulaTree) (gs : FormulaTrees) → AreNumbered s.names (also f gs) → AreReadable s (also f gs) → AreWritableFormulas gs → EachOf (IsNormal s.context) (assumed s gs)
+assumed_normal s sound f gs numbers readable proper = each_normal s sound gs numbers.1 readable.1 proper
+
+pub proper_items : (gs : List Formula) → AreWritableFormulas (formulas_of (map formula_tree gs)) → AllByRecursion (λ g. IsWritableFormula (formula_tree g)) gs
+proper_items [] h = tt
+proper_items (g ∷ gs) h = (h.0, proper_items gs h.1)

@@ -1,0 +1,93 @@
+-- What is read of the formulas of a command.
+use Rattle.std.specs.Prelude.{◌≡◌, ◌≢◌, ◌<◌, ℕ, List, Option, Some, None, nat_lt, if◌then◌else◌, map}
+use Rattle.formula_meaning.specs.Formula.{also}
+use Rattle.formula_meaning.specs.Some.{SomeOf}
+use Rattle.std.specs.List.{AllByRecursion}
+use Rattle.atom_normal.specs.Atoms.{atom_of, IsWellFormed}
+use Rattle.formula_tree.specs.Makers.{IsMade}
+use Rattle.formula_store.specs.Nodes.{tree, IsId}
+use Rattle.session_state.specs.declared.state.SessionState.{SessionState}
+use Rattle.shared_forms.specs.declared.forms.Premised.{Premised}
+use Rattle.qe_syntax.specs.declared.tree.Formula.{Formula}
+use Rattle.qe_syntax.specs.Trees.{FormulaTree, FormulaTrees, formula_tree}
+use Rattle.formula_tree.specs.Resolving.{names_after, resolve}
+use Rattle.formula_tree.specs.Causes.{IsAccepted as IsResolvable}
+use Rattle.formula_resolving.specs.declared.error.StaticError.{StaticError}
+use Rattle.formula_resolving.specs.declared.error.StaticError.TheVariants as static
+use Rattle.formula_resolving.specs.Refusals.{IsFirstCause, Applies, rank as static_rank}
+use Rattle.session_meaning.specs.declared.line.StatementError.{StatementError}
+use Rattle.session_meaning.specs.State.{State}
+use Rattle.session_meaning.specs.Assumptions.{assumed}
+use Rattle.problem_reading.specs.Parts.{EachFormula}
+use Rattle.session_meaning.specs.Causes.{SomeFormula}
+use Rattle.command_tools.specs.Refusals.{static_refusal}
+
+-- each variable of the formula has its number
+abbrev pub HasNumbers : List (List ℕ) → FormulaTree → Type 0
+HasNumbers names f = names_after names f ≡ names
+
+-- the first cause why a formula is not resolved is this word's
+abbrev pub IsUnread : State → FormulaTree → StatementError → Type 0
+IsUnread s f e = (d : StaticError) × (e ≡ static_refusal d) × IsFirstCause s.context s.bound s.names f d
+
+-- the formula is resolved in the state
+abbrev pub IsReadable : State → FormulaTree → Type 0
+IsReadable s f = IsResolvable s.context s.bound s.names f
+
+abbrev pub AreNumbered : List (List ℕ) → FormulaTrees → Type 0
+AreNumbered names fs = EachFormula (HasNumbers names) fs
+
+abbrev pub AreReadable : State → FormulaTrees → Type 0
+AreReadable s fs = EachFormula (IsReadable s) fs
+
+-- the cause applies to some of them
+abbrev pub AppliesAmong : State → FormulaTrees → StaticError → Type 0
+AppliesAmong s fs d = SomeFormula (λ g. Applies s.context s.bound s.names g d) fs
+
+-- no cause in reading that comes before this place of their order applies to one of them
+abbrev pub HasNoEarlier : State → FormulaTrees → ℕ → Type 0
+HasNoEarlier s fs n = (d : StaticError) → static_rank d < n → ¬ (AppliesAmong s fs d)
+
+-- it is the first that applies to some of them
+pub record IsFirstAmong (s : State) (fs : FormulaTrees) (d : StaticError) : Type 0 where
+  pub applies : AppliesAmong s fs d
+  pub first : HasNoEarlier s fs (static_rank d)
+
+-- the same, where of want of memory nothing is said
+abbrev pub IsFirstCauseAmong : State → FormulaTrees → StaticError → Type 0
+IsFirstCauseAmong s fs d = d ≢ static.Memory → IsFirstAmong s fs d
+
+-- the first cause why one of them is not resolved is this word's
+abbrev pub AreUnread : State → FormulaTrees → StatementError → Type 0
+AreUnread s fs e = (d : StaticError) × (e ≡ static_refusal d) × IsFirstCauseAmong s fs d
+
+-- The formula and its assumptions are read: this is the id of the formula, these are the atoms of the assumptions, and no cause in reading applies.
+pub record AreRead (s : State) (f : FormulaTree) (given : FormulaTrees) (after : SessionState) (read : Premised) : Type 0 where
+  pub made : IsMade (IsId after.store) (tree after.store) read.formula (resolve s.context s.bound s.names f)
+  pub atoms : map atom_of read.atoms.items ≡ assumed s given
+  pub well_formed : AllByRecursion IsWellFormed read.atoms.items
+  pub readable : AreReadable s (also f given)
+
+-- The first cause for which P holds, or None where there is none. Want of memory is no cause.
+abbrev pub FirstAmong : (StaticError → Type 0) → Option StaticError → Type 0
+FirstAmong P None = (d : StaticError) → static_rank d < 8 → ¬ (P d)
+FirstAmong P (Some e) = (static_rank e < 8) × P e × ((d : StaticError) → static_rank d < static_rank e → ¬ (P d))
+
+-- the earlier of two causes
+abbrev pub first_of : StaticError → Option StaticError → StaticError
+first_of e None = e
+first_of e (Some d) = if nat_lt (static_rank d) (static_rank e) then d else e
+
+abbrev pub earlier_of : Option StaticError → Option StaticError → Option StaticError
+earlier_of stop None = stop
+earlier_of stop (Some e) = Some (first_of e stop)
+
+-- the cause applies to some formula of the list
+abbrev pub AppliesToSome : State → List Formula → StaticError → Type 0
+AppliesToSome s gs d = SomeOf (λ g. Applies s.context s.bound s.names (formula_tree g) d) gs
+
+-- the first cause in the formula, or None where it is resolved, joined to an earlier one
+pub record IsFirstWith (s : State) (g : FormulaTree) (stop after : Option StaticError) : Type 0 where
+  pub cause : Option StaticError
+  pub first : FirstAmong (λ d. Applies s.context s.bound s.names g d) cause
+  pub joined : after ≡ earlier_of stop cause
