@@ -22,7 +22,7 @@ use Rattle.session_meaning.specs.State.{State}
 use Rattle.session_meaning.specs.Points.{MeanNoPoint}
 use Rattle.command_tools.specs.Replies.{use_of, Refuses}
 use Rattle.command_tools.specs.Refusals.{static_refusal}
-use Rattle.problem_reading.specs.Reading.{HasNumbers, IsUnread, IsReadable, AreNumbered, HasNoEarlier, IsFirstAmong}
+use Rattle.problem_reading.specs.Reading.{HasNumbers, IsUnread, IsReadable, AreNumbered, IsBefore, HasNoEarlier, IsFirstAmong}
 use Rattle.point_queries.specs.Asked.{RefusesBoth, AcceptsBoth, entry_names, stop_of, IsBoundName, IsClear, PointStop, IsValued, ValuedStop}
 use Rattle.session_meaning.specs.Meaning.{meaning, Meaning}
 use Rattle.session_meaning.specs.Uses.{Use}
@@ -149,26 +149,26 @@ module _ (s : State) (f : FormulaTree) (es : List PointEntry) (numbers : HasNumb
 
   -- ---- a formula that is not read
 
-  -- no cause before a place applies to the formula alone
-  alone : (n : ℕ) → ((d : StaticError) → reading.rank d < n → ¬ (reading.Applies s.context s.bound s.names f d)) → HasNoEarlier s (also f none) n
-  alone n first d l k = ⊎_elim (first d l) absurd k
+  -- no cause before another applies to the formula alone
+  alone : (e : StaticError) → ((d : StaticError) → IsBefore d e → ¬ (reading.Applies s.context s.bound s.names f d)) → HasNoEarlier s (also f none) e
+  alone e first d l k = ⊎_elim (first d l) absurd k
 
   -- the first cause is the one of the reading
-  reading_first : (d : StaticError) → reading.rank d < 7 → reading.IsFirst s.context s.bound s.names f d → (1 < reading.rank d → ¬ Bound) → RefusesBoth s f es (static_refusal d)
+  reading_first : (d : StaticError) → IsBefore d static.Overflow → reading.IsFirst s.context s.bound s.names f d → (IsBefore static.FormulaAsTerm d → ¬ Bound) → RefusesBoth s f es (static_refusal d)
   reading_first d l first free = λ limit printed.
-      let among : IsFirstAmong s (also f none) d = record { applies = inl first.applies; first = alone (reading.rank d) first.first } in (
+      let among : IsFirstAmong s (also f none) d = record { applies = inl first.applies; first = alone d first.first } in (
         λ other. first_in_reading (meaning (Holds f es)) s limit (use_of None printed) listed d l among free,
         λ other. first_in_reading (meaning (Sample f es)) s limit (use_of None printed) listed d l among free,
       )
 
-  name_bound : HasNoEarlier s (also f none) 1 → Bound → RefusesBoth s f es error.FormulaAsTerm
+  name_bound : HasNoEarlier s (also f none) static.FormulaAsTerm → Bound → RefusesBoth s f es error.FormulaAsTerm
   name_bound first h = λ limit printed. (
     λ other. bound_first (meaning (Holds f es)) s limit (use_of None printed) listed first h,
     λ other. bound_first (meaning (Sample f es)) s limit (use_of None printed) listed first h,
   )
 
-  bound_before : (d : StaticError) → reading.IsFirst s.context s.bound s.names f d → 0 < reading.rank d → Bound → RefusesBoth s f es error.FormulaAsTerm
-  bound_before d first l h = name_bound (alone 1 (λ e m. first.first e (omega (arith, m, l)))) h
+  bound_before : (d : StaticError) → reading.IsFirst s.context s.bound s.names f d → IsBefore static.Unbound d → Bound → RefusesBoth s f es error.FormulaAsTerm
+  bound_before d first l h = name_bound (alone static.FormulaAsTerm (λ e m. first.first e (omega (arith, m, l)))) h
 
   abbrev Stopped : Option StatementError → Type 0
   Stopped o = MatchOption o (IsClear s f es × OverflowsInReading s.context s.bound (place s.names) f) (RefusesBoth s f es)
@@ -190,7 +190,7 @@ module _ (s : State) (f : FormulaTree) (es : List PointEntry) (numbers : HasNumb
   not_read static.Modulus false is first = reading_first static.Modulus (lit< tt) first (λ l h. false≢true (is.1 h))
   not_read static.Depth false is first = reading_first static.Depth (lit< tt) first (λ l h. false≢true (is.1 h))
   not_read static.Overflow false is first = (
-    record { reading = alone 7 first.first; entries = λ h. false≢true (is.1 h) },
+    record { reading = alone static.Overflow first.first; entries = λ h. false≢true (is.1 h) },
     subst (λ ns. OverflowsInReading s.context s.bound (place ns) f) numbers first.applies,
   )
 
@@ -200,7 +200,7 @@ module _ (s : State) (f : FormulaTree) (es : List PointEntry) (numbers : HasNumb
   -- ---- a formula that is read
 
   pub read_clear : IsReadable s f → ¬ Bound → IsClear s f es
-  read_clear a h = record { reading = alone 7 (λ d l. readable_part s f a d (omega (arith, l))); entries = h }
+  read_clear a h = record { reading = alone static.Overflow (λ d l. readable_part s f a d (omega (arith, l))); entries = h }
 
   pub read_bound : IsReadable s f → Bound → RefusesBoth s f es error.FormulaAsTerm
-  read_bound a h = name_bound (alone 1 (λ d l. readable_part s f a d (omega (arith, l)))) h
+  read_bound a h = name_bound (alone static.FormulaAsTerm (λ d l. readable_part s f a d (omega (arith, l)))) h

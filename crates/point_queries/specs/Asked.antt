@@ -23,6 +23,7 @@ use Rattle.session_state.specs.declared.state.SessionState.{SessionState}
 use Rattle.session_meaning.specs.State.{State}
 use Rattle.session_meaning.specs.Points.{MeanNoPoint, HasUnvalued}
 use Rattle.command_tools.specs.Replies.{use_of, Refuses}
+use Rattle.formula_resolving.specs.declared.error.StaticError.TheVariants as static
 use Rattle.problem_reading.specs.Reading.{IsReadable, HasNoEarlier}
 use Rattle.session_meaning.specs.Meaning.{meaning}
 use Rattle.session_meaning.specs.Causes.{IsAccepted}
@@ -63,7 +64,7 @@ is_whole_theory Integers = true
 
 -- none of the causes that are looked for before the point applies
 pub record IsClear (s : State) (f : FormulaTree) (es : List PointEntry) : Type 0 where
-  pub reading : HasNoEarlier s (also f none) 7
+  pub reading : HasNoEarlier s (also f none) static.Overflow
   pub entries : ¬ (SomeOf (IsBound s.bound) (entry_names es))
 
 -- the resolved formula, or none where the reading overflows

@@ -23,7 +23,7 @@ use Rattle.session_meaning.specs.declared.line.StatementError.TheVariants as err
 use Rattle.session_meaning.specs.State.{State}
 use Rattle.session_meaning.specs.Assumptions.{atoms_alone, assumed, Hold}
 use Rattle.command_tools.specs.Refusals.{static_refusal}
-use Rattle.problem_reading.specs.Reading.{HasNumbers, IsReadable, AreNumbered, AreReadable, AppliesAmong, IsFirstCauseAmong, AreUnread, FirstAmong, first_of, earlier_of, AppliesToSome, IsFirstWith}
+use Rattle.problem_reading.specs.Reading.{HasNumbers, IsReadable, AreNumbered, AreReadable, AppliesAmong, IsBefore, IsFirstCauseAmong, AreUnread, FirstAmong, first_of, earlier_of, AppliesToSome, IsFirstWith}
 use Rattle.session_meaning.specs.Words.{before}
 use Rattle.problem_reading.proofs.PartLemmas.{no_formula, some_listed, each_of_list}
 use Rattle.problem_reading.proofs.CauseLemmas.{readable_part}
@@ -111,7 +111,7 @@ pub none_unread : (s : State) (g : FormulaTree) → IsReadable s g → FirstAmon
 none_unread s g h = readable_part s g h
 
 -- a formula to which no cause applies is resolved
-pub readable_where_none : (s : State) (g : FormulaTree) → ((d : StaticError) → static_rank d < 8 → ¬ (reading.Applies s.context s.bound s.names g d)) → IsReadable s g
+pub readable_where_none : (s : State) (g : FormulaTree) → ((d : StaticError) → IsBefore d static.Memory → ¬ (reading.Applies s.context s.bound s.names g d)) → IsReadable s g
 readable_where_none s g h = record {
   bound_names = h static.Unbound (lit< tt);
   variables = h static.FormulaAsTerm (lit< tt);
@@ -221,14 +221,14 @@ module _ (s : State) (f : FormulaTree) (gs : List Formula) where
 -- ---- a quantifier where none may be
 
 -- no earlier cause applies to what is resolved
-pub early_readable : (s : State) (f : FormulaTree) (gs : FormulaTrees) → AreReadable s (also f gs) → (d : StaticError) → static_rank d < 7 → ¬ (AppliesAmong s (also f gs) d)
+pub early_readable : (s : State) (f : FormulaTree) (gs : FormulaTrees) → AreReadable s (also f gs) → (d : StaticError) → IsBefore d static.Overflow → ¬ (AppliesAmong s (also f gs) d)
 early_readable s f gs h d l = no_formula (IsReadable s) (λ g. reading.Applies s.context s.bound s.names g d) (λ g k. readable_part s g k d (omega (arith, l))) (also f gs) h
 
 -- nor where the reading overflows
-pub early_overflow : (s : State) (f : FormulaTree) (gs : FormulaTrees) → AreUnread s (also f gs) error.Overflow → (d : StaticError) → static_rank d < 7 → ¬ (AppliesAmong s (also f gs) d)
+pub early_overflow : (s : State) (f : FormulaTree) (gs : FormulaTrees) → AreUnread s (also f gs) error.Overflow → (d : StaticError) → IsBefore d static.Overflow → ¬ (AppliesAmong s (also f gs) d)
 early_overflow s f gs h = split h.0 h.1 h.2
   where
-    split : (e : StaticError) → error.Overflow ≡ static_refusal e → IsFirstCauseAmong s (also f gs) e → (d : StaticError) → static_rank d < 7 → ¬ (AppliesAmong s (also f gs) d)
+    split : (e : StaticError) → error.Overflow ≡ static_refusal e → IsFirstCauseAmong s (also f gs) e → (d : StaticError) → IsBefore d static.Overflow → ¬ (AppliesAmong s (also f gs) d)
     split static.Overflow p k d l = (k (λ e. absurd (cc (e)))).first d l
     split static.Unbound p k d l = absurd (cc (p))
     split static.FormulaAsTerm p k d l = absurd (cc (p))

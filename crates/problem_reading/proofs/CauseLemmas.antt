@@ -10,7 +10,7 @@ use Rattle.formula_resolving.specs.Refusals as reading
 use Rattle.session_meaning.specs.declared.line.StatementError.{StatementError}
 use Rattle.session_meaning.specs.declared.line.StatementError.TheVariants as error
 use Rattle.command_tools.specs.Refusals.{static_refusal}
-use Rattle.problem_reading.specs.Reading.{HasNumbers, IsReadable, AreNumbered, AreReadable, AppliesAmong, HasNoEarlier, IsFirstAmong, AreUnread}
+use Rattle.problem_reading.specs.Reading.{HasNumbers, IsReadable, AreNumbered, AreReadable, AppliesAmong, IsBefore, HasNoEarlier, IsFirstAmong, AreUnread}
 use Rattle.session_meaning.specs.Meaning.{Meaning}
 use Rattle.session_meaning.specs.Uses.{Use}
 use Rattle.session_meaning.specs.Causes.{SomeFormula, IsCause, HasNone, IsAccepted, IsFirst}
@@ -77,7 +77,7 @@ module _ (m : Meaning) (s : State) (limit : ℕ) (u : Use) where
 
   -- ---- causes in reading
 
-  less : (n k : ℕ) → n ≤ k → HasNoEarlier s m.formulas k → HasNoEarlier s m.formulas n
+  less : (n k : StaticError) → IsBefore n k → HasNoEarlier s m.formulas k → HasNoEarlier s m.formulas n
   less n k b first d l = first d (omega (arith, l, b))
 
   module _ (numbers : AreNumbered s.names m.formulas) where
@@ -107,37 +107,37 @@ module _ (m : Meaning) (s : State) (limit : ℕ) (u : Use) where
     abbrev Further : Type 0
     Further = SomeOf (IsBound s.bound) m.further
 
-    to_term : HasNoEarlier s m.formulas 1 → HasNone m s limit u (before error.FormulaAsTerm)
+    to_term : HasNoEarlier s m.formulas static.FormulaAsTerm → HasNone m s limit u (before error.FormulaAsTerm)
     to_term first = then_clear error.Unbound error.FormulaAsTerm refl to_unbound (first static.Unbound (lit< tt))
 
     module _ (free : ¬ Further) where
-      to_nonlinear : HasNoEarlier s m.formulas 2 → HasNone m s limit u (before error.Nonlinear)
-      to_nonlinear first = then_clear error.FormulaAsTerm error.Nonlinear refl (to_term (less 1 2 (omega arith) first)) (λ h. ⊎_elim (first static.FormulaAsTerm (lit< tt)) free h)
+      to_nonlinear : HasNoEarlier s m.formulas static.Nonlinear → HasNone m s limit u (before error.Nonlinear)
+      to_nonlinear first = then_clear error.FormulaAsTerm error.Nonlinear refl (to_term (less static.FormulaAsTerm static.Nonlinear (lit< tt) first)) (λ h. ⊎_elim (first static.FormulaAsTerm (lit< tt)) free h)
 
-      to_division : HasNoEarlier s m.formulas 3 → HasNone m s limit u (before error.Division)
+      to_division : HasNoEarlier s m.formulas static.Division → HasNone m s limit u (before error.Division)
       to_division first =
-          then_clear error.Nonlinear error.Division refl (to_nonlinear (less 2 3 (omega arith) first))
+          then_clear error.Nonlinear error.Division refl (to_nonlinear (less static.Nonlinear static.Division (lit< tt) first))
           (λ h. first static.Nonlinear (lit< tt) (after_here (λ ns. IsNonlinear s.context (place ns)) h))
 
-      to_congruence : HasNoEarlier s m.formulas 4 → HasNone m s limit u (before error.CongruenceContext)
+      to_congruence : HasNoEarlier s m.formulas static.CongruenceContext → HasNone m s limit u (before error.CongruenceContext)
       to_congruence first =
-          then_clear error.Division error.CongruenceContext refl (to_division (less 3 4 (omega arith) first))
+          then_clear error.Division error.CongruenceContext refl (to_division (less static.Division static.CongruenceContext (lit< tt) first))
           (λ h. first static.Division (lit< tt) (after_here (λ ns. Divides s.context (place ns)) h))
 
-      to_modulus : HasNoEarlier s m.formulas 5 → HasNone m s limit u (before error.Modulus)
-      to_modulus first = then_clear error.CongruenceContext error.Modulus refl (to_congruence (less 4 5 (omega arith) first)) (first static.CongruenceContext (lit< tt))
+      to_modulus : HasNoEarlier s m.formulas static.Modulus → HasNone m s limit u (before error.Modulus)
+      to_modulus first = then_clear error.CongruenceContext error.Modulus refl (to_congruence (less static.CongruenceContext static.Modulus (lit< tt) first)) (first static.CongruenceContext (lit< tt))
 
-      to_depth : HasNoEarlier s m.formulas 6 → HasNone m s limit u (before error.Depth)
+      to_depth : HasNoEarlier s m.formulas static.Depth → HasNone m s limit u (before error.Depth)
       to_depth first =
-          then_clear error.Modulus error.Depth refl (to_modulus (less 5 6 (omega arith) first))
+          then_clear error.Modulus error.Depth refl (to_modulus (less static.Modulus static.Depth (lit< tt) first))
           (λ h. first static.Modulus (lit< tt) (after_here (λ ns. IsBadModulus s.context (place ns)) h))
 
       -- where no cause in reading applies but an overflow, none before the point does
-      pub to_point : HasNoEarlier s m.formulas 7 → HasNone m s limit u (before error.Point)
-      to_point first = then_clear error.Depth error.Point refl (to_depth (less 6 7 (omega arith) first)) (first static.Depth (lit< tt))
+      pub to_point : HasNoEarlier s m.formulas static.Overflow → HasNone m s limit u (before error.Point)
+      to_point first = then_clear error.Depth error.Point refl (to_depth (less static.Depth static.Overflow (lit< tt) first)) (first static.Depth (lit< tt))
 
     -- the first cause in reading is the first of all, where it is no overflow, and from the second on no further name is bound
-    pub first_in_reading : (d : StaticError) → reading.rank d < 7 → IsFirstAmong s m.formulas d → (1 < reading.rank d → ¬ Further) → IsFirst m s limit u (static_refusal d)
+    pub first_in_reading : (d : StaticError) → IsBefore d static.Overflow → IsFirstAmong s m.formulas d → (IsBefore static.FormulaAsTerm d → ¬ Further) → IsFirst m s limit u (static_refusal d)
     first_in_reading static.Unbound l h free = record { applies = inl (cause_of_reading static.Unbound h.applies (λ e. absurd (cc (e)))); first = to_unbound }
     first_in_reading static.FormulaAsTerm l h free = record { applies = inl (cause_of_reading static.FormulaAsTerm h.applies (λ e. absurd (cc (e)))); first = to_term h.first }
     first_in_reading static.Nonlinear l h free = record { applies = inl (cause_of_reading static.Nonlinear h.applies (λ e. absurd (cc (e)))); first = to_nonlinear (free (lit< tt)) h.first }
@@ -149,11 +149,11 @@ module _ (m : Meaning) (s : State) (limit : ℕ) (u : Use) where
     first_in_reading static.Memory l h free = absurd (omega arith)
 
     -- a further name that is bound is a cause beside the formulas that are named as terms
-    pub bound_first : HasNoEarlier s m.formulas 1 → Further → IsFirst m s limit u error.FormulaAsTerm
+    pub bound_first : HasNoEarlier s m.formulas static.FormulaAsTerm → Further → IsFirst m s limit u error.FormulaAsTerm
     bound_first first h = record { applies = inl (inr h); first = to_term first }
 
 -- no cause applies to a formula that is resolved
-pub readable_part : (s : State) (g : FormulaTree) → IsReadable s g → (d : StaticError) → reading.rank d < 8 → ¬ (reading.Applies s.context s.bound s.names g d)
+pub readable_part : (s : State) (g : FormulaTree) → IsReadable s g → (d : StaticError) → IsBefore d static.Memory → ¬ (reading.Applies s.context s.bound s.names g d)
 readable_part s g h static.Unbound l k = h.bound_names k
 readable_part s g h static.FormulaAsTerm l k = h.variables k
 readable_part s g h static.Nonlinear l k = h.linear k
@@ -178,17 +178,17 @@ module _ (m : Meaning) (s : State) (limit : ℕ) (u : Use) (numbers : AreNumbere
   no_further : ¬ (SomeOf (IsBound s.bound) m.further)
   no_further h = let k = subst (SomeOf (IsBound s.bound)) plain.further h in absurd k
 
-  to_quantified : HasNoEarlier s m.formulas 7 → HasNone m s limit u (before error.Quantified)
+  to_quantified : HasNoEarlier s m.formulas static.Overflow → HasNone m s limit u (before error.Quantified)
   to_quantified first =
       let point = to_point m s limit u numbers no_further first in
       let unvalued = then_clear m s limit u error.Point error.Unvalued refl point plain.point in
       then_clear m s limit u error.Unvalued error.Quantified refl unvalued plain.unvalued
 
-  to_overflow : HasNoEarlier s m.formulas 7 → ¬ (m.must.quantified s limit) → HasNone m s limit u (before error.Overflow)
+  to_overflow : HasNoEarlier s m.formulas static.Overflow → ¬ (m.must.quantified s limit) → HasNone m s limit u (before error.Overflow)
   to_overflow first free = then_clear m s limit u error.Quantified error.Overflow refl (to_quantified first) free
 
   -- a quantifier stands in the formula, where nothing else is wrong but that its reading may overflow
-  pub quantified_refuses : m.must.quantified s limit → HasNoEarlier s m.formulas 7 → IsFirst m s limit u error.Quantified
+  pub quantified_refuses : m.must.quantified s limit → HasNoEarlier s m.formulas static.Overflow → IsFirst m s limit u error.Quantified
   quantified_refuses h first = record { applies = inl h; first = to_quantified first }
 
   unread_one : (d : StaticError) → d ≢ static.Memory → (d ≡ static.Overflow → ¬ (m.must.quantified s limit)) → IsFirstAmong s m.formulas d → IsFirst m s limit u (static_refusal d)
@@ -208,7 +208,7 @@ module _ (m : Meaning) (s : State) (limit : ℕ) (u : Use) (numbers : AreNumbere
       let no_memory : h.0 ≢ static.Memory = (λ p. other (h.1 ∙ ap static_refusal p)) in
       subst (IsFirst m s limit u) (sym h.1) (unread_one h.0 no_memory (λ p. free (h.1 ∙ ap static_refusal p)) (h.2 no_memory))
 
-  readable_applies : AreReadable s m.formulas → HasNoEarlier s m.formulas 8
+  readable_applies : AreReadable s m.formulas → HasNoEarlier s m.formulas static.Memory
   readable_applies h d l = no_formula (IsReadable s) (λ g. reading.Applies s.context s.bound s.names g d) (λ g k. readable_part s g k d l) m.formulas h
 
   pub ready_below : AreReadable s m.formulas → ¬ (m.must.quantified s limit) → HasNone m s limit u (before error.Overflow)

@@ -44,14 +44,18 @@ AreReadable s fs = EachFormula (IsReadable s) fs
 abbrev pub AppliesAmong : State → FormulaTrees → StaticError → Type 0
 AppliesAmong s fs d = SomeFormula (λ g. Applies s.context s.bound s.names g d) fs
 
--- no cause in reading that comes before this place of their order applies to one of them
-abbrev pub HasNoEarlier : State → FormulaTrees → ℕ → Type 0
-HasNoEarlier s fs n = (d : StaticError) → static_rank d < n → ¬ (AppliesAmong s fs d)
+-- the cause is looked for before the other
+abbrev pub IsBefore : StaticError → StaticError → Type 0
+IsBefore d e = static_rank d < static_rank e
+
+-- no cause in reading that is looked for before this one applies to one of them
+abbrev pub HasNoEarlier : State → FormulaTrees → StaticError → Type 0
+HasNoEarlier s fs e = (d : StaticError) → IsBefore d e → ¬ (AppliesAmong s fs d)
 
 -- it is the first that applies to some of them
 pub record IsFirstAmong (s : State) (fs : FormulaTrees) (d : StaticError) : Type 0 where
   pub applies : AppliesAmong s fs d
-  pub first : HasNoEarlier s fs (static_rank d)
+  pub first : HasNoEarlier s fs d
 
 -- the same, where of want of memory nothing is said
 abbrev pub IsFirstCauseAmong : State → FormulaTrees → StaticError → Type 0
@@ -70,8 +74,8 @@ pub record AreRead (s : State) (f : FormulaTree) (given : FormulaTrees) (after :
 
 -- The first cause for which P holds, or None where there is none. Want of memory is no cause.
 abbrev pub FirstAmong : (StaticError → Type 0) → Option StaticError → Type 0
-FirstAmong P None = (d : StaticError) → static_rank d < 8 → ¬ (P d)
-FirstAmong P (Some e) = (static_rank e < 8) × P e × ((d : StaticError) → static_rank d < static_rank e → ¬ (P d))
+FirstAmong P None = (d : StaticError) → IsBefore d static.Memory → ¬ (P d)
+FirstAmong P (Some e) = IsBefore e static.Memory × P e × ((d : StaticError) → IsBefore d e → ¬ (P d))
 
 -- the earlier of two causes
 abbrev pub first_of : StaticError → Option StaticError → StaticError

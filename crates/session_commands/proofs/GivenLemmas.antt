@@ -177,7 +177,7 @@ module _ (w : FormCommand) (f : FormulaTree) (s : State) (numbers : AreNumbered 
   pub refused_unready : (e : StatementError) → IsUnready s w f e → Refuses s limit done command e
   refused_unready e (inl h) other =
       subst (IsFirst asked s limit done) (sym h.word)
-      (quantified_refuses asked s limit done numbers_here (plain_command w f s limit) (wanted_no_quantifier w f s limit h.quantified) (parts_are w f (λ fs. HasNoEarlier s fs 7) h.first))
+      (quantified_refuses asked s limit done numbers_here (plain_command w f s limit) (wanted_no_quantifier w f s limit h.quantified) (parts_are w f (λ fs. HasNoEarlier s fs static.Overflow) h.first))
   refused_unready e (inr h) other =
       unread_refuses asked s limit done numbers_here (plain_command w f s limit) e (λ o. no_quantifier (h.plain o)) (parts_are w f (λ fs. AreUnread s fs e) h.unread) other
 

@@ -28,6 +28,7 @@ use Rattle.session_meaning.specs.Causes.{HasNoRoom, IsTooLarge}
 use Rattle.session_meaning.specs.Reply.{IsLine}
 use Rattle.session_meaning.specs.Points.{IsQuantified}
 use Rattle.command_tools.specs.Refusals.{LineFault}
+use Rattle.formula_resolving.specs.declared.error.StaticError.TheVariants as static
 use Rattle.problem_reading.specs.Reading.{AreReadable, HasNoEarlier, AreUnread}
 
 -- the assumptions
@@ -76,7 +77,7 @@ pub record IsReady (s : State) (w : FormCommand) (f : FormulaTree) : Type 0 wher
 pub record IsQuantifiedFirst (s : State) (w : FormCommand) (f : FormulaTree) (e : StatementError) : Type 0 where
   pub word : e ≡ error.Quantified
   pub quantified : HasUnwantedQuantifier s w f
-  pub first : HasNoEarlier s (also f (given_trees w)) 7
+  pub first : HasNoEarlier s (also f (given_trees w)) static.Overflow
 
 -- the word is that of the first cause in reading, and no such quantifier comes before an overflow
 pub record IsUnreadFirst (s : State) (w : FormCommand) (f : FormulaTree) (e : StatementError) : Type 0 where
