@@ -1,5 +1,5 @@
 -- The words of refusals, and why a line is not written.
-use Rattle.std.specs.Prelude.{◌≡◌, ◌<◌, ℕ, List, Bool, true, length}
+use Rattle.std.specs.Prelude.{◌≡◌, ◌⊎◌, ◌<◌, ℕ, List, Bool, true, length}
 use Rattle.redlog_tokens.specs.declared.token.ReadError.{ReadError}
 use Rattle.redlog_tokens.specs.declared.token.ReadError.TheVariants as reading
 use Rattle.formula_resolving.specs.declared.error.StaticError.{StaticError}
@@ -48,8 +48,10 @@ abbrev pub print_refusal : PrintError → StatementError
 print_refusal print.Text = error.Text
 print_refusal print.Memory = error.Memory
 
+-- a text that is printed passes the limit
+abbrev pub IsLongText : Bool → List ℕ → Type 0
+IsLongText printed text = (printed ≡ true) × (text_limit < length text)
+
 -- why a text is not written
 abbrev pub LineFault : Bool → List ℕ → StatementError → Type 0
-LineFault printed text error.Text = (printed ≡ true) × (text_limit < length text)
-LineFault printed text error.Memory = Unit {0}
-LineFault printed text _ = ⊥
+LineFault printed text e = ((e ≡ error.Text) × IsLongText printed text) ⊎ (e ≡ error.Memory)

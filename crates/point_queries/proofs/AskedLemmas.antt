@@ -1,5 +1,5 @@
 -- Why a command about a point is refused before anything is answered, and when it is not.
-use Rattle.std.proofs.Common.{◌≡◌, inl, inr, ⊎_elim, ℕ, ◌<◌, List, [], ◌∷◌, Bool, true, false, IsTrue, ◌↔◌, MatchOption, Option, Some, None, sym, ap, ◌∙◌, subst, refl, arith, lit<}
+use Rattle.std.proofs.Common.{◌≡◌, inl, inr, ⊎_elim, ℕ, List, [], ◌∷◌, Bool, true, false, IsTrue, ◌↔◌, MatchOption, Option, Some, None, sym, ap, ◌∙◌, subst, refl, arith, lit<}
 use Rattle.std.proofs.lemmas.Bool.{false≢true}
 use Rattle.std.specs.Prelude.{option_map, is_some}
 use Rattle.formula_meaning.specs.Formula.{none, also}
@@ -132,14 +132,12 @@ module _ (s : State) (f : FormulaTree) (es : List PointEntry) (numbers : HasNumb
   -- ---- refusals
 
   pub no_point : IsClear s f es → (e : StatementError) → PointStop s.context es e → RefusesBoth s f es e
-  no_point clear error.Point h = λ limit printed. both_refused s f es limit printed error.Point h (below_point clear limit printed)
-  no_point clear error.Memory h = λ limit printed. out_of_memory s f es limit printed
-  no_point clear _ h = absurd h
+  no_point clear e (inl h) = subst (RefusesBoth s f es) (sym h.0) (λ limit printed. both_refused s f es limit printed error.Point h.1 (below_point clear limit printed))
+  no_point clear e (inr h) = subst (RefusesBoth s f es) (sym h) (λ limit printed. out_of_memory s f es limit printed)
 
   pub not_valued : IsClear s f es → ¬ (MeanNoPoint s.context es) → (e : StatementError) → ValuedStop s f es e → RefusesBoth s f es e
-  not_valued clear point error.Unvalued h = λ limit printed. both_refused s f es limit printed error.Unvalued h (below_unvalued clear point limit printed)
-  not_valued clear point error.Memory h = λ limit printed. out_of_memory s f es limit printed
-  not_valued clear point _ h = absurd h
+  not_valued clear point e (inl h) = subst (RefusesBoth s f es) (sym h.0) (λ limit printed. both_refused s f es limit printed error.Unvalued h.1 (below_unvalued clear point limit printed))
+  not_valued clear point e (inr h) = subst (RefusesBoth s f es) (sym h) (λ limit printed. out_of_memory s f es limit printed)
 
   pub reading_passes : IsClear s f es → ¬ (MeanNoPoint s.context es) → IsValued s f es → OverflowsInReading s.context s.bound (place s.names) f → RefusesBoth s f es error.Overflow
   reading_passes clear point valued h = λ limit printed. both_refused s f es limit printed error.Overflow (inl (inl h)) (below_overflow clear point valued limit printed)

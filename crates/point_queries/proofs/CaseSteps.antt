@@ -157,19 +157,18 @@ module _ (s : State) (f : FormulaTree) (gs : FormulaTrees) (numbers : AreNumbere
       each_within (k ∷ ks) h = (h.0.formula.within.atoms, each_within ks h.1)
 
       cases_too_long : (e : StatementError) → LineFault printed (cases_text s.names left) e → Refuses s limit said (Qea f gs) e
-      cases_too_long error.Text k =
+      cases_too_long e (inl k) =
           let known = reference_known s.context (length s.names) (resolve s.context s.bound s.names f) own limit wanted.cases wanted.cost wanted.same in
           let short = left_no_longer s.context (assumed s gs) s.names (not_empty s.names sound.variables) wanted.cases left (each_within wanted.cases known) wanted.simplified in
-          (λ other. record { applies = inr (λ p. p, k.0, inr (wanted.cases, wanted.cost, wanted.same, omega (arith, k.1, short))); first = to_text })
-      cases_too_long error.Memory k = λ other. absurd (other refl)
-      cases_too_long _ k = absurd k
+          subst (Refuses s limit said (Qea f gs)) (sym k.0)
+          (λ other. record { applies = inr (λ p. p, k.1.0, inr (wanted.cases, wanted.cost, wanted.same, omega (arith, k.1.1, short))); first = to_text })
+      cases_too_long e (inr k) = λ other. absurd (other k)
 
     line_refuses : IsSound s → IsSessionFormula s.context (length s.names) (resolve s.context s.bound s.names f) → (w : Way) (left : List Case)
         → AreCasesBy w s.context (assumed s gs) limit (resolve s.context s.bound s.names f) left → (e : StatementError) → LineFault printed (cases_text s.names left) e → CasesRefuse w s limit printed f gs e
     line_refuses sound own way.ByReference left found e k = cases_too_long sound own left found e k
-    line_refuses sound own way.ByCases left found error.Text k = λ other. absurd (other refl)
-    line_refuses sound own way.ByCases left found error.Memory k = λ other more. absurd (more refl)
-    line_refuses sound own way.ByCases left found _ k = absurd k
+    line_refuses sound own way.ByCases left found e (inl k) = λ other. absurd (other k.0)
+    line_refuses sound own way.ByCases left found e (inr k) = λ other more. absurd (more k)
 
 -- what refuses the command refuses it in either way
 refuses_by : (w : Way) (s : State) (limit : ℕ) (printed : Bool) (f : FormulaTree) (gs : FormulaTrees) (e : StatementError) → Refuses s limit (use_of None printed) (Qea f gs) e → CasesRefuse w s limit printed f gs e

@@ -9,7 +9,10 @@ use Rattle.formula_meaning.specs.Tree.{Tree, TrueAt}
 use Rattle.atom_normal.specs.NormalForm.{IsNormal}
 use Rattle.elimination_reference.specs.Cases.{case_sign, case_formula}
 use Rattle.elimination_reference.proofs.CasesExact.{says}
-use Rattle.sample_reference.specs.Sample.{IsTrueSample}
+use Rattle.plain_engine.specs.declared.measured.Measured.{Measured}
+use Rattle.plain_engine.specs.declared.measured.Measured.TheVariants as measured
+use Rattle.plain_engine.specs.Told.{StopsWith}
+use Rattle.sample_reference.specs.Sample.{reference_sample, IsTrueSample}
 use Rattle.std.specs.declared.vec.Vec.{Vec}
 use Rattle.std.specs.declared.alloc.Global.{Global}
 use Rattle.exact_numbers.specs.declared.fraction.Fraction.{Fraction}
@@ -27,6 +30,7 @@ use Rattle.session_meaning.specs.declared.line.StatementError.{StatementError}
 use Rattle.session_meaning.specs.declared.line.StatementError.TheVariants as error
 use Rattle.session_meaning.specs.State.{State}
 use Rattle.command_tools.specs.Replies.{use_of}
+use Rattle.command_tools.specs.Refusals.{measured_refusal}
 use Rattle.problem_reading.specs.Reading.{HasNumbers, IsReadable}
 use Rattle.point_queries.specs.Asked.{AcceptsBoth}
 use Rattle.session_meaning.specs.Meaning.{meaning}
@@ -72,10 +76,12 @@ module _ (s : State) (f : FormulaTree) (es : List PointEntry) (p : NamedPoint) w
     before_nodes printed = none_before (meaning (Sample f es)) s limit (use_of None printed) error.Nodes (error.Nodes ∷ error.Bindings ∷ error.Text ∷ []) refl (clear limit printed).1
 
     pub sample_stops : (e : StatementError) → SampleStop s.context limit t q e → RefusesSample s limit f es e
-    sample_stops error.Overflow h = λ printed other. record { applies = inr (λ k. k, (p, meant, h)); first = before_overflow printed }
-    sample_stops error.Nodes h = λ printed other. record { applies = inr (λ k. k, (p, meant, h)); first = before_nodes printed }
-    sample_stops error.Memory h = λ printed other. absurd (other refl)
-    sample_stops _ h = absurd h
+    sample_stops e h = subst (RefusesSample s limit f es) (sym h.1) (each h.0 h.2)
+      where
+        each : (d : Measured) → StopsWith d (reference_sample s.context limit q t) → RefusesSample s limit f es (measured_refusal d)
+        each measured.Overflow k = λ printed other. record { applies = inr (λ x. x, (p, meant, k)); first = before_overflow printed }
+        each measured.Nodes k = λ printed other. record { applies = inr (λ x. x, (p, meant, k)); first = before_nodes printed }
+        each measured.Memory k = λ printed other. absurd (other refl)
 
   -- ---- the sample
 

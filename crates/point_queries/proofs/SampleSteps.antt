@@ -15,7 +15,6 @@ use Rattle.block_scheduler.specs.declared.limits.Limits.{Limits}
 use Rattle.atom_normal.proofs.Stepped.{ok_map}
 use Rattle.linear_forms.specs.declared.form.VarId.{VarId}
 use Rattle.plain_engine.specs.declared.measured.Measured.{Measured}
-use Rattle.plain_engine.specs.declared.measured.Measured.TheVariants as measured
 use Rattle.plain_engine.specs.Told.{StopsWith}
 use Rattle.sample_reference.specs.Sample.{reference_sample, IsTrueSample}
 use Rattle.sample_reference.specs.Seen.{sample_of}
@@ -53,12 +52,6 @@ use Rattle.problem_reading.proofs.ReadLemmas.{readable_formula}
 use Rattle.point_queries.proofs.SampleLemmas.{sample_stops, sample_is, sample_within}
 use Rattle.point_queries.proofs.ShortSamples.{sample_short}
 
--- what stops the reference sample refuses the command
-stop_of_sample : (c : Context) (limit : ℕ) (q : Point ℕ) (t : Tree) (e : Measured) → StopsWith e (reference_sample c limit q t) → SampleStop c limit t q (measured_refusal e)
-stop_of_sample c limit q t measured.Overflow h = h
-stop_of_sample c limit q t measured.Nodes h = h
-stop_of_sample c limit q t measured.Memory h = tt
-
 -- ---- the sample that an engine gives
 
 module _ (t : Tree) (p q : Point ℕ) (same : p ≡ q) (c d : atoms.Context) (is : d ≡ c) where
@@ -69,11 +62,8 @@ module _ (t : Tree) (p q : Point ℕ) (same : p ≡ q) (c d : atoms.Context) (is
   -- and what stops the reference sample there refuses it
   pub sample_stopped_there : (l m : Limits) → m ≡ l → (e : Measured) → StopsWith e (reference_sample (context_of d) m.nodes p t) → (x : StatementError) → x ≡ measured_refusal e → SampleStop (context_of c) l.nodes t q x
   sample_stopped_there l m limits e h x word =
-      subst (SampleStop (context_of c) l.nodes t q) (sym word)
-      (stop_of_sample (context_of c) l.nodes q t e
-      (subst (λ (y : atoms.Context). StopsWith e (reference_sample (context_of y) l.nodes q t)) is
-      (subst (λ (y : Limits). StopsWith e (reference_sample (context_of d) y.nodes q t)) limits
-      (subst (λ r. StopsWith e (reference_sample (context_of d) m.nodes r t)) same h))))
+      let there = subst (λ (y : Limits). StopsWith e (reference_sample (context_of d) y.nodes q t)) limits (subst (λ r. StopsWith e (reference_sample (context_of d) m.nodes r t)) same h) in
+      (e, word, subst (λ (y : atoms.Context). StopsWith e (reference_sample (context_of y) l.nodes q t)) is there)
 
 -- ---- after the formula and the point were read
 

@@ -45,15 +45,18 @@ module _ (s : State) (f : FormulaTree) (es : List PointEntry) (p : NamedPoint) (
     before_nodes printed = none_before (meaning (Holds f es)) s limit (use_of None printed) error.Nodes (error.Nodes ∷ error.Bindings ∷ error.Text ∷ []) refl (clear limit printed).0
 
     pub truth_passes : ¬ (IsQuantified s.bound f) → (e : StatementError) → ValueStop (resolve s.context s.bound s.names f) (at_names s.names p) e → RefusesTruth s limit f es e
-    truth_passes free error.Overflow h = λ printed other. record { applies = inr (λ k. k, inl (free, record { point = p; meant = meant; passes = h })); first = before_overflow printed }
-    truth_passes free error.Memory h = λ printed other. absurd (other refl)
-    truth_passes free _ h = absurd h
+    truth_passes free e (inl h) =
+        subst (RefusesTruth s limit f es) (sym h.0)
+        (λ printed other. record { applies = inr (λ k. k, inl (free, record { point = p; meant = meant; passes = h.1 })); first = before_overflow printed })
+    truth_passes free e (inr h) = λ printed other. absurd (other h)
 
     pub elimination_stops : IsQuantified s.bound f → (e : StatementError) → EliminationStop s.context limit (resolve s.context s.bound s.names f) (at_names s.names p) e → RefusesTruth s limit f es e
-    elimination_stops quantified error.Overflow h = λ printed other. record { applies = inr (λ k. k, inr (quantified, (p, meant, h))); first = before_overflow printed }
-    elimination_stops quantified error.Nodes h = λ printed other. record { applies = inr (λ k. k, (quantified, (p, meant, h))); first = before_nodes printed }
-    elimination_stops quantified error.Memory h = λ printed other. absurd (other refl)
-    elimination_stops quantified _ h = absurd h
+    elimination_stops quantified e h = subst (RefusesTruth s limit f es) (sym h.1) (each h.0 h.2)
+      where
+        each : (d : Measured) → StopsWith d (reference_at s.context limit (at_names s.names p) (resolve s.context s.bound s.names f)) → RefusesTruth s limit f es (measured_refusal d)
+        each measured.Overflow k = λ printed other. record { applies = inr (λ x. x, inr (quantified, (p, meant, k))); first = before_overflow printed }
+        each measured.Nodes k = λ printed other. record { applies = inr (λ x. x, (quantified, (p, meant, k))); first = before_nodes printed }
+        each measured.Memory k = λ printed other. absurd (other refl)
 
   -- ---- the truth
 
@@ -68,12 +71,6 @@ pub told_in : (c : Context) (b : Bool) (t : Tree) (q : Point ℕ) → Tells b t 
 told_in c true t q h = (λ _. h c, λ _. refl)
 told_in c false t q h = (λ e. absurd (false≢true e), λ k. absurd (h c k))
 
--- what stops the reference elimination at a point refuses the truth there
-stop_of_truth : (c : Context) (limit : ℕ) (q : Point ℕ) (t : Tree) (e : Measured) → StopsWith e (reference_at c limit q t) → EliminationStop c limit t q (measured_refusal e)
-stop_of_truth c limit q t measured.Overflow h = h
-stop_of_truth c limit q t measured.Nodes h = h
-stop_of_truth c limit q t measured.Memory h = tt
-
 module _ (t : Tree) (p q : Point ℕ) (same : p ≡ q) (c d : atoms.Context) (is : d ≡ c) where
   -- an engine for the theory of the state tells the truth in it
   pub truth_there : (b : Bool) → (IsTrue b ↔ TrueAt (context_of d) t p) → IsTrue b ↔ TrueAt (context_of c) t q
@@ -82,8 +79,5 @@ module _ (t : Tree) (p q : Point ℕ) (same : p ≡ q) (c d : atoms.Context) (is
   -- and what stops the reference there refuses it
   pub truth_stopped : (l m : Limits) → m ≡ l → (e : Measured) → StopsWith e (reference_at (context_of d) m.nodes p t) → (x : StatementError) → x ≡ measured_refusal e → EliminationStop (context_of c) l.nodes t q x
   truth_stopped l m limits e h x word =
-      subst (EliminationStop (context_of c) l.nodes t q) (sym word)
-      (stop_of_truth (context_of c) l.nodes q t e
-      (subst (λ (y : atoms.Context). StopsWith e (reference_at (context_of y) l.nodes q t)) is
-      (subst (λ (y : Limits). StopsWith e (reference_at (context_of d) y.nodes q t)) limits
-      (subst (λ r. StopsWith e (reference_at (context_of d) m.nodes r t)) same h))))
+      let there = subst (λ (y : Limits). StopsWith e (reference_at (context_of d) y.nodes q t)) limits (subst (λ r. StopsWith e (reference_at (context_of d) m.nodes r t)) same h) in
+      (e, word, subst (λ (y : atoms.Context). StopsWith e (reference_at (context_of y) l.nodes q t)) is there)

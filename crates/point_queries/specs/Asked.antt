@@ -1,6 +1,6 @@
 -- What is looked at before anything is answered at a point: the formula, the point, and whether the free names have entries. The state is one in which the
 -- variables of the command have their numbers.
-use Rattle.std.specs.Prelude.{◌≡◌, ℕ, List, Bool, true, false, Option, Some, None, MatchOption, map}
+use Rattle.std.specs.Prelude.{◌≡◌, ◌⊎◌, ℕ, List, Bool, true, false, Option, Some, None, MatchOption, map}
 use Rattle.std.specs.List.{AllByRecursion}
 use Rattle.formula_meaning.specs.Context.{Context, Fields, Integers}
 use Rattle.formula_meaning.specs.Formula.{none, also}
@@ -79,9 +79,7 @@ pub record IsMeantPoint (c : Context) (es : List PointEntry) (point : Option Num
 
 -- why there is no point
 abbrev pub PointStop : Context → List PointEntry → StatementError → Type 0
-PointStop c es error.Point = MeanNoPoint c es
-PointStop c es error.Memory = Unit {0}
-PointStop c es _ = ⊥
+PointStop c es e = ((e ≡ error.Point) × MeanNoPoint c es) ⊎ (e ≡ error.Memory)
 
 -- the free names of the formula have entries
 abbrev pub IsValued : State → FormulaTree → List PointEntry → Type 0
@@ -89,9 +87,7 @@ IsValued s f es = ¬ (HasUnvalued s.bound (place s.names) f es)
 
 -- why that is not so
 abbrev pub ValuedStop : State → FormulaTree → List PointEntry → StatementError → Type 0
-ValuedStop s f es error.Unvalued = HasUnvalued s.bound (place s.names) f es
-ValuedStop s f es error.Memory = Unit {0}
-ValuedStop s f es _ = ⊥
+ValuedStop s f es e = ((e ≡ error.Unvalued) × HasUnvalued s.bound (place s.names) f es) ⊎ (e ≡ error.Memory)
 
 -- The formula is read as this id, and the entries mean this point, which is one of the theory. Nothing is wrong with either, and each free name has an entry.
 pub record IsAsked (s : State) (f : FormulaTree) (es : List PointEntry) (after : SessionState) (id : FormulaId) (point : Numbers) : Type 0 where

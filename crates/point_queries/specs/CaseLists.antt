@@ -1,13 +1,18 @@
--- Why an attempt at a case list fails, in a state in which the variables of the command have their numbers.
-use Rattle.std.specs.Prelude.{◌≢◌, ℕ, Bool, None}
-use Rattle.qe_syntax.specs.Statements.{Qea}
-use Rattle.qe_syntax.specs.Trees.{FormulaTree, FormulaTrees}
+-- A command that asks for cases, and why an attempt at it fails, in a state in which the variables of the command have their numbers.
+use Rattle.std.specs.Prelude.{◌≢◌, ℕ, Bool, List, None, map}
+use Rattle.qe_syntax.specs.declared.tree.Formula.{Formula}
+use Rattle.qe_syntax.specs.Statements.{CommandTree, Qea}
+use Rattle.qe_syntax.specs.Trees.{FormulaTree, FormulaTrees, formula_tree, formulas_of}
 use Rattle.session_meaning.specs.declared.line.StatementError.{StatementError}
 use Rattle.session_meaning.specs.declared.line.StatementError.TheVariants as error
 use Rattle.session_meaning.specs.State.{State}
 use Rattle.shared_forms.specs.declared.way.Way.{Way}
 use Rattle.shared_forms.specs.declared.way.Way.TheVariants as way
 use Rattle.command_tools.specs.Replies.{use_of, Refuses}
+
+-- the command that asks for the cases of a formula under assumptions
+abbrev pub cases_command : Formula → List Formula → CommandTree
+cases_command formula given = Qea (formula_tree formula) (formulas_of (map formula_tree given))
 
 -- the command is refused; of a list by cases that is too long nothing is said
 abbrev pub CasesRefuse : Way → State → ℕ → Bool → FormulaTree → FormulaTrees → StatementError → Type 0

@@ -3,8 +3,9 @@ use Rattle.std.specs.Prelude.{◌≡◌, ◌≤◌, ℕ, List, Bool, Option, Som
 use Rattle.formula_meaning.specs.Context.{Context}
 use Rattle.formula_meaning.specs.Point.{Point}
 use Rattle.formula_meaning.specs.Tree.{Tree}
-use Rattle.formula_meaning.specs.Measured.{Overflow, Nodes, stopped}
 use Rattle.sample_reference.specs.Sample.{reference_sample}
+use Rattle.plain_engine.specs.declared.measured.Measured.{Measured}
+use Rattle.plain_engine.specs.Told.{StopsWith}
 use Rattle.sample_reference.specs.Values.{Value}
 use Rattle.answer_texts.specs.Within.{AreValuesWithin}
 use Rattle.redlog_printer.specs.Writing.{text_limit}
@@ -12,10 +13,10 @@ use Rattle.qe_syntax.specs.declared.statement.PointEntry.{PointEntry}
 use Rattle.qe_syntax.specs.Statements.{Sample}
 use Rattle.qe_syntax.specs.Trees.{FormulaTree}
 use Rattle.session_meaning.specs.declared.line.StatementError.{StatementError}
-use Rattle.session_meaning.specs.declared.line.StatementError.TheVariants as error
 use Rattle.session_meaning.specs.State.{State}
 use Rattle.session_meaning.specs.Samples.{IsSampleAnswer, sample_text}
 use Rattle.command_tools.specs.Replies.{use_of, Refuses}
+use Rattle.command_tools.specs.Refusals.{measured_refusal}
 use Rattle.session_meaning.specs.Meaning.{meaning}
 use Rattle.session_meaning.specs.Causes.{IsAccepted}
 
@@ -25,10 +26,7 @@ RefusesSample s limit f es e = (printed : Bool) → Refuses s limit (use_of None
 
 -- why there is none
 abbrev pub SampleStop : Context → ℕ → Tree → Point ℕ → StatementError → Type 0
-SampleStop c limit t q error.Overflow = reference_sample c limit q t ≡ stopped Overflow
-SampleStop c limit t q error.Nodes = reference_sample c limit q t ≡ stopped Nodes
-SampleStop c limit t q error.Memory = Unit {0}
-SampleStop c limit t q _ = ⊥
+SampleStop c limit t q e = (d : Measured) × (e ≡ measured_refusal d) × StopsWith d (reference_sample c limit q t)
 
 -- each name of a value, if there are values, has a number below this one
 abbrev pub IsSampleWithin : ℕ → Option (List Value) → Type 0

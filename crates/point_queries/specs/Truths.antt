@@ -1,10 +1,11 @@
 -- Why the truth at a point is not answered, in a state in which the variables of the command have their numbers.
-use Rattle.std.specs.Prelude.{◌≡◌, ℕ, List, Bool, None}
+use Rattle.std.specs.Prelude.{◌≡◌, ◌⊎◌, ℕ, List, Bool, None}
 use Rattle.formula_meaning.specs.Context.{Context}
 use Rattle.formula_meaning.specs.Point.{Point}
 use Rattle.formula_meaning.specs.Tree.{Tree}
-use Rattle.formula_meaning.specs.Measured.{Overflow, Nodes, stopped}
 use Rattle.elimination_reference.specs.Sample.{reference_at}
+use Rattle.plain_engine.specs.declared.measured.Measured.{Measured}
+use Rattle.plain_engine.specs.Told.{StopsWith}
 use Rattle.qe_syntax.specs.declared.statement.PointEntry.{PointEntry}
 use Rattle.qe_syntax.specs.Statements.{Holds}
 use Rattle.qe_syntax.specs.Trees.{FormulaTree}
@@ -13,6 +14,7 @@ use Rattle.session_meaning.specs.declared.line.StatementError.TheVariants as err
 use Rattle.session_meaning.specs.State.{State}
 use Rattle.session_meaning.specs.Points.{SomeAtomPassesAt}
 use Rattle.command_tools.specs.Replies.{use_of, Refuses}
+use Rattle.command_tools.specs.Refusals.{measured_refusal}
 
 -- the command is refused with the word under a limit of nodes, whether its line is printed or not
 abbrev pub RefusesTruth : State → ℕ → FormulaTree → List PointEntry → StatementError → Type 0
@@ -20,13 +22,8 @@ RefusesTruth s limit f es e = (printed : Bool) → Refuses s limit (use_of None 
 
 -- why the truth of a resolved formula with quantifiers is not answered
 abbrev pub EliminationStop : Context → ℕ → Tree → Point ℕ → StatementError → Type 0
-EliminationStop c limit t q error.Overflow = reference_at c limit q t ≡ stopped Overflow
-EliminationStop c limit t q error.Nodes = reference_at c limit q t ≡ stopped Nodes
-EliminationStop c limit t q error.Memory = Unit {0}
-EliminationStop c limit t q _ = ⊥
+EliminationStop c limit t q e = (d : Measured) × (e ≡ measured_refusal d) × StopsWith d (reference_at c limit q t)
 
 -- why the truth of a resolved formula without quantifiers is not answered
 abbrev pub ValueStop : Tree → Point ℕ → StatementError → Type 0
-ValueStop t q error.Overflow = SomeAtomPassesAt t q
-ValueStop t q error.Memory = Unit {0}
-ValueStop t q _ = ⊥
+ValueStop t q e = ((e ≡ error.Overflow) × SomeAtomPassesAt t q) ⊎ (e ≡ error.Memory)

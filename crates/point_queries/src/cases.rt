@@ -7,7 +7,6 @@ ghost use Rattle.formula_tree.specs.Resolving.{resolve};
 ghost use Rattle.answer_texts.specs.Answers.{cases_text as text_of_cases};
 ghost use Rattle.answer_texts.specs.Within.{AreCasesWithin};
 ghost use Rattle.qe_syntax.specs.Writable.{IsWritableFormula, AreWritableFormulas};
-ghost use Rattle.qe_syntax.specs.Statements.{Qea};
 ghost use Rattle.qe_syntax.specs.Trees.{formula_tree, formulas_of};
 ghost use Rattle.session_meaning.specs.Assumptions.{assumed};
 ghost use Rattle.command_tools.specs.Replies.{use_of, Refuses, IsQueryAnswer};
@@ -18,7 +17,7 @@ ghost use Rattle.session_meaning.specs.Reply.{IsLine};
 ghost use Rattle.session_state.specs.Keeping.{state_of, IsSessionState};
 ghost use Rattle.session_state.specs.Growth.{KeepsState, GrowsState};
 ghost use Rattle.shared_forms.specs.Cases.{AreCasesBy};
-ghost use Rattle.point_queries.specs.CaseLists.{CasesRefuse};
+ghost use Rattle.point_queries.specs.CaseLists.{CasesRefuse, cases_command};
 
 use answer_texts::cases_text;
 use command_tools::{Workshop, forms_refusal, print_refusal};
@@ -44,9 +43,9 @@ pub fn answer_cases<R: Threads + Sync, G: Gate + Sync>(
     requires given { AreWritableFormulas (formulas_of (map formula_tree given.now)) }
     requires session { IsSessionState state.old }
     ensures session { OnOk result (IsSessionState state.new) }
-    ensures answer { IfOk result (IsQueryAnswer (numbered (meaning (Qea (formula_tree formula.now) (formulas_of (map formula_tree given.now)))) (state_of state.old)) workshop.now.limits.nodes printed (Qea (formula_tree formula.now) (formulas_of (map formula_tree given.now))) (state_of state.new).names) }
-    ensures next { OnOk result (state_of state.new ≡ numbered (meaning (Qea (formula_tree formula.now) (formulas_of (map formula_tree given.now)))) (state_of state.old)) }
-    ensures refused { IfErr result (Refuses (numbered (meaning (Qea (formula_tree formula.now) (formulas_of (map formula_tree given.now)))) (state_of state.old)) workshop.now.limits.nodes (use_of None printed) (Qea (formula_tree formula.now) (formulas_of (map formula_tree given.now)))) }
+    ensures answer { IfOk result (IsQueryAnswer (numbered (meaning (cases_command formula.now given.now)) (state_of state.old)) workshop.now.limits.nodes printed (cases_command formula.now given.now) (state_of state.new).names) }
+    ensures next { OnOk result (state_of state.new ≡ numbered (meaning (cases_command formula.now given.now)) (state_of state.old)) }
+    ensures refused { IfErr result (Refuses (numbered (meaning (cases_command formula.now given.now)) (state_of state.old)) workshop.now.limits.nodes (use_of None printed) (cases_command formula.now given.now)) }
     ensures grown { OnErr result (GrowsState state.old state.new) }
 {
     number_parts(formula, given, &state.bindings, &mut state.names)?;
@@ -67,8 +66,8 @@ fn answer_numbered<R: Threads + Sync, G: Gate + Sync>(
     requires given { AreWritableFormulas (formulas_of (map formula_tree given.now)) }
     requires session { IsSessionState state.old }
     requires numbered { AreNumbered state.old.names (also (formula_tree formula.now) (formulas_of (map formula_tree given.now))) }
-    ensures answer { IfOk result (IsQueryAnswer (state_of state.old) workshop.now.limits.nodes printed (Qea (formula_tree formula.now) (formulas_of (map formula_tree given.now))) state.new.names) }
-    ensures refused { IfErr result (Refuses (state_of state.old) workshop.now.limits.nodes (use_of None printed) (Qea (formula_tree formula.now) (formulas_of (map formula_tree given.now)))) }
+    ensures answer { IfOk result (IsQueryAnswer (state_of state.old) workshop.now.limits.nodes printed (cases_command formula.now given.now) state.new.names) }
+    ensures refused { IfErr result (Refuses (state_of state.old) workshop.now.limits.nodes (use_of None printed) (cases_command formula.now given.now)) }
     ensures kept { KeepsState state.old state.new }
 {
     match attempt(workshop, state, Way::ByCases, formula, given, printed) {
@@ -94,7 +93,7 @@ fn attempt<R: Threads + Sync, G: Gate + Sync>(
     requires given { AreWritableFormulas (formulas_of (map formula_tree given.now)) }
     requires session { IsSessionState state.old }
     requires numbered { AreNumbered state.old.names (also (formula_tree formula.now) (formulas_of (map formula_tree given.now))) }
-    ensures answer { IfOk result (IsQueryAnswer (state_of state.old) workshop.now.limits.nodes printed (Qea (formula_tree formula.now) (formulas_of (map formula_tree given.now))) state.new.names) }
+    ensures answer { IfOk result (IsQueryAnswer (state_of state.old) workshop.now.limits.nodes printed (cases_command formula.now given.now) state.new.names) }
     ensures refused { IfErr result (CasesRefuse way (state_of state.old) workshop.now.limits.nodes printed (formula_tree formula.now) (formulas_of (map formula_tree given.now))) }
     ensures kept { KeepsState state.old state.new }
 {
@@ -118,7 +117,7 @@ fn cases_of<R: Threads + Sync, G: Gate + Sync>(
     ensures cases { IfOk result (λ v. AreCasesBy way (state_of state.old).context (assumed (state_of state.old) (formulas_of (map formula_tree given.now))) workshop.now.limits.nodes (resolve (state_of state.old).context (state_of state.old).bound state.old.names (formula_tree formula.now)) (map case_seen v.items)) }
     ensures points { IfOk result (λ v. HavePoints v.items) }
     ensures readable { OnOk result (AreReadable (state_of state.old) (also (formula_tree formula.now) (formulas_of (map formula_tree given.now)))) }
-    ensures refused { IfErr result (λ e. (printed : Bool) → Refuses (state_of state.old) workshop.now.limits.nodes (use_of None printed) (Qea (formula_tree formula.now) (formulas_of (map formula_tree given.now))) e) }
+    ensures refused { IfErr result (λ e. (printed : Bool) → Refuses (state_of state.old) workshop.now.limits.nodes (use_of None printed) (cases_command formula.now given.now) e) }
     ensures kept { KeepsState state.old state.new }
 {
     let read = read_parts(state, formula, given)?;

@@ -22,7 +22,7 @@ use Rattle.formula_tree.specs.Resolving.{BoundTrees, bound_truth, formula_variab
 use Rattle.qe_syntax.specs.Value as written
 use Rattle.redlog_printer.specs.Text.{tree_text}
 use Rattle.command_tools.specs.Replies.{use_of, Refuses, state_with, IsFormulaAnswer}
-use Rattle.command_tools.specs.Refusals.{forms_refusal, LineFault, static_refusal}
+use Rattle.command_tools.specs.Refusals.{forms_refusal, IsLongText, LineFault, static_refusal}
 use Rattle.session_commands.specs.Steps.{given_trees, form_of, command_of, HasUnwantedQuantifier, IsReady, IsUnready, MayBind, TargetFault, HasFewBytes, IsForSize, IsUnfit, IsUnspared, MayAsk}
 use Rattle.problem_reading.specs.Reading.{AreNumbered, AreReadable, HasNoEarlier, AreUnread}
 use Rattle.session_meaning.specs.Meaning.{meaning, numbered, Meaning, Determines, IsAllowed}
@@ -393,10 +393,10 @@ module _ (w : FormCommand) (f : FormulaTree) (s : State) (numbers : AreNumbered 
   failed_memory = inr (fits_other w s.bound target error.Memory memory_other, λ other. absurd (other refl))
 
   pub refused_target : MayAsk s limit given_use w f → (e : StatementError) → TargetFault s.bound target t e → Fails e
-  refused_target ask error.Bindings (inl k) = failed error.Bindings clear (no_room f s limit t w given_use k)
-  refused_target ask error.Bindings (inr k) = failed error.Bindings clear (too_large f s limit t w given given_use ask k.0 k.1)
-  refused_target ask error.Memory k = failed_memory
-  refused_target ask _ k = absurd k
+  refused_target ask e (inl h) =
+      subst Fails (sym h.0)
+      (elim h.1 [ inl k ↦ failed error.Bindings clear (no_room f s limit t w given_use k) | inr k ↦ failed error.Bindings clear (too_large f s limit t w given given_use ask k.0 k.1) ])
+  refused_target ask e (inr h) = subst Fails (sym h) failed_memory
 
   clear_to_text : MayBind s.bound target t → HasNone (meaning (command_of w f)) s limit given_use (before error.Text)
   clear_to_text b =
@@ -406,12 +406,11 @@ module _ (w : FormCommand) (f : FormulaTree) (s : State) (numbers : AreNumbered 
   module _ (sound : IsSound s) (own : IsSessionFormula s.context (length s.names) (resolve s.context s.bound s.names f)) (names : List (List ℕ)) (named : (meaning (command_of w f)).names s names) where
     pub refused_line : MayAsk s limit given_use w f → MayBind s.bound target t → (e : StatementError) → LineFault printed (formula_line target names t) e
         → (e ≡ error.Text → HasFewBytes target ⊎ (text_limit < length (tree_text names t))) → Fails e
-    refused_line ask b error.Text k few = failed error.Text (clear_to_text b) (too_long f s limit t sound own names given_use b.room k.0 k.1 (few refl) w given ask named)
-    refused_line ask b error.Memory k few = failed_memory
-    refused_line ask b _ k few = absurd k
+    refused_line ask b e (inl k) few = subst Fails (sym k.0) (failed error.Text (clear_to_text b) (too_long f s limit t sound own names given_use b.room k.1.0 k.1.1 (few k.0) w given ask named))
+    refused_line ask b e (inr k) few = subst Fails (sym k) failed_memory
 
     -- a line that is past the limit would be this one
-    not_long : ¬ (LineFault printed (formula_line target names t) error.Text) → ¬ (IsCause (meaning (command_of w f)) s limit given_use error.Text)
+    not_long : ¬ (IsLongText printed (formula_line target names t)) → ¬ (IsCause (meaning (command_of w f)) s limit given_use error.Text)
     not_long short (p, inl long) =
         let same_names = answer_names_once s (command_of w f) long.names names long.named named in
         let here = subst (λ ns. text_limit < length (formula_line target ns long.formula)) same_names long.long in
@@ -419,7 +418,7 @@ module _ (w : FormCommand) (f : FormulaTree) (s : State) (numbers : AreNumbered 
     not_long short (p, inr own_text) = (plain_command w f s limit).text own_text
 
     pub is_given : Every IsAtomInLimit t → MayBind s.bound target t → (answer : Line) → IsLine printed (formula_line target names t) answer
-        → ¬ (LineFault printed (formula_line target names t) error.Text) → IsFormulaAnswer s limit (use_of target printed) (command_of w f) answer (state_with (with_names s names) target t)
+        → ¬ (IsLongText printed (formula_line target names t)) → IsFormulaAnswer s limit (use_of target printed) (command_of w f) answer (state_with (with_names s names) target t)
     is_given fits b answer line short = record {
       accepted = then_clear (meaning (command_of w f)) s limit given_use error.Text error.Memory refl (clear_to_text b) (not_long short);
       formula = t;

@@ -27,7 +27,7 @@ use Rattle.session_meaning.specs.Uses.{Use, formula_line}
 use Rattle.session_meaning.specs.Causes.{HasNoRoom, IsTooLarge}
 use Rattle.session_meaning.specs.Reply.{IsLine}
 use Rattle.session_meaning.specs.Points.{IsQuantified}
-use Rattle.command_tools.specs.Refusals.{LineFault}
+use Rattle.command_tools.specs.Refusals.{IsLongText, LineFault}
 use Rattle.formula_resolving.specs.declared.error.StaticError.TheVariants as static
 use Rattle.problem_reading.specs.Reading.{AreReadable, HasNoEarlier, AreUnread}
 
@@ -103,15 +103,13 @@ pub record MayBind (bound : BoundTrees) (target : Option (List ℕ)) (t : Tree) 
 
 -- why it may not
 abbrev pub TargetFault : BoundTrees → Option (List ℕ) → Tree → StatementError → Type 0
-TargetFault bound target t error.Bindings = HasNoRoom bound target ⊎ ((¬ (HasNoRoom bound target)) × IsTooLarge target t)
-TargetFault bound target t error.Memory = Unit {0}
-TargetFault bound target t _ = ⊥
+TargetFault bound target t e = ((e ≡ error.Bindings) × (HasNoRoom bound target ⊎ ((¬ (HasNoRoom bound target)) × IsTooLarge target t))) ⊎ (e ≡ error.Memory)
 
 -- the formula may be bound, and this is its line
 pub record IsLineOf (target : Option (List ℕ)) (printed : Bool) (s : State) (t : Tree) (answer : Line) : Type 0 where
   pub may : MayBind s.bound target t
   pub line : IsLine printed (formula_line target s.names t) answer
-  pub short : ¬ (LineFault printed (formula_line target s.names t) error.Text)
+  pub short : ¬ (IsLongText printed (formula_line target s.names t))
 
 -- why it is not bound, or where it may be, not printed
 abbrev pub GiveFault : Option (List ℕ) → Bool → State → Tree → StatementError → Type 0

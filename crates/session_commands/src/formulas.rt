@@ -16,7 +16,7 @@ ghost use Rattle.qe_syntax.specs.Trees.{formula_tree, formulas_of};
 ghost use Rattle.command_tools.specs.Replies.{use_of, Refuses, IsFormulaAnswer};
 ghost use Rattle.session_commands.specs.Steps.{given_trees, form_of, command_of, HasUnwantedQuantifier, IsReady, IsUnready, IsWantedOf, MayBind, TargetFault, IsLineOf, GiveFault, bound_after, IsFirstAttempt, IsByCases, IsForSize, IsUnfit, plain_of, MayAsk, AttemptRefuses, KeepsWhereEliminated, HasFewBytes};
 ghost use Rattle.problem_reading.specs.Reading.{AreNumbered, AreRead};
-ghost use Rattle.command_tools.specs.Refusals.{LineFault};
+ghost use Rattle.command_tools.specs.Refusals.{IsLongText, LineFault};
 ghost use Rattle.session_meaning.specs.Meaning.{meaning, numbered, GivesFormula};
 ghost use Rattle.session_meaning.specs.Uses.{formula_line};
 ghost use Rattle.formula_meaning.specs.Tree.{tree_distinct};
@@ -383,7 +383,7 @@ fn line_of(
     requires within { IsTreeWithin (length state.now.names) (tree state.now.store id) }
     requires members { HasTwoMembers (tree state.now.store id) }
     ensures line { IfOk result (IsLine printed (formula_line target.now state.now.names (tree state.now.store id))) }
-    ensures short { OnOk result (¬ (LineFault printed (formula_line target.now state.now.names (tree state.now.store id)) StatementError.Text)) }
+    ensures short { OnOk result (¬ (IsLongText printed (formula_line target.now state.now.names (tree state.now.store id)))) }
     ensures fault { IfErr result (LineFault printed (formula_line target.now state.now.names (tree state.now.store id))) }
     ensures few { IfErr result (λ e. e ≡ StatementError.Text → HasFewBytes target.now ⊎ (text_limit < length (tree_text state.now.names (tree state.now.store id)))) }
 {

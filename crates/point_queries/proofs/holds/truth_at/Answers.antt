@@ -1,4 +1,4 @@
-use Rattle.std.proofs.Common.{ap, sym, ◌∙◌}
+use Rattle.std.proofs.Common.{ap, inl, refl, sym, ◌∙◌}
 use Rattle.std.specs.Prelude.{unsigned_abs, Err}
 use Rattle.qe_syntax.specs.Point.{point_of}
 use Rattle.formula_tree.specs.Resolving.{at_names}
@@ -16,5 +16,8 @@ returns-in-Ok-clause-truth c =
 
 pub returns-in-Err-Overflow-clause-fault : goal.returns-in-Err-Overflow-clause-fault
 returns-in-Err-Overflow-clause-fault c =
-    passes_there c.in_ok-values.values (at_names c.args.state.now.names (point_of c.args.point.now)) c.in_ok-values.ensures.at (tree c.args.state.now.store c.args.id)
-    (c.in_ok-values.ensures.below ∙ sym (abs_is c.args.point.now.denominator c.args.point.now.positive)) (c.in-Err-Overflow.ensures.overflow (ap Err c.in-Err-Overflow.field-0-is))
+    inl (
+      refl,
+      passes_there c.in_ok-values.values (at_names c.args.state.now.names (point_of c.args.point.now)) c.in_ok-values.ensures.at (tree c.args.state.now.store c.args.id)
+          (c.in_ok-values.ensures.below ∙ sym (abs_is c.args.point.now.denominator c.args.point.now.positive)) (c.in-Err-Overflow.ensures.overflow (ap Err c.in-Err-Overflow.field-0-is)),
+    )
