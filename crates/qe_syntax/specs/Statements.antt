@@ -30,6 +30,8 @@ pub data ActionTree : Type 0 where
   Choose : Setting → ActionTree
   Say : CommandTree → ActionTree
   Assign : List ℕ → CommandTree → ActionTree
+  Assume : FormulaTrees → ActionTree
+  Retract : ActionTree
 
 -- a statement: what it does, and whether its line is printed
 pub record StatementTree : Type 0 where
@@ -57,6 +59,8 @@ action_tree action.Finish = Finish
 action_tree (action.Choose setting) = Choose setting
 action_tree (action.Say c) = Say (command_tree c.value)
 action_tree (action.Assign x c) = Assign x (command_tree c.value)
+action_tree (action.Assume given) = Assume (formula_trees given)
+action_tree action.Retract = Retract
 
 -- the tree of a statement
 abbrev pub statement_tree : whole.Statement → StatementTree

@@ -76,6 +76,10 @@ pub enum Action {
     Choose(Setting),
     Say(Box<Command>),
     Assign(Name, Box<Command>),
+    /// Puts atoms behind the standing assumptions.
+    Assume(Formulas),
+    /// Takes the standing assumptions back.
+    Retract,
 }
 
 /// One statement of a script. Its line is printed where it ends with `;`.

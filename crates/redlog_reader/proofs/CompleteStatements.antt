@@ -7,7 +7,7 @@ use Rattle.qe_syntax.specs.declared.tree.Relation.{Relation}
 use Rattle.qe_syntax.specs.declared.statement.PointEntry.{PointEntry}
 use Rattle.formula_meaning.specs.Formula.{One}
 use Rattle.qe_syntax.specs.Trees.{TermTree, Compare, FormulaTree, formulas_of}
-use Rattle.qe_syntax.specs.Statements.{CommandTree, Echo, Nnf, Pnf, Dnf, Cnf, Simpl, Qe, Qea, Holds, Sample, ActionTree, Empty, Ignored, Choose, Say, Assign, StatementTree}
+use Rattle.qe_syntax.specs.Statements.{CommandTree, Echo, Nnf, Pnf, Dnf, Cnf, Simpl, Qe, Qea, Holds, Sample, ActionTree, Empty, Ignored, Choose, Say, Assign, Assume, StatementTree}
 use Rattle.redlog_tokens.specs.declared.terminal.Terminal.{Terminal}
 use Rattle.redlog_tokens.specs.declared.terminal.Terminal.TheVariants as terminal
 use Rattle.redlog_tokens.specs.declared.terminal.Mark.TheVariants as mark
@@ -16,7 +16,7 @@ use Rattle.redlog_tokens.specs.declared.terminal.Word.TheVariants as word
 use Rattle.redlog_reader.specs.Machine.{Reading, term_of, formula_of, Wants, Held, Stops, strength, run, operated}
 use Rattle.redlog_reader.specs.Grammar.{SpellsFactor, SpellsPower, first_power, raised, product, SpellsSum, sum, IsRelation, relation_sign, relation_word, SpellsComparison, comparison, SpellsCongruence, congruent, incongruent, SpellsAtom, compared_atom, congruent_atom}
 use Rattle.redlog_reader.specs.Grammar.{SpellsPrime, truth, falsity, named_formula, congruence, inner_formula, exists, for_all, SpellsFormula, IsAny, any_name, any_word, SpellsAnys, last_any, more_anys, opposite, Above, unsigned, opposed, Below, one, divided, SpellsEntry, entry, Listed, last_item, more_items, empty, listed, SpellsPoint, SpellsAtoms}
-use Rattle.redlog_reader.specs.Grammar.{SpellsArgument, alone, under, SpellsResult, echo, nnf, pnf, dnf, cnf, simpl, qe, SpellsQuery, qea, holds, witness, SpellsAction, assign, result, query, choose, load, on, off, end, bye, quit, end_mark, SpellsStatement, nothing, acting}
+use Rattle.redlog_reader.specs.Grammar.{SpellsArgument, alone, under, SpellsResult, echo, nnf, pnf, dnf, cnf, simpl, qe, SpellsQuery, qea, holds, witness, SpellsAction, assign, result, query, choose, load, on, off, assume, retract, end, bye, quit, end_mark, SpellsStatement, nothing, acting}
 use Rattle.redlog_reader.specs.Reader.{on_some, after_mark, formula_read, sum_read, relation_of, relation_read, comparison_read, begins_congruence, atom_read, items_read, braced_read, negated_literal, above_read, below_read, entry_read, argument_read, pointed_read, result_read, is_any, anys_read, said, action_read, ending, statement_read}
 use Rattle.std.proofs.lemmas.Bool.{lt-ltb}
 use Rattle.std.proofs.lemmas.Int.{ints}
@@ -232,6 +232,8 @@ said_done (terminal.Word word.Set ∷ ts) c rest other e = absurd (let no : ⊥ 
 said_done (terminal.Word word.Load ∷ ts) c rest other e = absurd (let no : ⊥ = cc in no)
 said_done (terminal.Word word.On ∷ ts) c rest other e = absurd (let no : ⊥ = cc in no)
 said_done (terminal.Word word.Off ∷ ts) c rest other e = absurd (let no : ⊥ = cc in no)
+said_done (terminal.Word word.Assume ∷ ts) c rest other e = absurd (let no : ⊥ = cc in no)
+said_done (terminal.Word word.Retract ∷ ts) c rest other e = absurd (let no : ⊥ = cc in no)
 said_done (terminal.Word word.End ∷ ts) c rest other e = absurd (let no : ⊥ = cc in no)
 said_done (terminal.Word word.Bye ∷ ts) c rest other e = absurd (let no : ⊥ = cc in no)
 said_done (terminal.Word word.Quit ∷ ts) c rest other e = absurd (let no : ⊥ = cc in no)
@@ -257,6 +259,8 @@ action_done printed good (choose {s = s} is) = ap (λ o. on_some o (λ s. Some (
 action_done printed good (load p) = ap (λ o. on_some o (λ us. Some (Ignored, us)) None) (anys_done p (no_comma printed))
 action_done printed good (on p) = ap (λ o. on_some o (λ us. Some (Ignored, us)) None) (anys_done p (no_comma printed))
 action_done printed good (off p) = ap (λ o. on_some o (λ us. Some (Ignored, us)) None) (anys_done p (no_comma printed))
+action_done printed good (assume p) = ap (λ o. on_some o (λ p. Some (Assume (formulas_of p.0), p.1)) None) (braced_atoms p)
+action_done printed good retract = refl
 action_done printed good end = refl
 action_done printed good bye = refl
 action_done printed good quit = refl

@@ -7,7 +7,7 @@ use Rattle.qe_syntax.specs.declared.tree.Relation.{Relation}
 use Rattle.qe_syntax.specs.declared.tree.Relation.TheVariants.{Equal}
 use Rattle.qe_syntax.specs.declared.statement.PointEntry.{PointEntry}
 use Rattle.qe_syntax.specs.Trees.{TermTree, FormulaTree}
-use Rattle.qe_syntax.specs.Statements.{CommandTree, Echo, Nnf, Pnf, Dnf, Cnf, Holds, Sample, ActionTree, Ignored, Finish, Choose, Say, StatementTree}
+use Rattle.qe_syntax.specs.Statements.{CommandTree, Echo, Nnf, Pnf, Dnf, Cnf, Holds, Sample, ActionTree, Ignored, Finish, Choose, Say, Retract, StatementTree}
 use Rattle.redlog_tokens.specs.declared.terminal.Terminal.{Terminal}
 use Rattle.redlog_tokens.specs.declared.terminal.Terminal.TheVariants as terminal
 use Rattle.redlog_tokens.specs.declared.terminal.Mark.TheVariants as mark
@@ -16,7 +16,7 @@ use Rattle.redlog_tokens.specs.declared.terminal.Word.TheVariants as word
 use Rattle.redlog_reader.specs.Machine.{term_of, formula_of, Wants, run}
 use Rattle.redlog_reader.specs.Grammar.{SpellsSum, IsRelation, relation_sign, relation_word, SpellsComparison, comparison, SpellsCongruence, SpellsAtom, compared_atom, congruent_atom}
 use Rattle.redlog_reader.specs.Grammar.{SpellsPrime, truth, falsity, named_formula, congruence, inner_formula, exists, for_all, SpellsFormula, setting_of, IsAny, any_name, any_word, SpellsAnys, last_any, more_anys, Above, unsigned, opposed, Below, one, divided, SpellsEntry, entry, Listed, last_item, more_items, Braced, empty, listed, SpellsPoint, SpellsAtoms}
-use Rattle.redlog_reader.specs.Grammar.{SpellsArgument, alone, under, SpellsResult, echo, nnf, pnf, dnf, cnf, simpl, qe, qea, holds, witness, SpellsAction, assign, result, query, choose, load, on, off, end, bye, quit, end_mark, SpellsStatement, nothing, acting}
+use Rattle.redlog_reader.specs.Grammar.{SpellsArgument, alone, under, SpellsResult, echo, nnf, pnf, dnf, cnf, simpl, qe, qea, holds, witness, SpellsAction, assign, result, query, choose, load, on, off, assume, retract, end, bye, quit, end_mark, SpellsStatement, nothing, acting}
 use Rattle.redlog_reader.specs.Reader.{on_some, after_mark, formula_read, sum_read, relation_of, relation_read, comparison_read, begins_congruence, atom_read, listed_read, items_read, braced_read, number_read, above_read, below_read, name_read, after_equal, entry_read, argument_read, pointed_read, result_from, result_read, is_any, anys_read, ignored_read, said, action_from, action_read, ending, statement_read}
 use Rattle.redlog_reader.specs.Reader as reader
 use Rattle.redlog_tokens.proofs.ProperTokens.{AreProperTerminals}
@@ -359,6 +359,11 @@ action_from_sound word.Set ts rest a good e =
 action_from_sound word.Load ts rest a good e = let h = ignored_sound ts rest a e in subst (λ d. SpellsAction (terminal.Word word.Load ∷ ts) d rest) h.1 (load h.0)
 action_from_sound word.On ts rest a good e = let h = ignored_sound ts rest a e in subst (λ d. SpellsAction (terminal.Word word.On ∷ ts) d rest) h.1 (on h.0)
 action_from_sound word.Off ts rest a good e = let h = ignored_sound ts rest a e in subst (λ d. SpellsAction (terminal.Word word.Off ∷ ts) d rest) h.1 (off h.0)
+action_from_sound word.Assume ts rest a good e =
+    let found = some_of (braced_read atom_read ts) _ (a, rest) e in
+    let same = pair_of found.2 in
+    subst (λ d. SpellsAction (terminal.Word word.Assume ∷ ts) d rest) same.0 (assume (atoms_sound ts rest found.0.0 (found.1 ∙ ap (λ v. Some (found.0.0, v)) same.1)))
+action_from_sound word.Retract ts rest a good e = let same = pair_of e in subst (λ d. SpellsAction (terminal.Word word.Retract ∷ ts) d rest) same.0 (subst (λ v. SpellsAction (terminal.Word word.Retract ∷ v) Retract rest) (sym same.1) retract)
 action_from_sound word.End ts rest a good e = let same = pair_of e in subst (λ d. SpellsAction (terminal.Word word.End ∷ ts) d rest) same.0 (subst (λ v. SpellsAction (terminal.Word word.End ∷ v) Finish rest) (sym same.1) end)
 action_from_sound word.Bye ts rest a good e = let same = pair_of e in subst (λ d. SpellsAction (terminal.Word word.Bye ∷ ts) d rest) same.0 (subst (λ v. SpellsAction (terminal.Word word.Bye ∷ v) Finish rest) (sym same.1) bye)
 action_from_sound word.Quit ts rest a good e = let same = pair_of e in subst (λ d. SpellsAction (terminal.Word word.Quit ∷ ts) d rest) same.0 (subst (λ v. SpellsAction (terminal.Word word.Quit ∷ v) Finish rest) (sym same.1) quit)

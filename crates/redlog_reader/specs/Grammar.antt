@@ -15,7 +15,7 @@ use Rattle.qe_syntax.specs.declared.statement.Setting.{Setting}
 use Rattle.qe_syntax.specs.declared.statement.Setting.TheVariants.{Ofsf, Pasf}
 use Rattle.qe_syntax.specs.declared.statement.PointEntry.{PointEntry}
 use Rattle.qe_syntax.specs.Trees.{TermTree, Number, Named, Sum, Product, Quotient, Power, Negative, terms_of, Compare, Cong, Ncong, Bound, FormulaTree, formulas_of}
-use Rattle.qe_syntax.specs.Statements.{CommandTree, Echo, Nnf, Pnf, Dnf, Cnf, Simpl, Qe, Qea, Holds, Sample, ActionTree, Empty, Ignored, Finish, Choose, Say, Assign, StatementTree}
+use Rattle.qe_syntax.specs.Statements.{CommandTree, Echo, Nnf, Pnf, Dnf, Cnf, Simpl, Qe, Qea, Holds, Sample, ActionTree, Empty, Ignored, Finish, Choose, Say, Assign, Assume, Retract, StatementTree}
 use Rattle.redlog_tokens.specs.declared.terminal.Terminal.{Terminal}
 use Rattle.redlog_tokens.specs.declared.terminal.Terminal.TheVariants as terminal
 use Rattle.redlog_tokens.specs.declared.terminal.Mark.{Mark}
@@ -268,7 +268,8 @@ pub data SpellsQuery : List Terminal → CommandTree → List Terminal → Type 
       → SpellsFormula ts f (terminal.Mark mark.Comma ∷ us) → SpellsPoint us es (terminal.Mark mark.Close ∷ rest) → SpellsQuery (terminal.Word word.Witness ∷ terminal.Mark mark.Open ∷ ts) (Sample f es) rest
 
 -- action = name ":=" result | result | query | "rlset" context
---     | "load_package" any { "," any }* | ("on" | "off") any { "," any }* | "end" | "bye" | "quit"
+--     | "load_package" any { "," any }* | ("on" | "off") any { "," any }*
+--     | "rlassume" "{" [ atom { "," atom }* ] "}" | "rlretract" | "end" | "bye" | "quit"
 pub data SpellsAction : List Terminal → ActionTree → List Terminal → Type 0 where
   assign : {x : List ℕ} {ts rest : List Terminal} {c : CommandTree} → SpellsResult ts c rest → SpellsAction (terminal.Name x ∷ terminal.Mark mark.Assign ∷ ts) (Assign x c) rest
   result : {ts rest : List Terminal} {c : CommandTree} → SpellsResult ts c rest → SpellsAction ts (Say c) rest
@@ -277,6 +278,8 @@ pub data SpellsAction : List Terminal → ActionTree → List Terminal → Type 
   load : {ts rest : List Terminal} → SpellsAnys ts rest → SpellsAction (terminal.Word word.Load ∷ ts) Ignored rest
   on : {ts rest : List Terminal} → SpellsAnys ts rest → SpellsAction (terminal.Word word.On ∷ ts) Ignored rest
   off : {ts rest : List Terminal} → SpellsAnys ts rest → SpellsAction (terminal.Word word.Off ∷ ts) Ignored rest
+  assume : {ts rest : List Terminal} {given : List FormulaTree} → SpellsAtoms ts given rest → SpellsAction (terminal.Word word.Assume ∷ ts) (Assume (formulas_of given)) rest
+  retract : {rest : List Terminal} → SpellsAction (terminal.Word word.Retract ∷ rest) Retract rest
   end : {rest : List Terminal} → SpellsAction (terminal.Word word.End ∷ rest) Finish rest
   bye : {rest : List Terminal} → SpellsAction (terminal.Word word.Bye ∷ rest) Finish rest
   quit : {rest : List Terminal} → SpellsAction (terminal.Word word.Quit ∷ rest) Finish rest

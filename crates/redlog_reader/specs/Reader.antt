@@ -8,7 +8,7 @@ use Rattle.qe_syntax.specs.declared.tree.Relation.{Relation}
 use Rattle.qe_syntax.specs.declared.tree.Relation.TheVariants.{Equal, Differs}
 use Rattle.qe_syntax.specs.declared.statement.PointEntry.{PointEntry}
 use Rattle.qe_syntax.specs.Trees.{TermTree, Compare, FormulaTree, formulas_of}
-use Rattle.qe_syntax.specs.Statements.{CommandTree, Echo, Nnf, Pnf, Dnf, Cnf, Simpl, Qe, Qea, Holds, Sample, ActionTree, Empty, Ignored, Finish, Choose, Say, Assign, StatementTree}
+use Rattle.qe_syntax.specs.Statements.{CommandTree, Echo, Nnf, Pnf, Dnf, Cnf, Simpl, Qe, Qea, Holds, Sample, ActionTree, Empty, Ignored, Finish, Choose, Say, Assign, Assume, Retract, StatementTree}
 use Rattle.redlog_tokens.specs.declared.terminal.Terminal.{Terminal}
 use Rattle.redlog_tokens.specs.declared.terminal.Terminal.TheVariants as terminal
 use Rattle.redlog_tokens.specs.declared.terminal.Mark.{Mark}
@@ -163,6 +163,9 @@ context_read ts = on_some (name_read ts) (λ p. on_some (setting_of p.0) (λ s. 
 abbrev pub ignored_read : List Terminal → Option (ActionTree × List Terminal)
 ignored_read ts = on_some (anys_read ts) (λ us. Some (Ignored, us)) None
 
+abbrev pub assumed_read : List Terminal → Option (ActionTree × List Terminal)
+assumed_read ts = on_some (braced_read atom_read ts) (λ p. Some (Assume (formulas_of p.0), p.1)) None
+
 abbrev pub said : Option (CommandTree × List Terminal) → Option (ActionTree × List Terminal)
 said o = on_some o (λ p. Some (Say p.0, p.1)) None
 
@@ -172,6 +175,8 @@ action_from word.Set ts = context_read ts
 action_from word.Load ts = ignored_read ts
 action_from word.On ts = ignored_read ts
 action_from word.Off ts = ignored_read ts
+action_from word.Assume ts = assumed_read ts
+action_from word.Retract ts = Some (Retract, ts)
 action_from word.End ts = Some (Finish, ts)
 action_from word.Bye ts = Some (Finish, ts)
 action_from word.Quit ts = Some (Finish, ts)

@@ -91,7 +91,7 @@ fn begins_congruence(tokens: &[Token]) -> bool
 
 /// Comparisons and congruences in braces.
 #[tactic(auto, using(crate::proofs::Options::options))]
-fn atoms(alloc: Global, tokens: &[Token]) -> Result<(Vec<Formula>, &[Token]), ReadError>
+pub fn atoms(alloc: Global, tokens: &[Token]) -> Result<(Vec<Formula>, &[Token]), ReadError>
     ensures read { IfOk result (λ r. braced_read atom_read (terminals tokens.now) ≡ Some (map formula_tree r.0.items, terminals r.1.now)) }
     ensures refused { IfErr result (λ e. Refuses e (braced_read atom_read (terminals tokens.now) ≡ None)) }
 {

@@ -4,10 +4,10 @@ ghost use Rattle.qe_syntax.specs.Statements.{statement_tree, action_tree, comman
 ghost use Rattle.redlog_tokens.specs.declared.terminal.Terminal.{Terminal};
 ghost use Rattle.redlog_tokens.specs.Terminals.{terminals};
 ghost use Rattle.redlog_reader.specs.Grammar.{setting_of};
-ghost use Rattle.redlog_reader.specs.Reader.{pointed_read, result_from, result_read, is_any, anys_read, context_read, ignored_read, action_from, named_from, action_read, alone, ending, statement_read};
+ghost use Rattle.redlog_reader.specs.Reader.{pointed_read, result_from, result_read, is_any, anys_read, context_read, ignored_read, assumed_read, action_from, named_from, action_read, alone, ending, statement_read};
 ghost use Rattle.redlog_reader.specs.Reading.{Refuses};
 
-use crate::argument::{FORMULA, PRIME, argument, formula};
+use crate::argument::{FORMULA, PRIME, argument, atoms, formula};
 use crate::peek::{after, name, next};
 use crate::point::point;
 use crate::setting::setting_of;
@@ -88,6 +88,8 @@ fn action_from<'a>(
     match word {
         Word::Set => context(rest),
         Word::Load | Word::On | Word::Off => ignored(rest),
+        Word::Assume => assumed(alloc, rest),
+        Word::Retract => Ok((Action::Retract, rest)),
         Word::End | Word::Bye | Word::Quit => Ok((Action::Finish, rest)),
         Word::Qea => {
             let (formula, given, rest) = argument(alloc, rest)?;
@@ -167,6 +169,16 @@ fn ignored(tokens: &[Token]) -> Result<(Action, &[Token]), ReadError>
         return Err(ReadError::Syntax);
     };
     Ok((Action::Ignored, rest))
+}
+
+/// Atoms to be assumed.
+#[tactic(auto, using(crate::proofs::Options::options))]
+fn assumed(alloc: Global, tokens: &[Token]) -> Result<(Action, &[Token]), ReadError>
+    ensures read { IfOk result (λ r. assumed_read (terminals tokens.now) ≡ Some (action_tree r.0, terminals r.1.now)) }
+    ensures refused { IfErr result (λ e. Refuses e (assumed_read (terminals tokens.now) ≡ None)) }
+{
+    let (given, rest) = atoms(alloc, tokens)?;
+    Ok((Action::Assume(Formulas::of(given)), rest))
 }
 
 /// One name or word or more, with commas between them.

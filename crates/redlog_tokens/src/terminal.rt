@@ -59,6 +59,8 @@ pub enum Word {
     Qea,
     Holds,
     Witness,
+    Assume,
+    Retract,
     Load,
     On,
     Off,

@@ -49,9 +49,9 @@ const OF_SEVEN: [Entry; 3] = [
     ("rlcheck", Word::Other),
 ];
 
-const OF_EIGHT: [Entry; 1] = [("rlassume", Word::Other)];
+const OF_EIGHT: [Entry; 1] = [("rlassume", Word::Assume)];
 
-const OF_NINE: [Entry; 2] = [("rlwitness", Word::Witness), ("rlretract", Word::Other)];
+const OF_NINE: [Entry; 2] = [("rlwitness", Word::Witness), ("rlretract", Word::Retract)];
 
 const OF_TWELVE: [Entry; 1] = [("load_package", Word::Load)];
 
