@@ -1,3 +1,3 @@
-mod Whole
+pub mod Whole
 mod Told
 mod Sampled

@@ -34,7 +34,8 @@ use Rattle.point_queries.specs.Truths.{RefusesTruth, ValueStop, EliminationStop}
 use Rattle.point_queries.proofs.AskedSteps.{same, theory, asked_normal, named_session, start}
 use Rattle.shared_forms.proofs.CaseLemmas.{err_map}
 use Rattle.point_queries.proofs.CaseSteps.{on_ok}
-use Rattle.point_queries.proofs.PointLemmas.{resolved_free, whole_where_asked}
+use Rattle.engine_answers.proofs.Whole.{whole_where_asked}
+use Rattle.point_queries.proofs.PointLemmas.{resolved_free}
 use Rattle.point_queries.proofs.TruthLemmas.{truth_passes, elimination_stops, is_truth, told_in}
 
 module _ (old new : SessionState) (f : FormulaTree) (es : List PointEntry) (state : IsSessionState old) (numbers : HasNumbers old.names f) (k : KeepsState old new) (i : FormulaId) (q : Numbers)
