@@ -119,8 +119,8 @@ fn relation_text(relation: Rel) -> &'static [u8]
     }
 }
 
-// The text of an atom.
-pub(crate) fn put_atom(out: &mut Output, names: &Names, atom: &Atom) -> Result<(), PrintError>
+/// The text of an atom.
+pub fn put_atom(out: &mut Output, names: &Names, atom: &Atom) -> Result<(), PrintError>
     requires { IsAtomWithin (length names.now) (atom_of atom.now) }
     ensures wrote { OnOk result (out.new ≡ out.old ++ atom_text names.now (atom_of atom.now)) }
     ensures long { IsErrOf result PrintError.Text → text_limit < length out.old + length (atom_text names.now (atom_of atom.now)) }

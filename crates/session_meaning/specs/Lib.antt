@@ -1,6 +1,7 @@
 pub mod Words
 pub mod State
 pub mod Assumptions
+pub mod Standing
 pub mod FormulaAnswers
 pub mod Points
 pub mod Cases

@@ -1,5 +1,5 @@
--- What a command means: what it reads, why it may be refused, and what it answers with. `meaning`, at the end, has a line for each command; the causes of a refusal
--- and the replies are stated once, of any meaning.
+-- What a command means: what it reads, why it may be refused, and what it answers with. `meaning`, at the end, has a line for each command, and `assumption_meaning`
+-- is that of assumptions that are to stand; the causes of a refusal and the replies are stated once, of any meaning.
 use Rattle.std.specs.Prelude.{◌≡◌, ◌⊎◌, ◌*◌, ◌<◌, ◌≤◌, ℕ, List, [], ◌++◌, Bool, Option, length, map}
 use Rattle.std.specs.List.{fold}
 use Rattle.formula_meaning.specs.declared.junction.Junction.{Junction}
@@ -28,6 +28,7 @@ use Rattle.prenex_forms.specs.Forms.{OverflowsInRenaming}
 use Rattle.redlog_printer.specs.Writing.{text_limit}
 use Rattle.answer_texts.specs.Answers.{cases_text}
 use Rattle.session_meaning.specs.Words.{truth_text}
+use Rattle.session_meaning.specs.Standing.{grown, standing_text}
 use Rattle.session_meaning.specs.State.{State, with_names}
 use Rattle.session_meaning.specs.Uses.{Use, IsDirectUse}
 use Rattle.session_meaning.specs.FormulaAnswers.{negated_of, IsPrenexAnswer, HasNewNames, IsSimplification, IsCleanAnswer, IsCondition}
@@ -205,3 +206,15 @@ meaning (Qea f given) = of_formula f given (record (stops (CasesStop f)) { text 
 meaning (Holds f es) = at_point f es (record (stops (TruthStops f es)) { overflow = λ s limit. ValuePasses f es s limit ⊎ TruthStops f es Overflow s limit })
     (λ s limit text. (answer : Bool) × IsTruth s f es answer × (text ≡ truth_text answer))
 meaning (Sample f es) = at_point f es (stops (SampleStops f es)) (λ s limit text. (sample : Option (List Value)) × IsSampleAnswer s f es sample × (text ≡ sample_text s.names sample))
+
+-- what assumptions mean that are to stand: the line has them behind those that stand already
+abbrev pub assumption_meaning : FormulaTrees → Meaning
+assumption_meaning given = record {
+  formulas = given;
+  further = [];
+  must = record no_causes { text = λ s limit. text_limit < length (standing_text s.names (grown s given)) };
+  may = no_causes;
+  spared = λ s limit u. ⊥;
+  names = λ s names. names ≡ s.names;
+  answer = OfText (λ s limit text. text ≡ standing_text s.names (grown s given));
+}

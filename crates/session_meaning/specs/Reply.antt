@@ -1,7 +1,8 @@
 -- What a statement is answered with in a state, and the state after it.
-use Rattle.std.specs.Prelude.{◌≡◌, ◌≤◌, ℕ, List, length, Bool, true, false, Some, None, Result, Ok, Err}
+use Rattle.std.specs.Prelude.{◌≡◌, ◌≤◌, ℕ, List, [], length, Bool, true, false, Some, None, Result, Ok, Err}
 use Rattle.formula_meaning.specs.Tree.{Tree, tree_distinct}
-use Rattle.qe_syntax.specs.Statements.{ActionTree, Empty, Ignored, Finish, Choose, Say, Assign, StatementTree}
+use Rattle.qe_syntax.specs.Statements.{ActionTree, Empty, Ignored, Finish, Choose, Say, Assign, Assume, Retract, StatementTree}
+use Rattle.qe_syntax.specs.Trees.{FormulaTrees}
 use Rattle.redlog_reader.specs.Statement.{Spells, Unread}
 use Rattle.redlog_tokens.specs.declared.token.ReadError.TheVariants as reading
 use Rattle.redlog_printer.specs.Writing.{text_limit}
@@ -11,8 +12,9 @@ use Rattle.session_meaning.specs.declared.line.Line.TheVariants as line
 use Rattle.session_meaning.specs.declared.line.StatementError.{StatementError}
 use Rattle.session_meaning.specs.declared.line.StatementError.TheVariants as error
 use Rattle.session_meaning.specs.Words.{context_text}
-use Rattle.session_meaning.specs.State.{State, with_names, with_bound, theory_of, chosen}
-use Rattle.session_meaning.specs.Meaning.{Meaning, Answer, OfFormula, OfText, MayGive, numbered, meaning}
+use Rattle.session_meaning.specs.State.{State, with_names, with_bound, with_standing, theory_of, chosen}
+use Rattle.session_meaning.specs.Standing.{grown, standing_text}
+use Rattle.session_meaning.specs.Meaning.{Meaning, Answer, OfFormula, OfText, MayGive, numbered, meaning, assumption_meaning}
 use Rattle.session_meaning.specs.Uses.{formula_line}
 use Rattle.session_meaning.specs.Causes.{IsFirst, IsAccepted}
 
@@ -50,6 +52,11 @@ pub record AnswersAssignment (m : Meaning) (s : State) (limit : ℕ) (printed : 
   pub small : tree_distinct formula ≤ MOST_SUBFORMULAS
   pub binds : next ≡ with_bound (with_names s names) x formula
 
+-- No cause of a refusal applies to the assumptions, and the line is that of the standing ones with these behind them, which are the standing ones in the state after it.
+pub record AnswersAssumptions (given : FormulaTrees) (s : State) (limit : ℕ) (printed : Bool) (answer : Line) (next : State) : Type 0 where
+  pub said : AnswersSaid (assumption_meaning given) s limit printed answer s
+  pub after : next ≡ with_standing s (grown s given)
+
 -- ---- statements
 
 -- the line of an accepted statement, and the state after it
@@ -60,6 +67,8 @@ Answers s limit printed Finish answer next = (answer ≡ line.Finished) × (next
 Answers s limit printed (Choose setting) answer next = IsLine printed (context_text (theory_of setting)) answer × (next ≡ chosen s (theory_of setting))
 Answers s limit printed (Say c) answer next = AnswersSaid (meaning c) (numbered (meaning c) s) limit printed answer next
 Answers s limit printed (Assign x c) answer next = AnswersAssignment (meaning c) (numbered (meaning c) s) limit printed x answer next
+Answers s limit printed (Assume given) answer next = AnswersAssumptions given (numbered (assumption_meaning given) s) limit printed answer next
+Answers s limit printed Retract answer next = IsLine printed (standing_text s.names []) answer × (next ≡ with_standing s [])
 
 -- the word with which a statement is refused
 abbrev pub RefusesAction : State → ℕ → Bool → ActionTree → StatementError → Type 0
@@ -69,6 +78,8 @@ RefusesAction s limit printed Finish e = ⊥
 RefusesAction s limit printed (Choose setting) e = ⊥
 RefusesAction s limit printed (Say c) e = IsFirst (meaning c) (numbered (meaning c) s) limit (record { target = None; printed = printed }) e
 RefusesAction s limit printed (Assign x c) e = IsFirst (meaning c) (numbered (meaning c) s) limit (record { target = Some x; printed = printed }) e
+RefusesAction s limit printed (Assume given) e = IsFirst (assumption_meaning given) (numbered (assumption_meaning given) s) limit (record { target = None; printed = printed }) e
+RefusesAction s limit printed Retract e = ⊥
 
 -- ---- pieces
 

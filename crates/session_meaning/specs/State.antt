@@ -1,5 +1,5 @@
--- What the statements of a script share: the theory, the names of variables in the order of their numbers, and the formulas
--- that names are bound to.
+-- What the statements of a script share: the theory, the names of variables in the order of their numbers, the formulas that names are
+-- bound to, and the standing assumptions.
 use Rattle.std.specs.Prelude.{ℕ, List, [], Bool, true, false, if◌then◌else◌}
 use Rattle.formula_meaning.specs.Context.{Context, Fields, Integers}
 use Rattle.qe_syntax.specs.declared.statement.Setting.{Setting}
@@ -12,14 +12,19 @@ pub record State : Type 0 where
   pub context : Context
   pub names : List (List ℕ)
   pub bound : BoundTrees
+  pub standing : List Tree
 
 -- the state with these names
 abbrev pub with_names : State → List (List ℕ) → State
 with_names s names = record s { names = names }
 
--- a script begins over the ordered fields, without names
+-- the state with these standing assumptions
+abbrev pub with_standing : State → List Tree → State
+with_standing s ts = record s { standing = ts }
+
+-- a script begins over the ordered fields, without names and without assumptions
 abbrev pub first_state : State
-first_state = record { context = Fields; names = []; bound = [] }
+first_state = record { context = Fields; names = []; bound = []; standing = [] }
 
 abbrev pub theory_of : Setting → Context
 theory_of Ofsf = Fields
@@ -31,9 +36,13 @@ is_same_theory Fields Integers = false
 is_same_theory Integers Fields = false
 is_same_theory Integers Integers = true
 
--- the state where the theory is chosen: another one than before drops what is bound
+-- the state where the theory is chosen: another one than before drops what is bound and what is assumed
 abbrev pub chosen : State → Context → State
-chosen s c = record s { context = c; bound = if is_same_theory s.context c then s.bound else [] }
+chosen s c = record s {
+  context = c;
+  bound = if is_same_theory s.context c then s.bound else [];
+  standing = if is_same_theory s.context c then s.standing else [];
+}
 
 -- the state with the formula bound to the name
 abbrev pub with_bound : State → List ℕ → Tree → State

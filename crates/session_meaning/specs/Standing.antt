@@ -1,0 +1,29 @@
+-- The standing assumptions: how they grow, and their line.
+use Rattle.std.specs.Prelude.{List, [], ◌∷◌, ◌++◌, ℕ, Bool, codes, map, nat_eq, list_any, if◌then◌else◌}
+use Rattle.std.specs.List.{fold}
+use Rattle.formula_meaning.specs.Formula.{Yes}
+use Rattle.formula_meaning.specs.Same.{same_atom}
+use Rattle.formula_meaning.specs.Sizes.{same_formula}
+use Rattle.formula_meaning.specs.Tree.{Tree}
+use Rattle.qe_syntax.specs.Trees.{FormulaTrees}
+use Rattle.redlog_printer.specs.Text.{tree_text}
+use Rattle.answer_texts.specs.Answers.{separated}
+use Rattle.session_meaning.specs.State.{State}
+use Rattle.session_meaning.specs.Assumptions.{resolved_all}
+
+-- the formula stands among them
+abbrev pub is_among : Tree → List Tree → Bool
+is_among t ts = list_any (same_formula same_atom nat_eq t) ts
+
+-- the formula is put behind the standing assumptions; one that is true by itself, or is among them, changes nothing
+abbrev pub with_assumption : List Tree → Tree → List Tree
+with_assumption ts Yes = ts
+with_assumption ts t = if is_among t ts then ts else ts ++ t ∷ []
+
+-- the standing assumptions with these behind them
+abbrev pub grown : State → FormulaTrees → List Tree
+grown s given = fold with_assumption s.standing (resolved_all s given)
+
+-- the line of the standing assumptions
+abbrev pub standing_text : List (List ℕ) → List Tree → List ℕ
+standing_text names ts = codes "{" ++ separated [] (map (tree_text names) ts) ++ codes "}"
