@@ -1,7 +1,7 @@
 -- The standing assumptions: how they grow, and their line.
-use Rattle.std.specs.Prelude.{List, [], ◌∷◌, ◌++◌, ℕ, Bool, codes, map, nat_eq, list_any, if◌then◌else◌}
-use Rattle.std.specs.List.{fold}
-use Rattle.formula_meaning.specs.Formula.{Yes}
+use Rattle.std.specs.Prelude.{List, [], ◌∷◌, ◌++◌, ℕ, Bool, codes, map, nat_eq, if◌then◌else◌}
+use Rattle.std.specs.List.{fold, list_any}
+use Rattle.formula_meaning.specs.Formula.{No, One}
 use Rattle.formula_meaning.specs.Same.{same_atom}
 use Rattle.formula_meaning.specs.Sizes.{same_formula}
 use Rattle.formula_meaning.specs.Tree.{Tree}
@@ -15,10 +15,15 @@ use Rattle.session_meaning.specs.Assumptions.{resolved_all}
 abbrev pub is_among : Tree → List Tree → Bool
 is_among t ts = list_any (same_formula same_atom nat_eq t) ts
 
--- the formula is put behind the standing assumptions; one that is true by itself, or is among them, changes nothing
+-- the formula behind the others, where it is not among them
+abbrev pub behind : List Tree → Tree → List Tree
+behind ts t = if is_among t ts then ts else ts ++ t ∷ []
+
+-- An atom, or false, is put behind the standing assumptions. One that is true by itself says nothing, and no statement assumes anything else.
 abbrev pub with_assumption : List Tree → Tree → List Tree
-with_assumption ts Yes = ts
-with_assumption ts t = if is_among t ts then ts else ts ++ t ∷ []
+with_assumption ts No = behind ts No
+with_assumption ts (One a) = behind ts (One a)
+with_assumption ts t = ts
 
 -- the standing assumptions with these behind them
 abbrev pub grown : State → FormulaTrees → List Tree
