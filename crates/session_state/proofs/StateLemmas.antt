@@ -4,6 +4,7 @@ use Rattle.std.proofs.lemmas.List.{length-map, length-append}
 use Rattle.std.specs.List.{AllByRecursion, IsDistinct}
 use Rattle.std.specs.Map.{keys_of}
 use Rattle.formula_meaning.specs.Context.{Context}
+use Rattle.formula_meaning.specs.Some.{EachOf}
 use Rattle.formula_meaning.specs.Tree.{Tree}
 use Rattle.atom_normal.specs.declared.atoms.Context.{Context as Theory}
 use Rattle.atom_normal.specs.Atoms.{context_of}
@@ -17,22 +18,24 @@ use Rattle.formula_store.specs.declared.id.FormulaId.{FormulaId}
 use Rattle.formula_store.specs.Nodes.{tree, IsId}
 use Rattle.session_state.specs.declared.state.SessionState.{SessionState}
 use Rattle.session_meaning.specs.State.{State, with_names}
-use Rattle.session_state.specs.Keeping.{state_of, ids_bound, IsSound, IsSessionState}
+use Rattle.standing_assumptions.specs.declared.assumption.Assumption.{Assumption}
+use Rattle.standing_assumptions.specs.Trees.{standing_trees}
+use Rattle.session_state.specs.Keeping.{state_of, ids_bound, IsSessionFormula, IsSound, IsSessionState}
 use Rattle.session_state.specs.Growth.{KeepsState, GrowsState}
 use Rattle.session_state.proofs.BindingLemmas.{trees_kept, ids_kept, trees_by_parts, ids_by_list}
 use Rattle.session_state.proofs.NameLemmas.{grows_itself, grows_then as more_names}
 use Rattle.session_state.proofs.SoundLemmas.{more_formula}
 use Rattle.session_state.proofs.VariableLemmas.{AllVariables}
 
-pub state_parts : (c d : Context) (ns ms : List (List ℕ)) (bs es : BoundTrees) → c ≡ d → ns ≡ ms → bs ≡ es
-    → (let s : State = record { context = c; names = ns; bound = bs } in let t : State = record { context = d; names = ms; bound = es } in s ≡ t)
-state_parts c d ns ms bs es p q r = λ j. record { context = p j; names = q j; bound = r j }
+pub state_parts : (c d : Context) (ns ms : List (List ℕ)) (bs es : BoundTrees) (ts us : List Tree) → c ≡ d → ns ≡ ms → bs ≡ es → ts ≡ us
+    → (let s : State = record { context = c; names = ns; bound = bs; standing = ts } in let t : State = record { context = d; names = ms; bound = es; standing = us } in s ≡ t)
+state_parts c d ns ms bs es ts us p q r u = λ j. record { context = p j; names = q j; bound = r j; standing = u j }
 
 -- the state is the same where the store alone grew
 pub same_state : (old new : SessionState) → AreIds (IsId old.store) old.bindings → KeepsState old new → state_of new ≡ state_of old
 same_state old new ids k =
-    state_parts _ _ _ _ _ _ (ap context_of k.context) k.names
-    (ap (trees_bound (tree new.store)) k.bindings ∙ trees_kept (IsId old.store) (tree old.store) (IsId new.store) (tree new.store) old.bindings k.store ids)
+    state_parts _ _ _ _ _ _ _ _ (ap context_of k.context) k.names
+    (ap (trees_bound (tree new.store)) k.bindings ∙ trees_kept (IsId old.store) (tree old.store) (IsId new.store) (tree new.store) old.bindings k.store ids) (ap standing_trees k.standing)
 
 pub kept_ids : (old new : SessionState) → AreIds (IsId old.store) old.bindings → KeepsState old new → AreIds (IsId new.store) new.bindings
 kept_ids old new ids k = subst (AreIds (IsId new.store)) (sym k.bindings) (ids_kept (IsId old.store) (tree old.store) (IsId new.store) (tree new.store) old.bindings k.store ids)
@@ -47,6 +50,11 @@ same_session old new h k = record {
 pub length_grows : (old new : List (List ℕ)) → Grows old new → length old ≤ length new
 length_grows old new g = let e = ap length g.is ∙ length-append old g.more in omega arith
 
+-- with more names the formulas stay ones of a session
+more_formulas : (c : Context) (n m : ℕ) (ts : List Tree) → n ≤ m → EachOf (IsSessionFormula c n) ts → EachOf (IsSessionFormula c m) ts
+more_formulas c n m [] l h = tt
+more_formulas c n m (t ∷ ts) l h = (more_formula c n m t l h.0, more_formulas c n m ts l h.1)
+
 -- more names leave a state sound where they are different
 pub sound_with : (s : State) (names : List (List ℕ)) → IsSound s → IsDistinct same_name names → AllVariables names → length s.names ≤ length names → IsSound (with_names s names)
 sound_with s names h d v l = record {
@@ -54,6 +62,7 @@ sound_with s names h d v l = record {
   variables = v;
   formulas = λ x t e. more_formula s.context (length s.names) (length names) t l (h.formulas x t e);
   numbers = h.numbers;
+  standing = more_formulas s.context (length s.names) (length names) s.standing l h.standing;
 }
 
 -- ---- formulas given up
@@ -61,12 +70,12 @@ sound_with s names h d v l = record {
 module _ (old : SessionState) (bindings : List (List ℕ × FormulaId)) (nodes : List (Shape FormulaId)) (kept : ℕ) (ids : List FormulaId)
     (keys : keys_of bindings ≡ keys_of old.bindings) (bound : ids_bound bindings ≡ ids) (made : AreMade (IsId nodes) (tree nodes) ids (map (tree old.store) (ids_bound old.bindings))) where
   abbrev after : SessionState
-  after = record { alloc = old.alloc; context = old.context; names = old.names; bindings = bindings; store = nodes; kept = kept }
+  after = record { alloc = old.alloc; context = old.context; names = old.names; bindings = bindings; standing = old.standing; store = nodes; kept = kept }
 
   pub rebound_state : state_of after ≡ state_of old
   rebound_state =
-      state_parts _ _ _ _ _ _ refl refl
-      (trees_by_parts (tree old.store) (tree nodes) old.bindings bindings keys (ap (map (tree nodes)) bound ∙ made.same))
+      state_parts _ _ _ _ _ _ _ _ refl refl
+      (trees_by_parts (tree old.store) (tree nodes) old.bindings bindings keys (ap (map (tree nodes)) bound ∙ made.same)) refl
 
   pub rebound_session : IsSessionState old → IsSessionState after
   rebound_session h = record {
@@ -81,8 +90,8 @@ ids_as_many t u roots ids e = sym (length-map ids u) ∙ ap length e ∙ length-
 -- where the store and the names grew, the state has the new names
 pub grown_state : (old new : SessionState) → AreIds (IsId old.store) old.bindings → GrowsState old new → state_of new ≡ with_names (state_of old) new.names
 grown_state old new ids g =
-    state_parts _ _ _ _ _ _ (ap context_of g.context) refl
-    (ap (trees_bound (tree new.store)) g.bindings ∙ trees_kept (IsId old.store) (tree old.store) (IsId new.store) (tree new.store) old.bindings g.store ids)
+    state_parts _ _ _ _ _ _ _ _ (ap context_of g.context) refl
+    (ap (trees_bound (tree new.store)) g.bindings ∙ trees_kept (IsId old.store) (tree old.store) (IsId new.store) (tree new.store) old.bindings g.store ids) (ap standing_trees g.standing)
 
 pub grown_session : (old new : SessionState) → IsSessionState old → GrowsState old new → IsDistinct same_name new.names → AllVariables new.names → IsSessionState new
 grown_session old new h g d v = record {
@@ -91,37 +100,40 @@ grown_session old new h g d v = record {
   sound = subst IsSound (sym (grown_state old new h.ids g)) (sound_with (state_of old) new.names h.sound d v (length_grows old.names new.names g.names));
 }
 
--- with nothing bound, in any theory
-pub cleared_session : (old : SessionState) (context : Theory) (bindings : List (List ℕ × FormulaId)) (nodes : List (Shape FormulaId)) (kept : ℕ) → bindings ≡ [] → IsSessionState old
-    → IsSessionState (record { alloc = old.alloc; context = context; names = old.names; bindings = bindings; store = nodes; kept = kept })
+-- with nothing bound, and assumptions of the theory
+pub cleared_session : (old : SessionState) (context : Theory) (bindings : List (List ℕ × FormulaId)) (standing : List Assumption) (nodes : List (Shape FormulaId)) (kept : ℕ) → bindings ≡ []
+    → EachOf (IsSessionFormula (context_of context) (length old.names)) (standing_trees standing) → IsSessionState old
+    → IsSessionState (record { alloc = old.alloc; context = context; names = old.names; bindings = bindings; standing = standing; store = nodes; kept = kept })
 unfolding IsDistinct
-cleared_session old context bindings nodes kept e h =
-    subst (λ es. IsSessionState (record { alloc = old.alloc; context = context; names = old.names; bindings = es; store = nodes; kept = kept })) (sym e)
-    (record { ids = tt; bound_once = tt; sound = record { names_once = h.sound.names_once; variables = h.sound.variables; formulas = λ x t f. absurd (cc); numbers = λ x t f. absurd (cc) } })
+cleared_session old context bindings standing nodes kept e each h =
+    subst (λ es. IsSessionState (record { alloc = old.alloc; context = context; names = old.names; bindings = es; standing = standing; store = nodes; kept = kept })) (sym e)
+    (record { ids = tt; bound_once = tt; sound = record { names_once = h.sound.names_once; variables = h.sound.variables; formulas = λ x t f. absurd (cc); numbers = λ x t f. absurd (cc); standing = each } })
 
 -- ---- steps one after another
 
 pub keeps_itself : (old : SessionState) (names : List (List ℕ)) → Grows old.names names
-    → GrowsState old (record { alloc = old.alloc; context = old.context; names = names; bindings = old.bindings; store = old.store; kept = old.kept })
-keeps_itself old names g = record { context = refl; names = g; bindings = refl; store = record { is = λ id h. h; same = λ id h. refl } }
+    → GrowsState old (record { alloc = old.alloc; context = old.context; names = names; bindings = old.bindings; standing = old.standing; store = old.store; kept = old.kept })
+keeps_itself old names g = record { context = refl; names = g; bindings = refl; standing = refl; store = record { is = λ id h. h; same = λ id h. refl } }
 
 pub grows_then : (first second third : SessionState) → GrowsState first second → KeepsState second third → GrowsState first third
 grows_then first second third g k = record {
   context = k.context ∙ g.context;
   names = subst (Grows first.names) (sym k.names) g.names;
   bindings = k.bindings ∙ g.bindings;
+  standing = k.standing ∙ g.standing;
   store = record { is = λ id h. k.store.is id (g.store.is id h); same = λ id h. k.store.same id (g.store.is id h) ∙ g.store.same id h };
 }
 
 -- what keeps all grows by nothing
 pub kept_grows : (old new : SessionState) → KeepsState old new → GrowsState old new
-kept_grows old new k = record { context = k.context; names = subst (Grows old.names) (sym k.names) (grows_itself old.names); bindings = k.bindings; store = k.store }
+kept_grows old new k = record { context = k.context; names = subst (Grows old.names) (sym k.names) (grows_itself old.names); bindings = k.bindings; standing = k.standing; store = k.store }
 
 pub keeps_then_grows : (first second third : SessionState) → KeepsState first second → GrowsState second third → GrowsState first third
 keeps_then_grows first second third k g = record {
   context = g.context ∙ k.context;
   names = subst (λ ns. Grows ns third.names) k.names g.names;
   bindings = g.bindings ∙ k.bindings;
+  standing = g.standing ∙ k.standing;
   store = record { is = λ id h. g.store.is id (k.store.is id h); same = λ id h. g.store.same id (k.store.is id h) ∙ k.store.same id h };
 }
 
@@ -130,17 +142,19 @@ grows_then_grows first second third g k = record {
   context = k.context ∙ g.context;
   names = more_names first.names second.names third.names g.names k.names;
   bindings = k.bindings ∙ g.bindings;
+  standing = k.standing ∙ g.standing;
   store = record { is = λ id h. k.store.is id (g.store.is id h); same = λ id h. k.store.same id (g.store.is id h) ∙ g.store.same id h };
 }
 
 pub keeps_self : (old : SessionState) → KeepsState old old
-keeps_self old = record { context = refl; names = refl; bindings = refl; store = record { is = λ id h. h; same = λ id h. refl } }
+keeps_self old = record { context = refl; names = refl; bindings = refl; standing = refl; store = record { is = λ id h. h; same = λ id h. refl } }
 
 pub keeps_then : (first second third : SessionState) → KeepsState first second → KeepsState second third → KeepsState first third
 keeps_then first second third g k = record {
   context = k.context ∙ g.context;
   names = k.names ∙ g.names;
   bindings = k.bindings ∙ g.bindings;
+  standing = k.standing ∙ g.standing;
   store = record { is = λ id h. k.store.is id (g.store.is id h); same = λ id h. k.store.same id (g.store.is id h) ∙ g.store.same id h };
 }
 
@@ -151,10 +165,10 @@ take_front (x ∷ xs) ys = ap (λ zs. x ∷ zs) (take_front xs ys)
 -- the names taken back
 module _ (old new : SessionState) (g : GrowsState old new) where
   abbrev back : SessionState
-  back = record { alloc = new.alloc; context = new.context; names = take (length old.names) new.names; bindings = new.bindings; store = new.store; kept = new.kept }
+  back = record { alloc = new.alloc; context = new.context; names = take (length old.names) new.names; bindings = new.bindings; standing = new.standing; store = new.store; kept = new.kept }
 
   taken_back : KeepsState old back
-  taken_back = record { context = g.context; names = ap (take (length old.names)) g.names.is ∙ take_front old.names g.names.more; bindings = g.bindings; store = g.store }
+  taken_back = record { context = g.context; names = ap (take (length old.names)) g.names.is ∙ take_front old.names g.names.more; bindings = g.bindings; standing = g.standing; store = g.store }
 
   pub back_session : IsSessionState old → IsSessionState back
   back_session h = same_session old back h taken_back

@@ -5,6 +5,7 @@ use Rattle.std.specs.Map.{keys_of}
 use Rattle.formula_meaning.specs.Context.{Context}
 use Rattle.formula_meaning.specs.Every.{Every}
 use Rattle.formula_meaning.specs.Numbers.{IsAtomInLimit}
+use Rattle.formula_meaning.specs.Some.{EachOf}
 use Rattle.formula_meaning.specs.Tree.{Tree}
 use Rattle.atom_normal.specs.Atoms.{context_of}
 use Rattle.atom_normal.specs.NormalForm.{IsNormal}
@@ -18,6 +19,7 @@ use Rattle.formula_meaning.specs.Within.{IsTreeWithin}
 use Rattle.formula_meaning.specs.Members.{HasTwoMembers}
 use Rattle.session_state.specs.declared.state.SessionState.{SessionState}
 use Rattle.session_meaning.specs.State.{State}
+use Rattle.standing_assumptions.specs.Trees.{standing_trees}
 
 -- the ids of what is bound, in order
 abbrev pub ids_bound : List (List ℕ × FormulaId) → List FormulaId
@@ -25,7 +27,7 @@ ids_bound entries = map (λ e. e.1) entries
 
 -- the state that is kept
 abbrev pub state_of : SessionState → State
-state_of d = record { context = context_of d.context; names = d.names; bound = trees_bound (tree d.store) d.bindings }
+state_of d = record { context = context_of d.context; names = d.names; bound = trees_bound (tree d.store) d.bindings; standing = standing_trees d.standing }
 
 -- a formula as a session has it: its atoms are normal, its names have numbers below n, its lists have two members at least
 pub record IsSessionFormula (c : Context) (n : ℕ) (t : Tree) : Type 0 where
@@ -33,12 +35,13 @@ pub record IsSessionFormula (c : Context) (n : ℕ) (t : Tree) : Type 0 where
   pub within : IsTreeWithin n t
   pub members : HasTwoMembers t
 
--- no name has two numbers, each is one that a script can write, and each bound formula is such a one, with its numbers within the limit
+-- No name has two numbers, each is one that a script can write, and each bound formula is such a one, with its numbers within the limit. So is each standing assumption.
 pub record IsSound (s : State) : Type 0 where
   pub names_once : IsDistinct same_name s.names
   pub variables : AllByRecursion IsVariable s.names
   pub formulas : (x : List ℕ) (t : Tree) → bound_to s.bound x ≡ Some t → IsSessionFormula s.context (length s.names) t
   pub numbers : (x : List ℕ) (t : Tree) → bound_to s.bound x ≡ Some t → Every IsAtomInLimit t
+  pub standing : EachOf (IsSessionFormula s.context (length s.names)) s.standing
 
 -- what is bound are ids of the store, no name is bound twice, and the state is sound
 pub record IsSessionState (d : SessionState) : Type 0 where

@@ -9,12 +9,13 @@ ghost use Rattle.session_meaning.specs.State.{first_state, chosen};
 use atom_normal::Context;
 use formula_store::{FormulaId, Store};
 use formula_tree::{Bindings, Names};
+use standing_assumptions::Standing;
 use std::alloc::{AllocError, Global};
 
 /// So many formulas may be in the store before any is given up.
 const FEW_FORMULAS: usize = 4096;
 
-/// The theory, the names, what is bound, and the formulas. Its invariant is the record `IsSessionState` and no model's: the engines
+/// The theory, the names, what is bound, what is assumed, and the formulas. Its invariant is the record `IsSessionState` and no model's: the engines
 /// borrow the store and the names at once, and until a statement is answered the names may have grown.
 #[derive(Drop)]
 pub struct SessionState {
@@ -22,13 +23,14 @@ pub struct SessionState {
     pub context: Context,
     pub names: Names,
     pub bindings: Bindings<FormulaId>,
+    pub standing: Standing,
     pub store: Store,
     /// How many formulas the store had when some were given up last.
     pub(crate) kept: usize,
 }
 
 impl SessionState {
-    /// Over the ordered fields, without names.
+    /// Over the ordered fields, without names and without assumptions.
     pub fn new(alloc: Global) -> SessionState
         ensures state { state_of result ≡ first_state }
         ensures session { IsSessionState result }
@@ -38,12 +40,13 @@ impl SessionState {
             context: Context::Fields,
             names: Names::new(alloc),
             bindings: Bindings::new(alloc),
+            standing: Standing::new(alloc),
             store: Store::new(alloc),
             kept: 0,
         }
     }
 
-    /// Chooses the theory. Another one than before drops what is bound.
+    /// Chooses the theory. Another one than before drops what is bound and what is assumed.
     pub fn choose(&mut self, context: Context)
         requires { IsSessionState self.old }
         ensures session { IsSessionState self.new }
@@ -51,6 +54,7 @@ impl SessionState {
     {
         if self.context != context {
             self.bindings.clear();
+            self.standing.clear();
             self.context = context;
         }
     }

@@ -1,5 +1,12 @@
+use Rattle.std.proofs.Common.{sym, subst, length}
+use Rattle.formula_meaning.specs.Some.{EachOf}
+use Rattle.atom_normal.specs.Atoms.{context_of}
+use Rattle.standing_assumptions.specs.Trees.{standing_trees}
+use Rattle.session_state.specs.Keeping.{IsSessionFormula}
 use Rattle.session_state.proofs.StateLemmas.{cleared_session}
 use Rattle.session_state.proofs.state.SessionState.choose.Goals as goal
 
 pub returns-then-ne-clause-session : goal.returns-then-ne-clause-session
-returns-then-ne-clause-session c = cleared_session c.args.self.now c.args.context c.clear.new.self c.args.self.now.store c.args.self.now.kept c.clear.ensures c.requires
+returns-then-ne-clause-session c =
+    let none = subst (λ ks. EachOf (IsSessionFormula (context_of c.args.context) (length c.args.self.now.names)) (standing_trees ks)) (sym c.clear-then-ne.ensures) tt in
+    cleared_session c.args.self.now c.args.context c.clear.new.self c.clear-then-ne.new.self c.args.self.now.store c.args.self.now.kept c.clear.ensures none c.requires

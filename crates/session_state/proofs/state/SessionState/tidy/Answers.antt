@@ -31,4 +31,4 @@ returns-in-Ok-rebound-clause-state c =
     rebound_state state c.in-Ok-rebound.bindings c.keep_only.new.self c.len-self.result c.in-Ok.ids.items c.in-Ok-rebound.ensures.names (c.in-Ok-rebound.ensures.ids ∙ c.deref-2.ensures.value) made
 
 pub returns-clause-session : goal.returns-clause-session
-returns-clause-session c = cleared_session c.args.self.now c.args.self.now.context c.clear.new.self c.keep_only.new.self c.args.self.now.kept c.clear.ensures c.requires
+returns-clause-session c = cleared_session c.args.self.now c.args.self.now.context c.clear.new.self c.args.self.now.standing c.keep_only.new.self c.args.self.now.kept c.clear.ensures c.requires.sound.standing c.requires
