@@ -1,5 +1,5 @@
 -- Assumptions that are true as they are written are true as atoms.
-use Rattle.std.proofs.Common.{◌≡◌, ◌⊎◌, inl, inr, ⊎_elim, ◌↔◌, ℕ, ◌<◌, List, [], ◌∷◌, ◌++◌, Bool, true, false, Option, Some, None, nat_lt, if◌then◌else◌, map, sym, ap, ◌∙◌, subst, refl, arith, lit<}
+use Rattle.std.proofs.Common.{◌≡◌, ◌⊎◌, inl, inr, ⊎_elim, ◌↔◌, ℕ, ◌<◌, List, [], ◌∷◌, ◌++◌, Bool, true, false, Option, Some, None, nat_lt, if◌then◌else◌, map, sym, ap, ◌∙◌, subst, refl, arith, lit<, append_assoc, append-nil}
 use Rattle.std.proofs.lemmas.Bool.{ltb-true, ltb-false}
 use Rattle.std.specs.List.{AllByRecursion, IsDistinct, fold}
 use Rattle.formula_meaning.specs.Formula.{Yes, No, One, Not, And, Or, Impl, Repl, Equiv, Ex, All, none, also}
@@ -21,11 +21,11 @@ use Rattle.formula_resolving.specs.Refusals.{rank as static_rank}
 use Rattle.session_meaning.specs.declared.line.StatementError.{StatementError}
 use Rattle.session_meaning.specs.declared.line.StatementError.TheVariants as error
 use Rattle.session_meaning.specs.State.{State}
-use Rattle.session_meaning.specs.Assumptions.{atoms_alone, assumed, Hold}
+use Rattle.session_meaning.specs.Assumptions.{atoms_alone, atoms_among, resolved_all, assumed, AllTrueAt, Hold}
 use Rattle.command_tools.specs.Refusals.{static_refusal}
 use Rattle.problem_reading.specs.Reading.{HasNumbers, IsReadable, AreNumbered, AreReadable, AppliesAmong, IsBefore, IsFirstCauseAmong, AreUnread, FirstAmong, first_of, earlier_of, AppliesToSome, IsFirstWith}
 use Rattle.session_meaning.specs.Words.{before}
-use Rattle.problem_reading.proofs.PartLemmas.{no_formula, some_listed, each_of_list}
+use Rattle.problem_reading.proofs.PartLemmas.{no_formula, some_listed, each_of_list, some_given, each_of_given}
 use Rattle.problem_reading.proofs.CauseLemmas.{readable_part}
 use Rattle.problem_reading.proofs.ReadTruth.{truth_as_written}
 
@@ -61,20 +61,32 @@ alone_says s (Equiv f g) p h = tt
 alone_says s (Ex x f) p h = tt
 alone_says s (All x f) p h = tt
 
-module _ (s : State) (distinct : IsDistinct same_name s.names) (p : NamedPoint) (of : Of s.context p) where
-  -- the assumption's atom is true
-  one_says : (g : FormulaTree) → HasNumbers s.names g → IsReadable s g → Hold s (also g none) p → EachOf (λ k. Says k (at_names s.names p)) (atoms_alone (resolve s.context s.bound s.names g))
-  one_says g numbers readable h = alone_says s (resolve s.context s.bound s.names g) (at_names s.names p) ((truth_as_written s g numbers distinct readable p of).0 h.0)
+-- the atoms of two lists of formulas
+pub among_both : (ts us : List Tree) → atoms_among (ts ++ us) ≡ atoms_among ts ++ atoms_among us
+among_both [] us = refl
+among_both (t ∷ ts) us = ap (λ (ks : List Atom). atoms_alone t ++ ks) (among_both ts us) ∙ sym (append_assoc (atoms_alone t) (atoms_among ts) (atoms_among us))
 
-  all_say : (gs : FormulaTrees) → AreReadable s gs → AreNumbered s.names gs → Hold s gs p → EachOf (λ k. Says k (at_names s.names p)) (assumed s gs)
+module _ (s : State) (distinct : IsDistinct same_name s.names) (p : NamedPoint) (of : Of s.context p) where
+  abbrev SaysThere : Atom → Type 0
+  SaysThere k = Says k (at_names s.names p)
+
+  -- the atoms of formulas that are true as they are written
+  all_say : (gs : FormulaTrees) → AreReadable s gs → AreNumbered s.names gs → AllTrueAt s gs p → EachOf SaysThere (atoms_among (resolved_all s gs))
   all_say none readable numbers h = tt
   all_say (also g gs) readable numbers h =
-      each_both (λ k. Says k (at_names s.names p)) (atoms_alone (resolve s.context s.bound s.names g)) (assumed s gs) (one_says g numbers.0 readable.0 (h.0, tt))
-      (all_say gs readable.1 numbers.1 h.1)
+      each_both SaysThere (atoms_alone (resolve s.context s.bound s.names g)) (atoms_among (resolved_all s gs))
+      (alone_says s (resolve s.context s.bound s.names g) (at_names s.names p) ((truth_as_written s g numbers.0 distinct readable.0 p of).0 h.0)) (all_say gs readable.1 numbers.1 h.1)
+
+  -- and those of formulas that are true
+  each_say : (ts : List Tree) → EachOf (λ t. TrueAt s.context t (at_names s.names p)) ts → EachOf SaysThere (atoms_among ts)
+  each_say [] h = tt
+  each_say (t ∷ ts) h = each_both SaysThere (atoms_alone t) (atoms_among ts) (alone_says s t (at_names s.names p) h.0) (each_say ts h.1)
 
 pub assumed_hold : (s : State) (f : FormulaTree) (gs : FormulaTrees) → AreReadable s (also f gs) → IsDistinct same_name s.names → AreNumbered s.names (also f gs) → (p : NamedPoint) → Of s.context p → Hold s gs p
     → EachOf (λ k. Says k (at_names s.names p)) (assumed s gs)
-assumed_hold s f gs readable distinct numbers p of h = all_say s distinct p of gs readable.1 numbers.1 h
+assumed_hold s f gs readable distinct numbers p of h =
+    subst (EachOf (λ k. Says k (at_names s.names p))) (sym (among_both s.standing (resolved_all s gs)))
+    (each_both (λ k. Says k (at_names s.names p)) (atoms_among s.standing) (atoms_among (resolved_all s gs)) (each_say s distinct p of s.standing h.0) (all_say s distinct p of gs readable.1 numbers.1 h.1))
 
 -- ---- the first cause among several formulas
 
@@ -138,17 +150,6 @@ first_of_more s gs g stop after h k =
     (λ d. let r = some_last (λ e. reading.Applies s.context s.bound s.names (formula_tree e) d) gs g in (r.1, r.0)) (earlier_of stop k.cause)
     (first_of_both (AppliesToSome s gs) (λ d. reading.Applies s.context s.bound s.names (formula_tree g) d) stop k.cause h k.first))
 
-append_assoc : {X : Type 0} (xs ys zs : List X) → (xs ++ ys) ++ zs ≡ xs ++ (ys ++ zs)
-append_assoc [] ys zs = refl
-append_assoc (x ∷ xs) ys zs = ap (λ t. x ∷ t) (append_assoc xs ys zs)
-
-append_nil : {X : Type 0} (xs : List X) → xs ++ [] ≡ xs
-append_nil [] = refl
-append_nil (x ∷ xs) = ap (λ t. x ∷ t) (append_nil xs)
-
-pub nothing_more : (xs : List Atom) → xs ++ [] ≡ xs
-nothing_more xs = append_nil xs
-
 -- where there is no first cause there was none before
 pub none_before : (s : State) (g : FormulaTree) (stop after : Option StaticError) → IsFirstWith s g stop after → after ≡ None → stop ≡ None
 none_before s g stop after h e = split h.cause (sym h.joined ∙ e)
@@ -157,28 +158,23 @@ none_before s g stop after h e = split h.cause (sym h.joined ∙ e)
     split None p = p
     split (Some d) p = absurd (cc (p))
 
-pub assumed_more : (s : State) (gs : List Formula) (g : Formula) → assumed s (formulas_of (map formula_tree (gs ++ g ∷ []))) ≡ assumed s (formulas_of (map formula_tree gs)) ++ atoms_alone (resolve s.context s.bound s.names (formula_tree g))
-assumed_more s [] g = append_nil (atoms_alone (resolve s.context s.bound s.names (formula_tree g)))
-assumed_more s (d ∷ gs) g =
-    ap (λ t. atoms_alone (resolve s.context s.bound s.names (formula_tree d)) ++ t) (assumed_more s gs g)
-    ∙ sym (append_assoc (atoms_alone (resolve s.context s.bound s.names (formula_tree d))) (assumed s (formulas_of (map formula_tree gs))) (atoms_alone (resolve s.context s.bound s.names (formula_tree g))))
-
 pub variables_more : (gs : List Formula) (g : Formula) → all_variables (formulas_of (map formula_tree (gs ++ g ∷ []))) ≡ all_variables (formulas_of (map formula_tree gs)) ++ formula_variables (formula_tree g)
-variables_more [] g = append_nil (formula_variables (formula_tree g))
+variables_more [] g = append-nil (formula_variables (formula_tree g))
 variables_more (d ∷ gs) g =
     ap (λ t. formula_variables (formula_tree d) ++ t) (variables_more gs g)
     ∙ sym (append_assoc (formula_variables (formula_tree d)) (all_variables (formulas_of (map formula_tree gs))) (formula_variables (formula_tree g)))
-
--- atoms put behind others, one assumption after another
-pub atoms_more : (first before after alone xs ys : List Atom) → before ≡ first ++ xs → after ≡ before ++ alone → ys ≡ xs ++ alone → after ≡ first ++ ys
-atoms_more first before after alone xs ys p q r = q ∙ ap (λ t. t ++ alone) p ∙ append_assoc first xs alone ∙ ap (λ t. first ++ t) (sym r)
 
 pub folded_more : (names : List (List ℕ)) (xs ys : List (List ℕ)) → fold with_name (fold with_name names xs) ys ≡ fold with_name names (xs ++ ys)
 folded_more names [] ys = refl
 folded_more names (x ∷ xs) ys = folded_more (with_name names x) xs ys
 
-pub assoc_names : (xs ys zs : List (List ℕ)) → (xs ++ ys) ++ zs ≡ xs ++ (ys ++ zs)
-assoc_names xs ys zs = append_assoc xs ys zs
+-- of want of memory nothing is said
+pub memory_unread : (s : State) (fs : FormulaTrees) (e : StatementError) → e ≡ error.Memory → AreUnread s fs e
+memory_unread s fs e p = (static.Memory, p, λ other. absurd (other refl))
+
+each_listed_none : (s : State) (ds : List Formula) → FirstAmong (AppliesToSome s ds) None → AllByRecursion (λ g. IsReadable s (formula_tree g)) ds
+each_listed_none s [] k = tt
+each_listed_none s (d ∷ ds) k = (readable_where_none s (formula_tree d) (λ e l x. k e l (inl x)), each_listed_none s ds (λ e l x. k e l (inr x)))
 
 -- ---- the formula and its assumptions together
 
@@ -189,34 +185,32 @@ module _ (s : State) (f : FormulaTree) (gs : List Formula) where
   abbrev Here : StaticError → Type 0
   Here d = reading.Applies s.context s.bound s.names f d
 
-  parts : (o : Option StaticError) → FirstAmong (λ d. Here d ⊎ AppliesToSome s gs d) o → FirstAmong (AppliesAmong s (also f given)) o
-  parts o h = first_same (λ d. Here d ⊎ AppliesToSome s gs d) (AppliesAmong s (also f given)) (λ d. let r = some_listed (λ g. reading.Applies s.context s.bound s.names g d) f gs in (r.1, r.0)) o h
+  -- the first cause in the formula, joined to that in its assumptions, is the first in any of them
+  first_in_parts : (stop after : Option StaticError) → FirstAmong (AppliesToSome s gs) stop → IsFirstWith s f stop after → FirstAmong (AppliesAmong s (also f given)) after
+  first_in_parts stop after h k =
+      subst (FirstAmong (AppliesAmong s (also f given))) (sym k.joined)
+      (first_same (λ d. AppliesToSome s gs d ⊎ Here d) (AppliesAmong s (also f given))
+      (λ d. let r = some_listed (λ g. reading.Applies s.context s.bound s.names g d) f gs in (λ x. r.1 (⊎_elim inr inl x), λ x. ⊎_elim inr inl (r.0 x))) (earlier_of stop k.cause)
+      (first_of_both (AppliesToSome s gs) Here stop k.cause h k.first))
 
-  first_part_cause : (e : StaticError) → FirstAmong (AppliesAmong s (also f given)) (Some e) → IsFirstCauseAmong s (also f given) e
-  first_part_cause e h = λ other. record { applies = h.1; first = h.2 }
+  pub parts_unread : (stop : Option StaticError) (e : StaticError) → FirstAmong (AppliesToSome s gs) stop → IsFirstWith s f stop (Some e) → IsFirstCauseAmong s (also f given) e
+  parts_unread stop e h k = let there = first_in_parts stop (Some e) h k in λ other. record { applies = there.1; first = there.2 }
 
-  -- a cause in the assumptions alone
-  pub list_unread : (e : StaticError) → FirstAmong Here None → FirstAmong (AppliesToSome s gs) (Some e) → IsFirstCauseAmong s (also f given) e
-  list_unread e h k = first_part_cause e (parts (Some e) (first_of_both Here (AppliesToSome s gs) None (Some e) h k))
+  pub parts_readable : (stop : Option StaticError) → FirstAmong (AppliesToSome s gs) stop → IsFirstWith s f stop None → AreReadable s (also f given)
+  parts_readable stop h k =
+      let there = first_in_parts stop None h k in
+      each_of_list (IsReadable s) f gs (readable_where_none s f (λ d l x. there d l ((some_listed (λ g. reading.Applies s.context s.bound s.names g d) f gs).1 (inl x))))
+      (each_listed_none s gs (λ d l x. there d l ((some_listed (λ g. reading.Applies s.context s.bound s.names g d) f gs).1 (inr x))))
 
-  -- a cause in the formula, and what the assumptions say
-  pub both_unread : (b : Option StaticError) (e : StaticError) → FirstAmong Here (Some e) → FirstAmong (AppliesToSome s gs) b → IsFirstCauseAmong s (also f given) (first_of e b)
-  both_unread b e h k =
-      first_part_cause (first_of e b)
-      (parts (Some (first_of e b)) (first_same (λ d. AppliesToSome s gs d ⊎ Here d) (λ d. Here d ⊎ AppliesToSome s gs d) (λ d. (λ x. ⊎_elim inr inl x, λ x. ⊎_elim inr inl x)) (Some (first_of e b))
-      (first_of_both (AppliesToSome s gs) Here b (Some e) k h)))
+-- ---- formulas alone
 
-  pub memory_unread : (e : StatementError) → e ≡ error.Memory → AreUnread s (also f given) e
-  memory_unread e p = (static.Memory, p, λ other. absurd (other refl))
+pub all_readable : (s : State) (gs : List Formula) → FirstAmong (AppliesToSome s gs) None → AreReadable s (formulas_of (map formula_tree gs))
+all_readable s gs k = each_of_given (IsReadable s) gs (each_listed_none s gs k)
 
-  pub parts_readable : IsReadable s f → FirstAmong (AppliesToSome s gs) None → AreReadable s (also f given)
-  parts_readable h k =
-      each_of_list (IsReadable s) f gs h
-      (each_listed_none gs k)
-    where
-      each_listed_none : (ds : List Formula) → FirstAmong (AppliesToSome s ds) None → AllByRecursion (λ g. IsReadable s (formula_tree g)) ds
-      each_listed_none [] k = tt
-      each_listed_none (d ∷ ds) k = (readable_where_none s (formula_tree d) (λ e l x. k e l (inl x)), each_listed_none ds (λ e l x. k e l (inr x)))
+pub all_unread : (s : State) (gs : List Formula) (e : StaticError) → FirstAmong (AppliesToSome s gs) (Some e) → IsFirstCauseAmong s (formulas_of (map formula_tree gs)) e
+all_unread s gs e h =
+    let there = first_same (AppliesToSome s gs) (AppliesAmong s (formulas_of (map formula_tree gs))) (λ d. let r = some_given (λ g. reading.Applies s.context s.bound s.names g d) gs in (r.1, r.0)) (Some e) h in
+    λ other. record { applies = there.1; first = there.2 }
 
 -- ---- a quantifier where none may be
 

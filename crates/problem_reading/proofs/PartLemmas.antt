@@ -34,3 +34,16 @@ module _ (P : FormulaTree → Type 0) where
   pub each_of_list : (f : FormulaTree) (gs : List Formula) → P f → AllByRecursion (λ g. P (formula_tree g)) gs → EachFormula P (also f (formulas_of (map formula_tree gs)))
   each_of_list f [] h k = (h, tt)
   each_of_list f (g ∷ gs) h k = (h, each_of_list (formula_tree g) gs k.0 k.1)
+
+  -- all of them as a list
+  pub some_given : (gs : List Formula) → SomeFormula P (formulas_of (map formula_tree gs)) ↔ SomeOf (λ g. P (formula_tree g)) gs
+  some_given [] = (λ h. h, λ h. h)
+  some_given (g ∷ gs) = some_listed (formula_tree g) gs
+
+  pub each_given : (gs : List Formula) → EachFormula P (formulas_of (map formula_tree gs)) → AllByRecursion (λ g. P (formula_tree g)) gs
+  each_given [] h = tt
+  each_given (g ∷ gs) h = each_listed (formula_tree g) gs h
+
+  pub each_of_given : (gs : List Formula) → AllByRecursion (λ g. P (formula_tree g)) gs → EachFormula P (formulas_of (map formula_tree gs))
+  each_of_given [] h = tt
+  each_of_given (g ∷ gs) h = each_of_list (formula_tree g) gs h.0 h.1

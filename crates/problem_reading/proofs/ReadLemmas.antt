@@ -1,5 +1,7 @@
 -- What is read is a formula of the session, and its assumptions are normal atoms.
-use Rattle.std.proofs.Common.{inl, inr, ℕ, List, [], ◌∷◌}
+use Rattle.std.proofs.Common.{inl, inr, ℕ, List, [], ◌∷◌, subst, sym}
+use Rattle.formula_meaning.specs.Context.{Context}
+use Rattle.formula_meaning.specs.Tree.{Tree}
 use Rattle.atom_normal.specs.declared.atoms.Context as atoms
 use Rattle.qe_syntax.specs.Trees.{FormulaTree}
 use Rattle.formula_tree.specs.Resolving.{resolve}
@@ -17,10 +19,10 @@ use Rattle.formula_meaning.specs.Some.{EachOf}
 use Rattle.formula_tree.specs.Resolving.{formula_variables, all_variables}
 use Rattle.problem_reading.specs.Reading.{AreNumbered, AreReadable}
 use Rattle.formula_tree.specs.Names.{with_name}
-use Rattle.session_meaning.specs.Assumptions.{atoms_alone, assumed}
+use Rattle.session_meaning.specs.Assumptions.{atoms_alone, atoms_among, resolved_all, assumed}
 use Rattle.session_state.specs.Keeping.{IsSessionFormula, IsSound}
 use Rattle.session_state.proofs.NameLemmas.{kept_names}
-use Rattle.problem_reading.proofs.AssumptionLemmas.{each_both, alone_has}
+use Rattle.problem_reading.proofs.AssumptionLemmas.{each_both, alone_has, among_both}
 use Rattle.session_state.proofs.SoundLemmas.{resolved_formula}
 use Rattle.std.proofs.Common.{map}
 use Rattle.std.specs.List.{AllByRecursion}
@@ -42,15 +44,27 @@ pub readable_formula : (f : FormulaTree) (s : State) → HasNumbers s.names f �
 readable_formula f s numbers sound proper h = resolved_formula s.context s.bound s.names f sound.formulas numbers proper h
 
 -- the assumptions are normal atoms
-each_normal : (s : State) → IsSound s → (gs : FormulaTrees) → AreNumbered s.names gs → AreReadable s gs → AreWritableFormulas gs → EachOf (IsNormal s.context) (assumed s gs)
+each_normal : (s : State) → IsSound s → (gs : FormulaTrees) → AreNumbered s.names gs → AreReadable s gs → AreWritableFormulas gs → EachOf (IsNormal s.context) (atoms_among (resolved_all s gs))
 each_normal s sound none numbers readable proper = tt
 each_normal s sound (also g gs) numbers readable proper =
-    each_both (IsNormal s.context) (atoms_alone (resolve s.context s.bound s.names g)) (assumed s gs)
+    each_both (IsNormal s.context) (atoms_alone (resolve s.context s.bound s.names g)) (atoms_among (resolved_all s gs))
     (alone_has (IsNormal s.context) (resolve s.context s.bound s.names g) (readable_formula g s numbers.0 sound proper.0 readable.0).normal)
     (each_normal s sound gs numbers.1 readable.1 proper.1)
 
+-- and so are the standing ones
+standing_normal : (c : Context) (n : ℕ) (ts : List Tree) → EachOf (IsSessionFormula c n) ts → EachOf (IsNormal c) (atoms_among ts)
+standing_normal c n [] h = tt
+standing_normal c n (t ∷ ts) h = each_both (IsNormal c) (atoms_alone t) (atoms_among ts) (alone_has (IsNormal c) t h.0.normal) (standing_normal c n ts h.1)
+
 pub assumed_normal : (s : State) → IsSound s → (f : FormulaTree) (gs : FormulaTrees) → AreNumbered s.names (also f gs) → AreReadable s (also f gs) → AreWritableFormulas gs → EachOf (IsNormal s.context) (assumed s gs)
-assumed_normal s sound f gs numbers readable proper = each_normal s sound gs numbers.1 readable.1 proper
+assumed_normal s sound f gs numbers readable proper =
+    subst (EachOf (IsNormal s.context)) (sym (among_both s.standing (resolved_all s gs)))
+    (each_both (IsNormal s.context) (atoms_among s.standing) (atoms_among (resolved_all s gs)) (standing_normal s.context (length s.names) s.standing sound.standing) (each_normal s sound gs numbers.1 readable.1 proper))
+
+-- the formulas are ones of the session
+pub resolved_formulas : (s : State) → IsSound s → (gs : FormulaTrees) → AreNumbered s.names gs → AreReadable s gs → AreWritableFormulas gs → EachOf (IsSessionFormula s.context (length s.names)) (resolved_all s gs)
+resolved_formulas s sound none numbers readable proper = tt
+resolved_formulas s sound (also g gs) numbers readable proper = (readable_formula g s numbers.0 sound proper.0 readable.0, resolved_formulas s sound gs numbers.1 readable.1 proper.1)
 
 pub proper_items : (gs : List Formula) → AreWritableFormulas (formulas_of (map formula_tree gs)) → AllByRecursion (λ g. IsWritableFormula (formula_tree g)) gs
 proper_items [] h = tt

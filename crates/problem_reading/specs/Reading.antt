@@ -1,10 +1,12 @@
 -- What is read of the formulas of a command.
-use Rattle.std.specs.Prelude.{◌≡◌, ◌≢◌, ◌<◌, ℕ, List, Option, Some, None, nat_lt, if◌then◌else◌, map}
+use Rattle.std.specs.Prelude.{◌≡◌, ◌≢◌, ◌⊎◌, ◌<◌, ℕ, List, [], ◌∷◌, ◌++◌, Option, Some, None, nat_lt, if◌then◌else◌, map}
 use Rattle.formula_meaning.specs.Formula.{also}
 use Rattle.formula_meaning.specs.Some.{SomeOf}
 use Rattle.std.specs.List.{AllByRecursion}
 use Rattle.atom_normal.specs.Atoms.{atom_of, IsWellFormed}
-use Rattle.formula_tree.specs.Makers.{IsMade}
+use Rattle.formula_tree.specs.Makers.{IsMade, AreMade}
+use Rattle.formula_meaning.specs.Tree.{Tree}
+use Rattle.formula_store.specs.declared.id.FormulaId.{FormulaId}
 use Rattle.formula_store.specs.Nodes.{tree, IsId}
 use Rattle.session_state.specs.declared.state.SessionState.{SessionState}
 use Rattle.shared_forms.specs.declared.forms.Premised.{Premised}
@@ -16,8 +18,10 @@ use Rattle.formula_resolving.specs.declared.error.StaticError.{StaticError}
 use Rattle.formula_resolving.specs.declared.error.StaticError.TheVariants as static
 use Rattle.formula_resolving.specs.Refusals.{IsFirstCause, Applies, rank as static_rank}
 use Rattle.session_meaning.specs.declared.line.StatementError.{StatementError}
+use Rattle.session_meaning.specs.declared.line.StatementError.TheVariants as error
 use Rattle.session_meaning.specs.State.{State}
-use Rattle.session_meaning.specs.Assumptions.{assumed}
+use Rattle.session_meaning.specs.Assumptions.{assumed, atoms_among, resolved_all}
+use Rattle.standing_assumptions.specs.Trees.{standing_trees}
 use Rattle.problem_reading.specs.Parts.{EachFormula}
 use Rattle.session_meaning.specs.Causes.{SomeFormula}
 use Rattle.command_tools.specs.Refusals.{static_refusal}
@@ -65,12 +69,23 @@ IsFirstCauseAmong s fs d = d ≢ static.Memory → IsFirstAmong s fs d
 abbrev pub AreUnread : State → FormulaTrees → StatementError → Type 0
 AreUnread s fs e = (d : StaticError) × (e ≡ static_refusal d) × IsFirstCauseAmong s fs d
 
--- The formula and its assumptions are read: this is the id of the formula, these are the atoms of the assumptions, and no cause in reading applies.
+-- The formula and its assumptions are read: this is the id of the formula, these are the atoms of what is assumed, and no cause in reading applies.
 pub record AreRead (s : State) (f : FormulaTree) (given : FormulaTrees) (after : SessionState) (read : Premised) : Type 0 where
   pub made : IsMade (IsId after.store) (tree after.store) read.formula (resolve s.context s.bound s.names f)
   pub atoms : map atom_of read.atoms.items ≡ assumed s given
   pub well_formed : AllByRecursion IsWellFormed read.atoms.items
   pub readable : AreReadable s (also f given)
+
+-- the formulas are read: these are their ids, and no cause in reading applies
+pub record AreAllRead (s : State) (given : FormulaTrees) (after : SessionState) (ids : List FormulaId) : Type 0 where
+  pub made : AreMade (IsId after.store) (tree after.store) ids (resolved_all s given)
+  pub readable : AreReadable s given
+
+-- one more id, which is that of the formula
+pub record IsOneMore (after : SessionState) (old new : List FormulaId) (t : Tree) : Type 0 where
+  pub id : FormulaId
+  pub last : new ≡ old ++ id ∷ []
+  pub made : IsMade (IsId after.store) (tree after.store) id t
 
 -- The first cause for which P holds, or None where there is none. Want of memory is no cause.
 abbrev pub FirstAmong : (StaticError → Type 0) → Option StaticError → Type 0
@@ -95,3 +110,14 @@ pub record IsFirstWith (s : State) (g : FormulaTree) (stop after : Option Static
   pub cause : Option StaticError
   pub first : FirstAmong (λ d. Applies s.context s.bound s.names g d) cause
   pub joined : after ≡ earlier_of stop cause
+
+-- The formula is read, and no cause applies to it or came before: this is its id, and these are the atoms among the standing assumptions and the formulas of these ids.
+pub record IsReadUnder (s : State) (f : FormulaTree) (stop : Option StaticError) (ids : List FormulaId) (after : SessionState) (read : Premised) : Type 0 where
+  pub made : IsMade (IsId after.store) (tree after.store) read.formula (resolve s.context s.bound s.names f)
+  pub atoms : map atom_of read.atoms.items ≡ atoms_among (standing_trees after.standing ++ map (tree after.store) ids)
+  pub well_formed : AllByRecursion IsWellFormed read.atoms.items
+  pub first : IsFirstWith s f stop None
+
+-- the word is that of the first cause in the formula, joined to an earlier one; of want of memory nothing is said
+abbrev pub IsUnreadUnder : State → FormulaTree → Option StaticError → StatementError → Type 0
+IsUnreadUnder s f stop e = (e ≡ error.Memory) ⊎ ((d : StaticError) × (e ≡ static_refusal d) × IsFirstWith s f stop (Some d))

@@ -1,9 +1,10 @@
 //! The formula of a command and its assumptions: numbered, and resolved together.
 
 ghost use Rattle.formula_meaning.specs.Formula.{also};
-ghost use Rattle.std.specs.Prelude.{◌≡◌, ◌≢◌, ◌++◌, None, IfOk, IfErr, OnOk, map};
+ghost use Rattle.std.specs.Prelude.{◌≡◌, ◌≢◌, ◌++◌, [], None, IfOk, IfErr, OnOk, map};
 ghost use Rattle.std.specs.List.{AllByRecursion, fold};
 ghost use Rattle.atom_normal.specs.Atoms.{atom_of, IsWellFormed};
+ghost use Rattle.formula_tree.specs.Makers.{AreMade};
 ghost use Rattle.formula_tree.specs.Names.{with_name};
 ghost use Rattle.formula_tree.specs.Resolving.{resolve, formula_variables, all_variables};
 ghost use Rattle.formula_resolving.specs.Numbering.{Grows};
@@ -11,9 +12,10 @@ ghost use Rattle.formula_resolving.specs.Refusals.{AreIds, rank};
 ghost use Rattle.formula_store.specs.Nodes.{tree, IsId};
 ghost use Rattle.qe_syntax.specs.Writable.{IsWritableFormula};
 ghost use Rattle.qe_syntax.specs.Trees.{formula_tree, formulas_of};
-ghost use Rattle.session_meaning.specs.Assumptions.{atoms_alone, assumed};
+ghost use Rattle.session_meaning.specs.Assumptions.{atoms_alone, atoms_among, resolved_all};
+ghost use Rattle.standing_assumptions.specs.Trees.{standing_trees};
 ghost use Rattle.session_state.specs.Keeping.{state_of};
-ghost use Rattle.problem_reading.specs.Reading.{HasNumbers, AreNumbered, AreUnread, AreRead, FirstAmong, first_of, AppliesToSome, IsFirstWith};
+ghost use Rattle.problem_reading.specs.Reading.{HasNumbers, AreNumbered, AreUnread, AreRead, AreAllRead, IsOneMore, IsReadUnder, IsUnreadUnder, FirstAmong, first_of, AppliesToSome, IsFirstWith};
 ghost use Rattle.session_state.specs.Growth.{KeepsState};
 
 use crate::reading::resolved_part;
@@ -41,6 +43,19 @@ pub fn number_parts(
     ensures memory { IfErr result (λ e. e ≡ StatementError.Memory) }
 {
     number_part(formula, bindings, names)?;
+    number_all(given, bindings, names)
+}
+
+/// Numbers the variables of the formulas, in their order. After an `Err` the names may have grown.
+pub fn number_all(
+    given: &[Formula],
+    bindings: &Bindings<FormulaId>,
+    names: &mut Names,
+) -> Result<(), StatementError>
+    ensures numbered { OnOk result (names.new ≡ fold with_name names.old (all_variables (formulas_of (map formula_tree given.now)))) }
+    ensures grown { Grows names.old names.new }
+    ensures memory { IfErr result (λ e. e ≡ StatementError.Memory) }
+{
     for assumption in given {
         number_part(assumption, bindings, names)?;
     }
@@ -63,7 +78,7 @@ pub fn number_part(
     }
 }
 
-/// The resolved formula and the atoms of its assumptions, or the first cause of a refusal in any of them.
+/// The resolved formula and the atoms of what is assumed, or the first cause of a refusal in the formula or its assumptions.
 pub fn read_parts(
     state: &mut SessionState,
     formula: &Formula,
@@ -77,11 +92,29 @@ pub fn read_parts(
     ensures unread { IfErr result (AreUnread (state_of state.old) (also (formula_tree formula.now) (formulas_of (map formula_tree given.now)))) }
     ensures kept { KeepsState state.old state.new }
 {
-    let mut atoms = Vec::new(state.alloc);
-    let stop = read_assumptions(state, given, &mut atoms)?;
+    let mut ids = Vec::new(state.alloc);
+    let stop = read_given(state, given, &mut ids)?;
+    read_under(state, formula, stop, &ids)
+}
+
+/// The resolved formula and the atoms of what is assumed, or the earlier of this cause and the first one in the formula.
+fn read_under(
+    state: &mut SessionState,
+    formula: &Formula,
+    stop: Option<StaticError>,
+    ids: &[FormulaId],
+) -> Result<Premised, StatementError>
+    requires proper { IsWritableFormula (formula_tree formula.now) }
+    requires ids { AreIds (IsId state.old.store) state.old.bindings }
+    requires numbered { HasNumbers state.old.names (formula_tree formula.now) }
+    requires given { stop ≡ None → AllByRecursion (IsId state.old.store) ids.now }
+    ensures read { IfOk result (IsReadUnder (state_of state.old) (formula_tree formula.now) stop ids.now state.new) }
+    ensures unread { IfErr result (IsUnreadUnder (state_of state.old) (formula_tree formula.now) stop) }
+    ensures kept { KeepsState state.old state.new }
+{
     match resolved_part(state, formula) {
         Ok(formula) => match stop {
-            None => Ok(Premised { formula, atoms }),
+            None => premised(state, formula, ids),
             Some(error) => Err(static_refusal(error)),
         },
         Err(error) => {
@@ -91,48 +124,61 @@ pub fn read_parts(
     }
 }
 
-/// The first cause of a refusal in the assumptions, if there is one; else their atoms are put behind the others.
-fn read_assumptions(
+/// The resolved formulas, or the first cause of a refusal in any of them.
+pub fn read_all(state: &mut SessionState, given: &[Formula]) -> Result<Vec<FormulaId>, StatementError>
+    requires proper { AllByRecursion (λ g. IsWritableFormula (formula_tree g)) given.now }
+    requires ids { AreIds (IsId state.old.store) state.old.bindings }
+    requires numbered { AreNumbered state.old.names (formulas_of (map formula_tree given.now)) }
+    ensures read { IfOk result (λ ids. AreAllRead (state_of state.old) (formulas_of (map formula_tree given.now)) state.new ids.items) }
+    ensures unread { IfErr result (AreUnread (state_of state.old) (formulas_of (map formula_tree given.now))) }
+    ensures kept { KeepsState state.old state.new }
+{
+    let mut ids = Vec::new(state.alloc);
+    match read_given(state, given, &mut ids)? {
+        None => Ok(ids),
+        Some(error) => Err(static_refusal(error)),
+    }
+}
+
+/// The first cause of a refusal in the formulas, if there is one; else their ids are put into the list.
+fn read_given(
     state: &mut SessionState,
     given: &[Formula],
-    atoms: &mut Vec<Atom>,
+    ids: &mut Vec<FormulaId>,
 ) -> Result<Option<StaticError>, StatementError>
     requires proper { AllByRecursion (λ g. IsWritableFormula (formula_tree g)) given.now }
     requires ids { AreIds (IsId state.old.store) state.old.bindings }
     requires numbered { AllByRecursion (λ g. HasNumbers state.old.names (formula_tree g)) given.now }
-    requires well_formed { AllByRecursion IsWellFormed atoms.old.items }
+    requires empty { ids.old.items ≡ [] }
     ensures first { IfOk result (FirstAmong (AppliesToSome (state_of state.old) given.now)) }
-    ensures atoms { IfOk result (λ stop. stop ≡ None → map atom_of atoms.new.items ≡ map atom_of atoms.old.items ++ assumed (state_of state.old) (formulas_of (map formula_tree given.now))) }
-    ensures well_formed { AllByRecursion IsWellFormed atoms.new.items }
+    ensures made { IfOk result (λ stop. stop ≡ None → AreMade (IsId state.new.store) (tree state.new.store) ids.new.items (resolved_all (state_of state.old) (formulas_of (map formula_tree given.now)))) }
     ensures memory { IfErr result (λ e. e ≡ StatementError.Memory) }
     ensures kept { KeepsState state.old state.new }
 {
     let mut stop = None;
-    for assumption in given {
-        stop = read_assumption(state, assumption, atoms, stop)?;
+    for formula in given {
+        stop = read_one(state, formula, ids, stop)?;
     }
     Ok(stop)
 }
 
-/// The earlier of this cause and the first one in the assumption.
-fn read_assumption(
+/// The earlier of this cause and the first one in the formula. Where there is none in it, its id is put behind the others.
+fn read_one(
     state: &mut SessionState,
-    assumption: &Formula,
-    atoms: &mut Vec<Atom>,
+    formula: &Formula,
+    ids: &mut Vec<FormulaId>,
     stop: Option<StaticError>,
 ) -> Result<Option<StaticError>, StatementError>
-    requires proper { IsWritableFormula (formula_tree assumption.now) }
+    requires proper { IsWritableFormula (formula_tree formula.now) }
     requires ids { AreIds (IsId state.old.store) state.old.bindings }
-    requires numbered { HasNumbers state.old.names (formula_tree assumption.now) }
-    requires well_formed { AllByRecursion IsWellFormed atoms.old.items }
-    ensures first { IfOk result (IsFirstWith (state_of state.old) (formula_tree assumption.now) stop) }
-    ensures atoms { IfOk result (λ r. r ≡ None → map atom_of atoms.new.items ≡ map atom_of atoms.old.items ++ atoms_alone (resolve (state_of state.old).context (state_of state.old).bound state.old.names (formula_tree assumption.now))) }
-    ensures well_formed { AllByRecursion IsWellFormed atoms.new.items }
+    requires numbered { HasNumbers state.old.names (formula_tree formula.now) }
+    ensures first { IfOk result (IsFirstWith (state_of state.old) (formula_tree formula.now) stop) }
+    ensures made { IfOk result (λ r. r ≡ None → IsOneMore state.new ids.old.items ids.new.items (resolve (state_of state.old).context (state_of state.old).bound state.old.names (formula_tree formula.now))) }
     ensures memory { IfErr result (λ e. e ≡ StatementError.Memory) }
     ensures kept { KeepsState state.old state.new }
 {
-    match resolved_part(state, assumption) {
-        Ok(id) => match add_atom(state, id, atoms) {
+    match resolved_part(state, formula) {
+        Ok(id) => match ids.push(id) {
             Ok(()) => Ok(stop),
             Err(_) => Err(StatementError::Memory),
         },
@@ -141,6 +187,40 @@ fn read_assumption(
             Ok(Some(error))
         }
     }
+}
+
+/// The formula with the atoms of what is assumed.
+fn premised(
+    state: &SessionState,
+    formula: FormulaId,
+    ids: &[FormulaId],
+) -> Result<Premised, StatementError>
+    requires { AllByRecursion (IsId state.now.store) ids.now }
+    ensures formula { IfOk result (λ r. r.formula ≡ formula) }
+    ensures atoms { IfOk result (λ r. map atom_of r.atoms.items ≡ atoms_among (standing_trees state.now.standing ++ map (tree state.now.store) ids.now)) }
+    ensures well_formed { IfOk result (λ r. AllByRecursion IsWellFormed r.atoms.items) }
+    ensures memory { IfErr result (λ e. e ≡ StatementError.Memory) }
+{
+    let atoms = assumed_atoms(state, ids)?;
+    Ok(Premised { formula, atoms })
+}
+
+/// The atoms among the standing assumptions and these formulas.
+fn assumed_atoms(state: &SessionState, ids: &[FormulaId]) -> Result<Vec<Atom>, StatementError>
+    requires { AllByRecursion (IsId state.now.store) ids.now }
+    ensures atoms { IfOk result (λ v. map atom_of v.items ≡ atoms_among (standing_trees state.now.standing ++ map (tree state.now.store) ids.now)) }
+    ensures well_formed { IfOk result (λ v. AllByRecursion IsWellFormed v.items) }
+    ensures memory { IfErr result (λ e. e ≡ StatementError.Memory) }
+{
+    let Ok(mut atoms) = state.standing.atoms(state.alloc) else {
+        return Err(StatementError::Memory);
+    };
+    for id in ids {
+        if let Err(_failed) = add_atom(state, *id, &mut atoms) {
+            return Err(StatementError::Memory);
+        }
+    }
+    Ok(atoms)
 }
 
 /// Adds the formula to the atoms, where it is one.

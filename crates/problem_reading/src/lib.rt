@@ -4,5 +4,5 @@
 mod assumptions;
 mod reading;
 
-pub use assumptions::{number_part, number_parts, read_parts};
+pub use assumptions::{number_all, number_part, number_parts, read_all, read_parts};
 pub use reading::{resolved, resolved_part};

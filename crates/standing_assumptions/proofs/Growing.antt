@@ -1,5 +1,5 @@
 -- A set of assumptions grows as the list of their formulas does.
-use Rattle.std.proofs.Common.{◌≡◌, Bool, true, false, List, [], ◌∷◌, ◌++◌, refl, sym, ap, ◌∙◌, subst, map, true≢false, nat_eq}
+use Rattle.std.proofs.Common.{◌≡◌, Bool, true, false, List, [], ◌∷◌, ◌++◌, refl, sym, ap, ◌∙◌, subst, map, true≢false, nat_eq, append_assoc, append-nil}
 use Rattle.std.specs.Prelude.{◌||◌, if◌then◌else◌}
 use Rattle.std.specs.List.{AllByRecursion, list_any}
 use Rattle.indexmap.specs.IndexSet.{insert_key}
@@ -58,10 +58,6 @@ map_push : (keys : List Assumption) (a : Assumption) → map assumption_tree (ke
 map_push [] a = refl
 map_push (b ∷ keys) a = ap (λ (ts : List Tree). assumption_tree b ∷ ts) (map_push keys a)
 
-append_nil : {X : Type 0} (xs : List X) → xs ++ [] ≡ xs
-append_nil [] = refl
-append_nil (x ∷ xs) = ap (λ ys. x ∷ ys) (append_nil xs)
-
 pub inserted : (keys : List Assumption) (a : Assumption) → AllByRecursion IsFormed keys → IsFormed a → standing_trees (insert_key eq keys a) ≡ behind (standing_trees keys) (assumption_tree a)
 inserted keys a all h = split (list_any (eq a) keys) refl
   where
@@ -73,11 +69,11 @@ pub inserted_front : (keys : List Assumption) (a : Assumption) → IsFront keys 
 inserted_front keys a = split (list_any (eq a) keys)
   where
     split : (b : Bool) → IsFront keys (if b then keys else keys ++ a ∷ [])
-    split true = record { more = []; is = sym (append_nil keys) }
+    split true = record { more = []; is = sym (append-nil keys) }
     split false = record { more = a ∷ []; is = refl }
 
 pub same_front : (keys : List Assumption) → IsFront keys keys
-same_front keys = record { more = []; is = sym (append_nil keys) }
+same_front keys = record { more = []; is = sym (append-nil keys) }
 
 formed_push : (keys : List Assumption) (a : Assumption) → AllByRecursion IsFormed keys → IsFormed a → AllByRecursion IsFormed (keys ++ a ∷ [])
 formed_push [] a all h = (h, tt)
@@ -90,13 +86,9 @@ inserted_formed keys a all h = split (list_any (eq a) keys)
     split true = all
     split false = formed_push keys a all h
 
-append_assoc : {X : Type 0} (xs ys zs : List X) → (xs ++ ys) ++ zs ≡ xs ++ (ys ++ zs)
-append_assoc [] ys zs = refl
-append_assoc (x ∷ xs) ys zs = ap (λ ts. x ∷ ts) (append_assoc xs ys zs)
-
 -- the atoms among some assumptions and one more
 pub atoms_more : (keys : List Assumption) (a : Assumption) → atoms_among (standing_trees (keys ++ a ∷ [])) ≡ atoms_among (standing_trees keys) ++ atoms_alone (assumption_tree a)
-atoms_more [] a = append_nil (atoms_alone (assumption_tree a))
+atoms_more [] a = append-nil (atoms_alone (assumption_tree a))
 atoms_more (b ∷ keys) a =
     ap (λ (ks : List meant.Atom). atoms_alone (assumption_tree b) ++ ks) (atoms_more keys a)
     ∙ sym (append_assoc (atoms_alone (assumption_tree b)) (atoms_among (standing_trees keys)) (atoms_alone (assumption_tree a)))
