@@ -1,4 +1,4 @@
-use Rattle.std.proofs.Common.{◌≡◌, ◌∙◌, ◌++◌, sym, ap, subst, map, take, List}
+use Rattle.std.proofs.Common.{◌≡◌, ◌∙◌, ◌++◌, sym, ap, subst, map, take, List, rules}
 use Rattle.atom_normal.specs.Atoms.{atom_of}
 use Rattle.qe_syntax.specs.declared.tree.Formula.{Formula}
 use Rattle.qe_syntax.specs.Writable.{IsWritableFormula}
@@ -15,7 +15,7 @@ use Rattle.problem_reading.proofs.assumptions.read_assumptions.Goals as goal
 
 pub loop-assumption-init : goal.loop-assumption-init
 loop-assumption-init c = record {
-  first = λ d l h. h;
+  first = search rules;
   atoms = λ e. sym (nothing_more (map atom_of c.args.atoms.now.items));
   well_formed = c.requires.well_formed;
   proper = c.requires.proper;

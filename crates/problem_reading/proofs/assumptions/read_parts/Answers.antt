@@ -8,9 +8,10 @@ use Rattle.formula_resolving.specs.Refusals.{IsFirstCause}
 use Rattle.formula_store.specs.Nodes.{tree, IsId}
 use Rattle.session_state.specs.Keeping.{state_of}
 use Rattle.session_meaning.specs.State.{State}
-use Rattle.problem_reading.specs.Reading.{HasNumbers, IsReadable, IsFirstCauseAmong, AreUnread, FirstAmong, AppliesToSome}
+use Rattle.problem_reading.specs.Reading.{HasNumbers, IsReadable, AreUnread, FirstAmong, AppliesToSome}
 use Rattle.problem_reading.proofs.PartLemmas.{each_listed}
-use Rattle.problem_reading.proofs.AssumptionLemmas.{first_unread, none_unread, list_unread, both_unread, memory_unread, parts_readable}
+use Rattle.problem_reading.proofs.CauseLemmas.{readable_none}
+use Rattle.problem_reading.proofs.AssumptionLemmas.{first_unread, list_unread, both_unread, memory_unread, parts_readable}
 use Rattle.session_state.proofs.StateLemmas.{same_state, kept_ids, keeps_then}
 use Rattle.problem_reading.proofs.assumptions.read_parts.Goals as goal
 
@@ -61,7 +62,7 @@ returns-in-Some-clause-unread c =
     let old = c.args.state.now in
     let f = formula_tree c.args.formula.now in
     let same = same_state old c.read_assumptions.new.state c.requires.ids c.read_assumptions.ensures.kept in
-    let here = none_unread (state_of old) f (subst (λ s. IsReadable s f) same c.in-Ok.ensures.readable) in
+    let here = readable_none (state_of old) f (subst (λ s. IsReadable s f) same c.in-Ok.ensures.readable) in
     let there = subst (FirstAmong (AppliesToSome (state_of old) c.args.given.now)) c.in-Some.is c.in_ok-stop.ensures.first in
     (c.in-Some.error, c.static_refusal.ensures, list_unread (state_of old) f c.args.given.now c.in-Some.error here there)
 
@@ -74,7 +75,8 @@ returns-in_ok-error-in-Err-clause-unread c =
     let f = formula_tree c.args.formula.now in
     let same = same_state old c.read_assumptions.new.state c.requires.ids c.read_assumptions.ensures.kept in
     let first = subst (λ (s : State). IsFirstCause s.context s.bound s.names f c.in-Err.error) same c.in-Err.ensures.unread in
-    let here = first_unread (state_of old) f c.in-Err.error c.in_ok-error-in-Err.ensures.cause first in
-    let both = both_unread (state_of old) f c.args.given.now c.in_ok-stop.stop c.in-Err.error here c.in_ok-stop.ensures.first in
-    let is = c.in_ok-error-in-Err.ensures.earlier in
-    (c.in_ok-error-in-Err.error, c.static_refusal-in-Err.ensures, subst (λ e. IsFirstCauseAmong (state_of old) (also f (formulas_of (map formula_tree c.args.given.now))) e) (sym is) both)
+    let here = first_unread (state_of old) f c.in-Err.error c.in_ok-error-in-Err.ensures.cause first in (
+      c.in_ok-error-in-Err.error,
+      c.static_refusal-in-Err.ensures,
+      both_unread (state_of old) f c.args.given.now c.in_ok-stop.stop c.in-Err.error c.in_ok-error-in-Err.error here c.in_ok-stop.ensures.first c.in_ok-error-in-Err.ensures.earlier,
+    )
