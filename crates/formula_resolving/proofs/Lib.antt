@@ -6,4 +6,5 @@ pub mod Openings
 pub mod PartLaws
 pub mod AtomLaws
 pub mod WrittenParts
+pub mod Order
 pub mod Refusing

@@ -5,6 +5,7 @@ use Rattle.std.specs.List.{list_any}
 use Rattle.std.proofs.lemmas.List.Folds.{list_any-append}
 use Rattle.formula_meaning.specs.Context.{Context, Fields, Integers}
 use Rattle.formula_meaning.specs.Formula.{Formula, Formulas, Yes, No, One, Not, And, Or, Impl, Repl, Equiv, Ex, All, none, also}
+use Rattle.formula_meaning.specs.Some.{EachOf}
 use Rattle.formula_meaning.specs.Tree.{Tree}
 use Rattle.qe_syntax.specs.Trees as term
 use Rattle.qe_syntax.specs.Trees.{TermTree, TermTrees, Number, Named, Sum, Product, Quotient, Power, Negative, WrittenAtom, Compare, Cong, Ncong, Bound, FormulaTree, FormulaTrees}
@@ -17,11 +18,12 @@ use Rattle.formula_tree.specs.Resolving.{place, names_after, variables_of, varia
 use Rattle.formula_resolving.specs.declared.error.StaticError.{StaticError}
 use Rattle.formula_resolving.specs.declared.error.StaticError.TheVariants.{Unbound, FormulaAsTerm, Nonlinear, Division, CongruenceContext, Modulus, Depth, Overflow, Memory}
 use Rattle.formula_resolving.specs.declared.causes.Causes.{Causes}
-use Rattle.formula_resolving.specs.Refusals.{rank, Applies, IsFirst, IsFirstCause, trees_bound}
+use Rattle.formula_resolving.specs.Refusals.{before, Applies, IsFirst, IsFirstCause, trees_bound}
 use Rattle.formula_resolving.specs.Numbering.{some_bound}
 use Rattle.formula_resolving.specs.MetCauses.{is_met, IsFirstOf, CongruenceIn}
 use Rattle.formula_resolving.specs.Heights.{told}
 use Rattle.formula_resolving.specs.Parts.{AreTold}
+use Rattle.formula_resolving.proofs.Order.{no_memory}
 use Rattle.formula_resolving.proofs.FirstCause.{or_true}
 use Rattle.formula_resolving.proofs.AtomLaws.{bound_tree}
 
@@ -219,19 +221,12 @@ module _ {Id : Type 0} (c : Context) (tree : Id → Tree) (bound : List (List �
     within = unmet_not Overflow (λ e. cc) (n Overflow);
   }
 
-  not_memory : (d e : StaticError) → rank d < rank e → ¬ (d ≡ Memory)
-  not_memory d Unbound l m = omega (arith, ap rank m)
-  not_memory d FormulaAsTerm l m = omega (arith, ap rank m)
-  not_memory d Nonlinear l m = omega (arith, ap rank m)
-  not_memory d Division l m = omega (arith, ap rank m)
-  not_memory d CongruenceContext l m = omega (arith, ap rank m)
-  not_memory d Modulus l m = omega (arith, ap rank m)
-  not_memory d Depth l m = omega (arith, ap rank m)
-  not_memory d Overflow l m = omega (arith, ap rank m)
-  not_memory d Memory l m = omega (arith, ap rank m)
+  none_applies : (ds : List StaticError) → EachOf (λ d. ¬ (d ≡ Memory)) ds → EachOf (λ d. is_met named k h d ≡ false) ds → EachOf (λ d. ¬ (Applies c (trees_bound tree bound) names f d)) ds
+  none_applies [] n i = tt
+  none_applies (d ∷ ds) n i = (unmet_not d n.0 i.0, none_applies ds n.1 i.1)
 
   first_of : (e : StaticError) → ¬ (e ≡ Memory) → IsFirstOf (is_met named k h) e → IsFirst c (trees_bound tree bound) names f e
-  first_of e n i = record { applies = (met_applies e n).0 i.met; first = λ d l. unmet_not d (not_memory d e l) (i.first d l) }
+  first_of e n i = record { applies = (met_applies e n).0 i.met; first = none_applies (before e) (no_memory e) i.first }
 
   pub refused : (e : StaticError) → IsFirstOf (is_met named k h) e → IsFirstCause c (trees_bound tree bound) names f e
   refused Unbound i = first_of Unbound (λ e. cc) i

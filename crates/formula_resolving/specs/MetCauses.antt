@@ -1,6 +1,7 @@
 -- Which causes of a refusal were met, and the first of them.
 use Rattle.std.specs.Prelude.{◌≡◌, ◌⊎◌, ℕ, ◌<◌, List, Bool, true, false, ◌||◌, nat_lt, Option, MatchOption}
 use Rattle.formula_meaning.specs.Context.{Context, Fields, Integers}
+use Rattle.formula_meaning.specs.Some.{EachOf}
 use Rattle.qe_syntax.specs.Trees.{WrittenAtom}
 use Rattle.written_atoms.specs.declared.read.AtomCauses.{AtomCauses}
 use Rattle.formula_tree.specs.Causes.{HasNoTree, SomeTerm, HasNonlinear, HasForbidden, IsCongruence, HasBadModulus, HasPast, PassesInReading, most_height}
@@ -8,7 +9,7 @@ use Rattle.formula_tree.specs.Resolving.{BoundTrees}
 use Rattle.formula_resolving.specs.declared.error.StaticError.{StaticError}
 use Rattle.formula_resolving.specs.declared.error.StaticError.TheVariants.{Unbound, FormulaAsTerm, Nonlinear, Division, CongruenceContext, Modulus, Depth, Overflow, Memory}
 use Rattle.formula_resolving.specs.declared.causes.Causes.{Causes}
-use Rattle.formula_resolving.specs.Refusals.{rank}
+use Rattle.formula_resolving.specs.Refusals.{before}
 
 -- whether the cause was met; the other causes are looked for elsewhere
 abbrev pub flag : Causes → StaticError → Bool
@@ -56,7 +57,7 @@ is_met named k h Memory = false
 -- it is met, and no earlier one is
 pub record IsFirstOf (test : StaticError → Bool) (e : StaticError) : Type 0 where
   pub met : test e ≡ true
-  pub first : (d : StaticError) → rank d < rank e → test d ≡ false
+  pub first : EachOf (λ d. test d ≡ false) (before e)
 
 -- the first cause that is met, if there is one
 abbrev pub IsFirstMet : (StaticError → Bool) → Option StaticError → Type 0

@@ -1,7 +1,8 @@
 -- Why a formula is not resolved: the first cause that applies.
-use Rattle.std.specs.Prelude.{ℕ, ◌<◌, List, map}
+use Rattle.std.specs.Prelude.{ℕ, List, [], ◌∷◌, map}
 use Rattle.std.specs.List.{AllByRecursion}
 use Rattle.formula_meaning.specs.Context.{Context}
+use Rattle.formula_meaning.specs.Some.{EachOf}
 use Rattle.formula_meaning.specs.Tree.{Tree}
 use Rattle.qe_syntax.specs.Trees.{FormulaTree}
 use Rattle.formula_tree.specs.Resolving.{BoundTrees, place, names_after}
@@ -17,17 +18,21 @@ AreIds is_id bound = AllByRecursion (λ e. is_id e.1) bound
 abbrev pub trees_bound : {Id : Type 0} → (Id → Tree) → List (List ℕ × Id) → BoundTrees
 trees_bound tree bound = map (λ e. (e.0, tree e.1)) bound
 
--- the place of a cause in the order in which they are looked for
-abbrev pub rank : StaticError → ℕ
-rank Unbound = 0
-rank FormulaAsTerm = 1
-rank Nonlinear = 2
-rank Division = 3
-rank CongruenceContext = 4
-rank Modulus = 5
-rank Depth = 6
-rank Overflow = 7
-rank Memory = 8
+-- The order in which the causes are looked for. Want of memory has no place: it may come at any time.
+abbrev pub order : List StaticError
+order = Unbound ∷ FormulaAsTerm ∷ Nonlinear ∷ Division ∷ CongruenceContext ∷ Modulus ∷ Depth ∷ Overflow ∷ []
+
+-- the causes that come before this one in the order
+abbrev pub before : StaticError → List StaticError
+before Unbound = []
+before FormulaAsTerm = Unbound ∷ []
+before Nonlinear = Unbound ∷ FormulaAsTerm ∷ []
+before Division = Unbound ∷ FormulaAsTerm ∷ Nonlinear ∷ []
+before CongruenceContext = Unbound ∷ FormulaAsTerm ∷ Nonlinear ∷ Division ∷ []
+before Modulus = Unbound ∷ FormulaAsTerm ∷ Nonlinear ∷ Division ∷ CongruenceContext ∷ []
+before Depth = Unbound ∷ FormulaAsTerm ∷ Nonlinear ∷ Division ∷ CongruenceContext ∷ Modulus ∷ []
+before Overflow = Unbound ∷ FormulaAsTerm ∷ Nonlinear ∷ Division ∷ CongruenceContext ∷ Modulus ∷ Depth ∷ []
+before Memory = order
 
 -- The cause applies to the formula, whose new variables come after the names. Want of memory has no cause.
 abbrev pub Applies : Context → BoundTrees → List (List ℕ) → FormulaTree → StaticError → Type 0
@@ -44,7 +49,7 @@ Applies c bound names f Memory = Unit {0}
 -- it applies, and no earlier one does
 pub record IsFirst (c : Context) (bound : BoundTrees) (names : List (List ℕ)) (f : FormulaTree) (e : StaticError) : Type 0 where
   pub applies : Applies c bound names f e
-  pub first : (d : StaticError) → rank d < rank e → ¬ (Applies c bound names f d)
+  pub first : EachOf (λ d. ¬ (Applies c bound names f d)) (before e)
 
 -- the same, where want of memory says nothing
 abbrev pub IsFirstCause : Context → BoundTrees → List (List ℕ) → FormulaTree → StaticError → Type 0

@@ -1,7 +1,7 @@
 use thiserror::Error;
 
-/// Why a formula is not resolved, in the order in which the causes are looked for.
-#[derive(Clone, Copy, Debug, PartialEq, Eq, Drop, Error)]
+/// Why a formula is not resolved. The causes are ordered as they are looked for.
+#[derive(Clone, Copy, Debug, PartialEq, Eq, PartialOrd, Ord, Drop, Error)]
 pub enum StaticError {
     /// A name stands as a formula, and nothing is bound to it.
     #[error("a name stands as a formula and nothing is bound to it")]

@@ -1,6 +1,5 @@
 -- Assumptions that are true as they are written are true as atoms.
-use Rattle.std.proofs.Common.{◌≡◌, ◌⊎◌, inl, inr, ⊎_elim, ◌↔◌, ℕ, ◌<◌, List, [], ◌∷◌, ◌++◌, Bool, true, false, Option, Some, None, nat_lt, if◌then◌else◌, map, sym, ap, ◌∙◌, subst, refl, arith, lit<, append_assoc, append-nil}
-use Rattle.std.proofs.lemmas.Bool.{ltb-true, ltb-false}
+use Rattle.std.proofs.Common.{◌≡◌, ◌⊎◌, inl, inr, ⊎_elim, ◌↔◌, ℕ, List, [], ◌∷◌, ◌++◌, Option, Some, None, map, sym, ap, ◌∙◌, subst, refl, append_assoc, append-nil}
 use Rattle.std.specs.List.{AllByRecursion, IsDistinct, fold}
 use Rattle.formula_meaning.specs.Formula.{Yes, No, One, Not, And, Or, Impl, Repl, Equiv, Ex, All, none, also}
 use Rattle.formula_meaning.specs.Atom.{Atom, Says}
@@ -17,16 +16,15 @@ use Rattle.formula_resolving.specs.declared.error.StaticError.{StaticError}
 use Rattle.formula_resolving.specs.declared.error.StaticError.TheVariants as static
 use Rattle.formula_resolving.specs.Refusals as reading
 use Rattle.formula_resolving.specs.Refusals.{IsFirstCause}
-use Rattle.formula_resolving.specs.Refusals.{rank as static_rank}
 use Rattle.session_meaning.specs.declared.line.StatementError.{StatementError}
 use Rattle.session_meaning.specs.declared.line.StatementError.TheVariants as error
 use Rattle.session_meaning.specs.State.{State}
 use Rattle.session_meaning.specs.Assumptions.{atoms_alone, atoms_among, resolved_all, assumed, AllTrueAt, Hold}
 use Rattle.command_tools.specs.Refusals.{static_refusal}
-use Rattle.problem_reading.specs.Reading.{HasNumbers, IsReadable, AreNumbered, AreReadable, AppliesAmong, IsBefore, IsFirstCauseAmong, AreUnread, FirstAmong, first_of, earlier_of, AppliesToSome, IsFirstWith}
-use Rattle.session_meaning.specs.Words.{before}
+use Rattle.problem_reading.specs.Reading.{HasNumbers, IsReadable, AreNumbered, AreReadable, AppliesAmong, HasNoEarlier, IsFirstCauseAmong, AreUnread, FirstAmong, IsEarlierOf, IsEarlierOfBoth, AppliesToSome, IsFirstWith}
+use Rattle.formula_resolving.proofs.Order.{each_before, each_earlier, each_no_later}
 use Rattle.problem_reading.proofs.PartLemmas.{no_formula, some_listed, each_of_list, some_given, each_of_given}
-use Rattle.problem_reading.proofs.CauseLemmas.{readable_part}
+use Rattle.problem_reading.proofs.CauseLemmas.{readable_applies}
 use Rattle.problem_reading.proofs.ReadTruth.{truth_as_written}
 
 module _ (F : Atom → Type 0) where
@@ -90,49 +88,57 @@ assumed_hold s f gs readable distinct numbers p of h =
 
 -- ---- the first cause among several formulas
 
+-- where it holds of none of these causes, a narrower fact does not either
+none_less : (P Q : StaticError → Type 0) → ((d : StaticError) → P d → Q d) → (ds : List StaticError) → EachOf (λ d. ¬ (Q d)) ds → EachOf (λ d. ¬ (P d)) ds
+none_less P Q less [] h = tt
+none_less P Q less (d ∷ ds) h = (λ x. h.0 (less d x), none_less P Q less ds h.1)
+
 module _ (P Q : StaticError → Type 0) where
+  abbrev Either : StaticError → Type 0
+  Either d = P d ⊎ Q d
+
+  none_of_both : (ds : List StaticError) → EachOf (λ d. ¬ (P d)) ds → EachOf (λ d. ¬ (Q d)) ds → EachOf (λ d. ¬ (Either d)) ds
+  none_of_both [] h k = tt
+  none_of_both (d ∷ ds) h k = (⊎_elim h.0 k.0, none_of_both ds h.1 k.1)
+
   -- the earlier of the first causes of two is the first of both
-  pub first_of_both : (a b : Option StaticError) → FirstAmong P a → FirstAmong Q b → FirstAmong (λ d. P d ⊎ Q d) (earlier_of a b)
-  first_of_both None None h k = λ d l x. ⊎_elim (h d l) (k d l) x
-  first_of_both (Some e) None h k = (h.0, inl h.1, λ d l x. ⊎_elim (h.2 d l) (k d (omega (arith, h.0))) x)
-  first_of_both None (Some e) h k = (k.0, inr k.1, λ d l x. ⊎_elim (h d (omega (arith, k.0))) (k.2 d l) x)
-  first_of_both (Some a) (Some e) h k = split (nat_lt (static_rank a) (static_rank e)) refl
-    where
-      split : (b : Bool) → nat_lt (static_rank a) (static_rank e) ≡ b → FirstAmong (λ d. P d ⊎ Q d) (Some (if b then a else e))
-      split true l = let m = ltb-true (static_rank a) (static_rank e) l in (h.0, inl h.1, λ d n x. ⊎_elim (h.2 d n) (k.2 d (omega arith)) x)
-      split false l = let m = ltb-false (static_rank a) (static_rank e) l in (k.0, inr k.1, λ d n x. ⊎_elim (h.2 d (omega arith)) (k.2 d n) x)
+  pub first_of_both : (a b o : Option StaticError) → FirstAmong P a → FirstAmong Q b → IsEarlierOfBoth a b o → FirstAmong Either o
+  first_of_both None None o h k j = subst (FirstAmong Either) (sym j) (none_of_both reading.order h k)
+  first_of_both (Some e) None o h k j = subst (FirstAmong Either) (sym j) (h.0, inl h.1, none_of_both (reading.before e) h.2 (each_before (λ d. ¬ (Q d)) e k))
+  first_of_both a (Some e) None h k j = absurd j
+  first_of_both None (Some e) (Some r) h k j = subst (λ d. FirstAmong Either (Some d)) (sym j) (k.0, inr k.1, none_of_both (reading.before e) (each_before (λ d. ¬ (P d)) e h) k.2)
+  first_of_both (Some a) (Some e) (Some r) h k (inl j) =
+      subst (λ d. FirstAmong Either (Some d)) (sym j.1) (h.0, inl h.1, none_of_both (reading.before a) h.2 (each_earlier (λ d. ¬ (Q d)) a e j.0 k.2))
+  first_of_both (Some a) (Some e) (Some r) h k (inr j) =
+      subst (λ d. FirstAmong Either (Some d)) (sym j.1) (k.0, inr k.1, none_of_both (reading.before e) (each_no_later (λ d. ¬ (P d)) a e h.0 j.0 h.2) k.2)
 
 pub first_same : (P Q : StaticError → Type 0) → ((d : StaticError) → P d ↔ Q d) → (o : Option StaticError) → FirstAmong P o → FirstAmong Q o
-first_same P Q same None h = λ d l x. h d l ((same d).1 x)
-first_same P Q same (Some e) h = (h.0, (same e).0 h.1, λ d l x. h.2 d l ((same d).1 x))
+first_same P Q same None h = none_less Q P (λ d. (same d).1) reading.order h
+first_same P Q same (Some e) h = (h.0, (same e).0 h.1, none_less Q P (λ d. (same d).1) (reading.before e) h.2)
 
 -- a formula that is not resolved
 pub first_unread : (s : State) (g : FormulaTree) (e : StaticError) → ¬ (e ≡ static.Memory) → IsFirstCause s.context s.bound s.names g e → FirstAmong (λ d. reading.Applies s.context s.bound s.names g d) (Some e)
-first_unread s g static.Unbound n h = (lit< tt, h.applies, h.first)
-first_unread s g static.FormulaAsTerm n h = (lit< tt, h.applies, h.first)
-first_unread s g static.Nonlinear n h = (lit< tt, h.applies, h.first)
-first_unread s g static.Division n h = (lit< tt, h.applies, h.first)
-first_unread s g static.CongruenceContext n h = (lit< tt, h.applies, h.first)
-first_unread s g static.Modulus n h = (lit< tt, h.applies, h.first)
-first_unread s g static.Depth n h = (lit< tt, h.applies, h.first)
-first_unread s g static.Overflow n h = (lit< tt, h.applies, h.first)
+first_unread s g static.Unbound n h = (n, h.applies, h.first)
+first_unread s g static.FormulaAsTerm n h = (n, h.applies, h.first)
+first_unread s g static.Nonlinear n h = (n, h.applies, h.first)
+first_unread s g static.Division n h = (n, h.applies, h.first)
+first_unread s g static.CongruenceContext n h = (n, h.applies, h.first)
+first_unread s g static.Modulus n h = (n, h.applies, h.first)
+first_unread s g static.Depth n h = (n, h.applies, h.first)
+first_unread s g static.Overflow n h = (n, h.applies, h.first)
 first_unread s g static.Memory n h = absurd (n refl)
 
--- one that is
-pub none_unread : (s : State) (g : FormulaTree) → IsReadable s g → FirstAmong (λ d. reading.Applies s.context s.bound s.names g d) None
-none_unread s g h = readable_part s g h
-
 -- a formula to which no cause applies is resolved
-pub readable_where_none : (s : State) (g : FormulaTree) → ((d : StaticError) → IsBefore d static.Memory → ¬ (reading.Applies s.context s.bound s.names g d)) → IsReadable s g
+pub readable_where_none : (s : State) (g : FormulaTree) → FirstAmong (λ d. reading.Applies s.context s.bound s.names g d) None → IsReadable s g
 readable_where_none s g h = record {
-  bound_names = h static.Unbound (lit< tt);
-  variables = h static.FormulaAsTerm (lit< tt);
-  linear = h static.Nonlinear (lit< tt);
-  undivided = h static.Division (lit< tt);
-  congruences = h static.CongruenceContext (lit< tt);
-  moduli = h static.Modulus (lit< tt);
-  flat = h static.Depth (lit< tt);
-  within = h static.Overflow (lit< tt);
+  bound_names = h.0;
+  variables = h.1.0;
+  linear = h.1.1.0;
+  undivided = h.1.1.1.0;
+  congruences = h.1.1.1.1.0;
+  moduli = h.1.1.1.1.1.0;
+  flat = h.1.1.1.1.1.1.0;
+  within = h.1.1.1.1.1.1.1.0;
 }
 
 -- ---- a list of assumptions, one after the other
@@ -145,18 +151,17 @@ some_last F (y ∷ ys) x =
 
 pub first_of_more : (s : State) (gs : List Formula) (g : Formula) (stop after : Option StaticError) → FirstAmong (AppliesToSome s gs) stop → IsFirstWith s (formula_tree g) stop after → FirstAmong (AppliesToSome s (gs ++ g ∷ [])) after
 first_of_more s gs g stop after h k =
-    subst (FirstAmong (AppliesToSome s (gs ++ g ∷ []))) (sym k.joined)
-    (first_same (λ d. AppliesToSome s gs d ⊎ reading.Applies s.context s.bound s.names (formula_tree g) d) (AppliesToSome s (gs ++ g ∷ []))
-    (λ d. let r = some_last (λ e. reading.Applies s.context s.bound s.names (formula_tree e) d) gs g in (r.1, r.0)) (earlier_of stop k.cause)
-    (first_of_both (AppliesToSome s gs) (λ d. reading.Applies s.context s.bound s.names (formula_tree g) d) stop k.cause h k.first))
+    first_same (λ d. AppliesToSome s gs d ⊎ reading.Applies s.context s.bound s.names (formula_tree g) d) (AppliesToSome s (gs ++ g ∷ []))
+    (λ d. let r = some_last (λ e. reading.Applies s.context s.bound s.names (formula_tree e) d) gs g in (r.1, r.0)) after
+    (first_of_both (AppliesToSome s gs) (λ d. reading.Applies s.context s.bound s.names (formula_tree g) d) stop k.cause after h k.first k.joined)
 
 -- where there is no first cause there was none before
 pub none_before : (s : State) (g : FormulaTree) (stop after : Option StaticError) → IsFirstWith s g stop after → after ≡ None → stop ≡ None
-none_before s g stop after h e = split h.cause (sym h.joined ∙ e)
+none_before s g stop after h e = split h.cause (subst (IsEarlierOfBoth stop h.cause) e h.joined)
   where
-    split : (o : Option StaticError) → earlier_of stop o ≡ None → stop ≡ None
-    split None p = p
-    split (Some d) p = absurd (cc (p))
+    split : (o : Option StaticError) → IsEarlierOfBoth stop o None → stop ≡ None
+    split None p = sym p
+    split (Some d) p = absurd p
 
 pub variables_more : (gs : List Formula) (g : Formula) → all_variables (formulas_of (map formula_tree (gs ++ g ∷ []))) ≡ all_variables (formulas_of (map formula_tree gs)) ++ formula_variables (formula_tree g)
 variables_more [] g = append-nil (formula_variables (formula_tree g))
@@ -174,7 +179,9 @@ memory_unread s fs e p = (static.Memory, p, λ other. absurd (other refl))
 
 each_listed_none : (s : State) (ds : List Formula) → FirstAmong (AppliesToSome s ds) None → AllByRecursion (λ g. IsReadable s (formula_tree g)) ds
 each_listed_none s [] k = tt
-each_listed_none s (d ∷ ds) k = (readable_where_none s (formula_tree d) (λ e l x. k e l (inl x)), each_listed_none s ds (λ e l x. k e l (inr x)))
+each_listed_none s (d ∷ ds) k =
+    let applies = (λ (e : StaticError). reading.Applies s.context s.bound s.names (formula_tree d) e) in
+    (readable_where_none s (formula_tree d) (none_less applies (AppliesToSome s (d ∷ ds)) (λ e. inl) reading.order k), each_listed_none s ds (none_less (AppliesToSome s ds) (AppliesToSome s (d ∷ ds)) (λ e. inr) reading.order k))
 
 -- ---- the formula and its assumptions together
 
@@ -188,10 +195,9 @@ module _ (s : State) (f : FormulaTree) (gs : List Formula) where
   -- the first cause in the formula, joined to that in its assumptions, is the first in any of them
   first_in_parts : (stop after : Option StaticError) → FirstAmong (AppliesToSome s gs) stop → IsFirstWith s f stop after → FirstAmong (AppliesAmong s (also f given)) after
   first_in_parts stop after h k =
-      subst (FirstAmong (AppliesAmong s (also f given))) (sym k.joined)
-      (first_same (λ d. AppliesToSome s gs d ⊎ Here d) (AppliesAmong s (also f given))
-      (λ d. let r = some_listed (λ g. reading.Applies s.context s.bound s.names g d) f gs in (λ x. r.1 (⊎_elim inr inl x), λ x. ⊎_elim inr inl (r.0 x))) (earlier_of stop k.cause)
-      (first_of_both (AppliesToSome s gs) Here stop k.cause h k.first))
+      first_same (λ d. AppliesToSome s gs d ⊎ Here d) (AppliesAmong s (also f given))
+      (λ d. let r = some_listed (λ g. reading.Applies s.context s.bound s.names g d) f gs in (λ x. r.1 (⊎_elim inr inl x), λ x. ⊎_elim inr inl (r.0 x))) after
+      (first_of_both (AppliesToSome s gs) Here stop k.cause after h k.first k.joined)
 
   pub parts_unread : (stop : Option StaticError) (e : StaticError) → FirstAmong (AppliesToSome s gs) stop → IsFirstWith s f stop (Some e) → IsFirstCauseAmong s (also f given) e
   parts_unread stop e h k = let there = first_in_parts stop (Some e) h k in λ other. record { applies = there.1; first = there.2 }
@@ -199,10 +205,11 @@ module _ (s : State) (f : FormulaTree) (gs : List Formula) where
   pub parts_readable : (stop : Option StaticError) → FirstAmong (AppliesToSome s gs) stop → IsFirstWith s f stop None → AreReadable s (also f given)
   parts_readable stop h k =
       let there = first_in_parts stop None h k in
-      each_of_list (IsReadable s) f gs (readable_where_none s f (λ d l x. there d l ((some_listed (λ g. reading.Applies s.context s.bound s.names g d) f gs).1 (inl x))))
-      (each_listed_none s gs (λ d l x. there d l ((some_listed (λ g. reading.Applies s.context s.bound s.names g d) f gs).1 (inr x))))
+      each_of_list (IsReadable s) f gs (readable_where_none s f (none_less Here (AppliesAmong s (also f given)) (λ d x. (some_listed (λ g. reading.Applies s.context s.bound s.names g d) f gs).1 (inl x)) reading.order there))
+      (each_listed_none s gs (none_less (AppliesToSome s gs) (AppliesAmong s (also f given)) (λ d x. (some_listed (λ g. reading.Applies s.context s.bound s.names g d) f gs).1 (inr x)) reading.order there))
 
 -- ---- formulas alone
+
 
 pub all_readable : (s : State) (gs : List Formula) → FirstAmong (AppliesToSome s gs) None → AreReadable s (formulas_of (map formula_tree gs))
 all_readable s gs k = each_of_given (IsReadable s) gs (each_listed_none s gs k)
@@ -215,20 +222,20 @@ all_unread s gs e h =
 -- ---- a quantifier where none may be
 
 -- no earlier cause applies to what is resolved
-pub early_readable : (s : State) (f : FormulaTree) (gs : FormulaTrees) → AreReadable s (also f gs) → (d : StaticError) → IsBefore d static.Overflow → ¬ (AppliesAmong s (also f gs) d)
-early_readable s f gs h d l = no_formula (IsReadable s) (λ g. reading.Applies s.context s.bound s.names g d) (λ g k. readable_part s g k d (omega (arith, l))) (also f gs) h
+pub early_readable : (s : State) (f : FormulaTree) (gs : FormulaTrees) → AreReadable s (also f gs) → HasNoEarlier s (also f gs) static.Overflow
+early_readable s f gs h = each_before (λ d. ¬ (AppliesAmong s (also f gs) d)) static.Overflow (readable_applies s (also f gs) h)
 
 -- nor where the reading overflows
-pub early_overflow : (s : State) (f : FormulaTree) (gs : FormulaTrees) → AreUnread s (also f gs) error.Overflow → (d : StaticError) → IsBefore d static.Overflow → ¬ (AppliesAmong s (also f gs) d)
+pub early_overflow : (s : State) (f : FormulaTree) (gs : FormulaTrees) → AreUnread s (also f gs) error.Overflow → HasNoEarlier s (also f gs) static.Overflow
 early_overflow s f gs h = split h.0 h.1 h.2
   where
-    split : (e : StaticError) → error.Overflow ≡ static_refusal e → IsFirstCauseAmong s (also f gs) e → (d : StaticError) → IsBefore d static.Overflow → ¬ (AppliesAmong s (also f gs) d)
-    split static.Overflow p k d l = (k (λ e. absurd (cc (e)))).first d l
-    split static.Unbound p k d l = absurd (cc (p))
-    split static.FormulaAsTerm p k d l = absurd (cc (p))
-    split static.Nonlinear p k d l = absurd (cc (p))
-    split static.Division p k d l = absurd (cc (p))
-    split static.CongruenceContext p k d l = absurd (cc (p))
-    split static.Modulus p k d l = absurd (cc (p))
-    split static.Depth p k d l = absurd (cc (p))
-    split static.Memory p k d l = absurd (cc (p))
+    split : (e : StaticError) → error.Overflow ≡ static_refusal e → IsFirstCauseAmong s (also f gs) e → HasNoEarlier s (also f gs) static.Overflow
+    split static.Overflow p k = (k (λ e. absurd (cc (e)))).first
+    split static.Unbound p k = absurd (cc (p))
+    split static.FormulaAsTerm p k = absurd (cc (p))
+    split static.Nonlinear p k = absurd (cc (p))
+    split static.Division p k = absurd (cc (p))
+    split static.CongruenceContext p k = absurd (cc (p))
+    split static.Modulus p k = absurd (cc (p))
+    split static.Depth p k = absurd (cc (p))
+    split static.Memory p k = absurd (cc (p))

@@ -1,7 +1,7 @@
 -- Causes of refusals, in their order: the list is walked from its front, one cause after another.
-use Rattle.std.proofs.Common.{◌≡◌, ◌≢◌, inl, inr, ⊎_elim, ℕ, ◌<◌, ◌≤◌, List, [], ◌∷◌, ◌++◌, sym, ap, ◌∙◌, subst, refl, arith, lit<}
+use Rattle.std.proofs.Common.{◌≡◌, ◌≢◌, inl, inr, ⊎_elim, ℕ, ◌<◌, ◌≤◌, List, [], ◌∷◌, ◌++◌, sym, ap, ◌∙◌, subst, refl, rules}
 use Rattle.formula_meaning.specs.Some.{SomeOf, EachOf}
-use Rattle.qe_syntax.specs.Trees.{FormulaTree}
+use Rattle.qe_syntax.specs.Trees.{FormulaTree, FormulaTrees}
 use Rattle.formula_tree.specs.Resolving.{place, names_after}
 use Rattle.formula_tree.specs.Causes.{IsBound, IsNonlinear, Divides, IsBadModulus, OverflowsInReading}
 use Rattle.formula_resolving.specs.declared.error.StaticError.{StaticError}
@@ -16,6 +16,7 @@ use Rattle.session_meaning.specs.Uses.{Use}
 use Rattle.session_meaning.specs.Causes.{SomeFormula, IsCause, HasNone, IsAccepted, IsFirst}
 use Rattle.session_meaning.specs.Words.{before, order}
 use Rattle.session_meaning.specs.State.{State}
+use Rattle.formula_resolving.proofs.Order.{each_cause}
 use Rattle.problem_reading.proofs.PartLemmas.{some_formula, no_formula}
 
 -- ---- lists
@@ -23,6 +24,10 @@ use Rattle.problem_reading.proofs.PartLemmas.{some_formula, no_formula}
 each_last : {X : Type 0} (P : X → Type 0) (xs : List X) (x : X) → EachOf P xs → P x → EachOf P (xs ++ x ∷ [])
 each_last P [] x h p = (p, tt)
 each_last P (y ∷ ys) x h p = (h.0, each_last P ys x h.1 p)
+
+each_but_last : {X : Type 0} (P : X → Type 0) (xs : List X) (x : X) → EachOf P (xs ++ x ∷ []) → EachOf P xs × P x
+each_but_last P [] x h = (tt, h.0)
+each_but_last P (y ∷ ys) x h = let r = each_but_last P ys x h.1 in ((h.0, r.0), r.1)
 
 each_front : {X : Type 0} (P : X → Type 0) (xs ys : List X) → EachOf P (xs ++ ys) → EachOf P xs
 each_front P [] ys h = tt
@@ -77,8 +82,9 @@ module _ (m : Meaning) (s : State) (limit : ℕ) (u : Use) where
 
   -- ---- causes in reading
 
-  less : (n k : StaticError) → IsBefore n k → HasNoEarlier s m.formulas k → HasNoEarlier s m.formulas n
-  less n k b first d l = first d (omega (arith, l, b))
+  -- where none before the next cause applies, this one does not, nor one before it
+  less : (d after : StaticError) → reading.before after ≡ reading.before d ++ d ∷ [] → HasNoEarlier s m.formulas after → HasNoEarlier s m.formulas d × (¬ (AppliesAmong s m.formulas d))
+  less d after p first = each_but_last (λ e. ¬ (AppliesAmong s m.formulas e)) (reading.before d) d (subst (EachOf (λ e. ¬ (AppliesAmong s m.formulas e))) p first)
 
   module _ (numbers : AreNumbered s.names m.formulas) where
     -- a cause that speaks of the names of the state is one of the names after the formula, and the other way round
@@ -108,61 +114,69 @@ module _ (m : Meaning) (s : State) (limit : ℕ) (u : Use) where
     Further = SomeOf (IsBound s.bound) m.further
 
     to_term : HasNoEarlier s m.formulas static.FormulaAsTerm → HasNone m s limit u (before error.FormulaAsTerm)
-    to_term first = then_clear error.Unbound error.FormulaAsTerm refl to_unbound (first static.Unbound (lit< tt))
+    to_term first = then_clear error.Unbound error.FormulaAsTerm refl to_unbound first.0
 
     module _ (free : ¬ Further) where
       to_nonlinear : HasNoEarlier s m.formulas static.Nonlinear → HasNone m s limit u (before error.Nonlinear)
-      to_nonlinear first = then_clear error.FormulaAsTerm error.Nonlinear refl (to_term (less static.FormulaAsTerm static.Nonlinear (lit< tt) first)) (λ h. ⊎_elim (first static.FormulaAsTerm (lit< tt)) free h)
+      to_nonlinear first = let n = less static.FormulaAsTerm static.Nonlinear refl first in then_clear error.FormulaAsTerm error.Nonlinear refl (to_term n.0) (λ h. ⊎_elim n.1 free h)
 
       to_division : HasNoEarlier s m.formulas static.Division → HasNone m s limit u (before error.Division)
       to_division first =
-          then_clear error.Nonlinear error.Division refl (to_nonlinear (less static.Nonlinear static.Division (lit< tt) first))
-          (λ h. first static.Nonlinear (lit< tt) (after_here (λ ns. IsNonlinear s.context (place ns)) h))
+          let n = less static.Nonlinear static.Division refl first in
+          then_clear error.Nonlinear error.Division refl (to_nonlinear n.0) (λ h. n.1 (after_here (λ ns. IsNonlinear s.context (place ns)) h))
 
       to_congruence : HasNoEarlier s m.formulas static.CongruenceContext → HasNone m s limit u (before error.CongruenceContext)
       to_congruence first =
-          then_clear error.Division error.CongruenceContext refl (to_division (less static.Division static.CongruenceContext (lit< tt) first))
-          (λ h. first static.Division (lit< tt) (after_here (λ ns. Divides s.context (place ns)) h))
+          let n = less static.Division static.CongruenceContext refl first in
+          then_clear error.Division error.CongruenceContext refl (to_division n.0) (λ h. n.1 (after_here (λ ns. Divides s.context (place ns)) h))
 
       to_modulus : HasNoEarlier s m.formulas static.Modulus → HasNone m s limit u (before error.Modulus)
-      to_modulus first = then_clear error.CongruenceContext error.Modulus refl (to_congruence (less static.CongruenceContext static.Modulus (lit< tt) first)) (first static.CongruenceContext (lit< tt))
+      to_modulus first = let n = less static.CongruenceContext static.Modulus refl first in then_clear error.CongruenceContext error.Modulus refl (to_congruence n.0) n.1
 
       to_depth : HasNoEarlier s m.formulas static.Depth → HasNone m s limit u (before error.Depth)
       to_depth first =
-          then_clear error.Modulus error.Depth refl (to_modulus (less static.Modulus static.Depth (lit< tt) first))
-          (λ h. first static.Modulus (lit< tt) (after_here (λ ns. IsBadModulus s.context (place ns)) h))
+          let n = less static.Modulus static.Depth refl first in
+          then_clear error.Modulus error.Depth refl (to_modulus n.0) (λ h. n.1 (after_here (λ ns. IsBadModulus s.context (place ns)) h))
 
       -- where no cause in reading applies but an overflow, none before the point does
       pub to_point : HasNoEarlier s m.formulas static.Overflow → HasNone m s limit u (before error.Point)
-      to_point first = then_clear error.Depth error.Point refl (to_depth (less static.Depth static.Overflow (lit< tt) first)) (first static.Depth (lit< tt))
+      to_point first = let n = less static.Depth static.Overflow refl first in then_clear error.Depth error.Point refl (to_depth n.0) n.1
 
     -- the first cause in reading is the first of all, where it is no overflow, and from the second on no further name is bound
     pub first_in_reading : (d : StaticError) → IsBefore d static.Overflow → IsFirstAmong s m.formulas d → (IsBefore static.FormulaAsTerm d → ¬ Further) → IsFirst m s limit u (static_refusal d)
     first_in_reading static.Unbound l h free = record { applies = inl (cause_of_reading static.Unbound h.applies (λ e. absurd (cc (e)))); first = to_unbound }
     first_in_reading static.FormulaAsTerm l h free = record { applies = inl (cause_of_reading static.FormulaAsTerm h.applies (λ e. absurd (cc (e)))); first = to_term h.first }
-    first_in_reading static.Nonlinear l h free = record { applies = inl (cause_of_reading static.Nonlinear h.applies (λ e. absurd (cc (e)))); first = to_nonlinear (free (lit< tt)) h.first }
-    first_in_reading static.Division l h free = record { applies = inl (cause_of_reading static.Division h.applies (λ e. absurd (cc (e)))); first = to_division (free (lit< tt)) h.first }
-    first_in_reading static.CongruenceContext l h free = record { applies = inl (cause_of_reading static.CongruenceContext h.applies (λ e. absurd (cc (e)))); first = to_congruence (free (lit< tt)) h.first }
-    first_in_reading static.Modulus l h free = record { applies = inl (cause_of_reading static.Modulus h.applies (λ e. absurd (cc (e)))); first = to_modulus (free (lit< tt)) h.first }
-    first_in_reading static.Depth l h free = record { applies = inl (cause_of_reading static.Depth h.applies (λ e. absurd (cc (e)))); first = to_depth (free (lit< tt)) h.first }
-    first_in_reading static.Overflow l h free = absurd (omega arith)
-    first_in_reading static.Memory l h free = absurd (omega arith)
+    first_in_reading static.Nonlinear l h free = record { applies = inl (cause_of_reading static.Nonlinear h.applies (λ e. absurd (cc (e)))); first = to_nonlinear (free (inr (inl refl))) h.first }
+    first_in_reading static.Division l h free = record { applies = inl (cause_of_reading static.Division h.applies (λ e. absurd (cc (e)))); first = to_division (free (inr (inl refl))) h.first }
+    first_in_reading static.CongruenceContext l h free = record { applies = inl (cause_of_reading static.CongruenceContext h.applies (λ e. absurd (cc (e)))); first = to_congruence (free (inr (inl refl))) h.first }
+    first_in_reading static.Modulus l h free = record { applies = inl (cause_of_reading static.Modulus h.applies (λ e. absurd (cc (e)))); first = to_modulus (free (inr (inl refl))) h.first }
+    first_in_reading static.Depth l h free = record { applies = inl (cause_of_reading static.Depth h.applies (λ e. absurd (cc (e)))); first = to_depth (free (inr (inl refl))) h.first }
+    first_in_reading static.Overflow l h free = absurd (search rules)
+    first_in_reading static.Memory l h free = absurd (search rules)
 
     -- a further name that is bound is a cause beside the formulas that are named as terms
     pub bound_first : HasNoEarlier s m.formulas static.FormulaAsTerm → Further → IsFirst m s limit u error.FormulaAsTerm
     bound_first first h = record { applies = inl (inr h); first = to_term first }
 
 -- no cause applies to a formula that is resolved
-pub readable_part : (s : State) (g : FormulaTree) → IsReadable s g → (d : StaticError) → IsBefore d static.Memory → ¬ (reading.Applies s.context s.bound s.names g d)
-readable_part s g h static.Unbound l k = h.bound_names k
-readable_part s g h static.FormulaAsTerm l k = h.variables k
-readable_part s g h static.Nonlinear l k = h.linear k
-readable_part s g h static.Division l k = h.undivided k
-readable_part s g h static.CongruenceContext l k = h.congruences k
-readable_part s g h static.Modulus l k = h.moduli k
-readable_part s g h static.Depth l k = h.flat k
-readable_part s g h static.Overflow l k = h.within k
-readable_part s g h static.Memory l k = absurd (omega arith)
+readable_part : (s : State) (g : FormulaTree) → IsReadable s g → (d : StaticError) → d ≢ static.Memory → ¬ (reading.Applies s.context s.bound s.names g d)
+readable_part s g h static.Unbound n k = h.bound_names k
+readable_part s g h static.FormulaAsTerm n k = h.variables k
+readable_part s g h static.Nonlinear n k = h.linear k
+readable_part s g h static.Division n k = h.undivided k
+readable_part s g h static.CongruenceContext n k = h.congruences k
+readable_part s g h static.Modulus n k = h.moduli k
+readable_part s g h static.Depth n k = h.flat k
+readable_part s g h static.Overflow n k = h.within k
+readable_part s g h static.Memory n k = n refl
+
+pub readable_none : (s : State) (g : FormulaTree) → IsReadable s g → EachOf (λ d. ¬ (reading.Applies s.context s.bound s.names g d)) reading.order
+readable_none s g h = each_cause (λ d. ¬ (reading.Applies s.context s.bound s.names g d)) (readable_part s g h)
+
+-- nor to several
+pub readable_applies : (s : State) (fs : FormulaTrees) → AreReadable s fs → EachOf (λ d. ¬ (AppliesAmong s fs d)) reading.order
+readable_applies s fs h =
+    each_cause (λ d. ¬ (AppliesAmong s fs d)) (λ d n. no_formula (IsReadable s) (λ g. reading.Applies s.context s.bound s.names g d) (λ g k. readable_part s g k d n) fs h)
 
 -- ---- commands without a point
 
@@ -192,13 +206,13 @@ module _ (m : Meaning) (s : State) (limit : ℕ) (u : Use) (numbers : AreNumbere
   quantified_refuses h first = record { applies = inl h; first = to_quantified first }
 
   unread_one : (d : StaticError) → d ≢ static.Memory → (d ≡ static.Overflow → ¬ (m.must.quantified s limit)) → IsFirstAmong s m.formulas d → IsFirst m s limit u (static_refusal d)
-  unread_one static.Unbound other free h = first_in_reading m s limit u numbers static.Unbound (lit< tt) h (λ l. no_further)
-  unread_one static.FormulaAsTerm other free h = first_in_reading m s limit u numbers static.FormulaAsTerm (lit< tt) h (λ l. no_further)
-  unread_one static.Nonlinear other free h = first_in_reading m s limit u numbers static.Nonlinear (lit< tt) h (λ l. no_further)
-  unread_one static.Division other free h = first_in_reading m s limit u numbers static.Division (lit< tt) h (λ l. no_further)
-  unread_one static.CongruenceContext other free h = first_in_reading m s limit u numbers static.CongruenceContext (lit< tt) h (λ l. no_further)
-  unread_one static.Modulus other free h = first_in_reading m s limit u numbers static.Modulus (lit< tt) h (λ l. no_further)
-  unread_one static.Depth other free h = first_in_reading m s limit u numbers static.Depth (lit< tt) h (λ l. no_further)
+  unread_one static.Unbound other free h = first_in_reading m s limit u numbers static.Unbound (search rules) h (λ l. no_further)
+  unread_one static.FormulaAsTerm other free h = first_in_reading m s limit u numbers static.FormulaAsTerm (search rules) h (λ l. no_further)
+  unread_one static.Nonlinear other free h = first_in_reading m s limit u numbers static.Nonlinear (search rules) h (λ l. no_further)
+  unread_one static.Division other free h = first_in_reading m s limit u numbers static.Division (search rules) h (λ l. no_further)
+  unread_one static.CongruenceContext other free h = first_in_reading m s limit u numbers static.CongruenceContext (search rules) h (λ l. no_further)
+  unread_one static.Modulus other free h = first_in_reading m s limit u numbers static.Modulus (search rules) h (λ l. no_further)
+  unread_one static.Depth other free h = first_in_reading m s limit u numbers static.Depth (search rules) h (λ l. no_further)
   unread_one static.Overflow other free h = record { applies = inl (cause_of_reading m s limit u numbers static.Overflow h.applies other); first = to_overflow h.first (free refl) }
   unread_one static.Memory other free h = absurd (other refl)
 
@@ -208,15 +222,15 @@ module _ (m : Meaning) (s : State) (limit : ℕ) (u : Use) (numbers : AreNumbere
       let no_memory : h.0 ≢ static.Memory = (λ p. other (h.1 ∙ ap static_refusal p)) in
       subst (IsFirst m s limit u) (sym h.1) (unread_one h.0 no_memory (λ p. free (h.1 ∙ ap static_refusal p)) (h.2 no_memory))
 
-  readable_applies : AreReadable s m.formulas → HasNoEarlier s m.formulas static.Memory
-  readable_applies h d l = no_formula (IsReadable s) (λ g. reading.Applies s.context s.bound s.names g d) (λ g k. readable_part s g k d l) m.formulas h
+  overflows_last : AreReadable s m.formulas → HasNoEarlier s m.formulas static.Overflow × (¬ (AppliesAmong s m.formulas static.Overflow))
+  overflows_last h = less m s limit u static.Overflow static.Memory refl (readable_applies s m.formulas h)
 
   pub ready_below : AreReadable s m.formulas → ¬ (m.must.quantified s limit) → HasNone m s limit u (before error.Overflow)
-  ready_below h free = to_overflow (λ d l. readable_applies h d (omega (arith, l))) free
+  ready_below h free = to_overflow (overflows_last h).0 free
 
   pub readable_below : AreReadable s m.formulas → ¬ (m.must.quantified s limit) → ¬ (m.must.overflow s limit) → HasNone m s limit u (before error.Nodes)
   readable_below h free fits =
-      then_clear m s limit u error.Overflow error.Nodes refl (ready_below h free) (λ k. ⊎_elim (λ p. readable_applies h static.Overflow (lit< tt) (overflow_here m s limit u numbers p)) fits k)
+      then_clear m s limit u error.Overflow error.Nodes refl (ready_below h free) (λ k. ⊎_elim (λ p. (overflows_last h).1 (overflow_here m s limit u numbers p)) fits k)
 
   -- nothing is counted that is refused wherever it applies
   pub below_bindings : HasNone m s limit u (before error.Nodes) → HasNone m s limit u (before error.Bindings)

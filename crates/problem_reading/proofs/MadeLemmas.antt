@@ -29,7 +29,8 @@ use Rattle.session_state.proofs.StateLemmas.{same_state}
 use Rattle.shared_forms.specs.declared.forms.Premised.{Premised}
 use Rattle.standing_assumptions.specs.Trees.{standing_trees}
 use Rattle.problem_reading.specs.Reading.{IsReadable, AreRead, AreUnread, FirstAmong, AppliesToSome, IsFirstWith, IsOneMore, IsReadUnder, IsUnreadUnder}
-use Rattle.problem_reading.proofs.AssumptionLemmas.{among_both, none_before, none_unread, memory_unread, parts_unread, parts_readable}
+use Rattle.problem_reading.proofs.CauseLemmas.{readable_none}
+use Rattle.problem_reading.proofs.AssumptionLemmas.{among_both, none_before, memory_unread, parts_unread, parts_readable}
 
 pub none_made : (nodes : List (Shape FormulaId)) (ids : List FormulaId) → ids ≡ [] → AreMade (IsId nodes) (tree nodes) ids []
 none_made nodes ids e = subst (λ is. AreMade (IsId nodes) (tree nodes) is []) (sym e) (record { are = tt; same = refl })
@@ -94,7 +95,7 @@ under_read s f stop ids new id (Ok p) made readable none same_id atoms well = re
   made = subst (λ i. IsMade (IsId new.store) (tree new.store) i (resolve s.context s.bound s.names f)) (sym same_id) made;
   atoms = atoms;
   well_formed = well;
-  first = record { cause = None; first = none_unread s f readable; joined = sym none };
+  first = record { cause = None; first = readable_none s f readable; joined = sym none };
 }
 
 pub under_unread : (s : State) (f : FormulaTree) (stop : Option StaticError) (r : Result Premised StatementError) → IfErr r (λ e. e ≡ error.Memory) → IfErr r (IsUnreadUnder s f stop)

@@ -1,7 +1,7 @@
 -- What is read of the formulas of a command.
-use Rattle.std.specs.Prelude.{◌≡◌, ◌≢◌, ◌⊎◌, ◌<◌, ℕ, List, [], ◌∷◌, ◌++◌, Option, Some, None, nat_lt, if◌then◌else◌, map}
+use Rattle.std.specs.Prelude.{◌≡◌, ◌≢◌, ◌⊎◌, ℕ, List, [], ◌∷◌, ◌++◌, Option, Some, None, IsSomeAnd, map}
 use Rattle.formula_meaning.specs.Formula.{also}
-use Rattle.formula_meaning.specs.Some.{SomeOf}
+use Rattle.formula_meaning.specs.Some.{SomeOf, Among, EachOf}
 use Rattle.std.specs.List.{AllByRecursion}
 use Rattle.atom_normal.specs.Atoms.{atom_of, IsWellFormed}
 use Rattle.formula_tree.specs.Makers.{IsMade, AreMade}
@@ -16,7 +16,7 @@ use Rattle.formula_tree.specs.Resolving.{names_after, resolve}
 use Rattle.formula_tree.specs.Causes.{IsAccepted as IsResolvable}
 use Rattle.formula_resolving.specs.declared.error.StaticError.{StaticError}
 use Rattle.formula_resolving.specs.declared.error.StaticError.TheVariants as static
-use Rattle.formula_resolving.specs.Refusals.{IsFirstCause, Applies, rank as static_rank}
+use Rattle.formula_resolving.specs.Refusals.{IsFirstCause, Applies, order, before}
 use Rattle.session_meaning.specs.declared.line.StatementError.{StatementError}
 use Rattle.session_meaning.specs.declared.line.StatementError.TheVariants as error
 use Rattle.session_meaning.specs.State.{State}
@@ -50,11 +50,11 @@ AppliesAmong s fs d = SomeFormula (λ g. Applies s.context s.bound s.names g d) 
 
 -- the cause is looked for before the other
 abbrev pub IsBefore : StaticError → StaticError → Type 0
-IsBefore d e = static_rank d < static_rank e
+IsBefore d e = Among (before e) d
 
 -- no cause in reading that is looked for before this one applies to one of them
 abbrev pub HasNoEarlier : State → FormulaTrees → StaticError → Type 0
-HasNoEarlier s fs e = (d : StaticError) → IsBefore d e → ¬ (AppliesAmong s fs d)
+HasNoEarlier s fs e = EachOf (λ d. ¬ (AppliesAmong s fs d)) (before e)
 
 -- it is the first that applies to some of them
 pub record IsFirstAmong (s : State) (fs : FormulaTrees) (d : StaticError) : Type 0 where
@@ -89,17 +89,18 @@ pub record IsOneMore (after : SessionState) (old new : List FormulaId) (t : Tree
 
 -- The first cause for which P holds, or None where there is none. Want of memory is no cause.
 abbrev pub FirstAmong : (StaticError → Type 0) → Option StaticError → Type 0
-FirstAmong P None = (d : StaticError) → IsBefore d static.Memory → ¬ (P d)
-FirstAmong P (Some e) = IsBefore e static.Memory × P e × ((d : StaticError) → IsBefore d e → ¬ (P d))
+FirstAmong P None = EachOf (λ d. ¬ (P d)) order
+FirstAmong P (Some e) = (e ≢ static.Memory) × P e × EachOf (λ d. ¬ (P d)) (before e)
 
--- the earlier of two causes
-abbrev pub first_of : StaticError → Option StaticError → StaticError
-first_of e None = e
-first_of e (Some d) = if nat_lt (static_rank d) (static_rank e) then d else e
+-- r is the earlier of the cause e and of the other one, if there is one
+abbrev pub IsEarlierOf : StaticError → Option StaticError → StaticError → Type 0
+IsEarlierOf e None r = r ≡ e
+IsEarlierOf e (Some d) r = (IsBefore d e × (r ≡ d)) ⊎ ((¬ (IsBefore d e)) × (r ≡ e))
 
-abbrev pub earlier_of : Option StaticError → Option StaticError → Option StaticError
-earlier_of stop None = stop
-earlier_of stop (Some e) = Some (first_of e stop)
+-- the earlier of two causes, either of which may be missing
+abbrev pub IsEarlierOfBoth : Option StaticError → Option StaticError → Option StaticError → Type 0
+IsEarlierOfBoth stop None after = after ≡ stop
+IsEarlierOfBoth stop (Some e) after = IsSomeAnd after (IsEarlierOf e stop)
 
 -- the cause applies to some formula of the list
 abbrev pub AppliesToSome : State → List Formula → StaticError → Type 0
@@ -109,7 +110,7 @@ AppliesToSome s gs d = SomeOf (λ g. Applies s.context s.bound s.names (formula_
 pub record IsFirstWith (s : State) (g : FormulaTree) (stop after : Option StaticError) : Type 0 where
   pub cause : Option StaticError
   pub first : FirstAmong (λ d. Applies s.context s.bound s.names g d) cause
-  pub joined : after ≡ earlier_of stop cause
+  pub joined : IsEarlierOfBoth stop cause after
 
 -- The formula is read, and no cause applies to it or came before: this is its id, and these are the atoms among the standing assumptions and the formulas of these ids.
 pub record IsReadUnder (s : State) (f : FormulaTree) (stop : Option StaticError) (ids : List FormulaId) (after : SessionState) (read : Premised) : Type 0 where

@@ -8,14 +8,14 @@ ghost use Rattle.formula_tree.specs.Makers.{AreMade};
 ghost use Rattle.formula_tree.specs.Names.{with_name};
 ghost use Rattle.formula_tree.specs.Resolving.{resolve, formula_variables, all_variables};
 ghost use Rattle.formula_resolving.specs.Numbering.{Grows};
-ghost use Rattle.formula_resolving.specs.Refusals.{AreIds, rank};
+ghost use Rattle.formula_resolving.specs.Refusals.{AreIds};
 ghost use Rattle.formula_store.specs.Nodes.{tree, IsId};
 ghost use Rattle.qe_syntax.specs.Writable.{IsWritableFormula};
 ghost use Rattle.qe_syntax.specs.Trees.{formula_tree, formulas_of};
 ghost use Rattle.session_meaning.specs.Assumptions.{atoms_alone, atoms_among, resolved_all};
 ghost use Rattle.standing_assumptions.specs.Trees.{standing_trees};
 ghost use Rattle.session_state.specs.Keeping.{state_of};
-ghost use Rattle.problem_reading.specs.Reading.{HasNumbers, AreNumbered, AreUnread, AreRead, AreAllRead, IsOneMore, IsReadUnder, IsUnreadUnder, FirstAmong, first_of, AppliesToSome, IsFirstWith};
+ghost use Rattle.problem_reading.specs.Reading.{HasNumbers, AreNumbered, AreUnread, AreRead, AreAllRead, IsOneMore, IsReadUnder, IsUnreadUnder, FirstAmong, IsEarlierOf, AppliesToSome, IsFirstWith};
 ghost use Rattle.session_state.specs.Growth.{KeepsState};
 
 use crate::reading::resolved_part;
@@ -239,7 +239,7 @@ fn add_atom(state: &SessionState, id: FormulaId, atoms: &mut Vec<Atom>) -> Resul
 
 /// The earlier of two causes. Want of memory is none.
 fn cause(error: StaticError, stop: Option<StaticError>) -> Result<StaticError, StatementError>
-    ensures earlier { IfOk result (λ e. e ≡ first_of error stop) }
+    ensures earlier { IfOk result (IsEarlierOf error stop) }
     ensures cause { OnOk result (error ≢ StaticError.Memory) }
     ensures memory { IfErr result (λ e. e ≡ StatementError.Memory) }
 {
@@ -251,27 +251,10 @@ fn cause(error: StaticError, stop: Option<StaticError>) -> Result<StaticError, S
 
 /// The earlier of two causes in the order in which they are looked for.
 fn earlier(error: StaticError, stop: Option<StaticError>) -> StaticError
-    ensures { result ≡ first_of error stop }
+    ensures { IsEarlierOf error stop result }
 {
     match stop {
-        Some(other) if place(other) < place(error) => other,
-        _ => error,
-    }
-}
-
-/// The place of a cause in that order.
-fn place(error: StaticError) -> u8
-    ensures { result ≡ rank error }
-{
-    match error {
-        StaticError::Unbound => 0,
-        StaticError::FormulaAsTerm => 1,
-        StaticError::Nonlinear => 2,
-        StaticError::Division => 3,
-        StaticError::CongruenceContext => 4,
-        StaticError::Modulus => 5,
-        StaticError::Depth => 6,
-        StaticError::Overflow => 7,
-        StaticError::Memory => 8,
+        Some(other) => error.min(other),
+        None => error,
     }
 }

@@ -1,4 +1,4 @@
-use Rattle.std.proofs.Common.{◌≡◌, ◌∙◌, sym, ap, subst, map, take, List}
+use Rattle.std.proofs.Common.{◌≡◌, ◌∙◌, sym, ap, subst, map, take, List, rules}
 use Rattle.std.specs.List.{AllByRecursion}
 use Rattle.qe_syntax.specs.declared.tree.Formula.{Formula}
 use Rattle.qe_syntax.specs.Writable.{IsWritableFormula}
@@ -19,7 +19,7 @@ use Rattle.problem_reading.proofs.assumptions.read_given.Goals as goal
 
 pub loop-formula-init : goal.loop-formula-init
 loop-formula-init c = record {
-  first = λ d l h. h;
+  first = search rules;
   made = λ e. none_made c.args.state.now.store c.args.ids.now.items c.requires.empty;
   proper = c.requires.proper;
   numbered = c.requires.numbered;

@@ -1,4 +1,4 @@
-use Rattle.std.proofs.Common.{Some, ap, rules, refl}
+use Rattle.std.proofs.Common.{Some}
 use Rattle.qe_syntax.specs.Trees.{formula_tree}
 use Rattle.session_state.specs.Keeping.{state_of}
 use Rattle.problem_reading.proofs.AssumptionLemmas.{first_unread}
@@ -8,5 +8,5 @@ pub returns-in_ok-error-in-Err-clause-first : goal.returns-in_ok-error-in-Err-cl
 returns-in_ok-error-in-Err-clause-first c = record {
   cause = Some c.in-Err.error;
   first = first_unread (state_of c.args.state.now) (formula_tree c.args.formula.now) c.in-Err.error c.in_ok-error-in-Err.ensures.cause c.in-Err.ensures.unread;
-  joined = ap Some c.in_ok-error-in-Err.ensures.earlier;
+  joined = c.in_ok-error-in-Err.ensures.earlier;
 }

@@ -4,8 +4,8 @@ use Rattle.std.specs.List.{AllByRecursion}
 use Rattle.qe_syntax.specs.Trees.{formula_tree}
 use Rattle.formula_store.specs.Nodes.{tree, IsId}
 use Rattle.session_state.specs.Keeping.{state_of}
-use Rattle.problem_reading.specs.Reading.{IsFirstWith, earlier_of}
-use Rattle.problem_reading.proofs.AssumptionLemmas.{first_unread, none_unread}
+use Rattle.problem_reading.proofs.AssumptionLemmas.{first_unread}
+use Rattle.problem_reading.proofs.CauseLemmas.{readable_none}
 use Rattle.problem_reading.proofs.MadeLemmas.{still_ids, under_read, under_unread}
 use Rattle.problem_reading.proofs.assumptions.read_under.Goals as goal
 
@@ -24,7 +24,7 @@ pub returns-in-Some-clause-unread : goal.returns-in-Some-clause-unread
 returns-in-Some-clause-unread c =
     inr (c.in-Some.error, c.static_refusal.ensures, record {
       cause = None;
-      first = none_unread (state_of c.args.state.now) (formula_tree c.args.formula.now) c.in-Ok.ensures.readable;
+      first = readable_none (state_of c.args.state.now) (formula_tree c.args.formula.now) c.in-Ok.ensures.readable;
       joined = sym c.in-Some.is;
     })
 
@@ -33,5 +33,5 @@ returns-in_ok-error-in-Err-clause-unread c =
     inr (c.in_ok-error-in-Err.error, c.static_refusal-in-Err.ensures, record {
       cause = Some c.in-Err.error;
       first = first_unread (state_of c.args.state.now) (formula_tree c.args.formula.now) c.in-Err.error c.in_ok-error-in-Err.ensures.cause c.in-Err.ensures.unread;
-      joined = ap Some c.in_ok-error-in-Err.ensures.earlier;
+      joined = c.in_ok-error-in-Err.ensures.earlier;
     })
