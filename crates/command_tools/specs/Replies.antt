@@ -1,7 +1,7 @@
 -- What a command is refused and answered with, by its meaning.
 use Rattle.std.specs.Prelude.{◌≡◌, ◌≢◌, ℕ, List, Bool, Option, Some, None}
 use Rattle.formula_meaning.specs.Tree.{Tree}
-use Rattle.qe_syntax.specs.Statements.{CommandTree, ActionTree, Empty, Ignored, Finish, Choose, Say, Assign, StatementTree}
+use Rattle.qe_syntax.specs.Statements.{CommandTree, ActionTree, Empty, Ignored, Finish, Choose, Say, Assign, Assume, Retract, StatementTree}
 use Rattle.session_meaning.specs.declared.line.Line.{Line}
 use Rattle.session_meaning.specs.declared.line.StatementError.{StatementError}
 use Rattle.session_meaning.specs.declared.line.StatementError.TheVariants as error
@@ -54,3 +54,5 @@ BindsFormula Finish = Unit {0}
 BindsFormula (Choose setting) = Unit {0}
 BindsFormula (Say c) = Unit {0}
 BindsFormula (Assign x c) = GivesFormula (meaning c).answer
+BindsFormula (Assume given) = Unit {0}
+BindsFormula Retract = Unit {0}

@@ -125,10 +125,10 @@ module _ (state : SessionState) (names : List (List ℕ)) (f : FormulaTree) (es 
     (is : names ≡ fold with_name state.names (formula_variables f ++ entry_names es)) (proper : IsWritableFormula f) (proper_entries : AreWritableEntries es) where
   -- the state where the variables of the command have their numbers
   abbrev pub named_session : SessionState
-  named_session = record { alloc = state.alloc; context = state.context; names = names; bindings = state.bindings; store = state.store; kept = state.kept }
+  named_session = record { alloc = state.alloc; context = state.context; names = names; bindings = state.bindings; standing = state.standing; store = state.store; kept = state.kept }
 
   pub start : state_of named_session ≡ numbered (meaning (Holds f es)) (state_of state)
-  start = state_parts _ _ _ _ _ _ refl (is ∙ ap (λ xs. fold with_name state.names (xs ++ entry_names es)) (sym (append-nil (formula_variables f)))) refl
+  start = state_parts _ _ _ _ _ _ _ _ refl (is ∙ ap (λ xs. fold with_name state.names (xs ++ entry_names es)) (sym (append-nil (formula_variables f)))) refl refl
 
   pub session_named : IsSessionState named_session
   session_named = record {

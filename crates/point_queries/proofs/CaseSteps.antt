@@ -79,7 +79,7 @@ module _ (s : State) (f : FormulaTree) (gs : FormulaTrees) (numbers : AreNumbere
   said = use_of None printed
 
   plain : HasNoPoint asked s limit
-  plain = record { further = refl; point = λ h. h; unvalued = λ h. h; nodes = λ h. h; text = λ h. h }
+  plain = record { further = refl; point = λ h. h; unvalued = λ h. h; nodes = λ h. h }
 
   pub cases_unread : (e : StatementError) → AreUnread s (also f gs) e → Refuses s limit said (Qea f gs) e
   cases_unread e h other = unread_refuses asked s limit said numbers plain e (λ o q. q) h other
@@ -249,10 +249,10 @@ module _ (state : SessionState) (names : List (List ℕ)) (f : FormulaTree) (gs 
     (is : names ≡ fold with_name state.names (formula_variables f ++ all_variables gs)) (proper : IsWritableFormula f) (proper_given : AreWritableFormulas gs) where
   -- the state where the variables of the command have their numbers
   abbrev pub named_session : SessionState
-  named_session = record { alloc = state.alloc; context = state.context; names = names; bindings = state.bindings; store = state.store; kept = state.kept }
+  named_session = record { alloc = state.alloc; context = state.context; names = names; bindings = state.bindings; standing = state.standing; store = state.store; kept = state.kept }
 
   start : state_of named_session ≡ numbered (meaning (Qea f gs)) (state_of state)
-  start = state_parts _ _ _ _ _ _ refl (is ∙ ap (λ xs. fold with_name state.names xs) (sym (append-nil (formula_variables f ++ all_variables gs)))) refl
+  start = state_parts _ _ _ _ _ _ _ _ refl (is ∙ ap (λ xs. fold with_name state.names xs) (sym (append-nil (formula_variables f ++ all_variables gs)))) refl refl
 
   pub session_named : IsSessionState named_session
   session_named = record {

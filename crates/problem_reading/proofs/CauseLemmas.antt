@@ -180,13 +180,12 @@ readable_applies s fs h =
 
 -- ---- commands without a point
 
--- the command has no point, and is refused neither for what is counted nor for a text of its own wherever that applies
+-- the command has no point, and is not refused for what is counted wherever that applies
 pub record HasNoPoint (m : Meaning) (s : State) (limit : ℕ) : Type 0 where
   pub further : m.further ≡ []
   pub point : ¬ (m.must.point s limit)
   pub unvalued : ¬ (m.must.unvalued s limit)
   pub nodes : ¬ (m.must.nodes s limit)
-  pub text : ¬ (m.must.text s limit)
 
 module _ (m : Meaning) (s : State) (limit : ℕ) (u : Use) (numbers : AreNumbered s.names m.formulas) (plain : HasNoPoint m s limit) where
   no_further : ¬ (SomeOf (IsBound s.bound) m.further)

@@ -2,7 +2,7 @@
 use Rattle.formula_meaning.specs.Tree.{Tree}
 use Rattle.std.proofs.Common.{⊎_elim, ap, ◌≡◌, ℕ, zero, suc, ◌<◌, ◌≤◌, arith, List, Bool, Some, None, sym, subst, refl}
 use Rattle.std.specs.Prelude.{Result, Ok, Err, IfOk, OnOk, IfErr, OnErr}
-use Rattle.qe_syntax.specs.Statements.{CommandTree, ActionTree, Empty, Ignored, Finish, Choose, Say, Assign, StatementTree}
+use Rattle.qe_syntax.specs.Statements.{CommandTree, ActionTree, Empty, Ignored, Finish, Choose, Say, Assign, Assume, Retract, StatementTree}
 use Rattle.redlog_reader.specs.Grammar.{SpellsResult, echo, nnf, pnf, dnf, cnf, simpl, qe, SpellsAction, assign, SpellsStatement, nothing, acting}
 use Rattle.redlog_tokens.specs.declared.terminal.Terminal.{Terminal}
 use Rattle.redlog_reader.specs.Statement.{Spells}
@@ -11,7 +11,7 @@ use Rattle.session_meaning.specs.declared.TheConstants.{MOST_SUBFORMULAS}
 use Rattle.session_meaning.specs.declared.line.Line.{Line}
 use Rattle.session_meaning.specs.State.{State, with_names}
 use Rattle.command_tools.specs.Replies.{use_of, Refuses, IsStopped, IsFormulaAnswer, IsQueryAnswer, BindsFormula}
-use Rattle.session_meaning.specs.Meaning.{Answer, OfFormula, OfText, meaning, numbered, Meaning, MayGive, GivesFormula}
+use Rattle.session_meaning.specs.Meaning.{Answer, OfFormula, OfText, meaning, assumption_meaning, numbered, Meaning, MayGive, GivesFormula}
 use Rattle.session_meaning.specs.Uses.{Use, formula_line}
 use Rattle.session_meaning.specs.Causes.{IsFirst}
 use Rattle.session_meaning.specs.Reply.{Tells, AnswersSaid, Answers, RefusesAction, SpellsRefused, Reply}
@@ -109,6 +109,8 @@ no_word e none s limit printed Finish h = h
 no_word e none s limit printed (Choose w) h = h
 no_word e none s limit printed (Say c) h = none (meaning c) (numbered (meaning c) s) limit (use_of None printed) h
 no_word e none s limit printed (Assign x c) h = none (meaning c) (numbered (meaning c) s) limit (use_of (Some x) printed) h
+no_word e none s limit printed (Assume given) h = none (assumption_meaning given) (numbered (assumption_meaning given) s) limit (use_of None printed) h
+no_word e none s limit printed Retract h = h
 
 module _ (s next : State) (limit : ℕ) (piece : List ℕ) (t : StatementTree) (spelled : Spells piece t) where
   spelled_refused : (e : StatementError) → RefusesAction s limit t.printed t.action e → SpellsRefused s limit piece e

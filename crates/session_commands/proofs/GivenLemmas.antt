@@ -80,13 +80,22 @@ parts_are (wanted.Simplified given) f X h = h
 parts_are (wanted.Eliminated found given) f X h = h
 
 plain_command : (w : FormCommand) (f : FormulaTree) (s : State) (limit : ℕ) → HasNoPoint (meaning (command_of w f)) s limit
-plain_command wanted.Resolved f s limit = record { further = refl; point = λ h. h; unvalued = λ h. h; nodes = λ h. h; text = λ h. h }
-plain_command wanted.NegationNormal f s limit = record { further = refl; point = λ h. h; unvalued = λ h. h; nodes = λ h. h; text = λ h. h }
-plain_command wanted.Prenex f s limit = record { further = refl; point = λ h. h; unvalued = λ h. h; nodes = λ h. h; text = λ h. h }
-plain_command (wanted.Distributed clause_form.Disjunctive) f s limit = record { further = refl; point = λ h. h; unvalued = λ h. h; nodes = λ h. h; text = λ h. h }
-plain_command (wanted.Distributed clause_form.Conjunctive) f s limit = record { further = refl; point = λ h. h; unvalued = λ h. h; nodes = λ h. h; text = λ h. h }
-plain_command (wanted.Simplified given) f s limit = record { further = refl; point = λ h. h; unvalued = λ h. h; nodes = λ h. h; text = λ h. h }
-plain_command (wanted.Eliminated found given) f s limit = record { further = refl; point = λ h. h; unvalued = λ h. h; nodes = λ h. h; text = λ h. h }
+plain_command wanted.Resolved f s limit = record { further = refl; point = λ h. h; unvalued = λ h. h; nodes = λ h. h }
+plain_command wanted.NegationNormal f s limit = record { further = refl; point = λ h. h; unvalued = λ h. h; nodes = λ h. h }
+plain_command wanted.Prenex f s limit = record { further = refl; point = λ h. h; unvalued = λ h. h; nodes = λ h. h }
+plain_command (wanted.Distributed clause_form.Disjunctive) f s limit = record { further = refl; point = λ h. h; unvalued = λ h. h; nodes = λ h. h }
+plain_command (wanted.Distributed clause_form.Conjunctive) f s limit = record { further = refl; point = λ h. h; unvalued = λ h. h; nodes = λ h. h }
+plain_command (wanted.Simplified given) f s limit = record { further = refl; point = λ h. h; unvalued = λ h. h; nodes = λ h. h }
+plain_command (wanted.Eliminated found given) f s limit = record { further = refl; point = λ h. h; unvalued = λ h. h; nodes = λ h. h }
+
+no_own_text : (w : FormCommand) (f : FormulaTree) (s : State) (limit : ℕ) → ¬ ((meaning (command_of w f)).must.text s limit)
+no_own_text wanted.Resolved f s limit = λ h. h
+no_own_text wanted.NegationNormal f s limit = λ h. h
+no_own_text wanted.Prenex f s limit = λ h. h
+no_own_text (wanted.Distributed clause_form.Disjunctive) f s limit = λ h. h
+no_own_text (wanted.Distributed clause_form.Conjunctive) f s limit = λ h. h
+no_own_text (wanted.Simplified given) f s limit = λ h. h
+no_own_text (wanted.Eliminated found given) f s limit = λ h. h
 
 -- the state with their variables
 abbrev pub with_variables : State → FormulaTree → FormulaTrees → State
@@ -415,7 +424,7 @@ module _ (w : FormCommand) (f : FormulaTree) (s : State) (numbers : AreNumbered 
         let same_names = answer_names_once s (command_of w f) long.names names long.named named in
         let here = subst (λ ns. text_limit < length (formula_line target ns long.formula)) same_names long.long in
         short (p, subst (λ u. text_limit < length (formula_line target names u)) (one f s limit t w given long.formula long.determined) here)
-    not_long short (p, inr own_text) = (plain_command w f s limit).text own_text
+    not_long short (p, inr own_text) = no_own_text w f s limit own_text
 
     pub is_given : Every IsAtomInLimit t → MayBind s.bound target t → (answer : Line) → IsLine printed (formula_line target names t) answer
         → ¬ (IsLongText printed (formula_line target names t)) → IsFormulaAnswer s limit (use_of target printed) (command_of w f) answer (state_with (with_names s names) target t)

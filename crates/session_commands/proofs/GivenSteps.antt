@@ -67,6 +67,7 @@ sound_bound s x t h k fits = record {
   variables = h.variables;
   formulas = λ y u e. ⊎_elim (λ old. h.formulas y u old) (λ new. subst (IsSessionFormula s.context (length s.names)) (sym new) k) (bound_there s.bound x y t u e);
   numbers = λ y u e. ⊎_elim (λ old. h.numbers y u old) (λ new. subst (Every IsAtomInLimit) (sym new) fits) (bound_there s.bound x y t u e);
+  standing = h.standing;
 }
 
 -- the names with the variables of the formula and of these assumptions, which are those of the wanted form
@@ -137,7 +138,7 @@ keeps_formed wanted.NegationNormal old read later t k g n = tt
 keeps_formed wanted.Prenex old read later t k g n = tt
 keeps_formed (wanted.Distributed clauses) old read later t k g n = tt
 keeps_formed (wanted.Simplified given) old read later t k g n = tt
-keeps_formed (wanted.Eliminated found given) old read later t k g n = keeps_then old read later k (record { context = g.context; names = n; bindings = g.bindings; store = g.store })
+keeps_formed (wanted.Eliminated found given) old read later t k g n = keeps_then old read later k (record { context = g.context; names = n; bindings = g.bindings; standing = g.standing; store = g.store })
 
 -- ---- the wanted formula, on a state where the variables have their numbers
 
@@ -228,13 +229,13 @@ module _ (w : FormCommand) (f : FormulaTree) (state : SessionState) (numbers : A
 
       -- the state with the formula bound
       abbrev last : Option (List ℕ) → SessionState
-      last o = record { alloc = later.alloc; context = later.context; names = later.names; bindings = bound_after later.bindings o id; store = later.store; kept = later.kept }
+      last o = record { alloc = later.alloc; context = later.context; names = later.names; bindings = bound_after later.bindings o id; standing = later.standing; store = later.store; kept = later.kept }
 
       last_state : (o : Option (List ℕ)) → state_of (last o) ≡ state_with (with_names (state_of state) later.names) o (tree later.store id)
       last_state None = later_state
       last_state (Some x) =
-          state_parts _ _ _ _ _ _ (ap (λ (s : State). s.context) later_state) refl
-          (sym (bind_trees (tree later.store) later.bindings x id) ∙ ap (λ b. bind b x (tree later.store id)) bound_same)
+          state_parts _ _ _ _ _ _ _ _ (ap (λ (s : State). s.context) later_state) refl
+          (sym (bind_trees (tree later.store) later.bindings x id) ∙ ap (λ b. bind b x (tree later.store id)) bound_same) (ap (λ (s : State). s.standing) later_state)
 
       later_session : IsSessionState later
       later_session =
@@ -282,10 +283,10 @@ module _ (w : FormCommand) (f : FormulaTree) (state : SessionState) (numbers : A
 
 module _ (w : FormCommand) (f : FormulaTree) (state : SessionState) (names : List (List ℕ)) (is : names ≡ fold with_name state.names (formula_variables f ++ all_variables (given_trees w))) where
   abbrev pub with_numbers : SessionState
-  with_numbers = record { alloc = state.alloc; context = state.context; names = names; bindings = state.bindings; store = state.store; kept = state.kept }
+  with_numbers = record { alloc = state.alloc; context = state.context; names = names; bindings = state.bindings; standing = state.standing; store = state.store; kept = state.kept }
 
   pub numbered_state : state_of with_numbers ≡ numbered (meaning (command_of w f)) (state_of state)
-  numbered_state = sym (named_is w f (state_of state) ∙ state_parts _ _ _ _ _ _ refl (sym is) refl)
+  numbered_state = sym (named_is w f (state_of state) ∙ state_parts _ _ _ _ _ _ _ _ refl (sym is) refl refl)
 
   pub numbers_there : AreNumbered names (also f (given_trees w))
   numbers_there = subst (λ ms. AreNumbered ms (also f (given_trees w))) (sym is) (numbers_of f (given_trees w) state.names)

@@ -5,3 +5,4 @@ pub mod AnswerLemmas
 pub mod Accepted
 mod RoomLemmas
 mod Retries
+mod StandingLemmas

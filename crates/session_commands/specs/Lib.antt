@@ -1,3 +1,4 @@
 pub mod Steps
 pub mod Accepted
 pub mod Seen
+pub mod Standing

@@ -1,4 +1,4 @@
--- What is seen of a session: the formulas that it keeps, each once, what is bound to names by its place among them, and its
+-- What is seen of a session: the formulas that it keeps, each once, what is bound to names by its place among them, what is assumed, and its
 -- limits; and the state that this stands for.
 use Rattle.std.specs.Prelude.{ℕ, List}
 use Rattle.atom_normal.specs.declared.atoms.Context.{Context}
@@ -9,13 +9,16 @@ use Rattle.formula_store.specs.declared.id.FormulaId.{FormulaId}
 use Rattle.formula_store.specs.Nodes.{tree}
 use Rattle.block_scheduler.specs.declared.limits.Limits.{Limits}
 use Rattle.session_meaning.specs.State.{State}
+use Rattle.standing_assumptions.specs.declared.assumption.Assumption.{Assumption}
+use Rattle.standing_assumptions.specs.Trees.{standing_trees}
 
 pub record Seen : Type 0 where
   pub context : Context
   pub names : List (List ℕ)
   pub bindings : List (List ℕ × FormulaId)
+  pub standing : List Assumption
   pub formulas : List (Shape FormulaId)
   pub limits : Limits
 
 abbrev pub state_in : Seen → State
-state_in s = record { context = context_of s.context; names = s.names; bound = trees_bound (tree s.formulas) s.bindings }
+state_in s = record { context = context_of s.context; names = s.names; bound = trees_bound (tree s.formulas) s.bindings; standing = standing_trees s.standing }

@@ -1,6 +1,7 @@
 //! Answers one statement of a script with one line, or with the word of its refusal.
 #![tactic(auto)]
 
+mod assumptions;
 mod formulas;
 mod laws;
 mod session;

@@ -11,6 +11,7 @@ ghost use Rattle.session_commands.specs.Seen.{state_in};
 ghost use Rattle.session_meaning.specs.State.{first_state, theory_of, chosen};
 ghost use Rattle.session_state.specs.Growth.{GrowsState};
 
+use crate::assumptions::{assume, retract};
 use crate::formulas::{answer_formula, form_command_of};
 use atom_normal::Context;
 use block_scheduler::Limits;
@@ -39,13 +40,13 @@ impl Model for Session {
 
     ghost Value = { Seen };
 
-    ghost view = { λ s. record { context = s.state.context; names = s.state.names; bindings = s.state.bindings; formulas = s.state.store; limits = s.limits } };
+    ghost view = { λ s. record { context = s.state.context; names = s.state.names; bindings = s.state.bindings; standing = s.state.standing; formulas = s.state.store; limits = s.limits } };
 
     ghost invariant = { λ s. IsSessionState s.state × (1 ≤ s.limits.workers) };
 }
 
 impl Session {
-    /// A session under these limits: over the ordered fields, with no names and nothing bound.
+    /// A session under these limits: over the ordered fields, with no names, nothing bound and nothing assumed.
     pub fn new(alloc: Global, limits: Limits) -> Session
         requires { 1 ≤ limits.workers }
         ensures state { state_in result ≡ first_state }
@@ -165,10 +166,12 @@ fn act<R: Threads + Sync, G: Gate + Sync>(
         Action::Assign(name, command) => {
             answer_form_command(workshop, state, command, &Some(*name), statement.printed)
         }
+        Action::Assume(given) => assume(state, given.items(), statement.printed),
+        Action::Retract => retract(state, statement.printed),
     }
 }
 
-/// Chooses the theory. Another one than before drops what is bound.
+/// Chooses the theory. Another one than before drops what is bound and what is assumed.
 fn choose(state: &mut SessionState, setting: Setting, printed: bool) -> Result<Line, StatementError>
     requires { IsSessionState state.old }
     ensures session { OnOk result (IsSessionState state.new) }

@@ -64,14 +64,14 @@ returns-clause-refused g c =
 pub returns-in-Ok-clause-kept : goal.returns-in-Ok-clause-kept
 returns-in-Ok-clause-kept g c =
     let m = c.read_parts.new.state in
-    let later : SessionState = record { alloc = m.alloc; context = m.context; names = m.names; bindings = m.bindings; store = c.wanted_cases.new.store; kept = m.kept } in
-    keeps_then c.args.state.now m later c.read_parts.ensures.kept (record { context = refl; names = refl; bindings = refl; store = c.wanted_cases.ensures.kept })
+    let later : SessionState = record { alloc = m.alloc; context = m.context; names = m.names; bindings = m.bindings; standing = m.standing; store = c.wanted_cases.new.store; kept = m.kept } in
+    keeps_then c.args.state.now m later c.read_parts.ensures.kept (record { context = refl; names = refl; bindings = refl; standing = refl; store = c.wanted_cases.ensures.kept })
 
 pub returns-clause-kept : goal.returns-clause-kept
 returns-clause-kept g c =
     let m = c.read_parts.new.state in
-    let later : SessionState = record { alloc = m.alloc; context = m.context; names = m.names; bindings = m.bindings; store = c.wanted_cases.new.store; kept = m.kept } in
-    keeps_then c.args.state.now m later c.read_parts.ensures.kept (record { context = refl; names = refl; bindings = refl; store = c.wanted_cases.ensures.kept })
+    let later : SessionState = record { alloc = m.alloc; context = m.context; names = m.names; bindings = m.bindings; standing = m.standing; store = c.wanted_cases.new.store; kept = m.kept } in
+    keeps_then c.args.state.now m later c.read_parts.ensures.kept (record { context = refl; names = refl; bindings = refl; standing = refl; store = c.wanted_cases.ensures.kept })
 
 pub returns-in-Ok-clause-readable : goal.returns-in-Ok-clause-readable
 returns-in-Ok-clause-readable g c = c.in_ok-read.ensures.read.readable

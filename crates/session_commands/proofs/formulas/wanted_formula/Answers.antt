@@ -93,26 +93,26 @@ returns-clause-other g c = subst (λ x. ¬ (IsForSize x)) (sym c.forms_refusal.e
 pub returns-in-Ok-clause-grown : goal.returns-in-Ok-clause-grown
 returns-in-Ok-clause-grown g c =
     let m = c.read_wanted.new.state in
-    let later : SessionState = record { alloc = m.alloc; context = m.context; names = c.formed.new.names; bindings = m.bindings; store = c.formed.new.store; kept = m.kept } in
-    keeps_then_grows c.args.state.now m later c.read_wanted.ensures.kept (record { context = refl; names = c.formed.ensures.grown; bindings = refl; store = c.formed.ensures.kept })
+    let later : SessionState = record { alloc = m.alloc; context = m.context; names = c.formed.new.names; bindings = m.bindings; standing = m.standing; store = c.formed.new.store; kept = m.kept } in
+    keeps_then_grows c.args.state.now m later c.read_wanted.ensures.kept (record { context = refl; names = c.formed.ensures.grown; bindings = refl; standing = refl; store = c.formed.ensures.kept })
 
 pub returns-clause-grown : goal.returns-clause-grown
 returns-clause-grown g c =
     let m = c.read_wanted.new.state in
-    let later : SessionState = record { alloc = m.alloc; context = m.context; names = c.formed.new.names; bindings = m.bindings; store = c.formed.new.store; kept = m.kept } in
-    keeps_then_grows c.args.state.now m later c.read_wanted.ensures.kept (record { context = refl; names = c.formed.ensures.grown; bindings = refl; store = c.formed.ensures.kept })
+    let later : SessionState = record { alloc = m.alloc; context = m.context; names = c.formed.new.names; bindings = m.bindings; standing = m.standing; store = c.formed.new.store; kept = m.kept } in
+    keeps_then_grows c.args.state.now m later c.read_wanted.ensures.kept (record { context = refl; names = c.formed.ensures.grown; bindings = refl; standing = refl; store = c.formed.ensures.kept })
 
 pub returns-in-Ok-clause-kept : goal.returns-in-Ok-clause-kept
 returns-in-Ok-clause-kept g c =
     let m = c.read_wanted.new.state in
     let read = c.in_ok-read.read in
-    let later : SessionState = record { alloc = m.alloc; context = m.context; names = c.formed.new.names; bindings = m.bindings; store = c.formed.new.store; kept = m.kept } in
+    let later : SessionState = record { alloc = m.alloc; context = m.context; names = c.formed.new.names; bindings = m.bindings; standing = m.standing; store = c.formed.new.store; kept = m.kept } in
     let names = subst (λ o. HasFormNames o m.names (tree m.store read.formula) c.formed.new.names) c.form-form.ensures c.in-Ok.ensures.formed.names_after in
-    keeps_formed c.args.wanted c.args.state.now m later (tree m.store read.formula) c.read_wanted.ensures.kept (record { context = refl; names = c.formed.ensures.grown; bindings = refl; store = c.formed.ensures.kept }) names
+    keeps_formed c.args.wanted c.args.state.now m later (tree m.store read.formula) c.read_wanted.ensures.kept (record { context = refl; names = c.formed.ensures.grown; bindings = refl; standing = refl; store = c.formed.ensures.kept }) names
 
 pub returns-clause-kept : goal.returns-clause-kept
 returns-clause-kept g c =
     let m = c.read_wanted.new.state in
-    let later : SessionState = record { alloc = m.alloc; context = m.context; names = c.formed.new.names; bindings = m.bindings; store = c.formed.new.store; kept = m.kept } in
+    let later : SessionState = record { alloc = m.alloc; context = m.context; names = c.formed.new.names; bindings = m.bindings; standing = m.standing; store = c.formed.new.store; kept = m.kept } in
     keeps_still c.args.wanted c.args.state.now later
-    (keeps_then c.args.state.now m later c.read_wanted.ensures.kept (record { context = refl; names = c.in-Err.ensures.unchanged; bindings = refl; store = c.formed.ensures.kept }))
+    (keeps_then c.args.state.now m later c.read_wanted.ensures.kept (record { context = refl; names = c.in-Err.ensures.unchanged; bindings = refl; standing = refl; store = c.formed.ensures.kept }))
