@@ -1,9 +1,9 @@
 -- Why a command about a point is refused before anything is answered, and when it is not.
-use Rattle.std.proofs.Common.{◌≡◌, inl, inr, ⊎_elim, ℕ, List, [], ◌∷◌, Bool, true, false, IsTrue, ◌↔◌, MatchOption, Option, Some, None, sym, ap, ◌∙◌, subst, refl, arith, lit<}
+use Rattle.std.proofs.Common.{◌≡◌, inl, inr, ⊎_elim, ℕ, List, [], ◌∷◌, Bool, true, false, IsTrue, ◌↔◌, MatchOption, Option, Some, None, sym, ap, ◌∙◌, subst, refl, rules}
 use Rattle.std.proofs.lemmas.Bool.{false≢true}
 use Rattle.std.specs.Prelude.{option_map, is_some}
 use Rattle.formula_meaning.specs.Formula.{none, also}
-use Rattle.formula_meaning.specs.Some.{SomeOf}
+use Rattle.formula_meaning.specs.Some.{SomeOf, EachOf}
 use Rattle.formula_meaning.specs.Tree.{Tree}
 use Rattle.qe_syntax.specs.declared.statement.PointEntry.{PointEntry}
 use Rattle.qe_syntax.specs.Point.{PassesLimit}
@@ -22,14 +22,15 @@ use Rattle.session_meaning.specs.State.{State}
 use Rattle.session_meaning.specs.Points.{MeanNoPoint}
 use Rattle.command_tools.specs.Replies.{use_of, Refuses}
 use Rattle.command_tools.specs.Refusals.{static_refusal}
-use Rattle.problem_reading.specs.Reading.{HasNumbers, IsUnread, IsReadable, AreNumbered, IsBefore, HasNoEarlier, IsFirstAmong}
+use Rattle.problem_reading.specs.Reading.{HasNumbers, IsUnread, IsReadable, AreNumbered, AppliesAmong, IsBefore, HasNoEarlier, IsFirstAmong}
 use Rattle.point_queries.specs.Asked.{RefusesBoth, AcceptsBoth, entry_names, stop_of, IsBoundName, IsClear, PointStop, IsValued, ValuedStop}
 use Rattle.session_meaning.specs.Meaning.{meaning, Meaning}
 use Rattle.session_meaning.specs.Uses.{Use}
 use Rattle.session_meaning.specs.Causes.{IsCause, HasNone}
 use Rattle.session_meaning.specs.Words.{before, order}
+use Rattle.formula_resolving.proofs.Order.{each_before}
 use Rattle.session_state.proofs.BindingLemmas.{trees_find}
-use Rattle.problem_reading.proofs.CauseLemmas.{then_clear, overflow_here, to_point, first_in_reading, bound_first, readable_part}
+use Rattle.problem_reading.proofs.CauseLemmas.{then_clear, overflow_here, to_point, first_in_reading, bound_first, readable_none}
 
 -- ---- names that are bound
 
@@ -148,8 +149,12 @@ module _ (s : State) (f : FormulaTree) (es : List PointEntry) (numbers : HasNumb
   -- ---- a formula that is not read
 
   -- no cause before another applies to the formula alone
-  alone : (e : StaticError) → ((d : StaticError) → IsBefore d e → ¬ (reading.Applies s.context s.bound s.names f d)) → HasNoEarlier s (also f none) e
-  alone e first d l k = ⊎_elim (first d l) absurd k
+  alone : (e : StaticError) → EachOf (λ d. ¬ (reading.Applies s.context s.bound s.names f d)) (reading.before e) → HasNoEarlier s (also f none) e
+  alone e first = none_alone (reading.before e) first
+    where
+      none_alone : (ds : List StaticError) → EachOf (λ d. ¬ (reading.Applies s.context s.bound s.names f d)) ds → EachOf (λ d. ¬ (AppliesAmong s (also f none) d)) ds
+      none_alone [] h = tt
+      none_alone (d ∷ ds) h = (⊎_elim h.0 absurd, none_alone ds h.1)
 
   -- the first cause is the one of the reading
   reading_first : (d : StaticError) → IsBefore d static.Overflow → reading.IsFirst s.context s.bound s.names f d → (IsBefore static.FormulaAsTerm d → ¬ Bound) → RefusesBoth s f es (static_refusal d)
@@ -165,28 +170,28 @@ module _ (s : State) (f : FormulaTree) (es : List PointEntry) (numbers : HasNumb
     λ other. bound_first (meaning (Sample f es)) s limit (use_of None printed) listed first h,
   )
 
-  bound_before : (d : StaticError) → reading.IsFirst s.context s.bound s.names f d → IsBefore static.Unbound d → Bound → RefusesBoth s f es error.FormulaAsTerm
-  bound_before d first l h = name_bound (alone static.FormulaAsTerm (λ e m. first.first e (omega (arith, m, l)))) h
+  bound_before : ¬ (reading.Applies s.context s.bound s.names f static.Unbound) → Bound → RefusesBoth s f es error.FormulaAsTerm
+  bound_before bound h = name_bound (alone static.FormulaAsTerm (bound, tt)) h
 
   abbrev Stopped : Option StatementError → Type 0
   Stopped o = MatchOption o (IsClear s f es × OverflowsInReading s.context s.bound (place s.names) f) (RefusesBoth s f es)
 
   not_read : (d : StaticError) (met : Bool) → (IsTrue met ↔ Bound) → reading.IsFirstCause s.context s.bound s.names f d → Stopped (stop_of (static_refusal d) met)
-  not_read static.Unbound met is first = reading_first static.Unbound (lit< tt) first (λ l. absurd (omega arith))
+  not_read static.Unbound met is first = reading_first static.Unbound (search rules) first absurd
   not_read static.Memory met is first = λ limit printed. out_of_memory s f es limit printed
-  not_read static.FormulaAsTerm true is first = bound_before static.FormulaAsTerm first (lit< tt) (is.0 refl)
-  not_read static.Nonlinear true is first = bound_before static.Nonlinear first (lit< tt) (is.0 refl)
-  not_read static.Division true is first = bound_before static.Division first (lit< tt) (is.0 refl)
-  not_read static.CongruenceContext true is first = bound_before static.CongruenceContext first (lit< tt) (is.0 refl)
-  not_read static.Modulus true is first = bound_before static.Modulus first (lit< tt) (is.0 refl)
-  not_read static.Depth true is first = bound_before static.Depth first (lit< tt) (is.0 refl)
-  not_read static.Overflow true is first = bound_before static.Overflow first (lit< tt) (is.0 refl)
-  not_read static.FormulaAsTerm false is first = reading_first static.FormulaAsTerm (lit< tt) first (λ l. absurd (omega arith))
-  not_read static.Nonlinear false is first = reading_first static.Nonlinear (lit< tt) first (λ l h. false≢true (is.1 h))
-  not_read static.Division false is first = reading_first static.Division (lit< tt) first (λ l h. false≢true (is.1 h))
-  not_read static.CongruenceContext false is first = reading_first static.CongruenceContext (lit< tt) first (λ l h. false≢true (is.1 h))
-  not_read static.Modulus false is first = reading_first static.Modulus (lit< tt) first (λ l h. false≢true (is.1 h))
-  not_read static.Depth false is first = reading_first static.Depth (lit< tt) first (λ l h. false≢true (is.1 h))
+  not_read static.FormulaAsTerm true is first = bound_before first.first.0 (is.0 refl)
+  not_read static.Nonlinear true is first = bound_before first.first.0 (is.0 refl)
+  not_read static.Division true is first = bound_before first.first.0 (is.0 refl)
+  not_read static.CongruenceContext true is first = bound_before first.first.0 (is.0 refl)
+  not_read static.Modulus true is first = bound_before first.first.0 (is.0 refl)
+  not_read static.Depth true is first = bound_before first.first.0 (is.0 refl)
+  not_read static.Overflow true is first = bound_before first.first.0 (is.0 refl)
+  not_read static.FormulaAsTerm false is first = reading_first static.FormulaAsTerm (search rules) first (λ l. absurd (search rules))
+  not_read static.Nonlinear false is first = reading_first static.Nonlinear (search rules) first (λ l h. false≢true (is.1 h))
+  not_read static.Division false is first = reading_first static.Division (search rules) first (λ l h. false≢true (is.1 h))
+  not_read static.CongruenceContext false is first = reading_first static.CongruenceContext (search rules) first (λ l h. false≢true (is.1 h))
+  not_read static.Modulus false is first = reading_first static.Modulus (search rules) first (λ l h. false≢true (is.1 h))
+  not_read static.Depth false is first = reading_first static.Depth (search rules) first (λ l h. false≢true (is.1 h))
   not_read static.Overflow false is first = (
     record { reading = alone static.Overflow first.first; entries = λ h. false≢true (is.1 h) },
     subst (λ ns. OverflowsInReading s.context s.bound (place ns) f) numbers first.applies,
@@ -198,7 +203,7 @@ module _ (s : State) (f : FormulaTree) (es : List PointEntry) (numbers : HasNumb
   -- ---- a formula that is read
 
   pub read_clear : IsReadable s f → ¬ Bound → IsClear s f es
-  read_clear a h = record { reading = alone static.Overflow (λ d l. readable_part s f a d (omega (arith, l))); entries = h }
+  read_clear a h = record { reading = alone static.Overflow (each_before (λ d. ¬ (reading.Applies s.context s.bound s.names f d)) static.Overflow (readable_none s f a)); entries = h }
 
   pub read_bound : IsReadable s f → Bound → RefusesBoth s f es error.FormulaAsTerm
-  read_bound a h = name_bound (alone static.FormulaAsTerm (λ d l. readable_part s f a d (omega (arith, l)))) h
+  read_bound a h = bound_before a.bound_names h

@@ -210,7 +210,6 @@ module _ (s : State) (f : FormulaTree) (gs : List Formula) where
 
 -- ---- formulas alone
 
-
 pub all_readable : (s : State) (gs : List Formula) → FirstAmong (AppliesToSome s gs) None → AreReadable s (formulas_of (map formula_tree gs))
 all_readable s gs k = each_of_given (IsReadable s) gs (each_listed_none s gs k)
 

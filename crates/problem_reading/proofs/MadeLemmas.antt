@@ -102,7 +102,6 @@ pub under_unread : (s : State) (f : FormulaTree) (stop : Option StaticError) (r 
 under_unread s f stop (Ok p) h = tt
 under_unread s f stop (Err e) h = inl h
 
-
 module _ (old middle : SessionState) (ids_there : AreIds (IsId old.store) old.bindings) (k : KeepsState old middle) where
   same : state_of middle ≡ state_of old
   same = same_state old middle ids_there k

@@ -125,7 +125,10 @@ fn read_under(
 }
 
 /// The resolved formulas, or the first cause of a refusal in any of them.
-pub fn read_all(state: &mut SessionState, given: &[Formula]) -> Result<Vec<FormulaId>, StatementError>
+pub fn read_all(
+    state: &mut SessionState,
+    given: &[Formula],
+) -> Result<Vec<FormulaId>, StatementError>
     requires proper { AllByRecursion (λ g. IsWritableFormula (formula_tree g)) given.now }
     requires ids { AreIds (IsId state.old.store) state.old.bindings }
     requires numbered { AreNumbered state.old.names (formulas_of (map formula_tree given.now)) }

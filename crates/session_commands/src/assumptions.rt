@@ -65,11 +65,7 @@ fn assume_numbered(
 }
 
 /// Puts the formulas behind the standing assumptions, and gives the line of them all. An `Err` leaves all as it was.
-fn stand(
-    state: &mut SessionState,
-    ids: &[FormulaId],
-    printed: bool,
-) -> Result<Line, StatementError>
+fn stand(state: &mut SessionState, ids: &[FormulaId], printed: bool) -> Result<Line, StatementError>
     requires ids { AllByRecursion (IsId state.old.store) ids.now }
     requires within { EachOf (IsTreeWithin (length state.old.names)) (grown_by state.old (map (tree state.old.store) ids.now)) }
     ensures grown { OnOk result (IsGrown state.old (map (tree state.old.store) ids.now) state.new) }
@@ -89,11 +85,7 @@ fn stand(
 }
 
 /// The same, where after an `Err` some of them may stand behind the others.
-fn grow(
-    state: &mut SessionState,
-    ids: &[FormulaId],
-    printed: bool,
-) -> Result<Line, StatementError>
+fn grow(state: &mut SessionState, ids: &[FormulaId], printed: bool) -> Result<Line, StatementError>
     requires ids { AllByRecursion (IsId state.old.store) ids.now }
     requires within { EachOf (IsTreeWithin (length state.old.names)) (grown_by state.old (map (tree state.old.store) ids.now)) }
     ensures grown { OnOk result (IsGrown state.old (map (tree state.old.store) ids.now) state.new) }

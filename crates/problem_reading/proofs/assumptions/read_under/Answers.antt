@@ -22,16 +22,24 @@ returns-in-None-clause-unread c = under_unread (state_of c.args.state.now) (form
 
 pub returns-in-Some-clause-unread : goal.returns-in-Some-clause-unread
 returns-in-Some-clause-unread c =
-    inr (c.in-Some.error, c.static_refusal.ensures, record {
-      cause = None;
-      first = readable_none (state_of c.args.state.now) (formula_tree c.args.formula.now) c.in-Ok.ensures.readable;
-      joined = sym c.in-Some.is;
-    })
+    inr (
+      c.in-Some.error,
+      c.static_refusal.ensures,
+      record {
+        cause = None;
+        first = readable_none (state_of c.args.state.now) (formula_tree c.args.formula.now) c.in-Ok.ensures.readable;
+        joined = sym c.in-Some.is;
+      },
+    )
 
 pub returns-in_ok-error-in-Err-clause-unread : goal.returns-in_ok-error-in-Err-clause-unread
 returns-in_ok-error-in-Err-clause-unread c =
-    inr (c.in_ok-error-in-Err.error, c.static_refusal-in-Err.ensures, record {
-      cause = Some c.in-Err.error;
-      first = first_unread (state_of c.args.state.now) (formula_tree c.args.formula.now) c.in-Err.error c.in_ok-error-in-Err.ensures.cause c.in-Err.ensures.unread;
-      joined = c.in_ok-error-in-Err.ensures.earlier;
-    })
+    inr (
+      c.in_ok-error-in-Err.error,
+      c.static_refusal-in-Err.ensures,
+      record {
+        cause = Some c.in-Err.error;
+        first = first_unread (state_of c.args.state.now) (formula_tree c.args.formula.now) c.in-Err.error c.in_ok-error-in-Err.ensures.cause c.in-Err.ensures.unread;
+        joined = c.in_ok-error-in-Err.ensures.earlier;
+      },
+    )
