@@ -1,6 +1,7 @@
 -- The names of a state are ones that a script can write, after each statement.
-use Rattle.std.proofs.Common.{ℕ, List, Bool, sym, subst}
-use Rattle.qe_syntax.specs.Statements.{CommandTree, Echo, Nnf, Pnf, Dnf, Cnf, Simpl, Qe, Qea, Holds, Sample, ActionTree, Empty, Ignored, Finish, Choose, Say, Assign, StatementTree}
+use Rattle.std.proofs.Common.{ℕ, List, [], Bool, sym, subst}
+use Rattle.qe_syntax.specs.Statements.{CommandTree, Echo, Nnf, Pnf, Dnf, Cnf, Simpl, Qe, Qea, Holds, Sample, ActionTree, Empty, Ignored, Finish, Choose, Say, Assign, Assume, Retract, StatementTree}
+use Rattle.qe_syntax.specs.Trees.{FormulaTrees}
 use Rattle.qe_syntax.specs.Writable.{AreWritableFormulas, IsWritableCommand, IsWritable}
 use Rattle.formula_tree.specs.Resolving.{all_variables}
 use Rattle.formula_tree.proofs.PlaceLaws.{after_distinct}
@@ -10,7 +11,7 @@ use Rattle.redlog_reader.proofs.Proper.{proper_statement}
 use Rattle.printed_formulas.specs.Round.{AreVariables}
 use Rattle.session_meaning.specs.declared.line.Line.{Line}
 use Rattle.session_meaning.specs.State.{State}
-use Rattle.session_meaning.specs.Meaning.{variables, numbered, meaning}
+use Rattle.session_meaning.specs.Meaning.{variables, numbered, meaning, assumption_meaning}
 use Rattle.session_meaning.specs.Reply.{Answers}
 use Rattle.session_commands.proofs.NewNameLemmas.{answer_names_distinct, answer_names_variables}
 use Rattle.session_state.proofs.VariableLemmas.{AllVariables, both, variables_of_all, all_put_in}
@@ -55,6 +56,13 @@ named_variables s c h v = record {
 pub answer_variables : (s : State) (c : CommandTree) (names : List (List ℕ)) → AreVariables s.names → (meaning c).names s names → AreVariables names
 answer_variables s c names v h = record { distinct = answer_names_distinct s c names v.distinct h; variables = answer_names_variables s c names v.variables h }
 
+-- the state in which the variables of assumptions have their numbers
+assumed_variables : (s : State) (given : FormulaTrees) → AreWritableFormulas given → AreVariables s.names → AreVariables (numbered (assumption_meaning given) s).names
+assumed_variables s given h v = record {
+  distinct = after_distinct (variables (assumption_meaning given)) s.names v.distinct;
+  variables = all_put_in s.names (variables (assumption_meaning given)) v.variables (both (all_variables given) [] (variables_of_all given h) tt);
+}
+
 -- ---- statements
 
 -- what is spelled is proper
@@ -72,6 +80,8 @@ after_action s limit printed Finish answer next p v h = subst HasVariables (sym 
 after_action s limit printed (Choose setting) answer next p v h = subst HasVariables (sym h.1) v
 after_action s limit printed (Say c) answer next p v h = subst HasVariables (sym h.after) (answer_variables (numbered (meaning c) s) c h.names (named_variables s c p v) h.named)
 after_action s limit printed (Assign x c) answer next p v h = subst HasVariables (sym h.binds) (answer_variables (numbered (meaning c) s) c h.names (named_variables s c p.1 v) h.named)
+after_action s limit printed (Assume given) answer next p v h = subst HasVariables (sym h.after) (assumed_variables s given p v)
+after_action s limit printed Retract answer next p v h = subst HasVariables (sym h.1) v
 
 pub names_stay_writable : NamesStayWritable
 names_stay_writable s limit piece answer next v r =

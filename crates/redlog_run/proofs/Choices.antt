@@ -5,7 +5,7 @@ use Rattle.std.specs.declared.alloc.Global.{Global}
 use Rattle.std.specs.declared.vec.Vec.{Vec}
 use denote.RawPtr.{null_ptr}
 use Rattle.formula_meaning.specs.Context.{Context, Fields, Integers}
-use Rattle.qe_syntax.specs.Statements.{ActionTree, Empty, Ignored, Finish, Choose, Say, Assign, StatementTree}
+use Rattle.qe_syntax.specs.Statements.{ActionTree, Empty, Ignored, Finish, Choose, Say, Assign, Assume, Retract, StatementTree}
 use Rattle.redlog_tokens.specs.Pieces.{IsPiece}
 use Rattle.redlog_reader.specs.Statement.{Spells}
 use Rattle.redlog_tokens.proofs.Cutting.{none_or_piece, same_piece}
@@ -14,7 +14,7 @@ use Rattle.session_meaning.specs.declared.line.Line.{Line}
 use Rattle.session_meaning.specs.declared.line.Line.TheVariants as line
 use Rattle.session_meaning.specs.declared.line.StatementError.{StatementError}
 use Rattle.session_meaning.specs.Words.{context_text}
-use Rattle.session_meaning.specs.State.{State, theory_of, chosen, first_state}
+use Rattle.session_meaning.specs.State.{State, with_standing, theory_of, chosen, first_state}
 use Rattle.session_meaning.specs.Reply.{IsLine}
 use Rattle.session_meaning.specs.Reply.{Answers, RefusesAction}
 use Rattle.redlog_run.specs.Lines.{newline, lines_of}
@@ -45,6 +45,8 @@ ends Ignored = false
 ends (Choose setting) = false
 ends (Say c) = false
 ends (Assign x c) = false
+ends (Assume given) = false
+ends Retract = false
 
 ends_at : (a : ActionTree) → ends a ≡ true → a ≡ Finish
 ends_at Finish e = refl
@@ -53,6 +55,8 @@ ends_at Ignored e = absurd (cc)
 ends_at (Choose setting) e = absurd (cc)
 ends_at (Say c) e = absurd (cc)
 ends_at (Assign x c) e = absurd (cc)
+ends_at (Assume given) e = absurd (cc)
+ends_at Retract e = absurd (cc)
 
 goes_on : (a : ActionTree) → ¬ (a ≡ Finish) → ends a ≡ false
 goes_on Finish h = absurd (h refl)
@@ -61,8 +65,10 @@ goes_on Ignored h = refl
 goes_on (Choose setting) h = refl
 goes_on (Say c) h = refl
 goes_on (Assign x c) h = refl
+goes_on (Assume given) h = refl
+goes_on Retract h = refl
 
--- the line of a choice of a theory
+-- the line with a text
 chosen_line : (printed : Bool) (text : List ℕ) (answer : Line) → IsLine printed text answer → lines_of answer ≡ (if printed then text ++ newline else [])
 chosen_line printed text line.Nothing e = sym (ap (λ (b : Bool). if b then text ++ newline else []) e)
 chosen_line printed text (line.Printed bytes) e = ap (λ (xs : List ℕ). xs ++ newline) e.1 ∙ sym (ap (λ (b : Bool). if b then text ++ newline else []) e.0)
@@ -84,6 +90,8 @@ after s Ignored = s
 after s Finish = s
 after s (Say c) = s
 after s (Assign x c) = s
+after s (Assume given) = s
+after s Retract = with_standing s []
 
 module _ (s : State) (limit : ℕ) (printed : Bool) where
   finishing : (a : ActionTree) (next : State) → IsWithoutFormula a → Answers s limit printed a line.Finished next → a ≡ Finish
@@ -93,6 +101,8 @@ module _ (s : State) (limit : ℕ) (printed : Bool) where
   finishing (Choose setting) next w r = absurd r.0
   finishing (Say c) next w r = absurd w
   finishing (Assign x c) next w r = absurd w
+  finishing (Assume given) next w r = absurd w
+  finishing Retract next w r = absurd r.0
 
   silent : (a : ActionTree) (answer : Line) (next : State) → IsWithoutFormula a → answer ≢ line.Finished → Answers s limit printed a answer next → (false ≡ ends a) × (lines_of answer ≡ choice_line printed a)
   silent Empty answer next w other r = (refl, ap lines_of r.0)
@@ -101,6 +111,8 @@ module _ (s : State) (limit : ℕ) (printed : Bool) where
   silent (Choose setting) answer next w other r = (refl, chosen_line printed (context_text (theory_of setting)) answer r.0)
   silent (Say c) answer next w other r = absurd w
   silent (Assign x c) answer next w other r = absurd w
+  silent (Assume given) answer next w other r = absurd w
+  silent Retract answer next w other r = (refl, chosen_line printed (codes "{}") answer r.0)
 
   no_refusal : (a : ActionTree) (e : StatementError) → IsWithoutFormula a → RefusesAction s limit printed a e → ⊥
   no_refusal Empty e w r = r
@@ -109,6 +121,8 @@ module _ (s : State) (limit : ℕ) (printed : Bool) where
   no_refusal (Choose setting) e w r = r
   no_refusal (Say c) e w r = absurd w
   no_refusal (Assign x c) e w r = absurd w
+  no_refusal (Assume given) e w r = absurd w
+  no_refusal Retract e w r = r
 
 module _ (s : State) (limit : ℕ) (piece : List ℕ) (offset : ℕ) (t : StatementTree) (h : Spells piece t) (w : IsWithoutFormula t.action) where
   -- the piece spells no other statement
@@ -129,12 +143,12 @@ module _ (s : State) (limit : ℕ) (piece : List ℕ) (offset : ℕ) (t : Statem
 
 -- and there is one
 module _ (s : State) (limit : ℕ) (piece : List ℕ) (offset : ℕ) where
-  theory_chosen : (printed : Bool) (c : Context) (a : ActionTree) → Spells piece (record { action = a; printed = printed }) → ((answer : Line) → IsLine printed (context_text c) answer → Answers s limit printed a answer (chosen s c))
-      → AnswersPiece s limit piece offset false (if printed then context_text c ++ newline else []) false (chosen s c)
-  theory_chosen true c a h answers =
-      let text = line.Printed (text_of (context_text c) (context_small c)) in
-      answered text (λ e. absurd (cc)) (record { statement = record { action = a; printed = true }; spelled = h; answered = answers text (refl, refl, context_short c) })
-  theory_chosen false c a h answers =
+  line_said : (printed : Bool) (text : List ℕ) (a : ActionTree) (next : State) → length text < 2 ^ 63 → length text ≤ 33554432 → Spells piece (record { action = a; printed = printed })
+      → ((answer : Line) → IsLine printed text answer → Answers s limit printed a answer next) → AnswersPiece s limit piece offset false (if printed then text ++ newline else []) false next
+  line_said true text a next small short h answers =
+      let bytes = line.Printed (text_of text small) in
+      answered bytes (λ e. absurd (cc)) (record { statement = record { action = a; printed = true }; spelled = h; answered = answers bytes (refl, refl, short) })
+  line_said false text a next small short h answers =
       answered line.Nothing (λ e. absurd (cc)) (record { statement = record { action = a; printed = false }; spelled = h; answered = answers line.Nothing refl })
 
   nothing_said : (printed : Bool) (a : ActionTree) → Spells piece (record { action = a; printed = printed }) → Answers s limit printed a line.Nothing s → AnswersPiece s limit piece offset false [] false s
@@ -144,9 +158,12 @@ module _ (s : State) (limit : ℕ) (piece : List ℕ) (offset : ℕ) where
   made printed Empty h w = nothing_said printed Empty h (refl, refl)
   made printed Ignored h w = nothing_said printed Ignored h (refl, refl)
   made printed Finish h w = finished (record { statement = record { action = Finish; printed = printed }; spelled = h; answered = (refl, refl) })
-  made printed (Choose setting) h w = theory_chosen printed (theory_of setting) (Choose setting) h (λ answer l. (l, refl))
+  made printed (Choose setting) h w =
+      let c = theory_of setting in line_said printed (context_text c) (Choose setting) (chosen s c) (context_small c) (context_short c) h (λ answer l. (l, refl))
   made printed (Say c) h w = absurd w
   made printed (Assign x c) h w = absurd w
+  made printed (Assume given) h w = absurd w
+  made printed Retract h w = line_said printed (codes "{}") Retract (with_standing s []) (omega arith) (omega arith) h (λ answer l. (l, refl))
 
 -- ---- all pieces
 

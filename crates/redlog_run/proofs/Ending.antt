@@ -1,6 +1,6 @@
 -- Statements that end a script.
 use Rattle.std.proofs.Common.{◌≡◌, ℕ, Bool, true, false, List, refl, ap, ◌∙◌, subst}
-use Rattle.qe_syntax.specs.Statements.{ActionTree, Empty, Ignored, Finish, Choose, Say, Assign, StatementTree}
+use Rattle.qe_syntax.specs.Statements.{ActionTree, Empty, Ignored, Finish, Choose, Say, Assign, Assume, Retract, StatementTree}
 use Rattle.redlog_tokens.specs.Pieces.{IsPiece}
 use Rattle.redlog_tokens.proofs.Cutting.{same_piece}
 use Rattle.redlog_reader.proofs.Whole.{spells_once}
@@ -21,6 +21,8 @@ finishes s limit printed Finish next r = refl
 finishes s limit printed (Choose setting) next r = absurd r.0
 finishes s limit printed (Say c) next r = absurd r.line
 finishes s limit printed (Assign x c) next r = absurd r.line
+finishes s limit printed (Assume given) next r = absurd r.said.line
+finishes s limit printed Retract next r = absurd r.0
 
 only_finished : (s : State) (limit : ℕ) (printed : Bool) (a : ActionTree) (answer : Line) (next : State) → a ≡ Finish → Answers s limit printed a answer next → answer ≡ line.Finished
 only_finished s limit printed a answer next e r = (subst (λ b. Answers s limit printed b answer next) e r).0

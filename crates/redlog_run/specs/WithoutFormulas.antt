@@ -1,7 +1,7 @@
 -- Scripts whose statements have no formula, and what they are answered with.
 use Rattle.std.specs.Prelude.{◌≡◌, ℕ, List, [], ◌∷◌, ◌++◌, Bool, false, codes, if◌then◌else◌}
 use Rattle.std.specs.List.{flat_map, AllByRecursion}
-use Rattle.qe_syntax.specs.Statements.{ActionTree, Empty, Ignored, Finish, Choose, Say, Assign, StatementTree}
+use Rattle.qe_syntax.specs.Statements.{ActionTree, Empty, Ignored, Finish, Choose, Say, Assign, Assume, Retract, StatementTree}
 use Rattle.redlog_tokens.specs.Pieces.{HasNoTokenFrom, IsPiece}
 use Rattle.redlog_reader.specs.Statement.{Spells}
 use Rattle.session_meaning.specs.State.{theory_of}
@@ -25,8 +25,10 @@ IsWithoutFormula Finish = Unit {0}
 IsWithoutFormula (Choose setting) = Unit {0}
 IsWithoutFormula (Say c) = ⊥
 IsWithoutFormula (Assign x c) = ⊥
+IsWithoutFormula (Assume given) = ⊥
+IsWithoutFormula Retract = Unit {0}
 
--- the line of such a statement: a choice of a theory that is printed has its word, and no other has a line
+-- the line of such a statement, where it is printed: that of a choice of a theory is its word, that of taking back the assumptions is {}, and no other has a line
 abbrev pub choice_line : Bool → ActionTree → List ℕ
 choice_line printed (Choose setting) = if printed then context_text (theory_of setting) ++ newline else []
 choice_line printed Empty = []
@@ -34,6 +36,8 @@ choice_line printed Ignored = []
 choice_line printed Finish = []
 choice_line printed (Say c) = []
 choice_line printed (Assign x c) = []
+choice_line printed (Assume given) = []
+choice_line printed Retract = if printed then codes "{}" ++ newline else []
 
 abbrev pub choice_lines : List StatementTree → List ℕ
 choice_lines ts = flat_map (λ t. choice_line t.printed t.action) ts
