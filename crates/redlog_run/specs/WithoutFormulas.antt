@@ -17,7 +17,7 @@ pub data SpellsFrom (script : List ℕ) : ℕ → List StatementTree → Type 0 
   then : {from start end : ℕ} {t : StatementTree} {ts : List StatementTree} → IsPiece script from start end → Spells (piece_bytes script start end) t → ¬ (t.action ≡ Finish)
       → SpellsFrom script end ts → SpellsFrom script from (t ∷ ts)
 
--- the statement is empty, ignored, a choice of a theory, or one that ends the script
+-- the statement is empty, ignored, a choice of a theory, one that takes the assumptions back, or one that ends the script
 abbrev pub IsWithoutFormula : ActionTree → Type 0
 IsWithoutFormula Empty = Unit {0}
 IsWithoutFormula Ignored = Unit {0}
