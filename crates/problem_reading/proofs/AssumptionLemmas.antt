@@ -21,9 +21,9 @@ use Rattle.session_meaning.specs.declared.line.StatementError.TheVariants as err
 use Rattle.session_meaning.specs.State.{State}
 use Rattle.session_meaning.specs.Assumptions.{atoms_alone, atoms_among, resolved_all, assumed, AllTrueAt, Hold}
 use Rattle.command_tools.specs.Refusals.{static_refusal}
-use Rattle.problem_reading.specs.Reading.{HasNumbers, IsReadable, AreNumbered, AreReadable, AppliesAmong, HasNoEarlier, IsFirstCauseAmong, AreUnread, FirstAmong, IsEarlierOf, IsEarlierOfBoth, AppliesToSome, IsFirstWith}
+use Rattle.problem_reading.specs.Reading.{IsReadable, AreNumbered, AreReadable, AppliesAmong, HasNoEarlier, IsFirstCauseAmong, AreUnread, FirstAmong, IsEarlierOfBoth, AppliesToSome, IsFirstWith}
 use Rattle.formula_resolving.proofs.Order.{each_before, each_earlier, each_no_later}
-use Rattle.problem_reading.proofs.PartLemmas.{no_formula, some_listed, each_of_list, some_given, each_of_given}
+use Rattle.problem_reading.proofs.PartLemmas.{some_listed, each_of_list, some_given, each_of_given}
 use Rattle.problem_reading.proofs.CauseLemmas.{readable_applies}
 use Rattle.problem_reading.proofs.ReadTruth.{truth_as_written}
 

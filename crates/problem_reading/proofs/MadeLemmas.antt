@@ -18,7 +18,7 @@ use Rattle.session_state.specs.declared.state.SessionState.{SessionState}
 use Rattle.session_state.specs.Growth.{KeepsState}
 use Rattle.formula_meaning.specs.Formula.{also}
 use Rattle.std.specs.Prelude.{Option, None, Result, Ok, Err, Some, IfOk, IfErr}
-use Rattle.std.proofs.Common.{◌⊎◌, inl, inr}
+use Rattle.std.proofs.Common.{inl, inr}
 use Rattle.qe_syntax.specs.Trees.{FormulaTree}
 use Rattle.formula_resolving.specs.Refusals.{AreIds}
 use Rattle.formula_resolving.specs.declared.error.StaticError.{StaticError}

@@ -1,23 +1,22 @@
 -- Assumptions put behind the standing ones: the list, the session, and what is answered.
-use Rattle.std.proofs.Common.{◌≡◌, ◌⊎◌, inl, inr, ⊎_elim, ℕ, zero, suc, ◌<◌, ◌≤◌, List, [], ◌∷◌, ◌++◌, Bool, true, false, None, sym, ap, ◌∙◌, subst, refl, length, take, map, append_assoc, append-nil, arith}
-use Rattle.std.specs.Prelude.{◌≢◌, Result, Ok, Err, IfOk, IfErr, OnOk, OnErr, if◌then◌else◌}
-use Rattle.std.specs.List.{AllByRecursion, IsDistinct, fold}
-use Rattle.formula_meaning.specs.Formula.{Formula, Yes, No, One, Not, And, Or, Impl, Repl, Equiv, Ex, All}
+use Rattle.std.proofs.Common.{◌≡◌, inl, inr, ⊎_elim, ℕ, List, [], ◌∷◌, ◌++◌, Bool, true, false, None, sym, ap, ◌∙◌, subst, refl, length, take, map, append_assoc, append-nil}
+use Rattle.std.specs.Prelude.{Result, Ok, Err, IfOk, IfErr, OnOk, OnErr, if◌then◌else◌}
+use Rattle.std.specs.List.{IsDistinct, fold}
+use Rattle.formula_meaning.specs.Formula.{Yes, No, One, Not, And, Or, Impl, Repl, Equiv, Ex, All}
 use Rattle.formula_meaning.specs.Some.{EachOf}
 use Rattle.formula_meaning.specs.Tree.{Tree}
 use Rattle.formula_meaning.specs.Within.{IsTreeWithin}
 use Rattle.formula_tree.specs.Names.{with_name}
-use Rattle.formula_tree.specs.Makers.{AreMade}
 use Rattle.formula_tree.specs.Resolving.{all_variables}
 use Rattle.formula_resolving.specs.Numbering.{Grows}
 use Rattle.formula_store.specs.declared.id.FormulaId.{FormulaId}
-use Rattle.formula_store.specs.Nodes.{tree, IsId}
+use Rattle.formula_store.specs.Nodes.{tree}
 use Rattle.qe_syntax.specs.Trees.{FormulaTrees}
 use Rattle.qe_syntax.specs.Writable.{AreWritableFormulas}
 use Rattle.session_meaning.specs.declared.line.Line.{Line}
 use Rattle.session_meaning.specs.declared.line.StatementError.{StatementError}
 use Rattle.session_meaning.specs.declared.line.StatementError.TheVariants as error
-use Rattle.session_meaning.specs.State.{State, with_names, with_standing}
+use Rattle.session_meaning.specs.State.{State, with_standing}
 use Rattle.session_meaning.specs.Assumptions.{resolved_all}
 use Rattle.session_meaning.specs.Standing.{is_among, behind, with_assumption, grown, standing_text}
 use Rattle.session_meaning.specs.Meaning.{Meaning, assumption_meaning, numbered}

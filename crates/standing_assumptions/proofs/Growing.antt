@@ -4,12 +4,10 @@ use Rattle.std.specs.Prelude.{◌||◌, if◌then◌else◌}
 use Rattle.std.specs.List.{AllByRecursion, list_any}
 use Rattle.indexmap.specs.IndexSet.{insert_key}
 use Rattle.formula_meaning.specs.Atom as meant
-use Rattle.formula_meaning.specs.Formula.{No, One as Single}
 use Rattle.formula_meaning.specs.Same.{same_atom}
 use Rattle.formula_meaning.specs.Sizes.{same_formula}
 use Rattle.formula_meaning.specs.Tree.{Tree}
 use Rattle.formula_meaning.proofs.TreeNames.{equality_tested}
-use Rattle.atom_normal.specs.declared.atoms.Atom.{Atom}
 use Rattle.atom_normal.specs.Atoms.{atom_of}
 use Rattle.atom_normal.proofs.Meaning.{meaning_determines}
 use Rattle.formula_tree.proofs.Decided as decided

@@ -1,5 +1,4 @@
-use Rattle.std.proofs.Common.{◌≡◌, ◌∙◌, ◌++◌, sym, ap, map, take, List, get_or}
-use Rattle.atom_normal.specs.Atoms.{atom_of}
+use Rattle.std.proofs.Common.{◌∙◌, ◌++◌, sym, ap, map, take, List, get_or}
 use Rattle.formula_meaning.specs.Atom.{Atom}
 use Rattle.formula_store.specs.declared.id.FormulaId.{FormulaId}
 use Rattle.formula_store.specs.Nodes.{tree, IsId}

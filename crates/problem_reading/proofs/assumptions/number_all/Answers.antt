@@ -1,4 +1,4 @@
-use Rattle.std.proofs.Common.{◌∙◌, ◌++◌, sym, ap, map, take}
+use Rattle.std.proofs.Common.{◌∙◌, sym, ap, map, take}
 use Rattle.std.specs.List.{fold}
 use Rattle.formula_tree.specs.Names.{with_name}
 use Rattle.formula_tree.specs.Resolving.{formula_variables, all_variables}

@@ -1,12 +1,10 @@
-use Rattle.std.proofs.Common.{◌≡◌, ◌∙◌, sym, ap, subst, map, take, List, rules}
-use Rattle.std.specs.List.{AllByRecursion}
+use Rattle.std.proofs.Common.{sym, subst, map, take, List, rules}
 use Rattle.qe_syntax.specs.declared.tree.Formula.{Formula}
 use Rattle.qe_syntax.specs.Writable.{IsWritableFormula}
 use Rattle.qe_syntax.specs.Trees.{formula_tree, formulas_of}
 use Rattle.qe_syntax.proofs.EntryLists.{all_at, more_entries}
 use Rattle.formula_tree.specs.Resolving.{resolve}
 use Rattle.formula_tree.specs.Makers.{AreMade}
-use Rattle.formula_store.specs.declared.id.FormulaId.{FormulaId}
 use Rattle.formula_store.specs.Nodes.{tree, IsId}
 use Rattle.session_meaning.specs.Assumptions.{resolved_all}
 use Rattle.session_state.specs.Keeping.{state_of}

@@ -1,14 +1,11 @@
 use Rattle.formula_meaning.specs.Formula.{also}
-use Rattle.std.proofs.Common.{◌≡◌, ◌∙◌, ◌++◌, sym, ap, subst, rules, map, Err, None}
-use Rattle.std.specs.Prelude.{IfErr, IfOk, ◌≢◌}
+use Rattle.std.proofs.Common.{◌≡◌, sym, subst, rules, map, Err}
+use Rattle.std.specs.Prelude.{IfErr, IfOk}
 use Rattle.std.specs.List.{AllByRecursion}
 use Rattle.qe_syntax.specs.Trees.{formula_tree, formulas_of}
-use Rattle.formula_store.specs.Nodes.{tree, IsId}
-use Rattle.formula_tree.specs.Makers.{AreMade}
-use Rattle.session_meaning.specs.Assumptions.{resolved_all}
+use Rattle.formula_store.specs.Nodes.{IsId}
 use Rattle.session_state.specs.Keeping.{state_of}
-use Rattle.session_meaning.specs.State.{State}
-use Rattle.problem_reading.specs.Reading.{HasNumbers, AreRead, AreUnread, IsReadUnder, IsUnreadUnder}
+use Rattle.problem_reading.specs.Reading.{HasNumbers, AreUnread, IsReadUnder}
 use Rattle.problem_reading.proofs.PartLemmas.{each_listed}
 use Rattle.problem_reading.proofs.AssumptionLemmas.{memory_unread}
 use Rattle.problem_reading.proofs.MadeLemmas.{parts_read, parts_refused}

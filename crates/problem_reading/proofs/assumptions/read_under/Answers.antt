@@ -1,8 +1,5 @@
-use Rattle.std.proofs.Common.{◌≡◌, inr, inl, sym, ap, subst, rules, Err, Some, None, refl, ◌∙◌}
-use Rattle.std.specs.Prelude.{IfErr, IfOk}
-use Rattle.std.specs.List.{AllByRecursion}
+use Rattle.std.proofs.Common.{inr, sym, Some, None}
 use Rattle.qe_syntax.specs.Trees.{formula_tree}
-use Rattle.formula_store.specs.Nodes.{tree, IsId}
 use Rattle.session_state.specs.Keeping.{state_of}
 use Rattle.problem_reading.proofs.AssumptionLemmas.{first_unread}
 use Rattle.problem_reading.proofs.CauseLemmas.{readable_none}

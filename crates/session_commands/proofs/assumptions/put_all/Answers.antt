@@ -1,4 +1,4 @@
-use Rattle.std.proofs.Common.{◌≡◌, ◌∙◌, sym, ap, map, take, List, get_or, refl}
+use Rattle.std.proofs.Common.{◌∙◌, sym, ap, map, take, List, get_or, refl}
 use Rattle.std.specs.List.{fold}
 use Rattle.formula_meaning.specs.Tree.{Tree}
 use Rattle.formula_store.specs.declared.id.FormulaId.{FormulaId}

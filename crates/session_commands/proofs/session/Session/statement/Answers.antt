@@ -1,4 +1,4 @@
-use Rattle.std.proofs.Common.{◌≡◌, ◌∙◌, sym, ap, subst, rules}
+use Rattle.std.proofs.Common.{◌≡◌, ◌∙◌, subst, rules}
 use Rattle.session_meaning.specs.Reply.{Reply}
 use Rattle.session_state.specs.Keeping.{state_of}
 use Rattle.session_commands.specs.Seen.{state_in}

@@ -1,5 +1,4 @@
-use Rattle.std.proofs.Common.{◌≡◌, ◌∙◌, ◌++◌, sym, ap, map, take, List, drop, rules}
-use Rattle.atom_normal.specs.Atoms.{atom_of}
+use Rattle.std.proofs.Common.{◌∙◌, ◌++◌, sym, ap, take, List}
 use Rattle.formula_meaning.specs.Atom.{Atom}
 use Rattle.qe_syntax.proofs.EntryLists.{all_at, more_entries}
 use Rattle.session_meaning.specs.Assumptions.{atoms_alone, atoms_among}
