@@ -1,0 +1,2 @@
+//! Linear constraints over the ordered fields, and multipliers that show that no point meets them (Farkas 1902).
+#![tactic(auto)]
