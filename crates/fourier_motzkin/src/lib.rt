@@ -1,0 +1,3 @@
+//! The reference search for a point of linear constraints over the ordered fields, or for multipliers that show that there is none: Fourier's elimination (1826),
+//! with Motzkin's multipliers (1936), and its laws. Each function does nothing; its contract is a law.
+#![tactic(auto)]
