@@ -1,3 +1,4 @@
 pub mod Signs
 pub mod Ends
+pub mod NewRow
 mod Examples
