@@ -1,7 +1,7 @@
 -- A number between the bounds of a name makes the rows true that have it, where the new rows are true.
-use Rattle.std.proofs.Common.{◌≡◌, ℕ, Bool, ◌||◌, List, [], ◌∷◌, inl, inr, refl, sym, ap, ◌∙◌, subst, arith}
+use Rattle.std.proofs.Common.{◌≡◌, ℕ, ◌||◌, List, [], ◌∷◌, inl, inr, refl, sym, ap, ◌∙◌, subst, arith}
 use Rattle.std.proofs.Math.IntN.{ℤ, pos, neg_ℤ, ◌+ℤ◌, ◌*ℤ◌}
-use Rattle.std.specs.Prelude.{◌<ℤ◌, ◌≤ℤ◌}
+use Rattle.std.specs.Prelude.{◌<ℤ◌}
 use Rattle.std.proofs.lemmas.Int.{ints}
 use Rattle.exact_numbers.specs.Frac.{Frac, IsProper}
 use Rattle.exact_numbers.proofs.Ring.{ring, zero_mul, mul_zero, one_mul, mul_comm, mul_assoc}
@@ -11,11 +11,11 @@ use Rattle.formula_meaning.specs.Some.{Among, EachOf}
 use Rattle.formula_meaning.specs.Form.{coefficient, value, without}
 use Rattle.formula_meaning.proofs.Values.{value_split}
 use Rattle.elimination_theory.proofs.SomeListed.{each_among}
-use Rattle.fourier_motzkin.specs.Rows.{Row, Holds, RowsHold, absent, uppers, lowers, Pair, pairs, without_name, rows_after}
+use Rattle.fourier_motzkin.specs.Rows.{Row, Holds, RowsHold, absent, uppers, lowers, Pair, without_name, rows_after}
 use Rattle.fourier_motzkin.specs.Bounds.{least, greatest}
-use Rattle.fourier_motzkin.proofs.Signs.{holds_mul, holds_left, holds_right, holds_times}
+use Rattle.fourier_motzkin.proofs.Signs.{holds_left, holds_right, holds_times}
 use Rattle.fourier_motzkin.proofs.Ends.{Before, IsBetween, fits_above, fits_below}
-use Rattle.fourier_motzkin.proofs.NewRow.{IsNewRow, new_row_is}
+use Rattle.fourier_motzkin.proofs.NewRow.{new_row_is}
 use Rattle.fourier_motzkin.proofs.Lists.{upper_row, lower_row, by_kind, among_pairs, pair_is, absent_after, pair_after}
 
 -- ---- arithmetic
@@ -111,12 +111,12 @@ module _ (x : ℕ) (p : Point ℕ) (D : ℤ) where
         let h : Holds (r.strict || q.strict) (value new.form p) = subst (λ b. Holds b (value new.form p)) n.strict (each_among (λ (r : Row). Holds r.strict (value r.form p)) (rows_after x rows) new after (pair_after x rows pair m)) in
         let own : n.first *ℤ coefficient x r.form +ℤ n.second *ℤ coefficient x q.form ≡ pos 0 = sym (n.coefficients x) ∙ ap (λ z. n.times *ℤ z) n.name_gone ∙ mul_zero n.times in
         let sum = without_own n.first n.second (coefficient x r.form) (coefficient x q.form) (rest r) (rest q) (p.at x) (value r.form p) (value q.form p) (n.times *ℤ value new.form p)
-            own (value_split r.form p x) (value_split q.form p x) (n.values p) in
+        own (value_split r.form p x) (value_split q.form p x) (n.values p) in
         let order = pair_order n.first n.second (coefficient x r.form) (coefficient x q.form) D f.numerator f.denominator e.numerator e.denominator (rest r) (rest q) (n.times *ℤ value new.form p)
-            own first.zero second.zero sum in
+        own first.zero second.zero sum in
         holds_times (r.strict || q.strict) ((f.denominator *ℤ e.denominator) *ℤ n.times) (value new.form p) (n.first *ℤ (coefficient x r.form *ℤ D)) _
-            (mul_positive (mul_positive second.proper first.proper) n.times_positive) (mul_positive n.first_positive (mul_positive i.above_positive pD))
-            (order ∙ sym (mul_assoc (f.denominator *ℤ e.denominator) n.times (value new.form p))) h
+        (mul_positive (mul_positive second.proper first.proper) n.times_positive) (mul_positive n.first_positive (mul_positive i.above_positive pD))
+        (order ∙ sym (mul_assoc (f.denominator *ℤ e.denominator) n.times (value new.form p))) h
 
     module _ (lows highs : List Frac) (low : AreEnds (lowers x rows) lows) (high : AreEnds (uppers x rows) highs) (v : Frac) (pv : IsProper v) (b : IsBetween (greatest lows) (least highs) v) where
       above_true : (r : Row) → Among (uppers x rows) r → TrueWith v r
@@ -124,18 +124,18 @@ module _ (x : ℕ) (p : Point ℕ) (D : ℤ) where
           let e = end_of (uppers x rows) highs r high m in
           let u = upper_row x rows r m in
           let h = fits_below lows highs (ends_proper (lowers x rows) lows low) (ends_proper (uppers x rows) highs high) v pv b r.strict e.0 e.2.proper e.1
-              (λ l n. let f = row_of_end (lowers x rows) lows l low n in holds_left r.strict f.0.strict _ (in_order r f.0 e.0 l m f.1 e.2 f.2)) in
+          (λ l n. let f = row_of_end (lowers x rows) lows l low n in holds_left r.strict f.0.strict _ (in_order r f.0 e.0 l m f.1 e.2 f.2)) in
           holds_times r.strict (coefficient x r.form *ℤ D) _ e.0.denominator _ (mul_positive u.1 pD) e.2.proper
-              (upper_fits (coefficient x r.form) D e.0.numerator e.0.denominator v.numerator v.denominator (rest r) e.2.zero) h
+          (upper_fits (coefficient x r.form) D e.0.numerator e.0.denominator v.numerator v.denominator (rest r) e.2.zero) h
 
       below_true : (r : Row) → Among (lowers x rows) r → TrueWith v r
       below_true r m =
           let e = end_of (lowers x rows) lows r low m in
           let u = lower_row x rows r m in
           let h = fits_above lows highs (ends_proper (lowers x rows) lows low) (ends_proper (uppers x rows) highs high) v pv b r.strict e.0 e.2.proper e.1
-              (λ l n. let f = row_of_end (uppers x rows) highs l high n in holds_right f.0.strict r.strict _ (in_order f.0 r l e.0 f.1 m f.2 e.2)) in
+          (λ l n. let f = row_of_end (uppers x rows) highs l high n in holds_right f.0.strict r.strict _ (in_order f.0 r l e.0 f.1 m f.2 e.2)) in
           holds_times r.strict (neg_ℤ (coefficient x r.form) *ℤ D) _ e.0.denominator _ (mul_positive u.1 pD) e.2.proper
-              (lower_fits (coefficient x r.form) D e.0.numerator e.0.denominator v.numerator v.denominator (rest r) e.2.zero) h
+          (lower_fits (coefficient x r.form) D e.0.numerator e.0.denominator v.numerator v.denominator (rest r) e.2.zero) h
 
       absent_true : (r : Row) → Among (absent x rows) r → coefficient x r.form ≡ pos 0 → TrueWith v r
       absent_true r m e =

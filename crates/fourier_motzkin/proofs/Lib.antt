@@ -3,4 +3,5 @@ pub mod Ends
 pub mod NewRow
 pub mod Lists
 pub mod Fits
+pub mod StepExact
 mod Examples

@@ -1,5 +1,5 @@
 -- The new row of two rows: positive multiples of them, in which the name cancels.
-use Rattle.std.proofs.Common.{◌≡◌, ℕ, Bool, true, false, ◌||◌, List, [], ◌∷◌, ◌++◌, refl, sym, ap, ◌∙◌, subst, arith, if◌then◌else◌}
+use Rattle.std.proofs.Common.{◌≡◌, ℕ, ◌||◌, List, [], ◌∷◌, ◌++◌, refl, sym, ap, ◌∙◌, subst, arith, if◌then◌else◌}
 use Rattle.std.proofs.Math.IntN.{ℤ, pos, neg_ℤ, ◌+ℤ◌, ◌*ℤ◌}
 use Rattle.std.specs.Prelude.{◌<ℤ◌, ◌≤ℤ◌, int_div}
 use Rattle.std.proofs.lemmas.Int.{ints}
@@ -11,7 +11,7 @@ use Rattle.exact_numbers.proofs.LeastMultiple.{exact_div}
 use Rattle.exact_numbers.proofs.Contents.{content_is}
 use Rattle.formula_meaning.specs.Point.{Point}
 use Rattle.formula_meaning.specs.Form.{Form, coefficient, value, combine}
-use Rattle.formula_meaning.specs.Sorted.{IsSorted, gathered}
+use Rattle.formula_meaning.specs.Sorted.{IsSorted}
 use Rattle.formula_meaning.proofs.Values.{value_combine}
 use Rattle.formula_meaning.proofs.Coefficients.{coefficient_combine}
 use Rattle.formula_meaning.proofs.Gathered.{value_gathered, coefficient_gathered, constant_gathered, gathered_sorted}
@@ -142,7 +142,7 @@ new_row_is x pair pa pb =
     let f = factors_of (above x pair) (below x pair) pa pb in
     let m = lowest_multiple (joined x pair) in
     let coefficients : (y : ℕ) → m.factor *ℤ coefficient y (without_name x pair).form ≡ u *ℤ coefficient y pair.upper.form +ℤ l *ℤ coefficient y pair.lower.form =
-        λ y. m.coefficients y ∙ coefficient_gathered y (combine u pair.upper.form l pair.lower.form) ∙ coefficient_combine y u pair.upper.form l pair.lower.form in
+    λ y. m.coefficients y ∙ coefficient_gathered y (combine u pair.upper.form l pair.lower.form) ∙ coefficient_combine y u pair.upper.form l pair.lower.form in
     record {
       times = m.factor;
       first = u;
