@@ -4,4 +4,5 @@ pub mod NewRow
 pub mod Lists
 pub mod Fits
 pub mod StepExact
+pub mod Derived
 mod Examples

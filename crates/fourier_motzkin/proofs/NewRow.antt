@@ -124,7 +124,7 @@ pub record IsNewRow (x : ℕ) (pair : Pair) (q : Row) : Type 0 where
   pub name_gone : coefficient x q.form ≡ pos 0
   pub sorted : IsSorted q.form
 
-constant_combine : (a : ℤ) (f : Form) (b : ℤ) (g : Form) → (combine a f b g).constant ≡ a *ℤ f.constant +ℤ b *ℤ g.constant
+pub constant_combine : (a : ℤ) (f : Form) (b : ℤ) (g : Form) → (combine a f b g).constant ≡ a *ℤ f.constant +ℤ b *ℤ g.constant
 unfolding combine
 constant_combine a f b g = refl
 
