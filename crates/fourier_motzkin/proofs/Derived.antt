@@ -22,7 +22,7 @@ use Rattle.elimination_theory.proofs.SomeListed.{each_append, each_map}
 -- ---- weighted sums
 
 -- get: a number of a form, as a coefficient. The sum of those of the constraints, times the numbers of their places
-weighed : (Form → ℤ) → ℕ → List Constraint → (ℕ → ℤ) → ℤ
+pub weighed : (Form → ℤ) → ℕ → List Constraint → (ℕ → ℤ) → ℤ
 weighed get place [] m = pos 0
 weighed get place (c ∷ cs) m = m place *ℤ get c.form +ℤ weighed get (suc place) cs m
 
@@ -51,11 +51,11 @@ weighed_none get m place (c ∷ cs) z =
     omega (arith, ints)
 
 -- the number of a combination is that of the two
-abbrev IsLinearIn : (Form → ℤ) → Type 0
+abbrev pub IsLinearIn : (Form → ℤ) → Type 0
 IsLinearIn get = (a : ℤ) (f : Form) (b : ℤ) (g : Form) → get (combine a f b g) ≡ a *ℤ get f +ℤ b *ℤ get g
 
 -- the number of the sum is the weighted sum
-sum_weighed : (get : Form → ℤ) → IsLinearIn get → (m : Form) (place : ℕ) (cs : List Constraint) (s : Form) →
+pub sum_weighed : (get : Form → ℤ) → IsLinearIn get → (m : Form) (place : ℕ) (cs : List Constraint) (s : Form) →
     get (sum_from s cs (multipliers_from place cs m)) ≡ get s +ℤ weighed get place cs (λ i. coefficient i m)
 unfolding weighed sum_from
 sum_weighed get linear m place [] s = omega (arith, ints)
@@ -136,18 +136,18 @@ none_allowed m place (c ∷ cs) z = (zero_allowed c.bound (coefficient place m) 
 
 -- ---- derived rows
 
-abbrev constant_of : Form → ℤ
+abbrev pub constant_of : Form → ℤ
 constant_of f = f.constant
 
-abbrev times_of : Row → ℕ → ℤ
+abbrev pub times_of : Row → ℕ → ℤ
 times_of r i = coefficient i r.multipliers
 
 -- the row is what its multipliers make of the constraints, of which the first has this place
 pub record IsDerived (place : ℕ) (cs : List Constraint) (r : Row) : Type 0 where
-  coefficients : (y : ℕ) → coefficient y r.form ≡ weighed (coefficient y) place cs (times_of r)
-  constant : r.form.constant ≡ weighed constant_of place cs (times_of r)
-  allowed : AreAllowed cs (multipliers_from place cs r.multipliers)
-  strict : r.strict ≡ true → SomeStrict cs (multipliers_from place cs r.multipliers)
+  pub coefficients : (y : ℕ) → coefficient y r.form ≡ weighed (coefficient y) place cs (times_of r)
+  pub constant : r.form.constant ≡ weighed constant_of place cs (times_of r)
+  pub allowed : AreAllowed cs (multipliers_from place cs r.multipliers)
+  pub strict : r.strict ≡ true → SomeStrict cs (multipliers_from place cs r.multipliers)
 
 some_true : (a b : Bool) → (a || b) ≡ true → (a ≡ true) ⊎ (b ≡ true)
 some_true true b e = inl refl

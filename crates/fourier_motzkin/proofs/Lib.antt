@@ -5,4 +5,5 @@ pub mod Lists
 pub mod Fits
 pub mod StepExact
 pub mod Derived
+pub mod Over
 mod Examples
