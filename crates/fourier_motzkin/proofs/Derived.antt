@@ -149,7 +149,7 @@ pub record IsDerived (place : ℕ) (cs : List Constraint) (r : Row) : Type 0 whe
   pub allowed : AreAllowed cs (multipliers_from place cs r.multipliers)
   pub strict : r.strict ≡ true → SomeStrict cs (multipliers_from place cs r.multipliers)
 
-some_true : (a b : Bool) → (a || b) ≡ true → (a ≡ true) ⊎ (b ≡ true)
+pub some_true : (a b : Bool) → (a || b) ≡ true → (a ≡ true) ⊎ (b ≡ true)
 some_true true b e = inl refl
 some_true false b e = inr e
 

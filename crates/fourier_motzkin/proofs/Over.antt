@@ -5,25 +5,27 @@ use Rattle.std.specs.Prelude.{◌<ℤ◌, ◌≤ℤ◌, int_lt}
 use Rattle.std.specs.Ordering.{int_eq}
 use Rattle.std.specs.Cmp.{signed_Decides}
 use Rattle.std.proofs.lemmas.Int.{ints}
-use Rattle.exact_numbers.proofs.Ring.{mul_zero, zero_mul}
-use Rattle.exact_numbers.proofs.Order.{by_zero, cancel_positive}
+use Rattle.exact_numbers.proofs.Ring.{mul_zero, mul_comm}
+use Rattle.exact_numbers.proofs.Order.{by_zero, by_less, cancel_positive}
 use Rattle.formula_meaning.specs.Context.{Fields}
 use Rattle.formula_meaning.specs.Point.{Point, Of}
 use Rattle.formula_meaning.specs.Form.{Form, Term, coefficient, multiple, total, value, without, scale}
 use Rattle.formula_meaning.specs.Sorted.{IsRising, AllNonzero, IsSorted, gathered}
 use Rattle.formula_meaning.specs.Some.{Among, EachOf}
-use Rattle.formula_meaning.proofs.Coefficients.{coefficient_scale}
+use Rattle.formula_meaning.proofs.Coefficients.{coefficient_scale, coefficient_combine}
 use Rattle.formula_meaning.proofs.Gathered.{coefficient_gathered, gathered_sorted}
 use Rattle.formula_meaning.proofs.Sorted.{here, elsewhere, scale_sorted}
 use Rattle.elimination_theory.proofs.SomeListed.{each_append, each_map, each_among}
+use Rattle.sample_reference.proofs.SamePoints.{some_same, none_some}
 use Rattle.farkas_theory.specs.Constraints.{Bound, Equal, AtMost, Below, Constraint}
-use Rattle.farkas_theory.specs.Farkas.{nothing, IsFarkas, sum_from, SomeStrict}
+use Rattle.farkas_theory.specs.Farkas.{nothing, IsFarkas, sum_from}
 use Rattle.fourier_motzkin.specs.Rows.{Row, Holds, RowsHold, row_at, negated_row, bound_rows, rows_from, absent, Pair, pairs, without_name, rows_after}
 use Rattle.fourier_motzkin.specs.Search.{is_false, first_false, multipliers_from}
 use Rattle.fourier_motzkin.specs.Theorems.{AreOver}
+use Rattle.fourier_motzkin.proofs.Signs.{holds_mul}
 use Rattle.fourier_motzkin.proofs.NewRow.{IsNewRow, new_row_is, constant_combine}
 use Rattle.fourier_motzkin.proofs.Lists.{each_from, absent_row, pair_is, by_origin}
-use Rattle.fourier_motzkin.proofs.Derived.{IsDerived, constant_of, IsLinearIn, sum_weighed}
+use Rattle.fourier_motzkin.proofs.Derived.{IsDerived, constant_of, times_of, weighed, sum_weighed, some_true}
 
 -- ---- names
 
@@ -131,3 +133,84 @@ value_constant f p o = ap (λ z. z +ℤ f.constant *ℤ pos p.below) (empty f.te
     empty : (ts : List Term) → EachOf (λ (t : Term). Among [] t.name) ts → total ts p.at ≡ pos 0
     empty [] h = refl
     empty (t ∷ ts) h = absurd h.0
+
+-- ---- false rows and true rows
+
+not_less : (z w : ℤ) → int_lt z w ≡ false → w ≤ℤ z
+not_less z w e = grind (arith, ints)
+
+less_told : (z w : ℤ) → int_lt z w ≡ true → z <ℤ w
+less_told z w e = grind (arith, ints)
+
+neither : (a b : Bool) → (a || b) ≡ false → (a ≡ false) × (b ≡ false)
+neither true b e = absurd cc
+neither false b e = (refl, e)
+
+-- a row that isn't false holds of its constant
+true_constant : (s : Bool) (c : ℤ) → (int_lt (pos 0) c || (s && int_eq c (pos 0))) ≡ false → Holds s c
+true_constant true c e =
+    let i = neither (int_lt (pos 0) c) (int_eq c (pos 0)) e in
+    let h = not_less (pos 0) c i.0 in
+    by_zero c (λ z. absurd cc ((signed_Decides c (pos 0)).1 z, i.1)) (λ n. by_less c (pos 0) (λ l. l) (λ (k : pos 0 ≤ℤ c). absurd (n (omega (arith, ints)))))
+true_constant false c e = not_less (pos 0) c (neither (int_lt (pos 0) c) false e).0
+
+first_none : (rows : List Row) → first_false rows ≡ None → EachOf (λ (r : Row). is_false r ≡ false) rows
+first_none [] e = tt
+first_none (r ∷ rows) e = go (is_false r) refl e (first_none rows)
+  where
+    go : (b : Bool) → is_false r ≡ b → (if b then Some r else first_false rows) ≡ None → (first_false rows ≡ None → EachOf (λ (r : Row). is_false r ≡ false) rows) → (is_false r ≡ false) × EachOf (λ (r : Row). is_false r ≡ false) rows
+    go true f g ih = none_some r (sym g)
+    go false f g ih = (f, ih g)
+
+first_some : (rows : List Row) (q : Row) → first_false rows ≡ Some q → Among rows q × (is_false q ≡ true)
+first_some [] q e = none_some q e
+first_some (r ∷ rows) q e = go (is_false r) refl e (first_some rows q)
+  where
+    go : (b : Bool) → is_false r ≡ b → (if b then Some r else first_false rows) ≡ Some q → (first_false rows ≡ Some q → Among rows q × (is_false q ≡ true)) → Among (r ∷ rows) q × (is_false q ≡ true)
+    go true f g ih = let s = some_same r q g in (inl s, subst (λ (z : Row). is_false z ≡ true) s f)
+    go false f g ih = let i = ih g in (inr i.0, i.1)
+
+-- where no row is false, all hold at every point
+pub none_false : (rows : List Row) (p : Point ℕ) → Of Fields p → AreRowsOver [] rows → first_false rows ≡ None → RowsHold p rows
+none_false rows p o over e =
+    let each = first_none rows e in
+    let below : pos 0 <ℤ pos p.below = omega (arith, ints) in
+    each_from (λ (r : Row). Holds r.strict (value r.form p)) rows (λ r m.
+    let h = true_constant r.strict r.form.constant (each_among (λ (r : Row). is_false r ≡ false) rows r each m) in
+    subst (Holds r.strict) (mul_comm (pos p.below) r.form.constant ∙ sym (value_constant r.form p (each_among (λ (r : Row). IsOver [] r.form) rows r over m)))
+        ((holds_mul r.strict (pos p.below) r.form.constant below).0 h))
+
+-- a false row: its constant is positive, or 0 where it is strict
+too_large : (s : Bool) (c : ℤ) → (int_lt (pos 0) c || (s && int_eq c (pos 0))) ≡ true → (pos 0 <ℤ c) ⊎ ((c ≡ pos 0) × (s ≡ true))
+too_large s c e = ⊎_elim (λ l. inl (less_told (pos 0) c l)) (λ k. inr (zero s k)) (some_true (int_lt (pos 0) c) (s && int_eq c (pos 0)) e)
+  where
+    zero : (s : Bool) → (s && int_eq c (pos 0)) ≡ true → (c ≡ pos 0) × (s ≡ true)
+    zero true k = ((signed_Decides c (pos 0)).0 k, refl)
+    zero false k = absurd cc
+
+nothing_added : (s w : ℤ) → s ≡ pos 0 +ℤ w → s ≡ w
+nothing_added s w e = omega (arith, ints)
+
+nothing_has : (y : ℕ) → coefficient y nothing ≡ pos 0
+unfolding coefficient
+nothing_has y = refl
+
+-- the multipliers of a false row without names are a certificate
+false_farkas : (cs : List Constraint) (r : Row) → IsDerived 0 cs r → IsOver [] r.form → is_false r ≡ true → IsFarkas cs (multipliers_from 0 cs r.multipliers)
+false_farkas cs r d o e =
+    let ms = multipliers_from 0 cs r.multipliers in
+    let constant : (sum_from nothing cs ms).constant ≡ r.form.constant =
+        nothing_added _ _ (sum_weighed constant_of (λ a f b g. constant_combine a f b g) r.multipliers 0 cs nothing) ∙ sym d.constant in
+    record {
+      allowed = d.allowed;
+      no_names = λ y.
+          sum_weighed (coefficient y) (λ a f b g. coefficient_combine y a f b g) r.multipliers 0 cs nothing
+          ∙ ap (λ z. z +ℤ weighed (coefficient y) 0 cs (times_of r)) (nothing_has y)
+          ∙ ap (λ z. pos 0 +ℤ z) (sym (d.coefficients y) ∙ o.names_among y (nowhere y));
+      constant = ⊎_elim (λ h. inl (subst (λ z. pos 0 <ℤ z) (sym constant) h)) (λ h. inr (constant ∙ h.0, d.strict h.1)) (too_large r.strict r.form.constant e);
+    }
+
+pub first_farkas : (cs : List Constraint) (rows : List Row) (r : Row) → EachOf (IsDerived 0 cs) rows → AreRowsOver [] rows → first_false rows ≡ Some r → IsFarkas cs (multipliers_from 0 cs r.multipliers)
+first_farkas cs rows r derived over e =
+    let i = first_some rows r e in
+    false_farkas cs r (each_among (IsDerived 0 cs) rows r derived i.0) (each_among (λ (r : Row). IsOver [] r.form) rows r over i.0) i.1
