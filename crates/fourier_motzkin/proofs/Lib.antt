@@ -6,4 +6,5 @@ pub mod Fits
 pub mod StepExact
 pub mod Derived
 pub mod Over
+pub mod Found
 mod Examples

@@ -12,9 +12,9 @@ use Rattle.formula_meaning.specs.Point.{Point, Of}
 use Rattle.formula_meaning.specs.Form.{Form, Term, coefficient, multiple, total, value, without, scale}
 use Rattle.formula_meaning.specs.Sorted.{IsRising, AllNonzero, IsSorted, gathered}
 use Rattle.formula_meaning.specs.Some.{Among, EachOf}
-use Rattle.formula_meaning.proofs.Coefficients.{coefficient_scale, coefficient_combine}
+use Rattle.formula_meaning.proofs.Coefficients.{coefficient_scale, coefficient_combine, coefficient_without_same, coefficient_without_other}
 use Rattle.formula_meaning.proofs.Gathered.{coefficient_gathered, gathered_sorted}
-use Rattle.formula_meaning.proofs.Sorted.{here, elsewhere, scale_sorted}
+use Rattle.formula_meaning.proofs.Sorted.{here, elsewhere, scale_sorted, without_sorted}
 use Rattle.elimination_theory.proofs.SomeListed.{each_append, each_map, each_among}
 use Rattle.sample_reference.proofs.SamePoints.{some_same, none_some}
 use Rattle.farkas_theory.specs.Constraints.{Bound, Equal, AtMost, Below, Constraint}
@@ -87,17 +87,25 @@ rows_over names place (c ∷ cs) h =
 
 -- ---- a step takes the name away
 
+-- a form without the name
+without_it : (x : ℕ) (xs : List ℕ) (f : Form) → IsSorted f → coefficient x f ≡ pos 0 → ((y : ℕ) → ¬ (Among (x ∷ xs) y) → coefficient y f ≡ pos 0) → IsOver xs f
+without_it x xs f s z h = record { sorted = s; names_among = λ y n. go y n (nat_eq x y) refl }
+  where
+    go : (y : ℕ) → ¬ (Among xs y) → (b : Bool) → nat_eq x y ≡ b → coefficient y f ≡ pos 0
+    go y n true e = subst (λ (w : ℕ). coefficient w f ≡ pos 0) (eqb-true x y e) z
+    go y n false e = h y (λ m. ⊎_elim (λ i. absurd cc (sym e ∙ eq-eqb x y i)) n m)
+
+-- the other terms of a form
+pub others_over : (x : ℕ) (xs : List ℕ) (f : Form) → IsOver (x ∷ xs) f → IsOver xs (without x f)
+others_over x xs f o = without_it x xs (without x f) (without_sorted x f o.sorted) (coefficient_without_same x f) (λ y n. go y n (nat_eq x y) refl)
+  where
+    go : (y : ℕ) → ¬ (Among (x ∷ xs) y) → (b : Bool) → nat_eq x y ≡ b → coefficient y (without x f) ≡ pos 0
+    go y n true e = absurd (n (inl (eqb-true x y e)))
+    go y n false e = coefficient_without_other x y f e ∙ o.names_among y n
+
 module _ (x : ℕ) (xs : List ℕ) (rows : List Row) (over : AreRowsOver (x ∷ xs) rows) where
   row_over : (r : Row) → Among rows r → IsOver (x ∷ xs) r.form
   row_over r m = each_among (λ (r : Row). IsOver (x ∷ xs) r.form) rows r over m
-
-  -- a form without the name
-  without_it : (f : Form) → IsSorted f → coefficient x f ≡ pos 0 → ((y : ℕ) → ¬ (Among (x ∷ xs) y) → coefficient y f ≡ pos 0) → IsOver xs f
-  without_it f s z h = record { sorted = s; names_among = λ y n. go y n (nat_eq x y) refl }
-    where
-      go : (y : ℕ) → ¬ (Among xs y) → (b : Bool) → nat_eq x y ≡ b → coefficient y f ≡ pos 0
-      go y n true e = subst (λ (w : ℕ). coefficient w f ≡ pos 0) (eqb-true x y e) z
-      go y n false e = h y (λ m. ⊎_elim (λ i. absurd cc (sym e ∙ eq-eqb x y i)) n m)
 
   both_zero : (t a b q u l : ℤ) → pos 0 <ℤ t → t *ℤ q ≡ a *ℤ u +ℤ b *ℤ l → u ≡ pos 0 → l ≡ pos 0 → q ≡ pos 0
   both_zero t a b q u l pt e f g =
@@ -111,14 +119,14 @@ module _ (x : ℕ) (xs : List ℕ) (rows : List Row) (over : AreRowsOver (x ∷ 
   after_over =
       each_from (λ (r : Row). IsOver xs r.form) (rows_after x rows) (λ r m.
       by_origin x rows r m
-      (λ old. let i = absent_row x rows r old in let o = row_over r i.0 in without_it r.form o.sorted i.1 o.names_among)
+      (λ old. let i = absent_row x rows r old in let o = row_over r i.0 in without_it x xs r.form o.sorted i.1 o.names_among)
       (λ pair new same.
       let i = pair_is x rows pair new in
       let n = new_row_is x pair i.above_positive i.below_positive in
       let u = row_over pair.upper i.upper in
       let l = row_over pair.lower i.lower in
       subst (λ (r : Row). IsOver xs r.form) same
-      (without_it (without_name x pair).form n.sorted n.name_gone (λ y k. both_zero n.times n.first n.second (coefficient y (without_name x pair).form) (coefficient y pair.upper.form) (coefficient y pair.lower.form) n.times_positive (n.coefficients y) (u.names_among y k) (l.names_among y k)))))
+      (without_it x xs (without_name x pair).form n.sorted n.name_gone (λ y k. both_zero n.times n.first n.second (coefficient y (without_name x pair).form) (coefficient y pair.upper.form) (coefficient y pair.lower.form) n.times_positive (n.coefficients y) (u.names_among y k) (l.names_among y k)))))
 
 -- ---- rows without names
 
