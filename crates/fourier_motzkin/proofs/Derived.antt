@@ -1,22 +1,21 @@
 -- Each row is the sum of the constraints' forms, times its multipliers; these are allowed, and one is positive at a strict constraint where the row is strict.
-use Rattle.std.proofs.Common.{◌≡◌, ℕ, suc, zero, ◌<◌, ◌≤◌, Bool, true, false, ◌||◌, List, [], ◌∷◌, ◌++◌, inl, inr, ⊎_elim, ◌⊎◌, refl, sym, ap, ◌∙◌, subst, arith, nat_eq, if◌then◌else◌, eqb-true, eq-eqb}
-use Rattle.std.proofs.Math.IntN.{ℤ, pos, negsuc, neg_ℤ, ◌+ℤ◌, ◌*ℤ◌}
+use Rattle.std.proofs.Common.{◌≡◌, ℕ, suc, ◌<◌, ◌≤◌, Bool, true, false, ◌||◌, List, [], ◌∷◌, inl, inr, ⊎_elim, ◌⊎◌, refl, sym, ap, ◌∙◌, subst, arith, nat_eq, if◌then◌else◌, eqb-true, eq-eqb}
+use Rattle.std.proofs.Math.IntN.{ℤ, pos, negsuc, ◌+ℤ◌, ◌*ℤ◌}
 use Rattle.std.specs.Prelude.{◌<ℤ◌, ◌≤ℤ◌}
 use Rattle.std.proofs.lemmas.Int.{ints}
-use Rattle.exact_numbers.proofs.Ring.{ring, zero_mul, mul_zero, one_mul, mul_one}
+use Rattle.exact_numbers.proofs.Ring.{ring, zero_mul, mul_zero, one_mul}
 use Rattle.exact_numbers.proofs.Order.{mul_at_most, mul_less, cancel_positive, cancel_at_most, cancel_less}
 use Rattle.formula_meaning.specs.Form.{Form, coefficient, scale, combine}
 use Rattle.formula_meaning.specs.Sorted.{gathered}
-use Rattle.formula_meaning.specs.Some.{Among, EachOf}
-use Rattle.formula_meaning.proofs.Coefficients.{coefficient_combine, coefficient_scale}
+use Rattle.formula_meaning.specs.Some.{EachOf}
+use Rattle.formula_meaning.proofs.Coefficients.{coefficient_scale}
 use Rattle.formula_meaning.proofs.Gathered.{coefficient_gathered, constant_gathered}
 use Rattle.formula_meaning.proofs.Relations.{weaken}
 use Rattle.farkas_theory.specs.Constraints.{Bound, Equal, AtMost, Below, Constraint}
-use Rattle.farkas_theory.specs.Farkas.{nothing, IsAllowed, AreAllowed, sum_from, IsStrictly, SomeStrict}
+use Rattle.farkas_theory.specs.Farkas.{IsAllowed, AreAllowed, sum_from, IsStrictly, SomeStrict}
 use Rattle.fourier_motzkin.specs.Rows.{Row, one_at, row_at, negated_row, bound_rows, rows_from, Pair}
 use Rattle.fourier_motzkin.specs.Search.{multipliers_from}
 use Rattle.fourier_motzkin.proofs.NewRow.{IsNewRow}
-use Rattle.fourier_motzkin.proofs.Lists.{each_from}
 use Rattle.elimination_theory.proofs.SomeListed.{each_append, each_map}
 
 -- ---- weighted sums

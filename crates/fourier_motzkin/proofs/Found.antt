@@ -1,10 +1,10 @@
 -- The bounds that the fraction rule gives are those of the rows, and the value between them makes all rows true.
-use Rattle.std.proofs.Common.{◌≡◌, ℕ, ◌<◌, Bool, true, false, List, [], ◌∷◌, Option, Some, None, inl, inr, ⊎_elim, refl, sym, ap, ◌∙◌, subst, arith, nat_eq, if◌then◌else◌, eqb-true, unsigned_abs}
+use Rattle.std.proofs.Common.{◌≡◌, ℕ, Bool, true, false, List, [], ◌∷◌, Some, refl, sym, ap, ◌∙◌, subst, arith, nat_eq, if◌then◌else◌}
 use Rattle.std.proofs.Math.IntN.{ℤ, pos, neg_ℤ, ◌+ℤ◌, ◌*ℤ◌}
 use Rattle.std.specs.Prelude.{◌<ℤ◌, ◌≤ℤ◌}
 use Rattle.std.proofs.lemmas.Int.{ints}
-use Rattle.exact_numbers.specs.Frac.{Frac, IsProper, IsLowest, SameValue, whole_frac, true_product, inverted, sum_step, product_step, ◌>>=◌}
-use Rattle.exact_numbers.proofs.Ring.{ring, zero_mul, mul_zero, mul_one, one_mul, mul_comm}
+use Rattle.exact_numbers.specs.Frac.{Frac, IsProper, IsLowest, whole_frac, inverted, sum_step, product_step, ◌>>=◌}
+use Rattle.exact_numbers.proofs.Ring.{ring, zero_mul, mul_zero, mul_one, one_mul}
 use Rattle.exact_numbers.proofs.Order.{mul_positive, cancel_positive, by_less}
 use Rattle.exact_numbers.proofs.FractionRule.{inverted_negative, inverted_other, inverted_one}
 use Rattle.formula_meaning.specs.Context.{Fields}
@@ -15,13 +15,13 @@ use Rattle.formula_meaning.proofs.Values.{value_split}
 use Rattle.elimination_theory.proofs.SomeListed.{each_among}
 use Rattle.sample_reference.specs.Values.{Value, value_names, IsValue}
 use Rattle.sample_reference.proofs.FieldsValue.{sum_is, product_is}
-use Rattle.sample_reference.proofs.SamePoints.{some_same, none_some, some_then}
+use Rattle.sample_reference.proofs.SamePoints.{some_same, some_then}
 use Rattle.fourier_motzkin.specs.Rows.{Row, Holds, RowsHold, uppers, lowers, rows_after}
 use Rattle.fourier_motzkin.specs.Bounds.{value_among, terms_at, bound_of, bounds_of, least, greatest, between, found_value}
 use Rattle.fourier_motzkin.proofs.Signs.{holds_mul}
 use Rattle.fourier_motzkin.proofs.Ends.{greatest_proper, least_proper, between_is}
 use Rattle.fourier_motzkin.proofs.Lists.{each_from, upper_row, lower_row}
-use Rattle.fourier_motzkin.proofs.Fits.{IsEnd, AreEnds, ends_proper, TrueWith, all_true}
+use Rattle.fourier_motzkin.proofs.Fits.{IsEnd, AreEnds, ends_proper, all_true}
 use Rattle.fourier_motzkin.proofs.Over.{IsOver, AreRowsOver, over_terms, others_over}
 
 -- ---- fractions of a point
@@ -183,8 +183,8 @@ module _ (x : ℕ) (vs : List Value) (q : Point ℕ) (each : EachOf (IsValue Fie
           holds = λ stands.
               each_from (λ (r : Row). Holds r.strict (value r.form q)) rows (λ r m.
               (holds_mul r.strict a.denominator (value r.form q) is.proper).1
-                  (subst (Holds r.strict) (there_too (coefficient x r.form) (q.at x) (value r.form q) a.denominator (a.numerator *ℤ D) (value (without x r.form) q) (sym stands) (value_split r.form q x))
-                  (all_true x q D pD rows after low high ends_low ends_high a is.proper is.is_between r m)));
+              (subst (Holds r.strict) (there_too (coefficient x r.form) (q.at x) (value r.form q) a.denominator (a.numerator *ℤ D) (value (without x r.form) q) (sym stands) (value_split r.form q x))
+              (all_true x q D pD rows after low high ends_low ends_high a is.proper is.is_between r m)));
         }
 
     pub found_is : (a : Frac) → found_value x rows vs ≡ Some a → IsFound a

@@ -7,4 +7,5 @@ pub mod StepExact
 pub mod Derived
 pub mod Over
 pub mod Found
+pub mod Sound
 mod Examples

@@ -1,5 +1,5 @@
 -- Which names stand in the rows, and what a row without names says.
-use Rattle.std.proofs.Common.{◌≡◌, ℕ, suc, ◌+◌, Bool, true, false, ◌&&◌, ◌||◌, List, [], ◌∷◌, ◌++◌, Option, Some, None, inl, inr, ⊎_elim, ◌⊎◌, refl, sym, ap, ◌∙◌, subst, arith, nat_eq, if◌then◌else◌, eqb-true, eq-eqb}
+use Rattle.std.proofs.Common.{◌≡◌, ℕ, suc, Bool, true, false, ◌&&◌, ◌||◌, List, [], ◌∷◌, Some, None, inl, inr, ⊎_elim, ◌⊎◌, refl, sym, ap, ◌∙◌, subst, arith, nat_eq, if◌then◌else◌, eqb-true, eq-eqb}
 use Rattle.std.proofs.Math.IntN.{ℤ, pos, negsuc, ◌+ℤ◌, ◌*ℤ◌}
 use Rattle.std.specs.Prelude.{◌<ℤ◌, ◌≤ℤ◌, int_lt}
 use Rattle.std.specs.Ordering.{int_eq}
@@ -15,15 +15,15 @@ use Rattle.formula_meaning.specs.Some.{Among, EachOf}
 use Rattle.formula_meaning.proofs.Coefficients.{coefficient_scale, coefficient_combine, coefficient_without_same, coefficient_without_other}
 use Rattle.formula_meaning.proofs.Gathered.{coefficient_gathered, gathered_sorted}
 use Rattle.formula_meaning.proofs.Sorted.{here, elsewhere, scale_sorted, without_sorted}
-use Rattle.elimination_theory.proofs.SomeListed.{each_append, each_map, each_among}
+use Rattle.elimination_theory.proofs.SomeListed.{each_append, each_among}
 use Rattle.sample_reference.proofs.SamePoints.{some_same, none_some}
 use Rattle.farkas_theory.specs.Constraints.{Bound, Equal, AtMost, Below, Constraint}
 use Rattle.farkas_theory.specs.Farkas.{nothing, IsFarkas, sum_from}
-use Rattle.fourier_motzkin.specs.Rows.{Row, Holds, RowsHold, row_at, negated_row, bound_rows, rows_from, absent, Pair, pairs, without_name, rows_after}
+use Rattle.fourier_motzkin.specs.Rows.{Row, Holds, RowsHold, bound_rows, rows_from, without_name, rows_after}
 use Rattle.fourier_motzkin.specs.Search.{is_false, first_false, multipliers_from}
 use Rattle.fourier_motzkin.specs.Theorems.{AreOver}
 use Rattle.fourier_motzkin.proofs.Signs.{holds_mul}
-use Rattle.fourier_motzkin.proofs.NewRow.{IsNewRow, new_row_is, constant_combine}
+use Rattle.fourier_motzkin.proofs.NewRow.{new_row_is, constant_combine}
 use Rattle.fourier_motzkin.proofs.Lists.{each_from, absent_row, pair_is, by_origin}
 use Rattle.fourier_motzkin.proofs.Derived.{IsDerived, constant_of, times_of, weighed, sum_weighed, some_true}
 
@@ -186,7 +186,7 @@ none_false rows p o over e =
     each_from (λ (r : Row). Holds r.strict (value r.form p)) rows (λ r m.
     let h = true_constant r.strict r.form.constant (each_among (λ (r : Row). is_false r ≡ false) rows r each m) in
     subst (Holds r.strict) (mul_comm (pos p.below) r.form.constant ∙ sym (value_constant r.form p (each_among (λ (r : Row). IsOver [] r.form) rows r over m)))
-        ((holds_mul r.strict (pos p.below) r.form.constant below).0 h))
+    ((holds_mul r.strict (pos p.below) r.form.constant below).0 h))
 
 -- a false row: its constant is positive, or 0 where it is strict
 too_large : (s : Bool) (c : ℤ) → (int_lt (pos 0) c || (s && int_eq c (pos 0))) ≡ true → (pos 0 <ℤ c) ⊎ ((c ≡ pos 0) × (s ≡ true))
@@ -208,7 +208,7 @@ false_farkas : (cs : List Constraint) (r : Row) → IsDerived 0 cs r → IsOver 
 false_farkas cs r d o e =
     let ms = multipliers_from 0 cs r.multipliers in
     let constant : (sum_from nothing cs ms).constant ≡ r.form.constant =
-        nothing_added _ _ (sum_weighed constant_of (λ a f b g. constant_combine a f b g) r.multipliers 0 cs nothing) ∙ sym d.constant in
+    nothing_added _ _ (sum_weighed constant_of (λ a f b g. constant_combine a f b g) r.multipliers 0 cs nothing) ∙ sym d.constant in
     record {
       allowed = d.allowed;
       no_names = λ y.
