@@ -27,8 +27,8 @@ use Rattle.fourier_motzkin.proofs.Over.{IsOver, AreRowsOver, over_terms, others_
 -- ---- fractions of a point
 
 -- a is z over D
-abbrev pub Stands : ℤ → Frac → ℤ → Type 0
-Stands D a z = a.numerator *ℤ D ≡ z *ℤ a.denominator
+abbrev pub IsFraction : ℤ → Frac → ℤ → Type 0
+IsFraction D a z = a.numerator *ℤ D ≡ z *ℤ a.denominator
 
 sum_stands : (D sn sd pn pd nn nd y z : ℤ) → pos 0 <ℤ sd → pos 0 <ℤ pd → sn *ℤ D ≡ y *ℤ sd → pn *ℤ D ≡ z *ℤ pd → nn *ℤ (sd *ℤ pd) ≡ (sn *ℤ pd +ℤ pn *ℤ sd) *ℤ nd → nn *ℤ D ≡ (y +ℤ z) *ℤ nd
 sum_stands D sn sd pn pd nn nd y z hs hp e f g =
@@ -72,7 +72,7 @@ inverse_of n z = record {
 
 -- ---- a row's bound
 
-module _ (x : ℕ) (vs : List Value) (q : Point ℕ) (each : EachOf (IsValue Fields) vs) (there : (y : ℕ) → Among (value_names vs) y → Stands (pos q.below) (value_among vs y) (q.at y)) where
+module _ (x : ℕ) (vs : List Value) (q : Point ℕ) (each : EachOf (IsValue Fields) vs) (there : (y : ℕ) → Among (value_names vs) y → IsFraction (pos q.below) (value_among vs y) (q.at y)) where
   value_proper : (vs : List Value) → EachOf (IsValue Fields) vs → (y : ℕ) → IsProper (value_among vs y)
   value_proper [] h y = omega (arith, ints)
   value_proper (v ∷ vs) h y = go (nat_eq v.name y) (value_proper vs h.1 y)
@@ -84,7 +84,7 @@ module _ (x : ℕ) (vs : List Value) (q : Point ℕ) (each : EachOf (IsValue Fie
   -- a fraction of the point
   record IsSum (a : Frac) (z : ℤ) : Type 0 where
     proper : IsProper a
-    stands : Stands (pos q.below) a z
+    stands : IsFraction (pos q.below) a z
 
   sum_next : (a b s : Frac) (y z : ℤ) → IsSum a y → IsSum b z → sum_step a b ≡ Some s → IsSum s (y +ℤ z)
   sum_next a b s y z i j e =
@@ -168,7 +168,7 @@ module _ (x : ℕ) (vs : List Value) (q : Point ℕ) (each : EachOf (IsValue Fie
     pub record IsFound (a : Frac) : Type 0 where
       pub proper : IsProper a
       pub lowest_terms : IsLowest a
-      pub holds : Stands (pos q.below) a (q.at x) → RowsHold q rows
+      pub holds : IsFraction (pos q.below) a (q.at x) → RowsHold q rows
 
     found_between : (a : Frac) (low high : List Frac) → bounds_of x vs (lowers x rows) ≡ Some low → bounds_of x vs (uppers x rows) ≡ Some high → between (greatest low) (least high) ≡ Some a → IsFound a
     found_between a low high e f g =

@@ -45,7 +45,7 @@ module _ {X : Type 0} (test : X → Bool) where
 
 -- ---- rows of each kind
 
-less_told : (z w : ℤ) → int_lt z w ≡ true → z <ℤ w
+pub less_told : (z w : ℤ) → int_lt z w ≡ true → z <ℤ w
 less_told z w e = grind (arith, ints)
 
 less_tested : (z w : ℤ) → z <ℤ w → int_lt z w ≡ true

@@ -24,7 +24,7 @@ use Rattle.fourier_motzkin.specs.Search.{is_false, first_false, multipliers_from
 use Rattle.fourier_motzkin.specs.Theorems.{AreOver}
 use Rattle.fourier_motzkin.proofs.Signs.{holds_mul}
 use Rattle.fourier_motzkin.proofs.NewRow.{new_row_is, constant_combine}
-use Rattle.fourier_motzkin.proofs.Lists.{each_from, absent_row, pair_is, by_origin}
+use Rattle.fourier_motzkin.proofs.Lists.{each_from, absent_row, pair_is, by_origin, less_told}
 use Rattle.fourier_motzkin.proofs.Derived.{IsDerived, constant_of, times_of, weighed, sum_weighed, some_true}
 
 -- ---- names
@@ -146,9 +146,6 @@ value_constant f p o = ap (λ z. z +ℤ f.constant *ℤ pos p.below) (empty f.te
 
 not_less : (z w : ℤ) → int_lt z w ≡ false → w ≤ℤ z
 not_less z w e = grind (arith, ints)
-
-less_told : (z w : ℤ) → int_lt z w ≡ true → z <ℤ w
-less_told z w e = grind (arith, ints)
 
 neither : (a b : Bool) → (a || b) ≡ false → (a ≡ false) × (b ≡ false)
 neither true b e = absurd cc

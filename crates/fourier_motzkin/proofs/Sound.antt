@@ -31,13 +31,9 @@ use Rattle.fourier_motzkin.proofs.NewRow.{new_row_is}
 use Rattle.fourier_motzkin.proofs.Lists.{each_from, absent_row, pair_is, by_origin}
 use Rattle.fourier_motzkin.proofs.Derived.{IsDerived, new_derived, rows_derived}
 use Rattle.fourier_motzkin.proofs.Over.{AreRowsOver, rows_over, after_over, none_false, first_farkas}
-use Rattle.fourier_motzkin.proofs.Found.{found_is}
+use Rattle.fourier_motzkin.proofs.Found.{IsFraction, found_is}
 
 -- ---- values put in one after the other
-
--- a is z over D
-abbrev IsOverDenominator : ℤ → Frac → ℤ → Type 0
-IsOverDenominator D a z = a.numerator *ℤ D ≡ z *ℤ a.denominator
 
 not_in : (x : ℕ) (xs : List ℕ) → ¬ (SomeOf (λ y. x ≡ y) xs) → is_in nat_eq x xs ≡ false
 not_in x [] n = refl
@@ -55,7 +51,7 @@ stays_over D a d n b h e = cancel_positive b h (sym (mul_assoc b n D) ∙ ap (λ
 
 -- a name that isn't among the later ones keeps its value
 first_over : (v : Value) (vs : List Value) (p : Point ℕ) → Of Fields p → EachOf (IsValue Fields) (v ∷ vs) → ¬ (SomeOf (λ y. v.name ≡ y) (value_names vs)) →
-    IsOverDenominator (pos (with_values p (v ∷ vs)).below) v.at ((with_values p (v ∷ vs)).at v.name)
+    IsFraction (pos (with_values p (v ∷ vs)).below) v.at ((with_values p (v ∷ vs)).at v.name)
 first_over v vs p o each n =
     let m = unsigned_abs v.at.denominator in
     let k = v.at.numerator *ℤ pos p.below in
@@ -67,13 +63,13 @@ first_over v vs p o each n =
 
 -- each of the names has its value
 all_over : (vs : List Value) (p : Point ℕ) → Of Fields p → EachOf (IsValue Fields) vs → StandsOnce (value_names vs) → (y : ℕ) → Among (value_names vs) y →
-    IsOverDenominator (pos (with_values p vs).below) (value_among vs y) ((with_values p vs).at y)
+    IsFraction (pos (with_values p vs).below) (value_among vs y) ((with_values p vs).at y)
 all_over [] p o each once y m = absurd m
 all_over (v ∷ vs) p o each once y m = go (nat_eq v.name y) refl (all_over vs (with_value p v) (values_of_theory Fields (v ∷ []) p (each.0, tt) o) each.1 once.1 y)
   where
-    go : (b : Bool) → nat_eq v.name y ≡ b → (Among (value_names vs) y → IsOverDenominator (pos (with_values p (v ∷ vs)).below) (value_among vs y) ((with_values p (v ∷ vs)).at y)) →
-        IsOverDenominator (pos (with_values p (v ∷ vs)).below) (if b then v.at else value_among vs y) ((with_values p (v ∷ vs)).at y)
-    go true e ih = subst (λ (z : ℕ). IsOverDenominator (pos (with_values p (v ∷ vs)).below) v.at ((with_values p (v ∷ vs)).at z)) (eqb-true v.name y e) (first_over v vs p o each once.0)
+    go : (b : Bool) → nat_eq v.name y ≡ b → (Among (value_names vs) y → IsFraction (pos (with_values p (v ∷ vs)).below) (value_among vs y) ((with_values p (v ∷ vs)).at y)) →
+        IsFraction (pos (with_values p (v ∷ vs)).below) (if b then v.at else value_among vs y) ((with_values p (v ∷ vs)).at y)
+    go true e ih = subst (λ (z : ℕ). IsFraction (pos (with_values p (v ∷ vs)).below) v.at ((with_values p (v ∷ vs)).at z)) (eqb-true v.name y e) (first_over v vs p o each once.0)
     go false e ih = ih (⊎_elim (λ i. absurd cc (sym e ∙ eq-eqb v.name y i)) (λ n. n) m)
 
 -- ---- the counted step makes these rows

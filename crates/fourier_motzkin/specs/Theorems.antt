@@ -21,13 +21,13 @@ abbrev pub AreOver : List ℕ → List Constraint → Type 0
 AreOver names cs = EachOf (λ (c : Constraint). (y : ℕ) → ¬ (coefficient y c.form ≡ pos 0) → Among names y) cs
 
 -- The values are those of the names, in their order and in lowest terms, and with them all constraints are met.
-pub record AreSolution (names : List ℕ) (cs : List Constraint) (vs : List Value) : Type 0 where
+pub record IsSolution (names : List ℕ) (cs : List Constraint) (vs : List Value) : Type 0 where
   pub named : value_names vs ≡ names
   pub each : EachOf (IsValue Fields) vs
   pub meets : MeetsAll (with_values origin vs) cs
 
 abbrev pub IsCertificate : List ℕ → List Constraint → Certificate → Type 0
-IsCertificate names cs (At vs) = AreSolution names cs vs
+IsCertificate names cs (At vs) = IsSolution names cs vs
 IsCertificate names cs (Farkas ms) = IsFarkas cs ms
 
 -- Where the names differ and are all those of the constraints, what the search gives is a certificate.
