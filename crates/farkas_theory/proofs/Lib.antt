@@ -1,0 +1,2 @@
+pub mod Refutes
+mod Examples
