@@ -1,0 +1,4 @@
+pub mod Running
+pub mod Left
+pub mod Pairs
+pub mod Deciding
