@@ -1,5 +1,5 @@
 -- What the sorted sum of the multiples decides: it has no terms exactly where it has no names, and its constant is that of the sum.
-use Rattle.std.proofs.Common.{◌≡◌, ◌⊎◌, inl, inr, ℕ, Bool, IsTrue, ◌↔◌, length, List, [], ◌∷◌, ap, sym, ◌∙◌, subst, refl, arith}
+use Rattle.std.proofs.Common.{◌≡◌, ◌⊎◌, ℕ, Bool, IsTrue, ◌↔◌, length, List, [], ◌∷◌, ap, sym, ◌∙◌, subst, refl, arith}
 use Rattle.std.proofs.Math.IntN.{ℤ, pos}
 use Rattle.std.specs.Prelude.{◌<ℤ◌}
 use Rattle.formula_meaning.specs.Form.{Form, Term, coefficient}

@@ -1,5 +1,5 @@
 -- Facts of constraints and their multipliers, asked of each pair or of some pair.
-use Rattle.std.proofs.Common.{◌≡◌, ◌<◌, ◌⊎◌, inl, inr, ℕ, zero, suc, Bool, true, false, IsTrue, ◌↔◌, map, length, List, [], ◌∷◌, arith, refl, sym}
+use Rattle.std.proofs.Common.{◌≡◌, ◌<◌, inl, inr, ℕ, zero, suc, Bool, true, false, IsTrue, ◌↔◌, map, length, List, [], ◌∷◌, arith, refl}
 use Rattle.std.proofs.Math.IntN.{ℤ}
 use Rattle.std.specs.Bool.{MatchBool}
 use Rattle.std.specs.List.{zip, All, AllWithin, HoldsAt}

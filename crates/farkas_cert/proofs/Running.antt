@@ -1,5 +1,5 @@
 -- The sum of the multiples so far, held sorted, while some constraints and multipliers are left.
-use Rattle.std.proofs.Common.{◌≡◌, ◌⊎◌, inl, inr, ℕ, true, false, List, [], ◌∷◌, ap, sym, ◌∙◌, subst, refl, ⊎_elim}
+use Rattle.std.proofs.Common.{◌≡◌, ◌⊎◌, inl, inr, true, false, List, [], ◌∷◌, ap, sym, ◌∙◌, subst, refl, ⊎_elim}
 use Rattle.std.proofs.Math.IntN.{ℤ, pos}
 use Rattle.formula_meaning.specs.Combining.{CombinesWithin, CombinePasses}
 use Rattle.formula_meaning.specs.Form.{Form, combine}

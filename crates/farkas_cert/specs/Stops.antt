@@ -1,4 +1,4 @@
--- When the multiples of constraints are not added up, and when multipliers are not checked.
+-- When multipliers are not checked.
 use Rattle.std.specs.Prelude.{ℤ, List}
 use Rattle.linear_forms.specs.declared.error.LinError.{LinError}
 use Rattle.linear_forms.specs.declared.error.LinError.TheVariants as linear
@@ -11,12 +11,6 @@ use Rattle.farkas_cert.specs.declared.error.CertError.TheVariants.{Overflow, Nod
 abbrev pub error_of : LinError → CertError
 error_of linear.Overflow = Overflow
 error_of linear.Memory = Memory
-
--- where the error comes from a sum: a number passes the limit, or there is no memory
-abbrev pub StopsSum : CertError → List Constraint → List ℤ → Type 0
-StopsSum Overflow cs ms = SumPasses nothing cs ms
-StopsSum Nodes cs ms = ⊥
-StopsSum Memory cs ms = Unit {0}
 
 -- where the error comes from a check: the multipliers are added up, and a number passes the limit; or there is no memory
 abbrev pub StopsCheck : CertError → List Constraint → List ℤ → Type 0

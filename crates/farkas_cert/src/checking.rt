@@ -1,13 +1,13 @@
 // Whether multipliers prove that no point meets some constraints.
-ghost use Rattle.std.specs.Prelude.{◌≡◌, ◌⊎◌, pos, ◌<ℤ◌, IsTrue, ◌↔◌, IfOk, IfErr, OnOk, map};
+ghost use Rattle.std.specs.Prelude.{◌≡◌, ◌⊎◌, pos, ◌<ℤ◌, IsTrue, ◌↔◌, IfOk, IfErr, OnOk, IsErrOf, map};
 ghost use Rattle.formula_meaning.specs.Sorted.{gathered};
 ghost use Rattle.farkas_theory.specs.Farkas.{nothing, AreAllowed, sum_from, SomeStrict, IsFarkas, SumPasses};
 ghost use Rattle.farkas_cert.specs.Constraints.{constraint_of};
-ghost use Rattle.farkas_cert.specs.Stops.{StopsSum, StopsCheck};
+ghost use Rattle.farkas_cert.specs.Stops.{StopsCheck};
 
 use crate::constraint::{Constraint, are_allowed, some_strict};
 use crate::error::CertError;
-use linear_forms::Linear;
+use linear_forms::{LinError, Linear};
 use std::alloc::Global;
 
 /// Whether the multipliers prove that no point of the ordered fields meets the constraints: there is one for each, those of
@@ -36,10 +36,10 @@ fn sum_of_multiples(
     alloc: Global,
     constraints: &[Constraint],
     multipliers: &[i128],
-) -> Result<Linear, CertError>
+) -> Result<Linear, LinError>
     ensures sum { IfOk result (λ s. s ≡ gathered (sum_from nothing (map constraint_of constraints.now) multipliers.now)) }
     ensures within { OnOk result (¬ (SumPasses nothing (map constraint_of constraints.now) multipliers.now)) }
-    ensures stopped { IfErr result (λ e. StopsSum e (map constraint_of constraints.now) multipliers.now) }
+    ensures overflow { IsErrOf result LinError.Overflow → SumPasses nothing (map constraint_of constraints.now) multipliers.now }
 {
     let mut sum = Linear::constant(alloc, 0);
     for (constraint, multiplier) in constraints.iter().zip(multipliers) {
@@ -48,7 +48,7 @@ fn sum_of_multiples(
     Ok(sum)
 }
 
-// Whether a sum without names that is this constant, and is to be at most 0, or below 0 where some multiple makes it strict, is neither.
+// Whether a sum of the multiples that is this number isn't as it is to be: at most 0, and below 0 where a multiple makes it strict.
 fn is_impossible(constant: i128, constraints: &[Constraint], multipliers: &[i128]) -> bool
     ensures { IsTrue result ↔ ((pos 0 <ℤ constant) ⊎ ((constant ≡ pos 0) × SomeStrict (map constraint_of constraints.now) multipliers.now)) }
 {

@@ -20,22 +20,22 @@ pub struct Constraint {
     pub bound: Bound,
 }
 
-impl Bound {
+impl Constraint {
     // Whether such a multiple may be added: any of an equation, and one that isn't negative of an inequality.
-    fn allows(self, multiplier: i128) -> bool
-        ensures { IsTrue result ↔ IsAllowed (bound_of self) multiplier }
+    fn allows(&self, multiplier: i128) -> bool
+        ensures { IsTrue result ↔ IsAllowed (bound_of self.now.bound) multiplier }
     {
-        match self {
+        match self.bound {
             Bound::Equal => true,
             Bound::AtMost | Bound::Below => 0 <= multiplier,
         }
     }
 
-    // Whether the multiple makes the sum strict.
-    fn is_strictly(self, multiplier: i128) -> bool
-        ensures { IsTrue result ↔ IsStrictly (bound_of self) multiplier }
+    // Whether the sum with such a multiple is to be below 0.
+    fn makes_strict(&self, multiplier: i128) -> bool
+        ensures { IsTrue result ↔ IsStrictly (bound_of self.now.bound) multiplier }
     {
-        match self {
+        match self.bound {
             Bound::Equal | Bound::AtMost => false,
             Bound::Below => 0 < multiplier,
         }
@@ -50,15 +50,13 @@ pub(crate) fn are_allowed(constraints: &[Constraint], multipliers: &[i128]) -> b
         && constraints
             .iter()
             .zip(multipliers)
-            .all(|(constraint, multiplier)| constraint.bound.allows(*multiplier))
+            .all(|(constraint, multiplier)| constraint.allows(*multiplier))
 }
 
 // Whether some strict constraint has a positive multiplier.
 pub(crate) fn some_strict(constraints: &[Constraint], multipliers: &[i128]) -> bool
     ensures { IsTrue result ↔ SomeStrict (map constraint_of constraints.now) multipliers.now }
 {
-    constraints
-        .iter()
-        .zip(multipliers)
-        .any(|(constraint, multiplier)| constraint.bound.is_strictly(*multiplier))
+    let mut pairs = constraints.iter().zip(multipliers);
+    pairs.any(|(constraint, multiplier)| constraint.makes_strict(*multiplier))
 }

@@ -2,7 +2,7 @@
 use Rattle.std.proofs.Common.{◌≡◌, inl, inr, ℕ, List, [], ◌∷◌, ap, sym, ◌∙◌, refl, arith}
 use Rattle.std.proofs.Math.IntN.{ℤ, pos, negsuc}
 use Rattle.std.proofs.lemmas.Int.{ints}
-use Rattle.formula_meaning.specs.Form.{Form, Term, coefficient, combine}
+use Rattle.formula_meaning.specs.Form.{Form, coefficient, combine}
 use Rattle.formula_meaning.specs.Sorted.{gathered}
 use Rattle.formula_meaning.proofs.Gathered.{coefficient_gathered}
 use Rattle.farkas_theory.specs.Constraints.{Bound, Equal, AtMost, Below, Constraint}

@@ -1,18 +1,16 @@
 -- Multipliers by Farkas show that no point meets the constraints: at a point that meets them the sum of the multiples is at most 0.
-use Rattle.std.proofs.Common.{◌≡◌, ◌⊎◌, inl, inr, ℕ, ◌<◌, List, [], ◌∷◌, ap, sym, ◌∙◌, subst, refl, arith}
+use Rattle.std.proofs.Common.{◌≡◌, inl, inr, ℕ, List, [], ◌∷◌, ap, sym, ◌∙◌, refl, arith}
 use Rattle.std.proofs.Math.IntN.{ℤ, pos, ◌+ℤ◌, ◌*ℤ◌}
 use Rattle.std.specs.Prelude.{◌<ℤ◌, ◌≤ℤ◌}
 use Rattle.std.proofs.lemmas.Int.{ints}
 use Rattle.exact_numbers.proofs.Order.{mul_less, mul_at_most, mul_positive}
 use Rattle.exact_numbers.proofs.Ring.{mul_zero, one_mul, zero_mul}
-use Rattle.formula_meaning.specs.Context.{Fields}
 use Rattle.formula_meaning.specs.Form.{Form, coefficient, value, combine}
-use Rattle.formula_meaning.specs.Point.{Point, Of}
-use Rattle.formula_meaning.specs.Sorted.{gathered}
+use Rattle.formula_meaning.specs.Point.{Point}
 use Rattle.formula_meaning.proofs.Gathered.{value_gathered, gathered_is}
 use Rattle.formula_meaning.proofs.Values.{value_combine}
 use Rattle.farkas_theory.specs.Constraints.{Bound, Equal, AtMost, Below, Constraint, Stands, MeetsAll}
-use Rattle.farkas_theory.specs.Farkas.{nothing, IsAllowed, AreAllowed, sum_from, IsStrictly, SomeStrict, IsFarkas, FarkasRefutes}
+use Rattle.farkas_theory.specs.Farkas.{nothing, IsAllowed, AreAllowed, sum_from, IsStrictly, SomeStrict, FarkasRefutes}
 
 -- ---- one multiple
 

@@ -1,5 +1,5 @@
 -- Sums of multiples depend on the coefficients and the constant of the form that they begin with alone.
-use Rattle.std.proofs.Common.{◌≡◌, ◌⊎◌, inl, inr, ℕ, List, [], ◌∷◌, ap, sym, ◌∙◌, subst}
+use Rattle.std.proofs.Common.{◌≡◌, inl, inr, ℕ, List, [], ◌∷◌, ap, sym, ◌∙◌, subst}
 use Rattle.std.proofs.Math.IntN.{ℤ, pos, ◌*ℤ◌}
 use Rattle.formula_meaning.specs.Combining.{AddPasses, CombinePasses}
 use Rattle.formula_meaning.specs.Form.{Form, coefficient, combine}

@@ -1,16 +1,10 @@
-use Rattle.std.proofs.Common.{rules, ◌≡◌, ◌⊎◌, map, List, ap, sym, ◌∙◌, ℤ, Err, FitsSigned, refl}
+use Rattle.std.proofs.Common.{rules, ◌≡◌, map, ap, ◌∙◌, Err, FitsSigned}
 use Rattle.std.proofs.lemmas.Int.{to_z-of_z}
 use Rattle.std.proofs.lemmas.Slice.Zip.{Zip-more, either_empty_from_Zip}
 use Rattle.std.specs.Int.{w128}
-use Rattle.std.specs.Result.{IfErr}
 use Rattle.std.specs.Iterator.Adapters.{zip_first, zip_second}
 use Rattle.std.specs.Slice.Iter.{iter_rest}
-use Rattle.linear_forms.specs.declared.error.LinError.{LinError}
-use Rattle.linear_forms.specs.declared.error.LinError.TheVariants.{Overflow, Memory}
-use Rattle.farkas_theory.specs.Constraints as meaning
-use Rattle.farkas_theory.specs.Farkas.{nothing, SumPasses}
-use Rattle.farkas_cert.specs.Stops.{error_of, StopsSum}
-use Rattle.farkas_cert.specs.declared.error.CertError.{CertError}
+use Rattle.linear_forms.specs.declared.error.LinError.TheVariants.{Overflow}
 use Rattle.farkas_cert.specs.Constraints.{constraint_of}
 use Rattle.farkas_cert.proofs.Left.{taken, none_left}
 use Rattle.farkas_cert.proofs.Running.{IsRunning, starts, goes_on, stops, is_sum, is_within}
@@ -24,12 +18,8 @@ loop-constraint-init c =
     let f : iter_rest (zip_second c.into_iter-constraint-iterator.result) ≡ c.args.multipliers.now = ap (λ z. iter_rest (zip_second z)) i ∙ d.0 in
     rw (e, f) (starts (map constraint_of c.args.constraints.now) c.args.multipliers.now c.constant-sum.result c.constant-sum.ensures.form)
 
-stopped : (cs : List meaning.Constraint) (ms : List ℤ) (e : LinError) → (e ≡ Overflow → SumPasses nothing cs ms) → StopsSum (error_of e) cs ms
-stopped cs ms Overflow h = h refl
-stopped cs ms Memory h = tt
-
-pub returns-in_err-sum-clause-stopped : goal.returns-in_err-sum-clause-stopped
-returns-in_err-sum-clause-stopped c =
+pub returns-in_err-sum-clause-overflow : goal.returns-in_err-sum-clause-overflow
+returns-in_err-sum-clause-overflow c =
     let cs = map constraint_of c.args.constraints.now in
     let ms = c.args.multipliers.now in
     let it = c.loop-constraint.constraint-iterator in
@@ -37,8 +27,8 @@ returns-in_err-sum-clause-stopped c =
     let w : FitsSigned w128 c.in-Some.multiplier.now = search rules in
     let h = taken (IsRunning cs ms c.loop-constraint.sum) (iter_rest (zip_first it)) (iter_rest (zip_second it)) c.in-Some.constraint.now c.in-Some.multiplier.now _ _ t.0 t.1 c.loop-constraint.invariant in
     let p = simp to_z-of_z at c.combine.ensures.overflow in
-    let e : c.from_residual.result ≡ Err (error_of c.in_err-sum.field-0.0) = search rules in
-    rw e (stopped cs ms c.in_err-sum.field-0.0 (λ o. stops cs ms c.loop-constraint.sum _ _ c.in-Some.multiplier.now _ h (p (c.in_err-sum.was ∙ ap Err o))))
+    let e : c.from_residual.result ≡ Err c.in_err-sum.field-0.0 = search rules in
+    λ o. let k : c.in_err-sum.field-0.0 ≡ Overflow = cc in stops cs ms c.loop-constraint.sum _ _ c.in-Some.multiplier.now _ h (p (c.in_err-sum.was ∙ ap Err k))
 
 pub loop-constraint-preserved : goal.loop-constraint-preserved
 loop-constraint-preserved c =
@@ -51,7 +41,7 @@ loop-constraint-preserved c =
     goes_on cs ms c.loop-constraint.sum _ _ c.in-Some.multiplier.now _ h c.in_ok-sum.sum (simp to_z-of_z at c.in_ok-sum.ensures.combined)
 
 pub returns-clause-sum : goal.returns-clause-sum
-returns-clause-sum c = 
+returns-clause-sum c =
     let it = c.loop-constraint.constraint-iterator in
     let e = either_empty_from_Zip it c.next.new.self c.next.result c.in-None.is c.next.ensures.steps in
     is_sum (map constraint_of c.args.constraints.now) c.args.multipliers.now c.loop-constraint.sum _ _ c.loop-constraint.invariant (none_left _ _ e)

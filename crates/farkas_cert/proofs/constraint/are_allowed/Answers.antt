@@ -1,4 +1,4 @@
-use Rattle.std.proofs.Common.{rules, IsTrue, ◌↔◌, map, ◌≡◌, length, nat_eq, refl, eqb-true}
+use Rattle.std.proofs.Common.{rules}
 use Rattle.std.proofs.lemmas.Iterator.{YieldsList-from_slice, YieldsList-from_zip, cases_from_all}
 use borrow.Author.Tests.{tests}
 use Rattle.farkas_cert.proofs.Pairs.{Allowed, Not, allowed_if_each, same_length}
