@@ -2,3 +2,5 @@ pub mod Running
 pub mod Left
 pub mod Pairs
 pub mod Deciding
+pub mod Contents
+pub mod Combined

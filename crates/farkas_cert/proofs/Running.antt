@@ -6,10 +6,10 @@ use Rattle.formula_meaning.specs.Form.{Form, combine}
 use Rattle.formula_meaning.specs.Sorted.{IsSorted, gathered}
 use Rattle.formula_meaning.proofs.Gathered.{sorted_stays, gathered_combination}
 use Rattle.linear_forms.specs.Terms.{IsCombination}
-use Rattle.elimination_theory.proofs.WithinTests.{combination_refused, combination_tested}
 use Rattle.farkas_theory.specs.Constraints.{Constraint}
 use Rattle.farkas_theory.specs.Farkas.{nothing, sum_from, SumPasses}
 use Rattle.farkas_theory.proofs.Sums.{sum_from_same, sum_passes_same}
+use Rattle.farkas_cert.proofs.Combined.{combined, not_passed}
 
 -- s is the sum so far, sorted, and the constraints and multipliers that are left lead to the same sum and pass the limit where all do
 pub record IsRunning (cs : List Constraint) (ms : List ℤ) (s : Form) (rest : List Constraint) (left : List ℤ) : Type 0 where
@@ -17,10 +17,6 @@ pub record IsRunning (cs : List Constraint) (ms : List ℤ) (s : Form) (rest : L
   pub sum : gathered (sum_from s rest left) ≡ gathered (sum_from nothing cs ms)
   pub passes : SumPasses s rest left → SumPasses nothing cs ms
   pub passes_still : SumPasses nothing cs ms → SumPasses s rest left
-
--- what forms no number past the limit passes none
-not_passed : (a : ℤ) (f : Form) (b : ℤ) (g : Form) → CombinesWithin a f b g → ¬ (CombinePasses a f b g)
-not_passed a f b g w h = let e : true ≡ false = sym (combination_tested a f b g w) ∙ combination_refused a f b g h in cc
 
 module _ (cs : List Constraint) (ms : List ℤ) where
   pub starts : (s : Form) → s ≡ nothing → IsRunning cs ms s cs ms
@@ -31,7 +27,7 @@ module _ (cs : List Constraint) (ms : List ℤ) where
     pub goes_on : (r : Form) → IsCombination (pos 1) s m c.form r → IsRunning cs ms r rest left
     unfolding sum_from
     goes_on r k =
-        let e : gathered r ≡ gathered (combine (pos 1) s m c.form) = sorted_stays r k.linear.sorted ∙ sym (gathered_combination (pos 1) s m c.form r k.linear.sorted k.coefficients_add k.constants_add) in
+        let e : gathered r ≡ gathered (combine (pos 1) s m c.form) = sorted_stays r k.linear.sorted ∙ combined (pos 1) s m c.form r k in
         record {
           sorted = k.linear.sorted;
           sum = sum_from_same rest left r (combine (pos 1) s m c.form) e ∙ h.sum;

@@ -4,6 +4,7 @@
 mod checking;
 mod constraint;
 mod error;
+mod rows;
 
 pub use checking::check;
 pub use constraint::{Bound, Constraint};
