@@ -1,9 +1,8 @@
 -- A combination that the program forms is the sorted one of the definition, and the tests of the limit tell the truth of it.
-use Rattle.std.proofs.Common.{◌≡◌, ◌⊎◌, inl, inr, true, false, ◌&&◌, sym, ◌∙◌, ap, refl}
+use Rattle.std.proofs.Common.{◌≡◌, true, false, sym, ◌∙◌}
 use Rattle.std.proofs.Math.IntN.{ℤ}
 use Rattle.formula_meaning.specs.Combining.{CombinesWithin, CombinePasses}
 use Rattle.formula_meaning.specs.Form.{Form, combine}
-use Rattle.formula_meaning.specs.Limits.{combination_within}
 use Rattle.formula_meaning.specs.Sorted.{gathered}
 use Rattle.formula_meaning.proofs.Gathered.{gathered_combination}
 use Rattle.linear_forms.specs.Terms.{IsCombination}

@@ -1,13 +1,12 @@
 -- The greatest common divisor of two lists, and rows in lowest terms.
-use Rattle.std.proofs.Common.{◌≡◌, true, false, ◌⊎◌, inl, inr, List, [], ◌∷◌, ◌++◌, ap, sym, ◌∙◌, subst, refl, arith, ⊎_elim, if◌then◌else◌}
+use Rattle.std.proofs.Common.{◌≡◌, List, [], ◌∷◌, ◌++◌, ap, sym, ◌∙◌, subst, refl, arith, if◌then◌else◌}
 use Rattle.std.proofs.Math.IntN.{ℤ, pos}
 use Rattle.std.specs.Prelude.{◌<ℤ◌, ◌≤ℤ◌}
 use Rattle.std.proofs.lemmas.Int.{ints}
-use Rattle.exact_numbers.specs.Divides.{Divides, DividesAll, IsGcd, gcd_of, content_of}
+use Rattle.exact_numbers.specs.Divides.{DividesAll, IsGcd, gcd_of, content_of}
 use Rattle.exact_numbers.proofs.Contents.{content_is, divides_all_trans}
 use Rattle.exact_numbers.proofs.Divisibility.{divides_trans, divides_zero, divides_same}
 use Rattle.exact_numbers.proofs.GreatestDivisor.{gcd_is, gcd_of_is}
-use Rattle.linear_forms.specs.Reduction.{quotient}
 use Rattle.linear_forms.proofs.Quotients.{quotient_one}
 use Rattle.linear_forms.proofs.Reduced.{by_equal}
 use Rattle.fourier_motzkin.specs.Rows.{Row, numbers_of, row_content, row_quotient, lowest_row}
@@ -58,6 +57,7 @@ module _ (r : Row) where
     where
       one : (g : ℤ) → pos 0 ≤ℤ g → g ≤ℤ pos 1 → ¬ (g ≡ pos 0) → g ≡ pos 1
       one g z h n = by_equal (λ _. g ≡ pos 1) g (pos 1) (λ e. e) (λ m. absurd (n (omega (arith, ints))))
+
       by_one : row_content r ≡ pos 1 → r ≡ row_quotient r (row_content r)
       by_one e =
           let f = sym (quotient_one r.form) in

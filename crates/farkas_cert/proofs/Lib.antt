@@ -4,3 +4,4 @@ pub mod Pairs
 pub mod Deciding
 pub mod Contents
 pub mod Combined
+pub mod NewRow

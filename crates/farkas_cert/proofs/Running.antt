@@ -1,10 +1,10 @@
 -- The sum of the multiples so far, held sorted, while some constraints and multipliers are left.
-use Rattle.std.proofs.Common.{◌≡◌, ◌⊎◌, inl, inr, true, false, List, [], ◌∷◌, ap, sym, ◌∙◌, subst, refl, ⊎_elim}
+use Rattle.std.proofs.Common.{◌≡◌, ◌⊎◌, inl, inr, List, [], ◌∷◌, ap, sym, ◌∙◌, subst, refl, ⊎_elim}
 use Rattle.std.proofs.Math.IntN.{ℤ, pos}
-use Rattle.formula_meaning.specs.Combining.{CombinesWithin, CombinePasses}
+use Rattle.formula_meaning.specs.Combining.{CombinePasses}
 use Rattle.formula_meaning.specs.Form.{Form, combine}
 use Rattle.formula_meaning.specs.Sorted.{IsSorted, gathered}
-use Rattle.formula_meaning.proofs.Gathered.{sorted_stays, gathered_combination}
+use Rattle.formula_meaning.proofs.Gathered.{sorted_stays}
 use Rattle.linear_forms.specs.Terms.{IsCombination}
 use Rattle.farkas_theory.specs.Constraints.{Constraint}
 use Rattle.farkas_theory.specs.Farkas.{nothing, sum_from, SumPasses}

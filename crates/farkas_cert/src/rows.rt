@@ -28,9 +28,7 @@ impl Row {
         ensures overflow { IsErrOf result LinError.Overflow → CombinePasses a self.now.form b other.now.form ⊎ CombinePasses a self.now.multipliers b other.now.multipliers }
     {
         let form = self.form.combine(alloc, a, &other.form, b)?;
-        let multipliers = self
-            .multipliers
-            .combine(alloc, a, &other.multipliers, b)?;
+        let multipliers = self.multipliers.combine(alloc, a, &other.multipliers, b)?;
         Ok(Row {
             form,
             strict: self.strict | other.strict,

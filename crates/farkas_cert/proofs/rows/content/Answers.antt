@@ -1,7 +1,7 @@
 use Rattle.std.proofs.Common.{rules, ◌≡◌, ◌∙◌, ap₂, FitsSigned}
 use Rattle.std.specs.Int.{w128}
 use Rattle.std.proofs.lemmas.Int.{to_z-of_z}
-use Rattle.exact_numbers.specs.Divides.{gcd_of, content_of}
+use Rattle.exact_numbers.specs.Divides.{gcd_of}
 use Rattle.exact_numbers.proofs.Casts.{fits}
 use Rattle.linear_forms.specs.Terms.{coefficients}
 use Rattle.farkas_cert.proofs.Contents.{content_first}

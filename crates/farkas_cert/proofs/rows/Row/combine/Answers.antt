@@ -1,4 +1,4 @@
-use Rattle.std.proofs.Common.{rules, ◌≡◌, ◌∙◌, ◌||◌, inl, inr, ap, sym, Err, FitsSigned}
+use Rattle.std.proofs.Common.{rules, ◌≡◌, ◌∙◌, ◌||◌, inl, inr, ap, Err}
 use Rattle.std.proofs.lemmas.Int.{to_z-of_z}
 use Rattle.linear_forms.specs.declared.error.LinError.TheVariants.{Overflow}
 use Rattle.farkas_cert.proofs.Combined.{combined}

@@ -1,4 +1,4 @@
-use Rattle.std.proofs.Common.{rules, ◌≡◌, ◌∙◌, ap₂, sym, FitsSigned}
+use Rattle.std.proofs.Common.{◌≡◌, ◌∙◌, ap₂, sym}
 use Rattle.std.specs.Int.{w128}
 use Rattle.std.proofs.lemmas.Int.{to_z-of_z}
 use Rattle.exact_numbers.specs.Divides.{gcd_of}

@@ -1,12 +1,12 @@
-use Rattle.std.proofs.Common.{rules, ◌≡◌, ◌∙◌, sym, subst, ℤ, arith}
+use Rattle.std.proofs.Common.{◌∙◌, sym, subst, ℤ, arith}
 use Rattle.std.specs.Prelude.{◌≤ℤ◌, pos}
 use Rattle.std.specs.Int.{w128}
 use Rattle.std.proofs.lemmas.Int.{to_z-of_z, ints}
 use Rattle.exact_numbers.specs.Divides.{DividesAll}
 use Rattle.exact_numbers.proofs.Casts.{fits}
-use Rattle.fourier_motzkin.specs.Rows.{numbers_of, row_content}
+use Rattle.fourier_motzkin.specs.Rows.{numbers_of}
 use Rattle.farkas_cert.specs.Rows.{row_of}
-use Rattle.farkas_cert.proofs.Contents.{divides_form, divides_multipliers, lowest_small, lowest_large}
+use Rattle.farkas_cert.proofs.Contents.{divides_form, divides_multipliers, lowest_small}
 use Rattle.farkas_cert.proofs.rows.Row.lowest.Goals as goal
 
 pub divided-requires-clause-divides_form : goal.divided-requires-clause-divides_form
