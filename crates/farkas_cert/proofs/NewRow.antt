@@ -29,11 +29,9 @@ module _ (a b c d : ℤ) (e : a ≡ c) (f : b ≡ d) (ha : InLimit a) (hb : InLi
       ap bits k ∙ to_z-of_z w128 (neg_ℤ b) (fits (neg_ℤ b) (limit_neg b hb)) ∙ ap neg_ℤ f
 
   -- the factors that the program calculates
-  pub above_is : (u : ℤ) → u ≡ int_div (bits (pos 0 -ℤ bits b)) (gcd_of (bits a) (bits (pos 0 -ℤ bits b))) → u ≡ int_div (neg_ℤ d) (gcd_of c (neg_ℤ d))
-  above_is u h = h ∙ ap₂ int_div turned (ap₂ gcd_of whole turned)
-
-  pub below_is : (l : ℤ) → l ≡ int_div (bits a) (gcd_of (bits a) (bits (pos 0 -ℤ bits b))) → l ≡ int_div c (gcd_of c (neg_ℤ d))
-  below_is l h = h ∙ ap₂ int_div whole (ap₂ gcd_of whole turned)
+  pub factors_are : (u l : ℤ) → u ≡ int_div (bits (pos 0 -ℤ bits b)) (gcd_of (bits a) (bits (pos 0 -ℤ bits b))) → l ≡ int_div (bits a) (gcd_of (bits a) (bits (pos 0 -ℤ bits b))) →
+      (u ≡ int_div (neg_ℤ d) (gcd_of c (neg_ℤ d))) × (l ≡ int_div c (gcd_of c (neg_ℤ d)))
+  factors_are u l h k = (h ∙ ap₂ int_div turned (ap₂ gcd_of whole turned), k ∙ ap₂ int_div whole (ap₂ gcd_of whole turned))
 
 -- a conjunction of which one is false
 both_refused : (a b : Bool) → (a ≡ false) ⊎ (b ≡ false) → (a && b) ≡ false

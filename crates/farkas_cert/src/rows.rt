@@ -89,8 +89,8 @@ fn factors(above: i128, below: i128) -> (i128, i128)
     requires below_positive { pos 0 <ℤ below }
     requires above_within { InLimit above }
     requires below_within { InLimit below }
-    ensures above_factor { result.0 ≡ int_div below (gcd_of above below) }
-    ensures below_factor { result.1 ≡ int_div above (gcd_of above below) }
+    ensures upper_factor { result.0 ≡ int_div below (gcd_of above below) }
+    ensures lower_factor { result.1 ≡ int_div above (gcd_of above below) }
 {
     let divisor = gcd(above, below);
     (below / divisor, above / divisor)
@@ -113,7 +113,7 @@ pub(crate) fn without_name(
 {
     let above = upper.form.coefficient(name);
     let below = -lower.form.coefficient(name);
-    let (above_factor, below_factor) = factors(above, below);
-    let row = upper.combine(alloc, above_factor, lower, below_factor)?;
+    let (upper_factor, lower_factor) = factors(above, below);
+    let row = upper.combine(alloc, upper_factor, lower, lower_factor)?;
     row.lowest(alloc)
 }
