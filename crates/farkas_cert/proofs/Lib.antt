@@ -5,3 +5,7 @@ pub mod Deciding
 pub mod Contents
 pub mod Combined
 pub mod NewRow
+pub mod FirstRows
+pub mod Splits
+pub mod Descents
+pub mod Indexed

@@ -1,3 +1,5 @@
 pub mod Constraints
 pub mod Stops
 pub mod Rows
+pub mod Search
+pub mod Found

@@ -1,8 +1,10 @@
 // The errors of certificates.
 ghost use Rattle.std.specs.Prelude.{◌≡◌};
 ghost use Rattle.farkas_cert.specs.Stops.{error_of};
+ghost use Rattle.farkas_cert.specs.declared.error.CertError.TheVariants.{Memory};
 
 use linear_forms::LinError;
+use std::alloc::{AllocError, AllocFailed};
 use thiserror::Error;
 
 /// Why a certificate could not be found or checked.
@@ -27,5 +29,21 @@ impl From<LinError> for CertError {
             LinError::Overflow => CertError::Overflow,
             LinError::Memory => CertError::Memory,
         }
+    }
+}
+
+impl From<AllocError> for CertError {
+    ghost from_gives = { λ _ e. e ≡ Memory };
+
+    fn from(_error: AllocError) -> CertError {
+        CertError::Memory
+    }
+}
+
+impl<T: Drop> From<AllocFailed<T>> for CertError {
+    ghost from_gives = { λ _ e. e ≡ Memory };
+
+    fn from(_error: AllocFailed<T>) -> CertError {
+        CertError::Memory
     }
 }

@@ -4,7 +4,10 @@
 mod checking;
 mod constraint;
 mod error;
+mod found;
+mod numbers;
 mod rows;
+mod steps;
 
 pub use checking::check;
 pub use constraint::{Bound, Constraint};

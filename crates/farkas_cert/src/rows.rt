@@ -1,15 +1,19 @@
 // Rows of the search: inequalities, with the multipliers by which they come from the constraints.
-ghost use Rattle.std.specs.Prelude.{◌≡◌, ◌⊎◌, pos, ◌<ℤ◌, ◌||◌, false, true, int_div, IfOk, IfErr, IsErrOf, OnOk};
+ghost use Rattle.std.specs.Prelude.{◌≡◌, ◌⊎◌, pos, negsuc, ◌<ℤ◌, ◌||◌, ◌++◌, false, true, int_div, map, option_map, IfOk, IfErr, IsErrOf, OnOk};
+ghost use Rattle.std.specs.Option.{option_copied};
 ghost use Rattle.exact_numbers.specs.Limit.{InLimit};
 ghost use Rattle.exact_numbers.specs.Divides.{DividesAll, content_of, gcd_of};
 ghost use Rattle.formula_meaning.specs.Form.{coefficient, combine};
 ghost use Rattle.formula_meaning.specs.Sorted.{gathered};
 ghost use Rattle.linear_forms.specs.Terms.{CombinesWithin, CombinePasses};
-ghost use Rattle.fourier_motzkin.specs.Rows.{numbers_of, row_content, row_quotient, lowest_row, pair_within, without_name};
-ghost use Rattle.farkas_cert.specs.Rows.{row_of, pair_of};
+ghost use Rattle.fourier_motzkin.specs.Rows.{numbers_of, row_content, row_quotient, lowest_row, pair_within, without_name, row_at, negated_row, bound_rows, rows_from};
+ghost use Rattle.fourier_motzkin.specs.Search.{is_false, first_false, multipliers_from};
+ghost use Rattle.farkas_cert.specs.Constraints.{bound_of, constraint_of};
+ghost use Rattle.farkas_cert.specs.Rows.{row_of, rows_of, pair_of};
 
+use crate::constraint::{Bound, Constraint};
 use linear_forms::{LinError, Linear, VarId, gcd};
-use std::alloc::Global;
+use std::alloc::{AllocError, Global};
 
 // A form that is to be at most 0, or below 0 where the row is strict, and the multipliers by which it comes from the
 // constraints: a form whose names are the places of the constraints.
@@ -21,6 +25,51 @@ pub(crate) struct Row {
 }
 
 impl Row {
+    // The form of the constraint at a place, with the multiplier 1 there.
+    fn of(alloc: Global, place: usize, strict: bool, form: &Linear) -> Result<Row, AllocError>
+        ensures { IfOk result (λ r. row_of r ≡ row_at place strict (gathered form.now)) }
+    {
+        let form = form.copy(alloc)?;
+        match Linear::variable(alloc, VarId { number: place }) {
+            Ok(multipliers) => Ok(Row {
+                form,
+                strict,
+                multipliers,
+            }),
+            Err(_) => Err(AllocError),
+        }
+    }
+
+    // The row with the other sign.
+    fn negated(&self, alloc: Global) -> Result<Row, AllocError>
+        ensures { IfOk result (λ r. row_of r ≡ negated_row (row_of self.now)) }
+    {
+        self.divided(alloc, -1).map_err(|_| AllocError)
+    }
+
+    // Whether the constant, the value of a form without names, is too large.
+    fn is_false(&self) -> bool
+        ensures { result ≡ is_false (row_of self.now) }
+    {
+        let constant = self.form.constant_part();
+        0 < constant || self.strict && constant == 0
+    }
+
+    // The multipliers as a list, one for each constraint.
+    pub(crate) fn multipliers(
+        &self,
+        alloc: Global,
+        constraints: &[Constraint],
+    ) -> Result<Vec<i128>, AllocError>
+        ensures { IfOk result (λ v. v.items ≡ multipliers_from 0 (map constraint_of constraints.now) self.now.multipliers) }
+    {
+        let mut multipliers = Vec::with_capacity(alloc, constraints.len())?;
+        for place in 0..constraints.len() {
+            multipliers.push(self.multipliers.coefficient(VarId { number: place }))?;
+        }
+        Ok(multipliers)
+    }
+
     // a * self + b * other, strict where one of them is.
     fn combine(&self, alloc: Global, a: i128, other: &Row, b: i128) -> Result<Row, LinError>
         ensures row { IfOk result (λ r. row_of r ≡ record { form = gathered (combine a self.now.form b other.now.form); strict = self.now.strict || other.now.strict; multipliers = gathered (combine a self.now.multipliers b other.now.multipliers) }) }
@@ -116,4 +165,44 @@ pub(crate) fn without_name(
     let (upper_factor, lower_factor) = factors(above, below);
     let row = upper.combine(alloc, upper_factor, lower, lower_factor)?;
     row.lowest(alloc)
+}
+
+// Adds the rows of the constraint at a place; an equation has a second one, with the other sign.
+fn push_rows(
+    alloc: Global,
+    place: usize,
+    constraint: &Constraint,
+    rows: &mut Vec<Row>,
+) -> Result<(), AllocError>
+    ensures { OnOk result (rows_of rows.new.items ≡ rows_of rows.old.items ++ bound_rows place (bound_of constraint.now.bound) (gathered constraint.now.form)) }
+{
+    match constraint.bound {
+        Bound::Equal => {
+            let row = Row::of(alloc, place, false, &constraint.form)?;
+            let negated = row.negated(alloc)?;
+            rows.push(row)?;
+            rows.push(negated)?;
+        }
+        Bound::AtMost => rows.push(Row::of(alloc, place, false, &constraint.form)?)?,
+        Bound::Below => rows.push(Row::of(alloc, place, true, &constraint.form)?)?,
+    }
+    Ok(())
+}
+
+// The rows of the constraints, in their order.
+pub(crate) fn rows_from(alloc: Global, constraints: &[Constraint]) -> Result<Vec<Row>, AllocError>
+    ensures { IfOk result (λ v. rows_of v.items ≡ rows_from 0 (map constraint_of constraints.now)) }
+{
+    let mut rows = Vec::new(alloc);
+    for (place, constraint) in constraints.iter().enumerate() {
+        push_rows(alloc, place, constraint, &mut rows)?;
+    }
+    Ok(rows)
+}
+
+// The first row that is false.
+pub(crate) fn first_false(rows: &[Row]) -> Option<&Row>
+    ensures { option_map row_of (option_copied result) ≡ first_false (rows_of rows.now) }
+{
+    rows.iter().find(|row| row.is_false())
 }
