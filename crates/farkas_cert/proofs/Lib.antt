@@ -2,10 +2,4 @@ pub mod Running
 pub mod Left
 pub mod Pairs
 pub mod Deciding
-pub mod Contents
 pub mod Combined
-pub mod NewRow
-pub mod FirstRows
-pub mod Splits
-pub mod Descents
-pub mod Indexed

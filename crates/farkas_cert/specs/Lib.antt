@@ -1,5 +1,2 @@
 pub mod Constraints
 pub mod Stops
-pub mod Rows
-pub mod Search
-pub mod Found

@@ -1,9 +1,7 @@
--- When multipliers are not checked, and when the search stops.
-use Rattle.std.specs.Prelude.{◌≡◌, ℤ, List}
+-- When multipliers are not checked.
+use Rattle.std.specs.Prelude.{ℤ, List}
 use Rattle.linear_forms.specs.declared.error.LinError.{LinError}
 use Rattle.linear_forms.specs.declared.error.LinError.TheVariants as linear
-use Rattle.formula_meaning.specs.Measured.{Outcome, stopped}
-use Rattle.formula_meaning.specs.Measured as stop
 use Rattle.farkas_theory.specs.Constraints.{Constraint}
 use Rattle.farkas_theory.specs.Farkas.{nothing, AreAllowed, SumPasses}
 use Rattle.farkas_cert.specs.declared.error.CertError.{CertError}
@@ -19,9 +17,3 @@ abbrev pub StopsCheck : CertError → List Constraint → List ℤ → Type 0
 StopsCheck Overflow cs ms = AreAllowed cs ms × SumPasses nothing cs ms
 StopsCheck Nodes cs ms = ⊥
 StopsCheck Memory cs ms = Unit {0}
-
--- where the error comes from a search: it is what stops the search; or there is no memory
-abbrev pub StopsSearch : {A : Type 0} → CertError → Outcome A → Type 0
-StopsSearch Overflow o = o ≡ stopped stop.Overflow
-StopsSearch Nodes o = o ≡ stopped stop.Nodes
-StopsSearch Memory o = Unit {0}

@@ -4,10 +4,6 @@
 mod checking;
 mod constraint;
 mod error;
-mod found;
-mod numbers;
-mod rows;
-mod steps;
 
 pub use checking::check;
 pub use constraint::{Bound, Constraint};

@@ -1,0 +1,6 @@
+pub mod Contents
+pub mod NewRow
+pub mod FirstRows
+pub mod Splits
+pub mod Descents
+pub mod Indexed

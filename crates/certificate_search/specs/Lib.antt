@@ -1,0 +1,4 @@
+pub mod Rows
+pub mod Search
+pub mod Found
+pub mod Stops
