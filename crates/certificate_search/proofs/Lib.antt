@@ -4,3 +4,4 @@ pub mod FirstRows
 pub mod Splits
 pub mod Descents
 pub mod Indexed
+pub mod Ascents

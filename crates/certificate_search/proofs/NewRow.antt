@@ -16,22 +16,25 @@ use Rattle.elimination_theory.proofs.WithinTests.{combination_refused, combinati
 use Rattle.fourier_motzkin.specs.Rows.{Row, Pair, upper_factor, lower_factor, joined, pair_within}
 
 -- a number from its bits, and one with the other sign
-abbrev bits : ℤ → ℤ
+abbrev pub bits : ℤ → ℤ
 bits z = cast_signed w128 (cast_unsigned w128 z)
 
+whole : (a c : ℤ) → a ≡ c → InLimit a → bits a ≡ c
+whole a c e h = to_z-of_z w128 a (fits a h) ∙ e
+
+pub turned : (b d : ℤ) → b ≡ d → InLimit b → bits (pos 0 -ℤ bits b) ≡ neg_ℤ d
+turned b d f h =
+    let k : pos 0 -ℤ bits b ≡ neg_ℤ b = let m = to_z-of_z w128 b (fits b h) in omega (arith, ints, m) in
+    ap bits k ∙ to_z-of_z w128 (neg_ℤ b) (fits (neg_ℤ b) (limit_neg b h)) ∙ ap neg_ℤ f
+
 module _ (a b c d : ℤ) (e : a ≡ c) (f : b ≡ d) (ha : InLimit a) (hb : InLimit b) where
-  whole : bits a ≡ c
-  whole = to_z-of_z w128 a (fits a ha) ∙ e
-
-  turned : bits (pos 0 -ℤ bits b) ≡ neg_ℤ d
-  turned =
-      let k : pos 0 -ℤ bits b ≡ neg_ℤ b = let m = to_z-of_z w128 b (fits b hb) in omega (arith, ints, m) in
-      ap bits k ∙ to_z-of_z w128 (neg_ℤ b) (fits (neg_ℤ b) (limit_neg b hb)) ∙ ap neg_ℤ f
-
   -- the factors that the program calculates
   pub factors_are : (u l : ℤ) → u ≡ int_div (bits (pos 0 -ℤ bits b)) (gcd_of (bits a) (bits (pos 0 -ℤ bits b))) → l ≡ int_div (bits a) (gcd_of (bits a) (bits (pos 0 -ℤ bits b))) →
       (u ≡ int_div (neg_ℤ d) (gcd_of c (neg_ℤ d))) × (l ≡ int_div c (gcd_of c (neg_ℤ d)))
-  factors_are u l h k = (h ∙ ap₂ int_div turned (ap₂ gcd_of whole turned), k ∙ ap₂ int_div whole (ap₂ gcd_of whole turned))
+  factors_are u l h k =
+      let w = whole a c e ha in
+      let t = turned b d f hb in
+      (h ∙ ap₂ int_div t (ap₂ gcd_of w t), k ∙ ap₂ int_div w (ap₂ gcd_of w t))
 
 -- a conjunction of which one is false
 both_refused : (a b : Bool) → (a ≡ false) ⊎ (b ≡ false) → (a && b) ≡ false

@@ -1,7 +1,6 @@
 -- The values of names that the program has found.
-use Rattle.std.specs.Prelude.{◌≡◌, ℕ, pos, List, map, reverse, nat_eq, unwrap_or, option_map, Option, Some, None, Result}
+use Rattle.std.specs.Prelude.{◌≡◌, ℕ, pos, List, map, reverse, nat_eq, unwrap_or, option_map, Option, None}
 use Rattle.std.specs.Map.{lookup}
-use Rattle.std.specs.declared.result.Result.TheVariants.{Ok, Err}
 use Rattle.exact_numbers.specs.declared.fraction.Fraction.{Fraction}
 use Rattle.exact_numbers.specs.Frac.{Frac, whole_frac}
 use Rattle.exact_numbers.specs.Fraction.{frac_of}
@@ -31,8 +30,3 @@ pub record IsIndex (list : List (VarId × Fraction)) (entries : List (ℕ × Fra
 abbrev pub Lacks : {A : Type 0} → LinError → Option A → Type 0
 Lacks Overflow o = o ≡ None
 Lacks Memory o = Unit {0}
-
--- the result, as it is viewed, is what the calculation gives; or the error says why there is none
-abbrev pub Gives : {A B : Type 0} → (A → B) → Result A LinError → Option B → Type 0
-Gives view (Ok v) o = o ≡ Some (view v)
-Gives view (Err e) o = Lacks e o

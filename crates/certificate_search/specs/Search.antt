@@ -1,12 +1,12 @@
 -- The search in two passes: the descent eliminates the names and keeps the rows with each, and the ascent gives them values.
-use Rattle.std.specs.Prelude.{ℕ, ℤ, pos, ◌<ℤ◌, List, [], ◌∷◌, ◌++◌, map, flat_map, Option, Some}
-use Rattle.exact_numbers.specs.Frac.{Frac, ◌>>=◌}
-use Rattle.formula_meaning.specs.Form.{coefficient}
+use Rattle.std.specs.Prelude.{ℕ, ℤ, pos, ◌<ℤ◌, List, [], ◌∷◌, ◌++◌, map, flat_map, Option, Some, nat_eq, if◌then◌else◌}
+use Rattle.exact_numbers.specs.Frac.{Frac, whole_frac, product_step, sum_step, ◌>>=◌}
+use Rattle.formula_meaning.specs.Form.{Term, coefficient}
 use Rattle.formula_meaning.specs.Measured.{Outcome, done, then_of}
 use Rattle.formula_meaning.specs.Some.{EachOf}
 use Rattle.sample_reference.specs.Values.{Value}
 use Rattle.fourier_motzkin.specs.Rows.{Row, Pair, uppers, lowers}
-use Rattle.fourier_motzkin.specs.Bounds.{bounds_of, greatest, least, between}
+use Rattle.fourier_motzkin.specs.Bounds.{value_among, bounds_of, greatest, least, between}
 use Rattle.fourier_motzkin.specs.Search.{next_rows}
 
 -- a name, and the rows that bound it above and below before its step
@@ -43,6 +43,10 @@ descent limit [] rows cost = done (rows, [])
 descent limit (x ∷ xs) rows cost = then_of (next_rows limit x rows cost) (λ n. then_of (descent limit xs n.0 n.1) (λ r. done (r.0, kept x rows ∷ r.1)))
 
 -- ---- up
+
+-- the sum with a term at its value, unless it is a term of x
+abbrev pub plus_term : ℕ → List Value → Frac → Term → Option Frac
+plus_term x vs sum t = if nat_eq x t.name then Some sum else product_step (whole_frac t.times) (value_among vs t.name) >>= λ product. sum_step sum product
 
 -- the value of the name between its bounds at the values of the names after it
 abbrev pub kept_value : Kept → List Value → Option Frac
