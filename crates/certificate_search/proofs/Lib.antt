@@ -5,3 +5,5 @@ pub mod Splits
 pub mod Descents
 pub mod Indexed
 pub mod Ascents
+pub mod Points
+pub mod TwoPasses

@@ -162,10 +162,9 @@ impl Found {
         ensures within { IfOk result (λ v. All IsWithin v.items) }
     {
         let Found { list, values: _ } = self;
-        let mut point = Vec::with_capacity(alloc, list.len())?;
-        for (name, value) in list.iter().rev() {
-            point.push((*name, value.numerator, value.denominator))?;
-        }
-        Ok(point)
+        list.iter()
+            .rev()
+            .map(|(name, value)| (*name, value.numerator, value.denominator))
+            .collect(alloc)
     }
 }

@@ -2,7 +2,10 @@
 //! prove that no point does.
 #![tactic(auto)]
 
+mod certificate;
 mod found;
 mod numbers;
 mod rows;
 mod steps;
+
+pub use certificate::{Certificate, certify};

@@ -1,5 +1,5 @@
 // Rows of the search: inequalities, with the multipliers by which they come from the constraints.
-ghost use Rattle.std.specs.Prelude.{◌≡◌, ◌⊎◌, pos, negsuc, ◌<ℤ◌, ◌||◌, ◌++◌, false, true, int_div, map, option_map, IfOk, IfErr, IsErrOf, OnOk};
+ghost use Rattle.std.specs.Prelude.{◌≡◌, ◌⊎◌, pos, negsuc, ◌<ℤ◌, ◌||◌, ◌++◌, false, true, int_div, map, option_map, All, IfOk, IfErr, IsErrOf, OnOk};
 ghost use Rattle.std.specs.Option.{option_copied};
 ghost use Rattle.exact_numbers.specs.Limit.{InLimit};
 ghost use Rattle.exact_numbers.specs.Divides.{DividesAll, content_of, gcd_of};
@@ -61,7 +61,8 @@ impl Row {
         alloc: Global,
         constraints: &[Constraint],
     ) -> Result<Vec<i128>, AllocError>
-        ensures { IfOk result (λ v. v.items ≡ multipliers_from 0 (map constraint_of constraints.now) self.now.multipliers) }
+        ensures multipliers { IfOk result (λ v. v.items ≡ multipliers_from 0 (map constraint_of constraints.now) self.now.multipliers) }
+        ensures within { IfOk result (λ v. All InLimit v.items) }
     {
         let mut multipliers = Vec::with_capacity(alloc, constraints.len())?;
         for place in 0..constraints.len() {
