@@ -1,5 +1,5 @@
 -- The ascent of the search, one part after the other.
-use Rattle.std.proofs.Common.{◌≡◌, ◌+◌, ◌++◌, ◌<◌, ℕ, length, get_or, zero, suc, Bool, true, false, List, [], ◌∷◌, map, drop, Option, Some, None, Result, Err, refl, ap, sym, ◌∙◌, subst, append_assoc, nat_eq}
+use Rattle.std.proofs.Common.{◌≡◌, ◌+◌, ◌++◌, ◌<◌, ℕ, length, get_or, zero, suc, Bool, true, false, List, [], ◌∷◌, drop, Option, Some, None, Result, Err, refl, ap, sym, ◌∙◌, subst, append_assoc, nat_eq}
 use Rattle.std.proofs.Math.IntN.{ℤ, pos, neg_ℤ}
 use Rattle.std.specs.Prelude.{IfErr, option_map, slice_get, if◌then◌else◌}
 use Rattle.std.proofs.lemmas.List.{drop_more}

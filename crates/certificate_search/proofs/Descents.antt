@@ -1,7 +1,7 @@
 -- The descent of the search, one part after the other.
-use Rattle.std.proofs.Common.{◌≡◌, ◌<◌, ◌+◌, ◌++◌, ℕ, suc, List, [], ◌∷◌, map, length, drop, get_or, Result, Err, ap, sym, ◌∙◌, refl, append_assoc, subst, arith}
+use Rattle.std.proofs.Common.{◌≡◌, ◌<◌, ◌+◌, ◌++◌, ℕ, List, [], ◌∷◌, length, drop, get_or, Result, Err, ap, sym, ◌∙◌, refl, append_assoc, subst}
 use Rattle.std.specs.Prelude.{IfErr}
-use Rattle.std.proofs.lemmas.List.{append-nil, drop_more}
+use Rattle.std.proofs.lemmas.List.{drop_more}
 use Rattle.formula_meaning.specs.Measured.{Outcome, stopped, done, then_of}
 use Rattle.fourier_motzkin.specs.Rows.{Row, Pair}
 use Rattle.fourier_motzkin.specs.Search.{new_row, new_rows, next_rows}

@@ -1,5 +1,5 @@
 -- The rows of constraints, and the first false row of a list.
-use Rattle.std.proofs.Common.{◌≡◌, ◌+◌, ◌<◌, ◌++◌, ℕ, Bool, true, false, List, [], ◌∷◌, map, drop, length, Option, Some, None, refl, ap, ap₂, sym, ◌∙◌, subst, cond, arith, append_assoc, add-one}
+use Rattle.std.proofs.Common.{◌≡◌, ◌+◌, ◌<◌, ◌++◌, ℕ, Bool, true, false, List, [], ◌∷◌, map, drop, length, Some, refl, ap, ap₂, sym, ◌∙◌, subst, cond, arith, append_assoc, add-one}
 use Rattle.std.proofs.Math.IntN.{ℤ, negsuc}
 use Rattle.std.specs.Prelude.{option_map, find, if◌then◌else◌}
 use Rattle.std.proofs.lemmas.List.{drop_more}

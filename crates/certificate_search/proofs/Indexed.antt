@@ -1,12 +1,12 @@
 -- The index of the values found.
-use Rattle.std.proofs.Common.{◌≡◌, ◌++◌, ℕ, Bool, true, false, cond, List, [], ◌∷◌, map, Option, Some, None, refl, ap, sym, ◌∙◌, nat_eq, nat_cmp, is_eq, arith, if◌then◌else◌}
+use Rattle.std.proofs.Common.{◌≡◌, ◌++◌, ℕ, Bool, true, false, cond, List, [], ◌∷◌, Option, Some, refl, ap, sym, ◌∙◌, nat_eq, nat_cmp, is_eq, arith, if◌then◌else◌}
 use Rattle.std.proofs.Math.IntN.{pos}
-use Rattle.std.specs.Prelude.{unwrap_or, option_map, reverse}
+use Rattle.std.specs.Prelude.{unwrap_or, option_map}
 use Rattle.std.specs.Map.{lookup}
 use Rattle.std.proofs.lemmas.List.{reverse-append}
 use Rattle.std.proofs.lemmas.Bool.Decides.{nat_tests}
 use Rattle.exact_numbers.specs.declared.fraction.Fraction.{Fraction}
-use Rattle.exact_numbers.specs.Frac.{Frac, whole_frac}
+use Rattle.exact_numbers.specs.Frac.{whole_frac}
 use Rattle.exact_numbers.specs.Fraction.{frac_of}
 use Rattle.linear_forms.specs.declared.form.VarId.{VarId}
 use Rattle.sample_reference.specs.Seen.{value_of, values_of}

@@ -1,5 +1,5 @@
 -- What the program's certificates mean.
-use Rattle.std.specs.Prelude.{ℕ, ℤ, pos, ◌<ℤ◌, List, map, All}
+use Rattle.std.specs.Prelude.{ℤ, pos, ◌<ℤ◌, map, All}
 use Rattle.exact_numbers.specs.Limit.{InLimit}
 use Rattle.linear_forms.specs.declared.form.VarId.{VarId}
 use Rattle.sample_reference.specs.Values.{Value}

@@ -1,5 +1,5 @@
 -- The values of names that the program has found.
-use Rattle.std.specs.Prelude.{◌≡◌, ℕ, pos, List, map, reverse, nat_eq, unwrap_or, option_map, Option, None}
+use Rattle.std.specs.Prelude.{◌≡◌, ℕ, pos, List, reverse, nat_eq, unwrap_or, option_map, Option, None}
 use Rattle.std.specs.Map.{lookup}
 use Rattle.exact_numbers.specs.declared.fraction.Fraction.{Fraction}
 use Rattle.exact_numbers.specs.Frac.{Frac, whole_frac}

@@ -1,5 +1,5 @@
 -- The search in two passes: the descent eliminates the names and keeps the rows with each, and the ascent gives them values.
-use Rattle.std.specs.Prelude.{ℕ, ℤ, pos, ◌<ℤ◌, List, [], ◌∷◌, ◌++◌, map, flat_map, Option, Some, nat_eq, if◌then◌else◌}
+use Rattle.std.specs.Prelude.{ℕ, pos, ◌<ℤ◌, List, [], ◌∷◌, ◌++◌, map, flat_map, Option, Some, nat_eq, if◌then◌else◌}
 use Rattle.exact_numbers.specs.Frac.{Frac, whole_frac, product_step, sum_step, ◌>>=◌}
 use Rattle.formula_meaning.specs.Form.{Term, coefficient}
 use Rattle.formula_meaning.specs.Measured.{Outcome, done, then_of}

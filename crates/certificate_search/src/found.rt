@@ -39,7 +39,7 @@ impl Model for Found {
 
 impl Found {
     // No values.
-    pub(crate) fn new(alloc: Global) -> Found
+    fn new(alloc: Global) -> Found
         ensures { result ≡ [] }
     {
         Found {
@@ -73,13 +73,7 @@ impl Found {
 
     // The sum with a term at its value, unless it is a term of `name`. `None` exactly where a number that is formed passes
     // 2^127 - 1.
-    fn plus_term(
-        &self,
-        sum: Fraction,
-        name: VarId,
-        other: VarId,
-        times: i128,
-    ) -> Option<Fraction>
+    fn plus_term(&self, sum: Fraction, name: VarId, other: VarId, times: i128) -> Option<Fraction>
         requires { InLimit times }
         ensures { option_map frac_of result ≡ plus_term name.number self.now (frac_of sum) (record { times = times; name = other.number }) }
     {

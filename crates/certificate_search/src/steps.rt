@@ -10,8 +10,8 @@ ghost use Rattle.certificate_search.specs.Rows.{row_of, rows_of, pair_of, kept_o
 ghost use Rattle.certificate_search.specs.Search.{AreBounds, pairs_with, all_pairs, after, kept, descent};
 ghost use Rattle.certificate_search.specs.Stops.{StopsSearch};
 
-use farkas_cert::CertError;
 use crate::rows::{Row, without_name};
+use farkas_cert::CertError;
 use linear_forms::VarId;
 use std::alloc::{AllocError, Global};
 use std::cmp::Ordering;
@@ -77,7 +77,7 @@ impl Split {
     }
 }
 
-// What stays the same during a search: how many rows may be made.
+// What stays the same during a search: the allocator, and how much the rows may cost.
 #[derive(Clone, Copy)]
 pub(crate) struct Search {
     pub(crate) alloc: Global,

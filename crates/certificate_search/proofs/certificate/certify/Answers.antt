@@ -1,5 +1,4 @@
-use Rattle.std.proofs.Common.{rules, ◌≡◌, ◌∙◌, [], List, Err, Some, ap, sym, subst, map}
-use Rattle.std.specs.Prelude.{option_map}
+use Rattle.std.proofs.Common.{rules, ◌≡◌, ◌∙◌, List, Err, Some, ap, sym, map}
 use Rattle.formula_meaning.specs.Measured.{done}
 use Rattle.linear_forms.specs.Values.{number_of}
 use Rattle.fourier_motzkin.specs.Search as reference

@@ -1,6 +1,4 @@
-use Rattle.std.proofs.Common.{rules, ◌≡◌, ap, ap₂, sym, subst, ◌∙◌, option_map, pos, neg_ℤ, arith, refl}
-use Rattle.std.specs.Int.{w128}
-use Rattle.std.proofs.Math.IntN.{ℤ, ◌-ℤ◌}
+use Rattle.std.proofs.Common.{◌≡◌, ap, sym, subst, ◌∙◌, option_map, pos, neg_ℤ, arith, refl}
 use Rattle.std.proofs.lemmas.Int.{ints, to_z-of_z}
 use Rattle.exact_numbers.specs.Limit.{InLimit}
 use Rattle.exact_numbers.specs.Frac.{Frac, whole_frac, inverted, sum_step, product_step}

@@ -1,5 +1,4 @@
-use Rattle.std.proofs.Common.{rules, ◌≡◌, ◌+◌, List, Some, None, arith, ap, sym, subst, ◌∙◌, option_map, pos, [], drop}
-use Rattle.std.specs.Int.{w128}
+use Rattle.std.proofs.Common.{◌≡◌, ◌+◌, List, Some, None, arith, ap, sym, subst, ◌∙◌, option_map, pos, [], drop}
 use Rattle.std.proofs.lemmas.Int.{to_z-of_z}
 use Rattle.std.proofs.lemmas.List.{drop_all}
 use Rattle.exact_numbers.specs.Limit.{InLimit}

@@ -1,4 +1,4 @@
-use Rattle.std.proofs.Common.{rules, ◌∙◌, sym, ap}
+use Rattle.std.proofs.Common.{◌∙◌, ap}
 use Rattle.fourier_motzkin.specs.Bounds.{value_among}
 use Rattle.certificate_search.specs.Found.{ValueList}
 use Rattle.certificate_search.proofs.Indexed.{looked_up}

@@ -1,4 +1,4 @@
-use Rattle.std.proofs.Common.{rules, ◌≡◌, ◌++◌, ◌∷◌, [], ℤ, List, All, ap, sym, subst, ◌∙◌, map, drop, ◌+◌}
+use Rattle.std.proofs.Common.{◌≡◌, ◌++◌, ◌∷◌, [], ℤ, List, All, ap, sym, subst, ◌∙◌, map, drop, ◌+◌}
 use Rattle.std.proofs.lemmas.List.Elements.{All-push}
 use Rattle.exact_numbers.specs.Limit.{InLimit}
 use Rattle.std.specs.Int.{w128}

@@ -1,4 +1,4 @@
-use Rattle.std.proofs.Common.{rules, ◌≡◌, List, Err, drop, pos, ◌<ℤ◌, ◌+◌, ap, sym, ◌∙◌, subst}
+use Rattle.std.proofs.Common.{rules, ◌≡◌, List, Err, drop, pos, ◌<ℤ◌, ◌+◌, subst}
 use Rattle.std.specs.Prelude.{flat_map}
 use Rattle.formula_meaning.specs.Form.{coefficient}
 use Rattle.formula_meaning.specs.Some.{EachOf}

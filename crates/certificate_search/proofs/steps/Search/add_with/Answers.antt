@@ -1,7 +1,6 @@
-use Rattle.std.proofs.Common.{rules, ◌≡◌, ◌++◌, ◌∷◌, [], List, Err, drop, pos, ◌<ℤ◌, ◌+◌, ap, sym, ◌∙◌, subst}
+use Rattle.std.proofs.Common.{rules, ◌≡◌, ◌++◌, ◌∷◌, [], List, Err, drop, pos, ◌<ℤ◌, ◌+◌, ap, ◌∙◌, subst}
 use Rattle.formula_meaning.specs.Form.{coefficient}
 use Rattle.formula_meaning.specs.Some.{EachOf}
-use Rattle.std.specs.Prelude.{map}
 use Rattle.std.proofs.lemmas.List.{map-append}
 use Rattle.fourier_motzkin.specs.Search.{new_rows}
 use Rattle.certificate_search.specs.Rows.{row_of, rows_of, pair_of}

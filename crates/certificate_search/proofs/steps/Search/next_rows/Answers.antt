@@ -1,9 +1,9 @@
 use Rattle.std.proofs.Common.{rules, ◌≡◌, List, ℕ, Err, sym, ap₂, subst}
 use Rattle.formula_meaning.specs.Measured.{Outcome}
-use Rattle.fourier_motzkin.specs.Rows.{Row, absent}
+use Rattle.fourier_motzkin.specs.Rows.{Row}
 use Rattle.fourier_motzkin.specs.Search.{new_rows}
 use Rattle.certificate_search.specs.Rows.{rows_of}
-use Rattle.certificate_search.specs.Search.{Kept, kept, AreBounds, all_pairs, after}
+use Rattle.certificate_search.specs.Search.{Kept, AreBounds, all_pairs, after}
 use Rattle.certificate_search.proofs.Descents.{err_told, stops_along}
 use Rattle.certificate_search.proofs.Splits.{kept_bounds}
 use Rattle.certificate_search.proofs.steps.Search.next_rows.Goals as goal
