@@ -7,3 +7,4 @@ pub mod Indexed
 pub mod Ascents
 pub mod Points
 pub mod TwoPasses
+mod Examples
