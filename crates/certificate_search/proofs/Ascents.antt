@@ -1,5 +1,5 @@
 -- The ascent of the search, one part after the other.
-use Rattle.std.proofs.Common.{◌≡◌, ◌+◌, ◌++◌, ◌<◌, ℕ, length, get_or, zero, suc, Bool, true, false, List, [], ◌∷◌, drop, Option, Some, None, Result, Err, refl, ap, sym, ◌∙◌, subst, append_assoc, nat_eq}
+use Rattle.std.proofs.Common.{◌≡◌, ◌+◌, ◌++◌, ◌<◌, ℕ, length, get_or, zero, suc, Bool, true, false, List, [], ◌∷◌, drop, Option, Some, None, Result, Err, refl, ap, sym, ◌∙◌, subst, nat_eq}
 use Rattle.std.proofs.Math.IntN.{ℤ, pos, neg_ℤ}
 use Rattle.std.specs.Prelude.{IfErr, option_map, slice_get, if◌then◌else◌}
 use Rattle.std.proofs.lemmas.List.{drop_more}
@@ -13,19 +13,9 @@ use Rattle.linear_forms.specs.declared.form.VarId.{VarId}
 use Rattle.linear_forms.specs.declared.error.LinError.{LinError}
 use Rattle.linear_forms.specs.declared.error.LinError.TheVariants.{Overflow, Memory}
 use Rattle.sample_reference.specs.Values.{Value}
-use Rattle.fourier_motzkin.specs.Rows.{Row}
-use Rattle.fourier_motzkin.specs.Bounds.{value_among, terms_at, bound_of, bounds_of}
+use Rattle.fourier_motzkin.specs.Bounds.{value_among, terms_at, bound_of}
 use Rattle.certificate_search.specs.Search.{Kept, plus_term, kept_value, with_kept, ascent}
 use Rattle.certificate_search.specs.Found.{Lacks}
-
--- ---- where there is no part, there is no whole
-
-pub lacks_then : {A B : Type 0} (e : LinError) (o : Option A) (k : A → Option B) → Lacks e o → Lacks e (o >>= k)
-lacks_then Overflow o k h = ap (λ p. p >>= k) h
-lacks_then Memory o k h = tt
-
-pub lacks_along : {A : Type 0} (e : LinError) (o p : Option A) → o ≡ p → Lacks e o → Lacks e p
-lacks_along e o p h s = subst (Lacks e) h s
 
 -- a call's error, passed on
 pub err_lacks : {A B : Type 0} (r : Result A LinError) (e : LinError) (o : Option B) → r ≡ Err e → Lacks e o → IfErr r (λ e. Lacks e o)
@@ -92,20 +82,6 @@ module _ (x : ℕ) (vs : List Value) (f : Form) where
 -- bounds before those of a computation
 abbrev pub bounds_after : List Frac → Option (List Frac) → Option (List Frac)
 bounds_after made o = o >>= λ more. Some (made ++ more)
-
-bounds_both : (made : List Frac) (b : Frac) (o : Option (List Frac)) → bounds_after (made ++ b ∷ []) o ≡ bounds_after made (o >>= λ bs. Some (b ∷ bs))
-bounds_both made b None = refl
-bounds_both made b (Some bs) = ap Some (append_assoc made (b ∷ []) bs)
-
-module _ (x : ℕ) (vs : List Value) where
-  -- the bound of a row more
-  pub bound_more : (r : Row) (rest : List Row) (made : List Frac) (b : Frac) (all : Option (List Frac)) → bounds_after made (bounds_of x vs (r ∷ rest)) ≡ all →
-      Some b ≡ bound_of x vs r.form → bounds_after (made ++ b ∷ []) (bounds_of x vs rest) ≡ all
-  bound_more r rest made b all h e =
-      bounds_both made b (bounds_of x vs rest) ∙ ap (λ o. bounds_after made (o >>= λ b. bounds_of x vs rest >>= λ bs. Some (b ∷ bs))) e ∙ h
-
-  pub bound_lacks : (r : Row) (rest : List Row) (made : List Frac) (all : Option (List Frac)) → bounds_after made (bounds_of x vs (r ∷ rest)) ≡ all → None ≡ bound_of x vs r.form → all ≡ None
-  bound_lacks r rest made all h e = sym h ∙ sym (ap (λ o. bounds_after made (o >>= λ b. bounds_of x vs rest >>= λ bs. Some (b ∷ bs))) e)
 
 -- ---- one name after the other
 

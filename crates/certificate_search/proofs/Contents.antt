@@ -1,7 +1,7 @@
 -- The greatest common divisor of two lists, and rows in lowest terms.
 use Rattle.std.proofs.Common.{◌≡◌, List, [], ◌∷◌, ◌++◌, ap, sym, ◌∙◌, subst, refl, arith, if◌then◌else◌}
 use Rattle.std.proofs.Math.IntN.{ℤ, pos}
-use Rattle.std.specs.Prelude.{◌<ℤ◌, ◌≤ℤ◌}
+use Rattle.std.specs.Prelude.{◌≤ℤ◌}
 use Rattle.std.proofs.lemmas.Int.{ints}
 use Rattle.exact_numbers.specs.Divides.{DividesAll, IsGcd, gcd_of, content_of}
 use Rattle.exact_numbers.proofs.Contents.{content_is, divides_all_trans}
@@ -63,10 +63,3 @@ module _ (r : Row) where
           let f = sym (quotient_one r.form) in
           let m = sym (quotient_one r.multipliers) in
           subst (λ (d : ℤ). r ≡ row_quotient r d) (sym e) (λ i. record { form = f i; strict = r.strict; multipliers = m i })
-
-  -- and else it is divided by it
-  pub lowest_large : pos 1 <ℤ row_content r → row_quotient r (row_content r) ≡ lowest_row r
-  lowest_large h =
-      by_equal (λ b. row_quotient r (row_content r) ≡ (if b then r else row_quotient r (row_content r))) (row_content r) (pos 0)
-      (λ e. absurd (omega (arith, ints)))
-      (λ _. refl)

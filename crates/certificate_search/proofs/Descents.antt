@@ -39,9 +39,6 @@ module _ (limit x : ℕ) where
   abbrev with_rest : List Pair → Row × ℕ → Outcome (List Row × ℕ)
   with_rest rest q = after (q.0 ∷ []) (new_rows limit x rest q.1)
 
-  first_row : (pair : Pair) (rest : List Pair) (cost : ℕ) → new_rows limit x (pair ∷ rest) cost ≡ then_of (new_row limit x pair cost) (with_rest rest)
-  first_row pair rest cost = refl
-
   -- a new row more
   pub row_more : (pair : Pair) (rest : List Pair) (made : List Row) (r : Row) (cost cost2 : ℕ) (all : Outcome (List Row × ℕ)) → after made (new_rows limit x (pair ∷ rest) cost) ≡ all →
       new_row limit x pair cost ≡ done (r, cost2) → after (made ++ r ∷ []) (new_rows limit x rest cost2) ≡ all
@@ -99,11 +96,6 @@ module _ (limit : ℕ) where
   pub step_more : (ks : List Kept) (x : ℕ) (xs : List ℕ) (rows rows2 : List Row) (cost cost2 : ℕ) (all : Outcome (List Row × List Kept)) →
       kept_before ks (descent limit (x ∷ xs) rows cost) ≡ all → next_rows limit x rows cost ≡ done (rows2, cost2) → kept_before (ks ++ kept x rows ∷ []) (descent limit xs rows2 cost2) ≡ all
   step_more ks x xs rows rows2 cost cost2 all h e = kept_more ks (kept x rows) (descent limit xs rows2 cost2) ∙ sym (ap (λ o. kept_before ks (then_of o (goes_on x xs rows))) e) ∙ h
-
-  pub step_stops : (e : CertError) (ks : List Kept) (x : ℕ) (xs : List ℕ) (rows : List Row) (cost : ℕ) (all : Outcome (List Row × List Kept)) →
-      kept_before ks (descent limit (x ∷ xs) rows cost) ≡ all → StopsSearch e (next_rows limit x rows cost) → StopsSearch e all
-  step_stops e ks x xs rows cost all h s =
-      stops_along e _ all h (stops_then e (descent limit (x ∷ xs) rows cost) _ (stops_then e (next_rows limit x rows cost) (goes_on x xs rows) s))
 
 -- ---- what is left of a list
 

@@ -1,10 +1,10 @@
 -- Worked examples of the two passes, by hand. The names x and y are 0 and 1.
-use Rattle.std.proofs.Common.{◌≡◌, ℕ, Bool, true, false, Some, [], ◌∷◌, refl}
+use Rattle.std.proofs.Common.{◌≡◌, ℕ, Bool, false, Some, [], ◌∷◌, refl}
 use Rattle.std.proofs.Math.IntN.{ℤ, pos, negsuc}
 use Rattle.exact_numbers.specs.Divides.{content_of, gcd_of, lcm_of, euclid}
 use Rattle.exact_numbers.specs.Frac.{inverted, sum_step, product_step}
 use Rattle.exact_numbers.specs.Limit.{checked}
-use Rattle.formula_meaning.specs.Form.{Form, coefficient, without, scale, combine}
+use Rattle.formula_meaning.specs.Form.{Form, coefficient, without, combine}
 use Rattle.formula_meaning.specs.Measured.{stopped, done, Nodes}
 use Rattle.formula_meaning.specs.Sorted.{gathered}
 use Rattle.linear_forms.specs.Reduction.{quotient}

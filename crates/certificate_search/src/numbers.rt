@@ -5,16 +5,12 @@ ghost use Rattle.sample_reference.specs.Calculated.{is_less, lesser, just_past, 
 ghost use Rattle.fourier_motzkin.specs.Bounds.{least, greatest, between};
 
 use exact_numbers::{Fraction, compare_fractions};
-use std::cmp::Ordering;
 
 // Whether the first number is less.
 fn is_less(a: Fraction, b: Fraction) -> bool
     ensures { result ≡ is_less (frac_of a) (frac_of b) }
 {
-    match compare_fractions(a.numerator, a.denominator, b.numerator, b.denominator) {
-        Ordering::Less => true,
-        Ordering::Equal | Ordering::Greater => false,
-    }
+    compare_fractions(a.numerator, a.denominator, b.numerator, b.denominator).is_lt()
 }
 
 // The lesser of a number and of one that may be there.
