@@ -1,0 +1,4 @@
+pub mod Rows
+pub mod Bounds
+pub mod Search
+pub mod Theorems
