@@ -1,11 +1,13 @@
 //! Makes the calls that no statement makes, on formulas worked by hand: a maker of plain trees, a formula unfolded under a
 //! limit, a tree printed by itself, the cases of a tree, and the sample of one without free names; those of the lowest crates, of
 //! numbers, forms, atoms and test points, also put into shared formulas; blocks branch by branch, guards together, and
-//! formulas eliminated by cases; and pieces that are shared out to threads. The gate runs it and compares what it prints.
+//! formulas eliminated by cases; certificates of constraints; and pieces that are shared out to threads. The gate runs it and
+//! compares what it prints.
 #![tactic(auto)]
 
 mod blocks;
 mod calls;
+mod certificates;
 mod elimination;
 mod families;
 mod forms;
@@ -31,6 +33,7 @@ fn main(rt: HostRuntime) -> io::Result<()> {
     counted(&rt)?;
     by_cases(&rt)?;
     answered_by_cases(&rt)?;
+    certified(&rt)?;
     shared_out(&rt)
 }
 
@@ -183,6 +186,17 @@ fn answered_by_cases<R: Threads + Sync + Print + AllocGlobal>(rt: &R) -> io::Res
     tell(rt, "sample of a chain of 200 names", chain)?;
     tell(rt, "whether each number has a greater one", unbounded)?;
     tell(rt, "whether a number lies between 0 and 0", nothing)
+}
+
+/// Certificates of constraints.
+fn certified<R: Print + AllocGlobal>(rt: &R) -> io::Result<()> {
+    let alloc = rt.alloc();
+    let none = certificates::of_none(alloc);
+    let half = certificates::of_half(alloc);
+    let named = certificates::of_a_sum_with_a_name(alloc);
+    tell(rt, "a number from 1 on and up to 0", none)?;
+    tell(rt, "a number above 0 and below 1", half)?;
+    tell(rt, "multipliers whose sum has a name", named)
 }
 
 /// Pieces that are shared out to threads.
