@@ -1,0 +1,4 @@
+pub mod Counts
+pub mod Scales
+pub mod Frames
+pub mod Grids

@@ -1,0 +1,12 @@
+//! Grids of points over one denominator, and the truth of a formula without quantifiers at each of them.
+#![tactic(auto)]
+
+mod axis;
+mod error;
+mod grid;
+mod parts;
+mod scale;
+
+pub use axis::Axis;
+pub use error::GridError;
+pub use grid::Grid;
