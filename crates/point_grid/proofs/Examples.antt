@@ -1,10 +1,7 @@
 -- Grids worked by hand.
-use Rattle.std.proofs.Common.{◌≡◌, ℕ, List, [], ◌∷◌, map, refl, length}
+use Rattle.std.proofs.Common.{◌≡◌, ℕ, List, [], ◌∷◌, map, refl}
 use Rattle.std.proofs.Math.IntN.{ℤ, pos, negsuc}
-use Rattle.linear_forms.specs.declared.form.VarId.{VarId}
-use Rattle.exact_numbers.specs.declared.fraction.Fraction.{Fraction}
 use Rattle.point_grid.specs.declared.scale.Scale.{Scale}
-use Rattle.point_grid.specs.declared.axis.Axis.{Axis}
 use Rattle.point_grid.specs.Scales.{run_of, choices, choice, put, size}
 use Rattle.point_grid.specs.Counts.{count_of}
 
@@ -45,4 +42,3 @@ end_met = refl
 no_values : count_of (negsuc 0) 1 ≡ 0
 unfolding count_of
 no_values = refl
-

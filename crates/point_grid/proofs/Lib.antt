@@ -1,2 +1,5 @@
 pub mod Numbering
+pub mod Lists
+pub mod Multiples
+pub mod Counting
 mod Examples

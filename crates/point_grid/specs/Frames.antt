@@ -1,5 +1,5 @@
 -- Scales over one denominator, and their points.
-use Rattle.std.specs.Prelude.{◌≡◌, ℕ, ◌≤◌, ◌<◌, ℤ, pos, ◌<ℤ◌, List, map, unsigned_abs}
+use Rattle.std.specs.Prelude.{◌≡◌, ℕ, ◌≤◌, ℤ, pos, ◌<ℤ◌, List, map, unsigned_abs}
 use Rattle.std.specs.List.{AllByRecursion}
 use Rattle.formula_meaning.specs.Point.{Point}
 use Rattle.point_grid.specs.declared.scale.Scale.{Scale}
@@ -26,8 +26,9 @@ point_at f index = point_over f.denominator (choice (λ _. pos 0) f.scales index
 abbrev pub most_points : ℕ
 most_points = 1000000
 
--- the numbers are within the limit, and there are not too many points
-pub record IsFrame (f : Frame) : Type 0 where
+-- the numbers are within the limit, and there are not too many points, which are counted
+pub record IsFrame (f : Frame) (points : ℕ) : Type 0 where
   pub positive : pos 0 <ℤ f.denominator
   pub within : AllByRecursion IsWithin f.scales
-  pub few : size f.scales ≤ most_points
+  pub counted : points ≡ size f.scales
+  pub few : points ≤ most_points

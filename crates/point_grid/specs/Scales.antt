@@ -1,5 +1,5 @@
 -- The points whose numbers run along scales.
-use Rattle.std.specs.Prelude.{◌≡◌, ℕ, zero, suc, ◌+◌, ◌*◌, ◌/◌, ◌%◌, ◌<◌, ◌^◌, ℤ, pos, ◌+ℤ◌, List, [], ◌∷◌, flat_map, nat_eq, if◌then◌else◌}
+use Rattle.std.specs.Prelude.{ℕ, zero, suc, ◌*◌, ◌/◌, ◌%◌, ◌<◌, ◌^◌, ℤ, pos, ◌+ℤ◌, List, [], ◌∷◌, flat_map, nat_eq, if◌then◌else◌}
 use Rattle.exact_numbers.specs.Limit.{InLimit}
 use Rattle.point_grid.specs.declared.scale.Scale.{Scale}
 

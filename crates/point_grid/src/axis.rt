@@ -26,7 +26,7 @@ impl Axis {
     // The least common multiple of a number and the denominators in lowest terms, or `None` exactly where it passes 2^127 - 1.
     pub(crate) fn multiple_with(&self, multiple: i128) -> Option<i128>
         requires { pos 0 <ℤ multiple }
-        ensures { MatchOption result (PastLimit (multiple_with multiple self.now)) (λ n. (n ≡ multiple_with multiple self.now) × InLimit n) }
+        ensures { result ≡ checked (multiple_with multiple self.now) }
     {
         let with_low = lcm(multiple, lowest(self.low).denominator)?;
         let with_high = lcm(with_low, lowest(self.high).denominator)?;

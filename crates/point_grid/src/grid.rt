@@ -23,15 +23,13 @@ pub struct Grid {
 }
 
 impl Model for Grid {
-    ghost use Rattle.std.specs.Prelude.{◌≡◌};
-    ghost use Rattle.point_grid.specs.Scales.{size};
     ghost use Rattle.point_grid.specs.Frames.{Frame, IsFrame};
 
     ghost Value = { Frame };
 
     ghost view = { λ g. record { denominator = g.denominator; scales = g.scales.items } };
 
-    ghost invariant = { λ g. IsFrame (record { denominator = g.denominator; scales = g.scales.items }) × (g.points ≡ size g.scales.items) };
+    ghost invariant = { λ g. IsFrame (record { denominator = g.denominator; scales = g.scales.items }) g.points };
 }
 
 impl Grid {

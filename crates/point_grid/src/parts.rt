@@ -1,7 +1,7 @@
 // The parts of a grid: the common denominator of axes, the axes over it, and how many points they have.
 ghost use Rattle.std.specs.Prelude.{◌≡◌, ◌<◌, ◌-◌, ◌^◌, pos, ◌<ℤ◌, map, min, IfOk, IsErrOf, MatchOption, ℤ};
 ghost use Rattle.std.specs.List.{AllByRecursion};
-ghost use Rattle.exact_numbers.specs.Limit.{PastLimit, InLimit};
+ghost use Rattle.exact_numbers.specs.Limit.{checked};
 ghost use Rattle.formula_meaning.specs.Some.{SomeOf};
 ghost use Rattle.point_grid.specs.Scales.{size, IsWithin};
 ghost use Rattle.point_grid.specs.Grids.{common, scale_of, HasSteps, IsRising, AxisPasses, AxisFits};
@@ -13,7 +13,7 @@ use std::alloc::Global;
 
 // The least common multiple of all denominators in lowest terms, or `None` exactly where it passes 2^127 - 1.
 pub(crate) fn common_denominator(axes: &[Axis]) -> Option<i128>
-    ensures { MatchOption result (PastLimit (common axes.now)) (λ m. (m ≡ common axes.now) × InLimit m) }
+    ensures { result ≡ checked (common axes.now) }
 {
     let mut multiple = 1;
     for axis in axes {
