@@ -2,4 +2,6 @@ pub mod Numbering
 pub mod Lists
 pub mod Multiples
 pub mod Counting
+pub mod Choices
+pub mod Pieces
 mod Examples

@@ -2,3 +2,4 @@ pub mod Counts
 pub mod Scales
 pub mod Frames
 pub mod Grids
+pub mod Truths

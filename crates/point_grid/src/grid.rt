@@ -2,13 +2,16 @@
 ghost use Rattle.std.specs.Prelude.{◌≡◌, ◌≤◌, ◌<◌, ◌-◌, ◌^◌, ℤ, pos, ◌<ℤ◌, map, min, nat_eq, IfOk, OnOk, IsErrOf, IsTrue, ◌↔◌, MatchOption, MatchResult};
 ghost use Rattle.std.specs.List.{AllByRecursion, IsDistinct};
 ghost use Rattle.exact_numbers.specs.Limit.{PastLimit, InLimit};
-ghost use Rattle.point_grid.specs.Scales.{size};
+ghost use Rattle.linear_forms.specs.Values.{number_at};
+ghost use Rattle.point_grid.specs.Scales.{size, choice};
 
 use crate::axis::Axis;
 use crate::error::GridError;
 use crate::parts::{common_denominator, product_of_counts, scales_over};
+use crate::points::put_numbers;
 use crate::scale::Scale;
-use std::alloc::Global;
+use linear_forms::Values;
+use std::alloc::{AllocError, Global};
 use std::marker::Model;
 
 // So many points at most has a grid.
@@ -61,6 +64,23 @@ impl Grid {
             scales,
             points: points as usize,
         })
+    }
+
+    // The denominator of the points.
+    pub(crate) fn denominator(&self) -> i128
+        ensures value { result ≡ self.now.denominator }
+        ensures positive { pos 0 <ℤ result }
+    {
+        self.denominator
+    }
+
+    // Gives the names of the axes their numbers at the point with this index. Its only error is want of memory.
+    pub(crate) fn put_point(&self, index: usize, values: &mut Values) -> Result<(), AllocError>
+        requires { index < size self.now.scales }
+        ensures put { OnOk result (number_at values.new ≡ choice (number_at values.old) self.now.scales index) }
+        ensures denominator { values.new.denominator ≡ values.old.denominator }
+    {
+        put_numbers(&self.scales, self.points, index, values)
     }
 
     /// The number of points.

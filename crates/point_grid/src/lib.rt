@@ -5,8 +5,11 @@ mod axis;
 mod error;
 mod grid;
 mod parts;
+mod points;
 mod scale;
+mod truths;
 
 pub use axis::Axis;
 pub use error::GridError;
 pub use grid::Grid;
+pub use truths::grid_truth;

@@ -21,7 +21,8 @@ impl Scale {
     pub(crate) fn number(&self, index: u128) -> i128
         requires within { IsWithin self.now }
         requires index { index < self.now.count }
-        ensures { result ≡ number_of self.now index }
+        ensures value { result ≡ number_of self.now index }
+        ensures within { InLimit result }
     {
         self.low + (index * self.step) as i128
     }
