@@ -4,4 +4,6 @@ pub mod Multiples
 pub mod Counting
 pub mod Choices
 pub mod Pieces
+pub mod Once
+pub mod Values
 mod Examples

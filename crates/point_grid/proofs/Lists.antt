@@ -1,5 +1,5 @@
 -- What is left of a list from a place on, and the product of the counts of what is left.
-use Rattle.std.proofs.Common.{◌≡◌, ℕ, zero, suc, ◌+◌, ◌*◌, ◌<◌, ◌≤◌, List, [], ◌∷◌, length, get_or, drop, drop-cons, add-one, refl, min, ap, sym, ◌∙◌, arith, inl, inr, subst}
+use Rattle.std.proofs.Common.{◌≡◌, ℕ, zero, suc, ◌+◌, ◌*◌, ◌<◌, ◌≤◌, List, [], ◌∷◌, length, get_or, drop, drop-cons, add-one, min, ap, sym, ◌∙◌, arith, inl, inr, subst}
 use Rattle.std.proofs.lemmas.Bool.{cases_lt}
 use Rattle.std.proofs.Math.Nat.{le-mul_of_pos_right}
 use Rattle.std.specs.List.{AllByRecursion}
@@ -9,15 +9,6 @@ use Rattle.point_grid.specs.Scales.{size}
 
 pub drop_at : {X : Type 0} (xs : List X) (i : ℕ) (x : X) → i < length xs → x ≡ get_or xs i x → drop i xs ≡ x ∷ drop (i + 1) xs
 drop_at xs i x h e = rw (add-one, drop-cons xs i x) (ap (λ y. y ∷ drop (suc i) xs) (sym e))
-
-pub drop_next : {X : Type 0} (xs : List X) (i : ℕ) (d : X) → i < length xs → drop i xs ≡ get_or xs i d ∷ drop (i + 1) xs
-drop_next xs i d h = rw (add-one, drop-cons xs i d) refl
-
-pub drop_all : {X : Type 0} (xs : List X) (i : ℕ) → length xs ≤ i → drop i xs ≡ []
-drop_all [] zero h = λ i. []
-drop_all [] (suc i) h = λ j. []
-drop_all (x ∷ xs) zero h = absurd (omega arith)
-drop_all (x ∷ xs) (suc i) h = drop_all xs i (omega arith)
 
 times_assoc : (p c r : ℕ) → (p * c) * r ≡ p * (c * r)
 times_assoc p c r = omega arith

@@ -1,11 +1,14 @@
 -- The choices of numbers of scales, each at its index.
-use Rattle.std.proofs.Common.{◌≡◌, ℕ, zero, suc, ◌+◌, ◌*◌, ◌/◌, ◌%◌, ◌<◌, List, [], ◌∷◌, ◌++◌, Some, length, arith, refl, sym, ap, ◌∙◌, length-append}
+use Rattle.std.proofs.Common.{option_map, ◌≡◌, ℕ, zero, suc, ◌+◌, ◌*◌, ◌/◌, ◌%◌, ◌<◌, List, [], ◌∷◌, ◌++◌, Some, length, arith, refl, sym, ap, ◌∙◌, length-append}
 use Rattle.std.proofs.Math.IntN.{ℤ, pos, ◌+ℤ◌}
 use Rattle.std.specs.Prelude.{slice_get, flat_map}
 use Rattle.std.proofs.lemmas.Int.{ints}
 use Rattle.std.proofs.lemmas.Nat.{div_below}
+use Rattle.std.proofs.lemmas.List.{length-map}
+use Rattle.std.proofs.lemmas.Option.{slice_get-map}
 use Rattle.point_grid.specs.declared.scale.Scale.{Scale}
 use Rattle.point_grid.specs.Scales.{run_of, numbers_of, number_of, put, choices, choice, size}
+use Rattle.point_grid.specs.Frames.{Frame, point_over, points_of, point_at}
 
 suc_times : (i t : ℕ) → suc i * t ≡ t + i * t
 suc_times i t = omega arith
@@ -89,3 +92,11 @@ choice_place p (s ∷ ss) i h =
     ap (slice_get (choices p (s ∷ ss))) (split_index i m hm)
     ∙ blocks_place f m (λ n. choices_length (put p s.name.number n) ss) (numbers_of s) (i / m) (i % m) (number_of s (i / m)) (run_place s.low s.step s.count (i / m) q) (rest_below i m hm)
     ∙ choice_place (put p s.name.number (number_of s (i / m))) ss (i % m) (rest_below i m hm)
+
+-- as many points, each at its index
+pub points_are_counted : (grid : Frame) → length (points_of grid) ≡ size grid.scales
+points_are_counted grid = length-map (choices (λ _. pos 0) grid.scales) (point_over grid.denominator) ∙ choices_length (λ _. pos 0) grid.scales
+
+pub point_place : (grid : Frame) (index : ℕ) → index < size grid.scales → slice_get (points_of grid) index ≡ Some (point_at grid index)
+point_place grid index h =
+    slice_get-map (point_over grid.denominator) (choices (λ _. pos 0) grid.scales) index ∙ ap (option_map (point_over grid.denominator)) (choice_place (λ _. pos 0) grid.scales index h)

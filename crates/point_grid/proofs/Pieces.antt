@@ -1,11 +1,10 @@
 -- The truths at one point, at the points of a piece and at all points.
-use Rattle.std.proofs.Common.{◌≡◌, ℕ, suc, ◌+◌, ◌*◌, ◌<◌, List, [], ◌∷◌, Bool, Some, length, refl, sym, ap, ◌∙◌, subst, arith, Vec, Global, option_map}
+use Rattle.std.proofs.Common.{◌≡◌, ℕ, suc, ◌+◌, ◌*◌, ◌<◌, List, [], ◌∷◌, Bool, Some, length, refl, sym, ap, ◌∙◌, subst, arith, Vec, Global}
 use Rattle.std.proofs.Math.IntN.{ℤ, pos}
 use Rattle.std.specs.Prelude.{slice_get, flat_map, unsigned_abs}
 use Rattle.std.specs.Int.{div_ceil}
 use Rattle.std.proofs.lemmas.Grind.{div_ceil_times}
-use Rattle.std.proofs.lemmas.List.{length-map}
-use Rattle.std.proofs.lemmas.Option.{slice_get-map, slice_get_within}
+use Rattle.std.proofs.lemmas.Option.{slice_get_within}
 use Rattle.formula_meaning.specs.Atom.{form_of}
 use Rattle.formula_meaning.specs.Point.{Point}
 use Rattle.formula_meaning.specs.Tree.{Tree}
@@ -15,10 +14,10 @@ use Rattle.formula_store.specs.Nodes.{tree}
 use Rattle.formula_store.specs.Truths.{Tells, SomeAtomPasses}
 use Rattle.qe_parallel.specs.Fanned.{AnswerAll, AreAnswers}
 use Rattle.qe_parallel.proofs.Runs.{begun, together}
-use Rattle.point_grid.specs.Scales.{choice, choices, size}
-use Rattle.point_grid.specs.Frames.{Frame, point_over, point_at, points_of}
+use Rattle.point_grid.specs.Scales.{choice, size}
+use Rattle.point_grid.specs.Frames.{Frame, point_at, points_of}
 use Rattle.point_grid.specs.Truths.{Task, IsTruthAt, IsTruthList, AreRun, SomePointPasses, start_of}
-use Rattle.point_grid.proofs.Numbering.{choices_length, choice_place}
+use Rattle.point_grid.proofs.Numbering.{points_are_counted, point_place}
 
 -- ---- one point
 
@@ -59,20 +58,14 @@ module _ (t : Task) where
   truth_list : (truths : List Bool) → AnswerAll (IsTruthAt t) 0 (size t.grid.scales) truths → IsTruthList (tree t.nodes t.root) (points_of t.grid) truths
   truth_list truths a = record { count = counted; each = one }
     where
-      as_many : length (points_of t.grid) ≡ size t.grid.scales
-      as_many = length-map (choices (λ _. pos 0) t.grid.scales) (point_over t.grid.denominator) ∙ choices_length (λ _. pos 0) t.grid.scales
-
       counted : length truths ≡ length (points_of t.grid)
-      counted = let c = a.count in let m = as_many in omega arith
-
-      place : (i : ℕ) → i < size t.grid.scales → slice_get (points_of t.grid) i ≡ Some (point_at t.grid i)
-      place i h = slice_get-map (point_over t.grid.denominator) (choices (λ _. pos 0) t.grid.scales) i ∙ ap (option_map (point_over t.grid.denominator)) (choice_place (λ _. pos 0) t.grid.scales i h)
+      counted = let c = a.count in let m = points_are_counted t.grid in omega arith
 
       one : (i : ℕ) (p : Point ℕ) (b : Bool) → slice_get (points_of t.grid) i ≡ Some p → slice_get truths i ≡ Some b → Tells b (tree t.nodes t.root) p
       one i p b hp hb =
           let w = slice_get_within (points_of t.grid) i p hp in
-          let m = as_many in
-          let e = place i (omega arith) in
+          let m = points_are_counted t.grid in
+          let e = point_place t.grid i (omega arith) in
           let same : point_at t.grid i ≡ p = cc in
           let z : 0 + i ≡ i = omega arith in
           subst (λ (q : Point ℕ). Tells b (tree t.nodes t.root) q) same (subst (λ (n : ℕ). IsTruthAt t n b) z (a.each i b hb))

@@ -3,3 +3,4 @@ pub mod Scales
 pub mod Frames
 pub mod Grids
 pub mod Truths
+pub mod Laws

@@ -1,7 +1,6 @@
 // Axes of a grid, and their least common denominator.
 ghost use Rattle.std.specs.Prelude.{◌≡◌, pos, ◌<ℤ◌, MatchOption};
-ghost use Rattle.std.specs.List.{AllByRecursion};
-ghost use Rattle.exact_numbers.specs.Limit.{PastLimit, InLimit, checked};
+ghost use Rattle.exact_numbers.specs.Limit.{checked};
 ghost use Rattle.exact_numbers.specs.Frac.{lowest, scaled};
 ghost use Rattle.exact_numbers.specs.Fraction.{frac_of};
 ghost use Rattle.exact_numbers.specs.Divides.{Divides};

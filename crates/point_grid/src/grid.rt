@@ -1,7 +1,6 @@
 // Grids of points over one denominator.
-ghost use Rattle.std.specs.Prelude.{◌≡◌, ◌≤◌, ◌<◌, ◌-◌, ◌^◌, ℤ, pos, ◌<ℤ◌, map, min, nat_eq, IfOk, OnOk, IsErrOf, IsTrue, ◌↔◌, MatchOption, MatchResult};
+ghost use Rattle.std.specs.Prelude.{◌≡◌, ◌≤◌, ◌<◌, pos, ◌<ℤ◌, map, nat_eq, IfOk, OnOk, IsErrOf, IsTrue, ◌↔◌};
 ghost use Rattle.std.specs.List.{AllByRecursion, IsDistinct};
-ghost use Rattle.exact_numbers.specs.Limit.{PastLimit, InLimit};
 ghost use Rattle.linear_forms.specs.Values.{number_at};
 ghost use Rattle.point_grid.specs.Scales.{size, choice};
 

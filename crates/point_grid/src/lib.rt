@@ -4,6 +4,7 @@
 mod axis;
 mod error;
 mod grid;
+mod laws;
 mod parts;
 mod points;
 mod scale;
@@ -12,4 +13,7 @@ mod truths;
 pub use axis::Axis;
 pub use error::GridError;
 pub use grid::Grid;
+pub use laws::{
+    axes_have_their_values, every_division_gives_one_list, points_stand_at_their_indices,
+};
 pub use truths::grid_truth;

@@ -1,10 +1,10 @@
 // The parts of a grid: the common denominator of axes, the axes over it, and how many points they have.
-ghost use Rattle.std.specs.Prelude.{◌≡◌, ◌<◌, ◌-◌, ◌^◌, pos, ◌<ℤ◌, map, min, IfOk, IsErrOf, MatchOption, ℤ};
+ghost use Rattle.std.specs.Prelude.{◌≡◌, ◌-◌, ◌^◌, pos, ◌<ℤ◌, map, min, IfOk, IsErrOf};
 ghost use Rattle.std.specs.List.{AllByRecursion};
 ghost use Rattle.exact_numbers.specs.Limit.{checked};
 ghost use Rattle.formula_meaning.specs.Some.{SomeOf};
 ghost use Rattle.point_grid.specs.Scales.{size, IsWithin};
-ghost use Rattle.point_grid.specs.Grids.{common, scale_of, HasSteps, IsRising, AxisPasses, AxisFits};
+ghost use Rattle.point_grid.specs.Grids.{common, scale_of, HasSteps, AxisPasses, AxisFits};
 
 use crate::axis::Axis;
 use crate::error::GridError;

@@ -1,5 +1,5 @@
 // An axis in whole numbers over a denominator.
-ghost use Rattle.std.specs.Prelude.{◌≡◌, ◌<◌, ◌-◌, ◌^◌, min};
+ghost use Rattle.std.specs.Prelude.{◌≡◌, ◌<◌};
 ghost use Rattle.exact_numbers.specs.Limit.{InLimit};
 ghost use Rattle.point_grid.specs.Counts.{count_of};
 

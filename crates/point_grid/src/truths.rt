@@ -1,6 +1,6 @@
 //! The truth of a formula without quantifiers at each point of a grid, shared out to threads.
 
-ghost use Rattle.std.specs.Prelude.{◌≡◌, ℕ, ◌≤◌, ◌<◌, ◌/◌, ◌+◌, ◌-◌, flat_map, map, length, IfOk, IsErrOf};
+ghost use Rattle.std.specs.Prelude.{◌≡◌, ◌≤◌, flat_map, IfOk, IsErrOf};
 ghost use Rattle.formula_meaning.specs.Shape.{IsQuantifierFree};
 ghost use Rattle.formula_store.specs.Nodes.{tree, IsId};
 ghost use Rattle.formula_store.specs.Truths.{IsWholeWhereAsked};
@@ -41,7 +41,7 @@ impl<'a> Model for Points<'a> {
 }
 
 impl Worker for Points<'_> {
-    ghost use Rattle.std.specs.Prelude.{◌≡◌, ◌/◌, ◌+◌};
+    ghost use Rattle.std.specs.Prelude.{◌≡◌};
     ghost use Rattle.formula_store.specs.Nodes.{tree};
     ghost use Rattle.point_grid.specs.Scales.{size};
     ghost use Rattle.point_grid.specs.Truths.{run_length, AreRun, SomePointPasses};

@@ -7,7 +7,8 @@ use Rattle.exact_numbers.proofs.Casts.{fits}
 use Rattle.exact_numbers.proofs.Limits.{checked_in}
 use Rattle.point_grid.specs.declared.axis.Axis.{Axis}
 use Rattle.point_grid.specs.Grids.{multiple_of, common}
-use Rattle.point_grid.proofs.Lists.{drop_at, drop_all}
+use Rattle.std.proofs.lemmas.List.{drop_all}
+use Rattle.point_grid.proofs.Lists.{drop_at}
 use Rattle.point_grid.proofs.Multiples.{next_multiple, next_positive, next_none, none_left, within_of}
 use Rattle.point_grid.proofs.parts.common_denominator.Goals as goal
 
@@ -41,5 +42,5 @@ pub returns : goal.returns
 returns c =
     let axes = c.args.axes.now in
     let m = to_z w128 c.loop-axis.multiple-bits in
-    let inv = subst (λ (xs : List Axis). multiple_of m xs ≡ common axes) (drop_all axes c.loop-axis.axis-index c.loop-axis-test.false) c.loop-axis.invariant.left in
+    let inv = subst (λ (xs : List Axis). multiple_of m xs ≡ common axes) (drop_all c.loop-axis.axis-index axes c.loop-axis-test.false) c.loop-axis.invariant.left in
     sym (checked_in m c.loop-axis.invariant.within) ∙ ap checked (none_left m (common axes) inv)
