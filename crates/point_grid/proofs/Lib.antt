@@ -6,4 +6,5 @@ pub mod Choices
 pub mod Pieces
 pub mod Once
 pub mod Values
+pub mod Fitting
 mod Examples

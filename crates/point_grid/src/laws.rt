@@ -7,7 +7,7 @@ ghost use Rattle.formula_meaning.specs.Tree.{Tree};
 ghost use Rattle.point_grid.specs.declared.axis.Axis.{Axis};
 ghost use Rattle.point_grid.specs.Scales.{size};
 ghost use Rattle.point_grid.specs.Frames.{Frame, points_of, point_at};
-ghost use Rattle.point_grid.specs.Grids.{common, IsRising};
+ghost use Rattle.point_grid.specs.Grids.{common, IsRising, GridFits, GridPasses};
 ghost use Rattle.point_grid.specs.Truths.{IsTruthList};
 ghost use Rattle.point_grid.specs.Laws.{HasValues};
 
@@ -22,6 +22,12 @@ pub fn points_stand_at_their_indices()
 #[tactic(auto, using(crate::proofs::Values::all_have_values))]
 pub fn axes_have_their_values()
     ensures { (axes : List Axis) → AllByRecursion IsRising axes → AllByRecursion (HasValues (common axes)) axes }
+{}
+
+/// Where the numbers of a grid are within 2^127 - 1, none passes it.
+#[tactic(auto, using(crate::proofs::Fitting::fits_or_passes))]
+pub fn grid_fits_or_passes()
+    ensures { (axes : List Axis) → GridFits axes → ¬ (GridPasses axes) }
 {}
 
 /// There is one list of truths, however many threads it comes from.

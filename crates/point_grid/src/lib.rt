@@ -14,6 +14,7 @@ pub use axis::Axis;
 pub use error::GridError;
 pub use grid::Grid;
 pub use laws::{
-    axes_have_their_values, every_division_gives_one_list, points_stand_at_their_indices,
+    axes_have_their_values, every_division_gives_one_list, grid_fits_or_passes,
+    points_stand_at_their_indices,
 };
 pub use truths::grid_truth;
