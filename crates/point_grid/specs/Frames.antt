@@ -1,0 +1,34 @@
+-- Scales over one denominator, and their points.
+use Rattle.std.specs.Prelude.{◌≡◌, ℕ, ◌≤◌, ℤ, pos, ◌<ℤ◌, List, map, unsigned_abs}
+use Rattle.std.specs.List.{AllByRecursion}
+use Rattle.formula_meaning.specs.Point.{Point}
+use Rattle.point_grid.specs.declared.scale.Scale.{Scale}
+use Rattle.point_grid.specs.Scales.{IsWithin, choices, choice, size}
+
+-- scales, whose numbers stand over this denominator
+pub record Frame : Type 0 where
+  pub denominator : ℤ
+  pub scales : List Scale
+
+-- the numbers over the denominator are a point
+abbrev pub point_over : ℤ → (ℕ → ℤ) → Point ℕ
+point_over denominator numbers = record { at = numbers; below = unsigned_abs denominator }
+
+-- the points, that of the first scale changing slowest; each name without a scale is at 0
+abbrev pub points_of : Frame → List (Point ℕ)
+points_of f = map (point_over f.denominator) (choices (λ _. pos 0) f.scales)
+
+-- the point with this index
+abbrev pub point_at : Frame → ℕ → Point ℕ
+point_at f index = point_over f.denominator (choice (λ _. pos 0) f.scales index)
+
+-- so many points at most has a grid
+abbrev pub most_points : ℕ
+most_points = 1000000
+
+-- the numbers are within the limit, and there are not too many points, which are counted
+pub record IsFrame (f : Frame) (points : ℕ) : Type 0 where
+  pub positive : pos 0 <ℤ f.denominator
+  pub within : AllByRecursion IsWithin f.scales
+  pub counted : points ≡ size f.scales
+  pub few : points ≤ most_points
