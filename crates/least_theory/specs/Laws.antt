@@ -1,0 +1,27 @@
+-- What is proved of least values, as statements that the functions of this crate promise.
+use Rattle.std.specs.Prelude.{ℕ, ◌<◌, ℤ, ◌⊎◌, List}
+use Rattle.formula_meaning.specs.Context.{Fields}
+use Rattle.formula_meaning.specs.Point.{Point, Of}
+use Rattle.formula_meaning.specs.Shape.{IsPlain}
+use Rattle.formula_meaning.specs.Every.{Every}
+use Rattle.formula_meaning.specs.Tree.{Tree, Equivalent}
+use Rattle.least_theory.specs.Target.{IsWeak, exs, IsInfeasible, IsUnbounded, IsLeast, HasLeast}
+
+-- g is equivalent to f over the ordered fields, and is built by and and or alone from weak constraints
+pub record IsWeakEquivalent (f g : Tree) : Type 0 where
+  pub is_plain : IsPlain g
+  pub weak : Every IsWeak g
+  pub equivalent : Equivalent Fields f g
+
+-- Weak constraints stay weak where names are eliminated.
+abbrev pub WeakStaysWeak : Type 0
+WeakStaysWeak = (xs : List ℕ) (f : Tree) → IsPlain f → Every IsWeak f → (g : Tree) × IsWeakEquivalent (exs xs f) g
+
+-- Under weak constraints a target is infeasible, or unbounded, or has a least value.
+abbrev pub WeakTargetsHaveLeast : Type 0
+WeakTargetsHaveLeast = (z : ℕ) (xs : List ℕ) (f : Tree) (p : Point ℕ) → IsPlain f → Every IsWeak f → Of Fields p →
+    IsInfeasible z (exs xs f) p ⊎ (IsUnbounded z (exs xs f) p ⊎ ((k : ℤ) × (m : ℕ) × 0 < m × IsLeast z (exs xs f) p k m))
+
+-- So it has a least value wherever it is feasible and not unbounded.
+abbrev pub WeakTargetsSuit : Type 0
+WeakTargetsSuit = (z : ℕ) (xs : List ℕ) (f : Tree) (p : Point ℕ) → IsPlain f → Every IsWeak f → Of Fields p → HasLeast z (exs xs f) p

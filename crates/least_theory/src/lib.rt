@@ -1,0 +1,20 @@
+//! The least value of a name where a formula is true, over the ordered fields. Each function does nothing; its contract is a
+//! theorem.
+#![tactic(auto)]
+
+ghost use Rattle.least_theory.specs.Laws.{WeakStaysWeak, WeakTargetsHaveLeast, WeakTargetsSuit};
+
+/// Formulas built by `and` and `or` from comparisons by `=`, `<=` and `>=` keep such an equivalent where names are eliminated.
+pub fn weak_stays_weak()
+    ensures { WeakStaysWeak }
+{}
+
+/// Under such constraints, some names of which are eliminated, a name has no value, or unboundedly small values, or a least value.
+pub fn weak_targets_have_least()
+    ensures { WeakTargetsHaveLeast }
+{}
+
+/// Under such constraints a name has a least value wherever it has a value and no small enough number is one.
+pub fn weak_targets_suit()
+    ensures { WeakTargetsSuit }
+{}
