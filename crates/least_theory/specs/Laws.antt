@@ -2,10 +2,12 @@
 use Rattle.std.specs.Prelude.{ℕ, ◌<◌, ℤ, ◌⊎◌, List}
 use Rattle.formula_meaning.specs.Context.{Fields}
 use Rattle.formula_meaning.specs.Point.{Point, Of}
-use Rattle.formula_meaning.specs.Shape.{IsPlain}
+use Rattle.formula_meaning.specs.Shape.{IsPlain, IsQuantifierFree}
 use Rattle.formula_meaning.specs.Every.{Every}
-use Rattle.formula_meaning.specs.Tree.{Tree, Equivalent}
+use Rattle.formula_meaning.specs.Tree.{Tree, InContext, Equivalent}
+use Rattle.sample_reference.specs.Values.{origin}
 use Rattle.least_theory.specs.Target.{IsWeak, exs, IsInfeasible, IsUnbounded, IsLeast, HasLeast}
+use Rattle.least_theory.specs.Answer.{least_of, IsAnswer}
 
 -- g is equivalent to f over the ordered fields, and is built by and and or alone from weak constraints
 pub record IsWeakEquivalent (f g : Tree) : Type 0 where
@@ -25,3 +27,8 @@ WeakTargetsHaveLeast = (z : ℕ) (xs : List ℕ) (f : Tree) (p : Point ℕ) → 
 -- So it has a least value wherever it is feasible and not unbounded.
 abbrev pub WeakTargetsSuit : Type 0
 WeakTargetsSuit = (z : ℕ) (xs : List ℕ) (f : Tree) (p : Point ℕ) → IsPlain f → Every IsWeak f → Of Fields p → HasLeast z (exs xs f) p
+
+-- The least value is found wherever there is one: of every formula without quantifiers that has a least true value wherever it is
+-- true somewhere and false at every small enough number.
+abbrev pub LeastIsFound : Type 0
+LeastIsFound = (z : ℕ) (f : Tree) → IsQuantifierFree f → InContext Fields f → HasLeast z f origin → IsAnswer z f (least_of z f)

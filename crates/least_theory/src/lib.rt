@@ -2,7 +2,7 @@
 //! theorem.
 #![tactic(auto)]
 
-ghost use Rattle.least_theory.specs.Laws.{WeakStaysWeak, WeakTargetsHaveLeast, WeakTargetsSuit};
+ghost use Rattle.least_theory.specs.Laws.{WeakStaysWeak, WeakTargetsHaveLeast, WeakTargetsSuit, LeastIsFound};
 
 /// Formulas built by `and` and `or` from comparisons by `=`, `<=` and `>=` keep such an equivalent where names are eliminated.
 pub fn weak_stays_weak()
@@ -17,4 +17,11 @@ pub fn weak_targets_have_least()
 /// Under such constraints a name has a least value wherever it has a value and no small enough number is one.
 pub fn weak_targets_suit()
     ensures { WeakTargetsSuit }
+{}
+
+/// The calculated answer for a formula without quantifiers that has a least true value wherever it is true somewhere and false
+/// at every small enough number: it says that the formula is true nowhere, or at every small enough number, or which fraction is
+/// the least at which it is true.
+pub fn least_is_found()
+    ensures { LeastIsFound }
 {}
