@@ -31,7 +31,7 @@ use Rattle.least_theory.proofs.Roots.{least_root}
 
 -- ---- elements that pass a test
 
-among_filter : (test : Frac → Bool) (vs : List Frac) (v : Frac) → Among vs v → test v ≡ true → Among (filter test vs) v
+pub among_filter : (test : Frac → Bool) (vs : List Frac) (v : Frac) → Among vs v → test v ≡ true → Among (filter test vs) v
 among_filter test [] v m e = absurd m
 among_filter test (w ∷ vs) v m e = go (test w) refl (λ n. among_filter test vs v n e) m
   where
@@ -41,7 +41,7 @@ among_filter test (w ∷ vs) v m e = go (test w) refl (λ n. among_filter test v
     go false f ih (inl i) = absurd (cc (f, e, ap test i))
     go false f ih (inr n) = ih n
 
-filter_among : (test : Frac → Bool) (vs : List Frac) (v : Frac) → Among (filter test vs) v → Among vs v × (test v ≡ true)
+pub filter_among : (test : Frac → Bool) (vs : List Frac) (v : Frac) → Among (filter test vs) v → Among vs v × (test v ≡ true)
 filter_among test [] v m = absurd m
 filter_among test (w ∷ vs) v m = go (test w) refl (filter_among test vs v) m
   where
@@ -50,7 +50,7 @@ filter_among test (w ∷ vs) v m = go (test w) refl (filter_among test vs v) m
     go true f ih (inr n) = let r = ih n in (inr r.0, r.1)
     go false f ih n = let r = ih n in (inr r.0, r.1)
 
-filter_each : (P : Frac → Type 0) (test : Frac → Bool) (vs : List Frac) → EachOf P vs → EachOf P (filter test vs)
+pub filter_each : (P : Frac → Type 0) (test : Frac → Bool) (vs : List Frac) → EachOf P vs → EachOf P (filter test vs)
 filter_each P test [] h = tt
 filter_each P test (v ∷ vs) h = go (test v) (filter_each P test vs h.1)
   where
@@ -69,7 +69,7 @@ atom_lowest : (x : ℕ) (a : Atom) (w : Frac) → atom_root x a ≡ Some w → I
 atom_lowest x (Compare r f) w e = root_lowest (coefficient x f) f.constant w e
 atom_lowest x (Congruent holds n f) w e = none_some w e
 
-critical_lowest : (x : ℕ) (atoms : List Atom) (w : Frac) → Among (critical_values x atoms) w → IsLowest w
+pub critical_lowest : (x : ℕ) (atoms : List Atom) (w : Frac) → Among (critical_values x atoms) w → IsLowest w
 critical_lowest x atoms w m = let r = some_among (λ a. atom_root x a ≡ Some w) atoms (from_atom x origin atoms w m) in atom_lowest x r.0 w r.2
 
 -- ---- far below
