@@ -4,13 +4,15 @@ ghost use Rattle.std.specs.Ordering.{int_cmp};
 ghost use Rattle.exact_numbers.specs.Fraction.{frac_of};
 ghost use Rattle.exact_numbers.specs.Limit.{InLimit};
 ghost use Rattle.atom_normal.specs.Atoms.{atom_of};
-ghost use Rattle.sample_reference.specs.Calculated.{root_of, atom_root};
+ghost use Rattle.sample_reference.specs.Calculated.{atom_root};
 ghost use Rattle.least_theory.specs.Answer.{far_order};
 ghost use Rattle.linear_opt.specs.Values.{told};
 
 use atom_normal::{Atom, holds};
+use elimination_theory::Side;
 use exact_numbers::{Fraction, compare_fractions};
 use linear_forms::VarId;
+use sample_numbers::least_with_atom;
 use std::cmp::Ordering;
 
 /// A value of a name.
@@ -63,25 +65,9 @@ pub(crate) fn is_true(z: VarId, value: Value, atom: &Atom) -> bool
     holds(*relation, order)
 }
 
-// Where a multiple of a name and a constant are 0 together; there is no such number where the factor is 0.
-fn root(factor: i128, constant: i128) -> Option<Fraction>
-    requires factor { InLimit factor }
-    requires constant { InLimit constant }
-    ensures { option_map frac_of result ≡ root_of factor constant }
-{
-    match factor.cmp(&0) {
-        Ordering::Less => Some(Fraction::reduced(constant, -factor)),
-        Ordering::Equal => None,
-        Ordering::Greater => Some(Fraction::reduced(-constant, factor)),
-    }
-}
-
 /// The value of the name at which the form of a comparison is 0 where all other names are 0, if the name stands in it.
 pub(crate) fn critical_value(z: VarId, atom: &Atom) -> Option<Fraction>
     ensures { option_map frac_of result ≡ atom_root z.number (atom_of atom.now) }
 {
-    match atom {
-        Atom::Compare(_, form) => root(form.coefficient(z), form.constant_part()),
-        Atom::Congruent { .. } => None,
-    }
+    least_with_atom(Side::Lower, z, None, None, atom)
 }
