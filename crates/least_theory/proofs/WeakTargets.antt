@@ -260,7 +260,7 @@ module _ (z : ℕ) (g : Tree) (p : Point ℕ) (s : IsPlain g) (w : Every IsWeak 
 -- ---- names that are eliminated
 
 module _ (z : ℕ) (f g : Tree) (p : Point ℕ) (o : Of Fields p) (e : Equivalent Fields f g) where
-  there : (k : ℤ) (m : ℕ) → 0 < m → TargetAt z f p k m ↔ TargetAt z g p k m
+  pub there : (k : ℤ) (m : ℕ) → 0 < m → TargetAt z f p k m ↔ TargetAt z g p k m
   there k m h = e (move nat_eq p z k m) (moved_of Fields p z k m o h)
 
   -- equivalent formulas have one least value

@@ -1,5 +1,5 @@
 -- What is proved of least values, as statements that the functions of this crate promise.
-use Rattle.std.specs.Prelude.{ℕ, ◌<◌, ℤ, ◌⊎◌, List}
+use Rattle.std.specs.Prelude.{◌≡◌, ℕ, ◌<◌, ℤ, ◌⊎◌, List}
 use Rattle.formula_meaning.specs.Context.{Fields}
 use Rattle.formula_meaning.specs.Point.{Point, Of}
 use Rattle.formula_meaning.specs.Shape.{IsPlain, IsQuantifierFree}
@@ -7,7 +7,7 @@ use Rattle.formula_meaning.specs.Every.{Every}
 use Rattle.formula_meaning.specs.Tree.{Tree, InContext, Equivalent}
 use Rattle.sample_reference.specs.Values.{origin}
 use Rattle.least_theory.specs.Target.{IsWeak, exs, IsInfeasible, IsUnbounded, IsLeast, HasLeast}
-use Rattle.least_theory.specs.Answer.{least_of, IsAnswer}
+use Rattle.least_theory.specs.Answer.{Found, least_of, IsAnswer}
 
 -- g is equivalent to f over the ordered fields, and is built by and and or alone from weak constraints
 pub record IsWeakEquivalent (f g : Tree) : Type 0 where
@@ -32,3 +32,11 @@ WeakTargetsSuit = (z : ℕ) (xs : List ℕ) (f : Tree) (p : Point ℕ) → IsPla
 -- true somewhere and false at every small enough number.
 abbrev pub LeastIsFound : Type 0
 LeastIsFound = (z : ℕ) (f : Tree) → IsQuantifierFree f → InContext Fields f → HasLeast z f origin → IsAnswer z f (least_of z f)
+
+-- So is the least value of a target under weak constraints, from any equivalent formula without quantifiers.
+abbrev pub TargetIsFound : Type 0
+TargetIsFound = (z : ℕ) (xs : List ℕ) (f g : Tree) → IsPlain f → Every IsWeak f → IsQuantifierFree g → InContext Fields g → Equivalent Fields (exs xs f) g → IsAnswer z (exs xs f) (least_of z g)
+
+-- No formula has two answers: each is given exactly where it holds.
+abbrev pub AnswersExclude : Type 0
+AnswersExclude = (z : ℕ) (f : Tree) (r s : Found) → IsAnswer z f r → IsAnswer z f s → r ≡ s

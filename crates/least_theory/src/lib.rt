@@ -2,7 +2,7 @@
 //! theorem.
 #![tactic(auto)]
 
-ghost use Rattle.least_theory.specs.Laws.{WeakStaysWeak, WeakTargetsHaveLeast, WeakTargetsSuit, LeastIsFound};
+ghost use Rattle.least_theory.specs.Laws.{WeakStaysWeak, WeakTargetsHaveLeast, WeakTargetsSuit, LeastIsFound, TargetIsFound, AnswersExclude};
 
 /// Formulas built by `and` and `or` from comparisons by `=`, `<=` and `>=` keep such an equivalent where names are eliminated.
 pub fn weak_stays_weak()
@@ -24,4 +24,15 @@ pub fn weak_targets_suit()
 /// the least at which it is true.
 pub fn least_is_found()
     ensures { LeastIsFound }
+{}
+
+/// Of a name under such constraints, some other names of which are eliminated, the calculated answer for any equivalent formula
+/// without quantifiers says whether the name has no value, unboundedly small values, or which is the least.
+pub fn target_is_found()
+    ensures { TargetIsFound }
+{}
+
+/// A formula has one answer alone, so each answer is given exactly where it holds.
+pub fn answers_exclude()
+    ensures { AnswersExclude }
 {}

@@ -19,6 +19,7 @@ use exact_numbers::{Fraction, compare_fractions};
 use formula_store::{FormulaId, Store, StoreError};
 use formula_tree::Shape;
 use linear_forms::VarId;
+use std::cmp::Ordering;
 use thiserror::Error;
 
 /// The least value of a name at which a formula is true.
@@ -112,5 +113,8 @@ fn is_before(number: Fraction, least: Option<Fraction>) -> bool
 fn is_less(a: Fraction, b: Fraction) -> bool
     ensures { result ≡ is_less (frac_of a) (frac_of b) }
 {
-    compare_fractions(a.numerator, a.denominator, b.numerator, b.denominator).is_lt()
+    match compare_fractions(a.numerator, a.denominator, b.numerator, b.denominator) {
+        Ordering::Less => true,
+        Ordering::Equal | Ordering::Greater => false,
+    }
 }
