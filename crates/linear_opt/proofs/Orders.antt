@@ -1,7 +1,7 @@
 -- How a linear form is to 0 where its name is a number: the number is compared with the form's critical value.
-use Rattle.std.proofs.Common.{◌≡◌, suc, zero, ◌∙◌, sym, ap, refl, arith, Less, Equal, Greater, int_cmp}
+use Rattle.std.proofs.Common.{Ordering, ◌≡◌, suc, zero, ◌∙◌, sym, ap, refl, arith, Less, Equal, Greater, int_cmp, Bool, true, false, cond, ◌⊎◌, inl, inr}
 use Rattle.std.proofs.Math.IntN.{ℤ, pos, negsuc, neg_ℤ, ◌+ℤ◌, ◌*ℤ◌}
-use Rattle.std.specs.Prelude.{◌<ℤ◌}
+use Rattle.std.specs.Prelude.{◌<ℤ◌, int_lt}
 use Rattle.std.proofs.lemmas.Int.{ints}
 use Rattle.exact_numbers.proofs.Order.{by_compare, mul_less}
 use Rattle.exact_numbers.proofs.Ring.{mul_comm, zero_mul, neg_mul, mul_neg, mul_zero}
@@ -58,3 +58,12 @@ far_falling (negsuc n) c h = refl
 -- what the answer of equal says
 pub same_so : (a b : ℤ) → int_cmp a b ≡ Equal → a ≡ b
 same_so a b e = by_compare a b (λ h f. cc (e, f)) (λ h f. h) (λ h f. cc (e, f))
+
+-- what the answers equal and greater say
+pub not_less : (a b : ℤ) (r : Ordering) → r ≡ int_cmp a b → (r ≡ Equal) ⊎ (r ≡ Greater) → false ≡ int_lt a b
+not_less a b r is h = go (int_lt a b) is h
+  where
+    go : (t : Bool) → r ≡ cond t Less (cond (int_lt b a) Greater Equal) → (r ≡ Equal) ⊎ (r ≡ Greater) → false ≡ t
+    go true e (inl i) = cc
+    go true e (inr i) = cc
+    go false e i = refl
