@@ -1,0 +1,3 @@
+pub mod Target
+pub mod Answer
+pub mod Laws

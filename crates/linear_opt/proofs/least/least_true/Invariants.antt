@@ -1,0 +1,7 @@
+use Rattle.std.specs.Prelude.{option_map}
+use Rattle.exact_numbers.specs.Fraction.{frac_of}
+use Rattle.linear_opt.proofs.Listed.{IsFoundAfter}
+use Rattle.linear_opt.proofs.least.least_true.Given as goal
+
+abbrev pub invariant-loop-id : goal.invariant-loop-id
+invariant-loop-id l = IsFoundAfter l.store l.root l.id-items l.z.number l.id-index (option_map frac_of l.least)
