@@ -46,7 +46,8 @@ pub enum OptError {
 ///
 /// For a formula over the ordered fields that has a least true value wherever it is true somewhere and false at every small enough
 /// number, the answer is `Infeasible` exactly where it is true nowhere, `Unbounded` exactly where it is true at every small enough
-/// number, and else that least value. The recursion is as deep as the formula is high.
+/// number, and else that least value. The recursion is as deep as the formula is high, and each truth is told over the formula as
+/// a tree, at values less than the least so far alone. Its only error is `Memory`.
 pub fn least_value(store: &Store, id: FormulaId, z: VarId) -> Result<Least, OptError>
     requires { IsId store.now id }
     ensures computed { IfOk result (λ l. found_of l ≡ least_of z.number (tree store.now id)) }
