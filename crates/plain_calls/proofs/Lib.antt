@@ -1,3 +1,4 @@
 pub mod Takings
 pub mod FirstNames
 pub mod OneName
+pub mod Distinct
