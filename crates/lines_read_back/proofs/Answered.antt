@@ -6,7 +6,7 @@ use Rattle.std.specs.declared.alloc.Global.{Global}
 use Rattle.std.specs.declared.vec.Vec.{Vec}
 use Rattle.formula_meaning.specs.Tree.{Tree}
 use Rattle.qe_syntax.specs.Trees.{FormulaTree}
-use Rattle.qe_syntax.specs.Statements.{Echo, Say, StatementTree}
+use Rattle.statement_syntax.specs.Statements.{Echo, Say, StatementTree}
 use Rattle.formula_tree.specs.Names.{with_name}
 use Rattle.formula_tree.specs.Resolving.{formula_variables, resolve}
 use Rattle.formula_tree.specs.Causes.{IsAccepted as IsResolvable}

@@ -1,8 +1,9 @@
 -- The names of a state are ones that a script can write, after each statement.
 use Rattle.std.proofs.Common.{ℕ, List, [], Bool, sym, subst}
-use Rattle.qe_syntax.specs.Statements.{CommandTree, Echo, Nnf, Pnf, Dnf, Cnf, Simpl, Qe, Qea, Holds, Sample, ActionTree, Empty, Ignored, Finish, Choose, Say, Assign, Assume, Retract, StatementTree}
+use Rattle.statement_syntax.specs.Statements.{CommandTree, Echo, Nnf, Pnf, Dnf, Cnf, Simpl, Qe, Qea, Holds, Sample, ActionTree, Empty, Ignored, Finish, Choose, Say, Assign, Assume, Retract, StatementTree}
 use Rattle.qe_syntax.specs.Trees.{FormulaTrees}
-use Rattle.qe_syntax.specs.Writable.{AreWritableFormulas, IsWritableCommand, IsWritable}
+use Rattle.qe_syntax.specs.Writable.{AreWritableFormulas}
+use Rattle.statement_syntax.specs.Writable.{IsWritableCommand, IsWritable}
 use Rattle.formula_tree.specs.Resolving.{all_variables}
 use Rattle.formula_tree.proofs.PlaceLaws.{after_distinct}
 use Rattle.redlog_reader.specs.Statement.{Spells}

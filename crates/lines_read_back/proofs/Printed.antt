@@ -10,8 +10,9 @@ use Rattle.formula_meaning.specs.Shape.{IsQuantifierFree}
 use Rattle.formula_meaning.specs.Sizes.{height}
 use Rattle.formula_meaning.specs.Tree.{Tree}
 use Rattle.qe_syntax.specs.Trees.{FormulaTree, FormulaTrees}
-use Rattle.qe_syntax.specs.Statements.{CommandTree, Echo, Nnf, Pnf, Dnf, Cnf, Simpl, Qe, Qea, Holds, Sample, Say, StatementTree}
-use Rattle.qe_syntax.specs.Writable.{IsWritableCommand, IsWritableFormula, AreWritableFormulas}
+use Rattle.statement_syntax.specs.Statements.{CommandTree, Echo, Nnf, Pnf, Dnf, Cnf, Simpl, Qe, Qea, Holds, Sample, Say, StatementTree}
+use Rattle.qe_syntax.specs.Writable.{IsWritableFormula, AreWritableFormulas}
+use Rattle.statement_syntax.specs.Writable.{IsWritableCommand}
 use Rattle.formula_tree.specs.Resolving.{BoundTrees, place, names_after, all_variables, resolve}
 use Rattle.formula_tree.specs.Causes.{most_height, IsAccepted as IsResolvable, IsUnbound, NamesFormulaAsTerm, IsNonlinear, Divides, CongruenceInFields, IsBadModulus, IsTooDeep, OverflowsInReading}
 use Rattle.formula_tree.proofs.ResolvedHeight.{resolving_keeps_height}

@@ -5,9 +5,9 @@ use Rattle.std.specs.Prelude.{option_map, is_some}
 use Rattle.formula_meaning.specs.Formula.{none, also}
 use Rattle.formula_meaning.specs.Some.{SomeOf, EachOf}
 use Rattle.formula_meaning.specs.Tree.{Tree}
-use Rattle.qe_syntax.specs.declared.statement.PointEntry.{PointEntry}
+use Rattle.qe_syntax.specs.declared.entries.PointEntry.{PointEntry}
 use Rattle.qe_syntax.specs.Point.{PassesLimit}
-use Rattle.qe_syntax.specs.Statements.{Holds, Sample}
+use Rattle.statement_syntax.specs.Statements.{Holds, Sample}
 use Rattle.qe_syntax.specs.Trees.{FormulaTree}
 use Rattle.formula_tree.specs.Bindings.{bound_to}
 use Rattle.formula_tree.specs.Causes.{IsBound, OverflowsInReading}

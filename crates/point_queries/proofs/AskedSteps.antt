@@ -9,10 +9,10 @@ use Rattle.formula_meaning.specs.Some.{SomeOf}
 use Rattle.formula_meaning.specs.Tree.{Tree}
 use Rattle.atom_normal.specs.Atoms.{context_of}
 use Rattle.atom_normal.specs.NormalForm.{IsNormal}
-use Rattle.qe_syntax.specs.declared.statement.PointEntry.{PointEntry}
+use Rattle.qe_syntax.specs.declared.entries.PointEntry.{PointEntry}
 use Rattle.qe_syntax.specs.Point.{Numbers, PassesLimit, IsPointOf, point_of}
 use Rattle.qe_syntax.specs.Writable.{IsWritableFormula, AreWritableEntries}
-use Rattle.qe_syntax.specs.Statements.{Holds}
+use Rattle.statement_syntax.specs.Statements.{Holds}
 use Rattle.qe_syntax.specs.Trees.{FormulaTree}
 use Rattle.qe_syntax.specs.Value.{same_name}
 use Rattle.qe_syntax.specs.Valued.{IsIn}

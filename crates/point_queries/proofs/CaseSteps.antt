@@ -17,7 +17,7 @@ use Rattle.elimination_reference.specs.Theorems.{guards_of}
 use Rattle.plain_cases.specs.declared.cases.PrintedCase.{PrintedCase}
 use Rattle.plain_cases.specs.Case.{case_seen}
 use Rattle.qe_syntax.specs.Writable.{IsWritableFormula, AreWritableFormulas}
-use Rattle.qe_syntax.specs.Statements.{Qea}
+use Rattle.statement_syntax.specs.Statements.{Qea}
 use Rattle.qe_syntax.specs.Trees.{FormulaTree, FormulaTrees}
 use Rattle.qe_syntax.specs.Value.{NamedPoint, same_name}
 use Rattle.qe_syntax.specs.Value as written

@@ -1,6 +1,6 @@
 -- The names of the entries of a point are names that a script can write.
 use Rattle.std.proofs.Common.{List, [], ◌∷◌}
-use Rattle.qe_syntax.specs.declared.statement.PointEntry.{PointEntry}
+use Rattle.qe_syntax.specs.declared.entries.PointEntry.{PointEntry}
 use Rattle.qe_syntax.specs.Writable.{AreWritableEntries}
 use Rattle.point_queries.specs.Asked.{entry_names}
 use Rattle.session_state.proofs.VariableLemmas.{AllVariables}

@@ -33,7 +33,7 @@ use Rattle.linear_forms.specs.Terms.{ValuePasses}
 use Rattle.linear_forms.specs.Values.{Numbers, number_at, point_of}
 use Rattle.formula_meaning.specs.Point.{Point, Of}
 use Rattle.formula_meaning.specs.Some.{SomeOf, Among}
-use Rattle.qe_syntax.specs.declared.statement.PointEntry.{PointEntry}
+use Rattle.qe_syntax.specs.declared.entries.PointEntry.{PointEntry}
 use Rattle.qe_syntax.specs.declared.tree.Literal.{Literal}
 use Rattle.qe_syntax.specs.declared.tree.Literal.TheVariants.{Fits, Past}
 use Rattle.qe_syntax.specs.Point.{HasEntry, IsZeroBelow, IsBroken, lowest_terms, IsCommonMultiple, IsPointOf}

@@ -20,9 +20,9 @@ use Rattle.linear_forms.specs.declared.form.VarId.{VarId}
 use Rattle.sample_reference.specs.Seen.{values_of, sample_of}
 use Rattle.sample_reference.specs.Values.{Value, value_names}
 use Rattle.answer_texts.specs.Within.{AreValuesWithin}
-use Rattle.qe_syntax.specs.declared.statement.PointEntry.{PointEntry}
+use Rattle.qe_syntax.specs.declared.entries.PointEntry.{PointEntry}
 use Rattle.qe_syntax.specs.Point.{IsPointOf}
-use Rattle.qe_syntax.specs.Statements.{Sample}
+use Rattle.statement_syntax.specs.Statements.{Sample}
 use Rattle.qe_syntax.specs.Trees.{FormulaTree}
 use Rattle.qe_syntax.specs.Value.{NamedPoint, same_name}
 use Rattle.formula_tree.specs.Resolving.{at_names, resolve}

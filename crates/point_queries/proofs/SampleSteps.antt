@@ -19,10 +19,10 @@ use Rattle.plain_engine.specs.Told.{StopsWith}
 use Rattle.sample_reference.specs.Sample.{reference_sample, IsTrueSample}
 use Rattle.sample_reference.specs.Seen.{sample_of}
 use Rattle.sample_reference.specs.Values.{Value}
-use Rattle.qe_syntax.specs.declared.statement.PointEntry.{PointEntry}
+use Rattle.qe_syntax.specs.declared.entries.PointEntry.{PointEntry}
 use Rattle.qe_syntax.specs.Point.{Numbers, point_of}
 use Rattle.qe_syntax.specs.Writable.{IsWritableFormula, AreWritableEntries}
-use Rattle.qe_syntax.specs.Statements.{Sample}
+use Rattle.statement_syntax.specs.Statements.{Sample}
 use Rattle.qe_syntax.specs.Trees.{FormulaTree}
 use Rattle.formula_tree.specs.Causes.{most_height}
 use Rattle.formula_tree.specs.Names.{with_name}

@@ -8,9 +8,9 @@ use Rattle.formula_meaning.specs.Tree.{Tree, TrueAt}
 use Rattle.atom_normal.specs.declared.atoms.Context as atoms
 use Rattle.atom_normal.specs.Atoms.{context_of}
 use Rattle.block_scheduler.specs.declared.limits.Limits.{Limits}
-use Rattle.qe_syntax.specs.declared.statement.PointEntry.{PointEntry}
+use Rattle.qe_syntax.specs.declared.entries.PointEntry.{PointEntry}
 use Rattle.qe_syntax.specs.Point.{IsPointOf}
-use Rattle.qe_syntax.specs.Statements.{Holds}
+use Rattle.statement_syntax.specs.Statements.{Holds}
 use Rattle.qe_syntax.specs.Trees.{FormulaTree}
 use Rattle.qe_syntax.specs.Value.{NamedPoint, same_name}
 use Rattle.formula_tree.specs.Resolving.{at_names, resolve}

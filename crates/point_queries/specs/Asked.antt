@@ -6,9 +6,9 @@ use Rattle.formula_meaning.specs.Context.{Context, Fields, Integers}
 use Rattle.formula_meaning.specs.Formula.{none, also}
 use Rattle.formula_meaning.specs.Point.{Of}
 use Rattle.formula_meaning.specs.Some.{SomeOf}
-use Rattle.qe_syntax.specs.declared.statement.PointEntry.{PointEntry}
+use Rattle.qe_syntax.specs.declared.entries.PointEntry.{PointEntry}
 use Rattle.qe_syntax.specs.Point.{Numbers, PassesLimit, IsPointOf, point_of}
-use Rattle.qe_syntax.specs.Statements.{Holds, Sample}
+use Rattle.statement_syntax.specs.Statements.{Holds, Sample}
 use Rattle.qe_syntax.specs.Trees.{FormulaTree}
 use Rattle.qe_syntax.specs.Valued.{IsIn}
 use Rattle.formula_tree.specs.Bindings.{bound_to}

@@ -1,7 +1,7 @@
 -- A command that asks for cases, and why an attempt at it fails, in a state in which the variables of the command have their numbers.
 use Rattle.std.specs.Prelude.{◌≢◌, ℕ, Bool, List, None, map}
 use Rattle.qe_syntax.specs.declared.tree.Formula.{Formula}
-use Rattle.qe_syntax.specs.Statements.{CommandTree, Qea}
+use Rattle.statement_syntax.specs.Statements.{CommandTree, Qea}
 use Rattle.qe_syntax.specs.Trees.{FormulaTree, FormulaTrees, formula_tree, formulas_of}
 use Rattle.session_meaning.specs.declared.line.StatementError.{StatementError}
 use Rattle.session_meaning.specs.declared.line.StatementError.TheVariants as error

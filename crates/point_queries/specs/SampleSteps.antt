@@ -9,8 +9,8 @@ use Rattle.plain_engine.specs.Told.{StopsWith}
 use Rattle.sample_reference.specs.Values.{Value}
 use Rattle.answer_texts.specs.Within.{AreValuesWithin}
 use Rattle.redlog_printer.specs.Writing.{text_limit}
-use Rattle.qe_syntax.specs.declared.statement.PointEntry.{PointEntry}
-use Rattle.qe_syntax.specs.Statements.{Sample}
+use Rattle.qe_syntax.specs.declared.entries.PointEntry.{PointEntry}
+use Rattle.statement_syntax.specs.Statements.{Sample}
 use Rattle.qe_syntax.specs.Trees.{FormulaTree}
 use Rattle.session_meaning.specs.declared.line.StatementError.{StatementError}
 use Rattle.session_meaning.specs.State.{State}

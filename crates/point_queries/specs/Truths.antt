@@ -6,8 +6,8 @@ use Rattle.formula_meaning.specs.Tree.{Tree}
 use Rattle.elimination_reference.specs.Sample.{reference_at}
 use Rattle.plain_engine.specs.declared.measured.Measured.{Measured}
 use Rattle.plain_engine.specs.Told.{StopsWith}
-use Rattle.qe_syntax.specs.declared.statement.PointEntry.{PointEntry}
-use Rattle.qe_syntax.specs.Statements.{Holds}
+use Rattle.qe_syntax.specs.declared.entries.PointEntry.{PointEntry}
+use Rattle.statement_syntax.specs.Statements.{Holds}
 use Rattle.qe_syntax.specs.Trees.{FormulaTree}
 use Rattle.session_meaning.specs.declared.line.StatementError.{StatementError}
 use Rattle.session_meaning.specs.declared.line.StatementError.TheVariants as error

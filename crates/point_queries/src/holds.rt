@@ -10,7 +10,7 @@ ghost use Rattle.atom_normal.specs.Atoms.{context_of};
 ghost use Rattle.atom_normal.specs.NormalForm.{IsNormal};
 ghost use Rattle.qe_syntax.specs.Point.{IsPointOf, point_of};
 ghost use Rattle.qe_syntax.specs.Writable.{IsWritableFormula, AreWritableEntries};
-ghost use Rattle.qe_syntax.specs.Statements.{Holds};
+ghost use Rattle.statement_syntax.specs.Statements.{Holds};
 ghost use Rattle.qe_syntax.specs.Trees.{formula_tree};
 ghost use Rattle.qe_syntax.specs.Value.{same_name};
 ghost use Rattle.formula_tree.specs.Resolving.{at_names};

@@ -5,7 +5,7 @@ ghost use Rattle.std.specs.List.{IsDistinct, fold};
 ghost use Rattle.formula_meaning.specs.Some.{SomeOf};
 ghost use Rattle.atom_normal.specs.Atoms.{context_of};
 ghost use Rattle.linear_forms.specs.Values.{number_at};
-ghost use Rattle.qe_syntax.specs.declared.statement.PointEntry.{PointEntry as Entry};
+ghost use Rattle.qe_syntax.specs.declared.entries.PointEntry.{PointEntry as Entry};
 ghost use Rattle.qe_syntax.specs.Point.{IsPointOf, point_of};
 ghost use Rattle.qe_syntax.specs.Writable.{IsWritableFormula, AreWritableEntries};
 ghost use Rattle.qe_syntax.specs.Trees.{formula_tree};

@@ -8,7 +8,7 @@ use Rattle.formula_meaning.specs.Atom.{Atom, Compare, Congruent}
 use Rattle.formula_meaning.specs.Tree.{Tree, Trees}
 use Rattle.formula_meaning.specs.Replaced.{all_replaced}
 use Rattle.qe_syntax.specs.Trees.{TermTree, Named, Product, terms_of, FormulaTree, FormulaTrees, formulas_of}
-use Rattle.qe_syntax.specs.Statements.{Echo, Say}
+use Rattle.statement_syntax.specs.Statements.{Echo, Say}
 use Rattle.redlog_tokens.specs.declared.terminal.Terminal.TheVariants as terminal
 use Rattle.redlog_tokens.specs.declared.terminal.Mark.TheVariants as mark
 use Rattle.redlog_tokens.specs.declared.terminal.Word.TheVariants as word

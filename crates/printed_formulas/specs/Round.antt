@@ -11,7 +11,7 @@ use Rattle.atom_normal.specs.NormalForm.{IsNormal}
 use Rattle.qe_syntax.specs.Names.{IsVariable}
 use Rattle.qe_syntax.specs.Trees.{FormulaTree}
 use Rattle.qe_syntax.specs.Value.{same_name}
-use Rattle.qe_syntax.specs.Statements.{StatementTree, Say, Echo}
+use Rattle.statement_syntax.specs.Statements.{StatementTree, Say, Echo}
 use Rattle.redlog_reader.specs.declared.read.TheConstants.{BYTE_LIMIT}
 use Rattle.redlog_tokens.specs.declared.level.TheConstants.{LEVEL_LIMIT}
 use Rattle.redlog_reader.specs.Statement.{Spells, IsDeep}

@@ -11,7 +11,7 @@ use Rattle.std.specs.Cmp.Lexicographic.{slice_cmp}
 use Rattle.std.specs.BTreeMap.{is_at}
 use Rattle.qe_syntax.proofs.NameOrder.{by_at, at_same, same_at}
 use Rattle.formula_meaning.specs.Some.{SomeOf}
-use Rattle.qe_syntax.specs.declared.statement.PointEntry.{PointEntry}
+use Rattle.qe_syntax.specs.declared.entries.PointEntry.{PointEntry}
 use Rattle.qe_syntax.specs.Point.{HasEntry, NamesTwice}
 
 pub some_left : {X : Type 0} (P : X → Type 0) (xs ys : List X) → SomeOf P xs → SomeOf P (xs ++ ys)

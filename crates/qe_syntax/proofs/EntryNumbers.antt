@@ -22,7 +22,7 @@ use Rattle.exact_numbers.proofs.Limits.{by_limit}
 use Rattle.formula_meaning.specs.Some.{SomeOf}
 use Rattle.qe_syntax.specs.declared.tree.Literal.{Literal}
 use Rattle.qe_syntax.specs.declared.tree.Literal.TheVariants.{Fits, Past}
-use Rattle.qe_syntax.specs.declared.statement.PointEntry.{PointEntry}
+use Rattle.qe_syntax.specs.declared.entries.PointEntry.{PointEntry}
 use Rattle.std.proofs.Common.{◌+◌, ◌≤◌, length, get_or, drop}
 use Rattle.std.proofs.Common.{◌++◌, cond, append_assoc, append-nil}
 use Rattle.std.specs.Prelude.{IfSome}

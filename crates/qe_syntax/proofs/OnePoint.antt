@@ -7,7 +7,7 @@ use Rattle.std.specs.Cmp.Lexicographic.{slice_cmp}
 use Rattle.std.specs.BTreeMap.{is_at}
 use Rattle.std.proofs.lemmas.Bool.{false≢true}
 use Rattle.formula_meaning.specs.Some.{SomeOf}
-use Rattle.qe_syntax.specs.declared.statement.PointEntry.{PointEntry}
+use Rattle.qe_syntax.specs.declared.entries.PointEntry.{PointEntry}
 use Rattle.qe_syntax.specs.Value.{NamedPoint}
 use Rattle.qe_syntax.specs.Point.{IsZeroBelow, IsPointOf, IsScaled, HasEntry}
 use Rattle.qe_syntax.proofs.NameOrder.{by_at, at_same, same_at}

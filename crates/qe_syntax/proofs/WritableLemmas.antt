@@ -2,7 +2,7 @@
 use Rattle.std.proofs.Common.{List, [], ◌∷◌}
 use Rattle.formula_meaning.specs.Formula.{Yes, No, One, Not, And, Or, Impl, Repl, Equiv, Ex, All}
 use Rattle.formula_meaning.specs.Formula as plain
-use Rattle.qe_syntax.specs.declared.statement.PointEntry.{PointEntry}
+use Rattle.qe_syntax.specs.declared.entries.PointEntry.{PointEntry}
 use Rattle.qe_syntax.specs.Trees.{TermTree, TermTrees, Number, Named, Sum, Product, Quotient, Power, Negative, none, also, WrittenAtom, Compare, Cong, Ncong, Bound, FormulaTree, FormulaTrees}
 use Rattle.qe_syntax.specs.Proper.{AreProperEntries, IsProperTerm, AreProperTerms, IsProperAtom, IsProperFormula, AreProperFormulas}
 use Rattle.qe_syntax.specs.Writable.{AreWritableEntries, IsWritableTerm, AreWritableTerms, IsWritableAtom, IsWritableFormula, AreWritableFormulas}

@@ -1,7 +1,6 @@
 pub mod Padding
 pub mod Names
 pub mod Trees
-pub mod Statements
 pub mod Proper
 pub mod Point
 pub mod PointFaults

@@ -1,7 +1,7 @@
 -- Why entries mean no point.
 use Rattle.std.specs.Prelude.{◌≡◌, ℤ, List, Bool, true}
 use Rattle.formula_meaning.specs.Some.{SomeOf}
-use Rattle.qe_syntax.specs.declared.statement.PointEntry.{PointEntry}
+use Rattle.qe_syntax.specs.declared.entries.PointEntry.{PointEntry}
 use Rattle.qe_syntax.specs.declared.point.PointFault.{PointFault}
 use Rattle.qe_syntax.specs.declared.point.PointFault.TheVariants.{Double, ZeroBelow, NotWhole, Overflow, Memory}
 use Rattle.qe_syntax.specs.Point.{NamesTwice, IsZeroBelow, IsBroken, PassesLimit, IsScaled}

@@ -3,7 +3,7 @@ ghost use Rattle.std.specs.Prelude.{◌≡◌, ℕ, List};
 ghost use Rattle.formula_meaning.specs.Some.{SomeOf};
 ghost use Rattle.qe_syntax.specs.Value.{NamedPoint};
 ghost use Rattle.qe_syntax.specs.Point.{IsZeroBelow, IsPointOf};
-ghost use Rattle.qe_syntax.specs.declared.statement.PointEntry.{PointEntry};
+ghost use Rattle.qe_syntax.specs.declared.entries.PointEntry.{PointEntry};
 
 /// Entries whose denominators are not 0 mean one point at most.
 pub fn one_point()

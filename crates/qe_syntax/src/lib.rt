@@ -1,20 +1,20 @@
-//! What a script says: names, terms, formulas, points and statements as plain trees, and what they mean.
+//! What a script says: names, terms, formulas and points as plain trees, and what they mean.
 #![tactic(auto)]
 
+mod entries;
 mod laws;
 mod name;
 mod point;
-mod statement;
 mod tree;
 mod truth;
 mod value;
 mod valued;
 
+pub use entries::{Entries, PointEntry};
 pub use exact_numbers::Fraction;
 pub use laws::one_point;
 pub use name::Name;
 pub use point::{Point, PointFault};
-pub use statement::{Action, Command, Entries, PointEntry, Setting, Statement};
 pub use tree::{
     Formula, Formulas, Literal, Relation, Term, Terms, comparison, congruence, equivalence,
     existential, implication, incongruence, negation, negative, power, quotient, replication,

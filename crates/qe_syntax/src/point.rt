@@ -9,7 +9,7 @@ ghost use Rattle.qe_syntax.specs.Point.{NamesTwice, IsZeroBelow, IsPast, IsBroke
 ghost use Rattle.qe_syntax.specs.PointFaults.{PutFault, IsChecked, CheckFault};
 
 use crate::name::Name;
-use crate::statement::PointEntry;
+use crate::entries::PointEntry;
 use crate::tree::Literal;
 use exact_numbers::{Fraction, lcm, residue};
 use std::alloc::{AllocError, Global};

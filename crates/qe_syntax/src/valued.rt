@@ -10,7 +10,7 @@ ghost use Rattle.qe_syntax.specs.Value.{HasName, HaveName, IsFree};
 ghost use Rattle.qe_syntax.specs.Valued.{AreAmong, AreFree, prefix_of, matrix_of, IsUnquantified, IsOpened, IsClosed};
 
 use crate::name::Name;
-use crate::statement::PointEntry;
+use crate::entries::PointEntry;
 use crate::tree::{Formula, Term};
 use std::alloc::{AllocError, Global};
 use std::collections::BTreeSet;

@@ -7,9 +7,9 @@ use Rattle.formula_meaning.specs.declared.quantifier.Quantifier.TheVariants.{Exi
 use Rattle.qe_syntax.specs.declared.tree.Literal.{Literal}
 use Rattle.qe_syntax.specs.declared.tree.Literal.TheVariants.{Fits, Past}
 use Rattle.qe_syntax.specs.declared.tree.Relation.{Relation}
-use Rattle.qe_syntax.specs.declared.statement.PointEntry.{PointEntry}
+use Rattle.qe_syntax.specs.declared.entries.PointEntry.{PointEntry}
 use Rattle.qe_syntax.specs.Trees.{TermTree, FormulaTree, formulas_of}
-use Rattle.qe_syntax.specs.Statements.{CommandTree, ActionTree, StatementTree}
+use Rattle.statement_syntax.specs.Statements.{CommandTree, ActionTree, StatementTree}
 use Rattle.redlog_tokens.specs.declared.terminal.Terminal.{Terminal}
 use Rattle.redlog_tokens.specs.declared.terminal.Terminal.TheVariants as terminal
 use Rattle.redlog_tokens.specs.declared.terminal.Mark.TheVariants as mark
@@ -21,7 +21,8 @@ use Rattle.std.proofs.lemmas.Int.{ints}
 use Rattle.qe_syntax.specs.Names.{IsVariable}
 use Rattle.qe_syntax.specs.Trees.{Negative, terms_of}
 use Rattle.qe_syntax.specs.Proper.{IsNumeral, IsSigned}
-use Rattle.qe_syntax.specs.Writable.{IsWritableEntry, AreWritableEntries, IsWritableTerm, AreWritableTerms, IsWritableFormula, AreWritableFormulas, IsWritableCommand, IsWritableAction, IsWritable}
+use Rattle.qe_syntax.specs.Writable.{IsWritableEntry, AreWritableEntries, IsWritableTerm, AreWritableTerms, IsWritableFormula, AreWritableFormulas}
+use Rattle.statement_syntax.specs.Writable.{IsWritableCommand, IsWritableAction, IsWritable}
 use Rattle.redlog_reader.specs.Grammar.{product_of, sum_of, conjunction_of, disjunction_of, quantified_names, Factors, no_factor, times, over, Members, no_member, plus, minus, Names, last_name, more_names, SpellsNames, one_name, many_names}
 use Rattle.redlog_tokens.proofs.ProperTokens.{AreProperTerminals}
 use Rattle.redlog_reader.specs.Grammar.{SpellsNegation, negation, compared, prime, SpellsConjunction, conjunction, Conjuncts, no_conjunct, conjunct, SpellsDisjunction, disjunction, Disjuncts, no_disjunct, disjunct, SpellsImplication, no_implication, implication, SpellsReplication, replication, Repls, no_repl, repl, equivalence, Equivs, no_equiv, equiv}

@@ -5,9 +5,9 @@ use Rattle.qe_syntax.specs.declared.tree.Literal.{Literal}
 use Rattle.qe_syntax.specs.declared.tree.Literal.TheVariants.{Fits}
 use Rattle.qe_syntax.specs.declared.tree.Relation.{Relation}
 use Rattle.qe_syntax.specs.declared.tree.Relation.TheVariants.{Equal}
-use Rattle.qe_syntax.specs.declared.statement.PointEntry.{PointEntry}
+use Rattle.qe_syntax.specs.declared.entries.PointEntry.{PointEntry}
 use Rattle.qe_syntax.specs.Trees.{TermTree, FormulaTree}
-use Rattle.qe_syntax.specs.Statements.{CommandTree, Echo, Nnf, Pnf, Dnf, Cnf, Holds, Sample, ActionTree, Ignored, Finish, Choose, Say, Retract, StatementTree}
+use Rattle.statement_syntax.specs.Statements.{CommandTree, Echo, Nnf, Pnf, Dnf, Cnf, Holds, Sample, ActionTree, Ignored, Finish, Choose, Say, Retract, StatementTree}
 use Rattle.redlog_tokens.specs.declared.terminal.Terminal.{Terminal}
 use Rattle.redlog_tokens.specs.declared.terminal.Terminal.TheVariants as terminal
 use Rattle.redlog_tokens.specs.declared.terminal.Mark.TheVariants as mark

@@ -1,7 +1,7 @@
 -- Reading a statement.
 use Rattle.std.proofs.Common.{◌≡◌, ◌≢◌, ℕ, ◌≤◌, arith, List, [], map, length, sym, refl, ap, ◌∙◌, subst}
 use Rattle.std.specs.Prelude.{Option, Some, None}
-use Rattle.qe_syntax.specs.Statements.{StatementTree}
+use Rattle.statement_syntax.specs.Statements.{StatementTree}
 use Rattle.redlog_tokens.specs.declared.token.Token.{Token}
 use Rattle.redlog_tokens.specs.declared.token.TokenKind.{TokenKind}
 use Rattle.redlog_tokens.specs.Terminals.{terminals, terminal_of}
@@ -15,7 +15,7 @@ use Rattle.redlog_reader.specs.declared.read.TheConstants.{BYTE_LIMIT}
 use Rattle.redlog_tokens.specs.declared.level.TheConstants.{LEVEL_LIMIT}
 use Rattle.redlog_tokens.specs.declared.token.ReadError.{ReadError}
 use Rattle.redlog_tokens.specs.declared.token.ReadError.TheVariants as cause
-use Rattle.qe_syntax.specs.Writable.{IsWritable}
+use Rattle.statement_syntax.specs.Writable.{IsWritable}
 use Rattle.redlog_reader.proofs.CompleteStatements.{statement_done}
 use Rattle.redlog_reader.proofs.SoundStatements.{statement_sound}
 use Rattle.redlog_reader.proofs.Proper.{proper_statement}

@@ -1,6 +1,6 @@
 -- What the bytes of a piece spell, and why they spell nothing.
 use Rattle.std.specs.Prelude.{◌≡◌, ℕ, ◌<◌, ◌≤◌, List, [], map, length, Some}
-use Rattle.qe_syntax.specs.Statements.{StatementTree}
+use Rattle.statement_syntax.specs.Statements.{StatementTree}
 use Rattle.redlog_tokens.specs.declared.lexer.Lexeme.{Lexeme}
 use Rattle.redlog_tokens.specs.declared.token.TokenKind.{TokenKind}
 use Rattle.redlog_tokens.specs.Terminals.{terminal_of}

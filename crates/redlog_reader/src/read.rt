@@ -1,10 +1,10 @@
 ghost use Rattle.std.specs.Prelude.{◌≡◌, ℕ, List, IfOk, IfErr};
-ghost use Rattle.qe_syntax.specs.Writable.{IsWritable};
-ghost use Rattle.qe_syntax.specs.Statements.{StatementTree, statement_tree};
+ghost use Rattle.statement_syntax.specs.Writable.{IsWritable};
+ghost use Rattle.statement_syntax.specs.Statements.{StatementTree, statement_tree};
 ghost use Rattle.redlog_reader.specs.Statement.{Spells, Unread};
 
 use crate::statement::statement;
-use qe_syntax::Statement;
+use statement_syntax::Statement;
 use redlog_tokens::{ReadError, is_deep, tokens};
 use std::alloc::Global;
 

@@ -2,7 +2,7 @@ ghost use Rattle.std.specs.Prelude.{◌≡◌, map, bytes_eq};
 ghost use Rattle.std.specs.Char.{to_ascii_lowercase};
 ghost use Rattle.redlog_reader.specs.Grammar.{setting_of};
 
-use qe_syntax::Setting;
+use statement_syntax::Setting;
 
 /// The context that a name names, in any letter case.
 #[tactic(auto, unfolding(crate::specs::Grammar::setting_of))]

@@ -1,6 +1,6 @@
 ghost use Rattle.std.specs.Prelude.{◌≡◌, ◌∷◌, IfOk, IfErr, MatchOption, Some, None};
 ghost use Rattle.qe_syntax.specs.Trees.{formula_tree};
-ghost use Rattle.qe_syntax.specs.Statements.{statement_tree, action_tree, command_tree, Say, Assign};
+ghost use Rattle.statement_syntax.specs.Statements.{statement_tree, action_tree, command_tree, Say, Assign};
 ghost use Rattle.redlog_tokens.specs.declared.terminal.Terminal.{Terminal};
 ghost use Rattle.redlog_tokens.specs.Terminals.{terminals};
 ghost use Rattle.redlog_reader.specs.Grammar.{setting_of};
@@ -11,7 +11,8 @@ use crate::argument::{FORMULA, PRIME, argument, atoms, formula};
 use crate::peek::{after, name, next};
 use crate::point::point;
 use crate::setting::setting_of;
-use qe_syntax::{Action, Command, Entries, Formula, Formulas, Name, Statement};
+use qe_syntax::{Entries, Formula, Formulas, Name};
+use statement_syntax::{Action, Command, Statement};
 use redlog_tokens::{Mark, ReadError, Terminal, Token, Word};
 use std::alloc::{AllocError, Global};
 

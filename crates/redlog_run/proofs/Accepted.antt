@@ -1,7 +1,7 @@
 -- A script of statements that are never refused is unrefused.
 use Rattle.std.proofs.Common.{ℕ, Bool, false, List}
 use Rattle.std.specs.List.{AllByRecursion}
-use Rattle.qe_syntax.specs.Statements.{StatementTree}
+use Rattle.statement_syntax.specs.Statements.{StatementTree}
 use Rattle.redlog_tokens.specs.Pieces.{IsPiece}
 use Rattle.redlog_tokens.proofs.Cutting.{none_or_piece}
 use Rattle.session_meaning.specs.State.{State}

@@ -3,8 +3,8 @@ use Rattle.std.proofs.Common.{ℕ, List, [], ◌∷◌, true, codes, refl, arith
 use Rattle.std.specs.Prelude.{Some}
 use Rattle.formula_meaning.specs.Formula.{Yes}
 use Rattle.qe_syntax.specs.Names.{is_word}
-use Rattle.qe_syntax.specs.Statements.{Choose, Say, Echo}
-use Rattle.qe_syntax.specs.declared.statement.Setting.TheVariants.{Pasf}
+use Rattle.statement_syntax.specs.Statements.{Choose, Say, Echo}
+use Rattle.statement_syntax.specs.declared.statement.Setting.TheVariants.{Pasf}
 use Rattle.redlog_tokens.specs.declared.lexer.Lexeme.{Lexeme}
 use Rattle.redlog_tokens.specs.declared.token.TokenKind.{TokenKind}
 use Rattle.redlog_tokens.specs.declared.token.TokenKind.TheVariants as token

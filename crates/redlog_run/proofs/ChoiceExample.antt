@@ -2,8 +2,8 @@
 use Rattle.std.proofs.Common.{ℕ, List, [], ◌∷◌, true, codes, refl, arith, ⊎_elim}
 use Rattle.std.specs.Prelude.{Some}
 use Rattle.qe_syntax.specs.Names.{is_word}
-use Rattle.qe_syntax.specs.Statements.{Choose, Finish}
-use Rattle.qe_syntax.specs.declared.statement.Setting.TheVariants.{Pasf}
+use Rattle.statement_syntax.specs.Statements.{Choose, Finish}
+use Rattle.statement_syntax.specs.declared.statement.Setting.TheVariants.{Pasf}
 use Rattle.redlog_tokens.specs.declared.lexer.Lexeme.{Lexeme}
 use Rattle.redlog_tokens.specs.declared.token.TokenKind.{TokenKind}
 use Rattle.redlog_tokens.specs.declared.token.TokenKind.TheVariants as token

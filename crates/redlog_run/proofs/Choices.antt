@@ -5,7 +5,7 @@ use Rattle.std.specs.declared.alloc.Global.{Global}
 use Rattle.std.specs.declared.vec.Vec.{Vec}
 use denote.RawPtr.{null_ptr}
 use Rattle.formula_meaning.specs.Context.{Context, Fields, Integers}
-use Rattle.qe_syntax.specs.Statements.{ActionTree, Empty, Ignored, Finish, Choose, Say, Assign, Assume, Retract, StatementTree}
+use Rattle.statement_syntax.specs.Statements.{ActionTree, Empty, Ignored, Finish, Choose, Say, Assign, Assume, Retract, StatementTree}
 use Rattle.redlog_tokens.specs.Pieces.{IsPiece}
 use Rattle.redlog_reader.specs.Statement.{Spells}
 use Rattle.redlog_tokens.proofs.Cutting.{none_or_piece, same_piece}

@@ -1,6 +1,6 @@
 -- Statements that end a script.
 use Rattle.std.proofs.Common.{◌≡◌, ℕ, Bool, true, false, List, refl, ap, ◌∙◌, subst}
-use Rattle.qe_syntax.specs.Statements.{ActionTree, Empty, Ignored, Finish, Choose, Say, Assign, Assume, Retract, StatementTree}
+use Rattle.statement_syntax.specs.Statements.{ActionTree, Empty, Ignored, Finish, Choose, Say, Assign, Assume, Retract, StatementTree}
 use Rattle.redlog_tokens.specs.Pieces.{IsPiece}
 use Rattle.redlog_tokens.proofs.Cutting.{same_piece}
 use Rattle.redlog_reader.proofs.Whole.{spells_once}

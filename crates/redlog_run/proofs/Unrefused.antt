@@ -1,7 +1,7 @@
 -- A piece that spells a statement which has no cause of a refusal is not refused.
 use Rattle.std.proofs.Common.{◌≡◌, ◌≢◌, ℕ, Bool, true, false, ◌||◌, List, ◌++◌, refl, ap, ◌∙◌, subst}
 use Rattle.std.specs.Prelude.{Err}
-use Rattle.qe_syntax.specs.Statements.{StatementTree}
+use Rattle.statement_syntax.specs.Statements.{StatementTree}
 use Rattle.redlog_reader.specs.Statement.{Spells}
 use Rattle.redlog_tokens.specs.declared.token.ReadError.TheVariants as reading
 use Rattle.redlog_reader.proofs.Whole.{spells_once, not_unread}

@@ -1,7 +1,7 @@
 -- Scripts of statements that are never refused.
 use Rattle.std.specs.Prelude.{ℕ, List, codes}
 use Rattle.std.specs.List.{AllByRecursion}
-use Rattle.qe_syntax.specs.Statements.{StatementTree}
+use Rattle.statement_syntax.specs.Statements.{StatementTree}
 use Rattle.session_commands.specs.Accepted.{IsNeverRefused}
 use Rattle.redlog_run.specs.Unrefused.{IsUnrefused}
 use Rattle.redlog_run.specs.WithoutFormulas.{SpellsFrom}

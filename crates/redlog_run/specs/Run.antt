@@ -1,6 +1,6 @@
 -- What a script is answered with: piece after piece, each in the state that the one before left.
 use Rattle.std.specs.Prelude.{◌≡◌, ◌≢◌, ℕ, ◌-◌, ◌<◌, ◌≤◌, List, [], ◌++◌, length, take, drop, Bool, true, false, ◌||◌, Ok, Err}
-use Rattle.qe_syntax.specs.Statements.{StatementTree, Finish}
+use Rattle.statement_syntax.specs.Statements.{StatementTree, Finish}
 use Rattle.redlog_tokens.specs.Pieces.{HasNoTokenFrom, IsPiece}
 use Rattle.redlog_reader.specs.Statement.{Spells}
 use Rattle.script_splitter.specs.Pieces.{IsOpen}

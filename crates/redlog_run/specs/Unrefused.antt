@@ -1,6 +1,6 @@
 -- Scripts of statements that have no cause of a refusal.
 use Rattle.std.specs.Prelude.{◌≢◌, ℕ, List, true, false}
-use Rattle.qe_syntax.specs.Statements.{StatementTree}
+use Rattle.statement_syntax.specs.Statements.{StatementTree}
 use Rattle.redlog_tokens.specs.Pieces.{IsPiece}
 use Rattle.redlog_reader.specs.Statement.{Spells}
 use Rattle.session_meaning.specs.declared.line.StatementError.{StatementError}

@@ -1,7 +1,7 @@
 -- Scripts whose statements have no formula, and what they are answered with.
 use Rattle.std.specs.Prelude.{◌≡◌, ℕ, List, [], ◌∷◌, ◌++◌, Bool, false, codes, if◌then◌else◌}
 use Rattle.std.specs.List.{flat_map, AllByRecursion}
-use Rattle.qe_syntax.specs.Statements.{ActionTree, Empty, Ignored, Finish, Choose, Say, Assign, Assume, Retract, StatementTree}
+use Rattle.statement_syntax.specs.Statements.{ActionTree, Empty, Ignored, Finish, Choose, Say, Assign, Assume, Retract, StatementTree}
 use Rattle.redlog_tokens.specs.Pieces.{HasNoTokenFrom, IsPiece}
 use Rattle.redlog_reader.specs.Statement.{Spells}
 use Rattle.session_meaning.specs.State.{theory_of}

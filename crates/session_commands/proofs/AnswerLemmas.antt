@@ -2,7 +2,7 @@
 use Rattle.formula_meaning.specs.Tree.{Tree}
 use Rattle.std.proofs.Common.{⊎_elim, ap, ◌≡◌, ℕ, zero, suc, ◌<◌, ◌≤◌, arith, List, Bool, Some, None, sym, subst, refl}
 use Rattle.std.specs.Prelude.{Result, Ok, Err, IfOk, OnOk, IfErr, OnErr}
-use Rattle.qe_syntax.specs.Statements.{CommandTree, ActionTree, Empty, Ignored, Finish, Choose, Say, Assign, Assume, Retract, StatementTree}
+use Rattle.statement_syntax.specs.Statements.{CommandTree, ActionTree, Empty, Ignored, Finish, Choose, Say, Assign, Assume, Retract, StatementTree}
 use Rattle.redlog_reader.specs.Grammar.{SpellsResult, echo, nnf, pnf, dnf, cnf, simpl, qe, SpellsAction, assign, SpellsStatement, nothing, acting}
 use Rattle.redlog_tokens.specs.declared.terminal.Terminal.{Terminal}
 use Rattle.redlog_reader.specs.Statement.{Spells}

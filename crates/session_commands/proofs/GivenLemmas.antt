@@ -9,7 +9,7 @@ use Rattle.formula_meaning.specs.Same.{same_atom}
 use Rattle.formula_meaning.specs.Tree.{Tree, TrueAt}
 use Rattle.formula_meaning.proofs.Sizes.{distinct_count_within}
 use Rattle.qe_syntax.specs.Trees.{FormulaTree, FormulaTrees, formula_trees}
-use Rattle.qe_syntax.specs.Statements.{CommandTree, Pnf}
+use Rattle.statement_syntax.specs.Statements.{CommandTree, Pnf}
 use Rattle.qe_syntax.specs.Value.{NamedPoint}
 use Rattle.elimination_reference.proofs.Turning.{normal_truths, normal_inside}
 use Rattle.atom_normal.specs.NormalForm.{IsNormal}

@@ -1,7 +1,7 @@
 -- Statements that are never refused.
 use Rattle.std.specs.Prelude.{◌≢◌, ℕ, Bool}
 use Rattle.formula_meaning.specs.Formula.{Yes}
-use Rattle.qe_syntax.specs.Statements.{Echo, Say, StatementTree}
+use Rattle.statement_syntax.specs.Statements.{Echo, Say, StatementTree}
 use Rattle.session_meaning.specs.declared.line.StatementError.{StatementError}
 use Rattle.session_meaning.specs.declared.line.StatementError.TheVariants as error
 use Rattle.session_meaning.specs.State.{State}

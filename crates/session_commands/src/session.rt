@@ -1,6 +1,6 @@
 ghost use Rattle.std.specs.Prelude.{◌≡◌, ◌≤◌, Some, None, IfOk, IfErr, OnOk, OnErr};
-ghost use Rattle.qe_syntax.specs.Statements.{statement_tree, command_tree};
-ghost use Rattle.qe_syntax.specs.Writable.{IsWritable, IsWritableCommand};
+ghost use Rattle.statement_syntax.specs.Statements.{statement_tree, command_tree};
+ghost use Rattle.statement_syntax.specs.Writable.{IsWritable, IsWritableCommand};
 ghost use Rattle.session_state.specs.Keeping.{state_of, IsSessionState};
 ghost use Rattle.command_tools.specs.Replies.{use_of, Refuses, IsStopped, IsFormulaAnswer, BindsFormula};
 ghost use Rattle.command_tools.specs.Refusals.{read_refusal};
@@ -18,7 +18,8 @@ use block_scheduler::Limits;
 use command_tools::{Workshop, printed_line};
 use point_queries::{answer_cases, answer_holds, answer_sample};
 use qe_parallel::Gate;
-use qe_syntax::{Action, Command, Name, Setting, Statement};
+use qe_syntax::Name;
+use statement_syntax::{Action, Command, Setting, Statement};
 use redlog_reader::{ReadError, read_statement};
 use session_meaning::{Line, StatementError};
 use session_state::SessionState;

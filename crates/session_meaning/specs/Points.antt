@@ -9,7 +9,7 @@ use Rattle.formula_meaning.specs.Sizes.{subtrees}
 use Rattle.formula_meaning.specs.Replaced.{replaced}
 use Rattle.formula_meaning.specs.Tree.{Tree}
 use Rattle.linear_forms.specs.Terms.{ValuePasses}
-use Rattle.qe_syntax.specs.declared.statement.PointEntry.{PointEntry}
+use Rattle.qe_syntax.specs.declared.entries.PointEntry.{PointEntry}
 use Rattle.qe_syntax.specs.Trees.{FormulaTree}
 use Rattle.qe_syntax.specs.Point.{NamesTwice, IsZeroBelow, IsBroken, IsPointOf}
 use Rattle.qe_syntax.specs.Value.{NamedPoint, TrueAt}

@@ -1,7 +1,7 @@
 -- What a statement is answered with in a state, and the state after it.
 use Rattle.std.specs.Prelude.{◌≡◌, ◌≤◌, ℕ, List, [], length, Bool, true, false, Some, None, Result, Ok, Err}
 use Rattle.formula_meaning.specs.Tree.{Tree, tree_distinct}
-use Rattle.qe_syntax.specs.Statements.{ActionTree, Empty, Ignored, Finish, Choose, Say, Assign, Assume, Retract, StatementTree}
+use Rattle.statement_syntax.specs.Statements.{ActionTree, Empty, Ignored, Finish, Choose, Say, Assign, Assume, Retract, StatementTree}
 use Rattle.qe_syntax.specs.Trees.{FormulaTrees}
 use Rattle.redlog_reader.specs.Statement.{Spells, Unread}
 use Rattle.redlog_tokens.specs.declared.token.ReadError.TheVariants as reading

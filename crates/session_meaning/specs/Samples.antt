@@ -6,7 +6,7 @@ use Rattle.formula_meaning.specs.Tree.{TrueAt}
 use Rattle.elimination_reference.specs.Cases.{case_sign, case_matrix, case_names}
 use Rattle.sample_reference.specs.Values.{Value, value_names, with_values, IsValue}
 use Rattle.answer_texts.specs.Points.{point_text}
-use Rattle.qe_syntax.specs.declared.statement.PointEntry.{PointEntry}
+use Rattle.qe_syntax.specs.declared.entries.PointEntry.{PointEntry}
 use Rattle.qe_syntax.specs.Point.{IsPointOf}
 use Rattle.qe_syntax.specs.Trees.{FormulaTree}
 use Rattle.qe_syntax.specs.Value as written

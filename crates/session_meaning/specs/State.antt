@@ -2,8 +2,8 @@
 -- bound to, and the standing assumptions.
 use Rattle.std.specs.Prelude.{ℕ, List, [], Bool, true, false, if◌then◌else◌}
 use Rattle.formula_meaning.specs.Context.{Context, Fields, Integers}
-use Rattle.qe_syntax.specs.declared.statement.Setting.{Setting}
-use Rattle.qe_syntax.specs.declared.statement.Setting.TheVariants.{Ofsf, Pasf}
+use Rattle.statement_syntax.specs.declared.statement.Setting.{Setting}
+use Rattle.statement_syntax.specs.declared.statement.Setting.TheVariants.{Ofsf, Pasf}
 use Rattle.formula_meaning.specs.Tree.{Tree}
 use Rattle.formula_tree.specs.Bindings.{bind}
 use Rattle.formula_tree.specs.Resolving.{BoundTrees}

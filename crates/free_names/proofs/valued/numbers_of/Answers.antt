@@ -1,7 +1,7 @@
 use Rattle.std.proofs.Common.{ℕ, subst}
 use Rattle.std.specs.Ordering.{nat_cmp}
 use Rattle.std.specs.BTreeSet.{contains}
-use Rattle.qe_syntax.specs.declared.statement.PointEntry.{PointEntry}
+use Rattle.qe_syntax.specs.declared.entries.PointEntry.{PointEntry}
 use Rattle.qe_syntax.proofs.EntryLists.{more_entries}
 use Rattle.formula_tree.specs.Resolving.{place}
 use Rattle.free_names.proofs.Lists.{Puts, seen_more}

@@ -1,6 +1,6 @@
 use Rattle.std.proofs.Common.{refl, ◌∙◌, sym}
 use Rattle.std.proofs.lemmas.Bool.{false≢true}
-use Rattle.qe_syntax.specs.declared.statement.PointEntry.{PointEntry}
+use Rattle.qe_syntax.specs.declared.entries.PointEntry.{PointEntry}
 use Rattle.qe_syntax.proofs.EntryLists.{unfound_start, unfound_more, unfound_here, unfound_end}
 use Rattle.point_queries.specs.Asked.{IsBoundName}
 use Rattle.point_queries.proofs.AskedLemmas.{some_found, none_found}

@@ -1,5 +1,5 @@
 use Rattle.std.proofs.Common.{drop}
-use Rattle.qe_syntax.specs.declared.statement.PointEntry.{PointEntry}
+use Rattle.qe_syntax.specs.declared.entries.PointEntry.{PointEntry}
 use Rattle.qe_syntax.proofs.EntryLists.{Unfound}
 use Rattle.point_queries.specs.Asked.{IsBoundName}
 use Rattle.point_queries.proofs.points.some_bound.Given as goal

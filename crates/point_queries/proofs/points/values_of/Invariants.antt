@@ -1,7 +1,7 @@
 use Rattle.std.proofs.Common.{◌≡◌, take, drop}
 use Rattle.std.specs.List.{AllByRecursion}
 use Rattle.linear_forms.specs.Values.{number_at}
-use Rattle.qe_syntax.specs.declared.statement.PointEntry.{PointEntry}
+use Rattle.qe_syntax.specs.declared.entries.PointEntry.{PointEntry}
 use Rattle.qe_syntax.specs.Point.{point_of}
 use Rattle.qe_syntax.specs.Valued.{IsIn}
 use Rattle.point_queries.proofs.PointLemmas.{ArePut}

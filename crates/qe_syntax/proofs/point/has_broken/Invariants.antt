@@ -1,6 +1,6 @@
 use Rattle.std.proofs.Common.{drop}
 use Rattle.std.specs.List.{AllByRecursion}
-use Rattle.qe_syntax.specs.declared.statement.PointEntry.{PointEntry}
+use Rattle.qe_syntax.specs.declared.entries.PointEntry.{PointEntry}
 use Rattle.qe_syntax.specs.Proper.{IsProperEntry}
 use Rattle.qe_syntax.specs.Point.{IsBroken, IsZeroBelow}
 use Rattle.qe_syntax.proofs.EntryLists.{Unfound}

@@ -1,5 +1,5 @@
 use Rattle.std.proofs.Common.{◌∙◌, ap, sym}
-use Rattle.qe_syntax.specs.Statements.{action_tree, command_tree, Say, Assign}
+use Rattle.statement_syntax.specs.Statements.{action_tree, command_tree, Say, Assign}
 use Rattle.session_state.specs.Keeping.{state_of}
 use Rattle.session_commands.proofs.AnswerLemmas.{say_answered, formula_assigned}
 use Rattle.session_commands.proofs.session.act.Goals as goal

@@ -1,6 +1,6 @@
 use Rattle.std.proofs.Common.{ap, refl, sym, ◌∙◌, map, None}
 use Rattle.qe_syntax.specs.Trees.{formula_tree, formulas_of}
-use Rattle.qe_syntax.specs.Statements.{command_tree, Qea, Holds, Sample}
+use Rattle.statement_syntax.specs.Statements.{command_tree, Qea, Holds, Sample}
 use Rattle.session_state.specs.Keeping.{state_of}
 use Rattle.command_tools.specs.Replies.{use_of}
 use Rattle.session_commands.proofs.AnswerLemmas.{formula_answered, query_answered, refused_as}

@@ -1,13 +1,13 @@
 -- Statements as plain trees.
 use Rattle.std.specs.Prelude.{Bool, List, ℕ}
 use Rattle.qe_syntax.specs.Trees.{FormulaTree, FormulaTrees, formula_tree, formula_trees}
-use Rattle.qe_syntax.specs.declared.statement.Setting.{Setting}
-use Rattle.qe_syntax.specs.declared.statement.PointEntry.{PointEntry}
-use Rattle.qe_syntax.specs.declared.statement.Command as code
-use Rattle.qe_syntax.specs.declared.statement.Command.TheVariants as command
-use Rattle.qe_syntax.specs.declared.statement.Action as acts
-use Rattle.qe_syntax.specs.declared.statement.Action.TheVariants as action
-use Rattle.qe_syntax.specs.declared.statement.Statement as whole
+use Rattle.statement_syntax.specs.declared.statement.Setting.{Setting}
+use Rattle.qe_syntax.specs.declared.entries.PointEntry.{PointEntry}
+use Rattle.statement_syntax.specs.declared.statement.Command as code
+use Rattle.statement_syntax.specs.declared.statement.Command.TheVariants as command
+use Rattle.statement_syntax.specs.declared.statement.Action as acts
+use Rattle.statement_syntax.specs.declared.statement.Action.TheVariants as action
+use Rattle.statement_syntax.specs.declared.statement.Statement as whole
 
 -- what a statement asks for
 pub data CommandTree : Type 0 where

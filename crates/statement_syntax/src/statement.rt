@@ -1,0 +1,45 @@
+use qe_syntax::{Entries, Formula, Formulas, Name};
+
+/// The two theories as a script names them.
+#[derive(Clone, Copy, Debug, PartialEq, Eq)]
+pub enum Setting {
+    Ofsf,
+    Pasf,
+}
+
+/// What a statement asks for.
+#[derive(Drop)]
+pub enum Command {
+    Echo(Formula),
+    Nnf(Formula),
+    Pnf(Formula),
+    Dnf(Formula),
+    Cnf(Formula),
+    Simpl(Formula, Formulas),
+    Qe(Formula, Formulas),
+    Qea(Formula, Formulas),
+    Holds(Formula, Entries),
+    Sample(Formula, Entries),
+}
+
+/// What a statement does. A command is kept in a box, since a formula is large.
+#[derive(Drop)]
+pub enum Action {
+    Empty,
+    Ignored,
+    Finish,
+    Choose(Setting),
+    Say(Box<Command>),
+    Assign(Name, Box<Command>),
+    /// Puts atoms behind the standing assumptions.
+    Assume(Formulas),
+    /// Takes the standing assumptions back.
+    Retract,
+}
+
+/// One statement of a script. Its line is printed where it ends with `;`.
+#[derive(Drop)]
+pub struct Statement {
+    pub action: Action,
+    pub printed: bool,
+}
