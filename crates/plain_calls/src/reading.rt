@@ -18,9 +18,9 @@ use formula_resolving::linearise;
 use formula_store::{FormulaId, Store};
 use formula_tree::{Bindings, Names, Tree};
 use qe_syntax::Formula;
-use statement_syntax::{Action, Command, Statement};
 use redlog_reader::read_statement;
 use shared_elimination::{eliminate_shared, unfolded_form};
+use statement_syntax::{Action, Command, Statement};
 use std::alloc::Global;
 
 /// The limit of nodes of each call.

@@ -8,8 +8,8 @@ ghost use Rattle.qe_syntax.specs.Proper.{IsProperEntry, AreProperEntries};
 ghost use Rattle.qe_syntax.specs.Point.{NamesTwice, IsZeroBelow, IsPast, IsBroken, lowest_below, IsLowestValue, IsLeastDenominator, DenominatorPasses, IsScaled, IsReady, SetsNumber, AreNumbers};
 ghost use Rattle.qe_syntax.specs.PointFaults.{PutFault, IsChecked, CheckFault};
 
-use crate::name::Name;
 use crate::entries::PointEntry;
+use crate::name::Name;
 use crate::tree::Literal;
 use exact_numbers::{Fraction, lcm, residue};
 use std::alloc::{AllocError, Global};

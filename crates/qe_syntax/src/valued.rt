@@ -9,8 +9,8 @@ ghost use Rattle.qe_syntax.specs.Point.{HasEntry};
 ghost use Rattle.qe_syntax.specs.Value.{HasName, HaveName, IsFree};
 ghost use Rattle.qe_syntax.specs.Valued.{AreAmong, AreFree, prefix_of, matrix_of, IsUnquantified, IsOpened, IsClosed};
 
-use crate::name::Name;
 use crate::entries::PointEntry;
+use crate::name::Name;
 use crate::tree::{Formula, Term};
 use std::alloc::{AllocError, Global};
 use std::collections::BTreeSet;

@@ -4,8 +4,8 @@ ghost use Rattle.statement_syntax.specs.Statements.{StatementTree, statement_tre
 ghost use Rattle.redlog_reader.specs.Statement.{Spells, Unread};
 
 use crate::statement::statement;
-use statement_syntax::Statement;
 use redlog_tokens::{ReadError, is_deep, tokens};
+use statement_syntax::Statement;
 use std::alloc::Global;
 
 /// A piece is at most so long, in bytes.

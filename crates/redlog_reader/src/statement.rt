@@ -12,8 +12,8 @@ use crate::peek::{after, name, next};
 use crate::point::point;
 use crate::setting::setting_of;
 use qe_syntax::{Entries, Formula, Formulas, Name};
-use statement_syntax::{Action, Command, Statement};
 use redlog_tokens::{Mark, ReadError, Terminal, Token, Word};
+use statement_syntax::{Action, Command, Statement};
 use std::alloc::{AllocError, Global};
 
 /// The statement that the tokens spell, with no token after it.

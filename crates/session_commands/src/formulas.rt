@@ -33,11 +33,11 @@ use free_names::is_quantified;
 use problem_reading::{number_parts, read_parts};
 use qe_parallel::Gate;
 use qe_syntax::{Formula, Formulas, Name};
-use statement_syntax::Command;
 use redlog_printer::TEXT_LIMIT;
 use session_meaning::{Line, MOST_SUBFORMULAS, StatementError};
 use session_state::SessionState;
 use shared_forms::{ClauseForm, Form, Premised, Way, formed};
+use statement_syntax::Command;
 use std::alloc::Global;
 use std::thread::Threads;
 
