@@ -14,8 +14,11 @@ use Rattle.qe_syntax.specs.declared.tree.Relation.TheVariants.{Equal, Differs}
 use Rattle.statement_syntax.specs.declared.statement.Setting.{Setting}
 use Rattle.statement_syntax.specs.declared.statement.Setting.TheVariants.{Ofsf, Pasf}
 use Rattle.qe_syntax.specs.declared.entries.PointEntry.{PointEntry}
+use Rattle.statement_syntax.specs.declared.grid.Ratio.{Ratio}
+use Rattle.statement_syntax.specs.declared.grid.GridAxis.{GridAxis}
+use Rattle.statement_syntax.specs.Constraints.{is_constraint}
 use Rattle.qe_syntax.specs.Trees.{TermTree, Number, Named, Sum, Product, Quotient, Power, Negative, terms_of, Compare, Cong, Ncong, Bound, FormulaTree, formulas_of}
-use Rattle.statement_syntax.specs.Statements.{CommandTree, Echo, Nnf, Pnf, Dnf, Cnf, Simpl, Qe, Qea, Holds, Sample, ActionTree, Empty, Ignored, Finish, Choose, Say, Assign, Assume, Retract, StatementTree}
+use Rattle.statement_syntax.specs.Statements.{CommandTree, Echo, Nnf, Pnf, Dnf, Cnf, Simpl, Qe, Qea, Holds, Sample, Grid, Certify, Check, ActionTree, Empty, Ignored, Finish, Choose, Say, Assign, Assume, Retract, StatementTree}
 use Rattle.redlog_tokens.specs.declared.terminal.Terminal.{Terminal}
 use Rattle.redlog_tokens.specs.declared.terminal.Terminal.TheVariants as terminal
 use Rattle.redlog_tokens.specs.declared.terminal.Mark.{Mark}
@@ -259,13 +262,42 @@ pub data SpellsResult : List Terminal → CommandTree → List Terminal → Type
   simpl : {ts rest : List Terminal} {f : FormulaTree} {given : List FormulaTree} → SpellsArgument ts f given rest → SpellsResult (terminal.Word word.Simpl ∷ ts) (Simpl f (formulas_of given)) rest
   qe : {ts rest : List Terminal} {f : FormulaTree} {given : List FormulaTree} → SpellsArgument ts f given rest → SpellsResult (terminal.Word word.Qe ∷ ts) (Qe f (formulas_of given)) rest
 
--- query = "rlqea" argument | ("rlholds"|"rlwitness") "(" formula "," point ")"
+-- value = [ "-" ] number [ "/" number ]
+pub data SpellsRatio : List Terminal → Ratio → List Terminal → Type 0 where
+  ratio : {ts us rest : List Terminal} {r : Ratio} → Above ts r.above us → Below us r.below rest → SpellsRatio ts r rest
+
+-- axis = "{" name "," value "," value "," value "}"
+pub data SpellsAxis : List Terminal → GridAxis → List Terminal → Type 0 where
+  axis : {ts us vs rest : List Terminal} {a : GridAxis} {x : List ℕ}
+      → x ≡ a.name → SpellsRatio ts a.low (terminal.Mark mark.Comma ∷ us) → SpellsRatio us a.high (terminal.Mark mark.Comma ∷ vs) → SpellsRatio vs a.step (terminal.Mark mark.CloseBrace ∷ rest)
+      → SpellsAxis (terminal.Mark mark.OpenBrace ∷ terminal.Name x ∷ terminal.Mark mark.Comma ∷ ts) a rest
+
+-- bound = sum ("=" | "<" | "<=" | ">" | ">=") sum
+pub data SpellsBound : List Terminal → FormulaTree → List Terminal → Type 0 where
+  bound : {ts rest : List Terminal} {f : FormulaTree} → SpellsComparison ts f rest → is_constraint f ≡ true → SpellsBound ts f rest
+
+-- bounds = "{" [ bound { "," bound }* ] "}"
+abbrev pub SpellsBounds : List Terminal → List FormulaTree → List Terminal → Type 0
+SpellsBounds = Braced SpellsBound
+
+-- "{" [ whole { "," whole }* ] "}", whole = [ "-" ] number
+abbrev pub SpellsWholes : List Terminal → List Literal → List Terminal → Type 0
+SpellsWholes = Braced Above
+
+-- query = "rlqea" argument | ("rlholds"|"rlwitness") "(" formula "," point ")" | "rlgrid" "(" formula "," axis { "," axis }* ")"
+--     | "rlcert" "(" bounds ")" | "rlcheck" "(" bounds "," "{" [ whole { "," whole }* ] "}" ")"
 pub data SpellsQuery : List Terminal → CommandTree → List Terminal → Type 0 where
   qea : {ts rest : List Terminal} {f : FormulaTree} {given : List FormulaTree} → SpellsArgument ts f given rest → SpellsQuery (terminal.Word word.Qea ∷ ts) (Qea f (formulas_of given)) rest
   holds : {ts us rest : List Terminal} {f : FormulaTree} {es : List PointEntry}
       → SpellsFormula ts f (terminal.Mark mark.Comma ∷ us) → SpellsPoint us es (terminal.Mark mark.Close ∷ rest) → SpellsQuery (terminal.Word word.Holds ∷ terminal.Mark mark.Open ∷ ts) (Holds f es) rest
   witness : {ts us rest : List Terminal} {f : FormulaTree} {es : List PointEntry}
       → SpellsFormula ts f (terminal.Mark mark.Comma ∷ us) → SpellsPoint us es (terminal.Mark mark.Close ∷ rest) → SpellsQuery (terminal.Word word.Witness ∷ terminal.Mark mark.Open ∷ ts) (Sample f es) rest
+  grid : {ts us rest : List Terminal} {f : FormulaTree} {axes : List GridAxis}
+      → SpellsFormula ts f (terminal.Mark mark.Comma ∷ us) → Listed SpellsAxis us axes (terminal.Mark mark.Close ∷ rest) → SpellsQuery (terminal.Word word.Grid ∷ terminal.Mark mark.Open ∷ ts) (Grid f axes) rest
+  certify : {ts rest : List Terminal} {constraints : List FormulaTree}
+      → SpellsBounds ts constraints (terminal.Mark mark.Close ∷ rest) → SpellsQuery (terminal.Word word.Cert ∷ terminal.Mark mark.Open ∷ ts) (Certify (formulas_of constraints)) rest
+  check : {ts us rest : List Terminal} {constraints : List FormulaTree} {multipliers : List Literal}
+      → SpellsBounds ts constraints (terminal.Mark mark.Comma ∷ us) → SpellsWholes us multipliers (terminal.Mark mark.Close ∷ rest) → SpellsQuery (terminal.Word word.Check ∷ terminal.Mark mark.Open ∷ ts) (Check (formulas_of constraints) multipliers) rest
 
 -- action = name ":=" result | result | query | "rlset" context
 --     | "load_package" any { "," any }* | ("on" | "off") any { "," any }*

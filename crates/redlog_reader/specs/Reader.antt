@@ -7,14 +7,19 @@ use Rattle.qe_syntax.specs.declared.tree.Literal.TheVariants.{Fits, Past}
 use Rattle.qe_syntax.specs.declared.tree.Relation.{Relation}
 use Rattle.qe_syntax.specs.declared.tree.Relation.TheVariants.{Equal, Differs}
 use Rattle.qe_syntax.specs.declared.entries.PointEntry.{PointEntry}
+use Rattle.statement_syntax.specs.declared.grid.Ratio.{Ratio}
+use Rattle.statement_syntax.specs.declared.grid.GridAxis.{GridAxis}
+use Rattle.statement_syntax.specs.Constraints.{is_constraint}
 use Rattle.qe_syntax.specs.Trees.{TermTree, Compare, FormulaTree, formulas_of}
-use Rattle.statement_syntax.specs.Statements.{CommandTree, Echo, Nnf, Pnf, Dnf, Cnf, Simpl, Qe, Qea, Holds, Sample, ActionTree, Empty, Ignored, Finish, Choose, Say, Assign, Assume, Retract, StatementTree}
+use Rattle.statement_syntax.specs.Statements.{CommandTree, Echo, Nnf, Pnf, Dnf, Cnf, Simpl, Qe, Qea, Holds, Sample, Grid, Certify, Check, ActionTree, Empty, Ignored, Finish, Choose, Say, Assign, Assume, Retract, StatementTree}
 use Rattle.redlog_tokens.specs.declared.terminal.Terminal.{Terminal}
 use Rattle.redlog_tokens.specs.declared.terminal.Terminal.TheVariants as terminal
 use Rattle.redlog_tokens.specs.declared.terminal.Mark.{Mark}
 use Rattle.redlog_tokens.specs.declared.terminal.Mark.TheVariants as mark
 use Rattle.redlog_tokens.specs.declared.terminal.Word.{Word}
 use Rattle.redlog_tokens.specs.declared.terminal.Word.TheVariants as word
+use Rattle.redlog_reader.specs.declared.argument.AtomKind.{AtomKind}
+use Rattle.redlog_reader.specs.declared.argument.AtomKind.TheVariants as kind
 use Rattle.redlog_reader.specs.Grammar.{setting_of}
 use Rattle.redlog_reader.specs.Machine.{term_of, formula_of, Wants, run}
 
@@ -72,6 +77,15 @@ begins_congruence _ = false
 abbrev pub atom_read : List Terminal → Option (FormulaTree × List Terminal)
 atom_read ts = if begins_congruence ts then formula_read 0 ts else comparison_read ts
 
+-- a comparison that a constraint may be
+abbrev pub bound_read : List Terminal → Option (FormulaTree × List Terminal)
+bound_read ts = on_some (comparison_read ts) (λ p. if is_constraint p.0 then Some p else None) None
+
+-- an atom of this kind
+abbrev pub kind_read : AtomKind → List Terminal → Option (FormulaTree × List Terminal)
+kind_read kind.Any = atom_read
+kind_read kind.Constraint = bound_read
+
 -- one item or more, with commas between them; so many at most
 abbrev pub listed_read : {X : Type 0} → (List Terminal → Option (X × List Terminal)) → ℕ → List Terminal → Option (List X × List Terminal)
 listed_read read zero ts = None
@@ -117,6 +131,18 @@ entry_read ts =
     on_some (name_read ts) (λ p. on_some (after_equal p.1) (λ us. on_some (above_read us) (λ q. on_some (below_read q.1) (λ r.
     Some (record { name = p.0; above = q.0; below = r.0 }, r.1)) None) None) None) None
 
+-- a fraction, and the mark after it
+abbrev pub ratio_read : Mark → List Terminal → Option (Ratio × List Terminal)
+ratio_read end ts =
+    on_some (above_read ts) (λ p. on_some (below_read p.1) (λ q. on_some (after_mark end q.1) (λ rest. Some (record { above = p.0; below = q.0 }, rest)) None) None) None
+
+-- a name and three fractions, in braces
+abbrev pub axis_read : List Terminal → Option (GridAxis × List Terminal)
+axis_read ts =
+    on_some (after_mark mark.OpenBrace ts) (λ us. on_some (name_read us) (λ x. on_some (after_mark mark.Comma x.1) (λ vs.
+    on_some (ratio_read mark.Comma vs) (λ low. on_some (ratio_read mark.Comma low.1) (λ high. on_some (ratio_read mark.CloseBrace high.1) (λ step.
+    Some (record { name = x.0; low = low.0; high = high.0; step = step.0 }, step.1)) None) None) None) None) None) None
+
 -- a prime formula, or a formula and assumptions in brackets
 abbrev pub argument_read : List Terminal → Option ((FormulaTree × List FormulaTree) × List Terminal)
 argument_read ts =
@@ -130,6 +156,23 @@ abbrev pub pointed_read : List Terminal → Option ((FormulaTree × List PointEn
 pointed_read ts =
     on_some (after_mark mark.Open ts) (λ us. on_some (formula_read 8 us) (λ p. on_some (after_mark mark.Comma p.1) (λ vs.
     on_some (braced_read entry_read vs) (λ q. on_some (after_mark mark.Close q.1) (λ ws. Some ((p.0, q.0), ws)) None) None) None) None) None
+
+-- a formula and axes in brackets
+abbrev pub grid_read : List Terminal → Option ((FormulaTree × List GridAxis) × List Terminal)
+grid_read ts =
+    on_some (after_mark mark.Open ts) (λ us. on_some (formula_read 8 us) (λ p. on_some (after_mark mark.Comma p.1) (λ vs.
+    on_some (items_read axis_read vs) (λ q. on_some (after_mark mark.Close q.1) (λ ws. Some ((p.0, q.0), ws)) None) None) None) None) None
+
+-- constraints in brackets
+abbrev pub certified_read : List Terminal → Option (List FormulaTree × List Terminal)
+certified_read ts =
+    on_some (after_mark mark.Open ts) (λ us. on_some (braced_read bound_read us) (λ p. on_some (after_mark mark.Close p.1) (λ vs. Some (p.0, vs)) None) None) None
+
+-- constraints and multipliers in brackets
+abbrev pub checked_read : List Terminal → Option ((List FormulaTree × List Literal) × List Terminal)
+checked_read ts =
+    on_some (after_mark mark.Open ts) (λ us. on_some (braced_read bound_read us) (λ p. on_some (after_mark mark.Comma p.1) (λ vs.
+    on_some (braced_read above_read vs) (λ q. on_some (after_mark mark.Close q.1) (λ ws. Some ((p.0, q.0), ws)) None) None) None) None) None
 
 -- a result that begins with this word
 abbrev pub result_from : Word → List Terminal → Option (CommandTree × List Terminal)
@@ -183,6 +226,9 @@ action_from word.Quit ts = Some (Finish, ts)
 action_from word.Qea ts = on_some (argument_read ts) (λ p. Some (Say (Qea p.0.0 (formulas_of p.0.1)), p.1)) None
 action_from word.Holds ts = on_some (pointed_read ts) (λ p. Some (Say (Holds p.0.0 p.0.1), p.1)) None
 action_from word.Witness ts = on_some (pointed_read ts) (λ p. Some (Say (Sample p.0.0 p.0.1), p.1)) None
+action_from word.Grid ts = on_some (grid_read ts) (λ p. Some (Say (Grid p.0.0 p.0.1), p.1)) None
+action_from word.Cert ts = on_some (certified_read ts) (λ p. Some (Say (Certify (formulas_of p.0)), p.1)) None
+action_from word.Check ts = on_some (checked_read ts) (λ p. Some (Say (Check (formulas_of p.0.0) p.0.1), p.1)) None
 action_from w ts = said (result_from w ts)
 
 -- an action that begins with this name

@@ -1,16 +1,26 @@
 ghost use Rattle.std.specs.Prelude.{◌≡◌, map, IfOk, IfErr, Some, None};
 ghost use Rattle.qe_syntax.specs.Trees.{term_tree, formula_tree};
+ghost use Rattle.statement_syntax.specs.Constraints.{is_constraint};
 ghost use Rattle.redlog_tokens.specs.Terminals.{terminals};
-ghost use Rattle.redlog_reader.specs.Reader.{formula_read, sum_read, comparison_read, begins_congruence, atom_read, items_read, braced_read, argument_read};
+ghost use Rattle.redlog_reader.specs.Reader.{formula_read, sum_read, comparison_read, begins_congruence, atom_read, bound_read, kind_read, items_read, braced_read, argument_read};
 ghost use Rattle.redlog_reader.specs.Reading.{Refuses};
 
 use crate::ending::put;
 use crate::machine::read;
 use crate::operand::{formula_of, term_of};
 use crate::peek::{after, next, relation};
-use qe_syntax::{Formula, Term, comparison as comparison_of};
+use qe_syntax::{Formula, Relation, Term, comparison as comparison_of};
 use redlog_tokens::{Mark, ReadError, Terminal, Token, Word};
 use std::alloc::Global;
+
+/// What may stand in a list of atoms.
+#[derive(Clone, Copy, Debug, PartialEq, Eq)]
+pub enum AtomKind {
+    /// A comparison or a congruence.
+    Any,
+    /// A comparison, but for `<>`.
+    Constraint,
+}
 
 /// How loosely what is read may bind: a prime formula.
 pub const PRIME: usize = 0;
@@ -89,11 +99,54 @@ fn begins_congruence(tokens: &[Token]) -> bool
     )
 }
 
-/// Comparisons and congruences in braces.
+/// A comparison that a constraint may be: one but for `<>`.
 #[tactic(auto, using(crate::proofs::Options::options))]
-pub fn atoms(alloc: Global, tokens: &[Token]) -> Result<(Vec<Formula>, &[Token]), ReadError>
-    ensures read { IfOk result (λ r. braced_read atom_read (terminals tokens.now) ≡ Some (map formula_tree r.0.items, terminals r.1.now)) }
-    ensures refused { IfErr result (λ e. Refuses e (braced_read atom_read (terminals tokens.now) ≡ None)) }
+fn constraint(alloc: Global, tokens: &[Token]) -> Result<(Formula, &[Token]), ReadError>
+    ensures read { IfOk result (λ r. bound_read (terminals tokens.now) ≡ Some (formula_tree r.0, terminals r.1.now)) }
+    ensures refused { IfErr result (λ e. Refuses e (bound_read (terminals tokens.now) ≡ None)) }
+{
+    let (comparison, rest) = comparison(alloc, tokens)?;
+    if !is_constraint(&comparison) {
+        return Err(ReadError::Syntax);
+    }
+    Ok((comparison, rest))
+}
+
+/// Whether a formula is a comparison, but for `<>`.
+#[tactic(auto, using(qe_syntax::proofs::TreeEquations::trees))]
+fn is_constraint(formula: &Formula) -> bool
+    ensures { result ≡ is_constraint (formula_tree formula.now) }
+{
+    match formula {
+        Formula::Compare(relation, _, _) => *relation != Relation::Differs,
+        _ => false,
+    }
+}
+
+/// An atom of this kind.
+fn atom_of(
+    alloc: Global,
+    kind: AtomKind,
+    tokens: &[Token],
+) -> Result<(Formula, &[Token]), ReadError>
+    ensures read { IfOk result (λ r. kind_read kind (terminals tokens.now) ≡ Some (formula_tree r.0, terminals r.1.now)) }
+    ensures refused { IfErr result (λ e. Refuses e (kind_read kind (terminals tokens.now) ≡ None)) }
+{
+    match kind {
+        AtomKind::Any => atom(alloc, tokens),
+        AtomKind::Constraint => constraint(alloc, tokens),
+    }
+}
+
+/// Atoms of this kind in braces.
+#[tactic(auto, using(crate::proofs::Options::options))]
+pub fn atoms(
+    alloc: Global,
+    kind: AtomKind,
+    tokens: &[Token],
+) -> Result<(Vec<Formula>, &[Token]), ReadError>
+    ensures read { IfOk result (λ r. braced_read (kind_read kind) (terminals tokens.now) ≡ Some (map formula_tree r.0.items, terminals r.1.now)) }
+    ensures refused { IfErr result (λ e. Refuses e (braced_read (kind_read kind) (terminals tokens.now) ≡ None)) }
 {
     let Some(start) = after(tokens, Mark::OpenBrace) else {
         return Err(ReadError::Syntax);
@@ -101,23 +154,27 @@ pub fn atoms(alloc: Global, tokens: &[Token]) -> Result<(Vec<Formula>, &[Token])
     if let Some(rest) = after(start, Mark::CloseBrace) {
         return Ok((Vec::new(alloc), rest));
     }
-    let (atoms, end) = listed(alloc, start)?;
+    let (atoms, end) = listed(alloc, kind, start)?;
     let Some(rest) = after(end, Mark::CloseBrace) else {
         return Err(ReadError::Syntax);
     };
     Ok((atoms, rest))
 }
 
-/// One comparison or congruence or more, with commas between them.
+/// One atom of this kind or more, with commas between them.
 #[tactic(auto, using(crate::proofs::Items::atoms))]
-fn listed(alloc: Global, tokens: &[Token]) -> Result<(Vec<Formula>, &[Token]), ReadError>
-    ensures read { IfOk result (λ r. items_read atom_read (terminals tokens.now) ≡ Some (map formula_tree r.0.items, terminals r.1.now)) }
-    ensures refused { IfErr result (λ e. Refuses e (items_read atom_read (terminals tokens.now) ≡ None)) }
+fn listed(
+    alloc: Global,
+    kind: AtomKind,
+    tokens: &[Token],
+) -> Result<(Vec<Formula>, &[Token]), ReadError>
+    ensures read { IfOk result (λ r. items_read (kind_read kind) (terminals tokens.now) ≡ Some (map formula_tree r.0.items, terminals r.1.now)) }
+    ensures refused { IfErr result (λ e. Refuses e (items_read (kind_read kind) (terminals tokens.now) ≡ None)) }
 {
     let mut atoms = Vec::new(alloc);
     let mut start = tokens;
     'atoms: loop {
-        let (atom, rest) = atom(alloc, start)?;
+        let (atom, rest) = atom_of(alloc, kind, start)?;
         put(&mut atoms, atom)?;
         let Some(more) = after(rest, Mark::Comma) else {
             return Ok((atoms, rest));
@@ -146,7 +203,7 @@ pub fn argument(
     let Some(given) = after(middle, Mark::Comma) else {
         return Err(ReadError::Syntax);
     };
-    let (atoms, end) = atoms(alloc, given)?;
+    let (atoms, end) = atoms(alloc, AtomKind::Any, given)?;
     let Some(rest) = after(end, Mark::Close) else {
         return Err(ReadError::Syntax);
     };

@@ -2,7 +2,9 @@
 #![tactic(auto)]
 
 mod argument;
+mod constraints;
 mod ending;
+mod grid;
 mod machine;
 mod operand;
 mod peek;

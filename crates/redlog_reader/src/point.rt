@@ -63,7 +63,7 @@ fn entry(tokens: &[Token]) -> Option<(PointEntry, &[Token])>
 
 /// A number, which may have the sign `-`.
 #[tactic(auto, using(crate::proofs::Options::options))]
-fn above(tokens: &[Token]) -> Option<(Literal, &[Token])>
+pub fn above(tokens: &[Token]) -> Option<(Literal, &[Token])>
     ensures { MatchOption result (above_read (terminals tokens.now) ≡ None) (λ r. above_read (terminals tokens.now) ≡ Some (r.0, terminals r.1.now)) }
 {
     let Some(start) = after(tokens, Mark::Minus) else {
@@ -85,7 +85,7 @@ fn negated(number: Literal) -> Literal
 
 /// `/` and a number; 1 where that is left out.
 #[tactic(auto, using(crate::proofs::Options::options))]
-fn below(tokens: &[Token]) -> Option<(Literal, &[Token])>
+pub fn below(tokens: &[Token]) -> Option<(Literal, &[Token])>
     ensures { MatchOption result (below_read (terminals tokens.now) ≡ None) (λ r. below_read (terminals tokens.now) ≡ Some (r.0, terminals r.1.now)) }
 {
     match after(tokens, Mark::Slash) {

@@ -7,7 +7,9 @@ ghost use Rattle.redlog_reader.specs.Grammar.{setting_of};
 ghost use Rattle.redlog_reader.specs.Reader.{pointed_read, result_from, result_read, is_any, anys_read, context_read, ignored_read, assumed_read, action_from, named_from, action_read, alone, ending, statement_read};
 ghost use Rattle.redlog_reader.specs.Reading.{Refuses};
 
-use crate::argument::{FORMULA, PRIME, argument, atoms, formula};
+use crate::argument::{AtomKind, FORMULA, PRIME, argument, atoms, formula};
+use crate::constraints::{constraints, multiplied};
+use crate::grid::grid;
 use crate::peek::{after, name, next};
 use crate::point::point;
 use crate::setting::setting_of;
@@ -107,6 +109,24 @@ fn action_from<'a>(
             let action = say(alloc, Command::Sample(formula, entries))?;
             Ok((action, rest))
         }
+        Word::Grid => {
+            let (formula, axes, rest) = grid(alloc, rest)?;
+            let action = say(alloc, Command::Grid(formula, axes))?;
+            Ok((action, rest))
+        }
+        Word::Cert => {
+            let (constraints, rest) = constraints(alloc, rest)?;
+            let action = say(alloc, Command::Certify(Formulas::of(constraints)))?;
+            Ok((action, rest))
+        }
+        Word::Check => {
+            let (constraints, multipliers, rest) = multiplied(alloc, rest)?;
+            let action = say(
+                alloc,
+                Command::Check(Formulas::of(constraints), multipliers),
+            )?;
+            Ok((action, rest))
+        }
         _ => {
             let (command, rest) = result_from(alloc, word, rest, tokens)?;
             let action = say(alloc, command)?;
@@ -178,7 +198,7 @@ fn assumed(alloc: Global, tokens: &[Token]) -> Result<(Action, &[Token]), ReadEr
     ensures read { IfOk result (λ r. assumed_read (terminals tokens.now) ≡ Some (action_tree r.0, terminals r.1.now)) }
     ensures refused { IfErr result (λ e. Refuses e (assumed_read (terminals tokens.now) ≡ None)) }
 {
-    let (given, rest) = atoms(alloc, tokens)?;
+    let (given, rest) = atoms(alloc, AtomKind::Any, tokens)?;
     Ok((Action::Assume(Formulas::of(given)), rest))
 }
 

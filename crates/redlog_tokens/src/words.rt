@@ -41,12 +41,12 @@ const OF_FIVE: [Entry; 10] = [
     ("rlopt", Word::Other),
 ];
 
-const OF_SIX: [Entry; 2] = [("rlgrid", Word::Other), ("rlcert", Word::Other)];
+const OF_SIX: [Entry; 2] = [("rlgrid", Word::Grid), ("rlcert", Word::Cert)];
 
 const OF_SEVEN: [Entry; 3] = [
     ("rlsimpl", Word::Simpl),
     ("rlholds", Word::Holds),
-    ("rlcheck", Word::Other),
+    ("rlcheck", Word::Check),
 ];
 
 const OF_EIGHT: [Entry; 1] = [("rlassume", Word::Assume)];

@@ -1,7 +1,9 @@
 -- Statements as plain trees.
 use Rattle.std.specs.Prelude.{Bool, List, ℕ}
+use Rattle.qe_syntax.specs.declared.tree.Literal.{Literal}
 use Rattle.qe_syntax.specs.Trees.{FormulaTree, FormulaTrees, formula_tree, formula_trees}
 use Rattle.statement_syntax.specs.declared.statement.Setting.{Setting}
+use Rattle.statement_syntax.specs.declared.grid.GridAxis.{GridAxis}
 use Rattle.qe_syntax.specs.declared.entries.PointEntry.{PointEntry}
 use Rattle.statement_syntax.specs.declared.statement.Command as code
 use Rattle.statement_syntax.specs.declared.statement.Command.TheVariants as command
@@ -21,6 +23,9 @@ pub data CommandTree : Type 0 where
   Qea : FormulaTree → FormulaTrees → CommandTree
   Holds : FormulaTree → List PointEntry → CommandTree
   Sample : FormulaTree → List PointEntry → CommandTree
+  Grid : FormulaTree → List GridAxis → CommandTree
+  Certify : FormulaTrees → CommandTree
+  Check : FormulaTrees → List Literal → CommandTree
 
 -- what a statement does
 pub data ActionTree : Type 0 where
@@ -50,6 +55,9 @@ command_tree (command.Qe f given) = Qe (formula_tree f) (formula_trees given)
 command_tree (command.Qea f given) = Qea (formula_tree f) (formula_trees given)
 command_tree (command.Holds f entries) = Holds (formula_tree f) entries
 command_tree (command.Sample f entries) = Sample (formula_tree f) entries
+command_tree (command.Grid f axes) = Grid (formula_tree f) axes
+command_tree (command.Certify constraints) = Certify (formula_trees constraints)
+command_tree (command.Check constraints multipliers) = Check (formula_trees constraints) multipliers
 
 -- the tree of an action
 abbrev pub action_tree : acts.Action → ActionTree

@@ -1,9 +1,35 @@
 -- What the reader gives: statements whose formulas and entries are proper, with names that a script can write.
+use Rattle.std.specs.Prelude.{List}
+use Rattle.std.specs.List.{AllByRecursion}
+use Rattle.qe_syntax.specs.declared.tree.Literal.{Literal}
 use Rattle.qe_syntax.specs.Names.{IsVariable}
+use Rattle.qe_syntax.specs.Proper.{IsNumeral, IsSigned}
 use Rattle.qe_syntax.specs.Writable.{IsWritableFormula, AreWritableFormulas, AreWritableEntries}
-use Rattle.statement_syntax.specs.Statements.{CommandTree, Echo, Nnf, Pnf, Dnf, Cnf, Simpl, Qe, Qea, Holds, Sample, ActionTree, Empty, Ignored, Finish, Choose, Say, Assign, Assume, Retract, StatementTree}
+use Rattle.statement_syntax.specs.declared.grid.Ratio.{Ratio}
+use Rattle.statement_syntax.specs.declared.grid.GridAxis.{GridAxis}
+use Rattle.statement_syntax.specs.Constraints.{AreConstraints}
+use Rattle.statement_syntax.specs.Statements.{CommandTree, Echo, Nnf, Pnf, Dnf, Cnf, Simpl, Qe, Qea, Holds, Sample, Grid, Certify, Check, ActionTree, Empty, Ignored, Finish, Choose, Say, Assign, Assume, Retract, StatementTree}
 
--- each formula and each entry of the command can be written
+-- numbers within the limit, where they fit, with no sign below
+pub record IsWritableRatio (r : Ratio) : Type 0 where
+  pub above : IsSigned r.above
+  pub below : IsNumeral r.below
+
+-- three such fractions, for a name of a variable
+pub record IsWritableAxis (a : GridAxis) : Type 0 where
+  pub name : IsVariable a.name
+  pub low : IsWritableRatio a.low
+  pub high : IsWritableRatio a.high
+  pub step : IsWritableRatio a.step
+
+abbrev pub AreWritableAxes : List GridAxis → Type 0
+AreWritableAxes = AllByRecursion IsWritableAxis
+
+-- numbers within the limit, where they fit
+abbrev pub AreWritableNumbers : List Literal → Type 0
+AreWritableNumbers = AllByRecursion IsSigned
+
+-- each formula, each entry, each axis and each number of the command can be written, and constraints are constraints
 abbrev pub IsWritableCommand : CommandTree → Type 0
 IsWritableCommand (Echo f) = IsWritableFormula f
 IsWritableCommand (Nnf f) = IsWritableFormula f
@@ -15,6 +41,9 @@ IsWritableCommand (Qe f given) = IsWritableFormula f × AreWritableFormulas give
 IsWritableCommand (Qea f given) = IsWritableFormula f × AreWritableFormulas given
 IsWritableCommand (Holds f entries) = IsWritableFormula f × AreWritableEntries entries
 IsWritableCommand (Sample f entries) = IsWritableFormula f × AreWritableEntries entries
+IsWritableCommand (Grid f axes) = IsWritableFormula f × AreWritableAxes axes
+IsWritableCommand (Certify constraints) = AreWritableFormulas constraints × AreConstraints constraints
+IsWritableCommand (Check constraints multipliers) = (AreWritableFormulas constraints × AreConstraints constraints) × AreWritableNumbers multipliers
 
 -- the command of the action can be written, if it has one, and so can its name and its atoms
 abbrev pub IsWritableAction : ActionTree → Type 0

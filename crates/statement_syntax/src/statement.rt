@@ -1,3 +1,5 @@
+use crate::grid::GridAxes;
+use crate::literals::Literals;
 use qe_syntax::{Entries, Formula, Formulas, Name};
 
 /// The two theories as a script names them.
@@ -20,6 +22,11 @@ pub enum Command {
     Qea(Formula, Formulas),
     Holds(Formula, Entries),
     Sample(Formula, Entries),
+    Grid(Formula, GridAxes),
+    /// Asks for a point that meets the constraints, or for multipliers by which none does.
+    Certify(Formulas),
+    /// Asks whether the multipliers prove that no point meets the constraints.
+    Check(Formulas, Literals),
 }
 
 /// What a statement does. A command is kept in a box, since a formula is large.

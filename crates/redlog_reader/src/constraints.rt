@@ -1,0 +1,91 @@
+ghost use Rattle.std.specs.Prelude.{◌≡◌, map, IfOk, IfErr, Some, None};
+ghost use Rattle.qe_syntax.specs.Trees.{formula_tree};
+ghost use Rattle.redlog_tokens.specs.Terminals.{terminals};
+ghost use Rattle.redlog_reader.specs.Reader.{above_read, items_read, braced_read, certified_read, checked_read};
+ghost use Rattle.redlog_reader.specs.Reading.{Refuses};
+
+use crate::argument::{AtomKind, atoms};
+use crate::peek::after;
+use crate::point::above;
+use qe_syntax::{Formula, Literal};
+use redlog_tokens::{Mark, ReadError, Token};
+use statement_syntax::Literals;
+use std::alloc::Global;
+
+/// Constraints in brackets.
+#[tactic(auto, using(crate::proofs::Options::options))]
+pub fn constraints(alloc: Global, tokens: &[Token]) -> Result<(Vec<Formula>, &[Token]), ReadError>
+    ensures read { IfOk result (λ r. certified_read (terminals tokens.now) ≡ Some (map formula_tree r.0.items, terminals r.1.now)) }
+    ensures refused { IfErr result (λ e. Refuses e (certified_read (terminals tokens.now) ≡ None)) }
+{
+    let Some(start) = after(tokens, Mark::Open) else {
+        return Err(ReadError::Syntax);
+    };
+    let (constraints, end) = atoms(alloc, AtomKind::Constraint, start)?;
+    let Some(rest) = after(end, Mark::Close) else {
+        return Err(ReadError::Syntax);
+    };
+    Ok((constraints, rest))
+}
+
+/// Constraints and multipliers in brackets.
+#[tactic(auto, using(crate::proofs::Options::options))]
+pub fn multiplied(
+    alloc: Global,
+    tokens: &[Token],
+) -> Result<(Vec<Formula>, Literals, &[Token]), ReadError>
+    ensures read { IfOk result (λ r. checked_read (terminals tokens.now) ≡ Some ((map formula_tree r.0.items, r.1), terminals r.2.now)) }
+    ensures refused { IfErr result (λ e. Refuses e (checked_read (terminals tokens.now) ≡ None)) }
+{
+    let Some(start) = after(tokens, Mark::Open) else {
+        return Err(ReadError::Syntax);
+    };
+    let (constraints, comma) = atoms(alloc, AtomKind::Constraint, start)?;
+    let Some(middle) = after(comma, Mark::Comma) else {
+        return Err(ReadError::Syntax);
+    };
+    let (multipliers, end) = multipliers(alloc, middle)?;
+    let Some(rest) = after(end, Mark::Close) else {
+        return Err(ReadError::Syntax);
+    };
+    Ok((constraints, multipliers, rest))
+}
+
+/// Whole numbers in braces.
+#[tactic(auto, using(crate::proofs::Options::options))]
+fn multipliers(alloc: Global, tokens: &[Token]) -> Result<(Literals, &[Token]), ReadError>
+    ensures read { IfOk result (λ r. braced_read above_read (terminals tokens.now) ≡ Some (r.0, terminals r.1.now)) }
+    ensures refused { IfErr result (λ e. Refuses e (braced_read above_read (terminals tokens.now) ≡ None)) }
+{
+    let Some(start) = after(tokens, Mark::OpenBrace) else {
+        return Err(ReadError::Syntax);
+    };
+    if let Some(rest) = after(start, Mark::CloseBrace) {
+        return Ok((Literals::of(Vec::new(alloc)), rest));
+    }
+    let (numbers, end) = numbers(alloc, start)?;
+    let Some(rest) = after(end, Mark::CloseBrace) else {
+        return Err(ReadError::Syntax);
+    };
+    Ok((Literals::of(numbers), rest))
+}
+
+/// One whole number or more, with commas between them.
+#[tactic(auto, using(crate::proofs::Items::wholes))]
+fn numbers(alloc: Global, tokens: &[Token]) -> Result<(Vec<Literal>, &[Token]), ReadError>
+    ensures read { IfOk result (λ r. items_read above_read (terminals tokens.now) ≡ Some (r.0.items, terminals r.1.now)) }
+    ensures refused { IfErr result (λ e. Refuses e (items_read above_read (terminals tokens.now) ≡ None)) }
+{
+    let mut numbers = Vec::new(alloc);
+    let mut start = tokens;
+    'numbers: loop {
+        let Some((number, rest)) = above(start) else {
+            return Err(ReadError::Syntax);
+        };
+        numbers.push(number)?;
+        let Some(more) = after(rest, Mark::Comma) else {
+            return Ok((numbers, rest));
+        };
+        start = more;
+    }
+}

@@ -1,0 +1,25 @@
+-- Which formulas are constraints: comparisons of two terms, but for <>.
+use Rattle.std.specs.Prelude.{◌≡◌, Bool, true, false}
+use Rattle.formula_meaning.specs.Formula.{One, none, also}
+use Rattle.qe_syntax.specs.declared.tree.Relation.{Relation}
+use Rattle.qe_syntax.specs.declared.tree.Relation.TheVariants.{Equal, Differs, Less, AtMost, Greater, AtLeast}
+use Rattle.qe_syntax.specs.Trees.{Compare, FormulaTree, FormulaTrees}
+
+-- each relation but <>
+abbrev pub bounds : Relation → Bool
+bounds Equal = true
+bounds Differs = false
+bounds Less = true
+bounds AtMost = true
+bounds Greater = true
+bounds AtLeast = true
+
+-- a comparison by such a relation
+abbrev pub is_constraint : FormulaTree → Bool
+is_constraint (One (Compare r s t)) = bounds r
+is_constraint f = false
+
+-- each of the formulas is one
+abbrev pub AreConstraints : FormulaTrees → Type 0
+AreConstraints none = Unit {0}
+AreConstraints (also f fs) = (is_constraint f ≡ true) × AreConstraints fs
