@@ -9,7 +9,7 @@ before_long = refl
 
 -- causes in reading come before the point
 before_point : before error.Point
-    ≡ error.Long ∷ error.Lexical ∷ error.Nesting ∷ error.Syntax ∷ error.Unbound ∷ error.FormulaAsTerm ∷ error.Nonlinear ∷ error.Division ∷ error.CongruenceContext ∷ error.Modulus ∷ error.Depth ∷ []
+    ≡ error.Long ∷ error.Lexical ∷ error.Nesting ∷ error.Syntax ∷ error.Unbound ∷ error.FormulaAsTerm ∷ error.Nonlinear ∷ error.Division ∷ error.CongruenceContext ∷ error.Context ∷ error.Modulus ∷ error.Depth ∷ []
 before_point = refl
 
 -- but for an overflow, which comes before what is counted

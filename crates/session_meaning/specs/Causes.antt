@@ -56,6 +56,7 @@ module _ (m : Meaning) (s : State) (limit : ℕ) (u : Use) where
   IsCause error.Nonlinear = SomeFormula (IsNonlinear s.context (place s.names)) m.formulas
   IsCause error.Division = SomeFormula (Divides s.context (place s.names)) m.formulas
   IsCause error.CongruenceContext = SomeFormula (CongruenceInFields s.context) m.formulas
+  IsCause error.Context = m.must.context s limit
   IsCause error.Modulus = SomeFormula (IsBadModulus s.context (place s.names)) m.formulas
   IsCause error.Depth = SomeFormula (IsTooDeep s.bound) m.formulas
   IsCause error.Point = m.must.point s limit
@@ -78,6 +79,7 @@ module _ (m : Meaning) (s : State) (limit : ℕ) (u : Use) where
   MayBeCause error.Nonlinear = ⊥
   MayBeCause error.Division = ⊥
   MayBeCause error.CongruenceContext = ⊥
+  MayBeCause error.Context = m.may.context s limit
   MayBeCause error.Modulus = ⊥
   MayBeCause error.Depth = ⊥
   MayBeCause error.Point = m.may.point s limit

@@ -6,6 +6,9 @@ pub mod FormulaAnswers
 pub mod Points
 pub mod Cases
 pub mod Samples
+pub mod Places
+pub mod Grids
+pub mod Certificates
 pub mod Uses
 pub mod Meaning
 pub mod Causes

@@ -4,6 +4,7 @@ use Rattle.std.specs.Prelude.{◌≡◌, ◌⊎◌, ◌*◌, ◌<◌, ◌≤◌,
 use Rattle.std.specs.List.{fold}
 use Rattle.formula_meaning.specs.declared.junction.Junction.{Junction}
 use Rattle.formula_meaning.specs.declared.junction.Junction.TheVariants.{Conjunction, Disjunction}
+use Rattle.formula_meaning.specs.Context.{Integers}
 use Rattle.formula_meaning.specs.Every.{Every}
 use Rattle.formula_meaning.specs.Formula.{none, also}
 use Rattle.formula_meaning.specs.Numbers.{IsAtomInLimit}
@@ -18,7 +19,8 @@ use Rattle.sample_reference.specs.Sample.{reference_sample}
 use Rattle.sample_reference.specs.Values.{Value}
 use Rattle.qe_syntax.specs.declared.entries.PointEntry.{PointEntry}
 use Rattle.qe_syntax.specs.Point.{PassesLimit, IsPointOf}
-use Rattle.statement_syntax.specs.Statements.{CommandTree, Echo, Nnf, Pnf, Dnf, Cnf, Simpl, Qe, Qea, Holds, Sample}
+use Rattle.statement_syntax.specs.Statements.{CommandTree, Echo, Nnf, Pnf, Dnf, Cnf, Simpl, Qe, Qea, Holds, Sample, Grid, Certify, Check}
+use Rattle.statement_syntax.specs.declared.grid.GridAxis.{GridAxis}
 use Rattle.qe_syntax.specs.Trees.{FormulaTree, FormulaTrees}
 use Rattle.qe_syntax.specs.Value.{NamedPoint}
 use Rattle.formula_tree.specs.Names.{with_name}
@@ -34,7 +36,10 @@ use Rattle.session_meaning.specs.Uses.{Use, IsDirectUse}
 use Rattle.session_meaning.specs.FormulaAnswers.{negated_of, IsPrenexAnswer, HasNewNames, IsSimplification, IsCleanAnswer, IsCondition}
 use Rattle.session_meaning.specs.Points.{MeanNoPoint, HasUnvalued, IsQuantified, TruthPasses, IsTruth}
 use Rattle.session_meaning.specs.Cases.{IsCaseAnswer}
+use Rattle.fourier_motzkin.specs.Search.{Certificate}
 use Rattle.session_meaning.specs.Samples.{IsSampleAnswer, sample_text}
+use Rattle.session_meaning.specs.Grids.{lows, MeanNoGrid, PassesGrid, HasTooManyPoints, TruthsPass, IsGridAnswer, grid_text}
+use Rattle.session_meaning.specs.Certificates.{SearchStops, IsCertificateAnswer, certificate_text, HasLongCertificate, CheckPasses, IsCheckAnswer}
 
 -- ---- meanings
 
@@ -44,6 +49,7 @@ Fact = State → ℕ → Type 0
 
 -- the causes of a refusal that are a command's own; `text` is one where the line is printed
 pub record OwnCauses : Type 1 where
+  pub context : Fact
   pub point : Fact
   pub unvalued : Fact
   pub quantified : Fact
@@ -114,7 +120,7 @@ abbrev pub never : Fact
 never s limit = ⊥
 
 abbrev pub no_causes : OwnCauses
-no_causes = record { point = never; unvalued = never; quantified = never; overflow = never; nodes = never; text = never }
+no_causes = record { context = never; point = never; unvalued = never; quantified = never; overflow = never; nodes = never; text = never }
 
 -- a computation that stops
 abbrev pub stops : (Stop → Fact) → OwnCauses
@@ -145,6 +151,18 @@ at_point f es may tells = record (of_formula f none may (OfText tells)) {
     unvalued = λ s limit. HasUnvalued s.bound (place s.names) f es;
     overflow = λ s limit. PassesLimit es;
   };
+}
+
+-- a command about linear constraints over the ordered fields
+abbrev pub of_constraints : FormulaTrees → OwnCauses → (State → ℕ → List ℕ → Type 0) → Meaning
+of_constraints written must tells = record {
+  formulas = written;
+  further = [];
+  must = record must { context = λ s limit. s.context ≡ Integers };
+  may = no_causes;
+  spared = λ s limit u. ⊥;
+  names = λ s names. names ≡ s.names;
+  answer = OfText tells;
 }
 
 -- a command that gives a clean form: the places of atoms of the plain form are counted
@@ -206,6 +224,18 @@ meaning (Qea f given) = of_formula f given (record (stops (CasesStop f)) { text 
 meaning (Holds f es) = at_point f es (record (stops (TruthStops f es)) { overflow = λ s limit. ValuePasses f es s limit ⊎ TruthStops f es Overflow s limit })
     (λ s limit text. (answer : Bool) × IsTruth s f es answer × (text ≡ truth_text answer))
 meaning (Sample f es) = at_point f es (stops (SampleStops f es)) (λ s limit text. (sample : Option (List Value)) × IsSampleAnswer s f es sample × (text ≡ sample_text s.names sample))
+meaning (Grid f axes) = record (of_formula f none (record no_causes { overflow = λ s limit. TruthsPass s f axes }) (OfText (λ s limit text. (truths : List Bool) × IsGridAnswer s f axes truths × (text ≡ grid_text truths)))) {
+  further = map (λ (e : PointEntry). e.name) (lows axes);
+  must = record no_causes {
+    point = λ s limit. MeanNoGrid s.context axes;
+    unvalued = λ s limit. HasUnvalued s.bound (place s.names) f (lows axes);
+    quantified = λ s limit. IsQuantified s.bound f;
+    overflow = λ s limit. PassesGrid (place s.names) axes;
+    nodes = λ s limit. HasTooManyPoints (place s.names) axes;
+  };
+}
+meaning (Certify written) = of_constraints written (record (stops (SearchStops written)) { text = HasLongCertificate written }) (λ s limit text. (found : Certificate) × IsCertificateAnswer s limit written found × (text ≡ certificate_text s.names found))
+meaning (Check written ms) = of_constraints written (record no_causes { overflow = CheckPasses written ms }) (λ s limit text. (answer : Bool) × IsCheckAnswer s written ms answer × (text ≡ truth_text answer))
 
 -- what assumptions mean that are to stand: the line has them behind those that stand already
 abbrev pub assumption_meaning : FormulaTrees → Meaning

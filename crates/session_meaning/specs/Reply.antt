@@ -106,6 +106,7 @@ IsRefused s limit piece next error.FormulaAsTerm = (next ≡ s) × SpellsRefused
 IsRefused s limit piece next error.Nonlinear = (next ≡ s) × SpellsRefused s limit piece error.Nonlinear
 IsRefused s limit piece next error.Division = (next ≡ s) × SpellsRefused s limit piece error.Division
 IsRefused s limit piece next error.CongruenceContext = (next ≡ s) × SpellsRefused s limit piece error.CongruenceContext
+IsRefused s limit piece next error.Context = (next ≡ s) × SpellsRefused s limit piece error.Context
 IsRefused s limit piece next error.Modulus = (next ≡ s) × SpellsRefused s limit piece error.Modulus
 IsRefused s limit piece next error.Depth = (next ≡ s) × SpellsRefused s limit piece error.Depth
 IsRefused s limit piece next error.Point = (next ≡ s) × SpellsRefused s limit piece error.Point

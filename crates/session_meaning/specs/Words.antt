@@ -15,6 +15,7 @@ word_of error.FormulaAsTerm = codes "formula-as-term"
 word_of error.Nonlinear = codes "nonlinear"
 word_of error.Division = codes "division"
 word_of error.CongruenceContext = codes "congruence-context"
+word_of error.Context = codes "context"
 word_of error.Modulus = codes "modulus"
 word_of error.Depth = codes "depth"
 word_of error.Point = codes "point"
@@ -38,6 +39,7 @@ order =
     ∷ error.Nonlinear
     ∷ error.Division
     ∷ error.CongruenceContext
+    ∷ error.Context
     ∷ error.Modulus
     ∷ error.Depth
     ∷ error.Point

@@ -35,6 +35,8 @@ pub enum StatementError {
     Division,
     #[error("congruence-context")]
     CongruenceContext,
+    #[error("context")]
+    Context,
     #[error("modulus")]
     Modulus,
     #[error("depth")]
@@ -72,6 +74,7 @@ impl StatementError {
             StatementError::Nonlinear => "nonlinear",
             StatementError::Division => "division",
             StatementError::CongruenceContext => "congruence-context",
+            StatementError::Context => "context",
             StatementError::Modulus => "modulus",
             StatementError::Depth => "depth",
             StatementError::Point => "point",
