@@ -1,5 +1,5 @@
 -- Linear constraints as they are written: a point that meets them all, or multipliers by which none does.
-use Rattle.std.specs.Prelude.{◌≡◌, ◌⊎◌, ◌↔◌, ¬_, ℕ, ◌<◌, ℤ, pos, negsuc, List, [], ◌∷◌, ◌++◌, Bool, true, IsTrue, codes, length, map}
+use Rattle.std.specs.Prelude.{◌≡◌, ◌⊎◌, ◌↔◌, ℕ, ◌<◌, ℤ, pos, negsuc, List, [], ◌∷◌, ◌++◌, Bool, true, IsTrue, codes, length, map}
 use Rattle.std.specs.List.{fold}
 use Rattle.exact_numbers.specs.Frac.{whole_frac}
 use Rattle.formula_meaning.specs.Atom.{Atom, Compare, Congruent, Equals, Differs, Below, AtMost, Above, AtLeast}
