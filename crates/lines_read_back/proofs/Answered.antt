@@ -71,7 +71,7 @@ module _ (s : State) (limit : ℕ) (t : Tree) (bare : IsBare s) (own : IsOwnForm
 
   none_counted : HasNone of_line s limit use_of_line (before error.Nodes)
   none_counted =
-      readable_below of_line s limit use_of_line (back.resolved.same_names, tt) (record { further = refl; point = λ h. h; unvalued = λ h. h; nodes = λ h. h }) (accepted, tt) (λ h. h) (λ h. h)
+      readable_below of_line s limit use_of_line (back.resolved.same_names, tt) (record { further = refl; context = λ h. h; point = λ h. h; unvalued = λ h. h; nodes = λ h. h }) (accepted, tt) (λ h. h) (λ h. h)
 
   none_applies : IsAccepted of_line s limit use_of_line
   none_applies =

@@ -79,7 +79,7 @@ module _ (s : State) (f : FormulaTree) (gs : FormulaTrees) (numbers : AreNumbere
   said = use_of None printed
 
   plain : HasNoPoint asked s limit
-  plain = record { further = refl; point = λ h. h; unvalued = λ h. h; nodes = λ h. h }
+  plain = record { further = refl; context = λ h. h; point = λ h. h; unvalued = λ h. h; nodes = λ h. h }
 
   pub cases_unread : (e : StatementError) → AreUnread s (also f gs) e → Refuses s limit said (Qea f gs) e
   cases_unread e h other = unread_refuses asked s limit said numbers plain e (λ o q. q) h other

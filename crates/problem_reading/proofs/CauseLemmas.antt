@@ -58,15 +58,16 @@ module _ (m : Meaning) (s : State) (limit : ℕ) (u : Use) where
   no_cause h error.Nonlinear k = h.1.1.1.1.1.1.0 k
   no_cause h error.Division k = h.1.1.1.1.1.1.1.0 k
   no_cause h error.CongruenceContext k = h.1.1.1.1.1.1.1.1.0 k
-  no_cause h error.Modulus k = h.1.1.1.1.1.1.1.1.1.0 k
-  no_cause h error.Depth k = h.1.1.1.1.1.1.1.1.1.1.0 k
-  no_cause h error.Point k = h.1.1.1.1.1.1.1.1.1.1.1.0 k
-  no_cause h error.Unvalued k = h.1.1.1.1.1.1.1.1.1.1.1.1.0 k
-  no_cause h error.Quantified k = h.1.1.1.1.1.1.1.1.1.1.1.1.1.0 k
-  no_cause h error.Overflow k = h.1.1.1.1.1.1.1.1.1.1.1.1.1.1.0 k
-  no_cause h error.Nodes k = h.1.1.1.1.1.1.1.1.1.1.1.1.1.1.1.0 k
-  no_cause h error.Bindings k = h.1.1.1.1.1.1.1.1.1.1.1.1.1.1.1.1.0 k
-  no_cause h error.Text k = h.1.1.1.1.1.1.1.1.1.1.1.1.1.1.1.1.1.0 k
+  no_cause h error.Context k = h.1.1.1.1.1.1.1.1.1.0 k
+  no_cause h error.Modulus k = h.1.1.1.1.1.1.1.1.1.1.0 k
+  no_cause h error.Depth k = h.1.1.1.1.1.1.1.1.1.1.1.0 k
+  no_cause h error.Point k = h.1.1.1.1.1.1.1.1.1.1.1.1.0 k
+  no_cause h error.Unvalued k = h.1.1.1.1.1.1.1.1.1.1.1.1.1.0 k
+  no_cause h error.Quantified k = h.1.1.1.1.1.1.1.1.1.1.1.1.1.1.0 k
+  no_cause h error.Overflow k = h.1.1.1.1.1.1.1.1.1.1.1.1.1.1.1.0 k
+  no_cause h error.Nodes k = h.1.1.1.1.1.1.1.1.1.1.1.1.1.1.1.1.0 k
+  no_cause h error.Bindings k = h.1.1.1.1.1.1.1.1.1.1.1.1.1.1.1.1.1.0 k
+  no_cause h error.Text k = h.1.1.1.1.1.1.1.1.1.1.1.1.1.1.1.1.1.1.0 k
   no_cause h error.Memory k = k
 
   to_long : HasNone m s limit u (before error.Long)
@@ -130,29 +131,34 @@ module _ (m : Meaning) (s : State) (limit : ℕ) (u : Use) where
           let n = less static.Division static.CongruenceContext refl first in
           then_clear error.Division error.CongruenceContext refl (to_division n.0) (λ h. n.1 (after_here (λ ns. Divides s.context (place ns)) h))
 
-      to_modulus : HasNoEarlier s m.formulas static.Modulus → HasNone m s limit u (before error.Modulus)
-      to_modulus first = let n = less static.CongruenceContext static.Modulus refl first in then_clear error.CongruenceContext error.Modulus refl (to_congruence n.0) n.1
+      to_context : HasNoEarlier s m.formulas static.Modulus → HasNone m s limit u (before error.Context)
+      to_context first = let n = less static.CongruenceContext static.Modulus refl first in then_clear error.CongruenceContext error.Context refl (to_congruence n.0) n.1
 
-      to_depth : HasNoEarlier s m.formulas static.Depth → HasNone m s limit u (before error.Depth)
-      to_depth first =
-          let n = less static.Modulus static.Depth refl first in
-          then_clear error.Modulus error.Depth refl (to_modulus n.0) (λ h. n.1 (after_here (λ ns. IsBadModulus s.context (place ns)) h))
+      module _ (suits : ¬ (m.must.context s limit)) where
+        to_modulus : HasNoEarlier s m.formulas static.Modulus → HasNone m s limit u (before error.Modulus)
+        to_modulus first = then_clear error.Context error.Modulus refl (to_context first) suits
 
-      -- where no cause in reading applies but an overflow, none before the point does
-      pub to_point : HasNoEarlier s m.formulas static.Overflow → HasNone m s limit u (before error.Point)
-      to_point first = let n = less static.Depth static.Overflow refl first in then_clear error.Depth error.Point refl (to_depth n.0) n.1
+        to_depth : HasNoEarlier s m.formulas static.Depth → HasNone m s limit u (before error.Depth)
+        to_depth first =
+            let n = less static.Modulus static.Depth refl first in
+            then_clear error.Modulus error.Depth refl (to_modulus n.0) (λ h. n.1 (after_here (λ ns. IsBadModulus s.context (place ns)) h))
 
-    -- the first cause in reading is the first of all, where it is no overflow, and from the second on no further name is bound
-    pub first_in_reading : (d : StaticError) → IsBefore d static.Overflow → IsFirstAmong s m.formulas d → (IsBefore static.FormulaAsTerm d → ¬ Further) → IsFirst m s limit u (static_refusal d)
-    first_in_reading static.Unbound l h free = record { applies = inl (cause_of_reading static.Unbound h.applies (λ e. absurd (cc (e)))); first = to_unbound }
-    first_in_reading static.FormulaAsTerm l h free = record { applies = inl (cause_of_reading static.FormulaAsTerm h.applies (λ e. absurd (cc (e)))); first = to_term h.first }
-    first_in_reading static.Nonlinear l h free = record { applies = inl (cause_of_reading static.Nonlinear h.applies (λ e. absurd (cc (e)))); first = to_nonlinear (free (inr (inl refl))) h.first }
-    first_in_reading static.Division l h free = record { applies = inl (cause_of_reading static.Division h.applies (λ e. absurd (cc (e)))); first = to_division (free (inr (inl refl))) h.first }
-    first_in_reading static.CongruenceContext l h free = record { applies = inl (cause_of_reading static.CongruenceContext h.applies (λ e. absurd (cc (e)))); first = to_congruence (free (inr (inl refl))) h.first }
-    first_in_reading static.Modulus l h free = record { applies = inl (cause_of_reading static.Modulus h.applies (λ e. absurd (cc (e)))); first = to_modulus (free (inr (inl refl))) h.first }
-    first_in_reading static.Depth l h free = record { applies = inl (cause_of_reading static.Depth h.applies (λ e. absurd (cc (e)))); first = to_depth (free (inr (inl refl))) h.first }
-    first_in_reading static.Overflow l h free = absurd (search rules)
-    first_in_reading static.Memory l h free = absurd (search rules)
+        -- where no cause in reading applies but an overflow, none before the point does
+        pub to_point : HasNoEarlier s m.formulas static.Overflow → HasNone m s limit u (before error.Point)
+        to_point first = let n = less static.Depth static.Overflow refl first in then_clear error.Depth error.Point refl (to_depth n.0) n.1
+
+    -- the first cause in reading is the first of all, where it is no overflow; from the second on no further name is bound, and behind congruences the theory is that of the command
+    pub first_in_reading : (d : StaticError) → IsBefore d static.Overflow → IsFirstAmong s m.formulas d → (IsBefore static.FormulaAsTerm d → ¬ Further) → (IsBefore static.CongruenceContext d → ¬ (m.must.context s limit))
+        → IsFirst m s limit u (static_refusal d)
+    first_in_reading static.Unbound l h free suits = record { applies = inl (cause_of_reading static.Unbound h.applies (λ e. absurd (cc (e)))); first = to_unbound }
+    first_in_reading static.FormulaAsTerm l h free suits = record { applies = inl (cause_of_reading static.FormulaAsTerm h.applies (λ e. absurd (cc (e)))); first = to_term h.first }
+    first_in_reading static.Nonlinear l h free suits = record { applies = inl (cause_of_reading static.Nonlinear h.applies (λ e. absurd (cc (e)))); first = to_nonlinear (free (inr (inl refl))) h.first }
+    first_in_reading static.Division l h free suits = record { applies = inl (cause_of_reading static.Division h.applies (λ e. absurd (cc (e)))); first = to_division (free (inr (inl refl))) h.first }
+    first_in_reading static.CongruenceContext l h free suits = record { applies = inl (cause_of_reading static.CongruenceContext h.applies (λ e. absurd (cc (e)))); first = to_congruence (free (inr (inl refl))) h.first }
+    first_in_reading static.Modulus l h free suits = record { applies = inl (cause_of_reading static.Modulus h.applies (λ e. absurd (cc (e)))); first = to_modulus (free (inr (inl refl))) (suits (inr (inr (inr (inr (inl refl)))))) h.first }
+    first_in_reading static.Depth l h free suits = record { applies = inl (cause_of_reading static.Depth h.applies (λ e. absurd (cc (e)))); first = to_depth (free (inr (inl refl))) (suits (inr (inr (inr (inr (inl refl)))))) h.first }
+    first_in_reading static.Overflow l h free suits = absurd (search rules)
+    first_in_reading static.Memory l h free suits = absurd (search rules)
 
     -- a further name that is bound is a cause beside the formulas that are named as terms
     pub bound_first : HasNoEarlier s m.formulas static.FormulaAsTerm → Further → IsFirst m s limit u error.FormulaAsTerm
@@ -183,6 +189,7 @@ readable_applies s fs h =
 -- the command has no point, and is not refused for what is counted wherever that applies
 pub record HasNoPoint (m : Meaning) (s : State) (limit : ℕ) : Type 0 where
   pub further : m.further ≡ []
+  pub context : ¬ (m.must.context s limit)
   pub point : ¬ (m.must.point s limit)
   pub unvalued : ¬ (m.must.unvalued s limit)
   pub nodes : ¬ (m.must.nodes s limit)
@@ -193,7 +200,7 @@ module _ (m : Meaning) (s : State) (limit : ℕ) (u : Use) (numbers : AreNumbere
 
   to_quantified : HasNoEarlier s m.formulas static.Overflow → HasNone m s limit u (before error.Quantified)
   to_quantified first =
-      let point = to_point m s limit u numbers no_further first in
+      let point = to_point m s limit u numbers no_further plain.context first in
       let unvalued = then_clear m s limit u error.Point error.Unvalued refl point plain.point in
       then_clear m s limit u error.Unvalued error.Quantified refl unvalued plain.unvalued
 
@@ -205,13 +212,13 @@ module _ (m : Meaning) (s : State) (limit : ℕ) (u : Use) (numbers : AreNumbere
   quantified_refuses h first = record { applies = inl h; first = to_quantified first }
 
   unread_one : (d : StaticError) → d ≢ static.Memory → (d ≡ static.Overflow → ¬ (m.must.quantified s limit)) → IsFirstAmong s m.formulas d → IsFirst m s limit u (static_refusal d)
-  unread_one static.Unbound other free h = first_in_reading m s limit u numbers static.Unbound (search rules) h (λ l. no_further)
-  unread_one static.FormulaAsTerm other free h = first_in_reading m s limit u numbers static.FormulaAsTerm (search rules) h (λ l. no_further)
-  unread_one static.Nonlinear other free h = first_in_reading m s limit u numbers static.Nonlinear (search rules) h (λ l. no_further)
-  unread_one static.Division other free h = first_in_reading m s limit u numbers static.Division (search rules) h (λ l. no_further)
-  unread_one static.CongruenceContext other free h = first_in_reading m s limit u numbers static.CongruenceContext (search rules) h (λ l. no_further)
-  unread_one static.Modulus other free h = first_in_reading m s limit u numbers static.Modulus (search rules) h (λ l. no_further)
-  unread_one static.Depth other free h = first_in_reading m s limit u numbers static.Depth (search rules) h (λ l. no_further)
+  unread_one static.Unbound other free h = first_in_reading m s limit u numbers static.Unbound (search rules) h (λ l. no_further) (λ l. plain.context)
+  unread_one static.FormulaAsTerm other free h = first_in_reading m s limit u numbers static.FormulaAsTerm (search rules) h (λ l. no_further) (λ l. plain.context)
+  unread_one static.Nonlinear other free h = first_in_reading m s limit u numbers static.Nonlinear (search rules) h (λ l. no_further) (λ l. plain.context)
+  unread_one static.Division other free h = first_in_reading m s limit u numbers static.Division (search rules) h (λ l. no_further) (λ l. plain.context)
+  unread_one static.CongruenceContext other free h = first_in_reading m s limit u numbers static.CongruenceContext (search rules) h (λ l. no_further) (λ l. plain.context)
+  unread_one static.Modulus other free h = first_in_reading m s limit u numbers static.Modulus (search rules) h (λ l. no_further) (λ l. plain.context)
+  unread_one static.Depth other free h = first_in_reading m s limit u numbers static.Depth (search rules) h (λ l. no_further) (λ l. plain.context)
   unread_one static.Overflow other free h = record { applies = inl (cause_of_reading m s limit u numbers static.Overflow h.applies other); first = to_overflow h.first (free refl) }
   unread_one static.Memory other free h = absurd (other refl)
 

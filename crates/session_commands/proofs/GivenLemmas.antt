@@ -80,13 +80,13 @@ parts_are (wanted.Simplified given) f X h = h
 parts_are (wanted.Eliminated found given) f X h = h
 
 plain_command : (w : FormCommand) (f : FormulaTree) (s : State) (limit : ℕ) → HasNoPoint (meaning (command_of w f)) s limit
-plain_command wanted.Resolved f s limit = record { further = refl; point = λ h. h; unvalued = λ h. h; nodes = λ h. h }
-plain_command wanted.NegationNormal f s limit = record { further = refl; point = λ h. h; unvalued = λ h. h; nodes = λ h. h }
-plain_command wanted.Prenex f s limit = record { further = refl; point = λ h. h; unvalued = λ h. h; nodes = λ h. h }
-plain_command (wanted.Distributed clause_form.Disjunctive) f s limit = record { further = refl; point = λ h. h; unvalued = λ h. h; nodes = λ h. h }
-plain_command (wanted.Distributed clause_form.Conjunctive) f s limit = record { further = refl; point = λ h. h; unvalued = λ h. h; nodes = λ h. h }
-plain_command (wanted.Simplified given) f s limit = record { further = refl; point = λ h. h; unvalued = λ h. h; nodes = λ h. h }
-plain_command (wanted.Eliminated found given) f s limit = record { further = refl; point = λ h. h; unvalued = λ h. h; nodes = λ h. h }
+plain_command wanted.Resolved f s limit = record { further = refl; context = λ h. h; point = λ h. h; unvalued = λ h. h; nodes = λ h. h }
+plain_command wanted.NegationNormal f s limit = record { further = refl; context = λ h. h; point = λ h. h; unvalued = λ h. h; nodes = λ h. h }
+plain_command wanted.Prenex f s limit = record { further = refl; context = λ h. h; point = λ h. h; unvalued = λ h. h; nodes = λ h. h }
+plain_command (wanted.Distributed clause_form.Disjunctive) f s limit = record { further = refl; context = λ h. h; point = λ h. h; unvalued = λ h. h; nodes = λ h. h }
+plain_command (wanted.Distributed clause_form.Conjunctive) f s limit = record { further = refl; context = λ h. h; point = λ h. h; unvalued = λ h. h; nodes = λ h. h }
+plain_command (wanted.Simplified given) f s limit = record { further = refl; context = λ h. h; point = λ h. h; unvalued = λ h. h; nodes = λ h. h }
+plain_command (wanted.Eliminated found given) f s limit = record { further = refl; context = λ h. h; point = λ h. h; unvalued = λ h. h; nodes = λ h. h }
 
 no_own_text : (w : FormCommand) (f : FormulaTree) (s : State) (limit : ℕ) → ¬ ((meaning (command_of w f)).must.text s limit)
 no_own_text wanted.Resolved f s limit = λ h. h

@@ -103,10 +103,10 @@ module _ (s : State) (given : FormulaTrees) (numbers : AreNumbered s.names given
   said = use_of None printed
 
   plain : HasNoPoint asked s limit
-  plain = record { further = refl; point = λ h. h; unvalued = λ h. h; nodes = λ h. h }
+  plain = record { further = refl; context = λ h. h; point = λ h. h; unvalued = λ h. h; nodes = λ h. h }
 
   pub all_unread : (e : StatementError) → AreUnread s given e → RefusesAssumptions given s printed e
-  all_unread e h other l = unread_refuses asked s l said numbers (record { further = refl; point = λ h. h; unvalued = λ h. h; nodes = λ h. h }) e (λ o q. q) h other
+  all_unread e h other l = unread_refuses asked s l said numbers (record { further = refl; context = λ h. h; point = λ h. h; unvalued = λ h. h; nodes = λ h. h }) e (λ o q. q) h other
 
   module _ (readable : AreReadable s given) where
     to_text : HasNone asked s limit said (before error.Text)
