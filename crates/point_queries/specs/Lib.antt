@@ -2,3 +2,4 @@ pub mod CaseLists
 pub mod Asked
 pub mod Truths
 pub mod SampleSteps
+pub mod GridSteps

@@ -81,7 +81,7 @@ pub fn asked(
 }
 
 /// The resolved formula, or `None` where its reading overflows.
-fn read(
+pub fn read(
     state: &mut SessionState,
     formula: &Formula,
     entries: &[PointEntry],
@@ -134,7 +134,7 @@ fn some_bound(entries: &[PointEntry], bindings: &Bindings<FormulaId>) -> bool
 
 /// The point that the entries mean, or `None` where one of its numbers passes the limit.
 #[tactic(auto, using(qe_syntax::proofs::WritableLemmas::writable))]
-fn meant_point(
+pub fn meant_point(
     alloc: Global,
     context: Context,
     entries: &[PointEntry],
@@ -162,7 +162,7 @@ fn is_whole(context: Context) -> bool
 }
 
 /// Whether each free name of the formula has an entry.
-fn check_valued(
+pub fn check_valued(
     state: &SessionState,
     formula: &Formula,
     entries: &[PointEntry],
