@@ -5,6 +5,6 @@ mod lines;
 mod refusals;
 mod workshop;
 
-pub use lines::{printed_line, text_of};
+pub use lines::{printed_line, text_of, text_of_truth};
 pub use refusals::{forms_refusal, measured_refusal, print_refusal, static_refusal};
 pub use workshop::Workshop;

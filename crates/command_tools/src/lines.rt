@@ -7,6 +7,7 @@ ghost use Rattle.formula_store.specs.Nodes.{tree, IsId};
 ghost use Rattle.redlog_printer.specs.Text.{tree_text};
 ghost use Rattle.redlog_printer.specs.Writing.{text_limit};
 ghost use Rattle.session_meaning.specs.Reply.{IsLine};
+ghost use Rattle.session_meaning.specs.Words.{truth_text};
 
 use crate::refusals::print_refusal;
 use formula_store::FormulaId;
@@ -42,5 +43,16 @@ pub fn text_of(state: &SessionState, id: FormulaId) -> Result<Vec<u8>, Statement
     match stored_text(state.alloc, &state.store, &state.names, id) {
         Ok(text) => Ok(text),
         Err(error) => Err(print_refusal(error)),
+    }
+}
+
+/// The text of a truth.
+pub fn text_of_truth(truth: bool) -> &'static [u8]
+    ensures { result.now ≡ truth_text truth }
+{
+    if truth {
+        b"true".as_slice()
+    } else {
+        b"false".as_slice()
     }
 }

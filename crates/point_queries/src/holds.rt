@@ -20,14 +20,13 @@ ghost use Rattle.command_tools.specs.Replies.{use_of, Refuses, IsQueryAnswer};
 ghost use Rattle.problem_reading.specs.Reading.{HasNumbers};
 ghost use Rattle.point_queries.specs.Asked.{HaveNumbers, AcceptsBoth};
 ghost use Rattle.session_meaning.specs.Meaning.{meaning, numbered};
-ghost use Rattle.session_meaning.specs.Words.{truth_text};
 ghost use Rattle.session_state.specs.Keeping.{state_of, IsSessionState};
 ghost use Rattle.session_meaning.specs.Points.{IsTruth};
 ghost use Rattle.session_state.specs.Growth.{KeepsState, GrowsState};
 ghost use Rattle.point_queries.specs.Truths.{RefusesTruth, ValueStop, EliminationStop};
 
 use crate::points::{asked, number_command, values_of};
-use command_tools::{Workshop, measured_refusal, printed_line};
+use command_tools::{Workshop, measured_refusal, printed_line, text_of_truth};
 use formula_store::{EvalStop, FormulaId};
 use free_names::is_quantified;
 use qe_parallel::Gate;
@@ -57,17 +56,6 @@ pub fn answer_holds<R: Threads + Sync, G: Gate + Sync>(
     number_command(formula, entries, &state.bindings, &mut state.names)?;
     let truth = truth(workshop, state, formula, entries)?;
     printed_line(state.alloc, text_of_truth(truth), printed)
-}
-
-/// The text of a truth.
-fn text_of_truth(truth: bool) -> &'static [u8]
-    ensures { result.now ≡ truth_text truth }
-{
-    if truth {
-        b"true".as_slice()
-    } else {
-        b"false".as_slice()
-    }
 }
 
 /// Whether the formula is true at the point, or the first cause of a refusal.

@@ -1,0 +1,133 @@
+//! A certificate of constraints: a point that meets them all, or multipliers by which none does.
+
+ghost use Rattle.std.specs.Prelude.{◌≡◌, None, IfOk, IfErr, OnOk, OnErr, map};
+ghost use Rattle.std.specs.List.{AllByRecursion};
+ghost use Rattle.linear_forms.specs.Values.{number_of};
+ghost use Rattle.qe_syntax.specs.Names.{IsVariable};
+ghost use Rattle.qe_syntax.specs.Trees.{formula_tree, formulas_of};
+ghost use Rattle.qe_syntax.specs.Writable.{AreWritableFormulas};
+ghost use Rattle.statement_syntax.specs.Constraints.{AreConstraints};
+ghost use Rattle.statement_syntax.specs.Statements.{Certify};
+ghost use Rattle.formula_tree.specs.Resolving.{place};
+ghost use Rattle.certificate_search.specs.Certificates.{certificate_of as meant_certificate, HasNumbersWithin};
+ghost use Rattle.session_meaning.specs.Certificates.{constrained_names, IsCertificateAnswer};
+ghost use Rattle.session_meaning.specs.Meaning.{meaning, numbered};
+ghost use Rattle.session_state.specs.Keeping.{state_of, IsSessionState};
+ghost use Rattle.session_state.specs.Growth.{KeepsState, GrowsState};
+ghost use Rattle.command_tools.specs.Replies.{use_of, Refuses, IsQueryAnswer};
+ghost use Rattle.problem_reading.specs.Reading.{AreNumbered};
+ghost use Rattle.certificate_queries.specs.Steps.{RefusesCertificate, AreReady, cert_refusal};
+
+use crate::constraints::constraints_of;
+use crate::lines::certificate_line;
+use certificate_search::{Certificate, certify};
+use farkas_cert::CertError;
+use formula_tree::Names;
+use linear_forms::VarId;
+use problem_reading::number_all;
+use qe_syntax::{Formula, Name};
+use session_meaning::{Line, StatementError};
+use session_state::SessionState;
+
+/// Answers with a certificate of the constraints, under a limit of rows. After an `Err` the names may have grown.
+pub fn answer_certificate(
+    limit: u64,
+    state: &mut SessionState,
+    written: &[Formula],
+    printed: bool,
+) -> Result<Line, StatementError>
+    requires proper { AreWritableFormulas (formulas_of (map formula_tree written.now)) }
+    requires constraints { AreConstraints (formulas_of (map formula_tree written.now)) }
+    requires session { IsSessionState state.old }
+    ensures session { OnOk result (IsSessionState state.new) }
+    ensures answer { IfOk result (IsQueryAnswer (numbered (meaning (Certify (formulas_of (map formula_tree written.now)))) (state_of state.old)) limit printed (Certify (formulas_of (map formula_tree written.now))) (state_of state.new).names) }
+    ensures next { OnOk result (state_of state.new ≡ numbered (meaning (Certify (formulas_of (map formula_tree written.now)))) (state_of state.old)) }
+    ensures refused { IfErr result (Refuses (numbered (meaning (Certify (formulas_of (map formula_tree written.now)))) (state_of state.old)) limit (use_of None printed) (Certify (formulas_of (map formula_tree written.now)))) }
+    ensures grown { OnErr result (GrowsState state.old state.new) }
+{
+    number_all(written, &state.bindings, &mut state.names)?;
+    answer_numbered(limit, state, written, printed)
+}
+
+/// Answers the command, whose variables have their numbers.
+fn answer_numbered(
+    limit: u64,
+    state: &mut SessionState,
+    written: &[Formula],
+    printed: bool,
+) -> Result<Line, StatementError>
+    requires proper { AreWritableFormulas (formulas_of (map formula_tree written.now)) }
+    requires constraints { AreConstraints (formulas_of (map formula_tree written.now)) }
+    requires session { IsSessionState state.old }
+    requires numbered { AreNumbered state.old.names (formulas_of (map formula_tree written.now)) }
+    ensures answer { IfOk result (IsQueryAnswer (state_of state.old) limit printed (Certify (formulas_of (map formula_tree written.now))) state.new.names) }
+    ensures refused { IfErr result (Refuses (state_of state.old) limit (use_of None printed) (Certify (formulas_of (map formula_tree written.now)))) }
+    ensures kept { KeepsState state.old state.new }
+{
+    let found = certificate_of(limit, state, written)?;
+    certificate_line(state, &found, printed)
+}
+
+/// The certificate, or the first cause of a refusal.
+fn certificate_of(
+    limit: u64,
+    state: &mut SessionState,
+    written: &[Formula],
+) -> Result<Certificate, StatementError>
+    requires proper { AreWritableFormulas (formulas_of (map formula_tree written.now)) }
+    requires constraints { AreConstraints (formulas_of (map formula_tree written.now)) }
+    requires session { IsSessionState state.old }
+    requires numbered { AreNumbered state.old.names (formulas_of (map formula_tree written.now)) }
+    ensures found { IfOk result (λ r. IsCertificateAnswer (state_of state.old) limit (formulas_of (map formula_tree written.now)) (meant_certificate r)) }
+    ensures within { IfOk result HasNumbersWithin }
+    ensures ready { OnOk result (AreReady (state_of state.old) (formulas_of (map formula_tree written.now))) }
+    ensures refused { IfErr result (RefusesCertificate (state_of state.old) limit (formulas_of (map formula_tree written.now))) }
+    ensures kept { KeepsState state.old state.new }
+{
+    let constraints = constraints_of(state, written)?;
+    let names = names_of(state, written)?;
+    match certify(state.alloc, &constraints, &names, limit) {
+        Ok(found) => Ok(found),
+        Err(error) => Err(refusal_of(error)),
+    }
+}
+
+/// The word for a search that is not finished.
+fn refusal_of(error: CertError) -> StatementError
+    ensures { result ≡ cert_refusal error }
+{
+    match error {
+        CertError::Overflow => StatementError::Overflow,
+        CertError::Nodes => StatementError::Nodes,
+        CertError::Memory => StatementError::Memory,
+    }
+}
+
+/// The numbers of the names of the constraints, in the order of their first places in the text.
+fn names_of(state: &SessionState, written: &[Formula]) -> Result<Vec<VarId>, StatementError>
+    requires { AreWritableFormulas (formulas_of (map formula_tree written.now)) }
+    ensures names { IfOk result (λ v. map number_of v.items ≡ constrained_names (state_of state.now) (formulas_of (map formula_tree written.now))) }
+    ensures memory { IfErr result (λ e. e ≡ StatementError.Memory) }
+{
+    let mut own = Names::new(state.alloc);
+    number_all(written, &state.bindings, &mut own)?;
+    places_of(state, &own)
+}
+
+/// The numbers that the session has for the names of this list.
+fn places_of(state: &SessionState, own: &Names) -> Result<Vec<VarId>, StatementError>
+    requires { AllByRecursion IsVariable own.now }
+    ensures places { IfOk result (λ v. map number_of v.items ≡ map (place state.now.names) own.now) }
+    ensures memory { IfErr result (λ e. e ≡ StatementError.Memory) }
+{
+    let mut places = Vec::new(state.alloc);
+    for number in 0..own.count() {
+        if let Some(text) = own.text(VarId { number }) {
+            let place = state.names.place(&Name::of(text));
+            if let Err(_failed) = places.push(place) {
+                return Err(StatementError::Memory);
+            }
+        }
+    }
+    Ok(places)
+}

@@ -1,0 +1,147 @@
+//! Constraints, read and oriented.
+
+ghost use Rattle.std.specs.Prelude.{◌≡◌, ◌++◌, [], ◌∷◌, negsuc, IfOk, IfErr, OnOk, map};
+ghost use Rattle.formula_meaning.specs.Form.{scale};
+ghost use Rattle.std.specs.List.{AllByRecursion};
+ghost use Rattle.formula_meaning.specs.Context.{Fields, Integers};
+ghost use Rattle.atom_normal.specs.Atoms.{context_of, atom_of as meant_atom, relation_of};
+ghost use Rattle.formula_store.specs.Nodes.{tree, IsId};
+ghost use Rattle.qe_syntax.specs.Trees.{formula_tree, formulas_of};
+ghost use Rattle.qe_syntax.specs.Writable.{AreWritableFormulas};
+ghost use Rattle.statement_syntax.specs.Constraints.{AreConstraints};
+ghost use Rattle.farkas_cert.specs.Constraints.{constraint_of as meant_constraint};
+ghost use Rattle.formula_meaning.specs.Atom as meant;
+ghost use Rattle.session_meaning.specs.Certificates.{tree_constraint, atom_constraint, constraints_of as meant_constraints};
+ghost use Rattle.session_state.specs.Keeping.{state_of, IsSessionState};
+ghost use Rattle.session_state.specs.Growth.{KeepsState};
+ghost use Rattle.problem_reading.specs.Reading.{AreNumbered};
+ghost use Rattle.certificate_queries.specs.Steps.{AreReady, NoConstraints};
+
+use atom_normal::{Atom, Context, Rel};
+use farkas_cert::{Bound, Constraint};
+use formula_store::FormulaId;
+use formula_tree::Shape;
+use linear_forms::Linear;
+use problem_reading::read_all;
+use qe_syntax::Formula;
+use session_meaning::StatementError;
+use session_state::SessionState;
+use std::alloc::{AllocError, Global};
+
+/// The constraints, or the first cause of a refusal before what is calculated with them: in reading, or the theory.
+pub fn constraints_of(
+    state: &mut SessionState,
+    written: &[Formula],
+) -> Result<Vec<Constraint>, StatementError>
+    requires proper { AreWritableFormulas (formulas_of (map formula_tree written.now)) }
+    requires constraints { AreConstraints (formulas_of (map formula_tree written.now)) }
+    requires session { IsSessionState state.old }
+    requires numbered { AreNumbered state.old.names (formulas_of (map formula_tree written.now)) }
+    ensures constraints { IfOk result (λ v. map meant_constraint v.items ≡ meant_constraints (state_of state.old) (formulas_of (map formula_tree written.now))) }
+    ensures ready { OnOk result (AreReady (state_of state.old) (formulas_of (map formula_tree written.now))) }
+    ensures refused { IfErr result (NoConstraints (state_of state.old) (formulas_of (map formula_tree written.now))) }
+    ensures kept { KeepsState state.old state.new }
+{
+    match read_all(state, written) {
+        Ok(ids) => {
+            check_theory(state.context)?;
+            oriented(state, &ids)
+        }
+        Err(StatementError::Overflow) => {
+            check_theory(state.context)?;
+            Err(StatementError::Overflow)
+        }
+        Err(error) => Err(error),
+    }
+}
+
+/// Whether the theory is that of the ordered fields.
+fn check_theory(context: Context) -> Result<(), StatementError>
+    ensures fields { OnOk result (context_of context ≡ Fields) }
+    ensures integers { IfErr result (λ e. (e ≡ StatementError.Context) × (context_of context ≡ Integers)) }
+{
+    match context {
+        Context::Fields => Ok(()),
+        Context::Integers => Err(StatementError::Context),
+    }
+}
+
+/// The constraints that resolved comparisons are.
+fn oriented(state: &SessionState, ids: &[FormulaId]) -> Result<Vec<Constraint>, StatementError>
+    requires { AllByRecursion (IsId state.now.store) ids.now }
+    ensures constraints { IfOk result (λ v. map meant_constraint v.items ≡ map (λ id. tree_constraint (tree state.now.store id)) ids.now) }
+    ensures memory { IfErr result (λ e. e ≡ StatementError.Memory) }
+{
+    let mut constraints = Vec::new(state.alloc);
+    for id in ids {
+        if let Err(_failed) = add_constraint(state, *id, &mut constraints) {
+            return Err(StatementError::Memory);
+        }
+    }
+    Ok(constraints)
+}
+
+/// Puts the constraint that a resolved comparison is behind the others.
+fn add_constraint(
+    state: &SessionState,
+    id: FormulaId,
+    constraints: &mut Vec<Constraint>,
+) -> Result<(), AllocError>
+    requires { IsId state.now.store id }
+    ensures { OnOk result (map meant_constraint constraints.new.items ≡ map meant_constraint constraints.old.items ++ tree_constraint (tree state.now.store id) ∷ []) }
+{
+    let constraint = match state.store.shape(id) {
+        Shape::One(atom) => atom_constraint(state.alloc, atom)?,
+        Shape::False => at_most(Linear::constant(state.alloc, 1)),
+        _ => at_most(Linear::constant(state.alloc, 0)),
+    };
+    constraints.push(constraint)?;
+    Ok(())
+}
+
+/// The form is to be at most 0.
+fn at_most(form: Linear) -> Constraint
+    ensures form { (meant_constraint result).form ≡ form }
+    ensures bound { result.bound ≡ Bound.AtMost }
+{
+    Constraint {
+        form,
+        bound: Bound::AtMost,
+    }
+}
+
+/// The constraint that an atom is. One that is to be above or at least 0 is negated.
+fn atom_constraint(alloc: Global, atom: &Atom) -> Result<Constraint, AllocError>
+    ensures { IfOk result (λ c. meant_constraint c ≡ atom_constraint (meant_atom atom.now)) }
+{
+    match atom {
+        Atom::Compare(relation, form) => compared(alloc, *relation, form),
+        Atom::Congruent { form, .. } => compared(alloc, Rel::Equal, form),
+    }
+}
+
+/// The constraint that a comparison of a form with 0 is.
+fn compared(alloc: Global, relation: Rel, form: &Linear) -> Result<Constraint, AllocError>
+    ensures { IfOk result (λ c. meant_constraint c ≡ atom_constraint (meant.Compare (relation_of relation) form.now)) }
+{
+    let bound = match relation {
+        Rel::Equal | Rel::Differs => Bound::Equal,
+        Rel::AtMost | Rel::AtLeast => Bound::AtMost,
+        Rel::Less | Rel::Greater => Bound::Below,
+    };
+    let form = match relation {
+        Rel::Greater | Rel::AtLeast => negated(alloc, form)?,
+        Rel::Equal | Rel::Differs | Rel::AtMost | Rel::Less => form.copy(alloc)?,
+    };
+    Ok(Constraint { form, bound })
+}
+
+/// The form with the other sign.
+fn negated(alloc: Global, form: &Linear) -> Result<Linear, AllocError>
+    ensures { IfOk result (λ f. f ≡ scale (negsuc 0) form.now) }
+{
+    match form.divide_exact(alloc, -1) {
+        Ok(form) => Ok(form),
+        Err(_) => Err(AllocError),
+    }
+}
