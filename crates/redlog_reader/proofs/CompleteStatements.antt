@@ -1,34 +1,38 @@
 -- Each statement that the grammar spells is read.
-use Rattle.std.proofs.Common.{◌≡◌, ℕ, ◌<◌, Bool, true, false, List, [], ◌∷◌, sym, refl, ap, ◌∙◌, arith}
+use Rattle.std.proofs.Common.{◌≡◌, ℕ, ◌<◌, Bool, true, false, List, [], ◌∷◌, length, sym, refl, ap, ◌∙◌, arith}
 use Rattle.std.specs.Prelude.{Option, Some, None, pos, if◌then◌else◌}
 use Rattle.qe_syntax.specs.declared.tree.Literal.{Literal}
 use Rattle.qe_syntax.specs.declared.tree.Literal.TheVariants.{Fits, Past}
 use Rattle.qe_syntax.specs.declared.tree.Relation.{Relation}
 use Rattle.qe_syntax.specs.declared.entries.PointEntry.{PointEntry}
+use Rattle.statement_syntax.specs.declared.grid.Ratio.{Ratio}
+use Rattle.statement_syntax.specs.declared.grid.GridAxis.{GridAxis}
+use Rattle.statement_syntax.specs.Constraints.{is_constraint}
 use Rattle.formula_meaning.specs.Formula.{One}
 use Rattle.qe_syntax.specs.Trees.{TermTree, Compare, FormulaTree, formulas_of}
-use Rattle.statement_syntax.specs.Statements.{CommandTree, Echo, Nnf, Pnf, Dnf, Cnf, Simpl, Qe, Qea, Holds, Sample, ActionTree, Empty, Ignored, Choose, Say, Assign, Assume, StatementTree}
+use Rattle.statement_syntax.specs.Statements.{CommandTree, Echo, Nnf, Pnf, Dnf, Cnf, Simpl, Qe, Qea, Holds, Sample, Grid, Certify, Check, ActionTree, Empty, Ignored, Choose, Say, Assign, Assume, StatementTree}
 use Rattle.redlog_tokens.specs.declared.terminal.Terminal.{Terminal}
 use Rattle.redlog_tokens.specs.declared.terminal.Terminal.TheVariants as terminal
+use Rattle.redlog_tokens.specs.declared.terminal.Mark.{Mark}
 use Rattle.redlog_tokens.specs.declared.terminal.Mark.TheVariants as mark
 use Rattle.redlog_tokens.specs.declared.terminal.Word.{Word}
 use Rattle.redlog_tokens.specs.declared.terminal.Word.TheVariants as word
 use Rattle.redlog_reader.specs.Machine.{Reading, term_of, formula_of, Wants, Held, Stops, strength, run, operated}
 use Rattle.redlog_reader.specs.Grammar.{SpellsFactor, SpellsPower, first_power, raised, product, SpellsSum, sum, IsRelation, relation_sign, relation_word, SpellsComparison, comparison, SpellsCongruence, congruent, incongruent, SpellsAtom, compared_atom, congruent_atom}
-use Rattle.redlog_reader.specs.Grammar.{SpellsPrime, truth, falsity, named_formula, congruence, inner_formula, exists, for_all, SpellsFormula, IsAny, any_name, any_word, SpellsAnys, last_any, more_anys, opposite, Above, unsigned, opposed, Below, one, divided, SpellsEntry, entry, Listed, last_item, more_items, empty, listed, SpellsPoint, SpellsAtoms}
-use Rattle.redlog_reader.specs.Grammar.{SpellsArgument, alone, under, SpellsResult, echo, nnf, pnf, dnf, cnf, simpl, qe, SpellsQuery, qea, holds, witness, SpellsAction, assign, result, query, choose, load, on, off, assume, retract, end, bye, quit, end_mark, SpellsStatement, nothing, acting}
-use Rattle.redlog_reader.specs.Reader.{on_some, after_mark, formula_read, sum_read, relation_of, relation_read, comparison_read, begins_congruence, atom_read, items_read, braced_read, negated_literal, above_read, below_read, entry_read, argument_read, pointed_read, result_read, is_any, anys_read, said, action_read, ending, statement_read}
+use Rattle.redlog_reader.specs.Grammar.{SpellsPrime, truth, falsity, named_formula, congruence, inner_formula, exists, for_all, SpellsFormula, IsAny, any_name, any_word, SpellsAnys, last_any, more_anys, opposite, Above, unsigned, opposed, Below, one, divided, SpellsEntry, entry, Listed, last_item, more_items, Braced, empty, listed, SpellsPoint, SpellsAtoms}
+use Rattle.redlog_reader.specs.Grammar.{SpellsArgument, alone, under, SpellsResult, echo, nnf, pnf, dnf, cnf, simpl, qe, SpellsRatio, ratio, SpellsAxis, axis, SpellsBound, bound, SpellsBounds, SpellsWholes, SpellsQuery, qea, holds, witness, grid, certify, check, SpellsAction, assign, result, query, choose, load, on, off, assume, retract, end, bye, quit, end_mark, SpellsStatement, nothing, acting}
+use Rattle.redlog_reader.specs.Reader.{on_some, after_mark, formula_read, sum_read, relation_of, relation_read, comparison_read, begins_congruence, atom_read, bound_read, items_read, braced_read, negated_literal, above_read, below_read, entry_read, ratio_read, axis_read, argument_read, pointed_read, grid_read, certified_read, checked_read, result_read, is_any, anys_read, said, action_read, ending, statement_read}
 use Rattle.std.proofs.lemmas.Bool.{lt-ltb}
 use Rattle.std.proofs.lemmas.Int.{ints}
 use Rattle.std.specs.Prelude.{negsuc}
 use Rattle.qe_syntax.specs.Proper.{IsNumeral}
 use Rattle.redlog_tokens.proofs.ProperTokens.{AreProperTerminals}
-use Rattle.redlog_reader.proofs.Proper.{proper_entry, proper_formula}
+use Rattle.redlog_reader.proofs.Proper.{proper_above, proper_entry, proper_formula, proper_ratio, proper_axis, proper_bounds}
 use Rattle.redlog_reader.proofs.Steps.{outcome, no_power}
 use Rattle.redlog_reader.proofs.CompleteTerms.{complete_sum}
 use Rattle.redlog_reader.proofs.CompleteFormulas.{complete_prime, complete_formula}
 use Rattle.redlog_reader.proofs.Options.{is_some, is_none, anys_more, anys_last}
-use Rattle.redlog_reader.proofs.Items.{items_more, items_last, atom_less, entry_less, onto}
+use Rattle.redlog_reader.proofs.Items.{LeavesLess, items_more, items_last, items_none, atom_less, entry_less, axis_less, bound_less, above_less, onto}
 
 -- what is read where a terminal ends it
 stopped : (goal : ℕ) (t : Terminal) (ts : List Terminal) (h : Reading) → goal < strength t → run goal (t ∷ ts) [] (Held h) ≡ Some (h, t ∷ ts)
@@ -89,11 +93,42 @@ atom_done : {ts rest : List Terminal} {t : Terminal} {f : FormulaTree} → Spell
 atom_done {ts = ts} {rest = rest} {t = t} (compared_atom p) less = ap (λ b. if b then formula_read 0 ts else comparison_read ts) (comparison_begins ts (t ∷ rest) p) ∙ comparison_done p less
 atom_done {ts = ts} (congruent_atom p) less = ap (λ b. if b then formula_read 0 ts else comparison_read ts) (congruence_begins p) ∙ prime_done (congruence p) less
 
--- each atom is read
-atoms_done : {ts rest : List Terminal} {fs : List FormulaTree} → Listed SpellsAtom ts fs (terminal.Mark mark.CloseBrace ∷ rest) → items_read atom_read ts ≡ Some (fs, terminal.Mark mark.CloseBrace ∷ rest)
-atoms_done {ts = ts} {rest = rest} (last_item {x = x} p) = items_last atom_read atom_less ts (x, terminal.Mark mark.CloseBrace ∷ rest) (atom_done p (omega arith)) refl
-atoms_done {ts = ts} {rest = rest} (more_items {us = us} {x = x} p m) =
-    items_more atom_read atom_less ts us (x, terminal.Mark mark.Comma ∷ us) (atom_done p (omega arith)) refl ∙ ap (onto (x ∷ [])) (atoms_done m)
+-- a list of items that are read is read
+module _ {X : Type 0} (read : List Terminal → Option (X × List Terminal)) (less : (ts : List Terminal) → LeavesLess (length ts) (read ts)) (Item : List Terminal → X → List Terminal → Type 0) (P : List Terminal → Type 0)
+    (done : (ts rest : List Terminal) (t : Terminal) (x : X) → P ts → Item ts x (t ∷ rest) → 8 < strength t → read ts ≡ Some (x, t ∷ rest)) (kept : (ts rest : List Terminal) (x : X) → P ts → Item ts x rest → P rest)
+    (past : (us : List Terminal) → P (terminal.Mark mark.Comma ∷ us) → P us) where
+  listed_done : (ts rest : List Terminal) (t : Terminal) (xs : List X) → P ts → Listed Item ts xs (t ∷ rest) → 8 < strength t → after_mark mark.Comma (t ∷ rest) ≡ None → items_read read ts ≡ Some (xs, t ∷ rest)
+  listed_done ts rest t xs good (last_item {x = x} p) ends none = items_last read less ts (x, t ∷ rest) (done ts rest t x good p ends) none
+  listed_done ts rest t xs good (more_items {us = us} {x = x} {more = more} p m) ends none =
+      items_more read less ts us (x, terminal.Mark mark.Comma ∷ us) (done ts us (terminal.Mark mark.Comma) x good p (omega arith)) refl
+      ∙ ap (onto (x ∷ [])) (listed_done us rest t more (past us (kept ts (terminal.Mark mark.Comma ∷ us) x good p)) m ends none)
+
+  -- no item begins with a brace that closes
+  no_close : ((us : List Terminal) → read (terminal.Mark mark.CloseBrace ∷ us) ≡ None) → (us : List Terminal) (p : List X × List Terminal) → items_read read us ≡ Some p → after_mark mark.CloseBrace us ≡ None
+  no_close closed [] p e = refl
+  no_close closed (terminal.Mark mark.CloseBrace ∷ us) p e = let none = items_none read less (terminal.Mark mark.CloseBrace ∷ us) (closed us) in absurd (let no : ⊥ = cc in no)
+  no_close closed (t ∷ us) p e = refl
+
+  braced_done : (ts rest : List Terminal) (xs : List X) → ((us : List Terminal) → read (terminal.Mark mark.CloseBrace ∷ us) ≡ None) → ((us : List Terminal) → P (terminal.Mark mark.OpenBrace ∷ us) → P us) → P ts
+      → Braced Item ts xs rest → braced_read read ts ≡ Some (xs, rest)
+  braced_done ts rest xs closed inside good empty = refl
+  braced_done ts rest xs closed inside good (listed {ts = us} p) =
+      let items = listed_done us rest (terminal.Mark mark.CloseBrace) xs (inside us good) p (omega arith) refl in
+      is_none (after_mark mark.CloseBrace us) (λ vs. Some ([], vs)) (on_some (items_read read us) (λ p. on_some (after_mark mark.CloseBrace p.1) (λ vs. Some (p.0, vs)) None) None)
+      (no_close closed us (xs, terminal.Mark mark.CloseBrace ∷ rest) items)
+      ∙ is_some (items_read read us) (xs, terminal.Mark mark.CloseBrace ∷ rest) (λ p. on_some (after_mark mark.CloseBrace p.1) (λ vs. Some (p.0, vs)) None) None items
+
+braced_atoms : {ts rest : List Terminal} {fs : List FormulaTree} → SpellsAtoms ts fs rest → braced_read atom_read ts ≡ Some (fs, rest)
+braced_atoms {ts = ts} {rest = rest} {fs = fs} p =
+    braced_done atom_read atom_less SpellsAtom (λ ts. Unit {0}) (λ us r t f good h less. atom_done h less) (λ us r f good h. tt) (λ us h. tt) ts rest fs (λ us. refl) (λ us h. tt) tt p
+
+bound_done : {ts rest : List Terminal} {t : Terminal} {f : FormulaTree} → SpellsBound ts f (t ∷ rest) → 8 < strength t → bound_read ts ≡ Some (f, t ∷ rest)
+bound_done {ts = ts} {rest = rest} {t = t} {f = f} (bound p is) less =
+    is_some (comparison_read ts) (f, t ∷ rest) (λ p. if is_constraint p.0 then Some p else None) None (comparison_done p less) ∙ ap (λ b. if b then Some (f, t ∷ rest) else None) is
+
+braced_bounds : {ts rest : List Terminal} {fs : List FormulaTree} → SpellsBounds ts fs rest → braced_read bound_read ts ≡ Some (fs, rest)
+braced_bounds {ts = ts} {rest = rest} {fs = fs} p =
+    braced_done bound_read bound_less SpellsBound (λ ts. Unit {0}) (λ us r t f good h less. bound_done h less) (λ us r f good h. tt) (λ us h. tt) ts rest fs (λ us. refl) (λ us h. tt) tt p
 
 -- numerals have an opposite
 pub negated_done : (n : Literal) → IsNumeral n → negated_literal n ≡ opposite n
@@ -121,34 +156,35 @@ entry_done {rest = rest} {t = t} {e = e} good (entry {ts = ts} {us = us} {x = x}
     ∙ is_some (below_read us) (e.below, t ∷ rest) (λ r. Some (made x e.above r.0, r.1)) None (below_done below less)
     ∙ ap (λ y. Some (made y e.above e.below, t ∷ rest)) is
 
-entries_done : {ts rest : List Terminal} {es : List PointEntry} → AreProperTerminals ts → Listed SpellsEntry ts es (terminal.Mark mark.CloseBrace ∷ rest) → items_read entry_read ts ≡ Some (es, terminal.Mark mark.CloseBrace ∷ rest)
-entries_done {ts = ts} {rest = rest} good (last_item {x = x} p) = items_last entry_read entry_less ts (x, terminal.Mark mark.CloseBrace ∷ rest) (entry_done good p (omega arith)) refl
-entries_done {ts = ts} {rest = rest} good (more_items {us = us} {x = x} p m) =
-    items_more entry_read entry_less ts us (x, terminal.Mark mark.Comma ∷ us) (entry_done good p (omega arith)) refl ∙ ap (onto (x ∷ [])) (entries_done (proper_entry p good).1 m)
-
-atoms_open : (us : List Terminal) {p : List FormulaTree × List Terminal} → items_read atom_read us ≡ Some p → after_mark mark.CloseBrace us ≡ None
-atoms_open [] e = refl
-atoms_open (terminal.Mark mark.CloseBrace ∷ us) e = absurd (let no : ⊥ = cc in no)
-atoms_open (t ∷ us) e = refl
-
-entries_open : (us : List Terminal) {p : List PointEntry × List Terminal} → items_read entry_read us ≡ Some p → after_mark mark.CloseBrace us ≡ None
-entries_open [] e = refl
-entries_open (terminal.Mark mark.CloseBrace ∷ us) e = absurd (let no : ⊥ = cc in no)
-entries_open (t ∷ us) e = refl
-
-braced_done : {X : Type 0} (read : List Terminal → Option (X × List Terminal)) (us : List Terminal) {rest : List Terminal} {xs : List X}
-    → items_read read us ≡ Some (xs, terminal.Mark mark.CloseBrace ∷ rest) → after_mark mark.CloseBrace us ≡ None → braced_read read (terminal.Mark mark.OpenBrace ∷ us) ≡ Some (xs, rest)
-braced_done read us {rest = rest} {xs = xs} e others =
-    is_none (after_mark mark.CloseBrace us) (λ vs. Some ([], vs)) (on_some (items_read read us) (λ p. on_some (after_mark mark.CloseBrace p.1) (λ vs. Some (p.0, vs)) None) None) others
-    ∙ is_some (items_read read us) (xs, terminal.Mark mark.CloseBrace ∷ rest) (λ p. on_some (after_mark mark.CloseBrace p.1) (λ vs. Some (p.0, vs)) None) None e
-
-braced_atoms : {ts rest : List Terminal} {fs : List FormulaTree} → SpellsAtoms ts fs rest → braced_read atom_read ts ≡ Some (fs, rest)
-braced_atoms empty = refl
-braced_atoms (listed {ts = us} p) = braced_done atom_read us (atoms_done p) (atoms_open us (atoms_done p))
-
 braced_entries : {ts rest : List Terminal} {es : List PointEntry} → AreProperTerminals ts → SpellsPoint ts es rest → braced_read entry_read ts ≡ Some (es, rest)
-braced_entries good empty = refl
-braced_entries good (listed {ts = us} p) = braced_done entry_read us (entries_done good p) (entries_open us (entries_done good p))
+braced_entries {ts = ts} {rest = rest} {es = es} good p =
+    braced_done entry_read entry_less SpellsEntry AreProperTerminals (λ us r t e good h less. entry_done good h less) (λ us r e good h. (proper_entry h good).1) (λ us h. h) ts rest es (λ us. refl) (λ us h. h) good p
+
+braced_wholes : {ts rest : List Terminal} {ns : List Literal} → AreProperTerminals ts → SpellsWholes ts ns rest → braced_read above_read ts ≡ Some (ns, rest)
+braced_wholes {ts = ts} {rest = rest} {ns = ns} good p =
+    braced_done above_read above_less Above AreProperTerminals (λ us r t n good h less. above_done good h) (λ us r n good h. (proper_above h good).1) (λ us h. h) ts rest ns (λ us. refl) (λ us h. h) good p
+
+ratio_done : {ts rest : List Terminal} {r : Ratio} (last : Mark) → AreProperTerminals ts → SpellsRatio ts r (terminal.Mark last ∷ rest) → 8 < strength (terminal.Mark last) → after_mark last (terminal.Mark last ∷ rest) ≡ Some rest → ratio_read last ts ≡ Some (r, rest)
+ratio_done {ts = ts} {rest = rest} {r = r} last good (ratio {us = us} above below) less at =
+    let made : Literal → Literal → Ratio = λ n d. record { above = n; below = d } in
+    is_some (above_read ts) (r.above, us) (λ p. on_some (below_read p.1) (λ q. on_some (after_mark last q.1) (λ v. Some (made p.0 q.0, v)) None) None) None (above_done good above)
+    ∙ is_some (below_read us) (r.below, terminal.Mark last ∷ rest) (λ q. on_some (after_mark last q.1) (λ v. Some (made r.above q.0, v)) None) None (below_done below less)
+    ∙ is_some (after_mark last (terminal.Mark last ∷ rest)) rest (λ v. Some (made r.above r.below, v)) None at
+
+axis_done : {ts rest : List Terminal} {a : GridAxis} → AreProperTerminals ts → SpellsAxis ts a rest → axis_read ts ≡ Some (a, rest)
+axis_done {rest = rest} {a = a} good (axis {ts = ts} {us = us} {vs = vs} {x = x} is low high step) =
+    let made : List ℕ → Ratio → Ratio → Ratio → GridAxis = λ y l h s. record { name = y; low = l; high = h; step = s } in
+    let second = (proper_ratio low good.1).1 in
+    let third = (proper_ratio high second).1 in
+    is_some (ratio_read mark.Comma ts) (a.low, us)
+    (λ l. on_some (ratio_read mark.Comma l.1) (λ h. on_some (ratio_read mark.CloseBrace h.1) (λ s. Some (made x l.0 h.0 s.0, s.1)) None) None) None (ratio_done mark.Comma good.1 low (omega arith) refl)
+    ∙ is_some (ratio_read mark.Comma us) (a.high, vs) (λ h. on_some (ratio_read mark.CloseBrace h.1) (λ s. Some (made x a.low h.0 s.0, s.1)) None) None (ratio_done mark.Comma second high (omega arith) refl)
+    ∙ is_some (ratio_read mark.CloseBrace vs) (a.step, rest) (λ s. Some (made x a.low a.high s.0, s.1)) None (ratio_done mark.CloseBrace third step (omega arith) refl)
+    ∙ ap (λ y. Some (made y a.low a.high a.step, rest)) is
+
+axes_done : {ts rest : List Terminal} {axes : List GridAxis} → AreProperTerminals ts → Listed SpellsAxis ts axes (terminal.Mark mark.Close ∷ rest) → items_read axis_read ts ≡ Some (axes, terminal.Mark mark.Close ∷ rest)
+axes_done {ts = ts} {rest = rest} {axes = axes} good p =
+    listed_done axis_read axis_less SpellsAxis AreProperTerminals (λ us r t a good h less. axis_done good h) (λ us r a good h. (proper_axis h good).1) (λ us h. h) ts rest (terminal.Mark mark.Close) axes good p (omega arith) refl
 
 abbrev Argument : Type 0
 Argument = (FormulaTree × List FormulaTree) × List Terminal
@@ -182,6 +218,24 @@ pointed_done {ts = ts} {us = us} {rest = rest} {f = f} {es = es} good p q =
     is_some (formula_read 8 ts) (f, terminal.Mark mark.Comma ∷ us)
     (λ p. on_some (after_mark mark.Comma p.1) (λ vs. on_some (braced_read entry_read vs) (λ q. on_some (after_mark mark.Close q.1) (λ ws. Some ((p.0, q.0), ws)) None) None) None) None (formula_done p (omega arith))
     ∙ is_some (braced_read entry_read us) (es, terminal.Mark mark.Close ∷ rest) (λ q. on_some (after_mark mark.Close q.1) (λ ws. Some ((f, q.0), ws)) None) None (braced_entries (proper_formula p good).1 q)
+
+grid_done : {ts us rest : List Terminal} {f : FormulaTree} {axes : List GridAxis} → AreProperTerminals ts → SpellsFormula ts f (terminal.Mark mark.Comma ∷ us) → Listed SpellsAxis us axes (terminal.Mark mark.Close ∷ rest)
+    → grid_read (terminal.Mark mark.Open ∷ ts) ≡ Some ((f, axes), rest)
+grid_done {ts = ts} {us = us} {rest = rest} {f = f} {axes = axes} good p q =
+    is_some (formula_read 8 ts) (f, terminal.Mark mark.Comma ∷ us)
+    (λ p. on_some (after_mark mark.Comma p.1) (λ vs. on_some (items_read axis_read vs) (λ q. on_some (after_mark mark.Close q.1) (λ ws. Some ((p.0, q.0), ws)) None) None) None) None (formula_done p (omega arith))
+    ∙ is_some (items_read axis_read us) (axes, terminal.Mark mark.Close ∷ rest) (λ q. on_some (after_mark mark.Close q.1) (λ ws. Some ((f, q.0), ws)) None) None (axes_done (proper_formula p good).1 q)
+
+certified_done : {ts rest : List Terminal} {fs : List FormulaTree} → SpellsBounds ts fs (terminal.Mark mark.Close ∷ rest) → certified_read (terminal.Mark mark.Open ∷ ts) ≡ Some (fs, rest)
+certified_done {ts = ts} {rest = rest} {fs = fs} p =
+    is_some (braced_read bound_read ts) (fs, terminal.Mark mark.Close ∷ rest) (λ p. on_some (after_mark mark.Close p.1) (λ vs. Some (p.0, vs)) None) None (braced_bounds p)
+
+checked_done : {ts us rest : List Terminal} {fs : List FormulaTree} {ns : List Literal} → AreProperTerminals ts → SpellsBounds ts fs (terminal.Mark mark.Comma ∷ us) → SpellsWholes us ns (terminal.Mark mark.Close ∷ rest)
+    → checked_read (terminal.Mark mark.Open ∷ ts) ≡ Some ((fs, ns), rest)
+checked_done {ts = ts} {us = us} {rest = rest} {fs = fs} {ns = ns} good p q =
+    is_some (braced_read bound_read ts) (fs, terminal.Mark mark.Comma ∷ us)
+    (λ p. on_some (after_mark mark.Comma p.1) (λ vs. on_some (braced_read above_read vs) (λ q. on_some (after_mark mark.Close q.1) (λ ws. Some ((p.0, q.0), ws)) None) None) None) None (braced_bounds p)
+    ∙ is_some (braced_read above_read us) (ns, terminal.Mark mark.Close ∷ rest) (λ q. on_some (after_mark mark.Close q.1) (λ ws. Some ((fs, q.0), ws)) None) None (braced_wholes (proper_bounds p good).1 q)
 
 echo_done : (ts : List Terminal) (f : FormulaTree) (rest : List Terminal) → formula_read 8 ts ≡ Some (f, rest) → result_read ts ≡ Some (Echo f, rest)
 echo_done [] f rest e = absurd (let no : ⊥ = cc in no)
@@ -240,6 +294,9 @@ said_done (terminal.Word word.Quit ∷ ts) c rest other e = absurd (let no : ⊥
 said_done (terminal.Word word.Qea ∷ ts) c rest other e = absurd (let no : ⊥ = cc in no)
 said_done (terminal.Word word.Holds ∷ ts) c rest other e = absurd (let no : ⊥ = cc in no)
 said_done (terminal.Word word.Witness ∷ ts) c rest other e = absurd (let no : ⊥ = cc in no)
+said_done (terminal.Word word.Grid ∷ ts) c rest other e = absurd (let no : ⊥ = cc in no)
+said_done (terminal.Word word.Cert ∷ ts) c rest other e = absurd (let no : ⊥ = cc in no)
+said_done (terminal.Word word.Check ∷ ts) c rest other e = absurd (let no : ⊥ = cc in no)
 said_done (terminal.Word w ∷ ts) c rest other e = ap said e
 said_done (terminal.Name x ∷ []) c rest other e = ap said e
 said_done (terminal.Name x ∷ terminal.Mark mark.Assign ∷ ts) c rest other e = absurd (other ts (rest_of e))
@@ -250,6 +307,9 @@ query_done : {ts : List Terminal} {c : CommandTree} (printed : Bool) → AreProp
 query_done printed good (qea p) = ap (λ o. on_some o (λ p. Some (Say (Qea p.0.0 (formulas_of p.0.1)), p.1)) None) (argument_done p (ends_strongly printed))
 query_done printed good (holds p q) = ap (λ o. on_some o (λ p. Some (Say (Holds p.0.0 p.0.1), p.1)) None) (pointed_done good p q)
 query_done printed good (witness p q) = ap (λ o. on_some o (λ p. Some (Say (Sample p.0.0 p.0.1), p.1)) None) (pointed_done good p q)
+query_done printed good (grid p q) = ap (λ o. on_some o (λ p. Some (Say (Grid p.0.0 p.0.1), p.1)) None) (grid_done good p q)
+query_done printed good (certify p) = ap (λ o. on_some o (λ p. Some (Say (Certify (formulas_of p.0)), p.1)) None) (certified_done p)
+query_done printed good (check p q) = ap (λ o. on_some o (λ p. Some (Say (Check (formulas_of p.0.0) p.0.1), p.1)) None) (checked_done good p q)
 
 action_done : {ts : List Terminal} {a : ActionTree} (printed : Bool) → AreProperTerminals ts → SpellsAction ts a (terminal.Mark (end_mark printed) ∷ []) → action_read ts ≡ Some (a, terminal.Mark (end_mark printed) ∷ [])
 action_done printed good (assign {x = x} p) = ap (λ o. on_some o (λ p. Some (Assign x p.0, p.1)) None) (result_done p (ends_strongly printed))

@@ -1,15 +1,18 @@
 -- Worked examples of the definitions. Each side is computed.
 use Rattle.std.proofs.Common.{◌≡◌, [], ◌∷◌, refl, codes}
-use Rattle.std.specs.Prelude.{pos, Some, None, List}
+use Rattle.std.specs.Prelude.{pos, neg_ℤ, ℤ, Some, None, List}
 use Rattle.formula_meaning.specs.Formula.{One, Impl, Repl, Ex}
-use Rattle.qe_syntax.specs.Trees.{TermTree, Named, Product, Quotient, Negative, Sum, Bound, Compare, terms_of, FormulaTree}
+use Rattle.qe_syntax.specs.Trees.{TermTree, Named, Product, Quotient, Negative, Sum, Bound, Compare, terms_of, FormulaTree, formulas_of}
 use Rattle.qe_syntax.specs.declared.tree.Literal.TheVariants.{Fits}
-use Rattle.qe_syntax.specs.declared.tree.Relation.TheVariants.{Equal}
+use Rattle.qe_syntax.specs.declared.tree.Relation.TheVariants.{Equal, Differs, Less}
+use Rattle.statement_syntax.specs.declared.grid.Ratio.{Ratio}
+use Rattle.statement_syntax.specs.declared.grid.GridAxis.{GridAxis}
+use Rattle.statement_syntax.specs.Statements.{Grid, Certify, Check, Say}
 use Rattle.redlog_tokens.specs.declared.terminal.Terminal.{Terminal}
 use Rattle.redlog_tokens.specs.declared.terminal.Terminal.TheVariants as terminal
 use Rattle.redlog_tokens.specs.declared.terminal.Mark.TheVariants as mark
 use Rattle.redlog_tokens.specs.declared.terminal.Word.TheVariants as word
-use Rattle.redlog_reader.specs.Reader.{formula_read, sum_read}
+use Rattle.redlog_reader.specs.Reader.{formula_read, sum_read, action_read}
 
 abbrev opening : Terminal
 opening = terminal.Mark mark.Open
@@ -83,3 +86,40 @@ bracketed_name = refl
 -- a^2^1 is no power
 one_power : sum_read (a ∷ terminal.Mark mark.Power ∷ terminal.Number (Fits (pos 2)) ∷ terminal.Mark mark.Power ∷ terminal.Number (Fits (pos 1)) ∷ end_mark) ≡ None
 one_power = refl
+
+-- what is read of the queries of grids and of constraints: rlgrid(a,{b,-1,1,1/2}); rlcert({a<b}); rlcheck({a<b},{-1,2}); rlcert({a<>b})
+abbrev numeral : ℤ → Terminal
+numeral n = terminal.Number (Fits n)
+
+abbrev opening_brace : Terminal
+opening_brace = terminal.Mark mark.OpenBrace
+
+abbrev minus : Terminal
+minus = terminal.Mark mark.Minus
+
+-- the ends of a list in braces, of the query, and of the statement
+abbrev query_end : List Terminal
+query_end = terminal.Mark mark.CloseBrace ∷ terminal.Mark mark.Close ∷ end_mark
+
+abbrev ratio : ℤ → ℤ → Ratio
+ratio n d = record { above = Fits n; below = Fits d }
+
+abbrev axis_b : GridAxis
+axis_b = record { name = codes "b"; low = ratio (neg_ℤ (pos 1)) (pos 1); high = ratio (pos 1) (pos 1); step = ratio (pos 1) (pos 2) }
+
+abbrev less_than : FormulaTree
+less_than = One (Compare Less term_a term_b)
+
+one_axis : action_read (terminal.Word word.Grid ∷ opening ∷ a ∷ comma ∷ opening_brace ∷ b ∷ comma ∷ minus ∷ numeral (pos 1) ∷ comma ∷ numeral (pos 1) ∷ comma ∷ numeral (pos 1) ∷ slash ∷ numeral (pos 2) ∷ query_end)
+    ≡ Some (Say (Grid formula_a (axis_b ∷ [])), end_mark)
+one_axis = refl
+
+one_constraint : action_read (terminal.Word word.Cert ∷ opening ∷ opening_brace ∷ a ∷ terminal.Relation Less ∷ b ∷ query_end) ≡ Some (Say (Certify (formulas_of (less_than ∷ []))), end_mark)
+one_constraint = refl
+
+two_multipliers : action_read (terminal.Word word.Check ∷ opening ∷ opening_brace ∷ a ∷ terminal.Relation Less ∷ b ∷ terminal.Mark mark.CloseBrace ∷ comma ∷ opening_brace ∷ minus ∷ numeral (pos 1) ∷ comma ∷ numeral (pos 2) ∷ query_end)
+    ≡ Some (Say (Check (formulas_of (less_than ∷ [])) (Fits (neg_ℤ (pos 1)) ∷ Fits (pos 2) ∷ [])), end_mark)
+two_multipliers = refl
+
+no_constraint : action_read (terminal.Word word.Cert ∷ opening ∷ opening_brace ∷ a ∷ terminal.Relation Differs ∷ b ∷ query_end) ≡ None
+no_constraint = refl

@@ -6,13 +6,17 @@ use Rattle.qe_syntax.specs.declared.tree.Literal.{Literal}
 use Rattle.qe_syntax.specs.declared.tree.Literal.TheVariants.{Fits}
 use Rattle.qe_syntax.specs.declared.tree.Relation.TheVariants.{Equal}
 use Rattle.qe_syntax.specs.declared.entries.PointEntry.{PointEntry}
+use Rattle.statement_syntax.specs.declared.grid.GridAxis.{GridAxis}
+use Rattle.statement_syntax.specs.Constraints.{is_constraint}
 use Rattle.redlog_tokens.specs.declared.terminal.Terminal.{Terminal}
 use Rattle.redlog_tokens.specs.declared.terminal.Terminal.TheVariants as terminal
 use Rattle.redlog_tokens.specs.declared.terminal.Mark.{Mark}
 use Rattle.redlog_tokens.specs.declared.terminal.Mark.TheVariants as mark
 use Rattle.redlog_tokens.specs.declared.terminal.Word.TheVariants as word
 use Rattle.redlog_reader.specs.Machine.{Reading, Frame, Mode, Wants, Outcome, Fails, Stops, Moves, Negation, Added, level, takes, pushed, wanted, step, run, term_of, formula_of}
-use Rattle.redlog_reader.specs.Reader.{on_some, number_of, after_mark, formula_read, sum_read, relation_of, relation_read, comparison_read, begins_congruence, atom_read, listed_read, items_read, number_read, above_read, below_read, name_read, after_equal, entry_read, negated_literal}
+use Rattle.redlog_reader.specs.declared.argument.AtomKind.{AtomKind}
+use Rattle.redlog_reader.specs.declared.argument.AtomKind.TheVariants as kind
+use Rattle.redlog_reader.specs.Reader.{on_some, number_of, after_mark, formula_read, sum_read, relation_of, relation_read, comparison_read, begins_congruence, atom_read, bound_read, kind_read, listed_read, items_read, number_read, above_read, below_read, name_read, after_equal, entry_read, negated_literal, ratio_read, axis_read}
 use Rattle.redlog_reader.proofs.Steps.{outcome}
 use Rattle.redlog_reader.proofs.Options.{is_some, is_none}
 
@@ -44,9 +48,9 @@ mark_shorter m (terminal.Mark n ∷ ts) us e = choose (number_of m == number_of 
     choose false e = absurd (let no : ⊥ = cc in no)
 mark_shorter m (t ∷ ts) us e = absurd (let no : ⊥ = cc in no)
 
-on_some_less : {X Y : Type 0} (n : ℕ) (o : Option (X × List Terminal)) (f : X × List Terminal → Option (Y × List Terminal)) → ((p : X × List Terminal) → o ≡ Some p → LeavesLess n (f p)) → LeavesLess n (on_some o f None)
+on_some_less : {X Y : Type 0} (n : ℕ) (o : Option X) (f : X → Option (Y × List Terminal)) → ((x : X) → o ≡ Some x → LeavesLess n (f x)) → LeavesLess n (on_some o f None)
 on_some_less n None f h = tt
-on_some_less n (Some p) f h = h p refl
+on_some_less n (Some x) f h = h x refl
 
 module _ {X : Type 0} (read : List Terminal → Option (X × List Terminal)) (less : (ts : List Terminal) → LeavesLess (length ts) (read ts)) where
   left_less : (ts : List Terminal) (p : X × List Terminal) → read ts ≡ Some p → length p.1 < length ts
@@ -167,6 +171,17 @@ atom_less ts = choose (begins_congruence ts)
     choose true = formula_less 0 ts
     choose false = comparison_less ts
 
+pub bound_less : (ts : List Terminal) → LeavesLess (length ts) (bound_read ts)
+bound_less ts = on_some_less (length ts) (comparison_read ts) _ (λ p e. choose p (less_of _ _ p (comparison_less ts) e) (is_constraint p.0))
+  where
+    choose : (p : FormulaTree × List Terminal) → length p.1 < length ts → (b : Bool) → LeavesLess (length ts) (if b then Some p else None)
+    choose p h true = h
+    choose p h false = tt
+
+pub kind_less : (k : AtomKind) (ts : List Terminal) → LeavesLess (length ts) (kind_read k ts)
+kind_less kind.Any ts = atom_less ts
+kind_less kind.Constraint ts = bound_less ts
+
 number_less : (ts : List Terminal) → LeavesLess (length ts) (number_read ts)
 number_less [] = tt
 number_less (terminal.Number n ∷ ts) = omega arith
@@ -182,7 +197,7 @@ equal_less [] us e = absurd (let no : ⊥ = cc in no)
 equal_less (terminal.Relation Equal ∷ ts) us e = let same : ts ≡ us = cc in omega (arith, ap length same)
 equal_less (t ∷ ts) us e = absurd (let no : ⊥ = cc in no)
 
-above_less : (ts : List Terminal) → LeavesLess (length ts) (above_read ts)
+pub above_less : (ts : List Terminal) → LeavesLess (length ts) (above_read ts)
 above_less ts = choose (after_mark mark.Minus ts) refl
   where
     choose : (o : Option (List Terminal)) → after_mark mark.Minus ts ≡ o → LeavesLess (length ts) (on_some o (λ us. on_some (number_read us) (λ p. Some (negated_literal p.0, p.1)) None) (number_read ts))
@@ -209,14 +224,23 @@ entry_less ts = on_some_less (length ts) (name_read ts) _ (λ p e. equal p e (af
     equal p e (Some us) f = on_some_less (length ts) (above_read us) _ (λ q g. on_some_less (length ts) (below_read q.1) _ (λ r h.
         omega (arith, less_of _ _ p (name_less ts) e, equal_less p.1 us f, less_of _ _ q (above_less us) g, subst (Leaves (length q.1)) h (below_leaves q.1))))
 
-pub items_of_atoms_more : (ts us : List Terminal) (p : FormulaTree × List Terminal) → atom_read ts ≡ Some p → after_mark mark.Comma p.1 ≡ Some us → items_read atom_read ts ≡ onto (p.0 ∷ []) (items_read atom_read us)
-items_of_atoms_more = items_more atom_read atom_less
+ratio_less : (end : Mark) (ts : List Terminal) → LeavesLess (length ts) (ratio_read end ts)
+ratio_less end ts = on_some_less (length ts) (above_read ts) _ (λ p e. on_some_less (length ts) (below_read p.1) _ (λ q f. on_some_less (length ts) (after_mark end q.1) _ (λ us g.
+    omega (arith, less_of _ _ p (above_less ts) e, subst (Leaves (length p.1)) f (below_leaves p.1), mark_shorter end q.1 us g))))
 
-pub items_of_atoms_last : (ts : List Terminal) (p : FormulaTree × List Terminal) → atom_read ts ≡ Some p → after_mark mark.Comma p.1 ≡ None → items_read atom_read ts ≡ Some (p.0 ∷ [], p.1)
-items_of_atoms_last = items_last atom_read atom_less
+pub axis_less : (ts : List Terminal) → LeavesLess (length ts) (axis_read ts)
+axis_less ts = on_some_less (length ts) (after_mark mark.OpenBrace ts) _ (λ us e. on_some_less (length ts) (name_read us) _ (λ x f. on_some_less (length ts) (after_mark mark.Comma x.1) _ (λ vs g.
+    on_some_less (length ts) (ratio_read mark.Comma vs) _ (λ low h. on_some_less (length ts) (ratio_read mark.Comma low.1) _ (λ high i. on_some_less (length ts) (ratio_read mark.CloseBrace high.1) _ (λ step j.
+    omega (arith, mark_shorter mark.OpenBrace ts us e, less_of _ _ x (name_less us) f, mark_shorter mark.Comma x.1 vs g, less_of _ _ low (ratio_less mark.Comma vs) h, less_of _ _ high (ratio_less mark.Comma low.1) i, less_of _ _ step (ratio_less mark.CloseBrace high.1) j)))))))
 
-pub items_of_atoms_none : (ts : List Terminal) → atom_read ts ≡ None → items_read atom_read ts ≡ None
-items_of_atoms_none = items_none atom_read atom_less
+pub items_of_atoms_more : (k : AtomKind) (ts us : List Terminal) (p : FormulaTree × List Terminal) → kind_read k ts ≡ Some p → after_mark mark.Comma p.1 ≡ Some us → items_read (kind_read k) ts ≡ onto (p.0 ∷ []) (items_read (kind_read k) us)
+items_of_atoms_more k = items_more (kind_read k) (kind_less k)
+
+pub items_of_atoms_last : (k : AtomKind) (ts : List Terminal) (p : FormulaTree × List Terminal) → kind_read k ts ≡ Some p → after_mark mark.Comma p.1 ≡ None → items_read (kind_read k) ts ≡ Some (p.0 ∷ [], p.1)
+items_of_atoms_last k = items_last (kind_read k) (kind_less k)
+
+pub items_of_atoms_none : (k : AtomKind) (ts : List Terminal) → kind_read k ts ≡ None → items_read (kind_read k) ts ≡ None
+items_of_atoms_none k = items_none (kind_read k) (kind_less k)
 
 pub items_of_entries_more : (ts us : List Terminal) (p : PointEntry × List Terminal) → entry_read ts ≡ Some p → after_mark mark.Comma p.1 ≡ Some us → items_read entry_read ts ≡ onto (p.0 ∷ []) (items_read entry_read us)
 items_of_entries_more = items_more entry_read entry_less
@@ -227,10 +251,32 @@ items_of_entries_last = items_last entry_read entry_less
 pub items_of_entries_none : (ts : List Terminal) → entry_read ts ≡ None → items_read entry_read ts ≡ None
 items_of_entries_none = items_none entry_read entry_less
 
+pub items_of_axes_more : (ts us : List Terminal) (p : GridAxis × List Terminal) → axis_read ts ≡ Some p → after_mark mark.Comma p.1 ≡ Some us → items_read axis_read ts ≡ onto (p.0 ∷ []) (items_read axis_read us)
+items_of_axes_more = items_more axis_read axis_less
+
+pub items_of_axes_last : (ts : List Terminal) (p : GridAxis × List Terminal) → axis_read ts ≡ Some p → after_mark mark.Comma p.1 ≡ None → items_read axis_read ts ≡ Some (p.0 ∷ [], p.1)
+items_of_axes_last = items_last axis_read axis_less
+
+pub items_of_axes_none : (ts : List Terminal) → axis_read ts ≡ None → items_read axis_read ts ≡ None
+items_of_axes_none = items_none axis_read axis_less
+
+pub items_of_wholes_more : (ts us : List Terminal) (p : Literal × List Terminal) → above_read ts ≡ Some p → after_mark mark.Comma p.1 ≡ Some us → items_read above_read ts ≡ onto (p.0 ∷ []) (items_read above_read us)
+items_of_wholes_more = items_more above_read above_less
+
+pub items_of_wholes_last : (ts : List Terminal) (p : Literal × List Terminal) → above_read ts ≡ Some p → after_mark mark.Comma p.1 ≡ None → items_read above_read ts ≡ Some (p.0 ∷ [], p.1)
+items_of_wholes_last = items_last above_read above_less
+
+pub items_of_wholes_none : (ts : List Terminal) → above_read ts ≡ None → items_read above_read ts ≡ None
+items_of_wholes_none = items_none above_read above_less
+
 -- the lemmas of one kind of items
 pub ruleset atoms = (items_of_atoms_more, items_of_atoms_last, items_of_atoms_none, onto_onto, onto_none, is_some, is_none)
 
 pub ruleset entries = (items_of_entries_more, items_of_entries_last, items_of_entries_none, onto_onto, onto_none, is_some, is_none)
+
+pub ruleset axes = (items_of_axes_more, items_of_axes_last, items_of_axes_none, onto_onto, onto_none, is_some, is_none)
+
+pub ruleset wholes = (items_of_wholes_more, items_of_wholes_last, items_of_wholes_none, onto_onto, onto_none, is_some, is_none)
 
 -- one more item of a loop
 pub loop_more : {X : Type 0} (read : List Terminal → Option (X × List Terminal)) (less : (ts : List Terminal) → LeavesLess (length ts) (read ts)) (whole : Option (List X × List Terminal)) (done all : List X) (x : X)

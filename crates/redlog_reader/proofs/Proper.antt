@@ -1,5 +1,5 @@
 -- What proper terminals spell can be written, and leaves proper terminals.
-use Rattle.std.proofs.Common.{lit<, ◌^◌, ◌≡◌, ℕ, zero, suc, ◌<◌, List, [], ◌∷◌, ◌++◌, sym, refl, subst, arith}
+use Rattle.std.proofs.Common.{lit<, ◌^◌, ◌≡◌, ℕ, zero, suc, ◌<◌, true, List, [], ◌∷◌, ◌++◌, sym, refl, subst, arith}
 use Rattle.std.specs.Prelude.{ℤ, negsuc, neg_ℤ, unsigned_abs, pos}
 use Rattle.formula_meaning.specs.Shape.{quantified}
 use Rattle.formula_meaning.specs.declared.quantifier.Quantifier.{Quantifier}
@@ -15,14 +15,17 @@ use Rattle.redlog_tokens.specs.declared.terminal.Terminal.TheVariants as termina
 use Rattle.redlog_tokens.specs.declared.terminal.Mark.TheVariants as mark
 use Rattle.redlog_reader.specs.Grammar.{SpellsFactor, number, variable, inner_sum, SpellsPower, first_power, raised, SpellsProduct, product, SpellsSum, sum, plus_sum, minus_sum, IsRelation, relation_sign, relation_word, SpellsComparison, comparison, SpellsCongruence, congruent, incongruent, SpellsAtom, compared_atom, congruent_atom}
 use Rattle.redlog_reader.specs.Grammar.{SpellsPrime, truth, falsity, named_formula, congruence, inner_formula, exists, for_all, SpellsFormula, opposite, Above, unsigned, opposed, Below, one, divided, SpellsEntry, entry, Listed, last_item, more_items, Braced, empty, listed, SpellsPoint}
-use Rattle.redlog_reader.specs.Grammar.{SpellsArgument, alone, under, SpellsResult, echo, nnf, pnf, dnf, cnf, simpl, qe, SpellsQuery, qea, holds, witness, SpellsAction, assign, result, query, choose, load, on, off, assume, retract, end, bye, quit, SpellsStatement, nothing, acting}
+use Rattle.redlog_reader.specs.Grammar.{SpellsArgument, alone, under, SpellsResult, echo, nnf, pnf, dnf, cnf, simpl, qe, SpellsRatio, ratio, SpellsAxis, axis, SpellsBound, bound, SpellsBounds, SpellsWholes, SpellsQuery, qea, holds, witness, grid, certify, check, SpellsAction, assign, result, query, choose, load, on, off, assume, retract, end, bye, quit, SpellsStatement, nothing, acting}
 use Rattle.std.specs.List.{AllByRecursion}
 use Rattle.std.proofs.lemmas.Int.{ints}
 use Rattle.qe_syntax.specs.Names.{IsVariable}
 use Rattle.qe_syntax.specs.Trees.{Negative, terms_of}
 use Rattle.qe_syntax.specs.Proper.{IsNumeral, IsSigned}
 use Rattle.qe_syntax.specs.Writable.{IsWritableEntry, AreWritableEntries, IsWritableTerm, AreWritableTerms, IsWritableFormula, AreWritableFormulas}
-use Rattle.statement_syntax.specs.Writable.{IsWritableCommand, IsWritableAction, IsWritable}
+use Rattle.statement_syntax.specs.declared.grid.Ratio.{Ratio}
+use Rattle.statement_syntax.specs.declared.grid.GridAxis.{GridAxis}
+use Rattle.statement_syntax.specs.Constraints.{is_constraint, AreConstraints}
+use Rattle.statement_syntax.specs.Writable.{IsWritableRatio, IsWritableAxis, AreWritableNumbers, IsWritableCommand, IsWritableAction, IsWritable}
 use Rattle.redlog_reader.specs.Grammar.{product_of, sum_of, conjunction_of, disjunction_of, quantified_names, Factors, no_factor, times, over, Members, no_member, plus, minus, Names, last_name, more_names, SpellsNames, one_name, many_names}
 use Rattle.redlog_tokens.proofs.ProperTokens.{AreProperTerminals}
 use Rattle.redlog_reader.specs.Grammar.{SpellsNegation, negation, compared, prime, SpellsConjunction, conjunction, Conjuncts, no_conjunct, conjunct, SpellsDisjunction, disjunction, Disjuncts, no_disjunct, disjunct, SpellsImplication, no_implication, implication, SpellsReplication, replication, Repls, no_repl, repl, equivalence, Equivs, no_equiv, equiv}
@@ -191,7 +194,7 @@ signed_opposite : (n : Literal) → IsNumeral n → IsSigned (opposite n)
 signed_opposite (Fits n) h = subst (λ m. m < 2 ^ 127) (sym (abs_neg n)) h.1
 signed_opposite Past h = tt
 
-proper_above : {ts r : List Terminal} {n : Literal} → Above ts n r → AreProperTerminals ts → IsSigned n × AreProperTerminals r
+pub proper_above : {ts r : List Terminal} {n : Literal} → Above ts n r → AreProperTerminals ts → IsSigned n × AreProperTerminals r
 proper_above (unsigned {n = n}) h = (signed_numeral n h.0, h.1)
 proper_above (opposed {n = n} is) h = (subst IsSigned (sym is) (signed_opposite n h.0), h.1)
 
@@ -241,10 +244,43 @@ proper_result (cnf p) h = proper_prime p h
 proper_result (simpl p) h = proper_argument p h
 proper_result (qe p) h = proper_argument p h
 
+pub proper_ratio : {ts r : List Terminal} {v : Ratio} → SpellsRatio ts v r → AreProperTerminals ts → IsWritableRatio v × AreProperTerminals r
+proper_ratio (ratio above below) h =
+    let a = proper_above above h in
+    let b = proper_below below a.1 in
+    (record { above = a.0; below = b.0 }, b.1)
+
+pub proper_axis : {ts r : List Terminal} {a : GridAxis} → SpellsAxis ts a r → AreProperTerminals ts → IsWritableAxis a × AreProperTerminals r
+proper_axis (axis is low high step) h =
+    let a = proper_ratio low h.1 in
+    let b = proper_ratio high a.1 in
+    let c = proper_ratio step b.1 in
+    (record { name = subst IsVariable is h.0; low = a.0; high = b.0; step = c.0 }, c.1)
+
+-- a constraint that can be written
+abbrev IsProperBound : FormulaTree → Type 0
+IsProperBound f = IsWritableFormula f × (is_constraint f ≡ true)
+
+proper_bound : {ts r : List Terminal} {f : FormulaTree} → SpellsBound ts f r → AreProperTerminals ts → IsProperBound f × AreProperTerminals r
+proper_bound (bound p is) h = let a = proper_comparison p h in ((a.0, is), a.1)
+
+all_bounds : (fs : List FormulaTree) → AllByRecursion IsProperBound fs → AreWritableFormulas (formulas_of fs) × AreConstraints (formulas_of fs)
+all_bounds [] h = (tt, tt)
+all_bounds (f ∷ fs) h = let more = all_bounds fs h.1 in ((h.0.0, more.0), (h.0.1, more.1))
+
+pub proper_bounds : {ts r : List Terminal} {fs : List FormulaTree} → SpellsBounds ts fs r → AreProperTerminals ts → (AreWritableFormulas (formulas_of fs) × AreConstraints (formulas_of fs)) × AreProperTerminals r
+proper_bounds {fs = fs} p h = let a = proper_braced {P = IsProperBound} (λ us rest x q k. proper_bound q k) p h in (all_bounds fs a.0, a.1)
+
+proper_wholes : {ts r : List Terminal} {ns : List Literal} → SpellsWholes ts ns r → AreProperTerminals ts → AreWritableNumbers ns × AreProperTerminals r
+proper_wholes p h = proper_braced {P = IsSigned} (λ us rest x q k. proper_above q k) p h
+
 proper_query : {ts r : List Terminal} {c : CommandTree} → SpellsQuery ts c r → AreProperTerminals ts → IsWritableCommand c × AreProperTerminals r
 proper_query (qea p) h = proper_argument p h
 proper_query (holds p q) h = let a = proper_formula p h in let b = proper_point q a.1 in ((a.0, b.0), b.1)
 proper_query (witness p q) h = let a = proper_formula p h in let b = proper_point q a.1 in ((a.0, b.0), b.1)
+proper_query (grid p q) h = let a = proper_formula p h in let b = proper_items {P = IsWritableAxis} (λ us rest x q k. proper_axis q k) q a.1 in ((a.0, b.0), b.1)
+proper_query (certify p) h = let a = proper_bounds p h in (a.0, a.1)
+proper_query (check p q) h = let a = proper_bounds p h in let b = proper_wholes q a.1 in ((a.0, b.0), b.1)
 
 proper_action : {ts r : List Terminal} {a : ActionTree} → SpellsAction ts a r → AreProperTerminals ts → IsWritableAction a
 proper_action (assign p) h = (h.0, (proper_result p h.1).0)

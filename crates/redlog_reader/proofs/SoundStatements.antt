@@ -6,21 +6,25 @@ use Rattle.qe_syntax.specs.declared.tree.Literal.TheVariants.{Fits}
 use Rattle.qe_syntax.specs.declared.tree.Relation.{Relation}
 use Rattle.qe_syntax.specs.declared.tree.Relation.TheVariants.{Equal}
 use Rattle.qe_syntax.specs.declared.entries.PointEntry.{PointEntry}
-use Rattle.qe_syntax.specs.Trees.{TermTree, FormulaTree}
-use Rattle.statement_syntax.specs.Statements.{CommandTree, Echo, Nnf, Pnf, Dnf, Cnf, Holds, Sample, ActionTree, Ignored, Finish, Choose, Say, Retract, StatementTree}
+use Rattle.statement_syntax.specs.declared.grid.Ratio.{Ratio}
+use Rattle.statement_syntax.specs.declared.grid.GridAxis.{GridAxis}
+use Rattle.statement_syntax.specs.Constraints.{is_constraint}
+use Rattle.qe_syntax.specs.Trees.{TermTree, FormulaTree, formulas_of}
+use Rattle.statement_syntax.specs.Statements.{CommandTree, Echo, Nnf, Pnf, Dnf, Cnf, Holds, Sample, Grid, Certify, Check, ActionTree, Ignored, Finish, Choose, Say, Retract, StatementTree}
 use Rattle.redlog_tokens.specs.declared.terminal.Terminal.{Terminal}
 use Rattle.redlog_tokens.specs.declared.terminal.Terminal.TheVariants as terminal
+use Rattle.redlog_tokens.specs.declared.terminal.Mark.{Mark}
 use Rattle.redlog_tokens.specs.declared.terminal.Mark.TheVariants as mark
 use Rattle.redlog_tokens.specs.declared.terminal.Word.{Word}
 use Rattle.redlog_tokens.specs.declared.terminal.Word.TheVariants as word
 use Rattle.redlog_reader.specs.Machine.{term_of, formula_of, Wants, run}
 use Rattle.redlog_reader.specs.Grammar.{SpellsSum, IsRelation, relation_sign, relation_word, SpellsComparison, comparison, SpellsCongruence, SpellsAtom, compared_atom, congruent_atom}
 use Rattle.redlog_reader.specs.Grammar.{SpellsPrime, truth, falsity, named_formula, congruence, inner_formula, exists, for_all, SpellsFormula, setting_of, IsAny, any_name, any_word, SpellsAnys, last_any, more_anys, Above, unsigned, opposed, Below, one, divided, SpellsEntry, entry, Listed, last_item, more_items, Braced, empty, listed, SpellsPoint, SpellsAtoms}
-use Rattle.redlog_reader.specs.Grammar.{SpellsArgument, alone, under, SpellsResult, echo, nnf, pnf, dnf, cnf, simpl, qe, qea, holds, witness, SpellsAction, assign, result, query, choose, load, on, off, assume, retract, end, bye, quit, end_mark, SpellsStatement, nothing, acting}
-use Rattle.redlog_reader.specs.Reader.{on_some, after_mark, formula_read, sum_read, relation_of, relation_read, comparison_read, begins_congruence, atom_read, listed_read, items_read, braced_read, number_read, above_read, below_read, name_read, after_equal, entry_read, argument_read, pointed_read, result_from, result_read, is_any, anys_read, ignored_read, said, action_from, action_read, ending, statement_read}
+use Rattle.redlog_reader.specs.Grammar.{SpellsArgument, alone, under, SpellsResult, echo, nnf, pnf, dnf, cnf, simpl, qe, SpellsRatio, ratio, SpellsAxis, axis, SpellsBound, bound, SpellsBounds, SpellsWholes, qea, holds, witness, grid, certify, check, SpellsAction, assign, result, query, choose, load, on, off, assume, retract, end, bye, quit, end_mark, SpellsStatement, nothing, acting}
+use Rattle.redlog_reader.specs.Reader.{on_some, after_mark, formula_read, sum_read, relation_of, relation_read, comparison_read, begins_congruence, atom_read, bound_read, listed_read, items_read, braced_read, number_read, above_read, below_read, name_read, after_equal, entry_read, ratio_read, axis_read, argument_read, pointed_read, grid_read, certified_read, checked_read, result_from, result_read, is_any, anys_read, ignored_read, said, action_from, action_read, ending, statement_read}
 use Rattle.redlog_reader.specs.Reader as reader
 use Rattle.redlog_tokens.proofs.ProperTokens.{AreProperTerminals}
-use Rattle.redlog_reader.proofs.Proper.{proper_entry, proper_formula}
+use Rattle.redlog_reader.proofs.Proper.{proper_above, proper_entry, proper_formula, proper_ratio, proper_axis, proper_bounds}
 use Rattle.redlog_reader.proofs.CompleteStatements.{negated_done}
 use Rattle.redlog_reader.proofs.SoundSteps.{FormulaAt, term_raise, formula_raise}
 use Rattle.redlog_reader.proofs.Sound.{Sound, read_sound}
@@ -289,6 +293,124 @@ pointed_sound ts rest f es good e =
       subst (λ gs. SpellsPoint comma.0 gs (terminal.Mark mark.Close ∷ rest)) parts.1 (subst (λ v. SpellsPoint comma.0 point.0.0 v) ended (entries_sound comma.0 point.0.1 point.0.0 left point.1)),
     )
 
+ratio_sound : (last : Mark) → ((us vs : List Terminal) → after_mark last us ≡ Some vs → us ≡ terminal.Mark last ∷ vs)
+    → (ts rest : List Terminal) (r : Ratio) → AreProperTerminals ts → ratio_read last ts ≡ Some (r, rest) → SpellsRatio ts r (terminal.Mark last ∷ rest)
+ratio_sound last ends ts rest r good e =
+    let above = some_of (above_read ts) _ (r, rest) e in
+    let below = some_of (below_read above.0.1) _ (r, rest) above.2 in
+    let close = some_of (after_mark last below.0.1) _ (r, rest) below.2 in
+    let same = pair_of close.2 in
+    let ended = ends below.0.1 close.0 close.1 ∙ ap (λ v. terminal.Mark last ∷ v) same.1 in
+    ratio (subst (λ k. Above ts k above.0.1) (ap (λ d. d.above) same.0) (above_sound ts above.0.1 above.0.0 good above.1))
+    (subst (λ k. Below above.0.1 k (terminal.Mark last ∷ rest)) (ap (λ d. d.below) same.0) (subst (λ v. Below above.0.1 below.0.0 v) ended (below_sound above.0.1 below.0.1 below.0.0 below.1)))
+
+axis_sound : (ts rest : List Terminal) (a : GridAxis) → AreProperTerminals ts → axis_read ts ≡ Some (a, rest) → SpellsAxis ts a rest
+axis_sound ts rest a good e =
+    let start = some_of (after_mark mark.OpenBrace ts) _ (a, rest) e in
+    let name = some_of (name_read start.0) _ (a, rest) start.2 in
+    let comma = some_of (after_mark mark.Comma name.0.1) _ (a, rest) name.2 in
+    let low = some_of (ratio_read mark.Comma comma.0) _ (a, rest) comma.2 in
+    let high = some_of (ratio_read mark.Comma low.0.1) _ (a, rest) low.2 in
+    let step = some_of (ratio_read mark.CloseBrace high.0.1) _ (a, rest) high.2 in
+    let same = pair_of step.2 in
+    let named = name_sound start.0 name.0.1 name.0.0 name.1 ∙ ap (λ v. terminal.Name name.0.0 ∷ v) (sound_Comma name.0.1 comma.0 comma.1) in
+    let begins = sound_OpenBrace ts start.0 start.1 ∙ ap (λ v. terminal.Mark mark.OpenBrace ∷ v) named in
+    let proper : AreProperTerminals (terminal.Mark mark.OpenBrace ∷ terminal.Name name.0.0 ∷ terminal.Mark mark.Comma ∷ comma.0) = subst AreProperTerminals begins good in
+    let first : SpellsRatio comma.0 low.0.0 (terminal.Mark mark.Comma ∷ low.0.1) = ratio_sound mark.Comma sound_Comma comma.0 low.0.1 low.0.0 proper.1 low.1 in
+    let later : AreProperTerminals low.0.1 = (proper_ratio first proper.1).1 in
+    let second : SpellsRatio low.0.1 high.0.0 (terminal.Mark mark.Comma ∷ high.0.1) = ratio_sound mark.Comma sound_Comma low.0.1 high.0.1 high.0.0 later high.1 in
+    let latest : AreProperTerminals high.0.1 = (proper_ratio second later).1 in
+    let third : SpellsRatio high.0.1 step.0.0 (terminal.Mark mark.CloseBrace ∷ step.0.1) = ratio_sound mark.CloseBrace sound_CloseBrace high.0.1 step.0.1 step.0.0 latest step.1 in
+    subst (λ v. SpellsAxis v a rest) (sym begins)
+    (axis (ap (λ d. d.name) same.0)
+    (subst (λ k. SpellsRatio comma.0 k (terminal.Mark mark.Comma ∷ low.0.1)) (ap (λ d. d.low) same.0) first)
+    (subst (λ k. SpellsRatio low.0.1 k (terminal.Mark mark.Comma ∷ high.0.1)) (ap (λ d. d.high) same.0) second)
+    (subst (λ k. SpellsRatio high.0.1 k (terminal.Mark mark.CloseBrace ∷ rest)) (ap (λ d. d.step) same.0) (subst (λ v. SpellsRatio high.0.1 step.0.0 (terminal.Mark mark.CloseBrace ∷ v)) same.1 third)))
+
+axes_sound : (ts rest : List Terminal) (axes : List GridAxis) → AreProperTerminals ts → items_read axis_read ts ≡ Some (axes, rest) → Listed SpellsAxis ts axes rest
+axes_sound ts rest axes good e = listed_sound axis_read SpellsAxis AreProperTerminals axis_sound (λ us r x h p. (proper_axis p h).1) (λ us h. h) (suc (length ts)) ts rest axes good e
+
+-- a formula and axes in brackets
+abbrev Gridded : List Terminal → FormulaTree → List GridAxis → List Terminal → Type 0
+Gridded ts f axes rest = (us : List Terminal) × (vs : List Terminal) × (ts ≡ terminal.Mark mark.Open ∷ us) × SpellsFormula us f (terminal.Mark mark.Comma ∷ vs) × Listed SpellsAxis vs axes (terminal.Mark mark.Close ∷ rest)
+
+grid_sound : (ts rest : List Terminal) (f : FormulaTree) (axes : List GridAxis) → AreProperTerminals ts → grid_read ts ≡ Some ((f, axes), rest) → Gridded ts f axes rest
+grid_sound ts rest f axes good e =
+    let start = some_of (after_mark mark.Open ts) _ ((f, axes), rest) e in
+    let opened = sound_Open ts start.0 start.1 in
+    let form = some_of (formula_read 8 start.0) _ ((f, axes), rest) start.2 in
+    let comma = some_of (after_mark mark.Comma form.0.1) _ ((f, axes), rest) form.2 in
+    let items = some_of (items_read axis_read comma.0) _ ((f, axes), rest) comma.2 in
+    let close = some_of (after_mark mark.Close items.0.1) _ ((f, axes), rest) items.2 in
+    let same = pair_of close.2 in
+    let parts = pair_of (ap Some same.0) in
+    let ended = sound_Close items.0.1 close.0 close.1 ∙ ap (λ v. terminal.Mark mark.Close ∷ v) same.1 in
+    let spelled : SpellsFormula start.0 form.0.0 (terminal.Mark mark.Comma ∷ comma.0) = subst (λ v. SpellsFormula start.0 form.0.0 v) (sound_Comma form.0.1 comma.0 comma.1) (formula_sound 8 start.0 form.0.1 form.0.0 form.1) in
+    let inner : AreProperTerminals start.0 = subst AreProperTerminals opened good in
+    let left : AreProperTerminals comma.0 = (proper_formula spelled inner).1 in (
+      start.0,
+      comma.0,
+      opened,
+      subst (λ g. SpellsFormula start.0 g (terminal.Mark mark.Comma ∷ comma.0)) parts.0 spelled,
+      subst (λ gs. Listed SpellsAxis comma.0 gs (terminal.Mark mark.Close ∷ rest)) parts.1 (subst (λ v. Listed SpellsAxis comma.0 items.0.0 v) ended (axes_sound comma.0 items.0.1 items.0.0 left items.1)),
+    )
+
+-- a comparison that is kept is a constraint
+constraint_kept : (p : FormulaTree × List Terminal) (f : FormulaTree) (rest : List Terminal) (b : Bool) → is_constraint p.0 ≡ b → (if b then Some p else None) ≡ Some (f, rest) → (is_constraint f ≡ true) × (p ≡ (f, rest))
+constraint_kept p f rest true is e = let same = same_some e in (ap (λ (q : FormulaTree × List Terminal). is_constraint q.0) (sym same) ∙ is, same)
+constraint_kept p f rest false is e = absurd (let no : ⊥ = cc in no)
+
+bound_sound : (ts rest : List Terminal) (f : FormulaTree) → bound_read ts ≡ Some (f, rest) → SpellsBound ts f rest
+bound_sound ts rest f e =
+    let found = some_of (comparison_read ts) _ (f, rest) e in
+    let kept = constraint_kept found.0 f rest (is_constraint found.0.0) refl found.2 in
+    bound (comparison_sound ts rest f (found.1 ∙ ap Some kept.1)) kept.0
+
+bounds_sound : (ts rest : List Terminal) (fs : List FormulaTree) → braced_read bound_read ts ≡ Some (fs, rest) → SpellsBounds ts fs rest
+bounds_sound ts rest fs e = braced_sound bound_read SpellsBound (λ ts. Unit {0}) (λ us r f good h. bound_sound us r f h) (λ us r f good h. tt) (λ us h. tt) ts rest fs (λ us h. tt) tt e
+
+wholes_sound : (ts rest : List Terminal) (ns : List Literal) → AreProperTerminals ts → braced_read above_read ts ≡ Some (ns, rest) → SpellsWholes ts ns rest
+wholes_sound ts rest ns good e = braced_sound above_read Above AreProperTerminals above_sound (λ us r n h p. (proper_above p h).1) (λ us h. h) ts rest ns (λ us h. h) good e
+
+-- constraints in brackets
+abbrev Certified : List Terminal → List FormulaTree → List Terminal → Type 0
+Certified ts fs rest = (us : List Terminal) × (ts ≡ terminal.Mark mark.Open ∷ us) × SpellsBounds us fs (terminal.Mark mark.Close ∷ rest)
+
+certified_sound : (ts rest : List Terminal) (fs : List FormulaTree) → certified_read ts ≡ Some (fs, rest) → Certified ts fs rest
+certified_sound ts rest fs e =
+    let start = some_of (after_mark mark.Open ts) _ (fs, rest) e in
+    let bounds = some_of (braced_read bound_read start.0) _ (fs, rest) start.2 in
+    let close = some_of (after_mark mark.Close bounds.0.1) _ (fs, rest) bounds.2 in
+    let same = pair_of close.2 in
+    let ended = sound_Close bounds.0.1 close.0 close.1 ∙ ap (λ v. terminal.Mark mark.Close ∷ v) same.1 in
+    let spelled : SpellsBounds start.0 bounds.0.0 (terminal.Mark mark.Close ∷ rest) = subst (λ v. SpellsBounds start.0 bounds.0.0 v) ended (bounds_sound start.0 bounds.0.1 bounds.0.0 bounds.1) in
+    (start.0, sound_Open ts start.0 start.1, subst (λ gs. SpellsBounds start.0 gs (terminal.Mark mark.Close ∷ rest)) same.0 spelled)
+
+-- constraints and multipliers in brackets
+abbrev Checked : List Terminal → List FormulaTree → List Literal → List Terminal → Type 0
+Checked ts fs ns rest = (us : List Terminal) × (vs : List Terminal) × (ts ≡ terminal.Mark mark.Open ∷ us) × SpellsBounds us fs (terminal.Mark mark.Comma ∷ vs) × SpellsWholes vs ns (terminal.Mark mark.Close ∷ rest)
+
+checked_sound : (ts rest : List Terminal) (fs : List FormulaTree) (ns : List Literal) → AreProperTerminals ts → checked_read ts ≡ Some ((fs, ns), rest) → Checked ts fs ns rest
+checked_sound ts rest fs ns good e =
+    let start = some_of (after_mark mark.Open ts) _ ((fs, ns), rest) e in
+    let opened = sound_Open ts start.0 start.1 in
+    let bounds = some_of (braced_read bound_read start.0) _ ((fs, ns), rest) start.2 in
+    let comma = some_of (after_mark mark.Comma bounds.0.1) _ ((fs, ns), rest) bounds.2 in
+    let wholes = some_of (braced_read above_read comma.0) _ ((fs, ns), rest) comma.2 in
+    let close = some_of (after_mark mark.Close wholes.0.1) _ ((fs, ns), rest) wholes.2 in
+    let same = pair_of close.2 in
+    let parts = pair_of (ap Some same.0) in
+    let ended = sound_Close wholes.0.1 close.0 close.1 ∙ ap (λ v. terminal.Mark mark.Close ∷ v) same.1 in
+    let spelled : SpellsBounds start.0 bounds.0.0 (terminal.Mark mark.Comma ∷ comma.0) = subst (λ v. SpellsBounds start.0 bounds.0.0 v) (sound_Comma bounds.0.1 comma.0 comma.1) (bounds_sound start.0 bounds.0.1 bounds.0.0 bounds.1) in
+    let inner : AreProperTerminals start.0 = subst AreProperTerminals opened good in
+    let left : AreProperTerminals comma.0 = (proper_bounds spelled inner).1 in (
+      start.0,
+      comma.0,
+      opened,
+      subst (λ gs. SpellsBounds start.0 gs (terminal.Mark mark.Comma ∷ comma.0)) parts.0 spelled,
+      subst (λ ms. SpellsWholes comma.0 ms (terminal.Mark mark.Close ∷ rest)) parts.1 (subst (λ v. SpellsWholes comma.0 wholes.0.0 v) ended (wholes_sound comma.0 wholes.0.1 wholes.0.0 left wholes.1)),
+    )
+
 -- a command of one formula
 form_sound : (goal : ℕ) (make : FormulaTree → CommandTree) (ts rest : List Terminal) (c : CommandTree)
     → on_some {Y = Option (CommandTree × List Terminal)} (formula_read goal ts) (λ p. Some (make p.0, p.1)) None ≡ Some (c, rest) → (f : FormulaTree) × FormulaAt goal ts f rest × (make f ≡ c)
@@ -381,6 +503,21 @@ action_from_sound word.Witness ts rest a good e =
     let same = pair_of found.2 in
     let p = pointed_sound ts rest found.0.0.0 found.0.0.1 good (found.1 ∙ ap (λ v. Some (found.0.0, v)) same.1) in
     subst (λ d. SpellsAction (terminal.Word word.Witness ∷ ts) d rest) same.0 (subst (λ v. SpellsAction (terminal.Word word.Witness ∷ v) (Say (Sample found.0.0.0 found.0.0.1)) rest) (sym p.2) (query (witness p.3 p.4)))
+action_from_sound word.Grid ts rest a good e =
+    let found = some_of (grid_read ts) _ (a, rest) e in
+    let same = pair_of found.2 in
+    let p = grid_sound ts rest found.0.0.0 found.0.0.1 good (found.1 ∙ ap (λ v. Some (found.0.0, v)) same.1) in
+    subst (λ d. SpellsAction (terminal.Word word.Grid ∷ ts) d rest) same.0 (subst (λ v. SpellsAction (terminal.Word word.Grid ∷ v) (Say (Grid found.0.0.0 found.0.0.1)) rest) (sym p.2) (query (grid p.3 p.4)))
+action_from_sound word.Cert ts rest a good e =
+    let found = some_of (certified_read ts) _ (a, rest) e in
+    let same = pair_of found.2 in
+    let p = certified_sound ts rest found.0.0 (found.1 ∙ ap (λ v. Some (found.0.0, v)) same.1) in
+    subst (λ d. SpellsAction (terminal.Word word.Cert ∷ ts) d rest) same.0 (subst (λ v. SpellsAction (terminal.Word word.Cert ∷ v) (Say (Certify (formulas_of found.0.0))) rest) (sym p.1) (query (certify p.2)))
+action_from_sound word.Check ts rest a good e =
+    let found = some_of (checked_read ts) _ (a, rest) e in
+    let same = pair_of found.2 in
+    let p = checked_sound ts rest found.0.0.0 found.0.0.1 good (found.1 ∙ ap (λ v. Some (found.0.0, v)) same.1) in
+    subst (λ d. SpellsAction (terminal.Word word.Check ∷ ts) d rest) same.0 (subst (λ v. SpellsAction (terminal.Word word.Check ∷ v) (Say (Check (formulas_of found.0.0.0) found.0.0.1)) rest) (sym p.2) (query (check p.3 p.4)))
 action_from_sound w ts rest a good e = said_sound (terminal.Word w ∷ ts) rest (result_from w ts) a (λ r c h. result_from_sound w ts r c h) e
 
 action_sound : (ts rest : List Terminal) (a : ActionTree) → AreProperTerminals ts → action_read ts ≡ Some (a, rest) → SpellsAction ts a rest
