@@ -3,7 +3,7 @@
 -- given by what stands before it.
 use Rattle.std.specs.Prelude.{◌≡◌, ℕ, Bool, true, false, List, [], ◌∷◌, ◌++◌, map, codes, bytes_eq, ◌||◌, if◌then◌else◌, Option, Some, None, pos, neg_ℤ}
 use Rattle.std.specs.Char.{to_ascii_lowercase}
-use Rattle.formula_meaning.specs.Formula.{Yes, No, One, Not, And, Or, Impl, Repl, Equiv, Ex, All}
+use Rattle.formula_meaning.specs.Formula.{Yes, No, One, Not, And, Or, Impl, Repl, Equiv}
 use Rattle.formula_meaning.specs.Shape.{quantified}
 use Rattle.formula_meaning.specs.declared.quantifier.Quantifier.{Quantifier}
 use Rattle.formula_meaning.specs.declared.quantifier.Quantifier.TheVariants.{Exists, ForAll}
@@ -188,8 +188,6 @@ mutual
   pub data Equivs : FormulaTree → List Terminal → FormulaTree → List Terminal → Type 0 where
     no_equiv : {before : FormulaTree} {rest : List Terminal} {g : FormulaTree} → g ≡ before → Equivs before rest g rest
     equiv : {before : FormulaTree} {us vs rest : List Terminal} {f g : FormulaTree} → SpellsReplication us f vs → Equivs (Equiv before f) vs g rest → Equivs before (terminal.Word word.Equiv ∷ us) g rest
-
--- the letter in lower case
 
 -- the context that a name names, in any letter case
 unfoldable pub setting_of : List ℕ → Option Setting
