@@ -1,9 +1,11 @@
 -- The names of a state are ones that a script can write, after each statement.
-use Rattle.std.proofs.Common.{ℕ, List, [], Bool, sym, subst}
-use Rattle.statement_syntax.specs.Statements.{CommandTree, Echo, Nnf, Pnf, Dnf, Cnf, Simpl, Qe, Qea, Holds, Sample, ActionTree, Empty, Ignored, Finish, Choose, Say, Assign, Assume, Retract, StatementTree}
+use Rattle.std.proofs.Common.{ℕ, List, [], ◌∷◌, map, Bool, sym, subst}
+use Rattle.statement_syntax.specs.Statements.{CommandTree, Echo, Nnf, Pnf, Dnf, Cnf, Simpl, Qe, Qea, Holds, Sample, Grid, Certify, Check, ActionTree, Empty, Ignored, Finish, Choose, Say, Assign, Assume, Retract, StatementTree}
 use Rattle.qe_syntax.specs.Trees.{FormulaTrees}
 use Rattle.qe_syntax.specs.Writable.{AreWritableFormulas}
-use Rattle.statement_syntax.specs.Writable.{IsWritableCommand, IsWritable}
+use Rattle.qe_syntax.specs.declared.entries.PointEntry.{PointEntry}
+use Rattle.statement_syntax.specs.declared.grid.GridAxis.{GridAxis}
+use Rattle.statement_syntax.specs.Writable.{AreWritableAxes, IsWritableCommand, IsWritable}
 use Rattle.formula_tree.specs.Resolving.{all_variables}
 use Rattle.formula_tree.proofs.PlaceLaws.{after_distinct}
 use Rattle.redlog_reader.specs.Statement.{Spells}
@@ -12,6 +14,7 @@ use Rattle.redlog_reader.proofs.Proper.{proper_statement}
 use Rattle.printed_formulas.specs.Round.{AreVariables}
 use Rattle.session_meaning.specs.declared.line.Line.{Line}
 use Rattle.session_meaning.specs.State.{State}
+use Rattle.session_meaning.specs.Grids.{lows}
 use Rattle.session_meaning.specs.Meaning.{variables, numbered, meaning, assumption_meaning}
 use Rattle.session_meaning.specs.Reply.{Answers}
 use Rattle.session_commands.proofs.NewNameLemmas.{answer_names_distinct, answer_names_variables}
@@ -30,6 +33,13 @@ proper_formulas (Qe f given) h = (h.0, h.1)
 proper_formulas (Qea f given) h = (h.0, h.1)
 proper_formulas (Holds f es) h = (h.0, tt)
 proper_formulas (Sample f es) h = (h.0, tt)
+proper_formulas (Grid f axes) h = (h.0, tt)
+proper_formulas (Certify written) h = h.0
+proper_formulas (Check written ms) h = h.0.0
+
+names_of_axes : (axes : List GridAxis) → AreWritableAxes axes → AllVariables (map (λ (e : PointEntry). e.name) (lows axes))
+names_of_axes [] h = tt
+names_of_axes (a ∷ axes) h = (h.0.name, names_of_axes axes h.1)
 
 proper_further : (c : CommandTree) → IsWritableCommand c → AllVariables (meaning c).further
 proper_further (Echo f) h = tt
@@ -42,6 +52,9 @@ proper_further (Qe f given) h = tt
 proper_further (Qea f given) h = tt
 proper_further (Holds f es) h = names_of_entries es h.1
 proper_further (Sample f es) h = names_of_entries es h.1
+proper_further (Grid f axes) h = names_of_axes axes h.1
+proper_further (Certify written) h = tt
+proper_further (Check written ms) h = tt
 
 variables_of_command : (c : CommandTree) → IsWritableCommand c → AllVariables (variables (meaning c))
 variables_of_command c h = both (all_variables (meaning c).formulas) (meaning c).further (variables_of_all (meaning c).formulas (proper_formulas c h)) (proper_further c h)

@@ -37,6 +37,7 @@ module _ (s : State) (limit : ℕ) (printed : Bool) where
   no_cause error.Nonlinear h = ⊎_elim (λ k. k) (λ k. k) h
   no_cause error.Division h = ⊎_elim (λ k. k) (λ k. k) h
   no_cause error.CongruenceContext h = ⊎_elim (no_congruence s.context) (λ k. k) h
+  no_cause error.Context h = h
   no_cause error.Modulus h = ⊎_elim (λ k. k) (λ k. k) h
   no_cause error.Depth h = ⊎_elim (λ k. absurd (omega arith)) (λ k. k) h
   no_cause error.Point h = h

@@ -127,6 +127,7 @@ module _ (s next : State) (limit : ℕ) (piece : List ℕ) (t : StatementTree) (
   reply_to_stop error.Nonlinear p h = (p, spelled_refused error.Nonlinear (h (λ q. absurd (cc (q)))))
   reply_to_stop error.Division p h = (p, spelled_refused error.Division (h (λ q. absurd (cc (q)))))
   reply_to_stop error.CongruenceContext p h = (p, spelled_refused error.CongruenceContext (h (λ q. absurd (cc (q)))))
+  reply_to_stop error.Context p h = (p, spelled_refused error.Context (h (λ q. absurd (cc (q)))))
   reply_to_stop error.Modulus p h = (p, spelled_refused error.Modulus (h (λ q. absurd (cc (q)))))
   reply_to_stop error.Depth p h = (p, spelled_refused error.Depth (h (λ q. absurd (cc (q)))))
   reply_to_stop error.Point p h = (p, spelled_refused error.Point (h (λ q. absurd (cc (q)))))

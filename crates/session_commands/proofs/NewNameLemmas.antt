@@ -2,7 +2,7 @@
 use Rattle.std.proofs.Common.{◌≡◌, ℕ, List, sym, ◌∙◌, subst}
 use Rattle.std.specs.List.{IsDistinct}
 use Rattle.formula_meaning.specs.Tree.{Tree}
-use Rattle.statement_syntax.specs.Statements.{CommandTree, Echo, Nnf, Pnf, Dnf, Cnf, Simpl, Qe, Qea, Holds, Sample}
+use Rattle.statement_syntax.specs.Statements.{CommandTree, Echo, Nnf, Pnf, Dnf, Cnf, Simpl, Qe, Qea, Holds, Sample, Grid, Certify, Check}
 use Rattle.qe_syntax.specs.Trees.{FormulaTree}
 use Rattle.qe_syntax.specs.Value.{same_name}
 use Rattle.formula_tree.specs.Resolving.{resolve}
@@ -33,6 +33,9 @@ answer_names s (Qe f given) P old new = old
 answer_names s (Qea f given) P old new = old
 answer_names s (Holds f es) P old new = old
 answer_names s (Sample f es) P old new = old
+answer_names s (Grid f axes) P old new = old
+answer_names s (Certify written) P old new = old
+answer_names s (Check written ms) P old new = old
 
 pub answer_names_once : (s : State) (c : CommandTree) (a b : List (List ℕ)) → (meaning c).names s a → (meaning c).names s b → a ≡ b
 answer_names_once s c =

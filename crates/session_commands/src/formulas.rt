@@ -118,7 +118,12 @@ pub(crate) fn form_command_of(command: &Command) -> Option<(FormCommand<'_>, &Fo
         Command::Qe(formula, given) => {
             Some((FormCommand::Eliminated(Way::ByCases, given), formula))
         }
-        Command::Qea(..) | Command::Holds(..) | Command::Sample(..) => None,
+        Command::Qea(..)
+        | Command::Holds(..)
+        | Command::Sample(..)
+        | Command::Grid(..)
+        | Command::Certify(..)
+        | Command::Check(..) => None,
     }
 }
 

@@ -15,8 +15,9 @@ use crate::assumptions::{assume, retract};
 use crate::formulas::{answer_formula, form_command_of};
 use atom_normal::Context;
 use block_scheduler::Limits;
+use certificate_queries::{answer_certificate, answer_check};
 use command_tools::{Workshop, printed_line};
-use point_queries::{answer_cases, answer_holds, answer_sample};
+use point_queries::{answer_cases, answer_grid, answer_holds, answer_sample};
 use qe_parallel::Gate;
 use qe_syntax::Name;
 use redlog_reader::{ReadError, read_statement};
@@ -219,6 +220,19 @@ fn say<R: Threads + Sync, G: Gate + Sync>(
         Command::Sample(formula, entries) => {
             answer_sample(workshop, state, formula, entries.items(), printed)
         }
+        Command::Grid(formula, axes) => {
+            answer_grid(workshop, state, formula, axes.items(), printed)
+        }
+        Command::Certify(constraints) => {
+            answer_certificate(workshop.limits.nodes, state, constraints.items(), printed)
+        }
+        Command::Check(constraints, multipliers) => answer_check(
+            workshop.limits.nodes,
+            state,
+            constraints.items(),
+            multipliers.items(),
+            printed,
+        ),
         Command::Echo(_)
         | Command::Nnf(_)
         | Command::Pnf(_)

@@ -1,6 +1,6 @@
-use Rattle.std.proofs.Common.{ap, refl, sym, ◌∙◌, map, None}
+use Rattle.std.proofs.Common.{ap, ap₂, refl, sym, ◌∙◌, map, None}
 use Rattle.qe_syntax.specs.Trees.{formula_tree, formulas_of}
-use Rattle.statement_syntax.specs.Statements.{command_tree, Qea, Holds, Sample}
+use Rattle.statement_syntax.specs.Statements.{command_tree, Qea, Holds, Sample, Grid, Certify, Check}
 use Rattle.session_state.specs.Keeping.{state_of}
 use Rattle.command_tools.specs.Replies.{use_of}
 use Rattle.session_commands.proofs.AnswerLemmas.{formula_answered, query_answered, refused_as}
@@ -39,3 +39,33 @@ pub returns-in-Sample-clause-refusal : goal.returns-in-Sample-clause-refusal
 returns-in-Sample-clause-refusal g c =
     refused_as c.answer_sample.result (Sample (formula_tree c.in-Sample.formula) c.items-in-Sample.result.now) (command_tree c.args.command.now) (state_of c.args.state.now) c.args.workshop.now.limits.nodes (use_of None c.args.printed)
     (ap command_tree c.in-Sample.is ∙ ap (Sample (formula_tree c.in-Sample.formula)) (sym c.items-in-Sample.ensures)) c.answer_sample.ensures.refused
+
+pub returns-in-Grid-clause-answer : goal.returns-in-Grid-clause-answer
+returns-in-Grid-clause-answer g c =
+    query_answered c.answer_grid.result (Grid (formula_tree c.in-Grid.formula) c.items-in-Grid.result.now) (command_tree c.args.command.now) (state_of c.args.state.now) (state_of c.answer_grid.new.state) c.args.workshop.now.limits.nodes c.args.printed
+    (ap command_tree c.in-Grid.is ∙ ap (Grid (formula_tree c.in-Grid.formula)) (sym c.items-in-Grid.ensures)) refl c.answer_grid.ensures.answer c.answer_grid.ensures.next
+
+pub returns-in-Grid-clause-refusal : goal.returns-in-Grid-clause-refusal
+returns-in-Grid-clause-refusal g c =
+    refused_as c.answer_grid.result (Grid (formula_tree c.in-Grid.formula) c.items-in-Grid.result.now) (command_tree c.args.command.now) (state_of c.args.state.now) c.args.workshop.now.limits.nodes (use_of None c.args.printed)
+    (ap command_tree c.in-Grid.is ∙ ap (Grid (formula_tree c.in-Grid.formula)) (sym c.items-in-Grid.ensures)) c.answer_grid.ensures.refused
+
+pub returns-in-Certify-clause-answer : goal.returns-in-Certify-clause-answer
+returns-in-Certify-clause-answer g c =
+    query_answered c.answer_certificate.result (Certify (formulas_of (map formula_tree c.items-in-Certify.result.now))) (command_tree c.args.command.now) (state_of c.args.state.now) (state_of c.answer_certificate.new.state) c.args.workshop.now.limits.nodes c.args.printed
+    (ap command_tree c.in-Certify.is ∙ ap Certify c.items-in-Certify.ensures) refl c.answer_certificate.ensures.answer c.answer_certificate.ensures.next
+
+pub returns-in-Certify-clause-refusal : goal.returns-in-Certify-clause-refusal
+returns-in-Certify-clause-refusal g c =
+    refused_as c.answer_certificate.result (Certify (formulas_of (map formula_tree c.items-in-Certify.result.now))) (command_tree c.args.command.now) (state_of c.args.state.now) c.args.workshop.now.limits.nodes (use_of None c.args.printed)
+    (ap command_tree c.in-Certify.is ∙ ap Certify c.items-in-Certify.ensures) c.answer_certificate.ensures.refused
+
+pub returns-in-Check-clause-answer : goal.returns-in-Check-clause-answer
+returns-in-Check-clause-answer g c =
+    query_answered c.answer_check.result (Check (formulas_of (map formula_tree c.items-in-Check.result.now)) c.items-in-Check-2.result.now) (command_tree c.args.command.now) (state_of c.args.state.now) (state_of c.answer_check.new.state) c.args.workshop.now.limits.nodes c.args.printed
+    (ap command_tree c.in-Check.is ∙ ap₂ Check c.items-in-Check.ensures (sym c.items-in-Check-2.ensures)) refl c.answer_check.ensures.answer c.answer_check.ensures.next
+
+pub returns-in-Check-clause-refusal : goal.returns-in-Check-clause-refusal
+returns-in-Check-clause-refusal g c =
+    refused_as c.answer_check.result (Check (formulas_of (map formula_tree c.items-in-Check.result.now)) c.items-in-Check-2.result.now) (command_tree c.args.command.now) (state_of c.args.state.now) c.args.workshop.now.limits.nodes (use_of None c.args.printed)
+    (ap command_tree c.in-Check.is ∙ ap₂ Check c.items-in-Check.ensures (sym c.items-in-Check-2.ensures)) c.answer_check.ensures.refused
