@@ -7,7 +7,7 @@ mod meeting;
 mod row;
 mod text;
 
-use crate::meeting::at_once;
+use crate::meeting::{ELIMINATION, GRID, at_once};
 use crate::row::Row;
 use redlog_run::{Status, run_process};
 use std::fs::Files;
@@ -58,9 +58,9 @@ fn answer_rows<R: Threads + Sync + Input + Print + Files + AllocGlobal>(rt: &R) 
     println!(rt; "{rows} rows, {failed} failed")
 }
 
-/// Whether two threads work on an elimination at once.
+/// Whether two threads work at once on an elimination, and on a grid.
 fn threads_told<R: Threads + Sync + AllocGlobal>(rt: &R) -> io::Result<&'static str> {
-    if at_once(rt)? {
+    if at_once(rt, ELIMINATION)? && at_once(rt, GRID)? {
         return Ok("two threads at once");
     }
     Ok("not at once")

@@ -1,4 +1,4 @@
-//! Whether an elimination is worked on by two threads at once.
+//! Whether a statement is worked on by two threads at once.
 
 use qe_io::{MemorySink, MemorySource};
 use qe_parallel::Gate;
@@ -8,7 +8,13 @@ use std::sync::atomic::{AtomicBool, Ordering};
 use std::thread::Threads;
 
 /// An elimination with two test points.
-const SCRIPT: &[u8] = b"rlqe ex(x,x>a and x<b);";
+pub(crate) const ELIMINATION: &[u8] = b"rlqe ex(x,x>a and x<b);";
+
+/// A grid of 2,000 points, in two pieces.
+pub(crate) const GRID: &[u8] = b"rlgrid(x>0,{x,1,2000,1});";
+
+/// So many bytes the sink takes: more than a line of the grid.
+const ROOM: usize = 4096;
 
 /// Asks for two threads.
 const WORD: &str = "--workers=2";
@@ -53,8 +59,11 @@ impl Meeting {
     }
 }
 
-/// Whether two pieces of an elimination are worked on at once by two threads.
-pub(crate) fn at_once<R: Threads + Sync + AllocGlobal>(rt: &R) -> Result<bool, AllocError> {
+/// Whether two pieces of the script are worked on at once by two threads.
+pub(crate) fn at_once<R: Threads + Sync + AllocGlobal>(
+    rt: &R,
+    script: &[u8],
+) -> Result<bool, AllocError> {
     let alloc = rt.alloc();
     let gate = Meeting {
         first: AtomicBool::new(false),
@@ -63,9 +72,9 @@ pub(crate) fn at_once<R: Threads + Sync + AllocGlobal>(rt: &R) -> Result<bool, A
     };
     let mut words = Vec::new(alloc);
     words.push(WORD.to_string(alloc)?)?;
-    let script = SCRIPT.to_vec(alloc)?;
-    let mut source = MemorySource::new(script, SCRIPT.len(), Vec::new(alloc));
-    let Ok(mut sink) = MemorySink::new(alloc, 1024, Vec::new(alloc)) else {
+    let bytes = script.to_vec(alloc)?;
+    let mut source = MemorySource::new(bytes, script.len(), Vec::new(alloc));
+    let Ok(mut sink) = MemorySink::new(alloc, ROOM, Vec::new(alloc)) else {
         return Err(AllocError);
     };
     let status = run_gated(rt, alloc, &words, &mut source, &mut sink, &gate);
