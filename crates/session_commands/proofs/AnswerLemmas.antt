@@ -99,6 +99,12 @@ pub say_answered : {E : Type 0} (r : Result Line E) (a : ActionTree) (c : Comman
     → IfOk r (λ answer. Answers s limit printed a answer next)
 say_answered r a c s next limit printed e h = subst (λ b. IfOk r (λ answer. Answers s limit printed b answer next)) (sym e) h
 
+-- and one that is refused
+pub say_refused : {T : Type 0} (r : Result T StatementError) (t : StatementTree) (c : CommandTree) (s : State) (limit : ℕ) → t.action ≡ Say c → IfErr r (Refuses (numbered (meaning c) s) limit (use_of None t.printed) c)
+    → IfErr r (IsStopped s limit t)
+say_refused (Ok answer) t c s limit e h = tt
+say_refused (Err d) t c s limit e h = λ other. subst (λ a. RefusesAction s limit t.printed a d) (sym e) (h other)
+
 -- ---- the reply
 
 -- the words of what is wrong with the text are no causes of a command

@@ -1,13 +1,18 @@
 use Rattle.std.proofs.Common.{◌∙◌, ap, sym}
-use Rattle.statement_syntax.specs.Statements.{action_tree, command_tree, Say, Assign}
+use Rattle.statement_syntax.specs.Statements.{statement_tree, action_tree, command_tree, Say, Assign}
 use Rattle.session_state.specs.Keeping.{state_of}
-use Rattle.session_commands.proofs.AnswerLemmas.{say_answered, formula_assigned}
+use Rattle.session_commands.proofs.AnswerLemmas.{say_answered, say_refused, formula_assigned}
 use Rattle.session_commands.proofs.session.act.Goals as goal
 
 pub returns-in-Say-clause-answer : goal.returns-in-Say-clause-answer
 returns-in-Say-clause-answer g c =
     say_answered c.say.result (action_tree c.args.statement.now.action) (command_tree c.deref.result.now) (state_of c.args.state.now) (state_of c.say.new.state) c.args.workshop.now.limits.nodes c.args.statement.now.printed
     (ap action_tree c.in-Say.is ∙ ap (λ d. Say (command_tree d)) (sym c.deref.ensures)) c.say.ensures.answer
+
+pub returns-in-Say-clause-refusal : goal.returns-in-Say-clause-refusal
+returns-in-Say-clause-refusal g c =
+    say_refused c.say.result (statement_tree c.args.statement.now) (command_tree c.deref.result.now) (state_of c.args.state.now) c.args.workshop.now.limits.nodes
+    (ap action_tree c.in-Say.is ∙ ap (λ d. Say (command_tree d)) (sym c.deref.ensures)) c.say.ensures.refusal
 
 pub returns-in-Assign-clause-answer : goal.returns-in-Assign-clause-answer
 returns-in-Assign-clause-answer g c =
