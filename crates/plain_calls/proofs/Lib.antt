@@ -1,4 +1,2 @@
 pub mod Takings
 pub mod FirstNames
-pub mod OneName
-pub mod Distinct

@@ -20,7 +20,7 @@ use Rattle.formula_store.specs.Nodes.{tree, IsId}
 use Rattle.formula_store.specs.Truths.{IsWholeWhereAsked}
 use Rattle.qe_parallel.specs.Fanned.{AnswerAll}
 use Rattle.virtual_subst.specs.Phases.{Phase, IsPutAtPiece}
-use Rattle.plain_calls.specs.Taking.{Takes, StillTakes, IsComparison}
+use Rattle.plain_calls.specs.Taking.{Takes, StillTakes}
 
 module _ (old new : List (Shape FormulaId)) where
   pub still_takes : Keeps (IsId old) (tree old) (IsId new) (tree new) → StillTakes old new
@@ -37,17 +37,6 @@ module _ (old new : List (Shape FormulaId)) where
 
   pub takes_either : (f g : FormulaId) → Takes old f → Takes old g → (id : FormulaId) → IsMade (IsId new) (tree new) id (Or (members (map (tree old) (f ∷ g ∷ [])))) → Takes new id
   takes_either f g t u id m = takes_as (Or (members (map (tree old) (f ∷ g ∷ [])))) (t.plain, (u.plain, tt)) (t.in_fields, (u.in_fields, tt)) id m
-
--- what is made of a comparison is one
-pub made_comparison : (nodes : List (Shape FormulaId)) (r : Rel) (f : Form) (id : FormulaId) → IsMade (IsId nodes) (tree nodes) id (One (atom_of (atom.Compare r f))) → IsComparison nodes id
-made_comparison nodes r f id m = record { is = m.is; relation = relation_of r; form = f; same = m.same }
-
--- it has no quantifiers, and no congruence
-pub comparison_free : (nodes : List (Shape FormulaId)) (id : FormulaId) → IsComparison nodes id → IsQuantifierFree (tree nodes id)
-comparison_free nodes id c = subst IsQuantifierFree (sym c.same) tt
-
-pub comparison_whole : (nodes : List (Shape FormulaId)) (id : FormulaId) (d : ℤ) → IsComparison nodes id → IsWholeWhereAsked (tree nodes id) d
-comparison_whole nodes id d c = subst (λ f. IsWholeWhereAsked f d) (sym c.same) (λ holds n e m. ⊎_elim (λ same. absurd (cc same)) (λ none. absurd none) m)
 
 -- each of the formulas made at the points of a phase is one beside its store
 pub begun_beside : (p : Phase) (made : List Change) → AnswerAll (IsPutAtPiece p) 0 (length p.points) made → All (λ d. d.begun ≤ length p.nodes) made

@@ -1,9 +1,6 @@
 -- Formulas of a store into which a test point of the ordered fields can be put.
 use Rattle.std.specs.Prelude.{◌≡◌, List}
 use Rattle.formula_meaning.specs.Context.{Fields}
-use Rattle.formula_meaning.specs.Form.{Form}
-use Rattle.formula_meaning.specs.Atom.{Relation, Compare}
-use Rattle.formula_meaning.specs.Formula.{One}
 use Rattle.formula_meaning.specs.Shape.{IsPlain}
 use Rattle.formula_meaning.specs.Tree.{InContext}
 use Rattle.formula_tree.specs.declared.shape.Shape.{Shape}
@@ -19,10 +16,3 @@ pub record Takes (nodes : List (Shape FormulaId)) (id : FormulaId) : Type 0 wher
 -- each such formula is one still
 abbrev pub StillTakes : List (Shape FormulaId) → List (Shape FormulaId) → Type 0
 StillTakes old new = (id : FormulaId) → Takes old id → Takes new id
-
--- the formula is a comparison
-pub record IsComparison (nodes : List (Shape FormulaId)) (id : FormulaId) : Type 0 where
-  pub is : IsId nodes id
-  pub relation : Relation
-  pub form : Form
-  pub same : tree nodes id ≡ One (Compare relation form)

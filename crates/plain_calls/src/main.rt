@@ -1,17 +1,14 @@
 //! Makes the calls that no statement makes, on formulas worked by hand: a maker of plain trees, a formula unfolded under a
 //! limit, a tree printed by itself, the cases of a tree, and the sample of one without free names; those of the lowest crates, of
 //! numbers, forms, atoms and test points, also put into shared formulas; blocks branch by branch, guards together, and
-//! formulas eliminated by cases; certificates of constraints; truths at points and least values; and pieces that are shared out to
-//! threads. The gate runs it and compares what it prints.
+//! formulas eliminated by cases; least values; and pieces that are shared out to threads. The gate runs it and compares what it prints.
 #![tactic(auto)]
 
 mod blocks;
 mod calls;
-mod certificates;
 mod elimination;
 mod families;
 mod forms;
-mod grids;
 mod guards;
 mod least;
 mod numbers;
@@ -35,8 +32,7 @@ fn main(rt: HostRuntime) -> io::Result<()> {
     counted(&rt)?;
     by_cases(&rt)?;
     answered_by_cases(&rt)?;
-    certified(&rt)?;
-    at_points(&rt)?;
+    least_values(&rt)?;
     shared_out(&rt)
 }
 
@@ -191,26 +187,11 @@ fn answered_by_cases<R: Threads + Sync + Print + AllocGlobal>(rt: &R) -> io::Res
     tell(rt, "whether a number lies between 0 and 0", nothing)
 }
 
-/// Certificates of constraints.
-fn certified<R: Print + AllocGlobal>(rt: &R) -> io::Result<()> {
+/// Least values.
+fn least_values<R: Print + AllocGlobal>(rt: &R) -> io::Result<()> {
     let alloc = rt.alloc();
-    let none = certificates::of_none(alloc);
-    let half = certificates::of_half(alloc);
-    let named = certificates::of_a_sum_with_a_name(alloc);
-    tell(rt, "a number from 1 on and up to 0", none)?;
-    tell(rt, "a number above 0 and below 1", half)?;
-    tell(rt, "multipliers whose sum has a name", named)
-}
-
-/// Truths at the points of grids, and least values.
-fn at_points<R: Threads + Sync + Print + AllocGlobal>(rt: &R) -> io::Result<()> {
-    let alloc = rt.alloc();
-    let below = grids::below_another(rt, alloc);
-    let halves = grids::by_halves(rt, alloc);
     let from = least::from_zero(alloc);
     let up_to = least::up_to_zero(alloc);
-    tell(rt, "a number below another, at six points", below)?;
-    tell(rt, "a number that is 0, at three points", halves)?;
     tell(rt, "the least number from 0 on", from)?;
     tell(rt, "the least number up to 0", up_to)
 }

@@ -4,7 +4,7 @@ ghost use Rattle.std.specs.Prelude.{◌≤◌, length, IfSome};
 ghost use Rattle.elimination_theory.specs.FieldsSubstitution.{IsFieldPlace};
 ghost use Rattle.formula_store.specs.Nodes.{IsId};
 ghost use Rattle.test_points.specs.Points.{place_of, IsTestPoint};
-ghost use Rattle.plain_calls.specs.Taking.{Takes, StillTakes, IsComparison};
+ghost use Rattle.plain_calls.specs.Taking.{Takes, StillTakes};
 
 use crate::points::{A, X, above_a};
 use crate::writing::tree_text;
@@ -43,7 +43,6 @@ pub(crate) fn compared(
     name: VarId,
 ) -> Option<FormulaId>
     ensures made { IfSome result (Takes store.new) }
-    ensures comparison { IfSome result (IsComparison store.new) }
     ensures kept { StillTakes store.old store.new }
 {
     let x = Linear::variable(alloc, X).ok()?;
