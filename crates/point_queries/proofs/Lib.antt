@@ -1,3 +1,4 @@
+pub mod AxisLemmas
 pub mod NamedTruth
 pub mod EntryLemmas
 pub mod AskedLemmas
