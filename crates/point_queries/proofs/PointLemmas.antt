@@ -133,7 +133,7 @@ whole_terms (Fits a) (Fits b) positive whole =
 whole_terms (Fits a) Past positive whole = divides_same (pos 1)
 whole_terms Past below positive whole = divides_same (pos 1)
 
-whole_entries : (es : List PointEntry) → AreWritableEntries es → ¬ (SomeOf IsZeroBelow es) → ¬ (SomeOf IsBroken es) → IsCommonMultiple es (pos 1)
+pub whole_entries : (es : List PointEntry) → AreWritableEntries es → ¬ (SomeOf IsZeroBelow es) → ¬ (SomeOf IsBroken es) → IsCommonMultiple es (pos 1)
 whole_entries [] proper divided whole = tt
 whole_entries (e ∷ es) proper divided whole = (
   whole_terms e.above e.below (λ b is. below_positive e b (proper.0.0, proper.0.1, tt) (λ z. divided (inl z)) is) (λ a b p q no. whole (inl (a, b, p, q, no))),
