@@ -1,6 +1,6 @@
 -- The axes of a grid: as entries of points, and with their names numbered.
 use mathlib.Core.HLevel.{is_prop→PathP}
-use Rattle.std.proofs.Common.{◌≡◌, inl, inr, ⊎_elim, ℕ, zero, suc, false, List, [], ◌∷◌, map, nat_eq, sym, ap, ap₂, ◌∙◌, subst₂, refl, arith}
+use Rattle.std.proofs.Common.{◌≡◌, inl, inr, ⊎_elim, ℕ, zero, suc, false, List, [], ◌∷◌, ◌++◌, map, nat_eq, sym, ap, ap₂, ◌∙◌, subst₂, refl, arith}
 use Rattle.std.proofs.Props.{props}
 use Rattle.std.proofs.Math.IntN.{ℤ, pos, negsuc}
 use Rattle.std.proofs.lemmas.Int.{ints}
@@ -68,6 +68,13 @@ axes_determined number [] (x ∷ a) b h k = absurd h
 axes_determined number (w ∷ written) [] b h k = absurd h
 axes_determined number (w ∷ written) (x ∷ a) [] h k = absurd k
 axes_determined number (w ∷ written) (x ∷ a) (y ∷ b) h k = ap₂ (λ (z : Axis) (c : List Axis). z ∷ c) (one_axis number w x y h.0 k.0) (axes_determined number written a b h.1 k.1)
+
+-- one more axis
+pub one_more : (number : List ℕ → ℕ) (written : List GridAxis) (axes : List Axis) (w : GridAxis) (a : Axis) → AreAxes number written axes → IsAxis number w a → AreAxes number (written ++ w ∷ []) (axes ++ a ∷ [])
+one_more number [] [] w a h k = (k, tt)
+one_more number [] (x ∷ axes) w a h k = absurd h
+one_more number (v ∷ written) [] w a h k = absurd h
+one_more number (v ∷ written) (x ∷ axes) w a h k = (h.0, one_more number written axes w a h.1 k)
 
 -- ---- the parts of the axes as entries
 
