@@ -1,11 +1,11 @@
 -- The axes of a grid: as entries of points, and with their names numbered.
 use mathlib.Core.HLevel.{is_prop→PathP}
-use Rattle.std.proofs.Common.{◌≡◌, inl, inr, ⊎_elim, ℕ, zero, suc, false, List, [], ◌∷◌, ◌++◌, map, nat_eq, sym, ap, ap₂, ◌∙◌, subst₂, refl, arith}
+use Rattle.std.proofs.Common.{◌≡◌, inl, inr, ⊎_elim, ℕ, zero, suc, ◌<◌, length, Bool, true, false, MatchBool, List, [], ◌∷◌, ◌++◌, map, nat_eq, sym, ap, ap₂, ◌∙◌, subst₂, refl, arith}
 use Rattle.std.proofs.Props.{props}
 use Rattle.std.proofs.Math.IntN.{ℤ, pos, negsuc}
 use Rattle.std.proofs.lemmas.Int.{ints}
 use Rattle.std.proofs.lemmas.Bool.{ne_eqb}
-use Rattle.std.specs.List.{AllByRecursion, IsDistinct}
+use Rattle.std.specs.List.{AllByRecursion, IsDistinct, HoldsAt, AllWithin}
 use Rattle.std.specs.Prelude.{◌<ℤ◌, ◌≤ℤ◌, slice_get, unsigned_abs}
 use Rattle.exact_numbers.specs.declared.fraction.Fraction.{Fraction}
 use Rattle.exact_numbers.specs.Limit.{InLimit}
@@ -109,6 +109,23 @@ all_divided (a ∷ axes) l h s = (
 pub meant_divided : (c : Context) (axes : List GridAxis) → ¬ (MeanNoGrid c axes) → AllByRecursion IsDivided axes
 meant_divided c axes meant =
     all_divided axes (no_zero c (lows axes) (λ h. meant (inl h))) (no_zero c (highs axes) (λ h. meant (inr (inl h)))) (no_zero c (steps axes) (λ h. meant (inr (inr (inl h)))))
+
+-- ---- tests of all axes
+
+some_here : {X : Type 0} (P : X → Type 0) (xs : List X) (k : ℕ) → k < length xs → HoldsAt P xs k → SomeOf P xs
+some_here P [] k h p = absurd (omega arith)
+some_here P (x ∷ xs) zero h p = inl (p x)
+some_here P (x ∷ xs) (suc k) h p = inr (some_here P xs k (omega arith) (λ d. p d))
+
+none_here : {X : Type 0} (P : X → Type 0) (xs : List X) → AllWithin (λ x. ¬ (P x)) xs 0 (length xs) → ¬ (SomeOf P xs)
+none_here P [] h s = s
+none_here P (x ∷ xs) h (inl p) = h 0 x (omega arith) (omega arith) p
+none_here P (x ∷ xs) h (inr s) = none_here P xs (λ k d l u. h (suc k) d (omega arith) (omega arith)) s
+
+-- what a test of all elements tells
+pub some_of_cases : {X : Type 0} (P : X → Type 0) (xs : List X) (b : Bool) → MatchBool b ((k : ℕ) × (k < length xs) × HoldsAt P xs k) (AllWithin (λ x. ¬ (P x)) xs 0 (length xs)) → MatchBool b (SomeOf P xs) (¬ (SomeOf P xs))
+some_of_cases P xs true h = some_here P xs h.0 h.1 h.2
+some_of_cases P xs false h = none_here P xs h
 
 -- ---- literals above the limit
 

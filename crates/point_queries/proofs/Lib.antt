@@ -1,4 +1,5 @@
 pub mod AxisLemmas
+pub mod GridLemmas
 pub mod GridCauses
 pub mod NamedTruth
 pub mod EntryLemmas
