@@ -30,7 +30,6 @@ module _ (number : List ℕ → ℕ) (written : List GridAxis) (axes : List Axis
     same = same;
     within = fits_within fits;
     few = not_many (subst (λ (g : Frame). size g.scales ≤ most_points) same few);
-    counted = few;
   }
 
   pub too_many : HasTooMany axes → NoGrid number written error.Nodes

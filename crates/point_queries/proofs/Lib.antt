@@ -9,6 +9,7 @@ pub mod PointLemmas
 pub mod CaseSteps
 pub mod AskedSteps
 pub mod TruthSteps
+pub mod GridSteps
 pub mod SampleLemmas
 pub mod ShortSamples
 pub mod SampleSteps

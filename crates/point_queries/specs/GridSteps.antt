@@ -1,5 +1,5 @@
 -- From the axes of a grid to the truths at its points. The state is one in which the variables of the command have their numbers.
-use Rattle.std.specs.Prelude.{◌≡◌, ◌⊎◌, ◌≤◌, ℕ, pos, List, Bool, None}
+use Rattle.std.specs.Prelude.{◌≡◌, ◌⊎◌, ℕ, pos, List, Bool, None}
 use Rattle.formula_meaning.specs.Context.{Context}
 use Rattle.formula_meaning.specs.Tree.{Tree}
 use Rattle.qe_syntax.specs.declared.tree.Literal.TheVariants.{Fits, Past}
@@ -9,8 +9,7 @@ use Rattle.statement_syntax.specs.declared.grid.Ratio.{Ratio}
 use Rattle.statement_syntax.specs.declared.grid.GridAxis.{GridAxis}
 use Rattle.statement_syntax.specs.Statements.{Grid}
 use Rattle.point_grid.specs.declared.axis.Axis.{Axis}
-use Rattle.point_grid.specs.Frames.{Frame, most_points}
-use Rattle.point_grid.specs.Scales.{size}
+use Rattle.point_grid.specs.Frames.{Frame}
 use Rattle.point_grid.specs.Grids.{grid_of}
 use Rattle.point_grid.specs.Truths.{SomePointPasses}
 use Rattle.session_meaning.specs.declared.line.StatementError.{StatementError}
@@ -55,14 +54,13 @@ AcceptsGrid s f axes = (limit : ℕ) (printed : Bool) → IsAccepted (meaning (G
 abbrev pub AxesStop : Context → List GridAxis → StatementError → Type 0
 AxesStop c axes e = ((e ≡ error.Point) × MeanNoGrid c axes) ⊎ (e ≡ error.Memory)
 
--- the grid is that of the axes as they are written, and neither are its numbers past the limit nor has it too many points, which are counted
+-- the grid is that of the axes as they are written, and neither are its numbers past the limit nor has it too many points
 pub record IsMeantGrid (number : List ℕ → ℕ) (written : List GridAxis) (grid : Frame) : Type 0 where
   pub axes : List Axis
   pub meant : AreAxes number written axes
   pub same : grid ≡ grid_of axes
   pub within : ¬ (PassesGrid number written)
   pub few : ¬ (HasTooManyPoints number written)
-  pub counted : size grid.scales ≤ most_points
 
 -- why there is no grid; where it has too many points, none of its numbers passes the limit
 abbrev pub NoGrid : (List ℕ → ℕ) → List GridAxis → StatementError → Type 0
