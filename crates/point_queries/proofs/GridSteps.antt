@@ -1,6 +1,7 @@
 -- From step to step of the truths at the points of a grid.
-use Rattle.std.proofs.Common.{◌≡◌, ◌↔◌, inl, inr, ℕ, ◌≤◌, List, Bool, IsTrue, Option, Some, None, MatchOption, length, sym, ap, ◌∙◌, subst, arith}
+use Rattle.std.proofs.Common.{◌≡◌, ◌↔◌, ℕ, ◌≤◌, List, ◌++◌, Bool, IsTrue, Option, Some, None, MatchOption, length, sym, ap, ◌∙◌, subst, arith}
 use Rattle.std.specs.Prelude.{Result, IfOk, IfErr, OnOk, slice_get, option_map, unsigned_abs}
+use Rattle.std.specs.List.{fold}
 use Rattle.std.proofs.Math.IntN.{ℤ, pos}
 use Rattle.std.proofs.lemmas.Option.{slice_get-map}
 use Rattle.formula_meaning.specs.Context.{IsDenominator}
@@ -14,10 +15,13 @@ use Rattle.qe_syntax.specs.Writable.{IsWritableFormula}
 use Rattle.qe_syntax.specs.Trees.{FormulaTree}
 use Rattle.qe_syntax.specs.Value as written
 use Rattle.statement_syntax.specs.declared.grid.GridAxis.{GridAxis}
+use Rattle.statement_syntax.specs.Statements.{Grid}
 use Rattle.statement_syntax.specs.Writable.{AreWritableAxes}
 use Rattle.formula_tree.specs.Causes.{OverflowsInReading}
 use Rattle.formula_tree.specs.Makers.{IsMade}
-use Rattle.formula_tree.specs.Resolving.{place, resolve, bound_truth}
+use Rattle.formula_tree.specs.Names.{with_name}
+use Rattle.formula_tree.specs.Resolving.{formula_variables, place, resolve, bound_truth}
+use Rattle.formula_resolving.specs.Numbering.{Grows}
 use Rattle.formula_store.specs.declared.id.FormulaId.{FormulaId}
 use Rattle.formula_store.specs.Nodes.{tree, IsId}
 use Rattle.formula_store.specs.Truths.{Tells, IsWholeWhereAsked}
@@ -26,10 +30,14 @@ use Rattle.point_grid.specs.Scales.{choices}
 use Rattle.point_grid.specs.Grids.{grid_of}
 use Rattle.point_grid.specs.Truths.{IsTruthList}
 use Rattle.point_grid.proofs.Numbering.{points_are_counted}
+use Rattle.session_meaning.specs.declared.line.Line.{Line}
 use Rattle.session_meaning.specs.declared.line.StatementError.{StatementError}
 use Rattle.session_meaning.specs.declared.line.StatementError.TheVariants as error
 use Rattle.session_meaning.specs.State.{State}
-use Rattle.session_meaning.specs.Grids.{lows, MeanNoGrid, IsGridAnswer}
+use Rattle.session_meaning.specs.Grids.{lows, MeanNoGrid, IsGridAnswer, grid_text}
+use Rattle.session_meaning.specs.Meaning.{meaning, numbered}
+use Rattle.session_meaning.specs.Reply.{IsLine}
+use Rattle.command_tools.specs.Replies.{use_of, Refuses, IsQueryAnswer}
 use Rattle.session_meaning.specs.Places.{by_names}
 use Rattle.session_meaning.specs.Points.{IsQuantified}
 use Rattle.session_state.specs.declared.state.SessionState.{SessionState}
@@ -39,10 +47,10 @@ use Rattle.shared_forms.proofs.CaseLemmas.{err_map}
 use Rattle.engine_answers.proofs.Whole.{whole_where_asked}
 use Rattle.problem_reading.specs.Reading.{HasNumbers, IsReadable}
 use Rattle.problem_reading.proofs.ReadLemmas.{readable_formula}
-use Rattle.point_queries.specs.Asked.{IsClear, IsReadAs, IsValued, ValuedStop}
+use Rattle.point_queries.specs.Asked.{HaveNumbers, entry_names, IsClear, IsReadAs, IsValued, ValuedStop}
 use Rattle.point_queries.specs.GridSteps.{RefusesGrid, AcceptsGrid, AxesStop, IsMeantGrid, NoGrid, TruthsStop}
-use Rattle.point_queries.proofs.AskedSteps.{same, theory, there_not}
-use Rattle.point_queries.proofs.AxisLemmas.{common_of_theory}
+use Rattle.point_queries.proofs.AskedSteps.{same, theory, there_not, named_session, start, session_named, numbers_there, entries_there, state_later, session_later}
+use Rattle.point_queries.proofs.AxisLemmas.{lows_proper, common_of_theory}
 use Rattle.point_queries.proofs.CaseSteps.{on_ok}
 use Rattle.point_queries.proofs.GridCauses.{no_grid, names_unvalued, grid_quantified, grid_unread, grid_stops, grid_accepted, truths_stop}
 use Rattle.point_queries.proofs.NamedTruth.{named_truth}
@@ -168,3 +176,44 @@ module _ (old new : SessionState) (f : FormulaTree) (axes : List GridAxis) (es :
                 truths_refused h =
                     err_map r (λ e u. truths_stop s f axes numbers clear meant_here valued_here free_here formula.0 made_here.within made_here.few limit made_here.axes made_here.meant e
                     (subst (λ (v : Tree). TruthsStop v (grid_of made_here.axes) e) formula.1.same (subst (λ (g : Frame). TruthsStop (tree new.store i) g e) made_here.same u))) h
+
+-- ---- the names of the command
+
+module _ (state : SessionState) (names : List (List ℕ)) (f : FormulaTree) (axes : List GridAxis) (es : List PointEntry) (are : es ≡ lows axes) (h : IsSessionState state) (grown : Grows state.names names)
+    (is : names ≡ fold with_name state.names (formula_variables f ++ entry_names es)) (proper : IsWritableFormula f) (proper_axes : AreWritableAxes axes) where
+  pub numbered_lows : names ≡ fold with_name state.names (formula_variables f ++ entry_names (lows axes))
+  numbered_lows = subst (λ xs. names ≡ fold with_name state.names (formula_variables f ++ entry_names xs)) are is
+
+  -- the state where the variables of the command have their numbers
+  abbrev first : SessionState
+  first = named_session state names f (lows axes) h grown numbered_lows proper (lows_proper axes proper_axes)
+
+  pub first_session : IsSessionState first
+  first_session = session_named state names f (lows axes) h grown numbered_lows proper (lows_proper axes proper_axes)
+
+  pub first_numbers : HasNumbers names f
+  first_numbers = numbers_there state names f (lows axes) h grown numbered_lows proper (lows_proper axes proper_axes)
+
+  pub first_entries : (xs : List PointEntry) → xs ≡ lows axes → HaveNumbers names xs
+  first_entries xs same = subst (HaveNumbers names) (sym same) (entries_there state names f (lows axes) h grown numbered_lows proper (lows_proper axes proper_axes))
+
+  -- what is said of it is said of the state that the meaning of the command has
+  begun : (P : State → Type 0) → P (state_of first) → P (numbered (meaning (Grid f axes)) (state_of state))
+  begun P k = subst P (start state names f (lows axes) h grown numbered_lows proper (lows_proper axes proper_axes)) k
+
+  pub command_refused : {E : Type 0} (r : Result E StatementError) (limit : ℕ) (printed : Bool) → IfErr r (RefusesGrid (state_of first) limit f axes)
+      → IfErr r (Refuses (numbered (meaning (Grid f axes)) (state_of state)) limit (use_of None printed) (Grid f axes))
+  command_refused r limit printed k = err_map r (λ e u. begun (λ s. Refuses s limit (use_of None printed) (Grid f axes) e) (u printed)) k
+
+  pub command_answered : (r : Result Line StatementError) (limit : ℕ) (printed : Bool) (truths said : List Bool) → IsGridAnswer (state_of first) f axes truths → AcceptsGrid (state_of first) f axes → said ≡ truths
+      → IfOk r (IsLine printed (grid_text said)) → (after : List (List ℕ)) → IfOk r (IsQueryAnswer (numbered (meaning (Grid f axes)) (state_of state)) limit printed (Grid f axes) after)
+  command_answered r limit printed truths said answer accepted same k after =
+      ok_map r (λ line l. begun (λ s. IsQueryAnswer s limit printed (Grid f axes) after line)
+      (record { accepted = accepted limit printed; text = grid_text said; told = (truths, answer, ap grid_text same); line = l })) k
+
+  module _ (later : SessionState) (k : KeepsState first later) {E : Type 0} (r : Result E StatementError) where
+    pub command_next : OnOk r (state_of later ≡ numbered (meaning (Grid f axes)) (state_of state))
+    command_next = state_later state names f (lows axes) h grown numbered_lows proper (lows_proper axes proper_axes) later k r
+
+    pub command_session : OnOk r (IsSessionState later)
+    command_session = session_later state names f (lows axes) h grown numbered_lows proper (lows_proper axes proper_axes) later k r
