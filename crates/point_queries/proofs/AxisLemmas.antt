@@ -149,10 +149,10 @@ none_past number (w ∷ written) (a ∷ axes) h p =
     ⊎_elim
     (λ l. ⊎_elim (fits_not_past w.low a.low h.0.low) (λ k. rest (inl k)) l)
     (λ q.
-      ⊎_elim
-      (λ l. ⊎_elim (fits_not_past w.high a.high h.0.high) (λ k. rest (inr (inl k))) l)
-      (λ l. ⊎_elim (fits_not_past w.step a.step h.0.step) (λ k. rest (inr (inr k))) l)
-      q)
+    ⊎_elim
+    (λ l. ⊎_elim (fits_not_past w.high a.high h.0.high) (λ k. rest (inr (inl k))) l)
+    (λ l. ⊎_elim (fits_not_past w.step a.step h.0.step) (λ k. rest (inr (inr k))) l)
+    q)
     p
 
 -- ---- steps and names
@@ -229,9 +229,9 @@ pub common_of_theory : (c : Context) (number : List ℕ → ℕ) (written : List
 common_of_theory Fields number written axes proper meant h = let p = common_positive axes in omega (arith, ints, p)
 common_of_theory Integers number written axes proper meant h =
     let d = multiple_whole number (pos 1) written axes h (omega (arith, ints)) (divides_same (pos 1))
-        (whole_entries (lows written) (lows_proper written proper) (λ k. meant (inl (inr (inl k)))) (λ k. meant (inl (inr (inr k)))))
-        (whole_entries (highs written) (highs_proper written proper) (λ k. meant (inr (inl (inr (inl k))))) (λ k. meant (inr (inl (inr (inr k))))))
-        (whole_entries (steps written) (steps_proper written proper) (λ k. meant (inr (inr (inl (inr (inl k)))))) (λ k. meant (inr (inr (inl (inr (inr k))))))) in
+    (whole_entries (lows written) (lows_proper written proper) (λ k. meant (inl (inr (inl k)))) (λ k. meant (inl (inr (inr k)))))
+    (whole_entries (highs written) (highs_proper written proper) (λ k. meant (inr (inl (inr (inl k))))) (λ k. meant (inr (inl (inr (inr k))))))
+    (whole_entries (steps written) (steps_proper written proper) (λ k. meant (inr (inr (inl (inr (inl k)))))) (λ k. meant (inr (inr (inl (inr (inr k))))))) in
     let p = common_positive axes in
     let l = divisor_at_most {d = common axes} {a = pos 1} (omega (arith, ints)) d in
     omega (arith, ints, l, p)

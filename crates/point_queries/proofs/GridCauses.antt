@@ -1,6 +1,5 @@
 -- Why the truths at the points of a grid are refused, and when they are not.
-use Rattle.std.proofs.Common.{◌≡◌, ◌⊎◌, inl, inr, ⊎_elim, ℕ, List, Bool, None, sym, subst, refl}
-use Rattle.formula_meaning.specs.Formula.{none, also}
+use Rattle.std.proofs.Common.{inl, inr, ⊎_elim, ℕ, List, Bool, None, sym, subst, refl}
 use Rattle.statement_syntax.specs.declared.grid.GridAxis.{GridAxis}
 use Rattle.statement_syntax.specs.Statements.{Grid}
 use Rattle.qe_syntax.specs.Trees.{FormulaTree}
@@ -18,7 +17,7 @@ use Rattle.session_meaning.specs.Causes.{HasNone}
 use Rattle.session_meaning.specs.Words.{before}
 use Rattle.command_tools.specs.Replies.{use_of}
 use Rattle.problem_reading.specs.Reading.{HasNumbers, IsReadable}
-use Rattle.problem_reading.proofs.CauseLemmas.{then_clear, none_before, overflow_here}
+use Rattle.problem_reading.proofs.CauseLemmas.{then_clear, overflow_here}
 use Rattle.point_queries.specs.Asked.{Asks, IsClear, IsValued, ValuedStop}
 use Rattle.point_queries.specs.GridSteps.{RefusesGrid, AcceptsGrid, AxesStop, NoGrid, TruthsStop}
 use Rattle.point_queries.proofs.AskedLemmas.{asking_below_point}

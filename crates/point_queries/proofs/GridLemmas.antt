@@ -1,5 +1,5 @@
 -- The grid of axes as they are written.
-use Rattle.std.proofs.Common.{◌≡◌, inl, inr, ⊎_elim, ℕ, ◌≤◌, List, ap, subst, refl, arith}
+use Rattle.std.proofs.Common.{◌≡◌, inl, inr, ℕ, ◌≤◌, List, subst, refl, arith}
 use Rattle.statement_syntax.specs.declared.grid.GridAxis.{GridAxis}
 use Rattle.point_grid.specs.declared.axis.Axis.{Axis}
 use Rattle.point_grid.specs.Scales.{size}

@@ -1,8 +1,9 @@
 -- From step to step of the truths at the points of a grid.
-use Rattle.std.proofs.Common.{◌≡◌, ◌↔◌, ℕ, ◌≤◌, List, ◌++◌, Bool, IsTrue, Option, Some, None, MatchOption, length, sym, ap, ◌∙◌, subst, arith}
+use Rattle.std.proofs.Common.{◌≡◌, ◌↔◌, ℕ, ◌≤◌, List, ◌++◌, Bool, false, IsTrue, Option, Some, None, MatchOption, length, sym, ap, ◌∙◌, subst, arith}
 use Rattle.std.specs.Prelude.{Result, IfOk, IfErr, OnOk, slice_get, option_map, unsigned_abs}
 use Rattle.std.specs.List.{fold}
 use Rattle.std.proofs.Math.IntN.{ℤ, pos}
+use Rattle.std.proofs.lemmas.Bool.{false≢true}
 use Rattle.std.proofs.lemmas.Option.{slice_get-map}
 use Rattle.formula_meaning.specs.Context.{IsDenominator}
 use Rattle.formula_meaning.specs.Point.{Point, Of}
@@ -17,7 +18,9 @@ use Rattle.qe_syntax.specs.Value as written
 use Rattle.statement_syntax.specs.declared.grid.GridAxis.{GridAxis}
 use Rattle.statement_syntax.specs.Statements.{Grid}
 use Rattle.statement_syntax.specs.Writable.{AreWritableAxes}
-use Rattle.formula_tree.specs.Causes.{OverflowsInReading}
+use Rattle.formula_meaning.specs.Replaced.{replaced}
+use Rattle.formula_tree.specs.Causes.{OverflowsInReading, atom_in_place}
+use Rattle.formula_tree.specs.Quantified.{has_quantifier}
 use Rattle.formula_tree.specs.Makers.{IsMade}
 use Rattle.formula_tree.specs.Names.{with_name}
 use Rattle.formula_tree.specs.Resolving.{formula_variables, place, resolve, bound_truth}
@@ -110,9 +113,9 @@ module _ (old new : SessionState) (f : FormulaTree) (axes : List GridAxis) (es :
       pub quantifier_stops : IsQuantified (state_of new).bound f → RefusesGrid s limit f axes error.Quantified
       quantifier_stops h = grid_quantified s f axes numbers clear meant_here valued_here limit (subst (λ (u : State). IsQuantified u.bound f) same_state h)
 
-      module _ (free : ¬ (IsQuantified (state_of new).bound f)) where
+      module _ (free : false ≡ has_quantifier (replaced (atom_in_place (state_of new).bound) (λ x. 0) f)) where
         free_here : ¬ (IsQuantified s.bound f)
-        free_here = subst (λ (u : State). ¬ (IsQuantified u.bound f)) same_state free
+        free_here = subst (λ (u : State). ¬ (IsQuantified u.bound f)) same_state (λ h. false≢true (free ∙ h))
 
         pub reading_stops : ((i : FormulaId) → ¬ (id ≡ Some i)) → RefusesGrid s limit f axes error.Overflow
         reading_stops none = grid_unread s f axes numbers clear meant_here valued_here free_here limit (there_not _ _ id none read.formula)

@@ -1,4 +1,4 @@
-use Rattle.std.proofs.Common.{inl, refl, sym, subst, subst₂, take, List}
+use Rattle.std.proofs.Common.{inl, refl, sym, subst₂, take, List}
 use Rattle.statement_syntax.specs.declared.grid.GridAxis.{GridAxis}
 use Rattle.statement_syntax.specs.Writable.{IsWritableAxis}
 use Rattle.formula_tree.specs.Resolving.{place}

@@ -21,18 +21,18 @@ meant_point-requires-3 c = subst AreWritableEntries (sym (c.deref-2.ensures.valu
 pub returns-then-any-clause-fault : goal.returns-then-any-clause-fault
 returns-then-any-clause-fault c =
     let told = some_of_cases IsFlat c.args.axes.now c.any.result
-        (cases_from_any c.any.new.self _ c.any.result IsFlat (λ a. ¬ (IsFlat a)) c.any.ensures.ran (YieldsList-from_slice c.args.axes.now cc)
-        (λ x q k. let t : IsTrue true ↔ IsFlat x.now = search rules in t.0 refl)
-        (λ x q k. let t : IsTrue false ↔ IsFlat x.now = search rules in (refl, λ h. false≢true (t.1 h)))) in
+    (cases_from_any c.any.new.self _ c.any.result IsFlat (λ a. ¬ (IsFlat a)) c.any.ensures.ran (YieldsList-from_slice c.args.axes.now cc)
+    (λ x q k. let t : IsTrue true ↔ IsFlat x.now = search rules in t.0 refl)
+    (λ x q k. let t : IsTrue false ↔ IsFlat x.now = search rules in (refl, λ h. false≢true (t.1 h)))) in
     let flat : SomeOf IsFlat c.args.axes.now = subst (λ b. MatchBool b (SomeOf IsFlat c.args.axes.now) (¬ (SomeOf IsFlat c.args.axes.now))) c.if-any.true told in
     inl (refl, inr (inr (inr flat)))
 
 pub returns-clause-meant : goal.returns-clause-meant
 returns-clause-meant c =
     let told = some_of_cases IsFlat c.args.axes.now c.any.result
-        (cases_from_any c.any.new.self _ c.any.result IsFlat (λ a. ¬ (IsFlat a)) c.any.ensures.ran (YieldsList-from_slice c.args.axes.now cc)
-        (λ x q k. let t : IsTrue true ↔ IsFlat x.now = search rules in t.0 refl)
-        (λ x q k. let t : IsTrue false ↔ IsFlat x.now = search rules in (refl, λ h. false≢true (t.1 h)))) in
+    (cases_from_any c.any.new.self _ c.any.result IsFlat (λ a. ¬ (IsFlat a)) c.any.ensures.ran (YieldsList-from_slice c.args.axes.now cc)
+    (λ x q k. let t : IsTrue true ↔ IsFlat x.now = search rules in t.0 refl)
+    (λ x q k. let t : IsTrue false ↔ IsFlat x.now = search rules in (refl, λ h. false≢true (t.1 h)))) in
     let steep : ¬ (SomeOf IsFlat c.args.axes.now) = subst (λ b. MatchBool b (SomeOf IsFlat c.args.axes.now) (¬ (SomeOf IsFlat c.args.axes.now))) c.if-any.false told in
     let theory = context_of c.args.state.now.context in
     let low : ¬ (MeanNoPoint theory (lows c.args.axes.now)) = subst (λ es. ¬ (MeanNoPoint theory es)) c.requires.lows c.in_ok-meant_point.ensures.point.meant in

@@ -1,5 +1,4 @@
-use Rattle.std.proofs.Common.{◌≡◌, sym, ◌∙◌, subst}
-use Rattle.std.proofs.lemmas.Bool.{false≢true}
+use Rattle.std.proofs.Common.{sym, subst}
 use Rattle.std.proofs.lemmas.Result.{err_from_is_err_and}
 use Rattle.qe_syntax.specs.Trees.{formula_tree}
 use Rattle.statement_syntax.specs.Statements.{Grid}
@@ -46,43 +45,43 @@ returns-then-is_quantified-clause-refused g c =
 pub returns-in_default-clause-refused : goal.returns-in_default-clause-refused
 returns-in_default-clause-refused g c =
     reading_stops c.args.state.now c.read.new.state (formula_tree c.args.formula.now) c.args.axes.now c.args.lows.now c.requires.lows c.requires.session c.requires.numbered c.in_ok-id.ensures.kept c.args.workshop.now.limits.nodes c.in_ok-id.id c.in_ok-id.ensures.read
-    c.in_ok-check_axes.ensures.meant c.in_ok-check_valued.ensures.valued (λ h. false≢true (c.if-is_quantified.ensures ∙ h)) c.in_default.not-Some
+    c.in_ok-check_axes.ensures.meant c.in_ok-check_valued.ensures.valued c.if-is_quantified.ensures c.in_default.not-Some
 
 pub returns-in_err-grid-clause-refused : goal.returns-in_err-grid-clause-refused
 returns-in_err-grid-clause-refused g c =
     let p = err_from_is_err_and c.from_residual-in_err-grid.result c.from_residual-in_err-grid.ensures.1 in
     rw (p.1, p.2)
     (grid_refused c.args.state.now c.read.new.state (formula_tree c.args.formula.now) c.args.axes.now c.args.lows.now c.requires.lows c.requires.session c.requires.numbered c.in_ok-id.ensures.kept c.args.workshop.now.limits.nodes c.in_ok-id.id c.in_ok-id.ensures.read
-    c.in_ok-check_axes.ensures.meant c.in_ok-check_valued.ensures.valued (λ h. false≢true (c.if-is_quantified.ensures ∙ h)) c.in-Some.id c.in-Some.is c.in_err-grid.field-0.0 c.in_err-grid.ensures.stopped)
+    c.in_ok-check_axes.ensures.meant c.in_ok-check_valued.ensures.valued c.if-is_quantified.ensures c.in-Some.id c.in-Some.is c.in_err-grid.field-0.0 c.in_err-grid.ensures.stopped)
 
 pub truths_at-requires-clause-free : goal.truths_at-requires-clause-free
 truths_at-requires-clause-free g c _ _ =
     free_there c.args.state.now c.read.new.state (formula_tree c.args.formula.now) c.args.axes.now c.args.lows.now c.requires.lows c.requires.session c.requires.numbered c.in_ok-id.ensures.kept c.args.workshop.now.limits.nodes c.in_ok-id.id c.in_ok-id.ensures.read
-    c.in_ok-check_axes.ensures.meant c.in_ok-check_valued.ensures.valued (λ h. false≢true (c.if-is_quantified.ensures ∙ h)) c.in-Some.id c.in-Some.is
+    c.in_ok-check_axes.ensures.meant c.in_ok-check_valued.ensures.valued c.if-is_quantified.ensures c.in-Some.id c.in-Some.is
 
 pub truths_at-requires-clause-whole : goal.truths_at-requires-clause-whole
 truths_at-requires-clause-whole g c _ _ =
     whole_there c.args.state.now c.read.new.state (formula_tree c.args.formula.now) c.args.axes.now c.args.lows.now c.requires.lows c.requires.session c.requires.numbered c.in_ok-id.ensures.kept c.args.workshop.now.limits.nodes c.in_ok-id.id c.in_ok-id.ensures.read
-    c.in_ok-check_axes.ensures.meant c.in_ok-check_valued.ensures.valued (λ h. false≢true (c.if-is_quantified.ensures ∙ h)) c.in-Some.id c.in-Some.is c.in_ok-grid.grid c.in_ok-grid.ensures.grid c.requires.proper c.requires.axes c.grid.inside.points
+    c.in_ok-check_axes.ensures.meant c.in_ok-check_valued.ensures.valued c.if-is_quantified.ensures c.in-Some.id c.in-Some.is c.in_ok-grid.grid c.in_ok-grid.ensures.grid c.requires.proper c.requires.axes c.grid.inside.points
     (subst (λ (f : Frame). IsFrame f c.grid.inside.points) c.grid.view_is c.grid.invariant)
 
 pub returns-clause-truths : goal.returns-clause-truths
 returns-clause-truths g c =
     truths_told c.args.state.now c.read.new.state (formula_tree c.args.formula.now) c.args.axes.now c.args.lows.now c.requires.lows c.requires.session c.requires.numbered c.in_ok-id.ensures.kept c.args.workshop.now.limits.nodes c.in_ok-id.id c.in_ok-id.ensures.read
-    c.in_ok-check_axes.ensures.meant c.in_ok-check_valued.ensures.valued (λ h. false≢true (c.if-is_quantified.ensures ∙ h)) c.in-Some.id c.in-Some.is c.in_ok-grid.grid c.in_ok-grid.ensures.grid c.requires.proper c.requires.axes (λ v. v.items) c.truths_at.result c.truths_at.ensures.truths
+    c.in_ok-check_axes.ensures.meant c.in_ok-check_valued.ensures.valued c.if-is_quantified.ensures c.in-Some.id c.in-Some.is c.in_ok-grid.grid c.in_ok-grid.ensures.grid c.requires.proper c.requires.axes (λ v. v.items) c.truths_at.result c.truths_at.ensures.truths
 
 pub returns-clause-few : goal.returns-clause-few
 returns-clause-few g c =
     truths_few c.args.state.now c.read.new.state (formula_tree c.args.formula.now) c.args.axes.now c.args.lows.now c.requires.lows c.requires.session c.requires.numbered c.in_ok-id.ensures.kept c.args.workshop.now.limits.nodes c.in_ok-id.id c.in_ok-id.ensures.read
-    c.in_ok-check_axes.ensures.meant c.in_ok-check_valued.ensures.valued (λ h. false≢true (c.if-is_quantified.ensures ∙ h)) c.in-Some.id c.in-Some.is c.in_ok-grid.grid c.in_ok-grid.ensures.grid c.requires.proper c.requires.axes (λ v. v.items) c.truths_at.result c.grid.inside.points
+    c.in_ok-check_axes.ensures.meant c.in_ok-check_valued.ensures.valued c.if-is_quantified.ensures c.in-Some.id c.in-Some.is c.in_ok-grid.grid c.in_ok-grid.ensures.grid c.requires.proper c.requires.axes (λ v. v.items) c.truths_at.result c.grid.inside.points
     (subst (λ (f : Frame). IsFrame f c.grid.inside.points) c.grid.view_is c.grid.invariant) c.truths_at.ensures.truths
 
 pub returns-clause-accepted : goal.returns-clause-accepted
 returns-clause-accepted g c =
     truths_accepted c.args.state.now c.read.new.state (formula_tree c.args.formula.now) c.args.axes.now c.args.lows.now c.requires.lows c.requires.session c.requires.numbered c.in_ok-id.ensures.kept c.args.workshop.now.limits.nodes c.in_ok-id.id c.in_ok-id.ensures.read
-    c.in_ok-check_axes.ensures.meant c.in_ok-check_valued.ensures.valued (λ h. false≢true (c.if-is_quantified.ensures ∙ h)) c.in-Some.id c.in-Some.is c.in_ok-grid.grid c.in_ok-grid.ensures.grid c.requires.proper c.requires.axes (λ v. v.items) c.truths_at.result
+    c.in_ok-check_axes.ensures.meant c.in_ok-check_valued.ensures.valued c.if-is_quantified.ensures c.in-Some.id c.in-Some.is c.in_ok-grid.grid c.in_ok-grid.ensures.grid c.requires.proper c.requires.axes (λ v. v.items) c.truths_at.result
 
 pub returns-clause-refused : goal.returns-clause-refused
 returns-clause-refused g c =
     truths_refused c.args.state.now c.read.new.state (formula_tree c.args.formula.now) c.args.axes.now c.args.lows.now c.requires.lows c.requires.session c.requires.numbered c.in_ok-id.ensures.kept c.args.workshop.now.limits.nodes c.in_ok-id.id c.in_ok-id.ensures.read
-    c.in_ok-check_axes.ensures.meant c.in_ok-check_valued.ensures.valued (λ h. false≢true (c.if-is_quantified.ensures ∙ h)) c.in-Some.id c.in-Some.is c.in_ok-grid.grid c.in_ok-grid.ensures.grid c.requires.proper c.requires.axes (λ v. v.items) c.truths_at.result c.truths_at.ensures.stopped
+    c.in_ok-check_axes.ensures.meant c.in_ok-check_valued.ensures.valued c.if-is_quantified.ensures c.in-Some.id c.in-Some.is c.in_ok-grid.grid c.in_ok-grid.ensures.grid c.requires.proper c.requires.axes (λ v. v.items) c.truths_at.result c.truths_at.ensures.stopped
