@@ -7,7 +7,7 @@ use Rattle.formula_meaning.specs.Some.{SomeOf, EachOf}
 use Rattle.formula_meaning.specs.Tree.{Tree}
 use Rattle.qe_syntax.specs.declared.entries.PointEntry.{PointEntry}
 use Rattle.qe_syntax.specs.Point.{PassesLimit}
-use Rattle.statement_syntax.specs.Statements.{Holds, Sample}
+use Rattle.statement_syntax.specs.Statements.{CommandTree, Holds, Sample}
 use Rattle.qe_syntax.specs.Trees.{FormulaTree}
 use Rattle.formula_tree.specs.Bindings.{bound_to}
 use Rattle.formula_tree.specs.Causes.{IsBound, OverflowsInReading}
@@ -23,10 +23,10 @@ use Rattle.session_meaning.specs.Points.{MeanNoPoint}
 use Rattle.command_tools.specs.Replies.{use_of, Refuses}
 use Rattle.command_tools.specs.Refusals.{static_refusal}
 use Rattle.problem_reading.specs.Reading.{HasNumbers, IsUnread, IsReadable, AreNumbered, AppliesAmong, IsBefore, HasNoEarlier, IsFirstAmong}
-use Rattle.point_queries.specs.Asked.{RefusesBoth, AcceptsBoth, entry_names, stop_of, IsBoundName, IsClear, PointStop, IsValued, ValuedStop}
+use Rattle.point_queries.specs.Asked.{Asks, RefusesAsking, RefusesBoth, AcceptsBoth, entry_names, stop_of, IsBoundName, IsClear, PointStop, IsValued, ValuedStop}
 use Rattle.session_meaning.specs.Meaning.{meaning, Meaning}
 use Rattle.session_meaning.specs.Uses.{Use}
-use Rattle.session_meaning.specs.Causes.{IsCause, HasNone}
+use Rattle.session_meaning.specs.Causes.{IsCause, HasNone, IsFirst}
 use Rattle.session_meaning.specs.Words.{before, order}
 use Rattle.formula_resolving.proofs.Order.{each_before}
 use Rattle.session_state.proofs.BindingLemmas.{trees_find}
@@ -61,6 +61,16 @@ none_found bound x None e h k = let q = e ∙ k.1 in absurd (cc)
 none_found bound x (Some i) e h k = false≢true (sym h)
 
 -- ---- both commands
+
+pub truth_asks : (f : FormulaTree) (es : List PointEntry) → Asks f es (meaning (Holds f es))
+truth_asks f es = record { formulas = refl; further = refl; context = λ s limit h. h }
+
+pub sample_asks : (f : FormulaTree) (es : List PointEntry) → Asks f es (meaning (Sample f es))
+sample_asks f es = record { formulas = refl; further = refl; context = λ s limit h. h }
+
+-- what refuses each command that asks refuses both
+pub asking_both : (s : State) (f : FormulaTree) (es : List PointEntry) (e : StatementError) → RefusesAsking s f es e → RefusesBoth s f es e
+asking_both s f es e h = λ limit printed. (h (Holds f es) (truth_asks f es) limit printed, h (Sample f es) (sample_asks f es) limit printed)
 
 module _ (s : State) (f : FormulaTree) (es : List PointEntry) (limit : ℕ) (printed : Bool) where
   abbrev asked : Use
@@ -98,6 +108,34 @@ module _ (s : State) (f : FormulaTree) (es : List PointEntry) (numbers : HasNumb
   listed : AreNumbered s.names (also f none)
   listed = (numbers, tt)
 
+  -- ---- each command that asks
+
+  module _ (c : CommandTree) (asks : Asks f es (meaning c)) where
+    abbrev m : Meaning
+    m = meaning c
+
+    numbered_there : AreNumbered s.names m.formulas
+    numbered_there = subst (AreNumbered s.names) (sym asks.formulas) listed
+
+    free_there : ¬ Bound → ¬ (SomeOf (IsBound s.bound) m.further)
+    free_there free = subst (λ xs. ¬ (SomeOf (IsBound s.bound) xs)) (sym asks.further) free
+
+    none_there : (d : StaticError) → HasNoEarlier s (also f none) d → HasNoEarlier s m.formulas d
+    none_there d first = subst (λ fs. HasNoEarlier s fs d) (sym asks.formulas) first
+
+    -- nothing comes before the point
+    pub asking_below_point : IsClear s f es → (limit : ℕ) (printed : Bool) → HasNone m s limit (use_of None printed) (before error.Point)
+    asking_below_point clear limit printed =
+        to_point m s limit (use_of None printed) numbered_there (free_there clear.entries) (asks.context s limit) (none_there static.Overflow clear.reading)
+
+    -- the first cause is the one of the reading
+    asking_first : (d : StaticError) → IsBefore d static.Overflow → IsFirstAmong s (also f none) d → (IsBefore static.FormulaAsTerm d → ¬ Bound) → (limit : ℕ) (u : Use) → IsFirst m s limit u (static_refusal d)
+    asking_first d l among free limit u =
+        first_in_reading m s limit u numbered_there d l (subst (λ fs. IsFirstAmong s fs d) (sym asks.formulas) among) (λ k. free_there (free k)) (λ k. asks.context s limit)
+
+    asking_bound : HasNoEarlier s (also f none) static.FormulaAsTerm → Bound → (limit : ℕ) (u : Use) → IsFirst m s limit u error.FormulaAsTerm
+    asking_bound first h limit u = bound_first m s limit u numbered_there (none_there static.FormulaAsTerm first) (subst (SomeOf (IsBound s.bound)) (sym asks.further) h)
+
   -- ---- what is clear
 
   abbrev IsTruthClear : StatementError → Type 0
@@ -105,7 +143,7 @@ module _ (s : State) (f : FormulaTree) (es : List PointEntry) (numbers : HasNumb
 
   -- nothing comes before the point, the free names, the quantifiers or the numbers that pass the limit
   below_point : IsClear s f es → IsTruthClear error.Point
-  below_point clear limit printed = to_point (meaning (Holds f es)) s limit (use_of None printed) listed clear.entries clear.reading
+  below_point clear limit printed = asking_below_point (Holds f es) (truth_asks f es) clear limit printed
 
   below_unvalued : IsClear s f es → ¬ (MeanNoPoint s.context es) → IsTruthClear error.Unvalued
   below_unvalued clear point limit printed = then_clear (meaning (Holds f es)) s limit (use_of None printed) error.Point error.Unvalued refl (below_point clear limit printed) point
@@ -157,28 +195,20 @@ module _ (s : State) (f : FormulaTree) (es : List PointEntry) (numbers : HasNumb
       none_alone (d ∷ ds) h = (⊎_elim h.0 absurd, none_alone ds h.1)
 
   -- the first cause is the one of the reading
-  reading_first : (d : StaticError) → IsBefore d static.Overflow → reading.IsFirst s.context s.bound s.names f d → (IsBefore static.FormulaAsTerm d → ¬ Bound) → RefusesBoth s f es (static_refusal d)
-  reading_first d l first free = λ limit printed.
-      let among : IsFirstAmong s (also f none) d = record { applies = inl first.applies; first = alone d first.first } in (
-        λ other. first_in_reading (meaning (Holds f es)) s limit (use_of None printed) listed d l among free,
-        λ other. first_in_reading (meaning (Sample f es)) s limit (use_of None printed) listed d l among free,
-      )
+  reading_first : (d : StaticError) → IsBefore d static.Overflow → reading.IsFirst s.context s.bound s.names f d → (IsBefore static.FormulaAsTerm d → ¬ Bound) → RefusesAsking s f es (static_refusal d)
+  reading_first d l first free =
+      let among : IsFirstAmong s (also f none) d = record { applies = inl first.applies; first = alone d first.first } in
+      λ c asks limit printed other. asking_first c asks d l among free limit (use_of None printed)
 
-  name_bound : HasNoEarlier s (also f none) static.FormulaAsTerm → Bound → RefusesBoth s f es error.FormulaAsTerm
-  name_bound first h = λ limit printed. (
-    λ other. bound_first (meaning (Holds f es)) s limit (use_of None printed) listed first h,
-    λ other. bound_first (meaning (Sample f es)) s limit (use_of None printed) listed first h,
-  )
-
-  bound_before : ¬ (reading.Applies s.context s.bound s.names f static.Unbound) → Bound → RefusesBoth s f es error.FormulaAsTerm
-  bound_before bound h = name_bound (alone static.FormulaAsTerm (bound, tt)) h
+  bound_before : ¬ (reading.Applies s.context s.bound s.names f static.Unbound) → Bound → RefusesAsking s f es error.FormulaAsTerm
+  bound_before bound h = λ c asks limit printed other. asking_bound c asks (alone static.FormulaAsTerm (bound, tt)) h limit (use_of None printed)
 
   abbrev Stopped : Option StatementError → Type 0
-  Stopped o = MatchOption o (IsClear s f es × OverflowsInReading s.context s.bound (place s.names) f) (RefusesBoth s f es)
+  Stopped o = MatchOption o (IsClear s f es × OverflowsInReading s.context s.bound (place s.names) f) (RefusesAsking s f es)
 
   not_read : (d : StaticError) (met : Bool) → (IsTrue met ↔ Bound) → reading.IsFirstCause s.context s.bound s.names f d → Stopped (stop_of (static_refusal d) met)
   not_read static.Unbound met is first = reading_first static.Unbound (search rules) first absurd
-  not_read static.Memory met is first = λ limit printed. out_of_memory s f es limit printed
+  not_read static.Memory met is first = λ c asks limit printed other. absurd (other refl)
   not_read static.FormulaAsTerm true is first = bound_before first.first.0 (is.0 refl)
   not_read static.Nonlinear true is first = bound_before first.first.0 (is.0 refl)
   not_read static.Division true is first = bound_before first.first.0 (is.0 refl)
@@ -205,5 +235,5 @@ module _ (s : State) (f : FormulaTree) (es : List PointEntry) (numbers : HasNumb
   pub read_clear : IsReadable s f → ¬ Bound → IsClear s f es
   read_clear a h = record { reading = alone static.Overflow (each_before (λ d. ¬ (reading.Applies s.context s.bound s.names f d)) static.Overflow (readable_none s f a)); entries = h }
 
-  pub read_bound : IsReadable s f → Bound → RefusesBoth s f es error.FormulaAsTerm
+  pub read_bound : IsReadable s f → Bound → RefusesAsking s f es error.FormulaAsTerm
   read_bound a h = bound_before a.bound_names h

@@ -46,7 +46,7 @@ use Rattle.point_queries.proofs.EntryLemmas.{names_of_entries}
 
 -- ---- what is looked at
 
-there_not : {X : Type 0} (P : Type 0) (Q : X → Type 0) (o : Option X) → ((x : X) → ¬ (o ≡ Some x)) → MatchOption o P Q → P
+pub there_not : {X : Type 0} (P : Type 0) (Q : X → Type 0) (o : Option X) → ((x : X) → ¬ (o ≡ Some x)) → MatchOption o P Q → P
 there_not P Q None none h = h
 there_not P Q (Some x) none h = absurd (none x refl)
 

@@ -1,3 +1,7 @@
+pub mod AxisLemmas
+pub mod GridLemmas
+pub mod GridCauses
+pub mod NamedTruth
 pub mod EntryLemmas
 pub mod AskedLemmas
 pub mod TruthLemmas
@@ -5,6 +9,7 @@ pub mod PointLemmas
 pub mod CaseSteps
 pub mod AskedSteps
 pub mod TruthSteps
+pub mod GridSteps
 pub mod SampleLemmas
 pub mod ShortSamples
 pub mod SampleSteps

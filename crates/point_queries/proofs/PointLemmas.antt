@@ -15,24 +15,20 @@ use Rattle.exact_numbers.proofs.Floor.{divides_from_residue, residue_of_multiple
 use Rattle.exact_numbers.proofs.FractionRule.{divisor_positive}
 use Rattle.exact_numbers.proofs.GreatestDivisor.{gcd_is}
 use Rattle.exact_numbers.proofs.LeastMultiple.{exact_div}
-use Rattle.formula_meaning.specs.Context.{Context, Fields, Integers, IsDenominator}
+use Rattle.formula_meaning.specs.Context.{Context, Fields, Integers}
 use Rattle.formula_meaning.specs.Formula.{Formula, Formulas, Yes, No, One, Not, And, Or, Impl, Repl, Equiv, Ex, All, none, also}
-use Rattle.formula_meaning.specs.Atom.{Congruent, form_of}
-use Rattle.formula_meaning.specs.Every.{Every, EveryOf}
+use Rattle.formula_meaning.specs.Atom.{form_of}
 use Rattle.formula_meaning.specs.Replaced.{replaced, all_replaced}
 use Rattle.formula_meaning.specs.Shape.{IsAtomic, IsQuantifierFree, AreQuantifierFree}
-use Rattle.formula_meaning.specs.Sizes.{subtrees, all_subtrees}
 use Rattle.formula_meaning.specs.Tree.{Tree}
-use Rattle.formula_meaning.proofs.Listed.{among_append}
 use Rattle.formula_meaning.proofs.SamePoint.{point_same}
 use Rattle.atom_normal.specs.declared.atoms.Context as atoms
 use Rattle.atom_normal.specs.Atoms.{context_of}
-use Rattle.atom_normal.specs.NormalForm.{IsNormal}
 use Rattle.atom_normal.proofs.NormalLaws.{normal_atomic}
 use Rattle.linear_forms.specs.Terms.{ValuePasses}
 use Rattle.linear_forms.specs.Values.{Numbers, number_at, point_of}
 use Rattle.formula_meaning.specs.Point.{Point, Of}
-use Rattle.formula_meaning.specs.Some.{SomeOf, Among}
+use Rattle.formula_meaning.specs.Some.{SomeOf}
 use Rattle.qe_syntax.specs.declared.entries.PointEntry.{PointEntry}
 use Rattle.qe_syntax.specs.declared.tree.Literal.{Literal}
 use Rattle.qe_syntax.specs.declared.tree.Literal.TheVariants.{Fits, Past}
@@ -51,7 +47,7 @@ use Rattle.formula_tree.specs.Quantified.{has_quantifier, some_quantifier}
 use Rattle.formula_tree.specs.RationalForms.{RationalForm, Missing, formed, formed_difference}
 use Rattle.formula_tree.specs.Resolving.{BoundTrees, place, at_names, resolve, resolved_atom, compared, congruent}
 use Rattle.formula_tree.proofs.PlaceLaws.{slice_place, one_place, at_place}
-use Rattle.formula_store.specs.Truths.{Tells, SomeAtomPasses, IsWholeWhereAsked}
+use Rattle.formula_store.specs.Truths.{Tells, SomeAtomPasses}
 use Rattle.free_names.specs.Entries.{HasEntryAt}
 use Rattle.session_meaning.specs.Points.{MeanNoPoint, IsQuantified, SomeAtomPassesAt}
 
@@ -133,7 +129,7 @@ whole_terms (Fits a) (Fits b) positive whole =
 whole_terms (Fits a) Past positive whole = divides_same (pos 1)
 whole_terms Past below positive whole = divides_same (pos 1)
 
-whole_entries : (es : List PointEntry) → AreWritableEntries es → ¬ (SomeOf IsZeroBelow es) → ¬ (SomeOf IsBroken es) → IsCommonMultiple es (pos 1)
+pub whole_entries : (es : List PointEntry) → AreWritableEntries es → ¬ (SomeOf IsZeroBelow es) → ¬ (SomeOf IsBroken es) → IsCommonMultiple es (pos 1)
 whole_entries [] proper divided whole = tt
 whole_entries (e ∷ es) proper divided whole = (
   whole_terms e.above e.below (λ b is. below_positive e b (proper.0.0, proper.0.1, tt) (λ z. divided (inl z)) is) (λ a b p q no. whole (inl (a, b, p, q, no))),

@@ -8,7 +8,7 @@ use Rattle.formula_meaning.specs.Point.{Of}
 use Rattle.formula_meaning.specs.Some.{SomeOf}
 use Rattle.qe_syntax.specs.declared.entries.PointEntry.{PointEntry}
 use Rattle.qe_syntax.specs.Point.{Numbers, PassesLimit, IsPointOf, point_of}
-use Rattle.statement_syntax.specs.Statements.{Holds, Sample}
+use Rattle.statement_syntax.specs.Statements.{CommandTree, Holds, Sample}
 use Rattle.qe_syntax.specs.Trees.{FormulaTree}
 use Rattle.qe_syntax.specs.Valued.{IsIn}
 use Rattle.formula_tree.specs.Bindings.{bound_to}
@@ -25,12 +25,26 @@ use Rattle.session_meaning.specs.Points.{MeanNoPoint, HasUnvalued}
 use Rattle.command_tools.specs.Replies.{use_of, Refuses}
 use Rattle.formula_resolving.specs.declared.error.StaticError.TheVariants as static
 use Rattle.problem_reading.specs.Reading.{IsReadable, HasNoEarlier}
-use Rattle.session_meaning.specs.Meaning.{meaning}
+use Rattle.session_meaning.specs.Meaning.{Meaning, meaning}
 use Rattle.session_meaning.specs.Causes.{IsAccepted}
 
 -- the names of the entries stand in the list
 abbrev pub HaveNumbers : List (List ℕ) → List PointEntry → Type 0
 HaveNumbers names es = AllByRecursion (λ e. IsIn e.name names) es
+
+-- the names of the entries
+abbrev pub entry_names : List PointEntry → List (List ℕ)
+entry_names es = map (λ (e : PointEntry). e.name) es
+
+-- the command with this meaning reads the formula, names the entries behind it, and is not refused for the theory
+pub record Asks (f : FormulaTree) (es : List PointEntry) (m : Meaning) : Type 0 where
+  pub formulas : m.formulas ≡ also f none
+  pub further : m.further ≡ entry_names es
+  pub context : (s : State) (limit : ℕ) → ¬ (m.must.context s limit)
+
+-- each such command is refused with the word, whatever the limit is and whether a line is printed
+abbrev pub RefusesAsking : State → FormulaTree → List PointEntry → StatementError → Type 0
+RefusesAsking s f es e = (c : CommandTree) → Asks f es (meaning c) → (limit : ℕ) (printed : Bool) → Refuses s limit (use_of None printed) c e
 
 -- Both commands that ask about a point, for the truth there and for a sample, are refused with the word, whatever the limit is and whether a line is printed.
 abbrev pub RefusesBoth : State → FormulaTree → List PointEntry → StatementError → Type 0
@@ -39,10 +53,6 @@ RefusesBoth s f es e = (limit : ℕ) (printed : Bool) → Refuses s limit (use_o
 -- and no cause applies to them
 abbrev pub AcceptsBoth : State → FormulaTree → List PointEntry → Type 0
 AcceptsBoth s f es = (limit : ℕ) (printed : Bool) → IsAccepted (meaning (Holds f es)) s limit (use_of None printed) × IsAccepted (meaning (Sample f es)) s limit (use_of None printed)
-
--- the names of the entries
-abbrev pub entry_names : List PointEntry → List (List ℕ)
-entry_names es = map (λ (e : PointEntry). e.name) es
 
 -- The word for a formula that is not resolved, where it is known whether something is bound to the name of an entry. There is
 -- none where the reading overflows, since other causes come before that.

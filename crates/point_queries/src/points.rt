@@ -16,7 +16,7 @@ ghost use Rattle.formula_resolving.specs.Numbering.{Grows};
 ghost use Rattle.formula_resolving.specs.Refusals.{AreIds};
 ghost use Rattle.formula_store.specs.Nodes.{IsId};
 ghost use Rattle.problem_reading.specs.Reading.{HasNumbers};
-ghost use Rattle.point_queries.specs.Asked.{HaveNumbers, RefusesBoth, entry_names, stop_of, IsBoundName, is_whole_theory, IsReadAs, IsMeantPoint, PointStop, IsValued, ValuedStop, IsAsked};
+ghost use Rattle.point_queries.specs.Asked.{HaveNumbers, RefusesAsking, RefusesBoth, entry_names, stop_of, IsBoundName, is_whole_theory, IsReadAs, IsMeantPoint, PointStop, IsValued, ValuedStop, IsAsked};
 ghost use Rattle.session_state.specs.Keeping.{state_of, IsSessionState};
 ghost use Rattle.session_state.specs.Growth.{KeepsState};
 
@@ -90,7 +90,7 @@ pub fn read(
     requires ids { AreIds (IsId state.old.store) state.old.bindings }
     requires numbered { HasNumbers state.old.names (formula_tree formula.now) }
     ensures read { IfOk result (IsReadAs (state_of state.old) (formula_tree formula.now) entries.now state.new) }
-    ensures refused { IfErr result (RefusesBoth (state_of state.old) (formula_tree formula.now) entries.now) }
+    ensures refused { IfErr result (RefusesAsking (state_of state.old) (formula_tree formula.now) entries.now) }
     ensures kept { KeepsState state.old state.new }
 {
     let met = some_bound(entries, &state.bindings);

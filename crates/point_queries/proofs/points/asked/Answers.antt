@@ -1,7 +1,13 @@
 use Rattle.std.proofs.lemmas.Result.{err_from_is_err_and}
 use Rattle.qe_syntax.specs.Trees.{formula_tree}
+use Rattle.point_queries.proofs.AskedLemmas.{asking_both}
 use Rattle.point_queries.proofs.AskedSteps.{point_stops, ids_there, valued_stops, no_id, no_numbers, all_asked}
 use Rattle.point_queries.proofs.points.asked.Goals as goal
+
+pub returns-in_err-id-clause-refused : goal.returns-in_err-id-clause-refused
+returns-in_err-id-clause-refused c =
+    let p = err_from_is_err_and c.from_residual.result c.from_residual.ensures.1 in
+    rw (p.1, p.2) (asking_both _ _ _ _ c.in_err-id.ensures.refused)
 
 pub returns-in_err-point-clause-refused : goal.returns-in_err-point-clause-refused
 returns-in_err-point-clause-refused c =

@@ -1,0 +1,15 @@
+use Rattle.std.proofs.Common.{drop, take}
+use Rattle.std.specs.List.{AllByRecursion}
+use Rattle.statement_syntax.specs.Writable.{AreWritableAxes}
+use Rattle.formula_tree.specs.Resolving.{place}
+use Rattle.session_meaning.specs.Grids.{AreAxes}
+use Rattle.point_queries.specs.GridSteps.{IsDivided}
+use Rattle.point_queries.proofs.grids.axes_of.Given as goal
+
+-- the axes so far are numbered, and the others can be
+abbrev pub invariant-loop-axis : goal.invariant-loop-axis
+invariant-loop-axis l = record {
+  numbered : AreAxes (place l.names) (take l.axis-index l.axes) l.numbered.items;
+  proper : AreWritableAxes (drop l.axis-index l.axes);
+  divided : AllByRecursion IsDivided (drop l.axis-index l.axes);
+}

@@ -1,0 +1,87 @@
+use Rattle.std.proofs.Common.{sym, subst}
+use Rattle.std.proofs.lemmas.Result.{err_from_is_err_and}
+use Rattle.qe_syntax.specs.Trees.{formula_tree}
+use Rattle.statement_syntax.specs.Statements.{Grid}
+use Rattle.point_grid.specs.Frames.{Frame, IsFrame}
+use Rattle.session_state.specs.Keeping.{state_of}
+use Rattle.point_queries.specs.Asked.{RefusesAsking}
+use Rattle.point_queries.proofs.AskedSteps.{ids_there}
+use Rattle.point_queries.proofs.GridCauses.{grid_asks}
+use Rattle.point_queries.proofs.GridSteps.{axes_stop, names_stop, quantifier_stops, reading_stops, grid_refused, free_there, whole_there, truths_told, truths_few, truths_accepted, truths_refused}
+use Rattle.point_queries.proofs.grids.truths.Goals as goal
+
+pub returns-in_err-id-clause-refused : goal.returns-in_err-id-clause-refused
+returns-in_err-id-clause-refused g c =
+    let p = err_from_is_err_and c.from_residual.result c.from_residual.ensures.1 in
+    rw (p.1, p.2)
+    (subst (λ es. RefusesAsking (state_of c.args.state.now) (formula_tree c.args.formula.now) es c.in_err-id.field-0.0) c.requires.lows c.in_err-id.ensures.refused
+    (Grid (formula_tree c.args.formula.now) c.args.axes.now) (grid_asks (formula_tree c.args.formula.now) c.args.axes.now) c.args.workshop.now.limits.nodes)
+
+pub returns-in_err-check_axes-clause-refused : goal.returns-in_err-check_axes-clause-refused
+returns-in_err-check_axes-clause-refused g c =
+    let p = err_from_is_err_and c.from_residual-in_err-check_axes.result c.from_residual-in_err-check_axes.ensures.1 in
+    rw (p.1, p.2)
+    (axes_stop c.args.state.now c.read.new.state (formula_tree c.args.formula.now) c.args.axes.now c.args.lows.now c.requires.lows c.requires.session c.requires.numbered c.in_ok-id.ensures.kept c.args.workshop.now.limits.nodes c.in_ok-id.id c.in_ok-id.ensures.read
+    c.in_err-check_axes.field-0.0 c.in_err-check_axes.ensures.fault)
+
+pub check_valued-requires : goal.check_valued-requires
+check_valued-requires g c = ids_there c.args.state.now c.read.new.state (formula_tree c.args.formula.now) c.args.lows.now c.requires.session c.requires.numbered c.in_ok-id.ensures.kept
+
+pub returns-in_err-check_valued-clause-refused : goal.returns-in_err-check_valued-clause-refused
+returns-in_err-check_valued-clause-refused g c =
+    let p = err_from_is_err_and c.from_residual-in_err-check_valued.result c.from_residual-in_err-check_valued.ensures.1 in
+    rw (p.1, p.2)
+    (names_stop c.args.state.now c.read.new.state (formula_tree c.args.formula.now) c.args.axes.now c.args.lows.now c.requires.lows c.requires.session c.requires.numbered c.in_ok-id.ensures.kept c.args.workshop.now.limits.nodes c.in_ok-id.id c.in_ok-id.ensures.read
+    c.in_ok-check_axes.ensures.meant c.in_err-check_valued.field-0.0 c.in_err-check_valued.ensures.fault)
+
+pub is_quantified-requires : goal.is_quantified-requires
+is_quantified-requires g c = ids_there c.args.state.now c.read.new.state (formula_tree c.args.formula.now) c.args.lows.now c.requires.session c.requires.numbered c.in_ok-id.ensures.kept
+
+pub returns-then-is_quantified-clause-refused : goal.returns-then-is_quantified-clause-refused
+returns-then-is_quantified-clause-refused g c =
+    quantifier_stops c.args.state.now c.read.new.state (formula_tree c.args.formula.now) c.args.axes.now c.args.lows.now c.requires.lows c.requires.session c.requires.numbered c.in_ok-id.ensures.kept c.args.workshop.now.limits.nodes c.in_ok-id.id c.in_ok-id.ensures.read
+    c.in_ok-check_axes.ensures.meant c.in_ok-check_valued.ensures.valued (sym c.if-is_quantified.ensures)
+
+pub returns-in_default-clause-refused : goal.returns-in_default-clause-refused
+returns-in_default-clause-refused g c =
+    reading_stops c.args.state.now c.read.new.state (formula_tree c.args.formula.now) c.args.axes.now c.args.lows.now c.requires.lows c.requires.session c.requires.numbered c.in_ok-id.ensures.kept c.args.workshop.now.limits.nodes c.in_ok-id.id c.in_ok-id.ensures.read
+    c.in_ok-check_axes.ensures.meant c.in_ok-check_valued.ensures.valued c.if-is_quantified.ensures c.in_default.not-Some
+
+pub returns-in_err-grid-clause-refused : goal.returns-in_err-grid-clause-refused
+returns-in_err-grid-clause-refused g c =
+    let p = err_from_is_err_and c.from_residual-in_err-grid.result c.from_residual-in_err-grid.ensures.1 in
+    rw (p.1, p.2)
+    (grid_refused c.args.state.now c.read.new.state (formula_tree c.args.formula.now) c.args.axes.now c.args.lows.now c.requires.lows c.requires.session c.requires.numbered c.in_ok-id.ensures.kept c.args.workshop.now.limits.nodes c.in_ok-id.id c.in_ok-id.ensures.read
+    c.in_ok-check_axes.ensures.meant c.in_ok-check_valued.ensures.valued c.if-is_quantified.ensures c.in-Some.id c.in-Some.is c.in_err-grid.field-0.0 c.in_err-grid.ensures.stopped)
+
+pub truths_at-requires-clause-free : goal.truths_at-requires-clause-free
+truths_at-requires-clause-free g c _ _ =
+    free_there c.args.state.now c.read.new.state (formula_tree c.args.formula.now) c.args.axes.now c.args.lows.now c.requires.lows c.requires.session c.requires.numbered c.in_ok-id.ensures.kept c.args.workshop.now.limits.nodes c.in_ok-id.id c.in_ok-id.ensures.read
+    c.in_ok-check_axes.ensures.meant c.in_ok-check_valued.ensures.valued c.if-is_quantified.ensures c.in-Some.id c.in-Some.is
+
+pub truths_at-requires-clause-whole : goal.truths_at-requires-clause-whole
+truths_at-requires-clause-whole g c _ _ =
+    whole_there c.args.state.now c.read.new.state (formula_tree c.args.formula.now) c.args.axes.now c.args.lows.now c.requires.lows c.requires.session c.requires.numbered c.in_ok-id.ensures.kept c.args.workshop.now.limits.nodes c.in_ok-id.id c.in_ok-id.ensures.read
+    c.in_ok-check_axes.ensures.meant c.in_ok-check_valued.ensures.valued c.if-is_quantified.ensures c.in-Some.id c.in-Some.is c.in_ok-grid.grid c.in_ok-grid.ensures.grid c.requires.proper c.requires.axes c.grid.inside.points
+    (subst (λ (f : Frame). IsFrame f c.grid.inside.points) c.grid.view_is c.grid.invariant)
+
+pub returns-clause-truths : goal.returns-clause-truths
+returns-clause-truths g c =
+    truths_told c.args.state.now c.read.new.state (formula_tree c.args.formula.now) c.args.axes.now c.args.lows.now c.requires.lows c.requires.session c.requires.numbered c.in_ok-id.ensures.kept c.args.workshop.now.limits.nodes c.in_ok-id.id c.in_ok-id.ensures.read
+    c.in_ok-check_axes.ensures.meant c.in_ok-check_valued.ensures.valued c.if-is_quantified.ensures c.in-Some.id c.in-Some.is c.in_ok-grid.grid c.in_ok-grid.ensures.grid c.requires.proper c.requires.axes (λ v. v.items) c.truths_at.result c.truths_at.ensures.truths
+
+pub returns-clause-few : goal.returns-clause-few
+returns-clause-few g c =
+    truths_few c.args.state.now c.read.new.state (formula_tree c.args.formula.now) c.args.axes.now c.args.lows.now c.requires.lows c.requires.session c.requires.numbered c.in_ok-id.ensures.kept c.args.workshop.now.limits.nodes c.in_ok-id.id c.in_ok-id.ensures.read
+    c.in_ok-check_axes.ensures.meant c.in_ok-check_valued.ensures.valued c.if-is_quantified.ensures c.in-Some.id c.in-Some.is c.in_ok-grid.grid c.in_ok-grid.ensures.grid c.requires.proper c.requires.axes (λ v. v.items) c.truths_at.result c.grid.inside.points
+    (subst (λ (f : Frame). IsFrame f c.grid.inside.points) c.grid.view_is c.grid.invariant) c.truths_at.ensures.truths
+
+pub returns-clause-accepted : goal.returns-clause-accepted
+returns-clause-accepted g c =
+    truths_accepted c.args.state.now c.read.new.state (formula_tree c.args.formula.now) c.args.axes.now c.args.lows.now c.requires.lows c.requires.session c.requires.numbered c.in_ok-id.ensures.kept c.args.workshop.now.limits.nodes c.in_ok-id.id c.in_ok-id.ensures.read
+    c.in_ok-check_axes.ensures.meant c.in_ok-check_valued.ensures.valued c.if-is_quantified.ensures c.in-Some.id c.in-Some.is c.in_ok-grid.grid c.in_ok-grid.ensures.grid c.requires.proper c.requires.axes (λ v. v.items) c.truths_at.result
+
+pub returns-clause-refused : goal.returns-clause-refused
+returns-clause-refused g c =
+    truths_refused c.args.state.now c.read.new.state (formula_tree c.args.formula.now) c.args.axes.now c.args.lows.now c.requires.lows c.requires.session c.requires.numbered c.in_ok-id.ensures.kept c.args.workshop.now.limits.nodes c.in_ok-id.id c.in_ok-id.ensures.read
+    c.in_ok-check_axes.ensures.meant c.in_ok-check_valued.ensures.valued c.if-is_quantified.ensures c.in-Some.id c.in-Some.is c.in_ok-grid.grid c.in_ok-grid.ensures.grid c.requires.proper c.requires.axes (λ v. v.items) c.truths_at.result c.truths_at.ensures.stopped
