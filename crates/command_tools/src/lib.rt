@@ -1,4 +1,4 @@
-//! What the commands of a session share: the words of their refusals, lines, and what eliminations are worked with.
+//! What the commands of a session share: the words of their refusals, lines, and what eliminations and grids are worked with.
 #![tactic(auto)]
 
 mod lines;

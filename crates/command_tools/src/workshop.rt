@@ -1,4 +1,4 @@
-//! What the eliminations of statements are worked with.
+//! What the eliminations and grids of statements are worked with.
 
 ghost use Rattle.std.specs.Prelude.{◌≡◌};
 
@@ -8,7 +8,7 @@ use qe_parallel::Gate;
 use session_state::SessionState;
 use std::thread::Threads;
 
-/// What the eliminations of statements are worked with: the limits of the session, and a runtime whose threads a gate lets through.
+/// What the eliminations and grids of statements are worked with: the limits of the session, and a runtime whose threads a gate lets through.
 #[derive(Drop)]
 pub struct Workshop<'a, R, G> {
     pub rt: &'a R,

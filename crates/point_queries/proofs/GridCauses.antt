@@ -91,5 +91,5 @@ module _ (s : State) (f : FormulaTree) (axes : List GridAxis) (numbers : HasNumb
               -- a number passes the limit at a point of the grid
               pub truths_stop : (limit : ℕ) (numbered : List Axis) → AreAxes (place s.names) axes numbered → (e : StatementError) → TruthsStop (resolve s.context s.bound s.names f) (grid_of numbered) e → RefusesGrid s limit f axes e
               truths_stop limit numbered are e (inl h) =
-                  subst (RefusesGrid s limit f axes) (sym h.0) (λ printed other. record { applies = inr (λ k. k, (numbered, are, h.1)); first = below_overflow limit printed })
+                  subst (RefusesGrid s limit f axes) (sym h.0) (λ printed other. record { applies = inr (λ k. k, record { axes = numbered; meant = are; few = λ many. few (numbered, are, many); passes = h.1 }); first = below_overflow limit printed })
               truths_stop limit numbered are e (inr h) = subst (RefusesGrid s limit f axes) (sym h) (memory limit)

@@ -68,7 +68,8 @@ impl Session {
     }
 
     /// Answers the statement that these bytes spell, or says the first cause of its refusal, which changes nothing.
-    /// An elimination is worked on by as many threads of the runtime as the session has workers; each passes the gate before a piece.
+    /// An elimination or a grid is worked on by as many threads of the runtime as the session has workers; each passes the gate before a
+    /// piece.
     pub fn statement<R: Threads + Sync, G: Gate + Sync>(
         &mut self,
         rt: &R,

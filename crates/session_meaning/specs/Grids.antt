@@ -78,9 +78,12 @@ HasTooManyPoints number written = (axes : List Axis) × AreAxes number written a
 
 -- ---- the truths
 
--- a product or a partial sum of the value of some atom passes the limit at a point of the grid
-abbrev pub TruthsPass : State → FormulaTree → List GridAxis → Type 0
-TruthsPass s f written = (axes : List Axis) × AreAxes (place s.names) written axes × SomePointPasses (resolve s.context s.bound s.names f) (grid_of axes)
+-- a product or a partial sum of the value of some atom passes the limit at a point of the grid; a grid that has too many points is not looked at
+pub record TruthsPass (s : State) (f : FormulaTree) (written : List GridAxis) : Type 0 where
+  pub axes : List Axis
+  pub meant : AreAxes (place s.names) written axes
+  pub few : ¬ (HasTooMany axes)
+  pub passes : SomePointPasses (resolve s.context s.bound s.names f) (grid_of axes)
 
 -- The truths of the formula as it is written, at the points of the grid in their order: all choices of a value of each axis, that of the first axis changing slowest.
 pub record IsGridAnswer (s : State) (f : FormulaTree) (written : List GridAxis) (truths : List Bool) : Type 0 where
