@@ -11,8 +11,8 @@ use Rattle.fourier_motzkin.specs.Search.{Certificate, At, Farkas}
 use Rattle.session_meaning.specs.declared.line.StatementError.{StatementError}
 use Rattle.session_meaning.specs.declared.line.StatementError.TheVariants as error
 use Rattle.session_meaning.specs.State.{State}
-use Rattle.session_meaning.specs.Meaning.{OwnCauses, of_constraints, meaning}
-use Rattle.session_meaning.specs.Causes.{IsAccepted, IsFirst}
+use Rattle.session_meaning.specs.Meaning.{meaning}
+use Rattle.session_meaning.specs.Causes.{IsAccepted}
 use Rattle.command_tools.specs.Replies.{use_of, Refuses}
 use Rattle.problem_reading.specs.Reading.{AreReadable}
 
@@ -21,10 +21,6 @@ pub record AreReady (s : State) (written : FormulaTrees) : Type 0 where
   pub readable : AreReadable s written
   pub fields : s.context ≡ Fields
 
--- each command about the constraints is refused with the word, whatever else refuses it, whatever the limit is and whether its line is printed
-abbrev pub NoConstraints : State → FormulaTrees → StatementError → Type 1
-NoConstraints s written e = (must : OwnCauses) (tells : State → ℕ → List ℕ → Type 0) (limit : ℕ) (printed : Bool) → e ≢ error.Memory → IsFirst (of_constraints written must tells) s limit (use_of None printed) e
-
 -- the search is refused with the word under a limit of rows, whether its line is printed or not
 abbrev pub RefusesCertificate : State → ℕ → FormulaTrees → StatementError → Type 0
 RefusesCertificate s limit written e = (printed : Bool) → Refuses s limit (use_of None printed) (Certify written) e
@@ -32,6 +28,11 @@ RefusesCertificate s limit written e = (printed : Bool) → Refuses s limit (use
 -- the check is refused with the word, whatever the limit is and whether its line is printed
 abbrev pub RefusesCheck : State → FormulaTrees → List Literal → StatementError → Type 0
 RefusesCheck s written ms e = (limit : ℕ) (printed : Bool) → Refuses s limit (use_of None printed) (Check written ms) e
+
+-- both commands about the constraints are refused with the word, whatever the limit and the multipliers are and whether a line is printed
+pub record NoConstraints (s : State) (written : FormulaTrees) (e : StatementError) : Type 0 where
+  pub search : (limit : ℕ) → RefusesCertificate s limit written e
+  pub check : (ms : List Literal) → RefusesCheck s written ms e
 
 -- no cause applies to the check
 abbrev pub AcceptsCheck : State → FormulaTrees → List Literal → Type 0

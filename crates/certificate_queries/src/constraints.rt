@@ -47,11 +47,21 @@ pub fn constraints_of(
             check_theory(state.context)?;
             oriented(state, &ids)
         }
-        Err(StatementError::Overflow) => {
-            check_theory(state.context)?;
-            Err(StatementError::Overflow)
+        Err(error) => {
+            check_overflow(state.context, error)?;
+            Err(error)
         }
-        Err(error) => Err(error),
+    }
+}
+
+/// Where reading overflows, the theory has to be that of the ordered fields: that it is not is looked for first.
+fn check_overflow(context: Context, error: StatementError) -> Result<(), StatementError>
+    ensures fields { OnOk result (error ≡ StatementError.Overflow → context_of context ≡ Fields) }
+    ensures integers { IfErr result (λ e. (e ≡ StatementError.Context) × (error ≡ StatementError.Overflow) × (context_of context ≡ Integers)) }
+{
+    match error {
+        StatementError::Overflow => check_theory(context),
+        _ => Ok(()),
     }
 }
 
