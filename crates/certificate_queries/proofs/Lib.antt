@@ -1,1 +1,5 @@
 pub mod CauseSteps
+pub mod ConstraintTrees
+pub mod ConstraintNames
+pub mod ConstraintTruth
+pub mod AnswerSteps
