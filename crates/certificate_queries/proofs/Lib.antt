@@ -3,3 +3,4 @@ pub mod ConstraintTrees
 pub mod ConstraintNames
 pub mod ConstraintTruth
 pub mod AnswerSteps
+pub mod NameSteps

@@ -38,7 +38,7 @@ pub record NoConstraints (s : State) (written : FormulaTrees) (e : StatementErro
 abbrev pub AcceptsCheck : State → FormulaTrees → List Literal → Type 0
 AcceptsCheck s written ms = (limit : ℕ) (printed : Bool) → IsAccepted (meaning (Check written ms)) s limit (use_of None printed)
 
--- the word for a search that is not finished
+-- the word for a search or a check that is not finished
 abbrev pub cert_refusal : CertError → StatementError
 cert_refusal cert.Overflow = error.Overflow
 cert_refusal cert.Nodes = error.Nodes
