@@ -1,12 +1,12 @@
 -- From the constraints and their names to what is answered.
-use Rattle.std.proofs.Common.{◌≡◌, ◌↔◌, ◌⊎◌, inl, inr, ⊎_elim, ℕ, List, [], map, length, Bool, true, false, None, sym, ap, ◌∙◌, subst, refl, arith}
+use Rattle.std.proofs.Common.{◌≡◌, ◌↔◌, ◌⊎◌, inl, inr, ⊎_elim, ℕ, List, [], map, length, Bool, None, sym, ap, ◌∙◌, subst, refl, arith}
 use Rattle.std.specs.Prelude.{IsTrue, Result, Ok, Err, IfOk, IfErr}
 use Rattle.std.specs.List.{fold}
 use Rattle.std.proofs.Math.IntN.{ℤ}
 use Rattle.formula_meaning.specs.Context.{Fields}
 use Rattle.formula_meaning.specs.Distinct.{StandsOnce}
 use Rattle.formula_meaning.specs.Measured.{done}
-use Rattle.formula_meaning.specs.Some.{SomeOf, EachOf}
+use Rattle.formula_meaning.specs.Some.{SomeOf}
 use Rattle.qe_syntax.specs.declared.tree.Literal.{Literal}
 use Rattle.qe_syntax.specs.declared.tree.Literal.TheVariants.{Past}
 use Rattle.qe_syntax.specs.Trees.{FormulaTrees}
@@ -15,7 +15,7 @@ use Rattle.statement_syntax.specs.Constraints.{AreConstraints}
 use Rattle.statement_syntax.specs.Statements.{Certify, Check}
 use Rattle.formula_tree.specs.Names.{with_name}
 use Rattle.formula_tree.specs.Resolving.{all_variables, place}
-use Rattle.farkas_theory.specs.Constraints.{Constraint, MeetsAll}
+use Rattle.farkas_theory.specs.Constraints.{Constraint}
 use Rattle.farkas_theory.specs.Farkas.{IsFarkas, nothing, AreAllowed, SumPasses}
 use Rattle.farkas_theory.proofs.Refutes.{refutes}
 use Rattle.farkas_cert.specs.declared.error.CertError.{CertError}
@@ -24,9 +24,9 @@ use Rattle.fourier_motzkin.specs.Theorems.{AreOver, IsCertificate}
 use Rattle.farkas_cert.specs.declared.error.CertError.TheVariants as cert
 use Rattle.farkas_cert.specs.Stops.{StopsCheck}
 use Rattle.certificate_search.specs.Stops.{StopsSearch}
-use Rattle.sample_reference.specs.Values.{with_values, IsValue, origin}
+use Rattle.sample_reference.specs.Values.{with_values, origin}
 use Rattle.sample_reference.proofs.SamePoints.{values_of_theory}
-use Rattle.session_meaning.specs.Certificates.{constraints_of, constrained_names, AreInfeasible, Certifies, IsCertificateAnswer, certificate_text, multipliers_of, CheckPasses, IsCheckAnswer}
+use Rattle.session_meaning.specs.Certificates.{constraints_of, constrained_names, AreInfeasible, Certifies, IsCertificateAnswer, certificate_text, multipliers_of, IsCheckAnswer}
 use Rattle.session_meaning.specs.Reply.{IsLine}
 use Rattle.session_meaning.specs.State.{State}
 use Rattle.session_meaning.specs.Words.{truth_text}

@@ -1,5 +1,5 @@
 -- Why commands about constraints are refused, and when they are not.
-use Rattle.std.proofs.Common.{◌≡◌, ◌≢◌, inl, inr, ⊎_elim, ℕ, ◌<◌, ◌≤◌, List, [], length, Bool, true, false, None, sym, ap, ◌∙◌, subst, refl, rules, arith}
+use Rattle.std.proofs.Common.{◌≡◌, ◌≢◌, inl, inr, ⊎_elim, ℕ, ◌<◌, ◌≤◌, List, length, Bool, true, None, sym, ap, ◌∙◌, subst, refl, rules, arith}
 use Rattle.std.proofs.lemmas.Bool.{false≢true}
 use Rattle.formula_meaning.specs.Context.{Context, Fields, Integers}
 use Rattle.formula_meaning.specs.Formula.{Yes, No, One, Not, And, Or, Impl, Repl, Equiv, Ex, All, none, also}
@@ -8,7 +8,7 @@ use Rattle.qe_syntax.specs.declared.tree.Literal.{Literal}
 use Rattle.qe_syntax.specs.declared.tree.Relation.{Relation}
 use Rattle.qe_syntax.specs.Trees.{TermTree, Compare, Cong, Ncong, Bound, FormulaTree, FormulaTrees}
 use Rattle.statement_syntax.specs.Constraints.{bounds, is_constraint, AreConstraints}
-use Rattle.statement_syntax.specs.Statements.{Certify, Check}
+use Rattle.statement_syntax.specs.Statements.{Certify}
 use Rattle.formula_tree.specs.Causes.{CongruenceInFields, IsBadModulus, IsTooDeep}
 use Rattle.formula_tree.specs.Resolving.{BoundTrees, place, names_after}
 use Rattle.formula_resolving.specs.declared.error.StaticError.{StaticError}

@@ -1,14 +1,12 @@
 -- The names of constraints: each stands once in their list, which has all names of what they are read as.
 use Rattle.std.proofs.Common.{◌≡◌, inl, inr, ⊎_elim, ℕ, ◌<◌, List, [], ◌∷◌, ◌++◌, map, length, Bool, true, false, Some, if◌then◌else◌, sym, ap, ◌∙◌, subst, refl}
-use Rattle.std.proofs.Math.IntN.{pos}
 use Rattle.std.proofs.lemmas.Bool.{false≢true}
 use Rattle.std.specs.Prelude.{slice_get}
 use Rattle.std.specs.List.{AllByRecursion, IsDistinct, fold, list_any}
 use Rattle.formula_meaning.specs.Context.{Fields}
 use Rattle.formula_meaning.specs.Distinct.{StandsOnce}
-use Rattle.formula_meaning.specs.Form.{coefficient}
 use Rattle.formula_meaning.specs.Formula.{One, none, also}
-use Rattle.formula_meaning.specs.Some.{SomeOf, Among, EachOf}
+use Rattle.formula_meaning.specs.Some.{SomeOf, Among}
 use Rattle.formula_meaning.specs.Tree.{IsFree}
 use Rattle.qe_syntax.specs.Trees.{Compare, FormulaTree, FormulaTrees}
 use Rattle.qe_syntax.specs.Value.{same_name}
@@ -16,11 +14,10 @@ use Rattle.qe_syntax.specs.Valued.{IsIn}
 use Rattle.qe_syntax.proofs.EntryLists.{each_push, some_split}
 use Rattle.statement_syntax.specs.Constraints.{AreConstraints}
 use Rattle.formula_tree.specs.Names.{with_name}
-use Rattle.formula_tree.specs.Resolving.{place, names_after, resolve, formula_variables, all_variables, MentionsNumber, IsFreeInPlace}
+use Rattle.formula_tree.specs.Resolving.{place, resolve, formula_variables, all_variables, IsFreeInPlace}
 use Rattle.formula_tree.proofs.Nowhere.{mentioned_have}
 use Rattle.formula_tree.proofs.PlaceLaws.{same_itself, slice_place, in_either, after_has, after_distinct}
 use Rattle.formula_tree.proofs.ResolvedNames.{resolving_brings_no_name}
-use Rattle.farkas_theory.specs.Constraints.{Constraint}
 use Rattle.fourier_motzkin.specs.Theorems.{AreOver}
 use Rattle.sample_reference.specs.Values.{Value, value_names}
 use Rattle.answer_texts.specs.Within.{AreValuesWithin}
@@ -122,11 +119,12 @@ module _ (s : State) (written : FormulaTrees) (numbers : AreNumbered s.names wri
     each_over : (fs : FormulaTrees) → ((x : List ℕ) → IsIn x (all_variables fs) → IsIn x own) → AreNumbered s.names fs → AreConstraints fs → AreReadable s fs → AreOver (constrained_names s written) (constraints_of s fs)
     each_over none within number constraints readable = tt
     each_over (also g gs) within number constraints readable =
-        let h = comparison g constraints.0 in
-        (λ y k.
-            let r = free_named s g h number.0 readable.0 y (constraint_named (resolve s.context s.bound s.names g) (resolved_bound s g fields h) y k) in
-            place_among s.names own r.0 y (within r.0 (in_either r.0 (formula_variables g) (all_variables gs) (inl r.1))) r.2,
-        each_over gs (λ x i. within x (in_either x (formula_variables g) (all_variables gs) (inr i))) number.1 constraints.1 readable.1)
+        let h = comparison g constraints.0 in (
+          λ y k.
+              let r = free_named s g h number.0 readable.0 y (constraint_named (resolve s.context s.bound s.names g) (resolved_bound s g fields h) y k) in
+              place_among s.names own r.0 y (within r.0 (in_either r.0 (formula_variables g) (all_variables gs) (inl r.1))) r.2,
+          each_over gs (λ x i. within x (in_either x (formula_variables g) (all_variables gs) (inr i))) number.1 constraints.1 readable.1,
+        )
 
     pub over_constrained : AreConstraints written → AreReadable s written → AreOver (constrained_names s written) (constraints_of s written)
     over_constrained constraints readable = each_over written (λ x i. after_has (all_variables written) [] x (inr i)) numbers constraints readable

@@ -1,5 +1,5 @@
 -- Constraints are met where they are true as they are written.
-use Rattle.std.proofs.Common.{◌≡◌, ◌↔◌, ℕ, ◌<◌, sym, subst, refl}
+use Rattle.std.proofs.Common.{◌≡◌, ◌↔◌, ℕ, sym, subst, refl}
 use Rattle.formula_meaning.specs.Context.{Fields}
 use Rattle.formula_meaning.specs.Formula.{none, also}
 use Rattle.formula_meaning.specs.Point.{Point, Of, AgreeOn}
@@ -19,7 +19,6 @@ use Rattle.session_state.specs.Keeping.{IsSound}
 use Rattle.session_state.proofs.NameLemmas.{variables_in_names}
 use Rattle.problem_reading.specs.Reading.{HasNumbers, IsReadable, AreNumbered, AreReadable}
 use Rattle.problem_reading.proofs.ReadTruth.{truth_as_written}
-use Rattle.certificate_queries.specs.Steps.{AreReady}
 use Rattle.certificate_queries.proofs.CauseSteps.{IsComparison, comparison}
 use Rattle.certificate_queries.proofs.ConstraintTrees.{resolved_bound, meets_constraint}
 use Rattle.certificate_queries.proofs.ConstraintNames.{free_named}

@@ -1,8 +1,7 @@
 -- The names of a command about constraints: the session where its variables have their numbers, and what is said there.
 use Rattle.std.proofs.Common.{◌≡◌, inr, ℕ, List, [], ◌++◌, Bool, None, sym, ap, ◌∙◌, subst, refl, append-nil}
-use Rattle.std.specs.Prelude.{Result, Ok, Err, IfOk, IfErr, OnOk, OnErr}
+use Rattle.std.specs.Prelude.{Result, Ok, Err, IfOk, IfErr, OnOk}
 use Rattle.std.specs.List.{IsDistinct, fold}
-use Rattle.formula_meaning.specs.Formula.{none}
 use Rattle.qe_syntax.specs.Trees.{FormulaTrees}
 use Rattle.qe_syntax.specs.Value.{same_name}
 use Rattle.qe_syntax.specs.Writable.{AreWritableFormulas}
@@ -14,11 +13,10 @@ use Rattle.formula_resolving.specs.Numbering.{Grows}
 use Rattle.session_meaning.specs.declared.line.Line.{Line}
 use Rattle.session_meaning.specs.declared.line.StatementError.{StatementError}
 use Rattle.session_meaning.specs.State.{State, with_names}
-use Rattle.session_meaning.specs.Meaning.{meaning, numbered}
 use Rattle.session_state.specs.declared.state.SessionState.{SessionState}
 use Rattle.session_state.specs.Keeping.{state_of, IsSessionState}
-use Rattle.session_state.specs.Growth.{KeepsState, GrowsState}
-use Rattle.session_state.proofs.StateLemmas.{state_parts, same_state, same_session, sound_with, length_grows, keeps_itself, grows_then}
+use Rattle.session_state.specs.Growth.{KeepsState}
+use Rattle.session_state.proofs.StateLemmas.{state_parts, same_state, same_session, sound_with, length_grows}
 use Rattle.session_state.proofs.VariableLemmas.{AllVariables, variables_of_all, all_put_in}
 use Rattle.command_tools.specs.Replies.{use_of, Refuses, IsQueryAnswer}
 use Rattle.problem_reading.specs.Reading.{AreNumbered}

@@ -1,5 +1,5 @@
 -- From constraints as they are written to what is answered. The state is one in which the variables of the command have their numbers.
-use Rattle.std.specs.Prelude.{◌≡◌, ◌≢◌, ℕ, List, Bool, None}
+use Rattle.std.specs.Prelude.{◌≡◌, ℕ, List, Bool, None}
 use Rattle.formula_meaning.specs.Context.{Fields}
 use Rattle.qe_syntax.specs.declared.tree.Literal.{Literal}
 use Rattle.qe_syntax.specs.Trees.{FormulaTrees}

@@ -2,7 +2,6 @@
 
 ghost use Rattle.std.specs.Prelude.{◌≡◌, ◌<◌, ◌≤◌, ◌+◌, ◌++◌, [], All, IfOk, IfErr, OnOk, IsErrOf, codes, length, map};
 ghost use Rattle.exact_numbers.specs.Frac.{whole_frac};
-ghost use Rattle.exact_numbers.specs.Limit.{InLimit};
 ghost use Rattle.sample_reference.specs.Seen.{values_of as seen_values};
 ghost use Rattle.certificate_search.specs.Certificates.{certificate_of as meant_certificate, value_of, IsWithin, HasNumbersWithin};
 ghost use Rattle.redlog_printer.specs.Writing.{text_limit};

@@ -1,4 +1,4 @@
-use Rattle.std.proofs.Common.{◌≡◌, List, [], map, sym, subst, rules, ℕ}
+use Rattle.std.proofs.Common.{◌≡◌, [], map, sym, subst, rules}
 use Rattle.std.specs.List.{fold}
 use Rattle.qe_syntax.specs.Trees.{formula_tree, formulas_of}
 use Rattle.formula_tree.specs.Names.{with_name}

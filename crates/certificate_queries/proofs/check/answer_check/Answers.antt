@@ -1,4 +1,4 @@
-use Rattle.std.proofs.Common.{◌≡◌, List, ℕ, None, map, sym, subst, rules, Err}
+use Rattle.std.proofs.Common.{◌≡◌, None, map, sym, subst, rules, Err}
 use Rattle.std.specs.Prelude.{IfOk, IfErr, Result}
 use Rattle.atom_normal.proofs.Stepped.{ok_map}
 use Rattle.qe_syntax.specs.Trees.{formula_tree, formulas_of}
@@ -8,7 +8,7 @@ use Rattle.session_meaning.specs.declared.line.StatementError.{StatementError}
 use Rattle.session_meaning.specs.Reply.{IsLine}
 use Rattle.session_meaning.specs.Words.{truth_text}
 use Rattle.session_state.specs.Keeping.{state_of}
-use Rattle.command_tools.specs.Replies.{use_of, Refuses, IsQueryAnswer}
+use Rattle.command_tools.specs.Replies.{use_of, Refuses}
 use Rattle.certificate_queries.proofs.AnswerSteps.{truth_told}
 use Rattle.certificate_queries.proofs.NameSteps.{named_session, named_state, session_named, numbers_there, refused_there, told_there, session_later, state_later}
 use Rattle.certificate_queries.proofs.check.answer_check.Goals as goal

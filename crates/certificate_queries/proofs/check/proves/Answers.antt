@@ -1,4 +1,4 @@
-use Rattle.std.proofs.Common.{◌≡◌, List, map, sym, ap, ◌∙◌, subst, rules, Err}
+use Rattle.std.proofs.Common.{◌≡◌, map, sym, ap, ◌∙◌, subst, rules, Err}
 use Rattle.std.specs.Prelude.{IfErr}
 use Rattle.qe_syntax.specs.Trees.{formula_tree, formulas_of}
 use Rattle.farkas_cert.specs.Constraints.{constraint_of}

@@ -1,7 +1,7 @@
 use Rattle.std.proofs.Common.{◌≡◌, List, [], ◌∷◌, ap, sym, ◌∙◌, subst, refl, rules, map, Err}
 use Rattle.std.specs.Prelude.{IfErr}
 use Rattle.atom_normal.specs.Atoms.{context_of}
-use Rattle.formula_meaning.specs.Context.{Fields, Integers}
+use Rattle.formula_meaning.specs.Context.{Integers}
 use Rattle.atom_normal.proofs.Stepped.{ok_map}
 use Rattle.formula_tree.specs.declared.shape.Shape.{Shape}
 use Rattle.formula_store.specs.declared.id.FormulaId.{FormulaId}

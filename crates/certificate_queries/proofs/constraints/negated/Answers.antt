@@ -1,4 +1,4 @@
-use Rattle.std.proofs.Common.{◌≡◌, ◌∷◌, ◌∙◌}
+use Rattle.std.proofs.Common.{◌∷◌, ◌∙◌}
 use Rattle.linear_forms.specs.Terms.{coefficients}
 use Rattle.linear_forms.proofs.Quotients.{quotient_minus_one}
 use Rattle.certificate_search.proofs.FirstRows.{minus_divides}
