@@ -1,5 +1,5 @@
 -- From constraints as they are written to what is answered. The state is one in which the variables of the command have their numbers.
-use Rattle.std.specs.Prelude.{◌≡◌, ◌≢◌, ℕ, List, Bool, None}
+use Rattle.std.specs.Prelude.{◌≡◌, ℕ, List, Bool, None}
 use Rattle.formula_meaning.specs.Context.{Fields}
 use Rattle.qe_syntax.specs.declared.tree.Literal.{Literal}
 use Rattle.qe_syntax.specs.Trees.{FormulaTrees}
@@ -11,8 +11,8 @@ use Rattle.fourier_motzkin.specs.Search.{Certificate, At, Farkas}
 use Rattle.session_meaning.specs.declared.line.StatementError.{StatementError}
 use Rattle.session_meaning.specs.declared.line.StatementError.TheVariants as error
 use Rattle.session_meaning.specs.State.{State}
-use Rattle.session_meaning.specs.Meaning.{OwnCauses, of_constraints, meaning}
-use Rattle.session_meaning.specs.Causes.{IsAccepted, IsFirst}
+use Rattle.session_meaning.specs.Meaning.{meaning}
+use Rattle.session_meaning.specs.Causes.{IsAccepted}
 use Rattle.command_tools.specs.Replies.{use_of, Refuses}
 use Rattle.problem_reading.specs.Reading.{AreReadable}
 
@@ -20,10 +20,6 @@ use Rattle.problem_reading.specs.Reading.{AreReadable}
 pub record AreReady (s : State) (written : FormulaTrees) : Type 0 where
   pub readable : AreReadable s written
   pub fields : s.context ≡ Fields
-
--- each command about the constraints is refused with the word, whatever else refuses it, whatever the limit is and whether its line is printed
-abbrev pub NoConstraints : State → FormulaTrees → StatementError → Type 1
-NoConstraints s written e = (must : OwnCauses) (tells : State → ℕ → List ℕ → Type 0) (limit : ℕ) (printed : Bool) → e ≢ error.Memory → IsFirst (of_constraints written must tells) s limit (use_of None printed) e
 
 -- the search is refused with the word under a limit of rows, whether its line is printed or not
 abbrev pub RefusesCertificate : State → ℕ → FormulaTrees → StatementError → Type 0
@@ -33,11 +29,16 @@ RefusesCertificate s limit written e = (printed : Bool) → Refuses s limit (use
 abbrev pub RefusesCheck : State → FormulaTrees → List Literal → StatementError → Type 0
 RefusesCheck s written ms e = (limit : ℕ) (printed : Bool) → Refuses s limit (use_of None printed) (Check written ms) e
 
+-- both commands about the constraints are refused with the word, whatever the limit and the multipliers are and whether a line is printed
+pub record NoConstraints (s : State) (written : FormulaTrees) (e : StatementError) : Type 0 where
+  pub search : (limit : ℕ) → RefusesCertificate s limit written e
+  pub check : (ms : List Literal) → RefusesCheck s written ms e
+
 -- no cause applies to the check
 abbrev pub AcceptsCheck : State → FormulaTrees → List Literal → Type 0
 AcceptsCheck s written ms = (limit : ℕ) (printed : Bool) → IsAccepted (meaning (Check written ms)) s limit (use_of None printed)
 
--- the word for a search that is not finished
+-- the word for a search or a check that is not finished
 abbrev pub cert_refusal : CertError → StatementError
 cert_refusal cert.Overflow = error.Overflow
 cert_refusal cert.Nodes = error.Nodes

@@ -16,12 +16,11 @@ ghost use Rattle.session_state.specs.Keeping.{state_of, IsSessionState};
 ghost use Rattle.session_state.specs.Growth.{KeepsState, GrowsState};
 ghost use Rattle.command_tools.specs.Replies.{use_of, Refuses, IsQueryAnswer};
 ghost use Rattle.problem_reading.specs.Reading.{AreNumbered};
-ghost use Rattle.certificate_queries.specs.Steps.{RefusesCertificate, AreReady, cert_refusal};
+ghost use Rattle.certificate_queries.specs.Steps.{RefusesCertificate, AreReady};
 
-use crate::constraints::constraints_of;
+use crate::constraints::{constraints_of, refusal_of};
 use crate::lines::certificate_line;
 use certificate_search::{Certificate, certify};
-use farkas_cert::CertError;
 use formula_tree::Names;
 use linear_forms::VarId;
 use problem_reading::number_all;
@@ -89,17 +88,6 @@ fn certificate_of(
     match certify(state.alloc, &constraints, &names, limit) {
         Ok(found) => Ok(found),
         Err(error) => Err(refusal_of(error)),
-    }
-}
-
-/// The word for a search that is not finished.
-fn refusal_of(error: CertError) -> StatementError
-    ensures { result ≡ cert_refusal error }
-{
-    match error {
-        CertError::Overflow => StatementError::Overflow,
-        CertError::Nodes => StatementError::Nodes,
-        CertError::Memory => StatementError::Memory,
     }
 }
 

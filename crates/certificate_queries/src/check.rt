@@ -16,9 +16,9 @@ ghost use Rattle.command_tools.specs.Replies.{use_of, Refuses, IsQueryAnswer};
 ghost use Rattle.problem_reading.specs.Reading.{AreNumbered};
 ghost use Rattle.certificate_queries.specs.Steps.{RefusesCheck, AcceptsCheck};
 
-use crate::constraints::constraints_of;
+use crate::constraints::{constraints_of, refusal_of};
 use command_tools::{printed_line, text_of_truth};
-use farkas_cert::{CertError, check};
+use farkas_cert::check;
 use problem_reading::number_all;
 use qe_syntax::{Formula, Literal};
 use session_meaning::{Line, StatementError};
@@ -68,8 +68,7 @@ fn proves(
     let numbers = numbers_of(state.alloc, multipliers)?;
     match check(state.alloc, &constraints, &numbers) {
         Ok(proves) => Ok(proves),
-        Err(CertError::Memory) => Err(StatementError::Memory),
-        Err(_) => Err(StatementError::Overflow),
+        Err(error) => Err(refusal_of(error)),
     }
 }
 

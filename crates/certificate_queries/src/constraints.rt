@@ -15,10 +15,10 @@ ghost use Rattle.session_meaning.specs.Certificates.{tree_constraint, atom_const
 ghost use Rattle.session_state.specs.Keeping.{state_of, IsSessionState};
 ghost use Rattle.session_state.specs.Growth.{KeepsState};
 ghost use Rattle.problem_reading.specs.Reading.{AreNumbered};
-ghost use Rattle.certificate_queries.specs.Steps.{AreReady, NoConstraints};
+ghost use Rattle.certificate_queries.specs.Steps.{AreReady, NoConstraints, cert_refusal};
 
 use atom_normal::{Atom, Context, Rel};
-use farkas_cert::{Bound, Constraint};
+use farkas_cert::{Bound, CertError, Constraint};
 use formula_store::FormulaId;
 use formula_tree::Shape;
 use linear_forms::Linear;
@@ -47,11 +47,32 @@ pub fn constraints_of(
             check_theory(state.context)?;
             oriented(state, &ids)
         }
-        Err(StatementError::Overflow) => {
-            check_theory(state.context)?;
-            Err(StatementError::Overflow)
+        Err(error) => {
+            check_overflow(state.context, error)?;
+            Err(error)
         }
-        Err(error) => Err(error),
+    }
+}
+
+/// Where reading overflows, the theory has to be that of the ordered fields: that it is not is looked for first.
+fn check_overflow(context: Context, error: StatementError) -> Result<(), StatementError>
+    ensures fields { OnOk result (error ≡ StatementError.Overflow → context_of context ≡ Fields) }
+    ensures integers { IfErr result (λ e. (e ≡ StatementError.Context) × (error ≡ StatementError.Overflow) × (context_of context ≡ Integers)) }
+{
+    match error {
+        StatementError::Overflow => check_theory(context),
+        _ => Ok(()),
+    }
+}
+
+/// The word for a search or a check that is not finished.
+pub fn refusal_of(error: CertError) -> StatementError
+    ensures { result ≡ cert_refusal error }
+{
+    match error {
+        CertError::Overflow => StatementError::Overflow,
+        CertError::Nodes => StatementError::Nodes,
+        CertError::Memory => StatementError::Memory,
     }
 }
 

@@ -2,7 +2,6 @@
 
 ghost use Rattle.std.specs.Prelude.{◌≡◌, ◌<◌, ◌≤◌, ◌+◌, ◌++◌, [], All, IfOk, IfErr, OnOk, IsErrOf, codes, length, map};
 ghost use Rattle.exact_numbers.specs.Frac.{whole_frac};
-ghost use Rattle.exact_numbers.specs.Limit.{InLimit};
 ghost use Rattle.sample_reference.specs.Seen.{values_of as seen_values};
 ghost use Rattle.certificate_search.specs.Certificates.{certificate_of as meant_certificate, value_of, IsWithin, HasNumbersWithin};
 ghost use Rattle.redlog_printer.specs.Writing.{text_limit};
@@ -117,6 +116,16 @@ fn put_multipliers(out: &mut Output, multipliers: &[i128]) -> Result<(), PrintEr
     out.put(b"}}")
 }
 
+/// A whole number, with something before it.
+fn put_whole(out: &mut Output, before: &[u8], number: i128) -> Result<(), PrintError>
+    ensures wrote { OnOk result (out.new ≡ out.old ++ (before.now ++ fraction_text (whole_frac number))) }
+    ensures long { IsErrOf result PrintError.Text → text_limit < length out.old + length (before.now ++ fraction_text (whole_frac number)) }
+{
+    out.put(before)?;
+    out.put(if number < 0 { b"-" } else { b"" })?;
+    out.put_number(number.unsigned_abs())
+}
+
 /// Whole numbers with commas between them.
 fn put_numbers(out: &mut Output, numbers: &[i128]) -> Result<(), PrintError>
     ensures wrote { OnOk result (out.new ≡ out.old ++ separated [] (map (λ m. fraction_text (whole_frac m)) numbers.now)) }
@@ -124,9 +133,7 @@ fn put_numbers(out: &mut Output, numbers: &[i128]) -> Result<(), PrintError>
 {
     let mut before: &[u8] = b"";
     for number in numbers {
-        out.put(before)?;
-        out.put(if *number < 0 { b"-" } else { b"" })?;
-        out.put_number(number.unsigned_abs())?;
+        put_whole(out, before, *number)?;
         before = b",";
     }
     Ok(())
