@@ -16,9 +16,9 @@ use Rattle.statement_syntax.specs.declared.statement.Setting.TheVariants.{Ofsf, 
 use Rattle.qe_syntax.specs.declared.entries.PointEntry.{PointEntry}
 use Rattle.statement_syntax.specs.declared.grid.Ratio.{Ratio}
 use Rattle.statement_syntax.specs.declared.grid.GridAxis.{GridAxis}
-use Rattle.statement_syntax.specs.Constraints.{is_constraint}
+use Rattle.statement_syntax.specs.Constraints.{is_constraint, is_weak_constraint}
 use Rattle.qe_syntax.specs.Trees.{TermTree, Number, Named, Sum, Product, Quotient, Power, Negative, terms_of, Compare, Cong, Ncong, Bound, FormulaTree, formulas_of}
-use Rattle.statement_syntax.specs.Statements.{CommandTree, Echo, Nnf, Pnf, Dnf, Cnf, Simpl, Qe, Qea, Holds, Sample, Grid, Certify, Check, ActionTree, Empty, Ignored, Finish, Choose, Say, Assign, Assume, Retract, StatementTree}
+use Rattle.statement_syntax.specs.Statements.{CommandTree, Echo, Nnf, Pnf, Dnf, Cnf, Simpl, Qe, Qea, Holds, Sample, Grid, Certify, Check, Least, ActionTree, Empty, Ignored, Finish, Choose, Say, Assign, Assume, Retract, StatementTree}
 use Rattle.redlog_tokens.specs.declared.terminal.Terminal.{Terminal}
 use Rattle.redlog_tokens.specs.declared.terminal.Terminal.TheVariants as terminal
 use Rattle.redlog_tokens.specs.declared.terminal.Mark.{Mark}
@@ -278,12 +278,21 @@ pub data SpellsBound : List Terminal → FormulaTree → List Terminal → Type 
 abbrev pub SpellsBounds : List Terminal → List FormulaTree → List Terminal → Type 0
 SpellsBounds = Braced SpellsBound
 
+-- weak = sum ("=" | "<=" | ">=") sum
+pub data SpellsWeak : List Terminal → FormulaTree → List Terminal → Type 0 where
+  weak : {ts rest : List Terminal} {f : FormulaTree} → SpellsComparison ts f rest → is_weak_constraint f ≡ true → SpellsWeak ts f rest
+
+-- "{" [ weak { "," weak }* ] "}"
+abbrev pub SpellsWeaks : List Terminal → List FormulaTree → List Terminal → Type 0
+SpellsWeaks = Braced SpellsWeak
+
 -- "{" [ whole { "," whole }* ] "}", whole = [ "-" ] number
 abbrev pub SpellsWholes : List Terminal → List Literal → List Terminal → Type 0
 SpellsWholes = Braced Above
 
 -- query = "rlqea" argument | ("rlholds"|"rlwitness") "(" formula "," point ")" | "rlgrid" "(" formula "," axis { "," axis }* ")"
 --     | "rlcert" "(" bounds ")" | "rlcheck" "(" bounds "," "{" [ whole { "," whole }* ] "}" ")"
+--     | "rlopt" "(" "{" [ weak { "," weak }* ] "}" "," sum ")"
 pub data SpellsQuery : List Terminal → CommandTree → List Terminal → Type 0 where
   qea : {ts rest : List Terminal} {f : FormulaTree} {given : List FormulaTree} → SpellsArgument ts f given rest → SpellsQuery (terminal.Word word.Qea ∷ ts) (Qea f (formulas_of given)) rest
   holds : {ts us rest : List Terminal} {f : FormulaTree} {es : List PointEntry}
@@ -296,6 +305,8 @@ pub data SpellsQuery : List Terminal → CommandTree → List Terminal → Type 
       → SpellsBounds ts constraints (terminal.Mark mark.Close ∷ rest) → SpellsQuery (terminal.Word word.Cert ∷ terminal.Mark mark.Open ∷ ts) (Certify (formulas_of constraints)) rest
   check : {ts us rest : List Terminal} {constraints : List FormulaTree} {multipliers : List Literal}
       → SpellsBounds ts constraints (terminal.Mark mark.Comma ∷ us) → SpellsWholes us multipliers (terminal.Mark mark.Close ∷ rest) → SpellsQuery (terminal.Word word.Check ∷ terminal.Mark mark.Open ∷ ts) (Check (formulas_of constraints) multipliers) rest
+  least : {ts us rest : List Terminal} {constraints : List FormulaTree} {target : TermTree}
+      → SpellsWeaks ts constraints (terminal.Mark mark.Comma ∷ us) → SpellsSum us target (terminal.Mark mark.Close ∷ rest) → SpellsQuery (terminal.Word word.Opt ∷ terminal.Mark mark.Open ∷ ts) (Least (formulas_of constraints) target) rest
 
 -- action = name ":=" result | result | query | "rlset" context
 --     | "load_package" any { "," any }* | ("on" | "off") any { "," any }*

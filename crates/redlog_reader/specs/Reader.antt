@@ -9,9 +9,9 @@ use Rattle.qe_syntax.specs.declared.tree.Relation.TheVariants.{Equal, Differs}
 use Rattle.qe_syntax.specs.declared.entries.PointEntry.{PointEntry}
 use Rattle.statement_syntax.specs.declared.grid.Ratio.{Ratio}
 use Rattle.statement_syntax.specs.declared.grid.GridAxis.{GridAxis}
-use Rattle.statement_syntax.specs.Constraints.{is_constraint}
+use Rattle.statement_syntax.specs.Constraints.{is_constraint, is_weak_constraint}
 use Rattle.qe_syntax.specs.Trees.{TermTree, Compare, FormulaTree, formulas_of}
-use Rattle.statement_syntax.specs.Statements.{CommandTree, Echo, Nnf, Pnf, Dnf, Cnf, Simpl, Qe, Qea, Holds, Sample, Grid, Certify, Check, ActionTree, Empty, Ignored, Finish, Choose, Say, Assign, Assume, Retract, StatementTree}
+use Rattle.statement_syntax.specs.Statements.{CommandTree, Echo, Nnf, Pnf, Dnf, Cnf, Simpl, Qe, Qea, Holds, Sample, Grid, Certify, Check, Least, ActionTree, Empty, Ignored, Finish, Choose, Say, Assign, Assume, Retract, StatementTree}
 use Rattle.redlog_tokens.specs.declared.terminal.Terminal.{Terminal}
 use Rattle.redlog_tokens.specs.declared.terminal.Terminal.TheVariants as terminal
 use Rattle.redlog_tokens.specs.declared.terminal.Mark.{Mark}
@@ -81,10 +81,15 @@ atom_read ts = if begins_congruence ts then formula_read 0 ts else comparison_re
 abbrev pub bound_read : List Terminal → Option (FormulaTree × List Terminal)
 bound_read ts = on_some (comparison_read ts) (λ p. if is_constraint p.0 then Some p else None) None
 
+-- one by =, <= or >=
+abbrev pub weak_read : List Terminal → Option (FormulaTree × List Terminal)
+weak_read ts = on_some (comparison_read ts) (λ p. if is_weak_constraint p.0 then Some p else None) None
+
 -- an atom of this kind
 abbrev pub kind_read : AtomKind → List Terminal → Option (FormulaTree × List Terminal)
 kind_read kind.Any = atom_read
 kind_read kind.Constraint = bound_read
+kind_read kind.Weak = weak_read
 
 -- one item or more, with commas between them; so many at most
 abbrev pub listed_read : {X : Type 0} → (List Terminal → Option (X × List Terminal)) → ℕ → List Terminal → Option (List X × List Terminal)
@@ -174,6 +179,12 @@ checked_read ts =
     on_some (after_mark mark.Open ts) (λ us. on_some (braced_read bound_read us) (λ p. on_some (after_mark mark.Comma p.1) (λ vs.
     on_some (braced_read above_read vs) (λ q. on_some (after_mark mark.Close q.1) (λ ws. Some ((p.0, q.0), ws)) None) None) None) None) None
 
+-- constraints and a sum in brackets
+abbrev pub least_read : List Terminal → Option ((List FormulaTree × TermTree) × List Terminal)
+least_read ts =
+    on_some (after_mark mark.Open ts) (λ us. on_some (braced_read weak_read us) (λ p. on_some (after_mark mark.Comma p.1) (λ vs.
+    on_some (sum_read vs) (λ q. on_some (after_mark mark.Close q.1) (λ ws. Some ((p.0, q.0), ws)) None) None) None) None) None
+
 -- a result that begins with this word
 abbrev pub result_from : Word → List Terminal → Option (CommandTree × List Terminal)
 result_from word.Nnf ts = on_some (formula_read 0 ts) (λ p. Some (Nnf p.0, p.1)) None
@@ -229,6 +240,7 @@ action_from word.Witness ts = on_some (pointed_read ts) (λ p. Some (Say (Sample
 action_from word.Grid ts = on_some (grid_read ts) (λ p. Some (Say (Grid p.0.0 p.0.1), p.1)) None
 action_from word.Cert ts = on_some (certified_read ts) (λ p. Some (Say (Certify (formulas_of p.0)), p.1)) None
 action_from word.Check ts = on_some (checked_read ts) (λ p. Some (Say (Check (formulas_of p.0.0) p.0.1), p.1)) None
+action_from word.Opt ts = on_some (least_read ts) (λ p. Some (Say (Least (formulas_of p.0.0) p.0.1), p.1)) None
 action_from w ts = said (result_from w ts)
 
 -- an action that begins with this name

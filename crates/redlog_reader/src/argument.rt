@@ -1,8 +1,8 @@
 ghost use Rattle.std.specs.Prelude.{◌≡◌, map, IfOk, IfErr, Some, None};
 ghost use Rattle.qe_syntax.specs.Trees.{term_tree, formula_tree};
-ghost use Rattle.statement_syntax.specs.Constraints.{is_constraint};
+ghost use Rattle.statement_syntax.specs.Constraints.{is_constraint, is_weak_constraint};
 ghost use Rattle.redlog_tokens.specs.Terminals.{terminals};
-ghost use Rattle.redlog_reader.specs.Reader.{formula_read, sum_read, comparison_read, begins_congruence, atom_read, bound_read, kind_read, items_read, braced_read, argument_read};
+ghost use Rattle.redlog_reader.specs.Reader.{formula_read, sum_read, comparison_read, begins_congruence, atom_read, bound_read, weak_read, kind_read, items_read, braced_read, argument_read};
 ghost use Rattle.redlog_reader.specs.Reading.{Refuses};
 
 use crate::ending::put;
@@ -20,6 +20,8 @@ pub enum AtomKind {
     Any,
     /// A comparison, but for `<>`.
     Constraint,
+    /// A comparison by `=`, `<=` or `>=`.
+    Weak,
 }
 
 /// How loosely what is read may bind: a prime formula.
@@ -50,7 +52,7 @@ pub fn formula(
 
 /// A sum, and the tokens after it.
 #[tactic(auto, using(crate::proofs::Options::options))]
-fn sum(alloc: Global, tokens: &[Token]) -> Result<(Term, &[Token]), ReadError>
+pub fn sum(alloc: Global, tokens: &[Token]) -> Result<(Term, &[Token]), ReadError>
     ensures read { IfOk result (λ r. sum_read (terminals tokens.now) ≡ Some (term_tree r.0, terminals r.1.now)) }
     ensures refused { IfErr result (λ e. Refuses e (sum_read (terminals tokens.now) ≡ None)) }
 {
@@ -123,6 +125,33 @@ fn is_constraint(formula: &Formula) -> bool
     }
 }
 
+/// A comparison by `=`, `<=` or `>=`.
+#[tactic(auto, using(crate::proofs::Options::options))]
+fn weak(alloc: Global, tokens: &[Token]) -> Result<(Formula, &[Token]), ReadError>
+    ensures read { IfOk result (λ r. weak_read (terminals tokens.now) ≡ Some (formula_tree r.0, terminals r.1.now)) }
+    ensures refused { IfErr result (λ e. Refuses e (weak_read (terminals tokens.now) ≡ None)) }
+{
+    let (comparison, rest) = comparison(alloc, tokens)?;
+    if !is_weak(&comparison) {
+        return Err(ReadError::Syntax);
+    }
+    Ok((comparison, rest))
+}
+
+/// Whether a formula is a comparison by `=`, `<=` or `>=`.
+#[tactic(auto, using(qe_syntax::proofs::TreeEquations::trees))]
+fn is_weak(formula: &Formula) -> bool
+    ensures { result ≡ is_weak_constraint (formula_tree formula.now) }
+{
+    match formula {
+        Formula::Compare(relation, _, _) => matches!(
+            relation,
+            Relation::Equal | Relation::AtMost | Relation::AtLeast
+        ),
+        _ => false,
+    }
+}
+
 /// An atom of this kind.
 fn atom_of(
     alloc: Global,
@@ -135,6 +164,7 @@ fn atom_of(
     match kind {
         AtomKind::Any => atom(alloc, tokens),
         AtomKind::Constraint => constraint(alloc, tokens),
+        AtomKind::Weak => weak(alloc, tokens),
     }
 }
 

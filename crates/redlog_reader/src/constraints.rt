@@ -1,13 +1,13 @@
 ghost use Rattle.std.specs.Prelude.{◌≡◌, map, IfOk, IfErr, Some, None};
-ghost use Rattle.qe_syntax.specs.Trees.{formula_tree};
+ghost use Rattle.qe_syntax.specs.Trees.{term_tree, formula_tree};
 ghost use Rattle.redlog_tokens.specs.Terminals.{terminals};
-ghost use Rattle.redlog_reader.specs.Reader.{above_read, items_read, braced_read, certified_read, checked_read};
+ghost use Rattle.redlog_reader.specs.Reader.{above_read, items_read, braced_read, certified_read, checked_read, least_read};
 ghost use Rattle.redlog_reader.specs.Reading.{Refuses};
 
-use crate::argument::{AtomKind, atoms};
+use crate::argument::{AtomKind, atoms, sum};
 use crate::peek::after;
 use crate::point::above;
-use qe_syntax::{Formula, Literal};
+use qe_syntax::{Formula, Literal, Term};
 use redlog_tokens::{Mark, ReadError, Token};
 use statement_syntax::Literals;
 use std::alloc::Global;
@@ -49,6 +49,29 @@ pub fn multiplied(
         return Err(ReadError::Syntax);
     };
     Ok((constraints, multipliers, rest))
+}
+
+/// Weak constraints and a target in brackets.
+#[tactic(auto, using(crate::proofs::Options::options))]
+pub fn targeted(
+    alloc: Global,
+    tokens: &[Token],
+) -> Result<(Vec<Formula>, Term, &[Token]), ReadError>
+    ensures read { IfOk result (λ r. least_read (terminals tokens.now) ≡ Some ((map formula_tree r.0.items, term_tree r.1), terminals r.2.now)) }
+    ensures refused { IfErr result (λ e. Refuses e (least_read (terminals tokens.now) ≡ None)) }
+{
+    let Some(start) = after(tokens, Mark::Open) else {
+        return Err(ReadError::Syntax);
+    };
+    let (constraints, comma) = atoms(alloc, AtomKind::Weak, start)?;
+    let Some(middle) = after(comma, Mark::Comma) else {
+        return Err(ReadError::Syntax);
+    };
+    let (target, end) = sum(alloc, middle)?;
+    let Some(rest) = after(end, Mark::Close) else {
+        return Err(ReadError::Syntax);
+    };
+    Ok((constraints, target, rest))
 }
 
 /// Whole numbers in braces.

@@ -8,7 +8,7 @@ ghost use Rattle.redlog_reader.specs.Reader.{pointed_read, result_from, result_r
 ghost use Rattle.redlog_reader.specs.Reading.{Refuses};
 
 use crate::argument::{AtomKind, FORMULA, PRIME, argument, atoms, formula};
-use crate::constraints::{constraints, multiplied};
+use crate::constraints::{constraints, multiplied, targeted};
 use crate::grid::grid;
 use crate::peek::{after, name, next};
 use crate::point::point;
@@ -125,6 +125,11 @@ fn action_from<'a>(
                 alloc,
                 Command::Check(Formulas::of(constraints), multipliers),
             )?;
+            Ok((action, rest))
+        }
+        Word::Opt => {
+            let (constraints, target, rest) = targeted(alloc, rest)?;
+            let action = say(alloc, Command::Least(Formulas::of(constraints), target))?;
             Ok((action, rest))
         }
         _ => {

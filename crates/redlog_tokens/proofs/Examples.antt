@@ -62,11 +62,11 @@ all_signs : map front_of (long_signs ++ short_signs) ≡ map (λ s. found.Token 
 unfolding front signed
 all_signs = refl
 
--- the words as the grammar names them; rlopt begins no statement yet
+-- the words as the grammar names them
 grammar_words : map word_of keywords
     ≡ word.True ∷ word.False ∷ word.Not ∷ word.And ∷ word.Or ∷ word.Impl ∷ word.Repl ∷ word.Equiv ∷ word.Ex ∷ word.All ∷ word.Cong ∷ word.Ncong ∷ word.Neq
     ∷ word.Set ∷ word.Nnf ∷ word.Pnf ∷ word.Dnf ∷ word.Cnf ∷ word.Simpl ∷ word.Qe ∷ word.Qea ∷ word.Holds ∷ word.Witness
-    ∷ word.Assume ∷ word.Retract ∷ word.Grid ∷ word.Other ∷ word.Cert ∷ word.Check ∷ word.Load ∷ word.On ∷ word.Off ∷ word.End ∷ word.Bye ∷ word.Quit ∷ []
+    ∷ word.Assume ∷ word.Retract ∷ word.Grid ∷ word.Opt ∷ word.Cert ∷ word.Check ∷ word.Load ∷ word.On ∷ word.Off ∷ word.End ∷ word.Bye ∷ word.Quit ∷ []
 unfolding word_of
 grammar_words = refl
 

@@ -17,7 +17,7 @@ words =
     (codes "true", word.True) ∷ (codes "false", word.False) ∷ (codes "not", word.Not) ∷ (codes "and", word.And) ∷ (codes "or", word.Or) ∷ (codes "impl", word.Impl) ∷ (codes "repl", word.Repl) ∷ (codes "equiv", word.Equiv)
     ∷ (codes "ex", word.Ex) ∷ (codes "all", word.All) ∷ (codes "cong", word.Cong) ∷ (codes "ncong", word.Ncong) ∷ (codes "neq", word.Neq)
     ∷ (codes "rlset", word.Set) ∷ (codes "rlnnf", word.Nnf) ∷ (codes "rlpnf", word.Pnf) ∷ (codes "rldnf", word.Dnf) ∷ (codes "rlcnf", word.Cnf) ∷ (codes "rlsimpl", word.Simpl) ∷ (codes "rlqe", word.Qe) ∷ (codes "rlqea", word.Qea)
-    ∷ (codes "rlholds", word.Holds) ∷ (codes "rlwitness", word.Witness) ∷ (codes "rlassume", word.Assume) ∷ (codes "rlretract", word.Retract) ∷ (codes "rlgrid", word.Grid) ∷ (codes "rlopt", word.Other) ∷ (codes "rlcert", word.Cert) ∷ (codes "rlcheck", word.Check)
+    ∷ (codes "rlholds", word.Holds) ∷ (codes "rlwitness", word.Witness) ∷ (codes "rlassume", word.Assume) ∷ (codes "rlretract", word.Retract) ∷ (codes "rlgrid", word.Grid) ∷ (codes "rlopt", word.Opt) ∷ (codes "rlcert", word.Cert) ∷ (codes "rlcheck", word.Check)
     ∷ (codes "load_package", word.Load) ∷ (codes "on", word.On) ∷ (codes "off", word.Off) ∷ (codes "end", word.End) ∷ (codes "bye", word.Bye) ∷ (codes "quit", word.Quit) ∷ []
 
 -- what the text is, if it is one of these words

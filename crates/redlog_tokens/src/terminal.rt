@@ -64,6 +64,7 @@ pub enum Word {
     Grid,
     Cert,
     Check,
+    Opt,
     Load,
     On,
     Off,

@@ -38,7 +38,7 @@ const OF_FIVE: [Entry; 10] = [
     ("rldnf", Word::Dnf),
     ("rlcnf", Word::Cnf),
     ("rlqea", Word::Qea),
-    ("rlopt", Word::Other),
+    ("rlopt", Word::Opt),
 ];
 
 const OF_SIX: [Entry; 2] = [("rlgrid", Word::Grid), ("rlcert", Word::Cert)];

@@ -23,3 +23,22 @@ is_constraint f = false
 abbrev pub AreConstraints : FormulaTrees → Type 0
 AreConstraints none = Unit {0}
 AreConstraints (also f fs) = (is_constraint f ≡ true) × AreConstraints fs
+
+-- each relation that a point on its border has too: =, <= and >=
+abbrev pub is_weak : Relation → Bool
+is_weak Equal = true
+is_weak Differs = false
+is_weak Less = false
+is_weak AtMost = true
+is_weak Greater = false
+is_weak AtLeast = true
+
+-- a comparison by such a relation
+abbrev pub is_weak_constraint : FormulaTree → Bool
+is_weak_constraint (One (Compare r s t)) = is_weak r
+is_weak_constraint f = false
+
+-- each of the formulas is one
+abbrev pub AreWeakConstraints : FormulaTrees → Type 0
+AreWeakConstraints none = Unit {0}
+AreWeakConstraints (also f fs) = (is_weak_constraint f ≡ true) × AreWeakConstraints fs

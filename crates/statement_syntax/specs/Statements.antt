@@ -1,7 +1,7 @@
 -- Statements as plain trees.
 use Rattle.std.specs.Prelude.{Bool, List, ℕ}
 use Rattle.qe_syntax.specs.declared.tree.Literal.{Literal}
-use Rattle.qe_syntax.specs.Trees.{FormulaTree, FormulaTrees, formula_tree, formula_trees}
+use Rattle.qe_syntax.specs.Trees.{TermTree, FormulaTree, FormulaTrees, term_tree, formula_tree, formula_trees}
 use Rattle.statement_syntax.specs.declared.statement.Setting.{Setting}
 use Rattle.statement_syntax.specs.declared.grid.GridAxis.{GridAxis}
 use Rattle.qe_syntax.specs.declared.entries.PointEntry.{PointEntry}
@@ -26,6 +26,7 @@ pub data CommandTree : Type 0 where
   Grid : FormulaTree → List GridAxis → CommandTree
   Certify : FormulaTrees → CommandTree
   Check : FormulaTrees → List Literal → CommandTree
+  Least : FormulaTrees → TermTree → CommandTree
 
 -- what a statement does
 pub data ActionTree : Type 0 where
@@ -58,6 +59,7 @@ command_tree (command.Sample f entries) = Sample (formula_tree f) entries
 command_tree (command.Grid f axes) = Grid (formula_tree f) axes
 command_tree (command.Certify constraints) = Certify (formula_trees constraints)
 command_tree (command.Check constraints multipliers) = Check (formula_trees constraints) multipliers
+command_tree (command.Least constraints target) = Least (formula_trees constraints) (term_tree target)
 
 -- the tree of an action
 abbrev pub action_tree : acts.Action → ActionTree

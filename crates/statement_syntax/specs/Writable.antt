@@ -4,11 +4,11 @@ use Rattle.std.specs.List.{AllByRecursion}
 use Rattle.qe_syntax.specs.declared.tree.Literal.{Literal}
 use Rattle.qe_syntax.specs.Names.{IsVariable}
 use Rattle.qe_syntax.specs.Proper.{IsNumeral, IsSigned}
-use Rattle.qe_syntax.specs.Writable.{IsWritableFormula, AreWritableFormulas, AreWritableEntries}
+use Rattle.qe_syntax.specs.Writable.{IsWritableTerm, IsWritableFormula, AreWritableFormulas, AreWritableEntries}
 use Rattle.statement_syntax.specs.declared.grid.Ratio.{Ratio}
 use Rattle.statement_syntax.specs.declared.grid.GridAxis.{GridAxis}
-use Rattle.statement_syntax.specs.Constraints.{AreConstraints}
-use Rattle.statement_syntax.specs.Statements.{CommandTree, Echo, Nnf, Pnf, Dnf, Cnf, Simpl, Qe, Qea, Holds, Sample, Grid, Certify, Check, ActionTree, Empty, Ignored, Finish, Choose, Say, Assign, Assume, Retract, StatementTree}
+use Rattle.statement_syntax.specs.Constraints.{AreConstraints, AreWeakConstraints}
+use Rattle.statement_syntax.specs.Statements.{CommandTree, Echo, Nnf, Pnf, Dnf, Cnf, Simpl, Qe, Qea, Holds, Sample, Grid, Certify, Check, Least, ActionTree, Empty, Ignored, Finish, Choose, Say, Assign, Assume, Retract, StatementTree}
 
 -- numbers within the limit, where they fit, with no sign below
 pub record IsWritableRatio (r : Ratio) : Type 0 where
@@ -44,6 +44,7 @@ IsWritableCommand (Sample f entries) = IsWritableFormula f × AreWritableEntries
 IsWritableCommand (Grid f axes) = IsWritableFormula f × AreWritableAxes axes
 IsWritableCommand (Certify constraints) = AreWritableFormulas constraints × AreConstraints constraints
 IsWritableCommand (Check constraints multipliers) = (AreWritableFormulas constraints × AreConstraints constraints) × AreWritableNumbers multipliers
+IsWritableCommand (Least constraints target) = (AreWritableFormulas constraints × AreWeakConstraints constraints) × IsWritableTerm target
 
 -- the command of the action can be written, if it has one, and so can its name and its atoms
 abbrev pub IsWritableAction : ActionTree → Type 0

@@ -1,6 +1,6 @@
 use crate::grid::GridAxes;
 use crate::literals::Literals;
-use qe_syntax::{Entries, Formula, Formulas, Name};
+use qe_syntax::{Entries, Formula, Formulas, Name, Term};
 
 /// The two theories as a script names them.
 #[derive(Clone, Copy, Debug, PartialEq, Eq)]
@@ -27,6 +27,8 @@ pub enum Command {
     Certify(Formulas),
     /// Asks whether the multipliers prove that no point meets the constraints.
     Check(Formulas, Literals),
+    /// Asks for the least value of the term under the constraints.
+    Least(Formulas, Term),
 }
 
 /// What a statement does. A command is kept in a box, since a formula is large.
