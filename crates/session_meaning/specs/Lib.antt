@@ -9,6 +9,7 @@ pub mod Samples
 pub mod Places
 pub mod Grids
 pub mod Certificates
+pub mod Targets
 pub mod Uses
 pub mod Meaning
 pub mod Causes

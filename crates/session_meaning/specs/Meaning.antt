@@ -1,6 +1,6 @@
 -- What a command means: what it reads, why it may be refused, and what it answers with. `meaning`, at the end, has a line for each command, and `assumption_meaning`
 -- is that of assumptions that are to stand; the causes of a refusal and the replies are stated once, of any meaning.
-use Rattle.std.specs.Prelude.{◌≡◌, ◌⊎◌, ◌*◌, ◌<◌, ◌≤◌, ℕ, List, [], ◌++◌, Bool, Option, length, map}
+use Rattle.std.specs.Prelude.{◌≡◌, ◌⊎◌, ◌*◌, ◌<◌, ◌≤◌, ℕ, List, [], ◌∷◌, ◌++◌, Bool, Option, length, map}
 use Rattle.std.specs.List.{fold}
 use Rattle.formula_meaning.specs.declared.junction.Junction.{Junction}
 use Rattle.formula_meaning.specs.declared.junction.Junction.TheVariants.{Conjunction, Disjunction}
@@ -19,7 +19,7 @@ use Rattle.sample_reference.specs.Sample.{reference_sample}
 use Rattle.sample_reference.specs.Values.{Value}
 use Rattle.qe_syntax.specs.declared.entries.PointEntry.{PointEntry}
 use Rattle.qe_syntax.specs.Point.{PassesLimit, IsPointOf}
-use Rattle.statement_syntax.specs.Statements.{CommandTree, Echo, Nnf, Pnf, Dnf, Cnf, Simpl, Qe, Qea, Holds, Sample, Grid, Certify, Check}
+use Rattle.statement_syntax.specs.Statements.{CommandTree, Echo, Nnf, Pnf, Dnf, Cnf, Simpl, Qe, Qea, Holds, Sample, Grid, Certify, Check, Least}
 use Rattle.statement_syntax.specs.declared.grid.GridAxis.{GridAxis}
 use Rattle.qe_syntax.specs.Trees.{FormulaTree, FormulaTrees}
 use Rattle.qe_syntax.specs.Value.{NamedPoint}
@@ -39,6 +39,7 @@ use Rattle.session_meaning.specs.Cases.{IsCaseAnswer}
 use Rattle.fourier_motzkin.specs.Search.{Certificate}
 use Rattle.session_meaning.specs.Samples.{IsSampleAnswer, sample_text}
 use Rattle.session_meaning.specs.Grids.{lows, MeanNoGrid, PassesGrid, HasTooManyPoints, TruthsPass, IsGridAnswer, grid_text}
+use Rattle.session_meaning.specs.Targets.{target_name, problem_of, TargetAnswer, SaysLeast, target_text, TargetStops}
 use Rattle.session_meaning.specs.Certificates.{SearchStops, IsCertificateAnswer, certificate_text, HasLongCertificate, CheckPasses, IsCheckAnswer}
 
 -- ---- meanings
@@ -236,6 +237,11 @@ meaning (Grid f axes) = record (of_formula f none (record no_causes { overflow =
 }
 meaning (Certify written) = of_constraints written (record (stops (SearchStops written)) { text = HasLongCertificate written }) (λ s limit text. (found : Certificate) × IsCertificateAnswer s limit written found × (text ≡ certificate_text s.names found))
 meaning (Check written ms) = of_constraints written (record no_causes { overflow = CheckPasses written ms }) (λ s limit text. (answer : Bool) × IsCheckAnswer s written ms answer × (text ≡ truth_text answer))
+-- the target's name is the last one that the problem numbers, and is given back
+meaning (Least written target) = record (of_constraints (also (problem_of written target) none) no_causes (λ s limit text. (found : TargetAnswer) × SaysLeast s written target found × (text ≡ target_text s.names found))) {
+  may = stops (TargetStops written target);
+  names = λ s names. s.names ≡ names ++ target_name ∷ [];
+}
 
 -- what assumptions mean that are to stand: the line has them behind those that stand already
 abbrev pub assumption_meaning : FormulaTrees → Meaning
