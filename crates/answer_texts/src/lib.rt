@@ -1,4 +1,4 @@
-//! The texts of case lists and of points.
+//! The texts of case lists, of points and of fractions.
 #![tactic(auto)]
 
 mod answers;
@@ -6,4 +6,4 @@ mod cases;
 mod points;
 
 pub use cases::cases_text;
-pub use points::point_text;
+pub use points::{point_text, put_fraction};

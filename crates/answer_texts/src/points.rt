@@ -13,8 +13,8 @@ use linear_forms::VarId;
 use redlog_printer::{Output, PrintError};
 use std::alloc::Global;
 
-// A fraction; a denominator 1 is not written.
-fn put_fraction(out: &mut Output, value: Fraction) -> Result<(), PrintError>
+/// Writes a fraction; a denominator 1 is not written. `Text` comes exactly where the text passes 32 MiB, else `Memory`.
+pub fn put_fraction(out: &mut Output, value: Fraction) -> Result<(), PrintError>
     ensures wrote { OnOk result (out.new ≡ out.old ++ fraction_text (frac_of value)) }
     ensures long { IsErrOf result PrintError.Text → text_limit < length out.old + length (fraction_text (frac_of value)) }
     ensures few { length out.new ≤ text_limit }

@@ -18,6 +18,7 @@ ghost use Rattle.problem_reading.specs.Reading.{AreNumbered};
 ghost use Rattle.certificate_queries.specs.Steps.{AreReady, NoConstraints, cert_refusal};
 
 use atom_normal::{Atom, Context, Rel};
+use command_tools::check_fields;
 use farkas_cert::{Bound, CertError, Constraint};
 use formula_store::FormulaId;
 use formula_tree::Shape;
@@ -44,7 +45,7 @@ pub fn constraints_of(
 {
     match read_all(state, written) {
         Ok(ids) => {
-            check_theory(state.context)?;
+            check_fields(state.context)?;
             oriented(state, &ids)
         }
         Err(error) => {
@@ -60,7 +61,7 @@ fn check_overflow(context: Context, error: StatementError) -> Result<(), Stateme
     ensures integers { IfErr result (λ e. (e ≡ StatementError.Context) × (error ≡ StatementError.Overflow) × (context_of context ≡ Integers)) }
 {
     match error {
-        StatementError::Overflow => check_theory(context),
+        StatementError::Overflow => check_fields(context),
         _ => Ok(()),
     }
 }
@@ -73,17 +74,6 @@ pub fn refusal_of(error: CertError) -> StatementError
         CertError::Overflow => StatementError::Overflow,
         CertError::Nodes => StatementError::Nodes,
         CertError::Memory => StatementError::Memory,
-    }
-}
-
-/// Whether the theory is that of the ordered fields.
-fn check_theory(context: Context) -> Result<(), StatementError>
-    ensures fields { OnOk result (context_of context ≡ Fields) }
-    ensures integers { IfErr result (λ e. (e ≡ StatementError.Context) × (context_of context ≡ Integers)) }
-{
-    match context {
-        Context::Fields => Ok(()),
-        Context::Integers => Err(StatementError::Context),
     }
 }
 

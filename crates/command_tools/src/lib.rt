@@ -3,8 +3,10 @@
 
 mod lines;
 mod refusals;
+mod theories;
 mod workshop;
 
 pub use lines::{printed_line, text_of, text_of_truth};
 pub use refusals::{forms_refusal, measured_refusal, print_refusal, static_refusal};
+pub use theories::check_fields;
 pub use workshop::Workshop;
