@@ -7,10 +7,10 @@ use Rattle.qe_syntax.specs.declared.tree.Relation.{Relation}
 use Rattle.qe_syntax.specs.declared.entries.PointEntry.{PointEntry}
 use Rattle.statement_syntax.specs.declared.grid.Ratio.{Ratio}
 use Rattle.statement_syntax.specs.declared.grid.GridAxis.{GridAxis}
-use Rattle.statement_syntax.specs.Constraints.{is_constraint}
+use Rattle.statement_syntax.specs.Constraints.{is_constraint, is_weak_constraint}
 use Rattle.formula_meaning.specs.Formula.{One}
 use Rattle.qe_syntax.specs.Trees.{TermTree, Compare, FormulaTree, formulas_of}
-use Rattle.statement_syntax.specs.Statements.{CommandTree, Echo, Nnf, Pnf, Dnf, Cnf, Simpl, Qe, Qea, Holds, Sample, Grid, Certify, Check, ActionTree, Empty, Ignored, Choose, Say, Assign, Assume, StatementTree}
+use Rattle.statement_syntax.specs.Statements.{CommandTree, Echo, Nnf, Pnf, Dnf, Cnf, Simpl, Qe, Qea, Holds, Sample, Grid, Certify, Check, Least, ActionTree, Empty, Ignored, Choose, Say, Assign, Assume, StatementTree}
 use Rattle.redlog_tokens.specs.declared.terminal.Terminal.{Terminal}
 use Rattle.redlog_tokens.specs.declared.terminal.Terminal.TheVariants as terminal
 use Rattle.redlog_tokens.specs.declared.terminal.Mark.{Mark}
@@ -20,8 +20,8 @@ use Rattle.redlog_tokens.specs.declared.terminal.Word.TheVariants as word
 use Rattle.redlog_reader.specs.Machine.{Reading, term_of, formula_of, Wants, Held, Stops, strength, run, operated}
 use Rattle.redlog_reader.specs.Grammar.{SpellsFactor, SpellsPower, first_power, raised, product, SpellsSum, sum, IsRelation, relation_sign, relation_word, SpellsComparison, comparison, SpellsCongruence, congruent, incongruent, SpellsAtom, compared_atom, congruent_atom}
 use Rattle.redlog_reader.specs.Grammar.{SpellsPrime, truth, falsity, named_formula, congruence, inner_formula, exists, for_all, SpellsFormula, IsAny, any_name, any_word, SpellsAnys, last_any, more_anys, opposite, Above, unsigned, opposed, Below, one, divided, SpellsEntry, entry, Listed, last_item, more_items, Braced, empty, listed, SpellsPoint, SpellsAtoms}
-use Rattle.redlog_reader.specs.Grammar.{SpellsArgument, alone, under, SpellsResult, echo, nnf, pnf, dnf, cnf, simpl, qe, SpellsRatio, ratio, SpellsAxis, axis, SpellsBound, bound, SpellsBounds, SpellsWholes, SpellsQuery, qea, holds, witness, grid, certify, check, SpellsAction, assign, result, query, choose, load, on, off, assume, retract, end, bye, quit, end_mark, SpellsStatement, nothing, acting}
-use Rattle.redlog_reader.specs.Reader.{on_some, after_mark, formula_read, sum_read, relation_of, relation_read, comparison_read, begins_congruence, atom_read, bound_read, items_read, braced_read, negated_literal, above_read, below_read, entry_read, ratio_read, axis_read, argument_read, pointed_read, grid_read, certified_read, checked_read, result_read, is_any, anys_read, said, action_read, ending, statement_read}
+use Rattle.redlog_reader.specs.Grammar.{SpellsArgument, alone, under, SpellsResult, echo, nnf, pnf, dnf, cnf, simpl, qe, SpellsRatio, ratio, SpellsAxis, axis, SpellsBound, bound, SpellsBounds, SpellsWeak, weak, SpellsWeaks, SpellsWholes, SpellsQuery, qea, holds, witness, grid, certify, check, least, SpellsAction, assign, result, query, choose, load, on, off, assume, retract, end, bye, quit, end_mark, SpellsStatement, nothing, acting}
+use Rattle.redlog_reader.specs.Reader.{on_some, after_mark, formula_read, sum_read, relation_of, relation_read, comparison_read, begins_congruence, atom_read, bound_read, weak_read, items_read, braced_read, negated_literal, above_read, below_read, entry_read, ratio_read, axis_read, argument_read, pointed_read, grid_read, certified_read, checked_read, least_read, result_read, is_any, anys_read, said, action_read, ending, statement_read}
 use Rattle.std.proofs.lemmas.Bool.{lt-ltb}
 use Rattle.std.proofs.lemmas.Int.{ints}
 use Rattle.std.specs.Prelude.{negsuc}
@@ -32,7 +32,7 @@ use Rattle.redlog_reader.proofs.Steps.{outcome, no_power}
 use Rattle.redlog_reader.proofs.CompleteTerms.{complete_sum}
 use Rattle.redlog_reader.proofs.CompleteFormulas.{complete_prime, complete_formula}
 use Rattle.redlog_reader.proofs.Options.{is_some, is_none, anys_more, anys_last}
-use Rattle.redlog_reader.proofs.Items.{LeavesLess, items_more, items_last, items_none, atom_less, entry_less, axis_less, bound_less, above_less, onto}
+use Rattle.redlog_reader.proofs.Items.{LeavesLess, items_more, items_last, items_none, atom_less, entry_less, axis_less, bound_less, weak_less, above_less, onto}
 
 -- what is read where a terminal ends it
 stopped : (goal : ℕ) (t : Terminal) (ts : List Terminal) (h : Reading) → goal < strength t → run goal (t ∷ ts) [] (Held h) ≡ Some (h, t ∷ ts)
@@ -122,13 +122,25 @@ braced_atoms : {ts rest : List Terminal} {fs : List FormulaTree} → SpellsAtoms
 braced_atoms {ts = ts} {rest = rest} {fs = fs} p =
     braced_done atom_read atom_less SpellsAtom (λ ts. Unit {0}) (λ us r t f good h less. atom_done h less) (λ us r f good h. tt) (λ us h. tt) ts rest fs (λ us. refl) (λ us h. tt) tt p
 
+-- a comparison that meets a test
+tested_done : (meets : FormulaTree → Bool) {ts rest : List Terminal} {t : Terminal} {f : FormulaTree} → SpellsComparison ts f (t ∷ rest) → meets f ≡ true → 8 < strength t
+    → on_some (comparison_read ts) (λ p. if meets p.0 then Some p else None) None ≡ Some (f, t ∷ rest)
+tested_done meets {ts = ts} {rest = rest} {t = t} {f = f} p is less =
+    is_some (comparison_read ts) (f, t ∷ rest) (λ p. if meets p.0 then Some p else None) None (comparison_done p less) ∙ ap (λ b. if b then Some (f, t ∷ rest) else None) is
+
 bound_done : {ts rest : List Terminal} {t : Terminal} {f : FormulaTree} → SpellsBound ts f (t ∷ rest) → 8 < strength t → bound_read ts ≡ Some (f, t ∷ rest)
-bound_done {ts = ts} {rest = rest} {t = t} {f = f} (bound p is) less =
-    is_some (comparison_read ts) (f, t ∷ rest) (λ p. if is_constraint p.0 then Some p else None) None (comparison_done p less) ∙ ap (λ b. if b then Some (f, t ∷ rest) else None) is
+bound_done (bound p is) less = tested_done is_constraint p is less
 
 braced_bounds : {ts rest : List Terminal} {fs : List FormulaTree} → SpellsBounds ts fs rest → braced_read bound_read ts ≡ Some (fs, rest)
 braced_bounds {ts = ts} {rest = rest} {fs = fs} p =
     braced_done bound_read bound_less SpellsBound (λ ts. Unit {0}) (λ us r t f good h less. bound_done h less) (λ us r f good h. tt) (λ us h. tt) ts rest fs (λ us. refl) (λ us h. tt) tt p
+
+weak_done : {ts rest : List Terminal} {t : Terminal} {f : FormulaTree} → SpellsWeak ts f (t ∷ rest) → 8 < strength t → weak_read ts ≡ Some (f, t ∷ rest)
+weak_done (weak p is) less = tested_done is_weak_constraint p is less
+
+braced_weaks : {ts rest : List Terminal} {fs : List FormulaTree} → SpellsWeaks ts fs rest → braced_read weak_read ts ≡ Some (fs, rest)
+braced_weaks {ts = ts} {rest = rest} {fs = fs} p =
+    braced_done weak_read weak_less SpellsWeak (λ ts. Unit {0}) (λ us r t f good h less. weak_done h less) (λ us r f good h. tt) (λ us h. tt) ts rest fs (λ us. refl) (λ us h. tt) tt p
 
 -- numerals have an opposite
 pub negated_done : (n : Literal) → IsNumeral n → negated_literal n ≡ opposite n
@@ -237,6 +249,13 @@ checked_done {ts = ts} {us = us} {rest = rest} {fs = fs} {ns = ns} good p q =
     (λ p. on_some (after_mark mark.Comma p.1) (λ vs. on_some (braced_read above_read vs) (λ q. on_some (after_mark mark.Close q.1) (λ ws. Some ((p.0, q.0), ws)) None) None) None) None (braced_bounds p)
     ∙ is_some (braced_read above_read us) (ns, terminal.Mark mark.Close ∷ rest) (λ q. on_some (after_mark mark.Close q.1) (λ ws. Some ((fs, q.0), ws)) None) None (braced_wholes (proper_bounds p good).1 q)
 
+least_done : {ts us rest : List Terminal} {fs : List FormulaTree} {target : TermTree} → SpellsWeaks ts fs (terminal.Mark mark.Comma ∷ us) → SpellsSum us target (terminal.Mark mark.Close ∷ rest)
+    → least_read (terminal.Mark mark.Open ∷ ts) ≡ Some ((fs, target), rest)
+least_done {ts = ts} {us = us} {rest = rest} {fs = fs} {target = target} p q =
+    is_some (braced_read weak_read ts) (fs, terminal.Mark mark.Comma ∷ us)
+    (λ p. on_some (after_mark mark.Comma p.1) (λ vs. on_some (sum_read vs) (λ q. on_some (after_mark mark.Close q.1) (λ ws. Some ((p.0, q.0), ws)) None) None) None) None (braced_weaks p)
+    ∙ is_some (sum_read us) (target, terminal.Mark mark.Close ∷ rest) (λ q. on_some (after_mark mark.Close q.1) (λ ws. Some ((fs, q.0), ws)) None) None (sum_done q (omega arith))
+
 echo_done : (ts : List Terminal) (f : FormulaTree) (rest : List Terminal) → formula_read 8 ts ≡ Some (f, rest) → result_read ts ≡ Some (Echo f, rest)
 echo_done [] f rest e = absurd (let no : ⊥ = cc in no)
 echo_done (terminal.Word word.Nnf ∷ ts) f rest e = absurd (let no : ⊥ = cc in no)
@@ -297,6 +316,7 @@ said_done (terminal.Word word.Witness ∷ ts) c rest other e = absurd (let no : 
 said_done (terminal.Word word.Grid ∷ ts) c rest other e = absurd (let no : ⊥ = cc in no)
 said_done (terminal.Word word.Cert ∷ ts) c rest other e = absurd (let no : ⊥ = cc in no)
 said_done (terminal.Word word.Check ∷ ts) c rest other e = absurd (let no : ⊥ = cc in no)
+said_done (terminal.Word word.Opt ∷ ts) c rest other e = absurd (let no : ⊥ = cc in no)
 said_done (terminal.Word w ∷ ts) c rest other e = ap said e
 said_done (terminal.Name x ∷ []) c rest other e = ap said e
 said_done (terminal.Name x ∷ terminal.Mark mark.Assign ∷ ts) c rest other e = absurd (other ts (rest_of e))
@@ -310,6 +330,7 @@ query_done printed good (witness p q) = ap (λ o. on_some o (λ p. Some (Say (Sa
 query_done printed good (grid p q) = ap (λ o. on_some o (λ p. Some (Say (Grid p.0.0 p.0.1), p.1)) None) (grid_done good p q)
 query_done printed good (certify p) = ap (λ o. on_some o (λ p. Some (Say (Certify (formulas_of p.0)), p.1)) None) (certified_done p)
 query_done printed good (check p q) = ap (λ o. on_some o (λ p. Some (Say (Check (formulas_of p.0.0) p.0.1), p.1)) None) (checked_done good p q)
+query_done printed good (least p q) = ap (λ o. on_some o (λ p. Some (Say (Least (formulas_of p.0.0) p.0.1), p.1)) None) (least_done p q)
 
 action_done : {ts : List Terminal} {a : ActionTree} (printed : Bool) → AreProperTerminals ts → SpellsAction ts a (terminal.Mark (end_mark printed) ∷ []) → action_read ts ≡ Some (a, terminal.Mark (end_mark printed) ∷ [])
 action_done printed good (assign {x = x} p) = ap (λ o. on_some o (λ p. Some (Assign x p.0, p.1)) None) (result_done p (ends_strongly printed))

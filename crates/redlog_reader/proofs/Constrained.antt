@@ -2,15 +2,17 @@
 use Rattle.std.proofs.Common.{◌≡◌, false, sym, refl, ap, ◌∙◌}
 use Rattle.std.specs.declared.boxed.Box.{Box}
 use Rattle.std.specs.declared.alloc.Global.{Global}
+use Rattle.formula_meaning.specs.Formula.{One}
 use Rattle.qe_syntax.specs.declared.tree.Relation.{Relation}
+use Rattle.qe_syntax.specs.declared.tree.Relation.TheVariants.{Equal, Differs, Less, AtMost, Greater, AtLeast}
 use Rattle.qe_syntax.specs.declared.tree.Term as code
 use Rattle.qe_syntax.specs.declared.tree.Formula as written
 use Rattle.qe_syntax.specs.declared.tree.Formula.TheVariants as formula
 use Rattle.qe_syntax.specs.declared.tree.Formula.TheOpen as layer
 use Rattle.qe_syntax.specs.declared.tree.Formulas as writtens
-use Rattle.qe_syntax.specs.Trees.{FormulaTree, formula_tree}
+use Rattle.qe_syntax.specs.Trees.{Compare, FormulaTree, formula_tree}
 use Rattle.qe_syntax.proofs.TreeEquations.{formula-True, formula-False, formula-Cong, formula-Ncong, formula-Not, formula-And, formula-Or, formula-Impl, formula-Repl, formula-Equiv, formula-Ex, formula-All, formula-Named}
-use Rattle.statement_syntax.specs.Constraints.{is_constraint}
+use Rattle.statement_syntax.specs.Constraints.{is_constraint, is_weak_constraint}
 
 -- what is no comparison is no constraint
 pub unconstrained : (f : written.Formula) → ((r : Relation) (s t : Box code.Term Global) → ¬ (f ≡ formula.Compare r s t)) → is_constraint (formula_tree f) ≡ false
@@ -34,3 +36,16 @@ unconstrained f no_comparison = at (written.out-Formula f) (written.roll-out-For
     at (layer.Ex x g) e = made (formula.Ex x g) _ (formula-Ex x g) refl (sym (formula.rolls-Ex x g) ∙ e)
     at (layer.All x g) e = made (formula.All x g) _ (formula-All x g) refl (sym (formula.rolls-All x g) ∙ e)
     at (layer.Named x) e = made (formula.Named x) _ (formula-Named x) refl (sym (formula.rolls-Named x) ∙ e)
+
+-- nor is it a weak one, since those are constraints
+weak_too : (t : FormulaTree) → is_constraint t ≡ false → is_weak_constraint t ≡ false
+weak_too (One (Compare Equal s t)) e = e
+weak_too (One (Compare Differs s t)) e = refl
+weak_too (One (Compare Less s t)) e = refl
+weak_too (One (Compare AtMost s t)) e = e
+weak_too (One (Compare Greater s t)) e = refl
+weak_too (One (Compare AtLeast s t)) e = e
+weak_too t e = refl
+
+pub no_weak : (f : written.Formula) → ((r : Relation) (s t : Box code.Term Global) → ¬ (f ≡ formula.Compare r s t)) → is_weak_constraint (formula_tree f) ≡ false
+no_weak f no_comparison = weak_too (formula_tree f) (unconstrained f no_comparison)

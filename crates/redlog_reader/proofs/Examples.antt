@@ -4,10 +4,10 @@ use Rattle.std.specs.Prelude.{pos, neg_ℤ, ℤ, Some, None, List}
 use Rattle.formula_meaning.specs.Formula.{One, Impl, Repl, Ex}
 use Rattle.qe_syntax.specs.Trees.{TermTree, Named, Product, Quotient, Negative, Sum, Bound, Compare, terms_of, FormulaTree, formulas_of}
 use Rattle.qe_syntax.specs.declared.tree.Literal.TheVariants.{Fits}
-use Rattle.qe_syntax.specs.declared.tree.Relation.TheVariants.{Equal, Differs, Less}
+use Rattle.qe_syntax.specs.declared.tree.Relation.TheVariants.{Equal, Differs, Less, AtMost, Greater}
 use Rattle.statement_syntax.specs.declared.grid.Ratio.{Ratio}
 use Rattle.statement_syntax.specs.declared.grid.GridAxis.{GridAxis}
-use Rattle.statement_syntax.specs.Statements.{Grid, Certify, Check, Say}
+use Rattle.statement_syntax.specs.Statements.{Grid, Certify, Check, Least, Say}
 use Rattle.redlog_tokens.specs.declared.terminal.Terminal.{Terminal}
 use Rattle.redlog_tokens.specs.declared.terminal.Terminal.TheVariants as terminal
 use Rattle.redlog_tokens.specs.declared.terminal.Mark.TheVariants as mark
@@ -87,7 +87,8 @@ bracketed_name = refl
 one_power : sum_read (a ∷ terminal.Mark mark.Power ∷ terminal.Number (Fits (pos 2)) ∷ terminal.Mark mark.Power ∷ terminal.Number (Fits (pos 1)) ∷ end_mark) ≡ None
 one_power = refl
 
--- what is read of the queries of grids and of constraints: rlgrid(a,{b,-1,1,1/2}); rlcert({a<b}); rlcheck({a<b},{-1,2}); rlcert({a<>b})
+-- what is read of the queries of grids and of constraints: rlgrid(a,{b,-1,1,1/2}); rlcert({a<b}); rlcheck({a<b},{-1,2}); rlcert({a<>b});
+-- rlopt({a<=b},c); rlopt({a>0},a)
 abbrev numeral : ℤ → Terminal
 numeral n = terminal.Number (Fits n)
 
@@ -123,3 +124,13 @@ two_multipliers = refl
 
 no_constraint : action_read (terminal.Word word.Cert ∷ opening ∷ opening_brace ∷ a ∷ terminal.Relation Differs ∷ b ∷ query_end) ≡ None
 no_constraint = refl
+
+abbrev at_most : FormulaTree
+at_most = One (Compare AtMost term_a term_b)
+
+least_c : action_read (terminal.Word word.Opt ∷ opening ∷ opening_brace ∷ a ∷ terminal.Relation AtMost ∷ b ∷ terminal.Mark mark.CloseBrace ∷ comma ∷ c ∷ terminal.Mark mark.Close ∷ end_mark)
+    ≡ Some (Say (Least (formulas_of (at_most ∷ [])) term_c), end_mark)
+least_c = refl
+
+no_weak : action_read (terminal.Word word.Opt ∷ opening ∷ opening_brace ∷ a ∷ terminal.Relation Greater ∷ numeral (pos 0) ∷ terminal.Mark mark.CloseBrace ∷ comma ∷ a ∷ terminal.Mark mark.Close ∷ end_mark) ≡ None
+no_weak = refl

@@ -7,7 +7,7 @@ use Rattle.qe_syntax.specs.declared.tree.Literal.TheVariants.{Fits}
 use Rattle.qe_syntax.specs.declared.tree.Relation.TheVariants.{Equal}
 use Rattle.qe_syntax.specs.declared.entries.PointEntry.{PointEntry}
 use Rattle.statement_syntax.specs.declared.grid.GridAxis.{GridAxis}
-use Rattle.statement_syntax.specs.Constraints.{is_constraint}
+use Rattle.statement_syntax.specs.Constraints.{is_constraint, is_weak_constraint}
 use Rattle.redlog_tokens.specs.declared.terminal.Terminal.{Terminal}
 use Rattle.redlog_tokens.specs.declared.terminal.Terminal.TheVariants as terminal
 use Rattle.redlog_tokens.specs.declared.terminal.Mark.{Mark}
@@ -16,7 +16,7 @@ use Rattle.redlog_tokens.specs.declared.terminal.Word.TheVariants as word
 use Rattle.redlog_reader.specs.Machine.{Reading, Frame, Mode, Wants, Outcome, Fails, Stops, Moves, Negation, Added, level, takes, pushed, wanted, step, run, term_of, formula_of}
 use Rattle.redlog_reader.specs.declared.argument.AtomKind.{AtomKind}
 use Rattle.redlog_reader.specs.declared.argument.AtomKind.TheVariants as kind
-use Rattle.redlog_reader.specs.Reader.{on_some, number_of, after_mark, formula_read, sum_read, relation_of, relation_read, comparison_read, begins_congruence, atom_read, bound_read, kind_read, listed_read, items_read, number_read, above_read, below_read, name_read, after_equal, entry_read, negated_literal, ratio_read, axis_read}
+use Rattle.redlog_reader.specs.Reader.{on_some, number_of, after_mark, formula_read, sum_read, relation_of, relation_read, comparison_read, begins_congruence, atom_read, bound_read, weak_read, kind_read, listed_read, items_read, number_read, above_read, below_read, name_read, after_equal, entry_read, negated_literal, ratio_read, axis_read}
 use Rattle.redlog_reader.proofs.Steps.{outcome}
 use Rattle.redlog_reader.proofs.Options.{is_some, is_none}
 
@@ -171,16 +171,24 @@ atom_less ts = choose (begins_congruence ts)
     choose true = formula_less 0 ts
     choose false = comparison_less ts
 
-pub bound_less : (ts : List Terminal) → LeavesLess (length ts) (bound_read ts)
-bound_less ts = on_some_less (length ts) (comparison_read ts) _ (λ p e. choose p (less_of _ _ p (comparison_less ts) e) (is_constraint p.0))
+-- a comparison that meets a test
+tested_less : (is : FormulaTree → Bool) (ts : List Terminal) → LeavesLess (length ts) (on_some (comparison_read ts) (λ p. if is p.0 then Some p else None) None)
+tested_less is ts = on_some_less (length ts) (comparison_read ts) _ (λ p e. choose p (less_of _ _ p (comparison_less ts) e) (is p.0))
   where
     choose : (p : FormulaTree × List Terminal) → length p.1 < length ts → (b : Bool) → LeavesLess (length ts) (if b then Some p else None)
     choose p h true = h
     choose p h false = tt
 
+pub bound_less : (ts : List Terminal) → LeavesLess (length ts) (bound_read ts)
+bound_less = tested_less is_constraint
+
+pub weak_less : (ts : List Terminal) → LeavesLess (length ts) (weak_read ts)
+weak_less = tested_less is_weak_constraint
+
 pub kind_less : (k : AtomKind) (ts : List Terminal) → LeavesLess (length ts) (kind_read k ts)
 kind_less kind.Any ts = atom_less ts
 kind_less kind.Constraint ts = bound_less ts
+kind_less kind.Weak ts = weak_less ts
 
 number_less : (ts : List Terminal) → LeavesLess (length ts) (number_read ts)
 number_less [] = tt

@@ -15,7 +15,7 @@ use Rattle.redlog_tokens.specs.declared.terminal.Terminal.TheVariants as termina
 use Rattle.redlog_tokens.specs.declared.terminal.Mark.TheVariants as mark
 use Rattle.redlog_reader.specs.Grammar.{SpellsFactor, number, variable, inner_sum, SpellsPower, first_power, raised, SpellsProduct, product, SpellsSum, sum, plus_sum, minus_sum, IsRelation, relation_sign, relation_word, SpellsComparison, comparison, SpellsCongruence, congruent, incongruent, SpellsAtom, compared_atom, congruent_atom}
 use Rattle.redlog_reader.specs.Grammar.{SpellsPrime, truth, falsity, named_formula, congruence, inner_formula, exists, for_all, SpellsFormula, opposite, Above, unsigned, opposed, Below, one, divided, SpellsEntry, entry, Listed, last_item, more_items, Braced, empty, listed, SpellsPoint}
-use Rattle.redlog_reader.specs.Grammar.{SpellsArgument, alone, under, SpellsResult, echo, nnf, pnf, dnf, cnf, simpl, qe, SpellsRatio, ratio, SpellsAxis, axis, SpellsBound, bound, SpellsBounds, SpellsWholes, SpellsQuery, qea, holds, witness, grid, certify, check, SpellsAction, assign, result, query, choose, load, on, off, assume, retract, end, bye, quit, SpellsStatement, nothing, acting}
+use Rattle.redlog_reader.specs.Grammar.{SpellsArgument, alone, under, SpellsResult, echo, nnf, pnf, dnf, cnf, simpl, qe, SpellsRatio, ratio, SpellsAxis, axis, SpellsBound, bound, SpellsBounds, SpellsWeak, weak, SpellsWeaks, SpellsWholes, SpellsQuery, qea, holds, witness, grid, certify, check, least, SpellsAction, assign, result, query, choose, load, on, off, assume, retract, end, bye, quit, SpellsStatement, nothing, acting}
 use Rattle.std.specs.List.{AllByRecursion}
 use Rattle.std.proofs.lemmas.Int.{ints}
 use Rattle.qe_syntax.specs.Names.{IsVariable}
@@ -24,7 +24,7 @@ use Rattle.qe_syntax.specs.Proper.{IsNumeral, IsSigned}
 use Rattle.qe_syntax.specs.Writable.{IsWritableEntry, AreWritableEntries, IsWritableTerm, AreWritableTerms, IsWritableFormula, AreWritableFormulas}
 use Rattle.statement_syntax.specs.declared.grid.Ratio.{Ratio}
 use Rattle.statement_syntax.specs.declared.grid.GridAxis.{GridAxis}
-use Rattle.statement_syntax.specs.Constraints.{is_constraint, AreConstraints}
+use Rattle.statement_syntax.specs.Constraints.{is_constraint, AreConstraints, is_weak_constraint, AreWeakConstraints}
 use Rattle.statement_syntax.specs.Writable.{IsWritableRatio, IsWritableAxis, AreWritableNumbers, IsWritableCommand, IsWritableAction, IsWritable}
 use Rattle.redlog_reader.specs.Grammar.{product_of, sum_of, conjunction_of, disjunction_of, quantified_names, Factors, no_factor, times, over, Members, no_member, plus, minus, Names, last_name, more_names, SpellsNames, one_name, many_names}
 use Rattle.redlog_tokens.proofs.ProperTokens.{AreProperTerminals}
@@ -271,6 +271,20 @@ all_bounds (f ∷ fs) h = let more = all_bounds fs h.1 in ((h.0.0, more.0), (h.0
 pub proper_bounds : {ts r : List Terminal} {fs : List FormulaTree} → SpellsBounds ts fs r → AreProperTerminals ts → (AreWritableFormulas (formulas_of fs) × AreConstraints (formulas_of fs)) × AreProperTerminals r
 proper_bounds {fs = fs} p h = let a = proper_braced {P = IsProperBound} (λ us rest x q k. proper_bound q k) p h in (all_bounds fs a.0, a.1)
 
+-- a weak constraint that can be written
+abbrev IsProperWeak : FormulaTree → Type 0
+IsProperWeak f = IsWritableFormula f × (is_weak_constraint f ≡ true)
+
+proper_weak : {ts r : List Terminal} {f : FormulaTree} → SpellsWeak ts f r → AreProperTerminals ts → IsProperWeak f × AreProperTerminals r
+proper_weak (weak p is) h = let a = proper_comparison p h in ((a.0, is), a.1)
+
+all_weaks : (fs : List FormulaTree) → AllByRecursion IsProperWeak fs → AreWritableFormulas (formulas_of fs) × AreWeakConstraints (formulas_of fs)
+all_weaks [] h = (tt, tt)
+all_weaks (f ∷ fs) h = let more = all_weaks fs h.1 in ((h.0.0, more.0), (h.0.1, more.1))
+
+proper_weaks : {ts r : List Terminal} {fs : List FormulaTree} → SpellsWeaks ts fs r → AreProperTerminals ts → (AreWritableFormulas (formulas_of fs) × AreWeakConstraints (formulas_of fs)) × AreProperTerminals r
+proper_weaks {fs = fs} p h = let a = proper_braced {P = IsProperWeak} (λ us rest x q k. proper_weak q k) p h in (all_weaks fs a.0, a.1)
+
 proper_wholes : {ts r : List Terminal} {ns : List Literal} → SpellsWholes ts ns r → AreProperTerminals ts → AreWritableNumbers ns × AreProperTerminals r
 proper_wholes p h = proper_braced {P = IsSigned} (λ us rest x q k. proper_above q k) p h
 
@@ -281,6 +295,7 @@ proper_query (witness p q) h = let a = proper_formula p h in let b = proper_poin
 proper_query (grid p q) h = let a = proper_formula p h in let b = proper_items {P = IsWritableAxis} (λ us rest x q k. proper_axis q k) q a.1 in ((a.0, b.0), b.1)
 proper_query (certify p) h = let a = proper_bounds p h in (a.0, a.1)
 proper_query (check p q) h = let a = proper_bounds p h in let b = proper_wholes q a.1 in ((a.0, b.0), b.1)
+proper_query (least p q) h = let a = proper_weaks p h in let b = proper_spelled_sum q a.1 in ((a.0, b.0), b.1)
 
 proper_action : {ts r : List Terminal} {a : ActionTree} → SpellsAction ts a r → AreProperTerminals ts → IsWritableAction a
 proper_action (assign p) h = (h.0, (proper_result p h.1).0)

@@ -8,9 +8,9 @@ use Rattle.qe_syntax.specs.declared.tree.Relation.TheVariants.{Equal}
 use Rattle.qe_syntax.specs.declared.entries.PointEntry.{PointEntry}
 use Rattle.statement_syntax.specs.declared.grid.Ratio.{Ratio}
 use Rattle.statement_syntax.specs.declared.grid.GridAxis.{GridAxis}
-use Rattle.statement_syntax.specs.Constraints.{is_constraint}
+use Rattle.statement_syntax.specs.Constraints.{is_constraint, is_weak_constraint}
 use Rattle.qe_syntax.specs.Trees.{TermTree, FormulaTree, formulas_of}
-use Rattle.statement_syntax.specs.Statements.{CommandTree, Echo, Nnf, Pnf, Dnf, Cnf, Holds, Sample, Grid, Certify, Check, ActionTree, Ignored, Finish, Choose, Say, Retract, StatementTree}
+use Rattle.statement_syntax.specs.Statements.{CommandTree, Echo, Nnf, Pnf, Dnf, Cnf, Holds, Sample, Grid, Certify, Check, Least, ActionTree, Ignored, Finish, Choose, Say, Retract, StatementTree}
 use Rattle.redlog_tokens.specs.declared.terminal.Terminal.{Terminal}
 use Rattle.redlog_tokens.specs.declared.terminal.Terminal.TheVariants as terminal
 use Rattle.redlog_tokens.specs.declared.terminal.Mark.{Mark}
@@ -20,8 +20,8 @@ use Rattle.redlog_tokens.specs.declared.terminal.Word.TheVariants as word
 use Rattle.redlog_reader.specs.Machine.{term_of, formula_of, Wants, run}
 use Rattle.redlog_reader.specs.Grammar.{SpellsSum, IsRelation, relation_sign, relation_word, SpellsComparison, comparison, SpellsCongruence, SpellsAtom, compared_atom, congruent_atom}
 use Rattle.redlog_reader.specs.Grammar.{SpellsPrime, truth, falsity, named_formula, congruence, inner_formula, exists, for_all, SpellsFormula, setting_of, IsAny, any_name, any_word, SpellsAnys, last_any, more_anys, Above, unsigned, opposed, Below, one, divided, SpellsEntry, entry, Listed, last_item, more_items, Braced, empty, listed, SpellsPoint, SpellsAtoms}
-use Rattle.redlog_reader.specs.Grammar.{SpellsArgument, alone, under, SpellsResult, echo, nnf, pnf, dnf, cnf, simpl, qe, SpellsRatio, ratio, SpellsAxis, axis, SpellsBound, bound, SpellsBounds, SpellsWholes, qea, holds, witness, grid, certify, check, SpellsAction, assign, result, query, choose, load, on, off, assume, retract, end, bye, quit, end_mark, SpellsStatement, nothing, acting}
-use Rattle.redlog_reader.specs.Reader.{on_some, after_mark, formula_read, sum_read, relation_of, relation_read, comparison_read, begins_congruence, atom_read, bound_read, listed_read, items_read, braced_read, number_read, above_read, below_read, name_read, after_equal, entry_read, ratio_read, axis_read, argument_read, pointed_read, grid_read, certified_read, checked_read, result_from, result_read, is_any, anys_read, ignored_read, said, action_from, action_read, ending, statement_read}
+use Rattle.redlog_reader.specs.Grammar.{SpellsArgument, alone, under, SpellsResult, echo, nnf, pnf, dnf, cnf, simpl, qe, SpellsRatio, ratio, SpellsAxis, axis, SpellsBound, bound, SpellsBounds, SpellsWeak, weak, SpellsWeaks, SpellsWholes, qea, holds, witness, grid, certify, check, least, SpellsAction, assign, result, query, choose, load, on, off, assume, retract, end, bye, quit, end_mark, SpellsStatement, nothing, acting}
+use Rattle.redlog_reader.specs.Reader.{on_some, after_mark, formula_read, sum_read, relation_of, relation_read, comparison_read, begins_congruence, atom_read, bound_read, weak_read, listed_read, items_read, braced_read, number_read, above_read, below_read, name_read, after_equal, entry_read, ratio_read, axis_read, argument_read, pointed_read, grid_read, certified_read, checked_read, least_read, result_from, result_read, is_any, anys_read, ignored_read, said, action_from, action_read, ending, statement_read}
 use Rattle.redlog_reader.specs.Reader as reader
 use Rattle.redlog_tokens.proofs.ProperTokens.{AreProperTerminals}
 use Rattle.redlog_reader.proofs.Proper.{proper_above, proper_entry, proper_formula, proper_ratio, proper_axis, proper_bounds}
@@ -355,19 +355,28 @@ grid_sound ts rest f axes good e =
       subst (λ gs. Listed SpellsAxis comma.0 gs (terminal.Mark mark.Close ∷ rest)) parts.1 (subst (λ v. Listed SpellsAxis comma.0 items.0.0 v) ended (axes_sound comma.0 items.0.1 items.0.0 left items.1)),
     )
 
--- a comparison that is kept is a constraint
-constraint_kept : (p : FormulaTree × List Terminal) (f : FormulaTree) (rest : List Terminal) (b : Bool) → is_constraint p.0 ≡ b → (if b then Some p else None) ≡ Some (f, rest) → (is_constraint f ≡ true) × (p ≡ (f, rest))
-constraint_kept p f rest true is e = let same = same_some e in (ap (λ (q : FormulaTree × List Terminal). is_constraint q.0) (sym same) ∙ is, same)
-constraint_kept p f rest false is e = absurd (let no : ⊥ = cc in no)
+-- a comparison that is kept meets the test
+test_kept : (meets : FormulaTree → Bool) (p : FormulaTree × List Terminal) (f : FormulaTree) (rest : List Terminal) (b : Bool) → meets p.0 ≡ b → (if b then Some p else None) ≡ Some (f, rest) → (meets f ≡ true) × (p ≡ (f, rest))
+test_kept meets p f rest true is e = let same = same_some e in (ap (λ (q : FormulaTree × List Terminal). meets q.0) (sym same) ∙ is, same)
+test_kept meets p f rest false is e = absurd (let no : ⊥ = cc in no)
+
+tested_sound : (meets : FormulaTree → Bool) (ts rest : List Terminal) (f : FormulaTree) → on_some (comparison_read ts) (λ p. if meets p.0 then Some p else None) None ≡ Some (f, rest) → SpellsComparison ts f rest × (meets f ≡ true)
+tested_sound meets ts rest f e =
+    let found = some_of (comparison_read ts) _ (f, rest) e in
+    let kept = test_kept meets found.0 f rest (meets found.0.0) refl found.2 in
+    (comparison_sound ts rest f (found.1 ∙ ap Some kept.1), kept.0)
 
 bound_sound : (ts rest : List Terminal) (f : FormulaTree) → bound_read ts ≡ Some (f, rest) → SpellsBound ts f rest
-bound_sound ts rest f e =
-    let found = some_of (comparison_read ts) _ (f, rest) e in
-    let kept = constraint_kept found.0 f rest (is_constraint found.0.0) refl found.2 in
-    bound (comparison_sound ts rest f (found.1 ∙ ap Some kept.1)) kept.0
+bound_sound ts rest f e = let found = tested_sound is_constraint ts rest f e in bound found.0 found.1
 
 bounds_sound : (ts rest : List Terminal) (fs : List FormulaTree) → braced_read bound_read ts ≡ Some (fs, rest) → SpellsBounds ts fs rest
 bounds_sound ts rest fs e = braced_sound bound_read SpellsBound (λ ts. Unit {0}) (λ us r f good h. bound_sound us r f h) (λ us r f good h. tt) (λ us h. tt) ts rest fs (λ us h. tt) tt e
+
+weak_sound : (ts rest : List Terminal) (f : FormulaTree) → weak_read ts ≡ Some (f, rest) → SpellsWeak ts f rest
+weak_sound ts rest f e = let found = tested_sound is_weak_constraint ts rest f e in weak found.0 found.1
+
+weaks_sound : (ts rest : List Terminal) (fs : List FormulaTree) → braced_read weak_read ts ≡ Some (fs, rest) → SpellsWeaks ts fs rest
+weaks_sound ts rest fs e = braced_sound weak_read SpellsWeak (λ ts. Unit {0}) (λ us r f good h. weak_sound us r f h) (λ us r f good h. tt) (λ us h. tt) ts rest fs (λ us h. tt) tt e
 
 wholes_sound : (ts rest : List Terminal) (ns : List Literal) → AreProperTerminals ts → braced_read above_read ts ≡ Some (ns, rest) → SpellsWholes ts ns rest
 wholes_sound ts rest ns good e = braced_sound above_read Above AreProperTerminals above_sound (λ us r n h p. (proper_above p h).1) (λ us h. h) ts rest ns (λ us h. h) good e
@@ -409,6 +418,28 @@ checked_sound ts rest fs ns good e =
       opened,
       subst (λ gs. SpellsBounds start.0 gs (terminal.Mark mark.Comma ∷ comma.0)) parts.0 spelled,
       subst (λ ms. SpellsWholes comma.0 ms (terminal.Mark mark.Close ∷ rest)) parts.1 (subst (λ v. SpellsWholes comma.0 wholes.0.0 v) ended (wholes_sound comma.0 wholes.0.1 wholes.0.0 left wholes.1)),
+    )
+
+-- weak constraints and a target in brackets
+abbrev Targeted : List Terminal → List FormulaTree → TermTree → List Terminal → Type 0
+Targeted ts fs target rest = (us : List Terminal) × (vs : List Terminal) × (ts ≡ terminal.Mark mark.Open ∷ us) × SpellsWeaks us fs (terminal.Mark mark.Comma ∷ vs) × SpellsSum vs target (terminal.Mark mark.Close ∷ rest)
+
+least_sound : (ts rest : List Terminal) (fs : List FormulaTree) (target : TermTree) → least_read ts ≡ Some ((fs, target), rest) → Targeted ts fs target rest
+least_sound ts rest fs target e =
+    let start = some_of (after_mark mark.Open ts) _ ((fs, target), rest) e in
+    let weaks = some_of (braced_read weak_read start.0) _ ((fs, target), rest) start.2 in
+    let comma = some_of (after_mark mark.Comma weaks.0.1) _ ((fs, target), rest) weaks.2 in
+    let sum = some_of (sum_read comma.0) _ ((fs, target), rest) comma.2 in
+    let close = some_of (after_mark mark.Close sum.0.1) _ ((fs, target), rest) sum.2 in
+    let same = pair_of close.2 in
+    let parts = pair_of (ap Some same.0) in
+    let ended = sound_Close sum.0.1 close.0 close.1 ∙ ap (λ v. terminal.Mark mark.Close ∷ v) same.1 in
+    let spelled : SpellsWeaks start.0 weaks.0.0 (terminal.Mark mark.Comma ∷ comma.0) = subst (λ v. SpellsWeaks start.0 weaks.0.0 v) (sound_Comma weaks.0.1 comma.0 comma.1) (weaks_sound start.0 weaks.0.1 weaks.0.0 weaks.1) in (
+      start.0,
+      comma.0,
+      sound_Open ts start.0 start.1,
+      subst (λ gs. SpellsWeaks start.0 gs (terminal.Mark mark.Comma ∷ comma.0)) parts.0 spelled,
+      subst (λ t. SpellsSum comma.0 t (terminal.Mark mark.Close ∷ rest)) parts.1 (subst (λ v. SpellsSum comma.0 sum.0.0 v) ended (sum_sound comma.0 sum.0.1 sum.0.0 sum.1)),
     )
 
 -- a command of one formula
@@ -518,6 +549,11 @@ action_from_sound word.Check ts rest a good e =
     let same = pair_of found.2 in
     let p = checked_sound ts rest found.0.0.0 found.0.0.1 good (found.1 ∙ ap (λ v. Some (found.0.0, v)) same.1) in
     subst (λ d. SpellsAction (terminal.Word word.Check ∷ ts) d rest) same.0 (subst (λ v. SpellsAction (terminal.Word word.Check ∷ v) (Say (Check (formulas_of found.0.0.0) found.0.0.1)) rest) (sym p.2) (query (check p.3 p.4)))
+action_from_sound word.Opt ts rest a good e =
+    let found = some_of (least_read ts) _ (a, rest) e in
+    let same = pair_of found.2 in
+    let p = least_sound ts rest found.0.0.0 found.0.0.1 (found.1 ∙ ap (λ v. Some (found.0.0, v)) same.1) in
+    subst (λ d. SpellsAction (terminal.Word word.Opt ∷ ts) d rest) same.0 (subst (λ v. SpellsAction (terminal.Word word.Opt ∷ v) (Say (Least (formulas_of found.0.0.0) found.0.0.1)) rest) (sym p.2) (query (least p.3 p.4)))
 action_from_sound w ts rest a good e = said_sound (terminal.Word w ∷ ts) rest (result_from w ts) a (λ r c h. result_from_sound w ts r c h) e
 
 action_sound : (ts rest : List Terminal) (a : ActionTree) → AreProperTerminals ts → action_read ts ≡ Some (a, rest) → SpellsAction ts a rest
