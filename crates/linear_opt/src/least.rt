@@ -55,8 +55,8 @@ impl From<AllocError> for OptError {
 ///
 /// For a formula over the ordered fields that has a least true value wherever it is true somewhere and false at every small enough
 /// number, the answer is `Infeasible` exactly where it is true nowhere, `Unbounded` exactly where it is true at every small enough
-/// number, and else that least value. Each truth is told at values less than the least so far alone, from one distinct subformula
-/// after the other. Its only error is `Memory`.
+/// number, and else that least value. At each of these values that is less than the least so far, each distinct subformula is
+/// evaluated once. Its only error is `Memory`.
 pub fn least_value(store: &Store, id: FormulaId, z: VarId) -> Result<Least, OptError>
     requires { IsId store.now id }
     ensures computed { IfOk result (λ l. found_of l ≡ least_of z.number (tree store.now id)) }
