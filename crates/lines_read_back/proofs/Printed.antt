@@ -10,7 +10,7 @@ use Rattle.formula_meaning.specs.Shape.{IsQuantifierFree}
 use Rattle.formula_meaning.specs.Sizes.{height}
 use Rattle.formula_meaning.specs.Tree.{Tree}
 use Rattle.qe_syntax.specs.Trees.{FormulaTree, FormulaTrees}
-use Rattle.statement_syntax.specs.Statements.{CommandTree, Echo, Nnf, Pnf, Dnf, Cnf, Simpl, Qe, Qea, Holds, Sample, Grid, Certify, Check, Say, StatementTree}
+use Rattle.statement_syntax.specs.Statements.{CommandTree, Echo, Nnf, Pnf, Dnf, Cnf, Simpl, Qe, Qea, Holds, Sample, Grid, Certify, Check, Least, Say, StatementTree}
 use Rattle.qe_syntax.specs.Writable.{IsWritableFormula, AreWritableFormulas}
 use Rattle.statement_syntax.specs.Writable.{IsWritableCommand}
 use Rattle.formula_tree.specs.Resolving.{BoundTrees, place, names_after, all_variables, resolve}
@@ -148,6 +148,7 @@ module _ (z next : State) (limit : ℕ) (u : Use) (context : next.context ≡ z.
   given_formula (Grid f axes) b numbers proper unbound accepted h n = absurd b
   given_formula (Certify written) b numbers proper unbound accepted h n = absurd b
   given_formula (Check written ms) b numbers proper unbound accepted h n = absurd b
+  given_formula (Least written target) b numbers proper unbound accepted h n = absurd b
 
   given_low : (c : CommandTree) → AreNumbered z.names (meaning c).formulas → AreWritableFormulas (meaning c).formulas → z.bound ≡ [] → IsAccepted (meaning c) z limit u
       → IsAllowed (meaning c).answer z limit t → IsEcho c → height t ≤ most_height
@@ -165,6 +166,7 @@ module _ (z next : State) (limit : ℕ) (u : Use) (context : next.context ≡ z.
   given_low (Grid f axes) numbers proper unbound accepted h k = absurd k
   given_low (Certify written) numbers proper unbound accepted h k = absurd k
   given_low (Check written ms) numbers proper unbound accepted h k = absurd k
+  given_low (Least written target) numbers proper unbound accepted h k = absurd k
 
 -- ---- a line that is read again
 

@@ -6,7 +6,7 @@ use Rattle.formula_meaning.specs.Every.{Every}
 use Rattle.formula_meaning.specs.Sizes.{height}
 use Rattle.formula_meaning.specs.Tree.{Tree}
 use Rattle.qe_syntax.specs.Trees.{FormulaTree}
-use Rattle.statement_syntax.specs.Statements.{CommandTree, Echo, Nnf, Pnf, Dnf, Cnf, Simpl, Qe, Qea, Holds, Sample, Grid, Certify, Check, Say}
+use Rattle.statement_syntax.specs.Statements.{CommandTree, Echo, Nnf, Pnf, Dnf, Cnf, Simpl, Qe, Qea, Holds, Sample, Grid, Certify, Check, Least, Say}
 use Rattle.formula_tree.specs.Causes.{most_height}
 use Rattle.redlog_reader.specs.Statement.{Spells, IsDeep}
 use Rattle.redlog_reader.specs.declared.read.TheConstants.{BYTE_LIMIT}
@@ -70,6 +70,7 @@ IsEcho (Sample f es) = ⊥
 IsEcho (Grid f axes) = ⊥
 IsEcho (Certify written) = ⊥
 IsEcho (Check written ms) = ⊥
+IsEcho (Least written target) = ⊥
 
 -- The text is that of a formula which the command may give in the state s, in which its variables have their numbers. In the state after it the formula is one as the
 -- session has it, and the text has its names. It is no higher than a resolved formula may be where the command asks for the formula as it is. Where it is so low, and the

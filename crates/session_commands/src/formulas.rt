@@ -123,7 +123,8 @@ pub(crate) fn form_command_of(command: &Command) -> Option<(FormCommand<'_>, &Fo
         | Command::Sample(..)
         | Command::Grid(..)
         | Command::Certify(..)
-        | Command::Check(..) => None,
+        | Command::Check(..)
+        | Command::Least(..) => None,
     }
 }
 

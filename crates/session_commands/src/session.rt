@@ -17,6 +17,7 @@ use atom_normal::Context;
 use block_scheduler::Limits;
 use certificate_queries::{answer_certificate, answer_check};
 use command_tools::{Workshop, printed_line};
+use least_queries::answer_least;
 use point_queries::{answer_cases, answer_grid, answer_holds, answer_sample};
 use qe_parallel::Gate;
 use qe_syntax::Name;
@@ -234,6 +235,9 @@ fn say<R: Threads + Sync, G: Gate + Sync>(
             multipliers.items(),
             printed,
         ),
+        Command::Least(constraints, target) => {
+            answer_least(workshop, state, constraints.items(), target, printed)
+        }
         Command::Echo(_)
         | Command::Nnf(_)
         | Command::Pnf(_)
