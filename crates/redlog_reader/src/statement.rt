@@ -40,19 +40,23 @@ pub fn statement(alloc: Global, tokens: &[Token]) -> Result<Statement, ReadError
 fn ending(tokens: &[Token]) -> Option<bool>
     ensures { result ≡ ending (terminals tokens.now) }
 {
-    if let Some(rest) = after(tokens, Mark::Semicolon) {
-        return alone(true, rest);
+    let Some((first, rest)) = next(tokens) else {
+        return None;
+    };
+    match first {
+        Terminal::Mark(Mark::Semicolon) => alone(true, rest),
+        Terminal::Mark(Mark::Dollar) => alone(false, rest),
+        _ => None,
     }
-    let rest = after(tokens, Mark::Dollar)?;
-    alone(false, rest)
 }
 
+#[tactic(auto, unfolding(redlog_tokens::specs::Terminals::terminals))]
 fn alone(printed: bool, tokens: &[Token]) -> Option<bool>
     ensures { result ≡ alone printed (terminals tokens.now) }
 {
-    match next(tokens) {
-        None => Some(printed),
-        Some(_) => None,
+    match tokens {
+        [] => Some(printed),
+        _ => None,
     }
 }
 
