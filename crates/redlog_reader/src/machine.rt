@@ -350,14 +350,10 @@ fn join(
     ensures taken { IfOk result (λ s. joined goal terminal.now (frames pending.old.items) (reading_of operand) ≡ outcome_of s (frames pending.new.items)) }
     ensures refused { IfErr result (λ e. Refuses e (joined goal terminal.now (frames pending.old.items) (reading_of operand) ≡ Fails)) }
 {
-    match pending.pop() {
-        Some(top) => {
-            put_pending(pending, top)?;
-            operate(alloc, goal, pending, terminal, operand)
-        }
-        None if goal < strength(terminal) => Ok(Step::Stops(operand)),
-        None => operate(alloc, goal, pending, terminal, operand),
+    if pending.is_empty() && goal < strength(terminal) {
+        return Ok(Step::Stops(operand));
     }
+    operate(alloc, goal, pending, terminal, operand)
 }
 
 fn operate(

@@ -156,8 +156,8 @@ fn named_from<'a>(
         let command = Box::new(alloc, command)?;
         return Ok((Action::Assign(name, command), end));
     }
-    let (command, end) = result_of(alloc, tokens)?;
-    let action = say(alloc, command)?;
+    let (formula, end) = formula(alloc, FORMULA, tokens)?;
+    let action = say(alloc, Command::Echo(formula))?;
     Ok((action, end))
 }
 
