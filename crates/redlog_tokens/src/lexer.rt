@@ -116,11 +116,13 @@ fn literal(digits: &[u8]) -> Literal
 {
     let mut value: u128 = 0;
     'digits: for digit in digits {
-        let digit = digit.saturating_sub(b'0') as u128;
-        if value > (LIMIT - digit) / 10 {
+        if value > LIMIT / 10 {
             return Literal::Past;
         }
-        value = value * 10 + digit;
+        value = value * 10 + digit.saturating_sub(b'0') as u128;
+    }
+    if value > LIMIT {
+        return Literal::Past;
     }
     Literal::Fits(value as i128)
 }
