@@ -1,3 +1,4 @@
 pub mod Orders
 pub mod Members
+pub mod Told
 pub mod Listed

@@ -4,4 +4,4 @@ use Rattle.linear_opt.proofs.Listed.{IsFoundAfter}
 use Rattle.linear_opt.proofs.least.least_true.Given as goal
 
 abbrev pub invariant-loop-id : goal.invariant-loop-id
-invariant-loop-id l = IsFoundAfter l.store l.root l.id-items l.z.number l.id-index (option_map frac_of l.least)
+invariant-loop-id l = IsFoundAfter l.formula.store.now l.formula.root l.formula.ids.now l.z.number l.id-index (option_map frac_of l.least)
