@@ -11,18 +11,18 @@ ghost use Rattle.redlog_reader.specs.View.{reading_of, arguments_of, frame_of, f
 
 use crate::ending::{added, ended, multiplied, put};
 use crate::operand::{Operand, formula_of, term_of};
-use crate::peek::next;
 use crate::pending::{Arguments, Arrow, Expects, Pending, Step, level, takes_last};
 use formula_meaning::{Junction, Quantifier};
 use qe_syntax::{
     Formula, Name, Relation, Term, congruence, equivalence, existential, incongruence, power,
     replication, universal,
 };
-use redlog_tokens::{Mark, ReadError, Terminal, Token, Word};
+use redlog_tokens::{Mark, ReadError, Terminal, Token, Word, terminal_of};
 use std::alloc::{AllocError, Global};
 
 /// What is read at the front of the tokens, and the tokens after it: as much as binds at most as loosely as the goal,
 /// where 0 is a prime formula, 2 a sum and 8 a formula.
+#[tactic(auto, unfolding(redlog_tokens::specs::Terminals::terminals))]
 pub fn read(alloc: Global, goal: usize, tokens: &[Token]) -> Result<(Operand, &[Token]), ReadError>
     ensures read { IfOk result (λ r. run goal (terminals tokens.now) [] Wants ≡ Some (reading_of r.0, terminals r.1.now)) }
     ensures refused { IfErr result (λ e. Refuses e (run goal (terminals tokens.now) [] Wants ≡ None)) }
@@ -30,7 +30,8 @@ pub fn read(alloc: Global, goal: usize, tokens: &[Token]) -> Result<(Operand, &[
     let mut pending = Vec::new(alloc);
     let mut expects = Expects::Operand;
     let mut left = tokens;
-    'terminals: while let Some((terminal, rest)) = next(left) {
+    'terminals: while let Some((first, rest)) = left.split_first() {
+        let terminal = terminal_of(&first.kind);
         match step(alloc, goal, &mut pending, expects, &terminal)? {
             Step::Stops(operand) => return Ok((operand, left)),
             Step::Moves(then) => expects = then,
@@ -350,14 +351,10 @@ fn join(
     ensures taken { IfOk result (λ s. joined goal terminal.now (frames pending.old.items) (reading_of operand) ≡ outcome_of s (frames pending.new.items)) }
     ensures refused { IfErr result (λ e. Refuses e (joined goal terminal.now (frames pending.old.items) (reading_of operand) ≡ Fails)) }
 {
-    match pending.pop() {
-        Some(top) => {
-            put_pending(pending, top)?;
-            operate(alloc, goal, pending, terminal, operand)
-        }
-        None if goal < strength(terminal) => Ok(Step::Stops(operand)),
-        None => operate(alloc, goal, pending, terminal, operand),
+    if pending.is_empty() && goal < strength(terminal) {
+        return Ok(Step::Stops(operand));
     }
+    operate(alloc, goal, pending, terminal, operand)
 }
 
 fn operate(

@@ -24,54 +24,70 @@ pub fn statement(alloc: Global, tokens: &[Token]) -> Result<Statement, ReadError
     ensures read { IfOk result (λ s. statement_read (terminals tokens.now) ≡ Some (statement_tree s)) }
     ensures refused { IfErr result (λ e. Refuses e (statement_read (terminals tokens.now) ≡ None)) }
 {
-    if let Some(printed) = ending(tokens) {
+    let Some((first, after_first)) = next(tokens) else {
+        return Err(ReadError::Syntax);
+    };
+    if let Some(printed) = ended(&first, after_first) {
         let action = Action::Empty;
         return Ok(Statement { action, printed });
     }
-    let (action, rest) = action(alloc, tokens)?;
-    let Some(printed) = ending(rest) else {
+    let (action, end) = action(alloc, first, after_first, tokens)?;
+    let Some(printed) = ending(end) else {
         return Err(ReadError::Syntax);
     };
     Ok(Statement { action, printed })
 }
 
 /// Whether the statement is printed, where the tokens are its end.
-#[tactic(auto, using(crate::proofs::Options::options))]
 fn ending(tokens: &[Token]) -> Option<bool>
     ensures { result ≡ ending (terminals tokens.now) }
 {
-    if let Some(rest) = after(tokens, Mark::Semicolon) {
-        return alone(true, rest);
-    }
-    let rest = after(tokens, Mark::Dollar)?;
-    alone(false, rest)
+    let Some((first, rest)) = next(tokens) else {
+        return None;
+    };
+    ended(&first, rest)
 }
 
+/// Whether the statement is printed, where the terminal and the tokens after it are its end.
+fn ended(first: &Terminal, rest: &[Token]) -> Option<bool>
+    ensures { result ≡ ending (first.now ∷ terminals rest.now) }
+{
+    match first {
+        Terminal::Mark(Mark::Semicolon) => alone(true, rest),
+        Terminal::Mark(Mark::Dollar) => alone(false, rest),
+        _ => None,
+    }
+}
+
+#[tactic(auto, unfolding(redlog_tokens::specs::Terminals::terminals))]
 fn alone(printed: bool, tokens: &[Token]) -> Option<bool>
     ensures { result ≡ alone printed (terminals tokens.now) }
 {
-    match next(tokens) {
-        None => Some(printed),
-        Some(_) => None,
+    match tokens {
+        [] => Some(printed),
+        _ => None,
     }
 }
 
-/// What a statement does.
+/// What a statement does, which begins with this terminal.
 #[tactic(auto, using(crate::proofs::Options::options))]
-fn action(alloc: Global, tokens: &[Token]) -> Result<(Action, &[Token]), ReadError>
+fn action<'a>(
+    alloc: Global,
+    first: Terminal,
+    rest: &'a [Token],
+    tokens: &'a [Token],
+) -> Result<(Action, &'a [Token]), ReadError>
+    requires { terminals tokens.now ≡ first ∷ terminals rest.now }
     ensures read { IfOk result (λ r. action_read (terminals tokens.now) ≡ Some (action_tree r.0, terminals r.1.now)) }
     ensures refused { IfErr result (λ e. Refuses e (action_read (terminals tokens.now) ≡ None)) }
 {
-    let Some((first, rest)) = next(tokens) else {
-        return Err(ReadError::Syntax);
-    };
     match first {
         Terminal::Word(word) => action_from(alloc, word, rest, tokens),
         Terminal::Name(name) => named_from(alloc, name, rest, tokens),
         _ => {
-            let (command, rest) = result_of(alloc, tokens)?;
+            let (command, end) = result_of(alloc, tokens)?;
             let action = say(alloc, command)?;
-            Ok((action, rest))
+            Ok((action, end))
         }
     }
 }
@@ -157,8 +173,8 @@ fn named_from<'a>(
         let command = Box::new(alloc, command)?;
         return Ok((Action::Assign(name, command), end));
     }
-    let (command, end) = result_of(alloc, tokens)?;
-    let action = say(alloc, command)?;
+    let (formula, end) = formula(alloc, FORMULA, tokens)?;
+    let action = say(alloc, Command::Echo(formula))?;
     Ok((action, end))
 }
 

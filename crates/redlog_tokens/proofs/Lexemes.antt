@@ -19,12 +19,11 @@ unfolding literal_of
 literal_past ds h = let f : nat_lt (value_after 0 ds) (2 ^ 127) ≡ false = search rules in rw f
 
 -- one more digit passes the limit
-pub past_digit : (ds : List ℕ) (i v d : ℕ) → value_after 0 ds ≡ value_after v (drop i ds) → i < length ds → d ≡ get_or ds i 0 - 48
-    → (170141183460469231731687303715884105727 - d) / 10 < v → Past ≡ literal_of ds
-past_digit ds i v d so_far inside is above =
+pub past_digit : (ds : List ℕ) (i v : ℕ) → value_after 0 ds ≡ value_after v (drop i ds) → i < length ds → 170141183460469231731687303715884105727 / 10 < v → Past ≡ literal_of ds
+past_digit ds i v so_far inside above =
     let next = ap (value_after v) (drop-cons ds i 0 inside) in
     let more = value_grows (v * 10 + (get_or ds i 0 - 48)) (drop (suc i) ds) in
-    literal_past ds (omega (arith, so_far, next, more, is, above))
+    literal_past ds (omega (arith, so_far, next, more, above))
 
 lexes_space : (rest : List ℕ) (at n : ℕ) {ts : List Lexeme} → IsFront rest (found.Space n) → Lexes (drop n rest) (at + n) ts → Lexes rest at ts
 lexes_space [] at n h l = absurd h

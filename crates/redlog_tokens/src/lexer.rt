@@ -1,7 +1,7 @@
-ghost use Rattle.std.specs.Prelude.{◌≡◌, ◌+◌, ◌<◌, ◌≤◌, List, [], ◌∷◌, length, map, IfSome, MatchOption};
+ghost use Rattle.std.specs.Prelude.{◌≡◌, ◌+◌, ◌<◌, ◌≤◌, List, [], ◌∷◌, length, IfSome, MatchOption};
 ghost use Rattle.std.specs.List.{prefix_len, list_all};
 ghost use Rattle.redlog_tokens.specs.declared.lexer.Lexeme.{Lexeme};
-ghost use Rattle.redlog_tokens.specs.Lexing.{is_blank, is_in_line, literal_of, worded, signed, front, IsFront, size, LexesFrom};
+ghost use Rattle.redlog_tokens.specs.Lexing.{is_blank, is_in_line, long_signs, short_signs, literal_of, worded, signed, front, IsFront, size, LexesFrom};
 ghost use Rattle.qe_syntax.specs.Names.{is_digit, is_letter, is_name_part, is_one_of, is_numbered, is_word};
 
 use crate::token::TokenKind;
@@ -10,14 +10,6 @@ use qe_syntax::{Literal, Name};
 
 /// The greatest number that a literal keeps.
 const LIMIT: u128 = (1 << 127) - 1;
-
-/// The signs of two bytes.
-const LONG_SIGNS: [&str; 5] = ["**", ":=", "<>", "<=", ">="];
-
-/// The signs of one byte.
-const SHORT_SIGNS: [&str; 15] = [
-    "+", "-", "*", "/", "^", "(", ")", "{", "}", ",", ";", "$", "=", "<", ">",
-];
 
 /// What stands at the front of a text, with the number of its bytes: a blank or a comment, or a token. A bad
 /// token has no kind.
@@ -124,11 +116,13 @@ fn literal(digits: &[u8]) -> Literal
 {
     let mut value: u128 = 0;
     'digits: for digit in digits {
-        let digit = digit.saturating_sub(b'0') as u128;
-        if value > (LIMIT - digit) / 10 {
+        if value > LIMIT / 10 {
             return Literal::Past;
         }
-        value = value * 10 + digit;
+        value = value * 10 + digit.saturating_sub(b'0') as u128;
+    }
+    if value > LIMIT {
+        return Literal::Past;
     }
     Literal::Fits(value as i128)
 }
@@ -178,16 +172,27 @@ fn are_digits(text: &[u8]) -> bool
     text.iter().all(|b| is_digit(*b))
 }
 
-/// Whether the text is one of the words.
-fn is_one_of(text: &[u8], words: &[&str]) -> bool
-    ensures { result ≡ is_one_of text.now (map (λ w. w.now) words.now) }
+/// Whether the text is a sign of two bytes.
+fn is_long_sign(text: &[u8]) -> bool
+    ensures { result ≡ is_one_of text.now long_signs }
 {
-    'words: for word in words {
-        if is(text, word) {
-            return true;
-        }
-    }
-    false
+    matches!(
+        text,
+        [b'*', b'*'] | [b':', b'='] | [b'<', b'>' | b'='] | [b'>', b'=']
+    )
+}
+
+/// Whether the text is a sign of one byte.
+fn is_short_sign(text: &[u8]) -> bool
+    ensures { result ≡ is_one_of text.now short_signs }
+{
+    matches!(
+        text,
+        [b'+' | b'-' | b'*' | b'/' | b'^']
+            | [b'(' | b')' | b'{' | b'}']
+            | [b',' | b';' | b'$']
+            | [b'=' | b'<' | b'>']
+    )
 }
 
 /// The sign at the front, the longer one first; any other byte is bad.
@@ -198,11 +203,11 @@ fn signed(bytes: &[u8]) -> Front
     ensures within { size result ≤ length bytes.now }
     ensures signed { result ≡ signed bytes.now }
 {
-    if bytes.len() >= 2 && is_one_of(&bytes[..2], &LONG_SIGNS) {
+    if bytes.len() >= 2 && is_long_sign(&bytes[..2]) {
         return Front::Token(Some(TokenKind::Sign(Name::of(&bytes[..2]))), 2);
     }
     let text = &bytes[..1];
-    if is_one_of(text, &SHORT_SIGNS) {
+    if is_short_sign(text) {
         Front::Token(Some(TokenKind::Sign(Name::of(text))), 1)
     } else {
         Front::Token(None, 1)

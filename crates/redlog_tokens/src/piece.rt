@@ -62,5 +62,5 @@ fn is_end(kind: &Option<TokenKind>) -> bool
 fn is_end_mark(text: &[u8]) -> bool
     ensures { result ≡ (bytes_eq text.now (codes ";") || bytes_eq text.now (codes "$")) }
 {
-    text == b";".as_slice() || text == b"$".as_slice()
+    matches!(text, [b';' | b'$'])
 }

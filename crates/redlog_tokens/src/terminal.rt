@@ -2,7 +2,7 @@ ghost use Rattle.std.specs.Prelude.{◌≡◌};
 ghost use Rattle.redlog_tokens.specs.Terminals.{terminal_of, word_of, sign_of};
 
 use crate::token::TokenKind;
-use crate::words::{is, known_word};
+use crate::words::known_word;
 use qe_syntax::{Literal, Name, Relation};
 
 /// A token as the grammar names it.
@@ -99,47 +99,26 @@ fn word_of(word: &[u8]) -> Word
 fn sign_of(sign: &[u8]) -> Terminal
     ensures { result ≡ sign_of sign.now }
 {
-    if is(sign, "+") {
-        Terminal::Mark(Mark::Plus)
-    } else if is(sign, "-") {
-        Terminal::Mark(Mark::Minus)
-    } else if is(sign, "*") {
-        Terminal::Mark(Mark::Times)
-    } else if is(sign, "/") {
-        Terminal::Mark(Mark::Slash)
-    } else if is(sign, "^") {
-        Terminal::Mark(Mark::Power)
-    } else if is(sign, "**") {
-        Terminal::Mark(Mark::Power)
-    } else if is(sign, "(") {
-        Terminal::Mark(Mark::Open)
-    } else if is(sign, ")") {
-        Terminal::Mark(Mark::Close)
-    } else if is(sign, "{") {
-        Terminal::Mark(Mark::OpenBrace)
-    } else if is(sign, "}") {
-        Terminal::Mark(Mark::CloseBrace)
-    } else if is(sign, ",") {
-        Terminal::Mark(Mark::Comma)
-    } else if is(sign, ";") {
-        Terminal::Mark(Mark::Semicolon)
-    } else if is(sign, "$") {
-        Terminal::Mark(Mark::Dollar)
-    } else if is(sign, ":=") {
-        Terminal::Mark(Mark::Assign)
-    } else if is(sign, "=") {
-        Terminal::Relation(Relation::Equal)
-    } else if is(sign, "<>") {
-        Terminal::Relation(Relation::Differs)
-    } else if is(sign, "<") {
-        Terminal::Relation(Relation::Less)
-    } else if is(sign, "<=") {
-        Terminal::Relation(Relation::AtMost)
-    } else if is(sign, ">") {
-        Terminal::Relation(Relation::Greater)
-    } else if is(sign, ">=") {
-        Terminal::Relation(Relation::AtLeast)
-    } else {
-        Terminal::Word(Word::Other)
+    match sign {
+        [b'+'] => Terminal::Mark(Mark::Plus),
+        [b'-'] => Terminal::Mark(Mark::Minus),
+        [b'*'] => Terminal::Mark(Mark::Times),
+        [b'/'] => Terminal::Mark(Mark::Slash),
+        [b'^'] | [b'*', b'*'] => Terminal::Mark(Mark::Power),
+        [b'('] => Terminal::Mark(Mark::Open),
+        [b')'] => Terminal::Mark(Mark::Close),
+        [b'{'] => Terminal::Mark(Mark::OpenBrace),
+        [b'}'] => Terminal::Mark(Mark::CloseBrace),
+        [b','] => Terminal::Mark(Mark::Comma),
+        [b';'] => Terminal::Mark(Mark::Semicolon),
+        [b'$'] => Terminal::Mark(Mark::Dollar),
+        [b':', b'='] => Terminal::Mark(Mark::Assign),
+        [b'='] => Terminal::Relation(Relation::Equal),
+        [b'<', b'>'] => Terminal::Relation(Relation::Differs),
+        [b'<'] => Terminal::Relation(Relation::Less),
+        [b'<', b'='] => Terminal::Relation(Relation::AtMost),
+        [b'>'] => Terminal::Relation(Relation::Greater),
+        [b'>', b'='] => Terminal::Relation(Relation::AtLeast),
+        _ => Terminal::Word(Word::Other),
     }
 }

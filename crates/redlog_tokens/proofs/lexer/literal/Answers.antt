@@ -1,5 +1,5 @@
 use Rattle.redlog_tokens.proofs.Lexemes.{past_digit}
 use Rattle.redlog_tokens.proofs.lexer.literal.Goals as goal
 
-pub returns-then-value-digit : goal.returns-then-value-digit
-returns-then-value-digit c = past_digit c.args.digits.now c.digits.digit-index c.digits.value c.saturating_sub-digit.result c.digits.invariant.0 c.digits-test.true c.saturating_sub-digit.ensures c.if-value-digit.true
+pub returns-then-value : goal.returns-then-value
+returns-then-value c = past_digit c.args.digits.now c.digits.digit-index c.digits.value c.digits.invariant c.digits-test.true c.if-value.true
