@@ -89,6 +89,14 @@ query_answered (Ok answer) d c s next limit printed e same h k =
     })
 query_answered (Err e) d c s next limit printed p same h k = tt
 
+-- the same of one that gives names back
+pub query_given_back : {E : Type 0} (r : Result Line E) (d c : CommandTree) (s next : State) (limit : ℕ) (printed : Bool) → c ≡ d → OnOk r ((meaning d).names (numbered (meaning d) s) next.names)
+    → IfOk r (IsQueryAnswer (numbered (meaning d) s) limit printed d next.names) → OnOk r (next ≡ with_names (numbered (meaning d) s) next.names) → IfOk r (λ answer. AnswersSaid (meaning c) (numbered (meaning c) s) limit printed answer next)
+query_given_back (Ok answer) d c s next limit printed e named h k =
+    subst (λ x. AnswersSaid (meaning x) (numbered (meaning x) s) limit printed answer next) (sym e)
+    (record { accepted = h.accepted; names = next.names; named = named; text = h.text; told = h.told; line = h.line; after = k })
+query_given_back (Err e) d c s next limit printed p named h k = tt
+
 -- a command that is refused, which is known to be this one
 pub refused_as : {T : Type 0} (r : Result T StatementError) (d c : CommandTree) (s : State) (limit : ℕ) (u : Use) → c ≡ d → IfErr r (Refuses (numbered (meaning d) s) limit u d)
     → IfErr r (Refuses (numbered (meaning c) s) limit u c)

@@ -1,56 +1,77 @@
 -- The names after an answer: which they are, and that the others stay.
-use Rattle.std.proofs.Common.{◌≡◌, ℕ, List, sym, ◌∙◌, subst}
-use Rattle.std.specs.List.{IsDistinct}
+use Rattle.std.proofs.Common.{◌≡◌, ℕ, List, [], ◌∷◌, ◌++◌, Bool, true, false, ◌||◌, refl, sym, ◌∙◌, subst}
+use Rattle.std.proofs.lemmas.List.{append_cancel_right}
+use Rattle.std.specs.List.{IsDistinct, list_any}
 use Rattle.formula_meaning.specs.Tree.{Tree}
-use Rattle.statement_syntax.specs.Statements.{CommandTree, Echo, Nnf, Pnf, Dnf, Cnf, Simpl, Qe, Qea, Holds, Sample, Grid, Certify, Check}
+use Rattle.statement_syntax.specs.Statements.{CommandTree, Echo, Nnf, Pnf, Dnf, Cnf, Simpl, Qe, Qea, Holds, Sample, Grid, Certify, Check, Least}
 use Rattle.qe_syntax.specs.Trees.{FormulaTree}
 use Rattle.qe_syntax.specs.Value.{same_name}
 use Rattle.formula_tree.specs.Resolving.{resolve}
-use Rattle.formula_resolving.specs.Numbering.{Grows}
 use Rattle.session_commands.specs.declared.formulas.FormCommand.{FormCommand}
 use Rattle.session_commands.specs.declared.formulas.FormCommand.TheVariants as wanted
 use Rattle.shared_forms.specs.declared.forms.ClauseForm.TheVariants as clause_form
 use Rattle.session_meaning.specs.State.{State}
 use Rattle.session_meaning.specs.FormulaAnswers.{HasNewNames}
+use Rattle.session_meaning.specs.Targets.{target_name}
 use Rattle.session_commands.specs.Steps.{form_of, command_of}
 use Rattle.session_meaning.specs.Meaning.{meaning}
 use Rattle.shared_forms.specs.Forms.{HasFormNames}
-use Rattle.session_state.proofs.NameLemmas.{grows_itself}
-use Rattle.shared_forms.proofs.NewNames.{adds_once, adds_grows, adds_distinct}
+use Rattle.shared_forms.proofs.NewNames.{adds_once, adds_distinct}
 use Rattle.session_state.proofs.VariableLemmas.{AllVariables}
 
 -- ---- the names after an answer
 
--- what holds where there are no new names, and where there are those of a prenex form, holds of each command
-answer_names : (s : State) (c : CommandTree) (P : (List (List ℕ) → Type 0) → Type 0) → P (λ names. names ≡ s.names) → ((f : Tree) → P (HasNewNames s.names f)) → P ((meaning c).names s)
-answer_names s (Echo f) P old new = old
-answer_names s (Nnf f) P old new = old
-answer_names s (Pnf f) P old new = new (resolve s.context s.bound s.names f)
-answer_names s (Dnf f) P old new = old
-answer_names s (Cnf f) P old new = old
-answer_names s (Simpl f given) P old new = old
-answer_names s (Qe f given) P old new = old
-answer_names s (Qea f given) P old new = old
-answer_names s (Holds f es) P old new = old
-answer_names s (Sample f es) P old new = old
-answer_names s (Grid f axes) P old new = old
-answer_names s (Certify written) P old new = old
-answer_names s (Check written ms) P old new = old
+-- what holds where there are no new names, where there are those of a prenex form, and where the name of a target is given back, holds of each command
+answer_names : (s : State) (c : CommandTree) (P : (List (List ℕ) → Type 0) → Type 0) → P (λ names. names ≡ s.names) → ((f : Tree) → P (HasNewNames s.names f))
+    → P (λ names. s.names ≡ names ++ target_name ∷ []) → P ((meaning c).names s)
+answer_names s (Echo f) P old new dropped = old
+answer_names s (Nnf f) P old new dropped = old
+answer_names s (Pnf f) P old new dropped = new (resolve s.context s.bound s.names f)
+answer_names s (Dnf f) P old new dropped = old
+answer_names s (Cnf f) P old new dropped = old
+answer_names s (Simpl f given) P old new dropped = old
+answer_names s (Qe f given) P old new dropped = old
+answer_names s (Qea f given) P old new dropped = old
+answer_names s (Holds f es) P old new dropped = old
+answer_names s (Sample f es) P old new dropped = old
+answer_names s (Grid f axes) P old new dropped = old
+answer_names s (Certify written) P old new dropped = old
+answer_names s (Check written ms) P old new dropped = old
+answer_names s (Least written target) P old new dropped = dropped
+
+module _ (xs ys : List (List ℕ)) where
+  front_any : (x : List ℕ) → list_any (same_name x) (xs ++ ys) ≡ false → list_any (same_name x) xs ≡ false
+  front_any x h = go xs h
+    where
+      go : (zs : List (List ℕ)) → list_any (same_name x) (zs ++ ys) ≡ false → list_any (same_name x) zs ≡ false
+      go [] k = refl
+      go (z ∷ zs) k = both_false (same_name x z) (list_any (same_name x) (zs ++ ys)) (list_any (same_name x) zs) k (go zs)
+
+      both_false : (a b c : Bool) → a || b ≡ false → (b ≡ false → c ≡ false) → a || c ≡ false
+      both_false true b c k f = k
+      both_false false b c k f = f k
+
+pub front_distinct : (xs ys : List (List ℕ)) → IsDistinct same_name (xs ++ ys) → IsDistinct same_name xs
+unfolding IsDistinct
+front_distinct [] ys h = tt
+front_distinct (x ∷ xs) ys h = (front_any xs ys x h.0, front_distinct xs ys h.1)
+
+pub front_variables : (xs ys : List (List ℕ)) → AllVariables (xs ++ ys) → AllVariables xs
+front_variables [] ys h = tt
+front_variables (x ∷ xs) ys h = (h.0, front_variables xs ys h.1)
 
 pub answer_names_once : (s : State) (c : CommandTree) (a b : List (List ℕ)) → (meaning c).names s a → (meaning c).names s b → a ≡ b
 answer_names_once s c =
-    answer_names s c (λ R. (a b : List (List ℕ)) → R a → R b → a ≡ b) (λ a b h k. h ∙ sym k) (λ f a b h k. adds_once _ s.names a b h.added k.added)
-
-pub answer_names_grow : (s : State) (c : CommandTree) (names : List (List ℕ)) → (meaning c).names s names → Grows s.names names
-answer_names_grow s c =
-    answer_names s c (λ R. (names : List (List ℕ)) → R names → Grows s.names names) (λ names h. subst (Grows s.names) (sym h) (grows_itself s.names)) (λ f names h. adds_grows _ s.names names h.added)
+    answer_names s c (λ R. (a b : List (List ℕ)) → R a → R b → a ≡ b) (λ a b h k. h ∙ sym k) (λ f a b h k. adds_once _ s.names a b h.added k.added) (λ a b h k. append_cancel_right a b (target_name ∷ []) (sym h ∙ k))
 
 pub answer_names_distinct : (s : State) (c : CommandTree) (names : List (List ℕ)) → IsDistinct same_name s.names → (meaning c).names s names → IsDistinct same_name names
 answer_names_distinct s c names d =
     answer_names s c (λ R. R names → IsDistinct same_name names) (λ h. subst (IsDistinct same_name) (sym h) d) (λ f h. adds_distinct _ s.names names d h.added)
+    (λ h. front_distinct names (target_name ∷ []) (subst (IsDistinct same_name) h d))
 
 pub answer_names_variables : (s : State) (c : CommandTree) (names : List (List ℕ)) → AllVariables s.names → (meaning c).names s names → AllVariables names
-answer_names_variables s c names v = answer_names s c (λ R. R names → AllVariables names) (λ h. subst AllVariables (sym h) v) (λ f h. h.variables v)
+answer_names_variables s c names v =
+    answer_names s c (λ R. R names → AllVariables names) (λ h. subst AllVariables (sym h) v) (λ f h. h.variables v) (λ h. front_variables names (target_name ∷ []) (subst AllVariables h v))
 
 -- the names after the wanted form was made
 pub form_names : (w : FormCommand) (f : FormulaTree) (s : State) (names : List (List ℕ)) → HasFormNames (form_of w) s.names (resolve s.context s.bound s.names f) names → (meaning (command_of w f)).names s names

@@ -1,9 +1,9 @@
 use Rattle.std.proofs.Common.{ap, ap₂, refl, sym, ◌∙◌, map, None}
-use Rattle.qe_syntax.specs.Trees.{formula_tree, formulas_of}
-use Rattle.statement_syntax.specs.Statements.{command_tree, Qea, Holds, Sample, Grid, Certify, Check}
+use Rattle.qe_syntax.specs.Trees.{term_tree, formula_tree, formulas_of}
+use Rattle.statement_syntax.specs.Statements.{command_tree, Qea, Holds, Sample, Grid, Certify, Check, Least}
 use Rattle.session_state.specs.Keeping.{state_of}
 use Rattle.command_tools.specs.Replies.{use_of}
-use Rattle.session_commands.proofs.AnswerLemmas.{formula_answered, query_answered, refused_as}
+use Rattle.session_commands.proofs.AnswerLemmas.{formula_answered, query_answered, query_given_back, refused_as}
 use Rattle.session_commands.proofs.session.say.Goals as goal
 
 pub returns-in-Echo-clause-answer : goal.returns-in-Echo-clause-answer
@@ -69,3 +69,13 @@ pub returns-in-Check-clause-refusal : goal.returns-in-Check-clause-refusal
 returns-in-Check-clause-refusal g c =
     refused_as c.answer_check.result (Check (formulas_of (map formula_tree c.items-in-Check.result.now)) c.items-in-Check-2.result.now) (command_tree c.args.command.now) (state_of c.args.state.now) c.args.workshop.now.limits.nodes (use_of None c.args.printed)
     (ap command_tree c.in-Check.is ∙ ap₂ Check c.items-in-Check.ensures (sym c.items-in-Check-2.ensures)) c.answer_check.ensures.refused
+
+pub returns-in-Least-clause-answer : goal.returns-in-Least-clause-answer
+returns-in-Least-clause-answer g c =
+    query_given_back c.answer_least.result (Least (formulas_of (map formula_tree c.items-in-Least.result.now)) (term_tree c.in-Least.target)) (command_tree c.args.command.now) (state_of c.args.state.now) (state_of c.answer_least.new.state) c.args.workshop.now.limits.nodes c.args.printed
+    (ap command_tree c.in-Least.is ∙ ap (λ fs. Least fs (term_tree c.in-Least.target)) c.items-in-Least.ensures) c.answer_least.ensures.given_back c.answer_least.ensures.answer c.answer_least.ensures.next
+
+pub returns-in-Least-clause-refusal : goal.returns-in-Least-clause-refusal
+returns-in-Least-clause-refusal g c =
+    refused_as c.answer_least.result (Least (formulas_of (map formula_tree c.items-in-Least.result.now)) (term_tree c.in-Least.target)) (command_tree c.args.command.now) (state_of c.args.state.now) c.args.workshop.now.limits.nodes (use_of None c.args.printed)
+    (ap command_tree c.in-Least.is ∙ ap (λ fs. Least fs (term_tree c.in-Least.target)) c.items-in-Least.ensures) c.answer_least.ensures.refused
