@@ -25,13 +25,13 @@ each_oriented nodes (id ∷ ids) = ap (λ (cs : List Constraint). tree_constrain
 pub read_all-requires-clause-proper : goal.read_all-requires-clause-proper
 read_all-requires-clause-proper c = proper_items c.args.written.now c.requires.proper
 
-pub returns-in_err-check_theory-in-Ok-clause-refused : goal.returns-in_err-check_theory-in-Ok-clause-refused
-returns-in_err-check_theory-in-Ok-clause-refused c =
+pub returns-in_err-check_fields-in-Ok-clause-refused : goal.returns-in_err-check_fields-in-Ok-clause-refused
+returns-in_err-check_fields-in-Ok-clause-refused c =
     let s = state_of c.args.state.now in
     let written = formulas_of (map formula_tree c.args.written.now) in
-    let k = c.in_err-check_theory-in-Ok.ensures.integers in
+    let k = c.in_err-check_fields-in-Ok.ensures.integers in
     let theory : s.context ≡ Integers = sym (ap context_of c.read_all.ensures.kept.context) ∙ k.1 in
-    let e : c.from_residual.result ≡ Err c.in_err-check_theory-in-Ok.field-0.0 = search rules in
+    let e : c.from_residual.result ≡ Err c.in_err-check_fields-in-Ok.field-0.0 = search rules in
     subst (λ r. IfErr r (NoConstraints s written)) (sym (e ∙ ap Err k.0)) (other_theory s written c.requires.numbered c.requires.constraints theory c.in-Ok.ensures.read.readable)
 
 pub returns-in_err-check_overflow-in-Err-clause-refused : goal.returns-in_err-check_overflow-in-Err-clause-refused
@@ -44,8 +44,8 @@ returns-in_err-check_overflow-in-Err-clause-refused c =
     let e : c.from_residual-in_err-check_overflow-in-Err.result ≡ Err c.in_err-check_overflow-in-Err.field-0.0 = search rules in
     subst (λ r. IfErr r (NoConstraints s written)) (sym (e ∙ ap Err k.0)) (overflow_in_integers s written c.requires.numbered c.requires.constraints theory overflows)
 
-pub returns-in_ok-check_theory-in-Ok-clause-constraints : goal.returns-in_ok-check_theory-in-Ok-clause-constraints
-returns-in_ok-check_theory-in-Ok-clause-constraints c =
+pub returns-in_ok-check_fields-in-Ok-clause-constraints : goal.returns-in_ok-check_fields-in-Ok-clause-constraints
+returns-in_ok-check_fields-in-Ok-clause-constraints c =
     let s = state_of c.args.state.now in
     let written = formulas_of (map formula_tree c.args.written.now) in
     let nodes = c.read_all.new.state.store in
