@@ -39,22 +39,18 @@ answer_names s (Certify written) P old new dropped = old
 answer_names s (Check written ms) P old new dropped = old
 answer_names s (Least written target) P old new dropped = dropped
 
-module _ (xs ys : List (List ℕ)) where
-  front_any : (x : List ℕ) → list_any (same_name x) (xs ++ ys) ≡ false → list_any (same_name x) xs ≡ false
-  front_any x h = go xs h
-    where
-      go : (zs : List (List ℕ)) → list_any (same_name x) (zs ++ ys) ≡ false → list_any (same_name x) zs ≡ false
-      go [] k = refl
-      go (z ∷ zs) k = both_false (same_name x z) (list_any (same_name x) (zs ++ ys)) (list_any (same_name x) zs) k (go zs)
+either_false : (a b c : Bool) → a || b ≡ false → (b ≡ false → c ≡ false) → a || c ≡ false
+either_false true b c k f = k
+either_false false b c k f = f k
 
-      both_false : (a b c : Bool) → a || b ≡ false → (b ≡ false → c ≡ false) → a || c ≡ false
-      both_false true b c k f = k
-      both_false false b c k f = f k
+front_any : (x : List ℕ) (xs ys : List (List ℕ)) → list_any (same_name x) (xs ++ ys) ≡ false → list_any (same_name x) xs ≡ false
+front_any x [] ys h = refl
+front_any x (z ∷ zs) ys h = either_false (same_name x z) (list_any (same_name x) (zs ++ ys)) (list_any (same_name x) zs) h (front_any x zs ys)
 
 pub front_distinct : (xs ys : List (List ℕ)) → IsDistinct same_name (xs ++ ys) → IsDistinct same_name xs
 unfolding IsDistinct
 front_distinct [] ys h = tt
-front_distinct (x ∷ xs) ys h = (front_any xs ys x h.0, front_distinct xs ys h.1)
+front_distinct (x ∷ xs) ys h = (front_any x xs ys h.0, front_distinct xs ys h.1)
 
 pub front_variables : (xs ys : List (List ℕ)) → AllVariables (xs ++ ys) → AllVariables xs
 front_variables [] ys h = tt
