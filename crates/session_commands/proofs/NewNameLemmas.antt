@@ -1,10 +1,11 @@
 -- The names after an answer: which they are, and that the others stay.
-use Rattle.std.proofs.Common.{◌≡◌, ℕ, List, [], ◌∷◌, ◌++◌, Bool, true, false, ◌||◌, refl, sym, ◌∙◌, subst}
+use Rattle.std.proofs.Common.{◌≡◌, ℕ, List, [], ◌∷◌, ◌++◌, sym, ◌∙◌, subst}
 use Rattle.std.proofs.lemmas.List.{append_cancel_right}
-use Rattle.std.specs.List.{IsDistinct, list_any}
+use Rattle.std.specs.List.{IsDistinct, AllByRecursion}
 use Rattle.formula_meaning.specs.Tree.{Tree}
 use Rattle.statement_syntax.specs.Statements.{CommandTree, Echo, Nnf, Pnf, Dnf, Cnf, Simpl, Qe, Qea, Holds, Sample, Grid, Certify, Check, Least}
 use Rattle.qe_syntax.specs.Trees.{FormulaTree}
+use Rattle.qe_syntax.specs.Names.{IsVariable}
 use Rattle.qe_syntax.specs.Value.{same_name}
 use Rattle.formula_tree.specs.Resolving.{resolve}
 use Rattle.session_commands.specs.declared.formulas.FormCommand.{FormCommand}
@@ -39,22 +40,14 @@ answer_names s (Certify written) P old new dropped = old
 answer_names s (Check written ms) P old new dropped = old
 answer_names s (Least written target) P old new dropped = dropped
 
-either_false : (a b c : Bool) → a || b ≡ false → (b ≡ false → c ≡ false) → a || c ≡ false
-either_false true b c k f = k
-either_false false b c k f = f k
+front_all : {X : Type 0} (P : X → Type 0) (xs ys : List X) → AllByRecursion P (xs ++ ys) → AllByRecursion P xs
+front_all P [] ys h = tt
+front_all P (x ∷ xs) ys h = (h.0, front_all P xs ys h.1)
 
-front_any : (x : List ℕ) (xs ys : List (List ℕ)) → list_any (same_name x) (xs ++ ys) ≡ false → list_any (same_name x) xs ≡ false
-front_any x [] ys h = refl
-front_any x (z ∷ zs) ys h = either_false (same_name x z) (list_any (same_name x) (zs ++ ys)) (list_any (same_name x) zs) h (front_any x zs ys)
-
-pub front_distinct : (xs ys : List (List ℕ)) → IsDistinct same_name (xs ++ ys) → IsDistinct same_name xs
+front_distinct : (xs ys : List (List ℕ)) → IsDistinct same_name (xs ++ ys) → IsDistinct same_name xs
 unfolding IsDistinct
 front_distinct [] ys h = tt
-front_distinct (x ∷ xs) ys h = (front_any x xs ys h.0, front_distinct xs ys h.1)
-
-pub front_variables : (xs ys : List (List ℕ)) → AllVariables (xs ++ ys) → AllVariables xs
-front_variables [] ys h = tt
-front_variables (x ∷ xs) ys h = (h.0, front_variables xs ys h.1)
+front_distinct (x ∷ xs) ys h = (front_all _ xs ys h.0, front_distinct xs ys h.1)
 
 pub answer_names_once : (s : State) (c : CommandTree) (a b : List (List ℕ)) → (meaning c).names s a → (meaning c).names s b → a ≡ b
 answer_names_once s c =
@@ -67,7 +60,7 @@ answer_names_distinct s c names d =
 
 pub answer_names_variables : (s : State) (c : CommandTree) (names : List (List ℕ)) → AllVariables s.names → (meaning c).names s names → AllVariables names
 answer_names_variables s c names v =
-    answer_names s c (λ R. R names → AllVariables names) (λ h. subst AllVariables (sym h) v) (λ f h. h.variables v) (λ h. front_variables names (target_name ∷ []) (subst AllVariables h v))
+    answer_names s c (λ R. R names → AllVariables names) (λ h. subst AllVariables (sym h) v) (λ f h. h.variables v) (λ h. front_all IsVariable names (target_name ∷ []) (subst AllVariables h v))
 
 -- the names after the wanted form was made
 pub form_names : (w : FormCommand) (f : FormulaTree) (s : State) (names : List (List ℕ)) → HasFormNames (form_of w) s.names (resolve s.context s.bound s.names f) names → (meaning (command_of w f)).names s names
