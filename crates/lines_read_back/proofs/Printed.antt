@@ -44,7 +44,7 @@ use Rattle.shared_forms.proofs.PrenexLemmas.{prenex_formula}
 use Rattle.session_state.proofs.SoundLemmas.{AreSessionFormulas, resolved_formula, negated_formula}
 use Rattle.lines_read_back.specs.ReadBack.{IsBare, IsEcho, IsPrinted, PrintedIsFormula, IsAnsweredBy, EchoIsAnswered}
 use Rattle.lines_read_back.proofs.Answered.{text_is_answered}
-use Rattle.lines_read_back.proofs.Bare.{proper_formulas, named_variables, answer_variables, spelled_proper}
+use Rattle.lines_read_back.proofs.Bare.{proper_formulas, said_variables, spelled_proper}
 
 -- ---- what is given
 
@@ -199,17 +199,17 @@ printed_is_formula s limit piece c bytes next bare built spelled r =
     let numbers : AreNumbered z.names m.formulas = numbered_in m.formulas z.names (λ x i. after_has (all_variables m.formulas ++ m.further) s.names x (inr (in_either x (all_variables m.formulas) m.further (inl i)))) in
     let after : m.names z next.names = subst (m.names z) (sym names) a.named in
     let bare_next : IsBare next = record {
-      names = answer_variables z c next.names (named_variables s c proper bare.names) after;
+      names = said_variables s c next.names proper bare.names after;
       unbound = ap (λ (y : State). y.bound) a.after ∙ bare.unbound;
     } in
     let same : next.context ≡ z.context = ap (λ (y : State). y.context) a.after in
-    let own = given_formula z next limit use_of_line same told.0 c built numbers (proper_formulas c proper) bare.unbound a.accepted told.1.0 after in
+    let own = given_formula z next limit use_of_line same told.0 c built numbers (proper_formulas c built proper) bare.unbound a.accepted told.1.0 after in
     let here : IsPrinted z limit c bytes.items next = record {
       tree = told.0;
       given = told.1;
       text_is = text_is;
       formula = own;
-      low = given_low z next limit use_of_line same told.0 c numbers (proper_formulas c proper) bare.unbound a.accepted told.1.0;
+      low = given_low z next limit use_of_line same told.0 c numbers (proper_formulas c built proper) bare.unbound a.accepted told.1.0;
       answered = read_again next told.0 bytes.items bare_next own told.1.1 text_is;
     } in
     (bare_next, here)
