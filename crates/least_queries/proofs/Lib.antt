@@ -1,2 +1,4 @@
 pub mod Attained
 pub mod Problems
+pub mod Conditions
+pub mod FoundSteps
