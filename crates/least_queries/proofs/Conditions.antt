@@ -5,15 +5,13 @@ use Rattle.formula_meaning.specs.Context.{Context, Fields}
 use Rattle.formula_meaning.specs.Every.{Every, EveryOf}
 use Rattle.formula_meaning.specs.Formula.{Yes, No, One, Not, And, Or, Impl, Repl, Equiv, Ex, All}
 use Rattle.formula_meaning.specs.Point.{Point, Of}
-use Rattle.formula_meaning.specs.Shape.{IsPlain, ArePlain}
+use Rattle.formula_meaning.specs.Shape.{IsPlain, ArePlain, IsQuantifierFree}
 use Rattle.formula_meaning.specs.Some.{EachOf}
 use Rattle.formula_meaning.specs.Tree.{Tree, TrueAt, Equivalent, InContext}
 use Rattle.formula_meaning.proofs.Iff.{both_ways, turn_round}
 use Rattle.atom_normal.specs.declared.atoms.Context as atoms
 use Rattle.atom_normal.specs.Atoms.{context_of}
 use Rattle.atom_normal.specs.NormalForm.{IsNormal}
-use Rattle.simplified_formulas.specs.Atoms.{without}
-use Rattle.simplified_formulas.specs.AtomKit.{contains}
 use Rattle.elimination_reference.specs.Cases.{Case, case_sign, case_formula, case_names}
 use Rattle.elimination_reference.specs.Reference.{normal_tree, turned}
 use Rattle.elimination_reference.specs.Theorems.{IsTidy, guards_of}
@@ -22,7 +20,6 @@ use Rattle.elimination_reference.proofs.Turning.{normal_inside, normal_truths}
 use Rattle.case_theory.specs.CaseTree.{without_all, SaysUnder, IsCaseTree}
 use Rattle.case_trees.specs.declared.case_tree.CaseTree.{CaseTree}
 use Rattle.case_trees.specs.CaseTrees.{cases_seen, guards_together, IsCaseTreeOf}
-use Rattle.case_trees.proofs.Together.{guards_say}
 use Rattle.formula_tree.specs.declared.shape.Shape.{Shape}
 use Rattle.formula_tree.specs.Makers.{IsMade}
 use Rattle.formula_store.specs.declared.id.FormulaId.{FormulaId}
@@ -31,6 +28,7 @@ use Rattle.least_theory.specs.Target.{exs}
 use Rattle.least_theory.specs.Answer.{least_of, IsAnswer}
 use Rattle.least_theory.proofs.Targets.{target_found}
 use Rattle.session_state.specs.declared.state.SessionState.{SessionState}
+use Rattle.shared_forms.proofs.CasesFor.{fewer_true}
 use Rattle.shared_forms.proofs.ConditionsFor.{guards_tidy}
 use Rattle.shared_forms.proofs.EliminatedLemmas.{plain_free}
 use Rattle.least_queries.specs.Found.{IsWeakProblem, IsConditionOf}
@@ -63,10 +61,6 @@ asked_true f h normal p o t = subst (λ b. TrueAt Fields (turned b (normal_tree 
 
 -- ---- the guards together
 
-without_none : (xs : List ℕ) → without_all xs [] ≡ []
-without_none [] = refl
-without_none (x ∷ xs) = ap (without contains x) (without_none xs)
-
 each_plain : (cases : List Case) → EachOf (λ (k : Case). IsTidy Fields k.guard) cases → ArePlain (guards_of cases)
 each_plain [] h = tt
 each_plain (k ∷ cases) h = (h.0.is_plain, each_plain cases h.1)
@@ -85,6 +79,11 @@ together_inside [] h = tt
 together_inside (k ∷ []) h = tidy_in Fields k.guard h.0
 together_inside (k ∷ (d ∷ cases)) h = each_inside (k ∷ d ∷ cases) h
 
+together_true : (cases : List Case) → Equivalent Fields (Or (guards_of cases)) (guards_together cases)
+together_true [] p o = (λ t. t, λ t. t)
+together_true (k ∷ []) p o = (⊎_elim (λ t. t) absurd, λ t. inl t)
+together_true (k ∷ (d ∷ cases)) p o = (λ t. t, λ t. t)
+
 module _ (f : Tree) (weak : IsWeakProblem f) (matrix : Tree) (cases : List Case) (h : IsCaseTree Fields [] f matrix cases) where
   all_tidy : EachOf (λ (k : Case). IsTidy Fields k.guard) cases
   all_tidy = guards_tidy Fields (without_all (case_names f) []) f matrix (case_names f) cases h.each
@@ -93,8 +92,7 @@ module _ (f : Tree) (weak : IsWeakProblem f) (matrix : Tree) (cases : List Case)
   together_says p o =
       let said : SaysUnder Fields (without_all (case_names f) []) true f (Or (guards_of cases)) =
       subst (λ b. SaysUnder Fields (without_all (case_names f) []) b f (Or (guards_of cases))) (weak_sign f weak) h.together in
-      let nothing : EachOf (λ k. Says k p) (without_all (case_names f) []) = subst (EachOf (λ k. Says k p)) (sym (without_none (case_names f))) tt in
-      both_ways (said p o nothing) ((guards_say Fields cases).equivalent p o)
+      both_ways (said p o (fewer_true Fields [] f p tt)) (together_true cases p o)
 
   made_condition : (after : SessionState) (id : FormulaId) → IsMade (IsId after.store) (tree after.store) id (guards_together cases) → IsConditionOf f after id
   made_condition after id made = record {

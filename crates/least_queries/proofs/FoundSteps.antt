@@ -1,5 +1,5 @@
 -- From step to step of what is found of a target.
-use Rattle.std.proofs.Common.{◌≡◌, inl, inr, ℕ, [], Bool, true, false, Option, Some, None, sym, ap, ◌∙◌, subst, refl, nat_eq, unsigned_abs, if◌then◌else◌, arith}
+use Rattle.std.proofs.Common.{◌≡◌, inl, inr, ℕ, ◌*◌, [], Bool, true, false, Option, Some, None, sym, ap, ◌∙◌, subst, refl, nat_eq, unsigned_abs, if◌then◌else◌, arith}
 use Rattle.std.proofs.Math.IntN.{ℤ, pos, ◌*ℤ◌}
 use Rattle.std.specs.declared.vec.Vec.{Vec}
 use Rattle.std.specs.declared.alloc.Global.{Global}
