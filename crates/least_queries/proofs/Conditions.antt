@@ -48,7 +48,7 @@ plain_sign (Equiv f g) h = absurd h
 plain_sign (Ex x f) h = absurd h
 plain_sign (All x f) h = absurd h
 
-exs_sign : (xs : List ℕ) (f : Tree) → IsPlain f → case_sign (normal_tree (exs xs f)) ≡ true
+pub exs_sign : (xs : List ℕ) (f : Tree) → IsPlain f → case_sign (normal_tree (exs xs f)) ≡ true
 exs_sign [] f h = plain_sign f h
 exs_sign (x ∷ xs) f h = refl
 

@@ -17,7 +17,7 @@ use Rattle.formula_meaning.specs.Tree.{Tree, InContext}
 use Rattle.atom_normal.specs.NormalForm.{constant_tree, holds, facing, compared_in_fields, normal_atom}
 use Rattle.qe_syntax.specs.declared.tree.Relation as syntax
 use Rattle.qe_syntax.specs.declared.tree.Relation.TheVariants as relation
-use Rattle.qe_syntax.specs.Trees as written
+use Rattle.qe_syntax.specs.Trees as trees
 use Rattle.qe_syntax.specs.Trees.{TermTree, WrittenAtom, FormulaTree, FormulaTrees, Cong, Ncong, Bound}
 use Rattle.qe_syntax.specs.Value.{relation_of}
 use Rattle.statement_syntax.specs.Constraints.{is_weak, is_weak_constraint, AreWeakConstraints}
@@ -33,9 +33,9 @@ use Rattle.least_queries.specs.Found.{IsWeakProblem}
 -- ---- constraints
 
 -- only and, or, atoms and constants stand in the tree, and its atoms are weak
-record IsWeakTree (t : Tree) : Type 0 where
-  is_plain : IsPlain t
-  weak : Every IsWeak t
+pub record IsWeakTree (t : Tree) : Type 0 where
+  pub is_plain : IsPlain t
+  pub weak : Every IsWeak t
 
 settled : (b : Bool) → IsWeakTree (constant_tree b)
 settled true = record { is_plain = tt; weak = tt }
@@ -75,11 +75,11 @@ pub record IsWeakComparison (f : FormulaTree) : Type 0 where
   pub relation : syntax.Relation
   pub left : TermTree
   pub right : TermTree
-  pub is : f ≡ One (written.Compare relation left right)
+  pub is : f ≡ One (trees.Compare relation left right)
   pub weak : is_weak relation ≡ true
 
 pub weak_comparison : (f : FormulaTree) → is_weak_constraint f ≡ true → IsWeakComparison f
-weak_comparison (One (written.Compare r s t)) h = record { relation = r; left = s; right = t; is = refl; weak = h }
+weak_comparison (One (trees.Compare r s t)) h = record { relation = r; left = s; right = t; is = refl; weak = h }
 weak_comparison (One (Cong s t m)) h = absurd (false≢true h)
 weak_comparison (One (Ncong s t m)) h = absurd (false≢true h)
 weak_comparison (One (Bound x)) h = absurd (false≢true h)
@@ -124,7 +124,7 @@ module _ (s : State) (fields : s.context ≡ Fields) where
 
   pub weak_problem : (written : FormulaTrees) (target : TermTree) → AreWeakConstraints written → IsWeakProblem (resolved_problem s written target)
   weak_problem written target weak =
-      let equation : FormulaTree = One (written.Compare relation.Equal (written.Named target_name) target) in
+      let equation : FormulaTree = One (trees.Compare relation.Equal (trees.Named target_name) target) in
       let tree = together_weak equation written refl weak in
       record {
         names = map (place s.names) (problem_names written target);
@@ -132,5 +132,5 @@ module _ (s : State) (fields : s.context ≡ Fields) where
         same = names_resolved by (place s.names) (problem_names written target) (together equation written);
         is_plain = tree.is_plain;
         weak = tree.weak;
-        in_fields = weak_in_fields _ tree.weak;
+        in_fields = weak_in_fields (replaced by (place s.names) (together equation written)) tree.weak;
       }
