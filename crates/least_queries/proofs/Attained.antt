@@ -1,5 +1,5 @@
 -- From what is found of a resolved problem to what is said of the target as it is written.
-use Rattle.std.proofs.Common.{◌≡◌, ◌<◌, ◌↔◌, ◌⊎◌, inl, inr, ⊎_elim, ℕ, List, [], ◌∷◌, ◌++◌, map, Bool, true, false, Some, sym, ap, ◌∙◌, subst, refl, arith, unsigned_abs}
+use Rattle.std.proofs.Common.{◌≡◌, ◌<◌, ◌↔◌, ◌⊎◌, inl, inr, ⊎_elim, ℕ, List, [], ◌∷◌, ◌++◌, map, Bool, true, false, Some, sym, ap, ◌∙◌, subst, refl, arith, nat_eq, unsigned_abs}
 use Rattle.std.proofs.Math.IntN.{ℤ, pos, ◌*ℤ◌}
 use Rattle.std.proofs.lemmas.Bool.{false≢true}
 use Rattle.std.proofs.lemmas.Int.{ints}
@@ -16,7 +16,7 @@ use Rattle.formula_meaning.specs.Distinct.{StandsOnce}
 use Rattle.formula_meaning.specs.Every.{Every, EveryOf}
 use Rattle.formula_meaning.specs.Form as form
 use Rattle.formula_meaning.specs.Formula.{One, And, none, also}
-use Rattle.formula_meaning.specs.Point.{Point, Of, AgreeOn, finer}
+use Rattle.formula_meaning.specs.Point.{Point, Of, AgreeOn, move, finer}
 use Rattle.formula_meaning.specs.Replaced.{replaced, all_replaced}
 use Rattle.formula_meaning.specs.Shape.{IsPlain as IsPlainTree}
 use Rattle.formula_meaning.specs.Some.{SomeOf, Among, EachOf}
@@ -175,7 +175,7 @@ module _ (c : Context) (by : WrittenAtom → Tree) (number : List ℕ → ℕ) (
   true_member f none h = (h, tt)
   true_member f (also g gs) h = (h.0, (h.1.0, rest gs h.1.1))
     where
-      rest : (fs : FormulaTrees) → AllTrue _ _ c (all_replaced by number fs) q → AllTrueHere fs
+      rest : (fs : FormulaTrees) → AllTrue meaning.Says (move nat_eq) c (all_replaced by number fs) q → AllTrueHere fs
       rest none h = tt
       rest (also f fs) h = (h.0, rest fs h.1)
 
