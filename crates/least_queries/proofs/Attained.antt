@@ -1,10 +1,10 @@
 -- From what is found of a resolved problem to what is said of the target as it is written.
-use Rattle.std.proofs.Common.{◌≡◌, ◌<◌, ◌↔◌, ◌⊎◌, inl, inr, ⊎_elim, ℕ, List, [], ◌∷◌, ◌++◌, map, Bool, true, false, Some, sym, ap, ◌∙◌, subst, refl, arith, nat_eq, unsigned_abs}
+use Rattle.std.proofs.Common.{◌≡◌, ◌<◌, ◌↔◌, ◌⊎◌, inl, inr, ℕ, List, [], ◌∷◌, ◌++◌, map, false, Some, sym, ap, ◌∙◌, subst, refl, arith, nat_eq, unsigned_abs}
 use Rattle.std.proofs.Math.IntN.{ℤ, pos, ◌*ℤ◌}
 use Rattle.std.proofs.lemmas.Bool.{false≢true}
 use Rattle.std.proofs.lemmas.Int.{ints}
-use Rattle.std.specs.Prelude.{slice_get, Ok, ◌<ℤ◌}
-use Rattle.std.specs.List.{AllByRecursion, IsDistinct, fold}
+use Rattle.std.specs.Prelude.{slice_get, ◌<ℤ◌}
+use Rattle.std.specs.List.{AllByRecursion, IsDistinct}
 use Rattle.exact_numbers.specs.Frac.{Frac, IsProper, SameValue}
 use Rattle.exact_numbers.proofs.FractionRule.{same_value_trans}
 use Rattle.exact_numbers.proofs.Order.{mul_positive}
@@ -15,17 +15,16 @@ use Rattle.formula_meaning.specs.Context.{Context, Fields, Allowed}
 use Rattle.formula_meaning.specs.Distinct.{StandsOnce}
 use Rattle.formula_meaning.specs.Every.{Every, EveryOf}
 use Rattle.formula_meaning.specs.Form as form
-use Rattle.formula_meaning.specs.Formula.{One, And, none, also}
+use Rattle.formula_meaning.specs.Formula.{One, none, also}
 use Rattle.formula_meaning.specs.Point.{Point, Of, AgreeOn, move, finer}
 use Rattle.formula_meaning.specs.Replaced.{replaced, all_replaced}
 use Rattle.formula_meaning.specs.Shape.{IsPlain as IsPlainTree}
 use Rattle.formula_meaning.specs.Some.{SomeOf, Among, EachOf}
-use Rattle.formula_meaning.specs.Tree.{Tree, Trees, TrueAt}
+use Rattle.formula_meaning.specs.Tree.{Tree, TrueAt}
 use Rattle.formula_meaning.specs.Truth.{AllTrue}
 use Rattle.formula_meaning.proofs.SamePoint.{allowed_mul}
 use Rattle.formula_meaning.proofs.TreeFiner.{tree_finer}
 use Rattle.formula_meaning.proofs.Values.{value_finer, pos_mul}
-use Rattle.atom_normal.specs.NormalForm.{normal_atom}
 use Rattle.atom_normal.proofs.NormalLaws.{normal_truth}
 use Rattle.atom_normal.proofs.Relations.{chain}
 use Rattle.elimination_reference.specs.Cases.{case_matrix, case_names}
@@ -41,12 +40,10 @@ use Rattle.qe_syntax.proofs.ValueLaw.{value_proper}
 use Rattle.statement_syntax.specs.Constraints.{AreWeakConstraints}
 use Rattle.redlog_reader.specs.Grammar.{quantified_names}
 use Rattle.formula_tree.specs.FractionRule.{◌>>=◌}
-use Rattle.formula_tree.specs.Names.{with_name}
 use Rattle.formula_tree.specs.RationalForms.{RationalForm, formed, formed_difference, sum_of_forms, opposite_form}
 use Rattle.formula_tree.specs.ResolvedLaws.{Numbered, value_at}
-use Rattle.formula_tree.specs.Resolving.{BoundTrees, place, names_after, variables_of, formula_variables, all_variables, compared, resolved_atom, bound_truth}
+use Rattle.formula_tree.specs.Resolving.{BoundTrees, place, variables_of, formula_variables, all_variables, compared, resolved_atom, bound_truth}
 use Rattle.formula_tree.proofs.AtomTruth.{difference_stands, comparison_truth}
-use Rattle.formula_tree.proofs.FormSteps.{Stands}
 use Rattle.formula_tree.proofs.FormValues.{below_positive, form_stands}
 use Rattle.formula_tree.proofs.Nowhere.{mentioned_have}
 use Rattle.formula_tree.proofs.PlaceLaws.{same_itself, slice_place, after_distinct}

@@ -1,14 +1,14 @@
 -- What the cases of a weak problem say together, and what is found of its target by it.
-use Rattle.std.proofs.Common.{◌≡◌, ⊎_elim, inl, inr, ℕ, List, [], ◌∷◌, Bool, true, Option, Some, None, sym, ap, ◌∙◌, subst, refl, nat_eq, unsigned_abs}
-use Rattle.formula_meaning.specs.Atom.{Atom, Says, AtomIn}
-use Rattle.formula_meaning.specs.Context.{Context, Fields}
+use Rattle.std.proofs.Common.{◌≡◌, ⊎_elim, inl, ℕ, List, [], ◌∷◌, true, sym, ap, ◌∙◌, subst, refl}
+use Rattle.formula_meaning.specs.Atom.{AtomIn}
+use Rattle.formula_meaning.specs.Context.{Fields}
 use Rattle.formula_meaning.specs.Every.{Every, EveryOf}
 use Rattle.formula_meaning.specs.Formula.{Yes, No, One, Not, And, Or, Impl, Repl, Equiv, Ex, All}
 use Rattle.formula_meaning.specs.Point.{Point, Of}
 use Rattle.formula_meaning.specs.Shape.{IsPlain, ArePlain, IsQuantifierFree}
 use Rattle.formula_meaning.specs.Some.{EachOf}
 use Rattle.formula_meaning.specs.Tree.{Tree, TrueAt, Equivalent, InContext}
-use Rattle.formula_meaning.proofs.Iff.{both_ways, turn_round}
+use Rattle.formula_meaning.proofs.Iff.{both_ways}
 use Rattle.atom_normal.specs.declared.atoms.Context as atoms
 use Rattle.atom_normal.specs.Atoms.{context_of}
 use Rattle.atom_normal.specs.NormalForm.{IsNormal}

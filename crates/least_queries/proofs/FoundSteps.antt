@@ -1,10 +1,9 @@
 -- From step to step of what is found of a target.
-use Rattle.std.proofs.Common.{◌≡◌, inl, inr, ℕ, ◌*◌, [], Bool, true, false, Option, Some, None, sym, ap, ◌∙◌, subst, refl, nat_eq, unsigned_abs, if◌then◌else◌, arith}
-use Rattle.std.proofs.Math.IntN.{ℤ, pos, ◌*ℤ◌}
+use Rattle.std.proofs.Common.{◌≡◌, inr, ℕ, ◌*◌, [], Bool, true, false, Option, Some, None, sym, ap, ◌∙◌, subst, refl, nat_eq, unsigned_abs, if◌then◌else◌, arith}
+use Rattle.std.proofs.Math.IntN.{pos, ◌*ℤ◌}
 use Rattle.std.specs.declared.vec.Vec.{Vec}
 use Rattle.std.specs.declared.alloc.Global.{Global}
 use Rattle.exact_numbers.specs.Frac.{Frac}
-use Rattle.exact_numbers.specs.Fraction.{frac_of}
 use Rattle.exact_numbers.specs.declared.fraction.Fraction.{Fraction}
 use Rattle.exact_numbers.proofs.Ring.{mul_zero}
 use Rattle.formula_meaning.specs.Context.{Fields}
@@ -19,10 +18,8 @@ use Rattle.linear_forms.specs.declared.form.VarId.{VarId}
 use Rattle.linear_forms.specs.Values.{Numbers, number_at, point_of}
 use Rattle.sample_reference.specs.Sample.{reference_sample, IsTrueSample}
 use Rattle.sample_reference.specs.Seen.{sample_of, values_of}
-use Rattle.sample_reference.specs.Values.{origin}
 use Rattle.sample_reference.proofs.SamePoints.{abs_above}
 use Rattle.least_theory.specs.Answer.{IsLeastFraction, IsAnswer, least_of}
-use Rattle.least_theory.specs.Answer as answer
 use Rattle.linear_opt.specs.declared.least.Least.{Least}
 use Rattle.linear_opt.specs.Least as opt
 use Rattle.plain_engine.specs.declared.measured.Measured.{Measured}

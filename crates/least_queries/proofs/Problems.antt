@@ -5,15 +5,15 @@ use Rattle.std.proofs.lemmas.Bool.{false≢true}
 use Rattle.std.specs.Prelude.{Result, Ok, Err}
 use Rattle.std.specs.Ordering.{int_cmp}
 use Rattle.formula_meaning.specs.declared.quantifier.Quantifier.TheVariants.{Exists}
-use Rattle.formula_meaning.specs.Atom.{AtomIn, Relation, Equals, Differs, Below, AtMost, Above, AtLeast, Compare, Congruent}
-use Rattle.formula_meaning.specs.Context.{Context, Fields}
+use Rattle.formula_meaning.specs.Atom.{Relation, Equals, Differs, Below, AtMost, Above, AtLeast, Compare}
+use Rattle.formula_meaning.specs.Context.{Fields}
 use Rattle.formula_meaning.specs.Every.{Every, EveryOf}
 use Rattle.formula_meaning.specs.Form.{Form, Term}
 use Rattle.formula_meaning.specs.Formula.{Yes, No, One, Not, And, Or, Impl, Repl, Equiv, Ex, All, none, also}
 use Rattle.formula_meaning.specs.Replaced.{replaced, all_replaced}
 use Rattle.formula_meaning.specs.Shape.{IsPlain, ArePlain}
 use Rattle.formula_meaning.specs.Sorted.{gathered}
-use Rattle.formula_meaning.specs.Tree.{Tree, InContext}
+use Rattle.formula_meaning.specs.Tree.{Tree}
 use Rattle.atom_normal.specs.NormalForm.{constant_tree, holds, facing, compared_in_fields, normal_atom}
 use Rattle.qe_syntax.specs.declared.tree.Relation as syntax
 use Rattle.qe_syntax.specs.declared.tree.Relation.TheVariants as relation
@@ -122,15 +122,16 @@ module _ (s : State) (fields : s.context ≡ Fields) where
   together_weak f none h k = comparison_weak f (weak_comparison f h)
   together_weak f (also g gs) h k = record { is_plain = members_plain (also f (also g gs)) (h, k); weak = members_weak (also f (also g gs)) (h, k) }
 
-  pub weak_problem : (written : FormulaTrees) (target : TermTree) → AreWeakConstraints written → IsWeakProblem (resolved_problem s written target)
-  weak_problem written target weak =
-      let equation : FormulaTree = One (trees.Compare relation.Equal (trees.Named target_name) target) in
-      let tree = together_weak equation written refl weak in
-      record {
-        names = map (place s.names) (problem_names written target);
-        matrix = replaced by (place s.names) (together equation written);
-        same = names_resolved by (place s.names) (problem_names written target) (together equation written);
-        is_plain = tree.is_plain;
-        weak = tree.weak;
-        in_fields = weak_in_fields (replaced by (place s.names) (together equation written)) tree.weak;
-      }
+-- the resolved problem of a target under weak constraints
+pub weak_problem : (s : State) (written : FormulaTrees) (target : TermTree) → s.context ≡ Fields → AreWeakConstraints written → IsWeakProblem (resolved_problem s written target)
+weak_problem s written target fields weak =
+    let equation : FormulaTree = One (trees.Compare relation.Equal (trees.Named target_name) target) in
+    let tree = together_weak s fields equation written refl weak in
+    record {
+      names = map (place s.names) (problem_names written target);
+      matrix = replaced (resolved_atom s.context s.bound (place s.names)) (place s.names) (together equation written);
+      same = names_resolved (resolved_atom s.context s.bound (place s.names)) (place s.names) (problem_names written target) (together equation written);
+      is_plain = tree.is_plain;
+      weak = tree.weak;
+      in_fields = weak_in_fields (replaced (resolved_atom s.context s.bound (place s.names)) (place s.names) (together equation written)) tree.weak;
+    }

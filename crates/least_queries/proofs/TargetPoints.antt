@@ -1,10 +1,10 @@
 -- Values put in at the target's value and at the origin: one rational point, but for the target's name.
-use Rattle.std.proofs.Common.{◌≡◌, inl, inr, ℕ, ◌*◌, ◌<◌, List, [], ◌∷◌, Bool, true, false, if◌then◌else◌, sym, ap, ◌∙◌, subst, refl, arith, nat_eq, eqb-true, eq-eqb, unsigned_abs}
+use Rattle.std.proofs.Common.{◌≡◌, inl, inr, ℕ, ◌*◌, List, [], ◌∷◌, Bool, true, false, if◌then◌else◌, sym, ap, ◌∙◌, subst, refl, arith, nat_eq, eqb-true, eq-eqb, unsigned_abs}
 use Rattle.std.proofs.Math.IntN.{ℤ, pos, ◌*ℤ◌}
 use Rattle.std.specs.Prelude.{◌<ℤ◌}
 use Rattle.std.proofs.lemmas.Int.{ints}
 use Rattle.exact_numbers.specs.Frac.{Frac}
-use Rattle.exact_numbers.proofs.Ring.{ring, mul_left_comm}
+use Rattle.exact_numbers.proofs.Ring.{ring}
 use Rattle.formula_meaning.specs.Point.{Point, AgreeOn, move, finer}
 use Rattle.formula_meaning.specs.Some.{Among}
 use Rattle.formula_meaning.proofs.SamePoint.{finer_move}
