@@ -4,7 +4,7 @@ use Rattle.exact_numbers.proofs.Casts.{fits}
 use Rattle.exact_numbers.specs.Fraction.{frac_of}
 use Rattle.formula_store.specs.Nodes.{tree}
 use Rattle.linear_forms.specs.Values.{number_at, point_of}
-use Rattle.least_queries.proofs.FoundSteps.{value_point, value_there, normal_there, sample_found, sample_is_there, sample_stops}
+use Rattle.least_queries.proofs.FoundSteps.{value_point, value_there, sample_found, sample_is_there, sample_stops}
 use Rattle.least_queries.proofs.found.attained.Goals as goal
 
 pub sample-requires-clause-point : goal.sample-requires-clause-point
