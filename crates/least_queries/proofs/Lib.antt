@@ -1,0 +1,2 @@
+mod TermSizes
+mod CopySteps
