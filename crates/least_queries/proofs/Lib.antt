@@ -1,2 +1,3 @@
 mod TermSizes
 mod CopySteps
+mod ProblemSteps

@@ -6,4 +6,4 @@ use Rattle.least_queries.proofs.problem.with_quantifiers.Given as goal
 
 -- the quantifiers of the last names stand before the formula
 abbrev pub invariant-loop-number : goal.invariant-loop-number
-invariant-loop-number l = formula_tree l.quantified ≡ quantified_names Exists (drop l.number l.names) (formula_tree l.formula)
+invariant-loop-number l = formula_tree l.quantified ≡ quantified_names Exists (drop l.number l.names) (formula_tree l.fn.formula)
