@@ -1,3 +1,8 @@
 mod TermSizes
 mod CopySteps
 mod ProblemSteps
+mod ProblemNames
+mod LeastCauses
+mod Attained
+mod Problems
+mod LeastSteps

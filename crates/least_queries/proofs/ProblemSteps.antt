@@ -1,17 +1,21 @@
 -- The parts of a problem, as they are made.
-use Rattle.std.proofs.Common.{◌≡◌, ◌<◌, List, [], ◌∷◌, ◌++◌, true, length, map, ap, sym, ◌∙◌, subst, refl, arith}
+use Rattle.std.proofs.Common.{◌≡◌, ℕ, ◌<◌, List, [], ◌∷◌, ◌++◌, true, length, map, ap, sym, ◌∙◌, subst, refl, arith}
 use Rattle.std.specs.List.{AllByRecursion, fold}
 use Rattle.std.proofs.lemmas.List.Sums.{fold-append}
 use Rattle.formula_meaning.specs.Formula.{And, One, none, also}
 use Rattle.qe_syntax.specs.declared.tree.Formula.{Formula}
 use Rattle.qe_syntax.specs.declared.tree.Literal.TheVariants.{Past}
 use Rattle.qe_syntax.specs.declared.tree.Relation.TheVariants.{Equal}
-use Rattle.qe_syntax.specs.Trees.{TermTree, FormulaTree, FormulaTrees, Number, Compare, formula_tree, formulas_of}
+use Rattle.qe_syntax.specs.Trees.{TermTree, FormulaTree, FormulaTrees, Number, Named, Compare, formula_tree, formulas_of}
+use Rattle.qe_syntax.specs.Proper.{IsProperFormula, AreProperFormulas}
+use Rattle.qe_syntax.proofs.WritableLemmas.{writable_term, writable_formulas}
+use Rattle.formula_meaning.specs.declared.quantifier.Quantifier.TheVariants.{Exists}
+use Rattle.redlog_reader.specs.Grammar.{quantified_names}
 use Rattle.qe_syntax.specs.Writable.{IsWritableTerm, AreWritableFormulas}
 use Rattle.statement_syntax.specs.Constraints.{is_weak_constraint, AreWeakConstraints}
 use Rattle.formula_tree.specs.Names.{with_name}
 use Rattle.formula_tree.specs.Resolving.{variables_of, all_variables}
-use Rattle.session_meaning.specs.Targets.{together, problem_names}
+use Rattle.session_meaning.specs.Targets.{target_name, together, problem_names, problem_of}
 use Rattle.session_state.proofs.VariableLemmas.{AllVariables, both, variables_of_formula, variables_of_all, all_put_in}
 
 -- several members are a conjunction
@@ -39,3 +43,18 @@ names_variables written target h k = all_put_in [] (all_variables written ++ var
 -- they are put in one after another
 pub names_split : (written : FormulaTrees) (target : TermTree) → problem_names written target ≡ fold with_name (fold with_name [] (all_variables written)) (variables_of target)
 names_split written target = fold-append with_name [] (all_variables written) (variables_of target)
+
+-- ---- the problem is proper
+
+quantified_proper : (xs : List (List ℕ)) (f : FormulaTree) → IsProperFormula f → IsProperFormula (quantified_names Exists xs f)
+quantified_proper [] f h = h
+quantified_proper (x ∷ xs) f h = (tt, quantified_proper xs f h)
+
+together_proper : (f : FormulaTree) (fs : FormulaTrees) → IsProperFormula f → AreProperFormulas fs → IsProperFormula (together f fs)
+together_proper f none h k = h
+together_proper f (also g gs) h k = (tt, (h, k))
+
+pub problem_proper : (written : FormulaTrees) (target : TermTree) → AreWritableFormulas written → IsWritableTerm target → IsProperFormula (problem_of written target)
+problem_proper written target h k =
+    quantified_proper (problem_names written target) (together (One (Compare Equal (Named target_name) target)) written)
+    (together_proper (One (Compare Equal (Named target_name) target)) written (tt, writable_term target k) (writable_formulas written h))
