@@ -1,8 +1,12 @@
-mod TermSizes
-mod CopySteps
-mod ProblemSteps
-mod ProblemNames
-mod LeastCauses
-mod Attained
-mod Problems
-mod LeastSteps
+pub mod TermSizes
+pub mod CopySteps
+pub mod ProblemSteps
+pub mod ProblemNames
+pub mod LeastCauses
+pub mod Attained
+pub mod Problems
+pub mod Conditions
+pub mod FoundSteps
+pub mod Blocks
+pub mod TargetPoints
+pub mod LeastSteps

@@ -10,7 +10,7 @@ use Rattle.elimination_reference.specs.Reference.{reference}
 use Rattle.exact_numbers.specs.Frac.{Frac}
 use Rattle.sample_reference.specs.Sample.{reference_sample, IsTrueSample}
 use Rattle.sample_reference.specs.Seen.{values_of}
-use Rattle.sample_reference.specs.Values.{Value, origin}
+use Rattle.sample_reference.specs.Values.{origin}
 use Rattle.least_theory.specs.Target.{IsWeak, exs, IsInfeasible, IsUnbounded}
 use Rattle.least_theory.specs.Answer.{IsLeastFraction}
 use Rattle.plain_engine.specs.declared.measured.Measured.{Measured}
