@@ -1,8 +1,8 @@
 -- Why the query about a target is refused, and when it is not.
-use Rattle.std.proofs.Common.{◌≡◌, ◌≢◌, inl, inr, ⊎_elim, ℕ, ◌<◌, ◌≤◌, List, [], ◌∷◌, length, true, None, sym, ap, ◌∙◌, subst, refl, rules}
+use Rattle.std.proofs.Common.{◌≡◌, ◌≢◌, inl, inr, ⊎_elim, ℕ, List, [], ◌∷◌, None, sym, ap, ◌∙◌, subst, refl, rules}
 use Rattle.formula_meaning.specs.Context.{Context, Fields, Integers}
 use Rattle.formula_meaning.specs.Formula.{none, also}
-use Rattle.formula_meaning.specs.Measured.{Stop, Overflow, Nodes, stopped}
+use Rattle.formula_meaning.specs.Measured.{Overflow, Nodes, stopped}
 use Rattle.formula_meaning.specs.Some.{EachOf}
 use Rattle.elimination_reference.specs.Reference.{reference}
 use Rattle.sample_reference.specs.Sample.{reference_sample}
@@ -28,7 +28,7 @@ use Rattle.session_meaning.specs.Targets.{problem_of, resolved_problem, target_n
 use Rattle.session_meaning.specs.Uses.{Use}
 use Rattle.session_meaning.specs.Words.{before}
 use Rattle.command_tools.specs.Refusals.{static_refusal, measured_refusal}
-use Rattle.problem_reading.specs.Reading.{HasNumbers, IsReadable, AreNumbered, AreReadable, AppliesAmong, HasNoEarlier, IsFirstAmong}
+use Rattle.problem_reading.specs.Reading.{HasNumbers, IsReadable, AreNumbered, AppliesAmong, HasNoEarlier, IsFirstAmong}
 use Rattle.problem_reading.proofs.CauseLemmas.{HasNoPoint, then_clear, to_point, first_in_reading, unread_refuses, ready_below, readable_below, below_bindings, readable_applies}
 use Rattle.session_state.proofs.NameLemmas.{kept_names}
 use Rattle.least_queries.specs.Found.{ConditionStop, FoundStop}

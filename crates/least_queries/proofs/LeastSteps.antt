@@ -1,12 +1,12 @@
 -- From a problem that is read to what is answered.
 use Rattle.std.specs.Prelude.{Result, Ok, Err, OnErr}
-use Rattle.std.proofs.Common.{◌≡◌, ◌≢◌, inl, inr, ℕ, ◌+◌, ◌*◌, ◌-◌, ◌<◌, ◌≤◌, List, [], ◌∷◌, ◌++◌, map, take, length, codes, Bool, None, sym, ap, ◌∙◌, subst, refl, arith, append-nil}
+use Rattle.std.proofs.Common.{◌≡◌, inl, inr, ℕ, ◌+◌, ◌-◌, ◌<◌, ◌≤◌, List, [], ◌∷◌, ◌++◌, map, take, length, codes, Bool, None, sym, ap, ◌∙◌, subst, refl, arith, append-nil}
 use Rattle.std.proofs.lemmas.List.{length-append, length-map}
-use Rattle.std.specs.List.{AllByRecursion, IsDistinct, fold}
+use Rattle.std.specs.List.{IsDistinct, fold}
 use Rattle.exact_numbers.specs.Fraction.{frac_of}
 use Rattle.exact_numbers.specs.declared.fraction.Fraction.{Fraction}
 use Rattle.linear_forms.specs.declared.form.VarId.{VarId}
-use Rattle.formula_meaning.specs.Context.{Context, Fields}
+use Rattle.formula_meaning.specs.Context.{Fields}
 use Rattle.formula_meaning.specs.Every.{Every}
 use Rattle.formula_meaning.specs.Formula.{One}
 use Rattle.formula_meaning.specs.Tree.{Tree}
@@ -28,7 +28,7 @@ use Rattle.formula_tree.specs.Names.{with_name}
 use Rattle.problem_reading.specs.Reading.{IsReadable}
 use Rattle.session_state.proofs.VariableLemmas.{AllVariables}
 use Rattle.formula_tree.specs.Causes.{most_height, height_in_place}
-use Rattle.formula_tree.specs.Resolving.{BoundTrees, place, formula_variables, names_after, resolve}
+use Rattle.formula_tree.specs.Resolving.{BoundTrees, place, formula_variables}
 use Rattle.formula_tree.proofs.PlaceLaws.{after_has, after_distinct, in_either}
 use Rattle.formula_tree.proofs.ResolvedTruth.{resolving_is_normal}
 use Rattle.formula_store.specs.declared.id.FormulaId.{FormulaId}
@@ -39,12 +39,10 @@ use Rattle.answer_texts.specs.Within.{AreValuesWithin}
 use Rattle.answer_texts.specs.Points.{fraction_text, point_text}
 use Rattle.session_meaning.specs.declared.line.Line.{Line}
 use Rattle.session_meaning.specs.declared.line.StatementError.{StatementError}
-use Rattle.session_meaning.specs.declared.line.StatementError.TheVariants as error
-use Rattle.session_meaning.specs.Causes.{IsAccepted, IsFirst}
 use Rattle.session_meaning.specs.Meaning.{meaning, numbered}
 use Rattle.session_meaning.specs.Reply.{IsLine}
 use Rattle.session_meaning.specs.State.{State, with_names}
-use Rattle.session_meaning.specs.Targets.{TargetAnswer, target_name, together, problem_names, problem_of, resolved_problem, target_number, SaysLeast, target_text}
+use Rattle.session_meaning.specs.Targets.{target_name, together, problem_names, problem_of, resolved_problem, target_number, SaysLeast, target_text}
 use Rattle.session_state.specs.declared.state.SessionState.{SessionState}
 use Rattle.session_state.specs.Keeping.{state_of, IsSessionState}
 use Rattle.session_state.specs.Growth.{KeepsState, GrowsState}
@@ -224,7 +222,7 @@ module _ (old mid : SessionState) (written : FormulaTrees) (target : TermTree) (
         go found.Unbounded h = omega arith
         go (found.Attained least values) h =
             let many : length values.items ≡ length (problem_names written target) =
-                sym (as_many values.items) ∙ ap length h.in_order ∙ length-map (problem_names written target) (place s.names) in
+            sym (as_many values.items) ∙ ap length h.in_order ∙ length-map (problem_names written target) (place s.names) in
             let low = names_low s.bound (problem_names written target) (together (One (Compare Equal (Named target_name) target)) written) in
             let flat : ¬ (most_height < height_in_place s.bound f) = readable.flat in
             text_short s.names names_short least values.items (omega (arith, many, low, flat))

@@ -1,4 +1,4 @@
-use Rattle.std.proofs.Common.{◌≡◌, ◌≤◌, ◌-◌, None, Err, map, take, length, ap, sym, ◌∙◌, subst, rules, arith}
+use Rattle.std.proofs.Common.{◌≡◌, ◌≤◌, ◌-◌, None, Err, map, take, ap, sym, ◌∙◌, subst, rules}
 use Rattle.std.specs.Prelude.{IfErr}
 use Rattle.formula_store.specs.Nodes.{tree}
 use Rattle.qe_syntax.specs.Proper.{IsProperFormula}
