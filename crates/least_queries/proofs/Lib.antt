@@ -1,6 +1,12 @@
+pub mod TermSizes
+pub mod CopySteps
+pub mod ProblemSteps
+pub mod ProblemNames
+pub mod LeastCauses
 pub mod Attained
 pub mod Problems
 pub mod Conditions
 pub mod FoundSteps
 pub mod Blocks
 pub mod TargetPoints
+pub mod LeastSteps

@@ -1,14 +1,22 @@
 -- From a target as it is written to what is answered.
-use Rattle.std.specs.Prelude.{◌≡◌, ◌++◌, [], ◌∷◌, ℕ, List, Bool, None}
+use Rattle.std.specs.Prelude.{◌≡◌, ◌⊎◌, ℕ}
 use Rattle.formula_meaning.specs.Context.{Context, Fields, Integers}
+use Rattle.qe_syntax.specs.Trees.{FormulaTree}
+use Rattle.formula_store.specs.declared.id.FormulaId.{FormulaId}
+use Rattle.formula_store.specs.Nodes.{tree, IsId}
+use Rattle.formula_tree.specs.Makers.{IsMade}
+use Rattle.formula_tree.specs.Resolving.{names_after, resolve}
+use Rattle.formula_resolving.specs.Refusals.{IsFirstCause}
 use Rattle.answer_texts.specs.Within.{AreValuesWithin}
 use Rattle.formula_resolving.specs.declared.error.StaticError.{StaticError}
 use Rattle.formula_resolving.specs.declared.error.StaticError.TheVariants as static
 use Rattle.session_meaning.specs.declared.line.StatementError.{StatementError}
 use Rattle.session_meaning.specs.declared.line.StatementError.TheVariants as error
-use Rattle.session_meaning.specs.Targets.{TargetAnswer, Infeasible, Unbounded, Attained, target_name}
+use Rattle.session_meaning.specs.State.{State}
+use Rattle.session_meaning.specs.Targets.{TargetAnswer, Infeasible, Unbounded, Attained}
 use Rattle.session_state.specs.declared.state.SessionState.{SessionState}
-use Rattle.session_state.specs.Keeping.{IsSessionState}
+use Rattle.session_state.specs.Keeping.{state_of}
+use Rattle.problem_reading.specs.Reading.{IsReadable}
 use Rattle.command_tools.specs.Refusals.{static_refusal}
 
 -- each name of the answer has a number below this one
@@ -29,3 +37,14 @@ cause_of Integers static.Modulus = error.Context
 cause_of Integers static.Depth = error.Context
 cause_of Integers static.Overflow = error.Context
 cause_of Integers static.Memory = error.Memory
+
+-- The problem is read over the ordered fields: its variables have their numbers, and this is the id of what it resolves to.
+pub record IsProblemIn (old : SessionState) (f : FormulaTree) (new : SessionState) (id : FormulaId) : Type 0 where
+  pub readable : IsReadable (state_of old) f
+  pub fields : (state_of old).context ≡ Fields
+  pub names : new.names ≡ names_after old.names f
+  pub made : IsMade (IsId new.store) (tree new.store) id (resolve (state_of old).context (state_of old).bound (names_after old.names f) f)
+
+-- why it is not: the first cause in reading, or the theory, where there is none
+abbrev pub IsProblemUnread : State → FormulaTree → StatementError → Type 0
+IsProblemUnread s f e = ((d : StaticError) × (e ≡ cause_of s.context d) × IsFirstCause s.context s.bound s.names f d) ⊎ ((e ≡ error.Context) × (s.context ≡ Integers) × IsReadable s f)

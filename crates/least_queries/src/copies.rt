@@ -12,6 +12,7 @@ use qe_syntax::{Formula, Term, Terms, comparison, negative, power, quotient};
 use std::alloc::{AllocError, Global};
 
 /// A copy of the comparison, whose names are numbered behind the others.
+#[tactic(auto, using(qe_syntax::proofs::TreeEquations::trees))]
 pub(crate) fn copied_comparison(
     alloc: Global,
     formula: &Formula,
@@ -30,6 +31,7 @@ pub(crate) fn copied_comparison(
 }
 
 /// A copy of the term, whose names are numbered behind the others.
+#[tactic(auto, using(qe_syntax::proofs::TreeEquations::trees))]
 #[cycle(copied)]
 pub(crate) fn copied_term(alloc: Global, term: &Term, names: &mut Names) -> Result<Term, AllocError>
     ensures same { IfOk result (λ t. term_tree t ≡ term_tree term.now) }
@@ -54,6 +56,7 @@ pub(crate) fn copied_term(alloc: Global, term: &Term, names: &mut Names) -> Resu
 }
 
 /// Copies of the terms, whose names are numbered behind the others.
+#[tactic(auto, using(qe_syntax::proofs::TreeEquations::trees))]
 #[cycle(copied)]
 fn copied_terms(alloc: Global, terms: &Terms, names: &mut Names) -> Result<Terms, AllocError>
     ensures same { IfOk result (λ ts. term_trees ts ≡ term_trees terms.now) }

@@ -1,10 +1,13 @@
 //! The least value of a target under weak constraints.
 
 ghost use Rattle.std.specs.Prelude.{◌≡◌, ◌≤◌, ◌++◌, [], ◌∷◌, None, IfOk, IfErr, OnOk, OnErr, map};
+ghost use Rattle.qe_syntax.specs.Proper.{IsProperFormula};
 ghost use Rattle.qe_syntax.specs.Trees.{term_tree, formula_tree, formulas_of};
 ghost use Rattle.qe_syntax.specs.Writable.{IsWritableTerm, AreWritableFormulas};
 ghost use Rattle.statement_syntax.specs.Constraints.{AreWeakConstraints};
 ghost use Rattle.statement_syntax.specs.Statements.{Least as LeastOf};
+ghost use Rattle.formula_resolving.specs.Refusals.{AreIds};
+ghost use Rattle.formula_store.specs.Nodes.{IsId};
 ghost use Rattle.session_meaning.specs.Meaning.{meaning, numbered};
 ghost use Rattle.session_meaning.specs.State.{with_names};
 ghost use Rattle.session_meaning.specs.Targets.{target_name};
@@ -12,7 +15,7 @@ ghost use Rattle.session_state.specs.Keeping.{state_of, IsSessionState};
 ghost use Rattle.session_state.specs.Growth.{GrowsState};
 ghost use Rattle.atom_normal.specs.Atoms.{context_of};
 ghost use Rattle.command_tools.specs.Replies.{use_of, Refuses, IsQueryAnswer};
-ghost use Rattle.least_queries.specs.Steps.{cause_of};
+ghost use Rattle.least_queries.specs.Steps.{cause_of, IsProblemIn, IsProblemUnread};
 
 use crate::found::look;
 use crate::lines::target_line;
@@ -61,7 +64,13 @@ pub fn answer_least<R: Threads + Sync, G: Gate + Sync>(
 
 /// The resolved problem, whose names are numbered, that of the target last, or the first cause of a refusal before what is calculated
 /// with it: in reading, or the theory.
-fn read(state: &mut SessionState, problem: &Formula) -> Result<FormulaId, StatementError> {
+fn read(state: &mut SessionState, problem: &Formula) -> Result<FormulaId, StatementError>
+    requires proper { IsProperFormula (formula_tree problem.now) }
+    requires ids { AreIds (IsId state.old.store) state.old.bindings }
+    ensures read { IfOk result (IsProblemIn state.old (formula_tree problem.now) state.new) }
+    ensures unread { IfErr result (IsProblemUnread (state_of state.old) (formula_tree problem.now)) }
+    ensures grown { GrowsState state.old state.new }
+{
     let read = linearise(
         state.alloc,
         problem,

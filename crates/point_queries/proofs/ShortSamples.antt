@@ -92,7 +92,7 @@ block_few (Ex x f) chain = go (block_few f (x ∷ chain)) (is_in nat_eq x chain)
 block_few _ chain = omega arith
 
 -- the leading block has at most as many names as the formula is high
-names_few : (f : Tree) → length (case_names f) ≤ height f
+pub names_few : (f : Tree) → length (case_names f) ≤ height f
 names_few f =
     let g = normal_tree f in
     let a = block_few (turned (case_sign g) g) [] in
@@ -110,7 +110,7 @@ sign_short : (z : ℤ) → length (first_sign z) ≤ 1
 sign_short (pos n) = omega arith
 sign_short (negsuc n) = omega arith
 
-fraction_short : (a : Fraction) → length (fraction_text (frac_of a)) ≤ 80
+pub fraction_short : (a : Fraction) → length (fraction_text (frac_of a)) ≤ 80
 fraction_short a =
     let n = number_short (unsigned_abs a.numerator) a.numerator_within in
     let d = number_short (unsigned_abs a.denominator) a.denominator_within in
@@ -123,13 +123,21 @@ fraction_short a =
     go d true = omega arith
     go d false = let e = length-append (codes "/") (decimal (unsigned_abs a.denominator)) in omega (arith, e)
 
-module _ (names : List (List ℕ)) (variables : AllByRecursion IsVariable names) where
+-- a name has at most 64 bytes
+abbrev pub AreShort : List (List ℕ) → Type 0
+AreShort names = AllByRecursion (λ x. length x ≤ 64) names
+
+pub variables_short : (names : List (List ℕ)) → AllByRecursion IsVariable names → AreShort names
+variables_short [] h = tt
+variables_short (n ∷ ns) h = (h.0.few, variables_short ns h.1)
+
+module _ (names : List (List ℕ)) (few : AreShort names) where
   name_short : (x : ℕ) → length (name_at names x) ≤ 64
-  name_short x = go names variables x
+  name_short x = go names few x
     where
-      go : (ns : List (List ℕ)) → AllByRecursion IsVariable ns → (x : ℕ) → length (name_at ns x) ≤ 64
+      go : (ns : List (List ℕ)) → AreShort ns → (x : ℕ) → length (name_at ns x) ≤ 64
       go [] h x = omega arith
-      go (n ∷ ns) h zero = h.0.few
+      go (n ∷ ns) h zero = h.0
       go (n ∷ ns) h (suc x) = go ns h.1 x
 
   value_short : (v : VarId × Fraction) → length (value_text names (value_of v)) ≤ 147
@@ -147,7 +155,7 @@ module _ (names : List (List ℕ)) (variables : AllByRecursion IsVariable names)
       let e = length_3 before (value_text names (value_of v)) (separated (codes ",") (map (value_text names) (values_of vs))) in
       omega (arith, h, r, e)
 
-  point_short : (vs : List (VarId × Fraction)) → length (point_text names (values_of vs)) ≤ 2 + 148 * length vs
+  pub point_short : (vs : List (VarId × Fraction)) → length (point_text names (values_of vs)) ≤ 2 + 148 * length vs
   point_short vs =
       let r = values_short vs [] (omega arith) in
       let e = length_3 (codes "{") (separated [] (map (value_text names) (values_of vs))) (codes "}") in
@@ -155,7 +163,7 @@ module _ (names : List (List ℕ)) (variables : AllByRecursion IsVariable names)
 
 -- ---- samples
 
-as_many : (vs : List (VarId × Fraction)) → length (value_names (values_of vs)) ≡ length vs
+pub as_many : (vs : List (VarId × Fraction)) → length (value_names (values_of vs)) ≡ length vs
 as_many [] = refl
 as_many (v ∷ vs) = ap suc (as_many vs)
 
@@ -165,5 +173,5 @@ module _ (c : Context) (names : List (List ℕ)) (t : Tree) (q : Point ℕ) (var
   sample_short (Some v) h =
       let few = names_few t in
       let same : length v.items ≡ length (case_names t) = sym (as_many v.items) ∙ ap (λ (xs : List ℕ). length xs) h.names in
-      let short = point_short names variables v.items in
+      let short = point_short names (variables_short names variables) v.items in
       omega (arith, few, same, short, low)

@@ -1,0 +1,20 @@
+use Rattle.std.proofs.Common.{◌≡◌, ◌++◌, drop, map}
+use Rattle.std.specs.List.{fold}
+use Rattle.qe_syntax.specs.Trees.{term_tree, term_trees, terms_of}
+use Rattle.formula_tree.specs.Names.{with_name}
+use Rattle.formula_tree.specs.Resolving.{variables_in}
+use Rattle.least_queries.proofs.TermSizes.{term_size, terms_size}
+use Rattle.least_queries.proofs.copies.+copied.Given as goal
+
+abbrev pub decreases-copied_term : goal.decreases-copied_term
+decreases-copied_term l = term_size (term_tree l.term.now)
+
+abbrev pub decreases-copied_terms : goal.decreases-copied_terms
+decreases-copied_terms l = terms_size (term_trees l.terms.now)
+
+-- the copies so far and the members that are left, and the names with those of the members that are left
+abbrev pub invariant-copied_terms-loop-term : goal.invariant-copied_terms-loop-term
+invariant-copied_terms-loop-term l = record {
+  same : map term_tree l.copies.items ++ map term_tree (drop l.term-index l.term-items) ≡ map term_tree l.term-items;
+  numbered : fold with_name l.names (variables_in (terms_of (map term_tree (drop l.term-index l.term-items)))) ≡ fold with_name l.fn.names (variables_in (terms_of (map term_tree l.term-items)));
+}
