@@ -92,7 +92,7 @@ block_few (Ex x f) chain = go (block_few f (x ∷ chain)) (is_in nat_eq x chain)
 block_few _ chain = omega arith
 
 -- the leading block has at most as many names as the formula is high
-pub names_few : (f : Tree) → length (case_names f) ≤ height f
+names_few : (f : Tree) → length (case_names f) ≤ height f
 names_few f =
     let g = normal_tree f in
     let a = block_few (turned (case_sign g) g) [] in
