@@ -9,7 +9,7 @@ JOBS ?= $(shell echo $$(($$(nproc) + 2)))
 
 PREFIX ?= /usr/local
 VERSION ?= 0.1.0
-PAGES = docs/LANGUAGE.md docs/TUTORIAL.md docs/DEFINITIONS.md docs/DECISIONS.md README.md
+PAGES = docs/LANGUAGE.md docs/TUTORIAL.md docs/THEOREMS.md docs/TESTED.md docs/TRUSTED.md docs/DEFINITIONS.md docs/DECISIONS.md README.md
 PACKAGE = bin/redlog_$(VERSION)_amd64
 
 .PHONY: all test install uninstall deb clean
