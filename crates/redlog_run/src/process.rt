@@ -24,10 +24,13 @@ pub enum WordsError {
     Memory,
 }
 
+/// The form of the words, told on standard error where they have another one.
+const USAGE: &str = "usage: redlog [--nodes n] [--workers n] [--generate n] < script";
+
 /// The whole process: takes the words after the program's name, answers the script that the reader gives on the writer, and
 /// ends with the number of the status. The claim holds of the words that the process has, over ends that have not failed yet and
 /// that tell nothing of what they give and take.
-pub fn run_process<R: Env + AllocGlobal + Threads + Sync, I: Read + Drop, O: Write + Drop>(
+pub fn run_process<R: Env + AllocGlobal + Threads + Sync + Eprint, I: Read + Drop, O: Write + Drop>(
     rt: &R,
     input: I,
     output: O,
@@ -39,8 +42,9 @@ pub fn run_process<R: Env + AllocGlobal + Threads + Sync, I: Read + Drop, O: Wri
     finish(rt, rt.alloc(), words(rt), &mut source, &mut sink)
 }
 
-/// Answers the script of the source, under these words, and gives what the process ends with: the number of the status.
-pub fn finish<R: Threads + Sync, S: Source, K: Sink>(
+/// Answers the script of the source, under these words, and gives what the process ends with: the number of the status. Where the
+/// words are not of the form that the program takes, a line on standard error says which that is.
+pub fn finish<R: Threads + Sync + Eprint, S: Source, K: Sink>(
     rt: &R,
     alloc: Global,
     words: Result<Vec<String>, WordsError>,
@@ -52,6 +56,9 @@ pub fn finish<R: Threads + Sync, S: Source, K: Sink>(
         (ends (S.left source.new) (S.faults source.new) (K.wrote sink.new) (K.faults sink.new))) }
 {
     let status = answer_words(rt, alloc, words, source, sink);
+    if status == Status::Usage {
+        let _ = eprintln!(rt; "{USAGE}");
+    }
     exit_code(status)
 }
 
