@@ -1,6 +1,6 @@
 # make                    builds the proved program and leaves it at bin/redlog
 # make test               proves everything, and runs the tests and the edits that the proofs must refuse
-# make install PREFIX=..  copies the program, its manual page and its documents to PREFIX
+# make install PREFIX=..  copies the program, its manual page, its documents and its Vim files to PREFIX
 # make uninstall          takes them away again
 # make deb                builds a package of these, which dpkg -i installs
 
@@ -32,10 +32,13 @@ install: bin/redlog
 	install -D -m 644 man/redlog.1 $(DESTDIR)$(PREFIX)/share/man/man1/redlog.1
 	install -d $(DESTDIR)$(PREFIX)/share/doc/redlog
 	install -m 644 $(PAGES) $(DESTDIR)$(PREFIX)/share/doc/redlog
+	install -D -m 644 editors/vim/syntax/redlog.vim $(DESTDIR)$(PREFIX)/share/vim/vimfiles/syntax/redlog.vim
+	install -D -m 644 editors/vim/ftdetect/redlog.vim $(DESTDIR)$(PREFIX)/share/vim/vimfiles/ftdetect/redlog.vim
 
 uninstall:
 	rm -f $(DESTDIR)$(PREFIX)/bin/redlog $(DESTDIR)$(PREFIX)/share/man/man1/redlog.1
 	rm -rf $(DESTDIR)$(PREFIX)/share/doc/redlog
+	rm -f $(DESTDIR)$(PREFIX)/share/vim/vimfiles/syntax/redlog.vim $(DESTDIR)$(PREFIX)/share/vim/vimfiles/ftdetect/redlog.vim
 
 deb: bin/redlog
 	rm -rf $(PACKAGE)
