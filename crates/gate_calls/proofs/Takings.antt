@@ -20,7 +20,7 @@ use Rattle.formula_store.specs.Nodes.{tree, IsId}
 use Rattle.formula_store.specs.Truths.{IsWholeWhereAsked}
 use Rattle.qe_parallel.specs.Fanned.{AnswerAll}
 use Rattle.virtual_subst.specs.Phases.{Phase, IsPutAtPiece}
-use Rattle.plain_calls.specs.Taking.{Takes, StillTakes}
+use Rattle.gate_calls.specs.Taking.{Takes, StillTakes}
 
 module _ (old new : List (Shape FormulaId)) where
   pub still_takes : Keeps (IsId old) (tree old) (IsId new) (tree new) → StillTakes old new

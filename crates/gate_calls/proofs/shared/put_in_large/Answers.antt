@@ -4,7 +4,7 @@ use Rattle.std.specs.declared.result.Result.TheVariants.{Ok}
 use Rattle.formula_tree.specs.Makers.{IsMade}
 use Rattle.formula_store.specs.Changes.{tree_on}
 use Rattle.formula_store.specs.Nodes.{IsId, tree}
-use Rattle.plain_calls.proofs.shared.put_in_large.Goals as goal
+use Rattle.gate_calls.proofs.shared.put_in_large.Goals as goal
 
 pub distinct-requires : goal.distinct-requires
 distinct-requires c =

@@ -1,6 +1,6 @@
 use Rattle.std.proofs.Common.{rules, ◌≡◌, ◌+◌, [], ◌∷◌, ◌++◌, sym, subst}
-use Rattle.plain_calls.proofs.FirstNames.{AreBelow, are_below_next}
-use Rattle.plain_calls.proofs.blocks.first_names.Goals as goal
+use Rattle.gate_calls.proofs.FirstNames.{AreBelow, are_below_next}
+use Rattle.gate_calls.proofs.blocks.first_names.Goals as goal
 
 pub loop-number-preserved : goal.loop-number-preserved
 loop-number-preserved c =

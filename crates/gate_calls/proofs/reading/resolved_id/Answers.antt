@@ -8,7 +8,7 @@ use Rattle.formula_store.specs.Nodes.{tree}
 use Rattle.formula_tree.specs.ResolvedLaws.{HasNormalTrees}
 use Rattle.formula_tree.proofs.ResolvedTruth.{resolving_is_normal}
 use Rattle.qe_syntax.specs.Trees.{formula_tree}
-use Rattle.plain_calls.proofs.reading.resolved_id.Goals as goal
+use Rattle.gate_calls.proofs.reading.resolved_id.Goals as goal
 
 nothing_bound : (c : Context) → HasNormalTrees c []
 nothing_bound c x t e = absurd (cc)

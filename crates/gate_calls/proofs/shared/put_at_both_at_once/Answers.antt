@@ -3,8 +3,8 @@ use Rattle.std.proofs.lemmas.List.Elements.{All-pop}
 use Rattle.std.specs.declared.result.Result.TheVariants.{Ok}
 use Rattle.formula_store.specs.Changes.{Change}
 use Rattle.qe_parallel.specs.Fanned.{Fanned}
-use Rattle.plain_calls.proofs.Takings.{begun_beside}
-use Rattle.plain_calls.proofs.shared.put_at_both_at_once.Goals as goal
+use Rattle.gate_calls.proofs.Takings.{begun_beside}
+use Rattle.gate_calls.proofs.shared.put_at_both_at_once.Goals as goal
 
 pub texts_of_both-requires-clause-low : goal.texts_of_both-requires-clause-low
 texts_of_both-requires-clause-low g c =

@@ -1,5 +1,5 @@
-use Rattle.plain_calls.proofs.FirstNames.{AreBelow}
-use Rattle.plain_calls.proofs.blocks.first_names.Given as goal
+use Rattle.gate_calls.proofs.FirstNames.{AreBelow}
+use Rattle.gate_calls.proofs.blocks.first_names.Given as goal
 
 -- the names so far have the numbers below the next one
 abbrev pub invariant-loop-number : goal.invariant-loop-number

@@ -8,7 +8,7 @@ use Rattle.elimination_reference.proofs.Sound.{normal_normal_tree}
 use Rattle.formula_store.specs.Nodes.{tree}
 use Rattle.formula_tree.specs.declared.tree.Tree.{Tree}
 use Rattle.formula_tree.specs.Trees.{tree_of}
-use Rattle.plain_calls.proofs.reading.resolved_form.Goals as goal
+use Rattle.gate_calls.proofs.reading.resolved_form.Goals as goal
 
 if_some : {E : Type 0} {P Q : Tree → Type 0} (r : Result Tree E) → ((t : Tree) → P t → Q t) → IfOk r P → IfSome (result_ok r) Q
 if_some (Ok t) h p = h t p

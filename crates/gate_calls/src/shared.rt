@@ -4,7 +4,7 @@ ghost use Rattle.std.specs.Prelude.{◌≤◌, length, IfSome};
 ghost use Rattle.elimination_theory.specs.FieldsSubstitution.{IsFieldPlace};
 ghost use Rattle.formula_store.specs.Nodes.{IsId};
 ghost use Rattle.test_points.specs.Points.{place_of, IsTestPoint};
-ghost use Rattle.plain_calls.specs.Taking.{Takes, StillTakes};
+ghost use Rattle.gate_calls.specs.Taking.{Takes, StillTakes};
 
 use crate::points::{A, X, above_a};
 use crate::writing::tree_text;
