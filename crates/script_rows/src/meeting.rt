@@ -13,7 +13,7 @@ pub(crate) const ELIMINATION: &[u8] = b"rlqe ex(x,x>a and x<b);";
 /// A grid of 2,000 points, in two pieces.
 pub(crate) const GRID: &[u8] = b"rlgrid(x>0,{x,1,2000,1});";
 
-/// So many bytes the sink takes: more than a line of the grid.
+/// So many bytes a read gives, and the sink takes: more than a line of the grid.
 const ROOM: usize = 4096;
 
 /// Asks for two threads.
@@ -73,7 +73,7 @@ pub(crate) fn at_once<R: Threads + Sync + AllocGlobal>(
     let mut words = Vec::new(alloc);
     words.push(WORD.to_string(alloc)?)?;
     let bytes = script.to_vec(alloc)?;
-    let mut source = MemorySource::new(bytes, script.len(), Vec::new(alloc));
+    let mut source = MemorySource::new(bytes, ROOM, Vec::new(alloc));
     let Ok(mut sink) = MemorySink::new(alloc, ROOM, Vec::new(alloc)) else {
         return Err(AllocError);
     };
