@@ -1,4 +1,3 @@
-pub mod TermSizes
 pub mod CopySteps
 pub mod ProblemSteps
 pub mod ProblemNames

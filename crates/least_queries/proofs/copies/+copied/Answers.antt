@@ -6,7 +6,7 @@ use Rattle.qe_syntax.specs.Trees.{term_tree}
 use Rattle.qe_syntax.proofs.TermParts.{quotient_is}
 use Rattle.formula_tree.specs.Names.{with_name}
 use Rattle.formula_tree.specs.Resolving.{variables_of}
-use Rattle.least_queries.proofs.TermSizes.{term_size, terms_size, member_smaller}
+use Rattle.written_atoms.proofs.TermSizes.{term_size, terms_size, member_smaller}
 use Rattle.least_queries.proofs.copies.+copied.Goals as goal
 
 pub copied_term-returns-in_ok-divisor-in-Quotient-clause-numbered : goal.copied_term-returns-in_ok-divisor-in-Quotient-clause-numbered
