@@ -28,7 +28,7 @@ pub enum WordsError {
 const USAGE: &str = "usage: redlog [--nodes n] [--workers n] [--generate n] < script";
 
 /// The whole process: takes the words after the program's name, answers the script that the reader gives on the writer, and
-/// ends with the number of the status. The claim holds of the words that the process has, over ends that have not failed yet and
+/// ends with the number of the status. That is one which `finish` allows for some words, over ends that have not failed yet and
 /// that tell nothing of what they give and take.
 pub fn run_process<R: Env + AllocGlobal + Threads + Sync + Eprint, I: Read + Drop, O: Write + Drop>(
     rt: &R,
