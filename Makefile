@@ -17,7 +17,7 @@ PACKAGE = bin/redlog_$(VERSION)_amd64
 all: bin/redlog
 
 bin/redlog: crates.txt $(shell find crates -path '*/out' -prune -o -type f -print)
-	@echo "Proving every crate, $(JOBS) at a time. Where nothing is kept this takes some two hours of one processor: three quarters of an hour on four."
+	@echo "Proving every crate, $(JOBS) at a time. Where nothing is kept this takes more than two hours of one processor: an hour or more on four."
 	cd crates && rt all check --jobs $(JOBS)
 	@echo "Building the program, and answering its first script."
 	cd crates/redlog && rt run < stdin
