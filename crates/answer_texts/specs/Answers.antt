@@ -37,6 +37,7 @@ place_text names m n (Periodic j q) = sum_text names [] j ++ period_text q n
 
 -- ---- answers
 
+-- the name, an equals sign, and the place where it is put
 abbrev pub answer_text : List (List ℕ) → ℕ → ℕ → Answer → List ℕ
 answer_text names m n a = name_at names a.name ++ codes " = " ++ place_text names m n a.place
 
@@ -58,14 +59,17 @@ next_infinity PlusInfinity n = n + 1
 next_infinity MinusInfinity n = n + 1
 next_infinity (Periodic j q) n = n + 1
 
+-- the texts of the answers in order, each with the next numbers of an infinitesimal and of an infinity
 abbrev pub answer_texts : List (List ℕ) → ℕ → ℕ → List Answer → List (List ℕ)
 answer_texts names m n [] = []
 answer_texts names m n (a ∷ rest) = answer_text names m n a ∷ answer_texts names (next_epsilon a.place m) (next_infinity a.place n) rest
 
 -- ---- cases
 
+-- the guard, then the answers in braces, together in braces
 abbrev pub case_text : List (List ℕ) → Case → List ℕ
 case_text names k = codes "{" ++ tree_text names k.guard ++ codes ",{" ++ separated [] (answer_texts names 1 1 k.answers) ++ codes "}}"
 
+-- the cases with commas between them, in braces
 abbrev pub cases_text : List (List ℕ) → List Case → List ℕ
 cases_text names cases = codes "{" ++ separated [] (map (case_text names) cases) ++ codes "}"

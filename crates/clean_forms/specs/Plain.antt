@@ -15,6 +15,7 @@ abbrev pub count_together : Bool → ℕ → ℕ → ℕ
 count_together false m n = m + n
 count_together true m n = m * n
 
+-- how many lists no member gives: where j joins the members one, which is empty, else none
 abbrev pub count_of_none : Bool → ℕ
 count_of_none false = 0
 count_of_none true = 1
@@ -85,6 +86,7 @@ module _ {A : Type 0} where
     lines_count j (Ex x f) = 0
     lines_count j (All x f) = 0
 
+    -- the same of the members together
     pub all_lines_count : Junction → Bool → Formulas A ℕ → ℕ
     all_lines_count j b none = count_of_none b
     all_lines_count j b (also f fs) = count_together b (lines_count j f) (all_lines_count j b fs)
@@ -104,6 +106,7 @@ module _ {A : Type 0} where
     atom_places j (Ex x f) = 0
     atom_places j (All x f) = 0
 
+    -- the same of the members together
     pub all_atom_places : Junction → Bool → Formulas A ℕ → ℕ
     all_atom_places j b none = 0
     all_atom_places j b (also f fs) = places_together b (lines_count j f) (atom_places j f) (all_lines_count j b fs) (all_atom_places j b fs)

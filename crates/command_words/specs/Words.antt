@@ -7,6 +7,7 @@ use Rattle.command_words.specs.declared.options.Choice.TheVariants.{Nodes, Worke
 use Rattle.command_words.specs.declared.options.Options.{Options}
 use Rattle.command_words.specs.Value.{value_of}
 
+-- the option as it is written in a command line, with its hyphens
 abbrev pub name_of : Choice → List ℕ
 name_of Nodes = codes "--nodes"
 name_of Workers = codes "--workers"
@@ -36,6 +37,7 @@ with_value Nodes n options = record options { nodes = Some n }
 with_value Workers n options = record options { workers = Some n }
 with_value Generate n options = record options { generate = Some n }
 
+-- no option is given a value
 abbrev pub no_options : Options
 no_options = record { nodes = None; workers = None; generate = None }
 

@@ -15,9 +15,11 @@ pub record Case : Type 0 where
   pub guard : Tree
   pub answers : List Answer
 
+-- the case of a branch: the formula that is left guards the answers of the steps
 abbrev pub case_of : Branch → Case
 case_of b = record { guard = b.tree; answers = answers_of b.steps }
 
+-- the same of each branch, in order
 abbrev pub cases_of : List Branch → List Case
 cases_of [] = []
 cases_of (b ∷ bs) = case_of b ∷ cases_of bs
@@ -35,6 +37,7 @@ case_formula f = turned (case_sign (normal_tree f)) (normal_tree f)
 abbrev pub case_matrix : Tree → Tree
 case_matrix f = matrix_of nat_eq (case_formula f) Exists []
 
+-- the names of the leading block, from the outside in
 abbrev pub case_names : Tree → List ℕ
 case_names f = block_of nat_eq (case_formula f) Exists []
 

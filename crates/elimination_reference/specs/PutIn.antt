@@ -63,6 +63,7 @@ module _ (c : Context) (p : Point ℕ) where
     tree_put_within names (Ex x f) = tree_put_within (x ∷ names) f
     tree_put_within names (All x f) = tree_put_within (x ∷ names) f
 
+    -- the same of each member
     pub trees_put_within : List ℕ → Trees → Bool
     trees_put_within names none = true
     trees_put_within names (also f fs) = tree_put_within names f && trees_put_within names fs
@@ -71,6 +72,7 @@ module _ (c : Context) (p : Point ℕ) where
 
 module _ (c : Context) (p : Point ℕ) where
   abbrev mutual
+    -- the point put into each atom, in normal form; names: those of the quantifiers around, which stay
     pub tree_put : List ℕ → Tree → Tree
     tree_put names Yes = Yes
     tree_put names No = No
@@ -84,6 +86,7 @@ module _ (c : Context) (p : Point ℕ) where
     tree_put names (Ex x f) = Ex x (tree_put (x ∷ names) f)
     tree_put names (All x f) = All x (tree_put (x ∷ names) f)
 
+    -- the same of each member
     pub trees_put : List ℕ → Trees → Trees
     trees_put names none = none
     trees_put names (also f fs) = also (tree_put names f) (trees_put names fs)

@@ -55,6 +55,7 @@ next_branch x b r = record { tree = r.tree; steps = record { name = x; place = r
 abbrev pub alone : Tree → List Branch
 alone f = record { tree = f; steps = [] } ∷ []
 
+-- the formulas that are left in the branches, in order
 abbrev pub branch_trees : List Branch → Trees
 branch_trees [] = none
 branch_trees (b ∷ bs) = also b.tree (branch_trees bs)
@@ -87,6 +88,7 @@ module _ (c : Context) (limit : ℕ) where
     _ ← within (step_within c x b.tree)
     give (map (next_branch x b) (step c (normal_atom c) Lower x b.tree))
 
+  -- one step for x, for any branch: where x does not stand in it, the branch is kept with x at 0
   abbrev pub one_step : ℕ → Branch → Counted (List Branch)
   one_step x b = if stands_among x (atoms_in b.tree) then full_step x b else give (kept_at_zero x b ∷ [])
 

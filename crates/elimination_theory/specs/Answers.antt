@@ -13,6 +13,7 @@ pub record Step : Type 0 where
   pub place : Place
   pub branch : Tree
 
+-- the answer of a step: its name is put at its place
 abbrev pub answer_of : Step → Answer
 answer_of s = record { name = s.name; place = s.place }
 

@@ -22,6 +22,7 @@ module _ {A N : Type 0} where
     atoms_in (Ex x f) = atoms_in f
     atoms_in (All x f) = atoms_in f
 
+    -- the same of the members, one after the other
     pub atoms_in_all : Formulas A N → List A
     atoms_in_all none = []
     atoms_in_all (also f fs) = atoms_in f ++ atoms_in_all fs

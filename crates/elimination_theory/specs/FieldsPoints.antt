@@ -20,6 +20,7 @@ numbers_of e d = pos d ∷ e.constant ∷ coefficients e.terms
 abbrev pub divisor_of : Form → ℕ → ℕ
 divisor_of e d = unsigned_abs (content_of (numbers_of e d))
 
+-- each coefficient of the terms divided by g
 abbrev pub terms_over : ℕ → List Term → List Term
 terms_over g [] = []
 terms_over g (t ∷ ts) = record { times = int_div t.times (pos g); name = t.name } ∷ terms_over g ts
@@ -52,6 +53,7 @@ comparison_points side (pos zero) r t = []
 comparison_points side (pos (suc n)) r t = ends_of side (turned side r) (scale (negsuc 0) t) (suc n)
 comparison_points side (negsuc n) r t = ends_of side (turned side (mirrored r)) t (suc n)
 
+-- the test points of x that an atom gives; a congruence gives none
 abbrev pub atom_points : Side → ℕ → Atom → List Place
 atom_points side x (Compare r f) = comparison_points side (coefficient x f) r (without x f)
 atom_points side x (Congruent holds n f) = []

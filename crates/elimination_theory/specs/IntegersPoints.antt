@@ -63,6 +63,7 @@ comparison_starts side l (pos zero) r t = []
 comparison_starts side l (pos (suc n)) r t = starts_of side (turned side r) (scale (neg_ℤ (pos (l / suc n))) t)
 comparison_starts side l (negsuc n) r t = starts_of side (turned side (mirrored r)) (scale (pos (l / suc n)) t)
 
+-- the same of l * x in an atom; a congruence gives none
 abbrev pub atom_starts : Side → ℕ → ℕ → Atom → List Form
 atom_starts side l x (Compare r f) = comparison_starts side l (coefficient x f) r (without x f)
 atom_starts side l x (Congruent holds m f) = []
@@ -98,6 +99,7 @@ integer_scale x f = scale_of x (atoms_of f)
 abbrev pub integer_span : ℕ → Tree → ℕ
 integer_span x f = own_span x (atoms_of f)
 
+-- how many test points a name has in a formula, equal points counted as often as they are formed
 abbrev pub integer_count : Side → ℕ → Tree → ℕ
 integer_count side x f = integer_count_of side x (atoms_of f)
 

@@ -52,6 +52,7 @@ inverted p =
 -- ---- what is formed
 
 infixl 10 ◌>>=◌
+-- the second, of what the first gives; nothing where the first gives nothing
 abbrev pub ◌>>=◌ : {A B : Type 0} → Option A → (A → Option B) → Option B
 o >>= f = option_and_then f o
 

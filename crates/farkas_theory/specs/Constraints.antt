@@ -8,6 +8,7 @@ use Rattle.formula_meaning.specs.Some.{EachOf}
 pub data Bound : Type 0 where
   Equal AtMost Below : Bound
 
+-- a linear form, and what its value is to be
 pub record Constraint : Type 0 where
   pub form : Form
   pub bound : Bound

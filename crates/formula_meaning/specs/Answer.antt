@@ -8,6 +8,7 @@ use Rattle.formula_meaning.specs.Sorted.{IsSorted}
 use Rattle.formula_meaning.specs.Same.{same_form}
 use Rattle.formula_meaning.specs.Tree.{Tree, TrueAt}
 
+-- where a name is put: at a form over a number, next to it, or beyond all numbers
 pub data Place : Type 0 where
   -- the form over the denominator
   Exact : Form → ℕ → Place

@@ -4,9 +4,11 @@ use Rattle.formula_meaning.specs.Context.{Context, Fields, Integers}
 use Rattle.formula_meaning.specs.Point.{Point}
 use Rattle.formula_meaning.specs.Form.{Form, value, coefficient}
 
+-- how two numbers compare: equal, not equal, less, less or equal, greater, greater or equal
 pub data Relation : Type 0 where
   Equals Differs Below AtMost Above AtLeast : Relation
 
+-- a comparison of a linear form with 0, or a congruence of one, or the negation of a congruence
 pub data Atom : Type 0 where
   -- form relation 0
   Compare : Relation → Form → Atom
@@ -32,7 +34,7 @@ Says (Compare r f) p = Relates r (value f p) (pos 0)
 Says (Congruent true n f) p = IsMultiple n f p
 Says (Congruent false n f) p = ¬ (IsMultiple n f p)
 
--- the atom of the opposite truth
+-- the relation of the opposite truth
 abbrev pub opposite_relation : Relation → Relation
 opposite_relation Equals = Differs
 opposite_relation Differs = Equals
@@ -41,6 +43,7 @@ opposite_relation AtMost = Above
 opposite_relation Above = AtMost
 opposite_relation AtLeast = Below
 
+-- the atom of the opposite truth
 abbrev pub opposite : Atom → Atom
 opposite (Compare r f) = Compare (opposite_relation r) f
 opposite (Congruent holds n f) = Congruent (not holds) n f

@@ -1,6 +1,7 @@
 -- The two theories. Fields: truth over the rational numbers. Integers: truth over the whole numbers.
 use Rattle.std.specs.Prelude.{◌≡◌, ℕ, ◌<◌}
 
+-- one of the two theories: that of the rational numbers, or that of the whole numbers
 pub data Context : Type 0 where
   Fields : Context
   Integers : Context

@@ -60,6 +60,7 @@ module _ {A N : Type 0} (K : N → Type 0) where
     EveryBound (Ex x f) = K x × EveryBound f
     EveryBound (All x f) = K x × EveryBound f
 
+    -- each quantified name of each member has K
     pub EveryBoundOf : Formulas A N → Type 0
     EveryBoundOf none = Unit {0}
     EveryBoundOf (also f fs) = EveryBound f × EveryBoundOf fs

@@ -27,6 +27,7 @@ module _ {A N : Type 0} where
   absorbing Conjunction = No
   absorbing Disjunction = Yes
 
+  -- the members of the first list, then those of the second
   abbrev pub append : Formulas A N → Formulas A N → Formulas A N
   append none gs = gs
   append (also f fs) gs = also f (append fs gs)
@@ -42,6 +43,7 @@ module _ {A N : Type 0} where
   pieces_of Disjunction (Or fs) = Some fs
   pieces_of Disjunction f = Some (also f none)
 
+  -- the two lists as one; nothing where either is nothing
   abbrev pub put_together : Option (Formulas A N) → Option (Formulas A N) → Option (Formulas A N)
   put_together None gs = None
   put_together (Some fs) None = None

@@ -5,10 +5,12 @@ use Rattle.std.specs.Prelude.{ℕ, ◌+◌, nat_le, Bool, if◌then◌else◌}
 pub data Stop : Type 0 where
   Overflow Nodes : Stop
 
+-- a result, or what stopped the computation before it
 pub data Outcome (A : Type 0) : Type 0 where
   stopped : Stop → Outcome A
   done : A → Outcome A
 
+-- the second, of the result of the first; stopped where the first is stopped
 abbrev pub then_of : {A B : Type 0} → Outcome A → (A → Outcome B) → Outcome B
 then_of (stopped s) k = stopped s
 then_of (done a) k = k a
@@ -18,6 +20,7 @@ abbrev pub Counted : Type 0 → Type 0
 Counted A = ℕ → Outcome (A × ℕ)
 
 infixl 10 ◌>>=◌
+-- the second, of the result of the first and from the cost after it; stopped where the first is stopped
 abbrev pub ◌>>=◌ : {A B : Type 0} → Counted A → (A → Counted B) → Counted B
 m >>= k = λ cost. then_of (m cost) (λ r. k r.0 r.1)
 

@@ -23,6 +23,7 @@ module _ {A N : Type 0} where
     HasTwoMembers (Ex x f) = HasTwoMembers f
     HasTwoMembers (All x f) = HasTwoMembers f
 
+    -- the same of each formula of the list
     pub HaveTwoMembers : Formulas A N → Type 0
     HaveTwoMembers none = Unit {0}
     HaveTwoMembers (also f fs) = HasTwoMembers f × HaveTwoMembers fs

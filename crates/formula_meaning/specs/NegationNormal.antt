@@ -36,10 +36,12 @@ module _ {A N : Type 0} (opposite : A → A) where
     normal_form_of_not (Ex x f) = All x (normal_form_of_not f)
     normal_form_of_not (All x f) = Ex x (normal_form_of_not f)
 
+    -- the negation normal form of each member
     pub normal_forms : Formulas A N → Formulas A N
     normal_forms none = none
     normal_forms (also f fs) = also (normal_form f) (normal_forms fs)
 
+    -- the negation normal form of the negation of each member
     pub normal_forms_of_not : Formulas A N → Formulas A N
     normal_forms_of_not none = none
     normal_forms_of_not (also f fs) = also (normal_form_of_not f) (normal_forms_of_not fs)

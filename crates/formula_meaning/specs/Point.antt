@@ -7,6 +7,7 @@ pub record Point (N : Type 0) : Type 0 where
   pub at : N → ℤ
   pub below : ℕ
 
+-- the point is one of the theory: its denominator is one that such points have
 abbrev pub Of : {N : Type 0} → Context → Point N → Type 0
 Of c p = IsDenominator c p.below
 

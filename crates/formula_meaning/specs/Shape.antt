@@ -38,6 +38,7 @@ module _ {A N : Type 0} where
     IsQuantifierFree (Ex x f) = ⊥
     IsQuantifierFree (All x f) = ⊥
 
+    -- no quantifier stands in any member
     pub AreQuantifierFree : Formulas A N → Type 0
     AreQuantifierFree none = Unit {0}
     AreQuantifierFree (also f fs) = IsQuantifierFree f × AreQuantifierFree fs

@@ -59,6 +59,7 @@ module _ {A N : Type 0} where
     subtrees (Ex x f) = Ex x f ∷ subtrees f
     subtrees (All x f) = All x f ∷ subtrees f
 
+    -- the subtrees of the members, one member after the other
     pub all_subtrees : Formulas A N → List (Formula A N)
     all_subtrees none = []
     all_subtrees (also f fs) = subtrees f ++ all_subtrees fs
@@ -80,6 +81,7 @@ module _ {A N : Type 0} (alike : A → A → Bool) (same : N → N → Bool) whe
     same_formula (All x f) (All y g) = same x y && same_formula f g
     same_formula _ _ = false
 
+    -- the same formulas in the same order
     pub same_formulas : Formulas A N → Formulas A N → Bool
     same_formulas none none = true
     same_formulas (also f fs) (also g gs) = same_formula f g && same_formulas fs gs
@@ -110,6 +112,7 @@ module _ {A N : Type 0} (names_of : A → List N) (same : N → N → Bool) wher
     free_places (Ex x f) = without_same same x (free_places f)
     free_places (All x f) = without_same same x (free_places f)
 
+    -- the same of the members, one after the other
     pub all_free_places : Formulas A N → List N
     all_free_places none = []
     all_free_places (also f fs) = free_places f ++ all_free_places fs

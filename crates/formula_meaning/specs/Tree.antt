@@ -12,9 +12,11 @@ use Rattle.formula_meaning.specs.Atom.{Atom, Says, AtomIn, Mentions, opposite, f
 use Rattle.formula_meaning.specs.Every.{Every, Free}
 use Rattle.formula_meaning.specs.NegationNormal.{normal_form, normal_form_of_not}
 
+-- a formula over atoms of linear forms, whose names are numbers
 abbrev pub Tree : Type 0
 Tree = Formula Atom ℕ
 
+-- a list of such formulas
 abbrev pub Trees : Type 0
 Trees = Formulas Atom ℕ
 

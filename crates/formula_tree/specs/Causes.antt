@@ -80,6 +80,7 @@ module _ (c : Context) (number : List ℕ → ℕ) where
     HasNonlinear (Power t n) = (IsVarying (formed c number t) × IsAboveOne n) ⊎ HasNonlinear t
     HasNonlinear (Negative t) = HasNonlinear t
 
+    -- the same of some term of the list
     pub HaveNonlinear : TermTrees → Type 0
     HaveNonlinear none = ⊥
     HaveNonlinear (also t ts) = HasNonlinear t ⊎ HaveNonlinear ts
@@ -101,6 +102,7 @@ module _ (c : Context) (number : List ℕ → ℕ) where
     HasForbidden (Power t n) = HasForbidden t
     HasForbidden (Negative t) = HasForbidden t
 
+    -- a quotient in some term of the list is not allowed
     pub HaveForbidden : TermTrees → Type 0
     HaveForbidden none = ⊥
     HaveForbidden (also t ts) = HasForbidden t ⊎ HaveForbidden ts
@@ -116,6 +118,7 @@ abbrev mutual
   HasPast (Power t n) = HasPast t ⊎ (n ≡ Past)
   HasPast (Negative t) = HasPast t
 
+  -- a literal of some term of the list is past the limit
   pub HavePast : TermTrees → Type 0
   HavePast none = ⊥
   HavePast (also t ts) = HasPast t ⊎ HavePast ts
@@ -129,6 +132,7 @@ SomeTerm P (Cong s t m) = P s ⊎ (P t ⊎ P m)
 SomeTerm P (Ncong s t m) = P s ⊎ (P t ⊎ P m)
 SomeTerm P (Bound x) = ⊥
 
+-- the atom says that two terms are congruent by a modulus, or that they are not
 abbrev pub IsCongruence : WrittenAtom → Type 0
 IsCongruence (Compare rel s t) = ⊥
 IsCongruence (Cong s t m) = Unit {0}
@@ -157,9 +161,11 @@ PassesInReading c bound number (Bound x) = ⊥
 
 -- ---- formulas
 
+-- a product in a term of some atom multiplies names, or a power above 1 has a base that is not constant
 abbrev pub IsNonlinear : Context → (List ℕ → ℕ) → FormulaTree → Type 0
 IsNonlinear c number f = SomeAtom (SomeTerm (HasNonlinear c number)) f
 
+-- a quotient in a term of some atom is not allowed
 abbrev pub Divides : Context → (List ℕ → ℕ) → FormulaTree → Type 0
 Divides c number f = SomeAtom (SomeTerm (HasForbidden c number)) f
 
@@ -168,6 +174,7 @@ abbrev pub CongruenceInFields : Context → FormulaTree → Type 0
 CongruenceInFields Fields f = SomeAtom IsCongruence f
 CongruenceInFields Integers f = ⊥
 
+-- the modulus of some atom is there and is no constant other than 0
 abbrev pub IsBadModulus : Context → (List ℕ → ℕ) → FormulaTree → Type 0
 IsBadModulus c number f = SomeAtom (HasBadModulus c number) f
 
