@@ -53,6 +53,7 @@ abbrev pub is_empty : List Term → Bool
 is_empty [] = true
 is_empty (t ∷ ts) = false
 
+-- the form is a number alone: it has no terms
 abbrev pub is_constant : RationalForm → Bool
 is_constant p = is_empty p.form.terms
 

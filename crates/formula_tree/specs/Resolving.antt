@@ -39,6 +39,7 @@ abbrev mutual
   variables_of (Power t n) = variables_of t
   variables_of (Negative t) = variables_of t
 
+  -- the variables of the members of a sum or a product, one after the other
   pub variables_in : TermTrees → List (List ℕ)
   variables_in none = []
   variables_in (also t ts) = variables_of t ++ variables_in ts
@@ -65,6 +66,7 @@ abbrev mutual
   formula_variables (Ex x f) = x ∷ formula_variables f
   formula_variables (All x f) = x ∷ formula_variables f
 
+  -- the variables of the members of a list, one after the other
   pub all_variables : FormulaTrees → List (List ℕ)
   all_variables plain.none = []
   all_variables (plain.also f fs) = formula_variables f ++ all_variables fs

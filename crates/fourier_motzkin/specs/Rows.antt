@@ -57,12 +57,15 @@ rows_from place (c ∷ cs) = bound_rows place c.bound (gathered c.form) ++ rows_
 abbrev pub absent : ℕ → List Row → List Row
 absent x rows = filter (λ (r : Row). int_eq (coefficient x r.form) (pos 0)) rows
 
+-- the rows that bound the name above: its coefficient is positive
 abbrev pub uppers : ℕ → List Row → List Row
 uppers x rows = filter (λ (r : Row). int_lt (pos 0) (coefficient x r.form)) rows
 
+-- the rows that bound the name below: its coefficient is negative
 abbrev pub lowers : ℕ → List Row → List Row
 lowers x rows = filter (λ (r : Row). int_lt (coefficient x r.form) (pos 0)) rows
 
+-- a row that bounds the name above, and one that bounds it below
 pub record Pair : Type 0 where
   pub upper : Row
   pub lower : Row
@@ -75,6 +78,7 @@ pairs x rows = flat_map (λ (p : Row). map (λ (n : Row). record { upper = p; lo
 abbrev pub above : ℕ → Pair → ℤ
 above x pair = coefficient x pair.upper.form
 
+-- the coefficient of the name in the lower row, with the other sign, so that it is positive
 abbrev pub below : ℕ → Pair → ℤ
 below x pair = neg_ℤ (coefficient x pair.lower.form)
 
@@ -82,6 +86,7 @@ below x pair = neg_ℤ (coefficient x pair.lower.form)
 abbrev pub upper_factor : ℕ → Pair → ℤ
 upper_factor x pair = int_div (below x pair) (gcd_of (above x pair) (below x pair))
 
+-- the number by which the lower row is multiplied: the upper coefficient over their greatest common divisor
 abbrev pub lower_factor : ℕ → Pair → ℤ
 lower_factor x pair = int_div (above x pair) (gcd_of (above x pair) (below x pair))
 

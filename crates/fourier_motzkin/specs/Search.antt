@@ -10,6 +10,7 @@ use Rattle.farkas_theory.specs.Constraints.{Constraint}
 use Rattle.fourier_motzkin.specs.Rows.{Row, rows_from, absent, Pair, pairs, pair_within, without_name}
 use Rattle.fourier_motzkin.specs.Bounds.{found_value}
 
+-- what the search answers with: a point that meets all constraints, or multipliers by which none does
 pub data Certificate : Type 0 where
   -- values of the names at which all constraints are met
   At : List Value → Certificate
@@ -26,6 +27,7 @@ module _ (limit : ℕ) where
     _ ← within (pair_within x pair)
     give (without_name x pair)
 
+  -- the new rows of all pairs, one after the other
   abbrev pub new_rows : ℕ → List Pair → Counted (List Row)
   new_rows x [] = give []
   new_rows x (pair ∷ rest) = do
@@ -45,6 +47,7 @@ module _ (limit : ℕ) where
 abbrev pub is_false : Row → Bool
 is_false r = int_lt (pos 0) r.form.constant || (r.strict && int_eq r.form.constant (pos 0))
 
+-- the first of the rows that is false, if there is one
 abbrev pub first_false : List Row → Option Row
 first_false [] = None
 first_false (r ∷ rows) = if is_false r then Some r else first_false rows

@@ -4,6 +4,7 @@ use Rattle.std.specs.Fmt.{decimal}
 use Rattle.generated_scripts.specs.declared.count.LineKind.{LineKind}
 use Rattle.generated_scripts.specs.declared.count.LineKind.TheVariants.{Truth, Falsehood, Refusal}
 
+-- the byte that ends a line, as a text
 abbrev pub newline : List ℕ
 newline = 10 ∷ []
 
@@ -29,6 +30,7 @@ abbrev pub lines_after : List ℕ → List ℕ → List (List ℕ)
 lines_after begun [] = []
 lines_after begun (b ∷ bs) = if b == 10 then begun ∷ lines_after [] bs else lines_after (begun ++ b ∷ []) bs
 
+-- the lines of these bytes, each up to its newline; what follows the last newline is none
 abbrev pub lines_in : List ℕ → List (List ℕ)
 lines_in bytes = lines_after [] bytes
 

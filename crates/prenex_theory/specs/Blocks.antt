@@ -5,6 +5,7 @@ use Rattle.formula_meaning.specs.Formula.{Formula, Formulas, Yes, No, One, Not, 
 use Rattle.formula_meaning.specs.declared.quantifier.Quantifier.{Quantifier}
 use Rattle.formula_meaning.specs.declared.quantifier.Quantifier.TheVariants.{Exists, ForAll}
 
+-- the kind of the block that comes after one of this kind
 abbrev pub other_kind : Quantifier → Quantifier
 other_kind Exists = ForAll
 other_kind ForAll = Exists

@@ -8,10 +8,12 @@ use Rattle.formula_meaning.specs.Tree.{Tree, Trees, tree_names}
 
 -- ---- atoms with other names
 
+-- the terms with each name as now says, and the coefficients that they had
 abbrev pub terms_named : (ℕ → ℕ) → List Term → List Term
 terms_named now [] = []
 terms_named now (t ∷ ts) = record { times = t.times; name = now t.name } ∷ terms_named now ts
 
+-- the linear form with each name as now says
 abbrev pub form_named : (ℕ → ℕ) → Form → Form
 form_named now f = record { terms = terms_named now f.terms; constant = f.constant }
 
@@ -54,6 +56,7 @@ module _ (count : ℕ) where
     after (All x f) s = after f (chosen x s)
     after f s = s
 
+    -- what is chosen after the members of a list, one after the other
     pub after_all : Trees → Chosen → Chosen
     after_all none s = s
     after_all (also f fs) s = after_all fs (after f s)
@@ -68,6 +71,7 @@ module _ (count : ℕ) where
     renamed now (All x f) s = All (chosen_name x s) (renamed (with_now now x (chosen_name x s)) f (chosen x s))
     renamed now f s = f
 
+    -- the same of a list, each member from what is chosen after those before it
     pub all_renamed : (ℕ → ℕ) → Trees → Chosen → Trees
     all_renamed now none s = none
     all_renamed now (also f fs) s = also (renamed now f s) (all_renamed now fs (after f s))

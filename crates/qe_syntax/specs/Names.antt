@@ -2,6 +2,7 @@
 use Rattle.std.specs.Prelude.{◌≡◌, ℕ, ◌≤◌, Bool, true, false, ◌&&◌, ◌||◌, ◌==◌, List, [], ◌∷◌, length, take, drop, codes, bytes_eq, nat_lt, nat_le}
 use Rattle.std.specs.List.{list_any, list_all}
 
+-- an ASCII digit
 abbrev pub is_digit : ℕ → Bool
 is_digit b = nat_le 48 b && nat_le b 57
 
@@ -22,6 +23,7 @@ keywords =
     ∷ codes "rlholds" ∷ codes "rlwitness" ∷ codes "rlassume" ∷ codes "rlretract" ∷ codes "rlgrid" ∷ codes "rlopt" ∷ codes "rlcert" ∷ codes "rlcheck"
     ∷ codes "load_package" ∷ codes "on" ∷ codes "off" ∷ codes "end" ∷ codes "bye" ∷ codes "quit" ∷ []
 
+-- the text stands in the list, byte for byte
 abbrev pub is_one_of : List ℕ → List (List ℕ) → Bool
 is_one_of text = list_any (λ word. bytes_eq text word)
 

@@ -22,6 +22,7 @@ mutual
     Power : TermTree → Literal → TermTree
     Negative : TermTree → TermTree
 
+  -- the members of a sum or a product: none, or a term before others
   pub data TermTrees : Type 0 where
     none : TermTrees
     also : TermTree → TermTrees → TermTrees

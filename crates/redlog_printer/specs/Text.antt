@@ -41,11 +41,13 @@ abbrev pub sum_text : List (List ℕ) → List Term → ℤ → List ℕ
 sum_text names [] c = first_sign c ++ decimal (unsigned_abs c)
 sum_text names (t ∷ ts) c = first_sign t.times ++ multiple_text names t ++ flat_map (later_multiple names) ts ++ later_constant c
 
+-- the text of a linear form: its multiples of names, and its constant
 abbrev pub form_text : List (List ℕ) → Form → List ℕ
 form_text names f = sum_text names f.terms f.constant
 
 -- ---- atoms
 
+-- what is written after the form that is compared with 0
 abbrev pub relation_text : Relation → List ℕ
 relation_text Equals = codes " = 0"
 relation_text Differs = codes " <> 0"
@@ -54,10 +56,12 @@ relation_text AtMost = codes " <= 0"
 relation_text Above = codes " > 0"
 relation_text AtLeast = codes " >= 0"
 
+-- what a congruence begins with: one that is to hold, or one that is not to
 abbrev pub congruence_text : Bool → List ℕ
 congruence_text true = codes "cong("
 congruence_text false = codes "ncong("
 
+-- the text of an atom: a form compared with 0, or congruent to 0 by a modulus or not
 abbrev pub atom_text : List (List ℕ) → Atom → List ℕ
 atom_text names (Compare r f) = form_text names f ++ relation_text r
 atom_text names (Congruent holds m f) = congruence_text holds ++ form_text names f ++ codes ",0," ++ decimal m ++ codes ")"
@@ -78,11 +82,13 @@ is_compound (Equiv f g) = true
 is_compound (Ex x f) = false
 is_compound (All x f) = false
 
+-- the text, with parentheses around it where they are asked for
 abbrev pub in_parentheses : Bool → List ℕ → List ℕ
 in_parentheses true text = codes "(" ++ text ++ codes ")"
 in_parentheses false text = text
 
 abbrev mutual
+  -- the text of a formula that stands alone
   pub tree_text : List (List ℕ) → Tree → List ℕ
   tree_text names Yes = codes "true"
   tree_text names No = codes "false"

@@ -4,6 +4,7 @@ use Rattle.std.specs.Fmt.{decimal}
 use Rattle.session_meaning.specs.declared.line.Line.{Line}
 use Rattle.session_meaning.specs.declared.line.Line.TheVariants.{Nothing, Printed, Finished}
 
+-- the byte that ends a line, as a text
 abbrev pub newline : List ℕ
 newline = 10 ∷ []
 

@@ -81,6 +81,7 @@ OutcomeOfSource limit before after status.Usage = ⊥
 
 -- ---- a generated script: nothing is read, and one line is written, which counts the lines of the answer to the generated script of n
 
+-- under a limit of nodes: the source is as before, and the line is written, or a front of it, or nothing
 abbrev pub OutcomeGenerated : ℕ → ℕ → Ends → Ends → Status → Type 0
 OutcomeGenerated limit n before after status.Done = (after.left ≡ before.left) × ((lines : List ℕ) × RunOf limit (generated n) lines false × Took before.wrote after.wrote (tally lines))
 OutcomeGenerated limit n before after status.Refused = (after.left ≡ before.left) × ((lines : List ℕ) × RunOf limit (generated n) lines true × Took before.wrote after.wrote (tally lines))
@@ -93,6 +94,7 @@ OutcomeGenerated limit n before after status.Usage = ⊥
 
 -- ---- either
 
+-- the outcome of the generated script where a number is given, else of the script of the source
 abbrev pub outcome_of : ℕ → Option ℕ → Ends → Ends → Status → Type 0
 outcome_of limit None before after s = OutcomeOfSource limit before after s
 outcome_of limit (Some n) before after s = OutcomeGenerated limit n before after s
@@ -113,6 +115,7 @@ Faults before after status.ScriptLong = (after.reads_failed ≡ before.reads_fai
 
 -- ---- what is answered
 
+-- all is answered and nothing refused, or memory ran out
 abbrev pub IsDoneOrMemory : Status → Type 0
 IsDoneOrMemory s = (s ≡ status.Done) ⊎ (s ≡ status.Memory)
 
@@ -121,5 +124,6 @@ abbrev pub completes_of : ℕ → Option ℕ → Ends → Status → Type 0
 completes_of limit None before s = (script : List ℕ) → before.left ≡ Some script → length script ≤ script_limit → IsUnrefused limit script → IsDoneOrMemory s
 completes_of limit (Some n) before s = IsUnrefused limit (generated n) → IsDoneOrMemory s
 
+-- under these options, a script in which nothing has a cause of a refusal is answered, or memory runs out
 abbrev pub Completes : Options → Ends → Status → Type 0
 Completes options before s = completes_of (node_limit options) options.generate before s

@@ -21,6 +21,7 @@ pub data AnswersPiece (s : State) (limit : ℕ) (piece : List ℕ) (offset : ℕ
   refused : {next : State} (cause : StatementError) → cause ≢ error.Memory → Reply s limit piece (Err cause) next
       → AnswersPiece s limit piece offset false (refusal_line (word_of cause) offset) true next
 
+-- the bytes of the script from the place start up to the place end
 abbrev pub piece_bytes : List ℕ → ℕ → ℕ → List ℕ
 piece_bytes script start end = take (end - start) (drop start script)
 

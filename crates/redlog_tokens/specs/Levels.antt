@@ -11,6 +11,7 @@ use Rattle.redlog_tokens.specs.declared.terminal.Word.TheVariants as word
 -- What counts in an open group: opened is 1 for its bracket with each not of the run before that, arrows are the words
 -- impl, repl and equiv since the group's last comma, and slashes its / since its last token that no product goes on with.
 
+-- what an open group adds to the level of the tokens in it
 abbrev pub weight : Group → ℕ
 weight g = g.opened + g.arrows + g.slashes
 

@@ -44,6 +44,7 @@ abbrev pub with_root : Option Frac → List Frac → List Frac
 with_root (Some a) rest = a ∷ rest
 with_root None rest = rest
 
+-- the roots of those atoms that have one, in the order of the atoms
 abbrev pub critical_values : ℕ → List Atom → List Frac
 critical_values x [] = []
 critical_values x (a ∷ atoms) = with_root (atom_root x a) (critical_values x atoms)
@@ -54,6 +55,7 @@ criticals c x f p = if tree_put_within c p (x ∷ []) f then Some (critical_valu
 
 -- ---- the least
 
+-- the first fraction is below the second, where both denominators are positive
 abbrev pub is_less : Frac → Frac → Bool
 is_less a b = int_lt (a.numerator *ℤ b.denominator) (b.numerator *ℤ a.denominator)
 
@@ -73,6 +75,7 @@ past None values = values
 past (Some e) [] = []
 past (Some e) (a ∷ rest) = if is_less e a then a ∷ past (Some e) rest else past (Some e) rest
 
+-- the least number above the bound, or of all where there is no bound; None where there is none
 abbrev pub least_past : Option Frac → List Frac → Option Frac
 least_past bound values = least_with None (past bound values)
 
@@ -82,6 +85,7 @@ least_past bound values = least_with None (past bound values)
 abbrev pub form_value : Form → ℕ → Point ℕ → Option Frac
 form_value e d p = value_steps e p.at (pos p.below) >>= λ v. product_step (lowest v (pos p.below)) (record { numerator = pos 1; denominator = pos d })
 
+-- the fraction 1/2, by which a sum of two is multiplied for the number half way
 abbrev pub half : Frac
 half = record { numerator = pos 1; denominator = pos 2 }
 

@@ -12,6 +12,7 @@ pub record Value : Type 0 where
   pub name : ℕ
   pub at : Frac
 
+-- the names of the values, in their order
 abbrev pub value_names : List Value → List ℕ
 value_names [] = []
 value_names (v ∷ vs) = v.name ∷ value_names vs

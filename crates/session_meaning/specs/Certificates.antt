@@ -34,6 +34,7 @@ use Rattle.session_meaning.specs.State.{State}
 abbrev pub compared : farkas.Bound → Form → Constraint
 compared bound f = record { form = f; bound = bound }
 
+-- the constraint that a comparison with 0 is; for <> and a congruence, which are none, any will do
 abbrev pub atom_constraint : Atom → Constraint
 atom_constraint (Compare Equals f) = compared farkas.Equal f
 atom_constraint (Compare Differs f) = compared farkas.Equal f
@@ -67,6 +68,7 @@ AreInfeasible s written = (p : Point ℕ) → Of Fields p → ¬ (AllTrueAt s wr
 abbrev pub Searches : State → ℕ → FormulaTrees → Certificate → Type 0
 Searches s limit written found = search limit (constrained_names s written) (constraints_of s written) ≡ done found
 
+-- the search stops: the count of its rows passes the limit, or a number passes the limit of numbers
 abbrev pub SearchStops : FormulaTrees → Stop → State → ℕ → Type 0
 SearchStops written e s limit = search limit (constrained_names s written) (constraints_of s written) ≡ stopped e
 

@@ -30,9 +30,11 @@ entry_of x r = record { name = x; above = r.above; below = r.below }
 abbrev pub lows : List GridAxis → List PointEntry
 lows axes = map (λ (a : GridAxis). entry_of a.name a.low) axes
 
+-- the high end of each axis, as an entry of a point
 abbrev pub highs : List GridAxis → List PointEntry
 highs axes = map (λ (a : GridAxis). entry_of a.name a.high) axes
 
+-- the step of each axis, as an entry of a point
 abbrev pub steps : List GridAxis → List PointEntry
 steps axes = map (λ (a : GridAxis). entry_of a.name a.step) axes
 

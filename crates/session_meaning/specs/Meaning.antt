@@ -117,9 +117,11 @@ MayGive a s limit t = IsAllowed a s limit t × Every IsAtomInLimit t
 
 -- ---- the parts of meanings
 
+-- what holds of no state, under no limit
 abbrev pub never : Fact
 never s limit = ⊥
 
+-- the causes of a command that is never refused for one of its own
 abbrev pub no_causes : OwnCauses
 no_causes = record { context = never; point = never; unvalued = never; quantified = never; overflow = never; nodes = never; text = never }
 
@@ -172,6 +174,7 @@ clean j f = record (of_formula f none (counts (λ s. literals j (negated_of s f)
   must = record no_causes { quantified = λ s limit. IsQuantified s.bound f };
 }
 
+-- the formula with its variables numbered, its bound names as their trees, and its atoms in normal form
 abbrev pub resolved : FormulaTree → State → Tree
 resolved f s = resolve s.context s.bound s.names f
 

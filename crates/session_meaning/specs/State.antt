@@ -8,6 +8,7 @@ use Rattle.formula_meaning.specs.Tree.{Tree}
 use Rattle.formula_tree.specs.Bindings.{bind}
 use Rattle.formula_tree.specs.Resolving.{BoundTrees}
 
+-- what one statement leaves to the next: theory, names, bound formulas, and standing assumptions
 pub record State : Type 0 where
   pub context : Context
   pub names : List (List ℕ)
@@ -26,10 +27,12 @@ with_standing s ts = record s { standing = ts }
 abbrev pub first_state : State
 first_state = record { context = Fields; names = []; bound = []; standing = [] }
 
+-- the theory that a setting chooses: the ordered fields or the integers
 abbrev pub theory_of : Setting → Context
 theory_of Ofsf = Fields
 theory_of Pasf = Integers
 
+-- both are the ordered fields, or both are the integers
 abbrev pub is_same_theory : Context → Context → Bool
 is_same_theory Fields Fields = true
 is_same_theory Fields Integers = false

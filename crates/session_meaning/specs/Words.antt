@@ -5,6 +5,7 @@ use Rattle.formula_meaning.specs.Context.{Context, Fields, Integers}
 use Rattle.session_meaning.specs.declared.line.StatementError.{StatementError}
 use Rattle.session_meaning.specs.declared.line.StatementError.TheVariants as error
 
+-- the word by which the line of a refusal names its cause
 abbrev pub word_of : StatementError → List ℕ
 word_of error.Long = codes "long"
 word_of error.Lexical = codes "lexical"

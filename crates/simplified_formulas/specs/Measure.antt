@@ -7,6 +7,7 @@ use Rattle.formula_meaning.specs.declared.junction.Junction.TheVariants.{Conjunc
 use Rattle.formula_meaning.specs.declared.quantifier.Quantifier.{Quantifier}
 use Rattle.formula_meaning.specs.declared.quantifier.Quantifier.TheVariants.{Exists, ForAll}
 
+-- the sizes of the parts, from which that of a formula is added up
 pub record Measure (A : Type 0) : Type 0 where
   pub yes : ℕ
   pub no : ℕ
