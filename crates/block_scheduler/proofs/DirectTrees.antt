@@ -47,7 +47,8 @@ use Rattle.branch_rounds.proofs.Left.{constants_within}
 use Rattle.case_trees.specs.declared.case_tree.Case.{Case}
 use Rattle.case_trees.specs.declared.case_tree.CaseTree.{CaseTree}
 use Rattle.block_scheduler.specs.declared.task.Task.{Task}
-use Rattle.block_scheduler.specs.Direct.{IsNoLarger, IsDirectTree}
+use Rattle.simplified_texts.specs.Texts.{IsNoLarger}
+use Rattle.block_scheduler.specs.Direct.{IsDirectTree}
 use Rattle.block_scheduler.specs.Listed.{told_case, told_branch}
 use Rattle.block_scheduler.proofs.DirectForms.{matrix_is, names_are, atoms_plain, folded_nodes, folded_equation, folded_within, folded_answer}
 

@@ -1,23 +1,15 @@
 -- The cases of a direct formula.
-use Rattle.std.specs.Prelude.{ℕ, ◌≤◌, ◌<◌, List, length}
+use Rattle.std.specs.Prelude.{ℕ, ◌≤◌, List, length}
 use Rattle.formula_meaning.specs.Answer.{Place}
-use Rattle.formula_meaning.specs.Every.{Every}
-use Rattle.formula_meaning.specs.Sizes.{nodes}
 use Rattle.formula_meaning.specs.Some.{EachOf}
-use Rattle.formula_meaning.specs.Tree.{Tree, Trees}
-use Rattle.formula_meaning.specs.Within.{IsAtomWithin}
-use Rattle.redlog_printer.specs.Text.{tree_text}
+use Rattle.formula_meaning.specs.Tree.{Trees}
+use Rattle.simplified_texts.specs.Texts.{IsNoLarger}
 use Rattle.formula_tree.specs.declared.shape.Shape.{Shape}
 use Rattle.formula_store.specs.declared.id.FormulaId.{FormulaId}
 use Rattle.formula_store.specs.Nodes.{tree}
 use Rattle.case_theory.specs.Direct.{direct_answer}
 use Rattle.case_trees.specs.declared.case_tree.Case.{Case}
 use Rattle.case_trees.specs.declared.case_tree.CaseTree.{CaseTree}
-
--- g has no more nodes than f and, where names that are not empty name each variable of f, no longer text
-pub record IsNoLarger (f g : Tree) : Type 0 where
-  pub nodes : nodes g ≤ nodes f
-  pub text : (names : List (List ℕ)) → EachOf (λ name. 0 < length name) names → Every (IsAtomWithin (length names)) f → length (tree_text names g) ≤ length (tree_text names f)
 
 -- there is at most one case, and its guard is no larger than the direct answer
 pub record IsDirectTree (x : ℕ) (fs : Trees) (s : Place) (store : List (Shape FormulaId)) (t : CaseTree) : Type 0 where

@@ -1,4 +1,4 @@
--- The text of a formula as a measure, and the law that simplifying makes no text longer.
+-- The text of a formula as a measure, when a formula is no larger than another, and the law that simplifying makes no text longer.
 use Rattle.std.specs.Prelude.{ℕ, ◌+◌, ◌≤◌, ◌<◌, List, length}
 use Rattle.formula_meaning.specs.Context.{Context}
 use Rattle.formula_meaning.specs.Some.{EachOf}
@@ -11,6 +11,7 @@ use Rattle.formula_meaning.specs.declared.quantifier.Quantifier.TheVariants.{Exi
 use Rattle.formula_meaning.specs.Tree.{Tree}
 use Rattle.redlog_printer.specs.Text.{name_at, atom_text, tree_text}
 use Rattle.formula_meaning.specs.Within.{IsAtomWithin}
+use Rattle.formula_meaning.specs.Sizes.{nodes}
 use Rattle.simplified_formulas.specs.Measure.{Measure}
 use Rattle.simplified_formulas.specs.Trees.{IsSimplifiable, simplified_under}
 
@@ -35,6 +36,11 @@ text_measure names = record {
   brackets = 2;
   quantifier = quantifier_length names;
 }
+
+-- g has no more nodes than f and, where names that are not empty name each variable of f, no longer text
+pub record IsNoLarger (f g : Tree) : Type 0 where
+  pub nodes : nodes g ≤ nodes f
+  pub text : (names : List (List ℕ)) → EachOf (λ name. 0 < length name) names → Every (IsAtomWithin (length names)) f → length (tree_text names g) ≤ length (tree_text names f)
 
 -- with names that are not empty, the text of a simplified formula is no longer than that of the formula
 abbrev pub SimplifyingLengthensNoText : Type 0
