@@ -1,3 +1,4 @@
 pub mod Inherited
 pub mod Made
 pub mod Taken
+pub mod Noted

@@ -1,7 +1,5 @@
 -- A formula at a point over what is made of its members, shape by shape.
-use Rattle.std.proofs.Common.{◌≡◌, Bool, true, ◌&&◌, List, [], ◌∷◌, map, IsSome, refl, sym, ap, ◌∙◌, subst}
-use Rattle.std.specs.Prelude.{unwrap_or}
-use Rattle.std.specs.HashMap.{get}
+use Rattle.std.proofs.Common.{◌≡◌, Bool, true, ◌&&◌, List, [], ◌∷◌, map, refl, sym, ap, ◌∙◌}
 use Rattle.std.specs.List.{AllByRecursion}
 use Rattle.formula_meaning.specs.declared.junction.Junction.{Junction}
 use Rattle.formula_meaning.specs.Fold.{joined, folded, fold_list}
@@ -17,7 +15,7 @@ use Rattle.formula_tree.specs.Makers.{IsMade, Keeps}
 use Rattle.formula_tree.specs.Trees.{members}
 use Rattle.formula_store.specs.declared.id.FormulaId.{FormulaId}
 use Rattle.formula_store.specs.Nodes.{tree, IsId}
-use Rattle.formula_store.specs.Tables.{TableOf, same_id}
+use Rattle.formula_store.specs.Tables.{TableOf}
 use Rattle.nnf_substitution.specs.Placed.{put, put_all, all_within, each_within}
 use Rattle.nnf_substitution.proofs.PutLaws.{also_within, and_true, put_joined, joined_within, normal_folded}
 use Rattle.test_points.specs.declared.points.TestPoint.{TestPoint}
@@ -47,32 +45,29 @@ module _ (c : Context) (t : TestPoint) (nodes made : List (Shape FormulaId)) whe
       put_as (One a) id copy e (record { is = m.is; same = m.same ∙ sym (normal_folded n) ∙ ap folded p.formula })
       (and_true (atom_within (context_of c) t.name.number (place_of t) a) ∙ p.within)
 
+  -- a formula that stays what it is
+  module _ (kept : Keeps (IsId nodes) (tree nodes) (IsId made) (tree made)) (id : FormulaId) (is : IsId nodes id) where
+    pub same_put : (f : Tree) → tree nodes id ≡ f → f ≡ put (context_of c) t.name.number (place_of t) f → all_within (context_of c) t.name.number (place_of t) f ≡ true → IsNodePut c t nodes made id id
+    same_put f e p w = put_as f id id e (record { is = kept.is id is; same = kept.same id is ∙ e ∙ p }) w
+
+    pub same_atom_put : (a : meant.Atom) (n : Normal) → tree nodes id ≡ One a → IsAtomPut c t a n → tree_of n ≡ One a → IsNodePut c t nodes made id id
+    same_atom_put a n e p same = atom_put a n id id e p (record { is = kept.is id is; same = kept.same id is ∙ e ∙ sym same })
+
   module _ (table : TableOf FormulaId) where
-    pub value_made : (id : FormulaId) → Held c t nodes made table id → IsNodePut c t nodes made id (made_of table id)
-    value_made id h = subst (IsNodePut c t nodes made id) (sym (ap (λ o. unwrap_or o id) h.there)) h.holds
-
-    pub there_made : (id : FormulaId) → Held c t nodes made table id → IsSome (get same_id table id)
-    there_made id h = subst (λ o. IsSome o) (sym h.there) refl
-
-    pub all_there : (ids : List FormulaId) → AllByRecursion (Held c t nodes made table) ids → AllByRecursion (λ id. IsSome (get same_id table id)) ids
-    all_there [] h = tt
-    all_there (id ∷ ids) h = (there_made id h.0, all_there ids h.1)
-
     pub all_ids : (ids : List FormulaId) → AllByRecursion (Held c t nodes made table) ids → AllByRecursion (IsId made) (map (made_of table) ids)
     all_ids [] h = tt
-    all_ids (id ∷ ids) h = let m = value_made id h.0 in (m.is, all_ids ids h.1)
+    all_ids (id ∷ ids) h = (h.0.is, all_ids ids h.1)
 
     pub all_put : (ids : List FormulaId) → AllByRecursion (Held c t nodes made table) ids
         → members (map (tree made) (map (made_of table) ids)) ≡ put_all (context_of c) t.name.number (place_of t) (members (map (tree nodes) ids))
     all_put [] h = refl
-    all_put (id ∷ ids) h = let m = value_made id h.0 in λ i. also (m.formula i) (all_put ids h.1 i)
+    all_put (id ∷ ids) h = λ i. also (h.0.formula i) (all_put ids h.1 i)
 
     pub all_stay : (ids : List FormulaId) → AllByRecursion (Held c t nodes made table) ids → each_within (context_of c) t.name.number (place_of t) (members (map (tree nodes) ids)) ≡ true
     all_stay [] h = refl
     all_stay (id ∷ ids) h =
-        let m = value_made id h.0 in
         also_within (context_of c) t.name.number (place_of t) (tree nodes id) (members (map (tree nodes) ids))
-        ∙ both_true (all_within (context_of c) t.name.number (place_of t) (tree nodes id)) (each_within (context_of c) t.name.number (place_of t) (members (map (tree nodes) ids))) m.within (all_stay ids h.1)
+        ∙ both_true (all_within (context_of c) t.name.number (place_of t) (tree nodes id)) (each_within (context_of c) t.name.number (place_of t) (members (map (tree nodes) ids))) h.0.within (all_stay ids h.1)
 
     -- members joined, which are folded where they are made
     pub list_put : (j : Junction) (ids : List FormulaId) (id copy : FormulaId) (made2 : List (Shape FormulaId)) → tree nodes id ≡ joined j (members (map (tree nodes) ids)) → AllByRecursion (Held c t nodes made table) ids

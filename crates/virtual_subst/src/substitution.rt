@@ -13,7 +13,7 @@ ghost use Rattle.virtual_subst.specs.Shared.{Stops, IsAtPlace, IsPutAt};
 use crate::atoms::At;
 use crate::error::SubstError;
 use crate::nodes::node_put;
-use crate::table::made;
+use crate::table::{made, note};
 use atom_normal::Context;
 use formula_store::{Delta, FormulaId, Overlay, Store, StoreError};
 use std::alloc::Global;
@@ -63,9 +63,7 @@ pub fn substitute_listed(
     let mut table = HashMap::new(alloc);
     for id in ids {
         match node_put(alloc, at, store, *id, &table, &mut overlay) {
-            Ok(copy) => {
-                table.insert(*id, copy).map_err(|_| SubstError::Memory)?;
-            }
+            Ok(copy) => note(&mut table, *id, copy)?,
             Err(error) => return Err(error),
         }
     }

@@ -1,24 +1,33 @@
 //! What is made of formulas, by their ids.
 
-ghost use Rattle.std.specs.Prelude.{◌≡◌, IsSome, IfOk, map};
-ghost use Rattle.std.specs.List.{AllByRecursion};
-ghost use Rattle.std.specs.HashMap.{get};
-ghost use Rattle.formula_store.specs.Tables.{same_id};
-ghost use Rattle.virtual_subst.specs.Shared.{made_of};
+ghost use Rattle.std.specs.Prelude.{◌≡◌, IfOk, OnOk, map};
+ghost use Rattle.virtual_subst.specs.Shared.{made_of, Notes};
 
 use formula_store::FormulaId;
 use std::alloc::{AllocError, Global};
 use std::collections::HashMap;
 
-/// The formulas that are made, by those that they are made of.
+/// The formulas that are made, by those that they are made of; a formula that stays what it is need not be there.
 pub(crate) type Table = HashMap<FormulaId, FormulaId>;
 
-/// What is made of the formula.
+/// What is made of the formula. It takes no memory.
 pub(crate) fn made(table: &Table, id: FormulaId) -> FormulaId
-    requires { IsSome (get same_id table.now id) }
     ensures { result ≡ made_of table.now id }
 {
-    *table.get(&id).unwrap()
+    match table.get(&id) {
+        Some(copy) => *copy,
+        None => id,
+    }
+}
+
+/// Notes what is made of the formula, if it is another one.
+pub(crate) fn note(table: &mut Table, id: FormulaId, copy: FormulaId) -> Result<(), AllocError>
+    ensures { OnOk result (Notes table.old table.new id copy) }
+{
+    if copy != id {
+        table.insert(id, copy)?;
+    }
+    Ok(())
 }
 
 /// What is made of the formulas, in order.
@@ -27,7 +36,6 @@ pub(crate) fn all_made(
     table: &Table,
     ids: &[FormulaId],
 ) -> Result<Vec<FormulaId>, AllocError>
-    requires { AllByRecursion (λ id. IsSome (get same_id table.now id)) ids.now }
     ensures { IfOk result (λ v. v.items ≡ map (made_of table.now) ids.now) }
 {
     let mut found = Vec::new(alloc);

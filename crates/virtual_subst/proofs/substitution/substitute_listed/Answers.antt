@@ -1,7 +1,6 @@
-use Rattle.std.proofs.Common.{rules, ◌≡◌, ◌++◌, inl, List, [], ◌∷◌, Some, length, get_or, take, refl, ap, sym, ◌∙◌, subst, arith}
+use Rattle.std.proofs.Common.{◌≡◌, ◌++◌, inl, List, [], ◌∷◌, length, get_or, take, refl, ap, sym, ◌∙◌, subst, arith}
 use Rattle.std.proofs.Math.Seq.{take-length}
 use Rattle.std.proofs.lemmas.List.{take_all}
-use Rattle.std.specs.HashMap.{Updates}
 use Rattle.std.specs.List.{AllByRecursion}
 use Rattle.atom_normal.specs.Atoms.{context_of}
 use Rattle.formula_tree.proofs.Shapes.{listed_all}
@@ -9,13 +8,13 @@ use Rattle.formula_store.specs.declared.id.FormulaId.{FormulaId}
 use Rattle.formula_store.specs.Layers.{all}
 use Rattle.formula_store.specs.Nodes.{tree, IsId}
 use Rattle.formula_store.specs.Order.{itself}
-use Rattle.formula_store.specs.Tables.{same_id}
+use Rattle.formula_store.proofs.Makes.{keeps_then}
 use Rattle.formula_store.proofs.Before.{each_id, members_before, among_all}
-use Rattle.formula_store.proofs.Filling.{has_more}
 use Rattle.test_points.specs.Points.{place_of}
 use Rattle.virtual_subst.specs.Shared.{Held, IsNodePut, made_of}
 use Rattle.virtual_subst.proofs.Inherited.{listed_within, fits_within, stops_within}
-use Rattle.virtual_subst.proofs.Made.{still_put, there_made, value_made}
+use Rattle.virtual_subst.proofs.Made.{still_put}
+use Rattle.virtual_subst.proofs.Noted.{noted_more, noted_all}
 use Rattle.virtual_subst.proofs.substitution.substitute_listed.Goals as goal
 
 pub node_put-requires-clause-id : goal.node_put-requires-clause-id
@@ -57,26 +56,21 @@ loop-id-preserved c =
     let old = all c.loop-id.overlay in
     let new = all c.node_put.new.overlay in
     let id : FormulaId = get_or c.args.ids.now c.loop-id.id-index (record { number = 0 }) in
-    let put : Updates same_id c.loop-id.table c.insert.new.self id (Some c.in-Ok.copy) = search rules in
+    let grows = λ (x w : FormulaId) (h : IsNodePut o t nodes old x w). still_put o t nodes old new c.in-Ok.ensures.kept x w h in
     record {
-      held = has_more (IsNodePut o t nodes old) (IsNodePut o t nodes new) c.loop-id.table c.insert.new.self id c.in-Ok.copy put.0 (λ x w h. still_put o t nodes old new c.in-Ok.ensures.kept x w h) c.in-Ok.ensures.put
+      held = noted_more (IsNodePut o t nodes old) (IsNodePut o t nodes new) c.loop-id.table c.note.new.table id c.in-Ok.copy grows c.in-Ok.ensures.put c.loop-id.invariant.noted c.in_ok-note-in-Ok.ensures
           c.args.ids.now c.loop-id.id-index (record { number = 0 }) c.loop-id-test.true refl c.loop-id.invariant.held;
+      noted = noted_all (IsNodePut o t nodes old) (IsNodePut o t nodes new) c.loop-id.table c.note.new.table id c.in-Ok.copy grows c.in-Ok.ensures.put c.loop-id.invariant.noted c.in_ok-note-in-Ok.ensures;
+      kept = keeps_then nodes old new c.loop-id.invariant.kept c.in-Ok.ensures.kept;
       below = c.in-Ok.ensures.below ∙ c.loop-id.invariant.below;
     }
-
-pub made-id-requires : goal.made-id-requires
-made-id-requires c =
-    let P : FormulaId → Type 0 = Held c.args.context c.args.point.now c.args.store.now (all c.loop-id.overlay) c.loop-id.table in
-    let whole : take c.loop-id.id-index c.args.ids.now ≡ c.args.ids.now = take_all c.loop-id.id-index c.args.ids.now (omega arith) in
-    let done : AllByRecursion P c.args.ids.now = subst (λ (l : List FormulaId). AllByRecursion P l) whole c.loop-id.invariant.held in
-    there_made c.args.context c.args.point.now c.args.store.now (all c.loop-id.overlay) c.loop-id.table c.args.root (among_all P c.args.ids.now c.args.root done (c.requires.listed.all c.args.root (inl itself)))
 
 pub finish-requires : goal.finish-requires
 finish-requires c =
     let P : FormulaId → Type 0 = Held c.args.context c.args.point.now c.args.store.now (all c.loop-id.overlay) c.loop-id.table in
     let whole : take c.loop-id.id-index c.args.ids.now ≡ c.args.ids.now = take_all c.loop-id.id-index c.args.ids.now (omega arith) in
     let done : AllByRecursion P c.args.ids.now = subst (λ (l : List FormulaId). AllByRecursion P l) whole c.loop-id.invariant.held in
-    let root = value_made c.args.context c.args.point.now c.args.store.now (all c.loop-id.overlay) c.loop-id.table c.args.root (among_all P c.args.ids.now c.args.root done (c.requires.listed.all c.args.root (inl itself))) in
+    let root = (among_all P c.args.ids.now c.args.root done (c.requires.listed.all c.args.root (inl itself))) in
     subst (IsId (all c.loop-id.overlay)) (sym c.made-id.ensures) root.is
 
 pub returns : goal.returns
@@ -85,7 +79,7 @@ returns c =
     let P : FormulaId → Type 0 = Held c.args.context c.args.point.now c.args.store.now (all c.loop-id.overlay) c.loop-id.table in
     let whole : take c.loop-id.id-index c.args.ids.now ≡ c.args.ids.now = take_all c.loop-id.id-index c.args.ids.now (omega arith) in
     let done : AllByRecursion P c.args.ids.now = subst (λ (l : List FormulaId). AllByRecursion P l) whole c.loop-id.invariant.held in
-    let root = value_made c.args.context c.args.point.now nodes (all c.loop-id.overlay) c.loop-id.table c.args.root (among_all P c.args.ids.now c.args.root done (c.requires.listed.all c.args.root (inl itself))) in
+    let root = (among_all P c.args.ids.now c.args.root done (c.requires.listed.all c.args.root (inl itself))) in
     let count : c.finish.result.begun ≡ length nodes = c.finish.ensures.begun ∙ ap length c.loop-id.invariant.below in
     let same : take c.finish.result.begun nodes ++ c.finish.result.own ≡ all c.loop-id.overlay =
     (λ i. take (count i) nodes ++ c.finish.ensures.own i) ∙ ap (λ ns. ns ++ c.loop-id.overlay.own) (take-length nodes ∙ sym c.loop-id.invariant.below) in
