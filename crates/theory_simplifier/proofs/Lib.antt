@@ -13,3 +13,4 @@ pub mod Assuming
 pub mod SameParts
 pub mod Placing
 pub mod Indexed
+pub mod Staying

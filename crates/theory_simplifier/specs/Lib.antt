@@ -4,3 +4,4 @@ pub mod Known
 pub mod Parts
 pub mod VariableParts
 pub mod Places
+pub mod Unchanged

@@ -1,6 +1,6 @@
 //! The atoms of a list, which merge as they come.
 
-ghost use Rattle.std.specs.Prelude.{◌≡◌, ◌<◌, ◌++◌, ◌∷◌, [], IfOk, IfSome, OnOk, length, map, set, get_or, option_map};
+ghost use Rattle.std.specs.Prelude.{◌≡◌, ◌<◌, ◌++◌, ◌∷◌, [], IfOk, IfSome, IsTrue, OnOk, length, map, set, get_or, option_map};
 ghost use Rattle.std.specs.List.{AllByRecursion};
 ghost use Rattle.formula_meaning.specs.Some.{EachOf};
 ghost use Rattle.formula_meaning.specs.declared.junction.Junction.TheVariants.{Conjunction};
@@ -123,6 +123,13 @@ impl Joined {
             }
             _ => Ok(None),
         }
+    }
+
+    /// Whether there are no atoms. It takes no memory.
+    pub(crate) fn is_empty(&self) -> bool
+        ensures { IsTrue result → self.now.atoms ≡ [] }
+    {
+        self.entries.is_empty()
     }
 
     /// The atoms in their order. It takes no memory.

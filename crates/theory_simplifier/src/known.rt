@@ -1,12 +1,12 @@
 //! The atoms that are known at a place of a formula.
 
-ghost use Rattle.std.specs.Prelude.{◌≡◌, ◌++◌, ◌∷◌, [], IfOk, IfSome, IfNone, OnOk};
+ghost use Rattle.std.specs.Prelude.{◌≡◌, ◌++◌, ◌∷◌, [], IfOk, IfSome, IfNone, IsTrue, OnOk};
 ghost use Rattle.atom_normal.specs.Atoms.{context_of, atom_of, IsWellFormed};
 ghost use Rattle.atom_merging.specs.Computed.{IsNormalWithin};
 ghost use Rattle.simplified_formulas.specs.AtomKit.{atom_kit};
 ghost use Rattle.simplified_formulas.specs.Pass.{decided};
 ghost use Rattle.theory_simplifier.specs.VariableParts.{part_of};
-ghost use Rattle.theory_simplifier.specs.Known.{known_atoms, AreNormalFrames};
+ghost use Rattle.theory_simplifier.specs.Known.{inside, known_atoms, AreNormalFrames};
 
 use crate::free::has_name;
 use crate::joined::Joined;
@@ -20,6 +20,18 @@ use std::marker::Model;
 pub(crate) enum Frame {
     Beside(Joined),
     Under(VarId),
+}
+
+impl Frame {
+    // Whether it has no atoms. It takes no memory.
+    fn is_silent(&self) -> bool
+        ensures { IsTrue result → inside self.now [] ≡ [] }
+    {
+        match self {
+            Frame::Beside(list) => list.is_empty(),
+            Frame::Under(_) => true,
+        }
+    }
 }
 
 /// What encloses a place of a formula, the outermost first.
@@ -61,6 +73,18 @@ impl Known {
         ensures none { IfNone result (self.old ≡ []) }
     {
         self.frames.pop()
+    }
+
+    /// Whether it is seen at once that no atom is known: no list around the place has one. It takes no memory.
+    pub(crate) fn is_empty(&self) -> bool
+        ensures { IsTrue result → known_atoms self.now ≡ [] }
+    {
+        for frame in &self.frames {
+            if !frame.is_silent() {
+                return false;
+            }
+        }
+        true
     }
 
     /// The truth of the atom by the known ones: that of the first that decides it. An atom that has a name is decided by atoms

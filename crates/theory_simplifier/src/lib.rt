@@ -11,6 +11,7 @@ mod parts;
 mod pass;
 mod places;
 mod repeat;
+mod unchanged;
 
 pub use error::SimplError;
 pub use repeat::simplify;

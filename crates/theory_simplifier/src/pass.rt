@@ -21,6 +21,7 @@ use crate::free::is_free;
 use crate::known::{Frame, Known};
 use crate::part::variable_part;
 use crate::parts::{Parts, with_atoms, with_member};
+use crate::unchanged::is_unchanged;
 use atom_normal::Context;
 use formula_meaning::{Junction, Quantifier};
 use formula_store::{FormulaId, Store};
@@ -44,6 +45,9 @@ pub(crate) fn passed(
     ensures known { OnOk result (known.new ≡ known.old) }
     ensures kept { Keeps (IsId store.old) (tree store.old) (IsId store.new) (tree store.new) }
 {
+    if is_unchanged(alloc, store, known, id)? {
+        return Ok(id);
+    }
     match store.shape(id) {
         Shape::One(atom) => {
             let part = variable_part(alloc, atom)?;

@@ -37,6 +37,7 @@ use std::alloc::{AllocError, Global};
 /// The formula is passed at most as often as its tree has nodes, and twice as a rule. A pass walks the tree, since a subformula may
 /// be simplified differently in two places, so that `limit` bounds it. It asks of each atom, and of each atom that is known there,
 /// whether both have one variable part, and compares them only then; of a name that a quantifier binds it looks whether it is free.
+/// A list of atoms no two of which have the same names is looked at once where nothing is known, and kept.
 /// The recursion is as deep as the formula is high.
 pub fn simplify(
     alloc: Global,

@@ -1,0 +1,206 @@
+-- A list of atoms no two of which have the same names stays as it is where nothing is known.
+use Rattle.std.proofs.Common.{◌≡◌, ℕ, zero, suc, ◌+◌, ◌<◌, ◌≤◌, Bool, true, false, nat_eq, not, cond, refl, sym, ap, ◌∙◌, subst, Option, Some, None, List, [], ◌∷◌, ◌++◌, length, drop, map, slice_get, arith, eq-eqb}
+use Rattle.std.proofs.Math.IntN.{ℤ, pos}
+use Rattle.std.specs.Prelude.{if◌then◌else◌, option_map}
+use Rattle.std.specs.Ordering.{int_eq}
+use Rattle.std.proofs.lemmas.List.{append-nil, append_assoc}
+use Rattle.exact_numbers.specs.Divides.{content_of}
+use Rattle.formula_meaning.specs.Context.{Context}
+use Rattle.formula_meaning.specs.Some.{EachOf}
+use Rattle.formula_meaning.specs.Form.{Term}
+use Rattle.formula_meaning.specs.Formula.{One, And, Or, none, also}
+use Rattle.formula_meaning.specs.Fold.{joined, from_pieces}
+use Rattle.formula_meaning.specs.Members.{AreTwo}
+use Rattle.formula_meaning.specs.Atom.{Atom, Compare, Congruent}
+use Rattle.formula_meaning.specs.Tree.{Tree, Trees}
+use Rattle.formula_meaning.specs.declared.junction.Junction.{Junction}
+use Rattle.formula_meaning.specs.declared.junction.Junction.TheVariants.{Conjunction, Disjunction}
+use Rattle.linear_forms.specs.declared.form.VarId.{VarId}
+use Rattle.linear_forms.specs.Linear.{term_of}
+use Rattle.linear_forms.specs.Terms.{coefficients}
+use Rattle.linear_forms.specs.Reduction.{quotients}
+use Rattle.atom_merging.specs.Computed.{IsNormalWithin, Kept, merged}
+use Rattle.simplified_formulas.specs.AtomKit.{atom_kit}
+use Rattle.simplified_formulas.specs.Orderly.{AreOrderly}
+use Rattle.simplified_formulas.specs.Pass.{Parts, Open, ones, close, opened, with_atoms, others, pass}
+use Rattle.simplified_formulas.specs.Trees.{IsSimplifiable}
+use Rattle.formula_tree.specs.Trees.{members}
+use Rattle.theory_simplifier.specs.Parts.{one_tree}
+use Rattle.theory_simplifier.specs.VariableParts.{part_of}
+use Rattle.theory_simplifier.specs.Unchanged.{mixed, key_from, key_of, NoneMerges, AreTaken}
+use Rattle.theory_simplifier.proofs.Partners.{with_last}
+use Rattle.theory_simplifier.proofs.SameParts.{kept_apart}
+
+-- ---- the number of an atom's names is that of its variable part
+
+key_quotients : (d : ℤ) (ts : List Term) (k : ℕ) → key_from k (quotients d ts) ≡ key_from k ts
+key_quotients d [] k = refl
+key_quotients d (t ∷ ts) k = key_quotients d ts (mixed k t.name)
+
+key_divided : (ts : List Term) (b : Bool) (d : ℤ) → key_from 0 (if b then ts else quotients d ts) ≡ key_from 0 ts
+key_divided ts true d = refl
+key_divided ts false d = key_quotients d ts 0
+
+key_part : (a : Atom) → key_from 0 (part_of a).terms ≡ key_of a
+key_part (Compare r f) = key_divided f.terms (int_eq (content_of (coefficients f.terms)) (pos 0)) (content_of (coefficients f.terms))
+key_part (Congruent b m f) = refl
+
+other_parts : (a b : Atom) → ¬ (key_of b ≡ key_of a) → ¬ (part_of b ≡ part_of a)
+other_parts a b h e = h (sym (key_part b) ∙ ap (λ p. key_from 0 p.terms) e ∙ key_part a)
+
+-- ---- the names of a form, one after another
+
+drop_next : (ts : List Term) (i : ℕ) (t : Term) → slice_get ts i ≡ Some t → drop i ts ≡ t ∷ drop (suc i) ts
+drop_next [] i t e = absurd (cc (e))
+drop_next (x ∷ ts) zero t e = let h : x ≡ t = cc (e) in ap (λ y. y ∷ ts) h
+drop_next (x ∷ ts) (suc i) t e = drop_next ts i t e
+
+pub key_next : (ts : List Term) (i : ℕ) (t : Term) (k whole : ℕ) → slice_get ts i ≡ Some t → key_from k (drop i ts) ≡ whole → key_from (mixed k t.name) (drop (i + 1) ts) ≡ whole
+key_next ts i t k whole e h =
+    let n : i + 1 ≡ suc i = omega arith in
+    ap (λ m. key_from (mixed k t.name) (drop m ts)) n ∙ sym (ap (key_from k) (drop_next ts i t e)) ∙ h
+
+-- the same as the program reads the term
+pub key_read : (ts : List Term) (i : ℕ) (o : Option (VarId × ℤ)) (p : VarId × ℤ) (k whole : ℕ) → o ≡ Some p → option_map term_of o ≡ slice_get ts i → key_from k (drop i ts) ≡ whole → key_from (mixed k p.0.number) (drop (i + 1) ts) ≡ whole
+key_read ts i o p k whole e r h = key_next ts i (term_of p) k whole (sym r ∙ ap (option_map term_of) e) h
+
+pub key_begins : (ts : List Term) → key_from 0 (drop 0 ts) ≡ key_from 0 ts
+key_begins [] = refl
+key_begins (t ∷ ts) = refl
+
+drop_all : (ts : List Term) (i : ℕ) → length ts ≤ i → drop i ts ≡ []
+drop_all [] zero h = refl
+drop_all [] (suc i) h = refl
+drop_all (t ∷ ts) zero h = absurd (omega arith)
+drop_all (t ∷ ts) (suc i) h = drop_all ts i (omega arith)
+
+pub key_ends : (ts : List Term) (i : ℕ) (k whole : ℕ) → length ts ≤ i → key_from k (drop i ts) ≡ whole → k ≡ whole
+key_ends ts i k whole l h = sym (ap (key_from k) (drop_all ts i l)) ∙ h
+
+term_there : (ts : List Term) (i : ℕ) → i < length ts → ¬ (slice_get ts i ≡ None)
+term_there [] i l e = absurd (omega arith)
+term_there (t ∷ ts) zero l e = cc (e)
+term_there (t ∷ ts) (suc i) l e = term_there ts i (omega arith) e
+
+pub no_term : (o : Option (VarId × ℤ)) (ts : List Term) (i : ℕ) → ((p : VarId × ℤ) → ¬ (o ≡ Some p)) → option_map term_of o ≡ slice_get ts i → ¬ (i < length ts)
+no_term None ts i n e h = term_there ts i h (sym e)
+no_term (Some p) ts i n e h = n p refl
+
+-- ---- atoms that are apart
+
+module _ {X : Type 0} where
+  module _ (P : X → Type 0) where
+    pub each_before : (xs : List X) (y : X) → EachOf P (xs ++ y ∷ []) → EachOf P xs × P y
+    each_before [] y h = (tt, h.0)
+    each_before (x ∷ xs) y h = let r = each_before xs y h.1 in ((h.0, r.0), r.1)
+
+    each_snoc : (xs : List X) (y : X) → EachOf P xs → P y → EachOf P (xs ++ y ∷ [])
+    each_snoc [] y h p = (p, tt)
+    each_snoc (x ∷ xs) y h p = (h.0, each_snoc xs y h.1 p)
+
+map_snoc : (us : List Atom) (a : Atom) → map one_tree (us ++ a ∷ []) ≡ map one_tree us ++ One a ∷ []
+map_snoc [] a = refl
+map_snoc (u ∷ us) a = ap (λ fs. One u ∷ fs) (map_snoc us a)
+
+module _ (c : Context) (j : Junction) where
+  -- one more that merges with none
+  none_more : (us vs : List Atom) (a : Atom) → NoneMerges c j us vs → EachOf (λ b. merged c j b a ≡ Kept) (us ++ vs) → NoneMerges c j us (vs ++ a ∷ [])
+  none_more us [] a h k = (subst (EachOf (λ b. merged c j b a ≡ Kept)) (append-nil us) k, tt)
+  none_more us (v ∷ vs) a h k = (h.0, none_more (us ++ v ∷ []) vs a h.1 (subst (EachOf (λ b. merged c j b a ≡ Kept)) (sym (append_assoc us (v ∷ []) vs)) k))
+
+  kept_all : (a : Atom) → IsNormalWithin c a → (us : List Atom) → EachOf (IsNormalWithin c) us → EachOf (λ b. ¬ (key_of b ≡ key_of a)) us → EachOf (λ b. merged c j b a ≡ Kept) us
+  kept_all a n [] h k = tt
+  kept_all a n (b ∷ us) h k = (sym (kept_apart c b a h.0.normal n.normal (other_parts a b k.0) j), kept_all a n us h.1 k.1)
+
+  -- ---- what a pass makes of them
+
+  taken : (us vs : List Atom) → NoneMerges c j us vs → with_atoms (atom_kit c) j [] (members (map one_tree vs)) (Open us none) ≡ Open (us ++ vs) none
+  taken us [] h = ap (λ xs. Open xs none) (sym (append-nil us))
+  taken us (a ∷ vs) h =
+      ap (λ r. with_atoms (atom_kit c) j [] (members (map one_tree vs)) (opened r none)) (with_last c j a us h.0)
+      ∙ taken (us ++ a ∷ []) vs h.1 ∙ ap (λ xs. Open xs none) (append_assoc us (a ∷ []) vs)
+
+  passed_over : (vs : List Atom) (s : Parts Atom) → others (atom_kit c) (members (map one_tree vs)) j [] s ≡ s
+  passed_over [] s = refl
+  passed_over (a ∷ vs) s = passed_over vs s
+
+  listed : (us : List Atom) → ones us none ≡ members (map one_tree us)
+  listed [] = refl
+  listed (a ∷ us) = ap (also (One a)) (listed us)
+
+  two_joined : (fs : Trees) → AreTwo fs → from_pieces j (Some fs) ≡ joined j fs
+  two_joined none h = absurd h
+  two_joined (also f none) h = absurd h
+  two_joined (also f (also g fs)) h = refl
+
+  each_normal : (us : List Atom) → AreOrderly (IsNormalWithin c) (members (map one_tree us)) → EachOf (IsNormalWithin c) us
+  each_normal [] h = tt
+  each_normal (a ∷ us) h = (h.0, each_normal us h.1)
+
+  abbrev passed_list : Trees → Tree
+  passed_list fs = close j (others (atom_kit c) fs j [] (with_atoms (atom_kit c) j [] fs (Open [] none)))
+
+  atoms_stay : (us : List Atom) → AreTwo (members (map one_tree us)) → NoneMerges c j [] us → joined j (members (map one_tree us)) ≡ passed_list (members (map one_tree us))
+  atoms_stay us two h =
+      let fs = members (map one_tree us) in
+      sym (ap (close j) (passed_over us (with_atoms (atom_kit c) j [] fs (Open [] none)) ∙ taken [] us h) ∙ ap (λ gs. from_pieces j (Some gs)) (listed us) ∙ two_joined fs two)
+
+  list_stays : (fs : List Tree) → AreTaken fs → AreTwo (members fs) → AreOrderly (IsNormalWithin c) (members fs) → joined j (members fs) ≡ passed_list (members fs)
+  list_stays fs t two n =
+      let P : List Tree → Type 0 = λ gs. AreTwo (members gs) × AreOrderly (IsNormalWithin c) (members gs) in
+      let h : P (map one_tree t.atoms) = subst P t.ones (two, n) in
+      subst (λ gs. joined j (members gs) ≡ passed_list (members gs)) (sym t.ones) (atoms_stay t.atoms h.0 (t.apart c j (each_normal t.atoms h.1)))
+
+pub and_stays : (c : Context) (f : Tree) (fs : List Tree) (ks : List Atom) → f ≡ And (members fs) → ks ≡ [] → AreTaken fs → IsSimplifiable c f → f ≡ pass (atom_kit c) f ks
+and_stays c f fs ks e n t h =
+    let k : IsSimplifiable c (And (members fs)) = subst (IsSimplifiable c) e h in
+    e ∙ list_stays c Conjunction fs t k.0 k.1 ∙ (λ i. pass (atom_kit c) (sym e i) (sym n i))
+
+pub or_stays : (c : Context) (f : Tree) (fs : List Tree) (ks : List Atom) → f ≡ Or (members fs) → ks ≡ [] → AreTaken fs → IsSimplifiable c f → f ≡ pass (atom_kit c) f ks
+or_stays c f fs ks e n t h =
+    let k : IsSimplifiable c (Or (members fs)) = subst (IsSimplifiable c) e h in
+    e ∙ list_stays c Disjunction fs t k.0 k.1 ∙ (λ i. pass (atom_kit c) (sym e i) (sym n i))
+
+-- ---- formulas that are looked at one after another
+
+pub not_false : (b : Bool) → not b ≡ true → b ≡ false
+not_false true e = absurd (cc (e))
+not_false false e = refl
+
+-- they are atoms that are apart, and the numbers of their names are kept
+pub record AreSeen (fs : List Tree) (has : ℕ → Bool) : Type 0 where
+  pub taken : AreTaken fs
+  pub keys : EachOf (λ a. has (key_of a) ≡ true) taken.atoms
+
+pub none_seen : (has : ℕ → Bool) → AreSeen [] has
+none_seen has = record { taken = record { atoms = []; ones = refl; apart = λ c j n. tt }; keys = tt }
+
+module _ (fs : List Tree) (has has2 : ℕ → Bool) (a : Atom) (new : has (key_of a) ≡ false) (put : (n : ℕ) → has2 n ≡ cond (nat_eq (key_of a) n) true (has n)) where
+  others_have : (us : List Atom) → EachOf (λ b. has (key_of b) ≡ true) us → EachOf (λ b. ¬ (key_of b ≡ key_of a)) us
+  others_have [] h = tt
+  others_have (b ∷ us) h = ((λ e. let w : true ≡ false = sym h.0 ∙ ap has e ∙ new in absurd (cc (w))), others_have us h.1)
+
+  still_has : (n : ℕ) (t : Bool) → nat_eq (key_of a) n ≡ t → has n ≡ true → has2 n ≡ true
+  still_has n true e h = put n ∙ ap (λ t. cond t true (has n)) e
+  still_has n false e h = put n ∙ ap (λ t. cond t true (has n)) e ∙ h
+
+  still_keys : (us : List Atom) → EachOf (λ b. has (key_of b) ≡ true) us → EachOf (λ b. has2 (key_of b) ≡ true) us
+  still_keys [] h = tt
+  still_keys (b ∷ us) h = (still_has (key_of b) (nat_eq (key_of a) (key_of b)) refl h.0, still_keys us h.1)
+
+  same_key : nat_eq (key_of a) (key_of a) ≡ true
+  same_key = eq-eqb (key_of a) (key_of a) refl
+
+  pub one_seen : AreSeen fs has → AreSeen (fs ++ One a ∷ []) has2
+  one_seen h =
+      let us = h.taken.atoms in
+      record {
+        taken = record {
+          atoms = us ++ a ∷ [];
+          ones = ap (λ gs. gs ++ One a ∷ []) h.taken.ones ∙ sym (map_snoc us a);
+          apart = λ c j n.
+              let m = each_before (IsNormalWithin c) us a n in
+              none_more c j [] us a (h.taken.apart c j m.0) (kept_all c j a m.1 us m.0 (others_have us h.keys));
+        };
+        keys = each_snoc (λ b. has2 (key_of b) ≡ true) us a (still_keys us h.keys) (put (key_of a) ∙ ap (λ t. cond t true (has (key_of a))) same_key);
+      }
