@@ -14,8 +14,9 @@ ghost use Rattle.test_points.specs.Points.{place_of};
 ghost use Rattle.virtual_subst.specs.Shared.{IsAtPlace};
 
 use crate::error::SubstError;
+use crate::folding::normal_made;
 use crate::sharing::substitute_all;
-use atom_normal::Context;
+use atom_normal::{Context, Normal};
 use formula_store::{Delta, FormulaId, Store};
 use qe_parallel::{FanError, Gate};
 use std::alloc::{AllocError, Global};
@@ -44,11 +45,21 @@ pub fn put_at_all<R: Threads + Sync, G: Gate + Sync>(
     ensures overflow { IfErr result (λ e. e ≡ SubstError.Overflow → SomeOf (λ t. all_within (context_of context) t.name.number (place_of t) (tree store.old branch) ≡ false) points.now) }
     ensures kept { Keeps (IsId store.old) (tree store.old) (IsId store.new) (tree store.new) }
 {
+    constants_made(store)?;
     match substitute_all(rt, alloc, store, context, branch, points, workers, gate) {
         Ok(deltas) => Ok(taken_in(alloc, store, deltas)?),
         Err(FanError::Piece { stop, .. }) => Err(stop),
         Err(FanError::Memory) => Err(SubstError::Memory),
     }
+}
+
+// Makes what atoms and lists often become, so that it is not made anew at each of the points.
+fn constants_made(store: &mut Store) -> Result<(), AllocError>
+    ensures { Keeps (IsId store.old) (tree store.old) (IsId store.new) (tree store.new) }
+{
+    normal_made(store, Normal::True)?;
+    normal_made(store, Normal::False)?;
+    Ok(())
 }
 
 // What was made beside the store, taken in one after the other.

@@ -1,9 +1,11 @@
-use Rattle.std.proofs.Common.{◌≡◌, false, List, length, sym, ◌∙◌, subst}
+use Rattle.std.proofs.Common.{◌≡◌, false, List, length, map, sym, ap, ◌∙◌, subst}
+use Rattle.formula_meaning.specs.Some.{SomeOf}
 use Rattle.formula_meaning.specs.Tree.{Tree}
 use Rattle.atom_normal.specs.Atoms.{context_of}
 use Rattle.formula_tree.specs.Makers.{AreMade}
 use Rattle.formula_store.specs.Nodes.{tree, IsId}
-use Rattle.nnf_substitution.specs.Placed.{all_within}
+use Rattle.formula_store.proofs.Makes.{keeps_then}
+use Rattle.nnf_substitution.specs.Placed.{put, all_within}
 use Rattle.test_points.specs.declared.points.TestPoint.{TestPoint}
 use Rattle.test_points.specs.Points.{place_of}
 use Rattle.virtual_subst.specs.declared.error.SubstError.{SubstError}
@@ -15,17 +17,27 @@ use Rattle.virtual_subst.proofs.taking.put_at_all.Goals as goal
 
 pub taken_in-requires : goal.taken_in-requires
 taken_in-requires g c =
-    (all_at_points (record { nodes = c.args.store.now; context = c.args.context; root = c.args.branch; points = c.args.points.now }) c.in-Ok.deltas.items c.in-Ok.ensures).begun
+    (all_at_points (record { nodes = c.constants_made.new.store; context = c.args.context; root = c.args.branch; points = c.args.points.now }) c.in-Ok.deltas.items c.in-Ok.ensures).begun
 
 pub returns-in_ok-taken_in-in-Ok-clause-made : goal.returns-in_ok-taken_in-in-Ok-clause-made
 returns-in_ok-taken_in-in-Ok-clause-made g c =
-    let at = all_at_points (record { nodes = c.args.store.now; context = c.args.context; root = c.args.branch; points = c.args.points.now }) c.in-Ok.deltas.items c.in-Ok.ensures in
-    subst (λ (fs : List Tree). AreMade (IsId c.taken_in.new.store) (tree c.taken_in.new.store) c.in_ok-taken_in-in-Ok.field-0.items fs) at.formulas c.in_ok-taken_in-in-Ok.ensures.made
+    let at = all_at_points (record { nodes = c.constants_made.new.store; context = c.args.context; root = c.args.branch; points = c.args.points.now }) c.in-Ok.deltas.items c.in-Ok.ensures in
+    let same = c.constants_made.ensures.same c.args.branch c.requires.id in
+    subst (λ (fs : List Tree). AreMade (IsId c.taken_in.new.store) (tree c.taken_in.new.store) c.in_ok-taken_in-in-Ok.field-0.items fs)
+    (at.formulas ∙ ap (λ f. map (λ (t : TestPoint). put (context_of c.args.context) t.name.number (place_of t) f) c.args.points.now) same) c.in_ok-taken_in-in-Ok.ensures.made
+
+pub returns-in_ok-taken_in-in-Ok-clause-kept : goal.returns-in_ok-taken_in-in-Ok-clause-kept
+returns-in_ok-taken_in-in-Ok-clause-kept g c = keeps_then c.args.store.now c.constants_made.new.store c.taken_in.new.store c.constants_made.ensures c.taken_in.ensures.kept
+
+pub returns-in_err-taken_in-in-Ok-clause-kept : goal.returns-in_err-taken_in-in-Ok-clause-kept
+returns-in_err-taken_in-in-Ok-clause-kept g c = keeps_then c.args.store.now c.constants_made.new.store c.taken_in.new.store c.constants_made.ensures c.taken_in.ensures.kept
 
 pub returns-in-Err-Piece-clause-overflow : goal.returns-in-Err-Piece-clause-overflow
 returns-in-Err-Piece-clause-overflow g c e =
-    let p : Phase = record { nodes = c.args.store.now; context = c.args.context; root = c.args.branch; points = c.args.points.now } in
+    let made = c.constants_made.new.store in
+    let p : Phase = record { nodes = made; context = c.args.context; root = c.args.branch; points = c.args.points.now } in
     let stops : StopsAt (IsPutAtPiece p) (StopsAtPiece p) 0 (length c.args.points.now) c.in-Err-Piece.field-0-0 c.in-Err-Piece.stop =
     subst (Fails (IsPutAtPiece p) (StopsAtPiece p) 0 (length c.args.points.now)) c.in-Err-Piece.field-0-is c.in-Err-Piece.ensures in
-    some_at (λ (t : TestPoint). all_within (context_of c.args.context) t.name.number (place_of t) (tree c.args.store.now c.args.branch) ≡ false) c.args.points.now c.in-Err-Piece.field-0-0 stops.last
-    (λ t at. subst (λ (s : SubstError). Stops s (all_within (context_of c.args.context) t.name.number (place_of t) (tree c.args.store.now c.args.branch))) (sym c.in-Err-Piece.stop-is ∙ e) (stops.stops t at))
+    subst (λ (f : Tree). SomeOf (λ (t : TestPoint). all_within (context_of c.args.context) t.name.number (place_of t) f ≡ false) c.args.points.now) (c.constants_made.ensures.same c.args.branch c.requires.id)
+    (some_at (λ (t : TestPoint). all_within (context_of c.args.context) t.name.number (place_of t) (tree made c.args.branch) ≡ false) c.args.points.now c.in-Err-Piece.field-0-0 stops.last
+    (λ t at. subst (λ (s : SubstError). Stops s (all_within (context_of c.args.context) t.name.number (place_of t) (tree made c.args.branch))) (sym c.in-Err-Piece.stop-is ∙ e) (stops.stops t at)))
