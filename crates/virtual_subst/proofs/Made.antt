@@ -15,12 +15,11 @@ use Rattle.formula_tree.specs.Makers.{IsMade, Keeps}
 use Rattle.formula_tree.specs.Trees.{members}
 use Rattle.formula_store.specs.declared.id.FormulaId.{FormulaId}
 use Rattle.formula_store.specs.Nodes.{tree, IsId}
-use Rattle.formula_store.specs.Tables.{TableOf}
 use Rattle.nnf_substitution.specs.Placed.{put, put_all, all_within, each_within}
 use Rattle.nnf_substitution.proofs.PutLaws.{also_within, and_true, put_joined, joined_within, normal_folded}
 use Rattle.test_points.specs.declared.points.TestPoint.{TestPoint}
 use Rattle.test_points.specs.Points.{place_of}
-use Rattle.virtual_subst.specs.Shared.{IsAtomPut, IsNodePut, Held, made_of}
+use Rattle.virtual_subst.specs.Shared.{IsAtomPut, IsNodePut, Held, Table, made_of}
 
 pub both_true : (a b : Bool) → a ≡ true → b ≡ true → (a && b) ≡ true
 both_true a b h k = ap (λ c. c && b) h ∙ k
@@ -53,7 +52,7 @@ module _ (c : Context) (t : TestPoint) (nodes made : List (Shape FormulaId)) whe
     pub same_atom_put : (a : meant.Atom) (n : Normal) → tree nodes id ≡ One a → IsAtomPut c t a n → tree_of n ≡ One a → IsNodePut c t nodes made id id
     same_atom_put a n e p same = atom_put a n id id e p (record { is = kept.is id is; same = kept.same id is ∙ e ∙ sym same })
 
-  module _ (table : TableOf FormulaId) where
+  module _ (table : Table) where
     pub all_ids : (ids : List FormulaId) → AllByRecursion (Held c t nodes made table) ids → AllByRecursion (IsId made) (map (made_of table) ids)
     all_ids [] h = tt
     all_ids (id ∷ ids) h = (h.0.is, all_ids ids h.1)

@@ -1,6 +1,6 @@
 -- A formula of a store with a name at a place, made beside the store.
-use Rattle.std.specs.Prelude.{◌≡◌, ◌≤◌, ◌⊎◌, Bool, true, false, Some, List, length, unwrap_or}
-use Rattle.std.specs.HashMap.{get, Updates}
+use Rattle.std.specs.Prelude.{◌≡◌, ◌≤◌, ◌<◌, ◌⊎◌, ℕ, Bool, true, false, List, [], ◌∷◌, ◌++◌, length, if◌then◌else◌}
+use Rattle.std.specs.List.{AllByRecursion}
 use Rattle.formula_meaning.specs.Atom as meant
 use Rattle.elimination_theory.specs.BothTheories.{IsPlaceIn}
 use Rattle.elimination_theory.specs.Steps.{atom_at}
@@ -13,7 +13,7 @@ use Rattle.formula_tree.specs.declared.shape.Shape.{Shape}
 use Rattle.formula_store.specs.declared.id.FormulaId.{FormulaId}
 use Rattle.formula_store.specs.Changes.{Change, tree_on}
 use Rattle.formula_store.specs.Nodes.{tree, IsId}
-use Rattle.formula_store.specs.Tables.{TableOf, same_id}
+use Rattle.formula_store.specs.Tables.{same_id}
 use Rattle.nnf_substitution.specs.Placed.{put, all_within}
 use Rattle.test_points.specs.declared.points.TestPoint.{TestPoint}
 use Rattle.test_points.specs.Points.{place_of, IsTestPoint}
@@ -48,14 +48,28 @@ pub record IsPutAt (c : Context) (t : TestPoint) (nodes : List (Shape FormulaId)
   pub formula : tree_on nodes d ≡ put (context_of c) t.name.number (place_of t) (tree nodes id)
   pub within : all_within (context_of c) t.name.number (place_of t) (tree nodes id) ≡ true
 
+-- formulas, and what is made of each
+abbrev pub Table : Type 0
+Table = List (FormulaId × FormulaId)
+
 -- the id that the table has for a formula, its own where there is none
-abbrev pub made_of : TableOf FormulaId → FormulaId → FormulaId
-made_of table id = unwrap_or (get same_id table id) id
+abbrev pub made_of : Table → FormulaId → FormulaId
+made_of [] id = id
+made_of (p ∷ ps) id = if same_id p.0 id then p.1 else made_of ps id
+
+-- each formula of the table comes after x
+abbrev pub KeysAbove : ℕ → Table → Type 0
+KeysAbove x ps = AllByRecursion (λ p. x < p.0.number) ps
+
+-- the numbers of the formulas rise
+abbrev pub KeysRise : Table → Type 0
+KeysRise [] = Unit {0}
+KeysRise (p ∷ ps) = KeysAbove p.0.number ps × KeysRise ps
 
 -- what the table has for the formula stands for it at the point
-abbrev pub Held : Context → TestPoint → List (Shape FormulaId) → List (Shape FormulaId) → TableOf FormulaId → FormulaId → Type 0
+abbrev pub Held : Context → TestPoint → List (Shape FormulaId) → List (Shape FormulaId) → Table → FormulaId → Type 0
 Held c t nodes made table id = IsNodePut c t nodes made id (made_of table id)
 
--- the table gets the copy for the formula, or the copy is the formula itself
-abbrev pub Notes : TableOf FormulaId → TableOf FormulaId → FormulaId → FormulaId → Type 0
-Notes old new id copy = Updates same_id old new id (Some copy) ⊎ ((copy ≡ id) × (new ≡ old))
+-- the copy for the formula is put last, or it is the formula itself
+abbrev pub Notes : Table → Table → FormulaId → FormulaId → Type 0
+Notes old new id copy = (new ≡ old ++ (id, copy) ∷ []) ⊎ ((copy ≡ id) × (new ≡ old))

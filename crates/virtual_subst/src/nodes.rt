@@ -16,12 +16,12 @@ ghost use Rattle.formula_store.specs.Layers.{all};
 ghost use Rattle.formula_store.specs.Nodes.{tree, IsId};
 ghost use Rattle.nnf_substitution.specs.Placed.{all_within};
 ghost use Rattle.test_points.specs.Points.{place_of};
-ghost use Rattle.virtual_subst.specs.Shared.{Stops, Held, IsAtPlace, IsNodePut, made_of};
+ghost use Rattle.virtual_subst.specs.Shared.{Stops, Held, IsAtPlace, IsNodePut, made_of, KeysRise};
 
 use crate::atoms::At;
 use crate::error::SubstError;
 use crate::folding::{fold, normal_made};
-use crate::table::{Table, all_made};
+use crate::table::all_made;
 use atom_normal::{Atom, Normal};
 use formula_meaning::Junction;
 use formula_store::{FormulaId, Overlay, Store};
@@ -36,13 +36,14 @@ pub(crate) fn node_put(
     at: At<'_>,
     store: &Store,
     id: FormulaId,
-    table: &Table,
+    table: &[(FormulaId, FormulaId)],
     overlay: &mut Overlay<'_>,
 ) -> Result<FormulaId, SubstError>
     requires id { IsId store.now id }
     requires plain { IsPlain (tree store.now id) }
     requires in_context { InContext (context_of at.context) (tree store.now id) }
     requires place { IsAtPlace at.context at.point.now }
+    requires rise { KeysRise table.now }
     requires within { Keeps (IsId store.now) (tree store.now) (IsId (all overlay.old)) (tree (all overlay.old)) }
     requires members { (n : Shape FormulaId) → slice_get store.now id.number ≡ Some n → AllIds (Held at.context at.point.now store.now (all overlay.old) table.now) n }
     ensures put { MatchResult result (IsNodePut at.entry.context at.entry.point.now store.now (all overlay.new) id) (λ e. Stops e (all_within (context_of at.entry.context) at.entry.point.now.name.number (place_of at.entry.point.now) (tree store.now id))) }
@@ -87,11 +88,12 @@ fn is_atom(normal: &Normal, atom: &Atom) -> bool
 fn members_joined(
     alloc: Global,
     overlay: &mut Overlay<'_>,
-    table: &Table,
+    table: &[(FormulaId, FormulaId)],
     junction: Junction,
     ids: &[FormulaId],
 ) -> Result<FormulaId, AllocError>
-    requires { AllByRecursion (IsId (all overlay.old)) (map (made_of table.now) ids.now) }
+    requires rise { KeysRise table.now }
+    requires ids { AllByRecursion (IsId (all overlay.old)) (map (made_of table.now) ids.now) }
     ensures made { IfOk result (λ id. IsMade (IsId (all overlay.new)) (tree (all overlay.new)) id (fold_list junction (members (map (tree (all overlay.old)) (map (made_of table.now) ids.now))))) }
     ensures kept { Keeps (IsId (all overlay.old)) (tree (all overlay.old)) (IsId (all overlay.new)) (tree (all overlay.new)) }
     ensures below { overlay.new.below ≡ overlay.old.below }

@@ -17,7 +17,6 @@ use crate::table::{made, note};
 use atom_normal::Context;
 use formula_store::{Delta, FormulaId, Overlay, Store, StoreError};
 use std::alloc::Global;
-use std::collections::HashMap;
 use test_points::TestPoint;
 
 /// The formula with the point's name put at the point (Loos and Weispfenning 1993, Cooper 1972): each atom in normal form, and
@@ -60,7 +59,7 @@ pub fn substitute_listed(
 {
     let at = At { context, point };
     let mut overlay = Overlay::over(alloc, store);
-    let mut table = HashMap::new(alloc);
+    let mut table = Vec::new(alloc);
     for id in ids {
         match node_put(alloc, at, store, *id, &table, &mut overlay) {
             Ok(copy) => note(&mut table, *id, copy)?,

@@ -1,31 +1,31 @@
 //! What is made of formulas, by their ids.
 
 ghost use Rattle.std.specs.Prelude.{◌≡◌, IfOk, OnOk, map};
-ghost use Rattle.virtual_subst.specs.Shared.{made_of, Notes};
+ghost use Rattle.virtual_subst.specs.Shared.{made_of, KeysRise, Notes};
 
 use formula_store::FormulaId;
 use std::alloc::{AllocError, Global};
-use std::collections::HashMap;
 
-/// The formulas that are made, by those that they are made of; a formula that stays what it is need not be there.
-pub(crate) type Table = HashMap<FormulaId, FormulaId>;
+/// Formulas, by rising ids, and what is made of each; one that stays what it is is not there.
+pub(crate) type Table = Vec<(FormulaId, FormulaId)>;
 
-/// What is made of the formula. It takes no memory.
-pub(crate) fn made(table: &Table, id: FormulaId) -> FormulaId
+/// What is made of the formula: a binary search. It takes no memory.
+pub(crate) fn made(table: &[(FormulaId, FormulaId)], id: FormulaId) -> FormulaId
+    requires { KeysRise table.now }
     ensures { result ≡ made_of table.now id }
 {
-    match table.get(&id) {
-        Some(copy) => *copy,
-        None => id,
+    match table.binary_search_by(|entry| entry.0.cmp(&id)) {
+        Ok(place) => table[place].1,
+        Err(_) => id,
     }
 }
 
 /// Notes what is made of the formula, if it is another one.
 pub(crate) fn note(table: &mut Table, id: FormulaId, copy: FormulaId) -> Result<(), AllocError>
-    ensures { OnOk result (Notes table.old table.new id copy) }
+    ensures { OnOk result (Notes table.old.items table.new.items id copy) }
 {
     if copy != id {
-        table.insert(id, copy)?;
+        table.push((id, copy))?;
     }
     Ok(())
 }
@@ -33,12 +33,13 @@ pub(crate) fn note(table: &mut Table, id: FormulaId, copy: FormulaId) -> Result<
 /// What is made of the formulas, in order.
 pub(crate) fn all_made(
     alloc: Global,
-    table: &Table,
+    table: &[(FormulaId, FormulaId)],
     ids: &[FormulaId],
 ) -> Result<Vec<FormulaId>, AllocError>
+    requires { KeysRise table.now }
     ensures { IfOk result (λ v. v.items ≡ map (made_of table.now) ids.now) }
 {
-    let mut found = Vec::new(alloc);
+    let mut found = Vec::with_capacity(alloc, ids.len())?;
     for id in ids {
         found.push(made(table, *id))?;
     }

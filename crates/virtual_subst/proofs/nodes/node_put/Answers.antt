@@ -16,8 +16,8 @@ use Rattle.virtual_subst.specs.Shared.{Held, made_of}
 use Rattle.virtual_subst.proofs.Made.{all_ids, list_put, same_put, same_atom_put}
 use Rattle.virtual_subst.proofs.nodes.node_put.Goals as goal
 
-pub members_joined-requires : goal.members_joined-requires
-members_joined-requires c =
+pub members_joined-requires-clause-ids : goal.members_joined-requires-clause-ids
+members_joined-requires-clause-ids c =
     let P : FormulaId → Type 0 = Held c.args.at.context c.args.at.point.now c.args.store.now (all c.args.overlay.now) c.args.table.now in
     let held = subst (AllIds P) c.in-And.is (c.requires.members c.shape.result.now c.shape.ensures.node) in
     subst (λ (l : List FormulaId). AllByRecursion (IsId (all c.args.overlay.now)) (map (made_of c.args.table.now) l)) (sym c.items-members.ensures)
@@ -34,8 +34,8 @@ returns-in_ok-members_joined-in-And-clause-put c =
     list_put c.args.at.context c.args.at.point.now nodes before c.args.table.now Conjunction c.in-And.ids c.args.id id new (c.shape.ensures.tree ∙ ap (tree_over (tree nodes)) c.in-And.is) held
     (subst (λ (l : List FormulaId). IsMade (IsId new) (tree new) id (fold_list Conjunction (members (map (tree before) (map (made_of c.args.table.now) l))))) c.items-members.ensures c.in_ok-members_joined-in-And.ensures.made)
 
-pub members_joined-requires-in-Or : goal.members_joined-requires-in-Or
-members_joined-requires-in-Or c =
+pub members_joined-requires-in-Or-clause-ids : goal.members_joined-requires-in-Or-clause-ids
+members_joined-requires-in-Or-clause-ids c =
     let P : FormulaId → Type 0 = Held c.args.at.context c.args.at.point.now c.args.store.now (all c.args.overlay.now) c.args.table.now in
     let held = subst (AllIds P) c.in-Or.is (c.requires.members c.shape.result.now c.shape.ensures.node) in
     subst (λ (l : List FormulaId). AllByRecursion (IsId (all c.args.overlay.now)) (map (made_of c.args.table.now) l)) (sym c.items-members-in-Or.ensures)

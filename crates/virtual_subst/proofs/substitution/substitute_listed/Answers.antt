@@ -1,8 +1,9 @@
-use Rattle.std.proofs.Common.{◌≡◌, ◌++◌, inl, List, [], ◌∷◌, length, get_or, take, refl, ap, sym, ◌∙◌, subst, arith}
+use Rattle.std.proofs.Common.{◌≡◌, ◌++◌, inl, List, [], ◌∷◌, length, get_or, take, ap, sym, ◌∙◌, subst, arith}
 use Rattle.std.proofs.Math.Seq.{take-length}
 use Rattle.std.proofs.lemmas.List.{take_all}
 use Rattle.std.specs.List.{AllByRecursion}
 use Rattle.atom_normal.specs.Atoms.{context_of}
+use Rattle.formula_tree.specs.Shapes.{AllIds}
 use Rattle.formula_tree.proofs.Shapes.{listed_all}
 use Rattle.formula_store.specs.declared.id.FormulaId.{FormulaId}
 use Rattle.formula_store.specs.Layers.{all}
@@ -11,10 +12,10 @@ use Rattle.formula_store.specs.Order.{itself}
 use Rattle.formula_store.proofs.Makes.{keeps_then}
 use Rattle.formula_store.proofs.Before.{each_id, members_before, among_all}
 use Rattle.test_points.specs.Points.{place_of}
-use Rattle.virtual_subst.specs.Shared.{Held, IsNodePut, made_of}
+use Rattle.virtual_subst.specs.Shared.{Held, IsNodePut, Table, made_of}
 use Rattle.virtual_subst.proofs.Inherited.{listed_within, fits_within, stops_within}
 use Rattle.virtual_subst.proofs.Made.{still_put}
-use Rattle.virtual_subst.proofs.Noted.{noted_more, noted_all}
+use Rattle.virtual_subst.proofs.Noted.{one_more, noted_more}
 use Rattle.virtual_subst.proofs.substitution.substitute_listed.Goals as goal
 
 pub node_put-requires-clause-id : goal.node_put-requires-clause-id
@@ -37,9 +38,10 @@ node_put-requires-clause-in_context c =
 
 pub node_put-requires-clause-members : goal.node_put-requires-clause-members
 node_put-requires-clause-members c n here =
-    let P : FormulaId → Type 0 = Held c.args.context c.args.point.now c.args.store.now (all c.loop-id.overlay) c.loop-id.table in
-    listed_all P n
-    (members_before c.args.store.now c.over-overlay.ensures.nodes (c.args.root ∷ []) c.args.ids.now c.requires.listed c.loop-id.id-index (record { number = 0 }) c.loop-id-test.true n here P c.loop-id.invariant.held)
+    let P : FormulaId → Type 0 = Held c.args.context c.args.point.now c.args.store.now (all c.loop-id.overlay) c.loop-id.table.items in
+    subst (λ (t : Table). AllIds (Held c.args.context c.args.point.now c.args.store.now (all c.loop-id.overlay) t) n) (sym c.deref.ensures.value)
+    (listed_all P n
+    (members_before c.args.store.now c.over-overlay.ensures.nodes (c.args.root ∷ []) c.args.ids.now c.requires.listed c.loop-id.id-index (record { number = 0 }) c.loop-id-test.true n here P c.loop-id.invariant.held))
 
 pub returns-in-Err : goal.returns-in-Err
 returns-in-Err c =
@@ -56,34 +58,35 @@ loop-id-preserved c =
     let old = all c.loop-id.overlay in
     let new = all c.node_put.new.overlay in
     let id : FormulaId = get_or c.args.ids.now c.loop-id.id-index (record { number = 0 }) in
+    let i = c.loop-id.id-index in
+    let d : FormulaId = record { number = 0 } in
     let grows = λ (x w : FormulaId) (h : IsNodePut o t nodes old x w). still_put o t nodes old new c.in-Ok.ensures.kept x w h in
     record {
-      held = noted_more (IsNodePut o t nodes old) (IsNodePut o t nodes new) c.loop-id.table c.note.new.table id c.in-Ok.copy grows c.in-Ok.ensures.put c.loop-id.invariant.noted c.in_ok-note-in-Ok.ensures
-          c.args.ids.now c.loop-id.id-index (record { number = 0 }) c.loop-id-test.true refl c.loop-id.invariant.held;
-      noted = noted_all (IsNodePut o t nodes old) (IsNodePut o t nodes new) c.loop-id.table c.note.new.table id c.in-Ok.copy grows c.in-Ok.ensures.put c.loop-id.invariant.noted c.in_ok-note-in-Ok.ensures;
+      held = noted_more c.args.ids.now c.requires.listed.rises i d c.loop-id-test.true c.loop-id.table.items c.note.new.table.items c.in-Ok.copy c.in_ok-note-in-Ok.ensures c.loop-id.invariant.behind (IsNodePut o t nodes old) (IsNodePut o t nodes new) grows c.in-Ok.ensures.put c.loop-id.invariant.held;
+      behind = one_more c.args.ids.now c.requires.listed.rises i d c.loop-id-test.true c.loop-id.table.items c.note.new.table.items c.in-Ok.copy c.in_ok-note-in-Ok.ensures c.loop-id.invariant.behind;
       kept = keeps_then nodes old new c.loop-id.invariant.kept c.in-Ok.ensures.kept;
       below = c.in-Ok.ensures.below ∙ c.loop-id.invariant.below;
     }
 
 pub finish-requires : goal.finish-requires
 finish-requires c =
-    let P : FormulaId → Type 0 = Held c.args.context c.args.point.now c.args.store.now (all c.loop-id.overlay) c.loop-id.table in
+    let P : FormulaId → Type 0 = Held c.args.context c.args.point.now c.args.store.now (all c.loop-id.overlay) c.loop-id.table.items in
     let whole : take c.loop-id.id-index c.args.ids.now ≡ c.args.ids.now = take_all c.loop-id.id-index c.args.ids.now (omega arith) in
     let done : AllByRecursion P c.args.ids.now = subst (λ (l : List FormulaId). AllByRecursion P l) whole c.loop-id.invariant.held in
     let root = (among_all P c.args.ids.now c.args.root done (c.requires.listed.all c.args.root (inl itself))) in
-    subst (IsId (all c.loop-id.overlay)) (sym c.made-id.ensures) root.is
+    subst (IsId (all c.loop-id.overlay)) (sym (c.made-id.ensures ∙ ap (λ (t : Table). made_of t c.args.root) c.deref-2.ensures.value)) root.is
 
 pub returns : goal.returns
 returns c =
     let nodes = c.args.store.now in
-    let P : FormulaId → Type 0 = Held c.args.context c.args.point.now c.args.store.now (all c.loop-id.overlay) c.loop-id.table in
+    let P : FormulaId → Type 0 = Held c.args.context c.args.point.now c.args.store.now (all c.loop-id.overlay) c.loop-id.table.items in
     let whole : take c.loop-id.id-index c.args.ids.now ≡ c.args.ids.now = take_all c.loop-id.id-index c.args.ids.now (omega arith) in
     let done : AllByRecursion P c.args.ids.now = subst (λ (l : List FormulaId). AllByRecursion P l) whole c.loop-id.invariant.held in
     let root = (among_all P c.args.ids.now c.args.root done (c.requires.listed.all c.args.root (inl itself))) in
     let count : c.finish.result.begun ≡ length nodes = c.finish.ensures.begun ∙ ap length c.loop-id.invariant.below in
     let same : take c.finish.result.begun nodes ++ c.finish.result.own ≡ all c.loop-id.overlay =
     (λ i. take (count i) nodes ++ c.finish.ensures.own i) ∙ ap (λ ns. ns ++ c.loop-id.overlay.own) (take-length nodes ∙ sym c.loop-id.invariant.below) in
-    let wanted : c.finish.result.root ≡ made_of c.loop-id.table c.args.root = c.finish.ensures.root ∙ c.made-id.ensures in
+    let wanted : c.finish.result.root ≡ made_of c.loop-id.table.items c.args.root = c.finish.ensures.root ∙ c.made-id.ensures ∙ ap (λ (t : Table). made_of t c.args.root) c.deref-2.ensures.value in
     record {
       begun = omega arith;
       formula = (λ i. tree (same i) (wanted i)) ∙ root.formula;
