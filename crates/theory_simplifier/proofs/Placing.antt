@@ -1,11 +1,14 @@
 -- Reading a list at the places of one variable part reads all that matters.
-use Rattle.std.proofs.Common.{◌≡◌, ℕ, zero, suc, ◌<◌, Bool, true, false, refl, sym, ap, ◌∙◌, List, [], ◌∷◌, ◌++◌, length, take, map, get_or, subst, arith}
+use Rattle.std.proofs.Common.{◌≡◌, ℕ, zero, suc, ◌<◌, Bool, true, false, refl, sym, ap, ◌∙◌, Option, Some, None, List, [], ◌∷◌, ◌++◌, length, take, map, get_or, subst, arith}
 use Rattle.std.proofs.Math.ListN.{set}
-use Rattle.std.specs.Prelude.{if◌then◌else◌}
+use Rattle.std.specs.Prelude.{if◌then◌else◌, unwrap_or}
 use Rattle.formula_meaning.specs.Some.{EachOf}
+use Rattle.std.specs.declared.alloc.Global.{Global}
+use Rattle.std.specs.declared.vec.Vec.{Vec}
+use Rattle.std.specs.HashMap.{get}
 use Rattle.formula_meaning.specs.Form.{Form}
 use Rattle.linear_forms.specs.Equality.{form_eq}
-use Rattle.theory_simplifier.specs.Places.{places_of}
+use Rattle.theory_simplifier.specs.Places.{Table, items_of, places_at, places_of}
 use Rattle.theory_simplifier.proofs.Entries.{map_append}
 
 -- the numbers below the length of a list, each one more
@@ -107,3 +110,15 @@ module _ {X : Type 0} (part : X → Form) (p : Form) where
   places_set [] i y d l e = absurd (omega arith)
   places_set (x ∷ xs) zero y d l e = ap (λ (f : Form). if form_eq f p then 0 ∷ map suc (at_part xs) else map suc (at_part xs)) e
   places_set (x ∷ xs) (suc i) y d l e = ap (λ is. if form_eq (part x) p then 0 ∷ map suc is else map suc is) (places_set xs i y d (omega arith) e)
+
+-- what is there for a variable part, after the list with one more place was put there for one of them
+pub placed : (old : Table) (part p : Form) (place : ℕ) (v : Vec ℕ Global) (o : Option (Vec ℕ Global)) → v.items ≡ places_at old part ++ place ∷ [] → o ≡ (if form_eq part p then Some v else get form_eq old p) → items_of o ≡ (if form_eq part p then places_at old part ++ place ∷ [] else places_at old p)
+placed old part p place v o items got = ap items_of got ∙ split (form_eq part p)
+  where
+    split : (b : Bool) → items_of (if b then Some v else get form_eq old p) ≡ (if b then places_at old part ++ place ∷ [] else places_at old p)
+    split true = items
+    split false = refl
+
+pub items_or_none : (o : Option (Vec ℕ Global)) (v : Vec ℕ Global) → v.items ≡ [] → (unwrap_or o v).items ≡ items_of o
+items_or_none None v e = e
+items_or_none (Some w) v e = refl

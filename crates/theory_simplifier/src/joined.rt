@@ -86,6 +86,9 @@ impl Joined {
         requires atoms { EachOf (IsNormalWithin (context_of context)) self.now.atoms }
         ensures { result ≡ decided (atom_kit (context_of context)) (told_by self.now) (atom_of atom.now) }
     {
+        if self.is_empty() {
+            return None;
+        }
         for place in places_at(&self.places, part) {
             let truth = decides(context, &self.entries[*place].told, atom);
             if truth.is_some() {

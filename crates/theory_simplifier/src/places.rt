@@ -32,11 +32,7 @@ pub(crate) fn with_place(
     ensures { IfOk result (λ r. (p : Form) → places_at r p ≡ (if form_eq part p then places_at places part ++ place ∷ [] else places_at places p)) }
 {
     let mut places = places;
-    let mut list = match places.remove(&part) {
-        Some(list) => list,
-        None => Vec::new(alloc),
-    };
+    let list = places.entry(part)?.or_insert(Vec::new(alloc));
     list.push(place)?;
-    places.insert(part, list)?;
     Ok(places)
 }
