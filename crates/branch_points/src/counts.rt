@@ -1,6 +1,6 @@
 //! How many test points a name has on a side, and the name and the side with the fewest.
 
-ghost use Rattle.std.specs.Prelude.{◌≡◌, ◌⊎◌, ◌<◌, ◌≤◌, ℕ, false, nat_eq, map, All, MatchOption, IfOk, IfSome, IsErrOf, IsTrue, Some};
+ghost use Rattle.std.specs.Prelude.{◌≡◌, ◌⊎◌, ◌<◌, ◌≤◌, ℕ, false, nat_eq, map, count_by, All, MatchOption, IfOk, IfSome, IsErrOf, IsTrue, Some};
 ghost use Rattle.std.specs.HashMap.{get};
 ghost use Rattle.formula_meaning.specs.Some.{Among, EachOf};
 ghost use Rattle.formula_meaning.specs.Limits.{each, place_within};
@@ -10,9 +10,10 @@ ghost use Rattle.elimination_theory.specs.IntegersPoints.{integer_points_of};
 ghost use Rattle.atom_normal.specs.Atoms.{atom_of, context_of, IsWellFormed};
 ghost use Rattle.test_points.specs.Points.{place_of, IsPointOf};
 ghost use Rattle.branch_points.specs.Counts.{SpanPasses, IsGridOf, IsCount, IsCandidate, CountsAtMost, HasAtMost, IsBeaten, count_of};
-ghost use Rattle.branch_points.specs.Ends.{AreEnds};
+ghost use Rattle.cooper_periods.specs.Starts.{has_end};
+ghost use Rattle.branch_points.specs.Ends.{towards, AreEnds};
 
-use crate::ends::{Table, end_count};
+use crate::ends::{Ends, Table, ends_in};
 use crate::error::ChoiceError;
 use atom_normal::{Atom, Context};
 use cooper_periods::{Period, integer_points, period, points_count};
@@ -90,8 +91,9 @@ fn cheaper_side(context: Context, atoms: &[Atom], table: &Table, x: VarId) -> Op
     ensures least { IsBeaten context (map atom_of atoms.now) result x }
 {
     let grid = grid_of(context, atoms, x)?;
-    let lower = on_side(context, atoms, table, x, grid, Side::Lower);
-    let upper = on_side(context, atoms, table, x, grid, Side::Upper);
+    let ends = ends_in(table, x);
+    let lower = on_side(context, atoms, ends, x, grid, Side::Lower);
+    let upper = on_side(context, atoms, ends, x, grid, Side::Upper);
     fewer(Some(lower), Some(upper))
 }
 
@@ -109,25 +111,25 @@ fn grid_of(context: Context, atoms: &[Atom], x: VarId) -> Option<Grid>
     }
 }
 
-// The name with a side.
+// The name, whose ends are given, with a side.
 fn on_side(
     context: Context,
     atoms: &[Atom],
-    table: &Table,
+    ends: Ends,
     x: VarId,
     grid: Grid,
     side: Side,
 ) -> Candidate
     requires well_formed { All IsWellFormed atoms.now }
     requires once { StandsOnce (map atom_of atoms.now) }
-    requires ends { AreEnds (map atom_of atoms.now) (get nat_eq table.now) }
+    requires ends { towards side ends ≡ count_by (has_end side x.number) (map atom_of atoms.now) }
     requires grid { IsGridOf context x.number (map atom_of atoms.now) grid }
     ensures name { result.name ≡ x }
     ensures side { result.side ≡ side }
     ensures candidate { IsCandidate context (map atom_of atoms.now) result }
 {
     let count = match grid {
-        Grid::Fields => (end_count(table, x, side) as u64).checked_add(1),
+        Grid::Fields => (ends.towards(side) as u64).checked_add(1),
         Grid::Integers(period) => points_count(atoms, x, &period, side),
     };
     Candidate {

@@ -6,7 +6,7 @@ ghost use Rattle.formula_meaning.specs.Form.{coefficient};
 ghost use Rattle.formula_meaning.specs.Atom.{form_of};
 ghost use Rattle.atom_normal.specs.Atoms.{atom_of, relation_of};
 ghost use Rattle.cooper_periods.specs.Starts.{first_step};
-ghost use Rattle.branch_points.specs.Ends.{once, ends_with, ends_or_none, end_count, AreEnds, HaveMore, HaveTerm, HasRoom};
+ghost use Rattle.branch_points.specs.Ends.{once, ends_with, ends_or_none, towards, AreEnds, HaveMore, HaveTerm, HasRoom};
 
 use atom_normal::{Atom, Rel};
 use linear_forms::{Linear, VarId};
@@ -76,8 +76,8 @@ fn count_term(table: &mut Table, atom: &Atom, name: VarId, times: i128) -> Resul
     Ok(())
 }
 
-// The ends of a name, none where the table has no entry.
-fn ends_in(table: &Table, name: VarId) -> Ends
+/// The ends of a name, none where the table has no entry.
+pub(crate) fn ends_in(table: &Table, name: VarId) -> Ends
     ensures { result ≡ ends_or_none (get nat_eq table.now name.number) }
 {
     match table.get(&name.number) {
@@ -94,14 +94,15 @@ fn raised(count: usize, more: bool) -> usize
     if more { count + 1 } else { count }
 }
 
-/// How many ends of the name lie to the side.
-pub(crate) fn end_count(table: &Table, name: VarId, side: Side) -> usize
-    ensures { result ≡ end_count side (get nat_eq table.now name.number) }
-{
-    let ends = ends_in(table, name);
-    match side {
-        Side::Lower => ends.lower,
-        Side::Upper => ends.upper,
+impl Ends {
+    /// How many of the ends lie to the side.
+    pub(crate) fn towards(self, side: Side) -> usize
+        ensures { result ≡ towards side self }
+    {
+        match side {
+            Side::Lower => self.lower,
+            Side::Upper => self.upper,
+        }
     }
 }
 
