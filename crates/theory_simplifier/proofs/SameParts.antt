@@ -1,5 +1,5 @@
 -- Atoms with different variable parts neither merge nor decide each other.
-use Rattle.std.proofs.Common.{◌≡◌, Bool, true, false, nat_eq, refl, sym, ap, ◌∙◌, None, List, eqb-true}
+use Rattle.std.proofs.Common.{◌≡◌, ◌⊎◌, inl, inr, Bool, true, false, nat_eq, refl, sym, ap, ◌∙◌, None, List, [], ◌∷◌, eqb-true}
 use Rattle.std.proofs.Math.IntN.{ℤ, pos}
 use Rattle.std.specs.Prelude.{if◌then◌else◌}
 use Rattle.std.specs.Ordering.{int_eq}
@@ -12,6 +12,7 @@ use Rattle.formula_meaning.specs.Atom.{Atom, Compare, Congruent}
 use Rattle.formula_meaning.proofs.Same.{and_left, and_right, terms_same}
 use Rattle.linear_forms.specs.Terms.{coefficients}
 use Rattle.linear_forms.specs.Reduction.{quotients}
+use Rattle.linear_forms.proofs.Quotients.{one_quotient}
 use Rattle.atom_normal.specs.NormalForm.{IsNormal}
 use Rattle.atom_merging.specs.Merging.{variable_part}
 use Rattle.atom_merging.specs.Computed.{Kept, is_same_part, merged, merged_part, decided_by, decided_part}
@@ -49,3 +50,12 @@ module _ (c : Context) (a b : Atom) (n : IsNormal c a) (m : IsNormal c b) (d : �
 
   pub undecided_apart : None ≡ decided_by c a b
   undecided_apart = sym (ap (λ (t : Bool). if t then decided_part c a b else None) (apart (is_same_part a b) refl))
+
+quotients_one : (ts : List Term) → quotients (pos 1) ts ≡ ts
+quotients_one [] = refl
+quotients_one (t ∷ ts) = λ i. record { times = one_quotient t.times i; name = t.name } ∷ quotients_one ts i
+
+-- terms whose content is 0 or 1 stay
+pub undivided_part : (ts : List Term) (d : ℤ) → d ≡ content_of (coefficients ts) → (d ≡ pos 0) ⊎ (d ≡ pos 1) → ts ≡ part_terms ts
+undivided_part ts d e (inl z) = sym (ap (λ k. if int_eq k (pos 0) then ts else quotients k ts) (sym e ∙ z))
+undivided_part ts d e (inr o) = sym (ap (λ k. if int_eq k (pos 0) then ts else quotients k ts) (sym e ∙ o) ∙ quotients_one ts)

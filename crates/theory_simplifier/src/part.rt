@@ -46,7 +46,7 @@ fn divided_by(alloc: Global, form: Linear, content: i128) -> Result<Linear, Allo
     requires divides { DividesAll content (form.constant ∷ coefficients form.terms) }
     ensures { IfOk result (λ r. r ≡ record { terms = part_terms form.terms; constant = pos 0 }) }
 {
-    if content.cmp(&0).is_eq() {
+    if matches!(content, 0 | 1) {
         return Ok(form.with_constant(0));
     }
     match form.divide_exact(alloc, content) {
