@@ -11,7 +11,7 @@ ghost use Rattle.stored_texts.specs.Texts.{Begins, brackets, IsOpened};
 use formula_store::{FormulaId, Store, Unfold};
 use formula_tree::{Names, Shape};
 use linear_forms::VarId;
-use redlog_printer::{Output, PrintError, put_tree};
+use redlog_printer::{Output, PrintError, put_atom, put_tree};
 use std::alloc::Global;
 
 /// A formula with more nodes has a text that is too long.
@@ -53,7 +53,7 @@ fn put_formula(
     ensures long { IsErrOf result PrintError.Text → text_limit < length out.old + length (tree_text names.now (tree store.now id)) }
 {
     let (matrix, count) = put_quantifiers(store, names, out, id)?;
-    put_unfolded(store, names, out, matrix)?;
+    put_matrix(store, names, out, matrix)?;
     put_brackets(out, count)
 }
 
@@ -120,6 +120,25 @@ fn put_opening(names: &Names, out: &mut Output, word: &[u8], name: VarId) -> Res
     out.put(word)?;
     out.put_name(names, name)?;
     out.put(b",")
+}
+
+/// Writes a formula that begins with no quantifier. Only a compound one is unfolded for it.
+fn put_matrix(
+    store: &Store,
+    names: &Names,
+    out: &mut Output,
+    id: FormulaId,
+) -> Result<(), PrintError>
+    requires id { IsId store.now id }
+    requires within { IsTreeWithin (length names.now) (tree store.now id) }
+    requires members { HasTwoMembers (tree store.now id) }
+    ensures wrote { OnOk result (out.new ≡ out.old ++ tree_text names.now (tree store.now id)) }
+    ensures long { IsErrOf result PrintError.Text → text_limit < length out.old + length (tree_text names.now (tree store.now id)) }
+{
+    match store.shape(id) {
+        Shape::One(atom) => put_atom(out, names, atom),
+        _ => put_unfolded(store, names, out, id),
+    }
 }
 
 /// Writes a formula that is unfolded for it.
