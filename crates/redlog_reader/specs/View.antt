@@ -1,6 +1,8 @@
 -- What the values of the code stand for, while terms and formulas are read.
 use Rattle.std.specs.Prelude.{List, [], ◌∷◌, map, reverse}
 use Rattle.qe_syntax.specs.Trees.{TermTree, term_tree, formula_tree}
+use Rattle.qe_syntax.specs.declared.tree.Term as written
+use Rattle.qe_syntax.specs.declared.tree.Term.TheVariants as term
 use Rattle.redlog_reader.specs.declared.operand.Operand as operands
 use Rattle.redlog_reader.specs.declared.operand.Operand.TheVariants as operand
 use Rattle.redlog_reader.specs.declared.pending.Pending as begins
@@ -13,26 +15,31 @@ use Rattle.redlog_reader.specs.declared.pending.Step as steps
 use Rattle.redlog_reader.specs.declared.pending.Step.TheVariants as taken
 use Rattle.redlog_reader.specs.Machine.{Reading, Term, Formula, Bare, Frame, Group, Quantified, Congruence, Negation, Compares, Added, Multiplied, Listed, Arrows, Mode, Wants, Fresh, Held, Raised, Binder, Binding, NameWanted, NameRead, Scoped, Congruent, Outcome, Stops, Moves}
 
+-- a term that is a name alone is a formula too
+abbrev pub named_reading : written.Term → Reading
+named_reading (term.Name x) = Bare x
+named_reading t = Term (term_tree t)
+
 abbrev pub reading_of : operands.Operand → Reading
-reading_of (operand.Term t) = Term (term_tree t)
-reading_of (operand.Formula f) = Formula (formula_tree f)
-reading_of (operand.Name x) = Bare x
+reading_of (operand.Term t) = Term (term_tree t.value)
+reading_of (operand.Formula f) = Formula (formula_tree f.value)
+reading_of (operand.Name t) = named_reading t.value
 
 abbrev pub arguments_of : arguments.Arguments → List TermTree
 arguments_of argument.First = []
-arguments_of (argument.Second s) = term_tree s ∷ []
-arguments_of (argument.Third s t) = term_tree s ∷ term_tree t ∷ []
+arguments_of (argument.Second s) = term_tree s.value ∷ []
+arguments_of (argument.Third s t) = term_tree s.value ∷ term_tree t.value ∷ []
 
 abbrev pub frame_of : begins.Pending → Frame
 frame_of pending.Group = Group
 frame_of (pending.Quantified quantifier names) = Quantified quantifier names.items
 frame_of (pending.Congruence positive terms) = Congruence positive (arguments_of terms)
 frame_of pending.Negation = Negation
-frame_of (pending.Compares r t) = Compares r (term_tree t)
+frame_of (pending.Compares r t) = Compares r (term_tree t.value)
 frame_of (pending.Added minus terms) = Added minus (map term_tree terms.items)
 frame_of (pending.Multiplied over terms) = Multiplied over (map term_tree terms.items)
 frame_of (pending.Listed c formulas) = Listed c (map formula_tree formulas.items)
-frame_of (pending.Arrows a f) = Arrows a (formula_tree f)
+frame_of (pending.Arrows a f) = Arrows a (formula_tree f.value)
 
 -- what has begun, of which the inmost stands last in the code
 abbrev pub frames : List begins.Pending → List Frame
@@ -42,7 +49,7 @@ abbrev pub mode_of : expected.Expects → Mode
 mode_of expects.Operand = Wants
 mode_of (expects.Power o) = Fresh (reading_of o)
 mode_of (expects.Operator o) = Held (reading_of o)
-mode_of (expects.Exponent t) = Raised (term_tree t)
+mode_of (expects.Exponent t) = Raised (term_tree t.value)
 mode_of (expects.Binder quantifier) = Binder quantifier
 mode_of (expects.Binding quantifier) = Binding quantifier
 mode_of (expects.Name quantifier names) = NameWanted quantifier names.items

@@ -60,7 +60,7 @@ pub fn sum(alloc: Global, tokens: &[Token]) -> Result<(Term, &[Token]), ReadErro
     let Some(term) = term_of(operand) else {
         return Err(ReadError::Syntax);
     };
-    Ok((term, rest))
+    Ok((Box::into_inner(term), rest))
 }
 
 /// A relation between two sums.

@@ -5,12 +5,12 @@ ghost use Rattle.redlog_reader.specs.Machine.{Negation, Compares, Added, Multipl
 ghost use Rattle.redlog_reader.specs.Reading.{Refuses};
 ghost use Rattle.redlog_reader.specs.View.{reading_of, frame_of};
 
-use crate::operand::{Operand, formula_of, term_of};
+use crate::operand::{Operand, formula_of, formula_operand, term_of, term_operand};
 use crate::pending::{Arrow, Pending};
 use formula_meaning::Junction;
 use qe_syntax::{
-    Formula, Formulas, Relation, Term, Terms, comparison, equivalence, implication, negation,
-    negative, quotient, replication,
+    Formula, Formulas, Relation, Term, Terms, equivalence, implication, negation, quotient,
+    replication,
 };
 use redlog_tokens::ReadError;
 use std::alloc::{AllocError, Global};
@@ -25,7 +25,7 @@ pub fn ended(alloc: Global, pending: Pending, operand: Operand) -> Result<Operan
         Pending::Compares(relation, left) => compared(alloc, relation, left, operand),
         Pending::Added(minus, members) => summed(alloc, minus, members, operand),
         Pending::Multiplied(over, factors) => product(alloc, over, factors, operand),
-        Pending::Listed(junction, members) => joined(junction, members, operand),
+        Pending::Listed(junction, members) => joined(alloc, junction, members, operand),
         Pending::Arrows(arrow, left) => implied(alloc, arrow, left, operand),
         _ => Err(ReadError::Syntax),
     }
@@ -40,24 +40,23 @@ fn negated(alloc: Global, operand: Operand) -> Result<Operand, ReadError>
         return Err(ReadError::Syntax);
     };
     let negated = negation(alloc, formula)?;
-    Ok(Operand::Formula(negated))
+    formula_operand(alloc, negated)
 }
 
-#[tactic(auto, using(crate::proofs::Steps::choices))]
+#[tactic(auto, using(crate::proofs::Steps::choices, qe_syntax::proofs::TreeEquations::trees))]
 fn compared(
     alloc: Global,
     relation: Relation,
-    left: Term,
+    left: Box<Term>,
     operand: Operand,
 ) -> Result<Operand, ReadError>
-    ensures ended { IfOk result (λ o. ended (Compares relation (term_tree left)) (reading_of operand) ≡ Some (reading_of o)) }
-    ensures refused { IfErr result (λ e. Refuses e (ended (Compares relation (term_tree left)) (reading_of operand) ≡ None)) }
+    ensures ended { IfOk result (λ o. ended (Compares relation (term_tree left.value)) (reading_of operand) ≡ Some (reading_of o)) }
+    ensures refused { IfErr result (λ e. Refuses e (ended (Compares relation (term_tree left.value)) (reading_of operand) ≡ None)) }
 {
     let Some(right) = term_of(operand) else {
         return Err(ReadError::Syntax);
     };
-    let compared = comparison(alloc, relation, left, right)?;
-    Ok(Operand::Formula(compared))
+    formula_operand(alloc, Formula::Compare(relation, left, right))
 }
 
 #[tactic(auto, using(crate::proofs::Steps::choices))]
@@ -73,22 +72,28 @@ fn summed(
     let Some(term) = term_of(operand) else {
         return Err(ReadError::Syntax);
     };
-    let members = added(alloc, minus, members, term)?;
-    Ok(Operand::Term(sum_of(members)))
+    let members = added(minus, members, term)?;
+    term_operand(alloc, sum_of(members))
 }
 
 /// The members with one more, which may get the sign `-`.
-pub fn added(
-    alloc: Global,
-    minus: bool,
-    mut members: Vec<Term>,
-    term: Term,
-) -> Result<Vec<Term>, AllocError>
-    ensures { IfOk result (λ ts. map term_tree ts.items ≡ map term_tree members.items ++ signed_term minus (term_tree term) ∷ []) }
+pub fn added(minus: bool, mut members: Vec<Term>, term: Box<Term>) -> Result<Vec<Term>, AllocError>
+    ensures { IfOk result (λ ts. map term_tree ts.items ≡ map term_tree members.items ++ signed_term minus (term_tree term.value) ∷ []) }
 {
-    let signed = if minus { negative(alloc, term)? } else { term };
-    members.push(signed)?;
+    members.push(signed(minus, term))?;
     Ok(members)
+}
+
+/// The term, which may get the sign `-`.
+#[tactic(auto, using(qe_syntax::proofs::TreeEquations::trees))]
+fn signed(minus: bool, term: Box<Term>) -> Term
+    ensures { term_tree result ≡ signed_term minus (term_tree term.value) }
+{
+    if minus {
+        Term::Negative(term)
+    } else {
+        Box::into_inner(term)
+    }
 }
 
 /// The sum of the members, or the member where there is one alone.
@@ -117,7 +122,7 @@ fn product(
         return Err(ReadError::Syntax);
     };
     let factors = multiplied(alloc, over, factors, term)?;
-    Ok(Operand::Term(product_of(factors)))
+    term_operand(alloc, product_of(factors))
 }
 
 /// The factors with one more, or their quotient by it.
@@ -125,10 +130,11 @@ pub fn multiplied(
     alloc: Global,
     over: bool,
     mut factors: Vec<Term>,
-    term: Term,
+    term: Box<Term>,
 ) -> Result<Vec<Term>, AllocError>
-    ensures { IfOk result (λ ts. map term_tree ts.items ≡ multiplied over (map term_tree factors.items) (term_tree term)) }
+    ensures { IfOk result (λ ts. map term_tree ts.items ≡ multiplied over (map term_tree factors.items) (term_tree term.value)) }
 {
+    let term = Box::into_inner(term);
     if !over {
         factors.push(term)?;
         return Ok(factors);
@@ -153,6 +159,7 @@ fn product_of(mut factors: Vec<Term>) -> Term
 
 #[tactic(auto, using(crate::proofs::Steps::choices))]
 fn joined(
+    alloc: Global,
     junction: Junction,
     mut members: Vec<Formula>,
     operand: Operand,
@@ -164,7 +171,7 @@ fn joined(
         return Err(ReadError::Syntax);
     };
     put(&mut members, formula)?;
-    Ok(Operand::Formula(list_of(junction, members)))
+    formula_operand(alloc, list_of(junction, members))
 }
 
 /// Puts a formula at the end of a list.
@@ -193,17 +200,17 @@ fn list_of(junction: Junction, mut members: Vec<Formula>) -> Formula
 fn implied(
     alloc: Global,
     arrow: Arrow,
-    left: Formula,
+    left: Box<Formula>,
     operand: Operand,
 ) -> Result<Operand, ReadError>
-    ensures ended { IfOk result (λ o. ended (Arrows arrow (formula_tree left)) (reading_of operand) ≡ Some (reading_of o)) }
-    ensures refused { IfErr result (λ e. Refuses e (ended (Arrows arrow (formula_tree left)) (reading_of operand) ≡ None)) }
+    ensures ended { IfOk result (λ o. ended (Arrows arrow (formula_tree left.value)) (reading_of operand) ≡ Some (reading_of o)) }
+    ensures refused { IfErr result (λ e. Refuses e (ended (Arrows arrow (formula_tree left.value)) (reading_of operand) ≡ None)) }
 {
     let Some(right) = formula_of(operand) else {
         return Err(ReadError::Syntax);
     };
-    let implied = arrow_of(alloc, arrow, left, right)?;
-    Ok(Operand::Formula(implied))
+    let implied = arrow_of(alloc, arrow, Box::into_inner(left), right)?;
+    formula_operand(alloc, implied)
 }
 
 /// The implication between two formulas.

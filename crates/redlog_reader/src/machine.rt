@@ -10,12 +10,11 @@ ghost use Rattle.redlog_reader.specs.Reading.{Refuses};
 ghost use Rattle.redlog_reader.specs.View.{reading_of, arguments_of, frame_of, frames, mode_of, outcome_of};
 
 use crate::ending::{added, ended, multiplied, put};
-use crate::operand::{Operand, formula_of, term_of};
+use crate::operand::{Operand, formula_of, formula_operand, name_operand, term_of, term_operand};
 use crate::pending::{Arguments, Arrow, Expects, Pending, Step, level, takes_last};
 use formula_meaning::{Junction, Quantifier};
 use qe_syntax::{
-    Formula, Name, Relation, Term, congruence, equivalence, existential, incongruence, power,
-    replication, universal,
+    Formula, Name, Relation, Term, equivalence, existential, replication, universal,
 };
 use redlog_tokens::{Mark, ReadError, Terminal, Token, Word, terminal_of};
 use std::alloc::{AllocError, Global};
@@ -79,17 +78,20 @@ fn begin(
 {
     match terminal {
         Terminal::Number(number) => {
-            let number = Operand::Term(Term::Number(*number));
+            let number = term_operand(alloc, Term::Number(*number))?;
             Ok(Step::Moves(Expects::Power(number)))
         }
-        Terminal::Name(name) => Ok(Step::Moves(Expects::Power(Operand::Name(*name)))),
+        Terminal::Name(name) => {
+            let name = name_operand(alloc, *name)?;
+            Ok(Step::Moves(Expects::Power(name)))
+        }
         Terminal::Mark(Mark::Open) => {
             put_pending(pending, Pending::Group)?;
             Ok(Step::Moves(Expects::Operand))
         }
         Terminal::Mark(Mark::Plus) => sign(alloc, goal, pending, false),
         Terminal::Mark(Mark::Minus) => sign(alloc, goal, pending, true),
-        Terminal::Word(word) => begin_with(goal, pending, *word),
+        Terminal::Word(word) => begin_with(alloc, goal, pending, *word),
         _ => Err(ReadError::Syntax),
     }
 }
@@ -110,13 +112,18 @@ fn sign(
 
 /// The first word of an operand.
 #[tactic(auto, using(crate::proofs::Frames::steps, qe_syntax::proofs::TreeEquations::trees))]
-fn begin_with(goal: usize, pending: &mut Vec<Pending>, word: Word) -> Result<Step, ReadError>
+fn begin_with(
+    alloc: Global,
+    goal: usize,
+    pending: &mut Vec<Pending>,
+    word: Word,
+) -> Result<Step, ReadError>
     ensures taken { IfOk result (λ s. wanted goal (Terminal.Word word) (frames pending.old.items) ≡ outcome_of s (frames pending.new.items)) }
     ensures refused { IfErr result (λ e. Refuses e (wanted goal (Terminal.Word word) (frames pending.old.items) ≡ Fails)) }
 {
     match word {
-        Word::True => Ok(Step::Moves(Expects::Power(Operand::Formula(Formula::True)))),
-        Word::False => Ok(Step::Moves(Expects::Power(Operand::Formula(Formula::False)))),
+        Word::True => truth(alloc, Formula::True),
+        Word::False => truth(alloc, Formula::False),
         Word::Not => push(goal, pending, Pending::Negation),
         Word::Ex => Ok(Step::Moves(Expects::Binder(Quantifier::Exists))),
         Word::All => Ok(Step::Moves(Expects::Binder(Quantifier::ForAll))),
@@ -124,6 +131,15 @@ fn begin_with(goal: usize, pending: &mut Vec<Pending>, word: Word) -> Result<Ste
         Word::Ncong => Ok(Step::Moves(Expects::Terms(false))),
         _ => Err(ReadError::Syntax),
     }
+}
+
+/// A truth that was read.
+fn truth(alloc: Global, formula: Formula) -> Result<Step, ReadError>
+    ensures moves { IfOk result (λ s. (fs : List Frame) → outcome_of s fs ≡ Moves fs (Fresh (reading.Formula (formula_tree formula)))) }
+    ensures memory { IfErr result (λ e. e ≡ ReadError.Memory) }
+{
+    let truth = formula_operand(alloc, formula)?;
+    Ok(Step::Moves(Expects::Power(truth)))
 }
 
 /// A terminal after an operand to which a power may be put.
@@ -155,15 +171,15 @@ fn exponent(
     alloc: Global,
     pending: &mut Vec<Pending>,
     terminal: &Terminal,
-    base: Term,
+    base: Box<Term>,
 ) -> Result<Step, ReadError>
-    ensures taken { IfOk result (λ s. raised_to (term_tree base) terminal.now (frames pending.old.items) ≡ outcome_of s (frames pending.new.items)) }
-    ensures refused { IfErr result (λ e. Refuses e (raised_to (term_tree base) terminal.now (frames pending.old.items) ≡ Fails)) }
+    ensures taken { IfOk result (λ s. raised_to (term_tree base.value) terminal.now (frames pending.old.items) ≡ outcome_of s (frames pending.new.items)) }
+    ensures refused { IfErr result (λ e. Refuses e (raised_to (term_tree base.value) terminal.now (frames pending.old.items) ≡ Fails)) }
 {
     match terminal {
         Terminal::Number(number) => {
-            let power = power(alloc, base, *number)?;
-            Ok(Step::Moves(Expects::Operator(Operand::Term(power))))
+            let power = term_operand(alloc, Term::Power(base, *number))?;
+            Ok(Step::Moves(Expects::Operator(power)))
         }
         _ => Err(ReadError::Syntax),
     }
@@ -454,8 +470,12 @@ fn multiply(
 
 /// The factors so far, with the term as the last one. A product that they stand in is taken away.
 #[tactic(auto, using(crate::proofs::Frames::steps))]
-fn factors(alloc: Global, pending: &mut Vec<Pending>, term: Term) -> Result<Vec<Term>, AllocError>
-    ensures { IfOk result (λ ts. factors (frames pending.old.items) (term_tree term) ≡ (map term_tree ts.items, frames pending.new.items)) }
+fn factors(
+    alloc: Global,
+    pending: &mut Vec<Pending>,
+    term: Box<Term>,
+) -> Result<Vec<Term>, AllocError>
+    ensures { IfOk result (λ ts. factors (frames pending.old.items) (term_tree term.value) ≡ (map term_tree ts.items, frames pending.new.items)) }
 {
     match pending.pop() {
         Some(Pending::Multiplied(over, factors)) => multiplied(alloc, over, factors, term),
@@ -487,16 +507,20 @@ fn add(
 
 /// The members so far, with the term as the last one. A sum that they stand in is taken away.
 #[tactic(auto, using(crate::proofs::Frames::steps))]
-fn members(alloc: Global, pending: &mut Vec<Pending>, term: Term) -> Result<Vec<Term>, AllocError>
-    ensures { IfOk result (λ ts. members (frames pending.old.items) (term_tree term) ≡ (map term_tree ts.items, frames pending.new.items)) }
+fn members(
+    alloc: Global,
+    pending: &mut Vec<Pending>,
+    term: Box<Term>,
+) -> Result<Vec<Term>, AllocError>
+    ensures { IfOk result (λ ts. members (frames pending.old.items) (term_tree term.value) ≡ (map term_tree ts.items, frames pending.new.items)) }
 {
     match pending.pop() {
-        Some(Pending::Added(minus, members)) => added(alloc, minus, members, term),
+        Some(Pending::Added(minus, members)) => added(minus, members, term),
         Some(other) => {
             put_pending(pending, other)?;
-            added(alloc, false, Vec::new(alloc), term)
+            added(false, Vec::new(alloc), term)
         }
-        None => added(alloc, false, Vec::new(alloc), term),
+        None => added(false, Vec::new(alloc), term),
     }
 }
 
@@ -582,6 +606,7 @@ fn imply(
         return Err(ReadError::Syntax);
     };
     let left = grouped(alloc, pending, arrow, formula)?;
+    let left = Box::new(alloc, left)?;
     push(goal, pending, Pending::Arrows(arrow, left))
 }
 
@@ -597,10 +622,10 @@ fn grouped(
 {
     match (arrow, pending.pop()) {
         (Arrow::Repl, Some(Pending::Arrows(Arrow::Repl, left))) => {
-            replication(alloc, left, formula)
+            replication(alloc, Box::into_inner(left), formula)
         }
         (Arrow::Equiv, Some(Pending::Arrows(Arrow::Equiv, left))) => {
-            equivalence(alloc, left, formula)
+            equivalence(alloc, Box::into_inner(left), formula)
         }
         (_, Some(other)) => {
             put_pending(pending, other)?;
@@ -620,11 +645,13 @@ fn close(alloc: Global, pending: &mut Vec<Pending>, operand: Operand) -> Result<
         Some(Pending::Group) => Ok(Step::Moves(Expects::Power(operand))),
         Some(Pending::Quantified(quantifier, names)) => {
             let formula = close_quantifier(alloc, quantifier, names, operand)?;
-            Ok(Step::Moves(Expects::Power(Operand::Formula(formula))))
+            let formula = formula_operand(alloc, formula)?;
+            Ok(Step::Moves(Expects::Power(formula)))
         }
         Some(Pending::Congruence(positive, terms)) => {
-            let formula = close_congruence(alloc, positive, terms, operand)?;
-            Ok(Step::Moves(Expects::Power(Operand::Formula(formula))))
+            let formula = close_congruence(positive, terms, operand)?;
+            let formula = formula_operand(alloc, formula)?;
+            Ok(Step::Moves(Expects::Power(formula)))
         }
         _ => Err(ReadError::Syntax),
     }
@@ -651,7 +678,6 @@ fn close_quantifier(
 /// What a congruence makes with its third term.
 #[tactic(auto, using(crate::proofs::Frames::steps))]
 fn close_congruence(
-    alloc: Global,
     positive: bool,
     terms: Arguments,
     operand: Operand,
@@ -665,8 +691,7 @@ fn close_congruence(
     let Some(modulus) = term_of(operand) else {
         return Err(ReadError::Syntax);
     };
-    let formula = congruence_of(alloc, positive, left, right, modulus)?;
-    Ok(formula)
+    Ok(congruence_of(positive, left, right, modulus))
 }
 
 /// A quantifier for each name, the first one outermost.
@@ -701,19 +726,19 @@ fn bound(
 }
 
 /// The congruence of two terms modulo a third, or its negation.
+#[tactic(auto, using(qe_syntax::proofs::TreeEquations::trees))]
 fn congruence_of(
-    alloc: Global,
     positive: bool,
-    left: Term,
-    right: Term,
-    modulus: Term,
-) -> Result<Formula, AllocError>
-    ensures { IfOk result (λ f. formula_tree f ≡ congruence_of positive (term_tree left) (term_tree right) (term_tree modulus)) }
+    left: Box<Term>,
+    right: Box<Term>,
+    modulus: Box<Term>,
+) -> Formula
+    ensures { formula_tree result ≡ congruence_of positive (term_tree left.value) (term_tree right.value) (term_tree modulus.value) }
 {
     if positive {
-        congruence(alloc, left, right, modulus)
+        Formula::Cong(left, right, modulus)
     } else {
-        incongruence(alloc, left, right, modulus)
+        Formula::Ncong(left, right, modulus)
     }
 }
 

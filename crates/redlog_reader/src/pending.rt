@@ -18,8 +18,8 @@ pub enum Arrow {
 #[derive(Drop)]
 pub enum Arguments {
     First,
-    Second(Term),
-    Third(Term, Term),
+    Second(Box<Term>),
+    Third(Box<Term>, Box<Term>),
 }
 
 /// What has begun and waits for its last part. A congruence is `cong` where the test is true. The last sign of a sum is
@@ -30,11 +30,11 @@ pub enum Pending {
     Quantified(Quantifier, Vec<Name>),
     Congruence(bool, Arguments),
     Negation,
-    Compares(Relation, Term),
+    Compares(Relation, Box<Term>),
     Added(bool, Vec<Term>),
     Multiplied(bool, Vec<Term>),
     Listed(Junction, Vec<Formula>),
-    Arrows(Arrow, Formula),
+    Arrows(Arrow, Box<Formula>),
 }
 
 /// What comes next: an operand, what may follow one, the exponent of a power, or a part of what stands before the
@@ -44,7 +44,7 @@ pub enum Expects {
     Operand,
     Power(Operand),
     Operator(Operand),
-    Exponent(Term),
+    Exponent(Box<Term>),
     Binder(Quantifier),
     Binding(Quantifier),
     Name(Quantifier, Vec<Name>),
