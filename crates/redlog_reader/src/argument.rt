@@ -1,7 +1,6 @@
 ghost use Rattle.std.specs.Prelude.{◌≡◌, map, IfOk, IfErr, Some, None};
 ghost use Rattle.qe_syntax.specs.Trees.{term_tree, formula_tree};
 ghost use Rattle.statement_syntax.specs.Constraints.{is_constraint, is_weak_constraint};
-ghost use Rattle.redlog_tokens.specs.Terminals.{terminals};
 ghost use Rattle.redlog_reader.specs.Reader.{formula_read, sum_read, comparison_read, begins_congruence, atom_read, bound_read, weak_read, kind_read, items_read, braced_read, argument_read};
 ghost use Rattle.redlog_reader.specs.Reading.{Refuses};
 
@@ -10,7 +9,7 @@ use crate::machine::read;
 use crate::operand::{formula_of, term_of};
 use crate::peek::{after, next, relation};
 use qe_syntax::{Formula, Relation, Term, comparison as comparison_of};
-use redlog_tokens::{Mark, ReadError, Terminal, Token, Word};
+use redlog_tokens::{Mark, ReadError, Terminal, Word};
 use std::alloc::Global;
 
 /// What may stand in a list of atoms.
@@ -38,10 +37,10 @@ pub const FORMULA: usize = 8;
 pub fn formula(
     alloc: Global,
     goal: usize,
-    tokens: &[Token],
-) -> Result<(Formula, &[Token]), ReadError>
-    ensures read { IfOk result (λ r. formula_read goal (terminals tokens.now) ≡ Some (formula_tree r.0, terminals r.1.now)) }
-    ensures refused { IfErr result (λ e. Refuses e (formula_read goal (terminals tokens.now) ≡ None)) }
+    tokens: &[Terminal],
+) -> Result<(Formula, &[Terminal]), ReadError>
+    ensures read { IfOk result (λ r. formula_read goal tokens.now ≡ Some (formula_tree r.0, r.1.now)) }
+    ensures refused { IfErr result (λ e. Refuses e (formula_read goal tokens.now ≡ None)) }
 {
     let (operand, rest) = read(alloc, goal, tokens)?;
     let Some(formula) = formula_of(operand) else {
@@ -52,9 +51,9 @@ pub fn formula(
 
 /// A sum, and the tokens after it.
 #[tactic(auto, using(crate::proofs::Options::options))]
-pub fn sum(alloc: Global, tokens: &[Token]) -> Result<(Term, &[Token]), ReadError>
-    ensures read { IfOk result (λ r. sum_read (terminals tokens.now) ≡ Some (term_tree r.0, terminals r.1.now)) }
-    ensures refused { IfErr result (λ e. Refuses e (sum_read (terminals tokens.now) ≡ None)) }
+pub fn sum(alloc: Global, tokens: &[Terminal]) -> Result<(Term, &[Terminal]), ReadError>
+    ensures read { IfOk result (λ r. sum_read tokens.now ≡ Some (term_tree r.0, r.1.now)) }
+    ensures refused { IfErr result (λ e. Refuses e (sum_read tokens.now ≡ None)) }
 {
     let (operand, rest) = read(alloc, SUM, tokens)?;
     let Some(term) = term_of(operand) else {
@@ -65,9 +64,9 @@ pub fn sum(alloc: Global, tokens: &[Token]) -> Result<(Term, &[Token]), ReadErro
 
 /// A relation between two sums.
 #[tactic(auto, using(crate::proofs::Options::options))]
-fn comparison(alloc: Global, tokens: &[Token]) -> Result<(Formula, &[Token]), ReadError>
-    ensures read { IfOk result (λ r. comparison_read (terminals tokens.now) ≡ Some (formula_tree r.0, terminals r.1.now)) }
-    ensures refused { IfErr result (λ e. Refuses e (comparison_read (terminals tokens.now) ≡ None)) }
+fn comparison(alloc: Global, tokens: &[Terminal]) -> Result<(Formula, &[Terminal]), ReadError>
+    ensures read { IfOk result (λ r. comparison_read tokens.now ≡ Some (formula_tree r.0, r.1.now)) }
+    ensures refused { IfErr result (λ e. Refuses e (comparison_read tokens.now ≡ None)) }
 {
     let (left, middle) = sum(alloc, tokens)?;
     let Some((relation, start)) = relation(middle) else {
@@ -80,9 +79,9 @@ fn comparison(alloc: Global, tokens: &[Token]) -> Result<(Formula, &[Token]), Re
 
 /// A comparison or a congruence.
 #[tactic(auto, using(crate::proofs::Options::options))]
-fn atom(alloc: Global, tokens: &[Token]) -> Result<(Formula, &[Token]), ReadError>
-    ensures read { IfOk result (λ r. atom_read (terminals tokens.now) ≡ Some (formula_tree r.0, terminals r.1.now)) }
-    ensures refused { IfErr result (λ e. Refuses e (atom_read (terminals tokens.now) ≡ None)) }
+fn atom(alloc: Global, tokens: &[Terminal]) -> Result<(Formula, &[Terminal]), ReadError>
+    ensures read { IfOk result (λ r. atom_read tokens.now ≡ Some (formula_tree r.0, r.1.now)) }
+    ensures refused { IfErr result (λ e. Refuses e (atom_read tokens.now ≡ None)) }
 {
     if begins_congruence(tokens) {
         formula(alloc, PRIME, tokens)
@@ -92,8 +91,8 @@ fn atom(alloc: Global, tokens: &[Token]) -> Result<(Formula, &[Token]), ReadErro
 }
 
 /// Whether the first token is `cong` or `ncong`.
-fn begins_congruence(tokens: &[Token]) -> bool
-    ensures { result ≡ begins_congruence (terminals tokens.now) }
+fn begins_congruence(tokens: &[Terminal]) -> bool
+    ensures { result ≡ begins_congruence tokens.now }
 {
     matches!(
         next(tokens),
@@ -103,9 +102,9 @@ fn begins_congruence(tokens: &[Token]) -> bool
 
 /// A comparison that a constraint may be: one but for `<>`.
 #[tactic(auto, using(crate::proofs::Options::options))]
-fn constraint(alloc: Global, tokens: &[Token]) -> Result<(Formula, &[Token]), ReadError>
-    ensures read { IfOk result (λ r. bound_read (terminals tokens.now) ≡ Some (formula_tree r.0, terminals r.1.now)) }
-    ensures refused { IfErr result (λ e. Refuses e (bound_read (terminals tokens.now) ≡ None)) }
+fn constraint(alloc: Global, tokens: &[Terminal]) -> Result<(Formula, &[Terminal]), ReadError>
+    ensures read { IfOk result (λ r. bound_read tokens.now ≡ Some (formula_tree r.0, r.1.now)) }
+    ensures refused { IfErr result (λ e. Refuses e (bound_read tokens.now ≡ None)) }
 {
     let (comparison, rest) = comparison(alloc, tokens)?;
     if !is_constraint(&comparison) {
@@ -127,9 +126,9 @@ fn is_constraint(formula: &Formula) -> bool
 
 /// A comparison by `=`, `<=` or `>=`.
 #[tactic(auto, using(crate::proofs::Options::options))]
-fn weak(alloc: Global, tokens: &[Token]) -> Result<(Formula, &[Token]), ReadError>
-    ensures read { IfOk result (λ r. weak_read (terminals tokens.now) ≡ Some (formula_tree r.0, terminals r.1.now)) }
-    ensures refused { IfErr result (λ e. Refuses e (weak_read (terminals tokens.now) ≡ None)) }
+fn weak(alloc: Global, tokens: &[Terminal]) -> Result<(Formula, &[Terminal]), ReadError>
+    ensures read { IfOk result (λ r. weak_read tokens.now ≡ Some (formula_tree r.0, r.1.now)) }
+    ensures refused { IfErr result (λ e. Refuses e (weak_read tokens.now ≡ None)) }
 {
     let (comparison, rest) = comparison(alloc, tokens)?;
     if !is_weak(&comparison) {
@@ -156,10 +155,10 @@ fn is_weak(formula: &Formula) -> bool
 fn atom_of(
     alloc: Global,
     kind: AtomKind,
-    tokens: &[Token],
-) -> Result<(Formula, &[Token]), ReadError>
-    ensures read { IfOk result (λ r. kind_read kind (terminals tokens.now) ≡ Some (formula_tree r.0, terminals r.1.now)) }
-    ensures refused { IfErr result (λ e. Refuses e (kind_read kind (terminals tokens.now) ≡ None)) }
+    tokens: &[Terminal],
+) -> Result<(Formula, &[Terminal]), ReadError>
+    ensures read { IfOk result (λ r. kind_read kind tokens.now ≡ Some (formula_tree r.0, r.1.now)) }
+    ensures refused { IfErr result (λ e. Refuses e (kind_read kind tokens.now ≡ None)) }
 {
     match kind {
         AtomKind::Any => atom(alloc, tokens),
@@ -173,10 +172,10 @@ fn atom_of(
 pub fn atoms(
     alloc: Global,
     kind: AtomKind,
-    tokens: &[Token],
-) -> Result<(Vec<Formula>, &[Token]), ReadError>
-    ensures read { IfOk result (λ r. braced_read (kind_read kind) (terminals tokens.now) ≡ Some (map formula_tree r.0.items, terminals r.1.now)) }
-    ensures refused { IfErr result (λ e. Refuses e (braced_read (kind_read kind) (terminals tokens.now) ≡ None)) }
+    tokens: &[Terminal],
+) -> Result<(Vec<Formula>, &[Terminal]), ReadError>
+    ensures read { IfOk result (λ r. braced_read (kind_read kind) tokens.now ≡ Some (map formula_tree r.0.items, r.1.now)) }
+    ensures refused { IfErr result (λ e. Refuses e (braced_read (kind_read kind) tokens.now ≡ None)) }
 {
     let Some(start) = after(tokens, Mark::OpenBrace) else {
         return Err(ReadError::Syntax);
@@ -196,10 +195,10 @@ pub fn atoms(
 fn listed(
     alloc: Global,
     kind: AtomKind,
-    tokens: &[Token],
-) -> Result<(Vec<Formula>, &[Token]), ReadError>
-    ensures read { IfOk result (λ r. items_read (kind_read kind) (terminals tokens.now) ≡ Some (map formula_tree r.0.items, terminals r.1.now)) }
-    ensures refused { IfErr result (λ e. Refuses e (items_read (kind_read kind) (terminals tokens.now) ≡ None)) }
+    tokens: &[Terminal],
+) -> Result<(Vec<Formula>, &[Terminal]), ReadError>
+    ensures read { IfOk result (λ r. items_read (kind_read kind) tokens.now ≡ Some (map formula_tree r.0.items, r.1.now)) }
+    ensures refused { IfErr result (λ e. Refuses e (items_read (kind_read kind) tokens.now ≡ None)) }
 {
     let mut atoms = Vec::new(alloc);
     let mut start = tokens;
@@ -217,10 +216,10 @@ fn listed(
 #[tactic(auto, using(crate::proofs::Options::options))]
 pub fn argument(
     alloc: Global,
-    tokens: &[Token],
-) -> Result<(Formula, Vec<Formula>, &[Token]), ReadError>
-    ensures read { IfOk result (λ r. argument_read (terminals tokens.now) ≡ Some ((formula_tree r.0, map formula_tree r.1.items), terminals r.2.now)) }
-    ensures refused { IfErr result (λ e. Refuses e (argument_read (terminals tokens.now) ≡ None)) }
+    tokens: &[Terminal],
+) -> Result<(Formula, Vec<Formula>, &[Terminal]), ReadError>
+    ensures read { IfOk result (λ r. argument_read tokens.now ≡ Some ((formula_tree r.0, map formula_tree r.1.items), r.2.now)) }
+    ensures refused { IfErr result (λ e. Refuses e (argument_read tokens.now ≡ None)) }
 {
     let Some(start) = after(tokens, Mark::Open) else {
         let (prime, rest) = formula(alloc, PRIME, tokens)?;

@@ -1,6 +1,5 @@
 ghost use Rattle.std.specs.Prelude.{◌≡◌, map, IfOk, IfErr, Some, None};
 ghost use Rattle.qe_syntax.specs.Trees.{term_tree, formula_tree};
-ghost use Rattle.redlog_tokens.specs.Terminals.{terminals};
 ghost use Rattle.redlog_reader.specs.Reader.{above_read, items_read, braced_read, certified_read, checked_read, least_read};
 ghost use Rattle.redlog_reader.specs.Reading.{Refuses};
 
@@ -8,15 +7,18 @@ use crate::argument::{AtomKind, atoms, sum};
 use crate::peek::after;
 use crate::point::above;
 use qe_syntax::{Formula, Literal, Term};
-use redlog_tokens::{Mark, ReadError, Token};
+use redlog_tokens::{Mark, ReadError, Terminal};
 use statement_syntax::Literals;
 use std::alloc::Global;
 
 /// Constraints in brackets.
 #[tactic(auto, using(crate::proofs::Options::options))]
-pub fn constraints(alloc: Global, tokens: &[Token]) -> Result<(Vec<Formula>, &[Token]), ReadError>
-    ensures read { IfOk result (λ r. certified_read (terminals tokens.now) ≡ Some (map formula_tree r.0.items, terminals r.1.now)) }
-    ensures refused { IfErr result (λ e. Refuses e (certified_read (terminals tokens.now) ≡ None)) }
+pub fn constraints(
+    alloc: Global,
+    tokens: &[Terminal],
+) -> Result<(Vec<Formula>, &[Terminal]), ReadError>
+    ensures read { IfOk result (λ r. certified_read tokens.now ≡ Some (map formula_tree r.0.items, r.1.now)) }
+    ensures refused { IfErr result (λ e. Refuses e (certified_read tokens.now ≡ None)) }
 {
     let Some(start) = after(tokens, Mark::Open) else {
         return Err(ReadError::Syntax);
@@ -32,10 +34,10 @@ pub fn constraints(alloc: Global, tokens: &[Token]) -> Result<(Vec<Formula>, &[T
 #[tactic(auto, using(crate::proofs::Options::options))]
 pub fn multiplied(
     alloc: Global,
-    tokens: &[Token],
-) -> Result<(Vec<Formula>, Literals, &[Token]), ReadError>
-    ensures read { IfOk result (λ r. checked_read (terminals tokens.now) ≡ Some ((map formula_tree r.0.items, r.1), terminals r.2.now)) }
-    ensures refused { IfErr result (λ e. Refuses e (checked_read (terminals tokens.now) ≡ None)) }
+    tokens: &[Terminal],
+) -> Result<(Vec<Formula>, Literals, &[Terminal]), ReadError>
+    ensures read { IfOk result (λ r. checked_read tokens.now ≡ Some ((map formula_tree r.0.items, r.1), r.2.now)) }
+    ensures refused { IfErr result (λ e. Refuses e (checked_read tokens.now ≡ None)) }
 {
     let Some(start) = after(tokens, Mark::Open) else {
         return Err(ReadError::Syntax);
@@ -55,10 +57,10 @@ pub fn multiplied(
 #[tactic(auto, using(crate::proofs::Options::options))]
 pub fn targeted(
     alloc: Global,
-    tokens: &[Token],
-) -> Result<(Vec<Formula>, Term, &[Token]), ReadError>
-    ensures read { IfOk result (λ r. least_read (terminals tokens.now) ≡ Some ((map formula_tree r.0.items, term_tree r.1), terminals r.2.now)) }
-    ensures refused { IfErr result (λ e. Refuses e (least_read (terminals tokens.now) ≡ None)) }
+    tokens: &[Terminal],
+) -> Result<(Vec<Formula>, Term, &[Terminal]), ReadError>
+    ensures read { IfOk result (λ r. least_read tokens.now ≡ Some ((map formula_tree r.0.items, term_tree r.1), r.2.now)) }
+    ensures refused { IfErr result (λ e. Refuses e (least_read tokens.now ≡ None)) }
 {
     let Some(start) = after(tokens, Mark::Open) else {
         return Err(ReadError::Syntax);
@@ -76,9 +78,9 @@ pub fn targeted(
 
 /// Whole numbers in braces.
 #[tactic(auto, using(crate::proofs::Options::options))]
-fn multipliers(alloc: Global, tokens: &[Token]) -> Result<(Literals, &[Token]), ReadError>
-    ensures read { IfOk result (λ r. braced_read above_read (terminals tokens.now) ≡ Some (r.0, terminals r.1.now)) }
-    ensures refused { IfErr result (λ e. Refuses e (braced_read above_read (terminals tokens.now) ≡ None)) }
+fn multipliers(alloc: Global, tokens: &[Terminal]) -> Result<(Literals, &[Terminal]), ReadError>
+    ensures read { IfOk result (λ r. braced_read above_read tokens.now ≡ Some (r.0, r.1.now)) }
+    ensures refused { IfErr result (λ e. Refuses e (braced_read above_read tokens.now ≡ None)) }
 {
     let Some(start) = after(tokens, Mark::OpenBrace) else {
         return Err(ReadError::Syntax);
@@ -95,9 +97,9 @@ fn multipliers(alloc: Global, tokens: &[Token]) -> Result<(Literals, &[Token]), 
 
 /// One whole number or more, with commas between them.
 #[tactic(auto, using(crate::proofs::Items::wholes))]
-fn numbers(alloc: Global, tokens: &[Token]) -> Result<(Vec<Literal>, &[Token]), ReadError>
-    ensures read { IfOk result (λ r. items_read above_read (terminals tokens.now) ≡ Some (r.0.items, terminals r.1.now)) }
-    ensures refused { IfErr result (λ e. Refuses e (items_read above_read (terminals tokens.now) ≡ None)) }
+fn numbers(alloc: Global, tokens: &[Terminal]) -> Result<(Vec<Literal>, &[Terminal]), ReadError>
+    ensures read { IfOk result (λ r. items_read above_read tokens.now ≡ Some (r.0.items, r.1.now)) }
+    ensures refused { IfErr result (λ e. Refuses e (items_read above_read tokens.now ≡ None)) }
 {
     let mut numbers = Vec::new(alloc);
     let mut start = tokens;

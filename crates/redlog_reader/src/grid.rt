@@ -1,6 +1,5 @@
 ghost use Rattle.std.specs.Prelude.{◌≡◌, IfOk, IfErr, MatchOption, Some, None};
 ghost use Rattle.qe_syntax.specs.Trees.{formula_tree};
-ghost use Rattle.redlog_tokens.specs.Terminals.{terminals};
 ghost use Rattle.redlog_reader.specs.Reader.{items_read, ratio_read, axis_read, grid_read};
 ghost use Rattle.redlog_reader.specs.Reading.{Refuses};
 
@@ -8,15 +7,18 @@ use crate::argument::{FORMULA, formula};
 use crate::peek::{after, name};
 use crate::point::{above, below};
 use qe_syntax::Formula;
-use redlog_tokens::{Mark, ReadError, Token};
+use redlog_tokens::{Mark, ReadError, Terminal};
 use statement_syntax::{GridAxes, GridAxis, Ratio};
 use std::alloc::Global;
 
 /// A formula and axes in brackets.
 #[tactic(auto, using(crate::proofs::Options::options))]
-pub fn grid(alloc: Global, tokens: &[Token]) -> Result<(Formula, GridAxes, &[Token]), ReadError>
-    ensures read { IfOk result (λ r. grid_read (terminals tokens.now) ≡ Some ((formula_tree r.0, r.1), terminals r.2.now)) }
-    ensures refused { IfErr result (λ e. Refuses e (grid_read (terminals tokens.now) ≡ None)) }
+pub fn grid(
+    alloc: Global,
+    tokens: &[Terminal],
+) -> Result<(Formula, GridAxes, &[Terminal]), ReadError>
+    ensures read { IfOk result (λ r. grid_read tokens.now ≡ Some ((formula_tree r.0, r.1), r.2.now)) }
+    ensures refused { IfErr result (λ e. Refuses e (grid_read tokens.now ≡ None)) }
 {
     let Some(start) = after(tokens, Mark::Open) else {
         return Err(ReadError::Syntax);
@@ -34,9 +36,9 @@ pub fn grid(alloc: Global, tokens: &[Token]) -> Result<(Formula, GridAxes, &[Tok
 
 /// One axis or more, with commas between them.
 #[tactic(auto, using(crate::proofs::Items::axes))]
-fn axes(alloc: Global, tokens: &[Token]) -> Result<(Vec<GridAxis>, &[Token]), ReadError>
-    ensures read { IfOk result (λ r. items_read axis_read (terminals tokens.now) ≡ Some (r.0.items, terminals r.1.now)) }
-    ensures refused { IfErr result (λ e. Refuses e (items_read axis_read (terminals tokens.now) ≡ None)) }
+fn axes(alloc: Global, tokens: &[Terminal]) -> Result<(Vec<GridAxis>, &[Terminal]), ReadError>
+    ensures read { IfOk result (λ r. items_read axis_read tokens.now ≡ Some (r.0.items, r.1.now)) }
+    ensures refused { IfErr result (λ e. Refuses e (items_read axis_read tokens.now ≡ None)) }
 {
     let mut axes = Vec::new(alloc);
     let mut start = tokens;
@@ -54,8 +56,8 @@ fn axes(alloc: Global, tokens: &[Token]) -> Result<(Vec<GridAxis>, &[Token]), Re
 
 /// A name and three fractions, in braces.
 #[tactic(auto, using(crate::proofs::Options::options))]
-fn axis(tokens: &[Token]) -> Option<(GridAxis, &[Token])>
-    ensures { MatchOption result (axis_read (terminals tokens.now) ≡ None) (λ r. axis_read (terminals tokens.now) ≡ Some (r.0, terminals r.1.now)) }
+fn axis(tokens: &[Terminal]) -> Option<(GridAxis, &[Terminal])>
+    ensures { MatchOption result (axis_read tokens.now ≡ None) (λ r. axis_read tokens.now ≡ Some (r.0, r.1.now)) }
 {
     let start = after(tokens, Mark::OpenBrace)?;
     let Some((name, comma)) = name(start) else {
@@ -78,8 +80,8 @@ fn axis(tokens: &[Token]) -> Option<(GridAxis, &[Token])>
 
 /// A fraction, and the mark after it.
 #[tactic(auto, using(crate::proofs::Options::options))]
-fn ratio(end: Mark, tokens: &[Token]) -> Option<(Ratio, &[Token])>
-    ensures { MatchOption result (ratio_read end (terminals tokens.now) ≡ None) (λ r. ratio_read end (terminals tokens.now) ≡ Some (r.0, terminals r.1.now)) }
+fn ratio(end: Mark, tokens: &[Terminal]) -> Option<(Ratio, &[Terminal])>
+    ensures { MatchOption result (ratio_read end tokens.now ≡ None) (λ r. ratio_read end tokens.now ≡ Some (r.0, r.1.now)) }
 {
     let (above, line) = above(tokens)?;
     let (below, mark) = below(line)?;

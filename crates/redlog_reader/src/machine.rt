@@ -2,7 +2,6 @@ ghost use Rattle.std.specs.Prelude.{◌≡◌, Bool, List, [], ◌∷◌, ◌++�
 ghost use Rattle.formula_meaning.specs.Shape.{quantified};
 ghost use Rattle.qe_syntax.specs.Trees.{term_tree, formula_tree};
 ghost use Rattle.redlog_tokens.specs.declared.terminal.Terminal.{Terminal};
-ghost use Rattle.redlog_tokens.specs.Terminals.{terminals};
 ghost use Rattle.redlog_reader.specs.Machine.{Frame, Quantified, Congruence, Wants, Fresh, Moves, Fails, raised_to, binds, first_bound, next_bound, after_bound, scoped, opens, strength, Added, takes, folded, factors, members, listed, grouped, pushed, multiplies, adds, compares, joins, implies, congruence_of, closed, separated, operated, joined, held, fresh, wanted, step, run};
 ghost use Rattle.redlog_reader.specs.Grammar.{quantified_names};
 ghost use Rattle.redlog_reader.specs.Machine as reading;
@@ -13,25 +12,25 @@ use crate::ending::{added, ended, multiplied, put};
 use crate::operand::{Operand, formula_of, formula_operand, name_operand, term_of, term_operand};
 use crate::pending::{Arguments, Arrow, Expects, Pending, Step, level, takes_last};
 use formula_meaning::{Junction, Quantifier};
-use qe_syntax::{
-    Formula, Name, Relation, Term, equivalence, existential, replication, universal,
-};
-use redlog_tokens::{Mark, ReadError, Terminal, Token, Word, terminal_of};
+use qe_syntax::{Formula, Name, Relation, Term, equivalence, existential, replication, universal};
+use redlog_tokens::{Mark, ReadError, Terminal, Word};
 use std::alloc::{AllocError, Global};
 
 /// What is read at the front of the tokens, and the tokens after it: as much as binds at most as loosely as the goal,
 /// where 0 is a prime formula, 2 a sum and 8 a formula.
-#[tactic(auto, unfolding(redlog_tokens::specs::Terminals::terminals))]
-pub fn read(alloc: Global, goal: usize, tokens: &[Token]) -> Result<(Operand, &[Token]), ReadError>
-    ensures read { IfOk result (λ r. run goal (terminals tokens.now) [] Wants ≡ Some (reading_of r.0, terminals r.1.now)) }
-    ensures refused { IfErr result (λ e. Refuses e (run goal (terminals tokens.now) [] Wants ≡ None)) }
+pub fn read(
+    alloc: Global,
+    goal: usize,
+    tokens: &[Terminal],
+) -> Result<(Operand, &[Terminal]), ReadError>
+    ensures read { IfOk result (λ r. run goal tokens.now [] Wants ≡ Some (reading_of r.0, r.1.now)) }
+    ensures refused { IfErr result (λ e. Refuses e (run goal tokens.now [] Wants ≡ None)) }
 {
     let mut pending = Vec::new(alloc);
     let mut expects = Expects::Operand;
     let mut left = tokens;
-    'terminals: while let Some((first, rest)) = left.split_first() {
-        let terminal = terminal_of(&first.kind);
-        match step(alloc, goal, &mut pending, expects, &terminal)? {
+    'terminals: while let Some((terminal, rest)) = left.split_first() {
+        match step(alloc, goal, &mut pending, expects, terminal)? {
             Step::Stops(operand) => return Ok((operand, left)),
             Step::Moves(then) => expects = then,
         }
@@ -727,12 +726,7 @@ fn bound(
 
 /// The congruence of two terms modulo a third, or its negation.
 #[tactic(auto, using(qe_syntax::proofs::TreeEquations::trees))]
-fn congruence_of(
-    positive: bool,
-    left: Box<Term>,
-    right: Box<Term>,
-    modulus: Box<Term>,
-) -> Formula
+fn congruence_of(positive: bool, left: Box<Term>, right: Box<Term>, modulus: Box<Term>) -> Formula
     ensures { formula_tree result ≡ congruence_of positive (term_tree left.value) (term_tree right.value) (term_tree modulus.value) }
 {
     if positive {

@@ -1,24 +1,22 @@
 ghost use Rattle.std.specs.Prelude.{◌≡◌, ◌∷◌, [], ◌<◌, length, IfSome, MatchOption};
-ghost use Rattle.redlog_tokens.specs.Terminals.{terminals};
 ghost use Rattle.redlog_reader.specs.Reader.{after_mark, number_read, name_read, after_equal, relation_of, relation_read};
 
 use qe_syntax::{Literal, Name, Relation};
-use redlog_tokens::{Mark, Terminal, Token, Word, terminal_of};
+use redlog_tokens::{Mark, Terminal, Word};
 
 /// The first terminal, and the tokens after it.
-#[tactic(auto, unfolding(redlog_tokens::specs::Terminals::terminals))]
-pub fn next(tokens: &[Token]) -> Option<(Terminal, &[Token])>
+pub fn next(tokens: &[Terminal]) -> Option<(Terminal, &[Terminal])>
     ensures shorter { IfSome result (λ r. length r.1.now < length tokens.now) }
-    ensures value { MatchOption result (terminals tokens.now ≡ []) (λ r. terminals tokens.now ≡ r.0 ∷ terminals r.1.now) }
+    ensures value { MatchOption result (tokens.now ≡ []) (λ r. tokens.now ≡ r.0 ∷ r.1.now) }
 {
     let (first, rest) = tokens.split_first()?;
-    Some((terminal_of(&first.kind), rest))
+    Some((*first, rest))
 }
 
 /// The tokens after this mark, where they begin with it.
-pub fn after(tokens: &[Token], wanted: Mark) -> Option<&[Token]>
+pub fn after(tokens: &[Terminal], wanted: Mark) -> Option<&[Terminal]>
     ensures shorter { IfSome result (λ rest. length rest.now < length tokens.now) }
-    ensures value { MatchOption result (after_mark wanted (terminals tokens.now) ≡ None) (λ rest. after_mark wanted (terminals tokens.now) ≡ Some (terminals rest.now)) }
+    ensures value { MatchOption result (after_mark wanted tokens.now ≡ None) (λ rest. after_mark wanted tokens.now ≡ Some rest.now) }
 {
     match next(tokens) {
         Some((Terminal::Mark(mark), rest)) if mark == wanted => Some(rest),
@@ -27,8 +25,8 @@ pub fn after(tokens: &[Token], wanted: Mark) -> Option<&[Token]>
 }
 
 /// The number at the front, and the tokens after it.
-pub fn number(tokens: &[Token]) -> Option<(Literal, &[Token])>
-    ensures { MatchOption result (number_read (terminals tokens.now) ≡ None) (λ r. number_read (terminals tokens.now) ≡ Some (r.0, terminals r.1.now)) }
+pub fn number(tokens: &[Terminal]) -> Option<(Literal, &[Terminal])>
+    ensures { MatchOption result (number_read tokens.now ≡ None) (λ r. number_read tokens.now ≡ Some (r.0, r.1.now)) }
 {
     match next(tokens) {
         Some((Terminal::Number(number), rest)) => Some((number, rest)),
@@ -37,8 +35,8 @@ pub fn number(tokens: &[Token]) -> Option<(Literal, &[Token])>
 }
 
 /// The name at the front, and the tokens after it.
-pub fn name(tokens: &[Token]) -> Option<(Name, &[Token])>
-    ensures { MatchOption result (name_read (terminals tokens.now) ≡ None) (λ r. name_read (terminals tokens.now) ≡ Some (r.0, terminals r.1.now)) }
+pub fn name(tokens: &[Terminal]) -> Option<(Name, &[Terminal])>
+    ensures { MatchOption result (name_read tokens.now ≡ None) (λ r. name_read tokens.now ≡ Some (r.0, r.1.now)) }
 {
     let Some((first, rest)) = next(tokens) else {
         return None;
@@ -50,8 +48,8 @@ pub fn name(tokens: &[Token]) -> Option<(Name, &[Token])>
 }
 
 /// The tokens after `=`, where they begin with it.
-pub fn after_equal(tokens: &[Token]) -> Option<&[Token]>
-    ensures { MatchOption result (after_equal (terminals tokens.now) ≡ None) (λ rest. after_equal (terminals tokens.now) ≡ Some (terminals rest.now)) }
+pub fn after_equal(tokens: &[Terminal]) -> Option<&[Terminal]>
+    ensures { MatchOption result (after_equal tokens.now ≡ None) (λ rest. after_equal tokens.now ≡ Some rest.now) }
 {
     match next(tokens) {
         Some((Terminal::Relation(Relation::Equal), rest)) => Some(rest),
@@ -61,8 +59,8 @@ pub fn after_equal(tokens: &[Token]) -> Option<&[Token]>
 
 /// The relation at the front, and the tokens after it.
 #[tactic(auto, using(crate::proofs::Options::options))]
-pub fn relation(tokens: &[Token]) -> Option<(Relation, &[Token])>
-    ensures { MatchOption result (relation_read (terminals tokens.now) ≡ None) (λ r. relation_read (terminals tokens.now) ≡ Some (r.0, terminals r.1.now)) }
+pub fn relation(tokens: &[Terminal]) -> Option<(Relation, &[Terminal])>
+    ensures { MatchOption result (relation_read tokens.now ≡ None) (λ r. relation_read tokens.now ≡ Some (r.0, r.1.now)) }
 {
     let Some((first, rest)) = next(tokens) else {
         return None;

@@ -1,18 +1,17 @@
 ghost use Rattle.std.specs.Prelude.{◌≡◌, IfOk, IfErr, MatchOption, Some, None};
-ghost use Rattle.redlog_tokens.specs.Terminals.{terminals};
 ghost use Rattle.redlog_reader.specs.Reader.{entry_read, items_read, braced_read, negated_literal, above_read, below_read};
 ghost use Rattle.redlog_reader.specs.Reading.{Refuses};
 
 use crate::peek::{after, after_equal, name, number};
 use qe_syntax::{Entries, Literal, PointEntry};
-use redlog_tokens::{Mark, ReadError, Token};
+use redlog_tokens::{Mark, ReadError, Terminal};
 use std::alloc::Global;
 
 /// The entries of a point, in braces.
 #[tactic(auto, using(crate::proofs::Options::options))]
-pub fn point(alloc: Global, tokens: &[Token]) -> Result<(Entries, &[Token]), ReadError>
-    ensures read { IfOk result (λ r. braced_read entry_read (terminals tokens.now) ≡ Some (r.0, terminals r.1.now)) }
-    ensures refused { IfErr result (λ e. Refuses e (braced_read entry_read (terminals tokens.now) ≡ None)) }
+pub fn point(alloc: Global, tokens: &[Terminal]) -> Result<(Entries, &[Terminal]), ReadError>
+    ensures read { IfOk result (λ r. braced_read entry_read tokens.now ≡ Some (r.0, r.1.now)) }
+    ensures refused { IfErr result (λ e. Refuses e (braced_read entry_read tokens.now ≡ None)) }
 {
     let Some(start) = after(tokens, Mark::OpenBrace) else {
         return Err(ReadError::Syntax);
@@ -29,9 +28,9 @@ pub fn point(alloc: Global, tokens: &[Token]) -> Result<(Entries, &[Token]), Rea
 
 /// One entry or more, with commas between them.
 #[tactic(auto, using(crate::proofs::Items::entries))]
-fn entries(alloc: Global, tokens: &[Token]) -> Result<(Vec<PointEntry>, &[Token]), ReadError>
-    ensures read { IfOk result (λ r. items_read entry_read (terminals tokens.now) ≡ Some (r.0.items, terminals r.1.now)) }
-    ensures refused { IfErr result (λ e. Refuses e (items_read entry_read (terminals tokens.now) ≡ None)) }
+fn entries(alloc: Global, tokens: &[Terminal]) -> Result<(Vec<PointEntry>, &[Terminal]), ReadError>
+    ensures read { IfOk result (λ r. items_read entry_read tokens.now ≡ Some (r.0.items, r.1.now)) }
+    ensures refused { IfErr result (λ e. Refuses e (items_read entry_read tokens.now ≡ None)) }
 {
     let mut entries = Vec::new(alloc);
     let mut start = tokens;
@@ -49,8 +48,8 @@ fn entries(alloc: Global, tokens: &[Token]) -> Result<(Vec<PointEntry>, &[Token]
 
 /// A name, `=`, and a fraction.
 #[tactic(auto, using(crate::proofs::Options::options))]
-fn entry(tokens: &[Token]) -> Option<(PointEntry, &[Token])>
-    ensures { MatchOption result (entry_read (terminals tokens.now) ≡ None) (λ r. entry_read (terminals tokens.now) ≡ Some (r.0, terminals r.1.now)) }
+fn entry(tokens: &[Terminal]) -> Option<(PointEntry, &[Terminal])>
+    ensures { MatchOption result (entry_read tokens.now ≡ None) (λ r. entry_read tokens.now ≡ Some (r.0, r.1.now)) }
 {
     let Some((name, middle)) = name(tokens) else {
         return None;
@@ -63,8 +62,8 @@ fn entry(tokens: &[Token]) -> Option<(PointEntry, &[Token])>
 
 /// A number, which may have the sign `-`.
 #[tactic(auto, using(crate::proofs::Options::options))]
-pub fn above(tokens: &[Token]) -> Option<(Literal, &[Token])>
-    ensures { MatchOption result (above_read (terminals tokens.now) ≡ None) (λ r. above_read (terminals tokens.now) ≡ Some (r.0, terminals r.1.now)) }
+pub fn above(tokens: &[Terminal]) -> Option<(Literal, &[Terminal])>
+    ensures { MatchOption result (above_read tokens.now ≡ None) (λ r. above_read tokens.now ≡ Some (r.0, r.1.now)) }
 {
     let Some(start) = after(tokens, Mark::Minus) else {
         return number(tokens);
@@ -85,8 +84,8 @@ fn negated(number: Literal) -> Literal
 
 /// `/` and a number; 1 where that is left out.
 #[tactic(auto, using(crate::proofs::Options::options))]
-pub fn below(tokens: &[Token]) -> Option<(Literal, &[Token])>
-    ensures { MatchOption result (below_read (terminals tokens.now) ≡ None) (λ r. below_read (terminals tokens.now) ≡ Some (r.0, terminals r.1.now)) }
+pub fn below(tokens: &[Terminal]) -> Option<(Literal, &[Terminal])>
+    ensures { MatchOption result (below_read tokens.now ≡ None) (λ r. below_read tokens.now ≡ Some (r.0, r.1.now)) }
 {
     match after(tokens, Mark::Slash) {
         Some(start) => number(start),

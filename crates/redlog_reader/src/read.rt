@@ -4,7 +4,7 @@ ghost use Rattle.statement_syntax.specs.Statements.{StatementTree, statement_tre
 ghost use Rattle.redlog_reader.specs.Statement.{Spells, Unread};
 
 use crate::statement::statement;
-use redlog_tokens::{ReadError, is_deep, tokens};
+use redlog_tokens::{ReadError, is_deep, terminals};
 use statement_syntax::Statement;
 use std::alloc::Global;
 
@@ -22,12 +22,12 @@ pub fn read_statement(alloc: Global, bytes: &[u8]) -> Result<Statement, ReadErro
     if bytes.len() > BYTE_LIMIT {
         return Err(ReadError::Long);
     }
-    let tokens = tokens(alloc, bytes)?;
-    let deep = is_deep(alloc, tokens.items())?;
+    let terminals = terminals(alloc, bytes)?;
+    let deep = is_deep(alloc, &terminals)?;
     if deep {
         return Err(ReadError::Nesting);
     }
-    let statement = statement(alloc, tokens.items())?;
+    let statement = statement(alloc, &terminals)?;
     Ok(statement)
 }
 

@@ -2,7 +2,6 @@ ghost use Rattle.std.specs.Prelude.{◌≡◌, ◌∷◌, IfOk, IfErr, MatchOpti
 ghost use Rattle.qe_syntax.specs.Trees.{formula_tree};
 ghost use Rattle.statement_syntax.specs.Statements.{statement_tree, action_tree, command_tree, Say, Assign};
 ghost use Rattle.redlog_tokens.specs.declared.terminal.Terminal.{Terminal};
-ghost use Rattle.redlog_tokens.specs.Terminals.{terminals};
 ghost use Rattle.redlog_reader.specs.Grammar.{setting_of};
 ghost use Rattle.redlog_reader.specs.Reader.{pointed_read, result_from, result_read, is_any, anys_read, context_read, ignored_read, assumed_read, action_from, named_from, action_read, alone, ending, statement_read};
 ghost use Rattle.redlog_reader.specs.Reading.{Refuses};
@@ -14,15 +13,15 @@ use crate::peek::{after, name, next};
 use crate::point::point;
 use crate::setting::setting_of;
 use qe_syntax::{Entries, Formula, Formulas, Name};
-use redlog_tokens::{Mark, ReadError, Terminal, Token, Word};
+use redlog_tokens::{Mark, ReadError, Terminal, Word};
 use statement_syntax::{Action, Command, Statement};
 use std::alloc::{AllocError, Global};
 
 /// The statement that the tokens spell, with no token after it.
 #[tactic(auto, using(crate::proofs::Options::options))]
-pub fn statement(alloc: Global, tokens: &[Token]) -> Result<Statement, ReadError>
-    ensures read { IfOk result (λ s. statement_read (terminals tokens.now) ≡ Some (statement_tree s)) }
-    ensures refused { IfErr result (λ e. Refuses e (statement_read (terminals tokens.now) ≡ None)) }
+pub fn statement(alloc: Global, tokens: &[Terminal]) -> Result<Statement, ReadError>
+    ensures read { IfOk result (λ s. statement_read tokens.now ≡ Some (statement_tree s)) }
+    ensures refused { IfErr result (λ e. Refuses e (statement_read tokens.now ≡ None)) }
 {
     let Some((first, after_first)) = next(tokens) else {
         return Err(ReadError::Syntax);
@@ -39,8 +38,8 @@ pub fn statement(alloc: Global, tokens: &[Token]) -> Result<Statement, ReadError
 }
 
 /// Whether the statement is printed, where the tokens are its end.
-fn ending(tokens: &[Token]) -> Option<bool>
-    ensures { result ≡ ending (terminals tokens.now) }
+fn ending(tokens: &[Terminal]) -> Option<bool>
+    ensures { result ≡ ending tokens.now }
 {
     let Some((first, rest)) = next(tokens) else {
         return None;
@@ -49,8 +48,8 @@ fn ending(tokens: &[Token]) -> Option<bool>
 }
 
 /// Whether the statement is printed, where the terminal and the tokens after it are its end.
-fn ended(first: &Terminal, rest: &[Token]) -> Option<bool>
-    ensures { result ≡ ending (first.now ∷ terminals rest.now) }
+fn ended(first: &Terminal, rest: &[Terminal]) -> Option<bool>
+    ensures { result ≡ ending (first.now ∷ rest.now) }
 {
     match first {
         Terminal::Mark(Mark::Semicolon) => alone(true, rest),
@@ -59,9 +58,8 @@ fn ended(first: &Terminal, rest: &[Token]) -> Option<bool>
     }
 }
 
-#[tactic(auto, unfolding(redlog_tokens::specs::Terminals::terminals))]
-fn alone(printed: bool, tokens: &[Token]) -> Option<bool>
-    ensures { result ≡ alone printed (terminals tokens.now) }
+fn alone(printed: bool, tokens: &[Terminal]) -> Option<bool>
+    ensures { result ≡ alone printed tokens.now }
 {
     match tokens {
         [] => Some(printed),
@@ -74,12 +72,12 @@ fn alone(printed: bool, tokens: &[Token]) -> Option<bool>
 fn action<'a>(
     alloc: Global,
     first: Terminal,
-    rest: &'a [Token],
-    tokens: &'a [Token],
-) -> Result<(Action, &'a [Token]), ReadError>
-    requires { terminals tokens.now ≡ first ∷ terminals rest.now }
-    ensures read { IfOk result (λ r. action_read (terminals tokens.now) ≡ Some (action_tree r.0, terminals r.1.now)) }
-    ensures refused { IfErr result (λ e. Refuses e (action_read (terminals tokens.now) ≡ None)) }
+    rest: &'a [Terminal],
+    tokens: &'a [Terminal],
+) -> Result<(Action, &'a [Terminal]), ReadError>
+    requires { tokens.now ≡ first ∷ rest.now }
+    ensures read { IfOk result (λ r. action_read tokens.now ≡ Some (action_tree r.0, r.1.now)) }
+    ensures refused { IfErr result (λ e. Refuses e (action_read tokens.now ≡ None)) }
 {
     match first {
         Terminal::Word(word) => action_from(alloc, word, rest, tokens),
@@ -97,12 +95,12 @@ fn action<'a>(
 fn action_from<'a>(
     alloc: Global,
     word: Word,
-    rest: &'a [Token],
-    tokens: &'a [Token],
-) -> Result<(Action, &'a [Token]), ReadError>
-    requires { terminals tokens.now ≡ Terminal.Word word ∷ terminals rest.now }
-    ensures read { IfOk result (λ r. action_from word (terminals rest.now) ≡ Some (action_tree r.0, terminals r.1.now)) }
-    ensures refused { IfErr result (λ e. Refuses e (action_from word (terminals rest.now) ≡ None)) }
+    rest: &'a [Terminal],
+    tokens: &'a [Terminal],
+) -> Result<(Action, &'a [Terminal]), ReadError>
+    requires { tokens.now ≡ Terminal.Word word ∷ rest.now }
+    ensures read { IfOk result (λ r. action_from word rest.now ≡ Some (action_tree r.0, r.1.now)) }
+    ensures refused { IfErr result (λ e. Refuses e (action_from word rest.now ≡ None)) }
 {
     match word {
         Word::Set => context(rest),
@@ -161,12 +159,12 @@ fn action_from<'a>(
 fn named_from<'a>(
     alloc: Global,
     name: Name,
-    rest: &'a [Token],
-    tokens: &'a [Token],
-) -> Result<(Action, &'a [Token]), ReadError>
-    requires { terminals tokens.now ≡ Terminal.Name name ∷ terminals rest.now }
-    ensures read { IfOk result (λ r. named_from name (terminals rest.now) ≡ Some (action_tree r.0, terminals r.1.now)) }
-    ensures refused { IfErr result (λ e. Refuses e (named_from name (terminals rest.now) ≡ None)) }
+    rest: &'a [Terminal],
+    tokens: &'a [Terminal],
+) -> Result<(Action, &'a [Terminal]), ReadError>
+    requires { tokens.now ≡ Terminal.Name name ∷ rest.now }
+    ensures read { IfOk result (λ r. named_from name rest.now ≡ Some (action_tree r.0, r.1.now)) }
+    ensures refused { IfErr result (λ e. Refuses e (named_from name rest.now ≡ None)) }
 {
     if let Some(start) = after(rest, Mark::Assign) {
         let (command, end) = result_of(alloc, start)?;
@@ -188,9 +186,9 @@ fn say(alloc: Global, command: Command) -> Result<Action, AllocError>
 
 /// The context to be chosen.
 #[tactic(auto, using(crate::proofs::Options::options))]
-fn context(tokens: &[Token]) -> Result<(Action, &[Token]), ReadError>
-    ensures read { IfOk result (λ r. context_read (terminals tokens.now) ≡ Some (action_tree r.0, terminals r.1.now)) }
-    ensures refused { IfErr result (λ e. Refuses e (context_read (terminals tokens.now) ≡ None)) }
+fn context(tokens: &[Terminal]) -> Result<(Action, &[Terminal]), ReadError>
+    ensures read { IfOk result (λ r. context_read tokens.now ≡ Some (action_tree r.0, r.1.now)) }
+    ensures refused { IfErr result (λ e. Refuses e (context_read tokens.now ≡ None)) }
 {
     let Some((name, rest)) = name(tokens) else {
         return Err(ReadError::Syntax);
@@ -203,9 +201,9 @@ fn context(tokens: &[Token]) -> Result<(Action, &[Token]), ReadError>
 
 /// Names and words that change nothing.
 #[tactic(auto, using(crate::proofs::Options::options))]
-fn ignored(tokens: &[Token]) -> Result<(Action, &[Token]), ReadError>
-    ensures read { IfOk result (λ r. ignored_read (terminals tokens.now) ≡ Some (action_tree r.0, terminals r.1.now)) }
-    ensures refused { IfErr result (λ e. Refuses e (ignored_read (terminals tokens.now) ≡ None)) }
+fn ignored(tokens: &[Terminal]) -> Result<(Action, &[Terminal]), ReadError>
+    ensures read { IfOk result (λ r. ignored_read tokens.now ≡ Some (action_tree r.0, r.1.now)) }
+    ensures refused { IfErr result (λ e. Refuses e (ignored_read tokens.now ≡ None)) }
 {
     let Some(rest) = anys(tokens) else {
         return Err(ReadError::Syntax);
@@ -215,9 +213,9 @@ fn ignored(tokens: &[Token]) -> Result<(Action, &[Token]), ReadError>
 
 /// Atoms to be assumed.
 #[tactic(auto, using(crate::proofs::Options::options))]
-fn assumed(alloc: Global, tokens: &[Token]) -> Result<(Action, &[Token]), ReadError>
-    ensures read { IfOk result (λ r. assumed_read (terminals tokens.now) ≡ Some (action_tree r.0, terminals r.1.now)) }
-    ensures refused { IfErr result (λ e. Refuses e (assumed_read (terminals tokens.now) ≡ None)) }
+fn assumed(alloc: Global, tokens: &[Terminal]) -> Result<(Action, &[Terminal]), ReadError>
+    ensures read { IfOk result (λ r. assumed_read tokens.now ≡ Some (action_tree r.0, r.1.now)) }
+    ensures refused { IfErr result (λ e. Refuses e (assumed_read tokens.now ≡ None)) }
 {
     let (given, rest) = atoms(alloc, AtomKind::Any, tokens)?;
     Ok((Action::Assume(Formulas::of(given)), rest))
@@ -225,8 +223,8 @@ fn assumed(alloc: Global, tokens: &[Token]) -> Result<(Action, &[Token]), ReadEr
 
 /// One name or word or more, with commas between them.
 #[tactic(auto, using(crate::proofs::Options::anys))]
-fn anys(tokens: &[Token]) -> Option<&[Token]>
-    ensures { MatchOption result (anys_read (terminals tokens.now) ≡ None) (λ rest. anys_read (terminals tokens.now) ≡ Some (terminals rest.now)) }
+fn anys(tokens: &[Terminal]) -> Option<&[Terminal]>
+    ensures { MatchOption result (anys_read tokens.now ≡ None) (λ rest. anys_read tokens.now ≡ Some rest.now) }
 {
     let mut left = tokens;
     'anys: while let Some((first, rest)) = next(left) {
@@ -250,9 +248,9 @@ fn is_any(terminal: &Terminal) -> bool
 
 /// A formula and a point in brackets.
 #[tactic(auto, using(crate::proofs::Options::options))]
-fn pointed(alloc: Global, tokens: &[Token]) -> Result<(Formula, Entries, &[Token]), ReadError>
-    ensures read { IfOk result (λ r. pointed_read (terminals tokens.now) ≡ Some ((formula_tree r.0, r.1), terminals r.2.now)) }
-    ensures refused { IfErr result (λ e. Refuses e (pointed_read (terminals tokens.now) ≡ None)) }
+fn pointed(alloc: Global, tokens: &[Terminal]) -> Result<(Formula, Entries, &[Terminal]), ReadError>
+    ensures read { IfOk result (λ r. pointed_read tokens.now ≡ Some ((formula_tree r.0, r.1), r.2.now)) }
+    ensures refused { IfErr result (λ e. Refuses e (pointed_read tokens.now ≡ None)) }
 {
     let Some(start) = after(tokens, Mark::Open) else {
         return Err(ReadError::Syntax);
@@ -270,9 +268,9 @@ fn pointed(alloc: Global, tokens: &[Token]) -> Result<(Formula, Entries, &[Token
 
 /// A command that gives a formula.
 #[tactic(auto, using(crate::proofs::Options::options))]
-fn result_of(alloc: Global, tokens: &[Token]) -> Result<(Command, &[Token]), ReadError>
-    ensures read { IfOk result (λ r. result_read (terminals tokens.now) ≡ Some (command_tree r.0, terminals r.1.now)) }
-    ensures refused { IfErr result (λ e. Refuses e (result_read (terminals tokens.now) ≡ None)) }
+fn result_of(alloc: Global, tokens: &[Terminal]) -> Result<(Command, &[Terminal]), ReadError>
+    ensures read { IfOk result (λ r. result_read tokens.now ≡ Some (command_tree r.0, r.1.now)) }
+    ensures refused { IfErr result (λ e. Refuses e (result_read tokens.now ≡ None)) }
 {
     match next(tokens) {
         Some((Terminal::Word(word), rest)) => result_from(alloc, word, rest, tokens),
@@ -288,12 +286,12 @@ fn result_of(alloc: Global, tokens: &[Token]) -> Result<(Command, &[Token]), Rea
 fn result_from<'a>(
     alloc: Global,
     word: Word,
-    rest: &'a [Token],
-    tokens: &'a [Token],
-) -> Result<(Command, &'a [Token]), ReadError>
-    requires { terminals tokens.now ≡ Terminal.Word word ∷ terminals rest.now }
-    ensures read { IfOk result (λ r. result_from word (terminals rest.now) ≡ Some (command_tree r.0, terminals r.1.now)) }
-    ensures refused { IfErr result (λ e. Refuses e (result_from word (terminals rest.now) ≡ None)) }
+    rest: &'a [Terminal],
+    tokens: &'a [Terminal],
+) -> Result<(Command, &'a [Terminal]), ReadError>
+    requires { tokens.now ≡ Terminal.Word word ∷ rest.now }
+    ensures read { IfOk result (λ r. result_from word rest.now ≡ Some (command_tree r.0, r.1.now)) }
+    ensures refused { IfErr result (λ e. Refuses e (result_from word rest.now ≡ None)) }
 {
     match word {
         Word::Nnf => {

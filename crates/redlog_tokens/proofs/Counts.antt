@@ -1,5 +1,5 @@
 -- The levels so far.
-use Rattle.std.proofs.Common.{◌≡◌, ℕ, ◌+◌, ◌<◌, ◌≤◌, List, [], ◌∷◌, sym, refl, ap, ◌∙◌, subst, inl, inr, arith, map, drop, length, get_or, drop-cons, add-one}
+use Rattle.std.proofs.Common.{◌≡◌, ℕ, ◌+◌, ◌<◌, ◌≤◌, List, [], ◌∷◌, sym, refl, ap, ◌∙◌, subst, inl, inr, arith, drop, length, get_or, drop-cons, add-one}
 use Rattle.std.proofs.Math.ListN.{drop_of_length-le}
 use Rattle.std.proofs.lemmas.List.Sums.{sum_by-cons}
 use Rattle.std.specs.Prelude.{reverse, sum_by, if◌then◌else◌, ◌⊎◌}
@@ -8,8 +8,6 @@ use Rattle.redlog_tokens.specs.declared.terminal.Terminal.{Terminal}
 use Rattle.redlog_tokens.specs.declared.terminal.Terminal.TheVariants as terminal
 use Rattle.redlog_tokens.specs.declared.terminal.Word.TheVariants as word
 use Rattle.redlog_tokens.specs.Levels.{weight, change_of, changed, groups, run, run_before, level, Passes}
-use Rattle.redlog_tokens.specs.declared.token.Token.{Token}
-use Rattle.redlog_tokens.specs.Terminals.{terminals, terminal_of}
 use Rattle.redlog_tokens.specs.Counting.{count, stack, IsTotal, IsSmall, AreLevels, is_binder, is_not}
 
 run_is : (t : Terminal) (before : List Terminal) (r : ℕ) → r ≡ run before → (if is_not t then r + 1 else 0) ≡ run (t ∷ before)
@@ -77,11 +75,8 @@ pub shallow_end : {l : Levels} {all left : List Terminal} → ShallowSoFar l all
 shallow_end so_far at p = subst (Passes 512 so_far.before) at (so_far.onward p)
 
 -- the terminal at a place
-pub next_terminal : (ts : List Token) (i : ℕ) (x : Token) → i < length ts → x ≡ get_or ts i x → terminals (drop i ts) ≡ terminal_of x.kind ∷ terminals (drop (i + 1) ts)
-unfolding terminals
-next_terminal ts i x inside is =
-    ap (map (λ t. terminal_of t.kind)) (drop-cons ts i x inside) ∙ (λ k. terminal_of (sym is k).kind ∷ map (λ t. terminal_of t.kind) (drop (sym (add-one i) k) ts))
+pub next_terminal : (ts : List Terminal) (i : ℕ) (x : Terminal) → i < length ts → x ≡ get_or ts i x → drop i ts ≡ x ∷ drop (i + 1) ts
+next_terminal ts i x inside is = drop-cons ts i x inside ∙ (λ k. sym is k ∷ drop (sym (add-one i) k) ts)
 
-pub no_terminal : (ts : List Token) (i : ℕ) → length ts ≤ i → terminals (drop i ts) ≡ []
-unfolding terminals
-no_terminal ts i past = ap (map (λ t. terminal_of t.kind)) (drop_of_length-le ts past)
+pub no_terminal : (ts : List Terminal) (i : ℕ) → length ts ≤ i → drop i ts ≡ []
+no_terminal ts i past = drop_of_length-le ts past

@@ -44,7 +44,7 @@ pub past_token : (script : List ℕ) (at n : ℕ) (kind : Option TokenKind) (ts 
 past_token script at n kind ts h l = lexes_token (drop at script) at n kind h (subst (λ rest. Lexes rest (at + n) ts) (sym (drop-drop n at script)) l)
 
 -- the bytes from a place on, as a slice to the end has them
-to_end : (script : List ℕ) (at : ℕ) → take (length script - at) (drop at script) ≡ drop at script
+pub to_end : (script : List ℕ) (at : ℕ) → take (length script - at) (drop at script) ≡ drop at script
 to_end script at = ap (λ n. take n (drop at script)) (sym (length-drop at script)) ∙ take-length (drop at script)
 
 pub at_end : (script : List ℕ) (at : ℕ) → take (length script - at) (drop at script) ≡ [] → LexesFrom script at []

@@ -6,5 +6,6 @@ pub mod Lexed
 pub mod ProperTokens
 pub mod Longest
 pub mod Scanned
+pub mod AheadLemmas
 pub mod Cutting
 pub mod Examples

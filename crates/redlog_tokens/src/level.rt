@@ -1,12 +1,10 @@
 ghost use Rattle.std.specs.Prelude.{◌≡◌, suc, ◌+◌, ◌≤◌, List, [], ◌∷◌, IfOk, OnOk, if◌then◌else◌};
 ghost use Rattle.std.specs.Bool.{MatchBool};
 ghost use Rattle.redlog_tokens.specs.declared.terminal.Terminal.{Terminal};
-ghost use Rattle.redlog_tokens.specs.Terminals.{terminals};
 ghost use Rattle.redlog_tokens.specs.Levels.{weight, after, change_of, changed, closing, Passes};
 ghost use Rattle.redlog_tokens.specs.Counting.{AreLevels, IsSmall, IsTotal, stack, count, is_binder, is_not};
 
-use crate::terminal::{Mark, Terminal, Word, terminal_of};
-use crate::token::Token;
+use crate::terminal::{Mark, Terminal, Word};
 use std::alloc::{AllocError, Global};
 
 /// No level of a token passes this.
@@ -35,13 +33,12 @@ pub struct Levels {
 }
 
 /// Whether the level of some token passes 512.
-pub fn is_deep(alloc: Global, tokens: &[Token]) -> Result<bool, AllocError>
-    ensures { IfOk result (λ deep. MatchBool deep (Passes LEVEL_LIMIT [] (terminals tokens.now)) (Passes LEVEL_LIMIT [] (terminals tokens.now) → ⊥)) }
+pub fn is_deep(alloc: Global, terminals: &[Terminal]) -> Result<bool, AllocError>
+    ensures { IfOk result (λ deep. MatchBool deep (Passes LEVEL_LIMIT [] terminals.now) (Passes LEVEL_LIMIT [] terminals.now → ⊥)) }
 {
     let mut levels = Levels::new(alloc);
-    'tokens: for token in tokens {
-        let terminal = terminal_of(&token.kind);
-        levels.take(&terminal)?;
+    'terminals: for terminal in terminals {
+        levels.take(terminal)?;
         if levels.level() > LEVEL_LIMIT {
             return Ok(true);
         }

@@ -86,7 +86,7 @@ fn front_at(bytes: &[u8], first: u8, rest: &[u8]) -> Front
 }
 
 /// How many bytes at the front are of a comment that has begun.
-fn line(bytes: &[u8]) -> usize
+pub(crate) fn line(bytes: &[u8]) -> usize
     ensures length { result ≡ prefix_len is_in_line bytes.now }
     ensures within { result ≤ length bytes.now }
 {
@@ -94,7 +94,7 @@ fn line(bytes: &[u8]) -> usize
 }
 
 /// How many bytes at the front are digits.
-fn digits(bytes: &[u8]) -> usize
+pub(crate) fn digits(bytes: &[u8]) -> usize
     ensures length { result ≡ prefix_len is_digit bytes.now }
     ensures within { result ≤ length bytes.now }
 {
@@ -102,7 +102,7 @@ fn digits(bytes: &[u8]) -> usize
 }
 
 /// How many bytes at the front may go on a name.
-fn name_parts(bytes: &[u8]) -> usize
+pub(crate) fn name_parts(bytes: &[u8]) -> usize
     ensures length { result ≡ prefix_len is_name_part bytes.now }
     ensures within { result ≤ length bytes.now }
 {
@@ -111,7 +111,7 @@ fn name_parts(bytes: &[u8]) -> usize
 
 /// The number that decimal digits say.
 #[tactic(auto, unfolding(crate::specs::Lexing::literal_of))]
-fn literal(digits: &[u8]) -> Literal
+pub(crate) fn literal(digits: &[u8]) -> Literal
     ensures { result ≡ literal_of digits.now }
 {
     let mut value: u128 = 0;
@@ -146,7 +146,7 @@ fn worded(text: &[u8]) -> Option<TokenKind>
 
 /// Whether a name stands for no variable.
 #[tactic(auto, unfolding(qe_syntax::specs::Names::is_word))]
-fn is_word(text: &[u8]) -> bool
+pub(crate) fn is_word(text: &[u8]) -> bool
     ensures { result ≡ is_word text.now }
 {
     if is_keyword(text) || is_numbered(text, "infinity") {
@@ -173,7 +173,7 @@ fn are_digits(text: &[u8]) -> bool
 }
 
 /// Whether the text is a sign of two bytes.
-fn is_long_sign(text: &[u8]) -> bool
+pub(crate) fn is_long_sign(text: &[u8]) -> bool
     ensures { result ≡ is_one_of text.now long_signs }
 {
     matches!(
@@ -183,7 +183,7 @@ fn is_long_sign(text: &[u8]) -> bool
 }
 
 /// Whether the text is a sign of one byte.
-fn is_short_sign(text: &[u8]) -> bool
+pub(crate) fn is_short_sign(text: &[u8]) -> bool
     ensures { result ≡ is_one_of text.now short_signs }
 {
     matches!(
@@ -215,20 +215,20 @@ fn signed(bytes: &[u8]) -> Front
 }
 
 /// Tab, line feed, carriage return and space.
-fn is_blank(b: u8) -> bool
+pub(crate) fn is_blank(b: u8) -> bool
     ensures { result ≡ is_blank b }
 {
     b == b'\t' || b == b'\n' || b == b'\r' || b == b' '
 }
 
-fn is_digit(b: u8) -> bool
+pub(crate) fn is_digit(b: u8) -> bool
     ensures { result ≡ is_digit b }
 {
     b'0' <= b && b <= b'9'
 }
 
 /// An ASCII letter.
-fn is_letter(b: u8) -> bool
+pub(crate) fn is_letter(b: u8) -> bool
     ensures { result ≡ is_letter b }
 {
     (b'A' <= b && b <= b'Z') || (b'a' <= b && b <= b'z')

@@ -1,18 +1,18 @@
 //! Reads the bytes of a script as tokens: what they spell, how they are cut into pieces, and how deeply each is nested.
 #![tactic(auto)]
 
+mod ahead;
 mod laws;
 mod level;
 mod lexer;
 mod piece;
-mod scan;
 mod terminal;
 mod token;
 mod words;
 
+pub use ahead::terminals;
 pub use laws::{longest_tokens, one_piece};
 pub use level::{LEVEL_LIMIT, is_deep};
 pub use piece::{Piece, next_piece};
-pub use scan::tokens;
-pub use terminal::{Mark, Terminal, Word, terminal_of};
-pub use token::{ReadError, Token, TokenKind, Tokens};
+pub use terminal::{Mark, Terminal, Word};
+pub use token::{ReadError, Token, TokenKind};

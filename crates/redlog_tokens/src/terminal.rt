@@ -1,7 +1,6 @@
 ghost use Rattle.std.specs.Prelude.{◌≡◌};
-ghost use Rattle.redlog_tokens.specs.Terminals.{terminal_of, word_of, sign_of};
+ghost use Rattle.redlog_tokens.specs.Terminals.{word_of, sign_of};
 
-use crate::token::TokenKind;
 use crate::words::known_word;
 use qe_syntax::{Literal, Name, Relation};
 
@@ -74,21 +73,9 @@ pub enum Word {
     Other,
 }
 
-/// The terminal that a token is.
-pub fn terminal_of(kind: &TokenKind) -> Terminal
-    ensures { result ≡ terminal_of kind.now }
-{
-    match kind {
-        TokenKind::Number(number) => Terminal::Number(*number),
-        TokenKind::Name(name) => Terminal::Name(*name),
-        TokenKind::Word(word) => Terminal::Word(word_of(word.bytes())),
-        TokenKind::Sign(sign) => sign_of(sign.bytes()),
-    }
-}
-
 /// The word that a text is.
 #[tactic(auto, unfolding(crate::specs::Terminals::word_of))]
-fn word_of(word: &[u8]) -> Word
+pub(crate) fn word_of(word: &[u8]) -> Word
     ensures { result ≡ word_of word.now }
 {
     known_word(word).unwrap_or(Word::Other)
@@ -96,7 +83,7 @@ fn word_of(word: &[u8]) -> Word
 
 /// The terminal that a sign is.
 #[tactic(auto, unfolding(crate::specs::Terminals::sign_of))]
-fn sign_of(sign: &[u8]) -> Terminal
+pub(crate) fn sign_of(sign: &[u8]) -> Terminal
     ensures { result ≡ sign_of sign.now }
 {
     match sign {
