@@ -16,5 +16,6 @@ mod statement;
 
 pub use read::{one_statement, read_statement};
 pub use redlog_tokens::{
-    Piece, ReadError, Token, TokenKind, longest_tokens, next_piece, one_piece, terminals,
+    Piece, ReadError, Token, TokenKind, Tokens, longest_tokens, next_piece, one_piece, terminals,
+    tokens,
 };

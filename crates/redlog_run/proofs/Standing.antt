@@ -1,6 +1,6 @@
 -- What stands after each step of a script that is answered while it is read.
-use Rattle.std.proofs.Common.{◌≡◌, ℕ, ◌+◌, ◌-◌, Bool, true, false, List, [], ◌++◌, length, take, drop, refl, sym, ap, ◌∙◌, subst, append-nil, append_assoc, arith, take-add, Option, None}
-use Rattle.std.proofs.lemmas.List.{take-append-drop}
+use Rattle.std.proofs.Common.{◌≡◌, ℕ, ◌+◌, ◌-◌, Bool, true, false, List, [], ◌++◌, length, take, drop, refl, sym, ap, ◌∙◌, subst, append-nil, append_assoc, arith, take-add, length-append, inl, inr, ◌≤◌, Option, None}
+use Rattle.std.proofs.lemmas.List.{take-append-drop, take_all}
 use Rattle.std.specs.declared.alloc.Global.{Global}
 use Rattle.std.specs.declared.vec.Vec.{Vec}
 use Rattle.block_scheduler.specs.declared.limits.Limits.{Limits}
@@ -17,7 +17,7 @@ use Rattle.redlog_run.specs.Lines.{refusal_line}
 use Rattle.redlog_run.specs.Run.{AnswersPiece, finished, RunOf, RunTo, begin, RunsTo, RunsSo, Adds}
 use Rattle.qe_io.specs.Streams.{Took}
 use Rattle.redlog_run.specs.Ends.{TookFront}
-use Rattle.redlog_run.specs.Script.{Stands, IsEnded, StandsOrEnds, IsWritten, Part, EndsIn, RunsOut, FailsIn}
+use Rattle.redlog_run.specs.Script.{Stands, IsEnded, StandsOrEnds, IsWritten, HoldsOrWrote, Part, EndsIn, RunsOut, FailsIn}
 use Rattle.redlog_run.proofs.Joined.{rest_whole, took_joined, front_after}
 use Rattle.redlog_run.proofs.Replies.{adds_refusal}
 use Rattle.redlog_run.proofs.Reaching.{runs_longer, runs_on, run_stops, run_whole, run_over}
@@ -148,49 +148,103 @@ ended_run limit script lines taken n refusal e =
 abbrev pub front_of : (bytes : List ℕ) (n : ℕ) → Part bytes
 front_of bytes n = record { front = take n bytes; rest = drop n bytes; whole = sym (take-append-drop n bytes) }
 
-module _ (limit : ℕ) (before bytes : List ℕ) (taken n : ℕ) (first now : Option (List ℕ)) (a : Answering) (h : IsWritten limit (before ++ take taken bytes) first now a) where
+-- more bytes come after
+so_longer : (limit : ℕ) (bytes more lines : List ℕ) → RunsSo limit bytes lines → RunsSo limit (bytes ++ more) lines
+so_longer limit bytes more lines r = record {
+  to = r.to;
+  within = omega (arith, r.within, length-append bytes more);
+  state = r.state;
+  refusal = r.refusal;
+  runs = runs_longer limit bytes more r.to r.state lines r.refusal r.runs;
+}
+
+-- the lines of some pieces in front were written onto what the sink had taken first, and those of the others are held
+pub record IsHeld (limit : ℕ) (bytes : List ℕ) (first now : Option (List ℕ)) (a : Answering) : Type 0 where
+  pub written : List ℕ
+  pub stands : Stands limit bytes (written ++ a.answers.lines.items) a
+  pub runs : RunsSo limit bytes written
+  pub took : Took first now written
+
+-- before the first of the bytes all lines were written
+pub held_first : (limit : ℕ) (before bytes : List ℕ) (first now : Option (List ℕ)) (a : Answering) → a.answers.lines.items ≡ [] → IsWritten limit before first now a → IsHeld limit (before ++ take 0 bytes) first now a
+held_first limit before bytes first now a quiet h = subst (λ xs. IsHeld limit xs first now a) (sym (append-nil before)) (record {
+  written = h.lines;
+  stands = none_held limit before h.lines a quiet h.stands;
+  runs = runs_so limit before h.lines a h.stands;
+  took = h.took;
+})
+
+-- behind the last of them they are all written
+pub held_last : (limit : ℕ) (before bytes : List ℕ) (taken : ℕ) (first now later : Option (List ℕ)) (a : Answering) (answers : Answers) → length bytes ≤ taken → answers.refused ≡ a.answers.refused
+    → Took now later a.answers.lines.items → IsHeld limit (before ++ take taken bytes) first now a → IsWritten limit (before ++ bytes) first later (record a { answers = answers })
+held_last limit before bytes taken first now later a answers past same took h = subst (λ xs. IsWritten limit (before ++ xs) first later (record a { answers = answers })) (take_all taken bytes past) (record {
+  lines = h.written ++ a.answers.lines.items;
+  stands = stands_with limit (before ++ take taken bytes) (h.written ++ a.answers.lines.items) a answers same h.stands;
+  took = took_joined first now later h.written a.answers.lines.items h.took took;
+})
+
+module _ (limit : ℕ) (before bytes : List ℕ) (taken n : ℕ) (first now : Option (List ℕ)) (a : Answering) (h : IsHeld limit (before ++ take taken bytes) first now a) where
   -- memory runs out
   pub runs_out : RunsOut limit before bytes first now
-  runs_out = record { part = front_of bytes taken; lines = h.lines; runs = runs_so limit (before ++ take taken bytes) h.lines a h.stands; took = h.took }
+  runs_out = record { part = front_of bytes taken; lines = h.written; runs = h.runs; took = h.took }
 
-  module _ (quiet : a.answers.lines.items ≡ []) (next : Answering) (b : Bool)
+  -- the write of the last lines fails
+  pub fails_last : (later : Option (List ℕ)) → TookFront now later a.answers.lines.items → FailsIn limit before bytes first later
+  fails_last later front = record {
+    part = front_of bytes taken;
+    lines = h.written ++ a.answers.lines.items;
+    runs = runs_so limit (before ++ take taken bytes) (h.written ++ a.answers.lines.items) a h.stands;
+    took = front_after first now later h.written a.answers.lines.items h.took front;
+  }
+
+  module _ (next : Answering) (b : Bool)
       (step : (limit : ℕ) (given written : List ℕ) → Stands limit given (written ++ a.answers.lines.items) a
       → StandsOrEnds b limit (given ++ take n (take (length bytes - taken) (drop taken bytes))) (written ++ next.answers.lines.items) next) where
-    stepped : StandsOrEnds b limit (before ++ take (taken + n) bytes) (h.lines ++ next.answers.lines.items) next
+    stepped : StandsOrEnds b limit (before ++ take (taken + n) bytes) (h.written ++ next.answers.lines.items) next
     stepped =
-        subst (λ xs. StandsOrEnds b limit xs (h.lines ++ next.answers.lines.items) next) (after_taken before bytes taken n)
-        (step limit (before ++ take taken bytes) h.lines (none_held limit (before ++ take taken bytes) h.lines a quiet h.stands))
+        subst (λ xs. StandsOrEnds b limit xs (h.written ++ next.answers.lines.items) next) (after_taken before bytes taken n)
+        (step limit (before ++ take taken bytes) h.written h.stands)
 
-    -- the lines were written
-    pub goes_on_written : (answers : Answers) (later : Option (List ℕ)) → b ≡ false → answers.refused ≡ next.answers.refused → answers.lines.items ≡ [] → Took now later next.answers.lines.items
-        → IsWritten limit (before ++ take (taken + n) bytes) first later (record next { answers = answers })
-    goes_on_written answers later on same none took = record {
-      lines = h.lines ++ next.answers.lines.items;
-      stands = stands_with limit (before ++ take (taken + n) bytes) (h.lines ++ next.answers.lines.items) next answers same
-          (subst (λ x. StandsOrEnds x limit (before ++ take (taken + n) bytes) (h.lines ++ next.answers.lines.items) next) on stepped);
-      took = took_joined first now later h.lines next.answers.lines.items h.took took;
+    -- the same, where it is known whether the script ended
+    stepped_so : (x : Bool) → b ≡ x → StandsOrEnds x limit (before ++ take (taken + n) bytes) (h.written ++ next.answers.lines.items) next
+    stepped_so x e = subst (λ y. StandsOrEnds y limit (before ++ take (taken + n) bytes) (h.written ++ next.answers.lines.items) next) e stepped
+
+    -- the script goes on, and the lines are held or were written
+    pub goes_on_held : (answers : Answers) (later : Option (List ℕ)) → b ≡ false → answers.refused ≡ next.answers.refused → HoldsOrWrote now later next.answers answers
+        → IsHeld limit (before ++ take (taken + n) bytes) first later (record next { answers = answers })
+    goes_on_held answers later on same (inl held) = record {
+      written = h.written;
+      stands = stands_with limit (before ++ take (taken + n) bytes) (h.written ++ answers.lines.items) next answers same
+          (subst (λ (x : Answers). Stands limit (before ++ take (taken + n) bytes) (h.written ++ x.lines.items) next) (sym held.1) (stepped_so false on));
+      runs = subst (λ xs. RunsSo limit xs h.written) (after_taken before bytes taken n)
+          (so_longer limit (before ++ take taken bytes) (take n (take (length bytes - taken) (drop taken bytes))) h.written h.runs);
+      took = subst (λ x. Took first x h.written) (sym held.0) h.took;
+    }
+    goes_on_held answers later on same (inr wrote) = record {
+      written = h.written ++ next.answers.lines.items;
+      stands = stands_with limit (before ++ take (taken + n) bytes) ((h.written ++ next.answers.lines.items) ++ answers.lines.items) next answers same
+          (subst (λ xs. Stands limit (before ++ take (taken + n) bytes) xs next) (sym (ap (λ xs. (h.written ++ next.answers.lines.items) ++ xs) wrote.1 ∙ append-nil (h.written ++ next.answers.lines.items))) (stepped_so false on));
+      runs = runs_so limit (before ++ take (taken + n) bytes) (h.written ++ next.answers.lines.items) next (stepped_so false on);
+      took = took_joined first now later h.written next.answers.lines.items h.took wrote.0;
     }
 
     pub ends_written : (answers : Answers) (later : Option (List ℕ)) → b ≡ true → answers.refused ≡ next.answers.refused → Took now later next.answers.lines.items → EndsIn limit before bytes first later answers.refused
     ends_written answers later over same took = record {
       part = front_of bytes (taken + n);
-      lines = h.lines ++ next.answers.lines.items;
-      ended = subst (IsEnded limit (before ++ take (taken + n) bytes) (h.lines ++ next.answers.lines.items)) (sym same)
-          (subst (λ x. StandsOrEnds x limit (before ++ take (taken + n) bytes) (h.lines ++ next.answers.lines.items) next) over stepped);
-      took = took_joined first now later h.lines next.answers.lines.items h.took took;
+      lines = h.written ++ next.answers.lines.items;
+      ended = subst (IsEnded limit (before ++ take (taken + n) bytes) (h.written ++ next.answers.lines.items)) (sym same) (stepped_so true over);
+      took = took_joined first now later h.written next.answers.lines.items h.took took;
     }
 
-    so_by : (x : Bool) → b ≡ x → RunsSo limit (before ++ take (taken + n) bytes) (h.lines ++ next.answers.lines.items)
-    so_by true e = let k = subst (λ x. StandsOrEnds x limit (before ++ take (taken + n) bytes) (h.lines ++ next.answers.lines.items) next) e stepped in k.runs
-    so_by false e =
-        runs_so limit (before ++ take (taken + n) bytes) (h.lines ++ next.answers.lines.items) next
-        (subst (λ x. StandsOrEnds x limit (before ++ take (taken + n) bytes) (h.lines ++ next.answers.lines.items) next) e stepped)
+    so_by : (x : Bool) → b ≡ x → RunsSo limit (before ++ take (taken + n) bytes) (h.written ++ next.answers.lines.items)
+    so_by true e = let k = stepped_so true e in k.runs
+    so_by false e = runs_so limit (before ++ take (taken + n) bytes) (h.written ++ next.answers.lines.items) next (stepped_so false e)
 
-    -- the write of a line fails
+    -- the write of lines fails
     pub fails_in : (later : Option (List ℕ)) → TookFront now later next.answers.lines.items → FailsIn limit before bytes first later
     fails_in later front = record {
       part = front_of bytes (taken + n);
-      lines = h.lines ++ next.answers.lines.items;
+      lines = h.written ++ next.answers.lines.items;
       runs = so_by b refl;
-      took = front_after first now later h.lines next.answers.lines.items h.took front;
+      took = front_after first now later h.written next.answers.lines.items h.took front;
     }

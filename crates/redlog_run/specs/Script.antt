@@ -1,9 +1,12 @@
 -- How a script is answered while it is read, step by step.
-use Rattle.std.specs.Prelude.{◌≡◌, ℕ, ◌≤◌, List, ◌++◌, length, Option, Result, Ok, Err, Bool, true, false}
+use Rattle.std.specs.Prelude.{◌≡◌, ℕ, ◌≤◌, List, [], ◌∷◌, ◌++◌, length, Option, Result, Ok, Err, Bool, true, false, ◌⊎◌, ◌&&◌, ◌==◌, if◌then◌else◌}
 use Rattle.qe_io.specs.Streams.{Took, Rose}
 use Rattle.script_splitter.specs.Pieces.{Follows}
 use Rattle.session_commands.specs.Seen.{state_in}
 use Rattle.redlog_run.specs.declared.answer.Answering.{Answering}
+use Rattle.redlog_run.specs.declared.answer.Answers.{Answers}
+use Rattle.redlog_run.specs.declared.write.Pace.{Pace}
+use Rattle.redlog_run.specs.declared.write.Pace.TheVariants as pace
 use Rattle.redlog_run.specs.declared.stop.StreamStop.{StreamStop}
 use Rattle.redlog_run.specs.declared.stop.StreamStop.TheVariants as stop
 use Rattle.redlog_run.specs.declared.stop.AnswerStop.{AnswerStop}
@@ -35,6 +38,16 @@ pub record IsWritten (limit : ℕ) (bytes : List ℕ) (first now : Option (List 
   pub lines : List ℕ
   pub stands : Stands limit bytes lines a
   pub took : Took first now lines
+
+-- the lines are held as before, or were written and none is held
+abbrev pub HoldsOrWrote : Option (List ℕ) → Option (List ℕ) → Answers → Answers → Type 0
+HoldsOrWrote wrote after old new = ((after ≡ wrote) × (new ≡ old)) ⊎ (Took wrote after old.lines.items × (new.lines.items ≡ []))
+
+-- lines are written one by one where `rl` stands among the bytes, as it does in each command
+abbrev pub pace_of : List ℕ → Pace
+pace_of [] = pace.Together
+pace_of (b ∷ []) = pace.Together
+pace_of (b ∷ c ∷ bs) = if (b == 114) && (c == 108) then pace.Each else pace_of (c ∷ bs)
 
 -- the bytes in front, up to some place
 pub record Part (bytes : List ℕ) : Type 0 where

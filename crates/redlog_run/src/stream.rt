@@ -7,7 +7,7 @@ use crate::answer::{Answering, answer_last, answer_next, begin};
 use crate::status::Status;
 use crate::stop::{AnswerStop, StreamStop};
 use crate::team::Team;
-use crate::write::{write_all, write_lines};
+use crate::write::{pace_of, write_all, write_due, write_lines};
 use qe_io::{Sink, Source};
 use qe_parallel::Gate;
 use session_commands::Limits;
@@ -89,15 +89,18 @@ fn answer_bytes<R: Threads + Sync, K: Sink, G: Gate + Sync>(
     ensures no_fault { OnOk result (K.faults sink.new ≡ K.faults sink.old) }
     ensures stop { IfErr result (AnswerCause (K.faults sink.old) (K.faults sink.new)) }
 {
+    let pace = pace_of(bytes);
     let mut taken = 0;
     while taken < bytes.len() {
         let step = answer_next(team, answering, &bytes[taken..])?;
-        write_lines(sink, &mut answering.answers)?;
         if step.ends {
+            write_lines(sink, &mut answering.answers)?;
             return Ok(true);
         }
+        write_due(sink, &mut answering.answers, pace)?;
         taken += step.taken;
     }
+    write_lines(sink, &mut answering.answers)?;
     Ok(false)
 }
 
