@@ -19,7 +19,7 @@ fn number_name<Id: Copy>(
     ensures grown { Grows names.old names.new }
 {
     names.number(name)?;
-    Ok(bound.get(name).is_some())
+    Ok(bound.len() > 0 && bound.get(name).is_some())
 }
 
 /// Numbers the variables of a term, and answers whether something is bound to one of them.
