@@ -1,5 +1,6 @@
 pub mod Formed
 pub mod Steps
+pub mod Nothing
 pub mod StepCases
 pub mod Readings
 pub mod TermSizes

@@ -1,4 +1,5 @@
-ghost use Rattle.std.specs.Prelude.{◌≡◌, ℕ, List, false, pos, Ok, map, IfOk};
+ghost use Rattle.std.specs.Prelude.{◌≡◌, ℕ, List, false, pos, Ok, map, IfOk, IsTrue};
+ghost use Rattle.qe_syntax.specs.declared.tree.Literal.TheVariants.{Fits};
 ghost use Rattle.std.specs.Option.{ForSome};
 ghost use Rattle.std.specs.Result.{ForOk};
 ghost use Rattle.exact_numbers.specs.Frac.{whole_frac};
@@ -81,6 +82,17 @@ impl ReadTerm {
             division: _,
         } = self;
         form
+    }
+
+    // The same term, whose form the program holds.
+    fn linear(self) -> ReadTerm
+        ensures same { result ≡ self }
+        ensures linear { ForSome result.form (λ v. IsLinear v.form) }
+    {
+        if let Some(form) = &self.form {
+            let _constant = form.form.constant_part();
+        }
+        self
     }
 
     // The sum of two terms.
@@ -327,6 +339,29 @@ pub(crate) fn read_difference(
     ensures linear { IfOk result (λ r. ForSome r.form (λ v. IsLinear v.form)) }
 {
     let left = read_term(alloc, context, names, left)?;
+    if is_nothing(right) {
+        return Ok(left.linear());
+    }
     let right = read_term(alloc, context, names, right)?;
     left.plus(alloc, right.opposite(alloc)?)
+}
+
+// Whether the term is 0 as it is written, so that nothing is taken away.
+fn is_nothing(term: &Term) -> bool
+    ensures { IsTrue result → term_tree term.now ≡ Number (Fits (pos 0)) }
+{
+    match term {
+        Term::Number(literal) => is_zero(*literal),
+        _ => false,
+    }
+}
+
+// Whether the literal is 0.
+fn is_zero(literal: Literal) -> bool
+    ensures { IsTrue result → literal ≡ Fits (pos 0) }
+{
+    match literal {
+        Literal::Fits(number) => number == 0,
+        Literal::Past => false,
+    }
 }

@@ -1,0 +1,7 @@
+use Rattle.std.proofs.Common.{ap, ◌∙◌}
+use Rattle.qe_syntax.specs.Trees.{Number}
+use Rattle.written_atoms.proofs.TermSizes.{number_literal}
+use Rattle.written_atoms.proofs.term.is_nothing.Goals as goal
+
+pub returns-in-Number : goal.returns-in-Number
+returns-in-Number c = λ yes. number_literal c.args.term.now c.in-Number.literal c.in-Number.is ∙ ap Number (c.is_zero.ensures yes)
