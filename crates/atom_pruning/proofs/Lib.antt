@@ -1,0 +1,4 @@
+pub mod Places
+pub mod Decided
+pub mod Said
+pub mod Keeping
