@@ -1,0 +1,16 @@
+//! Formulas of a store pruned by certificates: what no point meets goes, what others imply, and what others cover.
+#![tactic(auto)]
+
+mod comparing;
+mod conjunction;
+mod covering;
+mod cutting;
+mod deciding;
+mod impossible;
+mod members;
+mod pruning;
+mod rows;
+
+pub use covering::uncovered;
+pub use impossible::is_impossible;
+pub use pruning::pruned;
