@@ -2,7 +2,6 @@
 use Rattle.std.proofs.Common.{◌≡◌, ℕ, ◌≤◌, ◌+◌, ◌*◌, List, [], ◌∷◌, length, map, refl, ap, sym, ◌∙◌, subst, arith}
 use Rattle.std.proofs.lemmas.List.{length-map}
 use Rattle.formula_meaning.specs.Answer.{Place}
-use Rattle.formula_meaning.specs.Atom.{Atom}
 use Rattle.formula_meaning.specs.Context.{Fields}
 use Rattle.formula_meaning.specs.Every.{Every}
 use Rattle.formula_meaning.specs.Fold.{folded}
@@ -16,9 +15,6 @@ use Rattle.elimination_theory.specs.Steps.{result_at}
 use Rattle.elimination_theory.proofs.BothSubstitutions.{place_in}
 use Rattle.atom_normal.specs.Atoms.{context_of}
 use Rattle.atom_normal.specs.NormalForm.{IsNormal, normal_atom}
-use Rattle.simplified_formulas.specs.Trees.{IsSimplifiable, simplified_under}
-use Rattle.simplified_formulas.proofs.TreeLaws.{brings_no_node}
-use Rattle.simplified_texts.proofs.Longer.{no_longer}
 use Rattle.elimination_reference.specs.Cases.{case_matrix}
 use Rattle.elimination_reference.specs.Reference.{normal_tree}
 use Rattle.elimination_reference.proofs.Sound.{normal_normal_tree}
@@ -31,10 +27,8 @@ use Rattle.formula_store.specs.Nodes.{tree}
 use Rattle.test_points.specs.declared.points.TestPoint.{TestPoint}
 use Rattle.case_theory.specs.Direct.{IsDirect, direct_answer, first_equation}
 use Rattle.case_theory.specs.Points.{IsRoot}
-use Rattle.case_theory.specs.Simplified.{HasConstantsWithin}
-use Rattle.case_theory.proofs.Direct.{direct_exact, direct_within}
 use Rattle.case_theory.proofs.Points.{root_point}
-use Rattle.case_theory.proofs.Simplified.{plain_free, tidy_simplifiable}
+use Rattle.case_theory.proofs.Simplified.{plain_free}
 use Rattle.branch_points.specs.Chosen.{conjuncts}
 use Rattle.branch_points.proofs.FirstEquations.{conjunct_is}
 use Rattle.nnf_substitution.specs.Placed.{all_within}
@@ -42,8 +36,6 @@ use Rattle.leading_blocks.specs.declared.block.LeadingBlock.{LeadingBlock}
 use Rattle.leading_blocks.specs.Blocks.{IsLeadingBlock}
 use Rattle.branch_rounds.specs.Branches.{Seen, numbers}
 use Rattle.branch_rounds.specs.Rounds.{IsDirectAt, IsLeftAlone}
-use Rattle.branch_rounds.specs.Worked.{left_of}
-use Rattle.branch_rounds.proofs.Left.{constants_within}
 use Rattle.case_trees.specs.declared.case_tree.Case.{Case}
 use Rattle.case_trees.specs.declared.case_tree.CaseTree.{CaseTree}
 use Rattle.block_scheduler.specs.declared.task.Task.{Task}
@@ -66,20 +58,10 @@ module _ (limit : ℕ) (f : Tree) (x : ℕ) (fs : Trees) (s : Place) (d : IsDire
       let e = d.equation in
       place_in Fields x s (And fs) (root_point Fields x (And fs) e.0 s (atoms_plain fs d.atoms) (normal_inside Fields (And fs) matrix_normal) (conjunct_is x (And fs) e.0 e.1) e.2).each.0.suits
 
-  -- what is simplified of the direct answer is no larger
-  answer_no_larger : (ks : List Atom) → HasConstantsWithin (And fs) → IsNoLarger (direct_answer x fs s) (simplified_under Fields ks (direct_answer x fs s))
-  answer_no_larger ks w =
-      let g = direct_answer x fs s in
-      let within : HasConstantsWithin (normal_tree f) = subst HasConstantsWithin (sym d.is) w in
-      let simple : IsSimplifiable Fields g = tidy_simplifiable Fields g (direct_exact limit (normal_tree f) x fs s normal d).tidy (direct_within limit (normal_tree f) x fs s normal within d) in
-      record { nodes = brings_no_node Fields ks g simple; text = λ names long named. no_longer names long Fields ks g simple named }
-
-  -- and so is what is left of the matrix with the name at the root
-  pub left_no_larger : (ks : List Atom) (y : ℕ) (matrix : Tree) → y ≡ x → matrix ≡ folded (And fs) → HasConstantsWithin (And fs) → IsNoLarger (direct_answer x fs s) (left_of Fields ks y s matrix)
-  left_no_larger ks y matrix e i w =
-      let same : direct_answer x fs s ≡ result_at Fields (normal_atom Fields) y s matrix =
-      sym (folded_answer x s fs root_in matrix_normal d.atoms) ∙ ap (result_at Fields (normal_atom Fields) x s) (sym i) ∙ ap (λ z. result_at Fields (normal_atom Fields) z s matrix) (sym e) in
-      subst (λ g. IsNoLarger (direct_answer x fs s) (simplified_under Fields ks g)) same (answer_no_larger ks w)
+  -- the matrix with the name at the root is the direct answer
+  pub matrix_answer : (y : ℕ) (matrix : Tree) → y ≡ x → matrix ≡ folded (And fs) → result_at Fields (normal_atom Fields) y s matrix ≡ direct_answer x fs s
+  matrix_answer y matrix e i =
+      ap (λ z. result_at Fields (normal_atom Fields) z s matrix) e ∙ ap (result_at Fields (normal_atom Fields) x s) i ∙ folded_answer x s fs root_in matrix_normal d.atoms
 
   -- its matrix is one into which one point goes
   pub matrix_plain : IsPlain (case_matrix f)
@@ -129,14 +111,10 @@ each_case nodes P (k ∷ ks) (b ∷ bs) e h =
     let guard : k.guard ≡ b.formula = ap (λ (q : FormulaId × List TestPoint). q.0) first in
     (subst (λ i. P (tree nodes i)) (sym guard) h.0, each_case nodes P ks bs rest h.1)
 
-each_left : {P Q : Seen → Type 0} (bs : List Seen) → ((b : Seen) → P b → Q b) → EachOf P bs → EachOf Q bs
-each_left [] k h = tt
-each_left (b ∷ bs) k h = (k b h.0, each_left bs k h.1)
-
 -- they are those of a direct formula where the one branch is what is left at the root
-pub direct_tree : (x : ℕ) (fs : Trees) (s : Place) (ks : List Atom) (y : ℕ) (matrix : Tree) (nodes : List (Shape FormulaId)) (bs : List Seen) (t : CaseTree) → IsNoLarger (direct_answer x fs s) (left_of Fields ks y s matrix) →
-    IsLeftAlone Fields ks y s matrix nodes bs → map told_case t.cases.items ≡ map told_branch bs → IsDirectTree x fs s nodes t
-direct_tree x fs s ks y matrix nodes bs t small left told =
+pub direct_tree : (x : ℕ) (fs : Trees) (s : Place) (y : ℕ) (matrix : Tree) (nodes : List (Shape FormulaId)) (bs : List Seen) (t : CaseTree) → result_at Fields (normal_atom Fields) y s matrix ≡ direct_answer x fs s →
+    IsLeftAlone Fields y s matrix nodes bs → map told_case t.cases.items ≡ map told_branch bs → IsDirectTree x fs s nodes t
+direct_tree x fs s y matrix nodes bs t same_answer left told =
     let one = left.few in
     let many = length-map t.cases.items told_case in
     let as_many = length-map bs told_branch in
@@ -144,7 +122,7 @@ direct_tree x fs s ks y matrix nodes bs t small left told =
     record {
       few = omega (arith, one, many, as_many, same);
       guards = each_case nodes (IsNoLarger (direct_answer x fs s)) t.cases.items bs told
-          (each_left bs (λ b e. subst (IsNoLarger (direct_answer x fs s)) (sym e) small) left.left);
+          (subst (λ g. EachOf (λ (b : Seen). IsNoLarger g (tree nodes b.formula)) bs) same_answer left.no_larger);
     }
 
 -- ---- the block of a direct formula
@@ -188,10 +166,10 @@ module _ (t : Task) (f : Tree) (n : Every (IsNormal (context_of t.context)) f) (
         (matrix_direct t.limits.nodes f x fs s d field_normal block.names.items name.name (tree two m) name.alone name.number folded_same)
 
     -- and its cases are those of a direct formula
-    pub block_tree : (ks : List Atom) (nodes : List (Shape FormulaId)) (bs : List Seen) (tree_of : CaseTree) → IsLeftAlone (context_of t.context) ks block_name.number s (tree two m) nodes bs →
+    pub block_tree : (nodes : List (Shape FormulaId)) (bs : List Seen) (tree_of : CaseTree) → IsLeftAlone (context_of t.context) block_name.number s (tree two m) nodes bs →
         map told_case tree_of.cases.items ≡ map told_branch bs → IsDirectTree x fs s nodes tree_of
     unfolding block_name
-    block_tree ks nodes bs tree_of left told =
-        direct_tree x fs s ks name.name.number (tree two m) nodes bs tree_of
-        (left_no_larger t.limits.nodes f x fs s d field_normal ks name.name.number (tree two m) name.number folded_same (subst HasConstantsWithin matrix_same (constants_within one block.matrix b.matrix.is)))
-        (subst (λ k. IsLeftAlone k ks name.name.number s (tree two m) nodes bs) over left) told
+    block_tree nodes bs tree_of left told =
+        direct_tree x fs s name.name.number (tree two m) nodes bs tree_of
+        (matrix_answer t.limits.nodes f x fs s d field_normal name.name.number (tree two m) name.number folded_same)
+        (subst (λ k. IsLeftAlone k name.name.number s (tree two m) nodes bs) over left) told

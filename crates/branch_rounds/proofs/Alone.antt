@@ -33,7 +33,9 @@ use Rattle.branch_rounds.specs.declared.work.Work.{Work}
 use Rattle.branch_rounds.specs.Branches.{Seen, branch_at, numbers}
 use Rattle.branch_rounds.specs.Children.{IsChildOf, AreChildrenOf, result_seen}
 use Rattle.branch_rounds.specs.Rounds.{IsSpreadOver, IsDirectAt, IsLeftAlone}
-use Rattle.branch_rounds.specs.Worked.{left_of}
+use Rattle.simplified_texts.specs.Texts.{IsNoLarger}
+use Rattle.elimination_theory.specs.Steps.{result_at}
+use Rattle.atom_normal.specs.NormalForm.{normal_atom}
 
 -- ---- the word
 
@@ -137,23 +139,23 @@ module _ (w : Work) (f : Tree) (names : List VarId) (x : VarId) (s : Place) (lef
     one_point = ap length a.points
 
     module _ (nodes : List (Shape FormulaId)) (kids : List Child) (are : AreChildrenOf w f ch nodes kids) where
-      each_left : (points : List TestPoint) (rest : List VarId) (ks : List Child) → EachOf (IsChildOf (context_of w.context) (map atom_of w.assumed.now) f nodes ch.name) ks →
+      each_left : (points : List TestPoint) (rest : List VarId) (ks : List Child) → EachOf (IsChildOf (context_of w.context) f nodes ch.name) ks →
           EachOf (IsChild (context_of w.context) (map atom_of w.assumed.now) ch.name.number f (map place_of ch.points.items)) (map (result_seen nodes) ks) →
-          EachOf (λ (b : Seen). tree nodes b.formula ≡ left_of (context_of w.context) (map atom_of w.assumed.now) x.number s f) (map (branch_at points rest) ks)
+          EachOf (λ (b : Seen). IsNoLarger (result_at (context_of w.context) (normal_atom (context_of w.context)) x.number s f) (tree nodes b.formula)) (map (branch_at points rest) ks)
       each_left points rest [] h i = tt
       each_left points rest (k ∷ ks) h i =
           let place : s ≡ place_of k.point =
           sym a.place ∙ ⊎_elim (λ e. e) absurd (subst (λ (ts : List TestPoint). Among (map place_of ts) (place_of k.point)) a.points i.0.listed) in (
-            h.0.left ∙ ap (λ (p : Place). left_of (context_of w.context) (map atom_of w.assumed.now) ch.name.number p f) (sym place)
-                ∙ ap (λ (y : VarId). left_of (context_of w.context) (map atom_of w.assumed.now) y.number s f) a.name,
+            subst (λ (y : VarId). IsNoLarger (result_at (context_of w.context) (normal_atom (context_of w.context)) y.number s f) (tree nodes k.formula)) a.name
+                (subst (λ (p : Place). IsNoLarger (result_at (context_of w.context) (normal_atom (context_of w.context)) ch.name.number p f) (tree nodes k.formula)) (sym place) h.0.no_larger),
             each_left points rest ks h.1 i.1,
           )
 
       -- what comes of the branch there is alone
-      pub left_alone : (points : List TestPoint) (rest : List VarId) → IsLeftAlone (context_of w.context) (map atom_of w.assumed.now) x.number s f nodes (map (branch_at points rest) kids)
+      pub left_alone : (points : List TestPoint) (rest : List VarId) → IsLeftAlone (context_of w.context) x.number s f nodes (map (branch_at points rest) kids)
       left_alone points rest = record {
         few = let many = length-map kids (branch_at points rest) in let one = one_point in let few = are.few in omega arith;
-        left = each_left points rest kids are.each are.are.each;
+        no_larger = each_left points rest kids are.each are.are.each;
       }
 
 -- ---- over a round
@@ -162,8 +164,8 @@ module _ (w : Work) (f : Tree) (names : List VarId) (x : VarId) (s : Place) (lef
 pub direct_over : (c : Context) (x : VarId) (s : Place) (names : List VarId) (f g : Tree) (m n : ℕ) → f ≡ g → m ≡ n → IsDirectAt c m f names x s → IsDirectAt c n g names x s
 direct_over c x s names f g m n e i h = subst (λ k. IsDirectAt c k g names x s) i (subst (λ t. IsDirectAt c m t names x s) e h)
 
-pub alone_over : (c : Context) (ks : List Atom) (x : VarId) (s : Place) (f g : Tree) → f ≡ g → (nodes : List (Shape FormulaId)) (bs : List Seen) → IsLeftAlone c ks x.number s g nodes bs → IsLeftAlone c ks x.number s f nodes bs
-alone_over c ks x s f g e nodes bs h = subst (λ t. IsLeftAlone c ks x.number s t nodes bs) (sym e) h
+pub alone_over : (c : Context) (x : VarId) (s : Place) (f g : Tree) → f ≡ g → (nodes : List (Shape FormulaId)) (bs : List Seen) → IsLeftAlone c x.number s g nodes bs → IsLeftAlone c x.number s f nodes bs
+alone_over c x s f g e nodes bs h = subst (λ t. IsLeftAlone c x.number s t nodes bs) (sym e) h
 
 -- where the branch is the one there was at first, what holds of that one holds of it as the store grows
 module _ (w : Work) (first old : List (Shape FormulaId)) (k : Keeps (IsId first) (tree first) (IsId old) (tree old)) (b d : Seen) (same : b ≡ d) (is : IsId first d.formula) (x : VarId) (s : Place) where
@@ -175,9 +177,9 @@ module _ (w : Work) (first old : List (Shape FormulaId)) (k : Keeps (IsId first)
       subst (λ (l : List VarId). IsDirectAt (context_of w.context) n (tree old b.formula) l x s) (ap (λ (q : Seen). q.left) (sym same))
       (direct_over (context_of w.context) x s d.left (tree first d.formula) (tree old b.formula) m n formula_same e h)
 
-  pub alone_here : (new : List (Shape FormulaId)) (bs : List Seen) → IsLeftAlone (context_of w.context) (map atom_of w.assumed.now) x.number s (tree old b.formula) new bs →
-      IsLeftAlone (context_of w.context) (map atom_of w.assumed.now) x.number s (tree first d.formula) new bs
-  alone_here new bs h = alone_over (context_of w.context) (map atom_of w.assumed.now) x s (tree first d.formula) (tree old b.formula) formula_same new bs h
+  pub alone_here : (new : List (Shape FormulaId)) (bs : List Seen) → IsLeftAlone (context_of w.context) x.number s (tree old b.formula) new bs →
+      IsLeftAlone (context_of w.context) x.number s (tree first d.formula) new bs
+  alone_here new bs h = alone_over (context_of w.context) x s (tree first d.formula) (tree old b.formula) formula_same new bs h
 
 -- one branch at most, put last where there is none, is all
 pub spread_alone : (new bs : List Seen) → length bs ≤ 1 → IsSpreadOver [] bs new → new ≡ bs

@@ -37,8 +37,10 @@ use Rattle.formula_store.proofs.Marked.{all_at}
 use Rattle.branch_points.specs.declared.choice.Chosen.{Chosen}
 use Rattle.branch_rounds.specs.declared.work.Work.{Work}
 use Rattle.branch_rounds.specs.Children.{HasPoints, IsChildOf, IsAdded, result_seen}
-use Rattle.simplified_formulas.specs.Trees.{simplified_under}
-use Rattle.branch_rounds.specs.Worked.{guarded, IsLeft, IsWorkedTo, IsSimplifiedTo, left_of}
+use Rattle.simplified_texts.specs.Texts.{IsNoLarger}
+use Rattle.branch_pruning.specs.Pruned.{IsPrunedTo}
+use Rattle.branch_rounds.specs.Worked.{guarded, IsLeft, IsWorkedTo}
+use Rattle.branch_rounds.proofs.Left.{worked_to}
 
 -- ---- lists
 
@@ -74,17 +76,17 @@ module _ (c : Context) (ks : List Atom) (name : VarId) (f : Tree) (tidy : IsTidy
   put_tidy s t p e = subst (λ g. IsTidy c (guarded c s g)) (sym e) (subst (IsTidy c) (sym (guarded_result c name.number s f p)) (result_tidy c name.number s f p tidy))
 
   module _ (old new : List (Shape FormulaId)) (k : Keeps (IsId old) (tree old) (IsId new) (tree new)) where
-    pub each_kept : (children : List Child) → EachOf (IsChildOf c ks f old name) children → EachOf (IsChildOf c ks f new name) children
+    pub each_kept : (children : List Child) → EachOf (IsChildOf c f old name) children → EachOf (IsChildOf c f new name) children
     each_kept [] h = tt
-    each_kept (a ∷ children) h = (record { is = k.is a.formula h.0.is; point = h.0.point; left = k.same a.formula h.0.is ∙ h.0.left }, each_kept children h.1)
+    each_kept (a ∷ children) h = (record { is = k.is a.formula h.0.is; point = h.0.point; no_larger = subst (IsNoLarger (result_at c (normal_atom c) name.number (place_of a.point) f)) (sym (k.same a.formula h.0.is)) h.0.no_larger }, each_kept children h.1)
 
-    seen_kept : (children : List Child) → EachOf (IsChildOf c ks f old name) children → map (result_seen new) children ≡ map (result_seen old) children
+    seen_kept : (children : List Child) → EachOf (IsChildOf c f old name) children → map (result_seen new) children ≡ map (result_seen old) children
     seen_kept [] h = refl
     seen_kept (a ∷ children) h = λ i. record { place = place_of a.point; tree = k.same a.formula h.0.is i } ∷ seen_kept children h.1 i
 
     module _ (before : List Place) (s : Place) (t : Tree) (place : IsPlaceIn c s) (point : IsPointFor c name.number f s) (is_put : t ≡ put c name.number s f) where
       -- nothing at this point
-      pub none_more : (children : List Child) → EachOf (IsChildOf c ks f old name) children → AreChildren c ks name.number f before (map (result_seen old) children) → IsNeverUnder c ks (guarded c s t) →
+      pub none_more : (children : List Child) → EachOf (IsChildOf c f old name) children → AreChildren c ks name.number f before (map (result_seen old) children) → IsNeverUnder c ks (guarded c s t) →
           AreChildren c ks name.number f (before ++ s ∷ []) (map (result_seen new) children)
       none_more children e a n =
           let is : guarded c s t ≡ result_at c (normal_atom c) name.number s f = ap (guarded c s) is_put ∙ guarded_result c name.number s f place in
@@ -93,9 +95,11 @@ module _ (c : Context) (ks : List Atom) (name : VarId) (f : Tree) (tidy : IsTidy
           subst (λ rs. AreChildren c ks name.number f (before ++ s ∷ []) rs) (append-nil (map (result_seen old) children) ∙ sym (seen_kept children e))
           (made.joined before (s ∷ []) (map (result_seen old) children) [] a here)
 
-      -- what is left here
-      pub left_here : (a : Child) → place_of a.point ≡ s → IsSimplifiedTo c ks (guarded c s t) new a.formula → tree new a.formula ≡ left_of c ks name.number (place_of a.point) f
-      left_here a e w = w.simplified ∙ ap (λ g. simplified_under c ks (guarded c s g)) is_put ∙ ap (simplified_under c ks) (guarded_result c name.number s f place) ∙ ap (λ q. left_of c ks name.number q f) (sym e)
+      -- what is left here is no larger than the result
+      pub left_here : (a : Child) → place_of a.point ≡ s → IsPrunedTo c ks (guarded c s t) new a.formula → IsNoLarger (result_at c (normal_atom c) name.number (place_of a.point) f) (tree new a.formula)
+      left_here a e w =
+          let is : guarded c s t ≡ result_at c (normal_atom c) name.number s f = ap (guarded c s) is_put ∙ guarded_result c name.number s f place in
+          subst (λ (q : Place). IsNoLarger (result_at c (normal_atom c) name.number q f) (tree new a.formula)) (sym e) (subst (λ g. IsNoLarger g (tree new a.formula)) is w.no_larger)
 
       -- one child at this point
       only_here : (a : Child) → place_of a.point ≡ s → IsWorkedTo c ks (guarded c s t) new a.formula → AreChildren c ks name.number f (s ∷ []) (result_seen new a ∷ [])
@@ -105,7 +109,7 @@ module _ (c : Context) (ks : List Atom) (name : VarId) (f : Tree) (tidy : IsTidy
           subst (λ (q : Place). AreChildren c ks name.number f (s ∷ []) (record { place = q; tree = tree new a.formula } ∷ [])) (sym e)
           (made.one_child s (tree new a.formula) [] [] tidy point (subst (λ g. IsWorked c ks g (tree new a.formula)) is w.worked) made.no_point)
 
-      pub child_more : (children : List Child) → EachOf (IsChildOf c ks f old name) children → AreChildren c ks name.number f before (map (result_seen old) children) →
+      pub child_more : (children : List Child) → EachOf (IsChildOf c f old name) children → AreChildren c ks name.number f before (map (result_seen old) children) →
           (a : Child) → place_of a.point ≡ s → IsWorkedTo c ks (guarded c s t) new a.formula → AreChildren c ks name.number f (before ++ s ∷ []) (map (result_seen new) (children ++ a ∷ []))
       child_more children e h a p w =
           subst (λ rs. AreChildren c ks name.number f (before ++ s ∷ []) rs)
@@ -164,16 +168,16 @@ module _ (w : Work) (f : Tree) (tidy : IsTidy (context_of w.context) f) (name : 
     (at : IsAtPoint (context_of w.context) name f old id t) where
   -- with what is left at the point they are the children at one point more
   pub record AreMore (before : List Place) (some children : List Child) : Type 0 where
-    pub each : EachOf (IsChildOf (context_of w.context) (map atom_of w.assumed.now) f new name) children
+    pub each : EachOf (IsChildOf (context_of w.context) f new name) children
     pub few : length children ≤ length some + 1
     pub are : AreChildren (context_of w.context) (map atom_of w.assumed.now) name.number f (before ++ place_of t ∷ []) (map (result_seen new) children)
 
-  left_at : (before : List Place) (child : Child) → child.point ≡ t → IsSimplifiedTo (context_of w.context) (map atom_of w.assumed.now) (guarded (context_of w.context) (place_of t) (tree old id)) new child.formula →
-      tree new child.formula ≡ left_of (context_of w.context) (map atom_of w.assumed.now) name.number (place_of child.point) f
+  left_at : (before : List Place) (child : Child) → child.point ≡ t → IsPrunedTo (context_of w.context) (map atom_of w.assumed.now) (guarded (context_of w.context) (place_of t) (tree old id)) new child.formula →
+      IsNoLarger (result_at (context_of w.context) (normal_atom (context_of w.context)) name.number (place_of child.point) f) (tree new child.formula)
   left_at before child p left =
       left_here (context_of w.context) (map atom_of w.assumed.now) name f tidy old new k before (place_of t) (tree old id) at.place at.suits at.formula child (ap place_of p) left
 
-  more_of : (before : List Place) (children more : List Child) → EachOf (IsChildOf (context_of w.context) (map atom_of w.assumed.now) f old name) children → AreChildren (context_of w.context) (map atom_of w.assumed.now) name.number f before (map (result_seen old) children) →
+  more_of : (before : List Place) (children more : List Child) → EachOf (IsChildOf (context_of w.context) f old name) children → AreChildren (context_of w.context) (map atom_of w.assumed.now) name.number f before (map (result_seen old) children) →
       (o : Option Child) → IsLeft (context_of w.context) (map atom_of w.assumed.now) (guarded (context_of w.context) (place_of t) (tree old id)) new (option_map (λ (a : Child). a.formula) o) → IfSome o (λ (a : Child). a.point ≡ t) →
       more ≡ children ++ option_to_list o → AreMore before children more
   more_of before children more e a None left p is =
@@ -185,19 +189,19 @@ module _ (w : Work) (f : Tree) (tidy : IsTidy (context_of w.context) f) (name : 
       })
   more_of before children more e a (Some child) left p is =
       subst (AreMore before children) (sym is) (record {
-        each = each_append (IsChildOf (context_of w.context) (map atom_of w.assumed.now) f new name) children (child ∷ []) (each_kept (context_of w.context) (map atom_of w.assumed.now) name f tidy old new k children e)
-            (record { is = left.to.is; point = subst (IsPointOf name) (sym p) at.point; left = left_at before child p left }, tt);
+        each = each_append (IsChildOf (context_of w.context) f new name) children (child ∷ []) (each_kept (context_of w.context) (map atom_of w.assumed.now) name f tidy old new k children e)
+            (record { is = left.is; point = subst (IsPointOf name) (sym p) at.point; no_larger = left_at before child p left }, tt);
         few = omega (arith, length-append children (child ∷ []));
-        are = child_more (context_of w.context) (map atom_of w.assumed.now) name f tidy old new k before (place_of t) (tree old id) at.place at.suits at.formula children e a child (ap place_of p) left.to;
+        are = child_more (context_of w.context) (map atom_of w.assumed.now) name f tidy old new k before (place_of t) (tree old id) at.place at.suits at.formula children e a child (ap place_of p) (worked_to left);
       })
 
-  pub added_more : (before : List Place) (children more : List Child) (b : Bool) → EachOf (IsChildOf (context_of w.context) (map atom_of w.assumed.now) f old name) children →
+  pub added_more : (before : List Place) (children more : List Child) (b : Bool) → EachOf (IsChildOf (context_of w.context) f old name) children →
       AreChildren (context_of w.context) (map atom_of w.assumed.now) name.number f before (map (result_seen old) children) → IsAdded w (tree old id) t new children more b → AreMore before children more
   added_more before children more b e a h = more_of before children more e a h.added h.left h.point h.is
 
   -- where it is true it is enough, alone
   pub record IsEnough (points : List Place) (child : Child) : Type 0 where
-    pub is : IsChildOf (context_of w.context) (map atom_of w.assumed.now) f new name child
+    pub is : IsChildOf (context_of w.context) f new name child
     pub are : AreChildren (context_of w.context) (map atom_of w.assumed.now) name.number f points (result_seen new child ∷ [])
 
   enough_of : (points : List Place) → Among points (place_of t) → (children more front : List Child) (last : Child) →
@@ -207,8 +211,8 @@ module _ (w : Work) (f : Tree) (tidy : IsTidy (context_of w.context) f) (name : 
   enough_of points m children more front last (Some child) left p is y e =
       let same : child ≡ last = (same_from_push children front child last (sym is ∙ e)).1 in
       subst (IsEnough points) same (record {
-        is = record { is = left.to.is; point = subst (IsPointOf name) (sym p) at.point; left = left_at [] child p left };
-        are = true_alone (context_of w.context) (map atom_of w.assumed.now) name f tidy old new k [] (place_of t) (tree old id) at.place at.suits at.formula points m child (ap place_of p) left.to y;
+        is = record { is = left.is; point = subst (IsPointOf name) (sym p) at.point; no_larger = left_at [] child p left };
+        are = true_alone (context_of w.context) (map atom_of w.assumed.now) name f tidy old new k [] (place_of t) (tree old id) at.place at.suits at.formula points m child (ap place_of p) (worked_to left) y;
       })
 
   pub added_enough : (points : List Place) → Among points (place_of t) → (children more front : List Child) (last : Child) (b : Bool) → IsAdded w (tree old id) t new children more b → IsTrue b → more ≡ front ++ last ∷ [] → IsEnough points last

@@ -37,13 +37,13 @@ module _ (nodes : List (Shape FormulaId)) (x : VarId) (ps : List TestPoint) (lef
       ap (map answer_of) (reverse-append ps (t ∷ [])) ∙ ap (λ cs. answer_of t ∷ cs) e ∙ ap (λ (y : VarId). record { name = y.number; place = place_of t } ∷ bs) h.name
 
   -- they stand for the children of what the branch stands for
-  pub all_children : (c : Context) (ks : List Atom) (f : Tree) (p : Pending) → map answer_of (reverse ps) ≡ answers_of p.steps → (kids : List Child) → EachOf (IsChildOf c ks f nodes x) kids →
+  pub all_children : (c : Context) (ks : List Atom) (f : Tree) (p : Pending) → map answer_of (reverse ps) ≡ answers_of p.steps → (kids : List Child) → EachOf (IsChildOf c f nodes x) kids →
       AllStand nodes (map (branch_at ps left) kids) (children x.number p (numbers left) (map (result_seen nodes) kids))
   all_children c ks f p e [] h = tt
   all_children c ks f p e (k ∷ kids) h = (record { formula = refl; answers = last_first k.point h.0.point (answers_of p.steps) e; left = refl }, all_children c ks f p e kids h.1)
 
   -- they can be worked on
-  pub all_open : (w : Work) (ks : List Atom) (f : Tree) (points : List Place) → EachOf IsTestPoint ps → StandsOnce (numbers left) → (kids : List Child) → EachOf (IsChildOf (context_of w.context) ks f nodes x) kids →
+  pub all_open : (w : Work) (ks : List Atom) (f : Tree) (points : List Place) → EachOf IsTestPoint ps → StandsOnce (numbers left) → (kids : List Child) → EachOf (IsChildOf (context_of w.context) f nodes x) kids →
       EachOf (IsChild (context_of w.context) ks x.number f points) (map (result_seen nodes) kids) → EachOf (IsOpen w nodes) (map (branch_at ps left) kids)
   all_open w ks f points a o [] h c = tt
   all_open w ks f points a o (k ∷ kids) h c =

@@ -1,3 +1,5 @@
+mod Thinned
+mod Never
 pub mod Standing
 pub mod Going
 pub mod Names

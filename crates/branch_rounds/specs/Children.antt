@@ -1,14 +1,15 @@
 -- The children of a branch at the points of a name.
 use Rattle.std.specs.Prelude.{◌≡◌, ◌≤◌, ◌++◌, Bool, List, All, Option, IfSome, IsSomeAnd, IsTrue, length, map, option_map, option_to_list}
 use Rattle.formula_meaning.specs.Context as meaning
-use Rattle.formula_meaning.specs.Atom.{Atom}
 use Rattle.formula_meaning.specs.Formula.{Yes}
 use Rattle.formula_meaning.specs.Some.{EachOf}
 use Rattle.formula_meaning.specs.Tree.{Tree}
 use Rattle.elimination_theory.specs.BothTheories.{IsPlaceIn}
-use Rattle.elimination_theory.specs.Steps.{Result}
+use Rattle.elimination_theory.specs.Steps.{Result, result_at}
 use Rattle.atom_normal.specs.declared.atoms.Context.{Context}
 use Rattle.atom_normal.specs.Atoms.{context_of, atom_of}
+use Rattle.atom_normal.specs.NormalForm.{normal_atom}
+use Rattle.simplified_texts.specs.Texts.{IsNoLarger}
 use Rattle.linear_forms.specs.declared.form.VarId.{VarId}
 use Rattle.formula_tree.specs.declared.shape.Shape.{Shape}
 use Rattle.formula_store.specs.declared.id.FormulaId.{FormulaId}
@@ -20,7 +21,7 @@ use Rattle.branch_points.specs.declared.choice.Chosen.{Chosen}
 use Rattle.branch_rounds.specs.declared.work.Work.{Work}
 use Rattle.test_points.specs.declared.points.TestPoint.{TestPoint}
 use Rattle.branch_rounds.specs.declared.children.Child.{Child}
-use Rattle.branch_rounds.specs.Worked.{IsLeft, guarded, left_of}
+use Rattle.branch_rounds.specs.Worked.{IsLeft, guarded}
 
 -- the points are those of one name, at places of the theory, and enough for it in the formula
 pub record HasPoints (c : Context) (f : Tree) (ch : Chosen) : Type 0 where
@@ -32,15 +33,15 @@ pub record HasPoints (c : Context) (f : Tree) (ch : Chosen) : Type 0 where
 abbrev pub result_seen : List (Shape FormulaId) → Child → Result
 result_seen nodes k = record { place = place_of k.point; tree = tree nodes k.formula }
 
--- its point is one of the name, and its formula one of the nodes: what is left of f there
-pub record IsChildOf (c : meaning.Context) (ks : List Atom) (f : Tree) (nodes : List (Shape FormulaId)) (x : VarId) (k : Child) : Type 0 where
+-- its point is one of the name, and its formula one of the nodes, no larger than f with the name at the point
+pub record IsChildOf (c : meaning.Context) (f : Tree) (nodes : List (Shape FormulaId)) (x : VarId) (k : Child) : Type 0 where
   pub is : IsId nodes k.formula
   pub point : IsPointOf x k.point
-  pub left : tree nodes k.formula ≡ left_of c ks x.number (place_of k.point) f
+  pub no_larger : IsNoLarger (result_at c (normal_atom c) x.number (place_of k.point) f) (tree nodes k.formula)
 
 -- together they are the children of the formula at the chosen points, under the assumptions, and no more than these
 pub record AreChildrenOf (w : Work) (f : Tree) (ch : Chosen) (nodes : List (Shape FormulaId)) (children : List Child) : Type 0 where
-  pub each : EachOf (IsChildOf (context_of w.context) (map atom_of w.assumed.now) f nodes ch.name) children
+  pub each : EachOf (IsChildOf (context_of w.context) f nodes ch.name) children
   pub few : length children ≤ length ch.points.items
   pub are : AreChildren (context_of w.context) (map atom_of w.assumed.now) ch.name.number f (map place_of ch.points.items) (map (result_seen nodes) children)
 

@@ -2,4 +2,5 @@ pub mod Worked
 pub mod Children
 pub mod Branches
 pub mod Rounds
+pub mod Thinned
 pub mod Cases

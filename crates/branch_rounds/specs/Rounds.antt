@@ -3,14 +3,15 @@ use Rattle.std.specs.Prelude.{◌≡◌, ◌⊎◌, ◌+◌, ◌≤◌, true, fa
 use Rattle.formula_meaning.specs.Formula.{Yes}
 use Rattle.formula_meaning.specs.Some.{Among, SomeOf, EachOf}
 use Rattle.formula_meaning.specs.Context as meaning
-use Rattle.formula_meaning.specs.Atom.{Atom}
 use Rattle.formula_meaning.specs.Form.{Form}
 use Rattle.formula_meaning.specs.Sizes.{nodes}
 use Rattle.formula_meaning.specs.Tree.{Tree}
 use Rattle.formula_meaning.specs.Answer.{Place}
-use Rattle.elimination_theory.specs.Steps.{Result}
+use Rattle.elimination_theory.specs.Steps.{Result, result_at}
 use Rattle.atom_normal.specs.declared.atoms.Context.{Context}
 use Rattle.atom_normal.specs.Atoms.{context_of, atom_of}
+use Rattle.atom_normal.specs.NormalForm.{normal_atom}
+use Rattle.simplified_texts.specs.Texts.{IsNoLarger}
 use Rattle.nnf_substitution.specs.Placed.{all_within}
 use Rattle.test_points.specs.declared.points.TestPoint.{TestPoint}
 use Rattle.test_points.specs.Points.{place_of}
@@ -25,7 +26,6 @@ use Rattle.case_theory.specs.Points.{ArePointsFor, IsRoot}
 use Rattle.case_theory.specs.Direct.{first_equation}
 use Rattle.case_theory.specs.Children.{AreChildren}
 use Rattle.branch_rounds.specs.declared.work.Work.{Work}
-use Rattle.branch_rounds.specs.Worked.{left_of}
 use Rattle.branch_rounds.specs.Branches.{Seen, IsOpen, AllStand, StandsFor, ArePendingOf, Takes, numbers}
 
 -- the branches have one name less
@@ -80,7 +80,7 @@ pub record IsDirectAt (c : meaning.Context) (left : ℕ) (f : Tree) (names : Lis
   pub within : all_within c x.number s f ≡ true
   pub paid : nodes f + 2 ≤ left
 
--- there is no more than one branch, and it is what is left of f with x at the place
-pub record IsLeftAlone (c : meaning.Context) (ks : List Atom) (x : ℕ) (s : Place) (f : Tree) (nodes : List (Shape FormulaId)) (bs : List Seen) : Type 0 where
+-- there is no more than one branch, and it is no larger than f with x at the place
+pub record IsLeftAlone (c : meaning.Context) (x : ℕ) (s : Place) (f : Tree) (nodes : List (Shape FormulaId)) (bs : List Seen) : Type 0 where
   pub few : length bs ≤ 1
-  pub left : EachOf (λ (b : Seen). tree nodes b.formula ≡ left_of c ks x s f) bs
+  pub no_larger : EachOf (λ (b : Seen). IsNoLarger (result_at c (normal_atom c) x s f) (tree nodes b.formula)) bs

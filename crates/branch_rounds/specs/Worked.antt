@@ -1,20 +1,19 @@
 -- What is left of a formula under the assumptions.
-use Rattle.std.specs.Prelude.{◌≡◌, ◌≤◌, ℕ, List, map, Option, Some, None}
+use Rattle.std.specs.Prelude.{◌≤◌, List, map, Option, Some, None}
 use Rattle.std.specs.List.{AllByRecursion}
 use Rattle.formula_meaning.specs.Context.{Context, Fields, Integers}
 use Rattle.formula_meaning.specs.Answer.{Place}
 use Rattle.formula_meaning.specs.Atom.{Atom}
 use Rattle.formula_meaning.specs.Some.{EachOf}
 use Rattle.formula_meaning.specs.Tree.{Tree}
-use Rattle.elimination_theory.specs.Steps.{result_at}
 use Rattle.atom_normal.specs.Atoms.{context_of, atom_of, IsWellFormed}
-use Rattle.atom_normal.specs.NormalForm.{IsNormal, normal_atom}
-use Rattle.simplified_formulas.specs.Trees.{simplified_under}
+use Rattle.atom_normal.specs.NormalForm.{IsNormal}
 use Rattle.formula_tree.specs.declared.shape.Shape.{Shape}
 use Rattle.formula_store.specs.declared.id.FormulaId.{FormulaId}
 use Rattle.formula_store.specs.Nodes.{tree, IsId}
 use Rattle.nnf_substitution.specs.Placed.{with_guard}
 use Rattle.case_theory.specs.Worked.{IsWorked, IsNeverUnder}
+use Rattle.branch_pruning.specs.Pruned.{IsPrunedTo}
 use Rattle.branch_rounds.specs.declared.work.Work.{Work}
 
 -- the assumptions are normal atoms, and there is a thread to work
@@ -33,16 +32,7 @@ pub record IsWorkedTo (c : Context) (ks : List Atom) (f : Tree) (nodes : List (S
   pub is : IsId nodes id
   pub worked : IsWorked c ks f (tree nodes id)
 
--- and it is f simplified under them
-pub record IsSimplifiedTo (c : Context) (ks : List Atom) (f : Tree) (nodes : List (Shape FormulaId)) (id : FormulaId) : Type 0 where
-  pub to : IsWorkedTo c ks f nodes id
-  pub simplified : tree nodes id ≡ simplified_under c ks f
-
--- what is left of f under the atoms: nothing only where it is never true
+-- what is left of f under the atoms: nothing only where it is never true, else f pruned under them
 abbrev pub IsLeft : Context → List Atom → Tree → List (Shape FormulaId) → Option FormulaId → Type 0
 IsLeft c ks f nodes None = IsNeverUnder c ks f
-IsLeft c ks f nodes (Some id) = IsSimplifiedTo c ks f nodes id
-
--- f with x at the place, joined with the guard of the place and simplified under the atoms
-abbrev pub left_of : Context → List Atom → ℕ → Place → Tree → Tree
-left_of c ks x s f = simplified_under c ks (result_at c (normal_atom c) x s f)
+IsLeft c ks f nodes (Some id) = IsPrunedTo c ks f nodes id

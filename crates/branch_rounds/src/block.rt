@@ -19,6 +19,7 @@ use crate::budget::Budget;
 use crate::error::RoundError;
 use crate::rounds::all_of;
 use crate::work::Work;
+use branch_pruning::is_impossible;
 use formula_store::{FormulaId, Store};
 use linear_forms::VarId;
 use qe_parallel::Gate;
@@ -27,13 +28,14 @@ use std::thread::Threads;
 
 /// The branches of a block of `ex` over the matrix, with no name left (Loos and Weispfenning 1993, Cooper 1972): where the
 /// assumptions are true, the block is true exactly where some branch is, and each branch exactly where its points make the matrix
-/// true. In each round every branch loses a name: one that stands nowhere at 0, else one at the root of the first conjoined equation
-/// that has a name left, else the name and side with the fewest points.
+/// true; none where the matrix is seen to be true nowhere. In each round every branch loses a name: one that stands nowhere at 0, else
+/// one at the root of the first conjoined equation that has a name left, else the name and side with the fewest points. A branch that
+/// implies another goes at the end.
 ///
 /// What the steps cost is taken off the budget before anything is put in; `Nodes` comes where it does not suffice, `Overflow` only
 /// where a number passes 2^127 - 1, else `Memory`. Of a block of one name `Overflow` comes only where its points have to be counted,
 /// or where a number that is formed for an atom at the root of an equation or at 0 passes. Where one point is enough for it and is
-/// paid (`IsDirectAt`), there is at most one branch, which is what is left at that point, and the only error is `Memory`.
+/// paid (`IsDirectAt`), there is at most one branch, no larger than the matrix at that point, and the only error is `Memory`.
 ///
 /// The points of the first step, and of each that is large enough, are put in by as many threads as `Work` has. The formulas of the
 /// store stay.
@@ -54,9 +56,19 @@ pub fn block_branches<R: Threads + Sync, G: Gate + Sync>(
     ensures branches { IfOk result (λ v. AreBranchesOf work.now (tree store.old matrix) (numbers block.now) store.new v.items) }
     ensures one_name { (x : VarId) → block.now ≡ x ∷ [] → IfErr result (λ e. e ≡ RoundError.Overflow → PassesAt work.now.context (tree store.old matrix) block.now) }
     ensures direct { (x : VarId) (s : Place) → IsDirectAt (context_of work.now.context) budget.old.nodes (tree store.old matrix) block.now x s →
-        MatchResult result (λ v. IsLeftAlone (context_of work.now.context) (map atom_of work.now.assumed.now) x.number s (tree store.old matrix) store.new v.items) (λ e. e ≡ RoundError.Memory) }
+        MatchResult result (λ v. IsLeftAlone (context_of work.now.context) x.number s (tree store.old matrix) store.new v.items) (λ e. e ≡ RoundError.Memory) }
     ensures kept { Keeps (IsId store.old) (tree store.old) (IsId store.new) (tree store.new) }
 {
+    if is_impossible(
+        work.alloc,
+        store,
+        work.context,
+        work.assumed,
+        matrix,
+        &mut budget.effort,
+    )? {
+        return Ok(Vec::new(work.alloc));
+    }
     let mut branches = begun(work.alloc, matrix, block)?;
     for _name in block {
         branches = match work.round(rt, budget, store, branches, gate) {
@@ -64,7 +76,7 @@ pub fn block_branches<R: Threads + Sync, G: Gate + Sync>(
             Err(error) => return Err(error),
         };
     }
-    Ok(branches)
+    Ok(work.thinned(store, branches, &mut budget.effort)?)
 }
 
 // The matrix as the only branch, with every name of the block left.

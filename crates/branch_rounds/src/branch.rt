@@ -1,9 +1,10 @@
 //! A branch of a block.
 
-ghost use Rattle.std.specs.Prelude.{◌≡◌, reverse};
+ghost use Rattle.std.specs.Prelude.{◌≡◌, IfOk, map, reverse};
 
 use formula_store::FormulaId;
 use linear_forms::VarId;
+use std::alloc::{AllocError, Global};
 use std::marker::Model;
 use test_points::TestPoint;
 
@@ -65,4 +66,14 @@ impl Branch {
         points.reverse();
         points
     }
+}
+
+/// What is left of the branches, in their order. Its only error is want of memory.
+pub fn formulas_of(alloc: Global, branches: &[Branch]) -> Result<Vec<FormulaId>, AllocError>
+    ensures { IfOk result (λ v. v.items ≡ map (λ b. b.formula) branches.now) }
+{
+    branches
+        .iter()
+        .map(|branch| branch.formula())
+        .collect(alloc)
 }

@@ -9,12 +9,16 @@ use crate::error::RoundError;
 /// microseconds, and a node at a point 100 to 200 nanoseconds.
 const SHARED_FROM: u64 = 2_000;
 
-/// The nodes that may still be made, and the step that comes next. A step at so many points costs as many times the nodes of its
+/// What the search for certificates may do in one elimination, in entries of its tables that are changed: some ten seconds.
+const SEARCH_EFFORT: u64 = 1_000_000_000;
+
+/// The nodes that may still be made, the step that comes next, and what the search for certificates may still do. A step at so many points costs as many times the nodes of its
 /// branch and two more, before the first is put in.
 #[derive(Clone, Copy, Debug, PartialEq, Eq)]
 pub struct Budget {
     pub nodes: u128,
     next: Next,
+    pub(crate) effort: u64,
 }
 
 // Which step of the elimination comes next.
@@ -33,7 +37,13 @@ impl Budget {
         Budget {
             nodes: 2 * limit as u128 + 8,
             next: Next::First,
+            effort: SEARCH_EFFORT,
         }
+    }
+
+    /// What the search for certificates may still do, in entries of its tables that are changed.
+    pub fn effort(&mut self) -> &mut u64 {
+        &mut self.effort
     }
 
     /// At how many points a branch of so many nodes can be worked on, at most; 2^64 - 1 stands for more.

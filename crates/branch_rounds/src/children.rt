@@ -33,7 +33,7 @@ pub(crate) struct Child {
 }
 
 impl Work<'_> {
-    /// What is left of the branch at the chosen points, put in by at most so many threads and each simplified under the assumptions,
+    /// What is left of the branch at the chosen points, put in by at most so many threads and each pruned under the assumptions,
     /// without what is `false`; where one of them is `true`, that one alone. `Overflow` comes only where a number that is formed for
     /// an atom at some point passes 2^127 - 1, else `Memory`. The formulas of the store stay.
     pub(crate) fn children<R: Threads + Sync, G: Gate + Sync>(
@@ -43,6 +43,7 @@ impl Work<'_> {
         branch: FormulaId,
         chosen: &Chosen,
         workers: usize,
+        effort: &mut u64,
         gate: &G,
     ) -> Result<Vec<Child>, RoundError>
         requires work { IsWork self.now }
@@ -62,7 +63,7 @@ impl Work<'_> {
         let mut children = Vec::new(self.alloc);
         for place in 0..put.len() {
             let point = &chosen.points[place];
-            if self.add_child(store, &mut children, put[place], point)? {
+            if self.add_child(store, &mut children, put[place], point, effort)? {
                 return Ok(last_alone(self.alloc, children)?);
             }
         }
@@ -113,6 +114,7 @@ impl Work<'_> {
         children: &mut Vec<Child>,
         put: FormulaId,
         point: &TestPoint,
+        effort: &mut u64,
     ) -> Result<bool, AllocError>
         requires work { IsWork self.now }
         requires id { IsId store.old put }
@@ -122,7 +124,7 @@ impl Work<'_> {
         ensures added { IfOk result (IsAdded self.now (tree store.old put) point.now store.new children.old.items children.new.items) }
         ensures kept { Keeps (IsId store.old) (tree store.old) (IsId store.new) (tree store.new) }
     {
-        let Some(formula) = self.left_at(store, put, point)? else {
+        let Some(formula) = self.left_at(store, put, point, effort)? else {
             return Ok(false);
         };
         let point = point.copy(self.alloc)?;

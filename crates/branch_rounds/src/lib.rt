@@ -1,4 +1,4 @@
-//! A block of quantifiers, branch by branch: in each round every branch loses one name, and what is left is simplified under the
+//! A block of quantifiers, branch by branch: in each round every branch loses one name, and what is left is pruned under the
 //! assumptions.
 #![tactic(auto)]
 
@@ -10,11 +10,12 @@ mod error;
 mod laws;
 mod rounds;
 mod spread;
+mod thinning;
 mod work;
 mod worked;
 
 pub use block::block_branches;
-pub use branch::Branch;
+pub use branch::{Branch, formulas_of};
 pub use budget::Budget;
 pub use error::RoundError;
 pub use laws::branches_are_cases;

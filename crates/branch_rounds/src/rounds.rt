@@ -42,7 +42,7 @@ impl Work<'_> {
         ensures round { IfOk result (λ v. IsRound self.now store.old branches.items store.new v.items) }
         ensures overflow { IfErr result (λ e. e ≡ RoundError.Overflow → SomeOf (λ b. PassesAt self.now.context (tree store.old b.formula) b.left) branches.items) }
         ensures direct { (b : Seen) (x : VarId) (s : Place) → branches.items ≡ b ∷ [] → IsDirectAt (context_of self.now.context) budget.old.nodes (tree store.old b.formula) b.left x s →
-            MatchResult result (λ v. IsLeftAlone (context_of self.now.context) (map atom_of self.now.assumed.now) x.number s (tree store.old b.formula) store.new v.items) (λ e. e ≡ RoundError.Memory) }
+            MatchResult result (λ v. IsLeftAlone (context_of self.now.context) x.number s (tree store.old b.formula) store.new v.items) (λ e. e ≡ RoundError.Memory) }
         ensures kept { Keeps (IsId store.old) (tree store.old) (IsId store.new) (tree store.new) }
     {
         let mut spread = Spread::new(self.alloc);
@@ -74,7 +74,7 @@ impl Work<'_> {
         ensures step { IfOk result (λ v. IsStep self.now store.old branch store.new v.items) }
         ensures overflow { IfErr result (λ e. e ≡ RoundError.Overflow → PassesAt self.now.context (tree store.old branch.formula) branch.left) }
         ensures direct { (x : VarId) (s : Place) → IsDirectAt (context_of self.now.context) budget.old.nodes (tree store.old branch.formula) branch.left x s →
-            MatchResult result (λ v. IsLeftAlone (context_of self.now.context) (map atom_of self.now.assumed.now) x.number s (tree store.old branch.formula) store.new v.items) (λ e. e ≡ RoundError.Memory) }
+            MatchResult result (λ v. IsLeftAlone (context_of self.now.context) x.number s (tree store.old branch.formula) store.new v.items) (λ e. e ≡ RoundError.Memory) }
         ensures kept { Keeps (IsId store.old) (tree store.old) (IsId store.new) (tree store.new) }
     {
         let formula = branch.formula();
@@ -96,7 +96,8 @@ impl Work<'_> {
             return Err(error);
         }
         let left = others(self.alloc, branch.left(), choice.name)?;
-        let children = match self.children(rt, store, formula, &choice, workers, gate) {
+        let effort = budget.effort();
+        let children = match self.children(rt, store, formula, &choice, workers, effort, gate) {
             Ok(children) => children,
             Err(error) => return Err(error),
         };

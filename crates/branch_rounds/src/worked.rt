@@ -1,6 +1,6 @@
-//! What is left of a branch at one point, simplified under the assumptions.
+//! What is left of a branch at one point, pruned under the assumptions.
 
-ghost use Rattle.std.specs.Prelude.{◌≡◌, IfOk, MatchOption, map};
+ghost use Rattle.std.specs.Prelude.{◌≡◌, ◌≤◌, IfOk, MatchOption, map};
 ghost use Rattle.formula_meaning.specs.Formula.{No};
 ghost use Rattle.elimination_theory.specs.BothTheories.{IsPlaceIn};
 ghost use Rattle.elimination_reference.specs.Theorems.{IsTidy};
@@ -12,23 +12,24 @@ ghost use Rattle.branch_rounds.specs.Worked.{guarded, IsWork, IsLeft};
 
 use crate::work::Work;
 use atom_normal::Context;
+use branch_pruning::pruned;
 use cooper_periods::guard;
 use formula_meaning::Junction;
 use formula_store::{FormulaId, Store};
 use formula_tree::Shape;
 use std::alloc::{AllocError, Global};
 use test_points::TestPoint;
-use theory_simplifier::{SimplError, simplify};
 use virtual_subst::{fold, normal_made};
 
 impl Work<'_> {
-    /// The formula into which a point was put, over the integers joined with the point's guard (Cooper 1972), and simplified under
-    /// the assumptions; `None` where nothing is left but `false`. Its only error is want of memory. The formulas of the store stay.
+    /// The formula into which a point was put, over the integers joined with the point's guard (Cooper 1972), and pruned under the
+    /// assumptions; `None` where nothing is left but `false`. Its only error is want of memory. The formulas of the store stay.
     pub(crate) fn left_at(
         &self,
         store: &mut Store,
         put: FormulaId,
         point: &TestPoint,
+        effort: &mut u64,
     ) -> Result<Option<FormulaId>, AllocError>
         requires work { IsWork self.now }
         requires id { IsId store.old put }
@@ -39,17 +40,8 @@ impl Work<'_> {
         ensures kept { Keeps (IsId store.old) (tree store.old) (IsId store.new) (tree store.new) }
     {
         let whole = self.with_guard(store, put, point)?;
-        match simplify(
-            self.alloc,
-            store,
-            self.context,
-            whole,
-            self.assumed,
-            u64::MAX,
-        ) {
-            Ok(id) => Ok(unless_false(store, id)),
-            Err(SimplError::Nodes | SimplError::Memory) => Err(AllocError),
-        }
+        let left = pruned(self.alloc, store, self.context, self.assumed, whole, effort)?;
+        Ok(unless_false(store, left))
     }
 
     // Over the integers the formula joined with the guard of the point, over the fields itself.

@@ -11,7 +11,8 @@ ghost use Rattle.formula_store.specs.Nodes.{tree, IsId};
 ghost use Rattle.branch_rounds.specs.Worked.{IsWork, IsWorkedTo};
 ghost use Rattle.inner_blocks.specs.Blocks.{IsBlock, ClosesBlock};
 
-use branch_rounds::{Branch, Budget, RoundError, Work, block_branches};
+use branch_pruning::pruned;
+use branch_rounds::{Branch, Budget, RoundError, Work, block_branches, formulas_of};
 use formula_meaning::{Junction, Quantifier};
 use formula_store::{FormulaId, Store};
 use leading_blocks::asked;
@@ -19,7 +20,6 @@ use linear_forms::VarId;
 use qe_parallel::Gate;
 use std::alloc::{AllocError, Global};
 use std::thread::Threads;
-use theory_simplifier::{SimplError, simplify};
 use virtual_subst::fold;
 
 /// A block of one quantifier inside a formula, with what is worked on outside of it and under it: there the assumptions without the
@@ -33,7 +33,7 @@ pub(crate) struct Block<'a> {
 }
 
 impl Block<'_> {
-    /// The block over the formula inside, of which this was made: the disjunction of its branches, simplified under the assumptions.
+    /// The block over the formula inside, of which this was made: the disjunction of its branches, pruned under the assumptions.
     /// A block of `all` is the negation of one of `ex` over the negated formula. What the branches cost is taken off the budget:
     /// `Nodes` comes where it does not suffice, `Overflow` only where a number passes 2^127 - 1, else `Memory`. The formulas of
     /// the store stay.
@@ -60,10 +60,14 @@ impl Block<'_> {
             Err(error) => return Err(error),
         };
         let together = disjunction(alloc, store, &branches)?;
-        let small = match simplified(self.work, store, together) {
-            Ok(small) => small,
-            Err(error) => return Err(error),
-        };
+        let small = pruned(
+            alloc,
+            store,
+            self.work.context,
+            self.work.assumed,
+            together,
+            budget.effort(),
+        )?;
         Ok(asked(alloc, store, self.quantifier, small)?)
     }
 }
@@ -80,29 +84,4 @@ fn disjunction(
 {
     let formulas = formulas_of(alloc, branches)?;
     fold(alloc, store, Junction::Disjunction, &formulas)
-}
-
-// What is left of the branches, in their order.
-fn formulas_of(alloc: Global, branches: &[Branch]) -> Result<Vec<FormulaId>, AllocError>
-    ensures { IfOk result (λ v. v.items ≡ map (λ b. b.formula) branches.now) }
-{
-    branches
-        .iter()
-        .map(|branch| branch.formula())
-        .collect(alloc)
-}
-
-// The formula simplified under the assumptions. Its only error is `Memory`, or `Nodes` where the formula has 2^64 nodes or more.
-fn simplified(work: &Work<'_>, store: &mut Store, id: FormulaId) -> Result<FormulaId, RoundError>
-    requires work { IsWork work.now }
-    requires id { IsId store.old id }
-    requires tidy { IsTidy (context_of work.now.context) (tree store.old id) }
-    ensures worked { IfOk result (IsWorkedTo (context_of work.now.context) (map atom_of work.now.assumed.now) (tree store.old id) store.new) }
-    ensures kept { Keeps (IsId store.old) (tree store.old) (IsId store.new) (tree store.new) }
-{
-    match simplify(work.alloc, store, work.context, id, work.assumed, u64::MAX) {
-        Ok(id) => Ok(id),
-        Err(SimplError::Nodes) => Err(RoundError::Nodes),
-        Err(SimplError::Memory) => Err(RoundError::Memory),
-    }
 }

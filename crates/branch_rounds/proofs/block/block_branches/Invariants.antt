@@ -1,7 +1,7 @@
-use Rattle.std.proofs.Common.{◌≡◌, ◌≤◌, [], ◌∷◌, length, drop, map}
+use Rattle.std.proofs.Common.{◌≡◌, ◌≤◌, [], ◌∷◌, length, drop}
 use Rattle.formula_meaning.specs.Answer.{Place}
 use Rattle.formula_meaning.specs.Some.{EachOf}
-use Rattle.atom_normal.specs.Atoms.{context_of, atom_of}
+use Rattle.atom_normal.specs.Atoms.{context_of}
 use Rattle.linear_forms.specs.declared.form.VarId.{VarId}
 use Rattle.formula_tree.specs.Makers.{Keeps}
 use Rattle.formula_store.specs.Nodes.{tree, IsId}
@@ -18,6 +18,6 @@ invariant-loop-name g l = record {
   first : l._name-index ≡ 0 → l.branches.items ≡ record { formula = l.fn.matrix; points = []; left = l.block } ∷ [];
   budget : l._name-index ≡ 0 → l.fn.budget.nodes ≡ l.budget.nodes;
   alone : (x : VarId) (s : Place) → IsDirectAt (context_of l.fn.work.context) l.fn.budget.nodes (tree l.fn.store l.fn.matrix) l.block x s → 1 ≤ l._name-index →
-      IsLeftAlone (context_of l.fn.work.context) (map atom_of l.fn.work.assumed.now) x.number s (tree l.fn.store l.fn.matrix) l.store l.branches.items;
+      IsLeftAlone (context_of l.fn.work.context) x.number s (tree l.fn.store l.fn.matrix) l.store l.branches.items;
   pending : ArePendingOf l.fn.work (tree l.fn.store l.fn.matrix) (numbers l.block) l.store l.branches.items;
 }

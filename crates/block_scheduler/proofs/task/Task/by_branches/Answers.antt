@@ -13,8 +13,7 @@ use Rattle.formula_store.proofs.Makes.{keeps_then}
 use Rattle.linear_forms.specs.declared.form.VarId.{VarId}
 use Rattle.branch_rounds.specs.declared.work.Work.{Work}
 use Rattle.branch_rounds.specs.Branches.{AreBranchesOf, numbers}
-use Rattle.branch_rounds.specs.Rounds.{IsDirectAt, IsLeftAlone}
-use Rattle.case_theory.specs.CaseTree.{without_all}
+use Rattle.branch_rounds.specs.Rounds.{IsDirectAt}
 use Rattle.case_trees.specs.declared.case_tree.CaseTree.{CaseTree}
 use Rattle.block_scheduler.specs.Listed.{told_case}
 use Rattle.block_scheduler.proofs.DirectTrees.{block_name, block_free, block_few, block_direct, block_tree}
@@ -130,5 +129,5 @@ returns-clause-direct g c x fs s e d =
     let left = c.in-Ok-block_branches.ensures.direct (block_name task f c.requires.normal x fs s e d one block is) s
     (subst (λ n. IsDirectAt (context_of task.context) n (tree two c.in-Ok.matrix) c.deref-3.result.now (block_name task f c.requires.normal x fs s e d one block is) s) (sym paid)
     (subst (λ (names : List VarId). IsDirectAt (context_of task.context) (2 * task.limits.nodes + 8) (tree two c.in-Ok.matrix) names (block_name task f c.requires.normal x fs s e d one block is) s) (sym c.deref-3.ensures.value) at)) in
-    block_tree task f c.requires.normal x fs s e d one block is two c.in-Ok.matrix worked _ nodes c.in-Ok-block_branches.branches.items c.case_tree.result left
+    block_tree task f c.requires.normal x fs s e d one block is two c.in-Ok.matrix worked nodes c.in-Ok-block_branches.branches.items c.case_tree.result left
     (ap (λ (t : CaseTree). map told_case t.cases.items) c.case_tree.ensures ∙ c.in_ok-cases.ensures)

@@ -13,7 +13,7 @@ abbrev pub invariant-loop-place : goal.invariant-loop-place
 invariant-loop-place g l = record {
   kept : Keeps (IsId l.fn.store) (tree l.fn.store) (IsId l.store) (tree l.store);
   since : Keeps (IsId l.initial.store) (tree l.initial.store) (IsId l.store) (tree l.store);
-  each : EachOf (IsChildOf (context_of l.self.context) (map atom_of l.self.assumed.now) (tree l.fn.store l.fn.branch) l.store l.chosen.name) l.children.items;
+  each : EachOf (IsChildOf (context_of l.self.context) (tree l.fn.store l.fn.branch) l.store l.chosen.name) l.children.items;
   few : length l.children.items ≤ l.place;
   are : AreChildren (context_of l.self.context) (map atom_of l.self.assumed.now) l.chosen.name.number (tree l.fn.store l.fn.branch) (map place_of (take l.place l.chosen.points.items)) (map (result_seen l.store) l.children.items);
 }

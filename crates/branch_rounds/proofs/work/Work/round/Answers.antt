@@ -1,4 +1,4 @@
-use Rattle.std.proofs.Common.{rules, ◌≡◌, suc, ◌<◌, List, [], ◌∷◌, ◌++◌, length, map, sym, ap, ◌∙◌, subst, inl, inr, ⊎_elim}
+use Rattle.std.proofs.Common.{rules, ◌≡◌, suc, ◌<◌, List, [], ◌∷◌, ◌++◌, length, sym, ap, ◌∙◌, subst, inl, inr, ⊎_elim}
 use Rattle.std.proofs.lemmas.List.{append-nil}
 use Rattle.std.specs.Prelude.{IsTrue}
 use Rattle.formula_meaning.specs.Some.{EachOf, SomeOf}
@@ -8,7 +8,7 @@ use Rattle.nnf_trees.proofs.Pieces.{empty}
 use Rattle.branch_rounds.specs.Branches.{Seen, IsOpen, ArePendingOf}
 use Rattle.branch_rounds.specs.Rounds.{IsRound, IsSettled, IsSpreadOver, PassesAt, IsLeftAlone}
 use Rattle.branch_rounds.proofs.Alone.{direct_here, alone_here, spread_alone, only_branch, some_branch}
-use Rattle.atom_normal.specs.Atoms.{context_of, atom_of}
+use Rattle.atom_normal.specs.Atoms.{context_of}
 use Rattle.branch_rounds.proofs.Standing.{all_open_kept}
 use Rattle.branch_rounds.proofs.Going.{one_goes, all_spread, only_true}
 use Rattle.branch_rounds.proofs.EachRound.{each_is, spread_each, all_fewer_by}
@@ -49,7 +49,7 @@ loop-branch-preserved g c =
           let all : c.add_all.new.spread ≡ next = spread_alone c.add_all.new.spread next left.few (subst (λ (l : List Seen). IsSpreadOver l next c.add_all.new.spread) y.1 c.in_ok-add_all.ensures) in
           inr (
             one.1,
-            subst (λ (l : List Seen). IsLeftAlone (context_of w.context) (map atom_of w.assumed.now) x.number s (tree c.args.store.now d.formula) new l) (sym all)
+            subst (λ (l : List Seen). IsLeftAlone (context_of w.context) x.number s (tree c.args.store.now d.formula) new l) (sym all)
                 (alone_here w c.args.store.now old so_far.kept b d one.0 is x s new next left),
           ))
           (λ z. some_branch b rest (sym split ∙ z.0))
@@ -159,5 +159,5 @@ returns-clause-direct g c d x s e h =
     let so_far = c.loop-branch.invariant in
     let none_left : length c.loop-branch.branch-iterator.rest.items ≡ 0 = search rules in
     let ended : c.loop-branch.branch-iterator.rest.items ≡ [] = empty c.loop-branch.branch-iterator.rest.items none_left in
-    subst (λ (l : List Seen). IsLeftAlone (context_of w.context) (map atom_of w.assumed.now) x.number s (tree c.args.store.now d.formula) c.loop-branch.store l) (sym c.into_branches.ensures)
+    subst (λ (l : List Seen). IsLeftAlone (context_of w.context) x.number s (tree c.args.store.now d.formula) c.loop-branch.store l) (sym c.into_branches.ensures)
     (⊎_elim (λ y. some_branch d [] (sym y.0 ∙ ended)) (λ z. z.1) (so_far.alone d x s e h))

@@ -1,8 +1,8 @@
-use Rattle.std.proofs.Common.{◌≡◌, ◌⊎◌, ℕ, suc, ◌<◌, List, [], ◌∷◌, ◌++◌, length, map}
+use Rattle.std.proofs.Common.{◌≡◌, ◌⊎◌, ℕ, suc, ◌<◌, List, [], ◌∷◌, ◌++◌, length}
 use Rattle.formula_meaning.specs.Some.{EachOf, SomeOf}
 use Rattle.formula_meaning.specs.Answer.{Place}
 use Rattle.formula_meaning.specs.Tree.{Tree}
-use Rattle.atom_normal.specs.Atoms.{context_of, atom_of}
+use Rattle.atom_normal.specs.Atoms.{context_of}
 use Rattle.linear_forms.specs.declared.form.VarId.{VarId}
 use Rattle.formula_tree.specs.Makers.{Keeps}
 use Rattle.formula_store.specs.Nodes.{tree, IsId}
@@ -25,6 +25,6 @@ invariant-loop-branch g l = record {
   left_many : (n : ℕ) → EachOf (λ (b : Seen). length b.left ≡ suc n) l.fn.branches.items → EachOf (λ (b : Seen). length b.left ≡ suc n) l.branch-iterator.rest.items;
   alone : (b : Seen) (x : VarId) (s : Place) → l.fn.branches.items ≡ b ∷ [] → IsDirectAt (context_of l.self.context) l.fn.budget.nodes (tree l.fn.store b.formula) b.left x s →
       ((l.branch-iterator.rest.items ≡ b ∷ []) × (l.spread ≡ []) × (l.fn.budget.nodes ≡ l.budget.nodes))
-      ⊎ ((l.branch-iterator.rest.items ≡ []) × IsLeftAlone (context_of l.self.context) (map atom_of l.self.assumed.now) x.number s (tree l.fn.store b.formula) l.store l.spread);
+      ⊎ ((l.branch-iterator.rest.items ≡ []) × IsLeftAlone (context_of l.self.context) x.number s (tree l.fn.store b.formula) l.store l.spread);
   pending : (matrix : Tree) (block : List ℕ) → ArePendingOf l.self matrix block l.fn.store l.fn.branches.items → ArePendingOf l.self matrix block l.store (l.spread ++ l.branch-iterator.rest.items);
 }

@@ -113,5 +113,5 @@ returns-clause-direct g c x s d =
     subst (λ (l : List VarId). IsByRule w.context f l c.most-most.result c.in-Ok.choice) c.left.ensures (subst (λ (i : FormulaId). IsByRule w.context (tree old i) c.left.result.now c.most-most.result c.in-Ok.choice) c.formula-formula.ensures c.in-Ok.ensures.rule) in
     let alone = chosen_alone w f b.left x s c.args.budget.now.nodes d c.most-most.result c.in-Ok.choice rule in
     let are : AreChildrenOf w f c.in-Ok.choice new kids = subst (λ (i : FormulaId). AreChildrenOf w (tree old i) c.in-Ok.choice new kids) c.formula-formula.ensures c.in-Ok-children.ensures.children in
-    subst (λ (bs : List Seen). IsLeftAlone o ks x.number s f new bs) (sym c.in_ok-branches_at.ensures)
+    subst (λ (bs : List Seen). IsLeftAlone o x.number s f new bs) (sym c.in_ok-branches_at.ensures)
     (left_alone w f b.left x s c.args.budget.now.nodes d c.in-Ok.choice alone new kids are c.points.result.now c.deref.result.now)

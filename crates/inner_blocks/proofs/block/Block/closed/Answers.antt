@@ -36,8 +36,8 @@ pub returns-in_err-together-clause-kept : goal.returns-in_err-together-clause-ke
 returns-in_err-together-clause-kept g c =
     keeps_then c.args.store.now c.block_branches.new.store c.disjunction.new.store (keeps_then c.args.store.now c.asked.new.store c.block_branches.new.store c.asked.ensures.kept c.block_branches.ensures.kept) c.disjunction.ensures.kept
 
-pub simplified-requires-clause-tidy : goal.simplified-requires-clause-tidy
-simplified-requires-clause-tidy g c =
+pub pruned-requires-clause-tidy : goal.pruned-requires-clause-tidy
+pruned-requires-clause-tidy g c =
     let u = c.args.self.now.under.now in
     let nodes = c.block_branches.new.store in
     let bs = c.in-Ok.branches.items in
@@ -45,22 +45,22 @@ simplified-requires-clause-tidy g c =
     subst (IsTidy (context_of c.args.self.now.work.now.context)) (sym joined)
     (subst (λ (d : code.Context). IsTidy (context_of d) (fold_list Disjunction (members (map (λ (d : Seen). tree nodes d.formula) bs)))) c.requires.block.under.context (together_tidy nodes u bs c.in-Ok.ensures.branches.are_open))
 
-pub returns-in-Err-simplified-clause-kept : goal.returns-in-Err-simplified-clause-kept
-returns-in-Err-simplified-clause-kept g c =
+pub returns-in_err-small-clause-kept : goal.returns-in_err-small-clause-kept
+returns-in_err-small-clause-kept g c =
     let one = keeps_then c.args.store.now c.asked.new.store c.block_branches.new.store c.asked.ensures.kept c.block_branches.ensures.kept in
-    keeps_then c.args.store.now c.disjunction.new.store c.simplified.new.store (keeps_then c.args.store.now c.block_branches.new.store c.disjunction.new.store one c.disjunction.ensures.kept) c.simplified.ensures.kept
+    keeps_then c.args.store.now c.disjunction.new.store c.pruned.new.store (keeps_then c.args.store.now c.block_branches.new.store c.disjunction.new.store one c.disjunction.ensures.kept) c.pruned.ensures.kept
 
 pub returns-in_err-asked-clause-kept : goal.returns-in_err-asked-clause-kept
 returns-in_err-asked-clause-kept g c =
     let one = keeps_then c.args.store.now c.asked.new.store c.block_branches.new.store c.asked.ensures.kept c.block_branches.ensures.kept in
     let two = keeps_then c.args.store.now c.block_branches.new.store c.disjunction.new.store one c.disjunction.ensures.kept in
-    keeps_then c.args.store.now c.simplified.new.store c.asked-2.new.store (keeps_then c.args.store.now c.disjunction.new.store c.simplified.new.store two c.simplified.ensures.kept) c.asked-2.ensures.kept
+    keeps_then c.args.store.now c.pruned.new.store c.asked-2.new.store (keeps_then c.args.store.now c.disjunction.new.store c.pruned.new.store two c.pruned.ensures.kept) c.asked-2.ensures.kept
 
 pub returns-clause-kept : goal.returns-clause-kept
 returns-clause-kept g c =
     let one = keeps_then c.args.store.now c.asked.new.store c.block_branches.new.store c.asked.ensures.kept c.block_branches.ensures.kept in
     let two = keeps_then c.args.store.now c.block_branches.new.store c.disjunction.new.store one c.disjunction.ensures.kept in
-    keeps_then c.args.store.now c.simplified.new.store c.asked-2.new.store (keeps_then c.args.store.now c.disjunction.new.store c.simplified.new.store two c.simplified.ensures.kept) c.asked-2.ensures.kept
+    keeps_then c.args.store.now c.pruned.new.store c.asked-2.new.store (keeps_then c.args.store.now c.disjunction.new.store c.pruned.new.store two c.pruned.ensures.kept) c.asked-2.ensures.kept
 
 pub returns-clause-closes : goal.returns-clause-closes
 returns-clause-closes g c f inner over worked =
@@ -69,6 +69,6 @@ returns-clause-closes g c f inner over worked =
     record {
       is = c.in_ok-asked.ensures.made.is;
       worked = block_closed c.args.self.now c.requires.block (tree c.args.store.now c.args.inner) (tree c.asked.new.store c.in_ok-matrix.matrix) (tree c.disjunction.new.store c.in_ok-together.together)
-          (tree c.simplified.new.store c.in-Ok-simplified.small) (tree c.asked-2.new.store c.in_ok-asked.field-0) c.in_ok-matrix.ensures.made.same nodes c.in-Ok.branches.items c.in-Ok.ensures.branches joined c.in-Ok-simplified.ensures.worked.worked
+          (tree c.pruned.new.store c.in_ok-small.small) (tree c.asked-2.new.store c.in_ok-asked.field-0) c.in_ok-matrix.ensures.made.same nodes c.in-Ok.branches.items c.in-Ok.ensures.branches joined c.in_ok-small.ensures.pruned.worked
           c.in_ok-asked.ensures.made.same f inner over worked;
     }
