@@ -1,0 +1,8 @@
+(declare-const a1 Real)
+(declare-const a2 Real)
+(declare-const a3 Real)
+(declare-const b1 Real)
+(declare-const b2 Real)
+(declare-const b3 Real)
+(assert (exists ((x11 Real) (x12 Real) (x13 Real) (x21 Real) (x22 Real) (x23 Real) (x31 Real) (x32 Real) (x33 Real)) (and (>= x11 0) (>= x12 0) (>= x13 0) (>= x21 0) (>= x22 0) (>= x23 0) (>= x31 0) (>= x32 0) (>= x33 0) (<= (+ x11 x12 x13) a1) (<= (+ x21 x22 x23) a2) (<= (+ x31 x32 x33) a3) (>= (+ x11 x21 x31) b1) (>= (+ x12 x22 x32) b2) (>= (+ x13 x23 x33) b3))))
+(apply qe)
