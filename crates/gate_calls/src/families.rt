@@ -12,8 +12,10 @@ use std::fmt::Write;
 use std::thread::Threads;
 
 /// The region of ten half planes, its last coordinate at most `a`. Upper points of `x` are the fewest: `a-y`, `y+2` and 10; and
-/// then the lower ones of `y`. The first gives `1<=a<=2` (at 0), `2<=a<=18` (at `(a-2)/2`), `a=1` (at `1-a`) and `18<=a<=20` (at
-/// `a-10`), the second `a>=2` and the third `a>=18`. Over the integers `(a-2)/2` is two points, each with its guard modulo 2.
+/// then the lower ones of `y`. Over the fields the first leaves `1<=a<=2` (at 0), and `2<=a<=18` (at `(a-2)/2`), `a=1` (at `1-a`) and
+/// `18<=a<=20` (at `a-10`), which others cover; the second `a>=2`; and the third `a>=18`, which that one covers. Over the integers
+/// `y>=0` follows from `2*y>=a-2` and `y>=1-a`, so there is no point at 0. There `(a-2)/2` is two points, each with its guard modulo 2:
+/// even `a` with `0<a<=19`, and odd `a` with `0<a<=20`; beside them stay `a=1` and `a>1`, since a congruence is compared by itself.
 pub(crate) fn half_planes<R: Threads + Sync>(
     rt: &R,
     alloc: Global,
@@ -42,7 +44,7 @@ pub(crate) fn schedule<R: Threads + Sync>(rt: &R, alloc: Global) -> Option<Strin
 }
 
 /// An amount `n` paid in coins: `x` goes to an eleventh of the rest, and then `y` and `z` each to 0 to 10. Each of the 121 pairs
-/// leaves a congruence and a comparison with `n`.
+/// leaves a congruence and a comparison with `n`. Of those with one remainder the one that begins at the least amount covers the others.
 pub(crate) fn coins<R: Threads + Sync>(rt: &R, alloc: Global) -> Option<String> {
     let statement = "x>=0 and y>=0 and z>=0 and 11*x+13*y+17*z=n;";
     size_text(rt, alloc, Context::Integers, statement, 3)
