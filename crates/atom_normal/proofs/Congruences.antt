@@ -5,7 +5,8 @@ use Rattle.std.specs.Prelude.{◌<ℤ◌, ◌≤ℤ◌, int_div, unsigned_abs}
 use Rattle.std.specs.declared.cmp.Ordering.{Ordering}
 use Rattle.std.specs.Ordering.{is_gt}
 use Rattle.std.proofs.lemmas.Int.{ints}
-use Rattle.exact_numbers.specs.Divides.{Divides, DividesAll, content_of, floor_of, residue_of}
+use Rattle.exact_numbers.specs.Divides.{Divides, content_of, floor_of, residue_of}
+use Rattle.exact_numbers.specs.Division.{DividesAll}
 use Rattle.exact_numbers.proofs.Ring.{mul_zero, mul_one, mul_comm}
 use Rattle.exact_numbers.proofs.Order.{by_less, by_compare, cancel, cancel_less, cancel_at_most, factor_positive}
 use Rattle.exact_numbers.proofs.Divisibility.{one_divides, divides_along, divides_neg, divides_add, divides_sub, divides_trans, divides_same, divides_other, mul_divides_mul, cancel_divides}
@@ -17,7 +18,8 @@ use Rattle.formula_meaning.specs.Formula.{One}
 use Rattle.formula_meaning.specs.Point.{Point}
 use Rattle.formula_meaning.specs.Form.{Form, Term, total, value, coefficient, scaled, scale}
 use Rattle.formula_meaning.specs.Sorted.{IsSorted}
-use Rattle.formula_meaning.specs.Atom.{Atom, Congruent, IsMultiple, Says, AtomIn, form_of}
+use Rattle.formula_meaning.specs.Atom.{Atom, Congruent, IsMultiple, Says, form_of}
+use Rattle.formula_meaning.specs.TheoryAtoms.{AtomIn}
 use Rattle.formula_meaning.specs.Every.{Every}
 use Rattle.formula_meaning.specs.Tree.{Tree, TrueAt, IsFree}
 use Rattle.formula_meaning.proofs.Values.{value_scale}

@@ -12,15 +12,17 @@ use Rattle.formula_meaning.specs.Formula.{Yes, No, One}
 use Rattle.formula_meaning.specs.Point.{Point, Of}
 use Rattle.formula_meaning.specs.Form.{Form, Term, value}
 use Rattle.formula_meaning.specs.Sorted.{IsSorted, gathered}
-use Rattle.formula_meaning.specs.Atom.{Atom, Compare, Congruent, Relation, Equals, Differs, Below, AtMost, Above, AtLeast, Relates, Says, AtomIn, Mentions, form_of, opposite_relation}
+use Rattle.formula_meaning.specs.Atom.{Atom, Compare, Congruent, Relation, Equals, Differs, Below, AtMost, Above, AtLeast, Relates, Says, Mentions, form_of, opposite_relation}
+use Rattle.formula_meaning.specs.TheoryAtoms.{AtomIn}
 use Rattle.formula_meaning.specs.Every.{Every}
-use Rattle.formula_meaning.specs.Tree.{TrueAt, InContext, IsFree}
+use Rattle.formula_meaning.specs.Tree.{TrueAt, IsFree}
+use Rattle.formula_meaning.specs.Equivalence.{InContext}
 use Rattle.formula_meaning.proofs.Gathered.{value_gathered, coefficient_gathered, gathered_sorted, sorted_stays}
 use Rattle.linear_forms.specs.Reduction.{quotient, residue_form}
 use Rattle.linear_forms.specs.Terms.{coefficients}
 use Rattle.linear_forms.proofs.Reduced.{by_equal}
 use Rattle.atom_normal.specs.NormalForm.{constant_tree, holds, facing, compared_in_fields, bound, rounded, smaller, compared_over_integers, coprime_congruence, reduced_congruence, congruent, congruence, normal_atom, negated_normal, IsIntegerRelation, IsNormal}
-use Rattle.formula_meaning.specs.Shape.{IsAtomic}
+use Rattle.formula_meaning.specs.Plain.{IsAtomic}
 use Rattle.atom_normal.proofs.Relations.{chain, back, never, along}
 use Rattle.atom_normal.proofs.Comparisons.{fields_truth, fields_names, fields_normal, fields_within, fields_stay, integers_truth, integers_names, integers_normal, integers_within, integers_stay}
 use Rattle.atom_normal.proofs.Congruences.{Told, told_same, congruent_says, congruent_truth, congruent_names, congruent_within, congruent_normal, congruent_stays, congruence_truth, congruence_within, congruence_coefficient, normal_negated, negated_again}

@@ -5,7 +5,8 @@ use Rattle.std.specs.Prelude.{◌<ℤ◌, ◌≤ℤ◌, ◌*ℤ◌, int_div}
 use Rattle.std.specs.Ordering.{int_eq}
 use Rattle.std.specs.Result.{IfOk}
 use Rattle.std.proofs.lemmas.Int.{ints}
-use Rattle.exact_numbers.specs.Divides.{DividesAll, gcd_of, content_of, residue_of}
+use Rattle.exact_numbers.specs.Divides.{gcd_of, content_of, residue_of}
+use Rattle.exact_numbers.specs.Division.{DividesAll}
 use Rattle.exact_numbers.proofs.Ring.{mul_zero}
 use Rattle.exact_numbers.proofs.Order.{cancel_at_most}
 use Rattle.exact_numbers.proofs.LeastMultiple.{exact_div}

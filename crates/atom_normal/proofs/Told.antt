@@ -11,7 +11,8 @@ use Rattle.exact_numbers.proofs.Floor.{residue_of_multiple, divides_from_residue
 use Rattle.formula_meaning.specs.Point.{Point}
 use Rattle.formula_meaning.specs.Form.{Form, value}
 use Rattle.formula_meaning.specs.Atom.{Atom, Compare, Congruent, Says, form_of}
-use Rattle.atom_normal.specs.NormalForm.{holds, is_true_at}
+use Rattle.atom_normal.specs.NormalForm.{holds}
+use Rattle.atom_normal.specs.AtomTruth.{is_true_at}
 use Rattle.atom_normal.proofs.Relations.{holds_so, chain}
 use Rattle.atom_normal.proofs.Congruences.{congruent_says}
 

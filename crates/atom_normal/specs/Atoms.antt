@@ -4,7 +4,7 @@ use Rattle.exact_numbers.specs.Limit.{InLimit}
 use Rattle.formula_meaning.specs.Context as meaning
 use Rattle.formula_meaning.specs.Formula.{Yes, No, One as Single}
 use Rattle.formula_meaning.specs.Atom as meant
-use Rattle.linear_forms.specs.Terms.{IsLinear}
+use Rattle.linear_forms.specs.Combinations.{IsLinear}
 use Rattle.formula_meaning.specs.Numbers.{IsAtomInLimit}
 use Rattle.formula_meaning.specs.Tree.{Tree}
 use Rattle.atom_normal.specs.declared.atoms.Context.{Context}

@@ -1,4 +1,5 @@
 pub mod Atoms
 pub mod NormalForm
+pub mod AtomTruth
 pub mod Laws
 pub mod Bounds

@@ -166,9 +166,3 @@ IsNormal Fields (Compare r f) = IsFieldComparison f
 IsNormal Integers (Compare r f) = IsIntegerComparison r f
 IsNormal Fields (Congruent b m f) = ⊥
 IsNormal Integers (Congruent b m f) = IsNormalCongruence b m f
-
--- whether the atom is true where its form has this value, over a denominator of 1 for a congruence
-abbrev pub is_true_at : Atom → ℤ → Bool
-is_true_at (Compare r f) v = holds r (int_cmp v (pos 0))
-is_true_at (Congruent true n f) v = int_eq (residue_of v (pos n)) (pos 0)
-is_true_at (Congruent false n f) v = not (int_eq (residue_of v (pos n)) (pos 0))

@@ -6,7 +6,7 @@ ghost use Rattle.exact_numbers.specs.Divides.{floor_of, residue_of};
 ghost use Rattle.formula_meaning.specs.Form.{Term};
 ghost use Rattle.formula_meaning.specs.Atom.{form_of};
 ghost use Rattle.formula_meaning.specs.Every.{Every};
-ghost use Rattle.linear_forms.specs.Terms.{IsLinear};
+ghost use Rattle.linear_forms.specs.Combinations.{IsLinear};
 ghost use Rattle.atom_normal.specs.NormalForm.{bound, compared_in_fields, rounded, compared_over_integers, ConstantPasses};
 ghost use Rattle.atom_normal.specs.Atoms.{relation_of, tree_of, IsWellFormedNormal};
 ghost use Rattle.atom_normal.specs.Bounds.{bounded, IsWithin};

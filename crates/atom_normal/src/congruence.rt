@@ -2,12 +2,14 @@
 ghost use Rattle.std.specs.Prelude.{◌≡◌, ℤ, pos, negsuc, ◌<ℤ◌, ◌≤ℤ◌, ◌-ℤ◌, ◌∷◌, unsigned_abs, int_div, IfOk};
 ghost use Rattle.std.specs.Ordering.{int_cmp, int_eq, is_gt};
 ghost use Rattle.exact_numbers.specs.Limit.{InLimit};
-ghost use Rattle.exact_numbers.specs.Divides.{Divides, DividesAll, content_of, residue_of};
+ghost use Rattle.exact_numbers.specs.Divides.{Divides, content_of, residue_of};
+ghost use Rattle.exact_numbers.specs.Division.{DividesAll};
 ghost use Rattle.formula_meaning.specs.Form.{scale};
 ghost use Rattle.linear_forms.specs.Reduction.{residue_form};
 ghost use Rattle.formula_meaning.specs.Atom.{form_of};
 ghost use Rattle.formula_meaning.specs.Every.{Every};
-ghost use Rattle.linear_forms.specs.Terms.{IsLinear, coefficients};
+ghost use Rattle.linear_forms.specs.Terms.{coefficients};
+ghost use Rattle.linear_forms.specs.Combinations.{IsLinear};
 ghost use Rattle.atom_normal.specs.NormalForm.{first, smaller, congruence, coprime_congruence, congruent};
 ghost use Rattle.atom_normal.specs.Atoms.{atom_of, tree_of, IsWellFormed, IsWellFormedNormal};
 

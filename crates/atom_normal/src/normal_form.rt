@@ -1,12 +1,15 @@
 // The normal form of an atom, its negation, and its truth.
 ghost use Rattle.std.specs.Prelude.{◌≡◌, ℤ, pos, ◌<ℤ◌, unsigned_abs, IfOk, IfErr, IsErrOf, MatchOption, MatchBool, option_map};
 ghost use Rattle.std.specs.Ordering.{int_eq};
-ghost use Rattle.formula_meaning.specs.Atom.{AtomIn, Says, form_of};
+ghost use Rattle.formula_meaning.specs.Atom.{Says, form_of};
+ghost use Rattle.formula_meaning.specs.TheoryAtoms.{AtomIn};
 ghost use Rattle.formula_meaning.specs.Every.{Every};
 ghost use Rattle.exact_numbers.specs.Divides.{residue_of};
-ghost use Rattle.linear_forms.specs.Terms.{IsLinear, ValuePasses, value_steps};
+ghost use Rattle.linear_forms.specs.Terms.{ValuePasses, value_steps};
+ghost use Rattle.linear_forms.specs.Combinations.{IsLinear};
 ghost use Rattle.linear_forms.specs.Values.{number_at, point_of};
-ghost use Rattle.atom_normal.specs.NormalForm.{normal_atom, negated_normal, is_true_at, ConstantPasses};
+ghost use Rattle.atom_normal.specs.NormalForm.{normal_atom, negated_normal, ConstantPasses};
+ghost use Rattle.atom_normal.specs.AtomTruth.{is_true_at};
 ghost use Rattle.atom_normal.specs.Atoms.{context_of, atom_of, tree_of, IsWellFormed, IsWellFormedNormal, IsAskedWhole};
 
 use crate::atoms::{Atom, Context, Normal};

@@ -2,9 +2,10 @@
 ghost use Rattle.std.specs.Prelude.{◌≡◌, ℤ, pos, ◌∷◌, neg_ℤ, IfOk};
 ghost use Rattle.std.specs.Ordering.{int_cmp};
 ghost use Rattle.exact_numbers.specs.Limit.{InLimit};
-ghost use Rattle.exact_numbers.specs.Divides.{DividesAll};
+ghost use Rattle.exact_numbers.specs.Division.{DividesAll};
 ghost use Rattle.formula_meaning.specs.Atom.{mirrored, opposite_relation};
-ghost use Rattle.linear_forms.specs.Terms.{IsLinear, coefficients};
+ghost use Rattle.linear_forms.specs.Terms.{coefficients};
+ghost use Rattle.linear_forms.specs.Combinations.{IsLinear};
 ghost use Rattle.linear_forms.specs.Reduction.{quotient};
 ghost use Rattle.atom_normal.specs.NormalForm.{constant_tree, holds, first, turned, facing};
 ghost use Rattle.atom_normal.specs.Atoms.{relation_of, tree_of, IsWellFormedNormal};

@@ -3,7 +3,7 @@ use Rattle.std.specs.Prelude.{ℕ, List, [], ◌∷◌, Option, Some, None}
 use Rattle.formula_meaning.specs.Context.{Context}
 use Rattle.formula_meaning.specs.Point.{Point, Of}
 use Rattle.formula_meaning.specs.Atom.{Atom, Says}
-use Rattle.farkas_theory.specs.Constraints.{Meets}
+use Rattle.farkas_theory.specs.Meeting.{Meets}
 use Rattle.farkas_cert.specs.declared.constraint.Constraint.{Constraint}
 use Rattle.farkas_cert.specs.Constraints.{constraint_of}
 use Rattle.atom_pruning.specs.declared.rows.AtomRows.{AtomRows}

@@ -3,7 +3,7 @@
 ghost use Rattle.std.specs.Prelude.{◌≡◌, ◌++◌, [], ◌∷◌, ℕ, IfOk, OnOk, IsTrue, map};
 ghost use Rattle.formula_meaning.specs.Context.{Fields};
 ghost use Rattle.formula_meaning.specs.Point.{Point, Of};
-ghost use Rattle.farkas_theory.specs.Constraints.{MeetsAll};
+ghost use Rattle.farkas_theory.specs.Meeting.{MeetsAll};
 ghost use Rattle.farkas_cert.specs.Constraints.{constraint_of};
 
 use farkas_cert::{CertError, Constraint, check};

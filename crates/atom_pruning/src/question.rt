@@ -2,7 +2,7 @@
 
 ghost use Rattle.std.specs.Prelude.{◌≡◌, ◌<◌, ◌≤◌, ℕ, true, false, IfOk, IfSome, OnOk, IsTrue, length, map, slice_index_or};
 ghost use Rattle.formula_meaning.specs.Point.{Point};
-ghost use Rattle.farkas_theory.specs.Constraints.{Meets, MeetsAll};
+ghost use Rattle.farkas_theory.specs.Meeting.{Meets, MeetsAll};
 ghost use Rattle.farkas_cert.specs.Constraints.{constraint_of};
 ghost use Rattle.atom_pruning.specs.Asked.{asked_of, negations, MeetsMarked, AreRefuted, AreEnoughFor, AreMarks};
 

@@ -4,7 +4,7 @@ ghost use Rattle.std.specs.Prelude.{◌≡◌, ℕ, pos, ◌<ℤ◌, ◌≤ℤ�
 ghost use Rattle.formula_meaning.specs.Point.{Point, Of};
 ghost use Rattle.formula_meaning.specs.Form.{value};
 ghost use Rattle.formula_meaning.specs.Atom.{Relates};
-ghost use Rattle.farkas_theory.specs.Constraints.{Meets};
+ghost use Rattle.farkas_theory.specs.Meeting.{Meets};
 ghost use Rattle.farkas_cert.specs.Constraints.{constraint_of};
 ghost use Rattle.atom_normal.specs.Atoms.{context_of, atom_of, relation_of, IsWellFormed};
 ghost use Rattle.atom_pruning.specs.Rows.{MeetsAny, AreRowsOf};

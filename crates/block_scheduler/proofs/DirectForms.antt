@@ -14,7 +14,8 @@ use Rattle.formula_meaning.proofs.Same.{both_true}
 use Rattle.nnf_substitution.specs.Placed.{all_within}
 use Rattle.nnf_substitution.proofs.ResultLaws.{within_once}
 use Rattle.branch_points.specs.Chosen.{conjuncts}
-use Rattle.formula_meaning.specs.Shape.{ArePlain, matrix_of, block_of}
+use Rattle.formula_meaning.specs.Shape.{matrix_of, block_of}
+use Rattle.formula_meaning.specs.Plain.{ArePlain}
 use Rattle.formula_meaning.specs.Sizes.{nodes}
 use Rattle.formula_meaning.specs.Some.{EachOf}
 use Rattle.formula_meaning.specs.Tree.{Tree, Trees}
@@ -31,11 +32,11 @@ use Rattle.atom_normal.specs.NormalForm.{IsNormal, normal_atom}
 use Rattle.atom_normal.proofs.NormalLaws.{normal_in}
 use Rattle.elimination_reference.specs.Cases.{case_sign, case_matrix, case_names}
 use Rattle.elimination_reference.specs.Limits.{modulus_within, numbers_within, normal_within, atom_within}
-use Rattle.elimination_reference.specs.LimitLaws.{ConstantWithin, AtomFormsWithin}
+use Rattle.elimination_reference.specs.LimitsWithin.{ConstantWithin, AtomFormsWithin}
 use Rattle.elimination_reference.specs.Reference.{normal_tree, turned}
 use Rattle.elimination_reference.proofs.Tidy.{atom_at_simple}
 use Rattle.case_theory.specs.Direct.{AreAtoms, first_equation, direct_answer}
-use Rattle.case_theory.specs.Points.{IsRootOf, IsRoot}
+use Rattle.case_theory.specs.Roots.{IsRootOf, IsRoot}
 
 -- ---- the block
 

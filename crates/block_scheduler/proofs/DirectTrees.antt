@@ -6,7 +6,8 @@ use Rattle.formula_meaning.specs.Context.{Fields}
 use Rattle.formula_meaning.specs.Every.{Every}
 use Rattle.formula_meaning.specs.Fold.{folded}
 use Rattle.formula_meaning.specs.Formula.{And}
-use Rattle.formula_meaning.specs.Shape.{IsPlain, IsQuantifierFree}
+use Rattle.formula_meaning.specs.Shape.{IsQuantifierFree}
+use Rattle.formula_meaning.specs.Plain.{IsPlain}
 use Rattle.formula_meaning.specs.Sizes.{nodes}
 use Rattle.formula_meaning.specs.Some.{EachOf}
 use Rattle.formula_meaning.specs.Tree.{Tree, Trees}
@@ -26,7 +27,7 @@ use Rattle.formula_store.specs.declared.id.FormulaId.{FormulaId}
 use Rattle.formula_store.specs.Nodes.{tree}
 use Rattle.test_points.specs.declared.points.TestPoint.{TestPoint}
 use Rattle.case_theory.specs.Direct.{IsDirect, direct_answer, first_equation}
-use Rattle.case_theory.specs.Points.{IsRoot}
+use Rattle.case_theory.specs.Roots.{IsRoot}
 use Rattle.case_theory.proofs.Points.{root_point}
 use Rattle.case_theory.proofs.Simplified.{plain_free}
 use Rattle.branch_points.specs.Chosen.{conjuncts}

@@ -7,7 +7,8 @@ use Rattle.std.specs.declared.vec.Vec.{Vec}
 use Rattle.std.specs.declared.alloc.Global.{Global}
 use Rattle.formula_meaning.specs.Atom as meant
 use Rattle.formula_meaning.specs.Every.{Every}
-use Rattle.formula_meaning.specs.Measured.{Gives, done}
+use Rattle.formula_meaning.specs.Measured.{done}
+use Rattle.formula_meaning.specs.Giving.{Gives}
 use Rattle.formula_meaning.specs.Some.{EachOf}
 use Rattle.formula_meaning.specs.Tree.{Tree}
 use Rattle.elimination_theory.proofs.SomeListed.{each_append, each_map}

@@ -4,7 +4,8 @@ ghost use Rattle.std.specs.Prelude.{◌≡◌, ◌≤◌, ◌<◌, ◌+◌, ℕ,
 ghost use Rattle.formula_meaning.specs.Answer.{Place};
 ghost use Rattle.formula_meaning.specs.Every.{Every};
 ghost use Rattle.formula_meaning.specs.Fold.{folded};
-ghost use Rattle.formula_meaning.specs.Shape.{IsNegationNormal, IsQuantifierFree};
+ghost use Rattle.formula_meaning.specs.Shape.{IsQuantifierFree};
+ghost use Rattle.formula_meaning.specs.Plain.{IsNegationNormal};
 ghost use Rattle.formula_meaning.specs.Sizes.{nodes};
 ghost use Rattle.formula_meaning.specs.Tree.{Trees};
 ghost use Rattle.atom_normal.specs.Atoms.{context_of, atom_of};

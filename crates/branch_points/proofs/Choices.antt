@@ -22,7 +22,8 @@ use Rattle.atom_normal.specs.declared.atoms.Atom.{Atom}
 use Rattle.atom_normal.specs.Atoms.{atom_of, context_of}
 use Rattle.test_points.specs.declared.points.TestPoint.{TestPoint}
 use Rattle.test_points.specs.Points.{place_of, IsPointOf}
-use Rattle.case_theory.specs.Points.{IsPointFor, ArePointsFor, IsRoot}
+use Rattle.case_theory.specs.Points.{IsPointFor, ArePointsFor}
+use Rattle.case_theory.specs.Roots.{IsRoot}
 use Rattle.case_theory.specs.Direct.{first_equation}
 use Rattle.case_theory.proofs.Points.{zero_point, root_point, side_points}
 use Rattle.branch_points.specs.declared.choice.Chosen.{Chosen}

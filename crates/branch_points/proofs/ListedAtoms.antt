@@ -5,7 +5,7 @@ use Rattle.std.proofs.lemmas.List.{map-append}
 use Rattle.std.proofs.lemmas.List.Elements.{All-from_recursion, recursion_from_All}
 use Rattle.formula_meaning.specs.Formula.{Yes, No, One, Not, And, Or, Impl, Repl, Equiv, Ex, All, none, also}
 use Rattle.formula_meaning.specs.Some.{Among, EachOf}
-use Rattle.formula_meaning.specs.Distinct.{StandsOnce}
+use Rattle.formula_meaning.specs.StandsOnce.{StandsOnce}
 use Rattle.formula_meaning.specs.Same.{same_atom}
 use Rattle.formula_meaning.specs.Sizes.{subtrees, all_subtrees}
 use Rattle.formula_meaning.specs.Atom.{Atom}

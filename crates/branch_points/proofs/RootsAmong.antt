@@ -15,7 +15,7 @@ use Rattle.atom_normal.specs.Atoms.{context_of}
 use Rattle.formula_tree.specs.Trees.{members}
 use Rattle.test_points.specs.declared.points.TestPoint.{TestPoint}
 use Rattle.test_points.specs.Points.{place_of, IsPointOf}
-use Rattle.case_theory.specs.Points.{IsRootOf, IsRoot}
+use Rattle.case_theory.specs.Roots.{IsRootOf, IsRoot}
 use Rattle.case_theory.specs.Direct.{equation_of, first_of_two, first_equation}
 use Rattle.branch_points.specs.Chosen.{HasNoEquation, IsRootAmong}
 use Rattle.branch_points.proofs.FirstEquations.{other_some}

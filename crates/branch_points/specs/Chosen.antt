@@ -3,7 +3,7 @@ use Rattle.std.specs.Prelude.{◌≡◌, ◌⊎◌, ◌≤◌, ℕ, List, [], �
 use Rattle.formula_meaning.specs.Formula.{Yes, No, One, Not, And, Or, Impl, Repl, Equiv, Ex, All, none, also}
 use Rattle.formula_meaning.specs.Fold.{append}
 use Rattle.formula_meaning.specs.Some.{Among, EachOf}
-use Rattle.formula_meaning.specs.Distinct.{StandsOnce}
+use Rattle.formula_meaning.specs.StandsOnce.{StandsOnce}
 use Rattle.formula_meaning.specs.Form.{Form}
 use Rattle.formula_meaning.specs.Atom as meant
 use Rattle.formula_meaning.specs.Answer.{Place}
@@ -20,7 +20,8 @@ use Rattle.formula_tree.specs.declared.shape.Shape.{Shape}
 use Rattle.formula_tree.specs.declared.shape.Shape.TheVariants as shape
 use Rattle.test_points.specs.declared.points.TestPoint.{TestPoint}
 use Rattle.test_points.specs.Points.{place_of, IsPointOf}
-use Rattle.case_theory.specs.Points.{ArePointsFor, IsRoot}
+use Rattle.case_theory.specs.Points.{ArePointsFor}
+use Rattle.case_theory.specs.Roots.{IsRoot}
 use Rattle.case_theory.specs.Direct.{first_equation}
 use Rattle.branch_points.specs.declared.choice.Chosen.{Chosen}
 use Rattle.branch_points.specs.Counts.{SpanPasses, count_of}

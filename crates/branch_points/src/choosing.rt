@@ -2,7 +2,7 @@
 
 ghost use Rattle.std.specs.Prelude.{◌≡◌, ◌<◌, ◌≤◌, [], ◌∷◌, nat_eq, map, max, length, All, IfOk, IfErr, IsErrOf};
 ghost use Rattle.std.specs.HashMap.{get};
-ghost use Rattle.formula_meaning.specs.Distinct.{StandsOnce};
+ghost use Rattle.formula_meaning.specs.StandsOnce.{StandsOnce};
 ghost use Rattle.elimination_reference.specs.Theorems.{IsTidy};
 ghost use Rattle.atom_normal.specs.Atoms.{atom_of, context_of, IsWellFormed};
 ghost use Rattle.formula_store.specs.Nodes.{tree, IsId};

@@ -4,7 +4,7 @@ ghost use Rattle.std.specs.Prelude.{◌≡◌, ◌⊎◌, ◌<◌, ◌≤◌, �
 ghost use Rattle.std.specs.HashMap.{get};
 ghost use Rattle.formula_meaning.specs.Some.{Among, EachOf};
 ghost use Rattle.formula_meaning.specs.Limits.{each, place_within};
-ghost use Rattle.formula_meaning.specs.Distinct.{StandsOnce};
+ghost use Rattle.formula_meaning.specs.StandsOnce.{StandsOnce};
 ghost use Rattle.elimination_theory.specs.BothTheories.{test_points};
 ghost use Rattle.elimination_theory.specs.IntegersPoints.{integer_points_of};
 ghost use Rattle.atom_normal.specs.Atoms.{atom_of, context_of, IsWellFormed};

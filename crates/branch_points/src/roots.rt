@@ -2,13 +2,14 @@
 
 ghost use Rattle.std.specs.Prelude.{◌≡◌, pos, ◌<ℤ◌, ◌∷◌, unsigned_abs, IfOk};
 ghost use Rattle.exact_numbers.specs.Limit.{InLimit};
-ghost use Rattle.exact_numbers.specs.Divides.{Divides, DividesAll};
+ghost use Rattle.exact_numbers.specs.Divides.{Divides};
+ghost use Rattle.exact_numbers.specs.Division.{DividesAll};
 ghost use Rattle.formula_meaning.specs.Form.{coefficient, coefficients};
 ghost use Rattle.formula_meaning.specs.Answer as meaning;
 ghost use Rattle.elimination_theory.specs.FieldsPoints.{divisor_of, exact_point};
 ghost use Rattle.atom_normal.specs.Atoms.{context_of};
 ghost use Rattle.test_points.specs.Points.{place_of, IsPointOf};
-ghost use Rattle.case_theory.specs.Points.{root_over, IsRoot};
+ghost use Rattle.case_theory.specs.Roots.{root_over, IsRoot};
 
 use atom_normal::Context;
 use exact_numbers::gcd;

@@ -5,7 +5,7 @@ use Rattle.formula_meaning.specs.Context.{Context}
 use Rattle.formula_meaning.specs.Point.{Point, Of}
 use Rattle.formula_meaning.specs.Form.{value}
 use Rattle.formula_meaning.specs.Formula.{Yes, No, One, And, Or}
-use Rattle.formula_meaning.specs.Shape.{IsAtomic}
+use Rattle.formula_meaning.specs.Plain.{IsAtomic}
 use Rattle.formula_meaning.specs.Sizes.{nodes, all_nodes}
 use Rattle.formula_meaning.specs.Atom.{Atom, Says}
 use Rattle.formula_meaning.specs.Tree.{Tree, TrueAt}

@@ -16,7 +16,8 @@ use Rattle.atom_merging.specs.Computed.{IsNormalWithin}
 use Rattle.redlog_printer.specs.Text.{tree_text}
 use Rattle.simplified_formulas.specs.AtomKit.{atom_kit}
 use Rattle.simplified_formulas.specs.Orderly.{IsOrderly, AreOrderly}
-use Rattle.simplified_formulas.specs.Trees.{IsSimplifiable, AreAssumable, IsReduced, EquivalentUnder, simplified_under}
+use Rattle.simplified_formulas.specs.Trees.{IsReduced}
+use Rattle.simplified_formulas.specs.Simplifiable.{IsSimplifiable, AreAssumable, EquivalentUnder, simplified_under}
 use Rattle.simplified_formulas.proofs.AtomLaws.{merges_within, names_told}
 use Rattle.simplified_formulas.proofs.Keeps.{MergesWithin}
 use Rattle.simplified_formulas.proofs.Simplified.{simplified_within}

@@ -4,10 +4,10 @@ use Rattle.std.specs.List.{AllByRecursion}
 use Rattle.formula_meaning.specs.Context.{Context}
 use Rattle.formula_meaning.specs.Point.{Point, Of}
 use Rattle.formula_meaning.specs.Formula.{Yes, No, One, And, Or, none, also}
-use Rattle.formula_meaning.specs.Shape.{IsAtomic}
+use Rattle.formula_meaning.specs.Plain.{IsAtomic}
 use Rattle.formula_meaning.specs.Atom.{Atom, Compare, Equals}
 use Rattle.formula_meaning.specs.Tree.{Tree, Trees}
-use Rattle.simplified_formulas.specs.Trees.{EquivalentUnder}
+use Rattle.simplified_formulas.specs.Simplifiable.{EquivalentUnder}
 use Rattle.formula_tree.specs.declared.shape.Shape.{Shape}
 use Rattle.formula_store.specs.declared.id.FormulaId.{FormulaId}
 use Rattle.formula_store.specs.Nodes.{tree, IsId}

@@ -7,7 +7,7 @@ ghost use Rattle.elimination_reference.specs.Theorems.{IsTidy};
 ghost use Rattle.atom_normal.specs.Atoms.{context_of, atom_of, IsWellFormed};
 ghost use Rattle.atom_normal.specs.NormalForm.{IsNormal};
 ghost use Rattle.simplified_formulas.specs.Orderly.{IsOrderly};
-ghost use Rattle.simplified_formulas.specs.Trees.{simplified_under};
+ghost use Rattle.simplified_formulas.specs.Simplifiable.{simplified_under};
 ghost use Rattle.formula_tree.specs.Makers.{IsMade, Keeps};
 ghost use Rattle.formula_store.specs.Nodes.{tree, IsId};
 ghost use Rattle.branch_pruning.specs.Pruned.{IsPrunedTo};

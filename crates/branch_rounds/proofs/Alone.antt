@@ -22,7 +22,7 @@ use Rattle.test_points.specs.declared.points.TestPoint.{TestPoint}
 use Rattle.test_points.specs.Points.{place_of}
 use Rattle.case_theory.specs.Children.{IsChild}
 use Rattle.case_theory.specs.Direct.{equation_of, first_of_two, first_equation}
-use Rattle.case_theory.specs.Points.{IsRootOf, IsRoot}
+use Rattle.case_theory.specs.Roots.{IsRootOf, IsRoot}
 use Rattle.branch_points.specs.declared.choice.Chosen.{Chosen}
 use Rattle.branch_points.specs.Chosen.{conjuncts, NeedsCounting, IsByRule, IsAtRoot, IsRootAmong}
 use Rattle.branch_points.proofs.RootsAmong.{root_first}

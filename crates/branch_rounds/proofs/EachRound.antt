@@ -1,6 +1,6 @@
 -- What each branch has, as a round goes on.
 use Rattle.std.proofs.Common.{◌≡◌, ℕ, suc, ◌<◌, ◌+◌, List, [], ◌∷◌, map, length, drop, sym, subst, refl, arith, ⊎_elim, length-drop}
-use Rattle.formula_meaning.specs.Distinct.{StandsOnce}
+use Rattle.formula_meaning.specs.StandsOnce.{StandsOnce}
 use Rattle.formula_meaning.specs.Some.{EachOf}
 use Rattle.elimination_theory.proofs.SomeListed.{each_append}
 use Rattle.elimination_reference.specs.Theorems.{IsTidy}

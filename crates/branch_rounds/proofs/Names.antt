@@ -3,7 +3,7 @@ use Rattle.std.proofs.Common.{◌≡◌, ℕ, suc, Bool, true, false, List, [], 
 use Rattle.std.proofs.lemmas.Bool.{eqb-false}
 use Rattle.std.specs.Prelude.{nat_eq, if◌then◌else◌}
 use Rattle.formula_meaning.specs.Some.{Among}
-use Rattle.formula_meaning.specs.Distinct.{StandsOnce}
+use Rattle.formula_meaning.specs.StandsOnce.{StandsOnce}
 use Rattle.linear_forms.specs.declared.form.VarId.{VarId}
 use Rattle.case_theory.specs.Pending.{IsRest}
 use Rattle.case_theory.proofs.Lists.{once_more, once_head}

@@ -22,7 +22,8 @@ use Rattle.formula_tree.specs.declared.shape.Shape.{Shape}
 use Rattle.formula_store.specs.declared.id.FormulaId.{FormulaId}
 use Rattle.formula_store.specs.Nodes.{tree}
 use Rattle.case_theory.specs.Pending.{Pending, IsRest, children}
-use Rattle.case_theory.specs.Points.{ArePointsFor, IsRoot}
+use Rattle.case_theory.specs.Points.{ArePointsFor}
+use Rattle.case_theory.specs.Roots.{IsRoot}
 use Rattle.case_theory.specs.Direct.{first_equation}
 use Rattle.case_theory.specs.Children.{AreChildren}
 use Rattle.branch_rounds.specs.declared.work.Work.{Work}

@@ -3,7 +3,7 @@
 ghost use Rattle.std.specs.Prelude.{◌≡◌, ◌∷◌, [], IfOk, IfErr, MatchResult, map};
 ghost use Rattle.formula_meaning.specs.Answer.{Place};
 ghost use Rattle.formula_meaning.specs.Some.{EachOf};
-ghost use Rattle.formula_meaning.specs.Distinct.{StandsOnce};
+ghost use Rattle.formula_meaning.specs.StandsOnce.{StandsOnce};
 ghost use Rattle.elimination_reference.specs.Theorems.{IsTidy};
 ghost use Rattle.atom_normal.specs.Atoms.{context_of, atom_of};
 ghost use Rattle.case_theory.specs.Under.{Lack};

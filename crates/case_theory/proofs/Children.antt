@@ -4,13 +4,15 @@ use Rattle.formula_meaning.specs.Context.{Context, Fields, Integers}
 use Rattle.formula_meaning.specs.Formula.{Ex}
 use Rattle.formula_meaning.specs.Some.{Among, EachOf}
 use Rattle.formula_meaning.specs.Atom.{Atom}
-use Rattle.formula_meaning.specs.Shape.{IsPlain}
+use Rattle.formula_meaning.specs.Plain.{IsPlain}
 use Rattle.formula_meaning.specs.Answer.{Place}
-use Rattle.formula_meaning.specs.Tree.{Tree, TrueAt, InContext, IsFree}
+use Rattle.formula_meaning.specs.Tree.{Tree, TrueAt, IsFree}
+use Rattle.formula_meaning.specs.Equivalence.{InContext}
 use Rattle.formula_meaning.proofs.Iff.{both_ways}
 use Rattle.formula_meaning.proofs.Listed.{among_left, among_right}
 use Rattle.elimination_theory.specs.NamesTheorems.{IsNameOf}
-use Rattle.elimination_theory.specs.BothTheories.{IsPlaceIn, substitution}
+use Rattle.elimination_theory.specs.BothTheories.{IsPlaceIn}
+use Rattle.elimination_theory.specs.Places.{substitution}
 use Rattle.elimination_theory.specs.Steps.{Result, result_at}
 use Rattle.elimination_theory.proofs.SomeListed.{each_map, each_append, some_left, some_right, some_either}
 use Rattle.elimination_theory.specs.Answers.{zero_place}

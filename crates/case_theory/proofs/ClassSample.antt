@@ -14,7 +14,7 @@ use Rattle.formula_meaning.specs.Atom.{Atom, Compare, Congruent}
 use Rattle.formula_meaning.specs.Answer.{Periodic, Holds}
 use Rattle.formula_meaning.specs.Tree.{Tree, TrueAt}
 use Rattle.formula_meaning.proofs.EachAtom.{every_map}
-use Rattle.elimination_theory.specs.Substitution.{at_place}
+use Rattle.elimination_theory.specs.AtPlace.{at_place}
 use Rattle.elimination_theory.specs.IntegersSample.{IsPast, LiesBeyond, ComesFirst, IsClassSample}
 use Rattle.elimination_theory.proofs.IntegerSample.{sample_is_true}
 use Rattle.case_theory.specs.ClassSample.{ClassSampleIsTrue}

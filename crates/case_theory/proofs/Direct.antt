@@ -6,7 +6,7 @@ use Rattle.formula_meaning.specs.Formula.{Yes, No, One, And, Ex, none, also}
 use Rattle.formula_meaning.specs.Every.{Every}
 use Rattle.formula_meaning.specs.Form.{Form, coefficient}
 use Rattle.formula_meaning.specs.Atom.{Atom, Compare, Congruent, Equals, Differs, Below, AtMost, Above, AtLeast}
-use Rattle.formula_meaning.specs.Shape.{ArePlain}
+use Rattle.formula_meaning.specs.Plain.{ArePlain}
 use Rattle.formula_meaning.specs.Tree.{Tree, Trees}
 use Rattle.formula_meaning.proofs.Iff.{both_ways}
 use Rattle.elimination_theory.specs.Substitution.{where_zero}
@@ -32,9 +32,11 @@ use Rattle.elimination_theory.specs.Overflow.{NumbersWithin}
 use Rattle.elimination_theory.proofs.Simple.{IsSimple, simple_normalised, raw_simple}
 use Rattle.elimination_theory.proofs.SomeListed.{every_of_atoms}
 use Rattle.atom_normal.proofs.NormalLaws.{normal_in}
-use Rattle.elimination_reference.specs.LimitLaws.{ConstantWithin, AtomFormsWithin}
-use Rattle.case_theory.specs.Points.{IsConjunctOfSome, IsRoot}
-use Rattle.case_theory.specs.Direct.{AreAtoms, equation_of, first_of_two, first_equation, direct_answer, DirectAnswerIsExact, DirectAnswerIsWithin}
+use Rattle.elimination_reference.specs.LimitsWithin.{ConstantWithin, AtomFormsWithin}
+use Rattle.case_theory.specs.Points.{IsConjunctOfSome}
+use Rattle.case_theory.specs.Roots.{IsRoot}
+use Rattle.case_theory.specs.Direct.{AreAtoms, equation_of, first_of_two, first_equation, direct_answer}
+use Rattle.case_theory.specs.DirectTheorems.{DirectAnswerIsExact, DirectAnswerIsWithin}
 use Rattle.case_theory.proofs.Points.{root_point}
 
 -- what is said of the form, if there is one

@@ -7,7 +7,7 @@ use Rattle.formula_meaning.specs.Formula.{Or, also}
 use Rattle.formula_meaning.specs.Every.{Every, FreeInSome}
 use Rattle.formula_meaning.specs.declared.junction.Junction.TheVariants.{Disjunction}
 use Rattle.formula_meaning.specs.Some.{SomeOf, Among, EachOf}
-use Rattle.formula_meaning.specs.Distinct.{StandsOnce}
+use Rattle.formula_meaning.specs.StandsOnce.{StandsOnce}
 use Rattle.formula_meaning.specs.Atom.{Atom, Says, Mentions}
 use Rattle.formula_meaning.specs.Answer.{Answer}
 use Rattle.formula_meaning.specs.Tree.{Tree, Trees, TrueAt, IsFree}
@@ -19,10 +19,11 @@ use Rattle.elimination_theory.specs.BothTheories.{IsPlaceIn}
 use Rattle.elimination_theory.specs.Answers.{Step, answers_of}
 use Rattle.elimination_theory.proofs.BothSubstitutions.{place_in}
 use Rattle.atom_normal.specs.NormalForm.{IsNormal}
-use Rattle.simplified_formulas.specs.Trees.{EquivalentUnder}
+use Rattle.simplified_formulas.specs.Simplifiable.{EquivalentUnder}
 use Rattle.elimination_reference.specs.Reference.{normal_tree}
 use Rattle.elimination_reference.specs.Cases.{case_sign, case_formula, case_matrix, case_names}
-use Rattle.elimination_reference.specs.Theorems.{IsTidy, Says as SaysAll, guards_of}
+use Rattle.elimination_reference.specs.Theorems.{IsTidy, Says as SaysAll}
+use Rattle.elimination_reference.specs.AnswerParts.{guards_of}
 use Rattle.elimination_reference.proofs.Tidy.{AreTidy, tidy_fold_list}
 use Rattle.elimination_reference.proofs.CasesExact.{says}
 use Rattle.case_theory.specs.CaseTree.{without_all, NameBlock, IsCaseUnder, SaysUnder}

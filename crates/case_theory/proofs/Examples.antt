@@ -33,7 +33,7 @@ use Rattle.case_theory.proofs.Fit.{answers_fit}
 use Rattle.case_theory.proofs.Fallback.{lead_under}
 use Rattle.case_theory.specs.PutThrough.{put_through}
 use Rattle.case_theory.specs.CaseTree.{without_all}
-use Rattle.case_theory.specs.Points.{IsRoot}
+use Rattle.case_theory.specs.Roots.{IsRoot}
 use Rattle.case_theory.specs.Fallback.{stop_of}
 use Rattle.case_theory.specs.Direct.{first_equation, direct_answer}
 

@@ -6,22 +6,27 @@ use Rattle.formula_meaning.specs.Formula.{Yes, No, One, Not, And, Or, Impl, Repl
 use Rattle.formula_meaning.specs.Every.{Every, FreeInSome}
 use Rattle.formula_meaning.specs.Atom.{Atom, Mentions}
 use Rattle.formula_meaning.specs.Some.{EachOf}
-use Rattle.formula_meaning.specs.Shape.{IsNegationNormal, AreNegationNormal, is_in, matrix_of}
+use Rattle.formula_meaning.specs.Shape.{is_in, matrix_of}
+use Rattle.formula_meaning.specs.Plain.{IsNegationNormal, AreNegationNormal}
 use Rattle.formula_meaning.specs.declared.quantifier.Quantifier.TheVariants.{Exists}
 use Rattle.formula_meaning.specs.Sizes.{nodes, all_nodes}
 use Rattle.formula_meaning.specs.NegationNormal.{normal_form_of_not, normal_forms_of_not}
-use Rattle.formula_meaning.specs.Tree.{Tree, Trees, TrueAt, IsFree, Equivalent}
-use Rattle.formula_meaning.specs.Measured.{Gives, Outcome, stopped, done, then_of, Counted, ◌>>=◌, pay, Stop, Nodes}
+use Rattle.formula_meaning.specs.Tree.{Tree, Trees, TrueAt, IsFree}
+use Rattle.formula_meaning.specs.Equivalence.{Equivalent}
+use Rattle.formula_meaning.specs.Measured.{Outcome, stopped, done, then_of, Counted, ◌>>=◌, pay, Stop, Nodes}
+use Rattle.formula_meaning.specs.Giving.{Gives}
 use Rattle.formula_meaning.proofs.Iff.{both_ways}
 use Rattle.formula_meaning.proofs.NormalShape.{normal_form_shape, normal_form_every}
-use Rattle.elimination_theory.specs.Answers.{Step, Lead, answers_of}
+use Rattle.elimination_theory.specs.Answers.{Step, answers_of}
+use Rattle.elimination_theory.specs.AnswersTheorems.{Lead}
 use Rattle.atom_normal.specs.NormalForm.{IsNormal, negated_normal}
 use Rattle.formula_meaning.proofs.EachAtom.{every_map}
 use Rattle.atom_normal.proofs.NormalLaws.{negated_normal_is}
 use Rattle.elimination_reference.specs.Reference.{reference, Branch, branch_trees, alone, together, normal_tree, turned, steps, closed, branches, leading_branches}
 use Rattle.elimination_reference.specs.Cases.{Case, case_of, cases_of, case_sign, case_formula, case_matrix, case_names, reference_cases}
-use Rattle.elimination_reference.specs.Over.{AreOver}
-use Rattle.elimination_reference.specs.Theorems.{IsAnswerTo, IsTidy, guards_of, answer_names}
+use Rattle.elimination_reference.specs.CasesOver.{AreOver}
+use Rattle.elimination_reference.specs.Theorems.{IsAnswerTo, IsTidy}
+use Rattle.elimination_reference.specs.AnswerParts.{guards_of, answer_names}
 use Rattle.elimination_reference.proofs.Always.{gives_then, gives_both, gives_map}
 use Rattle.elimination_reference.proofs.Branches.{step_names, IsBranch, AreBranches}
 use Rattle.elimination_reference.proofs.Sound.{leading_are, normal_normal_tree, reference_exact}

@@ -14,18 +14,19 @@ use Rattle.formula_meaning.specs.NegationNormal.{both}
 use Rattle.formula_meaning.specs.Every.{Every}
 use Rattle.formula_meaning.specs.Form.{coefficient}
 use Rattle.formula_meaning.specs.Atom.{Atom, Compare, Congruent}
-use Rattle.formula_meaning.specs.Shape.{IsPlain}
+use Rattle.formula_meaning.specs.Plain.{IsPlain}
 use Rattle.formula_meaning.specs.Replaced.{replaced}
 use Rattle.formula_meaning.specs.Answer.{Place, Exact, AboveBy, BelowBy, PlusInfinity, MinusInfinity, Periodic}
-use Rattle.formula_meaning.specs.Tree.{Tree, TrueAt, InContext}
+use Rattle.formula_meaning.specs.Tree.{Tree, TrueAt}
+use Rattle.formula_meaning.specs.Equivalence.{InContext}
 use Rattle.formula_meaning.proofs.Iff.{both_ways, turn_round}
 use Rattle.formula_meaning.proofs.EachAtom.{every_map, every_all}
 use Rattle.formula_meaning.proofs.TreeReplacing.{moved_of}
 use Rattle.elimination_theory.specs.Substitution.{beyond}
 use Rattle.elimination_theory.specs.IntegersSubstitution.{along, integer_atom}
-use Rattle.elimination_theory.specs.IntegersPoints.{integer_scale, integer_span}
+use Rattle.elimination_theory.specs.IntegersPointTrees.{integer_scale, integer_span}
 use Rattle.elimination_theory.specs.IntegersTheorems.{IsPeriodOf, Suits}
-use Rattle.elimination_theory.specs.BothTheories.{IsPlaceFor, substitution}
+use Rattle.elimination_theory.specs.Places.{IsPlaceFor, substitution}
 use Rattle.elimination_theory.specs.Answers.{Step, answers_of}
 use Rattle.elimination_theory.proofs.Meets.{meets_map}
 use Rattle.elimination_theory.proofs.BothSubstitutions.{place_in, place_holds}
@@ -33,7 +34,7 @@ use Rattle.elimination_theory.proofs.IntegerSides.{Fits}
 use Rattle.elimination_theory.proofs.IntegerSuffice.{formula_spanned, formula_fits}
 use Rattle.elimination_theory.proofs.OneStep.{result_becomes}
 use Rattle.atom_normal.specs.NormalForm.{normal_atom}
-use Rattle.simplified_formulas.specs.Trees.{EquivalentUnder}
+use Rattle.simplified_formulas.specs.Simplifiable.{EquivalentUnder}
 use Rattle.elimination_reference.specs.Theorems.{IsTidy}
 use Rattle.elimination_reference.proofs.Tidy.{normaliser, tidy_in, result_tidy}
 use Rattle.case_theory.specs.PutThrough.{AreTrue, put_through}

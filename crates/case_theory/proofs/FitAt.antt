@@ -8,7 +8,7 @@ use Rattle.formula_meaning.specs.Answer.{Answer}
 use Rattle.formula_meaning.specs.Tree.{Tree}
 use Rattle.elimination_theory.proofs.SomeListed.{each_among}
 use Rattle.elimination_reference.specs.Cases.{case_names}
-use Rattle.elimination_reference.specs.Theorems.{answer_names}
+use Rattle.elimination_reference.specs.AnswerParts.{answer_names}
 use Rattle.case_theory.specs.PutThrough.{FitWhere}
 use Rattle.case_theory.specs.CaseTree.{without_all, IsCaseUnder, CasesFitAt}
 use Rattle.case_theory.specs.Under.{Lack}

@@ -4,7 +4,7 @@ use Rattle.formula_meaning.specs.Context.{Context}
 use Rattle.formula_meaning.specs.Point.{Point}
 use Rattle.formula_meaning.specs.Formula.{Or, none, also}
 use Rattle.formula_meaning.specs.Every.{EveryOf, FreeInSome}
-use Rattle.formula_meaning.specs.Shape.{ArePlain}
+use Rattle.formula_meaning.specs.Plain.{ArePlain}
 use Rattle.formula_meaning.specs.Some.{SomeOf, Among, EachOf}
 use Rattle.formula_meaning.specs.Atom.{Atom, Mentions}
 use Rattle.formula_meaning.specs.Answer.{Place}

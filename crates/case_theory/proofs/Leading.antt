@@ -3,7 +3,7 @@ use Rattle.std.proofs.Common.{◌≡◌, ℕ, Bool, true, false, List, [], ◌�
 use Rattle.formula_meaning.specs.Context.{Context, Fields}
 use Rattle.formula_meaning.specs.Formula.{Yes, No, One, Not, And, Or, Impl, Repl, Equiv, Ex, All}
 use Rattle.formula_meaning.specs.Some.{Among}
-use Rattle.formula_meaning.specs.Distinct.{StandsOnce}
+use Rattle.formula_meaning.specs.StandsOnce.{StandsOnce}
 use Rattle.formula_meaning.specs.Shape.{is_in, block_of, matrix_of}
 use Rattle.formula_meaning.specs.declared.quantifier.Quantifier.TheVariants.{Exists}
 use Rattle.formula_meaning.specs.Tree.{Tree, IsFree}
@@ -13,7 +13,7 @@ use Rattle.elimination_reference.proofs.CasesExact.{free}
 use Rattle.elimination_reference.proofs.Branches.{true_is_not_false}
 use Rattle.elimination_reference.proofs.PutMatrix.{block_turned, matrix_turned}
 use Rattle.elimination_reference.specs.Reference.{turned}
-use Rattle.formula_meaning.specs.Shape.{IsNegationNormal, leading}
+use Rattle.formula_meaning.specs.Plain.{IsNegationNormal, leading}
 use Rattle.formula_meaning.proofs.NormalShape.{normal_form_shape}
 use Rattle.atom_normal.specs.NormalForm.{negated_normal}
 use Rattle.case_theory.specs.Leading.{LeadingBlockIsSplit}

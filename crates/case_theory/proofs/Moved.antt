@@ -5,7 +5,8 @@ use Rattle.std.proofs.lemmas.Int.{ints}
 use Rattle.std.proofs.lemmas.Bool.{cases_eq}
 use Rattle.exact_numbers.proofs.Ring.{ring, mul_left_comm, one_mul, mul_one}
 use Rattle.formula_meaning.specs.Context.{Context, Allowed}
-use Rattle.formula_meaning.specs.Point.{Point, Of, move, IsSamePoint}
+use Rattle.formula_meaning.specs.Point.{Point, Of, move}
+use Rattle.formula_meaning.specs.Points.{IsSamePoint}
 use Rattle.formula_meaning.specs.Formula.{One, Ex}
 use Rattle.formula_meaning.specs.Some.{EachOf}
 use Rattle.formula_meaning.specs.Atom.{Atom, Mentions, Says}

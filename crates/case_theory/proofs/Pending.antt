@@ -4,9 +4,10 @@ use Rattle.std.proofs.Math.IntN.{pos}
 use Rattle.std.proofs.lemmas.Bool.{cases_eq}
 use Rattle.exact_numbers.proofs.Ring.{mul_comm}
 use Rattle.formula_meaning.specs.Context.{Context}
-use Rattle.formula_meaning.specs.Point.{Point, Of, finer, AgreeOn}
+use Rattle.formula_meaning.specs.Point.{Point, Of}
+use Rattle.formula_meaning.specs.Points.{finer, AgreeOn}
 use Rattle.formula_meaning.specs.Formula.{One, Ex}
-use Rattle.formula_meaning.specs.Distinct.{StandsOnce}
+use Rattle.formula_meaning.specs.StandsOnce.{StandsOnce}
 use Rattle.formula_meaning.specs.Some.{SomeOf, Among, EachOf}
 use Rattle.formula_meaning.specs.Atom.{Atom}
 use Rattle.formula_meaning.specs.Answer.{Answer, Place}
@@ -15,11 +16,11 @@ use Rattle.formula_meaning.proofs.Iff.{both_ways, turn_round}
 use Rattle.formula_meaning.proofs.Listed.{some_among, among_some, among_left, among_right, among_append}
 use Rattle.formula_meaning.proofs.FreeNames.{tree_agrees}
 use Rattle.formula_meaning.proofs.TreeFiner.{tree_finer}
-use Rattle.elimination_theory.specs.BothTheories.{substitution}
+use Rattle.elimination_theory.specs.Places.{substitution}
 use Rattle.elimination_theory.specs.Steps.{Result}
 use Rattle.elimination_theory.specs.Answers.{answers_of}
 use Rattle.elimination_theory.proofs.SomeListed.{each_left, each_right, each_append, each_among, some_left, some_right, some_either, some_map, some_mapped, some_of_mapped}
-use Rattle.elimination_reference.specs.Over.{AreOver}
+use Rattle.elimination_reference.specs.CasesOver.{AreOver}
 use Rattle.elimination_reference.proofs.Tidy.{tidy_in}
 use Rattle.case_theory.specs.PutThrough.{AreTrue}
 use Rattle.case_theory.specs.Under.{Lack}

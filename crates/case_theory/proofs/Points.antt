@@ -11,10 +11,11 @@ use Rattle.formula_meaning.specs.Truth.{AllTrue}
 use Rattle.formula_meaning.specs.Every.{FreeInSome}
 use Rattle.formula_meaning.specs.Form.{Form, value, coefficient, without, scale}
 use Rattle.formula_meaning.specs.Atom.{Atom, Compare, Equals, Mentions, Says}
-use Rattle.formula_meaning.specs.Shape.{IsPlain}
+use Rattle.formula_meaning.specs.Plain.{IsPlain}
 use Rattle.formula_meaning.specs.Some.{Among}
 use Rattle.formula_meaning.specs.Answer.{Place, Exact, PlaceMentions, Holds}
-use Rattle.formula_meaning.specs.Tree.{Tree, Trees, TrueAt, InContext, IsFree}
+use Rattle.formula_meaning.specs.Tree.{Tree, Trees, TrueAt, IsFree}
+use Rattle.formula_meaning.specs.Equivalence.{InContext}
 use Rattle.formula_meaning.proofs.Iff.{both_ways, turn_round}
 use Rattle.formula_meaning.proofs.EachAtom.{every_all}
 use Rattle.formula_meaning.proofs.Values.{value_move, value_scale}
@@ -23,10 +24,11 @@ use Rattle.formula_meaning.proofs.TreeReplacing.{moved_of}
 use Rattle.formula_meaning.proofs.Equivalence.{absent_dropped}
 use Rattle.elimination_theory.specs.declared.side.Side.{Side}
 use Rattle.elimination_theory.specs.Atoms.{atoms_of}
-use Rattle.elimination_theory.specs.Substitution.{at_place}
+use Rattle.elimination_theory.specs.AtPlace.{at_place}
 use Rattle.elimination_theory.specs.FieldsPoints.{divisor_of, form_over}
 use Rattle.elimination_theory.specs.IntegersTheorems.{Suits}
-use Rattle.elimination_theory.specs.BothTheories.{IsPlaceFor, substitution, test_points}
+use Rattle.elimination_theory.specs.BothTheories.{test_points}
+use Rattle.elimination_theory.specs.Places.{IsPlaceFor, substitution}
 use Rattle.elimination_theory.specs.Answers.{zero_place}
 use Rattle.elimination_theory.proofs.LowestTerms.{lowest}
 use Rattle.elimination_theory.proofs.FieldsMeet.{positive_pos}
@@ -35,7 +37,8 @@ use Rattle.elimination_theory.proofs.FieldsNames.{Has, field_point_names, withou
 use Rattle.elimination_theory.proofs.IntegersNames.{integer_point_names}
 use Rattle.elimination_theory.proofs.BothSubstitutions.{place_holds, point_suits, eliminated}
 use Rattle.elimination_theory.proofs.Answers.{absent_zero}
-use Rattle.case_theory.specs.Points.{IsPointFor, ArePointsFor, SidePointsSuffice, ZeroSuffices, IsConjunct, IsConjunctOfSome, root_over, IsRootOf, RootSuffices}
+use Rattle.case_theory.specs.Points.{IsPointFor, ArePointsFor, SidePointsSuffice, ZeroSuffices, IsConjunct, IsConjunctOfSome, RootSuffices}
+use Rattle.case_theory.specs.Roots.{root_over, IsRootOf}
 use Rattle.case_theory.proofs.Moved.{moved_same}
 use Rattle.case_theory.proofs.Lists.{each_from}
 use Rattle.case_theory.proofs.SameAtoms.{each_covered, some_covered, same_test_points}

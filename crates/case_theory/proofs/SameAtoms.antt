@@ -8,9 +8,11 @@ use Rattle.formula_meaning.specs.Context.{Context, Fields, Integers}
 use Rattle.formula_meaning.specs.Some.{SomeOf, Among, EachOf}
 use Rattle.formula_meaning.specs.Distinct.{distinct}
 use Rattle.formula_meaning.specs.Form.{coefficient}
-use Rattle.formula_meaning.specs.Atom.{Atom, AtomIn, form_of}
+use Rattle.formula_meaning.specs.Atom.{Atom, form_of}
+use Rattle.formula_meaning.specs.TheoryAtoms.{AtomIn}
 use Rattle.formula_meaning.specs.Answer.{Place, same_place}
-use Rattle.formula_meaning.specs.Tree.{Tree, InContext}
+use Rattle.formula_meaning.specs.Tree.{Tree}
+use Rattle.formula_meaning.specs.Equivalence.{InContext}
 use Rattle.formula_meaning.proofs.Listed.{some_among, among_some, among_left, among_right, among_append, among_flat_map, flat_map_among, among_distinct, distinct_among}
 use Rattle.formula_meaning.proofs.Same.{place_same}
 use Rattle.elimination_theory.specs.declared.side.Side.{Side}

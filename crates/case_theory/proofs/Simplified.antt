@@ -5,17 +5,19 @@ use Rattle.formula_meaning.specs.Context.{Context}
 use Rattle.formula_meaning.specs.Formula.{Yes, No, One, Not, And, Or, Impl, Repl, Equiv, Ex, All, none, also}
 use Rattle.formula_meaning.specs.Every.{Every, EveryOf}
 use Rattle.formula_meaning.specs.Atom.{Atom, Mentions, form_of}
-use Rattle.formula_meaning.specs.Shape.{IsPlain, ArePlain, IsQuantifierFree, AreQuantifierFree}
+use Rattle.formula_meaning.specs.Shape.{IsQuantifierFree, AreQuantifierFree}
+use Rattle.formula_meaning.specs.Plain.{IsPlain, ArePlain}
 use Rattle.formula_meaning.specs.declared.junction.Junction.{Junction}
 use Rattle.formula_meaning.specs.declared.junction.Junction.TheVariants.{Conjunction, Disjunction}
 use Rattle.formula_meaning.specs.Tree.{Tree, Trees}
 use Rattle.atom_normal.specs.NormalForm.{IsNormal, negated_normal}
 use Rattle.atom_merging.specs.Computed.{IsNormalWithin}
 use Rattle.atom_merging.specs.Merging.{IsKept}
-use Rattle.simplified_formulas.specs.AtomKit.{contains}
+use Rattle.simplified_formulas.specs.Contained.{contains}
 use Rattle.simplified_formulas.specs.Orderly.{IsOrderly, AreOrderly}
 use Rattle.simplified_formulas.specs.Reduced.{MayStand, under, ReducedInside, MembersReduced}
-use Rattle.simplified_formulas.specs.Trees.{LeavesOpen, IsReduced, simplified_under}
+use Rattle.simplified_formulas.specs.Trees.{LeavesOpen, IsReduced}
+use Rattle.simplified_formulas.specs.Simplifiable.{simplified_under}
 use Rattle.simplified_formulas.proofs.TreeLaws.{keeps_truth, keeps_shape, brings_no_name, brings_no_quantifier, is_reduced}
 use Rattle.elimination_reference.specs.Theorems.{IsProper, IsBranching, AreBranching}
 use Rattle.case_theory.specs.Simplified.{HasConstantsWithin, TidyIsSimplifiable, ReducedIsTidy, SimplifyingIsWork}

@@ -7,11 +7,11 @@ use Rattle.formula_meaning.specs.Answer.{Holds, MeetsAll}
 use Rattle.formula_meaning.specs.Tree.{Tree, TrueAt}
 use Rattle.formula_meaning.proofs.Iff.{both_ways}
 use Rattle.formula_meaning.proofs.TreeReplacing.{moved_of}
-use Rattle.elimination_theory.specs.Substitution.{at_place}
+use Rattle.elimination_theory.specs.AtPlace.{at_place}
 use Rattle.elimination_theory.specs.Answers.{Step, answers_of}
 use Rattle.elimination_theory.proofs.Meets.{meets_map}
 use Rattle.elimination_theory.proofs.BothSubstitutions.{place_in, place_holds}
-use Rattle.simplified_formulas.specs.Trees.{EquivalentUnder}
+use Rattle.simplified_formulas.specs.Simplifiable.{EquivalentUnder}
 use Rattle.case_theory.specs.PutThrough.{AreTrue}
 use Rattle.case_theory.specs.Under.{MakesUnder, AnswersHoldUnder}
 use Rattle.case_theory.proofs.Moved.{lacking_stays}

@@ -7,7 +7,7 @@ use Rattle.formula_meaning.specs.Form.{coefficient}
 use Rattle.formula_meaning.specs.Atom.{Atom, Mentions, form_of}
 use Rattle.formula_meaning.specs.Some.{EachOf}
 use Rattle.simplified_formulas.specs.Atoms.{without}
-use Rattle.simplified_formulas.specs.AtomKit.{contains}
+use Rattle.simplified_formulas.specs.Contained.{contains}
 use Rattle.elimination_reference.proofs.Branches.{true_is_not_false}
 use Rattle.case_theory.specs.CaseTree.{without_all}
 use Rattle.case_theory.specs.Under.{Lack}

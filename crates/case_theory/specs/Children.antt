@@ -7,11 +7,11 @@ use Rattle.formula_meaning.specs.Some.{SomeOf, Among, EachOf}
 use Rattle.formula_meaning.specs.Atom.{Atom}
 use Rattle.formula_meaning.specs.Answer.{Place}
 use Rattle.formula_meaning.specs.Tree.{Tree, TrueAt, IsFree}
-use Rattle.elimination_theory.specs.BothTheories.{substitution}
+use Rattle.elimination_theory.specs.Places.{substitution}
 use Rattle.elimination_theory.specs.Steps.{Result, result_at}
 use Rattle.elimination_theory.specs.Answers.{zero_place}
 use Rattle.atom_normal.specs.NormalForm.{normal_atom}
-use Rattle.simplified_formulas.specs.Trees.{EquivalentUnder}
+use Rattle.simplified_formulas.specs.Simplifiable.{EquivalentUnder}
 use Rattle.elimination_reference.specs.Theorems.{IsTidy}
 use Rattle.case_theory.specs.PutThrough.{AreTrue}
 use Rattle.case_theory.specs.Points.{IsPointFor}

@@ -2,10 +2,11 @@
 use Rattle.std.specs.Prelude.{◌≡◌, ℕ, ℤ, pos, nat_eq}
 use Rattle.formula_meaning.specs.Context.{Integers}
 use Rattle.formula_meaning.specs.Point.{Point, Of, move}
-use Rattle.formula_meaning.specs.Shape.{IsPlain}
+use Rattle.formula_meaning.specs.Plain.{IsPlain}
 use Rattle.formula_meaning.specs.Answer.{Periodic, Holds}
-use Rattle.formula_meaning.specs.Tree.{Tree, TrueAt, InContext}
-use Rattle.elimination_theory.specs.Substitution.{at_place}
+use Rattle.formula_meaning.specs.Tree.{Tree, TrueAt}
+use Rattle.formula_meaning.specs.Equivalence.{InContext}
+use Rattle.elimination_theory.specs.AtPlace.{at_place}
 use Rattle.elimination_theory.specs.IntegersSample.{IsClassSample}
 
 -- Where the class makes a formula true, the formula is true at the sample of the class, though the period is perhaps one of none

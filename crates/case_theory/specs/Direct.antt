@@ -2,7 +2,6 @@
 use Rattle.std.specs.Prelude.{◌≡◌, ℕ, ◌≤◌, Option, Some, None}
 use Rattle.formula_meaning.specs.Context.{Fields}
 use Rattle.formula_meaning.specs.Formula.{One, And, Ex, none, also}
-use Rattle.formula_meaning.specs.Every.{Every}
 use Rattle.formula_meaning.specs.Form.{Form, coefficient}
 use Rattle.formula_meaning.specs.Atom.{Atom, Compare, Congruent, Equals, Differs, Below, AtMost, Above, AtLeast}
 use Rattle.formula_meaning.specs.Some.{EachOf}
@@ -12,11 +11,9 @@ use Rattle.formula_meaning.specs.Tree.{Tree, Trees}
 use Rattle.elimination_theory.specs.Atoms.{atoms_of}
 use Rattle.elimination_theory.specs.Substitution.{where_zero}
 use Rattle.elimination_theory.specs.Steps.{result_at}
-use Rattle.atom_normal.specs.NormalForm.{IsNormal, normal_atom}
-use Rattle.elimination_reference.specs.LimitLaws.{AtomFormsWithin}
-use Rattle.elimination_reference.specs.Theorems.{IsAnswerTo}
-use Rattle.case_theory.specs.Points.{IsRoot}
-use Rattle.case_theory.specs.Simplified.{HasConstantsWithin}
+use Rattle.atom_normal.specs.NormalForm.{normal_atom}
+use Rattle.elimination_reference.specs.LimitsWithin.{AtomFormsWithin}
+use Rattle.case_theory.specs.Roots.{IsRoot}
 
 -- each member is an atom
 abbrev pub AreAtoms : Trees → Type 0
@@ -57,11 +54,3 @@ pub record IsDirect (limit : ℕ) (f : Tree) (x : ℕ) (fs : Trees) (s : Place) 
 -- the conjunction with x at the root
 abbrev pub direct_answer : ℕ → Trees → Place → Tree
 direct_answer x fs s = result_at Fields (normal_atom Fields) x s (And fs)
-
--- Of a formula over normal atoms that is direct, this is an answer.
-abbrev pub DirectAnswerIsExact : Type 0
-DirectAnswerIsExact = (limit : ℕ) (f : Tree) (x : ℕ) (fs : Trees) (s : Place) → Every (IsNormal Fields) f → IsDirect limit f x fs s → IsAnswerTo Fields f (direct_answer x fs s)
-
--- Its constants are within the limit where those of the formula are, so that it can be simplified.
-abbrev pub DirectAnswerIsWithin : Type 0
-DirectAnswerIsWithin = (limit : ℕ) (f : Tree) (x : ℕ) (fs : Trees) (s : Place) → Every (IsNormal Fields) f → HasConstantsWithin f → IsDirect limit f x fs s → HasConstantsWithin (direct_answer x fs s)

@@ -3,8 +3,10 @@ use Rattle.std.specs.Prelude.{◌≡◌, ℕ, List, Option, Some, None}
 use Rattle.formula_meaning.specs.Context.{Context}
 use Rattle.formula_meaning.specs.Every.{Every}
 use Rattle.formula_meaning.specs.Atom.{Atom}
-use Rattle.formula_meaning.specs.Tree.{Tree, Equivalent}
-use Rattle.formula_meaning.specs.Measured.{Stop, Outcome, stopped, done, Gives}
+use Rattle.formula_meaning.specs.Tree.{Tree}
+use Rattle.formula_meaning.specs.Equivalence.{Equivalent}
+use Rattle.formula_meaning.specs.Measured.{Stop, Outcome, stopped, done}
+use Rattle.formula_meaning.specs.Giving.{Gives}
 use Rattle.atom_normal.specs.NormalForm.{IsNormal}
 use Rattle.elimination_reference.specs.Reference.{reference}
 use Rattle.elimination_reference.specs.Cases.{case_matrix, reference_cases}

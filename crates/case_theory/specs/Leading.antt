@@ -1,8 +1,9 @@
 -- The leading block of a formula, split from its matrix.
 use Rattle.std.specs.Prelude.{◌≡◌, ℕ, [], nat_eq}
 use Rattle.formula_meaning.specs.Some.{Among}
-use Rattle.formula_meaning.specs.Distinct.{StandsOnce}
-use Rattle.formula_meaning.specs.Shape.{block_of, matrix_of, leading}
+use Rattle.formula_meaning.specs.StandsOnce.{StandsOnce}
+use Rattle.formula_meaning.specs.Shape.{block_of, matrix_of}
+use Rattle.formula_meaning.specs.Plain.{leading}
 use Rattle.formula_meaning.specs.Tree.{Tree, IsFree}
 use Rattle.elimination_reference.specs.Reference.{normal_tree, turned}
 use Rattle.elimination_reference.specs.Cases.{case_sign, case_formula, case_matrix, case_names}

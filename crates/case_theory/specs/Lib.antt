@@ -2,6 +2,7 @@ pub mod PutThrough
 pub mod CaseTree
 pub mod Under
 pub mod Block
+pub mod Roots
 pub mod Points
 pub mod Worked
 pub mod Children
@@ -11,4 +12,5 @@ pub mod Leading
 pub mod Fallback
 pub mod Simplified
 pub mod Direct
+pub mod DirectTheorems
 pub mod ClassSample

@@ -7,7 +7,7 @@ use Rattle.formula_meaning.specs.Formula.{Yes, none, also}
 use Rattle.formula_meaning.specs.Fold.{fold_list}
 use Rattle.formula_meaning.specs.declared.junction.Junction.TheVariants.{Disjunction}
 use Rattle.formula_meaning.specs.Some.{SomeOf, Among, EachOf}
-use Rattle.formula_meaning.specs.Distinct.{StandsOnce}
+use Rattle.formula_meaning.specs.StandsOnce.{StandsOnce}
 use Rattle.formula_meaning.specs.Atom.{Atom}
 use Rattle.formula_meaning.specs.Answer.{Place}
 use Rattle.formula_meaning.specs.Tree.{Tree, Trees, TrueAt, IsFree}
@@ -15,8 +15,9 @@ use Rattle.elimination_theory.specs.Answers.{Step, answers_of}
 use Rattle.elimination_theory.specs.Steps.{Result}
 use Rattle.atom_normal.specs.NormalForm.{IsNormal}
 use Rattle.elimination_reference.specs.Cases.{Case, case_matrix, case_names}
-use Rattle.elimination_reference.specs.Over.{AreOver}
-use Rattle.elimination_reference.specs.Theorems.{IsTidy, answer_names}
+use Rattle.elimination_reference.specs.CasesOver.{AreOver}
+use Rattle.elimination_reference.specs.Theorems.{IsTidy}
+use Rattle.elimination_reference.specs.AnswerParts.{answer_names}
 use Rattle.case_theory.specs.PutThrough.{AreTrue}
 use Rattle.case_theory.specs.CaseTree.{without_all, IsCaseTree}
 use Rattle.case_theory.specs.Under.{Lack, LeadUnder}

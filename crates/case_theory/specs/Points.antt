@@ -1,19 +1,21 @@
 -- The points at which a name has to be put: those of a side, 0 for a name that stands nowhere, the root of an equation.
-use Rattle.std.specs.Prelude.{◌≡◌, ◌⊎◌, ℕ, suc, zero, ℤ, pos, negsuc, ◌↔◌, List, [], ◌∷◌}
-use Rattle.formula_meaning.specs.Context.{Context, Fields, Integers}
+use Rattle.std.specs.Prelude.{◌≡◌, ◌⊎◌, ℕ, ◌↔◌, List, [], ◌∷◌}
+use Rattle.formula_meaning.specs.Context.{Context}
 use Rattle.formula_meaning.specs.Point.{Point, Of}
 use Rattle.formula_meaning.specs.Formula.{Yes, No, One, Not, And, Or, Impl, Repl, Equiv, Ex, All, none, also}
-use Rattle.formula_meaning.specs.Form.{Form, coefficient, without, scale}
+use Rattle.formula_meaning.specs.Form.{Form}
 use Rattle.formula_meaning.specs.Atom.{Atom, Compare, Equals}
-use Rattle.formula_meaning.specs.Shape.{IsPlain}
+use Rattle.formula_meaning.specs.Plain.{IsPlain}
 use Rattle.formula_meaning.specs.Some.{SomeOf, Among, EachOf}
-use Rattle.formula_meaning.specs.Answer.{Place, Exact, PlaceMentions}
-use Rattle.formula_meaning.specs.Tree.{Tree, Trees, TrueAt, InContext, IsFree}
+use Rattle.formula_meaning.specs.Answer.{Place, PlaceMentions}
+use Rattle.formula_meaning.specs.Tree.{Tree, Trees, TrueAt, IsFree}
+use Rattle.formula_meaning.specs.Equivalence.{InContext}
 use Rattle.elimination_theory.specs.declared.side.Side.{Side}
 use Rattle.elimination_theory.specs.Atoms.{atoms_of}
-use Rattle.elimination_theory.specs.FieldsPoints.{exact_point}
-use Rattle.elimination_theory.specs.BothTheories.{IsPlaceFor, substitution, test_points}
+use Rattle.elimination_theory.specs.BothTheories.{test_points}
+use Rattle.elimination_theory.specs.Places.{IsPlaceFor, substitution}
 use Rattle.elimination_theory.specs.Answers.{zero_place}
+use Rattle.case_theory.specs.Roots.{IsRoot}
 
 -- the place suits the formula, and has free names of ex(x, f) alone
 pub record IsPointFor (c : Context) (x : ℕ) (f : Tree) (s : Place) : Type 0 where
@@ -52,21 +54,6 @@ abbrev mutual
   pub IsConjunctOfSome : Atom → Trees → Type 0
   IsConjunctOfSome a none = ⊥
   IsConjunctOfSome a (also f fs) = IsConjunct a f ⊎ IsConjunctOfSome a fs
-
--- e over d, over the fields in lowest terms
-abbrev pub root_over : Context → Form → ℕ → Place
-root_over Fields e d = exact_point e d
-root_over Integers e d = Exact e d
-
--- the place is the root of a * x + t = 0
-abbrev pub IsRootOf : Context → ℤ → Form → Place → Type 0
-IsRootOf c (pos zero) t s = ⊥
-IsRootOf c (pos (suc n)) t s = s ≡ root_over c (scale (negsuc 0) t) (suc n)
-IsRootOf c (negsuc n) t s = s ≡ root_over c t (suc n)
-
--- the place is the root of the equation e = 0 in x
-abbrev pub IsRoot : Context → ℕ → Form → Place → Type 0
-IsRoot c x e s = IsRootOf c (coefficient x e) (without x e) s
 
 -- The root of a conjoined equation is enough, in both theories: over the integers its guard says that it is a whole number.
 abbrev pub RootSuffices : Context → Type 0

@@ -2,14 +2,15 @@
 use Rattle.std.specs.Prelude.{ℕ, ◌↔◌, List, [], ◌∷◌}
 use Rattle.formula_meaning.specs.Context.{Context}
 use Rattle.formula_meaning.specs.Point.{Point, Of}
-use Rattle.formula_meaning.specs.Shape.{IsPlain}
+use Rattle.formula_meaning.specs.Plain.{IsPlain}
 use Rattle.formula_meaning.specs.Some.{EachOf}
 use Rattle.formula_meaning.specs.Atom.{Atom, Mentions}
 use Rattle.formula_meaning.specs.Answer.{Holds}
-use Rattle.formula_meaning.specs.Tree.{Tree, TrueAt, InContext}
-use Rattle.elimination_theory.specs.BothTheories.{IsPlaceFor, substitution}
+use Rattle.formula_meaning.specs.Tree.{Tree, TrueAt}
+use Rattle.formula_meaning.specs.Equivalence.{InContext}
+use Rattle.elimination_theory.specs.Places.{IsPlaceFor, substitution}
 use Rattle.elimination_theory.specs.Answers.{Step, answers_of}
-use Rattle.simplified_formulas.specs.Trees.{EquivalentUnder}
+use Rattle.simplified_formulas.specs.Simplifiable.{EquivalentUnder}
 use Rattle.elimination_reference.specs.Theorems.{IsTidy}
 use Rattle.case_theory.specs.PutThrough.{AreTrue, Fit}
 

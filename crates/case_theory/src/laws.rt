@@ -13,7 +13,7 @@ ghost use Rattle.case_theory.specs.Inside.{PendingIsInside, InsideGoesOn, Inside
 ghost use Rattle.case_theory.specs.Leading.{LeadingBlockIsSplit};
 ghost use Rattle.case_theory.specs.Fallback.{ReferenceIsCaseTree, MatrixIsNormal, ReferenceGivesMatrix, MatrixIsDone, StopsAreOne};
 ghost use Rattle.case_theory.specs.Simplified.{TidyIsSimplifiable, ReducedIsTidy, SimplifyingIsWork};
-ghost use Rattle.case_theory.specs.Direct.{DirectAnswerIsExact, DirectAnswerIsWithin};
+ghost use Rattle.case_theory.specs.DirectTheorems.{DirectAnswerIsExact, DirectAnswerIsWithin};
 ghost use Rattle.case_theory.specs.ClassSample.{ClassSampleIsTrue};
 ghost use Rattle.std.specs.Prelude.{ℕ, List};
 

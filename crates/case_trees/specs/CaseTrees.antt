@@ -6,10 +6,12 @@ use Rattle.formula_meaning.specs.Fold.{from_pieces}
 use Rattle.formula_meaning.specs.declared.junction.Junction.TheVariants.{Disjunction}
 use Rattle.formula_meaning.specs.Some.{EachOf}
 use Rattle.formula_meaning.specs.Atom.{Atom}
-use Rattle.formula_meaning.specs.Tree.{Tree, IsFree, Equivalent}
+use Rattle.formula_meaning.specs.Tree.{Tree, IsFree}
+use Rattle.formula_meaning.specs.Equivalence.{Equivalent}
 use Rattle.elimination_reference.specs.Reference.{normal_tree}
 use Rattle.elimination_reference.specs.Cases as reference
-use Rattle.elimination_reference.specs.Theorems.{IsTidy, IsProper, guards_of}
+use Rattle.elimination_reference.specs.Theorems.{IsTidy, IsProper}
+use Rattle.elimination_reference.specs.AnswerParts.{guards_of}
 use Rattle.linear_forms.specs.declared.form.VarId.{VarId}
 use Rattle.formula_tree.specs.declared.shape.Shape.{Shape}
 use Rattle.formula_store.specs.declared.id.FormulaId.{FormulaId}

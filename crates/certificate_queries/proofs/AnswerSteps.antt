@@ -4,14 +4,14 @@ use Rattle.std.specs.Prelude.{IsTrue, Result, Ok, Err, IfOk, IfErr}
 use Rattle.std.specs.List.{fold}
 use Rattle.std.proofs.Math.IntN.{ℤ}
 use Rattle.formula_meaning.specs.Context.{Fields}
-use Rattle.formula_meaning.specs.Distinct.{StandsOnce}
+use Rattle.formula_meaning.specs.StandsOnce.{StandsOnce}
 use Rattle.formula_meaning.specs.Measured.{done}
 use Rattle.formula_meaning.specs.Some.{SomeOf}
 use Rattle.qe_syntax.specs.declared.tree.Literal.{Literal}
 use Rattle.qe_syntax.specs.declared.tree.Literal.TheVariants.{Past}
 use Rattle.qe_syntax.specs.Trees.{FormulaTrees}
 use Rattle.atom_normal.proofs.Stepped.{ok_map}
-use Rattle.statement_syntax.specs.Constraints.{AreConstraints}
+use Rattle.statement_syntax.specs.ConstraintLists.{AreConstraints}
 use Rattle.statement_syntax.specs.Statements.{Certify, Check}
 use Rattle.formula_tree.specs.Names.{with_name}
 use Rattle.formula_tree.specs.Resolving.{all_variables, place}

@@ -7,10 +7,12 @@ use Rattle.formula_meaning.specs.Measured.{Stop, Overflow, Nodes, done, stopped}
 use Rattle.qe_syntax.specs.declared.tree.Literal.{Literal}
 use Rattle.qe_syntax.specs.declared.tree.Relation.{Relation}
 use Rattle.qe_syntax.specs.Trees.{TermTree, Compare, Cong, Ncong, Bound, FormulaTree, FormulaTrees}
-use Rattle.statement_syntax.specs.Constraints.{bounds, is_constraint, AreConstraints}
+use Rattle.statement_syntax.specs.Constraints.{bounds, is_constraint}
+use Rattle.statement_syntax.specs.ConstraintLists.{AreConstraints}
 use Rattle.statement_syntax.specs.Statements.{Certify}
 use Rattle.formula_tree.specs.Causes.{CongruenceInFields, IsBadModulus, IsTooDeep}
-use Rattle.formula_tree.specs.Resolving.{BoundTrees, place, names_after}
+use Rattle.formula_tree.specs.Resolving.{BoundTrees, place}
+use Rattle.formula_tree.specs.NamesAfter.{names_after}
 use Rattle.formula_resolving.specs.declared.error.StaticError.{StaticError}
 use Rattle.formula_resolving.specs.declared.error.StaticError.TheVariants as static
 use Rattle.redlog_printer.specs.Writing.{text_limit}

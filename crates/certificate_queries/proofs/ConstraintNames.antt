@@ -4,7 +4,7 @@ use Rattle.std.proofs.lemmas.Bool.{false≢true}
 use Rattle.std.specs.Prelude.{slice_get}
 use Rattle.std.specs.List.{AllByRecursion, IsDistinct, fold, list_any}
 use Rattle.formula_meaning.specs.Context.{Fields}
-use Rattle.formula_meaning.specs.Distinct.{StandsOnce}
+use Rattle.formula_meaning.specs.StandsOnce.{StandsOnce}
 use Rattle.formula_meaning.specs.Formula.{One, none, also}
 use Rattle.formula_meaning.specs.Some.{SomeOf, Among}
 use Rattle.formula_meaning.specs.Tree.{IsFree}
@@ -12,7 +12,7 @@ use Rattle.qe_syntax.specs.Trees.{Compare, FormulaTree, FormulaTrees}
 use Rattle.qe_syntax.specs.Value.{same_name}
 use Rattle.qe_syntax.specs.Valued.{IsIn}
 use Rattle.qe_syntax.proofs.EntryLists.{each_push, some_split}
-use Rattle.statement_syntax.specs.Constraints.{AreConstraints}
+use Rattle.statement_syntax.specs.ConstraintLists.{AreConstraints}
 use Rattle.formula_tree.specs.Names.{with_name}
 use Rattle.formula_tree.specs.Resolving.{place, resolve, formula_variables, all_variables, IsFreeInPlace}
 use Rattle.formula_tree.proofs.Nowhere.{mentioned_have}

@@ -23,7 +23,7 @@ use Rattle.qe_syntax.specs.Value.{relation_of}
 use Rattle.statement_syntax.specs.Constraints.{bounds}
 use Rattle.formula_tree.specs.RationalForms.{RationalForm, Missing, formed_difference}
 use Rattle.formula_tree.specs.Resolving.{place, resolve, compared}
-use Rattle.farkas_theory.specs.Constraints.{Meets}
+use Rattle.farkas_theory.specs.Meeting.{Meets}
 use Rattle.farkas_theory.specs.Farkas.{nothing}
 use Rattle.session_meaning.specs.Certificates.{tree_constraint}
 use Rattle.session_meaning.specs.State.{State}

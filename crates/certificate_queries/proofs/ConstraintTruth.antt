@@ -2,15 +2,16 @@
 use Rattle.std.proofs.Common.{◌≡◌, ◌↔◌, ℕ, sym, subst, refl}
 use Rattle.formula_meaning.specs.Context.{Fields}
 use Rattle.formula_meaning.specs.Formula.{none, also}
-use Rattle.formula_meaning.specs.Point.{Point, Of, AgreeOn}
+use Rattle.formula_meaning.specs.Point.{Point, Of}
+use Rattle.formula_meaning.specs.Points.{AgreeOn}
 use Rattle.formula_meaning.specs.Tree.{TrueAt, IsFree}
 use Rattle.formula_meaning.proofs.FreeNames.{tree_agrees}
 use Rattle.qe_syntax.specs.Trees.{FormulaTree, FormulaTrees}
 use Rattle.qe_syntax.specs.Value as written
-use Rattle.statement_syntax.specs.Constraints.{AreConstraints}
+use Rattle.statement_syntax.specs.ConstraintLists.{AreConstraints}
 use Rattle.formula_tree.specs.Resolving.{at_names, resolve, bound_truth}
 use Rattle.formula_tree.proofs.PlaceLaws.{at_place}
-use Rattle.farkas_theory.specs.Constraints.{MeetsAll}
+use Rattle.farkas_theory.specs.Meeting.{MeetsAll}
 use Rattle.session_meaning.specs.Assumptions.{AllTrueAt}
 use Rattle.session_meaning.specs.Certificates.{constraints_of}
 use Rattle.session_meaning.specs.Places.{by_names}

@@ -4,9 +4,10 @@ ghost use Rattle.std.specs.Prelude.{◌≡◌, None, IfOk, IfErr, OnOk, OnErr, m
 ghost use Rattle.std.specs.List.{AllByRecursion};
 ghost use Rattle.linear_forms.specs.Values.{number_of};
 ghost use Rattle.qe_syntax.specs.Names.{IsVariable};
-ghost use Rattle.qe_syntax.specs.Trees.{formula_tree, formulas_of};
+ghost use Rattle.qe_syntax.specs.Trees.{formulas_of};
+ghost use Rattle.qe_syntax.specs.CodeTrees.{formula_tree};
 ghost use Rattle.qe_syntax.specs.Writable.{AreWritableFormulas};
-ghost use Rattle.statement_syntax.specs.Constraints.{AreConstraints};
+ghost use Rattle.statement_syntax.specs.ConstraintLists.{AreConstraints};
 ghost use Rattle.statement_syntax.specs.Statements.{Certify};
 ghost use Rattle.formula_tree.specs.Resolving.{place};
 ghost use Rattle.certificate_search.specs.Certificates.{certificate_of as meant_certificate, HasNumbersWithin};

@@ -3,9 +3,10 @@
 ghost use Rattle.std.specs.Prelude.{◌≡◌, ◌⊎◌, None, IfOk, IfErr, OnOk, OnErr, map};
 ghost use Rattle.formula_meaning.specs.Some.{SomeOf};
 ghost use Rattle.qe_syntax.specs.declared.tree.Literal.TheVariants.{Past};
-ghost use Rattle.qe_syntax.specs.Trees.{formula_tree, formulas_of};
+ghost use Rattle.qe_syntax.specs.Trees.{formulas_of};
+ghost use Rattle.qe_syntax.specs.CodeTrees.{formula_tree};
 ghost use Rattle.qe_syntax.specs.Writable.{AreWritableFormulas};
-ghost use Rattle.statement_syntax.specs.Constraints.{AreConstraints};
+ghost use Rattle.statement_syntax.specs.ConstraintLists.{AreConstraints};
 ghost use Rattle.statement_syntax.specs.Statements.{Check};
 ghost use Rattle.statement_syntax.specs.Writable.{AreWritableNumbers};
 ghost use Rattle.session_meaning.specs.Certificates.{multipliers_of as meant_multipliers, IsCheckAnswer};

@@ -3,7 +3,8 @@ use Rattle.std.proofs.Common.{◌≡◌, List, [], ◌∷◌, ◌++◌, ap, sym,
 use Rattle.std.proofs.Math.IntN.{ℤ, pos}
 use Rattle.std.specs.Prelude.{◌≤ℤ◌}
 use Rattle.std.proofs.lemmas.Int.{ints}
-use Rattle.exact_numbers.specs.Divides.{DividesAll, IsGcd, gcd_of, content_of}
+use Rattle.exact_numbers.specs.Divides.{IsGcd, gcd_of, content_of}
+use Rattle.exact_numbers.specs.Division.{DividesAll}
 use Rattle.exact_numbers.proofs.Contents.{content_is, divides_all_trans}
 use Rattle.exact_numbers.proofs.Divisibility.{divides_trans, divides_zero, divides_same}
 use Rattle.exact_numbers.proofs.GreatestDivisor.{gcd_is, gcd_of_is}

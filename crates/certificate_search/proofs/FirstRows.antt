@@ -3,12 +3,12 @@ use Rattle.std.proofs.Common.{◌≡◌, ◌+◌, ◌<◌, ◌++◌, ℕ, Bool, 
 use Rattle.std.proofs.Math.IntN.{ℤ, negsuc}
 use Rattle.std.specs.Prelude.{option_map, find, if◌then◌else◌}
 use Rattle.std.proofs.lemmas.List.{drop_more}
-use Rattle.exact_numbers.specs.Divides.{DividesAll}
+use Rattle.exact_numbers.specs.Division.{DividesAll}
 use Rattle.exact_numbers.proofs.Divisibility.{neg_divides, one_divides}
 use Rattle.formula_meaning.specs.Form.{Form, coefficient}
 use Rattle.formula_meaning.specs.Sorted.{gathered}
 use Rattle.formula_meaning.proofs.Gathered.{sorted_stays}
-use Rattle.linear_forms.specs.Terms.{IsLinear}
+use Rattle.linear_forms.specs.Combinations.{IsLinear}
 use Rattle.linear_forms.proofs.Quotients.{quotient_minus_one}
 use Rattle.fourier_motzkin.specs.Rows as search
 use Rattle.fourier_motzkin.specs.Rows.{row_quotient, negated_row, row_at, one_at}

@@ -4,8 +4,9 @@ use Rattle.std.specs.Prelude.{MatchResult}
 use Rattle.std.proofs.Math.IntN.{ℤ}
 use Rattle.std.proofs.lemmas.List.{length-map}
 use Rattle.exact_numbers.specs.Frac.{Frac}
-use Rattle.formula_meaning.specs.Distinct.{StandsOnce}
-use Rattle.formula_meaning.specs.Measured.{Outcome, stopped, done, then_of, Overflow, Gives}
+use Rattle.formula_meaning.specs.StandsOnce.{StandsOnce}
+use Rattle.formula_meaning.specs.Measured.{Outcome, stopped, done, then_of, Overflow}
+use Rattle.formula_meaning.specs.Giving.{Gives}
 use Rattle.formula_meaning.specs.Some.{EachOf}
 use Rattle.linear_forms.specs.declared.error.LinError.{LinError}
 use Rattle.linear_forms.specs.declared.error.LinError.TheVariants as linear

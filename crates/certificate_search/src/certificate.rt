@@ -1,6 +1,6 @@
 // Certificates, and the search for one.
 ghost use Rattle.std.specs.Prelude.{◌≡◌, map, IfOk, MatchResult};
-ghost use Rattle.formula_meaning.specs.Distinct.{StandsOnce};
+ghost use Rattle.formula_meaning.specs.StandsOnce.{StandsOnce};
 ghost use Rattle.formula_meaning.specs.Measured.{done};
 ghost use Rattle.linear_forms.specs.Values.{number_of};
 ghost use Rattle.fourier_motzkin.specs.Search.{search};

@@ -2,7 +2,8 @@
 ghost use Rattle.std.specs.Prelude.{◌≡◌, ◌⊎◌, pos, negsuc, ◌<ℤ◌, ◌||◌, ◌++◌, false, true, int_div, map, option_map, All, IfOk, IfErr, IsErrOf, OnOk};
 ghost use Rattle.std.specs.Option.{option_copied};
 ghost use Rattle.exact_numbers.specs.Limit.{InLimit};
-ghost use Rattle.exact_numbers.specs.Divides.{DividesAll, content_of, gcd_of};
+ghost use Rattle.exact_numbers.specs.Divides.{content_of, gcd_of};
+ghost use Rattle.exact_numbers.specs.Division.{DividesAll};
 ghost use Rattle.formula_meaning.specs.Form.{coefficient, combine};
 ghost use Rattle.formula_meaning.specs.Sorted.{gathered};
 ghost use Rattle.linear_forms.specs.Terms.{CombinesWithin, CombinePasses};

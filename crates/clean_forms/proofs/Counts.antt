@@ -7,7 +7,8 @@ use Rattle.formula_meaning.specs.declared.junction.Junction.{Junction}
 use Rattle.formula_meaning.specs.Tree.{Tree}
 use Rattle.atom_merging.specs.Computed.{IsNormalWithin}
 use Rattle.simplified_formulas.specs.AtomKit.{atom_kit}
-use Rattle.clean_forms.specs.Plain.{together, of_none, places, distributed}
+use Rattle.clean_forms.specs.Plain.{together, of_none, distributed}
+use Rattle.clean_forms.specs.Places.{places}
 use Rattle.clean_forms.specs.Lines.{joined_lines, clean_lines, more_clean_lines}
 use Rattle.clean_forms.specs.Counts.{Sizes, nothing_sizes, is_bare, product_sizes, sum_sizes, joined_sizes, sizes, more_sizes}
 use Rattle.clean_forms.specs.Laws.{IsDistributable, SizesAreThosePlain, FewPlacesDecideLinesOf, FewPlacesDecideLines}

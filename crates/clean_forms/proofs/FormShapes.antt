@@ -8,7 +8,7 @@ use Rattle.formula_meaning.specs.Fold.{from_pieces}
 use Rattle.formula_meaning.specs.declared.junction.Junction.{Junction}
 use Rattle.formula_meaning.specs.declared.junction.Junction.TheVariants.{Conjunction, Disjunction}
 use Rattle.simplified_formulas.specs.Orderly.{IsOrderly, AreOrderly}
-use Rattle.simplified_formulas.specs.Pass.{ones}
+use Rattle.simplified_formulas.specs.AtomsFirst.{ones}
 use Rattle.clean_forms.specs.Ways.{dual, line_forms, form_of_lines}
 
 module _ {A : Type 0} (Q : A → Type 0) where

@@ -5,9 +5,10 @@ use Rattle.formula_meaning.specs.Some.{EachOf}
 use Rattle.formula_meaning.specs.Fold.{joined, neutral}
 use Rattle.formula_meaning.specs.declared.junction.Junction.{Junction}
 use Rattle.formula_meaning.specs.declared.junction.Junction.TheVariants.{Conjunction, Disjunction}
-use Rattle.simplified_formulas.specs.Atoms.{Kit}
+use Rattle.simplified_formulas.specs.Kit.{Kit}
 use Rattle.simplified_formulas.specs.Measure.{Measure, as_member, size, members_size, more_size}
-use Rattle.simplified_formulas.specs.Pass.{constant, ones}
+use Rattle.simplified_formulas.specs.Pass.{constant}
+use Rattle.simplified_formulas.specs.AtomsFirst.{ones}
 use Rattle.clean_forms.specs.Ways.{dual, line_form, line_forms, form_of_lines}
 use Rattle.clean_forms.proofs.Inserting.{total, MergesLightly}
 use Rattle.clean_forms.proofs.Under.{FitsLine, Under, ends, goes, stays, under_plain, under_few}

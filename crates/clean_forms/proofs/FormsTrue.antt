@@ -10,9 +10,9 @@ use Rattle.formula_meaning.specs.declared.junction.Junction.{Junction}
 use Rattle.formula_meaning.specs.declared.junction.Junction.TheVariants.{Conjunction, Disjunction}
 use Rattle.formula_meaning.proofs.Iff.{both_ways, turn_round}
 use Rattle.atom_merging.specs.Merging.{Joined}
-use Rattle.simplified_formulas.specs.Atoms.{Kit}
+use Rattle.simplified_formulas.specs.Kit.{Kit}
 use Rattle.simplified_formulas.specs.Orderly.{IsOrderly, AreOrderly}
-use Rattle.simplified_formulas.specs.Pass.{ones}
+use Rattle.simplified_formulas.specs.AtomsFirst.{ones}
 use Rattle.simplified_formulas.proofs.Joining.{Nothing, same, along_both, along_right, along_left, group, nothing_more}
 use Rattle.clean_forms.specs.Ways.{dual, is_same, line_form, line_forms, form_of_lines}
 use Rattle.clean_forms.specs.Plain.{of_none}

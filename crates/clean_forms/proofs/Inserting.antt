@@ -3,7 +3,7 @@ use Rattle.std.proofs.Common.{◌≡◌, ℕ, zero, suc, ◌+◌, ◌≤◌, Opt
 use Rattle.formula_meaning.specs.Some.{EachOf}
 use Rattle.formula_meaning.specs.declared.junction.Junction.{Junction}
 use Rattle.atom_merging.specs.Computed.{Merging, Settled, Into, Kept}
-use Rattle.simplified_formulas.specs.Atoms.{Kit}
+use Rattle.simplified_formulas.specs.Kit.{Kit}
 use Rattle.clean_forms.specs.Lines.{Met, Alone, Void, Meets, met, resolved, partner, insert, insert_into, insert_all}
 use Rattle.clean_forms.specs.Clean.{IsUnmerged}
 

@@ -7,7 +7,7 @@ use Rattle.formula_meaning.specs.declared.junction.Junction.TheVariants.{Conjunc
 use Rattle.formula_meaning.proofs.Iff.{both_ways, turn_round}
 use Rattle.atom_merging.specs.Merging.{Joined}
 use Rattle.atom_merging.specs.Computed.{Merging, Settled, Into, Kept}
-use Rattle.simplified_formulas.specs.Atoms.{Kit}
+use Rattle.simplified_formulas.specs.Kit.{Kit}
 use Rattle.simplified_formulas.proofs.Joining.{Nothing, Settling, same, along_both, along_right, along_left, group, swap, exchange, again, nothing_more, settled_left, settled_right}
 use Rattle.clean_forms.specs.Ways.{dual}
 use Rattle.clean_forms.specs.Lines.{Met, Alone, Void, Meets, met, resolved, partner, insert, insert_into, insert_all, is_among, is_within, some_within, not_above, add, add_if, add_all, add_line_products, add_products, joined_lines}

@@ -5,7 +5,8 @@ use Rattle.formula_meaning.specs.Formula.{Formula, Formulas, Yes, No, One, Not, 
 use Rattle.formula_meaning.specs.declared.junction.Junction.{Junction}
 use Rattle.formula_meaning.specs.declared.junction.Junction.TheVariants.{Conjunction, Disjunction}
 use Rattle.clean_forms.specs.Ways.{is_same}
-use Rattle.clean_forms.specs.Plain.{products, together, of_none, places, count_together, count_of_none, places_together, distributed, all_distributed, lines_count, all_lines_count, atom_places, all_atom_places}
+use Rattle.clean_forms.specs.Plain.{products, together, of_none, count_together, count_of_none, places_together, distributed, all_distributed, lines_count, all_lines_count, atom_places, all_atom_places}
+use Rattle.clean_forms.specs.Places.{places}
 use Rattle.clean_forms.specs.Laws.{PlacesAreCounted}
 
 none_count : (A : Type 0) (b : Bool) → length (of_none {A = A} b) ≡ count_of_none b

@@ -13,7 +13,8 @@ use Rattle.atom_merging.specs.Computed.{IsNormalWithin}
 use Rattle.formula_meaning.specs.Within.{IsAtomWithin}
 use Rattle.simplified_formulas.specs.Orderly.{IsOrderly}
 use Rattle.simplified_formulas.specs.AtomKit.{atom_kit}
-use Rattle.simplified_formulas.specs.Measure.{Measure, size, node_measure}
+use Rattle.simplified_formulas.specs.Measure.{Measure, size}
+use Rattle.simplified_formulas.specs.NodeMeasure.{node_measure}
 use Rattle.simplified_formulas.specs.Pass.{constant}
 use Rattle.simplified_formulas.proofs.AtomLaws.{merges_within, kept_so, truthful}
 use Rattle.simplified_formulas.proofs.Nodes.{nodes_size}

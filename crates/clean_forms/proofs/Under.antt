@@ -3,7 +3,7 @@ use Rattle.std.proofs.Common.{◌≡◌, ℕ, zero, suc, ◌+◌, ◌≤◌, Boo
 use Rattle.std.specs.Prelude.{if◌then◌else◌}
 use Rattle.formula_meaning.specs.Some.{EachOf}
 use Rattle.formula_meaning.specs.declared.junction.Junction.{Junction}
-use Rattle.simplified_formulas.specs.Atoms.{Kit}
+use Rattle.simplified_formulas.specs.Kit.{Kit}
 use Rattle.clean_forms.specs.Plain.{products, together, of_none}
 use Rattle.clean_forms.specs.Lines.{insert_all, is_within, some_within, not_above, add, add_if, add_all, add_line_products, add_products, joined_lines}
 use Rattle.clean_forms.specs.Clean.{IsUnmerged}

@@ -7,12 +7,14 @@ use Rattle.formula_meaning.specs.Fold.{folded}
 use Rattle.formula_meaning.specs.declared.junction.Junction.{Junction}
 use Rattle.formula_meaning.specs.Shape.{IsQuantifierFree}
 use Rattle.formula_meaning.specs.Sizes.{nodes}
-use Rattle.formula_meaning.specs.Tree.{Tree, Equivalent, IsFree}
+use Rattle.formula_meaning.specs.Tree.{Tree, IsFree}
+use Rattle.formula_meaning.specs.Equivalence.{Equivalent}
 use Rattle.redlog_printer.specs.Text.{tree_text}
 use Rattle.formula_meaning.specs.Within.{IsAtomWithin}
 use Rattle.simplified_formulas.specs.AtomKit.{atom_kit}
-use Rattle.simplified_formulas.specs.Trees.{IsSimplifiable}
-use Rattle.clean_forms.specs.Plain.{plain_form, distributed, places, lines_count, atom_places, literals}
+use Rattle.simplified_formulas.specs.Simplifiable.{IsSimplifiable}
+use Rattle.clean_forms.specs.Plain.{plain_form, distributed, lines_count, atom_places, literals}
+use Rattle.clean_forms.specs.Places.{places}
 use Rattle.clean_forms.specs.Lines.{clean_lines, clean_form}
 use Rattle.clean_forms.specs.Counts.{Sizes, sizes}
 use Rattle.clean_forms.specs.Clean.{IsCleanForm}

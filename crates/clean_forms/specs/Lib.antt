@@ -1,5 +1,6 @@
 pub mod Ways
 pub mod Plain
+pub mod Places
 pub mod Lines
 pub mod Clean
 pub mod Counts

@@ -1,6 +1,6 @@
 -- The plain disjunctive form: constants are folded, then and is distributed over or, with no other change. The plain conjunctive
 -- form is its dual. j joins the inner lists: and for the disjunctive form.
-use Rattle.std.specs.Prelude.{ℕ, ◌+◌, ◌*◌, Bool, true, false, List, [], ◌∷◌, ◌++◌, map, length}
+use Rattle.std.specs.Prelude.{ℕ, ◌+◌, ◌*◌, Bool, true, false, List, [], ◌∷◌, ◌++◌, map}
 use Rattle.std.specs.List.{flat_map}
 use Rattle.formula_meaning.specs.Formula.{Formula, Formulas, Yes, No, One, Not, And, Or, Impl, Repl, Equiv, Ex, All, none, also}
 use Rattle.formula_meaning.specs.Fold.{folded}
@@ -41,11 +41,6 @@ module _ {A : Type 0} where
   abbrev pub of_none : Bool → List (List A)
   of_none false = []
   of_none true = [] ∷ []
-
-  -- the places of atoms in the lists together
-  abbrev pub places : List (List A) → ℕ
-  places [] = 0
-  places (us ∷ ls) = length us + places ls
 
   abbrev mutual
     -- the lists of the distributed formula

@@ -5,7 +5,7 @@ use Rattle.formula_meaning.specs.Formula.{Formula, Formulas, none, also}
 use Rattle.formula_meaning.specs.Fold.{from_pieces}
 use Rattle.formula_meaning.specs.declared.junction.Junction.{Junction}
 use Rattle.formula_meaning.specs.declared.junction.Junction.TheVariants.{Conjunction, Disjunction}
-use Rattle.simplified_formulas.specs.Pass.{ones}
+use Rattle.simplified_formulas.specs.AtomsFirst.{ones}
 
 -- the other junction
 abbrev pub dual : Junction → Junction

@@ -6,7 +6,8 @@ use Rattle.session_meaning.specs.declared.line.Line.{Line}
 use Rattle.session_meaning.specs.declared.line.StatementError.{StatementError}
 use Rattle.session_meaning.specs.declared.line.StatementError.TheVariants as error
 use Rattle.session_meaning.specs.State.{State, with_names, with_bound}
-use Rattle.session_meaning.specs.Meaning.{meaning, MayGive, GivesFormula}
+use Rattle.session_meaning.specs.Meaning.{meaning, MayGive}
+use Rattle.session_meaning.specs.FormulaGiven.{GivesFormula}
 use Rattle.session_meaning.specs.Uses.{Use, formula_line}
 use Rattle.session_meaning.specs.Causes.{IsTooLarge, IsAccepted, IsFirst}
 use Rattle.session_meaning.specs.Reply.{IsLine, Tells, RefusesAction}

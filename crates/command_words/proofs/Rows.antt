@@ -12,7 +12,8 @@ use Rattle.command_words.specs.declared.options.Choice.{Choice}
 use Rattle.command_words.specs.declared.options.Choice.TheVariants.{Nodes, Workers, Generate}
 use Rattle.command_words.specs.declared.options.Options.{Options}
 use Rattle.command_words.specs.Value.{value_of}
-use Rattle.command_words.specs.Words.{id_of, greatest_of, given, with_value, no_options}
+use Rattle.command_words.specs.Words.{greatest_of, given, with_value, no_options}
+use Rattle.command_words.specs.OptionIds.{id_of}
 use Rattle.command_words.proofs.Steps.{shape, built_rule}
 
 -- what is found of an option with this text

@@ -10,7 +10,8 @@ use Rattle.command_words.specs.declared.options.Choice.TheVariants.{Nodes, Worke
 use Rattle.command_words.specs.declared.options.Options.{Options}
 use Rattle.command_words.specs.declared.options.TheConstants.{CHOICES}
 use Rattle.command_words.specs.Value.{value_of}
-use Rattle.command_words.specs.Words.{name_of, greatest_of, given, with_value, Gives, apart, joined, Begins, SpellsAfter, over, option, Spells, SpellOnce}
+use Rattle.command_words.specs.Words.{name_of, greatest_of, given, with_value, Gives, apart, joined, Begins, SpellsAfter, over, option, Spells}
+use Rattle.command_words.specs.OptionIds.{SpellOnce}
 
 pub some_injective : {A : Type 0} (x y : A) → Some x ≡ Some y → x ≡ y
 some_injective x y e = cc

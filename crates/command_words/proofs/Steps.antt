@@ -12,7 +12,8 @@ use Rattle.command_words.specs.declared.options.Choice.{Choice}
 use Rattle.command_words.specs.declared.options.Choice.TheVariants.{Nodes, Workers, Generate}
 use Rattle.command_words.specs.Value.{value_of, are_digits, is_digit, number_after}
 use Rattle.command_words.specs.Reading.{app, rule_for}
-use Rattle.command_words.specs.Words.{name_of, id_of}
+use Rattle.command_words.specs.Words.{name_of}
+use Rattle.command_words.specs.OptionIds.{id_of}
 
 -- the command with what building adds
 abbrev pub shape : Shape

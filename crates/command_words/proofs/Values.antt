@@ -6,7 +6,8 @@ use Rattle.std.proofs.Math.Nat.{pow-suc, pow-le-pow_right}
 use Rattle.command_words.specs.declared.options.Choice.TheVariants.{Nodes, Workers, Generate}
 use Rattle.command_words.specs.declared.options.Options.{Options}
 use Rattle.command_words.specs.Value.{value_of, are_digits, number_after}
-use Rattle.command_words.specs.Words.{AreInRange, greatest_of}
+use Rattle.command_words.specs.Words.{greatest_of}
+use Rattle.command_words.specs.OptionIds.{AreInRange}
 
 fits_at : (p n d : ℕ) → p ≤ 1000000000 → n + 23 ≤ 23 * p → d ≤ 255 → n * 10 + d < 2 ^ 64
 fits_at p n d h k b = omega arith

@@ -11,7 +11,8 @@ use Rattle.clap.specs.Words.{matches_of, takes}
 use Rattle.command_words.specs.declared.options.Choice.{Choice}
 use Rattle.command_words.specs.declared.options.Options.{Options}
 use Rattle.command_words.specs.Value.{value_of}
-use Rattle.command_words.specs.Words.{name_of, id_of, greatest_of, given, with_value, Begins, SpellsAfter, over, option, Spells}
+use Rattle.command_words.specs.Words.{name_of, greatest_of, given, with_value, Begins, SpellsAfter, over, option, Spells}
+use Rattle.command_words.specs.OptionIds.{id_of}
 use Rattle.command_words.specs.Reading.{app}
 use Rattle.command_words.proofs.Spelling.{InNext, InTail, stands}
 use Rattle.command_words.proofs.Steps.{shape, built_rule, joined_walks, joined_passes, alone_walks, alone_passes, value_walks, value_passes, filled_held, filled_settles, filled_rows}

@@ -1,3 +1,4 @@
 pub mod Value
 pub mod Words
+pub mod OptionIds
 pub mod Reading

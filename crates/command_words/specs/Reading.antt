@@ -8,7 +8,8 @@ use Rattle.command_words.specs.declared.options.Choice.{Choice}
 use Rattle.command_words.specs.declared.options.Choice.TheVariants.{Nodes, Workers, Generate}
 use Rattle.command_words.specs.declared.options.Options.{Options}
 use Rattle.command_words.specs.Value.{value_of}
-use Rattle.command_words.specs.Words.{given, greatest_of, id_of}
+use Rattle.command_words.specs.Words.{given, greatest_of}
+use Rattle.command_words.specs.OptionIds.{id_of}
 
 -- an option: its long name, and one value as text
 abbrev pub rule_for : Choice → Rule

@@ -1,5 +1,5 @@
 -- Which words a command line may have, and the options that they give.
-use Rattle.std.specs.Prelude.{◌≡◌, ℕ, ◌≤◌, List, [], ◌∷◌, ◌++◌, codes, Option, Some, None, IfSome, string_bytes}
+use Rattle.std.specs.Prelude.{◌≡◌, ℕ, List, [], ◌∷◌, ◌++◌, codes, Option, Some, None, string_bytes}
 use Rattle.std.specs.declared.alloc.Global.{Global}
 use Rattle.std.specs.declared.string.String.{String}
 use Rattle.command_words.specs.declared.options.Choice.{Choice}
@@ -12,12 +12,6 @@ abbrev pub name_of : Choice → List ℕ
 name_of Nodes = codes "--nodes"
 name_of Workers = codes "--workers"
 name_of Generate = codes "--generate"
-
--- the name without its hyphens
-abbrev pub id_of : Choice → List ℕ
-id_of Nodes = codes "nodes"
-id_of Workers = codes "workers"
-id_of Generate = codes "generate"
 
 -- the greatest value of an option
 abbrev pub greatest_of : Choice → ℕ
@@ -65,11 +59,3 @@ pub data SpellsAfter : Options → List (String Global) → Options → Type 0 w
 -- the words are of the form of a command line, each option at most once and in any order, and give these options
 abbrev pub Spells : List (String Global) → Options → Type 0
 Spells words options = SpellsAfter no_options words options
-
--- each value is from 1 to the greatest of its option
-abbrev pub AreInRange : Options → Type 0
-AreInRange options = (choice : Choice) → IfSome (given choice options) (λ n. (1 ≤ n) × (n ≤ greatest_of choice))
-
--- words give at most one choice of options
-abbrev pub SpellOnce : Type 0
-SpellOnce = (words : List (String Global)) (one other : Options) → Spells words one → Spells words other → one ≡ other

@@ -1,5 +1,6 @@
 ghost use Rattle.std.specs.Prelude.{◌≡◌, Some, is_some};
-ghost use Rattle.command_words.specs.Words.{name_of, id_of, greatest_of, given, with_value};
+ghost use Rattle.command_words.specs.Words.{name_of, greatest_of, given, with_value};
+ghost use Rattle.command_words.specs.OptionIds.{id_of};
 
 /// An option of the command line.
 #[derive(Clone, Copy, Debug, PartialEq, Eq)]

@@ -4,7 +4,8 @@ ghost use Rattle.command_words.specs.declared.options.Choice.{Choice};
 ghost use Rattle.command_words.specs.declared.options.Options.{Options};
 ghost use Rattle.command_words.specs.Reading.{HasValues, app, rule_for};
 ghost use Rattle.command_words.specs.Value.{value_of};
-ghost use Rattle.command_words.specs.Words.{greatest_of, id_of, AreInRange, Spells};
+ghost use Rattle.command_words.specs.Words.{greatest_of, Spells};
+ghost use Rattle.command_words.specs.OptionIds.{id_of, AreInRange};
 
 use crate::options::{Choice, Options};
 use crate::value::value_of;

@@ -13,7 +13,8 @@ use Rattle.exact_numbers.proofs.Divisibility.{divisor_at_most}
 use Rattle.formula_meaning.specs.Context.{Integers}
 use Rattle.formula_meaning.specs.Form.{coefficient}
 use Rattle.formula_meaning.specs.Some.{EachOf}
-use Rattle.formula_meaning.specs.Atom.{Atom, Compare, Congruent, form_of, AtomIn}
+use Rattle.formula_meaning.specs.Atom.{Atom, Compare, Congruent, form_of}
+use Rattle.formula_meaning.specs.TheoryAtoms.{AtomIn}
 use Rattle.elimination_theory.specs.IntegersPoints.{common_multiple, with_coefficient, with_modulus, scale_of, span_of}
 use Rattle.elimination_theory.proofs.IntegerScale.{common_positive, common_left, common_right, multiplied_positive}
 use Rattle.cooper_periods.specs.Periods.{IsReached, with_span}

@@ -11,6 +11,7 @@ use Rattle.formula_meaning.specs.Context.{Integers}
 use Rattle.formula_meaning.specs.Form.{coefficient}
 use Rattle.formula_meaning.specs.Some.{EachOf}
 use Rattle.formula_meaning.specs.Atom as meant
+use Rattle.formula_meaning.specs.TheoryAtoms.{AtomIn}
 use Rattle.elimination_theory.specs.IntegersPoints.{with_coefficient, scale_of, own_span}
 use Rattle.elimination_theory.proofs.IntegerScale.{Reaches, scale_reaches, scale_positive, span_positive}
 use Rattle.exact_numbers.proofs.Divisibility.{divides_same}
@@ -97,7 +98,7 @@ reach l (pos zero) r = r
 reach l (pos (suc n)) r = r
 reach l (negsuc n) r = r
 
-pub in_integers : (a : Atom) → IsWellFormed a → meant.AtomIn Integers (atom_of a)
+pub in_integers : (a : Atom) → IsWellFormed a → AtomIn Integers (atom_of a)
 in_integers (Compare r f) h = tt
 in_integers (Congruent b m f) h = positive_abs m h.0
 
@@ -130,11 +131,11 @@ parted (b ∷ before) a h = let r = parted before a h.1 in ((h.0, r.0), r.1)
 pub first_well_formed : (before : List Atom) (a : Atom) → AllByRecursion IsWellFormed (before ++ a ∷ []) → All IsWellFormed before × IsWellFormed a
 first_well_formed before a h = let r = parted before a h in (All-from_recursion IsWellFormed before r.0, r.1)
 
-each_in_integers : (atoms : List Atom) → AllByRecursion IsWellFormed atoms → EachOf (meant.AtomIn Integers) (map atom_of atoms)
+each_in_integers : (atoms : List Atom) → AllByRecursion IsWellFormed atoms → EachOf (AtomIn Integers) (map atom_of atoms)
 each_in_integers [] w = tt
 each_in_integers (a ∷ atoms) w = (in_integers a w.0, each_in_integers atoms w.1)
 
-pub all_in_integers : (atoms : List Atom) → All IsWellFormed atoms → EachOf (meant.AtomIn Integers) (map atom_of atoms)
+pub all_in_integers : (atoms : List Atom) → All IsWellFormed atoms → EachOf (AtomIn Integers) (map atom_of atoms)
 all_in_integers atoms w = each_in_integers atoms (recursion_from_All IsWellFormed atoms w)
 
 -- where the scale passes the limit, so does the span

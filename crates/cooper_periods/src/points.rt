@@ -1,7 +1,7 @@
 // Test points of the integers, and how many there are.
 ghost use Rattle.std.specs.Prelude.{◌≡◌, pos, ◌<ℤ◌, ◌<◌, ◌≤◌, ◌^◌, ◌+◌, ◌*◌, ◌/◌, unsigned_abs, count_by, true, false, All, map, MatchOption, IfOk, IsErrOf};
 ghost use Rattle.elimination_theory.specs.IntegersPoints.{integer_points_of, integer_count_of};
-ghost use Rattle.formula_meaning.specs.Distinct.{StandsOnce};
+ghost use Rattle.formula_meaning.specs.StandsOnce.{StandsOnce};
 ghost use Rattle.formula_meaning.specs.Limits.{each, place_within};
 ghost use Rattle.atom_normal.specs.Atoms.{atom_of, IsWellFormed};
 ghost use Rattle.test_points.specs.Points.{place_of, IsPointOf};

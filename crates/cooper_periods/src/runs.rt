@@ -4,7 +4,7 @@ ghost use Rattle.exact_numbers.specs.Limit.{InLimit, PastLimit};
 ghost use Rattle.formula_meaning.specs.Form.{Form, coefficient, scale};
 ghost use Rattle.formula_meaning.specs.Answer.{Exact, Periodic};
 ghost use Rattle.elimination_theory.specs.IntegersPoints.{signed, class_points};
-ghost use Rattle.linear_forms.specs.Terms.{IsLinear};
+ghost use Rattle.linear_forms.specs.Combinations.{IsLinear};
 ghost use Rattle.test_points.specs.Points.{place_of, IsPointOf};
 ghost use Rattle.cooper_periods.specs.Starts.{run_of};
 

@@ -1,7 +1,7 @@
 // An atom with a name put at a test point of the integers, and the condition under which the point is a whole number.
 ghost use Rattle.std.specs.Prelude.{◌≡◌, true, false, IfOk, IfErr, IsErrOf};
 ghost use Rattle.formula_meaning.specs.Context.{Integers};
-ghost use Rattle.elimination_theory.specs.IntegersTheorems.{IsIntegerPlace};
+ghost use Rattle.elimination_theory.specs.IntegerPlace.{IsIntegerPlace};
 ghost use Rattle.elimination_theory.specs.BothTheories.{guard_of};
 ghost use Rattle.elimination_theory.specs.Steps.{atom_at, normalised};
 ghost use Rattle.elimination_reference.specs.Limits.{atom_within};

@@ -1,6 +1,7 @@
 -- What holds of a counted computation whatever it has cost so far.
 use Rattle.std.proofs.Common.{◌≡◌, refl, ℕ, ◌+◌, nat_le, Bool, true, false, if◌then◌else◌}
-use Rattle.formula_meaning.specs.Measured.{Outcome, stopped, done, then_of, Counted, ◌>>=◌, give, pay, within, Gives, Nodes}
+use Rattle.formula_meaning.specs.Measured.{Outcome, stopped, done, then_of, Counted, ◌>>=◌, give, pay, within, Nodes}
+use Rattle.formula_meaning.specs.Giving.{Gives}
 
 pub gives_then : {A B : Type 0} (P : A → Type 0) (Q : B → Type 0) (o : Outcome A) (k : A → Outcome B) → Gives P o → ((a : A) → P a → Gives Q (k a)) → Gives Q (then_of o k)
 gives_then P Q (stopped s) k h g = tt

@@ -5,7 +5,8 @@ use Rattle.formula_meaning.specs.Context.{Context, Fields, Integers}
 use Rattle.formula_meaning.specs.Formula.{Yes, No, One, Not, And, Or, Impl, Repl, Equiv, Ex, All, none, also}
 use Rattle.formula_meaning.specs.Every.{Every, EveryOf}
 use Rattle.formula_meaning.specs.Some.{EachOf}
-use Rattle.formula_meaning.specs.Shape.{IsPlain, ArePlain, IsNegationNormal, AreNegationNormal, is_in}
+use Rattle.formula_meaning.specs.Shape.{is_in}
+use Rattle.formula_meaning.specs.Plain.{IsPlain, ArePlain, IsNegationNormal, AreNegationNormal}
 use Rattle.formula_meaning.specs.Fold.{append, fold_list}
 use Rattle.formula_meaning.specs.declared.junction.Junction.{Junction}
 use Rattle.formula_meaning.specs.declared.junction.Junction.TheVariants.{Conjunction, Disjunction}
@@ -23,7 +24,8 @@ use Rattle.elimination_theory.specs.BothTheories.{test_points}
 use Rattle.elimination_theory.specs.Steps.{step}
 use Rattle.elimination_theory.proofs.OneStep.{steps_exact}
 use Rattle.atom_normal.specs.NormalForm.{IsNormal, normal_atom, negated_normal}
-use Rattle.formula_meaning.specs.Measured.{Outcome, stopped, done, then_of, Counted, ◌>>=◌, give, pay, within, Gives, Nodes}
+use Rattle.formula_meaning.specs.Measured.{Outcome, stopped, done, then_of, Counted, ◌>>=◌, give, pay, within, Nodes}
+use Rattle.formula_meaning.specs.Giving.{Gives}
 use Rattle.elimination_reference.specs.Limits.{span_within, step_within}
 use Rattle.elimination_reference.specs.Reference.{Branch, stands_among, point_count, kept_at_zero, next_branch, alone, branch_trees, together, normal_tree, turned, full_step, one_step, steps, closed, branches, members}
 use Rattle.elimination_reference.specs.Theorems.{CostBoundsNodes}

@@ -13,13 +13,16 @@ use Rattle.formula_meaning.specs.Atom.{Atom, Mentions, Says, form_of}
 use Rattle.formula_meaning.specs.Some.{Among, EachOf}
 use Rattle.formula_meaning.specs.declared.junction.Junction.TheVariants.{Disjunction}
 use Rattle.formula_meaning.specs.Sizes.{nodes}
-use Rattle.formula_meaning.specs.Tree.{Tree, Trees, IsFree, Equivalent, each_ex}
+use Rattle.formula_meaning.specs.Tree.{Tree, Trees, IsFree}
+use Rattle.formula_meaning.specs.Equivalence.{Equivalent, each_ex}
 use Rattle.formula_meaning.proofs.Fold.{free_of_members, fold_list_has, fold_list_true}
 use Rattle.formula_meaning.proofs.Equivalence.{equivalent_self, equivalent_then, ex_equivalent, distributed, absent_dropped}
 use Rattle.elimination_theory.specs.declared.side.Side.TheVariants.{Lower}
 use Rattle.elimination_theory.specs.Atoms.{atoms_in}
-use Rattle.elimination_theory.specs.Steps.{Result, IsResult, trees_left, step}
-use Rattle.elimination_theory.specs.Answers.{Step, Lead}
+use Rattle.elimination_theory.specs.Steps.{Result, step}
+use Rattle.elimination_theory.specs.StepTheorems.{IsResult, trees_left}
+use Rattle.elimination_theory.specs.Answers.{Step}
+use Rattle.elimination_theory.specs.AnswersTheorems.{Lead}
 use Rattle.elimination_theory.proofs.SomeListed.{every_listed, each_append}
 use Rattle.elimination_theory.proofs.OneStep.{steps_exact}
 use Rattle.elimination_theory.proofs.Answers.{absent_zero}

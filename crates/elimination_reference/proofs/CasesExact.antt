@@ -4,14 +4,16 @@ use Rattle.formula_meaning.specs.Context.{Context}
 use Rattle.formula_meaning.specs.Formula.{Or, also}
 use Rattle.formula_meaning.specs.Every.{Every}
 use Rattle.formula_meaning.specs.Some.{EachOf}
-use Rattle.formula_meaning.specs.Tree.{Tree, Trees, Equivalent, IsFree}
+use Rattle.formula_meaning.specs.Tree.{Tree, Trees, IsFree}
+use Rattle.formula_meaning.specs.Equivalence.{Equivalent}
 use Rattle.formula_meaning.proofs.Iff.{both_ways}
 use Rattle.elimination_theory.specs.Answers.{Step, answers_of}
 use Rattle.elimination_theory.proofs.Answers.{answers_hold}
 use Rattle.atom_normal.specs.NormalForm.{IsNormal}
 use Rattle.elimination_reference.specs.Reference.{Branch, branch_trees, normal_tree, turned, leading_branches}
 use Rattle.elimination_reference.specs.Cases.{Case, cases_of, case_sign, case_formula, case_matrix, case_names}
-use Rattle.elimination_reference.specs.Theorems.{guards_of, answer_names, IsExactCase, Says, AreExactCases, CasesAreExact}
+use Rattle.elimination_reference.specs.Theorems.{IsExactCase, Says, AreExactCases, CasesAreExact}
+use Rattle.elimination_reference.specs.AnswerParts.{guards_of, answer_names}
 use Rattle.elimination_reference.proofs.Always.{gives_then}
 use Rattle.elimination_reference.proofs.Turning.{normal_inside, normal_tree_inside, normal_truths, turned_brings}
 use Rattle.elimination_reference.proofs.Branches.{step_names, IsBranch, AreBranches}

@@ -14,12 +14,14 @@ use Rattle.elimination_theory.specs.Atoms.{atoms_of}
 use Rattle.elimination_theory.specs.Substitution.{where_zero}
 use Rattle.elimination_theory.specs.IntegersPoints.{own_span}
 use Rattle.elimination_theory.specs.BothTheories.{raw_atom, test_points}
-use Rattle.elimination_theory.specs.Overflow.{SpanWithin, PlaceWithin, ModulusWithin, FormAtWithin, NumbersWithin}
+use Rattle.elimination_theory.specs.Overflow.{PlaceWithin, ModulusWithin, FormAtWithin, NumbersWithin}
+use Rattle.elimination_theory.specs.SpanLimits.{SpanWithin}
 use Rattle.elimination_theory.specs.Steps.{normalised}
 use Rattle.atom_normal.specs.NormalForm.{normal_atom}
 use Rattle.formula_meaning.specs.Limits.{each, place_within, combination_within}
 use Rattle.elimination_reference.specs.Limits.{span_within, modulus_within, form_at_within, numbers_within, normal_within, atom_within}
-use Rattle.elimination_reference.specs.LimitLaws.{ConstantWithin, AtomFormsWithin, LimitsAreTested}
+use Rattle.elimination_reference.specs.LimitLaws.{LimitsAreTested}
+use Rattle.elimination_reference.specs.LimitsWithin.{ConstantWithin, AtomFormsWithin}
 use Rattle.elimination_theory.proofs.WithinTests.{Tests, always, and_tests, each_tests, within_tests, place_tests, sum_tests, combination_tests}
 
 modulus_tests : (d : ℕ) (a : Atom) → Tests (modulus_within d a) (ModulusWithin d a)

@@ -9,7 +9,8 @@ use Rattle.formula_meaning.specs.Atom.{Atom, Mentions, form_of}
 use Rattle.formula_meaning.specs.Sorted.{IsSorted}
 use Rattle.formula_meaning.proofs.EachAtom.{every_map}
 use Rattle.formula_meaning.specs.Some.{Among, EachOf}
-use Rattle.formula_meaning.specs.Shape.{IsPlain, IsNegationNormal, is_in}
+use Rattle.formula_meaning.specs.Shape.{is_in}
+use Rattle.formula_meaning.specs.Plain.{IsPlain, IsNegationNormal}
 use Rattle.formula_meaning.specs.Sizes.{nodes}
 use Rattle.formula_meaning.specs.NegationNormal.{normal_form_of_not}
 use Rattle.formula_meaning.specs.Answer.{Answer, Place, PlaceMentions}
@@ -27,7 +28,8 @@ use Rattle.elimination_theory.proofs.PointsSorted.{points_sorted}
 use Rattle.elimination_theory.proofs.BothSubstitutions.{place_in, point_suits}
 use Rattle.atom_normal.specs.NormalForm.{IsNormal, normal_atom, negated_normal}
 use Rattle.atom_normal.proofs.NormalLaws.{normal_sorted}
-use Rattle.formula_meaning.specs.Measured.{Outcome, stopped, done, Counted, ◌>>=◌, give, pay, within, Gives}
+use Rattle.formula_meaning.specs.Measured.{Outcome, stopped, done, Counted, ◌>>=◌, give, pay, within}
+use Rattle.formula_meaning.specs.Giving.{Gives}
 use Rattle.elimination_reference.specs.Limits.{span_within, step_within}
 use Rattle.elimination_reference.specs.Reference.{Branch, stands_among, point_count, kept_at_zero, next_branch, alone, branch_trees, together, normal_tree, turned, full_step, one_step, steps, closed, branches, members, leading_branches}
 use Rattle.elimination_reference.specs.Cases.{Case, cases_of, case_sign, reference_cases}
@@ -38,7 +40,8 @@ use Rattle.elimination_reference.proofs.Branches.{IsBranch, AreBranches}
 use Rattle.elimination_reference.proofs.Sound.{branches_are, normal_normal_tree}
 use Rattle.elimination_reference.proofs.CasesExact.{free}
 use Rattle.elimination_reference.specs.Theorems.{IsTidy}
-use Rattle.elimination_reference.specs.Over.{IsAnswerOver, AreAnswersOver, CasesHaveAnswers, AreOver, CasesAreOver}
+use Rattle.elimination_reference.specs.Over.{IsAnswerOver, AreAnswersOver}
+use Rattle.elimination_reference.specs.CasesOver.{CasesHaveAnswers, AreOver, CasesAreOver}
 
 -- ---- answers
 

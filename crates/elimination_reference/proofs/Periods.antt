@@ -13,7 +13,8 @@ use Rattle.formula_meaning.specs.Context.{Context, Fields, Integers}
 use Rattle.formula_meaning.specs.Formula.{Yes, No, One}
 use Rattle.formula_meaning.specs.Form.{Form, Term, coefficient, scale}
 use Rattle.formula_meaning.specs.Sorted.{IsSorted, gathered}
-use Rattle.formula_meaning.specs.Atom.{Atom, Compare, Congruent, AtomIn, Relation, Equals, Differs, Below, AtMost, Above, AtLeast}
+use Rattle.formula_meaning.specs.Atom.{Atom, Compare, Congruent, Relation, Equals, Differs, Below, AtMost, Above, AtLeast}
+use Rattle.formula_meaning.specs.TheoryAtoms.{AtomIn}
 use Rattle.formula_meaning.specs.Every.{Every}
 use Rattle.formula_meaning.proofs.Coefficients.{coefficient_scale}
 use Rattle.formula_meaning.proofs.Gathered.{coefficient_gathered, gathered_sorted}

@@ -11,10 +11,13 @@ use Rattle.formula_meaning.specs.Formula.{Yes, No, One, Not, And, Or, Impl, Repl
 use Rattle.formula_meaning.specs.Truth.{AllTrue, SomeTrue}
 use Rattle.formula_meaning.specs.Every.{Every, EveryOf, FreeInSome}
 use Rattle.formula_meaning.specs.Form.{Form, Term, total, value, multiple, coefficient}
-use Rattle.formula_meaning.specs.Atom.{Atom, Compare, Congruent, AtomIn, Mentions, Says, Relates, IsMultiple}
-use Rattle.formula_meaning.specs.Shape.{IsAtomic, is_in}
+use Rattle.formula_meaning.specs.Atom.{Atom, Compare, Congruent, Mentions, Says, Relates, IsMultiple}
+use Rattle.formula_meaning.specs.TheoryAtoms.{AtomIn}
+use Rattle.formula_meaning.specs.Shape.{is_in}
+use Rattle.formula_meaning.specs.Plain.{IsAtomic}
 use Rattle.formula_meaning.specs.Sizes.{nodes, all_nodes}
-use Rattle.formula_meaning.specs.Tree.{Tree, Trees, TrueAt, InContext, IsFree}
+use Rattle.formula_meaning.specs.Tree.{Tree, Trees, TrueAt, IsFree}
+use Rattle.formula_meaning.specs.Equivalence.{InContext}
 use Rattle.formula_meaning.proofs.Iff.{both_ways, turn_round, not_iff, pair_iff, either_iff}
 use Rattle.formula_meaning.proofs.Relations.{relates_zero_mul}
 use Rattle.formula_meaning.proofs.SamePoint.{allowed_mul}

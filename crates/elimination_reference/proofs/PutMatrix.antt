@@ -9,12 +9,15 @@ use Rattle.formula_meaning.specs.Context.{Context}
 use Rattle.formula_meaning.specs.Point.{Point, Of, move}
 use Rattle.formula_meaning.specs.Formula.{Yes, No, One, Not, And, Or, Impl, Repl, Equiv, Ex, All, none, also}
 use Rattle.formula_meaning.specs.Every.{Every}
-use Rattle.formula_meaning.specs.Shape.{IsAtomic, IsNegationNormal, AreNegationNormal, is_in, matrix_of, block_of}
+use Rattle.formula_meaning.specs.Shape.{is_in, matrix_of, block_of}
+use Rattle.formula_meaning.specs.Plain.{IsAtomic, IsNegationNormal, AreNegationNormal}
 use Rattle.formula_meaning.specs.declared.quantifier.Quantifier.{Quantifier}
 use Rattle.formula_meaning.specs.declared.quantifier.Quantifier.TheVariants.{Exists, ForAll}
 use Rattle.formula_meaning.specs.NegationNormal.{normal_form_of_not, normal_forms}
-use Rattle.formula_meaning.specs.Atom.{Atom, AtomIn}
-use Rattle.formula_meaning.specs.Tree.{Tree, Trees, TrueAt, InContext}
+use Rattle.formula_meaning.specs.Atom.{Atom}
+use Rattle.formula_meaning.specs.TheoryAtoms.{AtomIn}
+use Rattle.formula_meaning.specs.Tree.{Tree, Trees, TrueAt}
+use Rattle.formula_meaning.specs.Equivalence.{InContext}
 use Rattle.formula_meaning.proofs.Iff.{both_ways, turn_round, not_iff}
 use Rattle.formula_meaning.proofs.TreeFiner.{allowed_positive}
 use Rattle.formula_meaning.proofs.Values.{pos_mul}
@@ -24,7 +27,7 @@ use Rattle.atom_normal.proofs.NormalLaws.{normal_atomic}
 use Rattle.elimination_reference.specs.Reference.{normal_tree, turned}
 use Rattle.elimination_reference.specs.Cases.{case_sign}
 use Rattle.elimination_reference.specs.PutIn.{atom_put, tree_put, trees_put}
-use Rattle.elimination_reference.specs.Sample.{IsSampled}
+use Rattle.elimination_reference.specs.Sampled.{IsSampled}
 use Rattle.elimination_reference.proofs.Turning.{normal_truths}
 use Rattle.elimination_reference.proofs.Branches.{step_names}
 use Rattle.elimination_reference.proofs.PutIn.{put_true, not_both, turn_equal}

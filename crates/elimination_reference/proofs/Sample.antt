@@ -10,16 +10,19 @@ use Rattle.formula_meaning.specs.Formula.{Yes, No, One, Not, And, Or, Impl, Repl
 use Rattle.formula_meaning.specs.Truth.{SomeTrue}
 use Rattle.formula_meaning.specs.Every.{Every, FreeInSome}
 use Rattle.formula_meaning.specs.Some.{EachOf}
-use Rattle.formula_meaning.specs.Shape.{IsPlain, IsNegationNormal, is_in, matrix_of, block_of}
+use Rattle.formula_meaning.specs.Shape.{is_in, matrix_of, block_of}
+use Rattle.formula_meaning.specs.Plain.{IsPlain, IsNegationNormal}
 use Rattle.formula_meaning.specs.declared.quantifier.Quantifier.TheVariants.{Exists}
 use Rattle.formula_meaning.specs.Form.{Form, Term, coefficient, multiple, coefficients}
 use Rattle.formula_meaning.specs.Sorted.{IsSorted, AllAbove, IsRising, AllNonzero}
 use Rattle.formula_meaning.specs.Atom.{Atom, Compare, Congruent, Mentions, Says}
-use Rattle.formula_meaning.specs.Tree.{Tree, Trees, TrueAt, InContext, IsFree}
+use Rattle.formula_meaning.specs.Tree.{Tree, Trees, TrueAt, IsFree}
+use Rattle.formula_meaning.specs.Equivalence.{InContext}
 use Rattle.formula_meaning.proofs.NormalShape.{normal_form_shape}
 use Rattle.formula_meaning.proofs.Sorted.{here}
 use Rattle.formula_meaning.proofs.TreeReplacing.{moved_of}
-use Rattle.elimination_theory.specs.Answers.{Step, Lead}
+use Rattle.elimination_theory.specs.Answers.{Step}
+use Rattle.elimination_theory.specs.AnswersTheorems.{Lead}
 use Rattle.elimination_theory.proofs.Samples.{samples_true, samples_exist}
 use Rattle.atom_normal.specs.NormalForm.{IsNormal, normal_atom, negated_normal, first}
 use Rattle.elimination_reference.specs.Reference.{Branch, branch_trees, together, normal_tree, turned}
@@ -28,7 +31,8 @@ use Rattle.elimination_reference.specs.PutIn.{tree_put_within, put_in}
 use Rattle.formula_meaning.specs.Measured.{pay, within}
 use Rattle.formula_meaning.specs.Sizes.{nodes}
 use Rattle.formula_meaning.proofs.Iff.{both_ways}
-use Rattle.elimination_reference.specs.Sample.{if_true, first_true, branches_at, IsSampled}
+use Rattle.elimination_reference.specs.Sample.{if_true, first_true, branches_at}
+use Rattle.elimination_reference.specs.Sampled.{IsSampled}
 use Rattle.elimination_reference.specs.Theorems.{IsProper, IsBranching, IsTidy, IsAnswerTo, IsTold, TruthIsTold, IsChoice, SamplesAreExact}
 use Rattle.elimination_reference.proofs.Always.{Always, gives_then, always_then, always_pay, always_within}
 use Rattle.elimination_reference.proofs.Tidy.{normaliser}

@@ -6,7 +6,8 @@ use Rattle.formula_meaning.specs.Every.{Every, EveryOf, FreeInSome}
 use Rattle.formula_meaning.specs.Atom.{Atom, Says, Mentions}
 use Rattle.formula_meaning.specs.Point.{move}
 use Rattle.formula_meaning.specs.Sizes.{nodes}
-use Rattle.formula_meaning.specs.Shape.{IsNegationNormal, AreNegationNormal, matrix_of, block_of, is_in}
+use Rattle.formula_meaning.specs.Shape.{matrix_of, block_of, is_in}
+use Rattle.formula_meaning.specs.Plain.{IsNegationNormal, AreNegationNormal}
 use Rattle.formula_meaning.specs.declared.quantifier.Quantifier.TheVariants.{Exists}
 use Rattle.formula_meaning.specs.Fold.{joined, fold_list}
 use Rattle.formula_meaning.specs.declared.junction.Junction.{Junction}

@@ -4,8 +4,9 @@ use Rattle.formula_meaning.specs.Context.{Context, Fields, Integers}
 use Rattle.formula_meaning.specs.Formula.{Yes, No, One, Not, And, Or, Impl, Repl, Equiv, Ex, All, none, also}
 use Rattle.formula_meaning.specs.Every.{Every, EveryOf}
 use Rattle.formula_meaning.specs.Form.{coefficient}
-use Rattle.formula_meaning.specs.Atom.{Atom, AtomIn, form_of}
-use Rattle.formula_meaning.specs.Shape.{IsPlain, ArePlain}
+use Rattle.formula_meaning.specs.Atom.{Atom, form_of}
+use Rattle.formula_meaning.specs.TheoryAtoms.{AtomIn}
+use Rattle.formula_meaning.specs.Plain.{IsPlain, ArePlain}
 use Rattle.formula_meaning.specs.Some.{Among, EachOf}
 use Rattle.formula_meaning.specs.Fold.{append, pieces_of, put_together, all_pieces, from_pieces, fold_list, folded, all_folded}
 use Rattle.formula_meaning.specs.declared.junction.Junction.{Junction}
@@ -13,7 +14,8 @@ use Rattle.formula_meaning.specs.declared.junction.Junction.TheVariants.{Conjunc
 use Rattle.formula_meaning.specs.NegationNormal.{normal_form_of_not, normal_forms_of_not, both}
 use Rattle.formula_meaning.specs.Replaced.{replaced}
 use Rattle.formula_meaning.specs.Answer.{Place}
-use Rattle.formula_meaning.specs.Tree.{Tree, Trees, InContext}
+use Rattle.formula_meaning.specs.Tree.{Tree, Trees}
+use Rattle.formula_meaning.specs.Equivalence.{InContext}
 use Rattle.formula_meaning.proofs.EachAtom.{every_map}
 use Rattle.formula_meaning.proofs.Fold.{plain_of_members, every_of_members, fold_list_has, folded_plain, folded_every}
 use Rattle.formula_meaning.proofs.ReplacedShape.{every_replaced}
@@ -22,7 +24,8 @@ use Rattle.atom_normal.proofs.NormalLaws.{normal_in, normal_truth, normal_names,
 use Rattle.elimination_theory.specs.declared.side.Side.TheVariants.{Lower}
 use Rattle.elimination_theory.specs.Atoms.{atoms_of}
 use Rattle.elimination_theory.specs.BothTheories.{IsPlaceIn, raw_atom, guard_of, test_points}
-use Rattle.elimination_theory.specs.Steps.{IsNormaliser, normalised, atom_at, result_at, Result, kept, results, step}
+use Rattle.elimination_theory.specs.Steps.{normalised, atom_at, result_at, Result, kept, results, step}
+use Rattle.elimination_theory.specs.StepTheorems.{IsNormaliser}
 use Rattle.elimination_theory.proofs.Simple.{IsSimple, simple_plain, simple_normalised, where_zero_has, raw_simple, guard_simple, replaced_plain}
 use Rattle.elimination_theory.proofs.BothSubstitutions.{place_in, point_suits}
 use Rattle.formula_meaning.specs.Members.{AreTwo}

@@ -3,7 +3,8 @@ use Rattle.std.proofs.Common.{◌≡◌, ℕ, Bool, true, false, not, List, [], 
 use Rattle.formula_meaning.specs.Context.{Context}
 use Rattle.formula_meaning.specs.Formula.{Yes, No, One, Not, And, Or, Impl, Repl, Equiv, Ex, All, none, also}
 use Rattle.formula_meaning.specs.Every.{Every, EveryOf}
-use Rattle.formula_meaning.specs.Shape.{IsNegationNormal, AreNegationNormal, is_in}
+use Rattle.formula_meaning.specs.Shape.{is_in}
+use Rattle.formula_meaning.specs.Plain.{IsNegationNormal, AreNegationNormal}
 use Rattle.formula_meaning.specs.Fold.{fold_list}
 use Rattle.formula_meaning.specs.declared.junction.Junction.{Junction}
 use Rattle.formula_meaning.specs.declared.junction.Junction.TheVariants.{Conjunction, Disjunction}

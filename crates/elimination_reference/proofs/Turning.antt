@@ -3,9 +3,11 @@ use Rattle.std.proofs.Common.{ℕ, ⊎_elim, ◌↔◌}
 use Rattle.formula_meaning.specs.Context.{Context}
 use Rattle.formula_meaning.specs.Point.{Point, Of}
 use Rattle.formula_meaning.specs.Every.{Every}
-use Rattle.formula_meaning.specs.Atom.{AtomIn, Mentions}
+use Rattle.formula_meaning.specs.Atom.{Mentions}
+use Rattle.formula_meaning.specs.TheoryAtoms.{AtomIn}
 use Rattle.formula_meaning.specs.NegationNormal.{normal_form_of_not}
-use Rattle.formula_meaning.specs.Tree.{Tree, TrueAt, InContext, IsFree, IsNegation}
+use Rattle.formula_meaning.specs.Tree.{Tree, TrueAt, IsFree}
+use Rattle.formula_meaning.specs.Equivalence.{InContext, IsNegation}
 use Rattle.formula_meaning.proofs.EachAtom.{every_map, every_all}
 use Rattle.formula_meaning.proofs.Iff.{both_ways, turn_round, not_iff}
 use Rattle.formula_meaning.proofs.NormalShape.{normal_form_every, normal_form_brings, normal_form_keeps}

@@ -2,8 +2,12 @@ pub mod Limits
 pub mod Reference
 pub mod Cases
 pub mod Sample
+pub mod Sampled
+pub mod AnswerParts
 pub mod Theorems
 pub mod PutIn
+pub mod LimitsWithin
 pub mod LimitLaws
 pub mod Turned
 pub mod Over
+pub mod CasesOver

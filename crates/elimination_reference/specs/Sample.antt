@@ -7,8 +7,6 @@ use Rattle.formula_meaning.specs.Formula.{Yes}
 use Rattle.formula_meaning.specs.Sizes.{nodes}
 use Rattle.formula_meaning.specs.Tree.{Tree}
 use Rattle.elimination_theory.specs.Answers.{Step}
-use Rattle.elimination_theory.specs.Samples.{AreSamples}
-use Rattle.atom_normal.specs.NormalForm.{normal_atom}
 use Rattle.formula_meaning.specs.Measured.{Outcome, Counted, ◌>>=◌, pay, within, then_of, done}
 use Rattle.elimination_reference.specs.Reference.{Branch, normal_tree, together, branches}
 use Rattle.elimination_reference.specs.Cases.{case_sign}
@@ -39,7 +37,3 @@ module _ (c : Context) (limit : ℕ) (p : Point ℕ) where
   -- the steps of the first case whose guard is true at the point, and the cost
   abbrev pub chosen_steps : Tree → Outcome (Option (List Step) × ℕ)
   chosen_steps f = then_of (branches_at (case_sign (normal_tree f)) f 0) (λ r. done (first_true r.0, r.1))
-
--- q is the point p with each name of the steps at its sample: each in its branch, with the values found so far put in
-abbrev pub IsSampled : Context → Point ℕ → List Step → Point ℕ → Type 0
-IsSampled c p steps q = AreSamples c (normal_atom c) steps p q

@@ -1,23 +1,26 @@
 -- What is proved of the reference elimination.
-use Rattle.std.specs.Prelude.{◌≡◌, ◌⊎◌, ℕ, ◌≤◌, ◌↔◌, Bool, true, false, List, [], ◌∷◌, Option, Some, None}
+use Rattle.std.specs.Prelude.{◌≡◌, ◌⊎◌, ℕ, ◌≤◌, ◌↔◌, Bool, true, false, List, Option, Some, None}
 use Rattle.formula_meaning.specs.Context.{Context}
 use Rattle.formula_meaning.specs.Formula.{Yes, No, One, Not, And, Or, Impl, Repl, Equiv, Ex, All, none, also}
 use Rattle.formula_meaning.specs.Every.{Every}
 use Rattle.formula_meaning.specs.Members.{AreTwo}
-use Rattle.formula_meaning.specs.Shape.{IsPlain}
+use Rattle.formula_meaning.specs.Plain.{IsPlain}
 use Rattle.formula_meaning.specs.Point.{Point, Of}
 use Rattle.formula_meaning.specs.Some.{EachOf}
 use Rattle.formula_meaning.specs.Sizes.{nodes}
-use Rattle.formula_meaning.specs.Answer.{Answer, Holds}
-use Rattle.formula_meaning.specs.Tree.{Tree, Trees, TrueAt, IsFree, Equivalent}
+use Rattle.formula_meaning.specs.Answer.{Holds}
+use Rattle.formula_meaning.specs.Tree.{Tree, Trees, TrueAt, IsFree}
+use Rattle.formula_meaning.specs.Equivalence.{Equivalent}
 use Rattle.elimination_theory.specs.Decided.{IsEliminated}
 use Rattle.elimination_theory.specs.Answers.{Step}
 use Rattle.atom_normal.specs.NormalForm.{IsNormal}
-use Rattle.formula_meaning.specs.Measured.{Gives}
+use Rattle.formula_meaning.specs.Giving.{Gives}
 use Rattle.elimination_reference.specs.Reference.{normal_tree, reference}
 use Rattle.elimination_reference.specs.PutIn.{put_in}
-use Rattle.elimination_reference.specs.Sample.{reference_at, chosen_steps, IsSampled}
+use Rattle.elimination_reference.specs.Sample.{reference_at, chosen_steps}
+use Rattle.elimination_reference.specs.Sampled.{IsSampled}
 use Rattle.elimination_reference.specs.Cases.{Case, case_sign, case_formula, case_matrix, case_names, reference_cases}
+use Rattle.elimination_reference.specs.AnswerParts.{guards_of, answer_names}
 
 -- neither true nor false
 abbrev pub IsProper : Tree → Type 0
@@ -66,16 +69,6 @@ abbrev pub CostBoundsNodes : Context → Type 0
 CostBoundsNodes c = (limit : ℕ) (f : Tree) → Every (IsNormal c) f → Gives (λ r. (nodes r.0 ≤ r.1) × (r.1 ≤ limit)) (reference c limit f)
 
 -- ---- cases
-
--- the guards of the cases, in order
-abbrev pub guards_of : List Case → Trees
-guards_of [] = none
-guards_of (k ∷ cases) = also k.guard (guards_of cases)
-
--- the names that the answers put at places, in order
-abbrev pub answer_names : List Answer → List ℕ
-answer_names [] = []
-answer_names (a ∷ answers) = a.name ∷ answer_names answers
 
 -- the guard is true exactly where the answers make the matrix true; they name the leading block in its order
 pub record IsExactCase (c : Context) (f : Tree) (k : Case) : Type 0 where

@@ -7,7 +7,7 @@ ghost use Rattle.std.specs.Prelude.{ℕ};
 ghost use Rattle.formula_meaning.specs.Tree.{Tree};
 ghost use Rattle.elimination_reference.specs.LimitLaws.{LimitsAreTested};
 ghost use Rattle.elimination_reference.specs.Turned.{AllIsNegatedEx};
-ghost use Rattle.elimination_reference.specs.Over.{CasesHaveAnswers, CasesAreOver};
+ghost use Rattle.elimination_reference.specs.CasesOver.{CasesHaveAnswers, CasesAreOver};
 ghost use Rattle.elimination_reference.specs.Theorems.{ReferenceIsExact, CostBoundsNodes, CasesAreExact, PuttingInIsExact, TruthIsTold, SamplesAreExact};
 
 /// Of a formula over normal atoms, the reference elimination gives an equivalent one without quantifiers, over its free names,

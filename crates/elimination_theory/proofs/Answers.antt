@@ -11,10 +11,11 @@ use Rattle.formula_meaning.specs.Tree.{Tree, TrueAt, IsFree}
 use Rattle.formula_meaning.proofs.EachAtom.{every_all}
 use Rattle.formula_meaning.proofs.Equivalence.{absent_moved, one_allowed}
 use Rattle.formula_meaning.proofs.TreeReplacing.{moved_of}
-use Rattle.elimination_theory.specs.Substitution.{at_place}
+use Rattle.elimination_theory.specs.AtPlace.{at_place}
 use Rattle.elimination_theory.specs.IntegersTheorems.{Suits}
-use Rattle.elimination_theory.specs.BothTheories.{IsPlaceFor}
-use Rattle.elimination_theory.specs.Answers.{Step, answers_of, Makes, AnswersHold, zero_place, AbsentNameIsZero}
+use Rattle.elimination_theory.specs.Places.{IsPlaceFor}
+use Rattle.elimination_theory.specs.Answers.{Step, answers_of, zero_place}
+use Rattle.elimination_theory.specs.AnswersTheorems.{Makes, AnswersHold, AbsentNameIsZero}
 use Rattle.formula_meaning.proofs.Iff.{both_ways}
 use Rattle.elimination_theory.proofs.Meets.{meets_map}
 use Rattle.elimination_theory.proofs.BothSubstitutions.{place_in, place_holds}

@@ -8,8 +8,8 @@ use Rattle.formula_meaning.specs.Formula.{Yes}
 use Rattle.formula_meaning.specs.Form.{value, coefficient, without, combine, plus}
 use Rattle.formula_meaning.specs.Tree.{TrueAt}
 use Rattle.elimination_theory.specs.FieldsExample.{named}
-use Rattle.elimination_theory.specs.BothTheories.{substitution}
-use Rattle.elimination_theory.specs.Answers.{Makes}
+use Rattle.elimination_theory.specs.Places.{substitution}
+use Rattle.elimination_theory.specs.AnswersTheorems.{Makes}
 use Rattle.elimination_theory.specs.AnswersExample.{matrix, branch, x_is_y, y_is_far, PeriodOfTheBranch}
 
 -- y - y

@@ -10,7 +10,8 @@ use Rattle.exact_numbers.proofs.Floor.{divides_from_residue, residue_of_multiple
 use Rattle.formula_meaning.specs.Context.{Context, Fields, Integers}
 use Rattle.formula_meaning.specs.Point.{Point, Of}
 use Rattle.formula_meaning.specs.Form.{Form, value}
-use Rattle.formula_meaning.specs.Atom.{Atom, Compare, Congruent, Relation, Equals, Differs, Below, AtMost, Above, AtLeast, Relates, Says, AtomIn, IsMultiple, opposite, opposite_relation}
+use Rattle.formula_meaning.specs.Atom.{Atom, Compare, Congruent, Relation, Equals, Differs, Below, AtMost, Above, AtLeast, Relates, Says, IsMultiple, opposite_relation}
+use Rattle.formula_meaning.specs.TheoryAtoms.{AtomIn, opposite}
 
 abbrev pub IsDecided : Type 0 → Type 0
 IsDecided P = P ⊎ ¬ P

@@ -5,10 +5,12 @@ use Rattle.formula_meaning.specs.Point.{Point, Of, move}
 use Rattle.formula_meaning.specs.Formula.{Yes, No, One, Not, And, Or, Impl, Repl, Equiv, Ex, All, none, also}
 use Rattle.formula_meaning.specs.Truth.{AllTrue, SomeTrue}
 use Rattle.formula_meaning.specs.Every.{EveryOf, FreeInSome}
-use Rattle.formula_meaning.specs.Shape.{IsPlain, ArePlain}
+use Rattle.formula_meaning.specs.Plain.{IsPlain, ArePlain}
 use Rattle.formula_meaning.specs.NegationNormal.{normal_forms_of_not, both}
-use Rattle.formula_meaning.specs.Atom.{Says, AtomIn, Mentions, opposite}
-use Rattle.formula_meaning.specs.Tree.{Tree, Trees, TrueAt, InContext, IsFree, Equivalent, negated}
+use Rattle.formula_meaning.specs.Atom.{Says, Mentions}
+use Rattle.formula_meaning.specs.TheoryAtoms.{AtomIn, opposite}
+use Rattle.formula_meaning.specs.Tree.{Tree, Trees, TrueAt, IsFree}
+use Rattle.formula_meaning.specs.Equivalence.{InContext, Equivalent, negated}
 use Rattle.formula_meaning.proofs.TreeNormal.{tree_normal_free, opposite_in}
 use Rattle.formula_meaning.proofs.TreeReplacing.{moved_of}
 use Rattle.elimination_theory.specs.Decided.{QuantifierIsEliminated, QuantifiersAreEliminated, TruthIsDecided}

@@ -20,7 +20,8 @@ use Rattle.elimination_theory.specs.IntegersSubstitution.{integer_atom}
 use Rattle.elimination_theory.specs.IntegersPoints.{scale_of, own_span, comparison_starts, integer_count_of}
 use Rattle.elimination_theory.specs.IntegersSample.{IsIntegerSample}
 use Rattle.elimination_theory.specs.Samples.{form_with, tree_with, KeepsPeriods}
-use Rattle.elimination_theory.specs.Steps.{IsNormaliser, step}
+use Rattle.elimination_theory.specs.Steps.{step}
+use Rattle.elimination_theory.specs.StepTheorems.{IsNormaliser}
 
 abbrev relations : List Relation
 relations = Equals ∷ Differs ∷ Below ∷ AtMost ∷ Above ∷ AtLeast ∷ []

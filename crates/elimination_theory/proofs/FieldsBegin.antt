@@ -8,10 +8,12 @@ use Rattle.formula_meaning.specs.Form.{Form, value, coefficient, without, scale}
 use Rattle.formula_meaning.specs.Formula.{Yes, No, One, Not, And, Or, Impl, Repl, Equiv, Ex, All, none, also}
 use Rattle.formula_meaning.specs.Truth.{AllTrue, SomeTrue}
 use Rattle.formula_meaning.specs.Every.{Every, EveryOf}
-use Rattle.formula_meaning.specs.Shape.{IsPlain, ArePlain}
-use Rattle.formula_meaning.specs.Atom.{Compare, Congruent, Relation, Equals, Differs, Below, AtMost, Above, AtLeast, Relates, Says, AtomIn, mirrored}
+use Rattle.formula_meaning.specs.Plain.{IsPlain, ArePlain}
+use Rattle.formula_meaning.specs.Atom.{Compare, Congruent, Relation, Equals, Differs, Below, AtMost, Above, AtLeast, Relates, Says, mirrored}
+use Rattle.formula_meaning.specs.TheoryAtoms.{AtomIn}
 use Rattle.formula_meaning.specs.Answer.{Place, Exact, AboveBy, BelowBy, PlusInfinity, MinusInfinity, Periodic}
-use Rattle.formula_meaning.specs.Tree.{Tree, Trees, TrueAt, InContext}
+use Rattle.formula_meaning.specs.Tree.{Tree, Trees, TrueAt}
+use Rattle.formula_meaning.specs.Equivalence.{InContext}
 use Rattle.elimination_theory.specs.Side.{turned}
 use Rattle.elimination_theory.specs.declared.side.Side.{Side}
 use Rattle.elimination_theory.specs.declared.side.Side.TheVariants.{Lower, Upper}

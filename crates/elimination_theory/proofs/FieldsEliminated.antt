@@ -5,14 +5,16 @@ use Rattle.formula_meaning.specs.Point.{Point, move}
 use Rattle.formula_meaning.specs.Truth.{SomeTrue}
 use Rattle.formula_meaning.specs.Every.{EveryOf}
 use Rattle.formula_meaning.specs.Some.{SomeOf}
-use Rattle.formula_meaning.specs.Shape.{IsPlain, ArePlain}
-use Rattle.formula_meaning.specs.Atom.{Says, AtomIn}
+use Rattle.formula_meaning.specs.Plain.{IsPlain, ArePlain}
+use Rattle.formula_meaning.specs.Atom.{Says}
+use Rattle.formula_meaning.specs.TheoryAtoms.{AtomIn}
 use Rattle.formula_meaning.specs.Answer.{Place, Holds}
-use Rattle.formula_meaning.specs.Tree.{Tree, TrueAt, InContext}
+use Rattle.formula_meaning.specs.Tree.{Tree, TrueAt}
+use Rattle.formula_meaning.specs.Equivalence.{InContext}
 use Rattle.elimination_theory.specs.declared.side.Side.{Side}
 use Rattle.elimination_theory.specs.FieldsPoints.{field_points}
-use Rattle.elimination_theory.specs.FieldsSubstitution.{field_substitution}
-use Rattle.elimination_theory.specs.Substitution.{at_place}
+use Rattle.elimination_theory.specs.FieldsTrees.{field_substitution}
+use Rattle.elimination_theory.specs.AtPlace.{at_place}
 use Rattle.elimination_theory.specs.Elimination.{trees_at, field_elimination}
 use Rattle.elimination_theory.specs.Decided.{FieldEliminationIsExact}
 use Rattle.formula_meaning.specs.Some.{Among}

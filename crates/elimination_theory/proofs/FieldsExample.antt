@@ -9,8 +9,8 @@ use Rattle.formula_meaning.specs.Form.{value, coefficient, without, scale, combi
 use Rattle.formula_meaning.specs.Answer.{Exact, MinusInfinity, Holds}
 use Rattle.formula_meaning.specs.Tree.{TrueAt}
 use Rattle.elimination_theory.specs.FieldsPoints.{form_over}
-use Rattle.elimination_theory.specs.FieldsSubstitution.{field_substitution}
-use Rattle.elimination_theory.specs.Substitution.{at_place}
+use Rattle.elimination_theory.specs.FieldsTrees.{field_substitution}
+use Rattle.elimination_theory.specs.AtPlace.{at_place}
 use Rattle.elimination_theory.specs.FieldsExample.{open_interval, named, unit_interval, OpenIntervalPoints, OpenIntervalSubstitutions, EpsilonIsNeeded}
 use Rattle.elimination_theory.proofs.FieldsSubstitute.{substitution_exact}
 

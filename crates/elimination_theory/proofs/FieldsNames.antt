@@ -9,10 +9,12 @@ use Rattle.formula_meaning.specs.Form.{Form, coefficient, without, scale}
 use Rattle.formula_meaning.specs.Formula.{Formula, Formulas, Yes, No, One, Not, And, Or, Impl, Repl, Equiv, Ex, All, none, also}
 use Rattle.formula_meaning.specs.Every.{Every, Free, FreeInSome}
 use Rattle.formula_meaning.specs.Replaced.{replaced}
-use Rattle.formula_meaning.specs.Shape.{IsPlain, ArePlain}
-use Rattle.formula_meaning.specs.Atom.{Atom, Compare, Congruent, Relation, Equals, Differs, Below, AtMost, Above, AtLeast, AtomIn, Mentions, mirrored}
+use Rattle.formula_meaning.specs.Plain.{IsPlain, ArePlain}
+use Rattle.formula_meaning.specs.Atom.{Atom, Compare, Congruent, Relation, Equals, Differs, Below, AtMost, Above, AtLeast, Mentions, mirrored}
+use Rattle.formula_meaning.specs.TheoryAtoms.{AtomIn}
 use Rattle.formula_meaning.specs.Answer.{Place, Exact, AboveBy, BelowBy, PlusInfinity, MinusInfinity, Periodic, PlaceMentions, same_place}
-use Rattle.formula_meaning.specs.Tree.{Tree, InContext, IsFree}
+use Rattle.formula_meaning.specs.Tree.{Tree, IsFree}
+use Rattle.formula_meaning.specs.Equivalence.{InContext}
 use Rattle.formula_meaning.proofs.Coefficients.{coefficient_combine, coefficient_scale, coefficient_without_same, coefficient_without_other}
 use Rattle.formula_meaning.proofs.FreeReplaced.{every_free, free_replaced}
 use Rattle.formula_meaning.proofs.EachAtom.{every_map, every_both}
@@ -23,7 +25,8 @@ use Rattle.formula_meaning.specs.Same.{same_atom}
 use Rattle.elimination_theory.specs.Atoms.{atoms_in, atoms_in_all, atoms_of}
 use Rattle.elimination_theory.specs.FieldsPoints.{beside_point, ends_of, comparison_points, atom_points, infinity_of, field_points, form_over, divisor_of}
 use Rattle.elimination_theory.specs.Substitution.{form_at, below_all, beyond, exactly}
-use Rattle.elimination_theory.specs.FieldsSubstitution.{just_above, just_below, beside, field_atom, field_substitution, IsFieldPlace}
+use Rattle.elimination_theory.specs.FieldsSubstitution.{just_above, just_below, beside, field_atom, IsFieldPlace}
+use Rattle.elimination_theory.specs.FieldsTrees.{field_substitution}
 use Rattle.elimination_theory.specs.Elimination.{trees_at, field_elimination}
 use Rattle.elimination_theory.specs.NamesTheorems.{IsNameOf}
 use Rattle.formula_meaning.specs.Some.{Among}

@@ -6,13 +6,16 @@ use Rattle.std.proofs.lemmas.Int.{ints}
 use Rattle.exact_numbers.proofs.Ring.{ring, mul_comm, mul_assoc, mul_left_comm, add_mul, sub_mul}
 use Rattle.exact_numbers.proofs.Order.{mul_less, cancel_less, mul_positive}
 use Rattle.formula_meaning.specs.Context.{Fields}
-use Rattle.formula_meaning.specs.Point.{Point, Of, move, IsSamePoint}
+use Rattle.formula_meaning.specs.Point.{Point, Of, move}
+use Rattle.formula_meaning.specs.Points.{IsSamePoint}
 use Rattle.formula_meaning.specs.Form.{Form, value, coefficient, without, scale}
 use Rattle.formula_meaning.specs.Every.{Every}
-use Rattle.formula_meaning.specs.Shape.{IsPlain}
-use Rattle.formula_meaning.specs.Atom.{Atom, Compare, Congruent, Relation, Equals, Differs, Below, AtMost, Above, AtLeast, Relates, Says, AtomIn, mirrored, form_of}
+use Rattle.formula_meaning.specs.Plain.{IsPlain}
+use Rattle.formula_meaning.specs.Atom.{Atom, Compare, Congruent, Relation, Equals, Differs, Below, AtMost, Above, AtLeast, Relates, Says, mirrored, form_of}
+use Rattle.formula_meaning.specs.TheoryAtoms.{AtomIn}
 use Rattle.formula_meaning.specs.Answer.{Place, Exact, AboveBy, BelowBy, PlusInfinity, MinusInfinity, Periodic, Holds}
-use Rattle.formula_meaning.specs.Tree.{Tree, TrueAt, InContext}
+use Rattle.formula_meaning.specs.Tree.{Tree, TrueAt}
+use Rattle.formula_meaning.specs.Equivalence.{InContext}
 use Rattle.formula_meaning.proofs.Values.{pos_mul}
 use Rattle.formula_meaning.proofs.TreeFiner.{tree_same_point}
 use Rattle.formula_meaning.proofs.EachAtom.{every_both}
@@ -21,7 +24,7 @@ use Rattle.elimination_theory.specs.declared.side.Side.{Side}
 use Rattle.elimination_theory.specs.declared.side.Side.TheVariants.{Lower, Upper}
 use Rattle.elimination_theory.specs.Atoms.{atoms_of}
 use Rattle.elimination_theory.specs.FieldsSubstitution.{IsFieldPlace}
-use Rattle.elimination_theory.specs.Substitution.{at_place}
+use Rattle.elimination_theory.specs.AtPlace.{at_place}
 use Rattle.elimination_theory.specs.FieldsSamples.{NoCritical, IsJustPast, IsJustShort, IsBelowAll, IsAboveAll, IsFieldSample}
 use Rattle.formula_meaning.proofs.Listed.{among_some}
 use Rattle.elimination_theory.proofs.Fractions.{less_at_most, at_most_less}

@@ -9,15 +9,19 @@ use Rattle.formula_meaning.specs.Form.{Form, value, coefficient, without}
 use Rattle.formula_meaning.specs.Formula.{One}
 use Rattle.formula_meaning.specs.Every.{Every}
 use Rattle.formula_meaning.specs.Replaced.{replaced}
-use Rattle.formula_meaning.specs.Shape.{IsPlain}
-use Rattle.formula_meaning.specs.Atom.{Atom, Compare, Congruent, Relation, Relates, Says, AtomIn}
+use Rattle.formula_meaning.specs.Plain.{IsPlain}
+use Rattle.formula_meaning.specs.Atom.{Atom, Compare, Congruent, Relation, Relates, Says}
+use Rattle.formula_meaning.specs.TheoryAtoms.{AtomIn}
 use Rattle.formula_meaning.specs.Answer.{Place, Exact, AboveBy, BelowBy, PlusInfinity, MinusInfinity, Periodic, Small, Large, Holds}
-use Rattle.formula_meaning.specs.Tree.{Tree, TrueAt, InContext}
+use Rattle.formula_meaning.specs.Tree.{Tree, TrueAt}
+use Rattle.formula_meaning.specs.Equivalence.{InContext}
 use Rattle.formula_meaning.proofs.Values.{value_move, value_combine, pos_mul}
 use Rattle.formula_meaning.proofs.EachAtom.{every_map, every_eventually}
 use Rattle.formula_meaning.proofs.PlainTruth.{plain_replaced}
-use Rattle.elimination_theory.specs.Substitution.{form_at, beyond, exactly, at_place}
-use Rattle.elimination_theory.specs.FieldsSubstitution.{beside, field_atom, field_substitution, IsFieldPlace}
+use Rattle.elimination_theory.specs.Substitution.{form_at, beyond, exactly}
+use Rattle.elimination_theory.specs.AtPlace.{at_place}
+use Rattle.elimination_theory.specs.FieldsSubstitution.{beside, field_atom, IsFieldPlace}
+use Rattle.elimination_theory.specs.FieldsTrees.{field_substitution}
 use Rattle.formula_meaning.proofs.Iff.{both_ways}
 use Rattle.formula_meaning.proofs.Relations.{relates_along}
 use Rattle.elimination_theory.proofs.FieldsLine.{comparison_still}

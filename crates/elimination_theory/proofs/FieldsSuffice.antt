@@ -7,16 +7,17 @@ use Rattle.formula_meaning.specs.Form.{Form, without, scale}
 use Rattle.formula_meaning.specs.Formula.{Formula, Formulas, Yes, No, One, Not, And, Or, Impl, Repl, Equiv, Ex, All, none, also}
 use Rattle.formula_meaning.specs.Some.{SomeOf}
 use Rattle.formula_meaning.specs.Every.{Every, EveryOf}
-use Rattle.formula_meaning.specs.Shape.{IsPlain}
+use Rattle.formula_meaning.specs.Plain.{IsPlain}
 use Rattle.formula_meaning.specs.Atom.{Atom, form_of}
 use Rattle.formula_meaning.specs.Answer.{Place, Holds, same_place}
-use Rattle.formula_meaning.specs.Tree.{Tree, TrueAt, InContext}
+use Rattle.formula_meaning.specs.Tree.{Tree, TrueAt}
+use Rattle.formula_meaning.specs.Equivalence.{InContext}
 use Rattle.elimination_theory.specs.declared.side.Side.{Side}
 use Rattle.formula_meaning.specs.Same.{same_atom}
 use Rattle.elimination_theory.specs.Atoms.{atoms_in, atoms_in_all, atoms_of}
 use Rattle.elimination_theory.specs.FieldsPoints.{atom_points, infinity_of, field_points}
 use Rattle.elimination_theory.specs.FieldsSubstitution.{IsFieldPlace}
-use Rattle.elimination_theory.specs.Substitution.{at_place}
+use Rattle.elimination_theory.specs.AtPlace.{at_place}
 use Rattle.formula_meaning.specs.Some.{Among}
 use Rattle.formula_meaning.proofs.Listed.{some_among, among_some, among_left, among_right, among_flat_map, among_distinct}
 use Rattle.formula_meaning.proofs.Same.{atom_same, place_same}

@@ -6,22 +6,25 @@ use Rattle.exact_numbers.proofs.Ring.{mul_neg, mul_comm}
 use Rattle.formula_meaning.specs.Some.{EachOf}
 use Rattle.formula_meaning.specs.Context.{Integers}
 use Rattle.formula_meaning.specs.Every.{Every}
-use Rattle.formula_meaning.specs.Shape.{IsPlain}
+use Rattle.formula_meaning.specs.Plain.{IsPlain}
 use Rattle.formula_meaning.specs.Form.{coefficient, plus}
 use Rattle.formula_meaning.specs.Atom.{Atom, Compare, Congruent}
 use Rattle.formula_meaning.specs.Answer.{Place, Exact, Periodic, Holds, same_place}
-use Rattle.formula_meaning.specs.Tree.{Tree, InContext}
+use Rattle.formula_meaning.specs.Tree.{Tree}
+use Rattle.formula_meaning.specs.Equivalence.{InContext}
 use Rattle.formula_meaning.proofs.EachAtom.{every_map, every_all}
 use Rattle.elimination_theory.proofs.Simple.{substitution_plain}
 use Rattle.formula_meaning.proofs.Iff.{both_ways}
 use Rattle.elimination_theory.specs.declared.side.Side.{Side}
 use Rattle.elimination_theory.specs.declared.side.Side.TheVariants.{Lower, Upper}
 use Rattle.elimination_theory.specs.Atoms.{atoms_of}
-use Rattle.elimination_theory.specs.Substitution.{at_place}
-use Rattle.elimination_theory.specs.IntegersSubstitution.{guarded_substitution}
+use Rattle.elimination_theory.specs.AtPlace.{at_place}
+use Rattle.elimination_theory.specs.IntegersTrees.{guarded_substitution}
 use Rattle.elimination_theory.specs.Elimination.{integer_elimination}
-use Rattle.elimination_theory.specs.IntegersPoints.{signed, counted, class_points, next_points, points_with, integer_scale, integer_span, integer_points}
-use Rattle.elimination_theory.specs.IntegersTheorems.{IsPeriodOf, IsIntegerPlace, Suits, IntegerTestPointsSuit, IntegerEliminationIsExact}
+use Rattle.elimination_theory.specs.IntegersPoints.{signed, counted, class_points, next_points, points_with}
+use Rattle.elimination_theory.specs.IntegersPointTrees.{integer_scale, integer_span, integer_points}
+use Rattle.elimination_theory.specs.IntegersTheorems.{IsPeriodOf, Suits, IntegerTestPointsSuit, IntegerEliminationIsExact}
+use Rattle.elimination_theory.specs.IntegerPlace.{IsIntegerPlace}
 use Rattle.elimination_theory.proofs.FieldsEliminated.{some_place, trees_plain}
 use Rattle.elimination_theory.proofs.IntegerAtom.{}
 use Rattle.elimination_theory.proofs.SomeListed.{each_append, each_mapped, each_flat_map, each_distinct, each_among}

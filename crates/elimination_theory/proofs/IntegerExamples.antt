@@ -10,8 +10,8 @@ use Rattle.formula_meaning.specs.Answer.{Exact, Periodic, Holds}
 use Rattle.formula_meaning.specs.Tree.{TrueAt}
 use Rattle.formula_meaning.specs.Formula.{Ex}
 use Rattle.elimination_theory.specs.declared.side.Side.TheVariants.{Lower}
-use Rattle.elimination_theory.specs.Substitution.{at_place}
-use Rattle.elimination_theory.specs.IntegersSubstitution.{integer_substitution}
+use Rattle.elimination_theory.specs.AtPlace.{at_place}
+use Rattle.elimination_theory.specs.IntegersTrees.{integer_substitution}
 use Rattle.elimination_theory.specs.IntegersExamples.{a_plus, two_x_is_a, even_above_a, at_most_a, ClassesAreNeeded, PointsOfTwoXIsA, SubstitutionOfTwoXIsA, PointsOfEvenAboveA, SpanIsNeeded, GuardIsNeeded}
 
 pub points_of_two_x_is_a : PointsOfTwoXIsA

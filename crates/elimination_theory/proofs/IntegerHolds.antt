@@ -8,7 +8,7 @@ use Rattle.formula_meaning.specs.Context.{Integers}
 use Rattle.formula_meaning.specs.Point.{Point, move}
 use Rattle.formula_meaning.specs.Formula.{One}
 use Rattle.formula_meaning.specs.Every.{Every}
-use Rattle.formula_meaning.specs.Shape.{IsPlain}
+use Rattle.formula_meaning.specs.Plain.{IsPlain}
 use Rattle.formula_meaning.specs.Form.{Form, value, coefficient}
 use Rattle.formula_meaning.specs.Atom.{Atom, Compare, Congruent, Says, form_of}
 use Rattle.formula_meaning.specs.Answer.{Exact, AboveBy, BelowBy, PlusInfinity, MinusInfinity, Periodic, Holds}
@@ -17,9 +17,11 @@ use Rattle.formula_meaning.proofs.EachAtom.{every_map, every_all, every_both}
 use Rattle.formula_meaning.proofs.Iff.{both_ways, turn_round}
 use Rattle.elimination_theory.specs.declared.side.Side.{Side}
 use Rattle.elimination_theory.specs.declared.side.Side.TheVariants.{Lower, Upper}
-use Rattle.elimination_theory.specs.Substitution.{at_place}
-use Rattle.elimination_theory.specs.IntegersSubstitution.{integer_atom, integer_substitution, integer_guard, is_whole}
-use Rattle.elimination_theory.specs.IntegersPoints.{signed, integer_scale}
+use Rattle.elimination_theory.specs.AtPlace.{at_place}
+use Rattle.elimination_theory.specs.IntegersSubstitution.{integer_atom, integer_guard, is_whole}
+use Rattle.elimination_theory.specs.IntegersTrees.{integer_substitution}
+use Rattle.elimination_theory.specs.IntegersPoints.{signed}
+use Rattle.elimination_theory.specs.IntegersPointTrees.{integer_scale}
 use Rattle.elimination_theory.specs.IntegersTheorems.{IsPeriodOf, IntegerAtomIsExact, IntegerSubstitutionIsExact}
 use Rattle.elimination_theory.specs.Atoms.{atoms_of}
 use Rattle.elimination_theory.proofs.SomeListed.{every_of_atoms}

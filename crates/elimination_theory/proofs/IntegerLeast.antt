@@ -6,9 +6,11 @@ use Rattle.exact_numbers.proofs.Divisibility.{divides_same, one_divides, neg_div
 use Rattle.formula_meaning.specs.Some.{EachOf}
 use Rattle.formula_meaning.specs.Context.{Integers}
 use Rattle.formula_meaning.specs.Form.{coefficient}
-use Rattle.formula_meaning.specs.Atom.{Atom, Compare, Congruent, form_of, AtomIn}
+use Rattle.formula_meaning.specs.Atom.{Atom, Compare, Congruent, form_of}
+use Rattle.formula_meaning.specs.TheoryAtoms.{AtomIn}
 use Rattle.elimination_theory.specs.Atoms.{atoms_of}
-use Rattle.elimination_theory.specs.IntegersPoints.{with_coefficient, scale_of, with_modulus, span_of, integer_scale}
+use Rattle.elimination_theory.specs.IntegersPoints.{with_coefficient, scale_of, with_modulus, span_of}
+use Rattle.elimination_theory.specs.IntegersPointTrees.{integer_scale}
 use Rattle.elimination_theory.specs.IntegersTheorems.{IsMultipleOf, SpansAtom, ScaleIsLeast, SpanIsLeast, IntegerScaleIsLeast, IntegerSpanIsLeast}
 use Rattle.elimination_theory.proofs.SomeListed.{each_map, atoms_of_every, every_of_atoms}
 use Rattle.elimination_theory.proofs.IntegerScale.{Reaches, Spans, common_least, scale_positive, scale_reaches, span_positive, span_scale, multiplied_positive, with_modulus_spans, with_modulus_rest}

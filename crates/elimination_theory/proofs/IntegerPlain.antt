@@ -3,7 +3,7 @@ use Rattle.std.proofs.Common.{ℕ, ℤ, ◌↔◌, inl, inr, ⊎_elim}
 use Rattle.formula_meaning.specs.Context.{Context}
 use Rattle.formula_meaning.specs.Formula.{Formula, Formulas, Yes, No, One, Not, And, Or, Impl, Repl, Equiv, Ex, All, none, also}
 use Rattle.formula_meaning.specs.Truth.{True, AllTrue, SomeTrue}
-use Rattle.formula_meaning.specs.Shape.{IsPlain, ArePlain}
+use Rattle.formula_meaning.specs.Plain.{IsPlain, ArePlain}
 use Rattle.formula_meaning.specs.Replaced.{replaced, all_replaced}
 use Rattle.elimination_theory.proofs.IntegerEval.{Eval, EvalAll, EvalSome}
 

@@ -7,7 +7,7 @@ use Rattle.formula_meaning.specs.Point.{Point, move}
 use Rattle.formula_meaning.specs.Formula.{Ex}
 use Rattle.formula_meaning.specs.Every.{Every}
 use Rattle.formula_meaning.specs.Some.{SomeOf}
-use Rattle.formula_meaning.specs.Shape.{IsPlain}
+use Rattle.formula_meaning.specs.Plain.{IsPlain}
 use Rattle.formula_meaning.specs.Form.{Form, value, plus}
 use Rattle.formula_meaning.specs.Atom.{Says}
 use Rattle.formula_meaning.specs.Answer.{Exact, Periodic, Holds}
@@ -17,7 +17,7 @@ use Rattle.formula_meaning.proofs.Values.{value_plus}
 use Rattle.elimination_theory.specs.Atoms.{atoms_in, atoms_of}
 use Rattle.elimination_theory.specs.declared.side.Side.{Side}
 use Rattle.elimination_theory.specs.declared.side.Side.TheVariants.{Lower, Upper}
-use Rattle.elimination_theory.specs.Substitution.{at_place}
+use Rattle.elimination_theory.specs.AtPlace.{at_place}
 use Rattle.elimination_theory.specs.IntegersPoints.{signed, atom_starts, counted, class_points, next_points, points_with}
 use Rattle.formula_meaning.specs.Same.{same_atom}
 use Rattle.formula_meaning.proofs.Same.{atom_same}

@@ -9,7 +9,7 @@ use Rattle.formula_meaning.specs.Context.{Integers}
 use Rattle.formula_meaning.specs.Point.{Point, move}
 use Rattle.formula_meaning.specs.Every.{Every}
 use Rattle.formula_meaning.specs.Some.{SomeOf, EachOf}
-use Rattle.formula_meaning.specs.Shape.{IsPlain}
+use Rattle.formula_meaning.specs.Plain.{IsPlain}
 use Rattle.formula_meaning.specs.Form.{Form, value, coefficient, without}
 use Rattle.formula_meaning.specs.Atom.{Atom, Compare, Congruent, Relation, Relates, mirrored, Says}
 use Rattle.formula_meaning.specs.Answer.{Exact, AboveBy, BelowBy, PlusInfinity, MinusInfinity, Periodic, Holds}
@@ -21,7 +21,8 @@ use Rattle.elimination_theory.proofs.FieldsLine.{value_still}
 use Rattle.elimination_theory.specs.Atoms.{atoms_of}
 use Rattle.elimination_theory.specs.declared.side.Side.{Side}
 use Rattle.elimination_theory.specs.declared.side.Side.TheVariants.{Lower, Upper}
-use Rattle.elimination_theory.specs.Substitution.{at_place, beyond}
+use Rattle.elimination_theory.specs.Substitution.{beyond}
+use Rattle.elimination_theory.specs.AtPlace.{at_place}
 use Rattle.elimination_theory.specs.IntegersSubstitution.{along, integer_atom}
 use Rattle.elimination_theory.specs.IntegersPoints.{signed}
 use Rattle.elimination_theory.specs.IntegersTheorems.{IsPeriodOf, Suits}

@@ -9,7 +9,8 @@ use Rattle.exact_numbers.proofs.LeastMultiple.{lcm_is, exact_div}
 use Rattle.formula_meaning.specs.Some.{EachOf}
 use Rattle.formula_meaning.specs.Context.{Integers}
 use Rattle.formula_meaning.specs.Form.{coefficient}
-use Rattle.formula_meaning.specs.Atom.{Atom, Compare, Congruent, form_of, AtomIn}
+use Rattle.formula_meaning.specs.Atom.{Atom, Compare, Congruent, form_of}
+use Rattle.formula_meaning.specs.TheoryAtoms.{AtomIn}
 use Rattle.formula_meaning.proofs.Values.{pos_mul}
 use Rattle.elimination_theory.proofs.FieldsMeet.{pos_positive, positive_pos}
 use Rattle.elimination_theory.specs.IntegersPoints.{common_multiple, with_coefficient, scale_of, with_modulus, span_of}

@@ -9,12 +9,15 @@ use Rattle.formula_meaning.specs.Some.{EachOf}
 use Rattle.formula_meaning.specs.Context.{Integers}
 use Rattle.formula_meaning.specs.Every.{Every}
 use Rattle.formula_meaning.specs.Form.{coefficient}
-use Rattle.formula_meaning.specs.Atom.{AtomIn, form_of}
+use Rattle.formula_meaning.specs.Atom.{form_of}
+use Rattle.formula_meaning.specs.TheoryAtoms.{AtomIn}
 use Rattle.formula_meaning.specs.Answer.{Holds, same_place}
-use Rattle.formula_meaning.specs.Tree.{Tree, InContext}
+use Rattle.formula_meaning.specs.Tree.{Tree}
+use Rattle.formula_meaning.specs.Equivalence.{InContext}
 use Rattle.elimination_theory.specs.Atoms.{atoms_of}
-use Rattle.elimination_theory.specs.Substitution.{at_place}
-use Rattle.elimination_theory.specs.IntegersPoints.{points_with, integer_scale, integer_span}
+use Rattle.elimination_theory.specs.AtPlace.{at_place}
+use Rattle.elimination_theory.specs.IntegersPoints.{points_with}
+use Rattle.elimination_theory.specs.IntegersPointTrees.{integer_scale, integer_span}
 use Rattle.elimination_theory.specs.IntegersTheorems.{IntegerTestPointsSuffice}
 use Rattle.formula_meaning.proofs.Same.{place_same}
 use Rattle.elimination_theory.proofs.SomeListed.{some_distinct, some_of_distinct, atoms_of_every, every_of_atoms}

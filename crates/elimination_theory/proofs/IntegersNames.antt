@@ -4,19 +4,22 @@ use Rattle.std.proofs.Math.IntN.{ℤ, pos, negsuc, ◌*ℤ◌, neg_ℤ}
 use Rattle.formula_meaning.specs.Context.{Integers}
 use Rattle.formula_meaning.specs.Form.{Form, coefficient, without, scale, plus}
 use Rattle.formula_meaning.specs.Formula.{Ex}
-use Rattle.formula_meaning.specs.Shape.{IsPlain}
+use Rattle.formula_meaning.specs.Plain.{IsPlain}
 use Rattle.formula_meaning.specs.Atom.{Atom, Compare, Congruent, Relation, Equals, Differs, Below, AtMost, Above, AtLeast, Mentions, mirrored}
 use Rattle.formula_meaning.specs.Answer.{Place, Exact, AboveBy, BelowBy, PlusInfinity, MinusInfinity, Periodic, PlaceMentions, same_place}
-use Rattle.formula_meaning.specs.Tree.{Tree, InContext, IsFree}
+use Rattle.formula_meaning.specs.Tree.{Tree, IsFree}
+use Rattle.formula_meaning.specs.Equivalence.{InContext}
 use Rattle.formula_meaning.proofs.Coefficients.{coefficient_plus}
 use Rattle.elimination_theory.specs.Side.{turned}
 use Rattle.elimination_theory.specs.declared.side.Side.{Side}
 use Rattle.elimination_theory.specs.Atoms.{atoms_of}
 use Rattle.elimination_theory.specs.Substitution.{form_at, where_zero}
 use Rattle.elimination_theory.specs.Elimination.{integer_elimination}
-use Rattle.elimination_theory.specs.IntegersPoints.{counted, signed, starts_of, comparison_starts, atom_starts, class_points, next_points, points_with, integer_scale, integer_span, integer_points}
-use Rattle.elimination_theory.specs.IntegersSubstitution.{put_number, along, integer_atom, is_whole, integer_guard, guarded_substitution}
-use Rattle.elimination_theory.specs.IntegersTheorems.{IsIntegerPlace}
+use Rattle.elimination_theory.specs.IntegersPoints.{counted, signed, starts_of, comparison_starts, atom_starts, class_points, next_points, points_with}
+use Rattle.elimination_theory.specs.IntegersPointTrees.{integer_scale, integer_span, integer_points}
+use Rattle.elimination_theory.specs.IntegersSubstitution.{put_number, along, integer_atom, is_whole, integer_guard}
+use Rattle.elimination_theory.specs.IntegersTrees.{guarded_substitution}
+use Rattle.elimination_theory.specs.IntegerPlace.{IsIntegerPlace}
 use Rattle.elimination_theory.specs.NamesTheorems.{IsNameOf, SubstitutionKeepsNames, PointsHaveNamesOfFormula, EliminationKeepsNames}
 use Rattle.formula_meaning.specs.Some.{Among}
 use Rattle.formula_meaning.proofs.Listed.{among_append, flat_map_among, distinct_among}

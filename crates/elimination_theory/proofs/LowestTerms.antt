@@ -3,7 +3,8 @@ use Rattle.std.proofs.Common.{◌≡◌, ℕ, ◌<◌, ◌/◌, List, [], ◌∷
 use Rattle.std.proofs.Math.IntN.{ℤ, pos, negsuc, ◌+ℤ◌, ◌*ℤ◌}
 use Rattle.std.specs.Prelude.{◌<ℤ◌, ◌≤ℤ◌}
 use Rattle.std.proofs.lemmas.Int.{ints}
-use Rattle.exact_numbers.specs.Divides.{Divides, DividesAll, content_of}
+use Rattle.exact_numbers.specs.Divides.{Divides, content_of}
+use Rattle.exact_numbers.specs.Division.{DividesAll}
 use Rattle.exact_numbers.proofs.Ring.{mul_zero, zero_mul, mul_add, mul_assoc}
 use Rattle.exact_numbers.proofs.Order.{cancel, factor_positive}
 use Rattle.exact_numbers.proofs.LeastMultiple.{exact_div}

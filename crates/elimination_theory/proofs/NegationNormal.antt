@@ -6,8 +6,10 @@ use Rattle.formula_meaning.specs.Formula.{Yes, No, One, Not, And, Or, Impl, Repl
 use Rattle.formula_meaning.specs.Truth.{AllTrue, SomeTrue}
 use Rattle.formula_meaning.specs.Every.{Every, EveryOf}
 use Rattle.formula_meaning.specs.NegationNormal.{normal_form, normal_form_of_not, normal_forms, normal_forms_of_not}
-use Rattle.formula_meaning.specs.Atom.{Atom, Says, AtomIn}
-use Rattle.formula_meaning.specs.Tree.{Tree, Trees, TrueAt, InContext, IsNegation}
+use Rattle.formula_meaning.specs.Atom.{Atom, Says}
+use Rattle.formula_meaning.specs.TheoryAtoms.{AtomIn}
+use Rattle.formula_meaning.specs.Tree.{Tree, Trees, TrueAt}
+use Rattle.formula_meaning.specs.Equivalence.{InContext, IsNegation}
 use Rattle.elimination_theory.specs.Decided.{TruthIsDecided, NegationNormalFormKeepsTruth, AllIsNotExNot}
 use Rattle.formula_meaning.proofs.EachAtom.{every_map, every_both}
 use Rattle.formula_meaning.proofs.TreeReplacing.{moved_of}

@@ -7,14 +7,16 @@ use Rattle.formula_meaning.specs.Formula.{No, One, And}
 use Rattle.formula_meaning.specs.Truth.{SomeTrue}
 use Rattle.formula_meaning.specs.Form.{coefficient}
 use Rattle.formula_meaning.specs.Some.{Among}
-use Rattle.formula_meaning.specs.Shape.{IsPlain}
+use Rattle.formula_meaning.specs.Plain.{IsPlain}
 use Rattle.formula_meaning.specs.Sizes.{nodes, all_nodes}
 use Rattle.formula_meaning.specs.NegationNormal.{both}
 use Rattle.formula_meaning.specs.Replaced.{replaced}
 use Rattle.formula_meaning.specs.Fold.{folded}
-use Rattle.formula_meaning.specs.Atom.{Atom, AtomIn, Says, Mentions, form_of}
+use Rattle.formula_meaning.specs.Atom.{Atom, Says, Mentions, form_of}
+use Rattle.formula_meaning.specs.TheoryAtoms.{AtomIn}
 use Rattle.formula_meaning.specs.Answer.{Place}
-use Rattle.formula_meaning.specs.Tree.{Tree, TrueAt, InContext, IsFree, Equivalent}
+use Rattle.formula_meaning.specs.Tree.{Tree, TrueAt, IsFree}
+use Rattle.formula_meaning.specs.Equivalence.{InContext, Equivalent}
 use Rattle.formula_meaning.proofs.Iff.{either_iff, both_ways}
 use Rattle.formula_meaning.proofs.EachAtom.{every_map, every_both}
 use Rattle.formula_meaning.proofs.ReplacedShape.{nodes_replaced}
@@ -26,8 +28,10 @@ use Rattle.elimination_theory.specs.Atoms.{atoms_of}
 use Rattle.elimination_theory.specs.Elimination.{trees_at}
 use Rattle.elimination_theory.specs.Substitution.{where_zero}
 use Rattle.elimination_theory.specs.IntegersSubstitution.{integer_guard}
-use Rattle.elimination_theory.specs.BothTheories.{IsPlaceIn, raw_atom, substitution, test_points}
-use Rattle.elimination_theory.specs.Steps.{IsNormaliser, normalised, atom_at, result_at, Result, kept, results, trees_left, StepsAreExact}
+use Rattle.elimination_theory.specs.BothTheories.{IsPlaceIn, raw_atom, test_points}
+use Rattle.elimination_theory.specs.Places.{substitution}
+use Rattle.elimination_theory.specs.Steps.{normalised, atom_at, result_at, Result, kept, results}
+use Rattle.elimination_theory.specs.StepTheorems.{IsNormaliser, trees_left, StepsAreExact}
 use Rattle.elimination_theory.proofs.Simple.{IsSimple, simple_plain, simple_in, simple_nodes, simple_normalised, where_zero_has, raw_simple, raw_still, guard_simple, replaced_plain}
 use Rattle.elimination_theory.proofs.BothSubstitutions.{place_in, point_suits, eliminated, substituted_names}
 

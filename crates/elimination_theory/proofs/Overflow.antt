@@ -8,7 +8,7 @@ use Rattle.formula_meaning.specs.Form.{coefficient}
 use Rattle.formula_meaning.specs.Atom.{Atom, Compare, Congruent}
 use Rattle.elimination_theory.specs.IntegersPoints.{scale_of, own_span}
 use Rattle.elimination_theory.specs.IntegersTheorems.{SpansAtom}
-use Rattle.elimination_theory.specs.Overflow.{MultipliedWithin, SpanLimits}
+use Rattle.elimination_theory.specs.SpanLimits.{MultipliedWithin, SpanLimits}
 use Rattle.elimination_theory.proofs.SomeListed.{each_map}
 use Rattle.elimination_theory.proofs.IntegerLeast.{span_is_least}
 

@@ -3,7 +3,8 @@ use Rattle.std.proofs.Common.{◌≡◌, ℕ, suc, ◌<◌, ◌/◌, List, [], �
 use Rattle.std.proofs.Math.IntN.{ℤ, pos, negsuc, ◌*ℤ◌}
 use Rattle.std.specs.Prelude.{◌<ℤ◌, ◌≤ℤ◌}
 use Rattle.std.proofs.lemmas.Int.{ints}
-use Rattle.exact_numbers.specs.Divides.{Divides, DividesAll, content_of}
+use Rattle.exact_numbers.specs.Divides.{Divides, content_of}
+use Rattle.exact_numbers.specs.Division.{DividesAll}
 use Rattle.exact_numbers.proofs.Ring.{mul_one}
 use Rattle.exact_numbers.proofs.Order.{cancel_at_most, by_order}
 use Rattle.exact_numbers.proofs.Divisibility.{mul_divides_mul, divides_along, divisor_at_most, zero_divides}
@@ -12,7 +13,8 @@ use Rattle.exact_numbers.proofs.Contents.{content_is}
 use Rattle.formula_meaning.specs.Form.{Form, Term, scale, without, coefficients}
 use Rattle.formula_meaning.specs.Atom.{form_of}
 use Rattle.elimination_theory.specs.Atoms.{atoms_of}
-use Rattle.elimination_theory.specs.FieldsPoints.{numbers_of, divisor_of, terms_over, form_over, IsInLowestTerms, FieldPointsAreInLowestTerms}
+use Rattle.elimination_theory.specs.FieldsPoints.{numbers_of, divisor_of, terms_over, form_over}
+use Rattle.elimination_theory.specs.LowestPoints.{IsInLowestTerms, FieldPointsAreInLowestTerms}
 use Rattle.elimination_theory.proofs.LowestTerms.{lowest, natural, all_divided}
 use Rattle.elimination_theory.proofs.FieldsEach.{HoldsAt, at_all, far_out, field_points_have}
 

@@ -4,19 +4,23 @@ use Rattle.std.proofs.Math.IntN.{ℤ, pos, negsuc, neg_ℤ}
 use Rattle.formula_meaning.specs.Context.{Context, Fields, Integers}
 use Rattle.formula_meaning.specs.Formula.{Yes, No, One}
 use Rattle.formula_meaning.specs.Form.{Form, coefficient}
-use Rattle.formula_meaning.specs.Shape.{IsAtomic, IsPlain}
+use Rattle.formula_meaning.specs.Plain.{IsAtomic, IsPlain}
 use Rattle.formula_meaning.specs.Sizes.{nodes}
-use Rattle.formula_meaning.specs.Atom.{Atom, Compare, Congruent, Relation, Equals, Differs, Below, AtMost, Above, AtLeast, AtomIn, form_of, mirrored}
+use Rattle.formula_meaning.specs.Atom.{Atom, Compare, Congruent, Relation, Equals, Differs, Below, AtMost, Above, AtLeast, form_of, mirrored}
+use Rattle.formula_meaning.specs.TheoryAtoms.{AtomIn}
 use Rattle.formula_meaning.specs.Replaced.{replaced}
 use Rattle.formula_meaning.specs.Answer.{Place, Exact, AboveBy, BelowBy, PlusInfinity, MinusInfinity, Periodic}
-use Rattle.formula_meaning.specs.Tree.{Tree, InContext}
+use Rattle.formula_meaning.specs.Tree.{Tree}
+use Rattle.formula_meaning.specs.Equivalence.{InContext}
 use Rattle.formula_meaning.proofs.EachAtom.{every_map}
 use Rattle.formula_meaning.proofs.ReplacedShape.{plain_stays, every_replaced}
 use Rattle.elimination_theory.specs.Substitution.{form_at, below_all, beyond, exactly, where_zero}
 use Rattle.elimination_theory.specs.FieldsSubstitution.{just_above, just_below, beside}
 use Rattle.elimination_theory.specs.IntegersSubstitution.{put_number, along, integer_guard}
-use Rattle.elimination_theory.specs.BothTheories.{IsPlaceIn, raw_atom, substitution}
-use Rattle.elimination_theory.specs.Steps.{IsNormaliser, normalised}
+use Rattle.elimination_theory.specs.BothTheories.{IsPlaceIn, raw_atom}
+use Rattle.elimination_theory.specs.Places.{substitution}
+use Rattle.elimination_theory.specs.Steps.{normalised}
+use Rattle.elimination_theory.specs.StepTheorems.{IsNormaliser}
 
 -- a constant, or one atom of the theory
 abbrev pub IsSimple : Context → Tree → Type 0

@@ -4,7 +4,8 @@ use Rattle.formula_meaning.specs.Answer.{same_place}
 use Rattle.formula_meaning.specs.Same.{same_atom}
 use Rattle.elimination_theory.specs.Atoms.{atoms_in, atoms_of}
 use Rattle.elimination_theory.specs.FieldsPoints.{infinity_of, atom_points}
-use Rattle.elimination_theory.specs.IntegersPoints.{points_with, integer_scale, integer_span}
+use Rattle.elimination_theory.specs.IntegersPoints.{points_with}
+use Rattle.elimination_theory.specs.IntegersPointTrees.{integer_scale, integer_span}
 use Rattle.elimination_theory.specs.PointsTheorems.{PointsStandOnce, AtomsMayRepeat}
 use Rattle.formula_meaning.proofs.Listed.{distinct_once}
 use Rattle.formula_meaning.specs.Distinct.{without_same}

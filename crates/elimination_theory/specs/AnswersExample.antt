@@ -7,7 +7,8 @@ use Rattle.formula_meaning.specs.Atom.{Compare, Congruent, Equals}
 use Rattle.formula_meaning.specs.Answer.{Exact, Periodic}
 use Rattle.formula_meaning.specs.Tree.{Tree}
 use Rattle.elimination_theory.specs.FieldsExample.{multiple_of, named, difference}
-use Rattle.elimination_theory.specs.Answers.{Step, Lead}
+use Rattle.elimination_theory.specs.Answers.{Step}
+use Rattle.elimination_theory.specs.AnswersTheorems.{Lead}
 
 -- x and y are the names 0 and 1
 abbrev pub matrix : Tree

@@ -2,26 +2,20 @@
 use Rattle.std.specs.Prelude.{ℕ, List}
 use Rattle.formula_meaning.specs.Context.{Context, Fields, Integers}
 use Rattle.formula_meaning.specs.Formula.{Yes}
-use Rattle.formula_meaning.specs.Every.{Every}
 use Rattle.formula_meaning.specs.Atom.{Atom}
 use Rattle.formula_meaning.specs.Answer.{Place}
 use Rattle.formula_meaning.specs.Tree.{Tree}
 use Rattle.elimination_theory.specs.declared.side.Side.{Side}
-use Rattle.elimination_theory.specs.FieldsSubstitution.{field_atom, field_substitution, IsFieldPlace}
+use Rattle.elimination_theory.specs.FieldsSubstitution.{field_atom, IsFieldPlace}
 use Rattle.elimination_theory.specs.FieldsPoints.{field_points_of}
-use Rattle.elimination_theory.specs.IntegersSubstitution.{integer_atom, integer_guard, guarded_substitution}
+use Rattle.elimination_theory.specs.IntegersSubstitution.{integer_atom, integer_guard}
 use Rattle.elimination_theory.specs.IntegersPoints.{integer_points_of}
-use Rattle.elimination_theory.specs.IntegersTheorems.{IsIntegerPlace, Suits}
+use Rattle.elimination_theory.specs.IntegerPlace.{IsIntegerPlace}
 
 -- the places of a theory
 abbrev pub IsPlaceIn : Context → Place → Type 0
 IsPlaceIn Fields s = IsFieldPlace s
 IsPlaceIn Integers s = IsIntegerPlace s
-
--- the places at which substitution into the formula is exact: over the integers the period is one of each congruence
-abbrev pub IsPlaceFor : Context → ℕ → Place → Tree → Type 0
-IsPlaceFor Fields x s f = IsFieldPlace s
-IsPlaceFor Integers x s f = IsIntegerPlace s × Every (Suits x s) f
 
 -- an atom with x at the place
 abbrev pub raw_atom : Context → ℕ → Place → Atom → Tree
@@ -32,11 +26,6 @@ raw_atom Integers x s a = integer_atom x s a
 abbrev pub guard_of : Context → Place → Tree
 guard_of Fields s = Yes
 guard_of Integers s = integer_guard s
-
--- a formula with x at the place, over the integers with its guard
-abbrev pub substitution : Context → ℕ → Place → Tree → Tree
-substitution Fields x s f = field_substitution x s f
-substitution Integers x s f = guarded_substitution x s f
 
 -- the test points of x in a list of atoms
 abbrev pub test_points : Context → Side → ℕ → List Atom → List Place

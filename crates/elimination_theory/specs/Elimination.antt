@@ -5,9 +5,9 @@ use Rattle.formula_meaning.specs.Answer.{Place}
 use Rattle.formula_meaning.specs.Tree.{Tree, Trees}
 use Rattle.elimination_theory.specs.declared.side.Side.{Side}
 use Rattle.elimination_theory.specs.FieldsPoints.{field_points}
-use Rattle.elimination_theory.specs.FieldsSubstitution.{field_substitution}
-use Rattle.elimination_theory.specs.IntegersSubstitution.{guarded_substitution}
-use Rattle.elimination_theory.specs.IntegersPoints.{integer_points}
+use Rattle.elimination_theory.specs.FieldsTrees.{field_substitution}
+use Rattle.elimination_theory.specs.IntegersTrees.{guarded_substitution}
+use Rattle.elimination_theory.specs.IntegersPointTrees.{integer_points}
 
 -- put s for each place s, in order
 abbrev pub trees_at : (Place → Tree) → List Place → Trees

@@ -10,8 +10,8 @@ use Rattle.formula_meaning.specs.Answer.{Exact, AboveBy, BelowBy, MinusInfinity,
 use Rattle.formula_meaning.specs.Tree.{Tree, TrueAt}
 use Rattle.elimination_theory.specs.declared.side.Side.TheVariants.{Lower, Upper}
 use Rattle.elimination_theory.specs.FieldsPoints.{field_points}
-use Rattle.elimination_theory.specs.FieldsSubstitution.{field_substitution}
-use Rattle.elimination_theory.specs.Substitution.{at_place}
+use Rattle.elimination_theory.specs.FieldsTrees.{field_substitution}
+use Rattle.elimination_theory.specs.AtPlace.{at_place}
 
 -- times * name
 abbrev pub multiple_of : ℤ → ℕ → Term

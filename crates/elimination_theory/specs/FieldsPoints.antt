@@ -1,10 +1,9 @@
 -- Test points of the ordered fields (Loos and Weispfenning): ends of intervals, infinitesimals beside them, and an infinity.
-use Rattle.std.specs.Prelude.{◌≡◌, ℕ, suc, zero, ◌/◌, ℤ, pos, negsuc, List, [], ◌∷◌, flat_map, unsigned_abs, int_div}
+use Rattle.std.specs.Prelude.{ℕ, suc, zero, ◌/◌, ℤ, pos, negsuc, List, [], ◌∷◌, flat_map, unsigned_abs, int_div}
 use Rattle.exact_numbers.specs.Divides.{content_of}
-use Rattle.formula_meaning.specs.Some.{SomeOf}
 use Rattle.formula_meaning.specs.Form.{Form, Term, coefficient, without, scale, coefficients}
 use Rattle.formula_meaning.specs.Atom.{Atom, Compare, Congruent, Relation, Equals, Differs, Below, AtMost, Above, AtLeast, mirrored}
-use Rattle.formula_meaning.specs.Answer.{Place, Exact, AboveBy, BelowBy, PlusInfinity, MinusInfinity, Periodic, same_place}
+use Rattle.formula_meaning.specs.Answer.{Place, Exact, AboveBy, BelowBy, PlusInfinity, MinusInfinity, same_place}
 use Rattle.formula_meaning.specs.Tree.{Tree}
 use Rattle.formula_meaning.specs.Distinct.{distinct}
 use Rattle.elimination_theory.specs.Atoms.{atoms_of}
@@ -70,16 +69,3 @@ field_points_of side x atoms = distinct same_place (infinity_of side ∷ flat_ma
 -- the test points of a name in a formula
 abbrev pub field_points : Side → ℕ → Tree → List Place
 field_points side x f = field_points_of side x (atoms_of f)
-
--- no number above 1 divides all numbers of the place
-abbrev pub IsInLowestTerms : Place → Type 0
-IsInLowestTerms (Exact e d) = divisor_of e d ≡ 1
-IsInLowestTerms (AboveBy e d) = divisor_of e d ≡ 1
-IsInLowestTerms (BelowBy e d) = divisor_of e d ≡ 1
-IsInLowestTerms PlusInfinity = Unit {0}
-IsInLowestTerms MinusInfinity = Unit {0}
-IsInLowestTerms (Periodic a q) = Unit {0}
-
--- Each test point of the fields is in lowest terms.
-abbrev pub FieldPointsAreInLowestTerms : Type 0
-FieldPointsAreInLowestTerms = (side : Side) (x : ℕ) (f : Tree) (s : Place) → SomeOf (λ t. t ≡ s) (field_points side x f) → IsInLowestTerms s

@@ -4,7 +4,6 @@ use Rattle.formula_meaning.specs.Formula.{Yes, No, One}
 use Rattle.formula_meaning.specs.Form.{Form, coefficient}
 use Rattle.formula_meaning.specs.Atom.{Atom, Compare, Congruent, Relation, Equals, Differs, Below, AtMost, Above, AtLeast}
 use Rattle.formula_meaning.specs.Answer.{Place, Exact, AboveBy, BelowBy, PlusInfinity, MinusInfinity, Periodic}
-use Rattle.formula_meaning.specs.Replaced.{replaced}
 use Rattle.formula_meaning.specs.Tree.{Tree}
 use Rattle.elimination_theory.specs.Substitution.{form_at, beyond, exactly}
 
@@ -45,10 +44,6 @@ field_comparison x (Periodic a q) r f = One (Compare r f)
 abbrev pub field_atom : ℕ → Place → Atom → Tree
 field_atom x s (Compare r f) = field_comparison x s r f
 field_atom x s (Congruent holds n f) = One (Congruent holds n f)
-
--- a formula with x at the place
-abbrev pub field_substitution : ℕ → Place → Tree → Tree
-field_substitution x s f = replaced (field_atom x s) (λ y. y) f
 
 -- the places of the ordered fields: those over a positive denominator, and the infinities
 abbrev pub IsFieldPlace : Place → Type 0

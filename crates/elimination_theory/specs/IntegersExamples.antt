@@ -5,18 +5,22 @@ use Rattle.formula_meaning.specs.Point.{Point, Of}
 use Rattle.formula_meaning.specs.Formula.{Ex, One, And, also, none}
 use Rattle.formula_meaning.specs.Every.{Every}
 use Rattle.formula_meaning.specs.Some.{SomeOf}
-use Rattle.formula_meaning.specs.Shape.{IsPlain}
+use Rattle.formula_meaning.specs.Plain.{IsPlain}
 use Rattle.formula_meaning.specs.Form.{Form, Term}
 use Rattle.formula_meaning.specs.Atom.{Compare, Congruent, Equals, Above, AtMost}
 use Rattle.formula_meaning.specs.Answer.{Place, Exact, Periodic, Holds}
-use Rattle.formula_meaning.specs.Tree.{Tree, TrueAt, InContext}
+use Rattle.formula_meaning.specs.Tree.{Tree, TrueAt}
+use Rattle.formula_meaning.specs.Equivalence.{InContext}
 use Rattle.elimination_theory.specs.Atoms.{atoms_of}
 use Rattle.elimination_theory.specs.declared.side.Side.{Side}
 use Rattle.elimination_theory.specs.declared.side.Side.TheVariants.{Lower, Upper}
-use Rattle.elimination_theory.specs.Substitution.{at_place}
-use Rattle.elimination_theory.specs.IntegersSubstitution.{integer_substitution, integer_guard}
-use Rattle.elimination_theory.specs.IntegersPoints.{next_points, atom_starts, points_with, integer_scale, integer_span, integer_points}
-use Rattle.elimination_theory.specs.IntegersTheorems.{IsIntegerPlace, Suits}
+use Rattle.elimination_theory.specs.AtPlace.{at_place}
+use Rattle.elimination_theory.specs.IntegersSubstitution.{integer_guard}
+use Rattle.elimination_theory.specs.IntegersTrees.{integer_substitution}
+use Rattle.elimination_theory.specs.IntegersPoints.{next_points, atom_starts, points_with}
+use Rattle.elimination_theory.specs.IntegersPointTrees.{integer_scale, integer_span, integer_points}
+use Rattle.elimination_theory.specs.IntegersTheorems.{Suits}
+use Rattle.elimination_theory.specs.IntegerPlace.{IsIntegerPlace}
 
 -- n * x
 abbrev pub x_term : ℤ → Term

@@ -92,16 +92,6 @@ integer_count_of side x atoms = length (points_with side (scale_of x atoms) (own
 abbrev pub integer_points_of : Side → ℕ → List Atom → List Place
 integer_points_of side x atoms = distinct same_place (points_with side (scale_of x atoms) (own_span x atoms) x atoms)
 
--- the same of a name in a formula
-abbrev pub integer_scale : ℕ → Tree → ℕ
-integer_scale x f = scale_of x (atoms_of f)
-
-abbrev pub integer_span : ℕ → Tree → ℕ
-integer_span x f = own_span x (atoms_of f)
-
 -- how many test points a name has in a formula, equal points counted as often as they are formed
 abbrev pub integer_count : Side → ℕ → Tree → ℕ
 integer_count side x f = integer_count_of side x (atoms_of f)
-
-abbrev pub integer_points : Side → ℕ → Tree → List Place
-integer_points side x f = integer_points_of side x (atoms_of f)

@@ -1,11 +1,9 @@
 -- A name put at a place of the integers (Cooper): the atom that results, and the guard of the place.
 use Rattle.std.specs.Prelude.{ℕ, ℤ, pos, negsuc, zero, suc, ◌*◌, ◌*ℤ◌, neg_ℤ, true}
-use Rattle.formula_meaning.specs.Formula.{Yes, One, And}
-use Rattle.formula_meaning.specs.NegationNormal.{both}
+use Rattle.formula_meaning.specs.Formula.{Yes, One}
 use Rattle.formula_meaning.specs.Form.{Form, coefficient, without, plus}
 use Rattle.formula_meaning.specs.Atom.{Atom, Compare, Congruent}
 use Rattle.formula_meaning.specs.Answer.{Place, Exact, AboveBy, BelowBy, PlusInfinity, MinusInfinity, Periodic}
-use Rattle.formula_meaning.specs.Replaced.{replaced}
 use Rattle.formula_meaning.specs.Tree.{Tree}
 use Rattle.elimination_theory.specs.Substitution.{form_at, beyond, exactly, where_zero}
 
@@ -30,10 +28,6 @@ integer_atom x (BelowBy e l) a = One a
 integer_atom x PlusInfinity a = One a
 integer_atom x MinusInfinity a = One a
 
--- a formula with x at the place
-abbrev pub integer_substitution : ℕ → Place → Tree → Tree
-integer_substitution x s f = replaced (integer_atom x s) (λ y. y) f
-
 -- true where e over l is a whole number
 abbrev pub is_whole : Form → ℕ → Tree
 is_whole e zero = One (Congruent true zero e)
@@ -48,7 +42,3 @@ integer_guard (BelowBy e l) = Yes
 integer_guard PlusInfinity = Yes
 integer_guard MinusInfinity = Yes
 integer_guard (Periodic j q) = Yes
-
--- the place is a whole number, and the formula is true with x at it
-abbrev pub guarded_substitution : ℕ → Place → Tree → Tree
-guarded_substitution x s f = And (both (integer_guard s) (integer_substitution x s f))

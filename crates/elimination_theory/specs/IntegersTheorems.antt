@@ -6,30 +6,26 @@ use Rattle.formula_meaning.specs.Point.{Point, Of}
 use Rattle.formula_meaning.specs.Formula.{Ex, One}
 use Rattle.formula_meaning.specs.Every.{Every}
 use Rattle.formula_meaning.specs.Some.{SomeOf, EachOf}
-use Rattle.formula_meaning.specs.Shape.{IsPlain}
+use Rattle.formula_meaning.specs.Plain.{IsPlain}
 use Rattle.formula_meaning.specs.Form.{coefficient}
-use Rattle.formula_meaning.specs.Atom.{form_of, Atom, AtomIn, Compare, Congruent}
+use Rattle.formula_meaning.specs.Atom.{form_of, Atom, Compare, Congruent}
+use Rattle.formula_meaning.specs.TheoryAtoms.{AtomIn}
 use Rattle.formula_meaning.specs.Answer.{Place, Exact, AboveBy, BelowBy, PlusInfinity, MinusInfinity, Periodic, Holds}
-use Rattle.formula_meaning.specs.Tree.{Tree, TrueAt, InContext, Equivalent}
-use Rattle.elimination_theory.specs.Substitution.{at_place}
+use Rattle.formula_meaning.specs.Tree.{Tree, TrueAt}
+use Rattle.formula_meaning.specs.Equivalence.{InContext, Equivalent}
+use Rattle.elimination_theory.specs.AtPlace.{at_place}
 use Rattle.elimination_theory.specs.declared.side.Side.{Side}
-use Rattle.elimination_theory.specs.IntegersSubstitution.{integer_atom, integer_substitution, integer_guard}
+use Rattle.elimination_theory.specs.IntegersSubstitution.{integer_atom, integer_guard}
+use Rattle.elimination_theory.specs.IntegersTrees.{integer_substitution}
 use Rattle.elimination_theory.specs.Elimination.{integer_elimination}
-use Rattle.elimination_theory.specs.IntegersPoints.{scale_of, own_span, integer_count_of, atom_starts, integer_scale, integer_span, integer_points}
+use Rattle.elimination_theory.specs.IntegersPoints.{scale_of, own_span, integer_count_of, atom_starts}
+use Rattle.elimination_theory.specs.IntegersPointTrees.{integer_scale, integer_span, integer_points}
+use Rattle.elimination_theory.specs.IntegerPlace.{IsIntegerPlace}
 
 -- a step by the period takes the atom's form to a number of the same remainder
 abbrev pub IsPeriodOf : ℕ → ℤ → Atom → Type 0
 IsPeriodOf x q (Compare r f) = Unit {0}
 IsPeriodOf x q (Congruent holds n f) = Divides (pos n) (coefficient x f *ℤ q)
-
--- the places of the integers: over a positive scale, or in the residue classes of a period
-abbrev pub IsIntegerPlace : Place → Type 0
-IsIntegerPlace (Exact e l) = 0 < l
-IsIntegerPlace (AboveBy e l) = ⊥
-IsIntegerPlace (BelowBy e l) = ⊥
-IsIntegerPlace PlusInfinity = ⊥
-IsIntegerPlace MinusInfinity = ⊥
-IsIntegerPlace (Periodic j q) = ¬ (q ≡ pos 0)
 
 -- the place's period, where it has one, is one of the atom
 abbrev pub Suits : ℕ → Place → Atom → Type 0

@@ -7,9 +7,9 @@ use Rattle.formula_meaning.specs.Atom.{Atom, form_of}
 use Rattle.formula_meaning.specs.Answer.{Place, IsSortedPlace}
 use Rattle.formula_meaning.specs.Tree.{Tree}
 use Rattle.elimination_theory.specs.declared.side.Side.{Side}
-use Rattle.formula_meaning.specs.Distinct.{StandsOnce}
+use Rattle.formula_meaning.specs.StandsOnce.{StandsOnce}
 use Rattle.elimination_theory.specs.FieldsPoints.{field_points, field_points_of}
-use Rattle.elimination_theory.specs.IntegersPoints.{integer_points}
+use Rattle.elimination_theory.specs.IntegersPointTrees.{integer_points}
 use Rattle.elimination_theory.specs.Atoms.{atoms_in, atoms_of}
 use Rattle.elimination_theory.specs.BothTheories.{test_points}
 

@@ -5,15 +5,17 @@ use Rattle.formula_meaning.specs.Context.{Context, Fields, Integers, Allowed}
 use Rattle.formula_meaning.specs.Point.{Point, Of, move}
 use Rattle.formula_meaning.specs.Every.{Every}
 use Rattle.formula_meaning.specs.Form.{Form, coefficient, without, value}
-use Rattle.formula_meaning.specs.Atom.{Atom, Compare, Congruent, AtomIn}
+use Rattle.formula_meaning.specs.Atom.{Atom, Compare, Congruent}
+use Rattle.formula_meaning.specs.TheoryAtoms.{AtomIn}
 use Rattle.formula_meaning.specs.Replaced.{replaced}
 use Rattle.formula_meaning.specs.Answer.{Place}
 use Rattle.formula_meaning.specs.Tree.{Tree, TrueAt}
 use Rattle.elimination_theory.specs.FieldsSamples.{IsFieldSample}
 use Rattle.elimination_theory.specs.IntegersSample.{IsIntegerSample}
 use Rattle.elimination_theory.specs.IntegersTheorems.{IsPeriodOf}
-use Rattle.elimination_theory.specs.Steps.{IsNormaliser}
-use Rattle.elimination_theory.specs.Answers.{Step, Lead}
+use Rattle.elimination_theory.specs.StepTheorems.{IsNormaliser}
+use Rattle.elimination_theory.specs.Answers.{Step}
+use Rattle.elimination_theory.specs.AnswersTheorems.{Lead}
 
 -- the form with the numbers of the point for all names but x, times the point's denominator
 unfoldable pub form_with : ℕ → Point ℕ → Form → Form

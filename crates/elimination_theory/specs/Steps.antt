@@ -1,29 +1,19 @@
 -- One step of elimination as a program takes it: atoms are brought to normal form, the formula is folded, and what is false
 -- is dropped. It is exact for every normal form of atoms that keeps truth at the points of the theory.
-use Rattle.std.specs.Prelude.{ℕ, ◌+◌, ◌*◌, ◌≤◌, List, [], ◌∷◌, length}
+use Rattle.std.specs.Prelude.{ℕ, List, [], ◌∷◌}
 use Rattle.formula_meaning.specs.Context.{Context, Fields, Integers}
-use Rattle.formula_meaning.specs.Formula.{No, One, And, Or, Ex, none, also}
+use Rattle.formula_meaning.specs.Formula.{No, One, And}
 use Rattle.formula_meaning.specs.Form.{coefficient}
-use Rattle.formula_meaning.specs.Atom.{Atom, AtomIn, form_of}
-use Rattle.formula_meaning.specs.Some.{Among}
-use Rattle.formula_meaning.specs.Sizes.{nodes, all_nodes}
-use Rattle.formula_meaning.specs.Shape.{IsAtomic, IsPlain}
+use Rattle.formula_meaning.specs.Atom.{Atom, form_of}
 use Rattle.formula_meaning.specs.NegationNormal.{both}
 use Rattle.formula_meaning.specs.Replaced.{replaced}
 use Rattle.formula_meaning.specs.Fold.{folded}
 use Rattle.formula_meaning.specs.Answer.{Place}
-use Rattle.formula_meaning.specs.Tree.{Tree, Trees, InContext, IsFree, Equivalent}
+use Rattle.formula_meaning.specs.Tree.{Tree}
 use Rattle.elimination_theory.specs.declared.side.Side.{Side}
 use Rattle.elimination_theory.specs.Atoms.{atoms_of}
 use Rattle.elimination_theory.specs.Substitution.{where_zero}
-use Rattle.elimination_theory.specs.BothTheories.{IsPlaceFor, raw_atom, guard_of, substitution, test_points}
-
--- by makes of each atom of the theory a constant or an atom of the theory, of the same truth and without new names
-pub record IsNormaliser (c : Context) (by : Atom → Tree) : Type 0 where
-  pub atomic : (a : Atom) → AtomIn c a → IsAtomic (by a)
-  pub in_context : (a : Atom) → AtomIn c a → InContext c (by a)
-  pub equivalent : (a : Atom) → AtomIn c a → Equivalent c (One a) (by a)
-  pub names : (a : Atom) (y : ℕ) → AtomIn c a → IsFree (by a) y → IsFree (One a) y
+use Rattle.elimination_theory.specs.BothTheories.{raw_atom, guard_of, test_points}
 
 -- each atom brought to normal form
 abbrev pub normalised : (Atom → Tree) → Tree → Tree
@@ -56,27 +46,3 @@ results c by x f (s ∷ places) = kept s (result_at c by x s f) (results c by x 
 -- what one step for x leaves of the formula
 abbrev pub step : Context → (Atom → Tree) → Side → ℕ → Tree → List Result
 step c by side x f = results c by x f (test_points c side x (atoms_of f))
-
--- the formulas that are left
-abbrev pub trees_left : List Result → Trees
-trees_left [] = none
-trees_left (r ∷ rest) = also r.tree (trees_left rest)
-
--- what is known of each result
-pub record IsResult (c : Context) (x : ℕ) (f : Tree) (r : Result) : Type 0 where
-  pub suits : IsPlaceFor c x r.place f
-  pub is_plain : IsPlain r.tree
-  pub in_context : InContext c r.tree
-  pub equivalent : Equivalent c (substitution c x r.place f) r.tree
-  pub names : (y : ℕ) → IsFree r.tree y → IsFree (Ex x f) y
-  pub few_nodes : nodes r.tree ≤ nodes f + 2
-
--- One step is exact: ex(x, f) is equivalent to the disjunction of what is left, each result is the substitution, and for each
--- test point there are at most two nodes more than f has.
-pub record StepIsExact (c : Context) (by : Atom → Tree) (side : Side) (x : ℕ) (f : Tree) : Type 0 where
-  pub equivalent : Equivalent c (Ex x f) (Or (trees_left (step c by side x f)))
-  pub each : (r : Result) → Among (step c by side x f) r → IsResult c x f r
-  pub few_nodes : all_nodes (trees_left (step c by side x f)) ≤ length (test_points c side x (atoms_of f)) * (nodes f + 2)
-
-abbrev pub StepsAreExact : Context → Type 0
-StepsAreExact c = (by : Atom → Tree) (side : Side) (x : ℕ) (f : Tree) → IsNormaliser c by → IsPlain f → InContext c f → StepIsExact c by side x f

@@ -1,14 +1,9 @@
 -- What substitution over the ordered fields and over the integers have in common.
-use Rattle.std.specs.Prelude.{ℕ, suc, zero, ℤ, pos, negsuc, List, [], ◌∷◌}
+use Rattle.std.specs.Prelude.{ℕ, suc, zero, ℤ, pos, negsuc}
 use Rattle.formula_meaning.specs.Formula.{Yes, No, One}
 use Rattle.formula_meaning.specs.Form.{Form, coefficient, without, combine}
 use Rattle.formula_meaning.specs.Atom.{Compare, Relation, Equals, Differs, Below, AtMost, Above, AtLeast, mirrored}
-use Rattle.formula_meaning.specs.Answer.{Answer, Place}
 use Rattle.formula_meaning.specs.Tree.{Tree}
-
--- the one answer that puts x at the place
-abbrev pub at_place : ℕ → Place → List Answer
-at_place x s = record { name = x; place = s } ∷ []
 
 -- a * e + d * t: the form a * x + t with e/d for x, times d
 abbrev pub form_at : ℕ → Form → ℕ → Form → Form

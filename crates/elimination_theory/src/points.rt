@@ -2,7 +2,7 @@
 
 ghost use Rattle.formula_meaning.specs.Context.{Context};
 ghost use Rattle.elimination_theory.specs.PointsTheorems.{PointsStandOnce, AtomsMayRepeat, PointsAreSorted};
-ghost use Rattle.elimination_theory.specs.FieldsPoints.{FieldPointsAreInLowestTerms};
+ghost use Rattle.elimination_theory.specs.LowestPoints.{FieldPointsAreInLowestTerms};
 
 /// Each atom of a formula and each of its test points stands once in its list, in both theories.
 pub fn points_stand_once()

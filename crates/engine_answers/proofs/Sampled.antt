@@ -4,7 +4,7 @@ use Rattle.std.specs.Prelude.{Some, None, Option}
 use Rattle.exact_numbers.specs.declared.fraction.Fraction.{Fraction}
 use Rattle.formula_meaning.specs.Context.{Context}
 use Rattle.formula_meaning.specs.Point.{Point, Of}
-use Rattle.formula_meaning.specs.Distinct.{StandsOnce}
+use Rattle.formula_meaning.specs.StandsOnce.{StandsOnce}
 use Rattle.formula_meaning.specs.Every.{Every}
 use Rattle.formula_meaning.specs.Shape.{block_of, matrix_of}
 use Rattle.formula_meaning.specs.declared.quantifier.Quantifier.TheVariants.{Exists}
@@ -25,7 +25,8 @@ use Rattle.elimination_reference.specs.Sample.{first_true}
 use Rattle.elimination_reference.specs.Theorems.{Says as SaysAll}
 use Rattle.elimination_reference.proofs.CasesExact.{says}
 use Rattle.case_theory.proofs.Lists.{once_head}
-use Rattle.sample_reference.specs.Sample.{sampled, reference_sample, IsTrueSample}
+use Rattle.sample_reference.specs.Sample.{sampled, reference_sample}
+use Rattle.sample_reference.specs.TrueSample.{IsTrueSample}
 use Rattle.sample_reference.specs.Seen.{value_of, values_of}
 use Rattle.sample_reference.specs.Values.{Value, value_names, with_values}
 use Rattle.sample_theory.specs.Reordered.{AreReordered}

@@ -13,7 +13,8 @@ use Rattle.elimination_theory.proofs.BothTheories.{decided}
 use Rattle.atom_normal.specs.NormalForm.{IsNormal}
 use Rattle.elimination_reference.specs.Cases.{case_sign, case_names}
 use Rattle.elimination_reference.specs.Reference.{normal_tree}
-use Rattle.elimination_reference.specs.Theorems.{IsTidy, guards_of}
+use Rattle.elimination_reference.specs.Theorems.{IsTidy}
+use Rattle.elimination_reference.specs.AnswerParts.{guards_of}
 use Rattle.elimination_reference.proofs.Turning.{normal_inside}
 use Rattle.formula_tree.specs.declared.shape.Shape.{Shape}
 use Rattle.formula_store.specs.declared.id.FormulaId.{FormulaId}

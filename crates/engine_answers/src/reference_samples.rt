@@ -9,7 +9,8 @@ ghost use Rattle.linear_forms.specs.Values.{point_of};
 ghost use Rattle.plain_engine.specs.Told.{StopsWith};
 ghost use Rattle.formula_tree.specs.Makers.{Keeps};
 ghost use Rattle.formula_store.specs.Nodes.{tree, IsId};
-ghost use Rattle.sample_reference.specs.Sample.{reference_sample, IsTrueSample};
+ghost use Rattle.sample_reference.specs.Sample.{reference_sample};
+ghost use Rattle.sample_reference.specs.TrueSample.{IsTrueSample};
 ghost use Rattle.sample_reference.specs.Seen.{sample_of};
 
 use atom_normal::Context;

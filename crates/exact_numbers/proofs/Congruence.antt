@@ -3,7 +3,8 @@ use Rattle.std.proofs.Common.{◌≡◌, ap, arith}
 use Rattle.std.proofs.Math.IntN.{ℤ, neg_ℤ, ◌+ℤ◌, ◌-ℤ◌, ◌*ℤ◌}
 use Rattle.std.specs.Prelude.{◌↔◌}
 use Rattle.std.proofs.lemmas.Int.{ints}
-use Rattle.exact_numbers.specs.Divides.{Divides, IsGcd, Solves}
+use Rattle.exact_numbers.specs.Divides.{Divides, IsGcd}
+use Rattle.exact_numbers.specs.Division.{Solves}
 use Rattle.exact_numbers.proofs.Ring.{ring, mul_add}
 use Rattle.exact_numbers.proofs.Divisibility.{divides_along, divides_trans, divides_mul, divides_mul_left, divides_add, divides_sub}
 use Rattle.exact_numbers.proofs.GreatestDivisor.{bezout}

@@ -2,7 +2,8 @@
 use Rattle.std.proofs.Common.{◌≡◌, List, [], ◌∷◌, ◌++◌, arith}
 use Rattle.std.proofs.Math.IntN.{ℤ}
 use Rattle.std.proofs.lemmas.Int.{ints}
-use Rattle.exact_numbers.specs.Divides.{Divides, DividesAll, IsGcd, IsContent, content_of}
+use Rattle.exact_numbers.specs.Divides.{Divides, IsGcd, content_of}
+use Rattle.exact_numbers.specs.Division.{DividesAll, IsContent}
 use Rattle.exact_numbers.proofs.Divisibility.{divides_zero, divides_trans, divides_both}
 use Rattle.exact_numbers.proofs.GreatestDivisor.{gcd_is}
 

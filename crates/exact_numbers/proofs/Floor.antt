@@ -5,7 +5,8 @@ use Rattle.std.specs.Prelude.{◌<ℤ◌, ◌≤ℤ◌}
 use Rattle.std.proofs.lemmas.Int.{ints}
 use Rattle.std.proofs.lemmas.Nat.{mod_below}
 use Rattle.std.proofs.Math.Nat.{div-add-mod}
-use Rattle.exact_numbers.specs.Divides.{Divides, IsFloor, IsResidue, floor_of, residue_of}
+use Rattle.exact_numbers.specs.Divides.{Divides, floor_of, residue_of}
+use Rattle.exact_numbers.specs.Division.{IsFloor, IsResidue}
 use Rattle.exact_numbers.proofs.Ring.{mul_add, mul_one}
 use Rattle.exact_numbers.proofs.Order.{by_less, cancel_less, mul_at_most}
 use Rattle.exact_numbers.proofs.Divisibility.{divides_along, divides_sub, divides_neg, divisor_at_most}

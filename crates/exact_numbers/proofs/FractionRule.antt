@@ -6,7 +6,8 @@ use Rattle.std.proofs.Math.Nat.{le-mul_of_pos_right}
 use Rattle.std.proofs.lemmas.Int.{ints, unsigned_abs-mul}
 use Rattle.exact_numbers.specs.Limit.{InLimit, checked}
 use Rattle.exact_numbers.specs.Divides.{IsGcd, gcd_of}
-use Rattle.exact_numbers.specs.Frac.{whole_frac, inverted, Frac, IsProper, SameValue, IsLowest, true_sum, true_product, lowest, multiple, scaled, sum_step, SumPasses, IsExactSum, product_step, ProductPasses, IsExactProduct}
+use Rattle.exact_numbers.specs.Frac.{whole_frac, inverted, Frac, IsProper, SameValue, IsLowest, true_sum, true_product, lowest, multiple, scaled, sum_step, product_step}
+use Rattle.exact_numbers.specs.ExactSteps.{SumPasses, IsExactSum, ProductPasses, IsExactProduct}
 use Rattle.exact_numbers.proofs.Ring.{ring, mul_assoc, mul_left_comm, mul_one}
 use Rattle.exact_numbers.proofs.Order.{by_less, cancel_positive, factor_positive, mul_positive}
 use Rattle.exact_numbers.proofs.Divisibility.{divides_neg, divides_along, one_divides, mul_divides_mul, cancel_divides}

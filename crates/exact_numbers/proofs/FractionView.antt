@@ -2,7 +2,8 @@
 use Rattle.std.proofs.Common.{ℕ, ◌≡◌, Option, Some, None, MatchOption}
 use Rattle.std.specs.Prelude.{option_map}
 use Rattle.exact_numbers.specs.declared.fraction.Fraction.{Fraction}
-use Rattle.exact_numbers.specs.Frac.{Frac, IsProper, sum_step, SumPasses, IsExactSum, product_step, ProductPasses, IsExactProduct, power_steps, PowerPasses, IsExactPower}
+use Rattle.exact_numbers.specs.Frac.{Frac, IsProper, sum_step, product_step, power_steps}
+use Rattle.exact_numbers.specs.ExactSteps.{SumPasses, IsExactSum, ProductPasses, IsExactProduct, PowerPasses, IsExactPower}
 use Rattle.exact_numbers.specs.Fraction.{frac_of}
 use Rattle.exact_numbers.proofs.FractionRule.{sum_outcome, product_outcome}
 use Rattle.exact_numbers.proofs.Powers.{power_outcome}

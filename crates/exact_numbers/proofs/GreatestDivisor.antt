@@ -6,7 +6,8 @@ use Rattle.std.specs.Int.{IsGcd as IsNatGcd}
 use Rattle.std.proofs.lemmas.Int.{ints}
 use Rattle.std.proofs.lemmas.Nat.{mod_below}
 use Rattle.std.proofs.lemmas.Nat.Gcd.{IsGcd-from_mod, IsGcd-from_zero}
-use Rattle.exact_numbers.specs.Divides.{IsGcd, Combines, floor_of, residue_of, euclid, gcd_of}
+use Rattle.exact_numbers.specs.Divides.{IsGcd, floor_of, residue_of, euclid, gcd_of}
+use Rattle.exact_numbers.specs.Division.{Combines}
 use Rattle.exact_numbers.proofs.Ring.{ring, mul_assoc, mul_one, mul_zero, mul_neg, zero_mul}
 use Rattle.exact_numbers.proofs.Order.{by_zero, by_less}
 use Rattle.exact_numbers.proofs.Divisibility.{divides_same, divides_zero, divides_along, divides_add, divides_sub, divides_neg, neg_divides, divides_mul, divides_trans, divides_both, sign_abs, abs_sign, divides_from_abs, abs_divides}

@@ -4,7 +4,8 @@ use Rattle.std.proofs.Math.IntN.{ℤ, pos, ◌+ℤ◌, ◌-ℤ◌, ◌*ℤ◌}
 use Rattle.std.specs.Prelude.{◌<ℤ◌, ◌≤ℤ◌, unsigned_abs, int_div, int_rem}
 use Rattle.std.proofs.Math.Nat.{le_of_dvd}
 use Rattle.std.proofs.lemmas.Int.{ints, quot-rem, rem_below}
-use Rattle.exact_numbers.specs.Divides.{Divides, IsGcd, IsLcm, gcd_of, lcm_of}
+use Rattle.exact_numbers.specs.Divides.{Divides, IsGcd, gcd_of, lcm_of}
+use Rattle.exact_numbers.specs.Division.{IsLcm}
 use Rattle.exact_numbers.proofs.Ring.{ring, mul_comm, mul_assoc, mul_left_comm}
 use Rattle.exact_numbers.proofs.Order.{by_less, cancel_positive, mul_positive, factor_positive}
 use Rattle.exact_numbers.proofs.Divisibility.{divides_same, divides_along, divides_both, divides_mul, divides_sub, abs_divides, divides_trans}

@@ -5,7 +5,8 @@ use Rattle.std.specs.Prelude.{◌≤ℤ◌, option_and_then}
 use Rattle.std.proofs.lemmas.Int.{ints}
 use Rattle.exact_numbers.specs.Limit.{checked}
 use Rattle.exact_numbers.specs.Divides.{euclid, gcd_of}
-use Rattle.exact_numbers.specs.Frac.{Frac, IsProper, IsUnit, SameValue, whole_frac, true_product, true_power, product_step, ProductPasses, IsExactProduct, power_steps, PowerPasses, IsExactPower}
+use Rattle.exact_numbers.specs.Frac.{Frac, IsProper, SameValue, whole_frac, true_product, true_power, product_step, power_steps}
+use Rattle.exact_numbers.specs.ExactSteps.{IsUnit, ProductPasses, IsExactProduct, PowerPasses, IsExactPower}
 use Rattle.exact_numbers.proofs.Ring.{ring}
 use Rattle.exact_numbers.proofs.Order.{mul_positive}
 use Rattle.exact_numbers.proofs.FractionRule.{whole_lowest, product_step_gives, same_value_trans}

@@ -1,6 +1,6 @@
 -- The fraction rule: which numbers are formed by a sum and a product of fractions, and what the fractions stand for.
-use Rattle.std.specs.Prelude.{◌≡◌, ◌<◌, ◌⊎◌, ℕ, zero, suc, ℤ, pos, neg_ℤ, ◌+ℤ◌, ◌*ℤ◌, ◌<ℤ◌, ◌≤ℤ◌, int_div, int_lt, Option, Some, option_and_then, if◌then◌else◌}
-use Rattle.exact_numbers.specs.Limit.{InLimit, PastLimit, checked}
+use Rattle.std.specs.Prelude.{◌≡◌, ℕ, zero, suc, ℤ, pos, neg_ℤ, ◌+ℤ◌, ◌*ℤ◌, ◌<ℤ◌, int_div, int_lt, Option, Some, option_and_then, if◌then◌else◌}
+use Rattle.exact_numbers.specs.Limit.{checked}
 use Rattle.exact_numbers.specs.Divides.{IsGcd, gcd_of, lcm_of}
 
 -- a numerator over a denominator
@@ -25,12 +25,6 @@ IsLowest p = IsGcd p.numerator p.denominator (pos 1)
 -- a whole number
 abbrev pub whole_frac : ℤ → Frac
 whole_frac n = record { numerator = n; denominator = pos 1 }
-
--- one of 0, 1 and -1
-pub record IsUnit (p : Frac) : Type 0 where
-  pub whole : p.denominator ≡ pos 1
-  pub least : neg_ℤ (pos 1) ≤ℤ p.numerator
-  pub most : p.numerator ≤ℤ pos 1
 
 -- the sum, over the product of the denominators
 abbrev pub true_sum : Frac → Frac → Frac
@@ -77,38 +71,12 @@ sum_step p q = do
   n ← checked (a +ℤ b)
   Some (lowest n m)
 
--- some number formed by a step of a sum passes the limit
-pub record SumPasses (p q : Frac) : Type 0 where
-  pub cause : PastLimit (multiple p q) ⊎ (PastLimit (scaled p (multiple p q)) ⊎ (PastLimit (scaled q (multiple p q)) ⊎ PastLimit (scaled p (multiple p q) +ℤ scaled q (multiple p q))))
-
--- r is the sum of p and q in lowest terms, and no number formed for it passes the limit
-pub record IsExactSum (p q r : Frac) : Type 0 where
-  pub multiple_within : InLimit (multiple p q)
-  pub first_within : InLimit (scaled p (multiple p q))
-  pub second_within : InLimit (scaled q (multiple p q))
-  pub sum_within : InLimit (scaled p (multiple p q) +ℤ scaled q (multiple p q))
-  pub value : SameValue r (true_sum p q)
-  pub lowest_terms : IsLowest r
-  pub proper : IsProper r
-
 -- one step of a product: numerators and denominators multiplied, and divided to lowest terms
 unfoldable pub product_step : Frac → Frac → Option Frac
 product_step p q = do
   n ← checked (p.numerator *ℤ q.numerator)
   d ← checked (p.denominator *ℤ q.denominator)
   Some (lowest n d)
-
--- a product formed by a step of a product passes the limit
-pub record ProductPasses (p q : Frac) : Type 0 where
-  pub cause : PastLimit (p.numerator *ℤ q.numerator) ⊎ PastLimit (p.denominator *ℤ q.denominator)
-
--- r is the product of p and q in lowest terms, and no number formed for it passes the limit
-pub record IsExactProduct (p q r : Frac) : Type 0 where
-  pub numerator_within : InLimit (p.numerator *ℤ q.numerator)
-  pub denominator_within : InLimit (p.denominator *ℤ q.denominator)
-  pub value : SameValue r (true_product p q)
-  pub lowest_terms : IsLowest r
-  pub proper : IsProper r
 
 -- the repeated product, from 1 on
 unfoldable pub power_steps : Frac → ℕ → Option Frac
@@ -119,17 +87,3 @@ power_steps p (suc n) = power_steps p n >>= λ q. product_step q p
 unfoldable pub true_power : Frac → ℕ → Frac
 true_power p zero = whole_frac (pos 1)
 true_power p (suc n) = true_product (true_power p n) p
-
--- a step of the repeated product passes the limit
-pub record PowerPasses (p : Frac) (n : ℕ) : Type 0 where
-  pub steps : ℕ
-  pub before : steps < n
-  pub power : Frac
-  pub formed : power_steps p steps ≡ Some power
-  pub passes : ProductPasses power p
-
--- r is the n-th power of p in lowest terms
-pub record IsExactPower (p : Frac) (n : ℕ) (r : Frac) : Type 0 where
-  pub value : SameValue r (true_power p n)
-  pub lowest_terms : IsLowest r
-  pub proper : IsProper r

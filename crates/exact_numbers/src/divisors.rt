@@ -2,7 +2,8 @@
 ghost use Rattle.std.specs.Prelude.{◌≡◌, pos, ◌+ℤ◌, ◌*ℤ◌, ◌<ℤ◌, MatchOption};
 ghost use Rattle.std.specs.Ordering.{int_cmp};
 ghost use Rattle.exact_numbers.specs.Limit.{InLimit, PastLimit, checked};
-ghost use Rattle.exact_numbers.specs.Divides.{IsGcd, IsLcm, IsFloor, IsResidue, gcd_of, lcm_of, floor_of, residue_of};
+ghost use Rattle.exact_numbers.specs.Divides.{IsGcd, gcd_of, lcm_of, floor_of, residue_of};
+ghost use Rattle.exact_numbers.specs.Division.{IsLcm, IsFloor, IsResidue};
 
 use crate::limit::product;
 use std::cmp::Ordering;

@@ -16,7 +16,8 @@ pub struct Fraction {
 }
 
 impl Fraction {
-    ghost use Rattle.exact_numbers.specs.Frac.{whole_frac, SameValue, IsLowest, true_product, negated, inverted, lowest, scaled, sum_step, product_step, power_steps, PowerPasses, IsExactPower, IsUnit, SumPasses, IsExactSum, ProductPasses, IsExactProduct};
+    ghost use Rattle.exact_numbers.specs.Frac.{whole_frac, SameValue, IsLowest, true_product, negated, inverted, lowest, scaled, sum_step, product_step, power_steps};
+    ghost use Rattle.exact_numbers.specs.ExactSteps.{PowerPasses, IsExactPower, IsUnit, SumPasses, IsExactSum, ProductPasses, IsExactProduct};
     ghost use Rattle.exact_numbers.specs.Fraction.{frac_of};
 
     /// The whole number `number`.

@@ -1,7 +1,9 @@
 // The laws of whole numbers and fractions that other crates build on. Each holds for all numbers, however large.
 ghost use Rattle.std.specs.Prelude.{◌≡◌, ◌↔◌, ℕ, ℤ, pos, ◌+ℤ◌, ◌*ℤ◌, ◌<ℤ◌, List, MatchOption};
-ghost use Rattle.exact_numbers.specs.Divides.{Divides, IsGcd, IsLcm, Combines, IsFloor, IsResidue, Solves, IsContent, gcd_of, lcm_of, floor_of, residue_of, content_of};
-ghost use Rattle.exact_numbers.specs.Frac.{Frac, IsProper, sum_step, SumPasses, IsExactSum, product_step, ProductPasses, IsExactProduct, power_steps, PowerPasses, IsExactPower};
+ghost use Rattle.exact_numbers.specs.Divides.{Divides, IsGcd, gcd_of, lcm_of, floor_of, residue_of, content_of};
+ghost use Rattle.exact_numbers.specs.Division.{IsLcm, Combines, IsFloor, IsResidue, Solves, IsContent};
+ghost use Rattle.exact_numbers.specs.Frac.{Frac, IsProper, sum_step, product_step, power_steps};
+ghost use Rattle.exact_numbers.specs.ExactSteps.{SumPasses, IsExactSum, ProductPasses, IsExactProduct, PowerPasses, IsExactPower};
 
 /// Two whole numbers combine to their greatest common divisor (Bezout's identity).
 pub fn bezout()

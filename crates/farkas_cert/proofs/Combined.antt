@@ -5,7 +5,7 @@ use Rattle.formula_meaning.specs.Combining.{CombinesWithin, CombinePasses}
 use Rattle.formula_meaning.specs.Form.{Form, combine}
 use Rattle.formula_meaning.specs.Sorted.{gathered}
 use Rattle.formula_meaning.proofs.Gathered.{gathered_combination}
-use Rattle.linear_forms.specs.Terms.{IsCombination}
+use Rattle.linear_forms.specs.Combinations.{IsCombination}
 use Rattle.elimination_theory.proofs.WithinTests.{combination_refused, combination_tested}
 
 pub combined : (a : ℤ) (f : Form) (b : ℤ) (g r : Form) → IsCombination a f b g r → r ≡ gathered (combine a f b g)

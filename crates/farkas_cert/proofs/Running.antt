@@ -5,7 +5,7 @@ use Rattle.formula_meaning.specs.Combining.{CombinePasses}
 use Rattle.formula_meaning.specs.Form.{Form, combine}
 use Rattle.formula_meaning.specs.Sorted.{IsSorted, gathered}
 use Rattle.formula_meaning.proofs.Gathered.{sorted_stays}
-use Rattle.linear_forms.specs.Terms.{IsCombination}
+use Rattle.linear_forms.specs.Combinations.{IsCombination}
 use Rattle.farkas_theory.specs.Constraints.{Constraint}
 use Rattle.farkas_theory.specs.Farkas.{nothing, sum_from, SumPasses}
 use Rattle.farkas_theory.proofs.Sums.{sum_from_same, sum_passes_same}

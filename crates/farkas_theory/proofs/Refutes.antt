@@ -9,8 +9,10 @@ use Rattle.formula_meaning.specs.Form.{Form, coefficient, value, combine}
 use Rattle.formula_meaning.specs.Point.{Point}
 use Rattle.formula_meaning.proofs.Gathered.{value_gathered, gathered_is}
 use Rattle.formula_meaning.proofs.Values.{value_combine}
-use Rattle.farkas_theory.specs.Constraints.{Bound, Equal, AtMost, Below, Constraint, Stands, MeetsAll}
-use Rattle.farkas_theory.specs.Farkas.{nothing, IsAllowed, AreAllowed, sum_from, IsStrictly, SomeStrict, FarkasRefutes}
+use Rattle.farkas_theory.specs.Constraints.{Bound, Equal, AtMost, Below, Constraint}
+use Rattle.farkas_theory.specs.Meeting.{Stands, MeetsAll}
+use Rattle.farkas_theory.specs.Farkas.{nothing, IsAllowed, AreAllowed, sum_from, IsStrictly, SomeStrict}
+use Rattle.farkas_theory.specs.Refutes.{FarkasRefutes}
 
 -- ---- one multiple
 

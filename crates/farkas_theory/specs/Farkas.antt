@@ -1,10 +1,8 @@
 -- Multipliers that show that no point meets some constraints (Farkas 1902).
 use Rattle.std.specs.Prelude.{◌≡◌, ◌⊎◌, ℕ, ℤ, pos, ◌<ℤ◌, ◌≤ℤ◌, List, [], ◌∷◌}
-use Rattle.formula_meaning.specs.Context.{Fields}
 use Rattle.formula_meaning.specs.Form.{Form, coefficient, combine}
-use Rattle.formula_meaning.specs.Point.{Point, Of}
 use Rattle.linear_forms.specs.Terms.{CombinePasses}
-use Rattle.farkas_theory.specs.Constraints.{Bound, Equal, AtMost, Below, Constraint, MeetsAll}
+use Rattle.farkas_theory.specs.Constraints.{Bound, Equal, AtMost, Below, Constraint}
 
 -- the form 0
 abbrev pub nothing : Form
@@ -47,10 +45,6 @@ pub record IsFarkas (cs : List Constraint) (ms : List ℤ) : Type 0 where
   pub allowed : AreAllowed cs ms
   pub no_names : (x : ℕ) → coefficient x (sum_from nothing cs ms) ≡ pos 0
   pub constant : (pos 0 <ℤ (sum_from nothing cs ms).constant) ⊎ (((sum_from nothing cs ms).constant ≡ pos 0) × SomeStrict cs ms)
-
--- no point meets constraints with such multipliers
-abbrev pub FarkasRefutes : Type 0
-FarkasRefutes = (cs : List Constraint) (ms : List ℤ) → IsFarkas cs ms → (p : Point ℕ) → Of Fields p → ¬ (MeetsAll p cs)
 
 -- a number passes the limit where the multiples are added to the form in the order of the constraints
 abbrev pub SumPasses : Form → List Constraint → List ℤ → Type 0

@@ -1,2 +1,4 @@
 pub mod Constraints
+pub mod Meeting
 pub mod Farkas
+pub mod Refutes

@@ -2,7 +2,7 @@
 //! its contract is a theorem.
 #![tactic(auto)]
 
-ghost use Rattle.farkas_theory.specs.Farkas.{FarkasRefutes};
+ghost use Rattle.farkas_theory.specs.Refutes.{FarkasRefutes};
 
 /// No point meets constraints for which there are Farkas multipliers (Farkas, "Theorie der einfachen Ungleichungen", Journal für
 /// die reine und angewandte Mathematik 124, 1902).

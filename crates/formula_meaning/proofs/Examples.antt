@@ -4,12 +4,14 @@ use Rattle.std.proofs.Math.IntN.{ℤ, pos, negsuc}
 use Rattle.formula_meaning.specs.Form.{Form, Term, value, coefficient, combine}
 use Rattle.formula_meaning.specs.Sorted.{gathered}
 use Rattle.formula_meaning.specs.Formula.{Formula, Yes, No, One, Not, And, Or, Impl, Repl, Equiv, Ex, All, none, also}
-use Rattle.formula_meaning.specs.Shape.{IsPrenex, blocks_from, fewest_blocks, block_of, matrix_of, leading}
+use Rattle.formula_meaning.specs.Shape.{IsPrenex, blocks_from, fewest_blocks, block_of, matrix_of}
+use Rattle.formula_meaning.specs.Plain.{leading}
 use Rattle.formula_meaning.specs.declared.quantifier.Quantifier.TheVariants.{Exists, ForAll}
 use Rattle.formula_meaning.specs.NegationNormal.{both, normal_form, normal_form_of_not}
 use Rattle.formula_meaning.specs.Fold.{folded}
 use Rattle.formula_meaning.specs.Sizes.{nodes, height, distinct_count, free_names}
-use Rattle.formula_meaning.specs.Atom.{Compare, Congruent, Below, AtLeast, Says, opposite}
+use Rattle.formula_meaning.specs.Atom.{Compare, Congruent, Below, AtLeast, Says}
+use Rattle.formula_meaning.specs.TheoryAtoms.{opposite}
 use Rattle.formula_meaning.specs.Tree.{tree_names}
 
 abbrev F : Type 0

@@ -2,7 +2,7 @@
 use Rattle.std.proofs.Common.{inl, inr, ⊎_elim}
 use Rattle.formula_meaning.specs.Formula.{Formula, Formulas, Yes, No, One, Not, And, Or, Impl, Repl, Equiv, Ex, All, none, also}
 use Rattle.formula_meaning.specs.Every.{Every, EveryOf, Free, FreeInSome}
-use Rattle.formula_meaning.specs.Shape.{IsPlain, ArePlain}
+use Rattle.formula_meaning.specs.Plain.{IsPlain, ArePlain}
 use Rattle.formula_meaning.specs.Replaced.{replaced, all_replaced}
 
 module _ {A N : Type 0} (mentions : A → N → Type 0) (x : N) (P : Type 0) where

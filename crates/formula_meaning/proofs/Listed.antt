@@ -1,7 +1,8 @@
 -- Elements of lists: of joined lists, and of lists without repeats.
 use Rattle.std.proofs.Common.{◌≡◌, Bool, true, false, List, [], ◌∷◌, ◌++◌, sym, ◌∙◌, subst, refl, ◌⊎◌, inl, inr, ⊎_elim, if◌then◌else◌, flat_map}
 use Rattle.formula_meaning.specs.Some.{SomeOf, Among}
-use Rattle.formula_meaning.specs.Distinct.{without_same, distinct, StandsOnce}
+use Rattle.formula_meaning.specs.Distinct.{without_same, distinct}
+use Rattle.formula_meaning.specs.StandsOnce.{StandsOnce}
 
 -- what some element has, an element has
 pub some_among : {X : Type 0} (P : X → Type 0) (xs : List X) → SomeOf P xs → (x : X) × Among xs x × P x

@@ -2,7 +2,7 @@
 use Rattle.std.proofs.Common.{◌≡◌, refl, ap, ap₂}
 use Rattle.formula_meaning.specs.Formula.{Formula, Formulas, Yes, No, One, Not, And, Or, Impl, Repl, Equiv, Ex, All, none, also}
 use Rattle.formula_meaning.specs.NegationNormal.{normal_form, normal_forms}
-use Rattle.formula_meaning.specs.Shape.{IsNegationNormal, AreNegationNormal}
+use Rattle.formula_meaning.specs.Plain.{IsNegationNormal, AreNegationNormal}
 use Rattle.formula_meaning.proofs.NormalShape.{normal_form_shape}
 
 module _ {A N : Type 0} (opposite : A → A) where

@@ -2,7 +2,8 @@
 use Rattle.std.proofs.Common.{◌⊎◌, inl, inr, ⊎_elim}
 use Rattle.formula_meaning.specs.Formula.{Formula, Formulas, Yes, No, One, Not, And, Or, Impl, Repl, Equiv, Ex, All, none, also}
 use Rattle.formula_meaning.specs.Every.{Every, EveryOf, Free, FreeInSome}
-use Rattle.formula_meaning.specs.Shape.{IsNegationNormal, AreNegationNormal, IsQuantifierFree, AreQuantifierFree}
+use Rattle.formula_meaning.specs.Shape.{IsQuantifierFree, AreQuantifierFree}
+use Rattle.formula_meaning.specs.Plain.{IsNegationNormal, AreNegationNormal}
 use Rattle.formula_meaning.specs.NegationNormal.{normal_form, normal_form_of_not, normal_forms, normal_forms_of_not}
 
 module _ {A N : Type 0} (opposite : A → A) where

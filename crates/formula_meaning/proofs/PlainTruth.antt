@@ -6,7 +6,7 @@ use Rattle.formula_meaning.specs.Formula.{Formula, Formulas, Yes, No, One, Not, 
 use Rattle.formula_meaning.specs.Truth.{True, AllTrue, SomeTrue}
 use Rattle.formula_meaning.specs.Every.{Every, EveryOf}
 use Rattle.formula_meaning.specs.Replaced.{replaced, all_replaced}
-use Rattle.formula_meaning.specs.Shape.{IsPlain, ArePlain}
+use Rattle.formula_meaning.specs.Plain.{IsPlain, ArePlain}
 
 module _ {A N P Q : Type 0} (says : A → P → Type 0) (move : P → N → ℤ → ℕ → P) (c : Context) (claims : A → Q → Type 0) (shift : Q → N → ℤ → ℕ → Q) (d : Context) (p : P) (q : Q) where
   mutual

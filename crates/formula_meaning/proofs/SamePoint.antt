@@ -5,7 +5,8 @@ use Rattle.std.proofs.Math.Path.{fun_ext}
 use Rattle.std.proofs.Math.Nat.{mul-pos, mul_assoc, mul_right_comm}
 use Rattle.exact_numbers.proofs.Ring.{mul_left_comm, mul_assoc as assoc_z}
 use Rattle.formula_meaning.specs.Context.{Context, Fields, Integers, Allowed}
-use Rattle.formula_meaning.specs.Point.{Point, move, finer}
+use Rattle.formula_meaning.specs.Point.{Point, move}
+use Rattle.formula_meaning.specs.Points.{finer}
 use Rattle.formula_meaning.specs.Formula.{Formula, Formulas, Yes, No, One, Not, And, Or, Impl, Repl, Equiv, Ex, All, none, also}
 use Rattle.formula_meaning.specs.Truth.{True, AllTrue, SomeTrue}
 use Rattle.formula_meaning.proofs.Values.{pos_mul}

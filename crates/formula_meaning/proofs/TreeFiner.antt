@@ -6,7 +6,8 @@ use Rattle.std.proofs.lemmas.Int.{ints}
 use Rattle.exact_numbers.proofs.Ring.{ring, mul_comm}
 use Rattle.exact_numbers.proofs.Order.{cancel_positive}
 use Rattle.formula_meaning.specs.Context.{Context, Fields, Integers, Allowed}
-use Rattle.formula_meaning.specs.Point.{Point, finer, Of, IsSamePoint}
+use Rattle.formula_meaning.specs.Point.{Point, Of}
+use Rattle.formula_meaning.specs.Points.{finer, IsSamePoint}
 use Rattle.formula_meaning.specs.Form.{Form, value}
 use Rattle.formula_meaning.specs.Atom.{Atom, Compare, Congruent, Says, Relates, IsMultiple}
 use Rattle.formula_meaning.specs.Tree.{Tree, TrueAt}

@@ -1,8 +1,10 @@
 -- The plain opposite of atoms, and the negation normal form by it.
 use Rattle.std.proofs.Common.{ℕ}
 use Rattle.formula_meaning.specs.Context.{Context, Fields, Integers}
-use Rattle.formula_meaning.specs.Atom.{Atom, Compare, Congruent, AtomIn, Mentions, opposite}
-use Rattle.formula_meaning.specs.Tree.{Tree, IsFree, negation_normal, negated}
+use Rattle.formula_meaning.specs.Atom.{Atom, Compare, Congruent, Mentions}
+use Rattle.formula_meaning.specs.TheoryAtoms.{AtomIn, opposite}
+use Rattle.formula_meaning.specs.Tree.{Tree, IsFree}
+use Rattle.formula_meaning.specs.Equivalence.{negation_normal, negated}
 use Rattle.formula_meaning.proofs.EachAtom.{every_all}
 use Rattle.formula_meaning.proofs.NormalShape.{normal_form_brings}
 

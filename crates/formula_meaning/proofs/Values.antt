@@ -3,7 +3,8 @@ use Rattle.std.proofs.Common.{◌≡◌, ℕ, ◌*◌, Bool, true, false, List, 
 use Rattle.std.proofs.Math.IntN.{ℤ, pos, ◌+ℤ◌, ◌*ℤ◌}
 use Rattle.std.proofs.lemmas.Int.{ints}
 use Rattle.exact_numbers.proofs.Ring.{ring, zero_mul, mul_zero}
-use Rattle.formula_meaning.specs.Point.{Point, move, finer}
+use Rattle.formula_meaning.specs.Point.{Point, move}
+use Rattle.formula_meaning.specs.Points.{finer}
 use Rattle.formula_meaning.specs.Form.{Form, Term, total, value, multiple, others, scaled, coefficient, without, scale, combine, plus}
 
 pub below_move : {N : Type 0} (same : N → N → Bool) (p : Point N) (x : N) (k : ℤ) (m : ℕ) → (move same p x k m).below ≡ p.below * m

@@ -1,6 +1,5 @@
 -- Atoms: a linear form compared with 0, or congruent to 0 or not.
-use Rattle.std.specs.Prelude.{◌≡◌, ℕ, ◌<◌, ℤ, pos, ◌*ℤ◌, ◌<ℤ◌, ◌≤ℤ◌, Bool, true, false, not}
-use Rattle.formula_meaning.specs.Context.{Context, Fields, Integers}
+use Rattle.std.specs.Prelude.{◌≡◌, ℕ, ℤ, pos, ◌*ℤ◌, ◌<ℤ◌, ◌≤ℤ◌, Bool, true, false}
 use Rattle.formula_meaning.specs.Point.{Point}
 use Rattle.formula_meaning.specs.Form.{Form, value, coefficient}
 
@@ -42,17 +41,6 @@ opposite_relation Below = AtLeast
 opposite_relation AtMost = Above
 opposite_relation Above = AtMost
 opposite_relation AtLeast = Below
-
--- the atom of the opposite truth
-abbrev pub opposite : Atom → Atom
-opposite (Compare r f) = Compare (opposite_relation r) f
-opposite (Congruent holds n f) = Congruent (not holds) n f
-
--- which atoms a theory has: no congruences over the fields, positive moduli over the integers
-abbrev pub AtomIn : Context → Atom → Type 0
-AtomIn c (Compare r f) = Unit {0}
-AtomIn Fields (Congruent holds n f) = ⊥
-AtomIn Integers (Congruent holds n f) = 0 < n
 
 -- the linear form of an atom
 abbrev pub form_of : Atom → Form

@@ -1,6 +1,5 @@
 -- Lists without repeats.
-use Rattle.std.specs.Prelude.{◌≡◌, Bool, List, [], ◌∷◌, if◌then◌else◌}
-use Rattle.formula_meaning.specs.Some.{SomeOf}
+use Rattle.std.specs.Prelude.{Bool, List, [], ◌∷◌, if◌then◌else◌}
 
 -- the list without what is the same as x
 abbrev pub without_same : {X : Type 0} → (X → X → Bool) → X → List X → List X
@@ -11,8 +10,3 @@ without_same same x (y ∷ ys) = if same x y then without_same same x ys else y 
 abbrev pub distinct : {X : Type 0} → (X → X → Bool) → List X → List X
 distinct same [] = []
 distinct same (x ∷ xs) = x ∷ without_same same x (distinct same xs)
-
--- no element stands twice
-abbrev pub StandsOnce : {X : Type 0} → List X → Type 0
-StandsOnce [] = Unit {0}
-StandsOnce (x ∷ xs) = ¬ (SomeOf (λ y. x ≡ y) xs) × StandsOnce xs

@@ -1,15 +1,9 @@
 -- Folding of constants and nested lists: in an and, members true go, a member false makes the whole false, a member that is
 -- an and gives its members, and one member that is left stands for the whole. Or is the dual.
-use Rattle.std.specs.Prelude.{Bool, true, false, Option, Some, None}
+use Rattle.std.specs.Prelude.{Option, Some, None}
 use Rattle.formula_meaning.specs.Formula.{Formula, Formulas, Yes, No, One, Not, And, Or, Impl, Repl, Equiv, Ex, All, none, also}
 use Rattle.formula_meaning.specs.declared.junction.Junction.{Junction}
 use Rattle.formula_meaning.specs.declared.junction.Junction.TheVariants.{Conjunction, Disjunction}
-
--- what a negation makes of it
-abbrev pub turned_junction : Bool → Junction → Junction
-turned_junction false j = j
-turned_junction true Conjunction = Disjunction
-turned_junction true Disjunction = Conjunction
 
 module _ {A N : Type 0} where
   -- the list joined

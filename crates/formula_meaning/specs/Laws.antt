@@ -1,7 +1,8 @@
 -- What is proved of truth, as statements that the functions of this crate promise.
 use Rattle.std.specs.Prelude.{◌≡◌, ℕ, ◌≤◌, ◌↔◌, true, length, nat_eq}
 use Rattle.formula_meaning.specs.Context.{Context}
-use Rattle.formula_meaning.specs.Point.{Point, Of, AgreeOn, IsSamePoint}
+use Rattle.formula_meaning.specs.Point.{Point, Of}
+use Rattle.formula_meaning.specs.Points.{AgreeOn, IsSamePoint}
 use Rattle.formula_meaning.specs.Form.{Form, coefficient, value}
 use Rattle.formula_meaning.specs.Sorted.{IsSorted, gathered}
 use Rattle.formula_meaning.specs.Same.{same_atom}
@@ -12,9 +13,10 @@ use Rattle.formula_meaning.specs.Some.{Among}
 use Rattle.formula_meaning.specs.Sizes.{nodes, height, subtrees, same_formula}
 use Rattle.formula_meaning.specs.Fold.{folded}
 use Rattle.formula_meaning.specs.Replaced.{replaced}
-use Rattle.formula_meaning.specs.Shape.{IsNegationNormal, IsPlain}
+use Rattle.formula_meaning.specs.Plain.{IsNegationNormal, IsPlain}
 use Rattle.formula_meaning.specs.NegationNormal.{normal_form, normal_form_of_not}
-use Rattle.formula_meaning.specs.Tree.{Tree, Trees, TrueAt, InContext, IsFree, Equivalent, AreEquivalent, each_ex, each_all, tree_names, tree_distinct}
+use Rattle.formula_meaning.specs.Tree.{Tree, Trees, TrueAt, IsFree, tree_names, tree_distinct}
+use Rattle.formula_meaning.specs.Equivalence.{InContext, Equivalent, AreEquivalent, each_ex, each_all}
 
 -- a tree has the same truth at every representation of a rational point
 abbrev pub SamePointKeepsTruth : Type 0

@@ -35,8 +35,3 @@ pay limit n = λ cost. if nat_le (cost + n) limit then done (tt, cost + n) else 
 -- goes on where the test says that no number passes the limit of exact_numbers
 abbrev pub within : Bool → Counted (Unit {0})
 within test = λ cost. if test then done (tt, cost) else stopped Overflow
-
--- P holds of the result, if there is one
-abbrev pub Gives : {A : Type 0} → (A → Type 0) → Outcome A → Type 0
-Gives P (stopped s) = Unit {0}
-Gives P (done a) = P a

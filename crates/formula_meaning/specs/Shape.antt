@@ -4,25 +4,12 @@ use Rattle.formula_meaning.specs.Formula.{Formula, Formulas, Yes, No, One, Not, 
 use Rattle.formula_meaning.specs.declared.quantifier.Quantifier.{Quantifier}
 use Rattle.formula_meaning.specs.declared.quantifier.Quantifier.TheVariants.{Exists, ForAll}
 
--- what a negation makes of it
-abbrev pub turned_quantifier : Bool → Quantifier → Quantifier
-turned_quantifier false q = q
-turned_quantifier true Exists = ForAll
-turned_quantifier true ForAll = Exists
-
 -- the formula under the quantifier of the name
 abbrev pub quantified : {A N : Type 0} → Quantifier → N → Formula A N → Formula A N
 quantified Exists x f = Ex x f
 quantified ForAll x f = All x f
 
 module _ {A N : Type 0} where
-  -- a constant, or one atom
-  abbrev pub IsAtomic : Formula A N → Type 0
-  IsAtomic Yes = Unit {0}
-  IsAtomic No = Unit {0}
-  IsAtomic (One a) = Unit {0}
-  IsAtomic f = ⊥
-
   abbrev mutual
     -- no quantifier stands in the formula
     pub IsQuantifierFree : Formula A N → Type 0
@@ -43,44 +30,6 @@ module _ {A N : Type 0} where
     AreQuantifierFree none = Unit {0}
     AreQuantifierFree (also f fs) = IsQuantifierFree f × AreQuantifierFree fs
 
-  abbrev mutual
-    -- only and, or, atoms and constants stand in the formula
-    pub IsPlain : Formula A N → Type 0
-    IsPlain Yes = Unit {0}
-    IsPlain No = Unit {0}
-    IsPlain (One a) = Unit {0}
-    IsPlain (Not f) = ⊥
-    IsPlain (And fs) = ArePlain fs
-    IsPlain (Or fs) = ArePlain fs
-    IsPlain (Impl f g) = ⊥
-    IsPlain (Repl f g) = ⊥
-    IsPlain (Equiv f g) = ⊥
-    IsPlain (Ex x f) = ⊥
-    IsPlain (All x f) = ⊥
-
-    pub ArePlain : Formulas A N → Type 0
-    ArePlain none = Unit {0}
-    ArePlain (also f fs) = IsPlain f × ArePlain fs
-
-  abbrev mutual
-    -- only and, or, quantifiers, atoms and constants stand in the formula
-    pub IsNegationNormal : Formula A N → Type 0
-    IsNegationNormal Yes = Unit {0}
-    IsNegationNormal No = Unit {0}
-    IsNegationNormal (One a) = Unit {0}
-    IsNegationNormal (Not f) = ⊥
-    IsNegationNormal (And fs) = AreNegationNormal fs
-    IsNegationNormal (Or fs) = AreNegationNormal fs
-    IsNegationNormal (Impl f g) = ⊥
-    IsNegationNormal (Repl f g) = ⊥
-    IsNegationNormal (Equiv f g) = ⊥
-    IsNegationNormal (Ex x f) = IsNegationNormal f
-    IsNegationNormal (All x f) = IsNegationNormal f
-
-    pub AreNegationNormal : Formulas A N → Type 0
-    AreNegationNormal none = Unit {0}
-    AreNegationNormal (also f fs) = IsNegationNormal f × AreNegationNormal fs
-
   -- quantifiers over a quantifier-free formula
   abbrev pub IsPrenex : Formula A N → Type 0
   IsPrenex (Ex x f) = IsPrenex f
@@ -95,7 +44,6 @@ module _ {A N : Type 0} where
   IsPrenex (Repl f g) = IsQuantifierFree f × IsQuantifierFree g
   IsPrenex (Equiv f g) = IsQuantifierFree f × IsQuantifierFree g
 
-module _ {A N : Type 0} where
   abbrev mutual
     -- The blocks of the shortest prenex prefix that begins with the quantifier and keeps the nesting of a formula in
     -- negation normal form. A block is a longest run of equal quantifiers; the first may be empty.
@@ -141,8 +89,3 @@ module _ {A N : Type 0} (same : N → N → Bool) where
   matrix_of (Ex x f) Exists chain = if is_in same x chain then Ex x f else matrix_of f Exists (x ∷ chain)
   matrix_of (All x f) ForAll chain = if is_in same x chain then All x f else matrix_of f ForAll (x ∷ chain)
   matrix_of f _ chain = f
-
--- the quantifier of the leading block, which is empty where the formula begins with none
-abbrev pub leading : {A N : Type 0} → Formula A N → Quantifier
-leading (All x f) = ForAll
-leading _ = Exists

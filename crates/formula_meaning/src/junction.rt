@@ -1,5 +1,5 @@
 ghost use Rattle.std.specs.Prelude.{◌≡◌};
-ghost use Rattle.formula_meaning.specs.Fold.{turned_junction};
+ghost use Rattle.formula_meaning.specs.TurnedJunction.{turned_junction};
 
 /// What joins the members of a list: `and`, or `or`.
 #[derive(Clone, Copy, Debug, PartialEq, Eq, Hash)]

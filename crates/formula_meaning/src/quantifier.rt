@@ -1,5 +1,5 @@
 ghost use Rattle.std.specs.Prelude.{◌≡◌};
-ghost use Rattle.formula_meaning.specs.Shape.{turned_quantifier};
+ghost use Rattle.formula_meaning.specs.Plain.{turned_quantifier};
 
 /// For some value, or for all.
 #[derive(Clone, Copy, Debug, PartialEq, Eq, Hash)]

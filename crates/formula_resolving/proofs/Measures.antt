@@ -9,7 +9,8 @@ use Rattle.std.proofs.lemmas.List.{map-append, take_more}
 use Rattle.formula_meaning.specs.Formula.{Yes, No, One, Not, And, Or, Impl, Repl, Equiv, Ex, All}
 use Rattle.qe_syntax.specs.declared.tree.Term as code
 use Rattle.qe_syntax.specs.declared.tree.Formula as written
-use Rattle.qe_syntax.specs.Trees.{TermTree, TermTrees, Number, Named, Sum, Product, Quotient, Power, Negative, none, also, term_tree, terms_of, formula_tree, formulas_of, FormulaTree}
+use Rattle.qe_syntax.specs.Trees.{TermTree, TermTrees, Number, Named, Sum, Product, Quotient, Power, Negative, none, also, terms_of, formulas_of, FormulaTree}
+use Rattle.qe_syntax.specs.CodeTrees.{term_tree, formula_tree}
 use Rattle.qe_syntax.specs.Valued.{matrix_of}
 
 abbrev mutual

@@ -5,7 +5,8 @@ use Rattle.std.specs.declared.alloc.Global.{Global}
 use Rattle.linear_forms.specs.declared.form.VarId.{VarId}
 use Rattle.qe_syntax.specs.declared.tree.Formula as written
 use Rattle.qe_syntax.specs.declared.tree.Formula.TheVariants as formula
-use Rattle.qe_syntax.specs.Trees.{FormulaTree, formula_tree}
+use Rattle.qe_syntax.specs.Trees.{FormulaTree}
+use Rattle.qe_syntax.specs.CodeTrees.{formula_tree}
 use Rattle.qe_syntax.specs.Valued.{matrix_of}
 use Rattle.qe_syntax.proofs.TreeEquations.{formula-Ex, formula-All}
 use Rattle.qe_syntax.proofs.Quantified.{unquantified, no_prefix}

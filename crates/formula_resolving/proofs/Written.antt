@@ -8,7 +8,7 @@ use Rattle.qe_syntax.specs.declared.tree.Term as code
 use Rattle.qe_syntax.specs.declared.tree.Term.TheVariants as term
 use Rattle.qe_syntax.specs.declared.tree.Formula as written
 use Rattle.qe_syntax.specs.declared.tree.Formula.TheVariants as formula
-use Rattle.qe_syntax.specs.Trees.{term_tree, formula_tree}
+use Rattle.qe_syntax.specs.CodeTrees.{term_tree, formula_tree}
 use Rattle.qe_syntax.proofs.TreeEquations.{tree-Quotient, formula-Compare, formula-Cong, formula-Ncong, formula-Impl, formula-Repl, formula-Equiv, formula-Ex, formula-All}
 use Rattle.formula_tree.specs.Resolving.{variables_of, formula_variables}
 

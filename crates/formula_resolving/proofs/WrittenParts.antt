@@ -10,7 +10,8 @@ use Rattle.qe_syntax.specs.declared.tree.Term as code
 use Rattle.qe_syntax.specs.declared.tree.Formula as written
 use Rattle.qe_syntax.specs.declared.tree.Formula.TheVariants as formula
 use Rattle.qe_syntax.specs.declared.tree.Formulas as writtens
-use Rattle.qe_syntax.specs.Trees.{FormulaTree, Compare, Cong, Ncong, term_tree, formula_tree, formula_trees, formulas_of}
+use Rattle.qe_syntax.specs.Trees.{FormulaTree, Compare, Cong, Ncong, formulas_of}
+use Rattle.qe_syntax.specs.CodeTrees.{term_tree, formula_tree, formula_trees}
 use Rattle.qe_syntax.specs.Valued.{matrix_of}
 use Rattle.qe_syntax.specs.Proper.{IsProperFormula, AreProperFormulas}
 use Rattle.qe_syntax.proofs.TreeEquations.{formula-Compare, formula-Cong, formula-Ncong, formula-Not, formula-And, formula-Or, formula-Impl, formula-Repl, formula-Equiv}

@@ -5,7 +5,8 @@ use Rattle.formula_meaning.specs.Context.{Context}
 use Rattle.formula_meaning.specs.Some.{EachOf}
 use Rattle.formula_meaning.specs.Tree.{Tree}
 use Rattle.qe_syntax.specs.Trees.{FormulaTree}
-use Rattle.formula_tree.specs.Resolving.{BoundTrees, place, names_after}
+use Rattle.formula_tree.specs.Resolving.{BoundTrees, place}
+use Rattle.formula_tree.specs.NamesAfter.{names_after}
 use Rattle.formula_tree.specs.Causes as cause
 use Rattle.formula_resolving.specs.declared.error.StaticError.{StaticError}
 use Rattle.formula_resolving.specs.declared.error.StaticError.TheVariants.{Unbound, FormulaAsTerm, Nonlinear, Division, CongruenceContext, Modulus, Depth, Overflow, Memory}

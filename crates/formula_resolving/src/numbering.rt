@@ -1,7 +1,8 @@
 //! The variables of a formula get their numbers, in the order of the text.
 
 ghost use Rattle.std.specs.Prelude.{◌∷◌, [], IfOk, map};
-ghost use Rattle.qe_syntax.specs.Trees.{term_tree, terms_of, formula_tree, formulas_of};
+ghost use Rattle.qe_syntax.specs.Trees.{terms_of, formulas_of};
+ghost use Rattle.qe_syntax.specs.CodeTrees.{term_tree, formula_tree};
 ghost use Rattle.qe_syntax.specs.Valued.{IsUnquantified};
 ghost use Rattle.formula_tree.specs.Resolving.{variables_of, variables_in, formula_variables, all_variables};
 ghost use Rattle.formula_resolving.specs.Numbering.{IsNumbered, Grows};

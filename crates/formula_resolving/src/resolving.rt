@@ -1,10 +1,11 @@
 ghost use Rattle.std.specs.Prelude.{◌≡◌, IfOk, IfErr, OnOk, OnErr};
 ghost use Rattle.qe_syntax.specs.Proper.{IsProperFormula};
-ghost use Rattle.qe_syntax.specs.Trees.{formula_tree};
+ghost use Rattle.qe_syntax.specs.CodeTrees.{formula_tree};
 ghost use Rattle.atom_normal.specs.Atoms.{context_of};
-ghost use Rattle.formula_tree.specs.Causes.{IsAccepted};
+ghost use Rattle.formula_tree.specs.Accepted.{IsAccepted};
 ghost use Rattle.formula_tree.specs.Makers.{IsMade, Keeps};
-ghost use Rattle.formula_tree.specs.Resolving.{names_after, resolve};
+ghost use Rattle.formula_tree.specs.Resolving.{resolve};
+ghost use Rattle.formula_tree.specs.NamesAfter.{names_after};
 ghost use Rattle.formula_resolving.specs.Numbering.{Grows};
 ghost use Rattle.formula_resolving.specs.Refusals.{AreIds, trees_bound, IsFirstCause};
 

@@ -6,7 +6,7 @@ use Rattle.std.specs.List.{AllByRecursion}
 use Rattle.std.specs.Cmp.{unsigned_Decides}
 use Rattle.formula_meaning.specs.Formula.{Yes, No, One, Not, And, Or, Impl, Repl, Equiv, Ex, All}
 use Rattle.formula_meaning.specs.Some.{SomeOf, Among}
-use Rattle.formula_meaning.specs.Distinct.{StandsOnce}
+use Rattle.formula_meaning.specs.StandsOnce.{StandsOnce}
 use Rattle.formula_meaning.specs.Same.{same_atom}
 use Rattle.formula_meaning.specs.Sizes.{subtrees, all_subtrees, same_formula, distinct_subtrees, distinct_count}
 use Rattle.formula_meaning.specs.Tree.{Tree}

@@ -4,7 +4,8 @@ use Rattle.std.proofs.Math.IntN.{ℤ, pos, negsuc, neg_ℤ, ◌*ℤ◌}
 use Rattle.std.specs.Prelude.{◌<ℤ◌, unsigned_abs, int_div, Result, Ok, Err}
 use Rattle.std.specs.Ordering.{int_eq}
 use Rattle.std.proofs.lemmas.Int.{ints}
-use Rattle.exact_numbers.specs.Divides.{Divides, DividesAll, lcm_of, content_of}
+use Rattle.exact_numbers.specs.Divides.{Divides, lcm_of, content_of}
+use Rattle.exact_numbers.specs.Division.{DividesAll}
 use Rattle.exact_numbers.specs.Frac.{Frac, IsLowest, whole_frac, inverted, power_steps}
 use Rattle.exact_numbers.proofs.Order.{mul_positive}
 use Rattle.exact_numbers.proofs.Contents.{content_is}
@@ -19,7 +20,8 @@ use Rattle.linear_forms.specs.Reduction.{quotient}
 use Rattle.linear_forms.proofs.Quotients.{coefficients_quotients, content_divided}
 use Rattle.qe_syntax.specs.declared.tree.Literal.{Literal}
 use Rattle.qe_syntax.specs.declared.tree.Literal.TheVariants.{Fits, Past}
-use Rattle.formula_tree.specs.RationalForms.{RationalForm, Missing, Overflow, Nonlinear, Division, numbers_of, formed_number, formed_form, lowest_form, IsLowestForm, is_constant, constant_form, constant_of, sum_of_forms, multiple_of_form, product_of_forms, quotient_of_forms, small_power, as_constant, power_of_form, opposite_form, variable_form, literal_form, forms}
+use Rattle.formula_tree.specs.RationalForms.{RationalForm, Missing, Overflow, Nonlinear, Division, numbers_of, formed_number, formed_form, lowest_form, is_constant, constant_form, constant_of, sum_of_forms, multiple_of_form, product_of_forms, quotient_of_forms, small_power, as_constant, power_of_form, opposite_form, variable_form, literal_form, forms}
+use Rattle.formula_tree.specs.LowestForms.{IsLowestForm}
 use Rattle.formula_tree.specs.ResolvedLaws.{Numbered, FormIsLowest}
 use Rattle.formula_tree.proofs.RuleLaw.{bind_ok, ok_same, KeepMeaning, rule_stands}
 use Rattle.formula_tree.proofs.FormSteps.{Stands, number_ok, content_not_zero, inverted_proper, zero_int_eq}

@@ -19,8 +19,10 @@ use Rattle.qe_syntax.specs.Trees.{TermTree, Number, Named, Sum, Product, Quotien
 use Rattle.formula_tree.specs.RationalForms.{Overflow, Nonlinear, Division, formed_number, formed_form, lowest_form, sum_of_forms, multiple_of_form, product_of_forms, quotient_of_forms, power_of_form, formed, variable_form, constant_form}
 use Rattle.formula_tree.specs.Bindings.{bound_to}
 use Rattle.qe_syntax.specs.Value.{NamedPoint}
-use Rattle.formula_tree.specs.Resolving.{BoundTrees, place, names_after, at_names, resolve}
-use Rattle.formula_tree.specs.Causes.{IsUnbound, NamesFormulaAsTerm, IsNonlinear, Divides, CongruenceInFields, IsBadModulus, IsTooDeep, OverflowsInReading, IsBound, IsAccepted, height_in_place}
+use Rattle.formula_tree.specs.Resolving.{BoundTrees, place, at_names, resolve}
+use Rattle.formula_tree.specs.NamesAfter.{names_after}
+use Rattle.formula_tree.specs.Causes.{IsUnbound, NamesFormulaAsTerm, IsNonlinear, Divides, CongruenceInFields, IsBadModulus, IsTooDeep, OverflowsInReading, IsBound, height_in_place}
+use Rattle.formula_tree.specs.Accepted.{IsAccepted}
 
 abbrev x : TermTree
 x = Named (codes "x")

@@ -9,7 +9,7 @@ use Rattle.formula_meaning.specs.Sizes.{height, greatest_height}
 use Rattle.formula_meaning.specs.Atom as meaning
 use Rattle.formula_meaning.specs.Tree.{Tree}
 use Rattle.formula_meaning.proofs.EachAtom.{every_all}
-use Rattle.formula_meaning.specs.Shape.{IsAtomic}
+use Rattle.formula_meaning.specs.Plain.{IsAtomic}
 use Rattle.atom_normal.proofs.NormalLaws.{normal_atomic}
 use Rattle.qe_syntax.specs.declared.tree.Relation.{Relation}
 use Rattle.qe_syntax.specs.Trees.{WrittenAtom, Compare, Cong, Ncong, Bound}

@@ -18,7 +18,8 @@ use Rattle.qe_syntax.specs.Trees as term
 use Rattle.qe_syntax.specs.Trees.{TermTree, TermTrees, Number, Named, Sum, Product, Quotient, Power, Negative, WrittenAtom, Compare, Cong, Ncong, Bound, FormulaTree}
 use Rattle.qe_syntax.specs.Value.{HasName, HaveName, relation_of}
 use Rattle.formula_tree.specs.RationalForms.{RationalForm, formed, formed_difference}
-use Rattle.formula_tree.specs.Resolving.{BoundTrees, place, names_after, compared, congruent, resolved_atom, MentionsNumber}
+use Rattle.formula_tree.specs.Resolving.{BoundTrees, place, compared, congruent, resolved_atom, MentionsNumber}
+use Rattle.formula_tree.specs.NamesAfter.{names_after}
 use Rattle.formula_tree.specs.Causes.{IsMissing, IsNoDivisor}
 use Rattle.formula_tree.specs.ResolvedLaws.{ResolvingBringsNoName}
 use Rattle.formula_tree.proofs.FormNames.{difference_lacks}

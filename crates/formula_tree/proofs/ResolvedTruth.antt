@@ -25,8 +25,10 @@ use Rattle.qe_syntax.specs.Valued.{IsIn}
 use Rattle.qe_syntax.proofs.ValueLaw.{value_proper}
 use Rattle.formula_tree.specs.Bindings.{bound_to}
 use Rattle.formula_tree.specs.RationalForms.{RationalForm, Missing, is_constant, formed, formed_difference}
-use Rattle.formula_tree.specs.Resolving.{BoundTrees, place, names_after, formula_variables, at_names, compared, congruent, resolved_atom, IsTreeTrue, bound_truth}
-use Rattle.formula_tree.specs.Causes.{HasNoTree, IsCongruence, HasBadModulus, IsMissing, IsNoDivisor, PassesInReading, CongruenceInFields, IsAccepted}
+use Rattle.formula_tree.specs.Resolving.{BoundTrees, place, formula_variables, at_names, compared, congruent, resolved_atom, IsTreeTrue, bound_truth}
+use Rattle.formula_tree.specs.NamesAfter.{names_after}
+use Rattle.formula_tree.specs.Causes.{HasNoTree, IsCongruence, HasBadModulus, IsMissing, IsNoDivisor, PassesInReading, CongruenceInFields}
+use Rattle.formula_tree.specs.Accepted.{IsAccepted}
 use Rattle.formula_tree.specs.ResolvedLaws.{Numbered, HasNormalTrees, ResolvingKeepsTruth, ResolvingIsNormal}
 use Rattle.formula_tree.proofs.PlaceLaws.{at_place, move_at_names, after_has, after_distinct}
 use Rattle.formula_tree.proofs.Nowhere.{nowhere, every_both, mentioned_have, quantified_have}

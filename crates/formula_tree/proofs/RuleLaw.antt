@@ -12,7 +12,8 @@ use Rattle.qe_syntax.specs.Trees.{TermTree, TermTrees, Number, Named, Sum, Produ
 use Rattle.qe_syntax.specs.Value.{NamedPoint, HasName, HaveName, literal_number, true_quotient, value, value_of_sum, value_of_product}
 use Rattle.qe_syntax.specs.Rule.{calculated, added as summed, multiplied as product_of, stepped, quotient_step, power_step, ◌>>=◌ as and_then}
 use Rattle.qe_syntax.proofs.ValueLaw.{value_proper}
-use Rattle.formula_tree.specs.FractionRule.{Steps, by_rule, added, multiplied, fractions, ◌>>=◌}
+use Rattle.formula_tree.specs.FractionRule.{Steps, by_rule, added, multiplied, ◌>>=◌}
+use Rattle.formula_tree.specs.Fractions.{fractions}
 
 -- ---- at fractions
 

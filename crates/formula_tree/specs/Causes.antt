@@ -15,7 +15,7 @@ use Rattle.qe_syntax.specs.Value.{Mentions}
 use Rattle.formula_tree.specs.Bindings.{bound_to}
 use Rattle.formula_tree.specs.FractionRule.{◌>>=◌}
 use Rattle.formula_tree.specs.RationalForms.{RationalForm, Missing, is_constant, constant_form, formed, formed_difference, product_of_forms}
-use Rattle.formula_tree.specs.Resolving.{BoundTrees, place, names_after, resolved_atom}
+use Rattle.formula_tree.specs.Resolving.{BoundTrees, resolved_atom}
 use Rattle.formula_tree.specs.Somewhere.{Somewhere, SomeAtom}
 
 -- ---- names
@@ -200,14 +200,3 @@ IsTooDeep bound f = most_height < height_in_place bound f
 -- a literal is past the limit, a form is not there, or a normal atom passes the limit
 abbrev pub OverflowsInReading : Context → BoundTrees → (List ℕ → ℕ) → FormulaTree → Type 0
 OverflowsInReading c bound number f = SomeAtom (SomeTerm HasPast) f ⊎ SomeAtom (PassesInReading c bound number) f
-
--- no cause applies
-pub record IsAccepted (c : Context) (bound : BoundTrees) (names : List (List ℕ)) (f : FormulaTree) : Type 0 where
-  pub bound_names : ¬ (IsUnbound bound f)
-  pub variables : ¬ (NamesFormulaAsTerm bound f)
-  pub linear : ¬ (IsNonlinear c (place (names_after names f)) f)
-  pub undivided : ¬ (Divides c (place (names_after names f)) f)
-  pub congruences : ¬ (CongruenceInFields c f)
-  pub moduli : ¬ (IsBadModulus c (place (names_after names f)) f)
-  pub flat : ¬ (IsTooDeep bound f)
-  pub within : ¬ (OverflowsInReading c bound (place (names_after names f)) f)

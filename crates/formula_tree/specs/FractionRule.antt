@@ -1,11 +1,7 @@
 -- The fraction rule, once: a term from left to right, over what its leaves give and what each step makes of its parts.
-use Rattle.std.specs.Prelude.{ℕ, pos, List, Result, Ok, Err}
-use Rattle.exact_numbers.specs.Frac.{Frac, whole_frac, negated, lowest, sum_step, product_step}
+use Rattle.std.specs.Prelude.{ℕ, List, Result, Ok, Err}
 use Rattle.qe_syntax.specs.declared.tree.Literal.{Literal}
-use Rattle.qe_syntax.specs.declared.value.EvalError.{EvalError}
 use Rattle.qe_syntax.specs.Trees.{TermTree, TermTrees, Number, Named, Sum, Product, Quotient, Power, Negative, none, also}
-use Rattle.qe_syntax.specs.Value.{NamedPoint}
-use Rattle.qe_syntax.specs.Rule.{stepped, literal_fraction, quotient_step, power_step}
 
 -- the second calculation on the result of the first, which stops both where it stops
 infixl 10 ◌>>=◌
@@ -47,17 +43,3 @@ module _ {V E : Type 0} (steps : Steps V E) where
     pub multiplied : V → TermTrees → Result V E
     multiplied total none = Ok total
     multiplied total (also t ts) = by_rule t >>= λ v. steps.times total v >>= λ product. multiplied product ts
-
--- the fractions at a point
-abbrev pub fractions : NamedPoint → Steps Frac EvalError
-fractions p = record {
-  number = literal_fraction;
-  name = λ x. Ok (lowest (p.at x) (pos p.below));
-  empty_sum = whole_frac (pos 0);
-  empty_product = whole_frac (pos 1);
-  plus = λ v w. stepped (sum_step v w);
-  times = λ v w. stepped (product_step v w);
-  over = quotient_step;
-  power = power_step;
-  minus = λ v. Ok (negated v);
-}

@@ -5,8 +5,12 @@ pub mod Shapes
 pub mod Makers
 pub mod Quantified
 pub mod FractionRule
+pub mod Fractions
 pub mod RationalForms
+pub mod LowestForms
 pub mod ResolvedLaws
 pub mod Somewhere
 pub mod Resolving
+pub mod NamesAfter
 pub mod Causes
+pub mod Accepted

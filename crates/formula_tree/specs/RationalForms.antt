@@ -1,5 +1,5 @@
 -- Linear forms over a positive denominator, and what the steps of the fraction rule make of them.
-use Rattle.std.specs.Prelude.{◌≡◌, ℕ, zero, suc, ℤ, pos, negsuc, ◌*ℤ◌, List, [], ◌∷◌, Bool, true, false, unsigned_abs, int_div, Option, Some, None, Result, Ok, Err, if◌then◌else◌}
+use Rattle.std.specs.Prelude.{ℕ, zero, suc, ℤ, pos, negsuc, ◌*ℤ◌, List, [], ◌∷◌, Bool, true, false, unsigned_abs, int_div, Option, Some, None, Result, Ok, Err, if◌then◌else◌}
 use Rattle.std.specs.List.{list_all}
 use Rattle.std.specs.Ordering.{int_eq}
 use Rattle.exact_numbers.specs.Divides.{lcm_of, content_of}
@@ -41,10 +41,6 @@ formed_form f = if list_all is_within (numbers_of f) then Ok f else Err Overflow
 -- all numbers divided by their greatest common divisor
 unfoldable pub lowest_form : Form → ℤ → RationalForm
 lowest_form f d = record { form = quotient f (content_of (d ∷ numbers_of f)); denominator = int_div d (content_of (d ∷ numbers_of f)) }
-
--- no number above 1 divides the denominator and all numbers of the form
-abbrev pub IsLowestForm : RationalForm → Type 0
-IsLowestForm v = content_of (v.denominator ∷ numbers_of v.form) ≡ pos 1
 
 -- ---- constants
 

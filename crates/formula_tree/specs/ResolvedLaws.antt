@@ -14,11 +14,15 @@ use Rattle.qe_syntax.specs.Trees.{TermTree, FormulaTree}
 use Rattle.qe_syntax.specs.Value.{NamedPoint, value, HasName, same_name}
 use Rattle.qe_syntax.specs.Value as written
 use Rattle.qe_syntax.specs.Rule.{calculated}
-use Rattle.formula_tree.specs.FractionRule.{by_rule, fractions}
+use Rattle.formula_tree.specs.FractionRule.{by_rule}
+use Rattle.formula_tree.specs.Fractions.{fractions}
 use Rattle.formula_tree.specs.Bindings.{bound_to}
-use Rattle.formula_tree.specs.RationalForms.{RationalForm, Missing, Overflow, Nonlinear, Division, IsLowestForm, formed}
-use Rattle.formula_tree.specs.Resolving.{BoundTrees, place, names_after, at_names, resolve, bound_truth, IsFreeInPlace}
-use Rattle.formula_tree.specs.Causes.{HasNonlinear, HasForbidden, height_in_place, IsAccepted}
+use Rattle.formula_tree.specs.RationalForms.{RationalForm, Missing, Overflow, Nonlinear, Division, formed}
+use Rattle.formula_tree.specs.LowestForms.{IsLowestForm}
+use Rattle.formula_tree.specs.Resolving.{BoundTrees, place, at_names, resolve, bound_truth, IsFreeInPlace}
+use Rattle.formula_tree.specs.NamesAfter.{names_after}
+use Rattle.formula_tree.specs.Causes.{HasNonlinear, HasForbidden, height_in_place}
+use Rattle.formula_tree.specs.Accepted.{IsAccepted}
 
 -- what is calculated for a term is the rule at fractions
 abbrev pub CalculatedByRule : Type 0

@@ -1,10 +1,10 @@
 -- Resolved formulas: the names of variables are numbered, bound names have their trees, and each comparison or congruence
 -- is the normal atom of its form.
 use Rattle.std.specs.Prelude.{◌≡◌, ℕ, pos, List, [], ◌∷◌, ◌++◌, Bool, true, false, unsigned_abs, Option, Some, None, unwrap_or, option_map, slice_get, Result, Ok, Err}
-use Rattle.std.specs.List.{fold, position_or_len}
+use Rattle.std.specs.List.{position_or_len}
 use Rattle.formula_meaning.specs.Context.{Context}
 use Rattle.formula_meaning.specs.Point.{Point}
-use Rattle.formula_meaning.specs.Formula.{Formula, Formulas, Yes, No, One, Not, And, Or, Impl, Repl, Equiv, Ex, All}
+use Rattle.formula_meaning.specs.Formula.{Yes, No, One, Not, And, Or, Impl, Repl, Equiv, Ex, All}
 use Rattle.formula_meaning.specs.Formula as plain
 use Rattle.formula_meaning.specs.Atom as meaning
 use Rattle.formula_meaning.specs.Tree as meant
@@ -15,7 +15,6 @@ use Rattle.qe_syntax.specs.declared.tree.Relation.{Relation}
 use Rattle.qe_syntax.specs.Trees.{TermTree, TermTrees, Number, Named, Sum, Product, Quotient, Power, Negative, none, also, WrittenAtom, Compare, Cong, Ncong, Bound, FormulaTree, FormulaTrees}
 use Rattle.qe_syntax.specs.Value.{NamedPoint, same_name, relation_of, Mentions}
 use Rattle.formula_tree.specs.Bindings.{bound_to}
-use Rattle.formula_tree.specs.Names.{with_name}
 use Rattle.formula_tree.specs.RationalForms.{RationalForm, Missing, formed, formed_difference}
 
 -- names of formulas with their trees
@@ -70,10 +69,6 @@ abbrev mutual
   pub all_variables : FormulaTrees → List (List ℕ)
   all_variables plain.none = []
   all_variables (plain.also f fs) = formula_variables f ++ all_variables fs
-
--- the names with the new variables of the formula at the end
-abbrev pub names_after : List (List ℕ) → FormulaTree → List (List ℕ)
-names_after names f = fold with_name names (formula_variables f)
 
 -- the written point as a point of numbered names; a number without a name has 0
 abbrev pub at_names : List (List ℕ) → NamedPoint → Point ℕ

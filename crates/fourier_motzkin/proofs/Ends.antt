@@ -13,7 +13,7 @@ use Rattle.sample_reference.specs.Calculated.{half}
 use Rattle.sample_reference.proofs.Leasts.{Less, AtMost, first_of, none_at_all}
 use Rattle.sample_reference.proofs.FieldsValue.{sum_is, product_is}
 use Rattle.sample_reference.proofs.SamePoints.{some_same, none_some, some_then}
-use Rattle.fourier_motzkin.specs.Rows.{Holds}
+use Rattle.fourier_motzkin.specs.RowsHold.{Holds}
 use Rattle.fourier_motzkin.specs.Bounds.{least, greatest, between}
 use Rattle.fourier_motzkin.proofs.Signs.{holds_sum}
 

@@ -11,7 +11,8 @@ use Rattle.formula_meaning.specs.Some.{Among, EachOf}
 use Rattle.formula_meaning.specs.Form.{coefficient, value, without}
 use Rattle.formula_meaning.proofs.Values.{value_split}
 use Rattle.elimination_theory.proofs.SomeListed.{each_among}
-use Rattle.fourier_motzkin.specs.Rows.{Row, Holds, RowsHold, absent, uppers, lowers, Pair, without_name, rows_after}
+use Rattle.fourier_motzkin.specs.Rows.{Row, absent, uppers, lowers, Pair, without_name}
+use Rattle.fourier_motzkin.specs.RowsHold.{Holds, RowsHold, rows_after}
 use Rattle.fourier_motzkin.specs.Bounds.{least, greatest}
 use Rattle.fourier_motzkin.proofs.Signs.{holds_left, holds_right, holds_times}
 use Rattle.fourier_motzkin.proofs.Ends.{Before, IsBetween, fits_above, fits_below}

@@ -16,7 +16,8 @@ use Rattle.elimination_theory.proofs.SomeListed.{each_among}
 use Rattle.sample_reference.specs.Values.{Value, value_names, IsValue}
 use Rattle.sample_reference.proofs.FieldsValue.{sum_is, product_is}
 use Rattle.sample_reference.proofs.SamePoints.{some_same, some_then}
-use Rattle.fourier_motzkin.specs.Rows.{Row, Holds, RowsHold, uppers, lowers, rows_after}
+use Rattle.fourier_motzkin.specs.Rows.{Row, uppers, lowers}
+use Rattle.fourier_motzkin.specs.RowsHold.{Holds, RowsHold, rows_after}
 use Rattle.fourier_motzkin.specs.Bounds.{value_among, terms_at, bound_of, bounds_of, least, greatest, between, found_value}
 use Rattle.fourier_motzkin.proofs.Signs.{holds_mul}
 use Rattle.fourier_motzkin.proofs.Ends.{greatest_proper, least_proper, between_is}

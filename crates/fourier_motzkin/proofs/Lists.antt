@@ -10,7 +10,8 @@ use Rattle.formula_meaning.specs.Some.{Among, EachOf}
 use Rattle.formula_meaning.specs.Form.{coefficient}
 use Rattle.formula_meaning.proofs.Listed.{among_append, among_left, among_right, among_flat_map, flat_map_among}
 use Rattle.elimination_theory.proofs.IntegersNames.{map_among}
-use Rattle.fourier_motzkin.specs.Rows.{Row, absent, uppers, lowers, Pair, pairs, above, below, without_name, rows_after}
+use Rattle.fourier_motzkin.specs.Rows.{Row, absent, uppers, lowers, Pair, pairs, above, below, without_name}
+use Rattle.fourier_motzkin.specs.RowsHold.{rows_after}
 
 -- ---- elements
 

@@ -3,7 +3,8 @@ use Rattle.std.proofs.Common.{◌≡◌, ℕ, ◌||◌, List, [], ◌∷◌, ◌
 use Rattle.std.proofs.Math.IntN.{ℤ, pos, neg_ℤ, ◌+ℤ◌, ◌*ℤ◌}
 use Rattle.std.specs.Prelude.{◌<ℤ◌, ◌≤ℤ◌, int_div}
 use Rattle.std.proofs.lemmas.Int.{ints}
-use Rattle.exact_numbers.specs.Divides.{DividesAll, gcd_of}
+use Rattle.exact_numbers.specs.Divides.{gcd_of}
+use Rattle.exact_numbers.specs.Division.{DividesAll}
 use Rattle.exact_numbers.proofs.Ring.{one_mul, mul_zero, mul_comm, mul_assoc, mul_neg}
 use Rattle.exact_numbers.proofs.Order.{by_less, cancel_positive, factor_positive}
 use Rattle.exact_numbers.proofs.GreatestDivisor.{gcd_is, gcd_positive}

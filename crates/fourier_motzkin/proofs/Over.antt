@@ -19,7 +19,8 @@ use Rattle.elimination_theory.proofs.SomeListed.{each_append, each_among}
 use Rattle.sample_reference.proofs.SamePoints.{some_same, none_some}
 use Rattle.farkas_theory.specs.Constraints.{Bound, Equal, AtMost, Below, Constraint}
 use Rattle.farkas_theory.specs.Farkas.{nothing, IsFarkas, sum_from}
-use Rattle.fourier_motzkin.specs.Rows.{Row, Holds, RowsHold, bound_rows, rows_from, without_name, rows_after}
+use Rattle.fourier_motzkin.specs.Rows.{Row, bound_rows, rows_from, without_name}
+use Rattle.fourier_motzkin.specs.RowsHold.{Holds, RowsHold, rows_after}
 use Rattle.fourier_motzkin.specs.Search.{is_false, first_false, multipliers_from}
 use Rattle.fourier_motzkin.specs.Theorems.{AreOver}
 use Rattle.fourier_motzkin.proofs.Signs.{holds_mul}

@@ -5,7 +5,7 @@ use Rattle.std.specs.Prelude.{◌<ℤ◌, ◌≤ℤ◌}
 use Rattle.std.proofs.lemmas.Int.{ints}
 use Rattle.formula_meaning.specs.Atom.{Below, AtMost}
 use Rattle.formula_meaning.proofs.Relations.{relates_zero_mul}
-use Rattle.fourier_motzkin.specs.Rows.{Holds}
+use Rattle.fourier_motzkin.specs.RowsHold.{Holds}
 
 -- a positive factor changes nothing
 pub holds_mul : (s : Bool) (k v : ℤ) → pos 0 <ℤ k → Holds s v ↔ Holds s (k *ℤ v)

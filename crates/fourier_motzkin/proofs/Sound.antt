@@ -7,10 +7,11 @@ use Rattle.exact_numbers.specs.Frac.{Frac}
 use Rattle.exact_numbers.proofs.Ring.{mul_comm, mul_assoc, mul_left_comm}
 use Rattle.exact_numbers.proofs.Order.{cancel_positive}
 use Rattle.formula_meaning.specs.Context.{Fields}
-use Rattle.formula_meaning.specs.Distinct.{StandsOnce}
+use Rattle.formula_meaning.specs.StandsOnce.{StandsOnce}
 use Rattle.formula_meaning.specs.Point.{Point, Of}
 use Rattle.formula_meaning.specs.Form.{Form, value, scale}
-use Rattle.formula_meaning.specs.Measured.{Outcome, stopped, done, then_of, Gives, pay, within}
+use Rattle.formula_meaning.specs.Measured.{Outcome, stopped, done, then_of, pay, within}
+use Rattle.formula_meaning.specs.Giving.{Gives}
 use Rattle.formula_meaning.specs.Shape.{is_in}
 use Rattle.formula_meaning.specs.Some.{SomeOf, Among, EachOf}
 use Rattle.formula_meaning.specs.Sorted.{gathered}
@@ -21,9 +22,11 @@ use Rattle.elimination_reference.proofs.Always.{Always, gives_then, always_then,
 use Rattle.sample_reference.specs.Values.{Value, value_names, with_value, with_values, IsValue, origin}
 use Rattle.sample_reference.proofs.Chain.{origin_of, others_stay}
 use Rattle.sample_reference.proofs.SamePoints.{abs_positive, values_of_theory}
-use Rattle.farkas_theory.specs.Constraints.{Bound, Equal, AtMost, Below, Constraint, Stands, MeetsAll}
+use Rattle.farkas_theory.specs.Constraints.{Bound, Equal, AtMost, Below, Constraint}
+use Rattle.farkas_theory.specs.Meeting.{Stands, MeetsAll}
 use Rattle.farkas_theory.specs.Farkas.{IsFarkas}
-use Rattle.fourier_motzkin.specs.Rows.{Row, Holds, RowsHold, bound_rows, rows_from, absent, Pair, pairs, pair_within, without_name, rows_after}
+use Rattle.fourier_motzkin.specs.Rows.{Row, bound_rows, rows_from, absent, Pair, pairs, pair_within, without_name}
+use Rattle.fourier_motzkin.specs.RowsHold.{Holds, RowsHold, rows_after}
 use Rattle.fourier_motzkin.specs.Bounds.{value_among, found_value}
 use Rattle.fourier_motzkin.specs.Search.{Certificate, At, Farkas, new_row, new_rows, next_rows, first_false, last_answer, put_first, extended, search_from}
 use Rattle.fourier_motzkin.specs.Theorems.{IsCertificate, SearchIsSound}

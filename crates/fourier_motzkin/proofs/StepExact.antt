@@ -12,7 +12,8 @@ use Rattle.formula_meaning.proofs.Values.{value_move}
 use Rattle.elimination_theory.proofs.FieldsLine.{value_still}
 use Rattle.elimination_theory.proofs.SomeListed.{each_among}
 use Rattle.sample_reference.proofs.SamePoints.{abs_positive, abs_above}
-use Rattle.fourier_motzkin.specs.Rows.{Row, Holds, RowsHold, uppers, lowers, Pair, pairs, without_name, rows_after}
+use Rattle.fourier_motzkin.specs.Rows.{Row, uppers, lowers, Pair, pairs, without_name}
+use Rattle.fourier_motzkin.specs.RowsHold.{Holds, RowsHold, rows_after}
 use Rattle.fourier_motzkin.specs.Bounds.{least, greatest}
 use Rattle.fourier_motzkin.specs.Theorems.{StepIsExact}
 use Rattle.fourier_motzkin.proofs.Signs.{holds_mul, holds_join}

@@ -1,4 +1,5 @@
 pub mod Rows
+pub mod RowsHold
 pub mod Bounds
 pub mod Search
 pub mod Theorems

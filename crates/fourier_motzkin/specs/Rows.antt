@@ -1,12 +1,10 @@
 -- Rows, and the elimination of a name from them (Fourier 1826, Motzkin 1936).
-use Rattle.std.specs.Prelude.{ℕ, suc, ℤ, pos, negsuc, neg_ℤ, ◌≤ℤ◌, ◌<ℤ◌, int_div, int_lt, Bool, true, false, ◌&&◌, ◌||◌, List, [], ◌∷◌, ◌++◌, map, flat_map, filter, if◌then◌else◌}
+use Rattle.std.specs.Prelude.{ℕ, suc, ℤ, pos, negsuc, neg_ℤ, int_div, int_lt, Bool, true, false, ◌&&◌, ◌||◌, List, [], ◌∷◌, ◌++◌, map, flat_map, filter, if◌then◌else◌}
 use Rattle.std.specs.Ordering.{int_eq}
 use Rattle.exact_numbers.specs.Divides.{gcd_of, content_of}
-use Rattle.formula_meaning.specs.Point.{Point}
-use Rattle.formula_meaning.specs.Form.{Form, coefficients, coefficient, value, scale, combine}
+use Rattle.formula_meaning.specs.Form.{Form, coefficients, coefficient, scale, combine}
 use Rattle.formula_meaning.specs.Sorted.{gathered}
 use Rattle.formula_meaning.specs.Limits.{combination_within}
-use Rattle.formula_meaning.specs.Some.{EachOf}
 use Rattle.linear_forms.specs.Reduction.{quotient}
 use Rattle.farkas_theory.specs.Constraints.{Bound, Equal, AtMost, Below, Constraint}
 
@@ -16,15 +14,6 @@ pub record Row : Type 0 where
   pub form : Form
   pub strict : Bool
   pub multipliers : Form
-
--- the number is as a row says
-abbrev pub Holds : Bool → ℤ → Type 0
-Holds true v = v <ℤ pos 0
-Holds false v = v ≤ℤ pos 0
-
--- each row holds at the point
-abbrev pub RowsHold : Point ℕ → List Row → Type 0
-RowsHold p rows = EachOf (λ (r : Row). Holds r.strict (value r.form p)) rows
 
 -- ---- the rows of constraints
 
@@ -123,7 +112,3 @@ lowest_row r = if int_eq (row_content r) (pos 0) then r else row_quotient r (row
 -- the new row of a pair
 abbrev pub without_name : ℕ → Pair → Row
 without_name x pair = lowest_row (joined x pair)
-
--- what the step leaves of the rows
-abbrev pub rows_after : ℕ → List Row → List Row
-rows_after x rows = absent x rows ++ map (without_name x) (pairs x rows)

@@ -1,15 +1,17 @@
 -- What is proved of the search.
 use Rattle.std.specs.Prelude.{◌≡◌, ◌↔◌, ℕ, ◌<◌, ℤ, pos, List, nat_eq}
 use Rattle.formula_meaning.specs.Context.{Fields}
-use Rattle.formula_meaning.specs.Distinct.{StandsOnce}
+use Rattle.formula_meaning.specs.StandsOnce.{StandsOnce}
 use Rattle.formula_meaning.specs.Form.{coefficient}
-use Rattle.formula_meaning.specs.Measured.{Gives}
+use Rattle.formula_meaning.specs.Giving.{Gives}
 use Rattle.formula_meaning.specs.Point.{Point, Of, move}
 use Rattle.formula_meaning.specs.Some.{Among, EachOf}
 use Rattle.sample_reference.specs.Values.{Value, value_names, with_values, IsValue, origin}
-use Rattle.farkas_theory.specs.Constraints.{Constraint, MeetsAll}
+use Rattle.farkas_theory.specs.Constraints.{Constraint}
+use Rattle.farkas_theory.specs.Meeting.{MeetsAll}
 use Rattle.farkas_theory.specs.Farkas.{IsFarkas}
-use Rattle.fourier_motzkin.specs.Rows.{Row, RowsHold, rows_after}
+use Rattle.fourier_motzkin.specs.Rows.{Row}
+use Rattle.fourier_motzkin.specs.RowsHold.{RowsHold, rows_after}
 use Rattle.fourier_motzkin.specs.Search.{Certificate, At, Farkas, search}
 
 -- The rows after the step for x hold at a point exactly where x can be put to a value at which the rows before it hold.

@@ -5,9 +5,12 @@ use Rattle.std.specs.Prelude.{ℤ, All}
 use Rattle.formula_meaning.specs.Context.{Fields}
 use Rattle.formula_meaning.specs.Formula.{And, Or, One}
 use Rattle.formula_meaning.specs.Form.{Form}
-use Rattle.formula_meaning.specs.Atom.{Atom, AtomIn}
-use Rattle.formula_meaning.specs.Shape.{IsPlain, IsQuantifierFree}
-use Rattle.formula_meaning.specs.Tree.{Tree, InContext}
+use Rattle.formula_meaning.specs.Atom.{Atom}
+use Rattle.formula_meaning.specs.TheoryAtoms.{AtomIn}
+use Rattle.formula_meaning.specs.Shape.{IsQuantifierFree}
+use Rattle.formula_meaning.specs.Plain.{IsPlain}
+use Rattle.formula_meaning.specs.Tree.{Tree}
+use Rattle.formula_meaning.specs.Equivalence.{InContext}
 use Rattle.atom_normal.specs.declared.atoms.Rel.{Rel}
 use Rattle.atom_normal.specs.declared.atoms.Atom.TheVariants as atom
 use Rattle.atom_normal.specs.Atoms.{atom_of, relation_of}

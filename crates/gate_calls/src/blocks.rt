@@ -1,7 +1,7 @@
 //! Blocks of `ex` over formulas without quantifiers, branch by branch, with what is left of them as text.
 
 ghost use Rattle.std.specs.Prelude.{◌≡◌, All, IfSome};
-ghost use Rattle.formula_meaning.specs.Distinct.{StandsOnce};
+ghost use Rattle.formula_meaning.specs.StandsOnce.{StandsOnce};
 ghost use Rattle.formula_store.specs.Nodes.{IsId};
 ghost use Rattle.branch_rounds.specs.Branches.{numbers};
 

@@ -2,7 +2,7 @@
 
 ghost use Rattle.std.specs.Prelude.{IfSome};
 ghost use Rattle.elimination_theory.specs.FieldsSubstitution.{IsFieldPlace};
-ghost use Rattle.elimination_theory.specs.IntegersTheorems.{IsIntegerPlace};
+ghost use Rattle.elimination_theory.specs.IntegerPlace.{IsIntegerPlace};
 ghost use Rattle.test_points.specs.Points.{place_of, IsTestPoint};
 
 use crate::forms::{atom_text, form_text};

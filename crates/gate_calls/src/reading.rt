@@ -10,8 +10,8 @@ ghost use Rattle.formula_store.specs.Nodes.{tree, IsId};
 ghost use Rattle.nnf_trees.specs.Nnfs.{HasModulus};
 ghost use Rattle.qe_syntax.specs.Proper.{IsProperFormula};
 ghost use Rattle.statement_syntax.specs.Writable.{IsWritable};
-ghost use Rattle.statement_syntax.specs.Statements.{statement_tree};
-ghost use Rattle.qe_syntax.specs.Trees.{formula_tree};
+ghost use Rattle.statement_syntax.specs.CodeTrees.{statement_tree};
+ghost use Rattle.qe_syntax.specs.CodeTrees.{formula_tree};
 
 use atom_normal::Context;
 use formula_resolving::linearise;

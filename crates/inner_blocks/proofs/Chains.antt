@@ -1,12 +1,13 @@
 -- The chain of one quantifier with which a formula in negation normal form begins is a block over the formula behind it.
 use Rattle.std.proofs.Common.{◌≡◌, ℕ, ◌<◌, nat_eq, Bool, true, false, List, [], ◌∷◌, length, refl, ap, sym, subst, ◌∙◌, arith, if◌then◌else◌}
 use Rattle.formula_meaning.specs.Context.{Context}
-use Rattle.formula_meaning.specs.Distinct.{StandsOnce}
+use Rattle.formula_meaning.specs.StandsOnce.{StandsOnce}
 use Rattle.formula_meaning.specs.Every.{Every}
 use Rattle.formula_meaning.specs.Formula.{Yes, No, One, Not, And, Or, Impl, Repl, Equiv, Ex, All}
 use Rattle.formula_meaning.specs.declared.quantifier.Quantifier.{Quantifier}
 use Rattle.formula_meaning.specs.declared.quantifier.Quantifier.TheVariants.{Exists, ForAll}
-use Rattle.formula_meaning.specs.Shape.{IsNegationNormal, is_in, block_of, matrix_of, leading, quantified}
+use Rattle.formula_meaning.specs.Shape.{is_in, block_of, matrix_of, quantified}
+use Rattle.formula_meaning.specs.Plain.{IsNegationNormal, leading}
 use Rattle.formula_meaning.specs.Tree.{Tree}
 use Rattle.formula_meaning.proofs.NormalShape.{normal_form_shape}
 use Rattle.atom_normal.specs.NormalForm.{IsNormal, negated_normal}

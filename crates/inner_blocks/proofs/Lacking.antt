@@ -3,7 +3,7 @@ use Rattle.std.proofs.Common.{◌≡◌, ℕ, zero, suc, ◌+◌, ◌<◌, Bool,
 use Rattle.std.specs.List.{AllByRecursion, list_any}
 use Rattle.formula_meaning.specs.Atom as meant
 use Rattle.simplified_formulas.specs.Atoms.{without}
-use Rattle.simplified_formulas.specs.AtomKit.{contains}
+use Rattle.simplified_formulas.specs.Contained.{contains}
 use Rattle.atom_normal.specs.declared.atoms.Atom.{Atom}
 use Rattle.atom_normal.specs.Atoms.{atom_of, IsWellFormed}
 use Rattle.linear_forms.specs.declared.form.VarId.{VarId}

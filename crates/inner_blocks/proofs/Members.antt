@@ -7,7 +7,8 @@ use Rattle.formula_meaning.specs.Fold.{joined, fold_list, folded, all_folded}
 use Rattle.formula_meaning.specs.Formula.{Yes, No, One, Not, And, Or, Impl, Repl, Equiv, Ex, All, also}
 use Rattle.formula_meaning.specs.declared.junction.Junction.{Junction}
 use Rattle.formula_meaning.specs.declared.junction.Junction.TheVariants.{Conjunction, Disjunction}
-use Rattle.formula_meaning.specs.Shape.{IsAtomic, IsNegationNormal, AreNegationNormal, IsQuantifierFree, AreQuantifierFree}
+use Rattle.formula_meaning.specs.Shape.{IsQuantifierFree, AreQuantifierFree}
+use Rattle.formula_meaning.specs.Plain.{IsAtomic, IsNegationNormal, AreNegationNormal}
 use Rattle.formula_meaning.specs.Tree.{Tree, Trees}
 use Rattle.atom_normal.specs.Atoms.{context_of, atom_of}
 use Rattle.atom_normal.specs.NormalForm.{IsNormal}

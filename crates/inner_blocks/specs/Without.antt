@@ -6,7 +6,8 @@ use Rattle.formula_meaning.specs.declared.junction.Junction.{Junction}
 use Rattle.formula_meaning.specs.Context.{Context}
 use Rattle.formula_meaning.specs.Every.{Every}
 use Rattle.formula_meaning.specs.Fold.{joined, folded}
-use Rattle.formula_meaning.specs.Shape.{IsAtomic, IsNegationNormal, IsQuantifierFree, quantified}
+use Rattle.formula_meaning.specs.Shape.{IsQuantifierFree, quantified}
+use Rattle.formula_meaning.specs.Plain.{IsAtomic, IsNegationNormal}
 use Rattle.formula_meaning.specs.Tree.{Tree, Trees}
 use Rattle.atom_normal.specs.Atoms.{context_of, atom_of}
 use Rattle.atom_normal.specs.NormalForm.{IsNormal}

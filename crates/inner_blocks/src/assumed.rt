@@ -3,7 +3,7 @@
 ghost use Rattle.std.specs.Prelude.{◌≡◌, IfOk};
 ghost use Rattle.std.specs.List.{list_any};
 ghost use Rattle.atom_normal.specs.Atoms.{atom_of};
-ghost use Rattle.simplified_formulas.specs.AtomKit.{contains};
+ghost use Rattle.simplified_formulas.specs.Contained.{contains};
 ghost use Rattle.inner_blocks.specs.Assumed.{lacking};
 
 use atom_normal::Atom;

@@ -2,7 +2,7 @@
 
 ghost use Rattle.std.specs.Prelude.{◌≡◌, IfOk};
 ghost use Rattle.formula_meaning.specs.Fold.{joined};
-ghost use Rattle.formula_meaning.specs.Shape.{IsNegationNormal};
+ghost use Rattle.formula_meaning.specs.Plain.{IsNegationNormal};
 ghost use Rattle.formula_meaning.specs.Tree.{Trees};
 ghost use Rattle.formula_store.specs.Nodes.{tree, IsId};
 ghost use Rattle.inner_blocks.specs.Without.{IsKind, AreMembersOf};

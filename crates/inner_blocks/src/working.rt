@@ -3,7 +3,8 @@
 ghost use Rattle.std.specs.Prelude.{◌≡◌, ℕ, IfOk, IfErr, OnOk, MatchResult, map};
 ghost use Rattle.formula_meaning.specs.Every.{Every};
 ghost use Rattle.formula_meaning.specs.Fold.{joined, folded};
-ghost use Rattle.formula_meaning.specs.Shape.{IsNegationNormal, IsQuantifierFree, quantified};
+ghost use Rattle.formula_meaning.specs.Shape.{IsQuantifierFree, quantified};
+ghost use Rattle.formula_meaning.specs.Plain.{IsNegationNormal};
 ghost use Rattle.formula_meaning.specs.Tree.{Tree, Trees};
 ghost use Rattle.atom_normal.specs.Atoms.{context_of, atom_of};
 ghost use Rattle.atom_normal.specs.NormalForm.{IsNormal};

@@ -2,7 +2,8 @@
 use Rattle.std.proofs.Common.{◌≡◌, ℕ, nat_eq, List, [], refl, ap, sym, ◌∙◌}
 use Rattle.formula_meaning.specs.Formula.{Yes, No, One, Not, And, Or, Impl, Repl, Equiv, Ex, All}
 use Rattle.formula_meaning.specs.declared.quantifier.Quantifier.{Quantifier}
-use Rattle.formula_meaning.specs.Shape.{block_of, matrix_of, leading}
+use Rattle.formula_meaning.specs.Shape.{block_of, matrix_of}
+use Rattle.formula_meaning.specs.Plain.{leading}
 use Rattle.formula_meaning.specs.Tree.{Tree}
 use Rattle.elimination_reference.specs.Reference.{normal_tree, turned}
 use Rattle.elimination_reference.specs.Cases.{case_sign, case_matrix, case_names}

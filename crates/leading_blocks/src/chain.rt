@@ -1,7 +1,8 @@
 //! A chain of one quantifier, split from the formula behind it.
 
 ghost use Rattle.std.specs.Prelude.{◌≡◌, ◌≤◌, ◌+◌, [], IfOk, MatchOption, length, map, nat_eq};
-ghost use Rattle.formula_meaning.specs.Shape.{block_of, matrix_of, leading};
+ghost use Rattle.formula_meaning.specs.Shape.{block_of, matrix_of};
+ghost use Rattle.formula_meaning.specs.Plain.{leading};
 ghost use Rattle.formula_store.specs.Nodes.{tree, IsId};
 ghost use Rattle.leading_blocks.specs.Chains.{Ends, IsUnder, IsSplit};
 

@@ -12,13 +12,14 @@ use Rattle.exact_numbers.proofs.Ring.{ring}
 use Rattle.formula_meaning.specs.declared.quantifier.Quantifier.TheVariants.{Exists}
 use Rattle.formula_meaning.specs.Atom as meaning
 use Rattle.formula_meaning.specs.Context.{Context, Fields, Allowed}
-use Rattle.formula_meaning.specs.Distinct.{StandsOnce}
+use Rattle.formula_meaning.specs.StandsOnce.{StandsOnce}
 use Rattle.formula_meaning.specs.Every.{Every, EveryOf}
 use Rattle.formula_meaning.specs.Form as form
 use Rattle.formula_meaning.specs.Formula.{One, none, also}
-use Rattle.formula_meaning.specs.Point.{Point, Of, AgreeOn, move, finer}
+use Rattle.formula_meaning.specs.Point.{Point, Of, move}
+use Rattle.formula_meaning.specs.Points.{AgreeOn, finer}
 use Rattle.formula_meaning.specs.Replaced.{replaced, all_replaced}
-use Rattle.formula_meaning.specs.Shape.{IsPlain as IsPlainTree}
+use Rattle.formula_meaning.specs.Plain.{IsPlain as IsPlainTree}
 use Rattle.formula_meaning.specs.Some.{SomeOf, Among, EachOf}
 use Rattle.formula_meaning.specs.Tree.{Tree, TrueAt}
 use Rattle.formula_meaning.specs.Truth.{AllTrue}
@@ -37,7 +38,7 @@ use Rattle.qe_syntax.specs.Value as syntax
 use Rattle.qe_syntax.specs.Valued.{IsIn}
 use Rattle.qe_syntax.specs.Writable.{IsWritableTerm, IsWritableFormula, AreWritableFormulas}
 use Rattle.qe_syntax.proofs.ValueLaw.{value_proper}
-use Rattle.statement_syntax.specs.Constraints.{AreWeakConstraints}
+use Rattle.statement_syntax.specs.ConstraintLists.{AreWeakConstraints}
 use Rattle.redlog_reader.specs.Grammar.{quantified_names}
 use Rattle.formula_tree.specs.FractionRule.{◌>>=◌}
 use Rattle.formula_tree.specs.RationalForms.{RationalForm, formed, formed_difference, sum_of_forms, opposite_form}
@@ -50,10 +51,10 @@ use Rattle.formula_tree.proofs.PlaceLaws.{same_itself, slice_place, after_distin
 use Rattle.formula_tree.proofs.ResolvedTruth.{IsPlain, there, all_plain}
 use Rattle.formula_tree.proofs.RuleLaw.{bind_ok}
 use Rattle.sample_reference.specs.Values.{Value, value_names, with_values, IsValue, origin}
-use Rattle.sample_reference.specs.Sample.{AreTrueValues}
+use Rattle.sample_reference.specs.TrueSample.{AreTrueValues}
 use Rattle.sample_reference.proofs.SamePoints.{abs_above, values_of_theory}
-use Rattle.least_theory.specs.Answer.{IsLeastFraction}
-use Rattle.least_theory.specs.Target.{exs}
+use Rattle.least_theory.specs.LeastFraction.{IsLeastFraction}
+use Rattle.least_theory.specs.WeakTargets.{exs}
 use Rattle.session_meaning.specs.Assumptions.{AllTrueAt}
 use Rattle.session_meaning.specs.Places.{by_names}
 use Rattle.session_meaning.specs.State.{State}

@@ -1,16 +1,17 @@
 -- The leading block of a weak problem: all its names, where none stands twice.
 use Rattle.std.proofs.Common.{◌≡◌, inl, inr, ℕ, List, [], ◌∷◌, Bool, true, false, if◌then◌else◌, sym, ap, ◌∙◌, refl, nat_eq, eqb-true}
 use Rattle.formula_meaning.specs.declared.quantifier.Quantifier.TheVariants.{Exists}
-use Rattle.formula_meaning.specs.Distinct.{StandsOnce}
+use Rattle.formula_meaning.specs.StandsOnce.{StandsOnce}
 use Rattle.formula_meaning.specs.Formula.{Yes, No, One, Not, And, Or, Impl, Repl, Equiv, Ex, All, none, also}
-use Rattle.formula_meaning.specs.Shape.{IsPlain, ArePlain, IsNegationNormal, AreNegationNormal, block_of, matrix_of, is_in}
+use Rattle.formula_meaning.specs.Shape.{block_of, matrix_of, is_in}
+use Rattle.formula_meaning.specs.Plain.{IsPlain, ArePlain, IsNegationNormal, AreNegationNormal}
 use Rattle.formula_meaning.specs.Some.{SomeOf, EachOf}
 use Rattle.formula_meaning.specs.Tree.{Tree, Trees}
 use Rattle.formula_meaning.proofs.NormalAgain.{normal_form_itself}
 use Rattle.atom_normal.specs.NormalForm.{negated_normal}
 use Rattle.elimination_reference.specs.Cases.{case_formula, case_matrix, case_names}
 use Rattle.elimination_reference.specs.Reference.{normal_tree, turned}
-use Rattle.least_theory.specs.Target.{exs}
+use Rattle.least_theory.specs.WeakTargets.{exs}
 use Rattle.least_queries.proofs.Conditions.{exs_sign}
 
 -- ---- what is asked

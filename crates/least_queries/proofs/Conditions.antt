@@ -1,20 +1,23 @@
 -- What the cases of a weak problem say together, and what is found of its target by it.
 use Rattle.std.proofs.Common.{◌≡◌, ⊎_elim, inl, ℕ, List, [], ◌∷◌, true, sym, ap, ◌∙◌, subst, refl}
-use Rattle.formula_meaning.specs.Atom.{AtomIn}
+use Rattle.formula_meaning.specs.TheoryAtoms.{AtomIn}
 use Rattle.formula_meaning.specs.Context.{Fields}
 use Rattle.formula_meaning.specs.Every.{Every, EveryOf}
 use Rattle.formula_meaning.specs.Formula.{Yes, No, One, Not, And, Or, Impl, Repl, Equiv, Ex, All}
 use Rattle.formula_meaning.specs.Point.{Point, Of}
-use Rattle.formula_meaning.specs.Shape.{IsPlain, ArePlain, IsQuantifierFree}
+use Rattle.formula_meaning.specs.Shape.{IsQuantifierFree}
+use Rattle.formula_meaning.specs.Plain.{IsPlain, ArePlain}
 use Rattle.formula_meaning.specs.Some.{EachOf}
-use Rattle.formula_meaning.specs.Tree.{Tree, TrueAt, Equivalent, InContext}
+use Rattle.formula_meaning.specs.Tree.{Tree, TrueAt}
+use Rattle.formula_meaning.specs.Equivalence.{Equivalent, InContext}
 use Rattle.formula_meaning.proofs.Iff.{both_ways}
 use Rattle.atom_normal.specs.declared.atoms.Context as atoms
 use Rattle.atom_normal.specs.Atoms.{context_of}
 use Rattle.atom_normal.specs.NormalForm.{IsNormal}
 use Rattle.elimination_reference.specs.Cases.{Case, case_sign, case_formula, case_names}
 use Rattle.elimination_reference.specs.Reference.{normal_tree, turned}
-use Rattle.elimination_reference.specs.Theorems.{IsTidy, guards_of}
+use Rattle.elimination_reference.specs.Theorems.{IsTidy}
+use Rattle.elimination_reference.specs.AnswerParts.{guards_of}
 use Rattle.elimination_reference.proofs.Tidy.{tidy_in}
 use Rattle.elimination_reference.proofs.Turning.{normal_inside, normal_truths}
 use Rattle.case_theory.specs.CaseTree.{without_all, SaysUnder, IsCaseTree}
@@ -24,7 +27,7 @@ use Rattle.formula_tree.specs.declared.shape.Shape.{Shape}
 use Rattle.formula_tree.specs.Makers.{IsMade}
 use Rattle.formula_store.specs.declared.id.FormulaId.{FormulaId}
 use Rattle.formula_store.specs.Nodes.{tree, IsId}
-use Rattle.least_theory.specs.Target.{exs}
+use Rattle.least_theory.specs.WeakTargets.{exs}
 use Rattle.least_theory.specs.Answer.{least_of, IsAnswer}
 use Rattle.least_theory.proofs.Targets.{target_found}
 use Rattle.session_state.specs.declared.state.SessionState.{SessionState}

@@ -9,7 +9,8 @@ use Rattle.qe_syntax.specs.declared.tree.Formula.TheVariants as formula
 use Rattle.qe_syntax.specs.declared.tree.Relation.{Relation}
 use Rattle.qe_syntax.specs.declared.tree.Relation.TheVariants.{Equal, Differs, Less, AtMost, Greater, AtLeast}
 use Rattle.qe_syntax.specs.declared.tree.Term as code
-use Rattle.qe_syntax.specs.Trees.{Compare, Cong, Ncong, Bound, FormulaTree, formula_tree}
+use Rattle.qe_syntax.specs.Trees.{Compare, Cong, Ncong, Bound, FormulaTree}
+use Rattle.qe_syntax.specs.CodeTrees.{formula_tree}
 use Rattle.statement_syntax.specs.Constraints.{bounds, is_weak, is_constraint, is_weak_constraint}
 use Rattle.redlog_reader.proofs.Constrained.{unconstrained}
 

@@ -16,10 +16,12 @@ use Rattle.atom_normal.specs.NormalForm.{IsNormal}
 use Rattle.block_scheduler.specs.declared.limits.Limits.{Limits}
 use Rattle.linear_forms.specs.declared.form.VarId.{VarId}
 use Rattle.linear_forms.specs.Values.{Numbers, number_at, point_of}
-use Rattle.sample_reference.specs.Sample.{reference_sample, IsTrueSample}
+use Rattle.sample_reference.specs.Sample.{reference_sample}
+use Rattle.sample_reference.specs.TrueSample.{IsTrueSample}
 use Rattle.sample_reference.specs.Seen.{sample_of, values_of}
 use Rattle.sample_reference.proofs.SamePoints.{abs_above}
-use Rattle.least_theory.specs.Answer.{IsLeastFraction, IsAnswer, least_of}
+use Rattle.least_theory.specs.Answer.{IsAnswer, least_of}
+use Rattle.least_theory.specs.LeastFraction.{IsLeastFraction}
 use Rattle.linear_opt.specs.declared.least.Least.{Least}
 use Rattle.linear_opt.specs.Least as opt
 use Rattle.plain_engine.specs.declared.measured.Measured.{Measured}

@@ -7,11 +7,12 @@ use Rattle.formula_meaning.specs.Some.{EachOf}
 use Rattle.elimination_reference.specs.Reference.{reference}
 use Rattle.sample_reference.specs.Sample.{reference_sample}
 use Rattle.exact_numbers.specs.Frac.{Frac}
-use Rattle.least_theory.specs.Answer.{IsLeastFraction}
+use Rattle.least_theory.specs.LeastFraction.{IsLeastFraction}
 use Rattle.qe_syntax.specs.Trees.{TermTree, FormulaTree, FormulaTrees}
 use Rattle.statement_syntax.specs.Statements.{Least}
 use Rattle.formula_tree.specs.Causes.{IsNonlinear, Divides, IsBadModulus, OverflowsInReading}
-use Rattle.formula_tree.specs.Resolving.{place, formula_variables, names_after}
+use Rattle.formula_tree.specs.Resolving.{place, formula_variables}
+use Rattle.formula_tree.specs.NamesAfter.{names_after}
 use Rattle.formula_tree.proofs.PlaceLaws.{after_has}
 use Rattle.formula_resolving.specs.declared.error.StaticError.{StaticError}
 use Rattle.formula_resolving.specs.declared.error.StaticError.TheVariants as static

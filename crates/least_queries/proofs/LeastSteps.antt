@@ -19,7 +19,7 @@ use Rattle.qe_syntax.specs.Value.{same_name}
 use Rattle.qe_syntax.specs.Valued.{IsIn}
 use Rattle.qe_syntax.specs.Writable.{IsWritableTerm, AreWritableFormulas}
 use Rattle.qe_syntax.proofs.EntryLists.{each_push}
-use Rattle.statement_syntax.specs.Constraints.{AreWeakConstraints}
+use Rattle.statement_syntax.specs.ConstraintLists.{AreWeakConstraints}
 use Rattle.statement_syntax.specs.Statements.{Least}
 use Rattle.redlog_reader.specs.Grammar.{quantified_names}
 use Rattle.redlog_printer.specs.Writing.{text_limit}

@@ -15,7 +15,8 @@ use Rattle.qe_syntax.specs.Valued.{IsIn}
 use Rattle.qe_syntax.specs.Writable.{IsWritableTerm, AreWritableFormulas}
 use Rattle.redlog_reader.specs.Grammar.{quantified_names}
 use Rattle.formula_tree.specs.Names.{with_name}
-use Rattle.formula_tree.specs.Resolving.{place, variables_of, formula_variables, all_variables, names_after}
+use Rattle.formula_tree.specs.Resolving.{place, variables_of, formula_variables, all_variables}
+use Rattle.formula_tree.specs.NamesAfter.{names_after}
 use Rattle.formula_tree.proofs.PlaceLaws.{same_is, same_itself, after_has, in_either}
 use Rattle.formula_resolving.specs.Numbering.{Grows}
 use Rattle.formula_resolving.proofs.Numbered.{grows_same, grows_then, grows_with}

@@ -6,13 +6,15 @@ use Rattle.formula_meaning.specs.Formula.{And, One, none, also}
 use Rattle.qe_syntax.specs.declared.tree.Formula.{Formula}
 use Rattle.qe_syntax.specs.declared.tree.Literal.TheVariants.{Past}
 use Rattle.qe_syntax.specs.declared.tree.Relation.TheVariants.{Equal}
-use Rattle.qe_syntax.specs.Trees.{TermTree, FormulaTree, FormulaTrees, Number, Named, Compare, formula_tree, formulas_of}
+use Rattle.qe_syntax.specs.Trees.{TermTree, FormulaTree, FormulaTrees, Number, Named, Compare, formulas_of}
+use Rattle.qe_syntax.specs.CodeTrees.{formula_tree}
 use Rattle.qe_syntax.specs.Proper.{IsProperFormula, AreProperFormulas}
 use Rattle.qe_syntax.proofs.WritableLemmas.{writable_term, writable_formulas}
 use Rattle.formula_meaning.specs.declared.quantifier.Quantifier.TheVariants.{Exists}
 use Rattle.redlog_reader.specs.Grammar.{quantified_names}
 use Rattle.qe_syntax.specs.Writable.{IsWritableTerm, AreWritableFormulas}
-use Rattle.statement_syntax.specs.Constraints.{is_weak_constraint, AreWeakConstraints}
+use Rattle.statement_syntax.specs.Constraints.{is_weak_constraint}
+use Rattle.statement_syntax.specs.ConstraintLists.{AreWeakConstraints}
 use Rattle.formula_tree.specs.Names.{with_name}
 use Rattle.formula_tree.specs.Resolving.{variables_of, all_variables}
 use Rattle.session_meaning.specs.Targets.{target_name, together, problem_names, problem_of}

@@ -11,7 +11,7 @@ use Rattle.formula_meaning.specs.Every.{Every, EveryOf}
 use Rattle.formula_meaning.specs.Form.{Form, Term}
 use Rattle.formula_meaning.specs.Formula.{Yes, No, One, Not, And, Or, Impl, Repl, Equiv, Ex, All, none, also}
 use Rattle.formula_meaning.specs.Replaced.{replaced, all_replaced}
-use Rattle.formula_meaning.specs.Shape.{IsPlain, ArePlain}
+use Rattle.formula_meaning.specs.Plain.{IsPlain, ArePlain}
 use Rattle.formula_meaning.specs.Sorted.{gathered}
 use Rattle.formula_meaning.specs.Tree.{Tree}
 use Rattle.atom_normal.specs.NormalForm.{constant_tree, holds, facing, compared_in_fields, normal_atom}
@@ -20,11 +20,12 @@ use Rattle.qe_syntax.specs.declared.tree.Relation.TheVariants as relation
 use Rattle.qe_syntax.specs.Trees as trees
 use Rattle.qe_syntax.specs.Trees.{TermTree, WrittenAtom, FormulaTree, FormulaTrees, Cong, Ncong, Bound}
 use Rattle.qe_syntax.specs.Value.{relation_of}
-use Rattle.statement_syntax.specs.Constraints.{is_weak, is_weak_constraint, AreWeakConstraints}
+use Rattle.statement_syntax.specs.Constraints.{is_weak, is_weak_constraint}
+use Rattle.statement_syntax.specs.ConstraintLists.{AreWeakConstraints}
 use Rattle.redlog_reader.specs.Grammar.{quantified_names}
 use Rattle.formula_tree.specs.RationalForms.{RationalForm, Missing, formed_difference}
 use Rattle.formula_tree.specs.Resolving.{place, compared, resolved_atom}
-use Rattle.least_theory.specs.Target.{IsWeak, IsWeakRelation, exs}
+use Rattle.least_theory.specs.WeakTargets.{IsWeak, IsWeakRelation, exs}
 use Rattle.least_theory.proofs.Weak.{weak_in_fields}
 use Rattle.session_meaning.specs.State.{State}
 use Rattle.session_meaning.specs.Targets.{target_name, problem_names, together, resolved_problem}

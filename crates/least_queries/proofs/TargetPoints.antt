@@ -5,7 +5,8 @@ use Rattle.std.specs.Prelude.{◌<ℤ◌}
 use Rattle.std.proofs.lemmas.Int.{ints}
 use Rattle.exact_numbers.specs.Frac.{Frac}
 use Rattle.exact_numbers.proofs.Ring.{ring}
-use Rattle.formula_meaning.specs.Point.{Point, AgreeOn, move, finer}
+use Rattle.formula_meaning.specs.Point.{Point, move}
+use Rattle.formula_meaning.specs.Points.{AgreeOn, finer}
 use Rattle.formula_meaning.specs.Some.{Among}
 use Rattle.formula_meaning.proofs.SamePoint.{finer_move}
 use Rattle.formula_meaning.proofs.Values.{pos_mul}

@@ -4,15 +4,19 @@ use Rattle.exact_numbers.specs.Fraction.{frac_of}
 use Rattle.formula_meaning.specs.Context.{Fields}
 use Rattle.formula_meaning.specs.Every.{Every}
 use Rattle.formula_meaning.specs.Point.{Point, move}
-use Rattle.formula_meaning.specs.Shape.{IsPlain, IsQuantifierFree}
-use Rattle.formula_meaning.specs.Tree.{Tree, InContext, Equivalent}
+use Rattle.formula_meaning.specs.Shape.{IsQuantifierFree}
+use Rattle.formula_meaning.specs.Plain.{IsPlain}
+use Rattle.formula_meaning.specs.Tree.{Tree}
+use Rattle.formula_meaning.specs.Equivalence.{InContext, Equivalent}
 use Rattle.elimination_reference.specs.Reference.{reference}
 use Rattle.exact_numbers.specs.Frac.{Frac}
-use Rattle.sample_reference.specs.Sample.{reference_sample, IsTrueSample}
+use Rattle.sample_reference.specs.Sample.{reference_sample}
+use Rattle.sample_reference.specs.TrueSample.{IsTrueSample}
 use Rattle.sample_reference.specs.Seen.{values_of}
 use Rattle.sample_reference.specs.Values.{origin}
-use Rattle.least_theory.specs.Target.{IsWeak, exs, IsInfeasible, IsUnbounded}
-use Rattle.least_theory.specs.Answer.{IsLeastFraction}
+use Rattle.least_theory.specs.Target.{IsInfeasible, IsUnbounded}
+use Rattle.least_theory.specs.WeakTargets.{IsWeak, exs}
+use Rattle.least_theory.specs.LeastFraction.{IsLeastFraction}
 use Rattle.plain_engine.specs.declared.measured.Measured.{Measured}
 use Rattle.plain_engine.specs.Told.{StopsWith}
 use Rattle.formula_store.specs.declared.id.FormulaId.{FormulaId}

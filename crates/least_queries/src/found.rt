@@ -7,7 +7,7 @@ ghost use Rattle.formula_meaning.specs.Every.{Every};
 ghost use Rattle.atom_normal.specs.Atoms.{context_of};
 ghost use Rattle.atom_normal.specs.NormalForm.{IsNormal};
 ghost use Rattle.formula_store.specs.Nodes.{tree, IsId};
-ghost use Rattle.least_theory.specs.Answer.{IsLeastFraction};
+ghost use Rattle.least_theory.specs.LeastFraction.{IsLeastFraction};
 ghost use Rattle.session_state.specs.Growth.{KeepsState};
 ghost use Rattle.least_queries.specs.Found.{IsWeakProblem, found_of, IsTargetFound, IsConditionOf, ConditionStop, FoundStop};
 

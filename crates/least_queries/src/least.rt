@@ -2,9 +2,10 @@
 
 ghost use Rattle.std.specs.Prelude.{◌≡◌, ◌≤◌, ◌++◌, [], ◌∷◌, None, IfOk, IfErr, OnOk, OnErr, map};
 ghost use Rattle.qe_syntax.specs.Proper.{IsProperFormula};
-ghost use Rattle.qe_syntax.specs.Trees.{term_tree, formula_tree, formulas_of};
+ghost use Rattle.qe_syntax.specs.Trees.{formulas_of};
+ghost use Rattle.qe_syntax.specs.CodeTrees.{term_tree, formula_tree};
 ghost use Rattle.qe_syntax.specs.Writable.{IsWritableTerm, AreWritableFormulas};
-ghost use Rattle.statement_syntax.specs.Constraints.{AreWeakConstraints};
+ghost use Rattle.statement_syntax.specs.ConstraintLists.{AreWeakConstraints};
 ghost use Rattle.statement_syntax.specs.Statements.{Least as LeastOf};
 ghost use Rattle.formula_resolving.specs.Refusals.{AreIds};
 ghost use Rattle.formula_store.specs.Nodes.{IsId};

@@ -4,9 +4,11 @@ ghost use Rattle.std.specs.Prelude.{◌≡◌, ◌<◌, ◌∷◌, List, true, I
 ghost use Rattle.std.specs.List.{AllByRecursion, fold};
 ghost use Rattle.formula_meaning.specs.declared.quantifier.Quantifier.TheVariants.{Exists};
 ghost use Rattle.qe_syntax.specs.Names.{IsVariable};
-ghost use Rattle.qe_syntax.specs.Trees.{FormulaTree, term_tree, formula_tree, formulas_of};
+ghost use Rattle.qe_syntax.specs.Trees.{FormulaTree, formulas_of};
+ghost use Rattle.qe_syntax.specs.CodeTrees.{term_tree, formula_tree};
 ghost use Rattle.qe_syntax.specs.Writable.{IsWritableTerm, AreWritableFormulas};
-ghost use Rattle.statement_syntax.specs.Constraints.{is_weak_constraint, AreWeakConstraints};
+ghost use Rattle.statement_syntax.specs.Constraints.{is_weak_constraint};
+ghost use Rattle.statement_syntax.specs.ConstraintLists.{AreWeakConstraints};
 ghost use Rattle.redlog_reader.specs.Grammar.{quantified_names};
 ghost use Rattle.formula_tree.specs.Names.{with_name};
 ghost use Rattle.formula_tree.specs.Resolving.{all_variables};

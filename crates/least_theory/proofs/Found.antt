@@ -12,10 +12,11 @@ use Rattle.formula_meaning.specs.Some.{Among, EachOf}
 use Rattle.formula_meaning.specs.Form.{coefficient}
 use Rattle.formula_meaning.specs.Shape.{IsQuantifierFree}
 use Rattle.formula_meaning.specs.Atom.{Atom, Compare, Congruent}
-use Rattle.formula_meaning.specs.Tree.{Tree, InContext}
+use Rattle.formula_meaning.specs.Tree.{Tree}
+use Rattle.formula_meaning.specs.Equivalence.{InContext}
 use Rattle.formula_meaning.proofs.Listed.{some_among}
 use Rattle.elimination_theory.specs.Atoms.{atoms_in}
-use Rattle.elimination_theory.specs.FieldsSamples.{IsLess}
+use Rattle.elimination_theory.specs.FieldsOrder.{IsLess}
 use Rattle.elimination_theory.proofs.FieldsMeet.{pos_positive}
 use Rattle.elimination_theory.proofs.Fractions.{less_at_most, less_less, at_most_at_most}
 use Rattle.sample_reference.specs.Values.{origin}
@@ -23,8 +24,10 @@ use Rattle.sample_reference.specs.Calculated.{root_of, atom_root, critical_value
 use Rattle.sample_reference.proofs.Critical.{roots_proper, from_atom}
 use Rattle.sample_reference.proofs.Leasts.{IsFirst, first_of, none_at_all}
 use Rattle.sample_reference.proofs.SamePoints.{some_same, none_some, abs_positive}
-use Rattle.least_theory.specs.Target.{TargetAt, IsUnbounded, IsFalseFarBelow, IsTrueFarBelow, HasLeast}
-use Rattle.least_theory.specs.Answer.{is_true_at, is_true_far, truth_by, true_values, found, IsLeastFraction, IsAnswer, Unbounded}
+use Rattle.least_theory.specs.Target.{TargetAt, IsUnbounded}
+use Rattle.least_theory.specs.WeakTargets.{IsFalseFarBelow, IsTrueFarBelow, HasLeast}
+use Rattle.least_theory.specs.Answer.{is_true_at, is_true_far, truth_by, true_values, found, IsAnswer, Unbounded}
+use Rattle.least_theory.specs.LeastFraction.{IsLeastFraction}
 use Rattle.least_theory.specs.Laws.{LeastIsFound}
 use Rattle.least_theory.proofs.Told.{told_at, told_far, far_map}
 use Rattle.least_theory.proofs.Roots.{least_root}

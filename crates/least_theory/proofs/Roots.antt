@@ -12,10 +12,13 @@ use Rattle.formula_meaning.specs.Form.{Form, value, coefficient, without, scale}
 use Rattle.formula_meaning.specs.Formula.{Yes, No, One, Not, And, Or, Impl, Repl, Equiv, Ex, All, none, also}
 use Rattle.formula_meaning.specs.Some.{Among}
 use Rattle.formula_meaning.specs.Every.{Every}
-use Rattle.formula_meaning.specs.Shape.{IsPlain, ArePlain, IsQuantifierFree, AreQuantifierFree, IsNegationNormal, AreNegationNormal}
-use Rattle.formula_meaning.specs.Atom.{Atom, Compare, Congruent, Relation, Equals, Differs, Below, AtMost, Above, AtLeast, AtomIn, opposite, mirrored}
+use Rattle.formula_meaning.specs.Shape.{IsQuantifierFree, AreQuantifierFree}
+use Rattle.formula_meaning.specs.Plain.{IsPlain, ArePlain, IsNegationNormal, AreNegationNormal}
+use Rattle.formula_meaning.specs.Atom.{Atom, Compare, Congruent, Relation, Equals, Differs, Below, AtMost, Above, AtLeast, mirrored}
+use Rattle.formula_meaning.specs.TheoryAtoms.{AtomIn, opposite}
 use Rattle.formula_meaning.specs.Answer.{Place, Exact, AboveBy, BelowBy, PlusInfinity, MinusInfinity, Periodic}
-use Rattle.formula_meaning.specs.Tree.{Tree, Trees, InContext, negation_normal}
+use Rattle.formula_meaning.specs.Tree.{Tree, Trees}
+use Rattle.formula_meaning.specs.Equivalence.{InContext, negation_normal}
 use Rattle.formula_meaning.proofs.EachAtom.{every_map}
 use Rattle.formula_meaning.proofs.Listed.{among_some}
 use Rattle.formula_meaning.proofs.NormalShape.{normal_form_shape, normal_form_quantifier_free, normal_form_every}
@@ -24,7 +27,7 @@ use Rattle.formula_meaning.proofs.TreeReplacing.{moved_of}
 use Rattle.elimination_theory.specs.declared.side.Side.TheVariants.{Lower}
 use Rattle.elimination_theory.specs.Atoms.{atoms_in}
 use Rattle.elimination_theory.specs.FieldsPoints.{ends_of, comparison_points, atom_points, form_over, divisor_of}
-use Rattle.elimination_theory.specs.FieldsSamples.{IsLess}
+use Rattle.elimination_theory.specs.FieldsOrder.{IsLess}
 use Rattle.elimination_theory.proofs.AtomsDecided.{atom_opposite}
 use Rattle.elimination_theory.proofs.BothTheories.{normal_form_true}
 use Rattle.elimination_theory.proofs.FieldsLine.{line_positive, line_negative}

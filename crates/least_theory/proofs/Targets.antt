@@ -5,15 +5,17 @@ use Rattle.std.specs.Prelude.{◌<ℤ◌}
 use Rattle.std.proofs.lemmas.Int.{ints}
 use Rattle.exact_numbers.specs.Frac.{Frac, IsLowest}
 use Rattle.formula_meaning.specs.Context.{Fields}
-use Rattle.formula_meaning.specs.Tree.{Tree, Equivalent}
-use Rattle.elimination_theory.specs.FieldsSamples.{IsLess}
+use Rattle.formula_meaning.specs.Tree.{Tree}
+use Rattle.formula_meaning.specs.Equivalence.{Equivalent}
+use Rattle.elimination_theory.specs.FieldsOrder.{IsLess}
 use Rattle.sample_reference.specs.Values.{origin}
 use Rattle.sample_reference.specs.Calculated.{is_less}
 use Rattle.sample_reference.proofs.CriticalSets.{same_least}
 use Rattle.sample_reference.proofs.Leasts.{Less, less_told}
 use Rattle.sample_reference.proofs.SamePoints.{some_same, abs_positive, abs_above}
-use Rattle.least_theory.specs.Target.{exs, HasLeast}
-use Rattle.least_theory.specs.Answer.{Found, Infeasible, Unbounded, At, least_of, IsLeastFraction, IsAnswer}
+use Rattle.least_theory.specs.WeakTargets.{exs, HasLeast}
+use Rattle.least_theory.specs.Answer.{Found, Infeasible, Unbounded, At, least_of, IsAnswer}
+use Rattle.least_theory.specs.LeastFraction.{IsLeastFraction}
 use Rattle.least_theory.specs.Laws.{TargetIsFound, AnswersExclude}
 use Rattle.least_theory.proofs.Told.{far_map}
 use Rattle.least_theory.proofs.WeakTargets.{there, least_along, targets_suit}

@@ -14,18 +14,21 @@ use Rattle.formula_meaning.specs.Formula.{Yes, No, One, Not, And, Or, Impl, Repl
 use Rattle.formula_meaning.specs.Truth.{AllTrue, SomeTrue}
 use Rattle.formula_meaning.specs.Every.{Every, EveryOf}
 use Rattle.formula_meaning.specs.Shape.{IsQuantifierFree, AreQuantifierFree}
-use Rattle.formula_meaning.specs.Atom.{Atom, Compare, Congruent, Relation, Equals, Differs, Below, AtMost, Above, AtLeast, Relates, Says, AtomIn}
-use Rattle.formula_meaning.specs.Tree.{Tree, Trees, TrueAt, InContext}
+use Rattle.formula_meaning.specs.Atom.{Atom, Compare, Congruent, Relation, Equals, Differs, Below, AtMost, Above, AtLeast, Relates, Says}
+use Rattle.formula_meaning.specs.TheoryAtoms.{AtomIn}
+use Rattle.formula_meaning.specs.Tree.{Tree, Trees, TrueAt}
+use Rattle.formula_meaning.specs.Equivalence.{InContext}
 use Rattle.formula_meaning.proofs.EachAtom.{every_map, every_eventually}
 use Rattle.formula_meaning.proofs.Relations.{relates_zero_mul, relates_along}
 use Rattle.formula_meaning.proofs.Values.{value_move}
-use Rattle.elimination_theory.specs.FieldsSamples.{IsLess}
+use Rattle.elimination_theory.specs.FieldsOrder.{IsLess}
 use Rattle.elimination_theory.proofs.FieldsMeet.{pos_positive}
 use Rattle.elimination_theory.proofs.Fractions.{less_at_most, less_less}
 use Rattle.atom_normal.specs.NormalForm.{holds}
 use Rattle.atom_normal.proofs.Relations.{chain, back, holds_so}
 use Rattle.sample_reference.specs.Values.{origin}
-use Rattle.least_theory.specs.Target.{TargetAt, FarBelow}
+use Rattle.least_theory.specs.Target.{TargetAt}
+use Rattle.least_theory.specs.WeakTargets.{FarBelow}
 use Rattle.least_theory.specs.Answer.{is_true_at, far_order, is_true_far, truth_by, all_by, some_by}
 
 -- ---- tests

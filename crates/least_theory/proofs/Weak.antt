@@ -7,9 +7,11 @@ use Rattle.formula_meaning.specs.Form.{Form, coefficient, without, scale}
 use Rattle.formula_meaning.specs.Formula.{Ex}
 use Rattle.formula_meaning.specs.Some.{Among}
 use Rattle.formula_meaning.specs.Every.{Every, EveryOf}
-use Rattle.formula_meaning.specs.Atom.{Atom, Compare, Congruent, Relation, Equals, Differs, Below, AtMost, Above, AtLeast, AtomIn, mirrored}
+use Rattle.formula_meaning.specs.Atom.{Atom, Compare, Congruent, Relation, Equals, Differs, Below, AtMost, Above, AtLeast, mirrored}
+use Rattle.formula_meaning.specs.TheoryAtoms.{AtomIn}
 use Rattle.formula_meaning.specs.Answer.{Place, Exact, AboveBy, BelowBy, PlusInfinity, MinusInfinity, Periodic, same_place}
-use Rattle.formula_meaning.specs.Tree.{Tree, InContext}
+use Rattle.formula_meaning.specs.Tree.{Tree}
+use Rattle.formula_meaning.specs.Equivalence.{InContext}
 use Rattle.formula_meaning.proofs.EachAtom.{every_map}
 use Rattle.formula_meaning.proofs.Listed.{flat_map_among, distinct_among}
 use Rattle.formula_meaning.proofs.ReplacedShape.{every_replaced}
@@ -18,11 +20,12 @@ use Rattle.elimination_theory.specs.declared.side.Side.TheVariants.{Lower}
 use Rattle.elimination_theory.specs.Atoms.{atoms_of}
 use Rattle.elimination_theory.specs.Substitution.{form_at, below_all, beyond, exactly}
 use Rattle.elimination_theory.specs.FieldsPoints.{ends_of, comparison_points, atom_points, field_points}
-use Rattle.elimination_theory.specs.FieldsSubstitution.{field_atom, field_substitution}
+use Rattle.elimination_theory.specs.FieldsSubstitution.{field_atom}
+use Rattle.elimination_theory.specs.FieldsTrees.{field_substitution}
 use Rattle.elimination_theory.specs.Elimination.{trees_at, field_elimination}
 use Rattle.elimination_theory.proofs.FieldsEliminated.{field_elimination_exact, field_elimination_tree}
 use Rattle.elimination_theory.proofs.SomeListed.{atoms_of_every, each_among}
-use Rattle.least_theory.specs.Target.{IsWeakRelation, IsWeak, exs}
+use Rattle.least_theory.specs.WeakTargets.{IsWeakRelation, IsWeak, exs}
 use Rattle.least_theory.specs.Laws.{IsWeakEquivalent, WeakStaysWeak}
 
 -- an exact place, or minus infinity

@@ -10,9 +10,10 @@ use Rattle.formula_meaning.specs.Point.{Point, Of, move}
 use Rattle.formula_meaning.specs.Form.{Form, value}
 use Rattle.formula_meaning.specs.Some.{Among}
 use Rattle.formula_meaning.specs.Every.{Every}
-use Rattle.formula_meaning.specs.Shape.{IsPlain}
+use Rattle.formula_meaning.specs.Plain.{IsPlain}
 use Rattle.formula_meaning.specs.Answer.{Place, Exact, AboveBy, BelowBy, PlusInfinity, MinusInfinity, Periodic, Holds, same_place}
-use Rattle.formula_meaning.specs.Tree.{Tree, TrueAt, Equivalent}
+use Rattle.formula_meaning.specs.Tree.{Tree, TrueAt}
+use Rattle.formula_meaning.specs.Equivalence.{Equivalent}
 use Rattle.formula_meaning.proofs.Listed.{among_flat_map, among_distinct}
 use Rattle.formula_meaning.proofs.Same.{place_same}
 use Rattle.formula_meaning.proofs.Values.{pos_mul}
@@ -20,9 +21,9 @@ use Rattle.formula_meaning.proofs.TreeReplacing.{moved_of}
 use Rattle.elimination_theory.specs.declared.side.Side.TheVariants.{Lower}
 use Rattle.elimination_theory.specs.Atoms.{atoms_of}
 use Rattle.elimination_theory.specs.FieldsPoints.{atom_points, field_points}
-use Rattle.elimination_theory.specs.FieldsSubstitution.{field_substitution}
-use Rattle.elimination_theory.specs.Substitution.{at_place}
-use Rattle.elimination_theory.specs.FieldsSamples.{IsLess}
+use Rattle.elimination_theory.specs.FieldsTrees.{field_substitution}
+use Rattle.elimination_theory.specs.AtPlace.{at_place}
+use Rattle.elimination_theory.specs.FieldsOrder.{IsLess}
 use Rattle.elimination_theory.proofs.AtomsDecided.{IsDecided}
 use Rattle.elimination_theory.proofs.Decided.{plain_decided}
 use Rattle.elimination_theory.proofs.Simple.{substitution_plain}
@@ -32,7 +33,8 @@ use Rattle.elimination_theory.proofs.FieldsBegin.{Begins, IsOfSide, cut_of, form
 use Rattle.elimination_theory.proofs.FieldsMeet.{begins_meets, pos_positive, positive_pos}
 use Rattle.elimination_theory.proofs.FieldsSuffice.{every_atom}
 use Rattle.elimination_theory.proofs.Fractions.{at_most_at_most}
-use Rattle.least_theory.specs.Target.{IsWeak, exs, TargetAt, IsInfeasible, IsUnbounded, IsLeast}
+use Rattle.least_theory.specs.Target.{TargetAt, IsInfeasible, IsUnbounded, IsLeast}
+use Rattle.least_theory.specs.WeakTargets.{IsWeak, exs}
 use Rattle.least_theory.specs.Laws.{WeakTargetsHaveLeast, WeakTargetsSuit}
 use Rattle.least_theory.proofs.Weak.{IsWeakPlace, weak_in_fields, points_weak, stays_weak}
 

@@ -1,9 +1,9 @@
 -- The least value of a name at which a formula without quantifiers is true, calculated: all other names are 0.
-use Rattle.std.specs.Prelude.{ℕ, suc, zero, ℤ, pos, negsuc, ◌+ℤ◌, ◌*ℤ◌, Bool, true, false, not, ◌&&◌, ◌||◌, List, filter, Option, Some, None, unsigned_abs, if◌then◌else◌}
+use Rattle.std.specs.Prelude.{ℕ, suc, zero, ℤ, pos, negsuc, ◌+ℤ◌, ◌*ℤ◌, Bool, true, false, not, ◌&&◌, ◌||◌, List, filter, Option, Some, None, if◌then◌else◌}
 use Rattle.std.specs.declared.cmp.Ordering.{Ordering}
 use Rattle.std.specs.declared.cmp.Ordering.TheVariants.{Less, Greater}
 use Rattle.std.specs.Ordering.{int_cmp}
-use Rattle.exact_numbers.specs.Frac.{Frac, IsProper, IsLowest}
+use Rattle.exact_numbers.specs.Frac.{Frac}
 use Rattle.formula_meaning.specs.Form.{coefficient}
 use Rattle.formula_meaning.specs.Formula.{Yes, No, One, Not, And, Or, Impl, Repl, Equiv, Ex, All, none, also}
 use Rattle.formula_meaning.specs.Atom.{Atom, Compare, Congruent}
@@ -12,7 +12,9 @@ use Rattle.elimination_theory.specs.Atoms.{atoms_in}
 use Rattle.atom_normal.specs.NormalForm.{holds}
 use Rattle.sample_reference.specs.Values.{origin}
 use Rattle.sample_reference.specs.Calculated.{critical_values, least_with}
-use Rattle.least_theory.specs.Target.{IsInfeasible, IsUnbounded, IsLeast, IsTrueFarBelow}
+use Rattle.least_theory.specs.Target.{IsInfeasible, IsUnbounded}
+use Rattle.least_theory.specs.WeakTargets.{IsTrueFarBelow}
+use Rattle.least_theory.specs.LeastFraction.{IsLeastFraction}
 
 -- ---- truth
 
@@ -77,12 +79,6 @@ abbrev pub least_of : ℕ → Tree → Found
 least_of z f = if truth_by (is_true_far z) f then Unbounded else found (least_with None (true_values z f))
 
 -- ---- what it says
-
--- the fraction, in lowest terms, is the least value
-pub record IsLeastFraction (z : ℕ) (f : Tree) (v : Frac) : Type 0 where
-  pub proper : IsProper v
-  pub lowest : IsLowest v
-  pub least : IsLeast z f origin v.numerator (unsigned_abs v.denominator)
 
 abbrev pub IsAnswer : ℕ → Tree → Found → Type 0
 IsAnswer z f Infeasible = IsInfeasible z f origin

@@ -2,11 +2,14 @@
 use Rattle.std.specs.Prelude.{◌≡◌, ℕ, ◌<◌, ℤ, ◌⊎◌, List}
 use Rattle.formula_meaning.specs.Context.{Fields}
 use Rattle.formula_meaning.specs.Point.{Point, Of}
-use Rattle.formula_meaning.specs.Shape.{IsPlain, IsQuantifierFree}
+use Rattle.formula_meaning.specs.Shape.{IsQuantifierFree}
+use Rattle.formula_meaning.specs.Plain.{IsPlain}
 use Rattle.formula_meaning.specs.Every.{Every}
-use Rattle.formula_meaning.specs.Tree.{Tree, InContext, Equivalent}
+use Rattle.formula_meaning.specs.Tree.{Tree}
+use Rattle.formula_meaning.specs.Equivalence.{InContext, Equivalent}
 use Rattle.sample_reference.specs.Values.{origin}
-use Rattle.least_theory.specs.Target.{IsWeak, exs, IsInfeasible, IsUnbounded, IsLeast, HasLeast}
+use Rattle.least_theory.specs.Target.{IsInfeasible, IsUnbounded, IsLeast}
+use Rattle.least_theory.specs.WeakTargets.{IsWeak, exs, HasLeast}
 use Rattle.least_theory.specs.Answer.{Found, least_of, IsAnswer}
 
 -- g is equivalent to f over the ordered fields, and is built by and and or alone from weak constraints

@@ -1,3 +1,5 @@
 pub mod Target
+pub mod WeakTargets
+pub mod LeastFraction
 pub mod Answer
 pub mod Laws

@@ -4,7 +4,8 @@ use Rattle.std.proofs.Math.IntN.{ℤ, pos}
 use Rattle.std.specs.Prelude.{slice_get}
 use Rattle.formula_meaning.specs.Form.{Form, Term, multiple, others, coefficient, without}
 use Rattle.formula_meaning.specs.Sorted.{AllAbove, IsRising}
-use Rattle.linear_forms.specs.Terms.{AllInLimit, IsLinear, IsCombination, IsQuotient}
+use Rattle.linear_forms.specs.Terms.{AllInLimit}
+use Rattle.linear_forms.specs.Combinations.{IsLinear, IsCombination, IsQuotient}
 use Rattle.formula_meaning.proofs.Sorted.{here, elsewhere, sorted_determined, without_sorted}
 use Rattle.exact_numbers.proofs.Order.{cancel}
 

@@ -7,7 +7,8 @@ use Rattle.exact_numbers.specs.Limit.{InLimit}
 use Rattle.exact_numbers.proofs.Ring.{ring, mul_zero, zero_mul, mul_one}
 use Rattle.formula_meaning.specs.Form.{Form, Term, total, multiple, coefficient, value}
 use Rattle.formula_meaning.specs.Sorted.{IsRising}
-use Rattle.linear_forms.specs.Terms.{PlaceWithin, PlacePasses, IsCombination}
+use Rattle.linear_forms.specs.Terms.{PlaceWithin, PlacePasses}
+use Rattle.linear_forms.specs.Combinations.{IsCombination}
 use Rattle.linear_forms.specs.Merging.{IsNext, IsPeeled, IsHandled, IsMerged}
 use Rattle.formula_meaning.proofs.Sorted.{multiple_above}
 use Rattle.linear_forms.proofs.Totals.{one_at, multiple_total, one_at_same, one_at_other, total_push}

@@ -3,7 +3,8 @@ use Rattle.std.proofs.Common.{◌≡◌, ℕ, List, [], ◌∷◌, ap, sym, ◌�
 use Rattle.std.proofs.Math.IntN.{ℤ, pos, negsuc, ◌+ℤ◌, ◌*ℤ◌}
 use Rattle.std.specs.Prelude.{int_div}
 use Rattle.std.proofs.lemmas.Int.{ints}
-use Rattle.exact_numbers.specs.Divides.{Divides, DividesAll, IsContent, content_of}
+use Rattle.exact_numbers.specs.Divides.{Divides, content_of}
+use Rattle.exact_numbers.specs.Division.{DividesAll, IsContent}
 use Rattle.exact_numbers.proofs.Ring.{ring, mul_zero, mul_one, one_mul, mul_assoc}
 use Rattle.exact_numbers.proofs.Divisibility.{one_divides, divides_along, divides_trans, mul_divides_mul, cancel_divides}
 use Rattle.exact_numbers.proofs.LeastMultiple.{exact_div}

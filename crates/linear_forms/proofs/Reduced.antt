@@ -17,7 +17,8 @@ use Rattle.formula_meaning.specs.Form.{Form, Term}
 use Rattle.linear_forms.specs.declared.form.VarId.{VarId}
 use Rattle.linear_forms.specs.Linear.{term_of, terms_of, IsDivided}
 use Rattle.formula_meaning.specs.Sorted.{AllAbove, IsRising, AllNonzero, IsSorted}
-use Rattle.linear_forms.specs.Terms.{AllInLimit, IsLinear}
+use Rattle.linear_forms.specs.Terms.{AllInLimit}
+use Rattle.linear_forms.specs.Combinations.{IsLinear}
 use Rattle.linear_forms.specs.Reduction.{quotients, quotient, residues, residue_form}
 use Rattle.linear_forms.proofs.Peeling.{terms_of-push}
 use Rattle.linear_forms.proofs.Steps.{terms_from}

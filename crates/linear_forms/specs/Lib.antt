@@ -1,4 +1,5 @@
 pub mod Terms
+pub mod Combinations
 pub mod Linear
 pub mod Merging
 pub mod Values

@@ -1,34 +1,11 @@
--- What makes a list of terms the terms of a linear form of the program, and which numbers a combination forms.
-use Rattle.std.specs.Prelude.{◌≡◌, ◌⊎◌, ℕ, ℤ, pos, ◌+ℤ◌, ◌*ℤ◌, List, [], ◌∷◌, Option, Some}
-use Rattle.exact_numbers.specs.Limit.{InLimit, PastLimit, checked}
+-- Which numbers the value of a form and a combination of forms pass through, and when one of them passes the limit.
+use Rattle.std.specs.Prelude.{◌⊎◌, ℕ, ℤ, pos, ◌+ℤ◌, ◌*ℤ◌, List, [], ◌∷◌, Option, Some}
+use Rattle.exact_numbers.specs.Limit.{PastLimit, checked}
 use Rattle.exact_numbers.specs.Frac.{◌>>=◌}
-use Rattle.formula_meaning.specs.Point.{Point}
-use Rattle.formula_meaning.specs.Sorted.{IsSorted}
 pub use Rattle.formula_meaning.specs.Form.{coefficients}
 pub use Rattle.formula_meaning.specs.Numbers.{AllInLimit}
 pub use Rattle.formula_meaning.specs.Combining.{AddWithin as PlaceWithin, AddPasses as PlacePasses, CombinesWithin, CombinePasses}
-use Rattle.formula_meaning.specs.Form.{Form, Term, total, value, coefficient}
-
--- a form as the program holds it: sorted, and each number within the limit
-pub record IsLinear (f : Form) : Type 0 where
-  pub sorted : IsSorted f
-  pub within : AllInLimit f.terms
-  pub constant_within : InLimit f.constant
-
--- r is a * f + b * g, as the program holds it
-pub record IsCombination (a : ℤ) (f : Form) (b : ℤ) (g r : Form) : Type 0 where
-  pub linear : IsLinear r
-  pub coefficients_add : (x : ℕ) → coefficient x r ≡ a *ℤ coefficient x f +ℤ b *ℤ coefficient x g
-  pub constants_add : r.constant ≡ a *ℤ f.constant +ℤ b *ℤ g.constant
-  pub values_add : (p : Point ℕ) → value r p ≡ a *ℤ value f p +ℤ b *ℤ value g p
-  pub within : CombinesWithin a f b g
-
--- each number times d is that of f
-pub record IsQuotient (f : Form) (d : ℤ) (r : Form) : Type 0 where
-  pub linear : IsLinear r
-  pub coefficients_scale : (x : ℕ) → d *ℤ coefficient x r ≡ coefficient x f
-  pub constant_scales : d *ℤ r.constant ≡ f.constant
-  pub values_scale : (p : Point ℕ) → d *ℤ value r p ≡ value f p
+use Rattle.formula_meaning.specs.Form.{Form, Term, total}
 
 -- the sum so far and the terms, product by product and sum by sum
 unfoldable pub total_steps : ℤ → List Term → (ℕ → ℤ) → Option ℤ

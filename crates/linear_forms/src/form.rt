@@ -1,9 +1,11 @@
 // A linear form: a sorted list of names with their coefficients, and a constant.
 ghost use Rattle.std.specs.Prelude.{◌≡◌, ℕ, pos, ◌<ℤ◌, [], ◌∷◌, IfOk, IfErr, IsErrOf, MatchOption, option_map, length, slice_get};
 ghost use Rattle.exact_numbers.specs.Limit.{InLimit};
-ghost use Rattle.exact_numbers.specs.Divides.{DividesAll, IsContent, content_of};
+ghost use Rattle.exact_numbers.specs.Divides.{content_of};
+ghost use Rattle.exact_numbers.specs.Division.{DividesAll, IsContent};
 ghost use Rattle.formula_meaning.specs.Form.{coefficient, value};
-ghost use Rattle.linear_forms.specs.Terms.{IsLinear, IsCombination, CombinePasses, IsQuotient, coefficients, value_steps, ValuePasses};
+ghost use Rattle.linear_forms.specs.Terms.{CombinePasses, coefficients, value_steps, ValuePasses};
+ghost use Rattle.linear_forms.specs.Combinations.{IsLinear, IsCombination, IsQuotient};
 ghost use Rattle.linear_forms.specs.Values.{number_at, point_of};
 ghost use Rattle.linear_forms.specs.Reduction.{quotient, residue_form};
 ghost use Rattle.linear_forms.specs.Equality.{form_eq, form_decides, form_writes};
@@ -34,7 +36,7 @@ pub struct Linear {
 
 impl Model for Linear {
     ghost use Rattle.formula_meaning.specs.Form.{Form};
-    ghost use Rattle.linear_forms.specs.Terms.{IsLinear};
+    ghost use Rattle.linear_forms.specs.Combinations.{IsLinear};
 
     ghost Value = { Form };
 

@@ -3,7 +3,8 @@ ghost use Rattle.std.specs.Prelude.{◌≡◌, ℤ, pos, ◌*ℤ◌, ◌<ℤ◌,
 ghost use Rattle.std.specs.List.{AllZip};
 ghost use Rattle.formula_meaning.specs.Form.{multiple};
 ghost use Rattle.exact_numbers.specs.Limit.{InLimit};
-ghost use Rattle.exact_numbers.specs.Divides.{DividesAll, IsContent, content_of};
+ghost use Rattle.exact_numbers.specs.Divides.{content_of};
+ghost use Rattle.exact_numbers.specs.Division.{DividesAll, IsContent};
 ghost use Rattle.formula_meaning.specs.Sorted.{IsRising};
 ghost use Rattle.linear_forms.specs.Terms.{AllInLimit, coefficients};
 ghost use Rattle.linear_forms.specs.Linear.{terms_of, IsDivided};

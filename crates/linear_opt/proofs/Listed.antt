@@ -4,7 +4,8 @@ use Rattle.std.proofs.Math.ListN.{drop_of_length-le}
 use Rattle.exact_numbers.specs.Frac.{Frac, IsProper}
 use Rattle.formula_meaning.specs.Some.{Among}
 use Rattle.formula_meaning.specs.Atom.{Atom}
-use Rattle.formula_meaning.specs.Tree.{Tree, InContext}
+use Rattle.formula_meaning.specs.Tree.{Tree}
+use Rattle.formula_meaning.specs.Equivalence.{InContext}
 use Rattle.formula_meaning.specs.Context.{Fields}
 use Rattle.formula_meaning.specs.Shape.{IsQuantifierFree}
 use Rattle.formula_meaning.proofs.Listed.{some_among, among_some}
@@ -24,7 +25,7 @@ use Rattle.sample_reference.specs.Calculated.{atom_root, with_root, critical_val
 use Rattle.sample_reference.proofs.Critical.{roots_proper, from_atom, to_atom}
 use Rattle.sample_reference.proofs.CriticalSets.{same_least, once_same}
 use Rattle.least_theory.specs.Answer.{truth_by, is_true_at, is_true_far, true_values, found, least_of, Found, Unbounded, IsAnswer}
-use Rattle.least_theory.specs.Target.{HasLeast}
+use Rattle.least_theory.specs.WeakTargets.{HasLeast}
 use Rattle.least_theory.proofs.Found.{among_filter, filter_among, filter_each, critical_lowest, least_found}
 use Rattle.linear_opt.specs.Least.{least_from}
 

@@ -9,7 +9,8 @@ use Rattle.qe_syntax.specs.declared.entries.PointEntry.{PointEntry}
 use Rattle.statement_syntax.specs.declared.grid.GridAxis.{GridAxis}
 use Rattle.statement_syntax.specs.Writable.{AreWritableAxes, IsWritableCommand, IsWritable}
 use Rattle.formula_tree.specs.Names.{with_name}
-use Rattle.formula_tree.specs.Resolving.{formula_variables, all_variables, names_after}
+use Rattle.formula_tree.specs.Resolving.{formula_variables, all_variables}
+use Rattle.formula_tree.specs.NamesAfter.{names_after}
 use Rattle.formula_tree.proofs.PlaceLaws.{after_distinct}
 use Rattle.redlog_reader.specs.Statement.{Spells}
 use Rattle.redlog_tokens.proofs.ProperTokens.{lexed_proper}
@@ -18,7 +19,8 @@ use Rattle.printed_formulas.specs.Round.{AreVariables}
 use Rattle.session_meaning.specs.declared.line.Line.{Line}
 use Rattle.session_meaning.specs.State.{State}
 use Rattle.session_meaning.specs.Grids.{lows}
-use Rattle.session_meaning.specs.Meaning.{variables, numbered, meaning, assumption_meaning, GivesFormula}
+use Rattle.session_meaning.specs.Meaning.{variables, numbered, meaning, assumption_meaning}
+use Rattle.session_meaning.specs.FormulaGiven.{GivesFormula}
 use Rattle.session_meaning.specs.Targets.{target_name, problem_names, problem_of}
 use Rattle.session_meaning.specs.Reply.{Answers}
 use Rattle.session_commands.proofs.NewNameLemmas.{answer_names_distinct, answer_names_variables}

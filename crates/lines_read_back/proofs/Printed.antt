@@ -13,8 +13,10 @@ use Rattle.qe_syntax.specs.Trees.{FormulaTree, FormulaTrees}
 use Rattle.statement_syntax.specs.Statements.{CommandTree, Echo, Nnf, Pnf, Dnf, Cnf, Simpl, Qe, Qea, Holds, Sample, Grid, Certify, Check, Least, Say, StatementTree}
 use Rattle.qe_syntax.specs.Writable.{IsWritableFormula, AreWritableFormulas}
 use Rattle.statement_syntax.specs.Writable.{IsWritableCommand}
-use Rattle.formula_tree.specs.Resolving.{BoundTrees, place, names_after, all_variables, resolve}
-use Rattle.formula_tree.specs.Causes.{most_height, IsAccepted as IsResolvable, IsUnbound, NamesFormulaAsTerm, IsNonlinear, Divides, CongruenceInFields, IsBadModulus, IsTooDeep, OverflowsInReading}
+use Rattle.formula_tree.specs.Resolving.{BoundTrees, place, all_variables, resolve}
+use Rattle.formula_tree.specs.NamesAfter.{names_after}
+use Rattle.formula_tree.specs.Causes.{most_height, IsUnbound, NamesFormulaAsTerm, IsNonlinear, Divides, CongruenceInFields, IsBadModulus, IsTooDeep, OverflowsInReading}
+use Rattle.formula_tree.specs.Accepted.{IsAccepted as IsResolvable}
 use Rattle.formula_tree.proofs.ResolvedHeight.{resolving_keeps_height}
 use Rattle.redlog_reader.specs.Statement.{IsDeep}
 use Rattle.redlog_tokens.specs.declared.level.TheConstants.{LEVEL_LIMIT}
@@ -28,8 +30,9 @@ use Rattle.printed_formulas.proofs.Echo.{deep_text_is_nesting}
 use Rattle.session_meaning.specs.declared.line.Line.TheVariants as line
 use Rattle.session_meaning.specs.declared.line.StatementError.TheVariants as error
 use Rattle.session_meaning.specs.State.{State}
-use Rattle.session_meaning.specs.FormulaAnswers.{negated_of, IsSimplification, IsCleanAnswer, IsCondition}
-use Rattle.session_meaning.specs.Meaning.{Meaning, Answer, OfFormula, OfText, GivesFormula, IsAllowed, MayGive, numbered, meaning}
+use Rattle.session_meaning.specs.FormulaAnswers.{negation_normal_of, IsSimplification, IsCleanAnswer, IsCondition}
+use Rattle.session_meaning.specs.Meaning.{Meaning, Answer, OfFormula, OfText, IsAllowed, MayGive, numbered, meaning}
+use Rattle.session_meaning.specs.FormulaGiven.{GivesFormula}
 use Rattle.session_meaning.specs.Uses.{Use}
 use Rattle.session_meaning.specs.Causes.{SomeFormula, IsAccepted}
 use Rattle.session_meaning.specs.Reply.{Tells, Answers}
@@ -82,7 +85,7 @@ module _ (z : State) (limit : ℕ) (u : Use) (m : Meaning) (f : FormulaTree) (gs
   resolved_low : height (read) ≤ most_height
   resolved_low = let e = resolving_keeps_height z.context z.bound z.names f in let flat : ¬ (most_height < height (read)) = (λ h. readable.flat (subst (λ n. most_height < n) e h)) in omega arith
 
-  negated_one : IsSessionFormula z.context (length z.names) (negated_of z f)
+  negated_one : IsSessionFormula z.context (length z.names) (negation_normal_of z f)
   negated_one = negated_formula z.context (length z.names) (read) resolved_one
 
   condition_formula : (gs : FormulaTrees) (t : Tree) → IsCondition z limit f gs t → IsSessionFormula z.context (length z.names) t
@@ -99,11 +102,11 @@ module _ (z : State) (limit : ℕ) (u : Use) (m : Meaning) (f : FormulaTree) (gs
 
   simplified_one : (gs : FormulaTrees) (t : Tree) → IsSimplification z f gs t → IsSessionFormula z.context (length z.names) t
   simplified_one gs t h =
-      let bound = all_below (length z.names) t (λ m l. h.quantified m (none_from (length z.names) (negated_of z f) m l negated_one.within.quantified)) in
+      let bound = all_below (length z.names) t (λ m l. h.quantified m (none_from (length z.names) (negation_normal_of z f) m l negated_one.within.quantified)) in
       record {
         normal = h.normal;
         within = record {
-          atoms = within_of_names z.context (length z.names) t h.normal bound (λ x m. free_below (length z.names) x (negated_of z f) negated_one.within.atoms (h.names x m));
+          atoms = within_of_names z.context (length z.names) t h.normal bound (λ x m. free_below (length z.names) x (negation_normal_of z f) negated_one.within.atoms (h.names x m));
           quantified = bound;
         };
         members = h.members;
@@ -116,7 +119,7 @@ module _ (z : State) (limit : ℕ) (u : Use) (m : Meaning) (f : FormulaTree) (gs
       record {
         normal = h.normal;
         within = record {
-          atoms = within_of_names z.context (length z.names) t h.normal bound (λ x m. free_below (length z.names) x (negated_of z f) negated_one.within.atoms (h.names x m));
+          atoms = within_of_names z.context (length z.names) t h.normal bound (λ x m. free_below (length z.names) x (negation_normal_of z f) negated_one.within.atoms (h.names x m));
           quantified = bound;
         };
         members = h.members;

@@ -18,7 +18,8 @@ use Rattle.session_meaning.specs.declared.line.Line.TheVariants as line
 use Rattle.session_meaning.specs.declared.line.StatementError.{StatementError}
 use Rattle.session_meaning.specs.declared.line.StatementError.TheVariants as error
 use Rattle.session_meaning.specs.State.{State}
-use Rattle.session_meaning.specs.Meaning.{meaning, numbered, MayGive, GivesFormula}
+use Rattle.session_meaning.specs.Meaning.{meaning, numbered, MayGive}
+use Rattle.session_meaning.specs.FormulaGiven.{GivesFormula}
 use Rattle.session_state.specs.Keeping.{IsSessionFormula}
 use Rattle.session_meaning.specs.Reply.{Reply}
 

@@ -5,8 +5,8 @@ use Rattle.std.specs.List.{AllByRecursion}
 use Rattle.formula_meaning.specs.Formula.{Yes, No, One, Not, And, Or, Impl, Repl, Equiv, Ex, All, also}
 use Rattle.formula_meaning.specs.declared.junction.Junction.TheVariants.{Conjunction, Disjunction}
 use Rattle.formula_meaning.specs.declared.quantifier.Quantifier.TheVariants.{Exists, ForAll}
-use Rattle.formula_meaning.specs.Fold.{turned_junction}
-use Rattle.formula_meaning.specs.Shape.{turned_quantifier}
+use Rattle.formula_meaning.specs.TurnedJunction.{turned_junction}
+use Rattle.formula_meaning.specs.Plain.{turned_quantifier}
 use Rattle.formula_meaning.specs.NegationNormal.{normal_forms, normal_forms_of_not, both}
 use Rattle.atom_normal.specs.declared.atoms.Atom.{Atom}
 use Rattle.atom_normal.specs.Atoms.{atom_of, IsWellFormed}

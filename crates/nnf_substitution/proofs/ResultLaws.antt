@@ -19,7 +19,8 @@ use Rattle.formula_meaning.specs.Tree.{Tree, Trees}
 use Rattle.formula_meaning.proofs.Same.{atom_same, both_true}
 use Rattle.elimination_theory.specs.Atoms.{atoms_in, atoms_of}
 use Rattle.elimination_theory.specs.BothTheories.{guard_of}
-use Rattle.elimination_theory.specs.Steps.{Result, normalised, kept, results, result_at, trees_left}
+use Rattle.elimination_theory.specs.Steps.{Result, normalised, kept, results, result_at}
+use Rattle.elimination_theory.specs.StepTheorems.{trees_left}
 use Rattle.elimination_theory.specs.Overflow.{FormWithin, PlaceWithin}
 use Rattle.formula_meaning.specs.Limits.{each, place_within}
 use Rattle.elimination_reference.specs.Limits.{atom_within}

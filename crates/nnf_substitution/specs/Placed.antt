@@ -10,7 +10,8 @@ use Rattle.formula_meaning.specs.Answer.{Place}
 use Rattle.formula_meaning.specs.Tree.{Tree, Trees}
 use Rattle.elimination_theory.specs.Atoms.{atoms_in, atoms_in_all, atoms_of}
 use Rattle.elimination_theory.specs.BothTheories.{guard_of}
-use Rattle.elimination_theory.specs.Steps.{atom_at, normalised, result_at, results, trees_left}
+use Rattle.elimination_theory.specs.Steps.{atom_at, normalised, result_at, results}
+use Rattle.elimination_theory.specs.StepTheorems.{trees_left}
 use Rattle.formula_meaning.specs.Limits.{each, place_within}
 use Rattle.elimination_reference.specs.Limits.{atom_within}
 use Rattle.atom_normal.specs.NormalForm.{normal_atom}

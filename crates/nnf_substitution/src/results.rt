@@ -1,6 +1,6 @@
 // What a step of elimination leaves of a formula at test points.
 ghost use Rattle.std.specs.Prelude.{◌≡◌, ◌∷◌, All, map, OnOk, IfOk, IfErr, MatchResult};
-ghost use Rattle.formula_meaning.specs.Tree.{InContext};
+ghost use Rattle.formula_meaning.specs.Equivalence.{InContext};
 ghost use Rattle.formula_meaning.specs.Fold.{append};
 ghost use Rattle.formula_meaning.specs.Form.{coefficient};
 ghost use Rattle.formula_meaning.specs.Atom.{form_of};

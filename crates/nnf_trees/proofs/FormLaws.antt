@@ -1,11 +1,13 @@
 -- The negation normal form at each way to make a formula.
 use Rattle.std.proofs.Common.{◌≡◌, refl, ap, ◌∙◌, sym, Bool, true, false, not, List, [], ◌∷◌, ◌++◌, map, ℕ, suc}
 use Rattle.std.specs.Prelude.{if◌then◌else◌}
-use Rattle.formula_meaning.specs.Shape.{quantified, turned_quantifier}
+use Rattle.formula_meaning.specs.Shape.{quantified}
+use Rattle.formula_meaning.specs.Plain.{turned_quantifier}
 use Rattle.formula_meaning.specs.declared.quantifier.Quantifier.TheVariants.{Exists, ForAll}
 use Rattle.formula_meaning.specs.declared.junction.Junction.TheVariants.{Conjunction, Disjunction}
 use Rattle.formula_meaning.specs.Formula.{Yes, No, One, Not, And, Or, Impl, Repl, Equiv, Ex, All, none, also}
-use Rattle.formula_meaning.specs.Fold.{joined, append, turned_junction}
+use Rattle.formula_meaning.specs.Fold.{joined, append}
+use Rattle.formula_meaning.specs.TurnedJunction.{turned_junction}
 use Rattle.formula_meaning.specs.NegationNormal.{both}
 use Rattle.formula_meaning.specs.Tree.{Tree, Trees}
 use Rattle.atom_normal.specs.NormalForm.{constant_tree, negated_normal}

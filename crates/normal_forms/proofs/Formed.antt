@@ -6,7 +6,8 @@ use Rattle.std.proofs.lemmas.List.{take_more, map-append}
 use Rattle.formula_meaning.specs.Context.{Context}
 use Rattle.formula_meaning.specs.Formula.{Formula, Formulas, Yes, No, One, Not, And, Or, Impl, Repl, Equiv, Ex, All, none, also}
 use Rattle.formula_meaning.specs.Atom.{Atom}
-use Rattle.formula_meaning.specs.Fold.{turned_junction, from_pieces}
+use Rattle.formula_meaning.specs.Fold.{from_pieces}
+use Rattle.formula_meaning.specs.TurnedJunction.{turned_junction}
 use Rattle.formula_meaning.specs.declared.junction.Junction.{Junction}
 use Rattle.formula_meaning.specs.declared.junction.Junction.TheVariants.{Conjunction, Disjunction}
 use Rattle.formula_meaning.specs.Shape.{IsQuantifierFree, AreQuantifierFree}
@@ -19,7 +20,7 @@ use Rattle.formula_tree.specs.Quantified.{has_quantifier, some_quantifier}
 use Rattle.formula_store.specs.declared.id.FormulaId.{FormulaId}
 use Rattle.formula_store.specs.Nodes.{tree, IsId}
 use Rattle.formula_store.proofs.Marked.{all_joined}
-use Rattle.simplified_formulas.specs.Pass.{ones}
+use Rattle.simplified_formulas.specs.AtomsFirst.{ones}
 use Rattle.clean_forms.specs.Ways.{dual, line_form, line_forms, form_of_lines}
 use Rattle.simplified_formulas.specs.AtomKit.{atom_kit}
 use Rattle.clean_forms.specs.Plain.{literals}

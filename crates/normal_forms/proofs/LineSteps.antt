@@ -16,7 +16,7 @@ use Rattle.formula_store.specs.declared.id.FormulaId.{FormulaId}
 use Rattle.formula_store.specs.Nodes.{tree, IsId}
 use Rattle.formula_store.proofs.Ordered.{same_id as same_number}
 use Rattle.formula_store.proofs.Same.{same_tree}
-use Rattle.simplified_formulas.specs.Atoms.{Kit}
+use Rattle.simplified_formulas.specs.Kit.{Kit}
 use Rattle.simplified_formulas.specs.AtomKit.{atom_kit}
 use Rattle.clean_forms.specs.Lines as clean
 use Rattle.clean_forms.specs.Lines.{insert_all, add_if, add_line_products, add_products, joined_lines}

@@ -10,7 +10,7 @@ use Rattle.atom_merging.specs.Computed.{Kept, IsNormalWithin}
 use Rattle.formula_tree.specs.declared.shape.Shape.{Shape}
 use Rattle.formula_store.specs.declared.id.FormulaId.{FormulaId}
 use Rattle.formula_store.specs.Nodes.{tree, IsId}
-use Rattle.simplified_formulas.specs.Atoms.{Kit}
+use Rattle.simplified_formulas.specs.Kit.{Kit}
 use Rattle.clean_forms.specs.Lines as clean
 
 -- the atom, where the formula is one

@@ -7,7 +7,8 @@ use Rattle.formula_meaning.specs.Context.{Context}
 use Rattle.formula_meaning.specs.Answer.{Place}
 use Rattle.formula_meaning.specs.Formula.{Ex, All as ForAll}
 use Rattle.formula_meaning.specs.Shape.{is_in}
-use Rattle.formula_meaning.specs.Tree.{Tree, InContext}
+use Rattle.formula_meaning.specs.Tree.{Tree}
+use Rattle.formula_meaning.specs.Equivalence.{InContext}
 use Rattle.elimination_theory.specs.Answers.{answers_of, zero_place}
 use Rattle.elimination_theory.specs.Steps.{results}
 use Rattle.formula_meaning.specs.Measured.{Outcome, stopped, done}

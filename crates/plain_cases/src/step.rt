@@ -1,6 +1,6 @@
 // One step of elimination for each branch, with the points that led there.
 ghost use Rattle.std.specs.Prelude.{◌≡◌, List, true, [], ◌∷◌, All, map, IfOk, IfErr, MatchResult};
-ghost use Rattle.formula_meaning.specs.Tree.{InContext};
+ghost use Rattle.formula_meaning.specs.Equivalence.{InContext};
 ghost use Rattle.elimination_theory.specs.Atoms.{atoms_of};
 ghost use Rattle.elimination_theory.specs.BothTheories.{IsPlaceIn};
 ghost use Rattle.formula_meaning.specs.Limits.{each};

@@ -5,14 +5,16 @@ use Rattle.std.specs.declared.result.Result.TheVariants.{Ok, Err}
 use Rattle.formula_meaning.specs.declared.quantifier.Quantifier.TheVariants.{Exists, ForAll}
 use Rattle.formula_meaning.specs.Context.{Context}
 use Rattle.formula_meaning.specs.Formula.{One, none, also}
-use Rattle.formula_meaning.specs.Fold.{append, joined, fold_list, turned_junction}
+use Rattle.formula_meaning.specs.Fold.{append, joined, fold_list}
+use Rattle.formula_meaning.specs.TurnedJunction.{turned_junction}
 use Rattle.formula_meaning.specs.declared.junction.Junction.{Junction}
 use Rattle.formula_meaning.specs.declared.junction.Junction.TheVariants.{Disjunction, Conjunction}
 use Rattle.formula_meaning.specs.Shape.{is_in, quantified}
 use Rattle.formula_meaning.specs.Sizes.{nodes}
 use Rattle.formula_meaning.specs.Tree.{Tree, Trees}
 use Rattle.atom_normal.specs.NormalForm.{constant_tree, negated_normal, IsNormal}
-use Rattle.formula_meaning.specs.Measured.{Outcome, stopped, done, then_of, Counted, ◌>>=◌, pay, Gives}
+use Rattle.formula_meaning.specs.Measured.{Outcome, stopped, done, then_of, Counted, ◌>>=◌, pay}
+use Rattle.formula_meaning.specs.Giving.{Gives}
 use Rattle.formula_meaning.specs.Every.{Every}
 use Rattle.elimination_reference.specs.Theorems.{IsAnswerTo}
 use Rattle.elimination_reference.proofs.Sound.{reference_exact}

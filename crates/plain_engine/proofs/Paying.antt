@@ -13,11 +13,13 @@ use Rattle.formula_meaning.specs.Context.{Context, Fields, Integers}
 use Rattle.formula_meaning.specs.Sizes.{nodes}
 use Rattle.formula_meaning.specs.Some.{Among, EachOf}
 use Rattle.formula_meaning.specs.Answer.{Place}
-use Rattle.formula_meaning.specs.Tree.{Tree, Trees, InContext}
+use Rattle.formula_meaning.specs.Tree.{Tree, Trees}
+use Rattle.formula_meaning.specs.Equivalence.{InContext}
 use Rattle.elimination_theory.specs.declared.side.Side.TheVariants.{Lower}
 use Rattle.elimination_theory.specs.Atoms.{atoms_in, atoms_of}
 use Rattle.elimination_theory.specs.BothTheories.{test_points, IsPlaceIn}
-use Rattle.elimination_theory.specs.Steps.{Result as Left, step, trees_left}
+use Rattle.elimination_theory.specs.Steps.{Result as Left, step}
+use Rattle.elimination_theory.specs.StepTheorems.{trees_left}
 use Rattle.elimination_theory.proofs.BothSubstitutions.{place_in, point_suits}
 use Rattle.atom_normal.specs.NormalForm.{normal_atom}
 use Rattle.formula_meaning.specs.Limits.{each, is_within}

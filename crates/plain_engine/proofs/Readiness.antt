@@ -7,11 +7,12 @@ use Rattle.formula_meaning.specs.Context.{Context}
 use Rattle.formula_meaning.specs.Every.{Every, EveryOf}
 use Rattle.formula_meaning.specs.Fold.{joined}
 use Rattle.formula_meaning.specs.Some.{EachOf}
-use Rattle.formula_meaning.specs.Atom.{AtomIn}
+use Rattle.formula_meaning.specs.TheoryAtoms.{AtomIn}
 use Rattle.formula_meaning.specs.Tree.{Tree, Trees}
 use Rattle.formula_meaning.proofs.NormalShape.{normal_form_shape}
 use Rattle.atom_normal.specs.NormalForm.{IsNormal, negated_normal}
-use Rattle.formula_meaning.specs.Measured.{done, Gives, Outcome}
+use Rattle.formula_meaning.specs.Measured.{done, Outcome}
+use Rattle.formula_meaning.specs.Giving.{Gives}
 use Rattle.elimination_reference.specs.Reference.{Branch, branch_trees, branches, normal_tree}
 use Rattle.elimination_reference.proofs.Always.{gives_then}
 use Rattle.elimination_reference.proofs.Branches.{IsBranch}

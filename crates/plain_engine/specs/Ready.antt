@@ -1,7 +1,7 @@
 -- Formulas for which the reference elimination is exact.
 use Rattle.formula_meaning.specs.Context.{Context}
 use Rattle.formula_meaning.specs.Every.{Every, EveryOf}
-use Rattle.formula_meaning.specs.Shape.{IsNegationNormal, AreNegationNormal}
+use Rattle.formula_meaning.specs.Plain.{IsNegationNormal, AreNegationNormal}
 use Rattle.formula_meaning.specs.Tree.{Tree, Trees}
 use Rattle.atom_normal.specs.NormalForm.{IsNormal}
 

@@ -1,7 +1,7 @@
 // The test points of a branch, paid for before a branch is formed at them.
 ghost use Rattle.std.specs.Prelude.{◌≡◌, All, map, IfOk, IfErr};
 ghost use Rattle.formula_meaning.specs.Context.{Fields, Integers};
-ghost use Rattle.formula_meaning.specs.Tree.{InContext};
+ghost use Rattle.formula_meaning.specs.Equivalence.{InContext};
 ghost use Rattle.elimination_theory.specs.Atoms.{atoms_of};
 ghost use Rattle.elimination_reference.specs.Reference.{full_step};
 ghost use Rattle.atom_normal.specs.Atoms.{atom_of, context_of, IsWellFormed};

@@ -1,7 +1,7 @@
 ghost use Rattle.std.specs.Prelude.{◌≡◌, All, map, IfOk};
 ghost use Rattle.formula_meaning.specs.Every.{EveryOf};
-ghost use Rattle.formula_meaning.specs.Atom.{AtomIn};
-ghost use Rattle.formula_meaning.specs.Tree.{InContext};
+ghost use Rattle.formula_meaning.specs.TheoryAtoms.{AtomIn};
+ghost use Rattle.formula_meaning.specs.Equivalence.{InContext};
 ghost use Rattle.elimination_theory.specs.Atoms.{atoms_of};
 ghost use Rattle.atom_normal.specs.Atoms.{atom_of, context_of, IsWellFormed};
 ghost use Rattle.elimination_reference.specs.Reference.{full_step, one_step, steps};

@@ -18,7 +18,8 @@ use Rattle.linear_forms.specs.Terms.{value_steps, total_steps}
 use Rattle.linear_forms.specs.Reduction.{quotient, residue_form}
 use Rattle.atom_normal.specs.NormalForm.{normal_atom}
 use Rattle.formula_meaning.specs.Measured.{done}
-use Rattle.sample_reference.specs.Sample.{closed_sample, reference_sample}
+use Rattle.sample_reference.specs.Sample.{reference_sample}
+use Rattle.sample_reference.specs.TrueSample.{closed_sample}
 
 abbrev atom : Relation → Form → Tree
 atom r f = One (Compare r f)

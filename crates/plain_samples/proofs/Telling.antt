@@ -7,7 +7,8 @@ use Rattle.std.specs.declared.result.Result.TheVariants.{Ok, Err}
 use Rattle.exact_numbers.specs.declared.fraction.Fraction.{Fraction}
 use Rattle.formula_meaning.specs.Context.{Context}
 use Rattle.elimination_theory.specs.Answers.{Step}
-use Rattle.formula_meaning.specs.Measured.{Outcome, stopped, done, then_of, Gives}
+use Rattle.formula_meaning.specs.Measured.{Outcome, stopped, done, then_of}
+use Rattle.formula_meaning.specs.Giving.{Gives}
 use Rattle.elimination_reference.specs.Reference.{Branch}
 use Rattle.elimination_reference.specs.Sample.{first_true}
 use Rattle.linear_forms.specs.declared.form.VarId.{VarId}

@@ -17,7 +17,8 @@ use Rattle.formula_meaning.specs.Sorted.{AllAbove, IsRising, AllNonzero}
 use Rattle.formula_meaning.proofs.Same.{and_left, and_right, both_true}
 use Rattle.formula_meaning.specs.Limits.{each, is_within}
 use Rattle.elimination_reference.specs.PutIn.{terms_kept, terms_put, terms_out, form_put, form_put_within}
-use Rattle.linear_forms.specs.Terms.{AllInLimit, IsLinear, total_steps, value_steps}
+use Rattle.linear_forms.specs.Terms.{AllInLimit, total_steps, value_steps}
+use Rattle.linear_forms.specs.Combinations.{IsLinear}
 use Rattle.linear_forms.specs.Values.{Numbers, number_at, point_of}
 use Rattle.linear_forms.proofs.Steps.{value_total_none, value_product_none, value_last}
 use Rattle.test_points.proofs.Ended.{first_false}

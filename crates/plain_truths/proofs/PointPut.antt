@@ -9,7 +9,8 @@ use Rattle.formula_meaning.specs.Sizes.{nodes}
 use Rattle.formula_meaning.specs.Tree.{Tree, TrueAt}
 use Rattle.formula_meaning.proofs.NormalShape.{normal_form_shape}
 use Rattle.atom_normal.specs.NormalForm.{IsNormal, negated_normal, constant_tree}
-use Rattle.formula_meaning.specs.Measured.{Outcome, done, then_of, Gives, pay, within}
+use Rattle.formula_meaning.specs.Measured.{Outcome, done, then_of, pay, within}
+use Rattle.formula_meaning.specs.Giving.{Gives}
 use Rattle.elimination_reference.specs.PutIn.{put_in, tree_put_within}
 use Rattle.elimination_reference.specs.Reference.{Branch, together, branches, normal_tree, reference}
 use Rattle.elimination_reference.specs.Sample.{reference_at}

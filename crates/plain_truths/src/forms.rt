@@ -1,9 +1,9 @@
 // Forms and atoms with the numbers of a point for the names that no quantifier around them binds.
 ghost use Rattle.std.specs.Prelude.{◌≡◌, true, pos, ◌<ℤ◌, MatchResult, IfOk};
-ghost use Rattle.formula_meaning.specs.Atom.{AtomIn};
+ghost use Rattle.formula_meaning.specs.TheoryAtoms.{AtomIn};
 ghost use Rattle.elimination_reference.specs.PutIn.{form_put_within};
 ghost use Rattle.atom_normal.specs.Atoms.{atom_of, context_of, IsWellFormed};
-ghost use Rattle.linear_forms.specs.Terms.{IsLinear};
+ghost use Rattle.linear_forms.specs.Combinations.{IsLinear};
 ghost use Rattle.linear_forms.specs.Values.{point_of};
 ghost use Rattle.linear_forms.specs.Linear.{terms_of};
 ghost use Rattle.nnf_substitution.specs.Placed.{Fails};

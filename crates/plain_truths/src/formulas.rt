@@ -1,9 +1,9 @@
 // Formulas with a point put in.
 ghost use Rattle.std.specs.Prelude.{◌≡◌, true, [], OnOk, IfOk, IfErr, MatchResult};
-ghost use Rattle.formula_meaning.specs.Atom.{AtomIn};
+ghost use Rattle.formula_meaning.specs.TheoryAtoms.{AtomIn};
 ghost use Rattle.formula_meaning.specs.Every.{Every, EveryOf};
 ghost use Rattle.formula_meaning.specs.Point.{Of};
-ghost use Rattle.formula_meaning.specs.Tree.{InContext};
+ghost use Rattle.formula_meaning.specs.Equivalence.{InContext};
 ghost use Rattle.elimination_reference.specs.PutIn.{tree_put_within, trees_put_within, put_in};
 ghost use Rattle.elimination_reference.specs.Reference.{normal_tree};
 ghost use Rattle.elimination_reference.specs.Theorems.{IsPutIn};

@@ -16,8 +16,9 @@ use Rattle.exact_numbers.proofs.FractionRule.{lowest_proper}
 use Rattle.point_grid.specs.declared.axis.Axis.{Axis}
 use Rattle.point_grid.specs.declared.scale.Scale.{Scale}
 use Rattle.point_grid.specs.Counts.{count_of}
-use Rattle.point_grid.specs.Scales.{IsWithin}
-use Rattle.point_grid.specs.Grids.{lowest_of, over, scale_of, IsRising, AxisPasses, AxisFits}
+use Rattle.point_grid.specs.ScaleWithin.{IsWithin}
+use Rattle.point_grid.specs.Grids.{lowest_of, over, scale_of, AxisPasses, AxisFits}
+use Rattle.point_grid.specs.Steps.{IsRising}
 
 pub count_below : (span : ℤ) (t : ℕ) → span <ℤ pos 0 → count_of span t ≡ 0
 unfolding count_of

@@ -12,7 +12,8 @@ use Rattle.exact_numbers.proofs.Divisibility.{divides_same, divides_trans, divis
 use Rattle.exact_numbers.proofs.LeastMultiple.{lcm_is}
 use Rattle.exact_numbers.proofs.FractionRule.{lowest_proper}
 use Rattle.point_grid.specs.declared.axis.Axis.{Axis}
-use Rattle.point_grid.specs.Grids.{lowest_of, multiple_with, multiple_of, common, IsRising, HasSteps}
+use Rattle.point_grid.specs.Grids.{lowest_of, multiple_with, multiple_of, common}
+use Rattle.point_grid.specs.Steps.{IsRising, HasSteps}
 
 -- n is a positive multiple of m
 pub record Grows (m n : ℤ) : Type 0 where

@@ -8,7 +8,8 @@ use Rattle.std.proofs.lemmas.List.{length-map}
 use Rattle.std.proofs.lemmas.Option.{slice_get-map}
 use Rattle.point_grid.specs.declared.scale.Scale.{Scale}
 use Rattle.point_grid.specs.Scales.{run_of, numbers_of, number_of, put, choices, choice, size}
-use Rattle.point_grid.specs.Frames.{Frame, point_over, points_of, point_at}
+use Rattle.point_grid.specs.Frames.{Frame, point_over, points_of}
+use Rattle.point_grid.specs.FramePoints.{point_at}
 
 suc_times : (i t : ℕ) → suc i * t ≡ t + i * t
 suc_times i t = omega arith

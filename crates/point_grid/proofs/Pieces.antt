@@ -15,8 +15,10 @@ use Rattle.formula_store.specs.Truths.{Tells, SomeAtomPasses}
 use Rattle.qe_parallel.specs.Fanned.{AnswerAll, AreAnswers}
 use Rattle.qe_parallel.proofs.Runs.{begun, together}
 use Rattle.point_grid.specs.Scales.{choice, size}
-use Rattle.point_grid.specs.Frames.{Frame, point_at, points_of}
-use Rattle.point_grid.specs.Truths.{Task, IsTruthAt, IsTruthList, AreRun, SomePointPasses, start_of}
+use Rattle.point_grid.specs.Frames.{Frame, points_of}
+use Rattle.point_grid.specs.FramePoints.{point_at}
+use Rattle.point_grid.specs.Truths.{Task, IsTruthAt, IsTruthList, AreRun, start_of}
+use Rattle.point_grid.specs.PointPasses.{SomePointPasses}
 use Rattle.point_grid.proofs.Numbering.{points_are_counted, point_place}
 
 -- ---- one point

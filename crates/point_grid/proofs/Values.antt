@@ -14,7 +14,8 @@ use Rattle.exact_numbers.proofs.LeastMultiple.{exact_div, lcm_is}
 use Rattle.exact_numbers.proofs.FractionRule.{lowest_proper, lowest_value}
 use Rattle.point_grid.specs.declared.axis.Axis.{Axis}
 use Rattle.point_grid.specs.Counts.{count_of}
-use Rattle.point_grid.specs.Grids.{lowest_of, over, span_of, scale_of, multiple_with, multiple_of, common, IsRising}
+use Rattle.point_grid.specs.Grids.{lowest_of, over, span_of, scale_of, multiple_with, multiple_of, common}
+use Rattle.point_grid.specs.Steps.{IsRising}
 use Rattle.point_grid.specs.Laws.{HasValues, fraction_over}
 use Rattle.point_grid.proofs.Multiples.{steps, with_grows, of_grows}
 use Rattle.point_grid.proofs.Counting.{step_positive, count_is}

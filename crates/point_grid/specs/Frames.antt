@@ -1,9 +1,8 @@
 -- Scales over one denominator, and their points.
-use Rattle.std.specs.Prelude.{◌≡◌, ℕ, ◌≤◌, ℤ, pos, ◌<ℤ◌, List, map, unsigned_abs}
-use Rattle.std.specs.List.{AllByRecursion}
+use Rattle.std.specs.Prelude.{ℕ, ℤ, pos, List, map, unsigned_abs}
 use Rattle.formula_meaning.specs.Point.{Point}
 use Rattle.point_grid.specs.declared.scale.Scale.{Scale}
-use Rattle.point_grid.specs.Scales.{IsWithin, choices, choice, size}
+use Rattle.point_grid.specs.Scales.{choices}
 
 -- scales, whose numbers stand over this denominator
 pub record Frame : Type 0 where
@@ -18,17 +17,6 @@ point_over denominator numbers = record { at = numbers; below = unsigned_abs den
 abbrev pub points_of : Frame → List (Point ℕ)
 points_of f = map (point_over f.denominator) (choices (λ _. pos 0) f.scales)
 
--- the point with this index
-abbrev pub point_at : Frame → ℕ → Point ℕ
-point_at f index = point_over f.denominator (choice (λ _. pos 0) f.scales index)
-
 -- so many points at most has a grid
 abbrev pub most_points : ℕ
 most_points = 1000000
-
--- the numbers are within the limit, and there are not too many points, which are counted
-pub record IsFrame (f : Frame) (points : ℕ) : Type 0 where
-  pub positive : pos 0 <ℤ f.denominator
-  pub within : AllByRecursion IsWithin f.scales
-  pub counted : points ≡ size f.scales
-  pub few : points ≤ most_points

@@ -1,9 +1,9 @@
 -- The grid of axes.
-use Rattle.std.specs.Prelude.{◌⊎◌, ℕ, ◌<◌, ℤ, pos, ◌-ℤ◌, ◌<ℤ◌, List, [], ◌∷◌, map, unsigned_abs}
+use Rattle.std.specs.Prelude.{◌⊎◌, ◌<◌, ℤ, pos, ◌-ℤ◌, List, [], ◌∷◌, map, unsigned_abs}
 use Rattle.std.specs.List.{AllByRecursion}
 use Rattle.exact_numbers.specs.declared.fraction.Fraction.{Fraction}
 use Rattle.exact_numbers.specs.Limit.{InLimit, PastLimit}
-use Rattle.exact_numbers.specs.Divides.{Divides, lcm_of}
+use Rattle.exact_numbers.specs.Divides.{lcm_of}
 use Rattle.exact_numbers.specs.Frac.{Frac, lowest, scaled}
 use Rattle.formula_meaning.specs.Some.{SomeOf}
 use Rattle.point_grid.specs.declared.axis.Axis.{Axis}
@@ -51,14 +51,6 @@ scale_of m a = record {
 abbrev pub grid_of : List Axis → Frame
 grid_of axes = record { denominator = common axes; scales = map (scale_of (common axes)) axes }
 
--- the step is positive
-abbrev pub IsRising : Axis → Type 0
-IsRising a = pos 0 <ℤ a.step.numerator
-
--- the number of the axis' name
-abbrev pub name_of : Axis → ℕ
-name_of a = a.name.number
-
 -- a numerator over the denominator, or the difference of the ends, passes the limit
 pub record AxisPasses (m : ℤ) (a : Axis) : Type 0 where
   pub cause : PastLimit (over m a.low) ⊎ (PastLimit (over m a.high) ⊎ (PastLimit (over m a.step) ⊎ PastLimit (span_of m a)))
@@ -83,8 +75,3 @@ pub record GridFits (axes : List Axis) : Type 0 where
 pub record HasTooMany (axes : List Axis) : Type 0 where
   pub fits : GridFits axes
   pub many : most_points < size (grid_of axes).scales
-
--- the axis has a positive step, of which the denominator is a multiple of the one in lowest terms
-pub record HasSteps (m : ℤ) (a : Axis) : Type 0 where
-  pub rising : IsRising a
-  pub multiple : Divides (lowest_of a.step).denominator m

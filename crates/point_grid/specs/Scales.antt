@@ -1,6 +1,5 @@
 -- The points whose numbers run along scales.
-use Rattle.std.specs.Prelude.{ℕ, zero, suc, ◌*◌, ◌/◌, ◌%◌, ◌<◌, ◌^◌, ℤ, pos, ◌+ℤ◌, List, [], ◌∷◌, flat_map, nat_eq, if◌then◌else◌}
-use Rattle.exact_numbers.specs.Limit.{InLimit}
+use Rattle.std.specs.Prelude.{ℕ, zero, suc, ◌*◌, ◌/◌, ◌%◌, ℤ, pos, ◌+ℤ◌, List, [], ◌∷◌, flat_map, nat_eq, if◌then◌else◌}
 use Rattle.point_grid.specs.declared.scale.Scale.{Scale}
 
 -- so many numbers, from the first on, each one step above the one before it
@@ -34,8 +33,3 @@ number_of s index = s.low +ℤ pos (index * s.step)
 unfoldable pub choice : (ℕ → ℤ) → List Scale → ℕ → ℕ → ℤ
 choice numbers [] index = numbers
 choice numbers (s ∷ scales) index = choice (put numbers s.name.number (number_of s (index / size scales))) scales (index % size scales)
-
--- each number of the scale is within the limit, as it is above the first one
-pub record IsWithin (s : Scale) : Type 0 where
-  pub above : (index : ℕ) → index < s.count → index * s.step < 2 ^ 127
-  pub number : (index : ℕ) → index < s.count → InLimit (number_of s index)

@@ -1,33 +1,21 @@
 -- The truths of a formula at the points of a grid.
-use Rattle.std.specs.Prelude.{◌≡◌, ℕ, ◌+◌, ◌*◌, ◌<◌, min, pos, Bool, List, Some, length, slice_get}
-use Rattle.formula_meaning.specs.Atom.{Atom, form_of}
-use Rattle.formula_meaning.specs.Formula.{One}
+use Rattle.std.specs.Prelude.{◌≡◌, ℕ, ◌+◌, ◌*◌, min, Bool, List, Some, length, slice_get}
 use Rattle.formula_meaning.specs.Point.{Point}
 use Rattle.formula_meaning.specs.Shape.{IsQuantifierFree}
-use Rattle.formula_meaning.specs.Sizes.{subtrees}
-use Rattle.formula_meaning.specs.Some.{Among}
 use Rattle.formula_meaning.specs.Tree.{Tree}
-use Rattle.linear_forms.specs.Terms.{ValuePasses}
 use Rattle.formula_tree.specs.declared.shape.Shape.{Shape}
 use Rattle.formula_store.specs.declared.id.FormulaId.{FormulaId}
 use Rattle.formula_store.specs.Nodes.{tree, IsId}
 use Rattle.formula_store.specs.Truths.{Tells, IsWholeWhereAsked}
 use Rattle.qe_parallel.specs.Fanned.{AnswerAll}
-use Rattle.point_grid.specs.Scales.{choice, size}
-use Rattle.point_grid.specs.Frames.{Frame, point_at}
+use Rattle.point_grid.specs.Scales.{size}
+use Rattle.point_grid.specs.Frames.{Frame}
+use Rattle.point_grid.specs.FramePoints.{point_at}
 
 -- a truth for each point, in their order
 pub record IsTruthList (f : Tree) (points : List (Point ℕ)) (truths : List Bool) : Type 0 where
   pub count : length truths ≡ length points
   pub each : (i : ℕ) (p : Point ℕ) (b : Bool) → slice_get points i ≡ Some p → slice_get truths i ≡ Some b → Tells b f p
-
--- a number formed for the value of an atom of the formula passes the limit at a point of the grid
-pub record SomePointPasses (f : Tree) (grid : Frame) : Type 0 where
-  pub index : ℕ
-  pub inside : index < size grid.scales
-  pub atom : Atom
-  pub among : Among (subtrees f) (One atom)
-  pub passes : ValuePasses (form_of atom) (choice (λ _. pos 0) grid.scales index) grid.denominator
 
 -- ---- pieces of the work
 

@@ -19,8 +19,9 @@ pub struct Axis {
 }
 
 impl Axis {
-    ghost use Rattle.point_grid.specs.Scales.{IsWithin};
-    ghost use Rattle.point_grid.specs.Grids.{multiple_with, lowest_of, scale_of, IsRising, AxisPasses, AxisFits};
+    ghost use Rattle.point_grid.specs.ScaleWithin.{IsWithin};
+    ghost use Rattle.point_grid.specs.Grids.{multiple_with, lowest_of, scale_of, AxisPasses, AxisFits};
+    ghost use Rattle.point_grid.specs.Steps.{IsRising};
 
     // The least common multiple of a number and the denominators in lowest terms, or `None` exactly where it passes 2^127 - 1.
     pub(crate) fn multiple_with(&self, multiple: i128) -> Option<i128>

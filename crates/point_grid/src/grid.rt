@@ -25,7 +25,8 @@ pub struct Grid {
 }
 
 impl Model for Grid {
-    ghost use Rattle.point_grid.specs.Frames.{Frame, IsFrame};
+    ghost use Rattle.point_grid.specs.Frames.{Frame};
+    ghost use Rattle.point_grid.specs.FramePoints.{IsFrame};
 
     ghost Value = { Frame };
 
@@ -36,7 +37,8 @@ impl Model for Grid {
 
 impl Grid {
     ghost use Rattle.point_grid.specs.Frames.{most_points};
-    ghost use Rattle.point_grid.specs.Grids.{grid_of, name_of, IsRising, GridPasses, GridFits, HasTooMany};
+    ghost use Rattle.point_grid.specs.Grids.{grid_of, GridPasses, GridFits, HasTooMany};
+    ghost use Rattle.point_grid.specs.Steps.{name_of, IsRising};
 
     /// The grid of the axes, over the least common multiple of all denominators in lowest terms. `Overflow` comes exactly where
     /// that multiple, a numerator over it or the difference of the ends of an axis passes 2^127 - 1, `Points` exactly where none

@@ -6,8 +6,10 @@ ghost use Rattle.formula_meaning.specs.Point.{Point};
 ghost use Rattle.formula_meaning.specs.Tree.{Tree};
 ghost use Rattle.point_grid.specs.declared.axis.Axis.{Axis};
 ghost use Rattle.point_grid.specs.Scales.{size};
-ghost use Rattle.point_grid.specs.Frames.{Frame, points_of, point_at};
-ghost use Rattle.point_grid.specs.Grids.{common, IsRising, GridFits, GridPasses};
+ghost use Rattle.point_grid.specs.Frames.{Frame, points_of};
+ghost use Rattle.point_grid.specs.FramePoints.{point_at};
+ghost use Rattle.point_grid.specs.Grids.{common, GridFits, GridPasses};
+ghost use Rattle.point_grid.specs.Steps.{IsRising};
 ghost use Rattle.point_grid.specs.Truths.{IsTruthList};
 ghost use Rattle.point_grid.specs.Laws.{HasValues};
 

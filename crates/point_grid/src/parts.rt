@@ -3,8 +3,10 @@ ghost use Rattle.std.specs.Prelude.{◌≡◌, ◌-◌, ◌^◌, pos, ◌<ℤ◌
 ghost use Rattle.std.specs.List.{AllByRecursion};
 ghost use Rattle.exact_numbers.specs.Limit.{checked};
 ghost use Rattle.formula_meaning.specs.Some.{SomeOf};
-ghost use Rattle.point_grid.specs.Scales.{size, IsWithin};
-ghost use Rattle.point_grid.specs.Grids.{common, scale_of, HasSteps, AxisPasses, AxisFits};
+ghost use Rattle.point_grid.specs.Scales.{size};
+ghost use Rattle.point_grid.specs.ScaleWithin.{IsWithin};
+ghost use Rattle.point_grid.specs.Grids.{common, scale_of, AxisPasses, AxisFits};
+ghost use Rattle.point_grid.specs.Steps.{HasSteps};
 
 use crate::axis::Axis;
 use crate::error::GridError;

@@ -2,7 +2,8 @@
 ghost use Rattle.std.specs.Prelude.{◌≡◌, ◌<◌, OnOk};
 ghost use Rattle.std.specs.List.{AllByRecursion};
 ghost use Rattle.linear_forms.specs.Values.{number_at};
-ghost use Rattle.point_grid.specs.Scales.{IsWithin, choice, size};
+ghost use Rattle.point_grid.specs.Scales.{choice, size};
+ghost use Rattle.point_grid.specs.ScaleWithin.{IsWithin};
 
 use crate::scale::Scale;
 use linear_forms::Values;

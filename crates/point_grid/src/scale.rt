@@ -15,7 +15,8 @@ pub(crate) struct Scale {
 }
 
 impl Scale {
-    ghost use Rattle.point_grid.specs.Scales.{number_of, IsWithin};
+    ghost use Rattle.point_grid.specs.Scales.{number_of};
+    ghost use Rattle.point_grid.specs.ScaleWithin.{IsWithin};
 
     // The number with this index.
     pub(crate) fn number(&self, index: u128) -> i128

@@ -7,7 +7,8 @@ ghost use Rattle.formula_store.specs.Truths.{IsWholeWhereAsked};
 ghost use Rattle.qe_parallel.specs.Fanned.{AnswerAll};
 ghost use Rattle.point_grid.specs.Scales.{size};
 ghost use Rattle.point_grid.specs.Frames.{points_of};
-ghost use Rattle.point_grid.specs.Truths.{IsTruthAt, IsTruthList, SomePointPasses};
+ghost use Rattle.point_grid.specs.Truths.{IsTruthAt, IsTruthList};
+ghost use Rattle.point_grid.specs.PointPasses.{SomePointPasses};
 
 use crate::error::GridError;
 use crate::grid::Grid;
@@ -44,7 +45,8 @@ impl Worker for Points<'_> {
     ghost use Rattle.std.specs.Prelude.{◌≡◌};
     ghost use Rattle.formula_store.specs.Nodes.{tree};
     ghost use Rattle.point_grid.specs.Scales.{size};
-    ghost use Rattle.point_grid.specs.Truths.{run_length, AreRun, SomePointPasses};
+    ghost use Rattle.point_grid.specs.Truths.{run_length, AreRun};
+    ghost use Rattle.point_grid.specs.PointPasses.{SomePointPasses};
     ghost use Rattle.std.specs.Int.{div_ceil};
     ghost use Rattle.formula_store.specs.declared.error.EvalStop.TheVariants.{Overflow};
 

@@ -27,7 +27,8 @@ use Rattle.statement_syntax.specs.declared.grid.Ratio.{Ratio}
 use Rattle.statement_syntax.specs.declared.grid.GridAxis.{GridAxis}
 use Rattle.statement_syntax.specs.Writable.{AreWritableAxes}
 use Rattle.point_grid.specs.declared.axis.Axis.{Axis}
-use Rattle.point_grid.specs.Grids.{lowest_of, multiple_with, multiple_of, common, name_of, IsRising}
+use Rattle.point_grid.specs.Grids.{lowest_of, multiple_with, multiple_of, common}
+use Rattle.point_grid.specs.Steps.{name_of, IsRising}
 use Rattle.point_grid.proofs.Multiples.{with_grows, common_positive}
 use Rattle.session_meaning.specs.Points.{MeanNoPoint}
 use Rattle.session_meaning.specs.Grids.{lows, highs, steps, IsFlat, MeanNoGrid, IsFraction, IsAxis, AreAxes, ArePast}

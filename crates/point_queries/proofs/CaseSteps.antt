@@ -13,7 +13,7 @@ use Rattle.formula_meaning.specs.Tree.{Tree, TrueAt}
 use Rattle.atom_normal.specs.NormalForm.{IsNormal}
 use Rattle.atom_normal.proofs.Stepped.{ok_map}
 use Rattle.elimination_reference.specs.Cases.{Case, case_sign}
-use Rattle.elimination_reference.specs.Theorems.{guards_of}
+use Rattle.elimination_reference.specs.AnswerParts.{guards_of}
 use Rattle.plain_cases.specs.declared.cases.PrintedCase.{PrintedCase}
 use Rattle.plain_cases.specs.Case.{case_seen}
 use Rattle.qe_syntax.specs.Writable.{IsWritableFormula, AreWritableFormulas}
@@ -50,7 +50,7 @@ use Rattle.session_meaning.specs.Uses.{Use}
 use Rattle.session_meaning.specs.Causes.{HasNone, IsAccepted}
 use Rattle.session_meaning.specs.Reply.{IsLine}
 use Rattle.session_meaning.specs.Words.{before}
-use Rattle.session_meaning.specs.FormulaAnswers.{negated_of}
+use Rattle.session_meaning.specs.FormulaAnswers.{negation_normal_of}
 use Rattle.session_state.specs.Keeping.{state_of, IsSessionFormula, IsSound, IsSessionState}
 use Rattle.session_state.specs.Growth.{KeepsState}
 use Rattle.problem_reading.proofs.AssumptionLemmas.{assumed_hold}
@@ -137,7 +137,7 @@ module _ (s : State) (f : FormulaTree) (gs : FormulaTrees) (numbers : AreNumbere
       answer = record {
         each = each_of left cases.each;
         together = λ p of hold.
-            let sign = case_sign (negated_of s f) in
+            let sign = case_sign (negation_normal_of s f) in
             let a = turned_along sign _ _ (as_written p of) in
             let b = turned_under s.context (assumed s gs) sign t (Or (guards_of left)) (at_names s.names p) of (assumptions_say p of hold) cases.together in
             (λ x. b.0 (a.0 x), λ x. a.1 (b.1 x));

@@ -28,7 +28,8 @@ use Rattle.formula_resolving.specs.Numbering.{Grows}
 use Rattle.formula_store.specs.declared.id.FormulaId.{FormulaId}
 use Rattle.formula_store.specs.Nodes.{tree, IsId}
 use Rattle.formula_store.specs.Truths.{Tells, IsWholeWhereAsked}
-use Rattle.point_grid.specs.Frames.{Frame, IsFrame, most_points, points_of, point_over}
+use Rattle.point_grid.specs.Frames.{Frame, most_points, points_of, point_over}
+use Rattle.point_grid.specs.FramePoints.{IsFrame}
 use Rattle.point_grid.specs.Scales.{choices}
 use Rattle.point_grid.specs.Grids.{grid_of}
 use Rattle.point_grid.specs.Truths.{IsTruthList}

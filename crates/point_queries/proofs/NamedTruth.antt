@@ -3,7 +3,8 @@ use Rattle.std.proofs.Common.{◌≡◌, ◌↔◌, inl, inr, ℕ, zero, suc, �
 use Rattle.std.proofs.Math.IntN.{pos}
 use Rattle.std.specs.Prelude.{unwrap_or, option_map, slice_get}
 use Rattle.std.specs.List.{IsDistinct}
-use Rattle.formula_meaning.specs.Point.{Point, Of, AgreeOn}
+use Rattle.formula_meaning.specs.Point.{Point, Of}
+use Rattle.formula_meaning.specs.Points.{AgreeOn}
 use Rattle.formula_meaning.specs.Tree.{TrueAt, IsFree}
 use Rattle.formula_meaning.proofs.FreeNames.{tree_agrees}
 use Rattle.qe_syntax.specs.Trees.{FormulaTree}

@@ -12,7 +12,8 @@ use Rattle.elimination_reference.proofs.CasesExact.{says}
 use Rattle.plain_engine.specs.declared.measured.Measured.{Measured}
 use Rattle.plain_engine.specs.declared.measured.Measured.TheVariants as measured
 use Rattle.plain_engine.specs.Told.{StopsWith}
-use Rattle.sample_reference.specs.Sample.{reference_sample, IsTrueSample}
+use Rattle.sample_reference.specs.Sample.{reference_sample}
+use Rattle.sample_reference.specs.TrueSample.{IsTrueSample}
 use Rattle.std.specs.declared.vec.Vec.{Vec}
 use Rattle.std.specs.declared.alloc.Global.{Global}
 use Rattle.exact_numbers.specs.declared.fraction.Fraction.{Fraction}
@@ -36,7 +37,7 @@ use Rattle.point_queries.specs.Asked.{AcceptsBoth}
 use Rattle.session_meaning.specs.Meaning.{meaning}
 use Rattle.session_meaning.specs.Causes.{HasNone}
 use Rattle.session_meaning.specs.Words.{before}
-use Rattle.session_meaning.specs.FormulaAnswers.{negated_of}
+use Rattle.session_meaning.specs.FormulaAnswers.{negation_normal_of}
 use Rattle.session_state.specs.Keeping.{IsSessionFormula}
 use Rattle.session_meaning.specs.Samples.{HasSample, IsSample, IsValueInLimit}
 use Rattle.point_queries.specs.SampleSteps.{RefusesSample, SampleStop, IsSampleWithin}
@@ -89,7 +90,7 @@ module _ (s : State) (f : FormulaTree) (es : List PointEntry) (p : NamedPoint) w
     -- there is a sample where the formula whose cases are asked is true
     there : HasSample s f p ↔ TrueAt s.context (case_formula t) q
     there =
-        let sign = case_sign (negated_of s f) in
+        let sign = case_sign (negation_normal_of s f) in
         let a = turned_along sign _ _ (truth_as_written s f numbers distinct readable p of) in
         let b = turned_says s.context sign t (case_formula t) q of (says s.context t sign (case_formula t) normal (λ r o. (λ h. h, λ h. h))) in
         (λ x. b.0 (a.0 x), λ x. a.1 (b.1 x))

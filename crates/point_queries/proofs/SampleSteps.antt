@@ -16,11 +16,12 @@ use Rattle.atom_normal.proofs.Stepped.{ok_map}
 use Rattle.linear_forms.specs.declared.form.VarId.{VarId}
 use Rattle.plain_engine.specs.declared.measured.Measured.{Measured}
 use Rattle.plain_engine.specs.Told.{StopsWith}
-use Rattle.sample_reference.specs.Sample.{reference_sample, IsTrueSample}
+use Rattle.sample_reference.specs.Sample.{reference_sample}
+use Rattle.sample_reference.specs.TrueSample.{IsTrueSample}
 use Rattle.sample_reference.specs.Seen.{sample_of}
 use Rattle.sample_reference.specs.Values.{Value}
 use Rattle.qe_syntax.specs.declared.entries.PointEntry.{PointEntry}
-use Rattle.qe_syntax.specs.Point.{Numbers, point_of}
+use Rattle.qe_syntax.specs.PointNumbers.{Numbers, point_of}
 use Rattle.qe_syntax.specs.Writable.{IsWritableFormula, AreWritableEntries}
 use Rattle.statement_syntax.specs.Statements.{Sample}
 use Rattle.qe_syntax.specs.Trees.{FormulaTree}

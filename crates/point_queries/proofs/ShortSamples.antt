@@ -23,7 +23,7 @@ use Rattle.atom_normal.specs.NormalForm.{negated_normal}
 use Rattle.elimination_reference.specs.Cases.{case_sign, case_names}
 use Rattle.elimination_reference.specs.Reference.{normal_tree, turned}
 use Rattle.linear_forms.specs.declared.form.VarId.{VarId}
-use Rattle.sample_reference.specs.Sample.{IsTrueSample}
+use Rattle.sample_reference.specs.TrueSample.{IsTrueSample}
 use Rattle.sample_reference.specs.Seen.{values_of, value_of, sample_of}
 use Rattle.sample_reference.specs.Values.{value_names}
 use Rattle.answer_texts.specs.Answers.{separated}

@@ -7,7 +7,7 @@ use Rattle.formula_meaning.specs.Tree.{Tree, TrueAt}
 use Rattle.atom_normal.specs.Atoms.{context_of}
 use Rattle.atom_normal.proofs.Stepped.{ok_map}
 use Rattle.qe_syntax.specs.declared.entries.PointEntry.{PointEntry}
-use Rattle.qe_syntax.specs.Point.{Numbers, point_of}
+use Rattle.qe_syntax.specs.PointNumbers.{Numbers, point_of}
 use Rattle.qe_syntax.specs.Writable.{IsWritableFormula, AreWritableEntries}
 use Rattle.statement_syntax.specs.Statements.{Holds}
 use Rattle.qe_syntax.specs.Trees.{FormulaTree}

@@ -7,7 +7,8 @@ use Rattle.formula_meaning.specs.Formula.{none, also}
 use Rattle.formula_meaning.specs.Point.{Of}
 use Rattle.formula_meaning.specs.Some.{SomeOf}
 use Rattle.qe_syntax.specs.declared.entries.PointEntry.{PointEntry}
-use Rattle.qe_syntax.specs.Point.{Numbers, PassesLimit, IsPointOf, point_of}
+use Rattle.qe_syntax.specs.Point.{PassesLimit, IsPointOf}
+use Rattle.qe_syntax.specs.PointNumbers.{Numbers, point_of}
 use Rattle.statement_syntax.specs.Statements.{CommandTree, Holds, Sample}
 use Rattle.qe_syntax.specs.Trees.{FormulaTree}
 use Rattle.qe_syntax.specs.Valued.{IsIn}

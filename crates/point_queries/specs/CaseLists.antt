@@ -2,7 +2,8 @@
 use Rattle.std.specs.Prelude.{◌≢◌, ℕ, Bool, List, None, map}
 use Rattle.qe_syntax.specs.declared.tree.Formula.{Formula}
 use Rattle.statement_syntax.specs.Statements.{CommandTree, Qea}
-use Rattle.qe_syntax.specs.Trees.{FormulaTree, FormulaTrees, formula_tree, formulas_of}
+use Rattle.qe_syntax.specs.Trees.{FormulaTree, FormulaTrees, formulas_of}
+use Rattle.qe_syntax.specs.CodeTrees.{formula_tree}
 use Rattle.session_meaning.specs.declared.line.StatementError.{StatementError}
 use Rattle.session_meaning.specs.declared.line.StatementError.TheVariants as error
 use Rattle.session_meaning.specs.State.{State}

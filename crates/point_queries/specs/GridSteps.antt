@@ -11,7 +11,7 @@ use Rattle.statement_syntax.specs.Statements.{Grid}
 use Rattle.point_grid.specs.declared.axis.Axis.{Axis}
 use Rattle.point_grid.specs.Frames.{Frame}
 use Rattle.point_grid.specs.Grids.{grid_of}
-use Rattle.point_grid.specs.Truths.{SomePointPasses}
+use Rattle.point_grid.specs.PointPasses.{SomePointPasses}
 use Rattle.session_meaning.specs.declared.line.StatementError.{StatementError}
 use Rattle.session_meaning.specs.declared.line.StatementError.TheVariants as error
 use Rattle.session_meaning.specs.State.{State}

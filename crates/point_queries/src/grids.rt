@@ -6,7 +6,7 @@ ghost use Rattle.formula_meaning.specs.Shape.{IsQuantifierFree};
 ghost use Rattle.formula_meaning.specs.Some.{SomeOf};
 ghost use Rattle.atom_normal.specs.Atoms.{context_of};
 ghost use Rattle.qe_syntax.specs.declared.tree.Literal.TheVariants.{Fits};
-ghost use Rattle.qe_syntax.specs.Trees.{formula_tree};
+ghost use Rattle.qe_syntax.specs.CodeTrees.{formula_tree};
 ghost use Rattle.qe_syntax.specs.Value.{same_name};
 ghost use Rattle.qe_syntax.specs.Writable.{IsWritableFormula};
 ghost use Rattle.statement_syntax.specs.Statements.{Grid as GridOf};

@@ -13,7 +13,7 @@ use Rattle.formula_meaning.specs.Atom.{Atom, Compare, Congruent, form_of}
 use Rattle.formula_meaning.specs.Formula.{One}
 use Rattle.formula_meaning.specs.Tree.{Tree}
 use Rattle.exact_numbers.specs.Limit.{InLimit, PastLimit}
-use Rattle.linear_forms.specs.Terms.{IsLinear}
+use Rattle.linear_forms.specs.Combinations.{IsLinear}
 use Rattle.atom_normal.specs.NormalForm.{normal_atom, ConstantPasses, compared_in_fields, compared_over_integers, congruent}
 use Rattle.prenex_theory.specs.Renaming.{terms_named, atom_named}
 use Rattle.prenex_theory.proofs.NamedAtoms.{names_of, image_among, named_multiple}

@@ -3,7 +3,8 @@ use Rattle.std.proofs.Common.{◌≡◌, suc, max, [], ◌∷◌, refl, sym, ap,
 use Rattle.std.specs.Prelude.{nat_lt}
 use Rattle.formula_meaning.specs.Formula.{Formula, Formulas, Yes, No, One, Not, And, Or, Impl, Repl, Equiv, Ex, All, none, also}
 use Rattle.formula_meaning.specs.Replaced.{replaced, all_replaced}
-use Rattle.formula_meaning.specs.Shape.{IsAtomic, IsNegationNormal, AreNegationNormal, blocks_from, most_blocks}
+use Rattle.formula_meaning.specs.Shape.{blocks_from, most_blocks}
+use Rattle.formula_meaning.specs.Plain.{IsAtomic, IsNegationNormal, AreNegationNormal}
 use Rattle.formula_meaning.specs.declared.quantifier.Quantifier.{Quantifier}
 use Rattle.formula_meaning.specs.declared.quantifier.Quantifier.TheVariants.{Exists, ForAll}
 use Rattle.prenex_theory.specs.Blocks.{in_first, joined_blocks, blocks, blocks_of, matrix, matrices}

@@ -18,8 +18,8 @@ use Rattle.formula_tree.specs.Somewhere.{SomeAtom}
 use Rattle.atom_normal.proofs.NormalLaws.{normal_atomic, negated_normal_is, negated_names}
 use Rattle.formula_meaning.specs.Within.{IsTreeWithin, IsAtomWithin, AreTermsWithin}
 use Rattle.formula_meaning.specs.Shape.{IsPrenex, fewest_blocks}
-use Rattle.formula_meaning.specs.Tree.{Equivalent, IsNegation}
-use Rattle.formula_meaning.specs.Atom.{AtomIn}
+use Rattle.formula_meaning.specs.Equivalence.{Equivalent, IsNegation}
+use Rattle.formula_meaning.specs.TheoryAtoms.{AtomIn}
 use Rattle.formula_meaning.proofs.NormalShape.{normal_form_brings, normal_form_keeps}
 use Rattle.formula_meaning.proofs.Iff.{both_ways}
 use Rattle.formula_meaning.proofs.Equivalence.{equivalent_then}
@@ -33,13 +33,15 @@ use Rattle.prenex_forms.proofs.Starts.{length_push}
 use Rattle.prenex_theory.specs.Front.{in_front}
 use Rattle.prenex_theory.specs.Renaming.{Chosen, nothing_chosen, after, renamed, with_chosen_names, new_count}
 use Rattle.prenex_theory.specs.Links.{Links}
-use Rattle.prenex_theory.specs.Prenex.{prenex_of, HasNamesBelow, HasPrenexForm}
+use Rattle.prenex_theory.specs.Prenex.{prenex_of}
+use Rattle.prenex_theory.specs.Theorems.{HasNamesBelow, HasPrenexForm}
 use Rattle.prenex_theory.proofs.NamedAtoms.{names_of}
 use Rattle.prenex_theory.proofs.AtomNames.{multiple_among}
 use Rattle.prenex_theory.proofs.NamedAtoms.{among_mentions}
 use Rattle.prenex_theory.proofs.Whole.{links, chosen_shape}
 use Rattle.prenex_forms.specs.declared.chooser.Chooser.{Chooser}
-use Rattle.prenex_forms.specs.Forms.{negation_form, OverflowsInRenaming}
+use Rattle.prenex_forms.specs.Forms.{OverflowsInRenaming}
+use Rattle.prenex_forms.specs.NegationForm.{negation_form}
 use Rattle.prenex_forms.specs.Named.{now_of}
 use Rattle.prenex_forms.specs.Chosen.{flag, chosen_of, named_by, CanRename, IsRenamed, Overflows}
 use Rattle.prenex_forms.proofs.Done.{front_done}

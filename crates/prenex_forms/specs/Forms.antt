@@ -1,15 +1,10 @@
 -- The prenex form of any formula, by its negation normal form.
 use Rattle.std.specs.Prelude.{ℕ}
 use Rattle.formula_meaning.specs.Context.{Context}
-use Rattle.formula_meaning.specs.NegationNormal.{normal_form}
 use Rattle.formula_meaning.specs.Tree.{Tree}
 use Rattle.formula_tree.specs.Somewhere.{SomeAtom}
-use Rattle.atom_normal.specs.NormalForm.{normal_atom, negated_normal, ConstantPasses}
+use Rattle.atom_normal.specs.NormalForm.{normal_atom, ConstantPasses}
 use Rattle.prenex_theory.specs.Renaming.{with_chosen_names}
-
--- the negation normal form, with the normal negation of atoms
-abbrev pub negation_form : Tree → Tree
-negation_form f = normal_form negated_normal f
 
 -- the normal form of some atom of the formula, with its names chosen, passes the limit of numbers
 abbrev pub OverflowsInRenaming : Context → ℕ → Tree → Type 0

@@ -3,9 +3,10 @@
 ghost use Rattle.std.specs.Prelude.{◌≡◌, ℕ, Bool, false, take, IfOk, OnOk, IsErrOf};
 ghost use Rattle.formula_meaning.specs.Context.{Context as Theory};
 ghost use Rattle.formula_meaning.specs.Form.{coefficient};
-ghost use Rattle.formula_meaning.specs.Atom.{AtomIn, form_of};
+ghost use Rattle.formula_meaning.specs.Atom.{form_of};
+ghost use Rattle.formula_meaning.specs.TheoryAtoms.{AtomIn};
 ghost use Rattle.formula_meaning.specs.Sorted.{gathered};
-ghost use Rattle.linear_forms.specs.Terms.{IsLinear};
+ghost use Rattle.linear_forms.specs.Combinations.{IsLinear};
 ghost use Rattle.atom_normal.specs.Atoms.{context_of, atom_of, IsWellFormed};
 ghost use Rattle.atom_normal.specs.NormalForm.{normal_atom, IsNormal, ConstantPasses};
 ghost use Rattle.nnf_trees.specs.Nnfs.{nnf_of, IsProper};

@@ -5,7 +5,7 @@ ghost use Rattle.formula_meaning.specs.Sizes.{nodes};
 ghost use Rattle.formula_tree.specs.Makers.{Keeps};
 ghost use Rattle.formula_store.specs.Nodes.{IsId, tree};
 ghost use Rattle.nnf_trees.specs.Nnfs.{nnf_of, IsProper};
-ghost use Rattle.prenex_forms.specs.Forms.{negation_form};
+ghost use Rattle.prenex_forms.specs.NegationForm.{negation_form};
 
 use formula_store::{FormulaId, Store, Unfold};
 use formula_tree::FormError;

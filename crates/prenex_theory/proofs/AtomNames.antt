@@ -5,7 +5,8 @@ use Rattle.std.specs.Prelude.{◌<ℤ◌, ◌≤ℤ◌, int_div}
 use Rattle.std.specs.Ordering.{int_cmp, is_gt}
 use Rattle.std.proofs.lemmas.Int.{ints}
 use Rattle.std.proofs.lemmas.Bool.{cases_eq}
-use Rattle.exact_numbers.specs.Divides.{Divides, DividesAll, IsResidue, content_of, floor_of, residue_of}
+use Rattle.exact_numbers.specs.Divides.{Divides, content_of, floor_of, residue_of}
+use Rattle.exact_numbers.specs.Division.{DividesAll, IsResidue}
 use Rattle.exact_numbers.proofs.Ring.{mul_zero}
 use Rattle.exact_numbers.proofs.Divisibility.{one_divides, divides_along, divides_neg, divides_same}
 use Rattle.exact_numbers.proofs.Floor.{residue_is, residue_unique}

@@ -6,7 +6,8 @@ use Rattle.formula_meaning.specs.Point.{Point}
 use Rattle.formula_meaning.specs.Form.{Form, Term, total, multiple, value, coefficient}
 use Rattle.formula_meaning.specs.Sorted.{AllAbove, IsRising, AllNonzero, IsSorted}
 use Rattle.formula_meaning.specs.Some.{Among}
-use Rattle.formula_meaning.specs.Atom.{Atom, Compare, Congruent, Relates, Says, Mentions, AtomIn, IsMultiple, form_of}
+use Rattle.formula_meaning.specs.Atom.{Atom, Compare, Congruent, Relates, Says, Mentions, IsMultiple, form_of}
+use Rattle.formula_meaning.specs.TheoryAtoms.{AtomIn}
 use Rattle.formula_meaning.specs.Context.{Context, Fields, Integers}
 use Rattle.formula_meaning.proofs.Sorted.{here, elsewhere}
 use Rattle.prenex_theory.specs.Links.{IsOneToOne}

@@ -5,7 +5,7 @@ use Rattle.formula_meaning.specs.Formula.{Yes, No, One, Not, And, Or, Impl, Repl
 use Rattle.formula_meaning.specs.Sorted.{IsSorted}
 use Rattle.formula_meaning.specs.Atom.{Atom, Mentions, form_of}
 use Rattle.formula_meaning.specs.Every.{Every, EveryOf, EveryBound, EveryBoundOf, FreeInSome}
-use Rattle.formula_meaning.specs.Shape.{IsNegationNormal, AreNegationNormal}
+use Rattle.formula_meaning.specs.Plain.{IsNegationNormal, AreNegationNormal}
 use Rattle.formula_meaning.specs.Tree.{Tree, Trees, IsFree}
 use Rattle.prenex_theory.specs.Blocks.{matrix, matrices}
 use Rattle.prenex_theory.specs.Renaming.{Chosen, chosen_name, chosen, after, after_all, renamed, all_renamed, with_now}

@@ -4,7 +4,8 @@ use Rattle.formula_meaning.specs.Formula.{Formula, Formulas, Yes, No, One, Not, 
 use Rattle.formula_meaning.specs.Every.{Every, EveryOf, EveryBound, EveryBoundOf}
 use Rattle.formula_meaning.specs.Some.{EachOf}
 use Rattle.formula_meaning.specs.Replaced.{replaced, all_replaced}
-use Rattle.formula_meaning.specs.Shape.{IsNegationNormal, AreNegationNormal, IsPlain, ArePlain, IsQuantifierFree, AreQuantifierFree, IsPrenex, IsAtomic}
+use Rattle.formula_meaning.specs.Shape.{IsQuantifierFree, AreQuantifierFree, IsPrenex}
+use Rattle.formula_meaning.specs.Plain.{IsNegationNormal, AreNegationNormal, IsPlain, ArePlain, IsAtomic}
 use Rattle.formula_meaning.specs.declared.quantifier.Quantifier.{Quantifier}
 use Rattle.formula_meaning.specs.declared.quantifier.Quantifier.TheVariants.{Exists, ForAll}
 use Rattle.prenex_theory.specs.Blocks.{other_kind, blocks, matrix, matrices, later_blocks, block_count}

@@ -5,13 +5,16 @@ use Rattle.std.proofs.lemmas.Bool.{eq-eqb, ltb-true, ltb-false}
 use Rattle.formula_meaning.specs.Context.{Context}
 use Rattle.formula_meaning.specs.Formula.{Yes, No, One, Not, And, Or, Impl, Repl, Equiv, Ex, All, none, also}
 use Rattle.formula_meaning.specs.Some.{Among}
-use Rattle.formula_meaning.specs.Atom.{AtomIn, Mentions}
+use Rattle.formula_meaning.specs.Atom.{Mentions}
+use Rattle.formula_meaning.specs.TheoryAtoms.{AtomIn}
 use Rattle.formula_meaning.specs.Every.{Every, EveryOf, EveryBound, FreeInSome}
 use Rattle.formula_meaning.specs.Replaced.{replaced}
-use Rattle.formula_meaning.specs.Shape.{IsNegationNormal, IsPlain, IsAtomic, IsPrenex, blocks_from, fewest_blocks, is_in}
+use Rattle.formula_meaning.specs.Shape.{IsPrenex, blocks_from, fewest_blocks, is_in}
+use Rattle.formula_meaning.specs.Plain.{IsNegationNormal, IsPlain, IsAtomic}
 use Rattle.formula_meaning.specs.declared.quantifier.Quantifier.{Quantifier}
 use Rattle.formula_meaning.specs.declared.quantifier.Quantifier.TheVariants.{Exists, ForAll}
-use Rattle.formula_meaning.specs.Tree.{Tree, Trees, InContext, IsFree, Equivalent, tree_names}
+use Rattle.formula_meaning.specs.Tree.{Tree, Trees, IsFree, tree_names}
+use Rattle.formula_meaning.specs.Equivalence.{InContext, Equivalent}
 use Rattle.formula_meaning.proofs.EachAtom.{every_map, every_both, every_all}
 use Rattle.formula_meaning.proofs.Equivalence.{equivalent_then}
 use Rattle.formula_meaning.proofs.FreeReplaced.{fewer_replaced}
@@ -24,7 +27,8 @@ use Rattle.atom_normal.proofs.NormalLaws.{normal_truth, normal_names, normal_nor
 use Rattle.prenex_theory.specs.Blocks.{other_kind, blocks, matrix, block_count}
 use Rattle.prenex_theory.specs.Front.{first_kind, in_front}
 use Rattle.prenex_theory.specs.Renaming.{nothing_chosen, after, with_chosen_names, new_count}
-use Rattle.prenex_theory.specs.Prenex.{prenex_of, HasNamesBelow, HasPrenexForm, PrenexFormIsPrenex, PrenexFormHasFewestBlocks, PrenexFormKeepsTruth, PrenexFormKeepsNames, PrenexFormIsNormal}
+use Rattle.prenex_theory.specs.Prenex.{prenex_of}
+use Rattle.prenex_theory.specs.Theorems.{HasNamesBelow, HasPrenexForm, PrenexFormIsPrenex, PrenexFormHasFewestBlocks, PrenexFormKeepsTruth, PrenexFormKeepsNames, PrenexFormIsNormal}
 use Rattle.prenex_theory.specs.Links.{Used, Links}
 use Rattle.prenex_theory.proofs.Blocks.{length_blocks, least_filled}
 use Rattle.prenex_theory.proofs.Fronts.{front_same, blocks_each}

@@ -4,3 +4,4 @@ pub mod Renaming
 pub mod Links
 pub mod NewNames
 pub mod Prenex
+pub mod Theorems

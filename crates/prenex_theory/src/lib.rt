@@ -1,7 +1,7 @@
 //! Prenex form as a definition that computes, and what is proved of it. Each function does nothing; its contract is a law.
 #![tactic(auto)]
 
-ghost use Rattle.prenex_theory.specs.Prenex.{PrenexFormIsPrenex, PrenexFormHasFewestBlocks, PrenexFormKeepsTruth, PrenexFormKeepsNames, PrenexFormIsNormal};
+ghost use Rattle.prenex_theory.specs.Theorems.{PrenexFormIsPrenex, PrenexFormHasFewestBlocks, PrenexFormKeepsTruth, PrenexFormKeepsNames, PrenexFormIsNormal};
 
 /// A prenex form is quantifiers before a formula without quantifiers, in the fewest blocks that the nesting of the
 /// quantifiers allows.

@@ -20,7 +20,8 @@ use Rattle.qe_syntax.specs.Trees.{TermTree, TermTrees, Number, Named, Product, S
 use Rattle.qe_syntax.specs.Value.{same_name}
 use Rattle.redlog_reader.specs.Grammar.{sum_of}
 use Rattle.formula_tree.specs.RationalForms.{RationalForm, Missing, is_constant, formed, product_of_forms}
-use Rattle.formula_tree.specs.Resolving.{place, names_after, resolved_atom, resolve}
+use Rattle.formula_tree.specs.Resolving.{place, resolved_atom, resolve}
+use Rattle.formula_tree.specs.NamesAfter.{names_after}
 use Rattle.formula_tree.specs.Somewhere.{Somewhere, SomewhereIn}
 use Rattle.formula_tree.specs.Causes.{HasNoTree, IsBound, MentionsBound, IsVarying, IsNoDivisor, HasNonlinear, HaveNonlinear, HasForbidden, HaveForbidden, HasPast, HavePast, SomeTerm, IsCongruence, HasBadModulus, IsMissing, PassesInReading, IsNonlinear, Divides, CongruenceInFields, IsBadModulus, OverflowsInReading}
 use Rattle.formula_tree.proofs.RuleLaw.{ok_same}

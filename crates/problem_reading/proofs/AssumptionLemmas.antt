@@ -8,7 +8,8 @@ use Rattle.formula_meaning.specs.Point.{Point, Of}
 use Rattle.formula_meaning.specs.Some.{SomeOf, EachOf}
 use Rattle.formula_meaning.specs.Tree.{Tree, TrueAt}
 use Rattle.qe_syntax.specs.declared.tree.Formula.{Formula}
-use Rattle.qe_syntax.specs.Trees.{FormulaTree, FormulaTrees, formula_tree, formulas_of}
+use Rattle.qe_syntax.specs.Trees.{FormulaTree, FormulaTrees, formulas_of}
+use Rattle.qe_syntax.specs.CodeTrees.{formula_tree}
 use Rattle.qe_syntax.specs.Value.{NamedPoint, same_name}
 use Rattle.formula_tree.specs.Names.{with_name}
 use Rattle.formula_tree.specs.Resolving.{resolve, at_names, formula_variables, all_variables}

@@ -4,7 +4,8 @@ use Rattle.std.specs.List.{AllByRecursion}
 use Rattle.formula_meaning.specs.Formula.{none, also}
 use Rattle.formula_meaning.specs.Some.{SomeOf}
 use Rattle.qe_syntax.specs.declared.tree.Formula.{Formula}
-use Rattle.qe_syntax.specs.Trees.{FormulaTree, FormulaTrees, formula_tree, formulas_of}
+use Rattle.qe_syntax.specs.Trees.{FormulaTree, FormulaTrees, formulas_of}
+use Rattle.qe_syntax.specs.CodeTrees.{formula_tree}
 use Rattle.problem_reading.specs.Parts.{EachFormula}
 use Rattle.session_meaning.specs.Causes.{SomeFormula}
 

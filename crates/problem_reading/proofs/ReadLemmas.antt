@@ -27,7 +27,8 @@ use Rattle.session_state.proofs.SoundLemmas.{resolved_formula}
 use Rattle.std.proofs.Common.{map}
 use Rattle.std.specs.List.{AllByRecursion}
 use Rattle.qe_syntax.specs.declared.tree.Formula.{Formula}
-use Rattle.qe_syntax.specs.Trees.{formula_tree, formulas_of}
+use Rattle.qe_syntax.specs.Trees.{formulas_of}
+use Rattle.qe_syntax.specs.CodeTrees.{formula_tree}
 
 pub numbered_in : (fs : FormulaTrees) (names : List (List ℕ)) → ((x : List ℕ) → IsIn x (all_variables fs) → IsIn x names) → AreNumbered names fs
 numbered_in none names h = tt

@@ -11,9 +11,11 @@ use Rattle.formula_store.specs.Nodes.{tree, IsId}
 use Rattle.session_state.specs.declared.state.SessionState.{SessionState}
 use Rattle.shared_forms.specs.declared.forms.Premised.{Premised}
 use Rattle.qe_syntax.specs.declared.tree.Formula.{Formula}
-use Rattle.qe_syntax.specs.Trees.{FormulaTree, FormulaTrees, formula_tree}
-use Rattle.formula_tree.specs.Resolving.{names_after, resolve}
-use Rattle.formula_tree.specs.Causes.{IsAccepted as IsResolvable}
+use Rattle.qe_syntax.specs.Trees.{FormulaTree, FormulaTrees}
+use Rattle.qe_syntax.specs.CodeTrees.{formula_tree}
+use Rattle.formula_tree.specs.Resolving.{resolve}
+use Rattle.formula_tree.specs.NamesAfter.{names_after}
+use Rattle.formula_tree.specs.Accepted.{IsAccepted as IsResolvable}
 use Rattle.formula_resolving.specs.declared.error.StaticError.{StaticError}
 use Rattle.formula_resolving.specs.declared.error.StaticError.TheVariants as static
 use Rattle.formula_resolving.specs.Refusals.{IsFirstCause, Applies, order, before}

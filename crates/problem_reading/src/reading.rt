@@ -6,7 +6,7 @@ ghost use Rattle.formula_tree.specs.Resolving.{resolve};
 ghost use Rattle.formula_resolving.specs.Refusals.{AreIds, IsFirstCause};
 ghost use Rattle.formula_store.specs.Nodes.{tree, IsId};
 ghost use Rattle.qe_syntax.specs.Writable.{IsWritableFormula};
-ghost use Rattle.qe_syntax.specs.Trees.{formula_tree};
+ghost use Rattle.qe_syntax.specs.CodeTrees.{formula_tree};
 ghost use Rattle.problem_reading.specs.Reading.{HasNumbers, IsUnread, IsReadable};
 ghost use Rattle.session_meaning.specs.Meaning.{numbered};
 ghost use Rattle.session_state.specs.Keeping.{state_of};

@@ -6,7 +6,8 @@ use Rattle.std.specs.Int.{w128, cast_unsigned}
 use Rattle.std.specs.List.{AllByRecursion}
 use Rattle.std.proofs.lemmas.Int.{ints}
 use Rattle.exact_numbers.specs.Limit.{InLimit, PastLimit, checked}
-use Rattle.exact_numbers.specs.Divides.{Divides, IsLcm, residue_of, lcm_of, gcd_of}
+use Rattle.exact_numbers.specs.Divides.{Divides, residue_of, lcm_of, gcd_of}
+use Rattle.exact_numbers.specs.Division.{IsLcm}
 use Rattle.exact_numbers.specs.Frac.{Frac, lowest, scaled}
 use Rattle.std.proofs.lemmas.Bool.{false≢true}
 use Rattle.std.proofs.lemmas.Bool.Decides.{nat_tests}
@@ -37,9 +38,11 @@ use Rattle.exact_numbers.proofs.Divisibility.{divides_both}
 use Rattle.qe_syntax.specs.declared.point.PointFault.{PointFault}
 use Rattle.qe_syntax.specs.declared.point.PointFault.TheVariants.{Double, ZeroBelow, NotWhole, Overflow, Memory}
 use Rattle.qe_syntax.specs.PointFaults.{FaultOf, CheckFault, PutFault, IsChecked, IsFaultless}
-use Rattle.qe_syntax.specs.Point.{IsPointOf, point_of, HasEntry, NamesTwice, IsReady, AreNumbers, SetsNumber, number_of}
+use Rattle.qe_syntax.specs.Point.{IsPointOf, HasEntry, NamesTwice}
+use Rattle.qe_syntax.specs.PointNumbers.{point_of, IsReady, AreNumbers, SetsNumber, number_of}
 use Rattle.qe_syntax.specs.Proper.{IsNumeral, IsSigned, IsProperEntry, AreProperEntries}
-use Rattle.qe_syntax.specs.Point.{IsZeroBelow, IsPast, IsBroken, lowest_terms, lowest_below, IsLowestValue, IsCommonMultiple, IsLeastDenominator, DenominatorPasses, IsScaled}
+use Rattle.qe_syntax.specs.Point.{IsZeroBelow, IsPast, IsBroken, lowest_terms, lowest_below, IsCommonMultiple, IsLeastDenominator, DenominatorPasses, IsScaled}
+use Rattle.qe_syntax.specs.PointNumbers.{IsLowestValue}
 
 fits_same : (a b : ℤ) → Fits a ≡ Fits b → a ≡ b
 fits_same a b e = cc

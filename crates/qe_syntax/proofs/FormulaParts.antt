@@ -6,7 +6,8 @@ use Rattle.formula_meaning.specs.Formula as plain
 use Rattle.qe_syntax.specs.declared.tree.Formula as written
 use Rattle.qe_syntax.specs.declared.tree.Formula.TheVariants as formula
 use Rattle.qe_syntax.specs.declared.tree.Formulas as writtens
-use Rattle.qe_syntax.specs.Trees.{formulas_of, formula_tree}
+use Rattle.qe_syntax.specs.Trees.{formulas_of}
+use Rattle.qe_syntax.specs.CodeTrees.{formula_tree}
 use Rattle.qe_syntax.proofs.TreeEquations.{formula-Not, formula-And, formula-Or, formula-Impl, formula-Repl, formula-Equiv, formulas-out}
 
 pub not_is : (f : written.Formula) (b : Box written.Formula Global) → f ≡ formula.Not b → formula_tree f ≡ plain.Not (formula_tree b.value)

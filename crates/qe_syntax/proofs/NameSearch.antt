@@ -5,7 +5,7 @@ use Rattle.std.specs.Ordering.{nat_cmp}
 use Rattle.std.specs.Cmp.Lexicographic.{slice_cmp}
 use Rattle.std.specs.BTreeMap.{is_at}
 use Rattle.qe_syntax.specs.Trees.{FormulaTree}
-use Rattle.qe_syntax.specs.Value.{IsFree}
+use Rattle.qe_syntax.specs.FreeNames.{IsFree}
 use Rattle.qe_syntax.specs.Valued.{AreAmong, IsIn, prefix_of, matrix_of, IsOpened, IsClosed}
 use Rattle.qe_syntax.proofs.NameOrder.{by_at, at_same, same_at}
 use Rattle.qe_syntax.proofs.EntryLists.{some_left, some_right, some_split, some_one}

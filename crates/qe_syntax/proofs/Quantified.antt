@@ -7,8 +7,9 @@ use Rattle.qe_syntax.specs.declared.tree.Formula as written
 use Rattle.qe_syntax.specs.declared.tree.Formula.TheVariants as formula
 use Rattle.qe_syntax.specs.declared.tree.Formula.TheOpen as layer
 use Rattle.qe_syntax.specs.declared.tree.Formulas as writtens
-use Rattle.qe_syntax.specs.Trees.{FormulaTree, formula_tree}
-use Rattle.qe_syntax.specs.Value.{IsFree}
+use Rattle.qe_syntax.specs.Trees.{FormulaTree}
+use Rattle.qe_syntax.specs.CodeTrees.{formula_tree}
+use Rattle.qe_syntax.specs.FreeNames.{IsFree}
 use Rattle.qe_syntax.specs.Valued.{IsIn, prefix_of, matrix_of, IsUnquantified}
 use Rattle.qe_syntax.proofs.TreeEquations.{formula-True, formula-False, formula-Compare, formula-Cong, formula-Ncong, formula-Not, formula-And, formula-Or, formula-Impl, formula-Repl, formula-Equiv, formula-Ex, formula-All, formula-Named}
 

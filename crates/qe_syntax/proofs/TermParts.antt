@@ -6,7 +6,8 @@ use Rattle.qe_syntax.specs.declared.tree.Term as code
 use Rattle.qe_syntax.specs.declared.tree.Term.TheVariants as term
 use Rattle.qe_syntax.specs.declared.tree.Terms as codes
 use Rattle.qe_syntax.specs.declared.tree.Literal.{Literal}
-use Rattle.qe_syntax.specs.Trees.{Sum, Product, Quotient, Power, Negative, terms_of, term_tree}
+use Rattle.qe_syntax.specs.Trees.{Sum, Product, Quotient, Power, Negative, terms_of}
+use Rattle.qe_syntax.specs.CodeTrees.{term_tree}
 use Rattle.qe_syntax.proofs.TreeEquations.{tree-Sum, tree-Product, tree-Quotient, tree-Power, tree-Negative, trees-out}
 
 pub sum_is : (t : code.Term) (ts : codes.Terms) (xs : List code.Term) → t ≡ term.Sum ts → xs ≡ (codes.out-Terms ts).list.items → term_tree t ≡ Sum (terms_of (map term_tree xs))

@@ -15,8 +15,10 @@ use Rattle.qe_syntax.specs.declared.tree.Formula as written
 use Rattle.qe_syntax.specs.declared.tree.Formula.TheVariants as formula
 use Rattle.qe_syntax.specs.declared.tree.Formula.TheOpen as open_formula
 use Rattle.qe_syntax.specs.declared.tree.Formulas as writtens
-use Rattle.qe_syntax.specs.Trees.{Compare, Cong, Ncong, Bound, formulas_of, formula_step, formulas_step, formula_tree, formula_trees}
-use Rattle.qe_syntax.specs.Trees.{Number, Named, Sum, Product, Quotient, Power, Negative, terms_of, term_step, terms_step, term_tree, term_trees}
+use Rattle.qe_syntax.specs.Trees.{Compare, Cong, Ncong, Bound, formulas_of}
+use Rattle.qe_syntax.specs.CodeTrees.{formula_step, formulas_step, formula_tree, formula_trees}
+use Rattle.qe_syntax.specs.Trees.{Number, Named, Sum, Product, Quotient, Power, Negative, terms_of}
+use Rattle.qe_syntax.specs.CodeTrees.{term_step, terms_step, term_tree, term_trees}
 
 pub tree-Number : (n : Literal) → term_tree (term.Number n) ≡ Number n
 unfolding term_tree

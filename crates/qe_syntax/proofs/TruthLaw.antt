@@ -24,8 +24,9 @@ use Rattle.qe_syntax.specs.declared.tree.Relation.TheVariants as rel
 use Rattle.qe_syntax.specs.declared.value.EvalError.{EvalError}
 use Rattle.qe_syntax.specs.Trees.{TermTree, Compare, Cong, Ncong, Bound, FormulaTree, FormulaTrees}
 use Rattle.qe_syntax.specs.Testable.{IsModulus, IsTestable}
-use Rattle.qe_syntax.specs.Point.{Numbers, point_of}
-use Rattle.qe_syntax.specs.Value.{NamedPoint, value, Says, TrueAt, NothingNamed, IsCongruent, RelatesFractions, relation_of, same_name}
+use Rattle.qe_syntax.specs.PointNumbers.{Numbers, point_of}
+use Rattle.qe_syntax.specs.Value.{NamedPoint, value, Says, TrueAt, IsCongruent, RelatesFractions, relation_of, same_name}
+use Rattle.qe_syntax.specs.FreeNames.{NothingNamed}
 use Rattle.qe_syntax.specs.Rule.{calculated, stepped, difference, is_multiple, congruence, test, calculated_truth, calculated_all, calculated_some, ◌>>=◌}
 use Rattle.qe_syntax.specs.Evaluates.{Decides}
 use Rattle.qe_syntax.proofs.CongruenceLaw.{multiple_decides}

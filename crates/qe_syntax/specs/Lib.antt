@@ -1,10 +1,13 @@
 pub mod Padding
 pub mod Names
 pub mod Trees
+pub mod CodeTrees
 pub mod Proper
 pub mod Point
+pub mod PointNumbers
 pub mod PointFaults
 pub mod Value
+pub mod FreeNames
 pub mod Rule
 pub mod Testable
 pub mod Evaluates

@@ -7,7 +7,6 @@ use Rattle.formula_meaning.specs.Context.{Context}
 use Rattle.formula_meaning.specs.Point.{Point, move}
 use Rattle.formula_meaning.specs.Truth.{True}
 use Rattle.formula_meaning.specs.Atom as meaning
-use Rattle.formula_meaning.specs.Every.{Free}
 use Rattle.qe_syntax.specs.declared.tree.Literal.{Literal}
 use Rattle.qe_syntax.specs.declared.tree.Literal.TheVariants.{Fits, Past}
 use Rattle.qe_syntax.specs.declared.tree.Relation.{Relation}
@@ -80,10 +79,6 @@ same_name = pointwise nat_eq
 abbrev pub TrueAt : (List ℕ → NamedPoint → Type 0) → Context → FormulaTree → NamedPoint → Type 0
 TrueAt named c f p = True (Says named) (move same_name) c f p
 
--- no name stands for a formula
-abbrev pub NothingNamed : List ℕ → NamedPoint → Type 0
-NothingNamed x p = ⊥
-
 -- the name stands in the term
 abbrev mutual
   pub HasName : TermTree → List ℕ → Type 0
@@ -106,7 +101,3 @@ Mentions (Compare rel s t) x = HasName s x ⊎ HasName t x
 Mentions (Cong s t m) x = HasName s x ⊎ (HasName t x ⊎ HasName m x)
 Mentions (Ncong s t m) x = HasName s x ⊎ (HasName t x ⊎ HasName m x)
 Mentions (Bound y) x = ⊥
-
--- the name is free in the formula
-abbrev pub IsFree : FormulaTree → List ℕ → Type 0
-IsFree f x = Free Mentions f x

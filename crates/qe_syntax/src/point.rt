@@ -1,11 +1,13 @@
 ghost use Rattle.std.specs.Prelude.{◌≡◌, ◌↔◌, ◌⊎◌, ℤ, pos, ◌<ℤ◌, ◌≤ℤ◌, IsTrue, IfOk, OnOk, OnErr, IfErr, MatchOption};
 ghost use Rattle.std.specs.List.{AllByRecursion};
 ghost use Rattle.exact_numbers.specs.Limit.{InLimit, PastLimit};
-ghost use Rattle.exact_numbers.specs.Divides.{Divides, IsLcm, lcm_of};
+ghost use Rattle.exact_numbers.specs.Divides.{Divides, lcm_of};
+ghost use Rattle.exact_numbers.specs.Division.{IsLcm};
 ghost use Rattle.exact_numbers.specs.Fraction.{frac_of};
 ghost use Rattle.formula_meaning.specs.Some.{SomeOf};
 ghost use Rattle.qe_syntax.specs.Proper.{IsProperEntry, AreProperEntries};
-ghost use Rattle.qe_syntax.specs.Point.{NamesTwice, IsZeroBelow, IsPast, IsBroken, lowest_below, IsLowestValue, IsLeastDenominator, DenominatorPasses, IsScaled, IsReady, SetsNumber, AreNumbers};
+ghost use Rattle.qe_syntax.specs.Point.{NamesTwice, IsZeroBelow, IsPast, IsBroken, lowest_below, IsLeastDenominator, DenominatorPasses, IsScaled};
+ghost use Rattle.qe_syntax.specs.PointNumbers.{IsLowestValue, IsReady, SetsNumber, AreNumbers};
 ghost use Rattle.qe_syntax.specs.PointFaults.{PutFault, IsChecked, CheckFault};
 
 use crate::entries::PointEntry;
@@ -28,7 +30,7 @@ pub struct Point {
 impl Model for Point {
     ghost use Rattle.std.specs.Prelude.{List, ℕ, ℤ, pos, ◌<ℤ◌, IfSome};
     ghost use Rattle.exact_numbers.specs.Limit.{InLimit};
-    ghost use Rattle.qe_syntax.specs.Point.{Numbers, number_of};
+    ghost use Rattle.qe_syntax.specs.PointNumbers.{Numbers, number_of};
 
     ghost Value = { Numbers };
 
@@ -39,7 +41,8 @@ impl Model for Point {
 
 impl Point {
     ghost use Rattle.std.specs.Prelude.{OnErr, unwrap_or};
-    ghost use Rattle.qe_syntax.specs.Point.{IsPointOf, point_of, number_of};
+    ghost use Rattle.qe_syntax.specs.Point.{IsPointOf};
+    ghost use Rattle.qe_syntax.specs.PointNumbers.{point_of, number_of};
     ghost use Rattle.qe_syntax.specs.PointFaults.{IsFaultless, FaultOf};
 
     /// The point that the entries mean. With `whole`, each value has to be a whole number.

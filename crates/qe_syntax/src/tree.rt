@@ -1,5 +1,6 @@
 ghost use Rattle.std.specs.Prelude.{◌≡◌, map, IfOk};
-ghost use Rattle.qe_syntax.specs.Trees.{term_tree, term_trees, terms_of, formula_tree, formula_trees, formulas_of, Quotient, Power, Negative, Compare, Cong, Ncong};
+ghost use Rattle.qe_syntax.specs.Trees.{terms_of, formulas_of, Quotient, Power, Negative, Compare, Cong, Ncong};
+ghost use Rattle.qe_syntax.specs.CodeTrees.{term_tree, term_trees, formula_tree, formula_trees};
 ghost use Rattle.formula_meaning.specs.Formula.{One, Not, Impl, Repl, Equiv, Ex, All};
 
 use crate::name::Name;

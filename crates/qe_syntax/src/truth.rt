@@ -3,11 +3,13 @@ ghost use Rattle.exact_numbers.specs.Fraction.{frac_of};
 ghost use Rattle.formula_meaning.specs.Context.{Fields};
 ghost use Rattle.formula_meaning.specs.Every.{Every, EveryOf};
 ghost use Rattle.formula_meaning.specs.Shape.{IsQuantifierFree, AreQuantifierFree};
-ghost use Rattle.qe_syntax.specs.Trees.{term_tree, formula_tree, formulas_of};
+ghost use Rattle.qe_syntax.specs.Trees.{formulas_of};
+ghost use Rattle.qe_syntax.specs.CodeTrees.{term_tree, formula_tree};
 ghost use Rattle.qe_syntax.specs.Proper.{IsProperTerm, IsProperFormula, AreProperFormulas};
 ghost use Rattle.qe_syntax.specs.Testable.{IsModulus, IsTestable};
-ghost use Rattle.qe_syntax.specs.Point.{point_of};
-ghost use Rattle.qe_syntax.specs.Value.{value, TrueAt, NothingNamed};
+ghost use Rattle.qe_syntax.specs.PointNumbers.{point_of};
+ghost use Rattle.qe_syntax.specs.Value.{value, TrueAt};
+ghost use Rattle.qe_syntax.specs.FreeNames.{NothingNamed};
 ghost use Rattle.qe_syntax.specs.Rule.{difference, is_multiple, congruence, test, calculated_truth, calculated_all, calculated_some};
 ghost use Rattle.qe_syntax.specs.Evaluates.{Evaluates, Decides};
 

@@ -1,9 +1,10 @@
 ghost use Rattle.std.specs.Prelude.{◌≡◌, ℤ, pos, map, IfOk};
 ghost use Rattle.exact_numbers.specs.Fraction.{frac_of};
 ghost use Rattle.exact_numbers.specs.Frac.{SameValue, IsLowest, whole_frac, lowest};
-ghost use Rattle.qe_syntax.specs.Trees.{term_tree, terms_of};
+ghost use Rattle.qe_syntax.specs.Trees.{terms_of};
+ghost use Rattle.qe_syntax.specs.CodeTrees.{term_tree};
 ghost use Rattle.qe_syntax.specs.Proper.{IsProperTerm, AreProperTerms, IsNumeral};
-ghost use Rattle.qe_syntax.specs.Point.{point_of};
+ghost use Rattle.qe_syntax.specs.PointNumbers.{point_of};
 ghost use Rattle.qe_syntax.specs.Value.{value};
 ghost use Rattle.qe_syntax.specs.Rule.{calculated, added, multiplied, literal_fraction, quotient_step, power_step};
 ghost use Rattle.qe_syntax.specs.Evaluates.{Evaluates};

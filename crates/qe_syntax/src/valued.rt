@@ -4,9 +4,11 @@ ghost use Rattle.std.specs.Ordering.{nat_cmp};
 ghost use Rattle.std.specs.Cmp.Lexicographic.{slice_cmp};
 ghost use Rattle.std.specs.BTreeSet.{contains, IsSameSet};
 ghost use Rattle.qe_syntax.specs.declared.tree.Formula.{size-Formula};
-ghost use Rattle.qe_syntax.specs.Trees.{term_tree, terms_of, formula_tree, formulas_of};
+ghost use Rattle.qe_syntax.specs.Trees.{terms_of, formulas_of};
+ghost use Rattle.qe_syntax.specs.CodeTrees.{term_tree, formula_tree};
 ghost use Rattle.qe_syntax.specs.Point.{HasEntry};
-ghost use Rattle.qe_syntax.specs.Value.{HasName, HaveName, IsFree};
+ghost use Rattle.qe_syntax.specs.Value.{HasName, HaveName};
+ghost use Rattle.qe_syntax.specs.FreeNames.{IsFree};
 ghost use Rattle.qe_syntax.specs.Valued.{AreAmong, AreFree, prefix_of, matrix_of, IsUnquantified, IsOpened, IsClosed};
 
 use crate::entries::PointEntry;

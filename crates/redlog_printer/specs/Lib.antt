@@ -1,3 +1,4 @@
 pub mod Text
+pub mod ArgumentText
 pub mod Bound
 pub mod Writing

@@ -111,7 +111,3 @@ abbrev mutual
   pub more_text : List (List ℕ) → List ℕ → Trees → List ℕ
   more_text names word none = []
   more_text names word (also f fs) = word ++ in_parentheses (is_compound f) (tree_text names f) ++ more_text names word fs
-
--- the text of a formula as a member or an argument
-abbrev pub argument_text : List (List ℕ) → Tree → List ℕ
-argument_text names f = in_parentheses (is_compound f) (tree_text names f)

@@ -2,7 +2,8 @@
 
 ghost use Rattle.std.specs.Prelude.{◌≡◌, ◌<◌, ◌≤◌, ◌+◌, ◌++◌, ℕ, IfOk, OnOk, IsErrOf, length, codes};
 ghost use Rattle.formula_tree.specs.Trees.{tree_of, trees_of};
-ghost use Rattle.redlog_printer.specs.Text.{name_at, is_compound, argument_text, tree_text, members_text};
+ghost use Rattle.redlog_printer.specs.Text.{name_at, is_compound, tree_text, members_text};
+ghost use Rattle.redlog_printer.specs.ArgumentText.{argument_text};
 ghost use Rattle.formula_meaning.specs.Within.{IsTreeWithin, AreTreesWithin};
 ghost use Rattle.redlog_printer.specs.Writing.{text_limit};
 

@@ -10,7 +10,8 @@ use Rattle.qe_syntax.specs.declared.tree.Formula as written
 use Rattle.qe_syntax.specs.declared.tree.Formula.TheVariants as formula
 use Rattle.qe_syntax.specs.declared.tree.Formula.TheOpen as layer
 use Rattle.qe_syntax.specs.declared.tree.Formulas as writtens
-use Rattle.qe_syntax.specs.Trees.{Compare, FormulaTree, formula_tree}
+use Rattle.qe_syntax.specs.Trees.{Compare, FormulaTree}
+use Rattle.qe_syntax.specs.CodeTrees.{formula_tree}
 use Rattle.qe_syntax.proofs.TreeEquations.{formula-True, formula-False, formula-Cong, formula-Ncong, formula-Not, formula-And, formula-Or, formula-Impl, formula-Repl, formula-Equiv, formula-Ex, formula-All, formula-Named}
 use Rattle.statement_syntax.specs.Constraints.{is_constraint, is_weak_constraint}
 

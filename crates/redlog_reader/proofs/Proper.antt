@@ -24,7 +24,8 @@ use Rattle.qe_syntax.specs.Proper.{IsNumeral, IsSigned}
 use Rattle.qe_syntax.specs.Writable.{IsWritableEntry, AreWritableEntries, IsWritableTerm, AreWritableTerms, IsWritableFormula, AreWritableFormulas}
 use Rattle.statement_syntax.specs.declared.grid.Ratio.{Ratio}
 use Rattle.statement_syntax.specs.declared.grid.GridAxis.{GridAxis}
-use Rattle.statement_syntax.specs.Constraints.{is_constraint, AreConstraints, is_weak_constraint, AreWeakConstraints}
+use Rattle.statement_syntax.specs.Constraints.{is_constraint, is_weak_constraint}
+use Rattle.statement_syntax.specs.ConstraintLists.{AreConstraints, AreWeakConstraints}
 use Rattle.statement_syntax.specs.Writable.{IsWritableRatio, IsWritableAxis, AreWritableNumbers, IsWritableCommand, IsWritableAction, IsWritable}
 use Rattle.redlog_reader.specs.Grammar.{product_of, sum_of, conjunction_of, disjunction_of, quantified_names, Factors, no_factor, times, over, Members, no_member, plus, minus, Names, last_name, more_names, SpellsNames, one_name, many_names}
 use Rattle.redlog_tokens.proofs.ProperTokens.{AreProperTerminals}

@@ -15,7 +15,8 @@ use Rattle.redlog_tokens.specs.declared.terminal.Word.TheVariants as word
 use Rattle.redlog_reader.specs.declared.pending.Arrow.TheVariants as arrow
 use Rattle.redlog_reader.specs.Machine.{Reading, term_of, formula_of, Frame, Group, Quantified, Congruence, Negation, Compares, Added, Multiplied, Listed, Arrows}
 use Rattle.redlog_reader.specs.Machine.{Mode, Wants, Fresh, Held, Raised, Binder, Binding, NameWanted, NameRead, Scoped, Congruent, Outcome, Fails, Stops, Moves, strength, level, takes, on_term, on_formula, folded, continued, factors, members, listed, grouped, pushed, multiplies, adds, compares, joins, implies, closed, separated, operated, joined, held, fresh, wanted, step, run}
-use Rattle.redlog_reader.specs.Grammar.{quantified_names, quantifier_word, SpellsFactor, number, inner_sum, raised, SpellsProduct, product, Factors, times, over, SpellsSum, sum, plus_sum, minus_sum, Members, plus, minus}
+use Rattle.redlog_reader.specs.Grammar.{quantified_names, SpellsFactor, number, inner_sum, raised, SpellsProduct, product, Factors, times, over, SpellsSum, sum, plus_sum, minus_sum, Members, plus, minus}
+use Rattle.redlog_reader.specs.QuantifierWord.{quantifier_word}
 use Rattle.redlog_reader.specs.Grammar.{IsRelation, relation_sign, relation_word, congruent, incongruent, Names, last_name, more_names, SpellsNames, one_name, many_names}
 use Rattle.redlog_reader.specs.Grammar.{SpellsPrime, truth, falsity, congruence, inner_formula, exists, for_all, SpellsConjunction, conjunction, Conjuncts, conjunct, SpellsDisjunction, disjunction, Disjuncts, disjunct}
 use Rattle.redlog_reader.specs.Grammar.{SpellsReplication, replication, Repls, repl, SpellsFormula, equivalence, Equivs, equiv}

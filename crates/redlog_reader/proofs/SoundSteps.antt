@@ -13,7 +13,8 @@ use Rattle.redlog_tokens.specs.declared.terminal.Word.{Word}
 use Rattle.redlog_reader.specs.declared.pending.Arrow.TheVariants as arrow
 use Rattle.redlog_reader.specs.Machine.{Reading, Term, Formula, Bare, term_of, formula_of, Frame, Group, Quantified, Congruence, Negation, Compares, Added, Multiplied, Listed, Arrows}
 use Rattle.redlog_reader.specs.Machine.{level, takes_last, takes, signed_term, multiplied, on_term, on_formula, ended, folded}
-use Rattle.redlog_reader.specs.Grammar.{product_of, sum_of, conjunction_of, disjunction_of, quantifier_word, SpellsFactor, variable, SpellsPower, first_power, SpellsProduct, product, Factors, no_factor, SpellsSum, sum, Members, no_member}
+use Rattle.redlog_reader.specs.Grammar.{product_of, sum_of, conjunction_of, disjunction_of, SpellsFactor, variable, SpellsPower, first_power, SpellsProduct, product, Factors, no_factor, SpellsSum, sum, Members, no_member}
+use Rattle.redlog_reader.specs.QuantifierWord.{quantifier_word}
 use Rattle.redlog_reader.specs.Grammar.{IsRelation, comparison, SpellsNames}
 use Rattle.redlog_reader.specs.Grammar.{SpellsPrime, named_formula, SpellsNegation, negation, compared, prime, SpellsConjunction, conjunction, Conjuncts, no_conjunct, SpellsDisjunction, disjunction, Disjuncts, no_disjunct}
 use Rattle.redlog_reader.specs.Grammar.{SpellsImplication, no_implication, implication, SpellsReplication, replication, Repls, no_repl, SpellsFormula, equivalence, Equivs, no_equiv}

@@ -4,8 +4,10 @@ use Rattle.std.specs.Prelude.{Option, Some, None}
 use Rattle.statement_syntax.specs.Statements.{StatementTree}
 use Rattle.redlog_tokens.specs.declared.token.Token.{Token}
 use Rattle.redlog_tokens.specs.declared.token.TokenKind.{TokenKind}
-use Rattle.redlog_tokens.specs.Terminals.{terminals, terminal_of}
-use Rattle.redlog_tokens.specs.Lexing.{lexeme_of, AreTokens, IsLexical, LexicalWhere}
+use Rattle.redlog_tokens.specs.Terminals.{terminal_of}
+use Rattle.redlog_tokens.specs.TerminalList.{terminals}
+use Rattle.redlog_tokens.specs.Lexing.{IsLexical}
+use Rattle.redlog_tokens.specs.Longest.{lexeme_of, AreTokens, LexicalWhere}
 use Rattle.redlog_tokens.specs.Levels.{Passes}
 use Rattle.redlog_reader.specs.Grammar.{SpellsStatement}
 use Rattle.redlog_reader.specs.Reading.{Refuses}

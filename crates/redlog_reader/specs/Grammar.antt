@@ -55,11 +55,6 @@ abbrev pub quantified_names : Quantifier → List (List ℕ) → FormulaTree →
 quantified_names quantifier [] f = f
 quantified_names quantifier (x ∷ xs) f = quantified quantifier x (quantified_names quantifier xs f)
 
--- the word of the quantifier: all, or ex
-abbrev pub quantifier_word : Quantifier → Word
-quantifier_word ForAll = word.All
-quantifier_word Exists = word.Ex
-
 mutual
   -- factor = number | name | "(" sum ")"
   pub data SpellsFactor : List Terminal → TermTree → List Terminal → Type 0 where

@@ -1,4 +1,5 @@
 pub mod Grammar
+pub mod QuantifierWord
 pub mod Statement
 pub mod Machine
 pub mod Reader

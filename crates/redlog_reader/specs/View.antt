@@ -1,6 +1,7 @@
 -- What the values of the code stand for, while terms and formulas are read.
 use Rattle.std.specs.Prelude.{List, [], ◌∷◌, map, reverse}
-use Rattle.qe_syntax.specs.Trees.{TermTree, term_tree, formula_tree}
+use Rattle.qe_syntax.specs.Trees.{TermTree}
+use Rattle.qe_syntax.specs.CodeTrees.{term_tree, formula_tree}
 use Rattle.qe_syntax.specs.declared.tree.Term as written
 use Rattle.qe_syntax.specs.declared.tree.Term.TheVariants as term
 use Rattle.redlog_reader.specs.declared.operand.Operand as operands

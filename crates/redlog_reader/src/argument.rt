@@ -1,5 +1,5 @@
 ghost use Rattle.std.specs.Prelude.{◌≡◌, map, IfOk, IfErr, Some, None};
-ghost use Rattle.qe_syntax.specs.Trees.{term_tree, formula_tree};
+ghost use Rattle.qe_syntax.specs.CodeTrees.{term_tree, formula_tree};
 ghost use Rattle.statement_syntax.specs.Constraints.{is_constraint, is_weak_constraint};
 ghost use Rattle.redlog_reader.specs.Reader.{formula_read, sum_read, comparison_read, begins_congruence, atom_read, bound_read, weak_read, kind_read, items_read, braced_read, argument_read};
 ghost use Rattle.redlog_reader.specs.Reading.{Refuses};

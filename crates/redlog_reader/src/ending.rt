@@ -1,5 +1,5 @@
 ghost use Rattle.std.specs.Prelude.{◌≡◌, [], ◌∷◌, ◌++◌, map, IfOk, IfErr, OnOk};
-ghost use Rattle.qe_syntax.specs.Trees.{term_tree, formula_tree};
+ghost use Rattle.qe_syntax.specs.CodeTrees.{term_tree, formula_tree};
 ghost use Rattle.redlog_reader.specs.Grammar.{sum_of, product_of};
 ghost use Rattle.redlog_reader.specs.Machine.{Negation, Compares, Added, Multiplied, Listed, Arrows, signed_term, multiplied, list_of, arrow_of, ended};
 ghost use Rattle.redlog_reader.specs.Reading.{Refuses};

@@ -1,5 +1,5 @@
 ghost use Rattle.std.specs.Prelude.{◌≡◌, IfOk, IfErr, MatchOption, Some, None};
-ghost use Rattle.qe_syntax.specs.Trees.{formula_tree};
+ghost use Rattle.qe_syntax.specs.CodeTrees.{formula_tree};
 ghost use Rattle.redlog_reader.specs.Reader.{items_read, ratio_read, axis_read, grid_read};
 ghost use Rattle.redlog_reader.specs.Reading.{Refuses};
 

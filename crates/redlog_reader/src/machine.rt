@@ -1,6 +1,6 @@
 ghost use Rattle.std.specs.Prelude.{◌≡◌, Bool, List, [], ◌∷◌, ◌++◌, map, IfOk, IfErr, OnOk};
 ghost use Rattle.formula_meaning.specs.Shape.{quantified};
-ghost use Rattle.qe_syntax.specs.Trees.{term_tree, formula_tree};
+ghost use Rattle.qe_syntax.specs.CodeTrees.{term_tree, formula_tree};
 ghost use Rattle.redlog_tokens.specs.declared.terminal.Terminal.{Terminal};
 ghost use Rattle.redlog_reader.specs.Machine.{Frame, Quantified, Congruence, Wants, Fresh, Moves, Fails, raised_to, binds, first_bound, next_bound, after_bound, scoped, opens, strength, Added, takes, folded, factors, members, listed, grouped, pushed, multiplies, adds, compares, joins, implies, congruence_of, closed, separated, operated, joined, held, fresh, wanted, step, run};
 ghost use Rattle.redlog_reader.specs.Grammar.{quantified_names};

@@ -1,5 +1,5 @@
 ghost use Rattle.std.specs.Prelude.{◌≡◌, Some, None, MatchOption, IfOk, IfErr};
-ghost use Rattle.qe_syntax.specs.Trees.{term_tree, formula_tree};
+ghost use Rattle.qe_syntax.specs.CodeTrees.{term_tree, formula_tree};
 ghost use Rattle.redlog_reader.specs.Machine.{term_of, formula_of};
 ghost use Rattle.redlog_reader.specs.Machine as Reading;
 ghost use Rattle.redlog_reader.specs.View.{reading_of, named_reading};

@@ -1,6 +1,7 @@
 ghost use Rattle.std.specs.Prelude.{◌≡◌, ℕ, List, IfOk, IfErr};
 ghost use Rattle.statement_syntax.specs.Writable.{IsWritable};
-ghost use Rattle.statement_syntax.specs.Statements.{StatementTree, statement_tree};
+ghost use Rattle.statement_syntax.specs.Statements.{StatementTree};
+ghost use Rattle.statement_syntax.specs.CodeTrees.{statement_tree};
 ghost use Rattle.redlog_reader.specs.Statement.{Spells, Unread};
 
 use crate::statement::statement;

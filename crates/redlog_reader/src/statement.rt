@@ -1,6 +1,7 @@
 ghost use Rattle.std.specs.Prelude.{◌≡◌, ◌∷◌, IfOk, IfErr, MatchOption, Some, None};
-ghost use Rattle.qe_syntax.specs.Trees.{formula_tree};
-ghost use Rattle.statement_syntax.specs.Statements.{statement_tree, action_tree, command_tree, Say, Assign};
+ghost use Rattle.qe_syntax.specs.CodeTrees.{formula_tree};
+ghost use Rattle.statement_syntax.specs.Statements.{Say, Assign};
+ghost use Rattle.statement_syntax.specs.CodeTrees.{statement_tree, action_tree, command_tree};
 ghost use Rattle.redlog_tokens.specs.declared.terminal.Terminal.{Terminal};
 ghost use Rattle.redlog_reader.specs.Grammar.{setting_of};
 ghost use Rattle.redlog_reader.specs.Reader.{pointed_read, result_from, result_read, is_any, anys_read, context_read, ignored_read, assumed_read, action_from, named_from, action_read, alone, ending, statement_read};

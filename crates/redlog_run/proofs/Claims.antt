@@ -18,7 +18,8 @@ use Rattle.redlog_run.specs.declared.stop.AnswerStop.TheVariants as answer
 use Rattle.redlog_run.specs.declared.stop.StreamStop.TheVariants as streams
 use Rattle.redlog_run.specs.declared.status.Status.{Status}
 use Rattle.redlog_run.specs.declared.status.Status.TheVariants as status
-use Rattle.redlog_run.specs.Claim.{Claim, ClaimUnder}
+use Rattle.redlog_run.specs.Claim.{Claim}
+use Rattle.redlog_run.specs.ClaimUnder.{ClaimUnder}
 use Rattle.redlog_run.specs.Ends.{Ends, ends, HasFailed, TookFront}
 use Rattle.redlog_run.specs.Outcome.{script_limit, read_size, node_limit, Given, IsWhole, Answered, OutcomeOfSource, outcome_of, completes_of, Faults}
 use Rattle.redlog_run.specs.Run.{RunOf, begin, RunsSo, RunsAll, IsEndedWith}

@@ -6,7 +6,8 @@ use Rattle.redlog_tokens.specs.Pieces.{HasNoTokenFrom, IsPiece}
 use Rattle.redlog_tokens.specs.Lexing.{Lexes, over}
 use Rattle.script_splitter.proofs.Places.{piece_within}
 use Rattle.session_meaning.specs.State.{State, first_state}
-use Rattle.redlog_run.specs.Run.{RunOf, RunTo, begin, on, RunsTo, RunsAll, Adds, piece_bytes, HasEnd, here, later, IsEndedWith, IsTooLong}
+use Rattle.redlog_run.specs.Run.{RunOf, RunTo, begin, on, RunsTo, RunsAll, piece_bytes, HasEnd, here, later, IsEndedWith, IsTooLong}
+use Rattle.redlog_run.specs.Adding.{Adds}
 use Rattle.redlog_run.proofs.Ending.{spells_finish, spells_no_finish, end_after}
 use Rattle.redlog_run.proofs.Replies.{Continues, begins, ends, stops, goes_on}
 

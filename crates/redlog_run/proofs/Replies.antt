@@ -11,7 +11,8 @@ use Rattle.session_meaning.specs.Words.{word_of}
 use Rattle.session_meaning.specs.State.{State}
 use Rattle.session_meaning.specs.Reply.{Reply}
 use Rattle.redlog_run.specs.Lines.{refusal_line, lines_of}
-use Rattle.redlog_run.specs.Run.{finished, answered, refused, Run, over, last, then, piece_bytes, Adds}
+use Rattle.redlog_run.specs.Run.{finished, answered, refused, Run, over, last, then, piece_bytes}
+use Rattle.redlog_run.specs.Adding.{Adds}
 
 or_false : (b : Bool) → b ≡ (b || false)
 or_false true = refl

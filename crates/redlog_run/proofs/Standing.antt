@@ -14,7 +14,8 @@ use Rattle.redlog_run.specs.declared.answer.Answering.{Answering}
 use Rattle.session_meaning.specs.declared.line.StatementError.TheVariants as error
 use Rattle.session_meaning.specs.Words.{word_of}
 use Rattle.redlog_run.specs.Lines.{refusal_line}
-use Rattle.redlog_run.specs.Run.{AnswersPiece, finished, RunOf, RunTo, begin, RunsTo, RunsSo, Adds}
+use Rattle.redlog_run.specs.Run.{AnswersPiece, finished, RunOf, RunTo, begin, RunsTo, RunsSo}
+use Rattle.redlog_run.specs.Adding.{Adds}
 use Rattle.qe_io.specs.Streams.{Took}
 use Rattle.redlog_run.specs.Ends.{TookFront}
 use Rattle.redlog_run.specs.Script.{Stands, IsEnded, StandsOrEnds, IsWritten, HoldsOrWrote, Part, EndsIn, RunsOut, FailsIn}

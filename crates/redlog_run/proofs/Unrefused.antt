@@ -10,7 +10,8 @@ use Rattle.session_meaning.specs.declared.line.StatementError.TheVariants as err
 use Rattle.session_meaning.specs.State.{State}
 use Rattle.session_meaning.specs.Reply.{RefusesAction, SpellsRefused, Reply}
 use Rattle.redlog_run.specs.Run.{AnswersPiece, finished, answered, refused, Run, over, last, then, RunTo, begin, on, piece_bytes}
-use Rattle.redlog_run.specs.Unrefused.{IsUnrefusedPiece, IsUnrefused, UnrefusedScriptsHaveNoRefusal}
+use Rattle.redlog_run.specs.Unrefused.{IsUnrefusedPiece, IsUnrefused}
+use Rattle.redlog_run.specs.NoRefusal.{UnrefusedScriptsHaveNoRefusal}
 
 module _ (s : State) (limit : ℕ) (piece : List ℕ) (t : StatementTree) (h : Spells piece t)
     (none : (e : StatementError) → e ≢ error.Memory → RefusesAction s limit t.printed t.action e → ⊥) where

@@ -20,10 +20,3 @@ pub record Claim (words : List (String Global)) (before after : Ends) (s : Statu
   pub outcome : (options : Options) → Spells words options → Outcome options before after s
   -- Where neither end fails, a script whose statements have no cause of a refusal is answered, or memory runs out.
   pub complete : ¬ (HasFailed before after) → (options : Options) → Spells words options → Completes options before s
-
--- what is said once the words have given these options
-pub record ClaimUnder (options : Options) (before after : Ends) (s : Status) : Type 0 where
-  pub used : ¬ (s ≡ status.Usage)
-  pub faults : Faults before after s
-  pub outcome : Outcome options before after s
-  pub complete : ¬ (HasFailed before after) → Completes options before s

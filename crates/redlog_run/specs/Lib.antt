@@ -1,8 +1,12 @@
 pub mod Claim
+pub mod ClaimUnder
 pub mod Ends
 pub mod Outcome
+pub mod Workers
 pub mod Run
+pub mod Adding
 pub mod Unrefused
+pub mod NoRefusal
 pub mod Lines
 pub mod Numbers
 pub mod Script

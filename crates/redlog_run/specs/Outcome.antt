@@ -21,10 +21,6 @@ read_size = 16384
 abbrev pub node_limit : Options → ℕ
 node_limit options = unwrap_or options.nodes 1000000
 
--- by how many threads at most it works on an elimination
-abbrev pub worker_limit : Options → ℕ
-worker_limit options = unwrap_or options.workers 4
-
 -- ---- a script of the source
 
 -- What the source gave: a script within the limit, and the bytes of one read at most that were not looked at.

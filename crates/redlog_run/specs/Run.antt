@@ -3,7 +3,7 @@ use Rattle.std.specs.Prelude.{◌≡◌, ◌≢◌, ℕ, ◌-◌, ◌<◌, ◌�
 use Rattle.statement_syntax.specs.Statements.{StatementTree, Finish}
 use Rattle.redlog_tokens.specs.Pieces.{HasNoTokenFrom, IsPiece}
 use Rattle.redlog_reader.specs.Statement.{Spells}
-use Rattle.script_splitter.specs.Pieces.{IsOpen}
+use Rattle.script_splitter.specs.OpenPiece.{IsOpen}
 use Rattle.session_meaning.specs.declared.line.Line.{Line}
 use Rattle.session_meaning.specs.declared.line.Line.TheVariants.{Finished}
 use Rattle.session_meaning.specs.declared.line.StatementError.{StatementError}
@@ -87,11 +87,3 @@ pub record IsEndedWith (longest limit : ℕ) (script lines : List ℕ) (refusal 
 pub record IsTooLong (longest : ℕ) (script : List ℕ) : Type 0 where
   pub long : longest < length script
   pub unended : ¬ (HasEnd longest script 0)
-
--- what one piece adds to the lines and to the flag of a refusal
-pub record Adds (s : State) (limit : ℕ) (piece : List ℕ) (offset : ℕ) (ends : Bool) (next : State) (lines : List ℕ) (refusal : Bool) (all : List ℕ) (some : Bool) : Type 0 where
-  pub added : List ℕ
-  pub is_refused : Bool
-  pub answer : AnswersPiece s limit piece offset ends added is_refused next
-  pub lines_are : all ≡ lines ++ added
-  pub refusal_is : some ≡ (refusal || is_refused)

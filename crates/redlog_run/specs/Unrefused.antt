@@ -1,5 +1,5 @@
 -- Scripts of statements that have no cause of a refusal.
-use Rattle.std.specs.Prelude.{◌≢◌, ℕ, List, true, false}
+use Rattle.std.specs.Prelude.{◌≢◌, ℕ, List, false}
 use Rattle.statement_syntax.specs.Statements.{StatementTree}
 use Rattle.redlog_tokens.specs.Pieces.{IsPiece}
 use Rattle.redlog_reader.specs.Statement.{Spells}
@@ -7,7 +7,7 @@ use Rattle.session_meaning.specs.declared.line.StatementError.{StatementError}
 use Rattle.session_meaning.specs.declared.line.StatementError.TheVariants as error
 use Rattle.session_meaning.specs.State.{State}
 use Rattle.session_meaning.specs.Reply.{RefusesAction}
-use Rattle.redlog_run.specs.Run.{RunOf, RunTo, piece_bytes}
+use Rattle.redlog_run.specs.Run.{RunTo, piece_bytes}
 
 -- the piece spells a statement that may not be refused
 pub record IsUnrefusedPiece (s : State) (limit : ℕ) (piece : List ℕ) : Type 0 where
@@ -20,11 +20,4 @@ abbrev pub IsUnrefused : ℕ → List ℕ → Type 0
 IsUnrefused limit script =
     (to start end : ℕ) (s : State) (lines : List ℕ) → RunTo limit script to s lines false → IsPiece script to start end → IsUnrefusedPiece s limit (piece_bytes script start end)
 
--- no run of the script has a refusal
-abbrev pub HasNoRefusal : ℕ → List ℕ → Type 0
-HasNoRefusal limit script = ¬ ((lines : List ℕ) × RunOf limit script lines true)
-
 -- ---- what is proved
-
-abbrev pub UnrefusedScriptsHaveNoRefusal : Type 0
-UnrefusedScriptsHaveNoRefusal = (limit : ℕ) (script : List ℕ) → IsUnrefused limit script → HasNoRefusal limit script

@@ -8,7 +8,7 @@ use Rattle.session_meaning.specs.State.{theory_of}
 use Rattle.session_meaning.specs.Words.{context_text}
 use Rattle.redlog_run.specs.Lines.{newline}
 use Rattle.redlog_run.specs.Run.{RunOf, piece_bytes}
-use Rattle.redlog_run.specs.Unrefused.{HasNoRefusal}
+use Rattle.redlog_run.specs.NoRefusal.{HasNoRefusal}
 
 -- from this place on the script spells these statements, up to the first that ends it, or else to its end
 pub data SpellsFrom (script : List ℕ) : ℕ → List StatementTree → Type 0 where

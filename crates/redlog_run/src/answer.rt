@@ -3,7 +3,8 @@ ghost use Rattle.script_splitter.specs.Pieces.{HasBytes};
 ghost use Rattle.session_commands.specs.Seen.{state_in};
 ghost use Rattle.session_meaning.specs.Words.{word_of};
 ghost use Rattle.redlog_run.specs.Lines.{refusal_line};
-ghost use Rattle.redlog_run.specs.Run.{RunOf, Adds};
+ghost use Rattle.redlog_run.specs.Run.{RunOf};
+ghost use Rattle.redlog_run.specs.Adding.{Adds};
 ghost use Rattle.redlog_run.specs.Script.{Stands, StandsOrEnds};
 
 use crate::team::Team;

@@ -1,7 +1,7 @@
 //! That scripts are answered. Each function does nothing; its contract is a law.
 
 ghost use Rattle.redlog_run.specs.Accepted.{NeverRefusedIsUnrefused, SomeFormulaIsUnrefused};
-ghost use Rattle.redlog_run.specs.Unrefused.{UnrefusedScriptsHaveNoRefusal};
+ghost use Rattle.redlog_run.specs.NoRefusal.{UnrefusedScriptsHaveNoRefusal};
 ghost use Rattle.redlog_run.specs.WithoutFormulas.{EndingIsAnswered, ChoicesAreAnswered, NoneIsRefused, SomeChoiceIsAnswered};
 
 /// A script each of whose statements, in each state that the ones before it may leave, has no cause of a refusal has no run with a

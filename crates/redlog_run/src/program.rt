@@ -1,8 +1,10 @@
 ghost use Rattle.std.specs.Prelude.{◌≡◌, ◌≤◌, IfOk};
-ghost use Rattle.command_words.specs.Words.{AreInRange};
-ghost use Rattle.redlog_run.specs.Claim.{Claim, ClaimUnder};
+ghost use Rattle.command_words.specs.OptionIds.{AreInRange};
+ghost use Rattle.redlog_run.specs.Claim.{Claim};
+ghost use Rattle.redlog_run.specs.ClaimUnder.{ClaimUnder};
 ghost use Rattle.redlog_run.specs.Ends.{ends};
-ghost use Rattle.redlog_run.specs.Outcome.{node_limit, worker_limit};
+ghost use Rattle.redlog_run.specs.Outcome.{node_limit};
+ghost use Rattle.redlog_run.specs.Workers.{worker_limit};
 ghost use Rattle.redlog_run.specs.Steps.{ClaimOfGenerated, IsTally};
 
 use crate::answer::answer_script;

@@ -11,8 +11,10 @@ use Rattle.redlog_tokens.specs.declared.terminal.Terminal.{Terminal}
 use Rattle.redlog_tokens.specs.declared.token.Token.{Token}
 use Rattle.redlog_tokens.specs.declared.token.TokenKind.{TokenKind}
 use Rattle.redlog_tokens.specs.Ahead.{named, seen, size_ahead, IsAhead, AreTerminals}
-use Rattle.redlog_tokens.specs.Lexing.{front, IsFront, Lexes, LexesFrom, lexeme_of, IsLexical}
-use Rattle.redlog_tokens.specs.Terminals.{terminal_of, terminals}
+use Rattle.redlog_tokens.specs.Lexing.{front, Lexes, LexesFrom, IsLexical}
+use Rattle.redlog_tokens.specs.Longest.{IsFront, lexeme_of}
+use Rattle.redlog_tokens.specs.Terminals.{terminal_of}
+use Rattle.redlog_tokens.specs.TerminalList.{terminals}
 use Rattle.redlog_tokens.proofs.Lexemes.{past_space, past_token, to_end, at_end}
 use Rattle.redlog_tokens.proofs.Scanned.{tokens_more, bad_comes, tokens_end}
 

@@ -5,11 +5,13 @@ use Rattle.std.specs.List.{prefix_len}
 use Rattle.redlog_tokens.specs.declared.lexer.Front.{Front}
 use Rattle.redlog_tokens.specs.declared.lexer.Front.TheVariants as found
 use Rattle.redlog_tokens.specs.declared.lexer.Lexeme.{Lexeme}
-use Rattle.redlog_tokens.specs.Terminals.{terminals, terminal_of}
+use Rattle.redlog_tokens.specs.Terminals.{terminal_of}
+use Rattle.redlog_tokens.specs.TerminalList.{terminals}
 use Rattle.redlog_tokens.specs.declared.token.Token.{Token}
 use Rattle.redlog_tokens.specs.declared.token.TokenKind.{TokenKind}
 use Rattle.redlog_tokens.specs.declared.token.TokenKind.TheVariants as token
-use Rattle.redlog_tokens.specs.Lexing.{is_blank, is_in_line, long_signs, short_signs, worded, signed, literal_of, front, size, Lexes, over, spaced, taken, lexeme_of, SomeBad}
+use Rattle.redlog_tokens.specs.Lexing.{is_blank, is_in_line, long_signs, short_signs, worded, signed, literal_of, front, Lexes, over, spaced, taken, SomeBad}
+use Rattle.redlog_tokens.specs.Longest.{size, lexeme_of}
 use Rattle.qe_syntax.specs.Names.{is_digit, is_letter, is_name_part, is_one_of}
 
 space_apart : {f : Front} {kind : Option TokenKind} {m n : ℕ} → f ≡ found.Space n → f ≡ found.Token kind m → ⊥

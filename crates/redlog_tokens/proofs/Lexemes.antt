@@ -7,7 +7,8 @@ use Rattle.redlog_tokens.specs.declared.lexer.Front.{Front}
 use Rattle.redlog_tokens.specs.declared.lexer.Front.TheVariants as found
 use Rattle.redlog_tokens.specs.declared.lexer.Lexeme.{Lexeme}
 use Rattle.redlog_tokens.specs.declared.token.TokenKind.{TokenKind}
-use Rattle.redlog_tokens.specs.Lexing.{value_after, literal_of, IsFront, size, Lexes, over, spaced, taken, LexesFrom}
+use Rattle.redlog_tokens.specs.Lexing.{value_after, literal_of, Lexes, over, spaced, taken, LexesFrom}
+use Rattle.redlog_tokens.specs.Longest.{IsFront, size}
 
 -- the digits so far and those to come say at least what those so far say
 pub value_grows : (n : ℕ) (ds : List ℕ) → n ≤ value_after n ds

@@ -2,7 +2,8 @@
 use Rattle.std.proofs.Common.{◌≡◌, ℕ, ◌-◌, true, false, List, [], ◌∷◌, length, take, drop, sym, refl, ap, ◌∙◌, subst}
 use Rattle.redlog_tokens.specs.declared.lexer.Lexeme.{Lexeme}
 use Rattle.redlog_tokens.specs.Lexing.{LexesFrom}
-use Rattle.redlog_tokens.specs.Pieces.{is_end, Cuts, last, marked, inside, EndsFrom, HasNoTokenFrom, IsPiece, HasNoToken, IsOnlyPiece, HasMorePieces}
+use Rattle.redlog_tokens.specs.Pieces.{is_end, Cuts, last, marked, inside, HasNoTokenFrom, IsPiece}
+use Rattle.redlog_tokens.specs.OnePiece.{EndsFrom, HasNoToken, IsOnlyPiece, HasMorePieces}
 use Rattle.redlog_tokens.proofs.Lexed.{lexed, same_lexemes}
 
 -- where no token stands the last piece ends at the end of the script

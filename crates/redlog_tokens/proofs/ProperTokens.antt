@@ -12,11 +12,13 @@ use Rattle.redlog_tokens.specs.declared.lexer.Lexeme.{Lexeme}
 use Rattle.std.proofs.lemmas.Int.{ints}
 use Rattle.redlog_tokens.specs.declared.terminal.Terminal.{Terminal}
 use Rattle.redlog_tokens.specs.declared.terminal.Terminal.TheVariants as terminal
-use Rattle.redlog_tokens.specs.Terminals.{terminals, terminal_of, sign_of}
+use Rattle.redlog_tokens.specs.Terminals.{terminal_of, sign_of}
+use Rattle.redlog_tokens.specs.TerminalList.{terminals}
 use Rattle.redlog_tokens.specs.declared.token.Token.{Token}
 use Rattle.redlog_tokens.specs.declared.token.TokenKind.{TokenKind}
 use Rattle.redlog_tokens.specs.declared.token.TokenKind.TheVariants as token
-use Rattle.redlog_tokens.specs.Lexing.{is_blank, worded, signed, value_after, literal_of, front, Lexes, over, spaced, taken, lexeme_of, AreTokens}
+use Rattle.redlog_tokens.specs.Lexing.{is_blank, worded, signed, value_after, literal_of, front, Lexes, over, spaced, taken}
+use Rattle.redlog_tokens.specs.Longest.{lexeme_of, AreTokens}
 use Rattle.qe_syntax.specs.Names.{is_digit, is_letter, is_name_part}
 use Rattle.redlog_tokens.proofs.Lexed.{of_sign, kinds_head, kinds_tail}
 

@@ -3,7 +3,8 @@ use Rattle.std.proofs.Common.{◌≡◌, ℕ, List, [], ◌∷◌, ◌++◌, map
 use Rattle.std.specs.Prelude.{None}
 use Rattle.redlog_tokens.specs.declared.lexer.Lexeme.{Lexeme}
 use Rattle.redlog_tokens.specs.declared.token.Token.{Token}
-use Rattle.redlog_tokens.specs.Lexing.{Lexes, LexesFrom, lexeme_of, AreTokens, SomeBad, IsLexical}
+use Rattle.redlog_tokens.specs.Lexing.{Lexes, LexesFrom, SomeBad, IsLexical}
+use Rattle.redlog_tokens.specs.Longest.{lexeme_of, AreTokens}
 use Rattle.redlog_tokens.proofs.Lexed.{lexed}
 
 pushed : (done : List Token) (t : Token) (ts : List Lexeme) → map lexeme_of done ++ lexeme_of t ∷ ts ≡ map lexeme_of (done ++ t ∷ []) ++ ts

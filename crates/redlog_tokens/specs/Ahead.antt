@@ -7,8 +7,10 @@ use Rattle.redlog_tokens.specs.declared.lexer.Front.TheVariants as found
 use Rattle.redlog_tokens.specs.declared.terminal.Terminal.{Terminal}
 use Rattle.redlog_tokens.specs.declared.token.Token.{Token}
 use Rattle.redlog_tokens.specs.declared.token.TokenKind.{TokenKind}
-use Rattle.redlog_tokens.specs.Lexing.{front, AreTokens}
-use Rattle.redlog_tokens.specs.Terminals.{terminal_of, terminals}
+use Rattle.redlog_tokens.specs.Lexing.{front}
+use Rattle.redlog_tokens.specs.Longest.{AreTokens}
+use Rattle.redlog_tokens.specs.Terminals.{terminal_of}
+use Rattle.redlog_tokens.specs.TerminalList.{terminals}
 
 -- the terminal that a token is; a bad one is none
 abbrev pub named : Option TokenKind → Option Terminal

@@ -1,6 +1,6 @@
 -- What bytes spell as tokens: the longest token each time, with blanks and comments between tokens dropped.
-use Rattle.std.specs.Prelude.{◌≡◌, ℕ, ◌+◌, ◌-◌, ◌*◌, ◌^◌, ◌≤◌, Bool, false, true, not, ◌&&◌, ◌||◌, List, [], ◌∷◌, length, map, ◌⊎◌, take, drop, codes, nat_lt, ◌==◌, if◌then◌else◌, Option, Some, None, pos}
-use Rattle.std.specs.List.{prefix_len, list_all}
+use Rattle.std.specs.Prelude.{◌≡◌, ℕ, ◌+◌, ◌-◌, ◌*◌, ◌^◌, Bool, not, ◌||◌, List, [], ◌∷◌, length, ◌⊎◌, take, drop, codes, nat_lt, ◌==◌, if◌then◌else◌, Option, Some, None, pos}
+use Rattle.std.specs.List.{prefix_len}
 use Rattle.qe_syntax.specs.Names.{is_digit, is_letter, is_name_part, is_one_of, is_word}
 use Rattle.qe_syntax.specs.declared.tree.Literal.{Literal}
 use Rattle.qe_syntax.specs.declared.tree.Literal.TheVariants.{Fits, Past}
@@ -8,7 +8,6 @@ use Rattle.redlog_tokens.specs.declared.lexer.Front.{Front}
 use Rattle.redlog_tokens.specs.declared.lexer.Front.TheVariants as found
 use Rattle.redlog_tokens.specs.declared.lexer.Lexeme.{Lexeme}
 use Rattle.redlog_tokens.specs.declared.token.Token.{Token}
-use Rattle.redlog_tokens.specs.declared.token.ReadError.{ReadError}
 use Rattle.redlog_tokens.specs.declared.token.ReadError.TheVariants as cause
 use Rattle.redlog_tokens.specs.declared.token.TokenKind.{TokenKind}
 use Rattle.redlog_tokens.specs.declared.token.TokenKind.TheVariants as token
@@ -62,16 +61,6 @@ front b bs =
     else (if is_letter b then found.Token (worded (take (1 + prefix_len is_name_part bs) (b ∷ bs))) (1 + prefix_len is_name_part bs)
     else signed (b ∷ bs))))
 
--- the number of bytes of what stands at the front
-abbrev pub size : Front → ℕ
-size (found.Space n) = n
-size (found.Token kind n) = n
-
--- what stands at the front of the bytes, of which there is one
-abbrev pub IsFront : List ℕ → Front → Type 0
-IsFront [] f = ⊥
-IsFront (b ∷ bs) f = front b bs ≡ f
-
 -- the bytes, of which the first stands at this place, spell these tokens; a bad one has no kind
 pub data Lexes : List ℕ → ℕ → List Lexeme → Type 0 where
   over : {at : ℕ} → Lexes [] at []
@@ -83,14 +72,6 @@ pub data Lexes : List ℕ → ℕ → List Lexeme → Type 0 where
 abbrev pub LexesFrom : List ℕ → ℕ → List Lexeme → Type 0
 LexesFrom script from = Lexes (drop from script) from
 
--- a good token with its place
-abbrev pub lexeme_of : Token → Lexeme
-lexeme_of t = record { kind = Some t.kind; start = t.start; end = t.end }
-
--- the bytes spell these tokens, and none is bad
-abbrev pub AreTokens : List ℕ → List Token → Type 0
-AreTokens bytes ts = Lexes bytes 0 (map lexeme_of ts)
-
 -- some token is bad
 abbrev pub SomeBad : List Lexeme → Type 0
 SomeBad [] = ⊥
@@ -101,30 +82,3 @@ pub record IsLexical (bytes : List ℕ) : Type 0 where
   pub lexemes : List Lexeme
   pub lexes : Lexes bytes 0 lexemes
   pub bad : SomeBad lexemes
-
--- the reading of tokens ends in Lexical where this holds, or for want of memory
-abbrev pub LexicalWhere : ReadError → Type 0 → Type 0
-LexicalWhere cause.Lexical P = P
-LexicalWhere cause.Memory P = Unit {0}
-LexicalWhere cause.Long P = ⊥
-LexicalWhere cause.Nesting P = ⊥
-LexicalWhere cause.Syntax P = ⊥
-
--- the text is a token's, good or of a name that is too long: a number is digits, a name or word a letter and then name parts
-abbrev pub is_token_text : List ℕ → Bool
-is_token_text [] = false
-is_token_text (b ∷ bs) =
-    (is_digit b && list_all is_digit bs) || ((is_letter b && list_all is_name_part bs) || (is_one_of (b ∷ bs) long_signs || is_one_of (b ∷ bs) short_signs))
-
--- the bytes begin with a token of this many bytes
-pub record BeginWithToken (bytes : List ℕ) (n : ℕ) : Type 0 where
-  pub within : n ≤ length bytes
-  pub token : is_token_text (take n bytes) ≡ true
-
--- no longer token begins at the place of this one
-abbrev pub IsLongest : List ℕ → Lexeme → Type 0
-IsLongest script t = (n : ℕ) → BeginWithToken (drop t.start script) n → t.start + n ≤ t.end
-
-abbrev pub AreLongest : List ℕ → List Lexeme → Type 0
-AreLongest script [] = Unit {0}
-AreLongest script (t ∷ ts) = IsLongest script t × AreLongest script ts

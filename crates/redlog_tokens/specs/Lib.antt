@@ -1,6 +1,9 @@
 pub mod Terminals
+pub mod TerminalList
 pub mod Lexing
+pub mod Longest
 pub mod Ahead
 pub mod Pieces
+pub mod OnePiece
 pub mod Levels
 pub mod Counting

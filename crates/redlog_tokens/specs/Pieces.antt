@@ -1,5 +1,5 @@
 -- How a script is cut into pieces: after each token ; or $.
-use Rattle.std.specs.Prelude.{◌≡◌, ℕ, ◌-◌, Bool, true, false, ◌||◌, List, [], ◌∷◌, length, take, drop, codes, bytes_eq, Option, Some, None}
+use Rattle.std.specs.Prelude.{◌≡◌, ℕ, Bool, true, false, ◌||◌, List, [], ◌∷◌, length, codes, bytes_eq, Option, Some, None}
 use Rattle.redlog_tokens.specs.declared.lexer.Lexeme.{Lexeme}
 use Rattle.redlog_tokens.specs.declared.token.TokenKind.{TokenKind}
 use Rattle.redlog_tokens.specs.declared.token.TokenKind.TheVariants as token
@@ -19,13 +19,6 @@ pub data Cuts : ℕ → List Lexeme → ℕ → List Lexeme → Type 0 where
   marked : {total : ℕ} {t : Lexeme} {ts : List Lexeme} → is_end t.kind ≡ true → Cuts total (t ∷ ts) t.end ts
   inside : {total end : ℕ} {t : Lexeme} {ts rest : List Lexeme} → is_end t.kind ≡ false → Cuts total ts end rest → Cuts total (t ∷ ts) end rest
 
--- a piece that goes on at this place, or begins there or later, ends at end
-pub record EndsFrom (script : List ℕ) (from end : ℕ) : Type 0 where
-  pub tokens : List Lexeme
-  pub rest : List Lexeme
-  pub lexes : LexesFrom script from tokens
-  pub cut : Cuts (length script) tokens end rest
-
 -- no token stands from this place on
 abbrev pub HasNoTokenFrom : List ℕ → ℕ → Type 0
 HasNoTokenFrom script from = LexesFrom script from []
@@ -38,22 +31,3 @@ pub record IsPiece (script : List ℕ) (from start end : ℕ) : Type 0 where
   pub tokens : LexesFrom script from (first ∷ others)
   pub begins : first.start ≡ start
   pub cut : Cuts (length script) (first ∷ others) end rest
-
--- the script has no token
-abbrev pub HasNoToken : List ℕ → Type 0
-HasNoToken script = HasNoTokenFrom script 0
-
--- the script has exactly one piece: it begins at its first token's offset, and these are its bytes
-pub record IsOnlyPiece (script : List ℕ) (offset : ℕ) (piece : List ℕ) : Type 0 where
-  pub end : ℕ
-  pub first : IsPiece script 0 offset end
-  pub bytes : piece ≡ take (end - offset) (drop offset script)
-  pub no_more : HasNoTokenFrom script end
-
--- the script has a first piece, which begins at this offset, and more pieces after it
-pub record HasMorePieces (script : List ℕ) (offset : ℕ) : Type 0 where
-  pub end : ℕ
-  pub first : IsPiece script 0 offset end
-  pub next_start : ℕ
-  pub next_end : ℕ
-  pub more : IsPiece script end next_start next_end

@@ -1,13 +1,11 @@
 -- Tokens as the grammar names them.
-use Rattle.std.specs.Prelude.{ℕ, List, [], ◌∷◌, Option, Some, None, codes, bytes_eq, map, unwrap_or, if◌then◌else◌}
-use Rattle.std.specs.Borrow.{Bor}
+use Rattle.std.specs.Prelude.{ℕ, List, [], ◌∷◌, Option, Some, None, codes, bytes_eq, unwrap_or, if◌then◌else◌}
 use Rattle.qe_syntax.specs.declared.tree.Relation.TheVariants.{Equal, Differs, Less, AtMost, Greater, AtLeast}
 use Rattle.redlog_tokens.specs.declared.terminal.Terminal.{Terminal}
 use Rattle.redlog_tokens.specs.declared.terminal.Terminal.TheVariants as terminal
 use Rattle.redlog_tokens.specs.declared.terminal.Mark.TheVariants as mark
 use Rattle.redlog_tokens.specs.declared.terminal.Word.{Word}
 use Rattle.redlog_tokens.specs.declared.terminal.Word.TheVariants as word
-use Rattle.redlog_tokens.specs.declared.token.Token.{Token}
 use Rattle.redlog_tokens.specs.declared.token.TokenKind.{TokenKind}
 use Rattle.redlog_tokens.specs.declared.token.TokenKind.TheVariants as token
 
@@ -24,10 +22,6 @@ words =
 abbrev pub known : List ℕ → List (List ℕ × Word) → Option Word
 known text [] = None
 known text (w ∷ ws) = if bytes_eq text w.0 then Some w.1 else known text ws
-
--- a word of the code with what it is
-abbrev pub word_pair : Bor (List ℕ) × Word → List ℕ × Word
-word_pair w = (w.0.now, w.1)
 
 -- the word that a text is
 unfoldable pub word_of : List ℕ → Word
@@ -64,7 +58,3 @@ terminal_of (token.Number n) = terminal.Number n
 terminal_of (token.Name x) = terminal.Name x
 terminal_of (token.Word w) = terminal.Word (word_of w)
 terminal_of (token.Sign s) = sign_of s
-
--- the terminals that tokens are
-unfoldable pub terminals : List Token → List Terminal
-terminals = map (λ t. terminal_of t.kind)

@@ -1,7 +1,8 @@
 //! The tokens of bytes as the grammar names them.
 
 ghost use Rattle.std.specs.Prelude.{◌≡◌, ◌<◌, ◌≤◌, [], ◌∷◌, length, IfOk, IfErr, IfSome, MatchOption};
-ghost use Rattle.redlog_tokens.specs.Lexing.{worded, signed, front, IsLexical, LexicalWhere};
+ghost use Rattle.redlog_tokens.specs.Lexing.{worded, signed, front, IsLexical};
+ghost use Rattle.redlog_tokens.specs.Longest.{LexicalWhere};
 ghost use Rattle.redlog_tokens.specs.Ahead.{named, seen, size_ahead, IsAhead, AreTerminals};
 
 use crate::lexer::{

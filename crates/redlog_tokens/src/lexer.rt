@@ -1,7 +1,8 @@
 ghost use Rattle.std.specs.Prelude.{◌≡◌, ◌+◌, ◌<◌, ◌≤◌, List, [], ◌∷◌, length, IfSome, MatchOption};
 ghost use Rattle.std.specs.List.{prefix_len, list_all};
 ghost use Rattle.redlog_tokens.specs.declared.lexer.Lexeme.{Lexeme};
-ghost use Rattle.redlog_tokens.specs.Lexing.{is_blank, is_in_line, long_signs, short_signs, literal_of, worded, signed, front, IsFront, size, LexesFrom};
+ghost use Rattle.redlog_tokens.specs.Lexing.{is_blank, is_in_line, long_signs, short_signs, literal_of, worded, signed, front, LexesFrom};
+ghost use Rattle.redlog_tokens.specs.Longest.{IsFront, size};
 ghost use Rattle.qe_syntax.specs.Names.{is_digit, is_letter, is_name_part, is_one_of, is_numbered, is_word};
 
 use crate::token::TokenKind;

@@ -1,5 +1,6 @@
 ghost use Rattle.std.specs.Prelude.{◌≡◌, ◌<◌, ◌≤◌, ◌||◌, length, codes, bytes_eq, IfNone, IfSome};
-ghost use Rattle.redlog_tokens.specs.Pieces.{is_end, HasNoTokenFrom, IsPiece, EndsFrom};
+ghost use Rattle.redlog_tokens.specs.Pieces.{is_end, HasNoTokenFrom, IsPiece};
+ghost use Rattle.redlog_tokens.specs.OnePiece.{EndsFrom};
 
 use crate::lexer::next_lexeme;
 use crate::token::TokenKind;

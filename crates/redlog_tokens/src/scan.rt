@@ -1,5 +1,6 @@
 ghost use Rattle.std.specs.Prelude.{IfOk, IfErr};
-ghost use Rattle.redlog_tokens.specs.Lexing.{AreTokens, IsLexical, LexicalWhere};
+ghost use Rattle.redlog_tokens.specs.Lexing.{IsLexical};
+ghost use Rattle.redlog_tokens.specs.Longest.{AreTokens, LexicalWhere};
 
 use crate::lexer::next_lexeme;
 use crate::token::{ReadError, Token, Tokens};

@@ -1,6 +1,7 @@
 ghost use Rattle.std.specs.Prelude.{◌≡◌, ◌==◌, map, filter, length, is_some, bytes_eq};
 ghost use Rattle.qe_syntax.specs.Names.{keywords, is_one_of};
-ghost use Rattle.redlog_tokens.specs.Terminals.{words, known, word_pair};
+ghost use Rattle.redlog_tokens.specs.Terminals.{words, known};
+ghost use Rattle.redlog_tokens.specs.TerminalList.{word_pair};
 
 use crate::terminal::Word;
 

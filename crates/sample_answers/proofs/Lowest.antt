@@ -3,7 +3,8 @@ use Rattle.std.proofs.Common.{◌≡◌, ℕ, zero, suc, arith, sym, ap, ap₂, 
 use Rattle.std.proofs.Math.IntN.{ℤ, pos, negsuc, ◌+ℤ◌, ◌-ℤ◌, ◌*ℤ◌}
 use Rattle.std.specs.Prelude.{◌<ℤ◌, int_div}
 use Rattle.std.proofs.lemmas.Int.{ints}
-use Rattle.exact_numbers.specs.Divides.{Divides, IsGcd, IsResidue, gcd_of}
+use Rattle.exact_numbers.specs.Divides.{Divides, IsGcd, gcd_of}
+use Rattle.exact_numbers.specs.Division.{IsResidue}
 use Rattle.exact_numbers.specs.Frac.{Frac, lowest}
 use Rattle.exact_numbers.specs.Limit.{PastLimit}
 use Rattle.exact_numbers.proofs.Ring.{ring, mul_assoc}

@@ -10,11 +10,13 @@ use Rattle.exact_numbers.specs.Fraction.{frac_of}
 use Rattle.formula_meaning.specs.Context.{Context}
 use Rattle.formula_meaning.specs.Formula.{Yes, No, One, Not, And, Or, Impl, Repl, Equiv, Ex, All, none, also}
 use Rattle.formula_meaning.specs.Some.{Among, EachOf}
-use Rattle.formula_meaning.specs.Atom.{Atom, AtomIn}
+use Rattle.formula_meaning.specs.Atom.{Atom}
+use Rattle.formula_meaning.specs.TheoryAtoms.{AtomIn}
 use Rattle.formula_meaning.specs.Limits.{each}
 use Rattle.formula_meaning.specs.Point.{Point}
-use Rattle.formula_meaning.specs.Shape.{IsPlain, ArePlain}
-use Rattle.formula_meaning.specs.Tree.{Tree, Trees, InContext}
+use Rattle.formula_meaning.specs.Plain.{IsPlain, ArePlain}
+use Rattle.formula_meaning.specs.Tree.{Tree, Trees}
+use Rattle.formula_meaning.specs.Equivalence.{InContext}
 use Rattle.formula_meaning.proofs.Iff.{both_ways, turn_round}
 use Rattle.formula_meaning.proofs.Listed.{among_flat_map, flat_map_among}
 use Rattle.elimination_theory.specs.declared.side.Side.{Side}

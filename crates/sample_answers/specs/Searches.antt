@@ -8,8 +8,9 @@ use Rattle.formula_meaning.specs.Context.{Context}
 use Rattle.formula_meaning.specs.Atom.{Atom}
 use Rattle.formula_meaning.specs.Limits.{each}
 use Rattle.formula_meaning.specs.Point.{Point}
-use Rattle.formula_meaning.specs.Shape.{IsPlain}
-use Rattle.formula_meaning.specs.Tree.{Tree, InContext}
+use Rattle.formula_meaning.specs.Plain.{IsPlain}
+use Rattle.formula_meaning.specs.Tree.{Tree}
+use Rattle.formula_meaning.specs.Equivalence.{InContext}
 use Rattle.elimination_theory.specs.Atoms.{atoms_in}
 use Rattle.elimination_reference.specs.PutIn.{atom_put}
 use Rattle.atom_normal.specs.Atoms.{context_of}

@@ -2,10 +2,10 @@
 
 ghost use Rattle.std.specs.Prelude.{map, option_map, MatchResult};
 ghost use Rattle.exact_numbers.specs.Fraction.{frac_of};
-ghost use Rattle.formula_meaning.specs.Atom.{AtomIn};
-ghost use Rattle.formula_meaning.specs.Shape.{IsPlain};
+ghost use Rattle.formula_meaning.specs.TheoryAtoms.{AtomIn};
+ghost use Rattle.formula_meaning.specs.Plain.{IsPlain};
 ghost use Rattle.formula_meaning.specs.Some.{EachOf};
-ghost use Rattle.formula_meaning.specs.Tree.{InContext};
+ghost use Rattle.formula_meaning.specs.Equivalence.{InContext};
 ghost use Rattle.atom_normal.specs.Atoms.{atom_of, context_of};
 ghost use Rattle.branch_points.specs.Chosen.{shape_atoms};
 ghost use Rattle.formula_store.specs.Nodes.{tree, IsId};

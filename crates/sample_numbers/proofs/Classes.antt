@@ -3,7 +3,8 @@ use Rattle.std.proofs.Common.{◌≡◌, arith}
 use Rattle.std.proofs.Math.IntN.{ℤ, pos, ◌+ℤ◌, ◌-ℤ◌}
 use Rattle.std.specs.Prelude.{◌<ℤ◌}
 use Rattle.std.proofs.lemmas.Int.{ints}
-use Rattle.exact_numbers.specs.Divides.{residue_of, IsResidue}
+use Rattle.exact_numbers.specs.Divides.{residue_of}
+use Rattle.exact_numbers.specs.Division.{IsResidue}
 use Rattle.exact_numbers.proofs.Divisibility.{divides_along, divides_add, divides_sub}
 use Rattle.exact_numbers.proofs.Floor.{residue_is, residue_unique}
 

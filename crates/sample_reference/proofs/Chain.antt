@@ -7,7 +7,8 @@ use Rattle.exact_numbers.specs.Frac.{Frac}
 use Rattle.exact_numbers.proofs.Ring.{ring, one_mul}
 use Rattle.exact_numbers.proofs.Order.{cancel_positive}
 use Rattle.formula_meaning.specs.Context.{Context, Fields, Integers, Allowed}
-use Rattle.formula_meaning.specs.Point.{Point, Of, move, finer, AgreeOn}
+use Rattle.formula_meaning.specs.Point.{Point, Of, move}
+use Rattle.formula_meaning.specs.Points.{finer, AgreeOn}
 use Rattle.formula_meaning.specs.Some.{EachOf}
 use Rattle.formula_meaning.specs.Shape.{is_in}
 use Rattle.formula_meaning.specs.Tree.{Tree, TrueAt, IsFree}
@@ -15,7 +16,8 @@ use Rattle.formula_meaning.proofs.FreeNames.{tree_agrees}
 use Rattle.formula_meaning.proofs.TreeFiner.{tree_finer, tree_same_point, allowed_positive}
 use Rattle.formula_meaning.proofs.TreeReplacing.{moved_of}
 use Rattle.formula_meaning.proofs.Values.{pos_mul}
-use Rattle.elimination_theory.specs.Answers.{Step, Lead, Makes}
+use Rattle.elimination_theory.specs.Answers.{Step}
+use Rattle.elimination_theory.specs.AnswersTheorems.{Lead, Makes}
 use Rattle.elimination_theory.proofs.SomeListed.{each_append}
 use Rattle.elimination_reference.proofs.Branches.{step_names}
 use Rattle.elimination_reference.proofs.PutIn.{turn_equal, not_both}

@@ -6,7 +6,8 @@ use Rattle.formula_meaning.specs.Every.{Every}
 use Rattle.formula_meaning.specs.Tree.{Tree, TrueAt, IsFree}
 use Rattle.elimination_theory.specs.Answers.{Step}
 use Rattle.atom_normal.specs.NormalForm.{IsNormal}
-use Rattle.formula_meaning.specs.Measured.{Outcome, stopped, done, then_of, Gives}
+use Rattle.formula_meaning.specs.Measured.{Outcome, stopped, done, then_of}
+use Rattle.formula_meaning.specs.Giving.{Gives}
 use Rattle.elimination_reference.specs.Reference.{Branch, branch_trees, normal_tree, leading_branches}
 use Rattle.elimination_reference.specs.Cases.{case_sign, case_formula, case_matrix, case_names}
 use Rattle.elimination_reference.specs.Sample.{first_true}
@@ -16,7 +17,8 @@ use Rattle.elimination_reference.proofs.Sample.{Chosen, found}
 use Rattle.elimination_reference.proofs.Sound.{leading_are}
 use Rattle.sample_reference.specs.Values.{Value, origin}
 use Rattle.sample_reference.specs.Calculated.{values_from}
-use Rattle.sample_reference.specs.Sample.{sampled, AreTrueValues, IsTrueSample}
+use Rattle.sample_reference.specs.Sample.{sampled}
+use Rattle.sample_reference.specs.TrueSample.{AreTrueValues, IsTrueSample}
 use Rattle.sample_reference.specs.Theorems.{ClosedSampleIsTrue}
 use Rattle.sample_reference.proofs.Chain.{AreFound, values_true, origin_of}
 use Rattle.sample_reference.proofs.Sound.{IsChosen, first_chosen, gives_values}

@@ -11,7 +11,8 @@ use Rattle.formula_meaning.specs.Context.{Fields}
 use Rattle.formula_meaning.specs.Point.{Point, move}
 use Rattle.formula_meaning.specs.Some.{Among, SomeOf, EachOf}
 use Rattle.formula_meaning.specs.Form.{Form, Term, total, value, coefficient, without, others}
-use Rattle.formula_meaning.specs.Atom.{Atom, Compare, Congruent, AtomIn, form_of}
+use Rattle.formula_meaning.specs.Atom.{Atom, Compare, Congruent, form_of}
+use Rattle.formula_meaning.specs.TheoryAtoms.{AtomIn}
 use Rattle.formula_meaning.proofs.Values.{value_move}
 use Rattle.formula_meaning.proofs.FreeNames.{multiple_others, value_agrees}
 use Rattle.sample_reference.specs.Calculated.{root_of, atom_root, with_root, critical_values}

@@ -3,7 +3,8 @@ use Rattle.std.proofs.Common.{◌≡◌, ℕ, ◌*◌, ◌<◌, Bool, true, fals
 use Rattle.std.proofs.Math.IntN.{ℤ, pos, negsuc, neg_ℤ, ◌+ℤ◌, ◌-ℤ◌, ◌*ℤ◌}
 use Rattle.std.specs.Prelude.{◌<ℤ◌, ◌≤ℤ◌, MatchOption}
 use Rattle.std.proofs.lemmas.Int.{ints}
-use Rattle.exact_numbers.specs.Frac.{Frac, IsProper, IsLowest, lowest, whole_frac, sum_step, product_step, SumPasses, IsExactSum, ProductPasses, IsExactProduct}
+use Rattle.exact_numbers.specs.Frac.{Frac, IsProper, IsLowest, lowest, whole_frac, sum_step, product_step}
+use Rattle.exact_numbers.specs.ExactSteps.{SumPasses, IsExactSum, ProductPasses, IsExactProduct}
 use Rattle.exact_numbers.proofs.Ring.{ring, mul_one, one_mul, zero_mul}
 use Rattle.exact_numbers.proofs.Order.{cancel_positive, cancel_less, mul_less}
 use Rattle.exact_numbers.proofs.FractionRule.{lowest_proper, lowest_value, sum_step_gives, product_step_gives, whole_lowest}
@@ -11,7 +12,8 @@ use Rattle.formula_meaning.specs.Context.{Context, Fields}
 use Rattle.formula_meaning.specs.Point.{Point}
 use Rattle.formula_meaning.specs.Some.{Among, EachOf}
 use Rattle.formula_meaning.specs.Form.{Form, value, total}
-use Rattle.formula_meaning.specs.Atom.{AtomIn, form_of}
+use Rattle.formula_meaning.specs.Atom.{form_of}
+use Rattle.formula_meaning.specs.TheoryAtoms.{AtomIn}
 use Rattle.formula_meaning.specs.Answer.{Place, Exact, AboveBy, BelowBy, PlusInfinity, MinusInfinity, Periodic}
 use Rattle.formula_meaning.specs.Tree.{Tree}
 use Rattle.formula_meaning.proofs.Values.{pos_mul}
@@ -22,7 +24,8 @@ use Rattle.elimination_theory.specs.declared.side.Side.TheVariants.{Lower, Upper
 use Rattle.elimination_theory.specs.Atoms.{atoms_of}
 use Rattle.elimination_theory.specs.IntegersPoints.{signed}
 use Rattle.elimination_theory.specs.FieldsSubstitution.{IsFieldPlace}
-use Rattle.elimination_theory.specs.FieldsSamples.{IsFieldSample, IsLess}
+use Rattle.elimination_theory.specs.FieldsSamples.{IsFieldSample}
+use Rattle.elimination_theory.specs.FieldsOrder.{IsLess}
 use Rattle.elimination_theory.proofs.FieldsSample.{twice}
 use Rattle.elimination_theory.proofs.Fractions.{at_most_less, less_at_most}
 use Rattle.elimination_reference.specs.PutIn.{tree_put, tree_put_within}

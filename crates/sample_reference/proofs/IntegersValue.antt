@@ -26,8 +26,8 @@ use Rattle.elimination_theory.specs.declared.side.Side.TheVariants.{Lower, Upper
 use Rattle.elimination_theory.specs.Atoms.{atoms_of}
 use Rattle.elimination_theory.specs.IntegersPoints.{signed}
 use Rattle.elimination_theory.specs.IntegersSubstitution.{along}
-use Rattle.elimination_theory.specs.Substitution.{at_place}
-use Rattle.elimination_theory.specs.IntegersTheorems.{IsIntegerPlace}
+use Rattle.elimination_theory.specs.AtPlace.{at_place}
+use Rattle.elimination_theory.specs.IntegerPlace.{IsIntegerPlace}
 use Rattle.elimination_theory.proofs.Fractions.{less_at_most}
 use Rattle.elimination_theory.specs.IntegersSample.{IsPast, LiesBeyond, HasCriticalValue, IsClassSample, IsIntegerSample}
 use Rattle.elimination_theory.proofs.IntegerSides.{signed_signed, signed_mul}

@@ -10,21 +10,27 @@ use Rattle.formula_meaning.specs.Point.{Point, Of, move}
 use Rattle.formula_meaning.specs.Formula.{Yes, No, One, Not, And, Or, Impl, Repl, Equiv, Ex, All, none, also}
 use Rattle.formula_meaning.specs.Every.{Every}
 use Rattle.formula_meaning.specs.Some.{EachOf}
-use Rattle.formula_meaning.specs.Shape.{IsPlain, ArePlain, IsAtomic, is_in}
+use Rattle.formula_meaning.specs.Shape.{is_in}
+use Rattle.formula_meaning.specs.Plain.{IsPlain, ArePlain, IsAtomic}
 use Rattle.formula_meaning.specs.Form.{Form, Term, multiple, coefficient}
-use Rattle.formula_meaning.specs.Atom.{Atom, Compare, Congruent, AtomIn, form_of}
+use Rattle.formula_meaning.specs.Atom.{Atom, Compare, Congruent, form_of}
+use Rattle.formula_meaning.specs.TheoryAtoms.{AtomIn}
 use Rattle.formula_meaning.specs.Replaced.{replaced, all_replaced}
 use Rattle.formula_meaning.specs.Answer.{Place, Exact, AboveBy, BelowBy, PlusInfinity, MinusInfinity, Periodic, Holds}
-use Rattle.formula_meaning.specs.Tree.{Tree, Trees, TrueAt, InContext, IsFree}
+use Rattle.formula_meaning.specs.Tree.{Tree, Trees, TrueAt, IsFree}
+use Rattle.formula_meaning.specs.Equivalence.{InContext}
 use Rattle.formula_meaning.proofs.EachAtom.{every_map, every_both, every_all}
 use Rattle.formula_meaning.proofs.ReplacedShape.{every_replaced}
 use Rattle.formula_meaning.proofs.TreeReplacing.{moved_of}
 use Rattle.formula_meaning.proofs.Values.{pos_mul}
-use Rattle.elimination_theory.specs.Substitution.{at_place}
-use Rattle.elimination_theory.specs.IntegersTheorems.{IsIntegerPlace, IsPeriodOf, Suits}
-use Rattle.elimination_theory.specs.BothTheories.{IsPlaceIn, IsPlaceFor}
+use Rattle.elimination_theory.specs.AtPlace.{at_place}
+use Rattle.elimination_theory.specs.IntegersTheorems.{IsPeriodOf, Suits}
+use Rattle.elimination_theory.specs.IntegerPlace.{IsIntegerPlace}
+use Rattle.elimination_theory.specs.BothTheories.{IsPlaceIn}
+use Rattle.elimination_theory.specs.Places.{IsPlaceFor}
 use Rattle.elimination_theory.specs.Samples.{IsSample}
-use Rattle.elimination_theory.specs.Answers.{Step, Makes}
+use Rattle.elimination_theory.specs.Answers.{Step}
+use Rattle.elimination_theory.specs.AnswersTheorems.{Makes}
 use Rattle.elimination_theory.specs.Atoms.{atoms_of}
 use Rattle.elimination_theory.proofs.Meets.{meets_map}
 use Rattle.elimination_theory.proofs.Simple.{simple_from, replaced_plain}

@@ -4,14 +4,16 @@ use Rattle.std.proofs.Math.IntN.{ℤ, pos, negsuc, ◌*ℤ◌}
 use Rattle.std.specs.Prelude.{◌<ℤ◌, int_div}
 use Rattle.std.proofs.lemmas.Int.{ints}
 use Rattle.exact_numbers.specs.Limit.{checked}
-use Rattle.exact_numbers.specs.Divides.{Divides, IsLcm, lcm_of, gcd_of, euclid}
+use Rattle.exact_numbers.specs.Divides.{Divides, lcm_of, gcd_of, euclid}
+use Rattle.exact_numbers.specs.Division.{IsLcm}
 use Rattle.exact_numbers.specs.Frac.{Frac, IsProper, scaled, ◌>>=◌}
 use Rattle.exact_numbers.proofs.Ring.{ring, mul_comm, mul_assoc, zero_mul}
 use Rattle.exact_numbers.proofs.Divisibility.{divides_trans, divides_same, divides_along}
 use Rattle.exact_numbers.proofs.LeastMultiple.{exact_div, lcm_is}
 use Rattle.exact_numbers.proofs.Limits.{checked_some}
 use Rattle.formula_meaning.specs.Context.{Context, Fields, Integers, Allowed}
-use Rattle.formula_meaning.specs.Point.{Point, Of, move, IsSamePoint}
+use Rattle.formula_meaning.specs.Point.{Point, Of, move}
+use Rattle.formula_meaning.specs.Points.{IsSamePoint}
 use Rattle.formula_meaning.specs.Some.{EachOf}
 use Rattle.formula_meaning.proofs.Values.{pos_mul}
 use Rattle.formula_meaning.proofs.TreeReplacing.{moved_of}

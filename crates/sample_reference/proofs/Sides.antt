@@ -9,13 +9,15 @@ use Rattle.exact_numbers.proofs.Divisibility.{divides_neg, divides_along}
 use Rattle.formula_meaning.specs.Context.{Fields}
 use Rattle.formula_meaning.specs.Point.{Point}
 use Rattle.formula_meaning.specs.Some.{Among, EachOf}
-use Rattle.formula_meaning.specs.Atom.{AtomIn, form_of}
+use Rattle.formula_meaning.specs.Atom.{form_of}
+use Rattle.formula_meaning.specs.TheoryAtoms.{AtomIn}
 use Rattle.formula_meaning.specs.Tree.{Tree}
 use Rattle.elimination_theory.specs.declared.side.Side.{Side}
 use Rattle.elimination_theory.specs.declared.side.Side.TheVariants.{Lower, Upper}
 use Rattle.elimination_theory.specs.Atoms.{atoms_of}
 use Rattle.elimination_theory.specs.IntegersPoints.{signed}
-use Rattle.elimination_theory.specs.FieldsSamples.{IsCritical, IsLess, IsHalfway, IsJustPast, IsJustShort, IsBelowAll, IsAboveAll}
+use Rattle.elimination_theory.specs.FieldsSamples.{IsCritical, IsHalfway, IsJustPast, IsJustShort, IsBelowAll, IsAboveAll}
+use Rattle.elimination_theory.specs.FieldsOrder.{IsLess}
 use Rattle.elimination_theory.proofs.IntegerSides.{signed_signed}
 use Rattle.elimination_theory.proofs.SomeListed.{some_map, some_mapped, some_of_mapped}
 use Rattle.sample_reference.specs.Calculated.{critical_values, seen}

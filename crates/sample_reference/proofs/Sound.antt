@@ -6,16 +6,20 @@ use Rattle.formula_meaning.specs.Formula.{Yes, No, One, Not, And, Or, Impl, Repl
 use Rattle.formula_meaning.specs.Every.{Every}
 use Rattle.formula_meaning.specs.Some.{EachOf}
 use Rattle.formula_meaning.specs.Sizes.{nodes}
-use Rattle.formula_meaning.specs.Shape.{IsNegationNormal, is_in, matrix_of, block_of}
+use Rattle.formula_meaning.specs.Shape.{is_in, matrix_of, block_of}
+use Rattle.formula_meaning.specs.Plain.{IsNegationNormal}
 use Rattle.formula_meaning.specs.declared.quantifier.Quantifier.{Quantifier}
 use Rattle.formula_meaning.specs.declared.quantifier.Quantifier.TheVariants.{Exists, ForAll}
-use Rattle.formula_meaning.specs.Tree.{Tree, TrueAt, InContext, IsFree}
+use Rattle.formula_meaning.specs.Tree.{Tree, TrueAt, IsFree}
+use Rattle.formula_meaning.specs.Equivalence.{InContext}
 use Rattle.formula_meaning.proofs.FreeNames.{differ_names}
 use Rattle.formula_meaning.proofs.NormalShape.{normal_form_shape}
-use Rattle.elimination_theory.specs.Answers.{Step, Lead}
+use Rattle.elimination_theory.specs.Answers.{Step}
+use Rattle.elimination_theory.specs.AnswersTheorems.{Lead}
 use Rattle.atom_normal.specs.NormalForm.{IsNormal, normal_atom, negated_normal}
 use Rattle.atom_normal.proofs.NormalLaws.{normal_atomic}
-use Rattle.formula_meaning.specs.Measured.{Outcome, stopped, done, then_of, Gives, pay, within}
+use Rattle.formula_meaning.specs.Measured.{Outcome, stopped, done, then_of, pay, within}
+use Rattle.formula_meaning.specs.Giving.{Gives}
 use Rattle.elimination_reference.specs.Reference.{Branch, normal_tree, turned}
 use Rattle.elimination_reference.specs.Cases.{case_sign, case_formula, case_names}
 use Rattle.elimination_reference.specs.PutIn.{atom_put, tree_put, tree_put_within, put_in}
@@ -30,7 +34,8 @@ use Rattle.elimination_reference.proofs.Sound.{Good, branches_are}
 use Rattle.elimination_reference.proofs.Turning.{normal_inside, normal_tree_inside, turned_brings}
 use Rattle.sample_reference.specs.Values.{Value, value_names, with_values}
 use Rattle.sample_reference.specs.Calculated.{values_from}
-use Rattle.sample_reference.specs.Sample.{evaluated, sampled, AreTrueValues, IsTrueSample}
+use Rattle.sample_reference.specs.Sample.{evaluated, sampled}
+use Rattle.sample_reference.specs.TrueSample.{AreTrueValues, IsTrueSample}
 use Rattle.sample_reference.specs.Theorems.{SampleIsTrue}
 use Rattle.sample_reference.proofs.SamePoints.{some_same, none_some, values_of_theory}
 use Rattle.sample_reference.proofs.Chain.{AreFound, values_true, values_anywhere, others_stay}

@@ -16,7 +16,8 @@ use Rattle.elimination_theory.proofs.SomeListed.{each_append}
 use Rattle.atom_normal.specs.NormalForm.{normal_atom, negated_normal}
 use Rattle.formula_meaning.specs.Limits.{each, place_within}
 use Rattle.elimination_reference.specs.Limits.{atom_within, span_within, step_within}
-use Rattle.formula_meaning.specs.Measured.{Outcome, stopped, done, Gives, Counted, ◌>>=◌, give, pay, within}
+use Rattle.formula_meaning.specs.Measured.{Outcome, stopped, done, Counted, ◌>>=◌, give, pay, within}
+use Rattle.formula_meaning.specs.Giving.{Gives}
 use Rattle.elimination_reference.specs.Reference.{Branch, stands_among, kept_at_zero, next_branch, alone, together, turned, point_count, full_step, one_step, steps, closed, branches, members}
 use Rattle.elimination_reference.proofs.Always.{Always, always_then, always_map, always_give, always_pay, always_within}
 use Rattle.sample_reference.specs.Traced.{Leaves, IsTraced}

@@ -1,15 +1,12 @@
 -- The reference sample: values for the names of the leading block, from the first case whose guard is true.
-use Rattle.std.specs.Prelude.{◌≡◌, ℕ, List, [], Option, Some, None}
+use Rattle.std.specs.Prelude.{ℕ, List, [], Option, Some, None}
 use Rattle.formula_meaning.specs.Context.{Context}
 use Rattle.formula_meaning.specs.Point.{Point}
-use Rattle.formula_meaning.specs.Some.{EachOf}
-use Rattle.formula_meaning.specs.Tree.{Tree, TrueAt}
+use Rattle.formula_meaning.specs.Tree.{Tree}
 use Rattle.elimination_theory.specs.Answers.{Step}
 use Rattle.formula_meaning.specs.Measured.{Outcome, stopped, done, then_of, Overflow}
-use Rattle.elimination_reference.specs.Reference.{normal_tree, leading_branches}
-use Rattle.elimination_reference.specs.Cases.{case_sign, case_formula, case_matrix, case_names}
-use Rattle.elimination_reference.specs.Sample.{first_true, chosen_steps}
-use Rattle.sample_reference.specs.Values.{Value, value_names, with_values, IsValue}
+use Rattle.elimination_reference.specs.Sample.{chosen_steps}
+use Rattle.sample_reference.specs.Values.{Value}
 use Rattle.sample_reference.specs.Calculated.{values_from}
 
 -- the values, or a number passes the limit
@@ -23,23 +20,6 @@ sampled c cost (Some steps) = evaluated cost (values_from c steps [])
 sampled c cost None = done (None, cost)
 
 module _ (c : Context) (limit : ℕ) where
-  -- the sample of a formula without free names, and the cost
-  abbrev pub closed_sample : Tree → Outcome (Option (List Value) × ℕ)
-  closed_sample f = then_of (leading_branches c limit (case_sign (normal_tree f)) f 0) (λ r. sampled c r.1 (first_true r.0))
-
   -- the sample of a formula at a point: nodes are counted, then the point is put in
   abbrev pub reference_sample : Point ℕ → Tree → Outcome (Option (List Value) × ℕ)
   reference_sample p f = then_of (chosen_steps c limit p f) (λ r. sampled c r.1 r.0)
-
--- The formula whose cases are asked is true at the point, the values are those of the leading names, in their order and in lowest
--- terms, whole over the integers, and the matrix is true at the point with them.
-pub record AreTrueValues (c : Context) (f : Tree) (p : Point ℕ) (values : List Value) : Type 0 where
-  pub asked : TrueAt c (case_formula f) p
-  pub names : value_names values ≡ case_names f
-  pub each : EachOf (IsValue c) values
-  pub matrix : TrueAt c (case_matrix f) (with_values p values)
-
--- there are none exactly where that formula is false
-abbrev pub IsTrueSample : Context → Tree → Point ℕ → Option (List Value) → Type 0
-IsTrueSample c f p (Some values) = AreTrueValues c f p values
-IsTrueSample c f p None = ¬ (TrueAt c (case_formula f) p)

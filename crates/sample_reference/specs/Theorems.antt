@@ -5,9 +5,10 @@ use Rattle.formula_meaning.specs.Every.{Every}
 use Rattle.formula_meaning.specs.Point.{Point, Of}
 use Rattle.formula_meaning.specs.Tree.{Tree, IsFree}
 use Rattle.atom_normal.specs.NormalForm.{IsNormal}
-use Rattle.formula_meaning.specs.Measured.{Gives}
+use Rattle.formula_meaning.specs.Giving.{Gives}
 use Rattle.sample_reference.specs.Values.{origin}
-use Rattle.sample_reference.specs.Sample.{closed_sample, reference_sample, IsTrueSample}
+use Rattle.sample_reference.specs.Sample.{reference_sample}
+use Rattle.sample_reference.specs.TrueSample.{closed_sample, IsTrueSample}
 
 -- At a point: where there are values the matrix is true with them, and there are none exactly where the formula is false.
 abbrev pub SampleIsTrue : Context → Type 0

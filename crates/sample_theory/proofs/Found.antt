@@ -3,22 +3,24 @@ use Rattle.std.proofs.Common.{◌≡◌, ℕ, List, [], ◌∷◌, ◌++◌, Som
 use Rattle.std.proofs.Math.IntN.{ℤ}
 use Rattle.exact_numbers.specs.Frac.{Frac}
 use Rattle.formula_meaning.specs.Context.{Context, Fields, Integers}
-use Rattle.formula_meaning.specs.Point.{Point, Of, move, IsSamePoint}
-use Rattle.formula_meaning.specs.Shape.{IsPlain}
+use Rattle.formula_meaning.specs.Point.{Point, Of, move}
+use Rattle.formula_meaning.specs.Points.{IsSamePoint}
+use Rattle.formula_meaning.specs.Plain.{IsPlain}
 use Rattle.formula_meaning.specs.Some.{Among, EachOf}
 use Rattle.formula_meaning.specs.Answer.{Answer, Holds}
-use Rattle.formula_meaning.specs.Tree.{Tree, TrueAt, InContext}
+use Rattle.formula_meaning.specs.Tree.{Tree, TrueAt}
+use Rattle.formula_meaning.specs.Equivalence.{InContext}
 use Rattle.formula_meaning.proofs.Iff.{both_ways}
 use Rattle.formula_meaning.proofs.TreeFiner.{tree_same_point}
 use Rattle.formula_meaning.proofs.TreeReplacing.{moved_of}
-use Rattle.elimination_theory.specs.Substitution.{at_place}
+use Rattle.elimination_theory.specs.AtPlace.{at_place}
 use Rattle.elimination_theory.specs.BothTheories.{IsPlaceIn}
 use Rattle.elimination_theory.proofs.BothSubstitutions.{place_holds}
 use Rattle.elimination_theory.proofs.Meets.{meets_map}
 use Rattle.elimination_theory.proofs.OneStep.{result_becomes}
 use Rattle.elimination_theory.proofs.SomeListed.{each_append}
 use Rattle.atom_normal.specs.NormalForm.{normal_atom}
-use Rattle.elimination_reference.specs.Theorems.{answer_names}
+use Rattle.elimination_reference.specs.AnswerParts.{answer_names}
 use Rattle.elimination_reference.proofs.Tidy.{normaliser}
 use Rattle.case_theory.specs.Block.{DifferIn}
 use Rattle.case_theory.specs.PutThrough.{put_through, FitWhere}

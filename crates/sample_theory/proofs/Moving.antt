@@ -6,7 +6,8 @@ use Rattle.std.proofs.lemmas.Int.{ints}
 use Rattle.exact_numbers.proofs.Ring.{mul_comm, mul_assoc, mul_left_comm}
 use Rattle.exact_numbers.proofs.Order.{cancel_positive}
 use Rattle.formula_meaning.specs.Context.{Context, Fields, Integers}
-use Rattle.formula_meaning.specs.Point.{Point, Of, move, IsSamePoint}
+use Rattle.formula_meaning.specs.Point.{Point, Of, move}
+use Rattle.formula_meaning.specs.Points.{IsSamePoint}
 use Rattle.case_theory.specs.Block.{DifferIn}
 use Rattle.case_theory.proofs.Moved.{moved_there, moved_below}
 use Rattle.sample_reference.specs.Values.{Value, with_value, with_values}

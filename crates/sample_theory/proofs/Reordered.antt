@@ -5,8 +5,9 @@ use Rattle.std.specs.Prelude.{◌<ℤ◌}
 use Rattle.exact_numbers.proofs.Ring.{mul_comm, mul_assoc, mul_left_comm}
 use Rattle.exact_numbers.proofs.Order.{cancel_positive}
 use Rattle.formula_meaning.specs.Context.{Context}
-use Rattle.formula_meaning.specs.Point.{Point, Of, IsSamePoint}
-use Rattle.formula_meaning.specs.Distinct.{StandsOnce}
+use Rattle.formula_meaning.specs.Point.{Point, Of}
+use Rattle.formula_meaning.specs.Points.{IsSamePoint}
+use Rattle.formula_meaning.specs.StandsOnce.{StandsOnce}
 use Rattle.formula_meaning.specs.Shape.{is_in}
 use Rattle.formula_meaning.specs.Some.{Among, EachOf}
 use Rattle.formula_meaning.specs.Atom.{Says}

@@ -6,7 +6,8 @@ use Rattle.formula_meaning.specs.Some.{Among}
 use Rattle.formula_meaning.specs.Atom.{Atom}
 use Rattle.formula_meaning.specs.Tree.{Tree}
 use Rattle.elimination_theory.specs.Answers.{Step, answers_of}
-use Rattle.elimination_reference.specs.Theorems.{IsTidy, answer_names}
+use Rattle.elimination_reference.specs.Theorems.{IsTidy}
+use Rattle.elimination_reference.specs.AnswerParts.{answer_names}
 use Rattle.elimination_reference.proofs.Tidy.{tidy_in}
 use Rattle.case_theory.specs.Block.{DifferIn}
 use Rattle.case_theory.specs.PutThrough.{AreTrue}

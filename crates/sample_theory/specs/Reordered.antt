@@ -2,18 +2,18 @@
 use Rattle.std.specs.Prelude.{◌≡◌, ℕ, ◌↔◌, List, ◌++◌, Some}
 use Rattle.formula_meaning.specs.Context.{Context}
 use Rattle.formula_meaning.specs.Point.{Point, Of}
-use Rattle.formula_meaning.specs.Distinct.{StandsOnce}
+use Rattle.formula_meaning.specs.StandsOnce.{StandsOnce}
 use Rattle.formula_meaning.specs.Some.{Among}
 use Rattle.formula_meaning.specs.Atom.{Atom}
 use Rattle.formula_meaning.specs.Answer.{Answer}
 use Rattle.formula_meaning.specs.Tree.{Tree, TrueAt}
-use Rattle.simplified_formulas.specs.Trees.{EquivalentUnder}
+use Rattle.simplified_formulas.specs.Simplifiable.{EquivalentUnder}
 use Rattle.elimination_reference.specs.Cases.{Case, case_matrix, case_names}
 use Rattle.case_theory.specs.PutThrough.{AreTrue}
 use Rattle.case_theory.specs.CaseTree.{without_all, IsCaseTree}
 use Rattle.sample_reference.specs.Values.{Value, value_names}
 use Rattle.sample_reference.specs.Calculated.{values_from}
-use Rattle.sample_reference.specs.Sample.{IsTrueSample}
+use Rattle.sample_reference.specs.TrueSample.{IsTrueSample}
 use Rattle.sample_theory.specs.Samples.{answer_steps, IsSampleable, AreKnown, AreTrueAnswers}
 
 -- the same values in another order, of one name each

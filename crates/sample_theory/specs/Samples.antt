@@ -2,18 +2,21 @@
 use Rattle.std.specs.Prelude.{◌≡◌, ℕ, pos, ◌*ℤ◌, unsigned_abs, List, [], ◌∷◌, ◌++◌, Some}
 use Rattle.exact_numbers.specs.Frac.{Frac}
 use Rattle.formula_meaning.specs.Context.{Context, Fields, Integers}
-use Rattle.formula_meaning.specs.Point.{Point, Of, IsSamePoint}
-use Rattle.formula_meaning.specs.Shape.{IsPlain}
+use Rattle.formula_meaning.specs.Point.{Point, Of}
+use Rattle.formula_meaning.specs.Points.{IsSamePoint}
+use Rattle.formula_meaning.specs.Plain.{IsPlain}
 use Rattle.formula_meaning.specs.Some.{EachOf}
 use Rattle.formula_meaning.specs.Atom.{Atom}
 use Rattle.formula_meaning.specs.Answer.{Place, Answer, Holds}
-use Rattle.formula_meaning.specs.Tree.{Tree, TrueAt, InContext}
-use Rattle.elimination_theory.specs.Substitution.{at_place}
+use Rattle.formula_meaning.specs.Tree.{Tree, TrueAt}
+use Rattle.formula_meaning.specs.Equivalence.{InContext}
+use Rattle.elimination_theory.specs.AtPlace.{at_place}
 use Rattle.elimination_theory.specs.BothTheories.{IsPlaceIn}
 use Rattle.elimination_theory.specs.Samples.{IsSample}
 use Rattle.elimination_theory.specs.Answers.{Step, answers_of}
 use Rattle.elimination_reference.specs.PutIn.{tree_put}
-use Rattle.elimination_reference.specs.Theorems.{IsTidy, answer_names}
+use Rattle.elimination_reference.specs.Theorems.{IsTidy}
+use Rattle.elimination_reference.specs.AnswerParts.{answer_names}
 use Rattle.case_theory.specs.PutThrough.{AreTrue, put_through, FitAt}
 use Rattle.case_theory.specs.Under.{LeadUnder}
 use Rattle.sample_reference.specs.Values.{Value, value_names, with_value, with_values, IsValue, origin}

@@ -1,7 +1,7 @@
 // The critical values of a name in a formula: where its comparisons are 0.
 ghost use Rattle.std.specs.Prelude.{◌≡◌, option_map};
 ghost use Rattle.exact_numbers.specs.Fraction.{frac_of};
-ghost use Rattle.formula_meaning.specs.Tree.{InContext};
+ghost use Rattle.formula_meaning.specs.Equivalence.{InContext};
 ghost use Rattle.elimination_theory.specs.Atoms.{atoms_in, atoms_in_all};
 ghost use Rattle.atom_normal.specs.Atoms.{context_of};
 ghost use Rattle.nnf_trees.specs.Nnfs.{nnf_of, nnfs_of, IsProper};

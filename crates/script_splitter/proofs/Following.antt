@@ -11,7 +11,8 @@ use Rattle.redlog_tokens.proofs.Cutting.{piece_or_none}
 use Rattle.script_splitter.specs.declared.span.Passed.{Passed}
 use Rattle.script_splitter.specs.declared.span.Passed.TheVariants.{Between, Inside}
 use Rattle.script_splitter.specs.Spans.{span, comment_after}
-use Rattle.script_splitter.specs.Pieces.{Held, IsMarked, IsKept, Follows, HasBytes, CutsOff, IsLast, IsOpen}
+use Rattle.script_splitter.specs.Pieces.{Held, IsMarked, IsKept, Follows, HasBytes, CutsOff, IsLast}
+use Rattle.script_splitter.specs.OpenPiece.{IsOpen}
 use Rattle.script_splitter.proofs.Spans.{span_within, span_of_all, span_of_front, comment_of_both, fewer_between, closed_after_mark, first_mark}
 use Rattle.script_splitter.proofs.Places.{IsPlace, place, no_token}
 

@@ -1,5 +1,5 @@
 -- What a splitter holds of a script, and what it hands out.
-use Rattle.std.specs.Prelude.{◌≡◌, ℕ, ◌+◌, ◌<◌, ◌≤◌, Bool, true, false, List, [], ◌∷◌, ◌++◌, length, drop, Option, Some, None}
+use Rattle.std.specs.Prelude.{◌≡◌, ℕ, ◌+◌, ◌<◌, ◌≤◌, Bool, true, false, List, [], ◌++◌, length, drop, Option, Some, None}
 use Rattle.std.specs.declared.alloc.Global.{Global}
 use Rattle.std.specs.declared.vec.Vec.{Vec}
 use Rattle.redlog_tokens.specs.Pieces.{IsPiece}
@@ -56,7 +56,3 @@ pub record IsLast (fed : List ℕ) (from : ℕ) (cut : Cut) : Type 0 where
   pub begins : cut.offset < length fed
   pub piece : IsPiece fed from cut.offset (length fed)
   pub bytes : HasBytes (drop cut.offset fed) cut.bytes
-
--- no next piece ends in these bytes where more come
-abbrev pub IsOpen : List ℕ → ℕ → Type 0
-IsOpen fed from = (b : ℕ) (more : List ℕ) (start end : ℕ) → IsPiece (fed ++ b ∷ more) from start end → length fed < end

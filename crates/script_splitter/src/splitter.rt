@@ -1,5 +1,6 @@
 ghost use Rattle.std.specs.Prelude.{◌≡◌, ℕ, ◌+◌, ◌<◌, ◌≤◌, ◌^◌, Bool, true, false, List, [], ◌++◌, length, take, OnOk, OnErr, IfOk, IfSome, IfNone};
-ghost use Rattle.script_splitter.specs.Pieces.{IsKept, HasBytes, Follows, CutsOff, IsLast, IsOpen};
+ghost use Rattle.script_splitter.specs.Pieces.{IsKept, HasBytes, Follows, CutsOff, IsLast};
+ghost use Rattle.script_splitter.specs.OpenPiece.{IsOpen};
 ghost use Rattle.redlog_tokens.specs.Pieces.{HasNoTokenFrom};
 
 use crate::span::{Passed, front_of};

@@ -11,7 +11,8 @@ use Rattle.session_meaning.specs.declared.TheConstants.{MOST_SUBFORMULAS}
 use Rattle.session_meaning.specs.declared.line.Line.{Line}
 use Rattle.session_meaning.specs.State.{State, with_names}
 use Rattle.command_tools.specs.Replies.{use_of, Refuses, IsStopped, IsFormulaAnswer, IsQueryAnswer, BindsFormula}
-use Rattle.session_meaning.specs.Meaning.{Answer, OfFormula, OfText, meaning, assumption_meaning, numbered, Meaning, MayGive, GivesFormula}
+use Rattle.session_meaning.specs.Meaning.{Answer, OfFormula, OfText, meaning, assumption_meaning, numbered, Meaning, MayGive}
+use Rattle.session_meaning.specs.FormulaGiven.{GivesFormula}
 use Rattle.session_meaning.specs.Uses.{Use, formula_line}
 use Rattle.session_meaning.specs.Causes.{IsFirst}
 use Rattle.session_meaning.specs.Reply.{Tells, AnswersSaid, Answers, RefusesAction, SpellsRefused, Reply}

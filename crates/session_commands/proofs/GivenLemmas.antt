@@ -8,7 +8,8 @@ use Rattle.formula_meaning.specs.Point.{Of, Point}
 use Rattle.formula_meaning.specs.Same.{same_atom}
 use Rattle.formula_meaning.specs.Tree.{Tree, TrueAt}
 use Rattle.formula_meaning.proofs.Sizes.{distinct_count_within}
-use Rattle.qe_syntax.specs.Trees.{FormulaTree, FormulaTrees, formula_trees}
+use Rattle.qe_syntax.specs.Trees.{FormulaTree, FormulaTrees}
+use Rattle.qe_syntax.specs.CodeTrees.{formula_trees}
 use Rattle.statement_syntax.specs.Statements.{CommandTree, Pnf}
 use Rattle.qe_syntax.specs.Value.{NamedPoint}
 use Rattle.elimination_reference.proofs.Turning.{normal_truths, normal_inside}
@@ -47,7 +48,7 @@ use Rattle.session_commands.specs.declared.formulas.FormCommand.{FormCommand}
 use Rattle.session_commands.specs.declared.formulas.FormCommand.TheVariants as wanted
 use Rattle.session_meaning.specs.State.{State, with_names}
 use Rattle.session_meaning.specs.Assumptions.{assumed, Hold}
-use Rattle.session_meaning.specs.FormulaAnswers.{negated_of, IsPrenexAnswer, IsSimplification, IsCondition, IsCleanAnswer}
+use Rattle.session_meaning.specs.FormulaAnswers.{negation_normal_of, IsPrenexAnswer, IsSimplification, IsCondition, IsCleanAnswer}
 use Rattle.session_state.specs.Keeping.{IsSessionFormula, IsSound}
 use Rattle.shared_forms.specs.declared.forms.ClauseForm.TheVariants as clause_form
 use Rattle.formula_meaning.specs.declared.junction.Junction.{Junction}
@@ -200,7 +201,7 @@ module _ (w : FormCommand) (f : FormulaTree) (s : State) (numbers : AreNumbered 
 
 -- the negation normal form has the truth of the formula
 negated_truth : (s : State) (f : FormulaTree) → Every (IsNormal s.context) (resolve s.context s.bound s.names f) → (p : Point ℕ) → Of s.context p
-    → TrueAt s.context (resolve s.context s.bound s.names f) p ↔ TrueAt s.context (negated_of s f) p
+    → TrueAt s.context (resolve s.context s.bound s.names f) p ↔ TrueAt s.context (negation_normal_of s f) p
 negated_truth s f normal p of =
     let t = resolve s.context s.bound s.names f in
     (normal_truths s.context t p (normal_inside s.context t normal) of).0
@@ -241,7 +242,7 @@ module _ (f : FormulaTree) (s : State) (limit : ℕ) (t : Tree) where
     assumptions_say : (p : NamedPoint) → Of s.context p → Hold s gs p → EachOf (λ k. Says k (at_names s.names p)) (assumed s gs)
     assumptions_say p of hold = assumed_hold s f gs readable sound.names_once numbers p of hold
 
-    simplification : IsSimplifiedAs s.context (assumed s gs) (negated_of s f) t → IsSimplification s f gs t
+    simplification : IsSimplifiedAs s.context (assumed s gs) (negation_normal_of s f) t → IsSimplification s f gs t
     simplification h = record {
       reduced = h.reduced;
       truth = λ p of hold.
@@ -259,7 +260,7 @@ module _ (f : FormulaTree) (s : State) (limit : ℕ) (t : Tree) where
       members = orderly_members (IsNormal s.context) t h.orderly;
     }
 
-    cleaning : (j : Junction) → IsCleanedAs s.context j (negated_of s f) t → IsCleanAnswer s j f t
+    cleaning : (j : Junction) → IsCleanedAs s.context j (negation_normal_of s f) t → IsCleanAnswer s j f t
     cleaning j h = record {
       clean = h.clean;
       truth = λ p of.
@@ -339,9 +340,9 @@ module _ (f : FormulaTree) (s : State) (limit : ℕ) (t : Tree) where
   too_large wanted.Resolved h u ask room k = inr (λ x. x.0, inl (inr (t, h, k)))
   too_large wanted.NegationNormal h u ask room k = inr (λ x. x.0, inl (inr (t, h, k)))
   too_large wanted.Prenex h u ask room k = inr (λ x. x.0, inl (inr (t, h.form, k)))
-  too_large (wanted.Distributed clause_form.Disjunctive) h u ask room k = inr (λ x. x.0, inr (λ x. x, plain_form Conjunction (negated_of s f), refl, many_nodes u.target t (plain_form Conjunction (negated_of s f)) h.nodes k))
-  too_large (wanted.Distributed clause_form.Conjunctive) h u ask room k = inr (λ x. x.0, inr (λ x. x, plain_form Disjunction (negated_of s f), refl, many_nodes u.target t (plain_form Disjunction (negated_of s f)) h.nodes k))
-  too_large (wanted.Simplified given) h u ask room k = inr (λ x. x.0, inr (λ x. x, negated_of s f, refl, many_nodes u.target t (negated_of s f) h.nodes k))
+  too_large (wanted.Distributed clause_form.Disjunctive) h u ask room k = inr (λ x. x.0, inr (λ x. x, plain_form Conjunction (negation_normal_of s f), refl, many_nodes u.target t (plain_form Conjunction (negation_normal_of s f)) h.nodes k))
+  too_large (wanted.Distributed clause_form.Conjunctive) h u ask room k = inr (λ x. x.0, inr (λ x. x, plain_form Disjunction (negation_normal_of s f), refl, many_nodes u.target t (plain_form Disjunction (negation_normal_of s f)) h.nodes k))
+  too_large (wanted.Simplified given) h u ask room k = inr (λ x. x.0, inr (λ x. x, negation_normal_of s f, refl, many_nodes u.target t (negation_normal_of s f) h.nodes k))
   too_large (wanted.Eliminated way.ByCases given) h u ask room k = inl ((tt, inl refl, room), unspared_large (formula_trees given.now) h u k)
   too_large (wanted.Eliminated way.ByReference given) h u ask room k = inr (λ x. x.0, inr (ask, h.answer, (h.eliminated.cost, h.eliminated.same), many_nodes u.target t h.answer h.simplified.nodes k))
 
@@ -363,13 +364,13 @@ module _ (f : FormulaTree) (s : State) (limit : ℕ) (t : Tree) where
     too_long wanted.Prenex h ask n = inr (λ x. x.0, inl (p, inl record { formula = t; determined = h.form; names = names; named = n; long = k }))
     too_long (wanted.Distributed clause_form.Disjunctive) h ask n =
         let short = h.text s.names (not_empty s.names sound.variables) (negated_formula s.context (length s.names) resolution own).within.atoms in
-        inr (λ x. x.0, inr (λ x. x, p, inl (plain_form Conjunction (negated_of s f), refl, longer u.target s.names t (plain_form Conjunction (negated_of s f)) short (long_here n))))
+        inr (λ x. x.0, inr (λ x. x, p, inl (plain_form Conjunction (negation_normal_of s f), refl, longer u.target s.names t (plain_form Conjunction (negation_normal_of s f)) short (long_here n))))
     too_long (wanted.Distributed clause_form.Conjunctive) h ask n =
         let short = h.text s.names (not_empty s.names sound.variables) (negated_formula s.context (length s.names) resolution own).within.atoms in
-        inr (λ x. x.0, inr (λ x. x, p, inl (plain_form Disjunction (negated_of s f), refl, longer u.target s.names t (plain_form Disjunction (negated_of s f)) short (long_here n))))
+        inr (λ x. x.0, inr (λ x. x, p, inl (plain_form Disjunction (negation_normal_of s f), refl, longer u.target s.names t (plain_form Disjunction (negation_normal_of s f)) short (long_here n))))
     too_long (wanted.Simplified given) h ask n =
         let short = h.text s.names (not_empty s.names sound.variables) (negated_formula s.context (length s.names) resolution own).within.atoms in
-        inr (λ x. x.0, inr (λ x. x, p, inl (negated_of s f, refl, longer u.target s.names t (negated_of s f) short (long_here n))))
+        inr (λ x. x.0, inr (λ x. x, p, inl (negation_normal_of s f, refl, longer u.target s.names t (negation_normal_of s f) short (long_here n))))
     too_long (wanted.Eliminated way.ByCases given) h ask n = inl ((tt, inr refl, room), unspared_long (formula_trees given.now) h sound own u (long_here n) (few_here n))
     too_long (wanted.Eliminated way.ByReference given) h ask n =
         let answered = answer_formula s.context (length s.names) resolution h.answer own h.eliminated.exact in

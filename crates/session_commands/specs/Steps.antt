@@ -3,7 +3,8 @@ use Rattle.std.specs.Prelude.{◌≡◌, ◌⊎◌, ◌≤◌, ℕ, List, Bool, 
 use Rattle.formula_meaning.specs.Formula.{none, also}
 use Rattle.formula_meaning.specs.Tree.{Tree}
 use Rattle.session_state.specs.declared.state.SessionState.{SessionState}
-use Rattle.qe_syntax.specs.Trees.{FormulaTree, FormulaTrees, formula_trees}
+use Rattle.qe_syntax.specs.Trees.{FormulaTree, FormulaTrees}
+use Rattle.qe_syntax.specs.CodeTrees.{formula_trees}
 use Rattle.statement_syntax.specs.Statements.{CommandTree, Echo, Nnf, Pnf, Dnf, Cnf, Simpl, Qe}
 use Rattle.formula_tree.specs.Bindings.{bind}
 use Rattle.formula_tree.specs.Resolving.{BoundTrees, resolve}

@@ -1,10 +1,11 @@
 ghost use Rattle.std.specs.Prelude.{◌≡◌, ◌≤◌, Some, None, IfOk, IfErr, OnOk, OnErr};
-ghost use Rattle.statement_syntax.specs.Statements.{statement_tree, command_tree};
+ghost use Rattle.statement_syntax.specs.CodeTrees.{statement_tree, command_tree};
 ghost use Rattle.statement_syntax.specs.Writable.{IsWritable, IsWritableCommand};
 ghost use Rattle.session_state.specs.Keeping.{state_of, IsSessionState};
 ghost use Rattle.command_tools.specs.Replies.{use_of, Refuses, IsStopped, IsFormulaAnswer, BindsFormula};
 ghost use Rattle.command_tools.specs.Refusals.{read_refusal};
-ghost use Rattle.session_meaning.specs.Meaning.{meaning, numbered, GivesFormula};
+ghost use Rattle.session_meaning.specs.Meaning.{meaning, numbered};
+ghost use Rattle.session_meaning.specs.FormulaGiven.{GivesFormula};
 ghost use Rattle.session_meaning.specs.Reply.{IsLine, AnswersSaid, Answers, Reply};
 ghost use Rattle.session_meaning.specs.Words.{context_text};
 ghost use Rattle.session_commands.specs.Seen.{state_in};

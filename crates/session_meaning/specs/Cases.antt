@@ -10,7 +10,7 @@ use Rattle.formula_meaning.specs.Some.{EachOf}
 use Rattle.formula_meaning.specs.Tree.{IsFree, TrueAt}
 use Rattle.atom_normal.specs.NormalForm.{IsNormal}
 use Rattle.elimination_reference.specs.Cases.{Case, case_sign, case_matrix, case_names}
-use Rattle.elimination_reference.specs.Theorems.{guards_of, answer_names}
+use Rattle.elimination_reference.specs.AnswerParts.{guards_of, answer_names}
 use Rattle.elimination_reference.specs.Over.{AreAnswersOver}
 use Rattle.qe_syntax.specs.Trees.{FormulaTree, FormulaTrees}
 use Rattle.qe_syntax.specs.Value as written
@@ -19,7 +19,7 @@ use Rattle.formula_meaning.specs.Members.{HasTwoMembers}
 use Rattle.simplified_formulas.specs.Trees.{IsReduced}
 use Rattle.session_meaning.specs.State.{State}
 use Rattle.session_meaning.specs.Assumptions.{Hold, assumed}
-use Rattle.session_meaning.specs.FormulaAnswers.{negated_of}
+use Rattle.session_meaning.specs.FormulaAnswers.{negation_normal_of}
 
 -- what is said, or for false that it is not so
 abbrev pub Turned : Bool → Type 0 → Type 0
@@ -48,4 +48,4 @@ pub record IsCaseOf (s : State) (f : FormulaTree) (given : FormulaTrees) (k : Ca
 pub record IsCaseAnswer (s : State) (f : FormulaTree) (given : FormulaTrees) (ks : List Case) : Type 0 where
   pub each : EachOf (IsCaseOf s f given) ks
   pub together : (p : written.NamedPoint) → Of s.context p → Hold s given p
-      → Turned (case_sign (negated_of s f)) (written.TrueAt (bound_truth s.context s.bound s.names) s.context f p) ↔ TrueAt s.context (Or (guards_of ks)) (at_names s.names p)
+      → Turned (case_sign (negation_normal_of s f)) (written.TrueAt (bound_truth s.context s.bound s.names) s.context f p) ↔ TrueAt s.context (Or (guards_of ks)) (at_names s.names p)

@@ -30,8 +30,8 @@ use Rattle.session_meaning.specs.Assumptions.{Hold, assumed}
 -- What follows is said of a state in which the variables of the command have their numbers.
 
 -- the negation normal form of a resolved formula
-abbrev pub negated_of : State → FormulaTree → Tree
-negated_of s f = normal_form negated_normal (resolve s.context s.bound s.names f)
+abbrev pub negation_normal_of : State → FormulaTree → Tree
+negation_normal_of s f = normal_form negated_normal (resolve s.context s.bound s.names f)
 
 -- ---- prenex forms
 
@@ -39,15 +39,15 @@ negated_of s f = normal_form negated_normal (resolve s.context s.bound s.names f
 -- where the command's formula is, as it is written, at every point of the theory. Its free names are those of the resolved formula, its atoms are normal, and its lists
 -- have two members at least. The negation normal form has no more nodes than the limit, and no number of a renamed atom passes the limit of numbers.
 pub record IsPrenexAnswer (s : State) (limit : ℕ) (f : FormulaTree) (t : Tree) : Type 0 where
-  pub form : t ≡ prenex_of s.context (length s.names) (negated_of s f)
+  pub form : t ≡ prenex_of s.context (length s.names) (negation_normal_of s f)
   pub prenex : IsPrenex t
-  pub fewest : block_count t ≡ fewest_blocks (negated_of s f)
+  pub fewest : block_count t ≡ fewest_blocks (negation_normal_of s f)
   pub truth : (p : written.NamedPoint) → Of s.context p → written.TrueAt (bound_truth s.context s.bound s.names) s.context f p ↔ TrueAt s.context t (at_names s.names p)
   pub names : (n : ℕ) → IsFree t n ↔ IsFree (resolve s.context s.bound s.names f) n
   pub normal : Every (IsNormal s.context) t
   pub members : HasTwoMembers t
-  pub small : nodes (negated_of s f) ≤ limit
-  pub fits : ¬ (OverflowsInRenaming s.context (length s.names) (negated_of s f))
+  pub small : nodes (negation_normal_of s f) ≤ limit
+  pub fits : ¬ (OverflowsInRenaming s.context (length s.names) (negation_normal_of s f))
 
 -- The names with the new ones of the prenex form of a resolved formula behind them. They are ones that a script can write, where the others are.
 pub record HasNewNames (names : List (List ℕ)) (f : Tree) (after : List (List ℕ)) : Type 0 where
@@ -62,11 +62,11 @@ pub record HasNewNames (names : List (List ℕ)) (f : Tree) (after : List (List 
 pub record IsSimplification (s : State) (f : FormulaTree) (given : FormulaTrees) (t : Tree) : Type 0 where
   pub reduced : IsReduced s.context t (assumed s given)
   pub truth : (p : written.NamedPoint) → Of s.context p → Hold s given p → written.TrueAt (bound_truth s.context s.bound s.names) s.context f p ↔ TrueAt s.context t (at_names s.names p)
-  pub names : (n : ℕ) → IsFree t n → IsFree (negated_of s f) n
-  pub quantified : (n : ℕ) → EveryBound (λ x. ¬ (x ≡ n)) (negated_of s f) → EveryBound (λ x. ¬ (x ≡ n)) t
-  pub nodes : nodes t ≤ nodes (negated_of s f)
-  pub atoms : size atom_measure t ≤ size atom_measure (negated_of s f)
-  pub text : length (tree_text s.names t) ≤ length (tree_text s.names (negated_of s f))
+  pub names : (n : ℕ) → IsFree t n → IsFree (negation_normal_of s f) n
+  pub quantified : (n : ℕ) → EveryBound (λ x. ¬ (x ≡ n)) (negation_normal_of s f) → EveryBound (λ x. ¬ (x ≡ n)) t
+  pub nodes : nodes t ≤ nodes (negation_normal_of s f)
+  pub atoms : size atom_measure t ≤ size atom_measure (negation_normal_of s f)
+  pub text : length (tree_text s.names t) ≤ length (tree_text s.names (negation_normal_of s f))
   pub normal : Every (IsNormal s.context) t
   pub members : HasTwoMembers t
 
@@ -76,9 +76,9 @@ pub record IsSimplification (s : State) (f : FormulaTree) (given : FormulaTrees)
 pub record IsCleanAnswer (s : State) (j : Junction) (f : FormulaTree) (t : Tree) : Type 0 where
   pub clean : IsCleanForm s.context j t
   pub truth : (p : written.NamedPoint) → Of s.context p → written.TrueAt (bound_truth s.context s.bound s.names) s.context f p ↔ TrueAt s.context t (at_names s.names p)
-  pub names : (n : ℕ) → IsFree t n → IsFree (negated_of s f) n
-  pub nodes : nodes t ≤ nodes (plain_form j (negated_of s f))
-  pub text : length (tree_text s.names t) ≤ length (tree_text s.names (plain_form j (negated_of s f)))
+  pub names : (n : ℕ) → IsFree t n → IsFree (negation_normal_of s f) n
+  pub nodes : nodes t ≤ nodes (plain_form j (negation_normal_of s f))
+  pub text : length (tree_text s.names t) ≤ length (tree_text s.names (plain_form j (negation_normal_of s f)))
   pub normal : Every (IsNormal s.context) t
   pub members : HasTwoMembers t
 

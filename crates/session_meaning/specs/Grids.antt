@@ -15,7 +15,7 @@ use Rattle.formula_tree.specs.Resolving.{resolve, place, bound_truth}
 use Rattle.point_grid.specs.declared.axis.Axis.{Axis}
 use Rattle.point_grid.specs.Frames.{points_of}
 use Rattle.point_grid.specs.Grids.{grid_of, GridPasses, HasTooMany}
-use Rattle.point_grid.specs.Truths.{SomePointPasses}
+use Rattle.point_grid.specs.PointPasses.{SomePointPasses}
 use Rattle.session_meaning.specs.Points.{MeanNoPoint}
 use Rattle.session_meaning.specs.Places.{by_names}
 use Rattle.session_meaning.specs.State.{State}

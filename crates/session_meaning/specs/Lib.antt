@@ -12,5 +12,6 @@ pub mod Certificates
 pub mod Targets
 pub mod Uses
 pub mod Meaning
+pub mod FormulaGiven
 pub mod Causes
 pub mod Reply

@@ -20,7 +20,6 @@ use Rattle.sample_reference.specs.Values.{Value}
 use Rattle.qe_syntax.specs.declared.entries.PointEntry.{PointEntry}
 use Rattle.qe_syntax.specs.Point.{PassesLimit, IsPointOf}
 use Rattle.statement_syntax.specs.Statements.{CommandTree, Echo, Nnf, Pnf, Dnf, Cnf, Simpl, Qe, Qea, Holds, Sample, Grid, Certify, Check, Least}
-use Rattle.statement_syntax.specs.declared.grid.GridAxis.{GridAxis}
 use Rattle.qe_syntax.specs.Trees.{FormulaTree, FormulaTrees}
 use Rattle.qe_syntax.specs.Value.{NamedPoint}
 use Rattle.formula_tree.specs.Names.{with_name}
@@ -33,7 +32,7 @@ use Rattle.session_meaning.specs.Words.{truth_text}
 use Rattle.session_meaning.specs.Standing.{grown, standing_text}
 use Rattle.session_meaning.specs.State.{State, with_names}
 use Rattle.session_meaning.specs.Uses.{Use, IsDirectUse}
-use Rattle.session_meaning.specs.FormulaAnswers.{negated_of, IsPrenexAnswer, HasNewNames, IsSimplification, IsCleanAnswer, IsCondition}
+use Rattle.session_meaning.specs.FormulaAnswers.{negation_normal_of, IsPrenexAnswer, HasNewNames, IsSimplification, IsCleanAnswer, IsCondition}
 use Rattle.session_meaning.specs.Points.{MeanNoPoint, HasUnvalued, IsQuantified, TruthPasses, IsTruth}
 use Rattle.session_meaning.specs.Cases.{IsCaseAnswer}
 use Rattle.fourier_motzkin.specs.Search.{Certificate}
@@ -90,11 +89,6 @@ abbrev pub numbered : Meaning → State → State
 numbered m s = with_names s (fold with_name s.names (variables m))
 
 -- ---- what an answer allows
-
--- the command gives a formula, which may be bound; each other one is a query
-abbrev pub GivesFormula : Answer → Type 0
-GivesFormula (OfFormula a) = Unit {0}
-GivesFormula (OfText tells) = ⊥
 
 -- the formula that it determines
 abbrev pub Determines : Answer → State → Tree → Type 0
@@ -170,7 +164,7 @@ of_constraints written must tells = record {
 
 -- a command that gives a clean form: the places of atoms of the plain form are counted
 abbrev pub clean : Junction → FormulaTree → Meaning
-clean j f = record (of_formula f none (counts (λ s. literals j (negated_of s f))) (OfFormula (measured (λ s limit t. t ≡ plain_form j (negated_of s f)) (λ s limit t. IsCleanAnswer s j f t)))) {
+clean j f = record (of_formula f none (counts (λ s. literals j (negation_normal_of s f))) (OfFormula (measured (λ s limit t. t ≡ plain_form j (negation_normal_of s f)) (λ s limit t. IsCleanAnswer s j f t)))) {
   must = record no_causes { quantified = λ s limit. IsQuantified s.bound f };
 }
 
@@ -180,7 +174,7 @@ resolved f s = resolve s.context s.bound s.names f
 
 -- the normal form of an atom whose names are chosen passes the limit of numbers, where the negation normal form has no more nodes than the limit
 abbrev pub RenamingPasses : FormulaTree → Fact
-RenamingPasses f s limit = (nodes (negated_of s f) ≤ limit) × OverflowsInRenaming s.context (length s.names) (negated_of s f)
+RenamingPasses f s limit = (nodes (negation_normal_of s f) ≤ limit) × OverflowsInRenaming s.context (length s.names) (negation_normal_of s f)
 
 -- the reference elimination stops
 abbrev pub ReferenceStops : FormulaTree → Stop → Fact
@@ -215,14 +209,14 @@ SampleStops f es e s limit = (point : NamedPoint) × IsPointOf es point × (refe
 -- what each command means
 abbrev pub meaning : CommandTree → Meaning
 meaning (Echo f) = of_formula f none no_causes (OfFormula (exactly (resolved f)))
-meaning (Nnf f) = of_formula f none (counts (λ s. 6 * tree_distinct (resolved f s))) (OfFormula (exactly (λ s. negated_of s f)))
-meaning (Pnf f) = record (of_formula f none (counts (λ s. nodes (negated_of s f))) (OfFormula (record (exactly (λ s. prenex_of s.context (length s.names) (negated_of s f))) { allowed = λ s limit t. IsPrenexAnswer s limit f t }))) {
+meaning (Nnf f) = of_formula f none (counts (λ s. 6 * tree_distinct (resolved f s))) (OfFormula (exactly (λ s. negation_normal_of s f)))
+meaning (Pnf f) = record (of_formula f none (counts (λ s. nodes (negation_normal_of s f))) (OfFormula (record (exactly (λ s. prenex_of s.context (length s.names) (negation_normal_of s f))) { allowed = λ s limit t. IsPrenexAnswer s limit f t }))) {
   must = record no_causes { overflow = RenamingPasses f };
   names = λ s names. HasNewNames s.names (resolved f s) names;
 }
 meaning (Dnf f) = clean Conjunction f
 meaning (Cnf f) = clean Disjunction f
-meaning (Simpl f given) = of_formula f given (counts (λ s. nodes (negated_of s f))) (OfFormula (measured (λ s limit t. t ≡ negated_of s f) (λ s limit t. IsSimplification s f given t)))
+meaning (Simpl f given) = of_formula f given (counts (λ s. nodes (negation_normal_of s f))) (OfFormula (measured (λ s limit t. t ≡ negation_normal_of s f) (λ s limit t. IsSimplification s f given t)))
 meaning (Qe f given) = record (of_formula f given (stops (ReferenceStops f)) (OfFormula (measured (IsReferenceAnswer f) (λ s limit t. IsCondition s limit f given t)))) { spared = IsDirectUse f }
 meaning (Qea f given) = of_formula f given (record (stops (CasesStop f)) { text = HasLongCases f }) (OfText (λ s limit text. (ks : List Case) × IsCaseAnswer s f given ks × (text ≡ cases_text s.names ks)))
 meaning (Holds f es) = at_point f es (record (stops (TruthStops f es)) { overflow = λ s limit. ValuePasses f es s limit ⊎ TruthStops f es Overflow s limit })

@@ -13,11 +13,11 @@ use Rattle.qe_syntax.specs.Value as written
 use Rattle.formula_tree.specs.Resolving.{resolve, at_names, bound_truth}
 use Rattle.session_meaning.specs.State.{State}
 use Rattle.session_meaning.specs.Cases.{Turned}
-use Rattle.session_meaning.specs.FormulaAnswers.{negated_of}
+use Rattle.session_meaning.specs.FormulaAnswers.{negation_normal_of}
 
 -- the formula is true at the point as it is written, or for a leading block of all it is not
 abbrev pub HasSample : State → FormulaTree → written.NamedPoint → Type 0
-HasSample s f p = Turned (case_sign (negated_of s f)) (written.TrueAt (bound_truth s.context s.bound s.names) s.context f p)
+HasSample s f p = Turned (case_sign (negation_normal_of s f)) (written.TrueAt (bound_truth s.context s.bound s.names) s.context f p)
 
 -- numerator and denominator of the value are within the limit
 abbrev pub IsValueInLimit : Value → Type 0

@@ -19,7 +19,7 @@ use Rattle.elimination_reference.specs.Reference.{reference}
 use Rattle.sample_reference.specs.Sample.{reference_sample}
 use Rattle.sample_reference.specs.Values.{Value, value_names, with_values, IsValue, origin}
 use Rattle.least_theory.specs.Target.{IsInfeasible, IsUnbounded}
-use Rattle.least_theory.specs.Answer.{IsLeastFraction}
+use Rattle.least_theory.specs.LeastFraction.{IsLeastFraction}
 use Rattle.answer_texts.specs.Points.{fraction_text, point_text}
 use Rattle.session_meaning.specs.Assumptions.{AllTrueAt}
 use Rattle.session_meaning.specs.Places.{by_names}

@@ -10,7 +10,7 @@ use Rattle.redlog_printer.specs.Text.{tree_text}
 use Rattle.redlog_printer.specs.Writing.{text_limit}
 use Rattle.session_meaning.specs.declared.TheConstants.{MOST_SUBFORMULAS}
 use Rattle.session_meaning.specs.State.{State}
-use Rattle.session_meaning.specs.FormulaAnswers.{negated_of}
+use Rattle.session_meaning.specs.FormulaAnswers.{negation_normal_of}
 
 -- what is done with what a command gives: a name that it is bound to, and whether its line is printed
 pub record Use : Type 0 where
@@ -36,6 +36,6 @@ pub record IsDirectUse (f : FormulaTree) (s : State) (limit : ℕ) (u : Use) : T
   pub members : Trees
   pub root : Place
   pub fields : s.context ≡ Fields
-  pub direct : IsDirect limit (negated_of s f) name members root
+  pub direct : IsDirect limit (negation_normal_of s f) name members root
   pub short : length (formula_line u.target s.names (direct_answer name members root)) ≤ text_limit
   pub small : ¬ (HasManyNodes u.target (direct_answer name members root))

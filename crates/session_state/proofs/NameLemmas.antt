@@ -7,7 +7,8 @@ use Rattle.qe_syntax.specs.Trees.{FormulaTree}
 use Rattle.qe_syntax.specs.Value.{same_name}
 use Rattle.qe_syntax.specs.Valued.{IsIn}
 use Rattle.formula_tree.specs.Names.{with_name}
-use Rattle.formula_tree.specs.Resolving.{place, formula_variables, names_after}
+use Rattle.formula_tree.specs.Resolving.{place, formula_variables}
+use Rattle.formula_tree.specs.NamesAfter.{names_after}
 use Rattle.formula_tree.proofs.PlaceLaws.{same_itself, slice_place, after_has, in_either}
 use Rattle.formula_resolving.specs.Numbering.{Grows}
 

@@ -11,7 +11,7 @@ use Rattle.formula_meaning.specs.Sorted.{IsSorted, IsRising, AllNonzero}
 use Rattle.formula_meaning.specs.Atom.{Atom, Mentions, form_of}
 use Rattle.formula_meaning.specs.Atom as atom
 use Rattle.formula_meaning.specs.Every.{Every, EveryOf, EveryBound, EveryBoundOf}
-use Rattle.formula_meaning.specs.Shape.{IsAtomic}
+use Rattle.formula_meaning.specs.Plain.{IsAtomic}
 use Rattle.formula_meaning.specs.Tree.{Tree, IsFree}
 use Rattle.formula_meaning.specs.Replaced.{replaced, all_replaced}
 use Rattle.formula_meaning.specs.NegationNormal.{normal_form, normal_form_of_not, normal_forms, normal_forms_of_not}
@@ -29,8 +29,9 @@ use Rattle.qe_syntax.specs.Proper.{AreFormulas}
 use Rattle.qe_syntax.specs.Writable.{IsWritableFormula, AreWritableFormulas}
 use Rattle.formula_tree.specs.Bindings.{bound_to}
 use Rattle.formula_tree.specs.RationalForms.{RationalForm, Missing}
-use Rattle.formula_tree.specs.Resolving.{BoundTrees, place, names_after, resolve, resolved_atom, compared, congruent}
-use Rattle.formula_tree.specs.Causes.{IsAccepted as IsResolvable}
+use Rattle.formula_tree.specs.Resolving.{BoundTrees, place, resolve, resolved_atom, compared, congruent}
+use Rattle.formula_tree.specs.NamesAfter.{names_after}
+use Rattle.formula_tree.specs.Accepted.{IsAccepted as IsResolvable}
 use Rattle.formula_tree.proofs.Nowhere.{every_both, quantified_have}
 use Rattle.formula_tree.proofs.ResolvedTruth.{IsPlain, all_plain, is_normal}
 use Rattle.formula_tree.proofs.ResolvedNames.{atom_named}

@@ -17,12 +17,14 @@ use Rattle.formula_meaning.specs.Sizes.{nodes}
 use Rattle.formula_meaning.specs.Some.{EachOf}
 use Rattle.formula_meaning.specs.Tree.{Tree, IsFree, TrueAt}
 use Rattle.atom_normal.specs.NormalForm.{IsNormal, negated_normal}
-use Rattle.linear_forms.specs.Terms.{IsLinear}
+use Rattle.linear_forms.specs.Combinations.{IsLinear}
 use Rattle.elimination_theory.proofs.Becoming.{becomes_itself}
 use Rattle.elimination_reference.specs.Cases.{Case, case_sign, case_formula, case_names, cases_of, reference_cases}
-use Rattle.formula_meaning.specs.Measured.{Outcome, done, then_of, pay, Gives}
+use Rattle.formula_meaning.specs.Measured.{Outcome, done, then_of, pay}
+use Rattle.formula_meaning.specs.Giving.{Gives}
 use Rattle.elimination_reference.specs.Reference.{normal_tree, turned, branches}
-use Rattle.elimination_reference.specs.Theorems.{IsTidy, IsExactCase, AreExactCases, Says as SaysOf, guards_of, answer_names}
+use Rattle.elimination_reference.specs.Theorems.{IsTidy, IsExactCase, AreExactCases, Says as SaysOf}
+use Rattle.elimination_reference.specs.AnswerParts.{guards_of, answer_names}
 use Rattle.elimination_reference.proofs.CasesExact.{cases_exact}
 use Rattle.elimination_reference.proofs.Tidy.{tidy_in}
 use Rattle.elimination_reference.specs.Over.{AreAnswersOver}

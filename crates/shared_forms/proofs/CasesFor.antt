@@ -11,11 +11,11 @@ use Rattle.formula_meaning.specs.Answer.{Answer, Holds, IsSortedPlace, PlaceMent
 use Rattle.formula_meaning.specs.Answer as meaning
 use Rattle.formula_meaning.specs.Atom.{Atom, Says, Mentions}
 use Rattle.formula_meaning.specs.Context.{Context}
-use Rattle.formula_meaning.specs.Distinct.{StandsOnce}
+use Rattle.formula_meaning.specs.StandsOnce.{StandsOnce}
 use Rattle.formula_meaning.specs.Every.{Every, FreeInSome}
 use Rattle.formula_meaning.specs.Form.{Form, coefficient}
 use Rattle.formula_meaning.specs.Formula.{Or}
-use Rattle.formula_meaning.specs.Measured.{Gives}
+use Rattle.formula_meaning.specs.Giving.{Gives}
 use Rattle.formula_meaning.specs.Point.{Point, Of, move}
 use Rattle.formula_meaning.specs.Shape.{IsQuantifierFree}
 use Rattle.formula_meaning.specs.Some.{Among, EachOf}
@@ -28,12 +28,14 @@ use Rattle.elimination_theory.specs.Overflow.{FormWithin, PlaceWithin}
 use Rattle.elimination_theory.proofs.Meets.{meets_map}
 use Rattle.elimination_theory.proofs.SomeListed.{each_among}
 use Rattle.atom_normal.specs.NormalForm.{IsNormal}
-use Rattle.linear_forms.specs.Terms.{IsLinear}
-use Rattle.simplified_formulas.specs.Trees.{EquivalentUnder}
+use Rattle.linear_forms.specs.Combinations.{IsLinear}
+use Rattle.simplified_formulas.specs.Simplifiable.{EquivalentUnder}
 use Rattle.elimination_reference.specs.Cases.{Case, case_sign, case_matrix, case_names}
-use Rattle.elimination_reference.specs.Over.{AreOver, AreAnswersOver}
+use Rattle.elimination_reference.specs.Over.{AreAnswersOver}
+use Rattle.elimination_reference.specs.CasesOver.{AreOver}
 use Rattle.elimination_reference.specs.Reference.{normal_tree}
-use Rattle.elimination_reference.specs.Theorems.{IsExactCase, AreExactCases, Says as SaysOf, guards_of, answer_names}
+use Rattle.elimination_reference.specs.Theorems.{IsExactCase, AreExactCases, Says as SaysOf}
+use Rattle.elimination_reference.specs.AnswerParts.{guards_of, answer_names}
 use Rattle.elimination_reference.proofs.CasesExact.{cases_exact}
 use Rattle.elimination_reference.proofs.Over.{cases_have_answers}
 use Rattle.test_points.specs.declared.points.Place.{Place}

@@ -4,19 +4,22 @@ use Rattle.formula_meaning.specs.Atom.{Atom, Mentions}
 use Rattle.formula_meaning.specs.Context.{Context}
 use Rattle.formula_meaning.specs.Every.{Every, FreeInSome}
 use Rattle.formula_meaning.specs.Formula.{Not, Or}
-use Rattle.formula_meaning.specs.Shape.{IsPlain, ArePlain, IsQuantifierFree}
+use Rattle.formula_meaning.specs.Shape.{IsQuantifierFree}
+use Rattle.formula_meaning.specs.Plain.{IsPlain, ArePlain}
 use Rattle.formula_meaning.specs.Sizes.{nodes}
 use Rattle.formula_meaning.specs.Some.{EachOf}
-use Rattle.formula_meaning.specs.Tree.{Tree, IsFree, Equivalent}
+use Rattle.formula_meaning.specs.Tree.{Tree, IsFree}
+use Rattle.formula_meaning.specs.Equivalence.{Equivalent}
 use Rattle.formula_meaning.proofs.Iff.{both_ways, turn_round, not_iff}
 use Rattle.formula_meaning.proofs.NormalShape.{normal_form_quantifier_free}
 use Rattle.elimination_theory.proofs.BothTheories.{decided}
 use Rattle.atom_normal.specs.NormalForm.{IsNormal, negated_normal}
 use Rattle.simplified_formulas.specs.Orderly.{IsOrderly, AreOrderly}
-use Rattle.simplified_formulas.specs.Trees.{EquivalentUnder}
+use Rattle.simplified_formulas.specs.Simplifiable.{EquivalentUnder}
 use Rattle.elimination_reference.specs.Cases.{Case, case_sign, case_names}
 use Rattle.elimination_reference.specs.Reference.{normal_tree}
-use Rattle.elimination_reference.specs.Theorems.{IsTidy, guards_of}
+use Rattle.elimination_reference.specs.Theorems.{IsTidy}
+use Rattle.elimination_reference.specs.AnswerParts.{guards_of}
 use Rattle.elimination_reference.proofs.Turning.{normal_inside, normal_truths, turned_brings}
 use Rattle.case_theory.specs.CaseTree.{without_all, IsCaseUnder, SaysUnder, IsCaseTree}
 use Rattle.case_theory.proofs.Under.{under_then}

@@ -7,16 +7,18 @@ use Rattle.formula_meaning.specs.Formula as plain
 use Rattle.formula_meaning.specs.Every.{Every, EveryOf, EveryBound, EveryBoundOf, FreeInSome}
 use Rattle.formula_meaning.specs.Atom.{Atom, Mentions}
 use Rattle.formula_meaning.specs.NegationNormal.{normal_form}
-use Rattle.formula_meaning.specs.Shape.{IsPlain, ArePlain, IsNegationNormal, AreNegationNormal, IsQuantifierFree, AreQuantifierFree}
+use Rattle.formula_meaning.specs.Shape.{IsQuantifierFree, AreQuantifierFree}
+use Rattle.formula_meaning.specs.Plain.{IsPlain, ArePlain, IsNegationNormal, AreNegationNormal}
 use Rattle.formula_meaning.proofs.EachAtom.{every_map}
 use Rattle.formula_meaning.proofs.NormalShape.{normal_form_shape, normal_form_every, normal_form_quantifier_free}
-use Rattle.formula_meaning.specs.Tree.{Tree, Trees, IsFree, Equivalent}
+use Rattle.formula_meaning.specs.Tree.{Tree, Trees, IsFree}
+use Rattle.formula_meaning.specs.Equivalence.{Equivalent}
 use Rattle.elimination_reference.specs.Theorems.{IsAnswerTo, IsBranching, AreBranching}
 use Rattle.atom_normal.specs.NormalForm.{IsNormal, negated_normal}
 use Rattle.atom_normal.proofs.NormalLaws.{negated_normal_is}
 use Rattle.simplified_formulas.specs.Orderly.{IsOrderly, AreOrderly}
 use Rattle.simplified_formulas.specs.AtomKit.{atom_kit}
-use Rattle.simplified_formulas.specs.Trees.{simplified_under}
+use Rattle.simplified_formulas.specs.Simplifiable.{simplified_under}
 use Rattle.simplified_formulas.proofs.Bound.{simplified_bound, free_bound, orderly_free}
 use Rattle.formula_meaning.specs.Within.{IsAtomWithin}
 use Rattle.formula_meaning.specs.Members.{HasTwoMembers, HaveTwoMembers}
@@ -25,7 +27,7 @@ use Rattle.clean_forms.specs.Laws.{IsNoLonger}
 use Rattle.clean_forms.specs.Plain.{plain_form}
 use Rattle.clean_forms.proofs.FormShapes.{form_free}
 use Rattle.theory_simplifier.proofs.Assuming.{orderly_normal}
-use Rattle.simplified_formulas.specs.Trees.{IsSimplifiable}
+use Rattle.simplified_formulas.specs.Simplifiable.{IsSimplifiable}
 use Rattle.formula_meaning.specs.Sizes.{nodes}
 use Rattle.formula_store.specs.declared.id.FormulaId.{FormulaId}
 use Rattle.formula_tree.specs.declared.error.FormError.{FormError}

@@ -17,7 +17,7 @@ use Rattle.simplified_formulas.specs.Trees.{IsReduced}
 use Rattle.elimination_reference.specs.Reference.{normal_tree}
 use Rattle.elimination_reference.specs.Cases.{Case, case_sign, case_matrix, case_names, reference_cases}
 use Rattle.elimination_reference.specs.Over.{AreAnswersOver}
-use Rattle.elimination_reference.specs.Theorems.{guards_of, answer_names}
+use Rattle.elimination_reference.specs.AnswerParts.{guards_of, answer_names}
 use Rattle.case_theory.specs.CaseTree.{SaysUnder}
 use Rattle.case_theory.specs.PutThrough.{AreTrue}
 use Rattle.shared_forms.specs.declared.way.Way.{Way}

@@ -13,7 +13,8 @@ use Rattle.formula_meaning.specs.Tree.{Tree, Trees, IsFree}
 use Rattle.formula_meaning.specs.Within.{IsAtomWithin}
 use Rattle.atom_normal.specs.NormalForm.{IsNormal, negated_normal}
 use Rattle.simplified_formulas.specs.Orderly.{IsOrderly}
-use Rattle.simplified_formulas.specs.Trees.{IsReduced, EquivalentUnder}
+use Rattle.simplified_formulas.specs.Trees.{IsReduced}
+use Rattle.simplified_formulas.specs.Simplifiable.{EquivalentUnder}
 use Rattle.elimination_reference.specs.Reference.{normal_tree}
 use Rattle.redlog_printer.specs.Text.{tree_text}
 use Rattle.case_theory.specs.Direct.{IsDirect, direct_answer}

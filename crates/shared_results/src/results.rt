@@ -1,8 +1,8 @@
 //! A formula of a store at a test point, taken into the store.
 
 ghost use Rattle.std.specs.Prelude.{◌≡◌, IfOk, IfErr, false};
-ghost use Rattle.formula_meaning.specs.Shape.{IsPlain};
-ghost use Rattle.formula_meaning.specs.Tree.{InContext};
+ghost use Rattle.formula_meaning.specs.Plain.{IsPlain};
+ghost use Rattle.formula_meaning.specs.Equivalence.{InContext};
 ghost use Rattle.elimination_theory.specs.Steps.{result_at};
 ghost use Rattle.atom_normal.specs.Atoms.{context_of};
 ghost use Rattle.atom_normal.specs.NormalForm.{normal_atom};

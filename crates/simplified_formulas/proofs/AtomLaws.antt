@@ -25,7 +25,8 @@ use Rattle.atom_merging.specs.Merged.{IsDecision}
 use Rattle.atom_merging.specs.Computed.{Merging, Settled, Into, Kept, merged, decided_by, IsRight, IsNormalWithin}
 use Rattle.atom_merging.proofs.Computed.{merged_right, decided_right}
 use Rattle.atom_merging.proofs.PointLaws.{merged_says, settled_says, implied_says, excluded_says, merged_names}
-use Rattle.simplified_formulas.specs.AtomKit.{contains, atom_kit}
+use Rattle.simplified_formulas.specs.AtomKit.{atom_kit}
+use Rattle.simplified_formulas.specs.Contained.{contains}
 use Rattle.simplified_formulas.proofs.FreeTests.{NamesTold}
 use Rattle.simplified_formulas.proofs.Keeps.{MergesWithin}
 use Rattle.simplified_formulas.proofs.Joining.{Settling}

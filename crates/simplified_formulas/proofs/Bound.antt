@@ -8,8 +8,10 @@ use Rattle.formula_meaning.specs.declared.junction.Junction.TheVariants.{Conjunc
 use Rattle.formula_meaning.specs.Shape.{IsQuantifierFree, AreQuantifierFree}
 use Rattle.formula_meaning.specs.Sizes.{nodes}
 use Rattle.simplified_formulas.specs.Orderly.{IsOrderly, AreOrderly}
-use Rattle.simplified_formulas.specs.Atoms.{Kit, without}
-use Rattle.simplified_formulas.specs.Pass.{Parts, Closed, Open, ones, close, opened, closed_if, settles, atom_or, constant, pushed_unless, decided, with_one, by_decision, with_atom, has, with_other, with_piece, with_pieces, with_member, with_atom_first, with_atoms, with_passed, known, is_free, quantified, pass, others, simplified}
+use Rattle.simplified_formulas.specs.Atoms.{without}
+use Rattle.simplified_formulas.specs.Kit.{Kit}
+use Rattle.simplified_formulas.specs.Pass.{Parts, Closed, Open, close, opened, closed_if, settles, atom_or, constant, pushed_unless, decided, with_one, by_decision, with_atom, has, with_other, with_piece, with_pieces, with_member, with_atom_first, with_atoms, with_passed, known, is_free, quantified, pass, others, simplified}
+use Rattle.simplified_formulas.specs.AtomsFirst.{ones}
 use Rattle.simplified_formulas.proofs.Simplified.{repeated_keeps}
 
 -- ---- without quantifiers no name is quantified, and the other way round

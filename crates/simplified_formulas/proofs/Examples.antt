@@ -12,7 +12,8 @@ use Rattle.formula_meaning.specs.declared.junction.Junction.TheVariants.{Conjunc
 use Rattle.atom_merging.specs.Merging.{MergesInto}
 use Rattle.atom_merging.specs.Computed.{IsNormalWithin}
 use Rattle.atom_merging.proofs.Computed.{merged_right}
-use Rattle.simplified_formulas.specs.Trees.{simplified_under, IsReduced}
+use Rattle.simplified_formulas.specs.Trees.{IsReduced}
+use Rattle.simplified_formulas.specs.Simplifiable.{simplified_under}
 
 -- n + c relation 0 for the name n
 abbrev is : ℕ → Relation → ℤ → Atom

@@ -7,10 +7,12 @@ use Rattle.formula_meaning.specs.Fold.{joined, append, pieces_of, from_pieces}
 use Rattle.formula_meaning.specs.declared.junction.Junction.{Junction}
 use Rattle.formula_meaning.specs.declared.junction.Junction.TheVariants.{Conjunction, Disjunction}
 use Rattle.atom_merging.specs.Computed.{Merging, Settled, Into, Kept}
-use Rattle.simplified_formulas.specs.Atoms.{Kit, without}
+use Rattle.simplified_formulas.specs.Atoms.{without}
+use Rattle.simplified_formulas.specs.Kit.{Kit}
 use Rattle.simplified_formulas.specs.Orderly.{IsOrderly, AreOrderly}
 use Rattle.simplified_formulas.proofs.FreeTests.{NamesTold, not_free}
-use Rattle.simplified_formulas.specs.Pass.{Parts, Closed, Open, settles, constant, ones, close, opened, closed_if, atom_or, pushed_unless, where_merged, decided, with_one, by_decision, with_atom, has, with_other, with_piece, with_pieces, with_member, with_atom_first, with_atoms, with_passed, known, is_free, quantified, pass, others}
+use Rattle.simplified_formulas.specs.Pass.{Parts, Closed, Open, settles, constant, close, opened, closed_if, atom_or, pushed_unless, where_merged, decided, with_one, by_decision, with_atom, has, with_other, with_piece, with_pieces, with_member, with_atom_first, with_atoms, with_passed, known, is_free, quantified, pass, others}
+use Rattle.simplified_formulas.specs.AtomsFirst.{ones}
 
 -- any name
 abbrev pub Any : ℕ → Type 0

@@ -11,7 +11,7 @@ use Rattle.formula_meaning.specs.Tree.{Tree, Trees}
 use Rattle.atom_normal.specs.NormalForm.{IsNormal}
 use Rattle.atom_merging.specs.Computed.{IsNormalWithin}
 use Rattle.simplified_formulas.specs.Orderly.{IsOrderly, AreOrderly}
-use Rattle.simplified_formulas.specs.Trees.{IsSimplifiable, AreAssumable}
+use Rattle.simplified_formulas.specs.Simplifiable.{IsSimplifiable, AreAssumable}
 
 constant_within : (a : Atom) → IsAtomInLimit a → InLimit (form_of a).constant
 constant_within (Compare r f) h = h.0

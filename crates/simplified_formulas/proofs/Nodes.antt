@@ -4,10 +4,11 @@ use Rattle.formula_meaning.specs.Formula.{Formula, Formulas, Yes, No, One, Not, 
 use Rattle.formula_meaning.specs.declared.junction.Junction.{Junction}
 use Rattle.formula_meaning.specs.declared.junction.Junction.TheVariants.{Conjunction, Disjunction}
 use Rattle.formula_meaning.specs.Sizes.{nodes, all_nodes}
-use Rattle.simplified_formulas.specs.Atoms.{Kit}
+use Rattle.simplified_formulas.specs.Kit.{Kit}
 use Rattle.simplified_formulas.specs.Pass.{constant}
 use Rattle.simplified_formulas.specs.Orderly.{IsOrderly, AreOrderly}
-use Rattle.simplified_formulas.specs.Measure.{as_member, size, members_size, more_size, node_measure, atom_measure}
+use Rattle.simplified_formulas.specs.Measure.{as_member, size, members_size, more_size, atom_measure}
+use Rattle.simplified_formulas.specs.NodeMeasure.{node_measure}
 use Rattle.simplified_formulas.proofs.Sizes.{MeasureLaws}
 
 module _ {A : Type 0} where

@@ -10,12 +10,15 @@ use Rattle.formula_meaning.specs.declared.junction.Junction.{Junction}
 use Rattle.formula_meaning.specs.declared.junction.Junction.TheVariants.{Conjunction, Disjunction}
 use Rattle.formula_meaning.proofs.Sizes.{formula_alike}
 use Rattle.atom_merging.specs.Computed.{Merging, Settled, Into, Kept}
-use Rattle.simplified_formulas.specs.Atoms.{Kit, without, beside}
+use Rattle.simplified_formulas.specs.Atoms.{without, beside}
+use Rattle.simplified_formulas.specs.Kit.{Kit}
 use Rattle.formula_meaning.specs.Members.{AreTwo}
 use Rattle.simplified_formulas.specs.Reduced.{atoms_of, MayStand, under, HasNone, AreDifferent, AreKept, IsUndecided, ReducedInside, MembersReduced, Reduced}
 use Rattle.simplified_formulas.specs.Orderly.{IsOrderly, AreOrderly}
-use Rattle.simplified_formulas.specs.Measure.{size, members_size, node_measure}
-use Rattle.simplified_formulas.specs.Pass.{Parts, Closed, Open, first_answer, ones, close, opened, settles, atom_or, pushed_unless, where_merged, decided, with_one, by_decision, with_atom, has, with_other, with_member, with_atom_first, with_atoms, with_passed, known, is_free, quantified, pass, others}
+use Rattle.simplified_formulas.specs.Measure.{size, members_size}
+use Rattle.simplified_formulas.specs.NodeMeasure.{node_measure}
+use Rattle.simplified_formulas.specs.Pass.{Parts, Closed, Open, first_answer, close, opened, settles, atom_or, pushed_unless, where_merged, decided, with_one, by_decision, with_atom, has, with_other, with_member, with_atom_first, with_atoms, with_passed, known, is_free, quantified, pass, others}
+use Rattle.simplified_formulas.specs.AtomsFirst.{ones}
 use Rattle.simplified_formulas.proofs.FreeTests.{NamesTold, told_free}
 use Rattle.simplified_formulas.proofs.Keeps.{Any, MergesWithin, HasAtom, IsWithin, AreWithin, PartsWithin, split_within, atom_first_within, passed_within, first, rest, start}
 use Rattle.simplified_formulas.proofs.Sizes.{cost, total, atoms_total, weight, members_is, ones_is, closed_if_size, atom_cost, atoms_cost, other_cost, others_cost, costs, atom_first_size, atoms_size, last_size, pieces_cost, inner_cost, member_size, passed_size, least, least_members, passed_any, begun, all_orderly, begun_within, begun_size, IsNoLarger, pass_smaller, others_smaller}

@@ -13,10 +13,11 @@ use Rattle.formula_meaning.specs.declared.junction.Junction.{Junction}
 use Rattle.formula_meaning.proofs.Sizes.{nodes_positive}
 use Rattle.formula_meaning.proofs.Iff.{both_ways}
 use Rattle.atom_merging.specs.Computed.{Kept}
-use Rattle.simplified_formulas.specs.Atoms.{Kit}
+use Rattle.simplified_formulas.specs.Kit.{Kit}
 use Rattle.simplified_formulas.specs.Reduced.{Reduced}
 use Rattle.simplified_formulas.specs.Orderly.{IsOrderly}
-use Rattle.simplified_formulas.specs.Measure.{Measure, size, node_measure}
+use Rattle.simplified_formulas.specs.Measure.{Measure, size}
+use Rattle.simplified_formulas.specs.NodeMeasure.{node_measure}
 use Rattle.simplified_formulas.specs.Pass.{pass, repeated, simplified}
 use Rattle.simplified_formulas.proofs.FreeTests.{NamesTold}
 use Rattle.simplified_formulas.proofs.Keeps.{MergesWithin, pass_within}

@@ -17,9 +17,11 @@ use Rattle.formula_meaning.proofs.Equivalence.{one_allowed}
 use Rattle.formula_meaning.proofs.Sizes.{formula_same}
 use Rattle.atom_merging.specs.Merging.{Joined}
 use Rattle.atom_merging.specs.Computed.{Merging, Settled, Into, Kept}
-use Rattle.simplified_formulas.specs.Atoms.{Kit, without, tells, beside}
+use Rattle.simplified_formulas.specs.Atoms.{without, tells, beside}
+use Rattle.simplified_formulas.specs.Kit.{Kit}
 use Rattle.simplified_formulas.specs.Orderly.{IsOrderly, AreOrderly}
-use Rattle.simplified_formulas.specs.Pass.{Parts, Closed, Open, settles, first_answer, ones, close, opened, closed_if, atom_or, pushed_unless, where_merged, decided, with_one, by_decision, with_atom, has, with_other, with_piece, with_pieces, with_member, with_atom_first, with_atoms, with_passed, known, is_free, quantified, pass, others}
+use Rattle.simplified_formulas.specs.Pass.{Parts, Closed, Open, settles, first_answer, close, opened, closed_if, atom_or, pushed_unless, where_merged, decided, with_one, by_decision, with_atom, has, with_other, with_piece, with_pieces, with_member, with_atom_first, with_atoms, with_passed, known, is_free, quantified, pass, others}
+use Rattle.simplified_formulas.specs.AtomsFirst.{ones}
 use Rattle.simplified_formulas.proofs.FreeTests.{NamesTold, not_free}
 use Rattle.simplified_formulas.proofs.Keeps.{Any, MergesWithin, HasAtom, IsWithin, AreWithin, PartsWithin, PiecesWithin, FreeIn, wider, piece_within, split_within, atom_first_within, passed_within, atoms_within, pass_within, first, rest, start}
 use Rattle.simplified_formulas.proofs.Joining.{Nothing, Settling, same, along_right, along_left, group, swap, exchange, again, nothing_more, settled_left, settled_right}

@@ -7,9 +7,12 @@ use Rattle.formula_meaning.proofs.Same.{atom_alike}
 use Rattle.atom_normal.specs.NormalForm.{negated_normal}
 use Rattle.atom_merging.specs.Merging.{IsKept}
 use Rattle.atom_merging.specs.Computed.{IsNormalWithin}
-use Rattle.simplified_formulas.specs.AtomKit.{contains, atom_kit}
-use Rattle.simplified_formulas.specs.Measure.{node_measure, atom_measure}
-use Rattle.simplified_formulas.specs.Trees.{LeavesOpen, simplified_under}
+use Rattle.simplified_formulas.specs.AtomKit.{atom_kit}
+use Rattle.simplified_formulas.specs.Contained.{contains}
+use Rattle.simplified_formulas.specs.Measure.{atom_measure}
+use Rattle.simplified_formulas.specs.NodeMeasure.{node_measure}
+use Rattle.simplified_formulas.specs.Trees.{LeavesOpen}
+use Rattle.simplified_formulas.specs.Simplifiable.{simplified_under}
 use Rattle.simplified_formulas.specs.Laws.{SimplifyingKeepsTruth, SimplifiedIsReduced, SimplifyingKeepsShape, SimplifyingBringsNoName, SimplifyingQuantifiesNoName, SimplifyingBringsNoQuantifier, SimplifyingBringsNoNode, SimplifyingBringsNoAtom}
 use Rattle.simplified_formulas.proofs.Nodes.{node_laws, atom_laws, nodes_size}
 use Rattle.simplified_formulas.proofs.Simplified.{simplified_within, simplified_smaller, simplified_reduced, simplified_true}

@@ -1,19 +1,7 @@
 -- What simplification asks of atoms whose names are numbers, as functions that compute.
-use Rattle.std.specs.Prelude.{ℕ, Bool, Option, List, [], ◌∷◌, map, ◌++◌, if◌then◌else◌}
+use Rattle.std.specs.Prelude.{ℕ, Bool, List, [], ◌∷◌, map, ◌++◌, if◌then◌else◌}
 use Rattle.formula_meaning.specs.declared.junction.Junction.{Junction}
 use Rattle.formula_meaning.specs.declared.junction.Junction.TheVariants.{Conjunction, Disjunction}
-use Rattle.atom_merging.specs.Computed.{Merging}
-
--- the functions of atoms
-pub record Kit (A : Type 0) : Type 0 where
-  pub merge : Junction → A → A → Merging A
-  -- whether the second atom is true, or false, where the first is true
-  pub decides : A → A → Option Bool
-  -- the atom of the opposite truth
-  pub opposite : A → A
-  -- the name stands in the atom
-  pub contains : A → ℕ → Bool
-  pub same : A → A → Bool
 
 module _ {A : Type 0} (contains : A → ℕ → Bool) where
   -- the atoms that do not contain the name

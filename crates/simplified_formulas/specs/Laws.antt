@@ -7,7 +7,8 @@ use Rattle.formula_meaning.specs.Atom.{Atom}
 use Rattle.formula_meaning.specs.Tree.{Tree, IsFree}
 use Rattle.formula_meaning.specs.Sizes.{nodes}
 use Rattle.simplified_formulas.specs.Measure.{size, atom_measure}
-use Rattle.simplified_formulas.specs.Trees.{IsSimplifiable, AreAssumable, IsReduced, EquivalentUnder, simplified_under}
+use Rattle.simplified_formulas.specs.Trees.{IsReduced}
+use Rattle.simplified_formulas.specs.Simplifiable.{IsSimplifiable, AreAssumable, EquivalentUnder, simplified_under}
 
 -- the simplified formula has the truth of the formula wherever the assumptions are true
 abbrev pub SimplifyingKeepsTruth : Type 0

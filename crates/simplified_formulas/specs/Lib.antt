@@ -1,8 +1,13 @@
 pub mod Atoms
+pub mod Kit
 pub mod Reduced
 pub mod Orderly
+pub mod AtomsFirst
 pub mod Pass
 pub mod Measure
+pub mod NodeMeasure
+pub mod Contained
 pub mod AtomKit
 pub mod Trees
+pub mod Simplifiable
 pub mod Laws

@@ -53,10 +53,6 @@ module _ {A : Type 0} (m : Measure A) where
     more_size none j = 0
     more_size (also f fs) j = m.gap j + (as_member f (size f) + more_size fs j)
 
--- a node for each constant, atom, list and quantifier
-abbrev pub node_measure : {A : Type 0} → Measure A
-node_measure = record { yes = 1; no = 1; atom = λ a. 1; head = 1; gap = λ j. 0; brackets = 0; quantifier = λ q x. 1 }
-
 -- the places of atoms
 abbrev pub atom_measure : {A : Type 0} → Measure A
 atom_measure = record { yes = 0; no = 0; atom = λ a. 1; head = 0; gap = λ j. 0; brackets = 0; quantifier = λ q x. 0 }

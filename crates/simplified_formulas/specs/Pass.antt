@@ -7,7 +7,9 @@ use Rattle.formula_meaning.specs.declared.junction.Junction.{Junction}
 use Rattle.formula_meaning.specs.declared.junction.Junction.TheVariants.{Conjunction, Disjunction}
 use Rattle.formula_meaning.specs.Sizes.{nodes, same_formula}
 use Rattle.atom_merging.specs.Computed.{Merging, Settled, Into, Kept}
-use Rattle.simplified_formulas.specs.Atoms.{Kit, without, beside}
+use Rattle.simplified_formulas.specs.Atoms.{without, beside}
+use Rattle.simplified_formulas.specs.Kit.{Kit}
+use Rattle.simplified_formulas.specs.AtomsFirst.{ones}
 
 -- a list on the way: its atoms and its other members; Closed where its junction is settled
 pub data Parts (A : Type 0) : Type 0 where
@@ -30,11 +32,6 @@ first_answer (Some b) o = Some b
 first_answer None o = o
 
 module _ {A : Type 0} where
-  -- the atoms, then the others
-  abbrev pub ones : List A → Formulas A ℕ → Formulas A ℕ
-  ones [] gs = gs
-  ones (a ∷ us) gs = also (One a) (ones us gs)
-
   -- the list joined; one member stands for the whole
   abbrev pub close : Junction → Parts A → Formula A ℕ
   close j Closed = absorbing j

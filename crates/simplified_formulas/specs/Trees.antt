@@ -1,25 +1,12 @@
 -- Simplification of resolved formulas: which are simplified, under which atoms, and what is owed.
-use Rattle.std.specs.Prelude.{ℕ, ◌↔◌, List}
+use Rattle.std.specs.Prelude.{List}
 use Rattle.formula_meaning.specs.Context.{Context}
-use Rattle.formula_meaning.specs.Point.{Point, Of}
-use Rattle.formula_meaning.specs.Some.{EachOf}
-use Rattle.formula_meaning.specs.Atom.{Atom, Says, Mentions}
-use Rattle.formula_meaning.specs.Tree.{Tree, TrueAt}
+use Rattle.formula_meaning.specs.Atom.{Atom, Mentions}
+use Rattle.formula_meaning.specs.Tree.{Tree}
 use Rattle.atom_normal.specs.NormalForm.{negated_normal}
 use Rattle.atom_merging.specs.Merging.{IsKept, Implies, Excludes}
-use Rattle.atom_merging.specs.Computed.{IsNormalWithin}
 use Rattle.simplified_formulas.specs.Reduced.{Reduced}
-use Rattle.simplified_formulas.specs.Orderly.{IsOrderly}
-use Rattle.simplified_formulas.specs.AtomKit.{contains, atom_kit}
-use Rattle.simplified_formulas.specs.Pass.{simplified}
-
--- in negation normal form, with two members at least in each list, and normal atoms whose constants are within the limit
-abbrev pub IsSimplifiable : Context → Tree → Type 0
-IsSimplifiable c f = IsOrderly (IsNormalWithin c) f
-
--- normal atoms whose constants are within the limit
-abbrev pub AreAssumable : Context → List Atom → Type 0
-AreAssumable c ks = EachOf (IsNormalWithin c) ks
+use Rattle.simplified_formulas.specs.Contained.{contains}
 
 -- the atom k says neither that a is true nor that it is false
 abbrev pub LeavesOpen : Context → Atom → Atom → Type 0
@@ -28,11 +15,3 @@ LeavesOpen c k a = (¬ (Implies c k a)) × (¬ (Excludes c k a))
 -- Reduced under the atoms ks
 abbrev pub IsReduced : Context → Tree → List Atom → Type 0
 IsReduced c f ks = Reduced (IsKept c) (LeavesOpen c) negated_normal contains Mentions f ks
-
--- the two have one truth at every point of the theory where all the atoms are true
-abbrev pub EquivalentUnder : Context → List Atom → Tree → Tree → Type 0
-EquivalentUnder c ks f g = (p : Point ℕ) → Of c p → EachOf (λ k. Says k p) ks → TrueAt c f p ↔ TrueAt c g p
-
--- f simplified under the atoms ks
-abbrev pub simplified_under : Context → List Atom → Tree → Tree
-simplified_under c ks f = simplified (atom_kit c) f ks

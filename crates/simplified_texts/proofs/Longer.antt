@@ -20,7 +20,7 @@ use Rattle.simplified_formulas.specs.Orderly.{IsOrderly, AreOrderly}
 use Rattle.simplified_formulas.specs.Measure.{size}
 use Rattle.simplified_formulas.specs.Pass.{constant}
 use Rattle.simplified_formulas.specs.AtomKit.{atom_kit}
-use Rattle.simplified_formulas.specs.Trees.{simplified_under}
+use Rattle.simplified_formulas.specs.Simplifiable.{simplified_under}
 use Rattle.simplified_formulas.proofs.Keeps.{MergesWithin}
 use Rattle.simplified_formulas.proofs.Sizes.{MeasureLaws}
 use Rattle.simplified_formulas.proofs.Simplified.{simplified_smaller}

@@ -13,7 +13,7 @@ use Rattle.redlog_printer.specs.Text.{name_at, atom_text, tree_text}
 use Rattle.formula_meaning.specs.Within.{IsAtomWithin}
 use Rattle.formula_meaning.specs.Sizes.{nodes}
 use Rattle.simplified_formulas.specs.Measure.{Measure}
-use Rattle.simplified_formulas.specs.Trees.{IsSimplifiable, simplified_under}
+use Rattle.simplified_formulas.specs.Simplifiable.{IsSimplifiable, simplified_under}
 
 -- the word between two members with its blanks
 abbrev pub word_length : Junction → ℕ

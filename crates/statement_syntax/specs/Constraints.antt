@@ -1,9 +1,9 @@
 -- Which formulas are constraints: comparisons of two terms, but for <>.
-use Rattle.std.specs.Prelude.{◌≡◌, Bool, true, false}
-use Rattle.formula_meaning.specs.Formula.{One, none, also}
+use Rattle.std.specs.Prelude.{Bool, true, false}
+use Rattle.formula_meaning.specs.Formula.{One}
 use Rattle.qe_syntax.specs.declared.tree.Relation.{Relation}
 use Rattle.qe_syntax.specs.declared.tree.Relation.TheVariants.{Equal, Differs, Less, AtMost, Greater, AtLeast}
-use Rattle.qe_syntax.specs.Trees.{Compare, FormulaTree, FormulaTrees}
+use Rattle.qe_syntax.specs.Trees.{Compare, FormulaTree}
 
 -- each relation but <>
 abbrev pub bounds : Relation → Bool
@@ -19,11 +19,6 @@ abbrev pub is_constraint : FormulaTree → Bool
 is_constraint (One (Compare r s t)) = bounds r
 is_constraint f = false
 
--- each of the formulas is one
-abbrev pub AreConstraints : FormulaTrees → Type 0
-AreConstraints none = Unit {0}
-AreConstraints (also f fs) = (is_constraint f ≡ true) × AreConstraints fs
-
 -- each relation that a point on its border has too: =, <= and >=
 abbrev pub is_weak : Relation → Bool
 is_weak Equal = true
@@ -37,8 +32,3 @@ is_weak AtLeast = true
 abbrev pub is_weak_constraint : FormulaTree → Bool
 is_weak_constraint (One (Compare r s t)) = is_weak r
 is_weak_constraint f = false
-
--- each of the formulas is one
-abbrev pub AreWeakConstraints : FormulaTrees → Type 0
-AreWeakConstraints none = Unit {0}
-AreWeakConstraints (also f fs) = (is_weak_constraint f ≡ true) × AreWeakConstraints fs

@@ -1,3 +1,5 @@
 pub mod Statements
+pub mod CodeTrees
 pub mod Constraints
+pub mod ConstraintLists
 pub mod Writable

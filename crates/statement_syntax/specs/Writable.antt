@@ -7,7 +7,7 @@ use Rattle.qe_syntax.specs.Proper.{IsNumeral, IsSigned}
 use Rattle.qe_syntax.specs.Writable.{IsWritableTerm, IsWritableFormula, AreWritableFormulas, AreWritableEntries}
 use Rattle.statement_syntax.specs.declared.grid.Ratio.{Ratio}
 use Rattle.statement_syntax.specs.declared.grid.GridAxis.{GridAxis}
-use Rattle.statement_syntax.specs.Constraints.{AreConstraints, AreWeakConstraints}
+use Rattle.statement_syntax.specs.ConstraintLists.{AreConstraints, AreWeakConstraints}
 use Rattle.statement_syntax.specs.Statements.{CommandTree, Echo, Nnf, Pnf, Dnf, Cnf, Simpl, Qe, Qea, Holds, Sample, Grid, Certify, Check, Least, ActionTree, Empty, Ignored, Finish, Choose, Say, Assign, Assume, Retract, StatementTree}
 
 -- numbers within the limit, where they fit, with no sign below

@@ -16,7 +16,7 @@ use Rattle.formula_meaning.proofs.Same.{both_true}
 use Rattle.elimination_theory.specs.Substitution.{form_at}
 use Rattle.formula_meaning.specs.Limits.{combination_within}
 use Rattle.elimination_reference.specs.Limits.{normal_within}
-use Rattle.linear_forms.specs.Terms.{IsCombination}
+use Rattle.linear_forms.specs.Combinations.{IsCombination}
 use Rattle.atom_normal.specs.NormalForm.{normal_atom, congruent, compared_in_fields, compared_over_integers}
 use Rattle.atom_normal.specs.Atoms.{relation_of}
 use Rattle.atom_normal.specs.declared.atoms.Rel.{Rel}

@@ -11,7 +11,8 @@ use Rattle.formula_meaning.proofs.Gathered.{gathered_combination, sorted_stays}
 use Rattle.elimination_theory.specs.Substitution.{form_at}
 use Rattle.formula_meaning.proofs.Coefficients.{coefficient_without_same, coefficient_without_other, coefficient_scale}
 use Rattle.formula_meaning.proofs.Sorted.{scale_sorted}
-use Rattle.linear_forms.specs.Terms.{AllInLimit, IsLinear, IsCombination}
+use Rattle.linear_forms.specs.Terms.{AllInLimit}
+use Rattle.linear_forms.specs.Combinations.{IsLinear, IsCombination}
 use Rattle.linear_forms.proofs.Search.{multiple_within}
 use Rattle.linear_forms.proofs.Determined.{same_form, without_linear}
 use Rattle.elimination_theory.proofs.WithinTests.{sum_refused}

@@ -5,9 +5,11 @@ use Rattle.formula_meaning.specs.Context.{Context, Fields}
 use Rattle.formula_meaning.specs.Formula.{One}
 use Rattle.formula_meaning.specs.Some.{SomeOf}
 use Rattle.formula_meaning.specs.Form.{coefficient}
-use Rattle.formula_meaning.specs.Atom.{Atom, AtomIn, form_of}
+use Rattle.formula_meaning.specs.Atom.{Atom, form_of}
+use Rattle.formula_meaning.specs.TheoryAtoms.{AtomIn}
 use Rattle.formula_meaning.specs.Answer.{Place}
-use Rattle.formula_meaning.specs.Tree.{TrueAt, IsFree, Equivalent}
+use Rattle.formula_meaning.specs.Tree.{TrueAt, IsFree}
+use Rattle.formula_meaning.specs.Equivalence.{Equivalent}
 use Rattle.elimination_theory.specs.Substitution.{where_zero}
 use Rattle.elimination_theory.specs.BothTheories.{IsPlaceIn, raw_atom}
 use Rattle.elimination_theory.specs.Steps.{normalised, atom_at}

@@ -4,12 +4,13 @@ use Rattle.formula_meaning.specs.Context.{Fields}
 use Rattle.formula_meaning.specs.Point.{Point, Of}
 use Rattle.formula_meaning.specs.Formula.{Ex, One as Single}
 use Rattle.formula_meaning.specs.Some.{SomeOf}
-use Rattle.formula_meaning.specs.Shape.{IsPlain}
-use Rattle.formula_meaning.specs.Atom.{AtomIn}
+use Rattle.formula_meaning.specs.Plain.{IsPlain}
+use Rattle.formula_meaning.specs.TheoryAtoms.{AtomIn}
 use Rattle.formula_meaning.specs.Answer.{Holds, PlaceMentions}
-use Rattle.formula_meaning.specs.Tree.{Tree, TrueAt, InContext, IsFree}
+use Rattle.formula_meaning.specs.Tree.{Tree, TrueAt, IsFree}
+use Rattle.formula_meaning.specs.Equivalence.{InContext}
 use Rattle.elimination_theory.specs.Atoms.{atoms_of}
-use Rattle.elimination_theory.specs.Substitution.{at_place}
+use Rattle.elimination_theory.specs.AtPlace.{at_place}
 use Rattle.elimination_theory.specs.FieldsPoints.{field_points_of}
 use Rattle.elimination_theory.specs.FieldsSubstitution.{IsFieldPlace}
 use Rattle.elimination_theory.specs.NamesTheorems.{IsNameOf}

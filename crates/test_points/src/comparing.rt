@@ -1,7 +1,8 @@
 // A comparison with a name put at a test point, in both theories.
 ghost use Rattle.std.specs.Prelude.{◌≡◌, pos, true, false, unsigned_abs, IfOk, IsErrOf};
 ghost use Rattle.formula_meaning.specs.Form.{coefficient};
-ghost use Rattle.formula_meaning.specs.Atom.{AtomIn, Compare};
+ghost use Rattle.formula_meaning.specs.Atom.{Compare};
+ghost use Rattle.formula_meaning.specs.TheoryAtoms.{AtomIn};
 ghost use Rattle.elimination_theory.specs.BothTheories.{IsPlaceIn};
 ghost use Rattle.elimination_reference.specs.Limits.{normal_within};
 ghost use Rattle.atom_normal.specs.NormalForm.{normal_atom};

@@ -2,7 +2,8 @@
 ghost use Rattle.std.specs.Prelude.{◌≡◌, ℕ, ℤ, pos, ◌/◌, ◌<ℤ◌, int_div, unsigned_abs, ◌∷◌, map, if◌then◌else◌, IfOk, IfSome};
 ghost use Rattle.std.specs.Option.{option_to_list};
 ghost use Rattle.exact_numbers.specs.Limit.{InLimit};
-ghost use Rattle.exact_numbers.specs.Divides.{Divides, DividesAll};
+ghost use Rattle.exact_numbers.specs.Divides.{Divides};
+ghost use Rattle.exact_numbers.specs.Division.{DividesAll};
 ghost use Rattle.formula_meaning.specs.Form.{Form, coefficient, coefficients, without};
 ghost use Rattle.formula_meaning.specs.Atom.{mirrored};
 ghost use Rattle.elimination_theory.specs.Side.{turned};

@@ -2,7 +2,8 @@
 ghost use Rattle.std.specs.Prelude.{◌≡◌, negsuc, neg_ℤ, if◌then◌else◌, IfOk, IsErrOf};
 ghost use Rattle.exact_numbers.specs.Limit.{InLimit};
 ghost use Rattle.formula_meaning.specs.Form.{coefficient, without, scale};
-ghost use Rattle.linear_forms.specs.Terms.{IsLinear, IsCombination, CombinePasses};
+ghost use Rattle.linear_forms.specs.Terms.{CombinePasses};
+ghost use Rattle.linear_forms.specs.Combinations.{IsLinear, IsCombination};
 
 use linear_forms::{LinError, Linear, VarId};
 use std::alloc::{AllocError, Global};

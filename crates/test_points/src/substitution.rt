@@ -1,7 +1,7 @@
 // An atom with a name put at a test point of the ordered fields.
 ghost use Rattle.std.specs.Prelude.{◌≡◌, true, false, IfOk, IsErrOf};
 ghost use Rattle.formula_meaning.specs.Context.{Fields};
-ghost use Rattle.formula_meaning.specs.Atom.{AtomIn};
+ghost use Rattle.formula_meaning.specs.TheoryAtoms.{AtomIn};
 ghost use Rattle.elimination_theory.specs.FieldsSubstitution.{IsFieldPlace};
 ghost use Rattle.elimination_theory.specs.Steps.{atom_at};
 ghost use Rattle.elimination_reference.specs.Limits.{atom_within};

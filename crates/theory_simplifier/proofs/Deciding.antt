@@ -1,6 +1,6 @@
 -- What several lists of known atoms say of an atom, and which known atoms can say anything.
 use Rattle.std.proofs.Common.{◌≡◌, Bool, refl, sym, ap, ◌∙◌, Option, Some, None, List, [], ◌∷◌, ◌++◌}
-use Rattle.simplified_formulas.specs.Atoms.{Kit}
+use Rattle.simplified_formulas.specs.Kit.{Kit}
 use Rattle.simplified_formulas.specs.Pass.{first_answer, decided}
 
 module _ {A : Type 0} (kit : Kit A) where

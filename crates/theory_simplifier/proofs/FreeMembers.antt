@@ -5,7 +5,7 @@ use Rattle.std.specs.Prelude.{◌||◌}
 use Rattle.formula_meaning.specs.Sizes.{nodes, all_nodes}
 use Rattle.formula_meaning.specs.Atom.{Atom}
 use Rattle.formula_meaning.specs.Tree.{Tree}
-use Rattle.simplified_formulas.specs.Atoms.{Kit}
+use Rattle.simplified_formulas.specs.Kit.{Kit}
 use Rattle.simplified_formulas.specs.Pass.{is_free, is_free_in_some}
 use Rattle.formula_tree.specs.Trees.{members}
 use Rattle.theory_simplifier.proofs.Entries.{split_at}

@@ -11,7 +11,7 @@ use Rattle.formula_meaning.specs.declared.junction.Junction.{Junction}
 use Rattle.formula_meaning.specs.declared.junction.Junction.TheVariants.{Conjunction, Disjunction}
 use Rattle.formula_meaning.specs.Atom.{Atom}
 use Rattle.formula_meaning.specs.Tree.{Tree}
-use Rattle.simplified_formulas.specs.Pass.{ones}
+use Rattle.simplified_formulas.specs.AtomsFirst.{ones}
 use Rattle.formula_tree.specs.declared.shape.Shape.{Shape}
 use Rattle.formula_tree.specs.Makers.{Keeps}
 use Rattle.formula_tree.specs.Shapes.{tree_over}

@@ -9,7 +9,8 @@ use Rattle.formula_meaning.specs.declared.junction.Junction.{Junction}
 use Rattle.atom_normal.specs.NormalForm.{IsNormal, negated_normal}
 use Rattle.atom_merging.specs.Computed.{IsNormalWithin}
 use Rattle.simplified_formulas.specs.Atoms.{without, tells}
-use Rattle.simplified_formulas.specs.AtomKit.{contains, atom_kit}
+use Rattle.simplified_formulas.specs.AtomKit.{atom_kit}
+use Rattle.simplified_formulas.specs.Contained.{contains}
 use Rattle.simplified_formulas.specs.Pass.{first_answer, decided}
 use Rattle.linear_forms.specs.declared.form.VarId.{VarId}
 use Rattle.theory_simplifier.specs.declared.known.Frame.{Frame}

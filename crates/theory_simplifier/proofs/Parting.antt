@@ -20,7 +20,8 @@ use Rattle.atom_merging.proofs.Thresholds.{content_positive_in}
 use Rattle.atom_merging.proofs.JoinedComparisons.{content, normal_content}
 use Rattle.atom_merging.proofs.Computed.{decided_right}
 use Rattle.simplified_formulas.specs.Atoms.{without}
-use Rattle.simplified_formulas.specs.AtomKit.{contains, atom_kit}
+use Rattle.simplified_formulas.specs.AtomKit.{atom_kit}
+use Rattle.simplified_formulas.specs.Contained.{contains}
 use Rattle.simplified_formulas.specs.Pass.{first_answer, decided}
 use Rattle.simplified_formulas.proofs.AtomLaws.{names_told}
 

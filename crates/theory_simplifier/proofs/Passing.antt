@@ -13,9 +13,10 @@ use Rattle.linear_forms.specs.declared.form.VarId.{VarId}
 use Rattle.atom_normal.specs.NormalForm.{negated_normal}
 use Rattle.atom_merging.specs.Computed.{IsNormalWithin}
 use Rattle.simplified_formulas.specs.Atoms.{without, tells}
-use Rattle.simplified_formulas.specs.AtomKit.{contains, atom_kit}
+use Rattle.simplified_formulas.specs.AtomKit.{atom_kit}
+use Rattle.simplified_formulas.specs.Contained.{contains}
 use Rattle.simplified_formulas.specs.Pass as meant
-use Rattle.simplified_formulas.specs.Trees.{IsSimplifiable}
+use Rattle.simplified_formulas.specs.Simplifiable.{IsSimplifiable}
 use Rattle.simplified_formulas.proofs.Keeps.{pass_within}
 use Rattle.simplified_formulas.proofs.AtomLaws.{merges_within, names_told}
 use Rattle.formula_tree.specs.declared.shape.Shape.{Shape}

@@ -6,7 +6,7 @@ use Rattle.formula_meaning.specs.Atom.{Atom}
 use Rattle.formula_meaning.specs.Sizes.{nodes}
 use Rattle.formula_meaning.specs.Tree.{Tree}
 use Rattle.formula_meaning.proofs.Sizes.{nodes_positive}
-use Rattle.simplified_formulas.specs.Atoms.{Kit}
+use Rattle.simplified_formulas.specs.Kit.{Kit}
 use Rattle.simplified_formulas.specs.Pass.{pass, repeated, simplified}
 
 module _ (kit : Kit Atom) (ks : List Atom) where

@@ -22,8 +22,9 @@ use Rattle.linear_forms.specs.Reduction.{quotients}
 use Rattle.atom_merging.specs.Computed.{IsNormalWithin, Kept, merged}
 use Rattle.simplified_formulas.specs.AtomKit.{atom_kit}
 use Rattle.simplified_formulas.specs.Orderly.{AreOrderly}
-use Rattle.simplified_formulas.specs.Pass.{Parts, Open, ones, close, opened, with_atoms, others, pass}
-use Rattle.simplified_formulas.specs.Trees.{IsSimplifiable}
+use Rattle.simplified_formulas.specs.Pass.{Parts, Open, close, opened, with_atoms, others, pass}
+use Rattle.simplified_formulas.specs.AtomsFirst.{ones}
+use Rattle.simplified_formulas.specs.Simplifiable.{IsSimplifiable}
 use Rattle.formula_tree.specs.Trees.{members}
 use Rattle.theory_simplifier.specs.Parts.{one_tree}
 use Rattle.theory_simplifier.specs.VariableParts.{part_of}

@@ -2,7 +2,8 @@
 
 ghost use Rattle.std.specs.Prelude.{◌≡◌, ◌∷◌, pos, IfOk};
 ghost use Rattle.exact_numbers.specs.Limit.{InLimit};
-ghost use Rattle.exact_numbers.specs.Divides.{DividesAll, content_of};
+ghost use Rattle.exact_numbers.specs.Divides.{content_of};
+ghost use Rattle.exact_numbers.specs.Division.{DividesAll};
 ghost use Rattle.linear_forms.specs.Terms.{coefficients};
 ghost use Rattle.atom_normal.specs.Atoms.{atom_of, IsWellFormed};
 ghost use Rattle.theory_simplifier.specs.VariableParts.{part_of, part_terms};

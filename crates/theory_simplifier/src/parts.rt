@@ -13,7 +13,7 @@ ghost use Rattle.atom_merging.specs.Computed.{IsNormalWithin};
 ghost use Rattle.simplified_formulas.specs.AtomKit.{atom_kit};
 ghost use Rattle.simplified_formulas.specs.Pass.{Open, settles, with_atom, with_other, with_piece, with_pieces, with_member, with_atom_first, with_atoms};
 ghost use Rattle.simplified_formulas.specs.Orderly.{AreOrderly};
-ghost use Rattle.simplified_formulas.specs.Trees.{IsSimplifiable};
+ghost use Rattle.simplified_formulas.specs.Simplifiable.{IsSimplifiable};
 ghost use Rattle.formula_tree.specs.declared.shape.Shape.{Shape};
 ghost use Rattle.formula_tree.specs.Trees.{members};
 ghost use Rattle.formula_store.specs.declared.id.FormulaId.{FormulaId};

@@ -8,7 +8,7 @@ ghost use Rattle.atom_merging.specs.Computed.{IsNormalWithin};
 ghost use Rattle.simplified_formulas.specs.AtomKit.{atom_kit};
 ghost use Rattle.simplified_formulas.specs.Orderly.{AreOrderly};
 ghost use Rattle.simplified_formulas.specs.Pass.{pass, others, with_passed, known as known_beside};
-ghost use Rattle.simplified_formulas.specs.Trees.{IsSimplifiable};
+ghost use Rattle.simplified_formulas.specs.Simplifiable.{IsSimplifiable};
 ghost use Rattle.formula_tree.specs.Makers.{IsMade, Keeps};
 ghost use Rattle.formula_tree.specs.Trees.{members};
 ghost use Rattle.formula_store.specs.Nodes.{IsId, tree};

@@ -7,7 +7,7 @@ ghost use Rattle.formula_meaning.specs.Atom.{form_of};
 ghost use Rattle.atom_normal.specs.Atoms.{atom_of};
 ghost use Rattle.simplified_formulas.specs.AtomKit.{atom_kit};
 ghost use Rattle.simplified_formulas.specs.Pass.{pass};
-ghost use Rattle.simplified_formulas.specs.Trees.{IsSimplifiable};
+ghost use Rattle.simplified_formulas.specs.Simplifiable.{IsSimplifiable};
 ghost use Rattle.formula_store.specs.Nodes.{IsId, tree};
 ghost use Rattle.theory_simplifier.specs.Known.{known_atoms};
 ghost use Rattle.theory_simplifier.specs.Unchanged.{mixed, key_of, AreTaken};

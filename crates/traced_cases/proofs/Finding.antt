@@ -6,7 +6,8 @@ use Rattle.formula_meaning.specs.Context.{Context}
 use Rattle.formula_meaning.specs.Some.{EachOf}
 use Rattle.formula_meaning.specs.Tree.{Tree}
 use Rattle.elimination_theory.proofs.SomeListed.{each_among}
-use Rattle.formula_meaning.specs.Measured.{done, Gives}
+use Rattle.formula_meaning.specs.Measured.{done}
+use Rattle.formula_meaning.specs.Giving.{Gives}
 use Rattle.elimination_reference.specs.Reference.{Branch, branches}
 use Rattle.elimination_reference.proofs.Branches.{IsBranch}
 use Rattle.elimination_reference.proofs.Sound.{Good, branches_are}

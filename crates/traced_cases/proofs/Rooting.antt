@@ -6,7 +6,8 @@ use Rattle.formula_meaning.specs.Context.{Context}
 use Rattle.formula_meaning.specs.Formula.{none, also}
 use Rattle.formula_meaning.specs.Some.{EachOf}
 use Rattle.formula_meaning.specs.Tree.{Tree, Trees}
-use Rattle.formula_meaning.specs.Measured.{Outcome, done, Gives}
+use Rattle.formula_meaning.specs.Measured.{Outcome, done}
+use Rattle.formula_meaning.specs.Giving.{Gives}
 use Rattle.elimination_reference.specs.Reference.{Branch, branches, steps}
 use Rattle.sample_reference.specs.Traced.{IsTraced}
 use Rattle.sample_reference.proofs.Tracing.{FromOne, branches_from, steps_traced}

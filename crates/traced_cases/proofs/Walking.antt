@@ -6,8 +6,10 @@ use Rattle.std.proofs.lemmas.List.Elements.{All-push}
 use Rattle.formula_meaning.specs.Answer.{Answer}
 use Rattle.formula_meaning.specs.Context.{Context}
 use Rattle.formula_meaning.specs.Some.{EachOf}
-use Rattle.formula_meaning.specs.Tree.{Tree, InContext}
-use Rattle.elimination_theory.specs.Answers.{Step, Lead, answers_of}
+use Rattle.formula_meaning.specs.Tree.{Tree}
+use Rattle.formula_meaning.specs.Equivalence.{InContext}
+use Rattle.elimination_theory.specs.Answers.{Step, answers_of}
+use Rattle.elimination_theory.specs.AnswersTheorems.{Lead}
 use Rattle.elimination_theory.specs.Answers as meaning
 use Rattle.elimination_theory.specs.Atoms.{atoms_in}
 use Rattle.elimination_theory.specs.BothTheories.{IsPlaceIn}

@@ -1,7 +1,8 @@
 -- Steps that test points take from a formula: each point is put into the formula that the points before it leave.
 use Rattle.std.specs.Prelude.{◌≡◌, true, List, [], ◌∷◌}
 use Rattle.formula_meaning.specs.Context.{Context}
-use Rattle.formula_meaning.specs.Tree.{Tree, InContext}
+use Rattle.formula_meaning.specs.Tree.{Tree}
+use Rattle.formula_meaning.specs.Equivalence.{InContext}
 use Rattle.elimination_theory.specs.Answers.{Step}
 use Rattle.elimination_theory.specs.BothTheories.{IsPlaceIn}
 use Rattle.sample_reference.specs.Traced.{after_step, after_within}

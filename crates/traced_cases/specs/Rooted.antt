@@ -5,7 +5,8 @@ use Rattle.formula_meaning.specs.Context.{Context}
 use Rattle.formula_meaning.specs.Formula.{Yes, none, also}
 use Rattle.formula_meaning.specs.Some.{EachOf}
 use Rattle.formula_meaning.specs.Tree.{Tree, Trees}
-use Rattle.formula_meaning.specs.Measured.{Outcome, Gives}
+use Rattle.formula_meaning.specs.Measured.{Outcome}
+use Rattle.formula_meaning.specs.Giving.{Gives}
 use Rattle.elimination_reference.specs.Reference.{Branch}
 use Rattle.sample_reference.specs.Traced.{IsTraced}
 use Rattle.nnf_trees.specs.Nnfs.{nnf_of, IsProper}

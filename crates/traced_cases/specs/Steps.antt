@@ -3,7 +3,7 @@ use Rattle.std.specs.Prelude.{List, map, All, Option, Some, None}
 use Rattle.std.specs.declared.vec.Vec.{Vec}
 use Rattle.std.specs.declared.alloc.Global.{Global}
 use Rattle.formula_meaning.specs.Context.{Context}
-use Rattle.formula_meaning.specs.Tree.{InContext}
+use Rattle.formula_meaning.specs.Equivalence.{InContext}
 use Rattle.elimination_theory.specs.Answers as meaning
 use Rattle.elimination_theory.specs.BothTheories.{IsPlaceIn}
 use Rattle.nnf_trees.specs.Nnfs.{nnf_of, IsProper}

@@ -1,6 +1,6 @@
 // Steps taken again.
 ghost use Rattle.std.specs.Prelude.{◌≡◌, true, All, reverse, IfOk};
-ghost use Rattle.formula_meaning.specs.Tree.{InContext};
+ghost use Rattle.formula_meaning.specs.Equivalence.{InContext};
 ghost use Rattle.elimination_theory.specs.BothTheories.{IsPlaceIn};
 ghost use Rattle.elimination_theory.specs.Steps.{result_at};
 ghost use Rattle.atom_normal.specs.Atoms.{context_of};

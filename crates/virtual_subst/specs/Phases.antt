@@ -1,7 +1,7 @@
 -- Test points put into one formula, each on its own.
 use Rattle.std.specs.Prelude.{◌≡◌, ℕ, List, [], ◌∷◌, Some, All, slice_get}
-use Rattle.formula_meaning.specs.Shape.{IsPlain}
-use Rattle.formula_meaning.specs.Tree.{InContext}
+use Rattle.formula_meaning.specs.Plain.{IsPlain}
+use Rattle.formula_meaning.specs.Equivalence.{InContext}
 use Rattle.atom_normal.specs.declared.atoms.Context.{Context}
 use Rattle.atom_normal.specs.Atoms.{context_of}
 use Rattle.formula_tree.specs.declared.shape.Shape.{Shape}

@@ -1,7 +1,7 @@
 //! A test point put into one atom.
 
 ghost use Rattle.std.specs.Prelude.{◌≡◌, MatchResult};
-ghost use Rattle.formula_meaning.specs.Atom.{AtomIn};
+ghost use Rattle.formula_meaning.specs.TheoryAtoms.{AtomIn};
 ghost use Rattle.elimination_reference.specs.Limits.{atom_within};
 ghost use Rattle.atom_normal.specs.Atoms.{atom_of, context_of, IsWellFormed};
 ghost use Rattle.test_points.specs.Points.{place_of};

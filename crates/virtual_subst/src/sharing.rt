@@ -1,8 +1,8 @@
 //! Many test points put into one formula of a store, shared out to threads.
 
 ghost use Rattle.std.specs.Prelude.{◌∷◌, [], All, length, ◌≤◌};
-ghost use Rattle.formula_meaning.specs.Shape.{IsPlain};
-ghost use Rattle.formula_meaning.specs.Tree.{InContext};
+ghost use Rattle.formula_meaning.specs.Plain.{IsPlain};
+ghost use Rattle.formula_meaning.specs.Equivalence.{InContext};
 ghost use Rattle.atom_normal.specs.Atoms.{context_of};
 ghost use Rattle.formula_store.specs.Nodes.{tree, IsId};
 ghost use Rattle.qe_parallel.specs.Fanned.{Fanned};

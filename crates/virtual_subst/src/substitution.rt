@@ -1,8 +1,8 @@
 //! A test point put into a formula of a store, one distinct subformula after another.
 
 ghost use Rattle.std.specs.Prelude.{◌≡◌, ◌∷◌, [], MatchResult};
-ghost use Rattle.formula_meaning.specs.Shape.{IsPlain};
-ghost use Rattle.formula_meaning.specs.Tree.{InContext};
+ghost use Rattle.formula_meaning.specs.Plain.{IsPlain};
+ghost use Rattle.formula_meaning.specs.Equivalence.{InContext};
 ghost use Rattle.atom_normal.specs.Atoms.{context_of};
 ghost use Rattle.formula_store.specs.Nodes.{tree, IsId};
 ghost use Rattle.formula_store.specs.Order.{IsOrder};

@@ -2,9 +2,9 @@
 
 ghost use Rattle.std.specs.Prelude.{◌≡◌, ◌≤◌, All, IfOk, IfErr, length, map, false};
 ghost use Rattle.std.specs.List.{AllByRecursion};
-ghost use Rattle.formula_meaning.specs.Shape.{IsPlain};
+ghost use Rattle.formula_meaning.specs.Plain.{IsPlain};
 ghost use Rattle.formula_meaning.specs.Some.{SomeOf};
-ghost use Rattle.formula_meaning.specs.Tree.{InContext};
+ghost use Rattle.formula_meaning.specs.Equivalence.{InContext};
 ghost use Rattle.atom_normal.specs.Atoms.{context_of};
 ghost use Rattle.formula_tree.specs.Makers.{AreMade, Keeps};
 ghost use Rattle.formula_store.specs.Changes.{tree_on};

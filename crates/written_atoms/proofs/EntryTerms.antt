@@ -16,7 +16,8 @@ use Rattle.formula_meaning.specs.Sorted.{AllAbove, IsRising, AllNonzero, with_te
 use Rattle.formula_meaning.proofs.Sorted.{here, elsewhere}
 use Rattle.linear_forms.specs.declared.form.VarId.{VarId}
 use Rattle.linear_forms.specs.Linear.{term_of, terms_of}
-use Rattle.linear_forms.specs.Terms.{AllInLimit, IsLinear}
+use Rattle.linear_forms.specs.Terms.{AllInLimit}
+use Rattle.linear_forms.specs.Combinations.{IsLinear}
 use Rattle.linear_forms.proofs.Peeling.{terms_of-push}
 use Rattle.written_atoms.specs.Entries.{coefficient_at}
 

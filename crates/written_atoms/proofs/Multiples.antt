@@ -4,7 +4,8 @@ use Rattle.std.proofs.Math.IntN.{ℤ, pos, ◌+ℤ◌, ◌*ℤ◌}
 use Rattle.std.specs.Prelude.{◌<ℤ◌, int_div}
 use Rattle.std.proofs.lemmas.Int.{ints}
 use Rattle.exact_numbers.specs.Limit.{InLimit}
-use Rattle.exact_numbers.specs.Divides.{Divides, DividesAll, content_of}
+use Rattle.exact_numbers.specs.Divides.{Divides, content_of}
+use Rattle.exact_numbers.specs.Division.{DividesAll}
 use Rattle.exact_numbers.proofs.Ring.{mul_add, mul_assoc, mul_one}
 use Rattle.exact_numbers.proofs.Contents.{content_is}
 use Rattle.exact_numbers.proofs.Divisibility.{divides_both, divides_along, cancel_divides, mul_divides_mul}
@@ -13,7 +14,8 @@ use Rattle.formula_meaning.specs.Combining.{AddWithin}
 use Rattle.linear_forms.specs.Reduction.{quotient, quotients}
 use Rattle.linear_forms.proofs.Division.{quotient_within}
 use Rattle.linear_forms.proofs.Reduced.{quotient_is}
-use Rattle.formula_tree.specs.RationalForms.{RationalForm, numbers_of, lowest_form, IsLowestForm}
+use Rattle.formula_tree.specs.RationalForms.{RationalForm, numbers_of, lowest_form}
+use Rattle.formula_tree.specs.LowestForms.{IsLowestForm}
 
 pub not_zero : (k : ℤ) → pos 0 <ℤ k → ¬ (k ≡ pos 0)
 not_zero k p e = omega (arith, ints)

@@ -15,13 +15,14 @@ use Rattle.formula_meaning.specs.Sorted.{IsSorted}
 use Rattle.formula_meaning.proofs.Sorted.{scale_sorted}
 use Rattle.formula_meaning.specs.Context.{Context}
 use Rattle.formula_meaning.specs.Form.{Form, coefficient, scale, value}
-use Rattle.linear_forms.specs.Terms.{IsLinear, IsCombination}
+use Rattle.linear_forms.specs.Combinations.{IsLinear, IsCombination}
 use Rattle.linear_forms.proofs.Reduced.{quotient_is}
 use Rattle.linear_forms.proofs.Quotients.{one_quotient}
 use Rattle.qe_syntax.specs.declared.tree.Literal.TheVariants.{Fits}
 use Rattle.qe_syntax.specs.Trees.{TermTree, Number}
 use Rattle.formula_tree.specs.FractionRule.{◌>>=◌}
-use Rattle.formula_tree.specs.RationalForms.{RationalForm, Missing, IsLowestForm, constant_form, formed, formed_difference, sum_of_forms, opposite_form}
+use Rattle.formula_tree.specs.RationalForms.{RationalForm, Missing, constant_form, formed, formed_difference, sum_of_forms, opposite_form}
+use Rattle.formula_tree.specs.LowestForms.{IsLowestForm}
 use Rattle.formula_tree.proofs.LowestForms.{form_is_lowest}
 use Rattle.written_atoms.specs.declared.rational.Rational.{Rational}
 use Rattle.written_atoms.specs.declared.term.ReadTerm.{ReadTerm}

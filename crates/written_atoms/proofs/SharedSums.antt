@@ -6,7 +6,8 @@ use Rattle.std.specs.declared.alloc.AllocError.{AllocError}
 use Rattle.std.specs.Prelude.{IfOk}
 use Rattle.std.proofs.lemmas.Int.{ints}
 use Rattle.exact_numbers.specs.Limit.{InLimit}
-use Rattle.exact_numbers.specs.Divides.{Divides, IsLcm, lcm_of, content_of}
+use Rattle.exact_numbers.specs.Divides.{Divides, lcm_of, content_of}
+use Rattle.exact_numbers.specs.Division.{IsLcm}
 use Rattle.exact_numbers.proofs.Ring.{mul_comm, mul_assoc, one_mul}
 use Rattle.exact_numbers.proofs.Order.{mul_positive, factor_positive, cancel_positive}
 use Rattle.exact_numbers.proofs.Contents.{content_is}
@@ -19,11 +20,12 @@ use Rattle.formula_meaning.proofs.Coefficients.{coefficient_combine, coefficient
 use Rattle.formula_meaning.proofs.Sorted.{sorted_determined, scale_sorted}
 use Rattle.formula_meaning.proofs.Gathered.{value_gathered, gathered_sorted, coefficient_gathered, constant_gathered}
 use Rattle.linear_forms.specs.Reduction.{quotient}
-use Rattle.linear_forms.specs.Terms.{IsLinear, IsCombination}
+use Rattle.linear_forms.specs.Combinations.{IsLinear, IsCombination}
 use Rattle.linear_forms.proofs.Quotients.{multiple_quotients, sorted_quotient}
 use Rattle.linear_forms.proofs.Search.{multiple_within}
 use Rattle.formula_tree.specs.FractionRule.{◌>>=◌}
-use Rattle.formula_tree.specs.RationalForms.{RationalForm, Missing, IsLowestForm, numbers_of, lowest_form, sum_of_forms}
+use Rattle.formula_tree.specs.RationalForms.{RationalForm, Missing, numbers_of, lowest_form, sum_of_forms}
+use Rattle.formula_tree.specs.LowestForms.{IsLowestForm}
 use Rattle.formula_tree.proofs.FormSteps.{content_not_zero}
 use Rattle.formula_tree.proofs.LowestForms.{lowest_lowest, sum_lowest}
 use Rattle.written_atoms.specs.declared.rational.Rational.{Rational}

@@ -6,7 +6,8 @@ use Rattle.std.specs.Ordering.{int_eq}
 use Rattle.std.specs.Int.{w128, cast_unsigned}
 use Rattle.std.proofs.lemmas.Int.{ints}
 use Rattle.std.proofs.lemmas.Bool.{cond-true, cond-false}
-use Rattle.exact_numbers.specs.Divides.{Divides, DividesAll, content_of}
+use Rattle.exact_numbers.specs.Divides.{Divides, content_of}
+use Rattle.exact_numbers.specs.Division.{DividesAll}
 use Rattle.exact_numbers.specs.Frac.{Frac, IsLowest, inverted, power_steps}
 use Rattle.exact_numbers.proofs.Contents.{content_is}
 use Rattle.exact_numbers.proofs.Divisibility.{one_divides, neg_divides}
@@ -15,7 +16,8 @@ use Rattle.formula_meaning.specs.Form.{Form, Term}
 use Rattle.linear_forms.specs.Reduction.{quotient}
 use Rattle.linear_forms.proofs.Quotients.{quotient_minus_one}
 use Rattle.qe_syntax.specs.declared.tree.Literal.TheVariants.{Fits, Past}
-use Rattle.formula_tree.specs.RationalForms.{RationalForm, Missing, Overflow, Nonlinear, Division, numbers_of, IsLowestForm, is_empty, is_constant, constant_form, constant_of, multiple_of_form, product_of_forms, quotient_of_forms, small_power, as_constant, power_of_form, opposite_form}
+use Rattle.formula_tree.specs.RationalForms.{RationalForm, Missing, Overflow, Nonlinear, Division, numbers_of, is_empty, is_constant, constant_form, constant_of, multiple_of_form, product_of_forms, quotient_of_forms, small_power, as_constant, power_of_form, opposite_form}
+use Rattle.formula_tree.specs.LowestForms.{IsLowestForm}
 use Rattle.written_atoms.specs.Rational.{there, is_divisor}
 
 -- ---- products

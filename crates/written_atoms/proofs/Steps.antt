@@ -5,7 +5,8 @@ use Rattle.std.specs.Prelude.{◌<ℤ◌, int_div, Result, Ok, Err}
 use Rattle.std.proofs.Math.Nat.{div-le_self}
 use Rattle.std.proofs.lemmas.Int.{ints}
 use Rattle.exact_numbers.specs.Limit.{InLimit, PastLimit}
-use Rattle.exact_numbers.specs.Divides.{Divides, DividesAll, lcm_of, gcd_of, content_of}
+use Rattle.exact_numbers.specs.Divides.{Divides, lcm_of, gcd_of, content_of}
+use Rattle.exact_numbers.specs.Division.{DividesAll}
 use Rattle.exact_numbers.specs.Frac.{Frac}
 use Rattle.exact_numbers.proofs.Ring.{mul_zero, zero_mul}
 use Rattle.exact_numbers.proofs.Order.{by_order, factor_positive}
@@ -17,7 +18,7 @@ use Rattle.formula_meaning.specs.Combining.{CombinePasses}
 use Rattle.formula_meaning.proofs.Coefficients.{coefficient_scale, coefficient_combine}
 use Rattle.formula_meaning.proofs.Sorted.{scale_sorted}
 use Rattle.formula_meaning.proofs.Gathered.{gathered_is, gathered_sorted, coefficient_gathered, constant_gathered}
-use Rattle.linear_forms.specs.Terms.{IsCombination}
+use Rattle.linear_forms.specs.Combinations.{IsCombination}
 use Rattle.linear_forms.specs.Reduction.{quotient}
 use Rattle.linear_forms.proofs.Quotients.{quotient_one, one_quotient}
 use Rattle.formula_tree.specs.FractionRule.{◌>>=◌}

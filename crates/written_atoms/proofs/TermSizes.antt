@@ -5,7 +5,8 @@ use Rattle.qe_syntax.specs.declared.tree.Term.TheVariants as term
 use Rattle.qe_syntax.specs.declared.tree.Terms as codes
 use Rattle.qe_syntax.specs.declared.tree.Literal.{Literal}
 use Rattle.qe_syntax.proofs.TreeEquations.{tree-Sum, tree-Product, tree-Number, tree-Name}
-use Rattle.qe_syntax.specs.Trees.{TermTree, TermTrees, Number, Named, Sum, Product, Quotient, Power, Negative, none, also, terms_of, term_tree, term_trees}
+use Rattle.qe_syntax.specs.Trees.{TermTree, TermTrees, Number, Named, Sum, Product, Quotient, Power, Negative, none, also, terms_of}
+use Rattle.qe_syntax.specs.CodeTrees.{term_tree, term_trees}
 
 abbrev mutual
   pub term_size : TermTree → ℕ

@@ -21,12 +21,14 @@ pub(crate) struct Rational {
 impl Rational {
     ghost use Rattle.std.specs.Prelude.{◌∷◌, int_div, IfOk, option_map};
     ghost use Rattle.std.specs.Option.{ForSome};
-    ghost use Rattle.exact_numbers.specs.Divides.{Divides, DividesAll, content_of};
+    ghost use Rattle.exact_numbers.specs.Divides.{Divides, content_of};
+    ghost use Rattle.exact_numbers.specs.Division.{DividesAll};
     ghost use Rattle.exact_numbers.specs.Fraction.{frac_of};
-    ghost use Rattle.linear_forms.specs.Terms.{IsLinear};
+    ghost use Rattle.linear_forms.specs.Combinations.{IsLinear};
     ghost use Rattle.qe_syntax.specs.Proper.{IsNumeral};
     ghost use Rattle.atom_normal.specs.Atoms.{context_of};
-    ghost use Rattle.formula_tree.specs.RationalForms.{numbers_of, is_constant, constant_form, constant_of, variable_form, lowest_form, IsLowestForm, sum_of_forms, multiple_of_form, product_of_forms, quotient_of_forms, power_of_form, opposite_form};
+    ghost use Rattle.formula_tree.specs.RationalForms.{numbers_of, is_constant, constant_form, constant_of, variable_form, lowest_form, sum_of_forms, multiple_of_form, product_of_forms, quotient_of_forms, power_of_form, opposite_form};
+    ghost use Rattle.formula_tree.specs.LowestForms.{IsLowestForm};
     ghost use Rattle.written_atoms.specs.Rational.{rational_of, there, is_divisor};
 
     /// The fraction as a form.

@@ -1,10 +1,11 @@
 ghost use Rattle.std.specs.Prelude.{◌≡◌, IfOk};
 ghost use Rattle.std.specs.Option.{ForSome};
-ghost use Rattle.linear_forms.specs.Terms.{IsLinear};
+ghost use Rattle.linear_forms.specs.Combinations.{IsLinear};
 ghost use Rattle.qe_syntax.specs.Proper.{IsProperTerm};
-ghost use Rattle.qe_syntax.specs.Trees.{term_tree, Compare};
+ghost use Rattle.qe_syntax.specs.Trees.{Compare};
+ghost use Rattle.qe_syntax.specs.CodeTrees.{term_tree};
 ghost use Rattle.qe_syntax.specs.Value.{relation_of as written_relation};
-ghost use Rattle.formula_meaning.specs.Atom.{AtomIn};
+ghost use Rattle.formula_meaning.specs.TheoryAtoms.{AtomIn};
 ghost use Rattle.atom_normal.specs.NormalForm.{normal_atom};
 ghost use Rattle.atom_normal.specs.Atoms.{context_of, relation_of, atom_of, IsWellFormed};
 ghost use Rattle.formula_tree.specs.Resolving.{BoundTrees, place};

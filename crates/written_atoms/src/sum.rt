@@ -42,7 +42,7 @@ impl WholeSum {
     ghost use Rattle.std.specs.Prelude.{[], nat_eq, if◌then◌else◌, IfOk, OnOk};
     ghost use Rattle.std.specs.Option.{ForSome};
     ghost use Rattle.formula_meaning.specs.Form.{Form};
-    ghost use Rattle.linear_forms.specs.Terms.{IsLinear};
+    ghost use Rattle.linear_forms.specs.Combinations.{IsLinear};
     ghost use Rattle.written_atoms.specs.Sum.{IsSumOf, AddsWithin, IsAdded, IsMultiple};
 
     /// The constant alone.
@@ -174,8 +174,9 @@ pub(crate) struct SharedSum {
 impl SharedSum {
     ghost use Rattle.std.specs.Prelude.{Some, IfOk, MatchBool};
     ghost use Rattle.exact_numbers.specs.Divides.{Divides};
-    ghost use Rattle.linear_forms.specs.Terms.{IsLinear};
-    ghost use Rattle.formula_tree.specs.RationalForms.{RationalForm, IsLowestForm};
+    ghost use Rattle.linear_forms.specs.Combinations.{IsLinear};
+    ghost use Rattle.formula_tree.specs.RationalForms.{RationalForm};
+    ghost use Rattle.formula_tree.specs.LowestForms.{IsLowestForm};
     ghost use Rattle.written_atoms.specs.Rational.{rational_of};
     ghost use Rattle.written_atoms.specs.Sum.{IsMultipleOf, StaysMultiple, IsSummed};
     ghost use Rattle.written_atoms.specs.declared.sum.RunningSum.TheVariants.{Known};

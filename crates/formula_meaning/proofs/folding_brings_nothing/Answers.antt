@@ -1,4 +1,5 @@
-use Rattle.formula_meaning.specs.Atom.{AtomIn, Mentions}
+use Rattle.formula_meaning.specs.Atom.{Mentions}
+use Rattle.formula_meaning.specs.TheoryAtoms.{AtomIn}
 use Rattle.formula_meaning.proofs.Fold.{folded_plain, folded_every, folded_free, folded_nodes}
 use Rattle.formula_meaning.proofs.folding_brings_nothing.Goals as goal
 

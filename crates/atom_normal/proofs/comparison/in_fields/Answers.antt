@@ -1,7 +1,8 @@
 use Rattle.std.proofs.Common.{◌≡◌, ◌∷◌, pos, ℤ, ap, sym, ◌∙◌, subst}
 use Rattle.std.specs.Int.{w128, cast_unsigned}
 use Rattle.std.proofs.lemmas.Int.{to_z-of_z}
-use Rattle.exact_numbers.specs.Divides.{DividesAll, gcd_of, content_of}
+use Rattle.exact_numbers.specs.Divides.{gcd_of, content_of}
+use Rattle.exact_numbers.specs.Division.{DividesAll}
 use Rattle.exact_numbers.specs.Limit.{InLimit}
 use Rattle.exact_numbers.proofs.Casts.{fits}
 use Rattle.linear_forms.specs.Terms.{coefficients}

@@ -1,5 +1,6 @@
 use Rattle.std.proofs.Common.{map}
-use Rattle.qe_syntax.specs.Trees.{formula_tree, formulas_of}
+use Rattle.qe_syntax.specs.Trees.{formulas_of}
+use Rattle.qe_syntax.specs.CodeTrees.{formula_tree}
 use Rattle.certificate_queries.proofs.NameSteps.{session_named, numbers_there, session_later, state_later}
 use Rattle.certificate_queries.proofs.certify.answer_certificate.Goals as goal
 

@@ -1,6 +1,7 @@
 use Rattle.std.proofs.Common.{◌≡◌, None, map, sym, subst, rules, Err}
 use Rattle.std.specs.Prelude.{IfErr}
-use Rattle.qe_syntax.specs.Trees.{formula_tree, formulas_of}
+use Rattle.qe_syntax.specs.Trees.{formulas_of}
+use Rattle.qe_syntax.specs.CodeTrees.{formula_tree}
 use Rattle.statement_syntax.specs.Statements.{Certify}
 use Rattle.certificate_search.specs.Certificates.{certificate_of}
 use Rattle.session_state.specs.Keeping.{state_of}

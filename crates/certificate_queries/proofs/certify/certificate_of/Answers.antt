@@ -1,7 +1,8 @@
 use Rattle.std.proofs.Common.{◌≡◌, map, sym, ap, ◌∙◌, subst, rules, Err}
 use Rattle.std.specs.Prelude.{IfErr}
 use Rattle.linear_forms.specs.Values.{number_of}
-use Rattle.qe_syntax.specs.Trees.{formula_tree, formulas_of}
+use Rattle.qe_syntax.specs.Trees.{formulas_of}
+use Rattle.qe_syntax.specs.CodeTrees.{formula_tree}
 use Rattle.farkas_cert.specs.Constraints.{constraint_of}
 use Rattle.certificate_search.specs.Certificates.{certificate_of}
 use Rattle.session_meaning.specs.Certificates.{constrained_names, constraints_of}

@@ -1,7 +1,8 @@
 use Rattle.std.proofs.Common.{◌≡◌, None, map, sym, subst, rules, Err}
 use Rattle.std.specs.Prelude.{IfOk, IfErr, Result}
 use Rattle.atom_normal.proofs.Stepped.{ok_map}
-use Rattle.qe_syntax.specs.Trees.{formula_tree, formulas_of}
+use Rattle.qe_syntax.specs.Trees.{formulas_of}
+use Rattle.qe_syntax.specs.CodeTrees.{formula_tree}
 use Rattle.statement_syntax.specs.Statements.{Check}
 use Rattle.session_meaning.specs.declared.line.Line.{Line}
 use Rattle.session_meaning.specs.declared.line.StatementError.{StatementError}

@@ -1,6 +1,7 @@
 use Rattle.std.proofs.Common.{◌≡◌, map, sym, ap, ◌∙◌, subst, rules, Err}
 use Rattle.std.specs.Prelude.{IfErr}
-use Rattle.qe_syntax.specs.Trees.{formula_tree, formulas_of}
+use Rattle.qe_syntax.specs.Trees.{formulas_of}
+use Rattle.qe_syntax.specs.CodeTrees.{formula_tree}
 use Rattle.farkas_cert.specs.Constraints.{constraint_of}
 use Rattle.session_meaning.specs.Certificates.{constraints_of, multipliers_of}
 use Rattle.session_state.specs.Keeping.{state_of}

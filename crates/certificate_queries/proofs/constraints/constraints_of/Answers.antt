@@ -6,7 +6,8 @@ use Rattle.atom_normal.proofs.Stepped.{ok_map}
 use Rattle.formula_tree.specs.declared.shape.Shape.{Shape}
 use Rattle.formula_store.specs.declared.id.FormulaId.{FormulaId}
 use Rattle.formula_store.specs.Nodes.{tree}
-use Rattle.qe_syntax.specs.Trees.{formula_tree, formulas_of}
+use Rattle.qe_syntax.specs.Trees.{formulas_of}
+use Rattle.qe_syntax.specs.CodeTrees.{formula_tree}
 use Rattle.farkas_theory.specs.Constraints.{Constraint}
 use Rattle.session_meaning.specs.declared.line.StatementError.TheVariants as error
 use Rattle.session_meaning.specs.Assumptions.{resolved_all}

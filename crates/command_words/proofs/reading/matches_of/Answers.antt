@@ -5,7 +5,8 @@ use Rattle.clap.specs.Words.{App, app_of, first_of, found_of, is_simple, matches
 use Rattle.clap.proofs.WalkLemmas.{first_value-rows}
 use Rattle.command_words.specs.Reading.{app}
 use Rattle.command_words.specs.Value.{value_of}
-use Rattle.command_words.specs.Words.{greatest_of, id_of}
+use Rattle.command_words.specs.Words.{greatest_of}
+use Rattle.command_words.specs.OptionIds.{id_of}
 use Rattle.command_words.proofs.Walks.{words_taken, values_found}
 use Rattle.command_words.proofs.reading.matches_of.Goals as goal
 

@@ -2,7 +2,8 @@ use Rattle.std.proofs.Common.{◌≡◌, ◌∙◌, sym, subst}
 use Rattle.clap.specs.Words.{first_value, found_of}
 use Rattle.command_words.specs.declared.options.Choice.TheVariants.{Nodes, Workers, Generate}
 use Rattle.command_words.specs.declared.options.Options.{Options}
-use Rattle.command_words.specs.Words.{Spells, greatest_of, id_of}
+use Rattle.command_words.specs.Words.{Spells, greatest_of}
+use Rattle.command_words.specs.OptionIds.{id_of}
 use Rattle.command_words.proofs.Values.{same_in_range, all_in_range}
 use Rattle.command_words.proofs.reading.options_of.Goals as goal
 

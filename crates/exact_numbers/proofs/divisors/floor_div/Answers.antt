@@ -1,6 +1,7 @@
 use Rattle.std.proofs.Common.{◌≡◌, rules, subst, sym, to_z, of_z, ℤ}
 use Rattle.std.specs.Int.{w128}
-use Rattle.exact_numbers.specs.Divides.{IsFloor, floor_of}
+use Rattle.exact_numbers.specs.Divides.{floor_of}
+use Rattle.exact_numbers.specs.Division.{IsFloor}
 use Rattle.exact_numbers.proofs.Floor.{floor_is}
 use Rattle.exact_numbers.proofs.divisors.floor_div.Goals as goal
 

@@ -3,7 +3,8 @@ use Rattle.std.specs.Prelude.{int_div, ◌*ℤ◌}
 use Rattle.std.specs.Int.{w128}
 use Rattle.std.proofs.lemmas.Int.{ints, to_z-of_z, quot_fits}
 use Rattle.exact_numbers.specs.Limit.{checked}
-use Rattle.exact_numbers.specs.Divides.{IsLcm, lcm_of}
+use Rattle.exact_numbers.specs.Divides.{lcm_of}
+use Rattle.exact_numbers.specs.Division.{IsLcm}
 use Rattle.exact_numbers.proofs.GreatestDivisor.{gcd_is, gcd_positive}
 use Rattle.exact_numbers.proofs.LeastMultiple.{lcm_is}
 use Rattle.exact_numbers.proofs.Limits.{match_checked}

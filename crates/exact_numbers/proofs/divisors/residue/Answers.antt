@@ -1,6 +1,7 @@
 use Rattle.std.proofs.Common.{◌≡◌, rules, subst, sym, to_z, of_z, ℤ}
 use Rattle.std.specs.Int.{w128}
-use Rattle.exact_numbers.specs.Divides.{IsResidue, residue_of}
+use Rattle.exact_numbers.specs.Divides.{residue_of}
+use Rattle.exact_numbers.specs.Division.{IsResidue}
 use Rattle.exact_numbers.proofs.Floor.{residue_is}
 use Rattle.exact_numbers.proofs.divisors.residue.Goals as goal
 

@@ -1,5 +1,5 @@
 use Rattle.std.proofs.Common.{ℕ, List, [], ◌∷◌, ◌||◌, subst, sym, arith, rules}
-use Rattle.qe_syntax.specs.Trees.{formula_tree}
+use Rattle.qe_syntax.specs.CodeTrees.{formula_tree}
 use Rattle.qe_syntax.proofs.Quantified.{unquantified}
 use Rattle.formula_tree.specs.Resolving.{formula_variables}
 use Rattle.formula_resolving.specs.Numbering.{IsNumbered}

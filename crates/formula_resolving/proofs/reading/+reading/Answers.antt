@@ -2,7 +2,8 @@ use Rattle.std.proofs.Common.{◌≡◌, List, map, arith, rules, subst, sym, ap
 use Rattle.std.proofs.lemmas.List.{take_all}
 use Rattle.formula_meaning.specs.Sizes.{nodes}
 use Rattle.atom_normal.specs.Atoms.{context_of}
-use Rattle.qe_syntax.specs.Trees.{FormulaTree, formula_tree}
+use Rattle.qe_syntax.specs.Trees.{FormulaTree}
+use Rattle.qe_syntax.specs.CodeTrees.{formula_tree}
 use Rattle.qe_syntax.specs.Proper.{IsProperFormula}
 use Rattle.qe_syntax.specs.Valued.{IsUnquantified}
 use Rattle.qe_syntax.specs.declared.tree.Formula.{Formula}

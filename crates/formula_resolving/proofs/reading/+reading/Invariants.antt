@@ -1,6 +1,7 @@
 use Rattle.std.proofs.Common.{◌+◌, ◌*◌, map, take, length}
 use Rattle.formula_meaning.specs.Sizes.{nodes, all_nodes}
-use Rattle.qe_syntax.specs.Trees.{FormulaTree, formula_tree, formulas_of}
+use Rattle.qe_syntax.specs.Trees.{FormulaTree, formulas_of}
+use Rattle.qe_syntax.specs.CodeTrees.{formula_tree}
 use Rattle.atom_normal.specs.Atoms.{context_of}
 use Rattle.formula_tree.specs.Makers.{Keeps}
 use Rattle.formula_resolving.specs.Refusals.{trees_bound}

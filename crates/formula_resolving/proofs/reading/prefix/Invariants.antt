@@ -1,4 +1,4 @@
-use Rattle.qe_syntax.specs.Trees.{formula_tree}
+use Rattle.qe_syntax.specs.CodeTrees.{formula_tree}
 use Rattle.formula_resolving.specs.Connectives.{Opens}
 use Rattle.formula_resolving.proofs.reading.prefix.Given as goal
 

@@ -1,6 +1,6 @@
 use Rattle.std.proofs.Common.{ℕ, List, subst}
 use Rattle.atom_normal.specs.Atoms.{context_of}
-use Rattle.qe_syntax.specs.Trees.{formula_tree}
+use Rattle.qe_syntax.specs.CodeTrees.{formula_tree}
 use Rattle.formula_tree.specs.Makers.{IsMade}
 use Rattle.formula_tree.specs.Resolving.{resolve}
 use Rattle.formula_resolving.specs.Refusals.{trees_bound}

@@ -3,7 +3,8 @@ use Rattle.std.specs.Ordering.{nat_cmp}
 use Rattle.std.specs.BTreeSet.{contains}
 use Rattle.formula_meaning.specs.Sizes.{nodes}
 use Rattle.qe_syntax.specs.declared.tree.Formula as written
-use Rattle.qe_syntax.specs.Trees.{FormulaTree, formula_tree, formulas_of}
+use Rattle.qe_syntax.specs.Trees.{FormulaTree, formulas_of}
+use Rattle.qe_syntax.specs.CodeTrees.{formula_tree}
 use Rattle.qe_syntax.specs.Valued.{IsUnquantified}
 use Rattle.qe_syntax.proofs.EntryLists.{rest_at}
 use Rattle.qe_syntax.proofs.Quantified.{matrix_unquantified}

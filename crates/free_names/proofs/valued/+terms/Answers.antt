@@ -1,5 +1,6 @@
 use Rattle.std.proofs.Common.{sym, ap, ◌∙◌, subst, arith}
-use Rattle.qe_syntax.specs.Trees.{TermTree, term_tree}
+use Rattle.qe_syntax.specs.Trees.{TermTree}
+use Rattle.qe_syntax.specs.CodeTrees.{term_tree}
 use Rattle.qe_syntax.specs.Value.{HasName}
 use Rattle.qe_syntax.proofs.TreeEquations.{tree-Name}
 use Rattle.formula_resolving.proofs.Measures.{term_below}

@@ -1,5 +1,6 @@
 use Rattle.std.proofs.Common.{◌+◌, ◌*◌, drop, map}
-use Rattle.qe_syntax.specs.Trees.{term_tree, terms_of}
+use Rattle.qe_syntax.specs.Trees.{terms_of}
+use Rattle.qe_syntax.specs.CodeTrees.{term_tree}
 use Rattle.qe_syntax.specs.Value.{HaveName}
 use Rattle.formula_resolving.proofs.Measures.{term_nodes, terms_nodes}
 use Rattle.free_names.specs.Places.{name_in_scope}

@@ -1,7 +1,7 @@
 use Rattle.std.proofs.Common.{◌≡◌, true, false, List, ℕ, [], ◌∷◌, ◌++◌, map, subst, ap}
 use Rattle.std.specs.Ordering.{nat_cmp}
 use Rattle.std.specs.BTreeSet.{contains}
-use Rattle.qe_syntax.specs.Trees.{formula_tree}
+use Rattle.qe_syntax.specs.CodeTrees.{formula_tree}
 use Rattle.qe_syntax.specs.Valued.{prefix_of}
 use Rattle.qe_syntax.proofs.NameSearch.{was_absent, was_known}
 use Rattle.qe_syntax.proofs.Quantified.{unquantified, no_prefix, after_name}

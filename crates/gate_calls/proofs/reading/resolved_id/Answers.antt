@@ -7,7 +7,7 @@ use Rattle.formula_resolving.specs.Refusals.{trees_bound}
 use Rattle.formula_store.specs.Nodes.{tree}
 use Rattle.formula_tree.specs.ResolvedLaws.{HasNormalTrees}
 use Rattle.formula_tree.proofs.ResolvedTruth.{resolving_is_normal}
-use Rattle.qe_syntax.specs.Trees.{formula_tree}
+use Rattle.qe_syntax.specs.CodeTrees.{formula_tree}
 use Rattle.gate_calls.proofs.reading.resolved_id.Goals as goal
 
 nothing_bound : (c : Context) → HasNormalTrees c []

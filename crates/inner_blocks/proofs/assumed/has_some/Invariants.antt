@@ -1,7 +1,7 @@
 use Rattle.std.proofs.Common.{◌≡◌, drop}
 use Rattle.std.specs.List.{list_any}
 use Rattle.atom_normal.specs.Atoms.{atom_of}
-use Rattle.simplified_formulas.specs.AtomKit.{contains}
+use Rattle.simplified_formulas.specs.Contained.{contains}
 use Rattle.linear_forms.specs.declared.form.VarId.{VarId}
 use Rattle.inner_blocks.proofs.assumed.has_some.Given as goal
 

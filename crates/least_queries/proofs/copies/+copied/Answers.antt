@@ -2,7 +2,7 @@ use Rattle.std.proofs.Common.{ap, sym, ◌∙◌, arith}
 use Rattle.std.specs.List.{fold}
 use Rattle.std.proofs.lemmas.List.Sums.{fold-append}
 use Rattle.std.proofs.lemmas.Result.{IfOk-weaker}
-use Rattle.qe_syntax.specs.Trees.{term_tree}
+use Rattle.qe_syntax.specs.CodeTrees.{term_tree}
 use Rattle.qe_syntax.proofs.TermParts.{quotient_is}
 use Rattle.formula_tree.specs.Names.{with_name}
 use Rattle.formula_tree.specs.Resolving.{variables_of}

@@ -2,7 +2,8 @@ use Rattle.std.proofs.Common.{◌≡◌, ◌≤◌, ◌-◌, None, Err, map, tak
 use Rattle.std.specs.Prelude.{IfErr}
 use Rattle.formula_store.specs.Nodes.{tree}
 use Rattle.qe_syntax.specs.Proper.{IsProperFormula}
-use Rattle.qe_syntax.specs.Trees.{term_tree, formula_tree, formulas_of}
+use Rattle.qe_syntax.specs.Trees.{formulas_of}
+use Rattle.qe_syntax.specs.CodeTrees.{term_tree, formula_tree}
 use Rattle.statement_syntax.specs.Statements.{Least}
 use Rattle.session_meaning.specs.Meaning.{meaning, numbered}
 use Rattle.session_state.specs.Keeping.{state_of}

@@ -4,7 +4,8 @@ use Rattle.std.proofs.lemmas.Result.{IfOk-weaker}
 use Rattle.formula_meaning.specs.Formula.{One}
 use Rattle.formula_meaning.specs.declared.quantifier.Quantifier.TheVariants.{Exists}
 use Rattle.qe_syntax.specs.declared.tree.Relation.TheVariants.{Equal}
-use Rattle.qe_syntax.specs.Trees.{Named, Compare, term_tree, formula_tree, formulas_of}
+use Rattle.qe_syntax.specs.Trees.{Named, Compare, formulas_of}
+use Rattle.qe_syntax.specs.CodeTrees.{term_tree, formula_tree}
 use Rattle.qe_syntax.proofs.TreeEquations.{tree-Name}
 use Rattle.redlog_reader.specs.Grammar.{quantified_names}
 use Rattle.formula_tree.specs.Names.{with_name}

@@ -1,7 +1,8 @@
 use Rattle.std.proofs.Common.{◌≡◌, ◌+◌, List, map, drop, sym, ap, ◌∙◌, subst}
 use Rattle.std.proofs.lemmas.List.{at_drop_all}
 use Rattle.formula_meaning.specs.Fold.{append}
-use Rattle.elimination_theory.specs.Steps.{results, trees_left}
+use Rattle.elimination_theory.specs.Steps.{results}
+use Rattle.elimination_theory.specs.StepTheorems.{trees_left}
 use Rattle.formula_meaning.specs.Limits.{each}
 use Rattle.linear_forms.specs.declared.form.VarId.{VarId}
 use Rattle.atom_normal.specs.Atoms.{context_of}

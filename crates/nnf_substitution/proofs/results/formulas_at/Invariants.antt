@@ -1,6 +1,7 @@
 use Rattle.std.proofs.Common.{◌≡◌, map, drop}
 use Rattle.formula_meaning.specs.Fold.{append}
-use Rattle.elimination_theory.specs.Steps.{results, trees_left}
+use Rattle.elimination_theory.specs.Steps.{results}
+use Rattle.elimination_theory.specs.StepTheorems.{trees_left}
 use Rattle.formula_meaning.specs.Limits.{each}
 use Rattle.atom_normal.specs.Atoms.{context_of}
 use Rattle.atom_normal.specs.NormalForm.{normal_atom}

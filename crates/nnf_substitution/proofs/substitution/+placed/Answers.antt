@@ -1,10 +1,10 @@
 use Rattle.std.proofs.Common.{rules, arith, ◌≡◌, ◌≤◌, ◌+◌, ◌∷◌, ◌++◌, [], List, drop, sym, ap, ◌∙◌, subst}
 use Rattle.std.proofs.lemmas.List.{at_drop_all}
-use Rattle.formula_meaning.specs.Atom.{AtomIn}
+use Rattle.formula_meaning.specs.TheoryAtoms.{AtomIn}
 use Rattle.formula_meaning.specs.Every.{EveryOf}
 use Rattle.formula_meaning.specs.Fold.{append}
 use Rattle.formula_meaning.specs.Sizes.{nodes, all_nodes}
-use Rattle.formula_meaning.specs.Tree.{InContext}
+use Rattle.formula_meaning.specs.Equivalence.{InContext}
 use Rattle.atom_normal.specs.Atoms.{context_of}
 use Rattle.nnf_trees.specs.declared.nnf.Nnf.{Nnf}
 use Rattle.nnf_trees.specs.Nnfs.{nnf_of, nnfs_of, AreProper}

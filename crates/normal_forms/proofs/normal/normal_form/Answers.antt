@@ -1,9 +1,10 @@
 use Rattle.std.proofs.Common.{◌≤◌, ℕ, ◌∙◌, sym, subst}
 use Rattle.formula_meaning.specs.Sizes.{nodes}
-use Rattle.formula_meaning.specs.Tree.{Tree, Equivalent, IsFree}
+use Rattle.formula_meaning.specs.Tree.{Tree, IsFree}
+use Rattle.formula_meaning.specs.Equivalence.{Equivalent}
 use Rattle.atom_normal.specs.Atoms.{context_of}
 use Rattle.formula_store.specs.Nodes.{tree}
-use Rattle.simplified_formulas.specs.Trees.{IsSimplifiable}
+use Rattle.simplified_formulas.specs.Simplifiable.{IsSimplifiable}
 use Rattle.simplified_formulas.proofs.Limited.{simplifiable}
 use Rattle.formula_store.proofs.Numbers.{numbers_are_within}
 use Rattle.clean_forms.specs.Plain.{plain_form}

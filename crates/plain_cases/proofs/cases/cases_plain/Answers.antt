@@ -1,6 +1,7 @@
 use Rattle.std.proofs.Common.{map, sym, ap, ◌∙◌, subst}
 use Rattle.atom_normal.specs.Atoms.{context_of}
-use Rattle.formula_meaning.specs.Measured.{done, Gives}
+use Rattle.formula_meaning.specs.Measured.{done}
+use Rattle.formula_meaning.specs.Giving.{Gives}
 use Rattle.formula_meaning.specs.Some.{EachOf}
 use Rattle.formula_meaning.specs.Tree.{IsFree}
 use Rattle.elimination_reference.specs.Cases.{Case}

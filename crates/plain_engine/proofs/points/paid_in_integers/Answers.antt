@@ -14,7 +14,7 @@ use Rattle.formula_meaning.specs.Sizes.{nodes}
 use Rattle.elimination_theory.specs.declared.side.Side.TheVariants.{Lower}
 use Rattle.elimination_theory.specs.Atoms.{atoms_of}
 use Rattle.elimination_theory.proofs.StandOnce.{points_once}
-use Rattle.formula_meaning.specs.Distinct.{StandsOnce}
+use Rattle.formula_meaning.specs.StandsOnce.{StandsOnce}
 use Rattle.elimination_theory.specs.IntegersPoints.{own_span, integer_count, integer_count_of, integer_points_of}
 use Rattle.formula_meaning.specs.Limits.{each, place_within}
 use Rattle.elimination_reference.specs.Limits.{atom_within, span_within}

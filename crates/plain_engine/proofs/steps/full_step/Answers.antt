@@ -2,7 +2,8 @@ use Rattle.std.proofs.Common.{rules, ◌≡◌, List, All, true, map, sym, ap, �
 use Rattle.elimination_theory.specs.declared.side.Side.TheVariants.{Lower}
 use Rattle.elimination_theory.specs.Atoms.{atoms_of}
 use Rattle.elimination_theory.specs.BothTheories.{IsPlaceIn, test_points}
-use Rattle.elimination_theory.specs.Steps.{results, trees_left}
+use Rattle.elimination_theory.specs.Steps.{results}
+use Rattle.elimination_theory.specs.StepTheorems.{trees_left}
 use Rattle.formula_meaning.specs.Limits.{each}
 use Rattle.elimination_reference.specs.Limits.{step_within}
 use Rattle.formula_meaning.specs.Measured.{done}

@@ -1,5 +1,5 @@
 use Rattle.std.proofs.Common.{rules, ◌≡◌, List, ◌∷◌, ◌++◌, length, sym, ap, ◌∙◌, subst}
-use Rattle.formula_meaning.specs.Atom.{AtomIn}
+use Rattle.formula_meaning.specs.TheoryAtoms.{AtomIn}
 use Rattle.formula_meaning.specs.Every.{EveryOf}
 use Rattle.formula_meaning.specs.Fold.{append}
 use Rattle.atom_normal.specs.Atoms.{context_of}

@@ -1,6 +1,6 @@
 use Rattle.std.proofs.Common.{◌≡◌}
 use Rattle.formula_meaning.specs.Every.{EveryOf}
-use Rattle.formula_meaning.specs.Atom.{AtomIn}
+use Rattle.formula_meaning.specs.TheoryAtoms.{AtomIn}
 use Rattle.atom_normal.specs.Atoms.{context_of}
 use Rattle.elimination_reference.specs.Reference.{steps}
 use Rattle.nnf_trees.specs.Nnfs.{AreProper}

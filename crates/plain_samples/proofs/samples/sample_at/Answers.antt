@@ -3,7 +3,8 @@ use Rattle.elimination_reference.specs.Sample.{chosen_steps}
 use Rattle.formula_tree.specs.Trees.{tree_of}
 use Rattle.linear_forms.specs.Values.{point_of}
 use Rattle.plain_engine.proofs.Seen.{told_then}
-use Rattle.sample_reference.specs.Sample.{sampled, reference_sample, IsTrueSample}
+use Rattle.sample_reference.specs.Sample.{sampled, reference_sample}
+use Rattle.sample_reference.specs.TrueSample.{IsTrueSample}
 use Rattle.sample_reference.specs.Seen.{sample_of}
 use Rattle.sample_reference.proofs.Sound.{sample_true}
 use Rattle.traced_cases.specs.Steps.{steps_seen}

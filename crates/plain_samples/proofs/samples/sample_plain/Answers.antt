@@ -2,7 +2,7 @@ use Rattle.atom_normal.specs.Atoms.{context_of}
 use Rattle.elimination_reference.specs.Cases.{case_sign}
 use Rattle.elimination_reference.specs.Reference.{leading_branches, normal_tree}
 use Rattle.formula_tree.specs.Trees.{tree_of}
-use Rattle.sample_reference.specs.Sample.{closed_sample, IsTrueSample}
+use Rattle.sample_reference.specs.TrueSample.{closed_sample, IsTrueSample}
 use Rattle.sample_reference.specs.Seen.{sample_of}
 use Rattle.sample_reference.specs.Values.{origin}
 use Rattle.sample_reference.proofs.Closed.{closed_sample_true}

@@ -5,7 +5,8 @@ use Rattle.exact_numbers.specs.Limit.{InLimit}
 use Rattle.exact_numbers.proofs.Casts.{fits}
 use Rattle.formula_meaning.specs.Form.{Form, value}
 use Rattle.elimination_reference.specs.PutIn.{terms_kept}
-use Rattle.linear_forms.specs.Terms.{IsLinear, value_steps}
+use Rattle.linear_forms.specs.Terms.{value_steps}
+use Rattle.linear_forms.specs.Combinations.{IsLinear}
 use Rattle.linear_forms.specs.Values.{point_of, number_at}
 use Rattle.linear_forms.specs.Linear.{terms_of}
 use Rattle.plain_truths.specs.Put.{around, IsFormPut}

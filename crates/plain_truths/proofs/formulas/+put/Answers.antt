@@ -1,11 +1,12 @@
 use Rattle.std.proofs.Common.{rules, arith, ℕ, ◌≡◌, ◌≤◌, ◌+◌, ◌∷◌, ◌++◌, [], List, Err, drop, sym, ap, ◌∙◌, subst}
 use Rattle.std.proofs.lemmas.List.{at_drop_all}
 use Rattle.formula_meaning.specs.Shape.{quantified}
-use Rattle.formula_meaning.specs.Atom.{AtomIn}
+use Rattle.formula_meaning.specs.TheoryAtoms.{AtomIn}
 use Rattle.formula_meaning.specs.Every.{EveryOf}
 use Rattle.formula_meaning.specs.Fold.{append}
 use Rattle.formula_meaning.specs.Sizes.{nodes, all_nodes}
-use Rattle.formula_meaning.specs.Tree.{Tree, InContext}
+use Rattle.formula_meaning.specs.Tree.{Tree}
+use Rattle.formula_meaning.specs.Equivalence.{InContext}
 use Rattle.elimination_reference.specs.PutIn.{trees_put, tree_put_within, trees_put_within}
 use Rattle.atom_normal.specs.Atoms.{context_of}
 use Rattle.linear_forms.specs.declared.form.VarId.{VarId}

@@ -1,6 +1,6 @@
 use Rattle.std.proofs.Common.{rules, ◌≡◌, false, List, [], sym, ap, ◌∙◌, subst}
 use Rattle.std.specs.Prelude.{IfOk}
-use Rattle.formula_meaning.specs.Tree.{InContext}
+use Rattle.formula_meaning.specs.Equivalence.{InContext}
 use Rattle.atom_normal.specs.Atoms.{context_of}
 use Rattle.elimination_reference.specs.Theorems.{IsPutIn}
 use Rattle.elimination_reference.specs.PutIn.{put_in, tree_put}

@@ -1,5 +1,6 @@
 use Rattle.std.proofs.lemmas.Int.{to_z-of_z}
-use Rattle.point_grid.specs.Grids.{HasSteps, AxisPasses}
+use Rattle.point_grid.specs.Grids.{AxisPasses}
+use Rattle.point_grid.specs.Steps.{HasSteps}
 use Rattle.point_grid.proofs.Lists.{each_at, some_at}
 use Rattle.point_grid.proofs.parts.scales_over.Goals as goal
 

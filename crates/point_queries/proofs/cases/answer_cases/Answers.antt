@@ -1,5 +1,6 @@
 use Rattle.std.proofs.Common.{map}
-use Rattle.qe_syntax.specs.Trees.{formula_tree, formulas_of}
+use Rattle.qe_syntax.specs.Trees.{formulas_of}
+use Rattle.qe_syntax.specs.CodeTrees.{formula_tree}
 use Rattle.point_queries.proofs.CaseSteps.{session_named, numbers_there, cases_told, cases_refused, state_later, session_later}
 use Rattle.point_queries.proofs.cases.answer_cases.Goals as goal
 

@@ -10,7 +10,8 @@ use Rattle.formula_store.specs.Nodes.{tree}
 use Rattle.plain_cases.specs.declared.cases.PrintedCase.{PrintedCase}
 use Rattle.plain_cases.specs.Case.{case_seen}
 use Rattle.statement_syntax.specs.Statements.{Qea}
-use Rattle.qe_syntax.specs.Trees.{formula_tree, formulas_of}
+use Rattle.qe_syntax.specs.Trees.{formulas_of}
+use Rattle.qe_syntax.specs.CodeTrees.{formula_tree}
 use Rattle.session_meaning.specs.declared.line.StatementError.{StatementError}
 use Rattle.command_tools.specs.Replies.{use_of, Refuses}
 use Rattle.session_state.specs.Keeping.{state_of}

@@ -1,8 +1,9 @@
 use Rattle.std.proofs.Common.{sym, subst}
 use Rattle.std.proofs.lemmas.Result.{err_from_is_err_and}
-use Rattle.qe_syntax.specs.Trees.{formula_tree}
+use Rattle.qe_syntax.specs.CodeTrees.{formula_tree}
 use Rattle.statement_syntax.specs.Statements.{Grid}
-use Rattle.point_grid.specs.Frames.{Frame, IsFrame}
+use Rattle.point_grid.specs.Frames.{Frame}
+use Rattle.point_grid.specs.FramePoints.{IsFrame}
 use Rattle.session_state.specs.Keeping.{state_of}
 use Rattle.point_queries.specs.Asked.{RefusesAsking}
 use Rattle.point_queries.proofs.AskedSteps.{ids_there}

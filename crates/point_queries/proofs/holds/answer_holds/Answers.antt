@@ -1,7 +1,7 @@
 use Rattle.std.proofs.Common.{◌≡◌, Bool, None, sym, subst, rules, Err}
 use Rattle.std.specs.Prelude.{Result, IfErr}
 use Rattle.statement_syntax.specs.Statements.{Holds}
-use Rattle.qe_syntax.specs.Trees.{formula_tree}
+use Rattle.qe_syntax.specs.CodeTrees.{formula_tree}
 use Rattle.session_meaning.specs.declared.line.StatementError.{StatementError}
 use Rattle.command_tools.specs.Replies.{use_of, Refuses}
 use Rattle.session_meaning.specs.Meaning.{meaning, numbered}

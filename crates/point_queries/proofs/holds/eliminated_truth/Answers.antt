@@ -4,7 +4,7 @@ use Rattle.formula_meaning.specs.Every.{Every}
 use Rattle.atom_normal.specs.declared.atoms.Context.{Context}
 use Rattle.atom_normal.specs.Atoms.{context_of}
 use Rattle.atom_normal.specs.NormalForm.{IsNormal}
-use Rattle.qe_syntax.specs.Point.{point_of}
+use Rattle.qe_syntax.specs.PointNumbers.{point_of}
 use Rattle.formula_tree.specs.Resolving.{at_names}
 use Rattle.formula_store.specs.Nodes.{tree}
 use Rattle.point_queries.proofs.PointLemmas.{same_point, point_there}

@@ -1,7 +1,7 @@
 use Rattle.std.proofs.Common.{sym, ◌∙◌}
 use Rattle.std.proofs.lemmas.Bool.{false≢true}
 use Rattle.std.proofs.lemmas.Result.{err_from_is_err_and}
-use Rattle.qe_syntax.specs.Trees.{formula_tree}
+use Rattle.qe_syntax.specs.CodeTrees.{formula_tree}
 use Rattle.point_queries.proofs.AskedSteps.{ids_there, normal_there}
 use Rattle.session_state.proofs.StateLemmas.{keeps_then}
 use Rattle.point_queries.proofs.TruthSteps.{free_there, whole_there, truth_told, truth_stops, eliminated_told, eliminated_stops}

@@ -1,6 +1,6 @@
 use Rattle.std.proofs.Common.{ap, inl, refl, sym, ◌∙◌}
 use Rattle.std.specs.Prelude.{unsigned_abs, Err}
-use Rattle.qe_syntax.specs.Point.{point_of}
+use Rattle.qe_syntax.specs.PointNumbers.{point_of}
 use Rattle.formula_tree.specs.Resolving.{at_names}
 use Rattle.formula_store.specs.Nodes.{tree}
 use Rattle.point_queries.proofs.PointLemmas.{abs_is, tells_there, passes_there}

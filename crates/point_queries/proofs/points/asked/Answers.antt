@@ -1,5 +1,5 @@
 use Rattle.std.proofs.lemmas.Result.{err_from_is_err_and}
-use Rattle.qe_syntax.specs.Trees.{formula_tree}
+use Rattle.qe_syntax.specs.CodeTrees.{formula_tree}
 use Rattle.point_queries.proofs.AskedLemmas.{asking_both}
 use Rattle.point_queries.proofs.AskedSteps.{point_stops, ids_there, valued_stops, no_id, no_numbers, all_asked}
 use Rattle.point_queries.proofs.points.asked.Goals as goal

@@ -2,7 +2,7 @@ use Rattle.std.proofs.Common.{◌≡◌, None, sym, subst, rules, Err}
 use Rattle.std.specs.Prelude.{Result, IfErr}
 use Rattle.sample_reference.specs.Seen.{sample_of}
 use Rattle.statement_syntax.specs.Statements.{Sample}
-use Rattle.qe_syntax.specs.Trees.{formula_tree}
+use Rattle.qe_syntax.specs.CodeTrees.{formula_tree}
 use Rattle.session_meaning.specs.declared.line.Line.{Line}
 use Rattle.session_meaning.specs.declared.line.StatementError.{StatementError}
 use Rattle.command_tools.specs.Replies.{use_of, Refuses}

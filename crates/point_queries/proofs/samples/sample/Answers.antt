@@ -1,5 +1,5 @@
 use Rattle.std.proofs.lemmas.Result.{err_from_is_err_and}
-use Rattle.qe_syntax.specs.Trees.{formula_tree}
+use Rattle.qe_syntax.specs.CodeTrees.{formula_tree}
 use Rattle.point_queries.proofs.AskedSteps.{normal_there}
 use Rattle.session_state.proofs.StateLemmas.{keeps_then}
 use Rattle.point_queries.proofs.SampleSteps.{sample_told, sample_stopped}

@@ -6,7 +6,7 @@ use Rattle.exact_numbers.specs.Limit.{InLimit}
 use Rattle.exact_numbers.proofs.Casts.{fits}
 use Rattle.formula_meaning.specs.Form.{Term, coefficient, multiple}
 use Rattle.formula_meaning.proofs.Gathered.{gathered_same}
-use Rattle.linear_forms.specs.Terms.{IsLinear}
+use Rattle.linear_forms.specs.Combinations.{IsLinear}
 use Rattle.written_atoms.specs.Entries.{coefficient_at}
 use Rattle.written_atoms.proofs.EntryTerms.{within_at}
 use Rattle.prenex_theory.specs.Renaming.{form_named}

@@ -1,7 +1,7 @@
 use Rattle.std.proofs.Common.{rules, ◌≡◌, false, sym, ap, ◌∙◌, subst}
 use Rattle.formula_meaning.specs.Form.{Form}
 use Rattle.formula_meaning.specs.Formula.{One}
-use Rattle.linear_forms.specs.Terms.{IsLinear}
+use Rattle.linear_forms.specs.Combinations.{IsLinear}
 use Rattle.atom_normal.specs.Atoms.{context_of, atom_of}
 use Rattle.atom_normal.specs.NormalForm.{normal_atom}
 use Rattle.atom_normal.proofs.NormalLaws.{normal_stays, normal_in}

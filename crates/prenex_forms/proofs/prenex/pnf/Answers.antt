@@ -10,7 +10,7 @@ use Rattle.prenex_theory.specs.NewNames.{AddsNewNames}
 use Rattle.prenex_theory.specs.Renaming.{new_count}
 use Rattle.prenex_theory.proofs.Whole.{free_below}
 use Rattle.prenex_forms.specs.Chosen.{flag, CanRename, IsRenamed, Overflows}
-use Rattle.prenex_forms.specs.Forms.{negation_form}
+use Rattle.prenex_forms.specs.NegationForm.{negation_form}
 use Rattle.prenex_forms.proofs.Finished.{has_prenex_form, ready, whole_is, new_names, fits_whole, overflows_whole, finished, length_more}
 use Rattle.prenex_forms.proofs.prenex.pnf.Goals as goal
 

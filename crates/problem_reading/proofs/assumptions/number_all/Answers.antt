@@ -2,7 +2,8 @@ use Rattle.std.proofs.Common.{◌∙◌, sym, ap, map, take}
 use Rattle.std.specs.List.{fold}
 use Rattle.formula_tree.specs.Names.{with_name}
 use Rattle.formula_tree.specs.Resolving.{formula_variables, all_variables}
-use Rattle.qe_syntax.specs.Trees.{formula_tree, formulas_of}
+use Rattle.qe_syntax.specs.Trees.{formulas_of}
+use Rattle.qe_syntax.specs.CodeTrees.{formula_tree}
 use Rattle.qe_syntax.proofs.EntryLists.{more_entries}
 use Rattle.problem_reading.proofs.AssumptionLemmas.{variables_more, folded_more}
 use Rattle.session_state.proofs.NameLemmas.{grows_then}

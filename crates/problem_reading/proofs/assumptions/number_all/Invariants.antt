@@ -3,7 +3,8 @@ use Rattle.std.specs.List.{fold}
 use Rattle.formula_tree.specs.Names.{with_name}
 use Rattle.formula_tree.specs.Resolving.{all_variables}
 use Rattle.formula_resolving.specs.Numbering.{Grows}
-use Rattle.qe_syntax.specs.Trees.{formula_tree, formulas_of}
+use Rattle.qe_syntax.specs.Trees.{formulas_of}
+use Rattle.qe_syntax.specs.CodeTrees.{formula_tree}
 use Rattle.problem_reading.proofs.assumptions.number_all.Given as goal
 
 -- the variables of the formulas so far are numbered

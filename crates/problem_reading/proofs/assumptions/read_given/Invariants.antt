@@ -1,7 +1,8 @@
 use Rattle.std.proofs.Common.{◌≡◌, None, map, take, drop}
 use Rattle.std.specs.List.{AllByRecursion}
 use Rattle.qe_syntax.specs.Writable.{IsWritableFormula}
-use Rattle.qe_syntax.specs.Trees.{formula_tree, formulas_of}
+use Rattle.qe_syntax.specs.Trees.{formulas_of}
+use Rattle.qe_syntax.specs.CodeTrees.{formula_tree}
 use Rattle.formula_store.specs.Nodes.{tree, IsId}
 use Rattle.formula_tree.specs.Makers.{AreMade}
 use Rattle.session_meaning.specs.Assumptions.{resolved_all}

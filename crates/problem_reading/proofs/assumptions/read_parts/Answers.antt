@@ -2,7 +2,8 @@ use Rattle.formula_meaning.specs.Formula.{also}
 use Rattle.std.proofs.Common.{◌≡◌, sym, subst, rules, map, Err}
 use Rattle.std.specs.Prelude.{IfErr, IfOk}
 use Rattle.std.specs.List.{AllByRecursion}
-use Rattle.qe_syntax.specs.Trees.{formula_tree, formulas_of}
+use Rattle.qe_syntax.specs.Trees.{formulas_of}
+use Rattle.qe_syntax.specs.CodeTrees.{formula_tree}
 use Rattle.formula_store.specs.Nodes.{IsId}
 use Rattle.session_state.specs.Keeping.{state_of}
 use Rattle.problem_reading.specs.Reading.{HasNumbers, AreUnread, IsReadUnder}

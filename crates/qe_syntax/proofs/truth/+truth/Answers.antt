@@ -5,7 +5,7 @@ use Rattle.qe_syntax.specs.declared.tree.Formula.{Formula}
 use Rattle.qe_syntax.specs.declared.tree.Formula.TheFolds.{the_lemmas}
 use Rattle.qe_syntax.specs.Proper.{IsProperFormula}
 use Rattle.qe_syntax.specs.Testable.{IsTestable}
-use Rattle.qe_syntax.specs.Trees.{formula_tree}
+use Rattle.qe_syntax.specs.CodeTrees.{formula_tree}
 use Rattle.qe_syntax.specs.Value.{NamedPoint}
 use Rattle.qe_syntax.proofs.FormulaParts.{not_is, and_is, or_is, impl_is, repl_is, equiv_is}
 use Rattle.qe_syntax.proofs.truth.+truth.Goals as goal

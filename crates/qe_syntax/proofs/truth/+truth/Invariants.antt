@@ -1,10 +1,11 @@
 use Rattle.std.proofs.Common.{◌≡◌, drop, map, true, false}
-use Rattle.qe_syntax.specs.Trees.{formula_tree, formulas_of}
+use Rattle.qe_syntax.specs.Trees.{formulas_of}
+use Rattle.qe_syntax.specs.CodeTrees.{formula_tree}
 use Rattle.qe_syntax.specs.Proper.{AreProperFormulas}
 use Rattle.formula_meaning.specs.Every.{EveryOf}
 use Rattle.formula_meaning.specs.Shape.{AreQuantifierFree}
 use Rattle.qe_syntax.specs.Testable.{IsTestable}
-use Rattle.qe_syntax.specs.Point.{point_of}
+use Rattle.qe_syntax.specs.PointNumbers.{point_of}
 use Rattle.qe_syntax.specs.Rule.{calculated_all, calculated_some}
 use Rattle.qe_syntax.proofs.truth.+truth.Given as goal
 

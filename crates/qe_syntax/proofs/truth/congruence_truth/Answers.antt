@@ -1,6 +1,6 @@
 use Rattle.exact_numbers.specs.Fraction.{frac_of}
-use Rattle.qe_syntax.specs.Point.{point_of}
-use Rattle.qe_syntax.specs.Trees.{term_tree}
+use Rattle.qe_syntax.specs.PointNumbers.{point_of}
+use Rattle.qe_syntax.specs.CodeTrees.{term_tree}
 use Rattle.qe_syntax.proofs.CongruenceLaw.{modulus_not_zero}
 use Rattle.qe_syntax.proofs.ValueLaw.{calculated_stands, below_positive}
 use Rattle.qe_syntax.proofs.truth.congruence_truth.Goals as goal

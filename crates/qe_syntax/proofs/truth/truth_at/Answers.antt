@@ -1,4 +1,4 @@
-use Rattle.qe_syntax.specs.Trees.{formula_tree}
+use Rattle.qe_syntax.specs.CodeTrees.{formula_tree}
 use Rattle.qe_syntax.proofs.TruthLaw.{decides_truth}
 use Rattle.qe_syntax.proofs.truth.truth_at.Goals as goal
 

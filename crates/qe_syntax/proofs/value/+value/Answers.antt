@@ -3,8 +3,8 @@ use Rattle.qe_syntax.specs.declared.tree.Term.TheFolds.{the_lemmas}
 use Rattle.qe_syntax.specs.Proper.{IsProperTerm}
 use Rattle.qe_syntax.proofs.TermParts.{sum_is, product_is, negative_is, quotient_is, power_is}
 use Rattle.qe_syntax.proofs.ValueLaw.{calculated_stands, below_positive}
-use Rattle.qe_syntax.specs.Trees.{term_tree}
-use Rattle.qe_syntax.specs.Point.{point_of}
+use Rattle.qe_syntax.specs.CodeTrees.{term_tree}
+use Rattle.qe_syntax.specs.PointNumbers.{point_of}
 use Rattle.exact_numbers.specs.Fraction.{frac_of}
 use Rattle.qe_syntax.proofs.value.+value.Goals as goal
 

@@ -2,9 +2,10 @@ use Rattle.std.proofs.Common.{◌≡◌, drop, map}
 use Rattle.std.specs.Prelude.{pos}
 use Rattle.exact_numbers.specs.Frac.{whole_frac}
 use Rattle.exact_numbers.specs.Fraction.{frac_of}
-use Rattle.qe_syntax.specs.Trees.{term_tree, terms_of}
+use Rattle.qe_syntax.specs.Trees.{terms_of}
+use Rattle.qe_syntax.specs.CodeTrees.{term_tree}
 use Rattle.qe_syntax.specs.Proper.{AreProperTerms}
-use Rattle.qe_syntax.specs.Point.{point_of}
+use Rattle.qe_syntax.specs.PointNumbers.{point_of}
 use Rattle.qe_syntax.specs.Rule.{added, multiplied}
 use Rattle.qe_syntax.proofs.value.+value.Given as goal
 

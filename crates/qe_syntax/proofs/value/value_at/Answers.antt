@@ -1,5 +1,5 @@
 use Rattle.std.proofs.lemmas.Result.{IfOk-weaker}
-use Rattle.qe_syntax.specs.Trees.{term_tree}
+use Rattle.qe_syntax.specs.CodeTrees.{term_tree}
 use Rattle.qe_syntax.proofs.ValueLaw.{evaluated_stands}
 use Rattle.qe_syntax.proofs.value.value_at.Goals as goal
 

@@ -3,8 +3,9 @@ use Rattle.std.specs.Ordering.{nat_cmp}
 use Rattle.std.specs.Cmp.Lexicographic.{slice_cmp}
 use Rattle.std.specs.BTreeSet.{contains}
 use Rattle.qe_syntax.specs.declared.tree.Formula.TheFolds.{the_lemmas}
-use Rattle.qe_syntax.specs.Trees.{FormulaTree, formula_tree}
-use Rattle.qe_syntax.specs.Value.{IsFree}
+use Rattle.qe_syntax.specs.Trees.{FormulaTree}
+use Rattle.qe_syntax.specs.CodeTrees.{formula_tree}
+use Rattle.qe_syntax.specs.FreeNames.{IsFree}
 use Rattle.qe_syntax.specs.Valued.{AreAmong, IsUnquantified}
 use Rattle.qe_syntax.proofs.NameSearch.{scope_among}
 use Rattle.qe_syntax.proofs.Quantified.{matrix_unquantified}

@@ -2,7 +2,8 @@ use Rattle.std.proofs.Common.{drop, map}
 use Rattle.std.specs.Ordering.{nat_cmp}
 use Rattle.std.specs.Cmp.Lexicographic.{slice_cmp}
 use Rattle.std.specs.BTreeSet.{contains}
-use Rattle.qe_syntax.specs.Trees.{term_tree, terms_of}
+use Rattle.qe_syntax.specs.Trees.{terms_of}
+use Rattle.qe_syntax.specs.CodeTrees.{term_tree}
 use Rattle.qe_syntax.specs.Value.{HaveName}
 use Rattle.qe_syntax.proofs.NameSearch.{SearchedTo}
 use Rattle.qe_syntax.proofs.valued.+terms.Given as goal

@@ -1,6 +1,6 @@
 use Rattle.std.proofs.Common.{◌∙◌, ap, sym, rules}
 use Rattle.qe_syntax.specs.declared.tree.Formula.TheFolds.{the_lemmas}
-use Rattle.qe_syntax.specs.Trees.{formula_tree}
+use Rattle.qe_syntax.specs.CodeTrees.{formula_tree}
 use Rattle.qe_syntax.specs.Valued.{matrix_of}
 use Rattle.qe_syntax.proofs.Quantified.{unquantified, no_prefix, after_quantifier}
 use Rattle.qe_syntax.proofs.valued.matrix.Goals as goal

@@ -1,6 +1,6 @@
 use Rattle.std.proofs.Common.{◌≡◌, ◌≤◌}
 use Rattle.qe_syntax.specs.declared.tree.Formula.{size-Formula}
-use Rattle.qe_syntax.specs.Trees.{formula_tree}
+use Rattle.qe_syntax.specs.CodeTrees.{formula_tree}
 use Rattle.qe_syntax.specs.Valued.{matrix_of}
 use Rattle.qe_syntax.proofs.valued.matrix.Given as goal
 

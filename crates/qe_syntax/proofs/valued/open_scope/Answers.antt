@@ -2,7 +2,7 @@ use Rattle.std.proofs.Common.{◌≡◌, List, ℕ, [], ◌∷◌, ◌++◌, sub
 use Rattle.std.specs.Ordering.{nat_cmp}
 use Rattle.std.specs.Cmp.Lexicographic.{slice_cmp}
 use Rattle.std.specs.BTreeSet.{contains}
-use Rattle.qe_syntax.specs.Trees.{formula_tree}
+use Rattle.qe_syntax.specs.CodeTrees.{formula_tree}
 use Rattle.qe_syntax.specs.Valued.{prefix_of}
 use Rattle.qe_syntax.proofs.NameSearch.{IsOpening, opening_known, opening_new, opening_end, was_absent, was_known}
 use Rattle.qe_syntax.proofs.Quantified.{unquantified, no_prefix, after_name}

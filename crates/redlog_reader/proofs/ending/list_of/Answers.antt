@@ -1,6 +1,6 @@
 use Rattle.std.proofs.Common.{◌≡◌, length, sym, ap, ◌∙◌}
 use Rattle.formula_meaning.specs.Formula.{And, Or}
-use Rattle.qe_syntax.specs.Trees.{formula_tree}
+use Rattle.qe_syntax.specs.CodeTrees.{formula_tree}
 use Rattle.qe_syntax.proofs.TreeEquations.{formula-And, formula-Or}
 use Rattle.redlog_reader.proofs.Lists.{many_conjuncts, many_disjuncts}
 use Rattle.redlog_reader.proofs.ending.list_of.Goals as goal

@@ -1,5 +1,6 @@
 use Rattle.std.proofs.Common.{◌≡◌, length, sym, ap, ◌∙◌}
-use Rattle.qe_syntax.specs.Trees.{Sum, term_tree}
+use Rattle.qe_syntax.specs.Trees.{Sum}
+use Rattle.qe_syntax.specs.CodeTrees.{term_tree}
 use Rattle.qe_syntax.proofs.TreeEquations.{tree-Sum}
 use Rattle.redlog_reader.proofs.Lists.{many_members}
 use Rattle.redlog_reader.proofs.ending.sum_of.Goals as goal

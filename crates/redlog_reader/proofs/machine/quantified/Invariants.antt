@@ -1,5 +1,5 @@
 use Rattle.std.proofs.Common.{◌≡◌, length}
-use Rattle.qe_syntax.specs.Trees.{formula_tree}
+use Rattle.qe_syntax.specs.CodeTrees.{formula_tree}
 use Rattle.redlog_reader.specs.Grammar.{quantified_names}
 use Rattle.redlog_reader.proofs.machine.quantified.Given as goal
 

@@ -3,7 +3,7 @@ use Rattle.redlog_tokens.specs.declared.terminal.Terminal.{Terminal}
 use Rattle.redlog_tokens.specs.declared.level.TheConstants.{LEVEL_LIMIT}
 use Rattle.redlog_tokens.specs.Ahead.{AreTerminals}
 use Rattle.redlog_tokens.specs.Levels.{Passes}
-use Rattle.statement_syntax.specs.Statements.{statement_tree}
+use Rattle.statement_syntax.specs.CodeTrees.{statement_tree}
 use Rattle.std.specs.Prelude.{Some, None}
 use Rattle.redlog_reader.specs.declared.read.TheConstants.{BYTE_LIMIT}
 use Rattle.redlog_reader.specs.Reader.{statement_read}

@@ -1,5 +1,5 @@
 use Rattle.std.proofs.Common.{ℕ, ◌≤◌, ◌-◌, length}
-use Rattle.redlog_tokens.specs.Pieces.{EndsFrom}
+use Rattle.redlog_tokens.specs.OnePiece.{EndsFrom}
 use Rattle.redlog_tokens.proofs.piece.piece_end.Given as goal
 
 abbrev pub invariant-tokens : goal.invariant-tokens

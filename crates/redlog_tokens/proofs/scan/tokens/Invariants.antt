@@ -1,6 +1,7 @@
 use Rattle.std.proofs.Common.{◌-◌, ◌≤◌, List, ◌++◌, map, length}
 use Rattle.redlog_tokens.specs.declared.lexer.Lexeme.{Lexeme}
-use Rattle.redlog_tokens.specs.Lexing.{Lexes, LexesFrom, lexeme_of}
+use Rattle.redlog_tokens.specs.Lexing.{Lexes, LexesFrom}
+use Rattle.redlog_tokens.specs.Longest.{lexeme_of}
 use Rattle.redlog_tokens.proofs.scan.tokens.Given as goal
 
 abbrev pub invariant-tokens : goal.invariant-tokens

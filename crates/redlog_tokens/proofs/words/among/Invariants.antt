@@ -1,5 +1,6 @@
 use Rattle.std.proofs.Common.{◌≡◌, map, drop}
-use Rattle.redlog_tokens.specs.Terminals.{known, word_pair}
+use Rattle.redlog_tokens.specs.Terminals.{known}
+use Rattle.redlog_tokens.specs.TerminalList.{word_pair}
 use Rattle.redlog_tokens.proofs.words.among.Given as goal
 
 abbrev pub invariant-entries : goal.invariant-entries

@@ -2,7 +2,7 @@ use Rattle.std.proofs.Common.{◌≡◌, pos, ◌*ℤ◌, ◌-ℤ◌, ◌<ℤ◌
 use Rattle.std.specs.Int.{w128}
 use Rattle.std.specs.Prelude.{int_div}
 use Rattle.std.proofs.lemmas.Int.{ints, to_z-of_z}
-use Rattle.exact_numbers.specs.Divides.{IsResidue}
+use Rattle.exact_numbers.specs.Division.{IsResidue}
 use Rattle.exact_numbers.specs.Frac.{lowest}
 use Rattle.exact_numbers.specs.Fraction.{frac_of}
 use Rattle.exact_numbers.specs.Limit.{PastLimit}

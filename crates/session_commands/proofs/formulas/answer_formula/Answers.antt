@@ -1,6 +1,6 @@
 use Rattle.std.proofs.Common.{subst}
 use Rattle.std.specs.Prelude.{IfOk, IfErr}
-use Rattle.qe_syntax.specs.Trees.{formula_tree}
+use Rattle.qe_syntax.specs.CodeTrees.{formula_tree}
 use Rattle.session_state.specs.Keeping.{state_of}
 use Rattle.command_tools.specs.Replies.{use_of, Refuses, IsFormulaAnswer}
 use Rattle.session_commands.specs.Steps.{command_of}

@@ -1,6 +1,6 @@
 use Rattle.std.proofs.Common.{◌≡◌, inr, Err, sym, subst, rules}
 use Rattle.std.specs.Prelude.{IfErr, OnErr}
-use Rattle.qe_syntax.specs.Trees.{formula_tree}
+use Rattle.qe_syntax.specs.CodeTrees.{formula_tree}
 use Rattle.session_state.specs.Keeping.{state_of}
 use Rattle.session_state.specs.Growth.{GrowsState}
 use Rattle.command_tools.specs.Replies.{use_of}

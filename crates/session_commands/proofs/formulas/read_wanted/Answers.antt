@@ -1,7 +1,8 @@
 use Rattle.std.proofs.Common.{inl, inr, map, refl, sym, subst}
 use Rattle.formula_meaning.specs.Formula.{also}
 use Rattle.qe_syntax.specs.Writable.{AreWritableFormulas}
-use Rattle.qe_syntax.specs.Trees.{formula_tree, formulas_of}
+use Rattle.qe_syntax.specs.Trees.{formulas_of}
+use Rattle.qe_syntax.specs.CodeTrees.{formula_tree}
 use Rattle.session_state.specs.Keeping.{state_of}
 use Rattle.session_commands.specs.Steps.{given_trees, HasUnwantedQuantifier}
 use Rattle.problem_reading.specs.Reading.{AreReadable, AreUnread, AreRead}

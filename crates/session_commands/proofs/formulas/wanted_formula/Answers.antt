@@ -3,7 +3,7 @@ use Rattle.std.specs.Prelude.{IfErr}
 use Rattle.atom_normal.specs.Atoms.{atom_of}
 use Rattle.formula_meaning.specs.Shape.{IsQuantifierFree}
 use Rattle.formula_store.specs.Nodes.{tree}
-use Rattle.qe_syntax.specs.Trees.{formula_tree}
+use Rattle.qe_syntax.specs.CodeTrees.{formula_tree}
 use Rattle.command_tools.specs.Replies.{use_of, Refuses}
 use Rattle.session_commands.specs.Steps.{command_of, MayAsk, IsForSize}
 use Rattle.session_state.specs.Keeping.{state_of}

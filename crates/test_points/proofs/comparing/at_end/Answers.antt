@@ -2,7 +2,7 @@ use Rattle.std.proofs.Common.{◌≡◌, ℕ, true, sym, ap, ◌∙◌, subst, E
 use Rattle.std.proofs.Math.IntN.{ℤ, pos}
 use Rattle.formula_meaning.specs.Form.{Form, coefficient, without}
 use Rattle.formula_meaning.specs.Combining.{CombinePasses}
-use Rattle.linear_forms.specs.Terms.{IsCombination}
+use Rattle.linear_forms.specs.Combinations.{IsCombination}
 use Rattle.atom_normal.proofs.Stepped.{ok_map}
 use Rattle.test_points.specs.declared.verdict.Verdict.{Verdict}
 use Rattle.atom_normal.specs.Atoms.{context_of}

@@ -2,7 +2,7 @@ use Rattle.std.proofs.Common.{rules, ◌∷◌, sym, subst, FitsSigned}
 use Rattle.std.specs.Int.{w128}
 use Rattle.std.proofs.lemmas.Int.{to_z-of_z}
 use Rattle.std.proofs.Math.IntN.{ℤ}
-use Rattle.exact_numbers.specs.Divides.{DividesAll}
+use Rattle.exact_numbers.specs.Division.{DividesAll}
 use Rattle.exact_numbers.proofs.Divisibility.{divides_zero}
 use Rattle.formula_meaning.specs.Form.{Form}
 use Rattle.linear_forms.specs.Terms.{coefficients}

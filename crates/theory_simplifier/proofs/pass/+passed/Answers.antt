@@ -4,7 +4,7 @@ use Rattle.atom_normal.specs.Atoms.{context_of}
 use Rattle.atom_merging.specs.Computed.{IsNormalWithin}
 use Rattle.simplified_formulas.specs.AtomKit.{atom_kit}
 use Rattle.simplified_formulas.specs.Pass.{pass}
-use Rattle.simplified_formulas.specs.Trees.{IsSimplifiable}
+use Rattle.simplified_formulas.specs.Simplifiable.{IsSimplifiable}
 use Rattle.formula_tree.specs.Shapes.{tree_over}
 use Rattle.formula_tree.specs.Trees.{members}
 use Rattle.formula_store.specs.Nodes.{tree, IsId}

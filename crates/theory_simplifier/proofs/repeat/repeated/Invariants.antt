@@ -3,7 +3,7 @@ use Rattle.formula_meaning.specs.Sizes.{nodes}
 use Rattle.atom_normal.specs.Atoms.{context_of}
 use Rattle.simplified_formulas.specs.AtomKit.{atom_kit}
 use Rattle.simplified_formulas.specs.Pass.{simplified}
-use Rattle.simplified_formulas.specs.Trees.{IsSimplifiable}
+use Rattle.simplified_formulas.specs.Simplifiable.{IsSimplifiable}
 use Rattle.formula_tree.specs.Makers.{Keeps}
 use Rattle.formula_store.specs.Facts.{most_nodes}
 use Rattle.formula_store.specs.Nodes.{tree, IsId}

@@ -9,7 +9,8 @@ use Rattle.simplified_formulas.specs.AtomKit.{atom_kit}
 use Rattle.simplified_formulas.specs.Measure.{size, atom_measure}
 use Rattle.simplified_formulas.specs.Orderly.{IsOrderly}
 use Rattle.simplified_formulas.specs.Pass.{simplified}
-use Rattle.simplified_formulas.specs.Trees.{IsSimplifiable, AreAssumable, IsReduced, EquivalentUnder, simplified_under}
+use Rattle.simplified_formulas.specs.Trees.{IsReduced}
+use Rattle.simplified_formulas.specs.Simplifiable.{IsSimplifiable, AreAssumable, EquivalentUnder, simplified_under}
 use Rattle.simplified_formulas.proofs.TreeLaws.{keeps_truth, is_reduced, keeps_shape, brings_no_name, brings_no_node, brings_no_atom}
 use Rattle.simplified_texts.proofs.Longer.{no_longer}
 use Rattle.redlog_printer.specs.Text.{tree_text}

@@ -1,6 +1,6 @@
 use Rattle.std.proofs.Common.{subst}
 use Rattle.atom_normal.specs.Atoms.{context_of}
-use Rattle.qe_syntax.specs.Trees.{term_tree}
+use Rattle.qe_syntax.specs.CodeTrees.{term_tree}
 use Rattle.formula_tree.specs.Resolving.{place}
 use Rattle.written_atoms.specs.Atom.{IsCongruenceMade}
 use Rattle.written_atoms.proofs.AtomsRead.{congruence_read, none_told}

@@ -3,7 +3,8 @@ use Rattle.atom_normal.specs.Atoms.{context_of}
 use Rattle.std.specs.Prelude.{option_map}
 use Rattle.std.proofs.lemmas.Result.{IfOk-weaker}
 use Rattle.qe_syntax.specs.Proper.{IsProperTerm, AreProperTerms}
-use Rattle.qe_syntax.specs.Trees.{TermTree, term_tree, terms_of}
+use Rattle.qe_syntax.specs.Trees.{TermTree, terms_of}
+use Rattle.qe_syntax.specs.CodeTrees.{term_tree}
 use Rattle.qe_syntax.specs.declared.tree.Term.{Term}
 use Rattle.qe_syntax.proofs.EntryLists.{rest_at, none_left}
 use Rattle.qe_syntax.proofs.TermParts.{quotient_is, power_is, negative_is}

@@ -1,7 +1,8 @@
 use Rattle.std.proofs.Common.{drop, map}
 use Rattle.atom_normal.specs.Atoms.{context_of}
 use Rattle.qe_syntax.specs.Proper.{AreProperTerms}
-use Rattle.qe_syntax.specs.Trees.{term_tree, terms_of}
+use Rattle.qe_syntax.specs.Trees.{terms_of}
+use Rattle.qe_syntax.specs.CodeTrees.{term_tree}
 use Rattle.formula_tree.specs.Resolving.{place}
 use Rattle.written_atoms.proofs.TermSizes.{term_size, terms_size}
 use Rattle.written_atoms.proofs.Readings.{SumLeft, ProductLeft}

@@ -1,6 +1,6 @@
 use Rattle.std.proofs.Common.{List, map, sym, subst}
 use Rattle.farkas_cert.specs.declared.constraint.Constraint.{Constraint}
-use Rattle.farkas_theory.specs.Constraints.{MeetsAll}
+use Rattle.farkas_theory.specs.Meeting.{MeetsAll}
 use Rattle.farkas_theory.proofs.Refutes.{refutes}
 use Rattle.farkas_cert.specs.Constraints.{constraint_of}
 use Rattle.atom_pruning.proofs.combination.Combination.refutes.Goals as goal

@@ -1,6 +1,7 @@
 use Rattle.std.proofs.Common.{ℕ, List, [], ◌∷◌, ◌++◌, map, sym, subst}
 use Rattle.formula_meaning.specs.Point.{Point}
-use Rattle.farkas_theory.specs.Constraints.{Constraint, Meets, MeetsAll}
+use Rattle.farkas_theory.specs.Constraints.{Constraint}
+use Rattle.farkas_theory.specs.Meeting.{Meets, MeetsAll}
 use Rattle.farkas_cert.specs.Constraints.{constraint_of}
 use Rattle.atom_pruning.specs.declared.combination.Combination.{Combination}
 use Rattle.atom_pruning.proofs.question.Question.combination.Goals as goal

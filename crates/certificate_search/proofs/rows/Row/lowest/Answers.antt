@@ -2,7 +2,7 @@ use Rattle.std.proofs.Common.{◌∙◌, sym, subst, ℤ, arith}
 use Rattle.std.specs.Prelude.{◌≤ℤ◌, pos}
 use Rattle.std.specs.Int.{w128}
 use Rattle.std.proofs.lemmas.Int.{to_z-of_z, ints}
-use Rattle.exact_numbers.specs.Divides.{DividesAll}
+use Rattle.exact_numbers.specs.Division.{DividesAll}
 use Rattle.exact_numbers.proofs.Casts.{fits}
 use Rattle.fourier_motzkin.specs.Rows.{numbers_of}
 use Rattle.certificate_search.specs.Rows.{row_of}

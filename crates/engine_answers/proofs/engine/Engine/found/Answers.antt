@@ -5,7 +5,7 @@ use Rattle.linear_forms.specs.declared.form.VarId.{VarId}
 use Rattle.linear_forms.specs.Values.{point_of, number_of}
 use Rattle.formula_meaning.specs.Formula.{Or}
 use Rattle.formula_meaning.specs.Some.{Among, EachOf}
-use Rattle.elimination_reference.specs.Theorems.{guards_of}
+use Rattle.elimination_reference.specs.AnswerParts.{guards_of}
 use Rattle.formula_store.specs.Nodes.{tree}
 use Rattle.formula_store.specs.Truths.{Tells}
 use Rattle.formula_store.proofs.Makes.{keeps_then}

@@ -4,7 +4,8 @@ use Rattle.exact_numbers.proofs.Casts.{fits}
 use Rattle.formula_meaning.specs.Form.{Form, coefficient}
 use Rattle.linear_forms.specs.declared.error.LinError.TheVariants.{Overflow}
 use Rattle.linear_forms.specs.Linear.{terms_of}
-use Rattle.linear_forms.specs.Terms.{CombinePasses, IsCombination}
+use Rattle.linear_forms.specs.Terms.{CombinePasses}
+use Rattle.linear_forms.specs.Combinations.{IsCombination}
 use Rattle.linear_forms.proofs.MergeSteps.{combination}
 use Rattle.linear_forms.proofs.Places.{at_some}
 use Rattle.linear_forms.proofs.form.Linear.combine.Goals as goal

@@ -12,7 +12,8 @@ use Rattle.point_grid.specs.declared.axis.Axis.{Axis}
 use Rattle.point_grid.specs.declared.scale.Scale.{Scale}
 use Rattle.point_grid.specs.declared.error.GridError.TheVariants.{Overflow}
 use Rattle.point_grid.specs.Scales.{size}
-use Rattle.point_grid.specs.Grids.{common, scale_of, HasSteps, AxisPasses, AxisFits, GridFits}
+use Rattle.point_grid.specs.Grids.{common, scale_of, AxisPasses, AxisFits, GridFits}
+use Rattle.point_grid.specs.Steps.{HasSteps}
 use Rattle.point_grid.proofs.Multiples.{common_positive, common_steps, within_of}
 use Rattle.point_grid.proofs.Counting.{same_of}
 use Rattle.point_grid.proofs.grid.Grid.of.Goals as goal

@@ -1,5 +1,6 @@
 use Rattle.std.proofs.Common.{◌∷◌, [], ◌+◌, List, map, drop, sym, subst, arith}
-use Rattle.formula_meaning.specs.Atom.{Atom, AtomIn}
+use Rattle.formula_meaning.specs.Atom.{Atom}
+use Rattle.formula_meaning.specs.TheoryAtoms.{AtomIn}
 use Rattle.formula_meaning.specs.Some.{EachOf}
 use Rattle.atom_normal.specs.Atoms.{atom_of, context_of}
 use Rattle.elimination_theory.proofs.SomeListed.{each_left}

@@ -1,7 +1,8 @@
 use Rattle.std.proofs.Common.{◌≡◌, ℤ, refl, sym, ◌∙◌, ap, subst}
 use Rattle.std.specs.Prelude.{int_div}
 use Rattle.std.proofs.lemmas.Int.{to_z-of_z}
-use Rattle.exact_numbers.specs.Divides.{Divides, IsLcm, lcm_of}
+use Rattle.exact_numbers.specs.Divides.{Divides, lcm_of}
+use Rattle.exact_numbers.specs.Division.{IsLcm}
 use Rattle.exact_numbers.proofs.Casts.{fits}
 use Rattle.exact_numbers.proofs.Limits.{formed_by}
 use Rattle.written_atoms.specs.Sum.{AddsWithin, IsAdded}

@@ -1,0 +1,17 @@
+-- Scale, span and test points of a formula over the integers.
+use Rattle.std.specs.Prelude.{ℕ, List}
+use Rattle.formula_meaning.specs.Answer.{Place}
+use Rattle.formula_meaning.specs.Tree.{Tree}
+use Rattle.elimination_theory.specs.Atoms.{atoms_of}
+use Rattle.elimination_theory.specs.declared.side.Side.{Side}
+use Rattle.elimination_theory.specs.IntegersPoints.{scale_of, own_span, integer_points_of}
+
+-- the same of a name in a formula
+abbrev pub integer_scale : ℕ → Tree → ℕ
+integer_scale x f = scale_of x (atoms_of f)
+
+abbrev pub integer_span : ℕ → Tree → ℕ
+integer_span x f = own_span x (atoms_of f)
+
+abbrev pub integer_points : Side → ℕ → Tree → List Place
+integer_points side x f = integer_points_of side x (atoms_of f)

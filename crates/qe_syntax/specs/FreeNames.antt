@@ -1,0 +1,14 @@
+-- Free names of a written formula.
+use Rattle.std.specs.Prelude.{ℕ, List}
+use Rattle.formula_meaning.specs.Atom as meaning
+use Rattle.formula_meaning.specs.Every.{Free}
+use Rattle.qe_syntax.specs.Trees.{FormulaTree}
+use Rattle.qe_syntax.specs.Value.{NamedPoint, Mentions}
+
+-- no name stands for a formula
+abbrev pub NothingNamed : List ℕ → NamedPoint → Type 0
+NothingNamed x p = ⊥
+
+-- the name is free in the formula
+abbrev pub IsFree : FormulaTree → List ℕ → Type 0
+IsFree f x = Free Mentions f x
