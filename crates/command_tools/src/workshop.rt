@@ -2,10 +2,9 @@
 
 ghost use Rattle.std.specs.Prelude.{◌≡◌};
 
-use block_scheduler::Limits;
-use engine_answers::Engine;
 use qe_parallel::Gate;
 use session_state::SessionState;
+use shared_forms::{Engine, Limits};
 use std::thread::Threads;
 
 /// What the eliminations and grids of statements are worked with: the limits of the session, and a runtime whose threads a gate lets through.

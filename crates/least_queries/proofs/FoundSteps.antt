@@ -31,7 +31,7 @@ use Rattle.command_tools.specs.Refusals.{measured_refusal}
 use Rattle.session_state.specs.declared.state.SessionState.{SessionState}
 use Rattle.formula_store.specs.declared.id.FormulaId.{FormulaId}
 use Rattle.formula_store.specs.Nodes.{tree}
-use Rattle.point_queries.proofs.PointLemmas.{same_point}
+use Rattle.formula_meaning.proofs.SamePoint.{point_same}
 use Rattle.least_queries.specs.Found.{IsWeakProblem, IsConditionOf, FoundStop, at_value}
 use Rattle.least_queries.proofs.Conditions.{asked_true, condition_answers}
 
@@ -41,7 +41,7 @@ use Rattle.least_queries.proofs.Conditions.{asked_true, condition_answers}
 pub value_point : (z : ℕ) (v : Frac) (start new : Numbers) → start ≡ record { entries = []; denominator = v.denominator } → ((x : ℕ) → number_at new x ≡ (if nat_eq z x then v.numerator else number_at start x))
     → new.denominator ≡ start.denominator → point_of new ≡ at_value z v
 unfolding move
-value_point z v start new is put below = same_point new (at_value z v) (λ x. put x ∙ go x (nat_eq z x)) (ap unsigned_abs (below ∙ ap (λ (s : Numbers). s.denominator) is) ∙ one_times (unsigned_abs v.denominator))
+value_point z v start new is put below = point_same (number_at new) (at_value z v).at (unsigned_abs new.denominator) (at_value z v).below (λ x. put x ∙ go x (nat_eq z x)) (ap unsigned_abs (below ∙ ap (λ (s : Numbers). s.denominator) is) ∙ one_times (unsigned_abs v.denominator))
   where
     go : (x : ℕ) (b : Bool) → (if b then v.numerator else number_at start x) ≡ (if b then v.numerator else pos (unsigned_abs v.denominator) *ℤ pos 0)
     go x true = refl

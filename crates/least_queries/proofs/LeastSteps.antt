@@ -50,7 +50,7 @@ use Rattle.session_state.proofs.StateLemmas.{grows_then, grown_state, grown_sess
 use Rattle.session_state.proofs.NameLemmas.{place_below}
 use Rattle.formula_resolving.specs.Numbering.{Grows}
 use Rattle.command_tools.specs.Replies.{use_of, Refuses, IsQueryAnswer}
-use Rattle.point_queries.proofs.ShortSamples.{AreShort, variables_short, fraction_short, point_short, as_many}
+use Rattle.shared_forms.proofs.ShortSamples.{AreShort, variables_short, fraction_short, point_short, as_many}
 use Rattle.least_queries.specs.declared.found.Found.{Found}
 use Rattle.least_queries.specs.declared.found.Found.TheVariants as found
 use Rattle.least_queries.specs.Found.{IsWeakProblem, found_of, IsTargetFound, FoundStop}

@@ -11,5 +11,4 @@ pub mod AskedSteps
 pub mod TruthSteps
 pub mod GridSteps
 pub mod SampleLemmas
-pub mod ShortSamples
 pub mod SampleSteps

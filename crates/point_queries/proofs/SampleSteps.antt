@@ -51,7 +51,7 @@ use Rattle.point_queries.proofs.AskedSteps.{theory, asked_normal, named_session,
 use Rattle.shared_forms.proofs.CaseLemmas.{err_map}
 use Rattle.problem_reading.proofs.ReadLemmas.{readable_formula}
 use Rattle.point_queries.proofs.SampleLemmas.{sample_stops, sample_is, sample_within}
-use Rattle.point_queries.proofs.ShortSamples.{sample_short}
+use Rattle.shared_forms.proofs.ShortSamples.{sample_short}
 
 -- ---- the sample that an engine gives
 

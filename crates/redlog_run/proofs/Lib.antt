@@ -9,3 +9,4 @@ pub mod Reaching
 pub mod Standing
 pub mod Accepted
 pub mod AcceptedExample
+pub mod NamesAfter

@@ -6,3 +6,4 @@ pub mod Accepted
 mod RoomLemmas
 mod Retries
 mod StandingLemmas
+pub mod NamesAfter

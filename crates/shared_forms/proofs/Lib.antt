@@ -2,6 +2,7 @@ pub mod NewNames
 pub mod EliminatedLemmas
 pub mod PrenexLemmas
 pub mod CaseLemmas
+pub mod ShortSamples
 pub mod CasesFor
 pub mod ConditionsFor
 pub mod DirectConditions

@@ -10,7 +10,9 @@ mod guards;
 mod references;
 mod way;
 
+pub use block_scheduler::Limits;
 pub use cases::wanted_cases;
+pub use engine_answers::Engine;
 pub use error::FormsError;
 pub use forms::{ClauseForm, Form, Premised, formed};
 pub use way::Way;
