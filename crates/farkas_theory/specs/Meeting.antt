@@ -3,7 +3,7 @@ use Rattle.std.specs.Prelude.{◌≡◌, ℕ, ℤ, pos, ◌<ℤ◌, ◌≤ℤ◌
 use Rattle.formula_meaning.specs.Form.{value}
 use Rattle.formula_meaning.specs.Point.{Point}
 use Rattle.formula_meaning.specs.Some.{EachOf}
-use Rattle.farkas_theory.specs.Constraints.{Bound, Constraint}
+use Rattle.farkas_theory.specs.Constraints.{Bound, Equal, AtMost, Below, Constraint}
 
 -- the number is as the bound says
 abbrev pub Stands : Bound → ℤ → Type 0

@@ -23,7 +23,8 @@ use Rattle.formula_tree.specs.FractionRule.{◌>>=◌}
 use Rattle.formula_tree.specs.RationalForms.{RationalForm, Missing, Overflow, Nonlinear, Division, numbers_of, formed_number, formed_form, lowest_form, is_constant, constant_form, constant_of, sum_of_forms, multiple_of_form, product_of_forms, quotient_of_forms, small_power, as_constant, power_of_form, opposite_form, variable_form, literal_form, forms, formed, formed_difference}
 use Rattle.formula_tree.specs.ResolvedLaws.{Numbered}
 use Rattle.formula_tree.proofs.RuleLaw.{bind_ok, ok_same, KeepMeaning, rule_stands}
-use Rattle.formula_tree.proofs.FormSteps.{Stands, number_ok, form_ok, content_not_zero, inverted_proper, zero_int_eq}
+use Rattle.qe_syntax.proofs.ValueLaw.{inverted_proper}
+use Rattle.formula_tree.proofs.FormSteps.{Stands, number_ok, form_ok, content_not_zero, zero_int_eq}
 use Rattle.formula_tree.proofs.FormValues.{forms_keep}
 use Rattle.exact_numbers.proofs.LeastMultiple.{lcm_is}
 use Rattle.std.specs.Ordering.{int_eq}

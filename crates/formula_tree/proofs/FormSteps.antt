@@ -1,22 +1,22 @@
 -- The steps of the fraction rule at forms keep values.
-use Rattle.std.proofs.Common.{◌≡◌, ⊎_elim, ℕ, zero, suc, List, [], ◌∷◌, Bool, true, false, Option, Some, None, ap, sym, ◌∙◌, subst, refl, arith, if◌then◌else◌}
+use Rattle.std.proofs.Common.{◌≡◌, ℕ, zero, suc, List, [], ◌∷◌, Bool, true, false, Option, Some, None, ap, sym, ◌∙◌, subst, refl, arith, if◌then◌else◌}
 use Rattle.std.proofs.Math.IntN.{ℤ, pos, negsuc, neg_ℤ, ◌+ℤ◌, ◌*ℤ◌}
-use Rattle.std.specs.Prelude.{◌<ℤ◌, ◌≤ℤ◌, unsigned_abs, int_div, Result, Ok, Err}
+use Rattle.std.specs.Prelude.{◌<ℤ◌, unsigned_abs, int_div, Result, Ok, Err}
 use Rattle.std.specs.List.{list_all}
 use Rattle.std.specs.Ordering.{int_eq, is_eq}
 use Rattle.std.proofs.lemmas.Int.{ints}
 use Rattle.exact_numbers.specs.Divides.{Divides, lcm_of, content_of}
 use Rattle.exact_numbers.specs.Frac.{Frac, IsProper, SameValue, whole_frac, true_sum, true_product, true_power, negated, inverted, power_steps}
-use Rattle.exact_numbers.proofs.Ring.{ring, one_mul, zero_mul}
-use Rattle.exact_numbers.proofs.Order.{mul_positive, mul_negative, mul_not_negative, factor_positive, by_less, by_order, by_compare, compare_same, zero_product}
+use Rattle.exact_numbers.proofs.Ring.{ring, one_mul}
+use Rattle.exact_numbers.proofs.Order.{mul_positive, factor_positive, by_order, by_compare}
 use Rattle.exact_numbers.proofs.LeastMultiple.{exact_div, lcm_is}
 use Rattle.exact_numbers.proofs.Contents.{content_is}
 use Rattle.exact_numbers.proofs.Divisibility.{zero_divides}
-use Rattle.exact_numbers.proofs.FractionRule.{same_value_trans, inverted_negative, inverted_other}
+use Rattle.exact_numbers.proofs.FractionRule.{same_value_trans}
 use Rattle.exact_numbers.proofs.Powers.{power_outcome}
 use Rattle.formula_meaning.specs.Context.{Context, Fields, Integers}
 use Rattle.formula_meaning.specs.Point.{Point}
-use Rattle.formula_meaning.specs.Form.{Form, Term, total, coefficients, scale, combine}
+use Rattle.formula_meaning.specs.Form.{Form, Term, total, scale, combine}
 use Rattle.formula_meaning.specs.Form as form
 use Rattle.formula_meaning.specs.Sorted.{IsSorted, gathered}
 use Rattle.formula_meaning.proofs.Values.{value_scale, value_combine}
@@ -28,6 +28,7 @@ use Rattle.qe_syntax.specs.declared.tree.Literal.{Literal}
 use Rattle.qe_syntax.specs.declared.tree.Literal.TheVariants.{Fits, Past}
 use Rattle.qe_syntax.specs.Value.{literal_number, true_quotient}
 use Rattle.formula_meaning.specs.Limits.{is_within}
+use Rattle.qe_syntax.proofs.ValueLaw.{int_eq_zero, inverted_proper, same_zero, inverted_same}
 use Rattle.formula_tree.specs.RationalForms.{RationalForm, Missing, Overflow, Nonlinear, Division, numbers_of, formed_number, formed_form, lowest_form, is_empty, is_constant, constant_form, constant_of, sum_of_forms, multiple_of_form, product_of_forms, quotient_of_forms, small_power, as_constant, power_of_form, opposite_form}
 use Rattle.formula_tree.specs.ResolvedLaws.{value_at}
 use Rattle.formula_tree.proofs.RuleLaw.{bind_ok, ok_same}
@@ -230,51 +231,11 @@ times_stands q h a b r v w s t e = go (is_constant b) (is_constant a) refl refl 
 
 -- ---- quotients
 
-int_eq_zero : (a : ℤ) → a ≡ pos 0 → int_eq a (pos 0) ≡ true
-int_eq_zero a e = ap is_eq (compare_same e)
-
 pub zero_int_eq : (a : ℤ) → int_eq a (pos 0) ≡ false → ¬ (a ≡ pos 0)
 zero_int_eq a e z = let t = int_eq_zero a z in let f : true ≡ false = sym t ∙ e in absurd (cc)
 
 quotient_of_other : (v w : Frac) → int_eq w.numerator (pos 0) ≡ false → true_quotient v w ≡ true_product v (inverted w)
 quotient_of_other v w e = ap (λ b. if b then whole_frac (pos 0) else true_product v (inverted w)) e
-
-pub inverted_proper : (w : Frac) → IsProper w → ¬ (w.numerator ≡ pos 0) → IsProper (inverted w)
-inverted_proper w h nonzero =
-    by_order w.numerator (pos 0)
-    (λ l. subst IsProper (sym (inverted_negative w l)) (omega (arith, ints)))
-    (λ e. absurd (nonzero e))
-    (λ l. subst IsProper (sym (inverted_other w (omega (arith, ints)))) l)
-
--- equal fractions have equal signs
-same_negative : (a b x y : ℤ) → pos 0 <ℤ b → pos 0 <ℤ y → a *ℤ y ≡ x *ℤ b → a <ℤ pos 0 → x <ℤ pos 0
-same_negative a b x y hb hy e h =
-    let left : (a *ℤ y) <ℤ pos 0 = mul_negative h hy in
-    by_less x (pos 0) (λ l. l)
-    (λ l. let right : pos 0 ≤ℤ (x *ℤ b) = mul_not_negative l (omega (arith, ints)) in absurd (omega (arith, ints)))
-
-same_zero : (a b x y : ℤ) → pos 0 <ℤ b → a *ℤ y ≡ x *ℤ b → a ≡ pos 0 → x ≡ pos 0
-same_zero a b x y hb e z =
-    let f : x *ℤ b ≡ pos 0 = sym e ∙ ap (λ t. t *ℤ y) z ∙ zero_mul y in
-    ⊎_elim (λ g. g) (λ (g : b ≡ pos 0). absurd (omega (arith, ints))) (zero_product x b f)
-
-inverted_crossed : (a b x y : ℤ) → a *ℤ y ≡ x *ℤ b → b *ℤ x ≡ y *ℤ a
-inverted_crossed a b x y e = simp ring (sym (simp ring at e))
-
-inverted_crossed_negative : (a b x y : ℤ) → a *ℤ y ≡ x *ℤ b → neg_ℤ b *ℤ neg_ℤ x ≡ neg_ℤ y *ℤ neg_ℤ a
-inverted_crossed_negative a b x y e = simp ring (omega (arith, ints, simp ring at e))
-
-inverted_same : (q w : Frac) → IsProper q → IsProper w → SameValue q w → ¬ (q.numerator ≡ pos 0) → SameValue (inverted q) (inverted w)
-inverted_same q w hq hw e nonzero =
-    let a = q.numerator in let b = q.denominator in let x = w.numerator in let y = w.denominator in
-    by_order a (pos 0)
-    (λ l. subst (λ (p : Frac). SameValue p (inverted w)) (sym (inverted_negative q l))
-    (subst (λ (p : Frac). SameValue (record { numerator = neg_ℤ b; denominator = neg_ℤ a }) p) (sym (inverted_negative w (same_negative a b x y hq hw e l))) (inverted_crossed_negative a b x y e)))
-    (λ z. absurd (nonzero z))
-    (λ l.
-    let more : pos 0 ≤ℤ x = by_less x (pos 0) (λ (k : x <ℤ pos 0). let back : a <ℤ pos 0 = same_negative x y a b hw hq (sym e) k in absurd (omega (arith, ints))) (λ k. k) in
-    subst (λ (p : Frac). SameValue p (inverted w)) (sym (inverted_other q (omega (arith, ints))))
-    (subst (λ (p : Frac). SameValue (record { numerator = b; denominator = a }) p) (sym (inverted_other w more)) (inverted_crossed a b x y e)))
 
 int_eq_other : (a : ℤ) → ¬ (a ≡ pos 0) → int_eq a (pos 0) ≡ false
 int_eq_other a h =

@@ -24,7 +24,8 @@ use Rattle.formula_tree.specs.RationalForms.{RationalForm, Missing, Overflow, No
 use Rattle.formula_tree.specs.LowestForms.{IsLowestForm}
 use Rattle.formula_tree.specs.ResolvedLaws.{Numbered, FormIsLowest}
 use Rattle.formula_tree.proofs.RuleLaw.{bind_ok, ok_same, KeepMeaning, rule_stands}
-use Rattle.formula_tree.proofs.FormSteps.{Stands, number_ok, content_not_zero, inverted_proper, zero_int_eq}
+use Rattle.qe_syntax.proofs.ValueLaw.{inverted_proper}
+use Rattle.formula_tree.proofs.FormSteps.{Stands, number_ok, content_not_zero, zero_int_eq}
 use Rattle.formula_tree.proofs.FormValues.{forms_keep}
 use Rattle.formula_tree.proofs.FormNames.{origin, numbered_origin}
 

@@ -1,17 +1,17 @@
 -- The fraction rule: its steps at fractions, and that steps which keep a meaning give a whole term its meaning.
 use Rattle.std.proofs.Common.{◌≡◌, ◌<◌, inl, inr, ℕ, List, ap, ◌∙◌, subst, refl, arith}
 use Rattle.std.proofs.Math.IntN.{ℤ, pos, ◌+ℤ◌, ◌*ℤ◌}
-use Rattle.std.specs.Prelude.{◌<ℤ◌, unsigned_abs, Result, Ok, Err}
+use Rattle.std.specs.Prelude.{unsigned_abs, Result, Ok, Err}
 use Rattle.std.proofs.lemmas.Int.{ints}
 use Rattle.exact_numbers.specs.Frac.{Frac, IsProper, SameValue, whole_frac, true_sum, true_product, true_power, negated, sum_step, product_step}
-use Rattle.exact_numbers.proofs.Ring.{ring, mul_one, one_mul, zero_mul}
+use Rattle.exact_numbers.proofs.Ring.{ring}
 use Rattle.exact_numbers.proofs.Order.{mul_positive}
 use Rattle.qe_syntax.specs.declared.tree.Literal.{Literal}
 use Rattle.qe_syntax.specs.declared.value.EvalError.{EvalError}
 use Rattle.qe_syntax.specs.Trees.{TermTree, TermTrees, Number, Named, Sum, Product, Quotient, Power, Negative, none, also}
 use Rattle.qe_syntax.specs.Value.{NamedPoint, HasName, HaveName, literal_number, true_quotient, value, value_of_sum, value_of_product}
 use Rattle.qe_syntax.specs.Rule.{calculated, added as summed, multiplied as product_of, stepped, quotient_step, power_step, ◌>>=◌ as and_then}
-use Rattle.qe_syntax.proofs.ValueLaw.{value_proper}
+use Rattle.qe_syntax.proofs.ValueLaw.{value_proper, with_zero, with_one, zero_before, one_before, one_positive}
 use Rattle.formula_tree.specs.FractionRule.{Steps, by_rule, added, multiplied, ◌>>=◌}
 use Rattle.formula_tree.specs.Fractions.{fractions}
 
@@ -64,27 +64,6 @@ sum_regrouped a b c d x y = simp ring (omega (arith, ints))
 
 product_regrouped : (a b c d x y : ℤ) → ((a *ℤ c) *ℤ x) *ℤ (b *ℤ (d *ℤ y)) ≡ (a *ℤ (c *ℤ x)) *ℤ ((b *ℤ d) *ℤ y)
 product_regrouped a b c d x y = simp ring
-
-add_zero : (a : ℤ) → a +ℤ pos 0 ≡ a
-add_zero a = omega (arith, ints)
-
-zero_add : (a : ℤ) → pos 0 +ℤ a ≡ a
-zero_add a = omega (arith, ints)
-
-with_zero : (a b : ℤ) → a *ℤ (b *ℤ pos 1) ≡ (a *ℤ pos 1 +ℤ pos 0 *ℤ b) *ℤ b
-with_zero a b = simp (mul_one, zero_mul, add_zero)
-
-with_one : (a b : ℤ) → a *ℤ (b *ℤ pos 1) ≡ (a *ℤ pos 1) *ℤ b
-with_one a b = simp mul_one
-
-zero_before : (a b : ℤ) → (pos 0 *ℤ b +ℤ a *ℤ pos 1) *ℤ b ≡ a *ℤ (pos 1 *ℤ b)
-zero_before a b = simp (mul_one, one_mul, zero_mul, zero_add)
-
-one_before : (a b : ℤ) → (pos 1 *ℤ a) *ℤ b ≡ a *ℤ (pos 1 *ℤ b)
-one_before a b = simp one_mul
-
-one_positive : pos 0 <ℤ pos 1
-one_positive = omega (arith, ints)
 
 -- ---- steps that keep a meaning
 

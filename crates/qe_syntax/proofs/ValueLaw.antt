@@ -104,22 +104,22 @@ add_zero a = omega (arith, ints)
 zero_add : (a : ℤ) → pos 0 +ℤ a ≡ a
 zero_add a = omega (arith, ints)
 
-with_zero : (a b : ℤ) → a *ℤ (b *ℤ pos 1) ≡ (a *ℤ pos 1 +ℤ pos 0 *ℤ b) *ℤ b
+pub with_zero : (a b : ℤ) → a *ℤ (b *ℤ pos 1) ≡ (a *ℤ pos 1 +ℤ pos 0 *ℤ b) *ℤ b
 with_zero a b = simp (mul_one, zero_mul, add_zero)
 
-with_one : (a b : ℤ) → a *ℤ (b *ℤ pos 1) ≡ (a *ℤ pos 1) *ℤ b
+pub with_one : (a b : ℤ) → a *ℤ (b *ℤ pos 1) ≡ (a *ℤ pos 1) *ℤ b
 with_one a b = simp mul_one
 
-zero_before : (a b : ℤ) → (pos 0 *ℤ b +ℤ a *ℤ pos 1) *ℤ b ≡ a *ℤ (pos 1 *ℤ b)
+pub zero_before : (a b : ℤ) → (pos 0 *ℤ b +ℤ a *ℤ pos 1) *ℤ b ≡ a *ℤ (pos 1 *ℤ b)
 zero_before a b = simp (mul_one, one_mul, zero_mul, zero_add)
 
-one_before : (a b : ℤ) → (pos 1 *ℤ a) *ℤ b ≡ a *ℤ (pos 1 *ℤ b)
+pub one_before : (a b : ℤ) → (pos 1 *ℤ a) *ℤ b ≡ a *ℤ (pos 1 *ℤ b)
 one_before a b = simp one_mul
 
-one_positive : pos 0 <ℤ pos 1
+pub one_positive : pos 0 <ℤ pos 1
 one_positive = omega (arith, ints)
 
-int_eq_zero : (a : ℤ) → a ≡ pos 0 → int_eq a (pos 0) ≡ true
+pub int_eq_zero : (a : ℤ) → a ≡ pos 0 → int_eq a (pos 0) ≡ true
 int_eq_zero a e = ap is_eq (compare_same e)
 
 int_eq_other : (a : ℤ) → ¬ (a ≡ pos 0) → int_eq a (pos 0) ≡ false
@@ -135,7 +135,7 @@ quotient_of_zero v w e = ap (λ b. if b then whole_frac (pos 0) else true_produc
 quotient_of_other : (v w : Frac) → ¬ (w.numerator ≡ pos 0) → true_quotient v w ≡ true_product v (inverted w)
 quotient_of_other v w h = ap (λ b. if b then whole_frac (pos 0) else true_product v (inverted w)) (int_eq_other w.numerator h)
 
-inverted_proper : (w : Frac) → IsProper w → ¬ (w.numerator ≡ pos 0) → IsProper (inverted w)
+pub inverted_proper : (w : Frac) → IsProper w → ¬ (w.numerator ≡ pos 0) → IsProper (inverted w)
 inverted_proper w h nonzero =
     by_order w.numerator (pos 0)
     (λ l. subst IsProper (sym (inverted_negative w l)) (omega (arith, ints)))
@@ -209,7 +209,7 @@ same_negative a b x y hb hy e h =
     by_less x (pos 0) (λ l. l)
     (λ l. let right : pos 0 ≤ℤ (x *ℤ b) = mul_not_negative l (omega (arith, ints)) in absurd (omega (arith, ints)))
 
-same_zero : (a b x y : ℤ) → pos 0 <ℤ b → a *ℤ y ≡ x *ℤ b → a ≡ pos 0 → x ≡ pos 0
+pub same_zero : (a b x y : ℤ) → pos 0 <ℤ b → a *ℤ y ≡ x *ℤ b → a ≡ pos 0 → x ≡ pos 0
 same_zero a b x y hb e z =
     let f : x *ℤ b ≡ pos 0 = sym e ∙ ap (λ t. t *ℤ y) z ∙ zero_mul y in
     ⊎_elim (λ g. g) (λ (g : b ≡ pos 0). absurd (omega (arith, ints))) (zero_product x b f)
@@ -220,7 +220,7 @@ inverted_crossed a b x y e = simp ring (sym (simp ring at e))
 inverted_crossed_negative : (a b x y : ℤ) → a *ℤ y ≡ x *ℤ b → neg_ℤ b *ℤ neg_ℤ x ≡ neg_ℤ y *ℤ neg_ℤ a
 inverted_crossed_negative a b x y e = simp ring (omega (arith, ints, simp ring at e))
 
-inverted_same : (q w : Frac) → IsProper q → IsProper w → SameValue q w → ¬ (q.numerator ≡ pos 0) → SameValue (inverted q) (inverted w)
+pub inverted_same : (q w : Frac) → IsProper q → IsProper w → SameValue q w → ¬ (q.numerator ≡ pos 0) → SameValue (inverted q) (inverted w)
 inverted_same q w hq hw e nonzero =
     let a = q.numerator in let b = q.denominator in let x = w.numerator in let y = w.denominator in
     by_order a (pos 0)
