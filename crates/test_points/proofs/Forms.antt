@@ -1,145 +1,124 @@
 -- Forms without a name, and with a name put at a form over a number.
-use Rattle.std.proofs.Common.{◌≡◌, ℕ, Bool, true, false, nat_eq, sym, ap, ◌∙◌, subst, refl, arith, eqb-true, eq-eqb, List, [], ◌∷◌, ◌⊎◌, inl, inr, if◌then◌else◌}
-use Rattle.std.proofs.Math.IntN.{ℤ, pos, negsuc, ◌+ℤ◌, ◌*ℤ◌, neg_ℤ}
+use Rattle.std.proofs.Common.{◌≡◌, ℕ, zero, suc, ◌+◌, ◌≤◌, Bool, true, false, nat_eq, sym, ap, ◌∙◌, subst, refl, arith, eqb-true, eq-eqb, List, [], ◌∷◌, ◌++◌, ◌<◌, length, take, get_or, Option, Some, None, if◌then◌else◌}
+use Rattle.std.proofs.Math.IntN.{ℤ, pos, negsuc, ◌*ℤ◌, neg_ℤ}
+use Rattle.std.specs.Prelude.{slice_get, option_map}
+use Rattle.std.proofs.lemmas.Option.{slice_get-get_or}
 use Rattle.std.proofs.lemmas.Int.{ints}
+use Rattle.std.proofs.lemmas.List.{take_all}
 use Rattle.exact_numbers.specs.Limit.{InLimit}
-use Rattle.exact_numbers.proofs.Ring.{mul_zero}
-use Rattle.formula_meaning.specs.Form.{Form, Term, scaled, coefficient, without, scale}
-use Rattle.formula_meaning.specs.Combining.{AddWithin, CombinesWithin, CombinePasses}
+use Rattle.formula_meaning.specs.Form.{Form, Term, scaled, others, coefficient, without, scale}
 use Rattle.formula_meaning.specs.Sorted.{gathered}
 use Rattle.formula_meaning.proofs.Gathered.{gathered_combination, sorted_stays}
 use Rattle.elimination_theory.specs.Substitution.{form_at}
-use Rattle.formula_meaning.proofs.Coefficients.{coefficient_without_same, coefficient_without_other, coefficient_scale}
 use Rattle.formula_meaning.proofs.Sorted.{scale_sorted}
+use Rattle.linear_forms.specs.declared.form.VarId.{VarId}
+use Rattle.linear_forms.specs.Linear.{term_of, terms_of}
 use Rattle.linear_forms.specs.Terms.{AllInLimit}
 use Rattle.linear_forms.specs.Combinations.{IsLinear, IsCombination}
+use Rattle.linear_forms.proofs.Peeling.{terms_of-push}
 use Rattle.linear_forms.proofs.Search.{multiple_within}
-use Rattle.linear_forms.proofs.Determined.{same_form, without_linear}
-use Rattle.elimination_theory.proofs.WithinTests.{sum_refused}
+use Rattle.linear_forms.proofs.Determined.{without_linear}
 
 pub coefficient_within : (x : ℕ) (f : Form) → IsLinear f → InLimit (coefficient x f)
 unfolding coefficient
 coefficient_within x f h = multiple_within x f.terms h.sorted.rising h.within
 
--- the name x as a form
-abbrev name_form : ℕ → Form
-name_form x = record { terms = record { times = pos 1; name = x } ∷ []; constant = pos 0 }
-
-name_here : (x y : ℕ) → nat_eq x y ≡ true → coefficient y (name_form x) ≡ pos 1
-unfolding coefficient
-name_here x y e = let k : nat_eq y x ≡ true = eq-eqb y x (sym (eqb-true x y e)) in rw k refl
-
-name_elsewhere : (x y : ℕ) → nat_eq x y ≡ false → coefficient y (name_form x) ≡ pos 0
-unfolding coefficient
-name_elsewhere x y e = go (nat_eq y x) refl
-  where
-    go : (b : Bool) → nat_eq y x ≡ b → (if b then pos 1 +ℤ pos 0 else pos 0) ≡ pos 0
-    go false h = refl
-    go true h = let k : nat_eq x y ≡ true = eq-eqb x y (sym (eqb-true y x h)) in let z : true ≡ false = sym k ∙ e in absurd (cc)
-
 -- ---- without a name
 
--- one, or minus one
-abbrev pub IsSign : ℤ → Type 0
-IsSign s = (s ≡ pos 1) ⊎ (s ≡ negsuc 0)
+-- the terms, or their negatives
+abbrev pub signed_terms : Bool → List Term → List Term
+signed_terms negative ts = if negative then scaled (negsuc 0) ts else ts
 
-signed_within : (s c : ℤ) → IsSign s → InLimit c → InLimit (s *ℤ c)
-signed_within s c (inl e) h = subst (λ (z : ℤ). InLimit (z *ℤ c)) (sym e) (omega (arith, ints))
-signed_within s c (inr e) h = subst (λ (z : ℤ). InLimit (z *ℤ c)) (sym e) (omega (arith, ints))
+scaled_last : (a : ℤ) (ts : List Term) (t : Term) → scaled a (ts ++ t ∷ []) ≡ scaled a ts ++ record { times = a *ℤ t.times; name = t.name } ∷ []
+scaled_last a [] t = refl
+scaled_last a (s ∷ ts) t = ap (λ (us : List Term). record { times = a *ℤ s.times; name = s.name } ∷ us) (scaled_last a ts t)
 
-rest_place : (s c d k m : ℤ) → IsSign s → InLimit c → InLimit d → k ≡ neg_ℤ (s *ℤ d) → (m ≡ pos 0) ⊎ ((m ≡ pos 1) × (c ≡ d)) → AddWithin (s *ℤ c) (k *ℤ m)
-rest_place s c d k m g h i j (inl z) =
-    let p : k *ℤ m ≡ pos 0 = ap (λ t. k *ℤ t) z ∙ mul_zero k in
-    let a = signed_within s c g h in
-    record { first = a; second = omega (arith, ints); sum = omega (arith, ints) }
-rest_place s c d k m g h i j (inr z) =
-    let o = z.0 in
-    let p : k *ℤ m ≡ k = ap (λ t. k *ℤ t) o ∙ omega (arith, ints) in
-    let q : s *ℤ c ≡ s *ℤ d = ap (λ t. s *ℤ t) z.1 in
-    let a = signed_within s c g h in
-    let b = signed_within s d g i in
-    record { first = a; second = omega (arith, ints); sum = omega (arith, ints) }
+-- the first terms, of which the last has the name or another one
+others_skip : (x : ℕ) (ts : List Term) (i : ℕ) (t : Term) → slice_get ts i ≡ Some t → t.name ≡ x → others x (take (suc i) ts) ≡ others x (take i ts)
+others_skip x [] i t e n = absurd (cc)
+others_skip x (s ∷ ts) zero t e n =
+    let k : s ≡ t = cc in
+    let h : nat_eq x s.name ≡ true = eq-eqb x s.name (sym n ∙ ap (λ (u : Term). u.name) (sym k)) in rw h refl
+others_skip x (s ∷ ts) (suc i) t e n = ap (λ (us : List Term). if nat_eq x s.name then us else s ∷ us) (others_skip x ts i t e n)
 
-module _ (x : ℕ) (f : Form) (s k : ℤ) (h : IsLinear f) (g : IsSign s) (j : k ≡ neg_ℤ (s *ℤ coefficient x f)) where
-  -- s * f + k * x forms no number past the limit
-  rest_within : CombinesWithin s f k (name_form x)
-  rest_within = record { places = λ y. go y (nat_eq x y) refl; constants = rest_place s f.constant (coefficient x f) k (pos 0) g h.constant_within (coefficient_within x f h) j (inl refl) }
+others_keep : (x : ℕ) (ts : List Term) (i : ℕ) (t : Term) → slice_get ts i ≡ Some t → ¬ (t.name ≡ x) → others x (take (suc i) ts) ≡ others x (take i ts) ++ t ∷ []
+others_keep x [] i t e n = absurd (cc)
+others_keep x (s ∷ ts) zero t e n = let k : s ≡ t = cc in go (nat_eq x s.name) refl k
+  where
+    go : (b : Bool) → nat_eq x s.name ≡ b → s ≡ t → (if b then [] else s ∷ []) ≡ t ∷ []
+    go true h k = absurd (n (ap (λ (u : Term). u.name) (sym k) ∙ sym (eqb-true x s.name h)))
+    go false h k = ap (λ (u : Term). u ∷ []) k
+others_keep x (s ∷ ts) (suc i) t e n = go (nat_eq x s.name) (others_keep x ts i t e n)
+  where
+    go : (b : Bool) → others x (take (suc i) ts) ≡ others x (take i ts) ++ t ∷ [] →
+        (if b then others x (take (suc i) ts) else s ∷ others x (take (suc i) ts)) ≡ (if b then others x (take i ts) else s ∷ others x (take i ts)) ++ t ∷ []
+    go true h = h
+    go false h = ap (λ (us : List Term). s ∷ us) h
+
+module _ (negative : Bool) (x : ℕ) (ts : List Term) (i : ℕ) (t : Term) (at : slice_get ts i ≡ Some t) (kept : List (VarId × ℤ)) (so_far : terms_of kept ≡ signed_terms negative (others x (take i ts))) where
+  one_on : suc i ≡ i + 1
+  one_on = omega arith
+
+  -- the term of the name goes
+  pub terms_skip : t.name ≡ x → terms_of kept ≡ signed_terms negative (others x (take (i + 1) ts))
+  terms_skip n = so_far ∙ ap (signed_terms negative) (sym (others_skip x ts i t at n) ∙ ap (λ (k : ℕ). others x (take k ts)) one_on)
+
+  -- another one stays
+  pub terms_keep : (p : VarId × ℤ) → ¬ (t.name ≡ x) → p.0.number ≡ t.name → p.1 ≡ (if negative then neg_ℤ t.times else t.times) → terms_of (kept ++ p ∷ []) ≡ signed_terms negative (others x (take (i + 1) ts))
+  terms_keep p n name times =
+      terms_of-push kept p ∙ ap (λ (us : List Term). us ++ term_of p ∷ []) so_far ∙ go negative times ∙ ap (signed_terms negative) (sym (others_keep x ts i t at n) ∙ ap (λ (k : ℕ). others x (take k ts)) one_on)
     where
-      go : (y : ℕ) (b : Bool) → nat_eq x y ≡ b → AddWithin (s *ℤ coefficient y f) (k *ℤ coefficient y (name_form x))
-      go y true e =
-          rest_place s (coefficient y f) (coefficient x f) k (coefficient y (name_form x)) g (coefficient_within y f h) (coefficient_within x f h) j
-          (inr (name_here x y e, sym (ap (λ z. coefficient z f) (eqb-true x y e))))
-      go y false e =
-          rest_place s (coefficient y f) (coefficient x f) k (coefficient y (name_form x)) g (coefficient_within y f h) (coefficient_within x f h) j (inl (name_elsewhere x y e))
+      go : (b : Bool) → p.1 ≡ (if b then neg_ℤ t.times else t.times) → signed_terms b (others x (take i ts)) ++ term_of p ∷ [] ≡ signed_terms b (others x (take i ts) ++ t ∷ [])
+      go true e =
+          let k : p.1 ≡ negsuc 0 *ℤ t.times = omega (arith, ints, e) in
+          ap (λ (u : Term). scaled (negsuc 0) (others x (take i ts)) ++ u ∷ []) (λ j. record { times = k j; name = name j })
+          ∙ sym (scaled_last (negsuc 0) (others x (take i ts)) t)
+      go false e = ap (λ (u : Term). others x (take i ts) ++ u ∷ []) (λ j. record { times = e j; name = name j })
 
-  pub rest_formed : (v : Form) → v ≡ name_form x → ¬ (CombinePasses s f k v)
-  rest_formed v e = subst (λ (v : Form). ¬ (CombinePasses s f k v)) (sym e) (λ p. go p)
-    where
-      go : ¬ (CombinePasses s f k (name_form x))
-      go p = let w = rest_within in elim p.cause [
-        | inl t ↦ sum_refused (s *ℤ coefficient t.0 f) (k *ℤ coefficient t.0 (name_form x)) t.1 (w.places t.0)
-        | inr t ↦ sum_refused (s *ℤ f.constant) (k *ℤ pos 0) t w.constants
-      ]
+-- a term's number is within the limit
+pub times_within : (ts : List Term) (i : ℕ) (t : Term) → AllInLimit ts → slice_get ts i ≡ Some t → InLimit t.times
+times_within [] i t h e = absurd (cc)
+times_within (s ∷ ts) zero t h e = let k : s ≡ t = cc in subst (λ (u : Term). InLimit u.times) k h.0
+times_within (s ∷ ts) (suc i) t h e = times_within ts i t h.1 e
 
-  -- the sum is the form without the name, s times as large
-  rest_coefficients : (v r : Form) → v ≡ name_form x → IsCombination s f k v r → (y : ℕ) → coefficient y r ≡ s *ℤ coefficient y (without x f)
-  rest_coefficients v r e c y = go (nat_eq x y) refl
-    where
-      go : (b : Bool) → nat_eq x y ≡ b → coefficient y r ≡ s *ℤ coefficient y (without x f)
-      go true t =
-          let i = eqb-true x y t in
-          let m : coefficient y v ≡ pos 1 = ap (coefficient y) e ∙ name_here x y t in
-          let n : k *ℤ coefficient y v ≡ k = ap (λ z. k *ℤ z) m ∙ omega (arith, ints) in
-          let u : s *ℤ coefficient x f ≡ s *ℤ coefficient y f = ap (λ z. s *ℤ coefficient z f) i in
-          let w : coefficient y (without x f) ≡ pos 0 = subst (λ (z : ℕ). coefficient z (without x f) ≡ pos 0) i (coefficient_without_same x f) in
-          let o : s *ℤ coefficient y (without x f) ≡ pos 0 = ap (λ z. s *ℤ z) w ∙ mul_zero s in
-          let a = c.coefficients_add y in
-          omega (arith, ints)
-      go false t =
-          let m : coefficient y v ≡ pos 0 = ap (coefficient y) e ∙ name_elsewhere x y t in
-          let n : k *ℤ coefficient y v ≡ pos 0 = ap (λ z. k *ℤ z) m ∙ mul_zero k in
-          let w : s *ℤ coefficient y (without x f) ≡ s *ℤ coefficient y f = ap (λ z. s *ℤ z) (coefficient_without_other x y f t) in
-          let a = c.coefficients_add y in
-          omega (arith, ints)
+-- there is a term at each place
+pub some_term : (o : Option (VarId × ℤ)) (ts : List Term) (i : ℕ) → ((p : VarId × ℤ) → ¬ (o ≡ Some p)) → option_map term_of o ≡ slice_get ts i → ¬ (i < length ts)
+some_term None ts i n e h = let s : slice_get ts i ≡ Some (get_or ts i (record { times = pos 0; name = 0 })) = slice_get-get_or ts i (record { times = pos 0; name = 0 }) h in absurd (cc)
+some_term (Some p) ts i n e h = n p refl
 
-  rest_constant : (v r : Form) → v ≡ name_form x → IsCombination s f k v r → r.constant ≡ s *ℤ f.constant
-  rest_constant v r e c = let p : k *ℤ v.constant ≡ pos 0 = ap (λ (t : Form). k *ℤ t.constant) e ∙ mul_zero k in let a = c.constants_add in omega (arith, ints)
+-- all terms are gone through
+pub terms_done : (negative : Bool) (x : ℕ) (ts : List Term) (i : ℕ) (kept : List (VarId × ℤ)) → length ts ≤ i → terms_of kept ≡ signed_terms negative (others x (take i ts)) → terms_of kept ≡ signed_terms negative (others x ts)
+terms_done negative x ts i kept h e = e ∙ ap (λ (us : List Term). signed_terms negative (others x us)) (take_all i ts h)
 
-constant_without : (x : ℕ) (f : Form) → (without x f).constant ≡ f.constant
-unfolding without
-constant_without x f = refl
+signed_within : (c : ℤ) → InLimit c → InLimit (negsuc 0 *ℤ c)
+signed_within c h = omega (arith, ints)
 
-constant_scale : (a : ℤ) (f : Form) → (scale a f).constant ≡ a *ℤ f.constant
-unfolding scale
-constant_scale a f = refl
-
-scaled_within : (s : ℤ) (ts : List Term) → IsSign s → AllInLimit ts → AllInLimit (scaled s ts)
-scaled_within s [] g h = tt
-scaled_within s (t ∷ ts) g h = (signed_within s t.times g h.0, scaled_within s ts g h.1)
+scaled_within : (ts : List Term) → AllInLimit ts → AllInLimit (scaled (negsuc 0) ts)
+scaled_within [] h = tt
+scaled_within (t ∷ ts) h = (signed_within t.times h.0, scaled_within ts h.1)
 
 negative_linear : (f : Form) → IsLinear f → IsLinear (scale (negsuc 0) f)
 unfolding scale
 negative_linear f h = record {
   sorted = scale_sorted (negsuc 0) f (λ (e : negsuc 0 ≡ pos 0). absurd (omega (arith, ints))) h.sorted;
-  within = scaled_within (negsuc 0) f.terms (inr refl) h.within;
-  constant_within = signed_within (negsuc 0) f.constant (inr refl) h.constant_within;
+  within = scaled_within f.terms h.within;
+  constant_within = signed_within f.constant h.constant_within;
 }
 
-one_times : (z : ℤ) → pos 1 *ℤ z ≡ z
-one_times z = omega (arith, ints)
+-- the form without the name, or its negative
+abbrev pub rest_of : Bool → ℕ → Form → Form
+rest_of negative x f = if negative then scale (negsuc 0) (without x f) else without x f
 
--- a form less the multiple of a name is the form without the name
-pub rest_is : (x : ℕ) (f v r : Form) (k : ℤ) → IsLinear f → v ≡ name_form x → k ≡ neg_ℤ (pos 1 *ℤ coefficient x f) → IsCombination (pos 1) f k v r → r ≡ without x f
-rest_is x f v r k h e j c =
-    same_form r (without x f) c.linear (without_linear x f h) (λ y. rest_coefficients x f (pos 1) k h (inl refl) j v r e c y ∙ one_times (coefficient y (without x f)))
-    (rest_constant x f (pos 1) k h (inl refl) j v r e c ∙ one_times f.constant ∙ sym (constant_without x f))
+-- it has these terms and this constant
+pub rest_is : (negative : Bool) (x : ℕ) (f : Form) (ts : List Term) (c : ℤ) → ts ≡ signed_terms negative (others x f.terms) → c ≡ (if negative then neg_ℤ f.constant else f.constant) →
+    record { terms = ts; constant = c } ≡ rest_of negative x f
+unfolding scale without
+rest_is true x f ts c e k = let m : c ≡ negsuc 0 *ℤ f.constant = omega (arith, ints, k) in λ i. record { terms = e i; constant = m i }
+rest_is false x f ts c e k = λ i. record { terms = e i; constant = k i }
 
--- and the multiple less the form is its negative
-pub negative_rest_is : (x : ℕ) (f v r : Form) (k : ℤ) → IsLinear f → v ≡ name_form x → k ≡ neg_ℤ (negsuc 0 *ℤ coefficient x f) → IsCombination (negsuc 0) f k v r → r ≡ scale (negsuc 0) (without x f)
-negative_rest_is x f v r k h e j c =
-    same_form r (scale (negsuc 0) (without x f)) c.linear (negative_linear (without x f) (without_linear x f h))
-    (λ y. rest_coefficients x f (negsuc 0) k h (inr refl) j v r e c y ∙ sym (coefficient_scale y (negsuc 0) (without x f)))
-    (rest_constant x f (negsuc 0) k h (inr refl) j v r e c ∙ ap (λ z. negsuc 0 *ℤ z) (sym (constant_without x f)) ∙ sym (constant_scale (negsuc 0) (without x f)))
+pub rest_linear : (negative : Bool) (x : ℕ) (f : Form) → IsLinear f → IsLinear (rest_of negative x f)
+rest_linear true x f h = negative_linear (without x f) (without_linear x f h)
+rest_linear false x f h = without_linear x f h
 
 -- ---- with a name put at a form over a number
 

@@ -1,38 +1,41 @@
 // Forms with a name put at a form over a number.
 ghost use Rattle.std.specs.Prelude.{◌≡◌, negsuc, neg_ℤ, if◌then◌else◌, IfOk, IsErrOf};
 ghost use Rattle.exact_numbers.specs.Limit.{InLimit};
-ghost use Rattle.formula_meaning.specs.Form.{coefficient, without, scale};
+ghost use Rattle.formula_meaning.specs.Form.{coefficient, others, scaled, without, scale};
 ghost use Rattle.linear_forms.specs.Terms.{CombinePasses};
 ghost use Rattle.linear_forms.specs.Combinations.{IsLinear, IsCombination};
+ghost use Rattle.linear_forms.specs.Linear.{terms_of};
 
 use linear_forms::{LinError, Linear, VarId};
 use std::alloc::{AllocError, Global};
 
-// The number with the other sign.
-fn opposite(number: i128) -> i128
+// The number, or the one with the other sign.
+fn signed(number: i128, negative: bool) -> i128
     requires { InLimit number }
-    ensures value { result ≡ neg_ℤ number }
+    ensures value { result ≡ (if negative then neg_ℤ number else number) }
     ensures within { InLimit result }
 {
-    -number
+    if negative { -number } else { number }
 }
 
-// The sum of two multiples of forms in which no number passes the limit.
-fn formed(
+// The terms of all names but one, or the negatives of these.
+fn other_terms(
     alloc: Global,
-    a: i128,
     form: &Linear,
-    b: i128,
-    other: &Linear,
-) -> Result<Linear, AllocError>
-    requires { ¬ (CombinePasses a form.now b other.now) }
-    ensures { IfOk result (IsCombination a form.now b other.now) }
+    x: VarId,
+    negative: bool,
+) -> Result<Vec<(VarId, i128)>, AllocError>
+    ensures { IfOk result (λ v. terms_of v.items ≡ (if negative then scaled (negsuc 0) (others x.number form.now.terms) else others x.number form.now.terms)) }
 {
-    match form.combine(alloc, a, other, b) {
-        Ok(form) => Ok(form),
-        Err(LinError::Memory) => Err(AllocError),
-        Err(LinError::Overflow) => unreachable!(),
+    let mut kept = Vec::with_capacity(alloc, form.places().saturating_sub(1))?;
+    for place in 0..form.places() {
+        if let Some((name, times)) = form.term(place) {
+            if name.number != x.number {
+                kept.push((name, signed(times, negative)))?;
+            }
+        }
     }
+    Ok(kept)
 }
 
 /// The form without the terms of a name, or the negative of that.
@@ -40,16 +43,8 @@ pub fn rest(alloc: Global, form: &Linear, x: VarId, negative: bool) -> Result<Li
     ensures value { IfOk result (λ r. r ≡ (if negative then scale (negsuc 0) (without x.number form.now) else without x.number form.now)) }
     ensures linear { IfOk result IsLinear }
 {
-    let _constant = form.constant_part();
-    let times = form.coefficient(x);
-    let Ok(variable) = Linear::variable(alloc, x) else {
-        return Err(AllocError);
-    };
-    if negative {
-        formed(alloc, -1, form, times, &variable)
-    } else {
-        formed(alloc, 1, form, opposite(times), &variable)
-    }
+    let terms = other_terms(alloc, form, x, negative)?;
+    Ok(Linear::of(terms, signed(form.constant_part(), negative)))
 }
 
 /// The form `a * end + over * t` that the form `a * x + t` becomes with `end` over `over` for `x`, times `over`.
