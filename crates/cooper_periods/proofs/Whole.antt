@@ -13,10 +13,11 @@ use Rattle.formula_meaning.specs.Some.{EachOf}
 use Rattle.formula_meaning.specs.Form.{coefficient}
 use Rattle.formula_meaning.specs.Atom as meant
 use Rattle.formula_meaning.specs.Answer.{Place, Periodic, same_place}
+use Rattle.formula_meaning.specs.Distinct.{distinct}
 use Rattle.formula_meaning.proofs.Same.{place_same}
 use Rattle.elimination_theory.specs.declared.side.Side.{Side}
 use Rattle.elimination_theory.specs.Overflow.{PlaceWithin}
-use Rattle.elimination_theory.specs.IntegersPoints.{signed, class_points, next_points, atom_starts, points_with, scale_of, own_span, integer_points_of, integer_count_of}
+use Rattle.elimination_theory.specs.IntegersPoints.{signed, class_points, next_points, atom_starts, scale_of, own_span, integer_points_of, integer_count_of}
 use Rattle.elimination_theory.proofs.IntegerCount.{points_are_counted}
 use Rattle.elimination_theory.proofs.IntegerScale.{scale_reaches, scale_positive, span_scale}
 use Rattle.elimination_theory.proofs.SomeListed.{each_map, each_right, each_append, each_distinct, each_of_distinct}
@@ -30,6 +31,7 @@ use Rattle.cooper_periods.proofs.Multiples.{IsSpanned}
 use Rattle.cooper_periods.proofs.Steps.{begins_spanned, all_in_integers}
 use Rattle.cooper_periods.proofs.Beside.{each_counted, signed_in}
 use Rattle.cooper_periods.proofs.Collected.{joined_twice}
+use Rattle.cooper_periods.proofs.Apart.{classes_first}
 
 pub each_reached : (x : ℕ) (atoms : List Atom) (s : ℤ) → All IsWellFormed atoms → s ≡ pos (scale_of x (map atom_of atoms)) → EachOf (λ (a : meant.Atom). IsReached (unsigned_abs s) (coefficient x (meant.form_of a))) (map atom_of atoms)
 each_reached x atoms s w e =
@@ -61,16 +63,6 @@ classes_within side n h =
     (each_counted PlaceWithin (λ j. Periodic (signed side (pos j)) (signed side (neg_ℤ (pos n)))) 1 n (λ k lt. (signed_in side (pos (1 + k)) (omega arith), signed_in side (neg_ℤ (pos n)) (neg_in n h))))
 
 module _ (side : Side) (x : ℕ) (atoms : List Atom) where
-  pub whole : (points classes : List Place) (n : ℕ) (s p : ℤ) → s ≡ pos (scale_of x (map atom_of atoms)) → p ≡ pos (own_span x (map atom_of atoms)) → n ≡ own_span x (map atom_of atoms) / scale_of x (map atom_of atoms) →
-      classes ≡ class_points side n → points ≡ classes ++ flat_map (beside_atom side (unsigned_abs s) (unsigned_abs p) x) (map atom_of atoms) →
-      points ≡ points_with side (scale_of x (map atom_of atoms)) (own_span x (map atom_of atoms)) x (map atom_of atoms)
-  whole points classes n s p e f g h i =
-      i
-      ∙ ap (λ c. c ++ flat_map (beside_atom side (unsigned_abs s) (unsigned_abs p) x) (map atom_of atoms)) (h ∙ ap (class_points side) g)
-      ∙ ap₂ (λ (a b : ℤ). class_points side (own_span x (map atom_of atoms) / scale_of x (map atom_of atoms)) ++ flat_map (beside_atom side (unsigned_abs a) (unsigned_abs b) x) (map atom_of atoms)) e f
-      ∙ ap (λ c. class_points side (own_span x (map atom_of atoms) / scale_of x (map atom_of atoms)) ++ c)
-      (sym (joined_twice (next_points side (scale_of x (map atom_of atoms)) (own_span x (map atom_of atoms))) (atom_starts side (scale_of x (map atom_of atoms)) x) (map atom_of atoms)))
-
   -- the numbers beside the ends, in the theory's words
   ends_same : (s p : ℤ) → s ≡ pos (scale_of x (map atom_of atoms)) → p ≡ pos (own_span x (map atom_of atoms)) →
       flat_map (beside_atom side (unsigned_abs s) (unsigned_abs p) x) (map atom_of atoms)
@@ -78,6 +70,15 @@ module _ (side : Side) (x : ℕ) (atoms : List Atom) where
   ends_same s p e f =
       ap₂ (λ (a b : ℤ). flat_map (beside_atom side (unsigned_abs a) (unsigned_abs b) x) (map atom_of atoms)) e f
       ∙ sym (joined_twice (next_points side (scale_of x (map atom_of atoms)) (own_span x (map atom_of atoms))) (atom_starts side (scale_of x (map atom_of atoms)) x) (map atom_of atoms))
+
+  -- the classes, and behind them the numbers beside the ends, each once
+  pub whole : (points classes ends : List Place) (n : ℕ) (s p : ℤ) → s ≡ pos (scale_of x (map atom_of atoms)) → p ≡ pos (own_span x (map atom_of atoms)) → n ≡ own_span x (map atom_of atoms) / scale_of x (map atom_of atoms) →
+      classes ≡ class_points side n → ends ≡ flat_map (beside_atom side (unsigned_abs s) (unsigned_abs p) x) (map atom_of atoms) → points ≡ classes ++ distinct same_place ends →
+      points ≡ integer_points_of side x (map atom_of atoms)
+  whole points classes ends n s p e f g h k i =
+      i
+      ∙ ap₂ (λ (c t : List Place). c ++ distinct same_place t) (h ∙ ap (class_points side) g) (k ∙ ends_same s p e f)
+      ∙ sym (classes_first side (own_span x (map atom_of atoms) / scale_of x (map atom_of atoms)) (scale_of x (map atom_of atoms)) (own_span x (map atom_of atoms)) (flat_map (atom_starts side (scale_of x (map atom_of atoms)) x) (map atom_of atoms)))
 
   pub all_within : (s p : ℤ) → s ≡ pos (scale_of x (map atom_of atoms)) → p ≡ pos (own_span x (map atom_of atoms)) → InLimit (pos (own_span x (map atom_of atoms) / scale_of x (map atom_of atoms))) →
       each place_within (flat_map (beside_atom side (unsigned_abs s) (unsigned_abs p) x) (map atom_of atoms)) ≡ true → each place_within (integer_points_of side x (map atom_of atoms)) ≡ true

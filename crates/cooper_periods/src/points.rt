@@ -1,6 +1,8 @@
 // Test points of the integers, and how many there are.
-ghost use Rattle.std.specs.Prelude.{◌≡◌, pos, ◌<ℤ◌, ◌<◌, ◌≤◌, ◌^◌, ◌+◌, ◌*◌, ◌/◌, unsigned_abs, count_by, true, false, All, map, MatchOption, IfOk, IsErrOf};
+ghost use Rattle.std.specs.Prelude.{◌≡◌, pos, ◌<ℤ◌, ◌<◌, ◌≤◌, ◌^◌, ◌+◌, ◌*◌, ◌/◌, ◌++◌, unsigned_abs, count_by, true, false, All, map, MatchOption, IfOk, IsErrOf};
 ghost use Rattle.elimination_theory.specs.IntegersPoints.{integer_points_of, integer_count_of};
+ghost use Rattle.formula_meaning.specs.Answer.{same_place};
+ghost use Rattle.formula_meaning.specs.Distinct.{distinct};
 ghost use Rattle.formula_meaning.specs.StandsOnce.{StandsOnce};
 ghost use Rattle.formula_meaning.specs.Limits.{each, place_within};
 ghost use Rattle.atom_normal.specs.Atoms.{atom_of, IsWellFormed};
@@ -14,7 +16,7 @@ use crate::scales::Period;
 use crate::starts::has_end;
 use atom_normal::Atom;
 use linear_forms::VarId;
-use std::alloc::Global;
+use std::alloc::{AllocError, Global};
 use test_points::{PointError, Side, TestPoint, distinct_points, quotient};
 
 // How many of the atoms have an end that lies to the side.
@@ -45,6 +47,23 @@ pub fn points_count(atoms: &[Atom], x: VarId, period: &Period, side: Side) -> Op
     ensures { MatchOption result (2 ^ 64 ≤ integer_count_of side x.number (map atom_of atoms.now)) (λ n. n ≡ integer_count_of side x.number (map atom_of atoms.now)) }
 {
     total(ends_count(atoms, x, side), period.span, period.scale)
+}
+
+// The residue classes, each of which stands once, and behind them the numbers beside the ends, each once.
+fn with_ends(
+    alloc: Global,
+    x: VarId,
+    mut classes: Vec<TestPoint>,
+    ends: Vec<TestPoint>,
+) -> Result<Vec<TestPoint>, AllocError>
+    requires classes { All (IsPointOf x) classes.items }
+    requires ends { All (IsPointOf x) ends.items }
+    ensures places { IfOk result (λ v. map place_of v.items ≡ map place_of classes.items ++ distinct same_place (map place_of ends.items)) }
+    ensures well_formed { IfOk result (λ v. All (IsPointOf x) v.items) }
+{
+    let mut ends = distinct_points(alloc, x, ends)?;
+    classes.append(&mut ends)?;
+    Ok(classes)
 }
 
 /// The test points of `x` in the atoms, each of which stands once; so does each point (Cooper 1972): the residue classes of
@@ -81,8 +100,9 @@ pub fn integer_points(
     };
     let mut points = Vec::new(alloc);
     push_classes(alloc, &mut points, x, side, classes)?;
-    match push_atoms(alloc, &mut points, atoms, x, side, period) {
-        Ok(()) => Ok(distinct_points(alloc, x, points)?),
+    let mut ends = Vec::new(alloc);
+    match push_atoms(alloc, &mut ends, atoms, x, side, period) {
+        Ok(()) => Ok(with_ends(alloc, x, points, ends)?),
         Err(error) => Err(error),
     }
 }

@@ -1,10 +1,11 @@
-use Rattle.std.proofs.Common.{◌++◌, map, sym, ap, ◌∙◌, subst, arith, unsigned_abs}
+use Rattle.std.proofs.Common.{List, ◌++◌, map, flat_map, sym, ap, ◌∙◌, subst, arith, unsigned_abs}
 use Rattle.exact_numbers.specs.Limit.{InLimit}
 use Rattle.exact_numbers.proofs.Casts.{read_back}
-use Rattle.formula_meaning.specs.Answer.{same_place}
-use Rattle.formula_meaning.specs.Distinct.{distinct}
 use Rattle.elimination_theory.specs.IntegersPoints.{class_points}
+use Rattle.atom_normal.specs.Atoms.{atom_of}
+use Rattle.test_points.specs.declared.points.TestPoint.{TestPoint}
 use Rattle.test_points.specs.Points.{place_of}
+use Rattle.cooper_periods.specs.Starts.{beside_atom}
 use Rattle.cooper_periods.proofs.Steps.{scale_is_positive, span_is_positive}
 use Rattle.cooper_periods.proofs.Whole.{each_reached, scale_divides, passed_classes, too_many, whole, all_within, some_fails, many_ends, many_classes, same_error}
 use Rattle.cooper_periods.proofs.points.integer_points.Goals as goal
@@ -42,17 +43,18 @@ returns-in_default-try_from-clause-many c k =
     let fits = c.ranges.limit.fits in
     many_classes c.args.side x atoms c.args.limit (omega arith) (too_many _ _ q c.in_default-try_from.ensures)
 
-pub returns-in_ok-distinct_points-in-Ok-push_atoms-clause-points : goal.returns-in_ok-distinct_points-in-Ok-push_atoms-clause-points
-returns-in_ok-distinct_points-in-Ok-push_atoms-clause-points c =
+pub returns-in_ok-with_ends-in-Ok-push_atoms-clause-points : goal.returns-in_ok-with_ends-in-Ok-push_atoms-clause-points
+returns-in_ok-with_ends-in-Ok-push_atoms-clause-points c =
     let p = c.requires.period in let n = c.args.period.now in let x = c.args.x.number in let atoms = c.args.atoms.now in
     let q = passed_classes c.quotient.result n.scale n.span _ _ c.quotient.ensures.within p.scale_within p.span_within c.quotient.ensures.value p.scale p.span in
     let m = c.in-Ok.ensures.1 ∙ ap unsigned_abs q in
-    let w = whole c.args.side x atoms (map place_of c.push_atoms.new.points.items) (map place_of c.push_classes.new.points.items) c.in-Ok.classes n.scale n.span p.scale p.span m
-    (c.in_ok-push_classes.ensures.places ∙ ap (λ ts. map place_of ts ++ class_points c.args.side c.in-Ok.classes) c.new-points.ensures.items) c.in-Ok-push_atoms.ensures.places in
-    c.in_ok-distinct_points-in-Ok-push_atoms.ensures.places ∙ ap (distinct same_place) w
+    whole c.args.side x atoms _ (map place_of c.push_classes.new.points.items) (map place_of c.push_atoms.new.points.items) c.in-Ok.classes n.scale n.span p.scale p.span m
+    (c.in_ok-push_classes.ensures.places ∙ ap (λ ts. map place_of ts ++ class_points c.args.side c.in-Ok.classes) c.new-points.ensures.items)
+    (c.in-Ok-push_atoms.ensures.places ∙ ap (λ (ts : List TestPoint). map place_of ts ++ flat_map (beside_atom c.args.side (unsigned_abs n.scale) (unsigned_abs n.span) x) (map atom_of atoms)) c.new-ends.ensures.items)
+    c.in_ok-with_ends-in-Ok-push_atoms.ensures.places
 
-pub returns-in_ok-distinct_points-in-Ok-push_atoms-clause-within : goal.returns-in_ok-distinct_points-in-Ok-push_atoms-clause-within
-returns-in_ok-distinct_points-in-Ok-push_atoms-clause-within c =
+pub returns-in_ok-with_ends-in-Ok-push_atoms-clause-within : goal.returns-in_ok-with_ends-in-Ok-push_atoms-clause-within
+returns-in_ok-with_ends-in-Ok-push_atoms-clause-within c =
     let p = c.requires.period in let n = c.args.period.now in let x = c.args.x.number in let atoms = c.args.atoms.now in
     let q = passed_classes c.quotient.result n.scale n.span _ _ c.quotient.ensures.within p.scale_within p.span_within c.quotient.ensures.value p.scale p.span in
     let w = subst InLimit (sym (read_back c.quotient.result c.quotient.ensures.within) ∙ q) c.quotient.ensures.within in
