@@ -11,6 +11,7 @@ use Rattle.formula_store.specs.Nodes.{AreNodes, IsId}
 use Rattle.formula_store.specs.Order.{WithinSome, Rises, RisesFrom, IsOrder}
 use Rattle.formula_store.proofs.Ordered.{some_then}
 use Rattle.formula_store.proofs.Marked.{all_at}
+pub use Rattle.formula_store.proofs.Marked.{among_all}
 use Rattle.formula_store.proofs.Counted.{within_id, fits}
 
 -- numbers from the one at a place on are at least it
@@ -33,11 +34,6 @@ earlier (b ∷ ids) zero d x r h (inl e) l = absurd (let k : x.number ≡ b.numb
 earlier (b ∷ ids) zero d x r h (inr m) l = absurd (let k = at_least_from b.number ids x r m in omega arith)
 earlier (b ∷ ids) (suc i) d x r h (inl e) l = inl e
 earlier (b ∷ ids) (suc i) d x r h (inr m) l = inr (earlier_from b.number ids i d x r (omega arith) m l)
-
-pub among_all : (P : FormulaId → Type 0) (ids : List FormulaId) (x : FormulaId) → AllByRecursion P ids → Among ids x → P x
-among_all P [] x h m = absurd m
-among_all P (i ∷ ids) x h (inl e) = subst P e h.0
-among_all P (i ∷ ids) x h (inr m) = among_all P ids x h.1 m
 
 module _ (nodes : List (Shape FormulaId)) (are : AreNodes nodes) (roots ids : List FormulaId) (o : IsOrder nodes roots ids) where
   -- each id of the list is one of the nodes

@@ -25,3 +25,4 @@ pub mod Layered
 pub mod Filling
 pub mod Cut
 pub mod Taking
+mod Sorting

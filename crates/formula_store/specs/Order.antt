@@ -3,8 +3,9 @@ use Rattle.std.specs.BTreeSet.{BTreeSet, contains}
 use Rattle.std.specs.Ordering.{nat_cmp}
 use Rattle.std.specs.Prelude.{◌≡◌, ℕ, ◌<◌, ◌≤◌, Bool, true, false, List, [], ◌∷◌, Some, slice_get, length, ◌⊎◌}
 use Rattle.std.specs.List.{AllByRecursion}
-use Rattle.formula_meaning.specs.Some.{SomeOf}
+use Rattle.formula_meaning.specs.Some.{SomeOf, Among}
 use Rattle.formula_tree.specs.declared.shape.Shape.{Shape}
+use Rattle.formula_tree.specs.declared.shape.Shape.TheVariants as shape
 use Rattle.formula_tree.specs.Shapes.{ids_of}
 use Rattle.formula_store.specs.declared.id.FormulaId.{FormulaId}
 
@@ -33,14 +34,30 @@ pub record IsOrder (nodes : List (Shape FormulaId)) (roots ids : List FormulaId)
   pub all : (x : FormulaId) → WithinSome nodes roots x → SomeOf (λ i. i ≡ x) ids
   pub only : AllByRecursion (WithinSome nodes roots) ids
 
--- the numbers in a set, each of which is met once it is taken out
+-- the numbers in a set, of which each waits
 abbrev pub waits : BTreeSet ℕ → ℕ → Bool
 waits set k = contains nat_cmp set k
 
--- the ids wait as well, and nothing else
-pub record Adds (ids : List FormulaId) (old new : ℕ → Bool) : Type 0 where
+-- nothing stands in a node of this shape
+abbrev pub is_leaf : Shape FormulaId → Bool
+is_leaf shape.True = true
+is_leaf shape.False = true
+is_leaf (shape.One a) = true
+is_leaf n = false
+
+-- the id waits as well, and nothing else
+pub record Adds (id : FormulaId) (old new : ℕ → Bool) : Type 0 where
+  pub here : new id.number ≡ true
+  pub others : (k : ℕ) → ¬ (k ≡ id.number) → new k ≡ old k
+
+-- the node waits, or nothing stands in it
+abbrev pub IsLooked : List (Shape FormulaId) → (ℕ → Bool) → FormulaId → Type 0
+IsLooked nodes waiting x = (waiting x.number ≡ true) ⊎ ((n : Shape FormulaId) → slice_get nodes x.number ≡ Some n → ids_of n ≡ [])
+
+-- those of the ids wait as well in which something stands, and nothing else
+pub record Meets (nodes : List (Shape FormulaId)) (ids : List FormulaId) (old new : ℕ → Bool) : Type 0 where
   pub kept : (k : ℕ) → old k ≡ true → new k ≡ true
-  pub added : AllByRecursion (λ id. new id.number ≡ true) ids
+  pub these : AllByRecursion (IsLooked nodes new) ids
   pub none_else : (k : ℕ) → new k ≡ true → (old k ≡ true) ⊎ SomeOf (λ id. id.number ≡ k) ids
 
 -- the number waits no more
@@ -50,17 +67,10 @@ pub record Takes (k : ℕ) (old new : ℕ → Bool) : Type 0 where
   pub others : (i : ℕ) → ¬ (i ≡ k) → new i ≡ old i
   pub gone : new k ≡ false
 
--- the node waits, or is found
-abbrev pub IsMet : (ℕ → Bool) → List FormulaId → FormulaId → Type 0
-IsMet waiting found x = (waiting x.number ≡ true) ⊎ SomeOf (λ i. i ≡ x) found
-
--- Downwards from some formulas: what waits or is found stands in them, what is found is above what waits, and the
--- formulas and the members of what is found are met.
-pub record Walks (nodes : List (Shape FormulaId)) (roots : List FormulaId) (waiting : ℕ → Bool) (found : List FormulaId) : Type 0 where
-  pub rises : Rises found
-  pub above : (k : ℕ) → waiting k ≡ true → RisesFrom k found
-  pub places : (k : ℕ) → waiting k ≡ true → k < length nodes
-  pub sound : (x : FormulaId) → waiting x.number ≡ true → WithinSome nodes roots x
-  pub only : AllByRecursion (WithinSome nodes roots) found
-  pub roots_met : AllByRecursion (IsMet waiting found) roots
-  pub closed : (x : FormulaId) (n : Shape FormulaId) → SomeOf (λ i. i ≡ x) found → slice_get nodes x.number ≡ Some n → AllByRecursion (IsMet waiting found) (ids_of n)
+-- Down from some formulas: they are met, what is met stands in them, and what waits is met. The members of what is met are met,
+-- unless it waits.
+pub record Walks (nodes : List (Shape FormulaId)) (roots : List FormulaId) (waiting : ℕ → Bool) (met : List FormulaId) : Type 0 where
+  pub waits_met : (k : ℕ) → waiting k ≡ true → Among met (record { number = k })
+  pub sound : (x : FormulaId) → Among met x → (x.number < length nodes) × WithinSome nodes roots x
+  pub roots_met : AllByRecursion (Among met) roots
+  pub closed : (x : FormulaId) (n : Shape FormulaId) → Among met x → slice_get nodes x.number ≡ Some n → (waiting x.number ≡ true) ⊎ AllByRecursion (Among met) (ids_of n)

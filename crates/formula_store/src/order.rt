@@ -1,10 +1,10 @@
 //! The distinct subformulas of a formula, in a flat list.
 
-ghost use Rattle.std.specs.Prelude.{◌≡◌, ◌∷◌, [], false, replicate, IfOk, OnOk};
+ghost use Rattle.std.specs.Prelude.{◌≡◌, ◌++◌, false, not, replicate, IfOk, OnOk};
 ghost use Rattle.std.specs.List.{AllByRecursion};
-ghost use Rattle.formula_tree.specs.Shapes.{ids_of};
+ghost use Rattle.formula_tree.specs.Shapes.{AllIds, ids_of};
 ghost use Rattle.formula_store.specs.Nodes.{IsId};
-ghost use Rattle.formula_store.specs.Order.{IsOrder, Adds, waits};
+ghost use Rattle.formula_store.specs.Order.{IsOrder, Adds, Meets, is_leaf, waits};
 
 use crate::id::FormulaId;
 use crate::store::Store;
@@ -12,8 +12,15 @@ use formula_tree::Shape;
 use std::alloc::{AllocError, Global};
 use std::collections::BTreeSet;
 
+// What a walk down from some formulas has met, and the numbers of those whose members are still to be met.
+#[derive(Drop)]
+struct Walk {
+    met: Vec<FormulaId>,
+    waiting: BTreeSet<usize>,
+}
+
 // The distinct subformulas of some formulas: each once, its members before it. The members of the greatest that waits have
-// smaller numbers, so each is taken out once, and the time is that of the subformulas alone.
+// smaller numbers, so each is taken out once, and the time is that of the subformulas alone. One without members never waits.
 pub(crate) fn subformulas(
     alloc: Global,
     store: &Store,
@@ -22,46 +29,65 @@ pub(crate) fn subformulas(
     requires { AllByRecursion (IsId store.now) roots.now }
     ensures { IfOk result (λ ids. IsOrder store.now roots.now ids.items) }
 {
-    let mut waiting = BTreeSet::new(alloc);
-    add_all(roots, &mut waiting)?;
-    let mut ids = Vec::new(alloc);
-    while let Some(number) = waiting.pop_last() {
-        let id = FormulaId { number };
-        ids.push(id)?;
-        add_members(store.shape(id), &mut waiting)?;
+    let mut walk = Walk {
+        met: Vec::new(alloc),
+        waiting: BTreeSet::new(alloc),
+    };
+    walk.meet(store, roots)?;
+    while let Some(number) = walk.waiting.pop_last() {
+        walk.meet_members(store, store.shape(FormulaId { number }))?;
     }
-    ids.reverse();
+    let Walk { met: mut ids, .. } = walk;
+    ids.sort_unstable();
+    ids.dedup();
     Ok(ids)
 }
 
-// Adds the members of a formula.
-fn add_members(shape: &Shape<FormulaId>, waiting: &mut BTreeSet<usize>) -> Result<(), AllocError>
-    ensures { OnOk result (Adds (ids_of shape.now) (waits waiting.old) (waits waiting.new)) }
-{
-    match shape {
-        Shape::True | Shape::False | Shape::One(_) => Ok(()),
-        Shape::And(ids) | Shape::Or(ids) => add_all(ids.items(), waiting),
-        Shape::Not(member) | Shape::Ex(_, member) | Shape::All(_, member) => add(*member, waiting),
-        Shape::Impl(left, right) | Shape::Repl(left, right) | Shape::Equiv(left, right) => {
-            add(*left, waiting)?;
-            add(*right, waiting)
+impl Walk {
+    // Meets the members of a formula.
+    fn meet_members(&mut self, store: &Store, shape: &Shape<FormulaId>) -> Result<(), AllocError>
+        requires { AllIds (IsId store.now) shape.now }
+        ensures met { OnOk result (self.new.met.items ≡ self.old.met.items ++ ids_of shape.now) }
+        ensures waiting { OnOk result (Meets store.now (ids_of shape.now) (waits self.old.waiting) (waits self.new.waiting)) }
+    {
+        match shape {
+            Shape::True | Shape::False | Shape::One(_) => Ok(()),
+            Shape::And(ids) | Shape::Or(ids) => self.meet(store, ids.items()),
+            Shape::Not(member) | Shape::Ex(_, member) | Shape::All(_, member) => {
+                self.meet(store, &[*member])
+            }
+            Shape::Impl(left, right) | Shape::Repl(left, right) | Shape::Equiv(left, right) => {
+                self.meet(store, &[*left, *right])
+            }
         }
+    }
+
+    // Meets the formulas.
+    fn meet(&mut self, store: &Store, ids: &[FormulaId]) -> Result<(), AllocError>
+        requires { AllByRecursion (IsId store.now) ids.now }
+        ensures met { OnOk result (self.new.met.items ≡ self.old.met.items ++ ids.now) }
+        ensures waiting { OnOk result (Meets store.now ids.now (waits self.old.waiting) (waits self.new.waiting)) }
+    {
+        self.met.extend_from_slice(ids)?;
+        for id in ids {
+            if has_members(store.shape(*id)) {
+                add(*id, &mut self.waiting)?;
+            }
+        }
+        Ok(())
     }
 }
 
-// Adds each of the ids.
-fn add_all(ids: &[FormulaId], waiting: &mut BTreeSet<usize>) -> Result<(), AllocError>
-    ensures { OnOk result (Adds ids.now (waits waiting.old) (waits waiting.new)) }
+// Whether formulas stand in one of this shape.
+fn has_members(shape: &Shape<FormulaId>) -> bool
+    ensures { result ≡ not (is_leaf shape.now) }
 {
-    for id in ids {
-        add(*id, waiting)?;
-    }
-    Ok(())
+    !matches!(shape, Shape::True | Shape::False | Shape::One(_))
 }
 
 // Adds an id.
 fn add(id: FormulaId, waiting: &mut BTreeSet<usize>) -> Result<(), AllocError>
-    ensures { OnOk result (Adds (id ∷ []) (waits waiting.old) (waits waiting.new)) }
+    ensures { OnOk result (Adds id (waits waiting.old) (waits waiting.new)) }
 {
     match waiting.insert(id.number) {
         Ok(_) => Ok(()),
