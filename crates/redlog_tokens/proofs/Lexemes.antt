@@ -7,7 +7,7 @@ use Rattle.redlog_tokens.specs.declared.lexer.Front.{Front}
 use Rattle.redlog_tokens.specs.declared.lexer.Front.TheVariants as found
 use Rattle.redlog_tokens.specs.declared.lexer.Lexeme.{Lexeme}
 use Rattle.redlog_tokens.specs.declared.token.TokenKind.{TokenKind}
-use Rattle.redlog_tokens.specs.Lexing.{value_after, literal_of, Lexes, over, spaced, taken, LexesFrom}
+use Rattle.redlog_tokens.specs.Lexing.{value_after, as_literal, Lexes, over, spaced, taken, LexesFrom}
 use Rattle.redlog_tokens.specs.Longest.{IsFront, size}
 
 -- the digits so far and those to come say at least what those so far say
@@ -15,16 +15,16 @@ pub value_grows : (n : ℕ) (ds : List ℕ) → n ≤ value_after n ds
 value_grows n [] = omega arith
 value_grows n (d ∷ ds) = omega (arith, value_grows (n * 10 + (d - 48)) ds)
 
-literal_past : (ds : List ℕ) → 2 ^ 127 ≤ value_after 0 ds → Past ≡ literal_of ds
-unfolding literal_of
-literal_past ds h = let f : nat_lt (value_after 0 ds) (2 ^ 127) ≡ false = search rules in rw f
+literal_past : (n : ℕ) → 2 ^ 127 ≤ n → Past ≡ as_literal n
+literal_past n h = let f : nat_lt n (2 ^ 127) ≡ false = search rules in rw f
 
 -- one more digit passes the limit
-pub past_digit : (ds : List ℕ) (i v : ℕ) → value_after 0 ds ≡ value_after v (drop i ds) → i < length ds → 170141183460469231731687303715884105727 / 10 < v → Past ≡ literal_of ds
-past_digit ds i v so_far inside above =
+pub past_digit : (before : ℕ) (ds : List ℕ) (i v : ℕ) → value_after before ds ≡ value_after v (drop i ds) → i < length ds → 170141183460469231731687303715884105727 / 10 < v
+    → Past ≡ as_literal (value_after before ds)
+past_digit before ds i v so_far inside above =
     let next = ap (value_after v) (drop-cons ds i 0 inside) in
     let more = value_grows (v * 10 + (get_or ds i 0 - 48)) (drop (suc i) ds) in
-    literal_past ds (omega (arith, so_far, next, more, above))
+    literal_past (value_after before ds) (omega (arith, so_far, next, more, above))
 
 lexes_space : (rest : List ℕ) (at n : ℕ) {ts : List Lexeme} → IsFront rest (found.Space n) → Lexes (drop n rest) (at + n) ts → Lexes rest at ts
 lexes_space [] at n h l = absurd h

@@ -9,16 +9,16 @@ use Rattle.redlog_tokens.specs.Lexing.{is_blank, long_signs, short_signs, signed
 use Rattle.redlog_tokens.specs.Longest.{size, BeginWithToken, IsLongest, AreLongest}
 use Rattle.redlog_tokens.proofs.Lexed.{front_size}
 
-both : (p q : Bool) → (p && q) ≡ true → (p ≡ true) × (q ≡ true)
+pub both : (p q : Bool) → (p && q) ≡ true → (p ≡ true) × (q ≡ true)
 both true q h = (refl, h)
 both false q h = cc
 
-one_of : (p q : Bool) → (p || q) ≡ true → (p ≡ true) ⊎ (q ≡ true)
+pub one_of : (p q : Bool) → (p || q) ≡ true → (p ≡ true) ⊎ (q ≡ true)
 one_of true q h = inl refl
 one_of false q h = inr h
 
 -- as many at the front pass as a longest front of which all pass
-at_least : (p : ℕ → Bool) (xs : List ℕ) (m : ℕ) → m ≤ length xs → list_all p (take m xs) ≡ true → m ≤ prefix_len p xs
+pub at_least : (p : ℕ → Bool) (xs : List ℕ) (m : ℕ) → m ≤ length xs → list_all p (take m xs) ≡ true → m ≤ prefix_len p xs
 at_least p xs zero within all = omega arith
 at_least p [] (suc m) within all = absurd (omega (arith, within))
 at_least p (x ∷ xs) (suc m) within all =

@@ -25,9 +25,13 @@ abbrev pub value_after : ℕ → List ℕ → ℕ
 value_after n [] = n
 value_after n (d ∷ ds) = value_after (n * 10 + (d - 48)) ds
 
--- the number that decimal digits say, or Past where it is above 2^127 - 1
+-- a number as a literal: Past where it is above 2^127 - 1
+abbrev pub as_literal : ℕ → Literal
+as_literal n = if nat_lt n (2 ^ 127) then Fits (pos n) else Past
+
+-- the number that decimal digits say
 unfoldable pub literal_of : List ℕ → Literal
-literal_of digits = if nat_lt (value_after 0 digits) (2 ^ 127) then Fits (pos (value_after 0 digits)) else Past
+literal_of digits = as_literal (value_after 0 digits)
 
 -- the signs of two bytes
 abbrev pub long_signs : List (List ℕ)

@@ -1,7 +1,7 @@
 ghost use Rattle.std.specs.Prelude.{◌≡◌, ◌+◌, ◌<◌, ◌≤◌, List, [], ◌∷◌, length, IfSome, MatchOption};
 ghost use Rattle.std.specs.List.{prefix_len, list_all};
 ghost use Rattle.redlog_tokens.specs.declared.lexer.Lexeme.{Lexeme};
-ghost use Rattle.redlog_tokens.specs.Lexing.{is_blank, is_in_line, long_signs, short_signs, literal_of, worded, signed, front, LexesFrom};
+ghost use Rattle.redlog_tokens.specs.Lexing.{is_blank, is_in_line, long_signs, short_signs, value_after, as_literal, literal_of, worded, signed, front, LexesFrom};
 ghost use Rattle.redlog_tokens.specs.Longest.{IsFront, size};
 ghost use Rattle.qe_syntax.specs.Names.{is_digit, is_letter, is_name_part, is_one_of, is_numbered, is_word};
 
@@ -10,7 +10,7 @@ use crate::words::{is, is_keyword};
 use qe_syntax::{Literal, Name};
 
 /// The greatest number that a literal keeps.
-const LIMIT: u128 = (1 << 127) - 1;
+pub const LITERAL_LIMIT: u128 = (1 << 127) - 1;
 
 /// What stands at the front of a text, with the number of its bytes: a blank or a comment, or a token. A bad
 /// token has no kind.
@@ -87,15 +87,15 @@ fn front_at(bytes: &[u8], first: u8, rest: &[u8]) -> Front
 }
 
 /// How many bytes at the front are of a comment that has begun.
-pub(crate) fn line(bytes: &[u8]) -> usize
+pub fn line(bytes: &[u8]) -> usize
     ensures length { result ≡ prefix_len is_in_line bytes.now }
     ensures within { result ≤ length bytes.now }
 {
-    bytes.iter().take_while(|b| is_in_line(**b)).count()
+    bytes.iter().take_while(|b| **b != b'\n').count()
 }
 
 /// How many bytes at the front are digits.
-pub(crate) fn digits(bytes: &[u8]) -> usize
+pub fn digits(bytes: &[u8]) -> usize
     ensures length { result ≡ prefix_len is_digit bytes.now }
     ensures within { result ≤ length bytes.now }
 {
@@ -112,17 +112,24 @@ pub(crate) fn name_parts(bytes: &[u8]) -> usize
 
 /// The number that decimal digits say.
 #[tactic(auto, unfolding(crate::specs::Lexing::literal_of))]
-pub(crate) fn literal(digits: &[u8]) -> Literal
+pub fn literal(digits: &[u8]) -> Literal
     ensures { result ≡ literal_of digits.now }
 {
-    let mut value: u128 = 0;
+    literal_after(0, digits)
+}
+
+/// The number that decimal digits say behind digits that say `before`.
+pub fn literal_after(before: u128, digits: &[u8]) -> Literal
+    ensures { result ≡ as_literal (value_after before digits.now) }
+{
+    let mut value = before;
     'digits: for digit in digits {
-        if value > LIMIT / 10 {
+        if value > LITERAL_LIMIT / 10 {
             return Literal::Past;
         }
         value = value * 10 + digit.saturating_sub(b'0') as u128;
     }
-    if value > LIMIT {
+    if value > LITERAL_LIMIT {
         return Literal::Past;
     }
     Literal::Fits(value as i128)
@@ -216,20 +223,21 @@ fn signed(bytes: &[u8]) -> Front
 }
 
 /// Tab, line feed, carriage return and space.
-pub(crate) fn is_blank(b: u8) -> bool
+pub fn is_blank(b: u8) -> bool
     ensures { result ≡ is_blank b }
 {
     b == b'\t' || b == b'\n' || b == b'\r' || b == b' '
 }
 
-pub(crate) fn is_digit(b: u8) -> bool
+/// An ASCII digit.
+pub fn is_digit(b: u8) -> bool
     ensures { result ≡ is_digit b }
 {
     b'0' <= b && b <= b'9'
 }
 
 /// An ASCII letter.
-pub(crate) fn is_letter(b: u8) -> bool
+pub fn is_letter(b: u8) -> bool
     ensures { result ≡ is_letter b }
 {
     (b'A' <= b && b <= b'Z') || (b'a' <= b && b <= b'z')
@@ -240,11 +248,4 @@ fn is_name_part(b: u8) -> bool
     ensures { result ≡ is_name_part b }
 {
     is_letter(b) || is_digit(b) || b == b'_'
-}
-
-/// What a comment goes on with.
-fn is_in_line(b: u8) -> bool
-    ensures { result ≡ is_in_line b }
-{
-    b != b'\n'
 }

@@ -14,6 +14,9 @@ mod words;
 pub use ahead::terminals;
 pub use laws::{longest_tokens, one_piece};
 pub use level::{LEVEL_LIMIT, is_deep};
+pub use lexer::{
+    LITERAL_LIMIT, digits, is_blank, is_digit, is_letter, line, literal, literal_after,
+};
 pub use piece::{Piece, next_piece};
 pub use scan::tokens;
 pub use terminal::{Mark, Terminal, Word};
