@@ -1,22 +1,23 @@
 //! The negation normal form of a formula, made over those of its distinct subformulas.
 
+ghost use Rattle.std.specs.List.{AllByRecursion};
 ghost use Rattle.std.specs.Prelude.{◌≡◌, ◌≤◌, ◌<◌, ◌+◌, ◌*◌, ◌⊎◌, ℕ, Some, IfOk, IfErr, OnOk, IsErrOf, length, nat_eq, slice_get, true, false, IsTrue, ◌↔◌, [], ◌∷◌};
 ghost use Rattle.formula_meaning.specs.Same.{same_atom};
 ghost use Rattle.formula_meaning.specs.Sizes.{distinct_count};
 ghost use Rattle.formula_meaning.specs.NegationNormal.{normal_form};
 ghost use Rattle.atom_normal.specs.NormalForm.{negated_normal};
 ghost use Rattle.formula_tree.specs.Makers.{IsMade, Keeps};
-ghost use Rattle.formula_tree.specs.declared.shape.Shape.{Shape};
 ghost use Rattle.formula_tree.specs.Shapes.{AllIds};
 ghost use Rattle.formula_store.specs.declared.id.FormulaId.{FormulaId};
 ghost use Rattle.formula_store.specs.Nodes.{IsId, tree, AreNodes, Front};
 ghost use Rattle.formula_store.specs.Order.{IsOrder};
 ghost use Rattle.nnf_pnf.specs.Forms.{form, Known};
+ghost use Rattle.nnf_pnf.specs.Normal.{is_normal_shape, BeginsNormal};
 
 use crate::forms::{Forms, Table, form};
 use crate::plan::{performed, planned};
 use formula_store::{FormulaId, Store};
-use formula_tree::FormError;
+use formula_tree::{FormError, Shape};
 use std::alloc::{AllocError, Global};
 use std::collections::HashMap;
 
@@ -41,6 +42,9 @@ pub fn nnf(
     let ids = subformulas(store, id)?;
     if passes(ids.len(), limit) {
         return Err(FormError::Nodes);
+    }
+    if are_normal(store, &ids) {
+        return Ok(id);
     }
     let mut table = HashMap::new(alloc);
     for id in &ids {
@@ -71,6 +75,29 @@ fn passes(count: usize, limit: Option<u64>) -> bool
         None => false,
         Some(limit) => limit / 6 < count as u64,
     }
+}
+
+// Whether each of the formulas begins as one in negation normal form does. It takes no memory.
+fn are_normal(store: &Store, ids: &[FormulaId]) -> bool
+    requires { AllByRecursion (IsId store.now) ids.now }
+    ensures { IsTrue result → AllByRecursion (BeginsNormal store.now) ids.now }
+{
+    for id in ids {
+        if !is_normal(store.shape(*id)) {
+            return false;
+        }
+    }
+    true
+}
+
+// Whether a formula of this shape begins as one in negation normal form does.
+fn is_normal(shape: &Shape<FormulaId>) -> bool
+    ensures { result ≡ is_normal_shape shape.now }
+{
+    !matches!(
+        shape,
+        Shape::Not(_) | Shape::Impl(..) | Shape::Repl(..) | Shape::Equiv(..)
+    )
 }
 
 // Makes the forms of one formula over those of its members, with at most six new formulas.

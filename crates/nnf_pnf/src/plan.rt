@@ -45,7 +45,8 @@ pub(crate) fn planned(
     match store.shape(id) {
         Shape::True => Ok(Plan::Make(constant(!negated))),
         Shape::False => Ok(Plan::Make(constant(negated))),
-        Shape::One(atom) => Ok(Plan::Make(Shape::One(signed(alloc, atom, negated)?))),
+        Shape::One(_) if !negated => Ok(Plan::Ready(id)),
+        Shape::One(atom) => Ok(Plan::Make(Shape::One(opposite(alloc, atom)?))),
         Shape::And(ids) => {
             let forms = all_forms(alloc, table, ids.items(), negated)?;
             Ok(Plan::Make(joined(forms, Junction::Conjunction.turned(negated))))
@@ -114,18 +115,13 @@ fn pair(alloc: Global, a: FormulaId, b: FormulaId) -> Result<Ids<FormulaId>, All
     Ok(Ids::of(vec![in alloc; a, b]?))
 }
 
-// The atom, or the one of the opposite truth.
-fn signed(alloc: Global, atom: &Atom, negated: bool) -> Result<Atom, AllocError>
+// The atom of the opposite truth.
+fn opposite(alloc: Global, atom: &Atom) -> Result<Atom, AllocError>
     requires { IsWellFormed atom.now }
-    ensures atom { IfOk result (λ a. atom_of a ≡ (if negated then negated_normal (atom_of atom.now) else atom_of atom.now)) }
+    ensures atom { IfOk result (λ a. atom_of a ≡ negated_normal (atom_of atom.now)) }
     ensures well_formed { IfOk result IsWellFormed }
 {
-    let copy = if negated {
-        negate(alloc, atom)
-    } else {
-        atom.copy(alloc)
-    };
-    copy.map_err(|_| AllocError)
+    negate(alloc, atom).map_err(|_| AllocError)
 }
 
 /// Makes what is planned, with at most three new formulas.

@@ -12,6 +12,9 @@ use Rattle.std.specs.HashMap.{Updates}
 use Rattle.nnf_pnf.specs.Forms.{form, same_id, Known}
 use Rattle.formula_store.proofs.Makes.{keeps_then}
 use Rattle.nnf_pnf.proofs.Kept.{front_then, front_back, known_more}
+use Rattle.formula_meaning.proofs.NormalAgain.{normal_form_itself}
+use Rattle.atom_normal.specs.NormalForm.{negated_normal}
+use Rattle.nnf_pnf.proofs.Normal.{ids_are, is_normal}
 use Rattle.nnf_pnf.proofs.negation.nnf.Goals as goal
 
 order : (c : goal.After-table-1) → IsOrder c.args.store.now (c.args.id ∷ []) c.deref-id-items.result.now
@@ -78,3 +81,16 @@ returns-clause-limited c l e =
     let distinct : ℕ = distinct_count same_atom nat_eq (tree c.args.store.now c.args.id) in
     let count : c.len.result ≡ distinct = search rules in
     not_above l (6 * distinct) (λ h. true≢false (sym (c.passes.ensures.1 (l, e, omega (arith, count, h))) ∙ c.if-passes.false))
+
+pub are_normal-requires : goal.are_normal-requires
+are_normal-requires c =
+    subst (AllByRecursion (IsId c.args.store.now)) (sym c.deref.ensures.value)
+    (ids_are c.args.store.now c.subformulas.ensures.nodes c.args.id c.requires c.in_ok-ids.ids.items c.in_ok-ids.ensures.order.only)
+
+pub returns-then-are_normal-clause-made : goal.returns-then-are_normal-clause-made
+returns-then-are_normal-clause-made c =
+    let nodes = c.args.store.now in
+    let ids : List FormulaId = c.deref.result.now in
+    let order = subst (λ (l : List FormulaId). IsOrder nodes (c.args.id ∷ []) l) (sym c.deref.ensures.value) c.in_ok-ids.ensures.order in
+    let normal = is_normal nodes c.subformulas.ensures.nodes c.args.id c.requires ids order (c.are_normal.ensures c.if-are_normal.true) in
+    record { is = c.requires; same = sym (normal_form_itself negated_normal (tree nodes c.args.id) normal) }
