@@ -1,5 +1,7 @@
 -- What is made stays as more is made, and members as a store has them.
-use Rattle.std.proofs.Common.{◌≡◌, ℕ, ◌+◌, ◌<◌, refl, sym, ap, ◌∙◌, List, [], ◌∷◌, ◌++◌, length, take, map, get_or, Some, arith}
+use Rattle.std.proofs.Common.{◌≡◌, ℕ, ◌+◌, ◌<◌, refl, sym, ap, ◌∙◌, List, [], ◌∷◌, ◌++◌, length, take, map, get_or, Some, arith, nat_eq, eqb-true, true, true≢false}
+use Rattle.std.specs.Cmp.{first_so, second_so}
+use Rattle.std.specs.Cmp.Lexicographic.{pointwise}
 use Rattle.std.proofs.lemmas.List.{take_more}
 use Rattle.std.specs.Prelude.{IfOk}
 use Rattle.std.specs.declared.result.Result.{Result}
@@ -70,3 +72,13 @@ whole_joined t j [] h = absurd (omega arith)
 whole_joined t j (x ∷ []) h = absurd (omega arith)
 whole_joined t Conjunction (x ∷ y ∷ ids) h = refl
 whole_joined t Disjunction (x ∷ y ∷ ids) h = refl
+
+-- ---- lists that are the same
+
+pub ids_same : (xs ys : List FormulaId) → pointwise (λ (a b : FormulaId). nat_eq a.number b.number) xs ys ≡ true → xs ≡ ys
+ids_same [] [] h = refl
+ids_same (x ∷ xs) (y ∷ ys) h =
+    let n : x.number ≡ y.number = eqb-true x.number y.number (first_so (nat_eq x.number y.number) (pointwise (λ (a b : FormulaId). nat_eq a.number b.number) xs ys) h) in
+    let rest = ids_same xs ys (second_so (nat_eq x.number y.number) (pointwise (λ (a b : FormulaId). nat_eq a.number b.number) xs ys) h) in
+    λ i. record { number = n i } ∷ rest i
+ids_same xs ys h = absurd (true≢false (sym h))

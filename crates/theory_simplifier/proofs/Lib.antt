@@ -14,3 +14,4 @@ pub mod SameParts
 pub mod Placing
 pub mod Indexed
 pub mod Staying
+pub mod PartNumbers

@@ -1,13 +1,11 @@
--- Reading a list at the places of one variable part reads all that matters.
-use Rattle.std.proofs.Common.{◌≡◌, ℕ, zero, suc, ◌<◌, Bool, true, false, refl, sym, ap, ◌∙◌, Option, Some, None, List, [], ◌∷◌, ◌++◌, length, take, map, get_or, subst, arith}
+-- Reading a list at the places of one number reads all that matters.
+use Rattle.std.proofs.Common.{◌≡◌, ℕ, zero, suc, ◌<◌, nat_eq, Bool, true, false, refl, sym, ap, ◌∙◌, Option, Some, None, List, [], ◌∷◌, ◌++◌, length, take, map, get_or, subst, arith}
 use Rattle.std.proofs.Math.ListN.{set}
 use Rattle.std.specs.Prelude.{if◌then◌else◌, unwrap_or}
 use Rattle.formula_meaning.specs.Some.{EachOf}
 use Rattle.std.specs.declared.alloc.Global.{Global}
 use Rattle.std.specs.declared.vec.Vec.{Vec}
 use Rattle.std.specs.HashMap.{get}
-use Rattle.formula_meaning.specs.Form.{Form}
-use Rattle.linear_forms.specs.Equality.{form_eq}
 use Rattle.theory_simplifier.specs.Places.{Table, items_of, places_at, places_of}
 use Rattle.theory_simplifier.proofs.Entries.{map_append}
 
@@ -27,14 +25,14 @@ later_length : (is : List ℕ) → length (map suc is) ≡ length is
 later_length [] = refl
 later_length (i ∷ is) = ap suc (later_length is)
 
-module _ {X : Type 0} (part : X → Form) (p : Form) where
+module _ {X : Type 0} (part : X → ℕ) (p : ℕ) where
   abbrev at_part : List X → List ℕ
   at_part xs = places_of part p xs
 
-  -- a place of the variable part is one of the list
+  -- a place of the number is one of the list
   pub place_within : (xs : List X) (k d : ℕ) → k < length (at_part xs) → get_or (at_part xs) k d < length xs
   place_within [] k d h = absurd (omega arith)
-  place_within (x ∷ xs) k d h = split (form_eq (part x) p) k h (λ k h. place_within xs k d h)
+  place_within (x ∷ xs) k d h = split (nat_eq (part x) p) k h (λ k h. place_within xs k d h)
     where
       later : (k : ℕ) → k < length (map suc (at_part xs)) → ((k : ℕ) → k < length (at_part xs) → get_or (at_part xs) k d < length xs) → get_or (map suc (at_part xs)) k d < suc (length xs)
       later k h f =
@@ -56,10 +54,10 @@ module _ {X : Type 0} (part : X → Form) (p : Form) where
     abbrev Before : List X → ℕ → Type 0
     Before xs d = (k : ℕ) → k < length (at_part xs) → EachOf (Holds xs) (take k (at_part xs)) → EachOf P (take (get_or (at_part xs) k d) xs)
 
-    -- what holds of the members of other parts, and at the first k places, holds before the next place
-    pub before_place : (xs : List X) (k d : ℕ) → EachOf (λ x. form_eq (part x) p ≡ false → P x) xs → k < length (at_part xs) → EachOf (Holds xs) (take k (at_part xs)) → EachOf P (take (get_or (at_part xs) k d) xs)
+    -- what holds of the members of other numbers, and at the first k places, holds before the next place
+    pub before_place : (xs : List X) (k d : ℕ) → EachOf (λ x. nat_eq (part x) p ≡ false → P x) xs → k < length (at_part xs) → EachOf (Holds xs) (take k (at_part xs)) → EachOf P (take (get_or (at_part xs) k d) xs)
     before_place [] k d o l h = absurd (omega arith)
-    before_place (x ∷ xs) k d o l h = split (form_eq (part x) p) refl k l h (λ k l h. before_place xs k d o.1 l h)
+    before_place (x ∷ xs) k d o l h = split (nat_eq (part x) p) refl k l h (λ k l h. before_place xs k d o.1 l h)
       where
         later : P x → (k : ℕ) → k < length (map suc (at_part xs)) → EachOf (Holds (x ∷ xs)) (take k (map suc (at_part xs))) → Before xs d → EachOf P (take (get_or (map suc (at_part xs)) k d) (x ∷ xs))
         later q k l h f =
@@ -68,16 +66,16 @@ module _ {X : Type 0} (part : X → Form) (p : Form) where
             subst (λ (i : ℕ). EachOf P (take i (x ∷ xs))) (sym e)
             (q, f k (omega arith) (later_each (Holds (x ∷ xs)) (Holds xs) (λ i z. z) (at_part xs) k h))
 
-        split : (b : Bool) → form_eq (part x) p ≡ b → (k : ℕ) → k < length (if b then 0 ∷ map suc (at_part xs) else map suc (at_part xs)) → EachOf (Holds (x ∷ xs)) (take k (if b then 0 ∷ map suc (at_part xs) else map suc (at_part xs)))
+        split : (b : Bool) → nat_eq (part x) p ≡ b → (k : ℕ) → k < length (if b then 0 ∷ map suc (at_part xs) else map suc (at_part xs)) → EachOf (Holds (x ∷ xs)) (take k (if b then 0 ∷ map suc (at_part xs) else map suc (at_part xs)))
             → Before xs d → EachOf P (take (get_or (if b then 0 ∷ map suc (at_part xs) else map suc (at_part xs)) k d) (x ∷ xs))
         split true e zero l h f = tt
         split true e (suc k) l h f = later h.0 k (omega arith) h.1 f
         split false e k l h f = later (o.0 e) k l h f
 
     -- and at all of them, of the whole list
-    pub at_places : (xs : List X) → EachOf (λ x. form_eq (part x) p ≡ false → P x) xs → EachOf (Holds xs) (at_part xs) → EachOf P xs
+    pub at_places : (xs : List X) → EachOf (λ x. nat_eq (part x) p ≡ false → P x) xs → EachOf (Holds xs) (at_part xs) → EachOf P xs
     at_places [] o h = tt
-    at_places (x ∷ xs) o h = split (form_eq (part x) p) refl h (λ h. at_places xs o.1 h)
+    at_places (x ∷ xs) o h = split (nat_eq (part x) p) refl h (λ h. at_places xs o.1 h)
       where
         all_later : (Q R : ℕ → Type 0) → ((i : ℕ) → Q (suc i) → R i) → (is : List ℕ) → EachOf Q (map suc is) → EachOf R is
         all_later Q R f [] h = tt
@@ -86,18 +84,18 @@ module _ {X : Type 0} (part : X → Form) (p : Form) where
         rest : EachOf (Holds (x ∷ xs)) (map suc (at_part xs)) → EachOf (Holds xs) (at_part xs)
         rest h = all_later (Holds (x ∷ xs)) (Holds xs) (λ i z. z) (at_part xs) h
 
-        split : (b : Bool) → form_eq (part x) p ≡ b → EachOf (Holds (x ∷ xs)) (if b then 0 ∷ map suc (at_part xs) else map suc (at_part xs)) → (EachOf (Holds xs) (at_part xs) → EachOf P xs) → EachOf P (x ∷ xs)
+        split : (b : Bool) → nat_eq (part x) p ≡ b → EachOf (Holds (x ∷ xs)) (if b then 0 ∷ map suc (at_part xs) else map suc (at_part xs)) → (EachOf (Holds xs) (at_part xs) → EachOf P xs) → EachOf P (x ∷ xs)
         split true e h f = (h.0, f (rest h.1))
         split false e h f = (o.0 e, f (rest h))
 
-  -- ---- a member more, and another member of its part
+  -- ---- a member more, and another member of its number
 
   later_last : (is : List ℕ) (n : ℕ) → map suc (is ++ n ∷ []) ≡ map suc is ++ suc n ∷ []
   later_last is n = map_append suc is (n ∷ [])
 
-  pub places_last : (xs : List X) (y : X) → places_of part p (xs ++ y ∷ []) ≡ (if form_eq (part y) p then places_of part p xs ++ length xs ∷ [] else places_of part p xs)
+  pub places_last : (xs : List X) (y : X) → places_of part p (xs ++ y ∷ []) ≡ (if nat_eq (part y) p then places_of part p xs ++ length xs ∷ [] else places_of part p xs)
   places_last [] y = refl
-  places_last (x ∷ xs) y = ap (λ is. if form_eq (part x) p then 0 ∷ map suc is else map suc is) (places_last xs y) ∙ split (form_eq (part x) p) (form_eq (part y) p)
+  places_last (x ∷ xs) y = ap (λ is. if nat_eq (part x) p then 0 ∷ map suc is else map suc is) (places_last xs y) ∙ split (nat_eq (part x) p) (nat_eq (part y) p)
     where
       split : (b t : Bool) → (if b then 0 ∷ map suc (if t then at_part xs ++ length xs ∷ [] else at_part xs) else map suc (if t then at_part xs ++ length xs ∷ [] else at_part xs))
           ≡ (if t then (if b then 0 ∷ map suc (at_part xs) else map suc (at_part xs)) ++ suc (length xs) ∷ [] else (if b then 0 ∷ map suc (at_part xs) else map suc (at_part xs)))
@@ -108,14 +106,14 @@ module _ {X : Type 0} (part : X → Form) (p : Form) where
 
   pub places_set : (xs : List X) (i : ℕ) (y d : X) → i < length xs → part y ≡ part (get_or xs i d) → places_of part p (set xs i y) ≡ places_of part p xs
   places_set [] i y d l e = absurd (omega arith)
-  places_set (x ∷ xs) zero y d l e = ap (λ (f : Form). if form_eq f p then 0 ∷ map suc (at_part xs) else map suc (at_part xs)) e
-  places_set (x ∷ xs) (suc i) y d l e = ap (λ is. if form_eq (part x) p then 0 ∷ map suc is else map suc is) (places_set xs i y d (omega arith) e)
+  places_set (x ∷ xs) zero y d l e = ap (λ (f : ℕ). if nat_eq f p then 0 ∷ map suc (at_part xs) else map suc (at_part xs)) e
+  places_set (x ∷ xs) (suc i) y d l e = ap (λ is. if nat_eq (part x) p then 0 ∷ map suc is else map suc is) (places_set xs i y d (omega arith) e)
 
--- what is there for a variable part, after the list with one more place was put there for one of them
-pub placed : (old : Table) (part p : Form) (place : ℕ) (v : Vec ℕ Global) (o : Option (Vec ℕ Global)) → v.items ≡ places_at old part ++ place ∷ [] → o ≡ (if form_eq part p then Some v else get form_eq old p) → items_of o ≡ (if form_eq part p then places_at old part ++ place ∷ [] else places_at old p)
-placed old part p place v o items got = ap items_of got ∙ split (form_eq part p)
+-- what is there for a number, after the list with one more place was put there for one of them
+pub placed : (old : Table) (part p : ℕ) (place : ℕ) (v : Vec ℕ Global) (o : Option (Vec ℕ Global)) → v.items ≡ places_at old part ++ place ∷ [] → o ≡ (if nat_eq part p then Some v else get nat_eq old p) → items_of o ≡ (if nat_eq part p then places_at old part ++ place ∷ [] else places_at old p)
+placed old part p place v o items got = ap items_of got ∙ split (nat_eq part p)
   where
-    split : (b : Bool) → items_of (if b then Some v else get form_eq old p) ≡ (if b then places_at old part ++ place ∷ [] else places_at old p)
+    split : (b : Bool) → items_of (if b then Some v else get nat_eq old p) ≡ (if b then places_at old part ++ place ∷ [] else places_at old p)
     split true = items
     split false = refl
 

@@ -1,5 +1,5 @@
--- What the atoms of a list say of an atom, and with which of them it merges, by those of its variable part.
-use Rattle.std.proofs.Common.{◌≡◌, ℕ, zero, suc, ◌<◌, Bool, true, false, nat_eq, refl, sym, ap, ◌∙◌, Option, Some, None, List, [], ◌∷◌, length, take, map, get_or, arith, eqb-true, ⊎_elim}
+-- What the atoms of a list say of an atom, and with which of them it merges, by those of its number.
+use Rattle.std.proofs.Common.{◌≡◌, ℕ, zero, suc, ◌<◌, Bool, true, false, nat_eq, refl, sym, ap, ◌∙◌, Option, Some, None, List, [], ◌∷◌, length, take, map, get_or, arith, eqb-true, eq-eqb, ⊎_elim}
 use Rattle.std.specs.Prelude.{if◌then◌else◌, pos, ◌-ℤ◌}
 use Rattle.std.specs.Option.{is_some}
 use Rattle.exact_numbers.specs.Divides.{residue_of}
@@ -16,7 +16,7 @@ use Rattle.atom_merging.proofs.Computed.{ComesOf, compared, congruent, merged_co
 use Rattle.simplified_formulas.specs.Atoms.{tells}
 use Rattle.simplified_formulas.specs.AtomKit.{atom_kit}
 use Rattle.simplified_formulas.specs.Pass.{first_answer, decided}
-use Rattle.theory_simplifier.specs.VariableParts.{part_of}
+use Rattle.theory_simplifier.specs.VariableParts.{part_of, part_number, number_from, magnitude}
 use Rattle.theory_simplifier.proofs.Entries.{tells_normal}
 use Rattle.theory_simplifier.proofs.SameParts.{kept_apart, undecided_apart}
 
@@ -47,6 +47,12 @@ told_part Disjunction (Congruent false m f) = congruence_part true m f
 different : (f g : Form) → form_eq f g ≡ false → ¬ (f ≡ g)
 different f g e h = let w : false ≡ true = sym e ∙ (form_decides f g).1 h in absurd (cc (w))
 
+other_parts : (b a : Atom) → nat_eq (part_number b) (part_number a) ≡ false → ¬ (part_of b ≡ part_of a)
+other_parts b a e h =
+    let same : part_number b ≡ part_number a = ap (λ (f : Form). number_from (magnitude f.constant) f.terms) h in
+    let w : false ≡ true = sym e ∙ eq-eqb (part_number b) (part_number a) same in
+    absurd (cc (w))
+
 -- a merged atom has the variable part of the two
 comes_part : (a d : Atom) → ComesOf a d → part_of d ≡ part_of a
 comes_part _ _ (compared r q f k e) = refl
@@ -60,15 +66,15 @@ module _ (c : Context) (j : Junction) (a : Atom) where
   abbrev pub IsApart : Atom → Type 0
   IsApart b = merged c j b a ≡ Kept
 
-  -- an atom of another variable part is silent and apart
-  pub others_silent : IsNormal c a → (us : List Atom) → EachOf (IsNormalWithin c) us → EachOf (λ b. form_eq (part_of b) (part_of a) ≡ false → IsSilent b) us
+  -- an atom of another number is silent and apart
+  pub others_silent : IsNormal c a → (us : List Atom) → EachOf (IsNormalWithin c) us → EachOf (λ b. nat_eq (part_number b) (part_number a) ≡ false → IsSilent b) us
   others_silent n [] h = tt
   others_silent n (b ∷ us) h =
-      ((λ e. sym (undecided_apart c (tells negated_normal j b) a (tells_normal c j b h.0).normal n (λ s. different (part_of b) (part_of a) e (sym (told_part j b) ∙ s)))), others_silent n us h.1)
+      ((λ e. sym (undecided_apart c (tells negated_normal j b) a (tells_normal c j b h.0).normal n (λ s. other_parts b a e (sym (told_part j b) ∙ s)))), others_silent n us h.1)
 
-  pub others_apart : IsNormal c a → (us : List Atom) → EachOf (IsNormalWithin c) us → EachOf (λ b. form_eq (part_of b) (part_of a) ≡ false → IsApart b) us
+  pub others_apart : IsNormal c a → (us : List Atom) → EachOf (IsNormalWithin c) us → EachOf (λ b. nat_eq (part_number b) (part_number a) ≡ false → IsApart b) us
   others_apart n [] h = tt
-  others_apart n (b ∷ us) h = ((λ e. sym (kept_apart c b a h.0.normal n (different (part_of b) (part_of a) e) j)), others_apart n us h.1)
+  others_apart n (b ∷ us) h = ((λ e. sym (kept_apart c b a h.0.normal n (other_parts b a e) j)), others_apart n us h.1)
 
   -- what an atom of the list and a become has the part of that atom
   pub merged_part : (b d : Atom) → IsNormal c b → IsNormal c a → merged c j b a ≡ Into d → part_of d ≡ part_of b

@@ -27,8 +27,8 @@ use Rattle.simplified_formulas.specs.AtomsFirst.{ones}
 use Rattle.simplified_formulas.specs.Simplifiable.{IsSimplifiable}
 use Rattle.formula_tree.specs.Trees.{members}
 use Rattle.theory_simplifier.specs.Parts.{one_tree}
-use Rattle.theory_simplifier.specs.VariableParts.{part_of}
-use Rattle.theory_simplifier.specs.Unchanged.{mixed, key_from, key_of, NoneMerges, AreTaken}
+use Rattle.theory_simplifier.specs.VariableParts.{part_of, mixed}
+use Rattle.theory_simplifier.specs.Unchanged.{key_from, key_of, NoneMerges, AreTaken}
 use Rattle.theory_simplifier.proofs.Partners.{with_last}
 use Rattle.theory_simplifier.proofs.SameParts.{kept_apart}
 
@@ -51,7 +51,7 @@ other_parts a b h e = h (sym (key_part b) ∙ ap (λ p. key_from 0 p.terms) e �
 
 -- ---- the names of a form, one after another
 
-drop_next : (ts : List Term) (i : ℕ) (t : Term) → slice_get ts i ≡ Some t → drop i ts ≡ t ∷ drop (suc i) ts
+pub drop_next : (ts : List Term) (i : ℕ) (t : Term) → slice_get ts i ≡ Some t → drop i ts ≡ t ∷ drop (suc i) ts
 drop_next [] i t e = absurd (cc (e))
 drop_next (x ∷ ts) zero t e = let h : x ≡ t = cc (e) in ap (λ y. y ∷ ts) h
 drop_next (x ∷ ts) (suc i) t e = drop_next ts i t e
@@ -69,7 +69,7 @@ pub key_begins : (ts : List Term) → key_from 0 (drop 0 ts) ≡ key_from 0 ts
 key_begins [] = refl
 key_begins (t ∷ ts) = refl
 
-drop_all : (ts : List Term) (i : ℕ) → length ts ≤ i → drop i ts ≡ []
+pub drop_all : (ts : List Term) (i : ℕ) → length ts ≤ i → drop i ts ≡ []
 drop_all [] zero h = refl
 drop_all [] (suc i) h = refl
 drop_all (t ∷ ts) zero h = absurd (omega arith)

@@ -1,5 +1,5 @@
 -- Lists of atoms that a pass takes as they come.
-use Rattle.std.specs.Prelude.{◌≡◌, ◌+◌, ◌*◌, ◌%◌, ◌^◌, ◌++◌, ℕ, List, [], ◌∷◌, map}
+use Rattle.std.specs.Prelude.{◌≡◌, ◌++◌, ℕ, List, [], ◌∷◌, map}
 use Rattle.formula_meaning.specs.Context.{Context}
 use Rattle.formula_meaning.specs.Some.{EachOf}
 use Rattle.formula_meaning.specs.Form.{Term}
@@ -8,10 +8,7 @@ use Rattle.formula_meaning.specs.Tree.{Tree}
 use Rattle.formula_meaning.specs.declared.junction.Junction.{Junction}
 use Rattle.atom_merging.specs.Computed.{IsNormalWithin, Kept, merged}
 use Rattle.theory_simplifier.specs.Parts.{one_tree}
-
--- a number of some names and another name
-unfoldable pub mixed : ℕ → ℕ → ℕ
-mixed key name = (key * 1000003 % 2 ^ 64 + name) % 2 ^ 64
+use Rattle.theory_simplifier.specs.VariableParts.{mixed}
 
 -- the number of some names and those of the terms
 abbrev pub key_from : ℕ → List Term → ℕ

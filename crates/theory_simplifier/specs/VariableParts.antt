@@ -1,5 +1,5 @@
 -- The variable part of an atom, by which the atoms that can merge with it or decide it are told.
-use Rattle.std.specs.Prelude.{pos, List, if◌then◌else◌}
+use Rattle.std.specs.Prelude.{ℕ, ℤ, int_lt, pos, nat_abs, ◌+◌, ◌*◌, ◌%◌, ◌^◌, List, [], ◌∷◌, if◌then◌else◌}
 use Rattle.std.specs.Ordering.{int_eq}
 use Rattle.exact_numbers.specs.Divides.{content_of}
 use Rattle.formula_meaning.specs.Form.{Form, Term}
@@ -15,3 +15,24 @@ part_terms ts = if int_eq (content_of (coefficients ts)) (pos 0) then ts else qu
 abbrev pub part_of : Atom → Form
 part_of (Compare r f) = record { terms = part_terms f.terms; constant = pos 0 }
 part_of (Congruent b m f) = record { terms = f.terms; constant = pos m }
+
+-- a number with another one mixed in
+unfoldable pub mixed : ℕ → ℕ → ℕ
+mixed key next = (key * 1000003 % 2 ^ 64 + next) % 2 ^ 64
+
+-- the last 64 bits of the absolute value
+abbrev pub magnitude : ℤ → ℕ
+magnitude n = nat_abs n % 2 ^ 64
+
+-- 1 for a negative number, else 0
+abbrev pub sign_of : ℤ → ℕ
+sign_of n = if int_lt n (pos 0) then 1 else 0
+
+-- a number of some terms and another one
+abbrev pub number_from : ℕ → List Term → ℕ
+number_from n [] = n
+number_from n (t ∷ ts) = number_from (mixed (mixed (mixed n t.name) (sign_of t.times)) (magnitude t.times)) ts
+
+-- a number of the variable part
+abbrev pub part_number : Atom → ℕ
+part_number a = number_from (magnitude (part_of a).constant) (part_of a).terms

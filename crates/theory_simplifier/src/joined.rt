@@ -9,16 +9,15 @@ ghost use Rattle.atom_normal.specs.NormalForm.{IsNormal};
 ghost use Rattle.atom_merging.specs.Computed.{IsNormalWithin, merged, merging_of};
 ghost use Rattle.simplified_formulas.specs.AtomKit.{atom_kit};
 ghost use Rattle.simplified_formulas.specs.Pass.{decided, with_one};
-ghost use Rattle.theory_simplifier.specs.VariableParts.{part_of};
+ghost use Rattle.theory_simplifier.specs.VariableParts.{part_number};
 ghost use Rattle.theory_simplifier.specs.Listed.{Listed, told_by, entry_atom, IsEntry};
 ghost use Rattle.theory_simplifier.specs.Partners.{IsPartner, IsNormalMerged};
 
-use crate::part::variable_part;
+use crate::part::part_number;
 use crate::places::{Places, places_at, with_place};
 use atom_merging::{Merged, decides, merge_and, merge_or};
 use atom_normal::{Atom, Context, negate};
 use formula_meaning::Junction;
-use linear_forms::Linear;
 use std::alloc::{AllocError, Global};
 use std::collections::HashMap;
 use std::marker::Model;
@@ -30,7 +29,7 @@ pub(crate) struct Entry {
     pub(crate) told: Atom,
 }
 
-/// The atoms of a conjunction or a disjunction. An atom is held only against those of its own variable part.
+/// The atoms of a conjunction or a disjunction. An atom is held only against those whose variable parts have the number of its own.
 #[derive(Drop)]
 pub(crate) struct Joined {
     junction: Junction,
@@ -42,14 +41,14 @@ impl Model for Joined {
     ghost use Rattle.std.specs.Prelude.{map};
     ghost use Rattle.std.specs.List.{AllByRecursion};
     ghost use Rattle.theory_simplifier.specs.Listed.{Listed, entry_atom, IsEntry};
-    ghost use Rattle.theory_simplifier.specs.VariableParts.{part_of};
+    ghost use Rattle.theory_simplifier.specs.VariableParts.{part_number};
     ghost use Rattle.theory_simplifier.specs.Places.{ArePlaces};
 
     ghost Value = { Listed };
 
     ghost view = { λ l. record { junction = l.junction; atoms = map entry_atom l.entries.items } };
 
-    ghost invariant = { λ l. AllByRecursion (IsEntry l.junction) l.entries.items × ArePlaces part_of l.places (map entry_atom l.entries.items) };
+    ghost invariant = { λ l. AllByRecursion (IsEntry l.junction) l.entries.items × ArePlaces part_number l.places (map entry_atom l.entries.items) };
 }
 
 impl Joined {
@@ -71,17 +70,17 @@ impl Joined {
     {
         let mut list = Joined::new(alloc, Junction::Conjunction);
         for atom in atoms {
-            let part = variable_part(alloc, atom)?;
+            let part = part_number(alloc, atom)?;
             list = list.with_last(alloc, atom, part)?;
         }
         Ok(list)
     }
 
-    /// The truth of the atom, which has this variable part, by what the atoms tell: that of the first that decides it. It takes no
+    /// The truth of the atom, whose variable part has this number, by what the atoms tell: that of the first that decides it. It takes no
     /// memory.
-    pub(crate) fn decided(&self, context: Context, atom: &Atom, part: &Linear) -> Option<bool>
+    pub(crate) fn decided(&self, context: Context, atom: &Atom, part: u64) -> Option<bool>
         requires well_formed { IsWellFormed atom.now }
-        requires part { part.now ≡ part_of (atom_of atom.now) }
+        requires part { part ≡ part_number (atom_of atom.now) }
         requires normal { IsNormalWithin (context_of context) (atom_of atom.now) }
         requires atoms { EachOf (IsNormalWithin (context_of context)) self.now.atoms }
         ensures { result ≡ decided (atom_kit (context_of context)) (told_by self.now) (atom_of atom.now) }
@@ -98,24 +97,24 @@ impl Joined {
         None
     }
 
-    /// The list with the atom, which has this variable part: it takes the place of the first with which it merges, else it comes
+    /// The list with the atom, whose variable part has this number: it takes the place of the first with which it merges, else it comes
     /// last. `None` where the two settle the list.
     pub(crate) fn with(
         self,
         alloc: Global,
         context: Context,
         atom: &Atom,
-        part: Linear,
+        part: u64,
     ) -> Result<Option<Joined>, AllocError>
         requires well_formed { IsWellFormed atom.now }
-        requires part { part ≡ part_of (atom_of atom.now) }
+        requires part { part ≡ part_number (atom_of atom.now) }
         requires normal { IsNormalWithin (context_of context) (atom_of atom.now) }
         requires atoms { EachOf (IsNormalWithin (context_of context)) self.atoms }
         ensures with { IfOk result (λ r. with_one (atom_kit (context_of context)) self.junction (atom_of atom.now) self.atoms ≡ option_map (λ (l : Listed). l.atoms) r) }
         ensures junction { IfOk result (λ r. IfSome r (λ l. l.junction ≡ self.junction)) }
         ensures normal { IfOk result (λ r. IfSome r (λ l. EachOf (IsNormalWithin (context_of context)) l.atoms)) }
     {
-        let Some((place, merged)) = self.partner(alloc, context, atom, &part)? else {
+        let Some((place, merged)) = self.partner(alloc, context, atom, part)? else {
             let list = self.with_last(alloc, atom, part)?;
             return Ok(Some(list));
         };
@@ -149,10 +148,10 @@ impl Joined {
         alloc: Global,
         context: Context,
         atom: &Atom,
-        part: &Linear,
+        part: u64,
     ) -> Result<Option<(usize, Merged)>, AllocError>
         requires well_formed { IsWellFormed atom.now }
-        requires part { part.now ≡ part_of (atom_of atom.now) }
+        requires part { part ≡ part_number (atom_of atom.now) }
         requires normal { IsNormalWithin (context_of context) (atom_of atom.now) }
         requires atoms { EachOf (IsNormalWithin (context_of context)) self.now.atoms }
         ensures { IfOk result (IsPartner (context_of context) self.now.junction (atom_of atom.now) self.now.atoms) }
@@ -167,10 +166,10 @@ impl Joined {
         Ok(None)
     }
 
-    // The list with the atom last, which has this variable part.
-    fn with_last(self, alloc: Global, atom: &Atom, part: Linear) -> Result<Joined, AllocError>
+    // The list with the atom last, whose variable part has this number.
+    fn with_last(self, alloc: Global, atom: &Atom, part: u64) -> Result<Joined, AllocError>
         requires well_formed { IsWellFormed atom.now }
-        requires part { part ≡ part_of (atom_of atom.now) }
+        requires part { part ≡ part_number (atom_of atom.now) }
         ensures { IfOk result (λ l. l ≡ record { junction = self.junction; atoms = self.atoms ++ atom_of atom.now ∷ [] }) }
     {
         let Joined {
@@ -193,7 +192,7 @@ impl Joined {
     fn with_at(self, alloc: Global, place: usize, atom: Atom) -> Result<Joined, AllocError>
         requires well_formed { IsWellFormed atom }
         requires place { place < length self.atoms }
-        requires part { part_of (atom_of atom) ≡ part_of (get_or self.atoms place (atom_of atom)) }
+        requires part { part_number (atom_of atom) ≡ part_number (get_or self.atoms place (atom_of atom)) }
         ensures { IfOk result (λ l. l ≡ record { junction = self.junction; atoms = set self.atoms place (atom_of atom) }) }
     {
         let Joined {

@@ -5,13 +5,13 @@ ghost use Rattle.atom_normal.specs.Atoms.{context_of, atom_of, IsWellFormed};
 ghost use Rattle.atom_merging.specs.Computed.{IsNormalWithin};
 ghost use Rattle.simplified_formulas.specs.AtomKit.{atom_kit};
 ghost use Rattle.simplified_formulas.specs.Pass.{decided};
-ghost use Rattle.theory_simplifier.specs.VariableParts.{part_of};
+ghost use Rattle.theory_simplifier.specs.VariableParts.{part_number};
 ghost use Rattle.theory_simplifier.specs.Known.{inside, known_atoms, AreNormalFrames};
 
 use crate::free::has_name;
 use crate::joined::Joined;
 use atom_normal::{Atom, Context};
-use linear_forms::{Linear, VarId};
+use linear_forms::VarId;
 use std::alloc::{AllocError, Global};
 use std::marker::Model;
 
@@ -89,9 +89,9 @@ impl Known {
 
     /// The truth of the atom by the known ones: that of the first that decides it. An atom that has a name is decided by atoms
     /// that have it alone, so what is outside of a quantifier of a name of the atom is not looked at. It takes no memory.
-    pub(crate) fn decided(&self, context: Context, atom: &Atom, part: &Linear) -> Option<bool>
+    pub(crate) fn decided(&self, context: Context, atom: &Atom, part: u64) -> Option<bool>
         requires well_formed { IsWellFormed atom.now }
-        requires part { part.now ≡ part_of (atom_of atom.now) }
+        requires part { part ≡ part_number (atom_of atom.now) }
         requires normal { IsNormalWithin (context_of context) (atom_of atom.now) }
         requires known { AreNormalFrames (context_of context) self.now }
         ensures { result ≡ decided (atom_kit (context_of context)) (known_atoms self.now) (atom_of atom.now) }

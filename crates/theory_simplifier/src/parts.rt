@@ -23,7 +23,7 @@ ghost use Rattle.theory_simplifier.specs.Parts.{same_id, parts_of, IsListOf, Has
 
 use crate::joined::Joined;
 use crate::known::Known;
-use crate::part::variable_part;
+use crate::part::part_number;
 use atom_normal::{Atom, Context};
 use formula_meaning::Junction;
 use formula_store::{FormulaId, Store};
@@ -110,8 +110,8 @@ pub(crate) fn with_atom(
     let Parts::Open(atoms, others) = parts else {
         return Ok(Parts::Closed);
     };
-    let part = variable_part(alloc, atom)?;
-    if let Some(truth) = known.decided(context, atom, &part) {
+    let part = part_number(alloc, atom)?;
+    if let Some(truth) = known.decided(context, atom, part) {
         if settles(junction, truth) {
             return Ok(Parts::Closed);
         }

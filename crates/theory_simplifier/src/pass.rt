@@ -19,7 +19,7 @@ ghost use Rattle.theory_simplifier.specs.Parts.{parts_of, is_one, IsListOf, HasI
 use crate::closing::{closed, constant, made, quantified_over};
 use crate::free::is_free;
 use crate::known::{Frame, Known};
-use crate::part::variable_part;
+use crate::part::part_number;
 use crate::parts::{Parts, with_atoms, with_member};
 use crate::unchanged::is_unchanged;
 use atom_normal::Context;
@@ -50,19 +50,35 @@ pub(crate) fn passed(
     }
     match store.shape(id) {
         Shape::One(atom) => {
-            let part = variable_part(alloc, atom)?;
-            match known.decided(context, atom, &part) {
+            let part = part_number(alloc, atom)?;
+            match known.decided(context, atom, part) {
                 Some(truth) => constant(store, truth),
                 None => Ok(id),
             }
         }
         Shape::And(ids) => {
             let ids = listed(alloc, ids.items())?;
-            list_passed(alloc, store, context, Junction::Conjunction, &ids, known)
+            list_passed(
+                alloc,
+                store,
+                context,
+                Junction::Conjunction,
+                id,
+                &ids,
+                known,
+            )
         }
         Shape::Or(ids) => {
             let ids = listed(alloc, ids.items())?;
-            list_passed(alloc, store, context, Junction::Disjunction, &ids, known)
+            list_passed(
+                alloc,
+                store,
+                context,
+                Junction::Disjunction,
+                id,
+                &ids,
+                known,
+            )
         }
         Shape::Ex(x, f) => {
             let (x, f) = (*x, *f);
@@ -113,16 +129,19 @@ fn quantified_passed(
     }
 }
 
-// The list of these members after one pass: its atoms come first, and the other members are passed under what they tell.
+// The list of these members after one pass: its atoms come first, and the other members are passed under what they tell. It may be
+// the formula with this id again.
 #[cycle(passed)]
 fn list_passed(
     alloc: Global,
     store: &mut Store,
     context: Context,
     junction: Junction,
+    before: FormulaId,
     ids: &[FormulaId],
     known: &mut Known,
 ) -> Result<FormulaId, AllocError>
+    requires before { IsId store.old before }
     requires ids { AllByRecursion (IsId store.old) ids.now }
     requires formulas { AreOrderly (IsNormalWithin (context_of context)) (members (map (tree store.old) ids.now)) }
     requires known { AreNormalFrames (context_of context) known.old }
@@ -132,7 +151,7 @@ fn list_passed(
 {
     let parts = with_atoms(alloc, store, context, junction, known, ids)?;
     let parts = others_passed(alloc, store, context, junction, ids, known, parts)?;
-    closed(alloc, store, junction, parts)
+    closed(alloc, store, junction, parts, before)
 }
 
 // The list with its other members, each passed under what is known by then.

@@ -29,6 +29,7 @@ use crate::known::{Frame, Known};
 use crate::pass::passed;
 use atom_normal::{Atom, Context};
 use formula_store::{FormulaId, Store};
+use formula_tree::Shape;
 use std::alloc::{AllocError, Global};
 
 /// The shared formula simplified under the assumptions `theory`: it has the formula's truth wherever all of them are true, is
@@ -79,8 +80,30 @@ pub fn simplify(
     if nodes == u64::MAX {
         return Err(SimplError::Memory);
     }
+    Ok(repeated_under(alloc, store, context, id, theory)?)
+}
+
+// The formula passed under the assumptions as long as it gets smaller. A constant stays.
+fn repeated_under(
+    alloc: Global,
+    store: &mut Store,
+    context: Context,
+    id: FormulaId,
+    theory: &[Atom],
+) -> Result<FormulaId, AllocError>
+    requires id { IsId store.old id }
+    requires formula { IsSimplifiable (context_of context) (tree store.old id) }
+    requires small { nodes (tree store.old id) < most_nodes }
+    requires well_formed { AllByRecursion IsWellFormed theory.now }
+    requires theory { EachOf (IsNormal (context_of context)) (map atom_of theory.now) }
+    ensures made { IfOk result (λ r. IsMade (IsId store.new) (tree store.new) r (simplified_under (context_of context) (map atom_of theory.now) (tree store.old id))) }
+    ensures kept { Keeps (IsId store.old) (tree store.old) (IsId store.new) (tree store.new) }
+{
+    if matches!(store.shape(id), Shape::True | Shape::False) {
+        return Ok(id);
+    }
     let mut known = assumed(alloc, theory)?;
-    Ok(repeated(alloc, store, context, id, &mut known)?)
+    repeated(alloc, store, context, id, &mut known)
 }
 
 // The assumptions as what is known at the top.

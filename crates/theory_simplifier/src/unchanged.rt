@@ -10,13 +10,14 @@ ghost use Rattle.simplified_formulas.specs.Pass.{pass};
 ghost use Rattle.simplified_formulas.specs.Simplifiable.{IsSimplifiable};
 ghost use Rattle.formula_store.specs.Nodes.{IsId, tree};
 ghost use Rattle.theory_simplifier.specs.Known.{known_atoms};
-ghost use Rattle.theory_simplifier.specs.Unchanged.{mixed, key_of, AreTaken};
+ghost use Rattle.theory_simplifier.specs.Unchanged.{key_of, AreTaken};
+ghost use Rattle.theory_simplifier.specs.VariableParts.{mixed};
 
 use crate::known::Known;
 use atom_normal::Atom;
 use formula_store::{FormulaId, Store};
 use formula_tree::Shape;
-use linear_forms::{Linear, VarId};
+use linear_forms::Linear;
 use std::alloc::{AllocError, Global};
 use std::collections::HashSet;
 
@@ -46,7 +47,7 @@ fn are_apart(alloc: Global, store: &Store, ids: &[FormulaId]) -> Result<bool, Al
     requires { AllByRecursion (IsId store.now) ids.now }
     ensures { IfOk result (λ apart. IsTrue apart → AreTaken (map (tree store.now) ids.now)) }
 {
-    let mut keys = HashSet::new(alloc);
+    let mut keys = HashSet::with_capacity(alloc, ids.len())?;
     for id in ids {
         let Shape::One(atom) = store.shape(*id) else {
             return Ok(false);
@@ -66,7 +67,7 @@ fn key_of(atom: &Atom) -> u64
     let mut key = 0;
     for place in 0..form.places() {
         if let Some((name, _)) = form.term(place) {
-            key = mixed(key, name);
+            key = mixed(key, name.number as u64);
         }
     }
     key
@@ -81,9 +82,9 @@ fn form_of(atom: &Atom) -> &Linear
     }
 }
 
-// The number of some names with another.
-fn mixed(key: u64, name: VarId) -> u64
-    ensures { result ≡ mixed key name.number }
+/// A number with another one mixed in.
+pub(crate) fn mixed(key: u64, next: u64) -> u64
+    ensures { result ≡ mixed key next }
 {
-    key.wrapping_mul(1_000_003).wrapping_add(name.number as u64)
+    key.wrapping_mul(1_000_003).wrapping_add(next)
 }

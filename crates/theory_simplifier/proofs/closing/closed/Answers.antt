@@ -9,17 +9,20 @@ use Rattle.theory_simplifier.specs.Parts.{parts_of, HasIds}
 use Rattle.theory_simplifier.proofs.Keeping.{if_ok_map, keeps_then, still_ids, still_trees, all_joined, ones_members}
 use Rattle.theory_simplifier.proofs.closing.closed.Goals as goal
 
-pub whole-requires : goal.whole-requires
-whole-requires c =
+pub whole-requires-clause-before : goal.whole-requires-clause-before
+whole-requires-clause-before c = c.atoms_made.ensures.kept.is c.args.before c.requires.before
+
+pub whole-requires-clause-ids : goal.whole-requires-clause-ids
+whole-requires-clause-ids c =
     let all : c.extend_from_slice.new.self.items ≡ c.in_ok-ids.ids.items ++ c.in-Open.others = search rules in
-    let old : AllByRecursion (IsId c.args.store.now) c.in-Open.others = subst (HasIds c.args.store.now) c.in-Open.is c.requires in
+    let old : AllByRecursion (IsId c.args.store.now) c.in-Open.others = subst (HasIds c.args.store.now) c.in-Open.is c.requires.ids in
     subst (AllByRecursion (IsId c.atoms_made.new.store)) (sym all)
     (all_joined (IsId c.atoms_made.new.store) c.in_ok-ids.ids.items c.in-Open.others c.in_ok-ids.ensures.are (still_ids c.args.store.now c.atoms_made.new.store c.atoms_made.ensures.kept c.in-Open.others old))
 
 pub returns-clause-made : goal.returns-clause-made
 returns-clause-made c =
     let all : c.extend_from_slice.new.self.items ≡ c.in_ok-ids.ids.items ++ c.in-Open.others = search rules in
-    let old : AllByRecursion (IsId c.args.store.now) c.in-Open.others = subst (HasIds c.args.store.now) c.in-Open.is c.requires in
+    let old : AllByRecursion (IsId c.args.store.now) c.in-Open.others = subst (HasIds c.args.store.now) c.in-Open.is c.requires.ids in
     let j = c.args.junction in
     let t = tree c.atoms_made.new.store in
     let list : from_pieces j (Some (members (map t c.extend_from_slice.new.self.items))) ≡ close j (parts_of (tree c.args.store.now) c.args.parts) =

@@ -109,3 +109,6 @@ quantified_passed-returns-else-is_free-clause-made t c =
       is = c.in_ok-inner.ensures.made.is;
       same = loses_quantifier o c.args.x (tree c.args.store.now c.args.id) (tree c.passed.new.store c.in_ok-inner.inner) c.args.known.now made c.args.quantifier (sym (c.is_free.ensures o) ∙ c.if-is_free.false);
     }
+
+pub list_passed-returns-clause-kept : goal.list_passed-returns-clause-kept
+list_passed-returns-clause-kept t c = keeps_then c.args.store.now c.others_passed.new.store c.closed.new.store c.others_passed.ensures.kept c.closed.ensures.kept

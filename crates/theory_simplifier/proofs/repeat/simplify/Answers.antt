@@ -1,14 +1,12 @@
-use Rattle.std.proofs.Common.{◌≡◌, ◌≤◌, ◌<◌, ℕ, List, length, map, sym, ap, subst, ◌∙◌}
+use Rattle.std.proofs.Common.{◌≡◌, ◌≤◌, ◌<◌, ℕ, List, length, map, sym, subst}
 use Rattle.formula_meaning.specs.Every.{Every}
 use Rattle.formula_meaning.specs.Some.{EachOf}
 use Rattle.formula_meaning.specs.Sizes.{nodes}
 use Rattle.formula_meaning.specs.Tree.{Tree, IsFree}
 use Rattle.atom_normal.specs.Atoms.{context_of, atom_of}
 use Rattle.atom_normal.specs.NormalForm.{IsNormal}
-use Rattle.simplified_formulas.specs.AtomKit.{atom_kit}
 use Rattle.simplified_formulas.specs.Measure.{size, atom_measure}
 use Rattle.simplified_formulas.specs.Orderly.{IsOrderly}
-use Rattle.simplified_formulas.specs.Pass.{simplified}
 use Rattle.simplified_formulas.specs.Trees.{IsReduced}
 use Rattle.simplified_formulas.specs.Simplifiable.{IsSimplifiable, AreAssumable, EquivalentUnder, simplified_under}
 use Rattle.simplified_formulas.proofs.TreeLaws.{keeps_truth, is_reduced, keeps_shape, brings_no_name, brings_no_node, brings_no_atom}
@@ -22,26 +20,23 @@ use Rattle.formula_store.proofs.Numbers.{numbers_are_within}
 use Rattle.theory_simplifier.proofs.Assuming.{orderly_normal, every_normal}
 use Rattle.theory_simplifier.proofs.repeat.simplify.Goals as goal
 
-pub repeated-requires-clause-formula : goal.repeated-requires-clause-formula
-repeated-requires-clause-formula c = simplifiable (context_of c.args.context) (tree c.args.store.now c.args.id) c.requires.formula (numbers_are_within c.args.store.now c.args.id c.requires.id)
+pub repeated_under-requires-clause-formula : goal.repeated_under-requires-clause-formula
+repeated_under-requires-clause-formula c = simplifiable (context_of c.args.context) (tree c.args.store.now c.args.id) c.requires.formula (numbers_are_within c.args.store.now c.args.id c.requires.id)
 
-pub repeated-requires-clause-known : goal.repeated-requires-clause-known
-repeated-requires-clause-known c = c.in_ok-known.ensures.normal (context_of c.args.context) c.requires.theory
-
-same : (c : goal.After-drop-known-inside-2) → tree c.repeated.new.store c.in_ok-repeated.field-0 ≡ simplified_under (context_of c.args.context) (map atom_of c.args.theory.now) (tree c.args.store.now c.args.id)
-same c = c.in_ok-repeated.ensures.made.same ∙ ap (simplified (atom_kit (context_of c.args.context)) (tree c.args.store.now c.args.id)) c.in_ok-known.ensures.atoms
+same : (c : goal.In_ok-repeated_under) → tree c.repeated_under.new.store c.in_ok-repeated_under.field-0 ≡ simplified_under (context_of c.args.context) (map atom_of c.args.theory.now) (tree c.args.store.now c.args.id)
+same c = c.in_ok-repeated_under.ensures.made.same
 
 -- what holds of the simplified formula holds of the answer
-carried : (c : goal.After-drop-known-inside-2) (P : Tree → Type 0) → P (simplified_under (context_of c.args.context) (map atom_of c.args.theory.now) (tree c.args.store.now c.args.id)) → P (tree c.repeated.new.store c.in_ok-repeated.field-0)
+carried : (c : goal.In_ok-repeated_under) (P : Tree → Type 0) → P (simplified_under (context_of c.args.context) (map atom_of c.args.theory.now) (tree c.args.store.now c.args.id)) → P (tree c.repeated_under.new.store c.in_ok-repeated_under.field-0)
 carried c P = subst P (sym (same c))
 
-formula_is : (c : goal.After-drop-known-inside-2) → IsSimplifiable (context_of c.args.context) (tree c.args.store.now c.args.id)
+formula_is : (c : goal.In_ok-repeated_under) → IsSimplifiable (context_of c.args.context) (tree c.args.store.now c.args.id)
 formula_is c = simplifiable (context_of c.args.context) (tree c.args.store.now c.args.id) c.requires.formula (numbers_are_within c.args.store.now c.args.id c.requires.id)
 
-assumed_are : (c : goal.After-drop-known-inside-2) → AreAssumable (context_of c.args.context) (map atom_of c.args.theory.now)
+assumed_are : (c : goal.In_ok-repeated_under) → AreAssumable (context_of c.args.context) (map atom_of c.args.theory.now)
 assumed_are c = assumable (context_of c.args.context) (map atom_of c.args.theory.now) c.requires.theory (all_within c.args.theory.now c.requires.well_formed)
 
-orderly : (c : goal.After-drop-known-inside-2) → IsOrderly (IsNormal (context_of c.args.context)) (simplified_under (context_of c.args.context) (map atom_of c.args.theory.now) (tree c.args.store.now c.args.id))
+orderly : (c : goal.In_ok-repeated_under) → IsOrderly (IsNormal (context_of c.args.context)) (simplified_under (context_of c.args.context) (map atom_of c.args.theory.now) (tree c.args.store.now c.args.id))
 orderly c = orderly_normal (context_of c.args.context) (simplified_under (context_of c.args.context) (map atom_of c.args.theory.now) (tree c.args.store.now c.args.id)) (keeps_shape (context_of c.args.context) (map atom_of c.args.theory.now) (tree c.args.store.now c.args.id) (formula_is c))
 
 pub returns-clause-simplified : goal.returns-clause-simplified

@@ -14,7 +14,7 @@ use Rattle.theory_simplifier.proofs.Staying.{AreSeen, none_seen, one_seen, not_f
 use Rattle.theory_simplifier.proofs.unchanged.are_apart.Goals as goal
 
 pub loop-id-init : goal.loop-id-init
-loop-id-init c = none_seen (contains nat_eq c.new-keys.result)
+loop-id-init c = none_seen (contains nat_eq c.in_ok-keys.keys)
 
 pub loop-id-preserved : goal.loop-id-preserved
 loop-id-preserved c =

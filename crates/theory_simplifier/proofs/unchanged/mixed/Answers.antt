@@ -1,5 +1,5 @@
 use Rattle.std.proofs.Common.{refl}
-use Rattle.theory_simplifier.specs.Unchanged.{mixed}
+use Rattle.theory_simplifier.specs.VariableParts.{mixed}
 use Rattle.theory_simplifier.proofs.unchanged.mixed.Goals as goal
 
 pub returns : goal.returns

@@ -1,5 +1,6 @@
 use Rattle.std.proofs.Common.{◌≡◌, ◌<◌, Some, None, ℕ, zero, suc, List, [], ◌∷◌, length, sym, ap, subst, ◌∙◌, refl, get_or, arith}
 use Rattle.formula_meaning.specs.Context.{Context}
+use Rattle.formula_meaning.specs.Form.{Form}
 use Rattle.formula_meaning.specs.Some.{EachOf}
 use Rattle.formula_meaning.specs.declared.junction.Junction.{Junction}
 use Rattle.formula_meaning.specs.Atom.{Atom}
@@ -12,7 +13,7 @@ use Rattle.atom_merging.specs.Computed.{IsNormalWithin}
 use Rattle.simplified_formulas.specs.AtomKit.{atom_kit}
 use Rattle.simplified_formulas.specs.Pass.{with_one}
 use Rattle.theory_simplifier.specs.Listed.{Listed}
-use Rattle.theory_simplifier.specs.VariableParts.{part_of}
+use Rattle.theory_simplifier.specs.VariableParts.{part_number, number_from, magnitude}
 use Rattle.theory_simplifier.specs.Partners.{IsPartner, IsMergedAt}
 use Rattle.theory_simplifier.proofs.Partners.{with_last, with_settled, with_merged, each_at}
 use Rattle.theory_simplifier.proofs.Reading.{merged_part}
@@ -29,11 +30,11 @@ at_default [] n a d h = absurd (omega arith)
 at_default (u ∷ us) zero a d h = refl
 at_default (u ∷ us) (suc n) a d h = at_default us n a d (omega arith)
 
--- the merged atom has the variable part of the one that it replaces
-same_part : (c : Context) (j : Junction) (a : Atom) (us : List Atom) (n : ℕ) (e : CodeAtom) → IsMergedAt c j a us n (One e) → EachOf (IsNormalWithin c) us → IsNormal c a → part_of (atom_of e) ≡ part_of (get_or us n (atom_of e))
+-- the merged atom has the number of the one that it replaces
+same_part : (c : Context) (j : Junction) (a : Atom) (us : List Atom) (n : ℕ) (e : CodeAtom) → IsMergedAt c j a us n (One e) → EachOf (IsNormalWithin c) us → IsNormal c a → part_number (atom_of e) ≡ part_number (get_or us n (atom_of e))
 same_part c j a us n e h k m =
-    merged_part c j a (get_or us n a) (atom_of e) (each_at (IsNormalWithin c) us n a h.within k).normal m (sym h.become)
-    ∙ ap part_of (at_default us n a (atom_of e) h.within)
+    ap (λ (f : Form). number_from (magnitude f.constant) f.terms) (merged_part c j a (get_or us n a) (atom_of e) (each_at (IsNormalWithin c) us n a h.within k).normal m (sym h.become))
+    ∙ ap part_number (at_default us n a (atom_of e) h.within)
 
 pub returns-in_default-clause-with : goal.returns-in_default-clause-with
 returns-in_default-clause-with c =

@@ -3,7 +3,7 @@ use Rattle.std.proofs.Math.ListN.{set}
 use Rattle.formula_meaning.specs.Atom as meant
 use Rattle.atom_normal.specs.Atoms.{atom_of}
 use Rattle.theory_simplifier.specs.Listed.{Listed, entry_atom, IsEntry}
-use Rattle.theory_simplifier.specs.VariableParts.{part_of}
+use Rattle.theory_simplifier.specs.VariableParts.{part_number}
 use Rattle.theory_simplifier.proofs.Entries.{map_set, length_map, all_set}
 use Rattle.theory_simplifier.proofs.Indexed.{index_set}
 use Rattle.theory_simplifier.proofs.joined.Joined.with_at.Goals as goal
@@ -16,7 +16,7 @@ invariant_of-result c =
     let within : c.args.place < length es = subst (λ (n : ℕ). c.args.place < n) (ap length (sym are) ∙ length_map entry_atom es) c.requires.place in (
       all_set (IsEntry c.self.inside.junction) es c.args.place x c.self.invariant.0 c.in_ok-entries.ensures.entry,
       index_set es x c.self.inside.places c.self.invariant.1 c.args.place (atom_of c.args.atom) within
-          (ap part_of c.in_ok-entries.ensures.atom ∙ c.requires.part ∙ ap (λ (us : List meant.Atom). part_of (get_or us c.args.place (atom_of c.args.atom))) (sym are)),
+          (ap part_number c.in_ok-entries.ensures.atom ∙ c.requires.part ∙ ap (λ (us : List meant.Atom). part_number (get_or us c.args.place (atom_of c.args.atom))) (sym are)),
     )
 
 pub returns : goal.returns

@@ -3,7 +3,7 @@ use Rattle.std.specs.List.{AllByRecursion}
 use Rattle.atom_normal.specs.Atoms.{atom_of}
 use Rattle.theory_simplifier.specs.declared.joined.Entry.{Entry}
 use Rattle.theory_simplifier.specs.Listed.{Listed, entry_atom, IsEntry}
-use Rattle.theory_simplifier.specs.VariableParts.{part_of}
+use Rattle.theory_simplifier.specs.VariableParts.{part_number}
 use Rattle.theory_simplifier.specs.Places.{ArePlaces}
 use Rattle.theory_simplifier.proofs.Entries.{map_append, all_last}
 use Rattle.theory_simplifier.proofs.Indexed.{index_last}
@@ -17,8 +17,8 @@ invariant_of-result c =
     let same : c.in_ok-atom.atom ≡ c.args.atom.now = search rules in
     let atom : entry_atom x ≡ atom_of c.args.atom.now = c.in_ok-entry.ensures.atom ∙ ap atom_of same in (
       subst (AllByRecursion (IsEntry c.self.inside.junction)) (sym pushed) (all_last (IsEntry c.self.inside.junction) es x c.self.invariant.0 c.in_ok-entry.ensures.entry),
-      subst (λ (xs : List Entry). ArePlaces part_of c.in_ok-places.places (map entry_atom xs)) (sym pushed)
-          (index_last es x c.self.inside.places c.self.invariant.1 c.in_ok-places.places c.args.part c.len.result (c.requires.part ∙ ap part_of (sym atom)) (c.len.ensures ∙ c.self.inside.entries.ok.0) c.in_ok-places.ensures),
+      subst (λ (xs : List Entry). ArePlaces part_number c.in_ok-places.places (map entry_atom xs)) (sym pushed)
+          (index_last es x c.self.inside.places c.self.invariant.1 c.in_ok-places.places c.args.part c.len.result (c.requires.part ∙ ap part_number (sym atom)) (c.len.ensures ∙ c.self.inside.entries.ok.0) c.in_ok-places.ensures),
     )
 
 pub returns : goal.returns
