@@ -1,11 +1,18 @@
 -- A formula at a point over what is made of its members, shape by shape.
-use Rattle.std.proofs.Common.{◌≡◌, Bool, true, ◌&&◌, List, [], ◌∷◌, map, refl, sym, ap, ◌∙◌}
+use Rattle.std.proofs.Common.{◌≡◌, ◌<◌, Bool, true, ◌&&◌, List, [], ◌∷◌, Option, Some, None, Vec, Global, MatchOption, length, map, refl, sym, ap, ◌∙◌}
+use Rattle.std.proofs.Math.IntN.{ℤ, pos}
+use Rattle.std.specs.Prelude.{option_map}
 use Rattle.std.specs.List.{AllByRecursion}
 use Rattle.formula_meaning.specs.declared.junction.Junction.{Junction}
-use Rattle.formula_meaning.specs.Fold.{joined, folded, fold_list}
+use Rattle.formula_meaning.specs.Fold.{joined, folded, fold_list, all_pieces, from_pieces}
+use Rattle.formula_meaning.specs.Form.{coefficient}
 use Rattle.formula_meaning.specs.Formula.{One, also}
 use Rattle.formula_meaning.specs.Tree.{Tree}
-use Rattle.elimination_reference.specs.Limits.{atom_within}
+use Rattle.elimination_theory.specs.Substitution.{where_zero}
+use Rattle.elimination_theory.specs.BothTheories.{raw_atom}
+use Rattle.elimination_theory.specs.Steps.{normalised}
+use Rattle.elimination_reference.specs.Limits.{atom_within, numbers_within, normal_within}
+use Rattle.atom_normal.specs.NormalForm.{normal_atom}
 use Rattle.atom_normal.specs.declared.atoms.Context.{Context}
 use Rattle.atom_normal.specs.declared.atoms.Normal.{Normal}
 use Rattle.atom_normal.specs.Atoms.{context_of, tree_of}
@@ -16,6 +23,7 @@ use Rattle.formula_tree.specs.Trees.{members}
 use Rattle.formula_store.specs.declared.id.FormulaId.{FormulaId}
 use Rattle.formula_store.specs.Nodes.{tree, IsId}
 use Rattle.nnf_substitution.specs.Placed.{put, put_all, all_within, each_within}
+use Rattle.nnf_trees.proofs.Pieces.{two_pieces}
 use Rattle.nnf_substitution.proofs.PutLaws.{also_within, and_true, put_joined, joined_within, normal_folded}
 use Rattle.test_points.specs.declared.points.TestPoint.{TestPoint}
 use Rattle.test_points.specs.Points.{place_of}
@@ -49,8 +57,14 @@ module _ (c : Context) (t : TestPoint) (nodes made : List (Shape FormulaId)) whe
     pub same_put : (f : Tree) → tree nodes id ≡ f → f ≡ put (context_of c) t.name.number (place_of t) f → all_within (context_of c) t.name.number (place_of t) f ≡ true → IsNodePut c t nodes made id id
     same_put f e p w = put_as f id id e (record { is = kept.is id is; same = kept.same id is ∙ e ∙ p }) w
 
-    pub same_atom_put : (a : meant.Atom) (n : Normal) → tree nodes id ≡ One a → IsAtomPut c t a n → tree_of n ≡ One a → IsNodePut c t nodes made id id
-    same_atom_put a n e p same = atom_put a n id id e p (record { is = kept.is id is; same = kept.same id is ∙ e ∙ sym same })
+    -- an atom without the name
+    pub absent_put : (a : meant.Atom) → tree nodes id ≡ One a → coefficient t.name.number (meant.form_of a) ≡ pos 0 → IsNodePut c t nodes made id id
+    absent_put a e k =
+        let o = context_of c in
+        let x = t.name.number in
+        let s = place_of t in
+        same_put (One a) e (ap (λ (z : ℤ). folded (where_zero z (One a) (normalised (normal_atom o) (raw_atom o x s a)))) (sym k))
+        (and_true (atom_within o x s a) ∙ ap (λ (z : ℤ). where_zero z true (numbers_within x s a && normal_within (normalised (normal_atom o) (raw_atom o x s a)))) k)
 
   module _ (table : Table) where
     pub all_ids : (ids : List FormulaId) → AllByRecursion (Held c t nodes made table) ids → AllByRecursion (IsId made) (map (made_of table) ids)
@@ -81,3 +95,19 @@ module _ (c : Context) (t : TestPoint) (nodes made : List (Shape FormulaId)) whe
           formula = m.same ∙ ap (fold_list j) (all_put ids h) ∙ sym (put_joined o x s j fs) ∙ ap (put o x s) (sym e);
           within = ap (all_within o x s) e ∙ joined_within o x s j fs ∙ all_stay ids h;
         }
+
+-- members of a list, gathered and joined, and a list whose members stay
+module _ (c : Context) (t : TestPoint) (nodes : List (Shape FormulaId)) (table : Table) (j : Junction) (id : FormulaId) (ids : List FormulaId) (e : tree nodes id ≡ joined j (members (map (tree nodes) ids))) (held : AllByRecursion (Held c t nodes nodes table) ids) where
+  pub list_made : (pieces : Option (Vec FormulaId Global)) (copy : FormulaId) (new : List (Shape FormulaId)) →
+      all_pieces j (members (map (tree nodes) (map (made_of table) ids))) ≡ option_map (λ v. members (map (tree nodes) v.items)) pieces →
+      IsMade (IsId new) (tree new) copy (from_pieces j (option_map (λ v. members (map (tree nodes) v.items)) pieces)) → IsNodePut c t nodes new id copy
+  list_made pieces copy new p m = list_put c t nodes nodes table j ids id copy new e held (record { is = m.is; same = m.same ∙ ap (from_pieces j) (sym p) })
+
+  pub list_stays : (pieces : Option (Vec FormulaId Global)) → IsId nodes id → all_pieces j (members (map (tree nodes) (map (made_of table) ids))) ≡ option_map (λ v. members (map (tree nodes) v.items)) pieces →
+      MatchOption pieces ⊥ (λ v. (v.items ≡ ids) × (1 < length ids)) → IsNodePut c t nodes nodes id id
+  list_stays None h p m = absurd m
+  list_stays (Some v) h p m =
+      list_made (Some v) id nodes p (record {
+        is = h;
+        same = e ∙ two_pieces (tree nodes) j ids m.1 ∙ ap (λ (l : List FormulaId). from_pieces j (Some (members (map (tree nodes) l)))) (sym m.0);
+      })

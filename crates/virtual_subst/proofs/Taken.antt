@@ -1,5 +1,5 @@
 -- What is made beside a store and taken in, one after the other.
-use Rattle.std.proofs.Common.{arith, ◌≡◌, ℕ, zero, suc, ◌+◌, ◌<◌, ◌≤◌, List, [], ◌∷◌, ◌++◌, Some, slice_get, map, length, refl, ap, ◌∙◌, subst, inl, inr}
+use Rattle.std.proofs.Common.{arith, ◌≡◌, ℕ, zero, suc, ◌+◌, ◌<◌, ◌≤◌, List, [], ◌∷◌, ◌++◌, Some, slice_get, get_or, map, length, refl, ap, ◌∙◌, subst, inl, inr}
 use Rattle.std.specs.List.{AllByRecursion}
 use Rattle.formula_meaning.specs.Some.{SomeOf}
 use Rattle.formula_meaning.specs.Tree.{Tree}
@@ -55,3 +55,8 @@ pub some_at : (P : TestPoint → Type 0) (points : List TestPoint) (i : ℕ) →
 some_at P [] i lt h = absurd (omega (arith, lt))
 some_at P (t ∷ points) zero lt h = inl (h t refl)
 some_at P (t ∷ points) (suc i) lt h = inr (some_at P points i (omega (arith, lt)) h)
+
+pub some_here : (P : TestPoint → Type 0) (points : List TestPoint) (i : ℕ) (t : TestPoint) → i < length points → t ≡ get_or points i t → P t → SomeOf P points
+some_here P [] i t lt e h = absurd (omega (arith, lt))
+some_here P (s ∷ points) zero t lt e h = inl (subst P e h)
+some_here P (s ∷ points) (suc i) t lt e h = inr (some_here P points i t (omega (arith, lt)) e h)

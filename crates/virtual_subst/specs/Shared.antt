@@ -2,6 +2,7 @@
 use Rattle.std.specs.Prelude.{◌≡◌, ◌≤◌, ◌<◌, ◌⊎◌, ℕ, Bool, true, false, List, [], ◌∷◌, ◌++◌, length, if◌then◌else◌}
 use Rattle.std.specs.List.{AllByRecursion}
 use Rattle.formula_meaning.specs.Atom as meant
+use Rattle.formula_meaning.specs.Formula.{Yes, No}
 use Rattle.elimination_theory.specs.BothTheories.{IsPlaceIn}
 use Rattle.elimination_theory.specs.Steps.{atom_at}
 use Rattle.elimination_reference.specs.Limits.{atom_within}
@@ -10,6 +11,7 @@ use Rattle.atom_normal.specs.declared.atoms.Normal.{Normal}
 use Rattle.atom_normal.specs.Atoms.{context_of, tree_of, IsWellFormedNormal}
 use Rattle.atom_normal.specs.NormalForm.{normal_atom}
 use Rattle.formula_tree.specs.declared.shape.Shape.{Shape}
+use Rattle.formula_tree.specs.Makers.{IsMade}
 use Rattle.formula_store.specs.declared.id.FormulaId.{FormulaId}
 use Rattle.formula_store.specs.Changes.{Change, tree_on}
 use Rattle.formula_store.specs.Nodes.{tree, IsId}
@@ -19,6 +21,7 @@ use Rattle.test_points.specs.declared.points.TestPoint.{TestPoint}
 use Rattle.test_points.specs.Points.{place_of, IsTestPoint}
 use Rattle.virtual_subst.specs.declared.error.SubstError.{SubstError}
 use Rattle.virtual_subst.specs.declared.error.SubstError.TheVariants.{Overflow, Memory}
+use Rattle.virtual_subst.specs.declared.truths.Truths.{Truths}
 
 -- the point is one of the theory
 pub record IsAtPlace (c : Context) (t : TestPoint) : Type 0 where
@@ -65,6 +68,16 @@ KeysAbove x ps = AllByRecursion (λ p. x < p.0.number) ps
 abbrev pub KeysRise : Table → Type 0
 KeysRise [] = Unit {0}
 KeysRise (p ∷ ps) = KeysAbove p.0.number ps × KeysRise ps
+
+-- the id of a constant
+abbrev pub truth_in : Truths → Bool → FormulaId
+truth_in t true = t.yes
+truth_in t false = t.no
+
+-- the ids are those of the constants
+pub record AreTruths (nodes : List (Shape FormulaId)) (t : Truths) : Type 0 where
+  pub yes : IsMade (IsId nodes) (tree nodes) t.yes Yes
+  pub no : IsMade (IsId nodes) (tree nodes) t.no No
 
 -- what the table has for the formula stands for it at the point
 abbrev pub Held : Context → TestPoint → List (Shape FormulaId) → List (Shape FormulaId) → Table → FormulaId → Type 0

@@ -1,6 +1,8 @@
 //! A test point put into one atom.
 
-ghost use Rattle.std.specs.Prelude.{◌≡◌, MatchResult};
+ghost use Rattle.std.specs.Prelude.{◌≡◌, pos, IsTrue, MatchResult};
+ghost use Rattle.formula_meaning.specs.Form.{coefficient};
+ghost use Rattle.formula_meaning.specs.Atom.{form_of};
 ghost use Rattle.formula_meaning.specs.TheoryAtoms.{AtomIn};
 ghost use Rattle.elimination_reference.specs.Limits.{atom_within};
 ghost use Rattle.atom_normal.specs.Atoms.{atom_of, context_of, IsWellFormed};
@@ -21,6 +23,17 @@ pub(crate) struct At<'a> {
 }
 
 impl At<'_> {
+    /// Whether the point's name stands in the atom, which stays as it is where it does not. It takes no memory.
+    pub(crate) fn stands_in(&self, atom: &Atom) -> bool
+        ensures { ¬ (IsTrue result) → coefficient self.now.point.now.name.number (form_of (atom_of atom.now)) ≡ pos 0 }
+    {
+        match atom {
+            Atom::Compare(_, form) | Atom::Congruent { form, .. } => {
+                form.coefficient(self.point.name) != 0
+            }
+        }
+    }
+
     /// The atom with the point's name put at the point, in normal form (Loos and Weispfenning 1993, Cooper 1972). `Overflow`
     /// comes exactly where a number that is formed for it passes 2^127 - 1, else `Memory`.
     pub(crate) fn atom(&self, alloc: Global, atom: &Atom) -> Result<Normal, SubstError>

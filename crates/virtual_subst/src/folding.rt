@@ -9,7 +9,9 @@ ghost use Rattle.formula_tree.specs.Trees.{members};
 ghost use Rattle.formula_tree.specs.declared.shape.Shape.TheVariants as shape;
 ghost use Rattle.formula_store.specs.Nodes.{tree, IsId, Front};
 ghost use Rattle.virtual_subst.specs.Folding.{Gives, IsGathered};
+ghost use Rattle.virtual_subst.specs.Shared.{made_of, KeysRise};
 
+use crate::table::made;
 use atom_normal::Normal;
 use formula_meaning::Junction;
 use formula_store::{FormulaId, Formulas};
@@ -30,26 +32,28 @@ pub fn fold<M: Formulas>(
     ensures front { Front (M.nodes formulas.old) (M.nodes formulas.new) }
     ensures base { M.base formulas.new ≡ M.base formulas.old }
 {
-    match gathered(alloc, formulas, junction, ids)? {
+    match gathered(alloc, formulas, &[], junction, ids)? {
         Some(pieces) => whole(formulas, junction, pieces),
         None => formulas.add(constant(junction == Junction::Disjunction)),
     }
 }
 
-// What all of them give; `None` where one decides the whole.
-fn gathered<M: Formulas>(
+/// What is given, to the members of a list, by all that the table has for these formulas; `None` where one decides the whole.
+pub(crate) fn gathered<M: Formulas>(
     alloc: Global,
     formulas: &M,
+    table: &[(FormulaId, FormulaId)],
     junction: Junction,
     ids: &[FormulaId],
 ) -> Result<Option<Vec<FormulaId>>, AllocError>
-    requires { AllByRecursion (IsId (M.nodes formulas.now)) ids.now }
-    ensures pieces { IfOk result (λ pieces. all_pieces junction (members (map (tree (M.nodes formulas.now)) ids.now)) ≡ option_map (λ v. members (map (tree (M.nodes formulas.now)) v.items)) pieces) }
+    requires rise { KeysRise table.now }
+    requires ids { AllByRecursion (IsId (M.nodes formulas.now)) (map (made_of table.now) ids.now) }
+    ensures pieces { IfOk result (λ pieces. all_pieces junction (members (map (tree (M.nodes formulas.now)) (map (made_of table.now) ids.now))) ≡ option_map (λ v. members (map (tree (M.nodes formulas.now)) v.items)) pieces) }
     ensures ids { IfOk result (λ pieces. IfSome pieces (λ v. AllByRecursion (IsId (M.nodes formulas.now)) v.items)) }
 {
     let mut pieces = Vec::new(alloc);
     for id in ids {
-        if !gather(&mut pieces, formulas, junction, *id)? {
+        if !gather(&mut pieces, formulas, junction, made(table, *id))? {
             return Ok(None);
         }
     }
@@ -123,8 +127,8 @@ pub fn normal_made<M: Formulas>(formulas: &mut M, normal: Normal) -> Result<Form
     }
 }
 
-// The pieces joined, where one stands for the whole.
-fn whole<M: Formulas>(
+/// The pieces joined, where one stands for the whole.
+pub(crate) fn whole<M: Formulas>(
     formulas: &mut M,
     junction: Junction,
     mut pieces: Vec<FormulaId>,

@@ -5,10 +5,12 @@ mod atoms;
 mod error;
 mod folding;
 mod nodes;
+mod putting;
 mod sharing;
 mod substitution;
 mod table;
 mod taking;
+mod truths;
 
 pub use error::SubstError;
 pub use folding::{fold, normal_made};

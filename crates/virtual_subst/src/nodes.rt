@@ -1,69 +1,76 @@
 //! A test point put into one formula, over what is made of its members.
 
 ghost use Rattle.std.specs.List.{AllByRecursion};
-ghost use Rattle.std.specs.Prelude.{◌≡◌, Some, IfOk, IsTrue, MatchResult, map, slice_get};
-ghost use Rattle.formula_meaning.specs.Fold.{fold_list};
-ghost use Rattle.formula_meaning.specs.Formula.{One};
+ghost use Rattle.std.specs.Prelude.{◌≡◌, ◌<◌, Some, IfOk, IfSome, IsTrue, MatchOption, MatchResult, length, map, option_map, slice_get};
+ghost use Rattle.formula_meaning.specs.Fold.{from_pieces};
 ghost use Rattle.formula_meaning.specs.Plain.{IsPlain};
 ghost use Rattle.formula_meaning.specs.Equivalence.{InContext};
-ghost use Rattle.atom_normal.specs.Atoms.{atom_of, context_of, tree_of, IsWellFormedNormal};
+ghost use Rattle.atom_normal.specs.Atoms.{context_of, tree_of, IsWellFormedNormal};
 ghost use Rattle.formula_tree.specs.declared.shape.Shape.{Shape};
 ghost use Rattle.formula_tree.specs.Makers.{IsMade, Keeps};
 ghost use Rattle.formula_tree.specs.Shapes.{AllIds};
 ghost use Rattle.formula_tree.specs.Trees.{members};
 ghost use Rattle.formula_store.specs.declared.id.FormulaId.{FormulaId};
-ghost use Rattle.formula_store.specs.Layers.{all};
-ghost use Rattle.formula_store.specs.Nodes.{tree, IsId};
+ghost use Rattle.formula_store.specs.Nodes.{tree, IsId, Front};
 ghost use Rattle.nnf_substitution.specs.Placed.{all_within};
 ghost use Rattle.test_points.specs.Points.{place_of};
-ghost use Rattle.virtual_subst.specs.Shared.{Stops, Held, IsAtPlace, IsNodePut, made_of, KeysRise};
+ghost use Rattle.virtual_subst.specs.Shared.{Stops, Held, IsAtPlace, IsNodePut, AreTruths, KeysRise};
 
 use crate::atoms::At;
 use crate::error::SubstError;
-use crate::folding::{fold, normal_made};
-use crate::table::all_made;
-use atom_normal::{Atom, Normal};
+use crate::folding::{gathered, whole};
+use crate::truths::Truths;
+use atom_normal::Normal;
 use formula_meaning::Junction;
-use formula_store::{FormulaId, Overlay, Store};
-use formula_tree::{Maker, Shape};
+use formula_store::{FormulaId, Formulas};
+use formula_tree::Shape;
 use std::alloc::{AllocError, Global};
 
-/// The formula with the point's name put at the point, each atom in normal form and the whole folded, made in the overlay. An atom
-/// that stays what it is keeps its id.
+/// The formula with the point's name put at the point, each atom in normal form and the whole folded, made in the store or the
+/// overlay. An atom without the name and a list whose members stay keep their ids, and nothing is sought.
 /// `Overflow` comes only where a number that is formed for an atom passes 2^127 - 1, else `Memory`.
-pub(crate) fn node_put(
+pub(crate) fn node_put<M: Formulas>(
     alloc: Global,
     at: At<'_>,
-    store: &Store,
+    truths: Truths,
+    formulas: &mut M,
     id: FormulaId,
     table: &[(FormulaId, FormulaId)],
-    overlay: &mut Overlay<'_>,
 ) -> Result<FormulaId, SubstError>
-    requires id { IsId store.now id }
-    requires plain { IsPlain (tree store.now id) }
-    requires in_context { InContext (context_of at.context) (tree store.now id) }
+    requires id { IsId (M.nodes formulas.old) id }
+    requires plain { IsPlain (tree (M.nodes formulas.old) id) }
+    requires in_context { InContext (context_of at.context) (tree (M.nodes formulas.old) id) }
     requires place { IsAtPlace at.context at.point.now }
+    requires truths { AreTruths (M.nodes formulas.old) truths }
     requires rise { KeysRise table.now }
-    requires within { Keeps (IsId store.now) (tree store.now) (IsId (all overlay.old)) (tree (all overlay.old)) }
-    requires members { (n : Shape FormulaId) → slice_get store.now id.number ≡ Some n → AllIds (Held at.context at.point.now store.now (all overlay.old) table.now) n }
-    ensures put { MatchResult result (IsNodePut at.entry.context at.entry.point.now store.now (all overlay.new) id) (λ e. Stops e (all_within (context_of at.entry.context) at.entry.point.now.name.number (place_of at.entry.point.now) (tree store.now id))) }
-    ensures kept { Keeps (IsId (all overlay.old)) (tree (all overlay.old)) (IsId (all overlay.new)) (tree (all overlay.new)) }
-    ensures below { overlay.new.below ≡ overlay.old.below }
+    requires members { (n : Shape FormulaId) → slice_get (M.nodes formulas.old) id.number ≡ Some n → AllIds (Held at.context at.point.now (M.nodes formulas.old) (M.nodes formulas.old) table.now) n }
+    ensures put { MatchResult result (IsNodePut at.entry.context at.entry.point.now (M.nodes formulas.old) (M.nodes formulas.new) id) (λ e. Stops e (all_within (context_of at.entry.context) at.entry.point.now.name.number (place_of at.entry.point.now) (tree (M.nodes formulas.old) id))) }
+    ensures kept { Keeps (IsId (M.nodes formulas.old)) (tree (M.nodes formulas.old)) (IsId (M.nodes formulas.new)) (tree (M.nodes formulas.new)) }
+    ensures front { Front (M.nodes formulas.old) (M.nodes formulas.new) }
+    ensures base { M.base formulas.new ≡ M.base formulas.old }
 {
-    match store.shape(id) {
+    match formulas.top(id) {
         Shape::True | Shape::False => Ok(id),
+        Shape::One(atom) if !at.stands_in(atom) => Ok(id),
         Shape::One(atom) => match at.atom(alloc, atom) {
-            Ok(normal) if is_atom(&normal, atom) => Ok(id),
-            Ok(normal) => Ok(normal_made(overlay, normal)?),
+            Ok(normal) => Ok(normal_put(formulas, truths, normal)?),
             Err(error) => Err(error),
         },
         Shape::And(ids) => {
-            let members = ids.items();
-            Ok(members_joined(alloc, overlay, table, Junction::Conjunction, members)?)
+            let ids = ids.items();
+            let pieces = gathered(alloc, formulas, table, Junction::Conjunction, ids)?;
+            if are_these(&pieces, ids) {
+                return Ok(id);
+            }
+            Ok(joined(formulas, truths, Junction::Conjunction, pieces)?)
         }
         Shape::Or(ids) => {
-            let members = ids.items();
-            Ok(members_joined(alloc, overlay, table, Junction::Disjunction, members)?)
+            let ids = ids.items();
+            let pieces = gathered(alloc, formulas, table, Junction::Disjunction, ids)?;
+            if are_these(&pieces, ids) {
+                return Ok(id);
+            }
+            Ok(joined(formulas, truths, Junction::Disjunction, pieces)?)
         }
         Shape::Not(_)
         | Shape::Impl(..)
@@ -74,30 +81,59 @@ pub(crate) fn node_put(
     }
 }
 
-// Whether the normal form is this atom. It takes no memory.
-fn is_atom(normal: &Normal, atom: &Atom) -> bool
-    ensures { IsTrue result → tree_of normal.now ≡ One (atom_of atom.now) }
+// Whether the pieces are these formulas, of which there are two at least, so that their list stays what it is.
+fn are_these(pieces: &Option<Vec<FormulaId>>, ids: &[FormulaId]) -> bool
+    ensures { IsTrue result → MatchOption pieces.now ⊥ (λ v. (v.items ≡ ids.now) × (1 < length ids.now)) }
 {
-    match normal {
-        Normal::One(other) => other == atom,
-        Normal::True | Normal::False => false,
+    match pieces {
+        Some(pieces) => 1 < ids.len() && same_ids(pieces, ids),
+        None => false,
     }
 }
 
-// What the table has for these formulas, joined and folded.
-fn members_joined(
-    alloc: Global,
-    overlay: &mut Overlay<'_>,
-    table: &[(FormulaId, FormulaId)],
-    junction: Junction,
-    ids: &[FormulaId],
-) -> Result<FormulaId, AllocError>
-    requires rise { KeysRise table.now }
-    requires ids { AllByRecursion (IsId (all overlay.old)) (map (made_of table.now) ids.now) }
-    ensures made { IfOk result (λ id. IsMade (IsId (all overlay.new)) (tree (all overlay.new)) id (fold_list junction (members (map (tree (all overlay.old)) (map (made_of table.now) ids.now))))) }
-    ensures kept { Keeps (IsId (all overlay.old)) (tree (all overlay.old)) (IsId (all overlay.new)) (tree (all overlay.new)) }
-    ensures below { overlay.new.below ≡ overlay.old.below }
+// Whether the ids are the same, in the same order.
+fn same_ids(these: &[FormulaId], those: &[FormulaId]) -> bool
+    ensures { IsTrue result → these.now ≡ those.now }
 {
-    let members = all_made(alloc, table, ids)?;
-    fold(alloc, overlay, junction, &members)
+    these == those
+}
+
+// The formula of a normal form.
+fn normal_put<M: Formulas>(
+    formulas: &mut M,
+    truths: Truths,
+    normal: Normal,
+) -> Result<FormulaId, AllocError>
+    requires truths { AreTruths (M.nodes formulas.old) truths }
+    requires well_formed { IsWellFormedNormal normal }
+    ensures made { IfOk result (λ id. IsMade (IsId (M.nodes formulas.new)) (tree (M.nodes formulas.new)) id (tree_of normal)) }
+    ensures kept { Keeps (IsId (M.nodes formulas.old)) (tree (M.nodes formulas.old)) (IsId (M.nodes formulas.new)) (tree (M.nodes formulas.new)) }
+    ensures front { Front (M.nodes formulas.old) (M.nodes formulas.new) }
+    ensures base { M.base formulas.new ≡ M.base formulas.old }
+{
+    match normal {
+        Normal::True => Ok(truths.constant(true)),
+        Normal::False => Ok(truths.constant(false)),
+        Normal::One(atom) => formulas.add(Shape::One(atom)),
+    }
+}
+
+// The pieces joined and folded, or the constant that decides the whole where there are none.
+fn joined<M: Formulas>(
+    formulas: &mut M,
+    truths: Truths,
+    junction: Junction,
+    pieces: Option<Vec<FormulaId>>,
+) -> Result<FormulaId, AllocError>
+    requires truths { AreTruths (M.nodes formulas.old) truths }
+    requires ids { IfSome pieces (λ v. AllByRecursion (IsId (M.nodes formulas.old)) v.items) }
+    ensures made { IfOk result (λ id. IsMade (IsId (M.nodes formulas.new)) (tree (M.nodes formulas.new)) id (from_pieces junction (option_map (λ v. members (map (tree (M.nodes formulas.old)) v.items)) pieces))) }
+    ensures kept { Keeps (IsId (M.nodes formulas.old)) (tree (M.nodes formulas.old)) (IsId (M.nodes formulas.new)) (tree (M.nodes formulas.new)) }
+    ensures front { Front (M.nodes formulas.old) (M.nodes formulas.new) }
+    ensures base { M.base formulas.new ≡ M.base formulas.old }
+{
+    match pieces {
+        Some(pieces) => whole(formulas, junction, pieces),
+        None => Ok(truths.constant(junction == Junction::Disjunction)),
+    }
 }

@@ -12,8 +12,8 @@ ghost use Rattle.virtual_subst.specs.Shared.{Stops, IsAtPlace, IsPutAt};
 
 use crate::atoms::At;
 use crate::error::SubstError;
-use crate::nodes::node_put;
-use crate::table::{made, note};
+use crate::putting::put_in;
+use crate::truths::Truths;
 use atom_normal::Context;
 use formula_store::{Delta, FormulaId, Overlay, Store, StoreError};
 use std::alloc::Global;
@@ -57,15 +57,17 @@ pub fn substitute_listed(
     requires place { IsAtPlace context point.now }
     ensures { MatchResult result (IsPutAt context point.now store.now root) (λ e. Stops e (all_within (context_of context) point.now.name.number (place_of point.now) (tree store.now root))) }
 {
-    let at = At { context, point };
     let mut overlay = Overlay::over(alloc, store);
-    let mut table = Vec::new(alloc);
-    for id in ids {
-        match node_put(alloc, at, store, *id, &table, &mut overlay) {
-            Ok(copy) => note(&mut table, *id, copy)?,
-            Err(error) => return Err(error),
-        }
+    let truths = Truths::of(&mut overlay)?;
+    match put_in(
+        alloc,
+        At { context, point },
+        truths,
+        &mut overlay,
+        ids,
+        root,
+    ) {
+        Ok(id) => Ok(overlay.finish(id)),
+        Err(error) => Err(error),
     }
-    let id = made(&table, root);
-    Ok(overlay.finish(id))
 }

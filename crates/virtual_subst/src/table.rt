@@ -1,10 +1,10 @@
 //! What is made of formulas, by their ids.
 
-ghost use Rattle.std.specs.Prelude.{◌≡◌, IfOk, OnOk, map};
+ghost use Rattle.std.specs.Prelude.{◌≡◌, OnOk};
 ghost use Rattle.virtual_subst.specs.Shared.{made_of, KeysRise, Notes};
 
 use formula_store::FormulaId;
-use std::alloc::{AllocError, Global};
+use std::alloc::AllocError;
 
 /// Formulas, by rising ids, and what is made of each; one that stays what it is is not there.
 pub(crate) type Table = Vec<(FormulaId, FormulaId)>;
@@ -28,20 +28,4 @@ pub(crate) fn note(table: &mut Table, id: FormulaId, copy: FormulaId) -> Result<
         table.push((id, copy))?;
     }
     Ok(())
-}
-
-/// What is made of the formulas, in order.
-pub(crate) fn all_made(
-    alloc: Global,
-    table: &[(FormulaId, FormulaId)],
-    ids: &[FormulaId],
-) -> Result<Vec<FormulaId>, AllocError>
-    requires { KeysRise table.now }
-    ensures { IfOk result (λ v. v.items ≡ map (made_of table.now) ids.now) }
-{
-    let mut found = Vec::with_capacity(alloc, ids.len())?;
-    for id in ids {
-        found.push(made(table, *id))?;
-    }
-    Ok(found)
 }

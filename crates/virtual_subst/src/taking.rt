@@ -1,6 +1,6 @@
 //! Many test points put into one formula, and what is made taken into the store.
 
-ghost use Rattle.std.specs.Prelude.{◌≡◌, ◌≤◌, All, IfOk, IfErr, length, map, false};
+ghost use Rattle.std.specs.Prelude.{◌≡◌, ◌≤◌, ◌++◌, ◌∷◌, [], All, OnOk, IfOk, IfErr, length, map, false};
 ghost use Rattle.std.specs.List.{AllByRecursion};
 ghost use Rattle.formula_meaning.specs.Plain.{IsPlain};
 ghost use Rattle.formula_meaning.specs.Some.{SomeOf};
@@ -11,12 +11,14 @@ ghost use Rattle.formula_store.specs.Changes.{tree_on};
 ghost use Rattle.formula_store.specs.Nodes.{tree, IsId};
 ghost use Rattle.nnf_substitution.specs.Placed.{put, all_within};
 ghost use Rattle.test_points.specs.Points.{place_of};
-ghost use Rattle.virtual_subst.specs.Shared.{IsAtPlace};
+ghost use Rattle.virtual_subst.specs.Shared.{IsAtPlace, AreTruths};
 
+use crate::atoms::At;
 use crate::error::SubstError;
-use crate::folding::normal_made;
+use crate::putting::put_in;
 use crate::sharing::substitute_all;
-use atom_normal::{Context, Normal};
+use crate::truths::Truths;
+use atom_normal::Context;
 use formula_store::{Delta, FormulaId, Store};
 use qe_parallel::{FanError, Gate};
 use std::alloc::{AllocError, Global};
@@ -45,7 +47,34 @@ pub fn put_at_all<R: Threads + Sync, G: Gate + Sync>(
     ensures overflow { IfErr result (λ e. e ≡ SubstError.Overflow → SomeOf (λ t. all_within (context_of context) t.name.number (place_of t) (tree store.old branch) ≡ false) points.now) }
     ensures kept { Keeps (IsId store.old) (tree store.old) (IsId store.new) (tree store.new) }
 {
-    constants_made(store)?;
+    let truths = Truths::of(store)?;
+    if workers == 1 {
+        put_each(alloc, store, context, branch, points, truths)
+    } else {
+        put_beside(rt, alloc, store, context, branch, points, workers, gate)
+    }
+}
+
+// The same by many threads: made beside the store, which they only read, and then taken in.
+fn put_beside<R: Threads + Sync, G: Gate + Sync>(
+    rt: &R,
+    alloc: Global,
+    store: &mut Store,
+    context: Context,
+    branch: FormulaId,
+    points: &[TestPoint],
+    workers: usize,
+    gate: &G,
+) -> Result<Vec<FormulaId>, SubstError>
+    requires id { IsId store.old branch }
+    requires plain { IsPlain (tree store.old branch) }
+    requires in_context { InContext (context_of context) (tree store.old branch) }
+    requires places { All (IsAtPlace context) points.now }
+    requires workers { 1 ≤ workers }
+    ensures made { IfOk result (λ ids. AreMade (IsId store.new) (tree store.new) ids.items (map (λ t. put (context_of context) t.name.number (place_of t) (tree store.old branch)) points.now)) }
+    ensures overflow { IfErr result (λ e. e ≡ SubstError.Overflow → SomeOf (λ t. all_within (context_of context) t.name.number (place_of t) (tree store.old branch) ≡ false) points.now) }
+    ensures kept { Keeps (IsId store.old) (tree store.old) (IsId store.new) (tree store.new) }
+{
     match substitute_all(rt, alloc, store, context, branch, points, workers, gate) {
         Ok(deltas) => Ok(taken_in(alloc, store, deltas)?),
         Err(FanError::Piece { stop, .. }) => Err(stop),
@@ -53,12 +82,42 @@ pub fn put_at_all<R: Threads + Sync, G: Gate + Sync>(
     }
 }
 
-// Makes what atoms and lists often become, so that it is not made anew at each of the points.
-fn constants_made(store: &mut Store) -> Result<(), AllocError>
-    ensures { Keeps (IsId store.old) (tree store.old) (IsId store.new) (tree store.new) }
+// The same by one thread: made in the store itself, the formulas that `put_beside` makes beside it and takes in.
+fn put_each(
+    alloc: Global,
+    store: &mut Store,
+    context: Context,
+    branch: FormulaId,
+    points: &[TestPoint],
+    truths: Truths,
+) -> Result<Vec<FormulaId>, SubstError>
+    requires id { IsId store.old branch }
+    requires plain { IsPlain (tree store.old branch) }
+    requires in_context { InContext (context_of context) (tree store.old branch) }
+    requires places { All (IsAtPlace context) points.now }
+    requires truths { AreTruths store.old truths }
+    ensures made { IfOk result (λ ids. AreMade (IsId store.new) (tree store.new) ids.items (map (λ t. put (context_of context) t.name.number (place_of t) (tree store.old branch)) points.now)) }
+    ensures overflow { IfErr result (λ e. e ≡ SubstError.Overflow → SomeOf (λ t. all_within (context_of context) t.name.number (place_of t) (tree store.old branch) ≡ false) points.now) }
+    ensures kept { Keeps (IsId store.old) (tree store.old) (IsId store.new) (tree store.new) }
 {
-    normal_made(store, Normal::True)?;
-    normal_made(store, Normal::False)?;
+    let Ok(ids) = store.subformulas(branch) else {
+        return Err(SubstError::Memory);
+    };
+    let mut made = Vec::with_capacity(alloc, points.len())?;
+    for point in points {
+        match put_in(alloc, At { context, point }, truths, store, &ids, branch) {
+            Ok(id) => push_id(&mut made, id)?,
+            Err(error) => return Err(error),
+        }
+    }
+    Ok(made)
+}
+
+// Puts an id last.
+fn push_id(ids: &mut Vec<FormulaId>, id: FormulaId) -> Result<(), AllocError>
+    ensures { OnOk result (ids.new.items ≡ ids.old.items ++ id ∷ []) }
+{
+    ids.push(id)?;
     Ok(())
 }
 

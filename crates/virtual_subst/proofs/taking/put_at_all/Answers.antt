@@ -1,43 +1,33 @@
-use Rattle.std.proofs.Common.{◌≡◌, false, List, length, map, sym, ap, ◌∙◌, subst}
+use Rattle.std.proofs.Common.{◌≡◌, false, subst}
+use Rattle.std.specs.Prelude.{IfErr}
 use Rattle.formula_meaning.specs.Some.{SomeOf}
 use Rattle.formula_meaning.specs.Tree.{Tree}
 use Rattle.atom_normal.specs.Atoms.{context_of}
-use Rattle.formula_tree.specs.Makers.{AreMade}
-use Rattle.formula_store.specs.Nodes.{tree, IsId}
 use Rattle.formula_store.proofs.Makes.{keeps_then}
-use Rattle.nnf_substitution.specs.Placed.{put, all_within}
+use Rattle.nnf_substitution.specs.Placed.{all_within}
 use Rattle.test_points.specs.declared.points.TestPoint.{TestPoint}
 use Rattle.test_points.specs.Points.{place_of}
-use Rattle.virtual_subst.specs.declared.error.SubstError.{SubstError}
-use Rattle.qe_parallel.specs.Fanned.{Fails, StopsAt}
-use Rattle.virtual_subst.specs.Phases.{Phase, IsPutAtPiece, StopsAtPiece}
-use Rattle.virtual_subst.specs.Shared.{Stops}
-use Rattle.virtual_subst.proofs.Taken.{all_at_points, some_at}
+use Rattle.virtual_subst.specs.declared.error.SubstError.TheVariants.{Overflow}
 use Rattle.virtual_subst.proofs.taking.put_at_all.Goals as goal
 
-pub taken_in-requires : goal.taken_in-requires
-taken_in-requires g c =
-    (all_at_points (record { nodes = c.constants_made.new.store; context = c.args.context; root = c.args.branch; points = c.args.points.now }) c.in-Ok.deltas.items c.in-Ok.ensures).begun
+pub put_each-requires-clause-id : goal.put_each-requires-clause-id
+put_each-requires-clause-id g c = c.in_ok-truths.ensures.kept.is c.args.branch c.requires.id
 
-pub returns-in_ok-taken_in-in-Ok-clause-made : goal.returns-in_ok-taken_in-in-Ok-clause-made
-returns-in_ok-taken_in-in-Ok-clause-made g c =
-    let at = all_at_points (record { nodes = c.constants_made.new.store; context = c.args.context; root = c.args.branch; points = c.args.points.now }) c.in-Ok.deltas.items c.in-Ok.ensures in
-    let same = c.constants_made.ensures.same c.args.branch c.requires.id in
-    subst (λ (fs : List Tree). AreMade (IsId c.taken_in.new.store) (tree c.taken_in.new.store) c.in_ok-taken_in-in-Ok.field-0.items fs)
-    (at.formulas ∙ ap (λ f. map (λ (t : TestPoint). put (context_of c.args.context) t.name.number (place_of t) f) c.args.points.now) same) c.in_ok-taken_in-in-Ok.ensures.made
+pub returns-then-workers-eq1-clause-overflow : goal.returns-then-workers-eq1-clause-overflow
+returns-then-workers-eq1-clause-overflow g c =
+    subst (λ (f : Tree). IfErr c.put_each.result (λ e. e ≡ Overflow → SomeOf (λ (t : TestPoint). all_within (context_of c.args.context) t.name.number (place_of t) f ≡ false) c.args.points.now)) (c.in_ok-truths.ensures.kept.same c.args.branch c.requires.id)
+    c.put_each.ensures.overflow
 
-pub returns-in_ok-taken_in-in-Ok-clause-kept : goal.returns-in_ok-taken_in-in-Ok-clause-kept
-returns-in_ok-taken_in-in-Ok-clause-kept g c = keeps_then c.args.store.now c.constants_made.new.store c.taken_in.new.store c.constants_made.ensures c.taken_in.ensures.kept
+pub returns-then-workers-eq1-clause-kept : goal.returns-then-workers-eq1-clause-kept
+returns-then-workers-eq1-clause-kept g c = keeps_then c.args.store.now c.of.new.formulas c.put_each.new.store c.in_ok-truths.ensures.kept c.put_each.ensures.kept
 
-pub returns-in_err-taken_in-in-Ok-clause-kept : goal.returns-in_err-taken_in-in-Ok-clause-kept
-returns-in_err-taken_in-in-Ok-clause-kept g c = keeps_then c.args.store.now c.constants_made.new.store c.taken_in.new.store c.constants_made.ensures c.taken_in.ensures.kept
+pub put_beside-requires-clause-id : goal.put_beside-requires-clause-id
+put_beside-requires-clause-id g c lifetimes lives = c.in_ok-truths.ensures.kept.is c.args.branch c.requires.id
 
-pub returns-in-Err-Piece-clause-overflow : goal.returns-in-Err-Piece-clause-overflow
-returns-in-Err-Piece-clause-overflow g c e =
-    let made = c.constants_made.new.store in
-    let p : Phase = record { nodes = made; context = c.args.context; root = c.args.branch; points = c.args.points.now } in
-    let stops : StopsAt (IsPutAtPiece p) (StopsAtPiece p) 0 (length c.args.points.now) c.in-Err-Piece.field-0-0 c.in-Err-Piece.stop =
-    subst (Fails (IsPutAtPiece p) (StopsAtPiece p) 0 (length c.args.points.now)) c.in-Err-Piece.field-0-is c.in-Err-Piece.ensures in
-    subst (λ (f : Tree). SomeOf (λ (t : TestPoint). all_within (context_of c.args.context) t.name.number (place_of t) f ≡ false) c.args.points.now) (c.constants_made.ensures.same c.args.branch c.requires.id)
-    (some_at (λ (t : TestPoint). all_within (context_of c.args.context) t.name.number (place_of t) (tree made c.args.branch) ≡ false) c.args.points.now c.in-Err-Piece.field-0-0 stops.last
-    (λ t at. subst (λ (s : SubstError). Stops s (all_within (context_of c.args.context) t.name.number (place_of t) (tree made c.args.branch))) (sym c.in-Err-Piece.stop-is ∙ e) (stops.stops t at)))
+pub returns-else-workers-eq1-clause-overflow : goal.returns-else-workers-eq1-clause-overflow
+returns-else-workers-eq1-clause-overflow g c =
+    subst (λ (f : Tree). IfErr c.put_beside.result (λ e. e ≡ Overflow → SomeOf (λ (t : TestPoint). all_within (context_of c.args.context) t.name.number (place_of t) f ≡ false) c.args.points.now)) (c.in_ok-truths.ensures.kept.same c.args.branch c.requires.id)
+    c.put_beside.ensures.overflow
+
+pub returns-else-workers-eq1-clause-kept : goal.returns-else-workers-eq1-clause-kept
+returns-else-workers-eq1-clause-kept g c = keeps_then c.args.store.now c.of.new.formulas c.put_beside.new.store c.in_ok-truths.ensures.kept c.put_beside.ensures.kept
