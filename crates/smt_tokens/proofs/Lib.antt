@@ -1,0 +1,10 @@
+pub mod Places
+pub mod Fronts
+pub mod Numbers
+pub mod Quotes
+pub mod Lexed
+pub mod Longest
+pub mod Texts
+pub mod CommandLemmas
+pub mod Begun
+pub mod Examples
