@@ -1,7 +1,7 @@
 //! Makes the calls that no statement makes, on formulas worked by hand: a maker of plain trees, a formula unfolded under a
 //! limit, a tree printed by itself, the cases of a tree, and the sample of one without free names; those of the lowest crates, of
 //! numbers, forms, atoms and test points, also put into shared formulas; blocks branch by branch, guards together, and
-//! formulas eliminated by cases; least values; and pieces that are shared out to threads. The gate runs it and compares what it prints.
+//! formulas eliminated by cases; least values; scripts of SMT-LIB; and pieces that are shared out to threads. The gate runs it and compares what it prints.
 #![tactic(auto)]
 
 mod blocks;
@@ -17,6 +17,7 @@ mod points;
 mod reading;
 mod samples;
 mod shared;
+mod smt;
 mod writing;
 
 use crate::calls::{cases, ids, plain_tree, printed_atom, sample, unfolding};
@@ -33,6 +34,7 @@ fn main(rt: HostRuntime) -> io::Result<()> {
     by_cases(&rt)?;
     answered_by_cases(&rt)?;
     least_values(&rt)?;
+    cut(&rt)?;
     shared_out(&rt)
 }
 
@@ -194,6 +196,15 @@ fn least_values<R: Print + AllocGlobal>(rt: &R) -> io::Result<()> {
     let up_to = least::up_to_zero(alloc);
     tell(rt, "the least number from 0 on", from)?;
     tell(rt, "the least number up to 0", up_to)
+}
+
+/// Scripts of SMT-LIB.
+fn cut<R: Print + AllocGlobal>(rt: &R) -> io::Result<()> {
+    let alloc = rt.alloc();
+    let commands = smt::places(alloc);
+    let symbols = smt::symbols(alloc);
+    tell(rt, "the commands of a script", commands)?;
+    tell(rt, "its symbols", symbols)
 }
 
 /// Pieces that are shared out to threads.
