@@ -177,6 +177,16 @@ conjunction_cut c rows inner bs fs gs enough told h = record {
   atomic = λ e. absurd e;
 }
 
+all_stay : (c : Context) (rows : List AtomRows) (fs : List Tree) → AreAll (IsInsideCutTo c rows) fs fs
+all_stay c rows [] = tt
+all_stay c rows (f ∷ fs) = (inside_itself c rows f, all_stay c rows fs)
+
+-- The members that stay are left as they are.
+pub conjunction_left : (c : Context) (rows : List AtomRows) (bs : List Bool) (fs : List Tree) → ((ks : List Atom) → AreRows c ks rows → AreEnough c ks (map said fs) bs) →
+    IsInsideCutTo c rows (And (members fs)) (And (members (left_by bs fs)))
+conjunction_left c rows bs fs enough =
+    conjunction_cut c rows rows bs fs (left_by bs fs) enough (λ ks are. record { atoms = ks; are = are; told = λ p o s u. s }) (all_stay c rows (left_by bs fs))
+
 -- ---- sizes
 
 left_nodes : (b : Bool) (f : Tree) → nodes (left_of b f) ≤ nodes f

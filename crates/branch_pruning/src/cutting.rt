@@ -25,11 +25,19 @@ use std::alloc::{AllocError, Global};
 // Fewer atoms than these, simplifying has compared with each other.
 const FEWEST: usize = 3;
 
+/// How far a formula is cut: in its conjunction or those of its disjunction, or in what stands inside these too.
+#[derive(Clone, Copy, Debug, PartialEq, Eq)]
+pub enum Reach {
+    Outermost,
+    Whole,
+}
+
 /// What cuts formulas under the assumptions that have these rows, as far as the effort goes.
 #[derive(Drop)]
 pub(crate) struct Cutter {
     pub alloc: Global,
     pub context: Context,
+    pub reach: Reach,
     pub assumed: Vec<AtomRows>,
     pub effort: u64,
 }
@@ -110,6 +118,9 @@ impl Cutter {
         ensures kept { Keeps (IsId store.old) (tree store.old) (IsId store.new) (tree store.new) }
     {
         let left = without_implied(self.alloc, store, ids, marks)?;
+        if self.reach == Reach::Outermost {
+            return Ok(store.make(Shape::And(Ids::of(left)))?);
+        }
         let outer = self.assumed.len();
         self.assume(rows, marks)?;
         let members = self.each_inside(store, &left)?;

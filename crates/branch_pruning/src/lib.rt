@@ -12,5 +12,6 @@ mod pruning;
 mod rows;
 
 pub use covering::uncovered;
+pub use cutting::Reach;
 pub use impossible::is_impossible;
 pub use pruning::pruned;

@@ -12,7 +12,7 @@ ghost use Rattle.formula_tree.specs.Makers.{IsMade, Keeps};
 ghost use Rattle.formula_store.specs.Nodes.{tree, IsId};
 ghost use Rattle.branch_pruning.specs.Pruned.{IsPrunedTo};
 
-use crate::cutting::Cutter;
+use crate::cutting::{Cutter, Reach};
 use crate::rows::rows_of_atoms;
 use atom_normal::{Atom, Context};
 use formula_store::{FormulaId, Store};
@@ -32,6 +32,7 @@ pub fn pruned(
     context: Context,
     assumed: &[Atom],
     id: FormulaId,
+    reach: Reach,
     effort: &mut u64,
 ) -> Result<FormulaId, AllocError>
     requires id { IsId store.old id }
@@ -49,6 +50,7 @@ pub fn pruned(
     let mut cutter = Cutter {
         alloc,
         context,
+        reach,
         assumed: rows_of_atoms(alloc, context, assumed)?,
         effort: *effort,
     };

@@ -17,6 +17,7 @@ ghost use Rattle.branch_rounds.specs.Children.{AreChildrenOf, HasPoints, IsAdded
 use crate::error::RoundError;
 use crate::work::Work;
 use branch_points::Chosen;
+use branch_pruning::Reach;
 use formula_store::{FormulaId, Store};
 use formula_tree::Shape;
 use qe_parallel::Gate;
@@ -43,6 +44,7 @@ impl Work<'_> {
         branch: FormulaId,
         chosen: &Chosen,
         workers: usize,
+        reach: Reach,
         effort: &mut u64,
         gate: &G,
     ) -> Result<Vec<Child>, RoundError>
@@ -63,7 +65,7 @@ impl Work<'_> {
         let mut children = Vec::new(self.alloc);
         for place in 0..put.len() {
             let point = &chosen.points[place];
-            if self.add_child(store, &mut children, put[place], point, effort)? {
+            if self.add_child(store, &mut children, put[place], point, reach, effort)? {
                 return Ok(last_alone(self.alloc, children)?);
             }
         }
@@ -114,6 +116,7 @@ impl Work<'_> {
         children: &mut Vec<Child>,
         put: FormulaId,
         point: &TestPoint,
+        reach: Reach,
         effort: &mut u64,
     ) -> Result<bool, AllocError>
         requires work { IsWork self.now }
@@ -124,7 +127,7 @@ impl Work<'_> {
         ensures added { IfOk result (IsAdded self.now (tree store.old put) point.now store.new children.old.items children.new.items) }
         ensures kept { Keeps (IsId store.old) (tree store.old) (IsId store.new) (tree store.new) }
     {
-        let Some(formula) = self.left_at(store, put, point, effort)? else {
+        let Some(formula) = self.left_at(store, put, point, reach, effort)? else {
             return Ok(false);
         };
         let point = point.copy(self.alloc)?;

@@ -18,6 +18,7 @@ use crate::error::{RoundError, of_choice};
 use crate::spread::Spread;
 use crate::work::Work;
 use branch_points::chosen;
+use branch_pruning::Reach;
 use formula_store::Store;
 use linear_forms::VarId;
 use qe_parallel::Gate;
@@ -96,12 +97,24 @@ impl Work<'_> {
             return Err(error);
         }
         let left = others(self.alloc, branch.left(), choice.name)?;
+        let reach = reach_with(&left);
         let effort = budget.effort();
-        let children = match self.children(rt, store, formula, &choice, workers, effort, gate) {
+        let children = match self.children(
+            rt, store, formula, &choice, workers, reach, effort, gate,
+        ) {
             Ok(children) => children,
             Err(error) => return Err(error),
         };
         Ok(branches_at(self.alloc, branch.points(), children, &left)?)
+    }
+}
+
+// How far a branch is pruned that has these names left: wholly once it is done.
+fn reach_with(left: &[VarId]) -> Reach {
+    if left.is_empty() {
+        Reach::Whole
+    } else {
+        Reach::Outermost
     }
 }
 

@@ -12,7 +12,7 @@ ghost use Rattle.branch_rounds.specs.Worked.{guarded, IsWork, IsLeft};
 
 use crate::work::Work;
 use atom_normal::Context;
-use branch_pruning::pruned;
+use branch_pruning::{Reach, pruned};
 use cooper_periods::guard;
 use formula_meaning::Junction;
 use formula_store::{FormulaId, Store};
@@ -29,6 +29,7 @@ impl Work<'_> {
         store: &mut Store,
         put: FormulaId,
         point: &TestPoint,
+        reach: Reach,
         effort: &mut u64,
     ) -> Result<Option<FormulaId>, AllocError>
         requires work { IsWork self.now }
@@ -40,7 +41,15 @@ impl Work<'_> {
         ensures kept { Keeps (IsId store.old) (tree store.old) (IsId store.new) (tree store.new) }
     {
         let whole = self.with_guard(store, put, point)?;
-        let left = pruned(self.alloc, store, self.context, self.assumed, whole, effort)?;
+        let left = pruned(
+            self.alloc,
+            store,
+            self.context,
+            self.assumed,
+            whole,
+            reach,
+            effort,
+        )?;
         Ok(unless_false(store, left))
     }
 

@@ -11,7 +11,7 @@ ghost use Rattle.formula_store.specs.Nodes.{tree, IsId};
 ghost use Rattle.branch_rounds.specs.Worked.{IsWork, IsWorkedTo};
 ghost use Rattle.inner_blocks.specs.Blocks.{IsBlock, ClosesBlock};
 
-use branch_pruning::pruned;
+use branch_pruning::{Reach, pruned};
 use branch_rounds::{Branch, Budget, RoundError, Work, block_branches, formulas_of};
 use formula_meaning::{Junction, Quantifier};
 use formula_store::{FormulaId, Store};
@@ -66,6 +66,7 @@ impl Block<'_> {
             self.work.context,
             self.work.assumed,
             together,
+            Reach::Whole,
             budget.effort(),
         )?;
         Ok(asked(alloc, store, self.quantifier, small)?)

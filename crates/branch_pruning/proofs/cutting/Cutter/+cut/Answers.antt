@@ -17,7 +17,7 @@ use Rattle.atom_pruning.specs.Rows.{AreRows}
 use Rattle.atom_pruning.specs.Kept.{IsKept}
 use Rattle.branch_pruning.specs.Cuts.{IsCutTo, IsInsideCutTo, AreAll, AreIn, said, left_by}
 use Rattle.branch_pruning.proofs.CutTrees.{cut_nodes}
-use Rattle.branch_pruning.proofs.Conjunctions.{decided_cut, inside_itself, impossible_cut, disjunction_cut, conjunction_cut, left_few}
+use Rattle.branch_pruning.proofs.Conjunctions.{decided_cut, inside_itself, impossible_cut, disjunction_cut, conjunction_cut, conjunction_left, left_few}
 use Rattle.branch_pruning.proofs.Walking.{rows_length, cut_more}
 use Rattle.branch_pruning.proofs.Staying.{on_ok_map, stays_then, stays_atoms, stays_cut, made_in}
 use Rattle.branch_pruning.proofs.cutting.Cutter.+cut.Goals as goal
@@ -92,8 +92,28 @@ pub marked-returns-in_err-members-clause-kept : goal.marked-returns-in_err-membe
 marked-returns-in_err-members-clause-kept t c = keeps_then c.args.store.now c.without_implied.new.store c.each_inside.new.store c.without_implied.ensures.kept c.each_inside.ensures.kept
 
 pub marked-returns-in_err-make-clause-kept : goal.marked-returns-in_err-make-clause-kept
-marked-returns-in_err-make-clause-kept t c =
-    keeps_then c.args.store.now c.each_inside.new.store c.make.new.self (keeps_then c.args.store.now c.without_implied.new.store c.each_inside.new.store c.without_implied.ensures.kept c.each_inside.ensures.kept) c.make.ensures.kept
+marked-returns-in_err-make-clause-kept t c = keeps_then c.args.store.now c.without_implied.new.store c.make.new.self c.without_implied.ensures.kept c.make.ensures.kept
+
+pub marked-returns-then-eq-clause-cut : goal.marked-returns-then-eq-clause-cut
+marked-returns-then-eq-clause-cut t c =
+    let o = context_of c.args.self.now.context in
+    let rows = c.args.self.now.assumed.items in
+    let fs : List Tree = map (tree c.args.store.now) c.args.ids.now in
+    let now = c.without_implied.new.store in
+    let bs = c.args.marks.now in
+    let left : List FormulaId = c.in_ok-left.left.items in
+    let made : IsMade (IsId c.make.new.self) (tree c.make.new.self) c.in_ok-make.field-0 (And (members (map (tree now) left))) =
+    subst (λ rs. IsMade (IsId c.make.new.self) (tree c.make.new.self) c.in_ok-make.field-0 (And (members (map (tree now) rs)))) c.of.ensures c.in_ok-make.ensures.made in
+    let same : map (tree now) left ≡ left_by bs fs = c.in_ok-left.ensures.made.same in
+    made_in (IsInsideCutTo o rows) (And (members fs)) (And (members (left_by bs fs))) c.make.new.self c.in_ok-make.field-0
+    (subst (λ gs. IsMade (IsId c.make.new.self) (tree c.make.new.self) c.in_ok-make.field-0 (And (members gs))) same made) (conjunction_left o rows bs fs c.requires.enough)
+
+pub marked-returns-then-eq-clause-kept : goal.marked-returns-then-eq-clause-kept
+marked-returns-then-eq-clause-kept t c = keeps_then c.args.store.now c.without_implied.new.store c.make.new.self c.without_implied.ensures.kept c.make.ensures.kept
+
+pub marked-returns-in_err-make-2-clause-kept : goal.marked-returns-in_err-make-2-clause-kept
+marked-returns-in_err-make-2-clause-kept t c =
+    keeps_then c.args.store.now c.each_inside.new.store c.make-2.new.self (keeps_then c.args.store.now c.without_implied.new.store c.each_inside.new.store c.without_implied.ensures.kept c.each_inside.ensures.kept) c.make-2.ensures.kept
 
 pub marked-returns-clause-cut : goal.marked-returns-clause-cut
 marked-returns-clause-cut t c =
@@ -109,14 +129,14 @@ marked-returns-clause-cut t c =
     let each : AreAll (IsInsideCutTo (context_of c.assume.new.self.context) inner) (map (tree now) c.deref.result.now) (map (tree then) ms) = c.in_ok-members.ensures.cut.to in
     let cut : AreAll (IsInsideCutTo o inner) (left_by bs fs) (map (tree then) ms) =
     subst (λ gs. AreAll (IsInsideCutTo o inner) gs (map (tree then) ms)) same (subst (λ k. AreAll (IsInsideCutTo (context_of k) inner) (map (tree now) c.deref.result.now) (map (tree then) ms)) c.in_ok-assume.ensures.context each) in
-    let made : IsMade (IsId c.make.new.self) (tree c.make.new.self) c.in_ok-make.field-0 (And (members (map (tree then) ms))) =
-    subst (λ rs. IsMade (IsId c.make.new.self) (tree c.make.new.self) c.in_ok-make.field-0 (And (members (map (tree then) rs)))) c.of.ensures c.in_ok-make.ensures.made in
-    made_in (IsInsideCutTo o rows) (And (members fs)) (And (members (map (tree then) ms))) c.make.new.self c.in_ok-make.field-0 made
+    let made : IsMade (IsId c.make-2.new.self) (tree c.make-2.new.self) c.in_ok-make-2.field-0 (And (members (map (tree then) ms))) =
+    subst (λ rs. IsMade (IsId c.make-2.new.self) (tree c.make-2.new.self) c.in_ok-make-2.field-0 (And (members (map (tree then) rs)))) c.of-2.ensures c.in_ok-make-2.ensures.made in
+    made_in (IsInsideCutTo o rows) (And (members fs)) (And (members (map (tree then) ms))) c.make-2.new.self c.in_ok-make-2.field-0 made
     (conjunction_cut o rows inner bs fs (map (tree then) ms) c.requires.enough (λ ks are. c.in_ok-assume.ensures.told o ks (map said fs) are c.requires.rows) cut)
 
 pub marked-returns-clause-kept : goal.marked-returns-clause-kept
 marked-returns-clause-kept t c =
-    keeps_then c.args.store.now c.each_inside.new.store c.make.new.self (keeps_then c.args.store.now c.without_implied.new.store c.each_inside.new.store c.without_implied.ensures.kept c.each_inside.ensures.kept) c.make.ensures.kept
+    keeps_then c.args.store.now c.each_inside.new.store c.make-2.new.self (keeps_then c.args.store.now c.without_implied.new.store c.each_inside.new.store c.without_implied.ensures.kept c.each_inside.ensures.kept) c.make-2.ensures.kept
 
 -- ---- a disjunction
 

@@ -35,7 +35,7 @@ returns-clause-step g c =
     subst (λ (l : List VarId). IsChosen w.context (tree old b.formula) l c.in-Ok.choice) c.left.ensures (subst (λ (i : FormulaId). IsChosen w.context (tree old i) c.left.result.now c.in-Ok.choice) c.formula-formula.ensures c.in-Ok.ensures.chosen) in
     let are : AreChildrenOf w (tree old b.formula) c.in-Ok.choice new kids =
     subst (λ (i : FormulaId). AreChildrenOf w (tree old i) c.in-Ok.choice new kids) c.formula-formula.ensures c.in-Ok-children.ensures.children in
-    let left : c.deref.result.now ≡ others_of x b.left = c.deref.ensures.value ∙ c.in_ok-left.ensures ∙ ap (others_of x) c.left-2.ensures in
+    let left : c.deref-2.result.now ≡ others_of x b.left = c.deref-2.ensures.value ∙ c.in_ok-left.ensures ∙ ap (others_of x) c.left-2.ensures in
     let is : c.in_ok-branches_at.field-0.items ≡ map (branch_at b.points (others_of x b.left)) kids = c.in_ok-branches_at.ensures ∙ (λ i. map (branch_at (c.points.ensures i) (left i)) kids) in
     subst (λ (bs : List Seen). IsStep w old b new bs) (sym is) (step_is w old new b c.requires.are_open c.in-Ok.choice chosen kids are)
 
@@ -114,4 +114,4 @@ returns-clause-direct g c x s d =
     let alone = chosen_alone w f b.left x s c.args.budget.now.nodes d c.most-most.result c.in-Ok.choice rule in
     let are : AreChildrenOf w f c.in-Ok.choice new kids = subst (λ (i : FormulaId). AreChildrenOf w (tree old i) c.in-Ok.choice new kids) c.formula-formula.ensures c.in-Ok-children.ensures.children in
     subst (λ (bs : List Seen). IsLeftAlone o x.number s f new bs) (sym c.in_ok-branches_at.ensures)
-    (left_alone w f b.left x s c.args.budget.now.nodes d c.in-Ok.choice alone new kids are c.points.result.now c.deref.result.now)
+    (left_alone w f b.left x s c.args.budget.now.nodes d c.in-Ok.choice alone new kids are c.points.result.now c.deref-2.result.now)
