@@ -6,7 +6,7 @@ ghost use Rattle.formula_meaning.specs.Atom.{Atom as Meant};
 ghost use Rattle.atom_pruning.specs.Rows.{AreRows};
 ghost use Rattle.atom_pruning.specs.Kept.{AreImpossible, IsKept};
 
-use crate::balance::Prospect;
+use crate::outlook::Outlook;
 use crate::question::Question;
 use crate::row_list::RowList;
 use crate::rows::AtomRows;
@@ -42,15 +42,16 @@ pub fn kept(
     };
     let question = Question::new(alloc, rows)?;
     let mut marks = question.marks()?;
-    let prospect = Prospect::of(alloc, assumed, atoms)?;
-    if prospect.contradiction && question.refutes(&marks, effort)? {
+    let mut outlook = Outlook::of(alloc, assumed, atoms)?;
+    if outlook.may_contradict() && question.surveys(&marks, outlook.needed()?, effort)? {
         return Ok(Pruned::Impossible);
     }
     for place in (0..atoms.len()).rev() {
-        if prospect.may_be_implied(place) {
+        if outlook.may_be_implied(place, &atoms[place]) {
             marks[place] = false;
             let implied = question.implies(place, &mut marks, effort)?;
             marks[place] = !implied;
+            outlook.settle(place, implied);
         }
     }
     marks.truncate(atoms.len());
@@ -68,8 +69,7 @@ pub fn are_impossible(
     ensures impossible { IfOk result (λ b. IsTrue b → (c : Theory) (ks us : List Meant) → AreRows c ks assumed.now → AreRows c us atoms.now → AreImpossible c ks us) }
     ensures effort { effort.new ≤ effort.old }
 {
-    let prospect = Prospect::of(alloc, assumed, atoms)?;
-    if *effort == 0 || !prospect.contradiction {
+    if *effort == 0 || !Outlook::of(alloc, assumed, atoms)?.may_contradict() {
         return Ok(false);
     }
     let rows = RowList {

@@ -60,6 +60,23 @@ impl<'a> Question<'a> {
         }
     }
 
+    // The same, and where no multipliers are found, marks atoms whose rows are marked and that are found not to be implied by the others.
+    pub(crate) fn surveys(
+        &self,
+        marks: &[bool],
+        needed: &mut [bool],
+        effort: &mut u64,
+    ) -> Result<bool, AllocError>
+        ensures refuted { IfOk result (λ b. IsTrue b → AreRefuted (asked_of self.now.rows) marks.now) }
+        ensures effort { effort.new ≤ effort.old }
+    {
+        let negations = self.rows.negations();
+        match self.system.survey(marks, negations, needed, effort)? {
+            Some(multipliers) => self.combination(marks, &multipliers)?.refutes(self.alloc),
+            None => Ok(false),
+        }
+    }
+
     // Whether the marked rows are refuted with the negation of the atom at a place, so that they imply it; not where it has no row.
     pub(crate) fn implies(
         &self,

@@ -1,9 +1,10 @@
 -- The ways to choose a name and its points.
 use Rattle.std.proofs.lemmas.List.{length-map}
-use Rattle.std.proofs.Common.{◌≡◌, ◌≤◌, max, length, arith, ℕ, true, false, Some, None, List, [], ◌∷◌, All as Each, map, refl, ap, sym, ◌∙◌, subst}
+use Rattle.std.proofs.Common.{◌≡◌, ◌≤◌, max, length, arith, ℕ, true, false, is_some, Option, Some, None, List, [], ◌∷◌, All as Each, map, refl, ap, sym, ◌∙◌, subst}
 use Rattle.std.specs.List.{AllByRecursion}
 use Rattle.std.proofs.lemmas.List.Elements.{All-from_recursion}
 use Rattle.formula_meaning.specs.Context as meaning
+use Rattle.formula_meaning.specs.Atom as meant
 use Rattle.formula_meaning.specs.Formula.{And}
 use Rattle.formula_meaning.specs.Form.{Form}
 use Rattle.formula_meaning.specs.Some.{Among, EachOf}
@@ -12,7 +13,7 @@ use Rattle.formula_meaning.specs.Tree.{Tree, Trees, IsFree}
 use Rattle.elimination_theory.specs.Answers.{zero_place}
 use Rattle.elimination_theory.specs.BothTheories.{IsPlaceIn}
 use Rattle.elimination_theory.proofs.BothSubstitutions.{place_in}
-use Rattle.elimination_theory.proofs.SomeListed.{each_among}
+use Rattle.elimination_theory.proofs.SomeListed.{each_among, each_map}
 use Rattle.elimination_reference.specs.Reference.{stands_among}
 use Rattle.elimination_reference.specs.Theorems.{IsTidy}
 use Rattle.elimination_reference.proofs.Tidy.{tidy_in}
@@ -28,10 +29,18 @@ use Rattle.case_theory.specs.Direct.{first_equation}
 use Rattle.case_theory.proofs.Points.{zero_point, root_point, side_points}
 use Rattle.branch_points.specs.declared.choice.Chosen.{Chosen}
 use Rattle.branch_points.specs.Chosen.{AreAtomsOf, conjuncts, HasNoEquation, IsRootAmong, IsOnSide, IsChosen, IsByRule, NeedsCounting}
+use Rattle.branch_points.specs.declared.ends.Ends.{Ends}
+use Rattle.branch_points.specs.Ends.{AreEnds}
 use Rattle.branch_points.proofs.CountedPoints.{points_counted}
 use Rattle.branch_points.proofs.FirstEquations.{conjunct_is}
 use Rattle.branch_points.proofs.RootsAmong.{root_first}
 use Rattle.branch_points.proofs.Names.{numbers, only_name, number_among, among_numbers, free_where_standing, absent_where_not}
+
+-- where the table has the names, they stand in some atom
+pub standing : (atoms : List meant.Atom) (table : ℕ → Option Ends) → AreEnds atoms table → (left : List VarId) → EachOf (λ (x : VarId). is_some (table x.number) ≡ true) left →
+    EachOf (λ (x : VarId). stands_among x.number atoms ≡ true) left
+standing atoms table are left =
+    each_map (λ (x : VarId). is_some (table x.number) ≡ true) (λ (x : VarId). stands_among x.number atoms ≡ true) (λ x e. sym (are.stands x.number) ∙ e) left
 
 each_place : (c : meaning.Context) (x : ℕ) (f : Tree) (points : List TestPoint) → EachOf (IsPointFor c x f) (map place_of points) → AllByRecursion (λ t. IsPlaceIn c (place_of t)) points
 each_place c x f [] e = tt

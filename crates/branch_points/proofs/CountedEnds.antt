@@ -1,12 +1,12 @@
 -- The ends of the names, counted term by term and atom by atom.
-use Rattle.std.proofs.Common.{◌≡◌, inl, inr, ℕ, zero, suc, ◌+◌, ◌<◌, ◌≤◌, Bool, true, false, List, [], ◌∷◌, ◌++◌, map, length, take, get_or, Option, Some, None, count_by, cond, nat_eq, is_some, sym, ap, ap₂, ◌∙◌, subst, refl, arith, if◌then◌else◌}
+use Rattle.std.proofs.Common.{◌≡◌, inl, inr, ℕ, zero, suc, ◌+◌, ◌^◌, ◌<◌, ◌≤◌, length-take, Bool, true, false, List, [], ◌∷◌, ◌++◌, map, length, take, get_or, Option, Some, None, count_by, cond, nat_eq, is_some, sym, ap, ap₂, ◌∙◌, subst, refl, arith, if◌then◌else◌}
 use Rattle.std.proofs.Math.IntN.{ℤ, pos, negsuc, neg_ℤ, ◌+ℤ◌}
 use Rattle.std.specs.Prelude.{slice_get, option_map, nat_lt, ◌/◌}
 use Rattle.std.specs.Ordering.{int_eq}
 use Rattle.std.specs.Cmp.{signed_Decides}
 use Rattle.std.proofs.lemmas.Bool.{cases_eq}
-use Rattle.std.proofs.lemmas.List.{take_more, take_all, map-append}
-use Rattle.std.proofs.lemmas.List.Sums.{sum_by-cons}
+use Rattle.std.proofs.lemmas.List.{take_all, map-append, length-map}
+use Rattle.std.proofs.lemmas.List.Sums.{sum_by-cons, count_by-le-length}
 use Rattle.std.proofs.lemmas.Option.{slice_get-get_or}
 use Rattle.formula_meaning.specs.Form.{Form, Term, multiple, coefficient, without, scale}
 use Rattle.formula_meaning.specs.Sorted.{AllAbove, IsRising, AllNonzero}
@@ -21,8 +21,13 @@ use Rattle.linear_forms.specs.Linear.{term_of}
 use Rattle.cooper_periods.specs.Starts.{has_end}
 use Rattle.atom_normal.specs.declared.atoms.Atom as program
 use Rattle.atom_normal.specs.Atoms.{atom_of}
+use Rattle.formula_tree.specs.declared.shape.Shape.{Shape}
+use Rattle.formula_tree.specs.declared.shape.Shape.TheVariants as shape
+use Rattle.formula_store.specs.declared.id.FormulaId.{FormulaId}
 use Rattle.branch_points.specs.declared.ends.Ends.{Ends}
+use Rattle.branch_points.specs.Chosen.{shape_atoms, listed_atoms}
 use Rattle.branch_points.specs.Ends.{once, ends_with, end_count, AreEnds, HaveMore, HaveTerm, HasRoom}
+use Rattle.branch_points.proofs.ListedAtoms.{listed_more, listed_few}
 
 -- ---- the first terms of a form
 
@@ -164,9 +169,28 @@ atom_last atoms a old new are more = record {
       ∙ sym (stands_last x atoms a);
 }
 
-pub atom_more : (atoms : List program.Atom) (i : ℕ) (a : program.Atom) (old new : ℕ → Option Ends) → i < length atoms → a ≡ get_or atoms i a →
-    AreEnds (map atom_of (take i atoms)) old → HaveMore (atom_of a) (λ x. coefficient x (form_of (atom_of a))) old new → AreEnds (map atom_of (take (i + 1) atoms)) new
-atom_more atoms i a old new h is are more =
-    let taken : take (i + 1) atoms ≡ take i atoms ++ a ∷ [] = take_more atoms i a h ∙ ap (λ (d : program.Atom). take i atoms ++ d ∷ []) (sym is) in
-    let mapped : map atom_of (take (i + 1) atoms) ≡ map atom_of (take i atoms) ++ atom_of a ∷ [] = ap (map atom_of) taken ∙ map-append atom_of (take i atoms) (a ∷ []) in
-    subst (λ (all : List Atom). AreEnds all new) (sym mapped) (atom_last (map atom_of (take i atoms)) (atom_of a) old new are more)
+-- the atom of a shape more
+pub shape_more : (s : Shape FormulaId) (a : program.Atom) (atoms : List Atom) (old new : ℕ → Option Ends) → s ≡ shape.One a → HaveMore (atom_of a) (λ x. coefficient x (form_of (atom_of a))) old new →
+    AreEnds atoms old → AreEnds (atoms ++ map atom_of (shape_atoms s)) new
+shape_more s a atoms old new is more are =
+    subst (λ (n : Shape FormulaId). AreEnds (atoms ++ map atom_of (shape_atoms n)) new) (sym is) (atom_last atoms (atom_of a) old new are more)
+
+-- ---- one subformula more
+
+module _ (nodes : List (Shape FormulaId)) (ids : List FormulaId) (i : ℕ) (table : ℕ → Option Ends) (are : AreEnds (map atom_of (listed_atoms nodes (take i ids))) table) where
+  -- there is room for its ends
+  pub ends_room : i < length ids → length ids < 2 ^ 64 → (x : ℕ) → HasRoom (table x)
+  ends_room h fits x side =
+      let atoms : List program.Atom = listed_atoms nodes (take i ids) in
+      let few = listed_few nodes (take i ids) in
+      let some = count_by-le-length (has_end side x) (map atom_of atoms) in
+      let same = length-map atoms atom_of in
+      let taken = length-take i ids in
+      let is = are.counts side x in omega arith
+
+  pub node_more : (d : FormulaId) (s : Shape FormulaId) (new : ℕ → Option Ends) → i < length ids → slice_get nodes (get_or ids i d).number ≡ Some s →
+      ((atoms : List Atom) → AreEnds atoms table → AreEnds (atoms ++ map atom_of (shape_atoms s)) new) → AreEnds (map atom_of (listed_atoms nodes (take (i + 1) ids))) new
+  node_more d s new h at more =
+      let mapped : map atom_of (listed_atoms nodes (take (i + 1) ids)) ≡ map atom_of (listed_atoms nodes (take i ids)) ++ map atom_of (shape_atoms s) =
+      ap (map atom_of) (listed_more nodes ids i d s h at) ∙ map-append atom_of (listed_atoms nodes (take i ids)) (shape_atoms s) in
+      subst (λ (all : List Atom). AreEnds all new) (sym mapped) (more (map atom_of (listed_atoms nodes (take i ids))) are)

@@ -1,16 +1,19 @@
 -- The name and the side with the fewest points, one name after another.
-use Rattle.std.proofs.Common.{◌≡◌, ℕ, suc, zero, ◌+◌, ◌<◌, List, [], ◌∷◌, Option, Some, None, length, get_or, take, refl, sym, subst, arith, ◌⊎◌, inl, inr, ⊎_elim}
+use Rattle.std.proofs.Common.{◌≡◌, ℕ, suc, zero, ◌+◌, ◌<◌, ◌≤◌, List, [], ◌∷◌, Option, Some, None, length, get_or, take, sym, subst, arith, ◌⊎◌, inl, inr, ⊎_elim}
 use Rattle.std.specs.Prelude.{IfSome}
+use Rattle.formula_meaning.specs.Context as meaning
 use Rattle.formula_meaning.specs.Some.{EachOf}
 use Rattle.formula_meaning.specs.Atom.{Atom}
 use Rattle.elimination_theory.specs.declared.side.Side.{Side}
 use Rattle.elimination_theory.specs.declared.side.Side.TheVariants.{Lower, Upper}
+use Rattle.elimination_theory.specs.IntegersPoints.{integer_count_of}
 use Rattle.elimination_theory.proofs.SomeListed.{each_map}
 use Rattle.linear_forms.specs.declared.form.VarId.{VarId}
 use Rattle.atom_normal.specs.declared.atoms.Context.{Context}
-use Rattle.atom_normal.specs.declared.atoms.Context.TheVariants as theory
 use Rattle.atom_normal.specs.Atoms.{context_of}
 use Rattle.branch_points.specs.declared.counts.Candidate.{Candidate}
+use Rattle.branch_points.specs.declared.ends.Ends.{Ends}
+use Rattle.branch_points.specs.Ends.{end_count, AreEnds}
 use Rattle.branch_points.specs.Counts.{SpanPasses, IsCount, IsCandidate, CountsAtMost, HasAtMost, IsBeaten, count_of}
 
 -- ---- lists
@@ -34,13 +37,13 @@ own_count : (o : Option ℕ) (n : ℕ) → IsCount o n → CountsAtMost o n
 own_count None n h = h
 own_count (Some m) n h = omega arith
 
-module _ (c : Context) (atoms : List Atom) where
-  -- a candidate has as many points as its name on its side
-  pub candidate_has : (k : Candidate) (x : VarId) (s : Side) → k.name ≡ x → k.side ≡ s → IsCandidate c atoms k → HasAtMost (Some k) (count_of (context_of c) s x.number atoms)
-  candidate_has k x s name side is =
-      subst (λ (y : VarId). HasAtMost (Some k) (count_of (context_of c) s y.number atoms)) name
-      (subst (λ (t : Side). HasAtMost (Some k) (count_of (context_of c) t k.name.number atoms)) side (own_count k.count (count_of (context_of c) k.side k.name.number atoms) is.count))
+-- a candidate has as many points as its name on its side
+pub candidate_has : (atoms : List Atom) (k : Candidate) (x : VarId) (s : Side) → k.name ≡ x → k.side ≡ s → IsCandidate atoms k → HasAtMost (Some k) (integer_count_of s x.number atoms)
+candidate_has atoms k x s name side is =
+    subst (λ (y : VarId). HasAtMost (Some k) (integer_count_of s y.number atoms)) name
+    (subst (λ (t : Side). HasAtMost (Some k) (integer_count_of t k.name.number atoms)) side (own_count k.count (integer_count_of k.side k.name.number atoms) is.count))
 
+module _ (c : Context) (atoms : List Atom) where
   pub either_side : (x : VarId) (best lower upper : Option Candidate) → ((n : ℕ) → HasAtMost lower n ⊎ HasAtMost upper n → HasAtMost best n) →
       HasAtMost lower (count_of (context_of c) Lower x.number atoms) → HasAtMost upper (count_of (context_of c) Upper x.number atoms) → IsBeaten c atoms best x
   either_side x best lower upper least l u = inr go
@@ -67,11 +70,21 @@ module _ (c : Context) (atoms : List Atom) where
       each_map (IsBeaten c atoms (Some k)) (λ (x : VarId). SpanPasses (context_of c) x.number atoms ⊎ ((s : Side) → P (count_of (context_of c) s x.number atoms)))
       (λ x. ⊎_elim (λ p. inl p) (λ f. inr (λ s. h (count_of (context_of c) s x.number atoms) (f s)))) left e
 
--- a span passes over the integers alone
-span_theory : (c : Context) (x : ℕ) (atoms : List Atom) → SpanPasses (context_of c) x atoms → c ≡ theory.Integers
-span_theory theory.Fields x atoms h = absurd h
-span_theory theory.Integers x atoms h = refl
+-- ---- over the fields, from the table of the ends
 
-pub spans_theory : (c : Context) (atoms : List Atom) (left : List VarId) → 0 < length left → EachOf (λ (x : VarId). SpanPasses (context_of c) x.number atoms) left → c ≡ theory.Integers
-spans_theory c atoms [] h e = absurd (omega arith)
-spans_theory c atoms (x ∷ left) h e = span_theory c x.number atoms e.0
+module _ (table : ℕ → Option Ends) where
+  -- on no side the name has fewer ends
+  abbrev pub HasNoFewer : ℕ → VarId → Type 0
+  HasNoFewer n x = (side : Side) → n ≤ end_count side (table x.number)
+
+  pub no_fewer_more : (left : List VarId) (i : ℕ) (d : VarId) (m n k : ℕ) → i < length left → EachOf (HasNoFewer m) (take i left) → HasNoFewer n (get_or left i d) → k ≤ m → k ≤ n →
+      EachOf (HasNoFewer k) (take (i + 1) left)
+  no_fewer_more left i d m n k h e p first second =
+      each_more (HasNoFewer k) left i d h (each_map (HasNoFewer m) (HasNoFewer k) (λ x f side. let a = f side in omega arith) (take i left) e) (λ side. let a = p side in omega arith)
+
+  -- what follows of each number of points
+  pub each_end : (atoms : List Atom) → AreEnds atoms table → (P : ℕ → Type 0) (n : ℕ) (left : List VarId) → ((m : ℕ) → n ≤ m → P (m + 1)) → EachOf (HasNoFewer n) left →
+      EachOf (λ (x : VarId). SpanPasses meaning.Fields x.number atoms ⊎ ((s : Side) → P (count_of meaning.Fields s x.number atoms))) left
+  each_end atoms are P n left h e =
+      each_map (HasNoFewer n) (λ (x : VarId). SpanPasses meaning.Fields x.number atoms ⊎ ((s : Side) → P (count_of meaning.Fields s x.number atoms)))
+      (λ x f. inr (λ s. subst (λ (m : ℕ). P (m + 1)) (are.counts s x.number) (h (end_count s (table x.number)) (f s)))) left e

@@ -1,8 +1,10 @@
 -- The atoms of the distinct subformulas of a formula are its atoms, each once.
-use Rattle.std.proofs.Common.{◌≡◌, ℕ, ◌+◌, ◌<◌, ◌≤◌, List, [], ◌∷◌, ◌++◌, All as Each, map, flat_map, length, get_or, drop, refl, ap, sym, ◌∙◌, subst, arith, inl, inr, ⊎_elim, ◌↔◌, add-one, drop-cons, append_assoc, append-nil}
-use Rattle.std.proofs.Math.ListN.{drop_of_length-le}
-use Rattle.std.proofs.lemmas.List.{map-append}
-use Rattle.std.proofs.lemmas.List.Elements.{All-from_recursion, recursion_from_All}
+use Rattle.std.proofs.Common.{◌≡◌, ℕ, ◌+◌, ◌<◌, ◌≤◌, List, [], ◌∷◌, ◌++◌, Some, slice_get, map, flat_map, length, length-append, get_or, drop, take, refl, ap, ap₂, sym, ◌∙◌, subst, arith, lit≤, inl, inr, ⊎_elim, ◌↔◌, add-one, drop-cons, append-nil}
+use Rattle.std.specs.List.{AllByRecursion}
+use Rattle.std.proofs.lemmas.Grind.{flat_map-append}
+use Rattle.std.proofs.lemmas.List.{map-append, take_more, take_all}
+use Rattle.std.proofs.lemmas.List.Elements.{All-from_recursion}
+use Rattle.std.proofs.lemmas.Option.{slice_get-get_or, get_or_from_slice_get}
 use Rattle.formula_meaning.specs.Formula.{Yes, No, One, Not, And, Or, Impl, Repl, Equiv, Ex, All, none, also}
 use Rattle.formula_meaning.specs.Some.{Among, EachOf}
 use Rattle.formula_meaning.specs.StandsOnce.{StandsOnce}
@@ -23,10 +25,11 @@ use Rattle.formula_store.specs.declared.id.FormulaId.{FormulaId}
 use Rattle.formula_store.specs.Nodes.{tree, IsId}
 use Rattle.formula_store.specs.Order.{Rises, RisesFrom, IsOrder}
 use Rattle.formula_store.proofs.Same.{same_tree}
+use Rattle.formula_store.proofs.Trees.{node_tree_below}
 use Rattle.formula_store.proofs.Before.{at_least_from}
 use Rattle.formula_store.proofs.Counted.{within_subtree, subtree_found, within_id, each_within}
 use Rattle.case_theory.proofs.Lists.{once_more}
-use Rattle.branch_points.specs.Chosen.{shape_atoms, AreAtomsOf}
+use Rattle.branch_points.specs.Chosen.{shape_atoms, listed_atoms, AreAtomsOf}
 
 -- ---- atoms and subtrees
 
@@ -168,7 +171,8 @@ module _ (nodes : List (Shape FormulaId)) where
     order_once : StandsOnce (atoms_at nodes ids)
     order_once = once ids o.rises (λ x m. within_id nodes h.are root x h (each_within nodes h.are root ids o.only x m))
 
-    order_same : (a : Atom) → Among (atoms_at nodes ids) a ↔ Among (atoms_of (tree nodes root)) a
+    -- and they are those of the formula
+    pub order_same : (a : Atom) → Among (atoms_at nodes ids) a ↔ Among (atoms_of (tree nodes root)) a
     order_same a = (
       λ m.
           let r = listed_id ids a m in
@@ -179,7 +183,13 @@ module _ (nodes : List (Shape FormulaId)) where
           id_listed ids q.id a (o.all q.id (inl q.stands)) q.same,
     )
 
--- ---- one subformula after another
+-- ---- the atoms that are listed
+
+-- the node of an id gives its tree
+node_tree : (nodes : List (Shape FormulaId)) (id : FormulaId) → IsId nodes id → tree nodes id ≡ tree_over (tree nodes) (get_or nodes id.number shape.True)
+node_tree nodes id h =
+    let at = slice_get-get_or nodes id.number shape.True h.below in
+    node_tree_below nodes id.number (get_or nodes id.number shape.True) (h.are.below id.number (get_or nodes id.number shape.True) at) at
 
 shape_well : {Id : Type 0} (s : Shape Id) → IsProperShape s → EachOf IsWellFormed (shape_atoms s)
 shape_well (shape.One a) h = (h, tt)
@@ -194,26 +204,76 @@ shape_well (shape.Equiv f g) h = tt
 shape_well (shape.Ex x f) h = tt
 shape_well (shape.All x f) h = tt
 
-pub well_more : {Id : Type 0} (s : Shape Id) (old new : List code.Atom) → IsProperShape s → new ≡ old ++ shape_atoms s → Each IsWellFormed old → Each IsWellFormed new
-well_more s old new h e w =
-    subst (Each IsWellFormed) (sym e) (All-from_recursion IsWellFormed (old ++ shape_atoms s) (each_append IsWellFormed old (shape_atoms s) (recursion_from_All IsWellFormed old w) (shape_well s h)))
+listed_well : (nodes : List (Shape FormulaId)) (ids : List FormulaId) → AllByRecursion (IsId nodes) ids → EachOf IsWellFormed (listed_atoms nodes ids)
+listed_well nodes [] h = tt
+listed_well nodes (i ∷ ids) h =
+    let at = slice_get-get_or nodes i.number shape.True h.0.below in
+    each_append IsWellFormed (shape_atoms (get_or nodes i.number shape.True)) (listed_atoms nodes ids)
+    (shape_well (get_or nodes i.number shape.True) (h.0.are.proper i.number (get_or nodes i.number shape.True) at)) (listed_well nodes ids h.1)
 
-pub atoms_more : (nodes : List (Shape FormulaId)) (ids : List FormulaId) (i : ℕ) (d : FormulaId) (s : Shape FormulaId) (old new : List code.Atom) (all : List Atom) → i < length ids →
-    tree nodes (get_or ids i d) ≡ tree_over (tree nodes) s → new ≡ old ++ shape_atoms s → map atom_of old ++ atoms_at nodes (drop i ids) ≡ all → map atom_of new ++ atoms_at nodes (drop (i + 1) ids) ≡ all
-atoms_more nodes ids i d s old new all h t e left =
-    let rest = atoms_at nodes (drop (i + 1) ids) in
+listed_same : (nodes : List (Shape FormulaId)) (ids : List FormulaId) → AllByRecursion (IsId nodes) ids → map atom_of (listed_atoms nodes ids) ≡ atoms_at nodes ids
+listed_same nodes [] h = refl
+listed_same nodes (i ∷ ids) h =
+    map-append atom_of (shape_atoms (get_or nodes i.number shape.True)) (listed_atoms nodes ids)
+    ∙ ap₂ (λ (l m : List Atom). l ++ m) (shape_own (tree nodes) (get_or nodes i.number shape.True) ∙ ap own_atom (sym (node_tree nodes i h.0))) (listed_same nodes ids h.1)
+
+each_from : (P : FormulaId → Type 0) (ids : List FormulaId) → ((x : FormulaId) → Among ids x → P x) → AllByRecursion P ids
+each_from P [] h = tt
+each_from P (i ∷ ids) h = (h i (inl refl), each_from P ids (λ x m. h x (inr m)))
+
+module _ (nodes : List (Shape FormulaId)) (root : FormulaId) (ids : List FormulaId) (h : IsId nodes root) (o : IsOrder nodes (root ∷ []) ids) where
+  -- the subformulas of a formula are ids,
+  pub listed_ids : AllByRecursion (IsId nodes) ids
+  listed_ids = each_from (IsId nodes) ids (λ x m. within_id nodes h.are root x h (each_within nodes h.are root ids o.only x m))
+
+  -- and their atoms those of the formula
+  pub listed_are : AreAtomsOf (tree nodes root) (listed_atoms nodes ids)
+  listed_are =
+      let e = listed_same nodes ids listed_ids in
+      record {
+        well_formed = All-from_recursion IsWellFormed (listed_atoms nodes ids) (listed_well nodes ids listed_ids);
+        once = subst StandsOnce (sym e) (order_once nodes root ids h o);
+        same = subst (λ (l : List Atom). (a : Atom) → Among l a ↔ Among (atoms_of (tree nodes root)) a) (sym e) (order_same nodes root ids h o);
+      }
+
+-- ---- one subformula after another
+
+-- the atom of a subformula comes before those of the subformulas after it
+pub atoms_from : (nodes : List (Shape FormulaId)) (ids : List FormulaId) (i : ℕ) (d : FormulaId) (s : Shape FormulaId) → i < length ids → tree nodes (get_or ids i d) ≡ tree_over (tree nodes) s →
+    map atom_of (shape_atoms s) ++ atoms_at nodes (drop (i + 1) ids) ≡ atoms_at nodes (drop i ids)
+atoms_from nodes ids i d s h t =
     let split : drop i ids ≡ get_or ids i d ∷ drop (i + 1) ids = rw (add-one, drop-cons ids i d) refl in
     let own : map atom_of (shape_atoms s) ≡ own_atom (tree nodes (get_or ids i d)) = shape_own (tree nodes) s ∙ ap own_atom (sym t) in
-    ap (λ l. map atom_of l ++ rest) e ∙ ap (λ l. l ++ rest) (map-append atom_of old (shape_atoms s)) ∙ append_assoc (map atom_of old) (map atom_of (shape_atoms s)) rest
-    ∙ ap (λ l. map atom_of old ++ (l ++ rest)) own ∙ ap (λ l. map atom_of old ++ atoms_at nodes l) (sym split) ∙ left
+    ap (λ (l : List Atom). l ++ atoms_at nodes (drop (i + 1) ids)) own ∙ ap (atoms_at nodes) (sym split)
 
-pub atoms_are : (nodes : List (Shape FormulaId)) (root : FormulaId) (ids : List FormulaId) (i : ℕ) (atoms : List code.Atom) → IsId nodes root → IsOrder nodes (root ∷ []) ids → length ids ≤ i →
-    map atom_of atoms ++ atoms_at nodes (drop i ids) ≡ atoms_at nodes ids → Each IsWellFormed atoms → AreAtomsOf (tree nodes root) atoms
-atoms_are nodes root ids i atoms h o past left well =
-    let over : drop i ids ≡ [] = drop_of_length-le ids past in
-    let e : map atom_of atoms ≡ atoms_at nodes ids = sym (append-nil (map atom_of atoms)) ∙ ap (λ l. map atom_of atoms ++ atoms_at nodes l) (sym over) ∙ left in
-    record {
-      well_formed = well;
-      once = subst StandsOnce (sym e) (order_once nodes root ids h o);
-      same = subst (λ (l : List Atom). (a : Atom) → Among l a ↔ Among (atoms_of (tree nodes root)) a) (sym e) (order_same nodes root ids h o);
-    }
+pub listed_more : (nodes : List (Shape FormulaId)) (ids : List FormulaId) (i : ℕ) (d : FormulaId) (s : Shape FormulaId) → i < length ids → slice_get nodes (get_or ids i d).number ≡ Some s →
+    listed_atoms nodes (take (i + 1) ids) ≡ listed_atoms nodes (take i ids) ++ shape_atoms s
+listed_more nodes ids i d s h at =
+    let f : FormulaId → List code.Atom = λ id. shape_atoms (get_or nodes id.number shape.True) in
+    let node : get_or nodes (get_or ids i d).number shape.True ≡ s = get_or_from_slice_get nodes (get_or ids i d).number s shape.True at in
+    ap (flat_map f) (take_more ids i d h) ∙ flat_map-append f (take i ids) (get_or ids i d ∷ [])
+    ∙ ap (λ (l : List code.Atom). flat_map f (take i ids) ++ l) (append-nil (f (get_or ids i d)) ∙ ap shape_atoms node)
+
+pub listed_all : (nodes : List (Shape FormulaId)) (ids : List FormulaId) (i : ℕ) → length ids ≤ i → listed_atoms nodes (take i ids) ≡ listed_atoms nodes ids
+listed_all nodes ids i h = ap (listed_atoms nodes) (take_all i ids h)
+
+-- there are no more atoms than formulas
+shape_one : {Id : Type 0} (s : Shape Id) → length (shape_atoms s) ≤ 1
+shape_one (shape.One a) = lit≤ tt
+shape_one shape.True = lit≤ tt
+shape_one shape.False = lit≤ tt
+shape_one (shape.And ids) = lit≤ tt
+shape_one (shape.Or ids) = lit≤ tt
+shape_one (shape.Not f) = lit≤ tt
+shape_one (shape.Impl f g) = lit≤ tt
+shape_one (shape.Repl f g) = lit≤ tt
+shape_one (shape.Equiv f g) = lit≤ tt
+shape_one (shape.Ex x f) = lit≤ tt
+shape_one (shape.All x f) = lit≤ tt
+
+pub listed_few : (nodes : List (Shape FormulaId)) (ids : List FormulaId) → length (listed_atoms nodes ids) ≤ length ids
+listed_few nodes [] = omega arith
+listed_few nodes (i ∷ ids) =
+    let one = shape_one (get_or nodes i.number shape.True) in
+    let rest = listed_few nodes ids in
+    let both = length-append (shape_atoms (get_or nodes i.number shape.True)) (listed_atoms nodes ids) in omega arith

@@ -1,5 +1,5 @@
 -- What is put for a name of a branch.
-use Rattle.std.specs.Prelude.{◌≡◌, ◌⊎◌, ◌≤◌, ℕ, List, [], ◌∷◌, All as Each, map, Some, None, ◌↔◌}
+use Rattle.std.specs.Prelude.{◌≡◌, ◌⊎◌, ◌≤◌, ℕ, List, [], ◌∷◌, All as Each, map, flat_map, get_or, Some, None, ◌↔◌}
 use Rattle.formula_meaning.specs.Formula.{Yes, No, One, Not, And, Or, Impl, Repl, Equiv, Ex, All, none, also}
 use Rattle.formula_meaning.specs.Fold.{append}
 use Rattle.formula_meaning.specs.Some.{Among, EachOf}
@@ -18,6 +18,7 @@ use Rattle.atom_normal.specs.declared.atoms.Atom.{Atom}
 use Rattle.atom_normal.specs.Atoms.{atom_of, context_of, IsWellFormed}
 use Rattle.formula_tree.specs.declared.shape.Shape.{Shape}
 use Rattle.formula_tree.specs.declared.shape.Shape.TheVariants as shape
+use Rattle.formula_store.specs.declared.id.FormulaId.{FormulaId}
 use Rattle.test_points.specs.declared.points.TestPoint.{TestPoint}
 use Rattle.test_points.specs.Points.{place_of, IsPointOf}
 use Rattle.case_theory.specs.Points.{ArePointsFor}
@@ -41,6 +42,10 @@ shape_atoms (shape.Repl f g) = []
 shape_atoms (shape.Equiv f g) = []
 shape_atoms (shape.Ex x f) = []
 shape_atoms (shape.All x f) = []
+
+-- the atoms among the formulas with these ids, in their order
+abbrev pub listed_atoms : List (Shape FormulaId) → List FormulaId → List Atom
+listed_atoms nodes ids = flat_map (λ (id : FormulaId). shape_atoms (get_or nodes id.number shape.True)) ids
 
 -- well-formed atoms, each once, which are those of the formula
 pub record AreAtomsOf (f : Tree) (atoms : List Atom) : Type 0 where

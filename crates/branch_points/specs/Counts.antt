@@ -15,8 +15,6 @@ use Rattle.test_points.specs.declared.error.PointError.{PointError}
 use Rattle.test_points.specs.declared.error.PointError.TheVariants as point
 use Rattle.cooper_periods.specs.Periods.{IsPeriodOf}
 use Rattle.cooper_periods.specs.Starts.{has_end}
-use Rattle.branch_points.specs.declared.counts.Grid.{Grid}
-use Rattle.branch_points.specs.declared.counts.Grid.TheVariants as grid
 use Rattle.branch_points.specs.declared.counts.Candidate.{Candidate}
 use Rattle.branch_points.specs.declared.error.ChoiceError.{ChoiceError}
 use Rattle.branch_points.specs.declared.error.ChoiceError.TheVariants as choice
@@ -26,13 +24,6 @@ abbrev pub choice_of : PointError → ChoiceError
 choice_of point.Overflow = choice.Overflow
 choice_of point.Nodes = choice.Nodes
 choice_of point.Memory = choice.Memory
-
--- over the fields nothing, over the integers the period of the name
-abbrev pub IsGridOf : Context → ℕ → List Atom → Grid → Type 0
-IsGridOf theory.Fields x atoms grid.Fields = Unit {0}
-IsGridOf theory.Fields x atoms (grid.Integers p) = ⊥
-IsGridOf theory.Integers x atoms grid.Fields = ⊥
-IsGridOf theory.Integers x atoms (grid.Integers p) = IsPeriodOf x atoms p
 
 -- how many points are formed: over the fields the infinity and one for each end, over the integers equal ones as often as they are formed
 abbrev pub count_of : meaning.Context → Side → ℕ → List Atom → ℕ
@@ -48,10 +39,10 @@ SpanPasses meaning.Integers x atoms = PastLimit (pos (own_span x atoms))
 abbrev pub IsCount : Option ℕ → ℕ → Type 0
 IsCount count n = MatchOption count (2 ^ 64 ≤ n) (λ m. m ≡ n)
 
--- a name and a side, what the points lie on, and their number
-pub record IsCandidate (c : Context) (atoms : List Atom) (k : Candidate) : Type 0 where
-  pub grid : IsGridOf c k.name.number atoms k.grid
-  pub count : IsCount k.count (count_of (context_of c) k.side k.name.number atoms)
+-- over the integers a name and a side, the period of the name, and the number of its points there
+pub record IsCandidate (atoms : List Atom) (k : Candidate) : Type 0 where
+  pub period : IsPeriodOf k.name.number atoms k.period
+  pub count : IsCount k.count (integer_count_of k.side k.name.number atoms)
 
 -- the count is at most n, or n does not fit in 64 bits either
 abbrev pub CountsAtMost : Option ℕ → ℕ → Type 0

@@ -1,24 +1,19 @@
 //! Names that stand nowhere in a branch.
 
-ghost use Rattle.std.specs.Prelude.{◌≡◌, true, false, nat_eq, map, MatchOption};
+ghost use Rattle.std.specs.Prelude.{◌≡◌, true, false, nat_eq, is_some, MatchOption};
 ghost use Rattle.std.specs.HashMap.{get};
 ghost use Rattle.formula_meaning.specs.Some.{Among, EachOf};
 ghost use Rattle.elimination_theory.specs.Answers.{zero_place};
-ghost use Rattle.elimination_reference.specs.Reference.{stands_among};
-ghost use Rattle.atom_normal.specs.Atoms.{atom_of};
 ghost use Rattle.test_points.specs.Points.{place_of, IsPointOf};
-ghost use Rattle.branch_points.specs.Ends.{AreEnds};
 
 use crate::ends::{Table, stands};
-use atom_normal::Atom;
 use linear_forms::{Linear, VarId};
 use std::alloc::Global;
 use test_points::{Place, TestPoint};
 
-/// The first of the names that stands in none of the atoms.
-pub(crate) fn absent_name(atoms: &[Atom], table: &Table, left: &[VarId]) -> Option<VarId>
-    requires { AreEnds (map atom_of atoms.now) (get nat_eq table.now) }
-    ensures { MatchOption result (EachOf (λ x. stands_among x.number (map atom_of atoms.now) ≡ true) left.now) (λ x. Among left.now x × (stands_among x.number (map atom_of atoms.now) ≡ false)) }
+/// The first of the names that has no entry in the table, since it stands in no atom.
+pub(crate) fn absent_name(table: &Table, left: &[VarId]) -> Option<VarId>
+    ensures { MatchOption result (EachOf (λ x. is_some (get nat_eq table.now x.number) ≡ true) left.now) (λ x. Among left.now x × (is_some (get nat_eq table.now x.number) ≡ false)) }
 {
     for name in left {
         if !stands(table, *name) {

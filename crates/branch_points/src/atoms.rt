@@ -1,29 +1,41 @@
 //! The atoms of a shared formula.
 
 ghost use Rattle.std.specs.Prelude.{◌≡◌, ◌++◌, IfOk, OnOk};
+ghost use Rattle.std.specs.List.{AllByRecursion};
 ghost use Rattle.formula_store.specs.Nodes.{tree, IsId};
-ghost use Rattle.branch_points.specs.Chosen.{AreAtomsOf, shape_atoms};
+ghost use Rattle.branch_points.specs.Chosen.{AreAtomsOf, shape_atoms, listed_atoms};
 
 use atom_normal::Atom;
 use formula_store::{FormulaId, Store, StoreError};
 use formula_tree::Shape;
 use std::alloc::{AllocError, Global};
 
-/// The atoms of the formula, each once, in the order of its distinct subformulas.
-pub(crate) fn branch_atoms(
-    alloc: Global,
+/// The distinct subformulas of the formula: among them each of its atoms stands once.
+pub(crate) fn distinct_subformulas(
     store: &Store,
     id: FormulaId,
-) -> Result<Vec<Atom>, AllocError>
+) -> Result<Vec<FormulaId>, AllocError>
     requires { IsId store.now id }
-    ensures { IfOk result (λ v. AreAtomsOf (tree store.now id) v.items) }
+    ensures ids { IfOk result (λ v. AllByRecursion (IsId store.now) v.items) }
+    ensures atoms { IfOk result (λ v. AreAtomsOf (tree store.now id) (listed_atoms store.now v.items)) }
 {
-    let ids = match store.subformulas(id) {
-        Ok(ids) => ids,
-        Err(StoreError::Memory) => return Err(AllocError),
-    };
+    match store.subformulas(id) {
+        Ok(ids) => Ok(ids),
+        Err(StoreError::Memory) => Err(AllocError),
+    }
+}
+
+/// Copies of the atoms among the formulas, in their order.
+pub(crate) fn atoms_among(
+    alloc: Global,
+    store: &Store,
+    ids: &[FormulaId],
+) -> Result<Vec<Atom>, AllocError>
+    requires { AllByRecursion (IsId store.now) ids.now }
+    ensures { IfOk result (λ v. v.items ≡ listed_atoms store.now ids.now) }
+{
     let mut atoms = Vec::new(alloc);
-    for id in &ids {
+    for id in ids {
         push_atom(alloc, &mut atoms, store.shape(*id))?;
     }
     Ok(atoms)

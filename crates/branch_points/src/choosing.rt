@@ -2,21 +2,23 @@
 
 ghost use Rattle.std.specs.Prelude.{◌≡◌, ◌<◌, ◌≤◌, [], ◌∷◌, nat_eq, map, max, length, All, IfOk, IfErr, IsErrOf};
 ghost use Rattle.std.specs.HashMap.{get};
+ghost use Rattle.std.specs.List.{AllByRecursion};
 ghost use Rattle.formula_meaning.specs.StandsOnce.{StandsOnce};
 ghost use Rattle.elimination_reference.specs.Theorems.{IsTidy};
 ghost use Rattle.atom_normal.specs.Atoms.{atom_of, context_of, IsWellFormed};
 ghost use Rattle.formula_store.specs.Nodes.{tree, IsId};
-ghost use Rattle.branch_points.specs.Chosen.{IsChosen, IsByRule, IsOnSide, NeedsCounting, InSomeOrder};
+ghost use Rattle.branch_points.specs.Chosen.{IsChosen, IsByRule, IsOnSide, NeedsCounting, InSomeOrder, listed_atoms};
 ghost use Rattle.branch_points.specs.Counts.{EachHasMore, NumbersPass};
 ghost use Rattle.branch_points.specs.Ends.{AreEnds};
 
 use crate::absent::{absent_name, at_zero};
-use crate::atoms::branch_atoms;
+use crate::atoms::{atoms_among, distinct_subformulas};
 use crate::choice::Chosen;
 use crate::counts::{fewest, is_within, points_of};
 use crate::ends::{Table, ends_of};
 use crate::equations::conjoined_root;
 use crate::error::ChoiceError;
+use crate::fields::over_fields;
 use atom_normal::{Atom, Context};
 use formula_store::{FormulaId, Store};
 use linear_forms::VarId;
@@ -48,15 +50,15 @@ pub fn chosen(
     ensures nodes { IsErrOf result ChoiceError.Nodes → InSomeOrder (λ atoms. EachHasMore context atoms left.now most) (tree store.now id) }
     ensures overflow { IsErrOf result ChoiceError.Overflow → InSomeOrder (λ atoms. NumbersPass context atoms left.now) (tree store.now id) }
 {
-    let atoms = branch_atoms(alloc, store, id)?;
-    let table = ends_of(alloc, &atoms)?;
-    if let Some(name) = absent_name(&atoms, &table, left) {
+    let ids = distinct_subformulas(store, id)?;
+    let table = ends_of(alloc, store, &ids, left.len())?;
+    if let Some(name) = absent_name(&table, left) {
         return Ok(alone(alloc, at_zero(alloc, name))?);
     }
     if let Some(root) = conjoined_root(alloc, context, store, id, left)? {
         return Ok(alone(alloc, root)?);
     }
-    counted(alloc, context, &atoms, &table, left, most)
+    counted(alloc, context, store, &ids, &table, left, most)
 }
 
 // The name of a point, and the point alone.
@@ -74,26 +76,51 @@ fn alone(alloc: Global, point: TestPoint) -> Result<Chosen, AllocError>
 fn counted(
     alloc: Global,
     context: Context,
-    atoms: &[Atom],
+    store: &Store,
+    ids: &[FormulaId],
     table: &Table,
+    left: &[VarId],
+    most: u64,
+) -> Result<Chosen, ChoiceError>
+    requires ids { AllByRecursion (IsId store.now) ids.now }
+    requires well_formed { All IsWellFormed (listed_atoms store.now ids.now) }
+    requires once { StandsOnce (map atom_of (listed_atoms store.now ids.now)) }
+    requires ends { AreEnds (map atom_of (listed_atoms store.now ids.now)) (get nat_eq table.now) }
+    requires some { 0 < length left.now }
+    ensures chosen { IfOk result (IsOnSide context (map atom_of (listed_atoms store.now ids.now)) left.now most) }
+    ensures nodes { IsErrOf result ChoiceError.Nodes → EachHasMore context (map atom_of (listed_atoms store.now ids.now)) left.now most }
+    ensures overflow { IsErrOf result ChoiceError.Overflow → NumbersPass context (map atom_of (listed_atoms store.now ids.now)) left.now }
+{
+    match context {
+        Context::Fields => over_fields(alloc, store, ids, table, left, most),
+        Context::Integers => {
+            let atoms = atoms_among(alloc, store, ids)?;
+            over_integers(alloc, &atoms, left, most)
+        }
+    }
+}
+
+// The points of the name and the side with the fewest over the integers.
+fn over_integers(
+    alloc: Global,
+    atoms: &[Atom],
     left: &[VarId],
     most: u64,
 ) -> Result<Chosen, ChoiceError>
     requires well_formed { All IsWellFormed atoms.now }
     requires once { StandsOnce (map atom_of atoms.now) }
-    requires ends { AreEnds (map atom_of atoms.now) (get nat_eq table.now) }
     requires some { 0 < length left.now }
-    ensures chosen { IfOk result (IsOnSide context (map atom_of atoms.now) left.now most) }
-    ensures nodes { IsErrOf result ChoiceError.Nodes → EachHasMore context (map atom_of atoms.now) left.now most }
-    ensures overflow { IsErrOf result ChoiceError.Overflow → NumbersPass context (map atom_of atoms.now) left.now }
+    ensures chosen { IfOk result (IsOnSide Context.Integers (map atom_of atoms.now) left.now most) }
+    ensures nodes { IsErrOf result ChoiceError.Nodes → EachHasMore Context.Integers (map atom_of atoms.now) left.now most }
+    ensures overflow { IsErrOf result ChoiceError.Overflow → NumbersPass Context.Integers (map atom_of atoms.now) left.now }
 {
-    let Some(fewest) = fewest(context, atoms, table, left) else {
+    let Some(fewest) = fewest(atoms, left) else {
         return Err(ChoiceError::Overflow);
     };
     if !is_within(fewest.count, most) {
         return Err(ChoiceError::Nodes);
     }
-    match points_of(alloc, context, atoms, fewest, most) {
+    match points_of(alloc, atoms, fewest, most) {
         Ok(points) => Ok(Chosen {
             name: fewest.name,
             points,

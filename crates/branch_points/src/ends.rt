@@ -1,14 +1,19 @@
 //! How many ends the names of a branch have on each side, from one pass over its atoms.
 
-ghost use Rattle.std.specs.Prelude.{◌≡◌, ◌+◌, ◌<◌, ◌^◌, ℕ, nat_eq, is_some, map, IfOk, OnOk, IsTrue, IsSome, ◌↔◌};
+ghost use Rattle.std.specs.Prelude.{◌≡◌, ◌+◌, ◌<◌, ◌^◌, ◌++◌, List, ℕ, nat_eq, is_some, map, IfOk, OnOk, IsTrue, IsSome, ◌↔◌};
 ghost use Rattle.std.specs.HashMap.{get};
+ghost use Rattle.std.specs.List.{AllByRecursion};
 ghost use Rattle.formula_meaning.specs.Form.{coefficient};
-ghost use Rattle.formula_meaning.specs.Atom.{form_of};
+ghost use Rattle.formula_meaning.specs.Atom.{form_of, Atom as Meant};
 ghost use Rattle.atom_normal.specs.Atoms.{atom_of, relation_of};
+ghost use Rattle.formula_store.specs.Nodes.{IsId};
 ghost use Rattle.cooper_periods.specs.Starts.{first_step};
+ghost use Rattle.branch_points.specs.Chosen.{shape_atoms, listed_atoms};
 ghost use Rattle.branch_points.specs.Ends.{once, ends_with, ends_or_none, towards, AreEnds, HaveMore, HaveTerm, HasRoom};
 
 use atom_normal::{Atom, Rel};
+use formula_store::{FormulaId, Store};
+use formula_tree::Shape;
 use linear_forms::{Linear, VarId};
 use std::alloc::{AllocError, Global};
 use std::collections::HashMap;
@@ -24,15 +29,33 @@ pub(crate) struct Ends {
 /// The ends of the names that stand in some atom, by the numbers of the names.
 pub(crate) type Table = HashMap<usize, Ends>;
 
-/// The ends of each name that stands in some of the atoms: each atom is looked at once, and the names that stand in it alone.
-pub(crate) fn ends_of(alloc: Global, atoms: &[Atom]) -> Result<Table, AllocError>
-    ensures { IfOk result (λ t. AreEnds (map atom_of atoms.now) (get nat_eq t)) }
+/// The ends of each name that stands in some atom among the formulas: each atom is looked at once, and the names that stand in it
+/// alone. There is room for so many names at once.
+pub(crate) fn ends_of(
+    alloc: Global,
+    store: &Store,
+    ids: &[FormulaId],
+    names: usize,
+) -> Result<Table, AllocError>
+    requires { AllByRecursion (IsId store.now) ids.now }
+    ensures { IfOk result (λ t. AreEnds (map atom_of (listed_atoms store.now ids.now)) (get nat_eq t)) }
 {
-    let mut table = HashMap::new(alloc);
-    for atom in atoms {
-        count_atom(&mut table, atom)?;
+    let mut table = HashMap::with_capacity(alloc, names)?;
+    for id in ids {
+        count_shape(&mut table, store.shape(*id))?;
     }
     Ok(table)
+}
+
+// Counts the ends of the names that stand in the atom of the shape, if it is one.
+fn count_shape(table: &mut Table, shape: &Shape<FormulaId>) -> Result<(), AllocError>
+    requires { (x : ℕ) → HasRoom (get nat_eq table.old x) }
+    ensures { OnOk result ((atoms : List Meant) → AreEnds atoms (get nat_eq table.old) → AreEnds (atoms ++ map atom_of (shape_atoms shape.now)) (get nat_eq table.new)) }
+{
+    match shape {
+        Shape::One(atom) => count_atom(table, atom),
+        _ => Ok(()),
+    }
 }
 
 // Counts the ends of the names that stand in the atom.

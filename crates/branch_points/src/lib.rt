@@ -9,6 +9,7 @@ mod counts;
 mod ends;
 mod equations;
 mod error;
+mod fields;
 mod roots;
 
 pub use choice::Chosen;

@@ -8,17 +8,19 @@ ghost use Rattle.atom_pruning.specs.Kept.{Imply};
 ghost use Rattle.branch_pruning.specs.Compared.{Implies, IsCovered};
 
 use crate::conjunction::Conjunction;
-use atom_pruning::{AtomRows, Sample, are_implied};
-use farkas_cert::Bound;
-use linear_forms::VarId;
+use crate::doubts::Doubts;
+use atom_pruning::{AtomRows, are_implied};
+use formula_store::FormulaId;
 use std::alloc::{AllocError, Global};
 use std::slice;
 
-/// What compares conjunctions under the assumptions that have these rows, as far as the effort goes.
+/// What compares conjunctions under the assumptions that have these rows, as far as the effort goes: conjunctions of these atoms, which
+/// rise.
 #[derive(Drop)]
 pub(crate) struct Comparer {
     pub alloc: Global,
     pub assumed: Vec<AtomRows>,
+    pub atoms: Vec<FormulaId>,
     pub effort: u64,
 }
 
@@ -40,20 +42,29 @@ impl Comparer {
         let Some(given) = given else {
             return Ok(false);
         };
-        let sample = Sample::of(self.alloc, &self.assumed, &given.rows, &mut self.effort)?;
+        let mut doubts = self.doubts(given)?;
         for (i, other) in all.iter().enumerate() {
-            if i != place && marks[i] && self.implies(given, &sample, other)? {
+            if i != place && marks[i] && self.implies(given, &mut doubts, other)? {
                 return Ok(true);
             }
         }
         Ok(false)
     }
 
-    // Whether the first conjunction, of which this is a sample, implies the other, if that is one.
+    // What is doubted beside a conjunction, at first.
+    fn doubts(&mut self, given: &Conjunction) -> Result<Doubts, AllocError>
+        ensures assumed { OnOk result (self.new.assumed.items ≡ self.old.assumed.items) }
+        ensures effort { OnOk result (self.new.effort ≤ self.old.effort) }
+    {
+        let count = self.atoms.len();
+        Doubts::of(self.alloc, &self.assumed, given, count, &mut self.effort)
+    }
+
+    // Whether the first conjunction, beside which these doubts stand, implies the other, if that is one.
     fn implies(
         &mut self,
         given: &Conjunction,
-        sample: &Option<Sample>,
+        doubts: &mut Doubts,
         other: &Option<Conjunction>,
     ) -> Result<bool, AllocError>
         ensures implied { IfOk result (λ b. IsTrue b → IsSomeAnd other.now (Implies self.old.assumed.items given.now)) }
@@ -61,13 +72,23 @@ impl Comparer {
         ensures effort { OnOk result (self.new.effort ≤ self.old.effort) }
     {
         match other {
-            Some(other) if self.may_imply(given, sample, other) => self.implies_each(given, other),
-            _ => Ok(false),
+            Some(other) => {
+                if doubts.refuse(given, &self.atoms, other) {
+                    return Ok(false);
+                }
+                self.implies_each(given, doubts, other)
+            }
+            None => Ok(false),
         }
     }
 
     // Whether each atom of the other conjunction is one of the given or is shown to be implied by them.
-    fn implies_each(&mut self, given: &Conjunction, other: &Conjunction) -> Result<bool, AllocError>
+    fn implies_each(
+        &mut self,
+        given: &Conjunction,
+        doubts: &mut Doubts,
+        other: &Conjunction,
+    ) -> Result<bool, AllocError>
         ensures implied { IfOk result (λ b. IsTrue b → Implies self.old.assumed.items given.now other.now) }
         ensures assumed { OnOk result (self.new.assumed.items ≡ self.old.assumed.items) }
         ensures effort { OnOk result (self.new.effort ≤ self.old.effort) }
@@ -77,6 +98,7 @@ impl Comparer {
                 continue;
             }
             if !self.shows(given, rows)? {
+                doubts.add(&self.atoms, *id);
                 return Ok(false);
             }
         }
@@ -96,64 +118,5 @@ impl Comparer {
             slice::from_ref(rows),
             &mut self.effort,
         )
-    }
-
-    // Whether each atom of the other conjunction is one of the given, or may be shown.
-    fn may_imply(&self, given: &Conjunction, sample: &Option<Sample>, other: &Conjunction) -> bool {
-        for (id, rows) in other.ids.iter().zip(&other.rows) {
-            if !given.has(*id) && !self.may_show(given, sample, rows) {
-                return false;
-            }
-        }
-        true
-    }
-
-    // Whether the row of the negated atom is there, the sample does not meet it, and the rows of the given atoms or of the assumptions
-    // can cancel each of its names.
-    fn may_show(&self, given: &Conjunction, sample: &Option<Sample>, rows: &AtomRows) -> bool {
-        let Some(negation) = &rows.fails else {
-            return false;
-        };
-        if let Some(sample) = sample
-            && !sample.may_show(rows)
-        {
-            return false;
-        }
-        for place in 0..negation.form.places() {
-            if let Some((name, coefficient)) = negation.form.term(place) {
-                let term = Term {
-                    name,
-                    coefficient,
-                    bound: negation.bound,
-                };
-                if !term.is_cancelled(&given.rows) && !term.is_cancelled(&self.assumed) {
-                    return false;
-                }
-            }
-        }
-        true
-    }
-}
-
-// A name of a row, with its coefficient and what bounds the row.
-#[derive(Clone, Copy)]
-struct Term {
-    name: VarId,
-    coefficient: i128,
-    bound: Bound,
-}
-
-impl Term {
-    // Whether the row of an atom of these has the name with the other sign, or one of both rows is an equation.
-    fn is_cancelled(self, rows: &[AtomRows]) -> bool {
-        rows.iter().any(|row| match &row.holds {
-            Some(other) => {
-                let coefficient = other.form.coefficient(self.name);
-                let turned = (coefficient < 0) != (self.coefficient < 0);
-                let equation = self.bound == Bound::Equal || other.bound == Bound::Equal;
-                coefficient != 0 && (turned || equation)
-            }
-            None => false,
-        })
     }
 }

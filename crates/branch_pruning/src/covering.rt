@@ -35,13 +35,14 @@ pub fn uncovered(
     ensures effort { effort.new ≤ effort.old }
 {
     let mut marks = vec![in alloc; true; formulas.len()]?;
-    if formulas.len() > MOST || *effort == 0 {
+    if formulas.len() < 2 || formulas.len() > MOST || *effort == 0 {
         return Ok(marks);
     }
     let conjunctions = conjunctions_of(alloc, context, store, formulas)?;
     let mut comparer = Comparer {
         alloc,
         assumed: rows_of_atoms(alloc, context, assumed)?,
+        atoms: atoms_of_all(alloc, &conjunctions)?,
         effort: *effort,
     };
     for (i, conjunction) in conjunctions.iter().enumerate() {
@@ -69,4 +70,18 @@ fn conjunctions_of(
         conjunctions.push(conjunction)?;
     }
     Ok(conjunctions)
+}
+
+// The atoms of the conjunctions, rising and each once.
+fn atoms_of_all(
+    alloc: Global,
+    conjunctions: &[Option<Conjunction>],
+) -> Result<Vec<FormulaId>, AllocError> {
+    let mut atoms = Vec::new(alloc);
+    for conjunction in conjunctions.iter().flatten() {
+        atoms.extend_from_slice(&conjunction.ids)?;
+    }
+    atoms.sort_unstable();
+    atoms.dedup();
+    Ok(atoms)
 }

@@ -25,9 +25,10 @@ use std::alloc::{AllocError, Global};
 // Fewer atoms than these, simplifying has compared with each other.
 const FEWEST: usize = 3;
 
-/// How far a formula is cut: in its conjunction or those of its disjunction, or in what stands inside these too.
+/// How far a formula is cut: not at all, in its conjunction or those of its disjunction, or in what stands inside these too.
 #[derive(Clone, Copy, Debug, PartialEq, Eq)]
 pub enum Reach {
+    Nowhere,
     Outermost,
     Whole,
 }

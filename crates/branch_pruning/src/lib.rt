@@ -6,6 +6,7 @@ mod conjunction;
 mod covering;
 mod cutting;
 mod deciding;
+mod doubts;
 mod impossible;
 mod members;
 mod pruning;

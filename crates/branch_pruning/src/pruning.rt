@@ -44,7 +44,7 @@ pub fn pruned(
     ensures kept { Keeps (IsId store.old) (tree store.old) (IsId store.new) (tree store.new) }
 {
     let first = simplified(alloc, store, context, assumed, id)?;
-    if *effort == 0 {
+    if *effort == 0 || reach == Reach::Nowhere {
         return Ok(first);
     }
     let mut cutter = Cutter {

@@ -97,7 +97,7 @@ impl Work<'_> {
             return Err(error);
         }
         let left = others(self.alloc, branch.left(), choice.name)?;
-        let reach = reach_with(&left);
+        let reach = reach_with(&left, choice.points.len());
         let effort = budget.effort();
         let children = match self.children(
             rt, store, formula, &choice, workers, reach, effort, gate,
@@ -109,10 +109,16 @@ impl Work<'_> {
     }
 }
 
-// How far a branch is pruned that has these names left: wholly once it is done.
-fn reach_with(left: &[VarId]) -> Reach {
+// At so few points a name leaves hardly more branches than there were.
+const FEW_POINTS: usize = 2;
+
+// How far what is left at so many points is pruned, with these names left: wholly once it is done, and before that only where branches
+// become many.
+fn reach_with(left: &[VarId], points: usize) -> Reach {
     if left.is_empty() {
         Reach::Whole
+    } else if points <= FEW_POINTS {
+        Reach::Nowhere
     } else {
         Reach::Outermost
     }

@@ -325,3 +325,7 @@ finished_as {Id} {is_id} {old} {tree} {j} {k} {m} {n} {s} {t} {r} w a b d =
 pub ok_map : {T E : Type 0} {P Q : T → Type 0} (r : Result T E) → ((x : T) → P x → Q x) → IfOk r P → IfOk r Q
 ok_map (Ok x) f h = f x h
 ok_map (Err e) f h = h
+
+-- what was made is an id
+pub finished_id : {Id : Type 0} {is_id : Id → Type 0} {old tree : Id → Tree} {k : Causes} {h : ℕ} {s : Option (Shape Id)} {r : Part Id} → IsFinished is_id old tree k h s r → (id : Id) → r.id ≡ Some id → is_id id
+finished_id w id e = (w.made id e).1.2.is

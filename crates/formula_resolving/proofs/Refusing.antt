@@ -114,6 +114,11 @@ is_bound_test {Id} tree bound x = go (bound_to bound x) refl
 named_iff : {Id : Type 0} (tree : Id → Tree) (bound : List (List ℕ × Id)) (f : FormulaTree) → (some_bound bound (formula_variables f) ≡ true) ↔ cause.NamesFormulaAsTerm (trees_bound tree bound) f
 named_iff tree bound f = any_formula (λ x. is_some (bound_to bound x)) (IsBound (trees_bound tree bound)) (is_bound_test tree bound) f
 
+-- nothing is bound
+pub none_bound : (Id : Type 0) (xs : List (List ℕ)) → some_bound {Id = Id} [] xs ≡ false
+none_bound Id [] = refl
+none_bound Id (x ∷ xs) = none_bound Id xs
+
 -- ---- what stands in atoms
 
 swap_sums : (X Y U V : Type 0) → (X ⊎ Y) ⊎ (U ⊎ V) → (X ⊎ U) ⊎ (Y ⊎ V)

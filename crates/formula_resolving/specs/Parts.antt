@@ -1,5 +1,5 @@
 -- What is known of a part of a written formula once it is read: the causes in it, its height, and its resolved formula.
-use Rattle.std.specs.Prelude.{◌≡◌, ◌↔◌, ◌⊎◌, ℕ, List, map, true, Option, Some, None}
+use Rattle.std.specs.Prelude.{◌≡◌, ◌↔◌, ◌⊎◌, ℕ, List, [], map, true, Option, Some, None}
 use Rattle.std.specs.List.{AllByRecursion}
 use Rattle.formula_meaning.specs.Context.{Context}
 use Rattle.formula_meaning.specs.Formula.{One}
@@ -12,6 +12,7 @@ use Rattle.formula_tree.specs.Shapes.{tree_over}
 use Rattle.formula_tree.specs.Makers.{IsMade, AreMade}
 use Rattle.formula_tree.specs.Somewhere.{SomeAtom, SomewhereIn}
 use Rattle.formula_tree.specs.Causes.{height_in_place, atom_in_place}
+use Rattle.formula_tree.specs.NamesAfter.{names_after}
 use Rattle.formula_tree.specs.Resolving.{BoundTrees, place, resolve}
 use Rattle.formula_resolving.specs.declared.error.StaticError.{StaticError}
 use Rattle.formula_resolving.specs.declared.causes.Causes.{Causes}
@@ -34,6 +35,11 @@ AreTold c bound names f causes = (e : StaticError) → (flag causes e ≡ true) 
 pub record IsPart {Id : Type 0} (c : Context) (bound : BoundTrees) (names : List (List ℕ)) (is_id : Id → Type 0) (tree : Id → Tree) (f : FormulaTree) (part : Part Id) : Type 0 where
   pub causes : AreTold c bound names f part.causes
   pub built : IsBuilt c bound names is_id tree f part.causes part.height part.id
+
+-- its causes and its height are told, where nothing is bound and its new variables come after the names
+pub record IsToldAlone {Id : Type 0} (c : Context) (names : List (List ℕ)) (f : FormulaTree) (part : Part Id) : Type 0 where
+  pub causes : AreTold c [] (names_after names f) f part.causes
+  pub height : part.height ≡ told (height_in_place [] f)
 
 -- the part is what is read of a name that stands as a formula, whatever the theory and the names are
 abbrev pub IsNamePart : {Id : Type 0} → BoundTrees → (Id → Type 0) → (Id → Tree) → List ℕ → Part Id → Type 0

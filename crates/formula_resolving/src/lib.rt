@@ -8,8 +8,14 @@ mod parts;
 mod plain;
 mod reading;
 mod resolving;
+mod steps;
 
 pub use error::StaticError;
 pub use numbering::number_formula;
+pub use parts::{Members, Pair, Part};
 pub use plain::{PlainId, PlainMaker};
 pub use resolving::linearise;
+pub use steps::{
+    compared_part, congruent_part, constant_part, joined_part, negated_part, paired_part,
+    quantified_part,
+};

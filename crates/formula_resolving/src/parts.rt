@@ -20,19 +20,19 @@ use std::alloc::{AllocError, Global};
 use written_atoms::ReadAtom;
 
 /// What is read of a formula: the causes in it, its height, and the resolved formula where it is not refused.
-#[derive(Drop)]
-pub(crate) struct Part<Id> {
-    pub causes: Causes,
-    pub height: u64,
-    pub id: Option<Id>,
+#[derive(Clone, Copy)]
+pub struct Part<Id> {
+    pub(crate) causes: Causes,
+    pub(crate) height: u64,
+    pub(crate) id: Option<Id>,
 }
 
 /// What is read of the members of a list: the causes in them, the greatest height, and the resolved formulas.
 #[derive(Drop)]
-pub(crate) struct Members<Id> {
-    pub causes: Causes,
-    pub height: u64,
-    pub ids: Vec<Id>,
+pub struct Members<Id> {
+    pub(crate) causes: Causes,
+    pub(crate) height: u64,
+    pub(crate) ids: Vec<Id>,
 }
 
 /// A quantifier, and the number of its name.
@@ -87,7 +87,7 @@ pub(crate) fn joined<Id>(junction: Junction, ids: Vec<Id>) -> Shape<Id>
 
 /// A connective of two formulas.
 #[derive(Clone, Copy)]
-pub(crate) enum Pair {
+pub enum Pair {
     Impl,
     Repl,
     Equiv,
@@ -110,7 +110,7 @@ impl Pair {
 
 impl<Id: Copy> Members<Id> {
     /// No members.
-    pub(crate) fn none(alloc: Global) -> Members<Id>
+    pub fn none(alloc: Global) -> Members<Id>
         ensures causes { result.causes ≡ no_causes }
         ensures height { result.height ≡ 0 }
         ensures ids { result.ids.items ≡ [] }
@@ -122,8 +122,8 @@ impl<Id: Copy> Members<Id> {
         }
     }
 
-    /// Takes in one more member.
-    pub(crate) fn add(&mut self, member: Part<Id>) -> Result<(), AllocError>
+    /// Takes in one more member. An `Err` is want of memory, after which the members are of no use.
+    pub fn add(&mut self, member: Part<Id>) -> Result<(), AllocError>
         ensures causes { OnOk result (self.new.causes ≡ either self.old.causes member.causes) }
         ensures height { OnOk result (self.new.height ≡ max self.old.height member.height) }
         ensures ids { OnOk result (self.new.ids.items ≡ self.old.ids.items ++ option_to_list member.id) }

@@ -54,10 +54,10 @@ pub fn worked<R: Threads + Sync, G: Gate + Sync>(
     ensures kept { Keeps (IsId store.old) (tree store.old) (IsId store.new) (tree store.new) }
 {
     let mut done = HashMap::new(work.alloc);
-    remembered(rt, work, budget, store, &mut done, id, gate)
+    made(rt, work, budget, store, &mut done, id, gate)
 }
 
-// The formula worked on, unless it was already.
+// The formula worked on, unless it was already. An atom and a constant stay, and are not remembered.
 #[cycle(worked)]
 fn remembered<R: Threads + Sync, G: Gate + Sync>(
     rt: &R,
@@ -77,6 +77,9 @@ fn remembered<R: Threads + Sync, G: Gate + Sync>(
     ensures done { OnOk result (Remembers work.now store.new done.new) }
     ensures kept { Keeps (IsId store.old) (tree store.old) (IsId store.new) (tree store.new) }
 {
+    if let Kind::Itself = kind_of(store, id) {
+        return Ok(id);
+    }
     if let Some(before) = done.get(&id) {
         return Ok(*before);
     }
@@ -140,7 +143,7 @@ fn list_made<R: Threads + Sync, G: Gate + Sync>(
     ensures kept { Keeps (IsId store.old) (tree store.old) (IsId store.new) (tree store.new) }
 {
     let members = members_of(work.alloc, store, id, junction)?;
-    let mut parts = Vec::new(work.alloc);
+    let mut parts = Vec::with_capacity(work.alloc, members.len())?;
     for member in &members {
         let part = match remembered(rt, work, budget, store, done, *member, gate) {
             Ok(part) => part,
@@ -179,7 +182,7 @@ fn chain_made<R: Threads + Sync, G: Gate + Sync>(
         workers: work.workers,
     };
     let mut done = HashMap::new(work.alloc);
-    let inner = match remembered(rt, &under, budget, store, &mut done, inner, gate) {
+    let inner = match made(rt, &under, budget, store, &mut done, inner, gate) {
         Ok(inner) => inner,
         Err(error) => return Err(error),
     };

@@ -6,6 +6,7 @@ ghost use Rattle.formula_meaning.specs.NegationNormal.{normal_form_of_not};
 ghost use Rattle.atom_normal.specs.NormalForm.{negated_normal};
 ghost use Rattle.elimination_reference.specs.Reference.{normal_tree, turned};
 ghost use Rattle.formula_tree.specs.Makers.{IsMade, Keeps};
+ghost use Rattle.formula_tree.specs.Shapes.{AllIds, IsProperShape, tree_over};
 ghost use Rattle.formula_store.specs.Nodes.{tree, IsId};
 ghost use Rattle.leading_blocks.specs.Blocks.{is_asked, IsLeadingBlock};
 
@@ -83,6 +84,22 @@ fn negation(alloc: Global, store: &mut Store, id: FormulaId) -> Result<FormulaId
     ensures made { IfOk result (λ r. IsMade (IsId store.new) (tree store.new) r (normal_form_of_not negated_normal (tree store.old id))) }
     ensures kept { Keeps (IsId store.old) (tree store.old) (IsId store.new) (tree store.new) }
 {
-    let not = store.make(Shape::Not(id)).map_err(|_| AllocError)?;
-    normal(alloc, store, not)
+    match store.shape(id) {
+        Shape::True => made(store, Shape::False),
+        Shape::False => made(store, Shape::True),
+        _ => {
+            let not = made(store, Shape::Not(id))?;
+            normal(alloc, store, not)
+        }
+    }
+}
+
+// The formula of this shape.
+fn made(store: &mut Store, shape: Shape<FormulaId>) -> Result<FormulaId, AllocError>
+    requires ids { AllIds (IsId store.old) shape }
+    requires proper { IsProperShape shape }
+    ensures made { IfOk result (λ id. IsMade (IsId store.new) (tree store.new) id (tree_over (tree store.old) shape)) }
+    ensures kept { Keeps (IsId store.old) (tree store.old) (IsId store.new) (tree store.new) }
+{
+    store.make(shape).map_err(|_| AllocError)
 }

@@ -31,6 +31,10 @@ module _ (nodes : List (Shape FormulaId)) (table : Table) (id : FormulaId) (n s 
   pub arm_plans : (b : Bool) (plan : Plan) → Plans nodes (form b (tree_over (tree nodes) s)) plan → Plans nodes (form b (tree nodes id)) plan
   arm_plans b plan h = subst (λ f. Plans nodes (form b f) plan) (sym (t ∙ ap (tree_over (tree nodes)) is)) h
 
+  -- a formula that is its own form
+  pub arm_same : tree_over (tree nodes) s ≡ form false (tree_over (tree nodes) s) → tree nodes id ≡ form false (tree nodes id)
+  arm_same h = subst (λ f. f ≡ form false f) (sym (t ∙ ap (tree_over (tree nodes)) is)) h
+
 module _ (nodes : List (Shape FormulaId)) (table : Table) where
   all_ids : (b : Bool) (ids : List FormulaId) → AllByRecursion (Known nodes table) ids → AllByRecursion (IsId nodes) (map (form_at table b) ids)
   all_ids b [] h = tt
@@ -104,3 +108,17 @@ module _ (nodes : List (Shape FormulaId)) (table : Table) where
       → Plans nodes (form b (All x.number (tree nodes f))) (Make (quantified_shape (turned_quantifier b ForAll) x (form_at table b f)))
   plans_all false x f h = record { ids = (h.made false).is; proper = tt; same = ap (All x.number) (h.made false).same }
   plans_all true x f h = record { ids = (h.made true).is; proper = tt; same = ap (Ex x.number) (h.made true).same }
+
+  -- ---- members that are their own forms
+
+  pub and_same : (ids : List FormulaId) → AllByRecursion (Known nodes table) ids → map (form_at table false) ids ≡ ids → And (members (map (tree nodes) ids)) ≡ form false (And (members (map (tree nodes) ids)))
+  and_same ids h e = ap (λ (is : List FormulaId). And (members (map (tree nodes) is))) (sym e) ∙ ap And (forms_of ids h)
+
+  pub or_same : (ids : List FormulaId) → AllByRecursion (Known nodes table) ids → map (form_at table false) ids ≡ ids → Or (members (map (tree nodes) ids)) ≡ form false (Or (members (map (tree nodes) ids)))
+  or_same ids h e = ap (λ (is : List FormulaId). Or (members (map (tree nodes) is))) (sym e) ∙ ap Or (forms_of ids h)
+
+  pub ex_same : (x : VarId) (f : FormulaId) → Known nodes table f → form_at table false f ≡ f → Ex x.number (tree nodes f) ≡ form false (Ex x.number (tree nodes f))
+  ex_same x f h e = ap (Ex x.number) (ap (tree nodes) (sym e) ∙ (h.made false).same)
+
+  pub all_same : (x : VarId) (f : FormulaId) → Known nodes table f → form_at table false f ≡ f → All x.number (tree nodes f) ≡ form false (All x.number (tree nodes f))
+  all_same x f h e = ap (All x.number) (ap (tree nodes) (sym e) ∙ (h.made false).same)

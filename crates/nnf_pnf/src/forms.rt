@@ -1,6 +1,6 @@
 //! The forms of a formula and of its negation, and a table of them.
 
-ghost use Rattle.std.specs.Prelude.{◌≡◌, IsSome, IfOk, map};
+ghost use Rattle.std.specs.Prelude.{◌≡◌, IsSome, IsTrue, IfOk, map, false};
 ghost use Rattle.std.specs.List.{AllByRecursion};
 ghost use Rattle.std.specs.HashMap.{get};
 ghost use Rattle.nnf_pnf.specs.Forms.{form_at, same_id};
@@ -44,4 +44,17 @@ pub(crate) fn all_forms(
         forms.push(form(table, *id, negated))?;
     }
     Ok(Ids::of(forms))
+}
+
+/// Whether each of the formulas is its own form.
+pub(crate) fn are_their_own(table: &Table, ids: &[FormulaId]) -> bool
+    requires { AllByRecursion (λ id. IsSome (get same_id table.now id)) ids.now }
+    ensures { IsTrue result → map (form_at table.now false) ids.now ≡ ids.now }
+{
+    for id in ids {
+        if form(table, *id, false) != *id {
+            return false;
+        }
+    }
+    true
 }

@@ -14,7 +14,7 @@ ghost use Rattle.formula_store.specs.Order.{IsOrder};
 ghost use Rattle.nnf_pnf.specs.Forms.{form, Known};
 ghost use Rattle.nnf_pnf.specs.Normal.{is_normal_shape, BeginsNormal};
 
-use crate::forms::{Forms, Table, form};
+use crate::forms::{Forms, Table, are_their_own, form};
 use crate::plan::{performed, planned};
 use formula_store::{FormulaId, Store};
 use formula_tree::{FormError, Shape};
@@ -46,7 +46,7 @@ pub fn nnf(
     if are_normal(store, &ids) {
         return Ok(id);
     }
-    let mut table = HashMap::new(alloc);
+    let mut table = HashMap::with_capacity(alloc, ids.len())?;
     for id in &ids {
         let forms = node_forms(alloc, store, *id, &table)?;
         table.insert(*id, forms).map_err(|_| FormError::Memory)?;
@@ -115,9 +115,45 @@ fn node_forms(
     ensures front { Front store.old store.new }
     ensures few { length store.new ≤ length store.old + 6 }
 {
-    let plain = node_form(alloc, store, id, table, false)?;
+    let plain = plain_form(alloc, store, id, table)?;
     let negated = node_form(alloc, store, id, table, true)?;
     Ok(Forms { plain, negated })
+}
+
+// The form of one formula, which is the formula itself where that begins as a form does and its members are their own forms.
+fn plain_form(
+    alloc: Global,
+    store: &mut Store,
+    id: FormulaId,
+    table: &Table,
+) -> Result<FormulaId, AllocError>
+    requires id { IsId store.old id }
+    requires members { (n : Shape FormulaId) → slice_get store.old id.number ≡ Some n → AllIds (Known store.old table.now) n }
+    ensures made { IfOk result (λ r. IsMade (IsId store.new) (tree store.new) r (form false (tree store.old id))) }
+    ensures kept { Keeps (IsId store.old) (tree store.old) (IsId store.new) (tree store.new) }
+    ensures front { Front store.old store.new }
+    ensures few { length store.new ≤ length store.old + 3 }
+{
+    if stays(store, id, table) {
+        return Ok(id);
+    }
+    node_form(alloc, store, id, table, false)
+}
+
+// Whether the formula begins as a negation normal form does and its members are their own forms.
+fn stays(store: &Store, id: FormulaId, table: &Table) -> bool
+    requires id { IsId store.now id }
+    requires members { (n : Shape FormulaId) → slice_get store.now id.number ≡ Some n → AllIds (Known store.now table.now) n }
+    ensures { IsTrue result → tree store.now id ≡ form false (tree store.now id) }
+{
+    match store.shape(id) {
+        Shape::True | Shape::False | Shape::One(_) => true,
+        Shape::And(ids) => are_their_own(table, ids.items()),
+        Shape::Or(ids) => are_their_own(table, ids.items()),
+        Shape::Ex(_, member) => form(table, *member, false) == *member,
+        Shape::All(_, member) => form(table, *member, false) == *member,
+        Shape::Not(_) | Shape::Impl(..) | Shape::Repl(..) | Shape::Equiv(..) => false,
+    }
 }
 
 // Makes the form of one formula, or of its negation.

@@ -1,9 +1,8 @@
 -- The critical values of a formula of a store, from one distinct subformula after the other.
-use Rattle.std.proofs.Common.{rules, ◌≡◌, ℕ, zero, suc, ◌+◌, ◌<◌, ◌≤◌, Bool, true, false, ◌&&◌, List, [], ◌∷◌, ◌++◌, All as Each, map, length, get_or, drop, slice_get, Option, Some, None, ◌↔◌, refl, sym, ap, ◌∙◌, subst, arith, inl, inr, append-nil}
+use Rattle.std.proofs.Common.{◌≡◌, ℕ, ◌+◌, ◌<◌, ◌≤◌, Bool, true, false, ◌&&◌, List, [], ◌∷◌, ◌++◌, map, length, get_or, drop, Option, Some, None, ◌↔◌, refl, sym, ap, ◌∙◌, subst, arith, inl, inr, append-nil}
 use Rattle.std.specs.Prelude.{option_map}
 use Rattle.std.proofs.Math.ListN.{drop_of_length-le}
 use Rattle.std.proofs.lemmas.Grind.{flat_map-append}
-use Rattle.std.proofs.lemmas.Option.{slice_get-get_or}
 use Rattle.exact_numbers.specs.declared.fraction.Fraction.{Fraction}
 use Rattle.exact_numbers.specs.Frac.{Frac}
 use Rattle.exact_numbers.specs.Fraction.{frac_of}
@@ -24,16 +23,12 @@ use Rattle.elimination_theory.specs.Atoms.{atoms_in, atoms_in_all, atoms_of}
 use Rattle.elimination_theory.proofs.SomeListed.{each_among, each_right, atoms_of_every}
 use Rattle.elimination_reference.specs.PutIn.{atom_put, tree_put, trees_put, tree_put_within, trees_put_within}
 use Rattle.atom_normal.specs.NormalForm.{normal_atom}
-use Rattle.atom_normal.specs.declared.atoms.Atom as code
-use Rattle.atom_normal.specs.Atoms.{atom_of, context_of, IsWellFormed}
+use Rattle.atom_normal.specs.Atoms.{atom_of, context_of}
 use Rattle.formula_tree.specs.declared.shape.Shape.{Shape}
-use Rattle.formula_tree.specs.declared.shape.Shape.TheVariants as shape
 use Rattle.formula_tree.specs.Shapes.{tree_over}
 use Rattle.formula_store.specs.declared.id.FormulaId.{FormulaId}
 use Rattle.formula_store.specs.Nodes.{tree, IsId}
 use Rattle.formula_store.specs.Order.{IsOrder}
-use Rattle.formula_store.proofs.Before.{each_id}
-use Rattle.formula_store.proofs.Trees.{node_tree}
 use Rattle.linear_forms.specs.Values.{point_of}
 use Rattle.test_points.specs.declared.error.PointError.{PointError}
 use Rattle.test_points.specs.declared.error.PointError.TheVariants.{Overflow, Nodes, Memory}
@@ -42,7 +37,7 @@ use Rattle.nnf_substitution.specs.Placed.{Fails}
 use Rattle.nnf_substitution.proofs.PutLaws.{and_known, each_append}
 use Rattle.plain_truths.specs.Put.{atom_put_within}
 use Rattle.branch_points.specs.Chosen.{shape_atoms}
-use Rattle.branch_points.proofs.ListedAtoms.{atoms_at, atoms_more, well_more, atoms_are}
+use Rattle.branch_points.proofs.ListedAtoms.{atoms_at, atoms_from, order_same}
 use Rattle.sample_reference.specs.Calculated.{criticals, least_with, past}
 use Rattle.sample_reference.proofs.CriticalSets.{once_same}
 use Rattle.sample_reference.proofs.Tracing.{each_true}
@@ -133,38 +128,11 @@ each_same test xs ys h = go (each test xs) (each test ys) refl refl
 module _ (nodes : List (Shape FormulaId)) (root : FormulaId) (ids : List FormulaId) (h : IsId nodes root) (o : IsOrder nodes (root ∷ []) ids) where
   -- the atom of a node comes before those of the nodes after it
   pub node_atoms : (i : ℕ) (d : FormulaId) (s : Shape FormulaId) → i < length ids → tree nodes (get_or ids i d) ≡ tree_over (tree nodes) s → map atom_of (shape_atoms s) ++ atoms_at nodes (drop (i + 1) ids) ≡ atoms_at nodes (drop i ids)
-  node_atoms i d s n t = atoms_more nodes ids i d s [] (shape_atoms s) (atoms_at nodes (drop i ids)) n t refl refl
-
-  -- stored atoms of the first so many nodes
-  record Gathered (i : ℕ) : Type 0 where
-    atoms : List code.Atom
-    left : map atom_of atoms ++ atoms_at nodes (drop i ids) ≡ atoms_at nodes ids
-    well_formed : Each IsWellFormed atoms
-
-  gathered : (i : ℕ) → i ≤ length ids → Gathered i
-  gathered zero n = record { atoms = []; left = refl; well_formed = search rules }
-  gathered (suc i) n =
-      let g = gathered i (omega arith) in
-      let next : i + 1 ≡ suc i = omega arith in
-      let id = get_or ids i root in
-      let is = each_id nodes h.are (root ∷ []) ids o (h, tt) i root (omega arith) in
-      let s = get_or nodes id.number shape.True in
-      let there : slice_get nodes id.number ≡ Some s = slice_get-get_or nodes id.number shape.True is.below in
-      let more = atoms_more nodes ids i root s g.atoms (g.atoms ++ shape_atoms s) (atoms_at nodes ids) (omega arith) (node_tree nodes id.number s h.are there) refl g.left in
-      record {
-        atoms = g.atoms ++ shape_atoms s;
-        left = subst (λ k. map atom_of (g.atoms ++ shape_atoms s) ++ atoms_at nodes (drop k ids) ≡ atoms_at nodes ids) next more;
-        well_formed = well_more s g.atoms (g.atoms ++ shape_atoms s) (h.are.proper id.number s there) refl g.well_formed;
-      }
+  node_atoms i d s n t = atoms_from nodes ids i d s n t
 
   -- the atoms of the nodes are those of the formula
   pub same_atoms : (a : Atom) → Among (atoms_at nodes ids) a ↔ Among (atoms_of (tree nodes root)) a
-  same_atoms =
-      let g = gathered (length ids) (omega arith) in
-      let over : drop (length ids) ids ≡ [] = drop_of_length-le ids (omega arith) in
-      let e : map atom_of g.atoms ≡ atoms_at nodes ids = sym (append-nil (map atom_of g.atoms)) ∙ ap (λ l. map atom_of g.atoms ++ atoms_at nodes l) (sym over) ∙ g.left in
-      let are = atoms_are nodes root ids (length ids) g.atoms h o (omega arith) g.left g.well_formed in
-      subst (λ (l : List Atom). (a : Atom) → Among l a ↔ Among (atoms_of (tree nodes root)) a) e are.same
+  same_atoms = order_same nodes root ids h o
 
   pub atoms_inside : (c : Context) → InContext c (tree nodes root) → EachOf (AtomIn c) (atoms_at nodes ids)
   atoms_inside c inside = each_from (AtomIn c) (atoms_at nodes ids) (λ a m. each_among (AtomIn c) (atoms_of (tree nodes root)) a (atoms_of_every (AtomIn c) (tree nodes root) inside) ((same_atoms a).0 m))

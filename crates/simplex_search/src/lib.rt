@@ -2,6 +2,7 @@
 //! What it finds is to be checked: no clause says more of it than its length. The same search finds points.
 #![tactic(auto)]
 
+mod corner;
 mod numbers;
 mod reduction;
 mod search;

@@ -51,10 +51,16 @@ fn can_give(label: Option<Label>, coefficient: i128, excess: Ordering) -> bool {
     }
 }
 
+// What a search comes to: a line that is not met whatever the columns are, or that all lines are met where they are 0.
+#[derive(Clone, Copy)]
+pub(crate) enum Outcome {
+    Contradiction(usize),
+    Met,
+}
+
 impl Tableau {
-    // A line that is not met whatever the columns are; `None` where there is none, where the effort does not suffice, or where a
-    // number does not fit.
-    pub(crate) fn contradiction(&mut self, effort: &mut u64) -> Option<usize>
+    // Exchanges lines for columns until the outcome is seen; `None` where the effort does not suffice, or where a number does not fit.
+    pub(crate) fn outcome(&mut self, effort: &mut u64) -> Option<Outcome>
         ensures { effort.new ≤ effort.old }
     {
         for column in 0..self.columns.len() {
@@ -64,13 +70,13 @@ impl Tableau {
     }
 
     // The same for lines in which no name stands: exchanges lines that are not met for columns by which they can be met.
-    fn meet_lines(&mut self, effort: &mut u64) -> Option<usize>
+    fn meet_lines(&mut self, effort: &mut u64) -> Option<Outcome>
         ensures { effort.new ≤ effort.old }
     {
         let mut patience = self.lines.len();
         loop {
             if let Some(place) = self.contradictory_line() {
-                return Some(place);
+                return Some(Outcome::Contradiction(place));
             }
             let rule = if patience == 0 {
                 Rule::First
@@ -78,14 +84,16 @@ impl Tableau {
                 Rule::Greatest
             };
             patience = patience.saturating_sub(1);
-            let (place, column) = self.next_exchange(rule)?;
+            let Some((place, column)) = self.next_exchange(rule) else {
+                return Some(Outcome::Met);
+            };
             self.spend(effort)?;
             self.exchange(place, column)?;
         }
     }
 
     // Takes what one exchange costs off the effort; `None` where it does not suffice.
-    fn spend(&self, effort: &mut u64) -> Option<()>
+    pub(crate) fn spend(&self, effort: &mut u64) -> Option<()>
         ensures falls { OnSome result (effort.new < effort.old) }
         ensures never_grows { effort.new ≤ effort.old }
     {

@@ -1,9 +1,10 @@
 // Linear inequalities and equations, and the search for multipliers of them.
 ghost use Rattle.std.specs.Prelude.{◌≡◌, ◌+◌, ◌≤◌, vec_len, OnOk, OnErr, IfOk, IfSome};
 
+use crate::corner::Negations;
 use crate::numbers::gcd;
 use crate::reduction::Reduction;
-use crate::search::spend;
+use crate::search::{Outcome, spend};
 use crate::tableau::Tableau;
 use std::alloc::{AllocError, Global};
 use std::cmp::Ordering;
@@ -130,6 +131,52 @@ impl System {
         ensures shape { IfOk result (λ found. IfSome found (λ v. vec_len v ≡ self.now)) }
         ensures effort { effort.new ≤ effort.old }
     {
+        let Some(mut tableau) = self.tableau(wanted, effort)? else {
+            return Ok(None);
+        };
+        match tableau.outcome(effort) {
+            Some(Outcome::Contradiction(place)) => self.multipliers_at(&tableau, place),
+            Some(Outcome::Met) | None => Ok(None),
+        }
+    }
+
+    /// The same; and where all rows that are marked are found to be met at some point, marks rows of them that the others do not imply:
+    /// those for which it sees a point that meets the others and the negation. The negations stand behind the rows, in their order, from
+    /// a place on.
+    pub fn survey(
+        &self,
+        wanted: &[bool],
+        negations: usize,
+        needed: &mut [bool],
+        effort: &mut u64,
+    ) -> Result<Option<Vec<i128>>, AllocError>
+        ensures shape { IfOk result (λ found. IfSome found (λ v. vec_len v ≡ self.now)) }
+        ensures effort { effort.new ≤ effort.old }
+    {
+        let Some(mut tableau) = self.tableau(wanted, effort)? else {
+            return Ok(None);
+        };
+        match tableau.outcome(effort) {
+            Some(Outcome::Contradiction(place)) => self.multipliers_at(&tableau, place),
+            Some(Outcome::Met) => {
+                if tableau.spend(effort).is_some() {
+                    let negations = Negations {
+                        rows: &self.rows,
+                        first: negations,
+                        distance: tableau.distance(),
+                    };
+                    tableau.mark_needed(negations, needed);
+                }
+                Ok(None)
+            }
+            None => Ok(None),
+        }
+    }
+
+    // The tableau in which multipliers of the rows that are marked are looked for, if one of them can have one and the effort suffices.
+    fn tableau(&self, wanted: &[bool], effort: &mut u64) -> Result<Option<Tableau>, AllocError>
+        ensures { effort.new ≤ effort.old }
+    {
         if spend(effort, self.rows.len() as u64).is_none() {
             return Ok(None);
         }
@@ -137,10 +184,17 @@ impl System {
         if reduction.parts.is_empty() {
             return Ok(None);
         }
-        let mut tableau = Tableau::new(self.alloc, &reduction)?;
-        let Some(place) = tableau.contradiction(effort) else {
-            return Ok(None);
-        };
+        Ok(Some(Tableau::new(self.alloc, &reduction)?))
+    }
+
+    // The multipliers of all rows by which a line is a contradiction, if they fit.
+    fn multipliers_at(
+        &self,
+        tableau: &Tableau,
+        place: usize,
+    ) -> Result<Option<Vec<i128>>, AllocError>
+        ensures shape { IfOk result (λ found. IfSome found (λ v. vec_len v ≡ self.now)) }
+    {
         let mut multipliers = vec![in self.alloc; 0; self.rows.len()]?;
         if tableau.write_multipliers(place, &mut multipliers).is_none() {
             return Ok(None);
@@ -158,7 +212,7 @@ impl System {
             return Ok(None);
         }
         let mut tableau = Tableau::with_names(self.alloc, &self.rows, self.names)?;
-        if tableau.contradiction(effort).is_some() {
+        if let Some(Outcome::Contradiction(_)) = tableau.outcome(effort) {
             return Ok(None);
         }
         let mut numerators = Vec::with_capacity(self.alloc, self.names)?;

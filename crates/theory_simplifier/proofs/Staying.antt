@@ -1,8 +1,10 @@
--- A list of atoms no two of which have the same names stays as it is where nothing is known.
-use Rattle.std.proofs.Common.{◌≡◌, ℕ, zero, suc, ◌+◌, ◌<◌, ◌≤◌, Bool, true, false, nat_eq, not, cond, refl, sym, ap, ◌∙◌, subst, Option, Some, None, List, [], ◌∷◌, ◌++◌, length, drop, map, slice_get, arith, eq-eqb}
+-- A list of atoms of which none merges with one before it stays as it is where nothing is known.
+use Rattle.std.proofs.Common.{◌≡◌, ℕ, zero, suc, ◌+◌, ◌<◌, ◌≤◌, Bool, true, false, nat_eq, not, cond, refl, sym, ap, ◌∙◌, subst, Option, Some, None, List, [], ◌∷◌, ◌++◌, length, drop, map, slice_get, arith, eq-eqb, ⊎_elim}
 use Rattle.std.proofs.Math.IntN.{ℤ, pos}
 use Rattle.std.specs.Prelude.{if◌then◌else◌, option_map}
 use Rattle.std.specs.Ordering.{int_eq}
+use Rattle.std.specs.Cmp.{unsigned_Decides}
+use Rattle.std.proofs.lemmas.Bool.{cases_eq}
 use Rattle.std.proofs.lemmas.List.{append-nil, append_assoc}
 use Rattle.exact_numbers.specs.Divides.{content_of}
 use Rattle.formula_meaning.specs.Context.{Context}
@@ -28,7 +30,10 @@ use Rattle.simplified_formulas.specs.Simplifiable.{IsSimplifiable}
 use Rattle.formula_tree.specs.Trees.{members}
 use Rattle.theory_simplifier.specs.Parts.{one_tree}
 use Rattle.theory_simplifier.specs.VariableParts.{part_of, mixed}
-use Rattle.theory_simplifier.specs.Unchanged.{key_from, key_of, NoneMerges, AreTaken}
+use Rattle.formula_tree.specs.declared.shape.Shape.{Shape}
+use Rattle.formula_store.specs.declared.id.FormulaId.{FormulaId}
+use Rattle.formula_store.specs.Nodes.{tree, IsId}
+use Rattle.theory_simplifier.specs.Unchanged.{key_from, key_of, NoneMerges, AreTaken, IsSeen, AreSeen}
 use Rattle.theory_simplifier.proofs.Partners.{with_last}
 use Rattle.theory_simplifier.proofs.SameParts.{kept_apart}
 
@@ -109,10 +114,6 @@ module _ (c : Context) (j : Junction) where
   none_more us [] a h k = (subst (EachOf (λ b. merged c j b a ≡ Kept)) (append-nil us) k, tt)
   none_more us (v ∷ vs) a h k = (h.0, none_more (us ++ v ∷ []) vs a h.1 (subst (EachOf (λ b. merged c j b a ≡ Kept)) (sym (append_assoc us (v ∷ []) vs)) k))
 
-  kept_all : (a : Atom) → IsNormalWithin c a → (us : List Atom) → EachOf (IsNormalWithin c) us → EachOf (λ b. ¬ (key_of b ≡ key_of a)) us → EachOf (λ b. merged c j b a ≡ Kept) us
-  kept_all a n [] h k = tt
-  kept_all a n (b ∷ us) h k = (sym (kept_apart c b a h.0.normal n.normal (other_parts a b k.0) j), kept_all a n us h.1 k.1)
-
   -- ---- what a pass makes of them
 
   taken : (us vs : List Atom) → NoneMerges c j us vs → with_atoms (atom_kit c) j [] (members (map one_tree vs)) (Open us none) ≡ Open (us ++ vs) none
@@ -134,10 +135,6 @@ module _ (c : Context) (j : Junction) where
   two_joined (also f none) h = absurd h
   two_joined (also f (also g fs)) h = refl
 
-  each_normal : (us : List Atom) → AreOrderly (IsNormalWithin c) (members (map one_tree us)) → EachOf (IsNormalWithin c) us
-  each_normal [] h = tt
-  each_normal (a ∷ us) h = (h.0, each_normal us h.1)
-
   abbrev passed_list : Trees → Tree
   passed_list fs = close j (others (atom_kit c) fs j [] (with_atoms (atom_kit c) j [] fs (Open [] none)))
 
@@ -146,18 +143,18 @@ module _ (c : Context) (j : Junction) where
       let fs = members (map one_tree us) in
       sym (ap (close j) (passed_over us (with_atoms (atom_kit c) j [] fs (Open [] none)) ∙ taken [] us h) ∙ ap (λ gs. from_pieces j (Some gs)) (listed us) ∙ two_joined fs two)
 
-  list_stays : (fs : List Tree) → AreTaken fs → AreTwo (members fs) → AreOrderly (IsNormalWithin c) (members fs) → joined j (members fs) ≡ passed_list (members fs)
+  list_stays : (fs : List Tree) → AreTaken c j fs → AreTwo (members fs) → AreOrderly (IsNormalWithin c) (members fs) → joined j (members fs) ≡ passed_list (members fs)
   list_stays fs t two n =
       let P : List Tree → Type 0 = λ gs. AreTwo (members gs) × AreOrderly (IsNormalWithin c) (members gs) in
       let h : P (map one_tree t.atoms) = subst P t.ones (two, n) in
-      subst (λ gs. joined j (members gs) ≡ passed_list (members gs)) (sym t.ones) (atoms_stay t.atoms h.0 (t.apart c j (each_normal t.atoms h.1)))
+      subst (λ gs. joined j (members gs) ≡ passed_list (members gs)) (sym t.ones) (atoms_stay t.atoms h.0 t.apart)
 
-pub and_stays : (c : Context) (f : Tree) (fs : List Tree) (ks : List Atom) → f ≡ And (members fs) → ks ≡ [] → AreTaken fs → IsSimplifiable c f → f ≡ pass (atom_kit c) f ks
+pub and_stays : (c : Context) (f : Tree) (fs : List Tree) (ks : List Atom) → f ≡ And (members fs) → ks ≡ [] → AreTaken c Conjunction fs → IsSimplifiable c f → f ≡ pass (atom_kit c) f ks
 and_stays c f fs ks e n t h =
     let k : IsSimplifiable c (And (members fs)) = subst (IsSimplifiable c) e h in
     e ∙ list_stays c Conjunction fs t k.0 k.1 ∙ (λ i. pass (atom_kit c) (sym e i) (sym n i))
 
-pub or_stays : (c : Context) (f : Tree) (fs : List Tree) (ks : List Atom) → f ≡ Or (members fs) → ks ≡ [] → AreTaken fs → IsSimplifiable c f → f ≡ pass (atom_kit c) f ks
+pub or_stays : (c : Context) (f : Tree) (fs : List Tree) (ks : List Atom) → f ≡ Or (members fs) → ks ≡ [] → AreTaken c Disjunction fs → IsSimplifiable c f → f ≡ pass (atom_kit c) f ks
 or_stays c f fs ks e n t h =
     let k : IsSimplifiable c (Or (members fs)) = subst (IsSimplifiable c) e h in
     e ∙ list_stays c Disjunction fs t k.0 k.1 ∙ (λ i. pass (atom_kit c) (sym e i) (sym n i))
@@ -168,40 +165,71 @@ pub not_false : (b : Bool) → not b ≡ true → b ≡ false
 not_false true e = absurd (cc (e))
 not_false false e = refl
 
--- they are atoms that are apart, and the numbers of their names are kept
-pub record AreSeen (fs : List Tree) (has : ℕ → Bool) : Type 0 where
-  pub taken : AreTaken fs
-  pub keys : EachOf (λ a. has (key_of a) ≡ true) taken.atoms
+same_key : (k : ℕ) → nat_eq k k ≡ true
+same_key k = eq-eqb k k refl
 
-pub none_seen : (has : ℕ → Bool) → AreSeen [] has
-none_seen has = record { taken = record { atoms = []; ones = refl; apart = λ c j n. tt }; keys = tt }
+pub none_seen : (c : Context) (j : Junction) (nodes : List (Shape FormulaId)) (first : ℕ → Option FormulaId) (second : ℕ → Bool) → ((k : ℕ) → first k ≡ None) → AreSeen c j nodes [] first second
+none_seen c j nodes first second n = record { taken = record { atoms = []; ones = refl; apart = tt }; normal = tt; seen = tt; firsts = λ k x e. let w = n k in absurd (cc) }
 
-module _ (fs : List Tree) (has has2 : ℕ → Bool) (a : Atom) (new : has (key_of a) ≡ false) (put : (n : ℕ) → has2 n ≡ cond (nat_eq (key_of a) n) true (has n)) where
-  others_have : (us : List Atom) → EachOf (λ b. has (key_of b) ≡ true) us → EachOf (λ b. ¬ (key_of b ≡ key_of a)) us
-  others_have [] h = tt
-  others_have (b ∷ us) h = ((λ e. let w : true ≡ false = sym h.0 ∙ ap has e ∙ new in absurd (cc (w))), others_have us h.1)
+module _ (c : Context) (j : Junction) (nodes : List (Shape FormulaId)) (fs : List Tree) (first : ℕ → Option FormulaId) (second : ℕ → Bool) (a : Atom) (n : IsNormalWithin c a) (h : AreSeen c j nodes fs first second) where
+  -- an atom merges with none that was seen, if with none of its names
+  kept_beside : (us : List Atom) → EachOf (IsNormalWithin c) us → EachOf (IsSeen nodes first second) us → ((b : Atom) → IsSeen nodes first second b → key_of b ≡ key_of a → merged c j b a ≡ Kept) →
+      EachOf (λ b. merged c j b a ≡ Kept) us
+  kept_beside [] m s f = tt
+  kept_beside (b ∷ us) m s f = (⊎_elim (λ e. f b s.0 e) (λ ne. sym (kept_apart c b a m.0.normal n.normal (other_parts a b ne) j)) (cases_eq (key_of b) (key_of a)), kept_beside us m.1 s.1 f)
 
-  still_has : (n : ℕ) (t : Bool) → nat_eq (key_of a) n ≡ t → has n ≡ true → has2 n ≡ true
-  still_has n true e h = put n ∙ ap (λ t. cond t true (has n)) e
-  still_has n false e h = put n ∙ ap (λ t. cond t true (has n)) e ∙ h
+  abbrev more_taken : ((b : Atom) → IsSeen nodes first second b → key_of b ≡ key_of a → merged c j b a ≡ Kept) → AreTaken c j (fs ++ One a ∷ [])
+  more_taken f = record {
+    atoms = h.taken.atoms ++ a ∷ [];
+    ones = ap (λ gs. gs ++ One a ∷ []) h.taken.ones ∙ sym (map_snoc h.taken.atoms a);
+    apart = none_more c j [] h.taken.atoms a h.taken.apart (kept_beside h.taken.atoms h.normal h.seen f);
+  }
 
-  still_keys : (us : List Atom) → EachOf (λ b. has (key_of b) ≡ true) us → EachOf (λ b. has2 (key_of b) ≡ true) us
-  still_keys [] h = tt
-  still_keys (b ∷ us) h = (still_has (key_of b) (nat_eq (key_of a) (key_of b)) refl h.0, still_keys us h.1)
+  module _ (x : FormulaId) (first2 : ℕ → Option FormulaId) (none : first (key_of a) ≡ None) (put : (q : ℕ) → first2 q ≡ cond (nat_eq (key_of a) q) (Some x) (first q)) (one : tree nodes x ≡ One a) where
+    here : first2 (key_of a) ≡ Some x
+    here = put (key_of a) ∙ ap (λ t. cond t (Some x) (first (key_of a))) (same_key (key_of a))
 
-  same_key : nat_eq (key_of a) (key_of a) ≡ true
-  same_key = eq-eqb (key_of a) (key_of a) refl
+    elsewhere : (q : ℕ) (t : Bool) → nat_eq (key_of a) q ≡ t → ¬ (first q ≡ None) → first2 q ≡ first q
+    elsewhere q true e s = absurd (s (ap first (sym ((unsigned_Decides (key_of a) q).0 e)) ∙ none))
+    elsewhere q false e s = put q ∙ ap (λ t. cond t (Some x) (first q)) e
 
-  pub one_seen : AreSeen fs has → AreSeen (fs ++ One a ∷ []) has2
-  one_seen h =
-      let us = h.taken.atoms in
-      record {
-        taken = record {
-          atoms = us ++ a ∷ [];
-          ones = ap (λ gs. gs ++ One a ∷ []) h.taken.ones ∙ sym (map_snoc us a);
-          apart = λ c j n.
-              let m = each_before (IsNormalWithin c) us a n in
-              none_more c j [] us a (h.taken.apart c j m.0) (kept_all c j a m.1 us m.0 (others_have us h.keys));
-        };
-        keys = each_snoc (λ b. has2 (key_of b) ≡ true) us a (still_keys us h.keys) (put (key_of a) ∙ ap (λ t. cond t true (has (key_of a))) same_key);
-      }
+    still_first : (us : List Atom) → EachOf (IsSeen nodes first second) us → EachOf (IsSeen nodes first2 second) us
+    still_first [] s = tt
+    still_first (b ∷ us) s =
+        let same = elsewhere (key_of b) (nat_eq (key_of a) (key_of b)) refl s.0.0 in
+        ((λ e. s.0.0 (sym same ∙ e), λ w y e. s.0.1 w y (sym same ∙ e)), still_first us s.1)
+
+    firsts_more : (k : ℕ) (y : FormulaId) (t : Bool) → nat_eq (key_of a) k ≡ t → IsId nodes x × IsSimplifiable c (tree nodes x) → first2 k ≡ Some y → IsId nodes y × IsSimplifiable c (tree nodes y)
+    firsts_more k y true e p f =
+        let was : Some x ≡ Some y = sym (ap (λ t. cond t (Some x) (first k)) e) ∙ sym (put k) ∙ f in
+        let is : x ≡ y = cc (was) in subst (λ (z : FormulaId). IsId nodes z × IsSimplifiable c (tree nodes z)) is p
+    firsts_more k y false e p f = h.firsts k y (sym (ap (λ t. cond t (Some x) (first k)) e) ∙ sym (put k) ∙ f)
+
+    -- the first with its names
+    pub first_seen : IsId nodes x × IsSimplifiable c (tree nodes x) → AreSeen c j nodes (fs ++ One a ∷ []) first2 second
+    first_seen p = record {
+      taken = more_taken (λ b s e. absurd (s.0 (ap first e ∙ none)));
+      normal = each_snoc (IsNormalWithin c) h.taken.atoms a h.normal n;
+      seen = each_snoc (IsSeen nodes first2 second) h.taken.atoms a (still_first h.taken.atoms h.seen)
+          (λ e. let w : Some x ≡ None = sym here ∙ e in absurd (cc (w)), λ w y e. let s : Some x ≡ Some y = sym here ∙ e in let is : x ≡ y = cc (s) in subst (λ (z : FormulaId). tree nodes z ≡ One a) is one);
+      firsts = λ k y f. firsts_more k y (nat_eq (key_of a) k) refl p f;
+    }
+
+  module _ (x : FormulaId) (second2 : ℕ → Bool) (found : first (key_of a) ≡ Some x) (new : second (key_of a) ≡ false) (put : (q : ℕ) → second2 q ≡ cond (nat_eq (key_of a) q) true (second q)) where
+    was_alone : (q : ℕ) (t : Bool) → nat_eq (key_of a) q ≡ t → second2 q ≡ false → second q ≡ false
+    was_alone q true e w = let k : true ≡ false = sym (put q ∙ ap (λ t. cond t true (second q)) e) ∙ w in absurd (cc (k))
+    was_alone q false e w = sym (put q ∙ ap (λ t. cond t true (second q)) e) ∙ w
+
+    still_second : (us : List Atom) → EachOf (IsSeen nodes first second) us → EachOf (IsSeen nodes first second2) us
+    still_second [] s = tt
+    still_second (b ∷ us) s = ((s.0.0, λ w y e. s.0.1 (was_alone (key_of b) (nat_eq (key_of a) (key_of b)) refl w) y e), still_second us s.1)
+
+    -- the second with its names
+    pub second_seen : ((b : Atom) → tree nodes x ≡ One b → merged c j b a ≡ Kept) → AreSeen c j nodes (fs ++ One a ∷ []) first second2
+    second_seen keeps = record {
+      taken = more_taken (λ b s e. keeps b (s.1 (ap second e ∙ new) x (ap first e ∙ found)));
+      normal = each_snoc (IsNormalWithin c) h.taken.atoms a h.normal n;
+      seen = each_snoc (IsSeen nodes first second2) h.taken.atoms a (still_second h.taken.atoms h.seen)
+          (λ e. let w : Some x ≡ None = sym found ∙ e in absurd (cc (w)), λ w y e. let k : true ≡ false = sym (put (key_of a) ∙ ap (λ t. cond t true (second (key_of a))) (same_key (key_of a))) ∙ w in absurd (cc (k)));
+      firsts = h.firsts;
+    }

@@ -1,12 +1,17 @@
 -- Lists of atoms that a pass takes as they come.
-use Rattle.std.specs.Prelude.{◌≡◌, ◌++◌, ℕ, List, [], ◌∷◌, map}
+use Rattle.std.specs.Prelude.{◌≡◌, ◌++◌, ℕ, Bool, false, Option, Some, None, List, [], ◌∷◌, map}
 use Rattle.formula_meaning.specs.Context.{Context}
 use Rattle.formula_meaning.specs.Some.{EachOf}
 use Rattle.formula_meaning.specs.Form.{Term}
 use Rattle.formula_meaning.specs.Atom.{Atom, form_of}
+use Rattle.formula_meaning.specs.Formula.{One}
 use Rattle.formula_meaning.specs.Tree.{Tree}
 use Rattle.formula_meaning.specs.declared.junction.Junction.{Junction}
 use Rattle.atom_merging.specs.Computed.{IsNormalWithin, Kept, merged}
+use Rattle.simplified_formulas.specs.Simplifiable.{IsSimplifiable}
+use Rattle.formula_tree.specs.declared.shape.Shape.{Shape}
+use Rattle.formula_store.specs.declared.id.FormulaId.{FormulaId}
+use Rattle.formula_store.specs.Nodes.{tree, IsId}
 use Rattle.theory_simplifier.specs.Parts.{one_tree}
 use Rattle.theory_simplifier.specs.VariableParts.{mixed}
 
@@ -24,8 +29,19 @@ abbrev pub NoneMerges : Context → Junction → List Atom → List Atom → Typ
 NoneMerges c j us [] = Unit {0}
 NoneMerges c j us (a ∷ vs) = EachOf (λ b. merged c j b a ≡ Kept) us × NoneMerges c j (us ++ a ∷ []) vs
 
--- the formulas are atoms, and no two of them merge where they are normal
-pub record AreTaken (fs : List Tree) : Type 0 where
+-- the formulas are atoms, of which none merges with one before it
+pub record AreTaken (c : Context) (j : Junction) (fs : List Tree) : Type 0 where
   pub atoms : List Atom
   pub ones : fs ≡ map one_tree atoms
-  pub apart : (c : Context) (j : Junction) → EachOf (IsNormalWithin c) atoms → NoneMerges c j [] atoms
+  pub apart : NoneMerges c j [] atoms
+
+-- some atom with the names of this one was seen; it is this one, unless two were
+abbrev pub IsSeen : List (Shape FormulaId) → (ℕ → Option FormulaId) → (ℕ → Bool) → Atom → Type 0
+IsSeen nodes first second a = (¬ (first (key_of a) ≡ None)) × (second (key_of a) ≡ false → (x : FormulaId) → first (key_of a) ≡ Some x → tree nodes x ≡ One a)
+
+-- they are normal too; the first atom with some names and whether there is a second are told by the number of the names
+pub record AreSeen (c : Context) (j : Junction) (nodes : List (Shape FormulaId)) (fs : List Tree) (first : ℕ → Option FormulaId) (second : ℕ → Bool) : Type 0 where
+  pub taken : AreTaken c j fs
+  pub normal : EachOf (IsNormalWithin c) taken.atoms
+  pub seen : EachOf (IsSeen nodes first second) taken.atoms
+  pub firsts : (k : ℕ) (x : FormulaId) → first k ≡ Some x → IsId nodes x × IsSimplifiable c (tree nodes x)

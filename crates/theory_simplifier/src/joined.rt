@@ -222,8 +222,8 @@ fn told_entry(alloc: Global, junction: Junction, atom: Atom) -> Result<Entry, Al
     Ok(Entry { atom, told })
 }
 
-// What two atoms of a list become.
-fn merged(
+/// What two atoms of a list become.
+pub(crate) fn merged(
     alloc: Global,
     context: Context,
     junction: Junction,

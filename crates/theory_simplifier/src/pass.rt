@@ -45,7 +45,7 @@ pub(crate) fn passed(
     ensures known { OnOk result (known.new ≡ known.old) }
     ensures kept { Keeps (IsId store.old) (tree store.old) (IsId store.new) (tree store.new) }
 {
-    if is_unchanged(alloc, store, known, id)? {
+    if is_unchanged(alloc, store, context, known, id)? {
         return Ok(id);
     }
     match store.shape(id) {

@@ -266,6 +266,21 @@ module _ (c : Context) (number : List ℕ → ℕ) (bound : BoundTrees) where
     normal = with_fields (HasCause (record { nonlinear = d.nonlinear || r.nonlinear; division = d.division || r.division; modulus = bad; overflow = x || y })) o _ (told false s t m d r o bad x y p q eb ex ey k);
   }
 
+-- ---- normal atoms that are there
+
+shown : (o : Option Rational) → (r : Result RationalForm Missing) × Shows o r
+shown None = (Err Overflow, refl)
+shown (Some v) = (Ok (rational_of v), refl)
+
+pub compared_proper : (c : Context) (rel : Relation) (d : Option Rational) (o : Option Normal) → IsCompared c rel d o → (n : Normal) → o ≡ Some n → IsWellFormedNormal n
+compared_proper c rel d o h n e =
+    let s = shown d in (subst (λ x. MatchOption x (IsMissing s.0 ⊎ ConstantPasses (compared c rel s.0)) (λ n. IsWellFormedNormal n × (tree_of n ≡ compared c rel s.0) × ¬ (IsMissing s.0 ⊎ ConstantPasses (compared c rel s.0)))) e (h s.0 s.1)).0
+
+pub made_proper : (c : Context) (b : Bool) (d m : Option Rational) (o : Option Normal) → IsCongruenceMade c b d m o → (n : Normal) → o ≡ Some n → IsWellFormedNormal n
+made_proper c b d m o h n e =
+    let s = shown d in let t = shown m in
+    (subst (λ x. MatchOption x ((c ≡ Fields) ⊎ (IsNone d ⊎ (IsNone m ⊎ IsTrue (is_no_divisor m)))) (λ n. IsWellFormedNormal n × (tree_of n ≡ congruent c b s.0 t.0))) e (h s.0 t.0 s.1 t.1)).0
+
 -- a congruence of forms that are there
 pub congruence_made : (c : Context) (b : Bool) (v w : Rational) (n : ℕ) (f : Form) (o : Option Normal) → n ≡ unsigned_abs w.form.constant → f ≡ v.form
     → IsNormalWithin (normal_atom c (meaning.Congruent b n f)) o → IsCongruenceMade c b (Some v) (Some w) o

@@ -15,10 +15,11 @@ use Rattle.formula_tree.specs.RationalForms.{RationalForm, Missing, is_constant,
 use Rattle.formula_tree.specs.Causes.{IsVarying, IsNoDivisor, IsAboveOne, IsForbidden, MultipliesNames, HaveNonlinear, HaveForbidden, IsMissing}
 use Rattle.written_atoms.specs.declared.rational.Rational.{Rational}
 use Rattle.written_atoms.specs.declared.term.ReadTerm.{ReadTerm}
+use Rattle.written_atoms.specs.declared.term.ReadSum.{ReadSum}
 use Rattle.written_atoms.specs.declared.sum.RunningSum.{RunningSum}
 use Rattle.written_atoms.specs.Rational.{rational_of, there, is_divisor, Shows}
 use Rattle.written_atoms.specs.Sum.{ShowsSum, IsSummed}
-use Rattle.written_atoms.specs.Term.{IsTermRead, varies, is_no_divisor, is_forbidden, is_above_one, StepGives, IsTimes, IsOver, IsPower, IsOpposite}
+use Rattle.written_atoms.specs.Term.{IsTermRead, IsNoSum, IsSumPlus, IsWholeSum, varies, is_no_divisor, is_forbidden, is_above_one, StepGives, IsTimes, IsOver, IsPower, IsOpposite}
 
 -- ---- tests
 
@@ -203,6 +204,28 @@ module _ (c : Context) (number : List ℕ → ℕ) where
       whole : (p : Result RationalForm Missing) → p ≡ (p >>= λ v. Ok v)
       whole (Ok v) = refl
       whole (Err e) = refl
+
+  -- the same of what is read of a sum
+  pub sum_begun : (ts : TermTrees) (s : ReadSum) → IsNoSum s → SumLeft ts ts s.total s.nonlinear s.division
+  sum_begun ts s h = record {
+    before = Ok (constant_form (whole_frac (pos 0)));
+    shows = h.total;
+    form = refl;
+    nonlinear_left = nothing_yet s.nonlinear h.nonlinear;
+    division_left = nothing_yet s.division h.division;
+  }
+
+  pub sum_more : (all rest : TermTrees) (t : TermTree) (s next : ReadSum) (part : ReadTerm) → SumLeft all (also t rest) s.total s.nonlinear s.division → IsTermRead c number t part → IsSumPlus s part next → SumLeft all rest next.total next.nonlinear next.division
+  sum_more all rest t s next part l p o =
+      subst (λ (b : Bool). SumLeft all rest next.total b next.division) (sym o.nonlinear)
+      (subst (λ (b : Bool). SumLeft all rest next.total (s.nonlinear || part.nonlinear) b) (sym o.division) (sum_goes_on all rest t s.total next.total s.nonlinear s.division part l p o.total))
+
+  pub sum_whole : (all : TermTrees) (s : ReadSum) (r : ReadTerm) → SumLeft all none s.total s.nonlinear s.division → IsWholeSum s r → IsTermRead c number (Sum all) r
+  sum_whole all s r l h = let t = sum_ends all s.total s.nonlinear s.division r.form l h.form in record {
+    form = t.form;
+    nonlinear = told_as r.nonlinear s.nonlinear h.nonlinear t.nonlinear;
+    division = told_as r.division s.division h.division t.division;
+  }
 
   -- ---- products
 

@@ -1,15 +1,18 @@
 -- What is known of a term once it is read, and what each step makes of what was read of its parts.
-use Rattle.std.specs.Prelude.{◌≡◌, ◌↔◌, ◌⊎◌, ℕ, List, Bool, true, false, not, ◌&&◌, ◌||◌, unsigned_abs, nat_lt, Option, Some, None, IsNone, option_map, MatchOption, Result, Ok, IsTrue}
+use Rattle.std.specs.Prelude.{◌≡◌, ◌↔◌, ◌⊎◌, ℕ, List, Bool, true, false, not, ◌&&◌, ◌||◌, unsigned_abs, nat_lt, Option, Some, None, IsNone, option_map, MatchOption, Result, Ok, IsTrue, pos}
 use Rattle.std.specs.declared.alloc.AllocError.{AllocError}
 use Rattle.formula_meaning.specs.Context.{Context, Fields, Integers}
 use Rattle.qe_syntax.specs.declared.tree.Literal.{Literal}
 use Rattle.qe_syntax.specs.declared.tree.Literal.TheVariants.{Fits, Past}
 use Rattle.qe_syntax.specs.Trees.{TermTree}
-use Rattle.formula_tree.specs.RationalForms.{RationalForm, Missing, is_constant, formed, formed_difference, sum_of_forms, product_of_forms, quotient_of_forms, power_of_form, opposite_form}
+use Rattle.formula_tree.specs.RationalForms.{RationalForm, Missing, is_constant, constant_form, formed, formed_difference, sum_of_forms, product_of_forms, quotient_of_forms, power_of_form, opposite_form}
 use Rattle.formula_tree.specs.Causes.{HasNonlinear, HasForbidden}
 use Rattle.written_atoms.specs.Rational.{rational_of, there, is_divisor, Shows}
 use Rattle.written_atoms.specs.declared.rational.Rational.{Rational}
+use Rattle.exact_numbers.specs.Frac.{whole_frac}
 use Rattle.written_atoms.specs.declared.term.ReadTerm.{ReadTerm}
+use Rattle.written_atoms.specs.declared.term.ReadSum.{ReadSum}
+use Rattle.written_atoms.specs.Sum.{ShowsSum, IsSummed}
 
 -- there is a value, and it has P
 abbrev pub Given : Result ReadTerm AllocError → (ReadTerm → Type 0) → Type 0
@@ -80,3 +83,22 @@ pub record IsOpposite (a r : ReadTerm) : Type 0 where
   pub form : MatchOption a.form (IsNone r.form) (λ v. option_map rational_of r.form ≡ Some (opposite_form (rational_of v)))
   pub nonlinear : r.nonlinear ≡ a.nonlinear
   pub division : r.division ≡ a.division
+
+-- ---- sums
+
+-- nothing is summed yet
+pub record IsNoSum (s : ReadSum) : Type 0 where
+  pub total : ShowsSum s.total (Ok (constant_form (whole_frac (pos 0))))
+  pub nonlinear : s.nonlinear ≡ false
+  pub division : s.division ≡ false
+
+pub record IsSumPlus (old : ReadSum) (part : ReadTerm) (new : ReadSum) : Type 0 where
+  pub total : IsSummed old.total part.form new.total
+  pub nonlinear : new.nonlinear ≡ (old.nonlinear || part.nonlinear)
+  pub division : new.division ≡ (old.division || part.division)
+
+-- the term has the form and the causes of the sum
+pub record IsWholeSum (s : ReadSum) (r : ReadTerm) : Type 0 where
+  pub form : (p : Result RationalForm Missing) → ShowsSum s.total p → Shows r.form p
+  pub nonlinear : r.nonlinear ≡ s.nonlinear
+  pub division : r.division ≡ s.division

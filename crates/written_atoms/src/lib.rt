@@ -6,5 +6,8 @@ mod read;
 mod sum;
 mod term;
 
-pub use read::{AtomCauses, ReadAtom, read_comparison, read_congruence};
+pub use read::{
+    AtomCauses, ReadAtom, comparison_of, congruence_of, read_comparison, read_congruence,
+};
 pub use sum::WholeSum;
+pub use term::{ReadSum, ReadTerm};

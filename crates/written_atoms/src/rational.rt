@@ -54,6 +54,16 @@ impl Rational {
         }
     }
 
+    /// The same form once more.
+    pub(crate) fn copy(&self, alloc: Global) -> Result<Rational, AllocError>
+        ensures { IfOk result (λ r. rational_of r ≡ rational_of self.now) }
+    {
+        Ok(Rational {
+            form: self.form.copy(alloc)?,
+            denominator: self.denominator,
+        })
+    }
+
     /// Whether no name stands in the form.
     pub(crate) fn is_constant(&self) -> bool
         ensures { result ≡ is_constant (rational_of self.now) }

@@ -1,19 +1,20 @@
-ghost use Rattle.std.specs.Prelude.{◌≡◌, IfOk};
+ghost use Rattle.std.specs.Prelude.{◌≡◌, ℕ, List, IfOk};
 ghost use Rattle.std.specs.Option.{ForSome};
 ghost use Rattle.linear_forms.specs.Combinations.{IsLinear};
 ghost use Rattle.qe_syntax.specs.Proper.{IsProperTerm};
-ghost use Rattle.qe_syntax.specs.Trees.{Compare};
+ghost use Rattle.qe_syntax.specs.Trees.{TermTree, Compare};
 ghost use Rattle.qe_syntax.specs.CodeTrees.{term_tree};
 ghost use Rattle.qe_syntax.specs.Value.{relation_of as written_relation};
 ghost use Rattle.formula_meaning.specs.TheoryAtoms.{AtomIn};
 ghost use Rattle.atom_normal.specs.NormalForm.{normal_atom};
-ghost use Rattle.atom_normal.specs.Atoms.{context_of, relation_of, atom_of, IsWellFormed};
+ghost use Rattle.atom_normal.specs.Atoms.{context_of, relation_of, atom_of, IsWellFormed, IsWellFormedNormal};
 ghost use Rattle.formula_tree.specs.Resolving.{BoundTrees, place};
 ghost use Rattle.written_atoms.specs.Atom.{IsNormalWithin, IsCompared, IsCongruenceMade};
 ghost use Rattle.written_atoms.specs.Read.{IsRead, congruence_tree};
+ghost use Rattle.written_atoms.specs.Term.{IsTermRead, IsDifferenceRead};
 
 use crate::rational::Rational;
-use crate::term::{read_difference, read_term};
+use crate::term::{ReadTerm, read_difference, read_term};
 use atom_normal::{Atom, AtomError, Context, Normal, Rel, normal};
 use formula_tree::Names;
 use qe_syntax::{Relation, Term};
@@ -130,6 +131,20 @@ pub fn read_comparison(
     ensures { IfOk result (λ r. (bound : BoundTrees) → IsRead (context_of context) bound (place names.now) (Compare relation (term_tree left.now) (term_tree right.now)) r) }
 {
     let difference = read_difference(alloc, context, names, left, right)?;
+    comparison_of(alloc, context, relation, difference)
+}
+
+/// What is read of the comparison of two terms whose difference was read. An `Err` is want of memory.
+pub fn comparison_of(
+    alloc: Global,
+    context: Context,
+    relation: Relation,
+    difference: ReadTerm,
+) -> Result<ReadAtom, AllocError>
+    requires { ForSome difference.form (λ v. IsLinear v.form) }
+    ensures read { IfOk result (λ r. (bound : BoundTrees) (number : List ℕ → ℕ) (s t : TermTree) → IsDifferenceRead (context_of context) number s t difference → IsRead (context_of context) bound number (Compare relation s t) r) }
+    ensures proper { IfOk result (λ r. ForSome r.normal IsWellFormedNormal) }
+{
     let nonlinear = difference.nonlinear;
     let division = difference.division;
     let normal = compared(alloc, context, relation, difference.into_form())?;
@@ -162,6 +177,22 @@ pub fn read_congruence(
 {
     let difference = read_difference(alloc, context, names, left, right)?;
     let modulus = read_term(alloc, context, names, modulus)?;
+    congruence_of(alloc, context, holds, difference, modulus)
+}
+
+/// What is read of the congruence of two terms whose difference was read, or for false of its negation. An `Err` is want
+/// of memory.
+pub fn congruence_of(
+    alloc: Global,
+    context: Context,
+    holds: bool,
+    difference: ReadTerm,
+    modulus: ReadTerm,
+) -> Result<ReadAtom, AllocError>
+    requires { ForSome difference.form (λ v. IsLinear v.form) }
+    ensures read { IfOk result (λ r. (bound : BoundTrees) (number : List ℕ → ℕ) (s t m : TermTree) → IsDifferenceRead (context_of context) number s t difference → IsTermRead (context_of context) number m modulus → IsRead (context_of context) bound number (congruence_tree holds s t m) r) }
+    ensures proper { IfOk result (λ r. ForSome r.normal IsWellFormedNormal) }
+{
     let causes = AtomCauses {
         nonlinear: difference.nonlinear | modulus.nonlinear,
         division: difference.division | modulus.division,

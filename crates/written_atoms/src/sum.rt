@@ -279,12 +279,12 @@ impl RunningSum {
     pub(crate) fn plus(
         self,
         alloc: Global,
-        part: Option<Rational>,
+        part: &Option<Rational>,
     ) -> Result<RunningSum, AllocError>
-        ensures { IfOk result (IsSummed self part) }
+        ensures { IfOk result (IsSummed self part.now) }
     {
         match (self, part) {
-            (RunningSum::Known(total), Some(part)) => total.plus(alloc, &part),
+            (RunningSum::Known(total), Some(part)) => total.plus(alloc, part),
             _ => Ok(RunningSum::Missing),
         }
     }

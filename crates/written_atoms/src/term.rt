@@ -7,12 +7,12 @@ ghost use Rattle.formula_meaning.specs.Context as meaning;
 ghost use Rattle.linear_forms.specs.Combinations.{IsLinear};
 ghost use Rattle.atom_normal.specs.Atoms.{context_of};
 ghost use Rattle.qe_syntax.specs.Proper.{IsNumeral, IsProperTerm, AreProperTerms};
-ghost use Rattle.qe_syntax.specs.Trees.{terms_of, Number, Named, Sum, Product};
+ghost use Rattle.qe_syntax.specs.Trees.{TermTree, terms_of, Number, Named, Sum, Product};
 ghost use Rattle.qe_syntax.specs.CodeTrees.{term_tree};
 ghost use Rattle.formula_tree.specs.LowestForms.{IsLowestForm};
 ghost use Rattle.formula_tree.specs.Resolving.{place};
 ghost use Rattle.written_atoms.specs.Rational.{rational_of};
-ghost use Rattle.written_atoms.specs.Term.{Given, IsTermRead, IsDifferenceRead, varies, is_no_divisor, is_forbidden, is_above_one, IsPlus, IsTimes, IsOver, IsPower, IsOpposite};
+ghost use Rattle.written_atoms.specs.Term.{Given, IsTermRead, IsNoSum, IsSumPlus, IsWholeSum, IsDifferenceRead, varies, is_no_divisor, is_forbidden, is_above_one, IsPlus, IsTimes, IsOver, IsPower, IsOpposite};
 
 use crate::rational::Rational;
 use crate::sum::RunningSum;
@@ -25,13 +25,47 @@ use std::alloc::{AllocError, Global};
 
 /// What is read of a term: its form, where it has one, and which causes of a refusal stand in it.
 #[derive(Drop)]
-pub(crate) struct ReadTerm {
+pub struct ReadTerm {
     pub(crate) form: Option<Rational>,
     pub(crate) nonlinear: bool,
     pub(crate) division: bool,
 }
 
 impl ReadTerm {
+    /// What is read of a literal.
+    pub fn literal(alloc: Global, literal: Literal) -> ReadTerm
+        requires { IsNumeral literal }
+        ensures { (c : meaning.Context) (number : List ℕ → ℕ) → IsTermRead c number (Number literal) result }
+    {
+        ReadTerm::of(match literal {
+            Literal::Fits(number) => Some(Rational::constant(alloc, Fraction::whole(number))),
+            Literal::Past => None,
+        })
+    }
+
+    /// What is read of a name that has this number. An `Err` is want of memory.
+    pub fn variable(alloc: Global, name: VarId) -> Result<ReadTerm, AllocError>
+        ensures { IfOk result (λ r. (c : meaning.Context) (number : List ℕ → ℕ) (x : List ℕ) → number x ≡ name.number → IsTermRead c number (Named x) r) }
+    {
+        let form = Rational::variable(alloc, name)?;
+        Ok(ReadTerm::of(Some(form)))
+    }
+
+    /// The same once more. An `Err` is want of memory.
+    pub fn copy(&self, alloc: Global) -> Result<ReadTerm, AllocError>
+        ensures { IfOk result (λ r. (c : meaning.Context) (number : List ℕ → ℕ) (t : TermTree) → IsTermRead c number t self.now → IsTermRead c number t r) }
+    {
+        let form = match &self.form {
+            Some(form) => Some(form.copy(alloc)?),
+            None => None,
+        };
+        Ok(ReadTerm {
+            form,
+            nonlinear: self.nonlinear,
+            division: self.division,
+        })
+    }
+
     // A term of this form, in which no cause stands.
     fn of(form: Option<Rational>) -> ReadTerm
         ensures { result ≡ record { form = form; nonlinear = false; division = false } }
@@ -97,8 +131,8 @@ impl ReadTerm {
     }
 
     // The sum of two terms.
-    fn plus(self, alloc: Global, other: ReadTerm) -> Result<ReadTerm, AllocError>
-        ensures sum { IfOk result (IsPlus self other) }
+    fn plus(&self, alloc: Global, other: &ReadTerm) -> Result<ReadTerm, AllocError>
+        ensures sum { IfOk result (IsPlus self.now other.now) }
         ensures linear { IfOk result (λ r. ForSome r.form (λ v. IsLinear v.form)) }
     {
         let form = match (&self.form, &other.form) {
@@ -112,9 +146,18 @@ impl ReadTerm {
         })
     }
 
-    // The product of two terms.
-    fn times(self, alloc: Global, other: ReadTerm) -> Result<ReadTerm, AllocError>
-        ensures { IfOk result (IsTimes self other) }
+    /// The difference of two terms. An `Err` is want of memory.
+    pub fn difference(&self, alloc: Global, other: &ReadTerm) -> Result<ReadTerm, AllocError>
+        ensures read { IfOk result (λ r. (c : meaning.Context) (number : List ℕ → ℕ) (s t : TermTree) → IsTermRead c number s self.now → IsTermRead c number t other.now → IsDifferenceRead c number s t r) }
+        ensures linear { IfOk result (λ r. ForSome r.form (λ v. IsLinear v.form)) }
+    {
+        let opposite = other.opposite(alloc)?;
+        self.plus(alloc, &opposite)
+    }
+
+    /// The product of two terms. An `Err` is want of memory.
+    pub fn times(&self, alloc: Global, other: &ReadTerm) -> Result<ReadTerm, AllocError>
+        ensures { IfOk result (IsTimes self.now other.now) }
     {
         let form = match (&self.form, &other.form) {
             (Some(left), Some(right)) => left.times(alloc, right)?,
@@ -127,14 +170,14 @@ impl ReadTerm {
         })
     }
 
-    // The first term divided by the second.
-    fn over(
-        self,
+    /// The first term divided by the second. An `Err` is want of memory.
+    pub fn over(
+        &self,
         alloc: Global,
         context: Context,
-        divisor: ReadTerm,
+        divisor: &ReadTerm,
     ) -> Result<ReadTerm, AllocError>
-        ensures { IfOk result (IsOver (context_of context) self divisor) }
+        ensures { IfOk result (IsOver (context_of context) self.now divisor.now) }
     {
         let form = match (&self.form, &divisor.form) {
             (Some(left), Some(right)) => left.over(alloc, context, right)?,
@@ -170,9 +213,9 @@ impl ReadTerm {
         }
     }
 
-    // The term with the other sign.
-    fn opposite(self, alloc: Global) -> Result<ReadTerm, AllocError>
-        ensures { IfOk result (IsOpposite self) }
+    /// The term with the other sign. An `Err` is want of memory.
+    pub fn opposite(&self, alloc: Global) -> Result<ReadTerm, AllocError>
+        ensures { IfOk result (IsOpposite self.now) }
     {
         let form = match &self.form {
             Some(form) => Some(form.opposite(alloc)?),
@@ -197,23 +240,54 @@ fn is_above_one(exponent: Literal) -> bool
     }
 }
 
-// Reads a literal.
-fn read_literal(alloc: Global, literal: Literal) -> ReadTerm
-    requires { IsNumeral literal }
-    ensures { (c : meaning.Context) (number : List ℕ → ℕ) → IsTermRead c number (Number literal) result }
-{
-    ReadTerm::of(match literal {
-        Literal::Fits(number) => Some(Rational::constant(alloc, Fraction::whole(number))),
-        Literal::Past => None,
-    })
+/// What is read of the members of a sum: the causes in them, and the sum so far.
+#[derive(Drop)]
+pub struct ReadSum {
+    pub(crate) total: RunningSum,
+    pub(crate) nonlinear: bool,
+    pub(crate) division: bool,
 }
 
-// Reads a name.
-fn read_name(alloc: Global, names: &Names, name: &Name) -> Result<ReadTerm, AllocError>
-    ensures { IfOk result (λ r. (c : meaning.Context) → IsTermRead c (place names.now) (Named name.now) r) }
-{
-    let form = Rational::variable(alloc, names.place(name))?;
-    Ok(ReadTerm::of(Some(form)))
+impl ReadSum {
+    /// No members.
+    pub fn new(alloc: Global) -> ReadSum
+        ensures { IsNoSum result }
+    {
+        ReadSum {
+            total: RunningSum::new(alloc),
+            nonlinear: false,
+            division: false,
+        }
+    }
+
+    /// One member more. An `Err` is want of memory.
+    pub fn plus(self, alloc: Global, part: &ReadTerm) -> Result<ReadSum, AllocError>
+        ensures { IfOk result (IsSumPlus self part.now) }
+    {
+        let nonlinear = self.nonlinear | part.nonlinear;
+        let division = self.division | part.division;
+        Ok(ReadSum {
+            total: self.total.plus(alloc, &part.form)?,
+            nonlinear,
+            division,
+        })
+    }
+
+    /// The sum of the members. An `Err` is want of memory.
+    pub fn into_term(self, alloc: Global) -> Result<ReadTerm, AllocError>
+        ensures { IfOk result (IsWholeSum self) }
+    {
+        let ReadSum {
+            total,
+            nonlinear,
+            division,
+        } = self;
+        Ok(ReadTerm {
+            form: total.into_form(alloc)?,
+            nonlinear,
+            division,
+        })
+    }
 }
 
 // The next three take what the recursion gave, so that nothing of theirs stands on the stack while it goes down.
@@ -222,7 +296,8 @@ fn read_name(alloc: Global, names: &Names, name: &Name) -> Result<ReadTerm, Allo
 fn opposite_of(alloc: Global, inner: Result<ReadTerm, AllocError>) -> Result<ReadTerm, AllocError>
     ensures { IfOk result (λ r. Given inner (λ a. IsOpposite a r)) }
 {
-    inner?.opposite(alloc)
+    let inner = inner?;
+    inner.opposite(alloc)
 }
 
 // The quotient of what was read.
@@ -234,7 +309,9 @@ fn quotient_of(
 ) -> Result<ReadTerm, AllocError>
     ensures { IfOk result (λ r. Given dividend (λ a. Given divisor (λ b. IsOver (context_of context) a b r))) }
 {
-    dividend?.over(alloc, context, divisor?)
+    let dividend = dividend?;
+    let divisor = divisor?;
+    dividend.over(alloc, context, &divisor)
 }
 
 // The power of what was read.
@@ -263,8 +340,8 @@ pub(crate) fn read_term(
     ensures { IfOk result (IsTermRead (context_of context) (place names.now) (term_tree term.now)) }
 {
     match term {
-        Term::Number(literal) => Ok(read_literal(alloc, *literal)),
-        Term::Name(name) => read_name(alloc, names, name),
+        Term::Number(literal) => Ok(ReadTerm::literal(alloc, *literal)),
+        Term::Name(name) => ReadTerm::variable(alloc, names.place(name)),
         Term::Sum(terms) => read_sum(alloc, context, names, terms.items()),
         Term::Product(terms) => read_product(alloc, context, names, terms.items()),
         Term::Negative(inner) => opposite_of(alloc, read_term(alloc, context, names, inner)),
@@ -291,20 +368,12 @@ fn read_sum(
     requires { AreProperTerms (terms_of (map term_tree terms.now)) }
     ensures { IfOk result (IsTermRead (context_of context) (place names.now) (Sum (terms_of (map term_tree terms.now)))) }
 {
-    let mut total = RunningSum::new(alloc);
-    let mut nonlinear = false;
-    let mut division = false;
+    let mut total = ReadSum::new(alloc);
     for term in terms {
         let part = read_term(alloc, context, names, term)?;
-        nonlinear = nonlinear | part.nonlinear;
-        division = division | part.division;
-        total = total.plus(alloc, part.into_form())?;
+        total = total.plus(alloc, &part)?;
     }
-    Ok(ReadTerm {
-        form: total.into_form(alloc)?,
-        nonlinear,
-        division,
-    })
+    total.into_term(alloc)
 }
 
 // Reads the product of the terms.
@@ -321,7 +390,7 @@ fn read_product(
     let mut total = ReadTerm::of(Some(Rational::constant(alloc, Fraction::whole(1))));
     for term in terms {
         let part = read_term(alloc, context, names, term)?;
-        total = total.times(alloc, part)?;
+        total = total.times(alloc, &part)?;
     }
     Ok(total)
 }
@@ -344,7 +413,7 @@ pub(crate) fn read_difference(
         return Ok(left.linear());
     }
     let right = read_term(alloc, context, names, right)?;
-    left.plus(alloc, right.opposite(alloc)?)
+    left.difference(alloc, &right)
 }
 
 // Whether the term is 0 as it is written, so that nothing is taken away.

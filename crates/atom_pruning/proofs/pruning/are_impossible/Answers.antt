@@ -1,4 +1,4 @@
-use Rattle.std.proofs.Common.{sym, subst}
+use Rattle.std.proofs.Common.{subst}
 use Rattle.atom_pruning.specs.Asked.{AreMarks, AreRefuted}
 use Rattle.atom_pruning.proofs.Keeping.{needed, impossible}
 use Rattle.atom_pruning.proofs.pruning.are_impossible.Goals as goal

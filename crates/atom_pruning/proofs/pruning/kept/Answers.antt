@@ -20,7 +20,7 @@ returns-then-branch-clause-kept c =
     let q = needed c.args.assumed.now c.args.atoms.now in
     let marks = c.in_ok-marks.marks.items in
     let are : AreMarks q marks = subst (λ r. AreMarks r marks) c.in_ok-question.ensures c.in_ok-marks.ensures.marks in
-    let refuted = c.in_ok-refutes.ensures.refuted c.if-branch.true in
+    let refuted = c.in_ok-surveys.ensures.refuted c.if-branch.true in
     impossible c.args.assumed.now c.args.atoms.now marks are
     (subst (λ r. AreRefuted r marks) c.in_ok-question.ensures (subst (AreRefuted _) c.deref.ensures.value refuted))
 

@@ -2,6 +2,7 @@ use Rattle.std.proofs.Common.{map, take, sym, subst, inl, inr}
 use Rattle.std.specs.Prelude.{IfSome}
 use Rattle.std.proofs.lemmas.Option.{IfSome_then}
 use Rattle.formula_meaning.specs.Some.{Among}
+use Rattle.atom_normal.specs.declared.atoms.Context.TheVariants.{Integers}
 use Rattle.atom_normal.specs.Atoms.{atom_of}
 use Rattle.branch_points.specs.declared.counts.Candidate.{Candidate}
 use Rattle.branch_points.specs.Counts.{IsCandidate, IsBeaten}
@@ -15,12 +16,12 @@ loop-name-preserved c =
     let left = c.args.left.now in
     let i = c.loop-name.name-index in
     let new = c.fewer-best.result in
-    let P : Candidate → Type 0 = λ k. Among left k.name × IsCandidate c.args.context atoms k in
+    let P : Candidate → Type 0 = λ k. Among left k.name × IsCandidate atoms k in
     let own : IfSome c.cheaper_side.result P =
     IfSome_then c.cheaper_side.result c.cheaper_side.ensures.found (λ k p. (subst (Among left) (sym p.0) (at_place left i (record { number = 0 }) c.loop-name-test.true), p.1)) in
     record {
       found = one_of P new c.loop-name.best c.cheaper_side.result c.fewer-best.ensures.one c.loop-name.invariant.found own;
-      least = each_more (IsBeaten c.args.context atoms new) left i (record { number = 0 }) c.loop-name-test.true
-          (each_along c.args.context atoms c.loop-name.best new (take i left) (λ n h. c.fewer-best.ensures.least n (inl h)) c.loop-name.invariant.least)
-          (beaten_along c.args.context atoms c.cheaper_side.result new _ (λ n h. c.fewer-best.ensures.least n (inr h)) c.cheaper_side.ensures.least);
+      least = each_more (IsBeaten Integers atoms new) left i (record { number = 0 }) c.loop-name-test.true
+          (each_along Integers atoms c.loop-name.best new (take i left) (λ n h. c.fewer-best.ensures.least n (inl h)) c.loop-name.invariant.least)
+          (beaten_along Integers atoms c.cheaper_side.result new _ (λ n h. c.fewer-best.ensures.least n (inr h)) c.cheaper_side.ensures.least);
     }

@@ -1,9 +1,10 @@
 use Rattle.std.proofs.Common.{take, map, nat_eq}
 use Rattle.std.specs.HashMap.{get}
 use Rattle.atom_normal.specs.Atoms.{atom_of}
+use Rattle.branch_points.specs.Chosen.{listed_atoms}
 use Rattle.branch_points.specs.Ends.{AreEnds}
 use Rattle.branch_points.proofs.ends.ends_of.Given as goal
 
--- the atoms so far are counted
-abbrev pub invariant-loop-atom : goal.invariant-loop-atom
-invariant-loop-atom l = AreEnds (map atom_of (take l.atom-index l.atoms)) (get nat_eq l.table)
+-- the atoms of the formulas so far are counted
+abbrev pub invariant-loop-id : goal.invariant-loop-id
+invariant-loop-id l = AreEnds (map atom_of (listed_atoms l.store (take l.id-index l.ids))) (get nat_eq l.table)

@@ -11,8 +11,8 @@ use Rattle.branch_pruning.proofs.Covered.{Cover, all_cover, are_covering, cover_
 use Rattle.branch_pruning.proofs.covering.uncovered.Goals as goal
 use Rattle.branch_pruning.proofs.covering.uncovered.Goals.{then-branch, else-branch}
 
-pub returns-then-formulas-gt-MOST-clause-cover : goal.returns-then-formulas-gt-MOST-clause-cover
-returns-then-formulas-gt-MOST-clause-cover c =
+pub returns-then-formulas-lt2-clause-cover : goal.returns-then-formulas-lt2-clause-cover
+returns-then-formulas-lt2-clause-cover c =
     let o = context_of c.args.context in
     let ks = map atom_of c.args.assumed.now in
     let h = c.in_ok-marks.ensures in
@@ -23,8 +23,8 @@ pub is_covered-requires : goal.is_covered-requires
 is_covered-requires c =
     let many = conjunctions_length (context_of c.args.context) c.args.store.now c.args.formulas.now c.in_ok-conjunctions.conjunctions.items c.in_ok-conjunctions.ensures in
     let one_each = c.loop-i.invariant.one_each in
-    let a = c.deref-in-loop-i.ensures.len in
-    let b = c.deref.ensures.len in
+    let a = c.deref-in-loop-i-2.ensures.len in
+    let b = c.deref-in-loop-i.ensures.len in
     omega arith
 
 pub index_mut-requires : goal.index_mut-requires
@@ -54,11 +54,11 @@ loop-i-preserved c =
     let is : item ≡ get_or all i item = subst (λ (os : List (Option Conjunction)). item ≡ get_or os i item) c.deref-conjunction-items.ensures.value c.conjunction-item.is in
     elim c.if-branch.branch [
       | then-branch w ↦
-          let seen : IsSomeAnd item (λ k. IsCovered c.loop-i.comparer.assumed.items k i c.deref.result.now c.deref-in-loop-i.result.now) = c.in_ok-is_covered.ensures.covered w.if-branch.true in
+          let seen : IsSomeAnd item (λ k. IsCovered c.loop-i.comparer.assumed.items k i c.deref-in-loop-i.result.now c.deref-in-loop-i-2.result.now) = c.in_ok-is_covered.ensures.covered w.if-branch.true in
           let covered : IsSomeAnd item (λ k. IsCovered rows k i all bs) =
-          subst (λ ms. IsSomeAnd item (λ k. IsCovered rows k i all ms)) c.deref-in-loop-i.ensures.value
-          (subst (λ os. IsSomeAnd item (λ k. IsCovered rows k i os c.deref-in-loop-i.result.now)) c.deref.ensures.value
-          (subst (λ rs. IsSomeAnd item (λ k. IsCovered rs k i c.deref.result.now c.deref-in-loop-i.result.now)) v.assumed seen)) in
+          subst (λ ms. IsSomeAnd item (λ k. IsCovered rows k i all ms)) c.deref-in-loop-i-2.ensures.value
+          (subst (λ os. IsSomeAnd item (λ k. IsCovered rows k i os c.deref-in-loop-i-2.result.now)) c.deref-in-loop-i.ensures.value
+          (subst (λ rs. IsSomeAnd item (λ k. IsCovered rs k i c.deref-in-loop-i.result.now c.deref-in-loop-i-2.result.now)) v.assumed seen)) in
           let written : c.if-branch.marks.items ≡ set bs i false = search rules in
           record {
             one_each = grind (arith, common_steps);

@@ -24,16 +24,16 @@ returns-in_err-cut-clause-kept c = keeps_then c.args.store.now c.simplified.new.
 
 -- ---- nothing was cut
 
-pub returns-then-eq-clause-pruned : goal.returns-then-eq-clause-pruned
-returns-then-eq-clause-pruned c =
+pub returns-then-eq-2-clause-pruned : goal.returns-then-eq-2-clause-pruned
+returns-then-eq-2-clause-pruned c =
     let o = context_of c.args.context in
     let ks = map atom_of c.args.assumed.now in
     let m = c.in_ok-first.ensures.made in
     once o ks (assumable o ks c.requires.normal (all_within c.args.assumed.now c.requires.well_formed)) c.args.store.now c.args.id c.requires.id c.requires.tidy c.cut.new.store c.in_ok-first.first
     (record { is = c.cut.ensures.kept.is c.in_ok-first.first m.is; same = c.cut.ensures.kept.same c.in_ok-first.first m.is ∙ m.same })
 
-pub returns-then-eq-clause-kept : goal.returns-then-eq-clause-kept
-returns-then-eq-clause-kept c = keeps_then c.args.store.now c.simplified.new.store c.cut.new.store c.simplified.ensures.kept c.cut.ensures.kept
+pub returns-then-eq-2-clause-kept : goal.returns-then-eq-2-clause-kept
+returns-then-eq-2-clause-kept c = keeps_then c.args.store.now c.simplified.new.store c.cut.new.store c.simplified.ensures.kept c.cut.ensures.kept
 
 -- ---- something was
 

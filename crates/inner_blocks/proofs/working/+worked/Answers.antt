@@ -24,7 +24,10 @@ use Rattle.inner_blocks.proofs.Remembered.{remembers_kept, remembers_more}
 use Rattle.inner_blocks.proofs.Under.{is_under}
 use Rattle.inner_blocks.proofs.working.+worked.Goals as goal
 
--- ---- a formula that was worked on before
+-- ---- a formula that stays, or was worked on before
+
+pub remembered-returns-in-Itself-clause-without : goal.remembered-returns-in-Itself-clause-without
+remembered-returns-in-Itself-clause-without g t c = atomic_without c.args.work.now c.args.store.now c.args.id c.requires.ready c.in-Itself.ensures
 
 pub remembered-returns-in-Some-clause-without : goal.remembered-returns-in-Some-clause-without
 remembered-returns-in-Some-clause-without g t c = (c.requires.done.each c.args.id c.in-Some.before.now (sym c.in-Some.ensures.value)).1
@@ -149,14 +152,14 @@ list_made-returns-clause-kept g t c = keeps_then c.args.store.now c.loop-member.
 
 -- ---- a block
 
-pub chain_made-remembered-requires-clause-work : goal.chain_made-remembered-requires-clause-work
-chain_made-remembered-requires-clause-work g t c κs within =
+pub chain_made-made-requires-clause-work : goal.chain_made-made-requires-clause-work
+chain_made-made-requires-clause-work g t c κs within =
     let w = c.args.work.now in
     let u : Work = record { alloc = w.alloc; context = w.context; assumed = c.deref.result; workers = w.workers } in
     (is_under w u c.as_slice.result.now c.requires.work refl refl (c.deref.ensures.value ∙ c.in_ok-assumed.ensures)).work
 
-pub chain_made-remembered-requires-clause-ready : goal.chain_made-remembered-requires-clause-ready
-chain_made-remembered-requires-clause-ready g t c κs within =
+pub chain_made-made-requires-clause-ready : goal.chain_made-made-requires-clause-ready
+chain_made-made-requires-clause-ready g t c κs within =
     let s = c.in_ok-names.ensures.split in
     behind_ready (context_of c.args.work.now.context) c.args.store.now c.args.id c.in_ok-names.inner c.args.quantifier c.requires.ready s.is s.matrix
 
@@ -186,4 +189,4 @@ chain_made-returns-clause-worked g t c =
     ok_map c.closed.result (λ r h. h f inner over c.in-Ok.ensures.without.to.worked) c.closed.ensures.closes
 
 pub chain_made-returns-clause-kept : goal.chain_made-returns-clause-kept
-chain_made-returns-clause-kept g t c = keeps_then c.args.store.now c.remembered.new.store c.closed.new.store c.remembered.ensures.kept c.closed.ensures.kept
+chain_made-returns-clause-kept g t c = keeps_then c.args.store.now c.made.new.store c.closed.new.store c.made.ensures.kept c.closed.ensures.kept

@@ -17,10 +17,10 @@ use Rattle.atom_normal.specs.NormalForm.{negated_normal}
 use Rattle.nnf_pnf.proofs.Normal.{ids_are, is_normal}
 use Rattle.nnf_pnf.proofs.negation.nnf.Goals as goal
 
-order : (c : goal.After-table-1) → IsOrder c.args.store.now (c.args.id ∷ []) c.deref-id-items.result.now
+order : (c : goal.After-table-in-loop-id-1) → IsOrder c.args.store.now (c.args.id ∷ []) c.deref-id-items.result.now
 order c = subst (λ (ids : List FormulaId). IsOrder c.args.store.now (c.args.id ∷ []) ids) (sym c.deref-id-items.ensures.value) c.in_ok-ids.ensures.order
 
-old_id : (c : goal.After-table-1) → IsId c.args.store.now (get_or c.deref-id-items.result.now c.loop-id.id-index (record { number = 0 }))
+old_id : (c : goal.After-table-in-loop-id-1) → IsId c.args.store.now (get_or c.deref-id-items.result.now c.loop-id.id-index (record { number = 0 }))
 old_id c = each_id c.args.store.now c.subformulas.ensures.nodes (c.args.id ∷ []) c.deref-id-items.result.now (order c) (c.requires, tt) c.loop-id.id-index (record { number = 0 }) c.loop-id-test.true
 
 pub node_forms-requires-clause-id : goal.node_forms-requires-clause-id

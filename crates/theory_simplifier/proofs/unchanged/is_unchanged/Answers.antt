@@ -1,4 +1,6 @@
-use Rattle.std.proofs.Common.{⊎_elim, List, map, ap, ◌∙◌, subst}
+use Rattle.std.proofs.Common.{List, map, refl, ap, ◌∙◌, subst}
+use Rattle.formula_meaning.specs.declared.junction.Junction.TheVariants.{Conjunction, Disjunction}
+use Rattle.atom_normal.specs.Atoms.{context_of}
 use Rattle.formula_tree.specs.Shapes.{tree_over}
 use Rattle.formula_store.specs.declared.id.FormulaId.{FormulaId}
 use Rattle.formula_store.specs.Nodes.{tree}
@@ -10,12 +12,22 @@ use Rattle.theory_simplifier.proofs.unchanged.is_unchanged.Goals as goal
 
 pub returns-in-And : goal.returns-in-And
 returns-in-And c =
+    let o = context_of c.args.context in
     let t = tree c.args.store.now in
     let fs = map t c.in-And.ids in
-    let ks = known_atoms c.args.known.now in
     if_ok_map c.are_apart.result _ _
-    (λ b k h o s.
-    let taken : AreTaken fs = subst (λ (is : List FormulaId). AreTaken (map t is)) c.items.ensures (k h) in
-    ⊎_elim (λ e. and_stays o (t c.args.id) fs ks (c.shape.ensures.tree ∙ ap (tree_over t) e) (c.is_empty.ensures c.if-is_empty.true) taken s)
-    (λ e. or_stays o (t c.args.id) fs ks (c.shape.ensures.tree ∙ ap (tree_over t) e) (c.is_empty.ensures c.if-is_empty.true) taken s) c.in-And.is)
+    (λ b k h.
+    let taken : AreTaken o Conjunction fs = subst (λ (is : List FormulaId). AreTaken o Conjunction (map t is)) c.items.ensures (k h) in
+    and_stays o (t c.args.id) fs (known_atoms c.args.known.now) (c.shape.ensures.tree ∙ ap (tree_over t) c.in-And.is) (c.is_empty.ensures c.if-is_empty.true) taken c.requires.formula)
     c.are_apart.ensures
+
+pub returns-in-Or : goal.returns-in-Or
+returns-in-Or c =
+    let o = context_of c.args.context in
+    let t = tree c.args.store.now in
+    let fs = map t c.in-Or.ids in
+    if_ok_map c.are_apart-in-Or.result _ _
+    (λ b k h.
+    let taken : AreTaken o Disjunction fs = subst (λ (is : List FormulaId). AreTaken o Disjunction (map t is)) c.items-in-Or.ensures (k h) in
+    or_stays o (t c.args.id) fs (known_atoms c.args.known.now) (c.shape.ensures.tree ∙ ap (tree_over t) c.in-Or.is) (c.if-is_empty-2.ensures refl) taken c.requires.formula)
+    c.are_apart-in-Or.ensures

@@ -15,7 +15,7 @@ use Rattle.written_atoms.specs.Rational.{Shows, rational_of}
 use Rattle.written_atoms.specs.Sum.{IsSummed}
 use Rattle.written_atoms.specs.Term.{IsTermRead}
 use Rattle.written_atoms.proofs.TermSizes.{term_size, member_smaller, sum_is, product_is, number_literal, name_is}
-use Rattle.written_atoms.proofs.Readings.{SumLeft, ProductLeft, sum_begins, sum_goes_on, sum_ends, product_begins, product_goes_on, product_ends, quotient_read, power_read, some_there}
+use Rattle.written_atoms.proofs.Readings.{SumLeft, ProductLeft, sum_begun, sum_more, sum_whole, product_begins, product_goes_on, product_ends, quotient_read, power_read, some_there}
 use Rattle.written_atoms.proofs.term.+reading.Goals as goal
 
 pub read_product-loop-term-init : goal.read_product-loop-term-init
@@ -53,7 +53,7 @@ read_product-returns t c =
     product_ends k n all c.loop-term.total (subst (λ (r : List Term). ProductLeft k n all (terms_of (map term_tree r)) c.loop-term.total) (none_left ts i c.loop-term-test.false) c.loop-term.invariant.left)
 
 pub read_sum-loop-term-init : goal.read_sum-loop-term-init
-read_sum-loop-term-init t c = record { left = sum_begins (context_of c.args.context) (place c.args.names.now) (terms_of (map term_tree c.args.terms.now)) c.new-total.result c.new-total.ensures; proper = c.requires }
+read_sum-loop-term-init t c = record { left = sum_begun (context_of c.args.context) (place c.args.names.now) (terms_of (map term_tree c.args.terms.now)) c.new-total.result c.new-total.ensures; proper = c.requires }
 
 pub read_sum-read_term-requires : goal.read_sum-read_term-requires
 read_sum-read_term-requires t c =
@@ -70,17 +70,16 @@ read_sum-loop-term-preserved t c =
     let k = context_of c.args.context in let n = place c.args.names.now in
     let all = terms_of (map term_tree ts) in
     let p = subst (λ (r : List Term). AreProperTerms (terms_of (map term_tree r))) e c.loop-term.invariant.proper in
-    let l = subst (λ (r : List Term). SumLeft k n all (terms_of (map term_tree r)) c.loop-term.total c.loop-term.nonlinear c.loop-term.division) e c.loop-term.invariant.left in
-    let s = subst (λ f. IsSummed c.loop-term.total f c.in_ok-total.total) c.into_form.ensures c.in_ok-total.ensures in
-    record { left = sum_goes_on k n all _ (term_tree x) c.loop-term.total c.in_ok-total.total c.loop-term.nonlinear c.loop-term.division c.in_ok-part.part l c.in_ok-part.ensures s; proper = p.1 }
+    let l = subst (λ (r : List Term). SumLeft k n all (terms_of (map term_tree r)) c.loop-term.total.total c.loop-term.total.nonlinear c.loop-term.total.division) e c.loop-term.invariant.left in
+    record { left = sum_more k n all _ (term_tree x) c.loop-term.total c.in_ok-total.total c.in_ok-part.part l c.in_ok-part.ensures c.in_ok-total.ensures; proper = p.1 }
 
 pub read_sum-returns : goal.read_sum-returns
 read_sum-returns t c =
     let i = c.loop-term.term-index in let ts = c.args.terms.now in
     let k = context_of c.args.context in let n = place c.args.names.now in
     let all = terms_of (map term_tree ts) in
-    let l = subst (λ (r : List Term). SumLeft k n all (terms_of (map term_tree r)) c.loop-term.total c.loop-term.nonlinear c.loop-term.division) (none_left ts i c.loop-term-test.false) c.loop-term.invariant.left in
-    sum_ends k n all c.loop-term.total c.loop-term.nonlinear c.loop-term.division _ l c.in_ok-into_form.ensures
+    let l = subst (λ (r : List Term). SumLeft k n all (terms_of (map term_tree r)) c.loop-term.total.total c.loop-term.total.nonlinear c.loop-term.total.division) (none_left ts i c.loop-term-test.false) c.loop-term.invariant.left in
+    IfOk-weaker c.into_term.result _ _ (λ r h. sum_whole k n all c.loop-term.total r l h) c.into_term.ensures
 
 pub read_term-read_sum-requires : goal.read_term-read_sum-requires
 read_term-read_sum-requires t c =
@@ -124,13 +123,13 @@ read_term-read_term-requires-in-Power t c =
 pub read_term-returns-in-Number : goal.read_term-returns-in-Number
 read_term-returns-in-Number t c =
     let k = context_of c.args.context in let n = place c.args.names.now in
-    subst (λ (s : TermTree). IsTermRead k n s c.read_literal.result) (sym (number_literal _ _ c.in-Number.is)) (c.read_literal.ensures k n)
+    subst (λ (s : TermTree). IsTermRead k n s c.literal.result) (sym (number_literal _ _ c.in-Number.is)) (c.literal.ensures k n)
 
 pub read_term-returns-in-Name : goal.read_term-returns-in-Name
 read_term-returns-in-Name t c =
     let k = context_of c.args.context in let n = place c.args.names.now in
     let e = name_is _ _ c.in-Name.is in
-    IfOk-weaker c.read_name.result _ _ (λ r h. subst (λ (s : TermTree). IsTermRead k n s r) (sym e) (h k)) c.read_name.ensures
+    IfOk-weaker c.variable.result _ _ (λ r h. subst (λ (s : TermTree). IsTermRead k n s r) (sym e) (h k n c.in-Name.name (sym c.place.ensures))) c.variable.ensures
 
 pub read_term-power_of-requires-clause-lowest : goal.read_term-power_of-requires-clause-lowest
 read_term-power_of-requires-clause-lowest t c a i v e =

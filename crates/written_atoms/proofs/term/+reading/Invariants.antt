@@ -20,7 +20,7 @@ decreases-read_product l = terms_size (terms_of (map term_tree l.terms.now))
 -- what was read of the first members, and the members that are left
 abbrev pub invariant-read_sum-loop-term : goal.invariant-read_sum-loop-term
 invariant-read_sum-loop-term l = record {
-  left : SumLeft (context_of l.context) (place l.names) (terms_of (map term_tree l.terms)) (terms_of (map term_tree (drop l.term-index l.terms))) l.total l.nonlinear l.division;
+  left : SumLeft (context_of l.context) (place l.names) (terms_of (map term_tree l.terms)) (terms_of (map term_tree (drop l.term-index l.terms))) l.total.total l.total.nonlinear l.total.division;
   proper : AreProperTerms (terms_of (map term_tree (drop l.term-index l.terms)));
 }
 

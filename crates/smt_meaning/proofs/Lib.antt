@@ -1,0 +1,4 @@
+mod Examples
+pub mod Levels
+pub mod MeaningNames
+pub mod Captures

@@ -1,0 +1,9 @@
+pub mod Levels
+pub mod Shapes
+pub mod Operators
+pub mod Meaning
+pub mod Undeclared
+pub mod Nodes
+pub mod Proper
+pub mod Atoms
+pub mod Laws

@@ -1,0 +1,9 @@
+pub mod TreeEquations
+pub mod Options
+pub mod Lists
+pub mod Apart
+pub mod Readings
+pub mod Grouped
+pub mod Spelling
+pub mod Opened
+pub mod Examples

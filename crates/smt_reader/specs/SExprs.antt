@@ -1,0 +1,54 @@
+-- S-expressions, and the tokens that each is written with.
+use Rattle.std.specs.Prelude.{List, [], ◌∷◌, Option, Some, None}
+use Rattle.smt_tokens.specs.declared.token.SmtToken.{SmtToken}
+use Rattle.smt_tokens.specs.declared.token.SmtToken.TheVariants as token
+use Rattle.smt_reader.specs.declared.sexpr.Leaf.{Leaf}
+use Rattle.smt_reader.specs.declared.sexpr.Leaf.TheVariants as leaf
+
+-- a leaf, or what stands between two parentheses
+mutual
+  pub data SExprTree : Type 0 where
+    One : Leaf → SExprTree
+    Group : SExprTrees → SExprTree
+
+  -- none, or one before others
+  pub data SExprTrees : Type 0 where
+    none : SExprTrees
+    also : SExprTree → SExprTrees → SExprTrees
+
+-- the members of a list
+abbrev pub sexprs_of : List SExprTree → SExprTrees
+sexprs_of [] = none
+sexprs_of (s ∷ ss) = also s (sexprs_of ss)
+
+-- the token of a leaf
+abbrev pub token_of : Leaf → SmtToken
+token_of (leaf.Numeral n) = token.Numeral n
+token_of (leaf.Decimal n power) = token.Decimal n power
+token_of (leaf.Symbol x) = token.Symbol x
+token_of leaf.Unfit = token.Unfit
+token_of leaf.Text = token.Text
+token_of leaf.Keyword = token.Keyword
+
+-- the leaf of a token, where it is one: no parenthesis, and not bad
+abbrev pub leaf_of : SmtToken → Option Leaf
+leaf_of (token.Numeral n) = Some (leaf.Numeral n)
+leaf_of (token.Decimal n power) = Some (leaf.Decimal n power)
+leaf_of (token.Symbol x) = Some (leaf.Symbol x)
+leaf_of token.Unfit = Some leaf.Unfit
+leaf_of token.Text = Some leaf.Text
+leaf_of token.Keyword = Some leaf.Keyword
+leaf_of token.Open = None
+leaf_of token.Close = None
+leaf_of token.Bad = None
+
+-- the tokens of an S-expression, and these after them
+abbrev mutual
+  pub written : SExprTree → List SmtToken → List SmtToken
+  written (One l) rest = token_of l ∷ rest
+  written (Group ss) rest = token.Open ∷ written_all ss (token.Close ∷ rest)
+
+  -- the tokens of all of them, one after another, and these after them
+  pub written_all : SExprTrees → List SmtToken → List SmtToken
+  written_all none rest = rest
+  written_all (also s ss) rest = written s (written_all ss rest)

@@ -1,0 +1,137 @@
+ghost use Rattle.std.specs.Prelude.{◌≡◌, map};
+ghost use Rattle.smt_reader.specs.SExprs.{SExprTree, sexprs_of, leaf_of, Group};
+ghost use Rattle.smt_reader.specs.CodeTrees.{sexpr_tree, sexpr_trees, trees_of};
+ghost use Rattle.smt_reader.specs.Shapes.{symbol_in, numeral_in, symbol_at, word_at, name_at, numeral_at, is_void};
+
+use qe_syntax::{Literal, Name};
+use smt_tokens::SmtToken;
+use smt_words::{Word, word_of};
+
+/// A token that is no parenthesis and is not bad.
+#[derive(Clone, Copy)]
+pub enum Leaf {
+    Numeral(Literal),
+    Decimal(Literal, Literal),
+    Symbol(Name),
+    /// A symbol of no byte or of more than 64.
+    Unfit,
+    Text,
+    Keyword,
+}
+
+/// An S-expression. No more than 512 stand inside one another.
+#[derive(Drop)]
+#[cycle(sexpr)]
+pub enum SExpr {
+    Leaf(Leaf),
+    /// What stands between two parentheses.
+    Group(SExprs),
+}
+
+/// A list of S-expressions.
+#[derive(Drop)]
+#[cycle(sexpr)]
+pub struct SExprs {
+    pub(crate) list: Vec<SExpr>,
+}
+
+impl Leaf {
+    /// The leaf that a token is, where it is one.
+    pub fn of(token: SmtToken) -> Option<Leaf>
+        ensures { result ≡ leaf_of token }
+    {
+        match token {
+            SmtToken::Numeral(number) => Some(Leaf::Numeral(number)),
+            SmtToken::Decimal(digits, power) => Some(Leaf::Decimal(digits, power)),
+            SmtToken::Symbol(name) => Some(Leaf::Symbol(name)),
+            SmtToken::Unfit => Some(Leaf::Unfit),
+            SmtToken::Text => Some(Leaf::Text),
+            SmtToken::Keyword => Some(Leaf::Keyword),
+            SmtToken::Open | SmtToken::Close | SmtToken::Bad => None,
+        }
+    }
+
+    /// The text of a symbol.
+    fn symbol(&self) -> Option<Name>
+        ensures { result ≡ symbol_in self.now }
+    {
+        match self {
+            Leaf::Symbol(name) => Some(*name),
+            _ => None,
+        }
+    }
+
+    /// The number of a numeral.
+    fn numeral(&self) -> Option<Literal>
+        ensures { result ≡ numeral_in self.now }
+    {
+        match self {
+            Leaf::Numeral(number) => Some(*number),
+            _ => None,
+        }
+    }
+}
+
+impl SExpr {
+    /// The S-expression of these between two parentheses.
+    #[tactic(auto, using(crate::proofs::TreeEquations::trees))]
+    pub fn group(list: Vec<SExpr>) -> SExpr
+        ensures { sexpr_tree result ≡ Group (trees_of list.items) }
+    {
+        SExpr::Group(SExprs { list })
+    }
+
+    /// The text of a symbol.
+    #[tactic(auto, using(crate::proofs::TreeEquations::trees))]
+    pub fn symbol(&self) -> Option<Name>
+        ensures { result ≡ symbol_at (sexpr_tree self.now) }
+    {
+        match self {
+            SExpr::Leaf(leaf) => leaf.symbol(),
+            SExpr::Group(_) => None,
+        }
+    }
+
+    /// What a reserved symbol is.
+    #[tactic(auto, using(crate::proofs::Options::options))]
+    pub fn word(&self) -> Option<Word>
+        ensures { result ≡ word_at (sexpr_tree self.now) }
+    {
+        let symbol = self.symbol()?;
+        word_of(symbol.bytes())
+    }
+
+    /// A symbol that may be a name.
+    #[tactic(auto, using(crate::proofs::Options::options))]
+    pub fn name(&self) -> Option<Name>
+        ensures { result ≡ name_at (sexpr_tree self.now) }
+    {
+        let symbol = self.symbol()?;
+        if word_of(symbol.bytes()).is_some() {
+            return None;
+        }
+        Some(symbol)
+    }
+
+    /// The number of a numeral.
+    #[tactic(auto, using(crate::proofs::TreeEquations::trees))]
+    pub fn numeral(&self) -> Option<Literal>
+        ensures { result ≡ numeral_at (sexpr_tree self.now) }
+    {
+        match self {
+            SExpr::Leaf(leaf) => leaf.numeral(),
+            SExpr::Group(_) => None,
+        }
+    }
+
+    /// Whether it is two parentheses with nothing between them.
+    #[tactic(auto, using(crate::proofs::TreeEquations::trees))]
+    pub fn is_void(&self) -> bool
+        ensures { result ≡ is_void (sexpr_tree self.now) }
+    {
+        match self {
+            SExpr::Leaf(_) => false,
+            SExpr::Group(members) => members.list.is_empty(),
+        }
+    }
+}

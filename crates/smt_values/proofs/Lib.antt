@@ -1,0 +1,10 @@
+pub mod FrameLaws
+pub mod Lists
+pub mod TermLaws
+pub mod PartLists
+pub mod FormulaLaws
+pub mod ChainLaws
+pub mod OperatorLaws
+pub mod ReadingLaws
+pub mod Sizes
+pub mod MemberLaws

@@ -1,0 +1,12 @@
+use atom_normal::Context;
+use formula_tree::Names;
+use std::alloc::Global;
+
+/// What an assertion is read with: the theory, the declared names, and how many nodes the formula may have.
+#[derive(Drop)]
+pub struct Setting<'a> {
+    pub alloc: Global,
+    pub context: Context,
+    pub declared: &'a Names,
+    pub limit: u64,
+}
