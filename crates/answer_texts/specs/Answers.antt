@@ -3,7 +3,7 @@ use Rattle.std.specs.Prelude.{ℕ, ◌+◌, ℤ, unsigned_abs, List, [], ◌∷�
 use Rattle.std.specs.Fmt.{decimal}
 use Rattle.formula_meaning.specs.Form.{Form, Term}
 use Rattle.formula_meaning.specs.Answer.{Answer, Place, Exact, AboveBy, BelowBy, PlusInfinity, MinusInfinity, Periodic}
-use Rattle.elimination_reference.specs.Cases.{Case}
+use Rattle.sample_reference.specs.FromEliminationReference.{Case}
 use Rattle.redlog_printer.specs.Text.{name_at, later_sign, sum_text, form_text, tree_text}
 
 -- the texts with commas between them, and something before the first

@@ -1,3 +1,4 @@
 pub mod Answers
 pub mod Points
 pub mod Within
+pub mod FromPlainCases

@@ -2,7 +2,7 @@
 use Rattle.std.specs.Prelude.{ℕ, ◌<◌, List}
 use Rattle.std.specs.List.{AllByRecursion}
 use Rattle.formula_meaning.specs.Answer.{Answer, Place, Exact, AboveBy, BelowBy, PlusInfinity, MinusInfinity, Periodic}
-use Rattle.elimination_reference.specs.Cases.{Case}
+use Rattle.sample_reference.specs.FromEliminationReference.{Case}
 use Rattle.formula_meaning.specs.Within.{AreTermsWithin, IsTreeWithin}
 use Rattle.sample_reference.specs.Values.{Value}
 

@@ -3,14 +3,13 @@ ghost use Rattle.std.specs.Prelude.{◌≡◌, ◌<◌, ◌≤◌, ◌+◌, ◌^
 ghost use Rattle.redlog_printer.specs.Text.{first_sign, later_sign, sum_text};
 ghost use Rattle.formula_meaning.specs.Within.{AreTermsWithin};
 ghost use Rattle.redlog_printer.specs.Writing.{text_limit};
-ghost use Rattle.test_points.specs.Points.{answer_of, place_of};
+ghost use Rattle.plain_cases.specs.FromTestPoints.{answer_of, place_of};
 ghost use Rattle.answer_texts.specs.Answers.{separated, quotient_text, period_text, place_text, answer_text, answer_texts, next_epsilon, next_infinity};
 ghost use Rattle.answer_texts.specs.Within.{IsPlaceWithin, IsAnswerWithin, AreAnswersWithin};
 
-use formula_tree::Names;
 use linear_forms::Linear;
-use redlog_printer::{Output, PrintError, put_form};
-use test_points::{Place, TestPoint};
+use plain_cases::{Place, TestPoint};
+use redlog_printer::{Names, Output, PrintError, put_form};
 
 // The numbers that the next infinitesimal and the next infinity have.
 #[derive(Clone, Copy)]

@@ -6,9 +6,8 @@ ghost use Rattle.answer_texts.specs.Answers.{separated, case_text, cases_text};
 ghost use Rattle.answer_texts.specs.Within.{IsCaseWithin, AreCasesWithin};
 
 use crate::answers::put_answers;
-use formula_tree::Names;
 use plain_cases::PrintedCase;
-use redlog_printer::{Output, PrintError, put_tree};
+use redlog_printer::{Names, Output, PrintError, put_tree};
 use std::alloc::Global;
 
 // A case with something before it.

@@ -6,4 +6,5 @@ mod cases;
 mod points;
 
 pub use cases::cases_text;
+pub use plain_cases::PrintedCase;
 pub use points::{point_text, put_fraction};

@@ -8,9 +8,8 @@ ghost use Rattle.answer_texts.specs.Points.{fraction_text, value_text, point_tex
 ghost use Rattle.answer_texts.specs.Within.{AreValuesWithin};
 
 use exact_numbers::Fraction;
-use formula_tree::Names;
 use linear_forms::VarId;
-use redlog_printer::{Output, PrintError};
+use redlog_printer::{Names, Output, PrintError};
 use std::alloc::Global;
 
 /// Writes a fraction; a denominator 1 is not written. `Text` comes exactly where the text passes 32 MiB, else `Memory`.

@@ -12,7 +12,7 @@ use Rattle.formula_meaning.specs.Form.{Form, Term}
 use Rattle.formula_meaning.specs.Atom.{Relation, Equals, Differs, Below, AtMost, Above, AtLeast, Atom, Compare, Congruent, opposite_relation, form_of}
 use Rattle.formula_meaning.specs.declared.junction.Junction.{Junction}
 use Rattle.formula_meaning.specs.declared.junction.Junction.TheVariants.{Conjunction, Disjunction}
-use Rattle.linear_forms.specs.Terms.{coefficients}
+use Rattle.atom_normal.specs.FromLinearForms.{coefficients}
 use Rattle.atom_normal.specs.NormalForm.{holds, first, IsNormal, IsOriented}
 use Rattle.atom_normal.proofs.Relations.{holds_so, content_positive, chain}
 use Rattle.atom_merging.specs.declared.comparison.Position.{Position}

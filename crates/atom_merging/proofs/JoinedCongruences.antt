@@ -13,7 +13,7 @@ use Rattle.formula_meaning.specs.Form.{Form}
 use Rattle.formula_meaning.specs.Atom.{Atom, Compare, Congruent, form_of}
 use Rattle.formula_meaning.specs.declared.junction.Junction.{Junction}
 use Rattle.formula_meaning.specs.declared.junction.Junction.TheVariants.{Conjunction, Disjunction}
-use Rattle.linear_forms.proofs.Residues.{residue_stays}
+use Rattle.atom_normal.proofs.FromLinearForms.{residue_stays}
 use Rattle.atom_normal.specs.NormalForm.{IsNormalCongruence}
 use Rattle.atom_normal.proofs.Relations.{chain, along}
 use Rattle.atom_merging.specs.declared.congruence.Class.{Class}

@@ -1,3 +1,4 @@
+mod Examples
 pub mod Tables
 pub mod Mixed
 pub mod Thresholds
@@ -10,4 +11,4 @@ pub mod ResidueClasses
 pub mod JoinedCongruences
 pub mod PointLaws
 pub mod Computed
-mod Examples
+pub mod FromAtomNormal

@@ -5,7 +5,7 @@ use Rattle.formula_meaning.specs.Context.{Context}
 use Rattle.formula_meaning.specs.Atom.{Atom, form_of}
 use Rattle.formula_meaning.specs.declared.junction.Junction.{Junction}
 use Rattle.formula_meaning.specs.declared.junction.Junction.TheVariants.{Conjunction, Disjunction}
-use Rattle.linear_forms.specs.Combinations.{IsLinear}
+use Rattle.atom_normal.specs.FromLinearForms.{IsLinear}
 use Rattle.atom_merging.specs.declared.answers.Merged.{Merged}
 use Rattle.atom_merging.specs.declared.answers.Merged.TheVariants.{True, False, One, Keep}
 use Rattle.atom_merging.specs.Junctions.{absorbing}

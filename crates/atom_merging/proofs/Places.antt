@@ -4,10 +4,7 @@ use Rattle.std.proofs.Math.IntN.{ℤ}
 use Rattle.std.specs.Prelude.{int_div, slice_get, option_map}
 use Rattle.exact_numbers.specs.Limit.{InLimit}
 use Rattle.formula_meaning.specs.Form.{Term}
-use Rattle.linear_forms.specs.declared.form.VarId.{VarId}
-use Rattle.linear_forms.specs.Linear.{term_of}
-use Rattle.linear_forms.specs.Terms.{AllInLimit}
-use Rattle.linear_forms.specs.Reduction.{quotients}
+use Rattle.atom_normal.specs.FromLinearForms.{VarId, term_of, AllInLimit, quotients}
 
 -- the lists have the same quotients exactly where they have from the place on
 pub record IsSameBefore (d : ℤ) (fs : List Term) (e : ℤ) (gs : List Term) (k : ℕ) : Type 0 where

@@ -12,8 +12,8 @@ use Rattle.formula_meaning.specs.Form.{Form, total, multiple, value, coefficient
 use Rattle.formula_meaning.specs.Atom.{Relation, Relates, Atom, Compare, Congruent, Says, Mentions}
 use Rattle.formula_meaning.specs.declared.junction.Junction.{Junction}
 use Rattle.formula_meaning.specs.declared.junction.Junction.TheVariants.{Conjunction, Disjunction}
-use Rattle.linear_forms.specs.Terms.{coefficients}
-use Rattle.linear_forms.proofs.Quotients.{total_quotients, multiple_quotients}
+use Rattle.atom_normal.specs.FromLinearForms.{coefficients}
+use Rattle.atom_normal.proofs.FromLinearForms.{total_quotients, multiple_quotients}
 use Rattle.atom_normal.specs.NormalForm.{IsNormal}
 use Rattle.atom_normal.proofs.Relations.{chain, back, along, never}
 use Rattle.atom_normal.proofs.Comparisons.{value_whole}

@@ -6,7 +6,7 @@ use Rattle.std.specs.Ordering.{int_eq}
 use Rattle.std.specs.Cmp.{signed_Decides}
 use Rattle.std.proofs.lemmas.Int.{ints}
 use Rattle.exact_numbers.proofs.Order.{by_order}
-use Rattle.linear_forms.proofs.Reduced.{by_equal}
+use Rattle.atom_normal.proofs.FromLinearForms.{by_equal}
 use Rattle.atom_merging.specs.declared.congruence.Class.{Class}
 use Rattle.atom_merging.specs.declared.congruence.Class.TheVariants.{Settled, First, Second, Third, Kept}
 use Rattle.atom_merging.specs.Classes.{different_classes, same_class, both_classes}

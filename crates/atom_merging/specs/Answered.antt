@@ -2,7 +2,7 @@
 use Rattle.std.specs.Prelude.{◌≡◌}
 use Rattle.exact_numbers.specs.Limit.{PastLimit}
 use Rattle.formula_meaning.specs.Atom as meant
-use Rattle.linear_forms.specs.Combinations.{IsLinear}
+use Rattle.atom_normal.specs.FromLinearForms.{IsLinear}
 use Rattle.atom_normal.specs.Atoms.{atom_of, IsWellFormed}
 use Rattle.atom_merging.specs.declared.answers.Merged.{Merged}
 use Rattle.atom_merging.specs.declared.answers.Merged.TheVariants.{True, False, One, Keep}

@@ -11,7 +11,7 @@ use Rattle.formula_meaning.specs.Atom.{Atom, Compare, Congruent, opposite_relati
 use Rattle.formula_meaning.specs.Same.{same_terms}
 use Rattle.formula_meaning.specs.declared.junction.Junction.{Junction}
 use Rattle.formula_meaning.specs.declared.junction.Junction.TheVariants.{Conjunction, Disjunction}
-use Rattle.linear_forms.specs.Terms.{coefficients}
+use Rattle.atom_normal.specs.FromLinearForms.{coefficients}
 use Rattle.atom_normal.specs.NormalForm.{IsNormal}
 use Rattle.atom_merging.specs.declared.comparison.Position.{Position}
 use Rattle.atom_merging.specs.declared.comparison.Position.TheVariants as lies

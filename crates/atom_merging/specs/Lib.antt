@@ -7,3 +7,4 @@ pub mod Merged
 pub mod Junctions
 pub mod Answered
 pub mod Computed
+pub mod FromAtomNormal

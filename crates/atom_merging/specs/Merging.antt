@@ -7,8 +7,7 @@ use Rattle.formula_meaning.specs.Form.{Term}
 use Rattle.formula_meaning.specs.Atom.{Atom, Compare, Congruent, Relates, form_of}
 use Rattle.formula_meaning.specs.declared.junction.Junction.{Junction}
 use Rattle.formula_meaning.specs.declared.junction.Junction.TheVariants.{Conjunction, Disjunction}
-use Rattle.linear_forms.specs.Terms.{coefficients}
-use Rattle.linear_forms.specs.Reduction.{quotients}
+use Rattle.atom_normal.specs.FromLinearForms.{coefficients, quotients}
 use Rattle.atom_normal.specs.NormalForm.{IsNormal}
 
 -- ---- sets

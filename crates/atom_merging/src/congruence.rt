@@ -12,9 +12,8 @@ ghost use Rattle.atom_merging.specs.Classes.{left_by_two, different_classes, sam
 use crate::answers::Merged;
 use crate::junction::{absorbing, is_and};
 use crate::quotients;
-use atom_normal::Atom;
+use atom_normal::{Atom, Linear};
 use formula_meaning::Junction;
-use linear_forms::Linear;
 use std::alloc::{AllocError, Global};
 
 // Whether two congruences have one modulus and the same terms.

@@ -1,9 +1,9 @@
 // The terms of two forms, compared place by place.
 ghost use Rattle.std.specs.Prelude.{◌≡◌, pos, ◌<ℤ◌, int_div, MatchBool};
 ghost use Rattle.exact_numbers.specs.Limit.{InLimit};
-ghost use Rattle.linear_forms.specs.Reduction.{quotients};
+ghost use Rattle.atom_normal.specs.FromLinearForms.{quotients};
 
-use linear_forms::{Linear, VarId};
+use atom_normal::{Linear, VarId};
 
 // Whether two terms have one name and one quotient.
 fn is_same(term: (VarId, i128), divisor: i128, other: (VarId, i128), other_divisor: i128) -> bool

@@ -4,24 +4,10 @@ use Rattle.std.proofs.Math.IntN.{ℤ, pos, negsuc, neg_ℤ, ◌+ℤ◌, ◌-ℤ�
 use Rattle.std.specs.Prelude.{◌<ℤ◌, ◌≤ℤ◌, int_div}
 use Rattle.std.specs.Ordering.{int_cmp}
 use Rattle.std.proofs.lemmas.Int.{ints}
-use Rattle.exact_numbers.specs.Divides.{content_of, floor_of, residue_of}
-use Rattle.exact_numbers.specs.Division.{DividesAll, IsFloor}
-use Rattle.exact_numbers.proofs.Ring.{neg_mul, mul_zero, mul_one, one_mul, mul_comm, mul_add}
-use Rattle.exact_numbers.proofs.Order.{by_less, cancel, cancel_positive}
-use Rattle.exact_numbers.proofs.Divisibility.{one_divides, divides_along, divides_neg}
-use Rattle.exact_numbers.proofs.Floor.{floor_and_residue, floor_is, floor_unique, at_most_floor, from_at_most_floor, residue_of_multiple}
-use Rattle.exact_numbers.proofs.LeastMultiple.{exact_div}
-use Rattle.exact_numbers.proofs.Contents.{content_is}
-use Rattle.formula_meaning.specs.Context.{Context, Fields, Integers}
-use Rattle.formula_meaning.specs.Formula.{Yes, No, One}
-use Rattle.formula_meaning.specs.Point.{Point}
-use Rattle.formula_meaning.specs.Form.{Form, Term, total, multiple, value, coefficient}
-use Rattle.formula_meaning.specs.Sorted.{AllNonzero, IsSorted}
-use Rattle.formula_meaning.specs.Atom.{Atom, Compare, Relation, Equals, Differs, Below, AtMost, Above, AtLeast, Relates}
-use Rattle.formula_meaning.specs.TheoryAtoms.{AtomIn}
-use Rattle.formula_meaning.specs.Every.{Every}
-use Rattle.formula_meaning.specs.Tree.{TrueAt, IsFree}
-use Rattle.formula_meaning.proofs.Relations.{relates_zero_mul, relates_neg}
+use Rattle.linear_forms.specs.FromExactNumbers.{content_of, floor_of, residue_of, DividesAll, IsFloor}
+use Rattle.linear_forms.proofs.FromExactNumbers.{neg_mul, mul_zero, mul_one, one_mul, mul_comm, mul_add, by_less, cancel, cancel_positive, one_divides, divides_along, divides_neg, floor_and_residue, floor_is, floor_unique, at_most_floor, from_at_most_floor, residue_of_multiple, exact_div, content_is}
+use Rattle.linear_forms.specs.FromFormulaMeaning.{Context, Fields, Integers, Yes, No, One, Point, Form, Term, total, multiple, value, coefficient, AllNonzero, IsSorted, Atom, Compare, Relation, Equals, Differs, Below, AtMost, Above, AtLeast, Relates, AtomIn, Every, TrueAt, IsFree}
+use Rattle.linear_forms.proofs.FromFormulaMeaning.{relates_zero_mul, relates_neg}
 use Rattle.linear_forms.specs.Terms.{coefficients}
 use Rattle.linear_forms.specs.Reduction.{quotients, quotient}
 use Rattle.linear_forms.proofs.Reduced.{by_equal}

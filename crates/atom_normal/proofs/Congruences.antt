@@ -5,26 +5,10 @@ use Rattle.std.specs.Prelude.{◌<ℤ◌, ◌≤ℤ◌, int_div, unsigned_abs}
 use Rattle.std.specs.declared.cmp.Ordering.{Ordering}
 use Rattle.std.specs.Ordering.{is_gt}
 use Rattle.std.proofs.lemmas.Int.{ints}
-use Rattle.exact_numbers.specs.Divides.{Divides, content_of, floor_of, residue_of}
-use Rattle.exact_numbers.specs.Division.{DividesAll}
-use Rattle.exact_numbers.proofs.Ring.{mul_zero, mul_one, mul_comm}
-use Rattle.exact_numbers.proofs.Order.{by_less, by_compare, cancel, cancel_less, cancel_at_most, factor_positive}
-use Rattle.exact_numbers.proofs.Divisibility.{one_divides, divides_along, divides_neg, divides_add, divides_sub, divides_trans, divides_same, divides_other, mul_divides_mul, cancel_divides}
-use Rattle.exact_numbers.proofs.Floor.{floor_and_residue, residue_not_negative, residue_below, residue_is, residue_unique, residue_of_multiple, divides_from_residue}
-use Rattle.exact_numbers.proofs.LeastMultiple.{exact_div}
-use Rattle.exact_numbers.proofs.Contents.{content_is, content_unique}
-use Rattle.formula_meaning.specs.Context.{Integers}
-use Rattle.formula_meaning.specs.Formula.{One}
-use Rattle.formula_meaning.specs.Point.{Point}
-use Rattle.formula_meaning.specs.Form.{Form, Term, total, value, coefficient, scaled, scale}
-use Rattle.formula_meaning.specs.Sorted.{IsSorted}
-use Rattle.formula_meaning.specs.Atom.{Atom, Congruent, IsMultiple, Says, form_of}
-use Rattle.formula_meaning.specs.TheoryAtoms.{AtomIn}
-use Rattle.formula_meaning.specs.Every.{Every}
-use Rattle.formula_meaning.specs.Tree.{Tree, TrueAt, IsFree}
-use Rattle.formula_meaning.proofs.Values.{value_scale}
-use Rattle.formula_meaning.proofs.Coefficients.{coefficient_scale}
-use Rattle.formula_meaning.proofs.Sorted.{scale_sorted}
+use Rattle.linear_forms.specs.FromExactNumbers.{Divides, content_of, floor_of, residue_of, DividesAll}
+use Rattle.linear_forms.proofs.FromExactNumbers.{mul_zero, mul_one, mul_comm, by_less, by_compare, cancel, cancel_less, cancel_at_most, factor_positive, one_divides, divides_along, divides_neg, divides_add, divides_sub, divides_trans, divides_same, divides_other, mul_divides_mul, cancel_divides, floor_and_residue, residue_not_negative, residue_below, residue_is, residue_unique, residue_of_multiple, divides_from_residue, exact_div, content_is, content_unique}
+use Rattle.linear_forms.specs.FromFormulaMeaning.{Integers, One, Point, Form, Term, total, value, coefficient, scaled, scale, IsSorted, Atom, Congruent, IsMultiple, Says, form_of, AtomIn, Every, Tree, TrueAt, IsFree}
+use Rattle.linear_forms.proofs.FromFormulaMeaning.{value_scale, coefficient_scale, scale_sorted}
 use Rattle.linear_forms.specs.Terms.{coefficients}
 use Rattle.linear_forms.specs.Reduction.{quotients, quotient, residues, residue_form, AllReduced}
 use Rattle.linear_forms.proofs.Reduced.{by_equal, residue_sorted, residues_other}

@@ -1,12 +1,8 @@
 -- Normal forms and negations worked by hand.
 use Rattle.std.proofs.Common.{◌≡◌, true, false, [], ◌∷◌, refl}
 use Rattle.std.proofs.Math.IntN.{pos, negsuc}
-use Rattle.exact_numbers.specs.Divides.{content_of, gcd_of, euclid}
-use Rattle.formula_meaning.specs.Context.{Fields, Integers}
-use Rattle.formula_meaning.specs.Formula.{Yes, No, One}
-use Rattle.formula_meaning.specs.Form.{scale}
-use Rattle.formula_meaning.specs.Sorted.{gathered}
-use Rattle.formula_meaning.specs.Atom.{Compare, Congruent, Equals, Differs, Below, AtMost, Above, AtLeast}
+use Rattle.linear_forms.specs.FromExactNumbers.{content_of, gcd_of, euclid}
+use Rattle.linear_forms.specs.FromFormulaMeaning.{Fields, Integers, Yes, No, One, scale, gathered, Compare, Congruent, Equals, Differs, Below, AtMost, Above, AtLeast}
 use Rattle.linear_forms.specs.Reduction.{quotient, residue_form}
 use Rattle.atom_normal.specs.NormalForm.{normal_atom, negated_normal}
 

@@ -1,5 +1,5 @@
-pub mod Relations
 mod Examples
+pub mod Relations
 pub mod Ranges
 pub mod Comparisons
 pub mod Congruences
@@ -8,3 +8,4 @@ pub mod Sorted
 pub mod Stepped
 pub mod Told
 pub mod Meaning
+pub mod FromLinearForms

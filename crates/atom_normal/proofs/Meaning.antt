@@ -4,11 +4,9 @@ use Rattle.std.specs.List.{AllByRecursion}
 use Rattle.std.proofs.Math.IntN.{ℤ, pos}
 use Rattle.std.specs.Prelude.{◌<ℤ◌, unsigned_abs}
 use Rattle.std.proofs.lemmas.Int.{ints}
-use Rattle.formula_meaning.specs.Atom as meant
-use Rattle.formula_meaning.specs.Some.{EachOf}
-use Rattle.formula_meaning.specs.Numbers.{IsFormInLimit, IsAtomInLimit}
+use Rattle.linear_forms.specs.FromFormulaMeaning.atom_rules as meant
+use Rattle.linear_forms.specs.FromFormulaMeaning.{EachOf, IsFormInLimit, IsAtomInLimit, Form}
 use Rattle.linear_forms.specs.Combinations.{IsLinear}
-use Rattle.formula_meaning.specs.Form.{Form}
 use Rattle.atom_normal.specs.declared.atoms.Rel.{Rel}
 use Rattle.atom_normal.specs.declared.atoms.Rel.TheVariants.{Equal, Differs, Less, AtMost, Greater, AtLeast}
 use Rattle.atom_normal.specs.declared.atoms.Atom.{Atom}

@@ -4,25 +4,14 @@ use Rattle.std.proofs.Math.IntN.{ℤ, pos}
 use Rattle.std.specs.Prelude.{◌<ℤ◌, ◌≤ℤ◌, int_div, unsigned_abs}
 use Rattle.std.specs.Ordering.{int_cmp}
 use Rattle.std.proofs.lemmas.Int.{ints}
-use Rattle.exact_numbers.specs.Divides.{Divides, content_of, floor_of, residue_of}
-use Rattle.exact_numbers.proofs.Order.{by_less, by_order, by_zero}
-use Rattle.exact_numbers.proofs.Floor.{residue_of_multiple, divides_from_residue}
-use Rattle.formula_meaning.specs.Context.{Context, Fields, Integers}
-use Rattle.formula_meaning.specs.Formula.{Yes, No, One}
-use Rattle.formula_meaning.specs.Point.{Point, Of}
-use Rattle.formula_meaning.specs.Form.{Form, Term, value}
-use Rattle.formula_meaning.specs.Sorted.{IsSorted, gathered}
-use Rattle.formula_meaning.specs.Atom.{Atom, Compare, Congruent, Relation, Equals, Differs, Below, AtMost, Above, AtLeast, Relates, Says, Mentions, form_of, opposite_relation}
-use Rattle.formula_meaning.specs.TheoryAtoms.{AtomIn}
-use Rattle.formula_meaning.specs.Every.{Every}
-use Rattle.formula_meaning.specs.Tree.{TrueAt, IsFree}
-use Rattle.formula_meaning.specs.Equivalence.{InContext}
-use Rattle.formula_meaning.proofs.Gathered.{value_gathered, coefficient_gathered, gathered_sorted, sorted_stays}
+use Rattle.linear_forms.specs.FromExactNumbers.{Divides, content_of, floor_of, residue_of}
+use Rattle.linear_forms.proofs.FromExactNumbers.{by_less, by_order, by_zero, residue_of_multiple, divides_from_residue}
+use Rattle.linear_forms.specs.FromFormulaMeaning.{Context, Fields, Integers, Yes, No, One, Point, Of, Form, Term, value, IsSorted, gathered, Atom, Compare, Congruent, Relation, Equals, Differs, Below, AtMost, Above, AtLeast, Relates, Says, Mentions, form_of, opposite_relation, AtomIn, Every, TrueAt, IsFree, InContext, IsAtomic}
+use Rattle.linear_forms.proofs.FromFormulaMeaning.{value_gathered, coefficient_gathered, gathered_sorted, sorted_stays}
 use Rattle.linear_forms.specs.Reduction.{quotient, residue_form}
 use Rattle.linear_forms.specs.Terms.{coefficients}
 use Rattle.linear_forms.proofs.Reduced.{by_equal}
 use Rattle.atom_normal.specs.NormalForm.{constant_tree, holds, facing, compared_in_fields, bound, rounded, smaller, compared_over_integers, coprime_congruence, reduced_congruence, congruent, congruence, normal_atom, negated_normal, IsIntegerRelation, IsNormal}
-use Rattle.formula_meaning.specs.Plain.{IsAtomic}
 use Rattle.atom_normal.proofs.Relations.{chain, back, never, along}
 use Rattle.atom_normal.proofs.Comparisons.{fields_truth, fields_names, fields_normal, fields_within, fields_stay, integers_truth, integers_names, integers_normal, integers_within, integers_stay}
 use Rattle.atom_normal.proofs.Congruences.{Told, told_same, congruent_says, congruent_truth, congruent_names, congruent_within, congruent_normal, congruent_stays, congruence_truth, congruence_within, congruence_coefficient, normal_negated, negated_again}

@@ -1,8 +1,8 @@
 -- What the code's parts need of forms.
 use Rattle.std.proofs.Common.{◌≡◌, List, [], ◌∷◌, Some, subst}
 use Rattle.std.specs.Prelude.{slice_get}
-use Rattle.exact_numbers.specs.Limit.{InLimit}
-use Rattle.formula_meaning.specs.Form.{Term}
+use Rattle.linear_forms.specs.FromExactNumbers.{InLimit}
+use Rattle.linear_forms.specs.FromFormulaMeaning.{Term}
 use Rattle.linear_forms.specs.Terms.{AllInLimit}
 
 -- the first term's coefficient is within the limit

@@ -6,17 +6,10 @@ use Rattle.std.specs.declared.cmp.Ordering.{Ordering}
 use Rattle.std.specs.declared.cmp.Ordering.TheVariants.{Less, Equal, Greater}
 use Rattle.std.specs.Ordering.{int_cmp}
 use Rattle.std.proofs.lemmas.Int.{ints}
-use Rattle.exact_numbers.specs.Divides.{Divides, content_of}
-use Rattle.exact_numbers.specs.Division.{DividesAll}
-use Rattle.exact_numbers.proofs.Ring.{neg_mul}
-use Rattle.exact_numbers.proofs.Order.{by_compare, by_order, factor_positive}
-use Rattle.exact_numbers.proofs.Divisibility.{divides_same, divides_neg, neg_divides, zero_divides}
-use Rattle.exact_numbers.proofs.Contents.{content_is}
-use Rattle.formula_meaning.specs.Context.{Context}
-use Rattle.formula_meaning.specs.Point.{Point}
-use Rattle.formula_meaning.specs.Atom.{Relation, Equals, Differs, Below, AtMost, Above, AtLeast, Relates, mirrored}
-use Rattle.formula_meaning.specs.Tree.{TrueAt}
-use Rattle.formula_meaning.proofs.Relations.{relates_zero_mul, relates_neg}
+use Rattle.linear_forms.specs.FromExactNumbers.{Divides, content_of, DividesAll}
+use Rattle.linear_forms.proofs.FromExactNumbers.{neg_mul, by_compare, by_order, factor_positive, divides_same, divides_neg, neg_divides, zero_divides, content_is}
+use Rattle.linear_forms.specs.FromFormulaMeaning.{Context, Point, Relation, Equals, Differs, Below, AtMost, Above, AtLeast, Relates, mirrored, TrueAt}
+use Rattle.linear_forms.proofs.FromFormulaMeaning.{relates_zero_mul, relates_neg}
 use Rattle.atom_normal.specs.NormalForm.{constant_tree, holds, turned, facing}
 
 -- ---- equivalences

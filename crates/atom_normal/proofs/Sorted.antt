@@ -3,11 +3,8 @@ use Rattle.std.proofs.Common.{◌≡◌, Bool, ap, sym, ◌∙◌, arith}
 use Rattle.std.proofs.Math.IntN.{ℤ, pos}
 use Rattle.std.specs.Prelude.{◌<ℤ◌, unsigned_abs}
 use Rattle.std.proofs.lemmas.Int.{ints}
-use Rattle.formula_meaning.specs.Context.{Context, Fields, Integers}
-use Rattle.formula_meaning.specs.Form.{Form}
-use Rattle.formula_meaning.specs.Sorted.{IsSorted}
-use Rattle.formula_meaning.specs.Atom.{Relation, Compare, Congruent}
-use Rattle.formula_meaning.proofs.Gathered.{sorted_stays}
+use Rattle.linear_forms.specs.FromFormulaMeaning.{Context, Fields, Integers, Form, IsSorted, Relation, Compare, Congruent}
+use Rattle.linear_forms.proofs.FromFormulaMeaning.{sorted_stays}
 use Rattle.atom_normal.specs.NormalForm.{compared_in_fields, compared_over_integers, congruent, normal_atom}
 
 pub normal_in_fields : (r : Relation) (f : Form) → IsSorted f → compared_in_fields r f.terms f.constant ≡ normal_atom Fields (Compare r f)

@@ -5,17 +5,9 @@ use Rattle.std.specs.Prelude.{◌<ℤ◌, ◌≤ℤ◌, ◌*ℤ◌, int_div}
 use Rattle.std.specs.Ordering.{int_eq}
 use Rattle.std.specs.Result.{IfOk}
 use Rattle.std.proofs.lemmas.Int.{ints}
-use Rattle.exact_numbers.specs.Divides.{gcd_of, content_of, residue_of}
-use Rattle.exact_numbers.specs.Division.{DividesAll}
-use Rattle.exact_numbers.proofs.Ring.{mul_zero}
-use Rattle.exact_numbers.proofs.Order.{cancel_at_most}
-use Rattle.exact_numbers.proofs.LeastMultiple.{exact_div}
-use Rattle.exact_numbers.proofs.Divisibility.{divides_zero}
-use Rattle.exact_numbers.proofs.Contents.{content_is}
-use Rattle.formula_meaning.specs.Formula.{One}
-use Rattle.formula_meaning.specs.Form.{Form, Term}
-use Rattle.formula_meaning.specs.Atom.{Relation, Compare}
-use Rattle.formula_meaning.specs.Tree.{Tree}
+use Rattle.linear_forms.specs.FromExactNumbers.{gcd_of, content_of, residue_of, DividesAll}
+use Rattle.linear_forms.proofs.FromExactNumbers.{mul_zero, cancel_at_most, exact_div, divides_zero, content_is}
+use Rattle.linear_forms.specs.FromFormulaMeaning.{One, Form, Term, Relation, Compare, Tree}
 use Rattle.linear_forms.specs.Terms.{coefficients}
 use Rattle.linear_forms.specs.Reduction.{quotient, quotients, residue_form, AllReduced}
 use Rattle.atom_normal.specs.NormalForm.{first, turned, facing, compared_in_fields, rounded, compared_over_integers, constant_tree, coprime_congruence, reduced_congruence, congruent}

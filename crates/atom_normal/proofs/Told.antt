@@ -6,11 +6,9 @@ use Rattle.std.specs.Ordering.{int_cmp, int_eq}
 use Rattle.std.specs.Cmp.{signed_Decides}
 use Rattle.std.proofs.Math.Bool.{beq}
 use Rattle.std.proofs.lemmas.Int.{ints}
-use Rattle.exact_numbers.specs.Divides.{Divides, residue_of}
-use Rattle.exact_numbers.proofs.Floor.{residue_of_multiple, divides_from_residue}
-use Rattle.formula_meaning.specs.Point.{Point}
-use Rattle.formula_meaning.specs.Form.{Form, value}
-use Rattle.formula_meaning.specs.Atom.{Atom, Compare, Congruent, Says, form_of}
+use Rattle.linear_forms.specs.FromExactNumbers.{Divides, residue_of}
+use Rattle.linear_forms.proofs.FromExactNumbers.{residue_of_multiple, divides_from_residue}
+use Rattle.linear_forms.specs.FromFormulaMeaning.{Point, Form, value, Atom, Compare, Congruent, Says, form_of}
 use Rattle.atom_normal.specs.NormalForm.{holds}
 use Rattle.atom_normal.specs.AtomTruth.{is_true_at}
 use Rattle.atom_normal.proofs.Relations.{holds_so, chain}

@@ -1,8 +1,8 @@
 -- The truth of an atom at a point, as it is told by calculation.
 use Rattle.std.specs.Prelude.{ℤ, pos, Bool, true, false, not}
 use Rattle.std.specs.Ordering.{int_cmp, int_eq}
-use Rattle.exact_numbers.specs.Divides.{residue_of}
-use Rattle.formula_meaning.specs.Atom.{Atom, Compare, Congruent}
+use Rattle.linear_forms.specs.FromExactNumbers.{residue_of}
+use Rattle.linear_forms.specs.FromFormulaMeaning.{Atom, Compare, Congruent}
 use Rattle.atom_normal.specs.NormalForm.{holds}
 
 -- whether the atom is true where its form has this value, over a denominator of 1 for a congruence

@@ -1,12 +1,10 @@
 -- What the program's atoms mean.
 use Rattle.std.specs.Prelude.{◌≡◌, ℤ, pos, ◌<ℤ◌, unsigned_abs}
-use Rattle.exact_numbers.specs.Limit.{InLimit}
-use Rattle.formula_meaning.specs.Context as meaning
-use Rattle.formula_meaning.specs.Formula.{Yes, No, One as Single}
-use Rattle.formula_meaning.specs.Atom as meant
+use Rattle.linear_forms.specs.FromExactNumbers.{InLimit}
+use Rattle.linear_forms.specs.FromFormulaMeaning.context_rules as meaning
+use Rattle.linear_forms.specs.FromFormulaMeaning.{Yes, No, One as Single, IsAtomInLimit, Tree}
+use Rattle.linear_forms.specs.FromFormulaMeaning.atom_rules as meant
 use Rattle.linear_forms.specs.Combinations.{IsLinear}
-use Rattle.formula_meaning.specs.Numbers.{IsAtomInLimit}
-use Rattle.formula_meaning.specs.Tree.{Tree}
 use Rattle.atom_normal.specs.declared.atoms.Context.{Context}
 use Rattle.atom_normal.specs.declared.atoms.Context.TheVariants.{Fields, Integers}
 use Rattle.atom_normal.specs.declared.atoms.Rel.{Rel}

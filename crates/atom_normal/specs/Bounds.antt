@@ -1,9 +1,7 @@
 -- A comparison over the integers, rounded, as the program holds it.
 use Rattle.std.specs.Prelude.{List}
-use Rattle.exact_numbers.specs.Limit.{InLimit}
-use Rattle.formula_meaning.specs.Form.{Term}
-use Rattle.formula_meaning.specs.Formula.{Yes, No}
-use Rattle.formula_meaning.specs.Tree.{Tree}
+use Rattle.linear_forms.specs.FromExactNumbers.{InLimit}
+use Rattle.linear_forms.specs.FromFormulaMeaning.{Term, Yes, No, Tree}
 use Rattle.atom_normal.specs.NormalForm.{bound}
 use Rattle.atom_normal.specs.Atoms.{relation_of}
 use Rattle.atom_normal.specs.declared.comparison.Bound.{Bound}

@@ -1,14 +1,6 @@
 -- What is proved of normal forms and of their negation, as statements that the functions of this crate promise.
 use Rattle.std.specs.Prelude.{◌≡◌, ◌⊎◌, ℕ, ◌↔◌}
-use Rattle.formula_meaning.specs.Context.{Context}
-use Rattle.formula_meaning.specs.Formula.{One}
-use Rattle.formula_meaning.specs.Point.{Point, Of}
-use Rattle.formula_meaning.specs.Atom.{Atom, Says, Mentions}
-use Rattle.formula_meaning.specs.TheoryAtoms.{AtomIn}
-use Rattle.formula_meaning.specs.Every.{Every}
-use Rattle.formula_meaning.specs.Plain.{IsAtomic}
-use Rattle.formula_meaning.specs.Tree.{IsFree}
-use Rattle.formula_meaning.specs.Equivalence.{InContext, IsNegation, Equivalent}
+use Rattle.linear_forms.specs.FromFormulaMeaning.{Context, One, Point, Of, Atom, Says, Mentions, AtomIn, Every, IsAtomic, IsFree, InContext, IsNegation, Equivalent}
 use Rattle.atom_normal.specs.NormalForm.{normal_atom, negated_normal, IsNormal}
 
 -- the normal form of an atom of the theory has its truth at every point of the theory

@@ -3,3 +3,4 @@ pub mod NormalForm
 pub mod AtomTruth
 pub mod Laws
 pub mod Bounds
+pub mod FromLinearForms

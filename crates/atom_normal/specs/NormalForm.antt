@@ -3,14 +3,8 @@ use Rattle.std.specs.Prelude.{◌≡◌, ℕ, ◌<◌, ℤ, pos, negsuc, neg_ℤ
 use Rattle.std.specs.declared.cmp.Ordering.{Ordering}
 use Rattle.std.specs.declared.cmp.Ordering.TheVariants.{Less, Equal, Greater}
 use Rattle.std.specs.Ordering.{int_cmp, int_eq, is_gt}
-use Rattle.exact_numbers.specs.Limit.{PastLimit}
-use Rattle.exact_numbers.specs.Divides.{content_of, floor_of, residue_of}
-use Rattle.formula_meaning.specs.Context.{Context, Fields, Integers}
-use Rattle.formula_meaning.specs.Formula.{Yes, No, One}
-use Rattle.formula_meaning.specs.Form.{Form, Term, scale}
-use Rattle.formula_meaning.specs.Sorted.{IsSorted, gathered}
-use Rattle.formula_meaning.specs.Atom.{Relation, Equals, Differs, Below, AtMost, Above, AtLeast, Atom, Compare, Congruent, mirrored, opposite_relation, form_of}
-use Rattle.formula_meaning.specs.Tree.{Tree}
+use Rattle.linear_forms.specs.FromExactNumbers.{PastLimit, content_of, floor_of, residue_of}
+use Rattle.linear_forms.specs.FromFormulaMeaning.{Context, Fields, Integers, Yes, No, One, Form, Term, scale, IsSorted, gathered, Relation, Equals, Differs, Below, AtMost, Above, AtLeast, Atom, Compare, Congruent, mirrored, opposite_relation, form_of, Tree}
 use Rattle.linear_forms.specs.Terms.{coefficients}
 use Rattle.linear_forms.specs.Reduction.{quotients, quotient, residue_form, AllReduced}
 

@@ -1,11 +1,8 @@
 // Comparisons in normal form.
 ghost use Rattle.std.specs.Prelude.{◌≡◌, ℤ, pos, List, neg_ℤ, ◌-ℤ◌, ◌<ℤ◌, if◌then◌else◌, IfOk, IsErrOf, MatchOption};
-ghost use Rattle.exact_numbers.specs.Limit.{InLimit, PastLimit};
+ghost use Rattle.linear_forms.specs.FromExactNumbers.{InLimit, PastLimit, floor_of, residue_of};
 ghost use Rattle.std.specs.Ordering.{int_eq};
-ghost use Rattle.exact_numbers.specs.Divides.{floor_of, residue_of};
-ghost use Rattle.formula_meaning.specs.Form.{Term};
-ghost use Rattle.formula_meaning.specs.Atom.{form_of};
-ghost use Rattle.formula_meaning.specs.Every.{Every};
+ghost use Rattle.linear_forms.specs.FromFormulaMeaning.{Term, form_of, Every};
 ghost use Rattle.linear_forms.specs.Combinations.{IsLinear};
 ghost use Rattle.atom_normal.specs.NormalForm.{bound, compared_in_fields, rounded, compared_over_integers, ConstantPasses};
 ghost use Rattle.atom_normal.specs.Atoms.{relation_of, tree_of, IsWellFormedNormal};
@@ -14,8 +11,7 @@ ghost use Rattle.atom_normal.specs.Bounds.{bounded, IsWithin};
 use crate::atoms::{Atom, Normal, Rel};
 use crate::error::AtomError;
 use crate::parts::{constant, divided, facing, first_coefficient, holds, turned};
-use exact_numbers::{floor_div, gcd, residue};
-use linear_forms::Linear;
+use linear_forms::{Linear, floor_div, gcd, residue};
 use std::alloc::{AllocError, Global};
 
 // Over the fields all numbers are divided by their greatest common divisor, and the first coefficient becomes positive.

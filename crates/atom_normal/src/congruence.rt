@@ -1,13 +1,9 @@
 // Congruences in normal form.
 ghost use Rattle.std.specs.Prelude.{◌≡◌, ℤ, pos, negsuc, ◌<ℤ◌, ◌≤ℤ◌, ◌-ℤ◌, ◌∷◌, unsigned_abs, int_div, IfOk};
 ghost use Rattle.std.specs.Ordering.{int_cmp, int_eq, is_gt};
-ghost use Rattle.exact_numbers.specs.Limit.{InLimit};
-ghost use Rattle.exact_numbers.specs.Divides.{Divides, content_of, residue_of};
-ghost use Rattle.exact_numbers.specs.Division.{DividesAll};
-ghost use Rattle.formula_meaning.specs.Form.{scale};
+ghost use Rattle.linear_forms.specs.FromExactNumbers.{InLimit, Divides, content_of, residue_of, DividesAll};
+ghost use Rattle.linear_forms.specs.FromFormulaMeaning.{scale, form_of, Every};
 ghost use Rattle.linear_forms.specs.Reduction.{residue_form};
-ghost use Rattle.formula_meaning.specs.Atom.{form_of};
-ghost use Rattle.formula_meaning.specs.Every.{Every};
 ghost use Rattle.linear_forms.specs.Terms.{coefficients};
 ghost use Rattle.linear_forms.specs.Combinations.{IsLinear};
 ghost use Rattle.atom_normal.specs.NormalForm.{first, smaller, congruence, coprime_congruence, congruent};
@@ -15,8 +11,7 @@ ghost use Rattle.atom_normal.specs.Atoms.{atom_of, tree_of, IsWellFormed, IsWell
 
 use crate::atoms::{Atom, Normal};
 use crate::parts::{constant, divided, first_coefficient};
-use exact_numbers::{gcd, residue};
-use linear_forms::Linear;
+use linear_forms::{Linear, gcd, residue};
 use std::alloc::{AllocError, Global};
 
 // The congruence, or its negation; modulo 2 the negation is the congruence of the form with the other constant.

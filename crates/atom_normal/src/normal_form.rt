@@ -1,10 +1,8 @@
 // The normal form of an atom, its negation, and its truth.
 ghost use Rattle.std.specs.Prelude.{◌≡◌, ℤ, pos, ◌<ℤ◌, unsigned_abs, IfOk, IfErr, IsErrOf, MatchOption, MatchBool, option_map};
 ghost use Rattle.std.specs.Ordering.{int_eq};
-ghost use Rattle.formula_meaning.specs.Atom.{Says, form_of};
-ghost use Rattle.formula_meaning.specs.TheoryAtoms.{AtomIn};
-ghost use Rattle.formula_meaning.specs.Every.{Every};
-ghost use Rattle.exact_numbers.specs.Divides.{residue_of};
+ghost use Rattle.linear_forms.specs.FromFormulaMeaning.{Says, form_of, AtomIn, Every};
+ghost use Rattle.linear_forms.specs.FromExactNumbers.{residue_of};
 ghost use Rattle.linear_forms.specs.Terms.{ValuePasses, value_steps};
 ghost use Rattle.linear_forms.specs.Combinations.{IsLinear};
 ghost use Rattle.linear_forms.specs.Values.{number_at, point_of};

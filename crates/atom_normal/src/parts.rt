@@ -1,9 +1,8 @@
 // Relations, and the first coefficient of a form with what its sign turns.
 ghost use Rattle.std.specs.Prelude.{◌≡◌, ℤ, pos, ◌∷◌, neg_ℤ, IfOk};
 ghost use Rattle.std.specs.Ordering.{int_cmp};
-ghost use Rattle.exact_numbers.specs.Limit.{InLimit};
-ghost use Rattle.exact_numbers.specs.Division.{DividesAll};
-ghost use Rattle.formula_meaning.specs.Atom.{mirrored, opposite_relation};
+ghost use Rattle.linear_forms.specs.FromExactNumbers.{InLimit, DividesAll};
+ghost use Rattle.linear_forms.specs.FromFormulaMeaning.{mirrored, opposite_relation};
 ghost use Rattle.linear_forms.specs.Terms.{coefficients};
 ghost use Rattle.linear_forms.specs.Combinations.{IsLinear};
 ghost use Rattle.linear_forms.specs.Reduction.{quotient};

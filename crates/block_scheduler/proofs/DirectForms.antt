@@ -11,9 +11,9 @@ use Rattle.formula_meaning.specs.Form.{Form, coefficient, without}
 use Rattle.formula_meaning.specs.Formula.{Yes, No, One, And, Ex, none, also}
 use Rattle.formula_meaning.specs.Limits.{each, combination_within}
 use Rattle.formula_meaning.proofs.Same.{both_true}
-use Rattle.nnf_substitution.specs.Placed.{all_within}
-use Rattle.nnf_substitution.proofs.ResultLaws.{within_once}
-use Rattle.branch_points.specs.Chosen.{conjuncts}
+use Rattle.plain_cases.specs.FromNnfSubstitution.{all_within}
+use Rattle.plain_cases.proofs.FromNnfSubstitution.{within_once}
+use Rattle.inner_blocks.specs.FromBranchPoints.{conjuncts}
 use Rattle.formula_meaning.specs.Shape.{matrix_of, block_of}
 use Rattle.formula_meaning.specs.Plain.{ArePlain}
 use Rattle.formula_meaning.specs.Sizes.{nodes}

@@ -30,17 +30,15 @@ use Rattle.case_theory.specs.Direct.{IsDirect, direct_answer, first_equation}
 use Rattle.case_theory.specs.Roots.{IsRoot}
 use Rattle.case_theory.proofs.Points.{root_point}
 use Rattle.case_theory.proofs.Simplified.{plain_free}
-use Rattle.branch_points.specs.Chosen.{conjuncts}
-use Rattle.branch_points.proofs.FirstEquations.{conjunct_is}
-use Rattle.nnf_substitution.specs.Placed.{all_within}
-use Rattle.leading_blocks.specs.declared.block.LeadingBlock.{LeadingBlock}
-use Rattle.leading_blocks.specs.Blocks.{IsLeadingBlock}
-use Rattle.branch_rounds.specs.Branches.{Seen, numbers}
-use Rattle.branch_rounds.specs.Rounds.{IsDirectAt, IsLeftAlone}
+use Rattle.inner_blocks.specs.FromBranchPoints.{conjuncts}
+use Rattle.inner_blocks.proofs.FromBranchPoints.{conjunct_is}
+use Rattle.plain_cases.specs.FromNnfSubstitution.{all_within}
+use Rattle.inner_blocks.specs.FromLeadingBlocks.{LeadingBlock, IsLeadingBlock}
+use Rattle.inner_blocks.specs.FromBranchRounds.{Seen, numbers, IsDirectAt, IsLeftAlone}
 use Rattle.case_trees.specs.declared.case_tree.Case.{Case}
 use Rattle.case_trees.specs.declared.case_tree.CaseTree.{CaseTree}
 use Rattle.block_scheduler.specs.declared.task.Task.{Task}
-use Rattle.simplified_texts.specs.Texts.{IsNoLarger}
+use Rattle.inner_blocks.specs.FromSimplifiedTexts.{IsNoLarger}
 use Rattle.block_scheduler.specs.Direct.{IsDirectTree}
 use Rattle.block_scheduler.specs.Listed.{told_case, told_branch}
 use Rattle.block_scheduler.proofs.DirectForms.{matrix_is, names_are, atoms_plain, folded_nodes, folded_equation, folded_within, folded_answer}

@@ -8,7 +8,7 @@ use Rattle.formula_tree.specs.declared.shape.Shape.{Shape}
 use Rattle.formula_tree.specs.Makers.{Keeps}
 use Rattle.formula_store.specs.declared.id.FormulaId.{FormulaId}
 use Rattle.formula_store.specs.Nodes.{tree, IsId}
-use Rattle.nnf_trees.specs.Nnfs.{nnf_of}
+use Rattle.plain_cases.specs.FromNnfTrees.{nnf_of}
 use Rattle.test_points.specs.Points.{answer_of, IsTestPoint}
 use Rattle.plain_cases.specs.declared.branch.Leaf.{Leaf}
 use Rattle.plain_cases.specs.Case.{leaf_case}

@@ -10,9 +10,8 @@ use Rattle.formula_meaning.specs.Tree.{Tree}
 use Rattle.atom_normal.specs.NormalForm.{IsNormal}
 use Rattle.elimination_reference.specs.Cases.{Case, case_sign, cases_of, case_matrix, reference_cases}
 use Rattle.elimination_reference.specs.Reference.{normal_tree, branches, reference}
-use Rattle.plain_engine.specs.declared.measured.Measured.{Measured}
-use Rattle.plain_engine.specs.declared.measured.Measured.TheVariants as measured
-use Rattle.plain_engine.specs.Told.{StopsWith}
+use Rattle.plain_cases.specs.FromPlainEngine.{Measured, StopsWith}
+use Rattle.plain_cases.specs.FromPlainEngine.measured_variants as measured
 use Rattle.shared_elimination.proofs.FormAgain.{normal_tree_again}
 use Rattle.case_theory.specs.Fallback.{stop_of, IsDone}
 use Rattle.case_theory.proofs.Fallback.{stops_one, matrix_done}

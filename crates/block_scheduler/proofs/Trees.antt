@@ -26,13 +26,9 @@ use Rattle.test_points.specs.Points.{answer_of, IsTestPoint}
 use Rattle.case_theory.specs.CaseTree.{without_all, IsCaseTree}
 use Rattle.case_theory.specs.Worked.{IsWorked}
 use Rattle.case_theory.proofs.Fallback.{reference_tree}
-use Rattle.leading_blocks.specs.declared.block.LeadingBlock.{LeadingBlock}
-use Rattle.leading_blocks.specs.Blocks.{is_asked, IsLeadingBlock}
-use Rattle.branch_rounds.specs.declared.work.Work.{Work}
-use Rattle.branch_rounds.specs.Branches.{Seen, IsOpen, AreBranchesOf, numbers}
-use Rattle.branch_rounds.specs.Cases.{case_of}
-use Rattle.branch_rounds.specs.Worked.{IsWorkedTo}
-use Rattle.branch_rounds.proofs.Ended.{branches_are_cases}
+use Rattle.inner_blocks.specs.FromLeadingBlocks.{LeadingBlock, is_asked, IsLeadingBlock}
+use Rattle.inner_blocks.specs.FromBranchRounds.{Work, Seen, IsOpen, AreBranchesOf, numbers, case_of, IsWorkedTo}
+use Rattle.inner_blocks.proofs.FromBranchRounds.{branches_are_cases}
 use Rattle.inner_blocks.specs.Blocks.{IsUnder}
 use Rattle.case_trees.specs.declared.case_tree.Case.{Case}
 use Rattle.case_trees.specs.CaseTrees.{case_seen, cases_seen, IsCaseTreeOf}

@@ -1,6 +1,5 @@
 -- What an elimination is asked under, as work.
-use Rattle.branch_rounds.specs.declared.work.Work.{Work}
-use Rattle.branch_rounds.specs.Worked.{IsWork}
+use Rattle.inner_blocks.specs.FromBranchRounds.{Work, IsWork}
 use Rattle.block_scheduler.specs.declared.task.Task.{Task}
 use Rattle.block_scheduler.specs.Tasks.{IsTask}
 

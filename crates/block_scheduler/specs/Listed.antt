@@ -7,7 +7,7 @@ use Rattle.formula_store.specs.declared.id.FormulaId.{FormulaId}
 use Rattle.formula_store.specs.Nodes.{IsId}
 use Rattle.test_points.specs.declared.points.TestPoint.{TestPoint}
 use Rattle.test_points.specs.Points.{IsTestPoint}
-use Rattle.branch_rounds.specs.Branches.{Seen}
+use Rattle.inner_blocks.specs.FromBranchRounds.{Seen}
 use Rattle.case_trees.specs.declared.case_tree.Case.{Case}
 use Rattle.case_trees.specs.CaseTrees.{cases_seen}
 

@@ -14,7 +14,7 @@ ghost use Rattle.elimination_reference.specs.Reference.{normal_tree};
 ghost use Rattle.case_theory.specs.Direct.{IsDirect};
 ghost use Rattle.formula_tree.specs.Makers.{Keeps};
 ghost use Rattle.formula_store.specs.Nodes.{tree, IsId};
-ghost use Rattle.branch_rounds.specs.Worked.{IsWork, IsWorkedTo};
+ghost use Rattle.inner_blocks.specs.FromBranchRounds.{IsWork, IsWorkedTo};
 ghost use Rattle.case_trees.specs.CaseTrees.{IsCaseTreeOf};
 ghost use Rattle.block_scheduler.specs.Direct.{IsDirectTree};
 ghost use Rattle.block_scheduler.specs.Tasks.{IsTask};
@@ -22,11 +22,11 @@ ghost use Rattle.block_scheduler.specs.Tasks.{IsTask};
 use crate::listed::{case_tree, of_branches};
 use crate::task::Task;
 use atom_normal::Context;
-use branch_rounds::{Budget, RoundError, Work, block_branches};
 use case_trees::CaseTree;
 use formula_store::{FormulaId, Store};
-use inner_blocks::{without_names, worked};
-use leading_blocks::{LeadingBlock, leading_block};
+use inner_blocks::{
+    Budget, LeadingBlock, RoundError, Work, block_branches, leading_block, without_names, worked,
+};
 use qe_parallel::Gate;
 use std::thread::Threads;
 

@@ -2,18 +2,17 @@
 
 ghost use Rattle.std.specs.Prelude.{◌≡◌, IfOk, map, not};
 ghost use Rattle.formula_meaning.specs.Some.{EachOf};
-ghost use Rattle.leading_blocks.specs.Blocks.{is_asked};
+ghost use Rattle.inner_blocks.specs.FromLeadingBlocks.{is_asked};
 ghost use Rattle.formula_tree.specs.Makers.{Keeps};
 ghost use Rattle.formula_store.specs.Nodes.{tree, IsId};
 ghost use Rattle.plain_cases.specs.Case.{leaf_case};
 ghost use Rattle.plain_cases.specs.Stand.{AreSound};
 ghost use Rattle.block_scheduler.specs.Listed.{told_case, told_branch, AreShared};
 
-use branch_rounds::Branch;
 use case_trees::{Case, CaseTree};
 use formula_meaning::Quantifier;
 use formula_store::{FormulaId, Store};
-use leading_blocks::LeadingBlock;
+use inner_blocks::{Branch, LeadingBlock};
 use plain_cases::Leaf;
 use shared_elimination::share;
 use std::alloc::{AllocError, Global};

@@ -9,7 +9,7 @@ ghost use Rattle.elimination_reference.specs.Reference.{reference};
 ghost use Rattle.elimination_reference.specs.Cases.{reference_cases};
 ghost use Rattle.plain_cases.specs.Case.{leaf_case};
 ghost use Rattle.plain_cases.specs.Stand.{AreSound};
-ghost use Rattle.plain_engine.specs.Told.{StopsWith};
+ghost use Rattle.plain_cases.specs.FromPlainEngine.{StopsWith};
 ghost use Rattle.formula_tree.specs.Makers.{Keeps};
 ghost use Rattle.formula_store.specs.Nodes.{tree, IsId};
 ghost use Rattle.case_trees.specs.CaseTrees.{IsCaseTreeOf};
@@ -18,9 +18,8 @@ use crate::listed::{case_tree, of_leaves};
 use crate::task::Task;
 use case_trees::CaseTree;
 use formula_store::{FormulaId, Store};
-use leading_blocks::leading_block;
-use plain_cases::{Leaf, case_leaves};
-use plain_engine::Measured;
+use inner_blocks::leading_block;
+use plain_cases::{Leaf, Measured, case_leaves};
 use shared_elimination::{eliminate_shared, unfolded_form};
 
 impl Task<'_> {

@@ -14,9 +14,8 @@ use Rattle.elimination_theory.specs.Answers.{zero_place}
 use Rattle.elimination_theory.specs.BothTheories.{IsPlaceIn}
 use Rattle.elimination_theory.proofs.BothSubstitutions.{place_in}
 use Rattle.elimination_theory.proofs.SomeListed.{each_among, each_map}
-use Rattle.elimination_reference.specs.Reference.{stands_among}
-use Rattle.elimination_reference.specs.Theorems.{IsTidy}
-use Rattle.elimination_reference.proofs.Tidy.{tidy_in}
+use Rattle.test_points.specs.FromEliminationReference.{stands_among, IsTidy}
+use Rattle.test_points.proofs.FromEliminationReference.{tidy_in}
 use Rattle.linear_forms.specs.declared.form.VarId.{VarId}
 use Rattle.atom_normal.specs.declared.atoms.Context.{Context}
 use Rattle.atom_normal.specs.declared.atoms.Atom.{Atom}

@@ -15,7 +15,7 @@ use Rattle.formula_meaning.proofs.Sorted.{here, elsewhere}
 use Rattle.elimination_theory.specs.Side.{turned}
 use Rattle.elimination_theory.specs.declared.side.Side.{Side}
 use Rattle.elimination_theory.specs.IntegersPoints.{starts_of, comparison_starts}
-use Rattle.elimination_reference.specs.Reference.{stands_among}
+use Rattle.test_points.specs.FromEliminationReference.{stands_among}
 use Rattle.linear_forms.specs.declared.form.VarId.{VarId}
 use Rattle.linear_forms.specs.Linear.{term_of}
 use Rattle.cooper_periods.specs.Starts.{has_end}

@@ -14,7 +14,7 @@ use Rattle.formula_meaning.proofs.Listed.{among_left, among_right, among_distinc
 use Rattle.formula_meaning.proofs.Same.{atom_same}
 use Rattle.elimination_theory.specs.Atoms.{atoms_in, atoms_in_all, atoms_of}
 use Rattle.elimination_theory.proofs.FieldsNames.{atom_free}
-use Rattle.elimination_reference.specs.Reference.{stands_among}
+use Rattle.test_points.specs.FromEliminationReference.{stands_among}
 use Rattle.linear_forms.specs.declared.form.VarId.{VarId}
 
 -- ---- lists

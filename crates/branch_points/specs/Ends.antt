@@ -5,7 +5,7 @@ use Rattle.formula_meaning.specs.Atom.{Atom, Compare, Congruent}
 use Rattle.elimination_theory.specs.declared.side.Side.{Side}
 use Rattle.elimination_theory.specs.declared.side.Side.TheVariants.{Lower, Upper}
 use Rattle.elimination_theory.specs.IntegersPoints.{comparison_starts}
-use Rattle.elimination_reference.specs.Reference.{stands_among}
+use Rattle.test_points.specs.FromEliminationReference.{stands_among}
 use Rattle.cooper_periods.specs.Starts.{has_end}
 use Rattle.branch_points.specs.declared.ends.Ends.{Ends}
 

@@ -4,7 +4,7 @@ ghost use Rattle.std.specs.Prelude.{◌≡◌, ◌<◌, ◌≤◌, [], ◌∷◌
 ghost use Rattle.std.specs.HashMap.{get};
 ghost use Rattle.std.specs.List.{AllByRecursion};
 ghost use Rattle.formula_meaning.specs.StandsOnce.{StandsOnce};
-ghost use Rattle.elimination_reference.specs.Theorems.{IsTidy};
+ghost use Rattle.test_points.specs.FromEliminationReference.{IsTidy};
 ghost use Rattle.atom_normal.specs.Atoms.{atom_of, context_of, IsWellFormed};
 ghost use Rattle.formula_store.specs.Nodes.{tree, IsId};
 ghost use Rattle.branch_points.specs.Chosen.{IsChosen, IsByRule, IsOnSide, NeedsCounting, InSomeOrder, listed_atoms};

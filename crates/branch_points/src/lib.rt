@@ -14,4 +14,5 @@ mod roots;
 
 pub use choice::Chosen;
 pub use choosing::chosen;
+pub use cooper_periods::guard;
 pub use error::ChoiceError;

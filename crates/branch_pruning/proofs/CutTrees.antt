@@ -13,8 +13,8 @@ use Rattle.formula_meaning.specs.Atom.{Atom, Mentions}
 use Rattle.formula_meaning.specs.Tree.{Tree, Trees, IsFree}
 use Rattle.simplified_formulas.specs.Measure.{as_member, size, members_size, more_size}
 use Rattle.simplified_formulas.specs.Orderly.{IsOrderly, AreOrderly}
-use Rattle.simplified_texts.specs.Texts.{text_measure}
-use Rattle.simplified_texts.proofs.Longer.{IsWritten, constant_width}
+use Rattle.theory_simplifier.specs.FromSimplifiedTexts.{text_measure}
+use Rattle.theory_simplifier.proofs.FromSimplifiedTexts.{IsWritten, constant_width}
 use Rattle.branch_pruning.specs.Cuts.{IsCut, AreCut, stays, goes, fails, never, conjunction, disjunction, no_member, one_more}
 
 mutual

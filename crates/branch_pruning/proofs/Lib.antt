@@ -5,3 +5,4 @@ pub mod Walking
 pub mod Staying
 pub mod AtomLists
 pub mod Covered
+pub mod FromTheorySimplifier

@@ -12,8 +12,8 @@ use Rattle.formula_store.proofs.Numbers.{numbers_are_within}
 use Rattle.case_theory.specs.Simplified.{HasConstantsWithin}
 use Rattle.formula_meaning.specs.Tree.{Tree, Trees}
 use Rattle.formula_meaning.specs.Within.{IsAtomWithin}
-use Rattle.atom_merging.specs.Computed.{IsNormalWithin}
-use Rattle.redlog_printer.specs.Text.{tree_text}
+use Rattle.simplified_formulas.specs.FromAtomMerging.{IsNormalWithin}
+use Rattle.theory_simplifier.specs.FromRedlogPrinter.{tree_text}
 use Rattle.simplified_formulas.specs.AtomKit.{atom_kit}
 use Rattle.simplified_formulas.specs.Orderly.{IsOrderly, AreOrderly}
 use Rattle.simplified_formulas.specs.Trees.{IsReduced}
@@ -22,10 +22,9 @@ use Rattle.simplified_formulas.proofs.AtomLaws.{merges_within, names_told}
 use Rattle.simplified_formulas.proofs.Keeps.{MergesWithin}
 use Rattle.simplified_formulas.proofs.Simplified.{simplified_within}
 use Rattle.simplified_formulas.proofs.TreeLaws.{keeps_truth, keeps_shape, brings_no_name, brings_no_node, brings_no_quantifier, is_reduced}
-use Rattle.simplified_texts.specs.Texts.{IsNoLarger}
-use Rattle.simplified_texts.proofs.Longer.{IsWritten, comes, orderly_both, no_longer}
-use Rattle.simplified_texts.proofs.Measured.{text_is}
-use Rattle.elimination_reference.specs.Theorems.{IsTidy}
+use Rattle.theory_simplifier.specs.FromSimplifiedTexts.{IsNoLarger}
+use Rattle.theory_simplifier.proofs.FromSimplifiedTexts.{IsWritten, comes, orderly_both, no_longer, text_is}
+use Rattle.case_theory.specs.FromEliminationReference.{IsTidy}
 use Rattle.formula_tree.specs.declared.shape.Shape.{Shape}
 use Rattle.formula_store.specs.declared.id.FormulaId.{FormulaId}
 use Rattle.formula_store.specs.Nodes.{tree, IsId}

@@ -1,3 +1,5 @@
 pub mod Pruned
 pub mod Cuts
 pub mod Compared
+pub mod FromAtomPruning
+pub mod FromSimplifiedTexts

@@ -6,7 +6,7 @@ use Rattle.formula_meaning.specs.Some.{SomeOf}
 use Rattle.formula_meaning.specs.Atom.{Atom}
 use Rattle.formula_meaning.specs.Tree.{Tree, TrueAt}
 use Rattle.simplified_formulas.specs.Trees.{IsReduced}
-use Rattle.simplified_texts.specs.Texts.{IsNoLarger}
+use Rattle.theory_simplifier.specs.FromSimplifiedTexts.{IsNoLarger}
 use Rattle.formula_tree.specs.declared.shape.Shape.{Shape}
 use Rattle.formula_store.specs.declared.id.FormulaId.{FormulaId}
 use Rattle.formula_store.specs.Nodes.{tree, IsId}

@@ -3,7 +3,7 @@
 ghost use Rattle.std.specs.Prelude.{◌≡◌, ◌≤◌, IfOk, map};
 ghost use Rattle.std.specs.List.{AllByRecursion};
 ghost use Rattle.formula_meaning.specs.Some.{EachOf};
-ghost use Rattle.elimination_reference.specs.Theorems.{IsTidy};
+ghost use Rattle.case_theory.specs.FromEliminationReference.{IsTidy};
 ghost use Rattle.atom_normal.specs.Atoms.{context_of, atom_of, IsWellFormed};
 ghost use Rattle.atom_normal.specs.NormalForm.{IsNormal};
 ghost use Rattle.simplified_formulas.specs.Orderly.{IsOrderly};

@@ -17,7 +17,7 @@ use Rattle.formula_store.specs.declared.id.FormulaId.{FormulaId}
 use Rattle.formula_tree.specs.Makers.{Keeps}
 use Rattle.formula_store.specs.Nodes.{tree, IsId}
 use Rattle.linear_forms.specs.declared.form.VarId.{VarId}
-use Rattle.nnf_substitution.specs.Placed.{all_within}
+use Rattle.virtual_subst.specs.FromNnfSubstitution.{all_within}
 use Rattle.test_points.specs.declared.points.TestPoint.{TestPoint}
 use Rattle.test_points.specs.Points.{place_of}
 use Rattle.case_theory.specs.Children.{IsChild}
@@ -33,7 +33,7 @@ use Rattle.branch_rounds.specs.declared.work.Work.{Work}
 use Rattle.branch_rounds.specs.Branches.{Seen, branch_at, numbers}
 use Rattle.branch_rounds.specs.Children.{IsChildOf, AreChildrenOf, result_seen}
 use Rattle.branch_rounds.specs.Rounds.{IsSpreadOver, IsDirectAt, IsLeftAlone}
-use Rattle.simplified_texts.specs.Texts.{IsNoLarger}
+use Rattle.branch_pruning.specs.FromSimplifiedTexts.{IsNoLarger}
 use Rattle.elimination_theory.specs.Steps.{result_at}
 use Rattle.atom_normal.specs.NormalForm.{normal_atom}
 

@@ -22,8 +22,8 @@ use Rattle.formula_tree.specs.declared.shape.Shape.{Shape}
 use Rattle.formula_tree.specs.Makers.{AreMade, Keeps}
 use Rattle.formula_store.specs.declared.id.FormulaId.{FormulaId}
 use Rattle.formula_store.specs.Nodes.{tree, IsId}
-use Rattle.nnf_substitution.specs.Placed.{put}
-use Rattle.nnf_substitution.proofs.ResultLaws.{guard_folded}
+use Rattle.virtual_subst.specs.FromNnfSubstitution.{put}
+use Rattle.virtual_subst.proofs.FromNnfSubstitution.{guard_folded}
 use Rattle.test_points.specs.declared.points.TestPoint.{TestPoint}
 use Rattle.test_points.specs.Points.{place_of, IsPointOf}
 use Rattle.case_theory.specs.Points.{IsPointFor}
@@ -37,7 +37,7 @@ use Rattle.formula_store.proofs.Marked.{all_at}
 use Rattle.branch_points.specs.declared.choice.Chosen.{Chosen}
 use Rattle.branch_rounds.specs.declared.work.Work.{Work}
 use Rattle.branch_rounds.specs.Children.{HasPoints, IsChildOf, IsAdded, result_seen}
-use Rattle.simplified_texts.specs.Texts.{IsNoLarger}
+use Rattle.branch_pruning.specs.FromSimplifiedTexts.{IsNoLarger}
 use Rattle.branch_pruning.specs.Pruned.{IsPrunedTo}
 use Rattle.branch_rounds.specs.Worked.{guarded, IsLeft, IsWorkedTo}
 use Rattle.branch_rounds.proofs.Left.{worked_to}

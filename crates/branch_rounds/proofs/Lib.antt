@@ -10,3 +10,6 @@ pub mod EachRound
 pub mod Places
 pub mod Ended
 pub mod Alone
+pub mod FromBranchPoints
+pub mod FromCaseTheory
+pub mod FromTheorySimplifier

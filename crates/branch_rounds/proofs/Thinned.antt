@@ -11,7 +11,7 @@ use Rattle.atom_normal.specs.Atoms.{context_of, atom_of}
 use Rattle.formula_tree.specs.declared.shape.Shape.{Shape}
 use Rattle.formula_store.specs.declared.id.FormulaId.{FormulaId}
 use Rattle.formula_store.specs.Nodes.{tree, IsId}
-use Rattle.atom_pruning.specs.Kept.{marked}
+use Rattle.branch_pruning.specs.FromAtomPruning.{marked}
 use Rattle.branch_pruning.specs.Pruned.{SomeTrue}
 use Rattle.case_theory.specs.Block.{Somewhere}
 use Rattle.case_theory.specs.Pending.{Pending}

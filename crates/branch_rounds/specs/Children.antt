@@ -9,7 +9,7 @@ use Rattle.elimination_theory.specs.Steps.{Result, result_at}
 use Rattle.atom_normal.specs.declared.atoms.Context.{Context}
 use Rattle.atom_normal.specs.Atoms.{context_of, atom_of}
 use Rattle.atom_normal.specs.NormalForm.{normal_atom}
-use Rattle.simplified_texts.specs.Texts.{IsNoLarger}
+use Rattle.branch_pruning.specs.FromSimplifiedTexts.{IsNoLarger}
 use Rattle.linear_forms.specs.declared.form.VarId.{VarId}
 use Rattle.formula_tree.specs.declared.shape.Shape.{Shape}
 use Rattle.formula_store.specs.declared.id.FormulaId.{FormulaId}

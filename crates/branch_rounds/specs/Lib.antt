@@ -4,3 +4,6 @@ pub mod Branches
 pub mod Rounds
 pub mod Thinned
 pub mod Cases
+pub mod FromBranchPoints
+pub mod FromCaseTheory
+pub mod FromSimplifiedTexts

@@ -11,8 +11,8 @@ use Rattle.elimination_theory.specs.Steps.{Result, result_at}
 use Rattle.atom_normal.specs.declared.atoms.Context.{Context}
 use Rattle.atom_normal.specs.Atoms.{context_of, atom_of}
 use Rattle.atom_normal.specs.NormalForm.{normal_atom}
-use Rattle.simplified_texts.specs.Texts.{IsNoLarger}
-use Rattle.nnf_substitution.specs.Placed.{all_within}
+use Rattle.branch_pruning.specs.FromSimplifiedTexts.{IsNoLarger}
+use Rattle.virtual_subst.specs.FromNnfSubstitution.{all_within}
 use Rattle.test_points.specs.declared.points.TestPoint.{TestPoint}
 use Rattle.test_points.specs.Points.{place_of}
 use Rattle.branch_points.specs.declared.choice.Chosen.{Chosen}

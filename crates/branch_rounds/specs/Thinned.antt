@@ -4,7 +4,7 @@ use Rattle.atom_normal.specs.Atoms.{context_of, atom_of}
 use Rattle.formula_tree.specs.declared.shape.Shape.{Shape}
 use Rattle.formula_store.specs.declared.id.FormulaId.{FormulaId}
 use Rattle.formula_store.specs.Nodes.{tree}
-use Rattle.atom_pruning.specs.Kept.{marked}
+use Rattle.branch_pruning.specs.FromAtomPruning.{marked}
 use Rattle.branch_pruning.specs.Pruned.{AreCovering}
 use Rattle.branch_rounds.specs.declared.work.Work.{Work}
 use Rattle.branch_rounds.specs.Branches.{Seen}

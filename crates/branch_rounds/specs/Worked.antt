@@ -11,7 +11,7 @@ use Rattle.atom_normal.specs.NormalForm.{IsNormal}
 use Rattle.formula_tree.specs.declared.shape.Shape.{Shape}
 use Rattle.formula_store.specs.declared.id.FormulaId.{FormulaId}
 use Rattle.formula_store.specs.Nodes.{tree, IsId}
-use Rattle.nnf_substitution.specs.Placed.{with_guard}
+use Rattle.virtual_subst.specs.FromNnfSubstitution.{with_guard}
 use Rattle.case_theory.specs.Worked.{IsWorked, IsNeverUnder}
 use Rattle.branch_pruning.specs.Pruned.{IsPrunedTo}
 use Rattle.branch_rounds.specs.declared.work.Work.{Work}

@@ -8,7 +8,7 @@ ghost use Rattle.elimination_reference.specs.Theorems.{IsTidy};
 ghost use Rattle.atom_normal.specs.Atoms.{context_of, atom_of};
 ghost use Rattle.formula_tree.specs.Makers.{AreMade, Keeps};
 ghost use Rattle.formula_store.specs.Nodes.{tree, IsId};
-ghost use Rattle.nnf_substitution.specs.Placed.{put, all_within};
+ghost use Rattle.virtual_subst.specs.FromNnfSubstitution.{put, all_within};
 ghost use Rattle.test_points.specs.Points.{place_of, IsTestPoint};
 ghost use Rattle.branch_rounds.specs.Worked.{IsWork, guarded};
 ghost use Rattle.branch_rounds.specs.declared.children.Child.{Child};

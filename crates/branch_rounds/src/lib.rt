@@ -16,7 +16,9 @@ mod worked;
 
 pub use block::block_branches;
 pub use branch::{Branch, formulas_of};
+pub use branch_pruning::{Reach, SimplError, pruned, simplify};
 pub use budget::Budget;
 pub use error::RoundError;
 pub use laws::branches_are_cases;
+pub use virtual_subst::fold;
 pub use work::Work;

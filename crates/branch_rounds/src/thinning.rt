@@ -3,7 +3,7 @@
 ghost use Rattle.std.specs.Prelude.{◌≡◌, ◌≤◌, IfOk};
 ghost use Rattle.formula_meaning.specs.Some.{EachOf};
 ghost use Rattle.formula_store.specs.Nodes.{IsId};
-ghost use Rattle.atom_pruning.specs.Kept.{marked as marked_of};
+ghost use Rattle.branch_pruning.specs.FromAtomPruning.{marked as marked_of};
 ghost use Rattle.branch_rounds.specs.Worked.{IsWork};
 ghost use Rattle.branch_rounds.specs.Thinned.{AreThinned};
 

@@ -12,8 +12,8 @@ ghost use Rattle.branch_rounds.specs.Worked.{guarded, IsWork, IsLeft};
 
 use crate::work::Work;
 use atom_normal::Context;
+use branch_points::guard;
 use branch_pruning::{Reach, pruned};
-use cooper_periods::guard;
 use formula_meaning::Junction;
 use formula_store::{FormulaId, Store};
 use formula_tree::Shape;

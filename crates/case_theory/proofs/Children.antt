@@ -21,7 +21,7 @@ use Rattle.elimination_theory.proofs.BothSubstitutions.{place_in}
 use Rattle.elimination_theory.proofs.FieldsNames.{field_substitution_names}
 use Rattle.elimination_theory.proofs.IntegersNames.{integer_substitution_names}
 use Rattle.elimination_theory.proofs.OneStep.{Becomes, result_becomes}
-use Rattle.atom_normal.specs.NormalForm.{normal_atom}
+use Rattle.elimination_reference.specs.FromAtomNormal.{normal_atom}
 use Rattle.elimination_reference.specs.Theorems.{IsTidy}
 use Rattle.elimination_reference.proofs.Tidy.{normaliser, tidy_in}
 use Rattle.case_theory.specs.Points.{IsPointFor}

@@ -10,7 +10,7 @@ use Rattle.formula_meaning.specs.Plain.{ArePlain}
 use Rattle.formula_meaning.specs.Tree.{Tree, Trees}
 use Rattle.formula_meaning.proofs.Iff.{both_ways}
 use Rattle.elimination_theory.specs.Substitution.{where_zero}
-use Rattle.atom_normal.specs.NormalForm.{IsNormal, normal_atom}
+use Rattle.elimination_reference.specs.FromAtomNormal.{IsNormal, normal_atom}
 use Rattle.elimination_reference.specs.Theorems.{IsAnswerTo}
 use Rattle.formula_meaning.specs.Answer.{Place}
 use Rattle.formula_meaning.specs.Replaced.{replaced}
@@ -31,7 +31,7 @@ use Rattle.elimination_theory.specs.Steps.{normalised}
 use Rattle.elimination_theory.specs.Overflow.{NumbersWithin}
 use Rattle.elimination_theory.proofs.Simple.{IsSimple, simple_normalised, raw_simple}
 use Rattle.elimination_theory.proofs.SomeListed.{every_of_atoms}
-use Rattle.atom_normal.proofs.NormalLaws.{normal_in}
+use Rattle.elimination_reference.proofs.FromAtomNormal.{normal_in}
 use Rattle.elimination_reference.specs.LimitsWithin.{ConstantWithin, AtomFormsWithin}
 use Rattle.case_theory.specs.Points.{IsConjunctOfSome}
 use Rattle.case_theory.specs.Roots.{IsRoot}

@@ -18,7 +18,7 @@ use Rattle.formula_meaning.proofs.Fold.{free_of_members, fold_list_has, fold_lis
 use Rattle.elimination_theory.specs.BothTheories.{IsPlaceIn}
 use Rattle.elimination_theory.specs.Answers.{Step, answers_of}
 use Rattle.elimination_theory.proofs.BothSubstitutions.{place_in}
-use Rattle.atom_normal.specs.NormalForm.{IsNormal}
+use Rattle.elimination_reference.specs.FromAtomNormal.{IsNormal}
 use Rattle.simplified_formulas.specs.Simplifiable.{EquivalentUnder}
 use Rattle.elimination_reference.specs.Reference.{normal_tree}
 use Rattle.elimination_reference.specs.Cases.{case_sign, case_formula, case_matrix, case_names}

@@ -15,8 +15,8 @@ use Rattle.formula_meaning.specs.Measured.{Nodes}
 use Rattle.elimination_theory.specs.FieldsExample.{named, difference, multiple_of}
 use Rattle.elimination_theory.specs.FieldsPoints.{form_over}
 use Rattle.elimination_theory.specs.Answers.{zero_place}
-use Rattle.linear_forms.specs.Reduction.{quotient, residue_form}
-use Rattle.atom_normal.specs.NormalForm.{normal_atom}
+use Rattle.elimination_reference.specs.FromLinearForms.{quotient, residue_form}
+use Rattle.elimination_reference.specs.FromAtomNormal.{normal_atom, IsNormal}
 use Rattle.elimination_reference.specs.Reference.{reference}
 use Rattle.elimination_reference.specs.Cases.{case_names, case_matrix, reference_cases}
 use Rattle.elimination_reference.specs.Theorems.{IsTidy}
@@ -27,7 +27,6 @@ use Rattle.case_theory.proofs.Children.{children_made}
 use Rattle.elimination_theory.specs.Answers.{answers_of}
 use Rattle.elimination_theory.specs.AnswersExample.{matrix, x_is_y, y_is_far}
 use Rattle.elimination_theory.proofs.AnswersExample.{period_of_the_branch}
-use Rattle.atom_normal.specs.NormalForm.{IsNormal}
 use Rattle.case_theory.specs.PutThrough.{Fit}
 use Rattle.case_theory.proofs.Fit.{answers_fit}
 use Rattle.case_theory.proofs.Fallback.{lead_under}

@@ -19,9 +19,9 @@ use Rattle.formula_meaning.proofs.Iff.{both_ways}
 use Rattle.formula_meaning.proofs.NormalShape.{normal_form_shape, normal_form_every}
 use Rattle.elimination_theory.specs.Answers.{Step, answers_of}
 use Rattle.elimination_theory.specs.AnswersTheorems.{Lead}
-use Rattle.atom_normal.specs.NormalForm.{IsNormal, negated_normal}
+use Rattle.elimination_reference.specs.FromAtomNormal.{IsNormal, negated_normal}
 use Rattle.formula_meaning.proofs.EachAtom.{every_map}
-use Rattle.atom_normal.proofs.NormalLaws.{negated_normal_is}
+use Rattle.elimination_reference.proofs.FromAtomNormal.{negated_normal_is}
 use Rattle.elimination_reference.specs.Reference.{reference, Branch, branch_trees, alone, together, normal_tree, turned, steps, closed, branches, leading_branches}
 use Rattle.elimination_reference.specs.Cases.{Case, case_of, cases_of, case_sign, case_formula, case_matrix, case_names, reference_cases}
 use Rattle.elimination_reference.specs.CasesOver.{AreOver}

@@ -33,7 +33,7 @@ use Rattle.elimination_theory.proofs.BothSubstitutions.{place_in, place_holds}
 use Rattle.elimination_theory.proofs.IntegerSides.{Fits}
 use Rattle.elimination_theory.proofs.IntegerSuffice.{formula_spanned, formula_fits}
 use Rattle.elimination_theory.proofs.OneStep.{result_becomes}
-use Rattle.atom_normal.specs.NormalForm.{normal_atom}
+use Rattle.elimination_reference.specs.FromAtomNormal.{normal_atom}
 use Rattle.simplified_formulas.specs.Simplifiable.{EquivalentUnder}
 use Rattle.elimination_reference.specs.Theorems.{IsTidy}
 use Rattle.elimination_reference.proofs.Tidy.{normaliser, tidy_in, result_tidy}

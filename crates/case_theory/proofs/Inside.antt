@@ -12,7 +12,7 @@ use Rattle.formula_meaning.specs.Tree.{Tree, Trees, IsFree}
 use Rattle.formula_meaning.proofs.Listed.{among_right, among_append}
 use Rattle.elimination_theory.specs.Steps.{Result}
 use Rattle.elimination_theory.proofs.SomeListed.{each_map, each_among}
-use Rattle.atom_normal.specs.NormalForm.{IsNormal}
+use Rattle.elimination_reference.specs.FromAtomNormal.{IsNormal}
 use Rattle.elimination_reference.specs.Theorems.{IsTidy, AreBranching}
 use Rattle.case_theory.specs.Under.{Lack}
 use Rattle.case_theory.specs.Block.{Somewhere}

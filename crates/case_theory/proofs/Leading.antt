@@ -15,7 +15,7 @@ use Rattle.elimination_reference.proofs.PutMatrix.{block_turned, matrix_turned}
 use Rattle.elimination_reference.specs.Reference.{turned}
 use Rattle.formula_meaning.specs.Plain.{IsNegationNormal, leading}
 use Rattle.formula_meaning.proofs.NormalShape.{normal_form_shape}
-use Rattle.atom_normal.specs.NormalForm.{negated_normal}
+use Rattle.elimination_reference.specs.FromAtomNormal.{negated_normal}
 use Rattle.case_theory.specs.Leading.{LeadingBlockIsSplit}
 use Rattle.case_theory.specs.Block.{ex_all}
 use Rattle.case_theory.proofs.Lists.{once_more}

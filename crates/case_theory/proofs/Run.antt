@@ -15,8 +15,8 @@ use Rattle.formula_meaning.specs.Tree.{Tree, IsFree}
 use Rattle.elimination_theory.specs.FieldsExample.{named, multiple_of}
 use Rattle.elimination_theory.specs.Answers.{zero_place}
 use Rattle.elimination_theory.specs.Steps.{result_at, Result}
-use Rattle.linear_forms.specs.Reduction.{quotient, residue_form}
-use Rattle.atom_normal.specs.NormalForm.{normal_atom, IsNormal}
+use Rattle.elimination_reference.specs.FromLinearForms.{quotient, residue_form}
+use Rattle.elimination_reference.specs.FromAtomNormal.{normal_atom, IsNormal}
 use Rattle.elimination_reference.specs.Cases.{Case}
 use Rattle.elimination_reference.specs.Theorems.{IsTidy}
 use Rattle.case_theory.specs.CaseTree.{without_all, IsCaseTree}

@@ -10,9 +10,8 @@ use Rattle.formula_meaning.specs.Plain.{IsPlain, ArePlain}
 use Rattle.formula_meaning.specs.declared.junction.Junction.{Junction}
 use Rattle.formula_meaning.specs.declared.junction.Junction.TheVariants.{Conjunction, Disjunction}
 use Rattle.formula_meaning.specs.Tree.{Tree, Trees}
-use Rattle.atom_normal.specs.NormalForm.{IsNormal, negated_normal}
-use Rattle.atom_merging.specs.Computed.{IsNormalWithin}
-use Rattle.atom_merging.specs.Merging.{IsKept}
+use Rattle.elimination_reference.specs.FromAtomNormal.{IsNormal, negated_normal}
+use Rattle.simplified_formulas.specs.FromAtomMerging.{IsNormalWithin, IsKept}
 use Rattle.simplified_formulas.specs.Contained.{contains}
 use Rattle.simplified_formulas.specs.Orderly.{IsOrderly, AreOrderly}
 use Rattle.simplified_formulas.specs.Reduced.{MayStand, under, ReducedInside, MembersReduced}

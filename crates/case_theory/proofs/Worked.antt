@@ -13,7 +13,7 @@ use Rattle.formula_meaning.specs.Tree.{Tree, Trees, TrueAt, IsFree}
 use Rattle.formula_meaning.proofs.Iff.{both_ways, turn_round, not_iff}
 use Rattle.formula_meaning.proofs.Fold.{free_of_members, fold_list_has, fold_list_true}
 use Rattle.elimination_theory.proofs.BothTheories.{decided}
-use Rattle.atom_normal.specs.NormalForm.{IsNormal, negated_normal}
+use Rattle.elimination_reference.specs.FromAtomNormal.{IsNormal, negated_normal}
 use Rattle.simplified_formulas.specs.Simplifiable.{EquivalentUnder}
 use Rattle.elimination_reference.proofs.Tidy.{AreTidy, tidy_in, tidy_fold_list, tidy_turned}
 use Rattle.elimination_reference.proofs.Turning.{normal_inside, normal_truths, turned_brings, turned_keeps}

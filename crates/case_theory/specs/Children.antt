@@ -10,7 +10,7 @@ use Rattle.formula_meaning.specs.Tree.{Tree, TrueAt, IsFree}
 use Rattle.elimination_theory.specs.Places.{substitution}
 use Rattle.elimination_theory.specs.Steps.{Result, result_at}
 use Rattle.elimination_theory.specs.Answers.{zero_place}
-use Rattle.atom_normal.specs.NormalForm.{normal_atom}
+use Rattle.elimination_reference.specs.FromAtomNormal.{normal_atom}
 use Rattle.simplified_formulas.specs.Simplifiable.{EquivalentUnder}
 use Rattle.elimination_reference.specs.Theorems.{IsTidy}
 use Rattle.case_theory.specs.PutThrough.{AreTrue}

@@ -11,7 +11,7 @@ use Rattle.formula_meaning.specs.Tree.{Tree, Trees}
 use Rattle.elimination_theory.specs.Atoms.{atoms_of}
 use Rattle.elimination_theory.specs.Substitution.{where_zero}
 use Rattle.elimination_theory.specs.Steps.{result_at}
-use Rattle.atom_normal.specs.NormalForm.{normal_atom}
+use Rattle.elimination_reference.specs.FromAtomNormal.{normal_atom}
 use Rattle.elimination_reference.specs.LimitsWithin.{AtomFormsWithin}
 use Rattle.case_theory.specs.Roots.{IsRoot}
 

@@ -4,7 +4,7 @@ use Rattle.formula_meaning.specs.Context.{Fields}
 use Rattle.formula_meaning.specs.Every.{Every}
 use Rattle.formula_meaning.specs.Answer.{Place}
 use Rattle.formula_meaning.specs.Tree.{Tree, Trees}
-use Rattle.atom_normal.specs.NormalForm.{IsNormal}
+use Rattle.elimination_reference.specs.FromAtomNormal.{IsNormal}
 use Rattle.elimination_reference.specs.Theorems.{IsAnswerTo}
 use Rattle.case_theory.specs.Simplified.{HasConstantsWithin}
 use Rattle.case_theory.specs.Direct.{IsDirect, direct_answer}

@@ -7,7 +7,7 @@ use Rattle.formula_meaning.specs.Tree.{Tree}
 use Rattle.formula_meaning.specs.Equivalence.{Equivalent}
 use Rattle.formula_meaning.specs.Measured.{Stop, Outcome, stopped, done}
 use Rattle.formula_meaning.specs.Giving.{Gives}
-use Rattle.atom_normal.specs.NormalForm.{IsNormal}
+use Rattle.elimination_reference.specs.FromAtomNormal.{IsNormal}
 use Rattle.elimination_reference.specs.Reference.{reference}
 use Rattle.elimination_reference.specs.Cases.{case_matrix, reference_cases}
 use Rattle.elimination_reference.specs.Theorems.{IsTidy}

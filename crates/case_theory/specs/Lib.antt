@@ -14,3 +14,5 @@ pub mod Simplified
 pub mod Direct
 pub mod DirectTheorems
 pub mod ClassSample
+pub mod FromEliminationReference
+pub mod FromSimplifiedFormulas

@@ -13,7 +13,7 @@ use Rattle.formula_meaning.specs.Answer.{Place}
 use Rattle.formula_meaning.specs.Tree.{Tree, Trees, TrueAt, IsFree}
 use Rattle.elimination_theory.specs.Answers.{Step, answers_of}
 use Rattle.elimination_theory.specs.Steps.{Result}
-use Rattle.atom_normal.specs.NormalForm.{IsNormal}
+use Rattle.elimination_reference.specs.FromAtomNormal.{IsNormal}
 use Rattle.elimination_reference.specs.Cases.{Case, case_matrix, case_names}
 use Rattle.elimination_reference.specs.CasesOver.{AreOver}
 use Rattle.elimination_reference.specs.Theorems.{IsTidy}

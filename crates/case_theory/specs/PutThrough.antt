@@ -7,7 +7,7 @@ use Rattle.formula_meaning.specs.Atom.{Atom, Says}
 use Rattle.formula_meaning.specs.Answer.{Answer, Holds}
 use Rattle.formula_meaning.specs.Tree.{Tree, TrueAt}
 use Rattle.elimination_theory.specs.Steps.{result_at}
-use Rattle.atom_normal.specs.NormalForm.{normal_atom}
+use Rattle.elimination_reference.specs.FromAtomNormal.{normal_atom}
 use Rattle.elimination_reference.specs.AnswerParts.{answer_names}
 use Rattle.case_theory.specs.Block.{DifferIn}
 

@@ -9,7 +9,7 @@ use Rattle.formula_meaning.specs.declared.junction.Junction.{Junction}
 use Rattle.formula_meaning.specs.NegationNormal.{normal_form_of_not}
 use Rattle.formula_meaning.specs.Atom.{Atom}
 use Rattle.formula_meaning.specs.Tree.{Tree, Trees, TrueAt, IsFree}
-use Rattle.atom_normal.specs.NormalForm.{IsNormal, negated_normal}
+use Rattle.elimination_reference.specs.FromAtomNormal.{IsNormal, negated_normal}
 use Rattle.simplified_formulas.specs.Simplifiable.{EquivalentUnder}
 use Rattle.elimination_reference.specs.Theorems.{IsTidy}
 use Rattle.case_theory.specs.PutThrough.{AreTrue}

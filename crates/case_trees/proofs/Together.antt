@@ -9,10 +9,8 @@ use Rattle.formula_meaning.specs.Every.{EveryOf}
 use Rattle.formula_meaning.specs.Plain.{ArePlain}
 use Rattle.formula_meaning.specs.Some.{EachOf}
 use Rattle.formula_meaning.specs.Tree.{Tree}
-use Rattle.atom_normal.specs.NormalForm.{IsNormal}
-use Rattle.elimination_reference.specs.Cases.{Case}
-use Rattle.elimination_reference.specs.Theorems.{IsTidy, IsProper, AreBranching}
-use Rattle.elimination_reference.specs.AnswerParts.{guards_of}
+use Rattle.formula_tree.specs.FromAtomNormal.{IsNormal}
+use Rattle.test_points.specs.FromEliminationReference.{Case, IsTidy, IsProper, AreBranching, guards_of}
 use Rattle.formula_tree.specs.declared.shape.Shape.{Shape}
 use Rattle.formula_tree.specs.Trees.{members}
 use Rattle.formula_store.specs.declared.id.FormulaId.{FormulaId}

@@ -8,10 +8,8 @@ use Rattle.formula_meaning.specs.Some.{EachOf}
 use Rattle.formula_meaning.specs.Atom.{Atom}
 use Rattle.formula_meaning.specs.Tree.{Tree, IsFree}
 use Rattle.formula_meaning.specs.Equivalence.{Equivalent}
-use Rattle.elimination_reference.specs.Reference.{normal_tree}
-use Rattle.elimination_reference.specs.Cases as reference
-use Rattle.elimination_reference.specs.Theorems.{IsTidy, IsProper}
-use Rattle.elimination_reference.specs.AnswerParts.{guards_of}
+use Rattle.test_points.specs.FromEliminationReference.{normal_tree, IsTidy, IsProper, guards_of}
+use Rattle.test_points.specs.FromEliminationReference.cases_rules as reference
 use Rattle.linear_forms.specs.declared.form.VarId.{VarId}
 use Rattle.formula_tree.specs.declared.shape.Shape.{Shape}
 use Rattle.formula_store.specs.declared.id.FormulaId.{FormulaId}

@@ -26,18 +26,10 @@ use Rattle.farkas_cert.specs.Stops.{StopsCheck}
 use Rattle.certificate_search.specs.Stops.{StopsSearch}
 use Rattle.sample_reference.specs.Values.{with_values, origin}
 use Rattle.sample_reference.proofs.SamePoints.{values_of_theory}
-use Rattle.session_meaning.specs.Certificates.{constraints_of, constrained_names, AreInfeasible, Certifies, IsCertificateAnswer, certificate_text, multipliers_of, IsCheckAnswer}
-use Rattle.session_meaning.specs.Reply.{IsLine}
-use Rattle.session_meaning.specs.State.{State}
-use Rattle.session_meaning.specs.Words.{truth_text}
-use Rattle.session_meaning.specs.declared.line.Line.{Line}
-use Rattle.session_meaning.specs.declared.line.StatementError.{StatementError}
-use Rattle.session_meaning.specs.declared.line.StatementError.TheVariants as error
-use Rattle.session_state.specs.declared.state.SessionState.{SessionState}
-use Rattle.session_state.specs.Keeping.{state_of, IsSessionState, IsSound}
-use Rattle.session_state.specs.Growth.{KeepsState}
-use Rattle.command_tools.specs.Refusals.{LineFault}
-use Rattle.command_tools.specs.Replies.{use_of, Refuses, IsQueryAnswer}
+use Rattle.problem_reading.specs.FromSessionMeaning.{constraints_of, constrained_names, AreInfeasible, Certifies, IsCertificateAnswer, certificate_text, multipliers_of, IsCheckAnswer, IsLine, State, truth_text, Line, StatementError}
+use Rattle.problem_reading.specs.FromSessionMeaning.statement_error_variants as error
+use Rattle.problem_reading.specs.FromSessionState.{SessionState, state_of, IsSessionState, IsSound, KeepsState}
+use Rattle.problem_reading.specs.FromCommandTools.{LineFault, use_of, Refuses, IsQueryAnswer}
 use Rattle.problem_reading.specs.Reading.{AreNumbered}
 use Rattle.certificate_queries.specs.Steps.{AreReady, RefusesCertificate, RefusesCheck, AcceptsCheck, cert_refusal, HasNamesWithin}
 use Rattle.certificate_queries.proofs.CauseSteps.{search_stopped, certificate_told, certificate_faulty, check_clear, check_overflows}

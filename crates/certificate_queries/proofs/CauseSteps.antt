@@ -13,26 +13,17 @@ use Rattle.statement_syntax.specs.Statements.{Certify}
 use Rattle.formula_tree.specs.Causes.{CongruenceInFields, IsBadModulus, IsTooDeep}
 use Rattle.formula_tree.specs.Resolving.{BoundTrees, place}
 use Rattle.formula_tree.specs.NamesAfter.{names_after}
-use Rattle.formula_resolving.specs.declared.error.StaticError.{StaticError}
-use Rattle.formula_resolving.specs.declared.error.StaticError.TheVariants as static
+use Rattle.problem_reading.specs.FromFormulaResolving.{StaticError}
+use Rattle.problem_reading.specs.FromFormulaResolving.static_error_variants as static
 use Rattle.redlog_printer.specs.Writing.{text_limit}
 use Rattle.farkas_cert.specs.declared.error.CertError.{CertError}
 use Rattle.farkas_cert.specs.declared.error.CertError.TheVariants as cert
 use Rattle.fourier_motzkin.specs.Search.{Certificate, search as search_under}
 use Rattle.certificate_search.specs.Stops.{StopsSearch}
-use Rattle.session_meaning.specs.declared.line.Line.{Line}
-use Rattle.session_meaning.specs.declared.line.Line.TheVariants as line
-use Rattle.session_meaning.specs.declared.line.StatementError.{StatementError}
-use Rattle.session_meaning.specs.declared.line.StatementError.TheVariants as error
-use Rattle.session_meaning.specs.Causes.{HasNoRoom, HasLongLine, HasNone, IsAccepted, IsFirst}
-use Rattle.session_meaning.specs.Certificates.{constraints_of, constrained_names, Searches, SearchStops, Certifies, IsCertificateAnswer, certificate_text, HasLongCertificate, CheckPasses, IsCheckAnswer}
-use Rattle.session_meaning.specs.Meaning.{Meaning, OwnCauses, no_causes, stops, of_constraints, meaning}
-use Rattle.session_meaning.specs.Reply.{IsLine}
-use Rattle.session_meaning.specs.State.{State}
-use Rattle.session_meaning.specs.Uses.{Use}
-use Rattle.session_meaning.specs.Words.{before, truth_text}
-use Rattle.command_tools.specs.Refusals.{static_refusal, LineFault}
-use Rattle.command_tools.specs.Replies.{use_of, Refuses, IsQueryAnswer}
+use Rattle.problem_reading.specs.FromSessionMeaning.{Line, StatementError, HasNoRoom, HasLongLine, HasNone, IsAccepted, IsFirst, constraints_of, constrained_names, Searches, SearchStops, Certifies, IsCertificateAnswer, certificate_text, HasLongCertificate, CheckPasses, IsCheckAnswer, Meaning, OwnCauses, no_causes, stops, of_constraints, meaning, IsLine, State, Use, before, truth_text}
+use Rattle.problem_reading.specs.FromSessionMeaning.line_variants as line
+use Rattle.problem_reading.specs.FromSessionMeaning.statement_error_variants as error
+use Rattle.problem_reading.specs.FromCommandTools.{static_refusal, LineFault, use_of, Refuses, IsQueryAnswer}
 use Rattle.problem_reading.specs.Parts.{EachFormula}
 use Rattle.problem_reading.specs.Reading.{AreNumbered, AreReadable, AppliesAmong, HasNoEarlier, IsFirstAmong, AreUnread}
 use Rattle.problem_reading.proofs.PartLemmas.{no_formula}

@@ -20,10 +20,9 @@ use Rattle.formula_tree.proofs.PlaceLaws.{same_itself, slice_place, in_either, a
 use Rattle.formula_tree.proofs.ResolvedNames.{resolving_brings_no_name}
 use Rattle.fourier_motzkin.specs.Theorems.{AreOver}
 use Rattle.sample_reference.specs.Values.{Value, value_names}
-use Rattle.answer_texts.specs.Within.{AreValuesWithin}
-use Rattle.session_meaning.specs.Certificates.{constrained_names, constraints_of}
-use Rattle.session_meaning.specs.State.{State}
-use Rattle.session_state.proofs.NameLemmas.{place_below, variables_in_names}
+use Rattle.problem_reading.specs.FromAnswerTexts.{AreValuesWithin}
+use Rattle.problem_reading.specs.FromSessionMeaning.{constrained_names, constraints_of, State}
+use Rattle.problem_reading.proofs.FromSessionState.{place_below, variables_in_names}
 use Rattle.problem_reading.specs.Reading.{HasNumbers, IsReadable, AreNumbered, AreReadable}
 use Rattle.certificate_queries.proofs.CauseSteps.{IsComparison, comparison}
 use Rattle.certificate_queries.proofs.ConstraintTrees.{resolved_bound, constraint_named}

@@ -25,8 +25,7 @@ use Rattle.formula_tree.specs.RationalForms.{RationalForm, Missing, formed_diffe
 use Rattle.formula_tree.specs.Resolving.{place, resolve, compared}
 use Rattle.farkas_theory.specs.Meeting.{Meets}
 use Rattle.farkas_theory.specs.Farkas.{nothing}
-use Rattle.session_meaning.specs.Certificates.{tree_constraint}
-use Rattle.session_meaning.specs.State.{State}
+use Rattle.problem_reading.specs.FromSessionMeaning.{tree_constraint, State}
 use Rattle.certificate_queries.proofs.CauseSteps.{IsComparison}
 
 -- ---- bounds

@@ -12,12 +12,9 @@ use Rattle.statement_syntax.specs.ConstraintLists.{AreConstraints}
 use Rattle.formula_tree.specs.Resolving.{at_names, resolve, bound_truth}
 use Rattle.formula_tree.proofs.PlaceLaws.{at_place}
 use Rattle.farkas_theory.specs.Meeting.{MeetsAll}
-use Rattle.session_meaning.specs.Assumptions.{AllTrueAt}
-use Rattle.session_meaning.specs.Certificates.{constraints_of}
-use Rattle.session_meaning.specs.Places.{by_names}
-use Rattle.session_meaning.specs.State.{State}
-use Rattle.session_state.specs.Keeping.{IsSound}
-use Rattle.session_state.proofs.NameLemmas.{variables_in_names}
+use Rattle.problem_reading.specs.FromSessionMeaning.{AllTrueAt, constraints_of, by_names, State}
+use Rattle.problem_reading.specs.FromSessionState.{IsSound}
+use Rattle.problem_reading.proofs.FromSessionState.{variables_in_names}
 use Rattle.problem_reading.specs.Reading.{HasNumbers, IsReadable, AreNumbered, AreReadable}
 use Rattle.problem_reading.proofs.ReadTruth.{truth_as_written}
 use Rattle.certificate_queries.proofs.CauseSteps.{IsComparison, comparison}

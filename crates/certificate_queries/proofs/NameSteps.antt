@@ -9,16 +9,11 @@ use Rattle.statement_syntax.specs.Statements.{CommandTree}
 use Rattle.formula_tree.specs.Names.{with_name}
 use Rattle.formula_tree.specs.Resolving.{all_variables}
 use Rattle.formula_tree.proofs.PlaceLaws.{after_has, after_distinct}
-use Rattle.formula_resolving.specs.Numbering.{Grows}
-use Rattle.session_meaning.specs.declared.line.Line.{Line}
-use Rattle.session_meaning.specs.declared.line.StatementError.{StatementError}
-use Rattle.session_meaning.specs.State.{State, with_names}
-use Rattle.session_state.specs.declared.state.SessionState.{SessionState}
-use Rattle.session_state.specs.Keeping.{state_of, IsSessionState}
-use Rattle.session_state.specs.Growth.{KeepsState}
-use Rattle.session_state.proofs.StateLemmas.{state_parts, same_state, same_session, sound_with, length_grows}
-use Rattle.session_state.proofs.VariableLemmas.{AllVariables, variables_of_all, all_put_in}
-use Rattle.command_tools.specs.Replies.{use_of, Refuses, IsQueryAnswer}
+use Rattle.problem_reading.specs.FromFormulaResolving.{Grows}
+use Rattle.problem_reading.specs.FromSessionMeaning.{Line, StatementError, State, with_names}
+use Rattle.problem_reading.specs.FromSessionState.{SessionState, state_of, IsSessionState, KeepsState}
+use Rattle.problem_reading.proofs.FromSessionState.{state_parts, same_state, same_session, sound_with, length_grows, AllVariables, variables_of_all, all_put_in}
+use Rattle.problem_reading.specs.FromCommandTools.{use_of, Refuses, IsQueryAnswer}
 use Rattle.problem_reading.specs.Reading.{AreNumbered}
 use Rattle.problem_reading.proofs.ReadLemmas.{numbered_in}
 

@@ -4,16 +4,13 @@ use Rattle.formula_meaning.specs.Context.{Fields}
 use Rattle.qe_syntax.specs.declared.tree.Literal.{Literal}
 use Rattle.qe_syntax.specs.Trees.{FormulaTrees}
 use Rattle.statement_syntax.specs.Statements.{Certify, Check}
-use Rattle.answer_texts.specs.Within.{AreValuesWithin}
+use Rattle.problem_reading.specs.FromAnswerTexts.{AreValuesWithin}
 use Rattle.farkas_cert.specs.declared.error.CertError.{CertError}
 use Rattle.farkas_cert.specs.declared.error.CertError.TheVariants as cert
 use Rattle.fourier_motzkin.specs.Search.{Certificate, At, Farkas}
-use Rattle.session_meaning.specs.declared.line.StatementError.{StatementError}
-use Rattle.session_meaning.specs.declared.line.StatementError.TheVariants as error
-use Rattle.session_meaning.specs.State.{State}
-use Rattle.session_meaning.specs.Meaning.{meaning}
-use Rattle.session_meaning.specs.Causes.{IsAccepted}
-use Rattle.command_tools.specs.Replies.{use_of, Refuses}
+use Rattle.problem_reading.specs.FromSessionMeaning.{StatementError, State, meaning, IsAccepted}
+use Rattle.problem_reading.specs.FromSessionMeaning.statement_error_variants as error
+use Rattle.problem_reading.specs.FromCommandTools.{use_of, Refuses}
 use Rattle.problem_reading.specs.Reading.{AreReadable}
 
 -- nothing is wrong with the constraints, and the theory is that of the ordered fields

@@ -11,11 +11,9 @@ ghost use Rattle.statement_syntax.specs.ConstraintLists.{AreConstraints};
 ghost use Rattle.statement_syntax.specs.Statements.{Certify};
 ghost use Rattle.formula_tree.specs.Resolving.{place};
 ghost use Rattle.certificate_search.specs.Certificates.{certificate_of as meant_certificate, HasNumbersWithin};
-ghost use Rattle.session_meaning.specs.Certificates.{constrained_names, IsCertificateAnswer};
-ghost use Rattle.session_meaning.specs.Meaning.{meaning, numbered};
-ghost use Rattle.session_state.specs.Keeping.{state_of, IsSessionState};
-ghost use Rattle.session_state.specs.Growth.{KeepsState, GrowsState};
-ghost use Rattle.command_tools.specs.Replies.{use_of, Refuses, IsQueryAnswer};
+ghost use Rattle.problem_reading.specs.FromSessionMeaning.{constrained_names, IsCertificateAnswer, meaning, numbered};
+ghost use Rattle.problem_reading.specs.FromSessionState.{state_of, IsSessionState, KeepsState, GrowsState};
+ghost use Rattle.problem_reading.specs.FromCommandTools.{use_of, Refuses, IsQueryAnswer};
 ghost use Rattle.problem_reading.specs.Reading.{AreNumbered};
 ghost use Rattle.certificate_queries.specs.Steps.{RefusesCertificate, AreReady};
 
@@ -24,10 +22,8 @@ use crate::lines::certificate_line;
 use certificate_search::{Certificate, certify};
 use formula_tree::Names;
 use linear_forms::VarId;
-use problem_reading::number_all;
+use problem_reading::{Line, SessionState, StatementError, number_all};
 use qe_syntax::{Formula, Name};
-use session_meaning::{Line, StatementError};
-use session_state::SessionState;
 
 /// Answers with a certificate of the constraints, under a limit of rows. After an `Err` the names may have grown.
 pub fn answer_certificate(

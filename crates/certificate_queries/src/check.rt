@@ -9,21 +9,18 @@ ghost use Rattle.qe_syntax.specs.Writable.{AreWritableFormulas};
 ghost use Rattle.statement_syntax.specs.ConstraintLists.{AreConstraints};
 ghost use Rattle.statement_syntax.specs.Statements.{Check};
 ghost use Rattle.statement_syntax.specs.Writable.{AreWritableNumbers};
-ghost use Rattle.session_meaning.specs.Certificates.{multipliers_of as meant_multipliers, IsCheckAnswer};
-ghost use Rattle.session_meaning.specs.Meaning.{meaning, numbered};
-ghost use Rattle.session_state.specs.Keeping.{state_of, IsSessionState};
-ghost use Rattle.session_state.specs.Growth.{KeepsState, GrowsState};
-ghost use Rattle.command_tools.specs.Replies.{use_of, Refuses, IsQueryAnswer};
+ghost use Rattle.problem_reading.specs.FromSessionMeaning.{multipliers_of as meant_multipliers, IsCheckAnswer, meaning, numbered};
+ghost use Rattle.problem_reading.specs.FromSessionState.{state_of, IsSessionState, KeepsState, GrowsState};
+ghost use Rattle.problem_reading.specs.FromCommandTools.{use_of, Refuses, IsQueryAnswer};
 ghost use Rattle.problem_reading.specs.Reading.{AreNumbered};
 ghost use Rattle.certificate_queries.specs.Steps.{RefusesCheck, AcceptsCheck};
 
 use crate::constraints::{constraints_of, refusal_of};
-use command_tools::{printed_line, text_of_truth};
 use farkas_cert::check;
-use problem_reading::number_all;
+use problem_reading::{
+    Line, SessionState, StatementError, number_all, printed_line, text_of_truth,
+};
 use qe_syntax::{Formula, Literal};
-use session_meaning::{Line, StatementError};
-use session_state::SessionState;
 use std::alloc::Global;
 
 /// Answers whether the multipliers prove that no point meets the constraints. After an `Err` the names may have grown.

@@ -12,22 +12,18 @@ ghost use Rattle.qe_syntax.specs.Writable.{AreWritableFormulas};
 ghost use Rattle.statement_syntax.specs.ConstraintLists.{AreConstraints};
 ghost use Rattle.farkas_cert.specs.Constraints.{constraint_of as meant_constraint};
 ghost use Rattle.formula_meaning.specs.Atom as meant;
-ghost use Rattle.session_meaning.specs.Certificates.{tree_constraint, atom_constraint, constraints_of as meant_constraints};
-ghost use Rattle.session_state.specs.Keeping.{state_of, IsSessionState};
-ghost use Rattle.session_state.specs.Growth.{KeepsState};
+ghost use Rattle.problem_reading.specs.FromSessionMeaning.{tree_constraint, atom_constraint, constraints_of as meant_constraints};
+ghost use Rattle.problem_reading.specs.FromSessionState.{state_of, IsSessionState, KeepsState};
 ghost use Rattle.problem_reading.specs.Reading.{AreNumbered};
 ghost use Rattle.certificate_queries.specs.Steps.{AreReady, NoConstraints, cert_refusal};
 
 use atom_normal::{Atom, Context, Rel};
-use command_tools::check_fields;
 use farkas_cert::{Bound, CertError, Constraint};
 use formula_store::FormulaId;
 use formula_tree::Shape;
 use linear_forms::Linear;
-use problem_reading::read_all;
+use problem_reading::{SessionState, StatementError, check_fields, read_all};
 use qe_syntax::Formula;
-use session_meaning::StatementError;
-use session_state::SessionState;
 use std::alloc::{AllocError, Global};
 
 /// The constraints, or the first cause of a refusal before what is calculated with them: in reading, or the theory.

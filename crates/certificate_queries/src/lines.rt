@@ -5,23 +5,17 @@ ghost use Rattle.exact_numbers.specs.Frac.{whole_frac};
 ghost use Rattle.sample_reference.specs.Seen.{values_of as seen_values};
 ghost use Rattle.certificate_search.specs.Certificates.{certificate_of as meant_certificate, value_of, IsWithin, HasNumbersWithin};
 ghost use Rattle.redlog_printer.specs.Writing.{text_limit};
-ghost use Rattle.answer_texts.specs.Answers.{separated};
-ghost use Rattle.answer_texts.specs.Points.{fraction_text, point_text as text_of_point};
-ghost use Rattle.answer_texts.specs.Within.{AreValuesWithin};
-ghost use Rattle.session_meaning.specs.Certificates.{certificate_text as text_of_certificate};
-ghost use Rattle.session_meaning.specs.Reply.{IsLine};
-ghost use Rattle.command_tools.specs.Refusals.{LineFault};
+ghost use Rattle.problem_reading.specs.FromAnswerTexts.{separated, fraction_text, point_text as text_of_point, AreValuesWithin};
+ghost use Rattle.problem_reading.specs.FromSessionMeaning.{certificate_text as text_of_certificate, IsLine};
+ghost use Rattle.problem_reading.specs.FromCommandTools.{LineFault};
 ghost use Rattle.certificate_queries.specs.Steps.{HasNamesWithin};
 
-use answer_texts::point_text;
 use certificate_search::Certificate;
-use command_tools::print_refusal;
 use exact_numbers::Fraction;
 use formula_tree::Names;
 use linear_forms::VarId;
+use problem_reading::{Line, SessionState, StatementError, point_text, print_refusal};
 use redlog_printer::{Output, PrintError};
-use session_meaning::{Line, StatementError};
-use session_state::SessionState;
 use std::alloc::{AllocError, Global};
 
 /// The line of a certificate, if it is printed.

@@ -5,7 +5,7 @@ use Rattle.formula_meaning.specs.Context.{Context}
 use Rattle.formula_meaning.specs.Fold.{folded}
 use Rattle.formula_meaning.specs.declared.junction.Junction.{Junction}
 use Rattle.formula_meaning.specs.Tree.{Tree}
-use Rattle.atom_merging.specs.Computed.{IsNormalWithin}
+use Rattle.simplified_formulas.specs.FromAtomMerging.{IsNormalWithin}
 use Rattle.simplified_formulas.specs.AtomKit.{atom_kit}
 use Rattle.clean_forms.specs.Plain.{together, of_none, distributed}
 use Rattle.clean_forms.specs.Places.{places}

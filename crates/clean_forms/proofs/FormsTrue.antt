@@ -9,7 +9,7 @@ use Rattle.formula_meaning.specs.Fold.{joined, from_pieces}
 use Rattle.formula_meaning.specs.declared.junction.Junction.{Junction}
 use Rattle.formula_meaning.specs.declared.junction.Junction.TheVariants.{Conjunction, Disjunction}
 use Rattle.formula_meaning.proofs.Iff.{both_ways, turn_round}
-use Rattle.atom_merging.specs.Merging.{Joined}
+use Rattle.simplified_formulas.specs.FromAtomMerging.{Joined}
 use Rattle.simplified_formulas.specs.Kit.{Kit}
 use Rattle.simplified_formulas.specs.Orderly.{IsOrderly, AreOrderly}
 use Rattle.simplified_formulas.specs.AtomsFirst.{ones}

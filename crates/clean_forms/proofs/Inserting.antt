@@ -2,7 +2,7 @@
 use Rattle.std.proofs.Common.{◌≡◌, ℕ, zero, suc, ◌+◌, ◌≤◌, Option, None, Some, List, [], ◌∷◌, ◌++◌, length, refl, ap, arith, length-append}
 use Rattle.formula_meaning.specs.Some.{EachOf}
 use Rattle.formula_meaning.specs.declared.junction.Junction.{Junction}
-use Rattle.atom_merging.specs.Computed.{Merging, Settled, Into, Kept}
+use Rattle.simplified_formulas.specs.FromAtomMerging.{Merging, Settled, Into, Kept}
 use Rattle.simplified_formulas.specs.Kit.{Kit}
 use Rattle.clean_forms.specs.Lines.{Met, Alone, Void, Meets, met, resolved, partner, insert, insert_into, insert_all}
 use Rattle.clean_forms.specs.Clean.{IsUnmerged}

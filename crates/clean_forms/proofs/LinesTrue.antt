@@ -5,8 +5,7 @@ use Rattle.formula_meaning.specs.Some.{EachOf}
 use Rattle.formula_meaning.specs.declared.junction.Junction.{Junction}
 use Rattle.formula_meaning.specs.declared.junction.Junction.TheVariants.{Conjunction, Disjunction}
 use Rattle.formula_meaning.proofs.Iff.{both_ways, turn_round}
-use Rattle.atom_merging.specs.Merging.{Joined}
-use Rattle.atom_merging.specs.Computed.{Merging, Settled, Into, Kept}
+use Rattle.simplified_formulas.specs.FromAtomMerging.{Joined, Merging, Settled, Into, Kept}
 use Rattle.simplified_formulas.specs.Kit.{Kit}
 use Rattle.simplified_formulas.proofs.Joining.{Nothing, Settling, same, along_both, along_right, along_left, group, swap, exchange, again, nothing_more, settled_left, settled_right}
 use Rattle.clean_forms.specs.Ways.{dual}

@@ -8,8 +8,7 @@ use Rattle.formula_meaning.specs.Fold.{folded}
 use Rattle.formula_meaning.specs.declared.junction.Junction.{Junction}
 use Rattle.formula_meaning.specs.Tree.{Tree, IsFree}
 use Rattle.formula_meaning.proofs.Same.{atom_alike}
-use Rattle.atom_merging.specs.Merging.{IsKept}
-use Rattle.atom_merging.specs.Computed.{IsNormalWithin}
+use Rattle.simplified_formulas.specs.FromAtomMerging.{IsKept, IsNormalWithin}
 use Rattle.formula_meaning.specs.Within.{IsAtomWithin}
 use Rattle.simplified_formulas.specs.Orderly.{IsOrderly}
 use Rattle.simplified_formulas.specs.AtomKit.{atom_kit}

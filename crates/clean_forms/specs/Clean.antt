@@ -5,7 +5,7 @@ use Rattle.formula_meaning.specs.Some.{EachOf, Among}
 use Rattle.formula_meaning.specs.Context.{Context}
 use Rattle.formula_meaning.specs.Tree.{Tree}
 use Rattle.formula_meaning.specs.declared.junction.Junction.{Junction}
-use Rattle.atom_merging.specs.Merging.{IsKept}
+use Rattle.simplified_formulas.specs.FromAtomMerging.{IsKept}
 use Rattle.clean_forms.specs.Ways.{form_of_lines}
 
 module _ {A : Type 0} where

@@ -9,7 +9,7 @@ use Rattle.formula_meaning.specs.Shape.{IsQuantifierFree}
 use Rattle.formula_meaning.specs.Sizes.{nodes}
 use Rattle.formula_meaning.specs.Tree.{Tree, IsFree}
 use Rattle.formula_meaning.specs.Equivalence.{Equivalent}
-use Rattle.redlog_printer.specs.Text.{tree_text}
+use Rattle.simplified_texts.specs.FromRedlogPrinter.{tree_text}
 use Rattle.formula_meaning.specs.Within.{IsAtomWithin}
 use Rattle.simplified_formulas.specs.AtomKit.{atom_kit}
 use Rattle.simplified_formulas.specs.Simplifiable.{IsSimplifiable}

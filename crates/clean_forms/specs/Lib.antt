@@ -5,3 +5,4 @@ pub mod Lines
 pub mod Clean
 pub mod Counts
 pub mod Laws
+pub mod FromSimplifiedTexts

@@ -3,7 +3,7 @@ use Rattle.std.specs.Prelude.{ℕ, zero, suc, Bool, true, false, ◌&&◌, ◌||
 use Rattle.formula_meaning.specs.Formula.{Formula, Formulas, Yes, No, One, Not, And, Or, Impl, Repl, Equiv, Ex, All, none, also}
 use Rattle.formula_meaning.specs.declared.junction.Junction.{Junction}
 use Rattle.formula_meaning.specs.declared.junction.Junction.TheVariants.{Conjunction, Disjunction}
-use Rattle.atom_merging.specs.Computed.{Merging, Settled, Into, Kept}
+use Rattle.simplified_formulas.specs.FromAtomMerging.{Merging, Settled, Into, Kept}
 use Rattle.simplified_formulas.specs.Kit.{Kit}
 use Rattle.clean_forms.specs.Ways.{is_same, form_of_lines}
 use Rattle.clean_forms.specs.Plain.{of_none}

@@ -2,15 +2,15 @@
 use Rattle.std.specs.Prelude.{◌≡◌, ◌⊎◌, ◌<◌, ℕ, List, Bool, true, length}
 use Rattle.redlog_tokens.specs.declared.token.ReadError.{ReadError}
 use Rattle.redlog_tokens.specs.declared.token.ReadError.TheVariants as reading
-use Rattle.formula_resolving.specs.declared.error.StaticError.{StaticError}
-use Rattle.formula_resolving.specs.declared.error.StaticError.TheVariants as static
-use Rattle.plain_engine.specs.declared.measured.Measured.{Measured}
-use Rattle.plain_engine.specs.declared.measured.Measured.TheVariants as measured
+use Rattle.shared_forms.specs.FromFormulaResolving.{StaticError}
+use Rattle.shared_forms.specs.FromFormulaResolving.static_error_variants as static
+use Rattle.shared_forms.specs.FromPlainEngine.{Measured}
+use Rattle.shared_forms.specs.FromPlainEngine.measured_variants as measured
 use Rattle.redlog_printer.specs.declared.error.PrintError.{PrintError}
 use Rattle.redlog_printer.specs.declared.error.PrintError.TheVariants as print
 use Rattle.redlog_printer.specs.Writing.{text_limit}
-use Rattle.session_meaning.specs.declared.line.StatementError.{StatementError}
-use Rattle.session_meaning.specs.declared.line.StatementError.TheVariants as error
+use Rattle.shared_forms.specs.FromSessionMeaning.{StatementError}
+use Rattle.shared_forms.specs.FromSessionMeaning.statement_error_variants as error
 use Rattle.shared_forms.specs.declared.error.FormsError.{FormsError}
 use Rattle.shared_forms.specs.declared.error.FormsError.TheVariants as forms
 

@@ -2,15 +2,8 @@
 use Rattle.std.specs.Prelude.{◌≡◌, ◌≢◌, ℕ, List, Bool, Option, Some, None}
 use Rattle.formula_meaning.specs.Tree.{Tree}
 use Rattle.statement_syntax.specs.Statements.{CommandTree, ActionTree, Empty, Ignored, Finish, Choose, Say, Assign, Assume, Retract, StatementTree}
-use Rattle.session_meaning.specs.declared.line.Line.{Line}
-use Rattle.session_meaning.specs.declared.line.StatementError.{StatementError}
-use Rattle.session_meaning.specs.declared.line.StatementError.TheVariants as error
-use Rattle.session_meaning.specs.State.{State, with_names, with_bound}
-use Rattle.session_meaning.specs.Meaning.{meaning, MayGive}
-use Rattle.session_meaning.specs.FormulaGiven.{GivesFormula}
-use Rattle.session_meaning.specs.Uses.{Use, formula_line}
-use Rattle.session_meaning.specs.Causes.{IsTooLarge, IsAccepted, IsFirst}
-use Rattle.session_meaning.specs.Reply.{IsLine, Tells, RefusesAction}
+use Rattle.shared_forms.specs.FromSessionMeaning.{Line, StatementError, State, with_names, with_bound, meaning, MayGive, GivesFormula, Use, formula_line, IsTooLarge, IsAccepted, IsFirst, IsLine, Tells, RefusesAction}
+use Rattle.shared_forms.specs.FromSessionMeaning.statement_error_variants as error
 
 -- what is done with what a command gives
 abbrev pub use_of : Option (List ℕ) → Bool → Use

@@ -3,18 +3,15 @@
 ghost use Rattle.std.specs.Prelude.{◌≡◌, ◌⊎◌, ◌<◌, ◌≤◌, length, IfOk, IfErr, OnOk};
 ghost use Rattle.formula_meaning.specs.Members.{HasTwoMembers};
 ghost use Rattle.formula_meaning.specs.Within.{IsTreeWithin};
-ghost use Rattle.formula_store.specs.Nodes.{tree, IsId};
+ghost use Rattle.stored_texts.specs.FromFormulaStore.{tree, IsId};
 ghost use Rattle.redlog_printer.specs.Text.{tree_text};
 ghost use Rattle.redlog_printer.specs.Writing.{text_limit};
-ghost use Rattle.session_meaning.specs.Reply.{IsLine};
-ghost use Rattle.session_meaning.specs.Words.{truth_text};
+ghost use Rattle.shared_forms.specs.FromSessionMeaning.{IsLine, truth_text};
 
 use crate::refusals::print_refusal;
-use formula_store::FormulaId;
-use session_meaning::{Line, StatementError};
-use session_state::SessionState;
+use shared_forms::{Line, SessionState, StatementError};
 use std::alloc::Global;
-use stored_texts::stored_text;
+use stored_texts::{FormulaId, stored_text};
 
 /// The line that is this text, if it is printed.
 pub fn printed_line(alloc: Global, text: &[u8], printed: bool) -> Result<Line, StatementError>

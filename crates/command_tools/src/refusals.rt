@@ -4,11 +4,8 @@ ghost use Rattle.std.specs.Prelude.{◌≡◌};
 ghost use Rattle.command_tools.specs.Refusals.{static_refusal as refusal_of_static, forms_refusal as refusal_of_forms};
 ghost use Rattle.command_tools.specs.Refusals.{print_refusal as refusal_of_print, measured_refusal as refusal_of_measured};
 
-use formula_resolving::StaticError;
-use plain_engine::Measured;
 use redlog_printer::PrintError;
-use session_meaning::StatementError;
-use shared_forms::FormsError;
+use shared_forms::{FormsError, Measured, StatementError, StaticError};
 
 /// A refusal of a formula that is not resolved.
 pub fn static_refusal(error: StaticError) -> StatementError

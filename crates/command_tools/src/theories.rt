@@ -5,7 +5,7 @@ ghost use Rattle.formula_meaning.specs.Context.{Fields, Integers};
 ghost use Rattle.atom_normal.specs.Atoms.{context_of};
 
 use atom_normal::Context;
-use session_meaning::StatementError;
+use shared_forms::StatementError;
 
 /// Whether the theory is that of the ordered fields.
 pub fn check_fields(context: Context) -> Result<(), StatementError>

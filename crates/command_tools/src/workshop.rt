@@ -3,8 +3,7 @@
 ghost use Rattle.std.specs.Prelude.{◌≡◌};
 
 use qe_parallel::Gate;
-use session_state::SessionState;
-use shared_forms::{Engine, Limits};
+use shared_forms::{Engine, Limits, SessionState};
 use std::thread::Threads;
 
 /// What the eliminations and grids of statements are worked with: the limits of the session, and a runtime whose threads a gate lets through.

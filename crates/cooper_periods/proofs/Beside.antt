@@ -4,7 +4,7 @@ use Rattle.std.specs.Int.Signed.{lt_z, lt_z_yes, lt_z_no}
 use Rattle.std.specs.Int.{w128}
 use Rattle.exact_numbers.proofs.Casts.{read_back}
 use Rattle.elimination_theory.proofs.LowestTerms.{natural}
-use Rattle.linear_forms.specs.Combinations.{IsLinear}
+use Rattle.atom_normal.specs.FromLinearForms.{IsLinear}
 use Rattle.test_points.proofs.Forms.{coefficient_within}
 use Rattle.std.proofs.Math.IntN.{ℤ, pos, negsuc, neg_ℤ, ◌+ℤ◌, ◌-ℤ◌, ◌*ℤ◌}
 use Rattle.std.specs.Prelude.{◌<ℤ◌, ◌≤ℤ◌}

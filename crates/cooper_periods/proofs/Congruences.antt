@@ -17,8 +17,8 @@ use Rattle.elimination_theory.specs.Substitution.{form_at, where_zero}
 use Rattle.elimination_theory.specs.IntegersSubstitution.{put_number}
 use Rattle.elimination_theory.proofs.LowestTerms.{natural}
 use Rattle.formula_meaning.specs.Limits.{is_within, sum_within, combination_within}
-use Rattle.elimination_reference.specs.Limits.{normal_within}
-use Rattle.linear_forms.specs.Combinations.{IsCombination}
+use Rattle.test_points.specs.FromEliminationReference.{normal_within}
+use Rattle.atom_normal.specs.FromLinearForms.{IsCombination}
 use Rattle.atom_normal.specs.NormalForm.{normal_atom}
 use Rattle.test_points.specs.Substituted.{put_at, put_within}
 use Rattle.elimination_theory.proofs.WithinTests.{within_tests, sum_tests, combination_tested, combination_refused}

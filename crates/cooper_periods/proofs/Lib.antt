@@ -8,3 +8,7 @@ pub mod PointLaws
 pub mod Rows
 pub mod Steps
 pub mod Whole
+pub mod FromAtomNormal
+pub mod FromEliminationReference
+pub mod FromEliminationTheory
+pub mod FromTestPoints

@@ -14,7 +14,7 @@ use Rattle.elimination_theory.proofs.IntegerSuffice.{integer_points_suffice}
 use Rattle.elimination_theory.proofs.IntegerHolds.{atom_holds}
 use Rattle.elimination_theory.proofs.IntegerEliminate.{points_suit}
 use Rattle.elimination_theory.proofs.IntegersNames.{integer_substitution_names, integer_point_names}
-use Rattle.elimination_reference.proofs.Tidy.{normaliser}
+use Rattle.test_points.proofs.FromEliminationReference.{normaliser}
 use Rattle.atom_normal.specs.NormalForm.{normal_atom}
 use Rattle.atom_normal.specs.Atoms.{atom_of}
 use Rattle.test_points.specs.declared.points.TestPoint.{TestPoint}

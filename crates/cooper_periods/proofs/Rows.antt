@@ -14,7 +14,7 @@ use Rattle.formula_meaning.proofs.Sorted.{sorted_determined, scale_sorted}
 use Rattle.elimination_theory.specs.IntegersPoints.{signed, counted}
 use Rattle.elimination_theory.specs.declared.side.Side.{Side}
 use Rattle.exact_numbers.proofs.Casts.{read_back}
-use Rattle.linear_forms.specs.Combinations.{IsLinear, IsCombination}
+use Rattle.atom_normal.specs.FromLinearForms.{IsLinear, IsCombination}
 
 -- a number more
 counted_last : (first n : ℕ) → counted first (suc n) ≡ counted first n ++ (first + n) ∷ []

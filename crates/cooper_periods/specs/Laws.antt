@@ -18,7 +18,7 @@ use Rattle.elimination_theory.specs.IntegersTheorems.{Suits}
 use Rattle.elimination_theory.specs.IntegerPlace.{IsIntegerPlace}
 use Rattle.elimination_theory.specs.NamesTheorems.{IsNameOf}
 use Rattle.elimination_theory.specs.Steps.{atom_at, normalised}
-use Rattle.linear_forms.specs.declared.form.VarId.{VarId}
+use Rattle.atom_normal.specs.FromLinearForms.{VarId}
 use Rattle.atom_normal.specs.NormalForm.{normal_atom}
 use Rattle.atom_normal.specs.Atoms.{atom_of, tree_of}
 use Rattle.atom_normal.specs.declared.atoms.Atom.{Atom}

@@ -10,9 +10,8 @@ ghost use Rattle.atom_normal.specs.Atoms.{tree_of, IsWellFormedNormal};
 ghost use Rattle.test_points.specs.Points.{IsTestPoint};
 ghost use Rattle.test_points.specs.Substituted.{put_at, put_within};
 
-use atom_normal::{Atom, Context, Normal};
+use atom_normal::{Atom, Context, LinError, Linear, Normal, VarId};
 use exact_numbers::{product, sum};
-use linear_forms::{LinError, Linear, VarId};
 use std::alloc::Global;
 use test_points::{PointError, TestPoint, form_at, in_normal_form, rest};
 

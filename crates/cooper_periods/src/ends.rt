@@ -14,9 +14,8 @@ ghost use Rattle.cooper_periods.specs.Starts.{beside_end, beside_atom};
 use crate::runs::{first_number, push_run, scaled, signed};
 use crate::scales::Period;
 use crate::starts::first_step;
-use atom_normal::{Atom, Rel};
+use atom_normal::{Atom, LinError, Linear, Rel, VarId};
 use exact_numbers::sum;
-use linear_forms::{LinError, Linear, VarId};
 use std::alloc::Global;
 use test_points::{PointError, Side, TestPoint, quotient, rest, seen};
 

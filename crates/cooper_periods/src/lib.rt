@@ -11,8 +11,12 @@ mod spans;
 mod starts;
 mod substitution;
 
+pub use atom_normal::{Atom, Context, Normal, VarId};
 pub use laws::{integer_points_suffice, integer_substitution_is_exact};
 pub use points::{integer_points, points_count};
 pub use scales::Period;
 pub use spans::period;
 pub use substitution::{guard, substitute_integer};
+pub use test_points::{
+    Place, PointError, Side, TestPoint, field_points, in_normal_form, substitute_field,
+};

@@ -14,8 +14,7 @@ use crate::ends::push_atoms;
 use crate::runs::push_classes;
 use crate::scales::Period;
 use crate::starts::has_end;
-use atom_normal::Atom;
-use linear_forms::VarId;
+use atom_normal::{Atom, VarId};
 use std::alloc::{AllocError, Global};
 use test_points::{PointError, Side, TestPoint, distinct_points, quotient};
 

@@ -4,12 +4,12 @@ ghost use Rattle.exact_numbers.specs.Limit.{InLimit, PastLimit};
 ghost use Rattle.formula_meaning.specs.Form.{Form, coefficient, scale};
 ghost use Rattle.formula_meaning.specs.Answer.{Exact, Periodic};
 ghost use Rattle.elimination_theory.specs.IntegersPoints.{signed, class_points};
-ghost use Rattle.linear_forms.specs.Combinations.{IsLinear};
+ghost use Rattle.atom_normal.specs.FromLinearForms.{IsLinear};
 ghost use Rattle.test_points.specs.Points.{place_of, IsPointOf};
 ghost use Rattle.cooper_periods.specs.Starts.{run_of};
 
+use atom_normal::{LinError, Linear, VarId};
 use exact_numbers::sum;
-use linear_forms::{LinError, Linear, VarId};
 use std::alloc::{AllocError, Global};
 use test_points::{Place, Side, TestPoint, push_point};
 

@@ -8,9 +8,8 @@ ghost use Rattle.atom_normal.specs.Atoms.{atom_of, IsWellFormed};
 ghost use Rattle.cooper_periods.specs.Periods.{IsPeriodOf, IsReached, with_span};
 
 use crate::scales::Period;
-use atom_normal::Atom;
+use atom_normal::{Atom, VarId};
 use exact_numbers::{lcm, product};
-use linear_forms::VarId;
 use test_points::{PointError, quotient};
 
 // The least common multiple of a number and of the absolute value of a coefficient, if that is not 0.

@@ -3,8 +3,7 @@ ghost use Rattle.std.specs.Prelude.{◌≡◌};
 ghost use Rattle.atom_normal.specs.Atoms.{atom_of, relation_of};
 ghost use Rattle.cooper_periods.specs.Starts.{first_step, has_end};
 
-use atom_normal::{Atom, Rel};
-use linear_forms::VarId;
+use atom_normal::{Atom, Rel, VarId};
 use test_points::{Side, seen};
 
 // By how much the first whole number lies behind the end of an interval at which the relation begins to be true, for the

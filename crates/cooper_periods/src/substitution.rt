@@ -4,7 +4,7 @@ ghost use Rattle.formula_meaning.specs.Context.{Integers};
 ghost use Rattle.elimination_theory.specs.IntegerPlace.{IsIntegerPlace};
 ghost use Rattle.elimination_theory.specs.BothTheories.{guard_of};
 ghost use Rattle.elimination_theory.specs.Steps.{atom_at, normalised};
-ghost use Rattle.elimination_reference.specs.Limits.{atom_within};
+ghost use Rattle.test_points.specs.FromEliminationReference.{atom_within};
 ghost use Rattle.atom_normal.specs.NormalForm.{normal_atom};
 ghost use Rattle.atom_normal.specs.Atoms.{atom_of, tree_of, IsWellFormed, IsWellFormedNormal};
 ghost use Rattle.test_points.specs.Points.{place_of, IsTestPoint};

@@ -1,7 +1,7 @@
 -- Worked examples of the reference elimination, by hand. The names x, y, a, b and c are 0, 1, 2, 3 and 4.
 use Rattle.std.proofs.Common.{None, Some, [], if◌then◌else◌, nat_eq, refl, true, ℕ, ◌∷◌, ◌≡◌}
 use Rattle.std.proofs.Math.IntN.{ℤ, pos, negsuc, neg_ℤ}
-use Rattle.exact_numbers.specs.Divides.{content_of, gcd_of, lcm_of, euclid}
+use Rattle.formula_meaning.specs.FromExactNumbers.{content_of, gcd_of, lcm_of, euclid, checked}
 use Rattle.formula_meaning.specs.Context.{Fields, Integers}
 use Rattle.formula_meaning.specs.Formula.{Yes, No, One, And, Or, Ex, All, none, also}
 use Rattle.formula_meaning.specs.NegationNormal.{both}
@@ -13,9 +13,7 @@ use Rattle.formula_meaning.specs.Tree.{Tree}
 use Rattle.elimination_theory.specs.FieldsExample.{named, difference, multiple_of}
 use Rattle.elimination_theory.specs.Answers.{zero_place}
 use Rattle.elimination_theory.specs.FieldsPoints.{form_over}
-use Rattle.exact_numbers.specs.Limit.{checked}
-use Rattle.linear_forms.specs.Terms.{value_steps, total_steps}
-use Rattle.linear_forms.specs.Reduction.{quotient, residue_form}
+use Rattle.atom_normal.specs.FromLinearForms.{value_steps, total_steps, quotient, residue_form}
 use Rattle.atom_normal.specs.NormalForm.{normal_atom}
 use Rattle.formula_meaning.specs.Measured.{done, stopped, Nodes, Overflow}
 use Rattle.elimination_reference.specs.Reference.{reference}

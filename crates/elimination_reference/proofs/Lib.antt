@@ -14,3 +14,6 @@ pub mod PutMatrix
 pub mod Limits
 pub mod Turned
 pub mod Over
+pub mod FromAtomNormal
+pub mod FromEliminationTheory
+pub mod FromLinearForms

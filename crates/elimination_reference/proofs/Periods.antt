@@ -4,11 +4,8 @@ use Rattle.std.proofs.Math.IntN.{ℤ, pos, negsuc, ◌-ℤ◌, ◌*ℤ◌}
 use Rattle.std.specs.Prelude.{◌<ℤ◌, int_div, unsigned_abs}
 use Rattle.std.specs.Ordering.{int_cmp, int_eq, is_gt}
 use Rattle.std.proofs.lemmas.Int.{ints}
-use Rattle.exact_numbers.specs.Divides.{Divides, content_of, floor_of, residue_of}
-use Rattle.exact_numbers.proofs.Ring.{mul_assoc, sub_mul}
-use Rattle.exact_numbers.proofs.Divisibility.{divides_along, divides_sub, divides_mul, divides_mul_left, cancel_divides}
-use Rattle.exact_numbers.proofs.LeastMultiple.{exact_div}
-use Rattle.exact_numbers.proofs.Order.{factor_positive}
+use Rattle.formula_meaning.specs.FromExactNumbers.{Divides, content_of, floor_of, residue_of}
+use Rattle.formula_meaning.proofs.FromExactNumbers.{mul_assoc, sub_mul, divides_along, divides_sub, divides_mul, divides_mul_left, cancel_divides, exact_div, factor_positive}
 use Rattle.formula_meaning.specs.Context.{Context, Fields, Integers}
 use Rattle.formula_meaning.specs.Formula.{Yes, No, One}
 use Rattle.formula_meaning.specs.Form.{Form, Term, coefficient, scale}
@@ -19,11 +16,8 @@ use Rattle.formula_meaning.specs.Every.{Every}
 use Rattle.formula_meaning.proofs.Coefficients.{coefficient_scale}
 use Rattle.formula_meaning.proofs.Gathered.{coefficient_gathered, gathered_sorted}
 use Rattle.formula_meaning.proofs.Sorted.{scale_sorted}
-use Rattle.linear_forms.specs.Terms.{coefficients}
-use Rattle.linear_forms.specs.Reduction.{quotient, quotients, residue_form}
-use Rattle.linear_forms.proofs.Reduced.{residue_sorted}
-use Rattle.linear_forms.proofs.Quotients.{multiple_quotients, sorted_quotient}
-use Rattle.linear_forms.proofs.Residues.{residue_apart, multiple_residues}
+use Rattle.atom_normal.specs.FromLinearForms.{coefficients, quotient, quotients, residue_form}
+use Rattle.atom_normal.proofs.FromLinearForms.{residue_sorted, multiple_quotients, sorted_quotient, residue_apart, multiple_residues}
 use Rattle.elimination_theory.specs.IntegersTheorems.{IsPeriodOf}
 use Rattle.elimination_theory.specs.Samples.{KeepsPeriods}
 use Rattle.atom_normal.specs.NormalForm.{constant_tree, holds, turned, facing, bound, rounded, first, smaller, congruence, coprime_congruence, reduced_congruence, congruent, normal_atom, compared_over_integers}

@@ -4,7 +4,7 @@ use Rattle.std.proofs.Math.IntN.{ℤ, pos, ◌+ℤ◌, ◌*ℤ◌}
 use Rattle.std.specs.Prelude.{◌<ℤ◌}
 use Rattle.std.proofs.lemmas.Int.{ints}
 use Rattle.std.proofs.lemmas.Bool.{eq-eqb}
-use Rattle.exact_numbers.proofs.Ring.{ring, mul_comm, mul_assoc, mul_one, mul_zero, zero_mul}
+use Rattle.formula_meaning.proofs.FromExactNumbers.{ring, mul_comm, mul_assoc, mul_one, mul_zero, zero_mul}
 use Rattle.formula_meaning.specs.Context.{Context, Fields, Integers, Allowed}
 use Rattle.formula_meaning.specs.Point.{Point, Of, move}
 use Rattle.formula_meaning.specs.Formula.{Yes, No, One, Not, And, Or, Impl, Repl, Equiv, Ex, All, none, also}

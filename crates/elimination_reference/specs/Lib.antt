@@ -11,3 +11,6 @@ pub mod LimitLaws
 pub mod Turned
 pub mod Over
 pub mod CasesOver
+pub mod FromAtomNormal
+pub mod FromEliminationTheory
+pub mod FromLinearForms

@@ -1,6 +1,6 @@
 -- Numbers of atoms within a limit.
 use Rattle.std.specs.Prelude.{◌≡◌, ℕ, pos}
-use Rattle.exact_numbers.specs.Limit.{InLimit}
+use Rattle.formula_meaning.specs.FromExactNumbers.{InLimit}
 use Rattle.formula_meaning.specs.Context.{Context}
 use Rattle.formula_meaning.specs.Formula.{One}
 use Rattle.formula_meaning.specs.Form.{coefficient}

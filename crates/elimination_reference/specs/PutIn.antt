@@ -7,7 +7,7 @@ use Rattle.formula_meaning.specs.Form.{Form, Term}
 use Rattle.formula_meaning.specs.Atom.{Atom, Compare, Congruent, form_of}
 use Rattle.formula_meaning.specs.Shape.{is_in}
 use Rattle.formula_meaning.specs.Tree.{Tree, Trees}
-use Rattle.linear_forms.specs.Terms.{value_steps}
+use Rattle.atom_normal.specs.FromLinearForms.{value_steps}
 use Rattle.atom_normal.specs.NormalForm.{normal_atom}
 use Rattle.formula_meaning.specs.Limits.{each, is_within}
 use Rattle.elimination_reference.specs.Limits.{normal_within}

@@ -10,6 +10,9 @@ ghost use Rattle.elimination_reference.specs.Turned.{AllIsNegatedEx};
 ghost use Rattle.elimination_reference.specs.CasesOver.{CasesHaveAnswers, CasesAreOver};
 ghost use Rattle.elimination_reference.specs.Theorems.{ReferenceIsExact, CostBoundsNodes, CasesAreExact, PuttingInIsExact, TruthIsTold, SamplesAreExact};
 
+pub use atom_normal::{Atom, AtomError, Context, LinError, Linear, Normal, Rel, VarId, normal};
+pub use elimination_theory::Side;
+
 /// Of a formula over normal atoms, the reference elimination gives an equivalent one without quantifiers, over its free names,
 /// built by `and` and `or` with two members at least from normal atoms.
 pub fn reference_is_exact()

@@ -24,31 +24,23 @@ use Rattle.elimination_reference.specs.Reference.{normal_tree, turned, branches}
 use Rattle.elimination_reference.specs.Sample.{first_true}
 use Rattle.elimination_reference.specs.Theorems.{Says as SaysAll}
 use Rattle.elimination_reference.proofs.CasesExact.{says}
-use Rattle.case_theory.proofs.Lists.{once_head}
+use Rattle.block_scheduler.proofs.FromCaseTheory.{once_head, without_all_each}
 use Rattle.sample_reference.specs.Sample.{sampled, reference_sample}
 use Rattle.sample_reference.specs.TrueSample.{IsTrueSample}
 use Rattle.sample_reference.specs.Seen.{value_of, values_of}
 use Rattle.sample_reference.specs.Values.{Value, value_names, with_values}
-use Rattle.sample_theory.specs.Reordered.{AreReordered}
-use Rattle.shared_elimination.proofs.FormAgain.{normal_tree_again}
-use Rattle.plain_engine.specs.declared.measured.Measured.{Measured}
-use Rattle.plain_engine.specs.declared.measured.Measured.TheVariants as measured
-use Rattle.plain_engine.specs.Told.{StopsWith}
-use Rattle.case_theory.specs.CaseTree.{without_all, SaysUnder}
-use Rattle.case_theory.proofs.Without.{without_all_each}
-use Rattle.case_theory.specs.CaseTree.{IsCaseUnder}
+use Rattle.sample_answers.specs.FromSampleTheory.{AreReordered, IsSampleable, AreTrueAnswers, IsTrueCase}
+use Rattle.block_scheduler.proofs.FromSharedElimination.{normal_tree_again}
+use Rattle.block_scheduler.specs.FromPlainEngine.{Measured, StopsWith}
+use Rattle.block_scheduler.specs.FromPlainEngine.measured_variants as measured
+use Rattle.block_scheduler.specs.FromCaseTheory.{without_all, SaysUnder, IsCaseUnder}
 use Rattle.formula_tree.specs.declared.shape.Shape.{Shape}
 use Rattle.formula_store.specs.declared.id.FormulaId.{FormulaId}
 use Rattle.formula_store.specs.Nodes.{tree}
 use Rattle.formula_store.specs.Truths.{Tells}
-use Rattle.test_points.specs.Points.{answer_of, IsTestPoint}
-use Rattle.case_trees.specs.declared.case_tree.Case.{Case}
-use Rattle.case_trees.specs.declared.case_tree.CaseTree.{CaseTree}
-use Rattle.case_trees.specs.CaseTrees.{case_seen, cases_seen, IsCaseTreeOf}
-use Rattle.sample_theory.specs.Samples.{IsSampleable, AreTrueAnswers}
-use Rattle.sample_theory.specs.Reordered.{IsTrueCase}
-use Rattle.sample_theory.proofs.Cases.{case_sampleable}
-use Rattle.sample_theory.proofs.Reordered.{case_gives}
+use Rattle.block_scheduler.specs.FromTestPoints.{answer_of, IsTestPoint}
+use Rattle.block_scheduler.specs.FromCaseTrees.{Case, CaseTree, case_seen, cases_seen, IsCaseTreeOf}
+use Rattle.sample_answers.proofs.FromSampleTheory.{case_sampleable, case_gives}
 use Rattle.engine_answers.specs.Samples.{AreInOrder}
 
 -- ---- values in an order

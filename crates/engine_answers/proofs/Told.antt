@@ -20,12 +20,9 @@ use Rattle.formula_tree.specs.declared.shape.Shape.{Shape}
 use Rattle.formula_store.specs.declared.id.FormulaId.{FormulaId}
 use Rattle.formula_store.specs.Nodes.{tree, IsId}
 use Rattle.formula_store.specs.Truths.{Tells}
-use Rattle.case_theory.specs.CaseTree.{without_all, IsCaseUnder, SaysUnder}
-use Rattle.case_theory.proofs.Simplified.{plain_free}
-use Rattle.case_theory.proofs.Without.{without_all_each}
-use Rattle.case_trees.specs.declared.case_tree.Case.{Case}
-use Rattle.case_trees.specs.declared.case_tree.CaseTree.{CaseTree}
-use Rattle.case_trees.specs.CaseTrees.{cases_seen, IsCaseTreeOf}
+use Rattle.block_scheduler.specs.FromCaseTheory.{without_all, IsCaseUnder, SaysUnder}
+use Rattle.block_scheduler.proofs.FromCaseTheory.{plain_free, without_all_each}
+use Rattle.block_scheduler.specs.FromCaseTrees.{Case, CaseTree, cases_seen, IsCaseTreeOf}
 use Rattle.engine_answers.specs.Truths.{CanBeTold}
 use Rattle.engine_answers.proofs.Whole.{whole_where_asked}
 

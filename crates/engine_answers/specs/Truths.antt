@@ -5,7 +5,7 @@ use Rattle.formula_tree.specs.declared.shape.Shape.{Shape}
 use Rattle.formula_store.specs.declared.id.FormulaId.{FormulaId}
 use Rattle.formula_store.specs.Nodes.{tree, IsId}
 use Rattle.formula_store.specs.Truths.{IsWholeWhereAsked}
-use Rattle.case_trees.specs.declared.case_tree.Case.{Case}
+use Rattle.block_scheduler.specs.FromCaseTrees.{Case}
 
 -- the guard is a formula of the store without quantifiers, and where it has a congruence the denominator is 1
 pub record CanBeTold (nodes : List (Shape FormulaId)) (denominator : ℤ) (k : Case) : Type 0 where

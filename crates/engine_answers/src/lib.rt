@@ -7,4 +7,8 @@ mod reference_samples;
 mod samples;
 mod truths;
 
+pub use block_scheduler::{
+    Case, CaseTree, Leaf, Limits, Measured, PrintedCase, SimplError, case_leaves, eliminate_shared,
+    guards_together, nnf, share, simplify, unfolded_form,
+};
 pub use engine::Engine;

@@ -6,7 +6,7 @@ ghost use Rattle.formula_meaning.specs.Point.{Of};
 ghost use Rattle.atom_normal.specs.Atoms.{context_of};
 ghost use Rattle.atom_normal.specs.NormalForm.{IsNormal};
 ghost use Rattle.linear_forms.specs.Values.{point_of};
-ghost use Rattle.plain_engine.specs.Told.{StopsWith};
+ghost use Rattle.block_scheduler.specs.FromPlainEngine.{StopsWith};
 ghost use Rattle.formula_tree.specs.Makers.{Keeps};
 ghost use Rattle.formula_store.specs.Nodes.{tree, IsId};
 ghost use Rattle.sample_reference.specs.Sample.{reference_sample};
@@ -14,12 +14,11 @@ ghost use Rattle.sample_reference.specs.TrueSample.{IsTrueSample};
 ghost use Rattle.sample_reference.specs.Seen.{sample_of};
 
 use atom_normal::Context;
+use block_scheduler::{Measured, unfolded_form};
 use exact_numbers::Fraction;
 use formula_store::{FormulaId, Store};
 use linear_forms::{Values, VarId};
-use plain_engine::Measured;
 use plain_samples::sample_at;
-use shared_elimination::unfolded_form;
 use std::alloc::Global;
 
 /// The reference sample of the formula at the point. `Nodes` comes exactly where it costs more than `limit` nodes, and `Overflow`

@@ -9,19 +9,17 @@ ghost use Rattle.atom_normal.specs.Atoms.{context_of};
 ghost use Rattle.atom_normal.specs.NormalForm.{IsNormal};
 ghost use Rattle.linear_forms.specs.Values.{point_of};
 ghost use Rattle.elimination_reference.specs.Sample.{reference_at};
-ghost use Rattle.plain_engine.specs.Told.{StopsWith};
+ghost use Rattle.block_scheduler.specs.FromPlainEngine.{StopsWith};
 ghost use Rattle.formula_tree.specs.Makers.{Keeps};
 ghost use Rattle.formula_store.specs.Nodes.{tree, IsId};
 ghost use Rattle.formula_store.specs.Truths.{Tells};
 ghost use Rattle.engine_answers.specs.Truths.{CanBeTold};
 
 use crate::engine::Engine;
-use case_trees::Case;
+use block_scheduler::{Case, Measured, truth_by_elimination};
 use formula_store::{EvalStop, FormulaId, Store};
 use linear_forms::Values;
-use plain_engine::Measured;
 use qe_parallel::Gate;
-use shared_elimination::truth_by_elimination;
 use std::thread::Threads;
 
 impl<R: Threads + Sync, G: Gate + Sync> Engine<'_, R, G> {

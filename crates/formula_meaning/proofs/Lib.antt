@@ -1,3 +1,4 @@
+mod Examples
 pub mod Iff
 pub mod Values
 pub mod Listed
@@ -23,4 +24,4 @@ pub mod TreeReplacing
 pub mod Fold
 pub mod Equivalence
 pub mod TreeNames
-mod Examples
+pub mod FromExactNumbers

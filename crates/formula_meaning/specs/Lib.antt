@@ -30,3 +30,4 @@ pub mod Answer
 pub mod Limits
 pub mod Measured
 pub mod Giving
+pub mod FromExactNumbers

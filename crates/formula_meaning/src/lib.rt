@@ -9,6 +9,7 @@ ghost use Rattle.formula_meaning.specs.Form.{Form};
 ghost use Rattle.formula_meaning.specs.Tree.{Tree};
 ghost use Rattle.formula_meaning.specs.Laws.{SamePointKeepsTruth, FreeNamesDecideTruth, ReplacingKeepsTruth, NegationNormalFormIsNormal, NegationNormalFormBringsNoName, NegationNormalFormLosesNoName, EquivalenceIsCongruence, QuantifiersDistribute, AbsentNameIsDropped, FoldingKeepsTruth, FoldingBringsNothing, FreeNamesAreListed, GatheringIsExact, SortedFormIsDetermined, SizesAgree, EqualityIsTested};
 
+pub use exact_numbers::{Fraction, compare_fractions, floor_div, gcd, lcm, product, residue, sum};
 pub use junction::Junction;
 pub use quantifier::Quantifier;
 

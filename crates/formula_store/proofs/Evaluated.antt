@@ -6,9 +6,8 @@ use Rattle.formula_meaning.specs.Point.{Point}
 use Rattle.formula_meaning.specs.Formula.{Equiv, One}
 use Rattle.formula_meaning.specs.Atom.{Congruent}
 use Rattle.formula_meaning.specs.Sizes.{subtrees}
-use Rattle.atom_normal.specs.declared.atoms.Atom.{Atom as Code}
-use Rattle.atom_normal.specs.declared.atoms.Atom.TheVariants as atom
-use Rattle.atom_normal.specs.Atoms.{atom_of, IsAskedWhole}
+use Rattle.formula_tree.specs.FromAtomNormal.{Atom as Code, atom_of, IsAskedWhole}
+use Rattle.formula_tree.specs.FromAtomNormal.atom_variants as atom
 use Rattle.formula_meaning.specs.Some.{Among}
 use Rattle.formula_meaning.specs.Tree.{Tree}
 use Rattle.formula_tree.specs.declared.shape.Shape.{Shape}

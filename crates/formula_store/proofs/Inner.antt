@@ -6,7 +6,7 @@ use Rattle.formula_meaning.specs.Some.{SomeOf, Among}
 use Rattle.formula_meaning.specs.Shape.{IsQuantifierFree, AreQuantifierFree}
 use Rattle.formula_meaning.specs.Sizes.{subtrees}
 use Rattle.formula_meaning.specs.Tree.{Tree}
-use Rattle.linear_forms.specs.Values.{Numbers}
+use Rattle.formula_tree.specs.FromLinearForms.{Numbers}
 use Rattle.formula_tree.specs.declared.shape.Shape.{Shape}
 use Rattle.formula_tree.specs.declared.shape.Shape.TheVariants as shape
 use Rattle.formula_tree.specs.Trees.{members}

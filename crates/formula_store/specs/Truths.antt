@@ -8,8 +8,7 @@ use Rattle.formula_meaning.specs.Atom.{Atom, Congruent, form_of}
 use Rattle.formula_meaning.specs.Some.{Among}
 use Rattle.formula_meaning.specs.Sizes.{subtrees}
 use Rattle.formula_meaning.specs.Tree.{Tree, TrueAt}
-use Rattle.linear_forms.specs.Terms.{ValuePasses}
-use Rattle.linear_forms.specs.Values.{Numbers, number_at}
+use Rattle.formula_tree.specs.FromLinearForms.{ValuePasses, Numbers, number_at}
 
 -- the truth is that of the formula at the point, in both theories
 abbrev pub Tells : Bool → Tree → Point ℕ → Type 0

@@ -22,6 +22,7 @@ mod unfold;
 pub use delta::Delta;
 pub use error::{EvalStop, StoreError, Unfold};
 pub use facts::Facts;
+pub use formula_tree::{Names, Shape};
 pub use formulas::Formulas;
 pub use id::FormulaId;
 pub use laws::{

@@ -3,16 +3,12 @@ use Rattle.std.proofs.Common.{◌≡◌, ◌<◌, ◌⊎◌, ◌↔◌, inl, inr
 use Rattle.std.proofs.Math.IntN.{ℤ, pos, neg_ℤ, ◌+ℤ◌, ◌-ℤ◌, ◌*ℤ◌}
 use Rattle.std.specs.Prelude.{◌<ℤ◌, unsigned_abs, Ok}
 use Rattle.std.proofs.lemmas.Int.{ints}
-use Rattle.exact_numbers.specs.Frac.{Frac, IsProper, SameValue, whole_frac, true_sum, negated}
-use Rattle.exact_numbers.proofs.Ring.{ring, mul_one, one_mul}
-use Rattle.exact_numbers.proofs.Order.{mul_positive, cancel_positive}
-use Rattle.exact_numbers.proofs.Divisibility.{abs_sign, sign_abs}
-use Rattle.formula_meaning.specs.Context.{Context}
-use Rattle.formula_meaning.specs.Point.{Point}
-use Rattle.formula_meaning.specs.Form as form
-use Rattle.formula_meaning.specs.Atom as meaning
-use Rattle.formula_meaning.specs.Atom.{Relates}
-use Rattle.formula_meaning.proofs.Relations.{relates_along, relates_zero_mul, relates_difference}
+use Rattle.qe_syntax.specs.FromExactNumbers.{Frac, IsProper, SameValue, whole_frac, true_sum, negated}
+use Rattle.qe_syntax.proofs.FromExactNumbers.{ring, mul_one, one_mul, mul_positive, cancel_positive, abs_sign, sign_abs}
+use Rattle.qe_syntax.specs.FromFormulaMeaning.{Context, Point, Relates}
+use Rattle.qe_syntax.specs.FromFormulaMeaning.form_rules as form
+use Rattle.qe_syntax.specs.FromFormulaMeaning.atom_rules as meaning
+use Rattle.qe_syntax.proofs.FromFormulaMeaning.{relates_along, relates_zero_mul, relates_difference}
 use Rattle.atom_normal.proofs.Relations.{chain, back}
 use Rattle.qe_syntax.specs.Trees.{TermTree}
 use Rattle.qe_syntax.specs.Value.{NamedPoint, HasName, value, IsCongruent}

@@ -7,9 +7,8 @@ use Rattle.std.specs.Cmp.Lexicographic.{pointwise}
 use Rattle.std.specs.Prelude.{nat_eq, ℤ}
 use Rattle.std.specs.Ordering.{int_eq}
 use Rattle.std.specs.declared.cmp.PartialEq.{Ghosts}
-use Rattle.formula_meaning.specs.Form.{Form}
-use Rattle.linear_forms.specs.Equality.{form_eq, form_decides}
-use Rattle.linear_forms.specs.declared.form.VarId.{VarId}
+use Rattle.qe_syntax.specs.FromFormulaMeaning.{Form}
+use Rattle.atom_normal.specs.FromLinearForms.{form_eq, form_decides, VarId}
 use Rattle.atom_normal.specs.declared.atoms.Rel.{Rel}
 use Rattle.atom_normal.specs.declared.atoms.Rel.TheVariants as rel
 use Rattle.atom_normal.specs.declared.atoms.Atom.{Atom}

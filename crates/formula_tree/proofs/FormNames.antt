@@ -2,19 +2,12 @@
 use Rattle.std.proofs.Common.{◌≡◌, ◌<◌, ◌⊎◌, inl, inr, ℕ, zero, suc, List, ◌∷◌, Bool, true, false, Option, Some, None, ap, sym, ◌∙◌, subst, refl, arith, nat_eq, eqb-true, if◌then◌else◌}
 use Rattle.std.proofs.Math.IntN.{ℤ, pos, negsuc, ◌+ℤ◌, ◌*ℤ◌}
 use Rattle.std.specs.Prelude.{◌<ℤ◌, unsigned_abs, int_div, Result, Ok, Err}
-use Rattle.exact_numbers.specs.Divides.{lcm_of, content_of}
-use Rattle.exact_numbers.specs.Frac.{Frac, whole_frac, inverted, power_steps}
-use Rattle.exact_numbers.proofs.Ring.{mul_zero}
-use Rattle.exact_numbers.proofs.Order.{cancel, mul_positive}
-use Rattle.exact_numbers.proofs.Contents.{content_is}
-use Rattle.formula_meaning.specs.Context.{Context, Fields, Integers}
-use Rattle.formula_meaning.specs.Point.{Point}
-use Rattle.formula_meaning.specs.Form.{Form, coefficient, scale, combine}
-use Rattle.formula_meaning.specs.Sorted.{gathered}
-use Rattle.formula_meaning.proofs.Coefficients.{coefficient_combine, coefficient_scale}
-use Rattle.formula_meaning.proofs.Gathered.{coefficient_gathered}
-use Rattle.linear_forms.specs.Reduction.{quotient}
-use Rattle.linear_forms.proofs.Quotients.{multiple_quotients}
+use Rattle.qe_syntax.specs.FromExactNumbers.{lcm_of, content_of, Frac, whole_frac, inverted, power_steps}
+use Rattle.qe_syntax.proofs.FromExactNumbers.{mul_zero, cancel, mul_positive, content_is, lcm_is}
+use Rattle.qe_syntax.specs.FromFormulaMeaning.{Context, Fields, Integers, Point, Form, coefficient, scale, combine, gathered}
+use Rattle.qe_syntax.proofs.FromFormulaMeaning.{coefficient_combine, coefficient_scale, coefficient_gathered}
+use Rattle.atom_normal.specs.FromLinearForms.{quotient}
+use Rattle.atom_normal.proofs.FromLinearForms.{multiple_quotients}
 use Rattle.qe_syntax.specs.declared.tree.Literal.{Literal}
 use Rattle.qe_syntax.specs.declared.tree.Literal.TheVariants.{Fits, Past}
 use Rattle.qe_syntax.specs.Trees.{TermTree}
@@ -26,7 +19,6 @@ use Rattle.formula_tree.proofs.RuleLaw.{bind_ok, ok_same, KeepMeaning, rule_stan
 use Rattle.qe_syntax.proofs.ValueLaw.{inverted_proper}
 use Rattle.formula_tree.proofs.FormSteps.{Stands, number_ok, form_ok, content_not_zero, zero_int_eq}
 use Rattle.formula_tree.proofs.FormValues.{forms_keep}
-use Rattle.exact_numbers.proofs.LeastMultiple.{lcm_is}
 use Rattle.std.specs.Ordering.{int_eq}
 
 -- the point at which each name is 0

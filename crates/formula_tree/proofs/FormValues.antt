@@ -3,10 +3,9 @@ use Rattle.std.proofs.Common.{◌≡◌, ◌<◌, ℕ, List, ap, sym, ◌∙◌,
 use Rattle.std.proofs.Math.IntN.{ℤ, pos, ◌+ℤ◌, ◌*ℤ◌}
 use Rattle.std.specs.Prelude.{◌<ℤ◌, Ok}
 use Rattle.std.proofs.lemmas.Int.{ints}
-use Rattle.exact_numbers.specs.Frac.{whole_frac, negated}
-use Rattle.formula_meaning.specs.Context.{Context}
-use Rattle.formula_meaning.specs.Point.{Point}
-use Rattle.formula_meaning.specs.Form as form
+use Rattle.qe_syntax.specs.FromExactNumbers.{whole_frac, negated}
+use Rattle.qe_syntax.specs.FromFormulaMeaning.{Context, Point}
+use Rattle.qe_syntax.specs.FromFormulaMeaning.form_rules as form
 use Rattle.qe_syntax.specs.declared.tree.Literal.{Literal}
 use Rattle.qe_syntax.specs.declared.tree.Literal.TheVariants.{Fits, Past}
 use Rattle.qe_syntax.specs.Trees.{TermTree, Named}

@@ -1,3 +1,4 @@
+mod ResolvedExamples
 pub mod TreeEquations
 pub mod Shapes
 pub mod Tells
@@ -6,7 +7,6 @@ pub mod Decided
 pub mod RuleLaw
 pub mod FormSteps
 pub mod FormValues
-mod ResolvedExamples
 pub mod PlaceLaws
 pub mod NamePlaces
 pub mod Nowhere
@@ -18,3 +18,5 @@ pub mod ResolvedNames
 pub mod MissingForms
 pub mod LowestForms
 pub mod ResolvedHeight
+pub mod FromAtomNormal
+pub mod FromLinearForms

@@ -6,9 +6,9 @@ use Rattle.std.specs.List.{IsDistinct, AllByRecursion, list_any, fold}
 use Rattle.std.specs.Cmp.Lexicographic.{pointwise_decides}
 use Rattle.std.proofs.lemmas.Cmp.{nat_list_eq_equiv}
 use Rattle.std.proofs.lemmas.Map.Keys.{IsDistinct-push}
-use Rattle.exact_numbers.proofs.Ring.{mul_zero}
-use Rattle.formula_meaning.specs.Point.{move}
-use Rattle.formula_meaning.proofs.SamePoint.{point_same}
+use Rattle.qe_syntax.proofs.FromExactNumbers.{mul_zero}
+use Rattle.qe_syntax.specs.FromFormulaMeaning.{move}
+use Rattle.qe_syntax.proofs.FromFormulaMeaning.{point_same}
 use Rattle.qe_syntax.specs.Value.{NamedPoint, same_name}
 use Rattle.qe_syntax.specs.Valued.{IsIn}
 use Rattle.formula_tree.specs.Names.{with_name}

@@ -2,16 +2,10 @@
 use Rattle.std.proofs.Common.{◌≡◌, bytes_eq, if◌then◌else◌, inl, inr, ⊎_elim, zero, suc, sym, subst, arith, Some, None, List, [], ◌∷◌, codes, true, refl, ℕ, lit≤}
 use Rattle.std.proofs.Math.IntN.{pos, negsuc}
 use Rattle.std.specs.Prelude.{◌^◌, ◌-ℤ◌, Ok, Err}
-use Rattle.exact_numbers.specs.Limit.{checked}
-use Rattle.exact_numbers.specs.Divides.{gcd_of, lcm_of, euclid, content_of}
-use Rattle.exact_numbers.specs.Frac.{inverted, power_steps, product_step}
-use Rattle.formula_meaning.specs.Context.{Fields, Integers}
-use Rattle.formula_meaning.specs.Formula.{Yes, One, Not, And, Or, Ex, also, none}
-use Rattle.formula_meaning.specs.Form.{scale, combine}
-use Rattle.formula_meaning.specs.Sorted.{gathered}
-use Rattle.formula_meaning.specs.Atom as meaning
-use Rattle.formula_meaning.specs.Tree.{Tree}
-use Rattle.linear_forms.specs.Reduction.{quotient, residue_form}
+use Rattle.qe_syntax.specs.FromExactNumbers.{checked, gcd_of, lcm_of, euclid, content_of, inverted, power_steps, product_step}
+use Rattle.qe_syntax.specs.FromFormulaMeaning.{Fields, Integers, Yes, One, Not, And, Or, Ex, also, none, scale, combine, gathered, Tree}
+use Rattle.qe_syntax.specs.FromFormulaMeaning.atom_rules as meaning
+use Rattle.atom_normal.specs.FromLinearForms.{quotient, residue_form}
 use Rattle.atom_normal.specs.NormalForm.{normal_atom}
 use Rattle.qe_syntax.specs.declared.tree.Literal.TheVariants.{Fits, Past}
 use Rattle.qe_syntax.specs.declared.tree.Relation.TheVariants.{Equal, Less, Greater, AtLeast}

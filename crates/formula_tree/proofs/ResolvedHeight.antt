@@ -1,15 +1,9 @@
 -- The height of a resolved formula.
 use Rattle.std.proofs.Common.{◌≡◌, ℕ, suc, max, List, Bool, true, false, Option, Some, None, ap, ap₂, refl}
 use Rattle.std.specs.Prelude.{unsigned_abs, unwrap_or, Result, Ok, Err}
-use Rattle.formula_meaning.specs.Context.{Context}
-use Rattle.formula_meaning.specs.Formula.{Formula, Formulas, Yes, No, One, Not, And, Or, Impl, Repl, Equiv, Ex, All, none, also}
-use Rattle.formula_meaning.specs.Every.{Every, EveryOf}
-use Rattle.formula_meaning.specs.Replaced.{replaced, all_replaced}
-use Rattle.formula_meaning.specs.Sizes.{height, greatest_height}
-use Rattle.formula_meaning.specs.Atom as meaning
-use Rattle.formula_meaning.specs.Tree.{Tree}
-use Rattle.formula_meaning.proofs.EachAtom.{every_all}
-use Rattle.formula_meaning.specs.Plain.{IsAtomic}
+use Rattle.qe_syntax.specs.FromFormulaMeaning.{Context, Formula, Formulas, Yes, No, One, Not, And, Or, Impl, Repl, Equiv, Ex, All, none, also, Every, EveryOf, replaced, all_replaced, height, greatest_height, Tree, IsAtomic}
+use Rattle.qe_syntax.specs.FromFormulaMeaning.atom_rules as meaning
+use Rattle.qe_syntax.proofs.FromFormulaMeaning.{every_all}
 use Rattle.atom_normal.proofs.NormalLaws.{normal_atomic}
 use Rattle.qe_syntax.specs.declared.tree.Relation.{Relation}
 use Rattle.qe_syntax.specs.Trees.{WrittenAtom, Compare, Cong, Ncong, Bound}

@@ -3,15 +3,10 @@ use Rattle.std.proofs.Common.{◌≡◌, ◌⊎◌, inl, inr, ⊎_elim, ℕ, Lis
 use Rattle.std.proofs.Math.IntN.{pos}
 use Rattle.std.specs.Prelude.{unsigned_abs, Ok}
 use Rattle.std.proofs.lemmas.Bool.{cases_eq}
-use Rattle.formula_meaning.specs.Context.{Context, Fields, Integers}
-use Rattle.formula_meaning.specs.Formula.{Formula, Formulas, Yes, No, One, Not, And, Or, Impl, Repl, Equiv, Ex, All}
-use Rattle.formula_meaning.specs.Formula as plain
-use Rattle.formula_meaning.specs.Every.{Every, EveryOf, Free, FreeInSome}
-use Rattle.formula_meaning.specs.Replaced.{replaced, all_replaced}
-use Rattle.formula_meaning.specs.Form.{coefficient}
-use Rattle.formula_meaning.specs.Atom as meaning
-use Rattle.formula_meaning.specs.Tree.{IsFree}
-use Rattle.formula_meaning.proofs.EachAtom.{every_map}
+use Rattle.qe_syntax.specs.FromFormulaMeaning.{Context, Fields, Integers, Formula, Formulas, Yes, No, One, Not, And, Or, Impl, Repl, Equiv, Ex, All, Every, EveryOf, Free, FreeInSome, replaced, all_replaced, coefficient, IsFree}
+use Rattle.qe_syntax.specs.FromFormulaMeaning.formula_rules as plain
+use Rattle.qe_syntax.specs.FromFormulaMeaning.atom_rules as meaning
+use Rattle.qe_syntax.proofs.FromFormulaMeaning.{every_map}
 use Rattle.atom_normal.proofs.NormalLaws.{normal_names}
 use Rattle.qe_syntax.specs.declared.tree.Relation.{Relation}
 use Rattle.qe_syntax.specs.Trees as term

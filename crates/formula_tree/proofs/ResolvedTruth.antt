@@ -3,18 +3,10 @@ use Rattle.std.proofs.Common.{◌≡◌, ◌<◌, ◌⊎◌, ◌↔◌, inl, inr
 use Rattle.std.proofs.Math.IntN.{ℤ, pos}
 use Rattle.std.specs.Prelude.{◌<ℤ◌, unsigned_abs, unwrap_or, Result, Ok, Err}
 use Rattle.std.proofs.lemmas.Int.{ints}
-use Rattle.exact_numbers.specs.Frac.{SameValue, whole_frac}
-use Rattle.formula_meaning.specs.Context.{Context, Fields, Integers, Allowed}
-use Rattle.formula_meaning.specs.Point.{Point, Of, move}
-use Rattle.formula_meaning.specs.Formula.{No}
-use Rattle.formula_meaning.specs.Every.{Every}
-use Rattle.formula_meaning.specs.Atom as meaning
-use Rattle.formula_meaning.specs.Tree.{Tree, TrueAt}
-use Rattle.formula_meaning.proofs.Replacing.{replacing_keeps_truth}
-use Rattle.formula_meaning.proofs.EachAtom.{every_map, every_all}
-use Rattle.formula_meaning.proofs.ReplacedShape.{every_replaced}
-use Rattle.formula_meaning.proofs.SamePoint.{allowed_mul}
-use Rattle.formula_meaning.proofs.Values.{below_move}
+use Rattle.qe_syntax.specs.FromExactNumbers.{SameValue, whole_frac}
+use Rattle.qe_syntax.specs.FromFormulaMeaning.{Context, Fields, Integers, Allowed, Point, Of, move, No, Every, Tree, TrueAt}
+use Rattle.qe_syntax.specs.FromFormulaMeaning.atom_rules as meaning
+use Rattle.qe_syntax.proofs.FromFormulaMeaning.{replacing_keeps_truth, every_map, every_all, every_replaced, allowed_mul, below_move}
 use Rattle.atom_normal.proofs.Relations.{chain, never}
 use Rattle.atom_normal.specs.NormalForm.{normal_atom, IsNormal}
 use Rattle.atom_normal.proofs.NormalLaws.{normal_truth, normal_normal}

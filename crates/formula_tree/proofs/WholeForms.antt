@@ -3,15 +3,9 @@ use Rattle.std.proofs.Common.{◌≡◌, ◌<◌, ℕ, zero, suc, List, ◌∷�
 use Rattle.std.proofs.Math.IntN.{ℤ, pos, ◌*ℤ◌}
 use Rattle.std.specs.Prelude.{◌<ℤ◌, unsigned_abs, int_div, Result, Ok, Err}
 use Rattle.std.proofs.lemmas.Int.{ints}
-use Rattle.exact_numbers.specs.Divides.{Divides, lcm_of, gcd_of, euclid, content_of}
-use Rattle.exact_numbers.specs.Frac.{Frac, IsProper, SameValue, whole_frac, true_power, power_steps}
-use Rattle.exact_numbers.proofs.Order.{mul_positive}
-use Rattle.exact_numbers.proofs.Contents.{content_is}
-use Rattle.exact_numbers.proofs.Divisibility.{divides_both, one_divides}
-use Rattle.exact_numbers.proofs.Powers.{power_outcome}
-use Rattle.formula_meaning.specs.Context.{Integers}
-use Rattle.formula_meaning.specs.Form.{Form, scale, combine}
-use Rattle.formula_meaning.specs.Sorted.{gathered}
+use Rattle.qe_syntax.specs.FromExactNumbers.{Divides, lcm_of, gcd_of, euclid, content_of, Frac, IsProper, SameValue, whole_frac, true_power, power_steps}
+use Rattle.qe_syntax.proofs.FromExactNumbers.{mul_positive, content_is, divides_both, one_divides, power_outcome}
+use Rattle.qe_syntax.specs.FromFormulaMeaning.{Integers, Form, scale, combine, gathered}
 use Rattle.qe_syntax.specs.declared.tree.Literal.{Literal}
 use Rattle.qe_syntax.specs.declared.tree.Literal.TheVariants.{Fits, Past}
 use Rattle.qe_syntax.specs.Trees.{TermTree, Named}

@@ -1,6 +1,6 @@
 -- A formula that no cause of a refusal in reading applies to.
 use Rattle.std.specs.Prelude.{ℕ, List}
-use Rattle.formula_meaning.specs.Context.{Context}
+use Rattle.qe_syntax.specs.FromFormulaMeaning.{Context}
 use Rattle.qe_syntax.specs.Trees.{FormulaTree}
 use Rattle.formula_tree.specs.Resolving.{BoundTrees, place}
 use Rattle.formula_tree.specs.NamesAfter.{names_after}

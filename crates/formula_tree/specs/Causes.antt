@@ -1,12 +1,8 @@
 -- Why a written formula is not resolved: each cause on its own, over the whole formula. number gives the variables their
 -- numbers.
 use Rattle.std.specs.Prelude.{◌≡◌, ℕ, ◌<◌, ◌⊎◌, pos, List, false, unsigned_abs, Some, None, unwrap_or, Result, Ok, Err}
-use Rattle.exact_numbers.specs.Frac.{whole_frac}
-use Rattle.formula_meaning.specs.Context.{Context, Fields, Integers}
-use Rattle.formula_meaning.specs.Formula.{Yes}
-use Rattle.formula_meaning.specs.Replaced.{replaced}
-use Rattle.formula_meaning.specs.Sizes.{height}
-use Rattle.formula_meaning.specs.Tree.{Tree}
+use Rattle.qe_syntax.specs.FromExactNumbers.{whole_frac}
+use Rattle.qe_syntax.specs.FromFormulaMeaning.{Context, Fields, Integers, Yes, replaced, height, Tree}
 use Rattle.atom_normal.specs.NormalForm.{ConstantPasses}
 use Rattle.qe_syntax.specs.declared.tree.Literal.{Literal}
 use Rattle.qe_syntax.specs.declared.tree.Literal.TheVariants.{Fits, Past}

@@ -1,6 +1,6 @@
 -- The fraction rule as a kit of steps.
 use Rattle.std.specs.Prelude.{pos, Ok}
-use Rattle.exact_numbers.specs.Frac.{Frac, whole_frac, negated, lowest, sum_step, product_step}
+use Rattle.qe_syntax.specs.FromExactNumbers.{Frac, whole_frac, negated, lowest, sum_step, product_step}
 use Rattle.qe_syntax.specs.declared.value.EvalError.{EvalError}
 use Rattle.qe_syntax.specs.Value.{NamedPoint}
 use Rattle.qe_syntax.specs.Rule.{stepped, literal_fraction, quotient_step, power_step}

@@ -14,3 +14,5 @@ pub mod Resolving
 pub mod NamesAfter
 pub mod Causes
 pub mod Accepted
+pub mod FromAtomNormal
+pub mod FromLinearForms

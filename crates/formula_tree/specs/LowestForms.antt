@@ -1,6 +1,6 @@
 -- A form with its numbers in lowest terms.
 use Rattle.std.specs.Prelude.{◌≡◌, pos, ◌∷◌}
-use Rattle.exact_numbers.specs.Divides.{content_of}
+use Rattle.qe_syntax.specs.FromExactNumbers.{content_of}
 use Rattle.formula_tree.specs.RationalForms.{RationalForm, numbers_of}
 
 -- no number above 1 divides the denominator and all numbers of the form

@@ -1,9 +1,9 @@
 -- The names after a formula has been read.
 use Rattle.std.specs.Prelude.{ℕ, List}
 use Rattle.std.specs.List.{fold}
-use Rattle.formula_meaning.specs.Formula as plain
-use Rattle.formula_meaning.specs.Atom as meaning
-use Rattle.formula_meaning.specs.Tree as meant
+use Rattle.qe_syntax.specs.FromFormulaMeaning.formula_rules as plain
+use Rattle.qe_syntax.specs.FromFormulaMeaning.atom_rules as meaning
+use Rattle.qe_syntax.specs.FromFormulaMeaning.tree_rules as meant
 use Rattle.qe_syntax.specs.Trees.{FormulaTree}
 use Rattle.formula_tree.specs.Names.{with_name}
 use Rattle.formula_tree.specs.Resolving.{formula_variables}

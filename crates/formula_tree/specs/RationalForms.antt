@@ -2,13 +2,9 @@
 use Rattle.std.specs.Prelude.{ℕ, zero, suc, ℤ, pos, negsuc, ◌*ℤ◌, List, [], ◌∷◌, Bool, true, false, unsigned_abs, int_div, Option, Some, None, Result, Ok, Err, if◌then◌else◌}
 use Rattle.std.specs.List.{list_all}
 use Rattle.std.specs.Ordering.{int_eq}
-use Rattle.exact_numbers.specs.Divides.{lcm_of, content_of}
-use Rattle.exact_numbers.specs.Frac.{Frac, whole_frac, inverted, power_steps}
-use Rattle.formula_meaning.specs.Context.{Context, Fields, Integers}
-use Rattle.formula_meaning.specs.Form.{Form, Term, coefficients, scale, combine}
-use Rattle.formula_meaning.specs.Sorted.{gathered}
-use Rattle.formula_meaning.specs.Limits.{is_within}
-use Rattle.linear_forms.specs.Reduction.{quotient}
+use Rattle.qe_syntax.specs.FromExactNumbers.{lcm_of, content_of, Frac, whole_frac, inverted, power_steps}
+use Rattle.qe_syntax.specs.FromFormulaMeaning.{Context, Fields, Integers, Form, Term, coefficients, scale, combine, gathered, is_within}
+use Rattle.atom_normal.specs.FromLinearForms.{quotient}
 use Rattle.qe_syntax.specs.declared.tree.Literal.{Literal}
 use Rattle.qe_syntax.specs.declared.tree.Literal.TheVariants.{Fits, Past}
 use Rattle.qe_syntax.specs.Trees.{TermTree}

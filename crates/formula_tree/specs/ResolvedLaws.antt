@@ -1,14 +1,9 @@
 -- What is proved of the fraction rule and of resolving, as statements that the functions of this crate promise.
 use Rattle.std.specs.Prelude.{◌≡◌, ℕ, ◌<◌, ◌↔◌, pos, ◌*ℤ◌, ◌<ℤ◌, List, Some, Ok, Err}
 use Rattle.std.specs.List.{IsDistinct}
-use Rattle.exact_numbers.specs.Frac.{Frac, SameValue}
-use Rattle.formula_meaning.specs.Context.{Context}
-use Rattle.formula_meaning.specs.Point.{Point, Of}
-use Rattle.formula_meaning.specs.Form as form
-use Rattle.formula_meaning.specs.Sorted.{IsSorted}
-use Rattle.formula_meaning.specs.Every.{Every}
-use Rattle.formula_meaning.specs.Sizes.{height}
-use Rattle.formula_meaning.specs.Tree.{Tree, TrueAt, IsFree}
+use Rattle.qe_syntax.specs.FromExactNumbers.{Frac, SameValue}
+use Rattle.qe_syntax.specs.FromFormulaMeaning.{Context, Point, Of, IsSorted, Every, height, Tree, TrueAt, IsFree}
+use Rattle.qe_syntax.specs.FromFormulaMeaning.form_rules as form
 use Rattle.atom_normal.specs.NormalForm.{IsNormal}
 use Rattle.qe_syntax.specs.Trees.{TermTree, FormulaTree}
 use Rattle.qe_syntax.specs.Value.{NamedPoint, value, HasName, same_name}

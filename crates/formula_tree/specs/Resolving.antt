@@ -2,14 +2,10 @@
 -- is the normal atom of its form.
 use Rattle.std.specs.Prelude.{◌≡◌, ℕ, pos, List, [], ◌∷◌, ◌++◌, Bool, true, false, unsigned_abs, Option, Some, None, unwrap_or, option_map, slice_get, Result, Ok, Err}
 use Rattle.std.specs.List.{position_or_len}
-use Rattle.formula_meaning.specs.Context.{Context}
-use Rattle.formula_meaning.specs.Point.{Point}
-use Rattle.formula_meaning.specs.Formula.{Yes, No, One, Not, And, Or, Impl, Repl, Equiv, Ex, All}
-use Rattle.formula_meaning.specs.Formula as plain
-use Rattle.formula_meaning.specs.Atom as meaning
-use Rattle.formula_meaning.specs.Tree as meant
-use Rattle.formula_meaning.specs.Every.{Free}
-use Rattle.formula_meaning.specs.Replaced.{replaced}
+use Rattle.qe_syntax.specs.FromFormulaMeaning.{Context, Point, Yes, No, One, Not, And, Or, Impl, Repl, Equiv, Ex, All, Free, replaced}
+use Rattle.qe_syntax.specs.FromFormulaMeaning.formula_rules as plain
+use Rattle.qe_syntax.specs.FromFormulaMeaning.atom_rules as meaning
+use Rattle.qe_syntax.specs.FromFormulaMeaning.tree_rules as meant
 use Rattle.atom_normal.specs.NormalForm.{normal_atom}
 use Rattle.qe_syntax.specs.declared.tree.Relation.{Relation}
 use Rattle.qe_syntax.specs.Trees.{TermTree, TermTrees, Number, Named, Sum, Product, Quotient, Power, Negative, none, also, WrittenAtom, Compare, Cong, Ncong, Bound, FormulaTree, FormulaTrees}

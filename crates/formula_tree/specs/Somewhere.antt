@@ -1,6 +1,6 @@
 -- What is said of some atom of a formula, or of some quantified name.
 use Rattle.std.specs.Prelude.{◌⊎◌}
-use Rattle.formula_meaning.specs.Formula.{Formula, Formulas, Yes, No, One, Not, And, Or, Impl, Repl, Equiv, Ex, All, none, also}
+use Rattle.qe_syntax.specs.FromFormulaMeaning.{Formula, Formulas, Yes, No, One, Not, And, Or, Impl, Repl, Equiv, Ex, All, none, also}
 
 module _ {A N : Type 0} (P : A → Type 0) (K : N → Type 0) where
   abbrev mutual

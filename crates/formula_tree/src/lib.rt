@@ -9,6 +9,7 @@ mod names;
 mod shape;
 mod tree;
 
+pub use atom_normal::{Atom, Linear, Rel, Values, VarId, negate, truth};
 pub use bindings::{BindError, Bindings};
 pub use error::FormError;
 pub use laws::{forms_have_values, fractions_go_by_the_rule, resolving_keeps_truth};

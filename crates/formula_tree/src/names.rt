@@ -3,8 +3,8 @@ ghost use Rattle.qe_syntax.specs.Value.{same_name};
 ghost use Rattle.formula_tree.specs.Names.{with_name};
 ghost use Rattle.formula_tree.specs.Resolving.{place};
 
+use atom_normal::VarId;
 use indexmap::IndexSet;
-use linear_forms::VarId;
 use qe_syntax::Name;
 use std::alloc::Global;
 use std::marker::Model;

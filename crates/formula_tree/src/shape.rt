@@ -1,8 +1,7 @@
 ghost use Rattle.std.specs.Cmp.Lexicographic.{pointwise, lists_per, lists_equiv};
 ghost use Rattle.std.specs.Hash as fed;
 
-use atom_normal::Atom;
-use linear_forms::VarId;
+use atom_normal::{Atom, VarId};
 use std::hash::{Hash, Hasher};
 use std::marker::Model;
 

@@ -3,8 +3,7 @@ ghost use Rattle.formula_tree.specs.Shapes.{tree_over};
 ghost use Rattle.formula_tree.specs.Trees.{tree_of, trees_of, members};
 
 use crate::shape::Shape;
-use atom_normal::Atom;
-use linear_forms::VarId;
+use atom_normal::{Atom, VarId};
 use std::alloc::{AllocError, Global};
 
 /// A resolved formula: its names are numbers, and its atoms compare linear forms with 0.

@@ -18,7 +18,7 @@ use Rattle.formula_meaning.specs.Sorted.{gathered}
 use Rattle.formula_meaning.proofs.Gathered.{value_gathered}
 use Rattle.formula_meaning.proofs.Values.{below_move, at_move, pos_mul, value_scale}
 use Rattle.elimination_theory.proofs.SomeListed.{each_left, each_right, each_among}
-use Rattle.elimination_reference.proofs.Always.{Always, gives_then, always_then, always_give, always_pay, always_within}
+use Rattle.sample_reference.proofs.FromEliminationReference.{Always, gives_then, always_then, always_give, always_pay, always_within}
 use Rattle.sample_reference.specs.Values.{Value, value_names, with_value, with_values, IsValue, origin}
 use Rattle.sample_reference.proofs.Chain.{origin_of, others_stay}
 use Rattle.sample_reference.proofs.SamePoints.{abs_positive, values_of_theory}

@@ -3,3 +3,5 @@ pub mod RowsHold
 pub mod Bounds
 pub mod Search
 pub mod Theorems
+pub mod FromFarkasTheory
+pub mod FromSampleReference

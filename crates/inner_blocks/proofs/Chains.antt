@@ -18,8 +18,8 @@ use Rattle.linear_forms.specs.declared.form.VarId.{VarId}
 use Rattle.formula_tree.specs.declared.shape.Shape.{Shape}
 use Rattle.formula_store.specs.declared.id.FormulaId.{FormulaId}
 use Rattle.formula_store.specs.Nodes.{tree, IsId}
-use Rattle.case_theory.specs.Block.{ex_all}
-use Rattle.case_theory.proofs.Leading.{leading_split, names_once}
+use Rattle.branch_rounds.specs.FromCaseTheory.{ex_all}
+use Rattle.branch_rounds.proofs.FromCaseTheory.{leading_split, names_once}
 use Rattle.leading_blocks.proofs.Leading.{sign, names, turned_matrix}
 use Rattle.branch_rounds.specs.Branches.{numbers}
 use Rattle.inner_blocks.specs.Blocks.{IsBlockOver}

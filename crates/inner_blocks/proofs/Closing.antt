@@ -19,12 +19,8 @@ use Rattle.formula_tree.specs.declared.shape.Shape.{Shape}
 use Rattle.formula_tree.specs.Trees.{members}
 use Rattle.formula_store.specs.declared.id.FormulaId.{FormulaId}
 use Rattle.formula_store.specs.Nodes.{tree, IsId}
-use Rattle.case_theory.specs.Block.{ex_all}
-use Rattle.case_theory.specs.CaseTree.{without_all}
-use Rattle.case_theory.specs.Pending.{Pending, ArePending, AreEnded, pending_trees}
-use Rattle.case_theory.specs.Worked.{IsWorked}
-use Rattle.case_theory.proofs.Ends.{block_worked}
-use Rattle.case_theory.proofs.Worked.{working_goes_on}
+use Rattle.branch_rounds.specs.FromCaseTheory.{ex_all, without_all, Pending, ArePending, AreEnded, pending_trees, IsWorked}
+use Rattle.branch_rounds.proofs.FromCaseTheory.{block_worked, working_goes_on}
 use Rattle.leading_blocks.specs.Blocks.{is_asked}
 use Rattle.branch_rounds.specs.declared.work.Work.{Work}
 use Rattle.branch_rounds.specs.Branches.{Seen, IsOpen, AllStand, AreBranchesOf, numbers}

@@ -7,7 +7,7 @@ use Rattle.simplified_formulas.specs.Contained.{contains}
 use Rattle.atom_normal.specs.declared.atoms.Atom.{Atom}
 use Rattle.atom_normal.specs.Atoms.{atom_of, IsWellFormed}
 use Rattle.linear_forms.specs.declared.form.VarId.{VarId}
-use Rattle.case_theory.specs.CaseTree.{without_all}
+use Rattle.branch_rounds.specs.FromCaseTheory.{without_all}
 use Rattle.branch_rounds.specs.Branches.{numbers}
 use Rattle.inner_blocks.specs.Assumed.{lacking}
 

@@ -18,8 +18,8 @@ use Rattle.formula_tree.specs.Makers.{Keeps}
 use Rattle.formula_tree.specs.Trees.{members}
 use Rattle.formula_store.specs.declared.id.FormulaId.{FormulaId}
 use Rattle.formula_store.specs.Nodes.{tree, IsId}
-use Rattle.case_theory.specs.Worked.{IsWorked, AreWorked}
-use Rattle.case_theory.proofs.Worked.{working_goes_on}
+use Rattle.branch_rounds.specs.FromCaseTheory.{IsWorked, AreWorked}
+use Rattle.branch_rounds.proofs.FromCaseTheory.{working_goes_on}
 use Rattle.branch_rounds.specs.declared.work.Work.{Work}
 use Rattle.inner_blocks.specs.Without.{IsReady, AreMembersOf, IsWithout}
 

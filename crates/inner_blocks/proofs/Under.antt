@@ -6,8 +6,8 @@ use Rattle.formula_meaning.specs.Some.{EachOf}
 use Rattle.atom_normal.specs.Atoms.{context_of, atom_of, IsWellFormed}
 use Rattle.atom_normal.specs.NormalForm.{IsNormal}
 use Rattle.linear_forms.specs.declared.form.VarId.{VarId}
-use Rattle.case_theory.specs.Under.{Lack}
-use Rattle.case_theory.proofs.Without.{without_all_each, without_all_lack}
+use Rattle.branch_rounds.specs.FromCaseTheory.{Lack}
+use Rattle.branch_rounds.proofs.FromCaseTheory.{without_all_each, without_all_lack}
 use Rattle.branch_rounds.specs.declared.work.Work.{Work}
 use Rattle.branch_rounds.specs.Branches.{numbers}
 use Rattle.branch_rounds.specs.Worked.{IsWork}

@@ -10,9 +10,7 @@ use Rattle.atom_normal.specs.NormalForm.{IsNormal}
 use Rattle.elimination_reference.specs.Reference.{turned}
 use Rattle.formula_tree.specs.declared.shape.Shape.{Shape}
 use Rattle.formula_store.specs.declared.id.FormulaId.{FormulaId}
-use Rattle.case_theory.specs.Block.{ex_all}
-use Rattle.case_theory.specs.CaseTree.{without_all}
-use Rattle.case_theory.specs.Worked.{IsWorked}
+use Rattle.branch_rounds.specs.FromCaseTheory.{ex_all, without_all, IsWorked}
 use Rattle.leading_blocks.specs.Blocks.{is_asked}
 use Rattle.branch_rounds.specs.declared.work.Work.{Work}
 use Rattle.branch_rounds.specs.Branches.{numbers}

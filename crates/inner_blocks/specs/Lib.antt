@@ -1,3 +1,7 @@
 pub mod Assumed
 pub mod Blocks
 pub mod Without
+pub mod FromBranchPoints
+pub mod FromBranchRounds
+pub mod FromLeadingBlocks
+pub mod FromSimplifiedTexts

@@ -11,8 +11,9 @@ ghost use Rattle.formula_store.specs.Nodes.{tree, IsId};
 ghost use Rattle.branch_rounds.specs.Worked.{IsWork, IsWorkedTo};
 ghost use Rattle.inner_blocks.specs.Blocks.{IsBlock, ClosesBlock};
 
-use branch_pruning::{Reach, pruned};
-use branch_rounds::{Branch, Budget, RoundError, Work, block_branches, formulas_of};
+use branch_rounds::{
+    Branch, Budget, Reach, RoundError, Work, block_branches, fold, formulas_of, pruned,
+};
 use formula_meaning::{Junction, Quantifier};
 use formula_store::{FormulaId, Store};
 use leading_blocks::asked;
@@ -20,7 +21,6 @@ use linear_forms::VarId;
 use qe_parallel::Gate;
 use std::alloc::{AllocError, Global};
 use std::thread::Threads;
-use virtual_subst::fold;
 
 /// A block of one quantifier inside a formula, with what is worked on outside of it and under it: there the assumptions without the
 /// names of the block are used.

@@ -7,4 +7,6 @@ mod kind;
 mod working;
 
 pub use assumed::without_names;
+pub use branch_rounds::{Branch, Budget, RoundError, SimplError, Work, block_branches, simplify};
+pub use leading_blocks::{LeadingBlock, leading_block};
 pub use working::worked;

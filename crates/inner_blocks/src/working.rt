@@ -16,14 +16,13 @@ ghost use Rattle.inner_blocks.specs.Without.{IsReady, IsWithout, Remembers};
 use crate::assumed::without_names;
 use crate::block::Block;
 use crate::kind::{Kind, kind_of, members_of};
-use branch_rounds::{Budget, RoundError, Work};
+use branch_rounds::{Budget, RoundError, Work, fold};
 use formula_meaning::{Junction, Quantifier};
 use formula_store::{FormulaId, Store};
 use leading_blocks::split;
 use qe_parallel::Gate;
 use std::collections::HashMap;
 use std::thread::Threads;
-use virtual_subst::fold;
 
 // What formulas were worked on to under some assumptions.
 type Done = HashMap<FormulaId, FormulaId>;

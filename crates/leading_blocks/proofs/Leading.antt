@@ -5,8 +5,7 @@ use Rattle.formula_meaning.specs.declared.quantifier.Quantifier.{Quantifier}
 use Rattle.formula_meaning.specs.Shape.{block_of, matrix_of}
 use Rattle.formula_meaning.specs.Plain.{leading}
 use Rattle.formula_meaning.specs.Tree.{Tree}
-use Rattle.elimination_reference.specs.Reference.{normal_tree, turned}
-use Rattle.elimination_reference.specs.Cases.{case_sign, case_matrix, case_names}
+use Rattle.case_theory.specs.FromEliminationReference.{normal_tree, turned, case_sign, case_matrix, case_names}
 use Rattle.case_theory.proofs.Leading.{leading_split}
 use Rattle.leading_blocks.specs.Blocks.{is_asked}
 

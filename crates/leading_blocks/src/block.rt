@@ -4,7 +4,7 @@ ghost use Rattle.std.specs.Prelude.{◌≡◌, IfOk};
 ghost use Rattle.formula_meaning.specs.Formula.{Not};
 ghost use Rattle.formula_meaning.specs.NegationNormal.{normal_form_of_not};
 ghost use Rattle.atom_normal.specs.NormalForm.{negated_normal};
-ghost use Rattle.elimination_reference.specs.Reference.{normal_tree, turned};
+ghost use Rattle.case_theory.specs.FromEliminationReference.{normal_tree, turned};
 ghost use Rattle.formula_tree.specs.Makers.{IsMade, Keeps};
 ghost use Rattle.formula_tree.specs.Shapes.{AllIds, IsProperShape, tree_over};
 ghost use Rattle.formula_store.specs.Nodes.{tree, IsId};

@@ -55,12 +55,8 @@ use Rattle.sample_reference.specs.TrueSample.{AreTrueValues}
 use Rattle.sample_reference.proofs.SamePoints.{abs_above, values_of_theory}
 use Rattle.least_theory.specs.LeastFraction.{IsLeastFraction}
 use Rattle.least_theory.specs.WeakTargets.{exs}
-use Rattle.session_meaning.specs.Assumptions.{AllTrueAt}
-use Rattle.session_meaning.specs.Places.{by_names}
-use Rattle.session_meaning.specs.State.{State}
-use Rattle.session_meaning.specs.Targets.{TargetAnswer, Infeasible, Unbounded, Attained, IsAttained, target_name, target_number, problem_names, together, resolved_problem, problem_of, SaysLeast}
-use Rattle.session_state.proofs.NameLemmas.{variables_in_names}
-use Rattle.session_state.proofs.VariableLemmas.{AllVariables, both, variables_of_formula, variables_of_all, all_put_in}
+use Rattle.problem_reading.specs.FromSessionMeaning.{AllTrueAt, by_names, State, TargetAnswer, Infeasible, Unbounded, Attained, IsAttained, target_name, target_number, problem_names, together, resolved_problem, problem_of, SaysLeast}
+use Rattle.problem_reading.proofs.FromSessionState.{variables_in_names, AllVariables, both, variables_of_formula, variables_of_all, all_put_in}
 use Rattle.problem_reading.specs.Reading.{HasNumbers, IsReadable}
 use Rattle.least_queries.specs.Found.{IsTargetFound, at_value}
 use Rattle.least_queries.proofs.Blocks.{whole_block, whole_matrix}

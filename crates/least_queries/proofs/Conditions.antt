@@ -20,9 +20,8 @@ use Rattle.elimination_reference.specs.Theorems.{IsTidy}
 use Rattle.elimination_reference.specs.AnswerParts.{guards_of}
 use Rattle.elimination_reference.proofs.Tidy.{tidy_in}
 use Rattle.elimination_reference.proofs.Turning.{normal_inside, normal_truths}
-use Rattle.case_theory.specs.CaseTree.{without_all, SaysUnder, IsCaseTree}
-use Rattle.case_trees.specs.declared.case_tree.CaseTree.{CaseTree}
-use Rattle.case_trees.specs.CaseTrees.{cases_seen, guards_together, IsCaseTreeOf}
+use Rattle.linear_opt.specs.FromCaseTheory.{without_all, SaysUnder, IsCaseTree}
+use Rattle.linear_opt.specs.FromCaseTrees.{CaseTree, cases_seen, guards_together, IsCaseTreeOf}
 use Rattle.formula_tree.specs.declared.shape.Shape.{Shape}
 use Rattle.formula_tree.specs.Makers.{IsMade}
 use Rattle.formula_store.specs.declared.id.FormulaId.{FormulaId}
@@ -30,10 +29,8 @@ use Rattle.formula_store.specs.Nodes.{tree, IsId}
 use Rattle.least_theory.specs.WeakTargets.{exs}
 use Rattle.least_theory.specs.Answer.{least_of, IsAnswer}
 use Rattle.least_theory.proofs.Targets.{target_found}
-use Rattle.session_state.specs.declared.state.SessionState.{SessionState}
-use Rattle.shared_forms.proofs.CasesFor.{fewer_true}
-use Rattle.shared_forms.proofs.ConditionsFor.{guards_tidy}
-use Rattle.shared_forms.proofs.EliminatedLemmas.{plain_free}
+use Rattle.problem_reading.specs.FromSessionState.{SessionState}
+use Rattle.problem_reading.proofs.FromSharedForms.{fewer_true, guards_tidy, plain_free}
 use Rattle.least_queries.specs.Found.{IsWeakProblem, IsConditionOf}
 
 -- ---- what is asked of a weak problem

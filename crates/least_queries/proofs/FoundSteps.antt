@@ -13,7 +13,7 @@ use Rattle.formula_meaning.specs.Tree.{Tree}
 use Rattle.atom_normal.specs.declared.atoms.Context as atoms
 use Rattle.atom_normal.specs.Atoms.{context_of}
 use Rattle.atom_normal.specs.NormalForm.{IsNormal}
-use Rattle.block_scheduler.specs.declared.limits.Limits.{Limits}
+use Rattle.problem_reading.specs.FromBlockScheduler.{Limits}
 use Rattle.linear_forms.specs.declared.form.VarId.{VarId}
 use Rattle.linear_forms.specs.Values.{Numbers, number_at, point_of}
 use Rattle.sample_reference.specs.Sample.{reference_sample}
@@ -26,9 +26,9 @@ use Rattle.linear_opt.specs.declared.least.Least.{Least}
 use Rattle.linear_opt.specs.Least as opt
 use Rattle.plain_engine.specs.declared.measured.Measured.{Measured}
 use Rattle.plain_engine.specs.Told.{StopsWith}
-use Rattle.session_meaning.specs.declared.line.StatementError.{StatementError}
-use Rattle.command_tools.specs.Refusals.{measured_refusal}
-use Rattle.session_state.specs.declared.state.SessionState.{SessionState}
+use Rattle.problem_reading.specs.FromSessionMeaning.{StatementError}
+use Rattle.problem_reading.specs.FromCommandTools.{measured_refusal}
+use Rattle.problem_reading.specs.FromSessionState.{SessionState}
 use Rattle.formula_store.specs.declared.id.FormulaId.{FormulaId}
 use Rattle.formula_store.specs.Nodes.{tree}
 use Rattle.formula_meaning.proofs.SamePoint.{point_same}

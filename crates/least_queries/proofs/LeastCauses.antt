@@ -20,18 +20,12 @@ use Rattle.formula_resolving.specs.Refusals as reading
 use Rattle.plain_engine.specs.declared.measured.Measured.{Measured}
 use Rattle.plain_engine.specs.declared.measured.Measured.TheVariants as measured
 use Rattle.plain_engine.specs.Told.{StopsWith}
-use Rattle.session_meaning.specs.declared.line.StatementError.{StatementError}
-use Rattle.session_meaning.specs.declared.line.StatementError.TheVariants as error
-use Rattle.session_meaning.specs.Causes.{HasNoRoom, HasLongLine, HasNone, IsAccepted, IsFirst}
-use Rattle.session_meaning.specs.Meaning.{Meaning, no_causes, meaning}
-use Rattle.session_meaning.specs.State.{State, with_names}
-use Rattle.session_meaning.specs.Targets.{problem_of, resolved_problem, target_number, at_target, TargetStops}
-use Rattle.session_meaning.specs.Uses.{Use}
-use Rattle.session_meaning.specs.Words.{before}
-use Rattle.command_tools.specs.Refusals.{static_refusal, measured_refusal}
+use Rattle.problem_reading.specs.FromSessionMeaning.{StatementError, HasNoRoom, HasLongLine, HasNone, IsAccepted, IsFirst, Meaning, no_causes, meaning, State, with_names, problem_of, resolved_problem, target_number, at_target, TargetStops, Use, before}
+use Rattle.problem_reading.specs.FromSessionMeaning.statement_error_variants as error
+use Rattle.problem_reading.specs.FromCommandTools.{static_refusal, measured_refusal}
 use Rattle.problem_reading.specs.Reading.{HasNumbers, IsReadable, AreNumbered, AppliesAmong, HasNoEarlier, IsFirstAmong}
 use Rattle.problem_reading.proofs.CauseLemmas.{HasNoPoint, then_clear, to_point, first_in_reading, unread_refuses, ready_below, readable_below, below_bindings, readable_applies}
-use Rattle.session_state.proofs.NameLemmas.{kept_names}
+use Rattle.problem_reading.proofs.FromSessionState.{kept_names}
 use Rattle.least_queries.specs.Found.{ConditionStop, FoundStop}
 use Rattle.least_queries.specs.Steps.{cause_of, IsProblemUnread}
 

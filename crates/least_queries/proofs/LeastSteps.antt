@@ -23,10 +23,10 @@ use Rattle.statement_syntax.specs.ConstraintLists.{AreWeakConstraints}
 use Rattle.statement_syntax.specs.Statements.{Least}
 use Rattle.redlog_reader.specs.Grammar.{quantified_names}
 use Rattle.redlog_printer.specs.Writing.{text_limit}
-use Rattle.shared_forms.proofs.CaseLemmas.{length_3}
+use Rattle.problem_reading.proofs.FromSharedForms.{length_3, AreShort, variables_short, fraction_short, point_short, as_many}
 use Rattle.formula_tree.specs.Names.{with_name}
 use Rattle.problem_reading.specs.Reading.{IsReadable}
-use Rattle.session_state.proofs.VariableLemmas.{AllVariables}
+use Rattle.problem_reading.proofs.FromSessionState.{AllVariables, grows_then, grown_state, grown_session, place_below}
 use Rattle.formula_tree.specs.Causes.{most_height, height_in_place}
 use Rattle.formula_tree.specs.Resolving.{BoundTrees, place, formula_variables}
 use Rattle.formula_tree.proofs.PlaceLaws.{after_has, after_distinct, in_either}
@@ -35,22 +35,11 @@ use Rattle.formula_store.specs.declared.id.FormulaId.{FormulaId}
 use Rattle.formula_store.specs.Nodes.{tree}
 use Rattle.sample_reference.specs.Seen.{values_of}
 use Rattle.sample_reference.specs.Values.{Value, value_names}
-use Rattle.answer_texts.specs.Within.{AreValuesWithin}
-use Rattle.answer_texts.specs.Points.{fraction_text, point_text}
-use Rattle.session_meaning.specs.declared.line.Line.{Line}
-use Rattle.session_meaning.specs.declared.line.StatementError.{StatementError}
-use Rattle.session_meaning.specs.Meaning.{meaning, numbered}
-use Rattle.session_meaning.specs.Reply.{IsLine}
-use Rattle.session_meaning.specs.State.{State, with_names}
-use Rattle.session_meaning.specs.Targets.{target_name, together, problem_names, problem_of, resolved_problem, target_number, SaysLeast, target_text}
-use Rattle.session_state.specs.declared.state.SessionState.{SessionState}
-use Rattle.session_state.specs.Keeping.{state_of, IsSessionState}
-use Rattle.session_state.specs.Growth.{KeepsState, GrowsState}
-use Rattle.session_state.proofs.StateLemmas.{grows_then, grown_state, grown_session}
-use Rattle.session_state.proofs.NameLemmas.{place_below}
+use Rattle.problem_reading.specs.FromAnswerTexts.{AreValuesWithin, fraction_text, point_text}
+use Rattle.problem_reading.specs.FromSessionMeaning.{Line, StatementError, meaning, numbered, IsLine, State, with_names, target_name, together, problem_names, problem_of, resolved_problem, target_number, SaysLeast, target_text}
+use Rattle.problem_reading.specs.FromSessionState.{SessionState, state_of, IsSessionState, KeepsState, GrowsState}
 use Rattle.formula_resolving.specs.Numbering.{Grows}
-use Rattle.command_tools.specs.Replies.{use_of, Refuses, IsQueryAnswer}
-use Rattle.shared_forms.proofs.ShortSamples.{AreShort, variables_short, fraction_short, point_short, as_many}
+use Rattle.problem_reading.specs.FromCommandTools.{use_of, Refuses, IsQueryAnswer}
 use Rattle.least_queries.specs.declared.found.Found.{Found}
 use Rattle.least_queries.specs.declared.found.Found.TheVariants as found
 use Rattle.least_queries.specs.Found.{IsWeakProblem, found_of, IsTargetFound, FoundStop}

@@ -20,9 +20,8 @@ use Rattle.formula_tree.specs.NamesAfter.{names_after}
 use Rattle.formula_tree.proofs.PlaceLaws.{same_is, same_itself, after_has, in_either}
 use Rattle.formula_resolving.specs.Numbering.{Grows}
 use Rattle.formula_resolving.proofs.Numbered.{grows_same, grows_then, grows_with}
-use Rattle.session_meaning.specs.Targets.{target_name, problem_names, together, problem_of}
-use Rattle.session_state.proofs.VariableLemmas.{AllVariables, all_put_in}
-use Rattle.session_state.proofs.NameLemmas.{kept_names}
+use Rattle.problem_reading.specs.FromSessionMeaning.{target_name, problem_names, together, problem_of}
+use Rattle.problem_reading.proofs.FromSessionState.{AllVariables, all_put_in, kept_names}
 use Rattle.least_queries.proofs.ProblemSteps.{names_variables}
 
 -- ---- the text

@@ -17,8 +17,8 @@ use Rattle.statement_syntax.specs.Constraints.{is_weak_constraint}
 use Rattle.statement_syntax.specs.ConstraintLists.{AreWeakConstraints}
 use Rattle.formula_tree.specs.Names.{with_name}
 use Rattle.formula_tree.specs.Resolving.{variables_of, all_variables}
-use Rattle.session_meaning.specs.Targets.{target_name, together, problem_names, problem_of}
-use Rattle.session_state.proofs.VariableLemmas.{AllVariables, both, variables_of_formula, variables_of_all, all_put_in}
+use Rattle.problem_reading.specs.FromSessionMeaning.{target_name, together, problem_names, problem_of}
+use Rattle.problem_reading.proofs.FromSessionState.{AllVariables, both, variables_of_formula, variables_of_all, all_put_in}
 
 -- several members are a conjunction
 pub conjoined : (f : FormulaTree) (fs : List FormulaTree) (members : List Formula) → 1 < length members → map formula_tree members ≡ f ∷ fs → And (formulas_of (map formula_tree members)) ≡ together f (formulas_of fs)

@@ -27,8 +27,7 @@ use Rattle.formula_tree.specs.RationalForms.{RationalForm, Missing, formed_diffe
 use Rattle.formula_tree.specs.Resolving.{place, compared, resolved_atom}
 use Rattle.least_theory.specs.WeakTargets.{IsWeak, IsWeakRelation, exs}
 use Rattle.least_theory.proofs.Weak.{weak_in_fields}
-use Rattle.session_meaning.specs.State.{State}
-use Rattle.session_meaning.specs.Targets.{target_name, problem_names, together, resolved_problem}
+use Rattle.problem_reading.specs.FromSessionMeaning.{State, target_name, problem_names, together, resolved_problem}
 use Rattle.least_queries.specs.Found.{IsWeakProblem}
 
 -- ---- constraints

@@ -21,11 +21,10 @@ use Rattle.plain_engine.specs.declared.measured.Measured.{Measured}
 use Rattle.plain_engine.specs.Told.{StopsWith}
 use Rattle.formula_store.specs.declared.id.FormulaId.{FormulaId}
 use Rattle.formula_store.specs.Nodes.{tree, IsId}
-use Rattle.session_meaning.specs.declared.line.StatementError.{StatementError}
-use Rattle.session_meaning.specs.declared.line.StatementError.TheVariants as error
-use Rattle.session_meaning.specs.Targets.{TargetAnswer, Infeasible, Unbounded, Attained}
-use Rattle.session_state.specs.declared.state.SessionState.{SessionState}
-use Rattle.command_tools.specs.Refusals.{measured_refusal}
+use Rattle.problem_reading.specs.FromSessionMeaning.{StatementError, TargetAnswer, Infeasible, Unbounded, Attained}
+use Rattle.problem_reading.specs.FromSessionMeaning.statement_error_variants as error
+use Rattle.problem_reading.specs.FromSessionState.{SessionState}
+use Rattle.problem_reading.specs.FromCommandTools.{measured_refusal}
 use Rattle.least_queries.specs.declared.found.Found.{Found}
 use Rattle.least_queries.specs.declared.found.Found.TheVariants as found
 

@@ -8,17 +8,14 @@ use Rattle.formula_tree.specs.Makers.{IsMade}
 use Rattle.formula_tree.specs.Resolving.{resolve}
 use Rattle.formula_tree.specs.NamesAfter.{names_after}
 use Rattle.formula_resolving.specs.Refusals.{IsFirstCause}
-use Rattle.answer_texts.specs.Within.{AreValuesWithin}
+use Rattle.problem_reading.specs.FromAnswerTexts.{AreValuesWithin}
 use Rattle.formula_resolving.specs.declared.error.StaticError.{StaticError}
 use Rattle.formula_resolving.specs.declared.error.StaticError.TheVariants as static
-use Rattle.session_meaning.specs.declared.line.StatementError.{StatementError}
-use Rattle.session_meaning.specs.declared.line.StatementError.TheVariants as error
-use Rattle.session_meaning.specs.State.{State}
-use Rattle.session_meaning.specs.Targets.{TargetAnswer, Infeasible, Unbounded, Attained}
-use Rattle.session_state.specs.declared.state.SessionState.{SessionState}
-use Rattle.session_state.specs.Keeping.{state_of}
+use Rattle.problem_reading.specs.FromSessionMeaning.{StatementError, State, TargetAnswer, Infeasible, Unbounded, Attained}
+use Rattle.problem_reading.specs.FromSessionMeaning.statement_error_variants as error
+use Rattle.problem_reading.specs.FromSessionState.{SessionState, state_of}
 use Rattle.problem_reading.specs.Reading.{IsReadable}
-use Rattle.command_tools.specs.Refusals.{static_refusal}
+use Rattle.problem_reading.specs.FromCommandTools.{static_refusal}
 
 -- each name of the answer has a number below this one
 abbrev pub HasNamesWithin : ℕ → TargetAnswer → Type 0

@@ -8,18 +8,15 @@ ghost use Rattle.atom_normal.specs.Atoms.{context_of};
 ghost use Rattle.atom_normal.specs.NormalForm.{IsNormal};
 ghost use Rattle.formula_store.specs.Nodes.{tree, IsId};
 ghost use Rattle.least_theory.specs.LeastFraction.{IsLeastFraction};
-ghost use Rattle.session_state.specs.Growth.{KeepsState};
+ghost use Rattle.problem_reading.specs.FromSessionState.{KeepsState};
 ghost use Rattle.least_queries.specs.Found.{IsWeakProblem, found_of, IsTargetFound, IsConditionOf, ConditionStop, FoundStop};
 
-use case_trees::guards_together;
-use command_tools::{Workshop, measured_refusal};
 use exact_numbers::Fraction;
 use formula_store::FormulaId;
 use linear_forms::{Values, VarId};
-use linear_opt::{Least, least_value};
+use linear_opt::{Least, guards_together, least_value};
+use problem_reading::{SessionState, StatementError, Workshop, measured_refusal};
 use qe_parallel::Gate;
-use session_meaning::StatementError;
-use session_state::SessionState;
 use std::thread::Threads;
 
 /// What is found of a target.

@@ -9,27 +9,22 @@ ghost use Rattle.statement_syntax.specs.ConstraintLists.{AreWeakConstraints};
 ghost use Rattle.statement_syntax.specs.Statements.{Least as LeastOf};
 ghost use Rattle.formula_resolving.specs.Refusals.{AreIds};
 ghost use Rattle.formula_store.specs.Nodes.{IsId};
-ghost use Rattle.session_meaning.specs.Meaning.{meaning, numbered};
-ghost use Rattle.session_meaning.specs.State.{with_names};
-ghost use Rattle.session_meaning.specs.Targets.{target_name};
-ghost use Rattle.session_state.specs.Keeping.{state_of, IsSessionState};
-ghost use Rattle.session_state.specs.Growth.{GrowsState};
+ghost use Rattle.problem_reading.specs.FromSessionMeaning.{meaning, numbered, with_names, target_name};
+ghost use Rattle.problem_reading.specs.FromSessionState.{state_of, IsSessionState, GrowsState};
 ghost use Rattle.atom_normal.specs.Atoms.{context_of};
-ghost use Rattle.command_tools.specs.Replies.{use_of, Refuses, IsQueryAnswer};
+ghost use Rattle.problem_reading.specs.FromCommandTools.{use_of, Refuses, IsQueryAnswer};
 ghost use Rattle.least_queries.specs.Steps.{cause_of, IsProblemIn, IsProblemUnread};
 
 use crate::found::look;
 use crate::lines::target_line;
 use crate::problem::problem;
 use atom_normal::Context;
-use command_tools::{Workshop, check_fields, static_refusal};
 use formula_resolving::{StaticError, linearise};
 use formula_store::FormulaId;
 use linear_forms::VarId;
+use problem_reading::{Line, SessionState, StatementError, Workshop, check_fields, static_refusal};
 use qe_parallel::Gate;
 use qe_syntax::{Formula, Term};
-use session_meaning::{Line, StatementError};
-use session_state::SessionState;
 use std::thread::Threads;
 
 /// Answers with the least value of the target, and with values of the names that attain it. After an `Err` the names may have grown.

@@ -1,24 +1,20 @@
 //! The lines of targets.
 
 ghost use Rattle.std.specs.Prelude.{◌≡◌, ◌<◌, ◌≤◌, IfOk, IfErr, OnOk, IsErrOf, length};
-ghost use Rattle.answer_texts.specs.Within.{AreValuesWithin};
+ghost use Rattle.problem_reading.specs.FromAnswerTexts.{AreValuesWithin};
 ghost use Rattle.sample_reference.specs.Seen.{values_of};
 ghost use Rattle.exact_numbers.specs.Fraction.{frac_of};
 ghost use Rattle.redlog_printer.specs.Writing.{text_limit};
-ghost use Rattle.session_meaning.specs.Reply.{IsLine};
-ghost use Rattle.session_meaning.specs.Targets.{Attained, target_text};
+ghost use Rattle.problem_reading.specs.FromSessionMeaning.{IsLine, Attained, target_text};
 ghost use Rattle.least_queries.specs.Found.{found_of};
 ghost use Rattle.least_queries.specs.Steps.{HasNamesWithin};
 
 use crate::found::Found;
-use answer_texts::{point_text, put_fraction};
-use command_tools::printed_line;
 use exact_numbers::Fraction;
 use formula_tree::Names;
 use linear_forms::VarId;
+use problem_reading::{Line, SessionState, StatementError, point_text, printed_line, put_fraction};
 use redlog_printer::{Output, PrintError};
-use session_meaning::{Line, StatementError};
-use session_state::SessionState;
 use std::alloc::Global;
 
 /// The line of what was found, if it is printed.

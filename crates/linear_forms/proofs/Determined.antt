@@ -7,7 +7,7 @@ use Rattle.formula_meaning.specs.Sorted.{AllAbove, IsRising}
 use Rattle.linear_forms.specs.Terms.{AllInLimit}
 use Rattle.linear_forms.specs.Combinations.{IsLinear, IsCombination, IsQuotient}
 use Rattle.formula_meaning.proofs.Sorted.{here, elsewhere, sorted_determined, without_sorted}
-use Rattle.exact_numbers.proofs.Order.{cancel}
+use Rattle.formula_meaning.proofs.FromExactNumbers.{cancel}
 
 -- ---- determined by the coefficients
 

@@ -14,3 +14,5 @@ pub mod Finer
 pub mod Reduced
 pub mod Quotients
 pub mod Residues
+pub mod FromExactNumbers
+pub mod FromFormulaMeaning

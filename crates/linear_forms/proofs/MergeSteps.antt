@@ -3,8 +3,8 @@ use Rattle.std.proofs.Common.{◌≡◌, inl, inr, ℕ, List, [], ◌∷◌, ◌
 use Rattle.std.proofs.Math.IntN.{ℤ, pos, ◌+ℤ◌, ◌*ℤ◌}
 use Rattle.std.proofs.lemmas.Int.{ints}
 use Rattle.std.proofs.lemmas.Bool.{cases_eq}
-use Rattle.exact_numbers.specs.Limit.{InLimit}
-use Rattle.exact_numbers.proofs.Ring.{ring, mul_zero, zero_mul, mul_one}
+use Rattle.formula_meaning.specs.FromExactNumbers.{InLimit}
+use Rattle.formula_meaning.proofs.FromExactNumbers.{ring, mul_zero, zero_mul, mul_one}
 use Rattle.formula_meaning.specs.Form.{Form, Term, total, multiple, coefficient, value}
 use Rattle.formula_meaning.specs.Sorted.{IsRising}
 use Rattle.linear_forms.specs.Terms.{PlaceWithin, PlacePasses}

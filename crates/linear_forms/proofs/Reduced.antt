@@ -8,11 +8,8 @@ use Rattle.std.specs.Cmp.{signed_Decides}
 use Rattle.std.specs.List.{AllZip}
 use Rattle.std.specs.Ordering.{int_eq}
 use Rattle.std.proofs.lemmas.Int.{ints}
-use Rattle.exact_numbers.specs.Limit.{InLimit}
-use Rattle.exact_numbers.specs.Divides.{residue_of}
-use Rattle.exact_numbers.proofs.Order.{cancel}
-use Rattle.exact_numbers.proofs.LeastMultiple.{exact_div}
-use Rattle.exact_numbers.proofs.Floor.{residue_not_negative, residue_below}
+use Rattle.formula_meaning.specs.FromExactNumbers.{InLimit, residue_of}
+use Rattle.formula_meaning.proofs.FromExactNumbers.{cancel, exact_div, residue_not_negative, residue_below}
 use Rattle.formula_meaning.specs.Form.{Form, Term}
 use Rattle.linear_forms.specs.declared.form.VarId.{VarId}
 use Rattle.linear_forms.specs.Linear.{term_of, terms_of, IsDivided}

@@ -2,8 +2,8 @@
 use Rattle.std.proofs.Common.{◌≡◌, ◌<◌, inl, inr, ℕ, List, [], ◌∷◌, ◌++◌, refl, arith}
 use Rattle.std.proofs.Math.IntN.{pos}
 use Rattle.std.proofs.lemmas.Int.{ints}
-use Rattle.exact_numbers.specs.Limit.{InLimit}
-use Rattle.exact_numbers.proofs.Ring.{zero_mul}
+use Rattle.formula_meaning.specs.FromExactNumbers.{InLimit}
+use Rattle.formula_meaning.proofs.FromExactNumbers.{zero_mul}
 use Rattle.formula_meaning.specs.Form.{Term}
 use Rattle.formula_meaning.specs.Sorted.{AllAbove, IsRising, AllNonzero}
 use Rattle.linear_forms.specs.Terms.{AllInLimit}

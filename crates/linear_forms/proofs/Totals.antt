@@ -3,7 +3,7 @@ use Rattle.std.proofs.Common.{◌≡◌, ℕ, Bool, true, false, List, [], ◌�
 use Rattle.std.proofs.Math.IntN.{ℤ, pos, ◌+ℤ◌, ◌*ℤ◌}
 use Rattle.std.proofs.lemmas.Int.{ints}
 use Rattle.std.proofs.lemmas.Bool.Decides.{nat_tests}
-use Rattle.exact_numbers.proofs.Ring.{mul_zero, mul_one}
+use Rattle.formula_meaning.proofs.FromExactNumbers.{mul_zero, mul_one}
 use Rattle.formula_meaning.specs.Form.{Term, total, multiple}
 
 -- 1 at x, and 0 elsewhere

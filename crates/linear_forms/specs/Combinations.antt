@@ -1,6 +1,6 @@
 -- Sums of multiples of forms.
 use Rattle.std.specs.Prelude.{◌≡◌, ℕ, ℤ, ◌+ℤ◌, ◌*ℤ◌}
-use Rattle.exact_numbers.specs.Limit.{InLimit}
+use Rattle.formula_meaning.specs.FromExactNumbers.{InLimit}
 use Rattle.formula_meaning.specs.Point.{Point}
 use Rattle.formula_meaning.specs.Sorted.{IsSorted}
 use Rattle.formula_meaning.specs.Form.{Form, value, coefficient}

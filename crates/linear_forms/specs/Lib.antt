@@ -5,3 +5,5 @@ pub mod Merging
 pub mod Values
 pub mod Equality
 pub mod Reduction
+pub mod FromExactNumbers
+pub mod FromFormulaMeaning

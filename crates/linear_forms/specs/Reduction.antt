@@ -1,7 +1,7 @@
 -- A form divided by a number, and a form modulo a number. Both are of all whole numbers, however large.
 use Rattle.std.specs.Prelude.{ℤ, pos, ◌≤ℤ◌, ◌<ℤ◌, List, [], ◌∷◌, int_div, if◌then◌else◌}
 use Rattle.std.specs.Ordering.{int_eq}
-use Rattle.exact_numbers.specs.Divides.{residue_of}
+use Rattle.formula_meaning.specs.FromExactNumbers.{residue_of}
 use Rattle.formula_meaning.specs.Form.{Form, Term}
 
 -- each coefficient divided by d

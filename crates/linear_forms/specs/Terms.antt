@@ -1,7 +1,6 @@
 -- Which numbers the value of a form and a combination of forms pass through, and when one of them passes the limit.
 use Rattle.std.specs.Prelude.{◌⊎◌, ℕ, ℤ, pos, ◌+ℤ◌, ◌*ℤ◌, List, [], ◌∷◌, Option, Some}
-use Rattle.exact_numbers.specs.Limit.{PastLimit, checked}
-use Rattle.exact_numbers.specs.Frac.{◌>>=◌}
+use Rattle.formula_meaning.specs.FromExactNumbers.{PastLimit, checked, ◌>>=◌}
 pub use Rattle.formula_meaning.specs.Form.{coefficients}
 pub use Rattle.formula_meaning.specs.Numbers.{AllInLimit}
 pub use Rattle.formula_meaning.specs.Combining.{AddWithin as PlaceWithin, AddPasses as PlacePasses, CombinesWithin, CombinePasses}

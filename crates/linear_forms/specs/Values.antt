@@ -1,7 +1,7 @@
 -- Whole numbers for names, over one denominator.
 use Rattle.std.specs.Prelude.{◌≡◌, ◌⊎◌, ◌*ℤ◌, ℕ, ℤ, pos, List, nat_eq, unwrap_or, unsigned_abs}
 use Rattle.std.specs.Map.{lookup}
-use Rattle.exact_numbers.specs.Limit.{InLimit, PastLimit}
+use Rattle.formula_meaning.specs.FromExactNumbers.{InLimit, PastLimit}
 use Rattle.formula_meaning.specs.Point.{Point}
 use Rattle.linear_forms.specs.declared.form.VarId.{VarId}
 

@@ -1,8 +1,6 @@
 // A linear form: a sorted list of names with their coefficients, and a constant.
 ghost use Rattle.std.specs.Prelude.{◌≡◌, ℕ, pos, ◌<ℤ◌, [], ◌∷◌, IfOk, IfErr, IsErrOf, MatchOption, option_map, length, slice_get};
-ghost use Rattle.exact_numbers.specs.Limit.{InLimit};
-ghost use Rattle.exact_numbers.specs.Divides.{content_of};
-ghost use Rattle.exact_numbers.specs.Division.{DividesAll, IsContent};
+ghost use Rattle.formula_meaning.specs.FromExactNumbers.{InLimit, content_of, DividesAll, IsContent};
 ghost use Rattle.formula_meaning.specs.Form.{coefficient, value};
 ghost use Rattle.linear_forms.specs.Terms.{CombinePasses, coefficients, value_steps, ValuePasses};
 ghost use Rattle.linear_forms.specs.Combinations.{IsLinear, IsCombination, IsQuotient};
@@ -16,7 +14,7 @@ use crate::error::LinError;
 use crate::merge::{merge, place};
 use crate::terms;
 use crate::values::{Values, total};
-use exact_numbers::{product, residue, sum};
+use formula_meaning::{product, residue, sum};
 use std::alloc::{AllocError, Global};
 use std::hash::{Hash, Hasher};
 use std::marker::Model;

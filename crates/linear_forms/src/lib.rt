@@ -9,7 +9,7 @@ mod terms;
 mod values;
 
 pub use error::LinError;
-pub use exact_numbers::{compare_fractions, floor_div, gcd, lcm};
 pub use form::{Linear, VarId};
+pub use formula_meaning::{compare_fractions, floor_div, gcd, lcm, residue};
 pub use laws::{form_is_determined, form_splits, terms_have_coefficients};
 pub use values::Values;

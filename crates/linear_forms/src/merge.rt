@@ -8,7 +8,7 @@ ghost use Rattle.linear_forms.specs.Linear.{terms_of};
 
 use crate::error::LinError;
 use crate::form::VarId;
-use exact_numbers::{product, sum};
+use formula_meaning::{product, sum};
 use std::alloc::Global;
 
 // The sum a * x + b * y, or `None` exactly where a product or the sum passes the limit.

@@ -2,16 +2,14 @@
 ghost use Rattle.std.specs.Prelude.{◌≡◌, ℤ, pos, ◌*ℤ◌, ◌<ℤ◌, IfOk};
 ghost use Rattle.std.specs.List.{AllZip};
 ghost use Rattle.formula_meaning.specs.Form.{multiple};
-ghost use Rattle.exact_numbers.specs.Limit.{InLimit};
-ghost use Rattle.exact_numbers.specs.Divides.{content_of};
-ghost use Rattle.exact_numbers.specs.Division.{DividesAll, IsContent};
+ghost use Rattle.formula_meaning.specs.FromExactNumbers.{InLimit, content_of, DividesAll, IsContent};
 ghost use Rattle.formula_meaning.specs.Sorted.{IsRising};
 ghost use Rattle.linear_forms.specs.Terms.{AllInLimit, coefficients};
 ghost use Rattle.linear_forms.specs.Linear.{terms_of, IsDivided};
 ghost use Rattle.linear_forms.specs.Reduction.{residues};
 
 use crate::form::VarId;
-use exact_numbers::{gcd, residue};
+use formula_meaning::{gcd, residue};
 use std::alloc::{AllocError, Global};
 
 // The coefficient of a name, 0 where it does not stand in the list: a binary search.

@@ -8,7 +8,7 @@ ghost use Rattle.std.specs.Map.{keys_of};
 
 use crate::error::LinError;
 use crate::form::VarId;
-use exact_numbers::{product, sum};
+use formula_meaning::{product, sum};
 use std::alloc::{AllocError, Global};
 use std::collections::BTreeMap;
 use std::marker::Model;

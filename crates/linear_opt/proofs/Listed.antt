@@ -17,8 +17,8 @@ use Rattle.formula_tree.specs.Shapes.{tree_over}
 use Rattle.formula_store.specs.declared.id.FormulaId.{FormulaId}
 use Rattle.formula_store.specs.Nodes.{tree, IsId}
 use Rattle.formula_store.specs.Order.{IsOrder}
-use Rattle.branch_points.specs.Chosen.{shape_atoms}
-use Rattle.branch_points.proofs.ListedAtoms.{atoms_at}
+use Rattle.sample_answers.specs.FromBranchPoints.{shape_atoms}
+use Rattle.sample_answers.proofs.FromBranchPoints.{atoms_at}
 use Rattle.sample_answers.proofs.Searching.{node_atoms, same_atoms}
 use Rattle.sample_reference.specs.Values.{origin}
 use Rattle.sample_reference.specs.Calculated.{atom_root, with_root, critical_values, least_with, lesser}

@@ -1,3 +1,5 @@
 pub mod Values
 pub mod Truths
 pub mod Least
+pub mod FromCaseTheory
+pub mod FromCaseTrees

@@ -12,7 +12,7 @@ use atom_normal::{Atom, holds};
 use elimination_theory::Side;
 use exact_numbers::{Fraction, compare_fractions};
 use linear_forms::VarId;
-use sample_numbers::least_with_atom;
+use sample_answers::least_with_atom;
 use std::cmp::Ordering;
 
 /// A value of a name.

@@ -5,7 +5,7 @@ ghost use Rattle.formula_meaning.specs.Context.{Fields};
 ghost use Rattle.formula_meaning.specs.Shape.{IsQuantifierFree};
 ghost use Rattle.formula_meaning.specs.Equivalence.{InContext};
 ghost use Rattle.atom_normal.specs.Atoms.{atom_of};
-ghost use Rattle.branch_points.specs.Chosen.{shape_atoms};
+ghost use Rattle.sample_answers.specs.FromBranchPoints.{shape_atoms};
 ghost use Rattle.formula_store.specs.Nodes.{tree, IsId};
 ghost use Rattle.sample_reference.specs.Values.{origin};
 ghost use Rattle.sample_reference.specs.Calculated.{is_less, least_with};

@@ -23,7 +23,7 @@ use Rattle.session_meaning.specs.Meaning.{Meaning, variables, numbered, meaning}
 use Rattle.session_meaning.specs.Uses.{Use}
 use Rattle.session_meaning.specs.Causes.{HasLongLine, MayBeCause, HasNone, IsFirst, IsAccepted}
 use Rattle.session_meaning.specs.Reply.{IsLine, AnswersSaid, Answers, Reply}
-use Rattle.problem_reading.proofs.CauseLemmas.{no_cause, then_clear, readable_below}
+use Rattle.redlog_run.proofs.FromProblemReading.{no_cause, then_clear, readable_below}
 use Rattle.redlog_run.proofs.Unrefused.{never}
 use Rattle.lines_read_back.specs.ReadBack.{IsBare, IsOwnFormula, IsSameLine, TextIsAnswered}
 

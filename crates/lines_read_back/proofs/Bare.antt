@@ -24,7 +24,7 @@ use Rattle.session_meaning.specs.FormulaGiven.{GivesFormula}
 use Rattle.session_meaning.specs.Targets.{target_name, problem_names, problem_of}
 use Rattle.session_meaning.specs.Reply.{Answers}
 use Rattle.redlog_run.proofs.NamesAfter.{answer_names_distinct, answer_names_variables, names_of_entries, front, front_variables, last_is_target}
-use Rattle.session_state.proofs.VariableLemmas.{AllVariables, both, variables_of_all, all_put_in}
+use Rattle.redlog_run.proofs.FromSessionState.{AllVariables, both, variables_of_all, all_put_in}
 use Rattle.lines_read_back.specs.ReadBack.{NamesStayWritable}
 
 -- what a formula command reads can be written

@@ -36,15 +36,13 @@ use Rattle.session_meaning.specs.FormulaGiven.{GivesFormula}
 use Rattle.session_meaning.specs.Uses.{Use}
 use Rattle.session_meaning.specs.Causes.{SomeFormula, IsAccepted}
 use Rattle.session_meaning.specs.Reply.{Tells, Answers}
-use Rattle.problem_reading.specs.Reading.{AreNumbered}
-use Rattle.session_state.specs.Keeping.{IsSessionFormula}
+use Rattle.redlog_run.specs.FromProblemReading.{AreNumbered}
+use Rattle.redlog_run.specs.FromSessionState.{IsSessionFormula}
 use Rattle.clean_forms.proofs.FormShapes.{form_free}
-use Rattle.problem_reading.proofs.CauseLemmas.{no_cause}
-use Rattle.problem_reading.proofs.ReadLemmas.{numbered_in}
+use Rattle.redlog_run.proofs.FromProblemReading.{no_cause, numbered_in}
 use Rattle.formula_tree.proofs.PlaceLaws.{after_has, in_either}
-use Rattle.shared_forms.proofs.EliminatedLemmas.{unquantified_bound, within_of_names, free_below, none_from, all_below}
-use Rattle.shared_forms.proofs.PrenexLemmas.{prenex_formula}
-use Rattle.session_state.proofs.SoundLemmas.{AreSessionFormulas, resolved_formula, negated_formula}
+use Rattle.redlog_run.proofs.FromSharedForms.{unquantified_bound, within_of_names, free_below, none_from, all_below, prenex_formula}
+use Rattle.redlog_run.proofs.FromSessionState.{AreSessionFormulas, resolved_formula, negated_formula}
 use Rattle.lines_read_back.specs.ReadBack.{IsBare, IsEcho, IsPrinted, PrintedIsFormula, IsAnsweredBy, EchoIsAnswered}
 use Rattle.lines_read_back.proofs.Answered.{text_is_answered}
 use Rattle.lines_read_back.proofs.Bare.{proper_formulas, said_variables, spelled_proper}

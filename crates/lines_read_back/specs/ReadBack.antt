@@ -20,7 +20,7 @@ use Rattle.session_meaning.specs.declared.line.StatementError.TheVariants as err
 use Rattle.session_meaning.specs.State.{State}
 use Rattle.session_meaning.specs.Meaning.{meaning, numbered, MayGive}
 use Rattle.session_meaning.specs.FormulaGiven.{GivesFormula}
-use Rattle.session_state.specs.Keeping.{IsSessionFormula}
+use Rattle.redlog_run.specs.FromSessionState.{IsSessionFormula}
 use Rattle.session_meaning.specs.Reply.{Reply}
 
 -- nothing is bound, no name has two numbers, and each name is one that a script can write

@@ -11,7 +11,7 @@ use Rattle.formula_meaning.specs.NegationNormal.{normal_forms, normal_forms_of_n
 use Rattle.atom_normal.specs.declared.atoms.Atom.{Atom}
 use Rattle.atom_normal.specs.Atoms.{atom_of, IsWellFormed}
 use Rattle.atom_normal.specs.NormalForm.{negated_normal}
-use Rattle.linear_forms.specs.declared.form.VarId.{VarId}
+use Rattle.atom_normal.specs.FromLinearForms.{VarId}
 use Rattle.formula_tree.specs.declared.shape.Shape.{Shape}
 use Rattle.formula_tree.specs.declared.shape.Shape.TheVariants as shape
 use Rattle.formula_tree.specs.Trees.{members}

@@ -15,11 +15,10 @@ ghost use Rattle.nnf_pnf.specs.Forms.{form, Known};
 ghost use Rattle.nnf_pnf.specs.Plans.{planned_tree, joined_shape, quantified_shape, AllPlanned, IsProperPlan, Plans};
 
 use crate::forms::{Table, all_forms, form};
-use atom_normal::{Atom, negate};
+use atom_normal::{Atom, VarId, negate};
 use formula_meaning::{Junction, Quantifier};
 use formula_store::{FormulaId, Store};
 use formula_tree::{Ids, Maker, Shape};
-use linear_forms::VarId;
 use std::alloc::{AllocError, Global};
 
 /// A formula that is there already, one of a shape, or one of two cases: both of the first two, or both of the others.

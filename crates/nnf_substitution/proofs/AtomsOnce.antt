@@ -7,13 +7,11 @@ use Rattle.formula_meaning.specs.declared.junction.Junction.TheVariants.{Conjunc
 use Rattle.formula_meaning.specs.Same.{same_atom}
 use Rattle.formula_meaning.specs.Tree.{Tree, Trees}
 use Rattle.formula_meaning.proofs.Same.{atom_same, atom_alike}
-use Rattle.elimination_theory.specs.Atoms.{atoms_in, atoms_in_all}
-use Rattle.atom_normal.specs.declared.atoms.Atom.{Atom}
-use Rattle.atom_normal.specs.contracts.atoms.AtomPartialEq.TheImpl as atoms
-use Rattle.atom_normal.specs.Atoms.{atom_of, IsWellFormed}
-use Rattle.atom_normal.specs.NormalForm.{constant_tree}
-use Rattle.atom_normal.proofs.Meaning.{meaning_determines}
-use Rattle.formula_tree.proofs.Decided as decided
+use Rattle.cooper_periods.specs.FromEliminationTheory.{atoms_in, atoms_in_all}
+use Rattle.cooper_periods.specs.FromAtomNormal.{Atom, atom_of, IsWellFormed, constant_tree}
+use Rattle.cooper_periods.specs.FromAtomNormal.atom_partial_eq_impl as atoms
+use Rattle.cooper_periods.proofs.FromAtomNormal.{meaning_determines}
+use Rattle.nnf_trees.proofs.FromFormulaTree.decided_rules as decided
 use Rattle.formula_meaning.specs.declared.junction.Junction.{Junction}
 use Rattle.formula_meaning.specs.declared.quantifier.Quantifier.{Quantifier}
 

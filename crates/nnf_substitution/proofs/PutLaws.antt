@@ -11,20 +11,17 @@ use Rattle.formula_meaning.specs.TheoryAtoms.{AtomIn}
 use Rattle.formula_meaning.specs.Answer.{Place}
 use Rattle.formula_meaning.specs.Tree.{Tree, Trees}
 use Rattle.formula_meaning.specs.Equivalence.{InContext}
-use Rattle.elimination_theory.specs.Atoms.{atoms_in, atoms_in_all}
+use Rattle.cooper_periods.specs.FromEliminationTheory.{atoms_in, atoms_in_all}
 use Rattle.formula_meaning.specs.Limits.{each}
-use Rattle.elimination_reference.specs.Limits.{atom_within}
-use Rattle.atom_normal.specs.Atoms.{tree_of}
-use Rattle.atom_normal.specs.NormalForm.{constant_tree}
-use Rattle.atom_normal.specs.declared.atoms.Normal.{Normal}
-use Rattle.atom_normal.specs.declared.atoms.Normal.TheVariants as normal
+use Rattle.cooper_periods.specs.FromEliminationReference.{atom_within}
+use Rattle.cooper_periods.specs.FromAtomNormal.{tree_of, constant_tree, Normal}
+use Rattle.cooper_periods.specs.FromAtomNormal.normal_variants as normal
 use Rattle.formula_meaning.specs.declared.junction.Junction.{Junction}
 use Rattle.formula_meaning.specs.declared.quantifier.Quantifier.{Quantifier}
 use Rattle.nnf_trees.specs.declared.nnf.Nnf.{Nnf}
 use Rattle.nnf_trees.specs.Nnfs.{nnf_of}
 use Rattle.nnf_trees.proofs.Pieces.{Formulas_of, lists_joined, append_none, append_thrice}
-use Rattle.test_points.specs.declared.error.PointError.{PointError}
-use Rattle.test_points.specs.declared.error.PointError.TheVariants.{Overflow, Nodes, Memory}
+use Rattle.cooper_periods.specs.FromTestPoints.{PointError, Overflow, Nodes, Memory}
 use Rattle.nnf_substitution.specs.Placed.{put, put_all, all_within, each_within, Fails}
 
 pub each_append : {X : Type 0} (test : X → Bool) (xs ys : List X) → each test (xs ++ ys) ≡ (each test xs && each test ys)

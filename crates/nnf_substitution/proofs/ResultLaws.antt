@@ -17,36 +17,24 @@ use Rattle.formula_meaning.specs.Same.{same_atom}
 use Rattle.formula_meaning.specs.Answer as meaning
 use Rattle.formula_meaning.specs.Tree.{Tree, Trees}
 use Rattle.formula_meaning.proofs.Same.{atom_same, both_true}
-use Rattle.elimination_theory.specs.Atoms.{atoms_in, atoms_of}
-use Rattle.elimination_theory.specs.BothTheories.{guard_of}
-use Rattle.elimination_theory.specs.Steps.{Result, normalised, kept, results, result_at}
-use Rattle.elimination_theory.specs.StepTheorems.{trees_left}
-use Rattle.elimination_theory.specs.Overflow.{FormWithin, PlaceWithin}
+use Rattle.cooper_periods.specs.FromEliminationTheory.{atoms_in, atoms_of, guard_of, Result, normalised, kept, results, result_at, trees_left, FormWithin, PlaceWithin, IsPlaceIn}
 use Rattle.formula_meaning.specs.Limits.{each, place_within}
-use Rattle.elimination_reference.specs.Limits.{atom_within}
-use Rattle.elimination_reference.specs.Reference.{stands_among}
-use Rattle.atom_normal.specs.NormalForm.{constant_tree, normal_atom}
+use Rattle.cooper_periods.specs.FromEliminationReference.{atom_within, stands_among}
+use Rattle.cooper_periods.specs.FromAtomNormal.{constant_tree, normal_atom, context_of}
 use Rattle.formula_meaning.specs.declared.junction.Junction.{Junction}
 use Rattle.formula_meaning.specs.declared.quantifier.Quantifier.{Quantifier}
 use Rattle.nnf_trees.specs.declared.nnf.Nnf.{Nnf}
 use Rattle.nnf_trees.specs.Nnfs.{nnf_of, IsProper}
 use Rattle.nnf_trees.proofs.Pieces.{Formulas_of, lists_joined, append_none, append_thrice}
-use Rattle.test_points.specs.declared.error.PointError.{PointError}
-use Rattle.test_points.specs.declared.error.PointError.TheVariants.{Overflow, Nodes, Memory}
-use Rattle.test_points.specs.declared.points.TestPoint.{TestPoint}
-use Rattle.test_points.specs.Points.{place_at, place_of, IsTestPoint}
-use Rattle.test_points.specs.declared.points.Place.{Place}
-use Rattle.test_points.specs.declared.points.Place.TheVariants as place
-use Rattle.elimination_theory.proofs.WithinTests.{place_tests}
-use Rattle.test_points.proofs.Forms.{coefficient_within}
-use Rattle.exact_numbers.specs.Limit.{InLimit}
+use Rattle.cooper_periods.specs.FromTestPoints.{PointError, Overflow, Nodes, Memory, TestPoint, place_at, place_of, IsTestPoint, Place}
+use Rattle.cooper_periods.specs.FromTestPoints.place_variants as place
+use Rattle.cooper_periods.proofs.FromEliminationTheory.{place_tests, IsSimple, simple_normalised, guard_simple}
+use Rattle.cooper_periods.proofs.FromTestPoints.{coefficient_within}
+use Rattle.formula_meaning.specs.FromExactNumbers.{InLimit}
 use Rattle.formula_meaning.specs.Form as forms
-use Rattle.elimination_reference.proofs.Tidy.{normaliser}
-use Rattle.elimination_theory.proofs.Simple.{IsSimple, simple_normalised, guard_simple}
-use Rattle.elimination_theory.specs.BothTheories.{IsPlaceIn}
-use Rattle.atom_normal.specs.declared.atoms.Context as code
-use Rattle.atom_normal.specs.declared.atoms.Context.TheVariants as context
-use Rattle.atom_normal.specs.Atoms.{context_of}
+use Rattle.cooper_periods.proofs.FromEliminationReference.{normaliser}
+use Rattle.cooper_periods.specs.FromAtomNormal.context_rules as code
+use Rattle.cooper_periods.specs.FromAtomNormal.context_variants as context
 use Rattle.std.specs.Prelude.{Result as Outcome, IfOk, IfErr, MatchResult}
 use Rattle.std.specs.declared.result.Result.TheVariants.{Ok, Err}
 use Rattle.nnf_substitution.specs.Placed.{IsPut, IsResultAt, put, all_within, point_within, with_guard, is_no, unless_false, Fails}

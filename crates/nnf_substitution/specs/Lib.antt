@@ -1,1 +1,4 @@
 pub mod Placed
+pub mod FromEliminationReference
+pub mod FromEliminationTheory
+pub mod FromTestPoints

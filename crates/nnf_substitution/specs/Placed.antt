@@ -8,18 +8,14 @@ use Rattle.formula_meaning.specs.declared.junction.Junction.TheVariants.{Conjunc
 use Rattle.formula_meaning.specs.Replaced.{replaced, all_replaced}
 use Rattle.formula_meaning.specs.Answer.{Place}
 use Rattle.formula_meaning.specs.Tree.{Tree, Trees}
-use Rattle.elimination_theory.specs.Atoms.{atoms_in, atoms_in_all, atoms_of}
-use Rattle.elimination_theory.specs.BothTheories.{guard_of}
-use Rattle.elimination_theory.specs.Steps.{atom_at, normalised, result_at, results}
-use Rattle.elimination_theory.specs.StepTheorems.{trees_left}
+use Rattle.cooper_periods.specs.FromEliminationTheory.{atoms_in, atoms_in_all, atoms_of, guard_of, atom_at, normalised, result_at, results, trees_left}
 use Rattle.formula_meaning.specs.Limits.{each, place_within}
-use Rattle.elimination_reference.specs.Limits.{atom_within}
-use Rattle.atom_normal.specs.NormalForm.{normal_atom}
-use Rattle.formula_tree.specs.Trees.{members}
+use Rattle.cooper_periods.specs.FromEliminationReference.{atom_within}
+use Rattle.cooper_periods.specs.FromAtomNormal.{normal_atom}
+use Rattle.nnf_trees.specs.FromFormulaTree.{members}
 use Rattle.nnf_trees.specs.declared.nnf.Nnf.{Nnf}
 use Rattle.nnf_trees.specs.Nnfs.{nnf_of, IsProper, AreProper}
-use Rattle.test_points.specs.declared.error.PointError.{PointError}
-use Rattle.test_points.specs.declared.error.PointError.TheVariants.{Overflow, Nodes, Memory}
+use Rattle.cooper_periods.specs.FromTestPoints.{PointError, Overflow, Nodes, Memory}
 
 -- the formula with x at the place: each atom in normal form, and folded
 abbrev pub put : Context → ℕ → Place → Tree → Tree

@@ -1,11 +1,11 @@
 // The atoms of a formula.
 ghost use Rattle.std.specs.Prelude.{◌≡◌, ◌++◌, All, map, OnOk, IfOk};
 ghost use Rattle.formula_meaning.specs.Every.{EveryOf};
-ghost use Rattle.elimination_theory.specs.Atoms.{atoms_in, atoms_in_all, atoms_of};
-ghost use Rattle.atom_normal.specs.Atoms.{atom_of, IsWellFormed};
+ghost use Rattle.cooper_periods.specs.FromEliminationTheory.{atoms_in, atoms_in_all, atoms_of};
+ghost use Rattle.cooper_periods.specs.FromAtomNormal.{atom_of, IsWellFormed};
 ghost use Rattle.nnf_trees.specs.Nnfs.{nnf_of, nnfs_of, nnfs_atoms, IsProper};
 
-use atom_normal::Atom;
+use cooper_periods::Atom;
 use indexmap::IndexSet;
 use nnf_trees::{Members, Nnf};
 use std::alloc::{AllocError, Global};

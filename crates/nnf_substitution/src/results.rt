@@ -5,22 +5,19 @@ ghost use Rattle.formula_meaning.specs.Fold.{append};
 ghost use Rattle.formula_meaning.specs.Form.{coefficient};
 ghost use Rattle.formula_meaning.specs.Atom.{form_of};
 ghost use Rattle.formula_meaning.specs.Context.{Integers};
-ghost use Rattle.elimination_theory.specs.BothTheories.{IsPlaceIn};
-ghost use Rattle.elimination_reference.specs.Reference.{stands_among};
+ghost use Rattle.cooper_periods.specs.FromEliminationTheory.{IsPlaceIn};
+ghost use Rattle.cooper_periods.specs.FromEliminationReference.{stands_among};
 ghost use Rattle.formula_meaning.specs.Limits.{each};
-ghost use Rattle.atom_normal.specs.Atoms.{atom_of, context_of};
-ghost use Rattle.formula_tree.specs.Trees.{members};
+ghost use Rattle.cooper_periods.specs.FromAtomNormal.{atom_of, context_of};
+ghost use Rattle.nnf_trees.specs.FromFormulaTree.{members};
 ghost use Rattle.nnf_trees.specs.Nnfs.{nnf_of, IsProper, AreProper};
-ghost use Rattle.test_points.specs.Points.{place_of, IsTestPoint, IsPointOf};
+ghost use Rattle.cooper_periods.specs.FromTestPoints.{place_of, IsTestPoint, IsPointOf};
 ghost use Rattle.nnf_substitution.specs.Placed.{Fails, IsResultAt, AreResults, point_within, with_guard, is_no, unless_false};
 
 use crate::substitution::{of_normal, substituted};
-use atom_normal::{Atom, Context};
-use cooper_periods::guard;
-use linear_forms::VarId;
+use cooper_periods::{Atom, Context, PointError, TestPoint, VarId, guard};
 use nnf_trees::{Junction, Nnf, fold};
 use std::alloc::Global;
-use test_points::{PointError, TestPoint};
 
 // The formula and the condition under which the point is a whole number, joined. The only error is `Memory`.
 fn guarded(alloc: Global, f: Nnf, point: &TestPoint) -> Result<Nnf, PointError>

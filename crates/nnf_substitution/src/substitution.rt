@@ -5,18 +5,17 @@ ghost use Rattle.formula_meaning.specs.Formula.{One as Single};
 ghost use Rattle.formula_meaning.specs.Every.{EveryOf};
 ghost use Rattle.formula_meaning.specs.TheoryAtoms.{AtomIn};
 ghost use Rattle.formula_meaning.specs.Equivalence.{InContext};
-ghost use Rattle.elimination_theory.specs.BothTheories.{IsPlaceIn};
-ghost use Rattle.atom_normal.specs.Atoms.{atom_of, context_of, tree_of, IsWellFormed, IsWellFormedNormal};
+ghost use Rattle.cooper_periods.specs.FromEliminationTheory.{IsPlaceIn};
+ghost use Rattle.cooper_periods.specs.FromAtomNormal.{atom_of, context_of, tree_of, IsWellFormed, IsWellFormedNormal};
 ghost use Rattle.nnf_trees.specs.Nnfs.{nnf_of, nnfs_of, nnfs_atoms, IsProper};
-ghost use Rattle.test_points.specs.Points.{place_of, IsTestPoint};
+ghost use Rattle.cooper_periods.specs.FromTestPoints.{place_of, IsTestPoint};
 ghost use Rattle.nnf_substitution.specs.Placed.{Fails, IsPut, ArePut, all_within, each_within};
 
-use atom_normal::{Atom, Context, Normal};
-use cooper_periods::substitute_integer;
-use linear_forms::VarId;
+use cooper_periods::{
+    Atom, Context, Normal, PointError, TestPoint, VarId, substitute_field, substitute_integer,
+};
 use nnf_trees::{Members, Nnf, Quantifier, fold};
 use std::alloc::{AllocError, Global};
-use test_points::{PointError, TestPoint, substitute_field};
 
 /// The formula of a normal form.
 #[tactic(auto, using(nnf_trees::proofs::NnfEquations::nnfs))]

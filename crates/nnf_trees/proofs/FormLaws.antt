@@ -10,7 +10,7 @@ use Rattle.formula_meaning.specs.Fold.{joined, append}
 use Rattle.formula_meaning.specs.TurnedJunction.{turned_junction}
 use Rattle.formula_meaning.specs.NegationNormal.{both}
 use Rattle.formula_meaning.specs.Tree.{Tree, Trees}
-use Rattle.atom_normal.specs.NormalForm.{constant_tree, negated_normal}
+use Rattle.formula_tree.specs.FromAtomNormal.{constant_tree, negated_normal}
 use Rattle.formula_meaning.specs.Sizes.{nodes, all_nodes}
 use Rattle.formula_meaning.specs.declared.junction.Junction.{Junction}
 use Rattle.formula_meaning.specs.declared.quantifier.Quantifier.{Quantifier}

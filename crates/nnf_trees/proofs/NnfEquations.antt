@@ -7,10 +7,8 @@ use Rattle.std.specs.declared.vec.Vec.{Vec}
 use Rattle.formula_meaning.specs.Fold.{joined}
 use Rattle.formula_meaning.specs.Shape.{quantified}
 use Rattle.formula_meaning.specs.Formula.{Yes, One, And}
-use Rattle.linear_forms.specs.declared.form.VarId.{VarId}
-use Rattle.atom_normal.specs.declared.atoms.Atom.{Atom}
-use Rattle.atom_normal.specs.Atoms.{atom_of}
-use Rattle.atom_normal.specs.NormalForm.{constant_tree}
+use Rattle.formula_tree.specs.FromLinearForms.{VarId}
+use Rattle.formula_tree.specs.FromAtomNormal.{Atom, atom_of, constant_tree}
 use Rattle.formula_tree.specs.Trees.{members}
 use Rattle.formula_meaning.specs.declared.junction.Junction.{Junction}
 use Rattle.formula_meaning.specs.declared.quantifier.Quantifier.{Quantifier}

@@ -7,7 +7,7 @@ use Rattle.formula_meaning.specs.Formula.{One, none, also}
 use Rattle.formula_meaning.specs.Fold.{joined, append, pieces_of, put_together, neutral, absorbing, all_pieces, from_pieces, fold_list}
 use Rattle.formula_meaning.specs.declared.junction.Junction.TheVariants.{Conjunction, Disjunction}
 use Rattle.formula_meaning.specs.Tree.{Tree, Trees}
-use Rattle.atom_normal.specs.NormalForm.{constant_tree}
+use Rattle.formula_tree.specs.FromAtomNormal.{constant_tree}
 use Rattle.formula_tree.specs.Trees.{members}
 use Rattle.formula_meaning.specs.contracts.junction.Junction.{the_type}
 use Rattle.formula_meaning.specs.declared.junction.Junction.{Junction}

@@ -2,7 +2,7 @@
 use Rattle.std.specs.Prelude.{ℕ, ◌+◌, ◌^◌, nat_lt, Bool, true, false, Option, Some, None, if◌then◌else◌}
 use Rattle.formula_meaning.specs.NegationNormal.{normal_form, normal_form_of_not, normal_forms, normal_forms_of_not}
 use Rattle.formula_meaning.specs.Tree.{Tree, Trees}
-use Rattle.atom_normal.specs.NormalForm.{negated_normal}
+use Rattle.formula_tree.specs.FromAtomNormal.{negated_normal}
 
 -- the negation normal form of the formula (false), or of its negation (true)
 abbrev pub form : Bool → Tree → Tree

@@ -1,2 +1,3 @@
 pub mod Nnfs
 pub mod Forms
+pub mod FromFormulaTree

@@ -6,9 +6,7 @@ use Rattle.formula_meaning.specs.Shape.{quantified}
 use Rattle.formula_meaning.specs.Every.{Every, EveryOf}
 use Rattle.formula_meaning.specs.Atom as meant
 use Rattle.formula_meaning.specs.Tree as meaning
-use Rattle.atom_normal.specs.declared.atoms.Atom.{Atom}
-use Rattle.atom_normal.specs.Atoms.{atom_of, IsWellFormed}
-use Rattle.atom_normal.specs.NormalForm.{constant_tree}
+use Rattle.formula_tree.specs.FromAtomNormal.{Atom, atom_of, IsWellFormed, constant_tree}
 use Rattle.formula_tree.specs.Trees.{members}
 use Rattle.nnf_trees.specs.declared.nnf.Nnf as code
 use Rattle.nnf_trees.specs.declared.nnf.Nnf.TheOpen as layer

@@ -2,16 +2,14 @@ ghost use Rattle.std.specs.Prelude.{◌≡◌, ◌∷◌, [], IfOk, not, if◌th
 ghost use Rattle.formula_meaning.specs.Fold.{joined};
 ghost use Rattle.formula_meaning.specs.Every.{Every, EveryOf};
 ghost use Rattle.formula_meaning.specs.NegationNormal.{both};
-ghost use Rattle.atom_normal.specs.Atoms.{atom_of, IsWellFormed};
-ghost use Rattle.atom_normal.specs.NormalForm.{negated_normal};
+ghost use Rattle.formula_tree.specs.FromAtomNormal.{atom_of, IsWellFormed, negated_normal};
 ghost use Rattle.formula_tree.specs.Trees.{tree_of, trees_of};
 ghost use Rattle.nnf_trees.specs.Nnfs.{nnf_of, nnfs_of, nnfs_atoms, IsProper, HasModulus};
 ghost use Rattle.nnf_trees.specs.Forms.{form, forms};
 
 use crate::nnf::{Members, Nnf};
-use atom_normal::{Atom, negate};
 use formula_meaning::{Junction, Quantifier};
-use formula_tree::{Tree, Trees};
+use formula_tree::{Atom, Tree, Trees, negate};
 use std::alloc::{AllocError, Global};
 
 /// The negation normal form of the formula, or of its negation. The recursion is as deep as the formula is high.

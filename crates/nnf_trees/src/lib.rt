@@ -11,6 +11,7 @@ mod trees;
 pub use folding::fold;
 pub use forms::normal_form;
 pub use formula_meaning::{Junction, Quantifier};
+pub use formula_tree::Tree;
 pub use negation::negated;
 pub use nnf::{Members, Nnf};
 pub use sizes::{Sizes, form_sizes, nodes};

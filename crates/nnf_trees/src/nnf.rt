@@ -2,9 +2,8 @@ ghost use Rattle.std.specs.Prelude.{◌≡◌, map};
 ghost use Rattle.formula_tree.specs.Trees.{members};
 ghost use Rattle.nnf_trees.specs.Nnfs.{nnf_of, nnfs_of, listed, nnf_atoms, nnfs_atoms};
 
-use atom_normal::Atom;
 use formula_meaning::{Junction, Quantifier};
-use linear_forms::VarId;
+use formula_tree::{Atom, VarId};
 
 /// A resolved formula in negation normal form.
 #[derive(Drop)]

@@ -6,8 +6,7 @@ ghost use Rattle.nnf_trees.specs.Nnfs.{nnf_of, nnfs_of};
 
 use crate::nnf::{Members, Nnf};
 use formula_meaning::{Junction, Quantifier};
-use formula_tree::{Tree, Trees};
-use linear_forms::VarId;
+use formula_tree::{Tree, Trees, VarId};
 use std::alloc::{AllocError, Global};
 
 /// The formula as a resolved formula. No atom is copied. The recursion is as deep as the formula is high.

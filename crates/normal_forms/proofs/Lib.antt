@@ -7,3 +7,4 @@ pub mod Capped
 pub mod Tables
 pub mod Parts
 pub mod Formed
+pub mod FromCleanForms

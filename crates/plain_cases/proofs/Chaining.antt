@@ -8,9 +8,8 @@ use Rattle.formula_meaning.specs.Fold.{fold_list, joined}
 use Rattle.formula_meaning.specs.Shape.{is_in, quantified}
 use Rattle.formula_meaning.specs.Tree.{Tree, Trees}
 use Rattle.atom_normal.specs.NormalForm.{constant_tree}
-use Rattle.elimination_reference.specs.Cases.{Case, case_sign, cases_of, reference_cases}
+use Rattle.plain_engine.specs.FromEliminationReference.{Case, case_sign, cases_of, reference_cases, Branch, normal_tree, alone, together, turned, signed_junction, steps, closed, branches, members}
 use Rattle.formula_meaning.specs.Measured.{Outcome, stopped, done, then_of, Counted, ◌>>=◌, pay}
-use Rattle.elimination_reference.specs.Reference.{Branch, normal_tree, alone, together, turned, signed_junction, steps, closed, branches, members}
 use Rattle.formula_meaning.specs.declared.junction.Junction.TheVariants.{Conjunction, Disjunction}
 use Rattle.formula_meaning.specs.declared.junction.Junction.{Junction}
 use Rattle.formula_meaning.specs.declared.quantifier.Quantifier.{Quantifier}

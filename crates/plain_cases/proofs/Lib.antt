@@ -1,3 +1,5 @@
 pub mod Standing
 pub mod Stepping
 pub mod Chaining
+pub mod FromNnfSubstitution
+pub mod FromPlainEngine

@@ -10,14 +10,12 @@ use Rattle.formula_meaning.specs.Context.{Context}
 use Rattle.formula_meaning.specs.TheoryAtoms.{AtomIn}
 use Rattle.formula_meaning.specs.Every.{EveryOf}
 use Rattle.formula_meaning.specs.Equivalence.{InContext}
-use Rattle.elimination_reference.specs.Cases.{Case, cases_of}
+use Rattle.plain_engine.specs.FromEliminationReference.{Case, cases_of, Branch, branch_trees}
 use Rattle.formula_meaning.specs.Measured.{Outcome, stopped, done}
-use Rattle.elimination_reference.specs.Reference.{Branch, branch_trees}
 use Rattle.nnf_trees.specs.declared.nnf.Nnf.{Nnf}
 use Rattle.nnf_trees.specs.Nnfs.{nnf_of}
-use Rattle.formula_tree.specs.Trees.{tree_of}
-use Rattle.test_points.specs.declared.points.TestPoint.{TestPoint}
-use Rattle.test_points.specs.Points.{answer_of, IsTestPoint}
+use Rattle.nnf_trees.specs.FromFormulaTree.{tree_of}
+use Rattle.plain_engine.specs.FromTestPoints.{TestPoint, answer_of, IsTestPoint}
 use Rattle.plain_engine.specs.declared.measured.Measured.{Measured}
 use Rattle.plain_engine.specs.declared.measured.Measured.TheVariants as measured
 use Rattle.plain_engine.specs.Told.{StopsWith, bare, all_bare, formulas_of, seen}

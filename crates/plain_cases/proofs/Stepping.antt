@@ -12,16 +12,14 @@ use Rattle.elimination_theory.specs.BothTheories.{test_points}
 use Rattle.elimination_theory.specs.declared.side.Side.TheVariants.{Lower}
 use Rattle.elimination_theory.specs.Steps.{Result as Left, kept, result_at, results}
 use Rattle.formula_meaning.specs.Limits.{each}
-use Rattle.elimination_reference.specs.Limits.{span_within, step_within}
+use Rattle.plain_engine.specs.FromEliminationReference.{span_within, step_within, Branch, next_branch, kept_at_zero, stands_among, point_count, full_step, one_step, steps}
 use Rattle.formula_meaning.specs.Measured.{Outcome, stopped, done, then_of, give, pay, within}
-use Rattle.elimination_reference.specs.Reference.{Branch, next_branch, kept_at_zero, stands_among, point_count, full_step, one_step, steps}
 use Rattle.atom_normal.specs.NormalForm.{normal_atom}
 use Rattle.linear_forms.specs.declared.form.VarId.{VarId}
 use Rattle.nnf_trees.specs.Nnfs.{nnf_of}
-use Rattle.nnf_substitution.specs.Placed.{is_no, point_within}
-use Rattle.nnf_substitution.proofs.PutLaws.{and_known}
-use Rattle.test_points.specs.declared.points.TestPoint.{TestPoint}
-use Rattle.test_points.specs.Points.{answer_of, place_of, IsPointOf}
+use Rattle.plain_engine.specs.FromNnfSubstitution.{is_no, point_within}
+use Rattle.plain_engine.proofs.FromNnfSubstitution.{and_known}
+use Rattle.plain_engine.specs.FromTestPoints.{TestPoint, answer_of, place_of, IsPointOf}
 use Rattle.plain_engine.specs.declared.measured.Measured.{Measured}
 use Rattle.plain_engine.specs.declared.measured.Measured.TheVariants as measured
 use Rattle.plain_engine.specs.Told.{StopsWith, bare, seen}

@@ -1,9 +1,9 @@
 -- The program's cases.
 use Rattle.std.specs.Prelude.{List, [], ◌∷◌, All, map}
-use Rattle.elimination_reference.specs.Cases.{Case}
-use Rattle.formula_tree.specs.Trees.{tree_of}
+use Rattle.plain_engine.specs.FromEliminationReference.{Case}
+use Rattle.nnf_trees.specs.FromFormulaTree.{tree_of}
 use Rattle.nnf_trees.specs.Nnfs.{nnf_of}
-use Rattle.test_points.specs.Points.{answer_of, IsTestPoint}
+use Rattle.plain_engine.specs.FromTestPoints.{answer_of, IsTestPoint}
 use Rattle.plain_cases.specs.declared.branch.Leaf.{Leaf}
 use Rattle.plain_cases.specs.declared.cases.PrintedCase.{PrintedCase}
 

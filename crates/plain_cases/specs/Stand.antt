@@ -12,12 +12,11 @@ use Rattle.formula_meaning.specs.Equivalence.{InContext}
 use Rattle.elimination_theory.specs.Answers.{answers_of, zero_place}
 use Rattle.elimination_theory.specs.Steps.{results}
 use Rattle.formula_meaning.specs.Measured.{Outcome, stopped, done}
-use Rattle.elimination_reference.specs.Reference.{Branch, next_branch}
+use Rattle.plain_engine.specs.FromEliminationReference.{Branch, next_branch}
 use Rattle.atom_normal.specs.NormalForm.{normal_atom}
 use Rattle.linear_forms.specs.declared.form.VarId.{VarId}
 use Rattle.nnf_trees.specs.Nnfs.{nnf_of, IsProper}
-use Rattle.test_points.specs.declared.points.TestPoint.{TestPoint}
-use Rattle.test_points.specs.Points.{answer_of, place_of, IsTestPoint, IsPointOf}
+use Rattle.plain_engine.specs.FromTestPoints.{TestPoint, answer_of, place_of, IsTestPoint, IsPointOf}
 use Rattle.plain_engine.specs.declared.measured.Measured.{Measured}
 use Rattle.plain_engine.specs.Told.{StopsWith}
 use Rattle.plain_cases.specs.declared.branch.Leaf.{Leaf}

@@ -6,8 +6,8 @@ ghost use Rattle.plain_cases.specs.Stand.{StandFor, AreSound, IsZeroPoint};
 
 use linear_forms::{Linear, VarId};
 use nnf_trees::Nnf;
+use plain_engine::{Place, TestPoint};
 use std::alloc::{AllocError, Global};
-use test_points::{Place, TestPoint};
 
 /// A formula that is left, and the test points that led to it, the last one first.
 #[derive(Drop)]

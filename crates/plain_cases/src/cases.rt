@@ -5,11 +5,9 @@ ghost use Rattle.formula_meaning.specs.Some.{EachOf};
 ghost use Rattle.formula_meaning.specs.Tree.{IsFree};
 ghost use Rattle.atom_normal.specs.Atoms.{context_of};
 ghost use Rattle.atom_normal.specs.NormalForm.{IsNormal};
-ghost use Rattle.elimination_reference.specs.Cases.{Case, case_sign, reference_cases};
-ghost use Rattle.elimination_reference.specs.Over.{AreAnswersOver};
+ghost use Rattle.plain_engine.specs.FromEliminationReference.{Case, case_sign, reference_cases, AreAnswersOver, AreExactCases};
 ghost use Rattle.formula_meaning.specs.Measured.{done};
-ghost use Rattle.elimination_reference.specs.Theorems.{AreExactCases};
-ghost use Rattle.formula_tree.specs.Trees.{tree_of};
+ghost use Rattle.nnf_trees.specs.FromFormulaTree.{tree_of};
 ghost use Rattle.nnf_trees.specs.Nnfs.{nnf_of, HasModulus};
 ghost use Rattle.plain_engine.specs.Told.{StopsWith};
 ghost use Rattle.plain_cases.specs.Stand.{AreSound};
@@ -18,11 +16,9 @@ ghost use Rattle.plain_cases.specs.Case.{case_seen, leaf_case, HavePoints};
 use crate::branch::Leaf;
 use crate::chain::leaves;
 use atom_normal::Context;
-use formula_tree::Tree;
-use nnf_trees::{Nnf, form_sizes, into_tree, normal_form};
-use plain_engine::{Measured, Setting, is_ex, pay};
+use nnf_trees::{Nnf, Tree, form_sizes, into_tree, normal_form};
+use plain_engine::{Measured, Setting, TestPoint, is_ex, pay};
 use std::alloc::{AllocError, Global};
-use test_points::TestPoint;
 
 /// Where the guard is true, the answers make the matrix behind the leading block true.
 #[derive(Drop)]

@@ -1,7 +1,7 @@
 // The leading quantifiers, from the inside out.
 ghost use Rattle.std.specs.Prelude.{◌≡◌, false, IfOk};
 ghost use Rattle.atom_normal.specs.Atoms.{context_of};
-ghost use Rattle.elimination_reference.specs.Reference.{branches};
+ghost use Rattle.plain_engine.specs.FromEliminationReference.{branches};
 ghost use Rattle.nnf_trees.specs.Nnfs.{nnf_of, IsProper};
 ghost use Rattle.plain_engine.specs.Ready.{IsReady};
 ghost use Rattle.plain_engine.specs.Told.{numbers};

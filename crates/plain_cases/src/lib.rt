@@ -8,4 +8,5 @@ mod step;
 
 pub use branch::{Leaf, without_points};
 pub use cases::{PrintedCase, case_leaves, cases_plain, is_asked};
+pub use plain_engine::{Measured, Place, TestPoint};
 pub use step::case_steps;

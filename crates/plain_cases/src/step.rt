@@ -4,20 +4,21 @@ ghost use Rattle.formula_meaning.specs.Equivalence.{InContext};
 ghost use Rattle.elimination_theory.specs.Atoms.{atoms_of};
 ghost use Rattle.elimination_theory.specs.BothTheories.{IsPlaceIn};
 ghost use Rattle.formula_meaning.specs.Limits.{each};
-ghost use Rattle.elimination_reference.specs.Reference.{Branch, kept_at_zero, full_step, one_step, steps};
+ghost use Rattle.plain_engine.specs.FromEliminationReference.{Branch, kept_at_zero, full_step, one_step, steps};
 ghost use Rattle.atom_normal.specs.Atoms.{atom_of, context_of, IsWellFormed};
 ghost use Rattle.nnf_trees.specs.Nnfs.{nnf_of};
-ghost use Rattle.nnf_substitution.specs.Placed.{Fails, point_within};
-ghost use Rattle.test_points.specs.Points.{place_of, IsPointOf};
+ghost use Rattle.plain_engine.specs.FromNnfSubstitution.{Fails, point_within};
+ghost use Rattle.plain_engine.specs.FromTestPoints.{place_of, IsPointOf};
 ghost use Rattle.plain_cases.specs.Stand.{StandsFor, StandFor, IsSound, AreSound, AreInside, Tells, results_at};
 
 use crate::branch::{Leaf, with_point, zero_point};
 use atom_normal::Atom;
 use linear_forms::VarId;
-use nnf_substitution::{distinct_atoms, formula_at, is_false, stands_in_some};
-use plain_engine::{Measured, Setting, paid_points, stopped};
+use plain_engine::{
+    Measured, PointError, Setting, TestPoint, distinct_atoms, formula_at, is_false, paid_points,
+    stands_in_some, stopped,
+};
 use std::alloc::{AllocError, Global};
-use test_points::{PointError, TestPoint};
 
 /// One step for `x` of each leaf, in their order.
 pub fn case_steps(

@@ -16,10 +16,8 @@ use Rattle.atom_normal.specs.NormalForm.{constant_tree, negated_normal, IsNormal
 use Rattle.formula_meaning.specs.Measured.{Outcome, stopped, done, then_of, Counted, ◌>>=◌, pay}
 use Rattle.formula_meaning.specs.Giving.{Gives}
 use Rattle.formula_meaning.specs.Every.{Every}
-use Rattle.elimination_reference.specs.Theorems.{IsAnswerTo}
-use Rattle.elimination_reference.proofs.Sound.{reference_exact}
-use Rattle.elimination_reference.proofs.Bounded.{cost_bounds}
-use Rattle.elimination_reference.specs.Reference.{Branch, alone, together, turned, steps, closed, branches, members, normal_tree, leading_branches, reference}
+use Rattle.nnf_substitution.specs.FromEliminationReference.{IsAnswerTo, Branch, alone, together, turned, steps, closed, branches, members, normal_tree, leading_branches, reference}
+use Rattle.nnf_substitution.proofs.FromEliminationReference.{reference_exact, cost_bounds}
 use Rattle.formula_meaning.specs.declared.quantifier.Quantifier.{Quantifier}
 use Rattle.plain_engine.specs.declared.measured.Measured.{Measured}
 use Rattle.plain_engine.specs.Told.{StopsWith, seen, prefixed, only, joined_after, is_ex, stepped, made_one, chained_branches, closed_branches}

@@ -8,33 +8,25 @@ use Rattle.std.proofs.Math.IntN.{ℤ, pos}
 use Rattle.std.specs.Prelude.{if◌then◌else◌, Result, IfOk, IfErr}
 use Rattle.std.specs.Option.{SomeIff, MatchOption}
 use Rattle.std.specs.declared.result.Result.TheVariants.{Ok, Err}
-use Rattle.exact_numbers.specs.Limit.{InLimit, PastLimit}
+use Rattle.formula_meaning.specs.FromExactNumbers.{InLimit, PastLimit}
 use Rattle.formula_meaning.specs.Context.{Context, Fields, Integers}
 use Rattle.formula_meaning.specs.Sizes.{nodes}
 use Rattle.formula_meaning.specs.Some.{Among, EachOf}
 use Rattle.formula_meaning.specs.Answer.{Place}
 use Rattle.formula_meaning.specs.Tree.{Tree, Trees}
 use Rattle.formula_meaning.specs.Equivalence.{InContext}
-use Rattle.elimination_theory.specs.declared.side.Side.TheVariants.{Lower}
-use Rattle.elimination_theory.specs.Atoms.{atoms_in, atoms_of}
-use Rattle.elimination_theory.specs.BothTheories.{test_points, IsPlaceIn}
-use Rattle.elimination_theory.specs.Steps.{Result as Left, step}
-use Rattle.elimination_theory.specs.StepTheorems.{trees_left}
-use Rattle.elimination_theory.proofs.BothSubstitutions.{place_in, point_suits}
+use Rattle.nnf_substitution.specs.FromEliminationTheory.{Lower, atoms_in, atoms_of, test_points, IsPlaceIn, Result as Left, step, trees_left}
+use Rattle.nnf_substitution.proofs.FromEliminationTheory.{place_in, point_suits, within_tests}
 use Rattle.atom_normal.specs.NormalForm.{normal_atom}
 use Rattle.formula_meaning.specs.Limits.{each, is_within}
-use Rattle.elimination_reference.specs.Limits.{span_within, step_within}
+use Rattle.nnf_substitution.specs.FromEliminationReference.{span_within, step_within, Branch, next_branch, point_count, kept_at_zero, stands_among, full_step, one_step}
 use Rattle.formula_meaning.specs.Measured.{Outcome, stopped, done, then_of, give, pay, within}
 use Rattle.formula_meaning.specs.Measured as stop
-use Rattle.elimination_reference.specs.Reference.{Branch, next_branch, point_count, kept_at_zero, stands_among, full_step, one_step}
-use Rattle.elimination_reference.proofs.Branches.{next_trees}
+use Rattle.nnf_substitution.proofs.FromEliminationReference.{next_trees}
 use Rattle.nnf_trees.specs.Forms.{limited}
-use Rattle.elimination_theory.proofs.WithinTests.{within_tests}
-use Rattle.test_points.specs.declared.error.PointError.{PointError}
-use Rattle.test_points.specs.declared.error.PointError.TheVariants as error
-use Rattle.test_points.specs.declared.points.TestPoint.{TestPoint}
+use Rattle.nnf_substitution.specs.FromTestPoints.{PointError, TestPoint, place_of}
+use Rattle.nnf_substitution.specs.FromTestPoints.point_error_variants as error
 use Rattle.nnf_substitution.specs.Placed.{Fails}
-use Rattle.test_points.specs.Points.{place_of}
 use Rattle.plain_engine.specs.declared.measured.Measured.{Measured}
 use Rattle.plain_engine.specs.declared.measured.Measured.TheVariants as measured
 use Rattle.plain_engine.specs.Told.{StopsWith, bare, seen, only}

@@ -13,11 +13,8 @@ use Rattle.formula_meaning.proofs.NormalShape.{normal_form_shape}
 use Rattle.atom_normal.specs.NormalForm.{IsNormal, negated_normal}
 use Rattle.formula_meaning.specs.Measured.{done, Outcome}
 use Rattle.formula_meaning.specs.Giving.{Gives}
-use Rattle.elimination_reference.specs.Reference.{Branch, branch_trees, branches, normal_tree}
-use Rattle.elimination_reference.proofs.Always.{gives_then}
-use Rattle.elimination_reference.proofs.Branches.{IsBranch}
-use Rattle.elimination_reference.proofs.Sound.{Good, branches_are, normal_normal_tree}
-use Rattle.elimination_reference.proofs.Tidy.{tidy_in}
+use Rattle.nnf_substitution.specs.FromEliminationReference.{Branch, branch_trees, branches, normal_tree}
+use Rattle.nnf_substitution.proofs.FromEliminationReference.{gives_then, IsBranch, Good, branches_are, normal_normal_tree, tidy_in}
 use Rattle.formula_meaning.specs.declared.junction.Junction.{Junction}
 use Rattle.formula_meaning.specs.declared.quantifier.Quantifier.{Quantifier}
 use Rattle.plain_engine.specs.Told.{seen}

@@ -6,14 +6,11 @@ use Rattle.formula_meaning.specs.Formula.{none, also}
 use Rattle.formula_meaning.specs.Fold.{append}
 use Rattle.formula_meaning.specs.Sizes.{nodes}
 use Rattle.formula_meaning.specs.Tree.{Tree, Trees}
-use Rattle.elimination_theory.specs.Atoms.{atoms_in}
-use Rattle.elimination_theory.specs.declared.side.Side.TheVariants.{Lower}
-use Rattle.elimination_theory.specs.Steps.{step, Result as Left}
+use Rattle.nnf_substitution.specs.FromEliminationTheory.{atoms_in, Lower, step, Result as Left}
 use Rattle.atom_normal.specs.NormalForm.{normal_atom}
-use Rattle.elimination_reference.specs.Limits.{span_within, step_within}
+use Rattle.nnf_substitution.specs.FromEliminationReference.{span_within, step_within, Branch, branch_trees, next_branch, kept_at_zero, stands_among, point_count, full_step, one_step, steps}
 use Rattle.formula_meaning.specs.Measured.{Outcome, stopped, done, then_of, Counted, give, pay, within}
-use Rattle.elimination_reference.specs.Reference.{Branch, branch_trees, next_branch, kept_at_zero, stands_among, point_count, full_step, one_step, steps}
-use Rattle.elimination_reference.proofs.Branches.{next_trees}
+use Rattle.nnf_substitution.proofs.FromEliminationReference.{next_trees}
 use Rattle.plain_engine.specs.declared.measured.Measured.{Measured}
 use Rattle.plain_engine.specs.declared.measured.Measured.TheVariants as measured
 use Rattle.std.specs.Prelude.{Result}

@@ -3,18 +3,13 @@ use Rattle.std.specs.Prelude.{◌≡◌, ℕ, zero, suc, ◌+◌, ◌*◌, List,
 use Rattle.formula_meaning.specs.Context.{Context}
 use Rattle.formula_meaning.specs.Sizes.{nodes}
 use Rattle.formula_meaning.specs.Tree.{Tree}
-use Rattle.elimination_theory.specs.declared.side.Side.TheVariants.{Lower}
-use Rattle.elimination_theory.specs.Atoms.{atoms_of}
-use Rattle.elimination_theory.specs.BothTheories.{test_points}
-use Rattle.elimination_reference.specs.Limits.{span_within}
+use Rattle.nnf_substitution.specs.FromEliminationTheory.{Lower, atoms_of, test_points}
+use Rattle.nnf_substitution.specs.FromEliminationReference.{span_within, point_count}
 use Rattle.formula_meaning.specs.Measured.{Outcome, done, then_of, pay, within}
-use Rattle.elimination_reference.specs.Reference.{point_count}
-use Rattle.linear_forms.specs.declared.form.VarId.{VarId}
+use Rattle.atom_normal.specs.FromLinearForms.{VarId}
 use Rattle.nnf_trees.specs.Forms.{limited}
-use Rattle.test_points.specs.declared.error.PointError.{PointError}
-use Rattle.test_points.specs.declared.error.PointError.TheVariants as error
-use Rattle.test_points.specs.declared.points.TestPoint.{TestPoint}
-use Rattle.test_points.specs.Points.{place_of, IsPointOf}
+use Rattle.nnf_substitution.specs.FromTestPoints.{PointError, TestPoint, place_of, IsPointOf}
+use Rattle.nnf_substitution.specs.FromTestPoints.point_error_variants as error
 use Rattle.plain_engine.specs.declared.measured.Measured.{Measured}
 use Rattle.plain_engine.specs.declared.measured.Measured.TheVariants as measured
 

@@ -10,9 +10,9 @@ use Rattle.formula_meaning.specs.declared.junction.Junction.TheVariants.{Disjunc
 use Rattle.formula_meaning.specs.Tree.{Tree, Trees}
 use Rattle.formula_meaning.specs.Measured.{Outcome, stopped, done, then_of}
 use Rattle.formula_meaning.specs.Measured as stop
-use Rattle.elimination_reference.specs.Reference.{Branch, branch_trees, turned, steps, branches}
-use Rattle.formula_tree.specs.Trees.{members}
-use Rattle.linear_forms.specs.declared.form.VarId.{VarId}
+use Rattle.nnf_substitution.specs.FromEliminationReference.{Branch, branch_trees, turned, steps, branches}
+use Rattle.nnf_trees.specs.FromFormulaTree.{members}
+use Rattle.atom_normal.specs.FromLinearForms.{VarId}
 use Rattle.nnf_trees.specs.declared.nnf.Nnf.{Nnf}
 use Rattle.formula_meaning.specs.declared.quantifier.Quantifier.{Quantifier}
 use Rattle.nnf_trees.specs.Nnfs.{nnf_of}

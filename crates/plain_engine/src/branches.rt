@@ -2,7 +2,7 @@ ghost use Rattle.std.specs.Prelude.{IfOk};
 ghost use Rattle.formula_meaning.specs.Shape.{quantified};
 ghost use Rattle.formula_meaning.specs.Every.{EveryOf};
 ghost use Rattle.atom_normal.specs.Atoms.{context_of, IsWellFormed};
-ghost use Rattle.elimination_reference.specs.Reference.{branches, members};
+ghost use Rattle.nnf_substitution.specs.FromEliminationReference.{branches, members};
 ghost use Rattle.nnf_trees.specs.Nnfs.{nnf_of, nnfs_of, nnfs_atoms, IsProper, AreProper};
 ghost use Rattle.plain_engine.specs.Ready.{IsReady, AreReady};
 ghost use Rattle.plain_engine.specs.Told.{Told, seen, formulas_of, numbers, chained_branches, closed_branches};
@@ -10,7 +10,7 @@ ghost use Rattle.plain_engine.specs.Told.{Told, seen, formulas_of, numbers, chai
 use crate::measured::{Measured, Setting};
 use crate::parts::{alone, before, is_ex, signed, stands_in, turned};
 use crate::steps::steps;
-use linear_forms::VarId;
+use atom_normal::VarId;
 use nnf_trees::{Junction, Members, Nnf, Quantifier, fold};
 
 /// The branches of the formula, or for false those of its negation. The names are those of the chain of quantifiers in which the

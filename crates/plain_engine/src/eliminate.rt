@@ -4,17 +4,15 @@ ghost use Rattle.formula_meaning.specs.Sizes.{nodes};
 ghost use Rattle.atom_normal.specs.Atoms.{context_of};
 ghost use Rattle.atom_normal.specs.NormalForm.{IsNormal};
 ghost use Rattle.formula_meaning.specs.Measured.{done};
-ghost use Rattle.elimination_reference.specs.Reference.{reference};
-ghost use Rattle.elimination_reference.specs.Theorems.{IsAnswerTo};
-ghost use Rattle.formula_tree.specs.Trees.{tree_of};
+ghost use Rattle.nnf_substitution.specs.FromEliminationReference.{reference, IsAnswerTo};
+ghost use Rattle.nnf_trees.specs.FromFormulaTree.{tree_of};
 ghost use Rattle.nnf_trees.specs.Nnfs.{nnf_of, HasModulus, IsProper};
 ghost use Rattle.plain_engine.specs.Told.{StopsWith};
 
 use crate::branches::branches;
 use crate::measured::{Measured, Setting, pay};
 use atom_normal::Context;
-use formula_tree::Tree;
-use nnf_trees::{Junction, Nnf, fold, form_sizes, into_tree, normal_form};
+use nnf_trees::{Junction, Nnf, Tree, fold, form_sizes, into_tree, normal_form};
 use std::alloc::Global;
 
 /// The reference elimination of a tree over normal atoms: a formula without quantifiers that is equivalent to the tree, has no

@@ -10,5 +10,9 @@ mod steps;
 
 pub use eliminate::{eliminate_form, eliminate_plain};
 pub use measured::{Measured, Setting, pay};
+pub use nnf_substitution::{
+    Place, PointError, TestPoint, distinct_atoms, formula_at, in_normal_form, is_false, of_normal,
+    stands_in_some,
+};
 pub use parts::{before, is_ex, stands_in};
 pub use points::{paid_points, stopped};

@@ -2,13 +2,12 @@ ghost use Rattle.std.specs.Prelude.{◌≡◌, [], ◌∷◌, IfOk, map, nat_eq,
 ghost use Rattle.formula_meaning.specs.Shape.{is_in};
 ghost use Rattle.atom_normal.specs.Atoms.{atom_of, IsWellFormed};
 ghost use Rattle.atom_normal.specs.NormalForm.{negated_normal};
-ghost use Rattle.elimination_reference.specs.Reference.{turned};
-ghost use Rattle.linear_forms.specs.declared.form.VarId.{VarId};
+ghost use Rattle.nnf_substitution.specs.FromEliminationReference.{turned};
+ghost use Rattle.atom_normal.specs.FromLinearForms.{VarId};
 ghost use Rattle.nnf_trees.specs.Nnfs.{nnf_of, IsProper, AreProper};
 ghost use Rattle.plain_engine.specs.Told.{formulas_of, numbers, is_ex};
 
-use atom_normal::{Atom, negate};
-use linear_forms::VarId;
+use atom_normal::{Atom, VarId, negate};
 use nnf_trees::{Nnf, Quantifier, negated};
 use std::alloc::{AllocError, Global};
 

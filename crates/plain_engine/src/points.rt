@@ -2,19 +2,19 @@
 ghost use Rattle.std.specs.Prelude.{◌≡◌, All, map, IfOk, IfErr};
 ghost use Rattle.formula_meaning.specs.Context.{Fields, Integers};
 ghost use Rattle.formula_meaning.specs.Equivalence.{InContext};
-ghost use Rattle.elimination_theory.specs.Atoms.{atoms_of};
-ghost use Rattle.elimination_reference.specs.Reference.{full_step};
+ghost use Rattle.nnf_substitution.specs.FromEliminationTheory.{atoms_of};
+ghost use Rattle.nnf_substitution.specs.FromEliminationReference.{full_step};
 ghost use Rattle.atom_normal.specs.Atoms.{atom_of, context_of, IsWellFormed};
 ghost use Rattle.nnf_trees.specs.Nnfs.{nnf_of};
 ghost use Rattle.plain_engine.specs.Told.{StopsWith, seen, bare};
 ghost use Rattle.plain_engine.specs.Paid.{ArePaid, charge_of, measured_of};
 
 use crate::measured::{Measured, Setting, pay};
-use atom_normal::{Atom, Context};
-use cooper_periods::{integer_points, period, points_count};
-use linear_forms::VarId;
+use atom_normal::{Atom, Context, VarId};
+use nnf_substitution::{
+    PointError, Side, TestPoint, field_points, integer_points, period, points_count,
+};
 use nnf_trees::{Nnf, nodes};
-use test_points::{PointError, Side, TestPoint, field_points};
 
 /// What stops the engine where a test point, or a formula at it, could not be made.
 pub fn stopped(error: PointError) -> Measured

@@ -2,17 +2,16 @@ ghost use Rattle.std.specs.Prelude.{◌≡◌, All, map, IfOk};
 ghost use Rattle.formula_meaning.specs.Every.{EveryOf};
 ghost use Rattle.formula_meaning.specs.TheoryAtoms.{AtomIn};
 ghost use Rattle.formula_meaning.specs.Equivalence.{InContext};
-ghost use Rattle.elimination_theory.specs.Atoms.{atoms_of};
+ghost use Rattle.nnf_substitution.specs.FromEliminationTheory.{atoms_of};
 ghost use Rattle.atom_normal.specs.Atoms.{atom_of, context_of, IsWellFormed};
-ghost use Rattle.elimination_reference.specs.Reference.{full_step, one_step, steps};
+ghost use Rattle.nnf_substitution.specs.FromEliminationReference.{full_step, one_step, steps};
 ghost use Rattle.nnf_trees.specs.Nnfs.{nnf_of, IsProper, AreProper};
 ghost use Rattle.plain_engine.specs.Told.{Told, seen, bare, all_bare, formulas_of};
 
 use crate::measured::{Measured, Setting};
 use crate::parts::alone;
 use crate::points::{paid_points, stopped};
-use atom_normal::Atom;
-use linear_forms::VarId;
+use atom_normal::{Atom, VarId};
 use nnf_substitution::{distinct_atoms, formulas_at, stands_in_some};
 use nnf_trees::Nnf;
 

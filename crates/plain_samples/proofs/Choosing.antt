@@ -16,11 +16,8 @@ use Rattle.elimination_reference.specs.PutIn.{put_in, tree_put_within}
 use Rattle.elimination_reference.specs.Reference.{branches, normal_tree}
 use Rattle.elimination_reference.specs.Sample.{chosen_steps}
 use Rattle.elimination_reference.proofs.PutMatrix.{normal_stays, put_shape, put_sign}
-use Rattle.plain_engine.specs.declared.measured.Measured.{Measured}
-use Rattle.plain_engine.specs.Told.{Told}
-use Rattle.traced_cases.specs.declared.step.Step.{Step}
-use Rattle.traced_cases.specs.First.{first_steps}
-use Rattle.traced_cases.specs.Steps.{steps_seen}
+use Rattle.sample_values.specs.FromPlainEngine.{Measured, Told}
+use Rattle.sample_values.specs.FromTracedCases.{Step, first_steps, steps_seen}
 
 module _ (c : Context) (limit : ℕ) (p : Point ℕ) (f : Tree) where
   -- what comes after the nodes are counted

@@ -12,12 +12,11 @@ use Rattle.formula_meaning.specs.Giving.{Gives}
 use Rattle.elimination_reference.specs.Reference.{Branch}
 use Rattle.elimination_reference.specs.Sample.{first_true}
 use Rattle.linear_forms.specs.declared.form.VarId.{VarId}
-use Rattle.plain_engine.specs.declared.measured.Measured.{Measured}
-use Rattle.plain_engine.specs.Told.{StopsWith, Told}
-use Rattle.plain_engine.proofs.Seen.{told_then}
+use Rattle.sample_values.specs.FromPlainEngine.{Measured, StopsWith, Told}
+use Rattle.sample_values.proofs.FromPlainEngine.{told_then}
 use Rattle.sample_reference.specs.Sample.{sampled}
 use Rattle.sample_reference.specs.Seen.{sample_of}
-use Rattle.traced_cases.specs.First.{first_steps}
+use Rattle.sample_values.specs.FromTracedCases.{first_steps}
 
 module _ {A B : Type 0} (view : A → B) where
   pub told_made : (r : Result A Measured) (cost : ℕ) (o : Outcome (B × ℕ)) → Told view r cost o → IfOk r (λ a. (n : ℕ) × (o ≡ done (view a, n)))

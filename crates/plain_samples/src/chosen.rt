@@ -9,18 +9,15 @@ ghost use Rattle.elimination_reference.specs.Sample.{chosen_steps};
 ghost use Rattle.formula_tree.specs.Trees.{tree_of};
 ghost use Rattle.linear_forms.specs.Values.{point_of};
 ghost use Rattle.nnf_trees.specs.Nnfs.{HasModulus};
-ghost use Rattle.plain_engine.specs.Told.{StopsWith};
-ghost use Rattle.traced_cases.specs.Steps.{steps_seen, AreSteps};
+ghost use Rattle.sample_values.specs.FromPlainEngine.{StopsWith};
+ghost use Rattle.sample_values.specs.FromTracedCases.{steps_seen, AreSteps};
 
 use atom_normal::Context;
 use formula_tree::Tree;
 use linear_forms::Values;
 use nnf_trees::{form_sizes, normal_form};
-use plain_cases::is_asked;
-use plain_engine::{Measured, Setting, pay};
-use plain_truths::put_in;
+use sample_values::{Measured, Setting, Step, is_asked, pay, put_in, true_steps};
 use std::alloc::Global;
-use traced_cases::{Step, true_steps};
 
 /// The steps that lead to the first case whose guard is true at the point, that of the outermost name first: the nodes of the
 /// negation normal form are counted, then the point is put in. There are none where no guard is true. `Nodes` comes exactly where

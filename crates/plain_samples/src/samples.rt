@@ -9,22 +9,20 @@ ghost use Rattle.formula_meaning.specs.Measured.{done};
 ghost use Rattle.formula_tree.specs.Trees.{tree_of};
 ghost use Rattle.linear_forms.specs.Values.{point_of};
 ghost use Rattle.nnf_trees.specs.Nnfs.{HasModulus};
-ghost use Rattle.plain_engine.specs.Told.{StopsWith, Told};
+ghost use Rattle.sample_values.specs.FromPlainEngine.{StopsWith, Told};
 ghost use Rattle.sample_reference.specs.Sample.{sampled, reference_sample};
 ghost use Rattle.sample_reference.specs.TrueSample.{closed_sample, IsTrueSample};
 ghost use Rattle.sample_reference.specs.Seen.{sample_of};
 ghost use Rattle.sample_reference.specs.Values.{origin};
-ghost use Rattle.traced_cases.specs.Steps.{steps_seen, AreSteps};
+ghost use Rattle.sample_values.specs.FromTracedCases.{steps_seen, AreSteps};
 
 use crate::chosen::chosen_steps;
 use atom_normal::Context;
 use exact_numbers::Fraction;
 use formula_tree::Tree;
 use linear_forms::{Values, VarId};
-use plain_engine::Measured;
-use sample_values::step_values;
+use sample_values::{Measured, Step, first_true_steps, step_values};
 use std::alloc::Global;
-use traced_cases::{Step, first_true_steps};
 
 // The values of the steps, where there are some. `Overflow` comes exactly where a number that is formed passes 2^127 - 1, else
 // `Memory`.

@@ -16,15 +16,15 @@ use Rattle.formula_meaning.specs.Shape.{is_in}
 use Rattle.formula_meaning.specs.Sorted.{AllAbove, IsRising, AllNonzero}
 use Rattle.formula_meaning.proofs.Same.{and_left, and_right, both_true}
 use Rattle.formula_meaning.specs.Limits.{each, is_within}
-use Rattle.elimination_reference.specs.PutIn.{terms_kept, terms_put, terms_out, form_put, form_put_within}
+use Rattle.plain_engine.specs.FromEliminationReference.{terms_kept, terms_put, terms_out, form_put, form_put_within}
 use Rattle.linear_forms.specs.Terms.{AllInLimit, total_steps, value_steps}
 use Rattle.linear_forms.specs.Combinations.{IsLinear}
 use Rattle.linear_forms.specs.Values.{Numbers, number_at, point_of}
 use Rattle.linear_forms.proofs.Steps.{value_total_none, value_product_none, value_last}
-use Rattle.test_points.proofs.Ended.{first_false}
-use Rattle.elimination_theory.proofs.WithinTests.{within_tests}
-use Rattle.test_points.specs.declared.error.PointError.{PointError}
-use Rattle.nnf_substitution.specs.Placed.{Fails}
+use Rattle.plain_engine.proofs.FromTestPoints.{first_false}
+use Rattle.plain_engine.proofs.FromEliminationTheory.{within_tests}
+use Rattle.plain_engine.specs.FromTestPoints.{PointError}
+use Rattle.plain_engine.specs.FromNnfSubstitution.{Fails}
 use Rattle.nnf_trees.proofs.Counting.{drop_at}
 use Rattle.plain_engine.proofs.Paying.{is_past_limit}
 use Rattle.plain_truths.specs.Put.{kept_within, IsParted, IsFormPut}

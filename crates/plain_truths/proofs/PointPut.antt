@@ -11,13 +11,8 @@ use Rattle.formula_meaning.proofs.NormalShape.{normal_form_shape}
 use Rattle.atom_normal.specs.NormalForm.{IsNormal, negated_normal, constant_tree}
 use Rattle.formula_meaning.specs.Measured.{Outcome, done, then_of, pay, within}
 use Rattle.formula_meaning.specs.Giving.{Gives}
-use Rattle.elimination_reference.specs.PutIn.{put_in, tree_put_within}
-use Rattle.elimination_reference.specs.Reference.{Branch, together, branches, normal_tree, reference}
-use Rattle.elimination_reference.specs.Sample.{reference_at}
-use Rattle.elimination_reference.specs.Theorems.{IsTold}
-use Rattle.elimination_reference.proofs.PutIn.{putting_in_exact}
-use Rattle.elimination_reference.proofs.PutMatrix.{normal_stays, put_shape}
-use Rattle.elimination_reference.proofs.Sample.{truth_told}
+use Rattle.plain_engine.specs.FromEliminationReference.{put_in, tree_put_within, Branch, together, branches, normal_tree, reference, reference_at, IsTold}
+use Rattle.plain_engine.proofs.FromEliminationReference.{putting_in_exact, normal_stays, put_shape, truth_told}
 
 abbrev joined : Outcome (List Branch × ℕ) → Outcome (Tree × ℕ)
 joined o = then_of o (λ r. done (together r.0, r.1))

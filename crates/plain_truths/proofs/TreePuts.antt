@@ -13,7 +13,7 @@ use Rattle.formula_meaning.specs.Formula.{One, none, also}
 use Rattle.formula_meaning.specs.Atom as meant
 use Rattle.formula_meaning.specs.Point.{Point}
 use Rattle.formula_meaning.specs.Tree.{Tree, Trees}
-use Rattle.elimination_reference.specs.PutIn.{tree_put, trees_put, tree_put_within, trees_put_within}
+use Rattle.plain_engine.specs.FromEliminationReference.{tree_put, trees_put, tree_put_within, trees_put_within}
 use Rattle.atom_normal.specs.declared.atoms.Atom.{Atom}
 use Rattle.atom_normal.specs.declared.atoms.Atom.TheVariants as atom
 use Rattle.atom_normal.specs.declared.atoms.Normal.{Normal}

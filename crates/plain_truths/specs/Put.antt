@@ -7,8 +7,7 @@ use Rattle.formula_meaning.specs.Atom as meant
 use Rattle.formula_meaning.specs.Point.{Point}
 use Rattle.formula_meaning.specs.Tree.{Tree, Trees}
 use Rattle.formula_meaning.specs.Limits.{each, is_within}
-use Rattle.elimination_reference.specs.Limits.{normal_within}
-use Rattle.elimination_reference.specs.PutIn.{terms_kept, terms_out, form_put, atom_put, form_put_within, tree_put, trees_put, tree_put_within, trees_put_within}
+use Rattle.plain_engine.specs.FromEliminationReference.{normal_within, terms_kept, terms_out, form_put, atom_put, form_put_within, tree_put, trees_put, tree_put_within, trees_put_within}
 use Rattle.atom_normal.specs.declared.atoms.Normal.{Normal}
 use Rattle.atom_normal.specs.Atoms.{tree_of, IsWellFormedNormal}
 use Rattle.atom_normal.specs.NormalForm.{normal_atom}

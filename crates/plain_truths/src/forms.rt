@@ -1,20 +1,19 @@
 // Forms and atoms with the numbers of a point for the names that no quantifier around them binds.
 ghost use Rattle.std.specs.Prelude.{◌≡◌, true, pos, ◌<ℤ◌, MatchResult, IfOk};
 ghost use Rattle.formula_meaning.specs.TheoryAtoms.{AtomIn};
-ghost use Rattle.elimination_reference.specs.PutIn.{form_put_within};
+ghost use Rattle.plain_engine.specs.FromEliminationReference.{form_put_within};
 ghost use Rattle.atom_normal.specs.Atoms.{atom_of, context_of, IsWellFormed};
 ghost use Rattle.linear_forms.specs.Combinations.{IsLinear};
 ghost use Rattle.linear_forms.specs.Values.{point_of};
 ghost use Rattle.linear_forms.specs.Linear.{terms_of};
-ghost use Rattle.nnf_substitution.specs.Placed.{Fails};
+ghost use Rattle.plain_engine.specs.FromNnfSubstitution.{Fails};
 ghost use Rattle.plain_truths.specs.Put.{around, kept_within, atom_put_within, IsParted, IsFormPut, IsAtomPut};
 
 use atom_normal::{Atom, Context, Normal};
 use exact_numbers::product;
 use linear_forms::{Linear, Values, VarId};
-use plain_engine::stands_in;
+use plain_engine::{PointError, in_normal_form, stands_in};
 use std::alloc::Global;
-use test_points::{PointError, in_normal_form};
 
 // The places of a form: those of the names that stay, times the denominator, and those that become a number.
 #[derive(Drop)]

@@ -4,14 +4,12 @@ ghost use Rattle.formula_meaning.specs.TheoryAtoms.{AtomIn};
 ghost use Rattle.formula_meaning.specs.Every.{Every, EveryOf};
 ghost use Rattle.formula_meaning.specs.Point.{Of};
 ghost use Rattle.formula_meaning.specs.Equivalence.{InContext};
-ghost use Rattle.elimination_reference.specs.PutIn.{tree_put_within, trees_put_within, put_in};
-ghost use Rattle.elimination_reference.specs.Reference.{normal_tree};
-ghost use Rattle.elimination_reference.specs.Theorems.{IsPutIn};
+ghost use Rattle.plain_engine.specs.FromEliminationReference.{tree_put_within, trees_put_within, put_in, normal_tree, IsPutIn};
 ghost use Rattle.atom_normal.specs.Atoms.{context_of, IsWellFormed};
 ghost use Rattle.atom_normal.specs.NormalForm.{IsNormal};
 ghost use Rattle.formula_tree.specs.Trees.{tree_of};
 ghost use Rattle.linear_forms.specs.Values.{point_of};
-ghost use Rattle.nnf_substitution.specs.Placed.{Fails};
+ghost use Rattle.plain_engine.specs.FromNnfSubstitution.{Fails};
 ghost use Rattle.nnf_trees.specs.Nnfs.{nnf_of, nnfs_of, nnfs_atoms, IsProper, HasModulus};
 ghost use Rattle.plain_truths.specs.Put.{around, IsTreePut, AreTreesPut, Refuses};
 
@@ -19,11 +17,9 @@ use crate::forms::atom_put;
 use atom_normal::Context;
 use formula_tree::Tree;
 use linear_forms::{Values, VarId};
-use nnf_substitution::of_normal;
 use nnf_trees::{Members, Nnf, into_tree, normal_form};
-use plain_engine::{Measured, stopped};
+use plain_engine::{Measured, PointError, of_normal, stopped};
 use std::alloc::Global;
-use test_points::PointError;
 
 /// The formula with the numbers of the point for the names that no quantifier binds, each atom in normal form. The names are those
 /// of the quantifiers around it, the innermost last. The recursion is as deep as the formula is high.

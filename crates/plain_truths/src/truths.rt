@@ -5,7 +5,7 @@ ghost use Rattle.formula_meaning.specs.Formula.{Yes};
 ghost use Rattle.formula_meaning.specs.Point.{Of};
 ghost use Rattle.formula_meaning.specs.Tree.{TrueAt};
 ghost use Rattle.formula_meaning.specs.Measured.{done};
-ghost use Rattle.elimination_reference.specs.Sample.{reference_at};
+ghost use Rattle.plain_engine.specs.FromEliminationReference.{reference_at};
 ghost use Rattle.atom_normal.specs.Atoms.{context_of};
 ghost use Rattle.atom_normal.specs.NormalForm.{IsNormal, constant_tree};
 ghost use Rattle.formula_tree.specs.Trees.{tree_of};

@@ -20,8 +20,7 @@ use Rattle.session_meaning.specs.declared.line.StatementError.{StatementError}
 use Rattle.session_meaning.specs.declared.line.StatementError.TheVariants as error
 use Rattle.session_meaning.specs.State.{State}
 use Rattle.session_meaning.specs.Points.{MeanNoPoint}
-use Rattle.command_tools.specs.Replies.{use_of, Refuses}
-use Rattle.command_tools.specs.Refusals.{static_refusal}
+use Rattle.problem_reading.specs.FromCommandTools.{use_of, Refuses, static_refusal}
 use Rattle.problem_reading.specs.Reading.{HasNumbers, IsUnread, IsReadable, AreNumbered, AppliesAmong, IsBefore, HasNoEarlier, IsFirstAmong}
 use Rattle.point_queries.specs.Asked.{Asks, RefusesAsking, RefusesBoth, AcceptsBoth, entry_names, stop_of, IsBoundName, IsClear, PointStop, IsValued, ValuedStop}
 use Rattle.session_meaning.specs.Meaning.{meaning, Meaning}
@@ -29,7 +28,7 @@ use Rattle.session_meaning.specs.Uses.{Use}
 use Rattle.session_meaning.specs.Causes.{IsCause, HasNone, IsFirst}
 use Rattle.session_meaning.specs.Words.{before, order}
 use Rattle.formula_resolving.proofs.Order.{each_before}
-use Rattle.session_state.proofs.BindingLemmas.{trees_find}
+use Rattle.problem_reading.proofs.FromSessionState.{trees_find}
 use Rattle.problem_reading.proofs.CauseLemmas.{then_clear, overflow_here, to_point, first_in_reading, bound_first, readable_none}
 
 -- ---- names that are bound

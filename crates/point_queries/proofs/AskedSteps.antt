@@ -29,20 +29,16 @@ use Rattle.formula_store.specs.declared.id.FormulaId.{FormulaId}
 use Rattle.formula_store.specs.Nodes.{tree, IsId}
 use Rattle.session_meaning.specs.declared.line.StatementError.{StatementError}
 use Rattle.session_meaning.specs.declared.line.StatementError.TheVariants as error
-use Rattle.session_state.specs.declared.state.SessionState.{SessionState}
+use Rattle.problem_reading.specs.FromSessionState.{SessionState, state_of, IsSessionState, KeepsState}
 use Rattle.session_meaning.specs.State.{State}
 use Rattle.problem_reading.specs.Reading.{HasNumbers, IsReadable}
 use Rattle.point_queries.specs.Asked.{HaveNumbers, RefusesBoth, entry_names, IsReadAs, IsMeantPoint, PointStop, IsValued, ValuedStop, IsAsked}
 use Rattle.session_meaning.specs.Meaning.{meaning, numbered}
-use Rattle.session_state.specs.Keeping.{state_of, IsSessionState}
 use Rattle.session_meaning.specs.Points.{MeanNoPoint}
-use Rattle.session_state.specs.Growth.{KeepsState}
 use Rattle.point_queries.proofs.AskedLemmas.{no_point, not_valued, reading_passes, point_passes, all_clear}
 use Rattle.point_queries.proofs.CaseSteps.{on_ok}
-use Rattle.session_state.proofs.StateLemmas.{state_parts, same_state, same_session, length_grows, sound_with}
-use Rattle.session_state.proofs.NameLemmas.{numbers_stay}
+use Rattle.problem_reading.proofs.FromSessionState.{state_parts, same_state, same_session, length_grows, sound_with, numbers_stay, AllVariables, both, variables_of_formula, all_put_in}
 use Rattle.point_queries.proofs.PointLemmas.{of_theory}
-use Rattle.session_state.proofs.VariableLemmas.{AllVariables, both, variables_of_formula, all_put_in}
 use Rattle.point_queries.proofs.EntryLemmas.{names_of_entries}
 
 -- ---- what is looked at

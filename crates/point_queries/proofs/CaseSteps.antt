@@ -14,8 +14,7 @@ use Rattle.atom_normal.specs.NormalForm.{IsNormal}
 use Rattle.atom_normal.proofs.Stepped.{ok_map}
 use Rattle.elimination_reference.specs.Cases.{Case, case_sign}
 use Rattle.elimination_reference.specs.AnswerParts.{guards_of}
-use Rattle.plain_cases.specs.declared.cases.PrintedCase.{PrintedCase}
-use Rattle.plain_cases.specs.Case.{case_seen}
+use Rattle.session_meaning.specs.FromPlainCases.{PrintedCase, case_seen}
 use Rattle.qe_syntax.specs.Writable.{IsWritableFormula, AreWritableFormulas}
 use Rattle.statement_syntax.specs.Statements.{Qea}
 use Rattle.qe_syntax.specs.Trees.{FormulaTree, FormulaTrees}
@@ -26,24 +25,19 @@ use Rattle.formula_tree.specs.Resolving.{formula_variables, all_variables, resol
 use Rattle.formula_tree.proofs.PlaceLaws.{after_distinct}
 use Rattle.formula_resolving.specs.Numbering.{Grows}
 use Rattle.formula_meaning.specs.Within.{IsAtomWithin}
-use Rattle.answer_texts.specs.Answers.{cases_text}
-use Rattle.answer_texts.specs.Within.{AreCasesWithin}
+use Rattle.session_meaning.specs.FromAnswerTexts.{cases_text, AreCasesWithin}
 use Rattle.session_meaning.specs.declared.line.Line.{Line}
 use Rattle.session_meaning.specs.declared.line.StatementError.{StatementError}
 use Rattle.session_meaning.specs.declared.line.StatementError.TheVariants as error
-use Rattle.session_state.specs.declared.state.SessionState.{SessionState}
+use Rattle.problem_reading.specs.FromSessionState.{SessionState, state_of, IsSessionFormula, IsSound, IsSessionState, KeepsState}
 use Rattle.session_meaning.specs.State.{State}
 use Rattle.session_meaning.specs.Assumptions.{Hold, assumed}
 use Rattle.session_meaning.specs.Cases.{IsCaseOf, IsCaseAnswer}
-use Rattle.shared_forms.specs.declared.error.FormsError.{FormsError}
-use Rattle.shared_forms.specs.declared.error.FormsError.TheVariants as forms
-use Rattle.shared_forms.specs.Faults.{CasesFault}
-use Rattle.shared_forms.specs.declared.way.Way.{Way}
-use Rattle.shared_forms.specs.declared.way.Way.TheVariants as way
-use Rattle.shared_forms.specs.Cases.{IsCaseFor, AreCasesFor, AreWantedCases, AreCasesBy}
-use Rattle.command_tools.specs.Replies.{use_of, Refuses, IsQueryAnswer}
+use Rattle.problem_reading.specs.FromSharedForms.{FormsError, CasesFault, Way, IsCaseFor, AreCasesFor, AreWantedCases, AreCasesBy}
+use Rattle.problem_reading.specs.FromSharedForms.forms_error_variants as forms
+use Rattle.problem_reading.specs.FromSharedForms.way_variants as way
+use Rattle.problem_reading.specs.FromCommandTools.{use_of, Refuses, IsQueryAnswer, forms_refusal, LineFault}
 use Rattle.point_queries.specs.CaseLists.{CasesRefuse}
-use Rattle.command_tools.specs.Refusals.{forms_refusal, LineFault}
 use Rattle.problem_reading.specs.Reading.{AreNumbered, AreReadable, AreUnread}
 use Rattle.session_meaning.specs.Meaning.{meaning, numbered, Meaning}
 use Rattle.session_meaning.specs.Uses.{Use}
@@ -51,17 +45,12 @@ use Rattle.session_meaning.specs.Causes.{HasNone, IsAccepted}
 use Rattle.session_meaning.specs.Reply.{IsLine}
 use Rattle.session_meaning.specs.Words.{before}
 use Rattle.session_meaning.specs.FormulaAnswers.{negation_normal_of}
-use Rattle.session_state.specs.Keeping.{state_of, IsSessionFormula, IsSound, IsSessionState}
-use Rattle.session_state.specs.Growth.{KeepsState}
 use Rattle.problem_reading.proofs.AssumptionLemmas.{assumed_hold}
 use Rattle.problem_reading.proofs.CauseLemmas.{HasNoPoint, then_clear, unread_refuses, ready_below, readable_below, below_bindings}
-use Rattle.shared_forms.proofs.CaseLemmas.{err_map, IsReferenceCase, reference_known, left_no_longer, turned_under, turned_along}
-use Rattle.shared_forms.proofs.CasesFor.{cases_for, cases_within}
-use Rattle.session_state.proofs.StateLemmas.{state_parts, same_state, same_session, length_grows, sound_with}
-use Rattle.shared_forms.proofs.EliminatedLemmas.{orderly_members}
+use Rattle.problem_reading.proofs.FromSharedForms.{err_map, IsReferenceCase, reference_known, left_no_longer, turned_under, turned_along, cases_for, cases_within, orderly_members}
+use Rattle.problem_reading.proofs.FromSessionState.{state_parts, same_state, same_session, length_grows, sound_with, AllVariables, both, not_empty, variables_of_formula, variables_of_all, all_put_in}
 use Rattle.problem_reading.proofs.ReadLemmas.{numbers_of, readable_formula, assumed_normal}
 use Rattle.problem_reading.proofs.ReadTruth.{truth_as_written}
-use Rattle.session_state.proofs.VariableLemmas.{AllVariables, both, not_empty, variables_of_formula, variables_of_all, all_put_in}
 
 -- ---- results
 

@@ -3,7 +3,7 @@ use Rattle.std.proofs.Common.{List, [], ◌∷◌}
 use Rattle.qe_syntax.specs.declared.entries.PointEntry.{PointEntry}
 use Rattle.qe_syntax.specs.Writable.{AreWritableEntries}
 use Rattle.point_queries.specs.Asked.{entry_names}
-use Rattle.session_state.proofs.VariableLemmas.{AllVariables}
+use Rattle.problem_reading.proofs.FromSessionState.{AllVariables}
 
 pub names_of_entries : (es : List PointEntry) → AreWritableEntries es → AllVariables (entry_names es)
 names_of_entries [] h = tt

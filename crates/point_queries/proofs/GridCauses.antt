@@ -15,7 +15,7 @@ use Rattle.session_meaning.specs.Meaning.{Meaning, meaning}
 use Rattle.session_meaning.specs.Points.{IsQuantified}
 use Rattle.session_meaning.specs.Causes.{HasNone}
 use Rattle.session_meaning.specs.Words.{before}
-use Rattle.command_tools.specs.Replies.{use_of}
+use Rattle.problem_reading.specs.FromCommandTools.{use_of}
 use Rattle.problem_reading.specs.Reading.{HasNumbers, IsReadable}
 use Rattle.problem_reading.proofs.CauseLemmas.{then_clear, overflow_here}
 use Rattle.point_queries.specs.Asked.{Asks, IsClear, IsValued, ValuedStop}

@@ -41,14 +41,12 @@ use Rattle.session_meaning.specs.State.{State}
 use Rattle.session_meaning.specs.Grids.{lows, MeanNoGrid, IsGridAnswer, grid_text}
 use Rattle.session_meaning.specs.Meaning.{meaning, numbered}
 use Rattle.session_meaning.specs.Reply.{IsLine}
-use Rattle.command_tools.specs.Replies.{use_of, Refuses, IsQueryAnswer}
+use Rattle.problem_reading.specs.FromCommandTools.{use_of, Refuses, IsQueryAnswer}
 use Rattle.session_meaning.specs.Places.{by_names}
 use Rattle.session_meaning.specs.Points.{IsQuantified}
-use Rattle.session_state.specs.declared.state.SessionState.{SessionState}
-use Rattle.session_state.specs.Growth.{KeepsState}
-use Rattle.session_state.specs.Keeping.{state_of, IsSessionState}
-use Rattle.shared_forms.proofs.CaseLemmas.{err_map}
-use Rattle.engine_answers.proofs.Whole.{whole_where_asked}
+use Rattle.problem_reading.specs.FromSessionState.{SessionState, KeepsState, state_of, IsSessionState}
+use Rattle.problem_reading.proofs.FromSharedForms.{err_map}
+use Rattle.problem_reading.proofs.FromEngineAnswers.{whole_where_asked}
 use Rattle.problem_reading.specs.Reading.{HasNumbers, IsReadable}
 use Rattle.problem_reading.proofs.ReadLemmas.{readable_formula}
 use Rattle.point_queries.specs.Asked.{HaveNumbers, entry_names, IsClear, IsReadAs, IsValued, ValuedStop}

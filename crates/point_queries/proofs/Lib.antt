@@ -12,3 +12,6 @@ pub mod TruthSteps
 pub mod GridSteps
 pub mod SampleLemmas
 pub mod SampleSteps
+pub mod FromProblemReading
+pub mod FromSessionState
+pub mod FromSharedForms

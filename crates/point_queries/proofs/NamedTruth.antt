@@ -16,8 +16,8 @@ use Rattle.formula_tree.specs.Resolving.{place, at_names, resolve, bound_truth}
 use Rattle.formula_tree.proofs.PlaceLaws.{slice_place, one_place}
 use Rattle.session_meaning.specs.State.{State}
 use Rattle.session_meaning.specs.Places.{by_names}
-use Rattle.session_state.specs.Keeping.{IsSound}
-use Rattle.shared_forms.proofs.EliminatedLemmas.{free_below}
+use Rattle.problem_reading.specs.FromSessionState.{IsSound}
+use Rattle.problem_reading.proofs.FromSharedForms.{free_below}
 use Rattle.problem_reading.specs.Reading.{HasNumbers, IsReadable}
 use Rattle.problem_reading.proofs.ReadLemmas.{readable_formula}
 use Rattle.problem_reading.proofs.ReadTruth.{truth_as_written}

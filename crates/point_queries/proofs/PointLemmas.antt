@@ -49,7 +49,7 @@ use Rattle.formula_tree.specs.RationalForms.{RationalForm, Missing, formed, form
 use Rattle.formula_tree.specs.Resolving.{BoundTrees, place, at_names, resolve, resolved_atom, compared, congruent}
 use Rattle.formula_tree.proofs.PlaceLaws.{slice_place, one_place, at_place}
 use Rattle.formula_store.specs.Truths.{Tells, SomeAtomPasses}
-use Rattle.free_names.specs.Entries.{HasEntryAt}
+use Rattle.session_meaning.specs.FromFreeNames.{HasEntryAt}
 use Rattle.session_meaning.specs.Points.{MeanNoPoint, IsQuantified, SomeAtomPassesAt}
 
 -- ---- numbers put in

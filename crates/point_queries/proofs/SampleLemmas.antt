@@ -20,7 +20,7 @@ use Rattle.exact_numbers.specs.declared.fraction.Fraction.{Fraction}
 use Rattle.linear_forms.specs.declared.form.VarId.{VarId}
 use Rattle.sample_reference.specs.Seen.{values_of, sample_of}
 use Rattle.sample_reference.specs.Values.{Value, value_names}
-use Rattle.answer_texts.specs.Within.{AreValuesWithin}
+use Rattle.session_meaning.specs.FromAnswerTexts.{AreValuesWithin}
 use Rattle.qe_syntax.specs.declared.entries.PointEntry.{PointEntry}
 use Rattle.qe_syntax.specs.Point.{IsPointOf}
 use Rattle.statement_syntax.specs.Statements.{Sample}
@@ -30,19 +30,18 @@ use Rattle.formula_tree.specs.Resolving.{at_names, resolve}
 use Rattle.session_meaning.specs.declared.line.StatementError.{StatementError}
 use Rattle.session_meaning.specs.declared.line.StatementError.TheVariants as error
 use Rattle.session_meaning.specs.State.{State}
-use Rattle.command_tools.specs.Replies.{use_of}
-use Rattle.command_tools.specs.Refusals.{measured_refusal}
+use Rattle.problem_reading.specs.FromCommandTools.{use_of, measured_refusal}
 use Rattle.problem_reading.specs.Reading.{HasNumbers, IsReadable}
 use Rattle.point_queries.specs.Asked.{AcceptsBoth}
 use Rattle.session_meaning.specs.Meaning.{meaning}
 use Rattle.session_meaning.specs.Causes.{HasNone}
 use Rattle.session_meaning.specs.Words.{before}
 use Rattle.session_meaning.specs.FormulaAnswers.{negation_normal_of}
-use Rattle.session_state.specs.Keeping.{IsSessionFormula}
+use Rattle.problem_reading.specs.FromSessionState.{IsSessionFormula}
 use Rattle.session_meaning.specs.Samples.{HasSample, IsSample, IsValueInLimit}
 use Rattle.point_queries.specs.SampleSteps.{RefusesSample, SampleStop, IsSampleWithin}
 use Rattle.problem_reading.proofs.CauseLemmas.{none_before}
-use Rattle.shared_forms.proofs.CaseLemmas.{block_below, turned_says, turned_along}
+use Rattle.problem_reading.proofs.FromSharedForms.{block_below, turned_says, turned_along}
 use Rattle.problem_reading.proofs.ReadTruth.{truth_as_written}
 
 -- ---- the names of the values

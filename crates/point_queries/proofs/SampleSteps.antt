@@ -11,7 +11,7 @@ use Rattle.formula_meaning.specs.Sizes.{height}
 use Rattle.formula_meaning.specs.Tree.{Tree}
 use Rattle.atom_normal.specs.declared.atoms.Context as atoms
 use Rattle.atom_normal.specs.Atoms.{context_of}
-use Rattle.block_scheduler.specs.declared.limits.Limits.{Limits}
+use Rattle.problem_reading.specs.FromBlockScheduler.{Limits}
 use Rattle.atom_normal.proofs.Stepped.{ok_map}
 use Rattle.linear_forms.specs.declared.form.VarId.{VarId}
 use Rattle.plain_engine.specs.declared.measured.Measured.{Measured}
@@ -35,23 +35,19 @@ use Rattle.formula_store.specs.Nodes.{tree}
 use Rattle.redlog_printer.specs.Writing.{text_limit}
 use Rattle.session_meaning.specs.declared.line.Line.{Line}
 use Rattle.session_meaning.specs.declared.line.StatementError.{StatementError}
-use Rattle.session_state.specs.declared.state.SessionState.{SessionState}
+use Rattle.problem_reading.specs.FromSessionState.{SessionState, state_of, IsSessionState, KeepsState}
 use Rattle.session_meaning.specs.State.{State}
-use Rattle.command_tools.specs.Replies.{use_of, Refuses, IsQueryAnswer}
-use Rattle.command_tools.specs.Refusals.{measured_refusal}
+use Rattle.problem_reading.specs.FromCommandTools.{use_of, Refuses, IsQueryAnswer, measured_refusal}
 use Rattle.problem_reading.specs.Reading.{HasNumbers}
 use Rattle.point_queries.specs.Asked.{entry_names, IsAsked}
 use Rattle.session_meaning.specs.Meaning.{meaning, numbered}
 use Rattle.session_meaning.specs.Reply.{IsLine}
-use Rattle.session_state.specs.Keeping.{state_of, IsSessionState}
 use Rattle.session_meaning.specs.Samples.{sample_text}
 use Rattle.point_queries.specs.SampleSteps.{RefusesSample, SampleStop, IsSampleWithin, IsWantedSample}
-use Rattle.session_state.specs.Growth.{KeepsState}
 use Rattle.point_queries.proofs.AskedSteps.{theory, asked_normal, named_session, start}
-use Rattle.shared_forms.proofs.CaseLemmas.{err_map}
+use Rattle.problem_reading.proofs.FromSharedForms.{err_map, sample_short}
 use Rattle.problem_reading.proofs.ReadLemmas.{readable_formula}
 use Rattle.point_queries.proofs.SampleLemmas.{sample_stops, sample_is, sample_within}
-use Rattle.shared_forms.proofs.ShortSamples.{sample_short}
 
 -- ---- the sample that an engine gives
 

@@ -7,7 +7,7 @@ use Rattle.formula_meaning.specs.Point.{Point, Of}
 use Rattle.formula_meaning.specs.Tree.{Tree, TrueAt}
 use Rattle.atom_normal.specs.declared.atoms.Context as atoms
 use Rattle.atom_normal.specs.Atoms.{context_of}
-use Rattle.block_scheduler.specs.declared.limits.Limits.{Limits}
+use Rattle.problem_reading.specs.FromBlockScheduler.{Limits}
 use Rattle.qe_syntax.specs.declared.entries.PointEntry.{PointEntry}
 use Rattle.qe_syntax.specs.Point.{IsPointOf}
 use Rattle.statement_syntax.specs.Statements.{Holds}
@@ -22,8 +22,7 @@ use Rattle.plain_engine.specs.Told.{StopsWith}
 use Rattle.session_meaning.specs.declared.line.StatementError.{StatementError}
 use Rattle.session_meaning.specs.declared.line.StatementError.TheVariants as error
 use Rattle.session_meaning.specs.State.{State}
-use Rattle.command_tools.specs.Replies.{use_of}
-use Rattle.command_tools.specs.Refusals.{measured_refusal}
+use Rattle.problem_reading.specs.FromCommandTools.{use_of, measured_refusal}
 use Rattle.problem_reading.specs.Reading.{HasNumbers, IsReadable}
 use Rattle.point_queries.specs.Asked.{AcceptsBoth}
 use Rattle.session_meaning.specs.Meaning.{meaning}

@@ -19,22 +19,20 @@ use Rattle.formula_store.specs.Nodes.{tree}
 use Rattle.formula_store.specs.Truths.{Tells, IsWholeWhereAsked}
 use Rattle.session_meaning.specs.declared.line.Line.{Line}
 use Rattle.session_meaning.specs.declared.line.StatementError.{StatementError}
-use Rattle.session_state.specs.declared.state.SessionState.{SessionState}
+use Rattle.problem_reading.specs.FromSessionState.{SessionState, state_of, IsSessionState, KeepsState}
 use Rattle.session_meaning.specs.State.{State}
-use Rattle.command_tools.specs.Replies.{use_of, Refuses, IsQueryAnswer}
+use Rattle.problem_reading.specs.FromCommandTools.{use_of, Refuses, IsQueryAnswer}
 use Rattle.problem_reading.specs.Reading.{HasNumbers}
 use Rattle.point_queries.specs.Asked.{AcceptsBoth, entry_names, IsAsked}
 use Rattle.session_meaning.specs.Meaning.{meaning, numbered}
 use Rattle.session_meaning.specs.Reply.{IsLine}
 use Rattle.session_meaning.specs.Words.{truth_text}
-use Rattle.session_state.specs.Keeping.{state_of, IsSessionState}
 use Rattle.session_meaning.specs.Points.{IsQuantified, IsTruth}
-use Rattle.session_state.specs.Growth.{KeepsState}
 use Rattle.point_queries.specs.Truths.{RefusesTruth, ValueStop, EliminationStop}
 use Rattle.point_queries.proofs.AskedSteps.{same, theory, asked_normal, named_session, start}
-use Rattle.shared_forms.proofs.CaseLemmas.{err_map}
+use Rattle.problem_reading.proofs.FromSharedForms.{err_map}
 use Rattle.point_queries.proofs.CaseSteps.{on_ok}
-use Rattle.engine_answers.proofs.Whole.{whole_where_asked}
+use Rattle.problem_reading.proofs.FromEngineAnswers.{whole_where_asked}
 use Rattle.point_queries.proofs.PointLemmas.{resolved_free}
 use Rattle.point_queries.proofs.TruthLemmas.{truth_passes, elimination_stops, is_truth, told_in}
 

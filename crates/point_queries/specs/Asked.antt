@@ -20,10 +20,10 @@ use Rattle.formula_store.specs.declared.id.FormulaId.{FormulaId}
 use Rattle.formula_store.specs.Nodes.{tree, IsId}
 use Rattle.session_meaning.specs.declared.line.StatementError.{StatementError}
 use Rattle.session_meaning.specs.declared.line.StatementError.TheVariants as error
-use Rattle.session_state.specs.declared.state.SessionState.{SessionState}
+use Rattle.problem_reading.specs.FromSessionState.{SessionState}
 use Rattle.session_meaning.specs.State.{State}
 use Rattle.session_meaning.specs.Points.{MeanNoPoint, HasUnvalued}
-use Rattle.command_tools.specs.Replies.{use_of, Refuses}
+use Rattle.problem_reading.specs.FromCommandTools.{use_of, Refuses}
 use Rattle.formula_resolving.specs.declared.error.StaticError.TheVariants as static
 use Rattle.problem_reading.specs.Reading.{IsReadable, HasNoEarlier}
 use Rattle.session_meaning.specs.Meaning.{Meaning, meaning}

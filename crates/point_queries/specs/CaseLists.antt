@@ -7,9 +7,9 @@ use Rattle.qe_syntax.specs.CodeTrees.{formula_tree}
 use Rattle.session_meaning.specs.declared.line.StatementError.{StatementError}
 use Rattle.session_meaning.specs.declared.line.StatementError.TheVariants as error
 use Rattle.session_meaning.specs.State.{State}
-use Rattle.shared_forms.specs.declared.way.Way.{Way}
-use Rattle.shared_forms.specs.declared.way.Way.TheVariants as way
-use Rattle.command_tools.specs.Replies.{use_of, Refuses}
+use Rattle.problem_reading.specs.FromSharedForms.{Way}
+use Rattle.problem_reading.specs.FromSharedForms.way_variants as way
+use Rattle.problem_reading.specs.FromCommandTools.{use_of, Refuses}
 
 -- the command that asks for the cases of a formula under assumptions
 abbrev pub cases_command : Formula → List Formula → CommandTree

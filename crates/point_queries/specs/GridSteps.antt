@@ -18,7 +18,7 @@ use Rattle.session_meaning.specs.State.{State}
 use Rattle.session_meaning.specs.Grids.{entry_of, AreAxes, MeanNoGrid, PassesGrid, HasTooManyPoints}
 use Rattle.session_meaning.specs.Meaning.{meaning}
 use Rattle.session_meaning.specs.Causes.{IsAccepted}
-use Rattle.command_tools.specs.Replies.{use_of, Refuses}
+use Rattle.problem_reading.specs.FromCommandTools.{use_of, Refuses}
 use Rattle.point_queries.specs.declared.grids.Part.{Part}
 use Rattle.point_queries.specs.declared.grids.Part.TheVariants as part
 

@@ -7,7 +7,7 @@ use Rattle.sample_reference.specs.Sample.{reference_sample}
 use Rattle.plain_engine.specs.declared.measured.Measured.{Measured}
 use Rattle.plain_engine.specs.Told.{StopsWith}
 use Rattle.sample_reference.specs.Values.{Value}
-use Rattle.answer_texts.specs.Within.{AreValuesWithin}
+use Rattle.session_meaning.specs.FromAnswerTexts.{AreValuesWithin}
 use Rattle.redlog_printer.specs.Writing.{text_limit}
 use Rattle.qe_syntax.specs.declared.entries.PointEntry.{PointEntry}
 use Rattle.statement_syntax.specs.Statements.{Sample}
@@ -15,8 +15,7 @@ use Rattle.qe_syntax.specs.Trees.{FormulaTree}
 use Rattle.session_meaning.specs.declared.line.StatementError.{StatementError}
 use Rattle.session_meaning.specs.State.{State}
 use Rattle.session_meaning.specs.Samples.{IsSampleAnswer, sample_text}
-use Rattle.command_tools.specs.Replies.{use_of, Refuses}
-use Rattle.command_tools.specs.Refusals.{measured_refusal}
+use Rattle.problem_reading.specs.FromCommandTools.{use_of, Refuses, measured_refusal}
 use Rattle.session_meaning.specs.Meaning.{meaning}
 use Rattle.session_meaning.specs.Causes.{IsAccepted}
 

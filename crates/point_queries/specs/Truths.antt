@@ -13,8 +13,7 @@ use Rattle.session_meaning.specs.declared.line.StatementError.{StatementError}
 use Rattle.session_meaning.specs.declared.line.StatementError.TheVariants as error
 use Rattle.session_meaning.specs.State.{State}
 use Rattle.session_meaning.specs.Points.{SomeAtomPassesAt}
-use Rattle.command_tools.specs.Replies.{use_of, Refuses}
-use Rattle.command_tools.specs.Refusals.{measured_refusal}
+use Rattle.problem_reading.specs.FromCommandTools.{use_of, Refuses, measured_refusal}
 
 -- the command is refused with the word under a limit of nodes, whether its line is printed or not
 abbrev pub RefusesTruth : State → ℕ → FormulaTree → List PointEntry → StatementError → Type 0

@@ -2,33 +2,28 @@
 
 ghost use Rattle.formula_meaning.specs.Formula.{also};
 ghost use Rattle.std.specs.Prelude.{◌≡◌, ◌≤◌, Bool, None, map, IfOk, IfErr, OnOk, OnErr, length};
-ghost use Rattle.plain_cases.specs.Case.{case_seen, HavePoints};
+ghost use Rattle.session_meaning.specs.FromPlainCases.{case_seen, HavePoints};
 ghost use Rattle.formula_tree.specs.Resolving.{resolve};
-ghost use Rattle.answer_texts.specs.Answers.{cases_text as text_of_cases};
-ghost use Rattle.answer_texts.specs.Within.{AreCasesWithin};
+ghost use Rattle.session_meaning.specs.FromAnswerTexts.{cases_text as text_of_cases, AreCasesWithin};
 ghost use Rattle.qe_syntax.specs.Writable.{IsWritableFormula, AreWritableFormulas};
 ghost use Rattle.qe_syntax.specs.Trees.{formulas_of};
 ghost use Rattle.qe_syntax.specs.CodeTrees.{formula_tree};
 ghost use Rattle.session_meaning.specs.Assumptions.{assumed};
-ghost use Rattle.command_tools.specs.Replies.{use_of, Refuses, IsQueryAnswer};
+ghost use Rattle.problem_reading.specs.FromCommandTools.{use_of, Refuses, IsQueryAnswer, LineFault};
 ghost use Rattle.problem_reading.specs.Reading.{AreNumbered, AreReadable};
-ghost use Rattle.command_tools.specs.Refusals.{LineFault};
 ghost use Rattle.session_meaning.specs.Meaning.{meaning, numbered};
 ghost use Rattle.session_meaning.specs.Reply.{IsLine};
-ghost use Rattle.session_state.specs.Keeping.{state_of, IsSessionState};
-ghost use Rattle.session_state.specs.Growth.{KeepsState, GrowsState};
-ghost use Rattle.shared_forms.specs.Cases.{AreCasesBy};
+ghost use Rattle.problem_reading.specs.FromSessionState.{state_of, IsSessionState, KeepsState, GrowsState};
+ghost use Rattle.problem_reading.specs.FromSharedForms.{AreCasesBy};
 ghost use Rattle.point_queries.specs.CaseLists.{CasesRefuse, cases_command};
 
-use answer_texts::cases_text;
-use command_tools::{Workshop, forms_refusal, print_refusal};
-use plain_cases::PrintedCase;
-use problem_reading::{number_parts, read_parts};
+use problem_reading::{
+    SessionState, Way, Workshop, forms_refusal, number_parts, print_refusal, read_parts,
+    wanted_cases,
+};
 use qe_parallel::Gate;
 use qe_syntax::Formula;
-use session_meaning::{Line, StatementError};
-use session_state::SessionState;
-use shared_forms::{Way, wanted_cases};
+use session_meaning::{Line, PrintedCase, StatementError, cases_text};
 use std::thread::Threads;
 
 /// Answers with the cases of the formula, their guards simplified under the assumptions. After an `Err` the names may have grown.

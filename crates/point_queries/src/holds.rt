@@ -17,23 +17,20 @@ ghost use Rattle.qe_syntax.specs.Value.{same_name};
 ghost use Rattle.formula_tree.specs.Resolving.{at_names};
 ghost use Rattle.formula_store.specs.Nodes.{tree, IsId};
 ghost use Rattle.formula_store.specs.Truths.{Tells, IsWholeWhereAsked};
-ghost use Rattle.command_tools.specs.Replies.{use_of, Refuses, IsQueryAnswer};
+ghost use Rattle.problem_reading.specs.FromCommandTools.{use_of, Refuses, IsQueryAnswer};
 ghost use Rattle.problem_reading.specs.Reading.{HasNumbers};
 ghost use Rattle.point_queries.specs.Asked.{HaveNumbers, AcceptsBoth};
 ghost use Rattle.session_meaning.specs.Meaning.{meaning, numbered};
-ghost use Rattle.session_state.specs.Keeping.{state_of, IsSessionState};
+ghost use Rattle.problem_reading.specs.FromSessionState.{state_of, IsSessionState, KeepsState, GrowsState};
 ghost use Rattle.session_meaning.specs.Points.{IsTruth};
-ghost use Rattle.session_state.specs.Growth.{KeepsState, GrowsState};
 ghost use Rattle.point_queries.specs.Truths.{RefusesTruth, ValueStop, EliminationStop};
 
 use crate::points::{asked, number_command, values_of};
-use command_tools::{Workshop, measured_refusal, printed_line, text_of_truth};
 use formula_store::{EvalStop, FormulaId};
-use free_names::is_quantified;
+use problem_reading::{SessionState, Workshop, measured_refusal, printed_line, text_of_truth};
 use qe_parallel::Gate;
 use qe_syntax::{Formula, Point, PointEntry};
-use session_meaning::{Line, StatementError};
-use session_state::SessionState;
+use session_meaning::{Line, StatementError, is_quantified};
 use std::thread::Threads;
 
 /// Answers whether the formula is true at the point. After an `Err` the names may have grown.

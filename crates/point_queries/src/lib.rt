@@ -10,4 +10,9 @@ mod samples;
 pub use cases::answer_cases;
 pub use grids::answer_grid;
 pub use holds::answer_holds;
+pub use problem_reading::{
+    Assumption, ClauseForm, Form, Limits, Premised, SessionState, Standing, Way, Workshop, formed,
+    forms_refusal, number_all, number_parts, print_refusal, printed_line, read_all, read_parts,
+    text_of,
+};
 pub use samples::answer_sample;

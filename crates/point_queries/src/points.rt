@@ -18,19 +18,16 @@ ghost use Rattle.formula_resolving.specs.Refusals.{AreIds};
 ghost use Rattle.formula_store.specs.Nodes.{IsId};
 ghost use Rattle.problem_reading.specs.Reading.{HasNumbers};
 ghost use Rattle.point_queries.specs.Asked.{HaveNumbers, RefusesAsking, RefusesBoth, entry_names, stop_of, IsBoundName, is_whole_theory, IsReadAs, IsMeantPoint, PointStop, IsValued, ValuedStop, IsAsked};
-ghost use Rattle.session_state.specs.Keeping.{state_of, IsSessionState};
-ghost use Rattle.session_state.specs.Growth.{KeepsState};
+ghost use Rattle.problem_reading.specs.FromSessionState.{state_of, IsSessionState, KeepsState};
 
 use atom_normal::Context;
 use formula_resolving::number_formula;
 use formula_store::FormulaId;
 use formula_tree::{Bindings, Names};
-use free_names::is_valued;
 use linear_forms::Values;
-use problem_reading::resolved;
+use problem_reading::{SessionState, resolved};
 use qe_syntax::{Formula, Point, PointEntry, PointFault};
-use session_meaning::StatementError;
-use session_state::SessionState;
+use session_meaning::{StatementError, is_valued};
 use std::alloc::Global;
 
 /// Numbers the variables of the formula and of the point, in the order of the text. After an `Err` the names may have grown.

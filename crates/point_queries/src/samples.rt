@@ -17,27 +17,24 @@ ghost use Rattle.formula_store.specs.Nodes.{tree, IsId};
 ghost use Rattle.sample_reference.specs.TrueSample.{IsTrueSample};
 ghost use Rattle.sample_reference.specs.Seen.{sample_of};
 ghost use Rattle.redlog_printer.specs.Writing.{text_limit};
-ghost use Rattle.command_tools.specs.Replies.{use_of, Refuses, IsQueryAnswer};
+ghost use Rattle.problem_reading.specs.FromCommandTools.{use_of, Refuses, IsQueryAnswer};
 ghost use Rattle.problem_reading.specs.Reading.{HasNumbers};
 ghost use Rattle.point_queries.specs.Asked.{HaveNumbers};
 ghost use Rattle.session_meaning.specs.Meaning.{meaning, numbered};
 ghost use Rattle.session_meaning.specs.Reply.{IsLine};
-ghost use Rattle.session_state.specs.Keeping.{state_of, IsSessionState};
+ghost use Rattle.problem_reading.specs.FromSessionState.{state_of, IsSessionState, KeepsState, GrowsState};
 ghost use Rattle.session_meaning.specs.Samples.{sample_text};
 ghost use Rattle.point_queries.specs.SampleSteps.{RefusesSample, SampleStop, IsSampleWithin, IsWantedSample};
-ghost use Rattle.session_state.specs.Growth.{KeepsState, GrowsState};
 
 use crate::points::{asked, number_command, values_of};
-use answer_texts::point_text;
-use command_tools::{Workshop, measured_refusal, printed_line};
 use exact_numbers::Fraction;
 use formula_store::FormulaId;
 use linear_forms::VarId;
+use problem_reading::{SessionState, Workshop, measured_refusal, printed_line};
 use qe_parallel::Gate;
 use qe_syntax::{Formula, Point, PointEntry};
 use redlog_printer::PrintError;
-use session_meaning::{Line, StatementError};
-use session_state::SessionState;
+use session_meaning::{Line, StatementError, point_text};
 use std::thread::Threads;
 
 /// Answers with values for the names of the leading block, or with `none`. After an `Err` the names may have grown.

@@ -23,8 +23,7 @@ use Rattle.formula_meaning.specs.TheoryAtoms.{AtomIn}
 use Rattle.formula_meaning.proofs.NormalShape.{normal_form_brings, normal_form_keeps}
 use Rattle.formula_meaning.proofs.Iff.{both_ways}
 use Rattle.formula_meaning.proofs.Equivalence.{equivalent_then}
-use Rattle.elimination_theory.proofs.NegationNormal.{negation_normal_keeps_truth}
-use Rattle.elimination_theory.proofs.BothTheories.{decided}
+use Rattle.prenex_theory.proofs.FromEliminationTheory.{negation_normal_keeps_truth, decided}
 use Rattle.atom_normal.proofs.NormalLaws.{negated_truth, normal_in, normal_sorted}
 use Rattle.prenex_theory.specs.Blocks.{block_count}
 use Rattle.prenex_theory.specs.NewNames.{AddsNewNames}

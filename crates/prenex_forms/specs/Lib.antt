@@ -4,3 +4,4 @@ pub mod Places
 pub mod Named
 pub mod Chosen
 pub mod Marks
+pub mod FromPrenexTheory

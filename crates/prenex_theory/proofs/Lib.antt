@@ -1,3 +1,4 @@
+mod Examples
 pub mod Blocks
 pub mod Fronts
 pub mod NamedAtoms
@@ -7,4 +8,4 @@ pub mod RenamedTruth
 pub mod AtomNames
 pub mod Shapes
 pub mod Whole
-mod Examples
+pub mod FromEliminationTheory

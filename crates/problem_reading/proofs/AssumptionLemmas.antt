@@ -17,10 +17,8 @@ use Rattle.formula_resolving.specs.declared.error.StaticError.{StaticError}
 use Rattle.formula_resolving.specs.declared.error.StaticError.TheVariants as static
 use Rattle.formula_resolving.specs.Refusals as reading
 use Rattle.formula_resolving.specs.Refusals.{IsFirstCause}
-use Rattle.session_meaning.specs.declared.line.StatementError.{StatementError}
-use Rattle.session_meaning.specs.declared.line.StatementError.TheVariants as error
-use Rattle.session_meaning.specs.State.{State}
-use Rattle.session_meaning.specs.Assumptions.{atoms_alone, atoms_among, resolved_all, assumed, AllTrueAt, Hold}
+use Rattle.command_tools.specs.FromSessionMeaning.{StatementError, State, atoms_alone, atoms_among, resolved_all, assumed, AllTrueAt, Hold}
+use Rattle.command_tools.specs.FromSessionMeaning.statement_error_variants as error
 use Rattle.command_tools.specs.Refusals.{static_refusal}
 use Rattle.problem_reading.specs.Reading.{IsReadable, AreNumbered, AreReadable, AppliesAmong, HasNoEarlier, IsFirstCauseAmong, AreUnread, FirstAmong, IsEarlierOfBoth, AppliesToSome, IsFirstWith}
 use Rattle.formula_resolving.proofs.Order.{each_before, each_earlier, each_no_later}

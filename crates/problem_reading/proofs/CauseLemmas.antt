@@ -8,15 +8,10 @@ use Rattle.formula_tree.specs.Causes.{IsBound, IsNonlinear, Divides, IsBadModulu
 use Rattle.formula_resolving.specs.declared.error.StaticError.{StaticError}
 use Rattle.formula_resolving.specs.declared.error.StaticError.TheVariants as static
 use Rattle.formula_resolving.specs.Refusals as reading
-use Rattle.session_meaning.specs.declared.line.StatementError.{StatementError}
-use Rattle.session_meaning.specs.declared.line.StatementError.TheVariants as error
+use Rattle.command_tools.specs.FromSessionMeaning.{StatementError, Meaning, Use, SomeFormula, IsCause, HasNone, IsAccepted, IsFirst, before, order, State}
+use Rattle.command_tools.specs.FromSessionMeaning.statement_error_variants as error
 use Rattle.command_tools.specs.Refusals.{static_refusal}
 use Rattle.problem_reading.specs.Reading.{HasNumbers, IsReadable, AreNumbered, AreReadable, AppliesAmong, IsBefore, HasNoEarlier, IsFirstAmong, AreUnread}
-use Rattle.session_meaning.specs.Meaning.{Meaning}
-use Rattle.session_meaning.specs.Uses.{Use}
-use Rattle.session_meaning.specs.Causes.{SomeFormula, IsCause, HasNone, IsAccepted, IsFirst}
-use Rattle.session_meaning.specs.Words.{before, order}
-use Rattle.session_meaning.specs.State.{State}
 use Rattle.formula_resolving.proofs.Order.{each_cause}
 use Rattle.problem_reading.proofs.PartLemmas.{some_formula, no_formula}
 

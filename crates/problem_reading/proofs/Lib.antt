@@ -4,3 +4,7 @@ pub mod ReadTruth
 pub mod AssumptionLemmas
 pub mod MadeLemmas
 pub mod ReadLemmas
+pub mod FromAnswerTexts
+pub mod FromEngineAnswers
+pub mod FromSessionState
+pub mod FromSharedForms

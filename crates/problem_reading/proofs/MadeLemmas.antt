@@ -13,22 +13,18 @@ use Rattle.qe_syntax.specs.declared.tree.Formula.{Formula}
 use Rattle.qe_syntax.specs.Trees.{formulas_of}
 use Rattle.qe_syntax.specs.CodeTrees.{formula_tree}
 use Rattle.qe_syntax.proofs.EntryLists.{each_push}
-use Rattle.session_meaning.specs.State.{State}
-use Rattle.session_meaning.specs.Assumptions.{atoms_alone, atoms_among, resolved_all}
-use Rattle.session_state.specs.declared.state.SessionState.{SessionState}
-use Rattle.session_state.specs.Growth.{KeepsState}
+use Rattle.command_tools.specs.FromSessionMeaning.{State, atoms_alone, atoms_among, resolved_all, StatementError}
+use Rattle.command_tools.specs.FromSessionState.{SessionState, KeepsState, state_of}
 use Rattle.formula_meaning.specs.Formula.{also}
 use Rattle.std.specs.Prelude.{Option, None, Result, Ok, Err, Some, IfOk, IfErr}
 use Rattle.std.proofs.Common.{inl, inr}
 use Rattle.qe_syntax.specs.Trees.{FormulaTree}
 use Rattle.formula_resolving.specs.Refusals.{AreIds}
 use Rattle.formula_resolving.specs.declared.error.StaticError.{StaticError}
-use Rattle.session_meaning.specs.declared.line.StatementError.{StatementError}
-use Rattle.session_meaning.specs.declared.line.StatementError.TheVariants as error
-use Rattle.session_state.specs.Keeping.{state_of}
-use Rattle.session_state.proofs.StateLemmas.{same_state}
-use Rattle.shared_forms.specs.declared.forms.Premised.{Premised}
-use Rattle.standing_assumptions.specs.Trees.{standing_trees}
+use Rattle.command_tools.specs.FromSessionMeaning.statement_error_variants as error
+use Rattle.command_tools.proofs.FromSessionState.{same_state}
+use Rattle.command_tools.specs.FromSharedForms.{Premised}
+use Rattle.command_tools.specs.FromStandingAssumptions.{standing_trees}
 use Rattle.problem_reading.specs.Reading.{IsReadable, AreRead, AreUnread, FirstAmong, AppliesToSome, IsFirstWith, IsOneMore, IsReadUnder, IsUnreadUnder}
 use Rattle.problem_reading.proofs.CauseLemmas.{readable_none}
 use Rattle.problem_reading.proofs.AssumptionLemmas.{among_both, none_before, memory_unread, parts_unread, parts_readable}

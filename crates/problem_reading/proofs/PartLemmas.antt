@@ -7,7 +7,7 @@ use Rattle.qe_syntax.specs.declared.tree.Formula.{Formula}
 use Rattle.qe_syntax.specs.Trees.{FormulaTree, FormulaTrees, formulas_of}
 use Rattle.qe_syntax.specs.CodeTrees.{formula_tree}
 use Rattle.problem_reading.specs.Parts.{EachFormula}
-use Rattle.session_meaning.specs.Causes.{SomeFormula}
+use Rattle.command_tools.specs.FromSessionMeaning.{SomeFormula}
 
 module _ (K P : FormulaTree → Type 0) where
   pub some_formula : (Q : FormulaTree → Type 0) → ((g : FormulaTree) → K g → P g → Q g) → (fs : FormulaTrees) → EachFormula K fs → SomeFormula P fs → SomeFormula Q fs

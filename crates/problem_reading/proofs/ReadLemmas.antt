@@ -5,7 +5,7 @@ use Rattle.formula_meaning.specs.Tree.{Tree}
 use Rattle.atom_normal.specs.declared.atoms.Context as atoms
 use Rattle.qe_syntax.specs.Trees.{FormulaTree}
 use Rattle.formula_tree.specs.Resolving.{resolve}
-use Rattle.session_meaning.specs.State.{State}
+use Rattle.command_tools.specs.FromSessionMeaning.{State, atoms_alone, atoms_among, resolved_all, assumed}
 use Rattle.problem_reading.specs.Reading.{HasNumbers, IsReadable}
 use Rattle.std.proofs.Common.{◌++◌, length}
 use Rattle.std.specs.List.{fold}
@@ -19,11 +19,9 @@ use Rattle.formula_meaning.specs.Some.{EachOf}
 use Rattle.formula_tree.specs.Resolving.{formula_variables, all_variables}
 use Rattle.problem_reading.specs.Reading.{AreNumbered, AreReadable}
 use Rattle.formula_tree.specs.Names.{with_name}
-use Rattle.session_meaning.specs.Assumptions.{atoms_alone, atoms_among, resolved_all, assumed}
-use Rattle.session_state.specs.Keeping.{IsSessionFormula, IsSound}
-use Rattle.session_state.proofs.NameLemmas.{kept_names}
+use Rattle.command_tools.specs.FromSessionState.{IsSessionFormula, IsSound}
+use Rattle.command_tools.proofs.FromSessionState.{kept_names, resolved_formula}
 use Rattle.problem_reading.proofs.AssumptionLemmas.{each_both, alone_has, among_both}
-use Rattle.session_state.proofs.SoundLemmas.{resolved_formula}
 use Rattle.std.proofs.Common.{map}
 use Rattle.std.specs.List.{AllByRecursion}
 use Rattle.qe_syntax.specs.declared.tree.Formula.{Formula}

@@ -8,7 +8,7 @@ use Rattle.qe_syntax.specs.Value.{NamedPoint, same_name}
 use Rattle.qe_syntax.specs.Value as written
 use Rattle.formula_tree.specs.Resolving.{at_names, resolve, bound_truth}
 use Rattle.formula_tree.proofs.ResolvedTruth.{resolving_keeps_truth}
-use Rattle.session_meaning.specs.State.{State}
+use Rattle.command_tools.specs.FromSessionMeaning.{State}
 use Rattle.problem_reading.specs.Reading.{HasNumbers, IsReadable}
 
 -- the resolved formula has the truth of the written one

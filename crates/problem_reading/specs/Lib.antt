@@ -1,2 +1,10 @@
 pub mod Parts
 pub mod Reading
+pub mod FromAnswerTexts
+pub mod FromBlockScheduler
+pub mod FromCommandTools
+pub mod FromFormulaResolving
+pub mod FromSessionMeaning
+pub mod FromSessionState
+pub mod FromSharedForms
+pub mod FromStandingAssumptions

@@ -8,8 +8,8 @@ use Rattle.formula_tree.specs.Makers.{IsMade, AreMade}
 use Rattle.formula_meaning.specs.Tree.{Tree}
 use Rattle.formula_store.specs.declared.id.FormulaId.{FormulaId}
 use Rattle.formula_store.specs.Nodes.{tree, IsId}
-use Rattle.session_state.specs.declared.state.SessionState.{SessionState}
-use Rattle.shared_forms.specs.declared.forms.Premised.{Premised}
+use Rattle.command_tools.specs.FromSessionState.{SessionState}
+use Rattle.command_tools.specs.FromSharedForms.{Premised}
 use Rattle.qe_syntax.specs.declared.tree.Formula.{Formula}
 use Rattle.qe_syntax.specs.Trees.{FormulaTree, FormulaTrees}
 use Rattle.qe_syntax.specs.CodeTrees.{formula_tree}
@@ -19,13 +19,10 @@ use Rattle.formula_tree.specs.Accepted.{IsAccepted as IsResolvable}
 use Rattle.formula_resolving.specs.declared.error.StaticError.{StaticError}
 use Rattle.formula_resolving.specs.declared.error.StaticError.TheVariants as static
 use Rattle.formula_resolving.specs.Refusals.{IsFirstCause, Applies, order, before}
-use Rattle.session_meaning.specs.declared.line.StatementError.{StatementError}
-use Rattle.session_meaning.specs.declared.line.StatementError.TheVariants as error
-use Rattle.session_meaning.specs.State.{State}
-use Rattle.session_meaning.specs.Assumptions.{assumed, atoms_among, resolved_all}
-use Rattle.standing_assumptions.specs.Trees.{standing_trees}
+use Rattle.command_tools.specs.FromSessionMeaning.{StatementError, State, assumed, atoms_among, resolved_all, SomeFormula}
+use Rattle.command_tools.specs.FromSessionMeaning.statement_error_variants as error
+use Rattle.command_tools.specs.FromStandingAssumptions.{standing_trees}
 use Rattle.problem_reading.specs.Parts.{EachFormula}
-use Rattle.session_meaning.specs.Causes.{SomeFormula}
 use Rattle.command_tools.specs.Refusals.{static_refusal}
 
 -- each variable of the formula has its number

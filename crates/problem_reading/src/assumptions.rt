@@ -13,22 +13,18 @@ ghost use Rattle.formula_store.specs.Nodes.{tree, IsId};
 ghost use Rattle.qe_syntax.specs.Writable.{IsWritableFormula};
 ghost use Rattle.qe_syntax.specs.Trees.{formulas_of};
 ghost use Rattle.qe_syntax.specs.CodeTrees.{formula_tree};
-ghost use Rattle.session_meaning.specs.Assumptions.{atoms_alone, atoms_among, resolved_all};
-ghost use Rattle.standing_assumptions.specs.Trees.{standing_trees};
-ghost use Rattle.session_state.specs.Keeping.{state_of};
+ghost use Rattle.command_tools.specs.FromSessionMeaning.{atoms_alone, atoms_among, resolved_all};
+ghost use Rattle.command_tools.specs.FromStandingAssumptions.{standing_trees};
+ghost use Rattle.command_tools.specs.FromSessionState.{state_of, KeepsState};
 ghost use Rattle.problem_reading.specs.Reading.{HasNumbers, AreNumbered, AreUnread, AreRead, AreAllRead, IsOneMore, IsReadUnder, IsUnreadUnder, FirstAmong, IsEarlierOf, AppliesToSome, IsFirstWith};
-ghost use Rattle.session_state.specs.Growth.{KeepsState};
 
 use crate::reading::resolved_part;
 use atom_normal::Atom;
-use command_tools::static_refusal;
+use command_tools::{Premised, SessionState, StatementError, static_refusal};
 use formula_resolving::{StaticError, number_formula};
 use formula_store::FormulaId;
 use formula_tree::{Bindings, Names, Shape};
 use qe_syntax::Formula;
-use session_meaning::StatementError;
-use session_state::SessionState;
-use shared_forms::Premised;
 use std::alloc::AllocError;
 
 /// Numbers the variables of the formula and of its assumptions, in the order of the text. After an `Err` the names may have

@@ -8,16 +8,13 @@ ghost use Rattle.formula_store.specs.Nodes.{tree, IsId};
 ghost use Rattle.qe_syntax.specs.Writable.{IsWritableFormula};
 ghost use Rattle.qe_syntax.specs.CodeTrees.{formula_tree};
 ghost use Rattle.problem_reading.specs.Reading.{HasNumbers, IsUnread, IsReadable};
-ghost use Rattle.session_meaning.specs.Meaning.{numbered};
-ghost use Rattle.session_state.specs.Keeping.{state_of};
-ghost use Rattle.session_state.specs.Growth.{KeepsState};
+ghost use Rattle.command_tools.specs.FromSessionMeaning.{numbered};
+ghost use Rattle.command_tools.specs.FromSessionState.{state_of, KeepsState};
 
-use command_tools::static_refusal;
+use command_tools::{SessionState, StatementError, static_refusal};
 use formula_resolving::{StaticError, linearise};
 use formula_store::FormulaId;
 use qe_syntax::Formula;
-use session_meaning::StatementError;
-use session_state::SessionState;
 
 /// The resolved formula.
 pub fn resolved(state: &mut SessionState, formula: &Formula) -> Result<FormulaId, StatementError>

@@ -5,12 +5,8 @@ use Rattle.std.specs.Prelude.{◌<ℤ◌, unsigned_abs}
 use Rattle.std.specs.Bool.{Decides}
 use Rattle.std.proofs.lemmas.Int.{ints}
 use Rattle.std.proofs.lemmas.Bool.Decides.{Decides-int_eq, Decides-and, Decides-like}
-use Rattle.exact_numbers.specs.Divides.{Divides, residue_of}
-use Rattle.exact_numbers.specs.Frac.{Frac, IsProper, IsLowest, SameValue, whole_frac, true_product}
-use Rattle.exact_numbers.proofs.Ring.{ring, mul_comm, mul_assoc, one_mul}
-use Rattle.exact_numbers.proofs.Divisibility.{divides_same, divides_trans, divides_both, abs_sign, sign_abs}
-use Rattle.exact_numbers.proofs.Floor.{divides_from_residue, residue_of_multiple}
-use Rattle.exact_numbers.proofs.FractionRule.{same_value_trans}
+use Rattle.formula_meaning.specs.FromExactNumbers.{Divides, residue_of, Frac, IsProper, IsLowest, SameValue, whole_frac, true_product}
+use Rattle.formula_meaning.proofs.FromExactNumbers.{ring, mul_comm, mul_assoc, one_mul, divides_same, divides_trans, divides_both, abs_sign, sign_abs, divides_from_residue, residue_of_multiple, same_value_trans}
 use Rattle.qe_syntax.specs.Rule.{is_multiple}
 use Rattle.qe_syntax.specs.Testable.{IsModulus}
 use Rattle.qe_syntax.proofs.ValueLaw.{Stands}

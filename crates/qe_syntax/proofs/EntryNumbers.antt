@@ -5,21 +5,10 @@ use Rattle.std.specs.Prelude.{◌<ℤ◌, ◌≤ℤ◌}
 use Rattle.std.specs.Int.{w128, cast_unsigned}
 use Rattle.std.specs.List.{AllByRecursion}
 use Rattle.std.proofs.lemmas.Int.{ints}
-use Rattle.exact_numbers.specs.Limit.{InLimit, PastLimit, checked}
-use Rattle.exact_numbers.specs.Divides.{Divides, residue_of, lcm_of, gcd_of}
-use Rattle.exact_numbers.specs.Division.{IsLcm}
-use Rattle.exact_numbers.specs.Frac.{Frac, lowest, scaled}
+use Rattle.formula_meaning.specs.FromExactNumbers.{InLimit, PastLimit, checked, Divides, residue_of, lcm_of, gcd_of, IsLcm, Frac, lowest, scaled}
 use Rattle.std.proofs.lemmas.Bool.{false≢true}
 use Rattle.std.proofs.lemmas.Bool.Decides.{nat_tests}
-use Rattle.exact_numbers.proofs.Casts.{zero_bits}
-use Rattle.exact_numbers.proofs.Ring.{ring}
-use Rattle.exact_numbers.proofs.Order.{by_zero, cancel}
-use Rattle.exact_numbers.proofs.Divisibility.{divides_same, divides_trans, one_divides, divisor_at_most}
-use Rattle.exact_numbers.proofs.Floor.{divides_from_residue, residue_of_multiple}
-use Rattle.exact_numbers.proofs.LeastMultiple.{exact_div, lcm_is, lcm_divides}
-use Rattle.exact_numbers.proofs.FractionRule.{divisor_positive, lowest_proper}
-use Rattle.exact_numbers.proofs.GreatestDivisor.{gcd_is}
-use Rattle.exact_numbers.proofs.Limits.{by_limit}
+use Rattle.formula_meaning.proofs.FromExactNumbers.{zero_bits, ring, by_zero, cancel, divides_same, divides_trans, one_divides, divisor_at_most, divides_from_residue, residue_of_multiple, exact_div, lcm_is, lcm_divides, divisor_positive, lowest_proper, gcd_is, by_limit, mul_comm, divides_both}
 use Rattle.formula_meaning.specs.Some.{SomeOf}
 use Rattle.qe_syntax.specs.declared.tree.Literal.{Literal}
 use Rattle.qe_syntax.specs.declared.tree.Literal.TheVariants.{Fits, Past}
@@ -33,8 +22,6 @@ use Rattle.std.specs.BTreeMap.{is_at}
 use Rattle.qe_syntax.proofs.NameOrder.{by_at, at_same, same_at}
 use Rattle.qe_syntax.proofs.EntryLists.{each_map, each_push, some_left, some_right, twice_found, rest_at, none_left}
 use Rattle.std.specs.Prelude.{unwrap_or, unsigned_abs}
-use Rattle.exact_numbers.proofs.Ring.{mul_comm}
-use Rattle.exact_numbers.proofs.Divisibility.{divides_both}
 use Rattle.qe_syntax.specs.declared.point.PointFault.{PointFault}
 use Rattle.qe_syntax.specs.declared.point.PointFault.TheVariants.{Double, ZeroBelow, NotWhole, Overflow, Memory}
 use Rattle.qe_syntax.specs.PointFaults.{FaultOf, CheckFault, PutFault, IsChecked, IsFaultless}

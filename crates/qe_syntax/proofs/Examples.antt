@@ -1,9 +1,7 @@
 -- Worked examples of the definitions. Each side is computed.
 use Rattle.std.proofs.Common.{◌≡◌, [], ◌∷◌, refl, true, false, codes, bytes_eq, if◌then◌else◌, lit≤}
 use Rattle.std.specs.Prelude.{pos, neg_ℤ, Ok, Err}
-use Rattle.exact_numbers.specs.Limit.{checked}
-use Rattle.exact_numbers.specs.Divides.{gcd_of, lcm_of, euclid}
-use Rattle.exact_numbers.specs.Frac.{product_step, sum_step, power_steps, inverted}
+use Rattle.formula_meaning.specs.FromExactNumbers.{checked, gcd_of, lcm_of, euclid, product_step, sum_step, power_steps, inverted}
 use Rattle.formula_meaning.specs.Formula.{Yes, No, One, Not, And, Impl, Repl, Ex, All}
 use Rattle.qe_syntax.specs.Names.{is_word, IsVariable}
 use Rattle.qe_syntax.specs.declared.tree.Literal.TheVariants.{Fits, Past}

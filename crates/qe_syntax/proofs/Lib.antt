@@ -12,3 +12,5 @@ pub mod WritableLemmas
 pub mod NameSearch
 pub mod OnePoint
 pub mod Examples
+pub mod FromExactNumbers
+pub mod FromFormulaMeaning

@@ -8,9 +8,8 @@ use Rattle.std.specs.declared.cmp.Ordering.TheVariants.{Less, Equal, Greater}
 use Rattle.std.proofs.lemmas.Int.{ints}
 use Rattle.std.proofs.lemmas.Bool.{false≢true}
 use Rattle.std.proofs.lemmas.Bool.Decides.{Decides-not, Decides-and, Decides-or}
-use Rattle.exact_numbers.specs.Frac.{Frac, IsProper, true_sum, negated, sum_step}
-use Rattle.exact_numbers.proofs.Ring.{ring}
-use Rattle.exact_numbers.proofs.Order.{mul_positive, by_compare, compare_mul, compare_sub}
+use Rattle.formula_meaning.specs.FromExactNumbers.{Frac, IsProper, true_sum, negated, sum_step}
+use Rattle.formula_meaning.proofs.FromExactNumbers.{ring, mul_positive, by_compare, compare_mul, compare_sub}
 use Rattle.formula_meaning.specs.Context.{Fields}
 use Rattle.formula_meaning.specs.Formula.{Formula, Formulas, Yes, No, One, Not, And, Or, Impl, Repl, Equiv, Ex, All}
 use Rattle.formula_meaning.specs.Formula as plain

@@ -5,16 +5,10 @@ use Rattle.std.specs.Prelude.{◌<ℤ◌, ◌≤ℤ◌, Result, Ok, Err}
 use Rattle.std.specs.Ordering.{int_eq, is_eq}
 use Rattle.std.proofs.lemmas.Int.{ints}
 use Rattle.std.specs.Prelude.{unsigned_abs, IfOk}
-use Rattle.exact_numbers.specs.declared.fraction.Fraction.{Fraction}
-use Rattle.exact_numbers.specs.Fraction.{frac_of}
+use Rattle.formula_meaning.specs.FromExactNumbers.{Fraction, frac_of, Frac, IsProper, SameValue, IsLowest, whole_frac, true_sum, true_product, true_power, negated, inverted, sum_step, product_step, power_steps, IsExactSum, IsExactProduct, IsExactPower}
 use Rattle.qe_syntax.specs.PointNumbers.{Numbers, point_of}
 use Rattle.qe_syntax.specs.Evaluates.{Evaluates}
-use Rattle.exact_numbers.specs.Frac.{Frac, IsProper, SameValue, IsLowest, whole_frac, true_sum, true_product, true_power, negated, inverted, sum_step, product_step, power_steps}
-use Rattle.exact_numbers.specs.ExactSteps.{IsExactSum, IsExactProduct, IsExactPower}
-use Rattle.exact_numbers.proofs.Ring.{ring}
-use Rattle.exact_numbers.proofs.Order.{mul_positive, mul_negative, mul_not_negative, by_less, by_order, by_zero, by_compare, compare_same, zero_product}
-use Rattle.exact_numbers.proofs.FractionRule.{lowest_value, lowest_is, lowest_proper, whole_lowest, same_value_trans, sum_step_gives, product_step_gives, gcd_neg, inverted_negative, inverted_other, inverted_lowest}
-use Rattle.exact_numbers.proofs.Powers.{power_outcome}
+use Rattle.formula_meaning.proofs.FromExactNumbers.{ring, mul_positive, mul_negative, mul_not_negative, by_less, by_order, by_zero, by_compare, compare_same, zero_product, lowest_value, lowest_is, lowest_proper, whole_lowest, same_value_trans, sum_step_gives, product_step_gives, gcd_neg, inverted_negative, inverted_other, inverted_lowest, power_outcome}
 use Rattle.qe_syntax.specs.declared.tree.Literal.{Literal}
 use Rattle.qe_syntax.specs.declared.tree.Literal.TheVariants.{Fits, Past}
 use Rattle.qe_syntax.specs.declared.value.EvalError.{EvalError}

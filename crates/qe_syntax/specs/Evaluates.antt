@@ -1,8 +1,6 @@
 -- What a calculation of the code gives, against the rule.
 use Rattle.std.specs.Prelude.{◌≡◌, Bool, Result, Ok, Err}
-use Rattle.exact_numbers.specs.declared.fraction.Fraction.{Fraction}
-use Rattle.exact_numbers.specs.Frac.{Frac}
-use Rattle.exact_numbers.specs.Fraction.{frac_of}
+use Rattle.formula_meaning.specs.FromExactNumbers.{Fraction, Frac, frac_of}
 use Rattle.qe_syntax.specs.declared.value.EvalError.{EvalError}
 
 -- the fraction that the rule gives, or what stops it

@@ -13,3 +13,5 @@ pub mod Testable
 pub mod Evaluates
 pub mod Valued
 pub mod Writable
+pub mod FromExactNumbers
+pub mod FromFormulaMeaning

@@ -1,9 +1,7 @@
 -- What the entries of a point mean, and when they mean no point.
 use Rattle.std.specs.Prelude.{◌≡◌, ℕ, ◌⊎◌, ℤ, pos, ◌*ℤ◌, ◌<ℤ◌, List, [], ◌∷◌}
 use Rattle.std.specs.List.{AllByRecursion}
-use Rattle.exact_numbers.specs.Limit.{PastLimit}
-use Rattle.exact_numbers.specs.Divides.{Divides}
-use Rattle.exact_numbers.specs.Frac.{Frac, whole_frac, lowest}
+use Rattle.formula_meaning.specs.FromExactNumbers.{PastLimit, Divides, Frac, whole_frac, lowest}
 use Rattle.formula_meaning.specs.Point as meaning
 use Rattle.formula_meaning.specs.Some.{SomeOf}
 use Rattle.qe_syntax.specs.declared.tree.Literal.{Literal}

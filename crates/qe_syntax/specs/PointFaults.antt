@@ -5,7 +5,7 @@ use Rattle.qe_syntax.specs.declared.entries.PointEntry.{PointEntry}
 use Rattle.qe_syntax.specs.declared.point.PointFault.{PointFault}
 use Rattle.qe_syntax.specs.declared.point.PointFault.TheVariants.{Double, ZeroBelow, NotWhole, Overflow, Memory}
 use Rattle.qe_syntax.specs.Point.{NamesTwice, IsZeroBelow, IsBroken, PassesLimit, IsScaled}
-use Rattle.exact_numbers.specs.Limit.{PastLimit}
+use Rattle.formula_meaning.specs.FromExactNumbers.{PastLimit}
 
 -- no name stands twice, no denominator is 0 and, with whole, each value is a whole number
 pub record IsChecked (es : List PointEntry) (whole : Bool) : Type 0 where

@@ -5,9 +5,7 @@ use Rattle.std.specs.Ordering.{nat_cmp}
 use Rattle.std.specs.Cmp.Lexicographic.{slice_cmp}
 use Rattle.std.specs.BTreeMap.{is_at}
 use Rattle.std.specs.Map.{lookup}
-use Rattle.exact_numbers.specs.Limit.{InLimit}
-use Rattle.exact_numbers.specs.Divides.{Divides}
-use Rattle.exact_numbers.specs.Frac.{Frac, lowest}
+use Rattle.formula_meaning.specs.FromExactNumbers.{InLimit, Divides, Frac, lowest}
 use Rattle.formula_meaning.specs.Point as meaning
 use Rattle.qe_syntax.specs.declared.tree.Literal.TheVariants.{Fits}
 use Rattle.qe_syntax.specs.declared.entries.PointEntry.{PointEntry}

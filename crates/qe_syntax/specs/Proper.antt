@@ -2,7 +2,7 @@
 -- gives is proper in this sense, and each name is one that a script can write.
 use Rattle.std.specs.Prelude.{ℕ, pos, ◌≤ℤ◌, List}
 use Rattle.std.specs.List.{AllByRecursion}
-use Rattle.exact_numbers.specs.Limit.{InLimit}
+use Rattle.formula_meaning.specs.FromExactNumbers.{InLimit}
 use Rattle.formula_meaning.specs.Formula.{Yes, No, One, Not, And, Or, Impl, Repl, Equiv, Ex, All}
 use Rattle.formula_meaning.specs.Formula as plain
 use Rattle.qe_syntax.specs.declared.tree.Literal.{Literal}

@@ -1,6 +1,6 @@
 -- Which formulas have a truth that is calculated at a point.
 use Rattle.std.specs.Prelude.{◌≡◌, ℤ, pos}
-use Rattle.exact_numbers.specs.Frac.{Frac, SameValue, whole_frac}
+use Rattle.formula_meaning.specs.FromExactNumbers.{Frac, SameValue, whole_frac}
 use Rattle.qe_syntax.specs.Trees.{WrittenAtom, Compare, Cong, Ncong, Bound}
 use Rattle.qe_syntax.specs.Value.{NamedPoint, value}
 

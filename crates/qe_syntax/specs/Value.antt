@@ -2,7 +2,7 @@
 use Rattle.std.specs.Ordering.{int_eq}
 use Rattle.std.specs.Prelude.{◌≡◌, ℕ, ◌⊎◌, ℤ, pos, ◌*ℤ◌, unsigned_abs, List, Bool, nat_eq, if◌then◌else◌}
 use Rattle.std.specs.Cmp.Lexicographic.{pointwise}
-use Rattle.exact_numbers.specs.Frac.{Frac, SameValue, whole_frac, true_sum, true_product, true_power, negated, inverted}
+use Rattle.formula_meaning.specs.FromExactNumbers.{Frac, SameValue, whole_frac, true_sum, true_product, true_power, negated, inverted}
 use Rattle.formula_meaning.specs.Context.{Context}
 use Rattle.formula_meaning.specs.Point.{Point, move}
 use Rattle.formula_meaning.specs.Truth.{True}

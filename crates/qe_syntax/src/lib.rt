@@ -11,7 +11,7 @@ mod value;
 mod valued;
 
 pub use entries::{Entries, PointEntry};
-pub use exact_numbers::Fraction;
+pub use formula_meaning::Fraction;
 pub use laws::one_point;
 pub use name::Name;
 pub use point::{Point, PointFault};

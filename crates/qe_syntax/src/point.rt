@@ -1,9 +1,6 @@
 ghost use Rattle.std.specs.Prelude.{◌≡◌, ◌↔◌, ◌⊎◌, ℤ, pos, ◌<ℤ◌, ◌≤ℤ◌, IsTrue, IfOk, OnOk, OnErr, IfErr, MatchOption};
 ghost use Rattle.std.specs.List.{AllByRecursion};
-ghost use Rattle.exact_numbers.specs.Limit.{InLimit, PastLimit};
-ghost use Rattle.exact_numbers.specs.Divides.{Divides, lcm_of};
-ghost use Rattle.exact_numbers.specs.Division.{IsLcm};
-ghost use Rattle.exact_numbers.specs.Fraction.{frac_of};
+ghost use Rattle.formula_meaning.specs.FromExactNumbers.{InLimit, PastLimit, Divides, lcm_of, IsLcm, frac_of};
 ghost use Rattle.formula_meaning.specs.Some.{SomeOf};
 ghost use Rattle.qe_syntax.specs.Proper.{IsProperEntry, AreProperEntries};
 ghost use Rattle.qe_syntax.specs.Point.{NamesTwice, IsZeroBelow, IsPast, IsBroken, lowest_below, IsLeastDenominator, DenominatorPasses, IsScaled};
@@ -13,7 +10,7 @@ ghost use Rattle.qe_syntax.specs.PointFaults.{PutFault, IsChecked, CheckFault};
 use crate::entries::PointEntry;
 use crate::name::Name;
 use crate::tree::Literal;
-use exact_numbers::{Fraction, lcm, residue};
+use formula_meaning::{Fraction, lcm, residue};
 use std::alloc::{AllocError, Global};
 use std::collections::{BTreeMap, BTreeSet};
 use std::marker::Model;
@@ -29,7 +26,7 @@ pub struct Point {
 
 impl Model for Point {
     ghost use Rattle.std.specs.Prelude.{List, ℕ, ℤ, pos, ◌<ℤ◌, IfSome};
-    ghost use Rattle.exact_numbers.specs.Limit.{InLimit};
+    ghost use Rattle.formula_meaning.specs.FromExactNumbers.{InLimit};
     ghost use Rattle.qe_syntax.specs.PointNumbers.{Numbers, number_of};
 
     ghost Value = { Numbers };

@@ -1,5 +1,5 @@
 ghost use Rattle.std.specs.Prelude.{◌≡◌, ◌↔◌, pos, map, true, false, IsTrue, IfOk};
-ghost use Rattle.exact_numbers.specs.Fraction.{frac_of};
+ghost use Rattle.formula_meaning.specs.FromExactNumbers.{frac_of};
 ghost use Rattle.formula_meaning.specs.Context.{Fields};
 ghost use Rattle.formula_meaning.specs.Every.{Every, EveryOf};
 ghost use Rattle.formula_meaning.specs.Shape.{IsQuantifierFree, AreQuantifierFree};
@@ -16,7 +16,7 @@ ghost use Rattle.qe_syntax.specs.Evaluates.{Evaluates, Decides};
 use crate::point::Point;
 use crate::tree::{Formula, Relation, Term};
 use crate::value::{EvalError, value_at};
-use exact_numbers::{Fraction, residue};
+use formula_meaning::{Fraction, residue};
 
 /// Whether a formula is true at a point, over the rational numbers. Each comparison and each congruence is calculated,
 /// from left to right, by the difference of its two sides; an `Err` is what stops that first. It takes no memory. The

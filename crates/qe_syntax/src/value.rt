@@ -1,6 +1,5 @@
 ghost use Rattle.std.specs.Prelude.{◌≡◌, ℤ, pos, map, IfOk};
-ghost use Rattle.exact_numbers.specs.Fraction.{frac_of};
-ghost use Rattle.exact_numbers.specs.Frac.{SameValue, IsLowest, whole_frac, lowest};
+ghost use Rattle.formula_meaning.specs.FromExactNumbers.{frac_of, SameValue, IsLowest, whole_frac, lowest};
 ghost use Rattle.qe_syntax.specs.Trees.{terms_of};
 ghost use Rattle.qe_syntax.specs.CodeTrees.{term_tree};
 ghost use Rattle.qe_syntax.specs.Proper.{IsProperTerm, AreProperTerms, IsNumeral};
@@ -12,7 +11,7 @@ ghost use Rattle.qe_syntax.specs.Evaluates.{Evaluates};
 use crate::name::Name;
 use crate::point::Point;
 use crate::tree::{Literal, Term};
-use exact_numbers::Fraction;
+use formula_meaning::Fraction;
 use thiserror::Error;
 
 /// What stops the calculation of a value, from left to right the first.

@@ -10,8 +10,7 @@ ghost use Rattle.redlog_printer.specs.Writing.{text_limit};
 use crate::error::PrintError;
 use crate::forms::put_atom;
 use crate::output::Output;
-use formula_tree::{Names, Tree, Trees};
-use linear_forms::VarId;
+use formula_tree::{Names, Tree, Trees, VarId};
 use std::alloc::Global;
 
 /// The text of a formula, where the names of the list are numbered by their places. `Text` comes exactly where the text

@@ -5,9 +5,8 @@ ghost use Rattle.std.specs.Fmt.{decimal};
 ghost use Rattle.redlog_printer.specs.Text.{name_at};
 
 use crate::error::PrintError;
-use formula_tree::Names;
+use formula_tree::{Names, VarId};
 use itoa::Buffer;
-use linear_forms::VarId;
 use std::alloc::Global;
 use std::marker::Model;
 

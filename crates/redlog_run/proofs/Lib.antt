@@ -10,3 +10,6 @@ pub mod Standing
 pub mod Accepted
 pub mod AcceptedExample
 pub mod NamesAfter
+pub mod FromProblemReading
+pub mod FromSessionState
+pub mod FromSharedForms

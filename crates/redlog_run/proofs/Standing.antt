@@ -3,7 +3,7 @@ use Rattle.std.proofs.Common.{◌≡◌, ℕ, ◌+◌, ◌-◌, Bool, true, fals
 use Rattle.std.proofs.lemmas.List.{take-append-drop, take_all}
 use Rattle.std.specs.declared.alloc.Global.{Global}
 use Rattle.std.specs.declared.vec.Vec.{Vec}
-use Rattle.block_scheduler.specs.declared.limits.Limits.{Limits}
+use Rattle.session_commands.specs.FromBlockScheduler.{Limits}
 use Rattle.script_splitter.specs.declared.splitter.Cut.{Cut}
 use Rattle.script_splitter.specs.Pieces.{Held, Follows, HasBytes, CutsOff, IsLast}
 use Rattle.redlog_tokens.specs.Pieces.{HasNoTokenFrom}

@@ -14,3 +14,5 @@ pub mod Steps
 pub mod Process
 pub mod WithoutFormulas
 pub mod Accepted
+pub mod FromProblemReading
+pub mod FromSessionState

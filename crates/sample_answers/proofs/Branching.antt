@@ -14,17 +14,17 @@ use Rattle.elimination_theory.specs.Answers.{Step}
 use Rattle.elimination_theory.specs.BothTheories.{IsPlaceIn}
 use Rattle.elimination_theory.specs.Steps.{result_at}
 use Rattle.elimination_theory.proofs.OneStep.{result_becomes}
-use Rattle.elimination_reference.proofs.Tidy.{normaliser}
+use Rattle.test_points.proofs.FromEliminationReference.{normaliser}
 use Rattle.atom_normal.specs.NormalForm.{normal_atom}
 use Rattle.formula_tree.specs.declared.shape.Shape.{Shape}
 use Rattle.formula_tree.specs.Makers.{IsMade, Keeps}
 use Rattle.formula_store.specs.declared.id.FormulaId.{FormulaId}
 use Rattle.formula_store.specs.Nodes.{tree, IsId}
 use Rattle.formula_store.proofs.Makes.{keeps_then}
-use Rattle.nnf_substitution.specs.Placed.{all_within}
+use Rattle.shared_results.specs.FromNnfSubstitution.{all_within}
 use Rattle.test_points.specs.declared.points.TestPoint.{TestPoint}
 use Rattle.test_points.specs.Points.{place_of, answer_of}
-use Rattle.case_theory.specs.PutThrough.{put_through}
+use Rattle.sample_theory.specs.FromCaseTheory.{put_through}
 use Rattle.sample_theory.specs.Samples.{answer_steps}
 use Rattle.sample_answers.specs.Searches.{IsSharedTree}
 use Rattle.sample_answers.specs.Branches.{shared_steps}

@@ -4,3 +4,5 @@ pub mod Branching
 pub mod Answering
 pub mod Sampled
 pub mod Lowest
+pub mod FromBranchPoints
+pub mod FromSampleTheory

@@ -11,11 +11,11 @@ use Rattle.exact_numbers.specs.Fraction.{frac_of}
 use Rattle.exact_numbers.proofs.Limits.{formed_by, checked_none}
 use Rattle.formula_meaning.specs.Limits.{is_within}
 use Rattle.elimination_theory.proofs.WithinTests.{within_tests}
-use Rattle.plain_engine.proofs.Paying.{is_past_limit}
+use Rattle.sample_numbers.proofs.FromPlainEngine.{is_past_limit}
 use Rattle.linear_forms.specs.declared.form.VarId.{VarId}
 use Rattle.linear_forms.specs.Values.{Numbers, number_at, number_of, point_of}
-use Rattle.plain_truths.proofs.Parting.{below_is}
-use Rattle.nnf_substitution.proofs.PutLaws.{each_append, and_known}
+use Rattle.sample_numbers.proofs.FromPlainTruths.{below_is}
+use Rattle.shared_results.proofs.FromNnfSubstitution.{each_append, and_known}
 use Rattle.sample_reference.specs.Values.{Value, multiple_with, numerators_within, common_denominator, numbers_over, point_over}
 use Rattle.sample_reference.specs.Seen.{value_of, values_of}
 use Rattle.sample_reference.proofs.SamePoints.{some_same, some_then}

@@ -21,7 +21,7 @@ use Rattle.formula_meaning.proofs.Listed.{among_flat_map, flat_map_among}
 use Rattle.elimination_theory.specs.declared.side.Side.{Side}
 use Rattle.elimination_theory.specs.Atoms.{atoms_in, atoms_in_all, atoms_of}
 use Rattle.elimination_theory.proofs.SomeListed.{each_among, each_right, atoms_of_every}
-use Rattle.elimination_reference.specs.PutIn.{atom_put, tree_put, trees_put, tree_put_within, trees_put_within}
+use Rattle.test_points.specs.FromEliminationReference.{atom_put, tree_put, trees_put, tree_put_within, trees_put_within}
 use Rattle.atom_normal.specs.NormalForm.{normal_atom}
 use Rattle.atom_normal.specs.Atoms.{atom_of, context_of}
 use Rattle.formula_tree.specs.declared.shape.Shape.{Shape}
@@ -33,15 +33,15 @@ use Rattle.linear_forms.specs.Values.{point_of}
 use Rattle.test_points.specs.declared.error.PointError.{PointError}
 use Rattle.test_points.specs.declared.error.PointError.TheVariants.{Overflow, Nodes, Memory}
 use Rattle.test_points.proofs.Ended.{first_false}
-use Rattle.nnf_substitution.specs.Placed.{Fails}
-use Rattle.nnf_substitution.proofs.PutLaws.{and_known, each_append}
-use Rattle.plain_truths.specs.Put.{atom_put_within}
+use Rattle.shared_results.specs.FromNnfSubstitution.{Fails}
+use Rattle.shared_results.proofs.FromNnfSubstitution.{and_known, each_append}
+use Rattle.sample_numbers.specs.FromPlainTruths.{atom_put_within}
 use Rattle.branch_points.specs.Chosen.{shape_atoms}
 use Rattle.branch_points.proofs.ListedAtoms.{atoms_at, atoms_from, order_same}
 use Rattle.sample_reference.specs.Calculated.{criticals, least_with, past}
 use Rattle.sample_reference.proofs.CriticalSets.{once_same}
 use Rattle.sample_reference.proofs.Tracing.{each_true}
-use Rattle.case_theory.proofs.Lists.{each_from}
+use Rattle.sample_theory.proofs.FromCaseTheory.{each_from}
 use Rattle.sample_numbers.specs.Told.{Lacks}
 use Rattle.sample_numbers.specs.Roots.{least_among, IsNextCritical}
 use Rattle.sample_numbers.proofs.Leasts.{among_append, next_among, next_refused}

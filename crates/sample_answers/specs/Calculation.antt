@@ -6,7 +6,7 @@ use Rattle.formula_meaning.specs.Some.{SomeOf}
 use Rattle.formula_meaning.specs.Tree.{Tree}
 use Rattle.elimination_theory.specs.Answers.{Step}
 use Rattle.linear_forms.specs.Values.{Numbers}
-use Rattle.nnf_substitution.specs.Placed.{all_within}
+use Rattle.shared_results.specs.FromNnfSubstitution.{all_within}
 use Rattle.sample_reference.specs.Calculated.{values_from}
 use Rattle.sample_theory.specs.Samples.{answer_steps}
 use Rattle.sample_answers.specs.Points.{known_of, HasValuePastLimit}

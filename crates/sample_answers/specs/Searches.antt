@@ -12,14 +12,14 @@ use Rattle.formula_meaning.specs.Plain.{IsPlain}
 use Rattle.formula_meaning.specs.Tree.{Tree}
 use Rattle.formula_meaning.specs.Equivalence.{InContext}
 use Rattle.elimination_theory.specs.Atoms.{atoms_in}
-use Rattle.elimination_reference.specs.PutIn.{atom_put}
+use Rattle.test_points.specs.FromEliminationReference.{atom_put}
 use Rattle.atom_normal.specs.Atoms.{context_of}
 use Rattle.atom_normal.specs.NormalForm.{normal_atom}
 use Rattle.formula_tree.specs.declared.shape.Shape.{Shape}
 use Rattle.formula_store.specs.declared.id.FormulaId.{FormulaId}
 use Rattle.formula_store.specs.Nodes.{tree, IsId}
 use Rattle.linear_forms.specs.Values.{point_of}
-use Rattle.plain_truths.specs.Put.{atom_put_within}
+use Rattle.sample_numbers.specs.FromPlainTruths.{atom_put_within}
 use Rattle.sample_reference.specs.Calculated.{criticals}
 use Rattle.sample_numbers.specs.Roots.{least_among}
 use Rattle.sample_answers.specs.declared.search.Search.{Search}

@@ -16,10 +16,9 @@ ghost use Rattle.sample_answers.specs.Calculation.{SubstitutionPasses, after_fir
 use crate::error::SampleError;
 use atom_normal::Context;
 use formula_store::{FormulaId, Store};
-use shared_results::result_shared;
+use shared_results::{SubstError, result_shared};
 use std::alloc::Global;
 use test_points::TestPoint;
-use virtual_subst::SubstError;
 
 /// The matrix with the answers after each one put in, the last one first. `Overflow` comes only where a number that is formed for
 /// an atom passes 2^127 - 1 where an answer after the first one is put in, else `Memory`. The formulas of the store stay.

@@ -8,5 +8,7 @@ mod known;
 mod sampling;
 mod search;
 
+pub use case_trees::guards_together;
 pub use error::SampleError;
+pub use sample_numbers::least_with_atom;
 pub use sampling::concrete;

@@ -10,7 +10,7 @@ ghost use Rattle.atom_normal.specs.Atoms.{atom_of, context_of};
 ghost use Rattle.branch_points.specs.Chosen.{shape_atoms};
 ghost use Rattle.formula_store.specs.Nodes.{tree, IsId};
 ghost use Rattle.formula_tree.specs.Shapes.{IsProperShape};
-ghost use Rattle.nnf_substitution.specs.Placed.{Fails};
+ghost use Rattle.shared_results.specs.FromNnfSubstitution.{Fails};
 ghost use Rattle.sample_numbers.specs.Roots.{IsNextCritical};
 ghost use Rattle.sample_numbers.specs.Told.{Lacks};
 ghost use Rattle.sample_answers.specs.Searches.{IsLeastWith, IsSharedTree, are_within, criticals_sought};
@@ -21,8 +21,7 @@ use exact_numbers::Fraction;
 use formula_store::{FormulaId, Store, StoreError};
 use formula_tree::Shape;
 use linear_forms::{Values, VarId};
-use plain_truths::atom_put;
-use sample_numbers::{Branch, least_with_atom};
+use sample_numbers::{Branch, atom_put, least_with_atom};
 use std::alloc::Global;
 use test_points::PointError;
 

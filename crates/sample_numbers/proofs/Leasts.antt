@@ -13,7 +13,7 @@ use Rattle.formula_meaning.specs.Tree.{Tree}
 use Rattle.formula_meaning.proofs.Iff.{both_ways}
 use Rattle.elimination_theory.specs.declared.side.Side.{Side}
 use Rattle.elimination_theory.specs.Atoms.{atoms_in, atoms_of}
-use Rattle.elimination_reference.specs.PutIn.{tree_put, tree_put_within}
+use Rattle.sample_reference.specs.FromEliminationReference.{tree_put, tree_put_within}
 use Rattle.sample_reference.specs.Calculated.{atom_root, with_root, critical_values, criticals, is_less, lesser, least_with, past, seen}
 use Rattle.sample_reference.proofs.CriticalSets.{same_least, seen_set, once_same}
 use Rattle.sample_numbers.specs.Roots.{seen_criticals, least_among, IsNextCritical}

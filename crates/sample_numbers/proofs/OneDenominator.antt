@@ -8,10 +8,10 @@ use Rattle.exact_numbers.specs.Frac.{scaled, ◌>>=◌}
 use Rattle.exact_numbers.proofs.Limits.{formed_by, checked_none}
 use Rattle.formula_meaning.specs.Limits.{is_within}
 use Rattle.linear_forms.specs.Values.{Numbers, number_at}
-use Rattle.test_points.proofs.Ended.{first_false}
+use Rattle.plain_truths.proofs.FromTestPoints.{first_false}
 use Rattle.elimination_theory.proofs.WithinTests.{within_tests}
-use Rattle.plain_engine.proofs.Paying.{is_past_limit}
-use Rattle.nnf_substitution.proofs.PutLaws.{and_known}
+use Rattle.plain_truths.proofs.FromPlainEngine.{is_past_limit}
+use Rattle.plain_truths.proofs.FromNnfSubstitution.{and_known}
 use Rattle.sample_reference.specs.Values.{Value, multiple_with, numerators_within, common_denominator, numbers_over, point_over}
 use Rattle.sample_numbers.specs.Told.{AreOver, IsPointOver}
 

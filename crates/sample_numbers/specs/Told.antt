@@ -4,8 +4,7 @@ use Rattle.exact_numbers.specs.declared.fraction.Fraction.{Fraction}
 use Rattle.exact_numbers.specs.Frac.{Frac}
 use Rattle.exact_numbers.specs.Fraction.{frac_of}
 use Rattle.linear_forms.specs.Values.{Numbers, point_of}
-use Rattle.test_points.specs.declared.error.PointError.{PointError}
-use Rattle.test_points.specs.declared.error.PointError.TheVariants.{Overflow, Nodes, Memory}
+use Rattle.plain_truths.specs.FromTestPoints.{PointError, Overflow, Nodes, Memory}
 use Rattle.sample_reference.specs.Values.{Value, numerators_within, common_denominator, point_over}
 
 -- the error says that the calculation gives nothing, or says nothing

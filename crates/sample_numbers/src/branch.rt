@@ -11,8 +11,8 @@ ghost use Rattle.sample_numbers.specs.Roots.{IsNextCritical};
 use elimination_theory::Side;
 use exact_numbers::Fraction;
 use linear_forms::{Values, VarId};
+use plain_truths::PointError;
 use std::alloc::Global;
-use test_points::PointError;
 
 /// A formula of a theory, in which a name may be put at a place.
 pub trait Branch {

@@ -1,14 +1,14 @@
 // Values of names over one denominator.
 ghost use Rattle.std.specs.Prelude.{◌≡◌, pos, ◌<ℤ◌, Some, IfSome, MatchResult};
-ghost use Rattle.nnf_substitution.specs.Placed.{Fails};
+ghost use Rattle.plain_truths.specs.FromNnfSubstitution.{Fails};
 ghost use Rattle.sample_reference.specs.Seen.{values_of};
 ghost use Rattle.sample_reference.specs.Values.{multiple_with, numerators_within, common_denominator};
 ghost use Rattle.sample_numbers.specs.Told.{Lacks, AreOver, IsPointOver};
 
 use exact_numbers::{Fraction, lcm};
 use linear_forms::{Values, VarId};
+use plain_truths::PointError;
 use std::alloc::Global;
-use test_points::PointError;
 
 // The least common multiple of the denominators, formed with one after the other. `None` exactly where one passes 2^127 - 1.
 fn common_multiple(found: &[(VarId, Fraction)]) -> Option<i128>

@@ -11,4 +11,5 @@ mod roots;
 pub use branch::Branch;
 pub use denominators::point_of_values;
 pub use places::place_value;
+pub use plain_truths::{atom_put, formula_put, put_in};
 pub use roots::least_with_atom;

@@ -2,7 +2,7 @@
 ghost use Rattle.std.specs.Prelude.{◌≡◌, pos, ◌<ℤ◌, option_map, unsigned_abs};
 ghost use Rattle.exact_numbers.specs.Fraction.{frac_of};
 ghost use Rattle.linear_forms.specs.Values.{point_of};
-ghost use Rattle.test_points.specs.Points.{place_of, IsTestPoint};
+ghost use Rattle.plain_truths.specs.FromTestPoints.{place_of, IsTestPoint};
 ghost use Rattle.sample_reference.specs.Calculated.{form_value, beside_form, beyond_criticals, class_beyond, place_value};
 ghost use Rattle.sample_numbers.specs.Told.{Tells};
 
@@ -11,8 +11,8 @@ use crate::numbers::{below_all, class_below, just_past, seen};
 use elimination_theory::Side;
 use exact_numbers::Fraction;
 use linear_forms::{Linear, Values, VarId};
+use plain_truths::{Place, PointError, TestPoint};
 use std::alloc::Global;
-use test_points::{Place, PointError, TestPoint};
 
 // The number that is there; `Overflow` says that there is none.
 fn formed(value: Option<Fraction>) -> Result<Fraction, PointError>

@@ -2,15 +2,15 @@
 ghost use Rattle.std.specs.Prelude.{◌≡◌, [], ◌∷◌, option_map};
 ghost use Rattle.exact_numbers.specs.Fraction.{frac_of};
 ghost use Rattle.exact_numbers.specs.Limit.{InLimit};
-ghost use Rattle.atom_normal.specs.Atoms.{atom_of};
+ghost use Rattle.plain_truths.specs.FromAtomNormal.{atom_of};
 ghost use Rattle.sample_reference.specs.Calculated.{root_of, atom_root};
 ghost use Rattle.sample_numbers.specs.Roots.{least_among};
 
 use crate::numbers::{is_above, lesser, seen};
-use atom_normal::Atom;
 use elimination_theory::Side;
 use exact_numbers::Fraction;
 use linear_forms::VarId;
+use plain_truths::Atom;
 
 // Where a multiple of a name and a constant are 0 together; there is no such number where the factor is 0.
 fn root(factor: i128, constant: i128) -> Option<Fraction>

@@ -5,7 +5,7 @@ use Rattle.formula_meaning.specs.Formula.{Yes}
 use Rattle.formula_meaning.specs.Every.{Every}
 use Rattle.formula_meaning.specs.Tree.{Tree, TrueAt, IsFree}
 use Rattle.elimination_theory.specs.Answers.{Step}
-use Rattle.atom_normal.specs.NormalForm.{IsNormal}
+use Rattle.elimination_reference.specs.FromAtomNormal.{IsNormal}
 use Rattle.formula_meaning.specs.Measured.{Outcome, stopped, done, then_of}
 use Rattle.formula_meaning.specs.Giving.{Gives}
 use Rattle.elimination_reference.specs.Reference.{Branch, branch_trees, normal_tree, leading_branches}

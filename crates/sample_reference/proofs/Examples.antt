@@ -15,9 +15,8 @@ use Rattle.formula_meaning.specs.Answer.{BelowBy, PlusInfinity, Periodic}
 use Rattle.formula_meaning.specs.Tree.{Tree}
 use Rattle.elimination_theory.specs.FieldsExample.{named, multiple_of}
 use Rattle.elimination_theory.specs.FieldsPoints.{form_over}
-use Rattle.linear_forms.specs.Terms.{value_steps, total_steps}
-use Rattle.linear_forms.specs.Reduction.{quotient, residue_form}
-use Rattle.atom_normal.specs.NormalForm.{normal_atom}
+use Rattle.elimination_reference.specs.FromLinearForms.{value_steps, total_steps, quotient, residue_form}
+use Rattle.elimination_reference.specs.FromAtomNormal.{normal_atom}
 use Rattle.sample_reference.specs.Values.{origin}
 use Rattle.sample_reference.specs.Calculated.{place_value}
 

@@ -17,8 +17,8 @@ use Rattle.formula_meaning.specs.TheoryAtoms.{AtomIn}
 use Rattle.formula_meaning.specs.Answer.{Place, Exact, AboveBy, BelowBy, PlusInfinity, MinusInfinity, Periodic}
 use Rattle.formula_meaning.specs.Tree.{Tree}
 use Rattle.formula_meaning.proofs.Values.{pos_mul}
-use Rattle.linear_forms.specs.Terms.{value_steps, ValuePasses}
-use Rattle.linear_forms.proofs.Steps.{value_steps_given}
+use Rattle.elimination_reference.specs.FromLinearForms.{value_steps, ValuePasses}
+use Rattle.elimination_reference.proofs.FromLinearForms.{value_steps_given}
 use Rattle.elimination_theory.specs.declared.side.Side.{Side}
 use Rattle.elimination_theory.specs.declared.side.Side.TheVariants.{Lower, Upper}
 use Rattle.elimination_theory.specs.Atoms.{atoms_of}

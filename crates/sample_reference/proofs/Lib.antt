@@ -1,3 +1,4 @@
+mod Examples
 pub mod Tracing
 pub mod SamePoints
 pub mod Leasts
@@ -10,4 +11,4 @@ pub mod OneValue
 pub mod Chain
 pub mod Sound
 pub mod Closed
-mod Examples
+pub mod FromEliminationReference

@@ -39,8 +39,8 @@ use Rattle.elimination_theory.proofs.SomeListed.{atoms_of_every}
 use Rattle.elimination_theory.proofs.Answers.{step_holds}
 use Rattle.elimination_theory.proofs.FieldsSample.{sample_is_true as field_sample_is_true}
 use Rattle.elimination_theory.proofs.IntegerSample.{sample_is_true as integer_sample_is_true}
-use Rattle.atom_normal.specs.NormalForm.{normal_atom}
-use Rattle.atom_normal.proofs.NormalLaws.{normal_names, normal_within, normal_atomic}
+use Rattle.elimination_reference.specs.FromAtomNormal.{normal_atom}
+use Rattle.elimination_reference.proofs.FromAtomNormal.{normal_names, normal_within, normal_atomic}
 use Rattle.elimination_reference.specs.PutIn.{terms_kept, form_put, atom_put, tree_put, trees_put}
 use Rattle.elimination_reference.proofs.PutIn.{Mixes, put_in_context, put_true, turn_equal, not_both}
 use Rattle.elimination_reference.proofs.Periods.{normal_keeps_periods}

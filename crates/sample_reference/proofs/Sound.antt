@@ -16,8 +16,8 @@ use Rattle.formula_meaning.proofs.FreeNames.{differ_names}
 use Rattle.formula_meaning.proofs.NormalShape.{normal_form_shape}
 use Rattle.elimination_theory.specs.Answers.{Step}
 use Rattle.elimination_theory.specs.AnswersTheorems.{Lead}
-use Rattle.atom_normal.specs.NormalForm.{IsNormal, normal_atom, negated_normal}
-use Rattle.atom_normal.proofs.NormalLaws.{normal_atomic}
+use Rattle.elimination_reference.specs.FromAtomNormal.{IsNormal, normal_atom, negated_normal}
+use Rattle.elimination_reference.proofs.FromAtomNormal.{normal_atomic}
 use Rattle.formula_meaning.specs.Measured.{Outcome, stopped, done, then_of, pay, within}
 use Rattle.formula_meaning.specs.Giving.{Gives}
 use Rattle.elimination_reference.specs.Reference.{Branch, normal_tree, turned}

@@ -13,7 +13,7 @@ use Rattle.elimination_theory.specs.declared.side.Side.TheVariants.{Lower}
 use Rattle.elimination_theory.specs.BothTheories.{test_points}
 use Rattle.elimination_theory.specs.Steps.{Result, kept, results, result_at, step}
 use Rattle.elimination_theory.proofs.SomeListed.{each_append}
-use Rattle.atom_normal.specs.NormalForm.{normal_atom, negated_normal}
+use Rattle.elimination_reference.specs.FromAtomNormal.{normal_atom, negated_normal}
 use Rattle.formula_meaning.specs.Limits.{each, place_within}
 use Rattle.elimination_reference.specs.Limits.{atom_within, span_within, step_within}
 use Rattle.formula_meaning.specs.Measured.{Outcome, stopped, done, Counted, ◌>>=◌, give, pay, within}

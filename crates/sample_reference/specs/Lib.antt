@@ -5,3 +5,4 @@ pub mod Sample
 pub mod TrueSample
 pub mod Traced
 pub mod Theorems
+pub mod FromEliminationReference

@@ -4,7 +4,7 @@ use Rattle.std.specs.declared.vec.Vec.{Vec}
 use Rattle.std.specs.declared.alloc.Global.{Global}
 use Rattle.exact_numbers.specs.declared.fraction.Fraction.{Fraction}
 use Rattle.exact_numbers.specs.Fraction.{frac_of}
-use Rattle.linear_forms.specs.declared.form.VarId.{VarId}
+use Rattle.elimination_reference.specs.FromLinearForms.{VarId}
 use Rattle.sample_reference.specs.Values.{Value}
 
 -- a name and its value

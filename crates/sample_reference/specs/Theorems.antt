@@ -4,7 +4,7 @@ use Rattle.formula_meaning.specs.Context.{Context}
 use Rattle.formula_meaning.specs.Every.{Every}
 use Rattle.formula_meaning.specs.Point.{Point, Of}
 use Rattle.formula_meaning.specs.Tree.{Tree, IsFree}
-use Rattle.atom_normal.specs.NormalForm.{IsNormal}
+use Rattle.elimination_reference.specs.FromAtomNormal.{IsNormal}
 use Rattle.formula_meaning.specs.Giving.{Gives}
 use Rattle.sample_reference.specs.Values.{origin}
 use Rattle.sample_reference.specs.Sample.{reference_sample}

@@ -5,7 +5,7 @@ use Rattle.formula_meaning.specs.Tree.{Tree}
 use Rattle.elimination_theory.specs.Answers.{Step}
 use Rattle.elimination_theory.specs.Atoms.{atoms_in, atoms_of}
 use Rattle.elimination_theory.specs.Steps.{result_at}
-use Rattle.atom_normal.specs.NormalForm.{normal_atom}
+use Rattle.elimination_reference.specs.FromAtomNormal.{normal_atom}
 use Rattle.formula_meaning.specs.Limits.{each, place_within}
 use Rattle.elimination_reference.specs.Limits.{atom_within}
 use Rattle.elimination_reference.specs.Reference.{Branch, stands_among}

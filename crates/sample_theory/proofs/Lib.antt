@@ -1,3 +1,4 @@
+mod Examples
 pub mod OneValue
 pub mod CriticalSet
 pub mod Moving
@@ -6,4 +7,4 @@ pub mod Sampleable
 pub mod Reordered
 pub mod Known
 pub mod Cases
-mod Examples
+pub mod FromCaseTheory

@@ -7,7 +7,7 @@ use Rattle.formula_meaning.specs.Some.{Among}
 use Rattle.formula_meaning.specs.Atom.{Atom}
 use Rattle.formula_meaning.specs.Answer.{Answer}
 use Rattle.formula_meaning.specs.Tree.{Tree, TrueAt}
-use Rattle.simplified_formulas.specs.Simplifiable.{EquivalentUnder}
+use Rattle.case_theory.specs.FromSimplifiedFormulas.{EquivalentUnder}
 use Rattle.elimination_reference.specs.Cases.{Case, case_matrix, case_names}
 use Rattle.case_theory.specs.PutThrough.{AreTrue}
 use Rattle.case_theory.specs.CaseTree.{without_all, IsCaseTree}

@@ -10,8 +10,8 @@ use Rattle.formula_meaning.specs.Some.{Among}
 use Rattle.formula_meaning.specs.Tree.{Tree}
 use Rattle.elimination_theory.specs.declared.side.Side.{Side}
 use Rattle.elimination_theory.specs.Atoms.{atoms_in}
-use Rattle.sample_reference.specs.Calculated.{criticals}
-use Rattle.plain_truths.specs.Put.{IsTreePut}
+use Rattle.traced_cases.specs.FromSampleReference.{criticals}
+use Rattle.sample_numbers.specs.FromPlainTruths.{IsTreePut}
 use Rattle.sample_numbers.specs.Roots.{least_among, IsNextCritical}
 use Rattle.sample_numbers.proofs.Leasts.{next_among}
 

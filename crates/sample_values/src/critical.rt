@@ -12,10 +12,9 @@ use elimination_theory::Side;
 use exact_numbers::Fraction;
 use linear_forms::{Values, VarId};
 use nnf_trees::{Members, Nnf};
-use plain_truths::formula_put;
-use sample_numbers::{Branch, least_with_atom};
+use sample_numbers::{Branch, formula_put, least_with_atom};
 use std::alloc::Global;
-use test_points::PointError;
+use traced_cases::PointError;
 
 // The least of what may be there and of the critical values of `x`, as the side sees them, above the bound. The recursion is as
 // deep as the formula is high.

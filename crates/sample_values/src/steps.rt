@@ -1,8 +1,7 @@
 // The values of the steps of a sample, one after the other.
 ghost use Rattle.std.specs.Prelude.{◌≡◌, [], All, IfOk};
 ghost use Rattle.atom_normal.specs.Atoms.{context_of};
-ghost use Rattle.sample_reference.specs.Calculated.{step_value, values_from};
-ghost use Rattle.sample_reference.specs.Seen.{values_of, sample_of};
+ghost use Rattle.traced_cases.specs.FromSampleReference.{step_value, values_from, values_of, sample_of};
 ghost use Rattle.sample_numbers.specs.Told.{Tells};
 ghost use Rattle.traced_cases.specs.Steps.{step_of, steps_of, IsStep};
 
@@ -12,8 +11,7 @@ use exact_numbers::Fraction;
 use linear_forms::VarId;
 use sample_numbers::{place_value, point_of_values};
 use std::alloc::{AllocError, Global};
-use test_points::PointError;
-use traced_cases::Step;
+use traced_cases::{PointError, Step};
 
 // The value of a step, from those found before it. `Overflow` comes exactly where a number that is formed passes 2^127 - 1, else
 // `Memory`.

@@ -12,7 +12,7 @@ use Rattle.session_meaning.specs.declared.line.StatementError.TheVariants as err
 use Rattle.session_meaning.specs.State.{State}
 use Rattle.session_meaning.specs.Meaning.{Meaning, numbered, meaning}
 use Rattle.session_meaning.specs.Causes.{HasLongLine, IsCause, MayBeCause}
-use Rattle.command_tools.specs.Replies.{use_of}
+use Rattle.point_queries.specs.FromCommandTools.{use_of}
 use Rattle.session_commands.specs.Accepted.{TruthIsNeverRefused}
 
 abbrev of_true : Meaning

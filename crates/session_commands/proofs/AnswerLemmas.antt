@@ -10,7 +10,7 @@ use Rattle.formula_meaning.specs.Tree.{tree_distinct}
 use Rattle.session_meaning.specs.declared.TheConstants.{MOST_SUBFORMULAS}
 use Rattle.session_meaning.specs.declared.line.Line.{Line}
 use Rattle.session_meaning.specs.State.{State, with_names}
-use Rattle.command_tools.specs.Replies.{use_of, Refuses, IsStopped, IsFormulaAnswer, IsQueryAnswer, BindsFormula}
+use Rattle.point_queries.specs.FromCommandTools.{use_of, Refuses, IsStopped, IsFormulaAnswer, IsQueryAnswer, BindsFormula}
 use Rattle.session_meaning.specs.Meaning.{Answer, OfFormula, OfText, meaning, assumption_meaning, numbered, Meaning, MayGive}
 use Rattle.session_meaning.specs.FormulaGiven.{GivesFormula}
 use Rattle.session_meaning.specs.Uses.{Use, formula_line}

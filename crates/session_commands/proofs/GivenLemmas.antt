@@ -22,10 +22,9 @@ use Rattle.formula_meaning.specs.Some.{EachOf}
 use Rattle.formula_tree.specs.Resolving.{BoundTrees, bound_truth, formula_variables, all_variables, resolve, at_names}
 use Rattle.qe_syntax.specs.Value as written
 use Rattle.redlog_printer.specs.Text.{tree_text}
-use Rattle.command_tools.specs.Replies.{use_of, Refuses, state_with, IsFormulaAnswer}
-use Rattle.command_tools.specs.Refusals.{forms_refusal, IsLongText, LineFault, static_refusal}
+use Rattle.point_queries.specs.FromCommandTools.{use_of, Refuses, state_with, IsFormulaAnswer, forms_refusal, IsLongText, LineFault, static_refusal}
 use Rattle.session_commands.specs.Steps.{given_trees, form_of, command_of, HasUnwantedQuantifier, IsReady, IsUnready, MayBind, TargetFault, HasFewBytes, IsForSize, IsUnfit, IsUnspared, MayAsk}
-use Rattle.problem_reading.specs.Reading.{AreNumbered, AreReadable, HasNoEarlier, AreUnread}
+use Rattle.point_queries.specs.FromProblemReading.{AreNumbered, AreReadable, HasNoEarlier, AreUnread}
 use Rattle.session_meaning.specs.Meaning.{meaning, numbered, Meaning, Determines, IsAllowed}
 use Rattle.formula_resolving.specs.declared.error.StaticError.{StaticError}
 use Rattle.formula_resolving.specs.declared.error.StaticError.TheVariants as static
@@ -33,12 +32,9 @@ use Rattle.session_meaning.specs.Uses.{IsDirectUse, Use, HasManyNodes, formula_l
 use Rattle.session_meaning.specs.Causes.{HasNoRoom, IsTooLarge, IsCause, MayBeCause, HasNone, IsFirst}
 use Rattle.session_meaning.specs.Reply.{IsLine}
 use Rattle.session_meaning.specs.Words.{before}
-use Rattle.shared_forms.specs.Conditions.{IsConditionFor, IsConditionByCases}
-use Rattle.shared_forms.specs.declared.way.Way.TheVariants as way
-use Rattle.shared_forms.specs.Forms.{IsFormOf, IsCleanedAs, IsPrenexAs, IsSimplifiedAs}
-use Rattle.shared_forms.specs.declared.error.FormsError.{FormsError}
-use Rattle.shared_forms.specs.declared.error.FormsError.TheVariants as forms
-use Rattle.shared_forms.specs.Faults.{PrenexFault, FormFault}
+use Rattle.point_queries.specs.FromSharedForms.{IsConditionFor, IsConditionByCases, IsFormOf, IsCleanedAs, IsPrenexAs, IsSimplifiedAs, FormsError, PrenexFault, FormFault}
+use Rattle.point_queries.specs.FromSharedForms.way_variants as way
+use Rattle.point_queries.specs.FromSharedForms.forms_error_variants as forms
 use Rattle.formula_tree.specs.Names.{with_name}
 use Rattle.redlog_printer.specs.Writing.{text_limit}
 use Rattle.session_meaning.specs.declared.line.Line.{Line}
@@ -49,21 +45,16 @@ use Rattle.session_commands.specs.declared.formulas.FormCommand.TheVariants as w
 use Rattle.session_meaning.specs.State.{State, with_names}
 use Rattle.session_meaning.specs.Assumptions.{assumed, Hold}
 use Rattle.session_meaning.specs.FormulaAnswers.{negation_normal_of, IsPrenexAnswer, IsSimplification, IsCondition, IsCleanAnswer}
-use Rattle.session_state.specs.Keeping.{IsSessionFormula, IsSound}
-use Rattle.shared_forms.specs.declared.forms.ClauseForm.TheVariants as clause_form
+use Rattle.point_queries.specs.FromSessionState.{IsSessionFormula, IsSound}
+use Rattle.point_queries.specs.FromSharedForms.clause_form_variants as clause_form
 use Rattle.formula_meaning.specs.declared.junction.Junction.{Junction}
 use Rattle.formula_meaning.specs.declared.junction.Junction.TheVariants.{Conjunction, Disjunction}
-use Rattle.clean_forms.specs.Plain.{plain_form}
-use Rattle.problem_reading.proofs.CauseLemmas.{HasNoPoint, then_clear, unread_refuses, quantified_refuses, ready_below, readable_below, below_bindings}
-use Rattle.prenex_forms.proofs.Finished.{finished}
+use Rattle.session_meaning.specs.FromCleanForms.{plain_form}
+use Rattle.point_queries.proofs.FromProblemReading.{HasNoPoint, then_clear, unread_refuses, quantified_refuses, ready_below, readable_below, below_bindings, assumed_hold, truth_as_written}
+use Rattle.session_meaning.proofs.FromPrenexForms.{finished}
 use Rattle.session_commands.proofs.NewNameLemmas.{answer_names_once}
-use Rattle.shared_forms.proofs.PrenexLemmas.{prenex_form_members, prenex_formula}
-use Rattle.problem_reading.proofs.AssumptionLemmas.{assumed_hold}
-use Rattle.session_state.proofs.VariableLemmas.{not_empty}
-use Rattle.shared_forms.proofs.ConditionsFor.{eliminated_for, condition_formula}
-use Rattle.shared_forms.proofs.EliminatedLemmas.{answer_formula, orderly_members, orderly_every, simplified_formula, cleaned_formula}
-use Rattle.session_state.proofs.SoundLemmas.{negated_formula}
-use Rattle.problem_reading.proofs.ReadTruth.{truth_as_written}
+use Rattle.point_queries.proofs.FromSharedForms.{prenex_form_members, prenex_formula, eliminated_for, condition_formula, answer_formula, orderly_members, orderly_every, simplified_formula, cleaned_formula}
+use Rattle.point_queries.proofs.FromSessionState.{not_empty, negated_formula}
 
 append_nil : (xs : List (List ℕ)) → xs ++ [] ≡ xs
 append_nil [] = refl

@@ -11,7 +11,7 @@ use Rattle.formula_meaning.specs.Some.{EachOf}
 use Rattle.formula_meaning.specs.Tree.{Tree}
 use Rattle.atom_normal.specs.declared.atoms.Context as atoms
 use Rattle.atom_normal.specs.Atoms.{context_of}
-use Rattle.block_scheduler.specs.declared.limits.Limits.{Limits}
+use Rattle.point_queries.specs.FromBlockScheduler.{Limits}
 use Rattle.atom_normal.specs.NormalForm.{IsNormal}
 use Rattle.qe_syntax.specs.Trees.{FormulaTree, FormulaTrees}
 use Rattle.qe_syntax.specs.Writable.{IsWritableFormula, AreWritableFormulas}
@@ -28,7 +28,7 @@ use Rattle.formula_store.specs.Nodes.{tree, IsId}
 use Rattle.formula_store.proofs.Numbers.{numbers_are_within}
 use Rattle.formula_meaning.specs.Within.{IsTreeWithin}
 use Rattle.formula_meaning.specs.Members.{HasTwoMembers}
-use Rattle.session_state.specs.declared.state.SessionState.{SessionState}
+use Rattle.point_queries.specs.FromSessionState.{SessionState, state_of, IsSessionFormula, IsSound, IsSessionState, KeepsState, GrowsState}
 use Rattle.session_meaning.specs.declared.line.Line.{Line}
 use Rattle.session_meaning.specs.declared.line.StatementError.{StatementError}
 use Rattle.session_meaning.specs.declared.line.StatementError.TheVariants as error
@@ -39,25 +39,16 @@ use Rattle.session_commands.specs.declared.formulas.FormCommand.TheVariants as w
 use Rattle.session_meaning.specs.Points.{IsQuantified}
 use Rattle.formula_meaning.specs.Shape.{IsQuantifierFree}
 use Rattle.session_meaning.specs.State.{State, with_names}
-use Rattle.command_tools.specs.Replies.{use_of, Refuses, state_with, IsFormulaAnswer}
-use Rattle.command_tools.specs.Refusals.{forms_refusal}
+use Rattle.point_queries.specs.FromCommandTools.{use_of, Refuses, state_with, IsFormulaAnswer, forms_refusal}
 use Rattle.session_commands.specs.Steps.{given_trees, form_of, command_of, HasUnwantedQuantifier, IsReady, IsUnready, IsWantedOf, MayBind, TargetFault, IsLineOf, GiveFault, HasFewBytes, MayAsk, AttemptRefuses, KeepsWhereEliminated, bound_after}
-use Rattle.problem_reading.specs.Reading.{AreNumbered}
+use Rattle.point_queries.specs.FromProblemReading.{AreNumbered}
 use Rattle.session_meaning.specs.Meaning.{meaning, numbered}
-use Rattle.session_state.specs.Keeping.{state_of, IsSessionFormula, IsSound, IsSessionState}
 use Rattle.session_meaning.specs.Assumptions.{assumed}
-use Rattle.shared_forms.specs.declared.error.FormsError.{FormsError}
-use Rattle.shared_forms.specs.declared.forms.Form.{Form}
-use Rattle.shared_forms.specs.declared.forms.Premised.{Premised}
-use Rattle.shared_forms.specs.Forms.{IsPremised, IsDistributed, IsFormOf, IsFormed, HasFormNames}
-use Rattle.shared_forms.specs.Faults.{FormFault}
-use Rattle.session_state.specs.Growth.{KeepsState, GrowsState}
-use Rattle.session_state.proofs.BindingLemmas.{bind_trees, bind_ids, bind_distinct, bound_there}
-use Rattle.session_state.proofs.StateLemmas.{state_parts, grown_state, grown_session, keeps_then, sound_with, length_grows}
+use Rattle.point_queries.specs.FromSharedForms.{FormsError, Form, Premised, IsPremised, IsDistributed, IsFormOf, IsFormed, HasFormNames, FormFault}
+use Rattle.point_queries.proofs.FromSessionState.{bind_trees, bind_ids, bind_distinct, bound_there, state_parts, grown_state, grown_session, keeps_then, sound_with, length_grows, AllVariables, both, variables_of_formula, variables_of_all, all_put_in}
 use Rattle.session_commands.proofs.NewNameLemmas.{form_names, answer_names_distinct, answer_names_variables}
 use Rattle.point_queries.proofs.PointLemmas.{resolved_free}
-use Rattle.session_state.proofs.VariableLemmas.{AllVariables, both, variables_of_formula, variables_of_all, all_put_in}
-use Rattle.problem_reading.proofs.ReadLemmas.{assumed_normal, numbers_of, readable_formula}
+use Rattle.point_queries.proofs.FromProblemReading.{assumed_normal, numbers_of, readable_formula}
 use Rattle.session_commands.proofs.GivenLemmas.{named_is, refused_unready, refused_form, refused_target, refused_line, is_given, given_formula}
 
 -- a state with one more formula bound is sound

@@ -10,15 +10,15 @@ use Rattle.qe_syntax.specs.Value.{same_name}
 use Rattle.formula_tree.specs.Resolving.{resolve}
 use Rattle.session_commands.specs.declared.formulas.FormCommand.{FormCommand}
 use Rattle.session_commands.specs.declared.formulas.FormCommand.TheVariants as wanted
-use Rattle.shared_forms.specs.declared.forms.ClauseForm.TheVariants as clause_form
+use Rattle.point_queries.specs.FromSharedForms.clause_form_variants as clause_form
 use Rattle.session_meaning.specs.State.{State}
 use Rattle.session_meaning.specs.FormulaAnswers.{HasNewNames}
 use Rattle.session_meaning.specs.Targets.{target_name}
 use Rattle.session_commands.specs.Steps.{form_of, command_of}
 use Rattle.session_meaning.specs.Meaning.{meaning}
-use Rattle.shared_forms.specs.Forms.{HasFormNames}
-use Rattle.shared_forms.proofs.NewNames.{adds_once, adds_distinct}
-use Rattle.session_state.proofs.VariableLemmas.{AllVariables}
+use Rattle.point_queries.specs.FromSharedForms.{HasFormNames}
+use Rattle.point_queries.proofs.FromSharedForms.{adds_once, adds_distinct}
+use Rattle.point_queries.proofs.FromSessionState.{AllVariables}
 
 -- ---- the names after an answer
 

@@ -24,20 +24,14 @@ use Rattle.session_meaning.specs.Causes.{IsCause, IsAccepted, HasNone}
 use Rattle.session_meaning.specs.Reply.{IsLine, AnswersAssumptions}
 use Rattle.session_meaning.specs.Uses.{Use}
 use Rattle.session_meaning.specs.Words.{before}
-use Rattle.session_state.specs.declared.state.SessionState.{SessionState}
-use Rattle.session_state.specs.Keeping.{state_of, IsSessionFormula, IsSound, IsSessionState}
-use Rattle.session_state.specs.Growth.{KeepsState, GrowsState}
-use Rattle.session_state.proofs.StateLemmas.{state_parts, same_state, same_session, sound_with, length_grows, keeps_itself, grows_then}
-use Rattle.session_state.proofs.VariableLemmas.{AllVariables, variables_of_all, all_put_in}
+use Rattle.point_queries.specs.FromSessionState.{SessionState, state_of, IsSessionFormula, IsSound, IsSessionState, KeepsState, GrowsState}
+use Rattle.point_queries.proofs.FromSessionState.{state_parts, same_state, same_session, sound_with, length_grows, keeps_itself, grows_then, AllVariables, variables_of_all, all_put_in}
 use Rattle.formula_tree.proofs.PlaceLaws.{after_has, after_distinct}
 use Rattle.qe_syntax.specs.Value.{same_name}
-use Rattle.standing_assumptions.specs.declared.assumption.Assumption.{Assumption}
-use Rattle.standing_assumptions.specs.Trees.{standing_trees, IsFront}
-use Rattle.command_tools.specs.Replies.{use_of}
-use Rattle.command_tools.specs.Refusals.{IsLongText, LineFault}
-use Rattle.problem_reading.specs.Reading.{AreNumbered, AreReadable, AreUnread, AreAllRead}
-use Rattle.problem_reading.proofs.CauseLemmas.{HasNoPoint, then_clear, unread_refuses, readable_below, below_bindings}
-use Rattle.problem_reading.proofs.ReadLemmas.{resolved_formulas, numbered_in}
+use Rattle.point_queries.specs.FromStandingAssumptions.{Assumption, standing_trees, IsFront}
+use Rattle.point_queries.specs.FromCommandTools.{use_of, IsLongText, LineFault}
+use Rattle.point_queries.specs.FromProblemReading.{AreNumbered, AreReadable, AreUnread, AreAllRead}
+use Rattle.point_queries.proofs.FromProblemReading.{HasNoPoint, then_clear, unread_refuses, readable_below, below_bindings, resolved_formulas, numbered_in}
 use Rattle.session_commands.specs.Standing.{RefusesAssumptions, grown_by, IsGrown}
 
 -- ---- the list

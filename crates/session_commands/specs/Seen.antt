@@ -7,10 +7,9 @@ use Rattle.formula_tree.specs.declared.shape.Shape.{Shape}
 use Rattle.formula_resolving.specs.Refusals.{trees_bound}
 use Rattle.formula_store.specs.declared.id.FormulaId.{FormulaId}
 use Rattle.formula_store.specs.Nodes.{tree}
-use Rattle.block_scheduler.specs.declared.limits.Limits.{Limits}
+use Rattle.point_queries.specs.FromBlockScheduler.{Limits}
 use Rattle.session_meaning.specs.State.{State}
-use Rattle.standing_assumptions.specs.declared.assumption.Assumption.{Assumption}
-use Rattle.standing_assumptions.specs.Trees.{standing_trees}
+use Rattle.point_queries.specs.FromStandingAssumptions.{Assumption, standing_trees}
 
 pub record Seen : Type 0 where
   pub context : Context

@@ -2,7 +2,7 @@
 use Rattle.std.specs.Prelude.{◌≡◌, ◌⊎◌, ◌≤◌, ℕ, List, Bool, Option, Some, None, length}
 use Rattle.formula_meaning.specs.Formula.{none, also}
 use Rattle.formula_meaning.specs.Tree.{Tree}
-use Rattle.session_state.specs.declared.state.SessionState.{SessionState}
+use Rattle.point_queries.specs.FromSessionState.{SessionState, KeepsState}
 use Rattle.qe_syntax.specs.Trees.{FormulaTree, FormulaTrees}
 use Rattle.qe_syntax.specs.CodeTrees.{formula_trees}
 use Rattle.statement_syntax.specs.Statements.{CommandTree, Echo, Nnf, Pnf, Dnf, Cnf, Simpl, Qe}
@@ -12,25 +12,22 @@ use Rattle.formula_store.specs.declared.id.FormulaId.{FormulaId}
 use Rattle.session_meaning.specs.declared.line.Line.{Line}
 use Rattle.session_meaning.specs.declared.line.StatementError.{StatementError}
 use Rattle.session_meaning.specs.declared.line.StatementError.TheVariants as error
-use Rattle.shared_forms.specs.declared.forms.Form.{Form}
-use Rattle.shared_forms.specs.declared.forms.Form.TheVariants as form
-use Rattle.shared_forms.specs.Forms.{IsFormOf}
+use Rattle.point_queries.specs.FromSharedForms.{Form, IsFormOf}
+use Rattle.point_queries.specs.FromSharedForms.form_variants as form
 use Rattle.session_commands.specs.declared.formulas.FormCommand.{FormCommand}
 use Rattle.session_commands.specs.declared.formulas.FormCommand.TheVariants as wanted
-use Rattle.shared_forms.specs.declared.forms.ClauseForm.TheVariants as clause_form
-use Rattle.shared_forms.specs.declared.way.Way.TheVariants as way
+use Rattle.point_queries.specs.FromSharedForms.clause_form_variants as clause_form
+use Rattle.point_queries.specs.FromSharedForms.way_variants as way
 use Rattle.session_meaning.specs.State.{State}
 use Rattle.session_meaning.specs.Assumptions.{assumed}
-use Rattle.session_state.specs.Growth.{KeepsState}
-use Rattle.command_tools.specs.Replies.{Refuses}
+use Rattle.point_queries.specs.FromCommandTools.{Refuses, IsLongText, LineFault}
 use Rattle.session_meaning.specs.Meaning.{meaning}
 use Rattle.session_meaning.specs.Uses.{Use, formula_line}
 use Rattle.session_meaning.specs.Causes.{HasNoRoom, IsTooLarge}
 use Rattle.session_meaning.specs.Reply.{IsLine}
 use Rattle.session_meaning.specs.Points.{IsQuantified}
-use Rattle.command_tools.specs.Refusals.{IsLongText, LineFault}
 use Rattle.formula_resolving.specs.declared.error.StaticError.TheVariants as static
-use Rattle.problem_reading.specs.Reading.{AreReadable, HasNoEarlier, AreUnread}
+use Rattle.point_queries.specs.FromProblemReading.{AreReadable, HasNoEarlier, AreUnread}
 
 -- the assumptions
 abbrev pub given_trees : FormCommand → FormulaTrees

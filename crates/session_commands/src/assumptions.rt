@@ -13,21 +13,19 @@ ghost use Rattle.session_meaning.specs.Meaning.{assumption_meaning, numbered};
 ghost use Rattle.session_meaning.specs.Reply.{IsLine, AnswersAssumptions};
 ghost use Rattle.session_meaning.specs.Standing.{with_assumption, standing_text};
 ghost use Rattle.session_meaning.specs.State.{with_standing};
-ghost use Rattle.session_state.specs.Keeping.{state_of, IsSessionState};
-ghost use Rattle.session_state.specs.Growth.{KeepsState, GrowsState};
-ghost use Rattle.standing_assumptions.specs.Trees.{standing_trees, IsFront};
-ghost use Rattle.command_tools.specs.Refusals.{IsLongText, LineFault};
-ghost use Rattle.problem_reading.specs.Reading.{AreNumbered};
+ghost use Rattle.point_queries.specs.FromSessionState.{state_of, IsSessionState, KeepsState, GrowsState};
+ghost use Rattle.point_queries.specs.FromStandingAssumptions.{standing_trees, IsFront};
+ghost use Rattle.point_queries.specs.FromCommandTools.{IsLongText, LineFault};
+ghost use Rattle.point_queries.specs.FromProblemReading.{AreNumbered};
 ghost use Rattle.session_commands.specs.Standing.{RefusesAssumptions, grown_by, IsGrown};
 
-use command_tools::{print_refusal, printed_line};
 use formula_store::{FormulaId, Store};
 use formula_tree::Shape;
-use problem_reading::{number_all, read_all};
+use point_queries::{
+    Assumption, SessionState, Standing, number_all, print_refusal, printed_line, read_all,
+};
 use qe_syntax::Formula;
 use session_meaning::{Line, StatementError};
-use session_state::SessionState;
-use standing_assumptions::{Assumption, Standing};
 use std::alloc::{AllocError, Global};
 
 /// Puts the assumptions behind the standing ones, and gives the line of them all. After an `Err` the names may have grown.

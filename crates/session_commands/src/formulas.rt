@@ -14,10 +14,9 @@ ghost use Rattle.qe_syntax.specs.Writable.{IsWritableFormula, AreWritableFormula
 ghost use Rattle.statement_syntax.specs.CodeTrees.{command_tree};
 ghost use Rattle.qe_syntax.specs.Trees.{formulas_of};
 ghost use Rattle.qe_syntax.specs.CodeTrees.{formula_tree};
-ghost use Rattle.command_tools.specs.Replies.{use_of, Refuses, IsFormulaAnswer};
+ghost use Rattle.point_queries.specs.FromCommandTools.{use_of, Refuses, IsFormulaAnswer, IsLongText, LineFault};
 ghost use Rattle.session_commands.specs.Steps.{given_trees, form_of, command_of, HasUnwantedQuantifier, IsReady, IsUnready, IsWantedOf, MayBind, TargetFault, IsLineOf, GiveFault, bound_after, IsFirstAttempt, IsByCases, IsForSize, IsUnfit, plain_of, MayAsk, AttemptRefuses, KeepsWhereEliminated, HasFewBytes};
-ghost use Rattle.problem_reading.specs.Reading.{AreNumbered, AreRead};
-ghost use Rattle.command_tools.specs.Refusals.{IsLongText, LineFault};
+ghost use Rattle.point_queries.specs.FromProblemReading.{AreNumbered, AreRead};
 ghost use Rattle.session_meaning.specs.Meaning.{meaning, numbered};
 ghost use Rattle.session_meaning.specs.FormulaGiven.{GivesFormula};
 ghost use Rattle.session_meaning.specs.Uses.{formula_line};
@@ -25,20 +24,18 @@ ghost use Rattle.formula_meaning.specs.Tree.{tree_distinct};
 ghost use Rattle.session_meaning.specs.declared.TheConstants.{MOST_SUBFORMULAS};
 ghost use Rattle.session_meaning.specs.Causes.{HasNoRoom};
 ghost use Rattle.session_meaning.specs.Reply.{IsLine};
-ghost use Rattle.session_state.specs.Keeping.{state_of, IsSessionState};
-ghost use Rattle.session_state.specs.Growth.{KeepsState, GrowsState};
+ghost use Rattle.point_queries.specs.FromSessionState.{state_of, IsSessionState, KeepsState, GrowsState};
 
-use command_tools::{Workshop, forms_refusal, text_of};
 use formula_store::FormulaId;
 use formula_tree::{BindError, Bindings};
-use free_names::is_quantified;
-use problem_reading::{number_parts, read_parts};
+use point_queries::{
+    ClauseForm, Form, Premised, SessionState, Way, Workshop, formed, forms_refusal, number_parts,
+    read_parts, text_of,
+};
 use qe_parallel::Gate;
 use qe_syntax::{Formula, Formulas, Name};
 use redlog_printer::TEXT_LIMIT;
-use session_meaning::{Line, MOST_SUBFORMULAS, StatementError};
-use session_state::SessionState;
-use shared_forms::{ClauseForm, Form, Premised, Way, formed};
+use session_meaning::{Line, MOST_SUBFORMULAS, StatementError, is_quantified};
 use statement_syntax::Command;
 use std::alloc::Global;
 use std::thread::Threads;

@@ -6,7 +6,7 @@ mod formulas;
 mod laws;
 mod session;
 
-pub use block_scheduler::Limits;
 pub use laws::truth_is_never_refused;
+pub use point_queries::Limits;
 pub use session::Session;
 pub use session_meaning::{Line, StatementError};

@@ -1,30 +1,28 @@
 ghost use Rattle.std.specs.Prelude.{◌≡◌, ◌≤◌, Some, None, IfOk, IfErr, OnOk, OnErr};
 ghost use Rattle.statement_syntax.specs.CodeTrees.{statement_tree, command_tree};
 ghost use Rattle.statement_syntax.specs.Writable.{IsWritable, IsWritableCommand};
-ghost use Rattle.session_state.specs.Keeping.{state_of, IsSessionState};
-ghost use Rattle.command_tools.specs.Replies.{use_of, Refuses, IsStopped, IsFormulaAnswer, BindsFormula};
-ghost use Rattle.command_tools.specs.Refusals.{read_refusal};
+ghost use Rattle.point_queries.specs.FromSessionState.{state_of, IsSessionState, GrowsState};
+ghost use Rattle.point_queries.specs.FromCommandTools.{use_of, Refuses, IsStopped, IsFormulaAnswer, BindsFormula, read_refusal};
 ghost use Rattle.session_meaning.specs.Meaning.{meaning, numbered};
 ghost use Rattle.session_meaning.specs.FormulaGiven.{GivesFormula};
 ghost use Rattle.session_meaning.specs.Reply.{IsLine, AnswersSaid, Answers, Reply};
 ghost use Rattle.session_meaning.specs.Words.{context_text};
 ghost use Rattle.session_commands.specs.Seen.{state_in};
 ghost use Rattle.session_meaning.specs.State.{first_state, theory_of, chosen};
-ghost use Rattle.session_state.specs.Growth.{GrowsState};
 
 use crate::assumptions::{assume, retract};
 use crate::formulas::{answer_formula, form_command_of};
 use atom_normal::Context;
-use block_scheduler::Limits;
 use certificate_queries::{answer_certificate, answer_check};
-use command_tools::{Workshop, printed_line};
 use least_queries::answer_least;
-use point_queries::{answer_cases, answer_grid, answer_holds, answer_sample};
+use point_queries::{
+    Limits, SessionState, Workshop, answer_cases, answer_grid, answer_holds, answer_sample,
+    printed_line,
+};
 use qe_parallel::Gate;
 use qe_syntax::Name;
 use redlog_reader::{ReadError, read_statement};
 use session_meaning::{Line, StatementError};
-use session_state::SessionState;
 use statement_syntax::{Action, Command, Setting, Statement};
 use std::alloc::Global;
 use std::marker::Model;
@@ -39,7 +37,7 @@ pub struct Session {
 
 impl Model for Session {
     ghost use Rattle.std.specs.Prelude.{◌≤◌};
-    ghost use Rattle.session_state.specs.Keeping.{IsSessionState};
+    ghost use Rattle.point_queries.specs.FromSessionState.{IsSessionState};
     ghost use Rattle.session_commands.specs.Seen.{Seen};
 
     ghost Value = { Seen };

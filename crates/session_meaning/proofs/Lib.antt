@@ -1,1 +1,3 @@
 mod Examples
+pub mod FromAnswerTexts
+pub mod FromPrenexForms

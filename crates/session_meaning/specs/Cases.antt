@@ -9,14 +9,12 @@ use Rattle.formula_meaning.specs.Shape.{IsQuantifierFree}
 use Rattle.formula_meaning.specs.Some.{EachOf}
 use Rattle.formula_meaning.specs.Tree.{IsFree, TrueAt}
 use Rattle.atom_normal.specs.NormalForm.{IsNormal}
-use Rattle.elimination_reference.specs.Cases.{Case, case_sign, case_matrix, case_names}
-use Rattle.elimination_reference.specs.AnswerParts.{guards_of, answer_names}
-use Rattle.elimination_reference.specs.Over.{AreAnswersOver}
+use Rattle.case_theory.specs.FromEliminationReference.{Case, case_sign, case_matrix, case_names, guards_of, answer_names, AreAnswersOver}
 use Rattle.qe_syntax.specs.Trees.{FormulaTree, FormulaTrees}
 use Rattle.qe_syntax.specs.Value as written
 use Rattle.formula_tree.specs.Resolving.{resolve, at_names, bound_truth}
 use Rattle.formula_meaning.specs.Members.{HasTwoMembers}
-use Rattle.simplified_formulas.specs.Trees.{IsReduced}
+use Rattle.case_theory.specs.FromSimplifiedFormulas.{IsReduced}
 use Rattle.session_meaning.specs.State.{State}
 use Rattle.session_meaning.specs.Assumptions.{Hold, assumed}
 use Rattle.session_meaning.specs.FormulaAnswers.{negation_normal_of}

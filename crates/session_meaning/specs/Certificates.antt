@@ -16,10 +16,9 @@ use Rattle.qe_syntax.specs.Trees.{FormulaTrees}
 use Rattle.qe_syntax.specs.Value.{NamedPoint, literal_number}
 use Rattle.formula_tree.specs.Names.{with_name}
 use Rattle.formula_tree.specs.Resolving.{all_variables, place}
-use Rattle.sample_reference.specs.Values.{Value, value_names, with_values, IsValue, origin}
-use Rattle.farkas_theory.specs.Constraints as farkas
-use Rattle.farkas_theory.specs.Constraints.{Constraint}
-use Rattle.farkas_theory.specs.Farkas.{nothing, AreAllowed, IsFarkas, SumPasses}
+use Rattle.fourier_motzkin.specs.FromSampleReference.{Value, value_names, with_values, IsValue, origin}
+use Rattle.fourier_motzkin.specs.FromFarkasTheory.constraints_rules as farkas
+use Rattle.fourier_motzkin.specs.FromFarkasTheory.{Constraint, nothing, AreAllowed, IsFarkas, SumPasses}
 use Rattle.fourier_motzkin.specs.Search.{Certificate, At, Farkas, search}
 use Rattle.answer_texts.specs.Answers.{separated}
 use Rattle.answer_texts.specs.Points.{fraction_text, point_text}

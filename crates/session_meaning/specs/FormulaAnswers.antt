@@ -9,10 +9,7 @@ use Rattle.formula_meaning.specs.Shape.{IsQuantifierFree, IsPrenex, fewest_block
 use Rattle.formula_meaning.specs.Sizes.{nodes}
 use Rattle.formula_meaning.specs.Tree.{Tree, IsFree, TrueAt}
 use Rattle.atom_normal.specs.NormalForm.{negated_normal, IsNormal}
-use Rattle.prenex_theory.specs.Blocks.{block_count}
-use Rattle.prenex_theory.specs.NewNames.{AddsNewNames}
-use Rattle.prenex_theory.specs.Prenex.{prenex_of}
-use Rattle.prenex_theory.specs.Renaming.{new_count}
+use Rattle.prenex_forms.specs.FromPrenexTheory.{block_count, AddsNewNames, prenex_of, new_count}
 use Rattle.prenex_forms.specs.Forms.{OverflowsInRenaming}
 use Rattle.qe_syntax.specs.Names.{IsVariable}
 use Rattle.qe_syntax.specs.Trees.{FormulaTree, FormulaTrees}
@@ -22,8 +19,7 @@ use Rattle.formula_meaning.specs.Members.{HasTwoMembers}
 use Rattle.redlog_printer.specs.Text.{tree_text}
 use Rattle.clean_forms.specs.Clean.{IsCleanForm}
 use Rattle.clean_forms.specs.Plain.{plain_form}
-use Rattle.simplified_formulas.specs.Measure.{size, atom_measure}
-use Rattle.simplified_formulas.specs.Trees.{IsReduced}
+use Rattle.case_theory.specs.FromSimplifiedFormulas.{size, atom_measure, IsReduced}
 use Rattle.session_meaning.specs.State.{State}
 use Rattle.session_meaning.specs.Assumptions.{Hold, assumed}
 

@@ -15,3 +15,9 @@ pub mod Meaning
 pub mod FormulaGiven
 pub mod Causes
 pub mod Reply
+pub mod FromAnswerTexts
+pub mod FromCleanForms
+pub mod FromFormulaResolving
+pub mod FromFreeNames
+pub mod FromPlainCases
+pub mod FromPrenexForms

@@ -11,12 +11,9 @@ use Rattle.formula_meaning.specs.Numbers.{IsAtomInLimit}
 use Rattle.formula_meaning.specs.Measured.{Stop, Overflow, Nodes, done, stopped}
 use Rattle.formula_meaning.specs.Sizes.{nodes}
 use Rattle.formula_meaning.specs.Tree.{Tree, tree_distinct}
-use Rattle.prenex_theory.specs.Prenex.{prenex_of}
-use Rattle.elimination_reference.specs.Cases.{Case, reference_cases}
-use Rattle.elimination_reference.specs.Reference.{reference}
-use Rattle.elimination_reference.specs.Sample.{reference_at}
-use Rattle.sample_reference.specs.Sample.{reference_sample}
-use Rattle.sample_reference.specs.Values.{Value}
+use Rattle.prenex_forms.specs.FromPrenexTheory.{prenex_of}
+use Rattle.case_theory.specs.FromEliminationReference.{Case, reference_cases, reference, reference_at}
+use Rattle.fourier_motzkin.specs.FromSampleReference.{reference_sample, Value}
 use Rattle.qe_syntax.specs.declared.entries.PointEntry.{PointEntry}
 use Rattle.qe_syntax.specs.Point.{PassesLimit, IsPointOf}
 use Rattle.statement_syntax.specs.Statements.{CommandTree, Echo, Nnf, Pnf, Dnf, Cnf, Simpl, Qe, Qea, Holds, Sample, Grid, Certify, Check, Least}

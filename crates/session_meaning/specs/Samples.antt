@@ -3,8 +3,8 @@ use Rattle.std.specs.Prelude.{◌≡◌, ℕ, List, Option, Some, None, codes}
 use Rattle.exact_numbers.specs.Limit.{InLimit}
 use Rattle.formula_meaning.specs.Some.{EachOf}
 use Rattle.formula_meaning.specs.Tree.{TrueAt}
-use Rattle.elimination_reference.specs.Cases.{case_sign, case_matrix, case_names}
-use Rattle.sample_reference.specs.Values.{Value, value_names, with_values, IsValue}
+use Rattle.case_theory.specs.FromEliminationReference.{case_sign, case_matrix, case_names}
+use Rattle.fourier_motzkin.specs.FromSampleReference.{Value, value_names, with_values, IsValue}
 use Rattle.answer_texts.specs.Points.{point_text}
 use Rattle.qe_syntax.specs.declared.entries.PointEntry.{PointEntry}
 use Rattle.qe_syntax.specs.Point.{IsPointOf}

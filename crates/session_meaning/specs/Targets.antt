@@ -15,9 +15,8 @@ use Rattle.qe_syntax.specs.Value.{value}
 use Rattle.redlog_reader.specs.Grammar.{quantified_names}
 use Rattle.formula_tree.specs.Names.{with_name}
 use Rattle.formula_tree.specs.Resolving.{variables_of, all_variables, place, resolve}
-use Rattle.elimination_reference.specs.Reference.{reference}
-use Rattle.sample_reference.specs.Sample.{reference_sample}
-use Rattle.sample_reference.specs.Values.{Value, value_names, with_values, IsValue, origin}
+use Rattle.case_theory.specs.FromEliminationReference.{reference}
+use Rattle.fourier_motzkin.specs.FromSampleReference.{reference_sample, Value, value_names, with_values, IsValue, origin}
 use Rattle.least_theory.specs.Target.{IsInfeasible, IsUnbounded}
 use Rattle.least_theory.specs.LeastFraction.{IsLeastFraction}
 use Rattle.answer_texts.specs.Points.{fraction_text, point_text}

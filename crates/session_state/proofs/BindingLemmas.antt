@@ -12,8 +12,8 @@ use Rattle.formula_tree.specs.Bindings.{bound_to, bind, most_bound}
 use Rattle.formula_tree.specs.Makers.{Keeps}
 use Rattle.formula_tree.specs.Names.{with_name}
 use Rattle.formula_tree.proofs.PlaceLaws.{same_is, one_place, after_distinct}
-use Rattle.formula_resolving.specs.Refusals.{AreIds, trees_bound}
-use Rattle.session_meaning.specs.Causes.{HasNoRoom}
+use Rattle.standing_assumptions.specs.FromFormulaResolving.{AreIds, trees_bound}
+use Rattle.standing_assumptions.specs.FromSessionMeaning.{HasNoRoom}
 
 -- ---- lists, place by place
 

@@ -3,3 +3,5 @@ pub mod VariableLemmas
 pub mod SoundLemmas
 pub mod BindingLemmas
 pub mod StateLemmas
+pub mod FromAnswerTexts
+pub mod FromPrenexForms

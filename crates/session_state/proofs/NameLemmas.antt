@@ -10,7 +10,7 @@ use Rattle.formula_tree.specs.Names.{with_name}
 use Rattle.formula_tree.specs.Resolving.{place, formula_variables}
 use Rattle.formula_tree.specs.NamesAfter.{names_after}
 use Rattle.formula_tree.proofs.PlaceLaws.{same_itself, slice_place, after_has, in_either}
-use Rattle.formula_resolving.specs.Numbering.{Grows}
+use Rattle.standing_assumptions.specs.FromFormulaResolving.{Grows}
 
 or_true : (b c : Bool) → c ≡ true → (b || c) ≡ true
 or_true true c h = refl

@@ -37,7 +37,7 @@ use Rattle.formula_tree.proofs.ResolvedTruth.{IsPlain, all_plain, is_normal}
 use Rattle.formula_tree.proofs.ResolvedNames.{atom_named}
 use Rattle.formula_meaning.specs.Within.{IsAtomWithin, AreTermsWithin}
 use Rattle.formula_meaning.specs.Members.{HasTwoMembers, HaveTwoMembers, AreTwo}
-use Rattle.prenex_forms.proofs.Finished.{bound_normal_form}
+use Rattle.standing_assumptions.proofs.FromPrenexForms.{bound_normal_form}
 use Rattle.session_state.specs.Keeping.{IsSessionFormula}
 use Rattle.session_state.proofs.NameLemmas.{place_below, variables_in_names}
 

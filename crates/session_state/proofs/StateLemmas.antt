@@ -12,12 +12,11 @@ use Rattle.qe_syntax.specs.Value.{same_name}
 use Rattle.formula_tree.specs.declared.shape.Shape.{Shape}
 use Rattle.formula_tree.specs.Makers.{AreMade}
 use Rattle.formula_tree.specs.Resolving.{BoundTrees}
-use Rattle.formula_resolving.specs.Numbering.{Grows}
-use Rattle.formula_resolving.specs.Refusals.{AreIds, trees_bound}
+use Rattle.standing_assumptions.specs.FromFormulaResolving.{Grows, AreIds, trees_bound}
 use Rattle.formula_store.specs.declared.id.FormulaId.{FormulaId}
 use Rattle.formula_store.specs.Nodes.{tree, IsId}
 use Rattle.session_state.specs.declared.state.SessionState.{SessionState}
-use Rattle.session_meaning.specs.State.{State, with_names}
+use Rattle.standing_assumptions.specs.FromSessionMeaning.{State, with_names}
 use Rattle.standing_assumptions.specs.declared.assumption.Assumption.{Assumption}
 use Rattle.standing_assumptions.specs.Trees.{standing_trees}
 use Rattle.session_state.specs.Keeping.{state_of, ids_bound, IsSessionFormula, IsSound, IsSessionState}

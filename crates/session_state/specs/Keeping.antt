@@ -12,13 +12,13 @@ use Rattle.atom_normal.specs.NormalForm.{IsNormal}
 use Rattle.qe_syntax.specs.Names.{IsVariable}
 use Rattle.qe_syntax.specs.Value.{same_name}
 use Rattle.formula_tree.specs.Bindings.{bound_to}
-use Rattle.formula_resolving.specs.Refusals.{AreIds, trees_bound}
+use Rattle.standing_assumptions.specs.FromFormulaResolving.{AreIds, trees_bound}
 use Rattle.formula_store.specs.declared.id.FormulaId.{FormulaId}
 use Rattle.formula_store.specs.Nodes.{tree, IsId}
 use Rattle.formula_meaning.specs.Within.{IsTreeWithin}
 use Rattle.formula_meaning.specs.Members.{HasTwoMembers}
 use Rattle.session_state.specs.declared.state.SessionState.{SessionState}
-use Rattle.session_meaning.specs.State.{State}
+use Rattle.standing_assumptions.specs.FromSessionMeaning.{State}
 use Rattle.standing_assumptions.specs.Trees.{standing_trees}
 
 -- the ids of what is bound, in order

@@ -1,2 +1,7 @@
 pub mod Keeping
 pub mod Growth
+pub mod FromAnswerTexts
+pub mod FromFormulaResolving
+pub mod FromPrenexForms
+pub mod FromSessionMeaning
+pub mod FromStandingAssumptions

@@ -3,4 +3,7 @@
 
 mod state;
 
+pub use standing_assumptions::{
+    Assumption, Line, Standing, StatementError, StaticError, pnf, point_text, put_fraction,
+};
 pub use state::SessionState;

@@ -4,7 +4,7 @@ ghost use Rattle.std.specs.Prelude.{◌≡◌, OnOk, IfOk, length};
 ghost use Rattle.std.specs.Map.{keys_of};
 ghost use Rattle.atom_normal.specs.Atoms.{context_of};
 ghost use Rattle.session_state.specs.Keeping.{state_of, IsSessionState, ids_bound};
-ghost use Rattle.session_meaning.specs.State.{first_state, chosen};
+ghost use Rattle.standing_assumptions.specs.FromSessionMeaning.{first_state, chosen};
 
 use atom_normal::Context;
 use formula_store::{FormulaId, Store};

@@ -7,9 +7,7 @@ use Rattle.formula_meaning.specs.Tree.{Tree}
 use Rattle.formula_meaning.proofs.NormalAgain.{normal_form_again}
 use Rattle.atom_normal.specs.NormalForm.{negated_normal}
 use Rattle.formula_meaning.specs.Measured.{Outcome, done, then_of, pay, within}
-use Rattle.elimination_reference.specs.PutIn.{tree_put, tree_put_within}
-use Rattle.elimination_reference.specs.Sample.{reference_at}
-use Rattle.elimination_reference.specs.Reference.{branches, together, normal_tree, reference}
+use Rattle.plain_truths.specs.FromEliminationReference.{tree_put, tree_put_within, reference_at, branches, together, normal_tree, reference}
 
 pub normal_tree_again : (f : Tree) → normal_tree (normal_tree f) ≡ normal_tree f
 normal_tree_again f = normal_form_again negated_normal f

@@ -6,20 +6,19 @@ ghost use Rattle.formula_meaning.specs.Sizes.{nodes};
 ghost use Rattle.atom_normal.specs.Atoms.{context_of};
 ghost use Rattle.atom_normal.specs.NormalForm.{IsNormal};
 ghost use Rattle.formula_meaning.specs.Measured.{done, pay};
-ghost use Rattle.elimination_reference.specs.Reference.{normal_tree, reference};
-ghost use Rattle.elimination_reference.specs.Theorems.{IsAnswerTo};
+ghost use Rattle.plain_truths.specs.FromEliminationReference.{normal_tree, reference, IsAnswerTo};
 ghost use Rattle.formula_tree.specs.Makers.{Keeps};
 ghost use Rattle.formula_tree.specs.Trees.{tree_of};
 ghost use Rattle.formula_store.specs.Nodes.{IsId, tree};
 ghost use Rattle.nnf_trees.specs.Nnfs.{HasModulus};
-ghost use Rattle.plain_engine.specs.Told.{StopsWith};
+ghost use Rattle.plain_truths.specs.FromPlainEngine.{StopsWith};
 
 use crate::sharing::share;
 use crate::unfolding::unfolded;
 use atom_normal::Context;
 use formula_store::{FormulaId, Store, Unfold};
 use formula_tree::Tree;
-use plain_engine::{Measured, eliminate_form};
+use plain_truths::{Measured, eliminate_form};
 use std::alloc::Global;
 
 /// A formula without quantifiers that is equivalent to the shared one, by the reference elimination of its tree: it has no other

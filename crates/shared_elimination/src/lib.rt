@@ -7,6 +7,7 @@ mod truth;
 mod unfolding;
 
 pub use eliminate::{eliminate_shared, unfolded_form};
+pub use nnf_pnf::nnf;
 pub use sharing::share;
 pub use truth::truth_by_elimination;
 pub use unfolding::unfolded;

@@ -8,17 +8,16 @@ ghost use Rattle.linear_forms.specs.Values.{point_of};
 ghost use Rattle.atom_normal.specs.Atoms.{context_of};
 ghost use Rattle.atom_normal.specs.NormalForm.{IsNormal, constant_tree};
 ghost use Rattle.formula_meaning.specs.Measured.{done};
-ghost use Rattle.elimination_reference.specs.Sample.{reference_at};
+ghost use Rattle.plain_truths.specs.FromEliminationReference.{reference_at};
 ghost use Rattle.formula_tree.specs.Makers.{Keeps};
 ghost use Rattle.formula_store.specs.Nodes.{IsId, tree};
-ghost use Rattle.plain_engine.specs.Told.{StopsWith};
+ghost use Rattle.plain_truths.specs.FromPlainEngine.{StopsWith};
 
 use crate::eliminate::unfolded_form;
 use atom_normal::Context;
 use formula_store::{FormulaId, Store};
 use linear_forms::Values;
-use plain_engine::Measured;
-use plain_truths::truth_plain;
+use plain_truths::{Measured, truth_plain};
 use std::alloc::Global;
 
 /// Whether the shared formula is true at the point, by the reference elimination of its tree with the point put in. `Nodes` comes

@@ -3,7 +3,7 @@
 ghost use Rattle.std.specs.Prelude.{◌≡◌, ◌≤◌, ◌<◌, IfOk, OnOk, IsErrOf};
 ghost use Rattle.formula_meaning.specs.Every.{Every};
 ghost use Rattle.formula_meaning.specs.Sizes.{nodes};
-ghost use Rattle.elimination_reference.specs.Reference.{normal_tree};
+ghost use Rattle.plain_truths.specs.FromEliminationReference.{normal_tree};
 ghost use Rattle.formula_tree.specs.Makers.{Keeps};
 ghost use Rattle.formula_tree.specs.Trees.{tree_of};
 ghost use Rattle.formula_store.specs.Nodes.{IsId, tree};

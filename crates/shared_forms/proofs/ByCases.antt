@@ -20,20 +20,18 @@ use Rattle.elimination_reference.specs.Over.{AreAnswersOver}
 use Rattle.elimination_reference.specs.Reference.{normal_tree, reference}
 use Rattle.elimination_reference.specs.Theorems.{IsTidy}
 use Rattle.test_points.specs.Points.{IsTestPoint}
-use Rattle.plain_engine.specs.declared.measured.Measured.{Measured}
-use Rattle.plain_engine.specs.declared.measured.Measured.TheVariants as measured
-use Rattle.plain_engine.specs.Told.{StopsWith}
+use Rattle.engine_answers.specs.FromPlainEngine.{Measured, StopsWith}
+use Rattle.engine_answers.specs.FromPlainEngine.measured_variants as measured
 use Rattle.formula_tree.specs.declared.shape.Shape.{Shape}
 use Rattle.formula_store.specs.declared.id.FormulaId.{FormulaId}
 use Rattle.formula_store.specs.Nodes.{tree}
 use Rattle.case_theory.specs.CaseTree.{without_all, IsCaseUnder}
 use Rattle.case_theory.specs.Direct.{IsDirect}
 use Rattle.case_theory.proofs.Fallback.{stops_one}
-use Rattle.case_trees.specs.declared.case_tree.Case as code
-use Rattle.case_trees.specs.declared.case_tree.CaseTree.{CaseTree}
-use Rattle.case_trees.specs.CaseTrees.{cases_seen, guards_together, IsCaseTreeOf}
-use Rattle.block_scheduler.specs.Direct.{IsDirectTree}
-use Rattle.block_scheduler.proofs.Stops.{stopped_so}
+use Rattle.engine_answers.specs.FromCaseTrees.case_rules as code
+use Rattle.engine_answers.specs.FromCaseTrees.{CaseTree, cases_seen, guards_together, IsCaseTreeOf}
+use Rattle.engine_answers.specs.FromBlockScheduler.{IsDirectTree}
+use Rattle.engine_answers.proofs.FromBlockScheduler.{stopped_so}
 use Rattle.shared_forms.specs.declared.error.FormsError.{FormsError}
 use Rattle.shared_forms.specs.declared.error.FormsError.TheVariants as error
 use Rattle.shared_forms.specs.Cases.{AreLeftOf, AreCasesFor}

@@ -33,26 +33,23 @@ use Rattle.test_points.specs.declared.points.Place.{Place}
 use Rattle.test_points.specs.declared.points.Place.TheVariants as place
 use Rattle.test_points.specs.declared.points.TestPoint.{TestPoint}
 use Rattle.test_points.specs.Points.{place_at, answer_of, IsTestPoint}
-use Rattle.plain_engine.specs.declared.measured.Measured.{Measured}
-use Rattle.plain_engine.specs.declared.measured.Measured.TheVariants as measured
-use Rattle.plain_engine.specs.Told.{StopsWith}
-use Rattle.plain_cases.specs.declared.cases.PrintedCase.{PrintedCase}
-use Rattle.plain_cases.specs.Case.{case_seen, HavePoints}
-use Rattle.shared_elimination.proofs.FormAgain.{normal_tree_again}
+use Rattle.engine_answers.specs.FromPlainEngine.{Measured, StopsWith}
+use Rattle.engine_answers.specs.FromPlainEngine.measured_variants as measured
+use Rattle.engine_answers.specs.FromPlainCases.{PrintedCase, case_seen, HavePoints}
+use Rattle.engine_answers.proofs.FromSharedElimination.{normal_tree_again}
 use Rattle.simplified_formulas.specs.Orderly.{IsOrderly}
 use Rattle.redlog_printer.specs.Text.{tree_text}
 use Rattle.formula_meaning.specs.Within.{IsAtomWithin}
-use Rattle.answer_texts.specs.Answers.{separated, answer_texts, case_text, cases_text}
-use Rattle.answer_texts.specs.Within.{IsPlaceWithin, AreAnswersWithin, AreCasesWithin}
+use Rattle.session_state.specs.FromAnswerTexts.{separated, answer_texts, case_text, cases_text, IsPlaceWithin, AreAnswersWithin, AreCasesWithin}
 use Rattle.case_theory.specs.CaseTree.{SaysUnder}
 use Rattle.case_theory.specs.PutThrough.{AreTrue}
 use Rattle.shared_forms.specs.declared.error.FormsError.{FormsError}
 use Rattle.shared_forms.specs.declared.error.FormsError.TheVariants as error
-use Rattle.session_meaning.specs.Cases.{Turned}
+use Rattle.session_state.specs.FromSessionMeaning.{Turned}
 use Rattle.shared_forms.specs.Faults.{measured_error, CasesFault}
 use Rattle.shared_forms.specs.Cases.{IsCaseLeft, IsLeftOf, put_before, AreLeftOf}
 use Rattle.session_state.specs.Keeping.{IsSessionFormula}
-use Rattle.prenex_forms.proofs.Finished.{bound_normal_form}
+use Rattle.session_state.proofs.FromPrenexForms.{bound_normal_form}
 use Rattle.session_state.proofs.SoundLemmas.{terms_within}
 use Rattle.shared_forms.proofs.EliminatedLemmas.{plain_free, free_below, answer_orderly, orderly_members, within_of_names, unquantified_bound, simplified_formula}
 

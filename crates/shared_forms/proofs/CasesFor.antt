@@ -43,7 +43,7 @@ use Rattle.test_points.specs.declared.points.Place.TheVariants as place
 use Rattle.test_points.specs.declared.points.TestPoint.{TestPoint}
 use Rattle.test_points.specs.Points.{place_at, answer_of, IsTestPoint}
 use Rattle.test_points.proofs.Forms.{coefficient_within}
-use Rattle.answer_texts.specs.Within.{IsPlaceWithin, AreAnswersWithin, AreCasesWithin}
+use Rattle.session_state.specs.FromAnswerTexts.{IsPlaceWithin, AreAnswersWithin, AreCasesWithin}
 use Rattle.session_state.proofs.SoundLemmas.{terms_within}
 use Rattle.case_theory.specs.CaseTree.{without_all, IsCaseUnder, SaysUnder, IsCaseTree}
 use Rattle.case_theory.specs.PutThrough.{AreTrue}

@@ -23,7 +23,7 @@ use Rattle.elimination_reference.specs.AnswerParts.{guards_of}
 use Rattle.elimination_reference.proofs.Turning.{normal_inside, normal_truths, turned_brings}
 use Rattle.case_theory.specs.CaseTree.{without_all, IsCaseUnder, SaysUnder, IsCaseTree}
 use Rattle.case_theory.proofs.Under.{under_then}
-use Rattle.case_trees.specs.CaseTrees.{guards_together}
+use Rattle.engine_answers.specs.FromCaseTrees.{guards_together}
 use Rattle.session_state.specs.Keeping.{IsSessionFormula}
 use Rattle.shared_forms.specs.Conditions.{IsConditionFor, said_of}
 use Rattle.shared_forms.specs.Faults.{EliminationFault, FormFault}

@@ -30,9 +30,9 @@ use Rattle.formula_store.specs.Nodes.{tree}
 use Rattle.case_theory.specs.Direct.{IsDirect, direct_answer}
 use Rattle.case_theory.proofs.Direct.{direct_exact}
 use Rattle.case_theory.proofs.Points.{root_point}
-use Rattle.case_trees.specs.declared.case_tree.Case as code
-use Rattle.case_trees.specs.CaseTrees.{cases_seen, guards_together}
-use Rattle.simplified_texts.specs.Texts.{IsNoLarger}
+use Rattle.engine_answers.specs.FromCaseTrees.case_rules as code
+use Rattle.engine_answers.specs.FromCaseTrees.{cases_seen, guards_together}
+use Rattle.normal_forms.specs.FromSimplifiedTexts.{IsNoLarger}
 use Rattle.shared_forms.specs.Conditions.{IsNoLargerOrFalse}
 use Rattle.shared_forms.specs.Forms.{IsSimplifiedAs}
 use Rattle.shared_forms.proofs.EliminatedLemmas.{plain_free, free_below, within_of_names, unquantified_bound}

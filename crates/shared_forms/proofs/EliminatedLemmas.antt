@@ -22,11 +22,9 @@ use Rattle.simplified_formulas.specs.Simplifiable.{simplified_under}
 use Rattle.simplified_formulas.proofs.Bound.{simplified_bound, free_bound, orderly_free}
 use Rattle.formula_meaning.specs.Within.{IsAtomWithin}
 use Rattle.formula_meaning.specs.Members.{HasTwoMembers, HaveTwoMembers}
-use Rattle.clean_forms.specs.Clean.{IsCleanForm}
-use Rattle.clean_forms.specs.Laws.{IsNoLonger}
-use Rattle.clean_forms.specs.Plain.{plain_form}
-use Rattle.clean_forms.proofs.FormShapes.{form_free}
-use Rattle.theory_simplifier.proofs.Assuming.{orderly_normal}
+use Rattle.normal_forms.specs.FromCleanForms.{IsCleanForm, IsNoLonger, plain_form}
+use Rattle.normal_forms.proofs.FromCleanForms.{form_free}
+use Rattle.engine_answers.proofs.FromTheorySimplifier.{orderly_normal}
 use Rattle.simplified_formulas.specs.Simplifiable.{IsSimplifiable}
 use Rattle.formula_meaning.specs.Sizes.{nodes}
 use Rattle.formula_store.specs.declared.id.FormulaId.{FormulaId}

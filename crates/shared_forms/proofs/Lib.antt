@@ -7,3 +7,7 @@ pub mod CasesFor
 pub mod ConditionsFor
 pub mod DirectConditions
 pub mod ByCases
+pub mod FromAnswerTexts
+pub mod FromEngineAnswers
+pub mod FromSessionState
+pub mod FromSessionStateToo

@@ -6,9 +6,9 @@ use Rattle.formula_meaning.specs.Some.{Among}
 use Rattle.qe_syntax.specs.Value.{same_name}
 use Rattle.formula_tree.specs.Names.{with_name}
 use Rattle.formula_tree.proofs.PlaceLaws.{after_distinct}
-use Rattle.formula_resolving.specs.Numbering.{Grows}
+use Rattle.session_state.specs.FromFormulaResolving.{Grows}
 use Rattle.prenex_theory.specs.NewNames.{new_text, IsFirstNew, AddsNewNames}
-use Rattle.prenex_forms.proofs.FoundNames.{any_among}
+use Rattle.session_state.proofs.FromPrenexForms.{any_among}
 use Rattle.session_state.proofs.NameLemmas.{grows_itself, grows_then}
 
 -- there is one first new text

@@ -17,8 +17,8 @@ use Rattle.prenex_theory.specs.Blocks.{other_kind, blocks, matrix, matrices}
 use Rattle.prenex_theory.specs.Front.{block, prefixed, first_kind, in_front}
 use Rattle.prenex_theory.specs.Prenex.{prenex_of}
 use Rattle.prenex_theory.specs.Renaming.{Chosen, after, renamed, all_renamed, with_now, chosen, chosen_name, with_chosen_names, nothing_chosen, new_count}
-use Rattle.prenex_forms.proofs.Finished.{finished, length_more}
-use Rattle.session_meaning.specs.FormulaAnswers.{HasNewNames}
+use Rattle.session_state.proofs.FromPrenexForms.{finished, length_more}
+use Rattle.session_state.specs.FromSessionMeaning.{HasNewNames}
 use Rattle.session_state.specs.Keeping.{IsSessionFormula}
 use Rattle.session_state.proofs.SoundLemmas.{members_replaced, members_of_negation}
 

@@ -23,16 +23,13 @@ use Rattle.atom_normal.specs.NormalForm.{negated_normal}
 use Rattle.elimination_reference.specs.Cases.{case_sign, case_names}
 use Rattle.elimination_reference.specs.Reference.{normal_tree, turned}
 use Rattle.linear_forms.specs.declared.form.VarId.{VarId}
-use Rattle.sample_reference.specs.TrueSample.{IsTrueSample}
-use Rattle.sample_reference.specs.Seen.{values_of, value_of, sample_of}
-use Rattle.sample_reference.specs.Values.{value_names}
-use Rattle.answer_texts.specs.Answers.{separated}
-use Rattle.answer_texts.specs.Points.{fraction_text, value_text, point_text}
+use Rattle.engine_answers.specs.FromSampleReference.{IsTrueSample, values_of, value_of, sample_of, value_names}
+use Rattle.session_state.specs.FromAnswerTexts.{separated, fraction_text, value_text, point_text}
 use Rattle.qe_syntax.specs.Names.{IsVariable}
 use Rattle.formula_tree.specs.Causes.{most_height}
 use Rattle.redlog_printer.specs.Text.{name_at, first_sign}
 use Rattle.redlog_printer.specs.Writing.{text_limit}
-use Rattle.session_meaning.specs.Samples.{sample_text}
+use Rattle.session_state.specs.FromSessionMeaning.{sample_text}
 use Rattle.shared_forms.proofs.CaseLemmas.{length_3}
 
 -- ---- the block

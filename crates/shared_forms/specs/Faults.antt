@@ -10,10 +10,10 @@ use Rattle.atom_normal.specs.NormalForm.{negated_normal}
 use Rattle.elimination_reference.specs.Reference.{normal_tree, reference}
 use Rattle.elimination_reference.specs.Cases.{reference_cases}
 use Rattle.case_theory.specs.Direct.{IsDirect}
-use Rattle.prenex_forms.specs.Forms.{OverflowsInRenaming}
-use Rattle.clean_forms.specs.Plain.{literals}
-use Rattle.plain_engine.specs.declared.measured.Measured.{Measured}
-use Rattle.plain_engine.specs.declared.measured.Measured.TheVariants as measured
+use Rattle.session_state.specs.FromPrenexForms.{OverflowsInRenaming}
+use Rattle.normal_forms.specs.FromCleanForms.{literals}
+use Rattle.engine_answers.specs.FromPlainEngine.{Measured}
+use Rattle.engine_answers.specs.FromPlainEngine.measured_variants as measured
 use Rattle.shared_forms.specs.declared.error.FormsError.{FormsError}
 use Rattle.shared_forms.specs.declared.error.FormsError.TheVariants as error
 use Rattle.shared_forms.specs.declared.forms.Form.{Form}

@@ -24,15 +24,13 @@ use Rattle.simplified_formulas.specs.Simplifiable.{EquivalentUnder, simplified_u
 use Rattle.elimination_reference.specs.Reference.{reference}
 use Rattle.elimination_reference.specs.Theorems.{IsAnswerTo}
 use Rattle.prenex_theory.specs.Prenex.{prenex_of}
-use Rattle.prenex_forms.specs.Forms.{OverflowsInRenaming}
-use Rattle.clean_forms.specs.Clean.{IsCleanForm}
-use Rattle.clean_forms.specs.Laws.{IsNoLonger}
-use Rattle.clean_forms.specs.Plain.{plain_form}
+use Rattle.session_state.specs.FromPrenexForms.{OverflowsInRenaming}
+use Rattle.normal_forms.specs.FromCleanForms.{IsCleanForm, IsNoLonger, plain_form}
 use Rattle.formula_tree.specs.declared.shape.Shape.{Shape}
 use Rattle.formula_store.specs.declared.id.FormulaId.{FormulaId}
 use Rattle.formula_store.specs.Nodes.{tree, IsId}
 use Rattle.redlog_printer.specs.Text.{tree_text}
-use Rattle.session_meaning.specs.FormulaAnswers.{HasNewNames}
+use Rattle.session_state.specs.FromSessionMeaning.{HasNewNames}
 use Rattle.shared_forms.specs.declared.forms.Premised.{Premised}
 use Rattle.shared_forms.specs.declared.forms.Form.{Form}
 use Rattle.shared_forms.specs.declared.forms.Form.TheVariants as form

@@ -2,3 +2,10 @@ pub mod Conditions
 pub mod Forms
 pub mod Faults
 pub mod Cases
+pub mod FromAnswerTexts
+pub mod FromBlockScheduler
+pub mod FromFormulaResolving
+pub mod FromPlainEngine
+pub mod FromSessionMeaning
+pub mod FromSessionState
+pub mod FromStandingAssumptions

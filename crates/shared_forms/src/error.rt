@@ -1,7 +1,7 @@
 ghost use Rattle.std.specs.Prelude.{◌≡◌};
 ghost use Rattle.shared_forms.specs.Faults.{measured_error as error_of_measured};
 
-use plain_engine::Measured;
+use engine_answers::Measured;
 use thiserror::Error;
 
 /// Why a form is not made.

@@ -13,9 +13,9 @@ ghost use Rattle.atom_normal.specs.Atoms.{context_of, atom_of, IsWellFormed};
 ghost use Rattle.atom_normal.specs.NormalForm.{IsNormal, negated_normal};
 ghost use Rattle.simplified_formulas.specs.Orderly.{IsOrderly};
 ghost use Rattle.formula_tree.specs.Makers.{Keeps};
-ghost use Rattle.formula_resolving.specs.Numbering.{Grows};
+ghost use Rattle.session_state.specs.FromFormulaResolving.{Grows};
 ghost use Rattle.formula_store.specs.Nodes.{tree, IsId};
-ghost use Rattle.session_meaning.specs.FormulaAnswers.{HasNewNames};
+ghost use Rattle.session_state.specs.FromSessionMeaning.{HasNewNames};
 ghost use Rattle.shared_forms.specs.Forms.{junction_of, IsPremised, IsDistributed, IsEliminatedAs, IsSimplifiedAs, IsCleanedAs, IsSimplifiedAnswer, IsPrenexAs, IsFormed};
 ghost use Rattle.shared_forms.specs.Faults.{NegationFault, PrenexFault, ClauseFault, SimplificationFault, EliminationFault, FormFault};
 
@@ -23,17 +23,14 @@ use crate::conditions::condition_by_cases;
 use crate::error::{FormsError, measured_error};
 use crate::way::Way;
 use atom_normal::{Atom, Context};
-use engine_answers::Engine;
+use engine_answers::{Engine, SimplError, eliminate_shared, nnf, simplify};
 use formula_store::{FormulaId, Store};
 use formula_tree::{FormError, Names};
-use nnf_pnf::nnf;
 use normal_forms::{cnf, dnf};
-use prenex_forms::pnf;
 use qe_parallel::Gate;
-use shared_elimination::eliminate_shared;
+use session_state::pnf;
 use std::alloc::Global;
 use std::thread::Threads;
-use theory_simplifier::{SimplError, simplify};
 
 /// Which clean form is wanted.
 #[derive(Clone, Copy, Debug, PartialEq, Eq)]

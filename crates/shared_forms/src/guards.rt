@@ -11,10 +11,9 @@ ghost use Rattle.atom_normal.specs.Atoms.{context_of, atom_of, IsWellFormed};
 ghost use Rattle.atom_normal.specs.NormalForm.{IsNormal};
 ghost use Rattle.elimination_reference.specs.Cases.{Case as ReferenceCase};
 ghost use Rattle.test_points.specs.Points.{answer_of, IsTestPoint};
-ghost use Rattle.case_trees.specs.CaseTrees.{cases_seen};
-ghost use Rattle.nnf_trees.specs.Nnfs.{nnf_of};
-ghost use Rattle.plain_cases.specs.Case.{case_seen, leaf_case, HavePoints};
-ghost use Rattle.plain_cases.specs.Stand.{IsSound, AreSound};
+ghost use Rattle.engine_answers.specs.FromCaseTrees.{cases_seen};
+ghost use Rattle.engine_answers.specs.FromNnfTrees.{nnf_of};
+ghost use Rattle.engine_answers.specs.FromPlainCases.{case_seen, leaf_case, HavePoints, IsSound, AreSound};
 ghost use Rattle.simplified_formulas.specs.Orderly.{IsOrderly};
 ghost use Rattle.formula_tree.specs.Trees.{tree_of};
 ghost use Rattle.formula_tree.specs.Makers.{Keeps};
@@ -24,11 +23,9 @@ ghost use Rattle.shared_forms.specs.Cases.{IsLeftOf, AreLeftOf, put_before};
 
 use crate::forms::simplified;
 use atom_normal::{Atom, Context};
-use case_trees::Case;
+use engine_answers::{Case, Leaf, PrintedCase, share};
 use formula_store::{FormulaId, Store};
 use formula_tree::{Shape, Tree};
-use plain_cases::{Leaf, PrintedCase};
-use shared_elimination::share;
 use std::alloc::{AllocError, Global};
 use test_points::TestPoint;
 

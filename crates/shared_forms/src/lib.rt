@@ -10,9 +10,11 @@ mod guards;
 mod references;
 mod way;
 
-pub use block_scheduler::Limits;
 pub use cases::wanted_cases;
-pub use engine_answers::Engine;
+pub use engine_answers::{Engine, Limits, Measured};
 pub use error::FormsError;
 pub use forms::{ClauseForm, Form, Premised, formed};
+pub use session_state::{
+    Assumption, Line, SessionState, Standing, StatementError, StaticError, point_text, put_fraction,
+};
 pub use way::Way;

@@ -8,9 +8,8 @@ ghost use Rattle.formula_meaning.specs.Some.{EachOf};
 ghost use Rattle.atom_normal.specs.Atoms.{context_of, atom_of, IsWellFormed};
 ghost use Rattle.atom_normal.specs.NormalForm.{IsNormal};
 ghost use Rattle.elimination_reference.specs.Cases.{reference_cases};
-ghost use Rattle.nnf_trees.specs.Nnfs.{HasModulus};
-ghost use Rattle.plain_cases.specs.Case.{case_seen, leaf_case, HavePoints};
-ghost use Rattle.plain_cases.specs.Stand.{AreSound};
+ghost use Rattle.engine_answers.specs.FromNnfTrees.{HasModulus};
+ghost use Rattle.engine_answers.specs.FromPlainCases.{case_seen, leaf_case, HavePoints, AreSound};
 ghost use Rattle.formula_tree.specs.Trees.{tree_of};
 ghost use Rattle.formula_tree.specs.Makers.{Keeps};
 ghost use Rattle.formula_store.specs.Nodes.{tree, IsId};
@@ -20,10 +19,9 @@ ghost use Rattle.shared_forms.specs.Cases.{AreWantedCases};
 use crate::error::{FormsError, measured_error};
 use crate::guards::left_cases;
 use atom_normal::{Atom, Context};
+use engine_answers::{Leaf, PrintedCase, case_leaves, unfolded_form};
 use formula_store::{FormulaId, Store};
 use formula_tree::Tree;
-use plain_cases::{Leaf, PrintedCase, case_leaves};
-use shared_elimination::unfolded_form;
 use std::alloc::Global;
 
 /// The cases of the reference elimination, with their guards simplified under the atoms, and without those whose guard becomes false.

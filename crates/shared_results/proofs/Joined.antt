@@ -9,8 +9,8 @@ use Rattle.formula_meaning.specs.Tree.{Tree}
 use Rattle.elimination_theory.specs.BothTheories.{IsPlaceIn}
 use Rattle.elimination_theory.specs.Steps.{result_at}
 use Rattle.atom_normal.specs.NormalForm.{normal_atom}
-use Rattle.nnf_substitution.specs.Placed.{put}
-use Rattle.nnf_substitution.proofs.ResultLaws.{guard_folded}
+use Rattle.virtual_subst.specs.FromNnfSubstitution.{put}
+use Rattle.virtual_subst.proofs.FromNnfSubstitution.{guard_folded}
 use Rattle.shared_results.specs.Guarded.{guarded}
 
 pub guarded_result : (c : Context) (x : ℕ) (s : Place) (f : Tree) → IsPlaceIn c s → guarded c s (put c x s f) ≡ result_at c (normal_atom c) x s f

@@ -2,7 +2,7 @@
 use Rattle.formula_meaning.specs.Context.{Context, Fields, Integers}
 use Rattle.formula_meaning.specs.Answer.{Place}
 use Rattle.formula_meaning.specs.Tree.{Tree}
-use Rattle.nnf_substitution.specs.Placed.{with_guard}
+use Rattle.virtual_subst.specs.FromNnfSubstitution.{with_guard}
 
 -- the formula, over the integers joined with the guard of the place
 abbrev pub guarded : Context → Place → Tree → Tree

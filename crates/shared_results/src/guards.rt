@@ -3,18 +3,16 @@
 ghost use Rattle.std.specs.Prelude.{IfOk};
 ghost use Rattle.elimination_theory.specs.BothTheories.{IsPlaceIn};
 ghost use Rattle.atom_normal.specs.Atoms.{context_of};
-ghost use Rattle.formula_tree.specs.Makers.{IsMade, Keeps};
+ghost use Rattle.formula_store.specs.FromFormulaTree.{IsMade, Keeps};
 ghost use Rattle.formula_store.specs.Nodes.{tree, IsId};
-ghost use Rattle.test_points.specs.Points.{place_of, IsTestPoint};
+ghost use Rattle.virtual_subst.specs.FromTestPoints.{place_of, IsTestPoint};
 ghost use Rattle.shared_results.specs.Guarded.{guarded};
 
 use atom_normal::Context;
-use cooper_periods::guard;
 use formula_meaning::Junction;
 use formula_store::{FormulaId, Store};
 use std::alloc::{AllocError, Global};
-use test_points::TestPoint;
-use virtual_subst::{fold, normal_made};
+use virtual_subst::{TestPoint, fold, guard, normal_made};
 
 /// Over the integers the formula joined with the guard of the point (Cooper 1972), over the fields itself. The formulas of the
 /// store stay.

@@ -6,3 +6,4 @@ mod results;
 
 pub use guards::with_guard;
 pub use results::result_shared;
+pub use virtual_subst::SubstError;

@@ -6,18 +6,17 @@ ghost use Rattle.formula_meaning.specs.Equivalence.{InContext};
 ghost use Rattle.elimination_theory.specs.Steps.{result_at};
 ghost use Rattle.atom_normal.specs.Atoms.{context_of};
 ghost use Rattle.atom_normal.specs.NormalForm.{normal_atom};
-ghost use Rattle.formula_tree.specs.Makers.{IsMade, Keeps};
+ghost use Rattle.formula_store.specs.FromFormulaTree.{IsMade, Keeps};
 ghost use Rattle.formula_store.specs.Nodes.{tree, IsId};
-ghost use Rattle.nnf_substitution.specs.Placed.{put, all_within};
-ghost use Rattle.test_points.specs.Points.{place_of};
+ghost use Rattle.virtual_subst.specs.FromNnfSubstitution.{put, all_within};
+ghost use Rattle.virtual_subst.specs.FromTestPoints.{place_of};
 ghost use Rattle.virtual_subst.specs.Shared.{IsAtPlace};
 
 use crate::guards::with_guard;
 use atom_normal::Context;
 use formula_store::{FormulaId, Store};
 use std::alloc::Global;
-use test_points::TestPoint;
-use virtual_subst::{SubstError, substitute_shared};
+use virtual_subst::{SubstError, TestPoint, substitute_shared};
 
 /// The formula with the point's name put at the point (Loos and Weispfenning 1993, Cooper 1972): each atom in normal form, over
 /// the integers joined with the point's guard, and folded. `Overflow` comes only where a number that is formed for an atom

@@ -5,9 +5,8 @@ use Rattle.std.specs.Prelude.{◌<ℤ◌, ◌≤ℤ◌, if◌then◌else◌}
 use Rattle.std.specs.Ordering.{int_eq}
 use Rattle.std.proofs.lemmas.Int.{ints}
 use Rattle.std.proofs.lemmas.Bool.Decides.{Decides-int_eq}
-use Rattle.exact_numbers.specs.Limit.{InLimit}
-use Rattle.exact_numbers.specs.Divides.{residue_of}
-use Rattle.exact_numbers.proofs.Floor.{residue_is}
+use Rattle.formula_meaning.specs.FromExactNumbers.{InLimit, residue_of}
+use Rattle.formula_meaning.proofs.FromExactNumbers.{residue_is}
 use Rattle.formula_meaning.specs.Context.{Context}
 use Rattle.formula_meaning.specs.Point.{Point, Of, move}
 use Rattle.formula_meaning.specs.Form.{coefficient}
@@ -18,8 +17,8 @@ use Rattle.formula_meaning.specs.declared.junction.Junction.TheVariants.{Conjunc
 use Rattle.formula_meaning.proofs.Same.{atom_same}
 use Rattle.formula_meaning.proofs.Equivalence.{absent_moved}
 use Rattle.formula_meaning.proofs.TreeReplacing.{moved_of}
-use Rattle.atom_normal.specs.NormalForm.{IsNormal, negated_normal}
-use Rattle.atom_normal.proofs.NormalLaws.{normal_in, atom_decided, negated_truth, negated_normal_is}
+use Rattle.atom_merging.specs.FromAtomNormal.{IsNormal, negated_normal}
+use Rattle.atom_merging.proofs.FromAtomNormal.{normal_in, atom_decided, negated_truth, negated_normal_is}
 use Rattle.atom_merging.specs.Merging.{Joined, IsSettled, SamePart, MergesInto, IsKept}
 use Rattle.atom_merging.specs.Merged.{IsDecision}
 use Rattle.atom_merging.specs.Computed.{Merging, Settled, Into, Kept, merged, decided_by, IsRight, IsNormalWithin}

@@ -1,3 +1,4 @@
+mod Examples
 pub mod FreeTests
 pub mod Keeps
 pub mod Joining
@@ -11,4 +12,4 @@ pub mod AtomLaws
 pub mod Wider
 pub mod TreeLaws
 pub mod Limited
-mod Examples
+pub mod FromAtomMerging

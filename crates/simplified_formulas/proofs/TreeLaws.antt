@@ -4,7 +4,7 @@ use Rattle.formula_meaning.specs.Point.{Of, move}
 use Rattle.std.proofs.Common.{nat_eq}
 use Rattle.formula_meaning.specs.Atom.{Says, Mentions}
 use Rattle.formula_meaning.proofs.Same.{atom_alike}
-use Rattle.atom_normal.specs.NormalForm.{negated_normal}
+use Rattle.atom_merging.specs.FromAtomNormal.{negated_normal}
 use Rattle.atom_merging.specs.Merging.{IsKept}
 use Rattle.atom_merging.specs.Computed.{IsNormalWithin}
 use Rattle.simplified_formulas.specs.AtomKit.{atom_kit}

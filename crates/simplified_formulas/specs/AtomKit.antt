@@ -2,7 +2,7 @@
 use Rattle.formula_meaning.specs.Context.{Context}
 use Rattle.formula_meaning.specs.Atom.{Atom}
 use Rattle.formula_meaning.specs.Same.{same_atom}
-use Rattle.atom_normal.specs.NormalForm.{negated_normal}
+use Rattle.atom_merging.specs.FromAtomNormal.{negated_normal}
 use Rattle.atom_merging.specs.Computed.{merged, decided_by}
 use Rattle.simplified_formulas.specs.Kit.{Kit}
 use Rattle.simplified_formulas.specs.Contained.{contains}

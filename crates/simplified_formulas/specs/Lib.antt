@@ -11,3 +11,4 @@ pub mod AtomKit
 pub mod Trees
 pub mod Simplifiable
 pub mod Laws
+pub mod FromAtomMerging

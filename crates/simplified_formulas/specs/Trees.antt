@@ -3,7 +3,7 @@ use Rattle.std.specs.Prelude.{List}
 use Rattle.formula_meaning.specs.Context.{Context}
 use Rattle.formula_meaning.specs.Atom.{Atom, Mentions}
 use Rattle.formula_meaning.specs.Tree.{Tree}
-use Rattle.atom_normal.specs.NormalForm.{negated_normal}
+use Rattle.atom_merging.specs.FromAtomNormal.{negated_normal}
 use Rattle.atom_merging.specs.Merging.{IsKept, Implies, Excludes}
 use Rattle.simplified_formulas.specs.Reduced.{Reduced}
 use Rattle.simplified_formulas.specs.Contained.{contains}

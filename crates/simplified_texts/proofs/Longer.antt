@@ -12,8 +12,8 @@ use Rattle.formula_meaning.specs.declared.junction.Junction.{Junction}
 use Rattle.formula_meaning.specs.declared.junction.Junction.TheVariants.{Conjunction, Disjunction}
 use Rattle.formula_meaning.specs.declared.quantifier.Quantifier.{Quantifier}
 use Rattle.formula_meaning.specs.declared.quantifier.Quantifier.TheVariants.{Exists, ForAll}
-use Rattle.atom_merging.specs.Computed.{Into, merged, IsNormalWithin}
-use Rattle.atom_merging.proofs.Computed.{merged_comes}
+use Rattle.simplified_formulas.specs.FromAtomMerging.{Into, merged, IsNormalWithin}
+use Rattle.simplified_formulas.proofs.FromAtomMerging.{merged_comes}
 use Rattle.redlog_printer.specs.Text.{name_at, atom_text}
 use Rattle.formula_meaning.specs.Within.{AreTermsWithin, IsAtomWithin}
 use Rattle.simplified_formulas.specs.Orderly.{IsOrderly, AreOrderly}

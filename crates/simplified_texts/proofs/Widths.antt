@@ -10,7 +10,7 @@ use Rattle.std.proofs.lemmas.Bool.Decides.{Decides-int_eq}
 use Rattle.exact_numbers.specs.Limit.{InLimit}
 use Rattle.formula_meaning.specs.Form.{Form, Term}
 use Rattle.formula_meaning.specs.Atom.{Relation, Equals, Differs, Below, AtMost, Above, AtLeast, Atom, Compare, Congruent, form_of}
-use Rattle.atom_merging.proofs.Computed.{ComesOf, compared, congruent}
+use Rattle.simplified_formulas.proofs.FromAtomMerging.{ComesOf, compared, congruent}
 use Rattle.redlog_printer.specs.Text.{name_at, first_sign, later_sign, multiple_text, later_multiple, later_constant, sum_text, form_text, relation_text, congruence_text, atom_text}
 use Rattle.simplified_texts.proofs.Digits.{some_digit, one_digit_more, one_digit}
 

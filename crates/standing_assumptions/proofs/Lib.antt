@@ -1,1 +1,3 @@
 mod Growing
+pub mod FromAnswerTexts
+pub mod FromPrenexForms

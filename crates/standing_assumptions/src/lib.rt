@@ -5,4 +5,5 @@ mod assumption;
 mod standing;
 
 pub use assumption::Assumption;
+pub use session_meaning::{Line, StatementError, StaticError, pnf, point_text, put_fraction};
 pub use standing::Standing;

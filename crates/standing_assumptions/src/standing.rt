@@ -7,7 +7,7 @@ ghost use Rattle.formula_meaning.specs.Some.{EachOf};
 ghost use Rattle.formula_meaning.specs.Within.{IsTreeWithin};
 ghost use Rattle.redlog_printer.specs.Text.{tree_text};
 ghost use Rattle.redlog_printer.specs.Writing.{text_limit};
-ghost use Rattle.answer_texts.specs.Answers.{separated};
+ghost use Rattle.session_meaning.specs.FromAnswerTexts.{separated};
 ghost use Rattle.session_meaning.specs.Assumptions.{atoms_among};
 ghost use Rattle.session_meaning.specs.Standing.{behind, standing_text};
 ghost use Rattle.standing_assumptions.specs.Trees.{assumption_tree, standing_trees, IsFormed, IsFront};

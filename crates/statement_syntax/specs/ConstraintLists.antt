@@ -1,6 +1,6 @@
 -- Lists of comparisons.
 use Rattle.std.specs.Prelude.{◌≡◌, true}
-use Rattle.formula_meaning.specs.Formula.{none, also}
+use Rattle.qe_syntax.specs.FromFormulaMeaning.{none, also}
 use Rattle.qe_syntax.specs.Trees.{FormulaTrees}
 use Rattle.statement_syntax.specs.Constraints.{is_constraint, is_weak_constraint}
 

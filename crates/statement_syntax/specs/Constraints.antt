@@ -1,6 +1,6 @@
 -- Which formulas are constraints: comparisons of two terms, but for <>.
 use Rattle.std.specs.Prelude.{Bool, true, false}
-use Rattle.formula_meaning.specs.Formula.{One}
+use Rattle.qe_syntax.specs.FromFormulaMeaning.{One}
 use Rattle.qe_syntax.specs.declared.tree.Relation.{Relation}
 use Rattle.qe_syntax.specs.declared.tree.Relation.TheVariants.{Equal, Differs, Less, AtMost, Greater, AtLeast}
 use Rattle.qe_syntax.specs.Trees.{Compare, FormulaTree}

@@ -3,4 +3,5 @@
 
 mod text;
 
+pub use formula_store::FormulaId;
 pub use text::stored_text;

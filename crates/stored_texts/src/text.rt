@@ -8,8 +8,7 @@ ghost use Rattle.formula_meaning.specs.Within.{IsTreeWithin};
 ghost use Rattle.redlog_printer.specs.Writing.{text_limit};
 ghost use Rattle.stored_texts.specs.Texts.{Begins, brackets, IsOpened};
 
-use formula_store::{FormulaId, Store, Unfold};
-use formula_tree::{Names, Shape};
+use formula_store::{FormulaId, Names, Shape, Store, Unfold};
 use linear_forms::VarId;
 use redlog_printer::{Output, PrintError, put_atom, put_tree};
 use std::alloc::Global;

@@ -5,3 +5,4 @@ pub mod DistinctLists
 pub mod Lowest
 pub mod Loops
 pub mod PutLaws
+pub mod FromEliminationReference

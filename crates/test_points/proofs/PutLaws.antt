@@ -10,19 +10,11 @@ use Rattle.formula_meaning.specs.TheoryAtoms.{AtomIn}
 use Rattle.formula_meaning.specs.Answer.{Place}
 use Rattle.formula_meaning.specs.Tree.{TrueAt, IsFree}
 use Rattle.formula_meaning.specs.Equivalence.{Equivalent}
-use Rattle.elimination_theory.specs.Substitution.{where_zero}
-use Rattle.elimination_theory.specs.BothTheories.{IsPlaceIn, raw_atom}
-use Rattle.elimination_theory.specs.Steps.{normalised, atom_at}
-use Rattle.elimination_theory.specs.FieldsPoints.{field_points_of}
-use Rattle.elimination_theory.proofs.Simple.{IsSimple, simple_in, simple_plain, raw_simple, raw_still}
-use Rattle.elimination_theory.proofs.OneStep.{normalised_equivalent, normalised_names}
-use Rattle.elimination_theory.proofs.SomeListed.{some_map, some_mapped, some_of_mapped}
-use Rattle.elimination_theory.proofs.FieldsSuffice as suffice
-use Rattle.elimination_theory.proofs.FieldsSubstitute.{atom_substitution_exact}
-use Rattle.elimination_theory.proofs.IntegersNames.{point_names, substitution_names}
+use Rattle.elimination_reference.specs.FromEliminationTheory.{where_zero, IsPlaceIn, raw_atom, normalised, atom_at, field_points_of}
+use Rattle.elimination_reference.proofs.FromEliminationTheory.{IsSimple, simple_in, simple_plain, raw_simple, raw_still, normalised_equivalent, normalised_names, some_map, some_mapped, some_of_mapped, atom_substitution_exact, point_names, substitution_names}
+use Rattle.elimination_reference.proofs.FromEliminationTheory.fields_suffice_rules as suffice
 use Rattle.elimination_reference.proofs.Tidy.{normaliser}
-use Rattle.atom_normal.specs.NormalForm.{normal_atom}
-use Rattle.atom_normal.specs.Atoms.{atom_of}
+use Rattle.elimination_reference.specs.FromAtomNormal.{normal_atom, atom_of}
 use Rattle.test_points.specs.declared.points.TestPoint.{TestPoint}
 use Rattle.test_points.specs.Points.{place_of}
 use Rattle.test_points.specs.Laws.{FieldPointsSuffice, FieldPointsKeepNames, FieldSubstitutionHolds, FieldSubstitutionKeepsNames}

@@ -9,18 +9,9 @@ use Rattle.formula_meaning.specs.TheoryAtoms.{AtomIn}
 use Rattle.formula_meaning.specs.Answer.{Holds, PlaceMentions}
 use Rattle.formula_meaning.specs.Tree.{Tree, TrueAt, IsFree}
 use Rattle.formula_meaning.specs.Equivalence.{InContext}
-use Rattle.elimination_theory.specs.Atoms.{atoms_of}
-use Rattle.elimination_theory.specs.AtPlace.{at_place}
-use Rattle.elimination_theory.specs.FieldsPoints.{field_points_of}
-use Rattle.elimination_theory.specs.FieldsSubstitution.{IsFieldPlace}
-use Rattle.elimination_theory.specs.NamesTheorems.{IsNameOf}
-use Rattle.elimination_theory.specs.Steps.{atom_at}
-use Rattle.linear_forms.specs.declared.form.VarId.{VarId}
-use Rattle.atom_normal.specs.NormalForm.{normal_atom}
-use Rattle.atom_normal.specs.Atoms.{atom_of, tree_of}
-use Rattle.atom_normal.specs.declared.atoms.Atom.{Atom}
-use Rattle.atom_normal.specs.declared.atoms.Normal.{Normal}
-use Rattle.elimination_theory.specs.declared.side.Side.{Side}
+use Rattle.elimination_reference.specs.FromEliminationTheory.{atoms_of, at_place, field_points_of, IsFieldPlace, IsNameOf, atom_at, Side}
+use Rattle.elimination_reference.specs.FromLinearForms.{VarId}
+use Rattle.elimination_reference.specs.FromAtomNormal.{normal_atom, atom_of, tree_of, Atom, Normal}
 use Rattle.test_points.specs.declared.points.TestPoint.{TestPoint}
 use Rattle.test_points.specs.Points.{place_of}
 

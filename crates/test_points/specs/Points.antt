@@ -3,8 +3,7 @@ use Rattle.std.specs.Prelude.{◌≡◌, ℕ, ℤ, pos, ◌<ℤ◌, [], unsigned
 use Rattle.exact_numbers.specs.Limit.{InLimit}
 use Rattle.formula_meaning.specs.Form.{Form}
 use Rattle.formula_meaning.specs.Answer as meaning
-use Rattle.linear_forms.specs.declared.form.VarId.{VarId}
-use Rattle.linear_forms.specs.Combinations.{IsLinear}
+use Rattle.elimination_reference.specs.FromLinearForms.{VarId, IsLinear}
 use Rattle.test_points.specs.declared.points.Place.{Place}
 use Rattle.test_points.specs.declared.points.Place.TheVariants.{Exact, AboveBy, BelowBy, MinusInfinity, PlusInfinity, Periodic}
 use Rattle.test_points.specs.declared.points.TestPoint.{TestPoint}

@@ -5,12 +5,10 @@ use Rattle.formula_meaning.specs.Form.{Form, coefficient, without}
 use Rattle.formula_meaning.specs.Atom.{Atom}
 use Rattle.formula_meaning.specs.Answer.{Place}
 use Rattle.formula_meaning.specs.Tree.{Tree}
-use Rattle.elimination_theory.specs.Substitution.{form_at}
-use Rattle.elimination_theory.specs.BothTheories.{raw_atom}
-use Rattle.elimination_theory.specs.Steps.{normalised}
+use Rattle.elimination_reference.specs.FromEliminationTheory.{form_at, raw_atom, normalised}
 use Rattle.formula_meaning.specs.Limits.{combination_within}
 use Rattle.elimination_reference.specs.Limits.{numbers_within, normal_within}
-use Rattle.atom_normal.specs.NormalForm.{normal_atom}
+use Rattle.elimination_reference.specs.FromAtomNormal.{normal_atom}
 use Rattle.test_points.specs.Verdicts.{verdict_tree}
 use Rattle.test_points.specs.declared.verdict.Verdict.{Verdict}
 

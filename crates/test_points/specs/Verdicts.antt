@@ -3,7 +3,7 @@ use Rattle.formula_meaning.specs.Formula.{Yes, No, One}
 use Rattle.formula_meaning.specs.Form.{Form}
 use Rattle.formula_meaning.specs.Atom.{Compare}
 use Rattle.formula_meaning.specs.Tree.{Tree}
-use Rattle.atom_normal.specs.Atoms.{relation_of}
+use Rattle.elimination_reference.specs.FromAtomNormal.{relation_of}
 use Rattle.test_points.specs.declared.verdict.Verdict.{Verdict}
 use Rattle.test_points.specs.declared.verdict.Verdict.TheVariants.{Always, Never, Holds}
 

@@ -5,8 +5,8 @@ ghost use Rattle.formula_meaning.specs.Distinct.{distinct};
 ghost use Rattle.test_points.specs.Points.{place_of, IsPointOf};
 
 use crate::points::TestPoint;
+use elimination_reference::VarId;
 use indexmap::IndexSet;
-use linear_forms::VarId;
 use std::alloc::{AllocError, Global};
 
 /// Puts a test point last. After an error the list is as before.

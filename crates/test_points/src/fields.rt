@@ -1,16 +1,14 @@
 // Test points of the ordered fields.
 ghost use Rattle.std.specs.Prelude.{◌≡◌, All, map, IfOk, IfErr};
-ghost use Rattle.elimination_theory.specs.FieldsPoints.{infinity_of, field_points_of};
-ghost use Rattle.atom_normal.specs.Atoms.{atom_of};
+ghost use Rattle.elimination_reference.specs.FromEliminationTheory.{infinity_of, field_points_of};
+ghost use Rattle.elimination_reference.specs.FromAtomNormal.{atom_of};
 ghost use Rattle.test_points.specs.Points.{place_of, IsPointOf};
 
 use crate::distinct::{distinct_points, push_point};
 use crate::ends::atom_end;
 use crate::error::PointError;
 use crate::points::{Place, TestPoint};
-use atom_normal::Atom;
-use elimination_theory::Side;
-use linear_forms::{Linear, VarId};
+use elimination_reference::{Atom, Linear, Side, VarId};
 use std::alloc::Global;
 
 // The infinity of the side.

@@ -14,7 +14,7 @@ mod verdict;
 
 pub use comparing::{comparison_at, in_normal_form};
 pub use distinct::{distinct_points, push_point};
-pub use elimination_theory::Side;
+pub use elimination_reference::Side;
 pub use ends::{quotient, seen};
 pub use error::PointError;
 pub use fields::field_points;

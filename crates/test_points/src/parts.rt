@@ -2,11 +2,9 @@
 ghost use Rattle.std.specs.Prelude.{◌≡◌, negsuc, neg_ℤ, if◌then◌else◌, IfOk, IsErrOf};
 ghost use Rattle.exact_numbers.specs.Limit.{InLimit};
 ghost use Rattle.formula_meaning.specs.Form.{coefficient, others, scaled, without, scale};
-ghost use Rattle.linear_forms.specs.Terms.{CombinePasses};
-ghost use Rattle.linear_forms.specs.Combinations.{IsLinear, IsCombination};
-ghost use Rattle.linear_forms.specs.Linear.{terms_of};
+ghost use Rattle.elimination_reference.specs.FromLinearForms.{CombinePasses, IsLinear, IsCombination, terms_of};
 
-use linear_forms::{LinError, Linear, VarId};
+use elimination_reference::{LinError, Linear, VarId};
 use std::alloc::{AllocError, Global};
 
 // The number, or the one with the other sign.

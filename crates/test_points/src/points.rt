@@ -1,7 +1,7 @@
 // Test points: where a name is put.
 ghost use Rattle.std.specs.Prelude.{◌≡◌, IfOk};
 
-use linear_forms::{Linear, VarId};
+use elimination_reference::{Linear, VarId};
 use std::alloc::{AllocError, Global};
 
 /// How a test point lies: at a form over a number, infinitesimally above or below it, beyond all numbers, or beyond all

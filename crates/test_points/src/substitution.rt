@@ -2,17 +2,15 @@
 ghost use Rattle.std.specs.Prelude.{◌≡◌, true, false, IfOk, IsErrOf};
 ghost use Rattle.formula_meaning.specs.Context.{Fields};
 ghost use Rattle.formula_meaning.specs.TheoryAtoms.{AtomIn};
-ghost use Rattle.elimination_theory.specs.FieldsSubstitution.{IsFieldPlace};
-ghost use Rattle.elimination_theory.specs.Steps.{atom_at};
+ghost use Rattle.elimination_reference.specs.FromEliminationTheory.{IsFieldPlace, atom_at};
 ghost use Rattle.elimination_reference.specs.Limits.{atom_within};
-ghost use Rattle.atom_normal.specs.NormalForm.{normal_atom};
-ghost use Rattle.atom_normal.specs.Atoms.{atom_of, tree_of, IsWellFormed, IsWellFormedNormal};
+ghost use Rattle.elimination_reference.specs.FromAtomNormal.{normal_atom, atom_of, tree_of, IsWellFormed, IsWellFormedNormal};
 ghost use Rattle.test_points.specs.Points.{place_of, IsTestPoint};
 
 use crate::comparing::comparison_at;
 use crate::error::PointError;
 use crate::points::TestPoint;
-use atom_normal::{Atom, Context, Normal};
+use elimination_reference::{Atom, Context, Normal};
 use std::alloc::{AllocError, Global};
 
 /// The atom as it is.

@@ -2,13 +2,11 @@
 ghost use Rattle.std.specs.Prelude.{◌≡◌, if◌then◌else◌};
 ghost use Rattle.formula_meaning.specs.Form.{Form};
 ghost use Rattle.formula_meaning.specs.Atom.{mirrored};
-ghost use Rattle.elimination_theory.specs.FieldsSubstitution.{just_above, just_below};
-ghost use Rattle.elimination_theory.specs.Substitution.{below_all};
-ghost use Rattle.atom_normal.specs.NormalForm.{constant_tree};
-ghost use Rattle.atom_normal.specs.Atoms.{relation_of, tree_of, IsWellFormedNormal};
+ghost use Rattle.elimination_reference.specs.FromEliminationTheory.{just_above, just_below, below_all};
+ghost use Rattle.elimination_reference.specs.FromAtomNormal.{constant_tree, relation_of, tree_of, IsWellFormedNormal};
 ghost use Rattle.test_points.specs.Verdicts.{verdict_tree};
 
-use atom_normal::{Normal, Rel};
+use elimination_reference::{Normal, Rel};
 
 // A comparison is always true, never, or says a relation of a form to 0.
 #[derive(Clone, Copy)]

@@ -15,3 +15,4 @@ pub mod Placing
 pub mod Indexed
 pub mod Staying
 pub mod PartNumbers
+pub mod FromSimplifiedTexts

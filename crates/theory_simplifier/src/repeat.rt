@@ -20,7 +20,7 @@ ghost use Rattle.formula_tree.specs.Makers.{IsMade, Keeps};
 ghost use Rattle.formula_store.specs.Facts.{most_nodes};
 ghost use Rattle.theory_simplifier.specs.Known.{known_atoms, AreNormalFrames};
 ghost use Rattle.formula_store.specs.Nodes.{IsId, tree};
-ghost use Rattle.redlog_printer.specs.Text.{tree_text};
+ghost use Rattle.simplified_texts.specs.FromRedlogPrinter.{tree_text};
 ghost use Rattle.formula_meaning.specs.Within.{IsAtomWithin};
 
 use crate::error::SimplError;

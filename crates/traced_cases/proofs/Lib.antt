@@ -2,3 +2,4 @@ pub mod Choosing
 pub mod Walking
 pub mod Rooting
 pub mod Finding
+pub mod FromPlainEngine

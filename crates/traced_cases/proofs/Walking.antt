@@ -18,7 +18,7 @@ use Rattle.elimination_theory.proofs.BothSubstitutions.{place_in}
 use Rattle.elimination_reference.specs.Reference.{stands_among}
 use Rattle.atom_normal.specs.NormalForm.{normal_atom}
 use Rattle.nnf_trees.specs.Nnfs.{nnf_of, IsProper}
-use Rattle.nnf_substitution.specs.Placed.{point_within}
+use Rattle.plain_engine.specs.FromNnfSubstitution.{point_within}
 use Rattle.sample_reference.specs.Traced.{Trace, after_step, after_within}
 use Rattle.test_points.specs.declared.points.TestPoint.{TestPoint}
 use Rattle.test_points.specs.Points.{answer_of, place_of, IsTestPoint}

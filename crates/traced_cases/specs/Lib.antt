@@ -2,3 +2,5 @@ pub mod Steps
 pub mod Replay
 pub mod Rooted
 pub mod First
+pub mod FromPlainEngine
+pub mod FromSampleReference

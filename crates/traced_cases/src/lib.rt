@@ -8,4 +8,7 @@ mod replay;
 mod step;
 
 pub use first::{first_true_steps, true_steps};
+pub use plain_cases::is_asked;
+pub use plain_engine::{Measured, Setting, pay};
 pub use step::Step;
+pub use test_points::PointError;

@@ -7,7 +7,7 @@ ghost use Rattle.atom_normal.specs.Atoms.{context_of};
 ghost use Rattle.atom_normal.specs.NormalForm.{normal_atom};
 ghost use Rattle.sample_reference.specs.Traced.{after_step};
 ghost use Rattle.nnf_trees.specs.Nnfs.{nnf_of, IsProper};
-ghost use Rattle.nnf_substitution.specs.Placed.{point_within};
+ghost use Rattle.plain_engine.specs.FromNnfSubstitution.{point_within};
 ghost use Rattle.test_points.specs.Points.{place_of, IsTestPoint};
 ghost use Rattle.traced_cases.specs.Steps.{steps_of, IsStep};
 ghost use Rattle.traced_cases.specs.Replay.{taken, taken_from, IsTakable, AreTakable};
@@ -15,8 +15,8 @@ ghost use Rattle.traced_cases.specs.Replay.{taken, taken_from, IsTakable, AreTak
 use crate::copying::copied;
 use crate::step::Step;
 use atom_normal::Context;
-use nnf_substitution::{distinct_atoms, formula_at, stands_in_some};
 use nnf_trees::Nnf;
+use plain_engine::{distinct_atoms, formula_at, stands_in_some};
 use std::alloc::{AllocError, Global};
 use test_points::TestPoint;
 

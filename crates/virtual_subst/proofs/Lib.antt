@@ -5,3 +5,5 @@ pub mod Noted
 pub mod Copied
 pub mod Started
 pub mod SameIds
+pub mod FromNnfSubstitution
+pub mod FromNnfTrees

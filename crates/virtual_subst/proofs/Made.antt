@@ -8,10 +8,8 @@ use Rattle.formula_meaning.specs.Fold.{joined, folded, fold_list, all_pieces, fr
 use Rattle.formula_meaning.specs.Form.{coefficient}
 use Rattle.formula_meaning.specs.Formula.{One, also}
 use Rattle.formula_meaning.specs.Tree.{Tree}
-use Rattle.elimination_theory.specs.Substitution.{where_zero}
-use Rattle.elimination_theory.specs.BothTheories.{raw_atom}
-use Rattle.elimination_theory.specs.Steps.{normalised}
-use Rattle.elimination_reference.specs.Limits.{atom_within, numbers_within, normal_within}
+use Rattle.test_points.specs.FromEliminationTheory.{where_zero, raw_atom, normalised}
+use Rattle.test_points.specs.FromEliminationReference.{atom_within, numbers_within, normal_within}
 use Rattle.atom_normal.specs.NormalForm.{normal_atom}
 use Rattle.atom_normal.specs.declared.atoms.Context.{Context}
 use Rattle.atom_normal.specs.declared.atoms.Normal.{Normal}
@@ -23,7 +21,7 @@ use Rattle.formula_tree.specs.Trees.{members}
 use Rattle.formula_store.specs.declared.id.FormulaId.{FormulaId}
 use Rattle.formula_store.specs.Nodes.{tree, IsId}
 use Rattle.nnf_substitution.specs.Placed.{put, put_all, all_within, each_within}
-use Rattle.nnf_trees.proofs.Pieces.{two_pieces}
+use Rattle.nnf_substitution.proofs.FromNnfTrees.{two_pieces}
 use Rattle.nnf_substitution.proofs.PutLaws.{also_within, and_true, put_joined, joined_within, normal_folded}
 use Rattle.test_points.specs.declared.points.TestPoint.{TestPoint}
 use Rattle.test_points.specs.Points.{place_of}

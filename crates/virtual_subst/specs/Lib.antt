@@ -1,3 +1,5 @@
 pub mod Shared
 pub mod Folding
 pub mod Phases
+pub mod FromNnfSubstitution
+pub mod FromTestPoints

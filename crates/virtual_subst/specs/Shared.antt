@@ -3,9 +3,8 @@ use Rattle.std.specs.Prelude.{◌≡◌, ◌≤◌, ◌<◌, ◌⊎◌, ℕ, Boo
 use Rattle.std.specs.List.{AllByRecursion}
 use Rattle.formula_meaning.specs.Atom as meant
 use Rattle.formula_meaning.specs.Formula.{Yes, No}
-use Rattle.elimination_theory.specs.BothTheories.{IsPlaceIn}
-use Rattle.elimination_theory.specs.Steps.{atom_at}
-use Rattle.elimination_reference.specs.Limits.{atom_within}
+use Rattle.test_points.specs.FromEliminationTheory.{IsPlaceIn, atom_at}
+use Rattle.test_points.specs.FromEliminationReference.{atom_within}
 use Rattle.atom_normal.specs.declared.atoms.Context.{Context}
 use Rattle.atom_normal.specs.declared.atoms.Normal.{Normal}
 use Rattle.atom_normal.specs.Atoms.{context_of, tree_of, IsWellFormedNormal}

@@ -4,14 +4,14 @@ ghost use Rattle.std.specs.Prelude.{◌≡◌, pos, IsTrue, MatchResult};
 ghost use Rattle.formula_meaning.specs.Form.{coefficient};
 ghost use Rattle.formula_meaning.specs.Atom.{form_of};
 ghost use Rattle.formula_meaning.specs.TheoryAtoms.{AtomIn};
-ghost use Rattle.elimination_reference.specs.Limits.{atom_within};
+ghost use Rattle.test_points.specs.FromEliminationReference.{atom_within};
 ghost use Rattle.atom_normal.specs.Atoms.{atom_of, context_of, IsWellFormed};
 ghost use Rattle.test_points.specs.Points.{place_of};
 ghost use Rattle.virtual_subst.specs.Shared.{Stops, IsAtomPut, IsAtPlace};
 
 use crate::error::SubstError;
 use atom_normal::{Atom, Context, Normal};
-use cooper_periods::substitute_integer;
+use nnf_substitution::substitute_integer;
 use std::alloc::Global;
 use test_points::{PointError, TestPoint, substitute_field};
 

@@ -14,6 +14,8 @@ mod truths;
 
 pub use error::SubstError;
 pub use folding::{fold, normal_made};
+pub use nnf_substitution::guard;
 pub use sharing::substitute_all;
 pub use substitution::{substitute_listed, substitute_shared};
 pub use taking::put_at_all;
+pub use test_points::TestPoint;

@@ -2,8 +2,7 @@ use Rattle.std.proofs.Common.{rules, ◌≡◌, ◌<◌, ◌+◌, ◌++◌, [], 
 use Rattle.std.proofs.lemmas.Option.{slice_get_read}
 use Rattle.redlog_printer.specs.Writing.{text_limit}
 use Rattle.redlog_printer.proofs.Written.{drop_at}
-use Rattle.test_points.specs.declared.points.TestPoint.{TestPoint}
-use Rattle.test_points.specs.Points.{answer_of}
+use Rattle.plain_cases.specs.FromTestPoints.{TestPoint, answer_of}
 use Rattle.answer_texts.specs.Answers.{separated, answer_text, answer_texts, next_epsilon, next_infinity}
 use Rattle.answer_texts.proofs.Separating.{next_long}
 use Rattle.answer_texts.proofs.answers.put_answers.Goals as goal

@@ -1,5 +1,5 @@
 use Rattle.std.proofs.Common.{◌≡◌, ◌≤◌, ◌+◌, ◌++◌, [], length, map, drop}
-use Rattle.test_points.specs.Points.{answer_of}
+use Rattle.plain_cases.specs.FromTestPoints.{answer_of}
 use Rattle.answer_texts.specs.Answers.{separated, answer_texts}
 use Rattle.answer_texts.specs.Within.{AreAnswersWithin}
 use Rattle.answer_texts.proofs.answers.put_answers.Given as goal

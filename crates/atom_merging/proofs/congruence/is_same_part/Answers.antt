@@ -1,7 +1,7 @@
 use Rattle.std.proofs.Common.{◌≡◌, Bool, true, false, MatchBool, sym, ap, ◌∙◌}
 use Rattle.std.specs.Int.{w128, cast_signed}
 use Rattle.std.proofs.lemmas.Int.{to_z-of_z}
-use Rattle.linear_forms.proofs.Quotients.{quotients_one}
+use Rattle.atom_normal.proofs.FromLinearForms.{quotients_one}
 use Rattle.atom_merging.proofs.congruence.is_same_part.Goals as goal
 
 -- a test of one part where the other holds

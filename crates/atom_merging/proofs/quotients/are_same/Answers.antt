@@ -1,8 +1,7 @@
 use Rattle.std.proofs.Common.{◌≡◌, sym, ◌∙◌, ap, arith, length}
 use Rattle.std.specs.Int.{w128}
 use Rattle.std.proofs.lemmas.Int.{to_z-of_z}
-use Rattle.linear_forms.specs.Linear.{term_of}
-use Rattle.linear_forms.specs.Reduction.{quotients}
+use Rattle.atom_normal.specs.FromLinearForms.{term_of, quotients}
 use Rattle.atom_merging.proofs.Places.{same_before_start, same_before_next, differ_here, read_term, nothing_read, place_there, within_place, same_to_end, other_length}
 use Rattle.atom_merging.proofs.quotients.are_same.Goals as goal
 

@@ -1,10 +1,8 @@
 use Rattle.std.proofs.Common.{◌≡◌, ◌∷◌, pos, ℤ, ap, sym, ◌∙◌, subst}
 use Rattle.std.specs.Int.{w128, cast_unsigned}
 use Rattle.std.proofs.lemmas.Int.{to_z-of_z}
-use Rattle.exact_numbers.specs.Divides.{gcd_of, content_of}
-use Rattle.exact_numbers.specs.Division.{DividesAll}
-use Rattle.exact_numbers.specs.Limit.{InLimit}
-use Rattle.exact_numbers.proofs.Casts.{fits}
+use Rattle.linear_forms.specs.FromExactNumbers.{gcd_of, content_of, DividesAll, InLimit}
+use Rattle.linear_forms.proofs.FromExactNumbers.{fits}
 use Rattle.linear_forms.specs.Terms.{coefficients}
 use Rattle.linear_forms.specs.Reduction.{quotient}
 use Rattle.atom_normal.specs.Atoms.{relation_of}

@@ -1,12 +1,9 @@
 use Rattle.std.proofs.Common.{◌≡◌, ◌∷◌, List, pos, ℤ, ap, sym, ◌∙◌, subst, to_z, of_z}
 use Rattle.std.specs.Int.{w128, cast_unsigned}
 use Rattle.std.proofs.lemmas.Int.{to_z-of_z}
-use Rattle.exact_numbers.specs.Limit.{InLimit}
-use Rattle.exact_numbers.specs.Division.{DividesAll}
-use Rattle.exact_numbers.proofs.Casts.{fits}
-use Rattle.formula_meaning.specs.Form.{Form, Term}
-use Rattle.formula_meaning.specs.Formula.{One}
-use Rattle.formula_meaning.specs.Atom.{Compare}
+use Rattle.linear_forms.specs.FromExactNumbers.{InLimit, DividesAll}
+use Rattle.linear_forms.proofs.FromExactNumbers.{fits}
+use Rattle.linear_forms.specs.FromFormulaMeaning.{Form, Term, One, Compare}
 use Rattle.linear_forms.specs.Terms.{coefficients}
 use Rattle.linear_forms.specs.Reduction.{quotient, quotients}
 use Rattle.atom_normal.specs.Atoms.{relation_of}

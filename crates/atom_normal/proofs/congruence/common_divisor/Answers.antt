@@ -1,9 +1,8 @@
 use Rattle.std.proofs.Common.{◌≡◌, sym, ◌∙◌, ap, subst, ℤ, to_z, of_z}
 use Rattle.std.specs.Int.{w128}
 use Rattle.std.proofs.lemmas.Int.{to_z-of_z}
-use Rattle.exact_numbers.specs.Limit.{InLimit}
-use Rattle.exact_numbers.specs.Divides.{gcd_of, content_of}
-use Rattle.exact_numbers.proofs.Casts.{fits}
+use Rattle.linear_forms.specs.FromExactNumbers.{InLimit, gcd_of, content_of}
+use Rattle.linear_forms.proofs.FromExactNumbers.{fits}
 use Rattle.linear_forms.specs.Terms.{coefficients}
 use Rattle.atom_normal.proofs.Congruences.{IsCommonDivisor, modulus_divisor}
 use Rattle.atom_normal.proofs.congruence.common_divisor.Goals as goal

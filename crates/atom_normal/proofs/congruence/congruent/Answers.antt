@@ -4,11 +4,8 @@ use Rattle.std.specs.Int.{w128}
 use Rattle.std.specs.Ordering.{int_eq}
 use Rattle.std.specs.Cmp.{signed_Decides}
 use Rattle.std.proofs.lemmas.Int.{to_z-of_z}
-use Rattle.exact_numbers.specs.Limit.{InLimit}
-use Rattle.exact_numbers.specs.Divides.{residue_of, content_of}
-use Rattle.exact_numbers.specs.Division.{DividesAll}
-use Rattle.exact_numbers.proofs.Casts.{fits}
-use Rattle.exact_numbers.proofs.Floor.{divides_from_residue}
+use Rattle.linear_forms.specs.FromExactNumbers.{InLimit, residue_of, content_of, DividesAll}
+use Rattle.linear_forms.proofs.FromExactNumbers.{fits, divides_from_residue}
 use Rattle.linear_forms.specs.Terms.{coefficients}
 use Rattle.linear_forms.specs.Reduction.{quotient, residue_form}
 use Rattle.atom_normal.specs.Atoms.{tree_of}

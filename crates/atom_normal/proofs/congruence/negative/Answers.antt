@@ -1,6 +1,6 @@
 use Rattle.std.proofs.Common.{List, [], ◌∷◌, ◌∙◌, negsuc, ℤ}
-use Rattle.exact_numbers.specs.Division.{DividesAll}
-use Rattle.exact_numbers.proofs.Divisibility.{neg_divides, one_divides}
+use Rattle.linear_forms.specs.FromExactNumbers.{DividesAll}
+use Rattle.linear_forms.proofs.FromExactNumbers.{neg_divides, one_divides}
 use Rattle.linear_forms.specs.Terms.{coefficients}
 use Rattle.linear_forms.proofs.Quotients.{quotient_minus_one}
 use Rattle.atom_normal.proofs.congruence.negative.Goals as goal

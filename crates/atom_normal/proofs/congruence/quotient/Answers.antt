@@ -1,10 +1,8 @@
 use Rattle.std.proofs.Common.{◌≡◌, pos, ℤ, sym, subst, refl, arith}
 use Rattle.std.specs.Prelude.{◌<ℤ◌, ◌*ℤ◌, int_div}
 use Rattle.std.proofs.lemmas.Int.{ints}
-use Rattle.exact_numbers.specs.Divides.{Divides}
-use Rattle.exact_numbers.proofs.Order.{factor_positive}
-use Rattle.exact_numbers.proofs.LeastMultiple.{exact_div}
-use Rattle.exact_numbers.proofs.Casts.{quotient_of_bits}
+use Rattle.linear_forms.specs.FromExactNumbers.{Divides}
+use Rattle.linear_forms.proofs.FromExactNumbers.{factor_positive, exact_div, quotient_of_bits}
 use Rattle.atom_normal.proofs.congruence.quotient.Goals as goal
 
 quotient_positive : (n d : ℤ) → pos 0 <ℤ n → pos 0 <ℤ d → Divides d n → pos 0 <ℤ int_div n d

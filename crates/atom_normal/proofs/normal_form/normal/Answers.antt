@@ -1,7 +1,7 @@
 use Rattle.std.proofs.Common.{◌≡◌, sym, ◌∙◌, subst, refl}
 use Rattle.std.proofs.lemmas.Int.{to_z-of_z}
-use Rattle.exact_numbers.proofs.Casts.{fits}
-use Rattle.formula_meaning.specs.Tree.{Tree}
+use Rattle.linear_forms.proofs.FromExactNumbers.{fits}
+use Rattle.linear_forms.specs.FromFormulaMeaning.{Tree}
 use Rattle.atom_normal.specs.declared.atoms.Atom.{Atom}
 use Rattle.atom_normal.specs.declared.atoms.Atom.TheVariants.{Compare, Congruent}
 use Rattle.atom_normal.specs.declared.atoms.Context.{Context}

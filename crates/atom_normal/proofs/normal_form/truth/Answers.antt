@@ -3,8 +3,8 @@ use Rattle.std.specs.Prelude.{unsigned_abs}
 use Rattle.std.specs.Int.{w128}
 use Rattle.std.proofs.Math.Bool.{beq}
 use Rattle.std.proofs.lemmas.Int.{to_z-of_z}
-use Rattle.exact_numbers.proofs.Casts.{fits}
-use Rattle.formula_meaning.specs.Atom.{Says}
+use Rattle.linear_forms.proofs.FromExactNumbers.{fits}
+use Rattle.linear_forms.specs.FromFormulaMeaning.{Says}
 use Rattle.linear_forms.specs.Values.{point_of}
 use Rattle.atom_normal.specs.declared.atoms.Atom.{Atom}
 use Rattle.atom_normal.specs.Atoms.{atom_of, IsWellFormed, IsAskedWhole}

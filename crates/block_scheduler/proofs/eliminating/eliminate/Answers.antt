@@ -1,12 +1,12 @@
 use Rattle.std.proofs.Common.{◌≡◌, ◌⊎◌, inl, inr, ◌∙◌, sym, map, subst}
-use Rattle.branch_rounds.specs.declared.error.RoundError.{RoundError}
-use Rattle.branch_rounds.specs.declared.error.RoundError.TheVariants as round
+use Rattle.inner_blocks.specs.FromBranchRounds.{RoundError}
+use Rattle.inner_blocks.specs.FromBranchRounds.round_error_variants as round
 use Rattle.std.specs.Prelude.{IfOk, IfErr}
 use Rattle.atom_normal.specs.Atoms.{context_of, atom_of}
 use Rattle.elimination_reference.specs.Reference.{reference}
 use Rattle.formula_meaning.specs.Tree.{Tree}
 use Rattle.formula_store.proofs.Makes.{keeps_then}
-use Rattle.plain_engine.specs.Told.{StopsWith}
+use Rattle.plain_cases.specs.FromPlainEngine.{StopsWith}
 use Rattle.case_trees.specs.CaseTrees.{IsCaseTreeOf}
 use Rattle.block_scheduler.proofs.eliminating.eliminate.Goals as goal
 

@@ -1,5 +1,5 @@
 use Rattle.std.proofs.Common.{◌≡◌, ◌++◌}
-use Rattle.atom_pruning.specs.Kept.{marked as marked_of}
+use Rattle.branch_pruning.specs.FromAtomPruning.{marked as marked_of}
 use Rattle.branch_rounds.proofs.thinning.marked.Given as goal
 
 -- what is kept, and what is still to come

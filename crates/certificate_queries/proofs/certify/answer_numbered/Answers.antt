@@ -4,8 +4,8 @@ use Rattle.qe_syntax.specs.Trees.{formulas_of}
 use Rattle.qe_syntax.specs.CodeTrees.{formula_tree}
 use Rattle.statement_syntax.specs.Statements.{Certify}
 use Rattle.certificate_search.specs.Certificates.{certificate_of}
-use Rattle.session_state.specs.Keeping.{state_of}
-use Rattle.command_tools.specs.Replies.{use_of, Refuses}
+use Rattle.problem_reading.specs.FromSessionState.{state_of}
+use Rattle.problem_reading.specs.FromCommandTools.{use_of, Refuses}
 use Rattle.certificate_queries.proofs.AnswerSteps.{names_there, line_told, line_faulty}
 use Rattle.certificate_queries.proofs.certify.answer_numbered.Goals as goal
 

@@ -5,8 +5,8 @@ use Rattle.qe_syntax.specs.Trees.{formulas_of}
 use Rattle.qe_syntax.specs.CodeTrees.{formula_tree}
 use Rattle.farkas_cert.specs.Constraints.{constraint_of}
 use Rattle.certificate_search.specs.Certificates.{certificate_of}
-use Rattle.session_meaning.specs.Certificates.{constrained_names, constraints_of}
-use Rattle.session_state.specs.Keeping.{state_of}
+use Rattle.problem_reading.specs.FromSessionMeaning.{constrained_names, constraints_of}
+use Rattle.problem_reading.specs.FromSessionState.{state_of}
 use Rattle.certificate_queries.specs.Steps.{RefusesCertificate}
 use Rattle.certificate_queries.proofs.AnswerSteps.{names_differ, over_names, certificate_found, certificate_stopped}
 use Rattle.certificate_queries.proofs.certify.certificate_of.Goals as goal

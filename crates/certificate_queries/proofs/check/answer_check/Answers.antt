@@ -4,12 +4,9 @@ use Rattle.atom_normal.proofs.Stepped.{ok_map}
 use Rattle.qe_syntax.specs.Trees.{formulas_of}
 use Rattle.qe_syntax.specs.CodeTrees.{formula_tree}
 use Rattle.statement_syntax.specs.Statements.{Check}
-use Rattle.session_meaning.specs.declared.line.Line.{Line}
-use Rattle.session_meaning.specs.declared.line.StatementError.{StatementError}
-use Rattle.session_meaning.specs.Reply.{IsLine}
-use Rattle.session_meaning.specs.Words.{truth_text}
-use Rattle.session_state.specs.Keeping.{state_of}
-use Rattle.command_tools.specs.Replies.{use_of, Refuses}
+use Rattle.problem_reading.specs.FromSessionMeaning.{Line, StatementError, IsLine, truth_text}
+use Rattle.problem_reading.specs.FromSessionState.{state_of}
+use Rattle.problem_reading.specs.FromCommandTools.{use_of, Refuses}
 use Rattle.certificate_queries.proofs.AnswerSteps.{truth_told}
 use Rattle.certificate_queries.proofs.NameSteps.{named_session, named_state, session_named, numbers_there, refused_there, told_there, session_later, state_later}
 use Rattle.certificate_queries.proofs.check.answer_check.Goals as goal

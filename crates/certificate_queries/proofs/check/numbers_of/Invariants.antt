@@ -1,7 +1,7 @@
 use Rattle.std.proofs.Common.{◌≡◌, take}
 use Rattle.formula_meaning.specs.Some.{SomeOf}
 use Rattle.qe_syntax.specs.declared.tree.Literal.TheVariants.{Past}
-use Rattle.session_meaning.specs.Certificates.{multipliers_of}
+use Rattle.problem_reading.specs.FromSessionMeaning.{multipliers_of}
 use Rattle.certificate_queries.proofs.check.numbers_of.Given as goal
 
 -- the numbers so far, none of which is past the limit

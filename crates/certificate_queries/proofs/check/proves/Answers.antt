@@ -3,8 +3,8 @@ use Rattle.std.specs.Prelude.{IfErr}
 use Rattle.qe_syntax.specs.Trees.{formulas_of}
 use Rattle.qe_syntax.specs.CodeTrees.{formula_tree}
 use Rattle.farkas_cert.specs.Constraints.{constraint_of}
-use Rattle.session_meaning.specs.Certificates.{constraints_of, multipliers_of}
-use Rattle.session_state.specs.Keeping.{state_of}
+use Rattle.problem_reading.specs.FromSessionMeaning.{constraints_of, multipliers_of}
+use Rattle.problem_reading.specs.FromSessionState.{state_of}
 use Rattle.certificate_queries.specs.Steps.{RefusesCheck}
 use Rattle.certificate_queries.proofs.AnswerSteps.{check_answered, check_accepted, check_stopped, numbers_stopped}
 use Rattle.certificate_queries.proofs.check.proves.Goals as goal

@@ -9,10 +9,9 @@ use Rattle.formula_store.specs.Nodes.{tree}
 use Rattle.qe_syntax.specs.Trees.{formulas_of}
 use Rattle.qe_syntax.specs.CodeTrees.{formula_tree}
 use Rattle.farkas_theory.specs.Constraints.{Constraint}
-use Rattle.session_meaning.specs.declared.line.StatementError.TheVariants as error
-use Rattle.session_meaning.specs.Assumptions.{resolved_all}
-use Rattle.session_meaning.specs.Certificates.{tree_constraint}
-use Rattle.session_state.specs.Keeping.{state_of}
+use Rattle.problem_reading.specs.FromSessionMeaning.statement_error_variants as error
+use Rattle.problem_reading.specs.FromSessionMeaning.{resolved_all, tree_constraint}
+use Rattle.problem_reading.specs.FromSessionState.{state_of}
 use Rattle.problem_reading.specs.Reading.{AreUnread}
 use Rattle.problem_reading.proofs.ReadLemmas.{proper_items}
 use Rattle.certificate_queries.specs.Steps.{NoConstraints}

@@ -2,7 +2,7 @@ use Rattle.std.proofs.Common.{◌≡◌, map, take, drop}
 use Rattle.std.specs.List.{AllByRecursion}
 use Rattle.formula_store.specs.Nodes.{tree, IsId}
 use Rattle.farkas_cert.specs.Constraints.{constraint_of}
-use Rattle.session_meaning.specs.Certificates.{tree_constraint}
+use Rattle.problem_reading.specs.FromSessionMeaning.{tree_constraint}
 use Rattle.certificate_queries.proofs.constraints.oriented.Given as goal
 
 -- the constraints so far, and the ids that are left

@@ -4,9 +4,8 @@ use Rattle.std.proofs.lemmas.Option.{slice_get-get_or}
 use Rattle.exact_numbers.specs.Frac.{whole_frac}
 use Rattle.redlog_printer.specs.Writing.{text_limit}
 use Rattle.redlog_printer.proofs.Written.{drop_at}
-use Rattle.answer_texts.specs.Answers.{separated}
-use Rattle.answer_texts.specs.Points.{fraction_text}
-use Rattle.answer_texts.proofs.Separating.{next_long}
+use Rattle.problem_reading.specs.FromAnswerTexts.{separated, fraction_text}
+use Rattle.problem_reading.proofs.FromAnswerTexts.{next_long}
 use Rattle.certificate_queries.proofs.lines.put_numbers.Goals as goal
 
 abbrev text_of : ℤ → List ℕ

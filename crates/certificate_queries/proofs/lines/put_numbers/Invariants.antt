@@ -1,7 +1,6 @@
 use Rattle.std.proofs.Common.{◌≡◌, ◌++◌, [], map, drop}
 use Rattle.exact_numbers.specs.Frac.{whole_frac}
-use Rattle.answer_texts.specs.Answers.{separated}
-use Rattle.answer_texts.specs.Points.{fraction_text}
+use Rattle.problem_reading.specs.FromAnswerTexts.{separated, fraction_text}
 use Rattle.certificate_queries.proofs.lines.put_numbers.Given as goal
 
 -- what is written and what is left is the whole text

@@ -6,7 +6,7 @@ use Rattle.formula_meaning.specs.Form.{coefficient}
 use Rattle.formula_meaning.specs.Combining.{AddWithin}
 use Rattle.formula_meaning.specs.Context.{Integers}
 use Rattle.formula_meaning.specs.Atom.{Congruent}
-use Rattle.elimination_reference.specs.Limits.{normal_within}
+use Rattle.test_points.specs.FromEliminationReference.{normal_within}
 use Rattle.atom_normal.specs.NormalForm.{normal_atom}
 use Rattle.atom_normal.proofs.Stepped.{ok_map}
 use Rattle.cooper_periods.proofs.Congruences.{class_tree, class_within, class_refused, number_put}

@@ -5,7 +5,7 @@ use Rattle.exact_numbers.specs.Limit.{InLimit}
 use Rattle.exact_numbers.proofs.Casts.{read_back}
 use Rattle.formula_meaning.specs.Form.{coefficient, without}
 use Rattle.formula_meaning.specs.Combining.{CombinePasses}
-use Rattle.linear_forms.specs.Combinations.{IsCombination}
+use Rattle.atom_normal.specs.FromLinearForms.{IsCombination}
 use Rattle.atom_normal.proofs.Stepped.{ok_map}
 use Rattle.test_points.proofs.Ended.{passed_over}
 use Rattle.cooper_periods.proofs.Congruences.{IsMultiplied, multiplied, exact_tree, exact_within, exact_refused, form_refused}

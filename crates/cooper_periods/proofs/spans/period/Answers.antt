@@ -1,5 +1,5 @@
 use Rattle.std.proofs.Common.{refl}
-use Rattle.linear_forms.proofs.Places.{at_none}
+use Rattle.atom_normal.proofs.FromLinearForms.{at_none}
 use Rattle.cooper_periods.proofs.Steps.{past_scale}
 use Rattle.cooper_periods.proofs.spans.period.Goals as goal
 

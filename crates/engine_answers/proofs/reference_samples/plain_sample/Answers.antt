@@ -12,7 +12,7 @@ use Rattle.linear_forms.specs.Values.{point_of}
 use Rattle.sample_reference.specs.Seen.{sample_of}
 use Rattle.formula_tree.specs.Trees.{tree_of}
 use Rattle.formula_store.specs.Nodes.{tree}
-use Rattle.plain_engine.proofs.Seen.{stops_along}
+use Rattle.block_scheduler.proofs.FromPlainEngine.{stops_along}
 use Rattle.block_scheduler.proofs.Stops.{err_map}
 use Rattle.engine_answers.proofs.Sampled.{true_along, sample_along, paid_stops}
 use Rattle.engine_answers.proofs.reference_samples.plain_sample.Goals as goal

@@ -3,7 +3,7 @@ use Rattle.formula_meaning.specs.Some.{EachOf}
 use Rattle.linear_forms.specs.Values.{point_of}
 use Rattle.formula_store.specs.Nodes.{tree}
 use Rattle.formula_store.specs.Truths.{Tells}
-use Rattle.case_trees.specs.declared.case_tree.Case.{Case}
+use Rattle.block_scheduler.specs.FromCaseTrees.{Case}
 use Rattle.engine_answers.proofs.truths.true_case.Given as goal
 
 -- no guard so far is true, where no number has passed the limit

@@ -1,7 +1,7 @@
 use Rattle.std.proofs.Common.{rules, ◌+◌, ◌≡◌, ◌<◌, ◌≤◌, List, take, length, get_or, map, subst, sym, ap, ◌∙◌, arith, length-set, vec_len}
 use Rattle.std.proofs.lemmas.List.{take_all}
 use Rattle.std.proofs.lemmas.Result.{IfOk-weaker}
-use Rattle.linear_forms.proofs.Lookups.{on_ok}
+use Rattle.formula_tree.proofs.FromLinearForms.{on_ok}
 use Rattle.std.specs.List.{AllByRecursion}
 use Rattle.formula_tree.specs.Makers.{AreMade}
 use Rattle.formula_tree.proofs.Shapes.{listed_all}

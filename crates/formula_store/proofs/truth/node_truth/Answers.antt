@@ -5,7 +5,7 @@ use Rattle.formula_tree.specs.declared.shape.Shape.{Shape}
 use Rattle.formula_tree.specs.declared.shape.Shape.TheVariants as shape
 use Rattle.formula_tree.specs.Shapes.{AllIds, tree_over}
 use Rattle.formula_tree.proofs.Shapes.{all_ids_map}
-use Rattle.linear_forms.specs.Values.{point_of}
+use Rattle.formula_tree.specs.FromLinearForms.{point_of}
 use Rattle.formula_store.specs.declared.id.FormulaId.{FormulaId}
 use Rattle.formula_store.specs.Nodes.{tree}
 use Rattle.formula_store.proofs.Told.{all_tell, some_tell, not_tells, impl_tells, repl_tells}

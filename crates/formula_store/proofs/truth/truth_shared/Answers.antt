@@ -3,7 +3,7 @@ use Rattle.std.proofs.lemmas.List.{take_all}
 use Rattle.std.specs.List.{AllByRecursion}
 use Rattle.formula_tree.specs.declared.shape.Shape.{Shape}
 use Rattle.formula_tree.proofs.Shapes.{listed_all}
-use Rattle.linear_forms.specs.Values.{point_of}
+use Rattle.formula_tree.specs.FromLinearForms.{point_of}
 use Rattle.formula_store.specs.declared.id.FormulaId.{FormulaId}
 use Rattle.formula_store.specs.Nodes.{tree}
 use Rattle.formula_store.specs.Order.{IsOrder, Within, WithinSome, itself}

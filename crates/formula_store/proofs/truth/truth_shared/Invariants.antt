@@ -1,6 +1,6 @@
 use Rattle.std.proofs.Common.{◌≡◌, ◌+◌, false, take, length, get_or}
 use Rattle.std.specs.List.{AllByRecursion}
-use Rattle.linear_forms.specs.Values.{point_of}
+use Rattle.formula_tree.specs.FromLinearForms.{point_of}
 use Rattle.formula_store.specs.declared.id.FormulaId.{FormulaId}
 use Rattle.formula_store.specs.Nodes.{tree}
 use Rattle.formula_store.specs.Truths.{Tells}

@@ -13,7 +13,7 @@ use Rattle.formula_store.specs.Nodes.{tree, IsId}
 use Rattle.formula_store.specs.Tables.{same_id}
 use Rattle.formula_store.proofs.Makes.{keeps_then}
 use Rattle.formula_store.proofs.Marked.{all_at}
-use Rattle.theory_simplifier.proofs.Passing.{on_ok}
+use Rattle.branch_rounds.proofs.FromTheorySimplifier.{on_ok}
 use Rattle.branch_rounds.specs.declared.work.Work.{Work}
 use Rattle.branch_rounds.specs.Branches.{numbers}
 use Rattle.inner_blocks.specs.Assumed.{lacking}

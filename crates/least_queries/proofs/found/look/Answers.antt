@@ -3,7 +3,7 @@ use Rattle.exact_numbers.specs.Fraction.{frac_of}
 use Rattle.formula_meaning.specs.Tree.{Tree}
 use Rattle.formula_store.specs.Nodes.{tree}
 use Rattle.least_theory.specs.LeastFraction.{IsLeastFraction}
-use Rattle.session_state.proofs.StateLemmas.{keeps_then}
+use Rattle.problem_reading.proofs.FromSessionState.{keeps_then}
 use Rattle.least_queries.proofs.FoundSteps.{least_found}
 use Rattle.least_queries.proofs.found.look.Goals as goal
 

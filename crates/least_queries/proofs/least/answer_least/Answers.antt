@@ -5,10 +5,10 @@ use Rattle.qe_syntax.specs.Proper.{IsProperFormula}
 use Rattle.qe_syntax.specs.Trees.{formulas_of}
 use Rattle.qe_syntax.specs.CodeTrees.{term_tree, formula_tree}
 use Rattle.statement_syntax.specs.Statements.{Least}
-use Rattle.session_meaning.specs.Meaning.{meaning, numbered}
-use Rattle.session_state.specs.Keeping.{state_of}
-use Rattle.session_state.proofs.StateLemmas.{grows_then}
-use Rattle.command_tools.specs.Replies.{use_of, Refuses}
+use Rattle.problem_reading.specs.FromSessionMeaning.{meaning, numbered}
+use Rattle.problem_reading.specs.FromSessionState.{state_of}
+use Rattle.problem_reading.proofs.FromSessionState.{grows_then}
+use Rattle.problem_reading.specs.FromCommandTools.{use_of, Refuses}
 use Rattle.least_queries.specs.Found.{found_of, IsTargetFound, FoundStop}
 use Rattle.least_queries.proofs.ProblemSteps.{problem_proper}
 use Rattle.least_queries.proofs.LeastSteps.{unread_refuses, asked, on_err, normal_there, weak_there, some_there, stop_refuses, within_there, short_there, line_told, session_final, state_final, back_final}

@@ -10,8 +10,8 @@ use Rattle.qe_syntax.proofs.TreeEquations.{tree-Name}
 use Rattle.redlog_reader.specs.Grammar.{quantified_names}
 use Rattle.formula_tree.specs.Names.{with_name}
 use Rattle.formula_tree.specs.Resolving.{all_variables, variables_of}
-use Rattle.session_meaning.specs.Targets.{target_name, problem_names}
-use Rattle.session_state.proofs.VariableLemmas.{AllVariables}
+use Rattle.problem_reading.specs.FromSessionMeaning.{target_name, problem_names}
+use Rattle.problem_reading.proofs.FromSessionState.{AllVariables}
 use Rattle.least_queries.proofs.ProblemSteps.{weak_items, names_variables, names_split}
 use Rattle.least_queries.proofs.problem.problem.Goals as goal
 

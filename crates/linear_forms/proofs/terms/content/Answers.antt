@@ -1,7 +1,6 @@
 use Rattle.std.proofs.Common.{take_all, ◌≡◌, pos, ℤ, rules, arith, get_or, take}
 use Rattle.std.proofs.lemmas.Int.{ints, to_z-of_z}
-use Rattle.exact_numbers.proofs.Contents.{content_unique, content_is}
-use Rattle.exact_numbers.proofs.Casts.{fits}
+use Rattle.formula_meaning.proofs.FromExactNumbers.{content_unique, content_is, fits}
 use Rattle.linear_forms.specs.declared.form.VarId.{VarId}
 use Rattle.linear_forms.specs.Terms.{coefficients}
 use Rattle.linear_forms.specs.Linear.{terms_of}

@@ -2,7 +2,7 @@ use Rattle.std.proofs.Common.{rules, ◌≡◌, FitsSigned, List, ◌++◌, get_
 use Rattle.std.proofs.lemmas.List.{drop_all, append-nil}
 use Rattle.std.specs.Int.{w128, cast_unsigned}
 use Rattle.std.proofs.lemmas.Int.{to_z-of_z}
-use Rattle.exact_numbers.proofs.Casts.{fits, zero_bits}
+use Rattle.formula_meaning.proofs.FromExactNumbers.{fits, zero_bits}
 use Rattle.linear_forms.specs.declared.form.VarId.{VarId}
 use Rattle.linear_forms.specs.Linear.{terms_of}
 use Rattle.linear_forms.specs.Reduction.{residues}

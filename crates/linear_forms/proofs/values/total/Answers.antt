@@ -3,9 +3,8 @@ use Rattle.std.specs.Prelude.{◌*ℤ◌, ◌+ℤ◌}
 use Rattle.std.specs.Int.{w128}
 use Rattle.std.proofs.lemmas.List.{drop_all}
 use Rattle.std.proofs.lemmas.Int.{to_z-of_z}
-use Rattle.exact_numbers.specs.Limit.{checked}
-use Rattle.exact_numbers.proofs.Casts.{fits}
-use Rattle.exact_numbers.proofs.Limits.{formed_by}
+use Rattle.formula_meaning.specs.FromExactNumbers.{checked}
+use Rattle.formula_meaning.proofs.FromExactNumbers.{fits, formed_by}
 use Rattle.linear_forms.specs.declared.form.VarId.{VarId}
 use Rattle.linear_forms.specs.Linear.{term_of, terms_of}
 use Rattle.linear_forms.specs.Terms.{total_steps}

@@ -1,8 +1,8 @@
 use Rattle.std.proofs.Common.{rules, ◌≡◌, ◌++◌, ◌∷◌, [], List, map, sym, ap, ◌∙◌, append-nil}
 use Rattle.std.proofs.lemmas.List.{map-append}
 use Rattle.formula_meaning.specs.Atom as meant
-use Rattle.elimination_theory.specs.Atoms.{atoms_in}
-use Rattle.atom_normal.specs.Atoms.{atom_of}
+use Rattle.cooper_periods.specs.FromEliminationTheory.{atoms_in}
+use Rattle.cooper_periods.specs.FromAtomNormal.{atom_of}
 use Rattle.nnf_trees.specs.Nnfs.{nnf_of}
 use Rattle.nnf_trees.proofs.NnfEquations.{nnf-Constant, nnf-One}
 use Rattle.nnf_substitution.proofs.AtomsOnce.{atoms_in_constant}

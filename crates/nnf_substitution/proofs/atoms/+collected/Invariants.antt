@@ -1,8 +1,8 @@
 use Rattle.std.proofs.Common.{◌≡◌, ◌≤◌, ◌+◌, ◌*◌, ◌++◌, All, map, drop}
 use Rattle.formula_meaning.specs.Sizes.{nodes, all_nodes}
-use Rattle.elimination_theory.specs.Atoms.{atoms_in_all}
-use Rattle.atom_normal.specs.Atoms.{atom_of, IsWellFormed}
-use Rattle.formula_tree.specs.Trees.{members}
+use Rattle.cooper_periods.specs.FromEliminationTheory.{atoms_in_all}
+use Rattle.cooper_periods.specs.FromAtomNormal.{atom_of, IsWellFormed}
+use Rattle.nnf_trees.specs.FromFormulaTree.{members}
 use Rattle.nnf_trees.specs.Nnfs.{nnf_of, nnfs_of, AreProper}
 use Rattle.nnf_substitution.proofs.atoms.+collected.Given as goal
 

@@ -4,11 +4,10 @@ use Rattle.indexmap.specs.IndexSet.{insert_all}
 use Rattle.formula_meaning.specs.Same.{same_atom}
 use Rattle.formula_meaning.specs.Distinct.{distinct}
 use Rattle.formula_meaning.proofs.Same.{atom_same}
-use Rattle.elimination_theory.specs.Atoms.{atoms_in}
-use Rattle.atom_normal.specs.declared.atoms.Atom.{Atom}
-use Rattle.atom_normal.specs.Atoms.{atom_of, IsWellFormed}
+use Rattle.cooper_periods.specs.FromEliminationTheory.{atoms_in}
+use Rattle.cooper_periods.specs.FromAtomNormal.{Atom, atom_of, IsWellFormed}
 use Rattle.nnf_trees.specs.Nnfs.{nnf_of}
-use Rattle.test_points.proofs.DistinctLists.{inserted_is_distinct, each_inserted}
+use Rattle.cooper_periods.proofs.FromTestPoints.{inserted_is_distinct, each_inserted}
 use Rattle.nnf_substitution.proofs.AtomsOnce.{atom_eq, atoms_agree}
 use Rattle.nnf_substitution.proofs.atoms.distinct_atoms.Goals as goal
 

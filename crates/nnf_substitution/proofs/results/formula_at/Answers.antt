@@ -1,7 +1,7 @@
 use Rattle.std.proofs.Common.{◌≡◌}
-use Rattle.atom_normal.specs.Atoms.{context_of}
+use Rattle.cooper_periods.specs.FromAtomNormal.{context_of}
 use Rattle.nnf_trees.specs.Nnfs.{nnf_of}
-use Rattle.test_points.specs.Points.{place_of}
+use Rattle.cooper_periods.specs.FromTestPoints.{place_of}
 use Rattle.nnf_substitution.specs.Placed.{IsResultAt, point_within, with_guard}
 use Rattle.nnf_substitution.proofs.ResultLaws.{in_fields, in_integers, fails_at, memory_alone}
 use Rattle.nnf_substitution.proofs.results.formula_at.Goals as goal

@@ -1,17 +1,14 @@
 use Rattle.std.proofs.Common.{◌≡◌, ◌+◌, List, map, drop, sym, ap, ◌∙◌, subst}
 use Rattle.std.proofs.lemmas.List.{at_drop_all}
 use Rattle.formula_meaning.specs.Fold.{append}
-use Rattle.elimination_theory.specs.Steps.{results}
-use Rattle.elimination_theory.specs.StepTheorems.{trees_left}
+use Rattle.cooper_periods.specs.FromEliminationTheory.{results, trees_left}
 use Rattle.formula_meaning.specs.Limits.{each}
-use Rattle.linear_forms.specs.declared.form.VarId.{VarId}
-use Rattle.atom_normal.specs.Atoms.{context_of}
-use Rattle.atom_normal.specs.NormalForm.{normal_atom}
+use Rattle.cooper_periods.specs.FromLinearForms.{VarId}
+use Rattle.cooper_periods.specs.FromAtomNormal.{context_of, normal_atom}
 use Rattle.nnf_trees.specs.Nnfs.{nnf_of}
 use Rattle.nnf_trees.proofs.Counting.{drop_at}
 use Rattle.nnf_trees.proofs.Pieces.{Formulas_of, append_none}
-use Rattle.test_points.specs.declared.points.TestPoint.{TestPoint}
-use Rattle.test_points.specs.Points.{place_of, IsPointOf}
+use Rattle.cooper_periods.specs.FromTestPoints.{TestPoint, place_of, IsPointOf}
 use Rattle.nnf_substitution.specs.Placed.{IsResultAt, point_within}
 use Rattle.nnf_substitution.proofs.PutLaws.{and_known}
 use Rattle.nnf_substitution.proofs.ResultLaws.{one_result_more}

@@ -1,13 +1,11 @@
 use Rattle.std.proofs.Common.{◌≡◌, map, drop}
 use Rattle.formula_meaning.specs.Fold.{append}
-use Rattle.elimination_theory.specs.Steps.{results}
-use Rattle.elimination_theory.specs.StepTheorems.{trees_left}
+use Rattle.cooper_periods.specs.FromEliminationTheory.{results, trees_left}
 use Rattle.formula_meaning.specs.Limits.{each}
-use Rattle.atom_normal.specs.Atoms.{context_of}
-use Rattle.atom_normal.specs.NormalForm.{normal_atom}
-use Rattle.formula_tree.specs.Trees.{members}
+use Rattle.cooper_periods.specs.FromAtomNormal.{context_of, normal_atom}
+use Rattle.nnf_trees.specs.FromFormulaTree.{members}
 use Rattle.nnf_trees.specs.Nnfs.{nnf_of, AreProper}
-use Rattle.test_points.specs.Points.{place_of}
+use Rattle.cooper_periods.specs.FromTestPoints.{place_of}
 use Rattle.nnf_substitution.specs.Placed.{point_within}
 use Rattle.nnf_substitution.proofs.results.formulas_at.Given as goal
 

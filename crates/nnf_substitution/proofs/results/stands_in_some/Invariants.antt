@@ -1,6 +1,6 @@
 use Rattle.std.proofs.Common.{◌≡◌, map, drop}
-use Rattle.elimination_reference.specs.Reference.{stands_among}
-use Rattle.atom_normal.specs.Atoms.{atom_of}
+use Rattle.cooper_periods.specs.FromEliminationReference.{stands_among}
+use Rattle.cooper_periods.specs.FromAtomNormal.{atom_of}
 use Rattle.nnf_substitution.proofs.results.stands_in_some.Given as goal
 
 abbrev pub invariant-loop-atom : goal.invariant-loop-atom

@@ -5,12 +5,12 @@ use Rattle.formula_meaning.specs.Every.{EveryOf}
 use Rattle.formula_meaning.specs.Fold.{append}
 use Rattle.formula_meaning.specs.Sizes.{nodes, all_nodes}
 use Rattle.formula_meaning.specs.Equivalence.{InContext}
-use Rattle.atom_normal.specs.Atoms.{context_of}
+use Rattle.cooper_periods.specs.FromAtomNormal.{context_of}
 use Rattle.nnf_trees.specs.declared.nnf.Nnf.{Nnf}
 use Rattle.nnf_trees.specs.Nnfs.{nnf_of, nnfs_of, AreProper}
 use Rattle.nnf_trees.proofs.Counting.{drop_at}
 use Rattle.nnf_trees.proofs.Pieces.{Formulas_of, itself_proper}
-use Rattle.test_points.specs.Points.{place_of}
+use Rattle.cooper_periods.specs.FromTestPoints.{place_of}
 use Rattle.nnf_substitution.specs.Placed.{put_all, all_within, each_within}
 use Rattle.nnf_substitution.proofs.PutLaws.{one_put, all_put, also_within, and_known}
 use Rattle.nnf_substitution.proofs.substitution.+placed.Goals as goal

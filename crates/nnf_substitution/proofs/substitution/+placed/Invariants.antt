@@ -3,10 +3,10 @@ use Rattle.formula_meaning.specs.TheoryAtoms.{AtomIn}
 use Rattle.formula_meaning.specs.Every.{EveryOf}
 use Rattle.formula_meaning.specs.Fold.{append}
 use Rattle.formula_meaning.specs.Sizes.{nodes, all_nodes}
-use Rattle.atom_normal.specs.Atoms.{context_of}
-use Rattle.formula_tree.specs.Trees.{members}
+use Rattle.cooper_periods.specs.FromAtomNormal.{context_of}
+use Rattle.nnf_trees.specs.FromFormulaTree.{members}
 use Rattle.nnf_trees.specs.Nnfs.{nnf_of, nnfs_of, AreProper}
-use Rattle.test_points.specs.Points.{place_of}
+use Rattle.cooper_periods.specs.FromTestPoints.{place_of}
 use Rattle.nnf_substitution.specs.Placed.{put_all, each_within}
 use Rattle.nnf_substitution.proofs.substitution.+placed.Given as goal
 

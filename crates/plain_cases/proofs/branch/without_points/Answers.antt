@@ -2,7 +2,7 @@ use Rattle.std.proofs.Common.{rules, ◌≡◌, List, [], ◌∷◌, ◌++◌, A
 use Rattle.std.proofs.lemmas.List.Elements.{All-from_recursion}
 use Rattle.nnf_trees.specs.declared.nnf.Nnf.{Nnf}
 use Rattle.nnf_trees.specs.Nnfs.{AreProper}
-use Rattle.test_points.specs.Points.{IsTestPoint}
+use Rattle.plain_engine.specs.FromTestPoints.{IsTestPoint}
 use Rattle.plain_cases.specs.declared.branch.Leaf.{Leaf}
 use Rattle.plain_cases.proofs.Standing.{AreLeavesBefore, leaves_go_on, sound_pushed}
 use Rattle.plain_cases.proofs.branch.without_points.Goals as goal

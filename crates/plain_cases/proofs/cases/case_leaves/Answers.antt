@@ -1,9 +1,8 @@
 use Rattle.std.proofs.Common.{rules, ◌≡◌, false, [], List, map, sym, ap, ◌∙◌, subst}
 use Rattle.formula_meaning.specs.Sizes.{nodes}
 use Rattle.atom_normal.specs.Atoms.{context_of}
-use Rattle.elimination_reference.specs.Cases.{case_sign}
-use Rattle.elimination_reference.specs.Reference.{branches, normal_tree}
-use Rattle.formula_tree.specs.Trees.{tree_of}
+use Rattle.plain_engine.specs.FromEliminationReference.{case_sign, branches, normal_tree}
+use Rattle.nnf_trees.specs.FromFormulaTree.{tree_of}
 use Rattle.linear_forms.specs.declared.form.VarId.{VarId}
 use Rattle.nnf_trees.specs.Nnfs.{nnf_of}
 use Rattle.nnf_trees.specs.Forms.{form}

@@ -4,12 +4,9 @@ use Rattle.formula_meaning.specs.Measured.{done}
 use Rattle.formula_meaning.specs.Giving.{Gives}
 use Rattle.formula_meaning.specs.Some.{EachOf}
 use Rattle.formula_meaning.specs.Tree.{IsFree}
-use Rattle.elimination_reference.specs.Cases.{Case}
-use Rattle.elimination_reference.specs.Theorems.{AreExactCases}
-use Rattle.elimination_reference.specs.Over.{AreAnswersOver}
-use Rattle.elimination_reference.proofs.CasesExact.{cases_exact}
-use Rattle.elimination_reference.proofs.Over.{cases_have_answers}
-use Rattle.formula_tree.specs.Trees.{tree_of}
+use Rattle.plain_engine.specs.FromEliminationReference.{Case, AreExactCases, AreAnswersOver}
+use Rattle.plain_engine.proofs.FromEliminationReference.{cases_exact, cases_have_answers}
+use Rattle.nnf_trees.specs.FromFormulaTree.{tree_of}
 use Rattle.plain_cases.proofs.cases.cases_plain.Goals as goal
 
 pub returns-clause-cases : goal.returns-clause-cases

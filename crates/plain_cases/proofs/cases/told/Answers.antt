@@ -1,5 +1,5 @@
 use Rattle.std.proofs.Common.{rules, ◌≡◌, List, [], ◌∷◌, ◌++◌, map, length, refl, subst}
-use Rattle.formula_tree.specs.Trees.{tree_of}
+use Rattle.nnf_trees.specs.FromFormulaTree.{tree_of}
 use Rattle.nnf_trees.specs.Nnfs.{nnf_of}
 use Rattle.plain_cases.specs.declared.branch.Leaf.{Leaf}
 use Rattle.plain_cases.specs.declared.cases.PrintedCase.{PrintedCase}

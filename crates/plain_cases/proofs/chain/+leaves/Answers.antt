@@ -4,7 +4,7 @@ use Rattle.formula_meaning.specs.Shape.{is_in, quantified}
 use Rattle.formula_meaning.specs.Sizes.{nodes}
 use Rattle.atom_normal.specs.Atoms.{context_of, IsWellFormed}
 use Rattle.formula_meaning.specs.Measured.{then_of}
-use Rattle.elimination_reference.specs.Reference.{branches, branch_trees, steps}
+use Rattle.plain_engine.specs.FromEliminationReference.{branches, branch_trees, steps}
 use Rattle.linear_forms.specs.declared.form.VarId.{VarId}
 use Rattle.nnf_trees.specs.declared.nnf.Nnf.{Nnf}
 use Rattle.nnf_trees.specs.Nnfs.{nnf_of, nnf_atoms, IsProper}

@@ -1,7 +1,7 @@
 use Rattle.std.proofs.Common.{◌≡◌, ap, ◌∙◌}
 use Rattle.atom_normal.specs.Atoms.{context_of}
 use Rattle.formula_meaning.specs.Measured.{done, then_of}
-use Rattle.elimination_reference.specs.Reference.{branches}
+use Rattle.plain_engine.specs.FromEliminationReference.{branches}
 use Rattle.nnf_trees.specs.Nnfs.{nnf_of}
 use Rattle.plain_engine.specs.Told.{numbers, formulas_of, all_bare}
 use Rattle.plain_cases.proofs.Standing.{tells_of}

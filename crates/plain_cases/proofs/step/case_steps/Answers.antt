@@ -1,6 +1,6 @@
 use Rattle.std.proofs.Common.{rules, ◌≡◌, List, [], ◌∷◌, ◌++◌, length, sym, subst}
 use Rattle.atom_normal.specs.Atoms.{context_of}
-use Rattle.elimination_reference.specs.Reference.{steps}
+use Rattle.plain_engine.specs.FromEliminationReference.{steps}
 use Rattle.plain_cases.specs.declared.branch.Leaf.{Leaf}
 use Rattle.plain_cases.specs.Stand.{AreSound, AreInside}
 use Rattle.plain_cases.proofs.Standing.{sound_appended, nothing}

@@ -1,6 +1,6 @@
 use Rattle.std.proofs.Common.{List}
 use Rattle.atom_normal.specs.Atoms.{context_of}
-use Rattle.elimination_reference.specs.Reference.{Branch, steps}
+use Rattle.plain_engine.specs.FromEliminationReference.{Branch, steps}
 use Rattle.plain_cases.specs.Stand.{StandFor, AreSound, AreInside}
 use Rattle.plain_cases.proofs.Stepping.{IsOnTheWay}
 use Rattle.plain_cases.proofs.step.case_steps.Given as goal

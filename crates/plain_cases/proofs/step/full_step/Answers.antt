@@ -5,13 +5,12 @@ use Rattle.elimination_theory.specs.declared.side.Side.TheVariants.{Lower}
 use Rattle.elimination_theory.specs.Atoms.{atoms_of}
 use Rattle.elimination_theory.specs.BothTheories.{IsPlaceIn, test_points}
 use Rattle.formula_meaning.specs.Limits.{each}
-use Rattle.elimination_reference.specs.Limits.{step_within}
+use Rattle.plain_engine.specs.FromEliminationReference.{step_within, full_step}
 use Rattle.formula_meaning.specs.Measured.{done}
-use Rattle.elimination_reference.specs.Reference.{full_step}
 use Rattle.atom_normal.specs.Atoms.{context_of}
 use Rattle.nnf_trees.specs.Nnfs.{nnf_of}
-use Rattle.nnf_substitution.specs.Placed.{point_within}
-use Rattle.test_points.specs.Points.{place_of}
+use Rattle.plain_engine.specs.FromNnfSubstitution.{point_within}
+use Rattle.plain_engine.specs.FromTestPoints.{place_of}
 use Rattle.plain_engine.specs.Paid.{paid_for}
 use Rattle.plain_engine.proofs.Paying.{all_places}
 use Rattle.plain_cases.specs.Stand.{StandFor, results_at}

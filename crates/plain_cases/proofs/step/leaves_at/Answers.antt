@@ -5,9 +5,8 @@ use Rattle.atom_normal.specs.Atoms.{context_of}
 use Rattle.linear_forms.specs.declared.form.VarId.{VarId}
 use Rattle.nnf_trees.specs.Nnfs.{nnf_of}
 use Rattle.nnf_trees.proofs.Counting.{drop_at}
-use Rattle.nnf_substitution.specs.Placed.{IsResultAt}
-use Rattle.test_points.specs.declared.points.TestPoint.{TestPoint}
-use Rattle.test_points.specs.Points.{place_of, IsPointOf}
+use Rattle.plain_engine.specs.FromNnfSubstitution.{IsResultAt}
+use Rattle.plain_engine.specs.FromTestPoints.{TestPoint, place_of, IsPointOf}
 use Rattle.plain_cases.specs.declared.branch.Leaf.{Leaf}
 use Rattle.plain_cases.specs.Stand.{AreSound}
 use Rattle.plain_cases.proofs.Standing.{sound_pushed, points_more}

@@ -1,11 +1,11 @@
 use Rattle.std.proofs.Common.{rules, ◌≡◌, List, ◌∷◌, [], true, false, map, sym, ap, ◌∙◌, subst}
 use Rattle.formula_meaning.specs.Tree.{Tree}
 use Rattle.elimination_theory.specs.Atoms.{atoms_in, atoms_of}
-use Rattle.elimination_reference.specs.Reference.{stands_among, kept_at_zero, one_step, full_step}
+use Rattle.plain_engine.specs.FromEliminationReference.{stands_among, kept_at_zero, one_step, full_step}
 use Rattle.atom_normal.specs.declared.atoms.Atom.{Atom}
 use Rattle.atom_normal.specs.Atoms.{atom_of, context_of}
 use Rattle.nnf_trees.specs.Nnfs.{nnf_of}
-use Rattle.nnf_substitution.proofs.ResultLaws.{stands_once}
+use Rattle.plain_engine.proofs.FromNnfSubstitution.{stands_once}
 use Rattle.plain_cases.proofs.Standing.{tells_along, tells_of}
 use Rattle.plain_cases.proofs.Stepping.{one_full, one_kept}
 use Rattle.plain_cases.proofs.step.one_step.Goals as goal

@@ -10,13 +10,13 @@ use Rattle.formula_meaning.specs.Shape.{is_in}
 use Rattle.formula_meaning.specs.Sizes.{nodes, all_nodes}
 use Rattle.atom_normal.specs.Atoms.{context_of, atom_of}
 use Rattle.formula_meaning.specs.Measured.{done}
-use Rattle.elimination_reference.specs.Reference.{branches, members}
+use Rattle.nnf_substitution.specs.FromEliminationReference.{branches, members}
 use Rattle.nnf_trees.specs.declared.nnf.Nnf.{Nnf}
 use Rattle.nnf_trees.specs.Nnfs.{nnf_of, nnfs_of, AreProper}
 use Rattle.nnf_trees.proofs.Counting.{drop_at}
 use Rattle.nnf_trees.proofs.Pieces.{itself_proper, lists_joined}
 use Rattle.nnf_trees.proofs.NnfEquations.{nnf-Constant, nnf-One, nnf-Joined}
-use Rattle.linear_forms.specs.declared.form.VarId.{VarId}
+use Rattle.atom_normal.specs.FromLinearForms.{VarId}
 use Rattle.formula_meaning.specs.declared.junction.Junction.{Junction}
 use Rattle.plain_engine.specs.Ready.{AreReady}
 use Rattle.plain_engine.specs.Told.{closed_branches, Told, seen, formulas_of, numbers, prefixed, only, joined_after, is_ex}

@@ -1,7 +1,7 @@
 use Rattle.std.proofs.Common.{◌≡◌, ◌≤◌, ◌+◌, ◌*◌, drop}
 use Rattle.formula_meaning.specs.Sizes.{nodes, all_nodes}
 use Rattle.atom_normal.specs.Atoms.{context_of}
-use Rattle.elimination_reference.specs.Reference.{members}
+use Rattle.nnf_substitution.specs.FromEliminationReference.{members}
 use Rattle.nnf_trees.specs.Nnfs.{nnf_of, nnfs_of, AreProper}
 use Rattle.plain_engine.specs.Ready.{AreReady}
 use Rattle.plain_engine.specs.Told.{formulas_of, prefixed}

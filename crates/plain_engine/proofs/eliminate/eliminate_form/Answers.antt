@@ -4,10 +4,9 @@ use Rattle.formula_meaning.specs.declared.junction.Junction.TheVariants.{Disjunc
 use Rattle.formula_meaning.specs.Sizes.{nodes}
 use Rattle.atom_normal.specs.Atoms.{context_of}
 use Rattle.formula_meaning.specs.Measured.{done}
-use Rattle.elimination_reference.specs.Reference.{branches, normal_tree, reference}
-use Rattle.elimination_reference.specs.Theorems.{IsAnswerTo}
-use Rattle.formula_tree.specs.Trees.{tree_of}
-use Rattle.linear_forms.specs.declared.form.VarId.{VarId}
+use Rattle.nnf_substitution.specs.FromEliminationReference.{branches, normal_tree, reference, IsAnswerTo}
+use Rattle.nnf_trees.specs.FromFormulaTree.{tree_of}
+use Rattle.atom_normal.specs.FromLinearForms.{VarId}
 use Rattle.nnf_trees.specs.declared.nnf.Nnf.{Nnf}
 use Rattle.nnf_trees.specs.Nnfs.{nnf_of}
 use Rattle.nnf_trees.specs.Forms.{form}

@@ -2,8 +2,8 @@ use Rattle.std.proofs.Common.{◌≤◌, ◌∙◌, sym, ap, subst}
 use Rattle.formula_meaning.specs.Sizes.{nodes}
 use Rattle.atom_normal.specs.Atoms.{context_of}
 use Rattle.formula_meaning.specs.Measured.{done}
-use Rattle.elimination_reference.specs.Theorems.{IsAnswerTo}
-use Rattle.formula_tree.specs.Trees.{tree_of}
+use Rattle.nnf_substitution.specs.FromEliminationReference.{IsAnswerTo}
+use Rattle.nnf_trees.specs.FromFormulaTree.{tree_of}
 use Rattle.plain_engine.proofs.eliminate.eliminate_plain.Goals as goal
 
 pub returns-clause-answer : goal.returns-clause-answer

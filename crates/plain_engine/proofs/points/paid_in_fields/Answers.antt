@@ -1,13 +1,11 @@
 use Rattle.std.proofs.Common.{rules, arith, ◌≡◌, ◌<◌, ◌^◌, ◌+◌, ◌*◌, All, map, length, Some, sym, ap, ap₂, ◌∙◌}
 use Rattle.std.proofs.lemmas.List.{length-map}
 use Rattle.formula_meaning.specs.Sizes.{nodes}
-use Rattle.elimination_theory.specs.declared.side.Side.TheVariants.{Lower}
-use Rattle.elimination_theory.specs.Atoms.{atoms_of}
-use Rattle.elimination_theory.specs.FieldsPoints.{field_points, field_points_of}
+use Rattle.nnf_substitution.specs.FromEliminationTheory.{Lower, atoms_of, field_points, field_points_of}
 use Rattle.atom_normal.specs.Atoms.{atom_of}
 use Rattle.nnf_trees.specs.Forms.{limited}
 use Rattle.nnf_trees.specs.Nnfs.{nnf_of}
-use Rattle.test_points.specs.Points.{place_of, IsPointOf}
+use Rattle.nnf_substitution.specs.FromTestPoints.{place_of, IsPointOf}
 use Rattle.plain_engine.specs.Paid.{charge_of}
 use Rattle.plain_engine.proofs.Paying.{small, some_limited, charge_limited}
 use Rattle.plain_engine.proofs.points.paid_in_fields.Goals as goal

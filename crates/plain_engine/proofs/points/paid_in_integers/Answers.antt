@@ -4,24 +4,21 @@ use Rattle.std.specs.Option.{MatchOption, SomeIff}
 use Rattle.atom_normal.specs.Atoms.{atom_of}
 use Rattle.formula_meaning.specs.Atom.{Atom}
 use Rattle.formula_meaning.specs.Tree.{Tree}
-use Rattle.elimination_reference.specs.Reference.{full_step}
+use Rattle.nnf_substitution.specs.FromEliminationReference.{full_step, atom_within, span_within}
 use Rattle.plain_engine.specs.declared.measured.Measured.{Measured}
 use Rattle.plain_engine.specs.declared.measured.Measured.TheVariants as measured
 use Rattle.std.specs.Prelude.{List, Option}
-use Rattle.exact_numbers.specs.Limit.{InLimit}
+use Rattle.formula_meaning.specs.FromExactNumbers.{InLimit}
 use Rattle.formula_meaning.specs.Context.{Integers}
 use Rattle.formula_meaning.specs.Sizes.{nodes}
-use Rattle.elimination_theory.specs.declared.side.Side.TheVariants.{Lower}
-use Rattle.elimination_theory.specs.Atoms.{atoms_of}
-use Rattle.elimination_theory.proofs.StandOnce.{points_once}
+use Rattle.nnf_substitution.specs.FromEliminationTheory.{Lower, atoms_of, own_span, integer_count, integer_count_of, integer_points_of}
+use Rattle.nnf_substitution.proofs.FromEliminationTheory.{points_once}
 use Rattle.formula_meaning.specs.StandsOnce.{StandsOnce}
-use Rattle.elimination_theory.specs.IntegersPoints.{own_span, integer_count, integer_count_of, integer_points_of}
 use Rattle.formula_meaning.specs.Limits.{each, place_within}
-use Rattle.elimination_reference.specs.Limits.{atom_within, span_within}
 use Rattle.formula_meaning.specs.Measured.{done, pay}
 use Rattle.nnf_trees.specs.Forms.{limited}
 use Rattle.nnf_trees.specs.Nnfs.{nnf_of}
-use Rattle.test_points.specs.declared.error.PointError.TheVariants as error
+use Rattle.nnf_substitution.specs.FromTestPoints.point_error_variants as error
 use Rattle.plain_engine.specs.Told.{StopsWith, seen, bare}
 use Rattle.plain_engine.specs.Paid.{charge_of, paid_for}
 use Rattle.plain_engine.proofs.Seen.{stops_along}

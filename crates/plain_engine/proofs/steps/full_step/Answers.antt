@@ -1,17 +1,13 @@
 use Rattle.std.proofs.Common.{rules, ◌≡◌, List, All, true, map, sym, ap, ◌∙◌, subst}
-use Rattle.elimination_theory.specs.declared.side.Side.TheVariants.{Lower}
-use Rattle.elimination_theory.specs.Atoms.{atoms_of}
-use Rattle.elimination_theory.specs.BothTheories.{IsPlaceIn, test_points}
-use Rattle.elimination_theory.specs.Steps.{results}
-use Rattle.elimination_theory.specs.StepTheorems.{trees_left}
+use Rattle.nnf_substitution.specs.FromEliminationTheory.{Lower, atoms_of, IsPlaceIn, test_points, results, trees_left}
 use Rattle.formula_meaning.specs.Limits.{each}
-use Rattle.elimination_reference.specs.Limits.{step_within}
+use Rattle.nnf_substitution.specs.FromEliminationReference.{step_within}
 use Rattle.formula_meaning.specs.Measured.{done}
 use Rattle.atom_normal.specs.Atoms.{context_of}
 use Rattle.atom_normal.specs.NormalForm.{normal_atom}
 use Rattle.nnf_trees.specs.Nnfs.{nnf_of}
 use Rattle.nnf_substitution.specs.Placed.{point_within}
-use Rattle.test_points.specs.Points.{place_of}
+use Rattle.nnf_substitution.specs.FromTestPoints.{place_of}
 use Rattle.plain_engine.proofs.Paying.{all_places, left_after, numbers_stop, fails_told}
 use Rattle.plain_engine.proofs.steps.full_step.Goals as goal
 

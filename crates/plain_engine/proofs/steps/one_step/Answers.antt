@@ -1,10 +1,10 @@
 use Rattle.std.proofs.Common.{rules, ◌≡◌, List, true, false, map, sym, ap, ◌∙◌, subst}
 use Rattle.std.specs.declared.vec.Vec.{Vec}
 use Rattle.std.specs.declared.alloc.Global.{Global}
-use Rattle.elimination_theory.specs.Atoms.{atoms_in, atoms_of}
+use Rattle.nnf_substitution.specs.FromEliminationTheory.{atoms_in, atoms_of}
 use Rattle.atom_normal.specs.declared.atoms.Atom.{Atom}
 use Rattle.atom_normal.specs.Atoms.{atom_of, context_of}
-use Rattle.elimination_reference.specs.Reference.{stands_among}
+use Rattle.nnf_substitution.specs.FromEliminationReference.{stands_among}
 use Rattle.nnf_substitution.proofs.ResultLaws.{stands_once}
 use Rattle.nnf_trees.specs.declared.nnf.Nnf.{Nnf}
 use Rattle.nnf_trees.specs.Nnfs.{nnf_of}

@@ -4,7 +4,7 @@ use Rattle.formula_meaning.specs.Every.{EveryOf}
 use Rattle.formula_meaning.specs.Fold.{append}
 use Rattle.atom_normal.specs.Atoms.{context_of}
 use Rattle.formula_meaning.specs.Measured.{done}
-use Rattle.elimination_reference.specs.Reference.{steps}
+use Rattle.nnf_substitution.specs.FromEliminationReference.{steps}
 use Rattle.nnf_trees.specs.declared.nnf.Nnf.{Nnf}
 use Rattle.nnf_trees.specs.Nnfs.{AreProper, nnf_of}
 use Rattle.nnf_trees.proofs.Pieces.{empty, members_proper, lists_joined}

@@ -2,7 +2,7 @@ use Rattle.std.proofs.Common.{◌≡◌}
 use Rattle.formula_meaning.specs.Every.{EveryOf}
 use Rattle.formula_meaning.specs.TheoryAtoms.{AtomIn}
 use Rattle.atom_normal.specs.Atoms.{context_of}
-use Rattle.elimination_reference.specs.Reference.{steps}
+use Rattle.nnf_substitution.specs.FromEliminationReference.{steps}
 use Rattle.nnf_trees.specs.Nnfs.{AreProper}
 use Rattle.plain_engine.specs.Told.{seen, all_bare, formulas_of, prefixed}
 use Rattle.plain_engine.proofs.steps.steps.Given as goal

@@ -7,9 +7,9 @@ use Rattle.formula_tree.specs.Trees.{tree_of}
 use Rattle.linear_forms.specs.Values.{point_of}
 use Rattle.nnf_trees.specs.Forms.{form}
 use Rattle.nnf_trees.specs.Nnfs.{nnf_of}
-use Rattle.plain_engine.specs.Ready.{IsReady}
-use Rattle.plain_engine.proofs.Readiness.{form_ready}
-use Rattle.traced_cases.specs.Steps.{steps_seen}
+use Rattle.sample_values.specs.FromPlainEngine.{IsReady}
+use Rattle.sample_values.proofs.FromPlainEngine.{form_ready}
+use Rattle.sample_values.specs.FromTracedCases.{steps_seen}
 use Rattle.plain_samples.proofs.Choosing.{told_chosen, put_stays}
 use Rattle.plain_samples.proofs.Telling.{told_made, told_stops}
 use Rattle.plain_samples.proofs.chosen.chosen_steps.Goals as goal

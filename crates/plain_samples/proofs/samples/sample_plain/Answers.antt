@@ -6,7 +6,7 @@ use Rattle.sample_reference.specs.TrueSample.{closed_sample, IsTrueSample}
 use Rattle.sample_reference.specs.Seen.{sample_of}
 use Rattle.sample_reference.specs.Values.{origin}
 use Rattle.sample_reference.proofs.Closed.{closed_sample_true}
-use Rattle.traced_cases.specs.Steps.{steps_seen}
+use Rattle.sample_values.specs.FromTracedCases.{steps_seen}
 use Rattle.plain_samples.proofs.Telling.{told_made, told_gives, told_sample}
 use Rattle.plain_samples.proofs.samples.sample_plain.Goals as goal
 

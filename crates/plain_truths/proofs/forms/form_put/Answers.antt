@@ -4,7 +4,7 @@ use Rattle.std.proofs.lemmas.Int.{to_z-of_z}
 use Rattle.exact_numbers.specs.Limit.{InLimit}
 use Rattle.exact_numbers.proofs.Casts.{fits}
 use Rattle.formula_meaning.specs.Form.{Form, value}
-use Rattle.elimination_reference.specs.PutIn.{terms_kept}
+use Rattle.plain_engine.specs.FromEliminationReference.{terms_kept}
 use Rattle.linear_forms.specs.Terms.{value_steps}
 use Rattle.linear_forms.specs.Combinations.{IsLinear}
 use Rattle.linear_forms.specs.Values.{point_of, number_at}

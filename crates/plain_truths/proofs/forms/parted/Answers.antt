@@ -13,8 +13,8 @@ use Rattle.linear_forms.specs.Values.{point_of}
 use Rattle.linear_forms.specs.Linear.{terms_of}
 use Rattle.linear_forms.proofs.Peeling.{terms_of-push}
 use Rattle.linear_forms.specs.declared.form.VarId.{VarId}
-use Rattle.test_points.specs.declared.error.PointError.TheVariants as error
-use Rattle.nnf_substitution.specs.Placed.{Fails}
+use Rattle.plain_engine.specs.FromTestPoints.point_error_variants as error
+use Rattle.plain_engine.specs.FromNnfSubstitution.{Fails}
 use Rattle.plain_engine.specs.Told.{numbers}
 use Rattle.plain_truths.specs.Put.{around, kept_within}
 use Rattle.plain_truths.proofs.Parting.{IsPartedBefore, in_reverse, next_term, part_kept, part_out, part_refused, same_below, refused}

@@ -7,7 +7,7 @@ use Rattle.formula_meaning.specs.Fold.{append}
 use Rattle.formula_meaning.specs.Sizes.{nodes, all_nodes}
 use Rattle.formula_meaning.specs.Tree.{Tree}
 use Rattle.formula_meaning.specs.Equivalence.{InContext}
-use Rattle.elimination_reference.specs.PutIn.{trees_put, tree_put_within, trees_put_within}
+use Rattle.plain_engine.specs.FromEliminationReference.{trees_put, tree_put_within, trees_put_within}
 use Rattle.atom_normal.specs.Atoms.{context_of}
 use Rattle.linear_forms.specs.declared.form.VarId.{VarId}
 use Rattle.linear_forms.specs.Values.{point_of}
@@ -17,8 +17,8 @@ use Rattle.nnf_trees.specs.Nnfs.{nnf_of, nnfs_of, AreProper, HasModulus}
 use Rattle.nnf_trees.proofs.Counting.{drop_at}
 use Rattle.nnf_trees.proofs.NnfEquations.{nnf-Quantified}
 use Rattle.nnf_trees.proofs.Pieces.{Formulas_of}
-use Rattle.nnf_substitution.specs.Placed.{Fails}
-use Rattle.nnf_substitution.proofs.PutLaws.{and_known}
+use Rattle.plain_engine.specs.FromNnfSubstitution.{Fails}
+use Rattle.plain_engine.proofs.FromNnfSubstitution.{and_known}
 use Rattle.plain_truths.specs.Put.{around, IsTreePut}
 use Rattle.plain_truths.proofs.Parting.{refused}
 use Rattle.plain_truths.proofs.TreePuts.{quantified_put, quantified_within, one_more_around, one_member_put, all_members_put, moduli_more}

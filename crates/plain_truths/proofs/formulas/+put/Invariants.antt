@@ -3,7 +3,7 @@ use Rattle.formula_meaning.specs.TheoryAtoms.{AtomIn}
 use Rattle.formula_meaning.specs.Every.{EveryOf}
 use Rattle.formula_meaning.specs.Fold.{append}
 use Rattle.formula_meaning.specs.Sizes.{nodes, all_nodes}
-use Rattle.elimination_reference.specs.PutIn.{trees_put, trees_put_within}
+use Rattle.plain_engine.specs.FromEliminationReference.{trees_put, trees_put_within}
 use Rattle.atom_normal.specs.Atoms.{context_of}
 use Rattle.linear_forms.specs.Values.{point_of}
 use Rattle.nnf_trees.specs.Nnfs.{nnf_of, nnfs_of, AreProper, HasModulus}

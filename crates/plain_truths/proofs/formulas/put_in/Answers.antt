@@ -2,10 +2,8 @@ use Rattle.std.proofs.Common.{rules, ◌≡◌, false, List, [], sym, ap, ◌∙
 use Rattle.std.specs.Prelude.{IfOk}
 use Rattle.formula_meaning.specs.Equivalence.{InContext}
 use Rattle.atom_normal.specs.Atoms.{context_of}
-use Rattle.elimination_reference.specs.Theorems.{IsPutIn}
-use Rattle.elimination_reference.specs.PutIn.{put_in, tree_put}
-use Rattle.elimination_reference.proofs.PutIn.{putting_in_exact}
-use Rattle.elimination_reference.proofs.Turning.{normal_tree_inside}
+use Rattle.plain_engine.specs.FromEliminationReference.{IsPutIn, put_in, tree_put}
+use Rattle.plain_engine.proofs.FromEliminationReference.{putting_in_exact, normal_tree_inside}
 use Rattle.formula_tree.specs.Trees.{tree_of}
 use Rattle.linear_forms.specs.declared.form.VarId.{VarId}
 use Rattle.linear_forms.specs.Values.{point_of}

@@ -1,8 +1,7 @@
 use Rattle.std.proofs.Common.{rules, ◌≡◌, false, Err, sym, ap, ◌∙◌}
 use Rattle.formula_meaning.specs.Sizes.{nodes}
 use Rattle.formula_meaning.specs.Measured.{done}
-use Rattle.elimination_reference.specs.Reference.{reference}
-use Rattle.elimination_reference.specs.Sample.{reference_at}
+use Rattle.plain_engine.specs.FromEliminationReference.{reference, reference_at}
 use Rattle.atom_normal.specs.Atoms.{context_of}
 use Rattle.formula_tree.specs.Trees.{tree_of}
 use Rattle.linear_forms.specs.Values.{point_of}

@@ -1,7 +1,7 @@
 use Rattle.std.proofs.Common.{map}
 use Rattle.qe_syntax.specs.Trees.{formulas_of}
 use Rattle.qe_syntax.specs.CodeTrees.{formula_tree}
-use Rattle.session_state.proofs.StateLemmas.{same_session, keeps_then}
+use Rattle.problem_reading.proofs.FromSessionState.{same_session, keeps_then}
 use Rattle.point_queries.proofs.CaseSteps.{answered_again, refused_again}
 use Rattle.point_queries.proofs.cases.answer_numbered.Goals as goal
 

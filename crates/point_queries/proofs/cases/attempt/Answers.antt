@@ -1,17 +1,15 @@
 use Rattle.std.proofs.Common.{◌≡◌, List, sym, subst, rules, map, length, Err}
 use Rattle.std.specs.Prelude.{Result, IfOk, IfErr}
-use Rattle.answer_texts.specs.Answers.{cases_text}
-use Rattle.answer_texts.specs.Within.{AreCasesWithin}
-use Rattle.plain_cases.specs.declared.cases.PrintedCase.{PrintedCase}
-use Rattle.plain_cases.specs.Case.{case_seen}
+use Rattle.session_meaning.specs.FromAnswerTexts.{cases_text, AreCasesWithin}
+use Rattle.session_meaning.specs.FromPlainCases.{PrintedCase, case_seen}
 use Rattle.qe_syntax.specs.Trees.{formulas_of}
 use Rattle.qe_syntax.specs.CodeTrees.{formula_tree}
 use Rattle.session_meaning.specs.declared.line.Line.{Line}
 use Rattle.session_meaning.specs.declared.line.StatementError.{StatementError}
 use Rattle.session_meaning.specs.Reply.{IsLine}
 use Rattle.point_queries.specs.CaseLists.{CasesRefuse}
-use Rattle.command_tools.specs.Refusals.{LineFault}
-use Rattle.session_state.specs.Keeping.{state_of}
+use Rattle.problem_reading.specs.FromCommandTools.{LineFault}
+use Rattle.problem_reading.specs.FromSessionState.{state_of}
 use Rattle.point_queries.proofs.CaseSteps.{attempt_stopped, within_there, line_answered, line_refused}
 use Rattle.point_queries.proofs.cases.attempt.Goals as goal
 

@@ -1,20 +1,18 @@
-use Rattle.session_state.specs.declared.state.SessionState.{SessionState}
-use Rattle.session_state.proofs.StateLemmas.{keeps_then}
+use Rattle.problem_reading.specs.FromSessionState.{SessionState, state_of}
+use Rattle.problem_reading.proofs.FromSessionState.{keeps_then}
 use Rattle.std.proofs.Common.{◌≡◌, Bool, None, refl, sym, ap, ◌∙◌, subst, rules, map, Err}
 use Rattle.std.specs.Prelude.{Result, IfErr}
 use Rattle.std.specs.declared.vec.Vec.{Vec}
 use Rattle.std.specs.declared.alloc.Global.{Global}
 use Rattle.atom_normal.specs.Atoms.{atom_of, context_of}
-use Rattle.block_scheduler.specs.declared.limits.Limits.{Limits}
+use Rattle.problem_reading.specs.FromBlockScheduler.{Limits}
 use Rattle.formula_store.specs.Nodes.{tree}
-use Rattle.plain_cases.specs.declared.cases.PrintedCase.{PrintedCase}
-use Rattle.plain_cases.specs.Case.{case_seen}
+use Rattle.session_meaning.specs.FromPlainCases.{PrintedCase, case_seen}
 use Rattle.statement_syntax.specs.Statements.{Qea}
 use Rattle.qe_syntax.specs.Trees.{formulas_of}
 use Rattle.qe_syntax.specs.CodeTrees.{formula_tree}
 use Rattle.session_meaning.specs.declared.line.StatementError.{StatementError}
-use Rattle.command_tools.specs.Replies.{use_of, Refuses}
-use Rattle.session_state.specs.Keeping.{state_of}
+use Rattle.problem_reading.specs.FromCommandTools.{use_of, Refuses}
 use Rattle.problem_reading.proofs.ReadLemmas.{proper_items}
 use Rattle.point_queries.proofs.CaseSteps.{normal_there, atoms_there, found_there, stopped_there, unread_there}
 use Rattle.point_queries.proofs.cases.cases_of.Goals as goal

@@ -4,7 +4,7 @@ use Rattle.qe_syntax.specs.CodeTrees.{formula_tree}
 use Rattle.statement_syntax.specs.Statements.{Grid}
 use Rattle.point_grid.specs.Frames.{Frame}
 use Rattle.point_grid.specs.FramePoints.{IsFrame}
-use Rattle.session_state.specs.Keeping.{state_of}
+use Rattle.problem_reading.specs.FromSessionState.{state_of}
 use Rattle.point_queries.specs.Asked.{RefusesAsking}
 use Rattle.point_queries.proofs.AskedSteps.{ids_there}
 use Rattle.point_queries.proofs.GridCauses.{grid_asks}

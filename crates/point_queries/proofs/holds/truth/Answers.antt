@@ -3,7 +3,7 @@ use Rattle.std.proofs.lemmas.Bool.{false≢true}
 use Rattle.std.proofs.lemmas.Result.{err_from_is_err_and}
 use Rattle.qe_syntax.specs.CodeTrees.{formula_tree}
 use Rattle.point_queries.proofs.AskedSteps.{ids_there, normal_there}
-use Rattle.session_state.proofs.StateLemmas.{keeps_then}
+use Rattle.problem_reading.proofs.FromSessionState.{keeps_then}
 use Rattle.point_queries.proofs.TruthSteps.{free_there, whole_there, truth_told, truth_stops, eliminated_told, eliminated_stops}
 use Rattle.point_queries.proofs.holds.truth.Goals as goal
 

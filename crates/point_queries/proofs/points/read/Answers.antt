@@ -2,7 +2,7 @@ use Rattle.std.proofs.Common.{sym, ◌∙◌, Some, None}
 use Rattle.std.proofs.lemmas.Bool.{false≢true}
 use Rattle.qe_syntax.specs.CodeTrees.{formula_tree}
 use Rattle.formula_store.specs.Nodes.{tree}
-use Rattle.session_state.specs.Keeping.{state_of}
+use Rattle.problem_reading.specs.FromSessionState.{state_of}
 use Rattle.point_queries.proofs.AskedLemmas.{unread_stops, read_clear, read_bound, met_entries}
 use Rattle.point_queries.proofs.points.read.Goals as goal
 

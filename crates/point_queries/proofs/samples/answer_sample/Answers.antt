@@ -5,9 +5,9 @@ use Rattle.statement_syntax.specs.Statements.{Sample}
 use Rattle.qe_syntax.specs.CodeTrees.{formula_tree}
 use Rattle.session_meaning.specs.declared.line.Line.{Line}
 use Rattle.session_meaning.specs.declared.line.StatementError.{StatementError}
-use Rattle.command_tools.specs.Replies.{use_of, Refuses}
+use Rattle.problem_reading.specs.FromCommandTools.{use_of, Refuses}
 use Rattle.session_meaning.specs.Meaning.{meaning, numbered}
-use Rattle.session_state.specs.Keeping.{state_of}
+use Rattle.problem_reading.specs.FromSessionState.{state_of}
 use Rattle.point_queries.proofs.AskedSteps.{session_named, numbers_there, entries_there, state_later, session_later}
 use Rattle.point_queries.proofs.SampleSteps.{sample_refused, sample_answered}
 use Rattle.point_queries.proofs.samples.answer_sample.Goals as goal

@@ -3,8 +3,8 @@ use Rattle.formula_meaning.specs.Atom.{Atom}
 use Rattle.formula_store.specs.declared.id.FormulaId.{FormulaId}
 use Rattle.formula_store.specs.Nodes.{tree, IsId}
 use Rattle.qe_syntax.proofs.EntryLists.{all_at, more_entries}
-use Rattle.session_meaning.specs.Assumptions.{atoms_alone, atoms_among}
-use Rattle.standing_assumptions.specs.Trees.{standing_trees}
+use Rattle.command_tools.specs.FromSessionMeaning.{atoms_alone, atoms_among}
+use Rattle.command_tools.specs.FromStandingAssumptions.{standing_trees}
 use Rattle.problem_reading.proofs.MadeLemmas.{none_behind, atom_behind, same_at}
 use Rattle.problem_reading.proofs.assumptions.assumed_atoms.Goals as goal
 

@@ -2,8 +2,8 @@ use Rattle.std.proofs.Common.{◌≡◌, ◌++◌, map, take, drop}
 use Rattle.std.specs.List.{AllByRecursion}
 use Rattle.atom_normal.specs.Atoms.{atom_of, IsWellFormed}
 use Rattle.formula_store.specs.Nodes.{tree, IsId}
-use Rattle.session_meaning.specs.Assumptions.{atoms_among}
-use Rattle.standing_assumptions.specs.Trees.{standing_trees}
+use Rattle.command_tools.specs.FromSessionMeaning.{atoms_among}
+use Rattle.command_tools.specs.FromStandingAssumptions.{standing_trees}
 use Rattle.problem_reading.proofs.assumptions.assumed_atoms.Given as goal
 
 -- the atoms among the standing assumptions and the formulas so far

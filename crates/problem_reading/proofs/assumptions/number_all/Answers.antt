@@ -6,7 +6,7 @@ use Rattle.qe_syntax.specs.Trees.{formulas_of}
 use Rattle.qe_syntax.specs.CodeTrees.{formula_tree}
 use Rattle.qe_syntax.proofs.EntryLists.{more_entries}
 use Rattle.problem_reading.proofs.AssumptionLemmas.{variables_more, folded_more}
-use Rattle.session_state.proofs.NameLemmas.{grows_then}
+use Rattle.command_tools.proofs.FromSessionState.{grows_then}
 use Rattle.problem_reading.proofs.assumptions.number_all.Goals as goal
 
 pub loop-assumption-preserved : goal.loop-assumption-preserved

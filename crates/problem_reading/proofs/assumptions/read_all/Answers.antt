@@ -2,7 +2,7 @@ use Rattle.std.proofs.Common.{◌≡◌, sym, subst, rules, map, Err}
 use Rattle.std.specs.Prelude.{IfErr}
 use Rattle.qe_syntax.specs.Trees.{formulas_of}
 use Rattle.qe_syntax.specs.CodeTrees.{formula_tree}
-use Rattle.session_state.specs.Keeping.{state_of}
+use Rattle.command_tools.specs.FromSessionState.{state_of}
 use Rattle.problem_reading.specs.Reading.{HasNumbers, AreUnread, FirstAmong, AppliesToSome}
 use Rattle.problem_reading.proofs.PartLemmas.{each_given}
 use Rattle.problem_reading.proofs.AssumptionLemmas.{all_unread, memory_unread, all_readable}

@@ -7,13 +7,12 @@ use Rattle.qe_syntax.proofs.EntryLists.{all_at, more_entries}
 use Rattle.formula_tree.specs.Resolving.{resolve}
 use Rattle.formula_tree.specs.Makers.{AreMade}
 use Rattle.formula_store.specs.Nodes.{tree, IsId}
-use Rattle.session_meaning.specs.Assumptions.{resolved_all}
-use Rattle.session_state.specs.Keeping.{state_of}
-use Rattle.session_meaning.specs.State.{State}
+use Rattle.command_tools.specs.FromSessionMeaning.{resolved_all, State}
+use Rattle.command_tools.specs.FromSessionState.{state_of}
 use Rattle.problem_reading.specs.Reading.{HasNumbers, FirstAmong, AppliesToSome, IsFirstWith, IsOneMore}
 use Rattle.problem_reading.proofs.AssumptionLemmas.{first_of_more, none_before}
 use Rattle.problem_reading.proofs.MadeLemmas.{none_made, one_more, resolved_more}
-use Rattle.session_state.proofs.StateLemmas.{same_state, kept_ids, keeps_self, keeps_then}
+use Rattle.command_tools.proofs.FromSessionState.{same_state, kept_ids, keeps_self, keeps_then}
 use Rattle.problem_reading.proofs.assumptions.read_given.Goals as goal
 
 pub loop-formula-init : goal.loop-formula-init

@@ -5,10 +5,9 @@ use Rattle.qe_syntax.specs.Trees.{formulas_of}
 use Rattle.qe_syntax.specs.CodeTrees.{formula_tree}
 use Rattle.formula_store.specs.Nodes.{tree, IsId}
 use Rattle.formula_tree.specs.Makers.{AreMade}
-use Rattle.session_meaning.specs.Assumptions.{resolved_all}
-use Rattle.session_state.specs.Keeping.{state_of}
+use Rattle.command_tools.specs.FromSessionMeaning.{resolved_all}
+use Rattle.command_tools.specs.FromSessionState.{state_of, KeepsState}
 use Rattle.problem_reading.specs.Reading.{HasNumbers, FirstAmong, AppliesToSome}
-use Rattle.session_state.specs.Growth.{KeepsState}
 use Rattle.problem_reading.proofs.assumptions.read_given.Given as goal
 
 -- the first cause in the formulas so far, and where there is none, their ids

@@ -5,12 +5,12 @@ use Rattle.std.specs.List.{AllByRecursion}
 use Rattle.qe_syntax.specs.Trees.{formulas_of}
 use Rattle.qe_syntax.specs.CodeTrees.{formula_tree}
 use Rattle.formula_store.specs.Nodes.{IsId}
-use Rattle.session_state.specs.Keeping.{state_of}
+use Rattle.command_tools.specs.FromSessionState.{state_of}
 use Rattle.problem_reading.specs.Reading.{HasNumbers, AreUnread, IsReadUnder}
 use Rattle.problem_reading.proofs.PartLemmas.{each_listed}
 use Rattle.problem_reading.proofs.AssumptionLemmas.{memory_unread}
 use Rattle.problem_reading.proofs.MadeLemmas.{parts_read, parts_refused}
-use Rattle.session_state.proofs.StateLemmas.{kept_ids, keeps_then}
+use Rattle.command_tools.proofs.FromSessionState.{kept_ids, keeps_then}
 use Rattle.problem_reading.proofs.assumptions.read_parts.Goals as goal
 
 pub read_given-requires-clause-numbered : goal.read_given-requires-clause-numbered

@@ -1,6 +1,6 @@
 use Rattle.std.proofs.Common.{inr, sym, Some, None}
 use Rattle.qe_syntax.specs.CodeTrees.{formula_tree}
-use Rattle.session_state.specs.Keeping.{state_of}
+use Rattle.command_tools.specs.FromSessionState.{state_of}
 use Rattle.problem_reading.proofs.AssumptionLemmas.{first_unread}
 use Rattle.problem_reading.proofs.CauseLemmas.{readable_none}
 use Rattle.problem_reading.proofs.MadeLemmas.{still_ids, under_read, under_unread}

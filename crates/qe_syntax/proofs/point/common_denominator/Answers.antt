@@ -1,5 +1,5 @@
 use Rattle.std.proofs.Common.{drop, ◌+◌, subst, sym}
-use Rattle.exact_numbers.proofs.Casts.{read_back}
+use Rattle.formula_meaning.proofs.FromExactNumbers.{read_back}
 use Rattle.qe_syntax.proofs.EntryNumbers.{SoFar, so_far_start, so_far_more, so_far_refused, so_far_end, so_far_at, so_far_done}
 use Rattle.qe_syntax.proofs.point.common_denominator.Goals as goal
 

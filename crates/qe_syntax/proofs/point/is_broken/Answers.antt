@@ -1,7 +1,7 @@
 use Rattle.std.specs.Prelude.{FitsSigned}
 use Rattle.std.specs.Int.{w128}
 use Rattle.std.proofs.lemmas.Int.{to_z-of_z}
-use Rattle.exact_numbers.proofs.Casts.{fits}
+use Rattle.formula_meaning.proofs.FromExactNumbers.{fits}
 use Rattle.qe_syntax.proofs.EntryNumbers.{above_within, below_within, broken_by_bits, bits_by_broken}
 use Rattle.qe_syntax.proofs.point.is_broken.Goals as goal
 

@@ -1,4 +1,4 @@
-use Rattle.exact_numbers.specs.Fraction.{frac_of}
+use Rattle.formula_meaning.specs.FromExactNumbers.{frac_of}
 use Rattle.qe_syntax.specs.PointNumbers.{point_of}
 use Rattle.qe_syntax.specs.CodeTrees.{term_tree}
 use Rattle.qe_syntax.proofs.CongruenceLaw.{modulus_not_zero}

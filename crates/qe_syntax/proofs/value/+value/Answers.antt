@@ -5,7 +5,7 @@ use Rattle.qe_syntax.proofs.TermParts.{sum_is, product_is, negative_is, quotient
 use Rattle.qe_syntax.proofs.ValueLaw.{calculated_stands, below_positive}
 use Rattle.qe_syntax.specs.CodeTrees.{term_tree}
 use Rattle.qe_syntax.specs.PointNumbers.{point_of}
-use Rattle.exact_numbers.specs.Fraction.{frac_of}
+use Rattle.formula_meaning.specs.FromExactNumbers.{frac_of}
 use Rattle.qe_syntax.proofs.value.+value.Goals as goal
 
 pub term_value-sum_value-requires : goal.term_value-sum_value-requires

@@ -1,7 +1,6 @@
 use Rattle.std.proofs.Common.{◌≡◌, drop, map}
 use Rattle.std.specs.Prelude.{pos}
-use Rattle.exact_numbers.specs.Frac.{whole_frac}
-use Rattle.exact_numbers.specs.Fraction.{frac_of}
+use Rattle.formula_meaning.specs.FromExactNumbers.{whole_frac, frac_of}
 use Rattle.qe_syntax.specs.Trees.{terms_of}
 use Rattle.qe_syntax.specs.CodeTrees.{term_tree}
 use Rattle.qe_syntax.specs.Proper.{AreProperTerms}

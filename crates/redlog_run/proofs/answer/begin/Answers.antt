@@ -1,5 +1,5 @@
 use Rattle.std.proofs.Common.{refl, ap}
-use Rattle.block_scheduler.specs.declared.limits.Limits.{Limits}
+use Rattle.session_commands.specs.FromBlockScheduler.{Limits}
 use Rattle.redlog_run.proofs.Standing.{stands_first}
 use Rattle.redlog_run.proofs.answer.begin.Goals as goal
 

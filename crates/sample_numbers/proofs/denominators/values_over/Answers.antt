@@ -9,7 +9,7 @@ use Rattle.exact_numbers.specs.Fraction.{frac_of}
 use Rattle.exact_numbers.proofs.Casts.{fits}
 use Rattle.exact_numbers.proofs.Limits.{formed_by}
 use Rattle.linear_forms.specs.declared.form.VarId.{VarId}
-use Rattle.nnf_trees.proofs.Counting.{drop_at}
+use Rattle.plain_truths.proofs.FromNnfTrees.{drop_at}
 use Rattle.linear_forms.specs.Values.{Numbers, number_at}
 use Rattle.sample_reference.specs.Seen.{value_of, values_of}
 use Rattle.sample_reference.specs.Values.{Value}

@@ -1,7 +1,6 @@
 use Rattle.std.proofs.Common.{◌≡◌, drop, []}
 use Rattle.atom_normal.specs.Atoms.{context_of}
-use Rattle.sample_reference.specs.Calculated.{values_from}
-use Rattle.sample_reference.specs.Seen.{values_of}
+use Rattle.traced_cases.specs.FromSampleReference.{values_from, values_of}
 use Rattle.traced_cases.specs.Steps.{steps_of}
 use Rattle.sample_values.proofs.steps.step_values.Given as goal
 

@@ -3,8 +3,8 @@ use Rattle.std.specs.Prelude.{IfOk, IfErr}
 use Rattle.formula_store.specs.Nodes.{tree}
 use Rattle.session_meaning.specs.Reply.{IsLine}
 use Rattle.session_meaning.specs.Standing.{standing_text}
-use Rattle.standing_assumptions.specs.Trees.{standing_trees}
-use Rattle.command_tools.specs.Refusals.{LineFault}
+use Rattle.point_queries.specs.FromStandingAssumptions.{standing_trees}
+use Rattle.point_queries.specs.FromCommandTools.{LineFault}
 use Rattle.session_commands.specs.Standing.{grown_by}
 use Rattle.session_commands.proofs.assumptions.grow.Goals as goal
 

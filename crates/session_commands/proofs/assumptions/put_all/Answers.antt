@@ -5,8 +5,8 @@ use Rattle.formula_store.specs.declared.id.FormulaId.{FormulaId}
 use Rattle.formula_store.specs.Nodes.{tree, IsId}
 use Rattle.qe_syntax.proofs.EntryLists.{all_at, more_entries}
 use Rattle.session_meaning.specs.Standing.{with_assumption}
-use Rattle.standing_assumptions.specs.Trees.{standing_trees}
-use Rattle.problem_reading.proofs.MadeLemmas.{same_at}
+use Rattle.point_queries.specs.FromStandingAssumptions.{standing_trees}
+use Rattle.point_queries.proofs.FromProblemReading.{same_at}
 use Rattle.session_commands.proofs.StandingLemmas.{fold_push, front_self, front_then}
 use Rattle.session_commands.proofs.assumptions.put_all.Goals as goal
 

@@ -1,9 +1,8 @@
 use Rattle.std.proofs.Common.{◌≡◌, inr, Err, sym, subst, rules}
 use Rattle.std.specs.Prelude.{IfErr, OnErr}
 use Rattle.qe_syntax.specs.CodeTrees.{formula_tree}
-use Rattle.session_state.specs.Keeping.{state_of}
-use Rattle.session_state.specs.Growth.{GrowsState}
-use Rattle.command_tools.specs.Replies.{use_of}
+use Rattle.point_queries.specs.FromSessionState.{state_of, GrowsState}
+use Rattle.point_queries.specs.FromCommandTools.{use_of}
 use Rattle.session_commands.specs.Steps.{AttemptRefuses, KeepsWhereEliminated}
 use Rattle.session_commands.proofs.GivenLemmas.{fits_other}
 use Rattle.session_commands.proofs.GivenSteps.{later_within, later_members, answered_session, given_answer, given_refused, on_err}

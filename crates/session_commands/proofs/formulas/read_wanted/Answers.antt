@@ -3,13 +3,12 @@ use Rattle.formula_meaning.specs.Formula.{also}
 use Rattle.qe_syntax.specs.Writable.{AreWritableFormulas}
 use Rattle.qe_syntax.specs.Trees.{formulas_of}
 use Rattle.qe_syntax.specs.CodeTrees.{formula_tree}
-use Rattle.session_state.specs.Keeping.{state_of}
+use Rattle.point_queries.specs.FromSessionState.{state_of}
 use Rattle.session_commands.specs.Steps.{given_trees, HasUnwantedQuantifier}
-use Rattle.problem_reading.specs.Reading.{AreReadable, AreUnread, AreRead}
+use Rattle.point_queries.specs.FromProblemReading.{AreReadable, AreUnread, AreRead}
 use Rattle.session_meaning.specs.declared.line.StatementError.TheVariants as error
-use Rattle.problem_reading.proofs.AssumptionLemmas.{early_readable, early_overflow}
-use Rattle.session_state.proofs.StateLemmas.{kept_ids, same_state}
-use Rattle.problem_reading.proofs.ReadLemmas.{proper_items}
+use Rattle.point_queries.proofs.FromProblemReading.{early_readable, early_overflow, proper_items}
+use Rattle.point_queries.proofs.FromSessionState.{kept_ids, same_state}
 use Rattle.session_commands.proofs.formulas.read_wanted.Goals as goal
 
 pub read_parts-requires-clause-proper_given : goal.read_parts-requires-clause-proper_given

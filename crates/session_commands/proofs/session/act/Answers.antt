@@ -1,7 +1,7 @@
 use Rattle.std.proofs.Common.{◌∙◌, ap, sym}
 use Rattle.statement_syntax.specs.Statements.{Say, Assign}
 use Rattle.statement_syntax.specs.CodeTrees.{statement_tree, action_tree, command_tree}
-use Rattle.session_state.specs.Keeping.{state_of}
+use Rattle.point_queries.specs.FromSessionState.{state_of}
 use Rattle.session_commands.proofs.AnswerLemmas.{say_answered, say_refused, formula_assigned}
 use Rattle.session_commands.proofs.session.act.Goals as goal
 

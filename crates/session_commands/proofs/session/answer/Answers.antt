@@ -1,7 +1,6 @@
 use Rattle.std.proofs.Common.{◌∙◌, sym, ap, subst, take}
-use Rattle.session_state.specs.Keeping.{state_of, IsSessionState}
-use Rattle.session_state.specs.declared.state.SessionState.{SessionState}
-use Rattle.session_state.proofs.StateLemmas.{back_session, back_state}
+use Rattle.point_queries.specs.FromSessionState.{state_of, IsSessionState, SessionState}
+use Rattle.point_queries.proofs.FromSessionState.{back_session, back_state}
 use Rattle.session_commands.proofs.session.answer.Goals as goal
 
 pub returns-in-Err-clause-session : goal.returns-in-Err-clause-session

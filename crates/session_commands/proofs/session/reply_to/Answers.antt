@@ -1,5 +1,5 @@
 use Rattle.statement_syntax.specs.CodeTrees.{statement_tree}
-use Rattle.session_state.specs.Keeping.{state_of}
+use Rattle.point_queries.specs.FromSessionState.{state_of}
 use Rattle.session_commands.proofs.AnswerLemmas.{reply_to, spelled_binds}
 use Rattle.session_commands.proofs.session.reply_to.Goals as goal
 

@@ -3,8 +3,8 @@ use Rattle.qe_syntax.specs.Trees.{formulas_of}
 use Rattle.qe_syntax.specs.CodeTrees.{term_tree, formula_tree}
 use Rattle.statement_syntax.specs.Statements.{Qea, Holds, Sample, Grid, Certify, Check, Least}
 use Rattle.statement_syntax.specs.CodeTrees.{command_tree}
-use Rattle.session_state.specs.Keeping.{state_of}
-use Rattle.command_tools.specs.Replies.{use_of}
+use Rattle.point_queries.specs.FromSessionState.{state_of}
+use Rattle.point_queries.specs.FromCommandTools.{use_of}
 use Rattle.session_commands.proofs.AnswerLemmas.{formula_answered, query_answered, query_given_back, refused_as}
 use Rattle.session_commands.proofs.session.say.Goals as goal
 

@@ -5,16 +5,14 @@ use Rattle.formula_meaning.specs.Every.{Every}
 use Rattle.atom_normal.specs.Atoms.{context_of}
 use Rattle.atom_normal.specs.NormalForm.{IsNormal}
 use Rattle.formula_meaning.specs.Measured.{done}
-use Rattle.elimination_reference.specs.Theorems.{IsAnswerTo}
-use Rattle.elimination_reference.proofs.Sound.{normal_normal_tree}
-use Rattle.elimination_reference.proofs.Turning.{from_normal}
+use Rattle.plain_truths.specs.FromEliminationReference.{IsAnswerTo}
+use Rattle.plain_truths.proofs.FromEliminationReference.{normal_normal_tree, from_normal}
 use Rattle.formula_tree.specs.Makers.{IsMade}
 use Rattle.formula_tree.specs.Trees.{tree_of}
 use Rattle.formula_store.specs.Nodes.{IsId, tree}
 use Rattle.formula_store.proofs.Makes.{keeps_then}
 use Rattle.nnf_trees.specs.Nnfs.{nnf_of}
-use Rattle.plain_engine.proofs.Arms.{if_ok_also}
-use Rattle.plain_engine.proofs.Seen.{stops_along}
+use Rattle.plain_truths.proofs.FromPlainEngine.{if_ok_also, stops_along}
 use Rattle.shared_elimination.proofs.FormAgain.{reference_along}
 use Rattle.shared_elimination.proofs.eliminate.eliminate_shared.Goals as goal
 

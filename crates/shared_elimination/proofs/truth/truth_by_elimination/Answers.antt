@@ -7,12 +7,11 @@ use Rattle.linear_forms.specs.Values.{point_of}
 use Rattle.atom_normal.specs.Atoms.{context_of}
 use Rattle.atom_normal.specs.NormalForm.{IsNormal, constant_tree}
 use Rattle.formula_meaning.specs.Measured.{done}
-use Rattle.elimination_reference.proofs.Sound.{normal_normal_tree}
-use Rattle.elimination_reference.proofs.Turning.{normal_inside, normal_truths}
+use Rattle.plain_truths.proofs.FromEliminationReference.{normal_normal_tree, normal_inside, normal_truths}
 use Rattle.formula_tree.specs.Trees.{tree_of}
 use Rattle.formula_store.specs.Nodes.{tree}
-use Rattle.plain_engine.proofs.Arms.{if_ok_also}
-use Rattle.plain_engine.specs.Told.{StopsWith}
+use Rattle.plain_truths.proofs.FromPlainEngine.{if_ok_also}
+use Rattle.plain_truths.specs.FromPlainEngine.{StopsWith}
 use Rattle.shared_elimination.proofs.FormAgain.{reference_at_along}
 use Rattle.shared_elimination.proofs.truth.truth_by_elimination.Goals as goal
 

@@ -3,7 +3,7 @@ use Rattle.formula_meaning.specs.Every.{Every}
 use Rattle.formula_tree.specs.Trees.{tree_of}
 use Rattle.formula_store.specs.Nodes.{tree}
 use Rattle.nnf_trees.specs.Nnfs.{HasModulus}
-use Rattle.plain_engine.proofs.Arms.{if_ok_also}
+use Rattle.plain_truths.proofs.FromPlainEngine.{if_ok_also}
 use Rattle.shared_elimination.proofs.Moduli.{store_moduli}
 use Rattle.shared_elimination.proofs.unfolding.unfolded.Goals as goal
 

@@ -2,7 +2,7 @@ use Rattle.std.proofs.Common.{map, sym, subst}
 use Rattle.atom_normal.specs.Atoms.{context_of, atom_of}
 use Rattle.formula_store.specs.Nodes.{tree}
 use Rattle.formula_store.proofs.Makes.{keeps_then}
-use Rattle.plain_cases.specs.Case.{case_seen}
+use Rattle.engine_answers.specs.FromPlainCases.{case_seen}
 use Rattle.shared_forms.specs.Faults.{CasesFault}
 use Rattle.shared_forms.proofs.ByCases.{cases_refused, seen_left, seen_orderly}
 use Rattle.shared_forms.proofs.cases.cases_by_cases.Goals as goal

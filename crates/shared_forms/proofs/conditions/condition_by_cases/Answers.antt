@@ -6,7 +6,7 @@ use Rattle.formula_meaning.specs.Tree.{Tree}
 use Rattle.formula_store.specs.declared.id.FormulaId.{FormulaId}
 use Rattle.formula_store.specs.Nodes.{tree}
 use Rattle.formula_store.proofs.Makes.{keeps_then}
-use Rattle.case_trees.specs.CaseTrees.{cases_seen, guards_together}
+use Rattle.engine_answers.specs.FromCaseTrees.{cases_seen, guards_together}
 use Rattle.shared_forms.specs.Conditions.{said_of}
 use Rattle.shared_forms.specs.Faults.{EliminationFault, ConditionFault}
 use Rattle.shared_forms.specs.Forms.{IsSimplifiedAnswer}

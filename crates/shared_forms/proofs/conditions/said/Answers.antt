@@ -4,7 +4,7 @@ use Rattle.atom_normal.specs.NormalForm.{IsNormal}
 use Rattle.formula_meaning.specs.Tree.{Tree}
 use Rattle.formula_store.proofs.Makes.{keeps_then}
 use Rattle.simplified_formulas.specs.Orderly.{IsOrderly}
-use Rattle.case_trees.specs.CaseTrees.{cases_seen, guards_together}
+use Rattle.engine_answers.specs.FromCaseTrees.{cases_seen, guards_together}
 use Rattle.shared_forms.proofs.ConditionsFor.{said_orderly}
 use Rattle.shared_forms.proofs.conditions.said.Goals as goal
 

@@ -4,10 +4,8 @@ use Rattle.formula_meaning.specs.Some.{EachOf}
 use Rattle.atom_normal.specs.Atoms.{context_of, atom_of}
 use Rattle.atom_normal.specs.NormalForm.{IsNormal}
 use Rattle.elimination_reference.specs.Cases.{Case}
-use Rattle.plain_cases.specs.declared.branch.Leaf.{Leaf}
-use Rattle.plain_cases.specs.Case.{case_seen, leaf_case}
-use Rattle.plain_cases.specs.Stand.{AreSound}
-use Rattle.plain_cases.proofs.Standing.{nothing}
+use Rattle.engine_answers.specs.FromPlainCases.{Leaf, case_seen, leaf_case, AreSound}
+use Rattle.engine_answers.proofs.FromPlainCases.{nothing}
 use Rattle.simplified_formulas.specs.Orderly.{IsOrderly}
 use Rattle.formula_store.proofs.Makes.{keeps_then}
 use Rattle.shared_forms.proofs.CaseLemmas.{LeavesAll, leaves_more, leaves_end}

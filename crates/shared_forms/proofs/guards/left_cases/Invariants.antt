@@ -3,8 +3,7 @@ use Rattle.formula_meaning.specs.Some.{EachOf}
 use Rattle.atom_normal.specs.Atoms.{context_of, atom_of}
 use Rattle.atom_normal.specs.NormalForm.{IsNormal}
 use Rattle.elimination_reference.specs.Cases.{Case}
-use Rattle.plain_cases.specs.Case.{case_seen, leaf_case, HavePoints}
-use Rattle.plain_cases.specs.Stand.{AreSound}
+use Rattle.engine_answers.specs.FromPlainCases.{case_seen, leaf_case, HavePoints, AreSound}
 use Rattle.simplified_formulas.specs.Orderly.{IsOrderly}
 use Rattle.formula_tree.specs.Makers.{Keeps}
 use Rattle.formula_store.specs.Nodes.{tree, IsId}

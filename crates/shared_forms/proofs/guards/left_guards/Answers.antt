@@ -6,13 +6,12 @@ use Rattle.atom_normal.specs.Atoms.{context_of, atom_of}
 use Rattle.atom_normal.specs.NormalForm.{IsNormal}
 use Rattle.elimination_reference.specs.Cases.{Case}
 use Rattle.test_points.specs.Points.{answer_of, IsTestPoint}
-use Rattle.plain_cases.specs.Case.{case_seen}
-use Rattle.plain_cases.proofs.Standing.{nothing}
+use Rattle.engine_answers.specs.FromPlainCases.{case_seen}
+use Rattle.engine_answers.proofs.FromPlainCases.{nothing}
 use Rattle.simplified_formulas.specs.Orderly.{IsOrderly}
 use Rattle.formula_store.specs.Nodes.{tree, IsId}
 use Rattle.formula_store.proofs.Makes.{keeps_then}
-use Rattle.case_trees.specs.declared.case_tree.Case.{Case as Found}
-use Rattle.case_trees.specs.CaseTrees.{cases_seen}
+use Rattle.engine_answers.specs.FromCaseTrees.{Case as Found, cases_seen}
 use Rattle.shared_forms.specs.Cases.{IsLeftOf}
 use Rattle.shared_forms.proofs.CaseLemmas.{LeavesAll, leaves_more, leaves_end}
 use Rattle.shared_forms.proofs.guards.left_guards.Goals as goal

@@ -4,12 +4,11 @@ use Rattle.atom_normal.specs.Atoms.{context_of, atom_of}
 use Rattle.atom_normal.specs.NormalForm.{IsNormal}
 use Rattle.elimination_reference.specs.Cases.{Case}
 use Rattle.test_points.specs.Points.{IsTestPoint}
-use Rattle.plain_cases.specs.Case.{case_seen, HavePoints}
+use Rattle.engine_answers.specs.FromPlainCases.{case_seen, HavePoints}
 use Rattle.simplified_formulas.specs.Orderly.{IsOrderly}
 use Rattle.formula_tree.specs.Makers.{Keeps}
 use Rattle.formula_store.specs.Nodes.{tree, IsId}
-use Rattle.case_trees.specs.declared.case_tree.Case.{Case as Found}
-use Rattle.case_trees.specs.CaseTrees.{cases_seen}
+use Rattle.engine_answers.specs.FromCaseTrees.{Case as Found, cases_seen}
 use Rattle.shared_forms.proofs.CaseLemmas.{LeavesAll}
 use Rattle.shared_forms.proofs.guards.left_guards.Given as goal
 

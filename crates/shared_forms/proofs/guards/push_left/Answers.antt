@@ -1,8 +1,8 @@
 use Rattle.std.proofs.Common.{rules, ◌≡◌, [], ◌∷◌, ◌++◌, All, subst}
 use Rattle.std.specs.Prelude.{IfSome}
 use Rattle.test_points.specs.Points.{IsTestPoint}
-use Rattle.plain_cases.specs.declared.cases.PrintedCase.{PrintedCase}
-use Rattle.plain_cases.proofs.Standing.{points_pushed}
+use Rattle.engine_answers.specs.FromPlainCases.{PrintedCase}
+use Rattle.engine_answers.proofs.FromPlainCases.{points_pushed}
 use Rattle.shared_forms.proofs.guards.push_left.Goals as goal
 
 pub returns-in_ok-push-clause-points : goal.returns-in_ok-push-clause-points

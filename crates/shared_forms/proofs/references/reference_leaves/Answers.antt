@@ -8,7 +8,7 @@ use Rattle.atom_normal.proofs.Stepped.{ok_map}
 use Rattle.elimination_reference.proofs.Sound.{normal_normal_tree}
 use Rattle.formula_store.specs.Nodes.{tree}
 use Rattle.formula_tree.specs.Trees.{tree_of}
-use Rattle.plain_cases.specs.declared.branch.Leaf.{Leaf}
+use Rattle.engine_answers.specs.FromPlainCases.{Leaf}
 use Rattle.shared_forms.specs.Faults.{CasesFault}
 use Rattle.shared_forms.proofs.CaseLemmas.{cases_along, cases_fault, err_map, fault_along, paid_stops}
 use Rattle.shared_forms.proofs.references.reference_leaves.Goals as goal

@@ -2,7 +2,7 @@ use Rattle.std.proofs.Common.{map}
 use Rattle.atom_normal.specs.Atoms.{context_of}
 use Rattle.formula_store.specs.Nodes.{tree}
 use Rattle.formula_store.proofs.Makes.{keeps_then}
-use Rattle.plain_cases.specs.Case.{leaf_case}
+use Rattle.engine_answers.specs.FromPlainCases.{leaf_case}
 use Rattle.shared_forms.proofs.CaseLemmas.{cases_orderly}
 use Rattle.shared_forms.proofs.references.reference_list.Goals as goal
 

@@ -2,7 +2,7 @@ use Rattle.std.proofs.Common.{ap, ◌∙◌}
 use Rattle.atom_normal.specs.Atoms.{context_of}
 use Rattle.formula_store.specs.Nodes.{tree}
 use Rattle.formula_store.proofs.Makes.{keeps_then}
-use Rattle.test_points.specs.Points.{place_of}
+use Rattle.virtual_subst.specs.FromTestPoints.{place_of}
 use Rattle.shared_results.specs.Guarded.{guarded}
 use Rattle.shared_results.proofs.Joined.{guarded_result}
 use Rattle.shared_results.proofs.results.result_shared.Goals as goal

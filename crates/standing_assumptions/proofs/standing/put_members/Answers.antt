@@ -3,8 +3,8 @@ use Rattle.std.proofs.lemmas.Option.{slice_get_read}
 use Rattle.redlog_printer.specs.Text.{tree_text}
 use Rattle.redlog_printer.specs.Writing.{text_limit}
 use Rattle.redlog_printer.proofs.Written.{drop_at}
-use Rattle.answer_texts.specs.Answers.{separated}
-use Rattle.answer_texts.proofs.Separating.{next_long}
+use Rattle.session_meaning.specs.FromAnswerTexts.{separated}
+use Rattle.session_meaning.proofs.FromAnswerTexts.{next_long}
 use Rattle.standing_assumptions.specs.declared.assumption.Assumption.{Assumption}
 use Rattle.standing_assumptions.specs.Trees.{assumption_tree, standing_trees}
 use Rattle.standing_assumptions.proofs.standing.put_members.Goals as goal

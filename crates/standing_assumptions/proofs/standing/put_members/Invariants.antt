@@ -2,7 +2,7 @@ use Rattle.std.proofs.Common.{◌≡◌, ◌++◌, [], length, map, drop}
 use Rattle.formula_meaning.specs.Some.{EachOf}
 use Rattle.formula_meaning.specs.Within.{IsTreeWithin}
 use Rattle.redlog_printer.specs.Text.{tree_text}
-use Rattle.answer_texts.specs.Answers.{separated}
+use Rattle.session_meaning.specs.FromAnswerTexts.{separated}
 use Rattle.standing_assumptions.specs.Trees.{standing_trees}
 use Rattle.standing_assumptions.proofs.standing.put_members.Given as goal
 

@@ -11,7 +11,7 @@ use Rattle.simplified_formulas.specs.Trees.{IsReduced}
 use Rattle.simplified_formulas.specs.Simplifiable.{IsSimplifiable, AreAssumable, EquivalentUnder, simplified_under}
 use Rattle.simplified_formulas.proofs.TreeLaws.{keeps_truth, is_reduced, keeps_shape, brings_no_name, brings_no_node, brings_no_atom}
 use Rattle.simplified_texts.proofs.Longer.{no_longer}
-use Rattle.redlog_printer.specs.Text.{tree_text}
+use Rattle.simplified_texts.specs.FromRedlogPrinter.{tree_text}
 use Rattle.formula_meaning.specs.Within.{IsAtomWithin}
 use Rattle.formula_store.specs.Nodes.{tree}
 use Rattle.atom_normal.proofs.Meaning.{all_within}

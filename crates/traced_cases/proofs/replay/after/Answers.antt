@@ -7,7 +7,7 @@ use Rattle.atom_normal.specs.Atoms.{atom_of, context_of}
 use Rattle.atom_normal.specs.NormalForm.{normal_atom}
 use Rattle.sample_reference.specs.Traced.{after_step}
 use Rattle.nnf_trees.specs.Nnfs.{nnf_of}
-use Rattle.nnf_substitution.proofs.ResultLaws.{stands_once}
+use Rattle.plain_engine.proofs.FromNnfSubstitution.{stands_once}
 use Rattle.test_points.specs.Points.{place_of}
 use Rattle.plain_engine.proofs.Arms.{if_ok_also}
 use Rattle.traced_cases.specs.Replay.{taken}

@@ -7,7 +7,7 @@ use Rattle.formula_tree.proofs.Shapes.{all_listed, all_map}
 use Rattle.formula_store.specs.declared.id.FormulaId.{FormulaId}
 use Rattle.formula_store.specs.Nodes.{tree, IsId}
 use Rattle.formula_store.proofs.Marked.{all_joined}
-use Rattle.nnf_trees.proofs.Pieces.{append_none, members_put, itself_put}
+use Rattle.nnf_substitution.proofs.FromNnfTrees.{append_none, members_put, itself_put}
 use Rattle.virtual_subst.proofs.folding.gather.Goals as goal
 
 pub returns-in-Nothing : goal.returns-in-Nothing

@@ -5,7 +5,7 @@ use Rattle.formula_meaning.specs.Fold.{all_pieces, put_together, pieces_of}
 use Rattle.formula_tree.specs.Trees.{members}
 use Rattle.formula_store.specs.declared.id.FormulaId.{FormulaId}
 use Rattle.formula_store.specs.Nodes.{tree, IsId}
-use Rattle.nnf_trees.proofs.Pieces.{one_more, all_put}
+use Rattle.nnf_substitution.proofs.FromNnfTrees.{one_more, all_put}
 use Rattle.virtual_subst.specs.Shared.{made_of}
 use Rattle.virtual_subst.proofs.folding.gathered.Goals as goal
 

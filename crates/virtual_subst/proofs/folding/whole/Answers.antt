@@ -8,7 +8,7 @@ use Rattle.formula_tree.specs.Shapes.{tree_over}
 use Rattle.formula_tree.specs.Trees.{members}
 use Rattle.formula_store.specs.declared.id.FormulaId.{FormulaId}
 use Rattle.formula_store.specs.Nodes.{tree, IsId}
-use Rattle.nnf_trees.proofs.Pieces.{two_pieces}
+use Rattle.nnf_substitution.proofs.FromNnfTrees.{two_pieces}
 use Rattle.virtual_subst.proofs.folding.whole.Goals as goal
 
 pub returns-in-Conjunction-clause-made : goal.returns-in-Conjunction-clause-made

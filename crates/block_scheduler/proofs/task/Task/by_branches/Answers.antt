@@ -11,9 +11,7 @@ use Rattle.case_theory.proofs.Leading.{names_once}
 use Rattle.formula_store.specs.Nodes.{tree}
 use Rattle.formula_store.proofs.Makes.{keeps_then}
 use Rattle.linear_forms.specs.declared.form.VarId.{VarId}
-use Rattle.branch_rounds.specs.declared.work.Work.{Work}
-use Rattle.branch_rounds.specs.Branches.{AreBranchesOf, numbers}
-use Rattle.branch_rounds.specs.Rounds.{IsDirectAt}
+use Rattle.inner_blocks.specs.FromBranchRounds.{Work, AreBranchesOf, numbers, IsDirectAt}
 use Rattle.case_trees.specs.declared.case_tree.CaseTree.{CaseTree}
 use Rattle.block_scheduler.specs.Listed.{told_case}
 use Rattle.block_scheduler.proofs.DirectTrees.{block_name, block_free, block_few, block_direct, block_tree}

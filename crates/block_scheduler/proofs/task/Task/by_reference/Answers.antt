@@ -8,9 +8,9 @@ use Rattle.elimination_reference.specs.Cases.{case_matrix}
 use Rattle.elimination_reference.specs.Reference.{reference}
 use Rattle.formula_store.specs.Nodes.{tree}
 use Rattle.formula_store.proofs.Makes.{keeps_then}
-use Rattle.leading_blocks.specs.Blocks.{IsLeadingBlock}
+use Rattle.inner_blocks.specs.FromLeadingBlocks.{IsLeadingBlock}
 use Rattle.plain_cases.specs.Case.{leaf_case}
-use Rattle.plain_engine.proofs.Seen.{stops_along}
+use Rattle.plain_cases.proofs.FromPlainEngine.{stops_along}
 use Rattle.case_trees.specs.CaseTrees.{IsCaseTreeOf}
 use Rattle.block_scheduler.proofs.Stops.{formula_stops, matrix_stops}
 use Rattle.block_scheduler.proofs.Trees.{tree_of_leaves}

@@ -8,7 +8,7 @@ use Rattle.atom_normal.proofs.Stepped.{ok_map}
 use Rattle.elimination_reference.proofs.Sound.{normal_normal_tree}
 use Rattle.formula_store.specs.Nodes.{tree}
 use Rattle.formula_tree.specs.Trees.{tree_of}
-use Rattle.plain_engine.proofs.Seen.{stops_along}
+use Rattle.plain_cases.proofs.FromPlainEngine.{stops_along}
 use Rattle.plain_cases.specs.declared.branch.Leaf.{Leaf}
 use Rattle.block_scheduler.proofs.Stops.{err_map, cases_along, paid_stops}
 use Rattle.block_scheduler.proofs.task.Task.leaves.Goals as goal

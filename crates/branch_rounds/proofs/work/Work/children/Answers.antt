@@ -5,7 +5,7 @@ use Rattle.atom_normal.specs.Atoms.{context_of, atom_of}
 use Rattle.formula_tree.specs.Makers.{AreMade}
 use Rattle.formula_store.specs.Nodes.{tree, IsId}
 use Rattle.formula_store.proofs.Makes.{keeps_then}
-use Rattle.nnf_substitution.specs.Placed.{put}
+use Rattle.virtual_subst.specs.FromNnfSubstitution.{put}
 use Rattle.test_points.specs.declared.points.TestPoint.{TestPoint}
 use Rattle.test_points.specs.Points.{place_of}
 use Rattle.case_theory.specs.Children.{AreChildren}

@@ -4,7 +4,7 @@ use Rattle.std.specs.Prelude.{IsTrue}
 use Rattle.formula_meaning.specs.Some.{EachOf, SomeOf}
 use Rattle.formula_store.proofs.Makes.{keeps_then}
 use Rattle.formula_store.specs.Nodes.{tree, IsId}
-use Rattle.nnf_trees.proofs.Pieces.{empty}
+use Rattle.virtual_subst.proofs.FromNnfTrees.{empty}
 use Rattle.branch_rounds.specs.Branches.{Seen, IsOpen, ArePendingOf}
 use Rattle.branch_rounds.specs.Rounds.{IsRound, IsSettled, IsSpreadOver, PassesAt, IsLeftAlone}
 use Rattle.branch_rounds.proofs.Alone.{direct_here, alone_here, spread_alone, only_branch, some_branch}

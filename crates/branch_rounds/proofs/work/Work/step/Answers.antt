@@ -2,7 +2,7 @@ use Rattle.std.proofs.Common.{◌≡◌, ◌<◌, ◌≤◌, ◌+◌, ◌*◌, f
 use Rattle.formula_meaning.specs.Sizes.{nodes}
 use Rattle.formula_meaning.specs.Some.{SomeOf}
 use Rattle.atom_normal.specs.Atoms.{context_of, atom_of}
-use Rattle.nnf_substitution.specs.Placed.{all_within}
+use Rattle.virtual_subst.specs.FromNnfSubstitution.{all_within}
 use Rattle.test_points.specs.declared.points.TestPoint.{TestPoint}
 use Rattle.test_points.specs.Points.{place_of}
 use Rattle.linear_forms.specs.declared.form.VarId.{VarId}

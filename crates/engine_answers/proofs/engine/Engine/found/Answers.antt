@@ -9,8 +9,7 @@ use Rattle.elimination_reference.specs.AnswerParts.{guards_of}
 use Rattle.formula_store.specs.Nodes.{tree}
 use Rattle.formula_store.specs.Truths.{Tells}
 use Rattle.formula_store.proofs.Makes.{keeps_then}
-use Rattle.case_trees.specs.declared.case_tree.Case.{Case}
-use Rattle.case_trees.specs.CaseTrees.{cases_seen}
+use Rattle.block_scheduler.specs.FromCaseTrees.{Case, cases_seen}
 use Rattle.sample_reference.specs.Seen.{values_of}
 use Rattle.sample_reference.specs.Values.{value_names}
 use Rattle.engine_answers.specs.Truths.{CanBeTold}

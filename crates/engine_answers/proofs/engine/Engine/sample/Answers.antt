@@ -4,7 +4,7 @@ use Rattle.atom_normal.specs.Atoms.{context_of}
 use Rattle.formula_meaning.specs.Tree.{Tree}
 use Rattle.formula_store.proofs.Makes.{keeps_then}
 use Rattle.linear_forms.specs.Values.{point_of}
-use Rattle.plain_engine.specs.Told.{StopsWith}
+use Rattle.block_scheduler.specs.FromPlainEngine.{StopsWith}
 use Rattle.sample_reference.specs.Sample.{reference_sample}
 use Rattle.sample_reference.specs.TrueSample.{IsTrueSample}
 use Rattle.sample_reference.specs.Seen.{sample_of}

@@ -4,7 +4,7 @@ use Rattle.linear_forms.specs.Values.{point_of}
 use Rattle.formula_meaning.specs.Some.{Among, EachOf}
 use Rattle.formula_store.specs.Nodes.{tree}
 use Rattle.formula_store.specs.Truths.{Tells}
-use Rattle.case_trees.specs.declared.case_tree.Case.{Case}
+use Rattle.block_scheduler.specs.FromCaseTrees.{Case}
 use Rattle.engine_answers.specs.Truths.{CanBeTold}
 use Rattle.engine_answers.proofs.Told.{match_some, match_none, tree_told, told_some, told_none, some_true, none_true}
 use Rattle.engine_answers.proofs.engine.Engine.told.Goals as goal

@@ -5,7 +5,7 @@ use Rattle.elimination_reference.specs.Sample.{reference_at}
 use Rattle.formula_meaning.specs.Tree.{Tree, TrueAt}
 use Rattle.formula_store.proofs.Makes.{keeps_then}
 use Rattle.linear_forms.specs.Values.{point_of}
-use Rattle.plain_engine.specs.Told.{StopsWith}
+use Rattle.block_scheduler.specs.FromPlainEngine.{StopsWith}
 use Rattle.engine_answers.proofs.engine.Engine.truth.Goals as goal
 
 pub returns-in-Err-Overflow : goal.returns-in-Err-Overflow

@@ -1,6 +1,6 @@
 use Rattle.std.proofs.Common.{◌≡◌, Err, rules, ap, sym, ◌∙◌, subst, ℤ, inl}
 use Rattle.std.proofs.lemmas.Int.{to_z-of_z}
-use Rattle.exact_numbers.proofs.Casts.{fits}
+use Rattle.formula_meaning.proofs.FromExactNumbers.{fits}
 use Rattle.formula_meaning.specs.Form.{Form, coefficient}
 use Rattle.linear_forms.specs.declared.error.LinError.TheVariants.{Overflow}
 use Rattle.linear_forms.specs.Linear.{terms_of}

@@ -1,9 +1,8 @@
 use Rattle.std.proofs.Common.{◌≡◌, sym, subst, ℤ, ◌∷◌}
 use Rattle.std.specs.List.{AllZip}
 use Rattle.std.proofs.lemmas.Int.{to_z-of_z}
-use Rattle.exact_numbers.specs.Division.{DividesAll}
-use Rattle.exact_numbers.proofs.Casts.{fits}
-use Rattle.exact_numbers.proofs.LeastMultiple.{exact_div}
+use Rattle.formula_meaning.specs.FromExactNumbers.{DividesAll}
+use Rattle.formula_meaning.proofs.FromExactNumbers.{fits, exact_div}
 use Rattle.formula_meaning.specs.Form.{Form}
 use Rattle.linear_forms.specs.Terms.{coefficients}
 use Rattle.linear_forms.specs.Combinations.{IsQuotient}

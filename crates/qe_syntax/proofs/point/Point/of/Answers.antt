@@ -2,7 +2,7 @@ use Rattle.std.specs.Prelude.{FitsSigned}
 use Rattle.std.specs.Int.{w128}
 use Rattle.std.proofs.lemmas.Int.{to_z-of_z}
 use Rattle.std.proofs.lemmas.Result.{err_from_is_err_and}
-use Rattle.exact_numbers.proofs.Casts.{fits}
+use Rattle.formula_meaning.proofs.FromExactNumbers.{fits}
 use Rattle.qe_syntax.proofs.EntryNumbers.{entries_ready, number_fault, no_fault, point_is}
 use Rattle.qe_syntax.proofs.point.Point.of.Goals as goal
 

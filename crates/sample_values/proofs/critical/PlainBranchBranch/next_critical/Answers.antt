@@ -2,7 +2,7 @@ use Rattle.std.proofs.Common.{rules, ◌≡◌, ◌∷◌, [], List, ℕ, ap, su
 use Rattle.atom_normal.specs.Atoms.{context_of}
 use Rattle.linear_forms.specs.Values.{point_of}
 use Rattle.nnf_trees.specs.Nnfs.{nnf_of}
-use Rattle.plain_truths.specs.Put.{around, IsTreePut}
+use Rattle.sample_numbers.specs.FromPlainTruths.{around, IsTreePut}
 use Rattle.sample_values.proofs.Leasts.{next_found}
 use Rattle.sample_values.proofs.critical.PlainBranchBranch.next_critical.Goals as goal
 

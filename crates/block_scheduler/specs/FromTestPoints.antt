@@ -1,0 +1,2 @@
+-- What the crates above name of `test_points`.
+pub use Rattle.test_points.specs.Points.{IsTestPoint, answer_of}

@@ -1,0 +1,2 @@
+-- What the crates above name of `branch_points`.
+pub use Rattle.branch_points.proofs.FirstEquations.{conjunct_is}

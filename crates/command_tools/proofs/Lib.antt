@@ -1,0 +1,5 @@
+pub mod FromAnswerTexts
+pub mod FromEngineAnswers
+pub mod FromSessionState
+pub mod FromSessionStateToo
+pub mod FromSharedForms

@@ -1,0 +1,2 @@
+-- What the crates above name of `plain_cases`.
+pub use Rattle.block_scheduler.proofs.FromPlainCases.{nothing, points_pushed}

@@ -1,0 +1,2 @@
+-- What the crates above name of `nnf_trees`.
+pub use Rattle.plain_samples.specs.FromNnfTrees.{HasModulus, nnf_of}

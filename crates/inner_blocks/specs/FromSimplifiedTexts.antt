@@ -1,0 +1,2 @@
+-- What the crates above name of `simplified_texts`.
+pub use Rattle.branch_rounds.specs.FromSimplifiedTexts.{IsNoLarger}

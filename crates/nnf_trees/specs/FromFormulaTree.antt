@@ -1,0 +1,2 @@
+-- What the crates above name of `formula_tree`.
+pub use Rattle.formula_tree.specs.Trees.{members, tree_of}

@@ -1,0 +1,2 @@
+-- What the crates above name of `nnf_substitution`.
+pub use Rattle.plain_engine.proofs.FromNnfSubstitution.{and_known}

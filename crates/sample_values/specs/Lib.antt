@@ -1,0 +1,2 @@
+pub mod FromPlainEngine
+pub mod FromTracedCases

@@ -1,0 +1,4 @@
+-- What the crates above name of `session_state`.
+pub use Rattle.session_state.specs.Growth.{GrowsState, KeepsState}
+pub use Rattle.session_state.specs.Keeping.{IsSessionFormula, IsSessionState, IsSound, state_of}
+pub use Rattle.session_state.specs.declared.state.SessionState.{SessionState}
