@@ -1,6 +1,7 @@
 -- What the crates above name of `atom_normal`.
 pub use Rattle.atom_normal.specs.Atoms.{IsWellFormed, IsWellFormedNormal, atom_of, context_of, tree_of}
-pub use Rattle.atom_normal.specs.NormalForm.{constant_tree, normal_atom}
+pub use Rattle.atom_normal.specs.NormalForm.{constant_tree}
+unfoldable pub use Rattle.atom_normal.specs.NormalForm.{normal_atom}
 pub use Rattle.atom_normal.specs.declared.atoms.Atom.{Atom}
 pub use Rattle.atom_normal.specs.declared.atoms.Normal.{Normal}
 pub use Rattle.atom_normal.specs.contracts.atoms.AtomPartialEq.TheImpl as atom_partial_eq_impl

@@ -9,6 +9,7 @@ use Rattle.qe_syntax.specs.FromExactNumbers.{Divides, lcm_of, content_of, Frac, 
 use Rattle.qe_syntax.proofs.FromExactNumbers.{ring, one_mul, mul_positive, factor_positive, by_order, by_compare, exact_div, lcm_is, content_is, zero_divides, same_value_trans, power_outcome}
 use Rattle.qe_syntax.specs.FromFormulaMeaning.{Context, Fields, Integers, Point, Form, Term, total, scale, combine, IsSorted, gathered, is_within}
 use Rattle.qe_syntax.specs.FromFormulaMeaning.form_rules as form
+use Rattle.qe_syntax.specs.FromFormulaMeaning.{value as value_in}
 use Rattle.qe_syntax.proofs.FromFormulaMeaning.{value_scale, value_combine, scale_sorted, value_gathered, gathered_sorted}
 use Rattle.atom_normal.specs.FromLinearForms.{quotient}
 use Rattle.atom_normal.proofs.FromLinearForms.{value_quotient, sorted_quotient}
@@ -156,7 +157,7 @@ constant_crossed t c d w e = let p = ap (λ z. (z +ℤ c *ℤ w) *ℤ d) e in le
 
 -- a constant form has its fraction's value
 pub constant_same : (q : Point ℕ) (v : RationalForm) → is_constant v ≡ true → SameValue (value_at v q) (constant_of v)
-unfolding form.value
+unfolding value_in
 constant_same q v e = constant_crossed (total v.form.terms q.at) v.form.constant v.denominator (pos q.below) (no_terms v.form.terms q.at e)
 
 pub constant_stands : (q : Point ℕ) → pos 0 <ℤ pos q.below → (u w : Frac) → IsProper u → IsProper w → SameValue u w → Stands q (constant_form u) w

@@ -6,6 +6,7 @@ use Rattle.std.proofs.lemmas.Int.{ints}
 use Rattle.qe_syntax.specs.FromExactNumbers.{whole_frac, negated}
 use Rattle.qe_syntax.specs.FromFormulaMeaning.{Context, Point}
 use Rattle.qe_syntax.specs.FromFormulaMeaning.form_rules as form
+use Rattle.qe_syntax.specs.FromFormulaMeaning.{value as value_in}
 use Rattle.qe_syntax.specs.declared.tree.Literal.{Literal}
 use Rattle.qe_syntax.specs.declared.tree.Literal.TheVariants.{Fits, Past}
 use Rattle.qe_syntax.specs.Trees.{TermTree, Named}
@@ -28,7 +29,7 @@ literal_stands q h (Fits n) v e = subst (λ u. Stands q u (whole_frac n)) (ok_sa
 literal_stands q h Past v e = absurd (cc)
 
 variable_value : (x : ℕ) (q : Point ℕ) → form.value (variable_form x).form q ≡ q.at x
-unfolding form.value
+unfolding value_in
 variable_value x q = simple (q.at x) (pos q.below)
   where
     simple : (a b : ℤ) → (pos 1 *ℤ a +ℤ pos 0) +ℤ pos 0 *ℤ b ≡ a

@@ -3,13 +3,15 @@ pub use Rattle.formula_meaning.specs.Atom.{Above, AtLeast, AtMost, Atom, Below, 
 pub use Rattle.formula_meaning.specs.Context.{Context, Fields, Integers}
 pub use Rattle.formula_meaning.specs.Equivalence.{Equivalent, InContext, IsNegation}
 pub use Rattle.formula_meaning.specs.Every.{Every}
-pub use Rattle.formula_meaning.specs.Form.{Form, Term, coefficient, multiple, scale, scaled, total, value}
+pub use Rattle.formula_meaning.specs.Form.{Form, Term, multiple, scaled, total}
+unfoldable pub use Rattle.formula_meaning.specs.Form.{coefficient, scale, value}
 pub use Rattle.formula_meaning.specs.Formula.{No, One, Yes}
 pub use Rattle.formula_meaning.specs.Numbers.{IsAtomInLimit, IsFormInLimit}
 pub use Rattle.formula_meaning.specs.Plain.{IsAtomic}
 pub use Rattle.formula_meaning.specs.Point.{Of, Point}
 pub use Rattle.formula_meaning.specs.Some.{EachOf}
-pub use Rattle.formula_meaning.specs.Sorted.{AllNonzero, IsSorted, gathered}
+pub use Rattle.formula_meaning.specs.Sorted.{AllNonzero, IsSorted}
+unfoldable pub use Rattle.formula_meaning.specs.Sorted.{gathered}
 pub use Rattle.formula_meaning.specs.TheoryAtoms.{AtomIn}
 pub use Rattle.formula_meaning.specs.Tree.{IsFree, Tree, TrueAt}
 pub use Rattle.formula_meaning.specs.Atom as atom_rules

@@ -1,2 +1,2 @@
 -- What the crates above name of `nnf_trees`.
-pub use Rattle.nnf_trees.specs.Nnfs.{nnf_of}
+unfoldable pub use Rattle.nnf_trees.specs.Nnfs.{nnf_of}
