@@ -1,0 +1,83 @@
+ghost use Rattle.std.specs.Prelude.{◌≡◌};
+ghost use Rattle.smt_runs.specs.Words.{of_reading, of_assertion};
+
+use smt_reader::ReadError;
+use smt_resolving::AssertError;
+use thiserror::Error;
+
+/// Why a command is refused, or that memory ran out. The causes are ordered as they are looked for, and each is told by its word.
+#[derive(Clone, Copy, Debug, PartialEq, Eq, PartialOrd, Ord, Error)]
+pub enum SmtError {
+    /// A token is bad.
+    #[error("lexical")]
+    Lexical,
+    /// A token stands deeper than 512 parentheses.
+    #[error("nesting")]
+    Nesting,
+    /// The tokens are no command.
+    #[error("syntax")]
+    Syntax,
+    /// The command does not stand where it may.
+    #[error("mode")]
+    Mode,
+    /// The name is declared already.
+    #[error("declared")]
+    Declared,
+    /// A symbol is neither declared nor bound.
+    #[error("undeclared")]
+    Undeclared,
+    /// A term stands for a formula or the reverse, or what stands is not of the logic.
+    #[error("sort")]
+    Sort,
+    /// The formula with each `let` written out has more nodes than the limit.
+    #[error("nodes")]
+    Nodes,
+    /// A product of what is not constant.
+    #[error("nonlinear")]
+    Nonlinear,
+    /// A quotient by what is no constant other than 0.
+    #[error("division")]
+    Division,
+    /// A formula is higher than 512.
+    #[error("depth")]
+    Depth,
+    /// A number passes 2^127 - 1.
+    #[error("overflow")]
+    Overflow,
+    /// The line is longer than 32 MiB.
+    #[error("text")]
+    Text,
+    /// There is no memory left.
+    #[error("out of memory")]
+    Memory,
+}
+
+impl From<ReadError> for SmtError {
+    ghost from_gives = { λ r e. e ≡ of_reading r };
+
+    fn from(error: ReadError) -> SmtError {
+        match error {
+            ReadError::Lexical => SmtError::Lexical,
+            ReadError::Nesting => SmtError::Nesting,
+            ReadError::Syntax => SmtError::Syntax,
+            ReadError::Memory => SmtError::Memory,
+        }
+    }
+}
+
+impl From<AssertError> for SmtError {
+    ghost from_gives = { λ r e. e ≡ of_assertion r };
+
+    fn from(error: AssertError) -> SmtError {
+        match error {
+            AssertError::Undeclared => SmtError::Undeclared,
+            AssertError::Sort => SmtError::Sort,
+            AssertError::Nodes => SmtError::Nodes,
+            AssertError::Nonlinear => SmtError::Nonlinear,
+            AssertError::Division => SmtError::Division,
+            AssertError::Depth => SmtError::Depth,
+            AssertError::Overflow => SmtError::Overflow,
+            AssertError::Memory => SmtError::Memory,
+        }
+    }
+}
